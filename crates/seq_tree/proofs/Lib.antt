@@ -1,0 +1,3 @@
+mod Examples
+mod OneFault
+pub mod Longest

@@ -1,0 +1,5 @@
+pub mod Outcomes
+pub mod Places
+pub mod Fronts
+pub mod Words
+pub mod Readers

@@ -1,0 +1,12 @@
+pub mod Programs
+pub mod Words
+pub mod Spelling
+pub mod Proper
+pub mod Bodies
+pub mod Naming
+pub mod Uses
+pub mod Ranges
+pub mod Rules
+pub mod Trees
+pub mod Reading
+pub mod InUse

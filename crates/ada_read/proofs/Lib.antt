@@ -1,0 +1,7 @@
+pub mod BlockLaws
+pub mod BlockSteps
+pub mod WholeSteps
+pub mod RuleLaws
+pub mod ProgramLaws
+pub mod AcceptLaws
+pub mod ReadSteps

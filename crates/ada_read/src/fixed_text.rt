@@ -1,0 +1,309 @@
+ghost use Rattle.std.specs.Prelude.{◌≡◌, map};
+ghost use Rattle.token_read.specs.Words.{Gives, bare, item_token};
+ghost use Rattle.token_read.specs.Readers.{phrase_at};
+ghost use Rattle.ada_read.specs.FixedTexts.{fixed_tokens, cost_name};
+
+use seq_tree::{Mark, Spanned};
+use token_read::{Item, ReadFault, phrase};
+
+/// A text that is the same in each program, between what differs.
+#[derive(Clone, Copy, Debug)]
+pub(crate) enum FixedText {
+    /// The text up to the first cost.
+    Opening,
+    /// What stands between the name of a constant and its value.
+    Constant,
+    /// The text from the last cost to the name of the program.
+    Services,
+    /// The text from the name of the program to the name of its unit.
+    UnitHead,
+    /// The text from the name of the unit to the priority.
+    TaskHead,
+    /// The text from the priority to the end of the unit's specification.
+    TaskEnd,
+    /// The text from the end of the specification to the body.
+    BodyHead,
+    /// The text from the body's name to the body of the unit.
+    UnitBody,
+    /// The text from the name of the unit to the offset.
+    TaskBody,
+    /// The text from the offset to the period.
+    Delay,
+    /// What closes a call.
+    Close,
+    /// The text from the last statement to the end of the unit's body.
+    TaskLoop,
+    /// The text from the end of a unit to the end around it.
+    UnitEnd,
+    /// The text from the end of the body to the name that the main procedure needs.
+    MainWith,
+    /// The main procedure.
+    Main,
+    /// The statement that does nothing.
+    Null,
+    /// A statement that works, up to its number.
+    Work,
+}
+
+const OPENING: [Item; 37] = [
+    Item::Word("pragma"),
+    Item::Word("task_dispatching_policy"),
+    Item::Sign(Mark::LeftParen),
+    Item::Word("fifo_within_priorities"),
+    Item::Sign(Mark::RightParen),
+    Item::Sign(Mark::Semicolon),
+    Item::Word("pragma"),
+    Item::Word("locking_policy"),
+    Item::Sign(Mark::LeftParen),
+    Item::Word("ceiling_locking"),
+    Item::Sign(Mark::RightParen),
+    Item::Sign(Mark::Semicolon),
+    Item::Word("with"),
+    Item::Word("ada"),
+    Item::Sign(Mark::Dot),
+    Item::Word("real_time"),
+    Item::Sign(Mark::Semicolon),
+    Item::Word("package"),
+    Item::Word("hrt"),
+    Item::Word("is"),
+    Item::Word("type"),
+    Item::Word("word"),
+    Item::Word("is"),
+    Item::Word("mod"),
+    Item::Number(2),
+    Item::Sign(Mark::StarStar),
+    Item::Number(32),
+    Item::Sign(Mark::Semicolon),
+    Item::Word("subtype"),
+    Item::Word("moment"),
+    Item::Word("is"),
+    Item::Word("ada"),
+    Item::Sign(Mark::Dot),
+    Item::Word("real_time"),
+    Item::Sign(Mark::Dot),
+    Item::Word("time"),
+    Item::Sign(Mark::Semicolon),
+];
+
+const CONSTANT: [Item; 3] = [
+    Item::Sign(Mark::Colon),
+    Item::Word("constant"),
+    Item::Sign(Mark::Becomes),
+];
+
+const SERVICES: [Item; 48] = [
+    Item::Word("function"),
+    Item::Word("epoch"),
+    Item::Word("return"),
+    Item::Word("moment"),
+    Item::Sign(Mark::Semicolon),
+    Item::Word("function"),
+    Item::Word("after"),
+    Item::Sign(Mark::LeftParen),
+    Item::Word("start"),
+    Item::Sign(Mark::Colon),
+    Item::Word("moment"),
+    Item::Sign(Mark::Semicolon),
+    Item::Word("ticks"),
+    Item::Sign(Mark::Colon),
+    Item::Word("natural"),
+    Item::Sign(Mark::RightParen),
+    Item::Word("return"),
+    Item::Word("moment"),
+    Item::Sign(Mark::Semicolon),
+    Item::Word("procedure"),
+    Item::Word("work"),
+    Item::Sign(Mark::LeftParen),
+    Item::Word("ticks"),
+    Item::Sign(Mark::Colon),
+    Item::Word("positive"),
+    Item::Sign(Mark::RightParen),
+    Item::Sign(Mark::Semicolon),
+    Item::Word("procedure"),
+    Item::Word("put"),
+    Item::Sign(Mark::LeftParen),
+    Item::Word("value"),
+    Item::Sign(Mark::Colon),
+    Item::Word("word"),
+    Item::Sign(Mark::RightParen),
+    Item::Sign(Mark::Semicolon),
+    Item::Word("procedure"),
+    Item::Word("activation_end"),
+    Item::Sign(Mark::Semicolon),
+    Item::Word("end"),
+    Item::Word("hrt"),
+    Item::Sign(Mark::Semicolon),
+    Item::Word("with"),
+    Item::Word("hrt"),
+    Item::Sign(Mark::Semicolon),
+    Item::Word("use"),
+    Item::Word("hrt"),
+    Item::Sign(Mark::Semicolon),
+    Item::Word("package"),
+];
+
+const UNIT_HEAD: [Item; 2] = [Item::Word("is"), Item::Word("package")];
+
+const TASK_HEAD: [Item; 7] = [
+    Item::Word("is"),
+    Item::Word("task"),
+    Item::Word("hrt_thread"),
+    Item::Word("is"),
+    Item::Word("pragma"),
+    Item::Word("priority"),
+    Item::Sign(Mark::LeftParen),
+];
+
+const TASK_END: [Item; 6] = [
+    Item::Sign(Mark::RightParen),
+    Item::Sign(Mark::Semicolon),
+    Item::Word("end"),
+    Item::Word("hrt_thread"),
+    Item::Sign(Mark::Semicolon),
+    Item::Word("end"),
+];
+
+const BODY_HEAD: [Item; 3] = [
+    Item::Sign(Mark::Semicolon),
+    Item::Word("package"),
+    Item::Word("body"),
+];
+
+const UNIT_BODY: [Item; 3] = [Item::Word("is"), Item::Word("package"), Item::Word("body")];
+
+const TASK_BODY: [Item; 19] = [
+    Item::Word("is"),
+    Item::Word("task"),
+    Item::Word("body"),
+    Item::Word("hrt_thread"),
+    Item::Word("is"),
+    Item::Word("hrt_next"),
+    Item::Sign(Mark::Colon),
+    Item::Word("hrt"),
+    Item::Sign(Mark::Dot),
+    Item::Word("moment"),
+    Item::Sign(Mark::Becomes),
+    Item::Word("hrt"),
+    Item::Sign(Mark::Dot),
+    Item::Word("after"),
+    Item::Sign(Mark::LeftParen),
+    Item::Word("hrt"),
+    Item::Sign(Mark::Dot),
+    Item::Word("epoch"),
+    Item::Sign(Mark::Comma),
+];
+
+const DELAY: [Item; 16] = [
+    Item::Sign(Mark::RightParen),
+    Item::Sign(Mark::Semicolon),
+    Item::Word("begin"),
+    Item::Word("loop"),
+    Item::Word("delay"),
+    Item::Word("until"),
+    Item::Word("hrt_next"),
+    Item::Sign(Mark::Semicolon),
+    Item::Word("hrt_next"),
+    Item::Sign(Mark::Becomes),
+    Item::Word("hrt"),
+    Item::Sign(Mark::Dot),
+    Item::Word("after"),
+    Item::Sign(Mark::LeftParen),
+    Item::Word("hrt_next"),
+    Item::Sign(Mark::Comma),
+];
+
+const CLOSE: [Item; 2] = [Item::Sign(Mark::RightParen), Item::Sign(Mark::Semicolon)];
+
+const TASK_LOOP: [Item; 9] = [
+    Item::Word("activation_end"),
+    Item::Sign(Mark::Semicolon),
+    Item::Word("end"),
+    Item::Word("loop"),
+    Item::Sign(Mark::Semicolon),
+    Item::Word("end"),
+    Item::Word("hrt_thread"),
+    Item::Sign(Mark::Semicolon),
+    Item::Word("end"),
+];
+
+const UNIT_END: [Item; 2] = [Item::Sign(Mark::Semicolon), Item::Word("end")];
+
+const MAIN_WITH: [Item; 2] = [Item::Sign(Mark::Semicolon), Item::Word("with")];
+
+const MAIN: [Item; 10] = [
+    Item::Sign(Mark::Semicolon),
+    Item::Word("procedure"),
+    Item::Word("hrt_main"),
+    Item::Word("is"),
+    Item::Word("begin"),
+    Item::Word("null"),
+    Item::Sign(Mark::Semicolon),
+    Item::Word("end"),
+    Item::Word("hrt_main"),
+    Item::Sign(Mark::Semicolon),
+];
+
+const NULL: [Item; 2] = [Item::Word("null"), Item::Sign(Mark::Semicolon)];
+
+const WORK: [Item; 2] = [Item::Word("work"), Item::Sign(Mark::LeftParen)];
+
+/// The tokens of a fixed text.
+#[tactic(auto, unfolding(crate::specs::FixedTexts::fixed_tokens))]
+fn items(text: FixedText) -> &'static [Item]
+    ensures { map item_token result.now ≡ fixed_tokens text }
+{
+    match text {
+        FixedText::Opening => &OPENING,
+        FixedText::Constant => &CONSTANT,
+        FixedText::Services => &SERVICES,
+        FixedText::UnitHead => &UNIT_HEAD,
+        FixedText::TaskHead => &TASK_HEAD,
+        FixedText::TaskEnd => &TASK_END,
+        FixedText::BodyHead => &BODY_HEAD,
+        FixedText::UnitBody => &UNIT_BODY,
+        FixedText::TaskBody => &TASK_BODY,
+        FixedText::Delay => &DELAY,
+        FixedText::Close => &CLOSE,
+        FixedText::TaskLoop => &TASK_LOOP,
+        FixedText::UnitEnd => &UNIT_END,
+        FixedText::MainWith => &MAIN_WITH,
+        FixedText::Main => &MAIN,
+        FixedText::Null => &NULL,
+        FixedText::Work => &WORK,
+    }
+}
+
+/// The tokens after a fixed text.
+pub(crate) fn fixed(tokens: &[Spanned], text: FixedText) -> Result<&[Spanned], ReadFault>
+    ensures { Gives (λ r. (tt, bare r.now)) result (phrase_at (fixed_tokens text) (bare tokens.now)) }
+{
+    phrase(tokens, items(text))
+}
+
+/// A constant of package `hrt` that is the cost of a kind of statement.
+#[derive(Clone, Copy, Debug)]
+pub(crate) enum CostName {
+    Assign,
+    Test,
+    Turn,
+    Call,
+    Null,
+    Put,
+    Finish,
+}
+
+/// The name of the constant.
+#[tactic(auto, unfolding(crate::specs::FixedTexts::cost_name))]
+pub(crate) fn cost_name(cost: CostName) -> &'static [u8]
+    ensures { result.now ≡ cost_name cost }
+{
+    match cost {
+        CostName::Assign => b"assign_cost",
+        CostName::Test => b"test_cost",
+        CostName::Turn => b"turn_cost",
+        CostName::Call => b"call_cost",
+        CostName::Null => b"null_cost",
+        CostName::Put => b"put_cost",
+        CostName::Finish => b"finish_cost",
+    }
+}

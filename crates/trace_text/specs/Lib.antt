@@ -1,0 +1,4 @@
+pub mod Lines
+pub mod Exclusion
+pub mod Placed
+pub mod Spaced

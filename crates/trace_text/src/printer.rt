@@ -1,0 +1,185 @@
+ghost use Rattle.std.specs.Prelude.{◌≡◌, ℕ, ◌+◌, ◌<◌, ◌≤◌, [], ◌∷◌, ◌++◌, codes, length, map, decimal};
+ghost use Rattle.std.specs.List.{join_with_byte};
+ghost use Rattle.seq_tree.specs.Trees.{operation_of};
+ghost use Rattle.ada_tree.specs.Trees.{form_of, program_of};
+ghost use Rattle.trace_text.specs.Lines.{line, op_name, ops_by, unit_name, unit_ops, words};
+ghost use Rattle.trace_text.specs.Placed.{IsPlaced};
+ghost use Rattle.trace_text.specs.Spaced.{spaced};
+
+use crate::event::Event;
+use crate::line_buf::LineBuf;
+use ada_tree::{AdaProgram, Form, Unit};
+use seq_tree::{Name, OpText};
+
+// The operations of a unit.
+fn ops_of(form: &Form) -> &[OpText]
+    ensures { map operation_of result.now ≡ ops_by (form_of form.now) }
+{
+    match form {
+        Form::Passive { ops } => ops,
+        Form::Shared { ops, .. } => ops,
+        Form::Cyclic { .. } => &[],
+        Form::Sporadic { .. } => &[],
+    }
+}
+
+// The unit at a place.
+#[tactic(auto, using(crate::proofs::Names::read_steps))]
+fn unit_at(program: &AdaProgram, unit: u32) -> &Unit
+    requires { unit < length (program_of program.now).units }
+    ensures name { unit_name (program_of program.now) unit ≡ result.now.name }
+    ensures ops { unit_ops (program_of program.now) unit ≡ ops_by (form_of result.now.form) }
+{
+    &program.units[unit as usize]
+}
+
+// The name of the operation at a place of a unit.
+#[tactic(auto, using(crate::proofs::Names::read_steps))]
+fn op_at(program: &AdaProgram, unit: u32, op: u32) -> &Name
+    requires unit { unit < length (program_of program.now).units }
+    requires op { op < length (unit_ops (program_of program.now) unit) }
+    ensures { op_name (program_of program.now) unit op
+        ≡ unit_name (program_of program.now) unit ++ (codes "." ++ result.now) }
+{
+    let ops = ops_of(&unit_at(program, unit).form);
+    &ops[op as usize].sig.name
+}
+
+// Adds the name of a unit after a space.
+fn put_unit(program: &AdaProgram, unit: u32, into: &mut LineBuf)
+    requires unit { unit < length (program_of program.now).units }
+    requires room { length into.old + 65 ≤ 512 }
+    ensures text { into.new ≡ into.old ++ spaced (unit_name (program_of program.now) unit ∷ []) }
+    ensures len { length into.new ≤ length into.old + 65 }
+{
+    into.word(unit_at(program, unit).name.bytes());
+}
+
+// Adds the name of an operation of a unit after a space.
+fn put_op(program: &AdaProgram, unit: u32, op: u32, into: &mut LineBuf)
+    requires unit { unit < length (program_of program.now).units }
+    requires op { op < length (unit_ops (program_of program.now) unit) }
+    requires room { length into.old + 130 ≤ 512 }
+    ensures text { into.new ≡ into.old ++ spaced (op_name (program_of program.now) unit op ∷ []) }
+    ensures len { length into.new ≤ length into.old + 130 }
+{
+    put_unit(program, unit, into);
+    into.put(b".");
+    into.put(op_at(program, unit, op).bytes());
+}
+
+// What each line of a task begins with: the time, what happens, and the task.
+fn put_head(program: &AdaProgram, time: u64, kind: &[u8], task: u32, into: &mut LineBuf)
+    requires empty { into.old ≡ [] }
+    requires kind { length kind.now ≤ 16 }
+    requires task { task < length (program_of program.now).units }
+    ensures text { into.new ≡ decimal time ++ spaced (kind.now ∷ unit_name (program_of program.now) task ∷ []) }
+    ensures len { length into.new ≤ 102 }
+{
+    into.digits(time);
+    into.word(kind);
+    put_unit(program, task, into);
+}
+
+// Adds the levels that stopped a run, each after a space.
+#[tactic(auto, using(crate::proofs::Spacing::spaced_steps))]
+fn put_levels(priority: u32, ceiling: u32, into: &mut LineBuf)
+    requires { length into.old + 60 ≤ 512 }
+    ensures text { into.new
+        ≡ into.old
+        ++ spaced (codes "priority" ∷ decimal priority ∷ codes "ceiling" ∷ decimal ceiling ∷ []) }
+    ensures len { length into.new ≤ length into.old + 60 }
+{
+    into.word(b"priority");
+    into.number(u64::from(priority));
+    into.word(b"ceiling");
+    into.number(u64::from(ceiling));
+}
+
+// The words of an event's line, with a space between them.
+#[tactic(auto, unfolding(crate::specs::Lines::words), using(crate::proofs::Spacing::joined_steps))]
+fn put_words(program: &AdaProgram, event: &Event, into: &mut LineBuf)
+    requires empty { into.old ≡ [] }
+    requires placed { IsPlaced (program_of program.now) event.now }
+    ensures text { into.new ≡ join_with_byte 32 (words (program_of program.now) event.now) }
+    ensures len { length into.new ≤ 500 }
+{
+    match event {
+        Event::Release { time, task, value } => {
+            put_head(program, *time, b"release", *task, into);
+            into.value(value);
+        }
+        Event::Arrive { time, task, value } => {
+            put_head(program, *time, b"arrive", *task, into);
+            into.value(value);
+        }
+        Event::Enter {
+            time,
+            task,
+            unit,
+            op,
+            values,
+        } => {
+            put_head(program, *time, b"enter", *task, into);
+            put_op(program, *unit, *op, into);
+            into.values(values);
+        }
+        Event::Leave {
+            time,
+            task,
+            unit,
+            op,
+            values,
+        } => {
+            put_head(program, *time, b"leave", *task, into);
+            put_op(program, *unit, *op, into);
+            into.values(values);
+        }
+        Event::Request {
+            time,
+            task,
+            target,
+            value,
+        } => {
+            put_head(program, *time, b"request", *task, into);
+            put_unit(program, *target, into);
+            into.value(value);
+        }
+        Event::Print { time, task, value } => {
+            put_head(program, *time, b"put", *task, into);
+            into.number(u64::from(*value));
+        }
+        Event::End { time, task, used } => {
+            put_head(program, *time, b"end", *task, into);
+            into.word(b"used");
+            into.number(*used);
+        }
+        Event::Stop {
+            time,
+            task,
+            unit,
+            priority,
+            ceiling,
+        } => {
+            put_head(program, *time, b"stop", *task, into);
+            put_unit(program, *unit, into);
+            put_levels(*priority, *ceiling, into);
+        }
+        Event::Horizon { time } => {
+            into.digits(*time);
+            into.word(b"horizon");
+        }
+    }
+}
+
+/// Makes `into` hold exactly the line of an event, with its line feed; what it held before is dropped. The event's
+/// tasks, units, targets and operations stand in the program. It asks for no memory.
+#[tactic(auto, unfolding(crate::specs::Lines::line))]
+pub fn line(program: &AdaProgram, event: &Event, into: &mut LineBuf)
+    requires { IsPlaced (program_of program.now) event.now }
+    ensures { into.new ≡ line (program_of program.now) event.now }
+{
+    into.clear();
+    put_words(program, event, into);
+    into.put(b"\n");
+}

@@ -1,0 +1,2 @@
+pub mod HorizonLaws
+pub mod Refusals

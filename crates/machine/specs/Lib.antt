@@ -1,0 +1,9 @@
+pub mod Systems
+pub mod Pieces
+pub mod Deeds
+pub mod States
+pub mod Dispatch
+pub mod Releases
+pub mod Effects
+pub mod Steps
+pub mod Meanings

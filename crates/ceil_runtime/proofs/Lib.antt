@@ -1,0 +1,4 @@
+pub mod Starting
+pub mod Openings
+pub mod Counting
+pub mod Reaching

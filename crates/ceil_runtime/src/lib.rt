@@ -1,0 +1,13 @@
+//! The modelled processor at work: from a program and its arrivals, one event after another up to the horizon or a stop.
+//! It stands on the definitions of `machine`, and runs the part of the language that is built so far.
+//! `Machine::advance` carries its promise: what it tells, followed by all that is told afterwards, is what was to be told.
+#![tactic(auto)]
+
+mod buffer;
+mod law;
+mod processor;
+mod thread;
+
+pub use buffer::EventBuf;
+pub use law::one_meaning;
+pub use processor::{Machine, Turn};

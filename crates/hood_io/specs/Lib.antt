@@ -1,0 +1,5 @@
+pub mod Causes
+pub mod Shelves
+pub mod Sinks
+pub mod MemShelf
+pub mod MemSink

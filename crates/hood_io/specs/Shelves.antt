@@ -1,0 +1,40 @@
+-- What a shelf holds, by name, and what was fetched from it.
+-- A shelf that tells nothing has None before and after, and no clause speaks of its files.
+use Rattle.std.specs.Prelude.{◌≡◌, ℕ, ◌<◌, ◌≤◌, Bool, true, false, List, [], ◌∷◌, ◌++◌, length, take, Option, Some, None, IfSome}
+use Rattle.hood_io.specs.declared.shelf.Fetched.{Fetched}
+use Rattle.hood_io.specs.declared.shelf.Fetched.TheVariants.{Done, TooLong, Failed, NoMemory}
+use Rattle.hood_io.specs.Causes.{Rose}
+
+-- a fetch: the name, and whether it failed
+pub record Entry : Type 0 where
+  pub name : List ℕ
+  pub failed : Bool
+
+-- what a shelf tells: its files, and the fetches in order
+pub record Told : Type 0 where
+  pub files : List ℕ → Option (List ℕ)
+  pub log : List Entry
+
+-- what an answer adds to the log
+abbrev pub entries_of : Fetched → List ℕ → List Entry
+entries_of Done name = record { name = name; failed = false } ∷ []
+entries_of TooLong name = record { name = name; failed = false } ∷ []
+entries_of Failed name = record { name = name; failed = true } ∷ []
+entries_of NoMemory name = []
+
+-- what a shelf tells after a fetch: the same files, and a longer log
+abbrev pub after_fetch : Option Told → Fetched → List ℕ → Option Told
+after_fetch None answer name = None
+after_fetch (Some t) answer name = Some (record t { log = t.log ++ entries_of answer name })
+
+-- the bytes are the first ones of the file, and none where there is no file
+abbrev pub IsFront : List ℕ → Option (List ℕ) → Type 0
+IsFront bytes None = bytes ≡ []
+IsFront bytes (Some file) = bytes ≡ take (length bytes) file
+
+-- what an answer says of the file, of the bytes read, and of the count of faults
+abbrev pub Says : Fetched → Option Told → List ℕ → ℕ → List ℕ → ℕ → ℕ → Type 0
+Says Done told name limit into before now = (length into ≤ limit) × IfSome told (λ t. t.files name ≡ Some into)
+Says TooLong told name limit into before now = (limit < length into) × IfSome told (λ t. (file : List ℕ) × (t.files name ≡ Some file) × (limit < length file))
+Says Failed told name limit into before now = Rose before now
+Says NoMemory told name limit into before now = Unit {0}

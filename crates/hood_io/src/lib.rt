@@ -1,0 +1,26 @@
+//! Where texts come from and where they go: a shelf of named files, and a sink for bytes.
+//!
+//! It stands on no other crate. The promise is in the clauses of the two traits, `Shelf::fetch` and
+//! `Sink::write`, and in `put_all`, which writes a text whole over any sink. `MemShelf` and
+//! `MemSink` keep theirs in memory and tell all that they hold. `FileShelf`, `OutSink` and
+//! `ErrSink` are the system's files, standard output and standard error, and tell only how many
+//! faults there were.
+#![tactic(auto)]
+
+mod file_shelf;
+mod mem_shelf;
+mod mem_sink;
+mod memory;
+mod puts;
+mod shelf;
+mod sink;
+mod standard;
+
+pub use file_shelf::FileShelf;
+pub use mem_shelf::MemShelf;
+pub use mem_sink::MemSink;
+pub use memory::NoMemory;
+pub use puts::put_all;
+pub use shelf::{Fetched, Shelf};
+pub use sink::{Failed, Sink};
+pub use standard::{ErrSink, OutSink};

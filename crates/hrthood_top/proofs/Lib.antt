@@ -1,0 +1,4 @@
+pub mod Pieces
+pub mod Fetching
+pub mod Completing
+pub mod Tracing

@@ -1,0 +1,10 @@
+use Rattle.std.proofs.Common.{◌≤◌}
+use Rattle.hrthood_top.proofs.Pieces.{IsWritten}
+use Rattle.hrthood_top.proofs.message.put_each.Given as goal
+
+-- a front of the pieces is written
+abbrev pub invariant-pieces : goal.invariant-pieces
+invariant-pieces g l = record {
+  later : g.O.Sink.faults l.fn.out ≤ g.O.Sink.faults l.out;
+  written : IsWritten (g.O.Sink.written l.fn.out) (g.O.Sink.written l.out) l.pieces l.piece-index;
+}

@@ -1,0 +1,10 @@
+pub mod Words
+pub mod Commands
+pub mod Messages
+pub mod Tells
+pub mod Files
+pub mod Fetches
+pub mod Replays
+pub mod Ends
+pub mod Prepares
+pub mod Writing

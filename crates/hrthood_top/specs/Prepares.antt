@@ -1,0 +1,37 @@
+-- The text that a command is to write, or why there is none, before anything is written.
+use Rattle.std.specs.Prelude.{◌≡◌, ℕ, List, ◌∷◌, [], ◌++◌, take, Option, Result, Ok, Err, IfSome, ⊤}
+use Rattle.hood_io.specs.Causes.{Rose}
+use Rattle.hood_io.specs.Shelves.{Told}
+use Rattle.hrthood_top.specs.declared.message.FileKind.TheVariants.{Ada, Arrivals}
+use Rattle.hrthood_top.specs.declared.message.Refusal.TheVariants.{TooLong, Syntax}
+use Rattle.hrthood_top.specs.declared.fetch.Stop.{Stop}
+use Rattle.hrthood_top.specs.declared.fetch.Stop.TheVariants.{Refused, ReadFault, NoMemory}
+use Rattle.hrthood_top.specs.Words.{Command, file_names}
+use Rattle.hrthood_top.specs.Files.{fetched, failed, grown}
+use Rattle.hrthood_top.specs.Replays.{Replays, IsNoAda, IsAdaAlone}
+use Rattle.hrthood_top.specs.Ends.{Writes, Refuses, fetched_before}
+
+-- what a replay of two texts writes, or which of them is none
+abbrev pub Replayed : {X : Type 0} → (X → List ℕ) → Result X Stop → List ℕ → List ℕ → Type 0
+Replayed view (Ok x) ada arrivals = Replays ada arrivals (view x)
+Replayed view (Err (Refused (Syntax Ada))) ada arrivals = IsNoAda ada
+Replayed view (Err (Refused (Syntax Arrivals))) ada arrivals = IsAdaAlone ada arrivals
+Replayed view (Err (Refused (TooLong kind))) ada arrivals = ⊥
+Replayed view (Err (ReadFault name)) ada arrivals = ⊥
+Replayed view (Err NoMemory) ada arrivals = ⊤
+
+-- a fetch of one of these files failed, after those before it
+pub record IsFaulty (names : List (List ℕ)) (name : List ℕ) (told told' : Option Told) : Type 0 where
+  pub front : List (List ℕ)
+  pub back : List (List ℕ)
+  pub place : names ≡ front ++ name ∷ back
+  pub log : told' ≡ grown told (fetched front ++ failed name ∷ [])
+
+-- the text of a command, or why there is none, and what the shelf tells afterwards
+abbrev pub Prepares : {X : Type 0} → (X → List ℕ) → Result X Stop → Command → Option Told → Option Told → ℕ → ℕ → Type 0
+Prepares view (Ok x) c told told' faults faults' =
+    IfSome told (λ t. Writes t c (view x)) × (told' ≡ grown told (fetched (file_names c)))
+Prepares view (Err (Refused refusal)) c told told' faults faults' =
+    IfSome told (λ t. Refuses t c refusal) × (told' ≡ grown told (fetched (fetched_before c refusal)))
+Prepares view (Err (ReadFault name)) c told told' faults faults' = IsFaulty (file_names c) name.now told told' × Rose faults faults'
+Prepares view (Err NoMemory) c told told' faults faults' = (n : ℕ) × (told' ≡ grown told (fetched (take n (file_names c))))

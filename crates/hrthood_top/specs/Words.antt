@@ -1,0 +1,26 @@
+-- The words of the command line, and the command that they are.
+-- The commands are this project's own.
+use Rattle.std.specs.Prelude.{ℕ, Bool, false, not, ◌&&◌, ◌==◌, List, [], ◌∷◌, codes, Option, Some, None, if◌then◌else◌}
+use Rattle.std.specs.Str.{bytes_eq}
+
+-- what is to be done, with the names of files
+pub data Command : Type 0 where
+  -- replay an Ada text under arrivals
+  Replay : (ada arrivals : List ℕ) → Command
+
+-- a name of a file isn't empty and doesn't begin with a dash
+abbrev pub is_file_name : List ℕ → Bool
+is_file_name [] = false
+is_file_name (c ∷ cs) = not (c == 45)
+
+-- the command that these words are
+abbrev pub command_of : List (List ℕ) → Option Command
+command_of [] = None
+command_of (verb ∷ []) = None
+command_of (verb ∷ a ∷ []) = None
+command_of (verb ∷ a ∷ r ∷ []) = if bytes_eq verb (codes "replay") && (is_file_name a && is_file_name r) then Some (Replay a r) else None
+command_of (verb ∷ a ∷ r ∷ word ∷ words) = None
+
+-- the names of its files, in the order of the words
+abbrev pub file_names : Command → List (List ℕ)
+file_names (Replay ada arrivals) = ada ∷ arrivals ∷ []

@@ -1,0 +1,94 @@
+ghost use Rattle.std.specs.Prelude.{◌≡◌, ◌↔◌, None, Some, map, string_bytes, ℕ, List};
+ghost use Rattle.hrthood_top.specs.Words.{command_of, Command};
+ghost use Rattle.hrthood_top.specs.Commands.{command_tree};
+ghost use Rattle.hrthood_top.specs.Ends.{Ends, Completes, outside};
+ghost use Rattle.hrthood_top.specs.Writing.{WritesText, TellsStop};
+
+use crate::fetch::Stop;
+use crate::message::{Message, tell};
+use crate::prepare::prepare;
+use crate::status::Status;
+use crate::words::read_words;
+use hood_io::{Shelf, Sink, put_all};
+use std::alloc::Global;
+
+/// Writes a text, or tells that it could not be written whole.
+fn write_text<O: Sink, E: Sink>(out: &mut O, err: &mut E, text: &[u8]) -> Status
+    ensures { WritesText result text.now (O.written out.old) (O.written out.new) (O.faults out.old) (O.faults out.new)
+        (E.written err.old) (E.written err.new) (E.faults err.old) (E.faults err.new) }
+{
+    match put_all(out, text) {
+        Ok(()) => Status::Done,
+        Err(_) => {
+            tell(err, Message::WriteFault);
+            Status::WriteFault
+        }
+    }
+}
+
+/// Tells why nothing is written.
+fn tell_stop<E: Sink>(err: &mut E, stop: Stop) -> Status
+    ensures { TellsStop result stop.entry (E.written err.old) (E.written err.new) (E.faults err.old) (E.faults err.new) }
+{
+    match stop {
+        Stop::Refused(refusal) => {
+            tell(err, Message::Refused(refusal));
+            Status::Refused
+        }
+        Stop::ReadFault(name) => {
+            tell(err, Message::ReadFault(name));
+            Status::ReadFault
+        }
+        Stop::NoMemory => {
+            tell(err, Message::NoMemory);
+            Status::NoMemory
+        }
+    }
+}
+
+/// Does a command, from its files to what is written.
+fn run_command<F: Shelf, O: Sink, E: Sink>(
+    alloc: Global,
+    words: &[String],
+    shelf: &mut F,
+    out: &mut O,
+    err: &mut E,
+) -> Status
+    ensures { Ends result (command_of (map string_bytes words.now))
+        (outside (F.told shelf.old) (F.faults shelf.old) (O.written out.old) (O.faults out.old) (E.written err.old) (E.faults err.old))
+        (outside (F.told shelf.new) (F.faults shelf.new) (O.written out.new) (O.faults out.new) (E.written err.new) (E.faults err.new)) }
+{
+    let Some(command) = read_words(words) else {
+        tell(err, Message::Usage);
+        return Status::Usage;
+    };
+    match prepare(alloc, shelf, command) {
+        Ok(text) => write_text(out, err, &text),
+        Err(stop) => tell_stop(err, stop),
+    }
+}
+
+/// All that the program does, for the words after its name: it fetches the files of the words in their order,
+/// and writes to `out` only when everything but the writing has succeeded. `err` gets one line where the answer
+/// isn't `Done`.
+#[tactic(auto, using(crate::proofs::Completing::completed))]
+pub fn run<F: Shelf, O: Sink, E: Sink>(
+    alloc: Global,
+    words: &[String],
+    shelf: &mut F,
+    out: &mut O,
+    err: &mut E,
+) -> Status
+    // Usage exactly where the words are no command.
+    ensures usage { (result ≡ Status.Usage) ↔ (command_of (map string_bytes words.now) ≡ None) }
+    // Each status with its cause, with what was written and fetched, and with what stays as it was.
+    ensures ends { Ends result (command_of (map string_bytes words.now))
+        (outside (F.told shelf.old) (F.faults shelf.old) (O.written out.old) (O.faults out.old) (E.written err.old) (E.faults err.old))
+        (outside (F.told shelf.new) (F.faults shelf.new) (O.written out.new) (O.faults out.new) (E.written err.new) (E.faults err.new)) }
+    // What can be done is done, unless memory is wanted or a fault came.
+    ensures completes { Completes result (command_of (map string_bytes words.now))
+        (outside (F.told shelf.old) (F.faults shelf.old) (O.written out.old) (O.faults out.old) (E.written err.old) (E.faults err.old))
+        (outside (F.told shelf.new) (F.faults shelf.new) (O.written out.new) (O.faults out.new) (E.written err.new) (E.faults err.new)) }
+{
+    run_command(alloc, words, shelf, out, err)
+}

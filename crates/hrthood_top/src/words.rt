@@ -1,0 +1,39 @@
+ghost use Rattle.std.specs.Prelude.{◌≡◌, map, MatchOption, None, Some, string_bytes};
+ghost use Rattle.hrthood_top.specs.Words.{command_of, is_file_name};
+ghost use Rattle.hrthood_top.specs.Commands.{command_tree};
+
+/// What is to be done, with the names of files.
+#[derive(Clone, Copy)]
+pub(crate) enum Command<'a> {
+    /// Replay an Ada text under arrivals.
+    Replay { ada: &'a str, arrivals: &'a str },
+}
+
+/// Whether a word may name a file: it isn't empty and doesn't begin with a dash.
+fn is_file_name(word: &str) -> bool
+    ensures { result ≡ is_file_name word.now }
+{
+    match word.as_bytes().first() {
+        Some(first) => *first != b'-',
+        None => false,
+    }
+}
+
+/// The command that the words are, where they are one.
+pub(crate) fn read_words(words: &[String]) -> Option<Command<'_>>
+    ensures { MatchOption result (command_of (map string_bytes words.entry.now) ≡ None)
+        (λ c. command_of (map string_bytes words.entry.now) ≡ Some (command_tree c)) }
+{
+    match words {
+        [verb, ada, arrivals]
+            if verb.as_str() == "replay"
+                && is_file_name(ada.as_str())
+                && is_file_name(arrivals.as_str()) => {
+            Some(Command::Replay {
+                ada: ada.as_str(),
+                arrivals: arrivals.as_str(),
+            })
+        }
+        _ => None,
+    }
+}

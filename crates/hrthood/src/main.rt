@@ -1,0 +1,25 @@
+//! The program: it hands the words of the command line, the files and the standard streams to `run`, and ends
+//! with the status that `run` answers.
+#![tactic(auto)]
+
+use hood_io::{ErrSink, FileShelf, OutSink};
+use hrthood_top::{Status, run};
+use std::env;
+use std::process::ExitCode;
+
+fn main(rt: HostRuntime) -> ExitCode {
+    let mut words = Vec::new(rt.alloc());
+    let Ok(all) = env::args(&rt) else {
+        return ExitCode::from(Status::NoMemory.code());
+    };
+    for word in all.skip(1) {
+        if words.push(word).is_err() {
+            return ExitCode::from(Status::NoMemory.code());
+        }
+    }
+    let mut shelf = FileShelf::new(&rt);
+    let mut out = OutSink::new(rt.stdout());
+    let mut err = ErrSink::new(rt.stderr());
+    let status = run(rt.alloc(), &words, &mut shelf, &mut out, &mut err);
+    ExitCode::from(status.code())
+}

@@ -1,0 +1,4 @@
+pub mod Tables
+pub mod Response
+pub mod Rounds
+pub mod Entries

@@ -1,0 +1,87 @@
+ghost use Rattle.std.specs.Prelude.{◌≡◌, ℕ, ◌+◌, ◌*◌, ◌≤◌, ◌<◌, length, zip, sum_by, take, slice_get, Option, Some, None, IfOk, IfErr};
+ghost use Rattle.std.specs.List.{AllZip};
+ghost use Rattle.rt_response.specs.Tables.{Each, IsRow, IsTable};
+ghost use Rattle.rt_response.specs.Response.{interference, jitter_by, right_sides, IsWithinLimits};
+ghost use Rattle.rt_response.specs.Entries.{IsEntry, excess_from};
+ghost use Rattle.rt_response.specs.Rounds.{first_excess};
+
+use crate::excess::{Excess, within_limits};
+use crate::rows::{Bound, ThreadRow};
+
+/// What a row of greater priority takes of a window.
+fn interference_of(row: &ThreadRow, bound: &Bound, window: u32) -> u128
+    requires entry { IsEntry row.now bound.now }
+    requires window { window ≤ 1000000000 }
+    ensures value { result ≡ interference window (row.now, bound.now) }
+    ensures small { result ≤ 2000000000 * 1000000000 }
+{
+    let reach = u128::from(window) + u128::from(bound.jitter);
+    reach.div_ceil(u128::from(row.period)) * u128::from(row.cost)
+}
+
+/// What all rows of greater priority take of a window.
+fn all_interference(rows: &[ThreadRow], bounds: &[Bound], window: u32) -> u128
+    requires entries { AllZip IsEntry rows.now bounds.now }
+    requires count { length rows.now ≤ 30 }
+    requires window { window ≤ 1000000000 }
+    ensures value { result ≡ sum_by (interference window) (zip rows.now bounds.now) }
+    ensures small { result ≤ 30 * (2000000000 * 1000000000) }
+{
+    let (mut rows, mut bounds) = (rows, bounds);
+    let mut sum = 0;
+    'rows: while let Some((row, more_rows)) = rows.split_first() {
+        let Some((bound, more_bounds)) = bounds.split_first() else {
+            break
+        };
+        sum += interference_of(row, bound, window);
+        bounds = more_bounds;
+        rows = more_rows;
+    }
+    sum
+}
+
+/// The jitter that the equation gives a row.
+fn jitter_of(row: &ThreadRow, bounds: &[Bound]) -> u32
+    requires row { IsRow (length bounds.now) row.now }
+    requires bounds { Each (λ b. b.jitter + b.response ≤ 1000000000) bounds.now }
+    ensures { result ≡ jitter_by bounds.now row.now row.now.starter }
+{
+    match row.starter {
+        Some(starter) => {
+            let bound = bounds[starter as usize];
+            bound.jitter + bound.response
+        }
+        None => row.jitter,
+    }
+}
+
+/// The right side of a row's equation, or what of it is over its limit.
+fn side(table: &[ThreadRow], from: &[Bound], index: usize) -> Result<Bound, Excess>
+    requires table { IsTable table.now }
+    requires within { IsWithinLimits table.now from.now }
+    requires index { index < length table.now }
+    ensures within { IfOk result (λ b. (slice_get (right_sides table.now from.now) index ≡ Some b) × (excess_from table.now from.now index ≡ excess_from table.now from.now (index + 1))) }
+    ensures over { IfErr result (λ x. excess_from table.now from.now index ≡ Some x) }
+{
+    let (rows_before, _) = table.split_at(index);
+    let (bounds_before, _) = from.split_at(index);
+    let row = table[index];
+    let bound = from[index];
+    let taken = all_interference(rows_before, bounds_before, bound.response);
+    let response = u128::from(row.block) + u128::from(row.cost) + taken;
+    within_limits(index as u32, &row, jitter_of(&row, from), response)
+}
+
+/// The next round: the right sides of the equations at a vector, or the first that is over its limit.
+pub fn next_round(table: &[ThreadRow], from: &[Bound], into: &mut [Bound]) -> Result<(), Excess>
+    requires table { IsTable table.now }
+    requires within { IsWithinLimits table.now from.now }
+    requires long { length into.old ≡ length table.now }
+    ensures found { IfOk result (λ _. (into.new ≡ right_sides table.now from.now) × (first_excess 0 table.now into.new ≡ None)) }
+    ensures over { IfErr result (λ x. first_excess 0 table.now (right_sides table.now from.now) ≡ Some x) }
+{
+    for (index, slot) in into.iter_mut().enumerate() {
+        *slot = side(table, from, index)?;
+    }
+    Ok(())
+}

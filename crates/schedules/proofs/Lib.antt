@@ -1,0 +1,9 @@
+mod Ticks
+mod Sums
+mod Cells
+mod Levels
+mod Counts
+mod Equations
+mod Windows
+pub mod Law
+mod Example

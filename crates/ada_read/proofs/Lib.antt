@@ -1,6 +1,5 @@
 pub mod BlockLaws
 pub mod BlockSteps
-pub mod WholeSteps
 pub mod RuleLaws
 pub mod ProgramLaws
 pub mod AcceptLaws

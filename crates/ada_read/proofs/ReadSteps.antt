@@ -11,8 +11,9 @@ use Rattle.ada_tree.specs.Reading.{Accepts}
 use Rattle.ada_tree.specs.Spelling.{program_tokens}
 use Rattle.token_read.specs.Words.{bare}
 use Rattle.token_read.proofs.TokenLaws.{Any}
+use Rattle.seq_read.specs.Places.{place_at}
 use Rattle.ada_read.specs.Readers.{program_at}
-use Rattle.ada_read.specs.Answers.{IsTextOf, IsNoProgram, StopsAt, place_at}
+use Rattle.ada_read.specs.Answers.{IsTextOf, IsNoProgram, StopsAt}
 use Rattle.ada_read.proofs.AcceptLaws.{reads-ada}
 
 -- a program that the tokens of a text are read as is one that the text is accepted as

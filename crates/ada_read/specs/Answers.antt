@@ -1,9 +1,9 @@
 -- What the reader of an Ada text answers, by cases.
 -- Where the text has no tokens the fault is that of the lexical grammar; all else that is wrong with it is told as one fault.
-use Rattle.std.specs.Prelude.{◌≡◌, ℕ, ◌<◌, ◌≤◌, ◌-◌, List, length, slice_get, Option, Some, None, Result, Ok, Err, ⊤}
+use Rattle.std.specs.Prelude.{◌≡◌, ℕ, ◌<◌, ◌≤◌, List, length, Result, Ok, Err, ⊤}
 use Rattle.grammar.specs.Reading.{IsFirstFault}
 use Rattle.seq_tree.specs.Proper.{within_limits}
-use Rattle.seq_tree.specs.Lexis.{tokens, place_past, Misread, Stray, Great}
+use Rattle.seq_tree.specs.Lexis.{tokens, Misread, Stray, Great}
 use Rattle.seq_tree.specs.Lexis as lexis
 use Rattle.seq_tree.specs.declared.token.Token.{Token}
 use Rattle.seq_tree.specs.declared.token.Place.{Place}
@@ -22,6 +22,7 @@ use Rattle.ada_tree.specs.declared.program.AdaProgram.{AdaProgram}
 use Rattle.token_read.specs.Words.{bare}
 use Rattle.token_read.specs.declared.fault.LexFault.{LexFault}
 use Rattle.token_read.specs.declared.fault.LexFault.TheVariants as lex
+use Rattle.seq_read.specs.Places.{place_at}
 use Rattle.ada_read.specs.declared.fault.AdaFault.{AdaFault}
 use Rattle.ada_read.specs.declared.fault.AdaFault.TheVariants.{Text, NoMemory}
 
@@ -63,15 +64,6 @@ pub record IsTextOf (p : Program) (text : List Token) : Type 0 where
   pub proper : IsProperProgram (within_limits is_ada_name) p
   pub meets : MeetsRules p
   pub spelled : text ≡ program_tokens p
-
--- the place of a token, or of the end of the text where there is none
-abbrev pub place_or : List ℕ → Option Spanned → Place
-place_or bytes None = place_past (record { line = 1; column = 1 }) bytes
-place_or bytes (Some s) = s.place
-
--- the place of the first of the last tokens, of which there are so many
-abbrev pub place_at : List ℕ → List Spanned → ℕ → Place
-place_at bytes ts left = place_or bytes (slice_get ts (length ts - left))
 
 -- the tokens before this place begin the text of such a program, and with the one at it they begin none
 pub record StopsAt (bytes : List ℕ) (place : Place) : Type 0 where

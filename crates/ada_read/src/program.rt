@@ -155,7 +155,7 @@ fn program(alloc: Global, tokens: &[Spanned]) -> Result<(AdaProgram, &[Spanned])
 }
 
 /// The program that these are all the tokens of.
-#[tactic(auto, using(crate::proofs::WholeSteps::whole_steps))]
+#[tactic(auto, using(seq_read::proofs::WholeSteps::whole_steps))]
 pub(crate) fn whole(alloc: Global, tokens: &[Spanned]) -> Result<AdaProgram, ReadFault>
     ensures { GivesWhole program_of result (whole_at program_at (bare tokens.now)) }
 {

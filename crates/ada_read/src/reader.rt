@@ -1,15 +1,15 @@
-ghost use Rattle.std.specs.Prelude.{◌≡◌, ◌≤◌, Err, IfOk, length};
-ghost use Rattle.seq_tree.specs.Lexis.{place_past};
+ghost use Rattle.std.specs.Prelude.{◌≡◌, Err, IfOk};
 ghost use Rattle.ada_tree.specs.Programs.{Program};
 ghost use Rattle.ada_tree.specs.Reading.{Accepts};
 ghost use Rattle.ada_tree.specs.InUse.{IsUsableProgram};
 ghost use Rattle.ada_tree.specs.Trees.{program_of};
-ghost use Rattle.ada_read.specs.Answers.{Says, StopsAt, fault_of, place_at};
+ghost use Rattle.ada_read.specs.Answers.{Says, StopsAt, fault_of};
 
 use crate::fault::AdaFault;
 use crate::program::whole;
 use ada_tree::AdaProgram;
-use seq_tree::{Place, Spanned, TextFault};
+use seq_read::place_of;
+use seq_tree::{Place, TextFault};
 use std::alloc::Global;
 use token_read::{LexFault, ReadFault, tokens};
 
@@ -25,39 +25,6 @@ fn misread(fault: LexFault) -> AdaFault
         LexFault::Number(place) => AdaFault::Text(TextFault::Number(place)),
         LexFault::Long(place) => AdaFault::Text(TextFault::Long(place)),
         LexFault::NoMemory => AdaFault::NoMemory,
-    }
-}
-
-/// The place behind the last byte of a text.
-fn end_of(bytes: &[u8]) -> Place
-    requires { length bytes.now ≤ 16777216 }
-    ensures { result ≡ place_past (record { line = 1; column = 1 }) bytes.now }
-{
-    let mut place = Place { line: 1, column: 1 };
-    'bytes: for byte in bytes {
-        place = if *byte == b'\n' {
-            Place {
-                line: place.line + 1,
-                column: 1,
-            }
-        } else {
-            Place {
-                line: place.line,
-                column: place.column + 1,
-            }
-        };
-    }
-    place
-}
-
-/// The place of the token that is the last but `left - 1`, or the end of the text where there is none.
-fn place_of(bytes: &[u8], tokens: &[Spanned], left: usize) -> Place
-    requires { length bytes.now ≤ 16777216 }
-    ensures { result ≡ place_at bytes.now tokens.now left }
-{
-    match tokens.get(tokens.len().saturating_sub(left)) {
-        Some(spanned) => spanned.place,
-        None => end_of(bytes),
     }
 }
 

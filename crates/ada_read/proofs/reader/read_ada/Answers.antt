@@ -5,7 +5,7 @@ use Rattle.ada_tree.specs.Programs.{Program}
 use Rattle.ada_tree.specs.Trees.{program_of}
 use Rattle.token_read.specs.Words.{bare}
 use Rattle.ada_read.specs.Readers.{program_at}
-use Rattle.ada_read.specs.Answers.{place_at}
+use Rattle.seq_read.specs.Places.{place_at}
 use Rattle.ada_read.proofs.ReadSteps.{accepts_found, accepted_only, none_accepted, stops_at}
 use Rattle.ada_read.proofs.reader.read_ada.Goals as goal
 

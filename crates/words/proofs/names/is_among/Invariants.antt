@@ -1,6 +1,6 @@
 use Rattle.std.proofs.Common.{◌≡◌, drop, map}
 use Rattle.seq_tree.specs.Proper.{is_among}
-use Rattle.ada_read.proofs.names.is_among.Given as goal
+use Rattle.words.proofs.names.is_among.Given as goal
 
 abbrev pub invariant-words : goal.invariant-words
 invariant-words l = is_among (map (λ w. w.now) (drop l.word-index l.words)) l.name ≡ is_among (map (λ w. w.now) l.words) l.name

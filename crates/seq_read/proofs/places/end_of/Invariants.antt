@@ -1,6 +1,6 @@
 use Rattle.std.proofs.Common.{◌≡◌, ◌≤◌, ◌+◌, drop}
 use Rattle.seq_tree.specs.Lexis.{place_past}
-use Rattle.ada_read.proofs.reader.end_of.Given as goal
+use Rattle.seq_read.proofs.places.end_of.Given as goal
 
 abbrev pub invariant-bytes : goal.invariant-bytes
 invariant-bytes l = record {

@@ -1,0 +1,116 @@
+ghost use Rattle.std.specs.Prelude.{◌≡◌, map};
+ghost use Rattle.seq_tree.specs.Proper.{is_among};
+ghost use Rattle.ada_tree.specs.Words.{is_ada_name};
+
+/// The reserved words of Ada 2012.
+const RESERVED: [&str; 73] = [
+    "abort",
+    "abs",
+    "abstract",
+    "accept",
+    "access",
+    "aliased",
+    "all",
+    "and",
+    "array",
+    "at",
+    "begin",
+    "body",
+    "case",
+    "constant",
+    "declare",
+    "delay",
+    "delta",
+    "digits",
+    "do",
+    "else",
+    "elsif",
+    "end",
+    "entry",
+    "exception",
+    "exit",
+    "for",
+    "function",
+    "generic",
+    "goto",
+    "if",
+    "in",
+    "interface",
+    "is",
+    "limited",
+    "loop",
+    "mod",
+    "new",
+    "not",
+    "null",
+    "of",
+    "or",
+    "others",
+    "out",
+    "overriding",
+    "package",
+    "pragma",
+    "private",
+    "procedure",
+    "protected",
+    "raise",
+    "range",
+    "record",
+    "rem",
+    "renames",
+    "requeue",
+    "return",
+    "reverse",
+    "select",
+    "separate",
+    "some",
+    "subtype",
+    "synchronized",
+    "tagged",
+    "task",
+    "terminate",
+    "then",
+    "type",
+    "until",
+    "use",
+    "when",
+    "while",
+    "with",
+    "xor",
+];
+
+/// The words that the text uses itself.
+const KEPT: [&str; 11] = [
+    "hrt",
+    "word",
+    "work",
+    "put",
+    "activation_end",
+    "boolean",
+    "true",
+    "false",
+    "ada",
+    "standard",
+    "system",
+];
+
+/// Whether a name, in lower case, is one of these words.
+pub fn is_among(words: &[&str], name: &[u8]) -> bool
+    ensures { result ≡ is_among (map (λ w. w.now) words.now) name.now }
+{
+    'words: for word in words {
+        if word.as_bytes() == name {
+            return true;
+        }
+    }
+    false
+}
+
+/// Whether a name, in lower case, may stand in an Ada text: it is neither reserved, nor kept for what the text uses itself, nor
+/// begins with `hrt_`.
+#[tactic(auto, unfolding(ada_tree::specs::Words::is_ada_name))]
+pub fn is_ada_name(name: &[u8]) -> bool
+    ensures { result ≡ is_ada_name name.now }
+{
+    !(is_among(&RESERVED, name) || is_among(&KEPT, name) || name.starts_with(b"hrt_"))
+}

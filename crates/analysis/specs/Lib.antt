@@ -1,0 +1,9 @@
+pub mod Execution
+pub mod Sections
+pub mod Starts
+pub mod Priorities
+pub mod Ceilings
+pub mod Blocking
+pub mod Tables
+pub mod Sound
+pub mod Trees

@@ -1,0 +1,15 @@
+pub mod Designs
+pub mod Walk
+pub mod Attributes
+pub mod Links
+pub mod Words
+pub mod Spelling
+pub mod Layout
+pub mod Proper
+pub mod Reading
+pub mod InUse
+pub mod Flats
+pub mod Flattening
+pub mod Services
+pub mod Sound
+pub mod Trees

@@ -1,0 +1,3 @@
+pub mod FixedTexts
+pub mod Readers
+pub mod Answers

@@ -1,0 +1,57 @@
+ghost use Rattle.std.specs.Prelude.{◌≡◌, Err, IfOk};
+ghost use Rattle.ods_tree.specs.Designs as trees;
+ghost use Rattle.ods_tree.specs.Reading.{Reads};
+ghost use Rattle.ods_tree.specs.InUse.{IsUsableDesign};
+ghost use Rattle.ods_tree.specs.Trees.{design_of};
+ghost use Rattle.ods_read.specs.Answers.{Says, StopsAt, fault_of};
+
+use crate::design::whole;
+use ods_tree::Design;
+use seq_read::place_of;
+use seq_tree::{Place, TextFault};
+use std::alloc::Global;
+use token_read::{LexFault, ReadFault, tokens};
+
+/// The most bytes that a design may have.
+const MOST_BYTES: usize = 1_048_576;
+
+/// The fault of a text that has no tokens.
+fn misread(fault: LexFault) -> TextFault
+    ensures { result ≡ fault_of fault }
+{
+    match fault {
+        LexFault::Byte(place) => TextFault::Byte(place),
+        LexFault::Number(place) => TextFault::Number(place),
+        LexFault::Long(place) => TextFault::Long(place),
+        LexFault::NoMemory => TextFault::NoMemory,
+    }
+}
+
+/// The design that a text reads as, of one cyclic object.
+///
+/// `FileTooLong` comes for a text of over 1,048,576 bytes; `Byte`, `Number` and `Long` for a text without tokens, at their first
+/// fault; `Syntax` for all else that is wrong: at the first token with which no text goes on, a word that is no name among them,
+/// or at the end of the text; `NoMemory` for want of memory. `TooDeep` never comes so far.
+pub fn read_design(alloc: Global, bytes: &[u8]) -> Result<Design, TextFault>
+    // What is answered is so.
+    ensures says { Says bytes.now result }
+    // A text that has the tokens of a design is read as that one, unless memory runs out.
+    ensures only { (x : trees.Design) → IsUsableDesign x → Reads bytes.now x → IfOk result (λ d. design_of d ≡ x) }
+    // The place of `Syntax` is the first with which no text of such a design goes on.
+    ensures first { (place : Place) → result ≡ Err (TextFault.Syntax place) → StopsAt bytes.now place }
+{
+    if bytes.len() > MOST_BYTES {
+        return Err(TextFault::FileTooLong);
+    }
+    match tokens(alloc, bytes) {
+        Err(fault) => Err(misread(fault)),
+        Ok(found) => match whole(alloc, &found) {
+            Ok(design) => Ok(design),
+            Err(ReadFault::NoMemory) => Err(TextFault::NoMemory),
+            Err(ReadFault::Syntax(left)) => {
+                let place = place_of(bytes, &found, left);
+                Err(TextFault::Syntax(place))
+            }
+        },
+    }
+}

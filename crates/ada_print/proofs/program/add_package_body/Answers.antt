@@ -1,0 +1,6 @@
+use Rattle.seq_print.proofs.Chains.{adds-then, adds-same}
+use Rattle.ada_print.proofs.Layouts.{between-text}
+use Rattle.ada_print.proofs.program.add_package_body.Goals as goal
+
+pub returns : goal.returns
+returns c = adds-same _ _ _ _ _ (between-text c.args.name.now) (adds-then _ _ _ _ _ _ c.in_ok-put_name.ensures c.put_name-2.ensures)

@@ -1,0 +1,6 @@
+pub mod Following
+pub mod Fronts
+pub mod BackLaws
+pub mod Indents
+pub mod Chains
+pub mod TokenForms

@@ -1,0 +1,15 @@
+pub mod Software
+pub mod Events
+pub mod Arrivals
+pub mod Steps
+pub mod Order
+pub mod Releases
+pub mod Requests
+pub mod Scripts
+pub mod Passages
+pub mod Allowed
+pub mod Bounded
+pub mod Programs
+pub mod Guaranteed
+pub mod MachineLaw
+pub mod ResponseLaw

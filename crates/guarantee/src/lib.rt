@@ -1,0 +1,6 @@
+//! What is guaranteed of a design, in definitions alone: no code runs here.
+//!
+//! They say which traces a design allows, without priorities and without Ada, when a trace is within its bounds, which program and
+//! which text a design has, and what it is that a text is guaranteed for a design. They stand on the definitions of designs, of the
+//! analysis, of Ada programs, of traces and arrivals, and of the processor. `Guaranteed` is what contracts cite.
+#![tactic(auto)]

@@ -1,0 +1,4 @@
+pub mod UnitSteps
+pub mod HeadLaws
+pub mod DesignNames
+mod Examples

@@ -1,0 +1,21 @@
+pub mod Answered
+pub mod UsableBlocks
+pub mod Leading
+pub mod LoneSteps
+pub mod LoneRuns
+pub mod LoneTraces
+pub mod LoneLaw
+pub mod KeptArrivals
+pub mod OneProgram
+pub mod ReadTokens
+pub mod TextSizes
+pub mod Comments
+pub mod LoneTexts
+pub mod DesignTokens
+pub mod CyclicShape
+pub mod CyclicLaw
+pub mod CyclicRules
+pub mod CyclicBounds
+pub mod CyclicTexts
+pub mod CyclicGuarantee
+mod Examples

@@ -1,0 +1,2 @@
+pub mod LoneLaws
+pub mod Guarantees

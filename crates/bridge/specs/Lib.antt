@@ -1,0 +1,4 @@
+pub mod Rows
+pub mod Delivers
+pub mod Lone
+pub mod Makes

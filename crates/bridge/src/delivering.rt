@@ -1,0 +1,29 @@
+ghost use Rattle.bridge.specs.Delivers.{Delivers};
+
+use crate::delivery::{Delivery, Refusal};
+use crate::lone::lone_of;
+use crate::making::make;
+use ods_read::read_design;
+use ods_rules::{Broken, check};
+use seq_tree::TextFault;
+use std::alloc::Global;
+
+/// The Ada text of a design, with bounds and ceilings, from the bytes of the design.
+///
+/// The design is read, its rules are checked, its bounds are computed, and its text is made, in this order; what fails first is
+/// told. `NoMemory` may come wherever memory is asked for.
+pub fn deliver(alloc: Global, design: &[u8]) -> Result<Delivery, Refusal>
+    ensures { Delivers design.now result }
+{
+    let read = match read_design(alloc, design) {
+        Ok(read) => read,
+        Err(TextFault::NoMemory) => return Err(Refusal::NoMemory),
+        Err(fault) => return Err(Refusal::Text(fault)),
+    };
+    let checked = match check(alloc, read) {
+        Ok(checked) => checked,
+        Err(Broken::NoMemory) => return Err(Refusal::NoMemory),
+        Err(broken) => return Err(Refusal::Rule(broken)),
+    };
+    make(alloc, lone_of(checked.design()))
+}

@@ -1,25 +1,94 @@
 -- That a command whose files say what it writes is done, unless memory is wanted or a fault came.
-use Rattle.std.proofs.Common.{◌≡◌, ℕ, List, length, Option, Some, None, refl, sym, ap, ◌∙◌, arith, inl, inr}
+use Rattle.std.proofs.Common.{◌≡◌, ℕ, List, [], ◌∷◌, length, Option, Some, None, refl, sym, ap, subst, ◌∙◌, arith, inl, inr}
 use Rattle.hood_io.specs.Shelves.{Told}
+use Rattle.ods_tree.specs.Designs as designs
+use Rattle.ods_tree.specs.Flattening.{flat}
+use Rattle.ods_rules.specs.Broken.{Broken}
+use Rattle.ods_rules.specs.Rules.{MeetsRules}
+use Rattle.ods_rules.specs.Told.{told_of}
+use Rattle.rt_response.specs.declared.rows.Bound.{Bound}
+use Rattle.rt_response.specs.declared.rows.ThreadRow.{ThreadRow}
+use Rattle.rt_response.specs.Response.{IsAtMost, IsLeastVector}
+use Rattle.analysis.specs.Tables.{table}
+use Rattle.guarantee.specs.Programs.{text}
+use Rattle.bridge.specs.Delivers.{ReadsAlone, IsTextFor, IsBroken, BreaksRule, HasLongText}
 use Rattle.hrthood_top.specs.declared.status.Status.{Status}
 use Rattle.hrthood_top.specs.declared.status.Status.TheVariants.{Done, Refused, Usage, ReadFault, WriteFault, NoMemory}
 use Rattle.hrthood_top.specs.declared.message.FileKind.{FileKind}
-use Rattle.hrthood_top.specs.declared.message.FileKind.TheVariants.{Ada, Arrivals}
+use Rattle.hrthood_top.specs.declared.message.FileKind.TheVariants.{Design, Ada, Arrivals}
 use Rattle.hrthood_top.specs.declared.message.Refusal.{Refusal}
-use Rattle.hrthood_top.specs.declared.message.Refusal.TheVariants.{TooLong, Syntax}
-use Rattle.hrthood_top.specs.Words.{Command, Replay}
+use Rattle.hrthood_top.specs.declared.message.Refusal.TheVariants.{TooLong, Syntax, LongText, Rule, Miss}
+use Rattle.hrthood_top.specs.Words.{Command, Generate, Replay}
 use Rattle.hrthood_top.specs.Files.{Holds, IsTooLong}
 use Rattle.hrthood_top.specs.Ends.{Outside, Writes, Refuses, EndsCommand, CompletesCommand, Ends, Completes}
 
 -- a shelf has one file of a name
-one_file : (t : Told) (name a b : List ℕ) → t.files name ≡ Some a → t.files name ≡ Some b → a ≡ b
+pub one_file : (t : Told) (name a b : List ℕ) → t.files name ≡ Some a → t.files name ≡ Some b → a ≡ b
 one_file t name a b e f = let h : Some a ≡ Some b = sym e ∙ f in cc
 
 not_too_long : (t : Told) (kind : FileKind) (name text : List ℕ) → Holds t kind name text → IsTooLong t kind name → ⊥
 not_too_long t kind name text h k = let same : k.0 ≡ text = one_file t name k.0 text k.1 h.0 in let long = k.2 in let short = h.1 in omega (arith, ap length same)
 
+-- two vectors, neither of which is above the other
+same_vectors : (v u : List Bound) → IsAtMost v u → IsAtMost u v → v ≡ u
+same_vectors [] [] p q = refl
+same_vectors [] (b ∷ u) p q = absurd p
+same_vectors (a ∷ v) [] p q = absurd p
+same_vectors (a ∷ v) (b ∷ u) p q =
+    let jitter : a.jitter ≡ b.jitter = omega (arith, p.0, q.0) in
+    let response : a.response ≡ b.response = omega (arith, p.0, q.0) in
+    let first : a ≡ b = rw (jitter, response) refl in
+    let rest : v ≡ u = same_vectors v u p.1 q.1 in
+    rw (first, rest) refl
+
+-- there is one least vector
+one_least : (rows : List ThreadRow) (v u : List Bound) → IsLeastVector rows v → IsLeastVector rows u → v ≡ u
+one_least rows v u p q = same_vectors v u (p.least u q.fits) (q.least v p.fits)
+
+-- bytes are one design
+one_design : (bytes bytes' : List ℕ) (x y : designs.Design) → bytes ≡ bytes' → ReadsAlone bytes x → ReadsAlone bytes' y → y ≡ x
+one_design bytes bytes' x y same p q = p.only y q.usable (rw same q.reads)
+
+-- a design that meets the rules breaks none
+none_broken : (x : designs.Design) (told : Option Broken) → MeetsRules x → IsBroken x told → ⊥
+none_broken x None meets broken = broken
+none_broken x (Some told) meets broken = meets broken.rule broken.place told broken.offends
+
+not_broken : (bytes bytes' text_made : List ℕ) (told : Option Broken) → bytes ≡ bytes' → IsTextFor bytes text_made → BreaksRule bytes' told → ⊥
+not_broken bytes bytes' text_made told same w h =
+    let one : h.design ≡ w.design = one_design bytes bytes' w.design h.design same w.read h.read in
+    let P : designs.Design → Type 0 = λ z. IsBroken z told in
+    none_broken w.design told w.meets (subst P one h.broken)
+
+not_long : (bytes bytes' text_made : List ℕ) → bytes ≡ bytes' → IsTextFor bytes text_made → HasLongText bytes' → ⊥
+not_long bytes bytes' text_made same w h =
+    let one : h.design ≡ w.design = one_design bytes bytes' w.design h.design same w.read h.read in
+    let P : designs.Design → Type 0 = λ z. IsLeastVector (table (flat z)).rows h.bounds in
+    let bounds : h.bounds ≡ w.bounds = one_least (table (flat w.design)).rows h.bounds w.bounds (subst P one h.least) w.least in
+    let L : designs.Design → List Bound → ℕ = λ z v. length (text z v) in
+    let equal : length (text h.design h.bounds) ≡ length text_made = ap (λ z. L z h.bounds) one ∙ ap (L w.design) bounds ∙ sym (ap length w.made) in
+    let long = h.long in let short = w.short in omega (arith, equal)
+
 -- what a command writes and why it is refused exclude each other
 not_refused : (t : Told) (c : Command) (text : List ℕ) (refusal : Refusal) → Writes t c text → Refuses t c refusal → ⊥
+not_refused t (Generate d) text (TooLong Design) w h = not_too_long t Design d w.0 w.1 h
+not_refused t (Generate d) text (Syntax Design) w h =
+    let same : w.0 ≡ h.0 = one_file t d w.0 h.0 w.1.0 h.1.0 in
+    h.2 w.2.design w.2.read.usable (rw (← same) w.2.read.reads)
+not_refused t (Generate d) text (Rule broken) w h = not_broken w.0 h.0 text (told_of broken) (one_file t d w.0 h.0 w.1.0 h.1.0) w.2 h.2
+not_refused t (Generate d) text (Miss thread miss) w h =
+    let one : h.2.design ≡ w.2.design = one_design w.0 h.0 w.2.design h.2.design (one_file t d w.0 h.0 w.1.0 h.1.0) w.2.read h.2.read in
+    h.2.none w.2.bounds (rw one w.2.least.fits)
+not_refused t (Generate d) text LongText w h = not_long w.0 h.0 text (one_file t d w.0 h.0 w.1.0 h.1.0) w.2 h.2
+not_refused t (Generate d) text (TooLong Ada) w h = absurd h
+not_refused t (Generate d) text (TooLong Arrivals) w h = absurd h
+not_refused t (Generate d) text (Syntax Ada) w h = absurd h
+not_refused t (Generate d) text (Syntax Arrivals) w h = absurd h
+not_refused t (Replay a r) text (TooLong Design) w h = absurd h
+not_refused t (Replay a r) text (Syntax Design) w h = absurd h
+not_refused t (Replay a r) text LongText w h = absurd h
+not_refused t (Replay a r) text (Rule broken) w h = absurd h
+not_refused t (Replay a r) text (Miss thread miss) w h = absurd h
 not_refused t (Replay a r) text (TooLong Ada) w h = not_too_long t Ada a w.0 w.2 h
 not_refused t (Replay a r) text (TooLong Arrivals) w h = not_too_long t Arrivals r w.1 w.3 h.2
 not_refused t (Replay a r) text (Syntax Ada) w h =

@@ -1,19 +1,22 @@
 -- How a run ends: each status with its cause, with what was written and fetched, and with what stayed as it was.
 -- The statuses and their order are this project's own.
 use Rattle.std.specs.Prelude.{◌≡◌, ℕ, ◌<◌, List, [], ◌∷◌, ◌++◌, length, take, Option, Some, None, IfSome, ◌⊎◌, ⊤}
+use Rattle.ods_rules.specs.Told.{told_of}
+use Rattle.bridge.specs.Delivers.{IsTextFor, BreaksRule, HasNoBounds, HasLongText}
 use Rattle.hood_io.specs.Causes.{Rose}
 use Rattle.hood_io.specs.Shelves.{Told}
 use Rattle.hood_io.specs.Sinks.{Appends}
 use Rattle.hrthood_top.specs.declared.status.Status.{Status}
 use Rattle.hrthood_top.specs.declared.status.Status.TheVariants.{Done, Refused, Usage, ReadFault, WriteFault, NoMemory}
-use Rattle.hrthood_top.specs.declared.message.FileKind.TheVariants.{Ada, Arrivals}
+use Rattle.hrthood_top.specs.declared.message.FileKind.TheVariants.{Design, Ada, Arrivals}
 use Rattle.hrthood_top.specs.declared.message.Refusal.{Refusal}
-use Rattle.hrthood_top.specs.declared.message.Refusal.TheVariants.{TooLong, Syntax}
+use Rattle.hrthood_top.specs.declared.message.Refusal.TheVariants.{TooLong, Syntax, LongText, Rule, Miss}
 use Rattle.hrthood_top.specs.declared.message.Message.TheVariants as message
-use Rattle.hrthood_top.specs.Words.{Command, Replay, file_names}
+use Rattle.hrthood_top.specs.Words.{Command, Generate, Replay, file_names}
 use Rattle.hrthood_top.specs.Messages.{message_line, fault_line}
 use Rattle.hrthood_top.specs.Tells.{Tells}
 use Rattle.hrthood_top.specs.Files.{Holds, IsTooLong, fetched, failed, grown}
+use Rattle.hrthood_top.specs.Generates.{IsNoDesign}
 use Rattle.hrthood_top.specs.Replays.{Replays, IsNoAda, IsAdaAlone}
 
 -- what stands outside: what the shelf tells and the count of its faults, and for standard output and standard error
@@ -37,11 +40,21 @@ TellsMessage x y line = Tells x.err y.err x.tell_faults y.tell_faults line
 
 -- what a command writes, with the files that a shelf holds
 abbrev pub Writes : Told → Command → List ℕ → Type 0
+Writes t (Generate d) text = (bytes : List ℕ) × Holds t Design d bytes × IsTextFor bytes text
 Writes t (Replay a r) text =
     (ada : List ℕ) × (arrivals : List ℕ) × Holds t Ada a ada × Holds t Arrivals r arrivals × Replays ada arrivals text
 
--- why a command is refused
+-- why a command is refused; what isn't listed never comes
 abbrev pub Refuses : Told → Command → Refusal → Type 0
+Refuses t (Generate d) (TooLong Design) = IsTooLong t Design d
+Refuses t (Generate d) (Syntax Design) = (bytes : List ℕ) × Holds t Design d bytes × IsNoDesign bytes
+Refuses t (Generate d) (Rule broken) = (bytes : List ℕ) × Holds t Design d bytes × BreaksRule bytes (told_of broken)
+Refuses t (Generate d) (Miss thread miss) = (bytes : List ℕ) × Holds t Design d bytes × HasNoBounds bytes thread miss
+Refuses t (Generate d) LongText = (bytes : List ℕ) × Holds t Design d bytes × HasLongText bytes
+Refuses t (Generate d) (TooLong Ada) = ⊥
+Refuses t (Generate d) (TooLong Arrivals) = ⊥
+Refuses t (Generate d) (Syntax Ada) = ⊥
+Refuses t (Generate d) (Syntax Arrivals) = ⊥
 Refuses t (Replay a r) (TooLong Ada) = IsTooLong t Ada a
 Refuses t (Replay a r) (TooLong Arrivals) = (ada : List ℕ) × Holds t Ada a ada × IsTooLong t Arrivals r
 Refuses t (Replay a r) (Syntax Ada) =
@@ -49,12 +62,17 @@ Refuses t (Replay a r) (Syntax Ada) =
 Refuses t (Replay a r) (Syntax Arrivals) =
     (ada : List ℕ) × (arrivals : List ℕ) × Holds t Ada a ada × Holds t Arrivals r arrivals
     × IsAdaAlone ada arrivals
+Refuses t (Replay a r) (TooLong Design) = ⊥
+Refuses t (Replay a r) (Syntax Design) = ⊥
+Refuses t (Replay a r) LongText = ⊥
+Refuses t (Replay a r) (Rule broken) = ⊥
+Refuses t (Replay a r) (Miss thread miss) = ⊥
 
 -- the files that are fetched before a refusal: those up to the one that is too long, else all
 abbrev pub fetched_before : Command → Refusal → List (List ℕ)
+fetched_before (Generate d) refusal = d ∷ []
 fetched_before (Replay a r) (TooLong Ada) = a ∷ []
-fetched_before (Replay a r) (TooLong Arrivals) = a ∷ r ∷ []
-fetched_before (Replay a r) (Syntax kind) = a ∷ r ∷ []
+fetched_before (Replay a r) refusal = a ∷ r ∷ []
 
 -- how a command ends, from what stood outside before to what stands there after
 abbrev pub EndsCommand : Status → Command → Outside → Outside → Type 0

@@ -3,10 +3,11 @@
 use Rattle.std.specs.Prelude.{◌≡◌, ℕ, ◌≤◌, ◌<◌, true, false, List, ◌++◌, length, map, Option, Some, None}
 use Rattle.hood_io.specs.Shelves.{Told, Entry}
 use Rattle.hrthood_top.specs.declared.message.FileKind.{FileKind}
-use Rattle.hrthood_top.specs.declared.message.FileKind.TheVariants.{Ada, Arrivals}
+use Rattle.hrthood_top.specs.declared.message.FileKind.TheVariants.{Design, Ada, Arrivals}
 
 -- the most bytes that a file of a kind may have
 abbrev pub limit_of : FileKind → ℕ
+limit_of Design = 1048576
 limit_of Ada = 16777216
 limit_of Arrivals = 1048576
 

@@ -4,7 +4,9 @@ pub mod Messages
 pub mod Tells
 pub mod Files
 pub mod Fetches
+pub mod Generates
 pub mod Replays
 pub mod Ends
 pub mod Prepares
 pub mod Writing
+pub mod TwoRuns

@@ -1,22 +1,42 @@
 -- The text that a command is to write, or why there is none, before anything is written.
 use Rattle.std.specs.Prelude.{◌≡◌, ℕ, List, ◌∷◌, [], ◌++◌, take, Option, Result, Ok, Err, IfSome, ⊤}
+use Rattle.ods_rules.specs.Told.{told_of}
+use Rattle.bridge.specs.Delivers.{IsTextFor, BreaksRule, HasNoBounds, HasLongText}
 use Rattle.hood_io.specs.Causes.{Rose}
 use Rattle.hood_io.specs.Shelves.{Told}
-use Rattle.hrthood_top.specs.declared.message.FileKind.TheVariants.{Ada, Arrivals}
-use Rattle.hrthood_top.specs.declared.message.Refusal.TheVariants.{TooLong, Syntax}
+use Rattle.hrthood_top.specs.declared.message.FileKind.TheVariants.{Design, Ada, Arrivals}
+use Rattle.hrthood_top.specs.declared.message.Refusal.TheVariants.{TooLong, Syntax, LongText, Rule, Miss}
 use Rattle.hrthood_top.specs.declared.fetch.Stop.{Stop}
 use Rattle.hrthood_top.specs.declared.fetch.Stop.TheVariants.{Refused, ReadFault, NoMemory}
 use Rattle.hrthood_top.specs.Words.{Command, file_names}
 use Rattle.hrthood_top.specs.Files.{fetched, failed, grown}
+use Rattle.hrthood_top.specs.Generates.{IsNoDesign}
 use Rattle.hrthood_top.specs.Replays.{Replays, IsNoAda, IsAdaAlone}
 use Rattle.hrthood_top.specs.Ends.{Writes, Refuses, fetched_before}
+
+-- what is made of a design, or why nothing is
+abbrev pub Generated : {X : Type 0} → (X → List ℕ) → Result X Stop → List ℕ → Type 0
+Generated view (Ok x) bytes = IsTextFor bytes (view x)
+Generated view (Err (Refused (Syntax Design))) bytes = IsNoDesign bytes
+Generated view (Err (Refused (Rule broken))) bytes = BreaksRule bytes (told_of broken)
+Generated view (Err (Refused (Miss thread miss))) bytes = HasNoBounds bytes thread miss
+Generated view (Err (Refused LongText)) bytes = HasLongText bytes
+Generated view (Err (Refused (Syntax Ada))) bytes = ⊥
+Generated view (Err (Refused (Syntax Arrivals))) bytes = ⊥
+Generated view (Err (Refused (TooLong kind))) bytes = ⊥
+Generated view (Err (ReadFault name)) bytes = ⊥
+Generated view (Err NoMemory) bytes = ⊤
 
 -- what a replay of two texts writes, or which of them is none
 abbrev pub Replayed : {X : Type 0} → (X → List ℕ) → Result X Stop → List ℕ → List ℕ → Type 0
 Replayed view (Ok x) ada arrivals = Replays ada arrivals (view x)
 Replayed view (Err (Refused (Syntax Ada))) ada arrivals = IsNoAda ada
 Replayed view (Err (Refused (Syntax Arrivals))) ada arrivals = IsAdaAlone ada arrivals
+Replayed view (Err (Refused (Syntax Design))) ada arrivals = ⊥
 Replayed view (Err (Refused (TooLong kind))) ada arrivals = ⊥
+Replayed view (Err (Refused LongText)) ada arrivals = ⊥
+Replayed view (Err (Refused (Rule broken))) ada arrivals = ⊥
+Replayed view (Err (Refused (Miss thread miss))) ada arrivals = ⊥
 Replayed view (Err (ReadFault name)) ada arrivals = ⊥
 Replayed view (Err NoMemory) ada arrivals = ⊤
 

@@ -5,6 +5,8 @@ use Rattle.std.specs.Str.{bytes_eq}
 
 -- what is to be done, with the names of files
 pub data Command : Type 0 where
+  -- make the Ada text of a design
+  Generate : (design : List ℕ) → Command
   -- replay an Ada text under arrivals
   Replay : (ada arrivals : List ℕ) → Command
 
@@ -17,10 +19,11 @@ is_file_name (c ∷ cs) = not (c == 45)
 abbrev pub command_of : List (List ℕ) → Option Command
 command_of [] = None
 command_of (verb ∷ []) = None
-command_of (verb ∷ a ∷ []) = None
+command_of (verb ∷ d ∷ []) = if bytes_eq verb (codes "generate") && is_file_name d then Some (Generate d) else None
 command_of (verb ∷ a ∷ r ∷ []) = if bytes_eq verb (codes "replay") && (is_file_name a && is_file_name r) then Some (Replay a r) else None
 command_of (verb ∷ a ∷ r ∷ word ∷ words) = None
 
 -- the names of its files, in the order of the words
 abbrev pub file_names : Command → List (List ℕ)
+file_names (Generate design) = design ∷ []
 file_names (Replay ada arrivals) = ada ∷ arrivals ∷ []

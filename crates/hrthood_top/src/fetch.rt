@@ -7,7 +7,7 @@ use hood_io::{Fetched, Shelf};
 use std::alloc::Global;
 
 /// Why nothing is written.
-#[derive(Clone, Copy)]
+#[derive(Drop)]
 pub(crate) enum Stop<'a> {
     Refused(Refusal),
     ReadFault(&'a str),
@@ -19,6 +19,7 @@ fn limit_of(kind: FileKind) -> usize
     ensures { result ≡ limit_of kind }
 {
     match kind {
+        FileKind::Design => 1_048_576,
         FileKind::Ada => 16_777_216,
         FileKind::Arrivals => 1_048_576,
     }

@@ -3,11 +3,36 @@ use crate::toolset::run;
 use hood_io::{MemShelf, MemSink};
 use std::test::Fail;
 
-/// The Ada text of a program `d` with one cyclic unit of this name.
-fn ada_text(rt: &HostRuntime, unit: &str) -> Result<Vec<u8>, Fail> {
+/// A cyclic task of the program `d`, in ticks.
+#[derive(Clone, Copy)]
+struct Task {
+    unit: &'static str,
+    period: u32,
+    deadline: u32,
+    work: u32,
+    response: u32,
+}
+
+const TASK: Task = Task {
+    unit: "a",
+    period: 10,
+    deadline: 10,
+    work: 3,
+    response: 4,
+};
+
+/// The Ada text of the program `d` with this task.
+fn ada_text(rt: &HostRuntime, task: Task) -> Result<Vec<u8>, Fail> {
+    let Task {
+        unit,
+        period,
+        deadline,
+        work,
+        response,
+    } = task;
     let text = format!(in rt.alloc();
         "-- design d
--- thread {unit} priority 1 jitter 0 response 4 deadline 10
+-- thread {unit} priority 1 jitter 0 response {response} deadline {deadline}
 pragma task_dispatching_policy (fifo_within_priorities);
 pragma locking_policy (ceiling_locking);
 with ada.real_time;
@@ -43,8 +68,8 @@ package body d is
       begin
          loop
             delay until hrt_next;
-            hrt_next := hrt.after (hrt_next, 10);
-            work (3);
+            hrt_next := hrt.after (hrt_next, {period});
+            work ({work});
             activation_end;
          end loop;
       end hrt_thread;
@@ -60,6 +85,66 @@ end hrt_main;
     Ok(text.as_bytes().to_vec(rt.alloc())?)
 }
 
+/// A design of one cyclic object.
+#[derive(Clone, Copy)]
+struct Object {
+    /// The name of the design.
+    design: &'static str,
+    name: &'static str,
+    /// The cost of `null;`.
+    cost: &'static str,
+    attributes: &'static str,
+    thread: &'static str,
+}
+
+const OBJECT: Object = Object {
+    design: "d",
+    name: "a",
+    cost: "1",
+    attributes: "PERIOD = 10; DEADLINE = 10; THREAD_BUDGET = 1000;",
+    thread: "work (3);",
+};
+
+/// The text of a design.
+fn design_text(rt: &HostRuntime, object: Object) -> Result<Vec<u8>, Fail> {
+    let Object {
+        design,
+        name,
+        cost,
+        attributes,
+        thread,
+    } = object;
+    let text = format!(in rt.alloc();
+        "DESIGN {design} IS
+COSTS ASSIGN = 1; TEST = 1; TURN = 1; CALL = 2; NULL = {cost}; PUT = 1; FINISH = 1; END COSTS;
+OBJECT {name} IS CYCLIC
+ATTRIBUTES {attributes}
+THREAD {thread} END THREAD;
+END {name};
+END {design};
+"
+    )?;
+    Ok(text.as_bytes().to_vec(rt.alloc())?)
+}
+
+/// The design of a row.
+#[derive(Clone, Copy)]
+enum Source {
+    Object(Object),
+    /// The design of one object with spaces behind it, up to so many bytes.
+    Padded(usize),
+    /// These bytes.
+    Bytes(&'static str),
+}
+
+fn design_bytes(rt: &HostRuntime, source: Source) -> Result<Vec<u8>, Fail> {
+    match source {
+        Source::Object(object) => design_text(rt, object),
+        Source::Padded(len) => padded(rt, &design_text(rt, OBJECT)?, len),
+        Source::Bytes(text) => Ok(text.as_bytes().to_vec(rt.alloc())?),
+    }
+}
+
 /// The Ada text of a row.
 #[derive(Clone, Copy)]
 enum Ada {
@@ -73,11 +158,28 @@ enum Ada {
     Empty,
 }
 
+/// What a row writes.
+#[derive(Clone, Copy)]
+enum Out {
+    /// These bytes.
+    Bytes(&'static str),
+    /// The Ada text with this task.
+    Ada(Task),
+}
+
+fn out_bytes(rt: &HostRuntime, out: Out) -> Result<Vec<u8>, Fail> {
+    match out {
+        Out::Bytes(text) => Ok(text.as_bytes().to_vec(rt.alloc())?),
+        Out::Ada(task) => ada_text(rt, task),
+    }
+}
+
 /// A worked example: what `run` is given, and what it must answer and write.
 #[derive(Clone, Copy)]
 struct Row {
     name: &'static str,
     words: &'static [&'static str],
+    design: Source,
     ada: Ada,
     arrivals: &'static str,
     /// The length of the arrivals file, with spaces behind the text.
@@ -87,7 +189,7 @@ struct Row {
     /// The room of standard output.
     room: usize,
     status: Status,
-    out: &'static str,
+    out: Out,
     err: &'static str,
 }
 
@@ -101,14 +203,23 @@ const TRACE: &str =
 const ONE_TASK: Row = Row {
     name: "one cyclic task",
     words: &["replay", "a.ada", "r"],
+    design: Source::Object(OBJECT),
     ada: Ada::Unit("a"),
     arrivals: "UNTIL 20;",
     arrivals_len: 9,
     fails: &[],
-    room: 1000,
+    room: 10_000,
     status: Status::Done,
-    out: TRACE,
+    out: Out::Bytes(TRACE),
     err: "",
+};
+
+/// The text of the design of this task.
+const ONE_TEXT: Row = Row {
+    name: "the text of one cyclic object",
+    words: &["generate", "d"],
+    out: Out::Ada(TASK),
+    ..ONE_TASK
 };
 
 const fn usage(name: &'static str, words: &'static [&'static str]) -> Row {
@@ -116,10 +227,36 @@ const fn usage(name: &'static str, words: &'static [&'static str]) -> Row {
         name,
         words,
         status: Status::Usage,
-        out: "",
+        out: Out::Bytes(""),
         err: USAGE,
         ..ONE_TASK
     }
+}
+
+const fn refused_source(name: &'static str, design: Source, err: &'static str) -> Row {
+    Row {
+        name,
+        design,
+        status: Status::Refused,
+        out: Out::Bytes(""),
+        err,
+        ..ONE_TEXT
+    }
+}
+
+const fn refused_object(name: &'static str, object: Object, err: &'static str) -> Row {
+    refused_source(name, Source::Object(object), err)
+}
+
+const fn refused_attributes(name: &'static str, attributes: &'static str) -> Row {
+    refused_object(
+        name,
+        Object {
+            attributes,
+            ..OBJECT
+        },
+        "refused V11 a\n",
+    )
 }
 
 const fn refused_ada(name: &'static str, ada: Ada, err: &'static str) -> Row {
@@ -127,7 +264,7 @@ const fn refused_ada(name: &'static str, ada: Ada, err: &'static str) -> Row {
         name,
         ada,
         status: Status::Refused,
-        out: "",
+        out: Out::Bytes(""),
         err,
         ..ONE_TASK
     }
@@ -139,7 +276,7 @@ const fn refused_arrivals(name: &'static str, arrivals: &'static str) -> Row {
         arrivals,
         arrivals_len: arrivals.len(),
         status: Status::Refused,
-        out: "",
+        out: Out::Bytes(""),
         err: "refused S1 arrivals\n",
         ..ONE_TASK
     }
@@ -154,12 +291,12 @@ fn padded(rt: &HostRuntime, text: &[u8], len: usize) -> Result<Vec<u8>, Fail> {
 
 fn ada_bytes(rt: &HostRuntime, ada: Ada) -> Result<Vec<u8>, Fail> {
     match ada {
-        Ada::Unit(unit) => ada_text(rt, unit),
+        Ada::Unit(unit) => ada_text(rt, Task { unit, ..TASK }),
         Ada::Cut => {
-            let text = ada_text(rt, "a")?;
+            let text = ada_text(rt, TASK)?;
             padded(rt, &text, text.len().saturating_sub(2))
         }
-        Ada::Padded(len) => padded(rt, &ada_text(rt, "a")?, len),
+        Ada::Padded(len) => padded(rt, &ada_text(rt, TASK)?, len),
         Ada::Empty => Ok(Vec::new(rt.alloc())),
     }
 }
@@ -182,6 +319,7 @@ struct Outcome {
 /// Runs a row.
 fn run_row(rt: &HostRuntime, row: &Row) -> Result<Outcome, Fail> {
     let mut shelf = MemShelf::new(rt.alloc(), row.fails)?;
+    shelf.put("d", &design_bytes(rt, row.design)?)?;
     shelf.put("a.ada", &ada_bytes(rt, row.ada)?)?;
     let arrivals = padded(rt, row.arrivals.as_bytes(), row.arrivals_len)?;
     shelf.put("r", &arrivals)?;
@@ -192,15 +330,15 @@ fn run_row(rt: &HostRuntime, row: &Row) -> Result<Outcome, Fail> {
     Ok(Outcome { status, out, err })
 }
 
-#[test]
-fn worked_examples_of_replay(rt: HostRuntime) -> Result<(), Fail> {
-    let rows = [
+/// Examples of `replay`.
+fn replays() -> [Row; 21] {
+    [
         ONE_TASK,
         Row {
             name: "a fetch that fails writes nothing",
             fails: &[1],
             status: Status::ReadFault,
-            out: "",
+            out: Out::Bytes(""),
             err: "fault reading r\n",
             ..ONE_TASK
         },
@@ -208,7 +346,7 @@ fn worked_examples_of_replay(rt: HostRuntime) -> Result<(), Fail> {
             name: "a full sink has the beginning",
             room: 30,
             status: Status::WriteFault,
-            out: "0 release a\n4 end a used 4\n10 ",
+            out: Out::Bytes("0 release a\n4 end a used 4\n10 "),
             err: "fault writing\n",
             ..ONE_TASK
         },
@@ -216,7 +354,7 @@ fn worked_examples_of_replay(rt: HostRuntime) -> Result<(), Fail> {
             name: "an absent file",
             words: &["replay", "b.ada", "r"],
             status: Status::ReadFault,
-            out: "",
+            out: Out::Bytes(""),
             err: "fault reading b.ada\n",
             ..ONE_TASK
         },
@@ -255,7 +393,7 @@ fn worked_examples_of_replay(rt: HostRuntime) -> Result<(), Fail> {
             name: "an arrivals file over its limit",
             arrivals_len: 1_048_577,
             status: Status::Refused,
-            out: "",
+            out: Out::Bytes(""),
             err: "refused S3 arrivals\n",
             ..ONE_TASK
         },
@@ -264,11 +402,198 @@ fn worked_examples_of_replay(rt: HostRuntime) -> Result<(), Fail> {
             arrivals_len: 1_048_576,
             ..ONE_TASK
         },
-    ];
-    for row in &rows {
+    ]
+}
+
+/// Examples of `generate` by files and words.
+fn texts() -> [Row; 9] {
+    [
+        ONE_TEXT,
+        Row {
+            name: "a design at its limit",
+            design: Source::Padded(1_048_576),
+            ..ONE_TEXT
+        },
+        Row {
+            name: "an activation of its budget",
+            design: Source::Object(Object {
+                attributes: "PERIOD = 50; DEADLINE = 50; THREAD_BUDGET = 12;",
+                thread: "work (11);",
+                ..OBJECT
+            }),
+            out: Out::Ada(Task {
+                unit: "a",
+                period: 50,
+                deadline: 50,
+                work: 11,
+                response: 12,
+            }),
+            ..ONE_TEXT
+        },
+        Row {
+            name: "a full sink has the beginning of an Ada text",
+            room: 30,
+            status: Status::WriteFault,
+            out: Out::Bytes("-- design d\n-- thread a priori"),
+            err: "fault writing\n",
+            ..ONE_TEXT
+        },
+        Row {
+            name: "a design that can't be fetched",
+            fails: &[0],
+            status: Status::ReadFault,
+            out: Out::Bytes(""),
+            err: "fault reading d\n",
+            ..ONE_TEXT
+        },
+        Row {
+            name: "an absent design",
+            words: &["generate", "e"],
+            status: Status::ReadFault,
+            out: Out::Bytes(""),
+            err: "fault reading e\n",
+            ..ONE_TEXT
+        },
+        usage("a design is missing", &["generate"]),
+        usage("a design that begins with a dash", &["generate", "-d"]),
+        usage("a design too many", &["generate", "d", "d"]),
+    ]
+}
+
+/// Designs that are refused for their text, their attributes or their length.
+fn refused_sources() -> [Row; 8] {
+    [
+        refused_source(
+            "a design over its limit",
+            Source::Padded(1_048_577),
+            "refused S3 design\n",
+        ),
+        refused_source("an empty design", Source::Bytes(""), "refused S1 design\n"),
+        refused_source(
+            "the beginning of a design",
+            Source::Bytes("DESIGN d"),
+            "refused S1 design\n",
+        ),
+        refused_attributes(
+            "a period is missing",
+            "DEADLINE = 10; THREAD_BUDGET = 1000;",
+        ),
+        refused_attributes(
+            "a period twice",
+            "PERIOD = 10; PERIOD = 10; DEADLINE = 10; THREAD_BUDGET = 1000;",
+        ),
+        refused_attributes(
+            "a period of nothing",
+            "PERIOD = 0; DEADLINE = 10; THREAD_BUDGET = 1000;",
+        ),
+        refused_attributes(
+            "a period that is too long",
+            "PERIOD = 1000000001; DEADLINE = 10; THREAD_BUDGET = 1000;",
+        ),
+        refused_attributes(
+            "a deadline over the period",
+            "PERIOD = 10; DEADLINE = 11; THREAD_BUDGET = 1000;",
+        ),
+    ]
+}
+
+/// Designs of one object that are refused for a rule or a bound.
+fn refused_objects() -> [Row; 9] {
+    [
+        refused_object(
+            "an object with the design's name",
+            Object {
+                name: "D",
+                ..OBJECT
+            },
+            "refused V01 d\n",
+        ),
+        refused_object(
+            "an object with a reserved name",
+            Object {
+                name: "task",
+                ..OBJECT
+            },
+            "refused V02 task\n",
+        ),
+        refused_object(
+            "an object with a kept name",
+            Object {
+                name: "hrt_x",
+                ..OBJECT
+            },
+            "refused V02 hrt_x\n",
+        ),
+        refused_object(
+            "work of nothing",
+            Object {
+                thread: "work (0);",
+                ..OBJECT
+            },
+            "refused V11 a\n",
+        ),
+        refused_object(
+            "a cost of nothing",
+            Object {
+                cost: "0",
+                ..OBJECT
+            },
+            "refused V11 costs\n",
+        ),
+        refused_object(
+            "a cost that is too great",
+            Object {
+                cost: "1001",
+                ..OBJECT
+            },
+            "refused V11 costs\n",
+        ),
+        refused_object(
+            "an activation over its budget",
+            Object {
+                attributes: "PERIOD = 50; DEADLINE = 50; THREAD_BUDGET = 10;",
+                thread: "work (11);",
+                ..OBJECT
+            },
+            "refused V14 a cost 12 budget 10\n",
+        ),
+        refused_object(
+            "an activation that is too dear",
+            Object {
+                attributes: "PERIOD = 1000000000; DEADLINE = 1000000000; THREAD_BUDGET = 1000000000;",
+                thread: "work (1000000000);",
+                ..OBJECT
+            },
+            "refused V15 cost a thread\n",
+        ),
+        refused_object(
+            "a response over its deadline",
+            Object {
+                attributes: "PERIOD = 50; DEADLINE = 5; THREAD_BUDGET = 1000;",
+                thread: "work (5);",
+                ..OBJECT
+            },
+            "refused U1 a value 6 limit 5 round 0\n",
+        ),
+    ]
+}
+
+/// The worked examples.
+fn rows(rt: &HostRuntime) -> Result<Vec<Row>, Fail> {
+    let mut rows = replays().to_vec(rt.alloc())?;
+    rows.extend_from_slice(&texts())?;
+    rows.extend_from_slice(&refused_sources())?;
+    rows.extend_from_slice(&refused_objects())?;
+    Ok(rows)
+}
+
+#[test]
+fn worked_examples(rt: HostRuntime) -> Result<(), Fail> {
+    for row in &rows(&rt)? {
         let Outcome { status, out, err } = run_row(&rt, row)?;
+        let wanted = out_bytes(&rt, row.out)?;
         assert_eq!(rt; status, row.status, "{}", row.name);
-        assert_eq!(rt; out.bytes(), row.out.as_bytes(), "{}", row.name);
+        assert_eq!(rt; out.bytes(), wanted.as_slice(), "{}", row.name);
         assert_eq!(rt; err.bytes(), row.err.as_bytes(), "{}", row.name);
     }
     Ok(())

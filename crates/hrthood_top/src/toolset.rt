@@ -4,11 +4,11 @@ ghost use Rattle.hrthood_top.specs.Commands.{command_tree};
 ghost use Rattle.hrthood_top.specs.Ends.{Ends, Completes, outside};
 ghost use Rattle.hrthood_top.specs.Writing.{WritesText, TellsStop};
 
+use crate::command_words::read_words;
 use crate::fetch::Stop;
 use crate::message::{Message, tell};
 use crate::prepare::prepare;
 use crate::status::Status;
-use crate::words::read_words;
 use hood_io::{Shelf, Sink, put_all};
 use std::alloc::Global;
 

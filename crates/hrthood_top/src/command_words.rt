@@ -5,6 +5,8 @@ ghost use Rattle.hrthood_top.specs.Commands.{command_tree};
 /// What is to be done, with the names of files.
 #[derive(Clone, Copy)]
 pub(crate) enum Command<'a> {
+    /// Make the Ada text of a design.
+    Generate { design: &'a str },
     /// Replay an Ada text under arrivals.
     Replay { ada: &'a str, arrivals: &'a str },
 }
@@ -25,6 +27,11 @@ pub(crate) fn read_words(words: &[String]) -> Option<Command<'_>>
         (λ c. command_of (map string_bytes words.entry.now) ≡ Some (command_tree c)) }
 {
     match words {
+        [verb, design] if verb.as_str() == "generate" && is_file_name(design.as_str()) => {
+            Some(Command::Generate {
+                design: design.as_str(),
+            })
+        }
         [verb, ada, arrivals]
             if verb.as_str() == "replay"
                 && is_file_name(ada.as_str())

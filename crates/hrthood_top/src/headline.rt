@@ -1,0 +1,17 @@
+ghost use Rattle.std.specs.Prelude.{◌≡◌, ℕ, List, Some};
+ghost use Rattle.hood_io.specs.Shelves.{Told};
+ghost use Rattle.hrthood_top.specs.Words.{Generate, Replay};
+ghost use Rattle.hrthood_top.specs.Ends.{Outside};
+ghost use Rattle.hrthood_top.specs.TwoRuns.{IsDone, IsRightReplay};
+
+/// What `replay` writes of a text that `generate` wrote is the trace of a run that the design allows, within its bounds.
+///
+/// The two runs are apart: of the first only its text comes to the second, as the file `a`. In the first, `x` and `y` are what stood
+/// outside before and after it, and `t` is its shelf with the design in the file `d`; `u`, `v` and `s` are those of the second, whose
+/// shelf has the arrivals in the file `r`. So the trace has no stop, and each release whose response time falls within the horizon
+/// has its end within it.
+pub fn generated_text_replays()
+    ensures { (words others : List (List ℕ)) (d a r text written : List ℕ) (x y u v : Outside) (t s : Told)
+        → IsDone words (Generate d) x y t text → IsDone others (Replay a r) u v s written → s.files a ≡ Some text
+        → IsRightReplay t s d r written }
+{}

@@ -1,7 +1,7 @@
 -- The reader of a horizon reads exactly the texts of arrivals that are a horizon alone.
 use Rattle.std.proofs.Common.{◌≡◌, ℕ, ◌≤◌, Bool, true, false, List, [], ◌∷◌, length, map, Option, None, Ok, Err, nat_le, nat_lt, codes, refl, sym, ap, ◌∙◌, arith, subst}
 use Rattle.std.proofs.lemmas.Bool.{and_parts, and_from, leb-true, le-leb, ltb-false, le-ltb}
-use Rattle.grammar.specs.Reading.{Reads, whole_at}
+use Rattle.grammar.specs.Reading.{Syntax, Reads, whole_at}
 use Rattle.grammar.proofs.Laws.{reads-same, reads-pure}
 use Rattle.grammar.proofs.Whole.{whole-found, whole-only}
 use Rattle.seq_tree.specs.Lexis.{tokens}
@@ -85,7 +85,7 @@ horizon-read bytes p ts a read usable r =
     (and_from (nat_le 0 a.until) (nat_le a.until horizon_limit) (le-leb 0 a.until (omega arith)) (le-leb a.until horizon_limit near), rw until bared)
 
 -- tokens that are no horizon say nothing
-pub nothing-said : (bytes : List ℕ) (p : Program) (ts : List Spanned) (left : ℕ) → tokens bytes ≡ Ok ts → whole_at horizon_at (bare ts) ≡ Err left → SaysNothing bytes p
+pub nothing-said : (bytes : List ℕ) (p : Program) (ts : List Spanned) (left : ℕ) → tokens bytes ≡ Ok ts → whole_at horizon_at (bare ts) ≡ Err (Syntax left) → SaysNothing bytes p
 nothing-said bytes p ts left read e a usable r = let h = horizon-read bytes p ts a read usable r in cc
 
 -- and those of a horizon say no other arrivals

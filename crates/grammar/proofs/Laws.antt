@@ -1,6 +1,6 @@
 -- The laws of the readers, one form after another.
-use Rattle.std.proofs.Common.{◌≡◌, ℕ, suc, Bool, true, false, cond, List, [], ◌∷◌, ◌++◌, length, Option, Some, None, Ok, Err, ◌⊎◌, inl, inr, refl, sym, ap, subst, ◌∙◌, append_assoc}
-use Rattle.grammar.specs.Reading.{Read, first, ◌>>=◌, then_at, pure_at, choose_at, token_at, taken, Stuck, Found, Reads, Joined}
+use Rattle.std.proofs.Common.{◌≡◌, suc, Bool, true, false, cond, List, [], ◌∷◌, ◌++◌, length, Option, Some, None, Ok, Err, ◌⊎◌, inl, inr, refl, sym, ap, subst, ◌∙◌, append_assoc}
+use Rattle.grammar.specs.Reading.{Halt, Syntax, left_of, with_left, Read, first, ◌>>=◌, then_at, pure_at, choose_at, token_at, taken, Stuck, Found, Reads, Joined}
 
 -- the parts of a run of two readers
 pub record Both {T A B : Type 0} (r : Read T A) (f : A × List T → Read T B) (y : B × List T) : Type 0 where
@@ -10,14 +10,14 @@ pub record Both {T A B : Type 0} (r : Read T A) (f : A × List T → Read T B) (
 
 pub bind_ok : {T A B : Type 0} (r : Read T A) (f : A × List T → Read T B) (y : B × List T) → (r >>= f) ≡ Ok y → Both r f y
 bind_ok (Ok x) f y e = record { x = x; one = refl; two = e }
-bind_ok (Err left) f y e = cc
+bind_ok (Err halt) f y e = cc
 
-pub record Second {T A B : Type 0} (r : Read T A) (f : A × List T → Read T B) (left : ℕ) : Type 0 where
+pub record Second {T A B : Type 0} (r : Read T A) (f : A × List T → Read T B) (left : Halt) : Type 0 where
   pub x : A × List T
   pub one : r ≡ Ok x
   pub two : f x ≡ Err left
 
-pub bind_err : {T A B : Type 0} (r : Read T A) (f : A × List T → Read T B) (left : ℕ) → (r >>= f) ≡ Err left → (r ≡ Err left) ⊎ Second r f left
+pub bind_err : {T A B : Type 0} (r : Read T A) (f : A × List T → Read T B) (left : Halt) → (r >>= f) ≡ Err left → (r ≡ Err left) ⊎ Second r f left
 bind_err (Ok x) f left e = inr (record { x = x; one = refl; two = e })
 bind_err (Err n) f left e = inl (ap Err (let h : Err n ≡ Err left = e in cc))
 
@@ -49,7 +49,7 @@ module _ {T A B : Type 0} (G : A → List T → Type 0) (H : A → B → List T 
       rw (j.whole, append_assoc, one.complete j.a j.front (j.back ++ rest) j.before (follow j.a b j.back rest j.after stop))
       ((two j.a).complete b j.back rest j.after stop)
 
-  fault : (ts : List T) (left : ℕ) → then_at r f ts ≡ Err left → Stuck (Joined G H) (then_at r f) ts left
+  fault : (ts : List T) (left : Halt) → then_at r f ts ≡ Err left → Stuck (Joined G H) (then_at r f) ts left
   fault ts left e =
       elim (bind_err (r ts) (λ x. f x.0 x.1) left e) [
         | inl h ↦
@@ -135,7 +135,7 @@ took : {T A : Type 0} (sees : T → Option A) (ts : List T) (a : A) (rest : List
 took sees [] a rest e = absurd (cc)
 took sees (t ∷ us) a rest e = took_of sees t us (sees t) a rest refl e
 
-none_of : {T A : Type 0} (sees : T → Option A) (t : T) (us : List T) (o : Option A) (left : ℕ) → sees t ≡ o → taken o us ≡ Err left → (sees t ≡ None) × (suc (length us) ≡ left)
+none_of : {T A : Type 0} (sees : T → Option A) (t : T) (us : List T) (o : Option A) (left : Halt) → sees t ≡ o → taken o us ≡ Err left → (sees t ≡ None) × (Syntax (suc (length us)) ≡ left)
 none_of sees t us None left e h = (e, cc)
 none_of sees t us (Some b) left e h = absurd (cc)
 
@@ -148,7 +148,7 @@ reads-token {T} {A} sees some spelling seen = record {
   some_text = spelling ∷ [];
   some_spelled = record { token = spelling; seen = seen; whole = refl };
 } where
-  stuck : (ts : List T) (left : ℕ) → token_at sees ts ≡ Err left → Stuck (IsToken sees) (token_at sees) ts left
+  stuck : (ts : List T) (left : Halt) → token_at sees ts ≡ Err left → Stuck (IsToken sees) (token_at sees) ts left
   stuck [] left e = record { front = []; back = []; split = refl; place = cc; last = some; tail = spelling ∷ []; viable = record { token = spelling; seen = seen; whole = refl }; dead = λ t more after at. absurd (cc) }
   stuck (u ∷ us) left e =
       let h = none_of sees u us (sees u) left refl e in
@@ -156,11 +156,11 @@ reads-token {T} {A} sees some spelling seen = record {
         front = [];
         back = u ∷ us;
         split = refl;
-        place = h.1;
+        place = ap left_of h.1;
         last = some;
         tail = spelling ∷ [];
         viable = record { token = spelling; seen = seen; whole = refl };
-        dead = λ t more after at. let same : u ≡ t = cc in let no : sees t ≡ None = ap sees (sym same) ∙ h.0 in rw no refl;
+        dead = λ t more after at. let same : u ≡ t = cc in let no : sees t ≡ None = ap sees (sym same) ∙ h.0 in rw no (ap Err (ap (λ g. with_left g (suc (length after))) h.1));
       }
 
 -- ONE OF TWO, by the next token
@@ -182,7 +182,7 @@ module _ {T A : Type 0} (test : Option T → Bool) (G H : A → List T → Type 
   choose-complete a text rest e stop =
       elim e [ inl g ↦ rw (yes a text rest g stop) (one.complete a text rest g stop) | inr h ↦ rw (no a text rest h stop) (two.complete a text rest h stop) ]
 
-  choose-fault : (ts : List T) (left : ℕ) (b : Bool) → test (first ts) ≡ b → cond b (r ts) (s ts) ≡ Err left → Stuck Either (choose_at test r s) ts left
+  choose-fault : (ts : List T) (left : Halt) (b : Bool) → test (first ts) ≡ b → cond b (r ts) (s ts) ≡ Err left → Stuck Either (choose_at test r s) ts left
   choose-fault ts left true t e =
       let f = one.fault ts left e in
       record {
@@ -257,7 +257,7 @@ module _ {T A B : Type 0} (G : A → List T → Type 0) (H : B → List T → Ty
       let Q : B → Type 0 = λ c. StopsH c (first rest) in
       rw (one.complete a.0 text rest a.1 (stops_back a.0 (first rest) (subst Q (sym a.2) stop)), a.2) refl
 
-  map_fault : (ts : List T) (left : ℕ) → then_at r (λ a. pure_at (f a)) ts ≡ Err left → Stuck H (then_at r (λ a. pure_at (f a))) ts left
+  map_fault : (ts : List T) (left : Halt) → then_at r (λ a. pure_at (f a)) ts ≡ Err left → Stuck H (then_at r (λ a. pure_at (f a))) ts left
   map_fault ts left e =
       elim (bind_err (r ts) (λ x. Ok (f x.0, x.1)) left e) [
         | inl h ↦

@@ -1,6 +1,6 @@
 -- The law of a reader of a whole text.
-use Rattle.std.proofs.Common.{◌≡◌, ℕ, suc, List, [], ◌∷◌, ◌++◌, length, Option, None, Ok, Err, refl, sym, ap, subst, ◌∙◌, append-nil}
-use Rattle.grammar.specs.Reading.{Read, first, Reads, Found, IsFirstFault, all_taken, all_of, whole_at}
+use Rattle.std.proofs.Common.{◌≡◌, suc, List, [], ◌∷◌, ◌++◌, length, Option, None, Ok, Err, refl, sym, ap, subst, ◌∙◌, append-nil}
+use Rattle.grammar.specs.Reading.{Halt, Syntax, left_of, Read, first, Reads, Found, IsFirstFault, all_taken, all_of, whole_at}
 use Rattle.grammar.proofs.Laws.{ok_parts}
 
 module _ {T A : Type 0} (G : A → List T → Type 0) (Stops : A → Option T → Type 0) (r : List T → Read T A) (one : Reads G Stops r) (ends : (a : A) → Stops a None) where
@@ -24,10 +24,10 @@ module _ {T A : Type 0} (G : A → List T → Type 0) (Stops : A → Option T �
   pub whole-only : (ts : List T) (a : A) → G a ts → whole_at r ts ≡ Ok a
   whole-only ts a g = ap all_of (ap r (sym (append-nil ts)) ∙ one.complete a ts [] g (ends a))
 
-  none : (ts : List T) (left : ℕ) → whole_at r ts ≡ Err left → (a : A) → G a ts → ⊥
+  none : (ts : List T) (left : Halt) → whole_at r ts ≡ Err left → (a : A) → G a ts → ⊥
   none ts left e a g = let h = whole-only ts a g in cc
 
-  whole_fault : (ts : List T) (left : ℕ) (q : Read T A) → r ts ≡ q → all_of q ≡ Err left → ((a : A) → G a ts → ⊥) → IsFirstFault G ts left
+  whole_fault : (ts : List T) (left : Halt) (q : Read T A) → r ts ≡ q → all_of q ≡ Err left → ((a : A) → G a ts → ⊥) → IsFirstFault G ts (left_of left)
   whole_fault ts left (Err n) e h refuses =
       let f = one.fault ts n e in
       let same : n ≡ left = (let k : Err n ≡ Err left = h in cc) in
@@ -35,7 +35,7 @@ module _ {T A : Type 0} (G : A → List T → Type 0) (Stops : A → Option T �
         front = f.front;
         back = f.back;
         split = f.split;
-        place = f.place ∙ same;
+        place = f.place ∙ ap left_of same;
         last = f.last;
         tail = f.tail;
         begins = f.viable;
@@ -45,14 +45,14 @@ module _ {T A : Type 0} (G : A → List T → Type 0) (Stops : A → Option T �
         no_text = refuses;
       }
   whole_fault ts left (Ok x) e h refuses = over x.0 x.1 (one.sound ts x.0 x.1 e) h where
-    over : (a : A) (rest : List T) → Found G Stops ts a rest → all_taken a rest ≡ Err left → IsFirstFault G ts left
+    over : (a : A) (rest : List T) → Found G Stops ts a rest → all_taken a rest ≡ Err left → IsFirstFault G ts (left_of left)
     over a [] f k = absurd (cc)
     over a (u ∷ us) f k =
         record {
           front = f.text;
           back = u ∷ us;
           split = f.split;
-          place = (let p : Err (suc (length us)) ≡ Err left = k in cc);
+          place = ap left_of (let p : Err (Syntax (suc (length us))) ≡ Err left = k in let q : Syntax (suc (length us)) ≡ left = cc in q);
           last = a;
           tail = [];
           begins = rw append-nil f.spelled;
@@ -66,5 +66,5 @@ module _ {T A : Type 0} (G : A → List T → Type 0) (Stops : A → Option T �
           no_text = refuses;
         }
 
-  pub whole-fault : (ts : List T) (left : ℕ) → whole_at r ts ≡ Err left → IsFirstFault G ts left
+  pub whole-fault : (ts : List T) (left : Halt) → whole_at r ts ≡ Err left → IsFirstFault G ts (left_of left)
   whole-fault ts left e = whole_fault ts left (r ts) refl e (none ts left e)

@@ -3,7 +3,7 @@ use Rattle.std.proofs.Common.{◌≡◌, ◌<◌, Bool, true, false, cond, List,
 use Rattle.std.proofs.lemmas.Slice.Eq.{bytes_eq-Decides}
 use Rattle.grammar.specs.Reading.{Read, first, then_at, pure_at, token_at, many_at, Reads, Joined, AreMany}
 use Rattle.grammar.proofs.Laws.{reads-token, IsToken, reads-same, reads-then, reads-pure, reads-choose, reads-map}
-use Rattle.grammar.proofs.Many.{reads-many}
+use Rattle.grammar.proofs.Many.{reads-items}
 use Rattle.seq_tree.specs.Names.{Name, same_name}
 use Rattle.seq_tree.specs.declared.token.Token.{Token}
 use Rattle.seq_tree.specs.declared.token.Token.TheVariants.{Word, Number, Sign}
@@ -134,9 +134,9 @@ many_back (a ∷ more) h = (attribute_text a, attributes_text more, (h.0, refl),
 abbrev IsRest : Attr → List Attr → List Token → Type 0
 IsRest a attrs text = (more : List Attr) × (attrs ≡ a ∷ more) × AreAttributes more text
 
-reads-rest : (a : Attr) → Reads (IsRest a) EndsList (then_at (λ ts. many_at begins_attribute attribute_at (length ts) ts) (λ more. pure_at (a ∷ more)))
-reads-rest a = reads-map (AreMany IsAttribute) (IsRest a) (λ more o. begins_attribute o ≡ false) EndsList (λ ts. many_at begins_attribute attribute_at (length ts) ts) (λ more. a ∷ more)
-    (reads-many begins_attribute IsAttribute Any attribute_at reads-attribute starts_attribute grows_attribute (λ b o. tt) refl)
+reads-rest : (a : Attr) → Reads (IsRest a) EndsList (then_at (many_at begins_attribute attribute_at) (λ more. pure_at (a ∷ more)))
+reads-rest a = reads-map (AreMany IsAttribute) (IsRest a) (λ more o. begins_attribute o ≡ false) EndsList (many_at begins_attribute attribute_at) (λ more. a ∷ more)
+    (reads-items begins_attribute IsAttribute attribute_at reads-attribute starts_attribute grows_attribute refl)
     (λ more text g. (more, refl, many_to more text g))
     (λ attrs text h. (h.0, rw h.2.1 (many_back h.0 h.2.0), sym h.1))
     (λ b o h. h) (λ b o h. h)

@@ -1,6 +1,6 @@
 -- From the tokens of a text to what is answered of the text.
 use Rattle.std.proofs.Common.{◌≡◌, ℕ, ◌≤◌, List, length, Ok, Err, sym, ap, ◌∙◌}
-use Rattle.grammar.specs.Reading.{whole_at}
+use Rattle.grammar.specs.Reading.{Syntax, whole_at}
 use Rattle.grammar.proofs.Whole.{whole-found, whole-only, whole-fault}
 use Rattle.seq_tree.specs.Lexis.{tokens, plain}
 use Rattle.seq_tree.specs.declared.token.Spanned.{Spanned}
@@ -30,10 +30,10 @@ reads_only bytes ts x e usable r =
     whole-only IsTextOf Any design_at reads-design (λ y. tt) (bare ts) x (record { usable = usable; proper = r.proper; spelled = spelled })
 
 -- where the tokens are read as no design the text reads as none
-pub none_reads : (bytes : List ℕ) (ts : List Spanned) (left : ℕ) → length bytes ≤ 1048576 → tokens bytes ≡ Ok ts → whole_at design_at (bare ts) ≡ Err left → IsNoDesign bytes
+pub none_reads : (bytes : List ℕ) (ts : List Spanned) (left : ℕ) → length bytes ≤ 1048576 → tokens bytes ≡ Ok ts → whole_at design_at (bare ts) ≡ Err (Syntax left) → IsNoDesign bytes
 none_reads bytes ts left short e h = (ts, short, e, λ x usable r. let found = reads_only bytes ts x e usable r in cc)
 
 -- where the reader of the tokens stops is the first place with which no text goes on
-pub stops_at : (bytes : List ℕ) (ts : List Spanned) (left : ℕ) (place : Place) → tokens bytes ≡ Ok ts → whole_at design_at (bare ts) ≡ Err left → place ≡ place_at bytes ts left → StopsAt bytes place
+pub stops_at : (bytes : List ℕ) (ts : List Spanned) (left : ℕ) (place : Place) → tokens bytes ≡ Ok ts → whole_at design_at (bare ts) ≡ Err (Syntax left) → place ≡ place_at bytes ts left → StopsAt bytes place
 stops_at bytes ts left place e h here =
-    record { found = ts; read = e; left = left; here = here; first = whole-fault IsTextOf Any design_at reads-design (λ y. tt) (bare ts) left h }
+    record { found = ts; read = e; left = left; here = here; first = whole-fault IsTextOf Any design_at reads-design (λ y. tt) (bare ts) (Syntax left) h }

@@ -1,6 +1,6 @@
 -- Reading a design of one cyclic object, one production after another.
 -- The object description skeleton follows Burns and Wellings 1995; its grammar is this project's own.
-use Rattle.std.specs.Prelude.{ℕ, Bool, true, false, List, [], ◌∷◌, length, Option, Some, None, codes, if◌then◌else◌}
+use Rattle.std.specs.Prelude.{ℕ, Bool, true, false, List, [], ◌∷◌, Option, Some, None, codes, if◌then◌else◌}
 use Rattle.grammar.specs.Reading.{Read, then_at, pure_at, token_at, choose_at, many_at}
 use Rattle.seq_tree.specs.Names.{Name, same_name}
 use Rattle.seq_tree.specs.Expressions.{Expression}
@@ -52,7 +52,7 @@ statement_at = choose_at (next_is (Word (codes "null"))) null_at work_at
 -- statements, one at least
 unfoldable pub block_at : List Token → Read Token Statements
 block_at =
-    then_at statement_at (λ s. then_at (λ ts. many_at begins_statement statement_at (length ts) ts) (λ ss. pure_at (statements_of (s ∷ ss))))
+    then_at statement_at (λ s. then_at (many_at begins_statement statement_at) (λ ss. pure_at (statements_of (s ∷ ss))))
 
 -- what a word states as an attribute, where it does so
 unfoldable pub key_named : Name → Option AttrKey
@@ -90,7 +90,7 @@ attribute_at =
 
 -- attributes, one at least
 unfoldable pub attribute_list_at : List Token → Read Token (List Attr)
-attribute_list_at = then_at attribute_at (λ a. then_at (λ ts. many_at begins_attribute attribute_at (length ts) ts) (λ more. pure_at (a ∷ more)))
+attribute_list_at = then_at attribute_at (λ a. then_at (many_at begins_attribute attribute_at) (λ more. pure_at (a ∷ more)))
 
 -- a section of attributes, and the word that begins the thread
 unfoldable pub section_at : List Token → Read Token (List Attr)

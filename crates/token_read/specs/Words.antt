@@ -2,7 +2,8 @@
 -- Tokens are those of the lexical grammar, without their places.
 use Rattle.std.specs.Prelude.{◌≡◌, ℕ, Bool, false, ◌==◌, List, map, Result, Ok, Err, ⊤}
 use Rattle.std.specs.Str.{bytes_eq}
-use Rattle.grammar.specs.Reading.{Read}
+use Rattle.grammar.specs.Reading.{Halt, Read}
+use Rattle.grammar.specs.Reading as reading
 use Rattle.seq_tree.specs.declared.token.Token.{Token}
 use Rattle.seq_tree.specs.declared.token.Token.TheVariants as token
 use Rattle.seq_tree.specs.declared.token.Spanned.{Spanned}
@@ -19,7 +20,7 @@ bare ts = map (λ s. s.token) ts
 
 -- the fault of a reader is that of the definitions, unless memory ran out
 abbrev pub Fails : {A : Type 0} → ReadFault → Read Token A → Type 0
-Fails (Syntax left) read = read ≡ Err left
+Fails (Syntax left) read = read ≡ Err (reading.Syntax left)
 Fails NoMemory read = ⊤
 
 -- the answer of a reader, by a view of its value
@@ -28,12 +29,12 @@ Gives view (Ok x) read = read ≡ Ok (view x)
 Gives view (Err e) read = Fails e read
 
 -- the fault of a reader of a whole text
-abbrev pub FailsWhole : {A : Type 0} → ReadFault → Result A ℕ → Type 0
-FailsWhole (Syntax left) read = read ≡ Err left
+abbrev pub FailsWhole : {A : Type 0} → ReadFault → Result A Halt → Type 0
+FailsWhole (Syntax left) read = read ≡ Err (reading.Syntax left)
 FailsWhole NoMemory read = ⊤
 
 -- the answer of a reader of a whole text
-abbrev pub GivesWhole : {X A : Type 0} → (X → A) → Result X ReadFault → Result A ℕ → Type 0
+abbrev pub GivesWhole : {X A : Type 0} → (X → A) → Result X ReadFault → Result A Halt → Type 0
 GivesWhole view (Ok x) read = read ≡ Ok (view x)
 GivesWhole view (Err e) read = FailsWhole e read
 

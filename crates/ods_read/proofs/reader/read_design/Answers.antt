@@ -1,5 +1,5 @@
-use Rattle.std.proofs.Common.{◌≡◌, ℕ, List, Result, Ok, sym, ap, ◌∙◌, arith}
-use Rattle.grammar.specs.Reading.{whole_at}
+use Rattle.std.proofs.Common.{◌≡◌, List, Result, Ok, sym, ap, ◌∙◌, arith}
+use Rattle.grammar.specs.Reading.{Halt, whole_at}
 use Rattle.seq_tree.specs.declared.token.Spanned.{Spanned}
 use Rattle.ods_tree.specs.Designs.{Design}
 use Rattle.ods_tree.specs.Trees.{design_of}
@@ -10,7 +10,7 @@ use Rattle.ods_read.proofs.ReadSteps.{reads_found, reads_only, none_reads, stops
 use Rattle.ods_read.proofs.reader.read_design.Goals as goal
 
 -- what the tokens are read as
-abbrev read_as : List Spanned → Result Design ℕ
+abbrev read_as : List Spanned → Result Design Halt
 read_as ts = whole_at design_at (bare ts)
 
 pub returns-in-Ok-whole-clause-says : goal.returns-in-Ok-whole-clause-says

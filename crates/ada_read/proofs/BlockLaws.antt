@@ -3,7 +3,7 @@ use Rattle.std.proofs.Common.{◌≡◌, ℕ, ◌<◌, true, false, List, [], �
 use Rattle.std.specs.Prelude.{⊤}
 use Rattle.grammar.specs.Reading.{first, then_at, pure_at, many_at, Reads, Joined, AreMany}
 use Rattle.grammar.proofs.Laws.{reads-same, reads-pure, reads-choose, reads-map}
-use Rattle.grammar.proofs.Many.{reads-many}
+use Rattle.grammar.proofs.Many.{reads-items}
 use Rattle.seq_tree.specs.Statements.{Statement, Statements, Null, Assign, If, For, ExitWhen, Call, Work, Put, End, Then}
 use Rattle.seq_tree.specs.Spelling.{joined, block_lines}
 use Rattle.seq_tree.specs.Trees.{statements_of}
@@ -132,10 +132,10 @@ many_back (Then s ss) h = let p = parts_of s ss h in (p.text, block_text ss, p.s
 abbrev IsRest : Statement → Statements → List Token → Type 0
 IsRest s b text = (ss : Statements) × (b ≡ Then s ss) × AreBuilt ss × (text ≡ block_text ss)
 
-reads-rest : (s : Statement) → Reads (IsRest s) EndsBlock (then_at (λ ts. many_at begins_statement statement_at (length ts) ts) (λ ss. pure_at (statements_of (s ∷ ss))))
+reads-rest : (s : Statement) → Reads (IsRest s) EndsBlock (then_at (many_at begins_statement statement_at) (λ ss. pure_at (statements_of (s ∷ ss))))
 unfolding list_of
-reads-rest s = reads-map (AreMany IsStatement) (IsRest s) (λ ss o. begins_statement o ≡ false) EndsBlock (λ ts. many_at begins_statement statement_at (length ts) ts) (λ ss. statements_of (s ∷ ss))
-    (reads-many begins_statement IsStatement Any statement_at reads-statement starts_statement grows_statement (λ a o. tt) refl)
+reads-rest s = reads-map (AreMany IsStatement) (IsRest s) (λ ss o. begins_statement o ≡ false) EndsBlock (many_at begins_statement statement_at) (λ ss. statements_of (s ∷ ss))
+    (reads-items begins_statement IsStatement statement_at reads-statement starts_statement grows_statement refl)
     (λ ss text g. let h = many_to ss text g in (statements_of ss, refl, h.0, h.1))
     (λ b text h. (list_of h.0, rw h.3 (many_back h.0 h.2), ap (Then s) (of_list h.0) ∙ sym h.1))
     (λ a o h. h) (λ a o h. h)

@@ -1,6 +1,6 @@
 -- Reading a block, one statement at a time.
-use Rattle.std.proofs.Common.{◌≡◌, ℕ, ◌<◌, true, false, map, List, [], ◌∷◌, ◌++◌, length, Ok, Err, refl, sym, ap, arith, append_assoc, append-nil, length-append}
-use Rattle.grammar.specs.Reading.{Read, first, ◌>>=◌, many_at}
+use Rattle.std.proofs.Common.{◌≡◌, ◌<◌, true, false, map, List, [], ◌∷◌, ◌++◌, length, Ok, Err, refl, sym, ap, arith, append_assoc, append-nil, length-append}
+use Rattle.grammar.specs.Reading.{Halt, Read, first, ◌>>=◌, many_at}
 use Rattle.grammar.proofs.Many.{many-turn, many-fails, many-ends}
 use Rattle.seq_tree.specs.Expressions.{Expression}
 use Rattle.seq_tree.specs.Statements.{Statement, Statements}
@@ -13,7 +13,7 @@ use Rattle.ada_read.proofs.BlockLaws.{IsStatement, reads-statement, starts_state
 
 -- the block of these statements and those that are left
 unfoldable pub rest_of : List Statement → List Token → Read Token Statements
-rest_of front ts = many_at begins_statement statement_at (length ts) ts >>= λ y. Ok (statements_of (front ++ y.0), y.1)
+rest_of front ts = many_at begins_statement statement_at ts >>= λ y. Ok (statements_of (front ++ y.0), y.1)
 
 pub statement-shorter : (ts : List Token) (s : Statement) (rest : List Token) → statement_at ts ≡ Ok (s, rest) → length rest < length ts
 statement-shorter ts s rest e =
@@ -24,7 +24,7 @@ pub block-start : (ts : List Token) (s : Statement) (rest : List Token) → stat
 unfolding rest_of block_at
 block-start ts s rest e = rw e refl
 
-pub block-fails : (ts : List Token) (left : ℕ) → statement_at ts ≡ Err left → block_at ts ≡ Err left
+pub block-fails : (ts : List Token) (left : Halt) → statement_at ts ≡ Err left → block_at ts ≡ Err left
 unfolding block_at
 block-fails ts left e = rw e refl
 
@@ -36,22 +36,18 @@ regroup front s (Err left) = refl
 pub rest-turn : (front : List Statement) (ts : List Token) (s : Statement) (rest : List Token) → begins_statement (first ts) ≡ true → statement_at ts ≡ Ok (s, rest) → rest_of (front ++ s ∷ []) rest ≡ rest_of front ts
 unfolding rest_of
 rest-turn front ts s rest t e =
-    rw (many-turn begins_statement IsStatement Any statement_at reads-statement starts_statement grows_statement (λ a o. tt) refl ts s rest t e)
-    (sym (regroup front s (many_at begins_statement statement_at (length rest) rest)))
+    rw (many-turn begins_statement IsStatement Any statement_at reads-statement starts_statement grows_statement (λ a o t. tt) refl ts s rest t e)
+    (sym (regroup front s (many_at begins_statement statement_at rest)))
 
-grown : (ts : List Token) → begins_statement (first ts) ≡ true → 0 < length ts
-grown [] t = absurd (cc)
-grown (u ∷ us) t = omega arith
-
-pub rest-fails : (front : List Statement) (ts : List Token) (left : ℕ) → begins_statement (first ts) ≡ true → statement_at ts ≡ Err left → rest_of front ts ≡ Err left
+pub rest-fails : (front : List Statement) (ts : List Token) (left : Halt) → begins_statement (first ts) ≡ true → statement_at ts ≡ Err left → rest_of front ts ≡ Err left
 unfolding rest_of
 rest-fails front ts left t e =
-    rw (many-fails begins_statement IsStatement Any statement_at reads-statement starts_statement grows_statement (λ a o. tt) refl ts left t e (grown ts t)) refl
+    rw (many-fails begins_statement IsStatement Any statement_at reads-statement starts_statement grows_statement (λ a o t. tt) refl ts left t e) refl
 
 pub rest-ends : (front : List Statement) (ts : List Token) → begins_statement (first ts) ≡ false → rest_of front ts ≡ Ok (statements_of front, ts)
 unfolding rest_of
 rest-ends front ts t =
-    rw (many-ends begins_statement IsStatement Any statement_at reads-statement starts_statement grows_statement (λ a o. tt) refl ts t, append-nil) refl
+    rw (many-ends begins_statement IsStatement Any statement_at reads-statement starts_statement grows_statement (λ a o t. tt) refl ts t, append-nil) refl
 
 -- the tree of a block of statements
 pub block_of_roll : (x : Block-F _ _ _) → block_of (roll-Block x) ≡ statements_of (map statement_of x.stmts.items)

@@ -1,6 +1,6 @@
 -- From the tokens of a text to what is answered of the text.
 use Rattle.std.proofs.Common.{◌≡◌, ℕ, ◌≤◌, List, length, Ok, Err, sym, ap, ◌∙◌}
-use Rattle.grammar.specs.Reading.{whole_at}
+use Rattle.grammar.specs.Reading.{Syntax, whole_at}
 use Rattle.grammar.proofs.Whole.{whole-found, whole-only, whole-fault}
 use Rattle.seq_tree.specs.Lexis.{tokens, plain}
 use Rattle.seq_tree.specs.declared.token.Spanned.{Spanned}
@@ -30,10 +30,10 @@ accepted_only bytes ts p e usable a =
     whole-only IsTextOf Any program_at reads-ada (λ q. tt) (bare ts) p (record { usable = usable; proper = a.reads.proper; meets = a.meets; spelled = spelled })
 
 -- where the tokens are read as no program the text is accepted as none
-pub none_accepted : (bytes : List ℕ) (ts : List Spanned) (left : ℕ) → length bytes ≤ 16777216 → tokens bytes ≡ Ok ts → whole_at program_at (bare ts) ≡ Err left → IsNoProgram bytes
+pub none_accepted : (bytes : List ℕ) (ts : List Spanned) (left : ℕ) → length bytes ≤ 16777216 → tokens bytes ≡ Ok ts → whole_at program_at (bare ts) ≡ Err (Syntax left) → IsNoProgram bytes
 none_accepted bytes ts left short e h = (ts, short, e, λ p usable a. let found = accepted_only bytes ts p e usable a in cc)
 
 -- where the reader of the tokens stops is the first place with which no text goes on
-pub stops_at : (bytes : List ℕ) (ts : List Spanned) (left : ℕ) (place : Place) → tokens bytes ≡ Ok ts → whole_at program_at (bare ts) ≡ Err left → place ≡ place_at bytes ts left → StopsAt bytes place
+pub stops_at : (bytes : List ℕ) (ts : List Spanned) (left : ℕ) (place : Place) → tokens bytes ≡ Ok ts → whole_at program_at (bare ts) ≡ Err (Syntax left) → place ≡ place_at bytes ts left → StopsAt bytes place
 stops_at bytes ts left place e h here =
-    record { found = ts; read = e; left = left; here = here; first = whole-fault IsTextOf Any program_at reads-ada (λ q. tt) (bare ts) left h }
+    record { found = ts; read = e; left = left; here = here; first = whole-fault IsTextOf Any program_at reads-ada (λ q. tt) (bare ts) (Syntax left) h }

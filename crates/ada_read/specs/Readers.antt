@@ -1,6 +1,6 @@
 -- Reading a program of one cyclic unit, one production after another, with the ranges and names that its rules ask for.
 -- The text keeps to ISO/IEC 8652:2012; its form is this project's own.
-use Rattle.std.specs.Prelude.{ℕ, Bool, true, not, ◌&&◌, List, [], ◌∷◌, length, Option, codes, if◌then◌else◌}
+use Rattle.std.specs.Prelude.{ℕ, Bool, true, not, ◌&&◌, List, [], ◌∷◌, Option, codes, if◌then◌else◌}
 use Rattle.grammar.specs.Reading.{Read, then_at, pure_at, choose_at, many_at}
 use Rattle.seq_tree.specs.Names.{Name, same_name}
 use Rattle.seq_tree.specs.Expressions.{Expression}
@@ -52,7 +52,7 @@ statement_at = choose_at (next_is (Word (codes "null"))) null_at work_at
 -- statements, one at least
 unfoldable pub block_at : List Token → Read Token Statements
 block_at =
-    then_at statement_at (λ s. then_at (λ ts. many_at begins_statement statement_at (length ts) ts) (λ ss. pure_at (statements_of (s ∷ ss))))
+    then_at statement_at (λ s. then_at (many_at begins_statement statement_at) (λ ss. pure_at (statements_of (s ∷ ss))))
 
 -- the cost of a kind of statement
 unfoldable pub cost_at : CostName → List Token → Read Token ℕ

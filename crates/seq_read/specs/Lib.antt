@@ -1,1 +1,11 @@
 pub mod Places
+pub mod Halts
+pub mod Names
+pub mod Operators
+pub mod Expressions
+pub mod Levels
+pub mod Statements
+pub mod Nesting
+pub mod Texts
+pub mod Fronts
+pub mod Answers

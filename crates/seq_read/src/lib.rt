@@ -1,9 +1,25 @@
-//! What the readers of designs and of Ada texts share: the place of a fault, and the end of a whole text.
+//! Blocks and expressions from tokens, and what the readers of designs and of Ada texts share.
 //!
-//! It stands on the tokens of `token_read` and the laws of readers of `grammar`. `place_of` carries its promise: exactly the place
-//! of the token at which a reader stopped, or of the text's end.
+//! It stands on the tokens of `token_read` and the laws of readers of `grammar`. `read_block` and `read_expr` carry its
+//! promise: the longest block or expression from a place on, or exactly the token with which none goes on, or none within the limits.
+//! `block` and `expression` are the same for the readers of whole texts.
 #![tactic(auto)]
 
+mod expressions;
+mod fault;
+mod fronts;
+mod halt;
+mod names;
+mod operators;
 mod places;
+mod statements;
+mod tokens;
 
+pub use expressions::expression;
+pub use fault::ReadFault;
+pub use fronts::{read_block, read_expr};
+pub use halt::Halt;
+pub use names::{Text, may_name};
 pub use places::place_of;
+pub use statements::block;
+pub use tokens::{mark, name, number, phrase, word};

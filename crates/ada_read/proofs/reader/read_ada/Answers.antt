@@ -1,5 +1,5 @@
-use Rattle.std.proofs.Common.{◌≡◌, ℕ, List, Result, Ok, sym, ap, ◌∙◌, arith}
-use Rattle.grammar.specs.Reading.{whole_at}
+use Rattle.std.proofs.Common.{◌≡◌, List, Result, Ok, sym, ap, ◌∙◌, arith}
+use Rattle.grammar.specs.Reading.{Halt, whole_at}
 use Rattle.seq_tree.specs.declared.token.Spanned.{Spanned}
 use Rattle.ada_tree.specs.Programs.{Program}
 use Rattle.ada_tree.specs.Trees.{program_of}
@@ -10,7 +10,7 @@ use Rattle.ada_read.proofs.ReadSteps.{accepts_found, accepted_only, none_accepte
 use Rattle.ada_read.proofs.reader.read_ada.Goals as goal
 
 -- what the tokens are read as
-abbrev read_as : List Spanned → Result Program ℕ
+abbrev read_as : List Spanned → Result Program Halt
 read_as ts = whole_at program_at (bare ts)
 
 pub returns-in-Ok-whole-clause-says : goal.returns-in-Ok-whole-clause-says

@@ -1,0 +1,240 @@
+ghost use Rattle.std.specs.Prelude.{◌≡◌, codes};
+ghost use Rattle.seq_tree.specs.Trees.{expression_of};
+ghost use Rattle.token_read.specs.Words.{bare};
+ghost use Rattle.seq_read.specs.Halts.{Gives};
+ghost use Rattle.seq_read.specs.Names.{may_name};
+ghost use Rattle.seq_read.specs.Expressions.{literal_at, variable_at, primary_at, inverse_at, factor_at, chain_at, term_at, simple_at, comparison_at, relation_at, logic_at, expression_at};
+ghost use Rattle.seq_read.specs.Levels.{opened_at, operand_at, binary_at};
+
+use crate::halt::Halt;
+use crate::names::Text;
+use crate::operators::{Class, begins, logical_class, operator};
+use crate::tokens::{mark, name, number, word};
+use seq_tree::{Expr, Mark, Spanned};
+use std::alloc::Global;
+use token_read::{next_is_mark, next_is_number, next_is_word};
+
+/// A number.
+#[tactic(auto, unfolding(crate::specs::Expressions::literal_at))]
+fn literal(tokens: &[Spanned]) -> Result<(Expr, &[Spanned]), Halt>
+    ensures { Gives (λ r. (expression_of r.0, bare r.1.now)) result (literal_at (bare tokens.now)) }
+{
+    let (value, tokens) = number(tokens)?;
+    Ok((Expr::Number(value), tokens))
+}
+
+/// A variable.
+#[tactic(auto, unfolding(crate::specs::Expressions::variable_at))]
+fn variable(alloc: Global, tokens: &[Spanned], text: Text) -> Result<(Expr, &[Spanned]), Halt>
+    ensures { Gives (λ r. (expression_of r.0, bare r.1.now)) result (variable_at (may_name text) (bare tokens.now)) }
+{
+    let (variable, tokens) = name(alloc, tokens, text)?;
+    Ok((Expr::Variable(variable), tokens))
+}
+
+/// An expression in parentheses, inside which they nest less deep than `deeper`.
+#[cycle(levels)]
+#[tactic(auto, unfolding(crate::specs::Expressions::paren_at))]
+fn paren(
+    alloc: Global,
+    tokens: &[Spanned],
+    text: Text,
+    deeper: u32,
+) -> Result<(Expr, &[Spanned]), Halt>
+    ensures { Gives (λ r. (expression_of r.0, bare r.1.now)) result (opened_at (may_name text) 32 deeper (bare tokens.now)) }
+{
+    let Some(deeper) = deeper.checked_sub(1) else {
+        return Err(Halt::TooDeep(tokens.len()));
+    };
+    let tokens = mark(tokens, Mark::LeftParen)?;
+    let (inner, tokens) = expression(alloc, tokens, text, deeper)?;
+    let tokens = mark(tokens, Mark::RightParen)?;
+    Ok((Expr::Paren(Box::new(alloc, inner)?), tokens))
+}
+
+/// A number, a variable, or an expression in parentheses.
+#[cycle(levels)]
+#[tactic(auto, unfolding(crate::specs::Expressions::primary_at))]
+fn primary(
+    alloc: Global,
+    tokens: &[Spanned],
+    text: Text,
+    deeper: u32,
+) -> Result<(Expr, &[Spanned]), Halt>
+    ensures { Gives (λ r. (expression_of r.0, bare r.1.now)) result (primary_at (may_name text) (opened_at (may_name text) 32 deeper) (bare tokens.now)) }
+{
+    if next_is_mark(tokens, Mark::LeftParen) {
+        paren(alloc, tokens, text, deeper)
+    } else if next_is_number(tokens) {
+        literal(tokens)
+    } else {
+        variable(alloc, tokens, text)
+    }
+}
+
+/// `not` and a primary.
+#[cycle(levels)]
+#[tactic(auto, unfolding(crate::specs::Expressions::inverse_at))]
+fn inverse(
+    alloc: Global,
+    tokens: &[Spanned],
+    text: Text,
+    deeper: u32,
+) -> Result<(Expr, &[Spanned]), Halt>
+    ensures { Gives (λ r. (expression_of r.0, bare r.1.now)) result (inverse_at (may_name text) (opened_at (may_name text) 32 deeper) (bare tokens.now)) }
+{
+    let tokens = word(tokens, b"not")?;
+    let (inner, tokens) = primary(alloc, tokens, text, deeper)?;
+    Ok((Expr::Not(Box::new(alloc, inner)?), tokens))
+}
+
+/// A primary, or `not` and a primary.
+#[cycle(levels)]
+#[tactic(auto, unfolding(crate::specs::Expressions::factor_at))]
+fn factor(
+    alloc: Global,
+    tokens: &[Spanned],
+    text: Text,
+    deeper: u32,
+) -> Result<(Expr, &[Spanned]), Halt>
+    ensures { Gives (λ r. (expression_of r.0, bare r.1.now)) result (factor_at (may_name text) (opened_at (may_name text) 32 deeper) (bare tokens.now)) }
+{
+    if next_is_word(tokens, b"not") {
+        inverse(alloc, tokens, text, deeper)
+    } else {
+        primary(alloc, tokens, text, deeper)
+    }
+}
+
+/// What stands between operators of a class.
+#[cycle(levels)]
+fn operand(
+    alloc: Global,
+    tokens: &[Spanned],
+    text: Text,
+    deeper: u32,
+    class: Class,
+) -> Result<(Expr, &[Spanned]), Halt>
+    ensures { Gives (λ r. (expression_of r.0, bare r.1.now)) result (operand_at (may_name text) 32 (opened_at (may_name text) 32 deeper) class (bare tokens.now)) }
+{
+    match class {
+        Class::Multiplying => factor(alloc, tokens, text, deeper),
+        Class::Adding => term(alloc, tokens, text, deeper),
+        Class::Relational => simple(alloc, tokens, text, deeper),
+        Class::And | Class::Or | Class::Xor => relation(alloc, tokens, text, deeper),
+    }
+}
+
+/// An operator of a class behind its left side, and its right side.
+#[cycle(levels)]
+fn binary(
+    alloc: Global,
+    left: Expr,
+    tokens: &[Spanned],
+    text: Text,
+    deeper: u32,
+    class: Class,
+) -> Result<(Expr, &[Spanned]), Halt>
+    ensures { Gives (λ r. (expression_of r.0, bare r.1.now)) result (binary_at class (operand_at (may_name text) 32 (opened_at (may_name text) 32 deeper) class) (expression_of left) (bare tokens.now)) }
+{
+    let (op, tokens) = operator(tokens, class)?;
+    let (right, tokens) = operand(alloc, tokens, text, deeper, class)?;
+    let left = Box::new(alloc, left)?;
+    let right = Box::new(alloc, right)?;
+    Ok((Expr::Binary(op, left, right), tokens))
+}
+
+/// What operators of a class, at most 32, make of the first operand. They group to the left.
+#[cycle(levels)]
+#[tactic(auto, using(crate::proofs::Chains::chain_steps))]
+fn chain(
+    alloc: Global,
+    first: Expr,
+    tokens: &[Spanned],
+    text: Text,
+    deeper: u32,
+    class: Class,
+) -> Result<(Expr, &[Spanned]), Halt>
+    ensures { Gives (λ r. (expression_of r.0, bare r.1.now)) result (chain_at class (operand_at (may_name text) 32 (opened_at (may_name text) 32 deeper) class) 32 (expression_of first) (bare tokens.now)) }
+{
+    let mut left = first;
+    let mut rest = tokens;
+    let mut room: u32 = 32;
+    'operators: while begins(rest, class) {
+        if room == 0 {
+            return Err(Halt::TooDeep(rest.len()));
+        }
+        let (more, after) = binary(alloc, left, rest, text, deeper, class)?;
+        left = more;
+        rest = after;
+        room -= 1;
+    }
+    Ok((left, rest))
+}
+
+/// Factors.
+#[cycle(levels)]
+#[tactic(auto, unfolding(crate::specs::Expressions::term_at))]
+fn term(
+    alloc: Global,
+    tokens: &[Spanned],
+    text: Text,
+    deeper: u32,
+) -> Result<(Expr, &[Spanned]), Halt>
+    ensures { Gives (λ r. (expression_of r.0, bare r.1.now)) result (term_at (may_name text) 32 (opened_at (may_name text) 32 deeper) (bare tokens.now)) }
+{
+    let (first, tokens) = factor(alloc, tokens, text, deeper)?;
+    chain(alloc, first, tokens, text, deeper, Class::Multiplying)
+}
+
+/// Terms.
+#[cycle(levels)]
+#[tactic(auto, unfolding(crate::specs::Expressions::simple_at))]
+fn simple(
+    alloc: Global,
+    tokens: &[Spanned],
+    text: Text,
+    deeper: u32,
+) -> Result<(Expr, &[Spanned]), Halt>
+    ensures { Gives (λ r. (expression_of r.0, bare r.1.now)) result (simple_at (may_name text) 32 (opened_at (may_name text) 32 deeper) (bare tokens.now)) }
+{
+    let (first, tokens) = term(alloc, tokens, text, deeper)?;
+    chain(alloc, first, tokens, text, deeper, Class::Adding)
+}
+
+/// A comparison, or one side alone.
+#[cycle(levels)]
+#[tactic(auto, unfolding(crate::specs::Expressions::relation_at, crate::specs::Expressions::comparison_at))]
+fn relation(
+    alloc: Global,
+    tokens: &[Spanned],
+    text: Text,
+    deeper: u32,
+) -> Result<(Expr, &[Spanned]), Halt>
+    ensures { Gives (λ r. (expression_of r.0, bare r.1.now)) result (relation_at (may_name text) 32 (opened_at (may_name text) 32 deeper) (bare tokens.now)) }
+{
+    let (left, tokens) = simple(alloc, tokens, text, deeper)?;
+    if begins(tokens, Class::Relational) {
+        binary(alloc, left, tokens, text, deeper, Class::Relational)
+    } else {
+        Ok((left, tokens))
+    }
+}
+
+/// The longest expression at the front, and the tokens after it.
+///
+/// Parentheses nest at most `deeper` deep, and a chain has at most 32 operators. `Syntax` comes at the token with which no
+/// expression goes on, `TooDeep` at the one with which none within these limits does.
+#[cycle(levels)]
+#[tactic(auto, using(crate::proofs::Chains::expression_steps))]
+pub fn expression(
+    alloc: Global,
+    tokens: &[Spanned],
+    text: Text,
+    deeper: u32,
+) -> Result<(Expr, &[Spanned]), Halt>
+    ensures { Gives (λ r. (expression_of r.0, bare r.1.now)) result (expression_at (may_name text) 32 deeper (bare tokens.now)) }
+{
+    let (first, tokens) = relation(alloc, tokens, text, deeper)?;
+    chain(alloc, first, tokens, text, deeper, logical_class(tokens))
+}

@@ -1,0 +1,39 @@
+ghost use Rattle.std.specs.Prelude.{◌≡◌};
+ghost use Rattle.seq_tree.specs.Proper.{is_block_name};
+ghost use Rattle.seq_read.specs.Names.{may_name};
+
+use seq_tree::Name;
+use words::{is_ada_name, is_among};
+
+/// The words of blocks and expressions.
+const WORDS: [&str; 20] = [
+    "null", "if", "then", "elsif", "else", "end", "for", "in", "word", "range", "loop", "exit",
+    "when", "work", "put", "and", "or", "xor", "mod", "not",
+];
+
+/// In which kind of text a word is asked to be a name.
+#[derive(Clone, Copy, Debug, PartialEq, Eq)]
+pub enum Text {
+    /// A block or an expression by itself: any word but those of the grammar.
+    Plain,
+    /// An Ada text: any word but a reserved or kept one.
+    Ada,
+}
+
+/// Whether a word may be a name in a block by itself.
+fn is_block_name(name: &[u8]) -> bool
+    ensures { result ≡ is_block_name name.now }
+{
+    !is_among(&WORDS, name)
+}
+
+/// Whether a word may be a name in this kind of text.
+#[tactic(auto, unfolding(crate::specs::Names::may_name))]
+pub fn may_name(word: &Name, text: Text) -> bool
+    ensures { result ≡ may_name text word.now }
+{
+    match text {
+        Text::Plain => is_block_name(word.bytes()),
+        Text::Ada => is_ada_name(word.bytes()),
+    }
+}

@@ -1,0 +1,12 @@
+pub mod NameSteps
+pub mod ClashSteps
+pub mod ClashLaws
+pub mod FaultLaws
+pub mod FirstLaws
+pub mod UnitLaws
+pub mod PartSteps
+pub mod PartLaws
+pub mod RankLaws
+pub mod RingLaws
+pub mod SetSteps
+pub mod VerdictLaws

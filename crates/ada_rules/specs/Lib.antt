@@ -1,0 +1,11 @@
+pub mod Sets
+pub mod Parts
+pub mod Lists
+pub mod Clashes
+pub mod Offers
+pub mod Firsts
+pub mod UnitTests
+pub mod FaultsTold
+pub mod Edges
+pub mod Verdicts
+pub mod Ranks

@@ -1,6 +1,10 @@
-pub mod BlockLaws
-pub mod BlockSteps
-pub mod RuleLaws
+pub mod LevelLaws
+pub mod ParamLaws
+pub mod HeadLaws
+pub mod BodyLaws
+pub mod UnitLaws
 pub mod ProgramLaws
-pub mod AcceptLaws
-pub mod ReadSteps
+pub mod WideningLaws
+pub mod Repeats
+pub mod ProgramBounds
+pub mod ReadingLaws

@@ -1,8 +1,10 @@
--- What the reader of an Ada text answers, by cases.
--- Where the text has no tokens the fault is that of the lexical grammar; all else that is wrong with it is told as one fault.
-use Rattle.std.specs.Prelude.{◌≡◌, ℕ, ◌<◌, ◌≤◌, List, length, Result, Ok, Err, ⊤}
-use Rattle.grammar.specs.Reading.{IsFirstFault}
-use Rattle.seq_tree.specs.Proper.{within_limits}
+-- What the reader of an Ada text answers, by cases. A place is the line and the column of a token, or of the end of the text.
+-- Lexical faults come before those of syntax and depth, and these before the rules of a program.
+use Rattle.std.specs.Prelude.{◌≡◌, ℕ, ◌-◌, ◌<◌, ◌≤◌, List, length, Option, Result, Ok, Err, ⊤}
+use Rattle.seq_tree.specs.Names.{Name}
+use Rattle.seq_tree.specs.Reach.{Fault, IsFault}
+use Rattle.seq_tree.specs.Reach as reach
+use Rattle.seq_tree.specs.Proper.{within_limits, without_limits}
 use Rattle.seq_tree.specs.Lexis.{tokens, Misread, Stray, Great}
 use Rattle.seq_tree.specs.Lexis as lexis
 use Rattle.seq_tree.specs.declared.token.Token.{Token}
@@ -14,17 +16,19 @@ use Rattle.ada_tree.specs.Programs.{Program}
 use Rattle.ada_tree.specs.Trees.{program_of}
 use Rattle.ada_tree.specs.Words.{is_ada_name}
 use Rattle.ada_tree.specs.Proper.{IsProperProgram}
-use Rattle.ada_tree.specs.Rules.{MeetsRules}
 use Rattle.ada_tree.specs.Spelling.{program_tokens}
-use Rattle.ada_tree.specs.Reading.{Accepts}
-use Rattle.ada_tree.specs.InUse.{IsUsableProgram}
+use Rattle.ada_tree.specs.Reading.{Reads, Accepts}
+use Rattle.ada_tree.specs.InUse.{IsSequentialProgram}
 use Rattle.ada_tree.specs.declared.program.AdaProgram.{AdaProgram}
+use Rattle.ada_rules.specs.Verdicts as verdicts
+use Rattle.ada_rules.specs.declared.verdict.AdaRule.{AdaRule}
+use Rattle.ada_rules.specs.declared.verdict.RuleBreak.TheVariants as told
 use Rattle.token_read.specs.Words.{bare}
 use Rattle.token_read.specs.declared.fault.LexFault.{LexFault}
 use Rattle.token_read.specs.declared.fault.LexFault.TheVariants as lex
 use Rattle.seq_read.specs.Places.{place_at}
 use Rattle.ada_read.specs.declared.fault.AdaFault.{AdaFault}
-use Rattle.ada_read.specs.declared.fault.AdaFault.TheVariants.{Text, NoMemory}
+use Rattle.ada_read.specs.declared.fault.AdaFault.TheVariants.{Text, Rule, NoMemory}
 
 -- the fault of a reader of tokens, as a fault of a text
 abbrev pub fault_of : LexFault → AdaFault
@@ -37,38 +41,50 @@ fault_of lex.NoMemory = NoMemory
 abbrev pub IsMisread : List ℕ → Misread → Type 0
 IsMisread bytes misread = (length bytes ≤ 16777216) × (tokens bytes ≡ Err misread)
 
--- a text that is short enough, has tokens, and is accepted as no program that is built
-abbrev pub IsNoProgram : List ℕ → Type 0
-IsNoProgram bytes =
-    (ts : List Spanned) × (length bytes ≤ 16777216) × (tokens bytes ≡ Ok ts) × ((p : Program) → IsUsableProgram p → Accepts bytes p → ⊥)
+-- a program that is read so far, with its tokens
+pub record IsTextOf (p : Program) (text : List Token) : Type 0 where
+  pub sequential : IsSequentialProgram p
+  pub proper : IsProperProgram (within_limits is_ada_name) p
+  pub spelled : text ≡ program_tokens p
+
+-- the tokens of some program that is read so far
+abbrev pub SomeProgram : List Token → Type 0
+SomeProgram text = (p : Program) × IsTextOf p text
+
+-- the tokens of some such program, whatever its nesting and its chains
+abbrev pub AnyProgram : List Token → Type 0
+AnyProgram text = (p : Program) × IsSequentialProgram p × IsProperProgram (without_limits is_ada_name) p × (text ≡ program_tokens p)
+
+-- a text that is short enough, and whose tokens have this fault at this place
+pub record IsFaultyAt (bytes : List ℕ) (place : Place) (kind : ℕ → Fault) : Type 0 where
+  pub short : length bytes ≤ 16777216
+  pub found : List Spanned
+  pub read : tokens bytes ≡ Ok found
+  pub index : ℕ
+  pub fault : IsFault AnyProgram SomeProgram (bare found) (kind index)
+  pub here : place ≡ place_at bytes found (length found - index)
 
 -- what a fault says
 abbrev pub Faults : List ℕ → TextFault → Type 0
 Faults bytes (fault.Byte place) = IsMisread bytes (Stray place)
 Faults bytes (fault.Number place) = IsMisread bytes (Great place)
 Faults bytes (fault.Long place) = IsMisread bytes (lexis.Long place)
-Faults bytes (fault.Syntax place) = IsNoProgram bytes
-Faults bytes (fault.TooDeep place) = ⊥
+Faults bytes (fault.Syntax place) = IsFaultyAt bytes place reach.Syntax
+Faults bytes (fault.TooDeep place) = IsFaultyAt bytes place reach.TooDeep
 Faults bytes fault.FileTooLong = 16777216 < length bytes
 Faults bytes fault.NoMemory = ⊥
 
+-- a text that reads as one program, and as no other that is read so far, which breaks this rule first, at this unit
+pub record Breaks (bytes : List ℕ) (rule : AdaRule) (unit : Option Name) : Type 0 where
+  pub program : Program
+  pub sequential : IsSequentialProgram program
+  pub reads : Reads bytes program
+  pub alone : (p : Program) → IsSequentialProgram p → Reads bytes p → p ≡ program
+  pub broken : verdicts.Says program (Err (told.Rule rule unit))
+
 -- what an answer says; want of memory says nothing
 abbrev pub Says : List ℕ → Result AdaProgram AdaFault → Type 0
-Says bytes (Ok p) = Accepts bytes (program_of p) × IsUsableProgram (program_of p)
+Says bytes (Ok p) = Accepts bytes (program_of p) × IsSequentialProgram (program_of p)
 Says bytes (Err (Text fault)) = Faults bytes fault
+Says bytes (Err (Rule rule unit)) = Breaks bytes rule unit
 Says bytes (Err NoMemory) = ⊤
-
--- a program that is built and accepted by the tokens of its text
-pub record IsTextOf (p : Program) (text : List Token) : Type 0 where
-  pub usable : IsUsableProgram p
-  pub proper : IsProperProgram (within_limits is_ada_name) p
-  pub meets : MeetsRules p
-  pub spelled : text ≡ program_tokens p
-
--- the tokens before this place begin the text of such a program, and with the one at it they begin none
-pub record StopsAt (bytes : List ℕ) (place : Place) : Type 0 where
-  pub found : List Spanned
-  pub read : tokens bytes ≡ Ok found
-  pub left : ℕ
-  pub here : place ≡ place_at bytes found left
-  pub first : IsFirstFault IsTextOf (bare found) left

@@ -1,10 +1,12 @@
 -- The texts that are the same in each program, between what differs.
 -- The text keeps to ISO/IEC 8652:2012; its form is this project's own.
-use Rattle.std.specs.Prelude.{List, [], ◌∷◌, codes}
+use Rattle.std.specs.Prelude.{List, [], ◌∷◌, ◌++◌, codes, flat_map}
 use Rattle.seq_tree.specs.declared.token.Token.{Token}
 use Rattle.seq_tree.specs.declared.token.Token.TheVariants.{Word, Number, Sign}
 use Rattle.seq_tree.specs.declared.token.Mark.TheVariants.{LeftParen, RightParen, Comma, Semicolon, Colon, Dot, Becomes, StarStar}
 use Rattle.seq_tree.specs.Names.{Name}
+use Rattle.seq_tree.specs.declared.tree.Param.{Param}
+use Rattle.ada_tree.specs.Spelling.{param_tokens}
 use Rattle.ada_read.specs.declared.fixed_text.CostName.{CostName}
 use Rattle.ada_read.specs.declared.fixed_text.CostName.TheVariants as cost
 use Rattle.ada_read.specs.declared.fixed_text.FixedText.{FixedText}
@@ -31,19 +33,16 @@ fixed_tokens fixed.Services =
     Word (codes "procedure") ∷ Word (codes "activation_end") ∷ Sign Semicolon ∷ Word (codes "end") ∷ Word (codes "hrt") ∷
     Sign Semicolon ∷ Word (codes "with") ∷ Word (codes "hrt") ∷ Sign Semicolon ∷ Word (codes "use") ∷ Word (codes "hrt") ∷
     Sign Semicolon ∷ Word (codes "package") ∷ []
-fixed_tokens fixed.UnitHead = Word (codes "is") ∷ Word (codes "package") ∷ []
+fixed_tokens fixed.PackageBody = Word (codes "package") ∷ Word (codes "body") ∷ []
 fixed_tokens fixed.TaskHead =
-    Word (codes "is") ∷ Word (codes "task") ∷ Word (codes "hrt_thread") ∷ Word (codes "is") ∷ Word (codes "pragma") ∷
-    Word (codes "priority") ∷ Sign LeftParen ∷ []
-fixed_tokens fixed.TaskEnd =
-    Sign RightParen ∷ Sign Semicolon ∷ Word (codes "end") ∷ Word (codes "hrt_thread") ∷ Sign Semicolon ∷ Word (codes "end") ∷ []
-fixed_tokens fixed.BodyHead = Sign Semicolon ∷ Word (codes "package") ∷ Word (codes "body") ∷ []
-fixed_tokens fixed.UnitBody = Word (codes "is") ∷ Word (codes "package") ∷ Word (codes "body") ∷ []
+    Word (codes "task") ∷ Word (codes "hrt_thread") ∷ Word (codes "is") ∷ Word (codes "pragma") ∷ Word (codes "priority") ∷
+    Sign LeftParen ∷ []
+fixed_tokens fixed.TaskEnd = Sign RightParen ∷ Sign Semicolon ∷ Word (codes "end") ∷ Word (codes "hrt_thread") ∷ Sign Semicolon ∷ []
+fixed_tokens fixed.Initial = Sign Colon ∷ Word (codes "word") ∷ Sign Becomes ∷ []
 fixed_tokens fixed.TaskBody =
-    Word (codes "is") ∷ Word (codes "task") ∷ Word (codes "body") ∷ Word (codes "hrt_thread") ∷ Word (codes "is") ∷
-    Word (codes "hrt_next") ∷ Sign Colon ∷ Word (codes "hrt") ∷ Sign Dot ∷ Word (codes "moment") ∷ Sign Becomes ∷
-    Word (codes "hrt") ∷ Sign Dot ∷ Word (codes "after") ∷ Sign LeftParen ∷ Word (codes "hrt") ∷ Sign Dot ∷ Word (codes "epoch") ∷
-    Sign Comma ∷ []
+    Word (codes "task") ∷ Word (codes "body") ∷ Word (codes "hrt_thread") ∷ Word (codes "is") ∷ Word (codes "hrt_next") ∷ Sign Colon ∷
+    Word (codes "hrt") ∷ Sign Dot ∷ Word (codes "moment") ∷ Sign Becomes ∷ Word (codes "hrt") ∷ Sign Dot ∷ Word (codes "after") ∷
+    Sign LeftParen ∷ Word (codes "hrt") ∷ Sign Dot ∷ Word (codes "epoch") ∷ Sign Comma ∷ []
 fixed_tokens fixed.Delay =
     Sign RightParen ∷ Sign Semicolon ∷ Word (codes "begin") ∷ Word (codes "loop") ∷ Word (codes "delay") ∷ Word (codes "until") ∷
     Word (codes "hrt_next") ∷ Sign Semicolon ∷ Word (codes "hrt_next") ∷ Sign Becomes ∷ Word (codes "hrt") ∷ Sign Dot ∷
@@ -51,14 +50,22 @@ fixed_tokens fixed.Delay =
 fixed_tokens fixed.Close = Sign RightParen ∷ Sign Semicolon ∷ []
 fixed_tokens fixed.TaskLoop =
     Word (codes "activation_end") ∷ Sign Semicolon ∷ Word (codes "end") ∷ Word (codes "loop") ∷ Sign Semicolon ∷ Word (codes "end") ∷
-    Word (codes "hrt_thread") ∷ Sign Semicolon ∷ Word (codes "end") ∷ []
-fixed_tokens fixed.UnitEnd = Sign Semicolon ∷ Word (codes "end") ∷ []
-fixed_tokens fixed.MainWith = Sign Semicolon ∷ Word (codes "with") ∷ []
+    Word (codes "hrt_thread") ∷ Sign Semicolon ∷ []
 fixed_tokens fixed.Main =
     Sign Semicolon ∷ Word (codes "procedure") ∷ Word (codes "hrt_main") ∷ Word (codes "is") ∷ Word (codes "begin") ∷
     Word (codes "null") ∷ Sign Semicolon ∷ Word (codes "end") ∷ Word (codes "hrt_main") ∷ Sign Semicolon ∷ []
-fixed_tokens fixed.Null = Word (codes "null") ∷ Sign Semicolon ∷ []
-fixed_tokens fixed.Work = Word (codes "work") ∷ Sign LeftParen ∷ []
+
+-- a further parameter
+abbrev pub more_tokens : Param → List Token
+more_tokens p = Sign Semicolon ∷ param_tokens p
+
+-- further parameters, and the end of their list
+abbrev pub rest_tokens : List Param → List Token
+rest_tokens ps = flat_map more_tokens ps ++ Sign RightParen ∷ []
+
+-- a closing end and its name
+abbrev pub end_tokens : Name → List Token
+end_tokens name = Word (codes "end") ∷ Word name ∷ Sign Semicolon ∷ []
 
 -- the name of the constant that is a cost
 unfoldable pub cost_name : CostName → Name

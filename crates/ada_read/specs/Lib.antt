@@ -1,3 +1,5 @@
 pub mod FixedTexts
+pub mod Heads
 pub mod Readers
 pub mod Answers
+pub mod Judged

@@ -1,63 +1,47 @@
--- Reading a program of one cyclic unit, one production after another, with the ranges and names that its rules ask for.
+-- Reading a program of passive units and exactly one cyclic unit, one production after another, over any reader of blocks.
 -- The text keeps to ISO/IEC 8652:2012; its form is this project's own.
-use Rattle.std.specs.Prelude.{ℕ, Bool, true, not, ◌&&◌, List, [], ◌∷◌, Option, codes, if◌then◌else◌}
-use Rattle.grammar.specs.Reading.{Read, then_at, pure_at, choose_at, many_at}
-use Rattle.seq_tree.specs.Names.{Name, same_name}
-use Rattle.seq_tree.specs.Expressions.{Expression}
-use Rattle.seq_tree.specs.Statements.{Statement, Statements, Null, Work}
-use Rattle.seq_tree.specs.Trees.{statement_layer, arm_layer, block_layer, statements_of}
-use Rattle.seq_tree.specs.declared.tree.Stmt.{Stmt}
-use Rattle.seq_tree.specs.declared.tree.Stmt.TheFolds.{fold-Stmt}
+use Rattle.std.specs.Prelude.{ℕ, Bool, true, false, List, [], ◌∷◌, Option, Some, None, codes, if◌then◌else◌}
+use Rattle.grammar.specs.Reading.{Read, then_at, pure_at, choose_at, token_at, many_at, all_from, each_at}
+use Rattle.seq_tree.specs.Names.{Name}
+use Rattle.seq_tree.specs.Operations.{Signature, Operation}
 use Rattle.seq_tree.specs.declared.tree.Costs.{Costs}
+use Rattle.seq_tree.specs.declared.tree.Datum.{Datum}
+use Rattle.seq_tree.specs.declared.tree.Mode.{Mode}
+use Rattle.seq_tree.specs.declared.tree.Mode.TheVariants.{In, Out}
+use Rattle.seq_tree.specs.declared.tree.Param.{Param}
 use Rattle.seq_tree.specs.declared.token.Token.{Token}
 use Rattle.seq_tree.specs.declared.token.Token.TheVariants.{Word, Sign}
-use Rattle.seq_tree.specs.declared.token.Mark.TheVariants.{Semicolon}
-use Rattle.ada_tree.specs.Programs.{Program, Cyclic}
+use Rattle.seq_tree.specs.declared.token.Mark.TheVariants.{LeftParen, Semicolon, Colon}
+use Rattle.ada_tree.specs.Programs.{Form, Program, Passive, Cyclic}
+use Rattle.ada_tree.specs.Programs as programs
+use Rattle.ada_tree.specs.Spelling.{head_tokens}
 use Rattle.ada_tree.specs.Words.{is_ada_name}
-use Rattle.token_read.specs.Readers.{fixed_at, phrase_at, number_within_at, name_at, next_is}
+use Rattle.token_read.specs.Words.{same_token}
+use Rattle.token_read.specs.Readers.{fixed_at, phrase_at, number_at, name_at, next_is}
+use Rattle.seq_read.specs.Statements.{BlockReader, next_is_name, block_at}
 use Rattle.ada_read.specs.declared.fixed_text.FixedText.{FixedText}
 use Rattle.ada_read.specs.declared.fixed_text.FixedText.TheVariants as fixed
 use Rattle.ada_read.specs.declared.fixed_text.CostName.{CostName}
 use Rattle.ada_read.specs.declared.fixed_text.CostName.TheVariants as cost
-use Rattle.ada_read.specs.FixedTexts.{fixed_tokens, cost_name}
+use Rattle.ada_read.specs.FixedTexts.{fixed_tokens, cost_name, end_tokens}
+use Rattle.ada_read.specs.Heads.{Head, PassiveHead, TaskHead, head_name, seen_after}
 
--- the tree of a statement
-abbrev pub statement_of : Stmt → Statement
-statement_of = fold-Stmt Statement (Expression × Statements) Statements statement_layer arm_layer block_layer
+-- the blocks of an Ada text: at most 32 operators in a chain, and nesting of at most 64
+abbrev pub ada_block_at : BlockReader
+ada_block_at = block_at is_ada_name 32 64
 
 -- a fixed text
 abbrev pub text_at : FixedText → List Token → Read Token (Unit {0})
 text_at text = phrase_at (fixed_tokens text)
 
--- whether a word may be the name of a unit of a program of this name
-abbrev pub is_unit_name : Name → Name → Bool
-is_unit_name program name = is_ada_name name && not (same_name program name)
-
--- `null;`
-unfoldable pub null_at : List Token → Read Token Statement
-null_at = then_at (text_at fixed.Null) (λ _. pure_at Null)
-
--- `work (n);`
-unfoldable pub work_at : List Token → Read Token Statement
-work_at = then_at (text_at fixed.Work) (λ _. then_at (number_within_at 1 1000000000) (λ n. then_at (text_at fixed.Close) (λ _. pure_at (Work n))))
-
--- whether a statement is next
-abbrev pub begins_statement : Option Token → Bool
-begins_statement o = if next_is (Word (codes "null")) o then true else next_is (Word (codes "work")) o
-
--- a statement
-unfoldable pub statement_at : List Token → Read Token Statement
-statement_at = choose_at (next_is (Word (codes "null"))) null_at work_at
-
--- statements, one at least
-unfoldable pub block_at : List Token → Read Token Statements
-block_at =
-    then_at statement_at (λ s. then_at (many_at begins_statement statement_at) (λ ss. pure_at (statements_of (s ∷ ss))))
+-- a word of the text
+abbrev pub word_at : List ℕ → List Token → Read Token (Unit {0})
+word_at text = fixed_at (Word text)
 
 -- the cost of a kind of statement
 unfoldable pub cost_at : CostName → List Token → Read Token ℕ
 cost_at c =
-    then_at (fixed_at (Word (cost_name c))) (λ _. then_at (text_at fixed.Constant) (λ _. then_at (number_within_at 1 1000) (λ n.
+    then_at (word_at (cost_name c)) (λ _. then_at (text_at fixed.Constant) (λ _. then_at number_at (λ n.
     then_at (fixed_at (Sign Semicolon)) (λ _. pure_at n))))
 
 -- all costs
@@ -68,32 +52,151 @@ costs_at =
     then_at (cost_at cost.Finish) (λ finish.
     pure_at (record { assign = assign; test = test; turn = turn; call = call; nothing = nothing; put = put; finish = finish }))))))))
 
--- the name of a unit and the priority of its task
-unfoldable pub task_at : Name → List Token → Read Token (Name × ℕ)
-task_at program =
-    then_at (name_at (is_unit_name program)) (λ name. then_at (text_at fixed.TaskHead) (λ _. then_at (number_within_at 1 30) (λ priority.
-    then_at (text_at fixed.TaskEnd) (λ _. then_at (fixed_at (Word name)) (λ _. pure_at (name, priority))))))
+-- a mode
+abbrev pub sees_mode : Token → Option Mode
+sees_mode t = if same_token t (Word (codes "in")) then Some In else if same_token t (Word (codes "out")) then Some Out else None
 
--- the offset, the period and the block of a unit
-unfoldable pub body_at : Name → List Token → Read Token (ℕ × ℕ × Statements)
-body_at unit =
-    then_at (fixed_at (Word unit)) (λ _. then_at (text_at fixed.TaskBody) (λ _. then_at (number_within_at 0 1000000000) (λ offset.
-    then_at (text_at fixed.Delay) (λ _. then_at (number_within_at 1 1000000000) (λ period. then_at (text_at fixed.Close) (λ _.
-    then_at block_at (λ block. then_at (text_at fixed.TaskLoop) (λ _. then_at (fixed_at (Word unit)) (λ _. pure_at (offset, period, block))))))))))
+-- a mode
+unfoldable pub mode_at : List Token → Read Token Mode
+mode_at = token_at sees_mode
 
--- a program of one cyclic unit
-abbrev pub cyclic_program : Name → Costs → Name → ℕ → ℕ → ℕ → Statements → Program
-cyclic_program name costs unit priority offset period block = record {
-  name = name;
-  costs = costs;
-  units = record { name = unit; form = Cyclic priority offset period [] block } ∷ [];
-}
+-- a parameter
+unfoldable pub param_at : List Token → Read Token Param
+param_at =
+    then_at (name_at is_ada_name) (λ name. then_at (fixed_at (Sign Colon)) (λ _. then_at mode_at (λ mode. then_at (word_at (codes "word")) (λ _.
+    pure_at (record { name = name; mode = mode })))))
+
+-- a further parameter
+unfoldable pub more_param_at : List Token → Read Token Param
+more_param_at = then_at (fixed_at (Sign Semicolon)) (λ _. param_at)
+
+-- further parameters
+unfoldable pub more_params_at : List Token → Read Token (List Param)
+more_params_at = many_at (next_is (Sign Semicolon)) more_param_at
+
+-- all parameters, behind the first
+unfoldable pub params_from_at : Param → List Token → Read Token (List Param)
+params_from_at p = then_at more_params_at (λ ps. pure_at (p ∷ ps))
+
+-- parameters, one at least, and the end of their declaration
+unfoldable pub listed_at : List Token → Read Token (List Param)
+listed_at =
+    then_at (fixed_at (Sign LeftParen)) (λ _. then_at param_at (λ p. then_at (params_from_at p) (λ ps. then_at (text_at fixed.Close) (λ _. pure_at ps))))
+
+-- no parameters, and the end of their declaration
+unfoldable pub unlisted_at : List Token → Read Token (List Param)
+unlisted_at = then_at (fixed_at (Sign Semicolon)) (λ _. pure_at [])
+
+-- parameters, and the end of their declaration
+unfoldable pub params_at : List Token → Read Token (List Param)
+params_at = choose_at (next_is (Sign LeftParen)) listed_at unlisted_at
+
+-- the declaration of an operation
+unfoldable pub declaration_at : List Token → Read Token Signature
+declaration_at =
+    then_at (word_at (codes "procedure")) (λ _. then_at (name_at is_ada_name) (λ name. then_at params_at (λ params. pure_at (record { name = name; params = params }))))
+
+-- declarations of operations
+unfoldable pub declarations_at : List Token → Read Token (List Signature)
+declarations_at = many_at (next_is (Word (codes "procedure"))) declaration_at
+
+-- a specification with a task, behind its name
+unfoldable pub task_head_at : Name → List Token → Read Token Head
+task_head_at name =
+    then_at (text_at fixed.TaskHead) (λ _. then_at number_at (λ priority. then_at (text_at fixed.TaskEnd) (λ _. then_at (phrase_at (end_tokens name)) (λ _.
+    pure_at (TaskHead name priority)))))
+
+-- a passive specification, behind its name
+unfoldable pub passive_head_at : Name → List Token → Read Token Head
+passive_head_at name = then_at declarations_at (λ sigs. then_at (phrase_at (end_tokens name)) (λ _. pure_at (PassiveHead name sigs)))
+
+-- whether a task is next that may stand there, where one has been read before or not
+abbrev pub begins_task : Bool → Option Token → Bool
+begins_task seen o = if seen then false else next_is (Word (codes "task")) o
+
+-- a specification, behind its name
+unfoldable pub inner_at : Bool → Name → List Token → Read Token Head
+inner_at seen name = choose_at (begins_task seen) (task_head_at name) (passive_head_at name)
+
+-- a specification
+unfoldable pub head_at : Bool → List Token → Read Token Head
+head_at seen =
+    then_at (word_at (codes "package")) (λ _. then_at (name_at is_ada_name) (λ name. then_at (word_at (codes "is")) (λ _. inner_at seen name)))
+
+-- Whether a specification must follow, or is next: without a task the specifications have no end.
+abbrev pub begins_head : Bool → Option Token → Bool
+begins_head seen o = if seen then next_is (Word (codes "package")) o else true
+
+-- the specifications of all units
+unfoldable pub heads_at : List Token → Read Token (List Head)
+heads_at = all_from begins_head seen_after head_at false
+
+-- a variable and its first value
+unfoldable pub datum_at : List Token → Read Token Datum
+datum_at =
+    then_at (name_at is_ada_name) (λ name. then_at (text_at fixed.Initial) (λ _. then_at number_at (λ n. then_at (fixed_at (Sign Semicolon)) (λ _.
+    pure_at (record { name = name; value = n })))))
+
+-- variables
+unfoldable pub data_at : List Token → Read Token (List Datum)
+data_at = many_at (next_is_name is_ada_name) datum_at
+
+-- the body of an operation with this head
+unfoldable pub operation_at : BlockReader → Signature → List Token → Read Token Operation
+operation_at block sig =
+    then_at (phrase_at (head_tokens sig)) (λ _. then_at (word_at (codes "is")) (λ _. then_at data_at (λ locals. then_at (word_at (codes "begin")) (λ _.
+    then_at block (λ b. then_at (phrase_at (end_tokens sig.name)) (λ _. pure_at (record { sig = sig; locals = locals; block = b })))))))
+
+-- the bodies of operations with these heads
+unfoldable pub operations_at : BlockReader → List Signature → List Token → Read Token (List Operation)
+operations_at block sigs = each_at (operation_at block) sigs
+
+-- what stands in the body of a unit with a task of this priority
+unfoldable pub cyclic_at : BlockReader → ℕ → List Token → Read Token Form
+cyclic_at block priority =
+    then_at data_at (λ vars. then_at (text_at fixed.TaskBody) (λ _. then_at number_at (λ offset. then_at (text_at fixed.Delay) (λ _.
+    then_at number_at (λ period. then_at (text_at fixed.Close) (λ _. then_at block (λ b. then_at (text_at fixed.TaskLoop) (λ _.
+    pure_at (Cyclic priority offset period vars b)))))))))
+
+-- what stands in the body of a unit with operations of these heads
+unfoldable pub passive_at : BlockReader → List Signature → List Token → Read Token Form
+passive_at block sigs = then_at (operations_at block sigs) (λ ops. pure_at (Passive ops))
+
+-- what stands in the body of a unit with this specification
+unfoldable pub form_at : BlockReader → Head → List Token → Read Token Form
+form_at block (PassiveHead name sigs) = passive_at block sigs
+form_at block (TaskHead name priority) = cyclic_at block priority
+
+-- the beginning of a body, to what stands in it
+unfoldable pub body_head_at : Name → List Token → Read Token (Unit {0})
+body_head_at name = then_at (text_at fixed.PackageBody) (λ _. then_at (word_at name) (λ _. word_at (codes "is")))
+
+-- the body of a unit with this specification
+unfoldable pub body_at : BlockReader → Head → List Token → Read Token programs.Unit
+body_at block head =
+    then_at (body_head_at (head_name head)) (λ _. then_at (form_at block head) (λ form. then_at (phrase_at (end_tokens (head_name head))) (λ _.
+    pure_at (record { name = head_name head; form = form }))))
+
+-- the bodies of all units, in the order of their specifications
+unfoldable pub bodies_at : BlockReader → List Head → List Token → Read Token (List programs.Unit)
+bodies_at block heads = each_at (body_at block) heads
+
+-- the text before the program, with its costs
+unfoldable pub services_at : List Token → Read Token Costs
+services_at = then_at (text_at fixed.Opening) (λ _. then_at costs_at (λ costs. then_at (text_at fixed.Services) (λ _. pure_at costs)))
+
+-- the specifications and the bodies of the units of a program, and their ends
+unfoldable pub units_at : BlockReader → Name → List Token → Read Token (List programs.Unit)
+units_at block name =
+    then_at heads_at (λ heads. then_at (phrase_at (end_tokens name)) (λ _. then_at (body_head_at name) (λ _. then_at (bodies_at block heads) (λ units.
+    then_at (phrase_at (end_tokens name)) (λ _. pure_at units)))))
+
+-- the main procedure
+unfoldable pub main_at : Name → List Token → Read Token (Unit {0})
+main_at name = then_at (word_at (codes "with")) (λ _. then_at (word_at name) (λ _. text_at fixed.Main))
 
 -- a program
-unfoldable pub program_at : List Token → Read Token Program
-program_at =
-    then_at (text_at fixed.Opening) (λ _. then_at costs_at (λ costs. then_at (text_at fixed.Services) (λ _. then_at (name_at is_ada_name) (λ name.
-    then_at (text_at fixed.UnitHead) (λ _. then_at (task_at name) (λ task. then_at (text_at fixed.UnitEnd) (λ _. then_at (fixed_at (Word name)) (λ _.
-    then_at (text_at fixed.BodyHead) (λ _. then_at (fixed_at (Word name)) (λ _. then_at (text_at fixed.UnitBody) (λ _. then_at (body_at task.0) (λ body.
-    then_at (text_at fixed.UnitEnd) (λ _. then_at (fixed_at (Word name)) (λ _. then_at (text_at fixed.MainWith) (λ _. then_at (fixed_at (Word name)) (λ _.
-    then_at (text_at fixed.Main) (λ _. pure_at (cyclic_program name costs task.0 task.1 body.0 body.1 body.2))))))))))))))))))
+unfoldable pub program_at : BlockReader → List Token → Read Token Program
+program_at block =
+    then_at services_at (λ costs. then_at (name_at is_ada_name) (λ name. then_at (word_at (codes "is")) (λ _. then_at (units_at block name) (λ units.
+    then_at (main_at name) (λ _. pure_at (record { name = name; costs = costs; units = units }))))))

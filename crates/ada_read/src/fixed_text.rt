@@ -1,10 +1,12 @@
 ghost use Rattle.std.specs.Prelude.{◌≡◌, map};
-ghost use Rattle.token_read.specs.Words.{Gives, bare, item_token};
+ghost use Rattle.seq_read.specs.Halts.{Gives};
+ghost use Rattle.token_read.specs.Words.{bare, item_token};
 ghost use Rattle.token_read.specs.Readers.{phrase_at};
 ghost use Rattle.ada_read.specs.FixedTexts.{fixed_tokens, cost_name};
 
+use seq_read::{Halt, phrase};
 use seq_tree::{Mark, Spanned};
-use token_read::{Item, ReadFault, phrase};
+use token_read::Item;
 
 /// A text that is the same in each program, between what differs.
 #[derive(Clone, Copy, Debug)]
@@ -15,34 +17,24 @@ pub(crate) enum FixedText {
     Constant,
     /// The text from the last cost to the name of the program.
     Services,
-    /// The text from the name of the program to the name of its unit.
-    UnitHead,
-    /// The text from the name of the unit to the priority.
+    /// What stands before the name of a package whose body begins.
+    PackageBody,
+    /// The declaration of a task, up to its priority.
     TaskHead,
-    /// The text from the priority to the end of the unit's specification.
+    /// The declaration of a task from its priority to its end.
     TaskEnd,
-    /// The text from the end of the specification to the body.
-    BodyHead,
-    /// The text from the body's name to the body of the unit.
-    UnitBody,
-    /// The text from the name of the unit to the offset.
+    /// What stands between the name of a variable and its first value.
+    Initial,
+    /// The text from the beginning of a task's body to its offset.
     TaskBody,
     /// The text from the offset to the period.
     Delay,
-    /// What closes a call.
+    /// What closes a list in parentheses.
     Close,
-    /// The text from the last statement to the end of the unit's body.
+    /// The text from the last statement of a task to the end of its body.
     TaskLoop,
-    /// The text from the end of a unit to the end around it.
-    UnitEnd,
-    /// The text from the end of the body to the name that the main procedure needs.
-    MainWith,
-    /// The main procedure.
+    /// The main procedure, behind the name that it needs.
     Main,
-    /// The statement that does nothing.
-    Null,
-    /// A statement that works, up to its number.
-    Work,
 }
 
 const OPENING: [Item; 37] = [
@@ -142,10 +134,9 @@ const SERVICES: [Item; 48] = [
     Item::Word("package"),
 ];
 
-const UNIT_HEAD: [Item; 2] = [Item::Word("is"), Item::Word("package")];
+const PACKAGE_BODY: [Item; 2] = [Item::Word("package"), Item::Word("body")];
 
-const TASK_HEAD: [Item; 7] = [
-    Item::Word("is"),
+const TASK_HEAD: [Item; 6] = [
     Item::Word("task"),
     Item::Word("hrt_thread"),
     Item::Word("is"),
@@ -154,25 +145,21 @@ const TASK_HEAD: [Item; 7] = [
     Item::Sign(Mark::LeftParen),
 ];
 
-const TASK_END: [Item; 6] = [
+const TASK_END: [Item; 5] = [
     Item::Sign(Mark::RightParen),
     Item::Sign(Mark::Semicolon),
     Item::Word("end"),
     Item::Word("hrt_thread"),
     Item::Sign(Mark::Semicolon),
-    Item::Word("end"),
 ];
 
-const BODY_HEAD: [Item; 3] = [
-    Item::Sign(Mark::Semicolon),
-    Item::Word("package"),
-    Item::Word("body"),
+const INITIAL: [Item; 3] = [
+    Item::Sign(Mark::Colon),
+    Item::Word("word"),
+    Item::Sign(Mark::Becomes),
 ];
 
-const UNIT_BODY: [Item; 3] = [Item::Word("is"), Item::Word("package"), Item::Word("body")];
-
-const TASK_BODY: [Item; 19] = [
-    Item::Word("is"),
+const TASK_BODY: [Item; 18] = [
     Item::Word("task"),
     Item::Word("body"),
     Item::Word("hrt_thread"),
@@ -214,7 +201,7 @@ const DELAY: [Item; 16] = [
 
 const CLOSE: [Item; 2] = [Item::Sign(Mark::RightParen), Item::Sign(Mark::Semicolon)];
 
-const TASK_LOOP: [Item; 9] = [
+const TASK_LOOP: [Item; 8] = [
     Item::Word("activation_end"),
     Item::Sign(Mark::Semicolon),
     Item::Word("end"),
@@ -223,12 +210,7 @@ const TASK_LOOP: [Item; 9] = [
     Item::Word("end"),
     Item::Word("hrt_thread"),
     Item::Sign(Mark::Semicolon),
-    Item::Word("end"),
 ];
-
-const UNIT_END: [Item; 2] = [Item::Sign(Mark::Semicolon), Item::Word("end")];
-
-const MAIN_WITH: [Item; 2] = [Item::Sign(Mark::Semicolon), Item::Word("with")];
 
 const MAIN: [Item; 10] = [
     Item::Sign(Mark::Semicolon),
@@ -243,10 +225,6 @@ const MAIN: [Item; 10] = [
     Item::Sign(Mark::Semicolon),
 ];
 
-const NULL: [Item; 2] = [Item::Word("null"), Item::Sign(Mark::Semicolon)];
-
-const WORK: [Item; 2] = [Item::Word("work"), Item::Sign(Mark::LeftParen)];
-
 /// The tokens of a fixed text.
 #[tactic(auto, unfolding(crate::specs::FixedTexts::fixed_tokens))]
 fn items(text: FixedText) -> &'static [Item]
@@ -256,25 +234,20 @@ fn items(text: FixedText) -> &'static [Item]
         FixedText::Opening => &OPENING,
         FixedText::Constant => &CONSTANT,
         FixedText::Services => &SERVICES,
-        FixedText::UnitHead => &UNIT_HEAD,
+        FixedText::PackageBody => &PACKAGE_BODY,
         FixedText::TaskHead => &TASK_HEAD,
         FixedText::TaskEnd => &TASK_END,
-        FixedText::BodyHead => &BODY_HEAD,
-        FixedText::UnitBody => &UNIT_BODY,
+        FixedText::Initial => &INITIAL,
         FixedText::TaskBody => &TASK_BODY,
         FixedText::Delay => &DELAY,
         FixedText::Close => &CLOSE,
         FixedText::TaskLoop => &TASK_LOOP,
-        FixedText::UnitEnd => &UNIT_END,
-        FixedText::MainWith => &MAIN_WITH,
         FixedText::Main => &MAIN,
-        FixedText::Null => &NULL,
-        FixedText::Work => &WORK,
     }
 }
 
 /// The tokens after a fixed text.
-pub(crate) fn fixed(tokens: &[Spanned], text: FixedText) -> Result<&[Spanned], ReadFault>
+pub(crate) fn fixed(tokens: &[Spanned], text: FixedText) -> Result<&[Spanned], Halt>
     ensures { Gives (λ r. (tt, bare r.now)) result (phrase_at (fixed_tokens text) (bare tokens.now)) }
 {
     phrase(tokens, items(text))

@@ -1,16 +1,18 @@
 //! The reader of Ada texts.
 //!
-//! It stands on the tokens of `token_read`, the laws of readers of `grammar` and the programs of `ada_tree`. `read_ada` carries
-//! its promise: it answers exactly the program that a text is accepted as, and refuses exactly the texts that are accepted as
-//! none, so far for programs of one cyclic unit whose statements are `null;` and `work (n);`.
+//! It stands on the tokens of `token_read`, the laws of readers of `grammar`, the blocks of `seq_read` and the programs of
+//! `ada_tree`. `read_ada` carries its promise: the program that a text reads as, of passive units and exactly one cyclic unit, or
+//! the exact place and kind of the first fault. Whether the program keeps the rules of the language is not asked here.
 #![tactic(auto)]
 
+mod bodies;
 mod fault;
 mod fixed_text;
+mod heads;
 mod names;
+mod params;
 mod program;
 mod reader;
-mod statements;
 
 pub use fault::AdaFault;
 pub use reader::read_ada;

@@ -1,33 +1,34 @@
-ghost use Rattle.std.specs.Prelude.{◌≡◌, Ok};
+ghost use Rattle.std.specs.Prelude.{◌≡◌, map};
 ghost use Rattle.grammar.specs.Reading.{whole_at};
-ghost use Rattle.seq_tree.specs.Trees.{block_of};
-ghost use Rattle.ada_tree.specs.Trees.{program_of};
-ghost use Rattle.token_read.specs.Words.{Gives, GivesWhole, bare};
-ghost use Rattle.ada_read.specs.Readers.{cyclic_program, cost_at, costs_at, task_at, body_at, program_at};
+ghost use Rattle.ada_tree.specs.Trees.{program_of, unit_of};
+ghost use Rattle.token_read.specs.Words.{bare};
+ghost use Rattle.seq_read.specs.Halts.{Gives, GivesWhole};
+ghost use Rattle.ada_read.specs.Readers.{ada_block_at, cost_at, costs_at, services_at, units_at, main_at, program_at};
 
+use crate::bodies::{bodies, body_head};
 use crate::fixed_text::{CostName, FixedText, cost_name, fixed};
-use crate::names::{program_name, unit_name};
-use crate::statements::block;
-use ada_tree::{AdaProgram, Form, Unit};
-use seq_tree::{Block, Costs, Mark, Name, Spanned};
+use crate::heads::heads;
+use crate::names::{end_of, name};
+use ada_tree::{AdaProgram, Unit};
+use seq_read::{Halt, mark, number, word};
+use seq_tree::{Costs, Mark, Name, Spanned};
 use std::alloc::Global;
-use token_read::{ReadFault, mark, number_within, word};
 
-/// The ticks that a kind of statement takes.
+/// The ticks that a kind of statement takes, and the tokens after them.
 #[tactic(auto, unfolding(crate::specs::Readers::cost_at))]
-fn cost(tokens: &[Spanned], cost: CostName) -> Result<(u32, &[Spanned]), ReadFault>
+fn cost(tokens: &[Spanned], cost: CostName) -> Result<(u32, &[Spanned]), Halt>
     ensures { Gives (λ r. (r.0, bare r.1.now)) result (cost_at cost (bare tokens.now)) }
 {
     let tokens = word(tokens, cost_name(cost))?;
     let tokens = fixed(tokens, FixedText::Constant)?;
-    let (ticks, tokens) = number_within(tokens, 1, 1000)?;
+    let (ticks, tokens) = number(tokens)?;
     let tokens = mark(tokens, Mark::Semicolon)?;
     Ok((ticks, tokens))
 }
 
-/// The costs of all kinds of statements.
+/// The costs of all kinds of statements, and the tokens after them.
 #[tactic(auto, unfolding(crate::specs::Readers::costs_at))]
-fn costs(tokens: &[Spanned]) -> Result<(Costs, &[Spanned]), ReadFault>
+fn costs(tokens: &[Spanned]) -> Result<(Costs, &[Spanned]), Halt>
     ensures { Gives (λ r. (r.0, bare r.1.now)) result (costs_at (bare tokens.now)) }
 {
     let (assign, tokens) = cost(tokens, CostName::Assign)?;
@@ -49,120 +50,69 @@ fn costs(tokens: &[Spanned]) -> Result<(Costs, &[Spanned]), ReadFault>
     Ok((costs, tokens))
 }
 
-/// The name of a unit and the priority of its task, up to the end of its specification.
-#[tactic(auto, unfolding(crate::specs::Readers::task_at))]
-fn task<'a>(
-    alloc: Global,
-    tokens: &'a [Spanned],
-    program: &Name,
-) -> Result<(Name, u32, &'a [Spanned]), ReadFault>
-    ensures { Gives (λ r. ((r.0, r.1), bare r.2.now)) result (task_at program.now (bare tokens.entry.now)) }
-{
-    let (name, tokens) = unit_name(alloc, tokens, program)?;
-    let tokens = fixed(tokens, FixedText::TaskHead)?;
-    let (priority, tokens) = number_within(tokens, 1, 30)?;
-    let tokens = fixed(tokens, FixedText::TaskEnd)?;
-    let tokens = word(tokens, name.bytes())?;
-    Ok((name, priority, tokens))
-}
-
-/// What the body of a unit says.
-#[derive(Drop)]
-struct TaskBody {
-    offset: u32,
-    period: u32,
-    block: Block,
-}
-
-/// The body of a unit of this name.
-#[tactic(auto, unfolding(crate::specs::Readers::body_at))]
-fn body<'a>(
-    alloc: Global,
-    tokens: &'a [Spanned],
-    unit: &Name,
-) -> Result<(TaskBody, &'a [Spanned]), ReadFault>
-    ensures { Gives (λ r. ((r.0.offset, r.0.period, block_of r.0.block), bare r.1.now)) result (body_at unit.now (bare tokens.entry.now)) }
-{
-    let tokens = word(tokens, unit.bytes())?;
-    let tokens = fixed(tokens, FixedText::TaskBody)?;
-    let (offset, tokens) = number_within(tokens, 0, 1_000_000_000)?;
-    let tokens = fixed(tokens, FixedText::Delay)?;
-    let (period, tokens) = number_within(tokens, 1, 1_000_000_000)?;
-    let tokens = fixed(tokens, FixedText::Close)?;
-    let (block, tokens) = block(alloc, tokens)?;
-    let tokens = fixed(tokens, FixedText::TaskLoop)?;
-    let tokens = word(tokens, unit.bytes())?;
-    let body = TaskBody {
-        offset,
-        period,
-        block,
-    };
-    Ok((body, tokens))
-}
-
-/// The program of one cyclic unit.
-fn cyclic_program(
-    alloc: Global,
-    name: Name,
-    costs: Costs,
-    unit: Name,
-    priority: u32,
-    body: TaskBody,
-) -> Result<AdaProgram, ReadFault>
-    ensures { GivesWhole program_of result (Ok (cyclic_program name costs unit priority body.offset body.period (block_of body.block))) }
-{
-    let TaskBody {
-        offset,
-        period,
-        block,
-    } = body;
-    let form = Form::Cyclic {
-        priority,
-        offset,
-        period,
-        vars: Vec::new(alloc),
-        block,
-    };
-    let mut units = Vec::new(alloc);
-    units.push(Unit { name: unit, form })?;
-    Ok(AdaProgram { name, costs, units })
-}
-
-/// The program at the front, and the tokens after it.
-#[tactic(auto, unfolding(crate::specs::Readers::program_at))]
-fn program(alloc: Global, tokens: &[Spanned]) -> Result<(AdaProgram, &[Spanned]), ReadFault>
-    ensures { Gives (λ r. (program_of r.0, bare r.1.now)) result (program_at (bare tokens.now)) }
+/// The costs that the text before the program tells, and the tokens after that text.
+#[tactic(auto, unfolding(crate::specs::Readers::services_at))]
+fn services(tokens: &[Spanned]) -> Result<(Costs, &[Spanned]), Halt>
+    ensures { Gives (λ r. (r.0, bare r.1.now)) result (services_at (bare tokens.now)) }
 {
     let tokens = fixed(tokens, FixedText::Opening)?;
     let (costs, tokens) = costs(tokens)?;
     let tokens = fixed(tokens, FixedText::Services)?;
-    let (name, tokens) = program_name(alloc, tokens)?;
-    let tokens = fixed(tokens, FixedText::UnitHead)?;
-    let (unit, priority, tokens) = task(alloc, tokens, &name)?;
-    let tokens = fixed(tokens, FixedText::UnitEnd)?;
+    Ok((costs, tokens))
+}
+
+/// The units of a program of this name, and the tokens after the end of its body.
+#[tactic(auto, unfolding(crate::specs::Readers::units_at))]
+fn units<'a>(
+    alloc: Global,
+    tokens: &'a [Spanned],
+    name: &Name,
+) -> Result<(Vec<Unit>, &'a [Spanned]), Halt>
+    ensures { Gives (λ r. (map unit_of r.0.items, bare r.1.now)) result (units_at ada_block_at name.now (bare tokens.entry.now)) }
+{
+    let (heads, tokens) = heads(alloc, tokens)?;
+    let tokens = end_of(tokens, name)?;
+    let tokens = body_head(tokens, name)?;
+    let (units, tokens) = bodies(alloc, tokens, &heads)?;
+    let tokens = end_of(tokens, name)?;
+    Ok((units, tokens))
+}
+
+/// The tokens after the main procedure of a program of this name.
+#[tactic(auto, unfolding(crate::specs::Readers::main_at))]
+fn main_procedure<'a>(tokens: &'a [Spanned], name: &Name) -> Result<&'a [Spanned], Halt>
+    ensures { Gives (λ r. (tt, bare r.now)) result (main_at name.now (bare tokens.entry.now)) }
+{
+    let tokens = word(tokens, b"with")?;
     let tokens = word(tokens, name.bytes())?;
-    let tokens = fixed(tokens, FixedText::BodyHead)?;
-    let tokens = word(tokens, name.bytes())?;
-    let tokens = fixed(tokens, FixedText::UnitBody)?;
-    let (body, tokens) = body(alloc, tokens, &unit)?;
-    let tokens = fixed(tokens, FixedText::UnitEnd)?;
-    let tokens = word(tokens, name.bytes())?;
-    let tokens = fixed(tokens, FixedText::MainWith)?;
-    let tokens = word(tokens, name.bytes())?;
-    let tokens = fixed(tokens, FixedText::Main)?;
-    let program = cyclic_program(alloc, name, costs, unit, priority, body)?;
+    fixed(tokens, FixedText::Main)
+}
+
+/// The program at the front, and the tokens after it.
+#[tactic(auto, unfolding(crate::specs::Readers::program_at))]
+fn program(alloc: Global, tokens: &[Spanned]) -> Result<(AdaProgram, &[Spanned]), Halt>
+    ensures { Gives (λ r. (program_of r.0, bare r.1.now)) result (program_at ada_block_at (bare tokens.now)) }
+{
+    let (costs, tokens) = services(tokens)?;
+    let (name, tokens) = name(alloc, tokens)?;
+    let tokens = word(tokens, b"is")?;
+    let (units, tokens) = units(alloc, tokens, &name)?;
+    let tokens = main_procedure(tokens, &name)?;
+    let program = AdaProgram { name, costs, units };
     Ok((program, tokens))
 }
 
-/// The program that these are all the tokens of.
+/// The program that these are all the tokens of. `Syntax` comes where the tokens are of no program of passive units and one
+/// cyclic unit, and `TooDeep` where they are but for their nesting or a chain, each with the tokens that were left; `NoMemory`
+/// comes for want of memory.
 #[tactic(auto, using(seq_read::proofs::WholeSteps::whole_steps))]
-pub(crate) fn whole(alloc: Global, tokens: &[Spanned]) -> Result<AdaProgram, ReadFault>
-    ensures { GivesWhole program_of result (whole_at program_at (bare tokens.now)) }
+pub(crate) fn whole(alloc: Global, tokens: &[Spanned]) -> Result<AdaProgram, Halt>
+    ensures { GivesWhole program_of result (whole_at (program_at ada_block_at) (bare tokens.now)) }
 {
     let (program, rest) = program(alloc, tokens)?;
     if rest.is_empty() {
         Ok(program)
     } else {
-        Err(ReadFault::Syntax(rest.len()))
+        Err(Halt::Syntax(rest.len()))
     }
 }

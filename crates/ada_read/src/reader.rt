@@ -1,17 +1,19 @@
-ghost use Rattle.std.specs.Prelude.{◌≡◌, Err, IfOk};
+ghost use Rattle.std.specs.Prelude.{◌≡◌, IfOk};
 ghost use Rattle.ada_tree.specs.Programs.{Program};
 ghost use Rattle.ada_tree.specs.Reading.{Accepts};
-ghost use Rattle.ada_tree.specs.InUse.{IsUsableProgram};
+ghost use Rattle.ada_tree.specs.InUse.{IsSequentialProgram};
 ghost use Rattle.ada_tree.specs.Trees.{program_of};
-ghost use Rattle.ada_read.specs.Answers.{Says, StopsAt, fault_of};
+ghost use Rattle.ada_read.specs.Answers.{Says, fault_of};
+ghost use Rattle.ada_read.specs.Judged.{IsJudged};
 
 use crate::fault::AdaFault;
 use crate::program::whole;
+use ada_rules::{RuleBreak, check_program};
 use ada_tree::AdaProgram;
-use seq_read::place_of;
-use seq_tree::{Place, TextFault};
+use seq_read::{Halt, place_of};
+use seq_tree::TextFault;
 use std::alloc::Global;
-use token_read::{LexFault, ReadFault, tokens};
+use token_read::{LexFault, tokens};
 
 /// The most bytes that a text may have.
 const MOST_BYTES: usize = 16_777_216;
@@ -28,18 +30,28 @@ fn misread(fault: LexFault) -> AdaFault
     }
 }
 
-/// The program that a text is accepted as, of one cyclic unit.
+/// The program, where it meets the rules.
+fn judged(alloc: Global, program: AdaProgram) -> Result<AdaProgram, AdaFault>
+    ensures { IsJudged (program_of program) result }
+{
+    match check_program(alloc, &program) {
+        Ok(()) => Ok(program),
+        Err(RuleBreak::Rule { rule, unit }) => Err(AdaFault::Rule { rule, unit }),
+        Err(RuleBreak::NoMemory) => Err(AdaFault::NoMemory),
+    }
+}
+
+/// The program that a text is accepted as, of passive units and one cyclic unit.
 ///
-/// `FileTooLong` comes for a text of over 16,777,216 bytes; `Byte`, `Number` and `Long` for a text without tokens, at their
-/// first fault; `Syntax` for all else that is wrong: at the first token with which no text goes on, a number outside its range
-/// and a name that may not stand there among them, or at the end of the text; `NoMemory` for want of memory.
+/// The answers in order: `FileTooLong` comes for a text of over 16,777,216 bytes; `Byte`, `Number` and `Long` for a text without
+/// tokens, at their first fault; `Syntax` at the first token with which no text goes on, or at the end of the text, and `TooDeep` at
+/// the token that brings nesting or a chain over its limit, whichever is first; `Rule` for a program that breaks a rule; `NoMemory`
+/// for want of memory.
 pub fn read_ada(alloc: Global, bytes: &[u8]) -> Result<AdaProgram, AdaFault>
     // What is answered is so.
     ensures says { Says bytes.now result }
     // A text that is accepted as a program is read as that one, unless memory runs out.
-    ensures only { (p : Program) → IsUsableProgram p → Accepts bytes.now p → IfOk result (λ q. program_of q ≡ p) }
-    // The place of `Syntax` is the first with which no text of such a program goes on.
-    ensures first { (place : Place) → result ≡ Err (AdaFault.Text (TextFault.Syntax place)) → StopsAt bytes.now place }
+    ensures only { (p : Program) → IsSequentialProgram p → Accepts bytes.now p → IfOk result (λ q. program_of q ≡ p) }
 {
     if bytes.len() > MOST_BYTES {
         return Err(AdaFault::Text(TextFault::FileTooLong));
@@ -47,11 +59,15 @@ pub fn read_ada(alloc: Global, bytes: &[u8]) -> Result<AdaProgram, AdaFault>
     match tokens(alloc, bytes) {
         Err(fault) => Err(misread(fault)),
         Ok(found) => match whole(alloc, &found) {
-            Ok(program) => Ok(program),
-            Err(ReadFault::NoMemory) => Err(AdaFault::NoMemory),
-            Err(ReadFault::Syntax(left)) => {
+            Ok(program) => judged(alloc, program),
+            Err(Halt::NoMemory) => Err(AdaFault::NoMemory),
+            Err(Halt::Syntax(left)) => {
                 let place = place_of(bytes, &found, left);
                 Err(AdaFault::Text(TextFault::Syntax(place)))
+            }
+            Err(Halt::TooDeep(left)) => {
+                let place = place_of(bytes, &found, left);
+                Err(AdaFault::Text(TextFault::TooDeep(place)))
             }
         },
     }

@@ -1,0 +1,221 @@
+-- Reading lists, one item at a time.
+use Rattle.std.proofs.Common.{◌≡◌, ℕ, suc, ◌+◌, ◌<◌, ◌≤◌, map, drop, get_or, drop-cons, drop_of_length-le, Bool, true, false, List, [], ◌∷◌, ◌++◌, length, Option, None, Ok, Err, codes, refl, sym, ap, ◌∙◌, arith, append_assoc, append-nil, length-append}
+use Rattle.grammar.specs.Reading.{Halt, Read, first, ◌>>=◌, all_from, many_at, each_at, Reads}
+use Rattle.grammar.proofs.Many.{many-turn, many-fails, many-ends}
+use Rattle.grammar.proofs.From.{from-turn, from-fails, from-ends}
+use Rattle.seq_tree.specs.Operations.{Signature, Operation}
+use Rattle.seq_tree.specs.Trees.{signature_of}
+use Rattle.seq_tree.specs.declared.tree.OpSig.{OpSig}
+use Rattle.seq_tree.specs.declared.tree.Datum.{Datum}
+use Rattle.seq_tree.specs.declared.tree.Param.{Param}
+use Rattle.seq_tree.specs.declared.token.Token.{Token}
+use Rattle.seq_tree.specs.declared.token.Token.TheVariants.{Word, Sign}
+use Rattle.seq_tree.specs.declared.token.Mark.TheVariants.{Semicolon}
+use Rattle.ada_tree.specs.Programs as programs
+use Rattle.ada_tree.specs.Words.{is_ada_name}
+use Rattle.token_read.specs.Readers.{next_is}
+use Rattle.token_read.proofs.TokenLaws.{Any}
+use Rattle.seq_read.specs.Statements.{next_is_name}
+use Rattle.ada_read.specs.FixedTexts.{more_tokens}
+use Rattle.ada_read.specs.declared.heads.UnitHead.{UnitHead}
+use Rattle.ada_read.specs.Heads.{Head, seen_after, head_of}
+use Rattle.ada_read.specs.Readers.{ada_block_at, more_param_at, more_params_at, params_from_at, declaration_at, declarations_at, head_at, begins_head, heads_at, datum_at, data_at, body_at, bodies_at, operation_at, operations_at}
+use Rattle.ada_read.proofs.ParamLaws.{IsSpelled, IsNamed, IsNamedHead, declaration_tokens, reads-more_param, reads-declaration}
+use Rattle.ada_read.proofs.HeadLaws.{IsHead, reads-head, starts_head, grows_head, ends_head, closing_heads}
+use Rattle.ada_read.proofs.BodyLaws.{IsDatum, datum_tokens, reads-datum}
+
+-- what is read, behind items that were read before
+unfoldable pub with_front : {A : Type 0} → List A → Read Token (List A) → Read Token (List A)
+with_front front q = q >>= λ y. Ok (front ++ y.0, y.1)
+
+regroup : {A : Type 0} (front : List A) (x : A) (q : Read Token (List A)) → with_front front (q >>= λ y. Ok (x ∷ y.0, y.1)) ≡ with_front (front ++ x ∷ []) q
+unfolding with_front
+regroup front x (Ok y) = rw (append_assoc) refl
+regroup front x (Err left) = refl
+
+pub front-none : {A : Type 0} (q : Read Token (List A)) → with_front [] q ≡ q
+unfolding with_front
+front-none (Ok y) = refl
+front-none (Err left) = refl
+
+-- as many as there are, each spelled in one way
+module _ {A : Type 0} (P : A → Type 0) (spell : A → List Token) (test : Option Token → Bool) (r : List Token → Read Token A) (one : Reads (IsSpelled P spell) Any r)
+    (starts : (a : A) (rest : List Token) → P a → test (first (spell a ++ rest)) ≡ true) (grows : (a : A) → 0 < length (spell a)) (ends : test None ≡ false) where
+  starts_spelled : (a : A) (text rest : List Token) → IsSpelled P spell a text → test (first (text ++ rest)) ≡ true
+  starts_spelled a text rest g = rw g.1 (starts a rest g.0)
+
+  grows_spelled : (a : A) (text : List Token) → IsSpelled P spell a text → 0 < length text
+  grows_spelled a text g = rw g.1 (grows a)
+
+  spelled_shorter : (ts : List Token) (x : A) (rest : List Token) → r ts ≡ Ok (x, rest) → length rest < length ts
+  spelled_shorter ts x rest e =
+      let f = one.sound ts x rest e in
+      omega (arith, ap length f.split, length-append f.text rest, grows_spelled x f.text f.spelled)
+
+  spelled_turn : (front : List A) (ts : List Token) (x : A) (rest : List Token) → test (first ts) ≡ true → r ts ≡ Ok (x, rest) → with_front (front ++ x ∷ []) (many_at test r rest) ≡ with_front front (many_at test r ts)
+  spelled_turn front ts x rest t e =
+      sym (ap (with_front front) (many-turn test (IsSpelled P spell) (λ a o. Unit {0}) r one starts_spelled grows_spelled (λ a o h. tt) ends ts x rest t e) ∙ regroup front x (many_at test r rest))
+
+  spelled_fails : (front : List A) (ts : List Token) (halt : Halt) → test (first ts) ≡ true → r ts ≡ Err halt → with_front front (many_at test r ts) ≡ Err halt
+  unfolding with_front
+  spelled_fails front ts halt t e = rw (many-fails test (IsSpelled P spell) (λ a o. Unit {0}) r one starts_spelled grows_spelled (λ a o h. tt) ends ts halt t e) refl
+
+  spelled_ends : (front : List A) (ts : List Token) → test (first ts) ≡ false → with_front front (many_at test r ts) ≡ Ok (front, ts)
+  unfolding with_front
+  spelled_ends front ts t = rw (many-ends test (IsSpelled P spell) (λ a o. Unit {0}) r one starts_spelled grows_spelled (λ a o h. tt) ends ts t, append-nil) refl
+
+-- PARAMETERS
+pub params_from : (p : Param) (ts : List Token) → params_from_at p ts ≡ with_front (p ∷ []) (more_params_at ts)
+unfolding params_from_at with_front
+params_from p ts = refl
+
+pub param-shorter : (ts : List Token) (p : Param) (rest : List Token) → more_param_at ts ≡ Ok (p, rest) → length rest < length ts
+param-shorter = spelled_shorter IsNamed more_tokens (next_is (Sign Semicolon)) more_param_at reads-more_param (λ p rest h. refl) (λ p. omega arith) refl
+
+pub param-turn : (front : List Param) (ts : List Token) (p : Param) (rest : List Token) → next_is (Sign Semicolon) (first ts) ≡ true → more_param_at ts ≡ Ok (p, rest) →
+    with_front (front ++ p ∷ []) (more_params_at rest) ≡ with_front front (more_params_at ts)
+unfolding more_params_at
+param-turn = spelled_turn IsNamed more_tokens (next_is (Sign Semicolon)) more_param_at reads-more_param (λ p rest h. refl) (λ p. omega arith) refl
+
+pub param-fails : (front : List Param) (ts : List Token) (halt : Halt) → next_is (Sign Semicolon) (first ts) ≡ true → more_param_at ts ≡ Err halt → with_front front (more_params_at ts) ≡ Err halt
+unfolding more_params_at
+param-fails = spelled_fails IsNamed more_tokens (next_is (Sign Semicolon)) more_param_at reads-more_param (λ p rest h. refl) (λ p. omega arith) refl
+
+pub param-ends : (front : List Param) (ts : List Token) → next_is (Sign Semicolon) (first ts) ≡ false → with_front front (more_params_at ts) ≡ Ok (front, ts)
+unfolding more_params_at
+param-ends = spelled_ends IsNamed more_tokens (next_is (Sign Semicolon)) more_param_at reads-more_param (λ p rest h. refl) (λ p. omega arith) refl
+
+-- DECLARATIONS
+pub declaration-shorter : (ts : List Token) (s : Signature) (rest : List Token) → declaration_at ts ≡ Ok (s, rest) → length rest < length ts
+declaration-shorter = spelled_shorter IsNamedHead declaration_tokens (next_is (Word (codes "procedure"))) declaration_at reads-declaration (λ s rest h. refl) (λ s. omega arith) refl
+
+pub declaration-turn : (front : List Signature) (ts : List Token) (s : Signature) (rest : List Token) → next_is (Word (codes "procedure")) (first ts) ≡ true → declaration_at ts ≡ Ok (s, rest) →
+    with_front (front ++ s ∷ []) (declarations_at rest) ≡ with_front front (declarations_at ts)
+unfolding declarations_at
+declaration-turn = spelled_turn IsNamedHead declaration_tokens (next_is (Word (codes "procedure"))) declaration_at reads-declaration (λ s rest h. refl) (λ s. omega arith) refl
+
+pub declaration-fails : (front : List Signature) (ts : List Token) (halt : Halt) → next_is (Word (codes "procedure")) (first ts) ≡ true → declaration_at ts ≡ Err halt → with_front front (declarations_at ts) ≡ Err halt
+unfolding declarations_at
+declaration-fails = spelled_fails IsNamedHead declaration_tokens (next_is (Word (codes "procedure"))) declaration_at reads-declaration (λ s rest h. refl) (λ s. omega arith) refl
+
+pub declaration-ends : (front : List Signature) (ts : List Token) → next_is (Word (codes "procedure")) (first ts) ≡ false → with_front front (declarations_at ts) ≡ Ok (front, ts)
+unfolding declarations_at
+declaration-ends = spelled_ends IsNamedHead declaration_tokens (next_is (Word (codes "procedure"))) declaration_at reads-declaration (λ s rest h. refl) (λ s. omega arith) refl
+
+-- DATA
+no_datum : next_is_name is_ada_name None ≡ false
+unfolding next_is_name
+no_datum = refl
+
+some_datum : (d : Datum) (rest : List Token) → IsDatum d → next_is_name is_ada_name (first (datum_tokens d ++ rest)) ≡ true
+unfolding next_is_name
+some_datum d rest h = h
+
+pub datum-shorter : (ts : List Token) (d : Datum) (rest : List Token) → datum_at ts ≡ Ok (d, rest) → length rest < length ts
+datum-shorter = spelled_shorter IsDatum datum_tokens (next_is_name is_ada_name) datum_at reads-datum some_datum (λ d. omega arith) no_datum
+
+pub datum-turn : (front : List Datum) (ts : List Token) (d : Datum) (rest : List Token) → next_is_name is_ada_name (first ts) ≡ true → datum_at ts ≡ Ok (d, rest) →
+    with_front (front ++ d ∷ []) (data_at rest) ≡ with_front front (data_at ts)
+unfolding data_at
+datum-turn = spelled_turn IsDatum datum_tokens (next_is_name is_ada_name) datum_at reads-datum some_datum (λ d. omega arith) no_datum
+
+pub datum-fails : (front : List Datum) (ts : List Token) (halt : Halt) → next_is_name is_ada_name (first ts) ≡ true → datum_at ts ≡ Err halt → with_front front (data_at ts) ≡ Err halt
+unfolding data_at
+datum-fails = spelled_fails IsDatum datum_tokens (next_is_name is_ada_name) datum_at reads-datum some_datum (λ d. omega arith) no_datum
+
+pub datum-ends : (front : List Datum) (ts : List Token) → next_is_name is_ada_name (first ts) ≡ false → with_front front (data_at ts) ≡ Ok (front, ts)
+unfolding data_at
+datum-ends = spelled_ends IsDatum datum_tokens (next_is_name is_ada_name) datum_at reads-datum some_datum (λ d. omega arith) no_datum
+
+-- SPECIFICATIONS, where a task was read before or not
+unfoldable pub heads_from : Bool → List Token → Read Token (List Head)
+heads_from seen = all_from begins_head seen_after head_at seen
+
+pub heads_begin : (ts : List Token) → heads_at ts ≡ with_front [] (heads_from false ts)
+unfolding heads_at heads_from
+heads_begin ts = sym (front-none (heads_at ts))
+
+pub head-shorter : (seen : Bool) (ts : List Token) (h : Head) (rest : List Token) → head_at seen ts ≡ Ok (h, rest) → length rest < length ts
+head-shorter seen ts h rest e =
+    let f = (reads-head seen).sound ts h rest e in
+    omega (arith, ap length f.split, length-append f.text rest, grows_head seen h f.text f.spelled)
+
+pub head-turn : (front : List Head) (seen : Bool) (ts : List Token) (h : Head) (rest : List Token) → begins_head seen (first ts) ≡ true → head_at seen ts ≡ Ok (h, rest) →
+    with_front (front ++ h ∷ []) (heads_from (seen_after seen h) rest) ≡ with_front front (heads_from seen ts)
+unfolding heads_from
+head-turn front seen ts h rest t e =
+    sym (ap (with_front front) (from-turn begins_head seen_after IsHead (λ a o. Unit {0}) head_at reads-head starts_head grows_head (λ a s o k. tt) ends_head closing_heads seen ts h rest t e)
+    ∙ regroup front h (all_from begins_head seen_after head_at (seen_after seen h) rest))
+
+pub head-fails : (front : List Head) (seen : Bool) (ts : List Token) (halt : Halt) → begins_head seen (first ts) ≡ true → head_at seen ts ≡ Err halt → with_front front (heads_from seen ts) ≡ Err halt
+unfolding heads_from with_front
+head-fails front seen ts halt t e =
+    rw (from-fails begins_head seen_after IsHead (λ a o. Unit {0}) head_at reads-head starts_head grows_head (λ a s o k. tt) ends_head closing_heads seen ts halt t e) refl
+
+pub head-ends : (front : List Head) (seen : Bool) (ts : List Token) → begins_head seen (first ts) ≡ false → with_front front (heads_from seen ts) ≡ Ok (front, ts)
+unfolding heads_from with_front
+head-ends front seen ts t =
+    rw (from-ends begins_head seen_after IsHead (λ a o. Unit {0}) head_at reads-head starts_head grows_head (λ a s o k. tt) ends_head closing_heads seen ts t, append-nil) refl
+
+-- ONE FOR EACH
+module _ {X B A : Type 0} (view : X → B) (r : B → List Token → Read Token A) (xs : List X) (i : ℕ) where
+  item_next : (x : X) → i < length xs → x ≡ get_or xs i x → map view (drop i xs) ≡ view x ∷ map view (drop (i + 1) xs)
+  item_next x h e =
+      let one_on : suc i ≡ i + 1 = omega arith in
+      ap (map view) (drop-cons xs i x h ∙ ap (λ y. y ∷ drop (suc i) xs) (sym e)) ∙ ap (λ k. view x ∷ map view (drop k xs)) one_on
+
+  each_turn : (front : List A) (ts : List Token) (x : X) (a : A) (rest : List Token) → i < length xs → x ≡ get_or xs i x → r (view x) ts ≡ Ok (a, rest) →
+      with_front (front ++ a ∷ []) (each_at r (map view (drop (i + 1) xs)) rest) ≡ with_front front (each_at r (map view (drop i xs)) ts)
+  each_turn front ts x a rest h item e = rw (item_next x h item, e) (sym (regroup front a (each_at r (map view (drop (i + 1) xs)) rest)))
+
+  each_fails : (front : List A) (ts : List Token) (x : X) (halt : Halt) → i < length xs → x ≡ get_or xs i x → r (view x) ts ≡ Err halt → with_front front (each_at r (map view (drop i xs)) ts) ≡ Err halt
+  unfolding with_front
+  each_fails front ts x halt h item e = rw (item_next x h item, e) refl
+
+  each_ends : (front : List A) (ts : List Token) → length xs ≤ i → with_front front (each_at r (map view (drop i xs)) ts) ≡ Ok (front, ts)
+  unfolding with_front
+  each_ends front ts h = rw (drop_of_length-le xs h, append-nil) refl
+
+-- the bodies of operations
+pub operation-turn : (sigs : List OpSig) (i : ℕ) (front : List Operation) (ts : List Token) (sig : OpSig) (o : Operation) (rest : List Token) → i < length sigs → sig ≡ get_or sigs i sig →
+    operation_at ada_block_at (signature_of sig) ts ≡ Ok (o, rest) →
+    with_front (front ++ o ∷ []) (operations_at ada_block_at (map signature_of (drop (i + 1) sigs)) rest) ≡ with_front front (operations_at ada_block_at (map signature_of (drop i sigs)) ts)
+unfolding operations_at
+operation-turn = each_turn signature_of (operation_at ada_block_at)
+
+pub operation-fails : (sigs : List OpSig) (i : ℕ) (front : List Operation) (ts : List Token) (sig : OpSig) (halt : Halt) → i < length sigs → sig ≡ get_or sigs i sig →
+    operation_at ada_block_at (signature_of sig) ts ≡ Err halt → with_front front (operations_at ada_block_at (map signature_of (drop i sigs)) ts) ≡ Err halt
+unfolding operations_at
+operation-fails = each_fails signature_of (operation_at ada_block_at)
+
+pub operation-ends : (sigs : List OpSig) (i : ℕ) (front : List Operation) (ts : List Token) → length sigs ≤ i → with_front front (operations_at ada_block_at (map signature_of (drop i sigs)) ts) ≡ Ok (front, ts)
+unfolding operations_at
+operation-ends = each_ends signature_of (operation_at ada_block_at)
+
+-- the bodies of units
+pub body-turn : (heads : List UnitHead) (i : ℕ) (front : List programs.Unit) (ts : List Token) (head : UnitHead) (u : programs.Unit) (rest : List Token) → i < length heads → head ≡ get_or heads i head →
+    body_at ada_block_at (head_of head) ts ≡ Ok (u, rest) →
+    with_front (front ++ u ∷ []) (bodies_at ada_block_at (map head_of (drop (i + 1) heads)) rest) ≡ with_front front (bodies_at ada_block_at (map head_of (drop i heads)) ts)
+unfolding bodies_at
+body-turn = each_turn head_of (body_at ada_block_at)
+
+pub body-fails : (heads : List UnitHead) (i : ℕ) (front : List programs.Unit) (ts : List Token) (head : UnitHead) (halt : Halt) → i < length heads → head ≡ get_or heads i head →
+    body_at ada_block_at (head_of head) ts ≡ Err halt → with_front front (bodies_at ada_block_at (map head_of (drop i heads)) ts) ≡ Err halt
+unfolding bodies_at
+body-fails = each_fails head_of (body_at ada_block_at)
+
+pub body-ends : (heads : List UnitHead) (i : ℕ) (front : List programs.Unit) (ts : List Token) → length heads ≤ i → with_front front (bodies_at ada_block_at (map head_of (drop i heads)) ts) ≡ Ok (front, ts)
+unfolding bodies_at
+body-ends = each_ends head_of (body_at ada_block_at)
+
+pub ruleset param_steps = (params_from, param-shorter, param-turn, param-fails, param-ends)
+
+pub ruleset declaration_steps = (front-none, declaration-shorter, declaration-turn, declaration-fails, declaration-ends)
+
+pub ruleset datum_steps = (front-none, datum-shorter, datum-turn, datum-fails, datum-ends)
+
+pub ruleset head_steps = (heads_begin, head-shorter, head-turn, head-fails, head-ends)
+
+pub ruleset operation_steps = (front-none, operation-turn, operation-fails, operation-ends)
+
+pub ruleset body_steps = (front-none, body-turn, body-fails, body-ends)

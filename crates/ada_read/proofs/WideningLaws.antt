@@ -1,0 +1,197 @@
+-- A reader of programs with a reader of blocks that has wider limits has wider limits itself.
+use Rattle.std.proofs.Common.{ℕ, Bool, false, List, [], ◌∷◌, codes}
+use Rattle.grammar.specs.Reading.{Widens}
+use Rattle.grammar.proofs.Widening.{widens-token, widens-pure, widens-then, widens-choose, widens-from, widens-many, widens-each}
+use Rattle.seq_tree.specs.Names.{Name}
+use Rattle.seq_tree.specs.Operations.{Signature}
+use Rattle.seq_tree.specs.declared.tree.Param.{Param}
+use Rattle.seq_tree.specs.declared.token.Token.{Token}
+use Rattle.seq_tree.specs.declared.token.Token.TheVariants.{Word, Sign}
+use Rattle.seq_tree.specs.declared.token.Mark.TheVariants.{LeftParen, Semicolon, Colon}
+use Rattle.ada_tree.specs.Programs.{Passive, Cyclic}
+use Rattle.ada_tree.specs.Spelling.{head_tokens}
+use Rattle.ada_tree.specs.Words.{is_ada_name}
+use Rattle.token_read.specs.Readers.{sees_fixed, fixed_at, phrase_at, sees_number, number_at, sees_name, name_at, next_is}
+use Rattle.seq_read.specs.Statements.{BlockReader, next_is_name}
+use Rattle.ada_read.specs.declared.fixed_text.FixedText.{FixedText}
+use Rattle.ada_read.specs.declared.fixed_text.FixedText.TheVariants as fixed
+use Rattle.ada_read.specs.declared.fixed_text.CostName.{CostName}
+use Rattle.ada_read.specs.declared.fixed_text.CostName.TheVariants as cost
+use Rattle.ada_read.specs.FixedTexts.{fixed_tokens, cost_name, end_tokens}
+use Rattle.ada_read.specs.Heads.{Head, PassiveHead, TaskHead, head_name, seen_after}
+use Rattle.ada_read.specs.Readers.{text_at, cost_at, costs_at, sees_mode, mode_at, param_at, more_param_at, more_params_at, params_from_at, listed_at, unlisted_at, params_at, declaration_at, declarations_at, task_head_at, passive_head_at, begins_task, inner_at, head_at, begins_head, heads_at, datum_at, data_at, operation_at, operations_at, cyclic_at, passive_at, form_at, body_head_at, body_at, bodies_at, services_at, units_at, main_at, program_at}
+
+module _ (n : ℕ) where
+  -- TOKENS
+  widens-fixed : (u : Token) → Widens n (fixed_at u) (fixed_at u)
+  unfolding fixed_at
+  widens-fixed u = widens-token n (sees_fixed u)
+
+  widens-phrase : (us : List Token) → Widens n (phrase_at us) (phrase_at us)
+  widens-phrase [] = widens-pure n tt
+  widens-phrase (u ∷ us) = widens-then (widens-fixed u) (λ _. widens-phrase us)
+
+  widens-text : (text : FixedText) → Widens n (text_at text) (text_at text)
+  widens-text text = widens-phrase (fixed_tokens text)
+
+  widens-number : Widens n number_at number_at
+  unfolding number_at
+  widens-number = widens-token n sees_number
+
+  widens-name : Widens n (name_at is_ada_name) (name_at is_ada_name)
+  unfolding name_at
+  widens-name = widens-token n (sees_name is_ada_name)
+
+  widens-mode : Widens n mode_at mode_at
+  unfolding mode_at
+  widens-mode = widens-token n sees_mode
+
+  -- WHAT HAS NO LIMITS
+  widens-cost : (c : CostName) → Widens n (cost_at c) (cost_at c)
+  unfolding cost_at
+  widens-cost c =
+      widens-then (widens-fixed (Word (cost_name c))) (λ _. widens-then (widens-text fixed.Constant) (λ _. widens-then widens-number (λ k.
+      widens-then (widens-fixed (Sign Semicolon)) (λ _. widens-pure n k))))
+
+  widens-costs : Widens n costs_at costs_at
+  unfolding costs_at
+  widens-costs =
+      widens-then (widens-cost cost.Assign) (λ assign. widens-then (widens-cost cost.Test) (λ test. widens-then (widens-cost cost.Turn) (λ turn.
+      widens-then (widens-cost cost.Call) (λ call. widens-then (widens-cost cost.Null) (λ nothing. widens-then (widens-cost cost.Put) (λ put.
+      widens-then (widens-cost cost.Finish) (λ finish.
+      widens-pure n (record { assign = assign; test = test; turn = turn; call = call; nothing = nothing; put = put; finish = finish }))))))))
+
+  widens-param : Widens n param_at param_at
+  unfolding param_at
+  widens-param =
+      widens-then widens-name (λ name. widens-then (widens-fixed (Sign Colon)) (λ _. widens-then widens-mode (λ mode. widens-then (widens-fixed (Word (codes "word"))) (λ _.
+      widens-pure n (record { name = name; mode = mode })))))
+
+  widens-more_param : Widens n more_param_at more_param_at
+  unfolding more_param_at
+  widens-more_param = widens-then (widens-fixed (Sign Semicolon)) (λ _. widens-param)
+
+  widens-more_params : Widens n more_params_at more_params_at
+  unfolding more_params_at
+  widens-more_params = widens-many (next_is (Sign Semicolon)) widens-more_param
+
+  widens-params_from : (p : Param) → Widens n (params_from_at p) (params_from_at p)
+  unfolding params_from_at
+  widens-params_from p = widens-then widens-more_params (λ ps. widens-pure n (p ∷ ps))
+
+  widens-listed : Widens n listed_at listed_at
+  unfolding listed_at
+  widens-listed =
+      widens-then (widens-fixed (Sign LeftParen)) (λ _. widens-then widens-param (λ p. widens-then (widens-params_from p) (λ ps. widens-then (widens-text fixed.Close) (λ _. widens-pure n ps))))
+
+  widens-unlisted : Widens n unlisted_at unlisted_at
+  unfolding unlisted_at
+  widens-unlisted = widens-then (widens-fixed (Sign Semicolon)) (λ _. widens-pure n [])
+
+  widens-params : Widens n params_at params_at
+  unfolding params_at
+  widens-params = widens-choose (next_is (Sign LeftParen)) widens-listed widens-unlisted
+
+  widens-declaration : Widens n declaration_at declaration_at
+  unfolding declaration_at
+  widens-declaration =
+      widens-then (widens-fixed (Word (codes "procedure"))) (λ _. widens-then widens-name (λ name. widens-then widens-params (λ params. widens-pure n (record { name = name; params = params }))))
+
+  widens-declarations : Widens n declarations_at declarations_at
+  unfolding declarations_at
+  widens-declarations = widens-many (next_is (Word (codes "procedure"))) widens-declaration
+
+  widens-task_head : (name : Name) → Widens n (task_head_at name) (task_head_at name)
+  unfolding task_head_at
+  widens-task_head name =
+      widens-then (widens-text fixed.TaskHead) (λ _. widens-then widens-number (λ priority. widens-then (widens-text fixed.TaskEnd) (λ _. widens-then (widens-phrase (end_tokens name)) (λ _.
+      widens-pure n (TaskHead name priority)))))
+
+  widens-passive_head : (name : Name) → Widens n (passive_head_at name) (passive_head_at name)
+  unfolding passive_head_at
+  widens-passive_head name = widens-then widens-declarations (λ sigs. widens-then (widens-phrase (end_tokens name)) (λ _. widens-pure n (PassiveHead name sigs)))
+
+  widens-inner : (seen : Bool) (name : Name) → Widens n (inner_at seen name) (inner_at seen name)
+  unfolding inner_at
+  widens-inner seen name = widens-choose (begins_task seen) (widens-task_head name) (widens-passive_head name)
+
+  widens-head : (seen : Bool) → Widens n (head_at seen) (head_at seen)
+  unfolding head_at
+  widens-head seen =
+      widens-then (widens-fixed (Word (codes "package"))) (λ _. widens-then widens-name (λ name. widens-then (widens-fixed (Word (codes "is"))) (λ _. widens-inner seen name)))
+
+  widens-heads : Widens n heads_at heads_at
+  unfolding heads_at
+  widens-heads = widens-from n begins_head seen_after head_at head_at widens-head false
+
+  widens-datum : Widens n datum_at datum_at
+  unfolding datum_at
+  widens-datum =
+      widens-then widens-name (λ name. widens-then (widens-text fixed.Initial) (λ _. widens-then widens-number (λ k. widens-then (widens-fixed (Sign Semicolon)) (λ _.
+      widens-pure n (record { name = name; value = k })))))
+
+  widens-data : Widens n data_at data_at
+  unfolding data_at
+  widens-data = widens-many (next_is_name is_ada_name) widens-datum
+
+  widens-body_head : (name : Name) → Widens n (body_head_at name) (body_head_at name)
+  unfolding body_head_at
+  widens-body_head name = widens-then (widens-text fixed.PackageBody) (λ _. widens-then (widens-fixed (Word name)) (λ _. widens-fixed (Word (codes "is"))))
+
+  widens-services : Widens n services_at services_at
+  unfolding services_at
+  widens-services = widens-then (widens-text fixed.Opening) (λ _. widens-then widens-costs (λ costs. widens-then (widens-text fixed.Services) (λ _. widens-pure n costs)))
+
+  widens-main : (name : Name) → Widens n (main_at name) (main_at name)
+  unfolding main_at
+  widens-main name = widens-then (widens-fixed (Word (codes "with"))) (λ _. widens-then (widens-fixed (Word name)) (λ _. widens-text fixed.Main))
+
+  -- WHAT HAS THE LIMITS OF BLOCKS
+  module _ (block wider : BlockReader) (widens : Widens n block wider) where
+    widens-operation : (sig : Signature) → Widens n (operation_at block sig) (operation_at wider sig)
+    unfolding operation_at
+    widens-operation sig =
+        widens-then (widens-phrase (head_tokens sig)) (λ _. widens-then (widens-fixed (Word (codes "is"))) (λ _. widens-then widens-data (λ locals. widens-then (widens-fixed (Word (codes "begin"))) (λ _.
+        widens-then widens (λ b. widens-then (widens-phrase (end_tokens sig.name)) (λ _. widens-pure n (record { sig = sig; locals = locals; block = b })))))))
+
+    widens-cyclic : (priority : ℕ) → Widens n (cyclic_at block priority) (cyclic_at wider priority)
+    unfolding cyclic_at
+    widens-cyclic priority =
+        widens-then widens-data (λ vars. widens-then (widens-text fixed.TaskBody) (λ _. widens-then widens-number (λ offset. widens-then (widens-text fixed.Delay) (λ _.
+        widens-then widens-number (λ period. widens-then (widens-text fixed.Close) (λ _. widens-then widens (λ b. widens-then (widens-text fixed.TaskLoop) (λ _.
+        widens-pure n (Cyclic priority offset period vars b)))))))))
+
+    widens-operations : (sigs : List Signature) → Widens n (operations_at block sigs) (operations_at wider sigs)
+    unfolding operations_at
+    widens-operations sigs = widens-each widens-operation sigs
+
+    widens-passive : (sigs : List Signature) → Widens n (passive_at block sigs) (passive_at wider sigs)
+    unfolding passive_at
+    widens-passive sigs = widens-then (widens-operations sigs) (λ ops. widens-pure n (Passive ops))
+
+    widens-form : (h : Head) → Widens n (form_at block h) (form_at wider h)
+    unfolding form_at
+    widens-form (PassiveHead name sigs) = widens-passive sigs
+    widens-form (TaskHead name priority) = widens-cyclic priority
+
+    widens-body : (h : Head) → Widens n (body_at block h) (body_at wider h)
+    unfolding body_at
+    widens-body h =
+        widens-then (widens-body_head (head_name h)) (λ _. widens-then (widens-form h) (λ form. widens-then (widens-phrase (end_tokens (head_name h))) (λ _.
+        widens-pure n (record { name = head_name h; form = form }))))
+
+    widens-bodies : (hs : List Head) → Widens n (bodies_at block hs) (bodies_at wider hs)
+    unfolding bodies_at
+    widens-bodies hs = widens-each widens-body hs
+
+    widens-units : (name : Name) → Widens n (units_at block name) (units_at wider name)
+    unfolding units_at
+    widens-units name =
+        widens-then widens-heads (λ hs. widens-then (widens-phrase (end_tokens name)) (λ _. widens-then (widens-body_head name) (λ _. widens-then (widens-bodies hs) (λ us.
+        widens-then (widens-phrase (end_tokens name)) (λ _. widens-pure n us)))))
+
+    pub widens-program : Widens n (program_at block) (program_at wider)
+    unfolding program_at
+    widens-program =
+        widens-then widens-services (λ costs. widens-then widens-name (λ name. widens-then (widens-fixed (Word (codes "is"))) (λ _. widens-then (widens-units name) (λ us.
+        widens-then (widens-main name) (λ _. widens-pure n (record { name = name; costs = costs; units = us }))))))

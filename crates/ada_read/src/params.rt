@@ -1,0 +1,121 @@
+ghost use Rattle.std.specs.Prelude.{◌≡◌, map};
+ghost use Rattle.seq_tree.specs.Trees.{signature_of};
+ghost use Rattle.token_read.specs.Words.{bare};
+ghost use Rattle.seq_read.specs.Halts.{Gives};
+ghost use Rattle.ada_read.specs.Readers.{mode_at, param_at, more_param_at, params_from_at, listed_at, unlisted_at, params_at, declaration_at, declarations_at};
+
+use crate::fixed_text::{FixedText, fixed};
+use crate::names::name;
+use seq_read::{Halt, mark, word};
+use seq_tree::{Mark, Mode, OpSig, Param, Spanned};
+use std::alloc::Global;
+use token_read::{next_is_mark, next_is_word};
+
+/// The mode that is first, and the tokens after it.
+#[tactic(auto, unfolding(crate::specs::Readers::mode_at, token_read::specs::Readers::fixed_at))]
+fn mode(tokens: &[Spanned]) -> Result<(Mode, &[Spanned]), Halt>
+    ensures { Gives (λ r. (r.0, bare r.1.now)) result (mode_at (bare tokens.now)) }
+{
+    if next_is_word(tokens, b"in") {
+        let tokens = word(tokens, b"in")?;
+        Ok((Mode::In, tokens))
+    } else {
+        let tokens = word(tokens, b"out")?;
+        Ok((Mode::Out, tokens))
+    }
+}
+
+/// A parameter, and the tokens after it.
+#[tactic(auto, unfolding(crate::specs::Readers::param_at))]
+fn param(alloc: Global, tokens: &[Spanned]) -> Result<(Param, &[Spanned]), Halt>
+    ensures { Gives (λ r. (r.0, bare r.1.now)) result (param_at (bare tokens.now)) }
+{
+    let (name, tokens) = name(alloc, tokens)?;
+    let tokens = mark(tokens, Mark::Colon)?;
+    let (mode, tokens) = mode(tokens)?;
+    let tokens = word(tokens, b"word")?;
+    Ok((Param { name, mode }, tokens))
+}
+
+/// A further parameter, and the tokens after it.
+#[tactic(auto, unfolding(crate::specs::Readers::more_param_at))]
+fn more_param(alloc: Global, tokens: &[Spanned]) -> Result<(Param, &[Spanned]), Halt>
+    ensures { Gives (λ r. (r.0, bare r.1.now)) result (more_param_at (bare tokens.now)) }
+{
+    let tokens = mark(tokens, Mark::Semicolon)?;
+    param(alloc, tokens)
+}
+
+/// All parameters from this first one on, and the tokens after them.
+#[tactic(auto, using(crate::proofs::Repeats::param_steps))]
+fn params_from(
+    alloc: Global,
+    tokens: &[Spanned],
+    head: Param,
+) -> Result<(Vec<Param>, &[Spanned]), Halt>
+    ensures { Gives (λ r. (r.0.items, bare r.1.now)) result (params_from_at head (bare tokens.now)) }
+{
+    let mut params = Vec::new(alloc);
+    params.push(head)?;
+    let mut rest = tokens;
+    'params: while next_is_mark(rest, Mark::Semicolon) {
+        let (next, after) = more_param(alloc, rest)?;
+        params.push(next)?;
+        rest = after;
+    }
+    Ok((params, rest))
+}
+
+/// Parameters, one at least, and the tokens after the end of their declaration.
+#[tactic(auto, unfolding(crate::specs::Readers::listed_at))]
+fn listed(alloc: Global, tokens: &[Spanned]) -> Result<(Vec<Param>, &[Spanned]), Halt>
+    ensures { Gives (λ r. (r.0.items, bare r.1.now)) result (listed_at (bare tokens.now)) }
+{
+    let tokens = mark(tokens, Mark::LeftParen)?;
+    let (head, tokens) = param(alloc, tokens)?;
+    let (params, tokens) = params_from(alloc, tokens, head)?;
+    let tokens = fixed(tokens, FixedText::Close)?;
+    Ok((params, tokens))
+}
+
+/// The parameters of a declaration, and the tokens after its end.
+#[tactic(auto, unfolding(crate::specs::Readers::params_at, crate::specs::Readers::unlisted_at))]
+fn params(alloc: Global, tokens: &[Spanned]) -> Result<(Vec<Param>, &[Spanned]), Halt>
+    ensures { Gives (λ r. (r.0.items, bare r.1.now)) result (params_at (bare tokens.now)) }
+{
+    if next_is_mark(tokens, Mark::LeftParen) {
+        listed(alloc, tokens)
+    } else {
+        let tokens = mark(tokens, Mark::Semicolon)?;
+        Ok((Vec::new(alloc), tokens))
+    }
+}
+
+/// The declaration of an operation, and the tokens after it.
+#[tactic(auto, unfolding(crate::specs::Readers::declaration_at))]
+fn declaration(alloc: Global, tokens: &[Spanned]) -> Result<(OpSig, &[Spanned]), Halt>
+    ensures { Gives (λ r. (signature_of r.0, bare r.1.now)) result (declaration_at (bare tokens.now)) }
+{
+    let tokens = word(tokens, b"procedure")?;
+    let (name, tokens) = name(alloc, tokens)?;
+    let (params, tokens) = params(alloc, tokens)?;
+    Ok((OpSig { name, params }, tokens))
+}
+
+/// Declarations of operations, as many as there are, and the tokens after them.
+#[tactic(auto, using(crate::proofs::Repeats::declaration_steps))]
+pub(crate) fn declarations(
+    alloc: Global,
+    tokens: &[Spanned],
+) -> Result<(Vec<OpSig>, &[Spanned]), Halt>
+    ensures { Gives (λ r. (map signature_of r.0.items, bare r.1.now)) result (declarations_at (bare tokens.now)) }
+{
+    let mut sigs = Vec::new(alloc);
+    let mut rest = tokens;
+    'sigs: while next_is_word(rest, b"procedure") {
+        let (next, after) = declaration(alloc, rest)?;
+        sigs.push(next)?;
+        rest = after;
+    }
+    Ok((sigs, rest))
+}

@@ -1,4 +1,9 @@
-pub mod Starting
+pub mod Stacks
+pub mod Frames
+pub mod Soundness
+pub mod Tasks
+pub mod Ends
 pub mod Openings
-pub mod Counting
+pub mod Placing
+pub mod Starting
 pub mod Reaching

@@ -1,6 +1,7 @@
 -- Bounds of what a machine counts.
 -- Each `work` statement takes a tick, so that no more have started than there were ticks.
-use Rattle.std.specs.Prelude.{ℕ, Bool, true, false, min}
+use Rattle.std.specs.Prelude.{ℕ, Bool, true, false, List, [], ◌∷◌, min}
+use Rattle.machine.specs.Pieces.{Piece}
 use Rattle.ceil_runtime.specs.declared.processor.Phase.{Phase}
 use Rattle.ceil_runtime.specs.declared.processor.Phase.TheVariants.{Use}
 
@@ -10,6 +11,10 @@ ticks_before Use = 1
 ticks_before _ = 0
 
 -- 1 where a piece has started whose ticks are not used up
-abbrev pub started : Bool → ℕ → ℕ
-started true left = min left 1
-started false left = 0
+abbrev pub started : ℕ → ℕ
+started left = min left 1
+
+-- whether there are no pieces
+abbrev pub is_idle : List Piece → Bool
+is_idle [] = true
+is_idle (p ∷ ps) = false

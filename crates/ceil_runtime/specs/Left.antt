@@ -1,20 +1,22 @@
--- A number that falls with each step of a run up to its stop.
--- It counts the steps that one instant may still have, and those of the instants up to the horizon.
-use Rattle.std.specs.Prelude.{ℕ, ◌+◌, ◌-◌, ◌*◌, List, [], ◌∷◌, length}
-use Rattle.machine.specs.Systems.{Thread}
-use Rattle.machine.specs.Pieces.{Finishing, pieces}
+-- Numbers that fall in a run up to its stop.
+-- One counts the events that may still be told, at most three at each tick for a task; the other counts steps.
+use Rattle.std.specs.Prelude.{ℕ, ◌+◌, ◌-◌, ◌*◌, List, [], ◌∷◌, length, ◌==◌, if◌then◌else◌}
+use Rattle.machine.specs.Pieces.{Piece, Printing, Finishing}
 use Rattle.machine.specs.States.{State, Task, Phase, Effects, Delays, Arriving, Use, Readiness, Ready, Waiting, Asleep}
 use Rattle.machine.specs.Meanings.{Running}
+use Rattle.ceil_runtime.specs.Effort.{effort}
 
--- the most pieces that one activation of these tasks has
-abbrev pub most_pieces : List Thread → ℕ
-most_pieces [] = 0
-most_pieces (t ∷ ts) = length (pieces t.block (Finishing ∷ [])) + most_pieces ts
+-- twice the events that the first piece tells
+abbrev pub first_tells : List Piece → ℕ
+first_tells [] = 0
+first_tells (Printing value ∷ ps) = 2
+first_tells (Finishing ∷ ps) = 2
+first_tells (_ ∷ ps) = 0
 
--- the pieces that these tasks have left
-abbrev pub pieces_left : List Task → ℕ
-pieces_left [] = 0
-pieces_left (t ∷ ts) = length t.pieces + pieces_left ts
+-- the same of a task: only a piece whose ticks are used tells
+abbrev pub telling : List Task → ℕ
+telling [] = 0
+telling (t ∷ ts) = (if t.left == 0 then first_tells t.pieces else 0) + telling ts
 
 -- the tasks that may still be released in an instant
 abbrev pub sleeper : Readiness → ℕ
@@ -22,18 +24,34 @@ sleeper (Asleep until) = 1
 sleeper Waiting = 0
 sleeper Ready = 0
 
--- the steps that an instant may still have
+-- the tasks that sleep
 abbrev pub sleepers : List Task → ℕ
 sleepers [] = 0
 sleepers (t ∷ ts) = sleeper t.readiness + sleepers ts
 
--- the steps that an instant may still have, by its part
+-- the events that an instant may still tell, by its part
 abbrev pub rank : Phase → State → ℕ
-rank Effects s = length s.tasks + 4 + pieces_left s.tasks
-rank Delays s = 3 + sleepers s.tasks
-rank Arriving s = 2
-rank Use s = 1
+rank Effects s = telling s.tasks + sleepers s.tasks
+rank Delays s = sleepers s.tasks
+rank Arriving s = 0
+rank Use s = 0
 
--- the number that falls
+-- the number that falls with each event
 abbrev pub left : Running → ℕ
-left r = (r.system.until - r.state.time) * (most_pieces r.system.threads + length r.system.threads + 5) + rank r.state.phase r.state
+left r = (r.system.until - r.state.time) * (3 * length r.system.threads) + rank r.state.phase r.state
+
+-- the effects that tasks may still have in an instant
+abbrev pub efforts : List Task → ℕ
+efforts [] = 0
+efforts (t ∷ ts) = (if t.left == 0 then effort t.pieces else 0) + efforts ts
+
+-- the steps that an instant may still have, by its part
+abbrev pub steps_in : Phase → State → ℕ
+steps_in Effects s = 3 + efforts s.tasks
+steps_in Delays s = 2
+steps_in Arriving s = 1
+steps_in Use s = 0
+
+-- the number that falls with each step that tells nothing, where there is one task
+abbrev pub steps_left : Running → ℕ
+steps_left r = (r.system.until - r.state.time) * 300 + steps_in r.state.phase r.state

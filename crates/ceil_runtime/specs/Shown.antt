@@ -1,29 +1,16 @@
 -- What a machine stands for: a system of one task, and where its run stands.
 -- The names of the numbers are those of the fields.
-use Rattle.std.specs.Prelude.{ℕ, Bool, true, false, List, [], ◌∷◌, map, drop, Option, Some, None, pos}
-use Rattle.seq_tree.specs.Statements.{Statement}
-use Rattle.seq_tree.specs.Trees.{statements_of}
+use Rattle.std.specs.Prelude.{ℕ, Bool, true, false, [], ◌∷◌, map, Option, Some, None, pos}
 use Rattle.machine.specs.Systems as systems
-use Rattle.machine.specs.Pieces.{Piece, Finishing, pieces}
 use Rattle.machine.specs.States as states
 use Rattle.machine.specs.Meanings.{Running}
-use Rattle.seq_tree.specs.Trees.{statement_of}
-use Rattle.ceil_runtime.specs.declared.thread.Thread.{Thread}
+use Rattle.ada_tree.specs.Trees.{unit_of}
+use Rattle.ceil_runtime.specs.Threads.{libraries_from}
+use Rattle.ceil_runtime.specs.Written.{thread_of}
+use Rattle.ceil_runtime.specs.Progressed.{vars_left, pieces_left}
 use Rattle.ceil_runtime.specs.declared.processor.Phase.{Phase}
 use Rattle.ceil_runtime.specs.declared.processor.Phase.TheVariants.{Effects, Delays, Arriving, Use}
 use Rattle.ceil_runtime.specs.declared.processor.Machine.{Machine}
-
--- the task as it is written
-abbrev pub thread_of : Thread → systems.Thread
-thread_of t = record {
-  unit = 0;
-  name = t.name.now;
-  priority = t.priority;
-  timing = systems.Periodic t.offset t.period;
-  vars = [];
-  block = statements_of (map statement_of t.stmts.now);
-  durations = [];
-}
 
 -- the part of an instant
 abbrev pub phase_of : Phase → states.Phase
@@ -42,20 +29,15 @@ abbrev pub readiness_of : Bool → ℕ → states.Readiness
 readiness_of true next = states.Ready
 readiness_of false next = states.Asleep next
 
--- the pieces left of a ready task
-abbrev pub pieces_left : Bool → List Statement → List Piece
-pieces_left true ss = pieces (statements_of ss) (Finishing ∷ [])
-pieces_left false ss = []
-
 -- the task
 abbrev pub task_of : Machine → states.Task
 task_of m = record {
-  thread = thread_of m.thread;
+  thread = thread_of m.progress.thread;
   readiness = readiness_of m.ready m.next;
-  active = m.thread.priority;
+  active = m.progress.thread.priority;
   next = m.next;
-  vars = [];
-  pieces = pieces_left m.ready (map statement_of (drop m.at m.thread.stmts.now));
+  vars = vars_left m.progress;
+  pieces = pieces_left m.progress;
   left = m.left;
   used = m.used;
   works = m.works;
@@ -65,7 +47,13 @@ task_of m = record {
 
 -- what runs
 abbrev pub system_of : Machine → systems.System
-system_of m = record { until = m.until; costs = m.costs; libraries = []; objects = []; threads = thread_of m.thread ∷ [] }
+system_of m = record {
+  until = m.until;
+  costs = m.costs;
+  libraries = libraries_from 0 (map unit_of m.units.now);
+  objects = [];
+  threads = thread_of m.progress.thread ∷ [];
+}
 
 -- where it stands
 abbrev pub state_of : Machine → states.State

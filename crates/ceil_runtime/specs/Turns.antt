@@ -30,13 +30,6 @@ abbrev pub FallsAt : Turn → ℕ → ℕ → Type 0
 FallsAt More old new = new < old
 FallsAt _ old new = Unit {0}
 
--- an event of the first unit, or the horizon: the part of what is told that is built so far
-abbrev pub IsOfFirst : Event → Type 0
-IsOfFirst (event.Release time task value) = task ≡ 0
-IsOfFirst (event.End time task used) = task ≡ 0
-IsOfFirst (event.Horizon time) = Unit {0}
-IsOfFirst _ = ⊥
-
 -- an answer without a violation of a ceiling: nothing is called so far
 abbrev pub KeepsCeilings : Turn → Type 0
 KeepsCeilings (CeilingViolation time task object priority ceiling) = ⊥

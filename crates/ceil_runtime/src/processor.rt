@@ -1,14 +1,20 @@
-ghost use Rattle.std.specs.Prelude.{◌≡◌, ◌<◌, ◌≤◌, ◌+◌, ◌++◌, ◌^◌, ℕ, List, [], ◌∷◌, IsTrue, IfOk, false, true, map, length, option_to_list};
-ghost use Rattle.std.specs.List.{list_all};
+ghost use Rattle.std.specs.Prelude.{◌≡◌, ◌<◌, ◌≤◌, ◌+◌, ◌++◌, ◌^◌, ◌||◌, ◌==◌, None, List, [], ◌∷◌, IfOk, Some, false, true, length, option_to_list};
 ghost use Rattle.trace_text.specs.declared.event.Event.{Event};
 ghost use Rattle.machine.specs.Meanings.{Running, Tells, begun};
-ghost use Rattle.seq_tree.specs.Trees.{statement_of};
-ghost use Rattle.ceil_runtime.specs.Plain.{is_plain};
-ghost use Rattle.ceil_runtime.specs.Counts.{ticks_before, started};
+ghost use Rattle.ada_tree.specs.Programs.{Program};
+ghost use Rattle.ada_tree.specs.Ranges.{costs_break};
+ghost use Rattle.arrivals_read.specs.Arriving.{Arrivals as Arriving};
+ghost use Rattle.machine.specs.Systems.{system};
+ghost use Rattle.trace_text.specs.Placed.{IsPlaced};
+ghost use Rattle.ceil_runtime.specs.Counts.{ticks_before, started, is_idle};
+ghost use Rattle.ceil_runtime.specs.Progressed.{pieces_left};
 
 use crate::buffer::EventBuf;
-use crate::thread::{Thread, start_at, task_in};
-use ada_tree::AdaProgram;
+use crate::effects::Act;
+use crate::piece::Piece;
+use crate::progress::Progress;
+use crate::thread::task_in;
+use ada_tree::{AdaProgram, Unit};
 use arrivals_read::Arrivals;
 use seq_tree::{Costs, NoMemory};
 use std::alloc::Global;
@@ -44,7 +50,8 @@ enum Phase {
 /// The processor at work on a program of one task.
 #[derive(Drop)]
 pub struct Machine<'a> {
-    thread: Thread<'a>,
+    units: &'a [Unit],
+    progress: Progress<'a>,
     costs: Costs,
     until: u64,
     time: u64,
@@ -55,23 +62,22 @@ pub struct Machine<'a> {
     // whether the task is ready; otherwise it sleeps until its next time
     ready: bool,
     next: u64,
-    // the statement that has started, and the ticks left of it
-    at: usize,
+    // the ticks left of the piece that has started
     left: u32,
     // the ticks used since the release
     used: u64,
     // the `work` statements started, and the releases
     works: u64,
     order: u64,
-    ghost plain: { IsTrue (list_all is_plain (map statement_of thread.stmts.now)) },
-    ghost period: { 0 < thread.period },
+    ghost ticking: { costs_break costs ≡ false },
     ghost near: { until ≤ 1000000 },
     ghost in_time: { time + ticks_before phase ≤ until },
     ghost next_near: { next ≤ until + 2 ^ 32 },
-    ghost at_inside: { at ≤ length thread.stmts.now },
     ghost used_ticks: { used ≤ time },
-    ghost works_ticks: { works ≤ time + started ready left },
+    ghost works_ticks: { works ≤ time + started left },
     ghost order_next: { order ≤ next },
+    ghost asleep: { (ready || is_idle (pieces_left progress)) ≡ true },
+    ghost asleep_left: { (ready || left == 0) ≡ true },
 }
 
 impl<'a> Machine<'a> {
@@ -82,8 +88,8 @@ impl<'a> Machine<'a> {
     ghost use Rattle.ceil_runtime.specs.Replayable.{IsReplayable};
     ghost use Rattle.ceil_runtime.specs.Shown.{running_of};
     ghost use Rattle.ceil_runtime.specs.Left.{left};
-    ghost use Rattle.ceil_runtime.specs.Turns.{Turned, FallsAt, IsOfFirst, KeepsCeilings};
-    ghost use Rattle.ceil_runtime.specs.Moves.{Moves, Steps, Falls, Leads};
+    ghost use Rattle.ceil_runtime.specs.Turns.{Turned, FallsAt, KeepsCeilings};
+    ghost use Rattle.ceil_runtime.specs.Moves.{Moves, Steps, Falls, Nears, Leads, AreOf};
 
     /// The opening of a program of one cyclic task under arrivals that are accepted for it. A failed allocation is the
     /// one error.
@@ -95,10 +101,12 @@ impl<'a> Machine<'a> {
         requires { IsReplayable (program_of program.now) (arrivals_of arrivals.now) }
         ensures { IfOk result (λ m. running_of m ≡ begun (program_of program.entry.now) (arrivals_of arrivals.entry.now)) }
     {
-        let _ = alloc;
-        let thread = task_in(&program.units[0]);
+        let units = program.units.as_slice();
+        let thread = task_in(units);
+        let progress = Progress::new(alloc, thread)?;
         Ok(Machine {
-            thread,
+            units,
+            progress,
             costs: program.costs,
             until: arrivals.until,
             time: 0,
@@ -107,7 +115,6 @@ impl<'a> Machine<'a> {
             stopped: false,
             ready: false,
             next: u64::from(thread.offset),
-            at: 0,
             left: 0,
             used: 0,
             works: 0,
@@ -125,8 +132,9 @@ impl<'a> Machine<'a> {
         ensures system { (running_of self.new).system ≡ (running_of self.old).system }
         ensures turned { Turned result events.new (running_of self.new) }
         ensures falls { FallsAt result (left (running_of self.old)) (left (running_of self.new)) }
-        // So far the events are those of the first unit, and it calls nothing.
-        ensures first { Each IsOfFirst events.new }
+        // The events are of the program that runs.
+        ensures placed { (p : Program) (a : Arriving) → (running_of self.old).system ≡ system p a → Each (IsPlaced p) events.new }
+        // So far nothing is called.
         ensures keeps { KeepsCeilings result }
     {
         'steps: loop {
@@ -145,7 +153,9 @@ impl<'a> Machine<'a> {
     fn step(&mut self) -> Option<Event>
         requires { self.old.stopped ≡ false }
         ensures steps { Steps (running_of self.old) (option_to_list result) (running_of self.new) }
-        ensures falls { Falls (running_of self.old) (running_of self.new) }
+        ensures falls { Falls (running_of self.old) (option_to_list result) (running_of self.new) }
+        ensures nears { Nears (running_of self.old) result (running_of self.new) }
+        ensures of { AreOf self.old.progress.thread.unit result }
         ensures leads { Leads result (running_of self.new) }
     {
         match self.phase {
@@ -159,32 +169,58 @@ impl<'a> Machine<'a> {
         }
     }
 
-    /// Effects: the end of the statement whose ticks are used up.
+    /// Effects: those of the piece whose ticks are used up, where the task used the tick before.
     fn effects(&mut self) -> Option<Event>
         requires phase { self.old.phase ≡ Phase.Effects }
         requires goes_on { self.old.stopped ≡ false }
         ensures moves { Moves states.Effects (running_of self.old) (option_to_list result) (running_of self.new) }
-        ensures falls { Falls (running_of self.old) (running_of self.new) }
+        ensures falls { Falls (running_of self.old) (option_to_list result) (running_of self.new) }
+        ensures nears { Nears (running_of self.old) result (running_of self.new) }
+        ensures of { AreOf self.old.progress.thread.unit result }
         ensures leads { Leads result (running_of self.new) }
     {
-        if !self.ran || !self.ready || self.left > 0 {
-            self.phase = Phase::Delays;
-            return None;
+        match self.progress.piece {
+            Some(piece) if self.ran && self.left == 0 => self.effect(piece),
+            _ => {
+                self.phase = Phase::Delays;
+                None
+            }
         }
-        if self.at < self.thread.stmts.len() {
-            self.at += 1;
-            let start = start_at(&self.costs, self.thread.stmts, self.at);
-            self.left = start.ticks;
-            self.works += start.works;
-            return None;
+    }
+
+    /// The effect of the piece that has started.
+    fn effect(&mut self, piece: Piece<'a>) -> Option<Event>
+        requires phase { self.old.phase ≡ Phase.Effects }
+        requires goes_on { self.old.stopped ≡ false }
+        requires piece { self.old.progress.piece ≡ Some piece }
+        requires ran { self.old.ran ≡ true }
+        requires used { self.old.left ≡ 0 }
+        ensures moves { Moves states.Effects (running_of self.old) (option_to_list result) (running_of self.new) }
+        ensures falls { Falls (running_of self.old) (option_to_list result) (running_of self.new) }
+        ensures nears { Nears (running_of self.old) result (running_of self.new) }
+        ensures of { AreOf self.old.progress.thread.unit result }
+        ensures leads { Leads result (running_of self.new) }
+    {
+        let act = self.progress.act(piece);
+        let start = self.progress.start(&self.costs);
+        self.left = start.ticks;
+        self.works += start.works;
+        match act {
+            Act::Silent => None,
+            Act::Print(value) => Some(Event::Print {
+                time: self.time,
+                task: self.progress.thread.unit,
+                value,
+            }),
+            Act::Finish => {
+                self.ready = false;
+                Some(Event::End {
+                    time: self.time,
+                    task: self.progress.thread.unit,
+                    used: self.used,
+                })
+            }
         }
-        self.ready = false;
-        self.left = 0;
-        Some(Event::End {
-            time: self.time,
-            task: 0,
-            used: self.used,
-        })
     }
 
     /// Delays: the release of the task, where its time has come.
@@ -192,24 +228,27 @@ impl<'a> Machine<'a> {
         requires phase { self.old.phase ≡ Phase.Delays }
         requires goes_on { self.old.stopped ≡ false }
         ensures moves { Moves states.Delays (running_of self.old) (option_to_list result) (running_of self.new) }
-        ensures falls { Falls (running_of self.old) (running_of self.new) }
+        ensures falls { Falls (running_of self.old) (option_to_list result) (running_of self.new) }
+        ensures nears { Nears (running_of self.old) result (running_of self.new) }
+        ensures of { AreOf self.old.progress.thread.unit result }
         ensures leads { Leads result (running_of self.new) }
     {
         if self.ready || self.next > self.time {
             self.phase = Phase::Arriving;
             return None;
         }
-        self.ready = true;
-        self.next += u64::from(self.thread.period);
-        self.order += 1;
-        self.used = 0;
-        self.at = 0;
-        let start = start_at(&self.costs, self.thread.stmts, self.at);
+        let period = u64::from(self.progress.thread.period);
+        self.progress.begin();
+        let start = self.progress.start(&self.costs);
         self.left = start.ticks;
         self.works += start.works;
+        self.ready = true;
+        self.next += period;
+        self.order += 1;
+        self.used = 0;
         Some(Event::Release {
             time: self.time,
-            task: 0,
+            task: self.progress.thread.unit,
             value: None,
         })
     }
@@ -219,7 +258,9 @@ impl<'a> Machine<'a> {
         requires phase { self.old.phase ≡ Phase.Arriving }
         requires goes_on { self.old.stopped ≡ false }
         ensures moves { Moves states.Arriving (running_of self.old) (option_to_list result) (running_of self.new) }
-        ensures falls { Falls (running_of self.old) (running_of self.new) }
+        ensures falls { Falls (running_of self.old) (option_to_list result) (running_of self.new) }
+        ensures nears { Nears (running_of self.old) result (running_of self.new) }
+        ensures of { AreOf self.old.progress.thread.unit result }
         ensures leads { Leads result (running_of self.new) }
     {
         if self.time == self.until {
@@ -235,7 +276,8 @@ impl<'a> Machine<'a> {
         requires phase { self.old.phase ≡ Phase.Use }
         requires goes_on { self.old.stopped ≡ false }
         ensures moves { Moves states.Use (running_of self.old) [] (running_of self.new) }
-        ensures falls { Falls (running_of self.old) (running_of self.new) }
+        ensures falls { Falls (running_of self.old) [] (running_of self.new) }
+        ensures nears { Nears (running_of self.old) None (running_of self.new) }
         ensures goes_on { self.new.stopped ≡ false }
     {
         self.phase = Phase::Effects;

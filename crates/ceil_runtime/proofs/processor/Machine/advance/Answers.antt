@@ -1,6 +1,8 @@
-use Rattle.std.proofs.Common.{[], arith}
+use Rattle.std.proofs.Common.{[], arith, ap, sym, ◌∙◌}
 use Rattle.ceil_runtime.specs.Shown.{running_of}
+use Rattle.ceil_runtime.specs.Written.{thread_of}
 use Rattle.ceil_runtime.proofs.Reaching.{reaches-more, reaches-event}
+use Rattle.ceil_runtime.proofs.Placing.{event-placed}
 use Rattle.ceil_runtime.proofs.processor.Machine.advance.Goals as goal
 
 pub returns-then-self-clause-rest : goal.returns-then-self-clause-rest
@@ -18,3 +20,7 @@ steps-preserved c = record {
   within = omega (arith, c.steps.invariant.within, c.in_default.ensures.falls c.in_default.ensures.leads);
   reached = reaches-more _ _ (running_of c.step.new.self) [] [] c.steps.invariant.reached c.in_default.ensures.steps;
 }
+
+pub returns-else-self-clause-placed : goal.returns-else-self-clause-placed
+returns-else-self-clause-placed c = λ p a runs.
+    event-placed p a (thread_of c.steps.self.progress.thread) [] c.in-Some.event _ c.push.new.self c.steps.invariant.empty c.push.ensures (ap (λ y. y.threads) (sym (c.steps.invariant.reached.system ∙ runs))) c.in-Some.ensures.of

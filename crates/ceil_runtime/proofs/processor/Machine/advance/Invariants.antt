@@ -1,6 +1,6 @@
 use Rattle.std.proofs.Common.{◌≡◌, ◌≤◌, [], false}
 use Rattle.ceil_runtime.specs.Shown.{running_of}
-use Rattle.ceil_runtime.specs.Left.{left}
+use Rattle.ceil_runtime.specs.Left.{left, steps_left}
 use Rattle.ceil_runtime.proofs.Reaching.{Reaches}
 use Rattle.ceil_runtime.proofs.processor.Machine.advance.Given as goal
 
@@ -14,4 +14,4 @@ invariant-steps l = record {
 }
 
 abbrev pub decreases-steps : goal.decreases-steps
-decreases-steps l = left (running_of l.self)
+decreases-steps l = steps_left (running_of l.self)

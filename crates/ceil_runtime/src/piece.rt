@@ -1,0 +1,108 @@
+ghost use Rattle.std.specs.Prelude.{◌≡◌, ℕ, IfSome};
+ghost use Rattle.seq_tree.specs.Trees.{statement_of};
+ghost use Rattle.ceil_runtime.specs.Progresses.{Starts};
+ghost use Rattle.ceil_runtime.specs.Fitting.{FitsPiece, FitsSomehow, FitsStatement};
+
+use seq_tree::{Arm, Block, Expr, Name, Stmt};
+
+/// The turn of a loop at a value, up to the last one.
+#[derive(Clone, Copy, Drop)]
+pub struct Round<'a> {
+    pub name: &'a Name,
+    pub at: u32,
+    pub last: u32,
+    pub body: &'a Block,
+}
+
+/// A piece of what a task has left to do.
+#[derive(Clone, Copy, Drop)]
+pub enum Piece<'a> {
+    /// A `null;`.
+    Idle,
+    /// An assignment.
+    Store {
+        target: &'a Name,
+        value: &'a Expr,
+    },
+    /// An `exit when`.
+    Leaving(&'a Expr),
+    /// A call.
+    Calling {
+        object: &'a Name,
+        op: &'a Name,
+        actuals: &'a [Expr],
+    },
+    /// A `work` of so many ticks.
+    Working(u32),
+    /// A `put`.
+    Printing(&'a Expr),
+    /// The test of an arm of an `if`, with the arms behind it and the `else`.
+    Testing {
+        arm: &'a Arm,
+        arms: &'a [Arm],
+        other: &'a Option<Block>,
+    },
+    /// The beginning of a turn.
+    Turning(Round<'a>),
+    /// The end of a turn.
+    Turned(Round<'a>),
+    /// The end of the activation.
+    Finishing,
+}
+
+/// What stands behind the piece that has started.
+#[derive(Clone, Copy, Default, Drop)]
+pub enum Frame<'a> {
+    /// The end of the activation.
+    #[default]
+    Finish,
+    /// What is left of a block.
+    Stmts(&'a [Stmt]),
+    /// The end of a turn.
+    Turned(Round<'a>),
+}
+
+/// The first piece of a statement, and None of a loop without a turn.
+pub fn first_piece<'a>(stmt: &'a Stmt) -> Option<Piece<'a>>
+    requires { FitsSomehow (statement_of stmt.now) }
+    ensures starts { Starts (statement_of stmt.now) result }
+    ensures fits { (room : ℕ) → FitsStatement room (statement_of stmt.now) → IfSome result (FitsPiece room) }
+{
+    match stmt {
+        Stmt::Null => Some(Piece::Idle),
+        Stmt::Assign { target, value } => Some(Piece::Store { target, value }),
+        Stmt::If { arms, other } => match arms.as_slice().split_first() {
+            Some((arm, arms)) => Some(Piece::Testing { arm, arms, other }),
+            None => unreachable!(),
+        },
+        Stmt::For {
+            name,
+            low,
+            high,
+            body,
+        } => {
+            if low <= high {
+                Some(Piece::Turning(Round {
+                    name,
+                    at: *low,
+                    last: *high,
+                    body,
+                }))
+            } else {
+                None
+            }
+        }
+        Stmt::ExitWhen(condition) => Some(Piece::Leaving(condition)),
+        Stmt::Call {
+            object,
+            op,
+            actuals,
+        } => Some(Piece::Calling {
+            object,
+            op,
+            actuals: actuals.as_slice(),
+        }),
+        Stmt::Work(ticks) => Some(Piece::Working(*ticks)),
+        Stmt::Put(value) => Some(Piece::Printing(value)),
+    }
+}

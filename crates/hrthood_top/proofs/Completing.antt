@@ -1,5 +1,5 @@
 -- That a command whose files say what it writes is done, unless memory is wanted or a fault came.
-use Rattle.std.proofs.Common.{◌≡◌, ℕ, List, [], ◌∷◌, length, Option, Some, None, refl, sym, ap, subst, ◌∙◌, arith, inl, inr}
+use Rattle.std.proofs.Common.{◌≡◌, ℕ, List, [], ◌∷◌, length, Option, Some, None, option_map, refl, sym, ap, subst, ◌∙◌, arith, inl, inr}
 use Rattle.hood_io.specs.Shelves.{Told}
 use Rattle.ods_tree.specs.Designs as designs
 use Rattle.ods_tree.specs.Flattening.{flat}
@@ -17,7 +17,11 @@ use Rattle.hrthood_top.specs.declared.status.Status.TheVariants.{Done, Refused, 
 use Rattle.hrthood_top.specs.declared.message.FileKind.{FileKind}
 use Rattle.hrthood_top.specs.declared.message.FileKind.TheVariants.{Design, Ada, Arrivals}
 use Rattle.hrthood_top.specs.declared.message.Refusal.{Refusal}
-use Rattle.hrthood_top.specs.declared.message.Refusal.TheVariants.{TooLong, Syntax, LongText, Rule, Miss}
+use Rattle.hrthood_top.specs.declared.message.Refusal.TheVariants.{TooLong, Syntax, LongText, Rule, Miss, Program}
+use Rattle.ada_read.proofs.ReadingLaws.{reads-unfaulty, accepts-unbroken}
+use Rattle.hrthood_top.specs.declared.message.ProgramRefusal.{ProgramRefusal}
+use Rattle.hrthood_top.specs.declared.message.ProgramRefusal.TheVariants.{Text, Unit, NotRun}
+use Rattle.hrthood_top.specs.Replays.{Replays, IsRefused, first_passive}
 use Rattle.hrthood_top.specs.Words.{Command, Generate, Replay}
 use Rattle.hrthood_top.specs.Files.{Holds, IsTooLong}
 use Rattle.hrthood_top.specs.Ends.{Outside, Writes, Refuses, EndsCommand, CompletesCommand, Ends, Completes}
@@ -69,6 +73,15 @@ not_long bytes bytes' text_made same w h =
     let equal : length (text h.design h.bounds) ≡ length text_made = ap (λ z. L z h.bounds) one ∙ ap (L w.design) bounds ∙ sym (ap length w.made) in
     let long = h.long in let short = w.short in omega (arith, equal)
 
+-- an Ada text that is replayed is not refused
+replayed_not_refused : (ada arrivals written : List ℕ) (refusal : ProgramRefusal) → Replays ada arrivals written → IsRefused ada refusal → ⊥
+replayed_not_refused ada arrivals written (Text fault) w h = reads-unfaulty ada w.program fault w.sequential w.accepts.reads h
+replayed_not_refused ada arrivals written (Unit rule unit) w h = accepts-unbroken ada w.program rule unit w.sequential w.accepts h
+replayed_not_refused ada arrivals written (NotRun unit) w h =
+    let same : w.program ≡ h.program = h.alone w.program w.sequential w.accepts in
+    let none : option_map (λ u. u.name) (first_passive h.program) ≡ None = rw (← same, w.all_run) refl in
+    let first = h.first in cc
+
 -- what a command writes and why it is refused exclude each other
 not_refused : (t : Told) (c : Command) (text : List ℕ) (refusal : Refusal) → Writes t c text → Refuses t c refusal → ⊥
 not_refused t (Generate d) text (TooLong Design) w h = not_too_long t Design d w.0 w.1 h
@@ -84,6 +97,7 @@ not_refused t (Generate d) text (TooLong Ada) w h = absurd h
 not_refused t (Generate d) text (TooLong Arrivals) w h = absurd h
 not_refused t (Generate d) text (Syntax Ada) w h = absurd h
 not_refused t (Generate d) text (Syntax Arrivals) w h = absurd h
+not_refused t (Generate d) text (Program refusal) w h = absurd h
 not_refused t (Replay a r) text (TooLong Design) w h = absurd h
 not_refused t (Replay a r) text (Syntax Design) w h = absurd h
 not_refused t (Replay a r) text LongText w h = absurd h
@@ -91,13 +105,15 @@ not_refused t (Replay a r) text (Rule broken) w h = absurd h
 not_refused t (Replay a r) text (Miss thread miss) w h = absurd h
 not_refused t (Replay a r) text (TooLong Ada) w h = not_too_long t Ada a w.0 w.2 h
 not_refused t (Replay a r) text (TooLong Arrivals) w h = not_too_long t Arrivals r w.1 w.3 h.2
-not_refused t (Replay a r) text (Syntax Ada) w h =
+not_refused t (Replay a r) text (Syntax Ada) w h = absurd h
+not_refused t (Replay a r) text (Program refusal) w h =
     let same : w.0 ≡ h.0 = one_file t a w.0 h.0 w.2.0 h.2.0 in
-    h.4 w.4.program w.4.usable (rw (← same) w.4.accepts)
+    let P : List ℕ → Type 0 = λ ada. Replays ada w.1 text in
+    replayed_not_refused h.0 w.1 text refusal (subst P same w.4) h.4
 not_refused t (Replay a r) text (Syntax Arrivals) w h =
     let same : w.0 ≡ h.0 = one_file t a w.0 h.0 w.2.0 h.2.0 in
     let same' : w.1 ≡ h.1 = one_file t r w.1 h.1 w.3.0 h.3.0 in
-    h.4.none w.4.program w.4.usable (rw (← same) w.4.accepts) w.4.under w.4.horizon_alone (rw (← same') w.4.arrives)
+    h.4.none w.4.program w.4.sequential (rw (← same) w.4.accepts) w.4.under w.4.horizon_alone (rw (← same') w.4.arrives)
 
 -- each end is one of the two
 completed_told : (status : Status) (c : Command) (x y : Outside) (told : Option Told) → x.told ≡ told → EndsCommand status c x y → CompletesCommand status c x y

@@ -6,7 +6,7 @@ use Rattle.hood_io.specs.Shelves.{Told, Entry}
 use Rattle.hrthood_top.specs.declared.message.FileKind.{FileKind}
 use Rattle.hrthood_top.specs.declared.message.FileKind.TheVariants.{Design, Ada, Arrivals}
 use Rattle.hrthood_top.specs.Files.{Holds, IsTooLong, fetched, failed, grown}
-use Rattle.hrthood_top.specs.declared.message.Refusal.TheVariants.{TooLong, Syntax, LongText, Rule, Miss}
+use Rattle.hrthood_top.specs.declared.message.Refusal.TheVariants.{TooLong, Syntax, LongText, Rule, Miss, Program}
 use Rattle.hrthood_top.specs.declared.fetch.Stop.{Stop}
 use Rattle.hrthood_top.specs.declared.fetch.Stop.TheVariants.{Refused, ReadFault, NoMemory}
 use Rattle.hrthood_top.specs.Words.{Generate, Replay}
@@ -45,6 +45,7 @@ one_stops view (Refused (TooLong Design)) d told told' faults faults' h = (h.1, 
 one_stops view (Refused (TooLong Ada)) d told told' faults faults' h = absurd (let e = h.0 in cc)
 one_stops view (Refused (TooLong Arrivals)) d told told' faults faults' h = absurd (let e = h.0 in cc)
 one_stops view (Refused (Syntax kind)) d told told' faults faults' h = absurd h
+one_stops view (Refused (Program refusal)) d told told' faults faults' h = absurd h
 one_stops view (Refused LongText) d told told' faults faults' h = absurd h
 one_stops view (Refused (Rule broken)) d told told' faults faults' h = absurd h
 one_stops view (Refused (Miss thread miss)) d told told' faults faults' h = absurd h
@@ -71,6 +72,7 @@ one_generated view (Err (Refused (Miss thread miss))) d bytes told told' faults 
     (if_some-map told (λ t. Holds t Design d bytes) (λ t. Refuses t (Generate d) (Miss thread miss)) f (λ t p. (bytes, p, h)), log)
 one_generated view (Err (Refused LongText)) d bytes told told' faults faults' f log h =
     (if_some-map told (λ t. Holds t Design d bytes) (λ t. Refuses t (Generate d) LongText) f (λ t p. (bytes, p, h)), log)
+one_generated view (Err (Refused (Program refusal))) d bytes told told' faults faults' f log h = absurd h
 one_generated view (Err (Refused (Syntax Ada))) d bytes told told' faults faults' f log h = absurd h
 one_generated view (Err (Refused (Syntax Arrivals))) d bytes told told' faults faults' f log h = absurd h
 one_generated view (Err (Refused (TooLong kind))) d bytes told told' faults faults' f log h = absurd h
@@ -84,6 +86,7 @@ first_stops view (Refused (TooLong Ada)) a r told told' faults faults' h = (h.1,
 first_stops view (Refused (TooLong Design)) a r told told' faults faults' h = absurd (let e = h.0 in cc)
 first_stops view (Refused (TooLong Arrivals)) a r told told' faults faults' h = absurd (let e = h.0 in cc)
 first_stops view (Refused (Syntax kind)) a r told told' faults faults' h = absurd h
+first_stops view (Refused (Program refusal)) a r told told' faults faults' h = absurd h
 first_stops view (Refused LongText) a r told told' faults faults' h = absurd h
 first_stops view (Refused (Rule broken)) a r told told' faults faults' h = absurd h
 first_stops view (Refused (Miss thread miss)) a r told told' faults faults' h = absurd h
@@ -106,6 +109,7 @@ second_stops view view' x (Refused (TooLong Arrivals)) a r told told' told'' fau
   grown-after told told' told'' (fetched (a ∷ [])) (fetched (r ∷ [])) f.2 h.2,
 )
 second_stops view view' x (Refused (Syntax kind)) a r told told' told'' faults faults' faults'' later f h = absurd h
+second_stops view view' x (Refused (Program refusal)) a r told told' told'' faults faults' faults'' later f h = absurd h
 second_stops view view' x (Refused LongText) a r told told' told'' faults faults' faults'' later f h = absurd h
 second_stops view view' x (Refused (Rule broken)) a r told told' told'' faults faults' faults'' later f h = absurd h
 second_stops view view' x (Refused (Miss thread miss)) a r told told' told'' faults faults' faults'' later f h = absurd h
@@ -141,8 +145,9 @@ pub both_replayed : {X : Type 0} (view : X → List ℕ) (result : Result X Stop
     AreFetched told told' a r ada arrivals → Replayed view result ada arrivals → Prepares view result (Replay a r) told told' faults faults'
 both_replayed view (Ok x) a r ada arrivals told told' faults faults' f h =
     (if_some-both told (λ t. Holds t Ada a ada) (λ t. Holds t Arrivals r arrivals) (λ t. Writes t (Replay a r) (view x)) f.first f.second (λ t p q. (ada, arrivals, p, q, h)), f.log)
-both_replayed view (Err (Refused (Syntax Ada))) a r ada arrivals told told' faults faults' f h =
-    (if_some-both told (λ t. Holds t Ada a ada) (λ t. Holds t Arrivals r arrivals) (λ t. Refuses t (Replay a r) (Syntax Ada)) f.first f.second (λ t p q. (ada, arrivals, p, q, h)), f.log)
+both_replayed view (Err (Refused (Program refusal))) a r ada arrivals told told' faults faults' f h =
+    (if_some-both told (λ t. Holds t Ada a ada) (λ t. Holds t Arrivals r arrivals) (λ t. Refuses t (Replay a r) (Program refusal)) f.first f.second (λ t p q. (ada, arrivals, p, q, h)), f.log)
+both_replayed view (Err (Refused (Syntax Ada))) a r ada arrivals told told' faults faults' f h = absurd h
 both_replayed view (Err (Refused (Syntax Arrivals))) a r ada arrivals told told' faults faults' f h =
     (if_some-both told (λ t. Holds t Ada a ada) (λ t. Holds t Arrivals r arrivals) (λ t. Refuses t (Replay a r) (Syntax Arrivals)) f.first f.second (λ t p q. (ada, arrivals, p, q, h)), f.log)
 both_replayed view (Err (Refused (Syntax Design))) a r ada arrivals told told' faults faults' f h = absurd h

@@ -3,3 +3,4 @@ pub mod Fetching
 pub mod Completing
 pub mod Replaying
 pub mod Tracing
+pub mod Silence

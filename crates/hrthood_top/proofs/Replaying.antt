@@ -25,7 +25,7 @@ accepted_text bytes text w =
 right_trace : (bytes text arrivals written : List ℕ) → IsTextFor bytes text → Replays text arrivals written → IsRightTrace bytes arrivals written
 right_trace bytes text arrivals written w h =
     let right = right_replay horizon_limit w.design text w.bounds h.program h.under h.trace.told w.read.usable w.meets w.least.fits (accepted_text bytes text w)
-    h.usable h.accepts h.arrives.accepted h.trace.means in
+    h.sequential h.accepts h.arrives.accepted h.trace.means in
     record {
       of = w.design;
       read = w.read;

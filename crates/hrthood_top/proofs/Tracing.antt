@@ -2,13 +2,9 @@
 use Rattle.std.proofs.Common.{◌≡◌, ℕ, zero, suc, true, ◌+◌, ◌<◌, List, [], ◌∷◌, ◌++◌, length, drop, get_or, refl, ap, subst, ◌∙◌, arith, append_assoc, append-nil, drop-cons, add-one}
 use Rattle.std.proofs.lemmas.List.Concat.{flat_map-append}
 use Rattle.ada_tree.specs.Proper.{Each}
-use Rattle.ada_tree.specs.Programs.{Program, Unit}
-use Rattle.ada_tree.specs.InUse.{IsUsableProgram, AreUsableUnits}
+use Rattle.ada_tree.specs.Programs.{Program}
 use Rattle.trace_text.specs.declared.event.Event.{Event}
-use Rattle.trace_text.specs.declared.event.Event.TheVariants as event
 use Rattle.trace_text.specs.Lines.{line, lines}
-use Rattle.trace_text.specs.Placed.{IsPlaced}
-use Rattle.ceil_runtime.specs.Turns.{IsOfFirst}
 use Rattle.arrivals_read.specs.Arriving.{Arrivals}
 use Rattle.machine.specs.Meanings.{Running, Tells, begun}
 use Rattle.hrthood_top.specs.Replays.{IsTrace}
@@ -25,27 +21,6 @@ pub lines-next : (p : Program) (es : List Event) (i : ℕ) (d : Event) (text tex
 lines-next p es i d text text' front h whole more =
     ap (λ z. z ++ lines p (drop (i + 1) es)) more ∙ append_assoc text (line p (get_or es i d)) (lines p (drop (i + 1) es))
     ∙ ap (λ z. text ++ z) (rw (drop-cons es i d, add-one) refl) ∙ whole
-
--- a usable program has a unit
-some_unit : (us : List Unit) → AreUsableUnits us → 0 < length us
-some_unit [] h = absurd h
-some_unit (u ∷ us) h = omega arith
-
--- events of the first unit are placed
-event-placed : (p : Program) (e : Event) → IsUsableProgram p → IsOfFirst e → IsPlaced p e
-event-placed p (event.Release time task value) u h = rw h (some_unit p.units u)
-event-placed p (event.End time task used) u h = rw h (some_unit p.units u)
-event-placed p (event.Horizon time) u h = tt
-event-placed p (event.Arrive time task value) u h = absurd h
-event-placed p (event.Enter time task unit op values) u h = absurd h
-event-placed p (event.Leave time task unit op values) u h = absurd h
-event-placed p (event.Request time task target value) u h = absurd h
-event-placed p (event.Print time task value) u h = absurd h
-event-placed p (event.Stop time task unit priority ceiling) u h = absurd h
-
-pub events-placed : (p : Program) (es : List Event) → IsUsableProgram p → Each IsOfFirst es → Each (IsPlaced p) es
-events-placed p [] u h = tt
-events-placed p (e ∷ es) u h = (event-placed p e u h.0, events-placed p es u h.1)
 
 -- what was told so far is written, and what is told from here on comes behind it
 pub record SoFar (p : Program) (first now : Running) (text : List ℕ) : Type 0 where

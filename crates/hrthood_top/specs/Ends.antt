@@ -10,14 +10,14 @@ use Rattle.hrthood_top.specs.declared.status.Status.{Status}
 use Rattle.hrthood_top.specs.declared.status.Status.TheVariants.{Done, Refused, Usage, ReadFault, WriteFault, NoMemory}
 use Rattle.hrthood_top.specs.declared.message.FileKind.TheVariants.{Design, Ada, Arrivals}
 use Rattle.hrthood_top.specs.declared.message.Refusal.{Refusal}
-use Rattle.hrthood_top.specs.declared.message.Refusal.TheVariants.{TooLong, Syntax, LongText, Rule, Miss}
+use Rattle.hrthood_top.specs.declared.message.Refusal.TheVariants.{TooLong, Syntax, LongText, Rule, Miss, Program}
 use Rattle.hrthood_top.specs.declared.message.Message.TheVariants as message
 use Rattle.hrthood_top.specs.Words.{Command, Generate, Replay, file_names}
 use Rattle.hrthood_top.specs.Messages.{message_line, fault_line}
 use Rattle.hrthood_top.specs.Tells.{Tells}
 use Rattle.hrthood_top.specs.Files.{Holds, IsTooLong, fetched, failed, grown}
 use Rattle.hrthood_top.specs.Generates.{IsNoDesign}
-use Rattle.hrthood_top.specs.Replays.{Replays, IsNoAda, IsAdaAlone}
+use Rattle.hrthood_top.specs.Replays.{Replays, IsRefused, IsAdaAlone}
 
 -- what stands outside: what the shelf tells and the count of its faults, and for standard output and standard error
 -- what was written and the count of faults
@@ -55,10 +55,12 @@ Refuses t (Generate d) (TooLong Ada) = ⊥
 Refuses t (Generate d) (TooLong Arrivals) = ⊥
 Refuses t (Generate d) (Syntax Ada) = ⊥
 Refuses t (Generate d) (Syntax Arrivals) = ⊥
+Refuses t (Generate d) (Program refusal) = ⊥
 Refuses t (Replay a r) (TooLong Ada) = IsTooLong t Ada a
 Refuses t (Replay a r) (TooLong Arrivals) = (ada : List ℕ) × Holds t Ada a ada × IsTooLong t Arrivals r
-Refuses t (Replay a r) (Syntax Ada) =
-    (ada : List ℕ) × (arrivals : List ℕ) × Holds t Ada a ada × Holds t Arrivals r arrivals × IsNoAda ada
+Refuses t (Replay a r) (Program refusal) =
+    (ada : List ℕ) × (arrivals : List ℕ) × Holds t Ada a ada × Holds t Arrivals r arrivals × IsRefused ada refusal
+Refuses t (Replay a r) (Syntax Ada) = ⊥
 Refuses t (Replay a r) (Syntax Arrivals) =
     (ada : List ℕ) × (arrivals : List ℕ) × Holds t Ada a ada × Holds t Arrivals r arrivals
     × IsAdaAlone ada arrivals

@@ -3,7 +3,7 @@ use Rattle.std.specs.Prelude.{◌≡◌, ℕ, ◌≤◌, List, [], ◌∷◌, le
 use Rattle.hood_io.specs.Causes.{Rose}
 use Rattle.hood_io.specs.Shelves.{Told}
 use Rattle.hrthood_top.specs.declared.message.FileKind.{FileKind}
-use Rattle.hrthood_top.specs.declared.message.Refusal.TheVariants.{TooLong, Syntax, LongText, Rule, Miss}
+use Rattle.hrthood_top.specs.declared.message.Refusal.TheVariants.{TooLong, Syntax, LongText, Rule, Miss, Program}
 use Rattle.hrthood_top.specs.declared.fetch.Stop.{Stop}
 use Rattle.hrthood_top.specs.declared.fetch.Stop.TheVariants.{Refused, ReadFault, NoMemory}
 use Rattle.hrthood_top.specs.Files.{Holds, IsTooLong, fetched, failed, grown, limit_of}
@@ -15,6 +15,7 @@ Fetches view (Ok x) kind name told told' faults faults' =
 Fetches view (Err (Refused (TooLong over))) kind name told told' faults faults' =
     (over ≡ kind) × IfSome told (λ t. IsTooLong t kind name) × (told' ≡ grown told (fetched (name ∷ [])))
 Fetches view (Err (Refused (Syntax over))) kind name told told' faults faults' = ⊥
+Fetches view (Err (Refused (Program refusal))) kind name told told' faults faults' = ⊥
 Fetches view (Err (Refused LongText)) kind name told told' faults faults' = ⊥
 Fetches view (Err (Refused (Rule broken))) kind name told told' faults faults' = ⊥
 Fetches view (Err (Refused (Miss thread miss))) kind name told told' faults faults' = ⊥

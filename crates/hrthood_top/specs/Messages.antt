@@ -1,8 +1,15 @@
 -- The one line that tells why a command was not done.
 -- The lines are this project's own.
-use Rattle.std.specs.Prelude.{ℕ, List, ◌++◌, codes, decimal, flat_map, Some, None}
+use Rattle.std.specs.Prelude.{◌≡◌, ℕ, List, [], ◌++◌, codes, decimal, flat_map, Option, Some, None}
 use Rattle.std.specs.Borrow.{Bor}
 use Rattle.seq_tree.specs.Names.{Name}
+use Rattle.seq_tree.specs.declared.token.Place.{Place}
+use Rattle.seq_tree.specs.declared.text_fault.TextFault.{TextFault}
+use Rattle.seq_tree.specs.declared.text_fault.TextFault.TheVariants as fault
+use Rattle.seq_check.specs.declared.fault.BodyFault.{BodyFault}
+use Rattle.seq_check.specs.declared.fault.BodyFault.TheVariants as body
+use Rattle.ada_rules.specs.declared.verdict.AdaRule.{AdaRule}
+use Rattle.ada_rules.specs.declared.verdict.AdaRule.TheVariants as rules
 use Rattle.ods_rules.specs.declared.broken.Broken.{Broken}
 use Rattle.ods_rules.specs.declared.broken.Broken.TheVariants as rule
 use Rattle.rt_response.specs.declared.rows.Limit.{Limit}
@@ -11,7 +18,9 @@ use Rattle.rt_response.specs.declared.rows.Miss as rows
 use Rattle.hrthood_top.specs.declared.message.FileKind.{FileKind}
 use Rattle.hrthood_top.specs.declared.message.FileKind.TheVariants.{Design, Ada, Arrivals}
 use Rattle.hrthood_top.specs.declared.message.Refusal.{Refusal}
-use Rattle.hrthood_top.specs.declared.message.Refusal.TheVariants.{TooLong, Syntax, LongText, Rule, Miss}
+use Rattle.hrthood_top.specs.declared.message.Refusal.TheVariants.{TooLong, Syntax, LongText, Rule, Miss, Program}
+use Rattle.hrthood_top.specs.declared.message.ProgramRefusal.{ProgramRefusal}
+use Rattle.hrthood_top.specs.declared.message.ProgramRefusal.TheVariants.{Text, Unit, NotRun}
 use Rattle.hrthood_top.specs.declared.message.Message.{Message}
 use Rattle.hrthood_top.specs.declared.message.Message.TheVariants.{Usage, Refused, ReadFault, WriteFault, NoMemory}
 
@@ -48,6 +57,70 @@ miss_line thread m =
     codes "refused " ++ (limit_text m.which ++ (thread ++ (codes " value " ++ (decimal m.value ++ (codes " limit " ++ (decimal m.limit
     ++ (codes " round " ++ (decimal m.round ++ codes "\n"))))))))
 
+-- a place, at the end of a line
+abbrev pub place_text : Place → List ℕ
+place_text p = codes " ada line " ++ (decimal p.line ++ (codes " column " ++ (decimal p.column ++ codes "\n")))
+
+-- the line of what is wrong with an Ada text; a file that is too long and want of memory are never told so
+abbrev pub text_line : TextFault → List ℕ
+text_line (fault.Byte place) = codes "refused L1" ++ place_text place
+text_line (fault.Number place) = codes "refused L2" ++ place_text place
+text_line (fault.Long place) = codes "refused L3" ++ place_text place
+text_line (fault.Syntax place) = codes "refused S1" ++ place_text place
+text_line (fault.TooDeep place) = codes "refused S2" ++ place_text place
+text_line fault.FileTooLong = codes "refused\n"
+text_line fault.NoMemory = codes "refused\n"
+
+-- the code of what is wrong with an Ada text, and its place
+abbrev pub FaultAt : TextFault → Option (List ℕ × Place) → Type 0
+FaultAt f None = text_line f ≡ codes "refused\n"
+FaultAt f (Some told) = text_line f ≡ told.0 ++ place_text told.1
+
+-- the code of a rule of a program
+abbrev pub rule_text : AdaRule → List ℕ
+rule_text rules.G1 = codes "G1"
+rule_text rules.G2 = codes "G2"
+rule_text rules.G3 = codes "G3"
+rule_text (rules.G4 fault) = codes "G4"
+rule_text rules.G5 = codes "G5"
+rule_text rules.G6 = codes "G6"
+
+-- the code of a fault of a body, behind its unit; want of memory is no fault, and is never told so
+abbrev pub body_text : BodyFault → List ℕ
+body_text body.Unknown = codes " B1"
+body_text body.Sort = codes " B2"
+body_text body.Divisor = codes " B3"
+body_text body.Exit = codes " B4"
+body_text body.Assigned = codes " B5"
+body_text body.Actual = codes " B6"
+body_text body.Count = codes " B7"
+body_text body.NoMemory = []
+
+-- the same, of a rule
+abbrev pub fault_text : AdaRule → List ℕ
+fault_text (rules.G4 fault) = body_text fault
+fault_text _ = []
+
+-- what stands before the name of a unit
+abbrev pub gap_text : Option Name → List ℕ
+gap_text None = []
+gap_text (Some name) = codes " "
+
+-- the name of a unit, where one is told
+abbrev pub unit_text : Option Name → List ℕ
+unit_text None = []
+unit_text (Some name) = name
+
+-- the line of a rule that a program breaks
+abbrev pub unit_line : AdaRule → Option Name → List ℕ
+unit_line rule unit = codes "refused " ++ (rule_text rule ++ (gap_text unit ++ (unit_text unit ++ (fault_text rule ++ codes "\n"))))
+
+-- the line of an Ada text that is not replayed
+abbrev pub program_line : ProgramRefusal → List ℕ
+program_line (Text fault) = text_line fault
+program_line (Unit rule unit) = unit_line rule unit
+program_line (NotRun unit) = codes "refused N1 " ++ (unit ++ codes "\n")
+
 -- the line of a refusal
 abbrev pub refusal_line : Refusal → List ℕ
 refusal_line (TooLong kind) = codes "refused S3 " ++ (kind_text kind ++ codes "\n")
@@ -55,6 +128,7 @@ refusal_line (Syntax kind) = codes "refused S1 " ++ (kind_text kind ++ codes "\n
 refusal_line LongText = codes "refused S3 text\n"
 refusal_line (Rule broken) = rule_line broken
 refusal_line (Miss thread miss) = miss_line thread miss
+refusal_line (Program refusal) = program_line refusal
 
 -- the line of a fault of reading
 abbrev pub fault_line : List ℕ → List ℕ

@@ -12,6 +12,7 @@ mod headline;
 mod message;
 mod prepare;
 mod replay;
+mod runnable;
 mod status;
 #[cfg(test)]
 mod tests;

@@ -1,15 +1,17 @@
-ghost use Rattle.std.specs.Prelude.{◌≡◌, ◌++◌, Some};
+ghost use Rattle.std.specs.Prelude.{◌≡◌, ◌++◌, Some, option_map};
 ghost use Rattle.hood_io.specs.Causes.{HasCause};
 ghost use Rattle.hood_io.specs.Sinks.{Puts};
-ghost use Rattle.hrthood_top.specs.Messages.{joined, message_line, refusal_line, rule_line, miss_line, limit_text, kind_text};
+ghost use Rattle.hrthood_top.specs.Messages.{joined, message_line, refusal_line, rule_line, miss_line, limit_text, kind_text, place_text, text_line, rule_text, body_text, fault_text, gap_text, unit_text, unit_line, program_line, FaultAt};
 ghost use Rattle.hrthood_top.specs.Tells.{Tells};
 ghost use Rattle.ods_rules.specs.declared.broken.Broken.TheVariants.{V14, V15Cost};
 
+use ada_rules::AdaRule;
 use hood_io::{Failed, Sink, put_all};
 use itoa::Buffer;
 use ods_rules::Broken;
 use rt_response::{Limit, Miss};
-use seq_tree::Name;
+use seq_check::BodyFault;
+use seq_tree::{Name, Place, TextFault};
 
 /// What a file is read as.
 #[derive(Clone, Copy, Debug, PartialEq, Eq)]
@@ -24,7 +26,7 @@ pub enum FileKind {
 pub enum Refusal {
     /// It has more bytes than its kind may have.
     TooLong(FileKind),
-    /// It is no text of its kind.
+    /// It is no text of its kind; where is not told.
     Syntax(FileKind),
     /// The text that is to be made has more bytes than an Ada text may have.
     LongText,
@@ -37,6 +39,19 @@ pub enum Refusal {
         /// The value and the limit, in ticks.
         miss: Miss,
     },
+    /// The Ada text is not replayed.
+    Program(ProgramRefusal),
+}
+
+/// Why an Ada text is not replayed.
+#[derive(Drop, Debug)]
+pub enum ProgramRefusal {
+    /// It is no text of a program that is read, for this reason and at this place.
+    Text(TextFault),
+    /// The program breaks this rule first, at this unit; without a unit package `hrt` or the whole list of units does.
+    Unit { rule: AdaRule, unit: Option<Name> },
+    /// The program has a unit whose operations are not run yet: the first one.
+    NotRun { unit: Name },
 }
 
 /// What is told where a command was not done.
@@ -185,6 +200,141 @@ fn put_miss<E: Sink>(err: &mut E, thread: &Name, miss: &Miss) -> Result<(), Fail
     )
 }
 
+/// The code of what is wrong with an Ada text, and its place.
+fn fault_of(fault: TextFault) -> Option<(&'static [u8], Place)>
+    ensures { FaultAt fault (option_map (λ p. (p.0.now, p.1)) result) }
+{
+    match fault {
+        TextFault::Byte(place) => Some((b"refused L1", place)),
+        TextFault::Number(place) => Some((b"refused L2", place)),
+        TextFault::Long(place) => Some((b"refused L3", place)),
+        TextFault::Syntax(place) => Some((b"refused S1", place)),
+        TextFault::TooDeep(place) => Some((b"refused S2", place)),
+        TextFault::FileTooLong | TextFault::NoMemory => None,
+    }
+}
+
+/// Writes a code and a place of an Ada text; after a failure a proper front of them was written.
+fn put_place<E: Sink>(err: &mut E, code: &[u8], place: Place) -> Result<(), Failed>
+    ensures cause { HasCause (E.faults err.old) (E.faults err.new) result }
+    ensures puts { Puts (E.written err.old) (E.written err.new) (code.now ++ place_text place) result }
+{
+    let mut line = Buffer::new();
+    let mut column = Buffer::new();
+    put_each(
+        err,
+        &[
+            code,
+            b" ada line ".as_slice(),
+            line.format(place.line).as_bytes(),
+            b" column ".as_slice(),
+            column.format(place.column).as_bytes(),
+            b"\n".as_slice(),
+        ],
+    )
+}
+
+/// Writes the line of what is wrong with an Ada text; after a failure a proper front of it was written.
+fn put_fault<E: Sink>(err: &mut E, fault: TextFault) -> Result<(), Failed>
+    ensures cause { HasCause (E.faults err.old) (E.faults err.new) result }
+    ensures puts { Puts (E.written err.old) (E.written err.new) (text_line fault) result }
+{
+    match fault_of(fault) {
+        Some((code, place)) => put_place(err, code, place),
+        None => put_all(err, b"refused\n"),
+    }
+}
+
+/// The code of a rule of a program.
+fn rule_text<'a>(rule: AdaRule) -> &'a [u8]
+    ensures { result.now ≡ rule_text rule }
+{
+    match rule {
+        AdaRule::G1 => b"G1",
+        AdaRule::G2 => b"G2",
+        AdaRule::G3 => b"G3",
+        AdaRule::G4(_) => b"G4",
+        AdaRule::G5 => b"G5",
+        AdaRule::G6 => b"G6",
+    }
+}
+
+/// The code of a fault of a body, behind its unit.
+fn body_text<'a>(fault: BodyFault) -> &'a [u8]
+    ensures { result.now ≡ body_text fault }
+{
+    match fault {
+        BodyFault::Unknown => b" B1",
+        BodyFault::Sort => b" B2",
+        BodyFault::Divisor => b" B3",
+        BodyFault::Exit => b" B4",
+        BodyFault::Assigned => b" B5",
+        BodyFault::Actual => b" B6",
+        BodyFault::Count => b" B7",
+        BodyFault::NoMemory => b"",
+    }
+}
+
+/// The code of the fault of a body that a rule tells.
+fn fault_text<'a>(rule: AdaRule) -> &'a [u8]
+    ensures { result.now ≡ fault_text rule }
+{
+    match rule {
+        AdaRule::G4(fault) => body_text(fault),
+        _ => b"",
+    }
+}
+
+/// What stands before the name of a unit.
+fn gap_text<'a>(unit: &Option<Name>) -> &'a [u8]
+    ensures { result.now ≡ gap_text unit.now }
+{
+    match unit {
+        Some(_) => b" ",
+        None => b"",
+    }
+}
+
+/// The name of a unit, where one is told.
+fn unit_text(unit: &Option<Name>) -> &[u8]
+    ensures { result.now ≡ unit_text unit.now }
+{
+    match unit {
+        Some(name) => name.bytes(),
+        None => b"",
+    }
+}
+
+/// Writes the line of a rule that a program breaks; after a failure a proper front of it was written.
+fn put_unit<E: Sink>(err: &mut E, rule: AdaRule, unit: &Option<Name>) -> Result<(), Failed>
+    ensures cause { HasCause (E.faults err.old) (E.faults err.new) result }
+    ensures puts { Puts (E.written err.old) (E.written err.new) (unit_line rule unit.now) result }
+{
+    put_each(
+        err,
+        &[
+            b"refused ".as_slice(),
+            rule_text(rule),
+            gap_text(unit),
+            unit_text(unit),
+            fault_text(rule),
+            b"\n".as_slice(),
+        ],
+    )
+}
+
+/// Writes the line of an Ada text that is not replayed; after a failure a proper front of it was written.
+fn put_program<E: Sink>(err: &mut E, refusal: &ProgramRefusal) -> Result<(), Failed>
+    ensures cause { HasCause (E.faults err.old) (E.faults err.new) result }
+    ensures puts { Puts (E.written err.old) (E.written err.new) (program_line refusal.now) result }
+{
+    match refusal {
+        ProgramRefusal::Text(fault) => put_fault(err, *fault),
+        ProgramRefusal::Unit { rule, unit } => put_unit(err, *rule, unit),
+        ProgramRefusal::NotRun { unit } => put_named(err, b"refused N1 ", unit, b"\n"),
+    }
+}
+
 /// Writes the line of a refusal; after a failure a proper front of it was written.
 fn put_refusal<E: Sink>(err: &mut E, refusal: &Refusal) -> Result<(), Failed>
     ensures cause { HasCause (E.faults err.old) (E.faults err.new) result }
@@ -210,6 +360,7 @@ fn put_refusal<E: Sink>(err: &mut E, refusal: &Refusal) -> Result<(), Failed>
         Refusal::LongText => put_all(err, b"refused S3 text\n"),
         Refusal::Rule(broken) => put_rule(err, broken),
         Refusal::Miss { thread, miss } => put_miss(err, thread, miss),
+        Refusal::Program(refusal) => put_program(err, refusal),
     }
 }
 

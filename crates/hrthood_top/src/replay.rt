@@ -1,13 +1,44 @@
-ghost use Rattle.std.specs.Prelude.{◌≡◌, ◌≤◌, length};
-ghost use Rattle.hrthood_top.specs.Prepares.{Replayed};
+ghost use Rattle.std.specs.Prelude.{◌≡◌, ◌≤◌, length, IfOk};
+ghost use Rattle.ada_tree.specs.Programs.{Program};
+ghost use Rattle.ada_tree.specs.Reading.{Accepts};
+ghost use Rattle.ada_tree.specs.InUse.{IsSequentialProgram};
+ghost use Rattle.ada_tree.specs.Trees.{program_of};
+ghost use Rattle.hrthood_top.specs.Prepares.{Replayed, RunsAda};
 
 use crate::fetch::Stop;
-use crate::message::{FileKind, Refusal};
+use crate::message::{FileKind, ProgramRefusal, Refusal};
+use crate::runnable::first_passive;
 use crate::trace::trace_text;
 use ada_read::{AdaFault, read_ada};
+use ada_tree::AdaProgram;
 use arrivals_read::{ArrivalFault, read_arrivals};
 use seq_tree::NoMemory;
 use std::alloc::Global;
+
+/// The program of an Ada text that is run.
+fn run_program<'a>(alloc: Global, ada: &[u8]) -> Result<AdaProgram, Stop<'a>>
+    requires { length ada.now ≤ 16777216 }
+    ensures says { RunsAda result ada.now }
+    ensures only { (p : Program) → IsSequentialProgram p → Accepts ada.now p → IfOk result (λ q. program_of q ≡ p) }
+{
+    let program = match read_ada(alloc, ada) {
+        Ok(program) => program,
+        Err(AdaFault::Text(fault)) => {
+            return Err(Stop::Refused(Refusal::Program(ProgramRefusal::Text(fault))));
+        }
+        Err(AdaFault::Rule { rule, unit }) => {
+            return Err(Stop::Refused(Refusal::Program(ProgramRefusal::Unit { rule, unit })));
+        }
+        Err(AdaFault::NoMemory) => return Err(Stop::NoMemory),
+    };
+    let Some(name) = first_passive(&program) else {
+        return Ok(program);
+    };
+    match name.copy(alloc) {
+        Ok(unit) => Err(Stop::Refused(Refusal::Program(ProgramRefusal::NotRun { unit }))),
+        Err(NoMemory) => Err(Stop::NoMemory),
+    }
+}
 
 /// What a replay of these two texts writes.
 pub(crate) fn replay_text<'a>(
@@ -19,11 +50,7 @@ pub(crate) fn replay_text<'a>(
     requires arrivals { length arrivals.now ≤ 1048576 }
     ensures { Replayed (λ v. v.items) result ada.now arrivals.now }
 {
-    let program = match read_ada(alloc, ada) {
-        Ok(program) => program,
-        Err(AdaFault::Text(_)) => return Err(Stop::Refused(Refusal::Syntax(FileKind::Ada))),
-        Err(AdaFault::NoMemory) => return Err(Stop::NoMemory),
-    };
+    let program = run_program(alloc, ada)?;
     let under = match read_arrivals(alloc, arrivals, &program) {
         Ok(under) => under,
         Err(ArrivalFault::Text(_)) => {

@@ -7,28 +7,42 @@ use std::test::Fail;
 #[derive(Clone, Copy)]
 struct Task {
     unit: &'static str,
+    priority: u32,
     period: u32,
     deadline: u32,
-    work: u32,
     response: u32,
+    /// The specifications and the bodies of the units before it.
+    heads: &'static str,
+    bodies: &'static str,
+    /// The variables of the unit.
+    vars: &'static str,
+    block: &'static str,
 }
 
 const TASK: Task = Task {
     unit: "a",
+    priority: 1,
     period: 10,
     deadline: 10,
-    work: 3,
     response: 4,
+    heads: "",
+    bodies: "",
+    vars: "",
+    block: "work (3);",
 };
 
 /// The Ada text of the program `d` with this task.
 fn ada_text(rt: &HostRuntime, task: Task) -> Result<Vec<u8>, Fail> {
     let Task {
         unit,
+        priority,
         period,
         deadline,
-        work,
         response,
+        heads,
+        bodies,
+        vars,
+        block,
     } = task;
     let text = format!(in rt.alloc();
         "-- design d
@@ -54,22 +68,22 @@ package hrt is
 end hrt;
 with hrt;
 use hrt;
-package d is
+package d is{heads}
    package {unit} is
       task hrt_thread is
-         pragma priority (1);
+         pragma priority ({priority});
       end hrt_thread;
    end {unit};
 end d;
-package body d is
-   package body {unit} is
+package body d is{bodies}
+   package body {unit} is{vars}
       task body hrt_thread is
          hrt_next : hrt.moment := hrt.after (hrt.epoch, 0);
       begin
          loop
             delay until hrt_next;
             hrt_next := hrt.after (hrt_next, {period});
-            work ({work});
+            {block}
             activation_end;
          end loop;
       end hrt_thread;
@@ -148,11 +162,11 @@ fn design_bytes(rt: &HostRuntime, source: Source) -> Result<Vec<u8>, Fail> {
 /// The Ada text of a row.
 #[derive(Clone, Copy)]
 enum Ada {
-    /// The text with a unit of this name.
-    Unit(&'static str),
-    /// The text of unit `a` without its last token.
+    /// The text with this task.
+    Task(Task),
+    /// The text of task `a` without its last token.
     Cut,
-    /// The text of unit `a` with spaces behind it, up to so many bytes.
+    /// The text of task `a` with spaces behind it, up to so many bytes.
     Padded(usize),
     /// No byte.
     Empty,
@@ -204,7 +218,7 @@ const ONE_TASK: Row = Row {
     name: "one cyclic task",
     words: &["replay", "a.ada", "r"],
     design: Source::Object(OBJECT),
-    ada: Ada::Unit("a"),
+    ada: Ada::Task(TASK),
     arrivals: "UNTIL 20;",
     arrivals_len: 9,
     fails: &[],
@@ -291,7 +305,7 @@ fn padded(rt: &HostRuntime, text: &[u8], len: usize) -> Result<Vec<u8>, Fail> {
 
 fn ada_bytes(rt: &HostRuntime, ada: Ada) -> Result<Vec<u8>, Fail> {
     match ada {
-        Ada::Unit(unit) => ada_text(rt, Task { unit, ..TASK }),
+        Ada::Task(task) => ada_text(rt, task),
         Ada::Cut => {
             let text = ada_text(rt, TASK)?;
             padded(rt, &text, text.len().saturating_sub(2))
@@ -331,7 +345,7 @@ fn run_row(rt: &HostRuntime, row: &Row) -> Result<Outcome, Fail> {
 }
 
 /// Examples of `replay`.
-fn replays() -> [Row; 21] {
+fn replays() -> [Row; 17] {
     [
         ONE_TASK,
         Row {
@@ -364,18 +378,6 @@ fn replays() -> [Row; 21] {
         usage("an empty name", &["replay", "", "r"]),
         usage("a name that begins with a dash", &["replay", "a.ada", "-r"]),
         usage("a word too many", &["replay", "a.ada", "r", "r"]),
-        refused_ada("an empty Ada text", Ada::Empty, "refused S1 ada\n"),
-        refused_ada("an Ada text that is cut", Ada::Cut, "refused S1 ada\n"),
-        refused_ada(
-            "a unit with the program's name",
-            Ada::Unit("d"),
-            "refused S1 ada\n",
-        ),
-        refused_ada(
-            "a unit with a reserved name",
-            Ada::Unit("task"),
-            "refused S1 ada\n",
-        ),
         refused_ada(
             "an Ada text over its limit",
             Ada::Padded(16_777_217),
@@ -405,6 +407,206 @@ fn replays() -> [Row; 21] {
     ]
 }
 
+const fn refused_task(name: &'static str, task: Task, err: &'static str) -> Row {
+    refused_ada(name, Ada::Task(task), err)
+}
+
+const fn refused_block(name: &'static str, block: &'static str, err: &'static str) -> Row {
+    refused_task(name, Task { block, ..TASK }, err)
+}
+
+/// Ada texts that are refused where they end to be the text of a program.
+fn refused_texts() -> [Row; 11] {
+    [
+        refused_ada(
+            "an empty Ada text",
+            Ada::Empty,
+            "refused S1 ada line 1 column 1\n",
+        ),
+        refused_ada(
+            "an Ada text that is cut",
+            Ada::Cut,
+            "refused S1 ada line 49 column 13\n",
+        ),
+        refused_task(
+            "a unit with a reserved name",
+            Task {
+                unit: "task",
+                ..TASK
+            },
+            "refused S1 ada line 25 column 12\n",
+        ),
+        refused_block(
+            "two operators without parentheses",
+            "x := 1 and 2 or 3;",
+            "refused S1 ada line 39 column 26\n",
+        ),
+        refused_block(
+            "no statement in a loop",
+            "for i in word range 1 .. 2 loop end loop;",
+            "refused S1 ada line 39 column 45\n",
+        ),
+        refused_block(
+            "an end of another statement",
+            "if 1 = 1 then null; end loop;",
+            "refused S1 ada line 39 column 37\n",
+        ),
+        refused_block(
+            "a call of two names behind a point",
+            "p.q.r;",
+            "refused S1 ada line 39 column 16\n",
+        ),
+        refused_block(
+            "a sign that is none",
+            "x := 1 # 2;",
+            "refused L1 ada line 39 column 20\n",
+        ),
+        refused_block(
+            "a number that is too great",
+            "put (4294967296);",
+            "refused L2 ada line 39 column 18\n",
+        ),
+        refused_block(
+            "an expression that is nested too deep",
+            "x := (((((((((((((((((((((((((((((((((((((((((((((((((((((((((((((((((1)))))))))))))))))))))))))))))))))))))))))))))))))))))))))))))))));",
+            "refused S2 ada line 39 column 82\n",
+        ),
+        refused_task(
+            "a second task",
+            Task {
+                heads: " package b is task hrt_thread is pragma priority (1); end hrt_thread; end b;",
+                ..TASK
+            },
+            "refused S1 ada line 26 column 7\n",
+        ),
+    ]
+}
+
+/// Ada texts whose program breaks a rule, or has operations, which are not run.
+fn refused_programs() -> [Row; 9] {
+    [
+        refused_task(
+            "a unit with the name of the program",
+            Task { unit: "d", ..TASK },
+            "refused G1 d\n",
+        ),
+        refused_task(
+            "a priority that is too great",
+            Task {
+                priority: 31,
+                ..TASK
+            },
+            "refused G5 a\n",
+        ),
+        refused_task(
+            "a call of what is not there",
+            Task {
+                block: "b.f;",
+                ..TASK
+            },
+            "refused G1 a\n",
+        ),
+        refused_task(
+            "a variable that is not there",
+            Task {
+                block: "y := 1;",
+                ..TASK
+            },
+            "refused G4 a B1\n",
+        ),
+        refused_task(
+            "a condition that is a word",
+            Task {
+                block: "if 1 then null; end if;",
+                ..TASK
+            },
+            "refused G4 a B2\n",
+        ),
+        refused_task(
+            "an exit outside of a loop",
+            Task {
+                vars: " y : word := 0;",
+                block: "exit when y = 1;",
+                ..TASK
+            },
+            "refused G4 a B4\n",
+        ),
+        refused_task(
+            "work of nothing",
+            Task {
+                block: "work (0);",
+                ..TASK
+            },
+            "refused G5 a\n",
+        ),
+        refused_task(
+            "a passive unit",
+            Task {
+                heads: " package p is procedure f; end p;",
+                bodies: " package body p is procedure f is begin null; end f; end p;",
+                ..TASK
+            },
+            "refused N1 p\n",
+        ),
+        refused_task(
+            "two units with one name",
+            Task {
+                heads: " package a is procedure f; end a;",
+                bodies: " package body a is procedure f is begin null; end f; end a;",
+                ..TASK
+            },
+            "refused G1 a\n",
+        ),
+    ]
+}
+
+const fn run_block(
+    name: &'static str,
+    vars: &'static str,
+    block: &'static str,
+    arrivals: &'static str,
+    trace: &'static str,
+) -> Row {
+    Row {
+        name,
+        ada: Ada::Task(Task {
+            vars,
+            block,
+            ..TASK
+        }),
+        arrivals,
+        out: Out::Bytes(trace),
+        ..ONE_TASK
+    }
+}
+
+/// Blocks of a task and what they tell.
+fn blocks() -> [Row; 3] {
+    [
+        run_block(
+            "a sum that wraps",
+            "",
+            "put (4294967295 + 1);",
+            "UNTIL 5;",
+            "0 release a\n1 put a 0\n2 end a used 2\n5 horizon\n",
+        ),
+        run_block(
+            "an empty loop and a loop that is left",
+            "",
+            "for i in word range 1 .. 0 loop put (i); end loop; for j in word range 1 .. 3 loop exit when j = 1; null; end loop;",
+            "UNTIL 5;",
+            "0 release a\n3 end a used 3\n5 horizon\n",
+        ),
+        run_block(
+            "a variable that is kept",
+            " y : word := 7;",
+            "put (y); y := y * 2; if y > 20 then put (y mod 5); else null; end if;",
+            "UNTIL 16;",
+            "0 release a\n1 put a 7\n5 end a used 5\n10 release a\n11 put a 14\n14 put a 3\n15 end a used 5\n16 horizon\n",
+        ),
+    ]
+}
+
 /// Examples of `generate` by files and words.
 fn texts() -> [Row; 9] {
     [
@@ -422,11 +624,11 @@ fn texts() -> [Row; 9] {
                 ..OBJECT
             }),
             out: Out::Ada(Task {
-                unit: "a",
                 period: 50,
                 deadline: 50,
-                work: 11,
                 response: 12,
+                block: "work (11);",
+                ..TASK
             }),
             ..ONE_TEXT
         },
@@ -581,6 +783,9 @@ fn refused_objects() -> [Row; 9] {
 /// The worked examples.
 fn rows(rt: &HostRuntime) -> Result<Vec<Row>, Fail> {
     let mut rows = replays().to_vec(rt.alloc())?;
+    rows.extend_from_slice(&refused_texts())?;
+    rows.extend_from_slice(&refused_programs())?;
+    rows.extend_from_slice(&blocks())?;
     rows.extend_from_slice(&texts())?;
     rows.extend_from_slice(&refused_sources())?;
     rows.extend_from_slice(&refused_objects())?;

@@ -12,7 +12,7 @@ use Rattle.ods_tree.specs.Flattening.{flat}
 use Rattle.ods_rules.specs.Rules.{MeetsRules}
 use Rattle.ada_tree.specs.Spelling.{program_tokens}
 use Rattle.ada_tree.specs.Programs.{Program}
-use Rattle.ada_tree.specs.InUse.{IsUsableProgram}
+use Rattle.ada_tree.specs.InUse.{IsUsableProgram, IsSequentialProgram}
 use Rattle.ada_tree.specs.Reading.{Accepts}
 use Rattle.arrivals_read.specs.Arriving.{Arrivals}
 use Rattle.arrivals_read.specs.Acceptance.{IsAccepted}
@@ -30,7 +30,7 @@ use Rattle.guarantee.specs.Allowed.{Allows}
 use Rattle.guarantee.specs.Bounded.{IsBounded}
 use Rattle.laws.proofs.LoneLaw.{lone_program}
 use Rattle.laws.proofs.KeptArrivals.{kept_lone}
-use Rattle.laws.proofs.OneProgram.{one_program}
+use Rattle.laws.proofs.OneProgram.{one_program, usable_sequential}
 use Rattle.laws.proofs.CyclicTexts.{IsWrittenText, written_text}
 use Rattle.rt_response.specs.declared.rows.Bound.{Bound}
 use Rattle.analysis.specs.Tables.{table}
@@ -105,10 +105,10 @@ kept_arrivals limit x r usable =
 
 -- what is told under accepted arrivals by the program that its text is accepted as
 pub right_replay : (limit : ℕ) (x : Design) (text : List ℕ) (v : List Bound) (p : Program) (r : Arrivals) (told : List Event) → IsUsableDesign x → MeetsRules x
-    → Fits (table (flat x)).rows v → Accepts text (program x) → IsUsableProgram p → Accepts text p → IsAccepted limit p r → Meaning p r told
+    → Fits (table (flat x)).rows v → Accepts text (program x) → IsSequentialProgram p → Accepts text p → IsAccepted limit p r → Meaning p r told
     → Allows x (named_arrivals p r) (named p told) × IsBounded (responses (flat x) v) r.until (named p told)
-right_replay limit x text v p r told usable meets fits accepts p_usable p_accepts accepted means =
-    let same : program x ≡ p = one_program text (program x) p (usable_program x usable) p_usable accepts p_accepts in
+right_replay limit x text v p r told usable meets fits accepts p_sequential p_accepts accepted means =
+    let same : program x ≡ p = one_program text (program x) p (usable_sequential (program x) (usable_program x usable)) p_sequential accepts p_accepts in
     let P : Program → Type 0 = λ q.
     IsAccepted limit q r → Meaning q r told → Allows x (named_arrivals q r) (named q told) × IsBounded (responses (flat x) v) r.until (named q told) in
     subst P same (λ accepted' means'.
@@ -144,7 +144,7 @@ accepted_generated x bytes v usable reads meets fits =
     accepted_text x (text x v) usable reads.proper meets w.0 w.1
 
 pub replayed_generated : (limit : ℕ) (x : Design) (bytes : List ℕ) (v : List Bound) (p : Program) (r : Arrivals) (told : List Event) → IsUsableDesign x → Reads bytes x
-    → MeetsRules x → Fits (table (flat x)).rows v → IsUsableProgram p → Accepts (text x v) p → IsAccepted limit p r → Meaning p r told
+    → MeetsRules x → Fits (table (flat x)).rows v → IsSequentialProgram p → Accepts (text x v) p → IsAccepted limit p r → Meaning p r told
     → Allows x (named_arrivals p r) (named p told) × IsBounded (responses (flat x) v) r.until (named p told)
 replayed_generated limit x bytes v p r told usable reads meets fits =
     right_replay limit x (text x v) v p r told usable meets fits (accepted_generated x bytes v usable reads meets fits)

@@ -28,7 +28,7 @@ use Rattle.ods_rules.specs.Rules.{Clash, KeptName, Number, MeetsRules, IsListed}
 use Rattle.ods_rules.specs.Clashes.{clashes}
 use Rattle.ods_rules.specs.Words.{kept_names, object_names}
 use Rattle.ods_rules.specs.Numbers.{is_required, is_optional, is_foreign, are_common_right, are_attributes_right, breaks_numbers, bad_costs}
-use Rattle.ada_read.proofs.RuleLaws.{Fits, fits-meets}
+use Rattle.laws.proofs.LoneRules.{Fits, fits-meets}
 use Rattle.laws.proofs.CyclicShape.{period_of, offset_of, deadline_of, program-cyclic}
 use Rattle.guarantee.specs.Programs.{program}
 use Rattle.guarantee.specs.MachineLaw.{IsReadable}

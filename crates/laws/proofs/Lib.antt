@@ -7,6 +7,7 @@ pub mod LoneTraces
 pub mod LoneLaw
 pub mod KeptArrivals
 pub mod OneProgram
+pub mod LoneRules
 pub mod ReadTokens
 pub mod TextSizes
 pub mod Comments

@@ -9,7 +9,7 @@ ghost use Rattle.ods_tree.specs.Flattening.{flat};
 ghost use Rattle.ods_rules.specs.Rules.{MeetsRules};
 ghost use Rattle.ada_tree.specs.Spelling.{program_tokens};
 ghost use Rattle.ada_tree.specs.Programs.{Program};
-ghost use Rattle.ada_tree.specs.InUse.{IsUsableProgram};
+ghost use Rattle.ada_tree.specs.InUse.{IsSequentialProgram, IsUsableProgram};
 ghost use Rattle.ada_tree.specs.Reading.{Accepts};
 ghost use Rattle.arrivals_read.specs.Arriving.{Arrivals};
 ghost use Rattle.arrivals_read.specs.Acceptance.{IsAccepted};
@@ -63,11 +63,11 @@ pub fn accepted_arrivals_are_kept()
 /// What a replay tells of a text that is accepted as the program of a design is allowed by the design and within its bounds.
 ///
 /// The design is one of what is built and meets its rules, and `v` fits its table. The text is accepted as the program `p` of what is
-/// built, the arrivals are accepted for it, and `told` is what it means under them. So the promise holds over two runs: one that
+/// read, the arrivals are accepted for it, and `told` is what it means under them. So the promise holds over two runs: one that
 /// generates the text, and one that replays it and never sees the design.
 pub fn replay_is_right()
     ensures { (limit : ℕ) (x : Design) (text : List ℕ) (v : List Bound) (p : Program) (r : Arrivals) (told : List Event) → IsUsableDesign x
-        → MeetsRules x → Fits (table (flat x)).rows v → Accepts text (program x) → IsUsableProgram p → Accepts text p
+        → MeetsRules x → Fits (table (flat x)).rows v → Accepts text (program x) → IsSequentialProgram p → Accepts text p
         → IsAccepted limit p r → Meaning p r told
         → Allows x (named_arrivals p r) (named p told) × IsBounded (responses (flat x) v) r.until (named p told) }
 {}

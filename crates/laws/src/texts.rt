@@ -5,7 +5,7 @@ ghost use Rattle.ods_tree.specs.Reading.{Reads};
 ghost use Rattle.ods_tree.specs.Flattening.{flat};
 ghost use Rattle.ods_rules.specs.Rules.{MeetsRules};
 ghost use Rattle.ada_tree.specs.Programs.{Program};
-ghost use Rattle.ada_tree.specs.InUse.{IsUsableProgram};
+ghost use Rattle.ada_tree.specs.InUse.{IsSequentialProgram};
 ghost use Rattle.ada_tree.specs.Reading.{Accepts};
 ghost use Rattle.arrivals_read.specs.Arriving.{Arrivals};
 ghost use Rattle.arrivals_read.specs.Acceptance.{IsAccepted};
@@ -33,7 +33,7 @@ pub fn generated_text_is_guaranteed()
     ensures accepted { (x : Design) (bytes : List ℕ) (v : List Bound) → IsUsableDesign x → Reads bytes x → MeetsRules x → Fits (table (flat x)).rows v
         → Accepts (text x v) (program x) }
     ensures replayed { (limit : ℕ) (x : Design) (bytes : List ℕ) (v : List Bound) (p : Program) (r : Arrivals) (told : List Event) → IsUsableDesign x
-        → Reads bytes x → MeetsRules x → Fits (table (flat x)).rows v → IsUsableProgram p → Accepts (text x v) p
+        → Reads bytes x → MeetsRules x → Fits (table (flat x)).rows v → IsSequentialProgram p → Accepts (text x v) p
         → IsAccepted limit p r → Meaning p r told
         → Allows x (named_arrivals p r) (named p told) × IsBounded (responses (flat x) v) r.until (named p told) }
 {}

@@ -1,6 +1,7 @@
 use Rattle.std.proofs.Common.{◌≡◌, [], false}
 use Rattle.ada_tree.specs.Trees.{program_of}
 use Rattle.arrivals_read.specs.Arriving.{arrivals_of}
+use Rattle.machine.specs.Systems.{system}
 use Rattle.machine.specs.Meanings.{begun}
 use Rattle.ceil_runtime.specs.Shown.{running_of}
 use Rattle.ceil_runtime.specs.Left.{left}
@@ -11,6 +12,7 @@ use Rattle.hrthood_top.proofs.trace.trace_text.Given as goal
 abbrev pub invariant-turns : goal.invariant-turns
 invariant-turns l = record {
   running : (running_of l.machine).state.stopped ≡ false;
+  system : (running_of l.machine).system ≡ system (program_of l.fn.program) (arrivals_of l.fn.arrivals);
   empty : l.events ≡ [];
   so_far : SoFar (program_of l.fn.program) (begun (program_of l.fn.program) (arrivals_of l.fn.arrivals)) (running_of l.machine) l.text.items;
 }

@@ -1,13 +1,12 @@
 ghost use Rattle.std.specs.Prelude.{◌≡◌};
 ghost use Rattle.seq_tree.specs.Values.{combined, inverted, is_boolean_op};
-ghost use Rattle.seq_eval.specs.Divisors.{HasDivisor};
 
 use seq_tree::BinOp;
 
-/// The value of the operator at two values. A truth value is 1 or 0, and what doesn't fit 32 bits wraps. The right value isn't 0
-/// where the operator divides.
+/// The value of the operator at two values. A truth value is 1 or 0, and what doesn't fit 32 bits wraps. No program that meets the
+/// rules divides by 0; the quotient is 0 there, and the remainder the left value.
+#[tactic(auto, using(crate::proofs::Divisions::by_nothing))]
 pub(crate) fn combine(op: BinOp, left: u32, right: u32) -> u32
-    requires { HasDivisor op right }
     ensures { result ≡ combined op left right }
 {
     match op {
@@ -23,8 +22,8 @@ pub(crate) fn combine(op: BinOp, left: u32, right: u32) -> u32
         BinOp::Add => left.wrapping_add(right),
         BinOp::Sub => left.wrapping_sub(right),
         BinOp::Mul => left.wrapping_mul(right),
-        BinOp::Div => left / right,
-        BinOp::Mod => left % right,
+        BinOp::Div => left.checked_div(right).unwrap_or(0),
+        BinOp::Mod => left.checked_rem(right).unwrap_or(left),
     }
 }
 

@@ -3,7 +3,6 @@ ghost use Rattle.seq_tree.specs.Trees.{expression_of};
 ghost use Rattle.seq_tree.specs.Values.{value, is_boolean};
 ghost use Rattle.seq_tree.specs.Variables.{read};
 ghost use Rattle.seq_tree.specs.Sorts.{sort_of, Boolean};
-ghost use Rattle.seq_tree.specs.Faults.{has_bad_divisor};
 
 use crate::lookup::Lookup;
 use crate::operators::{combine, gives_boolean, invert};
@@ -37,7 +36,6 @@ fn read<L: Lookup>(name: &Name, env: &L) -> u32
 
 /// The value of the expression over the variables, and whether the expression is a Boolean.
 fn evaluate<L: Lookup>(expr: &Expr, env: &L) -> Valued
-    requires { has_bad_divisor (expression_of expr.now) ≡ false }
     ensures value { result.value ≡ value (expression_of expr.now) (L.meaning env.now) }
     ensures is_boolean { result.is_boolean ≡ is_boolean (expression_of expr.now) }
 {
@@ -63,11 +61,10 @@ fn evaluate<L: Lookup>(expr: &Expr, env: &L) -> Valued
     }
 }
 
-/// The value of the expression over the variables: a word modulo 2^32, and 1 or 0 for a Boolean. Each right operand of `/` and
-/// `mod` is a literal other than 0. A name that no variable has counts as 0. It takes no memory.
+/// The value of the expression over the variables: a word modulo 2^32, and 1 or 0 for a Boolean. A name that no variable has
+/// counts as 0, and so does a quotient by 0; in a program that meets the rules there is neither. It takes no memory.
 #[tactic(auto, using(crate::proofs::Truths::truths))]
 pub fn eval<L: Lookup>(expr: &Expr, env: &L) -> u32
-    requires { has_bad_divisor (expression_of expr.now) ≡ false }
     ensures value { result ≡ value (expression_of expr.now) (L.meaning env.now) }
     ensures truth { sort_of (expression_of expr.now) ≡ Some Boolean → result ≤ 1 }
 {

@@ -26,7 +26,7 @@ pub data Event : Type 0 where
 
 -- an operation of the unit at a place, by names
 abbrev pub op_at : Program → ℕ → ℕ → OpName
-op_at p unit op = record { object = unit_name p unit; op = unwrap_or (option_map (λ o. o.sig.name) (slice_get (unit_ops p unit) op)) [] }
+op_at p unit op = record { object = unit_name p unit; op = unwrap_or (option_map (λ o. o.name) (slice_get (unit_ops p unit) op)) [] }
 
 -- an event of a program's run, by names
 abbrev pub named_event : Program → machine.Event → Event

@@ -3,8 +3,9 @@
 use Rattle.std.specs.Prelude.{ℕ, List, [], ◌∷◌, ◌++◌, map, Option, Some, None, slice_get, unwrap_or, option_map, codes, decimal, flat_map}
 use Rattle.std.specs.List.{join_with_byte}
 use Rattle.seq_tree.specs.Names.{Name}
-use Rattle.seq_tree.specs.Operations.{Operation}
-use Rattle.ada_tree.specs.Programs.{Program, Form, Passive, Shared, Cyclic, Sporadic}
+use Rattle.seq_tree.specs.Operations.{Signature}
+use Rattle.ada_tree.specs.Programs.{Program}
+use Rattle.ada_tree.specs.Bodies.{heads}
 use Rattle.trace_text.specs.declared.event.Event.{Event}
 use Rattle.trace_text.specs.declared.event.Event.TheVariants.{Release, Arrive, Enter, Leave, Request, Print, End, Stop, Horizon}
 
@@ -12,20 +13,13 @@ use Rattle.trace_text.specs.declared.event.Event.TheVariants.{Release, Arrive, E
 unfoldable pub unit_name : Program → ℕ → Name
 unit_name p unit = unwrap_or (option_map (λ u. u.name) (slice_get p.units unit)) []
 
--- the operations of a unit
-abbrev pub ops_by : Form → List Operation
-ops_by (Passive ops) = ops
-ops_by (Shared ceiling vars ops) = ops
-ops_by (Cyclic priority offset period vars block) = []
-ops_by (Sporadic priority ceiling op separation jitter external vars block) = []
-
--- the operations of the unit at a place
-unfoldable pub unit_ops : Program → ℕ → List Operation
-unit_ops p unit = unwrap_or (option_map (λ u. ops_by u.form) (slice_get p.units unit)) []
+-- the operations of the unit at a place, by their heads; a sporadic unit has the operation of its requests
+unfoldable pub unit_ops : Program → ℕ → List Signature
+unit_ops p unit = unwrap_or (option_map (λ u. heads u.form) (slice_get p.units unit)) []
 
 -- an operation of a unit, with a dot between their names
 unfoldable pub op_name : Program → ℕ → ℕ → List ℕ
-op_name p unit op = unit_name p unit ++ (codes "." ++ unwrap_or (option_map (λ o. o.sig.name) (slice_get (unit_ops p unit) op)) [])
+op_name p unit op = unit_name p unit ++ (codes "." ++ unwrap_or (option_map (λ o. o.name) (slice_get (unit_ops p unit) op)) [])
 
 -- values as words
 abbrev pub value_words : List ℕ → List (List ℕ)

@@ -1,4 +1,4 @@
-ghost use Rattle.std.specs.Prelude.{◌≡◌, ◌≤◌, length};
+ghost use Rattle.std.specs.Prelude.{◌≡◌, ◌≤◌, ◌<◌, [], ◌∷◌, ◌++◌, length};
 
 use std::marker::Model;
 
@@ -22,6 +22,25 @@ impl Model for Values {
 }
 
 impl Values {
+    /// No values.
+    pub fn new() -> Values
+        ensures { result ≡ [] }
+    {
+        Values {
+            count: 0,
+            at: [0; 8],
+        }
+    }
+
+    /// One more value behind the others, where there is room for it.
+    pub fn push(&mut self, value: u32)
+        requires { length self.old < 8 }
+        ensures { self.new ≡ self.old ++ value ∷ [] }
+    {
+        self.at[usize::from(self.count)] = value;
+        self.count += 1;
+    }
+
     /// The values, at most 8.
     pub fn as_slice(&self) -> &[u32]
         ensures values { result.now ≡ self.now }

@@ -1,25 +1,28 @@
-ghost use Rattle.std.specs.Prelude.{◌≡◌, ℕ, ◌+◌, ◌<◌, ◌≤◌, [], ◌∷◌, ◌++◌, codes, length, map, decimal};
+ghost use Rattle.std.specs.Prelude.{◌≡◌, ℕ, ◌+◌, ◌<◌, ◌≤◌, [], ◌∷◌, ◌++◌, codes, length, decimal, slice_get, Some};
 ghost use Rattle.std.specs.List.{join_with_byte};
-ghost use Rattle.seq_tree.specs.Trees.{operation_of};
+ghost use Rattle.seq_tree.specs.Trees.{signature_of};
+ghost use Rattle.ada_tree.specs.Bodies.{heads};
 ghost use Rattle.ada_tree.specs.Trees.{form_of, program_of};
-ghost use Rattle.trace_text.specs.Lines.{line, op_name, ops_by, unit_name, unit_ops, words};
+ghost use Rattle.trace_text.specs.Lines.{line, op_name, unit_name, unit_ops, words};
 ghost use Rattle.trace_text.specs.Placed.{IsPlaced};
 ghost use Rattle.trace_text.specs.Spaced.{spaced};
 
 use crate::event::Event;
 use crate::line_buf::LineBuf;
 use ada_tree::{AdaProgram, Form, Unit};
-use seq_tree::{Name, OpText};
+use seq_tree::{Name, OpSig};
 
-// The operations of a unit.
-fn ops_of(form: &Form) -> &[OpText]
-    ensures { map operation_of result.now ≡ ops_by (form_of form.now) }
+// The head of the operation at a place of a unit. That of a sporadic unit is its request operation.
+#[tactic(auto, using(crate::proofs::Names::head_steps))]
+fn head_at(form: &Form, place: usize) -> &OpSig
+    requires { place < length (heads (form_of form.now)) }
+    ensures { slice_get (heads (form_of form.now)) place ≡ Some (signature_of result.now) }
 {
     match form {
-        Form::Passive { ops } => ops,
-        Form::Shared { ops, .. } => ops,
-        Form::Cyclic { .. } => &[],
-        Form::Sporadic { .. } => &[],
+        Form::Passive { ops } => &ops[place].sig,
+        Form::Shared { ops, .. } => &ops[place].sig,
+        Form::Cyclic { .. } => unreachable!(),
+        Form::Sporadic { op, .. } => op,
     }
 }
 
@@ -28,7 +31,7 @@ fn ops_of(form: &Form) -> &[OpText]
 fn unit_at(program: &AdaProgram, unit: u32) -> &Unit
     requires { unit < length (program_of program.now).units }
     ensures name { unit_name (program_of program.now) unit ≡ result.now.name }
-    ensures ops { unit_ops (program_of program.now) unit ≡ ops_by (form_of result.now.form) }
+    ensures ops { unit_ops (program_of program.now) unit ≡ heads (form_of result.now.form) }
 {
     &program.units[unit as usize]
 }
@@ -41,8 +44,7 @@ fn op_at(program: &AdaProgram, unit: u32, op: u32) -> &Name
     ensures { op_name (program_of program.now) unit op
         ≡ unit_name (program_of program.now) unit ++ (codes "." ++ result.now) }
 {
-    let ops = ops_of(&unit_at(program, unit).form);
-    &ops[op as usize].sig.name
+    &head_at(&unit_at(program, unit).form, op as usize).name
 }
 
 // Adds the name of a unit after a space.

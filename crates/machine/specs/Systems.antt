@@ -1,6 +1,6 @@
 -- What runs on the processor: the tasks, protected objects and passive units of a program, each with its place among the units.
 -- Priorities and ceilings are those of ISO/IEC 8652:2012, D.1 and D.3.
-use Rattle.std.specs.Prelude.{ℕ, Bool, List, Option, Some, None, filter_map}
+use Rattle.std.specs.Prelude.{ℕ, Bool, List, Option, Some, None, filter_map, if◌then◌else◌}
 use Rattle.std.specs.List.{enumerate_from}
 use Rattle.seq_tree.specs.Names.{Name, same_name}
 use Rattle.seq_tree.specs.Statements.{Statements}
@@ -119,10 +119,15 @@ abbrev pub protected_by : ℕ × Guarded → Option (ℕ × Operation) → Calle
 protected_by object None = Unknown
 protected_by object (Some o) = Protected object.0 o.0 object.1 o.1
 
--- a request
-abbrev pub request_by : Option (ℕ × Thread) → Callee
-request_by None = Unknown
-request_by (Some t) = Request t.0
+-- a request, where the task is released by requests of this operation
+abbrev pub request_if : Name → ℕ → Timing → Callee
+request_if op task (Periodic offset period) = Unknown
+request_if op task (Requested sig ceiling separation jitter external) = if same_name sig.name op then Request task else Unknown
+
+-- a request of a task
+abbrev pub request_by : Name → Option (ℕ × Thread) → Callee
+request_by op None = Unknown
+request_by op (Some t) = request_if op t.0 t.1.timing
 
 -- a call of a protected object, or what else it may be
 abbrev pub object_or : Name → Option (ℕ × Guarded) → Callee → Callee
@@ -139,4 +144,4 @@ abbrev pub callee : System → Name → Name → Callee
 callee y unit op =
     library_or op (first_where (λ l. same_name l.name unit) y.libraries)
     (object_or op (first_where (λ o. same_name o.name unit) y.objects)
-    (request_by (first_where (λ t. same_name t.name unit) y.threads)))
+    (request_by op (first_where (λ t. same_name t.name unit) y.threads)))

@@ -1,9 +1,13 @@
+pub mod Blocks
 pub mod Stacks
 pub mod Frames
-pub mod Soundness
-pub mod Tasks
+pub mod Firsts
+pub mod Calls
+pub mod Starting
 pub mod Ends
+pub mod Tasks
+pub mod Finding
+pub mod CallLaws
 pub mod Openings
 pub mod Placing
-pub mod Starting
 pub mod Reaching

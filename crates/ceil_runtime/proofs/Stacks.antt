@@ -1,11 +1,11 @@
 -- Stacks: what is pushed stands first.
-use Rattle.std.proofs.Common.{◌≡◌, ℕ, suc, true, false, ◌+◌, ◌-◌, ◌≤◌, ◌<◌, List, [], ◌∷◌, ◌++◌, length, take, get_or, fold, refl, ap, sym, ◌∙◌, Bool, arith, drop, set, zero}
+use Rattle.std.proofs.Common.{◌≡◌, ℕ, suc, true, false, ◌+◌, ◌-◌, ◌≤◌, ◌<◌, List, [], ◌∷◌, ◌++◌, length, take, get_or, fold, refl, ap, sym, ◌∙◌, Bool, arith, drop, set, zero, Some}
 use Rattle.std.proofs.lemmas.List.Sums.{fold-append}
 use Rattle.std.proofs.lemmas.Slice.Eq.{bytes_eq-Decides}
-use Rattle.std.proofs.Math.Nat.{div-zero, mod-zero}
 use Rattle.std.proofs.Math.Seq.{take-suc, drop-cons}
 use Rattle.seq_tree.specs.Names.{Name, same_name}
-use Rattle.seq_tree.specs.Variables.{Variables, read, write}
+use Rattle.seq_tree.specs.Variables.{Variables, write}
+use Rattle.seq_eval.specs.Lookups.{found}
 use Rattle.ceil_runtime.specs.Stacked.{vars_of, with_var}
 use Rattle.ceil_runtime.specs.declared.values.Var.{Var}
 
@@ -13,14 +13,12 @@ pub not_true : (b : Bool) → (b ≡ true → ⊥) → b ≡ false
 not_true true h = absurd (h refl)
 not_true false h = refl
 
-pub ruleset by_nothing = (div-zero, mod-zero)
+-- what is found as the innermost of some variables, where it has this name, and where it has another
+pub found-here : (name : Name) (v : Var) (vs : Variables) → v.name.now ≡ name → Some v.value ≡ found name (with_var vs v)
+found-here name v vs e = rw ((bytes_eq-Decides name v.name.now).1 (sym e)) refl
 
--- the value of the innermost of some variables, where it has this name, and where it has another
-pub read-here : (name : Name) (v : Var) (vs : Variables) → v.name.now ≡ name → v.value ≡ read name (with_var vs v)
-read-here name v vs e = rw ((bytes_eq-Decides name v.name.now).1 (sym e)) refl
-
-pub read-past : (name : Name) (v : Var) (vs : Variables) → (v.name.now ≡ name → ⊥) → read name (with_var vs v) ≡ read name vs
-read-past name v vs e = rw (not_true (same_name name v.name.now) (λ h. e (sym ((bytes_eq-Decides name v.name.now).0 h)))) refl
+pub found-past : (name : Name) (v : Var) (vs : Variables) → (v.name.now ≡ name → ⊥) → found name (with_var vs v) ≡ found name vs
+found-past name v vs e = rw (not_true (same_name name v.name.now) (λ h. e (sym ((bytes_eq-Decides name v.name.now).0 h)))) refl
 
 -- one more variable
 pub vars-push : (vs : List Var) (v : Var) → vars_of (vs ++ v ∷ []) ≡ with_var (vars_of vs) v

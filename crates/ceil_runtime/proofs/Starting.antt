@@ -1,22 +1,32 @@
 -- What starts after an effect: how many ticks, and how many effects and events may follow.
-use Rattle.std.proofs.Common.{◌≡◌, ℕ, suc, ◌+◌, ◌-◌, ◌*◌, ◌≤◌, ◌<◌, Bool, true, false, ◌||◌, List, [], ◌∷◌, min, refl, ap, sym, ◌∙◌, arith, nat_lt}
+use Rattle.std.proofs.Common.{◌≡◌, ℕ, suc, ◌+◌, ◌-◌, ◌*◌, ◌≤◌, ◌<◌, Bool, true, false, ◌||◌, List, [], ◌∷◌, min, length, fold, map, refl, ap, sym, ◌∙◌, arith, nat_lt, Option, Some, None}
 use Rattle.std.specs.Prelude.{◌==◌, if◌then◌else◌, nat_le}
 use Rattle.seq_tree.specs.Names.{Name}
 use Rattle.seq_tree.specs.Expressions.{Expression}
-use Rattle.ceil_runtime.specs.declared.effects.Act.{Act}
+use Rattle.seq_tree.specs.Statements.{Statement, Statements, Branches, Null, Assign, If, For, ExitWhen, Call, Work, Put, End, Then, Nothing, Else, When}
+use Rattle.seq_tree.specs.Trees.{statement_of, statements_of}
 use Rattle.seq_tree.specs.Values.{holds}
 use Rattle.seq_tree.specs.Variables.{Variables}
 use Rattle.seq_tree.specs.declared.tree.Costs.{Costs}
 use Rattle.ada_tree.specs.Ranges.{costs_break, is_outside}
-use Rattle.machine.specs.Pieces.{Piece, Idle, Store, Leaving, Calling, Working, Printing, Testing, Turning, Turned, Returning, Closing, Keeping, Opening, Requested, Finishing}
+use Rattle.machine.specs.Systems.{System, Library, Callee, Plain, Protected, Request, Unknown, callee}
+use Rattle.machine.specs.Pieces.{Piece, Idle, Store, Leaving, Calling, Working, Printing, Testing, Turning, Turned, Returning, Closing, Keeping, Opening, Requested, Finishing, pieces, pieces_of, branch_pieces, turns}
 use Rattle.machine.specs.Deeds as deeds
-use Rattle.machine.specs.Deeds.{Deed, done}
-use Rattle.ceil_runtime.specs.Sounds.{Sound}
-use Rattle.ceil_runtime.specs.Effort.{turns_among, effort, first_ticks, first_works}
+use Rattle.machine.specs.Deeds.{Deed, called, done}
+use Rattle.ceil_runtime.specs.Effort.{ends_among, effort, first_ticks, first_works}
+use Rattle.ceil_runtime.specs.Fitting.{FitsFirst, place_of}
 use Rattle.ceil_runtime.specs.Left.{first_tells}
 use Rattle.ceil_runtime.specs.Doing.{Does}
+use Rattle.ceil_runtime.specs.Progresses.{Kept, behind, kept, nothing_kept, piece_of, started, with_frame}
+use Rattle.ceil_runtime.specs.Written.{first_place}
+use Rattle.ceil_runtime.specs.declared.effects.Act.{Act}
 use Rattle.ceil_runtime.specs.declared.effects.Act.TheVariants.{Print, Finish}
-use Rattle.ceil_runtime.proofs.Soundness.{among_turns, nothing}
+use Rattle.ceil_runtime.specs.declared.piece.Piece as rust
+use Rattle.ceil_runtime.specs.declared.piece.Piece.TheVariants as is
+use Rattle.ceil_runtime.specs.declared.piece.Frame.{Frame}
+use Rattle.ceil_runtime.specs.declared.piece.Frame.TheVariants as frame
+use Rattle.ceil_runtime.specs.declared.thread.Thread.{Thread}
+use Rattle.ceil_runtime.proofs.Frames.{first-frame}
 
 no_true : true ≡ false → ⊥
 no_true h = cc
@@ -58,62 +68,138 @@ ticking c h =
       finish = some_tick c.finish i.0;
     }
 
--- no more effects than this follow each other
-pub effort-most : (ps : List Piece) → turns_among ps ≤ 131 → effort ps ≤ 200
-effort-most [] h = omega arith
-effort-most (Idle ∷ ps) h = omega (arith, h)
-effort-most (Store target e ∷ ps) h = omega (arith, h)
-effort-most (Leaving condition ∷ ps) h = omega (arith, h)
-effort-most (Calling unit op actuals ∷ ps) h = omega (arith, h)
-effort-most (Working ticks ∷ ps) h = omega (arith, h)
-effort-most (Printing e ∷ ps) h = omega (arith, h)
-effort-most (Testing condition block others ∷ ps) h = omega (arith, h)
-effort-most (Turning name at last body ∷ ps) h = omega (arith, h)
-effort-most (Turned name at last body ∷ ps) h = omega (arith, h)
-effort-most (Returning outs stores caller ∷ ps) h = omega (arith, h)
-effort-most (Closing object op vars outs stores caller ∷ ps) h = omega (arith, h)
-effort-most (Keeping task v ∷ ps) h = omega (arith, h)
-effort-most (Opening task ∷ ps) h = omega (arith, h)
-effort-most (Requested task v ∷ ps) h = omega (arith, h)
-effort-most (Finishing ∷ ps) h = omega (arith, h)
+-- no ends are among the pieces of statements
+ends_turns : (b : Bool) (name : Name) (at last : ℕ) (body : Statements) (rest : List Piece) → nat_le at last ≡ b → ends_among (turns name at last body rest) ≡ ends_among rest
+ends_turns true name at last body rest e = rw e refl
+ends_turns false name at last body rest e = rw e refl
 
--- a piece without ticks is the end of a turn
-pub quiet : (c : Costs) (loops : List Name) (qs : List Piece) → AreTicking c → Sound loops qs → first_ticks c qs ≡ 0 → effort qs ≤ turns_among qs
-quiet c loops [] t h none = omega arith
-quiet c loops (Idle ∷ ps) t h none = absurd (omega (arith, none, t.«nothing»))
-quiet c loops (Store target e ∷ ps) t h none = absurd (omega (arith, none, t.assign))
-quiet c loops (Leaving condition ∷ ps) t h none = absurd (omega (arith, none, t.test))
-quiet c loops (Calling unit op actuals ∷ ps) t h none = absurd h
-quiet c loops (Working ticks ∷ ps) t h none = absurd (omega (arith, none, h.0))
-quiet c loops (Printing e ∷ ps) t h none = absurd (omega (arith, none, t.put))
-quiet c loops (Testing condition block others ∷ ps) t h none = absurd (omega (arith, none, t.test))
-quiet c loops (Turning name at last body ∷ ps) t h none = absurd (omega (arith, none, t.turn))
-quiet c loops (Turned name at last body ∷ ps) t h none = omega arith
-quiet c loops (Returning outs stores caller ∷ ps) t h none = absurd h
-quiet c loops (Closing object op vars outs stores caller ∷ ps) t h none = absurd h
-quiet c loops (Keeping task v ∷ ps) t h none = absurd h
-quiet c loops (Opening task ∷ ps) t h none = absurd h
-quiet c loops (Requested task v ∷ ps) t h none = absurd h
-quiet c loops (Finishing ∷ ps) t h none = absurd (omega (arith, none, t.finish))
+mutual
+  ends-statement : (s : Statement) (rest : List Piece) → ends_among (pieces_of s rest) ≡ ends_among rest
+  ends-statement Null rest = refl
+  ends-statement (Assign target e) rest = refl
+  ends-statement (If branches) rest = ends-branches branches rest
+  ends-statement (For name low high body) rest = ends_turns (nat_le low high) name low high body rest refl
+  ends-statement (ExitWhen condition) rest = refl
+  ends-statement (Call object op actuals) rest = refl
+  ends-statement (Work ticks) rest = refl
+  ends-statement (Put e) rest = refl
+
+  ends-pieces : (ss : Statements) (rest : List Piece) → ends_among (pieces ss rest) ≡ ends_among rest
+  ends-pieces End rest = refl
+  ends-pieces (Then first others) rest = ends-statement first (pieces others rest) ∙ ends-pieces others rest
+
+  ends-branches : (bs : Branches) (rest : List Piece) → ends_among (branch_pieces bs rest) ≡ ends_among rest
+  ends-branches Nothing rest = refl
+  ends-branches (Else block) rest = ends-pieces block rest
+  ends-branches (When condition block others) rest = refl
+
+-- each frame has at most one end, and so has a piece
+ends-frame : (k : Kept) (f : Frame) → ends_among (with_frame k f).pieces ≤ ends_among k.pieces + 1
+ends-frame k frame.Finish = omega arith
+ends-frame k (frame.Stmts ss) = let same = ends-pieces (statements_of (map statement_of ss.now)) k.pieces in omega (arith, same)
+ends-frame k (frame.Turned r) = omega arith
+ends-frame k (frame.Saved v) = omega arith
+ends-frame k (frame.Return c) = omega arith
+
+ends-frames : (fs : List Frame) (k : Kept) → ends_among (fold with_frame k fs).pieces ≤ ends_among k.pieces + length fs
+ends-frames [] k = omega arith
+ends-frames (f ∷ fs) k = let one = ends-frame k f in let more = ends-frames fs (with_frame k f) in omega (arith, one, more)
+
+pub few-ends : (first : Option rust.Piece) (fs : List Frame) → ends_among (started first (kept fs)) ≤ length fs + 1
+few-ends None fs = let more = ends-frames fs nothing_kept in omega (arith, more)
+few-ends (Some is.Idle) fs = let more = ends-frames fs nothing_kept in omega (arith, more)
+few-ends (Some (is.Store target e)) fs = let more = ends-frames fs nothing_kept in omega (arith, more)
+few-ends (Some (is.Leaving condition)) fs = let more = ends-frames fs nothing_kept in omega (arith, more)
+few-ends (Some (is.Calling object op actuals)) fs = let more = ends-frames fs nothing_kept in omega (arith, more)
+few-ends (Some (is.Working ticks)) fs = let more = ends-frames fs nothing_kept in omega (arith, more)
+few-ends (Some (is.Printing e)) fs = let more = ends-frames fs nothing_kept in omega (arith, more)
+few-ends (Some (is.Testing arm arms other)) fs = let more = ends-frames fs nothing_kept in omega (arith, more)
+few-ends (Some (is.Turning r)) fs = let more = ends-frames fs nothing_kept in omega (arith, more)
+few-ends (Some (is.Turned r)) fs = let more = ends-frames fs nothing_kept in omega (arith, more)
+few-ends (Some (is.Returning c)) fs = let more = ends-frames fs nothing_kept in omega (arith, more)
+few-ends (Some is.Finishing) fs = let more = ends-frames fs nothing_kept in omega (arith, more)
+
+-- no more effects than this follow each other
+pub effort-most : (most : ℕ) (ps : List Piece) → ends_among ps ≤ most → effort most ps ≤ most
+effort-most most [] h = omega arith
+effort-most most (Idle ∷ ps) h = omega (arith, h)
+effort-most most (Store target e ∷ ps) h = omega (arith, h)
+effort-most most (Leaving condition ∷ ps) h = omega (arith, h)
+effort-most most (Calling unit op actuals ∷ ps) h = omega (arith, h)
+effort-most most (Working ticks ∷ ps) h = omega (arith, h)
+effort-most most (Printing e ∷ ps) h = omega (arith, h)
+effort-most most (Testing condition block others ∷ ps) h = omega (arith, h)
+effort-most most (Turning name at last body ∷ ps) h = omega (arith, h)
+effort-most most (Turned name at last body ∷ ps) h = omega (arith, h)
+effort-most most (Returning outs stores caller ∷ ps) h = omega (arith, h)
+effort-most most (Closing object op vars outs stores caller ∷ ps) h = omega (arith, h)
+effort-most most (Keeping task v ∷ ps) h = omega (arith, h)
+effort-most most (Opening task ∷ ps) h = omega (arith, h)
+effort-most most (Requested task v ∷ ps) h = omega (arith, h)
+effort-most most (Finishing ∷ ps) h = omega (arith, h)
+
+-- without a first piece nothing is left
+pub none-left : (t : Thread) (fs : List Frame) → FitsFirst (place_of (first_place t) fs) None → behind fs ≡ []
+none-left t fs h = ap behind (first-frame t fs h)
+
+-- a piece without ticks is the end of a turn or of a body
+quiet : (c : Costs) (most : ℕ) (t : Thread) (first : Option rust.Piece) (fs : List Frame) → AreTicking c → FitsFirst (place_of (first_place t) fs) first
+    → first_ticks c (started first (kept fs)) ≡ 0 → effort most (started first (kept fs)) ≤ ends_among (started first (kept fs))
+quiet c most t None fs ticks h none = rw (none-left t fs h) (omega arith)
+quiet c most t (Some is.Idle) fs ticks h none = absurd (omega (arith, none, ticks.«nothing»))
+quiet c most t (Some (is.Store target e)) fs ticks h none = absurd (omega (arith, none, ticks.assign))
+quiet c most t (Some (is.Leaving condition)) fs ticks h none = absurd (omega (arith, none, ticks.test))
+quiet c most t (Some (is.Calling object op actuals)) fs ticks h none = absurd (omega (arith, none, ticks.call))
+quiet c most t (Some (is.Working n)) fs ticks h none = absurd (omega (arith, none, h))
+quiet c most t (Some (is.Printing e)) fs ticks h none = absurd (omega (arith, none, ticks.put))
+quiet c most t (Some (is.Testing arm arms other)) fs ticks h none = absurd (omega (arith, none, ticks.test))
+quiet c most t (Some (is.Turning r)) fs ticks h none = absurd (omega (arith, none, ticks.turn))
+quiet c most t (Some (is.Turned r)) fs ticks h none = omega arith
+quiet c most t (Some (is.Returning call)) fs ticks h none = omega arith
+quiet c most t (Some is.Finishing) fs ticks h none = absurd (omega (arith, none, ticks.finish))
+
+-- what starts with a piece does not depend on what stands behind it
+pub same-ticks : (c : Costs) (q : rust.Piece) (away : Variables) (ps : List Piece) → first_ticks c (piece_of q [] ∷ []) ≡ first_ticks c (piece_of q away ∷ ps)
+same-ticks c is.Idle away ps = refl
+same-ticks c (is.Store target e) away ps = refl
+same-ticks c (is.Leaving condition) away ps = refl
+same-ticks c (is.Calling object op actuals) away ps = refl
+same-ticks c (is.Working n) away ps = refl
+same-ticks c (is.Printing e) away ps = refl
+same-ticks c (is.Testing arm arms other) away ps = refl
+same-ticks c (is.Turning r) away ps = refl
+same-ticks c (is.Turned r) away ps = refl
+same-ticks c (is.Returning call) away ps = refl
+same-ticks c is.Finishing away ps = refl
+
+pub same-works : (q : rust.Piece) (away : Variables) (ps : List Piece) → first_works (piece_of q [] ∷ []) ≡ first_works (piece_of q away ∷ ps)
+same-works is.Idle away ps = refl
+same-works (is.Store target e) away ps = refl
+same-works (is.Leaving condition) away ps = refl
+same-works (is.Calling object op actuals) away ps = refl
+same-works (is.Working n) away ps = refl
+same-works (is.Printing e) away ps = refl
+same-works (is.Testing arm arms other) away ps = refl
+same-works (is.Turning r) away ps = refl
+same-works (is.Turned r) away ps = refl
+same-works (is.Returning call) away ps = refl
+same-works is.Finishing away ps = refl
 
 -- a `work` statement that starts takes a tick
-pub works-tick : (c : Costs) (loops : List Name) (qs : List Piece) → Sound loops qs → first_works qs ≤ min (first_ticks c qs) 1
-works-tick c loops [] h = omega arith
-works-tick c loops (Idle ∷ ps) h = omega arith
-works-tick c loops (Store target e ∷ ps) h = omega arith
-works-tick c loops (Leaving condition ∷ ps) h = omega arith
-works-tick c loops (Calling unit op actuals ∷ ps) h = absurd h
-works-tick c loops (Working ticks ∷ ps) h = omega (arith, h.0)
-works-tick c loops (Printing e ∷ ps) h = omega arith
-works-tick c loops (Testing condition block others ∷ ps) h = omega arith
-works-tick c loops (Turning name at last body ∷ ps) h = omega arith
-works-tick c loops (Turned name at last body ∷ ps) h = omega arith
-works-tick c loops (Returning outs stores caller ∷ ps) h = absurd h
-works-tick c loops (Closing object op vars outs stores caller ∷ ps) h = absurd h
-works-tick c loops (Keeping task v ∷ ps) h = absurd h
-works-tick c loops (Opening task ∷ ps) h = absurd h
-works-tick c loops (Requested task v ∷ ps) h = absurd h
-works-tick c loops (Finishing ∷ ps) h = omega arith
+pub works-tick : (c : Costs) (t : Thread) (first : Option rust.Piece) (fs : List Frame) → FitsFirst (place_of (first_place t) fs) first
+    → first_works (started first (kept fs)) ≤ min (first_ticks c (started first (kept fs))) 1
+works-tick c t None fs h = rw (none-left t fs h) (omega arith)
+works-tick c t (Some is.Idle) fs h = omega arith
+works-tick c t (Some (is.Store target e)) fs h = omega arith
+works-tick c t (Some (is.Leaving condition)) fs h = omega arith
+works-tick c t (Some (is.Calling object op actuals)) fs h = omega arith
+works-tick c t (Some (is.Working n)) fs h = omega (arith, h)
+works-tick c t (Some (is.Printing e)) fs h = omega arith
+works-tick c t (Some (is.Testing arm arms other)) fs h = omega arith
+works-tick c t (Some (is.Turning r)) fs h = omega arith
+works-tick c t (Some (is.Turned r)) fs h = omega arith
+works-tick c t (Some (is.Returning call)) fs h = omega arith
+works-tick c t (Some is.Finishing) fs h = omega arith
 
 if_zero : (b : Bool) → ◌≡◌ {A = ℕ} (if b then 0 else 0) 0
 if_zero true = refl
@@ -147,72 +233,90 @@ tells-later c n qs t e = ap (λ k. if k == 0 then first_tells qs else 0) e ∙ l
 pub tells-now : (l k f : ℕ) → l ≡ 0 → f ≡ k → (if l == 0 then f else 0) ≡ k
 tells-now l k f e h = rw e h
 
-pub works-start : (c : Costs) (loops : List Name) (qs : List Piece) (ticks works : ℕ) → Sound loops qs → ticks ≡ first_ticks c qs → works ≡ first_works qs → works ≤ min ticks 1
-works-start c loops qs ticks works h e f = let one = works-tick c loops qs h in rw (e, f) one
-
 no_act : true ≡ false → ⊥
 no_act h = cc
 
+-- a system with these passive units and nothing else
+abbrev alone : List Library → System
+alone libraries = record {
+  until = 0;
+  costs = record { assign = 0; test = 0; turn = 0; call = 0; «nothing» = 0; put = 0; finish = 0 };
+  libraries = libraries;
+  objects = [];
+  threads = [];
+}
+
 -- an event is told by a piece that tells one
-silent_test : (condition : Expression) (vs : Variables) (ps : List Piece) (b : Bool) → holds condition vs ≡ b → (done nothing (Leaving condition) vs ps).act ≡ deeds.Silent
-silent_test condition vs ps true e = rw e refl
-silent_test condition vs ps false e = rw e refl
+silent_test : (y : System) (condition : Expression) (vs : Variables) (ps : List Piece) (b : Bool) → holds condition vs ≡ b → (done y (Leaving condition) vs ps).act ≡ deeds.Silent
+silent_test y condition vs ps true e = rw e refl
+silent_test y condition vs ps false e = rw e refl
 
-pub tells-print : (p : Piece) (vs vs' : Variables) (ps qs : List Piece) (n : ℕ) → Does p vs ps (Print n) vs' qs → first_tells (p ∷ ps) ≡ 2
-tells-print Idle vs vs' ps qs n h = let t = ap (λ d. d.act) (h nothing) in absurd (no_act (cc))
-tells-print (Store target e) vs vs' ps qs n h = let t = ap (λ d. d.act) (h nothing) in absurd (no_act (cc))
-tells-print (Leaving condition) vs vs' ps qs n h = let s = silent_test condition vs ps (holds condition vs) refl in let t = ap (λ d. d.act) (h nothing) in absurd (no_act (cc))
-tells-print (Calling unit op actuals) vs vs' ps qs n h = let t = ap (λ d. d.act) (h nothing) in absurd (no_act (cc))
-tells-print (Working ticks) vs vs' ps qs n h = let t = ap (λ d. d.act) (h nothing) in absurd (no_act (cc))
-tells-print (Printing e) vs vs' ps qs n h = refl
-tells-print (Testing condition block others) vs vs' ps qs n h = let t = ap (λ d. d.act) (h nothing) in absurd (no_act (cc))
-tells-print (Turning name at last body) vs vs' ps qs n h = let t = ap (λ d. d.act) (h nothing) in absurd (no_act (cc))
-tells-print (Turned name at last body) vs vs' ps qs n h = let t = ap (λ d. d.act) (h nothing) in absurd (no_act (cc))
-tells-print (Returning outs stores caller) vs vs' ps qs n h = let t = ap (λ d. d.act) (h nothing) in absurd (no_act (cc))
-tells-print (Closing object op vars outs stores caller) vs vs' ps qs n h = let t = ap (λ d. d.act) (h nothing) in absurd (no_act (cc))
-tells-print (Keeping task v) vs vs' ps qs n h = let t = ap (λ d. d.act) (h nothing) in absurd (no_act (cc))
-tells-print (Opening task) vs vs' ps qs n h = let t = ap (λ d. d.act) (h nothing) in absurd (no_act (cc))
-tells-print (Requested task v) vs vs' ps qs n h = let t = ap (λ d. d.act) (h nothing) in absurd (no_act (cc))
-tells-print Finishing vs vs' ps qs n h = refl
+calls_nothing_out : (k : Callee) (actuals : List Expression) (vs : Variables) (ps : List Piece) → ((n : ℕ) → (called k actuals vs ps).act ≡ deeds.Print n → ⊥) × ((called k actuals vs ps).act ≡ deeds.Finish → ⊥)
+calls_nothing_out (Plain o) actuals vs ps = ((λ n e. no_act (cc)), (λ e. no_act (cc)))
+calls_nothing_out (Protected object op g o) actuals vs ps = ((λ n e. no_act (cc)), (λ e. no_act (cc)))
+calls_nothing_out (Request task) actuals vs ps = ((λ n e. no_act (cc)), (λ e. no_act (cc)))
+calls_nothing_out Unknown actuals vs ps = ((λ n e. no_act (cc)), (λ e. no_act (cc)))
 
-pub tells-finish : (p : Piece) (vs vs' : Variables) (ps qs : List Piece) → Does p vs ps Finish vs' qs → first_tells (p ∷ ps) ≡ 2
-tells-finish Idle vs vs' ps qs h = let t = ap (λ d. d.act) (h nothing) in absurd (no_act (cc))
-tells-finish (Store target e) vs vs' ps qs h = let t = ap (λ d. d.act) (h nothing) in absurd (no_act (cc))
-tells-finish (Leaving condition) vs vs' ps qs h = let s = silent_test condition vs ps (holds condition vs) refl in let t = ap (λ d. d.act) (h nothing) in absurd (no_act (cc))
-tells-finish (Calling unit op actuals) vs vs' ps qs h = let t = ap (λ d. d.act) (h nothing) in absurd (no_act (cc))
-tells-finish (Working ticks) vs vs' ps qs h = let t = ap (λ d. d.act) (h nothing) in absurd (no_act (cc))
-tells-finish (Printing e) vs vs' ps qs h = refl
-tells-finish (Testing condition block others) vs vs' ps qs h = let t = ap (λ d. d.act) (h nothing) in absurd (no_act (cc))
-tells-finish (Turning name at last body) vs vs' ps qs h = let t = ap (λ d. d.act) (h nothing) in absurd (no_act (cc))
-tells-finish (Turned name at last body) vs vs' ps qs h = let t = ap (λ d. d.act) (h nothing) in absurd (no_act (cc))
-tells-finish (Returning outs stores caller) vs vs' ps qs h = let t = ap (λ d. d.act) (h nothing) in absurd (no_act (cc))
-tells-finish (Closing object op vars outs stores caller) vs vs' ps qs h = let t = ap (λ d. d.act) (h nothing) in absurd (no_act (cc))
-tells-finish (Keeping task v) vs vs' ps qs h = let t = ap (λ d. d.act) (h nothing) in absurd (no_act (cc))
-tells-finish (Opening task) vs vs' ps qs h = let t = ap (λ d. d.act) (h nothing) in absurd (no_act (cc))
-tells-finish (Requested task v) vs vs' ps qs h = let t = ap (λ d. d.act) (h nothing) in absurd (no_act (cc))
-tells-finish Finishing vs vs' ps qs h = refl
+pub tells-print : (ls : List Library) (p : Piece) (vs vs' : Variables) (ps qs : List Piece) (n : ℕ) → Does ls p vs ps (Print n) vs' qs → first_tells (p ∷ ps) ≡ 2
+tells-print ls Idle vs vs' ps qs n h = let t = ap (λ d. d.act) (h (alone ls) refl) in absurd (no_act (cc))
+tells-print ls (Store target e) vs vs' ps qs n h = let t = ap (λ d. d.act) (h (alone ls) refl) in absurd (no_act (cc))
+tells-print ls (Leaving condition) vs vs' ps qs n h = let s = silent_test (alone ls) condition vs ps (holds condition vs) refl in let t = ap (λ d. d.act) (h (alone ls) refl) in absurd (no_act (cc))
+tells-print ls (Calling unit op actuals) vs vs' ps qs n h = absurd ((calls_nothing_out (callee (alone ls) unit op) actuals vs ps).0 n (ap (λ d. d.act) (h (alone ls) refl)))
+tells-print ls (Working ticks) vs vs' ps qs n h = let t = ap (λ d. d.act) (h (alone ls) refl) in absurd (no_act (cc))
+tells-print ls (Printing e) vs vs' ps qs n h = refl
+tells-print ls (Testing condition block others) vs vs' ps qs n h = let t = ap (λ d. d.act) (h (alone ls) refl) in absurd (no_act (cc))
+tells-print ls (Turning name at last body) vs vs' ps qs n h = let t = ap (λ d. d.act) (h (alone ls) refl) in absurd (no_act (cc))
+tells-print ls (Turned name at last body) vs vs' ps qs n h = let t = ap (λ d. d.act) (h (alone ls) refl) in absurd (no_act (cc))
+tells-print ls (Returning outs stores caller) vs vs' ps qs n h = let t = ap (λ d. d.act) (h (alone ls) refl) in absurd (no_act (cc))
+tells-print ls (Closing object op vars outs stores caller) vs vs' ps qs n h = let t = ap (λ d. d.act) (h (alone ls) refl) in absurd (no_act (cc))
+tells-print ls (Keeping task v) vs vs' ps qs n h = let t = ap (λ d. d.act) (h (alone ls) refl) in absurd (no_act (cc))
+tells-print ls (Opening task) vs vs' ps qs n h = let t = ap (λ d. d.act) (h (alone ls) refl) in absurd (no_act (cc))
+tells-print ls (Requested task v) vs vs' ps qs n h = let t = ap (λ d. d.act) (h (alone ls) refl) in absurd (no_act (cc))
+tells-print ls Finishing vs vs' ps qs n h = refl
+
+pub tells-finish : (ls : List Library) (p : Piece) (vs vs' : Variables) (ps qs : List Piece) → Does ls p vs ps Finish vs' qs → first_tells (p ∷ ps) ≡ 2
+tells-finish ls Idle vs vs' ps qs h = let t = ap (λ d. d.act) (h (alone ls) refl) in absurd (no_act (cc))
+tells-finish ls (Store target e) vs vs' ps qs h = let t = ap (λ d. d.act) (h (alone ls) refl) in absurd (no_act (cc))
+tells-finish ls (Leaving condition) vs vs' ps qs h = let s = silent_test (alone ls) condition vs ps (holds condition vs) refl in let t = ap (λ d. d.act) (h (alone ls) refl) in absurd (no_act (cc))
+tells-finish ls (Calling unit op actuals) vs vs' ps qs h = absurd ((calls_nothing_out (callee (alone ls) unit op) actuals vs ps).1 (ap (λ d. d.act) (h (alone ls) refl)))
+tells-finish ls (Working ticks) vs vs' ps qs h = let t = ap (λ d. d.act) (h (alone ls) refl) in absurd (no_act (cc))
+tells-finish ls (Printing e) vs vs' ps qs h = refl
+tells-finish ls (Testing condition block others) vs vs' ps qs h = let t = ap (λ d. d.act) (h (alone ls) refl) in absurd (no_act (cc))
+tells-finish ls (Turning name at last body) vs vs' ps qs h = let t = ap (λ d. d.act) (h (alone ls) refl) in absurd (no_act (cc))
+tells-finish ls (Turned name at last body) vs vs' ps qs h = let t = ap (λ d. d.act) (h (alone ls) refl) in absurd (no_act (cc))
+tells-finish ls (Returning outs stores caller) vs vs' ps qs h = let t = ap (λ d. d.act) (h (alone ls) refl) in absurd (no_act (cc))
+tells-finish ls (Closing object op vars outs stores caller) vs vs' ps qs h = let t = ap (λ d. d.act) (h (alone ls) refl) in absurd (no_act (cc))
+tells-finish ls (Keeping task v) vs vs' ps qs h = let t = ap (λ d. d.act) (h (alone ls) refl) in absurd (no_act (cc))
+tells-finish ls (Opening task) vs vs' ps qs h = let t = ap (λ d. d.act) (h (alone ls) refl) in absurd (no_act (cc))
+tells-finish ls (Requested task v) vs vs' ps qs h = let t = ap (λ d. d.act) (h (alone ls) refl) in absurd (no_act (cc))
+tells-finish ls Finishing vs vs' ps qs h = refl
 
 -- effects without ticks between them come to an end
-pub effort-falls : (c : Costs) (loops : List Name) (p : Piece) (vs vs' : Variables) (ps qs : List Piece) (act : Act) → costs_break c ≡ false → Sound loops qs → turns_among qs ≤ 131
-    → Does p vs ps act vs' qs → first_ticks c qs ≡ 0 → effort qs < effort (p ∷ ps)
-effort-falls c loops Idle vs vs' ps qs act t h few does none = let calm = quiet c loops qs (ticking c t) h none in omega (arith, calm, few)
-effort-falls c loops (Store target e) vs vs' ps qs act t h few does none = let calm = quiet c loops qs (ticking c t) h none in omega (arith, calm, few)
-effort-falls c loops (Leaving condition) vs vs' ps qs act t h few does none = let calm = quiet c loops qs (ticking c t) h none in omega (arith, calm, few)
-effort-falls c loops (Calling unit op actuals) vs vs' ps qs act t h few does none = let calm = quiet c loops qs (ticking c t) h none in omega (arith, calm, few)
-effort-falls c loops (Working ticks) vs vs' ps qs act t h few does none = let calm = quiet c loops qs (ticking c t) h none in omega (arith, calm, few)
-effort-falls c loops (Printing e) vs vs' ps qs act t h few does none = let calm = quiet c loops qs (ticking c t) h none in omega (arith, calm, few)
-effort-falls c loops (Testing condition block others) vs vs' ps qs act t h few does none = let calm = quiet c loops qs (ticking c t) h none in omega (arith, calm, few)
-effort-falls c loops (Turning name at last body) vs vs' ps qs act t h few does none = let calm = quiet c loops qs (ticking c t) h none in omega (arith, calm, few)
-effort-falls c loops (Turned name at last body) vs vs' ps qs act t h few does none =
-    let calm = quiet c loops qs (ticking c t) h none in
-    let same : turns_among qs ≡ turns_among ps = sym (ap (λ d. turns_among d.pieces) (does nothing)) ∙ among_turns (nat_le (suc at) last) name (suc at) last body ps refl in
-    omega (arith, calm, same)
-effort-falls c loops (Returning outs stores caller) vs vs' ps qs act t h few does none = let calm = quiet c loops qs (ticking c t) h none in omega (arith, calm, few)
-effort-falls c loops (Closing object op vars outs stores caller) vs vs' ps qs act t h few does none = let calm = quiet c loops qs (ticking c t) h none in omega (arith, calm, few)
-effort-falls c loops (Keeping task v) vs vs' ps qs act t h few does none = let calm = quiet c loops qs (ticking c t) h none in omega (arith, calm, few)
-effort-falls c loops (Opening task) vs vs' ps qs act t h few does none = let calm = quiet c loops qs (ticking c t) h none in omega (arith, calm, few)
-effort-falls c loops (Requested task v) vs vs' ps qs act t h few does none = let calm = quiet c loops qs (ticking c t) h none in omega (arith, calm, few)
-effort-falls c loops Finishing vs vs' ps qs act t h few does none = let calm = quiet c loops qs (ticking c t) h none in omega (arith, calm, few)
+module _ (c : Costs) (most : ℕ) (ls : List Library) (t : Thread) (first : Option rust.Piece) (fs : List Frame) (ticking' : costs_break c ≡ false)
+    (fits : FitsFirst (place_of (first_place t) fs) first) (few : ends_among (started first (kept fs)) < most) (none : first_ticks c (started first (kept fs)) ≡ 0) where
+  pub effort-falls : (p : Piece) (vs vs' : Variables) (ps : List Piece) (act : Act) → Does ls p vs ps act vs' (started first (kept fs))
+      → effort most (started first (kept fs)) < effort most (p ∷ ps)
+  effort-falls Idle vs vs' ps act does = let calm = quiet c most t first fs (ticking c ticking') fits none in omega (arith, calm, few)
+  effort-falls (Store target e) vs vs' ps act does = let calm = quiet c most t first fs (ticking c ticking') fits none in omega (arith, calm, few)
+  effort-falls (Leaving condition) vs vs' ps act does = let calm = quiet c most t first fs (ticking c ticking') fits none in omega (arith, calm, few)
+  effort-falls (Calling unit op actuals) vs vs' ps act does = let calm = quiet c most t first fs (ticking c ticking') fits none in omega (arith, calm, few)
+  effort-falls (Working ticks) vs vs' ps act does = let calm = quiet c most t first fs (ticking c ticking') fits none in omega (arith, calm, few)
+  effort-falls (Printing e) vs vs' ps act does = let calm = quiet c most t first fs (ticking c ticking') fits none in omega (arith, calm, few)
+  effort-falls (Testing condition block others) vs vs' ps act does = let calm = quiet c most t first fs (ticking c ticking') fits none in omega (arith, calm, few)
+  effort-falls (Turning name at last body) vs vs' ps act does = let calm = quiet c most t first fs (ticking c ticking') fits none in omega (arith, calm, few)
+  effort-falls (Turned name at last body) vs vs' ps act does =
+      let calm = quiet c most t first fs (ticking c ticking') fits none in
+      let same : ends_among (started first (kept fs)) ≡ ends_among ps = sym (ap (λ d. ends_among d.pieces) (does (alone ls) refl)) ∙ ends_turns (nat_le (suc at) last) name (suc at) last body ps refl in
+      omega (arith, calm, same)
+  effort-falls (Returning outs stores caller) vs vs' ps act does =
+      let calm = quiet c most t first fs (ticking c ticking') fits none in
+      let same : ends_among (started first (kept fs)) ≡ ends_among ps = sym (ap (λ d. ends_among d.pieces) (does (alone ls) refl)) in
+      omega (arith, calm, same)
+  effort-falls (Closing object op vars outs stores caller) vs vs' ps act does = let calm = quiet c most t first fs (ticking c ticking') fits none in omega (arith, calm, few)
+  effort-falls (Keeping task v) vs vs' ps act does = let calm = quiet c most t first fs (ticking c ticking') fits none in omega (arith, calm, few)
+  effort-falls (Opening task) vs vs' ps act does = let calm = quiet c most t first fs (ticking c ticking') fits none in omega (arith, calm, few)
+  effort-falls (Requested task v) vs vs' ps act does = let calm = quiet c most t first fs (ticking c ticking') fits none in omega (arith, calm, few)
+  effort-falls Finishing vs vs' ps act does = let calm = quiet c most t first fs (ticking c ticking') fits none in omega (arith, calm, few)
 
 -- a silent effect is followed by fewer effects of the same time
 pub nears-silent : (k l l' e e' : ℕ) → l ≡ 0 → (l' ≡ 0 → e' < e) → 0 < e → k + (3 + ((if l' == 0 then e' else 0) + 0)) < k + (3 + ((if l == 0 then e else 0) + 0))
@@ -221,29 +325,29 @@ nears-silent k l l' e e' used falls some = by_test (l' == 0) refl where
   by_test true h = let zero_is : l' ≡ 0 = grind arith in rw (h, used) (omega (arith, falls zero_is))
   by_test false h = rw (h, used) (omega (arith, some))
 
-pub some-effort : (p : Piece) (ps : List Piece) → 0 < effort (p ∷ ps)
-some-effort Idle ps = omega arith
-some-effort (Store target e) ps = omega arith
-some-effort (Leaving condition) ps = omega arith
-some-effort (Calling unit op actuals) ps = omega arith
-some-effort (Working ticks) ps = omega arith
-some-effort (Printing e) ps = omega arith
-some-effort (Testing condition block others) ps = omega arith
-some-effort (Turning name at last body) ps = omega arith
-some-effort (Turned name at last body) ps = omega arith
-some-effort (Returning outs stores caller) ps = omega arith
-some-effort (Closing object op vars outs stores caller) ps = omega arith
-some-effort (Keeping task v) ps = omega arith
-some-effort (Opening task) ps = omega arith
-some-effort (Requested task v) ps = omega arith
-some-effort Finishing ps = omega arith
+pub some-effort : (most : ℕ) (p : Piece) (ps : List Piece) → 0 < most → 0 < effort most (p ∷ ps)
+some-effort most Idle ps h = omega (arith, h)
+some-effort most (Store target e) ps h = omega (arith, h)
+some-effort most (Leaving condition) ps h = omega (arith, h)
+some-effort most (Calling unit op actuals) ps h = omega (arith, h)
+some-effort most (Working ticks) ps h = omega (arith, h)
+some-effort most (Printing e) ps h = omega (arith, h)
+some-effort most (Testing condition block others) ps h = omega (arith, h)
+some-effort most (Turning name at last body) ps h = omega (arith, h)
+some-effort most (Turned name at last body) ps h = omega (arith, h)
+some-effort most (Returning outs stores caller) ps h = omega (arith, h)
+some-effort most (Closing object op vars outs stores caller) ps h = omega (arith, h)
+some-effort most (Keeping task v) ps h = omega (arith, h)
+some-effort most (Opening task) ps h = omega (arith, h)
+some-effort most (Requested task v) ps h = omega (arith, h)
+some-effort most Finishing ps h = omega (arith, h)
 
 -- the effects of an instant are fewer than the steps of a tick
-pub nears-use : (until time l e : ℕ) → time + 1 ≤ until → e ≤ 200 → (until - (time + 1)) * 300 + (3 + ((if l == 0 then e else 0) + 0)) < (until - time) * 300 + 0
-nears-use until time l e h few =
-    let each : (if l == 0 then e else 0) ≤ 200 = at_most (l == 0) in
+pub nears-use : (most until time l e : ℕ) → time + 1 ≤ until → e ≤ most → (until - (time + 1)) * (most + 4) + (3 + ((if l == 0 then e else 0) + 0)) < (until - time) * (most + 4) + 0
+nears-use most until time l e h few =
+    let each : (if l == 0 then e else 0) ≤ most = at_most (l == 0) in
     let next : until - time ≡ (until - (time + 1)) + 1 = omega arith in
     rw next (omega (arith, each)) where
-      at_most : (b : Bool) → (if b then e else 0) ≤ 200
+      at_most : (b : Bool) → (if b then e else 0) ≤ most
       at_most true = few
       at_most false = omega arith

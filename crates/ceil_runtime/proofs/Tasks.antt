@@ -16,7 +16,7 @@ use Rattle.seq_tree.specs.declared.tree.Datum.{Datum}
 use Rattle.seq_tree.specs.declared.tree.Block.{Block}
 use Rattle.seq_tree.specs.declared.tree.Stmt.{Stmt}
 use Rattle.machine.specs.Systems.{Thread, Periodic}
-use Rattle.ceil_runtime.proofs.Frames.{block-tree}
+use Rattle.ceil_runtime.proofs.Blocks.{block-tree}
 use Rattle.ceil_runtime.specs.Threads.{HasOneTask, threads_from}
 
 no_true : false ≡ true → ⊥

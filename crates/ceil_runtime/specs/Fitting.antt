@@ -1,79 +1,179 @@
--- How far the frames may grow: room for 130 of them is enough for every block whose constructs are nested 64 deep.
--- An `if` adds one frame to those of its block, a loop two.
-use Rattle.std.specs.Prelude.{◌≡◌, ℕ, suc, ◌-◌, ◌≤◌, ◌<◌, List, [], ◌∷◌, map, length, Option, Some, None, ⊤}
-use Rattle.seq_tree.specs.Trees.{statement_of, statements_of, block_of, arm_of}
+-- What is known of statements, pieces and frames: where they stand, and how far the frames may grow.
+-- An `if` adds one frame to those of its block; a loop adds two, and a variable that a call would put away.
+use Rattle.std.specs.Prelude.{◌≡◌, ℕ, suc, ◌+◌, ◌-◌, ◌≤◌, ◌<◌, Bool, true, false, List, [], ◌∷◌, ◌++◌, map, drop, fold, length, Option, Some, None, ⊤}
+use Rattle.seq_tree.specs.Names.{Name}
+use Rattle.seq_tree.specs.Trees.{statement_of, statements_of, block_of, arm_of, operation_of}
+use Rattle.seq_tree.specs.Operations.{Operation}
+use Rattle.seq_tree.specs.Variables.{Variables}
 use Rattle.seq_tree.specs.Statements.{Statement, Statements, Branches, Null, Assign, If, For, ExitWhen, Call, Work, Put, End, Then, Nothing, Else, When}
+use Rattle.seq_tree.specs.declared.tree.OpName.{OpName}
 use Rattle.seq_tree.specs.declared.tree.Stmt.{Stmt}
-use Rattle.ceil_runtime.specs.Progresses.{branches_left}
+use Rattle.machine.specs.Systems.{Library}
+use Rattle.ceil_runtime.specs.Callable.{IsClear, call_room, calls_room, op_name}
+use Rattle.ceil_runtime.specs.Progresses.{Kept, branches_left, kept, put_away, with_frame}
+use Rattle.ceil_runtime.specs.declared.piece.Call as call
 use Rattle.ceil_runtime.specs.declared.piece.Piece.{Piece}
-use Rattle.ceil_runtime.specs.declared.piece.Piece.TheVariants.{Testing, Turning, Turned}
+use Rattle.ceil_runtime.specs.declared.piece.Piece.TheVariants as piece
 use Rattle.ceil_runtime.specs.declared.piece.Frame.{Frame}
 use Rattle.ceil_runtime.specs.declared.piece.Frame.TheVariants as frame
 
--- statements that do with so many more frames; each `if` begins with a condition
+-- where statements stand: the passive units, the operations whose calls are under way, whether a loop is open, and how many
+-- frames may be added
+pub record Spot : Type 0 where
+  pub libraries : List Library
+  pub chain : List OpName
+  pub inside : Bool
+  pub room : ℕ
+
+-- behind one frame more
+abbrev pub above : Spot → Spot
+above s = record s { room = s.room - 1 }
+
+-- inside a loop
+abbrev pub in_loop : Spot → Spot
+in_loop s = record s { inside = true; room = s.room - 3 }
+
+-- statements that do with the frames that may be added; each `if` begins with a condition, and each call leads to an operation
+-- that is not under way
 abbrev mutual
-  pub FitsStatement : ℕ → Statement → Type 0
-  FitsStatement room (If branches) = FitsIf room branches
-  FitsStatement room (For name low high body) = (2 ≤ room) × FitsBlock (room - 2) body
-  FitsStatement room Null = ⊤
-  FitsStatement room (Assign target value) = ⊤
-  FitsStatement room (ExitWhen condition) = ⊤
-  FitsStatement room (Call object op actuals) = ⊤
-  FitsStatement room (Work ticks) = ⊤
-  FitsStatement room (Put value) = ⊤
+  pub FitsStatement : Spot → Statement → Type 0
+  FitsStatement s Null = ⊤
+  FitsStatement s (Assign target value) = ⊤
+  FitsStatement s (If branches) = FitsIf s branches
+  FitsStatement s (For name low high body) = (3 ≤ s.room) × FitsBlock (in_loop s) body
+  FitsStatement s (ExitWhen condition) = s.inside ≡ true
+  FitsStatement s (Call object op actuals) = IsClear s.libraries s.chain (op_name object op)
+  FitsStatement s (Work ticks) = 0 < ticks
+  FitsStatement s (Put value) = ⊤
 
-  pub FitsBlock : ℕ → Statements → Type 0
-  FitsBlock room End = ⊤
-  FitsBlock room (Then first rest) = FitsStatement room first × FitsBlock room rest
+  pub FitsBlock : Spot → Statements → Type 0
+  FitsBlock s End = ⊤
+  FitsBlock s (Then first rest) = FitsStatement s first × FitsBlock s rest
 
-  pub FitsIf : ℕ → Branches → Type 0
-  FitsIf room Nothing = ⊥
-  FitsIf room (Else block) = ⊥
-  FitsIf room (When condition block others) = (1 ≤ room) × FitsBlock (room - 1) block × FitsBranches room others
+  pub FitsIf : Spot → Branches → Type 0
+  FitsIf s Nothing = ⊥
+  FitsIf s (Else block) = ⊥
+  FitsIf s (When condition block others) = (1 ≤ s.room) × FitsBlock (above s) block × FitsBranches s others
 
-  pub FitsBranches : ℕ → Branches → Type 0
-  FitsBranches room Nothing = ⊤
-  FitsBranches room (Else block) = (1 ≤ room) × FitsBlock (room - 1) block
-  FitsBranches room (When condition block others) = (1 ≤ room) × FitsBlock (room - 1) block × FitsBranches room others
+  pub FitsBranches : Spot → Branches → Type 0
+  FitsBranches s Nothing = ⊤
+  FitsBranches s (Else block) = (1 ≤ s.room) × FitsBlock (above s) block
+  FitsBranches s (When condition block others) = (1 ≤ s.room) × FitsBlock (above s) block × FitsBranches s others
 
 -- the statements of a list
-abbrev pub FitsList : ℕ → List Stmt → Type 0
-FitsList room block = FitsBlock room (statements_of (map statement_of block))
+abbrev pub FitsList : Spot → List Stmt → Type 0
+FitsList s block = FitsBlock s (statements_of (map statement_of block))
 
--- a statement that does with some more frames
-pub record FitsSomehow (s : Statement) : Type 0 where
-  pub room : ℕ
-  pub fits : FitsStatement room s
+-- a statement that stands somewhere
+pub record FitsSomewhere (s : Statement) : Type 0 where
+  pub spot : Spot
+  pub fits : FitsStatement spot s
 
--- statements that do with some more frames
-pub record FitSomehow (block : List Stmt) : Type 0 where
-  pub room : ℕ
-  pub fits : FitsList room block
+-- statements that stand somewhere
+pub record FitSomewhere (block : List Stmt) : Type 0 where
+  pub spot : Spot
+  pub fits : FitsList spot block
 
--- a piece that does with so many more frames
-abbrev pub FitsPiece : ℕ → Piece → Type 0
-FitsPiece room (Testing arm arms other) = FitsIf room (When (arm_of arm.now).0 (arm_of arm.now).1 (branches_left arms.now other.now))
-FitsPiece room (Turning r) = (2 ≤ room) × FitsBlock (room - 2) (block_of r.body.now)
-FitsPiece room (Turned r) = (2 ≤ room) × FitsBlock (room - 2) (block_of r.body.now)
-FitsPiece room _ = ⊤
+-- a piece
+abbrev pub FitsPiece : Spot → Piece → Type 0
+FitsPiece s (piece.Leaving condition) = s.inside ≡ true
+FitsPiece s (piece.Calling object op actuals) = IsClear s.libraries s.chain (op_name object.now op.now)
+FitsPiece s (piece.Working ticks) = 0 < ticks
+FitsPiece s (piece.Testing arm arms other) = FitsIf s (When (arm_of arm.now).0 (arm_of arm.now).1 (branches_left arms.now other.now))
+FitsPiece s (piece.Turning r) = (3 ≤ s.room) × FitsBlock (in_loop s) (block_of r.body.now)
+FitsPiece s (piece.Turned r) = (3 ≤ s.room) × FitsBlock (in_loop s) (block_of r.body.now)
+FitsPiece s _ = ⊤
 
--- a frame with so many behind it
-abbrev pub FitsFrame : ℕ → Frame → Type 0
-FitsFrame n frame.Finish = n < 130
-FitsFrame n (frame.Stmts ss) = (n < 130) × FitsList (129 - n) ss.now
-FitsFrame n (frame.Turned r) = FitsPiece (130 - n) (Turned r)
+-- a piece that a statement begins with
+abbrev pub IsOfStatement : Piece → Type 0
+IsOfStatement (piece.Turned r) = ⊥
+IsOfStatement (piece.Returning c) = ⊥
+IsOfStatement piece.Finishing = ⊥
+IsOfStatement _ = ⊤
+
+-- where a frame stands: the names of the variables there, and how many frames are below
+pub record Place : Type 0 where
+  pub spot : Spot
+  pub names : List Name
+  pub height : ℕ
+
+-- the name of the operation of a call
+abbrev pub call_name : call.Call → OpName
+call_name c = op_name c.object.now c.name.now
+
+-- inside its body
+abbrev pub in_call : Spot → OpName → Spot
+in_call s c = record s { chain = c ∷ s.chain; inside = false; room = 193 }
+
+-- the names of the parameters and locals of an operation
+abbrev pub body_names : Operation → List Name
+body_names o = map (λ q. q.name) o.sig.params ++ map (λ d. d.name) o.locals
+
+-- where the next frame stands
+abbrev pub next : Place → Frame → Place
+next p frame.Finish = record p { spot = above p.spot; height = suc p.height }
+next p (frame.Stmts ss) = record p { spot = above p.spot; height = suc p.height }
+next p (frame.Turned r) = record { spot = record p.spot { inside = true; room = p.spot.room - 2 }; names = r.name.now ∷ p.names; height = suc p.height }
+next p (frame.Saved v) = record p { names = drop 1 p.names; height = suc p.height }
+next p (frame.Return c) = record { spot = in_call p.spot (call_name c); names = body_names (operation_of c.op.now); height = suc p.height }
+
+-- a call that there is room for, before its body
+pub record IsUnderWay (s : Spot) (c : call.Call) : Type 0 where
+  pub few : length c.op.now.sig.params.items ≤ 8
+  pub room : calls_room (call_name c ∷ s.chain) s.libraries + call_room (operation_of c.op.now) ≤ calls_room s.chain s.libraries
+
+-- a frame, with what is put away below it: a call ends where no variables of its caller are left, and all others stand on none
+abbrev pub FitsFrame : Place → Variables → Frame → Type 0
+FitsFrame p away frame.Finish = (away ≡ []) × (1 ≤ p.spot.room) × (p.height ≡ 0)
+FitsFrame p away (frame.Stmts ss) = (away ≡ []) × (1 ≤ p.spot.room) × FitsList (above p.spot) ss.now
+FitsFrame p away (frame.Turned r) = (away ≡ []) × FitsPiece p.spot (piece.Turned r)
+FitsFrame p away (frame.Saved v) = p.names ≡ v.name.now ∷ drop 1 p.names
+FitsFrame p away (frame.Return c) = (p.names ≡ []) × IsUnderWay p.spot c
 
 -- frames from a place on
-abbrev pub FitFrom : ℕ → List Frame → Type 0
-FitFrom n [] = ⊤
-FitFrom n (f ∷ fs) = FitsFrame n f × FitFrom (suc n) fs
+abbrev pub Fit : Place → Kept → List Frame → Type 0
+Fit p k [] = ⊤
+Fit p k (f ∷ fs) = FitsFrame p k.away f × Fit (next p f) (with_frame k f) fs
 
--- a piece, where there is one
-abbrev pub FitsFirst : ℕ → Option Piece → Type 0
-FitsFirst n None = n ≡ 0
-FitsFirst n (Some p) = FitsPiece (130 - n) p
+-- where frames lead from a place
+abbrev pub place_of : Place → List Frame → Place
+place_of p fs = fold next p fs
 
--- a piece and the frames behind it
-pub record Fits (p : Option Piece) (fs : List Frame) : Type 0 where
-  pub piece : FitsFirst (length fs) p
-  pub frames : FitFrom 0 fs
+-- frames from which one was taken
+pub record IsPopped (p : Place) (fs gs : List Frame) (f : Frame) : Type 0 where
+  pub items : fs ≡ gs ++ f ∷ []
+  pub kept : kept fs ≡ with_frame (kept gs) f
+  pub place : place_of p fs ≡ next (place_of p gs) f
+  pub here : FitsFrame (place_of p gs) (put_away gs) f
+
+-- what is taken off frames
+abbrev pub Pops : Place → Option Frame → List Frame → List Frame → Type 0
+Pops p None fs gs = (fs ≡ []) × (gs ≡ [])
+Pops p (Some f) fs gs = IsPopped p fs gs f
+
+-- frames to which one was added
+pub record IsPushed (p : Place) (f : Frame) (fs gs : List Frame) : Type 0 where
+  pub kept : kept gs ≡ with_frame (kept fs) f
+  pub place : place_of p gs ≡ next (place_of p fs) f
+
+-- a piece with so many frames below; there is none only where nothing is left
+abbrev pub FitsFirst : Place → Option Piece → Type 0
+FitsFirst p None = p.height ≡ 0
+FitsFirst p (Some piece.Finishing) = p.height ≡ 0
+FitsFirst p (Some (piece.Returning c)) = (p.names ≡ []) × (length c.op.now.sig.params.items ≤ 8)
+FitsFirst p (Some q) = FitsPiece p.spot q
+
+-- the names of the variables while a piece is first: a turn that ends has one of its own, and a call ends with its own
+abbrev pub Named : List Name → Option Piece → List Name → Type 0
+Named names (Some (piece.Turned r)) now = now ≡ r.name.now ∷ names
+Named names (Some (piece.Returning c)) now = ⊤
+Named names _ now = now ≡ names
+
+-- the variables of a caller are put away above all pieces only where a call ends
+abbrev pub PutsAway : Option Piece → Variables → Type 0
+PutsAway (Some (piece.Returning c)) away = ⊤
+PutsAway _ away = away ≡ []
+
+-- the names of variables
+abbrev pub names_of : Variables → List Name
+names_of vs = map (λ v. v.0) vs

@@ -1,12 +1,12 @@
 pub mod Stacked
+pub mod Callable
 pub mod Progresses
 pub mod Fitting
-pub mod Sounds
+pub mod Threads
+pub mod Written
 pub mod OneProof
 pub mod Doing
 pub mod Effort
-pub mod Threads
-pub mod Written
 pub mod Progressed
 pub mod Replayable
 pub mod Left

@@ -1,108 +1,128 @@
 -- The facts that a machine keeps have one proof each.
 -- Each is made of equations of numbers, truth values and lists, and of orders of numbers.
-use Rattle.std.specs.Prelude.{ℕ, suc, ◌-◌, ◌≤◌, Bool, true, List, [], ◌∷◌, Option, Some, None, map}
-use Rattle.std.specs.Coded.{×_prop, Unit-prop, le_prop, Coded-set, coded_ℕ, coded_bool, coded_list}
+use Rattle.std.specs.Prelude.{◌≡◌, ℕ, Bool, true, List, [], ◌∷◌, Option, Some, None, map}
+use Rattle.std.specs.Coded.{×_prop, Unit-prop, le_prop, Coded-set, coded_ℕ, coded_bool, coded_list, coded×}
 use Rattle.seq_tree.specs.Names.{Name}
 use Rattle.seq_tree.specs.Statements.{Statement, Statements, Branches, Null, Assign, If, For, ExitWhen, Call, Work, Put, End, Then, Nothing, Else, When}
 use Rattle.seq_tree.specs.Trees.{arm_of, block_of, statement_of, statements_of}
-use Rattle.ceil_runtime.specs.Progresses.{branches_left}
-use Rattle.machine.specs.Pieces.{Piece, Idle, Store, Leaving, Calling, Working, Printing, Testing, Turning, Turned, Returning, Closing, Keeping, Opening, Requested, Finishing}
-use Rattle.ceil_runtime.specs.Sounds.{SoundStatement, SoundBlock, SoundBranches, Sound, IsNone, is_inside}
-use Rattle.ceil_runtime.specs.Fitting.{FitsStatement, FitsBlock, FitsIf, FitsBranches, FitsPiece, FitsFrame, FitFrom, FitsFirst}
+use Rattle.seq_tree.specs.Variables.{Variables}
+use Rattle.seq_tree.specs.declared.tree.OpName.{OpName}
+use Rattle.machine.specs.Systems.{Library}
+use Rattle.ceil_runtime.specs.Callable.{IsClear, op_name}
+use Rattle.ceil_runtime.specs.Progresses.{Kept, branches_left, with_frame}
+use Rattle.ceil_runtime.specs.Written.{CanCall}
+use Rattle.ceil_runtime.specs.Fitting.{FitsStatement, FitsBlock, FitsIf, FitsBranches, FitsPiece, FitsFrame, Fit, FitsFirst, Named, PutsAway, Spot, Place, above, in_loop, next}
 use Rattle.ceil_runtime.specs.declared.piece.Piece as piece
 use Rattle.ceil_runtime.specs.declared.piece.Piece.TheVariants as is
 use Rattle.ceil_runtime.specs.declared.piece.Frame.{Frame}
 use Rattle.ceil_runtime.specs.declared.piece.Frame.TheVariants as frame
 
-mutual
-  sound-statement-prop : (inside : Bool) (s : Statement) → IsProp (SoundStatement inside s)
-  sound-statement-prop inside Null = Unit-prop
-  sound-statement-prop inside (Assign target value) = Unit-prop
-  sound-statement-prop inside (If branches) = sound-branches-prop inside branches
-  sound-statement-prop inside (For name low high body) = sound-block-prop true body
-  sound-statement-prop inside (ExitWhen condition) = Coded-set coded_bool inside true
-  sound-statement-prop inside (Call object op actuals) = hlevel
-  sound-statement-prop inside (Work ticks) = le_prop
-  sound-statement-prop inside (Put value) = Unit-prop
+-- equations of truth values, numbers and lists of names
+truth_prop : (a b : Bool) → IsProp (a ≡ b)
+truth_prop a b = Coded-set coded_bool a b
 
-  pub sound-block-prop : (inside : Bool) (ss : Statements) → IsProp (SoundBlock inside ss)
-  sound-block-prop inside End = Unit-prop
-  sound-block-prop inside (Then first rest) = ×_prop (sound-statement-prop inside first) (sound-block-prop inside rest)
+number_prop : (a b : ℕ) → IsProp (a ≡ b)
+number_prop a b = Coded-set coded_ℕ a b
 
-  sound-branches-prop : (inside : Bool) (bs : Branches) → IsProp (SoundBranches inside bs)
-  sound-branches-prop inside Nothing = Unit-prop
-  sound-branches-prop inside (Else block) = sound-block-prop inside block
-  sound-branches-prop inside (When condition block others) = ×_prop (sound-block-prop inside block) (sound-branches-prop inside others)
+names_prop : (a b : List Name) → IsProp (a ≡ b)
+names_prop a b = Coded-set (coded_list (coded_list coded_ℕ)) a b
 
-none-prop : (ps : List Piece) → IsProp (IsNone ps)
-none-prop [] = Unit-prop
-none-prop (p ∷ ps) = hlevel
-
-pub sound-prop : (loops : List Name) (ps : List Piece) → IsProp (Sound loops ps)
-sound-prop loops [] = Coded-set (coded_list (coded_list coded_ℕ)) loops []
-sound-prop loops (Idle ∷ ps) = sound-prop loops ps
-sound-prop loops (Store target e ∷ ps) = sound-prop loops ps
-sound-prop loops (Leaving condition ∷ ps) = ×_prop (Coded-set coded_bool (is_inside loops) true) (sound-prop loops ps)
-sound-prop loops (Calling unit op actuals ∷ ps) = hlevel
-sound-prop loops (Working ticks ∷ ps) = ×_prop le_prop (sound-prop loops ps)
-sound-prop loops (Printing e ∷ ps) = sound-prop loops ps
-sound-prop loops (Testing condition block others ∷ ps) = hlevel (sound-block-prop (is_inside loops) block, sound-branches-prop (is_inside loops) others, sound-prop loops ps)
-sound-prop loops (Turning name at last body ∷ ps) = ×_prop (sound-block-prop true body) (sound-prop loops ps)
-sound-prop [] (Turned name at last body ∷ ps) = ×_prop (sound-block-prop true body) hlevel
-sound-prop (n ∷ ns) (Turned name at last body ∷ ps) = ×_prop (sound-block-prop true body) (sound-prop ns ps)
-sound-prop loops (Returning outs stores caller ∷ ps) = hlevel
-sound-prop loops (Closing object op vars outs stores caller ∷ ps) = hlevel
-sound-prop loops (Keeping task v ∷ ps) = hlevel
-sound-prop loops (Opening task ∷ ps) = hlevel
-sound-prop loops (Requested task v ∷ ps) = hlevel
-sound-prop loops (Finishing ∷ ps) = ×_prop (Coded-set (coded_list (coded_list coded_ℕ)) loops []) (none-prop ps)
+clear-prop : (libraries : List Library) (chain : List OpName) (c : OpName) → IsProp (IsClear libraries chain c)
+clear-prop libraries chain c = hlevel truth_prop
 
 mutual
-  fits-statement-prop : (room : ℕ) (s : Statement) → IsProp (FitsStatement room s)
-  fits-statement-prop room Null = Unit-prop
-  fits-statement-prop room (Assign target value) = Unit-prop
-  fits-statement-prop room (If branches) = fits-if-prop room branches
-  fits-statement-prop room (For name low high body) = ×_prop le_prop (fits-block-prop (room - 2) body)
-  fits-statement-prop room (ExitWhen condition) = Unit-prop
-  fits-statement-prop room (Call object op actuals) = Unit-prop
-  fits-statement-prop room (Work ticks) = Unit-prop
-  fits-statement-prop room (Put value) = Unit-prop
+  fits-statement-prop : (s : Spot) (t : Statement) → IsProp (FitsStatement s t)
+  fits-statement-prop s Null = Unit-prop
+  fits-statement-prop s (Assign target value) = Unit-prop
+  fits-statement-prop s (If branches) = fits-if-prop s branches
+  fits-statement-prop s (For name low high body) = ×_prop le_prop (fits-block-prop (in_loop s) body)
+  fits-statement-prop s (ExitWhen condition) = truth_prop s.inside true
+  fits-statement-prop s (Call object op actuals) = clear-prop s.libraries s.chain (op_name object op)
+  fits-statement-prop s (Work ticks) = le_prop
+  fits-statement-prop s (Put value) = Unit-prop
 
-  pub fits-block-prop : (room : ℕ) (ss : Statements) → IsProp (FitsBlock room ss)
-  fits-block-prop room End = Unit-prop
-  fits-block-prop room (Then first rest) = ×_prop (fits-statement-prop room first) (fits-block-prop room rest)
+  pub fits-block-prop : (s : Spot) (ss : Statements) → IsProp (FitsBlock s ss)
+  fits-block-prop s End = Unit-prop
+  fits-block-prop s (Then first rest) = ×_prop (fits-statement-prop s first) (fits-block-prop s rest)
 
-  fits-if-prop : (room : ℕ) (bs : Branches) → IsProp (FitsIf room bs)
-  fits-if-prop room Nothing = hlevel
-  fits-if-prop room (Else block) = hlevel
-  fits-if-prop room (When condition block others) = let le : IsProp (1 ≤ room) = le_prop in hlevel (le, fits-block-prop (room - 1) block, fits-branches-prop room others)
+  fits-if-prop : (s : Spot) (bs : Branches) → IsProp (FitsIf s bs)
+  fits-if-prop s Nothing = hlevel
+  fits-if-prop s (Else block) = hlevel
+  fits-if-prop s (When condition block others) = hlevel (le_prop, fits-block-prop (above s) block, fits-branches-prop s others)
 
-  fits-branches-prop : (room : ℕ) (bs : Branches) → IsProp (FitsBranches room bs)
-  fits-branches-prop room Nothing = Unit-prop
-  fits-branches-prop room (Else block) = ×_prop le_prop (fits-block-prop (room - 1) block)
-  fits-branches-prop room (When condition block others) = let le : IsProp (1 ≤ room) = le_prop in hlevel (le, fits-block-prop (room - 1) block, fits-branches-prop room others)
+  fits-branches-prop : (s : Spot) (bs : Branches) → IsProp (FitsBranches s bs)
+  fits-branches-prop s Nothing = Unit-prop
+  fits-branches-prop s (Else block) = ×_prop le_prop (fits-block-prop (above s) block)
+  fits-branches-prop s (When condition block others) = hlevel (le_prop, fits-block-prop (above s) block, fits-branches-prop s others)
 
-fits-piece-prop : (room : ℕ) (p : piece.Piece) → IsProp (FitsPiece room p)
-fits-piece-prop room is.Idle = Unit-prop
-fits-piece-prop room (is.Store target value) = Unit-prop
-fits-piece-prop room (is.Leaving condition) = Unit-prop
-fits-piece-prop room (is.Calling object op actuals) = Unit-prop
-fits-piece-prop room (is.Working ticks) = Unit-prop
-fits-piece-prop room (is.Printing value) = Unit-prop
-fits-piece-prop room (is.Testing arm arms other) = fits-if-prop room (When (arm_of arm.now).0 (arm_of arm.now).1 (branches_left arms.now other.now))
-fits-piece-prop room (is.Turning r) = ×_prop le_prop (fits-block-prop (room - 2) (block_of r.body.now))
-fits-piece-prop room (is.Turned r) = ×_prop le_prop (fits-block-prop (room - 2) (block_of r.body.now))
-fits-piece-prop room is.Finishing = Unit-prop
+fits-piece-prop : (s : Spot) (p : piece.Piece) → IsProp (FitsPiece s p)
+fits-piece-prop s is.Idle = Unit-prop
+fits-piece-prop s (is.Store target value) = Unit-prop
+fits-piece-prop s (is.Leaving condition) = truth_prop s.inside true
+fits-piece-prop s (is.Calling object op actuals) = clear-prop s.libraries s.chain (op_name object.now op.now)
+fits-piece-prop s (is.Working ticks) = le_prop
+fits-piece-prop s (is.Printing value) = Unit-prop
+fits-piece-prop s (is.Testing arm arms other) = fits-if-prop s (When (arm_of arm.now).0 (arm_of arm.now).1 (branches_left arms.now other.now))
+fits-piece-prop s (is.Turning r) = ×_prop le_prop (fits-block-prop (in_loop s) (block_of r.body.now))
+fits-piece-prop s (is.Turned r) = ×_prop le_prop (fits-block-prop (in_loop s) (block_of r.body.now))
+fits-piece-prop s (is.Returning c) = Unit-prop
+fits-piece-prop s is.Finishing = Unit-prop
 
-pub fits-first-prop : (n : ℕ) (p : Option piece.Piece) → IsProp (FitsFirst n p)
-fits-first-prop n None = Coded-set coded_ℕ n 0
-fits-first-prop n (Some p) = fits-piece-prop (130 - n) p
+none-prop : (vs : Variables) → IsProp (vs ≡ [])
+none-prop vs = Coded-set (coded_list (coded× (coded_list coded_ℕ) coded_ℕ)) vs []
 
-fits-frame-prop : (n : ℕ) (f : Frame) → IsProp (FitsFrame n f)
-fits-frame-prop n frame.Finish = le_prop
-fits-frame-prop n (frame.Stmts ss) = ×_prop le_prop (fits-block-prop (129 - n) (statements_of (map statement_of ss.now)))
-fits-frame-prop n (frame.Turned r) = fits-piece-prop (130 - n) (is.Turned r)
+fits-frame-prop : (p : Place) (away : Variables) (f : Frame) → IsProp (FitsFrame p away f)
+fits-frame-prop p away frame.Finish = hlevel (le_prop, number_prop, none-prop)
+fits-frame-prop p away (frame.Stmts ss) = hlevel (le_prop, none-prop, fits-block-prop (above p.spot) (statements_of (map statement_of ss.now)))
+fits-frame-prop p away (frame.Turned r) = hlevel (none-prop, fits-piece-prop p.spot (is.Turned r))
+fits-frame-prop p away (frame.Saved v) = names_prop p.names _
+fits-frame-prop p away (frame.Return c) = hlevel (le_prop, names_prop)
 
-pub fit-from-prop : (n : ℕ) (fs : List Frame) → IsProp (FitFrom n fs)
-fit-from-prop n [] = Unit-prop
-fit-from-prop n (f ∷ fs) = ×_prop (fits-frame-prop n f) (fit-from-prop (suc n) fs)
+pub fit-prop : (p : Place) (k : Kept) (fs : List Frame) → IsProp (Fit p k fs)
+fit-prop p k [] = Unit-prop
+fit-prop p k (f ∷ fs) = ×_prop (fits-frame-prop p k.away f) (fit-prop (next p f) (with_frame k f) fs)
+
+pub fits-first-prop : (p : Place) (first : Option piece.Piece) → IsProp (FitsFirst p first)
+fits-first-prop p None = number_prop p.height 0
+fits-first-prop p (Some is.Idle) = Unit-prop
+fits-first-prop p (Some (is.Store target value)) = Unit-prop
+fits-first-prop p (Some (is.Leaving condition)) = fits-piece-prop p.spot (is.Leaving condition)
+fits-first-prop p (Some (is.Calling object op actuals)) = fits-piece-prop p.spot (is.Calling object op actuals)
+fits-first-prop p (Some (is.Working ticks)) = le_prop
+fits-first-prop p (Some (is.Printing value)) = Unit-prop
+fits-first-prop p (Some (is.Testing arm arms other)) = fits-piece-prop p.spot (is.Testing arm arms other)
+fits-first-prop p (Some (is.Turning r)) = fits-piece-prop p.spot (is.Turning r)
+fits-first-prop p (Some (is.Turned r)) = fits-piece-prop p.spot (is.Turned r)
+fits-first-prop p (Some (is.Returning c)) = ×_prop (names_prop p.names []) le_prop
+fits-first-prop p (Some is.Finishing) = number_prop p.height 0
+
+pub named-prop : (names : List Name) (first : Option piece.Piece) (now : List Name) → IsProp (Named names first now)
+named-prop names None now = names_prop now names
+named-prop names (Some is.Idle) now = names_prop now names
+named-prop names (Some (is.Store target value)) now = names_prop now names
+named-prop names (Some (is.Leaving condition)) now = names_prop now names
+named-prop names (Some (is.Calling object op actuals)) now = names_prop now names
+named-prop names (Some (is.Working ticks)) now = names_prop now names
+named-prop names (Some (is.Printing value)) now = names_prop now names
+named-prop names (Some (is.Testing arm arms other)) now = names_prop now names
+named-prop names (Some (is.Turning r)) now = names_prop now names
+named-prop names (Some (is.Turned r)) now = names_prop now _
+named-prop names (Some (is.Returning c)) now = Unit-prop
+named-prop names (Some is.Finishing) now = names_prop now names
+
+pub puts-away-prop : (first : Option piece.Piece) (away : Variables) → IsProp (PutsAway first away)
+puts-away-prop None away = none-prop away
+puts-away-prop (Some is.Idle) away = none-prop away
+puts-away-prop (Some (is.Store target value)) away = none-prop away
+puts-away-prop (Some (is.Leaving condition)) away = none-prop away
+puts-away-prop (Some (is.Calling object op actuals)) away = none-prop away
+puts-away-prop (Some (is.Working ticks)) away = none-prop away
+puts-away-prop (Some (is.Printing value)) away = none-prop away
+puts-away-prop (Some (is.Testing arm arms other)) away = none-prop away
+puts-away-prop (Some (is.Turning r)) away = none-prop away
+puts-away-prop (Some (is.Turned r)) away = none-prop away
+puts-away-prop (Some (is.Returning c)) away = Unit-prop
+puts-away-prop (Some is.Finishing) away = none-prop away
+
+pub can-call-prop : (libraries : List Library) → IsProp (CanCall libraries)
+can-call-prop libraries = hlevel (le_prop, fits-block-prop)

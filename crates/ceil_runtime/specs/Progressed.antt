@@ -3,13 +3,13 @@ use Rattle.std.specs.Prelude.{List}
 use Rattle.seq_tree.specs.Variables.{Variables}
 use Rattle.machine.specs.Pieces.{Piece}
 use Rattle.ceil_runtime.specs.Stacked.{vars_of}
-use Rattle.ceil_runtime.specs.Progresses.{started, behind}
+use Rattle.ceil_runtime.specs.Progresses.{started, kept}
 use Rattle.ceil_runtime.specs.declared.progress.Progress.{Progress}
 
 -- its variables
 abbrev pub vars_left : Progress → Variables
-vars_left p = vars_of p.vars.items
+vars_left p = vars_of p.stack.vars.items
 
 -- its pieces
 abbrev pub pieces_left : Progress → List Piece
-pieces_left p = started p.piece (behind p.frames.items)
+pieces_left p = started p.piece (kept p.stack.frames.items)

@@ -1,12 +1,10 @@
 -- What a machine stands for: a system of one task, and where its run stands.
 -- The names of the numbers are those of the fields.
-use Rattle.std.specs.Prelude.{ℕ, Bool, true, false, [], ◌∷◌, map, Option, Some, None, pos}
+use Rattle.std.specs.Prelude.{ℕ, Bool, true, false, [], ◌∷◌, Option, Some, None, pos}
 use Rattle.machine.specs.Systems as systems
 use Rattle.machine.specs.States as states
 use Rattle.machine.specs.Meanings.{Running}
-use Rattle.ada_tree.specs.Trees.{unit_of}
-use Rattle.ceil_runtime.specs.Threads.{libraries_from}
-use Rattle.ceil_runtime.specs.Written.{thread_of}
+use Rattle.ceil_runtime.specs.Written.{libraries_of, thread_of}
 use Rattle.ceil_runtime.specs.Progressed.{vars_left, pieces_left}
 use Rattle.ceil_runtime.specs.declared.processor.Phase.{Phase}
 use Rattle.ceil_runtime.specs.declared.processor.Phase.TheVariants.{Effects, Delays, Arriving, Use}
@@ -32,9 +30,9 @@ readiness_of false next = states.Asleep next
 -- the task
 abbrev pub task_of : Machine → states.Task
 task_of m = record {
-  thread = thread_of m.progress.thread;
+  thread = thread_of m.progress.stack.thread;
   readiness = readiness_of m.ready m.next;
-  active = m.progress.thread.priority;
+  active = m.progress.stack.thread.priority;
   next = m.next;
   vars = vars_left m.progress;
   pieces = pieces_left m.progress;
@@ -50,9 +48,9 @@ abbrev pub system_of : Machine → systems.System
 system_of m = record {
   until = m.until;
   costs = m.costs;
-  libraries = libraries_from 0 (map unit_of m.units.now);
+  libraries = libraries_of m.progress.stack.thread;
   objects = [];
-  threads = thread_of m.progress.thread ∷ [];
+  threads = thread_of m.progress.stack.thread ∷ [];
 }
 
 -- where it stands

@@ -1,14 +1,19 @@
--- What a task of the machine is written as, and what is known of it.
+-- What a task of the machine is written as, and what is known of it and of the operations that it may call.
 -- It is cyclic; no durations are handed to it so far.
-use Rattle.std.specs.Prelude.{◌≡◌, ◌<◌, true, false, [], List, map}
+use Rattle.std.specs.Prelude.{◌≡◌, ℕ, ◌+◌, ◌≤◌, ◌<◌, true, false, [], ◌∷◌, List, map, length, Some}
 use Rattle.seq_tree.specs.Names.{Name}
 use Rattle.seq_tree.specs.Statements.{Statements}
+use Rattle.seq_tree.specs.Operations.{Operation}
 use Rattle.seq_tree.specs.Trees.{statement_of, statements_of}
+use Rattle.seq_tree.specs.declared.tree.OpName.{OpName}
 use Rattle.ada_tree.specs.Naming.{are_distinct}
 use Rattle.ada_tree.specs.Programs.{Unit, Cyclic}
+use Rattle.ada_tree.specs.Trees.{unit_of}
 use Rattle.machine.specs.Systems as systems
-use Rattle.ceil_runtime.specs.Fitting.{FitsBlock}
-use Rattle.ceil_runtime.specs.Sounds.{SoundBlock}
+use Rattle.machine.specs.Systems.{Library}
+use Rattle.ceil_runtime.specs.Callable.{IsClear, call_room, calls_room, op_in}
+use Rattle.ceil_runtime.specs.Fitting.{FitsBlock, Place, Spot, above, in_call}
+use Rattle.ceil_runtime.specs.Threads.{libraries_from}
 use Rattle.ceil_runtime.specs.declared.thread.Thread.{Thread}
 
 -- the block of a task
@@ -18,6 +23,10 @@ block_of_thread t = statements_of (map statement_of t.stmts.now)
 -- the names of its data
 abbrev pub data_names : Thread → List Name
 data_names t = map (λ d. d.name) t.data.now
+
+-- the passive units of its program
+abbrev pub libraries_of : Thread → List Library
+libraries_of t = libraries_from 0 (map unit_of t.units.now)
 
 -- the task as it is written
 abbrev pub thread_of : Thread → systems.Thread
@@ -35,9 +44,28 @@ thread_of t = record {
 abbrev pub written_as : Thread → Unit
 written_as t = record { name = t.name.now; form = Cyclic t.priority t.offset t.period t.data.now (block_of_thread t) }
 
+-- where the first frame of an activation stands
+abbrev pub first_place : Thread → Place
+first_place t = record { spot = record { libraries = libraries_of t; chain = []; inside = false; room = 194 }; names = data_names t; height = 0 }
+
+-- the room that is enough for every run of a task: for each of its data and for its own frames, and for a call of each operation
+abbrev pub reserve : Thread → ℕ
+reserve t = length t.data.now + 196 + calls_room [] (libraries_of t)
+
+-- an operation that can be called where it is clear: its body does with the frames of a call, and there is room for the call
+pub record IsReady (s : Spot) (c : OpName) (o : Operation) : Type 0 where
+  pub block : FitsBlock (above (in_call s c)) o.block
+  pub few : length o.sig.params ≤ 8
+  pub room : calls_room (c ∷ s.chain) s.libraries + call_room o ≤ calls_room s.chain s.libraries
+
+-- passive units whose operations can all be called
+abbrev pub CanCall : List Library → Type 0
+CanCall libraries =
+    (s : Spot) (c : OpName) (o : Operation) → s.libraries ≡ libraries → op_in libraries c ≡ Some o → IsClear libraries s.chain c → IsReady s c o
+
 -- a task that can be run
 pub record CanRun (t : Thread) : Type 0 where
-  pub sound : SoundBlock false (block_of_thread t)
-  pub fits : FitsBlock 128 (block_of_thread t)
+  pub block : FitsBlock (above (above (first_place t).spot)) (block_of_thread t)
   pub distinct : are_distinct (data_names t) ≡ true
   pub period : 0 < t.period
+  pub calls : CanCall (libraries_of t)

@@ -1,113 +1,24 @@
-ghost use Rattle.std.specs.Prelude.{◌≡◌, ◌<◌, ◌≤◌, ◌+◌, ◌-◌, ℕ, suc, List, [], ◌∷◌, if◌then◌else◌, vec_len, vec_capacity, IfSome, IfOk, None, Some, map, length};
-ghost use Rattle.smallvec.specs.SmallVec.{HasRoomFor};
-ghost use Rattle.seq_tree.specs.Trees.{arm_of, block_of, statement_of, statements_of};
+ghost use Rattle.std.specs.Prelude.{◌≡◌, suc, true, [], ◌∷◌, drop, map, if◌then◌else◌, Some};
+ghost use Rattle.seq_tree.specs.Trees.{arm_of, block_of, expression_of};
+ghost use Rattle.seq_tree.specs.Operations.{out_names};
 ghost use Rattle.seq_tree.specs.Values.{holds};
-ghost use Rattle.ceil_runtime.specs.declared.piece.Piece.TheVariants as PieceIs;
+ghost use Rattle.seq_tree.specs.Variables.{reads, stored, targets};
 ghost use Rattle.seq_tree.specs.Statements.{When};
-ghost use Rattle.machine.specs.Pieces.{Piece as DonePiece, Turned as DoneTurned, pieces, after_loop, branch_pieces, turns};
-ghost use Rattle.machine.specs.Systems.{System};
-ghost use Rattle.machine.specs.Deeds.{deed, done};
+ghost use Rattle.machine.specs.Pieces.{Turned as DoneTurned, after_loop, branch_pieces, pieces, turns};
+ghost use Rattle.ceil_runtime.specs.declared.piece.Piece.TheVariants as PieceIs;
 ghost use Rattle.ceil_runtime.specs.Stacked.{vars_of};
-ghost use Rattle.ceil_runtime.specs.Doing.{CanDo, Does, EndsAt};
-ghost use Rattle.ceil_runtime.specs.Progresses.{began, behind, branches_left, piece_of, started};
-ghost use Rattle.ceil_runtime.specs.Fitting.{FitFrom, FitSomehow, Fits, FitsBranches, FitsIf, FitsList, FitsPiece};
+ghost use Rattle.ceil_runtime.specs.Progresses.{behind, branches_left, kept, piece_of, put_away, started};
+ghost use Rattle.ceil_runtime.specs.Fitting.{FitsBranches, FitsIf, FitsPiece, names_of, place_of};
+ghost use Rattle.ceil_runtime.specs.Written.{first_place, libraries_of};
+ghost use Rattle.ceil_runtime.specs.Doing.{Does, EndsAt, IsFirst};
 
-use crate::piece::{Frame, Piece, Round, first_piece};
+use crate::callable::find_op;
+use crate::params::{hand_in, hand_out, open_data, open_params, store};
+use crate::piece::{Call, Frame, Piece, Round};
+use crate::stack::Stack;
 use crate::values::{Var, value_of, write};
-use seq_tree::{Arm, Block, Stmt};
-use smallvec::SmallVec;
-
-/// What is first of statements, with the statements behind it, and None where nothing is done in them.
-fn first_of<'a>(stmts: &'a [Stmt]) -> Option<(Piece<'a>, &'a [Stmt])>
-    requires { FitSomehow stmts.now }
-    ensures begins { (rest : List DonePiece) → pieces (statements_of (map statement_of stmts.entry.now)) rest ≡ began result rest }
-    ensures fits { (room : ℕ) → FitsList room stmts.entry.now → IfSome result (λ r. FitsPiece room r.0 × FitsList room r.1.now) }
-{
-    let mut left = stmts;
-    'stmts: while let Some((first, rest)) = left.split_first() {
-        left = rest;
-        if let Some(piece) = first_piece(first) {
-            return Some((piece, rest));
-        }
-    }
-    None
-}
-
-/// Takes the next piece off the frames.
-fn next_piece<'a>(frames: &mut SmallVec<Frame<'a>, 16>) -> Option<Piece<'a>>
-    requires fits { FitFrom 0 frames.old.items }
-    requires room { 130 ≤ frames.old.capacity }
-    ensures pieces { started result (behind frames.new.items) ≡ behind frames.old.items }
-    ensures fits { Fits result frames.new.items }
-    ensures room { frames.new.capacity ≡ frames.old.capacity }
-{
-    'frames: while let Some(frame) = frames.pop() {
-        match frame {
-            Frame::Finish => return Some(Piece::Finishing),
-            Frame::Turned(round) => return Some(Piece::Turned(round)),
-            Frame::Stmts(stmts) => match first_of(stmts) {
-                Some((piece, rest)) => {
-                    frames.push_reserved(Frame::Stmts(rest));
-                    return Some(piece);
-                }
-                None => {}
-            },
-        }
-    }
-    None
-}
-
-/// Leaves the innermost loop.
-fn leave_loop<'a>(frames: &mut SmallVec<Frame<'a>, 16>)
-    requires { FitFrom 0 frames.old.items }
-    ensures pieces { behind frames.new.items ≡ after_loop (behind frames.old.items) }
-    ensures fits { FitFrom 0 frames.new.items }
-    ensures room { frames.new.capacity ≡ frames.old.capacity }
-{
-    'frames: while let Some(frame) = frames.pop() {
-        match frame {
-            Frame::Turned(_) => return,
-            Frame::Stmts(_) => {}
-            Frame::Finish => {}
-        }
-    }
-}
-
-/// Begins a block.
-pub fn enter<'a>(frames: &mut SmallVec<Frame<'a>, 16>, stmts: &'a [Stmt]) -> Option<Piece<'a>>
-    requires fits { FitFrom 0 frames.old.items }
-    requires fits_room { length frames.old.items < 130 }
-    requires block { FitsList (129 - length frames.old.items) stmts.now }
-    requires room { 130 ≤ frames.old.capacity }
-    ensures pieces { started result (behind frames.new.items) ≡ pieces (statements_of (map statement_of stmts.entry.now)) (behind frames.old.items) }
-    ensures fits { Fits result frames.new.items }
-    ensures room { frames.new.capacity ≡ frames.old.capacity }
-{
-    frames.push_reserved(Frame::Stmts(stmts));
-    next_piece(frames)
-}
-
-/// What comes behind a condition that doesn't hold.
-fn otherwise<'a>(
-    frames: &mut SmallVec<Frame<'a>, 16>,
-    arms: &'a [Arm],
-    other: &'a Option<Block>,
-) -> Option<Piece<'a>>
-    requires fits { FitFrom 0 frames.old.items }
-    requires branches { FitsBranches (130 - length frames.old.items) (branches_left arms.now other.now) }
-    requires room { 130 ≤ frames.old.capacity }
-    ensures pieces { started result (behind frames.new.items) ≡ branch_pieces (branches_left arms.entry.now other.entry.now) (behind frames.old.items) }
-    ensures fits { Fits result frames.new.items }
-    ensures room { frames.new.capacity ≡ frames.old.capacity }
-{
-    match arms.split_first() {
-        Some((arm, arms)) => Some(Piece::Testing { arm, arms, other }),
-        None => match other {
-            Some(block) => enter(frames, block.stmts.as_slice()),
-            None => next_piece(frames),
-        },
-    }
-}
+use seq_tree::{Arm, Block, Expr, Name};
+use trace_text::Values;
 
 /// What a piece is to others.
 #[derive(Clone, Copy, Debug, PartialEq, Eq)]
@@ -138,133 +49,234 @@ fn silent<'a>(next: Option<Piece<'a>>) -> Moved<'a>
     }
 }
 
-/// The beginning of a turn.
-fn turn<'a>(
-    vars: &mut Vec<Var<'a>>,
-    frames: &mut SmallVec<Frame<'a>, 16>,
-    round: Round<'a>,
-) -> Option<Piece<'a>>
-    requires fits { FitFrom 0 frames.old.items }
-    requires round { FitsPiece (130 - length frames.old.items) (PieceIs.Turning round) }
-    requires room { 130 ≤ frames.old.capacity }
-    requires vars_room { vec_len vars.old < vec_capacity vars.old }
-    ensures vars { vars_of vars.new.items ≡ (round.entry.name.now, round.entry.at) ∷ vars_of vars.old.items }
-    ensures pieces { started result (behind frames.new.items)
-        ≡ pieces (block_of round.entry.body.now) (DoneTurned round.entry.name.now round.entry.at round.entry.last (block_of round.entry.body.now) ∷ behind frames.old.items) }
-    ensures fits { Fits result frames.new.items }
-    ensures room { frames.new.capacity ≡ frames.old.capacity }
-    ensures vars_room { vec_capacity vars.new ≡ vec_capacity vars.old }
-{
-    vars.push_reserved(Var {
-        name: round.name,
-        value: round.at,
-    });
-    frames.push_reserved(Frame::Turned(round));
-    enter(frames, round.body.stmts.as_slice())
-}
+impl<'a> Stack<'a> {
+    /// What comes behind a condition that doesn't hold.
+    fn otherwise(&mut self, arms: &'a [Arm], other: &'a Option<Block>) -> Option<Piece<'a>>
+        requires away { put_away self.old.frames.items ≡ [] }
+        requires names { names_of (vars_of self.old.vars.items) ≡ (place_of (first_place self.old.thread) self.old.frames.items).names }
+        requires branches { FitsBranches (place_of (first_place self.old.thread) self.old.frames.items).spot (branches_left arms.now other.now) }
+        ensures pieces { started result (kept self.new.frames.items) ≡ branch_pieces (branches_left arms.entry.now other.entry.now) (behind self.old.frames.items) }
+        ensures first { IsFirst self.new.thread result (vars_of self.new.vars.items) self.new.frames.items }
+        ensures vars { vars_of self.new.vars.items ≡ vars_of self.old.vars.items }
+        ensures thread { self.new.thread ≡ self.old.thread }
+    {
+        match arms.split_first() {
+            Some((arm, arms)) => Some(Piece::Testing { arm, arms, other }),
+            None => match other {
+                Some(block) => self.enter(block.stmts.as_slice()),
+                None => self.next_piece(),
+            },
+        }
+    }
 
-/// The end of a turn.
-fn turned<'a>(frames: &mut SmallVec<Frame<'a>, 16>, round: Round<'a>) -> Option<Piece<'a>>
-    requires fits { FitFrom 0 frames.old.items }
-    requires round { FitsPiece (130 - length frames.old.items) (PieceIs.Turned round) }
-    requires room { 130 ≤ frames.old.capacity }
-    ensures pieces { started result (behind frames.new.items) ≡ turns round.entry.name.now (suc round.entry.at) round.entry.last (block_of round.entry.body.now) (behind frames.old.items) }
-    ensures fits { Fits result frames.new.items }
-    ensures room { frames.new.capacity ≡ frames.old.capacity }
-{
-    if round.at < round.last {
-        Some(Piece::Turning(Round {
+    /// The test of an arm.
+    fn test(&mut self, arm: &'a Arm, arms: &'a [Arm], other: &'a Option<Block>) -> Option<Piece<'a>>
+        requires away { put_away self.old.frames.items ≡ [] }
+        requires names { names_of (vars_of self.old.vars.items) ≡ (place_of (first_place self.old.thread) self.old.frames.items).names }
+        requires arms { FitsIf (place_of (first_place self.old.thread) self.old.frames.items).spot (When (arm_of arm.now).0 (arm_of arm.now).1 (branches_left arms.now other.now)) }
+        ensures pieces { started result (kept self.new.frames.items)
+            ≡ (if holds (arm_of arm.entry.now).0 (vars_of self.old.vars.items) then pieces (arm_of arm.entry.now).1 (behind self.old.frames.items)
+            else branch_pieces (branches_left arms.entry.now other.entry.now) (behind self.old.frames.items)) }
+        ensures first { IsFirst self.new.thread result (vars_of self.new.vars.items) self.new.frames.items }
+        ensures vars { vars_of self.new.vars.items ≡ vars_of self.old.vars.items }
+        ensures thread { self.new.thread ≡ self.old.thread }
+    {
+        if value_of(&arm.cond, self.vars.as_slice()) == 1 {
+            self.enter(arm.block.stmts.as_slice())
+        } else {
+            self.otherwise(arms, other)
+        }
+    }
+
+    /// The beginning of a turn.
+    fn turn(&mut self, round: Round<'a>) -> Option<Piece<'a>>
+        requires away { put_away self.old.frames.items ≡ [] }
+        requires names { names_of (vars_of self.old.vars.items) ≡ (place_of (first_place self.old.thread) self.old.frames.items).names }
+        requires round { FitsPiece (place_of (first_place self.old.thread) self.old.frames.items).spot (PieceIs.Turning round) }
+        ensures pieces { started result (kept self.new.frames.items)
+            ≡ pieces (block_of round.entry.body.now) (DoneTurned round.entry.name.now round.entry.at round.entry.last (block_of round.entry.body.now) ∷ behind self.old.frames.items) }
+        ensures first { IsFirst self.new.thread result (vars_of self.new.vars.items) self.new.frames.items }
+        ensures vars { vars_of self.new.vars.items ≡ (round.entry.name.now, round.entry.at) ∷ vars_of self.old.vars.items }
+        ensures thread { self.new.thread ≡ self.old.thread }
+    {
+        self.vars.push_reserved(Var {
             name: round.name,
-            at: round.at + 1,
-            last: round.last,
-            body: round.body,
-        }))
-    } else {
-        next_piece(frames)
+            value: round.at,
+        });
+        self.push_frame(Frame::Turned(round));
+        self.enter(round.body.stmts.as_slice())
     }
-}
 
-/// The test of an arm.
-fn test<'a>(
-    vars: &[Var],
-    frames: &mut SmallVec<Frame<'a>, 16>,
-    arm: &'a Arm,
-    arms: &'a [Arm],
-    other: &'a Option<Block>,
-) -> Option<Piece<'a>>
-    requires fits { FitFrom 0 frames.old.items }
-    requires arms { FitsIf (130 - length frames.old.items) (When (arm_of arm.now).0 (arm_of arm.now).1 (branches_left arms.now other.now)) }
-    requires room { 130 ≤ frames.old.capacity }
-    ensures pieces { started result (behind frames.new.items)
-        ≡ (if holds (arm_of arm.entry.now).0 (vars_of vars.now) then pieces (arm_of arm.entry.now).1 (behind frames.old.items)
-        else branch_pieces (branches_left arms.entry.now other.entry.now) (behind frames.old.items)) }
-    ensures fits { Fits result frames.new.items }
-    ensures room { frames.new.capacity ≡ frames.old.capacity }
-{
-    if value_of(&arm.cond, vars) == 1 {
-        enter(frames, arm.block.stmts.as_slice())
-    } else {
-        otherwise(frames, arms, other)
+    /// The end of a turn, whose variable goes.
+    fn turned(&mut self, round: Round<'a>) -> Option<Piece<'a>>
+        requires { IsFirst self.old.thread (Some (PieceIs.Turned round)) (vars_of self.old.vars.items) self.old.frames.items }
+        ensures pieces { started result (kept self.new.frames.items) ≡ turns round.entry.name.now (suc round.entry.at) round.entry.last (block_of round.entry.body.now) (behind self.old.frames.items) }
+        ensures first { IsFirst self.new.thread result (vars_of self.new.vars.items) self.new.frames.items }
+        ensures vars { vars_of self.new.vars.items ≡ drop 1 (vars_of self.old.vars.items) }
+        ensures thread { self.new.thread ≡ self.old.thread }
+    {
+        let _ = self.vars.pop();
+        if round.at < round.last {
+            Some(Piece::Turning(Round {
+                name: round.name,
+                at: round.at + 1,
+                last: round.last,
+                body: round.body,
+            }))
+        } else {
+            self.next_piece()
+        }
     }
-}
 
-/// Does what a piece does, and starts the next one.
-pub fn take_effect<'a>(
-    vars: &mut Vec<Var<'a>>,
-    frames: &mut SmallVec<Frame<'a>, 16>,
-    piece: Piece<'a>,
-) -> Moved<'a>
-    requires fits { Fits (Some piece) frames.old.items }
-    requires sound { CanDo (started (Some piece) (behind frames.old.items)) }
-    requires room { 130 ≤ frames.old.capacity }
-    requires vars_room { vec_len vars.old < vec_capacity vars.old }
-    ensures deed { Does (piece_of piece.entry) (vars_of vars.old.items) (behind frames.old.items)
-        result.act (vars_of vars.new.items) (started result.next (behind frames.new.items)) }
-    ensures ends { EndsAt result.act (started result.next (behind frames.new.items)) }
-    ensures fits { Fits result.next frames.new.items }
-    ensures room { frames.new.capacity ≡ frames.old.capacity }
-    ensures vars_room { vec_capacity vars.new ≡ vec_capacity vars.old }
-{
-    match piece {
-        Piece::Idle => silent(next_piece(frames)),
-        Piece::Store { target, value } => {
-            let value = value_of(value, vars.as_slice());
-            write(vars.as_mut_slice(), target, value);
-            silent(next_piece(frames))
+    /// An `exit when`.
+    fn leave(&mut self, condition: &Expr) -> Option<Piece<'a>>
+        requires away { put_away self.old.frames.items ≡ [] }
+        requires names { names_of (vars_of self.old.vars.items) ≡ (place_of (first_place self.old.thread) self.old.frames.items).names }
+        requires inside { (place_of (first_place self.old.thread) self.old.frames.items).spot.inside ≡ true }
+        ensures pieces { started result (kept self.new.frames.items)
+            ≡ (if holds (expression_of condition.now) (vars_of self.old.vars.items) then after_loop (behind self.old.frames.items) else behind self.old.frames.items) }
+        ensures first { IsFirst self.new.thread result (vars_of self.new.vars.items) self.new.frames.items }
+        ensures vars { vars_of self.new.vars.items ≡ (if holds (expression_of condition.now) (vars_of self.old.vars.items) then drop 1 (vars_of self.old.vars.items) else vars_of self.old.vars.items) }
+        ensures thread { self.new.thread ≡ self.old.thread }
+    {
+        if value_of(condition, self.vars.as_slice()) == 1 {
+            self.leave_loop();
+            self.next_piece()
+        } else {
+            self.next_piece()
         }
-        Piece::Leaving(condition) => {
-            if value_of(condition, vars.as_slice()) == 1 {
-                let _ = vars.pop();
-                leave_loop(frames);
+    }
+
+    /// Puts the variables of the caller away.
+    fn put_vars_away(&mut self)
+        requires away { put_away self.old.frames.items ≡ [] }
+        requires names { names_of (vars_of self.old.vars.items) ≡ (place_of (first_place self.old.thread) self.old.frames.items).names }
+        ensures pieces { behind self.new.frames.items ≡ behind self.old.frames.items }
+        ensures away { put_away self.new.frames.items ≡ vars_of self.old.vars.items }
+        ensures vars { self.new.vars.items ≡ [] }
+        ensures names { (place_of (first_place self.new.thread) self.new.frames.items).names ≡ [] }
+        ensures spot { (place_of (first_place self.new.thread) self.new.frames.items).spot ≡ (place_of (first_place self.old.thread) self.old.frames.items).spot }
+        ensures thread { self.new.thread ≡ self.old.thread }
+    {
+        'vars: while let Some(var) = self.vars.pop() {
+            self.push_frame(Frame::Saved(var));
+        }
+    }
+
+    /// Takes the variables of the caller back.
+    fn take_vars_back(&mut self)
+        requires vars { self.old.vars.items ≡ [] }
+        requires names { (place_of (first_place self.old.thread) self.old.frames.items).names ≡ [] }
+        ensures pieces { behind self.new.frames.items ≡ behind self.old.frames.items }
+        ensures away { put_away self.new.frames.items ≡ [] }
+        ensures names { names_of (vars_of self.new.vars.items) ≡ (place_of (first_place self.new.thread) self.new.frames.items).names }
+        ensures vars { vars_of self.new.vars.items ≡ put_away self.old.frames.items }
+        ensures thread { self.new.thread ≡ self.old.thread }
+    {
+        'frames: while let Some(frame) = self.pop_frame() {
+            match frame {
+                Frame::Saved(var) => self.vars.push_reserved(var),
+                other => {
+                    self.push_frame(other);
+                    return;
+                }
             }
-            silent(next_piece(frames))
         }
-        Piece::Calling { .. } => unreachable!(),
-        Piece::Working(_) => silent(next_piece(frames)),
-        Piece::Printing(value) => {
-            let value = value_of(value, vars.as_slice());
-            Moved {
-                act: Act::Print(value),
-                next: next_piece(frames),
+    }
+
+    /// A call: the values are handed in, and the body begins.
+    fn call(&mut self, object: &'a Name, name: &'a Name, actuals: &'a [Expr]) -> Option<Piece<'a>>
+        requires { IsFirst self.old.thread (Some (PieceIs.Calling object name actuals)) (vars_of self.old.vars.items) self.old.frames.items }
+        ensures deed { Does (libraries_of self.old.thread) (piece_of (PieceIs.Calling object.entry name.entry actuals.entry) []) (vars_of self.old.vars.items) (behind self.old.frames.items)
+            Act.Silent (vars_of self.new.vars.items) (started result (kept self.new.frames.items)) }
+        ensures first { IsFirst self.new.thread result (vars_of self.new.vars.items) self.new.frames.items }
+        ensures thread { self.new.thread ≡ self.old.thread }
+    {
+        let Some(op) = find_op(self.thread.units, object, name) else {
+            unreachable!()
+        };
+        let mut values = Values::new();
+        hand_in(
+            &mut values,
+            op.sig.params.as_slice(),
+            actuals,
+            self.vars.as_slice(),
+        );
+        self.put_vars_away();
+        self.push_frame(Frame::Return(Call {
+            object,
+            name,
+            op,
+            actuals,
+        }));
+        open_data(&mut self.vars, op.locals.as_slice());
+        open_params(&mut self.vars, op.sig.params.as_slice(), values.as_slice());
+        self.enter(op.block.stmts.as_slice())
+    }
+
+    /// The end of a call's body: the values are handed out, and the caller goes on.
+    fn hand_back(&mut self, call: Call<'a>) -> Option<Piece<'a>>
+        requires { IsFirst self.old.thread (Some (PieceIs.Returning call)) (vars_of self.old.vars.items) self.old.frames.items }
+        ensures pieces { started result (kept self.new.frames.items) ≡ behind self.old.frames.items }
+        ensures first { IsFirst self.new.thread result (vars_of self.new.vars.items) self.new.frames.items }
+        ensures vars { vars_of self.new.vars.items
+            ≡ stored (targets call.entry.op.now.sig.params.items (map expression_of call.entry.actuals.now)) (reads (out_names call.entry.op.now.sig.params.items) (vars_of self.old.vars.items)) (put_away self.old.frames.items) }
+        ensures thread { self.new.thread ≡ self.old.thread }
+    {
+        let params = call.op.sig.params.as_slice();
+        let mut values = Values::new();
+        hand_out(&mut values, params, self.vars.as_slice());
+        self.vars.clear();
+        self.take_vars_back();
+        store(
+            self.vars.as_mut_slice(),
+            params,
+            call.actuals,
+            values.as_slice(),
+        );
+        self.next_piece()
+    }
+
+    /// Does what a piece does, and starts the next one.
+    pub fn take_effect(&mut self, piece: Piece<'a>) -> Moved<'a>
+        requires { IsFirst self.old.thread (Some piece) (vars_of self.old.vars.items) self.old.frames.items }
+        ensures deed { Does (libraries_of self.old.thread) (piece_of piece.entry (put_away self.old.frames.items)) (vars_of self.old.vars.items) (behind self.old.frames.items)
+            result.act (vars_of self.new.vars.items) (started result.next (kept self.new.frames.items)) }
+        ensures ends { EndsAt result.act (started result.next (kept self.new.frames.items)) }
+        ensures first { IsFirst self.new.thread result.next (vars_of self.new.vars.items) self.new.frames.items }
+        ensures thread { self.new.thread ≡ self.old.thread }
+    {
+        match piece {
+            Piece::Idle => silent(self.next_piece()),
+            Piece::Store { target, value } => {
+                let value = value_of(value, self.vars.as_slice());
+                write(self.vars.as_mut_slice(), target, value);
+                silent(self.next_piece())
             }
-        }
-        Piece::Testing { arm, arms, other } => silent(test(
-            vars.as_slice(),
-            frames,
-            arm,
-            arms,
-            other,
-        )),
-        Piece::Turning(round) => silent(turn(vars, frames, round)),
-        Piece::Turned(round) => {
-            let _ = vars.pop();
-            silent(turned(frames, round))
-        }
-        Piece::Finishing => {
-            frames.clear();
-            Moved {
-                act: Act::Finish,
-                next: None,
+            Piece::Leaving(condition) => silent(self.leave(condition)),
+            Piece::Calling {
+                object,
+                op,
+                actuals,
+            } => silent(self.call(object, op, actuals)),
+            Piece::Working(_) => silent(self.next_piece()),
+            Piece::Printing(value) => {
+                let value = value_of(value, self.vars.as_slice());
+                Moved {
+                    act: Act::Print(value),
+                    next: self.next_piece(),
+                }
+            }
+            Piece::Testing { arm, arms, other } => silent(self.test(arm, arms, other)),
+            Piece::Turning(round) => silent(self.turn(round)),
+            Piece::Turned(round) => silent(self.turned(round)),
+            Piece::Returning(call) => silent(self.hand_back(call)),
+            Piece::Finishing => {
+                self.frames.clear();
+                Moved {
+                    act: Act::Finish,
+                    next: None,
+                }
             }
         }
     }

@@ -1,15 +1,18 @@
 //! The modelled processor at work: from a program and its arrivals, one event after another up to the horizon or a stop.
 //! It stands on the definitions of `machine`, and runs the part of the language that is built so far: one cyclic task with its
-//! data, every statement but calls, among passive units.
+//! data, and the operations of passive units that it calls.
 //! `Machine::advance` carries its promise: what it tells, followed by all that is told afterwards, is what was to be told.
 #![tactic(auto)]
 
 mod buffer;
+mod callable;
 mod effects;
 mod law;
+mod params;
 mod piece;
 mod processor;
 mod progress;
+mod stack;
 mod thread;
 mod values;
 

@@ -1,9 +1,10 @@
-ghost use Rattle.std.specs.Prelude.{◌≡◌, ℕ, IfSome};
+ghost use Rattle.std.specs.Prelude.{IfSome};
 ghost use Rattle.seq_tree.specs.Trees.{statement_of};
 ghost use Rattle.ceil_runtime.specs.Progresses.{Starts};
-ghost use Rattle.ceil_runtime.specs.Fitting.{FitsPiece, FitsSomehow, FitsStatement};
+ghost use Rattle.ceil_runtime.specs.Fitting.{FitsPiece, FitsSomewhere, FitsStatement, IsOfStatement, Spot};
 
-use seq_tree::{Arm, Block, Expr, Name, Stmt};
+use crate::values::Var;
+use seq_tree::{Arm, Block, Expr, Name, OpText, Stmt};
 
 /// The turn of a loop at a value, up to the last one.
 #[derive(Clone, Copy, Drop)]
@@ -12,6 +13,15 @@ pub struct Round<'a> {
     pub at: u32,
     pub last: u32,
     pub body: &'a Block,
+}
+
+/// A call of a passive operation that is under way: the names that it was called by, the operation, and the actuals.
+#[derive(Clone, Copy, Drop)]
+pub struct Call<'a> {
+    pub object: &'a Name,
+    pub name: &'a Name,
+    pub op: &'a OpText,
+    pub actuals: &'a [Expr],
 }
 
 /// A piece of what a task has left to do.
@@ -46,6 +56,8 @@ pub enum Piece<'a> {
     Turning(Round<'a>),
     /// The end of a turn.
     Turned(Round<'a>),
+    /// The end of the body of a call.
+    Returning(Call<'a>),
     /// The end of the activation.
     Finishing,
 }
@@ -60,13 +72,18 @@ pub enum Frame<'a> {
     Stmts(&'a [Stmt]),
     /// The end of a turn.
     Turned(Round<'a>),
+    /// A variable of a caller, put away until the call above it ends.
+    Saved(Var<'a>),
+    /// The end of the body of a call.
+    Return(Call<'a>),
 }
 
 /// The first piece of a statement, and None of a loop without a turn.
 pub fn first_piece<'a>(stmt: &'a Stmt) -> Option<Piece<'a>>
-    requires { FitsSomehow (statement_of stmt.now) }
+    requires { FitsSomewhere (statement_of stmt.now) }
     ensures starts { Starts (statement_of stmt.now) result }
-    ensures fits { (room : ℕ) → FitsStatement room (statement_of stmt.now) → IfSome result (FitsPiece room) }
+    ensures fits { (s : Spot) → FitsStatement s (statement_of stmt.now) → IfSome result (FitsPiece s) }
+    ensures of { IfSome result IsOfStatement }
 {
     match stmt {
         Stmt::Null => Some(Piece::Idle),

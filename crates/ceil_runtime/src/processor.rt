@@ -14,7 +14,7 @@ use crate::effects::Act;
 use crate::piece::Piece;
 use crate::progress::Progress;
 use crate::thread::task_in;
-use ada_tree::{AdaProgram, Unit};
+use ada_tree::AdaProgram;
 use arrivals_read::Arrivals;
 use seq_tree::{Costs, NoMemory};
 use std::alloc::Global;
@@ -50,7 +50,6 @@ enum Phase {
 /// The processor at work on a program of one task.
 #[derive(Drop)]
 pub struct Machine<'a> {
-    units: &'a [Unit],
     progress: Progress<'a>,
     costs: Costs,
     until: u64,
@@ -101,11 +100,9 @@ impl<'a> Machine<'a> {
         requires { IsReplayable (program_of program.now) (arrivals_of arrivals.now) }
         ensures { IfOk result (λ m. running_of m ≡ begun (program_of program.entry.now) (arrivals_of arrivals.entry.now)) }
     {
-        let units = program.units.as_slice();
-        let thread = task_in(units);
+        let thread = task_in(program.units.as_slice());
         let progress = Progress::new(alloc, thread)?;
         Ok(Machine {
-            units,
             progress,
             costs: program.costs,
             until: arrivals.until,
@@ -155,7 +152,7 @@ impl<'a> Machine<'a> {
         ensures steps { Steps (running_of self.old) (option_to_list result) (running_of self.new) }
         ensures falls { Falls (running_of self.old) (option_to_list result) (running_of self.new) }
         ensures nears { Nears (running_of self.old) result (running_of self.new) }
-        ensures of { AreOf self.old.progress.thread.unit result }
+        ensures of { AreOf self.old.progress.stack.thread.unit result }
         ensures leads { Leads result (running_of self.new) }
     {
         match self.phase {
@@ -176,16 +173,18 @@ impl<'a> Machine<'a> {
         ensures moves { Moves states.Effects (running_of self.old) (option_to_list result) (running_of self.new) }
         ensures falls { Falls (running_of self.old) (option_to_list result) (running_of self.new) }
         ensures nears { Nears (running_of self.old) result (running_of self.new) }
-        ensures of { AreOf self.old.progress.thread.unit result }
+        ensures of { AreOf self.old.progress.stack.thread.unit result }
         ensures leads { Leads result (running_of self.new) }
     {
-        match self.progress.piece {
-            Some(piece) if self.ran && self.left == 0 => self.effect(piece),
-            _ => {
-                self.phase = Phase::Delays;
-                None
-            }
+        let Some(piece) = self.progress.piece else {
+            self.phase = Phase::Delays;
+            return None;
+        };
+        if self.ran && self.left == 0 {
+            return self.effect(piece);
         }
+        self.phase = Phase::Delays;
+        None
     }
 
     /// The effect of the piece that has started.
@@ -198,7 +197,7 @@ impl<'a> Machine<'a> {
         ensures moves { Moves states.Effects (running_of self.old) (option_to_list result) (running_of self.new) }
         ensures falls { Falls (running_of self.old) (option_to_list result) (running_of self.new) }
         ensures nears { Nears (running_of self.old) result (running_of self.new) }
-        ensures of { AreOf self.old.progress.thread.unit result }
+        ensures of { AreOf self.old.progress.stack.thread.unit result }
         ensures leads { Leads result (running_of self.new) }
     {
         let act = self.progress.act(piece);
@@ -209,14 +208,14 @@ impl<'a> Machine<'a> {
             Act::Silent => None,
             Act::Print(value) => Some(Event::Print {
                 time: self.time,
-                task: self.progress.thread.unit,
+                task: self.progress.stack.thread.unit,
                 value,
             }),
             Act::Finish => {
                 self.ready = false;
                 Some(Event::End {
                     time: self.time,
-                    task: self.progress.thread.unit,
+                    task: self.progress.stack.thread.unit,
                     used: self.used,
                 })
             }
@@ -230,14 +229,14 @@ impl<'a> Machine<'a> {
         ensures moves { Moves states.Delays (running_of self.old) (option_to_list result) (running_of self.new) }
         ensures falls { Falls (running_of self.old) (option_to_list result) (running_of self.new) }
         ensures nears { Nears (running_of self.old) result (running_of self.new) }
-        ensures of { AreOf self.old.progress.thread.unit result }
+        ensures of { AreOf self.old.progress.stack.thread.unit result }
         ensures leads { Leads result (running_of self.new) }
     {
         if self.ready || self.next > self.time {
             self.phase = Phase::Arriving;
             return None;
         }
-        let period = u64::from(self.progress.thread.period);
+        let period = u64::from(self.progress.stack.thread.period);
         self.progress.begin();
         let start = self.progress.start(&self.costs);
         self.left = start.ticks;
@@ -248,7 +247,7 @@ impl<'a> Machine<'a> {
         self.used = 0;
         Some(Event::Release {
             time: self.time,
-            task: self.progress.thread.unit,
+            task: self.progress.stack.thread.unit,
             value: None,
         })
     }
@@ -260,7 +259,7 @@ impl<'a> Machine<'a> {
         ensures moves { Moves states.Arriving (running_of self.old) (option_to_list result) (running_of self.new) }
         ensures falls { Falls (running_of self.old) (option_to_list result) (running_of self.new) }
         ensures nears { Nears (running_of self.old) result (running_of self.new) }
-        ensures of { AreOf self.old.progress.thread.unit result }
+        ensures of { AreOf self.old.progress.stack.thread.unit result }
         ensures leads { Leads result (running_of self.new) }
     {
         if self.time == self.until {

@@ -6,9 +6,10 @@ ghost use Rattle.ceil_runtime.specs.Written.{thread_of, written_as};
 use ada_tree::{Form, Unit};
 use seq_tree::{Datum, Name, Stmt};
 
-/// A cyclic task as it is written, with the place of its unit, its priority, and its times in ticks.
+/// A cyclic task as it is written, with the units of its program, the place of its own, its priority, and its times in ticks.
 #[derive(Clone, Copy)]
 pub struct Thread<'a> {
+    pub units: &'a [Unit],
     pub unit: u32,
     pub name: &'a Name,
     pub priority: u32,
@@ -22,6 +23,7 @@ pub struct Thread<'a> {
 pub fn task_in<'a>(units: &'a [Unit]) -> Thread<'a>
     requires { HasOneTask (map unit_of units.now) }
     ensures alone { threads_from 0 (map unit_of units.entry.now) ≡ thread_of result ∷ [] }
+    ensures among { result.units.now ≡ units.entry.now }
     ensures at { slice_get (map unit_of units.entry.now) result.unit ≡ Some (written_as result) }
 {
     let mut place: u32 = 0;
@@ -35,6 +37,7 @@ pub fn task_in<'a>(units: &'a [Unit]) -> Thread<'a>
                 block,
             } => {
                 return Thread {
+                    units,
                     unit: place,
                     name: &unit.name,
                     priority: *priority,

@@ -23,4 +23,4 @@ steps-preserved c = record {
 
 pub returns-else-self-clause-placed : goal.returns-else-self-clause-placed
 returns-else-self-clause-placed c = λ p a runs.
-    event-placed p a (thread_of c.steps.self.progress.thread) [] c.in-Some.event _ c.push.new.self c.steps.invariant.empty c.push.ensures (ap (λ y. y.threads) (sym (c.steps.invariant.reached.system ∙ runs))) c.in-Some.ensures.of
+    event-placed p a (thread_of c.steps.self.progress.stack.thread) [] c.in-Some.event _ c.push.new.self c.steps.invariant.empty c.push.ensures (ap (λ y. y.threads) (sym (c.steps.invariant.reached.system ∙ runs))) c.in-Some.ensures.of

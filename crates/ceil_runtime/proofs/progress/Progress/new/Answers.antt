@@ -1,11 +1,17 @@
-use Rattle.ceil_runtime.specs.Stacked.{vars_of}
-use Rattle.ceil_runtime.proofs.Soundness.{sound-opening}
+use Rattle.std.proofs.Common.{ap, sym, ◌∙◌}
+use Rattle.ceil_runtime.specs.Fitting.{names_of, place_of}
+use Rattle.ceil_runtime.specs.Progresses.{put_away}
+use Rattle.ceil_runtime.specs.Written.{data_names, first_place}
+use Rattle.ceil_runtime.proofs.Calls.{names-written}
 use Rattle.ceil_runtime.proofs.progress.Progress.new.Goals as goal
 
-pub invariant_of-result-clause-names : goal.invariant_of-result-clause-names
-invariant_of-result-clause-names c =
-    (sound-opening c.args.thread.«data».now c.data.at (vars_of c.data.vars.items) c.in_ok-frames.frames.items c.data.invariant.vars c.data-test.false c.in_ok-frames.ensures.items).names
-
-pub invariant_of-result-clause-sound : goal.invariant_of-result-clause-sound
-invariant_of-result-clause-sound c =
-    (sound-opening c.args.thread.«data».now c.data.at (vars_of c.data.vars.items) c.in_ok-frames.frames.items c.data.invariant.vars c.data-test.false c.in_ok-frames.ensures.items).pieces
+pub invariant_of-result : goal.invariant_of-result
+invariant_of-result c =
+    let s = c.in_ok-stack.stack in
+    let none = c.in_ok-stack.ensures.frames in
+    record {
+      fits = ap (λ fs. (place_of (first_place s.thread) fs).height) none;
+      named = ap names_of c.in_ok-stack.ensures.vars ∙ names-written c.args.thread.«data».now ∙ sym (ap data_names c.in_ok-stack.ensures.thread)
+          ∙ sym (ap (λ fs. (place_of (first_place s.thread) fs).names) none);
+      away = ap put_away none;
+    }

@@ -1,0 +1,127 @@
+-- What is known of a piece that becomes first.
+use Rattle.std.proofs.Common.{◌≡◌, ℕ, List, [], ◌∷◌, ◌++◌, length, take, refl, ap, sym, subst, ◌∙◌, true, false, Option, Some, None}
+use Rattle.std.specs.Borrow.{Bor}
+use Rattle.std.proofs.Math.Seq.{take-append_seam}
+use Rattle.seq_tree.specs.Names.{Name, same_name}
+use Rattle.seq_tree.specs.Variables.{Variables, write, stored}
+use Rattle.seq_tree.specs.declared.tree.Stmt.{Stmt}
+use Rattle.ceil_runtime.specs.Progresses.{kept, put_away, started}
+use Rattle.ceil_runtime.specs.Fitting.{FitsFirst, FitsList, FitsPiece, IsOfStatement, IsPopped, IsPushed, Named, Place, PutsAway, Spot, names_of, next, place_of}
+use Rattle.ceil_runtime.specs.Doing.{IsFirst}
+use Rattle.ceil_runtime.specs.Written.{first_place, data_names}
+use Rattle.ceil_runtime.specs.declared.thread.Thread.{Thread}
+use Rattle.ceil_runtime.specs.declared.values.Var.{Var}
+use Rattle.ceil_runtime.specs.declared.piece.Piece.{Piece}
+use Rattle.ceil_runtime.specs.declared.piece.Piece.TheVariants as piece
+use Rattle.ceil_runtime.specs.declared.piece.Frame.{Frame}
+use Rattle.ceil_runtime.specs.declared.piece.Frame.TheVariants as frame
+use Rattle.ceil_runtime.proofs.Frames.{first-frame}
+
+-- a piece that a statement begins with is like every other
+fits_statement : (p : Place) (q : Piece) → IsOfStatement q → FitsPiece p.spot q → FitsFirst p (Some q)
+fits_statement p piece.Idle of h = h
+fits_statement p (piece.Store target value) of h = h
+fits_statement p (piece.Leaving condition) of h = h
+fits_statement p (piece.Calling object op actuals) of h = h
+fits_statement p (piece.Working ticks) of h = h
+fits_statement p (piece.Printing value) of h = h
+fits_statement p (piece.Testing arm arms other) of h = h
+fits_statement p (piece.Turning r) of h = h
+fits_statement p (piece.Turned r) of h = absurd of
+fits_statement p (piece.Returning c) of h = absurd of
+fits_statement p piece.Finishing of h = absurd of
+
+named_statement : (names now : List Name) (q : Piece) → IsOfStatement q → now ≡ names → Named names (Some q) now
+named_statement names now piece.Idle of h = h
+named_statement names now (piece.Store target value) of h = h
+named_statement names now (piece.Leaving condition) of h = h
+named_statement names now (piece.Calling object op actuals) of h = h
+named_statement names now (piece.Working ticks) of h = h
+named_statement names now (piece.Printing value) of h = h
+named_statement names now (piece.Testing arm arms other) of h = h
+named_statement names now (piece.Turning r) of h = h
+named_statement names now (piece.Turned r) of h = absurd of
+named_statement names now (piece.Returning c) of h = absurd of
+named_statement names now piece.Finishing of h = h
+
+away_statement : (q : Piece) (away : Variables) → IsOfStatement q → away ≡ [] → PutsAway (Some q) away
+away_statement piece.Idle away of h = h
+away_statement (piece.Store target value) away of h = h
+away_statement (piece.Leaving condition) away of h = h
+away_statement (piece.Calling object op actuals) away of h = h
+away_statement (piece.Working ticks) away of h = h
+away_statement (piece.Printing value) away of h = h
+away_statement (piece.Testing arm arms other) away of h = h
+away_statement (piece.Turning r) away of h = h
+away_statement (piece.Turned r) away of h = h
+away_statement (piece.Returning c) away of h = absurd of
+away_statement piece.Finishing away of h = h
+
+-- frames from which one of this form was taken
+pub popped-at : (p : Place) (fs gs : List Frame) (f g : Frame) → IsPopped p fs gs f → f ≡ g → IsPopped p fs gs g
+popped-at p fs gs f g h e = subst (IsPopped p fs gs) e h
+
+-- the first piece of statements whose frame was taken off, with the rest of them behind it
+pub first-behind : (t : Thread) (q : Piece) (ss rest : Bor (List Stmt)) (f : Frame) (fs gs hs : List Frame) (vs : Variables)
+    → IsPopped (first_place t) fs gs f → f ≡ frame.Stmts ss → IsPushed (first_place t) (frame.Stmts rest) gs hs
+    → ((s : Spot) → FitsList s ss.now → FitsPiece s q × FitsList s rest.now) → IsOfStatement q
+    → names_of vs ≡ (place_of (first_place t) fs).names → put_away fs ≡ [] → IsFirst t (Some q) vs hs
+first-behind t q ss rest f fs gs hs vs popped is pushed fits of names away =
+    let was = popped-at (first_place t) fs gs f (frame.Stmts ss) popped is in
+    let here : Place = next (place_of (first_place t) gs) (frame.Stmts rest) in
+    let same : place_of (first_place t) hs ≡ here = pushed.place in
+    record {
+      fits = subst (λ p. FitsFirst p (Some q)) (sym same) (fits_statement here q of (fits here.spot was.here.2).0);
+      named = named_statement (place_of (first_place t) hs).names (names_of vs) q of (names ∙ ap (λ p. p.names) was.place ∙ ap (λ p. p.names) (sym same));
+      away = away_statement q (put_away hs) of (ap (λ k. k.away) pushed.kept ∙ was.here.0);
+    }
+
+-- outside of all loops there is no end of an activation, of a turn or of a call
+pub no-finish : (t : Thread) (fs gs : List Frame) (f : Frame) → IsPopped (first_place t) fs gs f → f ≡ frame.Finish → (place_of (first_place t) fs).spot.inside ≡ true → ⊥
+no-finish t fs gs f popped is inside =
+    let was = popped-at (first_place t) fs gs f frame.Finish popped is in
+    let none : gs ≡ [] = first-frame t gs was.here.2 in
+    let outside : (place_of (first_place t) fs).spot.inside ≡ false = ap (λ p. p.spot.inside) was.place ∙ ap (λ xs. (place_of (first_place t) xs).spot.inside) none in
+    absurd (cc (inside, outside))
+
+-- an activation has ended
+pub first-ended : (t : Thread) (vs : Variables) (fs gs : List Frame) → IsFirst t (Some piece.Finishing) vs fs → gs ≡ [] → IsFirst t None vs gs
+first-ended t vs fs gs h none =
+    let empty : fs ≡ [] = first-frame t fs h.fits in
+    subst (IsFirst t None vs) (sym none) (record { fits = refl; named = h.named ∙ ap (λ xs. (place_of (first_place t) xs).names) empty; away = refl })
+
+-- an assignment keeps the names
+pub names-write : (name : Name) (v : ℕ) (vs : Variables) → names_of (write name v vs) ≡ names_of vs
+names-write name v [] = refl
+names-write name v (w ∷ vs) = by_test (same_name name w.0) refl (names-write name v vs) where
+  by_test : (b : _) → same_name name w.0 ≡ b → names_of (write name v vs) ≡ names_of vs → names_of (write name v (w ∷ vs)) ≡ names_of (w ∷ vs)
+  by_test true e more = rw e refl
+  by_test false e more = rw e (ap (λ ns. w.0 ∷ ns) more)
+
+pub names-stored : (names : List Name) (values : List ℕ) (vs : Variables) → names_of (stored names values vs) ≡ names_of vs
+names-stored [] values vs = refl
+names-stored (n ∷ ns) [] vs = refl
+names-stored (n ∷ ns) (v ∷ values) vs = names-stored ns values (write n v vs) ∙ names-write n v vs
+
+-- what is written to all of a list
+pub whole-slice : (n : ℕ) (xs ys : List Var) → n ≡ length xs → take n (xs ++ ys) ≡ xs
+whole-slice n xs ys e = ap (λ k. take k (xs ++ ys)) e ∙ take-append_seam xs ys
+
+-- a first piece of this form
+pub first-at : (t : Thread) (p q : Piece) (vs : Variables) (fs : List Frame) → IsFirst t (Some p) vs fs → p ≡ q → IsFirst t (Some q) vs fs
+first-at t p q vs fs h e = subst (λ x. IsFirst t (Some x) vs fs) e h
+
+-- what was put away is back where another frame is on top
+pub all-back : (p : Place) (fs gs : List Frame) (f : Frame) → IsPopped p fs gs f → ((v : Var) → f ≡ frame.Saved v → ⊥) → put_away fs ≡ []
+all-back p fs gs f popped other = by_form f popped other where
+  by_form : (g : Frame) → IsPopped p fs gs g → ((v : Var) → g ≡ frame.Saved v → ⊥) → put_away fs ≡ []
+  by_form frame.Finish h no_other = ap (λ k. k.away) h.kept ∙ h.here.0
+  by_form (frame.Stmts ss) h no_other = ap (λ k. k.away) h.kept ∙ h.here.0
+  by_form (frame.Turned r) h no_other = ap (λ k. k.away) h.kept ∙ h.here.0
+  by_form (frame.Saved v) h no_other = absurd (no_other v refl)
+  by_form (frame.Return c) h no_other = ap (λ k. k.away) h.kept
+
+-- a task that has nothing left has its data alone
+pub names-idle : (t : Thread) (first : Option Piece) (vs : Variables) (fs : List Frame) → IsFirst t first vs fs → started first (kept fs) ≡ [] → names_of vs ≡ data_names t
+names-idle t None vs fs h none = h.named ∙ ap (λ xs. (place_of (first_place t) xs).names) (first-frame t fs h.fits)
+names-idle t (Some q) vs fs h none = absurd (cc)

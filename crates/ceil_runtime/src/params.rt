@@ -1,0 +1,139 @@
+ghost use Rattle.std.specs.Prelude.{◌≡◌, ◌≤◌, ◌+◌, ◌++◌, List, length, map, option_map, option_to_list, vec_len, vec_capacity};
+ghost use Rattle.seq_tree.specs.Names.{Name as NameBytes};
+ghost use Rattle.seq_tree.specs.Operations.{out_names};
+ghost use Rattle.seq_tree.specs.Trees.{expression_of};
+ghost use Rattle.seq_tree.specs.Values.{handed};
+ghost use Rattle.seq_tree.specs.Variables.{entered, reads, stored, target_by, targets, written};
+ghost use Rattle.ceil_runtime.specs.Stacked.{vars_of};
+
+use crate::values::{Var, read, value_of, write};
+use seq_tree::{Datum, Expr, Mode, Name, Param};
+use trace_text::Values;
+
+/// Adds the values of the actuals that are handed in, in order.
+pub fn hand_in(values: &mut Values, params: &[Param], actuals: &[Expr], vars: &[Var])
+    requires { length values.old + length params.now ≤ 8 }
+    ensures { values.new ≡ values.old ++ handed params.now (map expression_of actuals.now) (vars_of vars.now) }
+{
+    let Some((param, params)) = params.split_first() else {
+        return;
+    };
+    let Some((actual, actuals)) = actuals.split_first() else {
+        return;
+    };
+    match param.mode {
+        Mode::In => {
+            values.push(value_of(actual, vars));
+            hand_in(values, params, actuals, vars);
+        }
+        Mode::Out => hand_in(values, params, actuals, vars),
+    }
+}
+
+/// Adds the values of the parameters that are handed out, in order.
+pub fn hand_out(values: &mut Values, params: &[Param], vars: &[Var])
+    requires { length values.old + length params.now ≤ 8 }
+    ensures { values.new ≡ values.old ++ reads (out_names params.now) (vars_of vars.now) }
+{
+    let Some((param, params)) = params.split_first() else {
+        return;
+    };
+    match param.mode {
+        Mode::In => hand_out(values, params, vars),
+        Mode::Out => {
+            values.push(read(&param.name, vars));
+            hand_out(values, params, vars);
+        }
+    }
+}
+
+/// The variable that an actual is, where it is handed out.
+fn target<'a>(param: &Param, actual: &'a Expr) -> Option<&'a Name>
+    ensures { (others : List NameBytes) → target_by param.now.mode (expression_of actual.entry.now) others ≡ option_to_list (option_map (λ n. n.now) result) ++ others }
+{
+    match param.mode {
+        Mode::In => None,
+        Mode::Out => match actual {
+            Expr::Variable(name) => Some(name),
+            Expr::Number(_) => None,
+            Expr::Paren(_) => None,
+            Expr::Not(_) => None,
+            Expr::Binary(..) => None,
+        },
+    }
+}
+
+/// Stores values in the actuals that are handed out, in order.
+pub fn store(vars: &mut [Var], params: &[Param], actuals: &[Expr], values: &[u32])
+    ensures { vars_of vars.new ≡ stored (targets params.now (map expression_of actuals.now)) values.now (vars_of vars.old) }
+{
+    let Some((param, params)) = params.split_first() else {
+        return;
+    };
+    let Some((actual, actuals)) = actuals.split_first() else {
+        return;
+    };
+    let Some(name) = target(param, actual) else {
+        store(vars, params, actuals, values);
+        return;
+    };
+    let Some((value, values)) = values.split_first() else {
+        return;
+    };
+    write(vars, name, *value);
+    store(vars, params, actuals, values);
+}
+
+/// Adds parameters with the values handed in, and 0 for those that are handed out.
+pub fn open_params<'a>(vars: &mut Vec<Var<'a>>, params: &'a [Param], values: &[u32])
+    requires { vec_len vars.old + length params.now ≤ vec_capacity vars.old }
+    ensures vars { vars_of vars.new.items ≡ entered params.entry.now values.now ++ vars_of vars.old.items }
+    ensures len { vec_len vars.new ≡ vec_len vars.old + length params.entry.now }
+    ensures room { vec_capacity vars.new ≡ vec_capacity vars.old }
+{
+    let Some((param, params)) = params.split_first() else {
+        return;
+    };
+    match param.mode {
+        Mode::In => match values.split_first() {
+            Some((value, values)) => {
+                open_params(vars, params, values);
+                vars.push_reserved(Var {
+                    name: &param.name,
+                    value: *value,
+                });
+            }
+            None => {
+                open_params(vars, params, values);
+                vars.push_reserved(Var {
+                    name: &param.name,
+                    value: 0,
+                });
+            }
+        },
+        Mode::Out => {
+            open_params(vars, params, values);
+            vars.push_reserved(Var {
+                name: &param.name,
+                value: 0,
+            });
+        }
+    }
+}
+
+/// Adds data or locals at their written values.
+pub fn open_data<'a>(vars: &mut Vec<Var<'a>>, data: &'a [Datum])
+    requires { vec_len vars.old + length «data».now ≤ vec_capacity vars.old }
+    ensures vars { vars_of vars.new.items ≡ written «data».entry.now ++ vars_of vars.old.items }
+    ensures len { vec_len vars.new ≡ vec_len vars.old + length «data».entry.now }
+    ensures room { vec_capacity vars.new ≡ vec_capacity vars.old }
+{
+    let mut at = data.len();
+    'data: while at > 0 {
+        at -= 1;
+        vars.push_reserved(Var {
+            name: &data[at].name,
+            value: data[at].value,
+        });
+    }
+}

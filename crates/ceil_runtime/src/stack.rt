@@ -1,0 +1,175 @@
+ghost use Rattle.std.specs.Prelude.{◌≡◌, ◌≤◌, ◌<◌, [], ◌∷◌, ◌++◌, drop, map, length, true, vec_capacity, IfSome, IfOk, Some};
+ghost use Rattle.seq_tree.specs.Trees.{statement_of, statements_of};
+ghost use Rattle.seq_tree.specs.Variables.{written};
+ghost use Rattle.machine.specs.Pieces.{Finishing, Piece as DonePiece, after_loop, pieces};
+ghost use Rattle.std.specs.Prelude.{List};
+ghost use Rattle.std.specs.Coded.{Coded-set, coded_bool};
+ghost use Rattle.ada_tree.specs.Naming.{are_distinct};
+ghost use Rattle.ceil_runtime.specs.Stacked.{vars_of};
+ghost use Rattle.ceil_runtime.specs.Progresses.{began, behind, kept, nothing_kept, put_away, started};
+ghost use Rattle.ceil_runtime.specs.Fitting.{Fit, FitSomewhere, FitsBlock, FitsFrame, FitsList, FitsPiece, IsOfStatement, IsPushed, Pops, Spot, above, names_of, place_of};
+ghost use Rattle.ceil_runtime.specs.Written.{CanCall, CanRun, block_of_thread, data_names, first_place, libraries_of, reserve};
+ghost use Rattle.ceil_runtime.specs.OneProof.{can-call-prop, fit-prop, fits-block-prop};
+ghost use Rattle.ceil_runtime.specs.Doing.{IsFirst};
+
+use crate::callable::calls_room;
+use crate::params::open_data;
+use crate::piece::{Frame, Piece, first_piece};
+use crate::thread::Thread;
+use crate::values::Var;
+use seq_tree::{NoMemory, Stmt};
+use smallvec::SmallVec;
+use std::alloc::Global;
+
+/// The stacks of a task: its variables, and what stands behind the piece that has started. There is room in both for the
+/// deepest chain of calls that the units of its program allow, since no operation is under way twice.
+#[derive(Drop)]
+pub struct Stack<'a> {
+    pub thread: Thread<'a>,
+    pub vars: Vec<Var<'a>>,
+    pub frames: SmallVec<Frame<'a>, 16>,
+    ghost block: { FitsBlock (above (above (first_place thread).spot)) (block_of_thread thread) } by { fits-block-prop (above (above (first_place thread).spot)) (block_of_thread thread) },
+    ghost calls: { CanCall (libraries_of thread) } by { can-call-prop (libraries_of thread) },
+    ghost distinct: { are_distinct (data_names thread) ≡ true } by { Coded-set coded_bool (are_distinct (data_names thread)) true },
+    ghost period: { 0 < thread.period },
+    ghost fit: { Fit (first_place thread) nothing_kept frames.items } by { fit-prop (first_place thread) nothing_kept frames.items },
+    ghost frames_room: { reserve thread ≤ frames.capacity },
+    ghost vars_room: { reserve thread ≤ vec_capacity vars },
+}
+
+/// What is first of statements, with the statements behind it, and None where nothing is done in them.
+fn first_of<'a>(stmts: &'a [Stmt]) -> Option<(Piece<'a>, &'a [Stmt])>
+    requires { FitSomewhere stmts.now }
+    ensures begins { (rest : List DonePiece) → pieces (statements_of (map statement_of stmts.entry.now)) rest ≡ began result rest }
+    ensures fits { (s : Spot) → FitsList s stmts.entry.now → IfSome result (λ r. FitsPiece s r.0 × FitsList s r.1.now) }
+    ensures of { IfSome result (λ r. IsOfStatement r.0) }
+{
+    let mut left = stmts;
+    'stmts: while let Some((first, rest)) = left.split_first() {
+        left = rest;
+        if let Some(piece) = first_piece(first) {
+            return Some((piece, rest));
+        }
+    }
+    None
+}
+
+impl<'a> Stack<'a> {
+    /// The stacks of a task before its first activation, its data as they are written.
+    pub fn new(alloc: Global, thread: Thread<'a>) -> Result<Stack<'a>, NoMemory>
+        requires { CanRun thread }
+        ensures thread { IfOk result (λ s. s.thread ≡ thread.entry) }
+        ensures vars { IfOk result (λ s. vars_of s.vars.items ≡ written thread.entry.data.now) }
+        ensures frames { IfOk result (λ s. s.frames.items ≡ []) }
+    {
+        let calls = calls_room(thread.units).ok_or(NoMemory)?;
+        let own = thread.data.len().checked_add(196).ok_or(NoMemory)?;
+        let room = own.checked_add(calls).ok_or(NoMemory)?;
+        let mut vars = Vec::with_capacity(alloc, room)?;
+        open_data(&mut vars, thread.data);
+        let frames = SmallVec::with_capacity(alloc, room)?;
+        Ok(Stack {
+            thread,
+            vars,
+            frames,
+        })
+    }
+
+    /// Takes a frame off.
+    pub fn pop_frame(&mut self) -> Option<Frame<'a>>
+        ensures frames { Pops (first_place self.old.thread) result self.old.frames.items self.new.frames.items }
+        ensures vars { self.new.vars ≡ self.old.vars }
+        ensures thread { self.new.thread ≡ self.old.thread }
+    {
+        self.frames.pop()
+    }
+
+    /// Adds a frame. There is room for every frame that may stand there.
+    pub fn push_frame(&mut self, frame: Frame<'a>)
+        requires { FitsFrame (place_of (first_place self.old.thread) self.old.frames.items) (put_away self.old.frames.items) frame }
+        ensures frames { IsPushed (first_place self.old.thread) frame.entry self.old.frames.items self.new.frames.items }
+        ensures vars { self.new.vars ≡ self.old.vars }
+        ensures thread { self.new.thread ≡ self.old.thread }
+    {
+        self.frames.push_reserved(frame);
+    }
+
+    /// Begins an activation.
+    pub fn begin(&mut self) -> Option<Piece<'a>>
+        requires { names_of (vars_of self.old.vars.items) ≡ data_names self.old.thread }
+        ensures pieces { started result (kept self.new.frames.items) ≡ pieces (block_of_thread self.old.thread) (Finishing ∷ []) }
+        ensures first { IsFirst self.new.thread result (vars_of self.new.vars.items) self.new.frames.items }
+        ensures vars { vars_of self.new.vars.items ≡ vars_of self.old.vars.items }
+        ensures thread { self.new.thread ≡ self.old.thread }
+    {
+        self.frames.clear();
+        self.push_frame(Frame::Finish);
+        self.enter(self.thread.stmts)
+    }
+
+    /// Takes the next piece off the frames.
+    pub fn next_piece(&mut self) -> Option<Piece<'a>>
+        requires away { put_away self.old.frames.items ≡ [] }
+        requires names { names_of (vars_of self.old.vars.items) ≡ (place_of (first_place self.old.thread) self.old.frames.items).names }
+        ensures pieces { started result (kept self.new.frames.items) ≡ behind self.old.frames.items }
+        ensures first { IsFirst self.new.thread result (vars_of self.new.vars.items) self.new.frames.items }
+        ensures vars { vars_of self.new.vars.items ≡ vars_of self.old.vars.items }
+        ensures thread { self.new.thread ≡ self.old.thread }
+    {
+        'frames: while let Some(frame) = self.pop_frame() {
+            match frame {
+                Frame::Finish => return Some(Piece::Finishing),
+                Frame::Turned(round) => return Some(Piece::Turned(round)),
+                Frame::Return(call) => return Some(Piece::Returning(call)),
+                Frame::Saved(_) => unreachable!(),
+                Frame::Stmts(stmts) => match first_of(stmts) {
+                    Some((piece, rest)) => {
+                        self.push_frame(Frame::Stmts(rest));
+                        return Some(piece);
+                    }
+                    None => {}
+                },
+            }
+        }
+        None
+    }
+
+    /// Begins a block.
+    pub fn enter(&mut self, stmts: &'a [Stmt]) -> Option<Piece<'a>>
+        requires away { put_away self.old.frames.items ≡ [] }
+        requires names { names_of (vars_of self.old.vars.items) ≡ (place_of (first_place self.old.thread) self.old.frames.items).names }
+        requires room { 1 ≤ (place_of (first_place self.old.thread) self.old.frames.items).spot.room }
+        requires block { FitsList (above (place_of (first_place self.old.thread) self.old.frames.items).spot) stmts.now }
+        ensures pieces { started result (kept self.new.frames.items) ≡ pieces (statements_of (map statement_of stmts.entry.now)) (behind self.old.frames.items) }
+        ensures first { IsFirst self.new.thread result (vars_of self.new.vars.items) self.new.frames.items }
+        ensures vars { vars_of self.new.vars.items ≡ vars_of self.old.vars.items }
+        ensures thread { self.new.thread ≡ self.old.thread }
+    {
+        self.push_frame(Frame::Stmts(stmts));
+        self.next_piece()
+    }
+
+    /// Leaves the innermost loop, whose variable goes.
+    pub fn leave_loop(&mut self)
+        requires away { put_away self.old.frames.items ≡ [] }
+        requires names { names_of (vars_of self.old.vars.items) ≡ (place_of (first_place self.old.thread) self.old.frames.items).names }
+        requires inside { (place_of (first_place self.old.thread) self.old.frames.items).spot.inside ≡ true }
+        ensures pieces { behind self.new.frames.items ≡ after_loop (behind self.old.frames.items) }
+        ensures away { put_away self.new.frames.items ≡ [] }
+        ensures names { names_of (vars_of self.new.vars.items) ≡ (place_of (first_place self.new.thread) self.new.frames.items).names }
+        ensures vars { vars_of self.new.vars.items ≡ drop 1 (vars_of self.old.vars.items) }
+        ensures thread { self.new.thread ≡ self.old.thread }
+    {
+        let _ = self.vars.pop();
+        'frames: while let Some(frame) = self.pop_frame() {
+            match frame {
+                Frame::Turned(_) => return,
+                Frame::Stmts(_) => {}
+                Frame::Finish => unreachable!(),
+                Frame::Return(_) => unreachable!(),
+                Frame::Saved(_) => unreachable!(),
+            }
+        }
+        unreachable!()
+    }
+}

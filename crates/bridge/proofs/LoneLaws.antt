@@ -9,8 +9,8 @@ use Rattle.seq_tree.specs.Statements.{Statement, Statements}
 use Rattle.seq_tree.specs.Expressions.{Expression}
 use Rattle.seq_tree.specs.Trees.{block_of, statements_of, statement_layer, arm_layer, block_layer}
 use Rattle.seq_tree.specs.declared.tree.Block.{Block, fold_out-Block}
-use Rattle.seq_tree.specs.Dearest.{cost}
 use Rattle.seq_tree.specs.declared.tree.Costs.{Costs}
+use Rattle.seq_tree.specs.declared.tree.Stmt.{Stmt}
 use Rattle.ods_tree.specs.Designs.{Design}
 use Rattle.ods_tree.specs.Flats.{Flat}
 use Rattle.ods_tree.specs.Flattening.{flat}
@@ -22,10 +22,9 @@ use Rattle.ods_rules.specs.Broken.{Broken, V15Cost}
 use Rattle.ods_tree.specs.Attributes.{attribute_or}
 use Rattle.ods_tree.specs.declared.design.AttrKey.TheVariants.{Period}
 use Rattle.ods_rules.specs.Budgets.{bad_sizes, greatest_cost}
-use Rattle.ods_rules.specs.Parts.{statement_of}
+use Rattle.ods_rules.specs.Parts.{statement_of, block_by}
 use Rattle.ods_rules.specs.Rules.{MeetsRules, Size}
 use Rattle.ods_rules.specs.Told.{within_greatest}
-use Rattle.ods_rules.proofs.BlockLaws.{costs_are}
 use Rattle.ods_rules.proofs.CyclicLaws.{first, size_is}
 use Rattle.ods_rules.proofs.CostSteps.{cost-within}
 use Rattle.rt_response.specs.Response.{IsLeastVector}
@@ -33,6 +32,7 @@ use Rattle.rt_response.specs.Rounds.{IsMiss}
 use Rattle.rt_response.specs.declared.rows.Bound.{Bound}
 use Rattle.rt_response.specs.declared.rows.Miss.{Miss}
 use Rattle.rt_response.specs.declared.rows.Limit.TheVariants.{Deadline}
+use Rattle.analysis.specs.Execution.{called_cost, block_cost}
 use Rattle.analysis.specs.Ceilings.{Ranks, ranks, ranks_for}
 use Rattle.analysis.specs.Tables.{ThreadTable, table, places_by_priority}
 use Rattle.ada_tree.specs.InUse.{IsUsableProgram}
@@ -70,10 +70,7 @@ built_statements b = subst IsUsableBlock (block-told b)
 -- the cost is that of the one way through the block
 pub cost-most : (l : Lone) → IsUsableBlock (block_of l.block.now) → lone_cost l ≡ most l.costs.now (block_of l.block.now)
 cost-most l built =
-    let called : Name → Name → ℕ = λ object op. 0 in
-    ap (λ n. n + l.costs.now.finish)
-    (sym (costs_are l.costs.now called (map statement_of l.block.now.stmts.items) (built_statements l.block.now built))
-    ∙ (ap (cost l.costs.now called) (sym (block-told l.block.now)) ∙ cost-through l.costs.now called (block_of l.block.now) built))
+    ap (λ n. n + l.costs.now.finish) (cost-through l.costs.now (called_cost l.costs.now []) (block_of l.block.now) built)
 
 -- the design, flat
 pub flat-lone : (l : Lone) → IsUsableBlock (block_of l.block.now) → lone_flat l ≡ flat (lone_design l)
@@ -100,12 +97,25 @@ cost-fits l usable meets = either (nat_lt greatest_cost (lone_cost l)) refl
     either true e =
         let built = built_block l.name.now l.costs.now l.object.now l.attrs.now (block_of l.block.now) usable in
         let size = size_is l.name.now l.costs.now l.object.now l.attrs.now (map statement_of l.block.now.stmts.items) (built_statements l.block.now built) in
-        let P : Statements → Type 0 = λ b. first (bad_sizes (cyclic_design l.name.now l.costs.now l.object.now l.attrs.now b)) ≡ Some (V15Cost l.object.now None) in
-        absurd (none_first (bad_sizes (lone_design l)) (V15Cost l.object.now None) (meets Size) (subst P (sym (block-told l.block.now)) (size ∙ told_when _ _ e)))
+        let dear : Broken = V15Cost l.object.now None in
+        let P : Statements → Type 0 = λ b. first (bad_sizes (cyclic_design l.name.now l.costs.now l.object.now l.attrs.now b)) ≡ only_if (nat_lt greatest_cost (block_cost l.costs.now [] b + l.costs.now.finish)) dear in
+        absurd (none_first (bad_sizes (lone_design l)) dear (meets Size) (subst P (sym (block-told l.block.now)) size ∙ told_when _ _ e))
     either false e = grind (arith, nat_tests)
 
 pub cost-told : (l : Lone) → IsUsableDesign (lone_design l) → MeetsRules (lone_design l) → within_greatest (lone_cost l) ≡ None → ⊥
 cost-told l usable meets e = let some = cost-within (lone_cost l) (cost-fits l usable meets) in cc
+
+-- the statements that a block lends are its own, as is their cost
+lent-told : (l : Lone) (stmts : List Stmt) → stmts ≡ l.block.now.stmts.items → block_by stmts ≡ block_of l.block.now
+lent-told l stmts lent = ap block_by lent ∙ sym (block-told l.block.now)
+
+pub usable-lent : (l : Lone) → IsUsableDesign (lone_design l) → (stmts : List Stmt) → stmts ≡ l.block.now.stmts.items → IsUsableBlock (block_by stmts)
+usable-lent l usable stmts lent =
+    subst IsUsableBlock (sym (lent-told l stmts lent)) (built_block l.name.now l.costs.now l.object.now l.attrs.now (block_of l.block.now) usable)
+
+pub cost-lent : (l : Lone) (stmts : List Stmt) → stmts ≡ l.block.now.stmts.items
+    → within_greatest (block_cost l.costs.now [] (block_by stmts) + l.costs.now.finish) ≡ within_greatest (lone_cost l)
+cost-lent l stmts lent = ap (λ b. within_greatest (block_cost l.costs.now [] b + l.costs.now.finish)) (lent-told l stmts lent)
 
 -- the named bound
 abbrev named_by : Flat → List ℕ → ThreadTable → List Bound → List NamedBound

@@ -1,14 +1,13 @@
 -- A design of one cyclic object by its parts: the design, its thread, and what an activation costs.
 -- It is the part of the designs that is built so far.
-use Rattle.std.specs.Prelude.{ℕ, ◌+◌, [], ◌∷◌, map}
+use Rattle.std.specs.Prelude.{ℕ, ◌+◌, [], ◌∷◌}
 use Rattle.seq_tree.specs.Trees.{block_of}
 use Rattle.ods_tree.specs.Attributes.{attribute_or}
 use Rattle.ods_tree.specs.Designs.{Object, Design}
 use Rattle.ods_tree.specs.Flats.{Cyclic, Thread, Flat}
 use Rattle.ods_tree.specs.InUse.{cyclic_design, cyclic_object}
 use Rattle.ods_tree.specs.declared.design.AttrKey.TheVariants.{Period, Offset, Deadline}
-use Rattle.ods_rules.specs.Parts.{statement_of}
-use Rattle.ods_rules.specs.Told.{ticks}
+use Rattle.analysis.specs.Execution.{block_cost}
 use Rattle.bridge.specs.declared.lone.Lone.{Lone}
 
 -- the design with these parts
@@ -37,6 +36,6 @@ lone_thread l = record {
 abbrev pub lone_flat : Lone → Flat
 lone_flat l = record { name = l.name.now; costs = l.costs.now; passive = []; shared = []; threads = lone_thread l ∷ [] }
 
--- the cost of an activation
+-- the cost of an activation, whose block calls nothing
 abbrev pub lone_cost : Lone → ℕ
-lone_cost l = ticks l.costs.now (map statement_of l.block.now.stmts.items) + l.costs.now.finish
+lone_cost l = block_cost l.costs.now [] (block_of l.block.now) + l.costs.now.finish

@@ -14,7 +14,7 @@ use Rattle.ods_tree.specs.Links.{renamed}
 use Rattle.ods_tree.specs.Sound.{is_within}
 use Rattle.ods_rules.specs.Clashes.{Mention, block_loops}
 use Rattle.ods_rules.specs.Words.{block_names}
-use Rattle.ods_rules.specs.Told.{works_fit, ticks}
+use Rattle.ods_rules.specs.Told.{works_fit}
 
 pub no_loops : (mention : Name → List Name → Mention) (open' : List Name) (b : Statements) → IsUsableBlock b → block_loops mention open' b ≡ []
 no_loops mention open' End h = refl
@@ -71,13 +71,14 @@ works_are (ExitWhen condition ∷ ss) h = absurd h
 works_are (Call object op actuals ∷ ss) h = absurd h
 works_are (Put value ∷ ss) h = absurd h
 
-pub costs_are : (costs : Costs) (called : Name → Name → ℕ) (ss : List Statement) → IsUsableBlock (statements_of ss) → cost costs called (statements_of ss) ≡ ticks costs ss
-costs_are costs called [] h = refl
-costs_are costs called (Null ∷ ss) h = ap (λ n. costs.nothing + n) (costs_are costs called ss h)
-costs_are costs called (Work n ∷ ss) h = ap (λ m. n + m) (costs_are costs called ss h)
-costs_are costs called (Assign target value ∷ ss) h = absurd h
-costs_are costs called (If branches ∷ ss) h = absurd h
-costs_are costs called (For name low high body ∷ ss) h = absurd h
-costs_are costs called (ExitWhen condition ∷ ss) h = absurd h
-costs_are costs called (Call object op actuals ∷ ss) h = absurd h
-costs_are costs called (Put value ∷ ss) h = absurd h
+-- what a call would cost doesn't matter
+pub cost_same : (costs : Costs) (called other : Name → Name → ℕ) (b : Statements) → IsUsableBlock b → cost costs called b ≡ cost costs other b
+cost_same costs called other End h = refl
+cost_same costs called other (Then Null rest) h = ap (λ n. costs.nothing + n) (cost_same costs called other rest h)
+cost_same costs called other (Then (Work n) rest) h = ap (λ m. n + m) (cost_same costs called other rest h)
+cost_same costs called other (Then (Assign target value) rest) h = absurd h
+cost_same costs called other (Then (If branches) rest) h = absurd h
+cost_same costs called other (Then (For name low high body) rest) h = absurd h
+cost_same costs called other (Then (ExitWhen condition) rest) h = absurd h
+cost_same costs called other (Then (Call object op actuals) rest) h = absurd h
+cost_same costs called other (Then (Put value) rest) h = absurd h

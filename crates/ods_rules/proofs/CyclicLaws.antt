@@ -15,6 +15,7 @@ use Rattle.ods_tree.specs.Walk.{only_if}
 use Rattle.ods_tree.specs.declared.design.Attr.{Attr}
 use Rattle.ods_tree.specs.declared.design.Kind.TheVariants.{Cyclic}
 use Rattle.ada_tree.specs.Words.{is_ada_name}
+use Rattle.analysis.specs.Execution.{block_cost}
 use Rattle.ods_rules.specs.Broken.{Broken, V01, V02, V11, V14, V15Cost}
 use Rattle.ods_rules.specs.Clashes.{clashes}
 use Rattle.ods_rules.specs.Words.{kept_names}
@@ -23,8 +24,8 @@ use Rattle.ods_rules.specs.Numbers.{are_attributes_right, bad_numbers}
 use Rattle.ods_rules.specs.Budgets.{activation_cost, greatest_cost, is_over, bad_budgets, bad_sizes}
 use Rattle.ods_rules.specs.Rings.{StartsThread, IsOnStartRing}
 use Rattle.ods_rules.specs.Parts.{bearer}
-use Rattle.ods_rules.specs.Told.{clash_told, kept_told, costs_told, numbers_told, works_fit, ticks, within_greatest, budget_of, told_by, cost_told}
-use Rattle.ods_rules.proofs.BlockLaws.{no_loops, no_names, no_fault, renamed_same, works_are, costs_are}
+use Rattle.ods_rules.specs.Told.{clash_told, kept_told, costs_told, numbers_told, works_fit, within_greatest, budget_of, told_by, cost_told}
+use Rattle.ods_rules.proofs.BlockLaws.{no_loops, no_names, no_fault, renamed_same, works_are, cost_same}
 
 -- the first of a list
 abbrev pub first : List Broken → Option Broken
@@ -55,9 +56,9 @@ number_cases true false fit object = refl
 number_cases false right fit object = refl
 
 -- the cost of an activation, whatever its design has besides
-activation_is : (x : Design) (ss : List Statement) → IsUsableBlock (statements_of ss) → activation_cost x (statements_of ss) ≡ ticks x.costs ss + x.costs.finish
-activation_is x ss built =
-    rw (renamed_same (resolve x) (statements_of ss) built) (ap (λ n. n + x.costs.finish) (costs_are x.costs _ ss built))
+activation_is : (x : Design) (b : Statements) → IsUsableBlock b → activation_cost x b ≡ block_cost x.costs [] b + x.costs.finish
+activation_is x b built =
+    rw (renamed_same (resolve x) b built) (ap (λ n. n + x.costs.finish) (cost_same x.costs _ _ b built))
 
 -- over the budget where it isn't too dear, and too dear where it is
 within_cases : (over : Bool) (told : Broken) → first_of (only_if (over && true) told) None ≡ only_if over told
@@ -108,11 +109,11 @@ module _ (name : Name) (costs : Costs) (object : Name) (attrs : List Attr) (ss :
       number_cases (list_all (is_within 1 1000) (costs_of costs)) (are_attributes_right Cyclic o) (list_all (is_within 1 1000000000) (block_works block ++ [])) object
       ∙ ap (λ fit. first_of (only_if (not (list_all (is_within 1 1000) (costs_of costs))) (V11 None)) (only_if (not (are_attributes_right Cyclic (bearer attrs) && fit)) (V11 (Some object)))) works_fit_is
 
-  pub budget_is : first (bad_budgets x) ≡ only_if (is_over (budget_of attrs) (ticks costs ss + costs.finish)) (V14 object (ticks costs ss + costs.finish) (budget_of attrs))
-  budget_is = first_single _ ∙ ap (λ n. only_if (is_over (budget_of attrs) n) (V14 object n (budget_of attrs))) (activation_is x ss built)
+  pub budget_is : first (bad_budgets x) ≡ only_if (is_over (budget_of attrs) (block_cost costs [] block + costs.finish)) (V14 object (block_cost costs [] block + costs.finish) (budget_of attrs))
+  budget_is = first_single _ ∙ ap (λ n. only_if (is_over (budget_of attrs) n) (V14 object n (budget_of attrs))) (activation_is x block built)
 
-  pub size_is : first (bad_sizes x) ≡ only_if (nat_lt greatest_cost (ticks costs ss + costs.finish)) (V15Cost object None)
-  size_is = first_single _ ∙ ap (λ n. only_if (nat_lt greatest_cost n) (V15Cost object None)) (activation_is x ss built)
+  pub size_is : first (bad_sizes x) ≡ only_if (nat_lt greatest_cost (block_cost costs [] block + costs.finish)) (V15Cost object None)
+  size_is = first_single _ ∙ ap (λ n. only_if (nat_lt greatest_cost n) (V15Cost object None)) (activation_is x block built)
 
   pub no_bodies : bad_bodies x ≡ []
   no_bodies = rw (no_fault _ block built) refl

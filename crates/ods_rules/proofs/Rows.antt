@@ -3,18 +3,18 @@ use Rattle.std.specs.Prelude.{◌≡◌, ℕ, ◌<◌, List, [], ◌∷◌, ◌+
 use Rattle.std.proofs.Common.{arith, not-suc-le-zero}
 use Rattle.seq_tree.specs.Names.{Name}
 use Rattle.seq_tree.specs.Expressions.{Number, Variable}
-use Rattle.seq_tree.specs.Statements.{Assign, Call, Work}
+use Rattle.seq_tree.specs.Statements.{Null, Assign, Call, Work}
 use Rattle.seq_tree.specs.Faults as fault
 use Rattle.seq_tree.specs.declared.tree.OpName.{OpName}
-use Rattle.seq_tree.specs.declared.tree.Mode.TheVariants.{Out}
+use Rattle.seq_tree.specs.declared.tree.Mode.TheVariants.{In, Out}
 use Rattle.ods_tree.specs.Designs.{Tree, Node, Empty, Design}
-use Rattle.ods_tree.specs.declared.design.Kind.TheVariants.{Active, Protected}
-use Rattle.ods_tree.specs.declared.design.Constraint.TheVariants.{Hser}
+use Rattle.ods_tree.specs.declared.design.Kind.TheVariants.{Active, Protected, Sporadic}
+use Rattle.ods_tree.specs.declared.design.Constraint.TheVariants.{Aser, Hser}
 use Rattle.ods_tree.specs.declared.design.AttrKey.TheVariants.{Period, Deadline, ThreadBudget}
 use Rattle.ods_tree.proofs.Short.{attr, cyc, cyc_with, spo, pro, pas, trees, block, call, design, several}
 use Rattle.ods_tree.proofs.Mine.{mine}
 use Rattle.ada_tree.specs.Words.{is_ada_name}
-use Rattle.ods_rules.specs.Broken.{Broken, V01, V02, V03, V08, V09Calls, V10, V13, V14}
+use Rattle.ods_rules.specs.Broken.{Broken, V01, V02, V03, V04, V08, V09Calls, V10, V13, V14}
 use Rattle.ods_rules.specs.Clashes.{clashes}
 use Rattle.ods_rules.specs.Words.{kept_names}
 use Rattle.ods_rules.specs.Includes.{bad_includes}
@@ -48,6 +48,28 @@ a = codes "a"
 same_names : first (before_rings (several (cyc a 10 10 (Work 3 ∷ []) ∷ cyc a 10 10 (Work 3 ∷ []) ∷ []))) ≡ Some (V01 a)
 unfolding is_ada_name
 same_names = refl
+
+-- of two operations that could be requests the thread is the body of the first alone, so that the parameter of the second is no clash
+abbrev two_requests : Design
+two_requests = design (Node (record {
+  name = codes "s";
+  kind = Sporadic;
+  attrs = [];
+  provides = record { sig = record { name = a; params = [] }; constraint = Some Aser }
+      ∷ record { sig = record { name = codes "b"; params = record { name = a; mode = In } ∷ [] }; constraint = Some Aser } ∷ [];
+  needs = [];
+  vars = [];
+  bodies = [];
+  thread = Some (block (Null ∷ []));
+  links = [];
+}) Empty)
+
+no_clash_of_two_requests : clashes two_requests ≡ []
+no_clash_of_two_requests = refl
+
+one_request_too_many : first (before_rings two_requests) ≡ Some (V04 (codes "s"))
+unfolding is_ada_name
+one_request_too_many = refl
 
 reserved_name : first (before_rings (design (cyc (codes "task") 10 10 (Work 3 ∷ [])))) ≡ Some (V02 (codes "task"))
 unfolding is_ada_name

@@ -9,14 +9,15 @@ use Rattle.ods_tree.specs.InUse.{IsUsableBlock, IsUsableDesign, cyclic_design}
 use Rattle.ods_tree.specs.Links.{first_of}
 use Rattle.ods_tree.specs.Walk.{own_of, only_if}
 use Rattle.ods_tree.specs.declared.design.Attr.{Attr}
+use Rattle.analysis.specs.Execution.{block_cost}
 use Rattle.ods_rules.specs.Broken.{Broken, V14, V15Cost}
 use Rattle.ods_rules.specs.Clashes.{clashes}
 use Rattle.ods_rules.specs.Words.{kept_names}
 use Rattle.ods_rules.specs.Numbers.{bad_numbers}
 use Rattle.ods_rules.specs.Budgets.{greatest_cost, is_over, bad_budgets, bad_sizes}
 use Rattle.ods_rules.specs.Rules.{Rule, Clash, KeptName, Include, Operation, Fitting, Stranger, Absence, Use, CallRing, StartRing, Source, Number, IdleActive, BodyFault, Budget, Size, Spacing, number_of, Offends, MeetsRules, IsFirstBroken}
-use Rattle.ods_rules.specs.Parts.{statement_of, written}
-use Rattle.ods_rules.specs.Told.{Matches, clash_told, kept_told, costs_told, numbers_told, ticks, budget_of, cost_told, first_told}
+use Rattle.ods_rules.specs.Parts.{statement_of, block_by, written}
+use Rattle.ods_rules.specs.Told.{Matches, clash_told, kept_told, costs_told, numbers_told, budget_of, cost_told, first_told}
 use Rattle.ods_rules.specs.Checks.{IsFirstTold}
 use Rattle.ods_rules.specs.declared.parts.Parts.{Parts}
 use Rattle.ods_rules.proofs.CyclicLaws.{first, clash_is, kept_is, number_is, budget_is, size_is, cost_is, no_bodies, no_start_ring}
@@ -111,9 +112,9 @@ module _ (name : Name) (costs : Costs) (object : Name) (attrs : List Attr) (ss :
       lower (suc (number_of rule)) (λ h. nil_first (clashes x) ec) (λ h. nil_first (kept_names x) ek) (λ h. nil_first (bad_numbers x) em) (λ h. nil_first (bad_budgets x) eb) (λ h. nil_first (bad_sizes x) es)
       rule place told (omega arith)
 
-  -- the ticks of an activation, and what is told of them
+  -- the cost of an activation, and what is told of it
   abbrev n : ℕ
-  n = ticks costs ss + costs.finish
+  n = block_cost costs [] (statements_of ss) + costs.finish
 
   abbrev told_here : Option Broken
   told_here = first_of (clash_told name object) (first_of (kept_told name object) (first_of (costs_told costs) (first_of (numbers_told object attrs ss) (cost_told object (budget_of attrs) n))))
@@ -134,11 +135,11 @@ module _ (name : Name) (costs : Costs) (object : Name) (attrs : List Attr) (ss :
 abbrev thread_in : Design → Option Statements
 thread_in x = (own_of x.root).thread
 
--- the parts of a design that is built
-built_parts : (x : Design) (p : Parts) → IsUsableDesign x → x ≡ written p → IsUsableBlock (statements_of (map statement_of p.stmts.now))
+-- the block of a design that is built
+pub built_parts : (x : Design) (p : Parts) → IsUsableDesign x → x ≡ written p → IsUsableBlock (block_by p.stmts.now)
 built_parts x p u same =
-    let threads : Some u.block ≡ Some (statements_of (map statement_of p.stmts.now)) = ap thread_in (sym u.same ∙ same) in
-    let blocks : u.block ≡ statements_of (map statement_of p.stmts.now) = cc in
+    let threads : Some u.block ≡ Some (block_by p.stmts.now) = ap thread_in (sym u.same ∙ same) in
+    let blocks : u.block ≡ block_by p.stmts.now = cc in
     let P : Statements → Type 0 = λ b. IsUsableBlock b in subst P blocks u.built
 
 pub outcome_of : (x : Design) (p : Parts) → IsUsableDesign x → x ≡ written p → Outcome x (first_told p)

@@ -15,9 +15,13 @@ use Rattle.ods_rules.specs.declared.parts.Parts.{Parts}
 abbrev pub statement_of : Stmt → Statement
 statement_of = fold-Stmt Statement (Expression × Statements) Statements statement_layer arm_layer block_layer
 
+-- the block of these statements
+abbrev pub block_by : List Stmt → Statements
+block_by stmts = statements_of (map statement_of stmts)
+
 -- the design with these parts
 abbrev pub written : Parts → Design
-written p = cyclic_design p.name.now p.costs.now p.object.now p.attrs.now (statements_of (map statement_of p.stmts.now))
+written p = cyclic_design p.name.now p.costs.now p.object.now p.attrs.now (block_by p.stmts.now)
 
 -- an object with these attributes
 abbrev pub bearer : List Attr → Object

@@ -1,9 +1,9 @@
 -- What is told of a design of one cyclic object, one rule after another; that it is the first rule broken is proved of it.
 -- It is the part of the designs that is built so far.
-use Rattle.std.specs.Prelude.{◌≡◌, ℕ, ◌+◌, Bool, true, not, ◌&&◌, List, [], ◌∷◌, map, nat_lt, nat_le, Option, Some, None, Result, Ok, Err, ⊤, if◌then◌else◌}
+use Rattle.std.specs.Prelude.{◌≡◌, ℕ, ◌+◌, Bool, true, not, ◌&&◌, List, [], map, nat_lt, nat_le, Option, Some, None, Result, Ok, Err, ⊤, if◌then◌else◌}
 use Rattle.std.specs.List.{list_all}
 use Rattle.seq_tree.specs.Names.{Name, same_name}
-use Rattle.seq_tree.specs.Statements.{Statement, Null, Work}
+use Rattle.seq_tree.specs.Statements.{Statement, Work}
 use Rattle.seq_tree.specs.declared.tree.Costs.{Costs}
 use Rattle.ods_tree.specs.Attributes.{attribute_or}
 use Rattle.ods_tree.specs.Links.{first_of}
@@ -13,10 +13,11 @@ use Rattle.ods_tree.specs.declared.design.Attr.{Attr}
 use Rattle.ods_tree.specs.declared.design.AttrKey.TheVariants.{ThreadBudget}
 use Rattle.ods_tree.specs.declared.design.Kind.TheVariants.{Cyclic}
 use Rattle.ada_tree.specs.Words.{is_ada_name}
+use Rattle.analysis.specs.Execution.{block_cost}
 use Rattle.ods_rules.specs.Broken.{Broken, V01, V02, V11, V14, V15Cost}
 use Rattle.ods_rules.specs.Numbers.{are_attributes_right}
 use Rattle.ods_rules.specs.Budgets.{greatest_cost}
-use Rattle.ods_rules.specs.Parts.{statement_of, bearer}
+use Rattle.ods_rules.specs.Parts.{statement_of, block_by, bearer}
 use Rattle.ods_rules.specs.declared.parts.Parts.{Parts}
 use Rattle.ods_rules.specs.declared.broken.Broken as code
 use Rattle.ods_rules.specs.declared.broken.Broken.TheVariants as variant
@@ -65,17 +66,6 @@ works_fit ss = list_all work_fits ss
 unfoldable pub numbers_told : Name → List Attr → List Statement → Option Broken
 numbers_told object attrs ss = only_if (not (are_attributes_right Cyclic (bearer attrs) && works_fit ss)) (V11 (Some object))
 
--- the ticks of a statement
-abbrev pub statement_ticks : Costs → Statement → ℕ
-statement_ticks costs Null = costs.nothing
-statement_ticks costs (Work ticks) = ticks
-statement_ticks costs _ = 0
-
--- the ticks of statements
-abbrev pub ticks : Costs → List Statement → ℕ
-ticks costs [] = 0
-ticks costs (s ∷ ss) = statement_ticks costs s + ticks costs ss
-
 -- a cost, where it isn't too great
 unfoldable pub within_greatest : ℕ → Option ℕ
 within_greatest n = only_if (nat_le n greatest_cost) n
@@ -93,9 +83,9 @@ told_by object budget (Some cost) = only_if (nat_lt budget cost) (V14 object cos
 unfoldable pub cost_told : Name → ℕ → ℕ → Option Broken
 cost_told object budget cost = told_by object budget (within_greatest cost)
 
--- what is told first
+-- what is told first; the block calls nothing, so that its cost is that without services
 unfoldable pub first_told : Parts → Option Broken
 first_told p =
     first_of (clash_told p.name.now p.object.now) (first_of (kept_told p.name.now p.object.now) (first_of (costs_told p.costs.now)
     (first_of (numbers_told p.object.now p.attrs.now (map statement_of p.stmts.now))
-    (cost_told p.object.now (budget_of p.attrs.now) (ticks p.costs.now (map statement_of p.stmts.now) + p.costs.now.finish)))))
+    (cost_told p.object.now (budget_of p.attrs.now) (block_cost p.costs.now [] (block_by p.stmts.now) + p.costs.now.finish)))))

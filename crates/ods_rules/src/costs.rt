@@ -1,6 +1,9 @@
-ghost use Rattle.std.specs.Prelude.{◌≡◌, ◌+◌, map};
-ghost use Rattle.ods_rules.specs.Parts.{statement_of};
-ghost use Rattle.ods_rules.specs.Told.{Tells, statement_ticks, ticks, within_greatest, cost_told, budget_of};
+ghost use Rattle.std.specs.Prelude.{◌≡◌, ◌+◌, []};
+ghost use Rattle.seq_tree.specs.Statements.{End, Then};
+ghost use Rattle.ods_tree.specs.InUse.{IsUsableBlock};
+ghost use Rattle.analysis.specs.Execution.{block_cost};
+ghost use Rattle.ods_rules.specs.Parts.{statement_of, block_by};
+ghost use Rattle.ods_rules.specs.Told.{Tells, within_greatest, cost_told, budget_of};
 
 use crate::broken::Broken;
 use crate::numbers::attribute;
@@ -11,24 +14,28 @@ use std::alloc::Global;
 /// The most that an activation may cost, in ticks.
 const GREATEST_COST: u64 = 1_000_000_000;
 
-/// The ticks of a statement.
-fn statement_ticks(costs: &Costs, stmt: &Stmt) -> u32
-    ensures { result ≡ statement_ticks costs.now (statement_of stmt.now) }
+/// The cost of a statement, `null;` or `work (n);`, in ticks.
+fn statement_cost(costs: &Costs, stmt: &Stmt) -> u32
+    requires { IsUsableBlock (Then (statement_of stmt.now) End) }
+    ensures { result ≡ block_cost costs.now [] (Then (statement_of stmt.now) End) }
 {
     match stmt {
         Stmt::Null => costs.nothing,
         Stmt::Work(ticks) => *ticks,
-        _ => 0,
+        _ => unreachable!(),
     }
 }
 
-/// The ticks of an activation, its end included, where they are at most 1,000,000,000.
+/// The cost of an activation, its end included, in ticks, where it is at most 1,000,000,000.
+///
+/// Its block has `null;` and `work (n);` alone, so that it calls nothing.
 pub fn activation_cost(costs: &Costs, stmts: &[Stmt]) -> Option<u32>
-    ensures { result ≡ within_greatest (ticks costs.now (map statement_of stmts.now) + costs.now.finish) }
+    requires { IsUsableBlock (block_by stmts.now) }
+    ensures { result ≡ within_greatest (block_cost costs.now [] (block_by stmts.now) + costs.now.finish) }
 {
     let mut total: u64 = 0;
     'stmts: for stmt in stmts {
-        total += u64::from(statement_ticks(costs, stmt));
+        total += u64::from(statement_cost(costs, stmt));
         if total > GREATEST_COST {
             return None;
         }
@@ -49,7 +56,8 @@ pub(crate) fn cost_fits(
     attrs: &[Attr],
     stmts: &[Stmt],
 ) -> Result<(), Broken>
-    ensures { Tells result (cost_told object.now (budget_of attrs.now) (ticks costs.now (map statement_of stmts.now) + costs.now.finish)) }
+    requires { IsUsableBlock (block_by stmts.now) }
+    ensures { Tells result (cost_told object.now (budget_of attrs.now) (block_cost costs.now [] (block_by stmts.now) + costs.now.finish)) }
 {
     let Some(cost) = activation_cost(costs, stmts) else {
         return Err(Broken::V15Cost {

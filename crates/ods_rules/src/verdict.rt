@@ -1,6 +1,7 @@
 ghost use Rattle.std.specs.Prelude.{◌≡◌};
-ghost use Rattle.ods_tree.specs.InUse.{IsUsableDesign};
+ghost use Rattle.ods_tree.specs.InUse.{IsUsableBlock, IsUsableDesign};
 ghost use Rattle.ods_tree.specs.Trees.{design_of};
+ghost use Rattle.ods_rules.specs.Parts.{block_by};
 ghost use Rattle.ods_rules.specs.Told.{Tells, first_told};
 ghost use Rattle.ods_rules.specs.Checks.{Says};
 
@@ -16,6 +17,7 @@ use std::alloc::Global;
 /// Tells the first rule that is broken.
 #[tactic(auto, unfolding(crate::specs::Told::first_told))]
 fn find_broken(alloc: Global, parts: Parts<'_>) -> Result<(), Broken>
+    requires { IsUsableBlock (block_by parts.stmts.now) }
     ensures { Tells result (first_told parts.entry) }
 {
     names_differ(alloc, parts.name, parts.object)?;

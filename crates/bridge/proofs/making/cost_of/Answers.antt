@@ -1,16 +1,14 @@
-use Rattle.std.proofs.Common.{◌+◌, map, sym, ap, ◌∙◌}
-use Rattle.ods_rules.specs.Parts.{statement_of}
-use Rattle.ods_rules.specs.Told.{ticks, within_greatest}
+use Rattle.std.proofs.Common.{sym, ◌∙◌}
 use Rattle.ods_rules.proofs.CostSteps.{cost-within}
-use Rattle.bridge.proofs.LoneLaws.{cost-fits, cost-told, some_same}
+use Rattle.bridge.proofs.LoneLaws.{cost-fits, cost-told, cost-lent, usable-lent, some_same}
 use Rattle.bridge.proofs.making.cost_of.Goals as goal
 
+pub activation_cost-requires : goal.activation_cost-requires
+activation_cost-requires c = usable-lent c.args.lone c.requires.usable c.as_slice.result.now c.as_slice.ensures.value
+
 pub unreachable-requires : goal.unreachable-requires
-unreachable-requires c =
-    let all = ap (λ ss. within_greatest (ticks c.args.lone.costs.now (map statement_of ss) + c.args.lone.costs.now.finish)) c.as_slice.ensures.value in
-    cost-told c.args.lone c.requires.usable c.requires.meets (sym (c.in-None.ensures ∙ all))
+unreachable-requires c = cost-told c.args.lone c.requires.usable c.requires.meets (sym (c.in-None.ensures ∙ cost-lent c.args.lone c.as_slice.result.now c.as_slice.ensures.value))
 
 pub returns : goal.returns
 returns c =
-    let all = ap (λ ss. within_greatest (ticks c.args.lone.costs.now (map statement_of ss) + c.args.lone.costs.now.finish)) c.as_slice.ensures.value in
-    some_same (c.in-Some.ensures ∙ (all ∙ cost-within _ (cost-fits c.args.lone c.requires.usable c.requires.meets)))
+    some_same (c.in-Some.ensures ∙ (cost-lent c.args.lone c.as_slice.result.now c.as_slice.ensures.value ∙ cost-within _ (cost-fits c.args.lone c.requires.usable c.requires.meets)))

@@ -3,4 +3,3 @@ pub mod Fetching
 pub mod Completing
 pub mod Replaying
 pub mod Tracing
-pub mod Silence

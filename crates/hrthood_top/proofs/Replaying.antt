@@ -22,7 +22,7 @@ accepted_text bytes text w =
     let P : List ℕ → Type 0 = λ z. Accepts z (program w.design) in
     subst P (sym w.made) (accepted_generated w.design bytes w.bounds w.read.usable w.read.reads w.meets w.least.fits)
 
-right_trace : (bytes text arrivals written : List ℕ) → IsTextFor bytes text → Replays text arrivals written → IsRightTrace bytes arrivals written
+right_trace : (bytes text arrivals written : List ℕ) → IsTextFor bytes text → Replays text arrivals written → IsRightTrace bytes text arrivals written
 right_trace bytes text arrivals written w h =
     let right = right_replay horizon_limit w.design text w.bounds h.program h.under h.trace.told w.read.usable w.meets w.least.fits (accepted_text bytes text w)
     h.sequential h.accepts h.arrives.accepted h.trace.means in
@@ -33,6 +33,7 @@ right_trace bytes text arrivals written w h =
       bounds = w.bounds;
       least = w.least;
       program = h.program;
+      accepts = h.accepts;
       under = h.under;
       arrives = h.arrives;
       told = h.trace.told;
@@ -61,7 +62,7 @@ what_is_written words c x y t text h =
     let written : Writes t c end.0 = subst W h.told end.2 in
     subst (Writes t c) (one_text x.out y.out h.before end.0 text end.1 h.out h.got) written
 
-both_right : (t s : Told) (d a r text written : List ℕ) → Writes t (Generate d) text → Writes s (Replay a r) written → s.files a ≡ Some text → IsRightReplay t s d r written
+both_right : (t s : Told) (d a r text written : List ℕ) → Writes t (Generate d) text → Writes s (Replay a r) written → s.files a ≡ Some text → IsRightReplay t s d r text written
 both_right t s d a r text written w h file =
     let same : h.0 ≡ text = one_file s a h.0 text h.2.0 file in
     record {
@@ -73,6 +74,6 @@ both_right t s d a r text written w h file =
     }
 
 pub right_replays : (words others : List (List ℕ)) (d a r text written : List ℕ) (x y u v : Outside) (t s : Told)
-    → IsDone words (Generate d) x y t text → IsDone others (Replay a r) u v s written → s.files a ≡ Some text → IsRightReplay t s d r written
+    → IsDone words (Generate d) x y t text → IsDone others (Replay a r) u v s written → s.files a ≡ Some text → IsRightReplay t s d r text written
 right_replays words others d a r text written x y u v t s first second file =
     both_right t s d a r text written (what_is_written words (Generate d) x y t text first) (what_is_written others (Replay a r) u v s written second) file

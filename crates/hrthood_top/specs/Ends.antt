@@ -16,8 +16,8 @@ use Rattle.hrthood_top.specs.Words.{Command, Generate, Replay, file_names}
 use Rattle.hrthood_top.specs.Messages.{message_line, fault_line}
 use Rattle.hrthood_top.specs.Tells.{Tells}
 use Rattle.hrthood_top.specs.Files.{Holds, IsTooLong, fetched, failed, grown}
-use Rattle.hrthood_top.specs.Generates.{IsNoDesign}
-use Rattle.hrthood_top.specs.Replays.{Replays, IsRefused, IsAdaAlone}
+use Rattle.hrthood_top.specs.Generates.{CanGenerate, IsNoDesign}
+use Rattle.hrthood_top.specs.Replays.{CanReplay, Replays, IsRefused, IsAdaAlone}
 
 -- what stands outside: what the shelf tells and the count of its faults, and for standard output and standard error
 -- what was written and the count of faults
@@ -101,10 +101,15 @@ Ends status (Some c) x y = EndsCommand status c x y
 Ends Usage None x y = (y.told ≡ x.told) × (y.out ≡ x.out) × TellsMessage x y (message_line message.Usage)
 Ends _ None x y = ⊥
 
--- a command is done, or wants memory, where its files say what it writes and no count of faults rose
+-- a command whose files can be read, and have what it asks for
+abbrev pub CanDo : Told → Command → Type 0
+CanDo t (Generate d) = (bytes : List ℕ) × Holds t Design d bytes × CanGenerate bytes
+CanDo t (Replay a r) = (ada : List ℕ) × (arrivals : List ℕ) × Holds t Ada a ada × Holds t Arrivals r arrivals × CanReplay ada arrivals
+
+-- a command is done, or wants memory, where it can be done and no count of faults rose
 abbrev pub CompletesCommand : Status → Command → Outside → Outside → Type 0
 CompletesCommand status c x y =
-    IfSome x.told (λ t. (text : List ℕ) → Writes t c text → ¬ Rose x.read_faults y.read_faults → ¬ Rose x.write_faults y.write_faults →
+    IfSome x.told (λ t. CanDo t c → ¬ Rose x.read_faults y.read_faults → ¬ Rose x.write_faults y.write_faults →
     (status ≡ Done) ⊎ (status ≡ NoMemory))
 
 -- the same, for the command that the words are, where they are one

@@ -10,3 +10,4 @@ pub mod Ends
 pub mod Prepares
 pub mod Writing
 pub mod TwoRuns
+pub mod Exits

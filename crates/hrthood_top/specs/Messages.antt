@@ -20,7 +20,7 @@ use Rattle.hrthood_top.specs.declared.message.FileKind.TheVariants.{Design, Ada,
 use Rattle.hrthood_top.specs.declared.message.Refusal.{Refusal}
 use Rattle.hrthood_top.specs.declared.message.Refusal.TheVariants.{TooLong, Syntax, LongText, Rule, Miss, Program}
 use Rattle.hrthood_top.specs.declared.message.ProgramRefusal.{ProgramRefusal}
-use Rattle.hrthood_top.specs.declared.message.ProgramRefusal.TheVariants.{Text, Unit, NotRun}
+use Rattle.hrthood_top.specs.declared.message.ProgramRefusal.TheVariants.{Text, Unit}
 use Rattle.hrthood_top.specs.declared.message.Message.{Message}
 use Rattle.hrthood_top.specs.declared.message.Message.TheVariants.{Usage, Refused, ReadFault, WriteFault, NoMemory}
 
@@ -119,7 +119,6 @@ unit_line rule unit = codes "refused " ++ (rule_text rule ++ (gap_text unit ++ (
 abbrev pub program_line : ProgramRefusal → List ℕ
 program_line (Text fault) = text_line fault
 program_line (Unit rule unit) = unit_line rule unit
-program_line (NotRun unit) = codes "refused N1 " ++ (unit ++ codes "\n")
 
 -- the line of a refusal
 abbrev pub refusal_line : Refusal → List ℕ

@@ -1,5 +1,5 @@
 -- The text that a command is to write, or why there is none, before anything is written.
-use Rattle.std.specs.Prelude.{◌≡◌, ℕ, List, ◌∷◌, [], ◌++◌, take, Option, None, Result, Ok, Err, IfSome, ⊤}
+use Rattle.std.specs.Prelude.{◌≡◌, ℕ, List, ◌∷◌, [], ◌++◌, take, Option, Result, Ok, Err, IfSome, ⊤}
 use Rattle.ods_rules.specs.Told.{told_of}
 use Rattle.bridge.specs.Delivers.{IsTextFor, BreaksRule, HasNoBounds, HasLongText}
 use Rattle.ada_tree.specs.Reading.{Accepts}
@@ -15,7 +15,7 @@ use Rattle.hrthood_top.specs.declared.fetch.Stop.TheVariants.{Refused, ReadFault
 use Rattle.hrthood_top.specs.Words.{Command, file_names}
 use Rattle.hrthood_top.specs.Files.{fetched, failed, grown}
 use Rattle.hrthood_top.specs.Generates.{IsNoDesign}
-use Rattle.hrthood_top.specs.Replays.{Replays, IsRefused, IsAdaAlone, first_passive}
+use Rattle.hrthood_top.specs.Replays.{Replays, IsRefused, IsAdaAlone}
 use Rattle.hrthood_top.specs.Ends.{Writes, Refuses, fetched_before}
 
 -- what is made of a design, or why nothing is
@@ -32,9 +32,9 @@ Generated view (Err (Refused (TooLong kind))) bytes = ⊥
 Generated view (Err (ReadFault name)) bytes = ⊥
 Generated view (Err NoMemory) bytes = ⊤
 
--- the program of an Ada text that is run, or why there is none
+-- the program of an Ada text, or why there is none
 abbrev pub RunsAda : Result AdaProgram Stop → List ℕ → Type 0
-RunsAda (Ok p) ada = Accepts ada (program_of p) × IsSequentialProgram (program_of p) × (first_passive (program_of p) ≡ None)
+RunsAda (Ok p) ada = Accepts ada (program_of p) × IsSequentialProgram (program_of p)
 RunsAda (Err (Refused (Program refusal))) ada = IsRefused ada refusal
 RunsAda (Err (Refused (Syntax kind))) ada = ⊥
 RunsAda (Err (Refused (TooLong kind))) ada = ⊥

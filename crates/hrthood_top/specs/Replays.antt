@@ -1,14 +1,12 @@
 -- What a replay writes of two texts, and why texts are refused.
 -- No condition is put on where the Ada text came from.
-use Rattle.std.specs.Prelude.{◌≡◌, List, ℕ, not, find, Option, None, Some, option_map}
-use Rattle.seq_tree.specs.Names.{Name}
-use Rattle.ada_tree.specs.Programs.{Program, is_task}
-use Rattle.ada_tree.specs.Programs as programs
+use Rattle.std.specs.Prelude.{◌≡◌, List, ℕ}
+use Rattle.ada_tree.specs.Programs.{Program}
 use Rattle.ada_tree.specs.Reading.{Accepts}
 use Rattle.ada_tree.specs.InUse.{IsSequentialProgram}
 use Rattle.ada_read.specs.Answers.{Faults, Breaks}
 use Rattle.hrthood_top.specs.declared.message.ProgramRefusal.{ProgramRefusal}
-use Rattle.hrthood_top.specs.declared.message.ProgramRefusal.TheVariants.{Text, Unit, NotRun}
+use Rattle.hrthood_top.specs.declared.message.ProgramRefusal.TheVariants.{Text, Unit}
 use Rattle.arrivals_read.specs.Arriving.{Arrivals}
 use Rattle.arrivals_read.specs.Arrived.{Arrives}
 use Rattle.arrivals_read.specs.Answers.{SaysNothing}
@@ -23,36 +21,36 @@ pub record IsTrace (p : Program) (a : Arrivals) (text : List ℕ) : Type 0 where
   pub means : Meaning p a told
   pub whole : text ≡ lines p told
 
--- the first unit without a task, where there is one: its operations are read and judged, and not run yet
-abbrev pub first_passive : Program → Option programs.Unit
-first_passive p = find (λ u. not (is_task u.form)) p.units
-
--- an Ada text and an arrivals text replay to this: the trace of the program that they say, under the arrivals that they say
+-- an Ada text and an arrivals text replay to this: the trace of the one program that the first says, under the arrivals that the second
+-- alone says of it
 pub record Replays (ada arrivals written : List ℕ) : Type 0 where
   pub program : Program
   pub under : Arrivals
   pub accepts : Accepts ada program
   pub sequential : IsSequentialProgram program
-  pub all_run : first_passive program ≡ None
+  pub alone : (p : Program) → IsSequentialProgram p → Accepts ada p → p ≡ program
   pub arrives : Arrives horizon_limit arrivals program under
   pub horizon_alone : AreUsableArrivals under
+  pub alone_under : (a : Arrivals) → AreUsableArrivals a → Arrives horizon_limit arrivals program a → a ≡ under
   pub trace : IsTrace program under written
 
--- an Ada text is accepted as one program, and as no other that is read, whose first unit that is not run has this name
-pub record IsNotRun (ada : List ℕ) (unit : Name) : Type 0 where
+-- an Ada text and an arrivals text that can be replayed: they say a program and arrivals, under which the program means something
+pub record CanReplay (ada arrivals : List ℕ) : Type 0 where
   pub program : Program
-  pub sequential : IsSequentialProgram program
+  pub under : Arrivals
   pub accepts : Accepts ada program
-  pub alone : (p : Program) → IsSequentialProgram p → Accepts ada p → p ≡ program
-  pub first : option_map (λ u. u.name) (first_passive program) ≡ Some unit
+  pub sequential : IsSequentialProgram program
+  pub arrives : Arrives horizon_limit arrivals program under
+  pub horizon_alone : AreUsableArrivals under
+  pub told : List Event
+  pub means : Meaning program under told
 
--- why an Ada text is not replayed: it is no text of a program that is read, or the program breaks a rule or is not run yet
+-- why an Ada text is not replayed: it is no text of a program that is read, or the program breaks a rule
 abbrev pub IsRefused : List ℕ → ProgramRefusal → Type 0
 IsRefused ada (Text fault) = Faults ada fault
 IsRefused ada (Unit rule unit) = Breaks ada rule unit
-IsRefused ada (NotRun unit) = IsNotRun ada unit
 
--- an Ada text is one of a program that is run, and the arrivals text is none for its program
+-- an Ada text is one of a program that is read, and the arrivals text is none for its program
 pub record IsAdaAlone (ada arrivals : List ℕ) : Type 0 where
   pub program : Program
   pub accepts : Accepts ada program

@@ -8,6 +8,7 @@ use Rattle.rt_response.specs.Response.{IsLeastVector}
 use Rattle.rt_response.specs.declared.rows.Bound.{Bound}
 use Rattle.analysis.specs.Tables.{table}
 use Rattle.ada_tree.specs.Programs.{Program}
+use Rattle.ada_tree.specs.Reading.{Accepts}
 use Rattle.arrivals_read.specs.Arriving.{Arrivals}
 use Rattle.arrivals_read.specs.Arrived.{Arrives}
 use Rattle.arrivals_read.specs.InUse.{horizon_limit}
@@ -34,14 +35,16 @@ pub record IsDone (words : List (List ℕ)) (c : Command) (x y : Outside) (t : T
   pub out : x.out ≡ Some before
   pub got : y.out ≡ Some (before ++ text)
 
--- lines are the trace of a run that a design allows, within its least bounds, under the arrivals of a text
-pub record IsRightTrace (design arrivals written : List ℕ) : Type 0 where
+-- lines are the trace of the one program that an Ada text says, a run that a design allows, within its least bounds, under the arrivals of
+-- a text
+pub record IsRightTrace (design text arrivals written : List ℕ) : Type 0 where
   pub of : Design
   pub read : ReadsAlone design of
   pub meets : MeetsRules of
   pub bounds : List Bound
   pub least : IsLeastVector (table (flat of)).rows bounds
   pub program : Program
+  pub accepts : Accepts text program
   pub under : Arrivals
   pub arrives : Arrives horizon_limit arrivals program under
   pub told : List Event
@@ -51,9 +54,9 @@ pub record IsRightTrace (design arrivals written : List ℕ) : Type 0 where
   pub bounded : IsBounded (responses (flat of) bounds) under.until (named program told)
 
 -- the same, with the design in a file of a first shelf and the arrivals in a file of a second one
-pub record IsRightReplay (first second : Told) (d r written : List ℕ) : Type 0 where
+pub record IsRightReplay (first second : Told) (d r text written : List ℕ) : Type 0 where
   pub design : List ℕ
   pub arrivals : List ℕ
   pub design_file : first.files d ≡ Some design
   pub arrivals_file : second.files r ≡ Some arrivals
-  pub right : IsRightTrace design arrivals written
+  pub right : IsRightTrace design text arrivals written

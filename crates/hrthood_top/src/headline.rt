@@ -13,5 +13,5 @@ ghost use Rattle.hrthood_top.specs.TwoRuns.{IsDone, IsRightReplay};
 pub fn generated_text_replays()
     ensures { (words others : List (List ℕ)) (d a r text written : List ℕ) (x y u v : Outside) (t s : Told)
         → IsDone words (Generate d) x y t text → IsDone others (Replay a r) u v s written → s.files a ≡ Some text
-        → IsRightReplay t s d r written }
+        → IsRightReplay t s d r text written }
 {}

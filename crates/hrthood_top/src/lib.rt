@@ -12,7 +12,6 @@ mod headline;
 mod message;
 mod prepare;
 mod replay;
-mod runnable;
 mod status;
 #[cfg(test)]
 mod tests;

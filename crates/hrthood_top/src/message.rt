@@ -50,8 +50,6 @@ pub enum ProgramRefusal {
     Text(TextFault),
     /// The program breaks this rule first, at this unit; without a unit package `hrt` or the whole list of units does.
     Unit { rule: AdaRule, unit: Option<Name> },
-    /// The program has a unit whose operations are not run yet: the first one.
-    NotRun { unit: Name },
 }
 
 /// What is told where a command was not done.
@@ -331,7 +329,6 @@ fn put_program<E: Sink>(err: &mut E, refusal: &ProgramRefusal) -> Result<(), Fai
     match refusal {
         ProgramRefusal::Text(fault) => put_fault(err, *fault),
         ProgramRefusal::Unit { rule, unit } => put_unit(err, *rule, unit),
-        ProgramRefusal::NotRun { unit } => put_named(err, b"refused N1 ", unit, b"\n"),
     }
 }
 

@@ -7,7 +7,6 @@ ghost use Rattle.hrthood_top.specs.Prepares.{Replayed, RunsAda};
 
 use crate::fetch::Stop;
 use crate::message::{FileKind, ProgramRefusal, Refusal};
-use crate::runnable::first_passive;
 use crate::trace::trace_text;
 use ada_read::{AdaFault, read_ada};
 use ada_tree::AdaProgram;
@@ -15,28 +14,21 @@ use arrivals_read::{ArrivalFault, read_arrivals};
 use seq_tree::NoMemory;
 use std::alloc::Global;
 
-/// The program of an Ada text that is run.
+/// The program of an Ada text.
 fn run_program<'a>(alloc: Global, ada: &[u8]) -> Result<AdaProgram, Stop<'a>>
     requires { length ada.now ≤ 16777216 }
     ensures says { RunsAda result ada.now }
     ensures only { (p : Program) → IsSequentialProgram p → Accepts ada.now p → IfOk result (λ q. program_of q ≡ p) }
 {
-    let program = match read_ada(alloc, ada) {
-        Ok(program) => program,
+    match read_ada(alloc, ada) {
+        Ok(program) => Ok(program),
         Err(AdaFault::Text(fault)) => {
-            return Err(Stop::Refused(Refusal::Program(ProgramRefusal::Text(fault))));
+            Err(Stop::Refused(Refusal::Program(ProgramRefusal::Text(fault))))
         }
         Err(AdaFault::Rule { rule, unit }) => {
-            return Err(Stop::Refused(Refusal::Program(ProgramRefusal::Unit { rule, unit })));
+            Err(Stop::Refused(Refusal::Program(ProgramRefusal::Unit { rule, unit })))
         }
-        Err(AdaFault::NoMemory) => return Err(Stop::NoMemory),
-    };
-    let Some(name) = first_passive(&program) else {
-        return Ok(program);
-    };
-    match name.copy(alloc) {
-        Ok(unit) => Err(Stop::Refused(Refusal::Program(ProgramRefusal::NotRun { unit }))),
-        Err(NoMemory) => Err(Stop::NoMemory),
+        Err(AdaFault::NoMemory) => Err(Stop::NoMemory),
     }
 }
 

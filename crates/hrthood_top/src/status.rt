@@ -1,3 +1,6 @@
+ghost use Rattle.std.specs.Prelude.{◌≡◌};
+ghost use Rattle.hrthood_top.specs.Exits.{exit_status};
+
 /// How a run ended.
 #[derive(Clone, Copy, Debug, PartialEq, Eq)]
 pub enum Status {
@@ -17,7 +20,9 @@ pub enum Status {
 
 impl Status {
     /// The exit status of the process, from 0 to 5.
-    pub fn code(self) -> u8 {
+    pub fn code(self) -> u8
+        ensures { result ≡ exit_status self }
+    {
         match self {
             Status::Done => 0,
             Status::Refused => 1,

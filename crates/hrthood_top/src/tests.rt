@@ -11,6 +11,8 @@ struct Task {
     period: u32,
     deadline: u32,
     response: u32,
+    /// The cost of `null;`.
+    cost: u32,
     /// The specifications and the bodies of the units before it.
     heads: &'static str,
     bodies: &'static str,
@@ -25,6 +27,7 @@ const TASK: Task = Task {
     period: 10,
     deadline: 10,
     response: 4,
+    cost: 1,
     heads: "",
     bodies: "",
     vars: "",
@@ -39,6 +42,7 @@ fn ada_text(rt: &HostRuntime, task: Task) -> Result<Vec<u8>, Fail> {
         period,
         deadline,
         response,
+        cost,
         heads,
         bodies,
         vars,
@@ -57,7 +61,7 @@ package hrt is
    test_cost : constant := 1;
    turn_cost : constant := 1;
    call_cost : constant := 2;
-   null_cost : constant := 1;
+   null_cost : constant := {cost};
    put_cost : constant := 1;
    finish_cost : constant := 1;
    function epoch return moment;
@@ -330,6 +334,20 @@ struct Outcome {
     err: MemSink,
 }
 
+/// Runs words over a shelf, with so much room in standard output.
+fn run_words(
+    rt: &HostRuntime,
+    line: &[&str],
+    shelf: &mut MemShelf,
+    room: usize,
+) -> Result<Outcome, Fail> {
+    let mut out = MemSink::new(rt.alloc(), room)?;
+    let mut err = MemSink::new(rt.alloc(), 1000)?;
+    let words = words(rt, line)?;
+    let status = run(rt.alloc(), &words, shelf, &mut out, &mut err);
+    Ok(Outcome { status, out, err })
+}
+
 /// Runs a row.
 fn run_row(rt: &HostRuntime, row: &Row) -> Result<Outcome, Fail> {
     let mut shelf = MemShelf::new(rt.alloc(), row.fails)?;
@@ -337,11 +355,7 @@ fn run_row(rt: &HostRuntime, row: &Row) -> Result<Outcome, Fail> {
     shelf.put("a.ada", &ada_bytes(rt, row.ada)?)?;
     let arrivals = padded(rt, row.arrivals.as_bytes(), row.arrivals_len)?;
     shelf.put("r", &arrivals)?;
-    let mut out = MemSink::new(rt.alloc(), row.room)?;
-    let mut err = MemSink::new(rt.alloc(), 1000)?;
-    let words = words(rt, row.words)?;
-    let status = run(rt.alloc(), &words, &mut shelf, &mut out, &mut err);
-    Ok(Outcome { status, out, err })
+    run_words(rt, row.words, &mut shelf, row.room)
 }
 
 /// Examples of `replay`.
@@ -416,8 +430,16 @@ const fn refused_block(name: &'static str, block: &'static str, err: &'static st
 }
 
 /// Ada texts that are refused where they end to be the text of a program.
-fn refused_texts() -> [Row; 11] {
+fn refused_texts() -> [Row; 12] {
     [
+        refused_task(
+            "a name of 65 bytes",
+            Task {
+                block: "x1234567890123456789012345678901234567890123456789012345678901234 := 1;",
+                ..TASK
+            },
+            "refused L3 ada line 39 column 13\n",
+        ),
         refused_ada(
             "an empty Ada text",
             Ada::Empty,
@@ -482,8 +504,8 @@ fn refused_texts() -> [Row; 11] {
     ]
 }
 
-/// Ada texts whose program breaks a rule, or has operations, which are not run.
-fn refused_programs() -> [Row; 9] {
+/// Ada texts whose program breaks a rule.
+fn refused_programs() -> [Row; 14] {
     [
         refused_task(
             "a unit with the name of the program",
@@ -540,13 +562,50 @@ fn refused_programs() -> [Row; 9] {
             "refused G5 a\n",
         ),
         refused_task(
-            "a passive unit",
+            "a cost of nothing",
+            Task { cost: 0, ..TASK },
+            "refused G5\n",
+        ),
+        refused_task(
+            "a divisor that is 0",
             Task {
-                heads: " package p is procedure f; end p;",
-                bodies: " package body p is procedure f is begin null; end f; end p;",
+                block: "put (1 / 0);",
                 ..TASK
             },
-            "refused N1 p\n",
+            "refused G4 a B3\n",
+        ),
+        refused_task(
+            "a loop parameter that is assigned",
+            Task {
+                block: "for i in word range 1 .. 2 loop i := 1; end loop;",
+                ..TASK
+            },
+            "refused G4 a B5\n",
+        ),
+        refused_task(
+            "an out value that goes into no variable",
+            Task {
+                block: "p.f (1);",
+                ..GIVES_NOTHING
+            },
+            "refused G4 a B6\n",
+        ),
+        refused_task(
+            "an actual that is missing",
+            Task {
+                block: "p.f;",
+                ..GIVES_NOTHING
+            },
+            "refused G4 a B7\n",
+        ),
+        refused_task(
+            "an operation that calls itself",
+            Task {
+                heads: " package p is procedure f; end p;",
+                bodies: " package body p is procedure f is begin p.f; end f; end p;",
+                ..TASK
+            },
+            "refused G3 p\n",
         ),
         refused_task(
             "two units with one name",
@@ -603,6 +662,183 @@ fn blocks() -> [Row; 3] {
             "put (y); y := y * 2; if y > 20 then put (y mod 5); else null; end if;",
             "UNTIL 16;",
             "0 release a\n1 put a 7\n5 end a used 5\n10 release a\n11 put a 14\n14 put a 3\n15 end a used 5\n16 horizon\n",
+        ),
+    ]
+}
+
+/// A task and what it tells, with a period of 100.
+const fn run_task(
+    name: &'static str,
+    task: Task,
+    arrivals: &'static str,
+    trace: &'static str,
+) -> Row {
+    Row {
+        name,
+        ada: Ada::Task(Task {
+            period: 100,
+            ..task
+        }),
+        arrivals,
+        out: Out::Bytes(trace),
+        ..ONE_TASK
+    }
+}
+
+/// Every operator, loops in loops, and branches.
+fn statements() -> [Row; 5] {
+    [
+        run_task(
+            "arithmetic and logical operators",
+            Task {
+                vars: " m : word := 4294967295;",
+                block: "put (0 - 1); put (4294967295 * 4294967295); put (m / 2); put (m mod 10); put (m + 1); \
+                    put (6 and 3); put (6 or 3); put (6 xor 3); put (not 0); put (not m); \
+                    put (2 + 3 * 4); put ((2 + 3) * 4); put (10 - 3 - 2); put (7 / 2 * 2);",
+                ..TASK
+            },
+            "UNTIL 20;",
+            "0 release a\n1 put a 4294967295\n2 put a 1\n3 put a 2147483647\n4 put a 5\n5 put a 0\n6 put a 2\n\
+                7 put a 7\n8 put a 5\n9 put a 4294967295\n10 put a 0\n11 put a 14\n12 put a 20\n13 put a 5\n\
+                14 put a 6\n15 end a used 15\n20 horizon\n",
+        ),
+        run_task(
+            "comparisons",
+            Task {
+                vars: " z : word := 0; m : word := 4294967295;",
+                block: "if z = 0 then put (1); end if; if z /= 0 then put (2); end if; \
+                    if z < 1 then put (3); end if; if z < 0 then put (4); end if; \
+                    if z <= 0 then put (5); end if; if m > 4294967294 then put (6); end if; \
+                    if m > 4294967295 then put (7); end if; if m >= 4294967295 then put (8); end if; \
+                    if z = 0 and m = 0 then put (9); end if; if z = 0 or m = 0 then put (10); end if; \
+                    if z = 0 xor m = 0 then put (11); end if; if not (z = 0) then put (12); end if;",
+                ..TASK
+            },
+            "UNTIL 25;",
+            "0 release a\n2 put a 1\n5 put a 3\n8 put a 5\n10 put a 6\n13 put a 8\n16 put a 10\n18 put a 11\n\
+                20 end a used 20\n25 horizon\n",
+        ),
+        run_task(
+            "a loop that is left inside another",
+            Task {
+                block: "for i in word range 1 .. 2 loop for j in word range 1 .. 3 loop exit when j = 2; \
+                    put (i * 10 + j); end loop; put (i); end loop;",
+                ..TASK
+            },
+            "UNTIL 20;",
+            "0 release a\n4 put a 11\n7 put a 1\n11 put a 21\n14 put a 2\n15 end a used 15\n20 horizon\n",
+        ),
+        run_task(
+            "each branch of an if",
+            Task {
+                block: "for i in word range 1 .. 4 loop if i = 1 then put (10); elsif i = 2 then put (20); \
+                    elsif i = 3 then put (30); else put (40); end if; end loop;",
+                ..TASK
+            },
+            "UNTIL 20;",
+            "0 release a\n3 put a 10\n7 put a 20\n12 put a 30\n17 put a 40\n18 end a used 18\n20 horizon\n",
+        ),
+        run_block(
+            "an activation past the next release time",
+            "",
+            "work (12);",
+            "UNTIL 30;",
+            "0 release a\n13 end a used 13\n13 release a\n26 end a used 13\n26 release a\n30 horizon\n",
+        ),
+    ]
+}
+
+/// A task with a passive operation that never assigns what it hands out.
+const GIVES_NOTHING: Task = Task {
+    heads: " package p is procedure f (w : out word); end p;",
+    bodies: " package body p is procedure f (w : out word) is begin null; end f; end p;",
+    vars: " x : word := 5;",
+    ..TASK
+};
+
+/// Calls of passive operations.
+fn calls() -> [Row; 7] {
+    [
+        Row {
+            name: "a passive unit that nothing calls",
+            ada: Ada::Task(GIVES_NOTHING),
+            ..ONE_TASK
+        },
+        run_task(
+            "an out value that is never assigned",
+            Task {
+                block: "p.f (x); put (x);",
+                ..GIVES_NOTHING
+            },
+            "UNTIL 20;",
+            "0 release a\n4 put a 0\n5 end a used 5\n20 horizon\n",
+        ),
+        run_task(
+            "an operation that calls another",
+            Task {
+                heads: " package p is procedure next (v : in word; w : out word); end p; \
+                    package q is procedure twice (v : in word; w : out word); end q;",
+                bodies: " package body p is procedure next (v : in word; w : out word) is t : word := 1; \
+                    begin w := v * 3 + t; end next; end p; \
+                    package body q is procedure twice (v : in word; w : out word) is m : word := 0; \
+                    begin p.next (v, m); p.next (m, w); end twice; end q;",
+                vars: " x : word := 2; y : word := 0;",
+                block: "q.twice (x, y); put (y); put (x);",
+                ..TASK
+            },
+            "UNTIL 20;",
+            "0 release a\n9 put a 22\n10 put a 2\n11 end a used 11\n20 horizon\n",
+        ),
+        run_task(
+            "locals that begin afresh",
+            Task {
+                heads: " package p is procedure count (w : out word); end p;",
+                bodies: " package body p is procedure count (w : out word) is n : word := 3; \
+                    begin n := n + 1; w := n; end count; end p;",
+                vars: " x : word := 0;",
+                block: "p.count (x); put (x); p.count (x); put (x);",
+                ..TASK
+            },
+            "UNTIL 20;",
+            "0 release a\n5 put a 4\n10 put a 4\n11 end a used 11\n20 horizon\n",
+        ),
+        run_task(
+            "values that change places",
+            Task {
+                heads: " package p is procedure swap (v : in word; u : in word; w : out word; z : out word); end p;",
+                bodies: " package body p is procedure swap (v : in word; u : in word; w : out word; z : out word) is \
+                    begin w := u; z := v; end swap; end p;",
+                vars: " x : word := 1; y : word := 2;",
+                block: "p.swap (x, y, x, y); put (x); put (y);",
+                ..TASK
+            },
+            "UNTIL 20;",
+            "0 release a\n5 put a 2\n6 put a 1\n7 end a used 7\n20 horizon\n",
+        ),
+        run_task(
+            "a loop that is left inside a call inside a loop",
+            Task {
+                heads: " package p is procedure find (v : in word; w : out word); end p;",
+                bodies: " package body p is procedure find (v : in word; w : out word) is \
+                    begin for k in word range 1 .. 5 loop w := k; exit when k = v; end loop; end find; end p;",
+                vars: " x : word := 0;",
+                block: "for i in word range 2 .. 3 loop p.find (i, x); put (x); end loop;",
+                ..TASK
+            },
+            "UNTIL 30;",
+            "0 release a\n10 put a 2\n23 put a 3\n24 end a used 24\n30 horizon\n",
+        ),
+        run_task(
+            "calls of an operation that takes nothing",
+            Task {
+                heads: " package p is procedure f; end p;",
+                bodies: " package body p is procedure f is \
+                    begin for k in word range 1 .. 0 loop null; end loop; end f; end p;",
+                block: "for i in word range 1 .. 2 loop p.f; end loop;",
+                ..TASK
+            },
+            "UNTIL 20;",
+            "0 release a\n7 end a used 7\n20 horizon\n",
         ),
     ]
 }
@@ -786,6 +1022,8 @@ fn rows(rt: &HostRuntime) -> Result<Vec<Row>, Fail> {
     rows.extend_from_slice(&refused_texts())?;
     rows.extend_from_slice(&refused_programs())?;
     rows.extend_from_slice(&blocks())?;
+    rows.extend_from_slice(&statements())?;
+    rows.extend_from_slice(&calls())?;
     rows.extend_from_slice(&texts())?;
     rows.extend_from_slice(&refused_sources())?;
     rows.extend_from_slice(&refused_objects())?;
@@ -800,6 +1038,160 @@ fn worked_examples(rt: HostRuntime) -> Result<(), Fail> {
         assert_eq!(rt; status, row.status, "{}", row.name);
         assert_eq!(rt; out.bytes(), wanted.as_slice(), "{}", row.name);
         assert_eq!(rt; err.bytes(), row.err.as_bytes(), "{}", row.name);
+    }
+    Ok(())
+}
+
+/// The tokens of a text with a passive unit and a task, a space behind each.
+const TOKENS: &str =
+    "pragma task_dispatching_policy ( fifo_within_priorities ) ; pragma locking_policy ( ceiling_locking ) ; with \
+    ada . real_time ; package hrt is type word is mod 2 ** 32 ; subtype moment is ada . real_time . time ; \
+    assign_cost : constant := 1 ; test_cost : constant := 1 ; turn_cost : constant := 1 ; call_cost : constant := \
+    2 ; null_cost : constant := 1 ; put_cost : constant := 1 ; finish_cost : constant := 1 ; function epoch return \
+    moment ; function after ( start : moment ; ticks : natural ) return moment ; procedure work ( ticks : positive \
+    ) ; procedure put ( value : word ) ; procedure activation_end ; end hrt ; with hrt ; use hrt ; package d is \
+    package p is procedure f ( v : in word ; w : out word ) ; end p ; package a is task hrt_thread is pragma \
+    priority ( 1 ) ; end hrt_thread ; end a ; end d ; package body d is package body p is procedure f ( v : in \
+    word ; w : out word ) is x : word := 1 ; begin x := ( v + 1 ) * 2 ; if x = 4 then w := x ; else w := 1 ; end \
+    if ; end f ; end p ; package body a is sum : word := 0 ; task body hrt_thread is hrt_next : hrt . moment := \
+    hrt . after ( hrt . epoch , 0 ) ; begin loop delay until hrt_next ; hrt_next := hrt . after ( hrt_next , 100 ) \
+    ; for i in word range 1 .. 4 loop exit when i = 4 ; put ( sum + i ) ; end loop ; activation_end ; end loop ; \
+    end hrt_thread ; end a ; end d ; with d ; procedure hrt_main is begin null ; end hrt_main ; ";
+
+/// What a replay of that text tells up to tick 20: three turns, each with an output, and a fourth that leaves the loop.
+/// A turn, a test, an output and the end take a tick each.
+const TOKENS_TRACE: &str =
+    "0 release a\n3 put a 1\n6 put a 2\n9 put a 3\n12 end a used 12\n20 horizon\n";
+
+/// What is done to one token of these.
+#[derive(Clone, Copy, Debug, PartialEq, Eq)]
+enum Change {
+    Cut,
+    Doubled,
+    /// A semicolon stands in its place.
+    Replaced,
+}
+
+/// The text of the tokens, one a line, with the token at a place changed.
+fn changed_text(rt: &HostRuntime, change: Change, place: usize) -> Result<Vec<u8>, Fail> {
+    let mut text = Vec::new(rt.alloc());
+    let mut token = Vec::new(rt.alloc());
+    let mut index = 0_usize;
+    for byte in TOKENS.as_bytes() {
+        if *byte != b' ' {
+            token.push(*byte)?;
+            continue;
+        }
+        token.push(b'\n')?;
+        if index != place {
+            text.extend_from_slice(&token)?;
+        } else if change == Change::Doubled {
+            text.extend_from_slice(&token)?;
+            text.extend_from_slice(&token)?;
+        } else if change == Change::Replaced {
+            text.extend_from_slice(b";\n")?;
+        }
+        token.clear();
+        index = index.saturating_add(1);
+    }
+    Ok(text)
+}
+
+/// A changed token and the line of the fault, where the fault isn't told at the first token that differs.
+#[derive(Clone, Copy)]
+struct Late {
+    change: Change,
+    place: usize,
+    line: usize,
+}
+
+const fn told_at(change: Change, place: usize, line: usize) -> Late {
+    Late {
+        change,
+        place,
+        line,
+    }
+}
+
+/// The exceptions, by the places of the tokens from 0.
+fn late_faults() -> [Late; 14] {
+    [
+        told_at(Change::Cut, 144, 146),
+        told_at(Change::Replaced, 134, 136),
+        told_at(Change::Replaced, 144, 146),
+        told_at(Change::Cut, 198, 200),
+        told_at(Change::Cut, 201, 205),
+        told_at(Change::Cut, 205, 208),
+        told_at(Change::Doubled, 201, 210),
+        told_at(Change::Replaced, 206, 208),
+        told_at(Change::Cut, 209, 211),
+        told_at(Change::Cut, 223, 225),
+        told_at(Change::Cut, 226, 228),
+        told_at(Change::Cut, 280, 282),
+        told_at(Change::Replaced, 292, 294),
+        told_at(Change::Doubled, 296, 303),
+    ]
+}
+
+/// The line of the fault of a changed token.
+fn line_of_fault(change: Change, place: usize) -> usize {
+    for it in &late_faults() {
+        if it.change == change && it.place == place {
+            return it.line;
+        }
+    }
+    match change {
+        Change::Cut | Change::Replaced => place.saturating_add(1),
+        Change::Doubled => place.saturating_add(2),
+    }
+}
+
+/// What is told of a text: the status, standard output and standard error.
+#[derive(Drop)]
+struct Told {
+    status: Status,
+    out: &'static str,
+    err: String,
+}
+
+/// What is told of the text with a token changed. It is a program still where a semicolon stands in place of one, and without the
+/// `else`, where two assignments follow each other.
+fn told_of(rt: &HostRuntime, change: Change, place: usize, is_same: bool) -> Result<Told, Fail> {
+    if is_same || change == Change::Cut && place == 218 {
+        return Ok(Told {
+            status: Status::Done,
+            out: TOKENS_TRACE,
+            err: String::new(rt.alloc()),
+        });
+    }
+    let line = line_of_fault(change, place);
+    Ok(Told {
+        status: Status::Refused,
+        out: "",
+        err: format!(in rt.alloc(); "refused S1 ada line {line} column 1\n")?,
+    })
+}
+
+/// Replays an Ada text up to tick 20.
+fn replay_up_to_20(rt: &HostRuntime, ada: &[u8]) -> Result<Outcome, Fail> {
+    let mut shelf = MemShelf::new(rt.alloc(), &[])?;
+    shelf.put("a.ada", ada)?;
+    shelf.put("r", b"UNTIL 20;")?;
+    run_words(rt, &["replay", "a.ada", "r"], &mut shelf, 1000)
+}
+
+#[test]
+fn each_token_changed(rt: HostRuntime) -> Result<(), Fail> {
+    let whole = changed_text(&rt, Change::Cut, 331)?;
+    for change in [Change::Cut, Change::Doubled, Change::Replaced] {
+        for place in 0_usize..331 {
+            let text = changed_text(&rt, change, place)?;
+            let Outcome { status, out, err } = replay_up_to_20(&rt, &text)?;
+            let told = told_of(&rt, change, place, text == whole)?;
+            assert_eq!(rt; status, told.status, "{place}");
+            assert_eq!(rt; out.bytes(), told.out.as_bytes(), "{place}");
+            assert_eq!(rt; err.bytes(), told.err.as_bytes(), "{place}");
+        }
     }
     Ok(())
 }

@@ -1,6 +1,6 @@
 #!/bin/sh
-# How long it takes to read and judge Ada texts of nearly 1, 4 and 16 MiB, and the most memory: one task with one long block, which is
-# then replayed up to 20 ticks, and a passive unit of many operations, which is refused (N1) once it has been judged.
+# How long it takes to read and judge Ada texts of nearly 1, 4 and 16 MiB, and the most memory: one task with one long block, and a
+# task beside a passive unit of many operations that nothing calls. Both are then replayed up to 20 ticks.
 # Needs awk and /usr/bin/time. No part of the gate.
 set -eu
 top=$(CDPATH='' cd -- "$(dirname -- "$0")/.." && pwd)

@@ -1,9 +1,14 @@
 -- One more unit of a program, and one more comment on a thread.
-use Rattle.std.proofs.Common.{◌≡◌, ℕ, suc, ◌+◌, ◌<◌, List, [], ◌∷◌, ◌++◌, length, map, drop, get_or, flat_map, slice_get, option_map, unwrap_or, refl, sym, ap, subst, ◌∙◌, append_assoc, add-one, drop-cons, arith}
+use Rattle.std.proofs.Common.{◌≡◌, ℕ, suc, ◌+◌, ◌<◌, ◌≤◌, List, [], ◌∷◌, ◌++◌, length, map, drop, get_or, flat_map, slice_get, option_map, unwrap_or, refl, sym, ap, subst, ◌∙◌, append_assoc, add-one, drop-cons, append-nil, codes, decimal, arith}
 use Rattle.std.specs.List.{zip}
-use Rattle.std.proofs.lemmas.List.{map-append, get_or_default, get_or-map, length-map}
+use Rattle.std.proofs.lemmas.List.{map-append, get_or_default, get_or-map, length-append, length-map}
 use Rattle.std.proofs.lemmas.Option.{slice_get-get_or}
 use Rattle.std.proofs.lemmas.Slice.Zip.{get_or-zip, length-zip}
+use Rattle.seq_print.specs.Printing.{AddsFront}
+use Rattle.seq_print.proofs.Chains.{front-onward}
+use Rattle.ods_tree.specs.Flats.{Thread}
+use Rattle.rt_response.specs.declared.rows.Bound.{Bound}
+use Rattle.guarantee.specs.Programs.{thread_comment}
 
 -- the items from a place on: the one there, and those behind it
 drop-next : {A : Type 0} (xs : List A) (i : ℕ) (x d : A) → i < length xs → x ≡ get_or xs i d → drop i xs ≡ x ∷ drop (i + 1) xs
@@ -45,11 +50,34 @@ comment-at view say xs ps i x p h k e f =
     let pair : get_or (zip (map view xs) ps) i (view x, p) ≡ (view x, p) = get_or-zip (map view xs) ps i (view x, p) h' k ∙ (ap (λ a. (a, get_or ps i p)) first ∙ ap (λ b. (view x, b)) (sym f)) in
     rw (slice_get-get_or (zip (map view xs) ps) i (view x, p) short, pair) refl
 
+-- the comments from a place on: the one there, and those behind it
+rows-left : {B : Type 0} (say : ℕ × B → List ℕ) (places : List ℕ) (bounds : List B) (i place : ℕ) (b d : B) (text : List ℕ)
+    → i < length places → i < length bounds → place ≡ get_or places i place → b ≡ get_or bounds i d → say (place, b) ≡ text
+    → text ++ flat_map say (zip (drop (i + 1) places) (drop (i + 1) bounds)) ≡ flat_map say (zip (drop i places) (drop i bounds))
+rows-left say places bounds i place b d text h k e f same = rw (drop-next places i place place h e, drop-next bounds i b d k f, same) refl
+
 -- one more comment
-pub row-step : {B : Type 0} (say : ℕ × B → List ℕ) (places : List ℕ) (bounds : List B) (i place : ℕ) (b d : B) (before after text total : List ℕ)
+pub row-step : {B : Type 0} (say : ℕ × B → List ℕ) (places : List ℕ) (bounds : List B) (i place : ℕ) (b d : B) (start before after text total : List ℕ)
     → i < length places → i < length bounds → place ≡ get_or places i place → b ≡ get_or bounds i d → say (place, b) ≡ text → after ≡ before ++ text
-    → before ++ flat_map say (zip (drop i places) (drop i bounds)) ≡ total
-    → after ++ flat_map say (zip (drop (i + 1) places) (drop (i + 1) bounds)) ≡ total
-row-step say places bounds i place b d before after text total h k e f same added inv =
-    let now = rw (drop-next places i place place h e, drop-next bounds i b d k f, same) at inv in
-    rw (added, append_assoc before text (flat_map say (zip (drop (i + 1) places) (drop (i + 1) bounds)))) now
+    → (length start ≤ length before) × (before ++ flat_map say (zip (drop i places) (drop i bounds)) ≡ total)
+    → (length start ≤ length after) × (after ++ flat_map say (zip (drop (i + 1) places) (drop (i + 1) bounds)) ≡ total)
+row-step say places bounds i place b d start before after text total h k e f same added (kept, all) =
+    let behind = flat_map say (zip (drop (i + 1) places) (drop (i + 1) bounds)) in
+    let whole = ap (λ t. t ++ behind) added ∙ append_assoc before text behind ∙ ap (λ t. before ++ t) (rows-left say places bounds i place b d text h k e f same) ∙ all in
+    (omega (arith, kept, ap length added ∙ length-append before text), whole)
+
+-- a front of the next comment, where memory was wanted
+pub row-front : {B : Type 0} (say : ℕ × B → List ℕ) (places : List ℕ) (bounds : List B) (i place : ℕ) (b d : B) (start before after text whole : List ℕ)
+    → i < length places → i < length bounds → place ≡ get_or places i place → b ≡ get_or bounds i d → say (place, b) ≡ text → AddsFront before after text
+    → (length start ≤ length before) × (before ++ flat_map say (zip (drop i places) (drop i bounds)) ≡ start ++ whole)
+    → AddsFront start after whole
+row-front say places bounds i place b d start before after text whole h k e f same added (kept, all) =
+    front-onward start before after text (flat_map say (zip (drop (i + 1) places) (drop (i + 1) bounds))) whole kept
+    (ap (λ t. before ++ t) (rows-left say places bounds i place b d text h k e f same) ∙ all) added
+
+-- the words of the comment on a thread
+pub thread-text : (t : Thread) (priority : ℕ) (b : Bound)
+    → (codes "-- thread " ++ (t.name ++ [])) ++ ((codes " priority " ++ (decimal priority ++ [])) ++ ((codes " jitter " ++ (decimal b.jitter ++ []))
+    ++ ((codes " response " ++ (decimal b.response ++ [])) ++ (codes " deadline " ++ (decimal t.deadline ++ codes "\n")))))
+    ≡ thread_comment (t, priority) b
+thread-text t priority b = simp (append_assoc, append-nil)

@@ -1,7 +1,8 @@
 -- The lines of parts of a program, one after another, and the bytes that are printed for them.
-use Rattle.std.proofs.Common.{◌≡◌, ℕ, suc, ◌+◌, ◌<◌, List, [], ◌∷◌, ◌++◌, length, map, take, drop, get_or, codes, decimal, flat_map, refl, sym, ap, subst, ◌∙◌, append_assoc, append-nil, add-one, drop-cons}
+use Rattle.std.proofs.Common.{◌≡◌, ℕ, suc, ◌+◌, ◌<◌, ◌≤◌, List, [], ◌∷◌, ◌++◌, length, map, take, drop, get_or, codes, decimal, flat_map, refl, sym, ap, subst, ◌∙◌, append_assoc, append-nil, add-one, drop-cons, arith}
 use Rattle.std.specs.Fmt.{digits}
 use Rattle.std.proofs.lemmas.Grind.{flat_map-append}
+use Rattle.std.proofs.lemmas.List.{length-append}
 use Rattle.seq_tree.specs.Layout.{layout, line_text}
 use Rattle.seq_tree.specs.Spelling.{Line, line, block_lines}
 use Rattle.seq_tree.specs.Statements.{Statements, End}
@@ -13,6 +14,8 @@ use Rattle.ada_tree.specs.Programs.{Unit, Program, Cyclic}
 use Rattle.ada_tree.specs.Spelling.{constant_line, end_line, hrt_lines, inner_body, inner_specification, program_lines, specification_lines, task_lines, unit_body_lines}
 use Rattle.ada_tree.specs.Trees.{unit_of}
 use Rattle.ada_tree.specs.declared.program.Unit as units
+use Rattle.seq_print.specs.Printing.{AddsFront}
+use Rattle.seq_print.proofs.Chains.{front-onward}
 use Rattle.ada_print.specs.Parts.{ArePrintable, body_lines, closing_lines, opening_lines, package_lines}
 
 layout-append : (xs ys : List Line) → layout (xs ++ ys) ≡ layout xs ++ layout ys
@@ -88,6 +91,10 @@ loop-text priority offset period block =
 pub between-text : (name : Name) → (codes "end " ++ (name ++ codes ";\n")) ++ (codes "package body " ++ (name ++ codes " is\n")) ≡ layout (body_lines name)
 between-text name = simp append_assoc
 
+-- what stands behind the bodies
+pub closing-text : (name : Name) → (codes "end " ++ (name ++ codes ";\n")) ++ (codes "with " ++ (name ++ codes ";\nprocedure hrt_main is\nbegin\n   null;\nend hrt_main;\n")) ≡ layout (closing_lines name)
+closing-text name = simp append_assoc
+
 -- a program by its parts
 parts-text : (a b c d e f g : List Line)
     → layout a ++ (layout b ++ (layout c ++ (layout d ++ (layout e ++ (layout f ++ layout g))))) ≡ layout (a ++ (b ++ (c ++ (d ++ (e ++ (f ++ g))))))
@@ -114,17 +121,31 @@ pub program-text : (p : Program)
 program-text p =
     parts-text opening_lines (hrt_lines p.costs) (package_lines p.name) (flat_map specification_lines p.units) (body_lines p.name) (flat_map unit_body_lines p.units) (closing_lines p.name)
 
-one-more : (f : Unit → List Line) (u : Unit) (us : List Unit) (before after total : List ℕ) → before ++ layout (flat_map f (u ∷ us)) ≡ total → after ≡ before ++ layout (f u) → after ++ layout (flat_map f us) ≡ total
-one-more f u us before after total e h =
-    rw h (append_assoc before (layout (f u)) (layout (flat_map f us)) ∙ (ap (λ t. before ++ t) (sym (layout-append (f u) (flat_map f us))) ∙ e))
+-- a unit and those behind it
+units-left : (us : List units.Unit) (i : ℕ) (u : units.Unit) → i < length us → u ≡ get_or us i u → drop i us ≡ u ∷ drop (i + 1) us
+units-left us i u h e = rw (add-one, drop-cons us i u h) (ap (λ x. x ∷ drop (suc i) us) (sym e))
+
+-- the lines of a unit and of those behind it
+units-text : (f : Unit → List Line) (us : List units.Unit) (i : ℕ) (u : units.Unit) → i < length us → u ≡ get_or us i u
+    → layout (flat_map f (map unit_of (drop i us))) ≡ layout (f (unit_of u)) ++ layout (flat_map f (map unit_of (drop (i + 1) us)))
+units-text f us i u h e = ap (λ xs. layout (flat_map f (map unit_of xs))) (units-left us i u h e) ∙ layout-append (f (unit_of u)) (flat_map f (map unit_of (drop (i + 1) us)))
 
 -- one more of the units
-pub unit-step : (f : Unit → List Line) (us : List units.Unit) (i : ℕ) (u : units.Unit) (before after total : List ℕ) → i < length us → u ≡ get_or us i u
-    → (before ++ layout (flat_map f (map unit_of (drop i us))) ≡ total) × ArePrintable (map unit_of (drop i us))
+pub unit-step : (f : Unit → List Line) (us : List units.Unit) (i : ℕ) (u : units.Unit) (start before after total : List ℕ) → i < length us → u ≡ get_or us i u
+    → (length start ≤ length before) × (before ++ layout (flat_map f (map unit_of (drop i us))) ≡ total) × ArePrintable (map unit_of (drop i us))
     → after ≡ before ++ layout (f (unit_of u))
-    → (after ++ layout (flat_map f (map unit_of (drop (i + 1) us))) ≡ total) × ArePrintable (map unit_of (drop (i + 1) us))
-unit-step f us i u before after total h e inv added =
-    let d : drop i us ≡ u ∷ drop (i + 1) us = rw (add-one, drop-cons us i u h) (ap (λ x. x ∷ drop (suc i) us) (sym e)) in
-    let P : List units.Unit → Type 0 = λ xs. (before ++ layout (flat_map f (map unit_of xs)) ≡ total) × ArePrintable (map unit_of xs) in
-    let now = subst P d inv in
-    (one-more f (unit_of u) (map unit_of (drop (i + 1) us)) before after total now.0 added, now.1.1)
+    → (length start ≤ length after) × (after ++ layout (flat_map f (map unit_of (drop (i + 1) us))) ≡ total) × ArePrintable (map unit_of (drop (i + 1) us))
+unit-step f us i u start before after total h e (kept, all, fine) added =
+    let rest = layout (flat_map f (map unit_of (drop (i + 1) us))) in
+    let whole = ap (λ t. t ++ rest) added ∙ append_assoc before (layout (f (unit_of u))) rest ∙ ap (λ t. before ++ t) (sym (units-text f us i u h e)) ∙ all in
+    let P : List units.Unit → Type 0 = λ xs. ArePrintable (map unit_of xs) in
+    let now = subst P (units-left us i u h e) fine in
+    (omega (arith, kept, ap length added ∙ length-append before (layout (f (unit_of u)))), whole, now.1)
+
+-- a front of the next unit, where memory was wanted
+pub unit-front : (f : Unit → List Line) (us : List units.Unit) (i : ℕ) (u : units.Unit) (start before after text : List ℕ) → i < length us → u ≡ get_or us i u
+    → (length start ≤ length before) × (before ++ layout (flat_map f (map unit_of (drop i us))) ≡ start ++ text) × ArePrintable (map unit_of (drop i us))
+    → AddsFront before after (layout (f (unit_of u)))
+    → AddsFront start after text
+unit-front f us i u start before after text h e (kept, all, fine) added =
+    front-onward start before after (layout (f (unit_of u))) (layout (flat_map f (map unit_of (drop (i + 1) us)))) text kept (ap (λ t. before ++ t) (sym (units-text f us i u h e)) ∙ all) added

@@ -22,6 +22,7 @@ fn put_indent(into: &mut Vec<u8>, level: u32) -> Result<(), NoMemory>
 }
 
 /// Adds the lines of a statement.
+#[tactic(auto, using(crate::proofs::Chains::adding))]
 fn add_statement(stmt: &Stmt, level: u32, into: &mut Vec<u8>) -> Result<(), NoMemory>
     requires { IsPrintableStatement (statement_of stmt.now) }
     ensures { Adds result into.old.items into.new.items (layout (statement_lines level (statement_of stmt.now))) }

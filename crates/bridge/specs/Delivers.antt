@@ -8,7 +8,7 @@ use Rattle.ods_tree.specs.Designs.{Design}
 use Rattle.ods_tree.specs.Flattening.{flat}
 use Rattle.ods_tree.specs.InUse.{IsUsableDesign}
 use Rattle.ods_tree.specs.Reading.{Reads}
-use Rattle.ods_read.specs.Answers.{Faults}
+use Rattle.ods_read.specs.Answers.{Faults, StopsAt}
 use Rattle.ods_rules.specs.Broken.{Broken}
 use Rattle.ods_rules.specs.Rules.{MeetsRules, IsFirstBroken}
 use Rattle.ods_rules.specs.Told.{told_of}
@@ -48,9 +48,10 @@ pub record IsDelivered (bytes : List ℕ) (d : Delivery) : Type 0 where
   pub named : d.bounds.items ≡ named_bounds (flat whole.design) whole.bounds
   pub ceilings : d.ceilings.items ≡ ceiling_rows (flat whole.design)
 
--- why bytes are not the text of a design; want of memory is no such cause
+-- why bytes are not the text of a design, and where none goes on; want of memory is no such cause
 abbrev pub IsNoText : List ℕ → TextFault → Type 0
 IsNoText bytes fault.NoMemory = ⊥
+IsNoText bytes (fault.Syntax place) = Faults bytes (fault.Syntax place) × StopsAt bytes place
 IsNoText bytes fault = Faults bytes fault
 
 -- a rule is broken first; want of memory is no such rule

@@ -131,7 +131,7 @@ impl<'a> Machine<'a> {
         ensures falls { FallsAt result (left (running_of self.old)) (left (running_of self.new)) }
         // The events are of the program that runs.
         ensures placed { (p : Program) (a : Arriving) → (running_of self.old).system ≡ system p a → Each (IsPlaced p) events.new }
-        // So far nothing is called.
+        // So far no protected object is called, and nothing is requested.
         ensures keeps { KeepsCeilings result }
     {
         'steps: loop {

@@ -8,7 +8,6 @@
 mod command_words;
 mod fetch;
 mod generate;
-mod headline;
 mod message;
 mod prepare;
 mod replay;
@@ -17,8 +16,9 @@ mod status;
 mod tests;
 mod toolset;
 mod trace;
+mod two_runs;
 
-pub use headline::generated_text_replays;
 pub use message::{FileKind, Message, Refusal};
 pub use status::Status;
 pub use toolset::run;
+pub use two_runs::generated_text_replays;

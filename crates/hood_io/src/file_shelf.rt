@@ -1,4 +1,4 @@
-ghost use Rattle.std.specs.Prelude.{◌≡◌, None};
+ghost use Rattle.std.specs.Prelude.{◌≡◌, ◌+◌, ◌-◌, ◌^◌, min, take, IfSome, OnOk, None};
 
 use crate::shelf::{Fetched, Shelf};
 use std::alloc::Global;
@@ -22,12 +22,20 @@ impl<'a, R: Files> FileShelf<'a, R> {
     }
 }
 
-/// Appends the first bytes of the file: all of it, or one byte more than `limit`.
-fn read_up_to<R: Files>(rt: &R, name: &str, limit: usize, into: &mut Vec<u8>) -> io::Result<()> {
-    let file = File::open(rt, name)?;
-    file.take((limit as u64).saturating_add(1))
+/// Makes `into` the first bytes that the reader has left: all of them, or one byte more than `limit`.
+fn read_front<S: Read + Drop>(from: S, limit: usize, into: &mut Vec<u8>) -> io::Result<()>
+    ensures { OnOk result (IfSome (S.remaining from) (λ xs. into.new.items ≡ take (min (limit + 1) (2 ^ 64 - 1)) xs)) }
+{
+    into.clear();
+    from.take((limit as u64).saturating_add(1))
         .read_to_end(into)?;
     Ok(())
+}
+
+/// The first bytes of the file, in place of what `into` held.
+fn read_up_to<R: Files>(rt: &R, name: &str, limit: usize, into: &mut Vec<u8>) -> io::Result<()> {
+    let file = File::open(rt, name)?;
+    read_front(file, limit, into)
 }
 
 impl<'a, R: Files> Shelf for FileShelf<'a, R> {

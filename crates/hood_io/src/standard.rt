@@ -1,5 +1,7 @@
 ghost use Rattle.std.specs.Prelude.{◌≡◌, None};
+ghost use Rattle.std.specs.Io.KnownBytes.{WriteAppends};
 ghost use Rattle.hood_io.specs.Causes.{HasCause};
+ghost use Rattle.hood_io.specs.MemSink.{counted};
 ghost use Rattle.hood_io.specs.Sinks.{Takes};
 
 use crate::sink::{Failed, Sink};
@@ -9,6 +11,8 @@ use std::io::{Stderr, Stdout, Write};
 fn write_counted<W: Write>(to: &mut W, faults: &mut u64, bytes: &[u8]) -> Result<usize, Failed>
     ensures cause { HasCause faults.old faults.new result }
     ensures takes { Takes bytes.now result }
+    ensures appends { WriteAppends (W.contents to.old) (W.contents to.new) result bytes.now }
+    ensures counted { faults.new ≡ counted result faults.old }
 {
     if bytes.is_empty() {
         return Ok(0);

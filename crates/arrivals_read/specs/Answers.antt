@@ -1,12 +1,19 @@
 -- What the answers of the reader of arrivals say of the text.
 -- Places are those of the lexical grammar, a line and a column from 1.
 use Rattle.std.specs.Prelude.{◌≡◌, ℕ, ◌<◌, ◌≤◌, List, length, Result, Ok, Err, IsOk, ⊤}
+use Rattle.grammar.specs.Reading.{IsFirstFault}
 use Rattle.seq_tree.specs.Lexis.{Misread, Stray, Great, Long, tokens}
+use Rattle.seq_tree.specs.declared.token.Token.{Token}
+use Rattle.seq_tree.specs.declared.token.Place.{Place}
+use Rattle.seq_tree.specs.declared.token.Spanned.{Spanned}
 use Rattle.seq_tree.specs.declared.text_fault.TextFault.{TextFault}
 use Rattle.seq_tree.specs.declared.text_fault.TextFault.TheVariants as text
+use Rattle.token_read.specs.Words.{bare}
+use Rattle.seq_read.specs.Places.{place_at}
 use Rattle.ada_tree.specs.Programs.{Program}
 use Rattle.arrivals_read.specs.Arrived.{Arrives}
 use Rattle.arrivals_read.specs.Arriving.{Arrivals, arrivals_of}
+use Rattle.arrivals_read.specs.ArrivalTexts.{ArrivalText, arrival_tokens, said}
 use Rattle.arrivals_read.specs.InUse.{AreUsableArrivals, horizon_limit}
 use Rattle.arrivals_read.specs.declared.arrivals.Arrivals as values
 use Rattle.arrivals_read.specs.declared.fault.ArrivalFault.{ArrivalFault}
@@ -31,6 +38,20 @@ abbrev pub Says : List ℕ → Program → Result values.Arrivals ArrivalFault �
 Says bytes p (Ok a) = AreUsableArrivals (arrivals_of a) × Arrives horizon_limit bytes p (arrivals_of a)
 Says bytes p (Err (Text fault)) = Refuses bytes p fault
 Says bytes p (Err NoMemory) = ⊤
+
+-- a text that says arrivals of what is built, with a horizon that is not too far, has these tokens
+pub record IsTextOf (p : Program) (t : ArrivalText) (text : List Token) : Type 0 where
+  pub usable : AreUsableArrivals (said p t)
+  pub near : t.until ≤ horizon_limit
+  pub spelled : text ≡ arrival_tokens t
+
+-- the tokens before this place begin such a text, and with the one at it they begin none
+pub record StopsAt (bytes : List ℕ) (p : Program) (place : Place) : Type 0 where
+  pub found : List Spanned
+  pub read : tokens bytes ≡ Ok found
+  pub left : ℕ
+  pub here : place ≡ place_at bytes found left
+  pub first : IsFirstFault (IsTextOf p) (bare found) left
 
 -- an answer with tokens, by a view of it, is that of the lexical grammar, unless memory ran out
 abbrev pub GivesTokens : {X Y : Type 0} → (X → Y) → Result X ArrivalFault → Result Y Misread → Type 0

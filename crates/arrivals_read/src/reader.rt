@@ -1,9 +1,9 @@
-ghost use Rattle.std.specs.Prelude.{◌≡◌, ◌-◌, ◌≤◌, IfOk, IfSome, length, slice_get};
+ghost use Rattle.std.specs.Prelude.{◌≡◌, ◌≤◌, Err, IfOk, length};
 ghost use Rattle.ada_tree.specs.Trees.{program_of};
 ghost use Rattle.arrivals_read.specs.Arrived.{Arrives};
 ghost use Rattle.arrivals_read.specs.Arriving.{Arrivals as Tree, arrivals_of};
 ghost use Rattle.arrivals_read.specs.InUse.{AreUsableArrivals, horizon_limit};
-ghost use Rattle.arrivals_read.specs.Answers.{GivesTokens, Says};
+ghost use Rattle.arrivals_read.specs.Answers.{GivesTokens, Says, StopsAt};
 ghost use Rattle.arrivals_read.specs.Horizons.{horizon_alone, horizon_at};
 ghost use Rattle.grammar.specs.Reading.{whole_at};
 ghost use Rattle.seq_tree.specs.Lexis.{tokens};
@@ -12,6 +12,7 @@ ghost use Rattle.token_read.specs.Words.{GivesWhole, bare};
 use crate::arrivals::Arrivals;
 use crate::fault::ArrivalFault;
 use ada_tree::AdaProgram;
+use seq_read::place_of;
 use seq_tree::{Mark, Place, Spanned, TextFault};
 use std::alloc::Global;
 use token_read::{LexFault, ReadFault, mark, number_within, tokens, word};
@@ -51,18 +52,6 @@ fn horizon(tokens: &[Spanned]) -> Result<u32, ReadFault>
     }
 }
 
-// The place of the first of the `left` last tokens. Where none is left it is that of the last token, until the end of a
-// text has a place of its own.
-fn place_of(tokens: &[Spanned], left: usize) -> Place
-    ensures { IfSome (slice_get tokens.now (length tokens.now - left)) (λ found. result ≡ found.place) }
-{
-    let index = tokens.len().saturating_sub(left);
-    match tokens.get(index).or(tokens.last()) {
-        Some(found) => found.place,
-        None => Place { line: 1, column: 1 },
-    }
-}
-
 // Arrivals that are a horizon alone.
 fn alone(alloc: Global, until: u32) -> Arrivals
     ensures { arrivals_of result ≡ horizon_alone until }
@@ -77,16 +66,22 @@ fn alone(alloc: Global, until: u32) -> Arrivals
 /// The arrivals that a text says of a program: so far the horizon alone, as `UNTIL 1000;`, of 0 to 1,000,000 ticks.
 ///
 /// `Text` with `FileTooLong` comes where the text has more than 1,048,576 bytes, with `Byte`, `Number` or `Long` at its
-/// first fault of the lexical grammar, and with `Syntax` where its tokens say no arrivals that are accepted; the place is
-/// not told exactly yet. `TooDeep` never comes. `NoMemory` may come wherever memory is asked for.
+/// first fault of the lexical grammar, and with `Syntax` where its tokens say no arrivals that are accepted: at the first
+/// token with which no text of such arrivals goes on, a horizon too far among them, or at the end of the text. `TooDeep`
+/// never comes. `NoMemory` may come wherever memory is asked for.
 pub fn read_arrivals(
     alloc: Global,
     bytes: &[u8],
     program: &AdaProgram,
 ) -> Result<Arrivals, ArrivalFault>
+    // What is answered is so.
     ensures says { Says bytes.now (program_of program.now) result }
+    // A text that says arrivals of what is built is read as those, unless memory runs out.
     ensures only { (a : Tree) → AreUsableArrivals a → Arrives horizon_limit bytes.now (program_of program.now) a
         → IfOk result (λ b. arrivals_of b ≡ a) }
+    // The place of `Syntax` is the first with which no text of such arrivals goes on.
+    ensures first { (place : Place) → result ≡ Err (ArrivalFault.Text (TextFault.Syntax place))
+        → StopsAt bytes.now (program_of program.now) place }
 {
     if bytes.len() > TEXT_LIMIT {
         return Err(ArrivalFault::Text(TextFault::FileTooLong));
@@ -95,7 +90,7 @@ pub fn read_arrivals(
     match horizon(&tokens) {
         Ok(until) => Ok(alone(alloc, until)),
         Err(ReadFault::Syntax(left)) => {
-            Err(ArrivalFault::Text(TextFault::Syntax(place_of(&tokens, left))))
+            Err(ArrivalFault::Text(TextFault::Syntax(place_of(bytes, &tokens, left))))
         }
         Err(ReadFault::NoMemory) => Err(ArrivalFault::NoMemory),
     }

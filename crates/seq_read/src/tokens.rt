@@ -1,7 +1,8 @@
-ghost use Rattle.std.specs.Prelude.{◌≡◌, map};
+ghost use Rattle.std.specs.Prelude.{◌≡◌, IfErr, map};
 ghost use Rattle.seq_tree.specs.declared.token.Token.TheVariants as token;
 ghost use Rattle.token_read.specs.Words.{bare, item_token};
 ghost use Rattle.token_read.specs.Readers.{fixed_at, phrase_at, number_at, word_at, name_at};
+ghost use Rattle.seq_read.specs.declared.halt.Halt.TheVariants as halt;
 ghost use Rattle.seq_read.specs.Halts.{Gives};
 ghost use Rattle.seq_read.specs.Names.{may_name};
 
@@ -13,7 +14,8 @@ use token_read::{Item, ReadFault};
 
 /// The tokens after this word, which is first.
 pub fn word<'a>(tokens: &'a [Spanned], text: &[u8]) -> Result<&'a [Spanned], Halt>
-    ensures { Gives (λ r. (tt, bare r.now)) result (fixed_at (token.Word text.now) (bare tokens.entry.now)) }
+    ensures gives { Gives (λ r. (tt, bare r.now)) result (fixed_at (token.Word text.now) (bare tokens.entry.now)) }
+    ensures ample { IfErr result (λ e. e ≡ halt.NoMemory → ⊥) }
 {
     match token_read::word(tokens, text) {
         Ok(rest) => Ok(rest),
@@ -24,7 +26,8 @@ pub fn word<'a>(tokens: &'a [Spanned], text: &[u8]) -> Result<&'a [Spanned], Hal
 
 /// The tokens after this mark, which is first.
 pub fn mark(tokens: &[Spanned], mark: Mark) -> Result<&[Spanned], Halt>
-    ensures { Gives (λ r. (tt, bare r.now)) result (fixed_at (token.Sign mark) (bare tokens.now)) }
+    ensures gives { Gives (λ r. (tt, bare r.now)) result (fixed_at (token.Sign mark) (bare tokens.now)) }
+    ensures ample { IfErr result (λ e. e ≡ halt.NoMemory → ⊥) }
 {
     match token_read::mark(tokens, mark) {
         Ok(rest) => Ok(rest),
@@ -35,7 +38,8 @@ pub fn mark(tokens: &[Spanned], mark: Mark) -> Result<&[Spanned], Halt>
 
 /// The number that is first, and the tokens after it.
 pub fn number(tokens: &[Spanned]) -> Result<(u32, &[Spanned]), Halt>
-    ensures { Gives (λ r. (r.0, bare r.1.now)) result (number_at (bare tokens.now)) }
+    ensures gives { Gives (λ r. (r.0, bare r.1.now)) result (number_at (bare tokens.now)) }
+    ensures ample { IfErr result (λ e. e ≡ halt.NoMemory → ⊥) }
 {
     match token_read::number(tokens) {
         Ok(found) => Ok(found),
@@ -46,7 +50,8 @@ pub fn number(tokens: &[Spanned]) -> Result<(u32, &[Spanned]), Halt>
 
 /// The tokens after these, which are first in this order.
 pub fn phrase<'a>(tokens: &'a [Spanned], items: &[Item]) -> Result<&'a [Spanned], Halt>
-    ensures { Gives (λ r. (tt, bare r.now)) result (phrase_at (map item_token items.now) (bare tokens.entry.now)) }
+    ensures gives { Gives (λ r. (tt, bare r.now)) result (phrase_at (map item_token items.now) (bare tokens.entry.now)) }
+    ensures ample { IfErr result (λ e. e ≡ halt.NoMemory → ⊥) }
 {
     match token_read::phrase(tokens, items) {
         Ok(rest) => Ok(rest),
@@ -57,7 +62,8 @@ pub fn phrase<'a>(tokens: &'a [Spanned], items: &[Item]) -> Result<&'a [Spanned]
 
 /// The word that is first, whatever it is, and the tokens after it.
 fn any_word(tokens: &[Spanned]) -> Result<(&Name, &[Spanned]), Halt>
-    ensures { Gives (λ r. (r.0.now, bare r.1.now)) result (word_at (bare tokens.now)) }
+    ensures gives { Gives (λ r. (r.0.now, bare r.1.now)) result (word_at (bare tokens.now)) }
+    ensures ample { IfErr result (λ e. e ≡ halt.NoMemory → ⊥) }
 {
     match token_read::any_word(tokens) {
         Ok(found) => Ok(found),

@@ -1,6 +1,7 @@
-ghost use Rattle.std.specs.Prelude.{◌≡◌, ◌≤◌, map};
+ghost use Rattle.std.specs.Prelude.{◌≡◌, ◌≤◌, IfErr, map};
 ghost use Rattle.grammar.specs.Reading.{first};
 ghost use Rattle.seq_tree.specs.declared.token.Token.TheVariants as token;
+ghost use Rattle.token_read.specs.declared.read_fault.ReadFault.TheVariants as fault;
 ghost use Rattle.token_read.specs.Words.{Gives, bare, item_token, same_token};
 ghost use Rattle.token_read.specs.Readers.{fixed_at, phrase_at, number_at, number_within_at, word_at, next_is, next_is_number};
 
@@ -33,7 +34,8 @@ fn is_item(token: &Token, item: &Item) -> bool
 /// The tokens after this one, which is first.
 #[tactic(auto, unfolding(crate::specs::Readers::fixed_at))]
 fn one<'a>(tokens: &'a [Spanned], item: &Item) -> Result<&'a [Spanned], ReadFault>
-    ensures { Gives (λ r. (tt, bare r.now)) result (fixed_at (item_token item.now) (bare tokens.entry.now)) }
+    ensures gives { Gives (λ r. (tt, bare r.now)) result (fixed_at (item_token item.now) (bare tokens.entry.now)) }
+    ensures ample { IfErr result (λ e. e ≡ fault.NoMemory → ⊥) }
 {
     match tokens.split_first() {
         Some((spanned, rest)) if is_item(&spanned.token, item) => Ok(rest),
@@ -43,7 +45,8 @@ fn one<'a>(tokens: &'a [Spanned], item: &Item) -> Result<&'a [Spanned], ReadFaul
 
 /// The tokens after these, which are first in this order. `Syntax` comes at the first that is another.
 pub fn phrase<'a>(tokens: &'a [Spanned], items: &[Item]) -> Result<&'a [Spanned], ReadFault>
-    ensures { Gives (λ r. (tt, bare r.now)) result (phrase_at (map item_token items.now) (bare tokens.entry.now)) }
+    ensures gives { Gives (λ r. (tt, bare r.now)) result (phrase_at (map item_token items.now) (bare tokens.entry.now)) }
+    ensures ample { IfErr result (λ e. e ≡ fault.NoMemory → ⊥) }
 {
     let mut rest = tokens;
     'items: for item in items {
@@ -55,7 +58,8 @@ pub fn phrase<'a>(tokens: &'a [Spanned], items: &[Item]) -> Result<&'a [Spanned]
 /// The tokens after this word, which is first. `Syntax` comes where it isn't.
 #[tactic(auto, unfolding(crate::specs::Readers::fixed_at))]
 pub fn word<'a>(tokens: &'a [Spanned], text: &[u8]) -> Result<&'a [Spanned], ReadFault>
-    ensures { Gives (λ r. (tt, bare r.now)) result (fixed_at (token.Word text.now) (bare tokens.entry.now)) }
+    ensures gives { Gives (λ r. (tt, bare r.now)) result (fixed_at (token.Word text.now) (bare tokens.entry.now)) }
+    ensures ample { IfErr result (λ e. e ≡ fault.NoMemory → ⊥) }
 {
     let Some((spanned, rest)) = tokens.split_first() else {
         return Err(ReadFault::Syntax(0));
@@ -69,7 +73,8 @@ pub fn word<'a>(tokens: &'a [Spanned], text: &[u8]) -> Result<&'a [Spanned], Rea
 /// The tokens after this mark, which is first. `Syntax` comes where it isn't.
 #[tactic(auto, unfolding(crate::specs::Readers::fixed_at))]
 pub fn mark(tokens: &[Spanned], mark: Mark) -> Result<&[Spanned], ReadFault>
-    ensures { Gives (λ r. (tt, bare r.now)) result (fixed_at (token.Sign mark) (bare tokens.now)) }
+    ensures gives { Gives (λ r. (tt, bare r.now)) result (fixed_at (token.Sign mark) (bare tokens.now)) }
+    ensures ample { IfErr result (λ e. e ≡ fault.NoMemory → ⊥) }
 {
     let Some((spanned, rest)) = tokens.split_first() else {
         return Err(ReadFault::Syntax(0));
@@ -83,7 +88,8 @@ pub fn mark(tokens: &[Spanned], mark: Mark) -> Result<&[Spanned], ReadFault>
 /// The number that is first, and the tokens after it. `Syntax` comes where there is none.
 #[tactic(auto, unfolding(crate::specs::Readers::number_at))]
 pub fn number(tokens: &[Spanned]) -> Result<(u32, &[Spanned]), ReadFault>
-    ensures { Gives (λ r. (r.0, bare r.1.now)) result (number_at (bare tokens.now)) }
+    ensures gives { Gives (λ r. (r.0, bare r.1.now)) result (number_at (bare tokens.now)) }
+    ensures ample { IfErr result (λ e. e ≡ fault.NoMemory → ⊥) }
 {
     let Some((spanned, rest)) = tokens.split_first() else {
         return Err(ReadFault::Syntax(0));
@@ -101,7 +107,8 @@ pub fn number_within(
     low: u32,
     high: u32,
 ) -> Result<(u32, &[Spanned]), ReadFault>
-    ensures { Gives (λ r. (r.0, bare r.1.now)) result (number_within_at low high (bare tokens.now)) }
+    ensures gives { Gives (λ r. (r.0, bare r.1.now)) result (number_within_at low high (bare tokens.now)) }
+    ensures ample { IfErr result (λ e. e ≡ fault.NoMemory → ⊥) }
 {
     let Some((spanned, rest)) = tokens.split_first() else {
         return Err(ReadFault::Syntax(0));
@@ -116,7 +123,8 @@ pub fn number_within(
 /// tests the word, and refuses it with the tokens that it was first of.
 #[tactic(auto, unfolding(crate::specs::Readers::word_at))]
 pub fn any_word(tokens: &[Spanned]) -> Result<(&Name, &[Spanned]), ReadFault>
-    ensures { Gives (λ r. (r.0.now, bare r.1.now)) result (word_at (bare tokens.now)) }
+    ensures gives { Gives (λ r. (r.0.now, bare r.1.now)) result (word_at (bare tokens.now)) }
+    ensures ample { IfErr result (λ e. e ≡ fault.NoMemory → ⊥) }
 {
     let Some((spanned, rest)) = tokens.split_first() else {
         return Err(ReadFault::Syntax(0));

@@ -49,5 +49,5 @@ conditional-returns t c =
     sym c.arms.invariant
     ∙ onward-ends (next_is (token.Word (codes "elsif"))) (arm_at (expression_at (may_name c.args.text) 32 c.args.deeper) block) (close_if block) (map arm_of c.arms.arms.items) (bare c.arms.rest.now) (sym c.arms-test.ensures)
     ∙ if-closes block (map arm_of c.arms.arms.items) (otherwise (option_map block_of c.in_ok-other.other)) (bare c.arms.rest.now) (bare c.in_ok-other.ended.now) (bare c.in_ok-ended.ended.now)
-    (bare c.in_ok-ended-2.ended.now) (bare c.in_ok-ended-3.ended.now) c.in_ok-other.ensures c.in_ok-ended.ensures c.in_ok-ended-2.ensures c.in_ok-ended-3.ensures
+    (bare c.in_ok-ended-2.ended.now) (bare c.in_ok-ended-3.ended.now) c.in_ok-other.ensures c.in_ok-ended.ensures.gives c.in_ok-ended-2.ensures.gives c.in_ok-ended-3.ensures.gives
     ∙ ap (λ s. Ok (s, bare c.in_ok-ended-3.ended.now)) (sym (tree-of-if c.arms.arms c.in_ok-other.other))

@@ -8,7 +8,6 @@ use Rattle.hood_io.specs.declared.mem_shelf.Fetch.{Fetch}
 use Rattle.hood_io.specs.declared.mem_shelf.MemShelf.{MemShelf}
 use Rattle.hood_io.specs.declared.shelf.Fetched.{Fetched}
 use Rattle.hood_io.specs.declared.shelf.Fetched.TheVariants.{Done, TooLong, Failed, NoMemory}
-use Rattle.hood_io.specs.Causes.{raised}
 use Rattle.hood_io.specs.Shelves.{Told, Entry}
 
 abbrev pub file_of : List File → List ℕ → Option (List ℕ)
@@ -44,13 +43,6 @@ FailsAsPlanned Done fails = fails ≡ false
 FailsAsPlanned TooLong fails = fails ≡ false
 FailsAsPlanned Failed fails = fails ≡ true
 FailsAsPlanned NoMemory fails = Unit {0}
-
--- the count of faults after an answer: only a failure raises it, by one
-abbrev pub counted : Fetched → ℕ → ℕ
-counted Done count = count
-counted TooLong count = count
-counted Failed count = raised count
-counted NoMemory count = count
 
 -- a copy of the file, which is within the limit or over it; nothing where memory was refused
 abbrev pub Copies : Fetched → List ℕ → ℕ → List ℕ → Type 0

@@ -3,7 +3,7 @@
 use Rattle.std.specs.Prelude.{◌≡◌, ℕ, ◌<◌, ◌≤◌, Bool, true, false, List, [], ◌∷◌, ◌++◌, length, take, Option, Some, None, IfSome}
 use Rattle.hood_io.specs.declared.shelf.Fetched.{Fetched}
 use Rattle.hood_io.specs.declared.shelf.Fetched.TheVariants.{Done, TooLong, Failed, NoMemory}
-use Rattle.hood_io.specs.Causes.{Rose}
+use Rattle.hood_io.specs.Causes.{Rose, raised}
 
 -- a fetch: the name, and whether it failed
 pub record Entry : Type 0 where
@@ -14,6 +14,10 @@ pub record Entry : Type 0 where
 pub record Told : Type 0 where
   pub files : List ℕ → Option (List ℕ)
   pub log : List Entry
+
+-- what a shelf tells that tells nothing
+abbrev pub untold : Option Told
+untold = None
 
 -- what an answer adds to the log
 abbrev pub entries_of : Fetched → List ℕ → List Entry
@@ -38,3 +42,10 @@ Says Done told name limit into before now = (length into ≤ limit) × IfSome to
 Says TooLong told name limit into before now = (limit < length into) × IfSome told (λ t. (file : List ℕ) × (t.files name ≡ Some file) × (limit < length file))
 Says Failed told name limit into before now = Rose before now
 Says NoMemory told name limit into before now = Unit {0}
+
+-- the count of faults after an answer: only a failure raises it, by one
+abbrev pub counted : Fetched → ℕ → ℕ
+counted Done count = count
+counted TooLong count = count
+counted Failed count = raised count
+counted NoMemory count = count

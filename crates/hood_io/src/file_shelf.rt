@@ -1,4 +1,5 @@
-ghost use Rattle.std.specs.Prelude.{◌≡◌, ◌+◌, ◌-◌, ◌^◌, min, take, IfSome, OnOk, None};
+ghost use Rattle.std.specs.Prelude.{◌≡◌, ◌≤◌, ◌+◌, ◌-◌, ◌^◌, min, take, IfSome, OnOk};
+ghost use Rattle.hood_io.specs.Shelves.{after_fetch, counted, untold, IsFront, Says};
 
 use crate::shelf::{Fetched, Shelf};
 use std::alloc::Global;
@@ -39,11 +40,20 @@ fn read_up_to<R: Files>(rt: &R, name: &str, limit: usize, into: &mut Vec<u8>) ->
 }
 
 impl<'a, R: Files> Shelf for FileShelf<'a, R> {
-    ghost told = { λ _. None };
+    ghost told = { λ _. untold };
 
     ghost faults = { λ s. s.faults };
 
-    fn fetch(&mut self, _alloc: Global, name: &str, limit: usize, into: &mut Vec<u8>) -> Fetched {
+    /// Fails where the system does not open or read the file. The count of faults then rises by one, and else stays.
+    fn fetch(&mut self, _alloc: Global, name: &str, limit: usize, into: &mut Vec<u8>) -> Fetched
+        ensures later { self.old.faults ≤ self.new.faults }
+        ensures told { untold ≡ after_fetch untold result name.now }
+        ensures front { IfSome untold (λ t. IsFront into.new.items (t.files name.now)) }
+        ensures says { Says result untold name.now limit into.new.items self.old.faults self.new.faults }
+
+        // What the system's files say beyond others.
+        ensures counted { self.new.faults ≡ counted result self.old.faults }
+    {
         into.clear();
         match read_up_to(self.rt, name, limit, into) {
             Ok(()) if into.len() <= limit => Fetched::Done,
@@ -54,33 +64,5 @@ impl<'a, R: Files> Shelf for FileShelf<'a, R> {
                 Fetched::Failed
             }
         }
-    }
-}
-
-#[cfg(test)]
-mod tests {
-    use super::*;
-    use std::fs;
-    use std::test::Fail;
-
-    #[test]
-    fn reads_a_file_and_counts_an_absent_one(rt: HostRuntime) -> Result<(), Fail> {
-        let file = "hood_io_file";
-        let text = b"12345678".as_slice();
-        fs::write(&rt, file, text)?;
-        let mut shelf = FileShelf::new(&rt);
-        let mut into = Vec::from_slice(rt.alloc(), b"before")?;
-        for (name, limit, answer, read, faults) in [
-            (file, 8, Fetched::Done, text, 0),
-            (file, 7, Fetched::TooLong, text, 0),
-            ("hood_io_absent", 8, Fetched::Failed, b"", 1),
-        ] {
-            let fetched = shelf.fetch(rt.alloc(), name, limit, &mut into);
-            assert_eq!(rt; fetched, answer, "{name} {limit}");
-            assert_eq!(rt; into.as_slice(), read, "{name} {limit}");
-            assert_eq!(rt; shelf.faults, faults, "{name} {limit}");
-        }
-        fs::remove_file(&rt, file)?;
-        Ok(())
     }
 }

@@ -77,23 +77,3 @@ impl Sink for ErrSink {
         write_counted(&mut self.err, &mut self.faults, bytes)
     }
 }
-
-#[cfg(test)]
-mod tests {
-    use super::*;
-    use crate::puts::put_all;
-
-    #[test]
-    fn standard_output_takes_a_text(rt: HostRuntime) {
-        let mut out = OutSink::new(rt.stdout());
-        assert_eq!(rt; put_all(&mut out, b"to standard output\n"), Ok(()));
-        assert_eq!(rt; out.faults, 0);
-    }
-
-    #[test]
-    fn standard_error_takes_a_text(rt: HostRuntime) {
-        let mut err = ErrSink::new(rt.stderr());
-        assert_eq!(rt; put_all(&mut err, b"to standard error\n"), Ok(()));
-        assert_eq!(rt; err.faults, 0);
-    }
-}

@@ -2,6 +2,9 @@
 //! with the status that `run` answers.
 #![tactic(auto)]
 
+#[cfg(test)]
+mod tests;
+
 use hood_io::{ErrSink, FileShelf, OutSink};
 use hrthood_top::{Status, run};
 use std::env;

@@ -12,8 +12,6 @@ mod message;
 mod prepare;
 mod replay;
 mod status;
-#[cfg(test)]
-mod tests;
 mod toolset;
 mod trace;
 mod two_runs;

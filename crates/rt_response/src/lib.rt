@@ -10,8 +10,6 @@ mod excess;
 mod rounds;
 mod rows;
 mod sides;
-#[cfg(test)]
-mod tests;
 
 pub use rounds::respond;
 pub use rows::{Bound, Limit, Miss, ThreadRow};

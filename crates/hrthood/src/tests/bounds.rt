@@ -1,8 +1,10 @@
+//! Tables of threads and their bounds.
+
 ghost use Rattle.std.specs.Prelude.{◌≡◌, true};
 ghost use Rattle.rt_response.specs.Tables.{IsRow, IsTable};
 
-use crate::rows::Limit::{Deadline, Separation};
-use crate::{Bound, Limit, Miss, ThreadRow, respond};
+use rt_response::Limit::{Deadline, Separation};
+use rt_response::{Bound, Limit, Miss, ThreadRow, respond};
 
 fn row(
     period: u32,

@@ -1,5 +1,6 @@
 -- The readers of the bodies of units read their grammar, where the reader of blocks does.
 use Rattle.std.proofs.Common.{◌≡◌, ℕ, Bool, true, false, List, [], ◌∷◌, ◌++◌, map, Option, codes, flat_map, refl, sym, ap, subst, ◌∙◌, arith, append-nil}
+use Rattle.seq_tree.specs.Lists.{Each}
 use Rattle.grammar.specs.Reading.{first, AreEach, Reads, Joined}
 use Rattle.grammar.proofs.Laws.{reads-same, reads-pure, IsOnly}
 use Rattle.grammar.proofs.Picks.{reads-each}
@@ -14,7 +15,6 @@ use Rattle.seq_tree.specs.declared.token.Token.TheVariants.{Word, Number, Sign}
 use Rattle.seq_tree.specs.declared.token.Mark.TheVariants.{Semicolon}
 use Rattle.ada_tree.specs.Programs.{Form, Passive, Shared, Cyclic, Sporadic}
 use Rattle.ada_tree.specs.Programs as programs
-use Rattle.ada_tree.specs.Proper.{Each}
 use Rattle.ada_tree.specs.Spelling.{head_tokens}
 use Rattle.ada_tree.specs.Words.{is_ada_name}
 use Rattle.token_read.proofs.TokenLaws.{Any, andthen, reads-fixed, reads-phrase, reads-number, joins-fixed, joins-phrase, joins-number, joins-name}

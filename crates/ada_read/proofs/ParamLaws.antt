@@ -1,5 +1,6 @@
 -- The readers of costs, names, parameters and declarations read their grammar.
 use Rattle.std.proofs.Common.{◌≡◌, ℕ, ◌<◌, Bool, true, false, cond, List, [], ◌∷◌, ◌++◌, length, Option, None, Some, codes, flat_map, refl, sym, ap, subst, ◌∙◌, arith, append_assoc, append-nil, ◌⊎◌, inl, inr}
+use Rattle.seq_tree.specs.Lists.{Each}
 use Rattle.grammar.specs.Reading.{Read, first, then_at, token_at, many_at, Reads, Joined, AreMany}
 use Rattle.grammar.proofs.Laws.{reads-same, reads-then, reads-pure, reads-token, reads-choose, reads-map, IsToken}
 use Rattle.grammar.proofs.From.{Last}
@@ -12,7 +13,6 @@ use Rattle.seq_tree.specs.declared.tree.Param.{Param}
 use Rattle.seq_tree.specs.declared.token.Token.{Token}
 use Rattle.seq_tree.specs.declared.token.Token.TheVariants.{Word, Number, Sign}
 use Rattle.seq_tree.specs.declared.token.Mark.TheVariants.{LeftParen, RightParen, Semicolon, Colon}
-use Rattle.ada_tree.specs.Proper.{Each}
 use Rattle.ada_tree.specs.Spelling.{mode_token, param_tokens, params_tokens, head_tokens}
 use Rattle.ada_tree.specs.Words.{is_ada_name}
 use Rattle.token_read.specs.Words.{same_token}

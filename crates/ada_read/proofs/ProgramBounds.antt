@@ -1,11 +1,12 @@
 -- Programs without limits keep some limits, and programs that keep limits are programs without them.
-use Rattle.std.proofs.Common.{◌≡◌, ℕ, ◌+◌, ◌≤◌, true, List, [], ◌∷◌, refl, arith}
+use Rattle.std.proofs.Common.{◌≡◌, ℕ, ◌+◌, ◌≤◌, true, List, [], ◌∷◌, arith}
+use Rattle.seq_tree.specs.Lists.{Each}
 use Rattle.seq_tree.specs.Operations.{Operation}
 use Rattle.seq_tree.specs.Proper.{Limits, without_limits}
 use Rattle.seq_read.proofs.ChainLevels.{bounds}
 use Rattle.seq_read.proofs.Bounds.{extent_block, bound-block, free-block}
 use Rattle.ada_tree.specs.Programs.{Form, Unit, Program, Passive, Shared, Cyclic, Sporadic}
-use Rattle.ada_tree.specs.Proper.{Each, IsProperOperation, IsProperForm, IsProperProgram}
+use Rattle.ada_tree.specs.Proper.{IsProperOperation, IsProperForm, IsProperProgram}
 use Rattle.ada_tree.specs.Words.{is_ada_name}
 
 abbrev pub extent_ops : List Operation → ℕ

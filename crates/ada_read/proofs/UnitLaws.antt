@@ -1,6 +1,7 @@
 -- The specifications and bodies that were read are those of the units of a program.
 use Rattle.std.proofs.Common.{◌≡◌, ℕ, suc, Bool, true, false, List, [], ◌∷◌, ◌++◌, map, filter, length, flat_map, codes, refl, sym, ap, subst, ◌∙◌, arith, append_assoc, if◌then◌else◌}
 use Rattle.std.specs.List.{list_all}
+use Rattle.seq_tree.specs.Lists.{Each}
 use Rattle.grammar.specs.Reading.{AreEach}
 use Rattle.seq_tree.specs.Names.{Name}
 use Rattle.seq_tree.specs.Statements.{Statements}
@@ -12,7 +13,7 @@ use Rattle.seq_tree.specs.declared.token.Token.TheVariants.{Word}
 use Rattle.ada_tree.specs.Programs.{Form, Passive, Shared, Cyclic, Sporadic, is_task}
 use Rattle.ada_tree.specs.Programs as programs
 use Rattle.ada_tree.specs.InUse.{is_sequential}
-use Rattle.ada_tree.specs.Proper.{Each, IsProperForm, IsProperOperation}
+use Rattle.ada_tree.specs.Proper.{IsProperForm, IsProperOperation}
 use Rattle.ada_tree.specs.Spelling.{head_tokens, datum_line, declaration_line, body_lines, inner_body, specification_lines, unit_body_lines}
 use Rattle.ada_tree.specs.Words.{is_ada_name}
 use Rattle.ada_read.proofs.LevelLaws.{joined-append, block-level}

@@ -2,7 +2,7 @@
 //!
 //! It stands on the tokens of `token_read`, the laws of readers of `grammar`, the blocks of `seq_read` and the programs of
 //! `ada_tree`. `read_ada` carries its promise: the program that a text reads as, of passive units and exactly one cyclic unit, or
-//! the exact place and kind of the first fault. Whether the program keeps the rules of the language is not asked here.
+//! the exact place and kind of the first fault, or the first rule of programs that it breaks, which `ada_rules` judges.
 #![tactic(auto)]
 
 mod bodies;

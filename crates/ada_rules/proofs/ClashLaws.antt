@@ -3,12 +3,11 @@ use Rattle.std.proofs.Common.{◌≡◌, ℕ, Bool, true, false, not, ◌&&◌, 
 use Rattle.std.proofs.Math.Bool.{and_assoc, or_assoc, or_comm}
 use Rattle.std.specs.Cmp.{nat_eq_equiv}
 use Rattle.std.proofs.lemmas.List.Folds.{list_any-append}
-use Rattle.seq_tree.specs.Names.{Name, same_name}
-use Rattle.seq_tree.specs.Faults.{is_named}
+use Rattle.seq_tree.specs.Names.{Name, same_name, is_named, are_distinct}
 use Rattle.seq_tree.specs.Statements.{Statement, Statements, Branches, Null, Assign, If, For, ExitWhen, Call, Work, Put, End, Then, Nothing, Else, When}
 use Rattle.ada_tree.specs.Programs.{Form}
 use Rattle.ada_tree.specs.Bodies.{Body}
-use Rattle.ada_tree.specs.Naming.{are_distinct, own_names, body_names, statement_clashes, block_clashes, branch_clashes, body_clashes}
+use Rattle.ada_tree.specs.Naming.{own_names, body_names, statement_clashes, block_clashes, branch_clashes, body_clashes}
 use Rattle.ada_rules.specs.Parts.{Part, LoopEnd, statement_parts, block_parts, branch_parts}
 use Rattle.ada_rules.specs.Clashes.{are_new, clashes_in, clashes_inside}
 use Rattle.ada_rules.proofs.NameSteps.{named-push, front-push, or_turn, or_false}

@@ -1,8 +1,7 @@
 -- Clashes inside a body, found step by step.
 use Rattle.std.proofs.Common.{◌≡◌, Bool, true, false, not, ◌||◌, List, [], Result, Ok, Err, IfOk, refl, ap, ◌∙◌}
 use Rattle.std.proofs.Math.Path.{fun_ext}
-use Rattle.seq_tree.specs.Names.{Name}
-use Rattle.seq_tree.specs.Faults.{is_named}
+use Rattle.seq_tree.specs.Names.{Name, is_named}
 use Rattle.ada_tree.specs.Bodies.{Body}
 use Rattle.ada_tree.specs.Naming.{body_names}
 use Rattle.ada_rules.specs.Clashes.{are_new, clashes_in, clashes_inside}

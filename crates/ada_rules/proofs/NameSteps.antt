@@ -7,8 +7,7 @@ use Rattle.std.proofs.Math.Bool.{and_assoc}
 use Rattle.std.proofs.lemmas.List.{map-append, take_more}
 use Rattle.std.proofs.lemmas.List.Folds.{list_any-append}
 use Rattle.std.specs.Borrow.{Bor}
-use Rattle.seq_tree.specs.Names.{Name, same_name}
-use Rattle.seq_tree.specs.Faults.{is_named}
+use Rattle.seq_tree.specs.Names.{Name, same_name, is_named}
 use Rattle.ada_rules.specs.Clashes.{are_new, front}
 use Rattle.ada_rules.specs.Lists.{names_of}
 

@@ -2,9 +2,10 @@
 use Rattle.std.proofs.Common.{◌≡◌, ◌<◌, Bool, true, false, not, List, [], ◌∷◌, map, flat_map, None, refl, ap, arith}
 use Rattle.std.proofs.lemmas.Bool.{leb-false}
 use Rattle.std.specs.List.{list_any}
+use Rattle.seq_tree.specs.Calls.{same_op}
 use Rattle.seq_tree.specs.declared.tree.OpName.{OpName}
 use Rattle.ada_tree.specs.Trees.{program_of, unit_of}
-use Rattle.ada_tree.specs.Uses.{same_op, BreaksRings}
+use Rattle.ada_tree.specs.Uses.{BreaksRings}
 use Rattle.ada_tree.specs.declared.program.Unit as code
 use Rattle.ada_tree.specs.declared.program.AdaProgram.{AdaProgram}
 use Rattle.ada_rules.specs.Edges.{Edge, joins, Leads, IsRound, unit_edges}

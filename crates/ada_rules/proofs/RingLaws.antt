@@ -9,10 +9,10 @@ use Rattle.std.proofs.lemmas.Option.{slice_get_within}
 use Rattle.std.proofs.lemmas.Slice.Eq.{bytes_eq-Decides}
 use Rattle.seq_tree.specs.Names.{Name, same_name}
 use Rattle.seq_tree.specs.Operations.{Operation}
-use Rattle.seq_tree.specs.Calls.{block_calls}
+use Rattle.seq_tree.specs.Calls.{block_calls, same_op}
 use Rattle.seq_tree.specs.declared.tree.OpName.{OpName}
 use Rattle.ada_tree.specs.Programs.{Unit, Program}
-use Rattle.ada_tree.specs.Uses.{passive_ops, passive_named, same_op, LeadsTo, IsOnRing, BreaksRings}
+use Rattle.ada_tree.specs.Uses.{passive_ops, passive_named, LeadsTo, IsOnRing, BreaksRings}
 use Rattle.ada_rules.specs.Edges.{Edge, op_edges, unit_edges, edges, joins, Leads, IsRound, leaves, is_missing, NoRoundBefore, TellsRound, TellsObject}
 use Rattle.ada_rules.proofs.NameSteps.{drop_step}
 use Rattle.ada_tree.specs.Trees.{program_of, unit_of}

@@ -7,14 +7,14 @@ use Rattle.std.specs.List.{list_any}
 use Rattle.std.proofs.lemmas.Grind.{flat_map-append}
 use Rattle.std.proofs.lemmas.List.{map-append}
 use Rattle.std.proofs.lemmas.List.Folds.{list_any-append}
-use Rattle.seq_tree.specs.Names.{Name, same_name}
-use Rattle.seq_tree.specs.Faults.{is_named}
+use Rattle.seq_tree.specs.Calls.{same_op}
+use Rattle.seq_tree.specs.Names.{Name, same_name, is_named, are_distinct}
 use Rattle.seq_tree.specs.Operations.{Operation}
 use Rattle.seq_tree.specs.declared.tree.OpName.{OpName}
 use Rattle.ada_tree.specs.Programs.{Form, Unit, Program, Passive, Shared, Cyclic, Sporadic}
 use Rattle.ada_tree.specs.Bodies.{bodies, heads, offers}
-use Rattle.ada_tree.specs.Naming.{are_distinct, own_names, inner_names, body_clashes, calls_of, is_there, breaks_naming}
-use Rattle.ada_tree.specs.Uses.{passive_ops, passive_named, is_confined, is_empty, breaks_uses, same_op, is_called, breaks_external}
+use Rattle.ada_tree.specs.Naming.{own_names, inner_names, body_clashes, calls_of, is_there, breaks_naming}
+use Rattle.ada_tree.specs.Uses.{passive_ops, passive_named, is_confined, is_empty, breaks_uses, is_called, breaks_external}
 use Rattle.ada_rules.specs.declared.ops.Offered.TheVariants as which
 use Rattle.ada_rules.specs.Offers.{is_head, is_offered, calls_it}
 use Rattle.ada_rules.specs.UnitTests.{unit_clashes, breaks_names, external_breaks}

@@ -1,8 +1,7 @@
 -- Names that clash, told with a test of the names that are taken.
 -- The test stands for a list of names, in which each name would have to be looked for.
 use Rattle.std.specs.Prelude.{Bool, true, false, not, ◌||◌, ◌&&◌, List, [], ◌∷◌, ◌++◌}
-use Rattle.seq_tree.specs.Names.{Name, same_name}
-use Rattle.seq_tree.specs.Faults.{is_named}
+use Rattle.seq_tree.specs.Names.{Name, same_name, is_named}
 use Rattle.ada_tree.specs.Bodies.{Body}
 use Rattle.ada_tree.specs.Naming.{body_names}
 use Rattle.ada_rules.specs.Parts.{Part, LoopStart, LoopEnd, Called, Worked, block_parts}

@@ -4,10 +4,10 @@ use Rattle.std.specs.Prelude.{◌≡◌, ℕ, ◌<◌, Bool, true, false, not, �
 use Rattle.std.specs.List.{list_any}
 use Rattle.seq_tree.specs.Names.{Name, same_name}
 use Rattle.seq_tree.specs.Operations.{Operation}
-use Rattle.seq_tree.specs.Calls.{block_calls}
+use Rattle.seq_tree.specs.Calls.{block_calls, same_op}
 use Rattle.seq_tree.specs.declared.tree.OpName.{OpName}
 use Rattle.ada_tree.specs.Programs.{Unit, Program}
-use Rattle.ada_tree.specs.Uses.{passive_ops, same_op}
+use Rattle.ada_tree.specs.Uses.{passive_ops}
 use Rattle.ada_rules.specs.Lists.{call_of}
 use Rattle.ada_rules.specs.Sets.{has_op}
 use Rattle.ada_rules.specs.declared.rings.EdgeView.{EdgeView}

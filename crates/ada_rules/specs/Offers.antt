@@ -2,13 +2,14 @@
 -- An operation is told by its object and its own name.
 use Rattle.std.specs.Prelude.{Bool, List, map}
 use Rattle.std.specs.List.{list_any}
+use Rattle.seq_tree.specs.Calls.{same_op}
 use Rattle.seq_tree.specs.Names.{Name}
 use Rattle.seq_tree.specs.Operations.{Signature}
 use Rattle.seq_tree.specs.declared.tree.OpName.{OpName}
 use Rattle.ada_tree.specs.Programs.{Form, Unit}
 use Rattle.ada_tree.specs.Bodies.{heads}
 use Rattle.ada_tree.specs.Naming.{calls_of}
-use Rattle.ada_tree.specs.Uses.{passive_ops, same_op}
+use Rattle.ada_tree.specs.Uses.{passive_ops}
 use Rattle.ada_rules.specs.declared.ops.Offered as code
 use Rattle.ada_rules.specs.declared.ops.Offered.TheVariants as which
 

@@ -2,11 +2,11 @@
 -- The tests stand for lists of the whole program.
 use Rattle.std.specs.Prelude.{Bool, false, not, ◌||◌, if◌then◌else◌}
 use Rattle.std.specs.List.{list_any}
-use Rattle.seq_tree.specs.Names.{Name, same_name}
+use Rattle.seq_tree.specs.Names.{Name, same_name, are_distinct}
 use Rattle.seq_tree.specs.declared.tree.OpName.{OpName}
 use Rattle.ada_tree.specs.Programs.{Form, Unit, Passive, Shared, Cyclic, Sporadic}
 use Rattle.ada_tree.specs.Bodies.{bodies}
-use Rattle.ada_tree.specs.Naming.{are_distinct, own_names, inner_names, body_clashes, calls_of}
+use Rattle.ada_tree.specs.Naming.{own_names, inner_names, body_clashes, calls_of}
 
 -- whether names clash inside a unit
 abbrev pub unit_clashes : Form → Bool

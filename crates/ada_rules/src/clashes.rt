@@ -1,6 +1,5 @@
 ghost use Rattle.std.specs.Prelude.{◌≡◌, not, ◌||◌, [], IfOk, OnOk, map};
-ghost use Rattle.seq_tree.specs.Names.{Name as NameTree, same_name};
-ghost use Rattle.seq_tree.specs.Faults.{is_named};
+ghost use Rattle.seq_tree.specs.Names.{Name as NameTree, same_name, is_named};
 ghost use Rattle.ada_rules.specs.Clashes.{are_new, clashes_at, clashes_in, clashes_inside, front, inside_after};
 ghost use Rattle.ada_rules.specs.Lists.{names_of};
 ghost use Rattle.ada_rules.specs.Parts.{body_of, part_of};

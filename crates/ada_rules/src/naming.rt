@@ -1,7 +1,6 @@
 ghost use Rattle.std.specs.Prelude.{◌≡◌, ◌||◌, true, not, IfOk, OnOk, map};
 ghost use Rattle.std.specs.List.{list_any};
-ghost use Rattle.seq_tree.specs.Names.{Name as NameTree, same_name};
-ghost use Rattle.seq_tree.specs.Faults.{is_named};
+ghost use Rattle.seq_tree.specs.Names.{Name as NameTree, same_name, is_named};
 ghost use Rattle.ada_tree.specs.Naming.{breaks_naming, calls_of, inner_names};
 ghost use Rattle.ada_tree.specs.Trees.{form_of, program_of, unit_of};
 ghost use Rattle.ada_rules.specs.Clashes.{clashes_inside};

@@ -1,8 +1,8 @@
 ghost use Rattle.std.specs.Prelude.{◌≡◌, ◌||◌, false, not, IfOk, OnOk, map};
 ghost use Rattle.std.specs.List.{list_any};
+ghost use Rattle.seq_tree.specs.Calls.{same_op};
 ghost use Rattle.seq_tree.specs.declared.tree.OpName.{OpName};
 ghost use Rattle.ada_tree.specs.Trees.{form_of, unit_of};
-ghost use Rattle.ada_tree.specs.Uses.{same_op};
 ghost use Rattle.ada_rules.specs.Lists.{call_of, head_of};
 ghost use Rattle.ada_rules.specs.Offers.{calls_it, is_head, is_offered, offered as offered_by};
 ghost use Rattle.ada_rules.specs.Sets.{has_op};

@@ -1,9 +1,9 @@
 ghost use Rattle.std.specs.Prelude.{◌≡◌, ◌<◌, ◌++◌, true, false, IfOk, OnOk, filter, flat_map, length, map};
 ghost use Rattle.std.specs.List.{list_any};
-ghost use Rattle.seq_tree.specs.Calls.{block_calls};
+ghost use Rattle.seq_tree.specs.Calls.{block_calls, same_op};
 ghost use Rattle.seq_tree.specs.Trees.{block_of, operation_of};
 ghost use Rattle.ada_tree.specs.Trees.{form_of, program_of, unit_of};
-ghost use Rattle.ada_tree.specs.Uses.{BreaksRings, passive_ops, same_op};
+ghost use Rattle.ada_tree.specs.Uses.{BreaksRings, passive_ops};
 ghost use Rattle.ada_rules.specs.Edges.{AreReached, TellsEdge, TellsObject, TellsRound, edge_of, edges, is_missing, leaves, op_edges, unit_edges};
 ghost use Rattle.ada_rules.specs.Firsts.{IsFirst};
 ghost use Rattle.ada_rules.specs.Lists.{call_of};

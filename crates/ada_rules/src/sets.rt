@@ -1,7 +1,7 @@
 ghost use Rattle.std.specs.Prelude.{◌≡◌, ◌||◌, false, not, IfOk, OnOk};
+ghost use Rattle.seq_tree.specs.Calls.{same_op};
 ghost use Rattle.seq_tree.specs.Names.{Name as NameTree, same_name};
 ghost use Rattle.seq_tree.specs.declared.tree.OpName.{OpName};
-ghost use Rattle.ada_tree.specs.Uses.{same_op};
 ghost use Rattle.ada_rules.specs.Sets.{has, has_op};
 
 use seq_tree::{Name, NoMemory};

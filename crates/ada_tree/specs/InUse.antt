@@ -1,6 +1,5 @@
--- The parts of the language that are built so far: what is generated is one cyclic unit without data, whose block has `null;` and
--- `work (n);` alone; what is read and run is any one cyclic unit among passive ones.
--- Each part of the language that is built widens it, and with the last one it falls away.
+-- What is built so far: one cyclic unit without data, of `null;` and `work (n);` alone, is generated; any one cyclic unit among
+-- passive ones is read and run. Each part of the language that is built widens it, and with the last one it falls away.
 use Rattle.std.specs.Prelude.{◌≡◌, Bool, true, false, List, [], ◌∷◌, length, filter, ⊤}
 use Rattle.std.specs.List.{list_all}
 use Rattle.seq_tree.specs.Statements.{Statements, Null, Work, End, Then}

@@ -1,20 +1,14 @@
 -- Names that clash, and calls of what isn't there.
 -- A name is declared at most once in a declarative region (ISO/IEC 8652:2012, 8.3); this profile asks a little more.
-use Rattle.std.specs.Prelude.{ℕ, suc, Bool, true, false, not, ◌||◌, ◌&&◌, List, [], ◌∷◌, ◌++◌, map, take, flat_map}
+use Rattle.std.specs.Prelude.{ℕ, suc, Bool, false, not, ◌||◌, ◌&&◌, List, [], ◌∷◌, ◌++◌, map, take, flat_map}
 use Rattle.std.specs.List.{list_any}
-use Rattle.seq_tree.specs.Names.{Name, same_name}
+use Rattle.seq_tree.specs.Names.{Name, same_name, is_named, are_distinct}
 use Rattle.seq_tree.specs.Statements.{Statement, Statements, Branches, If, For, End, Then, Nothing, Else, When}
 use Rattle.seq_tree.specs.Operations.{Offer}
 use Rattle.seq_tree.specs.Calls.{block_calls}
-use Rattle.seq_tree.specs.Faults.{is_named}
 use Rattle.seq_tree.specs.declared.tree.OpName.{OpName}
 use Rattle.ada_tree.specs.Programs.{Form, Unit, Program}
 use Rattle.ada_tree.specs.Bodies.{Body, bodies, data_of, heads, offers}
-
--- whether names differ from each other
-abbrev pub are_distinct : List Name → Bool
-are_distinct [] = true
-are_distinct (n ∷ ns) = not (is_named ns n) && are_distinct ns
 
 -- the names of all loops in a block
 abbrev mutual
@@ -64,7 +58,7 @@ inner_names form = own_names form ++ flat_map (λ b. body_names b ++ block_loops
 abbrev pub body_clashes : Form → Body → Bool
 body_clashes form b = not (are_distinct (own_names form ++ body_names b)) || block_clashes (own_names form ++ body_names b) b.block
 
--- whether a call names what isn't there
+-- whether a call names an operation that is offered
 abbrev pub is_there : List Offer → OpName → Bool
 is_there offers' name = list_any (λ o. same_name o.object name.object && same_name o.sig.name name.op) offers'
 

@@ -4,7 +4,7 @@ use Rattle.std.specs.Prelude.{if◌then◌else◌, ◌≡◌, Bool, true, false,
 use Rattle.std.specs.List.{list_any}
 use Rattle.seq_tree.specs.Names.{Name, same_name}
 use Rattle.seq_tree.specs.Operations.{Operation}
-use Rattle.seq_tree.specs.Calls.{block_calls}
+use Rattle.seq_tree.specs.Calls.{block_calls, same_op}
 use Rattle.seq_tree.specs.declared.tree.OpName.{OpName}
 use Rattle.ada_tree.specs.Programs.{Form, Unit, Program, Passive, Shared, Cyclic, Sporadic}
 use Rattle.ada_tree.specs.Naming.{calls_of}
@@ -36,10 +36,6 @@ is_empty (o ∷ os) = false
 -- whether a unit calls what it may not
 abbrev pub breaks_uses : Program → Unit → Bool
 breaks_uses p u = is_confined u.form && list_any (λ c. is_empty (passive_named p c)) (calls_of u.form)
-
--- whether two names name one operation
-abbrev pub same_op : OpName → OpName → Bool
-same_op a b = same_name a.object b.object && same_name a.op b.op
 
 -- a passive operation that calls another
 abbrev pub Calls : Program → OpName → OpName → Type 0

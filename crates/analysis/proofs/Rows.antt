@@ -119,5 +119,5 @@ turns_and_exit-bounds : round (rows_of loops) 1 ≡ bound 0 10 ∷ []
 turns_and_exit-bounds = refl
 
 -- a jitter over the separation
-three_cyclic1-miss : excess (design (spo_external (codes "s") 10 10 6 (Work 4 ∷ []))) 0 ≡ Some (record { index = 0; which = Separation; value = 11; limit = 10 })
-three_cyclic1-miss = refl
+over_its_separation-miss : excess (design (spo_external (codes "s") 10 10 6 (Work 4 ∷ []))) 0 ≡ Some (record { index = 0; which = Separation; value = 11; limit = 10 })
+over_its_separation-miss = refl

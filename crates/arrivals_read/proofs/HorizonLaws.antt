@@ -10,12 +10,13 @@ use Rattle.seq_tree.specs.declared.token.Token.TheVariants.{Word, Number, Sign}
 use Rattle.seq_tree.specs.declared.token.Place.{Place}
 use Rattle.seq_tree.specs.declared.token.Spanned.{Spanned}
 use Rattle.seq_tree.specs.declared.token.Mark.TheVariants.{Semicolon}
+use Rattle.seq_tree.specs.Faults.{or_else, fault_if}
 use Rattle.token_read.specs.Words.{bare}
 use Rattle.token_read.specs.Readers.{is_within}
 use Rattle.token_read.proofs.TokenLaws.{Any, andthen, reads-fixed, reads-number_within, joins-fixed, joins-number_within}
 use Rattle.seq_read.specs.Places.{place_at}
 use Rattle.ada_tree.specs.Programs.{Program}
-use Rattle.arrivals_read.specs.Acceptance.{ArrivalFault, Far, or_else, fault_if}
+use Rattle.arrivals_read.specs.Acceptance.{ArrivalFault, Far}
 use Rattle.arrivals_read.specs.Answers.{IsTextOf, Says, SaysNothing, StopsAt}
 use Rattle.arrivals_read.specs.Arrived.{Arrives}
 use Rattle.arrivals_read.specs.Arriving.{Arrivals, arrivals_of}

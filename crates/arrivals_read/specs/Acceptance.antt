@@ -1,8 +1,9 @@
 -- Which arrivals are accepted for a program: what may be wrong with an item, tried in the order of the file.
 -- A separation is kept by nominal times, which an arrival may be later than by at most the jitter.
-use Rattle.std.specs.Prelude.{◌≡◌, ℕ, ◌+◌, Bool, List, [], ◌∷◌, ◌++◌, map, filter, length, max, not, nat_lt, ◌==◌, Option, Some, None, slice_get, if◌then◌else◌}
+use Rattle.std.specs.Prelude.{◌≡◌, ℕ, ◌+◌, Bool, List, [], ◌∷◌, ◌++◌, map, filter, length, max, not, nat_lt, ◌==◌, Option, Some, None, slice_get}
 use Rattle.std.specs.List.{list_any}
 use Rattle.seq_tree.specs.Operations.{Signature}
+use Rattle.seq_tree.specs.Faults.{or_else, fault_if}
 use Rattle.ada_tree.specs.Programs.{Program, Unit, Form, Passive, Shared, Cyclic, Sporadic, is_task}
 use Rattle.arrivals_read.specs.declared.arrivals.Arrival.{Arrival}
 use Rattle.arrivals_read.specs.Arriving.{Arrivals, Durations}
@@ -19,15 +20,6 @@ pub data ArrivalFault : Type 0 where
   Early : ArrivalFault
   -- a horizon that is too far
   Far : ArrivalFault
-
--- the first fault of several
-abbrev pub or_else : Option ArrivalFault → Option ArrivalFault → Option ArrivalFault
-or_else None later = later
-or_else (Some fault) later = Some fault
-
--- a fault that stands where this is true
-abbrev pub fault_if : Bool → ArrivalFault → Option ArrivalFault
-fault_if stands fault = if stands then Some fault else None
 
 -- whether a duration of nothing is among these
 abbrev pub has_nothing : List ℕ → Bool

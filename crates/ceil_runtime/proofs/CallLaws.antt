@@ -6,10 +6,10 @@ use Rattle.std.proofs.lemmas.Slice.Eq.{bytes_eq-Decides}
 use Rattle.seq_tree.specs.Names.{Name, same_name}
 use Rattle.seq_tree.specs.Lists.{first_from}
 use Rattle.seq_tree.specs.Operations.{Operation}
-use Rattle.seq_tree.specs.Calls.{block_calls}
+use Rattle.seq_tree.specs.Calls.{block_calls, same_op}
 use Rattle.seq_tree.specs.declared.tree.OpName.{OpName}
 use Rattle.ada_tree.specs.Programs.{Unit, Form, Program, Passive, Shared, Cyclic, Sporadic}
-use Rattle.ada_tree.specs.Uses.{LeadsTo, passive_ops, same_op}
+use Rattle.ada_tree.specs.Uses.{LeadsTo, passive_ops}
 use Rattle.machine.specs.Systems.{Library}
 use Rattle.ceil_runtime.specs.Callable.{IsClear, Leads, call_room, calls_by, calls_room, is_in, op_in, op_name, op_of, ops_room}
 use Rattle.ceil_runtime.specs.Threads.{libraries_from}

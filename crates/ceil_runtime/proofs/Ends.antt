@@ -2,12 +2,10 @@
 use Rattle.std.proofs.Common.{◌≡◌, ℕ, Bool, true, false, not, ◌&&◌, ◌||◌, List, [], ◌∷◌, map, refl, ap, sym, ◌∙◌, Some}
 use Rattle.std.specs.Prelude.{slice_get, ◌==◌, if◌then◌else◌}
 use Rattle.std.proofs.lemmas.Slice.Eq.{bytes_eq-Decides}
-use Rattle.seq_tree.specs.Names.{Name, same_name}
-use Rattle.seq_tree.specs.Faults.{is_named}
+use Rattle.seq_tree.specs.Names.{Name, same_name, is_named, are_distinct}
 use Rattle.seq_tree.specs.Variables.{Variables, read, kept}
 use Rattle.seq_tree.specs.declared.tree.Datum.{Datum}
 use Rattle.seq_tree.specs.Lists.{change}
-use Rattle.ada_tree.specs.Naming.{are_distinct}
 use Rattle.trace_text.specs.declared.event.Event.TheVariants as event
 use Rattle.machine.specs.Systems.{System, Periodic}
 use Rattle.machine.specs.Pieces.{Piece}

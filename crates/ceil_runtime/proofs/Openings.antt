@@ -3,12 +3,12 @@ use Rattle.std.proofs.Common.{◌≡◌, ℕ, zero, suc, ◌+◌, ◌-◌, ◌*�
 use Rattle.std.specs.Prelude.{slice_get, filter, filter_map, flat_map, is_some, option_map, ⊤}
 use Rattle.std.specs.List.{list_any, list_all, enumerate_from}
 use Rattle.std.proofs.lemmas.List.Folds.{list_any-append}
-use Rattle.seq_tree.specs.Names.{Name, same_name}
-use Rattle.seq_tree.specs.Lists.{first_from}
+use Rattle.seq_tree.specs.Names.{Name, same_name, is_named, are_distinct}
+use Rattle.seq_tree.specs.Lists.{first_from, Each}
 use Rattle.seq_tree.specs.Statements.{Statement, Statements, Branches, Null, Assign, If, For, ExitWhen, Call, Work, Put, End, Then, Nothing, Else, When}
 use Rattle.seq_tree.specs.Operations.{Operation, Offer, Signature}
-use Rattle.seq_tree.specs.Calls.{statement_calls, block_calls, branch_calls, statement_works, block_works, branch_works}
-use Rattle.seq_tree.specs.Faults.{Scope, BodyFault, Exit, is_named, or_else, fault_if, statement_fault, block_fault, branches_fault, expressions_fault, condition, conditions, within_loop}
+use Rattle.seq_tree.specs.Calls.{statement_calls, block_calls, branch_calls, statement_works, block_works, branch_works, same_op}
+use Rattle.seq_tree.specs.Faults.{Scope, BodyFault, Exit, or_else, fault_if, statement_fault, block_fault, branches_fault, expressions_fault, condition, conditions, within_loop}
 use Rattle.seq_tree.specs.Proper.{IsProperStatement, IsProperBlock, AreProperStatements, IsProperIf, AreProperBranches}
 use Rattle.seq_tree.specs.declared.tree.OpName.{OpName}
 use Rattle.ada_tree.specs.Programs.{Unit, Form, Program, Passive, Shared, Cyclic, Sporadic, is_task}
@@ -18,10 +18,10 @@ use Rattle.machine.specs.Systems.{Library, System, system, object_by, thread_by}
 use Rattle.machine.specs.States.{opening}
 use Rattle.machine.specs.Meanings.{begun}
 use Rattle.ada_tree.specs.Bodies.{Body, bodies, bodies_fault, heads, offers, op_body, scope, unit_fault}
-use Rattle.ada_tree.specs.Naming.{are_distinct, breaks_naming, inner_names, is_there}
+use Rattle.ada_tree.specs.Naming.{breaks_naming, inner_names, is_there}
 use Rattle.ada_tree.specs.Rules.{At, Bodies, Naming, Ranges, Rings, Whole}
-use Rattle.ada_tree.specs.Uses.{LeadsTo, same_op}
-use Rattle.ada_tree.specs.Proper.{Each, IsProperForm, IsProperOperation}
+use Rattle.ada_tree.specs.Uses.{LeadsTo}
+use Rattle.ada_tree.specs.Proper.{IsProperForm, IsProperOperation}
 use Rattle.ada_tree.specs.Ranges.{is_outside, breaks_ranges, whole_breaks, costs_break, numbers_break}
 use Rattle.arrivals_read.specs.Arriving.{Arrivals, durations}
 use Rattle.ceil_runtime.specs.declared.thread.Thread.{Thread}

@@ -2,8 +2,8 @@
 use Rattle.std.proofs.Common.{◌≡◌, ℕ, ◌+◌, ◌<◌, List, [], ◌∷◌, ◌++◌, length, ap, sym, subst, ◌∙◌, arith}
 use Rattle.std.specs.Prelude.{filter_map}
 use Rattle.std.specs.List.{enumerate_from}
+use Rattle.seq_tree.specs.Lists.{Each}
 use Rattle.seq_tree.specs.Names.{Name}
-use Rattle.ada_tree.specs.Proper.{Each}
 use Rattle.ada_tree.specs.Programs.{Unit, Form, Program, Passive, Shared, Cyclic, Sporadic}
 use Rattle.arrivals_read.specs.Arriving.{Arrivals, durations}
 use Rattle.trace_text.specs.declared.event.Event.{Event}

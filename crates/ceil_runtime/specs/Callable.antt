@@ -5,9 +5,8 @@ use Rattle.std.specs.List.{list_any}
 use Rattle.seq_tree.specs.Names.{Name, same_name}
 use Rattle.seq_tree.specs.Lists.{first_where}
 use Rattle.seq_tree.specs.Operations.{Operation}
-use Rattle.seq_tree.specs.Calls.{block_calls}
+use Rattle.seq_tree.specs.Calls.{block_calls, same_op}
 use Rattle.seq_tree.specs.declared.tree.OpName.{OpName}
-use Rattle.ada_tree.specs.Uses.{same_op}
 use Rattle.machine.specs.Systems.{Library, op_named}
 
 -- an operation by its names

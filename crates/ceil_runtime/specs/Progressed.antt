@@ -1,4 +1,5 @@
 -- What a task of the machine has left.
+-- The piece in hand comes first, and behind it those of the frames, the innermost first.
 use Rattle.std.specs.Prelude.{List}
 use Rattle.seq_tree.specs.Variables.{Variables}
 use Rattle.machine.specs.Pieces.{Piece}

@@ -1,12 +1,11 @@
 -- What a task of the machine is written as, and what is known of it and of the operations that it may call.
 -- It is cyclic; no durations are handed to it so far.
 use Rattle.std.specs.Prelude.{◌≡◌, ℕ, ◌+◌, ◌≤◌, ◌<◌, true, false, [], ◌∷◌, List, map, length, Some}
-use Rattle.seq_tree.specs.Names.{Name}
+use Rattle.seq_tree.specs.Names.{Name, are_distinct}
 use Rattle.seq_tree.specs.Statements.{Statements}
 use Rattle.seq_tree.specs.Operations.{Operation}
 use Rattle.seq_tree.specs.Trees.{statement_of, statements_of}
 use Rattle.seq_tree.specs.declared.tree.OpName.{OpName}
-use Rattle.ada_tree.specs.Naming.{are_distinct}
 use Rattle.ada_tree.specs.Programs.{Unit, Cyclic}
 use Rattle.ada_tree.specs.Trees.{unit_of}
 use Rattle.machine.specs.Systems as systems

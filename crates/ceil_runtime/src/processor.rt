@@ -83,7 +83,7 @@ impl<'a> Machine<'a> {
     ghost use Rattle.ada_tree.specs.Trees.{program_of};
     ghost use Rattle.arrivals_read.specs.Arriving.{arrivals_of};
     ghost use Rattle.machine.specs.States as states;
-    ghost use Rattle.ada_tree.specs.Proper.{Each};
+    ghost use Rattle.seq_tree.specs.Lists.{Each};
     ghost use Rattle.ceil_runtime.specs.Replayable.{IsReplayable};
     ghost use Rattle.ceil_runtime.specs.Shown.{running_of};
     ghost use Rattle.ceil_runtime.specs.Left.{left};

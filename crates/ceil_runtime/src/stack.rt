@@ -4,7 +4,7 @@ ghost use Rattle.seq_tree.specs.Variables.{written};
 ghost use Rattle.machine.specs.Pieces.{Finishing, Piece as DonePiece, after_loop, pieces};
 ghost use Rattle.std.specs.Prelude.{List};
 ghost use Rattle.std.specs.Coded.{Coded-set, coded_bool};
-ghost use Rattle.ada_tree.specs.Naming.{are_distinct};
+ghost use Rattle.seq_tree.specs.Names.{are_distinct};
 ghost use Rattle.ceil_runtime.specs.Stacked.{vars_of};
 ghost use Rattle.ceil_runtime.specs.Progresses.{began, behind, kept, nothing_kept, put_away, started};
 ghost use Rattle.ceil_runtime.specs.Fitting.{Fit, FitSomewhere, FitsBlock, FitsFrame, FitsList, FitsPiece, IsOfStatement, IsPushed, Pops, Spot, above, names_of, place_of};

@@ -1,4 +1,5 @@
 -- Readers over lists of tokens, and what makes a reader right for a grammar.
+-- A reader takes the longest front that is a text of its grammar, or stops at the first token with which no text goes on.
 use Rattle.std.specs.Prelude.{◌≡◌, ℕ, zero, suc, ◌<◌, ◌≤◌, Bool, false, List, [], ◌∷◌, ◌++◌, length, Option, Some, None, Result, Ok, Err, if◌then◌else◌}
 
 -- Why a reader stopped, and how many tokens were left there.

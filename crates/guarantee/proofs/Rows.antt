@@ -1,5 +1,5 @@
 -- Worked examples: a started thread's trace is allowed, and the same trace with one tick more at an end isn't.
-use Rattle.std.specs.Prelude.{Option, suc, pos, option_map, slice_get, ◌≡◌, ℕ, ◌+◌, ◌≤◌, false, List, [], ◌∷◌, ◌++◌, map, drop, Some, None, codes, refl}
+use Rattle.std.specs.Prelude.{Option, ◌≡◌, ℕ, ◌+◌, ◌≤◌, false, List, [], ◌∷◌, ◌++◌, map, drop, Some, None, codes, refl}
 use Rattle.std.proofs.Common.{lit≤, lit<, inl, inr, ap, ◌∙◌, arith}
 use Rattle.seq_tree.specs.Names.{Name}
 use Rattle.seq_tree.specs.Expressions.{Number}

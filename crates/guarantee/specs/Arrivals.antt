@@ -2,9 +2,9 @@
 -- Release jitter is that of Tindell, Burns and Wellings 1994.
 use Rattle.std.specs.Prelude.{◌≡◌, ℕ, ◌+◌, ◌≤◌, true, List, [], ◌∷◌, map, filter, find, max, Option, Some, None, ⊤}
 use Rattle.std.specs.List.{list_any}
+use Rattle.seq_tree.specs.Lists.{Each}
 use Rattle.seq_tree.specs.Names.{Name, same_name}
 use Rattle.seq_tree.specs.declared.tree.Param.{Param}
-use Rattle.ods_tree.specs.Proper.{Each}
 use Rattle.ods_tree.specs.Designs.{Design}
 use Rattle.ods_tree.specs.Flats.{Timing, Cyclic, Sporadic}
 use Rattle.ada_tree.specs.Programs.{Program}

@@ -2,11 +2,11 @@
 -- It joins immediate ceilings (Sha, Rajkumar and Lehoczky 1990; ISO/IEC 8652:2012, D.3) with the response equations (Audsley et al. 1993).
 use Rattle.std.specs.Prelude.{◌≡◌, ℕ, ◌+◌, ◌≤◌, ◌<◌, true, false, Bool, List, [], ◌∷◌, map, zip, filter_map, find, Option, Some, None, slice_get, option_map, unwrap_or, ⊤}
 use Rattle.std.specs.List.{list_any, AllZip}
+use Rattle.seq_tree.specs.Lists.{Each}
 use Rattle.seq_tree.specs.Names.{Name, same_name}
 use Rattle.seq_tree.specs.Operations.{Signature}
 use Rattle.seq_tree.specs.Calls.{block_calls}
 use Rattle.seq_tree.specs.Dearest.{starts}
-use Rattle.ods_tree.specs.Proper.{Each}
 use Rattle.ods_tree.specs.Flats.{Timing, Cyclic, Sporadic, period_of}
 use Rattle.ods_tree.specs.Services.{Service, Sort, Plain, Protected, Request, service_named}
 use Rattle.ada_tree.specs.Programs.{Form, Program}

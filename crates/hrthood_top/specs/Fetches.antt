@@ -1,4 +1,5 @@
 -- What the fetch of one file says of the shelf.
+-- Where the shelf tells its files, what is read is the file; each fetch is in its log, but where memory was wanted.
 use Rattle.std.specs.Prelude.{◌≡◌, ℕ, ◌≤◌, List, [], ◌∷◌, length, Option, Result, Ok, Err, IfSome}
 use Rattle.hood_io.specs.Causes.{Rose}
 use Rattle.hood_io.specs.Shelves.{Told}

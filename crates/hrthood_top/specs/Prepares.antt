@@ -1,4 +1,5 @@
 -- The text that a command is to write, or why there is none, before anything is written.
+-- Each cause is that of the definitions; want of memory says nothing.
 use Rattle.std.specs.Prelude.{◌≡◌, ℕ, List, ◌∷◌, [], ◌++◌, take, Option, Result, Ok, Err, IfSome, ⊤}
 use Rattle.ods_rules.specs.Told.{told_of}
 use Rattle.bridge.specs.Delivers.{IsTextFor, BreaksRule, HasNoBounds, HasLongText}

@@ -1,4 +1,5 @@
 -- What standard error is told: a line, or where its faults rose a proper front of it.
+-- A sink that tells nothing has None before and after, and then only the count of faults is said.
 use Rattle.std.specs.Prelude.{ℕ, ◌<◌, List, length, take, Option, ◌⊎◌}
 use Rattle.hood_io.specs.Causes.{Rose}
 use Rattle.hood_io.specs.Sinks.{Appends}

@@ -1,4 +1,5 @@
 -- What is written of a text, and what is told where there is none.
+-- A status that comes from neither is none of these.
 use Rattle.std.specs.Prelude.{◌≡◌, ℕ, ◌<◌, List, length, take, Option}
 use Rattle.hood_io.specs.Causes.{Rose}
 use Rattle.hood_io.specs.Sinks.{Appends}

@@ -1,5 +1,5 @@
 ghost use Rattle.std.specs.Prelude.{◌≡◌, ◌++◌, IfOk, OnOk};
-ghost use Rattle.ada_tree.specs.Proper.{Each};
+ghost use Rattle.seq_tree.specs.Lists.{Each};
 ghost use Rattle.ada_tree.specs.Trees.{program_of};
 ghost use Rattle.arrivals_read.specs.Arriving.{arrivals_of};
 ghost use Rattle.trace_text.specs.Lines.{lines};

@@ -4,12 +4,13 @@ use Rattle.std.specs.Prelude.{◌≡◌, ℕ, ◌≤◌, Bool, true, false, not,
 use Rattle.std.specs.List.{list_any, list_all, cons_option}
 use Rattle.std.proofs.Common.{sym, ◌∙◌, ap, subst, arith, append-nil}
 use Rattle.std.proofs.lemmas.Bool.{and_parts, or_parts}
+use Rattle.seq_tree.specs.Lists.{Each}
 use Rattle.seq_tree.specs.Names.{Name, same_name}
 use Rattle.seq_tree.specs.Statements.{Statements}
 use Rattle.seq_tree.specs.Proper.{Limits, IsProperBlock, AreProperStatements, within_limits}
 use Rattle.seq_tree.specs.Calls.{block_works}
 use Rattle.seq_tree.specs.declared.tree.Costs.{Costs}
-use Rattle.ods_tree.specs.Proper.{Each, IsProperDesign}
+use Rattle.ods_tree.specs.Proper.{IsProperDesign}
 use Rattle.ods_tree.specs.Words.{is_design_name}
 use Rattle.ods_tree.specs.Designs.{Object, Design}
 use Rattle.ods_tree.specs.InUse.{IsUsableBlock, cyclic_object, cyclic_design}

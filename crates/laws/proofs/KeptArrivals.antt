@@ -3,14 +3,15 @@
 use Rattle.std.specs.Prelude.{◌≡◌, ℕ, zero, suc, ◌≤◌, Bool, true, false, ◌||◌, ◌==◌, List, [], ◌∷◌, map, nat_lt, slice_get, Option, Some, None, refl}
 use Rattle.std.proofs.Common.{sym, ap, subst, arith}
 use Rattle.std.proofs.lemmas.Bool.{or_parts}
+use Rattle.seq_tree.specs.Lists.{Each}
 use Rattle.seq_tree.specs.Names.{Name, same_name}
 use Rattle.seq_tree.specs.Statements.{Statements}
 use Rattle.seq_tree.specs.declared.tree.Costs.{Costs}
-use Rattle.ods_tree.specs.Proper.{Each}
+use Rattle.seq_tree.specs.Faults.{or_else, fault_if}
 use Rattle.ada_tree.specs.Programs.{Program}
 use Rattle.arrivals_read.specs.Arriving as places
 use Rattle.arrivals_read.specs.declared.arrivals.Arrival as entry
-use Rattle.arrivals_read.specs.Acceptance.{ArrivalFault, Far, Unfit, or_else, fault_if, has_nothing, durations_fault, works_fault, request_fault_at, requests_fault, IsAccepted}
+use Rattle.arrivals_read.specs.Acceptance.{ArrivalFault, Far, Unfit, has_nothing, durations_fault, works_fault, request_fault_at, requests_fault, IsAccepted}
 use Rattle.trace_text.specs.Lines.{unit_name}
 use Rattle.guarantee.specs.Software.{program_software}
 use Rattle.guarantee.specs.Arrivals.{AreKept, AreDurations, DontFall, IsExternal, named_arrivals}

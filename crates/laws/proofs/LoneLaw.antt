@@ -2,10 +2,10 @@
 -- texts say, and each activation ends within the cost of the block, where that is within the period.
 use Rattle.std.specs.Prelude.{◌≡◌, ℕ, ◌≤◌, Bool, true, false, ◌||◌, ◌==◌, List, [], ◌∷◌, ◌++◌, map, filter, flat_map, nat_le, Option, Some, None, refl, if◌then◌else◌}
 use Rattle.std.proofs.Common.{sym, ◌∙◌, ap, subst, arith}
+use Rattle.seq_tree.specs.Lists.{Each}
 use Rattle.seq_tree.specs.Names.{Name, same_name}
 use Rattle.seq_tree.specs.Statements.{Statements}
 use Rattle.seq_tree.specs.declared.tree.Costs.{Costs}
-use Rattle.ods_tree.specs.Proper.{Each}
 use Rattle.ada_tree.specs.Programs.{Unit, Program, Cyclic}
 use Rattle.arrivals_read.specs.Arriving as places
 use Rattle.arrivals_read.specs.declared.arrivals.Arrival as place

@@ -2,10 +2,10 @@
 -- after as many ticks as the activation takes, up to the horizon.
 use Rattle.std.specs.Prelude.{◌≡◌, ◌⊎◌, ℕ, zero, suc, ◌+◌, ◌≤◌, ◌<◌, Bool, true, false, List, [], ◌∷◌, nat_le, ◌==◌, Option, Some, None, slice_get, ℤ, pos, ◌+ℤ◌, refl}
 use Rattle.std.proofs.Common.{sym, ◌∙◌, ap, subst, arith, inl, inr}
+use Rattle.seq_tree.specs.Lists.{Each}
 use Rattle.seq_tree.specs.Statements.{Statements, Null, Work, End, Then}
 use Rattle.seq_tree.specs.Calls.{block_works}
 use Rattle.ods_tree.specs.InUse.{IsUsableBlock}
-use Rattle.ods_tree.specs.Proper.{Each}
 use Rattle.trace_text.specs.declared.event.Event.{Event}
 use Rattle.trace_text.specs.declared.event.Event.TheVariants as event
 use Rattle.machine.specs.Pieces.{Piece, Idle, Working, Finishing, work_ticks}

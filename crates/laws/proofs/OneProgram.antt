@@ -1,6 +1,6 @@
 -- A text is accepted as one program of what is read.
 -- The reader of programs finds the program of each text; so two programs of one text are what it finds.
-use Rattle.std.specs.Prelude.{◌≡◌, ℕ, true, List, [], ◌∷◌, ◌++◌, Ok, refl}
+use Rattle.std.specs.Prelude.{◌≡◌, ℕ, List, [], ◌∷◌, ◌++◌, Ok, refl}
 use Rattle.std.proofs.Common.{sym, ◌∙◌, ap}
 use Rattle.seq_tree.specs.declared.token.Token.{Token}
 use Rattle.ada_tree.specs.Programs.{Form, Unit, Program, Passive, Shared, Cyclic, Sporadic}

@@ -2,6 +2,7 @@
 -- The way tells nothing to others; its fewest ticks count a tick for each `work`, its most ticks the number of each.
 use Rattle.std.specs.Prelude.{◌≡◌, ℕ, ◌+◌, ◌≤◌, false, [], refl}
 use Rattle.std.proofs.Common.{ap}
+use Rattle.seq_tree.specs.Lists.{Each}
 use Rattle.seq_tree.specs.Names.{Name}
 use Rattle.seq_tree.specs.Statements.{Statements, Null, Assign, If, For, ExitWhen, Call, Work, Put, End, Then}
 use Rattle.seq_tree.specs.Runs.{Path, Setting, silent, joined, RunBlock}
@@ -9,7 +10,6 @@ use Rattle.seq_tree.specs.Calls.{block_works}
 use Rattle.seq_tree.specs.Dearest.{cost}
 use Rattle.seq_tree.specs.declared.tree.Costs.{Costs}
 use Rattle.seq_tree.specs.declared.tree.OpName.{OpName}
-use Rattle.ods_tree.specs.Proper.{Each}
 use Rattle.ods_tree.specs.InUse.{IsUsableBlock}
 use Rattle.ods_tree.specs.Links.{renamed}
 

@@ -1,6 +1,7 @@
 -- The readers of attributes read their grammar.
 use Rattle.std.proofs.Common.{◌≡◌, ◌<◌, Bool, true, false, cond, List, [], ◌∷◌, ◌++◌, flat_map, length, Option, Some, None, codes, refl, sym, ap, subst, ◌∙◌, arith, inl, inr, ◌⊎◌}
 use Rattle.std.proofs.lemmas.Slice.Eq.{bytes_eq-Decides}
+use Rattle.seq_tree.specs.Lists.{Each}
 use Rattle.grammar.specs.Reading.{Read, first, then_at, pure_at, token_at, many_at, Reads, Joined, AreMany}
 use Rattle.grammar.proofs.Laws.{reads-token, IsToken, reads-same, reads-then, reads-pure, reads-choose, reads-map}
 use Rattle.grammar.proofs.Many.{reads-items}
@@ -9,7 +10,6 @@ use Rattle.seq_tree.specs.declared.token.Token.{Token}
 use Rattle.seq_tree.specs.declared.token.Token.TheVariants.{Word, Number, Sign}
 use Rattle.seq_tree.specs.declared.token.Mark.TheVariants.{Equal, Semicolon}
 use Rattle.ods_tree.specs.Spelling.{part_token, attribute_part}
-use Rattle.ods_tree.specs.Proper.{Each}
 use Rattle.ods_tree.specs.InUse.{IsUsableKey}
 use Rattle.ods_tree.specs.declared.design.Attr.{Attr}
 use Rattle.ods_tree.specs.declared.design.AttrKey.{AttrKey}

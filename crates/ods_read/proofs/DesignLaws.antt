@@ -1,6 +1,7 @@
 -- The reader of designs reads exactly the texts of the designs that are built.
 use Rattle.std.proofs.Common.{◌≡◌, ℕ, true, List, [], ◌∷◌, ◌++◌, map, flat_map, codes, refl, sym, ap, subst, append_assoc}
 use Rattle.std.proofs.lemmas.Grind.{flat_map-append}
+use Rattle.seq_tree.specs.Lists.{Each}
 use Rattle.grammar.specs.Reading.{Read, then_at, Reads, Joined}
 use Rattle.grammar.proofs.Laws.{reads-same, reads-then, reads-pure}
 use Rattle.seq_tree.specs.Names.{Name}
@@ -13,7 +14,6 @@ use Rattle.seq_tree.specs.declared.token.Mark.TheVariants.{Equal, Semicolon}
 use Rattle.ods_tree.specs.Designs.{Design}
 use Rattle.ods_tree.specs.Words.{is_design_name}
 use Rattle.ods_tree.specs.Spelling.{Plain, DesignLine, part_token, attribute_line, block_parts, design_tokens}
-use Rattle.ods_tree.specs.Proper.{Each}
 use Rattle.ods_tree.specs.InUse.{IsUsableBlock, cyclic_design}
 use Rattle.ods_tree.specs.declared.design.Attr.{Attr}
 use Rattle.token_read.specs.Readers.{name_at}

@@ -1,11 +1,11 @@
 -- The part of the designs that is built so far: one cyclic object without children, data and operations, whose thread has `null;`
 -- and `work (n);` alone. Each part that is built widens it, and with the last one it falls away.
 use Rattle.std.specs.Prelude.{◌≡◌, List, [], Some, ⊤}
+use Rattle.seq_tree.specs.Lists.{Each}
 use Rattle.seq_tree.specs.Names.{Name}
 use Rattle.seq_tree.specs.Statements.{Statements, Null, Work, End, Then}
 use Rattle.seq_tree.specs.declared.tree.Costs.{Costs}
 use Rattle.ods_tree.specs.Designs.{Object, Node, Empty, Design}
-use Rattle.ods_tree.specs.Proper.{Each}
 use Rattle.ods_tree.specs.declared.design.Kind.TheVariants.{Cyclic}
 use Rattle.ods_tree.specs.declared.design.Attr.{Attr}
 use Rattle.ods_tree.specs.declared.design.AttrKey.{AttrKey}

@@ -2,8 +2,7 @@
 use Rattle.std.proofs.Common.{◌≡◌, Bool, true, false, not, ◌&&◌, ◌||◌, List, [], ◌∷◌, map, cond, Option, Some, None, refl, ap, subst}
 use Rattle.std.specs.Prelude.{filter, find, option_map}
 use Rattle.std.proofs.lemmas.Slice.Eq.{bytes_eq-Decides}
-use Rattle.seq_tree.specs.Names.{Name, same_name}
-use Rattle.seq_tree.specs.Faults.{is_named}
+use Rattle.seq_tree.specs.Names.{Name, same_name, is_named}
 
 -- a name other than the loop's is none that is the loop's
 apart : (loop name n : Name) → same_name n loop ≡ false → same_name loop name ≡ true → same_name n name ≡ false

@@ -1,4 +1,5 @@
 -- What an answer says of the first fault of a body.
+-- The faults of the program and of the definitions are the same seven; want of memory is the program's alone.
 use Rattle.std.specs.Prelude.{◌≡◌, Bool, Option, Some, None, Result, Ok, Err, IfSome}
 use Rattle.seq_tree.specs.Faults as faults
 use Rattle.seq_check.specs.declared.fault.BodyFault.{BodyFault}

@@ -1,4 +1,5 @@
 -- The levels of operators in the program and in the definitions.
+-- A sum and a product are apart in the grammar and one in what may stand beside a relation.
 use Rattle.seq_tree.specs.Levels as levels
 use Rattle.seq_check.specs.declared.sorts.Level.{Level}
 use Rattle.seq_check.specs.declared.sorts.Level.TheVariants.{Logical, Relational, Arithmetic}

@@ -1,4 +1,5 @@
 -- The scope of the definitions at a place in a body.
+-- Inside a loop its name can be read and not assigned, and the body may be left.
 use Rattle.seq_tree.specs.Faults.{within_loop}
 use Rattle.seq_tree.specs.Faults as faults
 use Rattle.seq_check.specs.Scopes.{scope_of}

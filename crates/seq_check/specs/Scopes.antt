@@ -1,4 +1,5 @@
 -- The scope of the definitions that a scope of the program stands for, outside all loops.
+-- Names that can be read or assigned and what can be called are the same on both sides.
 use Rattle.std.specs.Prelude.{false, map}
 use Rattle.seq_tree.specs.Faults as faults
 use Rattle.seq_tree.specs.Trees.{offer_of}

@@ -1,7 +1,6 @@
 ghost use Rattle.std.specs.Prelude.{◌≡◌, ◌&&◌, option_map};
-ghost use Rattle.seq_tree.specs.Faults.{is_named};
 ghost use Rattle.seq_tree.specs.Faults as faults;
-ghost use Rattle.seq_tree.specs.Names.{same_name};
+ghost use Rattle.seq_tree.specs.Names.{same_name, is_named};
 ghost use Rattle.seq_tree.specs.Trees.{offer_of};
 ghost use Rattle.seq_check.specs.Places.{place_of};
 

@@ -1,4 +1,5 @@
 -- Lookups: what is found under a name.
+-- Names are those of the lexical grammar; the first variable of a name hides later ones.
 use Rattle.std.specs.Prelude.{ℕ, Bool, find, Option, option_map}
 use Rattle.seq_tree.specs.Names.{Name, same_name}
 use Rattle.seq_tree.specs.Variables.{Variables}

@@ -1,8 +1,7 @@
 -- The reader of blocks reads the proper blocks within its limits.
-use Rattle.std.proofs.Common.{◌≡◌, ℕ, zero, suc, ◌+◌, ◌<◌, ◌≤◌, nat_le, Bool, true, false, cond, List, [], ◌∷◌, ◌++◌, length, codes, Option, Some, None, ◌⊎◌, inl, inr, refl, sym, ap, subst, ◌∙◌, arith, append_assoc, length-append}
-use Rattle.std.specs.Prelude.{⊤}
+use Rattle.std.proofs.Common.{◌≡◌, ℕ, zero, suc, ◌+◌, ◌<◌, nat_le, Bool, true, false, cond, List, [], ◌∷◌, ◌++◌, length, codes, Option, Some, ◌⊎◌, inl, inr, refl, sym, ap, subst, ◌∙◌, arith, length-append}
 use Rattle.std.proofs.lemmas.Bool.{le-leb, lt-leb}
-use Rattle.grammar.specs.Reading.{Read, first, then_at, pure_at, pick_at, many_at, deep_at, Reads, Joined, AreMany}
+use Rattle.grammar.specs.Reading.{first, then_at, pure_at, pick_at, many_at, deep_at, Reads, Joined, AreMany}
 use Rattle.grammar.proofs.Laws.{reads-same, reads-map}
 use Rattle.grammar.proofs.Picks.{reads-pick, AtLimit}
 use Rattle.grammar.proofs.From.{Last}
@@ -16,7 +15,6 @@ use Rattle.seq_tree.specs.Proper.{Limits, IsProperExpression, AreProperActuals, 
 use Rattle.seq_tree.specs.declared.token.Token.{Token}
 use Rattle.seq_tree.specs.declared.token.Token.TheVariants as token
 use Rattle.seq_tree.specs.declared.token.Mark.TheVariants.{Semicolon, Dot, Becomes}
-use Rattle.token_read.specs.Readers.{next_is}
 use Rattle.token_read.proofs.TokenLaws.{Any, andthen}
 use Rattle.seq_read.specs.declared.statements.Kind.{Kind}
 use Rattle.seq_read.specs.declared.statements.Kind.TheVariants as kind

@@ -1,11 +1,11 @@
 -- Trees without limits keep some limits, and trees that keep limits are trees without them.
-use Rattle.std.proofs.Common.{◌≡◌, ℕ, suc, ◌+◌, ◌<◌, ◌≤◌, nat_le, Bool, true, false, cond, List, [], ◌∷◌, refl, sym, ap, arith}
+use Rattle.std.proofs.Common.{ℕ, suc, ◌+◌, ◌≤◌, Bool, true, false, cond, List, [], ◌∷◌, refl, arith}
 use Rattle.std.proofs.lemmas.Bool.{le-leb}
 use Rattle.seq_tree.specs.Names.{Name}
 use Rattle.seq_tree.specs.Expressions.{Expression, Number, Variable, Paren, Not, Binary}
 use Rattle.seq_tree.specs.Statements.{Statement, Statements, Branches, Null, Assign, If, For, ExitWhen, Call, Work, Put, End, Then, Nothing, Else, When}
 use Rattle.seq_tree.specs.Levels.{chain, chains_with}
-use Rattle.seq_tree.specs.Proper.{Limits, IsProperExpression, AreProperActuals, IsProperStatement, IsProperBlock, AreProperStatements, IsProperIf, AreProperBranches, without_limits}
+use Rattle.seq_tree.specs.Proper.{Limits, IsProperExpression, AreProperActuals, IsProperStatement, IsProperBlock, AreProperStatements, AreProperBranches, without_limits}
 use Rattle.seq_read.proofs.ChainLevels.{bounds}
 
 -- how far a tree nests and chains, at most

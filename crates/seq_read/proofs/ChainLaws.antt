@@ -1,17 +1,17 @@
 -- A chain of operators of one class is read, and grouped to the left.
-use Rattle.std.proofs.Common.{◌≡◌, ℕ, zero, suc, ◌+◌, ◌<◌, ◌≤◌, Bool, true, false, cond, List, [], ◌∷◌, ◌++◌, length, Option, Some, None, is_some, ◌⊎◌, inl, inr, refl, sym, ap, subst, ◌∙◌, arith, append_assoc, append-nil, length-append}
+use Rattle.std.proofs.Common.{◌≡◌, ℕ, zero, suc, ◌+◌, ◌<◌, true, false, List, [], ◌∷◌, ◌++◌, length, Option, Some, ◌⊎◌, inl, inr, refl, sym, ap, subst, ◌∙◌, arith, append_assoc, append-nil, length-append}
 use Rattle.std.specs.Prelude.{⊤}
-use Rattle.grammar.specs.Reading.{Read, first, then_at, pure_at, choose_at, deep_at, token_at, Reads, Joined}
-use Rattle.grammar.proofs.Laws.{reads-token, IsToken, IsOnly, reads-pure, reads-same, reads-then}
+use Rattle.grammar.specs.Reading.{first, pure_at, token_at, Reads, Joined}
+use Rattle.grammar.proofs.Laws.{reads-token, IsToken, IsOnly, reads-pure, reads-then}
 use Rattle.grammar.proofs.Ends.{reads-branch, reads-limit, reads-joint}
 use Rattle.seq_tree.specs.Expressions.{Expression, Binary}
 use Rattle.seq_tree.specs.Spelling.{expression_tokens, op_token}
 use Rattle.seq_tree.specs.declared.tree.BinOp.{BinOp}
 use Rattle.seq_tree.specs.declared.token.Token.{Token}
 use Rattle.seq_read.specs.declared.operators.Class.{Class}
-use Rattle.seq_read.specs.Operators.{sees_operator, next_operator, begins}
+use Rattle.seq_read.specs.Operators.{sees_operator, begins}
 use Rattle.seq_read.specs.Expressions.{ExpressionReader, chain_at}
-use Rattle.seq_read.proofs.OperatorLaws.{class_of, IsSeen, sees, seen}
+use Rattle.seq_read.proofs.OperatorLaws.{class_of, sees, seen}
 
 -- the right side of an expression
 abbrev pub right_of : Expression → Expression

@@ -1,14 +1,14 @@
 -- What a chain of one class reads is a level of expressions: its trees, grouped to the left.
-use Rattle.std.proofs.Common.{◌≡◌, ℕ, zero, suc, ◌+◌, ◌<◌, ◌≤◌, nat_le, Bool, true, false, cond, List, [], ◌∷◌, ◌++◌, length, Option, Some, None, ◌⊎◌, inl, inr, refl, sym, ap, subst, ◌∙◌, arith, append_assoc, append-nil}
-use Rattle.std.specs.Prelude.{⊤, if◌then◌else◌}
+use Rattle.std.proofs.Common.{◌≡◌, ℕ, zero, suc, ◌+◌, ◌≤◌, nat_le, Bool, true, false, cond, List, [], ◌∷◌, ◌++◌, length, Option, Some, ◌⊎◌, inl, inr, refl, sym, ap, subst, ◌∙◌, arith, append_assoc, append-nil}
+use Rattle.std.specs.Prelude.{if◌then◌else◌}
 use Rattle.std.proofs.lemmas.Bool.{leb-true, leb-false, le-leb}
 use Rattle.grammar.specs.Reading.{first, then_at, Reads, Joined}
-use Rattle.grammar.proofs.Laws.{IsToken, IsOnly, reads-same}
+use Rattle.grammar.proofs.Laws.{IsToken, reads-same}
 use Rattle.grammar.proofs.Ends.{reads-joint}
 use Rattle.seq_tree.specs.Names.{Name}
 use Rattle.seq_tree.specs.Expressions.{Expression, Number, Variable, Paren, Not, Binary}
 use Rattle.seq_tree.specs.Spelling.{expression_tokens, op_token}
-use Rattle.seq_tree.specs.Levels.{level_of, tightness_of, tightness, share_chain, chains_with, chain, IsLeft, IsRight}
+use Rattle.seq_tree.specs.Levels.{level_of, tightness_of, tightness, chains_with, chain, IsLeft}
 use Rattle.seq_tree.specs.Proper.{Limits, IsProperExpression}
 use Rattle.seq_tree.specs.declared.tree.BinOp.{BinOp}
 use Rattle.seq_tree.specs.declared.token.Token.{Token}

@@ -1,32 +1,32 @@
 -- The reader of expressions reads the levelled expressions within its limits.
-use Rattle.std.proofs.Common.{◌≡◌, ℕ, zero, suc, ◌+◌, ◌<◌, ◌≤◌, nat_le, Bool, true, false, cond, List, [], ◌∷◌, ◌++◌, length, codes, Option, Some, None, is_some, ◌⊎◌, inl, inr, refl, sym, ap, subst, ◌∙◌, arith, append_assoc, append-nil, length-append}
-use Rattle.std.specs.Prelude.{⊤, if◌then◌else◌}
+use Rattle.std.proofs.Common.{◌≡◌, ℕ, zero, suc, ◌+◌, ◌<◌, ◌≤◌, nat_le, Bool, true, false, List, [], ◌∷◌, ◌++◌, length, codes, Option, Some, ◌⊎◌, inl, inr, refl, sym, ap, subst, ◌∙◌, arith, append-nil, length-append}
+use Rattle.std.specs.Prelude.{⊤}
 use Rattle.std.proofs.lemmas.Bool.{leb-true, leb-false, le-leb, lt-leb}
-use Rattle.grammar.specs.Reading.{first, then_at, pure_at, choose_at, pick_at, token_at, deep_at, Reads, Joined}
+use Rattle.grammar.specs.Reading.{first, then_at, pure_at, choose_at, token_at, deep_at, Reads, Joined}
 use Rattle.grammar.proofs.Laws.{IsToken, IsOnly, reads-token, reads-pure, reads-same, reads-then, reads-choose, reads-map}
 use Rattle.grammar.proofs.Ends.{reads-branch, reads-limit, reads-joint}
 use Rattle.grammar.proofs.Picks.{reads-pick}
 use Rattle.seq_tree.specs.Names.{Name}
 use Rattle.seq_tree.specs.Expressions.{Expression, Number, Variable, Paren, Not, Binary}
 use Rattle.seq_tree.specs.Spelling.{expression_tokens, op_token}
-use Rattle.seq_tree.specs.Levels.{level_of, tightness_of, tightness, share_chain, chains_with, chain, IsLeft, IsRight}
-use Rattle.seq_tree.specs.Proper.{Limits, IsProperExpression}
+use Rattle.seq_tree.specs.Levels.{level_of, tightness_of, tightness, chain}
+use Rattle.seq_tree.specs.Proper.{IsProperExpression}
 use Rattle.seq_tree.specs.declared.tree.BinOp.{BinOp}
 use Rattle.seq_tree.specs.declared.tree.BinOp.TheVariants as op
 use Rattle.seq_tree.specs.declared.token.Token.{Token}
 use Rattle.seq_tree.specs.declared.token.Token.TheVariants as token
 use Rattle.seq_tree.specs.declared.token.Mark.TheVariants.{LeftParen, RightParen}
 use Rattle.token_read.specs.Words.{same_token}
-use Rattle.token_read.specs.Readers.{fixed_at, number_at, name_at, next_is, next_is_number}
-use Rattle.token_read.proofs.TokenLaws.{Any, andthen, same_is, same_self, IsFixed, reads-fixed, reads-number, reads-name, joins-fixed, joins-name, IsName, IsNumber}
+use Rattle.token_read.specs.Readers.{next_is, next_is_number}
+use Rattle.token_read.proofs.TokenLaws.{Any, andthen, same_is, reads-fixed, reads-number, reads-name, joins-fixed}
 use Rattle.seq_read.specs.declared.operators.Class.{Class}
 use Rattle.seq_read.specs.declared.operators.Class.TheVariants as class
-use Rattle.seq_read.specs.Operators.{sees_operator, next_operator, begins, logical_class}
+use Rattle.seq_read.specs.Operators.{sees_operator, begins, logical_class}
 use Rattle.seq_read.specs.Expressions.{ExpressionReader, paren_at, literal_at, variable_at, primary_at, inverse_at, factor_at, chain_at, term_at, simple_at, comparison_at, relation_at, logic_at, whole_expression_at, expression_at}
-use Rattle.seq_read.proofs.OperatorLaws.{class_of, rank, ranked, seen, sees, same_class, same_class_is, shares_as, chains, tighter_none, logical, picks, picked, NoneLogical, none_picked, none_any, no_relational, rank_low, is_relational_class, relational_rank, relational_class, begins_by, rank_logical, self_logical, rank_tight}
+use Rattle.seq_read.proofs.OperatorLaws.{class_of, rank, ranked, seen, sees, same_class_is, chains, tighter_none, logical, picks, picked, NoneLogical, none_picked, none_any, rank_low, is_relational_class, relational_rank, relational_class, begins_by, rank_logical, self_logical, rank_tight}
 use Rattle.seq_read.proofs.ChainLaws.{right_of, Longer, ExtendsBy, StopsBy, Begun, reads-chain}
 use Rattle.seq_read.proofs.Stopping.{is_relational, is_logical, top_class, StopsTerm, StopsSimple, StopsRelation, StopsAs, StopsWhole, NoOperator, stops_whole}
-use Rattle.seq_read.proofs.ChainLevels.{bounds, IsAt, in_class, Belongs, last_of, IsChain, StopsChain, reads-level, begun_on, steps_in, chain_to, chain_back, belongs_by, belongs_at, only_multiplying, only_adding, relational_alone}
+use Rattle.seq_read.proofs.ChainLevels.{bounds, IsAt, in_class, Belongs, reads-level, begun_on, steps_in, chain_to, chain_back, belongs_by, belongs_at, only_multiplying, only_adding, relational_alone}
 
 -- a token of another kind, or another word
 abbrev pub Words : (Name → Bool) → Type 0

@@ -1,6 +1,6 @@
 -- Readers of expressions with limits, against those with wider ones.
-use Rattle.std.proofs.Common.{◌≡◌, ℕ, zero, suc, ◌-◌, ◌<◌, ◌≤◌, Bool, true, false, cond, List, [], ◌∷◌, length, codes, Option, Some, None, is_some, Ok, refl, sym, ap, subst, ◌∙◌, arith}
-use Rattle.grammar.specs.Reading.{Read, first, then_at, pure_at, choose_at, token_at, taken, deep_at, GoesOn, Widens}
+use Rattle.std.proofs.Common.{◌≡◌, ℕ, zero, suc, ◌<◌, ◌≤◌, Bool, true, false, List, [], ◌∷◌, length, codes, Option, Some, None, is_some, Ok, refl, arith}
+use Rattle.grammar.specs.Reading.{first, then_at, pure_at, choose_at, token_at, deep_at, GoesOn, Widens}
 use Rattle.grammar.proofs.Widening.{widens-fewer, widens-token, widens-pure, widens-then, widens-behind, goes-behind, widens-pick, widens-choose, widens-deep, past_at, widens-past}
 use Rattle.seq_tree.specs.Names.{Name}
 use Rattle.seq_tree.specs.Expressions.{Expression, Number, Variable, Paren, Not, Binary}
@@ -9,10 +9,9 @@ use Rattle.seq_tree.specs.declared.token.Token.{Token}
 use Rattle.seq_tree.specs.declared.token.Token.TheVariants as token
 use Rattle.seq_tree.specs.declared.token.Mark.TheVariants.{LeftParen, RightParen}
 use Rattle.token_read.specs.Readers.{fixed_at, sees_fixed, number_at, sees_number, name_at, sees_name, next_is, next_is_number}
-use Rattle.token_read.specs.Words.{same_token}
 use Rattle.seq_read.specs.declared.operators.Class.{Class}
 use Rattle.seq_read.specs.declared.operators.Class.TheVariants as class
-use Rattle.seq_read.specs.Operators.{sees_operator, next_operator, begins, logical_class}
+use Rattle.seq_read.specs.Operators.{sees_operator, begins, logical_class}
 use Rattle.seq_read.specs.Expressions.{ExpressionReader, paren_at, literal_at, variable_at, primary_at, inverse_at, factor_at, chain_at, term_at, simple_at, comparison_at, relation_at, logic_at, whole_expression_at, expression_at}
 
 -- single tokens

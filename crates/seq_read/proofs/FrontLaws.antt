@@ -1,19 +1,16 @@
 -- Blocks and expressions by themselves: what their readers answer is how far the tokens go on as one.
-use Rattle.std.proofs.Common.{◌≡◌, ℕ, suc, ◌+◌, ◌-◌, ◌<◌, ◌≤◌, Bool, true, false, cond, List, [], ◌∷◌, ◌++◌, length, take, codes, Option, Some, None, Ok, Err, ◌⊎◌, inl, inr, refl, sym, ap, subst, ◌∙◌, arith, append_assoc, append-nil}
-use Rattle.std.proofs.lemmas.Grind.{flat_map-append}
-use Rattle.grammar.specs.Reading.{Halt, Syntax, TooDeep, Read, Reads, Widens, whole_at}
+use Rattle.std.proofs.Common.{◌≡◌, ℕ, ◌+◌, ◌-◌, ◌<◌, ◌≤◌, Bool, true, false, cond, List, ◌∷◌, ◌++◌, length, take, codes, Option, Some, None, Ok, Err, ◌⊎◌, inl, inr, refl, sym, ap, ◌∙◌, arith, append_assoc, append-nil}
+use Rattle.grammar.specs.Reading.{Syntax, TooDeep, Read, Reads, Widens}
 use Rattle.grammar.proofs.Laws.{reads-same}
-use Rattle.seq_tree.specs.Names.{Name}
-use Rattle.seq_tree.specs.Reach.{IsReach, IsSyntaxFault, IsDepthFault}
+use Rattle.seq_tree.specs.Reach.{IsDepthFault}
 use Rattle.seq_tree.specs.Expressions.{Expression, Number}
-use Rattle.seq_tree.specs.Statements.{Statement, Statements, Branches, Null, Assign, If, For, ExitWhen, Call, Work, Put, End, Then, Nothing, Else, When}
+use Rattle.seq_tree.specs.Statements.{Statement, Statements, Null, Assign, If, For, ExitWhen, Work, Put, End, Then, Nothing, When}
 use Rattle.seq_tree.specs.Spelling.{expression_tokens, block_tokens}
-use Rattle.seq_tree.specs.Proper.{IsProperExpression, IsProperStatement, IsProperBlock, AreProperStatements, is_block_name, within_limits, without_limits}
+use Rattle.seq_tree.specs.Proper.{IsProperExpression, IsProperStatement, IsProperBlock, AreProperStatements, is_block_name, without_limits}
 use Rattle.seq_tree.specs.declared.token.Token.{Token}
 use Rattle.seq_tree.specs.declared.token.Token.TheVariants as token
 use Rattle.token_read.specs.Readers.{next_is}
 use Rattle.token_read.proofs.TokenLaws.{same_is}
-use Rattle.seq_read.specs.declared.statements.Kind.{Kind}
 use Rattle.seq_read.specs.declared.statements.Kind.TheVariants as kind
 use Rattle.seq_read.specs.Expressions.{expression_at}
 use Rattle.seq_read.specs.Statements.{kind_of, next_is_name, has_word, begins_statement, block_at}
@@ -23,11 +20,11 @@ use Rattle.seq_read.proofs.Stopping.{StopsWhole, stops_whole}
 use Rattle.seq_read.proofs.ChainLevels.{bounds}
 use Rattle.seq_read.proofs.ExpressionLaws.{reads-expression}
 use Rattle.seq_read.proofs.ExpressionWidening.{widens-expression}
-use Rattle.seq_read.proofs.StatementTokens.{w, semicolon, statement_toks, block_toks, block-spelled}
+use Rattle.seq_read.proofs.StatementTokens.{w, statement_toks, block_toks, block-spelled}
 use Rattle.seq_read.proofs.StatementLaws.{Reserves}
-use Rattle.seq_read.proofs.BlockLaws.{EndsBlock, reads-block}
+use Rattle.seq_read.proofs.BlockLaws.{reads-block}
 use Rattle.seq_read.proofs.StatementWidening.{widens-block}
-use Rattle.seq_read.proofs.Bounds.{extent, extent_block, bound-expression, bound-block, free-expression, free-block, free_rest}
+use Rattle.seq_read.proofs.Bounds.{extent, extent_block, bound-expression, bound-block, free-expression, free-block}
 use Rattle.seq_read.proofs.GoingOn.{goes-on}
 use Rattle.seq_read.proofs.Reaches.{longest, longest_text, too-deep, front-syntax-fault}
 

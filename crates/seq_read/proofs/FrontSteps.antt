@@ -1,5 +1,5 @@
 -- From what a reader answers of the tokens from an index on to what is answered of the whole list.
-use Rattle.std.proofs.Common.{◌≡◌, ℕ, ◌+◌, ◌-◌, ◌≤◌, List, ◌++◌, length, drop, take, Ok, Err, refl, sym, ap, ◌∙◌, arith, length-append}
+use Rattle.std.proofs.Common.{◌≡◌, ℕ, ◌+◌, ◌-◌, ◌≤◌, List, length, drop, take, Ok, Err, sym, ap, ◌∙◌, arith, length-append}
 use Rattle.std.proofs.lemmas.List.{length-drop, length-map, drop-map}
 use Rattle.grammar.specs.Reading.{Halt, Syntax, TooDeep, left_of}
 use Rattle.seq_tree.specs.Expressions.{Expression}

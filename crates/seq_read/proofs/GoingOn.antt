@@ -1,21 +1,19 @@
 -- A token either stops an expression or a block, or some longer one goes on with it. Here there are no limits.
-use Rattle.std.proofs.Common.{◌≡◌, ℕ, suc, ◌<◌, ◌≤◌, Bool, true, false, cond, List, [], ◌∷◌, ◌++◌, codes, Option, Some, None, is_some, ◌⊎◌, inl, inr, refl, sym, ap, subst, ◌∙◌, arith, append_assoc, append-nil}
-use Rattle.std.specs.Prelude.{⊤}
+use Rattle.std.proofs.Common.{◌≡◌, ℕ, suc, ◌<◌, ◌≤◌, Bool, true, false, List, [], ◌∷◌, ◌++◌, Option, Some, None, is_some, ◌⊎◌, inl, inr, refl, sym, ap, subst, ◌∙◌, arith, append_assoc}
 use Rattle.seq_tree.specs.Names.{Name}
 use Rattle.seq_tree.specs.Expressions.{Expression, Number, Variable, Paren, Not, Binary}
 use Rattle.seq_tree.specs.Spelling.{expression_tokens, op_token}
-use Rattle.seq_tree.specs.Levels.{level_of, tightness_of, tightness, chains_with, IsLeft}
-use Rattle.seq_tree.specs.Proper.{Limits, IsProperExpression, without_limits}
+use Rattle.seq_tree.specs.Levels.{level_of, tightness_of, tightness, IsLeft}
+use Rattle.seq_tree.specs.Proper.{IsProperExpression, without_limits}
 use Rattle.seq_tree.specs.declared.tree.BinOp.{BinOp}
 use Rattle.seq_tree.specs.declared.token.Token.{Token}
 use Rattle.seq_tree.specs.declared.token.Token.TheVariants as token
 use Rattle.seq_read.specs.declared.operators.Class.{Class}
 use Rattle.seq_read.specs.declared.operators.Class.TheVariants as class
 use Rattle.seq_read.specs.Operators.{sees_operator, begins}
-use Rattle.seq_read.proofs.OperatorLaws.{class_of, rank, ranked, sees, same_class, same_class_is, shares_as, logical, NoneLogical, is_relational_class, rank_logical, self_logical, rank_tight, relational_by, rank_not_relational}
-use Rattle.seq_read.proofs.ChainLaws.{right_of}
-use Rattle.seq_read.proofs.ChainLevels.{in_class, Belongs, left_of_belongs, belongs_left, belongs_by, only_multiplying, only_adding, relational_alone, rank_of}
-use Rattle.seq_read.proofs.Stopping.{StopsTerm, StopsSimple, StopsRelation, StopsAs, StopsWhole, is_relational, is_logical, top_class}
+use Rattle.seq_read.proofs.OperatorLaws.{class_of, rank, ranked, sees, same_class_is, logical, NoneLogical, is_relational_class, rank_logical, self_logical, rank_tight, relational_by, rank_not_relational}
+use Rattle.seq_read.proofs.ChainLevels.{Belongs, left_of_belongs, belongs_by, only_multiplying, only_adding, rank_of}
+use Rattle.seq_read.proofs.Stopping.{StopsTerm, StopsSimple, StopsRelation, StopsAs, StopsWhole, is_logical}
 
 -- an operator that is next
 pub record IsNext (c : Class) (t : Token) : Type 0 where

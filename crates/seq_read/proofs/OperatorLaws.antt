@@ -1,15 +1,15 @@
 -- The classes of operators: what is written, what shares a chain, how tightly a class binds.
-use Rattle.std.proofs.Common.{◌≡◌, ℕ, ◌<◌, ◌≤◌, Bool, true, false, cond, List, [], ◌∷◌, Option, Some, None, is_some, arith, refl, sym, ap, subst, ◌∙◌}
+use Rattle.std.proofs.Common.{◌≡◌, ℕ, ◌<◌, ◌≤◌, Bool, true, false, cond, Option, Some, None, arith, refl, sym, ap, subst, ◌∙◌}
 use Rattle.seq_tree.specs.Spelling.{op_token}
 use Rattle.seq_tree.specs.Levels.{level_of, tightness_of, share_chain}
 use Rattle.seq_tree.specs.declared.tree.BinOp.{BinOp}
 use Rattle.seq_tree.specs.declared.tree.BinOp.TheVariants as op
 use Rattle.seq_tree.specs.declared.token.Token.{Token}
 use Rattle.token_read.specs.Words.{same_token}
-use Rattle.token_read.proofs.TokenLaws.{same_is, chosen}
+use Rattle.token_read.proofs.TokenLaws.{same_is}
 use Rattle.seq_read.specs.declared.operators.Class.{Class}
 use Rattle.seq_read.specs.declared.operators.Class.TheVariants.{Multiplying, Adding, Relational, And, Or, Xor}
-use Rattle.seq_read.specs.Operators.{Written, operators, sees_among, sees_operator, next_operator, begins, logical_class}
+use Rattle.seq_read.specs.Operators.{sees_operator, begins, logical_class}
 
 -- the class of an operator
 abbrev pub class_of : BinOp → Class

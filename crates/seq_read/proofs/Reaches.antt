@@ -1,9 +1,9 @@
 -- How far a reader goes is how far texts go.
-use Rattle.std.proofs.Common.{◌≡◌, ℕ, zero, suc, ◌+◌, ◌-◌, ◌<◌, ◌≤◌, max, nat_le, Bool, true, false, List, [], ◌∷◌, ◌++◌, length, take, drop, Option, Some, None, Result, Ok, Err, ◌⊎◌, inl, inr, refl, sym, ap, subst, ◌∙◌, arith, append_assoc, append-nil, length-append}
+use Rattle.std.proofs.Common.{◌≡◌, ℕ, zero, suc, ◌+◌, ◌-◌, ◌<◌, ◌≤◌, nat_le, Bool, true, false, List, [], ◌∷◌, ◌++◌, length, take, Option, Some, None, Result, Ok, Err, ◌⊎◌, inl, inr, refl, sym, ap, subst, ◌∙◌, arith, append_assoc, append-nil, length-append}
 use Rattle.std.proofs.lemmas.Bool.{leb-true, leb-false}
-use Rattle.grammar.specs.Reading.{Halt, Syntax, TooDeep, left_of, with_left, Read, first, GoesOn, Beyond, Widens, Stuck, Found, Reads, all_taken, all_of, whole_at}
+use Rattle.grammar.specs.Reading.{Halt, Syntax, TooDeep, left_of, Read, first, GoesOn, Widens, Reads, all_taken, all_of, whole_at}
 use Rattle.grammar.proofs.Laws.{ok_parts}
-use Rattle.seq_tree.specs.Reach.{Begins, IsReach, IsSyntaxFault, IsDepthFault}
+use Rattle.seq_tree.specs.Reach.{IsReach, IsSyntaxFault, IsDepthFault}
 use Rattle.seq_tree.specs.declared.token.Token.{Token}
 use Rattle.seq_read.specs.Fronts.{IsLongest, IsFrontSyntaxFault}
 

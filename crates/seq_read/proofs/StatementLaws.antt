@@ -1,36 +1,28 @@
 -- The reader of statements reads the proper statements within its limits.
-use Rattle.std.proofs.Common.{◌≡◌, ℕ, zero, suc, ◌+◌, ◌<◌, ◌≤◌, nat_le, Bool, true, false, cond, List, [], ◌∷◌, ◌++◌, length, codes, Option, Some, None, ◌⊎◌, inl, inr, refl, sym, ap, subst, ◌∙◌, arith, append_assoc, append-nil, length-append}
+use Rattle.std.proofs.Common.{◌≡◌, ℕ, Bool, true, false, List, [], ◌∷◌, ◌++◌, codes, Option, Some, None, ◌⊎◌, inl, inr, refl, sym, ap, subst, ◌∙◌, arith, append_assoc}
 use Rattle.std.specs.Prelude.{⊤}
-use Rattle.std.proofs.lemmas.Bool.{leb-true, leb-false, le-leb, lt-leb}
-use Rattle.grammar.specs.Reading.{Read, first, then_at, pure_at, choose_at, pick_at, many_at, deep_at, Reads, Joined, AreMany}
+use Rattle.grammar.specs.Reading.{Read, first, then_at, pure_at, many_at, Reads, Joined, AreMany}
 use Rattle.grammar.proofs.Laws.{IsOnly, reads-pure, reads-same, reads-then, reads-choose, reads-map}
-use Rattle.grammar.proofs.Ends.{reads-branch, reads-joint}
-use Rattle.grammar.proofs.Picks.{reads-pick, AtLimit}
+use Rattle.grammar.proofs.Ends.{reads-branch}
 use Rattle.grammar.proofs.From.{Last}
 use Rattle.grammar.proofs.Many.{reads-many}
 use Rattle.seq_tree.specs.Names.{Name}
-use Rattle.seq_tree.specs.Expressions.{Expression, Number, Variable, Paren, Not, Binary}
-use Rattle.seq_tree.specs.Expressions as expr
-use Rattle.seq_tree.specs.Statements.{Statement, Statements, Branches, Null, Assign, If, For, ExitWhen, Call, Work, Put, End, Then, Nothing, Else, When}
-use Rattle.seq_tree.specs.Trees.{statements_of, branches_of}
+use Rattle.seq_tree.specs.Expressions.{Expression}
+use Rattle.seq_tree.specs.Statements.{Statement, Statements, Branches, Null, Assign, If, For, ExitWhen, Call, Work, Put, Nothing, Else, When}
+use Rattle.seq_tree.specs.Trees.{branches_of}
 use Rattle.seq_tree.specs.Spelling.{expression_tokens, actual_tokens, more_actuals}
-use Rattle.seq_tree.specs.Proper.{Limits, IsProperExpression, AreProperActuals, IsProperStatement, IsProperBlock, AreProperStatements, IsProperIf, AreProperBranches}
+use Rattle.seq_tree.specs.Proper.{Limits, IsProperExpression, AreProperActuals, IsProperBlock, IsProperIf, AreProperBranches}
 use Rattle.seq_tree.specs.declared.token.Token.{Token}
 use Rattle.seq_tree.specs.declared.token.Token.TheVariants as token
-use Rattle.seq_tree.specs.declared.token.Mark.TheVariants.{LeftParen, RightParen, Comma, Semicolon, Dot, DotDot, Becomes}
-use Rattle.token_read.specs.Words.{same_token}
-use Rattle.token_read.specs.Readers.{fixed_at, number_at, name_at, next_is}
-use Rattle.token_read.proofs.TokenLaws.{Any, andthen, same_is, IsFixed, IsNumber, IsName, reads-fixed, reads-number, reads-name, joins-fixed, joins-name, joins-number}
-use Rattle.seq_read.specs.declared.statements.Kind.{Kind}
-use Rattle.seq_read.specs.declared.statements.Kind.TheVariants as kind
+use Rattle.seq_tree.specs.declared.token.Mark.TheVariants.{LeftParen, RightParen, Comma, Dot, DotDot, Becomes}
+use Rattle.token_read.specs.Readers.{fixed_at, next_is}
+use Rattle.token_read.proofs.TokenLaws.{Any, andthen, same_is, IsFixed, reads-fixed, reads-number, reads-name, joins-fixed, joins-name, joins-number}
 use Rattle.seq_read.specs.declared.operators.Class.{Class}
 use Rattle.seq_read.specs.declared.operators.Class.TheVariants as class
 use Rattle.seq_read.specs.Operators.{sees_operator, begins}
-use Rattle.seq_read.specs.Expressions.{ExpressionReader, expression_at}
-use Rattle.seq_read.specs.Statements.{StatementReader, BlockReader, word, kind_of, next_is_name, has_word, begins_statement, null_at, work_at, put_at, exit_at, assignment_at, further_at, list_at, actuals_at, call_at, named_at, guarded_at, arm_at, else_at, otherwise_at, if_at, for_at, statement_with, block_with, statement_at, block_at}
-use Rattle.seq_read.proofs.Stopping.{StopsWhole, NoOperator, stops_whole}
-use Rattle.seq_read.proofs.ChainLevels.{bounds}
-use Rattle.seq_read.proofs.ExpressionLaws.{not_word, IsExpression, reads-expression}
+use Rattle.seq_read.specs.Expressions.{ExpressionReader}
+use Rattle.seq_read.specs.Statements.{BlockReader, kind_of, next_is_name, begins_statement, null_at, work_at, put_at, exit_at, assignment_at, further_at, list_at, actuals_at, call_at, named_at, guarded_at, arm_at, else_at, otherwise_at, if_at, for_at}
+use Rattle.seq_read.proofs.Stopping.{StopsWhole, stops_whole}
 use Rattle.seq_read.proofs.StatementTokens.{w, semicolon, statement_toks, block_toks, branch_toks}
 
 -- words that are no names

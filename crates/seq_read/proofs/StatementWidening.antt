@@ -1,14 +1,13 @@
 -- Readers of statements and blocks with limits, against those with wider ones.
-use Rattle.std.proofs.Common.{◌≡◌, ℕ, zero, suc, ◌-◌, ◌<◌, ◌≤◌, Bool, true, false, cond, List, [], ◌∷◌, length, codes, Option, Some, None, Ok, refl, sym, ap, subst, ◌∙◌, arith}
-use Rattle.grammar.specs.Reading.{Read, first, then_at, pure_at, choose_at, pick_at, many_at, token_at, deep_at, GoesOn, Beyond, Widens}
-use Rattle.grammar.proofs.Widening.{widens-fewer, widens-token, widens-pure, widens-then, widens-behind, goes-behind, widens-pick, widens-choose, deep-beyond, past_at, widens-past, widens-many}
+use Rattle.std.proofs.Common.{◌≡◌, ℕ, zero, suc, ◌-◌, ◌<◌, ◌≤◌, Bool, true, false, cond, List, [], ◌∷◌, length, codes, Option, refl, arith}
+use Rattle.grammar.specs.Reading.{Read, first, then_at, pure_at, pick_at, many_at, deep_at, GoesOn, Beyond, Widens}
+use Rattle.grammar.proofs.Widening.{widens-fewer, widens-pure, widens-then, widens-behind, goes-behind, widens-pick, widens-choose, deep-beyond, past_at, widens-past, widens-many}
 use Rattle.seq_tree.specs.Names.{Name}
-use Rattle.seq_tree.specs.Expressions.{Expression}
-use Rattle.seq_tree.specs.Statements.{Statement, Statements, Branches, Null, Assign, If, For, ExitWhen, Call, Work, Put, Nothing, Else}
+use Rattle.seq_tree.specs.Statements.{Null, Assign, If, For, ExitWhen, Call, Work, Put, Nothing, Else}
 use Rattle.seq_tree.specs.Trees.{statements_of, branches_of}
 use Rattle.seq_tree.specs.declared.token.Token.{Token}
 use Rattle.seq_tree.specs.declared.token.Token.TheVariants as token
-use Rattle.seq_tree.specs.declared.token.Mark.TheVariants.{LeftParen, RightParen, Comma, Semicolon, Dot, DotDot, Becomes}
+use Rattle.seq_tree.specs.declared.token.Mark.TheVariants.{LeftParen, RightParen, Comma, Dot, DotDot, Becomes}
 use Rattle.token_read.specs.Readers.{fixed_at, sees_fixed, number_at, name_at, next_is}
 use Rattle.seq_read.specs.declared.statements.Kind.{Kind}
 use Rattle.seq_read.specs.declared.statements.Kind.TheVariants as kind

@@ -1,5 +1,5 @@
 -- Where expressions stop: the tokens with which no longer expression goes on.
-use Rattle.std.proofs.Common.{◌≡◌, Bool, true, false, Option, Some, refl}
+use Rattle.std.proofs.Common.{◌≡◌, Bool, true, false, Option}
 use Rattle.seq_tree.specs.Expressions.{Expression, Number, Variable, Paren, Not, Binary}
 use Rattle.seq_tree.specs.declared.token.Token.{Token}
 use Rattle.seq_read.specs.declared.operators.Class.{Class}

@@ -1,4 +1,5 @@
 -- What is read where an `if` or a loop begins, by how much further constructs may nest.
+-- Where nothing more may nest, the token that opens is the one that is told.
 use Rattle.std.specs.Prelude.{ℕ, zero, suc, Bool}
 use Rattle.grammar.specs.Reading.{deep_at}
 use Rattle.seq_tree.specs.Names.{Name}

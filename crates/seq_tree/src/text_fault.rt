@@ -9,7 +9,7 @@ pub enum TextFault {
     Number(Place),
     /// A name over 64 bytes, told at its first byte.
     Long(Place),
-    /// The first token with which no text goes on; its place is not told exactly yet.
+    /// The first token with which no text goes on, or the end of the text. The reader that answers it says of which texts.
     Syntax(Place),
     /// The token that brings nesting to 65, or the 33rd operator of a chain.
     TooDeep(Place),

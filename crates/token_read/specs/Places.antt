@@ -1,4 +1,5 @@
 -- Places that fit: lines and columns are u32, and each byte moves a place by at most one line or one column.
+-- A text within its limit of bytes keeps all its places so.
 use Rattle.std.specs.Prelude.{ℕ, ◌+◌, ◌<◌, ◌^◌}
 use Rattle.seq_tree.specs.declared.token.Place.{Place}
 

@@ -1,10 +1,9 @@
-use Rattle.std.proofs.Common.{◌≡◌, ℕ, List, Result, Ok, sym, ap, ◌∙◌, arith}
+use Rattle.std.proofs.Common.{List, Result, sym, ap, ◌∙◌, arith}
 use Rattle.grammar.specs.Reading.{Halt, whole_at}
 use Rattle.seq_tree.specs.declared.token.Spanned.{Spanned}
 use Rattle.ada_tree.specs.Programs.{Program}
 use Rattle.ada_tree.specs.Trees.{program_of}
 use Rattle.token_read.specs.Words.{bare}
-use Rattle.seq_read.specs.Places.{place_at}
 use Rattle.ada_read.specs.Readers.{ada_block_at, program_at}
 use Rattle.ada_read.proofs.ReadingLaws.{judged-says, judged-only, faulty-at, deep-at}
 use Rattle.ada_read.proofs.reader.read_ada.Goals as goal

@@ -1,6 +1,5 @@
 use Rattle.std.proofs.Common.{◌≡◌, ◌&&◌, ◌||◌, drop, take}
-use Rattle.seq_tree.specs.Names.{Name}
-use Rattle.seq_tree.specs.Faults.{is_named}
+use Rattle.seq_tree.specs.Names.{Name, is_named}
 use Rattle.ada_rules.specs.Clashes.{are_new}
 use Rattle.ada_rules.specs.Lists.{names_of}
 use Rattle.ada_rules.specs.Sets.{has}

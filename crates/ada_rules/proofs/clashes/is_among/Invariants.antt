@@ -1,5 +1,5 @@
 use Rattle.std.proofs.Common.{◌≡◌, drop}
-use Rattle.seq_tree.specs.Faults.{is_named}
+use Rattle.seq_tree.specs.Names.{is_named}
 use Rattle.ada_rules.specs.Lists.{names_of}
 use Rattle.ada_rules.proofs.clashes.is_among.Given as goal
 

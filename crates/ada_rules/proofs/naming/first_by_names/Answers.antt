@@ -1,6 +1,5 @@
 use Rattle.std.proofs.Common.{◌≡◌, ◌||◌, true, map, Some, slice_get, sym, ap, ◌∙◌}
-use Rattle.seq_tree.specs.Names.{same_name}
-use Rattle.seq_tree.specs.Faults.{is_named}
+use Rattle.seq_tree.specs.Names.{same_name, is_named}
 use Rattle.ada_tree.specs.Naming.{breaks_naming, inner_names}
 use Rattle.ada_tree.specs.Trees.{form_of, program_of, unit_of}
 use Rattle.ada_rules.specs.Sets.{has, has_op}

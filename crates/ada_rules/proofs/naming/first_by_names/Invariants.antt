@@ -1,6 +1,5 @@
 use Rattle.std.proofs.Common.{◌≡◌, true, map, take, flat_map}
-use Rattle.seq_tree.specs.Names.{Name}
-use Rattle.seq_tree.specs.Faults.{is_named}
+use Rattle.seq_tree.specs.Names.{Name, is_named}
 use Rattle.ada_tree.specs.Trees.{program_of, unit_of}
 use Rattle.ada_tree.specs.Naming.{breaks_naming, inner_names}
 use Rattle.ada_rules.specs.Firsts.{NoneBefore}

@@ -1,9 +1,8 @@
 use Rattle.std.proofs.Common.{◌≡◌, ◌||◌, not, true, map, sym, ap, ◌∙◌}
 use Rattle.std.specs.List.{list_any}
-use Rattle.seq_tree.specs.Names.{Name}
-use Rattle.seq_tree.specs.Faults.{is_named}
+use Rattle.seq_tree.specs.Names.{Name, is_named, are_distinct}
 use Rattle.ada_tree.specs.Bodies.{bodies}
-use Rattle.ada_tree.specs.Naming.{are_distinct, body_clashes, own_names}
+use Rattle.ada_tree.specs.Naming.{body_clashes, own_names}
 use Rattle.ada_tree.specs.Trees.{form_of}
 use Rattle.ada_rules.specs.Clashes.{clashes_inside}
 use Rattle.ada_rules.specs.Lists.{names_of}

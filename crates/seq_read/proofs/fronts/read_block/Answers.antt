@@ -1,11 +1,10 @@
-use Rattle.std.proofs.Common.{◌≡◌, ◌-◌, ◌≤◌, List, Ok, length, drop, sym, ap, ◌∙◌, subst, arith}
+use Rattle.std.proofs.Common.{◌-◌, List, sym, ap, ◌∙◌, subst, arith}
 use Rattle.seq_tree.specs.Trees.{block_of}
 use Rattle.seq_tree.specs.declared.token.Token.{Token}
 use Rattle.token_read.specs.Words.{bare}
 use Rattle.seq_read.specs.declared.names.Text.TheVariants.{Plain}
 use Rattle.seq_read.specs.Names.{may_name}
 use Rattle.seq_read.specs.Halts.{Stops}
-use Rattle.seq_read.specs.Answers.{fault_at}
 use Rattle.seq_read.specs.Statements.{block_at}
 use Rattle.seq_read.proofs.FrontSteps.{block-answered, block-told, bare_behind, bare_length}
 use Rattle.seq_read.proofs.fronts.read_block.Goals as goal

@@ -1,11 +1,10 @@
-use Rattle.std.proofs.Common.{◌≡◌, ◌-◌, ◌≤◌, List, Ok, length, drop, sym, ap, ◌∙◌, subst, arith}
+use Rattle.std.proofs.Common.{◌-◌, List, sym, ap, ◌∙◌, subst, arith}
 use Rattle.seq_tree.specs.Trees.{expression_of}
 use Rattle.seq_tree.specs.declared.token.Token.{Token}
 use Rattle.token_read.specs.Words.{bare}
 use Rattle.seq_read.specs.declared.names.Text.TheVariants.{Plain}
 use Rattle.seq_read.specs.Names.{may_name}
 use Rattle.seq_read.specs.Halts.{Stops}
-use Rattle.seq_read.specs.Answers.{fault_at}
 use Rattle.seq_read.specs.Expressions.{expression_at}
 use Rattle.seq_read.proofs.FrontSteps.{expression-answered, expression-told, bare_behind, bare_length}
 use Rattle.seq_read.proofs.fronts.read_expr.Goals as goal

@@ -1,14 +1,10 @@
-//! The tests of the whole toolset, and of what no table of examples comes to.
+//! The tests of the whole toolset.
 
-mod blocks;
-mod bounds;
 mod changed_tokens;
 mod designs;
-mod flats;
 mod replays;
 mod rows;
 mod statements;
-mod streams;
 mod texts;
 
 use rows::{Outcome, Row, out_bytes, run_row};

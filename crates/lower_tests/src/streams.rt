@@ -6,7 +6,7 @@ use std::test::Fail;
 
 #[test]
 fn a_file_is_read_up_to_its_limit(rt: HostRuntime) -> Result<(), Fail> {
-    let file = "hrthood_tests_file";
+    let file = "lower_tests_file";
     let text = b"12345678".as_slice();
     fs::write(&rt, file, text)?;
     let mut shelf = FileShelf::new(&rt);
@@ -14,7 +14,7 @@ fn a_file_is_read_up_to_its_limit(rt: HostRuntime) -> Result<(), Fail> {
     for (name, limit, answer, read) in [
         (file, 8, Fetched::Done, text),
         (file, 7, Fetched::TooLong, text),
-        ("hrthood_tests_absent", 8, Fetched::Failed, b""),
+        ("lower_tests_absent", 8, Fetched::Failed, b""),
     ] {
         let fetched = shelf.fetch(rt.alloc(), name, limit, &mut into);
         assert_eq!(rt; fetched, answer, "{name} {limit}");

@@ -72,7 +72,7 @@ pub struct Row {
     pub design: Source,
     pub ada: Ada,
     pub arrivals: &'static str,
-    /// The length of the arrivals file, with spaces behind the text.
+    /// The length of the arrivals file, with spaces behind a text that is shorter.
     pub arrivals_len: usize,
     /// The places of fetches that fail.
     pub fails: &'static [u64],
@@ -90,7 +90,7 @@ pub const ONE_TASK: Row = Row {
     design: Source::Object(OBJECT),
     ada: Ada::Task(TASK),
     arrivals: "UNTIL 20;",
-    arrivals_len: 9,
+    arrivals_len: 0,
     fails: &[],
     room: 10_000,
     status: Status::Done,
@@ -135,7 +135,8 @@ pub fn run_row(rt: &HostRuntime, row: &Row) -> Result<Outcome, Fail> {
     let mut shelf = MemShelf::new(rt.alloc(), row.fails)?;
     shelf.put("d", &design_bytes(rt, row.design)?)?;
     shelf.put("a.ada", &ada_bytes(rt, row.ada)?)?;
-    let arrivals = padded(rt, row.arrivals.as_bytes(), row.arrivals_len)?;
+    let arrivals = row.arrivals.as_bytes();
+    let arrivals = padded(rt, arrivals, row.arrivals_len.max(arrivals.len()))?;
     shelf.put("r", &arrivals)?;
     run_words(rt, row.words, &mut shelf, row.room)
 }
@@ -145,13 +146,16 @@ const USAGE: &str =
     "usage: hrthood check D | analyse D | format D | generate D | replay A R | verify D R | sample N\n";
 
 /// Words that are no command.
-pub const fn usage(name: &'static str, words: &'static [&'static str]) -> Row {
-    Row {
-        name,
-        words,
-        status: Status::Usage,
-        out: Out::Bytes(""),
-        err: USAGE,
-        ..ONE_TASK
-    }
-}
+pub const NO_COMMAND: Row = Row {
+    status: Status::Usage,
+    out: Out::Bytes(""),
+    err: USAGE,
+    ..ONE_TASK
+};
+
+/// A replay that is refused.
+pub const REFUSED_TASK: Row = Row {
+    status: Status::Refused,
+    out: Out::Bytes(""),
+    ..ONE_TASK
+};

@@ -12,6 +12,7 @@ fn the_longest_block_is_read_from_a_place(rt: HostRuntime) -> Result<(), Fail> {
         let from = from.min(found.len());
         let (block, after) = read_block(rt.alloc(), &found, from, 0)?;
         assert_eq!(rt; block.stmts.len(), len, "{from}");
+        assert_eq!(rt; block.copy(rt.alloc())?.stmts.len(), len, "{from}");
         assert_eq!(rt; after, next, "{from}");
     }
     let last = found.len().saturating_sub(1);
@@ -31,7 +32,8 @@ fn the_longest_expression_is_read_from_a_place(rt: HostRuntime) -> Result<(), Fa
         assert_eq!(rt; after, next, "{from}");
     }
     let (expr, _) = read_expr(rt.alloc(), &found, 0, 0)?;
-    assert!(rt; matches!(expr, Expr::Binary(..)));
+    let copy = expr.copy(rt.alloc())?;
+    assert!(rt; matches!(copy, Expr::Binary(..)));
     let last = found.len().saturating_sub(1);
     assert_eq!(rt;
         read_expr(rt.alloc(), &found, last, 0).err(),

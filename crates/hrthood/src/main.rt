@@ -10,6 +10,15 @@ use hrthood_top::{Status, run};
 use std::env;
 use std::process::ExitCode;
 
+/// Runs these words over the system's files and streams, and answers the exit status.
+fn answer(rt: &HostRuntime, words: &[String]) -> ExitCode {
+    let mut shelf = FileShelf::new(rt);
+    let mut out = OutSink::new(rt.stdout());
+    let mut err = ErrSink::new(rt.stderr());
+    let status = run(rt.alloc(), words, &mut shelf, &mut out, &mut err);
+    ExitCode::from(status.code())
+}
+
 fn main(rt: HostRuntime) -> ExitCode {
     let mut words = Vec::new(rt.alloc());
     let Ok(all) = env::args(&rt) else {
@@ -20,9 +29,5 @@ fn main(rt: HostRuntime) -> ExitCode {
             return ExitCode::from(Status::NoMemory.code());
         }
     }
-    let mut shelf = FileShelf::new(&rt);
-    let mut out = OutSink::new(rt.stdout());
-    let mut err = ErrSink::new(rt.stderr());
-    let status = run(rt.alloc(), &words, &mut shelf, &mut out, &mut err);
-    ExitCode::from(status.code())
+    answer(&rt, &words)
 }

@@ -7,7 +7,9 @@ mod rows;
 mod statements;
 mod texts;
 
-use rows::{Outcome, out_bytes, run_row};
+use crate::answer;
+use rows::{Outcome, out_bytes, run_row, words};
+use std::process::ExitCode;
 use std::test::Fail;
 
 #[test]
@@ -30,6 +32,18 @@ fn worked_examples(rt: HostRuntime) -> Result<(), Fail> {
             assert_eq!(rt; out.bytes(), wanted.as_slice(), "{}", row.name);
             assert_eq!(rt; err.bytes(), row.err.as_bytes(), "{}", row.name);
         }
+    }
+    Ok(())
+}
+
+#[test]
+fn the_status_is_that_of_the_words(rt: HostRuntime) -> Result<(), Fail> {
+    for (line, code) in [
+        (&["replay"][..], 2_u8),
+        (&["replay", "hrthood_absent", "r"][..], 3),
+    ] {
+        let words = words(&rt, line)?;
+        assert_eq!(rt; answer(&rt, &words), ExitCode::from(code));
     }
     Ok(())
 }

@@ -101,7 +101,7 @@ pub const ONE_TASK: Row = Row {
 const TRACE: &str =
     "0 release a\n4 end a used 4\n10 release a\n14 end a used 4\n20 release a\n20 horizon\n";
 
-fn words(rt: &HostRuntime, words: &[&str]) -> Result<Vec<String>, Fail> {
+pub fn words(rt: &HostRuntime, words: &[&str]) -> Result<Vec<String>, Fail> {
     let mut all = Vec::new(rt.alloc());
     for word in words {
         all.push(String::from_str(rt.alloc(), word)?)?;

@@ -11,4 +11,6 @@ mod bounds;
 #[cfg(test)]
 mod flats;
 #[cfg(test)]
+mod queues;
+#[cfg(test)]
 mod streams;

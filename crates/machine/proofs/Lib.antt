@@ -2,5 +2,3 @@ mod Worked
 mod Mine
 pub mod RunLaws
 mod LocalRuns
-mod Jumps
-mod Orders

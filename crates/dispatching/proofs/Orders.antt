@@ -5,33 +5,30 @@ use Rattle.std.proofs.Common.{ap, arith}
 use Rattle.seq_tree.specs.Lists.{change}
 use Rattle.machine.specs.States.{Task, Readiness, Asleep, Waiting, Ready}
 use Rattle.machine.specs.Dispatch.{Candidate, goes_before, candidate_if, candidates, first_of, dispatched_of, dispatched}
-
--- two ready tasks of one active priority
-abbrev Rivals : Task → Task → Type 0
-Rivals t u = (t.readiness ≡ Ready) × (u.readiness ≡ Ready) × (t.active ≡ u.active)
+use Rattle.dispatching.specs.Renumbering.{AreRivals}
 
 -- two pairs of numbers stand in the same order
-abbrev SameOrder : ℤ → ℤ → ℤ → ℤ → Type 0
+abbrev pub SameOrder : ℤ → ℤ → ℤ → ℤ → Type 0
 SameOrder o x p y = (int_lt x o ≡ int_lt y p) × (int_lt o x ≡ int_lt p y)
 
 -- a task and later ones are ranked alike by two lists of numbers
-abbrev Beside : Task → ℤ → ℤ → List Task → List ℤ → List ℤ → Type 0
+abbrev pub Beside : Task → ℤ → ℤ → List Task → List ℤ → List ℤ → Type 0
 Beside t o p [] [] [] = ⊤
-Beside t o p (u ∷ us) (x ∷ xs) (y ∷ ys) = (Rivals t u → SameOrder o x p y) × Beside t o p us xs ys
+Beside t o p (u ∷ us) (x ∷ xs) (y ∷ ys) = (AreRivals t u → SameOrder o x p y) × Beside t o p us xs ys
 Beside t o p _ _ _ = ⊥
 
-abbrev Alike : List Task → List ℤ → List ℤ → Type 0
+abbrev pub Alike : List Task → List ℤ → List ℤ → Type 0
 Alike [] [] [] = ⊤
 Alike (t ∷ ts) (o ∷ os) (p ∷ ps) = Beside t o p ts os ps × Alike ts os ps
 Alike _ _ _ = ⊥
 
 -- candidates that are the same but for their numbers, and are ranked alike
-abbrev Ranked : Candidate → Candidate → List Candidate → List Candidate → Type 0
+abbrev pub Ranked : Candidate → Candidate → List Candidate → List Candidate → Type 0
 Ranked c d [] [] = ⊤
 Ranked c d (x ∷ xs) (y ∷ ys) = (goes_before x c ≡ goes_before y d) × Ranked c d xs ys
 Ranked c d _ _ = ⊥
 
-abbrev Twins : List Candidate → List Candidate → Type 0
+abbrev pub Twins : List Candidate → List Candidate → Type 0
 Twins [] [] = ⊤
 Twins (c ∷ cs) (d ∷ ds) = (c.task ≡ d.task) × Ranked c d cs ds × Twins cs ds
 Twins _ _ = ⊥
@@ -111,16 +108,16 @@ twins-candidates n (t ∷ ts) (o ∷ os) (p ∷ ps) alike = by_ready t.readiness
     by_ready (Asleep until) e others = others
 
 -- numbers that rank alike dispatch the same task
-dispatched-alike : (ts : List Task) (os ps : List ℤ) → Alike ts os ps → dispatched ts os ≡ dispatched ts ps
+pub dispatched-alike : (ts : List Task) (os ps : List ℤ) → Alike ts os ps → dispatched ts os ≡ dispatched ts ps
 dispatched-alike ts os ps alike = dispatched-twins (candidates 0 ts os) (candidates 0 ts ps) (twins-candidates 0 ts os ps alike)
 
 -- a number that stands to some numbers as another does to others
-abbrev SameAll : ℤ → ℤ → List ℤ → List ℤ → Type 0
+abbrev pub SameAll : ℤ → ℤ → List ℤ → List ℤ → Type 0
 SameAll v w [] [] = ⊤
 SameAll v w (x ∷ xs) (y ∷ ys) = (int_lt x v ≡ int_lt y w) × (int_lt v x ≡ int_lt w y) × SameAll v w xs ys
 SameAll v w _ _ = ⊥
 
-beside-new : (t u : Task) (o p v w : ℤ) (ts : List Task) (os ps : List ℤ) → Beside t o p ts os ps → SameAll v w os ps → Beside u v w ts os ps
+pub beside-new : (t u : Task) (o p v w : ℤ) (ts : List Task) (os ps : List ℤ) → Beside t o p ts os ps → SameAll v w os ps → Beside u v w ts os ps
 beside-new t u o p v w [] [] [] beside same = tt
 beside-new t u o p v w [] [] (y ∷ ys) beside same = absurd beside
 beside-new t u o p v w [] (x ∷ xs) ps beside same = absurd beside
@@ -128,7 +125,7 @@ beside-new t u o p v w (a ∷ us) [] ps beside same = absurd beside
 beside-new t u o p v w (a ∷ us) (x ∷ xs) [] beside same = absurd beside
 beside-new t u o p v w (a ∷ us) (x ∷ xs) (y ∷ ys) beside same = (λ rivals. (same.0, same.1), beside-new t u o p v w us xs ys beside.1 same.2)
 
-beside-set : (i : ℕ) (f : Task → Task) (t : Task) (o p v w : ℤ) (ts : List Task) (os ps : List ℤ) → Beside t o p ts os ps → SameOrder o v p w
+pub beside-set : (i : ℕ) (f : Task → Task) (t : Task) (o p v w : ℤ) (ts : List Task) (os ps : List ℤ) → Beside t o p ts os ps → SameOrder o v p w
     → Beside t o p (change i f ts) (set os i v) (set ps i w)
 beside-set i f t o p v w [] [] [] beside same = tt
 beside-set i f t o p v w [] [] (y ∷ ys) beside same = absurd beside
@@ -139,7 +136,7 @@ beside-set zero f t o p v w (a ∷ us) (x ∷ xs) (y ∷ ys) beside same = (λ r
 beside-set (suc i) f t o p v w (a ∷ us) (x ∷ xs) (y ∷ ys) beside same = (beside.0, beside-set i f t o p v w us xs ys beside.1 same)
 
 -- a task that goes behind all others or before them, changed as it may be, leaves the numbers ranked alike
-alike-set : (i : ℕ) (f : Task → Task) (v w : ℤ) (ts : List Task) (os ps : List ℤ) → Alike ts os ps → SameAll v w os ps → Alike (change i f ts) (set os i v) (set ps i w)
+pub alike-set : (i : ℕ) (f : Task → Task) (v w : ℤ) (ts : List Task) (os ps : List ℤ) → Alike ts os ps → SameAll v w os ps → Alike (change i f ts) (set os i v) (set ps i w)
 alike-set i f v w [] [] [] alike same = tt
 alike-set i f v w [] [] (p ∷ ps) alike same = absurd alike
 alike-set i f v w [] (o ∷ os) ps alike same = absurd alike

@@ -3,7 +3,6 @@
 use Rattle.std.specs.Prelude.{◌≡◌, ◌≢◌, ◌⊎◌, ℕ, suc, ◌+◌, ◌<◌, ◌≤◌, Bool, true, false, ◌==◌, nat_lt, nat_le, List, [], ◌∷◌, length, set, Some, slice_get, ℤ, pos, int_lt, if◌then◌else◌, refl}
 use Rattle.std.proofs.Common.{sym, ◌∙◌, ap, subst, arith, inl, inr, length-set}
 use Rattle.std.proofs.lemmas.Bool.Decides.{nat_tests}
-use Rattle.std.proofs.lemmas.Int.{ints}
 use Rattle.seq_tree.specs.Lists.{change}
 use Rattle.link_queue.specs.Queues.{Entry, Each, IsApart, IsOrdered, at_head, at_tail, put_behind, stays_before}
 use Rattle.link_queue.proofs.Lists.{each-both, each-taken, ordered-put}
@@ -11,7 +10,7 @@ use Rattle.machine.specs.States.{Task, Ready}
 use Rattle.machine.specs.Dispatch.{put_first}
 use Rattle.dispatching.specs.Queueing.{AreQueued, IsIn, IsReadyAt, Precedes, number, place_from, places}
 use Rattle.dispatching.proofs.Places.{get-within, number-set_other, number-set_same}
-use Rattle.dispatching.proofs.Ranks.{distinct-ordered, length-places, number-place, ordered-map, place-ordered}
+use Rattle.dispatching.proofs.Ranks.{length-places, number-place, ordered-places, pos-less}
 use Rattle.dispatching.proofs.Queued.{each-within, first-apart, head-apart, ordered-other, precedes-along, moved-among, queued-moved}
 
 -- the two ways in which a task comes to the list do not depend on which comes first
@@ -127,9 +126,7 @@ held-numbers ts os s es q =
     let apart : IsApart s.0 es = apart-without ts os (stays_before s) s es q.each q.ordered in
     let within : Each (λ x. x.0 < length ts) es = each-within ts es parts.1 in
     let ns : List ℤ = places (length ts) es in
-    let placed : IsOrdered (Precedes ns) es =
-    ordered-map (Precedes os) (λ x y. place_from 1 x.0 es < place_from 1 y.0 es) (Precedes ns) (λ x. x.0 < length ts) es (λ x y kx ky p r. by_level x y kx ky p r) within ordered
-    (place-ordered 1 es (distinct-ordered ts os es parts.1 ordered)) in
+    let placed : IsOrdered (Precedes ns) es = ordered-places ts os es parts.1 ordered in
     record {
       numbered = length-set ns s.0 (pos (suc (length es))) ∙ length-places 0 (length ts) es;
       each = q.each;
@@ -143,18 +140,6 @@ held-numbers ts os s es q =
     below : (m n : ℕ) → nat_le m n ≡ false → n < m
     below m n h = grind (arith, nat_tests)
 
-    less : (m n : ℕ) → m < n → int_lt (pos m) (pos n) ≡ true
-    less m n h = grind (arith, ints)
-
-    by_level : (x y : Entry) → x.0 < length ts → y.0 < length ts → Precedes os x y → place_from 1 x.0 es < place_from 1 y.0 es → Precedes (places (length ts) es) x y
-    by_level x y kx ky (inl a) r = inl a
-    by_level x y kx ky (inr a) r =
-        inr (
-          a.0,
-          ap (λ z. int_lt z (number (places (length ts) es) y.0)) (number-place (length ts) x.0 es kx)
-              ∙ ap (int_lt (pos (place_from 1 x.0 es))) (number-place (length ts) y.0 es ky) ∙ less (place_from 1 x.0 es) (place_from 1 y.0 es) r,
-        )
-
     enters : (x : Entry) → (s.0 ≢ x.0) × (x.0 < length ts) → nat_le s.1 x.1 ≡ true → s.0 < length ts → Precedes (set (places (length ts) es) s.0 (pos (suc (length es)))) x s
     enters x d h known = by_test (x.1 == s.1) refl
       where
@@ -165,7 +150,7 @@ held-numbers ts os s es q =
             let there : number (set (places (length ts) es) s.0 (pos (suc (length es)))) x.0 ≡ pos (place_from 1 x.0 es) =
             number-set_other (places (length ts) es) s.0 x.0 (pos (suc (length es))) (λ e. d.0 (sym e)) ∙ number-place (length ts) x.0 es d.1 in
             let most : place_from 1 x.0 es < suc (length es) = omega (arith, place-at_most 0 x.0 es) in
-            inr (equal k, ap (λ z. int_lt z (number (set (places (length ts) es) s.0 (pos (suc (length es)))) s.0)) there ∙ ap (int_lt (pos (place_from 1 x.0 es))) here ∙ less (place_from 1 x.0 es) (suc (length es)) most)
+            inr (equal k, ap (λ z. int_lt z (number (set (places (length ts) es) s.0 (pos (suc (length es)))) s.0)) there ∙ ap (int_lt (pos (place_from 1 x.0 es))) here ∙ pos-less (place_from 1 x.0 es) (suc (length es)) most)
           where
             equal : (x.1 == s.1) ≡ true → x.1 ≡ s.1
             equal l = grind (arith, nat_tests)

@@ -91,26 +91,27 @@ number-places k (suc n) (suc i) es h = let same : suc k + i ≡ k + suc i = omeg
 pub number-place : (n i : ℕ) (es : List Entry) → i < n → number (places n es) i ≡ pos (place_from 1 i es)
 number-place n i es h = number-places 0 n i es h ∙ (let same : 0 + i ≡ i = omega arith in ap (λ j. pos (place_from 1 j es)) same)
 
-pub queued-places : (ts : List Task) (os : List ℤ) (ready : List Entry) → AreQueued ts os ready → AreQueued ts (places (length ts) ready) ready
-queued-places ts os ready q = record {
-  numbered = length-places 0 (length ts) ready;
-  each = q.each;
-  all = q.all;
-  ordered = ordered-map (Precedes os) (λ x y. place_from 1 x.0 ready < place_from 1 y.0 ready) (Precedes (places (length ts) ready)) (λ x. x.0 < length ts) ready
-      (λ x y kx ky p r. by_level x y kx ky p r) (each-within ts ready q.each) q.ordered (place-ordered 1 ready (distinct-ordered ts os ready q.each q.ordered));
-}
-  where
-    less : (m n : ℕ) → m < n → int_lt (pos m) (pos n) ≡ true
-    less m n h = grind (arith, ints)
+pub pos-less : (m n : ℕ) → m < n → int_lt (pos m) (pos n) ≡ true
+pos-less m n h = grind (arith, ints)
 
-    by_level : (x y : Entry) → x.0 < length ts → y.0 < length ts → Precedes os x y → place_from 1 x.0 ready < place_from 1 y.0 ready → Precedes (places (length ts) ready) x y
+-- by its places a list is in the order that it has by other numbers
+pub ordered-places : (ts : List Task) (os : List ℤ) (es : List Entry) → Each (IsReadyAt ts) es → IsOrdered (Precedes os) es → IsOrdered (Precedes (places (length ts) es)) es
+ordered-places ts os es each ordered =
+    ordered-map (Precedes os) (λ x y. place_from 1 x.0 es < place_from 1 y.0 es) (Precedes (places (length ts) es)) (λ x. x.0 < length ts) es
+    (λ x y kx ky p r. by_level x y kx ky p r) (each-within ts es each) ordered (place-ordered 1 es (distinct-ordered ts os es each ordered))
+  where
+    by_level : (x y : Entry) → x.0 < length ts → y.0 < length ts → Precedes os x y → place_from 1 x.0 es < place_from 1 y.0 es → Precedes (places (length ts) es) x y
     by_level x y kx ky (inl a) r = inl a
     by_level x y kx ky (inr a) r =
         inr (
           a.0,
-          ap (λ z. int_lt z (number (places (length ts) ready) y.0)) (number-place (length ts) x.0 ready kx)
-              ∙ ap (int_lt (pos (place_from 1 x.0 ready))) (number-place (length ts) y.0 ready ky) ∙ less (place_from 1 x.0 ready) (place_from 1 y.0 ready) r,
+          ap (λ z. int_lt z (number (places (length ts) es) y.0)) (number-place (length ts) x.0 es kx)
+              ∙ ap (int_lt (pos (place_from 1 x.0 es))) (number-place (length ts) y.0 es ky) ∙ pos-less (place_from 1 x.0 es) (place_from 1 y.0 es) r,
         )
+
+pub queued-places : (ts : List Task) (os : List ℤ) (ready : List Entry) → AreQueued ts os ready → AreQueued ts (places (length ts) ready) ready
+queued-places ts os ready q =
+    record { numbered = length-places 0 (length ts) ready; each = q.each; all = q.all; ordered = ordered-places ts os ready q.each q.ordered }
 
 -- two tasks of a list
 record Pair (R : Entry → Entry → Type 0) (K : Entry → Type 0) (i j : ℕ) : Type 0 where

@@ -2,6 +2,7 @@
 -- of a state. Three tasks: the first and the last are ready at priority 2, the other one sleeps.
 use Rattle.std.specs.Prelude.{◌≡◌, ℕ, zero, suc, ◌⊎◌, ◌+◌, ◌<◌, ◌≤◌, false, true, List, [], ◌∷◌, codes, Some, None, ℤ, pos, negsuc, int_lt, slice_get, option_map, refl}
 use Rattle.std.proofs.Common.{arith, inl, inr, subst}
+use Rattle.std.proofs.lemmas.Option.{none-some, same_Some}
 use Rattle.seq_tree.specs.Lists.{first_where}
 use Rattle.seq_tree.specs.Statements.{End}
 use Rattle.seq_tree.specs.declared.tree.Costs.{Costs}
@@ -17,7 +18,6 @@ use Rattle.dispatching.specs.Jumping.{IsQuiet, ticks_later}
 use Rattle.dispatching.specs.Queueing.{AreQueued, AreSleeping, IsIn, places}
 use Rattle.dispatching.specs.Renumbering.{DifferInOrders}
 use Rattle.dispatching.proofs.Jumps.{ticks_at_once}
-use Rattle.dispatching.proofs.Places.{some_same}
 use Rattle.dispatching.proofs.Ranks.{ranks-alike}
 use Rattle.dispatching.proofs.Renumbered.{renumbered_tells}
 use Rattle.dispatching.proofs.Sleeping.{due-sleeper}
@@ -58,9 +58,6 @@ state orders = record { time = 0; phase = Use; ran = None; arrivals = []; stoppe
 abbrev ready : List Entry
 ready = (2, 2) ∷ (0, 2) ∷ []
 
-none : {A : Type 0} (a : A) → None ≡ Some a → ⊥
-none a e = cc
-
 queued : (a b c : ℤ) → int_lt c a ≡ true → AreQueued tasks (a ∷ b ∷ c ∷ []) ready
 queued a b c before = record {
   numbered = refl;
@@ -76,7 +73,7 @@ queued a b c before = record {
         sleeps : (t : Task) → Some (task 1 (Asleep 9) 0) ≡ Some t → t.readiness ≡ Ready → ⊥
         sleeps t e is = absurd cc
     at (suc (suc zero)) t e is = inl refl
-    at (suc (suc (suc i))) t e is = absurd (none t e)
+    at (suc (suc (suc i))) t e is = absurd (none-some t e)
 
 -- two states that differ in order numbers alone, and what both tell
 differ : DifferInOrders (state (pos 7 ∷ pos 0 ∷ pos 3 ∷ [])) (state (pos 2 ∷ pos 5 ∷ negsuc 0 ∷ []))
@@ -111,7 +108,7 @@ at_once : run runs 5 (state (pos 7 ∷ pos 0 ∷ pos 3 ∷ [])) ≡ (ticks_later
 at_once = ticks_at_once runs 1 (state (pos 7 ∷ pos 0 ∷ pos 3 ∷ [])) refl refl left quiet
   where
     left : (t : Task) → Some (task 2 Ready 2) ≡ Some t → 2 ≤ t.left
-    left t e = let same : task 2 Ready 2 ≡ t = some_same (task 2 Ready 2) t e in subst (λ (u : Task). 2 ≤ u.left) same (omega arith)
+    left t e = let same : task 2 Ready 2 ≡ t = same_Some (task 2 Ready 2) t e in subst (λ (u : Task). 2 ≤ u.left) same (omega arith)
 
 -- no other task sleeps
 asleep_at : (i until : ℕ) (t : Task) → slice_get tasks i ≡ Some t → t.readiness ≡ Asleep until → (i ≡ 1) ⊎ ⊥
@@ -124,7 +121,7 @@ asleep_at (suc (suc zero)) until t e is = absurd (awake t e is)
   where
     awake : (t : Task) → Some (task 2 Ready 2) ≡ Some t → t.readiness ≡ Asleep until → ⊥
     awake t e is = absurd cc
-asleep_at (suc (suc (suc i))) until t e is = absurd (none t e)
+asleep_at (suc (suc (suc i))) until t e is = absurd (none-some t e)
 
 -- the sleeping tasks, at a time before that of the one that sleeps and at one after it
 sleeping : AreSleeping tasks 3 ((1, 9) ∷ [])

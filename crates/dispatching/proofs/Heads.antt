@@ -1,14 +1,14 @@
 -- The first task of the ready list is the one that is dispatched.
-use Rattle.std.specs.Prelude.{◌≡◌, ◌⊎◌, ℕ, zero, suc, ◌+◌, Bool, true, false, ◌||◌, ◌&&◌, ◌==◌, nat_lt, List, [], ◌∷◌, length, Some, None, option_map, slice_get, ℤ, int_lt, if◌then◌else◌, ⊤, refl}
+use Rattle.std.specs.Prelude.{◌≡◌, ◌⊎◌, ℕ, zero, suc, ◌+◌, Bool, true, false, ◌||◌, ◌&&◌, ◌==◌, nat_lt, List, [], ◌∷◌, length, Some, option_map, slice_get, ℤ, int_lt, if◌then◌else◌, ⊤, refl}
 use Rattle.std.proofs.Common.{sym, ◌∙◌, ap, subst, arith, inl, inr}
+use Rattle.std.proofs.lemmas.Option.{none-some, same_Some}
 use Rattle.std.proofs.lemmas.Bool.Decides.{nat_tests}
 use Rattle.link_queue.specs.Queues.{Entry}
 use Rattle.link_queue.proofs.Lists.{each-both}
 use Rattle.machine.specs.States.{Task, Readiness, Asleep, Waiting, Ready}
 use Rattle.machine.specs.Dispatch.{Candidate, goes_before, candidate_if, candidates, first_of, dispatched_of, dispatched}
 use Rattle.dispatching.specs.Queueing.{AreQueued, IsIn, IsReadyAt, Precedes, number}
-use Rattle.dispatching.proofs.Places.{some_same}
-use Rattle.dispatching.proofs.Queued.{in-each, int-same, int-turn}
+use Rattle.dispatching.proofs.Queued.{in-each, int-turn}
 
 -- a candidate by its parts
 abbrev cand : ℕ → ℕ → ℤ → Candidate
@@ -26,29 +26,6 @@ abbrev IsAmong : Candidate → List Candidate → Type 0
 IsAmong b [] = ⊥
 IsAmong b (d ∷ ds) = (d ≡ b) ⊎ IsAmong b ds
 
-not-itself : (b : Candidate) → goes_before b b ≡ false
-not-itself b = by_levels (nat_lt b.active b.active) (b.active == b.active) (int_lt b.order b.order) (nat_irr b.active) (int_irr b.order)
-  where
-    by_levels : (p q r : Bool) → p ≡ false → r ≡ false → (p || (q && r)) ≡ false
-    by_levels false false false e k = refl
-    by_levels false true false e k = refl
-    by_levels false false true e k = refl
-    by_levels false true true e k = k
-    by_levels true q r e k = absurd (cc_lem e)
-      where
-        cc_lem : true ≡ false → ⊥
-        cc_lem h = cc
-
-    nat_irr : (a : ℕ) → nat_lt a a ≡ false
-    nat_irr a = grind (arith, nat_tests)
-
-    int_irr : (a : ℤ) → int_lt a a ≡ false
-    int_irr a = by_test (int_lt a a) refl
-      where
-        by_test : (t : Bool) → int_lt a a ≡ t → t ≡ false
-        by_test true e = absurd (int-same a e)
-        by_test false e = refl
-
 first-best : (b c : Candidate) (cs : List Candidate) → Best b c → AllBest b cs → (c ≡ b) ⊎ IsAmong b cs → first_of c cs ≡ b
 first-best b c [] best all (inl e) = e
 first-best b c [] best all (inr h) = absurd h
@@ -60,20 +37,14 @@ first-best b c (d ∷ ds) best all among =
       where
         is_best : Best b d → d ≡ b
         is_best (inl same) = same
-        is_best (inr h) = absurd (clash (sym e ∙ ap (goes_before d) is_c ∙ h.1))
-          where
-            clash : true ≡ false → ⊥
-            clash k = cc
+        is_best (inr h) = let both : true ≡ false = sym e ∙ ap (goes_before d) is_c ∙ h.1 in absurd cc
     by_first true e keep take (inr among') = take among'
     by_first false e keep take (inl is_c) = keep (inl is_c)
     by_first false e keep take (inr (inl is_d)) = keep (inl (is_best best))
       where
         is_best : Best b c → c ≡ b
         is_best (inl same) = same
-        is_best (inr h) = absurd (clash (sym h.0 ∙ ap (λ z. goes_before z c) (sym is_d) ∙ e))
-          where
-            clash : true ≡ false → ⊥
-            clash k = cc
+        is_best (inr h) = let both : true ≡ false = sym h.0 ∙ ap (λ z. goes_before z c) (sym is_d) ∙ e in absurd cc
     by_first false e keep take (inr (inr later)) = keep (inr later)
 
 -- facts of all candidates from facts of all ready tasks
@@ -91,10 +62,7 @@ candidates-all b n (t ∷ ts) (o ∷ os) len h =
 
 candidates-among : (n : ℕ) (ts : List Task) (os : List ℤ) (i : ℕ) (t : Task) → length os ≡ length ts → slice_get ts i ≡ Some t → t.readiness ≡ Ready
     → IsAmong (cand (n + i) t.active (number os i)) (candidates n ts os)
-candidates-among n [] os i t len at is = absurd (none at)
-  where
-    none : None ≡ Some t → ⊥
-    none k = cc
+candidates-among n [] os i t len at is = absurd (none-some t at)
 candidates-among n (u ∷ ts) [] i t len at is = absurd (none (length ts) (sym len))
   where
     none : (k : ℕ) → suc k ≡ 0 → ⊥
@@ -104,7 +72,7 @@ candidates-among n (u ∷ ts) (o ∷ os) zero t len at is =
     (inl (ap (λ k. cand k u.active o) here ∙ ap (λ v. cand (n + 0) v.active o) same))
   where
     same : u ≡ t
-    same = some_same u t at
+    same = same_Some u t at
 
     here : n ≡ n + 0
     here = omega arith
@@ -123,10 +91,7 @@ candidates-among n (u ∷ ts) (o ∷ os) (suc i) t len at is =
 -- a list whose members are all best
 dispatched-best : (b : Candidate) (cs : List Candidate) → AllBest b cs → IsAmong b cs → dispatched_of cs ≡ Some b.task
 dispatched-best b [] all among = absurd among
-dispatched-best b (c ∷ cs) all among = ap (λ d. Some d.task) (first-best b c cs all.0 all.1 (turn among))
-  where
-    turn : (c ≡ b) ⊎ IsAmong b cs → (c ≡ b) ⊎ IsAmong b cs
-    turn h = h
+dispatched-best b (c ∷ cs) all among = ap (λ d. Some d.task) (first-best b c cs all.0 all.1 among)
 
 -- one that precedes goes before, and not the other way round
 precedes-before : (os : List ℤ) (x y : Entry) → Precedes os x y
@@ -177,7 +142,7 @@ dispatched-head ts os (e ∷ es) q =
   where
     level : (x : Entry) (j : ℕ) (t : Task) → slice_get ts j ≡ Some t → j ≡ x.0 → IsReadyAt ts x → cand x.0 x.1 (number os x.0) ≡ cand j t.active (number os j)
     level x j t at same h =
-        ap (λ k. cand k x.1 (number os k)) (sym same) ∙ ap (λ l. cand j l (number os j)) (sym h.3 ∙ ap (λ u. u.active) (some_same h.0 t (sym h.1 ∙ ap (slice_get ts) (sym same) ∙ at)))
+        ap (λ k. cand k x.1 (number os k)) (sym same) ∙ ap (λ l. cand j l (number os j)) (sym h.3 ∙ ap (λ u. u.active) (same_Some h.0 t (sym h.1 ∙ ap (slice_get ts) (sym same) ∙ at)))
 
     best : (j : ℕ) (t : Task) → slice_get ts j ≡ Some t → IsIn j (e ∷ es) → Best (cand e.0 e.1 (number os e.0)) (cand j t.active (number os j))
     best j t at (inl same) = inl (sym (level e j t at same q.each.0))

@@ -1,6 +1,7 @@
 -- The law of jumps: where nothing is due before so many ticks have passed, they can be used at once.
 use Rattle.std.specs.Prelude.{◌≡◌, ◌⊎◌, ℕ, zero, suc, ◌+◌, ◌*◌, ◌-◌, ◌<◌, ◌≤◌, Bool, true, false, List, [], ◌∷◌, ◌==◌, if◌then◌else◌, Option, Some, None, ℤ, slice_get, option_map, refl}
 use Rattle.std.proofs.Common.{sym, ◌∙◌, ap, subst, arith, inl, inr}
+use Rattle.std.proofs.lemmas.Option.{none-some, same_Some}
 use Rattle.std.proofs.lemmas.Bool.Decides.{nat_tests}
 use Rattle.seq_tree.specs.Variables.{Variables}
 use Rattle.arrivals_read.specs.declared.arrivals.Arrival.{Arrival}
@@ -17,14 +18,11 @@ use Rattle.trace_text.specs.declared.event.Event.TheVariants as event
 use Rattle.machine.specs.Meanings.{run, and_then}
 use Rattle.machine.proofs.RunLaws.{run_add}
 use Rattle.dispatching.specs.Jumping.{NoArrival, IsQuiet, HasTicks, used_by, ticks_later}
-use Rattle.dispatching.proofs.Places.{get-change, some_same}
+use Rattle.dispatching.proofs.Places.{get-change}
 
 -- the use of ticks by a task
 abbrev ticks : ℕ → Task → Task
 ticks n t = record t { left = t.left - n; used = t.used + n }
-
-no_some : {A : Type 0} (a : A) → None ≡ Some a → ⊥
-no_some a e = cc
 
 -- what is not changed of a task: whether it is ready, and its active priority
 candidates-ticks : (n m i : ℕ) (ts : List Task) (os : List ℤ) → candidates n (change i (ticks m) ts) os ≡ candidates n ts os
@@ -48,14 +46,14 @@ none_due-change n time m i [] e = refl
 none_due-change n time m zero (t ∷ ts) e = by_due (due time t) e
   where
     by_due : (b : Bool) → (if b then Some (n, t) else first_from (suc n) (due time) ts) ≡ None → (if b then Some (n, ticks m t) else first_from (suc n) (due time) ts) ≡ None
-    by_due true e' = absurd (no_some (n, t) (sym e'))
+    by_due true e' = absurd (none-some (n, t) (sym e'))
     by_due false e' = e'
 none_due-change n time m (suc i) (t ∷ ts) e = by_due (due time t) e (none_due-change (suc n) time m i ts)
   where
     by_due : (b : Bool) → (if b then Some (n, t) else first_from (suc n) (due time) ts) ≡ None
         → (first_from (suc n) (due time) ts ≡ None → first_from (suc n) (due time) (change i (ticks m) ts) ≡ None)
         → (if b then Some (n, t) else first_from (suc n) (due time) (change i (ticks m) ts)) ≡ None
-    by_due true e' later = absurd (no_some (n, t) (sym e'))
+    by_due true e' later = absurd (none-some (n, t) (sym e'))
     by_due false e' later = later e'
 
 none_due-used : (time m : ℕ) (o : Option ℕ) (ts : List Task) → first_where (due time) ts ≡ None → first_where (due time) (used_by o m ts) ≡ None
@@ -146,9 +144,9 @@ has-used None n tasks has = tt
 has-used (Some i) n tasks has = λ t h. by_task (slice_get tasks i) has t (sym (get-change i (ticks 1) tasks) ∙ h)
   where
     by_task : (o : Option Task) → ((t : Task) → o ≡ Some t → suc n ≤ t.left) → (t : Task) → option_map (ticks 1) o ≡ Some t → n ≤ t.left
-    by_task None has' t e = absurd (no_some t e)
+    by_task None has' t e = absurd (none-some t e)
     by_task (Some u) has' t e =
-        let same : ticks 1 u ≡ t = some_same (ticks 1 u) t e in
+        let same : ticks 1 u ≡ t = same_Some (ticks 1 u) t e in
         let lefts : u.left - 1 ≡ t.left = ap (λ v. v.left) same in
         let had : suc n ≤ u.left = has' u refl in
         omega arith
@@ -157,14 +155,12 @@ has-fewer : (o : Option ℕ) (m n : ℕ) (tasks : List Task) → m ≤ n → Has
 has-fewer None m n tasks le has = tt
 has-fewer (Some i) m n tasks le has = λ t h. let k : n ≤ t.left = has t h in omega arith
 
--- what is not due at a time
-record Calm (y : System) (arrivals : List Arrival) (tasks : List Task) (time : ℕ) : Type 0 where
-  sleeper : first_where (due time) tasks ≡ None
-  arrival : NoArrival time arrivals
-  horizon : (time == y.until) ≡ false
+-- what is not due at a time, of which arrivals and tasks alone tell
+abbrev Calm : System → List Arrival → List Task → ℕ → Type 0
+Calm y arrivals tasks time = IsQuiet y (state 0 Use None arrivals tasks [] []) time
 
 calm-used : (y : System) (arrivals : List Arrival) (o : Option ℕ) (tasks : List Task) (time : ℕ) → Calm y arrivals tasks time → Calm y arrivals (used_by o 1 tasks) time
-calm-used y arrivals o tasks time c = record { sleeper = none_due-used time 1 o tasks c.sleeper; arrival = c.arrival; horizon = c.horizon }
+calm-used y arrivals o tasks time c = record { no_sleeper = none_due-used time 1 o tasks c.no_sleeper; no_arrival = c.no_arrival; no_horizon = c.no_horizon }
 
 many_ticks : (y : System) (n time : ℕ) (o ran : Option ℕ) (arrivals : List Arrival) (tasks : List Task) (orders : List ℤ) (stores : List Variables)
     → dispatched tasks orders ≡ o → HasTicks tasks (suc n) o → ((j : ℕ) → j < n → Calm y arrivals tasks (time + suc j))
@@ -175,7 +171,7 @@ many_ticks y (suc n) time o ran arrivals tasks orders stores first has calm =
     let s' : State = state (time + 1) Use o arrivals (used_by o 1 tasks) orders stores in
     let now : Calm y arrivals tasks (time + 1) = calm 0 (omega arith) in
     let count : 4 * suc n + 1 ≡ 4 + (4 * n + 1) = omega arith in
-    let one : run y 4 s ≡ (s', []) = one_tick y time o ran arrivals tasks orders stores first (has-fewer o 2 (suc (suc n)) tasks (omega arith) has) now.sleeper now.arrival now.horizon in
+    let one : run y 4 s ≡ (s', []) = one_tick y time o ran arrivals tasks orders stores first (has-fewer o 2 (suc (suc n)) tasks (omega arith) has) now.no_sleeper now.no_arrival now.no_horizon in
     let shift : (j : ℕ) → time + suc (suc j) ≡ time + 1 + suc j = λ j. omega arith in
     let later : (j : ℕ) → j < n → Calm y arrivals (used_by o 1 tasks) (time + 1 + suc j) =
     λ j h. subst (Calm y arrivals (used_by o 1 tasks)) (shift j) (calm-used y arrivals o tasks (time + suc (suc j)) (calm (suc j) (omega arith))) in
@@ -196,7 +192,7 @@ ticks_at_once y n s phase goes_on has quiet =
     ap (λ b. record (ticks_later o (suc n) s) { stopped = b }) (sym goes_on) in
     ap (run y (4 * n + 1)) is
     ∙ many_ticks y n s.time o s.ran s.arrivals s.tasks s.orders s.stores refl has
-    (λ j h. record { sleeper = (quiet j h).no_sleeper; arrival = (quiet j h).no_arrival; horizon = (quiet j h).no_horizon })
+    (λ j h. record { no_sleeper = (quiet j h).no_sleeper; no_arrival = (quiet j h).no_arrival; no_horizon = (quiet j h).no_horizon })
     ∙ ap (λ z. let next : Next = (z, []) in next) back
 
 -- one tick asks for no ticks left

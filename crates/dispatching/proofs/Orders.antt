@@ -45,14 +45,8 @@ first-twins c d (x ∷ xs) (y ∷ ys) same ranked twins =
         → (first_of (if a then x else c) xs).task ≡ (first_of (if b then y else d) ys).task
     by_first true true e later earlier = later
     by_first false false e later earlier = earlier
-    by_first true false e later earlier = absurd (cc_lem e)
-      where
-        cc_lem : true ≡ false → ⊥
-        cc_lem h = cc
-    by_first false true e later earlier = absurd (cc_lem e)
-      where
-        cc_lem : false ≡ true → ⊥
-        cc_lem h = cc
+    by_first true false e later earlier = absurd cc
+    by_first false true e later earlier = absurd cc
 
 dispatched-twins : (cs ds : List Candidate) → Twins cs ds → dispatched_of cs ≡ dispatched_of ds
 dispatched-twins [] [] twins = refl

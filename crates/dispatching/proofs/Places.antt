@@ -2,6 +2,7 @@
 use Rattle.std.specs.Prelude.{◌≡◌, ◌≢◌, ◌⊎◌, ℕ, zero, suc, ◌<◌, true, List, [], ◌∷◌, fold, length, set, Option, Some, None, option_map, slice_get, ℤ, pos, int_lt, ◌+ℤ◌, ◌-ℤ◌, refl}
 use Rattle.std.specs.Int.{int_max, int_min}
 use Rattle.std.proofs.Common.{sym, ◌∙◌, ap, arith, inl, inr, length-set}
+use Rattle.std.proofs.lemmas.Option.{none-some, same_Some}
 use Rattle.std.proofs.lemmas.Bool.{cases_eq}
 use Rattle.seq_tree.specs.Lists.{change}
 use Rattle.machine.specs.States.{Task}
@@ -11,9 +12,6 @@ use Rattle.dispatching.proofs.Renumbered.{Below, Above, greatest, least, above_a
 
 no_below : (i : ℕ) → i < 0 → ⊥
 no_below i h = omega arith
-
-pub some_same : (t u : Task) → Some t ≡ Some u → t ≡ u
-some_same t u e = cc
 
 -- a task after a change
 pub get-change : (i : ℕ) (f : Task → Task) (ts : List Task) → slice_get (change i f ts) i ≡ option_map f (slice_get ts i)
@@ -41,11 +39,8 @@ pub before-change : (i : ℕ) (f : Task → Task) (ts : List Task) (j : ℕ) (u 
 before-change i f ts j u here = by_place (cases_eq j i)
   where
     by_task : (o : Option Task) → slice_get ts j ≡ o → option_map f o ≡ Some u → Before i f ts j u
-    by_task None at e = absurd (no_task e)
-      where
-        no_task : None ≡ Some u → ⊥
-        no_task h = cc
-    by_task (Some t) at e = record { task = t; at = at; is = inr (sym (some_same (f t) u e)) }
+    by_task None at e = absurd (none-some u e)
+    by_task (Some t) at e = record { task = t; at = at; is = inr (sym (same_Some (f t) u e)) }
 
     by_place : (j ≡ i) ⊎ (j ≢ i) → Before i f ts j u
     by_place (inl same) = by_task (slice_get ts j) refl (ap (λ k. option_map f (slice_get ts k)) same ∙ sym (get-change i f ts) ∙ ap (slice_get (change i f ts)) (sym same) ∙ here)
@@ -57,10 +52,7 @@ length-change zero f (u ∷ ts) = refl
 length-change (suc i) f (u ∷ ts) = ap suc (length-change i f ts)
 
 pub get-within : (i : ℕ) (ts : List Task) (t : Task) → slice_get ts i ≡ Some t → i < length ts
-get-within i [] t e = absurd (no_task e)
-  where
-    no_task : None ≡ Some t → ⊥
-    no_task h = cc
+get-within i [] t e = absurd (none-some t e)
 get-within zero (u ∷ ts) t e = omega arith
 get-within (suc i) (u ∷ ts) t e = let h : i < length ts = get-within i ts t e in omega arith
 

@@ -1,6 +1,7 @@
 -- The ready list stands for the order of dispatch, and goes on doing so after each release, entry, exit and end.
 use Rattle.std.specs.Prelude.{◌≡◌, ◌≢◌, ◌⊎◌, ℕ, ◌<◌, ◌≤◌, Bool, true, false, ◌==◌, nat_lt, nat_le, List, [], ◌∷◌, length, Some, slice_get, ℤ, int_lt, if◌then◌else◌, refl}
 use Rattle.std.proofs.Common.{sym, ◌∙◌, ap, subst, arith, inl, inr}
+use Rattle.std.proofs.lemmas.Option.{same_Some}
 use Rattle.std.proofs.lemmas.Bool.{cases_eq}
 use Rattle.std.proofs.lemmas.Bool.Decides.{nat_tests}
 use Rattle.std.proofs.lemmas.Int.{ints}
@@ -10,7 +11,7 @@ use Rattle.link_queue.proofs.Lists.{each-map, each-both, each-put, ordered-put}
 use Rattle.machine.specs.States.{Task, Ready}
 use Rattle.machine.specs.Dispatch.{put_first, put_last}
 use Rattle.dispatching.specs.Queueing.{AreQueued, IsIn, IsReadyAt, Precedes, number}
-use Rattle.dispatching.proofs.Places.{Before, before-change, get-changed, get-other, length-change, get-within, some_same, length-last, length-first, last-other, first-other, last-after, first-before}
+use Rattle.dispatching.proofs.Places.{Before, before-change, get-changed, get-other, length-change, get-within, length-last, length-first, last-other, first-other, last-after, first-before}
 
 pub int-same : (a : ℤ) → int_lt a a ≡ true → ⊥
 int-same a h = grind (arith, ints)
@@ -20,9 +21,6 @@ int-turn a b h = grind (arith, ints)
 
 pub int-along : (a b c : ℤ) → int_lt a b ≡ true → int_lt b c ≡ true → int_lt a c ≡ true
 int-along a b c h k = grind (arith, ints)
-
-nat-same : (a : ℕ) → a < a → ⊥
-nat-same a h = omega arith
 
 -- an order
 pub precedes-along : (os : List ℤ) (x y z : Entry) → Precedes os x y → Precedes os y z → Precedes os x z
@@ -63,7 +61,7 @@ in-each P i (e ∷ es) (inr later) all = in-each P i es later all.1
 pub apart-ready : (ts : List Task) (i : ℕ) (t : Task) (es : List Entry) → slice_get ts i ≡ Some t → (t.readiness ≡ Ready → ⊥) → Each (IsReadyAt ts) es → IsApart i es
 apart-ready ts i t [] at not all = tt
 apart-ready ts i t (e ∷ es) at not all =
-    (λ same. not (ap (λ u. u.readiness) (some_same t all.0.0 (sym at ∙ ap (slice_get ts) same ∙ all.0.1)) ∙ all.0.2), apart-ready ts i t es at not all.1)
+    (λ same. not (ap (λ u. u.readiness) (same_Some t all.0.0 (sym at ∙ ap (slice_get ts) same ∙ all.0.1)) ∙ all.0.2), apart-ready ts i t es at not all.1)
 
 -- what is known of each task in the list after a change of another
 ready-other : (i : ℕ) (f : Task → Task) (ts : List Task) (e : Entry) → i ≢ e.0 → IsReadyAt ts e → IsReadyAt (change i f ts) e
@@ -105,7 +103,7 @@ first-apart ts os e es here each ordered =
     (λ x h. λ same. precedes-apart os e x h.0 same (levels x same h.1)) (each-both (Precedes os e) (IsReadyAt ts) es ordered each)
   where
     levels : (x : Entry) → e.0 ≡ x.0 → IsReadyAt ts x → e.1 ≡ x.1
-    levels x same h = sym here.3 ∙ ap (λ u. u.active) (some_same here.0 h.0 (sym here.1 ∙ ap (slice_get ts) same ∙ h.1)) ∙ h.3
+    levels x same h = sym here.3 ∙ ap (λ u. u.active) (same_Some here.0 h.0 (sym here.1 ∙ ap (slice_get ts) same ∙ h.1)) ∙ h.3
 
 pub head-apart : (ts : List Task) (os : List ℤ) (e : Entry) (es : List Entry) → AreQueued ts os (e ∷ es) → IsApart e.0 es
 head-apart ts os e es q = first-apart ts os e es q.each.0 q.each.1 q.ordered.0
@@ -233,7 +231,7 @@ module _ (ts : List Task) (os : List ℤ) (e : Entry) (es : List Entry) (t : Tas
       }
     where
       by_place : (j : ℕ) (u : Task) → slice_get (change e.0 f ts) j ≡ Some u → u.readiness ≡ Ready → (j ≡ e.0) ⊎ (j ≢ e.0) → IsIn j es
-      by_place j u here ready' (inl same) = absurd (not (ap (λ v. v.readiness) (some_same (f t) u (sym (get-changed e.0 f ts t at) ∙ ap (slice_get (change e.0 f ts)) (sym same) ∙ here)) ∙ ready'))
+      by_place j u here ready' (inl same) = absurd (not (ap (λ v. v.readiness) (same_Some (f t) u (sym (get-changed e.0 f ts t at) ∙ ap (slice_get (change e.0 f ts)) (sym same) ∙ here)) ∙ ready'))
       by_place j u here ready' (inr d) = in-rest j e es d (q.all j u (all-others e.0 f ts j u here d) ready')
 
 -- a change of what dispatching does not read

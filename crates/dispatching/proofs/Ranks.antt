@@ -1,6 +1,7 @@
 -- Places in the ready list serve as order numbers: they rank the ready tasks as any numbers do for which the list is in order of dispatch.
 use Rattle.std.specs.Prelude.{◌≡◌, ◌≢◌, ◌⊎◌, ℕ, zero, suc, ◌+◌, ◌<◌, ◌≤◌, Bool, true, false, ◌==◌, List, [], ◌∷◌, length, Some, slice_get, unwrap_or, ℤ, pos, int_lt, if◌then◌else◌, refl}
 use Rattle.std.proofs.Common.{sym, ◌∙◌, ap, subst, arith, inl, inr}
+use Rattle.std.proofs.lemmas.Option.{same_Some}
 use Rattle.std.proofs.lemmas.Bool.Decides.{nat_tests}
 use Rattle.std.proofs.lemmas.Int.{ints}
 use Rattle.link_queue.specs.Queues.{Entry, Each, IsOrdered, Differ}
@@ -8,7 +9,6 @@ use Rattle.link_queue.proofs.Lists.{each-map, each-both}
 use Rattle.machine.specs.States.{Task}
 use Rattle.dispatching.specs.Renumbering.{AreRivals, HasNumber, RankAlike}
 use Rattle.dispatching.specs.Queueing.{AreQueued, IsIn, IsReadyAt, Precedes, number, place_from, places, places_from}
-use Rattle.dispatching.proofs.Places.{some_same}
 use Rattle.dispatching.proofs.Queued.{int-same, int-turn, precedes-apart, each-within}
 
 -- pairs of a list in order
@@ -24,7 +24,7 @@ distinct-ordered ts os es all ordered =
     ordered-map (Precedes os) (Precedes os) Differ (IsReadyAt ts) es (λ x y kx ky p r. λ same. precedes-apart os x y p same (levels x y same kx ky)) all ordered ordered
   where
     levels : (x y : Entry) → x.0 ≡ y.0 → IsReadyAt ts x → IsReadyAt ts y → x.1 ≡ y.1
-    levels x y same kx ky = sym kx.3 ∙ ap (λ u. u.active) (some_same kx.0 ky.0 (sym kx.1 ∙ ap (slice_get ts) same ∙ ky.1)) ∙ ky.3
+    levels x y same kx ky = sym kx.3 ∙ ap (λ u. u.active) (same_Some kx.0 ky.0 (sym kx.1 ∙ ap (slice_get ts) same ∙ ky.1)) ∙ ky.3
 
 -- a task's place
 pub place-here : (n i : ℕ) (e : Entry) (es : List Entry) → e.0 ≡ i → place_from n i (e ∷ es) ≡ n
@@ -172,10 +172,10 @@ ranks-alike ts os ps ready q r = record {
         lt ns a b h l = ap (λ z. int_lt z (number ns j)) h ∙ ap (int_lt a) l
 
         level-x : k.x.1 ≡ t.active
-        level-x = sym k.of_x.3 ∙ ap (λ v. v.active) (some_same k.of_x.0 t (sym k.of_x.1 ∙ ap (slice_get ts) (sym k.is_x) ∙ ti))
+        level-x = sym k.of_x.3 ∙ ap (λ v. v.active) (same_Some k.of_x.0 t (sym k.of_x.1 ∙ ap (slice_get ts) (sym k.is_x) ∙ ti))
 
         level-y : k.y.1 ≡ u.active
-        level-y = sym k.of_y.3 ∙ ap (λ v. v.active) (some_same k.of_y.0 u (sym k.of_y.1 ∙ ap (slice_get ts) (sym k.is_y) ∙ uj))
+        level-y = sym k.of_y.3 ∙ ap (λ v. v.active) (same_Some k.of_y.0 u (sym k.of_y.1 ∙ ap (slice_get ts) (sym k.is_y) ∙ uj))
 
         levels : k.x.1 ≡ k.y.1
         levels = level-x ∙ rivals.2 ∙ sym level-y

@@ -190,9 +190,6 @@ ended-tames vars t u r = absurd (never t.thread.timing t.next r.0)
     never (Requested op ceiling separation jitter external) next e = cc
 
 -- the parts of a step
-twin : (n : Next) (ps : List ℤ) → Alike n.0.tasks n.0.orders ps → Twin n (renumber ps n.0, n.1)
-twin n ps h = record { state = refl; alike = h; told = refl }
-
 after-twin : (told : List Event) (n m : Next) → Twin n m → Twin (after told n) (after told m)
 after-twin told n m t = record { state = t.state; alike = t.alike; told = ap (λ es. told ++ es) t.told }
 
@@ -373,24 +370,15 @@ beside-of t o p (u ∷ us) (x ∷ xs) [] a b h = absurd (omega arith)
 beside-of t o p (u ∷ us) (x ∷ xs) (y ∷ ys) a b h =
     (λ r. h 0 u x y refl r refl refl, beside-of t o p us xs ys (omega arith) (omega arith) (λ j v z w at r hz hw. h (suc j) v z w at r hz hw))
 
+no_length : (k : ℕ) → suc k ≡ 0 → ⊥
+no_length k e = omega arith
+
 alike-of : (ts : List Task) (os ps : List ℤ) → RankAlike ts os ps → Alike ts os ps
 alike-of [] [] [] h = tt
-alike-of [] [] (p ∷ ps) h = absurd (none (length ps) h.renumbered)
-  where
-    none : (k : ℕ) → suc k ≡ 0 → ⊥
-    none k e = omega arith
-alike-of [] (o ∷ os) ps h = absurd (none (length os) h.numbered)
-  where
-    none : (k : ℕ) → suc k ≡ 0 → ⊥
-    none k e = omega arith
-alike-of (t ∷ ts) [] ps h = absurd (none (length ts) (sym h.numbered))
-  where
-    none : (k : ℕ) → suc k ≡ 0 → ⊥
-    none k e = omega arith
-alike-of (t ∷ ts) (o ∷ os) [] h = absurd (none (length ts) (sym h.renumbered))
-  where
-    none : (k : ℕ) → suc k ≡ 0 → ⊥
-    none k e = omega arith
+alike-of [] [] (p ∷ ps) h = absurd (no_length (length ps) h.renumbered)
+alike-of [] (o ∷ os) ps h = absurd (no_length (length os) h.numbered)
+alike-of (t ∷ ts) [] ps h = absurd (no_length (length ts) (sym h.numbered))
+alike-of (t ∷ ts) (o ∷ os) [] h = absurd (no_length (length ts) (sym h.renumbered))
 alike-of (t ∷ ts) (o ∷ os) (p ∷ ps) h =
     let a : length os ≡ length ts = less (length os) (length ts) h.numbered in
     let b : length ps ≡ length ts = less (length ps) (length ts) h.renumbered in (

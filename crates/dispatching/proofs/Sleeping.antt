@@ -1,6 +1,7 @@
 -- The delay list stands for the sleeping tasks: its first task is the one that is released next.
 use Rattle.std.specs.Prelude.{◌≡◌, ◌≢◌, ◌⊎◌, ℕ, zero, suc, ◌+◌, ◌<◌, ◌≤◌, max, Bool, true, false, nat_le, List, [], ◌∷◌, Some, None, option_map, slice_get, if◌then◌else◌, refl}
 use Rattle.std.proofs.Common.{sym, ◌∙◌, ap, subst, arith, inl, inr}
+use Rattle.std.proofs.lemmas.Option.{none-some, same_Some}
 use Rattle.std.proofs.lemmas.Bool.{cases_eq}
 use Rattle.std.proofs.lemmas.Bool.Decides.{nat_tests}
 use Rattle.seq_tree.specs.Lists.{change, first_from, first_where}
@@ -9,7 +10,7 @@ use Rattle.link_queue.proofs.Lists.{each-map, each-both, each-put, in_order-time
 use Rattle.machine.specs.States.{Task, Readiness, Asleep, Waiting, Ready}
 use Rattle.machine.specs.Steps.{is_due}
 use Rattle.dispatching.specs.Queueing.{AreSleeping, IsIn, SleepsUntil}
-use Rattle.dispatching.proofs.Places.{Before, before-change, get-changed, get-other, some_same}
+use Rattle.dispatching.proofs.Places.{Before, before-change, get-changed, get-other}
 use Rattle.dispatching.proofs.Queued.{all-others, in-each, in-new, in-put, in-rest}
 
 -- whether a sleeper is due
@@ -19,12 +20,9 @@ is_now time t = is_due time t.readiness
 -- the first task that passes a test
 pub first-found : (n : ℕ) (test : Task → Bool) (ts : List Task) (i : ℕ) (t : Task) → slice_get ts i ≡ Some t → test t ≡ true → ((j : ℕ) (u : Task) → j < i → slice_get ts j ≡ Some u → test u ≡ false)
     → first_from n test ts ≡ Some (n + i, t)
-first-found n test [] i t at passes before = absurd (none at)
-  where
-    none : None ≡ Some t → ⊥
-    none k = cc
+first-found n test [] i t at passes before = absurd (none-some t at)
 first-found n test (u ∷ ts) zero t at passes before =
-    let same : u ≡ t = some_same u t at in
+    let same : u ≡ t = same_Some u t at in
     let here : n ≡ n + 0 = omega arith in
     ap (λ b. if b then Some (n, u) else first_from (suc n) test ts) (ap test same ∙ passes) ∙ ap (λ k. Some (k, u)) here ∙ ap (λ v. Some (n + 0, v)) same
 first-found n test (u ∷ ts) (suc i) t at passes before =
@@ -43,7 +41,7 @@ asleep-same a b h = cc
 -- how long a task sleeps that is in the list
 sleeps : (ts : List Task) (time : ℕ) (e : Entry) (i until : ℕ) (t : Task) → SleepsUntil ts time e → i ≡ e.0 → slice_get ts i ≡ Some t → t.readiness ≡ Asleep until → e.1 ≡ max until time
 sleeps ts time e i until t s same at is =
-    let u : s.0 ≡ t = some_same s.0 t (sym s.2 ∙ ap (slice_get ts) (sym same) ∙ at) in
+    let u : s.0 ≡ t = same_Some s.0 t (sym s.2 ∙ ap (slice_get ts) (sym same) ∙ at) in
     s.4 ∙ ap (λ k. max k time) (asleep-same s.1 until (sym s.3 ∙ ap (λ v. v.readiness) u ∙ is))
 
 module _ (ts : List Task) (time : ℕ) (asleep : List Entry) (a : AreSleeping ts time asleep) where
@@ -73,7 +71,7 @@ module _ (ts : List Task) (time : ℕ) (asleep : List Entry) (a : AreSleeping ts
 -- the first entry is due: its task is the first in order of units that is due
 pub first-due : (ts : List Task) (time : ℕ) (e : Entry) (es : List Entry) (t : Task) → AreSleeping ts time (e ∷ es) → e.1 ≤ time → slice_get ts e.0 ≡ Some t → first_where (is_now time) ts ≡ Some (e.0, t)
 first-due ts time e es t a le at =
-    let same : a.each.0.0 ≡ t = some_same a.each.0.0 t (sym a.each.0.2 ∙ at) in
+    let same : a.each.0.0 ≡ t = same_Some a.each.0.0 t (sym a.each.0.2 ∙ at) in
     let found : first_where (is_now time) ts ≡ Some (0 + e.0, t) =
     first-found 0 (is_now time) ts e.0 t at (ap (is_due time) (sym (ap (λ u. u.readiness) same) ∙ a.each.0.3) ∙ now a.each.0.1 e.1 a.each.0.4 le) (λ j u less here. by_readiness j u less here u.readiness refl) in
     found ∙ (let zero_add : 0 + e.0 ≡ e.0 = omega arith in ap (λ k. Some (k, t)) zero_add)
@@ -111,10 +109,7 @@ first-due ts time e es t a le at =
 
 -- the list says which task is released next
 pub due-sleeper : (ts : List Task) (time : ℕ) (asleep : List Entry) → AreSleeping ts time asleep → option_map (λ t. t.0) (first_where (is_now time) ts) ≡ due time asleep
-due-sleeper ts time [] a = ap (option_map (λ t. t.0)) (none-due ts time [] a time (omega arith) (λ e h. absurd (no_entry e h)))
-  where
-    no_entry : (e : Entry) → None ≡ Some e → ⊥
-    no_entry e h = cc
+due-sleeper ts time [] a = ap (option_map (λ t. t.0)) (none-due ts time [] a time (omega arith) (λ e h. absurd (none-some e h)))
 due-sleeper ts time (e ∷ es) a = by_time (nat_le e.1 time) refl
   where
     by_time : (b : Bool) → nat_le e.1 time ≡ b → option_map (λ t. t.0) (first_where (is_now time) ts) ≡ (if b then Some e.0 else None)
@@ -122,16 +117,13 @@ due-sleeper ts time (e ∷ es) a = by_time (nat_le e.1 time) refl
       where
         at_most : (m n : ℕ) → nat_le m n ≡ true → m ≤ n
         at_most m n k = grind (arith, nat_tests)
-    by_time false h = ap (option_map (λ t. t.0)) (none-due ts time (e ∷ es) a time (omega arith) (λ x k. ap_more x k))
+    by_time false h = ap (option_map (λ t. t.0)) (none-due ts time (e ∷ es) a time (omega arith) first_later)
       where
         more : (m n : ℕ) → nat_le m n ≡ false → n < m
         more m n k = grind (arith, nat_tests)
 
-        ap_more : (x : Entry) → Some e ≡ Some x → time < x.1
-        ap_more x k = let later : time < e.1 = more e.1 time h in subst (λ (z : Entry). time < z.1) (same k) later
-          where
-            same : Some e ≡ Some x → e ≡ x
-            same l = cc
+        first_later : (x : Entry) → Some e ≡ Some x → time < x.1
+        first_later x k = let later : time < e.1 = more e.1 time h in subst (λ (z : Entry). time < z.1) (same_Some e x k) later
 
 -- a change of one task leaves the entries of others
 sleeps-other : (i : ℕ) (f : Task → Task) (ts : List Task) (time : ℕ) (e : Entry) → i ≢ e.0 → SleepsUntil ts time e → SleepsUntil (change i f ts) time e
@@ -145,7 +137,7 @@ each-other i f ts time es apart all =
 pub apart-awake : (ts : List Task) (time i : ℕ) (t : Task) (es : List Entry) → slice_get ts i ≡ Some t → ((until : ℕ) → t.readiness ≡ Asleep until → ⊥) → Each (SleepsUntil ts time) es → IsApart i es
 apart-awake ts time i t [] at not all = tt
 apart-awake ts time i t (e ∷ es) at not all =
-    (λ same. not all.0.1 (ap (λ u. u.readiness) (some_same t all.0.0 (sym at ∙ ap (slice_get ts) same ∙ all.0.2)) ∙ all.0.3), apart-awake ts time i t es at not all.1)
+    (λ same. not all.0.1 (ap (λ u. u.readiness) (same_Some t all.0.0 (sym at ∙ ap (slice_get ts) same ∙ all.0.2)) ∙ all.0.3), apart-awake ts time i t es at not all.1)
 
 -- a task goes to sleep
 pub sleeping-more : (ts : List Task) (time : ℕ) (asleep : List Entry) (i until : ℕ) (t : Task) (f : Task → Task) → AreSleeping ts time asleep → slice_get ts i ≡ Some t → ((k : ℕ) → t.readiness ≡ Asleep k → ⊥)
@@ -183,7 +175,7 @@ sleeping-fewer ts time e es f a awake =
 
     by_place : (j k : ℕ) (u : Task) → slice_get (change e.0 f ts) j ≡ Some u → u.readiness ≡ Asleep k → (j ≡ e.0) ⊎ (j ≢ e.0) → IsIn j es
     by_place j k u here sleeps' (inl same) =
-        absurd (awake a.each.0.0 k (ap (λ v. v.readiness) (some_same (f a.each.0.0) u (sym (get-changed e.0 f ts a.each.0.0 a.each.0.2) ∙ ap (slice_get (change e.0 f ts)) (sym same) ∙ here)) ∙ sleeps'))
+        absurd (awake a.each.0.0 k (ap (λ v. v.readiness) (same_Some (f a.each.0.0) u (sym (get-changed e.0 f ts a.each.0.0 a.each.0.2) ∙ ap (slice_get (change e.0 f ts)) (sym same) ∙ here)) ∙ sleeps'))
     by_place j k u here sleeps' (inr d) = in-rest j e es d (a.all j k u (all-others e.0 f ts j u here d) sleeps')
 
 -- time passes, up to the first time

@@ -5,13 +5,13 @@ use Rattle.std.proofs.lemmas.Bool.{cases_eq}
 use Rattle.std.specs.Vec.{with_items}
 use Rattle.std.proofs.lemmas.List.{get_or-replicate, length-replicate, with_items_is}
 use Rattle.link_queue.specs.Queues.{Entry, Queues, AreQueues, Each, IsApart, IsFree, IsOrdered, Differ, RanksNoLower, WakesBefore, HeadIsAtMost, at_head, at_tail, empty_queues, in_time, with_level, put_behind, stays_before, outranks, wakes_before}
-use Rattle.link_queue.specs.Table.{Leads, IsTable, CanLink, IsLinked, IsUnlinked, SameOthers, free_slot, level_of, listed, queues_of, time_of}
+use Rattle.link_queue.specs.Table.{Leads, IsTable, IsLinked, IsUnlinked, SameOthers, free_slot, level_of, listed, queues_of, time_of}
 use Rattle.link_queue.specs.declared.table.Slot.{Slot}
 use Rattle.link_queue.specs.declared.table.Place.{Place}
 use Rattle.link_queue.specs.declared.table.Place.TheVariants.{Ready, Asleep}
 use Rattle.link_queue.specs.declared.table.Rank.TheVariants.{Tail, Head, Wake}
 use Rattle.link_queue.proofs.Lists.{each-map, each-both, each-taken, distinct-put, ranked-tail, ranked-head, in_order-time}
-use Rattle.std.proofs.lemmas.Option.{slice_get-get_or, slice_get_within, get_or_from_slice_get}
+use Rattle.std.proofs.lemmas.Option.{none-some, same_Some, slice_get-get_or, slice_get_within, get_or_from_slice_get}
 use Rattle.link_queue.proofs.Linking.{slot, get-set_same, get-set_other, leads-same, apart-by_kind, apart-kinds, table-queues, table-seen, table-sound}
 
 -- a table that holds these lists, and so shows them
@@ -23,9 +23,6 @@ pub holds : (slots : List Slot) (ready asleep : Option ℕ) (q : Queues) → IsT
 holds slots ready asleep q t = record { table = table-seen slots ready asleep q t; shows = table-queues slots ready asleep q t }
 
 -- at first
-leads-none : (kind : ℕ → Place) (slots : List Slot) → Leads kind slots None []
-leads-none kind slots = refl
-
 pub holds-none : (slots : List Slot) (n : ℕ) → slots ≡ replicate n free_slot → Holds slots None None (empty_queues n)
 holds-none slots n e = holds slots None None (empty_queues n) (record {
   size = sym (ap length e ∙ length-replicate n free_slot);
@@ -73,40 +70,28 @@ kept kind task es fs slots slots' from others apart both h =
     (each-map (λ e. (task ≢ e.0) × IsApart e.0 es) (λ e. slice_get slots' e.0 ≡ slice_get slots e.0) fs (λ e d. others e.0 (λ s. d.0 (sym s)) d.1) (each-both (λ e. task ≢ e.0) (λ e. IsApart e.0 es) fs apart both)) h
 
 module _ (slots : List Slot) (ready asleep : Option ℕ) (t : IsTable slots ready asleep (queues_of slots ready asleep)) (task : ℕ) (free : IsFree (queues_of slots ready asleep) task) where
-  pub can-tail : (level : ℕ) → CanLink (Tail level) task slots ready
-  can-tail level = record { led = record { leads = t.leads_ready; once = t.ready_once }; known = free.known; apart = free.not_ready }
-
-  pub can-head : (level : ℕ) → CanLink (Head level) task slots ready
-  can-head level = record { led = record { leads = t.leads_ready; once = t.ready_once }; known = free.known; apart = free.not_ready }
-
-  pub can-wake : (time : ℕ) → CanLink (Wake time) task slots asleep
-  can-wake time = record { led = record { leads = t.leads_asleep; once = t.asleep_once }; known = free.known; apart = free.not_asleep }
+  holds-ready : (test : Entry → Bool) (level : ℕ) (slots' : List Slot) (ready' : Option ℕ) → length slots' ≡ length slots → IsOrdered RanksNoLower (put_behind test (task, level) (listed slots ready))
+      → Leads Ready slots' ready' (put_behind test (task, level) (listed slots ready)) → SameOthers task (listed slots ready) slots slots'
+      → Holds slots' ready' asleep (record (queues_of slots ready asleep) { ready = put_behind test (task, level) (listed slots ready) })
+  holds-ready test level slots' ready' len ranked leads others =
+      holds slots' ready' asleep (record (queues_of slots ready asleep) { ready = put_behind test (task, level) (listed slots ready) }) (record {
+        size = sym len;
+        leads_ready = leads;
+        leads_asleep = kept Asleep task (listed slots ready) (listed slots asleep) slots slots' asleep others free.not_asleep (ready-apart slots ready asleep (queues_of slots ready asleep) t) t.leads_asleep;
+        apart = λ i h r a. put-apart task level test (listed slots ready) slots slots' others i r (λ r'. t.apart i (omega arith) r' a);
+        ready_once = distinct-put test (task, level) (listed slots ready) free.not_ready t.ready_once;
+        asleep_once = t.asleep_once;
+        by_level = ranked;
+        by_time = t.by_time;
+      })
 
   pub holds-tail : (level : ℕ) (slots' : List Slot) (ready' : Option ℕ) → length slots' ≡ length slots → IsLinked (Tail level) task slots ready slots' ready'
       → Holds slots' ready' asleep (record (queues_of slots ready asleep) { ready = at_tail (task, level) (listed slots ready) })
-  holds-tail level slots' ready' len l = holds slots' ready' asleep (record (queues_of slots ready asleep) { ready = at_tail (task, level) (listed slots ready) }) (record {
-    size = sym len;
-    leads_ready = l.leads;
-    leads_asleep = kept Asleep task (listed slots ready) (listed slots asleep) slots slots' asleep l.others free.not_asleep (ready-apart slots ready asleep (queues_of slots ready asleep) t) t.leads_asleep;
-    apart = λ i h r a. put-apart task level (stays_before (task, level)) (listed slots ready) slots slots' l.others i r (λ r'. t.apart i (omega arith) r' a);
-    ready_once = distinct-put (stays_before (task, level)) (task, level) (listed slots ready) free.not_ready t.ready_once;
-    asleep_once = t.asleep_once;
-    by_level = ranked-tail (task, level) (listed slots ready) t.by_level;
-    by_time = t.by_time;
-  })
+  holds-tail level slots' ready' len l = holds-ready (stays_before (task, level)) level slots' ready' len (ranked-tail (task, level) (listed slots ready) t.by_level) l.leads l.others
 
   pub holds-head : (level : ℕ) (slots' : List Slot) (ready' : Option ℕ) → length slots' ≡ length slots → IsLinked (Head level) task slots ready slots' ready'
       → Holds slots' ready' asleep (record (queues_of slots ready asleep) { ready = at_head (task, level) (listed slots ready) })
-  holds-head level slots' ready' len l = holds slots' ready' asleep (record (queues_of slots ready asleep) { ready = at_head (task, level) (listed slots ready) }) (record {
-    size = sym len;
-    leads_ready = l.leads;
-    leads_asleep = kept Asleep task (listed slots ready) (listed slots asleep) slots slots' asleep l.others free.not_asleep (ready-apart slots ready asleep (queues_of slots ready asleep) t) t.leads_asleep;
-    apart = λ i h r a. put-apart task level (outranks (task, level)) (listed slots ready) slots slots' l.others i r (λ r'. t.apart i (omega arith) r' a);
-    ready_once = distinct-put (outranks (task, level)) (task, level) (listed slots ready) free.not_ready t.ready_once;
-    asleep_once = t.asleep_once;
-    by_level = ranked-head (task, level) (listed slots ready) t.by_level;
-    by_time = t.by_time;
-  })
+  holds-head level slots' ready' len l = holds-ready (outranks (task, level)) level slots' ready' len (ranked-head (task, level) (listed slots ready) t.by_level) l.leads l.others
 
   pub holds-wake : (time : ℕ) (slots' : List Slot) (asleep' : Option ℕ) → length slots' ≡ length slots → IsLinked (Wake time) task slots asleep slots' asleep'
       → Holds slots' ready asleep' (record (queues_of slots ready asleep) { asleep = in_time (task, time) (listed slots asleep) })
@@ -121,10 +106,6 @@ module _ (slots : List Slot) (ready asleep : Option ℕ) (t : IsTable slots read
     by_time = in_order-time (task, time) (listed slots asleep) free.not_asleep t.by_time;
   })
 
--- lists by their parts
-abbrev queues : ℕ → List Entry → List Entry → Queues
-queues n es fs = record { size = n; ready = es; asleep = fs }
-
 -- the first task of a list, with its slot
 pub record Begins (kind : ℕ → Place) (slots : List Slot) (es : List Entry) (task : ℕ) : Type 0 where
   pub key : ℕ
@@ -135,23 +116,14 @@ pub record Begins (kind : ℕ → Place) (slots : List Slot) (es : List Entry) (
   pub leads : Leads kind slots next others
 
 pub begins : (kind : ℕ → Place) (slots : List Slot) (first : Option ℕ) (es : List Entry) (task : ℕ) → Leads kind slots first es → first ≡ Some task → Begins kind slots es task
-begins kind slots first [] task h is = absurd (none (sym h ∙ is))
-  where
-    none : None ≡ Some task → ⊥
-    none e = cc
+begins kind slots first [] task h is = absurd (none-some task (sym h ∙ is))
 begins kind slots first (e ∷ es) task h is =
-    let same : e.0 ≡ task = some_same (sym h.0 ∙ is) in
+    let same : e.0 ≡ task = same_Some e.0 task (sym h.0 ∙ is) in
     record { key = e.1; next = h.1; others = es; whole = ap (λ i. (i, e.1) ∷ es) same; found = ap (slice_get slots) (sym same) ∙ h.2; leads = h.3 }
-  where
-    some_same : Some e.0 ≡ Some task → e.0 ≡ task
-    some_same k = cc
 
 pub begins-not : (kind : ℕ → Place) (slots : List Slot) (first : Option ℕ) (es : List Entry) → Leads kind slots first es → first ≡ None → es ≡ []
 begins-not kind slots first [] h is = refl
-begins-not kind slots first (e ∷ es) h is = absurd (none (sym is ∙ h.0))
-  where
-    none : None ≡ Some e.0 → ⊥
-    none k = cc
+begins-not kind slots first (e ∷ es) h is = absurd (none-some e.0 (sym is ∙ h.0))
 
 -- the first task has left
 unlinked : (kind : ℕ → Place) (slots slots' : List Slot) (es : List Entry) (task : ℕ) (first' : Option ℕ) → IsOrdered Differ es → (b : Begins kind slots es task) → IsUnlinked task slots slots' first' → Leads kind slots' first' b.others
@@ -207,7 +179,7 @@ raised-leads : (slots : List Slot) (ready : Option ℕ) (es : List Entry) (task 
     → Leads Ready (set slots task (slot (Ready level) s.next)) ready (with_level level es)
 raised-leads slots ready [] task level s h once is read = h
 raised-leads slots ready (e ∷ es) task level s h once is read =
-    let same : e.0 ≡ task = some_same (sym h.0 ∙ is) in
+    let same : e.0 ≡ task = same_Some e.0 task (sym h.0 ∙ is) in
     let found : slice_get slots task ≡ Some (slot (Ready e.1) h.1) = ap (slice_get slots) (sym same) ∙ h.2 in
     let next_is : s.next ≡ h.1 = ap (λ z. z.next) (read ∙ get_or_from_slice_get slots task (slot (Ready e.1) h.1) s found) in
     let new : Slot = slot (Ready level) s.next in
@@ -219,9 +191,6 @@ raised-leads slots ready (e ∷ es) task level s h once is read =
       leads-same Ready slots (set slots task new) h.1 es
           (each-map (λ f. e.0 ≢ f.0) (λ f. slice_get (set slots task new) f.0 ≡ slice_get slots f.0) es (λ f d. get-set_other slots task f.0 new (λ k. d (same ∙ sym k))) once.0) h.3,
     )
-  where
-    some_same : Some e.0 ≡ Some task → e.0 ≡ task
-    some_same k = cc
 
 with-level-once : (level : ℕ) (es : List Entry) → IsOrdered Differ es → IsOrdered Differ (with_level level es)
 with-level-once level [] once = once

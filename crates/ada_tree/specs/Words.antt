@@ -1,6 +1,6 @@
 -- The words that are no name in an Ada text: those that are reserved, and those that the text uses itself.
 -- The reserved words are those of ISO/IEC 8652:2012, 2.9.
-use Rattle.std.specs.Prelude.{ℕ, Bool, not, ◌||◌, List, [], ◌∷◌, nat_eq, codes}
+use Rattle.std.specs.Prelude.{ℕ, ◌==◌, Bool, not, ◌||◌, List, [], ◌∷◌, length, nat_eq, codes}
 use Rattle.std.specs.List.{starts_with}
 use Rattle.seq_tree.specs.Names.{Name}
 use Rattle.seq_tree.specs.Proper.{is_among}
@@ -25,6 +25,6 @@ kept_words =
     codes "hrt" ∷ codes "word" ∷ codes "work" ∷ codes "put" ∷ codes "activation_end" ∷ codes "boolean" ∷ codes "true" ∷
     codes "false" ∷ codes "ada" ∷ codes "standard" ∷ codes "system" ∷ []
 
--- whether a word is a name of a program
+-- whether a word is a name of a program: it has a byte, is none of them, and begins in another way than the text's own names
 unfoldable pub is_ada_name : Name → Bool
-is_ada_name name = not (is_among reserved_words name || is_among kept_words name || starts_with nat_eq name (codes "hrt_"))
+is_ada_name name = not (length name == 0 || is_among reserved_words name || is_among kept_words name || starts_with nat_eq name (codes "hrt_"))

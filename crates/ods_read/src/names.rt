@@ -42,12 +42,12 @@ const DESIGN_WORDS: [&str; 30] = [
     "put",
 ];
 
-/// Whether a word may be a name in a design.
+/// Whether a word may be a name in a design: it has a byte, and is none of the words of the grammar.
 #[tactic(auto, unfolding(ods_tree::specs::Words::is_design_name))]
 fn is_design_name(name: &[u8]) -> bool
     ensures { result ≡ is_design_name name.now }
 {
-    !is_among(&DESIGN_WORDS, name)
+    !(name.is_empty() || is_among(&DESIGN_WORDS, name))
 }
 
 /// The name that is first, and the tokens after it.

@@ -24,7 +24,7 @@ pub enum Text {
 fn is_block_name(name: &[u8]) -> bool
     ensures { result ≡ is_block_name name.now }
 {
-    !is_among(&WORDS, name)
+    !(name.is_empty() || is_among(&WORDS, name))
 }
 
 /// Whether a word may be a name in this kind of text.

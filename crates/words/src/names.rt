@@ -106,11 +106,11 @@ pub fn is_among(words: &[&str], name: &[u8]) -> bool
     false
 }
 
-/// Whether a name, in lower case, may stand in an Ada text: it is neither reserved, nor kept for what the text uses itself, nor
-/// begins with `hrt_`.
+/// Whether a name, in lower case, may stand in an Ada text: it is not empty, not reserved, not kept for what the text uses itself, and does
+/// not begin with `hrt_`.
 #[tactic(auto, unfolding(ada_tree::specs::Words::is_ada_name))]
 pub fn is_ada_name(name: &[u8]) -> bool
     ensures { result ≡ is_ada_name name.now }
 {
-    !(is_among(&RESERVED, name) || is_among(&KEPT, name) || name.starts_with(b"hrt_"))
+    !(name.is_empty() || is_among(&RESERVED, name) || is_among(&KEPT, name) || name.starts_with(b"hrt_"))
 }

@@ -1,4 +1,3 @@
 mod Worked
 mod Mine
 pub mod RunLaws
-mod LocalRuns

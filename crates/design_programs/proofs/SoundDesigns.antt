@@ -1,0 +1,20 @@
+-- The flat design of a design that meets the rules is sound.
+use Rattle.ods_tree.specs.Designs.{Design}
+use Rattle.ods_tree.specs.Flattening.{flat}
+use Rattle.analysis.specs.Sound.{IsSound}
+use Rattle.ods_rules.specs.Rules.{AreMet}
+use Rattle.design_programs.proofs.WellFormed.{formed, op_costs-right, thread_costs-right}
+use Rattle.design_programs.proofs.NoRings.{no-call-ring, no-object-ring}
+use Rattle.design_programs.proofs.Started.{all-started}
+use Rattle.design_programs.proofs.Spaced.{all-spaced}
+
+pub flat-sound : (written x : Design) → AreMet written x → IsSound (flat x)
+flat-sound written x met = record {
+  formed = formed written x met;
+  no_ring = no-call-ring written x met;
+  no_object_ring = no-object-ring written x met;
+  started = all-started written x met;
+  spaced = all-spaced written x met;
+  op_costs = op_costs-right written x met;
+  thread_costs = thread_costs-right written x met;
+}

@@ -1,0 +1,54 @@
+//! Every run of the program of a design is right: what is told is allowed by the design, and every thread responds within its bound. No
+//! code runs here.
+//!
+//! It joins the laws of whole runs (`written_runs`), of releases (`releases`) and of responses (`response_law`), first for any program
+//! whose tasks all stand in a table that fits, and then for the program of a design (`design_programs`). `designs_are_right` is the heart of
+//! the guarantee: it holds of every design that meets the rules and has bounds.
+#![tactic(auto)]
+
+ghost use Rattle.std.specs.Prelude.{ℕ};
+ghost use Rattle.right_runs.specs.Laws.{TabledRunsAreRight, AcceptedWhereKept, SoundDesignsAreRight, DesignsAreRight, TextsAreGuaranteed, ReplaysAreRight};
+
+/// Every run of a program whose tasks all stand in a table that fits is permitted by the program's texts and within its bounds.
+///
+/// The program can be read and the arrivals are accepted. So the releases of cyclic tasks come at their times, requests are served in
+/// order and none is lost, and arrivals are told as they come. `limit` is the farthest horizon allowed, in ticks.
+pub fn tabled_runs_are_right()
+    ensures { (limit : ℕ) → TabledRunsAreRight limit }
+{}
+
+/// Arrivals are accepted for a program exactly where they keep the separations of its software.
+///
+/// The program can be read. `limit` is the farthest horizon allowed, in ticks.
+pub fn arrivals_are_accepted_where_kept()
+    ensures { (limit : ℕ) → AcceptedWhereKept limit }
+{}
+
+/// Every run of the program of a design whose flat design is sound is right: for all arrivals that keep the separations, what is told is
+/// allowed, and every thread responds within its bound.
+///
+/// The program can be read, and `v` fits the table. `limit` is the farthest horizon allowed, in ticks.
+pub fn sound_designs_are_right()
+    ensures { (limit : ℕ) → SoundDesignsAreRight limit }
+{}
+
+/// Every run of the program of a design is right: for all arrivals that keep the separations, what is told is allowed by the design, and
+/// every activation whose bound falls within the horizon ends within it.
+///
+/// The design is one that a text can have, it meets the rules, and `v` fits its table, in ticks. `limit` is the farthest horizon allowed,
+/// in ticks.
+pub fn designs_are_right()
+    ensures { (limit : ℕ) → DesignsAreRight limit }
+{}
+
+/// A text with the tokens of such a design's program, within the limit of bytes, is guaranteed for the design and those bounds.
+pub fn texts_are_guaranteed()
+    ensures { (limit : ℕ) → TextsAreGuaranteed limit }
+{}
+
+/// What is told of such a design's program under arrivals that are accepted for it is allowed by the design and within the bounds.
+///
+/// So whoever replays the program needs nothing of the design: neither its rules nor its separations are asked of the arrivals again.
+pub fn replays_are_right()
+    ensures { (limit : ℕ) → ReplaysAreRight limit }
+{}

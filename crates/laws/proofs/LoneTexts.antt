@@ -14,7 +14,7 @@ use Rattle.ada_tree.specs.Spelling.{end_line, hrt_lines, specification_lines, un
 use Rattle.ada_print.specs.Parts.{opening_lines, package_lines, body_lines, closing_lines}
 use Rattle.laws.proofs.UsableBlocks.{usable_ind}
 use Rattle.laws.proofs.TextSizes.{lines_size, lines_size-append}
-use Rattle.laws.proofs.LoneLaw.{lone_unit, lone_program}
+use Rattle.laws.proofs.LoneProgram.{lone_unit, lone_program}
 
 -- how many statements a block has
 abbrev pub statement_count : Statements → ℕ

@@ -1,20 +1,16 @@
-//! The laws that carry the end-to-end guarantee, over definitions alone: no code runs here.
+//! The laws that carry the end-to-end guarantee from the bytes of a design to its text, over definitions alone: no code runs here.
 //!
-//! They stand on the definitions of designs and their rules, of the analysis, of Ada programs, of the processor and of the guarantee,
-//! and on the laws of the reader and the printer of Ada texts. Each is the contract of a public function with an empty body.
-//! `generated_text_is_guaranteed` carries the promise, so far for designs of one cyclic object whose thread has `null;` and `work (n);`
-//! alone: the text of such a design is guaranteed, and what a replay of it tells is allowed by the design and within its bounds.
-//! It joins `runs_are_right`, on all runs of the design's program, `program_is_readable` and `accepted_arrivals_are_kept`;
-//! `cost_is_bound` says which bound fits.
+//! They stand on `right_runs`, which says of every design that the runs of its program are right, and on the laws of the reader and the
+//! printer of Ada texts. Each is the contract of a public function with an empty body. `generated_text_is_guaranteed` carries the
+//! promise for the designs whose text is built so far, those of one cyclic object whose thread has `null;` and `work (n);` alone;
+//! `replay_is_right` says of every design what a replay tells of a text that is accepted as its program; `cost_is_bound` says which
+//! bound fits.
 #![tactic(auto)]
 
 mod bounds;
-mod cyclic;
+mod replays;
 mod texts;
 
 pub use bounds::cost_is_bound;
-pub use cyclic::{
-    accepted_arrivals_are_kept, program_is_readable, replay_is_right, runs_are_right,
-    text_is_guaranteed,
-};
+pub use replays::{program_is_usable, replay_is_right};
 pub use texts::generated_text_is_guaranteed;

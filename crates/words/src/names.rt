@@ -112,5 +112,8 @@ pub fn is_among(words: &[&str], name: &[u8]) -> bool
 pub fn is_ada_name(name: &[u8]) -> bool
     ensures { result ≡ is_ada_name name.now }
 {
-    !(name.is_empty() || is_among(&RESERVED, name) || is_among(&KEPT, name) || name.starts_with(b"hrt_"))
+    !(name.is_empty()
+        || is_among(&RESERVED, name)
+        || is_among(&KEPT, name)
+        || name.starts_with(b"hrt_"))
 }

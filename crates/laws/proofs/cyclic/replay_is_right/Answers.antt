@@ -1,5 +1,0 @@
-use Rattle.laws.proofs.CyclicGuarantee.{right_replay}
-use Rattle.laws.proofs.cyclic.replay_is_right.Goals as goal
-
-pub returns : goal.returns
-returns c = right_replay

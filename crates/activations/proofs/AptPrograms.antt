@@ -11,8 +11,8 @@ use Rattle.seq_tree.specs.declared.tree.OpName.{OpName}
 use Rattle.ada_tree.specs.Programs.{Form, Unit, Program, Passive, Shared}
 use Rattle.ada_tree.specs.Bodies.{Body, bodies, op_body, heads, offers}
 use Rattle.ada_tree.specs.Rules.{MeetsRules}
-use Rattle.arrivals_read.specs.Arriving.{Arrivals}
-use Rattle.trace_text.specs.Lines.{unit_name, unit_ops}
+use Rattle.arrivals_tree.specs.Arriving.{Arrivals}
+use Rattle.trace_tree.specs.Lines.{unit_name, unit_ops}
 use Rattle.guarantee.specs.Events.{op_at}
 use Rattle.guarantee.specs.Software.{program_software, leads_to}
 use Rattle.machine.specs.Systems.{System, system, Guarded, Thread, Callee, Protected, Request, callee}

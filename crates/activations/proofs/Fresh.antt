@@ -4,7 +4,7 @@ use Rattle.std.proofs.Common.{sym, ap, subst, inl, inr}
 use Rattle.seq_tree.specs.Lists.{change}
 use Rattle.seq_tree.specs.Variables.{Variables}
 use Rattle.seq_tree.specs.declared.tree.Costs.{Costs}
-use Rattle.trace_text.specs.declared.event.Event.{Event}
+use Rattle.trace_tree.specs.declared.event.Event.{Event}
 use Rattle.machine.specs.Systems.{System}
 use Rattle.machine.specs.Pieces.{Piece, Idle, Store, Leaving, Calling, Working, Printing, Testing, Turning, Turned, Returning, Closing, Keeping, Opening, Requested, Finishing, ticks_of}
 use Rattle.machine.specs.Deeds.{Act, Silent, Print, Enter, Leave, Ask, Keep, Open, Ended, Finish}

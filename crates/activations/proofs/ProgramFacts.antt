@@ -6,7 +6,7 @@ use Rattle.ada_tree.specs.Programs.{Form, Program}
 use Rattle.ada_tree.specs.Bodies.{Body, bodies}
 use Rattle.ada_tree.specs.Ranges.{is_outside, costs_break, whole_breaks}
 use Rattle.ada_tree.specs.Rules.{Ranges, Whole, MeetsRules}
-use Rattle.arrivals_read.specs.Arriving.{Arrivals}
+use Rattle.arrivals_tree.specs.Arriving.{Arrivals}
 use Rattle.machine.specs.Systems.{system, Thread, Timing, Periodic, Requested}
 use Rattle.activations.proofs.Courses.{FitBlock}
 use Rattle.activations.proofs.Programs.{Leads}

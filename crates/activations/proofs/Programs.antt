@@ -3,8 +3,8 @@ use Rattle.std.specs.Prelude.{ℕ, [], option_map, slice_get, unwrap_or, ⊤}
 use Rattle.seq_tree.specs.Names.{Name}
 use Rattle.seq_tree.specs.declared.tree.OpName.{OpName}
 use Rattle.ada_tree.specs.Programs.{Program}
-use Rattle.arrivals_read.specs.Arriving.{Arrivals}
-use Rattle.trace_text.specs.Lines.{unit_name}
+use Rattle.arrivals_tree.specs.Arriving.{Arrivals}
+use Rattle.trace_tree.specs.Lines.{unit_name}
 use Rattle.machine.specs.Systems.{System, system, Callee, Unknown, callee}
 use Rattle.machine.specs.Effects.{object_unit, task_unit}
 use Rattle.guarantee.specs.Software.{program_software, leads_to}

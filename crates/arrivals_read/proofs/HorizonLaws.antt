@@ -16,14 +16,14 @@ use Rattle.token_read.specs.Readers.{is_within}
 use Rattle.token_read.proofs.TokenLaws.{Any, andthen, reads-fixed, reads-number_within, joins-fixed, joins-number_within}
 use Rattle.seq_read.specs.Places.{place_at}
 use Rattle.ada_tree.specs.Programs.{Program}
-use Rattle.arrivals_read.specs.Acceptance.{ArrivalFault, Far}
+use Rattle.arrivals_tree.specs.Acceptance.{ArrivalFault, Far}
 use Rattle.arrivals_read.specs.Answers.{IsTextOf, Says, SaysNothing, StopsAt}
-use Rattle.arrivals_read.specs.Arrived.{Arrives}
-use Rattle.arrivals_read.specs.Arriving.{Arrivals, arrivals_of}
-use Rattle.arrivals_read.specs.declared.arrivals.Arrivals as values
-use Rattle.arrivals_read.specs.ArrivalTexts.{ArrivalText, arrival_tokens, said}
+use Rattle.arrivals_tree.specs.Arrived.{Arrives}
+use Rattle.arrivals_tree.specs.Arriving.{Arrivals, arrivals_of}
+use Rattle.arrivals_tree.specs.declared.arrivals.Arrivals as values
+use Rattle.arrivals_tree.specs.ArrivalTexts.{ArrivalText, arrival_tokens, said}
 use Rattle.arrivals_read.specs.Horizons.{horizon_at, horizon_alone}
-use Rattle.arrivals_read.specs.InUse.{AreUsableArrivals, horizon_limit}
+use Rattle.arrivals_tree.specs.InUse.{AreUsableArrivals, horizon_limit}
 
 -- the tokens of a horizon
 abbrev pub horizon_tokens : ℕ → List Token

@@ -5,7 +5,7 @@ use Rattle.seq_tree.specs.declared.text_fault.TextFault.{TextFault}
 use Rattle.seq_tree.specs.declared.text_fault.TextFault.TheVariants as text
 use Rattle.ada_tree.specs.Programs.{Program}
 use Rattle.arrivals_read.specs.Answers.{Refuses, SaysNothing}
-use Rattle.arrivals_read.specs.ArrivalTexts.{arrival_tokens}
+use Rattle.arrivals_tree.specs.ArrivalTexts.{arrival_tokens}
 
 -- a text without tokens
 pub unread-nothing : (bytes : List ℕ) (p : Program) (fault : Misread) → tokens bytes ≡ Err fault → SaysNothing bytes p

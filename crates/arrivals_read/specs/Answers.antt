@@ -11,11 +11,11 @@ use Rattle.seq_tree.specs.declared.text_fault.TextFault.TheVariants as text
 use Rattle.token_read.specs.Words.{bare}
 use Rattle.seq_read.specs.Places.{place_at}
 use Rattle.ada_tree.specs.Programs.{Program}
-use Rattle.arrivals_read.specs.Arrived.{Arrives}
-use Rattle.arrivals_read.specs.Arriving.{Arrivals, arrivals_of}
-use Rattle.arrivals_read.specs.ArrivalTexts.{ArrivalText, arrival_tokens, said}
-use Rattle.arrivals_read.specs.InUse.{AreUsableArrivals, horizon_limit}
-use Rattle.arrivals_read.specs.declared.arrivals.Arrivals as values
+use Rattle.arrivals_tree.specs.Arrived.{Arrives}
+use Rattle.arrivals_tree.specs.Arriving.{Arrivals, arrivals_of}
+use Rattle.arrivals_tree.specs.ArrivalTexts.{ArrivalText, arrival_tokens, said}
+use Rattle.arrivals_tree.specs.InUse.{AreUsableArrivals, horizon_limit}
+use Rattle.arrivals_tree.specs.declared.arrivals.Arrivals as values
 use Rattle.arrivals_read.specs.declared.fault.ArrivalFault.{ArrivalFault}
 use Rattle.arrivals_read.specs.declared.fault.ArrivalFault.TheVariants.{Text, NoMemory}
 

@@ -6,8 +6,8 @@ use Rattle.seq_tree.specs.declared.token.Token.{Token}
 use Rattle.seq_tree.specs.declared.token.Token.TheVariants.{Word, Sign}
 use Rattle.seq_tree.specs.declared.token.Mark.TheVariants.{Semicolon}
 use Rattle.token_read.specs.Readers.{fixed_at, number_within_at}
-use Rattle.arrivals_read.specs.Arriving.{Arrivals}
-use Rattle.arrivals_read.specs.InUse.{horizon_limit}
+use Rattle.arrivals_tree.specs.Arriving.{Arrivals}
+use Rattle.arrivals_tree.specs.InUse.{horizon_limit}
 
 -- a horizon
 unfoldable pub horizon_at : List Token → Read Token ℕ

@@ -1,15 +1,15 @@
 ghost use Rattle.std.specs.Prelude.{◌≡◌, ◌≤◌, Err, IfOk, length};
 ghost use Rattle.ada_tree.specs.Trees.{program_of};
-ghost use Rattle.arrivals_read.specs.Arrived.{Arrives};
-ghost use Rattle.arrivals_read.specs.Arriving.{Arrivals as Tree, arrivals_of};
-ghost use Rattle.arrivals_read.specs.InUse.{AreUsableArrivals, horizon_limit};
+ghost use Rattle.arrivals_tree.specs.Arrived.{Arrives};
+ghost use Rattle.arrivals_tree.specs.Arriving.{Arrivals as Tree, arrivals_of};
+ghost use Rattle.arrivals_tree.specs.InUse.{AreUsableArrivals, horizon_limit};
 ghost use Rattle.arrivals_read.specs.Answers.{GivesTokens, Says, StopsAt};
 ghost use Rattle.arrivals_read.specs.Horizons.{horizon_alone, horizon_at};
 ghost use Rattle.grammar.specs.Reading.{whole_at};
 ghost use Rattle.seq_tree.specs.Lexis.{tokens};
 ghost use Rattle.token_read.specs.Words.{GivesWhole, bare};
 
-use crate::arrivals::Arrivals;
+use arrivals_tree::Arrivals;
 use crate::fault::ArrivalFault;
 use ada_tree::AdaProgram;
 use seq_read::place_of;

@@ -6,7 +6,7 @@ use Rattle.seq_tree.specs.Names.{Name, same_name, is_named, are_distinct}
 use Rattle.seq_tree.specs.Variables.{Variables, read, kept}
 use Rattle.seq_tree.specs.declared.tree.Datum.{Datum}
 use Rattle.seq_tree.specs.Lists.{change}
-use Rattle.trace_text.specs.declared.event.Event.TheVariants as event
+use Rattle.trace_tree.specs.declared.event.Event.TheVariants as event
 use Rattle.machine.specs.Systems.{System, Periodic}
 use Rattle.machine.specs.Pieces.{Piece}
 use Rattle.machine.specs.Deeds.{done}

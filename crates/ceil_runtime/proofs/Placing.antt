@@ -5,10 +5,10 @@ use Rattle.std.specs.List.{enumerate_from}
 use Rattle.seq_tree.specs.Lists.{Each}
 use Rattle.seq_tree.specs.Names.{Name}
 use Rattle.ada_tree.specs.Programs.{Unit, Form, Program, Passive, Shared, Cyclic, Sporadic}
-use Rattle.arrivals_read.specs.Arriving.{Arrivals, durations}
-use Rattle.trace_text.specs.declared.event.Event.{Event}
-use Rattle.trace_text.specs.declared.event.Event.TheVariants as event
-use Rattle.trace_text.specs.Placed.{IsPlaced}
+use Rattle.arrivals_tree.specs.Arriving.{Arrivals, durations}
+use Rattle.trace_tree.specs.declared.event.Event.{Event}
+use Rattle.trace_tree.specs.declared.event.Event.TheVariants as event
+use Rattle.trace_tree.specs.Placed.{IsPlaced}
 use Rattle.machine.specs.Systems.{Thread, thread_by, system}
 use Rattle.ceil_runtime.specs.Moves.{IsOf}
 

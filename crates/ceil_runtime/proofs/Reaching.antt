@@ -1,6 +1,6 @@
 -- Where a run stands after some steps, and what has been told by then.
 use Rattle.std.proofs.Common.{◌≡◌, ℕ, ◌+◌, ◌++◌, List, [], ◌∷◌, refl, ap, subst, ◌∙◌, append-nil}
-use Rattle.trace_text.specs.declared.event.Event.{Event}
+use Rattle.trace_tree.specs.declared.event.Event.{Event}
 use Rattle.machine.specs.States.{State}
 use Rattle.machine.specs.Releases.{Next, after}
 use Rattle.machine.specs.Steps.{step}

@@ -1,8 +1,8 @@
 -- What a phase of the machine does, and what a step of it does.
 -- The system stays, and the state goes on as the definitions say.
 use Rattle.std.specs.Prelude.{◌≡◌, ℕ, ◌+◌, ◌<◌, ◌≤◌, true, false, ⊤, length, List, Option, Some, None}
-use Rattle.trace_text.specs.declared.event.Event.{Event}
-use Rattle.trace_text.specs.declared.event.Event.TheVariants as event
+use Rattle.trace_tree.specs.declared.event.Event.{Event}
+use Rattle.trace_tree.specs.declared.event.Event.TheVariants as event
 use Rattle.machine.specs.States.{Phase}
 use Rattle.machine.specs.Steps.{step, step_in}
 use Rattle.machine.specs.Meanings.{Running}

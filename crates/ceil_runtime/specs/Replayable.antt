@@ -6,9 +6,9 @@ use Rattle.ada_tree.specs.Words.{is_ada_name}
 use Rattle.ada_tree.specs.Proper.{IsProperProgram}
 use Rattle.ada_tree.specs.Rules.{MeetsRules}
 use Rattle.ada_tree.specs.InUse.{IsSequentialProgram}
-use Rattle.arrivals_read.specs.Arriving.{Arrivals}
-use Rattle.arrivals_read.specs.Acceptance.{IsAccepted}
-use Rattle.arrivals_read.specs.InUse.{AreUsableArrivals, horizon_limit}
+use Rattle.arrivals_tree.specs.Arriving.{Arrivals}
+use Rattle.arrivals_tree.specs.Acceptance.{IsAccepted}
+use Rattle.arrivals_tree.specs.InUse.{AreUsableArrivals, horizon_limit}
 
 -- a program and arrivals that can be run
 pub record IsReplayable (p : Program) (a : Arrivals) : Type 0 where

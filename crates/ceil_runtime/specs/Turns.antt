@@ -2,8 +2,8 @@
 -- A run ends with the horizon or with a stop, and neither comes before the end.
 use Rattle.std.specs.Prelude.{◌≡◌, ℕ, ◌<◌, Bool, true, false, List, [], ◌∷◌, ◌++◌, length}
 use Rattle.std.specs.List.{list_any}
-use Rattle.trace_text.specs.declared.event.Event.{Event}
-use Rattle.trace_text.specs.declared.event.Event.TheVariants as event
+use Rattle.trace_tree.specs.declared.event.Event.{Event}
+use Rattle.trace_tree.specs.declared.event.Event.TheVariants as event
 use Rattle.machine.specs.Meanings.{Running}
 use Rattle.ceil_runtime.specs.declared.processor.Turn.{Turn}
 use Rattle.ceil_runtime.specs.declared.processor.Turn.TheVariants.{More, Horizon, CeilingViolation}

@@ -1,7 +1,7 @@
 ghost use Rattle.std.specs.Prelude.{◌≡◌, ◌<◌, [], ◌∷◌, ◌++◌, length};
 
 use std::marker::Model;
-use trace_text::Event;
+use trace_tree::Event;
 
 /// What a slot holds before an event is put there.
 fn empty() -> Event {
@@ -17,7 +17,7 @@ pub struct EventBuf {
 
 impl Model for EventBuf {
     ghost use Rattle.std.specs.Prelude.{List, ◌≤◌, take};
-    ghost use Rattle.trace_text.specs.declared.event.Event.{Event};
+    ghost use Rattle.trace_tree.specs.declared.event.Event.{Event};
 
     ghost Value = { List Event };
 

@@ -18,7 +18,7 @@ use crate::piece::{Call, Frame, Piece, Round};
 use crate::stack::Stack;
 use crate::values::{Var, value_of, write};
 use seq_tree::{Arm, Block, Expr, Name};
-use trace_text::Values;
+use trace_tree::Values;
 
 /// What a piece is to others.
 #[derive(Clone, Copy, Debug, PartialEq, Eq)]

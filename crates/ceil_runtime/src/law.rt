@@ -1,7 +1,7 @@
 ghost use Rattle.std.specs.Prelude.{◌≡◌, List};
 ghost use Rattle.ada_tree.specs.Programs.{Program};
-ghost use Rattle.arrivals_read.specs.Arriving.{Arrivals};
-ghost use Rattle.trace_text.specs.declared.event.Event.{Event};
+ghost use Rattle.arrivals_tree.specs.Arriving.{Arrivals};
+ghost use Rattle.trace_tree.specs.declared.event.Event.{Event};
 ghost use Rattle.machine.specs.Meanings.{Meaning};
 
 /// A program has one meaning under arrivals: two lists of events that it may tell are one.

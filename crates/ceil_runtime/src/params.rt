@@ -8,7 +8,7 @@ ghost use Rattle.ceil_runtime.specs.Stacked.{vars_of};
 
 use crate::values::{Var, read, value_of, write};
 use seq_tree::{Datum, Expr, Mode, Name, Param};
-use trace_text::Values;
+use trace_tree::Values;
 
 /// Adds the values of the actuals that are handed in, in order.
 pub fn hand_in(values: &mut Values, params: &[Param], actuals: &[Expr], vars: &[Var])

@@ -1,11 +1,11 @@
 ghost use Rattle.std.specs.Prelude.{◌≡◌, ◌<◌, ◌≤◌, ◌+◌, ◌++◌, ◌^◌, ◌||◌, ◌==◌, None, List, [], ◌∷◌, IfOk, Some, false, true, length, option_to_list};
-ghost use Rattle.trace_text.specs.declared.event.Event.{Event};
+ghost use Rattle.trace_tree.specs.declared.event.Event.{Event};
 ghost use Rattle.machine.specs.Meanings.{Running, Tells, begun};
 ghost use Rattle.ada_tree.specs.Programs.{Program};
 ghost use Rattle.ada_tree.specs.Ranges.{costs_break};
-ghost use Rattle.arrivals_read.specs.Arriving.{Arrivals as Arriving};
+ghost use Rattle.arrivals_tree.specs.Arriving.{Arrivals as Arriving};
 ghost use Rattle.machine.specs.Systems.{system};
-ghost use Rattle.trace_text.specs.Placed.{IsPlaced};
+ghost use Rattle.trace_tree.specs.Placed.{IsPlaced};
 ghost use Rattle.ceil_runtime.specs.Counts.{ticks_before, started, is_idle};
 ghost use Rattle.ceil_runtime.specs.Progressed.{pieces_left};
 
@@ -15,10 +15,10 @@ use crate::piece::Piece;
 use crate::progress::Progress;
 use crate::thread::task_in;
 use ada_tree::AdaProgram;
-use arrivals_read::Arrivals;
+use arrivals_tree::Arrivals;
 use seq_tree::{Costs, NoMemory};
 use std::alloc::Global;
-use trace_text::Event;
+use trace_tree::Event;
 
 /// What an advance of the machine came to.
 #[derive(Clone, Copy, Debug, PartialEq, Eq)]
@@ -81,7 +81,7 @@ pub struct Machine<'a> {
 
 impl<'a> Machine<'a> {
     ghost use Rattle.ada_tree.specs.Trees.{program_of};
-    ghost use Rattle.arrivals_read.specs.Arriving.{arrivals_of};
+    ghost use Rattle.arrivals_tree.specs.Arriving.{arrivals_of};
     ghost use Rattle.machine.specs.States as states;
     ghost use Rattle.seq_tree.specs.Lists.{Each};
     ghost use Rattle.ceil_runtime.specs.Replayable.{IsReplayable};

@@ -1,7 +1,7 @@
 -- What the processor keeps of sections under the premises of exclusion: each is there and is held once.
 use Rattle.std.specs.Prelude.{◌≡◌, ℕ, List, [], ◌∷◌, drop, slice_get, Some, ⊤}
 use Rattle.seq_tree.specs.Lists.{Each}
-use Rattle.arrivals_read.specs.declared.arrivals.Arrival.{Arrival}
+use Rattle.arrivals_tree.specs.declared.arrivals.Arrival.{Arrival}
 use Rattle.machine.specs.Systems.{System, Thread, Guarded}
 use Rattle.machine.specs.States.{State, Task, Section, Object, Control}
 use Rattle.ceiling_locking.specs.Premises.{Ranking, IsElsewhere}

@@ -5,7 +5,7 @@ use Rattle.std.proofs.lemmas.Option.{none-some, same_Some, slice_get-map}
 use Rattle.seq_tree.specs.Names.{Name, same_name}
 use Rattle.seq_tree.specs.Operations.{Operation}
 use Rattle.seq_tree.specs.Lists.{first_where}
-use Rattle.arrivals_read.specs.declared.arrivals.Arrival.{Arrival}
+use Rattle.arrivals_tree.specs.declared.arrivals.Arrival.{Arrival}
 use Rattle.machine.specs.Systems.{System, Thread, Guarded, Library, Timing, Periodic, Requested, Callee, Plain, Protected, Request, Unknown, op_named, plain_by, protected_by, request_if, request_by, object_or, library_or, callee}
 use Rattle.machine.specs.States.{State, Task, Section, Object, Control, opening, first_task}
 use Rattle.machine.specs.Effects.{ceiling_of}

@@ -4,7 +4,7 @@
 use Rattle.std.specs.Prelude.{◌≡◌, ◌≤◌, ℕ, Bool, true, false, List, slice_get, Some, ⊤, ◌<◌, suc, length, refl}
 use Rattle.seq_tree.specs.Names.{Name}
 use Rattle.seq_tree.specs.Lists.{Each}
-use Rattle.arrivals_read.specs.declared.arrivals.Arrival.{Arrival}
+use Rattle.arrivals_tree.specs.declared.arrivals.Arrival.{Arrival}
 use Rattle.machine.specs.Systems.{System, Thread, Guarded, Callee, Plain, Protected, Request, Unknown, callee}
 use Rattle.machine.specs.States.{Object, Control}
 use Rattle.machine.specs.Effects.{ceiling_of}

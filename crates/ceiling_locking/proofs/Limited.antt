@@ -11,7 +11,7 @@ use Rattle.ada_tree.specs.Programs.{Program}
 use Rattle.ada_tree.specs.Bodies.{op_body, bodies, scope}
 use Rattle.ada_tree.specs.Uses.{is_confined}
 use Rattle.ada_tree.specs.Rules.{MeetsRules}
-use Rattle.arrivals_read.specs.Arriving.{Arrivals}
+use Rattle.arrivals_tree.specs.Arriving.{Arrivals}
 use Rattle.ods_tree.specs.Services.{Service, Sort, service_named}
 use Rattle.ods_tree.specs.Services as sort
 use Rattle.analysis.specs.Execution.{called_cost}

@@ -12,15 +12,15 @@ use Rattle.ada_tree.specs.Programs.{Unit, Program}
 use Rattle.ada_tree.specs.Bodies.{Body, op_body, bodies, scope}
 use Rattle.ada_tree.specs.Uses.{shared_ops, ops_of_shared, is_confined, is_shared, is_shared_name, called_units, CallsUnit, shared_named, is_requested}
 use Rattle.ada_tree.specs.Rules.{Rings, At, MeetsRules}
-use Rattle.arrivals_read.specs.declared.arrivals.Arrival.{Arrival}
-use Rattle.arrivals_read.specs.Arriving.{Arrivals}
-use Rattle.arrivals_read.specs.Acceptance.{IsAccepted}
+use Rattle.arrivals_tree.specs.declared.arrivals.Arrival.{Arrival}
+use Rattle.arrivals_tree.specs.Arriving.{Arrivals}
+use Rattle.arrivals_tree.specs.Acceptance.{IsAccepted}
 use Rattle.machine.specs.Systems.{System, Thread, Guarded, Timing, Periodic, Requested, Callee, Plain, Protected, Request, system, callee}
 use Rattle.machine.specs.Systems as machine
 use Rattle.machine.specs.States.{opening}
 use Rattle.machine.specs.Meanings.{Meaning, run, start}
-use Rattle.trace_text.specs.declared.event.Event.{Event}
-use Rattle.trace_text.specs.Exclusion.{Exclusive}
+use Rattle.trace_tree.specs.declared.event.Event.{Event}
+use Rattle.trace_tree.specs.Exclusion.{Exclusive}
 use Rattle.program_calls.proofs.Facts.{same-is, or_second}
 use Rattle.program_calls.proofs.Lists.{IsIn, at-in, in-map, in-flat, any-in, filter-in, each-to}
 use Rattle.program_calls.proofs.Systems.{library-at, object-at, objects-differ, threads-differ, LeadsTo, leads-to, passive-call, is_free, free-is}

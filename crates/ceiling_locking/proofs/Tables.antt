@@ -6,10 +6,10 @@ use Rattle.std.proofs.lemmas.Option.{none-some, same_Some}
 use Rattle.seq_tree.specs.Lists.{Each}
 use Rattle.ada_tree.specs.Programs.{Program}
 use Rattle.ada_tree.specs.Rules.{MeetsRules}
-use Rattle.arrivals_read.specs.Arriving.{Arrivals}
+use Rattle.arrivals_tree.specs.Arriving.{Arrivals}
 use Rattle.rt_response.specs.declared.rows.ThreadRow.{ThreadRow}
-use Rattle.trace_text.specs.declared.event.Event.{Event}
-use Rattle.trace_text.specs.declared.event.Event.TheVariants as event
+use Rattle.trace_tree.specs.declared.event.Event.{Event}
+use Rattle.trace_tree.specs.declared.event.Event.TheVariants as event
 use Rattle.machine.specs.Systems.{system}
 use Rattle.machine.specs.States.{Use}
 use Rattle.machine.specs.Meanings.{Meaning, run, start}

@@ -3,9 +3,9 @@ use Rattle.std.specs.Prelude.{◌≡◌, ◌≢◌, ◌⊎◌, ◌++◌, ℕ, ze
 use Rattle.std.proofs.Common.{sym, ◌∙◌, ap, subst, arith, inl, inr}
 use Rattle.std.proofs.lemmas.Option.{none-some, same_Some, slice_get-map}
 use Rattle.seq_tree.specs.Lists.{change}
-use Rattle.arrivals_read.specs.declared.arrivals.Arrival.{Arrival}
-use Rattle.trace_text.specs.declared.event.Event.{Event}
-use Rattle.trace_text.specs.Exclusion.{Passage, Into, Out, passages, TakesTurns, Exclusive}
+use Rattle.arrivals_tree.specs.declared.arrivals.Arrival.{Arrival}
+use Rattle.trace_tree.specs.declared.event.Event.{Event}
+use Rattle.trace_tree.specs.Exclusion.{Passage, Into, Out, passages, TakesTurns, Exclusive}
 use Rattle.machine.specs.Systems.{System, Thread, Guarded}
 use Rattle.machine.specs.States.{State, Task, Section, Object, Control, opening, first_task}
 use Rattle.machine.specs.Effects.{object_unit}

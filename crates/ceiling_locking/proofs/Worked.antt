@@ -18,8 +18,8 @@ use Rattle.ada_tree.specs.Naming.{breaks_naming}
 use Rattle.ada_tree.specs.Ranges.{breaks_ranges}
 use Rattle.ada_tree.specs.Uses.{passive_ops, passive_named, breaks_uses, breaks_external, Calls, CallsUnit}
 use Rattle.ada_tree.specs.Rules.{Naming, Uses, Rings, Bodies, Ranges, Externals, Whole, At, MeetsRules}
-use Rattle.arrivals_read.specs.Arriving.{Arrivals}
-use Rattle.arrivals_read.specs.Acceptance.{IsAccepted}
+use Rattle.arrivals_tree.specs.Arriving.{Arrivals}
+use Rattle.arrivals_tree.specs.Acceptance.{IsAccepted}
 use Rattle.ods_tree.specs.Flats as flats
 use Rattle.rt_response.specs.declared.rows.ThreadRow.{ThreadRow}
 use Rattle.machine.specs.Systems.{system}

@@ -2,11 +2,11 @@
 -- A call above a ceiling is an error of ISO/IEC 8652:2012, D.3.
 use Rattle.std.specs.Prelude.{◌≡◌, ◌≤◌, ℕ, Bool, true, false, slice_get, unwrap_or, option_map, Some, ⊤}
 use Rattle.seq_tree.specs.Names.{Name}
-use Rattle.trace_text.specs.declared.event.Event.{Event}
+use Rattle.trace_tree.specs.declared.event.Event.{Event}
 use Rattle.machine.specs.Systems.{System, Thread, Callee, Plain, Protected, Request, Unknown, callee}
 use Rattle.machine.specs.States.{Object, Control}
 use Rattle.machine.specs.Effects.{ceiling_of}
-use Rattle.trace_text.specs.declared.event.Event.TheVariants as event
+use Rattle.trace_tree.specs.declared.event.Event.TheVariants as event
 use Rattle.ceiling_locking.specs.Bodies.{BlockFits}
 
 -- calls that are made somewhere, each with a number that no ceiling which it leads to is below

@@ -4,11 +4,11 @@ use Rattle.std.specs.Prelude.{◌≡◌, ◌≤◌, ℕ, List}
 use Rattle.seq_tree.specs.Lists.{Each}
 use Rattle.ada_tree.specs.Programs.{Program}
 use Rattle.ada_tree.specs.Rules.{MeetsRules}
-use Rattle.arrivals_read.specs.declared.arrivals.Arrival.{Arrival}
-use Rattle.arrivals_read.specs.Arriving.{Arrivals}
-use Rattle.arrivals_read.specs.Acceptance.{IsAccepted}
-use Rattle.trace_text.specs.declared.event.Event.{Event}
-use Rattle.trace_text.specs.Exclusion.{Exclusive}
+use Rattle.arrivals_tree.specs.declared.arrivals.Arrival.{Arrival}
+use Rattle.arrivals_tree.specs.Arriving.{Arrivals}
+use Rattle.arrivals_tree.specs.Acceptance.{IsAccepted}
+use Rattle.trace_tree.specs.declared.event.Event.{Event}
+use Rattle.trace_tree.specs.Exclusion.{Exclusive}
 use Rattle.machine.specs.Systems.{System, system}
 use Rattle.machine.specs.States.{State, Use, opening}
 use Rattle.machine.specs.Steps.{step}

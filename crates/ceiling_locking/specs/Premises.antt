@@ -3,7 +3,7 @@
 use Rattle.std.specs.Prelude.{◌≡◌, ◌≤◌, ◌<◌, ℕ, Bool, true, false, List, slice_get, Some, ⊤}
 use Rattle.seq_tree.specs.Names.{Name}
 use Rattle.seq_tree.specs.Lists.{Each}
-use Rattle.arrivals_read.specs.declared.arrivals.Arrival.{Arrival}
+use Rattle.arrivals_tree.specs.declared.arrivals.Arrival.{Arrival}
 use Rattle.machine.specs.Systems.{System, Thread, Guarded, Timing, Periodic, Requested, Callee, Plain, Protected, Request, Unknown, callee}
 use Rattle.ceiling_locking.specs.Bodies.{BlockFits}
 

@@ -4,8 +4,8 @@ use Rattle.std.specs.Prelude.{◌≡◌, ◌⊎◌, ◌≤◌, ℕ, List, [], �
 use Rattle.machine.specs.Systems.{System}
 use Rattle.machine.specs.States.{Task, Section, Held, Control}
 use Rattle.machine.specs.Effects.{ceiling_of}
-use Rattle.trace_text.specs.declared.event.Event.{Event}
-use Rattle.trace_text.specs.declared.event.Event.TheVariants as event
+use Rattle.trace_tree.specs.declared.event.Event.{Event}
+use Rattle.trace_tree.specs.declared.event.Event.TheVariants as event
 
 -- a task at a place, and its order number
 abbrev pub Stands : List Task → ℕ → Task → Type 0

@@ -7,8 +7,8 @@ use Rattle.seq_tree.specs.Lists.{first_where}
 use Rattle.seq_tree.specs.Statements.{End}
 use Rattle.seq_tree.specs.declared.tree.Costs.{Costs}
 use Rattle.link_queue.specs.Queues.{Entry}
-use Rattle.trace_text.specs.declared.event.Event.{Event}
-use Rattle.trace_text.specs.declared.event.Event.TheVariants as event
+use Rattle.trace_tree.specs.declared.event.Event.{Event}
+use Rattle.trace_tree.specs.declared.event.Event.TheVariants as event
 use Rattle.machine.specs.Systems.{System, Thread, Periodic}
 use Rattle.machine.specs.Pieces.{Finishing}
 use Rattle.machine.specs.States.{State, Task, Readiness, Asleep, Ready, Use, shut}

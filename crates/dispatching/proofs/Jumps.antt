@@ -4,7 +4,7 @@ use Rattle.std.proofs.Common.{sym, ◌∙◌, ap, subst, arith, inl, inr}
 use Rattle.std.proofs.lemmas.Option.{none-some, same_Some}
 use Rattle.std.proofs.lemmas.Bool.Decides.{nat_tests}
 use Rattle.seq_tree.specs.Variables.{Variables}
-use Rattle.arrivals_read.specs.declared.arrivals.Arrival.{Arrival}
+use Rattle.arrivals_tree.specs.declared.arrivals.Arrival.{Arrival}
 use Rattle.seq_tree.specs.Lists.{change, first_from, first_where}
 use Rattle.machine.specs.Systems.{System}
 use Rattle.machine.specs.Pieces.{Piece}
@@ -14,7 +14,7 @@ use Rattle.machine.specs.Releases.{Next, after}
 use Rattle.machine.specs.Steps.{step, use_step, effect_step, effect_at, effect_of, delay_step, arrival_step, horizon_step, arrive_at, is_due}
 use Rattle.machine.specs.Effects.{takes_effect}
 use Rattle.machine.specs.Deeds.{done}
-use Rattle.trace_text.specs.declared.event.Event.TheVariants as event
+use Rattle.trace_tree.specs.declared.event.Event.TheVariants as event
 use Rattle.machine.specs.Meanings.{run, and_then}
 use Rattle.machine.proofs.RunLaws.{run_add}
 use Rattle.dispatching.specs.Jumping.{NoArrival, IsQuiet, HasTicks, used_by, ticks_later}

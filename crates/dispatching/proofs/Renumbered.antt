@@ -5,9 +5,9 @@ use Rattle.std.proofs.Common.{sym, ◌∙◌, ap, subst, arith}
 use Rattle.std.proofs.lemmas.Int.{ints, int_max_is, int_min_is}
 use Rattle.seq_tree.specs.Lists.{change, first_where}
 use Rattle.seq_tree.specs.Variables.{Variables}
-use Rattle.arrivals_read.specs.declared.arrivals.Arrival.{Arrival}
-use Rattle.trace_text.specs.declared.event.Event.{Event}
-use Rattle.trace_text.specs.declared.event.Event.TheVariants as event
+use Rattle.arrivals_tree.specs.declared.arrivals.Arrival.{Arrival}
+use Rattle.trace_tree.specs.declared.event.Event.{Event}
+use Rattle.trace_tree.specs.declared.event.Event.TheVariants as event
 use Rattle.machine.specs.Systems.{System, Timing, Periodic, Requested}
 use Rattle.machine.specs.Pieces.{Piece}
 use Rattle.machine.specs.Deeds.{Deed, Act, Silent, Print, Enter, Leave, Ask, Keep, Open, Ended, Finish, done}

@@ -23,7 +23,7 @@ ghost use Rattle.machine.specs.Releases.{Next};
 ghost use Rattle.machine.specs.States.{State, Task, Use};
 ghost use Rattle.machine.specs.Steps.{is_due};
 ghost use Rattle.machine.specs.Systems.{System};
-ghost use Rattle.trace_text.specs.declared.event.Event.{Event};
+ghost use Rattle.trace_tree.specs.declared.event.Event.{Event};
 ghost use Rattle.dispatching.specs.Jumping.{HasTicks, IsQuiet, ticks_later};
 ghost use Rattle.dispatching.specs.Queueing.{AreQueued, AreSleeping, places};
 ghost use Rattle.dispatching.specs.Renumbering.{DifferInOrders, RankAlike};

@@ -16,8 +16,8 @@ use Rattle.guarantee.specs.Scripts.{AreRuns}
 use Rattle.guarantee.specs.Allowed.{Allows}
 use Rattle.guarantee.specs.Programs.{program}
 use Rattle.guarantee.specs.Guaranteed.{IsRight}
-use Rattle.trace_text.specs.declared.event.Event.TheVariants as event
-use Rattle.trace_text.specs.Lines.{unit_name, unit_ops}
+use Rattle.trace_tree.specs.declared.event.Event.TheVariants as event
+use Rattle.trace_tree.specs.Lines.{unit_name, unit_ops}
 use Rattle.guarantee.specs.Bounded.{IsBounded}
 
 abbrev p : Name

@@ -8,8 +8,8 @@ use Rattle.seq_tree.specs.declared.tree.Param.{Param}
 use Rattle.ods_tree.specs.Designs.{Design}
 use Rattle.ods_tree.specs.Flats.{Timing, Cyclic, Sporadic}
 use Rattle.ada_tree.specs.Programs.{Program}
-use Rattle.arrivals_read.specs.Arriving as places
-use Rattle.trace_text.specs.Lines.{unit_name}
+use Rattle.arrivals_tree.specs.Arriving as places
+use Rattle.trace_tree.specs.Lines.{unit_name}
 use Rattle.guarantee.specs.Software.{Task, Software, software}
 
 -- how long the next `work` statements of a task take, in ticks

@@ -4,9 +4,9 @@ use Rattle.std.specs.Prelude.{ℕ, List, [], map, slice_get, unwrap_or, option_m
 use Rattle.seq_tree.specs.Names.{Name}
 use Rattle.seq_tree.specs.declared.tree.OpName.{OpName}
 use Rattle.ada_tree.specs.Programs.{Program}
-use Rattle.trace_text.specs.declared.event.Event as machine
-use Rattle.trace_text.specs.declared.event.Event.TheVariants as event
-use Rattle.trace_text.specs.Lines.{unit_name, unit_ops}
+use Rattle.trace_tree.specs.declared.event.Event as machine
+use Rattle.trace_tree.specs.declared.event.Event.TheVariants as event
+use Rattle.trace_tree.specs.Lines.{unit_name, unit_ops}
 
 -- what a task does, or what is done to it
 pub data Deed : Type 0 where

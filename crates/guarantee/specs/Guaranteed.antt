@@ -8,8 +8,8 @@ use Rattle.ods_tree.specs.Flats.{Timing, Cyclic, Sporadic}
 use Rattle.ods_tree.specs.Flattening.{flat}
 use Rattle.ada_tree.specs.Programs.{Program}
 use Rattle.ada_tree.specs.Reading.{Accepts}
-use Rattle.arrivals_read.specs.Arriving as places
-use Rattle.trace_text.specs.declared.event.Event as machine
+use Rattle.arrivals_tree.specs.Arriving as places
+use Rattle.trace_tree.specs.declared.event.Event as machine
 use Rattle.machine.specs.Meanings.{Meaning}
 use Rattle.rt_response.specs.declared.rows.Bound.{Bound}
 use Rattle.guarantee.specs.Software.{Task, software, program_software}

@@ -7,10 +7,10 @@ use Rattle.ada_tree.specs.Programs.{Program}
 use Rattle.ada_tree.specs.Proper.{IsProperProgram}
 use Rattle.ada_tree.specs.Rules.{MeetsRules}
 use Rattle.ada_tree.specs.Words.{is_ada_name}
-use Rattle.arrivals_read.specs.Arriving.{Arrivals}
-use Rattle.arrivals_read.specs.Acceptance.{IsAccepted}
+use Rattle.arrivals_tree.specs.Arriving.{Arrivals}
+use Rattle.arrivals_tree.specs.Acceptance.{IsAccepted}
 use Rattle.machine.specs.Meanings.{Meaning}
-use Rattle.trace_text.specs.declared.event.Event as machine
+use Rattle.trace_tree.specs.declared.event.Event as machine
 use Rattle.guarantee.specs.Software.{program_software}
 use Rattle.guarantee.specs.Events.{named, Event, By, Horizon}
 use Rattle.guarantee.specs.Order.{is_stop}

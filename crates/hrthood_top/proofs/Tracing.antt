@@ -3,9 +3,9 @@ use Rattle.std.proofs.Common.{◌≡◌, ℕ, zero, suc, true, ◌+◌, ◌<◌,
 use Rattle.std.proofs.lemmas.List.Concat.{flat_map-append}
 use Rattle.seq_tree.specs.Lists.{Each}
 use Rattle.ada_tree.specs.Programs.{Program}
-use Rattle.trace_text.specs.declared.event.Event.{Event}
-use Rattle.trace_text.specs.Lines.{line, lines}
-use Rattle.arrivals_read.specs.Arriving.{Arrivals}
+use Rattle.trace_tree.specs.declared.event.Event.{Event}
+use Rattle.trace_tree.specs.Lines.{line, lines}
+use Rattle.arrivals_tree.specs.Arriving.{Arrivals}
 use Rattle.machine.specs.Meanings.{Running, Tells, begun}
 use Rattle.hrthood_top.specs.Replays.{IsTrace}
 

@@ -7,12 +7,12 @@ use Rattle.ada_tree.specs.InUse.{IsSequentialProgram}
 use Rattle.ada_read.specs.Answers.{Faults, Breaks}
 use Rattle.hrthood_top.specs.declared.message.ProgramRefusal.{ProgramRefusal}
 use Rattle.hrthood_top.specs.declared.message.ProgramRefusal.TheVariants.{Text, Unit}
-use Rattle.arrivals_read.specs.Arriving.{Arrivals}
-use Rattle.arrivals_read.specs.Arrived.{Arrives}
+use Rattle.arrivals_tree.specs.Arriving.{Arrivals}
+use Rattle.arrivals_tree.specs.Arrived.{Arrives}
 use Rattle.arrivals_read.specs.Answers.{SaysNothing}
-use Rattle.arrivals_read.specs.InUse.{AreUsableArrivals, horizon_limit}
-use Rattle.trace_text.specs.declared.event.Event.{Event}
-use Rattle.trace_text.specs.Lines.{lines}
+use Rattle.arrivals_tree.specs.InUse.{AreUsableArrivals, horizon_limit}
+use Rattle.trace_tree.specs.declared.event.Event.{Event}
+use Rattle.trace_tree.specs.Lines.{lines}
 use Rattle.machine.specs.Meanings.{Meaning}
 
 -- a text is the trace of a program under arrivals: the lines of what the program means

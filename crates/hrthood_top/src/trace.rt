@@ -1,18 +1,19 @@
 ghost use Rattle.std.specs.Prelude.{◌≡◌, ◌++◌, IfOk, OnOk};
 ghost use Rattle.seq_tree.specs.Lists.{Each};
 ghost use Rattle.ada_tree.specs.Trees.{program_of};
-ghost use Rattle.arrivals_read.specs.Arriving.{arrivals_of};
-ghost use Rattle.trace_text.specs.Lines.{lines};
-ghost use Rattle.trace_text.specs.Placed.{IsPlaced};
+ghost use Rattle.arrivals_tree.specs.Arriving.{arrivals_of};
+ghost use Rattle.trace_tree.specs.Lines.{lines};
+ghost use Rattle.trace_tree.specs.Placed.{IsPlaced};
 ghost use Rattle.ceil_runtime.specs.Replayable.{IsReplayable};
 ghost use Rattle.hrthood_top.specs.Replays.{IsTrace};
 
 use ada_tree::AdaProgram;
-use arrivals_read::Arrivals;
+use arrivals_tree::Arrivals;
 use ceil_runtime::{EventBuf, Machine, Turn};
 use seq_tree::NoMemory;
 use std::alloc::Global;
-use trace_text::{Event, LineBuf, line};
+use trace_text::{LineBuf, line};
+use trace_tree::Event;
 
 /// Adds the lines of events of a program.
 fn put_lines(text: &mut Vec<u8>, program: &AdaProgram, events: &[Event]) -> Result<(), NoMemory>

@@ -14,9 +14,9 @@ use Rattle.ada_tree.specs.Spelling.{program_tokens}
 use Rattle.ada_tree.specs.Programs.{Program}
 use Rattle.ada_tree.specs.InUse.{IsUsableProgram, IsSequentialProgram}
 use Rattle.ada_tree.specs.Reading.{Accepts}
-use Rattle.arrivals_read.specs.Arriving.{Arrivals}
-use Rattle.arrivals_read.specs.Acceptance.{IsAccepted}
-use Rattle.trace_text.specs.declared.event.Event.{Event}
+use Rattle.arrivals_tree.specs.Arriving.{Arrivals}
+use Rattle.arrivals_tree.specs.Acceptance.{IsAccepted}
+use Rattle.trace_tree.specs.declared.event.Event.{Event}
 use Rattle.machine.specs.Meanings.{Meaning}
 use Rattle.seq_tree.specs.Names.{Name}
 use Rattle.seq_tree.specs.Statements.{Statements}

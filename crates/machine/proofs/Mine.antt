@@ -10,8 +10,8 @@ use Rattle.seq_tree.specs.declared.tree.Mode.{Mode}
 use Rattle.seq_tree.specs.declared.tree.Mode.TheVariants.{In, Out}
 use Rattle.seq_tree.specs.declared.tree.BinOp.TheVariants as op
 use Rattle.ada_tree.specs.Programs.{Unit, Program, Shared, Cyclic, Sporadic}
-use Rattle.arrivals_read.specs.Arriving.{Arrivals}
-use Rattle.trace_text.specs.declared.event.Event.TheVariants as event
+use Rattle.arrivals_tree.specs.Arriving.{Arrivals}
+use Rattle.trace_tree.specs.declared.event.Event.TheVariants as event
 use Rattle.machine.specs.Meanings.{Meaning}
 
 abbrev unit_costs : Costs

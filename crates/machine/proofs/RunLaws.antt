@@ -4,7 +4,7 @@ use Rattle.std.proofs.Common.{sym, ◌∙◌, ap, arith, zero-add, append_assoc,
 use Rattle.std.proofs.lemmas.Bool.{cases_lt}
 use Rattle.machine.specs.Systems.{System}
 use Rattle.machine.specs.States.{State}
-use Rattle.trace_text.specs.declared.event.Event.{Event}
+use Rattle.trace_tree.specs.declared.event.Event.{Event}
 use Rattle.machine.specs.Releases.{Next, after}
 use Rattle.machine.specs.Steps.{step, step_in}
 use Rattle.machine.specs.Meanings.{run, and_then, Rest}

@@ -10,10 +10,10 @@ use Rattle.seq_tree.specs.declared.tree.Datum.{Datum}
 use Rattle.seq_tree.specs.declared.tree.Mode.TheVariants.{In}
 use Rattle.seq_tree.specs.declared.tree.BinOp.TheVariants as op
 use Rattle.ada_tree.specs.Programs.{Unit, Program, Shared, Cyclic, Sporadic}
-use Rattle.arrivals_read.specs.declared.arrivals.Arrival.{Arrival}
-use Rattle.trace_text.specs.declared.event.Event.TheVariants as event
-use Rattle.arrivals_read.specs.Arriving.{Arrivals}
-use Rattle.arrivals_read.specs.Acceptance.{first_fault, Early, Falling, Unfit, Far, Unknown}
+use Rattle.arrivals_tree.specs.declared.arrivals.Arrival.{Arrival}
+use Rattle.trace_tree.specs.declared.event.Event.TheVariants as event
+use Rattle.arrivals_tree.specs.Arriving.{Arrivals}
+use Rattle.arrivals_tree.specs.Acceptance.{first_fault, Early, Falling, Unfit, Far, Unknown}
 use Rattle.machine.specs.Meanings.{Meaning}
 
 -- costs of 1, but 2 for a call

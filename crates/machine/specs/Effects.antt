@@ -2,8 +2,8 @@
 -- Ceilings are those of ISO/IEC 8652:2012, D.3: a caller above the ceiling is stopped, a task inside has the ceiling as its priority.
 use Rattle.std.specs.Prelude.{ℕ, true, List, [], ◌∷◌, ◌++◌, set, nat_lt, Option, slice_get, unwrap_or, option_map, if◌then◌else◌}
 use Rattle.seq_tree.specs.Variables.{Variables, kept}
-use Rattle.trace_text.specs.declared.event.Event.{Event}
-use Rattle.trace_text.specs.declared.event.Event.TheVariants as event
+use Rattle.trace_tree.specs.declared.event.Event.{Event}
+use Rattle.trace_tree.specs.declared.event.Event.TheVariants as event
 use Rattle.seq_tree.specs.Lists.{change}
 use Rattle.machine.specs.Systems.{System, Timing, Periodic, Requested}
 use Rattle.machine.specs.Pieces.{Piece}

@@ -2,8 +2,8 @@
 -- A run that has stopped tells nothing more, so that any number of steps that is large enough gives it.
 use Rattle.std.specs.Prelude.{◌≡◌, ℕ, zero, suc, true, List, []}
 use Rattle.ada_tree.specs.Programs.{Program}
-use Rattle.trace_text.specs.declared.event.Event.{Event}
-use Rattle.arrivals_read.specs.Arriving.{Arrivals}
+use Rattle.trace_tree.specs.declared.event.Event.{Event}
+use Rattle.arrivals_tree.specs.Arriving.{Arrivals}
 use Rattle.machine.specs.Systems.{System, system}
 use Rattle.machine.specs.States.{State, opening}
 use Rattle.machine.specs.Releases.{Next, after}

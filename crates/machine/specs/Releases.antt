@@ -3,8 +3,8 @@
 use Rattle.std.specs.Prelude.{ℕ, ◌+◌, Bool, true, false, ◌&&◌, List, [], ◌∷◌, ◌++◌, Option, Some, None, slice_get, option_to_list, if◌then◌else◌}
 use Rattle.seq_tree.specs.Variables.{Variables, entered}
 use Rattle.seq_tree.specs.declared.tree.Costs.{Costs}
-use Rattle.trace_text.specs.declared.event.Event.{Event}
-use Rattle.trace_text.specs.declared.event.Event.TheVariants as event
+use Rattle.trace_tree.specs.declared.event.Event.{Event}
+use Rattle.trace_tree.specs.declared.event.Event.TheVariants as event
 use Rattle.seq_tree.specs.Lists.{change}
 use Rattle.machine.specs.Systems.{System, Timing, Periodic, Requested}
 use Rattle.machine.specs.Pieces.{Piece, Finishing, pieces, ticks_of, works_of}

@@ -2,7 +2,7 @@
 -- Active priorities are those of ISO/IEC 8652:2012, D.1; a task holds an object from its entry to its exit (D.3).
 use Rattle.std.specs.Prelude.{ℕ, Bool, false, List, [], map, length, replicate, Option, None, ℤ, pos}
 use Rattle.seq_tree.specs.Variables.{Variables, written}
-use Rattle.arrivals_read.specs.declared.arrivals.Arrival.{Arrival}
+use Rattle.arrivals_tree.specs.declared.arrivals.Arrival.{Arrival}
 use Rattle.machine.specs.Systems.{System, Thread, Timing, Periodic, Requested}
 use Rattle.machine.specs.Pieces.{Piece}
 

@@ -1,8 +1,8 @@
 -- One step of the processor: an effect, a release, an arrival, the use of a tick, or nothing but the end of a part of the instant.
 -- The steps of one instant are what happens at one tick.
 use Rattle.std.specs.Prelude.{ℕ, ◌+◌, ◌-◌, Bool, true, false, List, [], ◌∷◌, nat_le, ◌==◌, Option, Some, None, slice_get, if◌then◌else◌}
-use Rattle.arrivals_read.specs.declared.arrivals.Arrival.{Arrival}
-use Rattle.trace_text.specs.declared.event.Event.TheVariants as event
+use Rattle.arrivals_tree.specs.declared.arrivals.Arrival.{Arrival}
+use Rattle.trace_tree.specs.declared.event.Event.TheVariants as event
 use Rattle.seq_tree.specs.Lists.{change, first_where}
 use Rattle.machine.specs.Systems.{System}
 use Rattle.machine.specs.Pieces.{Piece}

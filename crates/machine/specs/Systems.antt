@@ -8,7 +8,7 @@ use Rattle.seq_tree.specs.Operations.{Signature, Operation}
 use Rattle.seq_tree.specs.declared.tree.Datum.{Datum}
 use Rattle.seq_tree.specs.declared.tree.Costs.{Costs}
 use Rattle.ada_tree.specs.Programs.{Form, Program, Passive, Shared, Cyclic, Sporadic}
-use Rattle.arrivals_read.specs.Arriving.{Arrivals, durations}
+use Rattle.arrivals_tree.specs.Arriving.{Arrivals, durations}
 use Rattle.seq_tree.specs.Lists.{first_where}
 
 -- when a task is released: at its own times, or at requests of an operation

@@ -9,9 +9,9 @@ use Rattle.seq_tree.specs.Faults.{or_else, fault_if}
 use Rattle.ada_tree.specs.Programs.{Form, Unit, Program, Passive, Shared, Cyclic, Sporadic, is_task}
 use Rattle.ada_tree.specs.Uses.{is_requested, breaks_external}
 use Rattle.ada_tree.specs.Rules.{Externals, At, MeetsRules}
-use Rattle.arrivals_read.specs.declared.arrivals.Arrival.{Arrival}
-use Rattle.arrivals_read.specs.Arriving.{Arrivals, Durations}
-use Rattle.arrivals_read.specs.Acceptance.{Unknown, Unfit, Far, Falling, has_nothing, durations_fault, works_fault, request_fault_by, request_fault_at, item_fault, requests_fault, last_time, IsAccepted}
+use Rattle.arrivals_tree.specs.declared.arrivals.Arrival.{Arrival}
+use Rattle.arrivals_tree.specs.Arriving.{Arrivals, Durations}
+use Rattle.arrivals_tree.specs.Acceptance.{Unknown, Unfit, Far, Falling, has_nothing, durations_fault, works_fault, request_fault_by, request_fault_at, item_fault, requests_fault, last_time, IsAccepted}
 use Rattle.machine.specs.Systems.{System, Thread, Timing, Periodic, Requested, Request, system, callee}
 use Rattle.program_calls.proofs.Facts.{or_else-none, not-fault, no-fault, same-is}
 use Rattle.program_calls.proofs.Lists.{each-append, each-to}

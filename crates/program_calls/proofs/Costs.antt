@@ -5,7 +5,7 @@ use Rattle.seq_tree.specs.Operations.{Operation}
 use Rattle.seq_tree.specs.Dearest.{cost}
 use Rattle.seq_tree.specs.declared.tree.OpName.{OpName}
 use Rattle.ada_tree.specs.Programs.{Program}
-use Rattle.arrivals_read.specs.Arriving.{Arrivals}
+use Rattle.arrivals_tree.specs.Arriving.{Arrivals}
 use Rattle.ods_tree.specs.Services.{Service, Sort}
 use Rattle.ods_tree.specs.Services as sort
 use Rattle.analysis.specs.Execution.{body_cost_by, service_cost, called_cost}

@@ -2,7 +2,7 @@
 use Rattle.std.specs.Prelude.{◌≡◌, ℕ, Bool, true, false, ◌&&◌, List, [], nat_lt, slice_get, Option, Some, None, if◌then◌else◌, refl}
 use Rattle.seq_tree.specs.Lists.{change}
 use Rattle.seq_tree.specs.Variables.{Variables}
-use Rattle.trace_text.specs.declared.event.Event.{Event}
+use Rattle.trace_tree.specs.declared.event.Event.{Event}
 use Rattle.machine.specs.Systems.{System}
 use Rattle.machine.specs.Pieces.{Piece}
 use Rattle.machine.specs.Deeds.{Act, Silent, Print, Enter, Leave, Ask, Keep, Open, Ended, Finish}

@@ -6,7 +6,7 @@ use Rattle.seq_tree.specs.Names.{Name, same_name}
 use Rattle.seq_tree.specs.Operations.{Operation}
 use Rattle.seq_tree.specs.Runs as runs
 use Rattle.ada_tree.specs.Programs.{Form, Unit, Program, Shared}
-use Rattle.arrivals_read.specs.Arriving.{Arrivals}
+use Rattle.arrivals_tree.specs.Arriving.{Arrivals}
 use Rattle.ods_tree.specs.Services.{Service, Sort, is_service, service_named, callee_of, callee_by}
 use Rattle.ods_tree.specs.Services as sort
 use Rattle.guarantee.specs.Software.{program_software, leads_to}

@@ -4,8 +4,8 @@ use Rattle.std.proofs.Common.{◌∙◌, ap, append-nil}
 use Rattle.std.proofs.lemmas.Bool.{eq-eqb, ne_eqb}
 use Rattle.std.proofs.lemmas.List.{map-append}
 use Rattle.std.proofs.lemmas.List.Elements.{filter-append}
-use Rattle.arrivals_read.specs.declared.arrivals.Arrival.{Arrival}
-use Rattle.arrivals_read.specs.Acceptance.{next_nominal, nominal, earlier_times}
+use Rattle.arrivals_tree.specs.declared.arrivals.Arrival.{Arrival}
+use Rattle.arrivals_tree.specs.Acceptance.{next_nominal, nominal, earlier_times}
 
 pub nominal-behind : (separation : ℕ) (last : Option ℕ) (ts : List ℕ) (t : ℕ) → nominal separation last (ts ++ t ∷ []) ≡ Some (next_nominal separation (nominal separation last ts) t)
 nominal-behind separation last [] t = refl

@@ -7,8 +7,8 @@ use Rattle.seq_tree.specs.Names.{Name, same_name}
 use Rattle.ada_tree.specs.Programs.{Unit, Program, Sporadic}
 use Rattle.ada_tree.specs.Uses.{is_requested, breaks_external}
 use Rattle.ada_tree.specs.Rules.{MeetsRules}
-use Rattle.arrivals_read.specs.declared.arrivals.Arrival.{Arrival}
-use Rattle.arrivals_read.specs.Arriving.{Arrivals}
+use Rattle.arrivals_tree.specs.declared.arrivals.Arrival.{Arrival}
+use Rattle.arrivals_tree.specs.Arriving.{Arrivals}
 use Rattle.machine.specs.Systems.{Thread, Timing, Periodic, Requested, system}
 use Rattle.program_calls.proofs.Facts.{same-is}
 use Rattle.program_calls.proofs.Systems.{thread_form, thread-at, LeadsToTask, IsAskedBy}

@@ -10,7 +10,7 @@ use Rattle.seq_tree.specs.declared.tree.OpName.{OpName}
 use Rattle.ada_tree.specs.Programs.{Unit, Program}
 use Rattle.ada_tree.specs.Uses.{passive_ops, passive_named, Calls}
 use Rattle.ada_tree.specs.Rules.{Rings, At, MeetsRules}
-use Rattle.arrivals_read.specs.Arriving.{Arrivals}
+use Rattle.arrivals_tree.specs.Arriving.{Arrivals}
 use Rattle.guarantee.specs.ResponseLaw.{program_services}
 use Rattle.machine.specs.Systems.{System, Callee, Plain, Protected, Request, Unknown, system, callee}
 use Rattle.program_calls.proofs.Lists.{IsIn, at-in, in-flat, in-map, any-in, filter-in}

@@ -4,7 +4,7 @@ use Rattle.std.proofs.Common.{ap}
 use Rattle.seq_tree.specs.Names.{Name}
 use Rattle.seq_tree.specs.Lists.{Each}
 use Rattle.ada_tree.specs.Programs.{Form, Unit, Program}
-use Rattle.arrivals_read.specs.Arriving.{Arrivals}
+use Rattle.arrivals_tree.specs.Arriving.{Arrivals}
 use Rattle.ods_tree.specs.Flats as flats
 use Rattle.ods_tree.specs.Walk.{only_if}
 use Rattle.guarantee.specs.Software.{Task, task_by}

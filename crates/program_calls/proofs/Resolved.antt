@@ -10,7 +10,7 @@ use Rattle.seq_tree.specs.Runs as runs
 use Rattle.seq_tree.specs.declared.tree.Datum.{Datum}
 use Rattle.ada_tree.specs.Programs.{Form, Unit, Program, Passive, Shared, Cyclic, Sporadic}
 use Rattle.ada_tree.specs.Bodies.{heads, offers}
-use Rattle.arrivals_read.specs.Arriving.{Arrivals, durations}
+use Rattle.arrivals_tree.specs.Arriving.{Arrivals, durations}
 use Rattle.ods_tree.specs.Services.{Service, is_service, callee_of, service_named}
 use Rattle.ods_tree.specs.Services as services
 use Rattle.guarantee.specs.Software.{program_software, leads_to}

@@ -12,7 +12,7 @@ use Rattle.seq_tree.specs.declared.tree.OpName.{OpName}
 use Rattle.ada_tree.specs.Programs.{Form, Unit, Program, Passive, Shared, Cyclic, Sporadic, is_task}
 use Rattle.ada_tree.specs.Uses.{shared_ops, ops_of_shared, shared_named, is_confined, is_requested}
 use Rattle.ada_tree.specs.Rules.{MeetsRules}
-use Rattle.arrivals_read.specs.Arriving.{Arrivals}
+use Rattle.arrivals_tree.specs.Arriving.{Arrivals}
 use Rattle.ods_tree.specs.Services.{Service, Sort, service_named}
 use Rattle.ods_tree.specs.Services as sort
 use Rattle.analysis.specs.Starts.{calls_by, service_calls, calls_within, all_calls, can_request, starts_by, service_starts, starts_within, block_starts}

@@ -9,7 +9,7 @@ use Rattle.seq_tree.specs.Lists.{first_from, first_where}
 use Rattle.ada_tree.specs.Programs.{Form, Unit, Program, Passive, Shared, Cyclic, Sporadic}
 use Rattle.ada_tree.specs.Uses.{passive_ops, passive_named, is_empty}
 use Rattle.seq_tree.specs.declared.tree.OpName.{OpName}
-use Rattle.arrivals_read.specs.Arriving.{Arrivals, durations}
+use Rattle.arrivals_tree.specs.Arriving.{Arrivals, durations}
 use Rattle.machine.specs.Systems.{System, Thread, Guarded, Library, Timing, Periodic, Requested, Callee, Plain, Protected, Request, Unknown, library_by, object_by, thread_by, system, op_named, plain_by, protected_by, request_if, request_by, object_or, library_or, callee}
 use Rattle.program_calls.proofs.Lists.{made-at, places-differ}
 use Rattle.program_calls.proofs.Facts.{first-where}

@@ -7,8 +7,8 @@ use Rattle.seq_tree.specs.Names.{Name, same_name}
 use Rattle.ada_tree.specs.Programs.{Form, Unit, Program, Passive, Shared, Cyclic, Sporadic}
 use Rattle.ada_tree.specs.Bodies.{heads}
 use Rattle.ada_tree.specs.Rules.{MeetsRules}
-use Rattle.arrivals_read.specs.Arriving.{Arrivals, durations}
-use Rattle.trace_text.specs.Lines.{unit_name, unit_ops}
+use Rattle.arrivals_tree.specs.Arriving.{Arrivals, durations}
+use Rattle.trace_tree.specs.Lines.{unit_name, unit_ops}
 use Rattle.machine.specs.Systems.{system, Thread, Guarded, thread_by}
 use Rattle.program_calls.proofs.Facts.{same-is, is-same}
 use Rattle.program_calls.proofs.Lists.{made-at}

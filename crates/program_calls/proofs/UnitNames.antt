@@ -5,7 +5,7 @@ use Rattle.std.proofs.Common.{sym, ◌∙◌, ap, subst, arith, inl, inr}
 use Rattle.seq_tree.specs.Lists.{Each, first_from}
 use Rattle.seq_tree.specs.Names.{Name, same_name, is_named}
 use Rattle.ada_tree.specs.Programs.{Unit, Program}
-use Rattle.trace_text.specs.Lines.{unit_name}
+use Rattle.trace_tree.specs.Lines.{unit_name}
 use Rattle.std.proofs.lemmas.Option.{none-some, same_Some}
 use Rattle.std.proofs.lemmas.Bool.{both_ways, true≢false, false_from_ne_true, or_parts}
 use Rattle.program_calls.proofs.Facts.{same-is, is-same}

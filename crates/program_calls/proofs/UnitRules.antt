@@ -13,7 +13,7 @@ use Rattle.ada_tree.specs.Uses.{is_confined, passive_named, is_empty, breaks_use
 use Rattle.ada_tree.specs.Ranges.{breaks_ranges, numbers_break, is_outside, jitter_breaks, costs_break, whole_breaks}
 use Rattle.ada_tree.specs.Rules.{Uses, Bodies, Ranges, Externals, At, Whole, MeetsRules}
 use Rattle.seq_tree.specs.Operations.{Operation, Signature}
-use Rattle.arrivals_read.specs.Arriving.{Arrivals}
+use Rattle.arrivals_tree.specs.Arriving.{Arrivals}
 use Rattle.machine.specs.Systems.{Thread, Guarded, Timing, Periodic, Requested, system}
 use Rattle.program_calls.proofs.Facts.{or_else-none}
 use Rattle.program_calls.proofs.Lists.{IsIn, at-in, in-map, in-flat, none-in}

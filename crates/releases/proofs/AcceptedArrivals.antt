@@ -6,10 +6,10 @@ use Rattle.std.proofs.lemmas.Option.{none-some, same_Some}
 use Rattle.seq_tree.specs.Lists.{Each}
 use Rattle.seq_tree.specs.Faults.{or_else, fault_if}
 use Rattle.ada_tree.specs.Programs.{Form, Unit, Program, Passive, Shared, Cyclic, Sporadic, is_task}
-use Rattle.arrivals_read.specs.declared.arrivals.Arrival.{Arrival}
-use Rattle.arrivals_read.specs.Arriving.{Arrivals, durations}
-use Rattle.arrivals_read.specs.Acceptance.{Unknown, Falling, Far, request_fault_by, request_fault_at, item_fault, requests_fault, works_fault, last_time, IsAccepted}
-use Rattle.trace_text.specs.Lines.{unit_name}
+use Rattle.arrivals_tree.specs.declared.arrivals.Arrival.{Arrival}
+use Rattle.arrivals_tree.specs.Arriving.{Arrivals, durations}
+use Rattle.arrivals_tree.specs.Acceptance.{Unknown, Falling, Far, request_fault_by, request_fault_at, item_fault, requests_fault, works_fault, last_time, IsAccepted}
+use Rattle.trace_tree.specs.Lines.{unit_name}
 use Rattle.machine.specs.Systems.{Thread, system, thread_by}
 use Rattle.guarantee.specs.Arrivals.{named_arrivals, DontFall}
 use Rattle.guarantee.specs.Arrivals as arrivals

@@ -6,11 +6,11 @@ use Rattle.std.proofs.lemmas.Option.{slice_get-map, none-some, same_Some}
 use Rattle.seq_tree.specs.Lists.{change, Each, first_where}
 use Rattle.seq_tree.specs.Variables.{Variables}
 use Rattle.ada_tree.specs.Programs.{Program}
-use Rattle.arrivals_read.specs.declared.arrivals.Arrival.{Arrival}
-use Rattle.arrivals_read.specs.Arriving.{Arrivals}
-use Rattle.arrivals_read.specs.Acceptance.{requests_fault, IsAccepted}
-use Rattle.trace_text.specs.declared.event.Event.{Event}
-use Rattle.trace_text.specs.declared.event.Event.TheVariants as event
+use Rattle.arrivals_tree.specs.declared.arrivals.Arrival.{Arrival}
+use Rattle.arrivals_tree.specs.Arriving.{Arrivals}
+use Rattle.arrivals_tree.specs.Acceptance.{requests_fault, IsAccepted}
+use Rattle.trace_tree.specs.declared.event.Event.{Event}
+use Rattle.trace_tree.specs.declared.event.Event.TheVariants as event
 use Rattle.machine.specs.Systems.{System, Thread, system}
 use Rattle.machine.specs.Pieces.{Piece}
 use Rattle.machine.specs.Deeds.{Act, Silent, Print, Enter, Leave, Ask, Keep, Open, Ended, Finish, Deed, done}

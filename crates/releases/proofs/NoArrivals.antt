@@ -3,8 +3,8 @@ use Rattle.std.specs.Prelude.{◌≡◌, ℕ, slice_get, Some}
 use Rattle.std.proofs.Common.{sym, ◌∙◌, ap}
 use Rattle.seq_tree.specs.Lists.{Each}
 use Rattle.ada_tree.specs.Programs.{Program}
-use Rattle.arrivals_read.specs.Arriving.{Arrivals}
-use Rattle.arrivals_read.specs.Acceptance.{IsAccepted}
+use Rattle.arrivals_tree.specs.Arriving.{Arrivals}
+use Rattle.arrivals_tree.specs.Acceptance.{IsAccepted}
 use Rattle.machine.specs.Systems.{Thread, system}
 use Rattle.ceiling_locking.specs.Premises.{IsElsewhere}
 use Rattle.std.proofs.lemmas.Option.{same_Some}

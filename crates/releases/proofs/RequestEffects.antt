@@ -7,9 +7,9 @@ use Rattle.seq_tree.specs.Names.{same_name}
 use Rattle.seq_tree.specs.Operations.{Signature}
 use Rattle.seq_tree.specs.Variables.{Variables}
 use Rattle.ada_tree.specs.Programs.{Program}
-use Rattle.trace_text.specs.declared.event.Event as machine
-use Rattle.trace_text.specs.declared.event.Event.TheVariants as event
-use Rattle.trace_text.specs.Lines.{unit_name}
+use Rattle.trace_tree.specs.declared.event.Event as machine
+use Rattle.trace_tree.specs.declared.event.Event.TheVariants as event
+use Rattle.trace_tree.specs.Lines.{unit_name}
 use Rattle.ods_tree.specs.Walk.{only_if}
 use Rattle.machine.specs.Systems.{System, Thread, Requested}
 use Rattle.machine.specs.Pieces.{Piece, Keeping, Opening}

@@ -5,9 +5,9 @@ use Rattle.std.proofs.Common.{sym, ◌∙◌, ap, subst, inl}
 use Rattle.seq_tree.specs.Lists.{change}
 use Rattle.seq_tree.specs.Names.{same_name}
 use Rattle.ada_tree.specs.Programs.{Program}
-use Rattle.trace_text.specs.declared.event.Event as machine
-use Rattle.trace_text.specs.declared.event.Event.TheVariants as event
-use Rattle.trace_text.specs.Lines.{unit_name}
+use Rattle.trace_tree.specs.declared.event.Event as machine
+use Rattle.trace_tree.specs.declared.event.Event.TheVariants as event
+use Rattle.trace_tree.specs.Lines.{unit_name}
 use Rattle.ods_tree.specs.Walk.{only_if}
 use Rattle.machine.specs.Systems.{System, Thread}
 use Rattle.machine.specs.States.{State, Task, Waiting, Ready, first_task}

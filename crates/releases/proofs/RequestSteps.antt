@@ -9,10 +9,10 @@ use Rattle.seq_tree.specs.Lists.{change, first_where}
 use Rattle.seq_tree.specs.Names.{same_name}
 use Rattle.seq_tree.specs.Operations.{Signature}
 use Rattle.ada_tree.specs.Programs.{Program}
-use Rattle.arrivals_read.specs.declared.arrivals.Arrival.{Arrival}
-use Rattle.trace_text.specs.declared.event.Event as machine
-use Rattle.trace_text.specs.declared.event.Event.TheVariants as event
-use Rattle.trace_text.specs.Lines.{unit_name}
+use Rattle.arrivals_tree.specs.declared.arrivals.Arrival.{Arrival}
+use Rattle.trace_tree.specs.declared.event.Event as machine
+use Rattle.trace_tree.specs.declared.event.Event.TheVariants as event
+use Rattle.trace_tree.specs.Lines.{unit_name}
 use Rattle.ods_tree.specs.Walk.{only_if}
 use Rattle.machine.specs.Systems.{System, Thread, Requested}
 use Rattle.machine.specs.Pieces.{Piece}

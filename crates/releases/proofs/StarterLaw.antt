@@ -12,10 +12,10 @@ use Rattle.ada_tree.specs.Rules.{MeetsRules}
 use Rattle.analysis.specs.Starts.{can_request, starts_within, block_starts}
 use Rattle.guarantee.specs.ResponseLaw.{program_services}
 use Rattle.program_calls.proofs.Starting.{through, unrequested, CoversBody, covers-body}
-use Rattle.arrivals_read.specs.Arriving.{Arrivals}
-use Rattle.arrivals_read.specs.Acceptance.{IsAccepted}
-use Rattle.trace_text.specs.declared.event.Event as machine
-use Rattle.trace_text.specs.Lines.{unit_name}
+use Rattle.arrivals_tree.specs.Arriving.{Arrivals}
+use Rattle.arrivals_tree.specs.Acceptance.{IsAccepted}
+use Rattle.trace_tree.specs.declared.event.Event as machine
+use Rattle.trace_tree.specs.Lines.{unit_name}
 use Rattle.machine.specs.Systems.{System, Thread, Requested, system, Callee, Plain, Protected, Request, Unknown, callee}
 use Rattle.machine.specs.States.{State, Control, opening}
 use Rattle.machine.specs.Effects.{task_unit}

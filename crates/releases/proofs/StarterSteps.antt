@@ -7,10 +7,10 @@ use Rattle.seq_tree.specs.Names.{Name, same_name}
 use Rattle.seq_tree.specs.Dearest.{dearest}
 use Rattle.seq_tree.specs.Variables.{Variables}
 use Rattle.ada_tree.specs.Programs.{Program}
-use Rattle.arrivals_read.specs.declared.arrivals.Arrival.{Arrival}
-use Rattle.trace_text.specs.declared.event.Event as machine
-use Rattle.trace_text.specs.declared.event.Event.TheVariants as event
-use Rattle.trace_text.specs.Lines.{unit_name}
+use Rattle.arrivals_tree.specs.declared.arrivals.Arrival.{Arrival}
+use Rattle.trace_tree.specs.declared.event.Event as machine
+use Rattle.trace_tree.specs.declared.event.Event.TheVariants as event
+use Rattle.trace_tree.specs.Lines.{unit_name}
 use Rattle.machine.specs.Systems.{System, Thread}
 use Rattle.machine.specs.Pieces.{Piece, Finishing, pieces}
 use Rattle.machine.specs.Deeds.{Act, Silent, Print, Enter, Leave, Ask, Keep, Open, Ended, Finish, Deed, done}

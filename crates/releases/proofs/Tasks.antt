@@ -5,7 +5,7 @@ use Rattle.std.proofs.lemmas.Option.{slice_get-map}
 use Rattle.seq_tree.specs.Lists.{Each}
 use Rattle.seq_tree.specs.Operations.{Signature}
 use Rattle.ada_tree.specs.Programs.{Program}
-use Rattle.arrivals_read.specs.Arriving.{Arrivals}
+use Rattle.arrivals_tree.specs.Arriving.{Arrivals}
 use Rattle.ods_tree.specs.Flats as flats
 use Rattle.machine.specs.Systems.{Thread, Timing, Periodic, Requested, system}
 use Rattle.guarantee.specs.Software.{Task, program_software}

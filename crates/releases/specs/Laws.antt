@@ -8,9 +8,9 @@ use Rattle.ods_tree.specs.Flats.{Timing, Cyclic, Sporadic}
 use Rattle.analysis.specs.Starts.{can_request, block_starts}
 use Rattle.ada_tree.specs.Programs.{Program}
 use Rattle.ada_tree.specs.Rules.{MeetsRules}
-use Rattle.arrivals_read.specs.Arriving as places
-use Rattle.arrivals_read.specs.Acceptance.{IsAccepted}
-use Rattle.trace_text.specs.declared.event.Event as machine
+use Rattle.arrivals_tree.specs.Arriving as places
+use Rattle.arrivals_tree.specs.Acceptance.{IsAccepted}
+use Rattle.trace_tree.specs.declared.event.Event as machine
 use Rattle.machine.specs.Meanings.{Meaning}
 use Rattle.guarantee.specs.Software.{Task, program_software}
 use Rattle.guarantee.specs.Events.{Event, named}

@@ -7,9 +7,9 @@ use Rattle.rt_response.specs.declared.rows.ThreadRow.{ThreadRow}
 use Rattle.rt_response.specs.declared.rows.Bound.{Bound}
 use Rattle.rt_response.specs.Tables.{Each}
 use Rattle.ada_tree.specs.Programs.{Program}
-use Rattle.trace_text.specs.Lines.{unit_name}
-use Rattle.trace_text.specs.declared.event.Event as machine
-use Rattle.trace_text.specs.declared.event.Event.TheVariants as event
+use Rattle.trace_tree.specs.Lines.{unit_name}
+use Rattle.trace_tree.specs.declared.event.Event as machine
+use Rattle.trace_tree.specs.declared.event.Event.TheVariants as event
 use Rattle.guarantee.specs.Events.{named}
 use Rattle.guarantee.specs.Bounded.{Either, EndsBy, Responds}
 use Rattle.schedules.specs.Schedules.{is_over, AllOnTime}

@@ -1,8 +1,8 @@
 -- What is known of the requests that a log's activations are for: when each came, from where, and that those of one task are apart.
 -- A cyclic task is asked for at its own times, an external one by arrivals, and any other by activations of its starter.
 use Rattle.std.specs.Prelude.{◌≡◌, ◌⊎◌, ℕ, ◌+◌, ◌≤◌, ◌<◌, Bool, true, false, List, slice_get, Option, Some, None, ⊤}
-use Rattle.arrivals_read.specs.declared.arrivals.Arrival.{Arrival}
-use Rattle.arrivals_read.specs.Acceptance.{nominal, earlier_times}
+use Rattle.arrivals_tree.specs.declared.arrivals.Arrival.{Arrival}
+use Rattle.arrivals_tree.specs.Acceptance.{nominal, earlier_times}
 use Rattle.rt_response.specs.declared.rows.ThreadRow.{ThreadRow}
 use Rattle.machine.specs.Systems.{Timing, Periodic, Requested}
 use Rattle.machine.specs.Pieces.{Piece}

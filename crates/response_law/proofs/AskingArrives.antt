@@ -3,8 +3,8 @@ use Rattle.std.specs.Prelude.{◌≡◌, ◌≢◌, ℕ, ◌+◌, ◌-◌, ◌�
 use Rattle.std.proofs.Common.{sym, ◌∙◌, ap, subst, arith, le_refl}
 use Rattle.std.proofs.lemmas.Bool.{false≢true}
 use Rattle.seq_tree.specs.Operations.{Signature}
-use Rattle.arrivals_read.specs.declared.arrivals.Arrival.{Arrival}
-use Rattle.arrivals_read.specs.Acceptance.{next_nominal, nominal, earlier_times}
+use Rattle.arrivals_tree.specs.declared.arrivals.Arrival.{Arrival}
+use Rattle.arrivals_tree.specs.Acceptance.{next_nominal, nominal, earlier_times}
 use Rattle.rt_response.specs.declared.rows.ThreadRow.{ThreadRow}
 use Rattle.machine.specs.Systems.{Timing, Periodic, Requested}
 use Rattle.machine.specs.States.{Phase}

@@ -2,7 +2,7 @@
 use Rattle.std.specs.Prelude.{◌≡◌, ◌≢◌, ℕ, ◌+◌, ◌≤◌, Bool, true, false, List, [], ◌∷◌, ◌++◌, slice_get, Option, Some, None}
 use Rattle.std.proofs.Common.{sym, ◌∙◌, ap, subst, arith, inl, inr}
 use Rattle.seq_tree.specs.Lists.{change}
-use Rattle.arrivals_read.specs.declared.arrivals.Arrival.{Arrival}
+use Rattle.arrivals_tree.specs.declared.arrivals.Arrival.{Arrival}
 use Rattle.rt_response.specs.declared.rows.ThreadRow.{ThreadRow}
 use Rattle.machine.specs.Systems.{Timing, Periodic, Requested}
 use Rattle.machine.specs.States.{Phase, Effects, Delays, Arriving, Use, Readiness, Asleep, Waiting, Ready}

@@ -2,7 +2,7 @@
 use Rattle.std.specs.Prelude.{◌≡◌, ℕ, ◌+◌, ◌≤◌, ◌<◌, Bool, false, List, slice_get, Option, Some, None}
 use Rattle.std.proofs.Common.{subst, arith, inl, inr, le_trans}
 use Rattle.seq_tree.specs.Lists.{change}
-use Rattle.arrivals_read.specs.declared.arrivals.Arrival.{Arrival}
+use Rattle.arrivals_tree.specs.declared.arrivals.Arrival.{Arrival}
 use Rattle.rt_response.specs.declared.rows.ThreadRow.{ThreadRow}
 use Rattle.machine.specs.Systems.{Timing, Periodic, Requested}
 use Rattle.machine.specs.Pieces.{Piece}

@@ -6,7 +6,7 @@ use Rattle.ceiling_locking.proofs.Stopping.{priority-at}
 use Rattle.response_law.proofs.Marks.{each-at}
 use Rattle.std.proofs.lemmas.List.{length-append}
 use Rattle.std.proofs.lemmas.Bool.{cases_lt}
-use Rattle.arrivals_read.specs.declared.arrivals.Arrival.{Arrival}
+use Rattle.arrivals_tree.specs.declared.arrivals.Arrival.{Arrival}
 use Rattle.rt_response.specs.declared.rows.ThreadRow.{ThreadRow}
 use Rattle.rt_response.specs.Tables.{Each}
 use Rattle.machine.specs.States.{State, Task, Phase, Effects, Delays, Arriving, Use, opening}

@@ -3,7 +3,7 @@ use Rattle.std.specs.Prelude.{◌≡◌, ◌≢◌, ◌⊎◌, ℕ, ◌≤◌, �
 use Rattle.std.proofs.Common.{sym, ◌∙◌, ap, subst, arith, inl, inr, le_refl, zero-le}
 use Rattle.seq_tree.specs.Lists.{change}
 use Rattle.seq_tree.specs.Variables.{Variables}
-use Rattle.trace_text.specs.declared.event.Event.TheVariants as event
+use Rattle.trace_tree.specs.declared.event.Event.TheVariants as event
 use Rattle.machine.specs.Pieces.{Piece, Opening, Finishing, pieces}
 use Rattle.machine.specs.Pieces as piece
 use Rattle.machine.specs.Deeds.{done}

@@ -9,11 +9,11 @@ use Rattle.rt_response.specs.declared.rows.Bound.{Bound}
 use Rattle.rt_response.specs.Response.{Fits}
 use Rattle.ods_tree.specs.Flats as flats
 use Rattle.guarantee.specs.ResponseLaw.{Ranked, AreTabled, task_sections, times_of}
-use Rattle.arrivals_read.specs.Arriving.{Arrivals}
-use Rattle.arrivals_read.specs.Acceptance.{IsAccepted}
+use Rattle.arrivals_tree.specs.Arriving.{Arrivals}
+use Rattle.arrivals_tree.specs.Acceptance.{IsAccepted}
 use Rattle.machine.specs.Meanings.{Meaning}
-use Rattle.trace_text.specs.declared.event.Event.{Event}
-use Rattle.trace_text.specs.declared.event.Event.TheVariants as event
+use Rattle.trace_tree.specs.declared.event.Event.{Event}
+use Rattle.trace_tree.specs.declared.event.Event.TheVariants as event
 use Rattle.guarantee.specs.Events.{named}
 use Rattle.guarantee.specs.Bounded.{IsBounded}
 use Rattle.guarantee.specs.MachineLaw.{NeverStops}

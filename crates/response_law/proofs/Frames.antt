@@ -5,8 +5,8 @@ use Rattle.std.proofs.lemmas.Option.{none-some}
 use Rattle.seq_tree.specs.Names.{Name}
 use Rattle.seq_tree.specs.Dearest.{dearest, free}
 use Rattle.seq_tree.specs.declared.tree.Costs.{Costs}
-use Rattle.arrivals_read.specs.declared.arrivals.Arrival.{Arrival}
-use Rattle.arrivals_read.specs.Acceptance.{next_nominal, nominal, earlier_times}
+use Rattle.arrivals_tree.specs.declared.arrivals.Arrival.{Arrival}
+use Rattle.arrivals_tree.specs.Acceptance.{next_nominal, nominal, earlier_times}
 use Rattle.rt_response.specs.declared.rows.ThreadRow.{ThreadRow}
 use Rattle.machine.specs.Systems.{System, Thread, Timing, Periodic, Requested}
 use Rattle.machine.specs.Pieces.{Piece, Finishing, Opening, pieces}

@@ -1,7 +1,7 @@
 -- At the opening the log is empty.
 use Rattle.std.specs.Prelude.{◌≡◌, ℕ, zero, suc, ◌+◌, ◌≤◌, Bool, true, false, List, [], ◌∷◌, map, slice_get, Option, Some, None, refl}
 use Rattle.std.proofs.Common.{◌∙◌, ap, subst, inl, zero-le}
-use Rattle.arrivals_read.specs.declared.arrivals.Arrival.{Arrival}
+use Rattle.arrivals_tree.specs.declared.arrivals.Arrival.{Arrival}
 use Rattle.rt_response.specs.declared.rows.ThreadRow.{ThreadRow}
 use Rattle.machine.specs.Systems.{Thread, Timing, Periodic, Requested}
 use Rattle.machine.specs.States.{Effects, Ready, first_wait, first_time, first_task, opening}

@@ -12,8 +12,8 @@ use Rattle.ada_tree.specs.Programs.{Form, Unit, Program, Passive, Shared, Cyclic
 use Rattle.ada_tree.specs.Bodies.{bodies, heads}
 use Rattle.ada_tree.specs.Ranges.{is_outside, numbers_break, costs_break, whole_breaks}
 use Rattle.ada_tree.specs.Rules.{MeetsRules, Ranges, Whole}
-use Rattle.arrivals_read.specs.Arriving.{Arrivals, Durations, durations}
-use Rattle.arrivals_read.specs.Acceptance.{Unknown, Unfit, Far, has_nothing, durations_fault, works_fault, requests_fault, IsAccepted}
+use Rattle.arrivals_tree.specs.Arriving.{Arrivals, Durations, durations}
+use Rattle.arrivals_tree.specs.Acceptance.{Unknown, Unfit, Far, has_nothing, durations_fault, works_fault, requests_fault, IsAccepted}
 use Rattle.machine.specs.Systems.{Thread, thread_by, system}
 use Rattle.machine.specs.Pieces.{Piece, Finishing, Turning, turns, pieces_of, pieces, branch_pieces, work_ticks}
 use Rattle.program_calls.proofs.Lists.{IsIn, in-left, in-right, in-flat, at-in, none-in, made-at}

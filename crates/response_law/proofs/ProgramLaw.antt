@@ -10,14 +10,14 @@ use Rattle.ada_tree.specs.Programs.{Form, Unit, Program, Cyclic, Sporadic}
 use Rattle.ada_tree.specs.Bodies.{bodies, op_body}
 use Rattle.ada_tree.specs.Ranges.{is_outside, jitter_breaks, numbers_break}
 use Rattle.ada_tree.specs.Rules.{MeetsRules}
-use Rattle.arrivals_read.specs.declared.arrivals.Arrival.{Arrival}
-use Rattle.arrivals_read.specs.Arriving.{Arrivals}
-use Rattle.arrivals_read.specs.Acceptance.{Unknown, Unfit, Early, Falling, Far, fits, next_nominal, nominal, earlier_times, last_time, request_fault, request_fault_by, request_fault_at, item_fault, requests_fault, works_fault, IsAccepted}
+use Rattle.arrivals_tree.specs.declared.arrivals.Arrival.{Arrival}
+use Rattle.arrivals_tree.specs.Arriving.{Arrivals}
+use Rattle.arrivals_tree.specs.Acceptance.{Unknown, Unfit, Early, Falling, Far, fits, next_nominal, nominal, earlier_times, last_time, request_fault, request_fault_by, request_fault_at, item_fault, requests_fault, works_fault, IsAccepted}
 use Rattle.rt_response.specs.declared.rows.ThreadRow.{ThreadRow}
 use Rattle.rt_response.specs.declared.rows.Bound.{Bound}
 use Rattle.rt_response.specs.Response.{Fits}
-use Rattle.trace_text.specs.Lines.{unit_name}
-use Rattle.trace_text.specs.declared.event.Event as machine
+use Rattle.trace_tree.specs.Lines.{unit_name}
+use Rattle.trace_tree.specs.declared.event.Event as machine
 use Rattle.machine.specs.Systems.{System, Thread, Timing, Periodic, Requested, Callee, Plain, Protected, Request, system, callee}
 use Rattle.machine.specs.Systems as systems
 use Rattle.machine.specs.States.{Section, Object}

@@ -18,7 +18,7 @@ use Rattle.response_law.proofs.AskingLater.{came-later}
 use Rattle.response_law.proofs.AskingReleases.{asking-released}
 use Rattle.response_law.proofs.Later.{still-grown}
 use Rattle.response_law.proofs.Moves.{Along, Moved, since, grown-started}
-use Rattle.trace_text.specs.declared.event.Event.TheVariants as event
+use Rattle.trace_tree.specs.declared.event.Event.TheVariants as event
 use Rattle.program_calls.proofs.Places.{same-item, each-grown}
 
 follows-of : (acts : List Made) (r time : ℕ) (m : Made) → m.row ≡ r → m.release ≡ time → EndedAt acts r time → Follows acts (length acts) m

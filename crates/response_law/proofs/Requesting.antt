@@ -12,7 +12,7 @@ use Rattle.seq_tree.specs.declared.tree.OpName.{OpName}
 use Rattle.ada_tree.specs.Programs.{Program, Sporadic}
 use Rattle.ada_tree.specs.Uses.{is_requested, breaks_external}
 use Rattle.ada_tree.specs.Rules.{MeetsRules}
-use Rattle.arrivals_read.specs.Arriving.{Arrivals}
+use Rattle.arrivals_tree.specs.Arriving.{Arrivals}
 use Rattle.rt_response.specs.declared.rows.ThreadRow.{ThreadRow}
 use Rattle.ods_tree.specs.Flats as flats
 use Rattle.machine.specs.Systems.{System, Thread, Timing, Periodic, Requested, Callee, Plain, Protected, Request, Unknown, system, callee}

@@ -3,13 +3,13 @@ use Rattle.std.specs.Prelude.{◌≡◌, ℕ, zero, suc, List, [], ◌++◌, sli
 use Rattle.std.proofs.Common.{sym, ◌∙◌, ap, subst}
 use Rattle.std.proofs.lemmas.Bool.{false≢true}
 use Rattle.seq_tree.specs.Lists.{Each}
-use Rattle.arrivals_read.specs.declared.arrivals.Arrival.{Arrival}
+use Rattle.arrivals_tree.specs.declared.arrivals.Arrival.{Arrival}
 use Rattle.rt_response.specs.declared.rows.ThreadRow.{ThreadRow}
 use Rattle.rt_response.specs.declared.rows.Bound.{Bound}
 use Rattle.rt_response.specs.Tables.{IsTable}
 use Rattle.rt_response.specs.Tables as tables
 use Rattle.rt_response.specs.Response.{Fits}
-use Rattle.trace_text.specs.declared.event.Event.{Event}
+use Rattle.trace_tree.specs.declared.event.Event.{Event}
 use Rattle.machine.specs.Systems.{System, Thread}
 use Rattle.machine.specs.Pieces.{Piece}
 use Rattle.machine.specs.Pieces as piece

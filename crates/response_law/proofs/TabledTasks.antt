@@ -6,7 +6,7 @@ use Rattle.seq_tree.specs.Dearest.{starts}
 use Rattle.ada_tree.specs.Programs.{Program, Sporadic}
 use Rattle.ada_tree.specs.Ranges.{is_outside, jitter_breaks, numbers_break}
 use Rattle.ada_tree.specs.Rules.{MeetsRules}
-use Rattle.arrivals_read.specs.Arriving.{Arrivals}
+use Rattle.arrivals_tree.specs.Arriving.{Arrivals}
 use Rattle.rt_response.specs.declared.rows.ThreadRow.{ThreadRow}
 use Rattle.ods_tree.specs.Flats as flats
 use Rattle.machine.specs.Systems.{Thread, Timing, Periodic, Requested, system}

@@ -9,7 +9,7 @@ use Rattle.seq_tree.specs.Dearest.{is_call_of}
 use Rattle.seq_tree.specs.Lists.{first_from, first_where}
 use Rattle.ada_tree.specs.Programs.{Program}
 use Rattle.ada_tree.specs.Rules.{MeetsRules}
-use Rattle.arrivals_read.specs.Arriving.{Arrivals}
+use Rattle.arrivals_tree.specs.Arriving.{Arrivals}
 use Rattle.rt_response.specs.declared.rows.ThreadRow.{ThreadRow}
 use Rattle.analysis.specs.Execution.{called_cost}
 use Rattle.analysis.specs.Starts.{starts_within}

@@ -3,7 +3,7 @@ use Rattle.std.specs.Prelude.{◌≡◌, ℕ, List, slice_get, Option, Some, opt
 use Rattle.std.specs.List.{AllZip}
 use Rattle.ada_tree.specs.Programs.{Form, Unit, Program, Passive, Shared, Cyclic, Sporadic}
 use Rattle.ada_tree.specs.Rules.{MeetsRules}
-use Rattle.arrivals_read.specs.Arriving.{Arrivals, durations}
+use Rattle.arrivals_tree.specs.Arriving.{Arrivals, durations}
 use Rattle.ods_tree.specs.Walk.{only_if}
 use Rattle.ods_tree.specs.Flats as flats
 use Rattle.machine.specs.Systems.{Thread, Timing, Periodic, Requested, thread_by, system}

@@ -3,7 +3,7 @@
 use Rattle.std.specs.Prelude.{ℕ, ◌+◌, ◌-◌, Bool, true, false, List, [], ◌∷◌, map, slice_get, Option}
 use Rattle.seq_tree.specs.Lists.{change}
 use Rattle.seq_tree.specs.declared.tree.Costs.{Costs}
-use Rattle.arrivals_read.specs.declared.arrivals.Arrival.{Arrival}
+use Rattle.arrivals_tree.specs.declared.arrivals.Arrival.{Arrival}
 use Rattle.machine.specs.Systems.{Thread}
 use Rattle.machine.specs.Pieces.{Piece, Finishing, pieces, ticks_of, works_of}
 use Rattle.machine.specs.States.{State, Task, Phase, Effects, Readiness, Ready}

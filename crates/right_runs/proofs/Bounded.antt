@@ -5,9 +5,9 @@ use Rattle.std.proofs.Common.{subst}
 use Rattle.seq_tree.specs.Lists.{Each}
 use Rattle.seq_tree.specs.Names.{same_name}
 use Rattle.ada_tree.specs.Programs.{Program}
-use Rattle.arrivals_read.specs.Arriving as places
-use Rattle.arrivals_read.specs.Acceptance.{IsAccepted}
-use Rattle.trace_text.specs.declared.event.Event as machine
+use Rattle.arrivals_tree.specs.Arriving as places
+use Rattle.arrivals_tree.specs.Acceptance.{IsAccepted}
+use Rattle.trace_tree.specs.declared.event.Event as machine
 use Rattle.machine.specs.Meanings.{Meaning}
 use Rattle.analysis.specs.Starts.{can_request}
 use Rattle.rt_response.specs.declared.rows.ThreadRow.{ThreadRow}

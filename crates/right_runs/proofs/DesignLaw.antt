@@ -11,9 +11,9 @@ use Rattle.ods_tree.specs.Flattening.{flat}
 use Rattle.ods_rules.specs.Rules.{MeetsRules}
 use Rattle.ada_tree.specs.Spelling.{program_tokens}
 use Rattle.analysis.specs.Tables.{table}
-use Rattle.arrivals_read.specs.Arriving.{Arrivals}
-use Rattle.arrivals_read.specs.Acceptance.{IsAccepted}
-use Rattle.trace_text.specs.declared.event.Event.{Event}
+use Rattle.arrivals_tree.specs.Arriving.{Arrivals}
+use Rattle.arrivals_tree.specs.Acceptance.{IsAccepted}
+use Rattle.trace_tree.specs.declared.event.Event.{Event}
 use Rattle.machine.specs.Systems.{system}
 use Rattle.machine.specs.Meanings.{Meaning, start}
 use Rattle.machine.proofs.RunLaws.{Rest-unique}

@@ -3,9 +3,9 @@ use Rattle.std.specs.Prelude.{ℕ, List}
 use Rattle.std.proofs.Common.{sym, subst}
 use Rattle.ods_tree.specs.Designs.{Design}
 use Rattle.ods_tree.specs.Flattening.{flat}
-use Rattle.arrivals_read.specs.Arriving as places
-use Rattle.arrivals_read.specs.Acceptance.{IsAccepted}
-use Rattle.trace_text.specs.declared.event.Event as machine
+use Rattle.arrivals_tree.specs.Arriving as places
+use Rattle.arrivals_tree.specs.Acceptance.{IsAccepted}
+use Rattle.trace_tree.specs.declared.event.Event as machine
 use Rattle.machine.specs.Meanings.{Meaning}
 use Rattle.analysis.specs.Tables.{table}
 use Rattle.rt_response.specs.declared.rows.Bound.{Bound}

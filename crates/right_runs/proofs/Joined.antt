@@ -7,12 +7,12 @@ use Rattle.seq_tree.specs.Lists.{Each}
 use Rattle.seq_tree.specs.Names.{Name, same_name}
 use Rattle.seq_tree.specs.Operations.{Signature}
 use Rattle.ada_tree.specs.Programs.{Unit, Program}
-use Rattle.arrivals_read.specs.Arriving as places
-use Rattle.arrivals_read.specs.Acceptance.{IsAccepted}
+use Rattle.arrivals_tree.specs.Arriving as places
+use Rattle.arrivals_tree.specs.Acceptance.{IsAccepted}
 use Rattle.ods_tree.specs.Flats as flats
 use Rattle.ods_tree.specs.Flats.{period_of}
 use Rattle.ods_tree.specs.Walk.{only_if}
-use Rattle.trace_text.specs.declared.event.Event as machine
+use Rattle.trace_tree.specs.declared.event.Event as machine
 use Rattle.machine.specs.Systems.{Thread, Timing, Periodic, Requested, system}
 use Rattle.machine.specs.Meanings.{Meaning}
 use Rattle.rt_response.specs.declared.rows.ThreadRow.{ThreadRow}

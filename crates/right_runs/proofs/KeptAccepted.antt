@@ -12,11 +12,11 @@ use Rattle.seq_tree.specs.declared.tree.Param.{Param}
 use Rattle.ada_tree.specs.Programs.{Form, Unit, Program, Passive, Shared, Cyclic, Sporadic, is_task}
 use Rattle.ada_tree.specs.Rules.{MeetsRules}
 use Rattle.ada_tree.specs.Words.{is_ada_name}
-use Rattle.arrivals_read.specs.declared.arrivals.Arrival as place
-use Rattle.arrivals_read.specs.Arriving as places
-use Rattle.arrivals_read.specs.Arriving.{durations}
-use Rattle.arrivals_read.specs.Acceptance.{Unknown, Unfit, Early, Falling, Far, fits, next_nominal, nominal, earlier_times, last_time, request_fault, request_fault_by, request_fault_at, item_fault, requests_fault, has_nothing, durations_fault, works_fault, IsAccepted}
-use Rattle.trace_text.specs.Lines.{unit_name}
+use Rattle.arrivals_tree.specs.declared.arrivals.Arrival as place
+use Rattle.arrivals_tree.specs.Arriving as places
+use Rattle.arrivals_tree.specs.Arriving.{durations}
+use Rattle.arrivals_tree.specs.Acceptance.{Unknown, Unfit, Early, Falling, Far, fits, next_nominal, nominal, earlier_times, last_time, request_fault, request_fault_by, request_fault_at, item_fault, requests_fault, has_nothing, durations_fault, works_fault, IsAccepted}
+use Rattle.trace_tree.specs.Lines.{unit_name}
 use Rattle.machine.specs.Systems.{Thread, Timing, Periodic, Requested, system, thread_by}
 use Rattle.guarantee.specs.Software.{Task, program_software}
 use Rattle.guarantee.specs.Arrivals.{Durations, named_arrivals, DontFall, IsValueFor, Takes, IsTaken, IsExternal, KeepTime, KeepsSeparation, AreDurations, AreKept}

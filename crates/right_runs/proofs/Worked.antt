@@ -17,9 +17,9 @@ use Rattle.ods_rules.specs.Rules.{MeetsRules}
 use Rattle.ods_rules.proofs.WorkedRules.{meets-where-nothing-told}
 use Rattle.ada_tree.specs.Programs.{Program}
 use Rattle.ada_tree.specs.Words.{is_ada_name}
-use Rattle.arrivals_read.specs.Arriving.{Arrivals}
-use Rattle.trace_text.specs.declared.event.Event.{Event}
-use Rattle.trace_text.specs.declared.event.Event.TheVariants as event
+use Rattle.arrivals_tree.specs.Arriving.{Arrivals}
+use Rattle.trace_tree.specs.declared.event.Event.{Event}
+use Rattle.trace_tree.specs.declared.event.Event.TheVariants as event
 use Rattle.machine.specs.Systems.{system}
 use Rattle.machine.specs.Meanings.{Meaning, start}
 use Rattle.machine.proofs.RunLaws.{Rest-unique}

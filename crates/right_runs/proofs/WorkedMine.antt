@@ -9,9 +9,9 @@ use Rattle.ods_tree.proofs.Mine.{mine}
 use Rattle.ods_rules.specs.Rules.{MeetsRules}
 use Rattle.ods_rules.proofs.WorkedRules.{meets-where-nothing-told}
 use Rattle.ada_tree.specs.Words.{is_ada_name}
-use Rattle.arrivals_read.specs.Arriving.{Arrivals}
-use Rattle.arrivals_read.specs.Acceptance.{IsAccepted}
-use Rattle.trace_text.specs.Lines.{unit_name}
+use Rattle.arrivals_tree.specs.Arriving.{Arrivals}
+use Rattle.arrivals_tree.specs.Acceptance.{IsAccepted}
+use Rattle.trace_tree.specs.Lines.{unit_name}
 use Rattle.rt_response.specs.declared.rows.Bound.{Bound}
 use Rattle.rt_response.specs.Response.{IsLeastVector}
 use Rattle.analysis.specs.Sound.{IsSound}

@@ -22,9 +22,9 @@ use Rattle.rt_response.specs.Rounds.{round, first_excess, IsMiss}
 use Rattle.rt_response.proofs.Least.{miss-none_fits}
 use Rattle.analysis.specs.Tables.{table}
 use Rattle.analysis.proofs.Nested.{nested}
-use Rattle.trace_text.specs.Lines.{unit_name, unit_ops}
-use Rattle.trace_text.specs.declared.event.Event.{Event}
-use Rattle.trace_text.specs.declared.event.Event.TheVariants as event
+use Rattle.trace_tree.specs.Lines.{unit_name, unit_ops}
+use Rattle.trace_tree.specs.declared.event.Event.{Event}
+use Rattle.trace_tree.specs.declared.event.Event.TheVariants as event
 use Rattle.machine.specs.Meanings.{Meaning}
 use Rattle.guarantee.specs.Arrivals.{named_arrivals, KeepsSeparations}
 use Rattle.guarantee.specs.Events.{named}

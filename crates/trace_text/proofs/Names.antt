@@ -10,7 +10,7 @@ use Rattle.ada_tree.specs.Bodies.{heads}
 use Rattle.ada_tree.specs.Trees.{form_of, program_of, unit_of}
 use Rattle.ada_tree.specs.declared.program.AdaProgram.{AdaProgram}
 use Rattle.ada_tree.specs.declared.program.Unit as units
-use Rattle.trace_text.specs.Lines.{unit_name, unit_ops, op_name}
+use Rattle.trace_tree.specs.Lines.{unit_name, unit_ops, op_name}
 
 -- an item of a list, under a view
 pub read-map : {A B : Type 0} (v : A → B) (xs : List A) (i : ℕ) (x : A) → i < length (map v xs) → x ≡ get_or xs i x → slice_get (map v xs) i ≡ Some (v x)

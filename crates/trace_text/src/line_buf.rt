@@ -1,8 +1,8 @@
 ghost use Rattle.std.specs.Prelude.{◌≡◌, ◌+◌, ◌≤◌, [], ◌∷◌, ◌++◌, length, decimal};
-ghost use Rattle.trace_text.specs.Lines.{option_words, value_words};
+ghost use Rattle.trace_tree.specs.Lines.{option_words, value_words};
 ghost use Rattle.trace_text.specs.Spaced.{spaced};
 
-use crate::event::Values;
+use trace_tree::Values;
 use itoa::Buffer;
 use std::marker::Model;
 

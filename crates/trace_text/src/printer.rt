@@ -3,11 +3,11 @@ ghost use Rattle.std.specs.List.{join_with_byte};
 ghost use Rattle.seq_tree.specs.Trees.{signature_of};
 ghost use Rattle.ada_tree.specs.Bodies.{heads};
 ghost use Rattle.ada_tree.specs.Trees.{form_of, program_of};
-ghost use Rattle.trace_text.specs.Lines.{line, op_name, unit_name, unit_ops, words};
-ghost use Rattle.trace_text.specs.Placed.{IsPlaced};
+ghost use Rattle.trace_tree.specs.Lines.{line, op_name, unit_name, unit_ops, words};
+ghost use Rattle.trace_tree.specs.Placed.{IsPlaced};
 ghost use Rattle.trace_text.specs.Spaced.{spaced};
 
-use crate::event::Event;
+use trace_tree::Event;
 use crate::line_buf::LineBuf;
 use ada_tree::{AdaProgram, Form, Unit};
 use seq_tree::{Name, OpSig};
@@ -99,7 +99,7 @@ fn put_levels(priority: u32, ceiling: u32, into: &mut LineBuf)
 }
 
 // The words of an event's line, with a space between them.
-#[tactic(auto, unfolding(crate::specs::Lines::words), using(crate::proofs::Spacing::joined_steps))]
+#[tactic(auto, unfolding(trace_tree::specs::Lines::words), using(crate::proofs::Spacing::joined_steps))]
 fn put_words(program: &AdaProgram, event: &Event, into: &mut LineBuf)
     requires empty { into.old ≡ [] }
     requires placed { IsPlaced (program_of program.now) event.now }
@@ -176,7 +176,7 @@ fn put_words(program: &AdaProgram, event: &Event, into: &mut LineBuf)
 
 /// Makes `into` hold exactly the line of an event, with its line feed; what it held before is dropped. The event's
 /// tasks, units, targets and operations stand in the program. It asks for no memory.
-#[tactic(auto, unfolding(crate::specs::Lines::line))]
+#[tactic(auto, unfolding(trace_tree::specs::Lines::line))]
 pub fn line(program: &AdaProgram, event: &Event, into: &mut LineBuf)
     requires { IsPlaced (program_of program.now) event.now }
     ensures { into.new ≡ line (program_of program.now) event.now }

@@ -18,7 +18,7 @@ use Rattle.guarantee.specs.Steps.{Step}
 use Rattle.written_runs.proofs.Groups.{Life, end_step, life_whole, life_begun}
 use Rattle.written_runs.proofs.Claims.{Naming, task_at, timing_at, step_at, Finishes, Stands}
 use Rattle.written_runs.proofs.Bound.{IsBound, bound_block}
-use Rattle.arrivals_read.specs.Arriving.{Arrivals}
+use Rattle.arrivals_tree.specs.Arriving.{Arrivals}
 use Rattle.activations.proofs.Courses.{Course, IsApt, FitBlock, FitPieces, IsTicks}
 use Rattle.activations.proofs.Programs.{course, entry_name}
 use Rattle.activations.proofs.AptPrograms.{apt}

@@ -20,7 +20,7 @@ use Rattle.written_runs.proofs.Claims.{Naming, did, step_at, Stands, Threads, Ho
 use Rattle.std.proofs.lemmas.Bool.{false_from_ne_true, eqb-true, eqb-false}
 use Rattle.program_calls.proofs.Facts.{same-self}
 use Rattle.program_calls.proofs.Places.{change-at, change-else}
-use Rattle.arrivals_read.specs.Arriving.{Arrivals}
+use Rattle.arrivals_tree.specs.Arriving.{Arrivals}
 use Rattle.ada_tree.specs.Rules.{MeetsRules}
 use Rattle.written_runs.proofs.Namings.{naming}
 use Rattle.ceiling_locking.specs.Sections.{sections}

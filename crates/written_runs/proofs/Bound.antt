@@ -13,7 +13,7 @@ use Rattle.machine.specs.Deeds.{Act, Silent, Leave, Ended, Finish, Deed, deed, d
 use Rattle.machine.specs.States.{Object, Control}
 use Rattle.guarantee.specs.Software.{Software, program_software}
 use Rattle.written_runs.proofs.Claims.{Naming}
-use Rattle.arrivals_read.specs.Arriving.{Arrivals}
+use Rattle.arrivals_tree.specs.Arriving.{Arrivals}
 use Rattle.activations.proofs.Courses.{Course, FitPieces}
 use Rattle.activations.proofs.Programs.{course}
 use Rattle.ada_tree.specs.Rules.{MeetsRules}

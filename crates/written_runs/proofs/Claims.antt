@@ -6,7 +6,7 @@ use Rattle.seq_tree.specs.Variables.{Variables, kept}
 use Rattle.seq_tree.specs.Runs.{Path}
 use Rattle.seq_tree.specs.declared.tree.OpName.{OpName}
 use Rattle.ada_tree.specs.Programs.{Program}
-use Rattle.trace_text.specs.Lines.{unit_name}
+use Rattle.trace_tree.specs.Lines.{unit_name}
 use Rattle.ods_tree.specs.Flats as flats
 use Rattle.ods_tree.specs.Walk.{only_if}
 use Rattle.machine.specs.Systems.{System, Thread, Guarded, Timing, Periodic, Requested, Protected, callee, system}
@@ -19,7 +19,7 @@ use Rattle.guarantee.specs.Events as names
 use Rattle.guarantee.specs.Steps.{Moment, Step, steps_of}
 use Rattle.guarantee.specs.Passages.{Passage, Out, passages, AreOneByOne, IsOpOf}
 use Rattle.written_runs.proofs.Groups.{Life}
-use Rattle.arrivals_read.specs.Arriving.{Arrivals}
+use Rattle.arrivals_tree.specs.Arriving.{Arrivals}
 use Rattle.activations.proofs.Courses.{IsTicks}
 use Rattle.activations.proofs.Programs.{course, entry_name}
 use Rattle.activations.proofs.Ways.{Claim, Ahead, Within}

@@ -7,8 +7,8 @@ use Rattle.seq_tree.specs.Names.{Name}
 use Rattle.seq_tree.specs.Variables.{Variables, kept}
 use Rattle.seq_tree.specs.Runs.{silent}
 use Rattle.ada_tree.specs.Programs.{Program}
-use Rattle.trace_text.specs.Lines.{unit_name}
-use Rattle.trace_text.specs.declared.event.Event as machine
+use Rattle.trace_tree.specs.Lines.{unit_name}
+use Rattle.trace_tree.specs.declared.event.Event as machine
 use Rattle.machine.specs.Systems.{System, system}
 use Rattle.machine.specs.Pieces.{Piece}
 use Rattle.machine.specs.Deeds.{Act, Silent, Print, Enter, Leave, Ask, Keep, Open, Ended, Finish, Deed, done}
@@ -29,7 +29,7 @@ use Rattle.written_runs.proofs.Passings.{Alone, HasStores, leave_back, enter_bac
 use Rattle.written_runs.proofs.Evolving.{AreFitting}
 use Rattle.std.proofs.lemmas.Option.{same_Some}
 use Rattle.program_calls.proofs.Places.{change-at, change-none, change-else}
-use Rattle.arrivals_read.specs.Arriving.{Arrivals}
+use Rattle.arrivals_tree.specs.Arriving.{Arrivals}
 use Rattle.activations.proofs.Courses.{Course, IsApt, FitPieces, IsTicks}
 use Rattle.activations.proofs.Programs.{course, entry_name, request_name}
 use Rattle.activations.proofs.AptPrograms.{apt}

@@ -6,7 +6,7 @@ use Rattle.seq_tree.specs.Names.{Name}
 use Rattle.seq_tree.specs.Statements.{Statement, Statements, Branches, Null, Assign, If, For, ExitWhen, Call, Work, Put, End, Then, Nothing, Else, When}
 use Rattle.seq_tree.specs.Variables.{Variables}
 use Rattle.ada_tree.specs.Programs.{Program}
-use Rattle.trace_text.specs.declared.event.Event.{Event}
+use Rattle.trace_tree.specs.declared.event.Event.{Event}
 use Rattle.machine.specs.Systems.{System, Thread, system}
 use Rattle.machine.specs.Pieces.{Piece, Finishing, Turning, turns, pieces_of, pieces, branch_pieces, ticks_of, Working}
 use Rattle.machine.specs.Deeds.{Act, Silent, Print, Enter, Leave, Ask, Keep, Open, Ended, Finish}
@@ -16,7 +16,7 @@ use Rattle.machine.specs.Effects.{acted, entry, entered_at, stopped_at, exit, go
 use Rattle.written_runs.proofs.Moves.{threads_of, change-threads}
 use Rattle.written_runs.proofs.Back.{thread_at}
 use Rattle.written_runs.proofs.Bound.{IsBound, bound_block}
-use Rattle.arrivals_read.specs.Arriving.{Arrivals}
+use Rattle.arrivals_tree.specs.Arriving.{Arrivals}
 use Rattle.activations.proofs.Courses.{Course, IsApt, FitBlock, FitPieces}
 use Rattle.activations.proofs.Programs.{course, Leads}
 use Rattle.activations.proofs.AptPrograms.{apt}

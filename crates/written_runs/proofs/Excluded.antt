@@ -1,7 +1,7 @@
 -- What exclusion keeps of the tasks of each state of a run, as the law of a whole run asks for it.
 use Rattle.std.specs.Prelude.{◌≡◌, ℕ, zero, suc, List, [], ◌∷◌, slice_get, Some, refl}
 use Rattle.std.proofs.Common.{sym, ◌∙◌, ap, subst, inl, inr}
-use Rattle.arrivals_read.specs.declared.arrivals.Arrival.{Arrival}
+use Rattle.arrivals_tree.specs.declared.arrivals.Arrival.{Arrival}
 use Rattle.machine.specs.Systems.{System}
 use Rattle.machine.specs.States.{State, Task, Section, Object, Control, Ready, Readiness, Waiting, Asleep, opening}
 use Rattle.machine.specs.Meanings.{run}

@@ -7,9 +7,9 @@ use Rattle.seq_tree.specs.Lists.{Each}
 use Rattle.seq_tree.specs.Variables.{Variables, written}
 use Rattle.seq_tree.specs.Runs.{Path, silent}
 use Rattle.ada_tree.specs.Programs.{Program}
-use Rattle.arrivals_read.specs.declared.arrivals.Arrival.{Arrival}
-use Rattle.trace_text.specs.declared.event.Event as machine
-use Rattle.trace_text.specs.declared.event.Event.TheVariants as event
+use Rattle.arrivals_tree.specs.declared.arrivals.Arrival.{Arrival}
+use Rattle.trace_tree.specs.declared.event.Event as machine
+use Rattle.trace_tree.specs.declared.event.Event.TheVariants as event
 use Rattle.ods_tree.specs.Flats as flats
 use Rattle.machine.specs.Systems.{System, Thread, system}
 use Rattle.machine.specs.Pieces.{Piece}
@@ -32,7 +32,7 @@ use Rattle.written_runs.proofs.StepsBack.{IsKept, IsDue, IsSteady, step_backs}
 use Rattle.written_runs.proofs.Steady.{step_steady}
 use Rattle.std.proofs.lemmas.Bool.{true≢false}
 use Rattle.program_calls.proofs.Lists.{each-by, each-map}
-use Rattle.arrivals_read.specs.Arriving.{Arrivals}
+use Rattle.arrivals_tree.specs.Arriving.{Arrivals}
 use Rattle.activations.proofs.Courses.{Course, IsApt}
 use Rattle.activations.proofs.Programs.{course}
 use Rattle.activations.proofs.AptPrograms.{apt}

@@ -5,8 +5,8 @@ use Rattle.std.proofs.Common.{sym, ◌∙◌, ap, inl, inr}
 use Rattle.std.proofs.lemmas.Option.{slice_get-map}
 use Rattle.seq_tree.specs.Lists.{change, Each}
 use Rattle.seq_tree.specs.Variables.{Variables}
-use Rattle.trace_text.specs.declared.event.Event.{Event}
-use Rattle.trace_text.specs.declared.event.Event.TheVariants as event
+use Rattle.trace_tree.specs.declared.event.Event.{Event}
+use Rattle.trace_tree.specs.declared.event.Event.TheVariants as event
 use Rattle.machine.specs.Systems.{System, Thread}
 use Rattle.machine.specs.Pieces.{Piece}
 use Rattle.machine.specs.Deeds.{Act, Silent, Print, Enter, Leave, Ask, Keep, Open, Ended, Finish}

@@ -7,7 +7,7 @@ use Rattle.seq_tree.specs.Names.{Name, same_name}
 use Rattle.seq_tree.specs.Operations.{Operation}
 use Rattle.ada_tree.specs.Programs.{Program}
 use Rattle.ada_tree.specs.Rules.{MeetsRules}
-use Rattle.arrivals_read.specs.Arriving.{Arrivals}
+use Rattle.arrivals_tree.specs.Arriving.{Arrivals}
 use Rattle.machine.specs.Systems.{Guarded, Protected, system, callee}
 use Rattle.guarantee.specs.Software.{program_software}
 use Rattle.guarantee.specs.Passages.{IsOpOf}

@@ -9,7 +9,7 @@ use Rattle.seq_tree.specs.Variables.{Variables, kept, reads}
 use Rattle.seq_tree.specs.Runs.{Path, silent}
 use Rattle.seq_tree.specs.declared.tree.OpName.{OpName}
 use Rattle.ada_tree.specs.Programs.{Program}
-use Rattle.trace_text.specs.Lines.{unit_name}
+use Rattle.trace_tree.specs.Lines.{unit_name}
 use Rattle.ods_tree.specs.Walk.{only_if}
 use Rattle.machine.specs.Systems.{System, Thread, Guarded, system}
 use Rattle.machine.specs.Pieces.{Piece}
@@ -27,7 +27,7 @@ use Rattle.std.proofs.lemmas.Option.{none-some, same_Some}
 use Rattle.std.proofs.lemmas.Bool.{false_from_ne_true}
 use Rattle.program_calls.proofs.Facts.{same-self}
 use Rattle.program_calls.proofs.Places.{change-at, change-else, set-else}
-use Rattle.arrivals_read.specs.Arriving.{Arrivals}
+use Rattle.arrivals_tree.specs.Arriving.{Arrivals}
 use Rattle.activations.proofs.Courses.{Course}
 use Rattle.activations.proofs.Programs.{course, entry_name}
 use Rattle.activations.proofs.Ways.{Within, Passes}

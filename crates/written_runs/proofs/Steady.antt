@@ -4,9 +4,9 @@ use Rattle.std.proofs.Common.{sym, ◌∙◌, ap, subst, inl, inr}
 use Rattle.seq_tree.specs.Lists.{change, first_where}
 use Rattle.seq_tree.specs.Variables.{Variables}
 use Rattle.ada_tree.specs.Programs.{Program}
-use Rattle.arrivals_read.specs.declared.arrivals.Arrival.{Arrival}
-use Rattle.trace_text.specs.declared.event.Event.{Event}
-use Rattle.trace_text.specs.declared.event.Event.TheVariants as event
+use Rattle.arrivals_tree.specs.declared.arrivals.Arrival.{Arrival}
+use Rattle.trace_tree.specs.declared.event.Event.{Event}
+use Rattle.trace_tree.specs.declared.event.Event.TheVariants as event
 use Rattle.machine.specs.Systems.{System, system}
 use Rattle.machine.specs.Pieces.{Piece}
 use Rattle.machine.specs.Deeds.{Act, Silent, Print, Enter, Leave, Ask, Keep, Open, Ended, Finish, Deed, done}
@@ -22,7 +22,7 @@ use Rattle.written_runs.proofs.Passings.{HasStores, set-stores}
 use Rattle.written_runs.proofs.Evolving.{AreFitting, Lasts, HasTicksLeft, acted-evolves, release_task-evolves, serve-evolves, evolve_gate, evolve_on, last_bound}
 use Rattle.written_runs.proofs.StepsBack.{IsDue, IsSteady, steady_on, steady_still, steady_away, some_if, use_effects}
 use Rattle.std.proofs.lemmas.Option.{same_Some}
-use Rattle.arrivals_read.specs.Arriving.{Arrivals}
+use Rattle.arrivals_tree.specs.Arriving.{Arrivals}
 use Rattle.activations.proofs.Courses.{Course, IsApt, FitPieces}
 use Rattle.activations.proofs.Programs.{course}
 use Rattle.activations.proofs.AptPrograms.{apt}

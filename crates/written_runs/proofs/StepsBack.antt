@@ -4,9 +4,9 @@ use Rattle.std.proofs.Common.{sym, ◌∙◌, ap, subst, arith, inl, inr}
 use Rattle.seq_tree.specs.Lists.{change, first_where}
 use Rattle.seq_tree.specs.Variables.{Variables}
 use Rattle.ada_tree.specs.Programs.{Program}
-use Rattle.arrivals_read.specs.declared.arrivals.Arrival.{Arrival}
-use Rattle.trace_text.specs.Lines.{unit_name}
-use Rattle.trace_text.specs.declared.event.Event.TheVariants as event
+use Rattle.arrivals_tree.specs.declared.arrivals.Arrival.{Arrival}
+use Rattle.trace_tree.specs.Lines.{unit_name}
+use Rattle.trace_tree.specs.declared.event.Event.TheVariants as event
 use Rattle.machine.specs.Systems.{System, system}
 use Rattle.machine.specs.Pieces.{Piece}
 use Rattle.machine.specs.Deeds.{done}
@@ -27,7 +27,7 @@ use Rattle.written_runs.proofs.Evolving.{AreFitting, Lasts, HasTicksLeft, Became
 use Rattle.written_runs.proofs.DeedsBack.{Backs, Idles, IsActing, acts_back, release_backs, serve_backs, gate_back, idle_change}
 use Rattle.std.proofs.lemmas.Option.{same_Some}
 use Rattle.std.proofs.lemmas.Bool.{true≢false}
-use Rattle.arrivals_read.specs.Arriving.{Arrivals}
+use Rattle.arrivals_tree.specs.Arriving.{Arrivals}
 use Rattle.ada_tree.specs.Rules.{MeetsRules}
 use Rattle.ceiling_locking.proofs.Pieces.{closers}
 use Rattle.ceiling_locking.specs.Sections.{sections}

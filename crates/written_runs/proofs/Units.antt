@@ -4,8 +4,8 @@ use Rattle.std.specs.List.{cons_option, enumerate_from}
 use Rattle.std.proofs.Common.{sym, ◌∙◌, ap}
 use Rattle.seq_tree.specs.Names.{same_name}
 use Rattle.ada_tree.specs.Programs.{Form, Unit, Program, Passive, Shared, Cyclic, Sporadic}
-use Rattle.arrivals_read.specs.Arriving.{Arrivals, durations}
-use Rattle.trace_text.specs.Lines.{unit_name}
+use Rattle.arrivals_tree.specs.Arriving.{Arrivals, durations}
+use Rattle.trace_tree.specs.Lines.{unit_name}
 use Rattle.machine.specs.Systems.{Thread, Guarded, Periodic, Requested, system, thread_by, object_by}
 use Rattle.guarantee.specs.Software.{program_software, task_by, guarded_by}
 use Rattle.guarantee.specs.Order.{is_task_name}

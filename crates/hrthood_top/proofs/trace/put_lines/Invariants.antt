@@ -1,6 +1,6 @@
 use Rattle.std.proofs.Common.{◌≡◌, ◌++◌, drop}
 use Rattle.ada_tree.specs.Trees.{program_of}
-use Rattle.trace_text.specs.Lines.{lines}
+use Rattle.trace_tree.specs.Lines.{lines}
 use Rattle.hrthood_top.proofs.trace.put_lines.Given as goal
 
 -- the lines so far, and then those of the events that are left

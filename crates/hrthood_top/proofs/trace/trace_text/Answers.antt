@@ -1,5 +1,5 @@
 use Rattle.std.proofs.Common.{◌∙◌}
-use Rattle.arrivals_read.specs.Arriving.{arrivals_of}
+use Rattle.arrivals_tree.specs.Arriving.{arrivals_of}
 use Rattle.hrthood_top.proofs.Tracing.{one_turn, all_told}
 use Rattle.hrthood_top.proofs.trace.trace_text.Goals as goal
 

@@ -1,6 +1,6 @@
 use Rattle.std.proofs.Common.{◌≡◌, [], false}
 use Rattle.ada_tree.specs.Trees.{program_of}
-use Rattle.arrivals_read.specs.Arriving.{arrivals_of}
+use Rattle.arrivals_tree.specs.Arriving.{arrivals_of}
 use Rattle.machine.specs.Systems.{system}
 use Rattle.machine.specs.Meanings.{begun}
 use Rattle.ceil_runtime.specs.Shown.{running_of}

@@ -3,7 +3,7 @@ use Rattle.seq_tree.specs.Variables.{kept}
 use Rattle.ceil_runtime.specs.Written.{libraries_of, reserve, thread_of}
 use Rattle.ceil_runtime.specs.Shown.{system_of, state_of, task_of, ran_of}
 use Rattle.ceil_runtime.proofs.Ends.{ends, kept-same}
-use Rattle.trace_text.specs.declared.event.Event.TheVariants as event
+use Rattle.trace_tree.specs.declared.event.Event.TheVariants as event
 use Rattle.machine.specs.Pieces.{Piece}
 use Rattle.machine.specs.States.{State, Asleep}
 use Rattle.machine.specs.Steps.{effect_step}

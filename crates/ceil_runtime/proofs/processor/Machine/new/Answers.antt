@@ -8,7 +8,7 @@ use Rattle.machine.specs.Meanings.{Running}
 use Rattle.ceil_runtime.specs.declared.thread.Thread.{Thread}
 use Rattle.ceil_runtime.specs.Progressed.{vars_left, pieces_left}
 use Rattle.ada_tree.specs.Trees.{unit_of, program_of}
-use Rattle.arrivals_read.specs.Arriving.{arrivals_of}
+use Rattle.arrivals_tree.specs.Arriving.{arrivals_of}
 use Rattle.ceil_runtime.specs.Threads.{HasOneTask, threads_from, libraries_from}
 use Rattle.ceil_runtime.specs.Written.{libraries_of, thread_of}
 use Rattle.ceil_runtime.proofs.Openings.{can-run, whole, one_task, begun_one}

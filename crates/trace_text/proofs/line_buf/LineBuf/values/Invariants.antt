@@ -1,5 +1,5 @@
 use Rattle.std.proofs.Common.{◌≡◌, ◌+◌, ◌*◌, ◌≤◌, ◌++◌, length, take}
-use Rattle.trace_text.specs.Lines.{value_words}
+use Rattle.trace_tree.specs.Lines.{value_words}
 use Rattle.trace_text.specs.Spaced.{spaced}
 use Rattle.trace_text.proofs.line_buf.LineBuf.values.Given as goal
 

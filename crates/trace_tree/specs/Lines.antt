@@ -6,8 +6,8 @@ use Rattle.seq_tree.specs.Names.{Name}
 use Rattle.seq_tree.specs.Operations.{Signature}
 use Rattle.ada_tree.specs.Programs.{Program}
 use Rattle.ada_tree.specs.Bodies.{heads}
-use Rattle.trace_text.specs.declared.event.Event.{Event}
-use Rattle.trace_text.specs.declared.event.Event.TheVariants.{Release, Arrive, Enter, Leave, Request, Print, End, Stop, Horizon}
+use Rattle.trace_tree.specs.declared.event.Event.{Event}
+use Rattle.trace_tree.specs.declared.event.Event.TheVariants.{Release, Arrive, Enter, Leave, Request, Print, End, Stop, Horizon}
 
 -- the name of the unit at a place
 unfoldable pub unit_name : Program → ℕ → Name

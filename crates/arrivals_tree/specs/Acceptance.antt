@@ -5,8 +5,8 @@ use Rattle.std.specs.List.{list_any}
 use Rattle.seq_tree.specs.Operations.{Signature}
 use Rattle.seq_tree.specs.Faults.{or_else, fault_if}
 use Rattle.ada_tree.specs.Programs.{Program, Unit, Form, Passive, Shared, Cyclic, Sporadic, is_task}
-use Rattle.arrivals_read.specs.declared.arrivals.Arrival.{Arrival}
-use Rattle.arrivals_read.specs.Arriving.{Arrivals, Durations}
+use Rattle.arrivals_tree.specs.declared.arrivals.Arrival.{Arrival}
+use Rattle.arrivals_tree.specs.Arriving.{Arrivals, Durations}
 
 -- what may be wrong
 pub data ArrivalFault : Type 0 where

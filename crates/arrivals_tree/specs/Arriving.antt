@@ -1,8 +1,8 @@
 -- What is handed to a run: the horizon, lists of durations, and requests from outside in the order of the file.
 -- Tasks are named here by their places among the program's units.
 use Rattle.std.specs.Prelude.{ℕ, ◌==◌, List, map, filter, flat_map}
-use Rattle.arrivals_read.specs.declared.arrivals.Arrival.{Arrival}
-use Rattle.arrivals_read.specs.declared.arrivals.Arrivals as values
+use Rattle.arrivals_tree.specs.declared.arrivals.Arrival.{Arrival}
+use Rattle.arrivals_tree.specs.declared.arrivals.Arrivals as values
 
 -- how long the next `work` statements of a task take
 pub record Durations : Type 0 where

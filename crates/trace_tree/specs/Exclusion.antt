@@ -1,8 +1,8 @@
 -- Mutual exclusion: no protected object is ever inside two operations.
 -- A protected action of ISO/IEC 8652:2012, 9.5.1, begins with an enter and ends with a leave.
 use Rattle.std.specs.Prelude.{◌≡◌, ℕ, List, [], ◌∷◌, ◌==◌, ⊤, if◌then◌else◌}
-use Rattle.trace_text.specs.declared.event.Event.{Event}
-use Rattle.trace_text.specs.declared.event.Event.TheVariants.{Enter, Leave}
+use Rattle.trace_tree.specs.declared.event.Event.{Event}
+use Rattle.trace_tree.specs.declared.event.Event.TheVariants.{Enter, Leave}
 
 -- a passage of a task into an object or out of it
 pub data Passage : Type 0 where

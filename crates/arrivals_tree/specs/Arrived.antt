@@ -3,9 +3,9 @@
 use Rattle.std.specs.Prelude.{◌≡◌, ℕ, ◌≤◌, List, length, Ok}
 use Rattle.seq_tree.specs.Lexis.{tokens, plain}
 use Rattle.ada_tree.specs.Programs.{Program}
-use Rattle.arrivals_read.specs.Arriving.{Arrivals}
-use Rattle.arrivals_read.specs.ArrivalTexts.{ArrivalText, arrival_tokens, said}
-use Rattle.arrivals_read.specs.Acceptance.{IsAccepted}
+use Rattle.arrivals_tree.specs.Arriving.{Arrivals}
+use Rattle.arrivals_tree.specs.ArrivalTexts.{ArrivalText, arrival_tokens, said}
+use Rattle.arrivals_tree.specs.Acceptance.{IsAccepted}
 
 -- a text gives these arrivals for a program, up to the farthest horizon allowed
 pub record Arrives (limit : ℕ) (text : List ℕ) (p : Program) (a : Arrivals) : Type 0 where

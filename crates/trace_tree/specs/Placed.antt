@@ -2,9 +2,9 @@
 -- Places count from 0.
 use Rattle.std.specs.Prelude.{ℕ, ◌<◌, length}
 use Rattle.ada_tree.specs.Programs.{Program}
-use Rattle.trace_text.specs.Lines.{unit_ops}
-use Rattle.trace_text.specs.declared.event.Event.{Event}
-use Rattle.trace_text.specs.declared.event.Event.TheVariants.{Release, Arrive, Enter, Leave, Request, Print, End, Stop, Horizon}
+use Rattle.trace_tree.specs.Lines.{unit_ops}
+use Rattle.trace_tree.specs.declared.event.Event.{Event}
+use Rattle.trace_tree.specs.declared.event.Event.TheVariants.{Release, Arrive, Enter, Leave, Request, Print, End, Stop, Horizon}
 
 -- whether a place is that of a unit
 abbrev pub IsUnit : Program → ℕ → Type 0

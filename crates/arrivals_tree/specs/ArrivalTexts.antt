@@ -7,7 +7,7 @@ use Rattle.seq_tree.specs.declared.token.Token.TheVariants.{Word, Number, Sign}
 use Rattle.seq_tree.specs.declared.token.Mark.TheVariants.{Comma, Semicolon}
 use Rattle.ada_tree.specs.Programs.{Program}
 use Rattle.seq_tree.specs.Lists.{first_where}
-use Rattle.arrivals_read.specs.Arriving.{Arrivals}
+use Rattle.arrivals_tree.specs.Arriving.{Arrivals}
 
 -- durations for a task
 pub record WorkText : Type 0 where

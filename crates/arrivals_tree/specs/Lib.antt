@@ -1,0 +1,5 @@
+pub mod Arriving
+pub mod ArrivalTexts
+pub mod Acceptance
+pub mod Arrived
+pub mod InUse

@@ -9,9 +9,9 @@ ghost use Rattle.grammar.specs.Reading.{whole_at};
 ghost use Rattle.seq_tree.specs.Lexis.{tokens};
 ghost use Rattle.token_read.specs.Words.{GivesWhole, bare};
 
-use arrivals_tree::Arrivals;
 use crate::fault::ArrivalFault;
 use ada_tree::AdaProgram;
+use arrivals_tree::Arrivals;
 use seq_read::place_of;
 use seq_tree::{Mark, Place, Spanned, TextFault};
 use std::alloc::Global;

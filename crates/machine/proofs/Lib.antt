@@ -1,3 +1,5 @@
 mod Worked
 mod Mine
+mod RunCases
+mod StepCases
 pub mod RunLaws

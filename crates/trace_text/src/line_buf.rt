@@ -2,9 +2,9 @@ ghost use Rattle.std.specs.Prelude.{◌≡◌, ◌+◌, ◌≤◌, [], ◌∷◌
 ghost use Rattle.trace_tree.specs.Lines.{option_words, value_words};
 ghost use Rattle.trace_text.specs.Spaced.{spaced};
 
-use trace_tree::Values;
 use itoa::Buffer;
 use std::marker::Model;
+use trace_tree::Values;
 
 /// Room for the line of one event: up to 512 bytes, none at first. Contracts see it as the list of its bytes.
 #[derive(Drop)]

@@ -7,10 +7,10 @@ ghost use Rattle.trace_tree.specs.Lines.{line, op_name, unit_name, unit_ops, wor
 ghost use Rattle.trace_tree.specs.Placed.{IsPlaced};
 ghost use Rattle.trace_text.specs.Spaced.{spaced};
 
-use trace_tree::Event;
 use crate::line_buf::LineBuf;
 use ada_tree::{AdaProgram, Form, Unit};
 use seq_tree::{Name, OpSig};
+use trace_tree::Event;
 
 // The head of the operation at a place of a unit. That of a sporadic unit is its request operation.
 #[tactic(auto, using(crate::proofs::Names::head_steps))]

@@ -6,7 +6,7 @@ set -eu
 top=$(CDPATH='' cd -- "$(dirname -- "$0")/.." && pwd)
 room=$(mktemp -d)
 trap 'rm -rf "$room"' EXIT
-"$top/hrthood" >/dev/null 2>&1 || [ $? -eq 2 ] # builds the program, whose answer to no words is the usage line
+"$top/tools/prove_program.sh" >/dev/null
 base=$top/examples/one_cyclic_task.ada
 
 block() {

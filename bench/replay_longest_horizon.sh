@@ -13,13 +13,8 @@ sed -e '/^-- /d' -e 's/hrt.after (hrt_next, 10)/hrt.after (hrt_next, 1)/' -e 's/
     "$top/examples/one_cyclic_task.ada" >"$scratch/each_tick.ada"
 printf 'UNTIL %d;\n' "$until" >"$scratch/longest.arrivals"
 
-# Builds the program before the clock starts. Without words it ends with status 2.
-status=0
-"$top/hrthood" >/dev/null 2>"$scratch/usage" || status=$?
-if [ "$status" -ne 2 ]; then
-    cat "$scratch/usage" >&2
-    exit "$status"
-fi
+# Proves and builds the program before the clock starts.
+"$top/tools/prove_program.sh" >/dev/null
 
 begun=$EPOCHREALTIME
 "$top/hrthood" replay "$scratch/each_tick.ada" "$scratch/longest.arrivals" >"$scratch/trace"

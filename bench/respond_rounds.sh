@@ -15,9 +15,9 @@ mkdir -p "$scratch/crates/rounds/src" "$scratch/crates/rounds/proofs/is_table" "
 cp -r "$top/crates/rt_response/src" "$top/crates/rt_response/specs" "$top/crates/rt_response/proofs" "$scratch/crates/rt_response"
 printf 'rt_response:\nrounds: rt_response\n' >"$scratch/crates.txt"
 [ ! -e "$top/HANDLES" ] || cp "$top/HANDLES" "$scratch"
-# The test of a table is that of the library's tests, and so is its invariant.
-sed -e 's/proofs\.tests\.is_table/proofs.is_table/' -e 's/Rattle\.rt_response\.proofs/Rattle.rounds.proofs/' \
-    "$top/crates/rt_response/proofs/tests/is_table/Invariants.antt" >"$scratch/crates/rounds/proofs/is_table/Invariants.antt"
+# The test of a table is that of the tests, and so is its invariant.
+sed -e 's/Rattle\.lower_tests\.proofs\.bounds\.is_table/Rattle.rounds.proofs.is_table/' \
+    "$top/crates/lower_tests/proofs/bounds/is_table/Invariants.antt" >"$scratch/crates/rounds/proofs/is_table/Invariants.antt"
 {
     cat <<'END'
 #![tactic(auto)]
@@ -29,7 +29,7 @@ use rt_response::{Bound, ThreadRow, respond};
 use std::io;
 
 END
-    sed -n '/^\/\/\/ Whether a row is one of a table/,/^#\[test\]/p' "$top/crates/rt_response/src/tests.rt" | sed '$d'
+    sed -n '/^\/\/\/ Whether a row is one of a table/,/^#\[test\]/p' "$top/crates/lower_tests/src/bounds.rt" | sed '$d'
     cat <<END
 fn turns(table: &[ThreadRow], bounds: &mut [Bound]) -> u32
     requires table { IsTable table.now }

@@ -21,13 +21,8 @@ text() {
 text 'for i in word range 1 .. 4294967295 loop level := level + i; end loop;' >"$scratch/assignments.ada"
 text 'for i in word range 1 .. 4294967295 loop filter.smooth (i, level, level); end loop;' >"$scratch/calls.ada"
 
-# Builds the program before the clock starts. Without words it ends with status 2.
-status=0
-"$top/hrthood" >/dev/null 2>"$scratch/usage" || status=$?
-if [ "$status" -ne 2 ]; then
-    cat "$scratch/usage" >&2
-    exit "$status"
-fi
+# Proves and builds the program before the clock starts.
+"$top/tools/prove_program.sh" >/dev/null
 
 for form in assignments calls; do
     begun=$EPOCHREALTIME

@@ -40,9 +40,7 @@ void *realloc(void *old, size_t size) {
 C
 cc -shared -fPIC -O1 -o "$scratch/refuse.so" "$scratch/refuse.c" -ldl
 
-status=0
-"$top/hrthood" >/dev/null 2>&1 || status=$?
-[ "$status" -eq 2 ] || { echo 'the program is not built' >&2; exit 1; }
+"$top/tools/prove_program.sh" >/dev/null
 
 # Runs the program on these words, once for each allocation.
 refuse_each() {

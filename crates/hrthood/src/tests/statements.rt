@@ -113,6 +113,20 @@ pub const STATEMENTS: &[Row] = &[
         ..ONE_TASK
     },
     Row {
+        name: "the block of examples/sequential_task.ada",
+        ada: Ada::Task(Task {
+            vars: " sum : word := 0;",
+            block: "for i in word range 1 .. 4 loop exit when i = 4; \
+                if i mod 2 = 0 then put (sum + i); else sum := (sum + i) * 2; end if; end loop;",
+            ..SLOW_TASK
+        }),
+        arrivals: "UNTIL 150;",
+        out: Out::Bytes(
+            "0 release a\n8 put a 4\n15 end a used 15\n100 release a\n108 put a 24\n115 end a used 15\n150 horizon\n",
+        ),
+        ..ONE_TASK
+    },
+    Row {
         name: "an activation past the next release time",
         ada: Ada::Task(Task {
             vars: "",
@@ -160,6 +174,23 @@ pub const CALLS: &[Row] = &[
         }),
         arrivals: "UNTIL 20;",
         out: Out::Bytes("0 release a\n9 put a 22\n10 put a 2\n11 end a used 11\n20 horizon\n"),
+        ..ONE_TASK
+    },
+    Row {
+        name: "the units of examples/passive_operation.ada",
+        ada: Ada::Task(Task {
+            heads: " package filter is procedure smooth (sample : in word; past : in word; mean : out word); end filter;",
+            bodies: " package body filter is procedure smooth (sample : in word; past : in word; mean : out word) is \
+                begin mean := (past * 3 + sample) / 4; end smooth; end filter;",
+            vars: " level : word := 0;",
+            block: "for i in word range 1 .. 3 loop filter.smooth (i * 100, level, level); put (level); end loop;",
+            ..SLOW_TASK
+        }),
+        arrivals: "UNTIL 150;",
+        out: Out::Bytes(
+            "0 release a\n5 put a 25\n10 put a 68\n15 put a 126\n16 end a used 16\n\
+            100 release a\n105 put a 119\n110 put a 139\n115 put a 179\n116 end a used 16\n150 horizon\n",
+        ),
         ..ONE_TASK
     },
     Row {

@@ -1,0 +1,52 @@
+#!/bin/sh
+# Proves and builds the program, and then runs it on the example of crates/hrthood. Only one run of this works in a clone at a
+# time; a second ends at once, with status 75. ./hrthood starts it in the background. What it says goes to out/proof.log, at the end the verdict.
+# With the word --start it returns at once, and the proof keeps nothing of the caller open.
+set -u
+
+top=$(CDPATH='' cd -- "$(dirname -- "$0")/.." && pwd) || exit 125
+crate=$top/crates/hrthood
+binary=$crate/out/hrthood
+log=$top/out/proof.log
+lock=$top/out/proof.lock
+
+case ${1-} in
+    --start)
+        mkdir -p "$top/out" && : >>"$lock" || exit 125
+        command -v setsid >/dev/null && command -v flock >/dev/null && cd "$top" || exit 125
+        # A session of its own, with none of the caller's streams and files; flock ends at once where another run has the lock.
+        exec python3 -c 'import os, sys; os.closerange(3, 1 << 20); os.execvp(sys.argv[1], sys.argv[1:])' \
+            setsid -f nice -n 10 flock -n "$lock" "$top/tools/prove_program.sh" --locked </dev/null >/dev/null 2>&1
+        ;;
+    --locked) ;;
+    *)
+        mkdir -p "$top/out" && : >>"$lock" || exit 125
+        echo "progress: $log"
+        flock -n -E 75 "$lock" "$top/tools/prove_program.sh" --locked
+        status=$?
+        [ "$status" -ne 75 ] || echo 'another proof runs in this clone' >&2
+        [ "$status" -ne 0 ] || echo 'proved and built'
+        exit "$status"
+        ;;
+esac
+
+begun=$top/out/proof.begun
+: >"$begun" && : >"$log" || exit 125
+cd "$crate" || exit 125
+echo "proving and building the program, from $(date)" >>"$log"
+rt run -- replay data/countdown.ada data/until_60.arrivals </dev/null >"$top/out/proof.example" 2>>"$log"
+status=$?
+# The example ends with status 0 and this text, and rt with another status where it proves or builds nothing.
+if [ "$status" -eq 0 ] && cmp -s "$top/out/proof.example" stdout; then
+    "$binary" </dev/null >/dev/null 2>&1
+    if [ $? -eq 2 ]; then
+        # A binary that was right already keeps its age; a source changed meanwhile counts as newer.
+        touch -r "$begun" "$binary"
+        echo "proved and built, at $(date)" >>"$log"
+        exit 0
+    fi
+fi
+# Status 1 is a refusal, which stands until a source changes. Others are no verdict: the next call tries again.
+echo "neither proved nor built: status $status, at $(date)" >>"$log"
+[ "$status" -ne 1 ] || touch -r "$begun" "$top/out/proof.refused"
+exit 1

@@ -1,159 +1,161 @@
 -- Fetching one file after another.
-use Rattle.std.proofs.Common.{◌≡◌, ℕ, List, [], ◌∷◌, ◌++◌, Option, Some, None, refl, ap, subst, ◌∙◌, append_assoc, ◌≤◌, length, Result, Ok, Err, arith}
-use Rattle.std.specs.Prelude.{IfSome}
+use Rattle.std.proofs.Common.{◌≡◌, ℕ, zero, suc, false, ◌+◌, ◌<◌, ◌≤◌, List, [], ◌∷◌, ◌++◌, length, take, map, get_or, Option, Some, None, refl, sym, ap, subst, ◌∙◌, arith, append_assoc, append-nil, add-one, Vec, Global}
+use Rattle.std.specs.Prelude.{IfSome, Ok, Err}
+use Rattle.seq_tree.specs.Lists.{Each}
 use Rattle.hood_io.specs.Causes.{Rose}
 use Rattle.hood_io.specs.Shelves.{Told, Entry}
-use Rattle.hrthood_top.specs.declared.message.FileKind.{FileKind}
-use Rattle.hrthood_top.specs.declared.message.FileKind.TheVariants.{Design, Ada, Arrivals}
-use Rattle.hrthood_top.specs.Files.{Holds, IsTooLong, fetched, failed, grown}
-use Rattle.hrthood_top.specs.declared.message.Refusal.TheVariants.{TooLong, Syntax, LongText, Rule, Miss, Program}
+use Rattle.hrthood_top.specs.declared.file_kind.FileKind.{FileKind}
 use Rattle.hrthood_top.specs.declared.fetch.Stop.{Stop}
-use Rattle.hrthood_top.specs.declared.fetch.Stop.TheVariants.{Refused, ReadFault, NoMemory}
-use Rattle.hrthood_top.specs.Words.{Generate, Replay}
-use Rattle.hrthood_top.specs.Fetches.{Fetches}
-use Rattle.hrthood_top.specs.Ends.{Writes, Refuses}
-use Rattle.hrthood_top.specs.Prepares.{Prepares, Generated, Replayed}
+use Rattle.hrthood_top.specs.declared.fetch.Stop.TheVariants.{TooLong, ReadFault, NoMemory}
+use Rattle.hrthood_top.specs.declared.fetch.File as code
+use Rattle.hrthood_top.specs.Files.{File, Texts, Holds, HoldsAll, IsTooLong, fetched, failed, grown}
+use Rattle.hrthood_top.specs.Fetches.{file_tree, AreApart, Fetches, FetchesAll}
 
 grown-grown : (told : Option Told) (es fs : List Entry) → grown (grown told es) fs ≡ grown told (es ++ fs)
 grown-grown None es fs = refl
 grown-grown (Some t) es fs = ap (λ l. Some (record t { log = l })) (append_assoc t.log es fs)
 
 -- the log after two steps
-pub grown-after : (told told' told'' : Option Told) (es fs : List Entry) → told' ≡ grown told es → told'' ≡ grown told' fs → told'' ≡ grown told (es ++ fs)
+grown-after : (told told' told'' : Option Told) (es fs : List Entry) → told' ≡ grown told es → told'' ≡ grown told' fs → told'' ≡ grown told (es ++ fs)
 grown-after told told' told'' es fs e f = f ∙ ap (λ z. grown z fs) e ∙ grown-grown told es fs
 
--- the files stay
-pub holds-before : (told told' : Option Told) (es : List Entry) (kind : FileKind) (name text : List ℕ) → told' ≡ grown told es →
-    IfSome told' (λ t. Holds t kind name text) → IfSome told (λ t. Holds t kind name text)
-holds-before None told' es kind name text e h = tt
-holds-before (Some t) told' es kind name text e h = let P : Option Told → Type 0 = λ o. IfSome o (λ u. Holds u kind name text) in subst P e h
+fetched-append : (files more : List File) → fetched (files ++ more) ≡ fetched files ++ fetched more
+fetched-append [] more = refl
+fetched-append (f ∷ files) more = ap (λ z. record { name = f.name; failed = false } ∷ z) (fetched-append files more)
 
-pub too_long-before : (told told' : Option Told) (es : List Entry) (kind : FileKind) (name : List ℕ) → told' ≡ grown told es →
-    IfSome told' (λ t. IsTooLong t kind name) → IfSome told (λ t. IsTooLong t kind name)
-too_long-before None told' es kind name e h = tt
-too_long-before (Some t) told' es kind name e h = let P : Option Told → Type 0 = λ o. IfSome o (λ u. IsTooLong u kind name) in subst P e h
+-- what holds of the files of a shelf held before its log grew
+if_told-before : (told told' : Option Told) (es : List Entry) (P : (List ℕ → Option (List ℕ)) → Type 0) → told' ≡ grown told es → IfSome told' (λ t. P t.files) → IfSome told (λ t. P t.files)
+if_told-before None told' es P e h = tt
+if_told-before (Some t) told' es P e h = let Q : Option Told → Type 0 = λ o. IfSome o (λ u. P u.files) in subst Q e h
 
 -- what holds of a shelf that tells its files
 pub if_some-both : (told : Option Told) (P Q R : Told → Type 0) → IfSome told P → IfSome told Q → ((t : Told) → P t → Q t → R t) → IfSome told R
 if_some-both None P Q R p q f = tt
 if_some-both (Some t) P Q R p q f = f t p q
 
--- a fetch that stops, of one file
-pub one_stops : {X : Type 0} (view : X → List ℕ) (e : Stop) (d : List ℕ) (told told' : Option Told) (faults faults' : ℕ) →
-    Fetches view (Err e) Design d told told' faults faults' → Prepares view (Err e) (Generate d) told told' faults faults'
-one_stops view (Refused (TooLong Design)) d told told' faults faults' h = (h.1, h.2)
-one_stops view (Refused (TooLong Ada)) d told told' faults faults' h = absurd (let e = h.0 in cc)
-one_stops view (Refused (TooLong Arrivals)) d told told' faults faults' h = absurd (let e = h.0 in cc)
-one_stops view (Refused (Syntax kind)) d told told' faults faults' h = absurd h
-one_stops view (Refused (Program refusal)) d told told' faults faults' h = absurd h
-one_stops view (Refused LongText) d told told' faults faults' h = absurd h
-one_stops view (Refused (Rule broken)) d told told' faults faults' h = absurd h
-one_stops view (Refused (Miss thread miss)) d told told' faults faults' h = absurd h
-one_stops view (ReadFault name) d told told' faults faults' h =
-    (record { front = []; back = []; place = rw h.0 refl; log = rw h.0 h.2 }, h.1)
-one_stops view NoMemory d told told' faults faults' h = (0, h)
-
--- what holds of a shelf that tells its files
-if_some-map : (told : Option Told) (P Q : Told → Type 0) → IfSome told P → ((t : Told) → P t → Q t) → IfSome told Q
+pub if_some-map : (told : Option Told) (P Q : Told → Type 0) → IfSome told P → ((t : Told) → P t → Q t) → IfSome told Q
 if_some-map None P Q p f = tt
 if_some-map (Some t) P Q p f = f t p
 
--- what is made of the design in a file that was fetched
-pub one_generated : {X : Type 0} (view : X → List ℕ) (result : Result X Stop) (d bytes : List ℕ) (told told' : Option Told) (faults faults' : ℕ) →
-    IfSome told (λ t. Holds t Design d bytes) → told' ≡ grown told (fetched (d ∷ [])) → Generated view result bytes →
-    Prepares view result (Generate d) told told' faults faults'
-one_generated view (Ok x) d bytes told told' faults faults' f log h =
-    (if_some-map told (λ t. Holds t Design d bytes) (λ t. Writes t (Generate d) (view x)) f (λ t p. (bytes, p, h)), log)
-one_generated view (Err (Refused (Syntax Design))) d bytes told told' faults faults' f log h =
-    (if_some-map told (λ t. Holds t Design d bytes) (λ t. Refuses t (Generate d) (Syntax Design)) f (λ t p. (bytes, p, h)), log)
-one_generated view (Err (Refused (Rule broken))) d bytes told told' faults faults' f log h =
-    (if_some-map told (λ t. Holds t Design d bytes) (λ t. Refuses t (Generate d) (Rule broken)) f (λ t p. (bytes, p, h)), log)
-one_generated view (Err (Refused (Miss thread miss))) d bytes told told' faults faults' f log h =
-    (if_some-map told (λ t. Holds t Design d bytes) (λ t. Refuses t (Generate d) (Miss thread miss)) f (λ t p. (bytes, p, h)), log)
-one_generated view (Err (Refused LongText)) d bytes told told' faults faults' f log h =
-    (if_some-map told (λ t. Holds t Design d bytes) (λ t. Refuses t (Generate d) LongText) f (λ t p. (bytes, p, h)), log)
-one_generated view (Err (Refused (Program refusal))) d bytes told told' faults faults' f log h = absurd h
-one_generated view (Err (Refused (Syntax Ada))) d bytes told told' faults faults' f log h = absurd h
-one_generated view (Err (Refused (Syntax Arrivals))) d bytes told told' faults faults' f log h = absurd h
-one_generated view (Err (Refused (TooLong kind))) d bytes told told' faults faults' f log h = absurd h
-one_generated view (Err (ReadFault name)) d bytes told told' faults faults' f log h = absurd h
-one_generated view (Err NoMemory) d bytes told told' faults faults' f log h = (1, log)
+-- FILES BEFORE ONE OF A LIST
+record IsCut (files : List File) (i : ℕ) (file : File) : Type 0 where
+  pub back : List File
+  pub place : files ≡ take i files ++ file ∷ back
+  pub more : take (suc i) files ≡ take i files ++ file ∷ []
 
--- a fetch that stops first
-pub first_stops : {X : Type 0} (view : X → List ℕ) (e : Stop) (a r : List ℕ) (told told' : Option Told) (faults faults' : ℕ) →
-    Fetches view (Err e) Ada a told told' faults faults' → Prepares view (Err e) (Replay a r) told told' faults faults'
-first_stops view (Refused (TooLong Ada)) a r told told' faults faults' h = (h.1, h.2)
-first_stops view (Refused (TooLong Design)) a r told told' faults faults' h = absurd (let e = h.0 in cc)
-first_stops view (Refused (TooLong Arrivals)) a r told told' faults faults' h = absurd (let e = h.0 in cc)
-first_stops view (Refused (Syntax kind)) a r told told' faults faults' h = absurd h
-first_stops view (Refused (Program refusal)) a r told told' faults faults' h = absurd h
-first_stops view (Refused LongText) a r told told' faults faults' h = absurd h
-first_stops view (Refused (Rule broken)) a r told told' faults faults' h = absurd h
-first_stops view (Refused (Miss thread miss)) a r told told' faults faults' h = absurd h
-first_stops view (ReadFault name) a r told told' faults faults' h =
-    (record { front = []; back = r ∷ []; place = rw h.0 refl; log = rw h.0 h.2 }, h.1)
-first_stops view NoMemory a r told told' faults faults' h = (0, h)
+cut-at : (files : List code.File) (i : ℕ) (d : code.File) → i < length files → IsCut (map file_tree files) i (file_tree (get_or files i d))
+cut-at [] i d h = absurd (omega (arith, h))
+cut-at (f ∷ files) zero d h = record { back = map file_tree files; place = refl; more = refl }
+cut-at (f ∷ files) (suc i) d h =
+    let c = cut-at files i d (let less : i < length files = omega (arith, h) in less) in
+    record { back = c.back; place = ap (λ z. file_tree f ∷ z) c.place; more = ap (λ z. file_tree f ∷ z) c.more }
+
+all-taken : (files : List code.File) (i : ℕ) → length files ≤ i → take i (map file_tree files) ≡ map file_tree files
+all-taken [] zero h = refl
+all-taken [] (suc i) h = refl
+all-taken (f ∷ files) zero h = absurd (omega (arith, h))
+all-taken (f ∷ files) (suc i) h = ap (λ z. file_tree f ∷ z) (all-taken files i (let less : length files ≤ i = omega (arith, h) in less))
+
+-- what holds of each of a list holds of one of it
+each-of : {A : Type 0} (P : A → Type 0) (front : List A) (x : A) (back : List A) → Each P (front ++ x ∷ back) → P x
+each-of P [] x back h = h.0
+each-of P (y ∷ front) x back h = each-of P front x back h.1
+
+apart-before : (front : List File) (file : File) (back : List File) → AreApart (front ++ file ∷ back) → Each (λ other. other.kind ≡ file.kind → ⊥) front
+apart-before [] file back h = tt
+apart-before (f ∷ front) file back h =
+    (λ e. each-of (λ other. other.kind ≡ f.kind → ⊥) front file back h.0 (sym e), apart-before front file back h.1)
+
+-- files stay where the text of another kind is taken
+held-still : (t : Told) (files : List File) (kind : FileKind) (old new : Texts) → Each (λ other. other.kind ≡ kind → ⊥) files → ((other : FileKind) → (other ≡ kind → ⊥) → new other ≡ old other) →
+    HoldsAll t files old → HoldsAll t files new
+held-still t [] kind old new apart others h = tt
+held-still t (f ∷ files) kind old new apart others h =
+    (subst (Holds t f) (sym (others f.kind apart.0)) h.0, held-still t files kind old new apart.1 others h.1)
+
+held-more : (t : Told) (files : List File) (file : File) (texts : Texts) → HoldsAll t files texts → Holds t file (texts file.kind) → HoldsAll t (files ++ file ∷ []) texts
+held-more t [] file texts h one = (one, tt)
+held-more t (f ∷ files) file texts h one = (h.0, held-more t files file texts h.1 one)
+
+-- the files so far
+pub record AreSoFar (files : List File) (i : ℕ) (texts : Texts) (told told' : Option Told) : Type 0 where
+  pub held : IfSome told (λ t. HoldsAll t (take i files) texts)
+  pub log : told' ≡ grown told (fetched (take i files))
+
+grown-nothing : (told : Option Told) → told ≡ grown told []
+grown-nothing None = refl
+grown-nothing (Some t) = ap (λ l. Some (record t { log = l })) (sym (append-nil t.log))
+
+pub none-so-far : (files : List File) (texts : Texts) (told : Option Told) → AreSoFar files 0 texts told told
+none-so-far files texts None = record { held = tt; log = refl }
+none-so-far files texts (Some t) = record { held = tt; log = grown-nothing (Some t) }
+
+log-more : (files : List File) (i : ℕ) (file : File) (told told' told'' : Option Told) → told' ≡ grown told (fetched (take i files)) → told'' ≡ grown told' (fetched (file ∷ [])) →
+    told'' ≡ grown told (fetched (take i files ++ file ∷ []))
+log-more files i file told told' told'' e f =
+    grown-after told told' told'' (fetched (take i files)) (fetched (file ∷ [])) e f ∙ ap (grown told) (sym (fetched-append (take i files) (file ∷ [])))
+
+-- one more file is there
+pub one-more : (files : List code.File) (i : ℕ) (d : code.File) (old new : Texts) (x : Vec ℕ Global) (told told' told'' : Option Told) (faults faults' : ℕ) → i < length files → AreApart (map file_tree files) →
+    AreSoFar (map file_tree files) i old told told' → Fetches (λ (v : Vec ℕ Global). v.items) (Ok x) (file_tree (get_or files i d)) told' told'' faults faults' →
+    new (get_or files i d).kind ≡ x.items → ((other : FileKind) → (other ≡ (get_or files i d).kind → ⊥) → new other ≡ old other) →
+    AreSoFar (map file_tree files) (i + 1) new told told''
+one-more files i d old new x told told' told'' faults faults' h apart s f taken others =
+    let all = map file_tree files in
+    let file = file_tree (get_or files i d) in
+    let c = cut-at files i d h in
+    let before = apart-before (take i all) file c.back (subst AreApart c.place apart) in
+    let one : IfSome told (λ t. Holds t file x.items) = if_told-before told told' (fetched (take i all)) (λ files'. (files' file.name ≡ Some x.items) × (length x.items ≤ _)) s.log f.0 in
+    let held : IfSome told (λ t. HoldsAll t (take i all ++ file ∷ []) new) =
+    if_some-both told (λ t. HoldsAll t (take i all) old) (λ t. Holds t file x.items) (λ t. HoldsAll t (take i all ++ file ∷ []) new) s.held one
+    (λ t p q. held-more t (take i all) file new (held-still t (take i all) file.kind old new before others p) (subst (Holds t file) (sym taken) q)) in
+    let whole : take (i + 1) all ≡ take i all ++ file ∷ [] = ap (λ n. take n all) (add-one i) ∙ c.more in
+    let H : List File → Type 0 = λ fs. IfSome told (λ t. HoldsAll t fs new) in
+    let L : List File → Type 0 = λ fs. told'' ≡ grown told (fetched fs) in
+    record { held = subst H (sym whole) held; log = subst L (sym whole) (log-more all i file told told' told'' s.log f.1) }
 
 rose-later : (a b c : ℕ) → a ≤ b → Rose b c → Rose a c
 rose-later a b c h r = omega arith
 
--- a fetch that stops behind one that was done
-pub second_stops : {X Y : Type 0} (view : X → List ℕ) (view' : Y → List ℕ) (x : X) (e : Stop) (a r : List ℕ) (told told' told'' : Option Told) (faults faults' faults'' : ℕ) →
-    faults ≤ faults' → Fetches view (Ok x) Ada a told told' faults faults' → Fetches view' (Err e) Arrivals r told' told'' faults' faults'' →
-    Prepares view' (Err e) (Replay a r) told told'' faults faults''
-second_stops view view' x (Refused (TooLong Design)) a r told told' told'' faults faults' faults'' later f h = absurd (let e = h.0 in cc)
-second_stops view view' x (Refused (TooLong Ada)) a r told told' told'' faults faults' faults'' later f h = absurd (let e = h.0 in cc)
-second_stops view view' x (Refused (TooLong Arrivals)) a r told told' told'' faults faults' faults'' later f h = (
-  if_some-both told (λ t. Holds t Ada a (view x)) (λ t. IsTooLong t Arrivals r) (λ t. Refuses t (Replay a r) (TooLong Arrivals)) f.1
-      (too_long-before told told' (fetched (a ∷ [])) Arrivals r f.2 h.1) (λ t p q. (view x, p, q)),
-  grown-after told told' told'' (fetched (a ∷ [])) (fetched (r ∷ [])) f.2 h.2,
-)
-second_stops view view' x (Refused (Syntax kind)) a r told told' told'' faults faults' faults'' later f h = absurd h
-second_stops view view' x (Refused (Program refusal)) a r told told' told'' faults faults' faults'' later f h = absurd h
-second_stops view view' x (Refused LongText) a r told told' told'' faults faults' faults'' later f h = absurd h
-second_stops view view' x (Refused (Rule broken)) a r told told' told'' faults faults' faults'' later f h = absurd h
-second_stops view view' x (Refused (Miss thread miss)) a r told told' told'' faults faults' faults'' later f h = absurd h
-second_stops view view' x (ReadFault name) a r told told' told'' faults faults' faults'' later f h = (
-  record {
-    front = a ∷ [];
-    back = [];
-    place = rw h.0 refl;
-    log = rw h.0 (grown-after told told' told'' (fetched (a ∷ [])) (failed r ∷ []) f.2 h.2);
-  },
-  rose-later faults faults' faults'' later h.1,
-)
-second_stops view view' x NoMemory a r told told' told'' faults faults' faults'' later f h = (1, grown-after told told' told'' (fetched (a ∷ [])) [] f.2 h)
+-- a fetch that stops, behind those that were done
+pub stops-here : {X : Type 0} (view : X → Texts) (stop : Stop) (files : List code.File) (i : ℕ) (d : code.File) (texts : Texts) (told told' told'' : Option Told) (faults faults' faults'' : ℕ) → i < length files →
+    AreSoFar (map file_tree files) i texts told told' → faults ≤ faults' → Fetches (λ (v : Vec ℕ Global). v.items) (Err stop) (file_tree (get_or files i d)) told' told'' faults' faults'' →
+    FetchesAll view (Err stop) (map file_tree files) told told'' faults faults''
+stops-here view (TooLong kind) files i d texts told told' told'' faults faults' faults'' h s later f =
+    let all = map file_tree files in
+    let file = file_tree (get_or files i d) in
+    let c = cut-at files i d h in
+    let over : IfSome told (λ t. IsTooLong t file) = if_told-before told told' (fetched (take i all)) (λ files'. (text : List ℕ) × (files' file.name ≡ Some text) × (_ < length text)) s.log f.1 in
+    record {
+      front = take i all;
+      file = file;
+      back = c.back;
+      place = c.place;
+      of = f.0;
+      held = if_some-both told (λ t. HoldsAll t (take i all) texts) (λ t. IsTooLong t file) (λ t. (ts : Texts) × HoldsAll t (take i all) ts × IsTooLong t file) s.held over (λ t p q. (texts, p, q));
+      log = log-more all i file told told' told'' s.log f.2;
+    }
+stops-here view (ReadFault name) files i d texts told told' told'' faults faults' faults'' h s later f =
+    let all = map file_tree files in
+    let file = file_tree (get_or files i d) in
+    let c = cut-at files i d h in (
+      record {
+        front = take i all;
+        file = file;
+        back = c.back;
+        place = c.place;
+        called = f.0;
+        log = grown-after told told' told'' (fetched (take i all)) (failed file.name ∷ []) s.log f.2;
+      },
+      rose-later faults faults' faults'' later f.1,
+    )
+stops-here view NoMemory files i d texts told told' told'' faults faults' faults'' h s later f =
+    (i, f ∙ sym (grown-nothing told') ∙ s.log)
 
--- two files that were fetched
-pub record AreFetched (told told' : Option Told) (a r ada arrivals : List ℕ) : Type 0 where
-  pub first : IfSome told (λ t. Holds t Ada a ada)
-  pub second : IfSome told (λ t. Holds t Arrivals r arrivals)
-  pub log : told' ≡ grown told (fetched (a ∷ r ∷ []))
-
-pub are_fetched : (ada arrivals a r : List ℕ) (told told' told'' : Option Told) →
-    (length ada ≤ 16777216) × IfSome told (λ t. Holds t Ada a ada) × (told' ≡ grown told (fetched (a ∷ []))) →
-    (length arrivals ≤ 1048576) × IfSome told' (λ t. Holds t Arrivals r arrivals) × (told'' ≡ grown told' (fetched (r ∷ []))) →
-    AreFetched told told'' a r ada arrivals
-are_fetched ada arrivals a r told told' told'' f h = record {
-  first = f.1;
-  second = holds-before told told' (fetched (a ∷ [])) Arrivals r arrivals f.2 h.1;
-  log = grown-after told told' told'' (fetched (a ∷ [])) (fetched (r ∷ [])) f.2 h.2;
-}
-
--- what a replay of two fetched files gives
-pub both_replayed : {X : Type 0} (view : X → List ℕ) (result : Result X Stop) (a r ada arrivals : List ℕ) (told told' : Option Told) (faults faults' : ℕ) →
-    AreFetched told told' a r ada arrivals → Replayed view result ada arrivals → Prepares view result (Replay a r) told told' faults faults'
-both_replayed view (Ok x) a r ada arrivals told told' faults faults' f h =
-    (if_some-both told (λ t. Holds t Ada a ada) (λ t. Holds t Arrivals r arrivals) (λ t. Writes t (Replay a r) (view x)) f.first f.second (λ t p q. (ada, arrivals, p, q, h)), f.log)
-both_replayed view (Err (Refused (Program refusal))) a r ada arrivals told told' faults faults' f h =
-    (if_some-both told (λ t. Holds t Ada a ada) (λ t. Holds t Arrivals r arrivals) (λ t. Refuses t (Replay a r) (Program refusal)) f.first f.second (λ t p q. (ada, arrivals, p, q, h)), f.log)
-both_replayed view (Err (Refused (Syntax Ada))) a r ada arrivals told told' faults faults' f h = absurd h
-both_replayed view (Err (Refused (Syntax Arrivals))) a r ada arrivals told told' faults faults' f h =
-    (if_some-both told (λ t. Holds t Ada a ada) (λ t. Holds t Arrivals r arrivals) (λ t. Refuses t (Replay a r) (Syntax Arrivals)) f.first f.second (λ t p q. (ada, arrivals, p, q, h)), f.log)
-both_replayed view (Err (Refused (Syntax Design))) a r ada arrivals told told' faults faults' f h = absurd h
-both_replayed view (Err (Refused (TooLong kind))) a r ada arrivals told told' faults faults' f h = absurd h
-both_replayed view (Err (Refused LongText)) a r ada arrivals told told' faults faults' f h = absurd h
-both_replayed view (Err (Refused (Rule broken))) a r ada arrivals told told' faults faults' f h = absurd h
-both_replayed view (Err (Refused (Miss thread miss))) a r ada arrivals told told' faults faults' f h = absurd h
-both_replayed view (Err (ReadFault name)) a r ada arrivals told told' faults faults' f h = absurd h
-both_replayed view (Err NoMemory) a r ada arrivals told told' faults faults' f h = (2, f.log)
+-- all files are there
+pub all-there : {X : Type 0} (view : X → Texts) (x : X) (files : List code.File) (i : ℕ) (told told' : Option Told) (faults faults' : ℕ) → length files ≤ i → AreSoFar (map file_tree files) i (view x) told told' →
+    FetchesAll view (Ok x) (map file_tree files) told told' faults faults'
+all-there view x files i told told' faults faults' h s =
+    let whole = all-taken files i h in
+    let H : List File → Type 0 = λ fs. IfSome told (λ t. HoldsAll t fs (view x)) in
+    let L : List File → Type 0 = λ fs. told' ≡ grown told (fetched fs) in (subst H whole s.held, subst L whole s.log)

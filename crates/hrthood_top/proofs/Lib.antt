@@ -1,5 +1,11 @@
 pub mod Pieces
 pub mod Fetching
+pub mod Ending
+pub mod OneText
+pub mod OneRule
+pub mod VerbLaws
+pub mod GenerateLaws
+pub mod ReplayLaws
 pub mod Completing
 pub mod Replaying
 pub mod Tracing

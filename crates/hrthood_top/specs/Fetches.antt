@@ -1,25 +1,63 @@
--- What the fetch of one file says of the shelf.
+-- What fetches of files say of the shelf.
 -- Where the shelf tells its files, what is read is the file; each fetch is in its log, but where memory was wanted.
-use Rattle.std.specs.Prelude.{◌≡◌, ℕ, ◌≤◌, List, [], ◌∷◌, length, Option, Result, Ok, Err, IfSome}
+use Rattle.std.specs.Prelude.{◌≡◌, ℕ, List, [], ◌∷◌, ◌++◌, take, Option, Result, Ok, Err, IfSome, ⊤}
+use Rattle.seq_tree.specs.Lists.{Each}
 use Rattle.hood_io.specs.Causes.{Rose}
 use Rattle.hood_io.specs.Shelves.{Told}
-use Rattle.hrthood_top.specs.declared.message.FileKind.{FileKind}
-use Rattle.hrthood_top.specs.declared.message.Refusal.TheVariants.{TooLong, Syntax, LongText, Rule, Miss, Program}
+use Rattle.hrthood_top.specs.declared.file_kind.FileKind.{FileKind}
+use Rattle.hrthood_top.specs.declared.file_kind.FileKind.TheVariants.{Design, Ada, Arrivals}
 use Rattle.hrthood_top.specs.declared.fetch.Stop.{Stop}
-use Rattle.hrthood_top.specs.declared.fetch.Stop.TheVariants.{Refused, ReadFault, NoMemory}
-use Rattle.hrthood_top.specs.Files.{Holds, IsTooLong, fetched, failed, grown, limit_of}
+use Rattle.hrthood_top.specs.declared.fetch.Stop.TheVariants.{TooLong, ReadFault, NoMemory}
+use Rattle.hrthood_top.specs.declared.fetch.File as code
+use Rattle.hrthood_top.specs.declared.texts.Texts as values
+use Rattle.hrthood_top.specs.Files.{File, Texts, Holds, HoldsAll, IsTooLong, fetched, failed, grown}
+
+-- the file that a value of the code stands for
+abbrev pub file_tree : code.File → File
+file_tree file = record { kind = file.kind; name = file.name.now }
+
+-- the bytes that were read, for each kind
+abbrev pub texts_of : values.Texts → Texts
+texts_of texts Design = texts.design.items
+texts_of texts Ada = texts.ada.items
+texts_of texts Arrivals = texts.arrivals.items
+
+-- no two files are of one kind
+abbrev pub AreApart : List File → Type 0
+AreApart [] = ⊤
+AreApart (file ∷ files) = Each (λ other. other.kind ≡ file.kind → ⊥) files × AreApart files
 
 -- the text of a file within its limit, or why there is none, and what the shelf tells afterwards
-abbrev pub Fetches : {X : Type 0} → (X → List ℕ) → Result X Stop → FileKind → List ℕ → Option Told → Option Told → ℕ → ℕ → Type 0
-Fetches view (Ok x) kind name told told' faults faults' =
-    (length (view x) ≤ limit_of kind) × IfSome told (λ t. Holds t kind name (view x)) × (told' ≡ grown told (fetched (name ∷ [])))
-Fetches view (Err (Refused (TooLong over))) kind name told told' faults faults' =
-    (over ≡ kind) × IfSome told (λ t. IsTooLong t kind name) × (told' ≡ grown told (fetched (name ∷ [])))
-Fetches view (Err (Refused (Syntax over))) kind name told told' faults faults' = ⊥
-Fetches view (Err (Refused (Program refusal))) kind name told told' faults faults' = ⊥
-Fetches view (Err (Refused LongText)) kind name told told' faults faults' = ⊥
-Fetches view (Err (Refused (Rule broken))) kind name told told' faults faults' = ⊥
-Fetches view (Err (Refused (Miss thread miss))) kind name told told' faults faults' = ⊥
-Fetches view (Err (ReadFault faulty)) kind name told told' faults faults' =
-    (faulty.now ≡ name) × Rose faults faults' × (told' ≡ grown told (failed name ∷ []))
-Fetches view (Err NoMemory) kind name told told' faults faults' = told' ≡ grown told []
+abbrev pub Fetches : {X : Type 0} → (X → List ℕ) → Result X Stop → File → Option Told → Option Told → ℕ → ℕ → Type 0
+Fetches view (Ok x) file told told' faults faults' = IfSome told (λ t. Holds t file (view x)) × (told' ≡ grown told (fetched (file ∷ [])))
+Fetches view (Err (TooLong kind)) file told told' faults faults' =
+    (kind ≡ file.kind) × IfSome told (λ t. IsTooLong t file) × (told' ≡ grown told (fetched (file ∷ [])))
+Fetches view (Err (ReadFault name)) file told told' faults faults' =
+    (name.now ≡ file.name) × Rose faults faults' × (told' ≡ grown told (failed file.name ∷ []))
+Fetches view (Err NoMemory) file told told' faults faults' = told' ≡ grown told []
+
+-- a file of these could not be had, after those before it were fetched
+pub record IsFaulty (files : List File) (name : List ℕ) (told told' : Option Told) : Type 0 where
+  pub front : List File
+  pub file : File
+  pub back : List File
+  pub place : files ≡ front ++ file ∷ back
+  pub called : name ≡ file.name
+  pub log : told' ≡ grown told (fetched front ++ failed file.name ∷ [])
+
+-- a file of these is too long, and those before it were fetched
+pub record IsOver (files : List File) (kind : FileKind) (told told' : Option Told) : Type 0 where
+  pub front : List File
+  pub file : File
+  pub back : List File
+  pub place : files ≡ front ++ file ∷ back
+  pub of : kind ≡ file.kind
+  pub held : IfSome told (λ t. (texts : Texts) × HoldsAll t front texts × IsTooLong t file)
+  pub log : told' ≡ grown told (fetched (front ++ file ∷ []))
+
+-- the texts of files, or why there are none, and what the shelf tells afterwards
+abbrev pub FetchesAll : {X : Type 0} → (X → Texts) → Result X Stop → List File → Option Told → Option Told → ℕ → ℕ → Type 0
+FetchesAll view (Ok x) files told told' faults faults' = IfSome told (λ t. HoldsAll t files (view x)) × (told' ≡ grown told (fetched files))
+FetchesAll view (Err (TooLong kind)) files told told' faults faults' = IsOver files kind told told'
+FetchesAll view (Err (ReadFault name)) files told told' faults faults' = IsFaulty files name.now told told' × Rose faults faults'
+FetchesAll view (Err NoMemory) files told told' faults faults' = (n : ℕ) × (told' ≡ grown told (fetched (take n files)))

@@ -1,9 +1,15 @@
--- What a shelf holds of a command's files, and how its log grows.
--- A file has a limit by its kind, in bytes.
-use Rattle.std.specs.Prelude.{◌≡◌, ℕ, ◌≤◌, ◌<◌, true, false, List, ◌++◌, length, map, Option, Some, None}
+-- The files of a command: each has a kind, with its limit and its word in messages, and a name on the shelf.
+-- A shelf holds files by their names, and its log tells what was fetched.
+use Rattle.std.specs.Prelude.{◌≡◌, ℕ, ◌≤◌, ◌<◌, true, false, List, ◌++◌, length, map, codes, Option, Some, None}
+use Rattle.seq_tree.specs.Lists.{Each}
 use Rattle.hood_io.specs.Shelves.{Told, Entry}
-use Rattle.hrthood_top.specs.declared.message.FileKind.{FileKind}
-use Rattle.hrthood_top.specs.declared.message.FileKind.TheVariants.{Design, Ada, Arrivals}
+use Rattle.hrthood_top.specs.declared.file_kind.FileKind.{FileKind}
+use Rattle.hrthood_top.specs.declared.file_kind.FileKind.TheVariants.{Design, Ada, Arrivals}
+
+-- a file that a command names
+pub record File : Type 0 where
+  pub kind : FileKind
+  pub name : List ℕ
 
 -- the most bytes that a file of a kind may have
 abbrev pub limit_of : FileKind → ℕ
@@ -11,17 +17,31 @@ limit_of Design = 1048576
 limit_of Ada = 16777216
 limit_of Arrivals = 1048576
 
+-- what a file of a kind is called in a message
+abbrev pub kind_text : FileKind → List ℕ
+kind_text Design = codes "design"
+kind_text Ada = codes "ada"
+kind_text Arrivals = codes "arrivals"
+
+-- bytes, for each kind of files
+abbrev pub Texts : Type 0
+Texts = FileKind → List ℕ
+
 -- a file is there, within its limit
-abbrev pub Holds : Told → FileKind → List ℕ → List ℕ → Type 0
-Holds t kind name text = (t.files name ≡ Some text) × (length text ≤ limit_of kind)
+abbrev pub Holds : Told → File → List ℕ → Type 0
+Holds t file text = (t.files file.name ≡ Some text) × (length text ≤ limit_of file.kind)
 
 -- a file is there, over its limit
-abbrev pub IsTooLong : Told → FileKind → List ℕ → Type 0
-IsTooLong t kind name = (text : List ℕ) × (t.files name ≡ Some text) × (limit_of kind < length text)
+abbrev pub IsTooLong : Told → File → Type 0
+IsTooLong t file = (text : List ℕ) × (t.files file.name ≡ Some text) × (limit_of file.kind < length text)
+
+-- files are there, within their limits, each with the bytes of its kind
+abbrev pub HoldsAll : Told → List File → Texts → Type 0
+HoldsAll t files texts = Each (λ file. Holds t file (texts file.kind)) files
 
 -- files that were fetched, in order
-abbrev pub fetched : List (List ℕ) → List Entry
-fetched names = map (λ name. record { name = name; failed = false }) names
+abbrev pub fetched : List File → List Entry
+fetched files = map (λ file. record { name = file.name; failed = false }) files
 
 -- a fetch that failed
 abbrev pub failed : List ℕ → Entry

@@ -1,4 +1,4 @@
--- The one line that tells why a command was not done.
+-- The one line that tells why a command was not done: the line of each fault of the crates below, and of what all verbs share.
 -- The lines are this project's own.
 use Rattle.std.specs.Prelude.{◌≡◌, ℕ, List, [], ◌++◌, codes, decimal, flat_map, Option, Some, None}
 use Rattle.std.specs.Borrow.{Bor}
@@ -15,24 +15,14 @@ use Rattle.ods_rules.specs.declared.broken.Broken.TheVariants as rule
 use Rattle.rt_response.specs.declared.rows.Limit.{Limit}
 use Rattle.rt_response.specs.declared.rows.Limit.TheVariants.{Deadline, Separation}
 use Rattle.rt_response.specs.declared.rows.Miss as rows
-use Rattle.hrthood_top.specs.declared.message.FileKind.{FileKind}
-use Rattle.hrthood_top.specs.declared.message.FileKind.TheVariants.{Design, Ada, Arrivals}
-use Rattle.hrthood_top.specs.declared.message.Refusal.{Refusal}
-use Rattle.hrthood_top.specs.declared.message.Refusal.TheVariants.{TooLong, Syntax, LongText, Rule, Miss, Program}
-use Rattle.hrthood_top.specs.declared.message.ProgramRefusal.{ProgramRefusal}
-use Rattle.hrthood_top.specs.declared.message.ProgramRefusal.TheVariants.{Text, Unit}
+use Rattle.hrthood_top.specs.declared.file_kind.FileKind.{FileKind}
 use Rattle.hrthood_top.specs.declared.message.Message.{Message}
-use Rattle.hrthood_top.specs.declared.message.Message.TheVariants.{Usage, Refused, ReadFault, WriteFault, NoMemory}
+use Rattle.hrthood_top.specs.declared.message.Message.TheVariants.{Usage, TooLong, ReadFault, WriteFault, NoMemory}
+use Rattle.hrthood_top.specs.Files.{kind_text}
 
 -- pieces of a text, joined
 abbrev pub joined : List (Bor (List ℕ)) → List ℕ
 joined pieces = flat_map (λ p. p.now) pieces
-
--- what a file is called in a refusal
-abbrev pub kind_text : FileKind → List ℕ
-kind_text Design = codes "design"
-kind_text Ada = codes "ada"
-kind_text Arrivals = codes "arrivals"
 
 -- the line of a rule that a design breaks; want of memory is no rule, and is never told so
 abbrev pub rule_line : Broken → List ℕ
@@ -115,28 +105,18 @@ unit_text (Some name) = name
 abbrev pub unit_line : AdaRule → Option Name → List ℕ
 unit_line rule unit = codes "refused " ++ (rule_text rule ++ (gap_text unit ++ (unit_text unit ++ (fault_text rule ++ codes "\n"))))
 
--- the line of an Ada text that is not replayed
-abbrev pub program_line : ProgramRefusal → List ℕ
-program_line (Text fault) = text_line fault
-program_line (Unit rule unit) = unit_line rule unit
-
--- the line of a refusal
-abbrev pub refusal_line : Refusal → List ℕ
-refusal_line (TooLong kind) = codes "refused S3 " ++ (kind_text kind ++ codes "\n")
-refusal_line (Syntax kind) = codes "refused S1 " ++ (kind_text kind ++ codes "\n")
-refusal_line LongText = codes "refused S3 text\n"
-refusal_line (Rule broken) = rule_line broken
-refusal_line (Miss thread miss) = miss_line thread miss
-refusal_line (Program refusal) = program_line refusal
+-- the line of a file that is over its limit
+abbrev pub too_long_line : FileKind → List ℕ
+too_long_line kind = codes "refused S3 " ++ (kind_text kind ++ codes "\n")
 
 -- the line of a fault of reading
 abbrev pub fault_line : List ℕ → List ℕ
 fault_line name = codes "fault reading " ++ (name ++ codes "\n")
 
--- the line of a message
+-- the line of a message that is the same for all verbs
 abbrev pub message_line : Message → List ℕ
 message_line Usage = codes "usage: hrthood check D | analyse D | format D | generate D | replay A R | verify D R | sample N\n"
-message_line (Refused refusal) = refusal_line refusal
+message_line (TooLong kind) = too_long_line kind
 message_line (ReadFault name) = fault_line name.now
 message_line WriteFault = codes "fault writing\n"
 message_line NoMemory = codes "no memory\n"

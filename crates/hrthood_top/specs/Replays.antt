@@ -1,22 +1,32 @@
--- What a replay writes of two texts, and why texts are refused.
+-- The verb `replay`: the trace of an Ada text under arrivals.
 -- No condition is put on where the Ada text came from.
-use Rattle.std.specs.Prelude.{◌≡◌, List, ℕ}
+use Rattle.std.specs.Prelude.{◌≡◌, ℕ, List, [], ◌∷◌, codes, Result, Ok, Err, ⊤}
+use Rattle.seq_tree.specs.declared.text_fault.TextFault.{TextFault}
+use Rattle.seq_tree.specs.declared.text_fault.TextFault.TheVariants as fault
 use Rattle.ada_tree.specs.Programs.{Program}
 use Rattle.ada_tree.specs.Reading.{Accepts}
 use Rattle.ada_tree.specs.InUse.{IsSequentialProgram}
+use Rattle.ada_tree.specs.Trees.{program_of}
+use Rattle.ada_tree.specs.declared.program.AdaProgram.{AdaProgram}
 use Rattle.ada_read.specs.Answers.{Faults, Breaks}
-use Rattle.hrthood_top.specs.declared.message.ProgramRefusal.{ProgramRefusal}
-use Rattle.hrthood_top.specs.declared.message.ProgramRefusal.TheVariants.{Text, Unit}
-use Rattle.arrivals_tree.specs.Arriving.{Arrivals}
+use Rattle.arrivals_tree.specs.Arriving as arrived
 use Rattle.arrivals_tree.specs.Arrived.{Arrives}
-use Rattle.arrivals_read.specs.Answers.{SaysNothing}
+use Rattle.arrivals_read.specs.Answers as arriving
+use Rattle.arrivals_read.specs.Answers.{StopsAt}
 use Rattle.arrivals_tree.specs.InUse.{AreUsableArrivals, horizon_limit}
 use Rattle.trace_tree.specs.declared.event.Event.{Event}
 use Rattle.trace_tree.specs.Lines.{lines}
 use Rattle.machine.specs.Meanings.{Meaning}
+use Rattle.hrthood_top.specs.declared.file_kind.FileKind.TheVariants.{Ada, Arrivals}
+use Rattle.hrthood_top.specs.declared.replay.ReplayRefusal.{ReplayRefusal}
+use Rattle.hrthood_top.specs.declared.replay.ReplayRefusal.TheVariants as refusal
+use Rattle.hrthood_top.specs.declared.halt.Halt.{Halt}
+use Rattle.hrthood_top.specs.declared.halt.Halt.TheVariants as halt
+use Rattle.hrthood_top.specs.Messages.{text_line, unit_line}
+use Rattle.hrthood_top.specs.Verbs.{Verb}
 
 -- a text is the trace of a program under arrivals: the lines of what the program means
-pub record IsTrace (p : Program) (a : Arrivals) (text : List ℕ) : Type 0 where
+pub record IsTrace (p : Program) (a : arrived.Arrivals) (text : List ℕ) : Type 0 where
   pub told : List Event
   pub means : Meaning p a told
   pub whole : text ≡ lines p told
@@ -25,19 +35,19 @@ pub record IsTrace (p : Program) (a : Arrivals) (text : List ℕ) : Type 0 where
 -- alone says of it
 pub record Replays (ada arrivals written : List ℕ) : Type 0 where
   pub program : Program
-  pub under : Arrivals
+  pub under : arrived.Arrivals
   pub accepts : Accepts ada program
   pub sequential : IsSequentialProgram program
   pub alone : (p : Program) → IsSequentialProgram p → Accepts ada p → p ≡ program
   pub arrives : Arrives horizon_limit arrivals program under
   pub horizon_alone : AreUsableArrivals under
-  pub alone_under : (a : Arrivals) → AreUsableArrivals a → Arrives horizon_limit arrivals program a → a ≡ under
+  pub alone_under : (a : arrived.Arrivals) → AreUsableArrivals a → Arrives horizon_limit arrivals program a → a ≡ under
   pub trace : IsTrace program under written
 
 -- an Ada text and an arrivals text that can be replayed: they say a program and arrivals, under which the program means something
 pub record CanReplay (ada arrivals : List ℕ) : Type 0 where
   pub program : Program
-  pub under : Arrivals
+  pub under : arrived.Arrivals
   pub accepts : Accepts ada program
   pub sequential : IsSequentialProgram program
   pub arrives : Arrives horizon_limit arrivals program under
@@ -45,14 +55,47 @@ pub record CanReplay (ada arrivals : List ℕ) : Type 0 where
   pub told : List Event
   pub means : Meaning program under told
 
--- why an Ada text is not replayed: it is no text of a program that is read, or the program breaks a rule
-abbrev pub IsRefused : List ℕ → ProgramRefusal → Type 0
-IsRefused ada (Text fault) = Faults ada fault
-IsRefused ada (Unit rule unit) = Breaks ada rule unit
+-- why bytes are no arrivals of a program, and where no text of any goes on
+abbrev pub IsNoArrivals : List ℕ → Program → TextFault → Type 0
+IsNoArrivals bytes p (fault.Syntax place) = arriving.Refuses bytes p (fault.Syntax place) × StopsAt bytes p place
+IsNoArrivals bytes p found = arriving.Refuses bytes p found
 
--- an Ada text is one of a program that is read, and the arrivals text is none for its program
-pub record IsAdaAlone (ada arrivals : List ℕ) : Type 0 where
+-- an Ada text is one of a program that is read, and of no other, and the arrivals text is none for it
+pub record IsAdaAlone (ada arrivals : List ℕ) (found : TextFault) : Type 0 where
   pub program : Program
   pub accepts : Accepts ada program
   pub sequential : IsSequentialProgram program
-  pub none : (p : Program) → IsSequentialProgram p → Accepts ada p → SaysNothing arrivals p
+  pub alone : (p : Program) → IsSequentialProgram p → Accepts ada p → p ≡ program
+  pub none : IsNoArrivals arrivals program found
+
+-- why two texts are not replayed: the Ada text is no text of a program that is read, or its program breaks a rule, or the arrivals text
+-- is none for its program
+abbrev pub RefusesReplay : List ℕ → List ℕ → ReplayRefusal → Type 0
+RefusesReplay ada arrivals (refusal.Text found) = Faults ada found
+RefusesReplay ada arrivals (refusal.Unit rule unit) = Breaks ada rule unit
+RefusesReplay ada arrivals (refusal.Arrivals found) = IsAdaAlone ada arrivals found
+
+-- the line that tells it; where an arrivals text is none is not told
+abbrev pub replay_line : ReplayRefusal → List ℕ
+replay_line (refusal.Text found) = text_line found
+replay_line (refusal.Unit rule unit) = unit_line rule unit
+replay_line (refusal.Arrivals found) = codes "refused S1 arrivals\n"
+
+-- the program of an Ada text, or why there is none
+abbrev pub RunsAda : Result AdaProgram (Halt ReplayRefusal) → List ℕ → Type 0
+RunsAda (Ok p) ada = Accepts ada (program_of p) × IsSequentialProgram (program_of p)
+RunsAda (Err (halt.Refused (refusal.Text found))) ada = Faults ada found
+RunsAda (Err (halt.Refused (refusal.Unit rule unit))) ada = Breaks ada rule unit
+RunsAda (Err (halt.Refused (refusal.Arrivals found))) ada = ⊥
+RunsAda (Err halt.NoMemory) ada = ⊤
+
+-- the verb
+abbrev pub replays : List ℕ → List ℕ → Verb
+replays ada arrivals = record {
+  files = record { kind = Ada; name = ada } ∷ record { kind = Arrivals; name = arrivals } ∷ [];
+  Makes = λ texts written. Replays (texts Ada) (texts Arrivals) written;
+  Refusal = ReplayRefusal;
+  Refuses = λ texts refused. RefusesReplay (texts Ada) (texts Arrivals) refused;
+  line = replay_line;
+  CanDo = λ texts. CanReplay (texts Ada) (texts Arrivals);
+}

@@ -22,8 +22,3 @@ command_of (verb ∷ []) = None
 command_of (verb ∷ d ∷ []) = if bytes_eq verb (codes "generate") && is_file_name d then Some (Generate d) else None
 command_of (verb ∷ a ∷ r ∷ []) = if bytes_eq verb (codes "replay") && (is_file_name a && is_file_name r) then Some (Replay a r) else None
 command_of (verb ∷ a ∷ r ∷ word ∷ words) = None
-
--- the names of its files, in the order of the words
-abbrev pub file_names : Command → List (List ℕ)
-file_names (Generate design) = design ∷ []
-file_names (Replay ada arrivals) = ada ∷ arrivals ∷ []

@@ -1,15 +1,23 @@
--- What is written of a text, and what is told where there is none.
+-- What is written of what a verb made, and what is told where it made nothing or a file could not be had.
 -- A status that comes from neither is none of these.
-use Rattle.std.specs.Prelude.{◌≡◌, ℕ, ◌<◌, List, length, take, Option}
+use Rattle.std.specs.Prelude.{◌≡◌, ℕ, ◌<◌, List, length, take, Option, Result, Ok, Err, ⊤}
 use Rattle.hood_io.specs.Causes.{Rose}
 use Rattle.hood_io.specs.Sinks.{Appends}
 use Rattle.hrthood_top.specs.declared.status.Status.{Status}
 use Rattle.hrthood_top.specs.declared.status.Status.TheVariants as status
+use Rattle.hrthood_top.specs.declared.halt.Halt.{Halt}
+use Rattle.hrthood_top.specs.declared.halt.Halt.TheVariants as halt
 use Rattle.hrthood_top.specs.declared.fetch.Stop.{Stop}
-use Rattle.hrthood_top.specs.declared.fetch.Stop.TheVariants.{Refused, ReadFault, NoMemory}
+use Rattle.hrthood_top.specs.declared.fetch.Stop.TheVariants.{TooLong, ReadFault, NoMemory}
 use Rattle.hrthood_top.specs.declared.message.Message.TheVariants as message
-use Rattle.hrthood_top.specs.Messages.{message_line, fault_line}
+use Rattle.hrthood_top.specs.Messages.{message_line, too_long_line, fault_line}
 use Rattle.hrthood_top.specs.Tells.{Tells}
+
+-- what a verb made of bytes, or why it made nothing; want of memory says nothing
+abbrev pub IsMade : {X R : Type 0} → (X → List ℕ) → (List ℕ → Type 0) → (R → Type 0) → Result X (Halt R) → Type 0
+IsMade view Makes Refuses (Ok x) = Makes (view x)
+IsMade view Makes Refuses (Err (halt.Refused refusal)) = Refuses refusal
+IsMade view Makes Refuses (Err halt.NoMemory) = ⊤
 
 -- a text is written, or where the faults rose a proper front of it
 abbrev pub WritesText : Status → List ℕ → Option (List ℕ) → Option (List ℕ) → ℕ → ℕ → Option (List ℕ) → Option (List ℕ) → ℕ → ℕ → Type 0
@@ -18,9 +26,17 @@ WritesText status.WriteFault text out out' faults faults' err err' told told' =
     (n : ℕ) × (n < length text) × Appends out out' (take n text) × Rose faults faults' × Tells err err' told told' (message_line message.WriteFault)
 WritesText _ text out out' faults faults' err err' told told' = ⊥
 
--- why nothing is written is told
+-- what was made is written, or why nothing was made is told
+abbrev pub Finishes : {X R : Type 0} → (X → List ℕ) → (R → List ℕ) → Result X (Halt R) → Status
+    → Option (List ℕ) → Option (List ℕ) → ℕ → ℕ → Option (List ℕ) → Option (List ℕ) → ℕ → ℕ → Type 0
+Finishes view line (Ok x) ended out out' faults faults' err err' told told' = WritesText ended (view x) out out' faults faults' err err' told told'
+Finishes view line (Err (halt.Refused refusal)) ended out out' faults faults' err err' told told' =
+    (ended ≡ status.Refused) × (out' ≡ out) × Tells err err' told told' (line refusal)
+Finishes view line (Err halt.NoMemory) ended out out' faults faults' err err' told told' =
+    (ended ≡ status.NoMemory) × (out' ≡ out) × Tells err err' told told' (message_line message.NoMemory)
+
+-- why files could not be had is told
 abbrev pub TellsStop : Status → Stop → Option (List ℕ) → Option (List ℕ) → ℕ → ℕ → Type 0
-TellsStop status.Refused (Refused refusal) err err' told told' = Tells err err' told told' (message_line (message.Refused refusal))
-TellsStop status.ReadFault (ReadFault name) err err' told told' = Tells err err' told told' (fault_line name.now)
-TellsStop status.NoMemory NoMemory err err' told told' = Tells err err' told told' (message_line message.NoMemory)
-TellsStop _ _ err err' told told' = ⊥
+TellsStop ended (TooLong kind) err err' told told' = (ended ≡ status.Refused) × Tells err err' told told' (too_long_line kind)
+TellsStop ended (ReadFault name) err err' told told' = (ended ≡ status.ReadFault) × Tells err err' told told' (fault_line name.now)
+TellsStop ended NoMemory err err' told told' = (ended ≡ status.NoMemory) × Tells err err' told told' (message_line message.NoMemory)

@@ -1,27 +1,96 @@
-ghost use Rattle.std.specs.Prelude.{◌≡◌, ◌≤◌, length};
-ghost use Rattle.hrthood_top.specs.Prepares.{Generated};
+ghost use Rattle.std.specs.Prelude.{◌≡◌, List, ℕ};
+ghost use Rattle.hood_io.specs.Causes.{HasCause};
+ghost use Rattle.hood_io.specs.Sinks.{Puts};
+ghost use Rattle.bridge.specs.Delivers.{IsTextFor};
+ghost use Rattle.hrthood_top.specs.Ends.{EndsVerb, outside};
+ghost use Rattle.hrthood_top.specs.Generates.{generates, generate_line, RefusesDesign};
+ghost use Rattle.hrthood_top.specs.Writing.{IsMade};
 
-use crate::fetch::Stop;
-use crate::message::{FileKind, Refusal};
-use bridge::{Delivery, deliver};
+use crate::design_lines::{put_miss, put_rule};
+use crate::fetch::{File, fetch_files};
+use crate::file_kind::FileKind;
+use crate::finish::{finish, tell_stop};
+use crate::halt::Halt;
+use crate::line::Line;
+use crate::status::Status;
+use bridge::{Delivery, Refusal, deliver};
+use hood_io::{Failed, Shelf, Sink, put_all};
+use ods_rules::Broken;
+use rt_response::Miss;
+use seq_tree::{Name, TextFault};
 use std::alloc::Global;
 
+/// Why no Ada text is made of a design.
+#[derive(Drop, Debug)]
+pub enum GenerateRefusal {
+    /// The bytes are not the text of a design, for this reason and at this place.
+    Text(TextFault),
+    /// The design breaks this rule; never for want of memory.
+    Rule(Broken),
+    /// A thread has a value over its limit, so that no bounds can be given.
+    Miss {
+        /// The thread.
+        thread: Name,
+        /// The value and the limit, in ticks.
+        miss: Miss,
+    },
+    /// The text that is to be made has more bytes than an Ada text may have.
+    Long,
+}
+
+impl Line for GenerateRefusal {
+    ghost line = { generate_line };
+
+    fn put<E: Sink>(&self, err: &mut E) -> Result<(), Failed>
+        ensures cause { HasCause (E.faults err.old) (E.faults err.new) result }
+        ensures puts { Puts (E.written err.old) (E.written err.new) (generate_line self.now) result }
+    {
+        match self {
+            GenerateRefusal::Text(_) => put_all(err, b"refused S1 design\n"),
+            GenerateRefusal::Rule(broken) => put_rule(err, broken),
+            GenerateRefusal::Miss { thread, miss } => put_miss(err, thread, miss),
+            GenerateRefusal::Long => put_all(err, b"refused S3 text\n"),
+        }
+    }
+}
+
 /// What is made of the text of a design.
-pub(crate) fn generate_text<'a>(alloc: Global, design: &[u8]) -> Result<Vec<u8>, Stop<'a>>
-    requires { length design.now ≤ 1048576 }
-    ensures { Generated (λ v. v.items) result design.now }
+fn generate_text(alloc: Global, design: &[u8]) -> Result<Vec<u8>, Halt<GenerateRefusal>>
+    ensures { IsMade (λ v. v.items) (IsTextFor design.now) (RefusesDesign design.now) result }
 {
     match deliver(alloc, design) {
         Ok(delivery) => {
             let Delivery { text, .. } = delivery;
             Ok(text)
         }
-        Err(bridge::Refusal::Text(_)) => Err(Stop::Refused(Refusal::Syntax(FileKind::Design))),
-        Err(bridge::Refusal::Rule(broken)) => Err(Stop::Refused(Refusal::Rule(broken))),
-        Err(bridge::Refusal::Miss { thread, miss }) => {
-            Err(Stop::Refused(Refusal::Miss { thread, miss }))
+        Err(Refusal::Text(fault)) => Err(Halt::Refused(GenerateRefusal::Text(fault))),
+        Err(Refusal::Rule(broken)) => Err(Halt::Refused(GenerateRefusal::Rule(broken))),
+        Err(Refusal::Miss { thread, miss }) => {
+            Err(Halt::Refused(GenerateRefusal::Miss { thread, miss }))
         }
-        Err(bridge::Refusal::Long) => Err(Stop::Refused(Refusal::LongText)),
-        Err(bridge::Refusal::NoMemory) => Err(Stop::NoMemory),
+        Err(Refusal::Long) => Err(Halt::Refused(GenerateRefusal::Long)),
+        Err(Refusal::NoMemory) => Err(Halt::NoMemory),
+    }
+}
+
+/// Does the verb `generate`, from its file to what is written.
+pub(crate) fn generate<F: Shelf, O: Sink, E: Sink>(
+    alloc: Global,
+    design: &str,
+    shelf: &mut F,
+    out: &mut O,
+    err: &mut E,
+) -> Status
+    ensures { EndsVerb result (generates design.now)
+        (outside (F.told shelf.old) (F.faults shelf.old) (O.written out.old) (O.faults out.old) (E.written err.old) (E.faults err.old))
+        (outside (F.told shelf.new) (F.faults shelf.new) (O.written out.new) (O.faults out.new) (E.written err.new) (E.faults err.new)) }
+{
+    let files = [File {
+        kind: FileKind::Design,
+        name: design,
+    }];
+    match fetch_files(alloc, shelf, &files) {
+        Ok(texts) => finish(out, err, generate_text(alloc, &texts.design)),
+        Err(stop) => tell_stop(err, stop),
     }
 }

@@ -2,21 +2,32 @@
 //!
 //! It stands on `bridge` for the Ada text of a design, on the readers of `ada_read` and `arrivals_read` and the processor of
 //! `ceil_runtime` for a replay, and on `hood_io` for files and streams. `run` carries its promise; by `generated_text_replays` the
-//! promise holds over two runs, of which the second never sees the design.
+//! promise holds over two runs, of which the second never sees the design, and by `refused_exactly_where` a command is refused exactly
+//! where a cause stands. A verb is one module of definitions and one of code (`docs/VERBS.md`).
 #![tactic(auto)]
 
+mod ada_lines;
 mod command_words;
+mod design_lines;
 mod fetch;
+mod file_kind;
+mod finish;
 mod generate;
+mod halt;
+mod line;
 mod message;
-mod prepare;
+mod refusals;
 mod replay;
 mod status;
+mod texts;
 mod toolset;
 mod trace;
 mod two_runs;
 
-pub use message::{FileKind, Message, Refusal};
+pub use file_kind::FileKind;
+pub use generate::GenerateRefusal;
+pub use refusals::refused_exactly_where;
+pub use replay::ReplayRefusal;
 pub use status::Status;
 pub use toolset::run;
 pub use two_runs::generated_text_replays;

@@ -1,57 +1,119 @@
-ghost use Rattle.std.specs.Prelude.{◌≡◌, ◌≤◌, length, IfOk};
+ghost use Rattle.std.specs.Prelude.{◌≡◌, List, ℕ, IfOk};
+ghost use Rattle.hood_io.specs.Causes.{HasCause};
+ghost use Rattle.hood_io.specs.Sinks.{Puts};
 ghost use Rattle.ada_tree.specs.Programs.{Program};
 ghost use Rattle.ada_tree.specs.Reading.{Accepts};
 ghost use Rattle.ada_tree.specs.InUse.{IsSequentialProgram};
 ghost use Rattle.ada_tree.specs.Trees.{program_of};
-ghost use Rattle.hrthood_top.specs.Prepares.{Replayed, RunsAda};
+ghost use Rattle.hrthood_top.specs.Ends.{EndsVerb, outside};
+ghost use Rattle.hrthood_top.specs.Replays.{replays, replay_line, Replays, RefusesReplay, RunsAda};
+ghost use Rattle.hrthood_top.specs.Writing.{IsMade};
 
-use crate::fetch::Stop;
-use crate::message::{FileKind, ProgramRefusal, Refusal};
+use crate::ada_lines::{put_fault, put_unit};
+use crate::fetch::{File, fetch_files};
+use crate::file_kind::FileKind;
+use crate::finish::{finish, tell_stop};
+use crate::halt::Halt;
+use crate::line::Line;
+use crate::status::Status;
 use crate::trace::trace_text;
 use ada_read::{AdaFault, read_ada};
+use ada_rules::AdaRule;
 use ada_tree::AdaProgram;
 use arrivals_read::{ArrivalFault, read_arrivals};
-use seq_tree::NoMemory;
+use hood_io::{Failed, Shelf, Sink, put_all};
+use seq_tree::{Name, NoMemory, TextFault};
 use std::alloc::Global;
 
+/// Why an Ada text is not replayed under arrivals.
+#[derive(Drop, Debug)]
+pub enum ReplayRefusal {
+    /// The Ada text is no text of a program that is read, for this reason and at this place.
+    Text(TextFault),
+    /// The program breaks this rule first, at this unit; without a unit package `hrt` or the whole list of units does.
+    Unit {
+        /// The rule.
+        rule: AdaRule,
+        /// The unit.
+        unit: Option<Name>,
+    },
+    /// The arrivals text is none for the program, for this reason and at this place.
+    Arrivals(TextFault),
+}
+
+impl Line for ReplayRefusal {
+    ghost line = { replay_line };
+
+    fn put<E: Sink>(&self, err: &mut E) -> Result<(), Failed>
+        ensures cause { HasCause (E.faults err.old) (E.faults err.new) result }
+        ensures puts { Puts (E.written err.old) (E.written err.new) (replay_line self.now) result }
+    {
+        match self {
+            ReplayRefusal::Text(fault) => put_fault(err, *fault),
+            ReplayRefusal::Unit { rule, unit } => put_unit(err, *rule, unit),
+            ReplayRefusal::Arrivals(_) => put_all(err, b"refused S1 arrivals\n"),
+        }
+    }
+}
+
 /// The program of an Ada text.
-fn run_program<'a>(alloc: Global, ada: &[u8]) -> Result<AdaProgram, Stop<'a>>
-    requires { length ada.now ≤ 16777216 }
+fn run_program(alloc: Global, ada: &[u8]) -> Result<AdaProgram, Halt<ReplayRefusal>>
     ensures says { RunsAda result ada.now }
     ensures only { (p : Program) → IsSequentialProgram p → Accepts ada.now p → IfOk result (λ q. program_of q ≡ p) }
 {
     match read_ada(alloc, ada) {
         Ok(program) => Ok(program),
-        Err(AdaFault::Text(fault)) => {
-            Err(Stop::Refused(Refusal::Program(ProgramRefusal::Text(fault))))
-        }
+        Err(AdaFault::Text(fault)) => Err(Halt::Refused(ReplayRefusal::Text(fault))),
         Err(AdaFault::Rule { rule, unit }) => {
-            Err(Stop::Refused(Refusal::Program(ProgramRefusal::Unit { rule, unit })))
+            Err(Halt::Refused(ReplayRefusal::Unit { rule, unit }))
         }
-        Err(AdaFault::NoMemory) => Err(Stop::NoMemory),
+        Err(AdaFault::NoMemory) => Err(Halt::NoMemory),
     }
 }
 
 /// What a replay of these two texts writes.
-pub(crate) fn replay_text<'a>(
-    alloc: Global,
-    ada: &[u8],
-    arrivals: &[u8],
-) -> Result<Vec<u8>, Stop<'a>>
-    requires ada { length ada.now ≤ 16777216 }
-    requires arrivals { length arrivals.now ≤ 1048576 }
-    ensures { Replayed (λ v. v.items) result ada.now arrivals.now }
+fn replay_text(alloc: Global, ada: &[u8], arrivals: &[u8]) -> Result<Vec<u8>, Halt<ReplayRefusal>>
+    ensures { IsMade (λ v. v.items) (Replays ada.now arrivals.now) (RefusesReplay ada.now arrivals.now) result }
 {
     let program = run_program(alloc, ada)?;
     let under = match read_arrivals(alloc, arrivals, &program) {
         Ok(under) => under,
-        Err(ArrivalFault::Text(_)) => {
-            return Err(Stop::Refused(Refusal::Syntax(FileKind::Arrivals)));
+        Err(ArrivalFault::Text(fault)) => {
+            return Err(Halt::Refused(ReplayRefusal::Arrivals(fault)));
         }
-        Err(ArrivalFault::NoMemory) => return Err(Stop::NoMemory),
+        Err(ArrivalFault::NoMemory) => return Err(Halt::NoMemory),
     };
     match trace_text(alloc, &program, &under) {
         Ok(text) => Ok(text),
-        Err(NoMemory) => Err(Stop::NoMemory),
+        Err(NoMemory) => Err(Halt::NoMemory),
+    }
+}
+
+/// Does the verb `replay`, from its files to what is written.
+pub(crate) fn replay<F: Shelf, O: Sink, E: Sink>(
+    alloc: Global,
+    ada: &str,
+    arrivals: &str,
+    shelf: &mut F,
+    out: &mut O,
+    err: &mut E,
+) -> Status
+    ensures { EndsVerb result (replays ada.now arrivals.now)
+        (outside (F.told shelf.old) (F.faults shelf.old) (O.written out.old) (O.faults out.old) (E.written err.old) (E.faults err.old))
+        (outside (F.told shelf.new) (F.faults shelf.new) (O.written out.new) (O.faults out.new) (E.written err.new) (E.faults err.new)) }
+{
+    let files = [
+        File {
+            kind: FileKind::Ada,
+            name: ada,
+        },
+        File {
+            kind: FileKind::Arrivals,
+            name: arrivals,
+        },
+    ];
+    match fetch_files(alloc, shelf, &files) {
+        Ok(texts) => finish(out, err, replay_text(alloc, &texts.ada, &texts.arrivals)),
+        Err(stop) => tell_stop(err, stop),
     }
 }

@@ -1,50 +1,16 @@
 ghost use Rattle.std.specs.Prelude.{◌≡◌, ◌↔◌, None, Some, map, string_bytes, ℕ, List};
-ghost use Rattle.hrthood_top.specs.Words.{command_of, Command};
+ghost use Rattle.hrthood_top.specs.Words.{command_of};
 ghost use Rattle.hrthood_top.specs.Commands.{command_tree};
 ghost use Rattle.hrthood_top.specs.Ends.{Ends, Completes, outside};
-ghost use Rattle.hrthood_top.specs.Writing.{WritesText, TellsStop};
 
-use crate::command_words::read_words;
-use crate::fetch::Stop;
-use crate::message::{Message, tell};
-use crate::prepare::prepare;
+use crate::command_words::{Command, read_words};
+use crate::generate::generate;
+use crate::line::tell;
+use crate::message::Message;
+use crate::replay::replay;
 use crate::status::Status;
-use hood_io::{Shelf, Sink, put_all};
+use hood_io::{Shelf, Sink};
 use std::alloc::Global;
-
-/// Writes a text, or tells that it could not be written whole.
-fn write_text<O: Sink, E: Sink>(out: &mut O, err: &mut E, text: &[u8]) -> Status
-    ensures { WritesText result text.now (O.written out.old) (O.written out.new) (O.faults out.old) (O.faults out.new)
-        (E.written err.old) (E.written err.new) (E.faults err.old) (E.faults err.new) }
-{
-    match put_all(out, text) {
-        Ok(()) => Status::Done,
-        Err(_) => {
-            tell(err, Message::WriteFault);
-            Status::WriteFault
-        }
-    }
-}
-
-/// Tells why nothing is written.
-fn tell_stop<E: Sink>(err: &mut E, stop: Stop) -> Status
-    ensures { TellsStop result stop.entry (E.written err.old) (E.written err.new) (E.faults err.old) (E.faults err.new) }
-{
-    match stop {
-        Stop::Refused(refusal) => {
-            tell(err, Message::Refused(refusal));
-            Status::Refused
-        }
-        Stop::ReadFault(name) => {
-            tell(err, Message::ReadFault(name));
-            Status::ReadFault
-        }
-        Stop::NoMemory => {
-            tell(err, Message::NoMemory);
-            Status::NoMemory
-        }
-    }
-}
 
 /// Does a command, from its files to what is written.
 fn run_command<F: Shelf, O: Sink, E: Sink>(
@@ -59,12 +25,12 @@ fn run_command<F: Shelf, O: Sink, E: Sink>(
         (outside (F.told shelf.new) (F.faults shelf.new) (O.written out.new) (O.faults out.new) (E.written err.new) (E.faults err.new)) }
 {
     let Some(command) = read_words(words) else {
-        tell(err, Message::Usage);
+        tell(err, &Message::Usage);
         return Status::Usage;
     };
-    match prepare(alloc, shelf, command) {
-        Ok(text) => write_text(out, err, &text),
-        Err(stop) => tell_stop(err, stop),
+    match command {
+        Command::Generate { design } => generate(alloc, design, shelf, out, err),
+        Command::Replay { ada, arrivals } => replay(alloc, ada, arrivals, shelf, out, err),
     }
 }
 

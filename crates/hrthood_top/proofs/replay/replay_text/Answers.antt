@@ -1,16 +1,16 @@
-use Rattle.std.proofs.Common.{subst}
-use Rattle.ada_tree.specs.Programs.{Program}
-use Rattle.arrivals_read.proofs.Refusals.{refused-nothing}
-use Rattle.arrivals_read.specs.Answers.{SaysNothing}
+use Rattle.std.proofs.Common.{Err, ap, sym, ◌∙◌}
+use Rattle.arrivals_read.specs.declared.fault.ArrivalFault.TheVariants.{Text}
+use Rattle.hrthood_top.proofs.ReplayLaws.{no-arrivals}
 use Rattle.hrthood_top.proofs.replay.replay_text.Goals as goal
 
 pub returns-in-Err-Text : goal.returns-in-Err-Text
 returns-in-Err-Text c =
-    let P : Program → Type 0 = λ p. SaysNothing c.args.arrivals.now p in
-    let refused = rw c.in-Err-Text.field-0-is at c.in-Err-Text.ensures.says in
-    record {
+    let is = c.in-Err-Text.field-0-is in
+    let says = rw is at c.in-Err-Text.ensures.says in
+    rw is (record {
       program = _;
       accepts = c.in_ok-program.ensures.says.0;
       sequential = c.in_ok-program.ensures.says.1;
-      none = λ p sequential accepts. subst P (c.in_ok-program.ensures.only p sequential accepts) (refused-nothing _ _ c.in-Err-Text.field-0-0 refused);
-    }
+      alone = λ p sequential accepts. sym (c.in_ok-program.ensures.only p sequential accepts);
+      none = no-arrivals _ _ c.in-Err-Text.fault says (λ place e. c.in-Err-Text.ensures.first place (ap Err is ∙ ap (λ f. Err (Text f)) e));
+    })

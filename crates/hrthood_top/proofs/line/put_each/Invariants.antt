@@ -1,6 +1,6 @@
 use Rattle.std.proofs.Common.{◌≤◌}
 use Rattle.hrthood_top.proofs.Pieces.{IsWritten}
-use Rattle.hrthood_top.proofs.message.put_each.Given as goal
+use Rattle.hrthood_top.proofs.line.put_each.Given as goal
 
 -- a front of the pieces is written
 abbrev pub invariant-pieces : goal.invariant-pieces

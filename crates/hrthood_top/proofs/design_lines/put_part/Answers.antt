@@ -1,4 +1,4 @@
-use Rattle.hrthood_top.proofs.message.put_part.Goals as goal
+use Rattle.hrthood_top.proofs.design_lines.put_part.Goals as goal
 
 pub returns-clause-puts : goal.returns-clause-puts
 returns-clause-puts g c =

@@ -1,0 +1,54 @@
+-- How a command ends, from what was fetched, made and told.
+use Rattle.std.proofs.Common.{◌≡◌, ℕ, List, length, Result, Ok, Err, sym, ap, subst, ◌∙◌}
+use Rattle.std.proofs.Math.Seq.{take-length}
+use Rattle.std.specs.Prelude.{IfSome}
+use Rattle.hrthood_top.specs.declared.status.Status.{Status}
+use Rattle.hrthood_top.specs.declared.status.Status.TheVariants as status
+use Rattle.hrthood_top.specs.declared.halt.Halt.{Halt}
+use Rattle.hrthood_top.specs.declared.halt.Halt.TheVariants as halt
+use Rattle.hrthood_top.specs.declared.fetch.Stop.{Stop}
+use Rattle.hrthood_top.specs.declared.fetch.Stop.TheVariants as stop
+use Rattle.hrthood_top.specs.declared.file_kind.FileKind.{FileKind}
+use Rattle.hrthood_top.specs.Files.{Texts, HoldsAll, IsTooLong, fetched, grown}
+use Rattle.hrthood_top.specs.Messages.{too_long_line, fault_line}
+use Rattle.hrthood_top.specs.Verbs.{Verb}
+use Rattle.hrthood_top.specs.Ends.{Outside, Writes, TooLong, Refusal, Refuses, TellsMessage, EndsVerb}
+use Rattle.hrthood_top.specs.Fetches.{FetchesAll}
+use Rattle.hrthood_top.specs.Writing.{IsMade, Finishes, TellsStop}
+use Rattle.hrthood_top.proofs.Fetching.{if_some-map}
+
+-- files that could not be had
+pub ends-stop : {X : Type 0} (view : X → Texts) (v : Verb) (ended : Status) (why : Stop) (x y : Outside) → FetchesAll view (Err why) v.files x.told y.told x.read_faults y.read_faults →
+    TellsStop ended why x.err y.err x.tell_faults y.tell_faults → y.out ≡ x.out → EndsVerb ended v x y
+ends-stop view v ended (stop.TooLong kind) x y h s out =
+    let E : Status → Type 0 = λ z. EndsVerb z v x y in
+    let T : FileKind → Type 0 = λ z. TellsMessage x y (too_long_line z) in
+    let stands = if_some-map x.told (λ t. (texts : Texts) × HoldsAll t h.front texts × IsTooLong t h.file) (λ t. Refuses t v (TooLong h.front h.file)) h.held (λ t p. (h.back, h.place, p.0, p.1, p.2)) in
+    subst E (sym s.0) (TooLong h.front h.file, stands, h.log, out, subst T h.of s.1)
+ends-stop view v ended (stop.ReadFault name) x y h s out =
+    let E : Status → Type 0 = λ z. EndsVerb z v x y in
+    let T : List ℕ → Type 0 = λ z. TellsMessage x y (fault_line z) in
+    subst E (sym s.0) (h.0.front, h.0.file, h.0.back, h.0.place, h.0.log, h.1, out, subst T h.0.called s.1)
+ends-stop view v ended stop.NoMemory x y h s out =
+    let E : Status → Type 0 = λ z. EndsVerb z v x y in
+    subst E (sym s.0) (h.0, h.1, out, s.1)
+
+-- what was made of files that are there
+pub ends-made : {X : Type 0} (view : X → List ℕ) (v : Verb) (ended : Status) (made : Result X (Halt v.Refusal)) (texts : Texts) (x y : Outside) →
+    IfSome x.told (λ t. HoldsAll t v.files texts) → y.told ≡ grown x.told (fetched v.files) → IsMade view (v.Makes texts) (v.Refuses texts) made →
+    Finishes view v.line made ended x.out y.out x.write_faults y.write_faults x.err y.err x.tell_faults y.tell_faults → EndsVerb ended v x y
+ends-made view v status.Done (Ok z) texts x y held log m f =
+    (view z, f.0, if_some-map x.told (λ t. HoldsAll t v.files texts) (λ t. Writes t v (view z)) held (λ t p. (texts, p, m)), log, f.1)
+ends-made view v status.WriteFault (Ok z) texts x y held log m f =
+    (view z, f.0, f.1, f.2, if_some-map x.told (λ t. HoldsAll t v.files texts) (λ t. Writes t v (view z)) held (λ t p. (texts, p, m)), f.3, log, f.4)
+ends-made view v status.Refused (Ok z) texts x y held log m f = absurd f
+ends-made view v status.Usage (Ok z) texts x y held log m f = absurd f
+ends-made view v status.ReadFault (Ok z) texts x y held log m f = absurd f
+ends-made view v status.NoMemory (Ok z) texts x y held log m f = absurd f
+ends-made view v ended (Err (halt.Refused refusal)) texts x y held log m f =
+    let E : Status → Type 0 = λ z. EndsVerb z v x y in
+    subst E (sym f.0)
+    (Refusal refusal, if_some-map x.told (λ t. HoldsAll t v.files texts) (λ t. Refuses t v (Refusal refusal)) held (λ t p. (texts, p, m)), log, f.1, f.2)
+ends-made view v ended (Err halt.NoMemory) texts x y held log m f =
+    let E : Status → Type 0 = λ z. EndsVerb z v x y in
+    subst E (sym f.0) (length v.files, log ∙ ap (λ z. grown x.told (fetched z)) (sym (take-length v.files)), f.1, f.2)

@@ -1,0 +1,242 @@
+-- That one rule is broken first, of a design and of a program, and one value is the first over its limit.
+use Rattle.std.proofs.Common.{◌≡◌, ℕ, zero, suc, ◌<◌, List, [], ◌∷◌, Option, Some, None, refl, sym, ap, subst, ◌∙◌}
+use Rattle.seq_tree.specs.Faults as faults
+use Rattle.seq_tree.specs.Names.{Name}
+use Rattle.seq_check.specs.declared.fault.BodyFault.{BodyFault}
+use Rattle.seq_check.specs.declared.fault.BodyFault.TheVariants as body
+use Rattle.ods_tree.specs.Designs.{Design}
+use Rattle.ods_tree.specs.Ticks.{in_ticks}
+use Rattle.ods_rules.specs.Broken.{Broken, V01, V02, V09Calls, V09Objects, V09Starts, V11, V14, V15Cost}
+use Rattle.ods_rules.specs.Rules as design
+use Rattle.ods_rules.specs.Told.{told_of}
+use Rattle.ods_rules.specs.declared.broken.Broken as code
+use Rattle.ods_rules.specs.declared.broken.Broken.TheVariants as variant
+use Rattle.bridge.specs.Delivers.{IsBroken}
+use Rattle.ada_tree.specs.Programs.{Program}
+use Rattle.ada_tree.specs.Bodies.{unit_fault}
+use Rattle.ada_tree.specs.Rules as ada
+use Rattle.ada_rules.specs.FaultsTold.{IsToldAs}
+use Rattle.ada_rules.specs.Verdicts.{rule_of, name_at, IsFaultAt}
+use Rattle.ada_rules.specs.declared.verdict.AdaRule.{AdaRule}
+use Rattle.ada_rules.specs.declared.verdict.AdaRule.TheVariants as rule
+use Rattle.rt_response.specs.declared.rows.ThreadRow.{ThreadRow}
+use Rattle.rt_response.specs.declared.rows.Miss.{Miss}
+use Rattle.rt_response.specs.declared.excess.Excess.{Excess}
+use Rattle.rt_response.specs.Rounds.{IsMiss, first_excess, round}
+use Rattle.hrthood_top.proofs.OneText.{no-less}
+
+pub some-same : {A : Type 0} (a b : A) → ◌≡◌ {A = Option A} (Some a) (Some b) → a ≡ b
+some-same a b e = cc
+
+-- two answers of one place
+pub one-at : {A : Type 0} (o : Option A) (a b : A) → o ≡ Some a → o ≡ Some b → a ≡ b
+one-at o a b e f = some-same a b (sym e ∙ f)
+
+-- the item at a place of a list, and this one where it has none
+abbrev item_at : {A : Type 0} → A → List A → ℕ → A
+item_at d [] n = d
+item_at d (x ∷ xs) zero = x
+item_at d (x ∷ xs) (suc n) = item_at d xs n
+
+-- THE RULES OF DESIGNS
+-- a rule by its number
+abbrev design_rule : ℕ → design.Rule
+design_rule n = item_at design.Spacing (design.Version ∷ design.Clash ∷ design.KeptName ∷ design.Include ∷ design.Operation ∷ design.Fitting ∷ design.Stranger ∷ design.Absence ∷ design.Use ∷ design.CallRing ∷ design.ObjectRing ∷ design.StartRing ∷ design.Source ∷ design.Number ∷ design.IdleActive ∷ design.BodyFault ∷ design.Budget ∷ design.Size ∷ design.Spacing ∷ []) n
+
+design_rule-is : (r : design.Rule) → design_rule (design.number_of r) ≡ r
+design_rule-is design.Version = refl
+design_rule-is design.Clash = refl
+design_rule-is design.KeptName = refl
+design_rule-is design.Include = refl
+design_rule-is design.Operation = refl
+design_rule-is design.Fitting = refl
+design_rule-is design.Stranger = refl
+design_rule-is design.Absence = refl
+design_rule-is design.Use = refl
+design_rule-is design.CallRing = refl
+design_rule-is design.ObjectRing = refl
+design_rule-is design.StartRing = refl
+design_rule-is design.Source = refl
+design_rule-is design.Number = refl
+design_rule-is design.IdleActive = refl
+design_rule-is design.BodyFault = refl
+design_rule-is design.Budget = refl
+design_rule-is design.Size = refl
+design_rule-is design.Spacing = refl
+
+one_offender : (written x : Design) (r : design.Rule) (place : ℕ) (a b : Broken) → design.Offends written x r place a → design.Offends written x r place b → a ≡ b
+one_offender written x design.Version place a b h k = one-at _ a b h k
+one_offender written x design.Clash place a b h k = one-at _ a b h k
+one_offender written x design.KeptName place a b h k = one-at _ a b h k
+one_offender written x design.Include place a b h k = one-at _ a b h k
+one_offender written x design.Operation place a b h k = one-at _ a b h k
+one_offender written x design.Fitting place a b h k = one-at _ a b h k
+one_offender written x design.Stranger place a b h k = one-at _ a b h k
+one_offender written x design.Absence place a b h k = one-at _ a b h k
+one_offender written x design.Use place a b h k = one-at _ a b h k
+one_offender written x design.CallRing place a b h k = h.tells ∙ ap V09Calls (one-at _ h.op k.op h.stands k.stands) ∙ sym k.tells
+one_offender written x design.ObjectRing place a b h k = h.tells ∙ ap (λ o. V09Objects o.name) (one-at _ h.object k.object h.stands k.stands) ∙ sym k.tells
+one_offender written x design.StartRing place a b h k = h.tells ∙ ap (λ o. V09Starts o.name) (one-at _ h.thread k.thread h.stands k.stands) ∙ sym k.tells
+one_offender written x design.Source place a b h k = one-at _ a b h k
+one_offender written x design.Number place a b h k = one-at _ a b h k
+one_offender written x design.IdleActive place a b h k = one-at _ a b h k
+one_offender written x design.BodyFault place a b h k = one-at _ a b h k
+one_offender written x design.Budget place a b h k = one-at _ a b h k
+one_offender written x design.Size place a b h k = one-at _ a b h k
+one_offender written x design.Spacing place a b h k = one-at _ a b h k
+
+one_broken : (x : Design) (a b : Broken) → design.IsFirstBroken x a → design.IsFirstBroken x b → a ≡ b
+one_broken x a b f g =
+    let number = no-less (design.number_of f.rule) (design.number_of g.rule) (λ l. g.none_lower f.rule f.place a l f.offends) (λ l. f.none_lower g.rule g.place b l g.offends) in
+    let same : f.rule ≡ g.rule = sym (design_rule-is f.rule) ∙ ap design_rule number ∙ design_rule-is g.rule in
+    let O : design.Rule → Type 0 = λ r. design.Offends x (in_ticks x) r f.place a in
+    let offends = subst O same f.offends in
+    let B : design.Rule → Type 0 = λ r. design.Offends x (in_ticks x) r g.place b in
+    let place = no-less f.place g.place (λ l. g.none_earlier f.place a l offends) (λ l. f.none_earlier g.place b l (subst B (sym same) g.offends)) in
+    let Q : ℕ → Type 0 = λ n. design.Offends x (in_ticks x) g.rule n a in
+    one_offender x (in_ticks x) g.rule g.place a b (subst Q place offends) g.offends
+
+-- the value of the code that tells this
+abbrev code_of : Broken → code.Broken
+code_of (V01 name) = variant.V01 name
+code_of (V02 name) = variant.V02 name
+code_of (V11 object) = variant.V11 object
+code_of (V14 thread cost budget) = variant.V14 thread cost budget
+code_of (V15Cost object part) = variant.V15Cost object part
+code_of _ = variant.NoMemory
+
+from_told : (c : code.Broken) (t : Broken) → told_of c ≡ Some t → c ≡ code_of t
+from_told (variant.V01 name) t e = ap code_of (some-same (V01 name) t e)
+from_told (variant.V02 name) t e = ap code_of (some-same (V02 name) t e)
+from_told (variant.V11 object) t e = ap code_of (some-same (V11 object) t e)
+from_told (variant.V14 thread cost budget) t e = ap code_of (some-same (V14 thread cost budget) t e)
+from_told (variant.V15Cost object part) t e = ap code_of (some-same (V15Cost object part) t e)
+from_told variant.NoMemory t e = absurd cc
+
+is_told : (x : Design) (o : Option Broken) → IsBroken x o → (t : Broken) × (o ≡ Some t) × design.IsFirstBroken x t
+is_told x None h = absurd h
+is_told x (Some t) h = (t, refl, h)
+
+pub one-broken : (x : Design) (a b : code.Broken) → IsBroken x (told_of a) → IsBroken x (told_of b) → a ≡ b
+one-broken x a b h k =
+    let t = is_told x (told_of a) h in
+    let u = is_told x (told_of b) k in
+    from_told a t.0 t.1 ∙ ap code_of (one_broken x t.0 u.0 t.2 u.2) ∙ sym (from_told b u.0 u.1)
+
+-- VALUES OVER THEIR LIMITS
+abbrev excess_of : Miss → Excess
+excess_of m = record { index = m.index; which = m.which; value = m.value; limit = m.limit }
+
+not-sooner : (rows : List ThreadRow) (m n : Miss) → IsMiss rows m → IsMiss rows n → m.round < n.round → ⊥
+not-sooner rows m n h k l = let no : None ≡ Some (excess_of m) = sym (k.earlier m.round l) ∙ h.over in cc
+
+pub one-miss : (rows : List ThreadRow) (m n : Miss) → IsMiss rows m → IsMiss rows n → m ≡ n
+one-miss rows m n h k =
+    let turn = no-less m.round n.round (not-sooner rows m n h k) (not-sooner rows n m k h) in
+    let P : ℕ → Type 0 = λ r. first_excess 0 rows (round rows r) ≡ Some (excess_of m) in
+    let same : excess_of m ≡ excess_of n = one-at _ (excess_of m) (excess_of n) (subst P turn h.over) k.over in
+    let index : m.index ≡ n.index = ap (λ e. e.index) same in
+    let which : m.which ≡ n.which = ap (λ e. e.which) same in
+    let value : m.value ≡ n.value = ap (λ e. e.value) same in
+    let limit : m.limit ≡ n.limit = ap (λ e. e.limit) same in
+    rw (index, which, value, limit, turn) refl
+
+-- THE RULES OF PROGRAMS
+abbrev ada_rule : ℕ → ada.Rule
+ada_rule n = item_at ada.Externals (ada.Naming ∷ ada.Naming ∷ ada.Uses ∷ ada.Rings ∷ ada.Bodies ∷ ada.Ranges ∷ []) n
+
+ada_rule-is : (r : ada.Rule) → ada_rule (ada.number_of r) ≡ r
+ada_rule-is ada.Naming = refl
+ada_rule-is ada.Uses = refl
+ada_rule-is ada.Rings = refl
+ada_rule-is ada.Bodies = refl
+ada_rule-is ada.Ranges = refl
+ada_rule-is ada.Externals = refl
+
+one_site : (s t : ada.Site) → (ada.IsBefore s t → ⊥) → (ada.IsBefore t s → ⊥) → s ≡ t
+one_site ada.Whole ada.Whole p q = refl
+one_site ada.Whole (ada.At n) p q = absurd (p tt)
+one_site (ada.At m) ada.Whole p q = absurd (q tt)
+one_site (ada.At m) (ada.At n) p q = ap ada.At (no-less m n p q)
+
+one_first : (p : Program) (r q : ada.Rule) (s t : ada.Site) → ada.IsFirstBroken p r s → ada.IsFirstBroken p q t → (r ≡ q) × (s ≡ t)
+one_first p r q s t f g =
+    let number = no-less (ada.number_of r) (ada.number_of q) (λ l. g.none_lower r s l f.broken) (λ l. f.none_lower q t l g.broken) in
+    let same : r ≡ q = sym (ada_rule-is r) ∙ ap ada_rule number ∙ ada_rule-is q in
+    let F : ada.Rule → Type 0 = λ z. ada.Breaks p z s in
+    let G : ada.Rule → Type 0 = λ z. ada.Breaks p z t in
+    (same, one_site s t (λ l. g.none_earlier s l (subst F same f.broken)) (λ l. f.none_earlier t l (subst G (sym same) g.broken)))
+
+-- the fault of the code that is told so
+abbrev code_fault : faults.BodyFault → BodyFault
+code_fault faults.Unknown = body.Unknown
+code_fault faults.Missorted = body.Sort
+code_fault faults.Divisor = body.Divisor
+code_fault faults.Exit = body.Exit
+code_fault faults.Assigned = body.Assigned
+code_fault faults.Actual = body.Actual
+code_fault faults.Count = body.Count
+
+fault_told : (f : BodyFault) (o : Option faults.BodyFault) → IsToldAs f o → (t : faults.BodyFault) × (o ≡ Some t) × (f ≡ code_fault t)
+fault_told body.Unknown o e = (faults.Unknown, e, refl)
+fault_told body.Sort o e = (faults.Missorted, e, refl)
+fault_told body.Divisor o e = (faults.Divisor, e, refl)
+fault_told body.Exit o e = (faults.Exit, e, refl)
+fault_told body.Assigned o e = (faults.Assigned, e, refl)
+fault_told body.Actual o e = (faults.Actual, e, refl)
+fault_told body.Count o e = (faults.Count, e, refl)
+fault_told body.NoMemory o e = absurd e
+
+one_fault_at : (p : Program) (f g : BodyFault) (s : ada.Site) → IsFaultAt p (rule.G4 f) s → IsFaultAt p (rule.G4 g) s → f ≡ g
+one_fault_at p f g ada.Whole h k = absurd h
+one_fault_at p f g (ada.At n) h k =
+    let unit = one-at _ h.0 k.0 h.1 k.1 in
+    let a = fault_told f (unit_fault p h.0) h.2 in
+    let b = fault_told g (unit_fault p k.0) k.2 in
+    let same : a.0 ≡ b.0 = one-at (unit_fault p h.0) a.0 b.0 a.1 (ap (unit_fault p) unit ∙ b.1) in
+    a.2 ∙ ap code_fault same ∙ sym b.2
+
+same_fault : (p : Program) (r q : AdaRule) (s : ada.Site) → rule_of r ≡ rule_of q → IsFaultAt p r s → IsFaultAt p q s → r ≡ q
+same_fault p (rule.G4 f) (rule.G4 g) s e h k = ap rule.G4 (one_fault_at p f g s h k)
+same_fault p rule.G1 rule.G1 s e h k = refl
+same_fault p rule.G1 rule.G2 s e h k = absurd cc
+same_fault p rule.G1 rule.G3 s e h k = absurd cc
+same_fault p rule.G1 rule.G5 s e h k = absurd cc
+same_fault p rule.G1 rule.G6 s e h k = absurd cc
+same_fault p rule.G1 (rule.G4 g) s e h k = absurd cc
+same_fault p (rule.G4 f) rule.G1 s e h k = absurd cc
+same_fault p rule.G2 rule.G1 s e h k = absurd cc
+same_fault p rule.G2 rule.G2 s e h k = refl
+same_fault p rule.G2 rule.G3 s e h k = absurd cc
+same_fault p rule.G2 rule.G5 s e h k = absurd cc
+same_fault p rule.G2 rule.G6 s e h k = absurd cc
+same_fault p rule.G2 (rule.G4 g) s e h k = absurd cc
+same_fault p (rule.G4 f) rule.G2 s e h k = absurd cc
+same_fault p rule.G3 rule.G1 s e h k = absurd cc
+same_fault p rule.G3 rule.G2 s e h k = absurd cc
+same_fault p rule.G3 rule.G3 s e h k = refl
+same_fault p rule.G3 rule.G5 s e h k = absurd cc
+same_fault p rule.G3 rule.G6 s e h k = absurd cc
+same_fault p rule.G3 (rule.G4 g) s e h k = absurd cc
+same_fault p (rule.G4 f) rule.G3 s e h k = absurd cc
+same_fault p rule.G5 rule.G1 s e h k = absurd cc
+same_fault p rule.G5 rule.G2 s e h k = absurd cc
+same_fault p rule.G5 rule.G3 s e h k = absurd cc
+same_fault p rule.G5 rule.G5 s e h k = refl
+same_fault p rule.G5 rule.G6 s e h k = absurd cc
+same_fault p rule.G5 (rule.G4 g) s e h k = absurd cc
+same_fault p (rule.G4 f) rule.G5 s e h k = absurd cc
+same_fault p rule.G6 rule.G1 s e h k = absurd cc
+same_fault p rule.G6 rule.G2 s e h k = absurd cc
+same_fault p rule.G6 rule.G3 s e h k = absurd cc
+same_fault p rule.G6 rule.G5 s e h k = absurd cc
+same_fault p rule.G6 rule.G6 s e h k = refl
+same_fault p rule.G6 (rule.G4 g) s e h k = absurd cc
+same_fault p (rule.G4 f) rule.G6 s e h k = absurd cc
+
+pub one-verdict : (p : Program) (r q : AdaRule) (u v : Option Name) (s t : ada.Site) → ada.IsFirstBroken p (rule_of r) s → ada.IsFirstBroken p (rule_of q) t → u ≡ name_at p s → v ≡ name_at p t →
+    IsFaultAt p r s → IsFaultAt p q t → (r ≡ q) × (u ≡ v)
+one-verdict p r q u v s t f g a b h k =
+    let same = one_first p (rule_of r) (rule_of q) s t f g in
+    let F : ada.Site → Type 0 = λ z. IsFaultAt p q z in
+    (same_fault p r q s same.0 h (subst F (sym same.1) k), a ∙ ap (name_at p) same.1 ∙ sym b)

@@ -1,0 +1,96 @@
+-- That the verb `replay` refuses texts for one reason, and none that it can be done of.
+use Rattle.std.proofs.Common.{◌≡◌, ℕ, List, Err, subst, sym, refl}
+use Rattle.seq_tree.specs.declared.text_fault.TextFault.{TextFault}
+use Rattle.seq_tree.specs.declared.text_fault.TextFault.TheVariants as fault
+use Rattle.ada_tree.specs.Programs.{Program}
+use Rattle.ada_read.proofs.ReadingLaws.{reads-unfaulty, accepts-unbroken}
+use Rattle.arrivals_read.specs.Answers as arriving
+use Rattle.arrivals_read.specs.Answers.{Says, SaysNothing, StopsAt}
+use Rattle.arrivals_read.proofs.Refusals.{refused-nothing}
+use Rattle.seq_tree.specs.declared.token.Place.{Place}
+use Rattle.hrthood_top.specs.declared.file_kind.FileKind.TheVariants.{Ada, Arrivals}
+use Rattle.hrthood_top.specs.declared.replay.ReplayRefusal.{ReplayRefusal}
+use Rattle.hrthood_top.specs.declared.replay.ReplayRefusal.TheVariants as refusal
+use Rattle.hrthood_top.specs.Replays.{Replays, CanReplay, IsNoArrivals, RefusesReplay, replays}
+use Rattle.std.proofs.Common.{Option, ap, ◌∙◌}
+use Rattle.seq_tree.specs.Names.{Name}
+use Rattle.ada_read.specs.Answers.{Breaks}
+use Rattle.ada_rules.specs.Verdicts as verdicts
+use Rattle.ada_rules.specs.declared.verdict.AdaRule.{AdaRule}
+use Rattle.ada_rules.specs.declared.verdict.RuleBreak.TheVariants as told
+use Rattle.hrthood_top.specs.Replays.{IsAdaAlone}
+use Rattle.hrthood_top.proofs.OneText.{one-ada-fault, one-arrivals-fault}
+use Rattle.hrthood_top.proofs.OneRule.{one-verdict}
+use Rattle.hrthood_top.proofs.VerbLaws.{IsExact}
+
+-- the fault of an arrivals text, with the place where none goes on
+pub no-arrivals : (bytes : List ℕ) (p : Program) (found : TextFault) → arriving.Refuses bytes p found → ((place : Place) → found ≡ fault.Syntax place → StopsAt bytes p place) → IsNoArrivals bytes p found
+no-arrivals bytes p (fault.Byte place) h first = h
+no-arrivals bytes p (fault.Number place) h first = h
+no-arrivals bytes p (fault.Long place) h first = h
+no-arrivals bytes p (fault.Syntax place) h first = (h, first place refl)
+no-arrivals bytes p (fault.TooDeep place) h first = h
+no-arrivals bytes p fault.FileTooLong h first = h
+no-arrivals bytes p fault.NoMemory h first = h
+
+-- bytes that are no arrivals say none
+says-nothing : (bytes : List ℕ) (p : Program) (found : TextFault) → IsNoArrivals bytes p found → SaysNothing bytes p
+says-nothing bytes p (fault.Byte place) h = refused-nothing bytes p (fault.Byte place) h
+says-nothing bytes p (fault.Number place) h = refused-nothing bytes p (fault.Number place) h
+says-nothing bytes p (fault.Long place) h = refused-nothing bytes p (fault.Long place) h
+says-nothing bytes p (fault.Syntax place) h = refused-nothing bytes p (fault.Syntax place) h.0
+says-nothing bytes p (fault.TooDeep place) h = refused-nothing bytes p (fault.TooDeep place) h
+says-nothing bytes p fault.FileTooLong h = refused-nothing bytes p fault.FileTooLong h
+says-nothing bytes p fault.NoMemory h = refused-nothing bytes p fault.NoMemory h
+
+can_or_refuses : (ada arrivals : List ℕ) → CanReplay ada arrivals → (r : ReplayRefusal) → RefusesReplay ada arrivals r → ⊥
+can_or_refuses ada arrivals w (refusal.Text found) h = reads-unfaulty ada w.program found w.sequential w.accepts.reads h
+can_or_refuses ada arrivals w (refusal.Unit rule unit) h = accepts-unbroken ada w.program rule unit w.sequential w.accepts h
+can_or_refuses ada arrivals w (refusal.Arrivals found) h =
+    let P : Program → Type 0 = λ p. SaysNothing arrivals p in
+    let nothing : SaysNothing arrivals w.program = subst P (sym (h.alone w.program w.sequential w.accepts)) (says-nothing arrivals h.program found h.none) in
+    nothing w.under w.horizon_alone w.arrives
+
+can_make : (ada arrivals written : List ℕ) → Replays ada arrivals written → CanReplay ada arrivals
+can_make ada arrivals written w = record {
+  program = w.program;
+  under = w.under;
+  accepts = w.accepts;
+  sequential = w.sequential;
+  arrives = w.arrives;
+  horizon_alone = w.horizon_alone;
+  told = w.trace.told;
+  means = w.trace.means;
+}
+
+one_unit : (ada : List ℕ) (rule rule' : AdaRule) (unit unit' : Option Name) → Breaks ada rule unit → Breaks ada rule' unit' → ◌≡◌ {A = ReplayRefusal} (refusal.Unit rule unit) (refusal.Unit rule' unit')
+one_unit ada rule rule' unit unit' h k =
+    let program : h.program ≡ k.program = k.alone h.program h.sequential h.reads in
+    let S : Program → Type 0 = λ p. verdicts.Says p (Err (told.Rule rule unit)) in
+    let first = subst S program h.broken in
+    let same = one-verdict k.program rule rule' unit unit' first.0 k.broken.0 first.1 k.broken.1 first.2 k.broken.2 first.3 k.broken.3 in
+    ap (λ z. refusal.Unit z unit) same.0 ∙ ap (λ z. refusal.Unit rule' z) same.1
+
+one_arrivals : (ada arrivals : List ℕ) (f g : TextFault) → IsAdaAlone ada arrivals f → IsAdaAlone ada arrivals g → f ≡ g
+one_arrivals ada arrivals f g h k =
+    let program : h.program ≡ k.program = k.alone h.program h.sequential h.accepts in
+    let N : Program → Type 0 = λ p. IsNoArrivals arrivals p f in
+    one-arrivals-fault arrivals k.program f g (subst N program h.none) k.none
+
+one_refusal : (ada arrivals : List ℕ) (r q : ReplayRefusal) → RefusesReplay ada arrivals r → RefusesReplay ada arrivals q → r ≡ q
+one_refusal ada arrivals (refusal.Text f) (refusal.Text g) h k = ap refusal.Text (one-ada-fault ada f g h k)
+one_refusal ada arrivals (refusal.Text f) (refusal.Unit rule unit) h k = absurd (reads-unfaulty ada k.program f k.sequential k.reads h)
+one_refusal ada arrivals (refusal.Text f) (refusal.Arrivals g) h k = absurd (reads-unfaulty ada k.program f k.sequential k.accepts.reads h)
+one_refusal ada arrivals (refusal.Unit rule unit) (refusal.Text g) h k = absurd (reads-unfaulty ada h.program g h.sequential h.reads k)
+one_refusal ada arrivals (refusal.Unit rule unit) (refusal.Unit rule' unit') h k = one_unit ada rule rule' unit unit' h k
+one_refusal ada arrivals (refusal.Unit rule unit) (refusal.Arrivals g) h k = absurd (accepts-unbroken ada k.program rule unit k.sequential k.accepts h)
+one_refusal ada arrivals (refusal.Arrivals f) (refusal.Text g) h k = absurd (reads-unfaulty ada h.program g h.sequential h.accepts.reads k)
+one_refusal ada arrivals (refusal.Arrivals f) (refusal.Unit rule unit) h k = absurd (accepts-unbroken ada h.program rule unit h.sequential h.accepts k)
+one_refusal ada arrivals (refusal.Arrivals f) (refusal.Arrivals g) h k = ap refusal.Arrivals (one_arrivals ada arrivals f g h k)
+
+pub replays-exact : (ada arrivals : List ℕ) → IsExact (replays ada arrivals)
+replays-exact ada arrivals = record {
+  one = λ a b same r q h k. one_refusal (b Ada) (b Arrivals) r q (rw (← same.0, ← same.1.0) h) k;
+  able = λ a b same w r h. can_or_refuses (b Ada) (b Arrivals) (rw (← same.0, ← same.1.0) w) r h;
+  made = λ a written w. can_make (a Ada) (a Arrivals) written w;
+}

@@ -1,0 +1,83 @@
+-- What is to be shown of each verb, and what follows for its commands: a cause of refusal excludes others, and that the command can be done.
+use Rattle.std.proofs.Common.{◌≡◌, ℕ, List, [], ◌∷◌, ◌++◌, length, Some, refl, sym, ap, subst, ◌∙◌, arith}
+use Rattle.seq_tree.specs.Lists.{Each}
+use Rattle.hood_io.specs.Shelves.{Told}
+use Rattle.hrthood_top.specs.Files.{File, Texts, Holds, HoldsAll, IsTooLong}
+use Rattle.hrthood_top.specs.Verbs.{Verb}
+use Rattle.hrthood_top.specs.Ends.{Writes, Cause, TooLong, Refusal, Refuses, CanDo}
+
+-- texts that are the same for these files
+abbrev pub Agree : List File → Texts → Texts → Type 0
+Agree files a b = Each (λ file. a file.kind ≡ b file.kind) files
+
+-- what is to be shown of a verb
+pub record IsExact (v : Verb) : Type 0 where
+  -- what it can be done of is not refused
+  pub able : (a b : Texts) → Agree v.files a b → v.CanDo a → (r : v.Refusal) → v.Refuses b r → ⊥
+  -- it refuses texts for one reason
+  pub one : (a b : Texts) → Agree v.files a b → (r q : v.Refusal) → v.Refuses a r → v.Refuses b q → r ≡ q
+  -- what it makes something of, it can be done of
+  pub made : (a : Texts) (text : List ℕ) → v.Makes a text → v.CanDo a
+
+-- a shelf has one file of a name
+pub one_file : (t : Told) (name a b : List ℕ) → t.files name ≡ Some a → t.files name ≡ Some b → a ≡ b
+one_file t name a b e f = let h : Some a ≡ Some b = sym e ∙ f in cc
+
+held-agree : (t : Told) (files : List File) (a b : Texts) → HoldsAll t files a → HoldsAll t files b → Agree files a b
+held-agree t [] a b h k = tt
+held-agree t (f ∷ files) a b h k = (one_file t f.name (a f.kind) (b f.kind) h.0.0 k.0.0, held-agree t files a b h.1 k.1)
+
+not-too-long : (t : Told) (file : File) (text : List ℕ) → Holds t file text → IsTooLong t file → ⊥
+not-too-long t file text h k =
+    let same : k.0 ≡ text = one_file t file.name k.0 text k.1 h.0 in
+    let long = k.2 in let short = h.1 in omega (arith, ap length same, long, short)
+
+none-too-long : (t : Told) (front : List File) (file : File) (back : List File) (texts : Texts) → HoldsAll t (front ++ file ∷ back) texts → IsTooLong t file → ⊥
+none-too-long t [] file back texts h k = not-too-long t file (texts file.kind) h.0 k
+none-too-long t (f ∷ front) file back texts h k = none-too-long t front file back texts h.1 k
+
+-- files that are held, of a list that has one too long
+not-over : (t : Told) (v : Verb) (front : List File) (file : File) (texts : Texts) → Refuses t v (TooLong front file) → HoldsAll t v.files texts → ⊥
+not-over t v front file texts h k =
+    let H : List File → Type 0 = λ fs. HoldsAll t fs texts in none-too-long t front file h.0 texts (subst H h.1 k) h.4
+
+-- a command that can be done has no cause
+pub not-refused : (t : Told) (v : Verb) (cause : Cause v) → IsExact v → CanDo t v → Refuses t v cause → ⊥
+not-refused t v (TooLong front file) exact w h = not-over t v front file w.0 h w.1
+not-refused t v (Refusal refusal) exact w h = exact.able w.0 h.0 (held-agree t v.files w.0 h.0 w.1 h.1) w.2 refusal h.2
+
+-- nor has one that writes something
+pub not-written : (t : Told) (v : Verb) (cause : Cause v) (text : List ℕ) → IsExact v → Refuses t v cause → Writes t v text → ⊥
+not-written t v cause text exact h w = not-refused t v cause exact (w.0, w.1, exact.made w.0 text w.2) h
+
+-- one file of a list is the first that is too long
+record IsSame (front front' : List File) (file file' : File) : Type 0 where
+  pub fronts : front ≡ front'
+  pub files : file ≡ file'
+
+cons_first : {A : Type 0} (x y : A) (xs ys : List A) → x ∷ xs ≡ y ∷ ys → x ≡ y
+cons_first x y xs ys e = cc
+
+cons_rest : {A : Type 0} (x y : A) (xs ys : List A) → x ∷ xs ≡ y ∷ ys → xs ≡ ys
+cons_rest x y xs ys e = cc
+
+one-too-long : (t : Told) (front front' back back' : List File) (file file' : File) (a b : Texts) → front ++ file ∷ back ≡ front' ++ file' ∷ back' → HoldsAll t front a → HoldsAll t front' b →
+    IsTooLong t file → IsTooLong t file' → IsSame front front' file file'
+one-too-long t [] [] back back' file file' a b e h k x y = record { fronts = refl; files = cons_first file file' back back' e }
+one-too-long t [] (f ∷ front') back back' file file' a b e h k x y =
+    absurd (not-too-long t f (b f.kind) k.0 (subst (IsTooLong t) (cons_first file f back (front' ++ file' ∷ back') e) x))
+one-too-long t (f ∷ front) [] back back' file file' a b e h k x y =
+    absurd (not-too-long t f (a f.kind) h.0 (subst (IsTooLong t) (sym (cons_first f file' (front ++ file ∷ back) back' e)) y))
+one-too-long t (f ∷ front) (g ∷ front') back back' file file' a b e h k x y =
+    let rest = one-too-long t front front' back back' file file' a b (cons_rest f g (front ++ file ∷ back) (front' ++ file' ∷ back') e) h.1 k.1 x y in
+    let first : f ≡ g = cons_first f g (front ++ file ∷ back) (front' ++ file' ∷ back') e in
+    record { fronts = ap (λ z. z ∷ front) first ∙ ap (λ z. g ∷ z) rest.fronts; files = rest.files }
+
+-- a command has one cause
+pub one-cause : (t : Told) (v : Verb) (p q : Cause v) → IsExact v → Refuses t v p → Refuses t v q → p ≡ q
+one-cause t v (TooLong front file) (TooLong front' file') exact h k =
+    let same = one-too-long t front front' h.0 k.0 file file' h.2 k.2 (sym h.1 ∙ k.1) h.3 k.3 h.4 k.4 in
+    ap (λ z. TooLong z file) same.fronts ∙ ap (λ z. TooLong front' z) same.files
+one-cause t v (TooLong front file) (Refusal refusal) exact h k = absurd (not-over t v front file k.0 h k.1)
+one-cause t v (Refusal refusal) (TooLong front file) exact h k = absurd (not-over t v front file h.0 k h.1)
+one-cause t v (Refusal refusal) (Refusal other) exact h k = ap (λ z. Refusal z) (exact.one h.0 k.0 (held-agree t v.files h.0 k.0 h.1 k.1) refusal other h.2 k.2)

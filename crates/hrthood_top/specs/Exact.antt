@@ -1,0 +1,14 @@
+-- That a refusal comes exactly where its cause stands: of one command over one shelf there is one, and none where something is written.
+-- The causes are those of the ends.
+use Rattle.std.specs.Prelude.{◌≡◌, ℕ, List}
+use Rattle.hood_io.specs.Shelves.{Told}
+use Rattle.hrthood_top.specs.Verbs.{Verb}
+use Rattle.hrthood_top.specs.Ends.{Writes, Cause, Refuses}
+
+-- two causes are one
+abbrev pub HasOneCause : Told → Verb → Type 0
+HasOneCause t v = (p q : Cause v) → Refuses t v p → Refuses t v q → p ≡ q
+
+-- no cause stands where a text is written
+abbrev pub WritesOrRefuses : Told → Verb → Type 0
+WritesOrRefuses t v = (cause : Cause v) (text : List ℕ) → Refuses t v cause → Writes t v text → ⊥

@@ -1,0 +1,12 @@
+ghost use Rattle.hood_io.specs.Shelves.{Told};
+ghost use Rattle.hrthood_top.specs.Words.{Command};
+ghost use Rattle.hrthood_top.specs.Commands.{verb_of};
+ghost use Rattle.hrthood_top.specs.Exact.{HasOneCause, WritesOrRefuses};
+
+/// A command is refused exactly where a cause stands, over the same files of a shelf.
+pub fn refused_exactly_where()
+    // Two causes are one.
+    ensures one { (t : Told) (c : Command) → HasOneCause t (verb_of c) }
+    // None stands where something is written.
+    ensures none { (t : Told) (c : Command) → WritesOrRefuses t (verb_of c) }
+{}

@@ -53,7 +53,7 @@ fn add_closing(name: &Name, into: &mut Vec<u8>) -> Result<(), NoMemory>
 }
 
 /// Adds the lines of a program.
-fn add_program(program: &AdaProgram, into: &mut Vec<u8>) -> Result<(), NoMemory>
+fn add_program(alloc: Global, program: &AdaProgram, into: &mut Vec<u8>) -> Result<(), NoMemory>
     requires { ArePrintable (map unit_of program.now.units.items) }
     ensures { Adds result into.old.items into.new.items (layout (program_lines (program_of program.now))) }
 {
@@ -62,7 +62,7 @@ fn add_program(program: &AdaProgram, into: &mut Vec<u8>) -> Result<(), NoMemory>
     add_package(&program.name, into)?;
     add_specifications(program, into)?;
     add_package_body(&program.name, into)?;
-    add_bodies(program, into)?;
+    add_bodies(alloc, program, into)?;
     add_closing(&program.name, into)
 }
 
@@ -73,6 +73,6 @@ pub fn print_ada(alloc: Global, program: &AdaProgram, into: &mut Vec<u8>) -> Res
     ensures { Prints result into.old.items into.new.items (layout (program_lines (program_of program.now))) }
 {
     let mut text = Vec::new(alloc);
-    add_program(program, &mut text)?;
+    add_program(alloc, program, &mut text)?;
     put(into, &text)
 }

@@ -1,7 +1,7 @@
 ghost use Rattle.std.specs.Prelude.{◌≡◌, [], map, flat_map};
 ghost use Rattle.seq_tree.specs.Layout.{layout};
 ghost use Rattle.seq_tree.specs.Trees.{block_of};
-ghost use Rattle.ada_tree.specs.InUse.{IsUsableBlock, IsUsableForm};
+ghost use Rattle.ada_tree.specs.InUse.{IsUsableForm};
 ghost use Rattle.ada_tree.specs.Programs.{Cyclic};
 ghost use Rattle.ada_tree.specs.Spelling.{inner_body, inner_specification, specification_lines, task_lines, unit_body_lines};
 ghost use Rattle.ada_tree.specs.Trees.{form_of, unit_of};
@@ -9,8 +9,9 @@ ghost use Rattle.seq_print.specs.Printing.{Adds};
 ghost use Rattle.ada_print.specs.Parts.{ArePrintable};
 
 use ada_tree::{AdaProgram, Form, Unit};
-use seq_print::{add_block, put, put_name, put_number};
+use seq_print::{print_block, put, put_name, put_number};
 use seq_tree::{Block, NoMemory};
+use std::alloc::Global;
 
 /// What the declaration of a task has before its priority.
 const TASK: &[u8] = b"      task hrt_thread is\n         pragma priority (";
@@ -71,8 +72,13 @@ pub(crate) fn add_specifications(program: &AdaProgram, into: &mut Vec<u8>) -> Re
 }
 
 /// Adds the body of a task with its loop.
-fn add_loop(offset: u32, period: u32, block: &Block, into: &mut Vec<u8>) -> Result<(), NoMemory>
-    requires { IsUsableBlock (block_of block.now) }
+fn add_loop(
+    alloc: Global,
+    offset: u32,
+    period: u32,
+    block: &Block,
+    into: &mut Vec<u8>,
+) -> Result<(), NoMemory>
     ensures { Adds result into.old.items into.new.items (layout (inner_body (Cyclic 0 offset period [] (block_of block.now)))) }
 {
     put_number(into, FIRST, offset, NEXT)?;
@@ -82,12 +88,12 @@ fn add_loop(offset: u32, period: u32, block: &Block, into: &mut Vec<u8>) -> Resu
         period,
         b");\n",
     )?;
-    add_block(block, 4, into)?;
+    print_block(alloc, block, 4, into)?;
     put(into, LAST)
 }
 
 /// Adds what stands in the body of a unit.
-fn add_inner_body(form: &Form, into: &mut Vec<u8>) -> Result<(), NoMemory>
+fn add_inner_body(alloc: Global, form: &Form, into: &mut Vec<u8>) -> Result<(), NoMemory>
     requires { IsUsableForm (form_of form.now) }
     ensures { Adds result into.old.items into.new.items (layout (inner_body (form_of form.now))) }
 {
@@ -97,7 +103,7 @@ fn add_inner_body(form: &Form, into: &mut Vec<u8>) -> Result<(), NoMemory>
             period,
             block,
             ..
-        } => add_loop(*offset, *period, block, into),
+        } => add_loop(alloc, *offset, *period, block, into),
         Form::Passive { .. } => unreachable!(),
         Form::Shared { .. } => unreachable!(),
         Form::Sporadic { .. } => unreachable!(),
@@ -105,22 +111,26 @@ fn add_inner_body(form: &Form, into: &mut Vec<u8>) -> Result<(), NoMemory>
 }
 
 /// Adds the body of a unit.
-fn add_body(unit: &Unit, into: &mut Vec<u8>) -> Result<(), NoMemory>
+fn add_body(alloc: Global, unit: &Unit, into: &mut Vec<u8>) -> Result<(), NoMemory>
     requires { IsUsableForm (form_of unit.now.form) }
     ensures { Adds result into.old.items into.new.items (layout (unit_body_lines (unit_of unit.now))) }
 {
     put_name(into, b"   package body ", &unit.name, b" is\n")?;
-    add_inner_body(&unit.form, into)?;
+    add_inner_body(alloc, &unit.form, into)?;
     put_name(into, b"   end ", &unit.name, b";\n")
 }
 
 /// Adds the bodies of the units.
-pub(crate) fn add_bodies(program: &AdaProgram, into: &mut Vec<u8>) -> Result<(), NoMemory>
+pub(crate) fn add_bodies(
+    alloc: Global,
+    program: &AdaProgram,
+    into: &mut Vec<u8>,
+) -> Result<(), NoMemory>
     requires { ArePrintable (map unit_of program.now.units.items) }
     ensures { Adds result into.old.items into.new.items (layout (flat_map unit_body_lines (map unit_of program.now.units.items))) }
 {
     'units: for unit in &program.units {
-        add_body(unit, into)?;
+        add_body(alloc, unit, into)?;
     }
     Ok(())
 }

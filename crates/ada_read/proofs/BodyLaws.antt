@@ -12,17 +12,18 @@ use Rattle.seq_tree.specs.Spelling.{block_tokens}
 use Rattle.seq_tree.specs.declared.tree.Datum.{Datum}
 use Rattle.seq_tree.specs.declared.token.Token.{Token}
 use Rattle.seq_tree.specs.declared.token.Token.TheVariants.{Word, Number, Sign}
-use Rattle.seq_tree.specs.declared.token.Mark.TheVariants.{Semicolon}
+use Rattle.seq_tree.specs.declared.token.Mark.TheVariants.{Semicolon, Colon, Becomes}
 use Rattle.ada_tree.specs.Programs.{Form, Passive, Shared, Cyclic, Sporadic}
 use Rattle.ada_tree.specs.Programs as programs
 use Rattle.ada_tree.specs.Spelling.{head_tokens}
 use Rattle.ada_tree.specs.Words.{is_ada_name}
 use Rattle.token_read.proofs.TokenLaws.{Any, andthen, reads-fixed, reads-phrase, reads-number, joins-fixed, joins-phrase, joins-number, joins-name}
 use Rattle.seq_read.specs.Statements.{BlockReader, next_is_name, begins_statement, kind_of}
+use Rattle.seq_read.specs.Parts.{end_tokens, datum_at, data_at}
 use Rattle.ada_read.specs.declared.fixed_text.FixedText.TheVariants as fixed
-use Rattle.ada_read.specs.FixedTexts.{fixed_tokens, end_tokens}
+use Rattle.ada_read.specs.FixedTexts.{fixed_tokens}
 use Rattle.ada_read.specs.Heads.{Head, PassiveHead, TaskHead, head_name}
-use Rattle.ada_read.specs.Readers.{datum_at, data_at, operation_at, operations_at, cyclic_at, passive_at, form_at, body_head_at, body_at, bodies_at}
+use Rattle.ada_read.specs.Readers.{operation_at, operations_at, cyclic_at, passive_at, form_at, body_head_at, body_at, bodies_at}
 use Rattle.ada_read.proofs.ParamLaws.{and_until, IsSpelled, reads-spelled, reads-text, joins-text, joins-part, reads-ada_name}
 
 -- a variable and its first value
@@ -30,25 +31,29 @@ abbrev pub IsDatum : Datum → Type 0
 IsDatum d = is_ada_name d.name ≡ true
 
 abbrev pub datum_tokens : Datum → List Token
-datum_tokens d = Word d.name ∷ (fixed_tokens fixed.Initial ++ Number d.value ∷ Sign Semicolon ∷ [])
+datum_tokens d = Word d.name ∷ Sign Colon ∷ Word (codes "word") ∷ Sign Becomes ∷ Number d.value ∷ Sign Semicolon ∷ []
 
-pub reads-datum : Reads (IsSpelled IsDatum datum_tokens) Any datum_at
+pub reads-datum : Reads (IsSpelled IsDatum datum_tokens) Any (datum_at is_ada_name)
 unfolding datum_at
-reads-datum = reads-same _ (IsSpelled IsDatum datum_tokens) Any datum_at
+reads-datum = reads-same _ (IsSpelled IsDatum datum_tokens) Any (datum_at is_ada_name)
     (λ d text g1.
-    let g2 = g1.after in let g3 = g2.after in let g4 = g3.after in
+    let g2 = g1.after in let g3 = g2.after in let g4 = g3.after in let g5 = g4.after in let g6 = g5.after in
     let P : Datum → Type 0 = λ q. IsSpelled IsDatum datum_tokens q text in
-    subst P (sym g4.after.0) (g1.before.0, rw (g1.whole, g1.before.1, g2.whole, g2.before, g3.whole, g3.before, g4.whole, g4.before, g4.after.1) refl))
-    (λ d text h. rw h.1 (joins-name is_ada_name _ d.name d _ h.0 (joins-text _ fixed.Initial d _ (joins-number _ d.value d _ (joins-fixed _ (Sign Semicolon) d [] (refl, refl))))))
-    (andthen reads-ada_name (λ name. andthen (reads-text fixed.Initial) (λ _. andthen reads-number (λ n. andthen (reads-fixed (Sign Semicolon)) (λ _. reads-pure Any (record { name = name; value = n }) (λ _. tt))))))
+    subst P (sym g6.after.0)
+    (g1.before.0, rw (g1.whole, g1.before.1, g2.whole, g2.before, g3.whole, g3.before, g4.whole, g4.before, g5.whole, g5.before, g6.whole, g6.before, g6.after.1) refl))
+    (λ d text h.
+    rw h.1 (joins-name is_ada_name _ d.name d _ h.0 (joins-fixed _ (Sign Colon) d _ (joins-fixed _ (Word (codes "word")) d _ (joins-fixed _ (Sign Becomes) d _
+    (joins-number _ d.value d _ (joins-fixed _ (Sign Semicolon) d [] (refl, refl))))))))
+    (andthen reads-ada_name (λ name. andthen (reads-fixed (Sign Colon)) (λ _. andthen (reads-fixed (Word (codes "word"))) (λ _. andthen (reads-fixed (Sign Becomes)) (λ _.
+    andthen reads-number (λ n. andthen (reads-fixed (Sign Semicolon)) (λ _. reads-pure Any (record { name = name; value = n }) (λ _. tt))))))))
 
 -- whether no variable follows
 abbrev EndsData : Option Token → Type 0
 EndsData o = next_is_name is_ada_name o ≡ false
 
-reads-data : Reads (λ ds text. Each IsDatum ds × (text ≡ flat_map datum_tokens ds)) (λ ds o. EndsData o) data_at
+reads-data : Reads (λ ds text. Each IsDatum ds × (text ≡ flat_map datum_tokens ds)) (λ ds o. EndsData o) (data_at is_ada_name)
 unfolding data_at next_is_name
-reads-data = reads-spelled IsDatum datum_tokens (next_is_name is_ada_name) datum_at reads-datum (λ d rest h. h) (λ d. omega arith) refl
+reads-data = reads-spelled IsDatum datum_tokens (next_is_name is_ada_name) (datum_at is_ada_name) reads-datum (λ d rest h. h) (λ d. omega arith) refl
 
 task_ends_data : (rest : List Token) → EndsData (first (fixed_tokens fixed.TaskBody ++ rest))
 unfolding fixed_tokens next_is_name is_ada_name

@@ -13,8 +13,9 @@ use Rattle.seq_tree.specs.declared.token.Token.TheVariants.{Word, Number}
 use Rattle.ada_tree.specs.Words.{is_ada_name}
 use Rattle.token_read.specs.Readers.{next_is}
 use Rattle.token_read.proofs.TokenLaws.{Any, andthen, reads-fixed, reads-phrase, reads-number, joins-fixed, joins-phrase, joins-number, joins-name}
+use Rattle.seq_read.specs.Parts.{end_tokens}
 use Rattle.ada_read.specs.declared.fixed_text.FixedText.TheVariants as fixed
-use Rattle.ada_read.specs.FixedTexts.{fixed_tokens, end_tokens}
+use Rattle.ada_read.specs.FixedTexts.{fixed_tokens}
 use Rattle.ada_read.specs.Heads.{Head, PassiveHead, TaskHead, head_name, seen_after}
 use Rattle.ada_read.specs.Readers.{task_head_at, passive_head_at, inner_at, head_at, begins_head, heads_at}
 use Rattle.ada_read.proofs.ParamLaws.{and_until, IsNamedHead, declaration_tokens, reads-text, joins-text, joins-part, reads-ada_name, reads-declarations}

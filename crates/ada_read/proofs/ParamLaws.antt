@@ -5,6 +5,7 @@ use Rattle.grammar.specs.Reading.{Read, first, then_at, token_at, many_at, Reads
 use Rattle.grammar.proofs.Laws.{reads-same, reads-then, reads-pure, reads-token, reads-choose, reads-map, IsToken}
 use Rattle.grammar.proofs.From.{Last}
 use Rattle.grammar.proofs.Many.{last_free, reads-many}
+use Rattle.seq_tree.specs.Names.{Name, same_name}
 use Rattle.seq_tree.specs.Operations.{Signature}
 use Rattle.seq_tree.specs.declared.tree.Costs.{Costs}
 use Rattle.seq_tree.specs.declared.tree.Mode.{Mode}
@@ -15,15 +16,15 @@ use Rattle.seq_tree.specs.declared.token.Token.TheVariants.{Word, Number, Sign}
 use Rattle.seq_tree.specs.declared.token.Mark.TheVariants.{LeftParen, RightParen, Semicolon, Colon}
 use Rattle.ada_tree.specs.Spelling.{mode_token, param_tokens, params_tokens, head_tokens}
 use Rattle.ada_tree.specs.Words.{is_ada_name}
-use Rattle.token_read.specs.Words.{same_token}
 use Rattle.token_read.specs.Readers.{name_at, next_is}
 use Rattle.token_read.proofs.TokenLaws.{Any, IsPhrase, IsName, andthen, same_is, reads-fixed, reads-phrase, reads-number, reads-name, joins-fixed, joins-phrase, joins-number, joins-name}
+use Rattle.seq_read.specs.Parts.{sees_by, named_at, mode_named, param_at, more_param_at, params_from_at}
 use Rattle.ada_read.specs.declared.fixed_text.FixedText.{FixedText}
 use Rattle.ada_read.specs.declared.fixed_text.FixedText.TheVariants as fixed
 use Rattle.ada_read.specs.declared.fixed_text.CostName.{CostName}
 use Rattle.ada_read.specs.declared.fixed_text.CostName.TheVariants as cost
 use Rattle.ada_read.specs.FixedTexts.{fixed_tokens, cost_name, more_tokens}
-use Rattle.ada_read.specs.Readers.{text_at, cost_at, costs_at, sees_mode, mode_at, param_at, more_param_at, more_params_at, params_from_at, listed_at, unlisted_at, params_at, declaration_at, declarations_at}
+use Rattle.ada_read.specs.Readers.{text_at, cost_at, costs_at, listed_at, unlisted_at, params_at, declaration_at, declarations_at}
 
 -- a fixed text, read and joined
 pub reads-text : (text : FixedText) → Reads (IsPhrase (fixed_tokens text)) Any (text_at text)
@@ -135,23 +136,30 @@ reads-ada_name = reads-name is_ada_name (codes "a") refl
 abbrev IsMode : Mode → List Token → Type 0
 IsMode m text = text ≡ mode_token m ∷ []
 
-mode_seen : (t : Token) (m : Mode) → sees_mode t ≡ Some m → t ≡ mode_token m
-mode_seen t m e = by (same_token t (Word (codes "in"))) (same_token t (Word (codes "out"))) refl refl e where
-  by : (b c : Bool) → same_token t (Word (codes "in")) ≡ b → same_token t (Word (codes "out")) ≡ c → cond b (Some In) (cond c (Some Out) None) ≡ Some m → t ≡ mode_token m
-  by true c p q e = let same : In ≡ m = cc in let P : Mode → Type 0 = λ k. t ≡ mode_token k in subst P same (same_is t (Word (codes "in")) p)
-  by false true p q e = let same : Out ≡ m = cc in let P : Mode → Type 0 = λ k. t ≡ mode_token k in subst P same (same_is t (Word (codes "out")) q)
+mode_named_by : (name : Name) (m : Mode) → mode_named name ≡ Some m → Word name ≡ mode_token m
+unfolding mode_named
+mode_named_by name m e = by (same_name name (codes "in")) (same_name name (codes "out")) refl refl e where
+  by : (b c : Bool) → same_name name (codes "in") ≡ b → same_name name (codes "out") ≡ c → cond b (Some In) (cond c (Some Out) None) ≡ Some m → Word name ≡ mode_token m
+  by true c p q e = let same : In ≡ m = cc in let P : Mode → Type 0 = λ k. Word name ≡ mode_token k in subst P same (same_is (Word name) (Word (codes "in")) p)
+  by false true p q e = let same : Out ≡ m = cc in let P : Mode → Type 0 = λ k. Word name ≡ mode_token k in subst P same (same_is (Word name) (Word (codes "out")) q)
   by false false p q e = absurd (cc)
 
-mode_sees : (m : Mode) → sees_mode (mode_token m) ≡ Some m
+mode_seen : (t : Token) (m : Mode) → sees_by mode_named t ≡ Some m → t ≡ mode_token m
+mode_seen (Word name) m e = mode_named_by name m e
+mode_seen (Number n) m e = absurd (cc)
+mode_seen (Sign k) m e = absurd (cc)
+
+mode_sees : (m : Mode) → sees_by mode_named (mode_token m) ≡ Some m
+unfolding mode_named
 mode_sees In = refl
 mode_sees Out = refl
 
-reads-mode : Reads IsMode Any mode_at
-unfolding mode_at
-reads-mode = reads-same (IsToken sees_mode) IsMode Any (token_at sees_mode)
+reads-mode : Reads IsMode Any (named_at mode_named)
+unfolding named_at mode_named
+reads-mode = reads-same (IsToken (sees_by mode_named)) IsMode Any (token_at (sees_by mode_named))
     (λ m text g. g.whole ∙ ap (λ t. t ∷ []) (mode_seen g.token m g.seen))
     (λ m text h. record { token = mode_token m; seen = mode_sees m; whole = h })
-    (reads-token sees_mode In (Word (codes "in")) refl)
+    (reads-token (sees_by mode_named) In (Word (codes "in")) refl)
 
 -- a parameter
 abbrev pub IsNamed : Param → Type 0
@@ -160,9 +168,9 @@ IsNamed p = is_ada_name p.name ≡ true
 joins-mode : {B : Type 0} (H : Mode → B → List Token → Type 0) (m : Mode) (b : B) (rest : List Token) → H m b rest → Joined IsMode H b (mode_token m ∷ rest)
 joins-mode H m b rest h = record { a = m; front = mode_token m ∷ []; back = rest; before = refl; after = h; whole = refl }
 
-reads-param : Reads (IsSpelled IsNamed param_tokens) Any param_at
+reads-param : Reads (IsSpelled IsNamed param_tokens) Any (param_at is_ada_name)
 unfolding param_at
-reads-param = reads-same _ (IsSpelled IsNamed param_tokens) Any param_at
+reads-param = reads-same _ (IsSpelled IsNamed param_tokens) Any (param_at is_ada_name)
     (λ p text g1.
     let g2 = g1.after in let g3 = g2.after in let g4 = g3.after in
     let P : Param → Type 0 = λ q. IsSpelled IsNamed param_tokens q text in
@@ -170,16 +178,15 @@ reads-param = reads-same _ (IsSpelled IsNamed param_tokens) Any param_at
     (λ p text h. rw h.1 (joins-name is_ada_name _ p.name p _ h.0 (joins-fixed _ (Sign Colon) p _ (joins-mode _ p.mode p _ (joins-fixed _ (Word (codes "word")) p [] (refl, refl))))))
     (andthen reads-ada_name (λ name. andthen (reads-fixed (Sign Colon)) (λ _. andthen reads-mode (λ mode. andthen (reads-fixed (Word (codes "word"))) (λ _. reads-pure Any (record { name = name; mode = mode }) (λ _. tt))))))
 
-pub reads-more_param : Reads (IsSpelled IsNamed more_tokens) Any more_param_at
+pub reads-more_param : Reads (IsSpelled IsNamed more_tokens) Any (more_param_at is_ada_name)
 unfolding more_param_at
-reads-more_param = reads-same _ (IsSpelled IsNamed more_tokens) Any more_param_at
+reads-more_param = reads-same _ (IsSpelled IsNamed more_tokens) Any (more_param_at is_ada_name)
     (λ p text g. (g.after.0, rw (g.whole, g.before, g.after.1) refl))
     (λ p text h. rw h.1 (joins-fixed _ (Sign Semicolon) p _ (h.0, refl)))
     (andthen (reads-fixed (Sign Semicolon)) (λ _. reads-param))
 
-pub reads-more_params : Reads (λ ps text. Each IsNamed ps × (text ≡ flat_map more_tokens ps)) (λ ps o. next_is (Sign Semicolon) o ≡ false) more_params_at
-unfolding more_params_at
-reads-more_params = reads-spelled IsNamed more_tokens (next_is (Sign Semicolon)) more_param_at reads-more_param (λ p rest h. refl) (λ p. omega arith) refl
+reads-more_params : Reads (λ ps text. Each IsNamed ps × (text ≡ flat_map more_tokens ps)) (λ ps o. next_is (Sign Semicolon) o ≡ false) (many_at (next_is (Sign Semicolon)) (more_param_at is_ada_name))
+reads-more_params = reads-spelled IsNamed more_tokens (next_is (Sign Semicolon)) (more_param_at is_ada_name) reads-more_param (λ p rest h. refl) (λ p. omega arith) refl
 
 -- parameters, and the end of their declaration
 abbrev AreParams : List Param → List Token → Type 0
@@ -202,9 +209,9 @@ close_stops rest = refl
 abbrev AreFirst : Param → List Param → List Token → Type 0
 AreFirst p xs text = (ps : List Param) × (xs ≡ p ∷ ps) × Each IsNamed ps × (text ≡ flat_map more_tokens ps)
 
-reads-params_from : (p : Param) → Reads (AreFirst p) (λ ps o. next_is (Sign Semicolon) o ≡ false) (params_from_at p)
+reads-params_from : (p : Param) → Reads (AreFirst p) (λ ps o. next_is (Sign Semicolon) o ≡ false) (params_from_at is_ada_name p)
 unfolding params_from_at
-reads-params_from p = reads-map (λ ps text. Each IsNamed ps × (text ≡ flat_map more_tokens ps)) (AreFirst p) (λ ps o. next_is (Sign Semicolon) o ≡ false) (λ ps o. next_is (Sign Semicolon) o ≡ false) more_params_at (λ ps. p ∷ ps) reads-more_params
+reads-params_from p = reads-map (λ ps text. Each IsNamed ps × (text ≡ flat_map more_tokens ps)) (AreFirst p) (λ ps o. next_is (Sign Semicolon) o ≡ false) (λ ps o. next_is (Sign Semicolon) o ≡ false) (many_at (next_is (Sign Semicolon)) (more_param_at is_ada_name)) (λ ps. p ∷ ps) reads-more_params
     (λ ps text g. (ps, refl, g.0, g.1)) (λ xs text h. (h.0, (h.2, h.3), sym h.1)) (λ ps o h. h) (λ ps o h. h)
 
 reads-listed : Reads AreListed Any listed_at

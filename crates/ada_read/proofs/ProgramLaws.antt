@@ -16,9 +16,10 @@ use Rattle.ada_tree.specs.Words.{is_ada_name}
 use Rattle.token_read.specs.Readers.{next_is}
 use Rattle.token_read.proofs.TokenLaws.{Any, andthen, reads-fixed, reads-phrase, joins-fixed, joins-phrase, joins-name}
 use Rattle.seq_read.specs.Statements.{BlockReader}
+use Rattle.seq_read.specs.Parts.{end_tokens}
 use Rattle.ada_read.proofs.LevelLaws.{joined-append}
 use Rattle.ada_read.specs.declared.fixed_text.FixedText.TheVariants as fixed
-use Rattle.ada_read.specs.FixedTexts.{fixed_tokens, cost_name, end_tokens}
+use Rattle.ada_read.specs.FixedTexts.{fixed_tokens, cost_name}
 use Rattle.ada_read.specs.Heads.{Head}
 use Rattle.ada_read.specs.Readers.{services_at, units_at, main_at, program_at}
 use Rattle.ada_read.proofs.ParamLaws.{and_until, reads-text, joins-text, joins-part, costs_text, reads-costs, reads-ada_name}

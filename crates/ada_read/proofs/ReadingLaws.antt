@@ -25,6 +25,7 @@ use Rattle.token_read.specs.Words.{bare}
 use Rattle.token_read.proofs.TokenLaws.{Any}
 use Rattle.seq_read.specs.Statements.{block_at}
 use Rattle.seq_read.specs.Places.{place_at}
+use Rattle.seq_read.proofs.TextFaultLaws.{no-text-fault}
 use Rattle.seq_read.proofs.StatementTokens.{block-spelled}
 use Rattle.seq_read.proofs.StatementLaws.{Reserves}
 use Rattle.seq_read.proofs.BlockLaws as blocks
@@ -136,35 +137,10 @@ pub deep-at : (bytes : List ℕ) (ts : List Spanned) (left : ℕ) (place : Place
 deep-at bytes ts left place short e h here = record { short = short; found = ts; read = e; index = length (bare ts) - left; fault = tokens-deep (bare ts) left h; here = at_place bytes ts (TooDeep left) place h here }
 
 -- A TEXT THAT READS AS A PROGRAM HAS NO FAULT
-bare-spelled : (bytes : List ℕ) (ts : List Spanned) (p : Program) → tokens bytes ≡ Ok ts → reading.Reads bytes p → bare ts ≡ program_tokens p
-bare-spelled bytes ts p e r = let same : Ok (bare ts) ≡ Ok (program_tokens p) = sym (ap plain e) ∙ r.spelled in cc
-
-not_misread : (bytes : List ℕ) (p : Program) (misread : Misread) → reading.Reads bytes p → tokens bytes ≡ Err misread → ⊥
-not_misread bytes p misread r e = let same : Err misread ≡ Ok (program_tokens p) = sym (ap plain e) ∙ r.spelled in cc
-
-not_faulty : (bytes : List ℕ) (p : Program) (place : Place) → IsSequentialProgram p → reading.Reads bytes p → IsFaultyAt bytes place reach.Syntax → ⊥
-not_faulty bytes p place sequential r h = h.fault.none (p, sequential, free-program 64 32 p r.proper, bare-spelled bytes h.found p h.read r)
-
-whole_begins : (ts : List Token) (p : Program) → IsTextOf p ts → SomeProgram (take (length ts) ts ++ [])
-whole_begins ts p here = let P : List Token → Type 0 = SomeProgram in subst P (sym (append-nil (take (length ts) ts) ∙ take-length ts)) (p, here)
-
-not_deep : (bytes : List ℕ) (p : Program) (place : Place) → IsSequentialProgram p → reading.Reads bytes p → IsFaultyAt bytes place reach.TooDeep → ⊥
-not_deep bytes p place sequential r h =
-    let ts = bare h.found in
-    let spelled : IsTextOf p ts = record { sequential = sequential; proper = r.proper; spelled = bare-spelled bytes h.found p h.read r } in
-    let most = h.fault.reach.greatest (length ts) (omega arith) ([], whole_begins ts p spelled) in
-    let within = h.fault.goes_on.1.within in
-    let less = h.fault.goes_on.2 in
-    omega (arith, most, within, less)
-
 pub reads-unfaulty : (bytes : List ℕ) (p : Program) (f : TextFault) → IsSequentialProgram p → reading.Reads bytes p → Faults bytes f → ⊥
-reads-unfaulty bytes p (text.Byte place) sequential r h = not_misread bytes p (Stray place) r h.1
-reads-unfaulty bytes p (text.Number place) sequential r h = not_misread bytes p (Great place) r h.1
-reads-unfaulty bytes p (text.Long place) sequential r h = not_misread bytes p (lexis.Long place) r h.1
-reads-unfaulty bytes p (text.Syntax place) sequential r h = not_faulty bytes p place sequential r h
-reads-unfaulty bytes p (text.TooDeep place) sequential r h = not_deep bytes p place sequential r h
-reads-unfaulty bytes p text.FileTooLong sequential r h = let short = r.within in omega (arith, short, h)
-reads-unfaulty bytes p text.NoMemory sequential r h = h
+reads-unfaulty bytes p f sequential r h =
+    no-text-fault AnyProgram SomeProgram 16777216 bytes (program_tokens p) f r.within r.spelled (p, sequential, free-program 64 32 p r.proper, refl)
+    (p, record { sequential = sequential; proper = r.proper; spelled = refl }) h
 
 pub accepts-unbroken : (bytes : List ℕ) (p : Program) (rule : AdaRule) (unit : Option Name) → IsSequentialProgram p → reading.Accepts bytes p → Breaks bytes rule unit → ⊥
 accepts-unbroken bytes p rule unit sequential a h =

@@ -6,23 +6,16 @@ use Rattle.grammar.proofs.From.{from-turn, from-fails, from-ends}
 use Rattle.seq_tree.specs.Operations.{Signature, Operation}
 use Rattle.seq_tree.specs.Trees.{signature_of}
 use Rattle.seq_tree.specs.declared.tree.OpSig.{OpSig}
-use Rattle.seq_tree.specs.declared.tree.Datum.{Datum}
-use Rattle.seq_tree.specs.declared.tree.Param.{Param}
 use Rattle.seq_tree.specs.declared.token.Token.{Token}
-use Rattle.seq_tree.specs.declared.token.Token.TheVariants.{Word, Sign}
-use Rattle.seq_tree.specs.declared.token.Mark.TheVariants.{Semicolon}
+use Rattle.seq_tree.specs.declared.token.Token.TheVariants.{Word}
 use Rattle.ada_tree.specs.Programs as programs
-use Rattle.ada_tree.specs.Words.{is_ada_name}
 use Rattle.token_read.specs.Readers.{next_is}
 use Rattle.token_read.proofs.TokenLaws.{Any}
-use Rattle.seq_read.specs.Statements.{next_is_name}
-use Rattle.ada_read.specs.FixedTexts.{more_tokens}
 use Rattle.ada_read.specs.declared.heads.UnitHead.{UnitHead}
 use Rattle.ada_read.specs.Heads.{Head, seen_after, head_of}
-use Rattle.ada_read.specs.Readers.{ada_block_at, more_param_at, more_params_at, params_from_at, declaration_at, declarations_at, head_at, begins_head, heads_at, datum_at, data_at, body_at, bodies_at, operation_at, operations_at}
-use Rattle.ada_read.proofs.ParamLaws.{IsSpelled, IsNamed, IsNamedHead, declaration_tokens, reads-more_param, reads-declaration}
+use Rattle.ada_read.specs.Readers.{ada_block_at, declaration_at, declarations_at, head_at, begins_head, heads_at, body_at, bodies_at, operation_at, operations_at}
+use Rattle.ada_read.proofs.ParamLaws.{IsSpelled, IsNamedHead, declaration_tokens, reads-declaration}
 use Rattle.ada_read.proofs.HeadLaws.{IsHead, reads-head, starts_head, grows_head, ends_head, closing_heads}
-use Rattle.ada_read.proofs.BodyLaws.{IsDatum, datum_tokens, reads-datum}
 
 -- what is read, behind items that were read before
 unfoldable pub with_front : {A : Type 0} → List A → Read Token (List A) → Read Token (List A)
@@ -64,27 +57,6 @@ module _ {A : Type 0} (P : A → Type 0) (spell : A → List Token) (test : Opti
   unfolding with_front
   spelled_ends front ts t = rw (many-ends test (IsSpelled P spell) (λ a o. Unit {0}) r one starts_spelled grows_spelled (λ a o h. tt) ends ts t, append-nil) refl
 
--- PARAMETERS
-pub params_from : (p : Param) (ts : List Token) → params_from_at p ts ≡ with_front (p ∷ []) (more_params_at ts)
-unfolding params_from_at with_front
-params_from p ts = refl
-
-pub param-shorter : (ts : List Token) (p : Param) (rest : List Token) → more_param_at ts ≡ Ok (p, rest) → length rest < length ts
-param-shorter = spelled_shorter IsNamed more_tokens (next_is (Sign Semicolon)) more_param_at reads-more_param (λ p rest h. refl) (λ p. omega arith) refl
-
-pub param-turn : (front : List Param) (ts : List Token) (p : Param) (rest : List Token) → next_is (Sign Semicolon) (first ts) ≡ true → more_param_at ts ≡ Ok (p, rest) →
-    with_front (front ++ p ∷ []) (more_params_at rest) ≡ with_front front (more_params_at ts)
-unfolding more_params_at
-param-turn = spelled_turn IsNamed more_tokens (next_is (Sign Semicolon)) more_param_at reads-more_param (λ p rest h. refl) (λ p. omega arith) refl
-
-pub param-fails : (front : List Param) (ts : List Token) (halt : Halt) → next_is (Sign Semicolon) (first ts) ≡ true → more_param_at ts ≡ Err halt → with_front front (more_params_at ts) ≡ Err halt
-unfolding more_params_at
-param-fails = spelled_fails IsNamed more_tokens (next_is (Sign Semicolon)) more_param_at reads-more_param (λ p rest h. refl) (λ p. omega arith) refl
-
-pub param-ends : (front : List Param) (ts : List Token) → next_is (Sign Semicolon) (first ts) ≡ false → with_front front (more_params_at ts) ≡ Ok (front, ts)
-unfolding more_params_at
-param-ends = spelled_ends IsNamed more_tokens (next_is (Sign Semicolon)) more_param_at reads-more_param (λ p rest h. refl) (λ p. omega arith) refl
-
 -- DECLARATIONS
 pub declaration-shorter : (ts : List Token) (s : Signature) (rest : List Token) → declaration_at ts ≡ Ok (s, rest) → length rest < length ts
 declaration-shorter = spelled_shorter IsNamedHead declaration_tokens (next_is (Word (codes "procedure"))) declaration_at reads-declaration (λ s rest h. refl) (λ s. omega arith) refl
@@ -101,31 +73,6 @@ declaration-fails = spelled_fails IsNamedHead declaration_tokens (next_is (Word 
 pub declaration-ends : (front : List Signature) (ts : List Token) → next_is (Word (codes "procedure")) (first ts) ≡ false → with_front front (declarations_at ts) ≡ Ok (front, ts)
 unfolding declarations_at
 declaration-ends = spelled_ends IsNamedHead declaration_tokens (next_is (Word (codes "procedure"))) declaration_at reads-declaration (λ s rest h. refl) (λ s. omega arith) refl
-
--- DATA
-no_datum : next_is_name is_ada_name None ≡ false
-unfolding next_is_name
-no_datum = refl
-
-some_datum : (d : Datum) (rest : List Token) → IsDatum d → next_is_name is_ada_name (first (datum_tokens d ++ rest)) ≡ true
-unfolding next_is_name
-some_datum d rest h = h
-
-pub datum-shorter : (ts : List Token) (d : Datum) (rest : List Token) → datum_at ts ≡ Ok (d, rest) → length rest < length ts
-datum-shorter = spelled_shorter IsDatum datum_tokens (next_is_name is_ada_name) datum_at reads-datum some_datum (λ d. omega arith) no_datum
-
-pub datum-turn : (front : List Datum) (ts : List Token) (d : Datum) (rest : List Token) → next_is_name is_ada_name (first ts) ≡ true → datum_at ts ≡ Ok (d, rest) →
-    with_front (front ++ d ∷ []) (data_at rest) ≡ with_front front (data_at ts)
-unfolding data_at
-datum-turn = spelled_turn IsDatum datum_tokens (next_is_name is_ada_name) datum_at reads-datum some_datum (λ d. omega arith) no_datum
-
-pub datum-fails : (front : List Datum) (ts : List Token) (halt : Halt) → next_is_name is_ada_name (first ts) ≡ true → datum_at ts ≡ Err halt → with_front front (data_at ts) ≡ Err halt
-unfolding data_at
-datum-fails = spelled_fails IsDatum datum_tokens (next_is_name is_ada_name) datum_at reads-datum some_datum (λ d. omega arith) no_datum
-
-pub datum-ends : (front : List Datum) (ts : List Token) → next_is_name is_ada_name (first ts) ≡ false → with_front front (data_at ts) ≡ Ok (front, ts)
-unfolding data_at
-datum-ends = spelled_ends IsDatum datum_tokens (next_is_name is_ada_name) datum_at reads-datum some_datum (λ d. omega arith) no_datum
 
 -- SPECIFICATIONS, where a task was read before or not
 unfoldable pub heads_from : Bool → List Token → Read Token (List Head)
@@ -208,11 +155,7 @@ pub body-ends : (heads : List UnitHead) (i : ℕ) (front : List programs.Unit) (
 unfolding bodies_at
 body-ends = each_ends head_of (body_at ada_block_at)
 
-pub ruleset param_steps = (params_from, param-shorter, param-turn, param-fails, param-ends)
-
 pub ruleset declaration_steps = (front-none, declaration-shorter, declaration-turn, declaration-fails, declaration-ends)
-
-pub ruleset datum_steps = (front-none, datum-shorter, datum-turn, datum-fails, datum-ends)
 
 pub ruleset head_steps = (heads_begin, head-shorter, head-turn, head-fails, head-ends)
 

@@ -16,8 +16,9 @@ use Rattle.ada_tree.specs.InUse.{is_sequential}
 use Rattle.ada_tree.specs.Proper.{IsProperForm, IsProperOperation}
 use Rattle.ada_tree.specs.Spelling.{head_tokens, datum_line, declaration_line, body_lines, inner_body, specification_lines, unit_body_lines}
 use Rattle.ada_tree.specs.Words.{is_ada_name}
+use Rattle.seq_read.specs.Parts.{end_tokens}
 use Rattle.ada_read.proofs.LevelLaws.{joined-append, block-level}
-use Rattle.ada_read.specs.FixedTexts.{fixed_tokens, end_tokens}
+use Rattle.ada_read.specs.FixedTexts.{fixed_tokens}
 use Rattle.ada_read.specs.Heads.{Head, PassiveHead, TaskHead, seen_after}
 use Rattle.ada_read.proofs.ParamLaws.{IsNamedHead, declaration_tokens}
 use Rattle.ada_read.proofs.HeadLaws.{IsHead, AreHeads, head_text}

@@ -7,19 +7,20 @@ use Rattle.seq_tree.specs.Operations.{Signature}
 use Rattle.seq_tree.specs.declared.tree.Param.{Param}
 use Rattle.seq_tree.specs.declared.token.Token.{Token}
 use Rattle.seq_tree.specs.declared.token.Token.TheVariants.{Word, Sign}
-use Rattle.seq_tree.specs.declared.token.Mark.TheVariants.{LeftParen, Semicolon, Colon}
+use Rattle.seq_tree.specs.declared.token.Mark.TheVariants.{LeftParen, Semicolon, Colon, Becomes}
 use Rattle.ada_tree.specs.Programs.{Passive, Cyclic}
 use Rattle.ada_tree.specs.Spelling.{head_tokens}
 use Rattle.ada_tree.specs.Words.{is_ada_name}
 use Rattle.token_read.specs.Readers.{sees_fixed, fixed_at, phrase_at, sees_number, number_at, sees_name, name_at, next_is}
 use Rattle.seq_read.specs.Statements.{BlockReader, next_is_name}
+use Rattle.seq_read.specs.Parts.{end_tokens, sees_by, named_at, mode_named, param_at, more_param_at, params_from_at, datum_at, data_at}
 use Rattle.ada_read.specs.declared.fixed_text.FixedText.{FixedText}
 use Rattle.ada_read.specs.declared.fixed_text.FixedText.TheVariants as fixed
 use Rattle.ada_read.specs.declared.fixed_text.CostName.{CostName}
 use Rattle.ada_read.specs.declared.fixed_text.CostName.TheVariants as cost
-use Rattle.ada_read.specs.FixedTexts.{fixed_tokens, cost_name, end_tokens}
+use Rattle.ada_read.specs.FixedTexts.{fixed_tokens, cost_name}
 use Rattle.ada_read.specs.Heads.{Head, PassiveHead, TaskHead, head_name, seen_after}
-use Rattle.ada_read.specs.Readers.{text_at, cost_at, costs_at, sees_mode, mode_at, param_at, more_param_at, more_params_at, params_from_at, listed_at, unlisted_at, params_at, declaration_at, declarations_at, task_head_at, passive_head_at, begins_task, inner_at, head_at, begins_head, heads_at, datum_at, data_at, operation_at, operations_at, cyclic_at, passive_at, form_at, body_head_at, body_at, bodies_at, services_at, units_at, main_at, program_at}
+use Rattle.ada_read.specs.Readers.{text_at, cost_at, costs_at, listed_at, unlisted_at, params_at, declaration_at, declarations_at, task_head_at, passive_head_at, begins_task, inner_at, head_at, begins_head, heads_at, operation_at, operations_at, cyclic_at, passive_at, form_at, body_head_at, body_at, bodies_at, services_at, units_at, main_at, program_at}
 
 module _ (n : ℕ) where
   -- TOKENS
@@ -42,9 +43,9 @@ module _ (n : ℕ) where
   unfolding name_at
   widens-name = widens-token n (sees_name is_ada_name)
 
-  widens-mode : Widens n mode_at mode_at
-  unfolding mode_at
-  widens-mode = widens-token n sees_mode
+  widens-mode : Widens n (named_at mode_named) (named_at mode_named)
+  unfolding named_at
+  widens-mode = widens-token n (sees_by mode_named)
 
   -- WHAT HAS NO LIMITS
   widens-cost : (c : CostName) → Widens n (cost_at c) (cost_at c)
@@ -61,23 +62,19 @@ module _ (n : ℕ) where
       widens-then (widens-cost cost.Finish) (λ finish.
       widens-pure n (record { assign = assign; test = test; turn = turn; call = call; nothing = nothing; put = put; finish = finish }))))))))
 
-  widens-param : Widens n param_at param_at
+  widens-param : Widens n (param_at is_ada_name) (param_at is_ada_name)
   unfolding param_at
   widens-param =
       widens-then widens-name (λ name. widens-then (widens-fixed (Sign Colon)) (λ _. widens-then widens-mode (λ mode. widens-then (widens-fixed (Word (codes "word"))) (λ _.
       widens-pure n (record { name = name; mode = mode })))))
 
-  widens-more_param : Widens n more_param_at more_param_at
+  widens-more_param : Widens n (more_param_at is_ada_name) (more_param_at is_ada_name)
   unfolding more_param_at
   widens-more_param = widens-then (widens-fixed (Sign Semicolon)) (λ _. widens-param)
 
-  widens-more_params : Widens n more_params_at more_params_at
-  unfolding more_params_at
-  widens-more_params = widens-many (next_is (Sign Semicolon)) widens-more_param
-
-  widens-params_from : (p : Param) → Widens n (params_from_at p) (params_from_at p)
+  widens-params_from : (p : Param) → Widens n (params_from_at is_ada_name p) (params_from_at is_ada_name p)
   unfolding params_from_at
-  widens-params_from p = widens-then widens-more_params (λ ps. widens-pure n (p ∷ ps))
+  widens-params_from p = widens-then (widens-many (next_is (Sign Semicolon)) widens-more_param) (λ ps. widens-pure n (p ∷ ps))
 
   widens-listed : Widens n listed_at listed_at
   unfolding listed_at
@@ -124,13 +121,14 @@ module _ (n : ℕ) where
   unfolding heads_at
   widens-heads = widens-from n begins_head seen_after head_at head_at widens-head false
 
-  widens-datum : Widens n datum_at datum_at
+  widens-datum : Widens n (datum_at is_ada_name) (datum_at is_ada_name)
   unfolding datum_at
   widens-datum =
-      widens-then widens-name (λ name. widens-then (widens-text fixed.Initial) (λ _. widens-then widens-number (λ k. widens-then (widens-fixed (Sign Semicolon)) (λ _.
-      widens-pure n (record { name = name; value = k })))))
+      widens-then widens-name (λ name. widens-then (widens-fixed (Sign Colon)) (λ _. widens-then (widens-fixed (Word (codes "word"))) (λ _.
+      widens-then (widens-fixed (Sign Becomes)) (λ _. widens-then widens-number (λ k. widens-then (widens-fixed (Sign Semicolon)) (λ _.
+      widens-pure n (record { name = name; value = k })))))))
 
-  widens-data : Widens n data_at data_at
+  widens-data : Widens n (data_at is_ada_name) (data_at is_ada_name)
   unfolding data_at
   widens-data = widens-many (next_is_name is_ada_name) widens-datum
 

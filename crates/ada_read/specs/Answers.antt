@@ -26,7 +26,7 @@ use Rattle.ada_rules.specs.declared.verdict.RuleBreak.TheVariants as told
 use Rattle.token_read.specs.Words.{bare}
 use Rattle.token_read.specs.declared.fault.LexFault.{LexFault}
 use Rattle.token_read.specs.declared.fault.LexFault.TheVariants as lex
-use Rattle.seq_read.specs.Places.{place_at}
+use Rattle.seq_read.specs.TextFaults as texts
 use Rattle.ada_read.specs.declared.fault.AdaFault.{AdaFault}
 use Rattle.ada_read.specs.declared.fault.AdaFault.TheVariants.{Text, Rule, NoMemory}
 
@@ -36,10 +36,6 @@ fault_of (lex.Byte place) = Text (fault.Byte place)
 fault_of (lex.Number place) = Text (fault.Number place)
 fault_of (lex.Long place) = Text (fault.Long place)
 fault_of lex.NoMemory = NoMemory
-
--- a text that is short enough and has this lexical fault
-abbrev pub IsMisread : List ℕ → Misread → Type 0
-IsMisread bytes misread = (length bytes ≤ 16777216) × (tokens bytes ≡ Err misread)
 
 -- a program that is read so far, with its tokens
 pub record IsTextOf (p : Program) (text : List Token) : Type 0 where
@@ -56,23 +52,12 @@ abbrev pub AnyProgram : List Token → Type 0
 AnyProgram text = (p : Program) × IsSequentialProgram p × IsProperProgram (without_limits is_ada_name) p × (text ≡ program_tokens p)
 
 -- a text that is short enough, and whose tokens have this fault at this place
-pub record IsFaultyAt (bytes : List ℕ) (place : Place) (kind : ℕ → Fault) : Type 0 where
-  pub short : length bytes ≤ 16777216
-  pub found : List Spanned
-  pub read : tokens bytes ≡ Ok found
-  pub index : ℕ
-  pub fault : IsFault AnyProgram SomeProgram (bare found) (kind index)
-  pub here : place ≡ place_at bytes found (length found - index)
+abbrev pub IsFaultyAt : List ℕ → Place → (ℕ → Fault) → Type 0
+IsFaultyAt bytes place kind = texts.IsFaultyAt AnyProgram SomeProgram 16777216 bytes place kind
 
 -- what a fault says
 abbrev pub Faults : List ℕ → TextFault → Type 0
-Faults bytes (fault.Byte place) = IsMisread bytes (Stray place)
-Faults bytes (fault.Number place) = IsMisread bytes (Great place)
-Faults bytes (fault.Long place) = IsMisread bytes (lexis.Long place)
-Faults bytes (fault.Syntax place) = IsFaultyAt bytes place reach.Syntax
-Faults bytes (fault.TooDeep place) = IsFaultyAt bytes place reach.TooDeep
-Faults bytes fault.FileTooLong = 16777216 < length bytes
-Faults bytes fault.NoMemory = ⊥
+Faults bytes fault = texts.Faults AnyProgram SomeProgram 16777216 bytes fault
 
 -- a text that reads as one program, and as no other that is read so far, which breaks this rule first, at this unit
 pub record Breaks (bytes : List ℕ) (rule : AdaRule) (unit : Option Name) : Type 0 where

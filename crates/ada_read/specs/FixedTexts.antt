@@ -38,7 +38,6 @@ fixed_tokens fixed.TaskHead =
     Word (codes "task") ∷ Word (codes "hrt_thread") ∷ Word (codes "is") ∷ Word (codes "pragma") ∷ Word (codes "priority") ∷
     Sign LeftParen ∷ []
 fixed_tokens fixed.TaskEnd = Sign RightParen ∷ Sign Semicolon ∷ Word (codes "end") ∷ Word (codes "hrt_thread") ∷ Sign Semicolon ∷ []
-fixed_tokens fixed.Initial = Sign Colon ∷ Word (codes "word") ∷ Sign Becomes ∷ []
 fixed_tokens fixed.TaskBody =
     Word (codes "task") ∷ Word (codes "body") ∷ Word (codes "hrt_thread") ∷ Word (codes "is") ∷ Word (codes "hrt_next") ∷ Sign Colon ∷
     Word (codes "hrt") ∷ Sign Dot ∷ Word (codes "moment") ∷ Sign Becomes ∷ Word (codes "hrt") ∷ Sign Dot ∷ Word (codes "after") ∷
@@ -62,10 +61,6 @@ more_tokens p = Sign Semicolon ∷ param_tokens p
 -- further parameters, and the end of their list
 abbrev pub rest_tokens : List Param → List Token
 rest_tokens ps = flat_map more_tokens ps ++ Sign RightParen ∷ []
-
--- a closing end and its name
-abbrev pub end_tokens : Name → List Token
-end_tokens name = Word (codes "end") ∷ Word name ∷ Sign Semicolon ∷ []
 
 -- the name of the constant that is a cost
 unfoldable pub cost_name : CostName → Name

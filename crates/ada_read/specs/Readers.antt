@@ -5,25 +5,22 @@ use Rattle.grammar.specs.Reading.{Read, then_at, pure_at, choose_at, token_at, m
 use Rattle.seq_tree.specs.Names.{Name}
 use Rattle.seq_tree.specs.Operations.{Signature, Operation}
 use Rattle.seq_tree.specs.declared.tree.Costs.{Costs}
-use Rattle.seq_tree.specs.declared.tree.Datum.{Datum}
-use Rattle.seq_tree.specs.declared.tree.Mode.{Mode}
-use Rattle.seq_tree.specs.declared.tree.Mode.TheVariants.{In, Out}
 use Rattle.seq_tree.specs.declared.tree.Param.{Param}
 use Rattle.seq_tree.specs.declared.token.Token.{Token}
 use Rattle.seq_tree.specs.declared.token.Token.TheVariants.{Word, Sign}
-use Rattle.seq_tree.specs.declared.token.Mark.TheVariants.{LeftParen, Semicolon, Colon}
+use Rattle.seq_tree.specs.declared.token.Mark.TheVariants.{LeftParen, Semicolon}
 use Rattle.ada_tree.specs.Programs.{Form, Program, Passive, Cyclic}
 use Rattle.ada_tree.specs.Programs as programs
 use Rattle.ada_tree.specs.Spelling.{head_tokens}
 use Rattle.ada_tree.specs.Words.{is_ada_name}
-use Rattle.token_read.specs.Words.{same_token}
 use Rattle.token_read.specs.Readers.{fixed_at, phrase_at, number_at, name_at, next_is}
-use Rattle.seq_read.specs.Statements.{BlockReader, next_is_name, block_at}
+use Rattle.seq_read.specs.Parts.{end_tokens, param_at, params_from_at, data_at}
+use Rattle.seq_read.specs.Statements.{BlockReader, block_at}
 use Rattle.ada_read.specs.declared.fixed_text.FixedText.{FixedText}
 use Rattle.ada_read.specs.declared.fixed_text.FixedText.TheVariants as fixed
 use Rattle.ada_read.specs.declared.fixed_text.CostName.{CostName}
 use Rattle.ada_read.specs.declared.fixed_text.CostName.TheVariants as cost
-use Rattle.ada_read.specs.FixedTexts.{fixed_tokens, cost_name, end_tokens}
+use Rattle.ada_read.specs.FixedTexts.{fixed_tokens, cost_name}
 use Rattle.ada_read.specs.Heads.{Head, PassiveHead, TaskHead, head_name, seen_after}
 
 -- the blocks of an Ada text: at most 32 operators in a chain, and nesting of at most 64
@@ -52,36 +49,10 @@ costs_at =
     then_at (cost_at cost.Finish) (λ finish.
     pure_at (record { assign = assign; test = test; turn = turn; call = call; nothing = nothing; put = put; finish = finish }))))))))
 
--- a mode
-abbrev pub sees_mode : Token → Option Mode
-sees_mode t = if same_token t (Word (codes "in")) then Some In else if same_token t (Word (codes "out")) then Some Out else None
-
--- a mode
-unfoldable pub mode_at : List Token → Read Token Mode
-mode_at = token_at sees_mode
-
--- a parameter
-unfoldable pub param_at : List Token → Read Token Param
-param_at =
-    then_at (name_at is_ada_name) (λ name. then_at (fixed_at (Sign Colon)) (λ _. then_at mode_at (λ mode. then_at (word_at (codes "word")) (λ _.
-    pure_at (record { name = name; mode = mode })))))
-
--- a further parameter
-unfoldable pub more_param_at : List Token → Read Token Param
-more_param_at = then_at (fixed_at (Sign Semicolon)) (λ _. param_at)
-
--- further parameters
-unfoldable pub more_params_at : List Token → Read Token (List Param)
-more_params_at = many_at (next_is (Sign Semicolon)) more_param_at
-
--- all parameters, behind the first
-unfoldable pub params_from_at : Param → List Token → Read Token (List Param)
-params_from_at p = then_at more_params_at (λ ps. pure_at (p ∷ ps))
-
 -- parameters, one at least, and the end of their declaration
 unfoldable pub listed_at : List Token → Read Token (List Param)
 listed_at =
-    then_at (fixed_at (Sign LeftParen)) (λ _. then_at param_at (λ p. then_at (params_from_at p) (λ ps. then_at (text_at fixed.Close) (λ _. pure_at ps))))
+    then_at (fixed_at (Sign LeftParen)) (λ _. then_at (param_at is_ada_name) (λ p. then_at (params_from_at is_ada_name p) (λ ps. then_at (text_at fixed.Close) (λ _. pure_at ps))))
 
 -- no parameters, and the end of their declaration
 unfoldable pub unlisted_at : List Token → Read Token (List Param)
@@ -131,20 +102,10 @@ begins_head seen o = if seen then next_is (Word (codes "package")) o else true
 unfoldable pub heads_at : List Token → Read Token (List Head)
 heads_at = all_from begins_head seen_after head_at false
 
--- a variable and its first value
-unfoldable pub datum_at : List Token → Read Token Datum
-datum_at =
-    then_at (name_at is_ada_name) (λ name. then_at (text_at fixed.Initial) (λ _. then_at number_at (λ n. then_at (fixed_at (Sign Semicolon)) (λ _.
-    pure_at (record { name = name; value = n })))))
-
--- variables
-unfoldable pub data_at : List Token → Read Token (List Datum)
-data_at = many_at (next_is_name is_ada_name) datum_at
-
 -- the body of an operation with this head
 unfoldable pub operation_at : BlockReader → Signature → List Token → Read Token Operation
 operation_at block sig =
-    then_at (phrase_at (head_tokens sig)) (λ _. then_at (word_at (codes "is")) (λ _. then_at data_at (λ locals. then_at (word_at (codes "begin")) (λ _.
+    then_at (phrase_at (head_tokens sig)) (λ _. then_at (word_at (codes "is")) (λ _. then_at (data_at is_ada_name) (λ locals. then_at (word_at (codes "begin")) (λ _.
     then_at block (λ b. then_at (phrase_at (end_tokens sig.name)) (λ _. pure_at (record { sig = sig; locals = locals; block = b })))))))
 
 -- the bodies of operations with these heads
@@ -154,7 +115,7 @@ operations_at block sigs = each_at (operation_at block) sigs
 -- what stands in the body of a unit with a task of this priority
 unfoldable pub cyclic_at : BlockReader → ℕ → List Token → Read Token Form
 cyclic_at block priority =
-    then_at data_at (λ vars. then_at (text_at fixed.TaskBody) (λ _. then_at number_at (λ offset. then_at (text_at fixed.Delay) (λ _.
+    then_at (data_at is_ada_name) (λ vars. then_at (text_at fixed.TaskBody) (λ _. then_at number_at (λ offset. then_at (text_at fixed.Delay) (λ _.
     then_at number_at (λ period. then_at (text_at fixed.Close) (λ _. then_at block (λ b. then_at (text_at fixed.TaskLoop) (λ _.
     pure_at (Cyclic priority offset period vars b)))))))))
 

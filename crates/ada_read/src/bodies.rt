@@ -4,45 +4,19 @@ ghost use Rattle.ada_tree.specs.Spelling.{head_tokens, param_tokens, params_toke
 ghost use Rattle.ada_tree.specs.Trees.{form_of, unit_of};
 ghost use Rattle.token_read.specs.Words.{bare};
 ghost use Rattle.token_read.specs.Readers.{phrase_at, fixed_at};
+ghost use Rattle.ada_tree.specs.Words.{is_ada_name};
 ghost use Rattle.seq_read.specs.Halts.{Gives};
+ghost use Rattle.seq_read.specs.Parts.{data_at};
 ghost use Rattle.ada_read.specs.FixedTexts.{rest_tokens};
 ghost use Rattle.ada_read.specs.Heads.{head_of};
-ghost use Rattle.ada_read.specs.Readers.{ada_block_at, datum_at, data_at, operation_at, operations_at, cyclic_at, passive_at, form_at, body_head_at, body_at, bodies_at};
+ghost use Rattle.ada_read.specs.Readers.{ada_block_at, operation_at, operations_at, cyclic_at, passive_at, form_at, body_head_at, body_at, bodies_at};
 
 use crate::fixed_text::{FixedText, fixed};
 use crate::heads::{UnitHead, head_name};
-use crate::names::{end_of, name, next_is_name};
 use ada_tree::{Form, Unit};
-use seq_read::{Halt, Text, mark, number, word};
+use seq_read::{Halt, Text, end_of, mark, number, word};
 use seq_tree::{Block, Datum, Mark, Mode, Name, OpSig, OpText, Param, Spanned};
 use std::alloc::Global;
-
-/// A variable with its first value, and the tokens after it.
-#[tactic(auto, unfolding(crate::specs::Readers::datum_at))]
-fn datum(alloc: Global, tokens: &[Spanned]) -> Result<(Datum, &[Spanned]), Halt>
-    ensures { Gives (λ r. (r.0, bare r.1.now)) result (datum_at (bare tokens.now)) }
-{
-    let (name, tokens) = name(alloc, tokens)?;
-    let tokens = fixed(tokens, FixedText::Initial)?;
-    let (value, tokens) = number(tokens)?;
-    let tokens = mark(tokens, Mark::Semicolon)?;
-    Ok((Datum { name, value }, tokens))
-}
-
-/// Variables, as many as there are, and the tokens after them.
-#[tactic(auto, using(crate::proofs::Repeats::datum_steps))]
-fn data(alloc: Global, tokens: &[Spanned]) -> Result<(Vec<Datum>, &[Spanned]), Halt>
-    ensures { Gives (λ r. (r.0.items, bare r.1.now)) result (data_at (bare tokens.now)) }
-{
-    let mut data = Vec::new(alloc);
-    let mut rest = tokens;
-    'data: while next_is_name(rest) {
-        let (next, after) = datum(alloc, rest)?;
-        data.push(next)?;
-        rest = after;
-    }
-    Ok((data, rest))
-}
 
 /// The tokens after this parameter, which is first.
 fn same_param<'a>(tokens: &'a [Spanned], param: &Param) -> Result<&'a [Spanned], Halt>
@@ -90,6 +64,14 @@ fn same_head<'a>(tokens: &'a [Spanned], sig: &OpSig) -> Result<&'a [Spanned], Ha
     same_params(tokens, &sig.params)
 }
 
+/// Variables, as many as there are, and the tokens after them.
+#[tactic(auto, unfolding(seq_read::specs::Names::may_name))]
+fn data(alloc: Global, tokens: &[Spanned]) -> Result<(Vec<Datum>, &[Spanned]), Halt>
+    ensures { Gives (λ r. (r.0.items, bare r.1.now)) result (data_at is_ada_name (bare tokens.now)) }
+{
+    seq_read::data(alloc, tokens, Text::Ada)
+}
+
 /// The longest block at the front, and the tokens after it.
 #[tactic(auto, unfolding(seq_read::specs::Names::may_name))]
 fn block(alloc: Global, tokens: &[Spanned]) -> Result<(Block, &[Spanned]), Halt>
@@ -112,7 +94,7 @@ fn operation<'a>(
     let (locals, tokens) = data(alloc, tokens)?;
     let tokens = word(tokens, b"begin")?;
     let (block, tokens) = block(alloc, tokens)?;
-    let tokens = end_of(tokens, &sig.name)?;
+    let tokens = end_of(tokens, sig.name.bytes())?;
     let sig = sig.copy(alloc)?;
     Ok((OpText { sig, locals, block }, tokens))
 }
@@ -208,7 +190,7 @@ fn body<'a>(
 {
     let tokens = body_head(tokens, head_name(head))?;
     let (form, tokens) = form(alloc, tokens, head)?;
-    let tokens = end_of(tokens, head_name(head))?;
+    let tokens = end_of(tokens, head_name(head).bytes())?;
     let name = head_name(head).copy(alloc)?;
     Ok((Unit { name, form }, tokens))
 }

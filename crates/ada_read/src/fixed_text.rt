@@ -23,8 +23,6 @@ pub(crate) enum FixedText {
     TaskHead,
     /// The declaration of a task from its priority to its end.
     TaskEnd,
-    /// What stands between the name of a variable and its first value.
-    Initial,
     /// The text from the beginning of a task's body to its offset.
     TaskBody,
     /// The text from the offset to the period.
@@ -153,12 +151,6 @@ const TASK_END: [Item; 5] = [
     Item::Sign(Mark::Semicolon),
 ];
 
-const INITIAL: [Item; 3] = [
-    Item::Sign(Mark::Colon),
-    Item::Word("word"),
-    Item::Sign(Mark::Becomes),
-];
-
 const TASK_BODY: [Item; 18] = [
     Item::Word("task"),
     Item::Word("body"),
@@ -237,7 +229,6 @@ fn items(text: FixedText) -> &'static [Item]
         FixedText::PackageBody => &PACKAGE_BODY,
         FixedText::TaskHead => &TASK_HEAD,
         FixedText::TaskEnd => &TASK_END,
-        FixedText::Initial => &INITIAL,
         FixedText::TaskBody => &TASK_BODY,
         FixedText::Delay => &DELAY,
         FixedText::Close => &CLOSE,

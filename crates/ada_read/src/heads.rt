@@ -6,9 +6,9 @@ ghost use Rattle.ada_read.specs.Heads.{head_of, head_name, seen_after};
 ghost use Rattle.ada_read.specs.Readers.{task_head_at, passive_head_at, begins_task, inner_at, head_at, begins_head, heads_at};
 
 use crate::fixed_text::{FixedText, fixed};
-use crate::names::{end_of, name};
+use crate::names::name;
 use crate::params::declarations;
-use seq_read::{Halt, number, word};
+use seq_read::{Halt, end_of, number, word};
 use seq_tree::{Name, OpSig, Spanned};
 use std::alloc::Global;
 use token_read::next_is_word;
@@ -50,7 +50,7 @@ fn task_head(name: Name, tokens: &[Spanned]) -> Result<(UnitHead, &[Spanned]), H
     let tokens = fixed(tokens, FixedText::TaskHead)?;
     let (priority, tokens) = number(tokens)?;
     let tokens = fixed(tokens, FixedText::TaskEnd)?;
-    let tokens = end_of(tokens, &name)?;
+    let tokens = end_of(tokens, name.bytes())?;
     Ok((UnitHead::Task { name, priority }, tokens))
 }
 
@@ -64,7 +64,7 @@ fn passive_head(
     ensures { Gives (λ r. (head_of r.0, bare r.1.now)) result (passive_head_at name (bare tokens.now)) }
 {
     let (sigs, tokens) = declarations(alloc, tokens)?;
-    let tokens = end_of(tokens, &name)?;
+    let tokens = end_of(tokens, name.bytes())?;
     Ok((UnitHead::Passive { name, sigs }, tokens))
 }
 

@@ -1,69 +1,36 @@
 ghost use Rattle.std.specs.Prelude.{◌≡◌, map};
 ghost use Rattle.seq_tree.specs.Trees.{signature_of};
+ghost use Rattle.ada_tree.specs.Words.{is_ada_name};
 ghost use Rattle.token_read.specs.Words.{bare};
 ghost use Rattle.seq_read.specs.Halts.{Gives};
-ghost use Rattle.ada_read.specs.Readers.{mode_at, param_at, more_param_at, params_from_at, listed_at, unlisted_at, params_at, declaration_at, declarations_at};
+ghost use Rattle.seq_read.specs.Parts.{param_at, params_from_at};
+ghost use Rattle.ada_read.specs.Readers.{listed_at, unlisted_at, params_at, declaration_at, declarations_at};
 
 use crate::fixed_text::{FixedText, fixed};
 use crate::names::name;
-use seq_read::{Halt, mark, word};
-use seq_tree::{Mark, Mode, OpSig, Param, Spanned};
+use seq_read::{Halt, Text, mark, word};
+use seq_tree::{Mark, OpSig, Param, Spanned};
 use std::alloc::Global;
 use token_read::{next_is_mark, next_is_word};
 
-/// The mode that is first, and the tokens after it.
-#[tactic(auto, unfolding(crate::specs::Readers::mode_at, token_read::specs::Readers::fixed_at))]
-fn mode(tokens: &[Spanned]) -> Result<(Mode, &[Spanned]), Halt>
-    ensures { Gives (λ r. (r.0, bare r.1.now)) result (mode_at (bare tokens.now)) }
-{
-    if next_is_word(tokens, b"in") {
-        let tokens = word(tokens, b"in")?;
-        Ok((Mode::In, tokens))
-    } else {
-        let tokens = word(tokens, b"out")?;
-        Ok((Mode::Out, tokens))
-    }
-}
-
 /// A parameter, and the tokens after it.
-#[tactic(auto, unfolding(crate::specs::Readers::param_at))]
+#[tactic(auto, unfolding(seq_read::specs::Names::may_name))]
 fn param(alloc: Global, tokens: &[Spanned]) -> Result<(Param, &[Spanned]), Halt>
-    ensures { Gives (λ r. (r.0, bare r.1.now)) result (param_at (bare tokens.now)) }
+    ensures { Gives (λ r. (r.0, bare r.1.now)) result (param_at is_ada_name (bare tokens.now)) }
 {
-    let (name, tokens) = name(alloc, tokens)?;
-    let tokens = mark(tokens, Mark::Colon)?;
-    let (mode, tokens) = mode(tokens)?;
-    let tokens = word(tokens, b"word")?;
-    Ok((Param { name, mode }, tokens))
-}
-
-/// A further parameter, and the tokens after it.
-#[tactic(auto, unfolding(crate::specs::Readers::more_param_at))]
-fn more_param(alloc: Global, tokens: &[Spanned]) -> Result<(Param, &[Spanned]), Halt>
-    ensures { Gives (λ r. (r.0, bare r.1.now)) result (more_param_at (bare tokens.now)) }
-{
-    let tokens = mark(tokens, Mark::Semicolon)?;
-    param(alloc, tokens)
+    seq_read::param(alloc, tokens, Text::Ada)
 }
 
 /// All parameters from this first one on, and the tokens after them.
-#[tactic(auto, using(crate::proofs::Repeats::param_steps))]
+#[tactic(auto, unfolding(seq_read::specs::Names::may_name))]
 fn params_from(
     alloc: Global,
     tokens: &[Spanned],
     head: Param,
 ) -> Result<(Vec<Param>, &[Spanned]), Halt>
-    ensures { Gives (λ r. (r.0.items, bare r.1.now)) result (params_from_at head (bare tokens.now)) }
+    ensures { Gives (λ r. (r.0.items, bare r.1.now)) result (params_from_at is_ada_name head (bare tokens.now)) }
 {
-    let mut params = Vec::new(alloc);
-    params.push(head)?;
-    let mut rest = tokens;
-    'params: while next_is_mark(rest, Mark::Semicolon) {
-        let (next, after) = more_param(alloc, rest)?;
-        params.push(next)?;
-        rest = after;
-    }
-    Ok((params, rest))
+    seq_read::params_from(alloc, tokens, Text::Ada, head)
 }
 
 /// Parameters, one at least, and the tokens after the end of their declaration.

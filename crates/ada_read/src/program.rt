@@ -8,9 +8,9 @@ ghost use Rattle.ada_read.specs.Readers.{ada_block_at, cost_at, costs_at, servic
 use crate::bodies::{bodies, body_head};
 use crate::fixed_text::{CostName, FixedText, cost_name, fixed};
 use crate::heads::heads;
-use crate::names::{end_of, name};
+use crate::names::name;
 use ada_tree::{AdaProgram, Unit};
-use seq_read::{Halt, mark, number, word};
+use seq_read::{Halt, end_of, mark, number, word};
 use seq_tree::{Costs, Mark, Name, Spanned};
 use std::alloc::Global;
 
@@ -71,10 +71,10 @@ fn units<'a>(
     ensures { Gives (λ r. (map unit_of r.0.items, bare r.1.now)) result (units_at ada_block_at name.now (bare tokens.entry.now)) }
 {
     let (heads, tokens) = heads(alloc, tokens)?;
-    let tokens = end_of(tokens, name)?;
+    let tokens = end_of(tokens, name.bytes())?;
     let tokens = body_head(tokens, name)?;
     let (units, tokens) = bodies(alloc, tokens, &heads)?;
-    let tokens = end_of(tokens, name)?;
+    let tokens = end_of(tokens, name.bytes())?;
     Ok((units, tokens))
 }
 

@@ -1,4 +1,3 @@
-pub mod Sets
 pub mod Parts
 pub mod Lists
 pub mod Clashes

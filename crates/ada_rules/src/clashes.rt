@@ -3,11 +3,11 @@ ghost use Rattle.seq_tree.specs.Names.{Name as NameTree, same_name, is_named};
 ghost use Rattle.ada_rules.specs.Clashes.{are_new, clashes_at, clashes_in, clashes_inside, front, inside_after};
 ghost use Rattle.ada_rules.specs.Lists.{names_of};
 ghost use Rattle.ada_rules.specs.Parts.{body_of, part_of};
-ghost use Rattle.ada_rules.specs.Sets.{has};
+ghost use Rattle.name_sets.specs.Sets.{has};
 
 use crate::lists::body_names;
 use crate::parts::{BodyView, Part, parts_of};
-use crate::sets::Names;
+use name_sets::Names;
 use seq_tree::{Name, NoMemory};
 use std::alloc::Global;
 

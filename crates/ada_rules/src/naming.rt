@@ -7,15 +7,15 @@ ghost use Rattle.ada_rules.specs.Clashes.{clashes_inside};
 ghost use Rattle.ada_rules.specs.Firsts.{IsFirst};
 ghost use Rattle.ada_rules.specs.Lists.{names_of};
 ghost use Rattle.ada_rules.specs.Parts.{body_of};
-ghost use Rattle.ada_rules.specs.Sets.{has, has_op};
+ghost use Rattle.name_sets.specs.Sets.{has, has_op};
 ghost use Rattle.ada_rules.specs.UnitTests.{breaks_names, unit_clashes};
 
 use crate::clashes::{add_new, body_clashes};
 use crate::lists::{calls_of, inner_names, own_names};
 use crate::ops::{Offered, any_missing, ops_of};
 use crate::parts::{BodyView, bodies_of};
-use crate::sets::{Names, Ops};
 use ada_tree::{AdaProgram, Form, Unit};
+use name_sets::{Names, Ops};
 use seq_tree::{Name, NoMemory};
 use std::alloc::Global;
 

@@ -1,2 +1,4 @@
+pub mod NodeSteps
 pub mod LoneLaws
+pub mod LoneTests
 pub mod Guarantees

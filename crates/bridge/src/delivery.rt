@@ -54,6 +54,11 @@ pub enum Refusal {
     Text(TextFault),
     /// The design breaks this rule; never for want of memory.
     Rule(Broken),
+    /// No text is made of such designs so far.
+    NotBuilt {
+        /// Its root.
+        object: Name,
+    },
     /// A thread has a value over its limit, so that no bounds can be given.
     Miss {
         /// The thread.

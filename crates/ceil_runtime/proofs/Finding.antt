@@ -14,9 +14,9 @@ use Rattle.ada_tree.specs.declared.program.Form.TheVariants as form
 use Rattle.ada_tree.specs.Programs.{Unit}
 use Rattle.machine.specs.Systems.{Library, op_named}
 use Rattle.ceil_runtime.specs.Callable.{op_in, op_of}
-use Rattle.ceil_runtime.specs.Threads.{libraries_from}
+use Rattle.ceil_runtime.specs.Libraries.{libraries_from}
 use Rattle.ceil_runtime.proofs.Stacks.{not_true}
-use Rattle.ceil_runtime.proofs.Tasks.{units-at}
+use Rattle.ceil_runtime.proofs.UnitsAt.{units-at}
 
 -- an item that is found is the same, from wherever places are counted
 pub found-anywhere : {A : Type 0} (n m : ℕ) (test : A → Bool) (xs : List A) → option_map (λ (x : ℕ × A). x.1) (first_from n test xs) ≡ option_map (λ (x : ℕ × A). x.1) (first_from m test xs)

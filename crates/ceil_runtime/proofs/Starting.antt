@@ -1,5 +1,5 @@
 -- What starts after an effect: how many ticks, and how many effects and events may follow.
-use Rattle.std.proofs.Common.{◌≡◌, ℕ, suc, ◌+◌, ◌-◌, ◌*◌, ◌≤◌, ◌<◌, Bool, true, false, ◌||◌, List, [], ◌∷◌, min, length, fold, map, refl, ap, sym, ◌∙◌, arith, nat_lt, Option, Some, None}
+use Rattle.std.proofs.Common.{◌≡◌, ℕ, suc, ◌+◌, ◌≤◌, ◌<◌, Bool, true, false, ◌||◌, List, [], ◌∷◌, min, length, fold, map, refl, ap, sym, ◌∙◌, arith, nat_lt, Option, Some, None}
 use Rattle.std.specs.Prelude.{◌==◌, if◌then◌else◌, nat_le}
 use Rattle.seq_tree.specs.Names.{Name}
 use Rattle.seq_tree.specs.Expressions.{Expression}
@@ -10,10 +10,10 @@ use Rattle.seq_tree.specs.Variables.{Variables}
 use Rattle.seq_tree.specs.declared.tree.Costs.{Costs}
 use Rattle.ada_tree.specs.Ranges.{costs_break, is_outside}
 use Rattle.machine.specs.Systems.{System, Library, Callee, Plain, Protected, Request, Unknown, callee}
-use Rattle.machine.specs.Pieces.{Piece, Idle, Store, Leaving, Calling, Working, Printing, Testing, Turning, Turned, Returning, Closing, Keeping, Opening, Requested, Finishing, pieces, pieces_of, branch_pieces, turns}
+use Rattle.machine.specs.Pieces.{Piece, Idle, Store, Leaving, Calling, Working, Printing, Testing, Turning, Turned, Returning, Closing, Keeping, Opening, Requested, Finishing, pieces, pieces_of, branch_pieces, turns, work_ticks}
 use Rattle.machine.specs.Deeds as deeds
 use Rattle.machine.specs.Deeds.{Deed, called, done}
-use Rattle.ceil_runtime.specs.Effort.{ends_among, effort, first_ticks, first_works}
+use Rattle.ceil_runtime.specs.Effort.{IsLong, ends_among, effort, first_ticks, first_works}
 use Rattle.ceil_runtime.specs.Fitting.{FitsFirst, place_of}
 use Rattle.ceil_runtime.specs.Left.{first_tells}
 use Rattle.ceil_runtime.specs.Doing.{Does}
@@ -142,35 +142,40 @@ effort-most most (Finishing ∷ ps) h = omega (arith, h)
 pub none-left : (t : Thread) (fs : List Frame) → FitsFirst (place_of (first_place t) fs) None → behind fs ≡ []
 none-left t fs h = ap behind (first-frame t fs h)
 
+-- a `work` takes a tick, whatever is handed to it
+work-long : (n : ℕ) (d : Option ℕ) → 0 < n → IsLong d → 0 < work_ticks n d
+work-long n None h long = h
+work-long n (Some k) h long = omega (arith, h, long)
+
 -- a piece without ticks is the end of a turn or of a body
-quiet : (c : Costs) (most : ℕ) (t : Thread) (first : Option rust.Piece) (fs : List Frame) → AreTicking c → FitsFirst (place_of (first_place t) fs) first
-    → first_ticks c (started first (kept fs)) ≡ 0 → effort most (started first (kept fs)) ≤ ends_among (started first (kept fs))
-quiet c most t None fs ticks h none = rw (none-left t fs h) (omega arith)
-quiet c most t (Some is.Idle) fs ticks h none = absurd (omega (arith, none, ticks.«nothing»))
-quiet c most t (Some (is.Store target e)) fs ticks h none = absurd (omega (arith, none, ticks.assign))
-quiet c most t (Some (is.Leaving condition)) fs ticks h none = absurd (omega (arith, none, ticks.test))
-quiet c most t (Some (is.Calling object op actuals)) fs ticks h none = absurd (omega (arith, none, ticks.call))
-quiet c most t (Some (is.Working n)) fs ticks h none = absurd (omega (arith, none, h))
-quiet c most t (Some (is.Printing e)) fs ticks h none = absurd (omega (arith, none, ticks.put))
-quiet c most t (Some (is.Testing arm arms other)) fs ticks h none = absurd (omega (arith, none, ticks.test))
-quiet c most t (Some (is.Turning r)) fs ticks h none = absurd (omega (arith, none, ticks.turn))
-quiet c most t (Some (is.Turned r)) fs ticks h none = omega arith
-quiet c most t (Some (is.Returning call)) fs ticks h none = omega arith
-quiet c most t (Some is.Finishing) fs ticks h none = absurd (omega (arith, none, ticks.finish))
+quiet : (c : Costs) (d : Option ℕ) (most : ℕ) (t : Thread) (first : Option rust.Piece) (fs : List Frame) → AreTicking c → IsLong d → FitsFirst (place_of (first_place t) fs) first
+    → first_ticks c d (started first (kept fs)) ≡ 0 → effort most (started first (kept fs)) ≤ ends_among (started first (kept fs))
+quiet c d most t None fs ticks long h none = rw (none-left t fs h) (omega arith)
+quiet c d most t (Some is.Idle) fs ticks long h none = absurd (omega (arith, none, ticks.«nothing»))
+quiet c d most t (Some (is.Store target e)) fs ticks long h none = absurd (omega (arith, none, ticks.assign))
+quiet c d most t (Some (is.Leaving condition)) fs ticks long h none = absurd (omega (arith, none, ticks.test))
+quiet c d most t (Some (is.Calling object op actuals)) fs ticks long h none = absurd (omega (arith, none, ticks.call))
+quiet c d most t (Some (is.Working n)) fs ticks long h none = absurd (let some = work-long n d h long in omega (arith, none, some))
+quiet c d most t (Some (is.Printing e)) fs ticks long h none = absurd (omega (arith, none, ticks.put))
+quiet c d most t (Some (is.Testing arm arms other)) fs ticks long h none = absurd (omega (arith, none, ticks.test))
+quiet c d most t (Some (is.Turning r)) fs ticks long h none = absurd (omega (arith, none, ticks.turn))
+quiet c d most t (Some (is.Turned r)) fs ticks long h none = omega arith
+quiet c d most t (Some (is.Returning call)) fs ticks long h none = omega arith
+quiet c d most t (Some is.Finishing) fs ticks long h none = absurd (omega (arith, none, ticks.finish))
 
 -- what starts with a piece does not depend on what stands behind it
-pub same-ticks : (c : Costs) (q : rust.Piece) (away : Variables) (ps : List Piece) → first_ticks c (piece_of q [] ∷ []) ≡ first_ticks c (piece_of q away ∷ ps)
-same-ticks c is.Idle away ps = refl
-same-ticks c (is.Store target e) away ps = refl
-same-ticks c (is.Leaving condition) away ps = refl
-same-ticks c (is.Calling object op actuals) away ps = refl
-same-ticks c (is.Working n) away ps = refl
-same-ticks c (is.Printing e) away ps = refl
-same-ticks c (is.Testing arm arms other) away ps = refl
-same-ticks c (is.Turning r) away ps = refl
-same-ticks c (is.Turned r) away ps = refl
-same-ticks c (is.Returning call) away ps = refl
-same-ticks c is.Finishing away ps = refl
+pub same-ticks : (c : Costs) (d : Option ℕ) (q : rust.Piece) (away : Variables) (ps : List Piece) → first_ticks c d (piece_of q [] ∷ []) ≡ first_ticks c d (piece_of q away ∷ ps)
+same-ticks c d is.Idle away ps = refl
+same-ticks c d (is.Store target e) away ps = refl
+same-ticks c d (is.Leaving condition) away ps = refl
+same-ticks c d (is.Calling object op actuals) away ps = refl
+same-ticks c d (is.Working n) away ps = refl
+same-ticks c d (is.Printing e) away ps = refl
+same-ticks c d (is.Testing arm arms other) away ps = refl
+same-ticks c d (is.Turning r) away ps = refl
+same-ticks c d (is.Turned r) away ps = refl
+same-ticks c d (is.Returning call) away ps = refl
+same-ticks c d is.Finishing away ps = refl
 
 pub same-works : (q : rust.Piece) (away : Variables) (ps : List Piece) → first_works (piece_of q [] ∷ []) ≡ first_works (piece_of q away ∷ ps)
 same-works is.Idle away ps = refl
@@ -186,20 +191,20 @@ same-works (is.Returning call) away ps = refl
 same-works is.Finishing away ps = refl
 
 -- a `work` statement that starts takes a tick
-pub works-tick : (c : Costs) (t : Thread) (first : Option rust.Piece) (fs : List Frame) → FitsFirst (place_of (first_place t) fs) first
-    → first_works (started first (kept fs)) ≤ min (first_ticks c (started first (kept fs))) 1
-works-tick c t None fs h = rw (none-left t fs h) (omega arith)
-works-tick c t (Some is.Idle) fs h = omega arith
-works-tick c t (Some (is.Store target e)) fs h = omega arith
-works-tick c t (Some (is.Leaving condition)) fs h = omega arith
-works-tick c t (Some (is.Calling object op actuals)) fs h = omega arith
-works-tick c t (Some (is.Working n)) fs h = omega (arith, h)
-works-tick c t (Some (is.Printing e)) fs h = omega arith
-works-tick c t (Some (is.Testing arm arms other)) fs h = omega arith
-works-tick c t (Some (is.Turning r)) fs h = omega arith
-works-tick c t (Some (is.Turned r)) fs h = omega arith
-works-tick c t (Some (is.Returning call)) fs h = omega arith
-works-tick c t (Some is.Finishing) fs h = omega arith
+pub works-tick : (c : Costs) (d : Option ℕ) (t : Thread) (first : Option rust.Piece) (fs : List Frame) → IsLong d → FitsFirst (place_of (first_place t) fs) first
+    → first_works (started first (kept fs)) ≤ min (first_ticks c d (started first (kept fs))) 1
+works-tick c d t None fs long h = rw (none-left t fs h) (omega arith)
+works-tick c d t (Some is.Idle) fs long h = omega arith
+works-tick c d t (Some (is.Store target e)) fs long h = omega arith
+works-tick c d t (Some (is.Leaving condition)) fs long h = omega arith
+works-tick c d t (Some (is.Calling object op actuals)) fs long h = omega arith
+works-tick c d t (Some (is.Working n)) fs long h = let some = work-long n d h long in omega (arith, some)
+works-tick c d t (Some (is.Printing e)) fs long h = omega arith
+works-tick c d t (Some (is.Testing arm arms other)) fs long h = omega arith
+works-tick c d t (Some (is.Turning r)) fs long h = omega arith
+works-tick c d t (Some (is.Turned r)) fs long h = omega arith
+works-tick c d t (Some (is.Returning call)) fs long h = omega arith
+works-tick c d t (Some is.Finishing) fs long h = omega arith
 
 if_zero : (b : Bool) → ◌≡◌ {A = ℕ} (if b then 0 else 0) 0
 if_zero true = refl
@@ -209,26 +214,26 @@ ticks_left : (n k : ℕ) → 0 < n → (if n == 0 then k else 0) ≡ 0
 ticks_left n k h = let some : (n == 0) ≡ false = grind arith in rw some refl
 
 -- what starts tells nothing before its ticks are used
-later : (c : Costs) (qs : List Piece) → AreTicking c → (if first_ticks c qs == 0 then first_tells qs else 0) ≡ 0
-later c [] t = refl
-later c (Idle ∷ ps) t = if_zero (first_ticks c (Idle ∷ ps) == 0)
-later c (Store target e ∷ ps) t = if_zero (first_ticks c (Store target e ∷ ps) == 0)
-later c (Leaving condition ∷ ps) t = if_zero (first_ticks c (Leaving condition ∷ ps) == 0)
-later c (Calling unit op actuals ∷ ps) t = if_zero (first_ticks c (Calling unit op actuals ∷ ps) == 0)
-later c (Working ticks ∷ ps) t = if_zero (first_ticks c (Working ticks ∷ ps) == 0)
-later c (Printing e ∷ ps) t = ticks_left c.put 2 t.put
-later c (Testing condition block others ∷ ps) t = if_zero (first_ticks c (Testing condition block others ∷ ps) == 0)
-later c (Turning name at last body ∷ ps) t = if_zero (first_ticks c (Turning name at last body ∷ ps) == 0)
-later c (Turned name at last body ∷ ps) t = if_zero (first_ticks c (Turned name at last body ∷ ps) == 0)
-later c (Returning outs stores caller ∷ ps) t = if_zero (first_ticks c (Returning outs stores caller ∷ ps) == 0)
-later c (Closing object op vars outs stores caller ∷ ps) t = if_zero (first_ticks c (Closing object op vars outs stores caller ∷ ps) == 0)
-later c (Keeping task v ∷ ps) t = if_zero (first_ticks c (Keeping task v ∷ ps) == 0)
-later c (Opening task ∷ ps) t = if_zero (first_ticks c (Opening task ∷ ps) == 0)
-later c (Requested task v ∷ ps) t = if_zero (first_ticks c (Requested task v ∷ ps) == 0)
-later c (Finishing ∷ ps) t = ticks_left c.finish 2 t.finish
+later : (c : Costs) (d : Option ℕ) (qs : List Piece) → AreTicking c → (if first_ticks c d qs == 0 then first_tells qs else 0) ≡ 0
+later c d [] t = refl
+later c d (Idle ∷ ps) t = if_zero (first_ticks c d (Idle ∷ ps) == 0)
+later c d (Store target e ∷ ps) t = if_zero (first_ticks c d (Store target e ∷ ps) == 0)
+later c d (Leaving condition ∷ ps) t = if_zero (first_ticks c d (Leaving condition ∷ ps) == 0)
+later c d (Calling unit op actuals ∷ ps) t = if_zero (first_ticks c d (Calling unit op actuals ∷ ps) == 0)
+later c d (Working ticks ∷ ps) t = if_zero (first_ticks c d (Working ticks ∷ ps) == 0)
+later c d (Printing e ∷ ps) t = ticks_left c.put 2 t.put
+later c d (Testing condition block others ∷ ps) t = if_zero (first_ticks c d (Testing condition block others ∷ ps) == 0)
+later c d (Turning name at last body ∷ ps) t = if_zero (first_ticks c d (Turning name at last body ∷ ps) == 0)
+later c d (Turned name at last body ∷ ps) t = if_zero (first_ticks c d (Turned name at last body ∷ ps) == 0)
+later c d (Returning outs stores caller ∷ ps) t = if_zero (first_ticks c d (Returning outs stores caller ∷ ps) == 0)
+later c d (Closing object op vars outs stores caller ∷ ps) t = if_zero (first_ticks c d (Closing object op vars outs stores caller ∷ ps) == 0)
+later c d (Keeping task v ∷ ps) t = if_zero (first_ticks c d (Keeping task v ∷ ps) == 0)
+later c d (Opening task ∷ ps) t = if_zero (first_ticks c d (Opening task ∷ ps) == 0)
+later c d (Requested task v ∷ ps) t = if_zero (first_ticks c d (Requested task v ∷ ps) == 0)
+later c d (Finishing ∷ ps) t = ticks_left c.finish 2 t.finish
 
-pub tells-later : (c : Costs) (n : ℕ) (qs : List Piece) → costs_break c ≡ false → n ≡ first_ticks c qs → (if n == 0 then first_tells qs else 0) ≡ 0
-tells-later c n qs t e = ap (λ k. if k == 0 then first_tells qs else 0) e ∙ later c qs (ticking c t)
+pub tells-later : (c : Costs) (d : Option ℕ) (n : ℕ) (qs : List Piece) → costs_break c ≡ false → n ≡ first_ticks c d qs → (if n == 0 then first_tells qs else 0) ≡ 0
+tells-later c d n qs t e = ap (λ k. if k == 0 then first_tells qs else 0) e ∙ later c d qs (ticking c t)
 
 pub tells-now : (l k f : ℕ) → l ≡ 0 → f ≡ k → (if l == 0 then f else 0) ≡ k
 tells-now l k f e h = rw e h
@@ -292,39 +297,33 @@ tells-finish ls (Requested task v) vs vs' ps qs h = let t = ap (λ d. d.act) (h 
 tells-finish ls Finishing vs vs' ps qs h = refl
 
 -- effects without ticks between them come to an end
-module _ (c : Costs) (most : ℕ) (ls : List Library) (t : Thread) (first : Option rust.Piece) (fs : List Frame) (ticking' : costs_break c ≡ false)
-    (fits : FitsFirst (place_of (first_place t) fs) first) (few : ends_among (started first (kept fs)) < most) (none : first_ticks c (started first (kept fs)) ≡ 0) where
+module _ (c : Costs) (d : Option ℕ) (most : ℕ) (ls : List Library) (t : Thread) (first : Option rust.Piece) (fs : List Frame) (ticking' : costs_break c ≡ false) (long : IsLong d)
+    (fits : FitsFirst (place_of (first_place t) fs) first) (few : ends_among (started first (kept fs)) < most) (none : first_ticks c d (started first (kept fs)) ≡ 0) where
   pub effort-falls : (p : Piece) (vs vs' : Variables) (ps : List Piece) (act : Act) → Does ls p vs ps act vs' (started first (kept fs))
       → effort most (started first (kept fs)) < effort most (p ∷ ps)
-  effort-falls Idle vs vs' ps act does = let calm = quiet c most t first fs (ticking c ticking') fits none in omega (arith, calm, few)
-  effort-falls (Store target e) vs vs' ps act does = let calm = quiet c most t first fs (ticking c ticking') fits none in omega (arith, calm, few)
-  effort-falls (Leaving condition) vs vs' ps act does = let calm = quiet c most t first fs (ticking c ticking') fits none in omega (arith, calm, few)
-  effort-falls (Calling unit op actuals) vs vs' ps act does = let calm = quiet c most t first fs (ticking c ticking') fits none in omega (arith, calm, few)
-  effort-falls (Working ticks) vs vs' ps act does = let calm = quiet c most t first fs (ticking c ticking') fits none in omega (arith, calm, few)
-  effort-falls (Printing e) vs vs' ps act does = let calm = quiet c most t first fs (ticking c ticking') fits none in omega (arith, calm, few)
-  effort-falls (Testing condition block others) vs vs' ps act does = let calm = quiet c most t first fs (ticking c ticking') fits none in omega (arith, calm, few)
-  effort-falls (Turning name at last body) vs vs' ps act does = let calm = quiet c most t first fs (ticking c ticking') fits none in omega (arith, calm, few)
+  effort-falls Idle vs vs' ps act does = let calm = quiet c d most t first fs (ticking c ticking') long fits none in omega (arith, calm, few)
+  effort-falls (Store target e) vs vs' ps act does = let calm = quiet c d most t first fs (ticking c ticking') long fits none in omega (arith, calm, few)
+  effort-falls (Leaving condition) vs vs' ps act does = let calm = quiet c d most t first fs (ticking c ticking') long fits none in omega (arith, calm, few)
+  effort-falls (Calling unit op actuals) vs vs' ps act does = let calm = quiet c d most t first fs (ticking c ticking') long fits none in omega (arith, calm, few)
+  effort-falls (Working ticks) vs vs' ps act does = let calm = quiet c d most t first fs (ticking c ticking') long fits none in omega (arith, calm, few)
+  effort-falls (Printing e) vs vs' ps act does = let calm = quiet c d most t first fs (ticking c ticking') long fits none in omega (arith, calm, few)
+  effort-falls (Testing condition block others) vs vs' ps act does = let calm = quiet c d most t first fs (ticking c ticking') long fits none in omega (arith, calm, few)
+  effort-falls (Turning name at last body) vs vs' ps act does = let calm = quiet c d most t first fs (ticking c ticking') long fits none in omega (arith, calm, few)
   effort-falls (Turned name at last body) vs vs' ps act does =
-      let calm = quiet c most t first fs (ticking c ticking') fits none in
+      let calm = quiet c d most t first fs (ticking c ticking') long fits none in
       let same : ends_among (started first (kept fs)) ≡ ends_among ps = sym (ap (λ d. ends_among d.pieces) (does (alone ls) refl)) ∙ ends_turns (nat_le (suc at) last) name (suc at) last body ps refl in
       omega (arith, calm, same)
   effort-falls (Returning outs stores caller) vs vs' ps act does =
-      let calm = quiet c most t first fs (ticking c ticking') fits none in
+      let calm = quiet c d most t first fs (ticking c ticking') long fits none in
       let same : ends_among (started first (kept fs)) ≡ ends_among ps = sym (ap (λ d. ends_among d.pieces) (does (alone ls) refl)) in
       omega (arith, calm, same)
-  effort-falls (Closing object op vars outs stores caller) vs vs' ps act does = let calm = quiet c most t first fs (ticking c ticking') fits none in omega (arith, calm, few)
-  effort-falls (Keeping task v) vs vs' ps act does = let calm = quiet c most t first fs (ticking c ticking') fits none in omega (arith, calm, few)
-  effort-falls (Opening task) vs vs' ps act does = let calm = quiet c most t first fs (ticking c ticking') fits none in omega (arith, calm, few)
-  effort-falls (Requested task v) vs vs' ps act does = let calm = quiet c most t first fs (ticking c ticking') fits none in omega (arith, calm, few)
-  effort-falls Finishing vs vs' ps act does = let calm = quiet c most t first fs (ticking c ticking') fits none in omega (arith, calm, few)
+  effort-falls (Closing object op vars outs stores caller) vs vs' ps act does = let calm = quiet c d most t first fs (ticking c ticking') long fits none in omega (arith, calm, few)
+  effort-falls (Keeping task v) vs vs' ps act does = let calm = quiet c d most t first fs (ticking c ticking') long fits none in omega (arith, calm, few)
+  effort-falls (Opening task) vs vs' ps act does = let calm = quiet c d most t first fs (ticking c ticking') long fits none in omega (arith, calm, few)
+  effort-falls (Requested task v) vs vs' ps act does = let calm = quiet c d most t first fs (ticking c ticking') long fits none in omega (arith, calm, few)
+  effort-falls Finishing vs vs' ps act does = let calm = quiet c d most t first fs (ticking c ticking') long fits none in omega (arith, calm, few)
 
--- a silent effect is followed by fewer effects of the same time
-pub nears-silent : (k l l' e e' : ℕ) → l ≡ 0 → (l' ≡ 0 → e' < e) → 0 < e → k + (3 + ((if l' == 0 then e' else 0) + 0)) < k + (3 + ((if l == 0 then e else 0) + 0))
-nears-silent k l l' e e' used falls some = by_test (l' == 0) refl where
-  by_test : (b : Bool) → (l' == 0) ≡ b → k + (3 + ((if l' == 0 then e' else 0) + 0)) < k + (3 + ((if l == 0 then e else 0) + 0))
-  by_test true h = let zero_is : l' ≡ 0 = grind arith in rw (h, used) (omega (arith, falls zero_is))
-  by_test false h = rw (h, used) (omega (arith, some))
-
+-- each piece counts
 pub some-effort : (most : ℕ) (p : Piece) (ps : List Piece) → 0 < most → 0 < effort most (p ∷ ps)
 some-effort most Idle ps h = omega (arith, h)
 some-effort most (Store target e) ps h = omega (arith, h)
@@ -341,13 +340,3 @@ some-effort most (Keeping task v) ps h = omega (arith, h)
 some-effort most (Opening task) ps h = omega (arith, h)
 some-effort most (Requested task v) ps h = omega (arith, h)
 some-effort most Finishing ps h = omega (arith, h)
-
--- the effects of an instant are fewer than the steps of a tick
-pub nears-use : (most until time l e : ℕ) → time + 1 ≤ until → e ≤ most → (until - (time + 1)) * (most + 4) + (3 + ((if l == 0 then e else 0) + 0)) < (until - time) * (most + 4) + 0
-nears-use most until time l e h few =
-    let each : (if l == 0 then e else 0) ≤ most = at_most (l == 0) in
-    let next : until - time ≡ (until - (time + 1)) + 1 = omega arith in
-    rw next (omega (arith, each)) where
-      at_most : (b : Bool) → (if b then e else 0) ≤ most
-      at_most true = few
-      at_most false = omega arith

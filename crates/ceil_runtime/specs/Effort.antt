@@ -1,15 +1,19 @@
 -- What starts with the first of the pieces left, and how many pieces without ticks may follow each other.
--- No durations are handed to a run so far.
-use Rattle.std.specs.Prelude.{ℕ, suc, ◌+◌, List, [], ◌∷◌, None, length, map, sum}
+-- A `work` takes the smaller of its number and the next duration that is handed in for the task, where there is one.
+use Rattle.std.specs.Prelude.{ℕ, suc, ◌+◌, ◌<◌, IfSome, List, [], ◌∷◌, Option, length, map, sum}
 use Rattle.seq_tree.specs.declared.tree.Costs.{Costs}
 use Rattle.machine.specs.Pieces.{Piece, Turned, Returning, ticks_of, works_of}
 use Rattle.machine.specs.Systems.{System}
 use Rattle.ceil_runtime.specs.Callable.{calls_room}
 
--- the ticks of the first piece
-abbrev pub first_ticks : Costs → List Piece → ℕ
-first_ticks costs [] = 0
-first_ticks costs (p ∷ ps) = ticks_of costs None p
+-- the ticks of the first piece, with the duration that a `work` is handed
+abbrev pub first_ticks : Costs → Option ℕ → List Piece → ℕ
+first_ticks costs duration [] = 0
+first_ticks costs duration (p ∷ ps) = ticks_of costs duration p
+
+-- a duration, where one is handed in, is of some ticks
+abbrev pub IsLong : Option ℕ → Type 0
+IsLong duration = IfSome duration (λ n. 0 < n)
 
 -- how many `work` statements start with it
 abbrev pub first_works : List Piece → ℕ

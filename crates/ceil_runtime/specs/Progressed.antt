@@ -1,6 +1,6 @@
 -- What a task of the machine has left.
 -- The piece in hand comes first, and behind it those of the frames, the innermost first.
-use Rattle.std.specs.Prelude.{List}
+use Rattle.std.specs.Prelude.{Bool, true, false, List, [], ◌∷◌}
 use Rattle.seq_tree.specs.Variables.{Variables}
 use Rattle.machine.specs.Pieces.{Piece}
 use Rattle.ceil_runtime.specs.Stacked.{vars_of}
@@ -14,3 +14,8 @@ vars_left p = vars_of p.stack.vars.items
 -- its pieces
 abbrev pub pieces_left : Progress → List Piece
 pieces_left p = started p.piece (kept p.stack.frames.items)
+
+-- whether there are no pieces
+abbrev pub is_idle : List Piece → Bool
+is_idle [] = true
+is_idle (p ∷ ps) = false

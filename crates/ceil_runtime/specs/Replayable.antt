@@ -1,19 +1,20 @@
 -- What is asked of a program and its arrivals before a run: all that their readers promise.
--- The part of the language is the one that is built so far: one cyclic task among passive units.
+-- The part of the language is the one that is built so far: cyclic tasks among passive units.
+use Rattle.std.specs.Prelude.{◌≡◌, true}
+use Rattle.std.specs.List.{list_all}
 use Rattle.ada_tree.specs.Programs.{Program}
 use Rattle.seq_tree.specs.Proper.{within_limits}
 use Rattle.ada_tree.specs.Words.{is_ada_name}
 use Rattle.ada_tree.specs.Proper.{IsProperProgram}
 use Rattle.ada_tree.specs.Rules.{MeetsRules}
-use Rattle.ada_tree.specs.InUse.{IsSequentialProgram}
+use Rattle.ada_tree.specs.InUse.{is_sequential}
 use Rattle.arrivals_tree.specs.Arriving.{Arrivals}
 use Rattle.arrivals_tree.specs.Acceptance.{IsAccepted}
-use Rattle.arrivals_tree.specs.InUse.{AreUsableArrivals, horizon_limit}
+use Rattle.arrivals_tree.specs.InUse.{horizon_limit}
 
 -- a program and arrivals that can be run
 pub record IsReplayable (p : Program) (a : Arrivals) : Type 0 where
   pub proper : IsProperProgram (within_limits is_ada_name) p
   pub meets : MeetsRules p
-  pub usable : IsSequentialProgram p
+  pub usable : list_all (λ u. is_sequential u.form) p.units ≡ true
   pub accepted : IsAccepted horizon_limit p a
-  pub arrives : AreUsableArrivals a

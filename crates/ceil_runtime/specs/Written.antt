@@ -1,5 +1,5 @@
 -- What a task of the machine is written as, and what is known of it and of the operations that it may call.
--- It is cyclic; no durations are handed to it so far.
+-- It is cyclic.
 use Rattle.std.specs.Prelude.{◌≡◌, ℕ, ◌+◌, ◌≤◌, ◌<◌, true, false, [], ◌∷◌, List, map, length, Some}
 use Rattle.seq_tree.specs.Names.{Name, are_distinct}
 use Rattle.seq_tree.specs.Statements.{Statements}
@@ -8,11 +8,13 @@ use Rattle.seq_tree.specs.Trees.{statement_of, statements_of}
 use Rattle.seq_tree.specs.declared.tree.OpName.{OpName}
 use Rattle.ada_tree.specs.Programs.{Unit, Cyclic}
 use Rattle.ada_tree.specs.Trees.{unit_of}
+use Rattle.arrivals_tree.specs.Arriving.{Arrivals, durations}
+use Rattle.arrivals_tree.specs.declared.arrivals.WorkList.{WorkList}
 use Rattle.machine.specs.Systems as systems
 use Rattle.machine.specs.Systems.{Library}
 use Rattle.ceil_runtime.specs.Callable.{IsClear, call_room, calls_room, op_in}
 use Rattle.ceil_runtime.specs.Fitting.{FitsBlock, Place, Spot, above, in_call}
-use Rattle.ceil_runtime.specs.Threads.{libraries_from}
+use Rattle.ceil_runtime.specs.Libraries.{libraries_from}
 use Rattle.ceil_runtime.specs.declared.thread.Thread.{Thread}
 
 -- the block of a task
@@ -27,6 +29,14 @@ data_names t = map (λ d. d.name) t.data.now
 abbrev pub libraries_of : Thread → List Library
 libraries_of t = libraries_from 0 (map unit_of t.units.now)
 
+-- lists of durations alone, as they are handed to a run
+abbrev pub handed : List WorkList → Arrivals
+handed work = record { until = 0; work = map (λ w. record { task = w.task; ticks = w.ticks.items }) work; items = [] }
+
+-- its durations
+abbrev pub durations_of : Thread → List ℕ
+durations_of t = durations (handed t.work.now) t.unit
+
 -- the task as it is written
 abbrev pub thread_of : Thread → systems.Thread
 thread_of t = record {
@@ -36,7 +46,7 @@ thread_of t = record {
   timing = systems.Periodic t.offset t.period;
   vars = t.data.now;
   block = block_of_thread t;
-  durations = [];
+  durations = durations_of t;
 }
 
 -- its unit

@@ -4,7 +4,7 @@ ghost use Rattle.seq_tree.specs.Trees.{operation_of};
 ghost use Rattle.ada_tree.specs.Trees.{unit_of};
 ghost use Rattle.machine.specs.Systems.{op_named};
 ghost use Rattle.ceil_runtime.specs.Callable.{calls_room, op_in, op_name, ops_room};
-ghost use Rattle.ceil_runtime.specs.Threads.{libraries_from};
+ghost use Rattle.ceil_runtime.specs.Libraries.{libraries_from};
 
 use ada_tree::{Form, Unit};
 use seq_tree::{Name, OpText};

@@ -1,21 +1,18 @@
-ghost use Rattle.std.specs.Prelude.{◌≡◌, ◌<◌, ◌≤◌, ◌+◌, ◌++◌, ◌^◌, ◌||◌, ◌==◌, None, List, [], ◌∷◌, IfOk, Some, false, true, length, option_to_list};
-ghost use Rattle.trace_tree.specs.declared.event.Event.{Event};
-ghost use Rattle.machine.specs.Meanings.{Running, Tells, begun};
-ghost use Rattle.ada_tree.specs.Programs.{Program};
+ghost use Rattle.std.specs.Prelude.{◌≡◌, ◌<◌, ◌≤◌, ◌+◌, ◌++◌, List, length, [], false, option_to_list, Some};
 ghost use Rattle.ada_tree.specs.Ranges.{costs_break};
-ghost use Rattle.arrivals_tree.specs.Arriving.{Arrivals as Arriving};
-ghost use Rattle.machine.specs.Systems.{system};
-ghost use Rattle.trace_tree.specs.Placed.{IsPlaced};
-ghost use Rattle.ceil_runtime.specs.Counts.{ticks_before, started, is_idle};
-ghost use Rattle.ceil_runtime.specs.Progressed.{pieces_left};
+ghost use Rattle.link_queue.specs.Queues.{Each};
+ghost use Rattle.ceil_runtime.specs.Processing.{IsWithin};
 
 use crate::buffer::EventBuf;
+use crate::durations::joined;
 use crate::effects::Act;
 use crate::piece::Piece;
 use crate::progress::Progress;
-use crate::thread::task_in;
-use ada_tree::AdaProgram;
+use crate::task::Task;
+use crate::thread::{Thread, threads_in};
+use ada_tree::{AdaProgram, Unit};
 use arrivals_tree::Arrivals;
+use link_queue::Links;
 use seq_tree::{Costs, NoMemory};
 use std::alloc::Global;
 use trace_tree::Event;
@@ -47,90 +44,329 @@ enum Phase {
     Use,
 }
 
-/// The processor at work on a program of one task.
+/// How many ticks stand before the next release and the horizon.
+fn until_wake(links: &Links, time: u64, until: u64) -> u64
+    requires before { time < until }
+    requires later { Each (λ e. time < e.1) links.now.asleep }
+    ensures some { 0 < result }
+    ensures horizon { time + result ≤ until }
+    ensures wake { Each (λ e. time + result ≤ e.1) links.now.asleep }
+{
+    match links.next_wake() {
+        Some(wake) => (until - time).min(wake.saturating_sub(time)),
+        None => until - time,
+    }
+}
+
+/// At most so many ticks, and no more than are left of the piece of the first ready task.
+fn until_effect(links: &Links, tasks: &[Task], most: u64) -> u64
+    requires some { 0 < most }
+    requires known { Each (λ e. e.0 < length tasks.now) links.now.ready }
+    ensures some { 0 < result }
+    ensures most { result ≤ most }
+    ensures within { IsWithin tasks.now links.now.ready result }
+{
+    match links.head() {
+        Some((task, _)) => most.min(u64::from(tasks[task as usize].left).max(1)),
+        None => most,
+    }
+}
+
+/// How many ticks can be used at once: as many as stand before the next effect, the next release and the horizon.
+fn ticks_ahead(links: &Links, tasks: &[Task], time: u64, until: u64) -> u64
+    requires before { time < until }
+    requires later { Each (λ e. time < e.1) links.now.asleep }
+    requires known { Each (λ e. e.0 < length tasks.now) links.now.ready }
+    ensures some { 0 < result }
+    ensures horizon { time + result ≤ until }
+    ensures wake { Each (λ e. time + result ≤ e.1) links.now.asleep }
+    ensures within { IsWithin tasks.now links.now.ready result }
+{
+    until_effect(links, tasks, until_wake(links, time, until))
+}
+
+/// The processor at work on a program.
 #[derive(Drop)]
 pub struct Machine<'a> {
-    progress: Progress<'a>,
+    tasks: Vec<Task<'a>>,
+    links: Links,
+    units: &'a [Unit],
     costs: Costs,
     until: u64,
     time: u64,
     phase: Phase,
-    // whether the task used the tick before
-    ran: bool,
+    // The task that used the tick before, by its place among the tasks.
+    ran: Option<u32>,
     stopped: bool,
-    // whether the task is ready; otherwise it sleeps until its next time
-    ready: bool,
-    next: u64,
-    // the ticks left of the piece that has started
-    left: u32,
-    // the ticks used since the release
-    used: u64,
-    // the `work` statements started, and the releases
-    works: u64,
-    order: u64,
     ghost ticking: { costs_break costs ≡ false },
-    ghost near: { until ≤ 1000000 },
-    ghost in_time: { time + ticks_before phase ≤ until },
-    ghost next_near: { next ≤ until + 2 ^ 32 },
-    ghost used_ticks: { used ≤ time },
-    ghost works_ticks: { works ≤ time + started left },
-    ghost order_next: { order ≤ next },
-    ghost asleep: { (ready || is_idle (pieces_left progress)) ≡ true },
-    ghost asleep_left: { (ready || left == 0) ≡ true },
 }
 
 impl<'a> Machine<'a> {
+    ghost use Rattle.std.specs.Prelude.{◌^◌, IfOk};
     ghost use Rattle.ada_tree.specs.Trees.{program_of};
     ghost use Rattle.arrivals_tree.specs.Arriving.{arrivals_of};
-    ghost use Rattle.machine.specs.States as states;
-    ghost use Rattle.seq_tree.specs.Lists.{Each};
+    ghost use Rattle.machine.specs.Meanings.{Tells, begun};
+    ghost use Rattle.trace_tree.specs.declared.event.Event.{Event};
     ghost use Rattle.ceil_runtime.specs.Replayable.{IsReplayable};
-    ghost use Rattle.ceil_runtime.specs.Shown.{running_of};
-    ghost use Rattle.ceil_runtime.specs.Left.{left};
-    ghost use Rattle.ceil_runtime.specs.Turns.{Turned, FallsAt, KeepsCeilings};
-    ghost use Rattle.ceil_runtime.specs.Moves.{Moves, Steps, Falls, Nears, Leads, AreOf};
+    ghost use Rattle.ceil_runtime.specs.Starts.{CanStart, opened};
+    ghost use Rattle.ceil_runtime.specs.Gathering.{AllThreads};
+    ghost use Rattle.dispatching.specs.Queueing.{AreQueued, AreSleeping};
+    ghost use Rattle.ceil_runtime.specs.Left.{Falls, left};
+    ghost use Rattle.ceil_runtime.specs.Turns.{FallsAt, KeepsCeilings, Turned};
+    ghost use Rattle.ada_tree.specs.Programs.{Program};
+    ghost use Rattle.arrivals_tree.specs.Arriving.{Arrivals as Arriving};
+    ghost use Rattle.machine.specs.Systems.{system};
+    ghost use Rattle.seq_tree.specs.Lists.{Each as EachEvent};
+    ghost use Rattle.trace_tree.specs.Placed.{IsPlaced};
+    ghost use Rattle.ceil_runtime.specs.Processing.{Follows, HasPiece};
+    ghost use Rattle.ceil_runtime.specs.Shown.{IsWhole, running_of};
+    ghost use Rattle.ceil_runtime.specs.Stepping.{AreOfTask, Ends, IsNear, steps_left};
 
-    /// The opening of a program of one cyclic task under arrivals that are accepted for it. A failed allocation is the
-    /// one error.
+    /// The opening of a program of cyclic tasks and passive units under arrivals that are accepted for it. A failed allocation
+    /// is the one error.
     pub fn new(
         alloc: Global,
         program: &'a AdaProgram,
         arrivals: &'a Arrivals,
     ) -> Result<Machine<'a>, NoMemory>
         requires { IsReplayable (program_of program.now) (arrivals_of arrivals.now) }
-        ensures { IfOk result (λ m. running_of m ≡ begun (program_of program.entry.now) (arrivals_of arrivals.entry.now)) }
+        ensures opens { IfOk result (λ m. running_of m ≡ begun (program_of program.entry.now) (arrivals_of arrivals.entry.now)) }
+        ensures whole { IfOk result IsWhole }
     {
-        let thread = task_in(program.units.as_slice());
-        let progress = Progress::new(alloc, thread)?;
+        let units = program.units.as_slice();
+        let work = arrivals.work.as_slice();
+        let threads = threads_in(alloc, units, work)?;
+        let machine = Machine::open(
+            alloc,
+            units,
+            threads.as_slice(),
+            program.costs,
+            arrivals.until,
+        )?;
+        Ok(machine)
+    }
+
+    /// The opening for these tasks of a program's units: each sleeps until its offset. A failed allocation is the one error.
+    fn open(
+        alloc: Global,
+        units: &'a [Unit],
+        threads: &[Thread<'a>],
+        costs: Costs,
+        until: u64,
+    ) -> Result<Machine<'a>, NoMemory>
+        requires few { length threads.now < 2 ^ 32 }
+        requires near { until < 2 ^ 32 }
+        requires ticking { costs_break costs ≡ false }
+        requires start { AllThreads (CanStart units.now) threads.now }
+        ensures opens { IfOk result (λ m. running_of m ≡ opened until costs units.entry.now threads.entry.now) }
+        ensures whole { IfOk result IsWhole }
+    {
+        let Ok(mut links) = Links::new(alloc, threads.len() as u32) else {
+            return Err(NoMemory);
+        };
+        let mut tasks = Vec::with_capacity(alloc, threads.len())?;
+        let mut task: u32 = 0;
+        'threads: for thread in threads {
+            let progress = Progress::new(alloc, *thread)?;
+            let durations = joined(alloc, thread.work, thread.unit)?;
+            tasks.push_reserved(Task {
+                progress,
+                ready: false,
+                next: u64::from(thread.offset),
+                left: 0,
+                used: 0,
+                works: 0,
+                durations,
+            });
+            links.sleep(task, u64::from(thread.offset));
+            task += 1;
+        }
         Ok(Machine {
-            progress,
-            costs: program.costs,
-            until: arrivals.until,
+            tasks,
+            links,
+            units,
+            costs,
+            until,
             time: 0,
             phase: Phase::Effects,
-            ran: false,
+            ran: None,
             stopped: false,
-            ready: false,
-            next: u64::from(thread.offset),
-            left: 0,
-            used: 0,
-            works: 0,
-            order: 0,
         })
+    }
+
+    /// Use: the task that is dispatched uses as many ticks as stand before the next effect, release or horizon.
+    fn use_ticks(&mut self)
+        requires whole { IsWhole self.old }
+        requires phase { self.old.phase ≡ Phase.Use }
+        requires goes_on { self.old.stopped ≡ false }
+        ensures whole { IsWhole self.new }
+        ensures follows { Follows (running_of self.old) [] (running_of self.new) }
+        ensures phase { self.new.phase ≡ Phase.Effects }
+        ensures goes_on { self.new.stopped ≡ false }
+        ensures nears { steps_left self.new < steps_left self.old }
+        ensures falls { Falls (running_of self.old) [] (running_of self.new) }
+    {
+        let ticks = ticks_ahead(&self.links, self.tasks.as_slice(), self.time, self.until);
+        let head = self.links.head();
+        self.time += ticks;
+        self.phase = Phase::Effects;
+        let Some((task, _)) = head else {
+            self.ran = None;
+            return;
+        };
+        self.ran = Some(task);
+        self.tasks[task as usize].use_ticks(ticks);
+    }
+
+    /// Arrivals: there are none so far, so that the horizon is what is left of this part, where its time has come.
+    fn arriving(&mut self) -> Option<Event>
+        requires whole { IsWhole self.old }
+        requires phase { self.old.phase ≡ Phase.Arriving }
+        requires goes_on { self.old.stopped ≡ false }
+        ensures whole { self.new.stopped ≡ false → IsWhole self.new }
+        ensures follows { Follows (running_of self.old) (option_to_list result) (running_of self.new) }
+        ensures ends { Ends result self.new }
+        ensures nears { IsNear result self.old self.new }
+        ensures of { AreOfTask self.old.tasks.items result }
+        ensures falls { Falls (running_of self.old) (option_to_list result) (running_of self.new) }
+    {
+        if self.time == self.until {
+            self.stopped = true;
+            return Some(Event::Horizon { time: self.time });
+        }
+        self.phase = Phase::Use;
+        None
+    }
+
+    /// Delays: the release of the first sleeping task whose time has come.
+    fn delays(&mut self) -> Option<Event>
+        requires whole { IsWhole self.old }
+        requires phase { self.old.phase ≡ Phase.Delays }
+        requires goes_on { self.old.stopped ≡ false }
+        ensures whole { IsWhole self.new }
+        ensures follows { Follows (running_of self.old) (option_to_list result) (running_of self.new) }
+        ensures ends { Ends result self.new }
+        ensures nears { IsNear result self.old self.new }
+        ensures of { AreOfTask self.old.tasks.items result }
+        ensures falls { Falls (running_of self.old) (option_to_list result) (running_of self.new) }
+    {
+        let Some(task) = self.links.wake_due(self.time) else {
+            self.phase = Phase::Arriving;
+            return None;
+        };
+        let released = &mut self.tasks[task as usize];
+        released.release(&self.costs);
+        let thread = released.progress.stack.thread;
+        self.links.push_tail(task, thread.priority);
+        Some(Event::Release {
+            time: self.time,
+            task: thread.unit,
+            value: None,
+        })
+    }
+
+    /// Effects: that of the piece of the task that used the tick before, where its ticks are used.
+    fn effects(&mut self) -> Option<Event>
+        requires whole { IsWhole self.old }
+        requires phase { self.old.phase ≡ Phase.Effects }
+        requires goes_on { self.old.stopped ≡ false }
+        ensures whole { IsWhole self.new }
+        ensures follows { Follows (running_of self.old) (option_to_list result) (running_of self.new) }
+        ensures ends { Ends result self.new }
+        ensures nears { IsNear result self.old self.new }
+        ensures of { AreOfTask self.old.tasks.items result }
+        ensures falls { Falls (running_of self.old) (option_to_list result) (running_of self.new) }
+    {
+        let Some(task) = self.ran else {
+            self.phase = Phase::Delays;
+            return None;
+        };
+        let left = self.tasks[task as usize].left;
+        let Some(piece) = self.tasks[task as usize].progress.piece else {
+            self.phase = Phase::Delays;
+            return None;
+        };
+        if left != 0 {
+            self.phase = Phase::Delays;
+            return None;
+        }
+        self.effect(task, piece)
+    }
+
+    /// The effect of the piece of a task, which is the first ready one.
+    fn effect(&mut self, task: u32, piece: Piece<'a>) -> Option<Event>
+        requires whole { IsWhole self.old }
+        requires phase { self.old.phase ≡ Phase.Effects }
+        requires goes_on { self.old.stopped ≡ false }
+        requires ran { self.old.ran ≡ Some task }
+        requires piece { HasPiece self.old.tasks.items task piece }
+        ensures whole { IsWhole self.new }
+        ensures follows { Follows (running_of self.old) (option_to_list result) (running_of self.new) }
+        ensures ends { Ends result self.new }
+        ensures nears { IsNear result self.old self.new }
+        ensures of { AreOfTask self.old.tasks.items result }
+        ensures falls { Falls (running_of self.old) (option_to_list result) (running_of self.new) }
+    {
+        let active = &mut self.tasks[task as usize];
+        let act = active.act(&self.costs, piece);
+        let unit = active.progress.stack.thread.unit;
+        let next = active.next;
+        let used = active.used;
+        match act {
+            Act::Silent => None,
+            Act::Print(value) => Some(Event::Print {
+                time: self.time,
+                task: unit,
+                value,
+            }),
+            Act::Finish => {
+                let _ = self.links.pop_head();
+                self.links.sleep(task, next.max(self.time));
+                Some(Event::End {
+                    time: self.time,
+                    task: unit,
+                    used,
+                })
+            }
+        }
+    }
+
+    /// One step, or as many ticks as can be used at once, and what it tells.
+    fn step(&mut self) -> Option<Event>
+        requires whole { IsWhole self.old }
+        requires goes_on { self.old.stopped ≡ false }
+        ensures whole { self.new.stopped ≡ false → IsWhole self.new }
+        ensures follows { Follows (running_of self.old) (option_to_list result) (running_of self.new) }
+        ensures ends { Ends result self.new }
+        ensures nears { IsNear result self.old self.new }
+        ensures of { AreOfTask self.old.tasks.items result }
+        ensures falls { Falls (running_of self.old) (option_to_list result) (running_of self.new) }
+    {
+        match self.phase {
+            Phase::Effects => self.effects(),
+            Phase::Delays => self.delays(),
+            Phase::Arriving => self.arriving(),
+            Phase::Use => {
+                self.use_ticks();
+                None
+            }
+        }
     }
 
     /// The next events, of which there is at least one, in a buffer that holds none before; in ticks of one processor.
     /// The run has not stopped before. It is over with the horizon, and with a ceiling that is violated. No memory is taken.
     pub fn advance(&mut self, events: &mut EventBuf) -> Turn
+        requires whole { IsWhole self.old }
         requires empty { events.old ≡ [] }
-        requires goes_on { (running_of self.old).state.stopped ≡ false }
+        requires goes_on { self.old.stopped ≡ false }
+        ensures whole { self.new.stopped ≡ false → IsWhole self.new }
         // What is told from here on is these events, and what is told after them.
         ensures rest { (told : List Event) → Tells (running_of self.new) told → Tells (running_of self.old) (events.new ++ told) }
         ensures system { (running_of self.new).system ≡ (running_of self.old).system }
         ensures turned { Turned result events.new (running_of self.new) }
         ensures falls { FallsAt result (left (running_of self.old)) (left (running_of self.new)) }
         // The events are of the program that runs.
-        ensures placed { (p : Program) (a : Arriving) → (running_of self.old).system ≡ system p a → Each (IsPlaced p) events.new }
+        ensures placed { (p : Program) (a : Arriving) → (running_of self.old).system ≡ system p a → EachEvent (IsPlaced p) events.new }
         // So far no protected object is called, and nothing is requested.
         ensures keeps { KeepsCeilings result }
     {
@@ -146,145 +382,12 @@ impl<'a> Machine<'a> {
         }
     }
 
-    /// One step, and what it tells.
-    fn step(&mut self) -> Option<Event>
-        requires { self.old.stopped ≡ false }
-        ensures steps { Steps (running_of self.old) (option_to_list result) (running_of self.new) }
-        ensures falls { Falls (running_of self.old) (option_to_list result) (running_of self.new) }
-        ensures nears { Nears (running_of self.old) result (running_of self.new) }
-        ensures of { AreOf self.old.progress.stack.thread.unit result }
-        ensures leads { Leads result (running_of self.new) }
+    /// The queues that the machine keeps. A task's number in them is its place among the tasks, from 0.
+    pub fn queues(&self) -> &Links
+        requires whole { IsWhole self.now }
+        ensures ready { AreQueued (running_of self.now).state.tasks (running_of self.now).state.orders result.now.ready }
+        ensures asleep { AreSleeping (running_of self.now).state.tasks (running_of self.now).state.time result.now.asleep }
     {
-        match self.phase {
-            Phase::Effects => self.effects(),
-            Phase::Delays => self.delays(),
-            Phase::Arriving => self.arriving(),
-            Phase::Use => {
-                self.use_tick();
-                None
-            }
-        }
-    }
-
-    /// Effects: those of the piece whose ticks are used up, where the task used the tick before.
-    fn effects(&mut self) -> Option<Event>
-        requires phase { self.old.phase ≡ Phase.Effects }
-        requires goes_on { self.old.stopped ≡ false }
-        ensures moves { Moves states.Effects (running_of self.old) (option_to_list result) (running_of self.new) }
-        ensures falls { Falls (running_of self.old) (option_to_list result) (running_of self.new) }
-        ensures nears { Nears (running_of self.old) result (running_of self.new) }
-        ensures of { AreOf self.old.progress.stack.thread.unit result }
-        ensures leads { Leads result (running_of self.new) }
-    {
-        let Some(piece) = self.progress.piece else {
-            self.phase = Phase::Delays;
-            return None;
-        };
-        if self.ran && self.left == 0 {
-            return self.effect(piece);
-        }
-        self.phase = Phase::Delays;
-        None
-    }
-
-    /// The effect of the piece that has started.
-    fn effect(&mut self, piece: Piece<'a>) -> Option<Event>
-        requires phase { self.old.phase ≡ Phase.Effects }
-        requires goes_on { self.old.stopped ≡ false }
-        requires piece { self.old.progress.piece ≡ Some piece }
-        requires ran { self.old.ran ≡ true }
-        requires used { self.old.left ≡ 0 }
-        ensures moves { Moves states.Effects (running_of self.old) (option_to_list result) (running_of self.new) }
-        ensures falls { Falls (running_of self.old) (option_to_list result) (running_of self.new) }
-        ensures nears { Nears (running_of self.old) result (running_of self.new) }
-        ensures of { AreOf self.old.progress.stack.thread.unit result }
-        ensures leads { Leads result (running_of self.new) }
-    {
-        let act = self.progress.act(piece);
-        let start = self.progress.start(&self.costs);
-        self.left = start.ticks;
-        self.works += start.works;
-        match act {
-            Act::Silent => None,
-            Act::Print(value) => Some(Event::Print {
-                time: self.time,
-                task: self.progress.stack.thread.unit,
-                value,
-            }),
-            Act::Finish => {
-                self.ready = false;
-                Some(Event::End {
-                    time: self.time,
-                    task: self.progress.stack.thread.unit,
-                    used: self.used,
-                })
-            }
-        }
-    }
-
-    /// Delays: the release of the task, where its time has come.
-    fn delays(&mut self) -> Option<Event>
-        requires phase { self.old.phase ≡ Phase.Delays }
-        requires goes_on { self.old.stopped ≡ false }
-        ensures moves { Moves states.Delays (running_of self.old) (option_to_list result) (running_of self.new) }
-        ensures falls { Falls (running_of self.old) (option_to_list result) (running_of self.new) }
-        ensures nears { Nears (running_of self.old) result (running_of self.new) }
-        ensures of { AreOf self.old.progress.stack.thread.unit result }
-        ensures leads { Leads result (running_of self.new) }
-    {
-        if self.ready || self.next > self.time {
-            self.phase = Phase::Arriving;
-            return None;
-        }
-        let period = u64::from(self.progress.stack.thread.period);
-        self.progress.begin();
-        let start = self.progress.start(&self.costs);
-        self.left = start.ticks;
-        self.works += start.works;
-        self.ready = true;
-        self.next += period;
-        self.order += 1;
-        self.used = 0;
-        Some(Event::Release {
-            time: self.time,
-            task: self.progress.stack.thread.unit,
-            value: None,
-        })
-    }
-
-    /// Arrivals: there are none, so that the horizon is what is left of this part, where its time has come.
-    fn arriving(&mut self) -> Option<Event>
-        requires phase { self.old.phase ≡ Phase.Arriving }
-        requires goes_on { self.old.stopped ≡ false }
-        ensures moves { Moves states.Arriving (running_of self.old) (option_to_list result) (running_of self.new) }
-        ensures falls { Falls (running_of self.old) (option_to_list result) (running_of self.new) }
-        ensures nears { Nears (running_of self.old) result (running_of self.new) }
-        ensures of { AreOf self.old.progress.stack.thread.unit result }
-        ensures leads { Leads result (running_of self.new) }
-    {
-        if self.time == self.until {
-            self.stopped = true;
-            return Some(Event::Horizon { time: self.time });
-        }
-        self.phase = Phase::Use;
-        None
-    }
-
-    /// Use: the task uses one tick, where it is ready.
-    fn use_tick(&mut self)
-        requires phase { self.old.phase ≡ Phase.Use }
-        requires goes_on { self.old.stopped ≡ false }
-        ensures moves { Moves states.Use (running_of self.old) [] (running_of self.new) }
-        ensures falls { Falls (running_of self.old) [] (running_of self.new) }
-        ensures nears { Nears (running_of self.old) None (running_of self.new) }
-        ensures goes_on { self.new.stopped ≡ false }
-    {
-        self.phase = Phase::Effects;
-        self.time += 1;
-        self.ran = self.ready;
-        if self.ready {
-            self.used += 1;
-            self.left = self.left.saturating_sub(1);
-        }
+        &self.links
     }
 }

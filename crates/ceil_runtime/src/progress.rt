@@ -1,12 +1,12 @@
 ghost use Rattle.std.specs.Prelude.{◌≡◌, ◌≤◌, IfOk, None, Some, [], ◌∷◌, min};
-ghost use Rattle.machine.specs.Pieces.{Finishing, pieces};
+ghost use Rattle.machine.specs.Pieces.{Finishing, pieces, work_ticks};
 ghost use Rattle.seq_tree.specs.Variables.{written};
 ghost use Rattle.ceil_runtime.specs.Stacked.{vars_of};
 ghost use Rattle.ceil_runtime.specs.Progresses.{behind, piece_of, put_away};
 ghost use Rattle.ceil_runtime.specs.Fitting.{FitsFirst, Named, PutsAway, names_of, place_of};
 ghost use Rattle.ceil_runtime.specs.OneProof.{fits-first-prop, named-prop, puts-away-prop};
 ghost use Rattle.ceil_runtime.specs.Doing.{Does, EndsAt};
-ghost use Rattle.ceil_runtime.specs.Effort.{first_ticks, first_works};
+ghost use Rattle.ceil_runtime.specs.Effort.{IsLong, first_ticks, first_works};
 ghost use Rattle.ceil_runtime.specs.Written.{CanRun, block_of_thread, first_place, libraries_of};
 
 use crate::effects::Act;
@@ -23,9 +23,19 @@ pub struct Start {
     pub works: u64,
 }
 
-/// What starts with a piece.
-fn start_of(costs: &Costs, piece: Piece) -> Start
-    ensures ticks { result.ticks ≡ first_ticks costs.now (piece_of piece.entry [] ∷ []) }
+/// The ticks of a `work`: the smaller of its number and the next duration, where there is one.
+fn ticks_of_work(ticks: u32, duration: Option<u32>) -> u32
+    ensures { result ≡ work_ticks ticks duration }
+{
+    match duration {
+        Some(duration) => ticks.min(duration),
+        None => ticks,
+    }
+}
+
+/// What starts with a piece, with the duration that a `work` is handed.
+fn start_of(costs: &Costs, duration: Option<u32>, piece: Piece) -> Start
+    ensures ticks { result.ticks ≡ first_ticks costs.now duration (piece_of piece.entry [] ∷ []) }
     ensures works { result.works ≡ first_works (piece_of piece.entry [] ∷ []) }
 {
     let (ticks, works) = match piece {
@@ -33,7 +43,7 @@ fn start_of(costs: &Costs, piece: Piece) -> Start
         Piece::Store { .. } => (costs.assign, 0),
         Piece::Leaving(_) => (costs.test, 0),
         Piece::Calling { .. } => (costs.call, 0),
-        Piece::Working(ticks) => (ticks, 1),
+        Piece::Working(ticks) => (ticks_of_work(ticks, duration), 1),
         Piece::Printing(_) => (costs.put, 0),
         Piece::Testing { .. } => (costs.test, 0),
         Piece::Turning(_) => (costs.turn, 0),
@@ -90,15 +100,16 @@ impl<'a> Progress<'a> {
         moved.act
     }
 
-    /// What has started.
-    pub fn start(&self, costs: &Costs) -> Start
-        ensures ticks { result.ticks ≡ first_ticks costs.now (pieces_left self.now) }
+    /// What has started, with the duration that a `work` is handed.
+    pub fn start(&self, costs: &Costs, duration: Option<u32>) -> Start
+        requires { IsLong duration }
+        ensures ticks { result.ticks ≡ first_ticks costs.now duration (pieces_left self.now) }
         ensures works { result.works ≡ first_works (pieces_left self.now) }
         // A `work` that starts takes a tick.
         ensures some { result.works ≤ min result.ticks 1 }
     {
         match self.piece {
-            Some(piece) => start_of(costs, piece),
+            Some(piece) => start_of(costs, duration, piece),
             None => Start { ticks: 0, works: 0 },
         }
     }

@@ -14,9 +14,9 @@ use Rattle.ods_tree.specs.Links.{resolved}
 use Rattle.ods_tree.specs.Flats.{Thread}
 use Rattle.ods_tree.specs.Flattening.{operations, threads}
 use Rattle.ods_tree.specs.Sound.{Counted, counted_calls}
-use Rattle.ods_rules.specs.Lookups.{provided_named, operation_named, object_named}
-use Rattle.ods_rules.specs.Bodies.{offers}
-use Rattle.ods_rules.specs.Rules.{AreMet}
+use Rattle.design_rules.specs.Lookups.{provided_named, operation_named, object_named}
+use Rattle.design_rules.specs.Bodies.{offers}
+use Rattle.design_rules.specs.Rules.{AreMet}
 use Rattle.design_programs.proofs.Lists.{from-map}
 use Rattle.design_programs.proofs.Renaming.{offers_it}
 use Rattle.design_programs.proofs.Shapes.{counted_name, Right, calls-counted, calls-right}

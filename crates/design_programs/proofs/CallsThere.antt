@@ -12,7 +12,7 @@ use Rattle.ada_tree.specs.Bodies.{Body, bodies, scope, bodies_fault, unit_fault,
 use Rattle.ada_tree.specs.Naming.{is_there, calls_of}
 use Rattle.analysis.specs.Ceilings.{Ranks}
 use Rattle.guarantee.specs.Programs.{program_for}
-use Rattle.ods_rules.specs.Rules.{AreMet}
+use Rattle.design_rules.specs.Rules.{AreMet}
 use Rattle.design_programs.proofs.Lists.{from-map, none-from}
 use Rattle.design_programs.proofs.Renaming.{offers_it}
 use Rattle.design_programs.proofs.Shapes.{counted_name, Right, calls-counted, calls-right}

@@ -29,7 +29,7 @@ use Rattle.analysis.specs.Ceilings.{Ranks}
 use Rattle.analysis.specs.Starts.{all_calls, can_request, service_calls, calls_by, starters}
 use Rattle.analysis.specs.Starts as flatly
 use Rattle.guarantee.specs.Programs.{passive_unit, shared_unit, thread_unit, thread_form, program_for}
-use Rattle.ods_rules.specs.Rules.{AreMet}
+use Rattle.design_rules.specs.Rules.{AreMet}
 use Rattle.design_programs.proofs.Lists.{from-map, some-in, all-in, distinct-taken, key-eq}
 use Rattle.design_programs.proofs.Flattened.{guarded_by, guarded-from, guarded-of, ThreadFrom, thread-from, services_at, request_services, terminal-object, TimingOf, OfCyclic, OfSporadic, timing-of}
 use Rattle.design_programs.proofs.ObjectRules.{no-clash}

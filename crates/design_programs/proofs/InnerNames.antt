@@ -4,7 +4,7 @@ use Rattle.std.specs.List.{enumerate_from}
 use Rattle.seq_tree.specs.Names.{Name}
 use Rattle.ods_tree.specs.Designs.{Design}
 use Rattle.ods_tree.specs.Walk.{Standing, objects}
-use Rattle.ods_rules.specs.Clashes.{Role, Single, Member, Parameter, Local, Loop, Mention, excludes, mention, object_mentions, mentions, clashes}
+use Rattle.design_rules.specs.Clashes.{Role, Single, Member, Parameter, Local, Loop, Mention, excludes, mention, object_mentions, mentions, clashes}
 use Rattle.design_programs.proofs.Lists.{placed}
 use Rattle.design_programs.proofs.ObjectNames.{inner_mentions, pair-free}
 use Rattle.program_calls.proofs.Lists.{in-flat, IsIn}

@@ -5,8 +5,8 @@ use Rattle.std.proofs.lemmas.Bool.{or_parts, or_from}
 use Rattle.seq_tree.specs.Names.{Name, same_name, is_named}
 use Rattle.seq_tree.specs.Statements.{Statement, Statements, Branches, Null, Assign, If, For, ExitWhen, Call, Work, Put, End, Then, Nothing, Else, When}
 use Rattle.ada_tree.specs.Naming.{statement_clashes, block_clashes, branch_clashes}
-use Rattle.ods_rules.specs.Broken.{V01}
-use Rattle.ods_rules.specs.Clashes.{Role, Mention, excludes, statement_loops, block_loops, branch_loops, is_taken, clashes_after}
+use Rattle.design_rules.specs.Broken.{V01}
+use Rattle.design_rules.specs.Clashes.{Role, Mention, excludes, statement_loops, block_loops, branch_loops, is_taken, clashes_after}
 use Rattle.ada_tree.specs.Naming as naming
 use Rattle.design_programs.proofs.Lists.{in-cases, unnamed-from, unnamed-at}
 use Rattle.design_programs.proofs.ObjectNames.{free-head, first-free, rest-free}

@@ -14,8 +14,8 @@ use Rattle.ods_tree.specs.Links.{resolve}
 use Rattle.ods_tree.specs.Flats.{Library, Guarded, Thread, Flat}
 use Rattle.ods_tree.specs.Flattening.{flat}
 use Rattle.ods_tree.specs.Sound.{entry_names}
-use Rattle.ods_rules.specs.Clashes.{Role, Member, Parameter, Local, Loop, Mention, excludes, mention}
-use Rattle.ods_rules.specs.Rules.{AreMet}
+use Rattle.design_rules.specs.Clashes.{Role, Member, Parameter, Local, Loop, Mention, excludes, mention}
+use Rattle.design_rules.specs.Rules.{AreMet}
 use Rattle.ada_tree.specs.Programs.{Unit, Program}
 use Rattle.ada_tree.specs.Bodies.{Body, bodies, data_of, heads}
 use Rattle.ada_tree.specs.Naming.{block_loops, block_clashes, own_names, inner_names, body_clashes, is_there, calls_of, breaks_naming}

@@ -19,10 +19,10 @@ use Rattle.ods_tree.specs.declared.design.Kind.{Kind}
 use Rattle.ods_tree.specs.declared.design.Kind.TheVariants as kind
 use Rattle.analysis.specs.Sound.{name_of}
 use Rattle.analysis.specs.Sound as sound
-use Rattle.ods_rules.specs.Broken.{V09Calls, V09Objects}
-use Rattle.ods_rules.specs.Lookups.{requires, required_calls}
-use Rattle.ods_rules.specs.Rings.{terminal_ops, meant_calls, operation_calls, calls_from, CallsOp, protected_objects, calls_object, CallsObject, IsOnObjectRing}
-use Rattle.ods_rules.specs.Rules.{AreMet, CallRing, ObjectRing}
+use Rattle.design_rules.specs.Broken.{V09Calls, V09Objects}
+use Rattle.design_rules.specs.Lookups.{requires, required_calls}
+use Rattle.design_rules.specs.Rings.{terminal_ops, meant_calls, operation_calls, calls_from, CallsOp, protected_objects, calls_object, CallsObject, IsOnObjectRing}
+use Rattle.design_rules.specs.Rules.{AreMet, CallRing, ObjectRing}
 use Rattle.design_programs.proofs.Lists.{from-map, some-in, key-eq}
 use Rattle.design_programs.proofs.Renaming.{block_calls-renamed}
 use Rattle.design_programs.proofs.Flattened.{guarded-from, operation-from, services_at, request_services, service-from, terminal-object}

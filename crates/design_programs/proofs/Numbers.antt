@@ -12,8 +12,8 @@ use Rattle.ods_tree.specs.declared.design.Attr.{Attr}
 use Rattle.ods_tree.specs.declared.design.AttrKey.{AttrKey}
 use Rattle.ods_tree.specs.declared.design.AttrKey.TheVariants.{Period, Offset, Separation, Deadline, ArrivalJitter}
 use Rattle.ods_tree.specs.declared.design.Kind.TheVariants as kind
-use Rattle.ods_rules.specs.Numbers.{is_required, is_optional, is_foreign, are_common_right, are_attributes_right, are_right, works}
-use Rattle.ods_rules.specs.Rules.{AreMet}
+use Rattle.design_rules.specs.Numbers.{is_required, is_optional, is_foreign, are_common_right, are_attributes_right, are_right, works}
+use Rattle.design_rules.specs.Rules.{AreMet}
 use Rattle.design_programs.proofs.Flattened.{thread-from, TimingOf, OfCyclic, OfSporadic, timing-of, terminal-object}
 use Rattle.design_programs.proofs.ObjectRules.{numbers-right}
 use Rattle.program_calls.proofs.Lists.{IsIn}

@@ -11,8 +11,8 @@ use Rattle.ods_tree.specs.Designs.{Provided, Body, Design}
 use Rattle.ods_tree.specs.Walk.{Standing}
 use Rattle.ods_tree.specs.Links.{resolved}
 use Rattle.ods_tree.specs.Flattening.{body_named, operation_by}
-use Rattle.ods_rules.specs.Broken.{V01}
-use Rattle.ods_rules.specs.Clashes.{Role, Member, Parameter, Local, Loop, Mention, excludes, mention, block_loops, is_there, request_names, is_request, has_block, is_bodied, operation_mentions, body_mentions, thread_mentions, is_taken, clashes_after}
+use Rattle.design_rules.specs.Broken.{V01}
+use Rattle.design_rules.specs.Clashes.{Role, Member, Parameter, Local, Loop, Mention, excludes, mention, block_loops, is_there, request_names, is_request, has_block, is_bodied, operation_mentions, body_mentions, thread_mentions, is_taken, clashes_after}
 use Rattle.ada_tree.specs.Bodies.{op_body}
 use Rattle.ada_tree.specs.Bodies as ada
 use Rattle.design_programs.proofs.Lists.{from-map, placed, named-from, unnamed-from}

@@ -12,8 +12,8 @@ use Rattle.ods_tree.specs.Flattening.{is_passive, is_protected, timing_by, threa
 use Rattle.ods_tree.specs.Sound.{entry_names}
 use Rattle.ods_tree.specs.declared.design.Kind.{Kind}
 use Rattle.ods_tree.specs.declared.design.Kind.TheVariants as kind
-use Rattle.ods_rules.specs.Broken.{Broken, V01}
-use Rattle.ods_rules.specs.Clashes.{Role, Whole, Single, Member, Parameter, Mention, excludes, mention, operation_mentions, body_mentions, thread_mentions, object_mentions, is_bodied, is_taken, clashes_after, clashes}
+use Rattle.design_rules.specs.Broken.{Broken, V01}
+use Rattle.design_rules.specs.Clashes.{Role, Whole, Single, Member, Parameter, Mention, excludes, mention, operation_mentions, body_mentions, thread_mentions, object_mentions, is_bodied, is_taken, clashes_after, clashes}
 use Rattle.design_programs.proofs.Lists.{in-cases, from-map, unnamed-from, differ-if, placed, distinct-append, distinct-taken, key-eq, unnamed-at}
 use Rattle.design_programs.proofs.Flattened.{library_by, guarded_by, library-from, guarded-from, thread-from, timed-kind}
 use Rattle.program_calls.proofs.Facts.{is-same}

@@ -11,21 +11,21 @@ use Rattle.ods_tree.specs.Walk.{Standing, objects, is_terminal, terminals, only_
 use Rattle.ods_tree.specs.Flattening.{request_op}
 use Rattle.ods_tree.specs.Ticks.{stated_priorities}
 use Rattle.ods_tree.specs.Sound.{is_within, costs_of}
-use Rattle.ods_rules.specs.Broken.{Broken, V02, V04, V05, V08, V10, V11, V12, V13, V15Threads, V15Objects, V16}
-use Rattle.ods_rules.specs.Rules.{Clash, KeptName, Include, Operation, Fitting, Stranger, Absence, Use, Source, Number, IdleActive, Size, Spacing, AreMet, IsListed}
-use Rattle.ods_rules.specs.Rules as rules
-use Rattle.ods_rules.specs.Clashes.{clashes}
-use Rattle.ods_rules.specs.Words.{kept_names, object_names}
-use Rattle.ods_rules.specs.Operations.{breaks_operations}
-use Rattle.ods_rules.specs.Fittings.{misfits}
-use Rattle.ods_rules.specs.Uses.{is_forbidden, needs_that}
-use Rattle.ods_rules.specs.Lookups.{operation_named, provided_named, is_sporadic}
-use Rattle.ods_rules.specs.Sources.{breaks_sources, source_count, start_count}
-use Rattle.ods_rules.specs.Numbers.{breaks_numbers, bad_costs}
-use Rattle.ods_rules.specs.Bodies.{is_active, scope, params_by, request_params, body_fault, thread_fault}
-use Rattle.ods_rules.specs.Budgets.{body_cost, activation_cost, greatest_cost, dear_body, dear_thread, over_limit, thread_limit}
-use Rattle.ods_rules.specs.Rings.{thread_objects, can_start}
-use Rattle.ods_rules.specs.Separations.{spacing, is_too_often}
+use Rattle.design_rules.specs.Broken.{Broken, V02, V04, V05, V08, V10, V11, V12, V13, V15Threads, V15Objects, V16}
+use Rattle.design_rules.specs.Rules.{Clash, KeptName, Include, Operation, Fitting, Stranger, Absence, Use, Source, Number, IdleActive, Size, Spacing, AreMet, IsListed}
+use Rattle.design_rules.specs.Rules as rules
+use Rattle.design_rules.specs.Clashes.{clashes}
+use Rattle.design_rules.specs.Words.{kept_names, object_names}
+use Rattle.design_rules.specs.Operations.{breaks_operations}
+use Rattle.design_rules.specs.Fittings.{misfits}
+use Rattle.design_rules.specs.Uses.{is_forbidden, needs_that}
+use Rattle.design_rules.specs.Lookups.{operation_named, provided_named, is_sporadic}
+use Rattle.design_rules.specs.Sources.{breaks_sources, source_count, start_count}
+use Rattle.design_rules.specs.Numbers.{breaks_numbers, bad_costs}
+use Rattle.design_rules.specs.Bodies.{is_active, scope, params_by, request_params, body_fault, thread_fault}
+use Rattle.design_rules.specs.Budgets.{body_cost, activation_cost, greatest_cost, dear_body, dear_thread, over_limit, thread_limit}
+use Rattle.design_rules.specs.Rings.{thread_objects, can_start}
+use Rattle.design_rules.specs.Separations.{spacing, is_too_often}
 use Rattle.ods_tree.specs.Attributes.{attribute_or}
 use Rattle.ods_tree.specs.declared.design.AttrKey.TheVariants.{Separation}
 use Rattle.ada_tree.specs.Words.{is_ada_name}

@@ -19,10 +19,10 @@ use Rattle.ada_tree.specs.Bodies.{heads}
 use Rattle.ada_tree.specs.Bodies as ada
 use Rattle.analysis.specs.Ceilings.{Ranks}
 use Rattle.guarantee.specs.Programs.{passive_unit, shared_unit, thread_unit, thread_form, program_for}
-use Rattle.ods_rules.specs.Lookups.{provided_named}
-use Rattle.ods_rules.specs.Bodies.{offers, scope, params_by, request_params}
-use Rattle.ods_rules.specs.Fittings.{same_params}
-use Rattle.ods_rules.specs.Rules.{AreMet}
+use Rattle.design_rules.specs.Lookups.{provided_named}
+use Rattle.design_rules.specs.Bodies.{offers, scope, params_by, request_params}
+use Rattle.design_rules.specs.Fittings.{same_params}
+use Rattle.design_rules.specs.Rules.{AreMet}
 use Rattle.design_programs.proofs.Lists.{found-only, key-eq}
 use Rattle.design_programs.proofs.Renaming.{offers_it, Leads, with_calls, block_fault-renamed}
 use Rattle.design_programs.proofs.Flattened.{operation-from, ThreadFrom, terminal-object}

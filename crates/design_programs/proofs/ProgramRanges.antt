@@ -19,8 +19,8 @@ use Rattle.ada_tree.specs.Bodies as ada
 use Rattle.ada_tree.specs.Ranges.{is_outside, jitter_breaks, breaks_ranges, costs_break}
 use Rattle.analysis.specs.Ceilings.{Ranks}
 use Rattle.guarantee.specs.Programs.{thread_form, program_for}
-use Rattle.ods_rules.specs.Numbers.{works}
-use Rattle.ods_rules.specs.Rules.{AreMet}
+use Rattle.design_rules.specs.Numbers.{works}
+use Rattle.design_rules.specs.Rules.{AreMet}
 use Rattle.design_programs.proofs.Lists.{from-map, none-from, all-in}
 use Rattle.design_programs.proofs.Renaming.{block_works-renamed}
 use Rattle.design_programs.proofs.Flattened.{library-from, guarded-from, operation-from, ThreadFrom, thread-from, terminal-object}

@@ -19,7 +19,7 @@ use Rattle.analysis.specs.Ceilings.{Ranks}
 use Rattle.analysis.specs.Sound as sound
 use Rattle.analysis.specs.Sound.{name_of}
 use Rattle.guarantee.specs.Programs.{passive_unit, shared_unit, thread_unit, thread_form, program_for}
-use Rattle.ods_rules.specs.Rules.{AreMet}
+use Rattle.design_rules.specs.Rules.{AreMet}
 use Rattle.design_programs.proofs.Lists.{in-cases, from-map, some-in, none-from}
 use Rattle.design_programs.proofs.Flattened.{library-from, operation-from, terminal-object}
 use Rattle.design_programs.proofs.WellFormed.{passive-plain-calls}

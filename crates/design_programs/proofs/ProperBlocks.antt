@@ -8,7 +8,7 @@ use Rattle.seq_tree.specs.Calls.{statement_calls, block_calls, branch_calls}
 use Rattle.seq_tree.specs.Proper.{IsProperExpression, AreProperActuals, IsProperStatement, IsProperBlock, AreProperStatements, IsProperIf, AreProperBranches, within_limits}
 use Rattle.seq_tree.specs.declared.tree.OpName.{OpName}
 use Rattle.ods_tree.specs.Links.{renamed_statement, renamed, renamed_branches}
-use Rattle.ods_rules.specs.Words.{expression_names, statement_names, block_names, branch_names}
+use Rattle.design_rules.specs.Words.{expression_names, statement_names, block_names, branch_names}
 use Rattle.program_calls.proofs.Lists.{in-left, in-right, IsIn}
 
 nests : (d e : ℕ) → e ≤ d → nat_le d 64 ≡ true → nat_le e 64 ≡ true

@@ -30,9 +30,9 @@ use Rattle.ada_tree.specs.Programs.{Unit, Passive, Shared}
 use Rattle.ada_tree.specs.Proper as ada
 use Rattle.analysis.specs.Ceilings.{Ranks}
 use Rattle.guarantee.specs.Programs.{thread_unit, thread_form, program_for}
-use Rattle.ods_rules.specs.Words.{block_names, op_names, provided_names, body_names, thread_names, link_names}
-use Rattle.ods_rules.specs.Operations.{may_provide, has_request, breaks_table, hands_out, is_one_way}
-use Rattle.ods_rules.specs.Rules.{AreMet}
+use Rattle.design_rules.specs.Words.{block_names, op_names, provided_names, body_names, thread_names, link_names}
+use Rattle.design_rules.specs.Operations.{may_provide, has_request, breaks_table, hands_out, is_one_way}
+use Rattle.design_rules.specs.Rules.{AreMet}
 use Rattle.design_programs.proofs.Lists.{in-cases}
 use Rattle.design_programs.proofs.ProperBlocks.{proper-renamed}
 use Rattle.design_programs.proofs.Flattened.{library-from, guarded-from, operation-from, ThreadFrom, thread-from, terminal-object, TimingOf, OfCyclic, OfSporadic, timing-of}

@@ -15,11 +15,11 @@ use Rattle.analysis.specs.Priorities.{priorities_of}
 use Rattle.analysis.specs.Ceilings.{uses_object, greatest_user, calls_from_inside, ceiling_within, ceiling, control_ceiling}
 use Rattle.analysis.proofs.CeilingLaws.{ceiling-user}
 use Rattle.guarantee.specs.Programs.{stated_ranks}
-use Rattle.ods_rules.specs.Broken.{V17Priorities}
-use Rattle.ods_rules.specs.Versions.{bad_tick, is_range, bad_priorities, bad_version, version_faults}
-use Rattle.ods_rules.specs.Budgets.{thread_limit}
-use Rattle.ods_rules.specs.Rings.{thread_objects}
-use Rattle.ods_rules.specs.Rules.{AreMet, Version}
+use Rattle.design_rules.specs.Broken.{V17Priorities}
+use Rattle.design_rules.specs.Versions.{bad_tick, is_range, bad_priorities, bad_version, version_faults}
+use Rattle.design_rules.specs.Budgets.{thread_limit}
+use Rattle.design_rules.specs.Rings.{thread_objects}
+use Rattle.design_rules.specs.Rules.{AreMet, Version}
 use Rattle.design_programs.proofs.Lists.{from-map}
 use Rattle.design_programs.proofs.ObjectRules.{none_listed, nothing_first, thread-count}
 use Rattle.design_programs.proofs.Units.{from-zip}

@@ -11,7 +11,7 @@ use Rattle.ods_tree.proofs.TickLaws.{ticks-version}
 use Rattle.ods_tree.specs.Proper.{IsProperDesign}
 use Rattle.ods_tree.specs.Flats.{Library, Guarded, Thread}
 use Rattle.ods_tree.specs.Flattening.{libraries, guarded, threads, flat}
-use Rattle.ods_rules.specs.Rules as ods
+use Rattle.design_rules.specs.Rules as ods
 use Rattle.ada_tree.specs.Programs.{Unit, Program, is_task}
 use Rattle.ada_tree.specs.Ranges.{whole_breaks}
 use Rattle.ada_tree.specs.Rules.{Rule, Naming, Uses, Rings, Bodies, Ranges, Externals, Whole, At, UnitBreaks, WholeBreaks, MeetsRules}

@@ -15,7 +15,7 @@ use Rattle.seq_tree.specs.Sorts.{has_sort}
 use Rattle.seq_tree.specs.declared.tree.Param.{Param}
 use Rattle.seq_tree.specs.declared.tree.OpName.{OpName}
 use Rattle.ods_tree.specs.Links.{renamed_statement, renamed, renamed_branches}
-use Rattle.ods_rules.specs.Fittings.{same_mode, same_params}
+use Rattle.design_rules.specs.Fittings.{same_mode, same_params}
 use Rattle.ada_tree.specs.Naming.{statement_loops, block_loops, branch_loops, statement_clashes, block_clashes, branch_clashes}
 use Rattle.program_calls.proofs.Facts.{or_else-none}
 

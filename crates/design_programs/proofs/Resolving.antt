@@ -13,9 +13,9 @@ use Rattle.ods_tree.specs.Designs.{Provided, Object, Tree, Trees, Node, Empty, W
 use Rattle.ods_tree.specs.Walk.{Standing, own_of, roots, standings, inner_standings, objects, is_empty, is_terminal}
 use Rattle.ods_tree.specs.Links.{first_of, link_for, tree_named, inner_named, terminal_op, child_op, resolve}
 use Rattle.ods_tree.specs.declared.design.Link.{Link}
-use Rattle.ods_rules.specs.Lookups.{provided_named, object_named, operation_named}
-use Rattle.ods_rules.specs.Clashes.{has_block}
-use Rattle.ods_rules.specs.Fittings.{same_mode, same_params, constraint_place, agrees, child_operation, is_link, link_count, misfits, misfits_parent}
+use Rattle.design_rules.specs.Lookups.{provided_named, object_named, operation_named}
+use Rattle.design_rules.specs.Clashes.{has_block}
+use Rattle.design_rules.specs.Fittings.{same_mode, same_params, constraint_place, agrees, child_operation, is_link, link_count, misfits, misfits_parent}
 use Rattle.design_programs.proofs.Renaming.{three}
 use Rattle.program_calls.proofs.Facts.{same-is, same-self}
 use Rattle.program_calls.proofs.Lists.{in-left, in-right, none-in, IsIn, found-in}

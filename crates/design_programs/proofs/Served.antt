@@ -19,11 +19,11 @@ use Rattle.ods_tree.specs.Services.{Plain, Protected, Service, plain_services, p
 use Rattle.ods_tree.specs.declared.design.Kind.{Kind}
 use Rattle.ods_tree.specs.declared.design.Kind.TheVariants as kind
 use Rattle.ods_tree.specs.declared.design.Constraint.{Constraint}
-use Rattle.ods_rules.specs.Lookups.{provided_named, operation_named, has_thread, is_sporadic}
-use Rattle.ods_rules.specs.Clashes.{clashes, has_block}
-use Rattle.ods_rules.specs.Operations.{may_provide, has_request, breaks_table, breaks_operations, hands_out}
-use Rattle.ods_rules.specs.Fittings.{wanted_bodies, body_count, is_provided, misfits_terminal, same_params, constraint_place, misfits}
-use Rattle.ods_rules.specs.Bodies.{is_active}
+use Rattle.design_rules.specs.Lookups.{provided_named, operation_named, has_thread, is_sporadic}
+use Rattle.design_rules.specs.Clashes.{clashes, has_block}
+use Rattle.design_rules.specs.Operations.{may_provide, has_request, breaks_table, breaks_operations, hands_out}
+use Rattle.design_rules.specs.Fittings.{wanted_bodies, body_count, is_provided, misfits_terminal, same_params, constraint_place, misfits}
+use Rattle.design_rules.specs.Bodies.{is_active}
 use Rattle.design_programs.proofs.Lists.{from-map, in-filter_map, found-only, key-eq}
 use Rattle.design_programs.proofs.Flattened.{library_by, guarded_by, library-of, guarded-of, thread-of, terminal-object, operation-from, operation-of, request_services, services_at, service-from}
 use Rattle.design_programs.proofs.ObjectNames.{terminal-names, op-names}

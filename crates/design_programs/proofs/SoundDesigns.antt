@@ -2,7 +2,7 @@
 use Rattle.ods_tree.specs.Designs.{Design}
 use Rattle.ods_tree.specs.Flattening.{flat}
 use Rattle.analysis.specs.Sound.{IsSound}
-use Rattle.ods_rules.specs.Rules.{AreMet}
+use Rattle.design_rules.specs.Rules.{AreMet}
 use Rattle.design_programs.proofs.WellFormed.{formed, op_costs-right, thread_costs-right}
 use Rattle.design_programs.proofs.NoRings.{no-call-ring, no-object-ring}
 use Rattle.design_programs.proofs.Started.{all-started}

@@ -10,10 +10,10 @@ use Rattle.ods_tree.specs.Flattening.{timing_by, threads, flat}
 use Rattle.ods_tree.specs.Services.{flat_services}
 use Rattle.analysis.specs.Starts.{starters, can_request}
 use Rattle.analysis.specs.Sound.{is_spaced}
-use Rattle.ods_rules.specs.Lookups.{has_thread, is_sporadic}
-use Rattle.ods_rules.specs.Rings.{thread_objects, can_start}
-use Rattle.ods_rules.specs.Separations.{spacing_by, spacing}
-use Rattle.ods_rules.specs.Rules.{AreMet}
+use Rattle.design_rules.specs.Lookups.{has_thread, is_sporadic}
+use Rattle.design_rules.specs.Rings.{thread_objects, can_start}
+use Rattle.design_rules.specs.Separations.{spacing_by, spacing}
+use Rattle.design_rules.specs.Rules.{AreMet}
 use Rattle.design_programs.proofs.Lists.{all-from}
 use Rattle.design_programs.proofs.Flattened.{ThreadFrom, thread-from, TimingOf, OfCyclic, OfSporadic, timing-of, timed-kind, terminal-object}
 use Rattle.design_programs.proofs.ObjectRules.{separations-right}

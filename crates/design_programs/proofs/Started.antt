@@ -23,12 +23,12 @@ use Rattle.ods_tree.specs.declared.design.Kind.TheVariants as kind
 use Rattle.analysis.specs.Starts.{starts_by, service_starts, starters, can_request}
 use Rattle.analysis.specs.Starts as flatly
 use Rattle.analysis.specs.Sound.{is_started_by, is_started}
-use Rattle.ods_rules.specs.Lookups.{requires, has_thread, is_sporadic}
-use Rattle.ods_rules.specs.Bodies.{is_active}
-use Rattle.ods_rules.specs.Operations.{may_provide, has_request}
-use Rattle.ods_rules.specs.Rings.{terminal_ops, protected_objects, thread_objects, can_start}
-use Rattle.ods_rules.specs.Sources.{start_weight, body_starts, starts_within, requests_by, source_count, start_count, breaks_sources}
-use Rattle.ods_rules.specs.Rules.{AreMet}
+use Rattle.design_rules.specs.Lookups.{requires, has_thread, is_sporadic}
+use Rattle.design_rules.specs.Bodies.{is_active}
+use Rattle.design_rules.specs.Operations.{may_provide, has_request}
+use Rattle.design_rules.specs.Rings.{terminal_ops, protected_objects, thread_objects, can_start}
+use Rattle.design_rules.specs.Sources.{start_weight, body_starts, starts_within, requests_by, source_count, start_count, breaks_sources}
+use Rattle.design_rules.specs.Rules.{AreMet}
 use Rattle.design_programs.proofs.Lists.{all-from, key-eq, differ-if, differ-not}
 use Rattle.design_programs.proofs.Flattened.{library_by, guarded_by, ThreadFrom, thread-from, TimingOf, OfCyclic, OfSporadic, timing-of, timed-kind, request_services, services_at, terminal-object}
 use Rattle.design_programs.proofs.ObjectRules.{no-clash, not-active, sources-right}

@@ -19,10 +19,10 @@ use Rattle.ods_tree.specs.declared.design.Kind.{Kind}
 use Rattle.ods_tree.specs.declared.design.Kind.TheVariants as kind
 use Rattle.analysis.specs.Starts.{calls_by, service_calls, starts_by, service_starts, can_request}
 use Rattle.analysis.specs.Starts as flatly
-use Rattle.ods_rules.specs.Lookups.{requires, is_sporadic}
-use Rattle.ods_rules.specs.Fittings.{wanted_bodies, body_count}
-use Rattle.ods_rules.specs.Rings.{terminal_ops, meant_calls, operation_calls, protected_objects, inner_calls, calls_within, can_start, thread_calls}
-use Rattle.ods_rules.specs.Rules.{AreMet}
+use Rattle.design_rules.specs.Lookups.{requires, is_sporadic}
+use Rattle.design_rules.specs.Fittings.{wanted_bodies, body_count}
+use Rattle.design_rules.specs.Rings.{terminal_ops, meant_calls, operation_calls, protected_objects, inner_calls, calls_within, can_start, thread_calls}
+use Rattle.design_rules.specs.Rules.{AreMet}
 use Rattle.design_programs.proofs.Lists.{from-map, key-eq, differ-if, unnamed-at}
 use Rattle.design_programs.proofs.Renaming.{block_calls-renamed}
 use Rattle.design_programs.proofs.Flattened.{operation-from, services_at, request_services, terminal-object}

@@ -14,10 +14,10 @@ use Rattle.ods_tree.specs.declared.design.Kind.{Kind}
 use Rattle.ods_tree.specs.declared.design.Kind.TheVariants as kind
 use Rattle.ods_tree.specs.declared.design.Constraint.{Constraint}
 use Rattle.ods_tree.specs.declared.design.Constraint.TheVariants as constraint
-use Rattle.ods_rules.specs.Lookups.{is_sporadic}
-use Rattle.ods_rules.specs.Clashes.{is_aser, is_there, is_request, has_block, is_bodied}
-use Rattle.ods_rules.specs.Operations.{may_provide}
-use Rattle.ods_rules.specs.Rules.{AreMet}
+use Rattle.design_rules.specs.Lookups.{is_sporadic}
+use Rattle.design_rules.specs.Clashes.{is_aser, is_there, is_request, has_block, is_bodied}
+use Rattle.design_rules.specs.Operations.{may_provide}
+use Rattle.design_rules.specs.Rules.{AreMet}
 use Rattle.ada_tree.specs.Programs.{Unit}
 use Rattle.ada_tree.specs.Bodies.{op_body, bodies, data_of, heads}
 use Rattle.ada_tree.specs.Bodies as ada

@@ -17,9 +17,9 @@ use Rattle.ada_tree.specs.Bodies.{Body, op_body, scope, bodies_fault, unit_fault
 use Rattle.analysis.specs.Priorities.{priorities_of}
 use Rattle.analysis.specs.Ceilings.{Ranks, ranks}
 use Rattle.guarantee.specs.Programs.{passive_unit, shared_unit, thread_unit, thread_form, program_for, stated_ranks}
-use Rattle.ods_rules.specs.Bodies.{request_params}
-use Rattle.ods_rules.specs.Bodies as ods
-use Rattle.ods_rules.specs.Rules.{AreMet}
+use Rattle.design_rules.specs.Bodies.{request_params}
+use Rattle.design_rules.specs.Bodies as ods
+use Rattle.design_rules.specs.Rules.{AreMet}
 use Rattle.design_programs.proofs.Lists.{in-cases, from-map}
 use Rattle.design_programs.proofs.Renaming.{or_else-from, with_calls}
 use Rattle.design_programs.proofs.Flattened.{library_by, guarded_by, library-from, guarded-from, ThreadFrom, thread-from, TimingOf, OfCyclic, OfSporadic, timing-of}

@@ -21,11 +21,11 @@ use Rattle.ods_tree.specs.declared.design.Kind.TheVariants as kind
 use Rattle.ods_tree.specs.declared.design.Constraint.{Constraint}
 use Rattle.analysis.specs.Execution.{block_cost}
 use Rattle.analysis.specs.Tables.{activation_cost}
-use Rattle.ods_rules.specs.Lookups.{has_thread}
-use Rattle.ods_rules.specs.Uses.{may_call, is_forbidden}
-use Rattle.ods_rules.specs.Budgets.{thread_limit}
-use Rattle.ods_rules.specs.Rings.{thread_objects}
-use Rattle.ods_rules.specs.Rules.{AreMet}
+use Rattle.design_rules.specs.Lookups.{has_thread}
+use Rattle.design_rules.specs.Uses.{may_call, is_forbidden}
+use Rattle.design_rules.specs.Budgets.{thread_limit}
+use Rattle.design_rules.specs.Rings.{thread_objects}
+use Rattle.design_rules.specs.Rules.{AreMet}
 use Rattle.design_programs.proofs.Lists.{in-cases, from-map, all-from, distinct-taken}
 use Rattle.design_programs.proofs.Renaming.{same_params-length, block_calls-renamed}
 use Rattle.design_programs.proofs.Shapes.{counted_name, counted_as, counted-renamed}

@@ -5,7 +5,7 @@
 //! its program stand in the table that its response times are found from, so the response law of the processor speaks of them
 //! (`sound_designs_are_tabled`).
 //!
-//! It stands on `ods_rules`, `analysis` and `guarantee`, and on facts of calls from `program_calls`.
+//! It stands on `design_rules`, `analysis` and `guarantee`, and on facts of calls from `program_calls`.
 #![tactic(auto)]
 
 ghost use Rattle.design_programs.specs.Laws.{FlatDesignsAreSound, DesignProgramsAreReadable, SoundDesignsAreTabled};

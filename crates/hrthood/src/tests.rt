@@ -2,8 +2,10 @@
 
 mod changed_tokens;
 mod designs;
+mod formats;
 mod replays;
 mod rows;
+mod shapes;
 mod statements;
 mod texts;
 

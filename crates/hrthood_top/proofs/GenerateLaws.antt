@@ -7,10 +7,11 @@ use Rattle.ods_tree.specs.Designs as designs
 use Rattle.ods_tree.specs.Flattening.{flat}
 use Rattle.ods_tree.specs.InUse.{IsUsableDesign}
 use Rattle.ods_tree.specs.Reading.{Reads}
+use Rattle.ods_tree.specs.Walk.{own_of}
 use Rattle.ods_tree.specs.Spelling.{design_tokens}
 use Rattle.ods_tree.specs.Ticks.{in_ticks}
-use Rattle.ods_rules.specs.Broken.{Broken}
-use Rattle.ods_rules.specs.Rules.{MeetsRules}
+use Rattle.design_rules.specs.Broken.{Broken}
+use Rattle.design_rules.specs.Rules.{MeetsRules}
 use Rattle.ods_rules.specs.Told.{told_of}
 use Rattle.ods_rules.specs.declared.broken.Broken as code
 use Rattle.rt_response.specs.Rounds.{IsMiss}
@@ -20,15 +21,15 @@ use Rattle.rt_response.specs.declared.rows.ThreadRow.{ThreadRow}
 use Rattle.rt_response.specs.Response.{IsAtMost, IsLeastVector}
 use Rattle.analysis.specs.Tables.{table}
 use Rattle.guarantee.specs.Programs.{text}
-use Rattle.bridge.specs.Delivers.{ReadsAlone, IsTextFor, IsNoText, IsBroken, BreaksRule, HasNoBounds, HasLongText}
+use Rattle.bridge.specs.Delivers.{IsTextFor, IsNotBuilt, HasNoBounds, HasLongText}
 use Rattle.bridge.specs.Rows.{name_of_row}
 use Rattle.seq_tree.specs.Names.{Name}
 use Rattle.hrthood_top.specs.declared.file_kind.FileKind.TheVariants.{Design}
 use Rattle.hrthood_top.specs.declared.generate.GenerateRefusal.{GenerateRefusal}
-use Rattle.hrthood_top.specs.declared.generate.GenerateRefusal.TheVariants.{Text, Rule, Miss, Long}
+use Rattle.hrthood_top.specs.declared.generate.GenerateRefusal.TheVariants.{Text, Rule, NotBuilt, Miss, Long}
 use Rattle.hrthood_top.specs.Generates.{CanGenerate, RefusesDesign, generates}
-use Rattle.hrthood_top.proofs.OneText.{one-design-fault}
-use Rattle.hrthood_top.proofs.OneRule.{one-at, one-broken, one-miss}
+use Rattle.hrthood_top.proofs.OneDesign.{one-design, no-fault, one-fault, no-rule, one-rule}
+use Rattle.hrthood_top.proofs.OneRule.{one-at, one-miss}
 use Rattle.hrthood_top.proofs.VerbLaws.{IsExact}
 
 -- two vectors, neither of which is above the other
@@ -47,84 +48,49 @@ same_vectors (a ∷ v) (b ∷ u) p q =
 one_least : (rows : List ThreadRow) (v u : List Bound) → IsLeastVector rows v → IsLeastVector rows u → v ≡ u
 one_least rows v u p q = same_vectors v u (p.least u q.fits) (q.least v p.fits)
 
--- a design that meets the rules breaks none
-none_broken : (x : designs.Design) (told : Option Broken) → MeetsRules x → IsBroken x told → ⊥
-none_broken x None meets broken = broken
-none_broken x (Some told) meets broken = meets broken.rule broken.place told broken.offends
-
--- bytes of which a text can be made are one design
-one_design : (bytes bytes' : List ℕ) (w : CanGenerate bytes) (y : designs.Design) → bytes ≡ bytes' → ReadsAlone bytes' y → w.design ≡ y
-one_design bytes bytes' w y same q = q.only w.design w.usable (rw (← same) w.reads)
-
-not_broken : (bytes bytes' : List ℕ) (told : Option Broken) → bytes ≡ bytes' → CanGenerate bytes → BreaksRule bytes' told → ⊥
-not_broken bytes bytes' told same w h =
-    let P : designs.Design → Type 0 = λ z. IsBroken z told in
-    none_broken w.design told w.meets (subst P (sym (one_design bytes bytes' w h.design same h.read)) h.broken)
-
 not_long : (bytes bytes' : List ℕ) → bytes ≡ bytes' → CanGenerate bytes → HasLongText bytes' → ⊥
 not_long bytes bytes' same w h =
-    let one : h.design ≡ w.design = sym (one_design bytes bytes' w h.design same h.read) in
+    let one : h.design ≡ w.design = one-design bytes' h.design w.design h.reads (subst (λ z. Reads z w.design) same w.reads) in
     let P : designs.Design → Type 0 = λ z. IsLeastVector (table (flat (in_ticks z))).rows h.bounds in
     let bounds : h.bounds ≡ w.bounds = one_least (table (flat (in_ticks w.design))).rows h.bounds w.bounds (subst P one h.least) w.least in
     let L : designs.Design → List Bound → ℕ = λ z v. length (text (in_ticks z) v) in
     let equal : length (text (in_ticks h.design) h.bounds) ≡ length (text (in_ticks w.design) w.bounds) = ap (λ z. L z h.bounds) one ∙ ap (L w.design) bounds in
     let long = h.long in let short = w.short in omega (arith, equal)
 
--- bytes that read as a design have no fault
-not_misread : (bytes : List ℕ) (x : designs.Design) (misread : Misread) → Reads bytes x → tokens bytes ≡ Err misread → ⊥
-not_misread bytes x misread r e = let same : plain (Err misread) ≡ Ok (design_tokens x) = rw e at r.spelled in cc
-
-no_fault : (bytes : List ℕ) (x : designs.Design) (found : TextFault) → IsUsableDesign x → Reads bytes x → IsNoText bytes found → ⊥
-no_fault bytes x (fault.Byte place) usable r h = not_misread bytes x _ r h.1
-no_fault bytes x (fault.Number place) usable r h = not_misread bytes x _ r h.1
-no_fault bytes x (fault.Long place) usable r h = not_misread bytes x _ r h.1
-no_fault bytes x (fault.Syntax place) usable r h = h.0.3 x usable r
-no_fault bytes x (fault.TooDeep place) usable r h = h
-no_fault bytes x fault.FileTooLong usable r h = let short = r.within in omega (arith, short, h)
-no_fault bytes x fault.NoMemory usable r h = h
-
 can_or_refuses : (bytes bytes' : List ℕ) → bytes ≡ bytes' → CanGenerate bytes → (r : GenerateRefusal) → RefusesDesign bytes' r → ⊥
-can_or_refuses bytes bytes' same w (Text found) h = no_fault bytes' w.design found w.usable (rw (← same) w.reads) h
-can_or_refuses bytes bytes' same w (Rule broken) h = not_broken bytes bytes' (told_of broken) same w h
+can_or_refuses bytes bytes' same w (Text found) h = no-fault bytes' w.design found (subst (λ z. Reads z w.design) same w.reads) h
+can_or_refuses bytes bytes' same w (Rule broken) h = no-rule bytes' broken w.design h (subst (λ z. Reads z w.design) same w.reads) w.meets
+can_or_refuses bytes bytes' same w (NotBuilt object) h =
+    h.unusable (subst IsUsableDesign (one-design bytes' w.design h.design (subst (λ z. Reads z w.design) same w.reads) h.reads) w.usable)
 can_or_refuses bytes bytes' same w (Miss thread miss) h =
-    let one : h.design ≡ w.design = sym (one_design bytes bytes' w h.design same h.read) in h.none w.bounds (rw one w.least.fits)
+    let one : h.design ≡ w.design = one-design bytes' h.design w.design h.reads (subst (λ z. Reads z w.design) same w.reads) in
+    h.none w.bounds (rw one w.least.fits)
 can_or_refuses bytes bytes' same w Long h = not_long bytes bytes' same w h
 
 can_make : (bytes made : List ℕ) → IsTextFor bytes made → CanGenerate bytes
 can_make bytes made w = record {
   design = w.design;
-  usable = w.read.usable;
-  reads = w.read.reads;
+  usable = w.usable;
+  reads = w.reads;
   meets = w.meets;
   bounds = w.bounds;
   least = w.least;
   short = (let short = w.short in rw w.made at short);
 }
 
--- bytes are one design
-same_design : (bytes : List ℕ) (x y : designs.Design) → ReadsAlone bytes x → ReadsAlone bytes y → x ≡ y
-same_design bytes x y h k = k.only x h.usable h.reads
+not_built_or_usable : (bytes : List ℕ) (object : Name) (x : designs.Design) → IsNotBuilt bytes object → IsUsableDesign x → Reads bytes x → ⊥
+not_built_or_usable bytes object x h usable reads = h.unusable (subst IsUsableDesign (one-design bytes x h.design reads h.reads) usable)
 
-text_or_design : (bytes : List ℕ) (x : designs.Design) (found : TextFault) → IsNoText bytes found → ReadsAlone bytes x → ⊥
-text_or_design bytes x found h k = no_fault bytes x found k.usable k.reads h
-
-rule_or_meets : (bytes : List ℕ) (broken : code.Broken) (x : designs.Design) → BreaksRule bytes (told_of broken) → ReadsAlone bytes x → MeetsRules x → ⊥
-rule_or_meets bytes broken x h k meets =
-    let B : designs.Design → Type 0 = λ z. IsBroken z (told_of broken) in
-    none_broken x (told_of broken) meets (subst B (same_design bytes h.design x h.read k) h.broken)
+one_root : (bytes : List ℕ) (object other : Name) → IsNotBuilt bytes object → IsNotBuilt bytes other → object ≡ other
+one_root bytes object other h k = h.root ∙ ap (λ z. (own_of z.root).name) (one-design bytes h.design k.design h.reads k.reads) ∙ sym k.root
 
 bounds_or_none : (bytes : List ℕ) (thread : Name) (miss : rows.Miss) → HasNoBounds bytes thread miss → HasLongText bytes → ⊥
 bounds_or_none bytes thread miss h k =
-    let one : h.design ≡ k.design = same_design bytes h.design k.design h.read k.read in h.none k.bounds (rw one k.least.fits)
-
-one_rule : (bytes : List ℕ) (a b : code.Broken) → BreaksRule bytes (told_of a) → BreaksRule bytes (told_of b) → a ≡ b
-one_rule bytes a b h k =
-    let B : designs.Design → Type 0 = λ z. IsBroken z (told_of a) in
-    one-broken k.design a b (subst B (same_design bytes h.design k.design h.read k.read) h.broken) k.broken
+    let one : h.design ≡ k.design = one-design bytes h.design k.design h.reads k.reads in h.none k.bounds (rw one k.least.fits)
 
 one_over : (bytes : List ℕ) (thread other : Name) (m n : rows.Miss) → HasNoBounds bytes thread m → HasNoBounds bytes other n → ◌≡◌ {A = GenerateRefusal} (Miss thread m) (Miss other n)
 one_over bytes thread other m n h k =
-    let design = same_design bytes h.design k.design h.read k.read in
+    let design = one-design bytes h.design k.design h.reads k.reads in
     let M : designs.Design → Type 0 = λ z. IsMiss (table (flat (in_ticks z))).rows m in
     let miss : m ≡ n = one-miss (table (flat (in_ticks k.design))).rows m n (subst M design h.first) k.first in
     let N : designs.Design → Type 0 = λ z. name_of_row (flat (in_ticks z)) m.index ≡ Some thread in
@@ -133,20 +99,29 @@ one_over bytes thread other m n h k =
     ap (λ z. Miss z m) name ∙ ap (λ z. Miss other z) miss
 
 one_refusal : (bytes : List ℕ) (r q : GenerateRefusal) → RefusesDesign bytes r → RefusesDesign bytes q → r ≡ q
-one_refusal bytes (Text f) (Text g) h k = ap Text (one-design-fault bytes f g h k)
-one_refusal bytes (Text f) (Rule broken) h k = absurd (text_or_design bytes k.design f h k.read)
-one_refusal bytes (Text f) (Miss thread miss) h k = absurd (text_or_design bytes k.design f h k.read)
-one_refusal bytes (Text f) Long h k = absurd (text_or_design bytes k.design f h k.read)
-one_refusal bytes (Rule broken) (Text f) h k = absurd (text_or_design bytes h.design f k h.read)
-one_refusal bytes (Rule broken) (Rule other) h k = ap Rule (one_rule bytes broken other h k)
-one_refusal bytes (Rule broken) (Miss thread miss) h k = absurd (rule_or_meets bytes broken k.design h k.read k.meets)
-one_refusal bytes (Rule broken) Long h k = absurd (rule_or_meets bytes broken k.design h k.read k.meets)
-one_refusal bytes (Miss thread miss) (Text f) h k = absurd (text_or_design bytes h.design f k h.read)
-one_refusal bytes (Miss thread miss) (Rule broken) h k = absurd (rule_or_meets bytes broken h.design k h.read h.meets)
+one_refusal bytes (Text f) (Text g) h k = ap Text (one-fault bytes f g h k)
+one_refusal bytes (Text f) (Rule broken) h k = absurd (no-fault bytes k.design f k.reads h)
+one_refusal bytes (Text f) (NotBuilt object) h k = absurd (no-fault bytes k.design f k.reads h)
+one_refusal bytes (Text f) (Miss thread miss) h k = absurd (no-fault bytes k.design f k.reads h)
+one_refusal bytes (Text f) Long h k = absurd (no-fault bytes k.design f k.reads h)
+one_refusal bytes (Rule broken) (Text f) h k = absurd (no-fault bytes h.design f h.reads k)
+one_refusal bytes (Rule broken) (Rule other) h k = ap Rule (one-rule bytes broken other h k)
+one_refusal bytes (Rule broken) (NotBuilt object) h k = absurd (not_built_or_usable bytes object h.design k h.usable h.reads)
+one_refusal bytes (Rule broken) (Miss thread miss) h k = absurd (no-rule bytes broken k.design h k.reads k.meets)
+one_refusal bytes (Rule broken) Long h k = absurd (no-rule bytes broken k.design h k.reads k.meets)
+one_refusal bytes (NotBuilt object) (Text f) h k = absurd (no-fault bytes h.design f h.reads k)
+one_refusal bytes (NotBuilt object) (Rule broken) h k = absurd (not_built_or_usable bytes object k.design h k.usable k.reads)
+one_refusal bytes (NotBuilt object) (NotBuilt other) h k = ap NotBuilt (one_root bytes object other h k)
+one_refusal bytes (NotBuilt object) (Miss thread miss) h k = absurd (not_built_or_usable bytes object k.design h k.usable k.reads)
+one_refusal bytes (NotBuilt object) Long h k = absurd (not_built_or_usable bytes object k.design h k.usable k.reads)
+one_refusal bytes (Miss thread miss) (Text f) h k = absurd (no-fault bytes h.design f h.reads k)
+one_refusal bytes (Miss thread miss) (Rule broken) h k = absurd (no-rule bytes broken h.design k h.reads h.meets)
+one_refusal bytes (Miss thread miss) (NotBuilt object) h k = absurd (not_built_or_usable bytes object h.design k h.usable h.reads)
 one_refusal bytes (Miss thread miss) (Miss other more) h k = one_over bytes thread other miss more h k
 one_refusal bytes (Miss thread miss) Long h k = absurd (bounds_or_none bytes thread miss h k)
-one_refusal bytes Long (Text f) h k = absurd (text_or_design bytes h.design f k h.read)
-one_refusal bytes Long (Rule broken) h k = absurd (rule_or_meets bytes broken h.design k h.read h.meets)
+one_refusal bytes Long (Text f) h k = absurd (no-fault bytes h.design f h.reads k)
+one_refusal bytes Long (Rule broken) h k = absurd (no-rule bytes broken h.design k h.reads h.meets)
+one_refusal bytes Long (NotBuilt object) h k = absurd (not_built_or_usable bytes object h.design k h.usable h.reads)
 one_refusal bytes Long (Miss thread miss) h k = absurd (bounds_or_none bytes thread miss k h)
 one_refusal bytes Long Long h k = refl
 

@@ -2,8 +2,10 @@ pub mod Pieces
 pub mod Fetching
 pub mod Ending
 pub mod OneText
+pub mod OneDesign
 pub mod OneRule
 pub mod VerbLaws
+pub mod FormatLaws
 pub mod GenerateLaws
 pub mod ReplayLaws
 pub mod Completing

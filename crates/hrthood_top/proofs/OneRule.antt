@@ -6,8 +6,8 @@ use Rattle.seq_check.specs.declared.fault.BodyFault.{BodyFault}
 use Rattle.seq_check.specs.declared.fault.BodyFault.TheVariants as body
 use Rattle.ods_tree.specs.Designs.{Design}
 use Rattle.ods_tree.specs.Ticks.{in_ticks}
-use Rattle.ods_rules.specs.Broken.{Broken, V01, V02, V09Calls, V09Objects, V09Starts, V11, V14, V15Cost}
-use Rattle.ods_rules.specs.Rules as design
+use Rattle.design_rules.specs.Broken.{Broken, V01, V02, V09Calls, V09Objects, V09Starts, V11, V14, V15Cost}
+use Rattle.design_rules.specs.Rules as design
 use Rattle.ods_rules.specs.Told.{told_of}
 use Rattle.ods_rules.specs.declared.broken.Broken as code
 use Rattle.ods_rules.specs.declared.broken.Broken.TheVariants as variant

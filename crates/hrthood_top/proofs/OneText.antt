@@ -1,8 +1,7 @@
--- That bytes have at most one fault, as a design, as an Ada text and as arrivals.
+-- That bytes have at most one fault, as an Ada text and as arrivals.
 use Rattle.std.proofs.Common.{◌≡◌, ℕ, zero, suc, ◌<◌, ◌≤◌, ◌-◌, List, [], ◌∷◌, ◌++◌, length, Ok, Err, ◌⊎◌, inl, inr, refl, sym, ap, subst, ◌∙◌, arith, append_assoc, length-append}
 use Rattle.grammar.specs.Reading.{IsFirstFault}
 use Rattle.seq_tree.specs.Lexis.{Misread, Stray, Great, Long, tokens}
-use Rattle.seq_tree.specs.Reach as reach
 use Rattle.seq_tree.specs.declared.token.Place.{Place}
 use Rattle.seq_tree.specs.declared.token.Spanned.{Spanned}
 use Rattle.seq_tree.specs.declared.text_fault.TextFault.{TextFault}
@@ -10,11 +9,10 @@ use Rattle.seq_tree.specs.declared.text_fault.TextFault.TheVariants as fault
 use Rattle.seq_tree.specs.declared.token.Token.{Token}
 use Rattle.token_read.specs.Words.{bare}
 use Rattle.seq_read.specs.Places.{place_at}
+use Rattle.seq_read.proofs.TextFaultLaws.{one-text-fault}
 use Rattle.ada_tree.specs.Programs.{Program}
 use Rattle.ada_read.specs.Answers as ada
-use Rattle.ods_read.specs.Answers as ods
 use Rattle.arrivals_read.specs.Answers as arrivals
-use Rattle.bridge.specs.Delivers.{IsNoText}
 use Rattle.hrthood_top.specs.Replays.{IsNoArrivals}
 
 -- two numbers, neither of which is below the other
@@ -102,30 +100,6 @@ one_of At bytes limit f g one (inr (inr a)) (inl b) = let short = b.short in let
 one_of At bytes limit f g one (inr (inr a)) (inr (inl b)) = let short = b.short in let long = a.0 in absurd (omega arith)
 one_of At bytes limit f g one (inr (inr a)) (inr (inr b)) = a.1 ∙ sym b.1
 
--- A DESIGN
-abbrev StopsDesign : List ℕ → TextFault → Type 0
-StopsDesign bytes f = (place : Place) × (f ≡ fault.Syntax place) × ods.StopsAt bytes place
-
-one_stop : (bytes : List ℕ) (f g : TextFault) → StopsDesign bytes f → StopsDesign bytes g → f ≡ g
-one_stop bytes f g a b =
-    let found = one_list bytes a.2.found b.2.found a.2.read b.2.read in
-    let P : List Spanned → Type 0 = λ z. IsFirstFault ods.IsTextOf (bare z) a.2.left in
-    let left = one-first ods.IsTextOf (bare b.2.found) a.2.left b.2.left (subst P found a.2.first) b.2.first in
-    let place : a.0 ≡ b.0 = a.2.here ∙ ap (λ z. place_at bytes z a.2.left) found ∙ ap (place_at bytes b.2.found) left ∙ sym b.2.here in
-    a.1 ∙ ap fault.Syntax place ∙ sym b.1
-
-of_design : (bytes : List ℕ) (f : TextFault) → IsNoText bytes f → IsOneOf (StopsDesign bytes) bytes 1048576 f
-of_design bytes (fault.Byte place) h = inl (record { misread = Stray place; short = h.0; read = h.1; is = refl })
-of_design bytes (fault.Number place) h = inl (record { misread = Great place; short = h.0; read = h.1; is = refl })
-of_design bytes (fault.Long place) h = inl (record { misread = Long place; short = h.0; read = h.1; is = refl })
-of_design bytes (fault.Syntax place) h = inr (inl (record { found = h.0.0; short = h.0.1; read = h.0.2; at = (place, refl, h.1) }))
-of_design bytes (fault.TooDeep place) h = absurd h
-of_design bytes fault.FileTooLong h = inr (inr (h, refl))
-of_design bytes fault.NoMemory h = absurd h
-
-pub one-design-fault : (bytes : List ℕ) (f g : TextFault) → IsNoText bytes f → IsNoText bytes g → f ≡ g
-one-design-fault bytes f g a b = one_of (StopsDesign bytes) bytes 1048576 f g (one_stop bytes f g) (of_design bytes f a) (of_design bytes g b)
-
 -- ARRIVALS
 abbrev StopsArrivals : List ℕ → Program → TextFault → Type 0
 StopsArrivals bytes p f = (place : Place) × (f ≡ fault.Syntax place) × arrivals.StopsAt bytes p place
@@ -151,68 +125,5 @@ pub one-arrivals-fault : (bytes : List ℕ) (p : Program) (f g : TextFault) → 
 one-arrivals-fault bytes p f g a b = one_of (StopsArrivals bytes p) bytes 1048576 f g (one_halt bytes p f g) (of_arrivals bytes p f a) (of_arrivals bytes p g b)
 
 -- AN ADA TEXT
--- a reach is one number
-one_reach : (Texts : List Token → Type 0) (ts : List Token) (a b : ℕ) → reach.IsReach Texts ts a → reach.IsReach Texts ts b → a ≡ b
-one_reach Texts ts a b r q = let up : a ≤ b = q.greatest a r.within r.begins in let down : b ≤ a = r.greatest b q.within q.begins in omega arith
-
--- and so is a fault of tokens
-one_fault : (Texts Limited : List Token → Type 0) (ts : List Token) (a b : reach.Fault) → reach.IsFault Texts Limited ts a → reach.IsFault Texts Limited ts b → a ≡ b
-one_fault Texts Limited ts (reach.Syntax a) (reach.Syntax b) f g = ap reach.Syntax (one_reach Texts ts a b f.reach g.reach)
-one_fault Texts Limited ts (reach.TooDeep a) (reach.TooDeep b) f g = ap reach.TooDeep (one_reach Limited ts a b f.reach g.reach)
-one_fault Texts Limited ts (reach.Syntax a) (reach.TooDeep b) f g =
-    let same : a ≡ b = one_reach Limited ts a b f.limited g.reach in
-    let further : a ≡ g.goes_on.0 = one_reach Texts ts a g.goes_on.0 f.reach g.goes_on.1 in
-    let more = g.goes_on.2 in absurd (omega arith)
-one_fault Texts Limited ts (reach.TooDeep a) (reach.Syntax b) f g =
-    let same : a ≡ b = one_reach Limited ts a b f.reach g.limited in
-    let further : b ≡ f.goes_on.0 = one_reach Texts ts b f.goes_on.0 g.reach f.goes_on.1 in
-    let more = f.goes_on.2 in absurd (omega arith)
-
--- the fault that is told of tokens
-abbrev told_as : Place → reach.Fault → TextFault
-told_as place (reach.Syntax index) = fault.Syntax place
-told_as place (reach.TooDeep index) = fault.TooDeep place
-
-abbrev index_of : reach.Fault → ℕ
-index_of (reach.Syntax index) = index
-index_of (reach.TooDeep index) = index
-
-record StopsAda (bytes : List ℕ) (f : TextFault) : Type 0 where
-  pub place : Place
-  pub kind : reach.Fault
-  pub found : List Spanned
-  pub read : tokens bytes ≡ Ok found
-  pub of : reach.IsFault ada.AnyProgram ada.SomeProgram (bare found) kind
-  pub here : place ≡ place_at bytes found (length found - index_of kind)
-  pub is : f ≡ told_as place kind
-
-one_ada : (bytes : List ℕ) (f g : TextFault) → StopsAda bytes f → StopsAda bytes g → f ≡ g
-one_ada bytes f g a b =
-    let found = one_list bytes a.found b.found a.read b.read in
-    let P : List Spanned → Type 0 = λ z. reach.IsFault ada.AnyProgram ada.SomeProgram (bare z) a.kind in
-    let kind = one_fault ada.AnyProgram ada.SomeProgram (bare b.found) a.kind b.kind (subst P found a.of) b.of in
-    let place : a.place ≡ b.place = a.here ∙ ap (λ z. place_at bytes z (length z - index_of a.kind)) found
-    ∙ ap (λ z. place_at bytes b.found (length b.found - index_of z)) kind ∙ sym b.here in
-    a.is ∙ ap (λ z. told_as z a.kind) place ∙ ap (told_as b.place) kind ∙ sym b.is
-
-of_ada : (bytes : List ℕ) (f : TextFault) → ada.Faults bytes f → IsOneOf (StopsAda bytes) bytes 16777216 f
-of_ada bytes (fault.Byte place) h = inl (record { misread = Stray place; short = h.0; read = h.1; is = refl })
-of_ada bytes (fault.Number place) h = inl (record { misread = Great place; short = h.0; read = h.1; is = refl })
-of_ada bytes (fault.Long place) h = inl (record { misread = Long place; short = h.0; read = h.1; is = refl })
-of_ada bytes (fault.Syntax place) h = inr (inl (record {
-  found = h.found;
-  short = h.short;
-  read = h.read;
-  at = record { place = place; kind = reach.Syntax h.index; found = h.found; read = h.read; of = h.fault; here = h.here; is = refl };
-}))
-of_ada bytes (fault.TooDeep place) h = inr (inl (record {
-  found = h.found;
-  short = h.short;
-  read = h.read;
-  at = record { place = place; kind = reach.TooDeep h.index; found = h.found; read = h.read; of = h.fault; here = h.here; is = refl };
-}))
-of_ada bytes fault.FileTooLong h = inr (inr (h, refl))
-of_ada bytes fault.NoMemory h = absurd h
-
 pub one-ada-fault : (bytes : List ℕ) (f g : TextFault) → ada.Faults bytes f → ada.Faults bytes g → f ≡ g
-one-ada-fault bytes f g a b = one_of (StopsAda bytes) bytes 16777216 f g (one_ada bytes f g) (of_ada bytes f a) (of_ada bytes g b)
+one-ada-fault bytes f g a b = one-text-fault ada.AnyProgram ada.SomeProgram 16777216 bytes f g a b

@@ -4,6 +4,7 @@ use Rattle.std.specs.Prelude.{◌≡◌, ℕ, List, [], ◌++◌, codes, decimal
 use Rattle.std.specs.Borrow.{Bor}
 use Rattle.seq_tree.specs.Names.{Name}
 use Rattle.seq_tree.specs.declared.token.Place.{Place}
+use Rattle.seq_tree.specs.declared.tree.OpName.{OpName}
 use Rattle.seq_tree.specs.declared.text_fault.TextFault.{TextFault}
 use Rattle.seq_tree.specs.declared.text_fault.TextFault.TheVariants as fault
 use Rattle.seq_check.specs.declared.fault.BodyFault.{BodyFault}
@@ -23,6 +24,21 @@ use Rattle.hrthood_top.specs.Files.{kind_text}
 -- pieces of a text, joined
 abbrev pub joined : List (Bor (List ℕ)) → List ℕ
 joined pieces = flat_map (λ p. p.now) pieces
+
+-- the code of a fault of a body; want of memory is no fault, and is never told so
+abbrev pub body_text : BodyFault → List ℕ
+body_text body.Unknown = codes " B1"
+body_text body.Sort = codes " B2"
+body_text body.Divisor = codes " B3"
+body_text body.Exit = codes " B4"
+body_text body.Assigned = codes " B5"
+body_text body.Actual = codes " B6"
+body_text body.Count = codes " B7"
+body_text body.NoMemory = []
+
+-- a line of a code and one name
+abbrev pub name_line : List ℕ → Name → List ℕ
+name_line code name = code ++ (name ++ codes "\n")
 
 -- the line of a rule that a design breaks; want of memory is no rule, and is never told so
 abbrev pub rule_line : Broken → List ℕ
@@ -47,24 +63,24 @@ miss_line thread m =
     codes "refused " ++ (limit_text m.which ++ (thread ++ (codes " value " ++ (decimal m.value ++ (codes " limit " ++ (decimal m.limit
     ++ (codes " round " ++ (decimal m.round ++ codes "\n"))))))))
 
--- a place, at the end of a line
-abbrev pub place_text : Place → List ℕ
-place_text p = codes " ada line " ++ (decimal p.line ++ (codes " column " ++ (decimal p.column ++ codes "\n")))
+-- a place in a file of a kind, at the end of a line
+abbrev pub place_text : FileKind → Place → List ℕ
+place_text kind p = codes " " ++ (kind_text kind ++ (codes " line " ++ (decimal p.line ++ (codes " column " ++ (decimal p.column ++ codes "\n")))))
 
--- the line of what is wrong with an Ada text; a file that is too long and want of memory are never told so
-abbrev pub text_line : TextFault → List ℕ
-text_line (fault.Byte place) = codes "refused L1" ++ place_text place
-text_line (fault.Number place) = codes "refused L2" ++ place_text place
-text_line (fault.Long place) = codes "refused L3" ++ place_text place
-text_line (fault.Syntax place) = codes "refused S1" ++ place_text place
-text_line (fault.TooDeep place) = codes "refused S2" ++ place_text place
-text_line fault.FileTooLong = codes "refused\n"
-text_line fault.NoMemory = codes "refused\n"
+-- the line of what is wrong with the text of a file; a file that is too long and want of memory are never told so
+abbrev pub text_line : FileKind → TextFault → List ℕ
+text_line kind (fault.Byte place) = codes "refused L1" ++ place_text kind place
+text_line kind (fault.Number place) = codes "refused L2" ++ place_text kind place
+text_line kind (fault.Long place) = codes "refused L3" ++ place_text kind place
+text_line kind (fault.Syntax place) = codes "refused S1" ++ place_text kind place
+text_line kind (fault.TooDeep place) = codes "refused S2" ++ place_text kind place
+text_line kind fault.FileTooLong = codes "refused\n"
+text_line kind fault.NoMemory = codes "refused\n"
 
--- the code of what is wrong with an Ada text, and its place
-abbrev pub FaultAt : TextFault → Option (List ℕ × Place) → Type 0
-FaultAt f None = text_line f ≡ codes "refused\n"
-FaultAt f (Some told) = text_line f ≡ told.0 ++ place_text told.1
+-- the code of what is wrong with a text, and its place
+abbrev pub FaultAt : FileKind → TextFault → Option (List ℕ × Place) → Type 0
+FaultAt kind f None = text_line kind f ≡ codes "refused\n"
+FaultAt kind f (Some told) = text_line kind f ≡ told.0 ++ place_text kind told.1
 
 -- the code of a rule of a program
 abbrev pub rule_text : AdaRule → List ℕ
@@ -75,18 +91,7 @@ rule_text (rules.G4 fault) = codes "G4"
 rule_text rules.G5 = codes "G5"
 rule_text rules.G6 = codes "G6"
 
--- the code of a fault of a body, behind its unit; want of memory is no fault, and is never told so
-abbrev pub body_text : BodyFault → List ℕ
-body_text body.Unknown = codes " B1"
-body_text body.Sort = codes " B2"
-body_text body.Divisor = codes " B3"
-body_text body.Exit = codes " B4"
-body_text body.Assigned = codes " B5"
-body_text body.Actual = codes " B6"
-body_text body.Count = codes " B7"
-body_text body.NoMemory = []
-
--- the same, of a rule
+-- the fault of a body that a rule tells, behind its unit
 abbrev pub fault_text : AdaRule → List ℕ
 fault_text (rules.G4 fault) = body_text fault
 fault_text _ = []

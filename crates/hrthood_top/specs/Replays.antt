@@ -77,7 +77,7 @@ RefusesReplay ada arrivals (refusal.Arrivals found) = IsAdaAlone ada arrivals fo
 
 -- the line that tells it; where an arrivals text is none is not told
 abbrev pub replay_line : ReplayRefusal → List ℕ
-replay_line (refusal.Text found) = text_line found
+replay_line (refusal.Text found) = text_line Ada found
 replay_line (refusal.Unit rule unit) = unit_line rule unit
 replay_line (refusal.Arrivals found) = codes "refused S1 arrivals\n"
 

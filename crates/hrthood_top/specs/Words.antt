@@ -5,6 +5,8 @@ use Rattle.std.specs.Str.{bytes_eq}
 
 -- what is to be done, with the names of files
 pub data Command : Type 0 where
+  -- print a design again
+  Format : (design : List ℕ) → Command
   -- make the Ada text of a design
   Generate : (design : List ℕ) → Command
   -- replay an Ada text under arrivals
@@ -15,10 +17,16 @@ abbrev pub is_file_name : List ℕ → Bool
 is_file_name [] = false
 is_file_name (c ∷ cs) = not (c == 45)
 
+-- the command that a verb with the name of a design is, where it is one
+abbrev pub design_command : List ℕ → List ℕ → Option Command
+design_command verb design =
+    if bytes_eq verb (codes "format") then Some (Format design)
+    else (if bytes_eq verb (codes "generate") then Some (Generate design) else None)
+
 -- the command that these words are
 abbrev pub command_of : List (List ℕ) → Option Command
 command_of [] = None
 command_of (verb ∷ []) = None
-command_of (verb ∷ d ∷ []) = if bytes_eq verb (codes "generate") && is_file_name d then Some (Generate d) else None
+command_of (verb ∷ d ∷ []) = if is_file_name d then design_command verb d else None
 command_of (verb ∷ a ∷ r ∷ []) = if bytes_eq verb (codes "replay") && (is_file_name a && is_file_name r) then Some (Replay a r) else None
 command_of (verb ∷ a ∷ r ∷ word ∷ words) = None

@@ -1,59 +1,13 @@
-ghost use Rattle.std.specs.Prelude.{◌≡◌, ◌++◌, option_map};
+ghost use Rattle.std.specs.Prelude.{◌≡◌};
 ghost use Rattle.hood_io.specs.Causes.{HasCause};
 ghost use Rattle.hood_io.specs.Sinks.{Puts};
-ghost use Rattle.hrthood_top.specs.Messages.{place_text, text_line, rule_text, body_text, fault_text, gap_text, unit_text, unit_line, FaultAt};
+ghost use Rattle.hrthood_top.specs.Messages.{rule_text, fault_text, gap_text, unit_text, unit_line};
 
 use crate::line::put_each;
+use crate::text_lines::body_text;
 use ada_rules::AdaRule;
-use hood_io::{Failed, Sink, put_all};
-use itoa::Buffer;
-use seq_check::BodyFault;
-use seq_tree::{Name, Place, TextFault};
-
-/// The code of what is wrong with an Ada text, and its place.
-fn fault_of(fault: TextFault) -> Option<(&'static [u8], Place)>
-    ensures { FaultAt fault (option_map (λ p. (p.0.now, p.1)) result) }
-{
-    match fault {
-        TextFault::Byte(place) => Some((b"refused L1", place)),
-        TextFault::Number(place) => Some((b"refused L2", place)),
-        TextFault::Long(place) => Some((b"refused L3", place)),
-        TextFault::Syntax(place) => Some((b"refused S1", place)),
-        TextFault::TooDeep(place) => Some((b"refused S2", place)),
-        TextFault::FileTooLong | TextFault::NoMemory => None,
-    }
-}
-
-/// Writes a code and a place of an Ada text; after a failure a proper front of them was written.
-fn put_place<E: Sink>(err: &mut E, code: &[u8], place: Place) -> Result<(), Failed>
-    ensures cause { HasCause (E.faults err.old) (E.faults err.new) result }
-    ensures puts { Puts (E.written err.old) (E.written err.new) (code.now ++ place_text place) result }
-{
-    let mut line = Buffer::new();
-    let mut column = Buffer::new();
-    put_each(
-        err,
-        &[
-            code,
-            b" ada line ".as_slice(),
-            line.format(place.line).as_bytes(),
-            b" column ".as_slice(),
-            column.format(place.column).as_bytes(),
-            b"\n".as_slice(),
-        ],
-    )
-}
-
-/// Writes the line of what is wrong with an Ada text; after a failure a proper front of it was written.
-pub(crate) fn put_fault<E: Sink>(err: &mut E, fault: TextFault) -> Result<(), Failed>
-    ensures cause { HasCause (E.faults err.old) (E.faults err.new) result }
-    ensures puts { Puts (E.written err.old) (E.written err.new) (text_line fault) result }
-{
-    match fault_of(fault) {
-        Some((code, place)) => put_place(err, code, place),
-        None => put_all(err, b"refused\n"),
-    }
-}
+use hood_io::{Failed, Sink};
+use seq_tree::Name;
 
 /// The code of a rule of a program.
 fn rule_text<'a>(rule: AdaRule) -> &'a [u8]
@@ -66,22 +20,6 @@ fn rule_text<'a>(rule: AdaRule) -> &'a [u8]
         AdaRule::G4(_) => b"G4",
         AdaRule::G5 => b"G5",
         AdaRule::G6 => b"G6",
-    }
-}
-
-/// The code of a fault of a body, behind its unit.
-fn body_text<'a>(fault: BodyFault) -> &'a [u8]
-    ensures { result.now ≡ body_text fault }
-{
-    match fault {
-        BodyFault::Unknown => b" B1",
-        BodyFault::Sort => b" B2",
-        BodyFault::Divisor => b" B3",
-        BodyFault::Exit => b" B4",
-        BodyFault::Assigned => b" B5",
-        BodyFault::Actual => b" B6",
-        BodyFault::Count => b" B7",
-        BodyFault::NoMemory => b"",
     }
 }
 

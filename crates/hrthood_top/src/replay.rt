@@ -9,13 +9,14 @@ ghost use Rattle.hrthood_top.specs.Ends.{EndsVerb, outside};
 ghost use Rattle.hrthood_top.specs.Replays.{replays, replay_line, Replays, RefusesReplay, RunsAda};
 ghost use Rattle.hrthood_top.specs.Writing.{IsMade};
 
-use crate::ada_lines::{put_fault, put_unit};
+use crate::ada_lines::put_unit;
 use crate::fetch::{File, fetch_files};
 use crate::file_kind::FileKind;
 use crate::finish::{finish, tell_stop};
 use crate::halt::Halt;
 use crate::line::Line;
 use crate::status::Status;
+use crate::text_lines::put_fault;
 use crate::trace::trace_text;
 use ada_read::{AdaFault, read_ada};
 use ada_rules::AdaRule;
@@ -49,7 +50,7 @@ impl Line for ReplayRefusal {
         ensures puts { Puts (E.written err.old) (E.written err.new) (replay_line self.now) result }
     {
         match self {
-            ReplayRefusal::Text(fault) => put_fault(err, *fault),
+            ReplayRefusal::Text(fault) => put_fault(err, FileKind::Ada, *fault),
             ReplayRefusal::Unit { rule, unit } => put_unit(err, *rule, unit),
             ReplayRefusal::Arrivals(_) => put_all(err, b"refused S1 arrivals\n"),
         }

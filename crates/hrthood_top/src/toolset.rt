@@ -4,6 +4,7 @@ ghost use Rattle.hrthood_top.specs.Commands.{command_tree};
 ghost use Rattle.hrthood_top.specs.Ends.{Ends, Completes, outside};
 
 use crate::command_words::{Command, read_words};
+use crate::format::format;
 use crate::generate::generate;
 use crate::line::tell;
 use crate::message::Message;
@@ -29,6 +30,7 @@ fn run_command<F: Shelf, O: Sink, E: Sink>(
         return Status::Usage;
     };
     match command {
+        Command::Format { design } => format(alloc, design, shelf, out, err),
         Command::Generate { design } => generate(alloc, design, shelf, out, err),
         Command::Replay { ada, arrivals } => replay(alloc, ada, arrivals, shelf, out, err),
     }

@@ -13,7 +13,7 @@ use Rattle.ods_tree.specs.Links.{resolve, resolved}
 use Rattle.ods_tree.specs.Flattening.{flat}
 use Rattle.ods_tree.specs.Services.{flat_services}
 use Rattle.ods_tree.specs.declared.design.Attr.{Attr}
-use Rattle.ods_rules.specs.Rules.{MeetsRules}
+use Rattle.design_rules.specs.Rules.{MeetsRules}
 use Rattle.rt_response.specs.declared.rows.Bound.{Bound}
 use Rattle.rt_response.specs.declared.rows.Miss.{Miss}
 use Rattle.rt_response.specs.declared.rows.Limit.TheVariants.{Deadline, Separation}

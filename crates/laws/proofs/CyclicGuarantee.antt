@@ -9,7 +9,7 @@ use Rattle.ods_tree.specs.Proper.{IsProperDesign}
 use Rattle.ods_tree.specs.Reading.{Reads}
 use Rattle.ods_tree.specs.Words.{is_design_name}
 use Rattle.ods_tree.specs.Flattening.{flat}
-use Rattle.ods_rules.specs.Rules.{MeetsRules}
+use Rattle.design_rules.specs.Rules.{MeetsRules}
 use Rattle.ada_tree.specs.Spelling.{program_tokens}
 use Rattle.ada_tree.specs.Programs.{Program}
 use Rattle.ada_tree.specs.InUse.{IsUsableProgram, IsSequentialProgram}

@@ -13,7 +13,7 @@ use Rattle.ods_tree.specs.Walk.{Standing}
 use Rattle.ods_tree.specs.Sound.{is_within, costs_of}
 use Rattle.ods_tree.specs.declared.design.Attr.{Attr}
 use Rattle.ada_tree.specs.InUse as ada
-use Rattle.ods_rules.specs.Rules.{MeetsRules}
+use Rattle.design_rules.specs.Rules.{MeetsRules}
 use Rattle.ods_tree.specs.Flats as flats
 use Rattle.design_programs.proofs.ObjectRules.{costs-right}
 use Rattle.design_programs.proofs.Numbers.{attributes-timed, attributes-right, works-right}

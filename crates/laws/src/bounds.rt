@@ -3,7 +3,7 @@ ghost use Rattle.ods_tree.specs.Designs.{Design};
 ghost use Rattle.ods_tree.specs.InUse.{IsUsableDesign};
 ghost use Rattle.ods_tree.specs.Flats.{Thread};
 ghost use Rattle.ods_tree.specs.Flattening.{flat};
-ghost use Rattle.ods_rules.specs.Rules.{MeetsRules};
+ghost use Rattle.design_rules.specs.Rules.{MeetsRules};
 ghost use Rattle.rt_response.specs.declared.rows.Bound.{Bound};
 ghost use Rattle.rt_response.specs.declared.rows.Limit.TheVariants.{Deadline};
 ghost use Rattle.analysis.specs.Tables.{table, activation_cost};

@@ -6,7 +6,7 @@ ghost use Rattle.ods_tree.specs.Proper.{IsProperDesign};
 ghost use Rattle.ods_tree.specs.Ticks.{in_ticks};
 ghost use Rattle.ods_tree.specs.Words.{is_design_name};
 ghost use Rattle.ods_tree.specs.Flattening.{flat};
-ghost use Rattle.ods_rules.specs.Rules.{MeetsRules};
+ghost use Rattle.design_rules.specs.Rules.{MeetsRules};
 ghost use Rattle.ada_tree.specs.Programs.{Program};
 ghost use Rattle.ada_tree.specs.InUse.{IsSequentialProgram, IsUsableProgram};
 ghost use Rattle.ada_tree.specs.Reading.{Accepts};

@@ -3,7 +3,7 @@ ghost use Rattle.ods_tree.specs.Designs.{Design};
 ghost use Rattle.ods_tree.specs.InUse.{IsUsableDesign};
 ghost use Rattle.ods_tree.specs.Reading.{Reads};
 ghost use Rattle.ods_tree.specs.Flattening.{flat};
-ghost use Rattle.ods_rules.specs.Rules.{MeetsRules};
+ghost use Rattle.design_rules.specs.Rules.{MeetsRules};
 ghost use Rattle.ada_tree.specs.Programs.{Program};
 ghost use Rattle.ada_tree.specs.InUse.{IsSequentialProgram};
 ghost use Rattle.ada_tree.specs.Reading.{Accepts};

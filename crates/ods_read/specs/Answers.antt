@@ -1,11 +1,13 @@
--- What the reader of a design answers, by cases.
--- Where the text has no tokens the fault is that of the lexical grammar; all else that is wrong with it is told as one fault.
-use Rattle.std.specs.Prelude.{◌≡◌, ℕ, ◌<◌, ◌≤◌, List, length, Result, Ok, Err, ⊤}
-use Rattle.grammar.specs.Reading.{IsFirstFault}
-use Rattle.seq_tree.specs.Proper.{within_limits}
+-- What the reader of a design answers, by cases. A place is the line and the column of a token, or of the end of the text.
+-- A text that is too long is told first, then lexical faults, then those of syntax and of depth, whichever stands earlier.
+use Rattle.std.specs.Prelude.{◌≡◌, ℕ, ◌-◌, ◌<◌, ◌≤◌, List, [], ◌∷◌, ◌++◌, length, codes, Result, Ok, Err, ◌⊎◌, ⊤}
+use Rattle.seq_tree.specs.Reach.{Fault, IsFault, Begins}
+use Rattle.seq_tree.specs.Reach as reach
+use Rattle.seq_tree.specs.Proper.{within_limits, without_limits}
 use Rattle.seq_tree.specs.Lexis.{tokens, Misread, Stray, Great}
 use Rattle.seq_tree.specs.Lexis as lexis
 use Rattle.seq_tree.specs.declared.token.Token.{Token}
+use Rattle.seq_tree.specs.declared.token.Token.TheVariants.{Word}
 use Rattle.seq_tree.specs.declared.token.Place.{Place}
 use Rattle.seq_tree.specs.declared.token.Spanned.{Spanned}
 use Rattle.seq_tree.specs.declared.text_fault.TextFault.{TextFault}
@@ -16,12 +18,11 @@ use Rattle.ods_tree.specs.Words.{is_design_name}
 use Rattle.ods_tree.specs.Proper.{IsProperDesign}
 use Rattle.ods_tree.specs.Spelling.{design_tokens}
 use Rattle.ods_tree.specs.Reading.{Reads}
-use Rattle.ods_tree.specs.InUse.{IsUsableDesign}
 use Rattle.ods_tree.specs.declared.design.Design as designs
 use Rattle.token_read.specs.Words.{bare}
 use Rattle.token_read.specs.declared.fault.LexFault.{LexFault}
 use Rattle.token_read.specs.declared.fault.LexFault.TheVariants as lex
-use Rattle.seq_read.specs.Places.{place_at}
+use Rattle.seq_read.specs.TextFaults as texts
 
 -- the fault of a reader of tokens, as a fault of a text
 abbrev pub fault_of : LexFault → TextFault
@@ -30,40 +31,31 @@ fault_of (lex.Number place) = fault.Number place
 fault_of (lex.Long place) = fault.Long place
 fault_of lex.NoMemory = fault.NoMemory
 
--- a text that is short enough and has this lexical fault
-abbrev pub IsMisread : List ℕ → Misread → Type 0
-IsMisread bytes misread = (length bytes ≤ 1048576) × (tokens bytes ≡ Err misread)
+-- the tokens of some design within the limits
+abbrev pub SomeDesign : List Token → Type 0
+SomeDesign text = (x : Design) × IsProperDesign (within_limits is_design_name) x × (text ≡ design_tokens x)
 
--- a text that is short enough, has tokens, and reads as no design that is built
-abbrev pub IsNoDesign : List ℕ → Type 0
-IsNoDesign bytes =
-    (ts : List Spanned) × (length bytes ≤ 1048576) × (tokens bytes ≡ Ok ts) × ((x : Design) → IsUsableDesign x → Reads bytes x → ⊥)
+-- the tokens of some design, whatever its nesting and its chains
+abbrev pub AnyDesign : List Token → Type 0
+AnyDesign text = (x : Design) × IsProperDesign (without_limits is_design_name) x × (text ≡ design_tokens x)
 
--- what a fault says; want of memory says nothing
+-- Tokens that keep the limits: those of a design within them; also those up to the word of a section of objects, with which some
+-- design goes on. The word opens nothing by itself: the first object behind it does.
+abbrev pub Keeps : List Token → Type 0
+Keeps text =
+    SomeDesign text
+    ⊎ ((front : List Token) × (text ≡ front ++ Word (codes "objects") ∷ []) × Begins SomeDesign front × Begins AnyDesign text)
+
+-- a text that is short enough, and whose tokens have this fault at this place
+abbrev pub IsFaultyAt : List ℕ → Place → (ℕ → Fault) → Type 0
+IsFaultyAt bytes place kind = texts.IsFaultyAt AnyDesign Keeps 1048576 bytes place kind
+
+-- what a fault says
 abbrev pub Faults : List ℕ → TextFault → Type 0
-Faults bytes (fault.Byte place) = IsMisread bytes (Stray place)
-Faults bytes (fault.Number place) = IsMisread bytes (Great place)
-Faults bytes (fault.Long place) = IsMisread bytes (lexis.Long place)
-Faults bytes (fault.Syntax place) = IsNoDesign bytes
-Faults bytes (fault.TooDeep place) = ⊥
-Faults bytes fault.FileTooLong = 1048576 < length bytes
-Faults bytes fault.NoMemory = ⊤
+Faults bytes fault = texts.Faults AnyDesign Keeps 1048576 bytes fault
 
--- what an answer says
+-- what an answer says; want of memory says nothing
 abbrev pub Says : List ℕ → Result designs.Design TextFault → Type 0
-Says bytes (Ok x) = Reads bytes (design_of x) × IsUsableDesign (design_of x)
+Says bytes (Ok x) = Reads bytes (design_of x)
+Says bytes (Err fault.NoMemory) = ⊤
 Says bytes (Err fault) = Faults bytes fault
-
--- a design that is built and has these tokens
-pub record IsTextOf (x : Design) (text : List Token) : Type 0 where
-  pub usable : IsUsableDesign x
-  pub proper : IsProperDesign (within_limits is_design_name) x
-  pub spelled : text ≡ design_tokens x
-
--- the tokens before this place begin the text of such a design, and with the one at it they begin none
-pub record StopsAt (bytes : List ℕ) (place : Place) : Type 0 where
-  pub found : List Spanned
-  pub read : tokens bytes ≡ Ok found
-  pub left : ℕ
-  pub here : place ≡ place_at bytes found left
-  pub first : IsFirstFault IsTextOf (bare found) left

@@ -12,8 +12,8 @@ use Rattle.seq_tree.specs.declared.tree.OpName.{OpName}
 use Rattle.ods_tree.specs.InUse.{IsUsableBlock}
 use Rattle.ods_tree.specs.Links.{renamed}
 use Rattle.ods_tree.specs.Sound.{is_within}
-use Rattle.ods_rules.specs.Clashes.{Mention, block_loops}
-use Rattle.ods_rules.specs.Words.{block_names}
+use Rattle.design_rules.specs.Clashes.{Mention, block_loops}
+use Rattle.design_rules.specs.Words.{block_names}
 use Rattle.ods_rules.specs.Told.{works_fit}
 
 pub no_loops : (mention : Name → List Name → Mention) (open' : List Name) (b : Statements) → IsUsableBlock b → block_loops mention open' b ≡ []

@@ -16,13 +16,13 @@ use Rattle.ods_tree.specs.declared.design.Attr.{Attr}
 use Rattle.ods_tree.specs.declared.design.Kind.TheVariants.{Cyclic}
 use Rattle.ada_tree.specs.Words.{is_ada_name}
 use Rattle.analysis.specs.Execution.{block_cost}
-use Rattle.ods_rules.specs.Broken.{Broken, V01, V02, V11, V14, V15Cost}
-use Rattle.ods_rules.specs.Clashes.{clashes}
-use Rattle.ods_rules.specs.Words.{kept_names}
-use Rattle.ods_rules.specs.Bodies.{bad_bodies}
-use Rattle.ods_rules.specs.Numbers.{are_attributes_right, bad_numbers}
-use Rattle.ods_rules.specs.Budgets.{activation_cost, greatest_cost, is_over, bad_budgets, bad_sizes}
-use Rattle.ods_rules.specs.Rings.{StartsThread, IsOnStartRing}
+use Rattle.design_rules.specs.Broken.{Broken, V01, V02, V11, V14, V15Cost}
+use Rattle.design_rules.specs.Clashes.{clashes}
+use Rattle.design_rules.specs.Words.{kept_names}
+use Rattle.design_rules.specs.Bodies.{bad_bodies}
+use Rattle.design_rules.specs.Numbers.{are_attributes_right, bad_numbers}
+use Rattle.design_rules.specs.Budgets.{activation_cost, greatest_cost, is_over, bad_budgets, bad_sizes}
+use Rattle.design_rules.specs.Rings.{StartsThread, IsOnStartRing}
 use Rattle.ods_rules.specs.Parts.{bearer}
 use Rattle.ods_rules.specs.Told.{clash_told, kept_told, costs_told, numbers_told, works_fit, within_greatest, budget_of, told_by, cost_told}
 use Rattle.ods_rules.proofs.BlockLaws.{no_loops, no_names, no_fault, renamed_same, works_are, cost_same}

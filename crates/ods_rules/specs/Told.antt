@@ -14,9 +14,9 @@ use Rattle.ods_tree.specs.declared.design.AttrKey.TheVariants.{ThreadBudget}
 use Rattle.ods_tree.specs.declared.design.Kind.TheVariants.{Cyclic}
 use Rattle.ada_tree.specs.Words.{is_ada_name}
 use Rattle.analysis.specs.Execution.{block_cost}
-use Rattle.ods_rules.specs.Broken.{Broken, V01, V02, V11, V14, V15Cost}
-use Rattle.ods_rules.specs.Numbers.{are_attributes_right}
-use Rattle.ods_rules.specs.Budgets.{greatest_cost}
+use Rattle.design_rules.specs.Broken.{Broken, V01, V02, V11, V14, V15Cost}
+use Rattle.design_rules.specs.Numbers.{are_attributes_right}
+use Rattle.design_rules.specs.Budgets.{greatest_cost}
 use Rattle.ods_rules.specs.Parts.{statement_of, block_by, bearer}
 use Rattle.ods_rules.specs.declared.parts.Parts.{Parts}
 use Rattle.ods_rules.specs.declared.broken.Broken as code

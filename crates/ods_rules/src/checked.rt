@@ -1,6 +1,6 @@
 ghost use Rattle.std.specs.Prelude.{◌≡◌};
 ghost use Rattle.ods_tree.specs.Trees.{design_of};
-ghost use Rattle.ods_rules.specs.Rules.{MeetsRules};
+ghost use Rattle.design_rules.specs.Rules.{MeetsRules};
 
 use ods_tree::Design;
 

@@ -3,7 +3,7 @@ ghost use Rattle.std.specs.List.{list_all};
 ghost use Rattle.ods_tree.specs.Attributes.{has_key};
 ghost use Rattle.ods_tree.specs.Sound.{is_within, costs_of};
 ghost use Rattle.ods_tree.specs.declared.design.Kind.TheVariants.{Cyclic};
-ghost use Rattle.ods_rules.specs.Numbers.{is_required, is_optional, is_foreign, are_attributes_right};
+ghost use Rattle.design_rules.specs.Numbers.{is_required, is_optional, is_foreign, are_attributes_right};
 ghost use Rattle.ods_rules.specs.Parts.{statement_of, bearer};
 ghost use Rattle.ods_rules.specs.Told.{Tells, costs_told, numbers_told, work_fits, works_fit};
 

@@ -13,8 +13,8 @@ use Rattle.ods_tree.specs.declared.design.AttrKey.TheVariants.{Period, Offset, D
 use Rattle.ods_tree.specs.declared.design.TickUnit.TheVariants.{Us, Ms}
 use Rattle.ods_tree.proofs.Short.{attr, cyc_with, pro, group, call}
 use Rattle.ods_tree.proofs.Versions.{version, timed, design_of_two}
-use Rattle.ods_rules.specs.Rules.{MeetsRules}
-use Rattle.ods_rules.proofs.WorkedRules.{meets-where-nothing-told}
+use Rattle.design_rules.specs.Rules.{MeetsRules}
+use Rattle.design_rules.proofs.WorkedRules.{meets-where-nothing-told}
 use Rattle.ada_tree.specs.Programs.{Program}
 use Rattle.ada_tree.specs.Words.{is_ada_name}
 use Rattle.arrivals_tree.specs.Arriving.{Arrivals}

@@ -6,8 +6,8 @@ use Rattle.ods_tree.specs.Words.{is_design_name}
 use Rattle.ods_tree.specs.Proper.{IsProperDesign}
 use Rattle.ods_tree.specs.Flattening.{flat}
 use Rattle.ods_tree.proofs.Mine.{mine}
-use Rattle.ods_rules.specs.Rules.{MeetsRules}
-use Rattle.ods_rules.proofs.WorkedRules.{meets-where-nothing-told}
+use Rattle.design_rules.specs.Rules.{MeetsRules}
+use Rattle.design_rules.proofs.WorkedRules.{meets-where-nothing-told}
 use Rattle.ada_tree.specs.Words.{is_ada_name}
 use Rattle.arrivals_tree.specs.Arriving.{Arrivals}
 use Rattle.arrivals_tree.specs.Acceptance.{IsAccepted}

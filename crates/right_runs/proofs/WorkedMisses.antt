@@ -10,9 +10,9 @@ use Rattle.ods_tree.specs.Words.{is_design_name}
 use Rattle.ods_tree.specs.Proper.{IsProperDesign}
 use Rattle.ods_tree.specs.Flattening.{flat}
 use Rattle.ods_tree.proofs.Short.{cyc, cyc_at, spo, pro, several, design, call}
-use Rattle.ods_rules.specs.Broken.{V16}
-use Rattle.ods_rules.specs.Rules.{MeetsRules, Spacing}
-use Rattle.ods_rules.proofs.WorkedRules.{meets-where-nothing-told}
+use Rattle.design_rules.specs.Broken.{V16}
+use Rattle.design_rules.specs.Rules.{MeetsRules, Spacing}
+use Rattle.design_rules.proofs.WorkedRules.{meets-where-nothing-told}
 use Rattle.ada_tree.specs.Words.{is_ada_name}
 use Rattle.rt_response.specs.declared.rows.Bound.{Bound}
 use Rattle.rt_response.specs.declared.rows.Limit.TheVariants.{Deadline}

@@ -1,6 +1,7 @@
 -- Printed lines read back as their tokens.
-use Rattle.std.proofs.Common.{◌≡◌, ℕ, zero, suc, ◌+◌, ◌<◌, Bool, true, false, ◌&&◌, ◌||◌, cond, List, [], ◌∷◌, ◌++◌, length, take, drop, Option, Some, None, Result, Ok, Err, eqb, refl, sym, ap, ◌∙◌, subst, arith, min, decimal, replicate, codes, append_assoc, ◌*◌}
+use Rattle.std.proofs.Common.{◌≡◌, ℕ, zero, suc, ◌+◌, ◌<◌, Bool, true, false, ◌&&◌, ◌||◌, cond, List, [], ◌∷◌, ◌++◌, length, take, drop, Option, Some, None, Result, Ok, Err, eqb, refl, sym, ap, ◌∙◌, subst, arith, min, decimal, replicate, codes, append_assoc, ◌*◌, ◌≤◌}
 use Rattle.std.specs.List.{list_all, prefix_len}
+use Rattle.std.specs.Str.{str_to_ascii_lowercase}
 use Rattle.std.proofs.lemmas.Bool.{and_parts, ltb-true}
 use Rattle.std.proofs.lemmas.Fmt.{digits_value-decimal}
 use Rattle.std.proofs.Math.Seq.{drop-append_seam}
@@ -10,7 +11,7 @@ use Rattle.seq_tree.specs.declared.token.Token.TheVariants.{Word, Number, Sign}
 use Rattle.seq_tree.specs.declared.token.Spanned.{Spanned}
 use Rattle.seq_tree.specs.declared.token.Mark.{Mark}
 use Rattle.seq_tree.specs.declared.token.Mark.TheVariants as mark
-use Rattle.seq_tree.specs.Lexis.{Misread, Space, Comment, start_of, is_space, is_not_line_feed, front_by, value_from, place_past, tokens, tokens_after, plain, with_token}
+use Rattle.seq_tree.specs.Lexis.{Misread, Space, Comment, is_name, start_of, is_space, is_not_line_feed, front_by, value_from, place_past, tokens, tokens_after, plain, with_token}
 use Rattle.seq_tree.specs.Layout.{gap, clings_on, clings_back, layout, line_text, token_text, tokens_text}
 use Rattle.seq_tree.specs.Marks.{mark_of, mark_text}
 use Rattle.seq_tree.specs.Spelling.{Line, joined}
@@ -19,7 +20,7 @@ use Rattle.token_read.proofs.MarkLaws.{double, mark_of-double}
 use Rattle.token_read.proofs.TokenSteps.{with_front, with_front-none, tokens-nil, tokens-start, tokens-turn}
 use Rattle.seq_print.specs.Readable.{is_readable, are_apart, is_readable_line, are_readable, comments_text, is_comment}
 use Rattle.seq_print.proofs.Following.{parts, joins, AreDigits, parts-line_feed, parts-next}
-use Rattle.seq_print.proofs.Fronts.{IsOther, own, written, word-front, digits-front, single-front, double-front}
+use Rattle.seq_print.proofs.Fronts.{IsOther, own, written, spelled-front, word-front, digits-front, single-front, double-front}
 
 -- a text has these tokens, from whatever place
 abbrev pub Gives : List ℕ → List Token → Type 0
@@ -49,19 +50,26 @@ gives-skip : (c : ℕ) (cs rest : List ℕ) (n : ℕ) (ts : List Token) → ((pl
 gives-skip c cs rest n ts e left g place =
     ap plain (turn place c cs rest None n (e place) left ∙ with_front-none _) ∙ g (place_past place (take (suc n) (c ∷ cs)))
 
-gives-nil : Gives [] []
+pub gives-nil : Gives [] []
 gives-nil place = ap plain (tokens-nil place)
 
 start-space : (c : ℕ) (cs : List ℕ) → is_space c ≡ true → Space ≡ start_of c cs
 unfolding start_of
 start-space c cs e = rw e refl
 
-gives-space : (c : ℕ) (rest : List ℕ) (ts : List Token) → is_space c ≡ true → Gives rest ts → Gives (c ∷ rest) ts
+pub gives-space : (c : ℕ) (rest : List ℕ) (ts : List Token) → is_space c ≡ true → Gives rest ts → Gives (c ∷ rest) ts
 gives-space c rest ts e g = gives-skip c rest rest 0 ts (λ place. front-space place c rest (start-space c rest e)) refl g
 
-gives-spaces : (n : ℕ) (rest : List ℕ) (ts : List Token) → Gives rest ts → Gives (replicate n 32 ++ rest) ts
+pub gives-spaces : (n : ℕ) (rest : List ℕ) (ts : List Token) → Gives rest ts → Gives (replicate n 32 ++ rest) ts
 gives-spaces zero rest ts g = g
 gives-spaces (suc n) rest ts g = gives-space 32 (replicate n 32 ++ rest) ts refl (gives-spaces n rest ts g)
+
+-- a name, in capitals or not
+pub gives-spelled : (text name rest : List ℕ) (ts : List Token) → is_name text ≡ true → str_to_ascii_lowercase text ≡ name → length text ≤ 64 → parts (Word name) rest ≡ true → Gives rest ts
+    → Gives (text ++ rest) (Word name ∷ ts)
+gives-spelled [] name rest ts spelled folded short follow g = cc
+gives-spelled (c ∷ cs) name rest ts spelled folded short follow g =
+    gives-token c (cs ++ rest) rest (Word name) (length cs) ts (λ place. spelled-front place c cs rest name spelled folded short follow) (drop-append_seam cs rest) g
 
 gives-word : (name rest : List ℕ) (ts : List Token) → is_readable (Word name) ≡ true → parts (Word name) rest ≡ true → Gives rest ts → Gives (name ++ rest) (Word name ∷ ts)
 gives-word [] rest ts ok follow g = cc
@@ -114,7 +122,7 @@ gives-one (Word name) rest ts ok follow g = gives-word name rest ts ok follow g
 gives-one (Number n) rest ts ok follow g = gives-number n rest ts ok follow g
 gives-one (Sign m) rest ts ok follow g = gives-mark m rest ts follow g
 
-gives-between : (b : Bool) (rest : List ℕ) (ts : List Token) → Gives rest ts → Gives (cond b [] (codes " ") ++ rest) ts
+pub gives-between : (b : Bool) (rest : List ℕ) (ts : List Token) → Gives rest ts → Gives (cond b [] (codes " ") ++ rest) ts
 gives-between true rest ts g = g
 gives-between false rest ts g = gives-space 32 rest ts refl g
 

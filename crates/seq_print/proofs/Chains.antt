@@ -5,7 +5,7 @@ use Rattle.std.proofs.lemmas.Result.{IfOk-from_err}
 use Rattle.std.proofs.Math.Seq.{take-append-add}
 use Rattle.std.specs.Result.{IsErr}
 use Rattle.seq_tree.specs.declared.memory.NoMemory.{NoMemory}
-use Rattle.seq_print.specs.Printing.{Adds, AddsFront, Prints}
+use Rattle.seq_print.specs.Printing.{Adds, AddsFront, Prints, Writes}
 
 -- nothing is a front
 pub front-none : (before after text : List ℕ) → after ≡ before → AddsFront before after text
@@ -61,5 +61,31 @@ front-onward start before after first next text h e (n, a) =
     let split : after ++ (drop n first ++ next) ≡ before ++ (first ++ next) =
     ap (λ t. t ++ (drop n first ++ next)) a ∙ append_assoc before (take n first) (drop n first ++ next) ∙ ap (λ t. before ++ t) (sym (append_assoc (take n first) (drop n first) next) ∙ ap (λ t. t ++ next) (take-append-drop n first)) in
     front-of start after (drop n first ++ next) text (omega (arith, h, more)) (split ∙ e)
+
+-- a text that is written, and then another
+pub writes-then : (r : Result (Unit {0}) NoMemory) (before middle after first next : List ℕ) → middle ≡ before ++ first → Writes r middle after next → Writes r before after (first ++ next)
+writes-then (Ok done) before middle after first next e w = w ∙ ap (λ t. t ++ next) e ∙ append_assoc before first next
+writes-then (Err fault) before middle after first next e w = tt
+
+-- the same text in other words
+pub writes-same : (r : Result (Unit {0}) NoMemory) (before after text other : List ℕ) → text ≡ other → Writes r before after text → Writes r before after other
+writes-same (Ok done) before after text other e w = w ∙ ap (λ t. before ++ t) e
+writes-same (Err fault) before after text other e w = tt
+
+-- a text at the end of others
+pub writes-printed : (r : Result (Unit {0}) NoMemory) (before after text : List ℕ) → Prints r before after text → Writes r before after text
+writes-printed (Ok done) before after text e = e
+writes-printed (Err fault) before after text e = tt
+
+pub writes-added : (r : Result (Unit {0}) NoMemory) (before after text : List ℕ) → Adds r before after text → Writes r before after text
+writes-added (Ok done) before after text e = e
+writes-added (Err fault) before after text e = tt
+
+-- two texts more, where a whole is they and a rest
+pub two-more : (before one two first second rest whole text : List ℕ) → one ≡ before ++ first → two ≡ one ++ second → whole ≡ first ++ (second ++ rest) → before ++ whole ≡ text → two ++ rest ≡ text
+two-more before one two first second rest whole text e f w all =
+    ap (λ t. t ++ rest) (f ∙ ap (λ t. t ++ second) e) ∙ append_assoc (before ++ first) second rest ∙ append_assoc before first (second ++ rest) ∙ ap (λ t. before ++ t) (sym w) ∙ all
+
+pub ruleset writing = (writes-then, writes-printed, writes-added)
 
 pub ruleset adding = (adds-front, adds-then, adds-printed, front-none, front-then, front-longer)

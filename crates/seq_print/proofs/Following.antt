@@ -68,7 +68,7 @@ digit-no_dot : (c : ℕ) → is_ascii_digit c ≡ true → eqb c 46 ≡ false
 digit-no_dot c e = ne_eqb c 46 (λ h. let e' = rw h at e in cc)
 
 -- a mark before a name
-sign-name : (m : Mark) (name rest : List ℕ) → is_name name ≡ true → parts (Sign m) (gap (Sign m) (Word name) ++ (name ++ rest)) ≡ true
+pub sign-name : (m : Mark) (name rest : List ℕ) → is_name name ≡ true → parts (Sign m) (gap (Sign m) (Word name) ++ (name ++ rest)) ≡ true
 sign-name m [] rest e = cc
 sign-name m (c ∷ cs) rest e = sign-word (c ∷ cs) c (cs ++ rest) m (letter-no_dot c (and_parts _ _ e).0)
 

@@ -98,27 +98,30 @@ take-front c cs rest n e = rw (e, one_more (length cs)) (ap (λ t. c ∷ t) (tak
 drop-front : (c : ℕ) (cs rest : List ℕ) (n : ℕ) → n ≡ length cs → drop (1 + n) (c ∷ (cs ++ rest)) ≡ rest
 drop-front c cs rest n e = rw (e, one_more (length cs)) (drop-append_seam cs rest)
 
-name_front-folded : (place : Place) (name : List ℕ) → bytes_eq (str_to_ascii_lowercase name) name ≡ true → length name ≤ 64 → name_front place name ≡ Ok (record { token = Some (Word name); len = length name })
-unfolding name_front
-name_front-folded place name e h =
-    let folded : str_to_ascii_lowercase name ≡ name = (bytes_eq-Decides (str_to_ascii_lowercase name) name).0 e in
-    rw (le-ltb 64 (length name) h) (ap (λ n. Ok (record { token = Some (Word n); len = length name })) folded)
-
 after-word : (name rest : List ℕ) → parts (Word name) rest ≡ true → Ends is_ascii_alphanumeric rest
 after-word name [] e = tt
 after-word name (c ∷ cs) e = or_parts (is_ascii_alphanumeric c) (is_underscore c) (not-true _ e)
+
+name_front-spelled : (place : Place) (text name : List ℕ) → str_to_ascii_lowercase text ≡ name → length text ≤ 64 → name_front place text ≡ Ok (record { token = Some (Word name); len = length text })
+unfolding name_front
+name_front-spelled place text name e h = rw (le-ltb 64 (length text) h) (ap (λ n. Ok (record { token = Some (Word n); len = length text })) e)
+
+-- a name at the front, in capitals or not
+pub spelled-front : (place : Place) (c : ℕ) (cs rest name : List ℕ) → is_name (c ∷ cs) ≡ true → str_to_ascii_lowercase (c ∷ cs) ≡ name → length (c ∷ cs) ≤ 64 → parts (Word name) rest ≡ true
+    → front_by (start_of c (cs ++ rest)) place (c ∷ (cs ++ rest)) ≡ Ok (record { token = Some (Word name); len = suc (length cs) })
+spelled-front place c cs rest name spelled folded short follow =
+    let led = and_parts (is_ascii_alphabetic c) (goes_on is_ascii_alphanumeric false cs) spelled in
+    let run = longest-whole is_ascii_alphanumeric false cs rest led.1 (after-word name rest follow) in
+    front-name place c (cs ++ rest) (sym (start-letter c (cs ++ rest) led.0))
+    ∙ (ap (name_front place) (take-front c cs rest _ run) ∙ name_front-spelled place (c ∷ cs) name folded short)
 
 -- a name at the front
 pub word-front : (place : Place) (c : ℕ) (cs rest : List ℕ) → is_readable (Word (c ∷ cs)) ≡ true → parts (Word (c ∷ cs)) rest ≡ true
     → front_by (start_of c (cs ++ rest)) place (c ∷ (cs ++ rest)) ≡ Ok (record { token = Some (Word (c ∷ cs)); len = suc (length cs) })
 word-front place c cs rest ok follow =
     let n = and_parts (is_name (c ∷ cs)) _ ok in
-    let led = and_parts (is_ascii_alphabetic c) (goes_on is_ascii_alphanumeric false cs) n.0 in
     let m = and_parts (bytes_eq (str_to_ascii_lowercase (c ∷ cs)) (c ∷ cs)) _ n.1 in
-    let short : length (c ∷ cs) ≤ 64 = leb-true _ _ m.1 in
-    let run = longest-whole is_ascii_alphanumeric false cs rest led.1 (after-word (c ∷ cs) rest follow) in
-    front-name place c (cs ++ rest) (sym (start-letter c (cs ++ rest) led.0))
-    ∙ (ap (name_front place) (take-front c cs rest _ run) ∙ name_front-folded place (c ∷ cs) m.0 short)
+    spelled-front place c cs rest (c ∷ cs) n.0 ((bytes_eq-Decides (str_to_ascii_lowercase (c ∷ cs)) (c ∷ cs)).0 m.0) (leb-true _ _ m.1) follow
 
 digit-value : (n c : ℕ) (cs : List ℕ) → IsInRange 48 57 c → value_from n (c ∷ cs) ≡ value_from (n * 10 + (c - 48)) cs
 digit-value n c cs h =

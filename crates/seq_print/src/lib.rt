@@ -7,9 +7,12 @@
 #![tactic(auto)]
 
 mod block;
+mod expression;
 mod law;
+mod lines;
 mod puts;
 
-pub use block::{add_block, print_block};
+pub use block::print_block;
 pub use law::{reads_back, tokens_are_readable};
+pub use lines::{put_indent, put_line};
 pub use puts::{put, put_digits, put_name, put_number};

@@ -20,3 +20,5 @@ pub mod GoingOn
 pub mod Bounds
 pub mod FrontLaws
 pub mod FrontSteps
+pub mod TextFaultLaws
+pub mod PartSteps

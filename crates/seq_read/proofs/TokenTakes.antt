@@ -18,18 +18,18 @@ use Rattle.seq_read.specs.Expressions.{ExpressionReader, paren_at, literal_at, v
 use Rattle.seq_read.specs.Statements.{StatementReader, BlockReader, word, begins_statement, kind_of, null_at, work_at, put_at, exit_at, assignment_at, further_at, list_at, actuals_at, call_at, named_at, guarded_at, arm_at, else_at, otherwise_at, if_at, for_at, statement_with, block_with, statement_at}
 use Rattle.seq_read.proofs.Takes.{Takes, takes-any, takes-token, takes-pure, takes-deep, takes-then, takes-choose, takes-pick, takes-many}
 
-takes-fixed : (u : Token) → Takes 1 (fixed_at u)
+pub takes-fixed : (u : Token) → Takes 1 (fixed_at u)
 unfolding fixed_at
 takes-fixed u = takes-token (sees_fixed u)
 
-any-fixed : (u : Token) → Takes 0 (fixed_at u)
+pub any-fixed : (u : Token) → Takes 0 (fixed_at u)
 any-fixed u = takes-any 1 (takes-fixed u)
 
-takes-number : Takes 1 number_at
+pub takes-number : Takes 1 number_at
 unfolding number_at
 takes-number = takes-token sees_number
 
-takes-name : (is_name : Name → Bool) → Takes 1 (name_at is_name)
+pub takes-name : (is_name : Name → Bool) → Takes 1 (name_at is_name)
 unfolding name_at
 takes-name is_name = takes-token (sees_name is_name)
 
@@ -93,14 +93,14 @@ pub takes-further : (expression : ExpressionReader) → Takes 0 expression → T
 unfolding further_at
 takes-further expression one = takes-then (takes-fixed (token.Sign Comma)) (λ _. one)
 
-any-word : (text : List ℕ) → Takes 0 (word text)
+pub any-word : (text : List ℕ) → Takes 0 (word text)
 any-word text = any-fixed (token.Word text)
 
-module _ (is_name : Name → Bool) (expression : ExpressionReader) (one : Takes 0 expression) where
-  -- `;`, and then nothing
-  closes : {A : Type 0} (a : A) → Takes 0 (then_at (fixed_at (token.Sign Semicolon)) (λ _. pure_at a))
-  closes a = takes-then (any-fixed (token.Sign Semicolon)) (λ _. takes-pure a)
+-- `;`, and then nothing
+pub closes : {A : Type 0} (a : A) → Takes 0 (then_at (fixed_at (token.Sign Semicolon)) (λ _. pure_at a))
+closes a = takes-then (any-fixed (token.Sign Semicolon)) (λ _. takes-pure a)
 
+module _ (is_name : Name → Bool) (expression : ExpressionReader) (one : Takes 0 expression) where
   takes-null : Takes 1 null_at
   unfolding null_at
   takes-null = takes-then (takes-fixed (token.Word (codes "null"))) (λ _. closes Null)

@@ -9,3 +9,5 @@ pub mod Nesting
 pub mod Texts
 pub mod Fronts
 pub mod Answers
+pub mod TextFaults
+pub mod Parts

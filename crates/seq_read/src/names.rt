@@ -1,9 +1,12 @@
 ghost use Rattle.std.specs.Prelude.{◌≡◌};
+ghost use Rattle.grammar.specs.Reading.{first};
 ghost use Rattle.seq_tree.specs.Proper.{is_block_name};
+ghost use Rattle.token_read.specs.Words.{bare};
 ghost use Rattle.seq_read.specs.Names.{may_name};
+ghost use Rattle.seq_read.specs.Statements.{next_is_name};
 
-use seq_tree::Name;
-use words::{is_ada_name, is_among};
+use seq_tree::{Name, Spanned, Token};
+use words::{is_ada_name, is_among, is_design_name};
 
 /// The words of blocks and expressions.
 const WORDS: [&str; 20] = [
@@ -18,6 +21,8 @@ pub enum Text {
     Plain,
     /// An Ada text: any word but a reserved or kept one.
     Ada,
+    /// A design: any word but those of its grammar.
+    Design,
 }
 
 /// Whether a word may be a name in a block by itself.
@@ -35,5 +40,20 @@ pub fn may_name(word: &Name, text: Text) -> bool
     match text {
         Text::Plain => is_block_name(word.bytes()),
         Text::Ada => is_ada_name(word.bytes()),
+        Text::Design => is_design_name(word.bytes()),
+    }
+}
+
+/// Whether a word is next that may be a name in this kind of text.
+#[tactic(auto, unfolding(crate::specs::Statements::next_is_name))]
+pub fn next_is_name(tokens: &[Spanned], text: Text) -> bool
+    ensures { result ≡ next_is_name (may_name text) (first (bare tokens.now)) }
+{
+    let Some(spanned) = tokens.first() else {
+        return false;
+    };
+    match &spanned.token {
+        Token::Word(name) => may_name(name, text),
+        _ => false,
     }
 }

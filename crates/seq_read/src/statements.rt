@@ -10,9 +10,9 @@ ghost use Rattle.seq_read.specs.Nesting.{branching_at, looping_at};
 
 use crate::expressions::expression;
 use crate::halt::Halt;
-use crate::names::{Text, may_name};
+use crate::names::{Text, next_is_name};
 use crate::tokens::{mark, name, number, word};
-use seq_tree::{Arm, Block, Expr, Mark, Name, Spanned, Stmt, Token};
+use seq_tree::{Arm, Block, Expr, Mark, Name, Spanned, Stmt};
 use std::alloc::Global;
 use token_read::{next_is_mark, next_is_word};
 
@@ -48,20 +48,6 @@ fn kind_of(tokens: &[Spanned]) -> Kind
         Kind::Put
     } else {
         Kind::Named
-    }
-}
-
-/// Whether a name is next.
-#[tactic(auto, unfolding(crate::specs::Statements::next_is_name))]
-fn next_is_name(tokens: &[Spanned], text: Text) -> bool
-    ensures { result ≡ next_is_name (may_name text) (first (bare tokens.now)) }
-{
-    let Some(spanned) = tokens.first() else {
-        return false;
-    };
-    match &spanned.token {
-        Token::Word(name) => may_name(name, text),
-        _ => false,
     }
 }
 

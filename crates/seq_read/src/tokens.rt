@@ -61,7 +61,7 @@ pub fn phrase<'a>(tokens: &'a [Spanned], items: &[Item]) -> Result<&'a [Spanned]
 }
 
 /// The word that is first, whatever it is, and the tokens after it.
-fn any_word(tokens: &[Spanned]) -> Result<(&Name, &[Spanned]), Halt>
+pub fn any_word(tokens: &[Spanned]) -> Result<(&Name, &[Spanned]), Halt>
     ensures gives { Gives (λ r. (r.0.now, bare r.1.now)) result (word_at (bare tokens.now)) }
     ensures ample { IfErr result (λ e. e ≡ halt.NoMemory → ⊥) }
 {

@@ -1,6 +1,7 @@
 ghost use Rattle.std.specs.Prelude.{◌≡◌, map};
 ghost use Rattle.seq_tree.specs.Proper.{is_among};
 ghost use Rattle.ada_tree.specs.Words.{is_ada_name};
+ghost use Rattle.ods_tree.specs.Words.{is_design_name};
 
 /// The reserved words of Ada 2012.
 const RESERVED: [&str; 73] = [
@@ -94,6 +95,40 @@ const KEPT: [&str; 11] = [
     "system",
 ];
 
+/// The words that are no name in a design.
+const DESIGN_WORDS: [&str; 30] = [
+    "end",
+    "provides",
+    "requires",
+    "data",
+    "operation",
+    "thread",
+    "objects",
+    "implements",
+    "begin",
+    "is",
+    "null",
+    "if",
+    "then",
+    "elsif",
+    "else",
+    "for",
+    "in",
+    "out",
+    "loop",
+    "exit",
+    "when",
+    "range",
+    "mod",
+    "and",
+    "or",
+    "xor",
+    "not",
+    "word",
+    "work",
+    "put",
+];
+
 /// Whether a name, in lower case, is one of these words.
 pub fn is_among(words: &[&str], name: &[u8]) -> bool
     ensures { result ≡ is_among (map (λ w. w.now) words.now) name.now }
@@ -116,4 +151,12 @@ pub fn is_ada_name(name: &[u8]) -> bool
         || is_among(&RESERVED, name)
         || is_among(&KEPT, name)
         || name.starts_with(b"hrt_"))
+}
+
+/// Whether a word, in lower case, may be a name in a design: it has a byte, and is none of the words of the grammar.
+#[tactic(auto, unfolding(ods_tree::specs::Words::is_design_name))]
+pub fn is_design_name(name: &[u8]) -> bool
+    ensures { result ≡ is_design_name name.now }
+{
+    !(name.is_empty() || is_among(&DESIGN_WORDS, name))
 }

@@ -95,13 +95,13 @@ pub const REFUSED_SOURCES: &[Row] = &[
     Row {
         name: "an empty design",
         design: Source::Bytes(""),
-        err: "refused S1 design\n",
+        err: "refused S1 design line 1 column 1\n",
         ..REFUSED_DESIGN
     },
     Row {
         name: "the beginning of a design",
         design: Source::Bytes("DESIGN d"),
-        err: "refused S1 design\n",
+        err: "refused S1 design line 1 column 9\n",
         ..REFUSED_DESIGN
     },
     Row {

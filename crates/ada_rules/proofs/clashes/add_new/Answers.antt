@@ -1,7 +1,7 @@
 use Rattle.std.proofs.Common.{◌||◌, ◌∙◌, ap, sym}
 use Rattle.std.proofs.Math.Bool.{or_assoc}
 use Rattle.seq_tree.specs.Names.{same_name}
-use Rattle.ada_rules.specs.Sets.{has}
+use Rattle.name_sets.specs.Sets.{has}
 use Rattle.ada_rules.proofs.NameSteps.{new_step, named_step, or_turn}
 use Rattle.ada_rules.proofs.clashes.add_new.Goals as goal
 

@@ -2,7 +2,7 @@ use Rattle.std.proofs.Common.{◌≡◌, ◌&&◌, ◌||◌, drop, take}
 use Rattle.seq_tree.specs.Names.{Name, is_named}
 use Rattle.ada_rules.specs.Clashes.{are_new}
 use Rattle.ada_rules.specs.Lists.{names_of}
-use Rattle.ada_rules.specs.Sets.{has}
+use Rattle.name_sets.specs.Sets.{has}
 use Rattle.ada_rules.proofs.clashes.add_new.Given as goal
 
 -- what the names so far are, and those that are left

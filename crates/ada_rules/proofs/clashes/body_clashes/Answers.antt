@@ -1,7 +1,7 @@
 use Rattle.std.proofs.Common.{map, sym, ap, ◌∙◌}
 use Rattle.ada_rules.specs.Lists.{names_of}
 use Rattle.ada_rules.specs.Parts.{body_of, part_of}
-use Rattle.ada_rules.specs.Sets.{has}
+use Rattle.name_sets.specs.Sets.{has}
 use Rattle.ada_rules.proofs.ClashSteps.{same_answer, block_clash}
 use Rattle.ada_rules.proofs.clashes.body_clashes.Goals as goal
 

@@ -2,7 +2,7 @@ use Rattle.std.proofs.Common.{◌≡◌, ◌||◌, [], map, drop}
 use Rattle.ada_rules.specs.Clashes.{clashes_in}
 use Rattle.ada_rules.specs.Lists.{names_of}
 use Rattle.ada_rules.specs.Parts.{part_of}
-use Rattle.ada_rules.specs.Sets.{has}
+use Rattle.name_sets.specs.Sets.{has}
 use Rattle.ada_rules.proofs.clashes.loops_clash.Given as goal
 
 -- it is up to the parts that are left

@@ -1,7 +1,7 @@
 use Rattle.std.proofs.Common.{◌≡◌, drop}
 use Rattle.std.specs.List.{list_any}
 use Rattle.ada_rules.specs.Lists.{names_of}
-use Rattle.ada_rules.specs.Sets.{has}
+use Rattle.name_sets.specs.Sets.{has}
 use Rattle.ada_rules.proofs.naming.any_taken.Given as goal
 
 -- it is up to the names that are left

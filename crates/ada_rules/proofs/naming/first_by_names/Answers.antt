@@ -2,7 +2,7 @@ use Rattle.std.proofs.Common.{◌≡◌, ◌||◌, true, map, Some, slice_get, s
 use Rattle.seq_tree.specs.Names.{same_name, is_named}
 use Rattle.ada_tree.specs.Naming.{breaks_naming, inner_names}
 use Rattle.ada_tree.specs.Trees.{form_of, program_of, unit_of}
-use Rattle.ada_rules.specs.Sets.{has, has_op}
+use Rattle.name_sets.specs.Sets.{has, has_op}
 use Rattle.ada_rules.proofs.FirstLaws.{none_at_all, passes, stops, unit_at}
 use Rattle.ada_rules.proofs.UnitLaws.{names_told, names_upto, inner_upto}
 use Rattle.ada_rules.proofs.naming.first_by_names.Goals as goal

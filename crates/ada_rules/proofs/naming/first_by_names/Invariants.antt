@@ -3,7 +3,7 @@ use Rattle.seq_tree.specs.Names.{Name, is_named}
 use Rattle.ada_tree.specs.Trees.{program_of, unit_of}
 use Rattle.ada_tree.specs.Naming.{breaks_naming, inner_names}
 use Rattle.ada_rules.specs.Firsts.{NoneBefore}
-use Rattle.ada_rules.specs.Sets.{has}
+use Rattle.name_sets.specs.Sets.{has}
 use Rattle.ada_rules.proofs.naming.first_by_names.Given as goal
 
 -- the names of the units before, those inside them, and that none of them breaks the rule

@@ -7,7 +7,7 @@ use Rattle.ada_tree.specs.Trees.{form_of}
 use Rattle.ada_rules.specs.Clashes.{clashes_inside}
 use Rattle.ada_rules.specs.Lists.{names_of}
 use Rattle.ada_rules.specs.Parts.{body_of}
-use Rattle.ada_rules.specs.Sets.{has}
+use Rattle.name_sets.specs.Sets.{has}
 use Rattle.ada_rules.proofs.ClashSteps.{same_answer, or_nothing}
 use Rattle.ada_rules.proofs.UnitLaws.{own_clash, bodies_are}
 use Rattle.ada_rules.proofs.naming.unit_clashes.Goals as goal

@@ -3,7 +3,7 @@ use Rattle.std.specs.List.{list_any}
 use Rattle.seq_tree.specs.declared.tree.OpName.{OpName}
 use Rattle.ada_rules.specs.Lists.{head_of}
 use Rattle.ada_rules.specs.Offers.{is_head}
-use Rattle.ada_rules.specs.Sets.{has_op}
+use Rattle.name_sets.specs.Sets.{has_op}
 use Rattle.ada_rules.proofs.ops.add_heads.Given as goal
 
 -- the operations so far

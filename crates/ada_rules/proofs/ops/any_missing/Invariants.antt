@@ -1,7 +1,7 @@
 use Rattle.std.proofs.Common.{◌≡◌, not, map, drop}
 use Rattle.std.specs.List.{list_any}
 use Rattle.ada_rules.specs.Lists.{call_of}
-use Rattle.ada_rules.specs.Sets.{has_op}
+use Rattle.name_sets.specs.Sets.{has_op}
 use Rattle.ada_rules.proofs.ops.any_missing.Given as goal
 
 -- it is up to the calls that are left

@@ -1,7 +1,7 @@
 use Rattle.std.proofs.Common.{map, sym, subst, Bool}
 use Rattle.ada_rules.specs.Edges.{TellsRound, edge_of}
 use Rattle.ada_rules.specs.Lists.{call_of}
-use Rattle.ada_rules.specs.Sets.{has_op}
+use Rattle.name_sets.specs.Sets.{has_op}
 use Rattle.ada_rules.proofs.RingLaws.{tells_round}
 use Rattle.ada_rules.proofs.rings.is_round.Goals as goal
 

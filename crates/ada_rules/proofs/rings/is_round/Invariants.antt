@@ -1,7 +1,7 @@
 use Rattle.std.proofs.Common.{map, filter, length}
 use Rattle.ada_rules.specs.Edges.{AreReached, edge_of, is_missing}
 use Rattle.ada_rules.specs.Lists.{call_of}
-use Rattle.ada_rules.specs.Sets.{has_op}
+use Rattle.name_sets.specs.Sets.{has_op}
 use Rattle.ada_rules.proofs.rings.is_round.Given as goal
 
 -- what is reached so far

@@ -2,8 +2,8 @@ use Rattle.std.proofs.Common.{◌≡◌, ◌<◌, ◌∙◌, Bool, true, filter,
 use Rattle.std.specs.List.{list_any}
 use Rattle.ada_rules.specs.Edges.{AreReached, Edge, edge_of, is_missing}
 use Rattle.ada_rules.specs.Lists.{call_of}
-use Rattle.ada_rules.specs.Sets.{has_op}
-use Rattle.ada_rules.specs.declared.sets.Ops.{Ops}
+use Rattle.name_sets.specs.Sets.{has_op}
+use Rattle.name_sets.specs.declared.sets.Ops.{Ops}
 use Rattle.ada_rules.proofs.UnitLaws.{any-map}
 use Rattle.ada_rules.proofs.RingLaws.{any_here, missing_fewer, reached_more}
 use Rattle.ada_rules.proofs.rings.reach_more.Goals as goal

@@ -2,7 +2,7 @@ use Rattle.std.proofs.Common.{◌≡◌, map, drop}
 use Rattle.std.specs.List.{list_any}
 use Rattle.ada_rules.specs.Edges.{edge_of, leaves}
 use Rattle.ada_rules.specs.Lists.{call_of}
-use Rattle.ada_rules.specs.Sets.{has_op}
+use Rattle.name_sets.specs.Sets.{has_op}
 use Rattle.ada_rules.proofs.rings.reach_more.Given as goal
 
 -- no edge so far goes out

@@ -4,7 +4,7 @@ use Rattle.ada_tree.specs.Trees.{program_of, unit_of}
 use Rattle.ada_tree.specs.Uses.{breaks_uses}
 use Rattle.ada_rules.specs.declared.ops.Offered.TheVariants as which
 use Rattle.ada_rules.specs.Offers.{is_offered}
-use Rattle.ada_rules.specs.Sets.{has_op}
+use Rattle.name_sets.specs.Sets.{has_op}
 use Rattle.ada_rules.proofs.UnitLaws.{uses_are}
 use Rattle.ada_rules.proofs.FirstLaws.{none_at_all, passes, stops}
 use Rattle.ada_rules.proofs.uses.first_by_uses.Goals as goal

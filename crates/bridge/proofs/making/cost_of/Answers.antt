@@ -1,14 +1,20 @@
-use Rattle.std.proofs.Common.{sym, ◌∙◌}
-use Rattle.ods_rules.proofs.CostSteps.{cost-within}
-use Rattle.bridge.proofs.LoneLaws.{cost-fits, cost-told, cost-lent, usable-lent, some_same}
+use Rattle.std.proofs.Common.{refl, arith}
+use Rattle.seq_tree.specs.Dearest.{cost}
+use Rattle.seq_tree.specs.Trees.{block_of}
+use Rattle.seq_cost.specs.Callees.{callee_cost}
+use Rattle.std.proofs.Common.{[]}
+use Rattle.bridge.proofs.LoneLaws.{cost-fits, cost-parts}
 use Rattle.bridge.proofs.making.cost_of.Goals as goal
 
-pub activation_cost-requires : goal.activation_cost-requires
-activation_cost-requires c = usable-lent c.args.lone c.requires.usable c.as_slice.result.now c.as_slice.ensures.value
+pub overflow_add-result : goal.overflow_add-result
+overflow_add-result c =
+    let within = cost-fits c.args.lone c.requires.usable c.requires.meets in
+    let parts = cost-parts c.args.lone c.in-Ok.ticks c.in-Ok.ensures.ticks in
+    omega (arith, within, parts)
 
 pub unreachable-requires : goal.unreachable-requires
-unreachable-requires c = cost-told c.args.lone c.requires.usable c.requires.meets (sym (c.in-None.ensures ∙ cost-lent c.args.lone c.as_slice.result.now c.as_slice.ensures.value))
-
-pub returns : goal.returns
-returns c =
-    some_same (c.in-Some.ensures ∙ (cost-lent c.args.lone c.as_slice.result.now c.as_slice.ensures.value ∙ cost-within _ (cost-fits c.args.lone c.requires.usable c.requires.meets)))
+unreachable-requires c =
+    let within = cost-fits c.args.lone c.requires.usable c.requires.meets in
+    let parts = cost-parts c.args.lone (cost c.args.lone.costs.now (callee_cost []) (block_of c.args.lone.block.now)) refl in
+    let over = c.in-Err.ensures.over in
+    omega (arith, within, parts, over)

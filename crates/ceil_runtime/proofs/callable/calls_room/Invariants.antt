@@ -1,7 +1,7 @@
 use Rattle.std.proofs.Common.{◌≡◌, ℕ, ◌+◌, [], map, drop}
 use Rattle.ada_tree.specs.Trees.{unit_of}
 use Rattle.ceil_runtime.specs.Callable.{calls_room}
-use Rattle.ceil_runtime.specs.Threads.{libraries_from}
+use Rattle.ceil_runtime.specs.Libraries.{libraries_from}
 use Rattle.ceil_runtime.proofs.callable.calls_room.Given as goal
 
 -- the room for the units so far, and for those from here on

@@ -1,7 +1,7 @@
 use Rattle.std.proofs.Common.{◌≡◌, map, drop}
 use Rattle.ada_tree.specs.Trees.{unit_of}
 use Rattle.ceil_runtime.specs.Callable.{op_in, op_name}
-use Rattle.ceil_runtime.specs.Threads.{libraries_from}
+use Rattle.ceil_runtime.specs.Libraries.{libraries_from}
 use Rattle.ceil_runtime.proofs.callable.find_op.Given as goal
 
 -- the units so far are others

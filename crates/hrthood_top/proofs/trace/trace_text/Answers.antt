@@ -9,6 +9,7 @@ put_lines-requires c = rw c.events.ensures (c.advance-turn.ensures.placed _ (arr
 pub turns-preserved : goal.turns-preserved
 turns-preserved c = record {
   running = c.in-More.ensures.turned.2;
+  whole = c.in-More.ensures.whole c.in-More.ensures.turned.2;
   system = c.in-More.ensures.system ∙ c.turns.invariant.system;
   empty = c.clear.ensures;
   so_far = one_turn _ _ _ _ _ _ _ c.turns.invariant.so_far (rw c.events.ensures at c.in_ok-put_lines.ensures) c.in-More.ensures.rest;

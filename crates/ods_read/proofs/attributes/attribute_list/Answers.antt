@@ -1,10 +1,19 @@
-use Rattle.std.proofs.Common.{arith}
-use Rattle.std.proofs.lemmas.List.{length-map}
-use Rattle.seq_tree.specs.declared.token.Spanned.{Spanned}
+use Rattle.std.proofs.Common.{sym, map, codes, ◌∙◌}
+use Rattle.std.proofs.lemmas.List.{map-append}
+use Rattle.grammar.specs.Reading.{pure_at}
+use Rattle.ods_read.specs.Readers.{next_by, key_named, attribute_at, attribute_list_at}
 use Rattle.token_read.specs.Words.{bare}
-use Rattle.ods_read.proofs.AttributeSteps.{attribute-shorter}
+use Rattle.seq_read.proofs.Turns.{onward-turn, turn-shorter}
+use Rattle.ods_read.proofs.Taking.{takes-attribute}
 use Rattle.ods_read.proofs.attributes.attribute_list.Goals as goal
 
 pub attrs-smaller : goal.attrs-smaller
 attrs-smaller c =
-    omega (arith, attribute-shorter (bare c.attrs.rest.now) c.in_ok-next.next (bare c.in_ok-next.after.now) c.in_ok-next.ensures, length-map c.attrs.rest.now (λ (s : Spanned). s.token), length-map c.in_ok-next.after.now (λ (s : Spanned). s.token))
+    turn-shorter (attribute_at c.args.units) c.attrs.rest.now c.in_ok-next.after.now c.in_ok-next.next (takes-attribute c.args.units) c.in_ok-next.ensures
+
+pub attrs-preserved : goal.attrs-preserved
+attrs-preserved c =
+    rw (c.in_ok-push-2.ensures.items)
+    (onward-turn (next_by key_named) (attribute_at c.args.units) pure_at c.attrs.attrs.items (bare c.attrs.rest.now) c.in_ok-next.next (bare c.in_ok-next.after.now)
+    (takes-attribute c.args.units) (sym c.attrs-test.ensures) c.in_ok-next.ensures
+    ∙ c.attrs.invariant)

@@ -4,9 +4,8 @@ use Rattle.seq_tree.specs.declared.token.Spanned.{Spanned}
 use Rattle.ods_tree.specs.Designs.{Design}
 use Rattle.ods_tree.specs.Trees.{design_of}
 use Rattle.token_read.specs.Words.{bare}
-use Rattle.ods_read.specs.Readers.{design_at}
-use Rattle.seq_read.specs.Places.{place_at}
-use Rattle.ods_read.proofs.ReadSteps.{reads_found, reads_only, none_reads, stops_at}
+use Rattle.ods_read.specs.DesignReaders.{design_at}
+use Rattle.ods_read.proofs.ReadingLaws.{reads-as, reads-only, faulty-at, deep-at}
 use Rattle.ods_read.proofs.reader.read_design.Goals as goal
 
 -- what the tokens are read as
@@ -15,22 +14,22 @@ read_as ts = whole_at design_at (bare ts)
 
 pub returns-in-Ok-whole-clause-says : goal.returns-in-Ok-whole-clause-says
 returns-in-Ok-whole-clause-says c =
-    reads_found c.args.bytes.now c.in-Ok.found.items (design_of c.in-Ok-whole.design) (omega arith) c.in-Ok.ensures (ap read_as (sym c.deref.ensures.value) ∙ c.in-Ok-whole.ensures)
+    reads-as c.args.bytes.now c.in-Ok.found.items (design_of c.in-Ok-whole.design) (omega arith) c.in-Ok.ensures (ap read_as (sym c.deref.ensures.value) ∙ c.in-Ok-whole.ensures)
 
 pub returns-in-Ok-whole-clause-only : goal.returns-in-Ok-whole-clause-only
-returns-in-Ok-whole-clause-only c p usable a =
-    let found = reads_only c.args.bytes.now c.in-Ok.found.items p c.in-Ok.ensures usable a in
-    let same : Ok (design_of c.in-Ok-whole.design) ≡ Ok p = sym c.in-Ok-whole.ensures ∙ ap read_as c.deref.ensures.value ∙ found in
+returns-in-Ok-whole-clause-only c x a =
+    let found = reads-only c.args.bytes.now c.in-Ok.found.items x c.in-Ok.ensures a in
+    let same : Ok (design_of c.in-Ok-whole.design) ≡ Ok x = sym c.in-Ok-whole.ensures ∙ ap read_as c.deref.ensures.value ∙ found in
     cc
+
+pub returns-in-Err-Syntax-clause-says : goal.returns-in-Err-Syntax-clause-says
+returns-in-Err-Syntax-clause-says c =
+    let fails = rw c.in-Err-Syntax.field-0-is at c.in-Err-Syntax.ensures in
+    faulty-at c.args.bytes.now c.in-Ok.found.items c.in-Err-Syntax.left c.place_of-place.result (omega arith) c.in-Ok.ensures (ap read_as (sym c.deref.ensures.value) ∙ fails)
+    (rw (← c.in-Err-Syntax.left-is, ← c.deref-in-Err-Syntax.ensures.value) c.place_of-place.ensures)
 
 pub returns-clause-says : goal.returns-clause-says
 returns-clause-says c =
-    let fails = rw c.in-Err-Syntax.field-0-is at c.in-Err-Syntax.ensures in
-    none_reads c.args.bytes.now c.in-Ok.found.items c.in-Err-Syntax.left (omega arith) c.in-Ok.ensures (ap read_as (sym c.deref.ensures.value) ∙ fails)
-
-pub returns-clause-first : goal.returns-clause-first
-returns-clause-first c place e =
-    let fails = rw c.in-Err-Syntax.field-0-is at c.in-Err-Syntax.ensures in
-    let same : place ≡ c.place_of-place.result = cc in
-    stops_at c.args.bytes.now c.in-Ok.found.items c.in-Err-Syntax.left place c.in-Ok.ensures (ap read_as (sym c.deref.ensures.value) ∙ fails)
-    (same ∙ c.place_of-place.ensures ∙ ap (λ (ts : List Spanned). place_at c.args.bytes.now ts c.in-Err-Syntax.left) c.deref-in-Err-Syntax.ensures.value)
+    let fails = rw c.in-Err-TooDeep.field-0-is at c.in-Err-TooDeep.ensures in
+    deep-at c.args.bytes.now c.in-Ok.found.items c.in-Err-TooDeep.left c.place_of-place-in-Err-TooDeep.result (omega arith) c.in-Ok.ensures (ap read_as (sym c.deref.ensures.value) ∙ fails)
+    (rw (← c.in-Err-TooDeep.left-is, ← c.deref-in-Err-TooDeep.ensures.value) c.place_of-place-in-Err-TooDeep.ensures)

@@ -1,78 +1,299 @@
-use Rattle.std.proofs.Common.{◌≡◌, ℕ, ◌+◌, ◌-◌, ◌*◌, ◌<◌, List, [], ◌∷◌, add-zero, arith, ap, sym, refl, ◌∙◌}
-use Rattle.seq_tree.specs.Variables.{kept}
-use Rattle.ceil_runtime.specs.Written.{libraries_of, reserve, thread_of}
-use Rattle.ceil_runtime.specs.Shown.{system_of, state_of, task_of, ran_of}
-use Rattle.ceil_runtime.proofs.Ends.{ends, kept-same}
+use Rattle.std.proofs.Common.{◌≡◌, ℕ, ◌-◌, ◌<◌, sym, ap, subst, ◌∙◌, refl, arith, Some, length, List, [], ◌∷◌, false, set, drop}
+use Rattle.std.specs.Prelude.{Option, option_map, IfSome}
+use Rattle.std.proofs.lemmas.Option.{slice_get_read, slice_get-map}
+use Rattle.trace_tree.specs.declared.event.Event.{Event}
 use Rattle.trace_tree.specs.declared.event.Event.TheVariants as event
-use Rattle.machine.specs.Pieces.{Piece}
-use Rattle.machine.specs.States.{State, Asleep}
-use Rattle.machine.specs.Steps.{effect_step}
-use Rattle.ceil_runtime.specs.declared.thread.Thread.{Thread}
-use Rattle.ceil_runtime.specs.Progresses.{behind, piece_of, put_away, started}
-use Rattle.ceil_runtime.specs.Progresses.{kept as kept_frames}
-use Rattle.ceil_runtime.specs.Progressed.{pieces_left, vars_left}
-use Rattle.ceil_runtime.specs.Effort.{ends_among, effort, first_ticks, first_works, most_ends}
-use Rattle.ceil_runtime.specs.Left.{first_tells}
-use Rattle.ceil_runtime.proofs.Frames.{few-frames}
-use Rattle.ceil_runtime.proofs.Firsts.{names-idle}
-use Rattle.ceil_runtime.proofs.Starting.{effort-falls, few-ends, nears-silent, some-effort, tells-later, tells-now, tells-print, tells-finish}
+use Rattle.link_queue.specs.Queues.{IsFree, Queues, in_time}
+use Rattle.machine.specs.Releases.{going}
+use Rattle.machine.specs.Effects.{ended}
+use Rattle.machine.specs.States.{State}
+use Rattle.ceil_runtime.specs.Processing.{Follows, IsSound, state_by, system_by}
+use Rattle.ceil_runtime.specs.Shown.{running_of}
+use Rattle.ceil_runtime.specs.Works.{readiness_of, task_of, tells_of}
+use Rattle.std.specs.Prelude.{Bool, true}
+use Rattle.ceil_runtime.specs.declared.effects.Act.TheVariants.{Silent, Print, Finish}
+use Rattle.ceil_runtime.specs.declared.processor.Phase.{Phase}
+use Rattle.ceil_runtime.specs.declared.processor.Phase.TheVariants.{Effects}
+use Rattle.ceil_runtime.proofs.Processed.{Changed, changed-system, follows-of, follows-renumbered, step-run}
+use Rattle.ceil_runtime.specs.Effort.{most_ends}
+use Rattle.ceil_runtime.specs.Stepping.{steps_by}
+use Rattle.ceil_runtime.proofs.Nearing.{get-put, nears-effect, reserve-most}
+use Rattle.ceil_runtime.proofs.Effected.{act-first, act-step, finish-differs, finish-run, finish-sound, going-sound, going-state}
+use Rattle.std.specs.Prelude.{◌≤◌, ◌+◌}
+use Rattle.ceil_runtime.specs.Left.{sleeper}
+use Rattle.ceil_runtime.proofs.Falling.{falls-effect, left_by}
+use Rattle.ceil_runtime.proofs.Released.{going-readiness}
 use Rattle.ceil_runtime.proofs.processor.Machine.effect.Goals as goal
+
+pub act-act-requires-clause-few : goal.act-act-requires-clause-few
+act-act-requires-clause-few c =
+    let m = c.args.self.now in
+    let i = c.args.task in
+    let t = c.index_mut-active.result.now in
+    let sound : IsSound m.until m.time Effects (Some i) m.units.now m.tasks.items m.links =
+    subst (λ (r : Option ℕ). IsSound m.until m.time Effects r m.units.now m.tasks.items m.links) c.requires.ran (subst (λ (p : Phase). IsSound m.until m.time p m.ran m.units.now m.tasks.items m.links) c.requires.phase c.requires.whole) in
+    let here = slice_get_read m.tasks.items (length m.tasks.items) i t refl sound.here.0 c.index_mut-active.ensures.value in
+    let k = sound.kept i t here in
+    omega (arith, k.works, sound.in_time, sound.near)
+
+pub returns-in-Silent-clause-whole : goal.returns-in-Silent-clause-whole
+returns-in-Silent-clause-whole c =
+    let m = c.args.self.now in
+    let i = c.args.task in
+    let t = c.index_mut-active.result.now in
+    let t' = c.act-act.new.self in
+    let tasks' = set m.tasks.items i t' in
+    let sound : IsSound m.until m.time Effects (Some i) m.units.now m.tasks.items m.links =
+    subst (λ (r : Option ℕ). IsSound m.until m.time Effects r m.units.now m.tasks.items m.links) c.requires.ran (subst (λ (p : Phase). IsSound m.until m.time p m.ran m.units.now m.tasks.items m.links) c.requires.phase c.requires.whole) in
+    let here = slice_get_read m.tasks.items (length m.tasks.items) i t refl sound.here.0 c.index_mut-active.ensures.value in
+    let at = slice_get-map task_of m.tasks.items i ∙ ap (option_map task_of) here in
+    let p = c.requires.piece t here in
+    let a = c.in-Silent.ensures.acts in
+    let changed : Changed m.tasks.items tasks' i t t' (going m.costs a.vars a.pieces) = record { here = here; set_is = refl; does = a.after; thread = c.in-Silent.ensures.thread } in
+    subst (λ (p : Phase). IsSound m.until m.time p m.ran m.units.now tasks' m.links) (sym c.requires.phase)
+    (subst (λ (r : Option ℕ). IsSound m.until m.time Effects r m.units.now tasks' m.links) (sym c.requires.ran)
+    (going-sound m.until m.time m.costs m.units.now i m.tasks.items m.links sound t t' here at p.2 p.1 Silent a tasks' changed c.in-Silent.ensures.works))
+
+pub returns-in-Silent-clause-follows : goal.returns-in-Silent-clause-follows
+returns-in-Silent-clause-follows c =
+    let m = c.args.self.now in
+    let i = c.args.task in
+    let t = c.index_mut-active.result.now in
+    let t' = c.act-act.new.self in
+    let tasks' = set m.tasks.items i t' in
+    let sound : IsSound m.until m.time Effects (Some i) m.units.now m.tasks.items m.links =
+    subst (λ (r : Option ℕ). IsSound m.until m.time Effects r m.units.now m.tasks.items m.links) c.requires.ran (subst (λ (p : Phase). IsSound m.until m.time p m.ran m.units.now m.tasks.items m.links) c.requires.phase c.requires.whole) in
+    let here = slice_get_read m.tasks.items (length m.tasks.items) i t refl sound.here.0 c.index_mut-active.ensures.value in
+    let at = slice_get-map task_of m.tasks.items i ∙ ap (option_map task_of) here in
+    let p = c.requires.piece t here in
+    let a = c.in-Silent.ensures.acts in
+    let changed : Changed m.tasks.items tasks' i t t' (going m.costs a.vars a.pieces) = record { here = here; set_is = refl; does = a.after; thread = c.in-Silent.ensures.thread } in
+    let y = system_by m.until m.costs m.units.now m.tasks.items in
+    let y' = system_by m.until m.costs m.units.now tasks' in
+    let before : state_by m.time m.phase m.ran m.stopped m.tasks.items m.links.ready ≡ state_by m.time Effects (Some i) false m.tasks.items m.links.ready =
+    ap (λ p. state_by m.time p m.ran m.stopped m.tasks.items m.links.ready) c.requires.phase ∙ ap (λ r. state_by m.time Effects r m.stopped m.tasks.items m.links.ready) c.requires.ran
+    ∙ ap (λ b. state_by m.time Effects (Some i) b m.tasks.items m.links.ready) c.requires.goes_on in
+    let after : state_by m.time Effects (Some i) false tasks' m.links.ready ≡ state_by m.time m.phase m.ran m.stopped tasks' m.links.ready =
+    ap (λ p. state_by m.time p (Some i) false tasks' m.links.ready) (sym c.requires.phase) ∙ ap (λ r. state_by m.time m.phase r false tasks' m.links.ready) (sym c.requires.ran)
+    ∙ ap (λ b. state_by m.time m.phase m.ran b tasks' m.links.ready) (sym c.requires.goes_on) in
+    let runs = step-run y (state_by m.time Effects (Some i) false m.tasks.items m.links.ready) _ ([]) (act-step m.until m.time m.costs m.units.now i m.tasks.items m.links sound t t' here at p.2 p.1 Silent a) in
+    let f = follows-of y y' 1 _ _ _ _ ([]) before runs (going-state m.until m.time m.costs m.units.now i m.tasks.items m.links sound t t' here at p.2 p.1 Silent a tasks' changed c.in-Silent.ensures.works ∙ after)
+    (changed-system m.tasks.items tasks' i t t' (going m.costs a.vars a.pieces) changed m.until m.costs m.units.now) in
+    f
+
+pub returns-in-Print-clause-whole : goal.returns-in-Print-clause-whole
+returns-in-Print-clause-whole c =
+    let m = c.args.self.now in
+    let i = c.args.task in
+    let t = c.index_mut-active.result.now in
+    let t' = c.act-act.new.self in
+    let tasks' = set m.tasks.items i t' in
+    let sound : IsSound m.until m.time Effects (Some i) m.units.now m.tasks.items m.links =
+    subst (λ (r : Option ℕ). IsSound m.until m.time Effects r m.units.now m.tasks.items m.links) c.requires.ran (subst (λ (p : Phase). IsSound m.until m.time p m.ran m.units.now m.tasks.items m.links) c.requires.phase c.requires.whole) in
+    let here = slice_get_read m.tasks.items (length m.tasks.items) i t refl sound.here.0 c.index_mut-active.ensures.value in
+    let at = slice_get-map task_of m.tasks.items i ∙ ap (option_map task_of) here in
+    let p = c.requires.piece t here in
+    let a = c.in-Print.ensures.acts in
+    let changed : Changed m.tasks.items tasks' i t t' (going m.costs a.vars a.pieces) = record { here = here; set_is = refl; does = a.after; thread = c.in-Print.ensures.thread } in
+    subst (λ (p : Phase). IsSound m.until m.time p m.ran m.units.now tasks' m.links) (sym c.requires.phase)
+    (subst (λ (r : Option ℕ). IsSound m.until m.time Effects r m.units.now tasks' m.links) (sym c.requires.ran)
+    (going-sound m.until m.time m.costs m.units.now i m.tasks.items m.links sound t t' here at p.2 p.1 (Print c.in-Print.value) a tasks' changed c.in-Print.ensures.works))
+
+pub returns-in-Print-clause-follows : goal.returns-in-Print-clause-follows
+returns-in-Print-clause-follows c =
+    let m = c.args.self.now in
+    let i = c.args.task in
+    let t = c.index_mut-active.result.now in
+    let t' = c.act-act.new.self in
+    let tasks' = set m.tasks.items i t' in
+    let sound : IsSound m.until m.time Effects (Some i) m.units.now m.tasks.items m.links =
+    subst (λ (r : Option ℕ). IsSound m.until m.time Effects r m.units.now m.tasks.items m.links) c.requires.ran (subst (λ (p : Phase). IsSound m.until m.time p m.ran m.units.now m.tasks.items m.links) c.requires.phase c.requires.whole) in
+    let here = slice_get_read m.tasks.items (length m.tasks.items) i t refl sound.here.0 c.index_mut-active.ensures.value in
+    let at = slice_get-map task_of m.tasks.items i ∙ ap (option_map task_of) here in
+    let p = c.requires.piece t here in
+    let a = c.in-Print.ensures.acts in
+    let changed : Changed m.tasks.items tasks' i t t' (going m.costs a.vars a.pieces) = record { here = here; set_is = refl; does = a.after; thread = c.in-Print.ensures.thread } in
+    let y = system_by m.until m.costs m.units.now m.tasks.items in
+    let y' = system_by m.until m.costs m.units.now tasks' in
+    let before : state_by m.time m.phase m.ran m.stopped m.tasks.items m.links.ready ≡ state_by m.time Effects (Some i) false m.tasks.items m.links.ready =
+    ap (λ p. state_by m.time p m.ran m.stopped m.tasks.items m.links.ready) c.requires.phase ∙ ap (λ r. state_by m.time Effects r m.stopped m.tasks.items m.links.ready) c.requires.ran
+    ∙ ap (λ b. state_by m.time Effects (Some i) b m.tasks.items m.links.ready) c.requires.goes_on in
+    let after : state_by m.time Effects (Some i) false tasks' m.links.ready ≡ state_by m.time m.phase m.ran m.stopped tasks' m.links.ready =
+    ap (λ p. state_by m.time p (Some i) false tasks' m.links.ready) (sym c.requires.phase) ∙ ap (λ r. state_by m.time m.phase r false tasks' m.links.ready) (sym c.requires.ran)
+    ∙ ap (λ b. state_by m.time m.phase m.ran b tasks' m.links.ready) (sym c.requires.goes_on) in
+    let runs = step-run y (state_by m.time Effects (Some i) false m.tasks.items m.links.ready) _ (event.Print m.time t.progress.stack.thread.unit c.in-Print.value ∷ []) (act-step m.until m.time m.costs m.units.now i m.tasks.items m.links sound t t' here at p.2 p.1 (Print c.in-Print.value) a) in
+    let f = follows-of y y' 1 _ _ _ _ (event.Print m.time t.progress.stack.thread.unit c.in-Print.value ∷ []) before runs (going-state m.until m.time m.costs m.units.now i m.tasks.items m.links sound t t' here at p.2 p.1 (Print c.in-Print.value) a tasks' changed c.in-Print.ensures.works ∙ after)
+    (changed-system m.tasks.items tasks' i t t' (going m.costs a.vars a.pieces) changed m.until m.costs m.units.now) in
+    let told : event.Print m.time t.progress.stack.thread.unit c.in-Print.value ∷ [] ≡ event.Print m.time t'.progress.stack.thread.unit c.in-Print.value ∷ [] = ap (λ th. event.Print m.time th.unit c.in-Print.value ∷ []) (sym c.in-Print.ensures.thread) in
+    subst (λ (es : List Event). Follows (running_of m) es (record { system = y'; state = state_by m.time m.phase m.ran m.stopped tasks' m.links.ready })) told f
+
+pub sleep-requires : goal.sleep-requires
+sleep-requires c =
+    let m = c.args.self.now in
+    let i = c.args.task in
+    let t = c.index_mut-active.result.now in
+    let t' = c.act-act.new.self in
+    let tasks' = set m.tasks.items i t' in
+    let sound : IsSound m.until m.time Effects (Some i) m.units.now m.tasks.items m.links =
+    subst (λ (r : Option ℕ). IsSound m.until m.time Effects r m.units.now m.tasks.items m.links) c.requires.ran (subst (λ (p : Phase). IsSound m.until m.time p m.ran m.units.now m.tasks.items m.links) c.requires.phase c.requires.whole) in
+    let here = slice_get_read m.tasks.items (length m.tasks.items) i t refl sound.here.0 c.index_mut-active.ensures.value in
+    let at = slice_get-map task_of m.tasks.items i ∙ ap (option_map task_of) here in
+    let p = c.requires.piece t here in
+    let a = c.in-Finish.ensures.acts in
+    let first = act-first m.until m.time m.costs m.units.now i m.tasks.items m.links sound t t' here at p.2 p.1 Finish a in
+    let popped : c.pop_head.result ≡ Some i = c.pop_head.ensures.task ∙ ap (option_map (λ e. e.0)) first.1 in
+    subst (λ (o : Option ℕ). IfSome o (IsFree c.pop_head.new.self)) popped c.pop_head.ensures.free
+
+pub returns-in-Finish-clause-whole : goal.returns-in-Finish-clause-whole
+returns-in-Finish-clause-whole c =
+    let m = c.args.self.now in
+    let i = c.args.task in
+    let t = c.index_mut-active.result.now in
+    let t' = c.act-act.new.self in
+    let tasks' = set m.tasks.items i t' in
+    let sound : IsSound m.until m.time Effects (Some i) m.units.now m.tasks.items m.links =
+    subst (λ (r : Option ℕ). IsSound m.until m.time Effects r m.units.now m.tasks.items m.links) c.requires.ran (subst (λ (p : Phase). IsSound m.until m.time p m.ran m.units.now m.tasks.items m.links) c.requires.phase c.requires.whole) in
+    let here = slice_get_read m.tasks.items (length m.tasks.items) i t refl sound.here.0 c.index_mut-active.ensures.value in
+    let at = slice_get-map task_of m.tasks.items i ∙ ap (option_map task_of) here in
+    let p = c.requires.piece t here in
+    let a = c.in-Finish.ensures.acts in
+    let changed : Changed m.tasks.items tasks' i t t' (ended a.vars) = record { here = here; set_is = refl; does = a.after; thread = c.in-Finish.ensures.thread } in
+    let put : Queues → Queues = λ q. record q { asleep = in_time (i, c.max.result) q.asleep } in
+    let until : ℕ → Queues = λ n. record m.links { ready = drop 1 m.links.ready; asleep = in_time (i, n) m.links.asleep } in
+    subst (λ (p : Phase). IsSound m.until m.time p m.ran m.units.now tasks' c.sleep.new.self) (sym c.requires.phase)
+    (subst (λ (r : Option ℕ). IsSound m.until m.time Effects r m.units.now tasks' c.sleep.new.self) (sym c.requires.ran)
+    (finish-sound m.until m.time m.costs m.units.now i m.tasks.items m.links sound t t' here at p.2 p.1 a tasks' changed c.sleep.new.self
+    (c.sleep.ensures ∙ ap put c.pop_head.ensures.queues ∙ ap until c.max.ensures) c.in-Finish.ensures.works))
+
+pub returns-in-Finish-clause-follows : goal.returns-in-Finish-clause-follows
+returns-in-Finish-clause-follows c =
+    let m = c.args.self.now in
+    let i = c.args.task in
+    let t = c.index_mut-active.result.now in
+    let t' = c.act-act.new.self in
+    let tasks' = set m.tasks.items i t' in
+    let sound : IsSound m.until m.time Effects (Some i) m.units.now m.tasks.items m.links =
+    subst (λ (r : Option ℕ). IsSound m.until m.time Effects r m.units.now m.tasks.items m.links) c.requires.ran (subst (λ (p : Phase). IsSound m.until m.time p m.ran m.units.now m.tasks.items m.links) c.requires.phase c.requires.whole) in
+    let here = slice_get_read m.tasks.items (length m.tasks.items) i t refl sound.here.0 c.index_mut-active.ensures.value in
+    let at = slice_get-map task_of m.tasks.items i ∙ ap (option_map task_of) here in
+    let p = c.requires.piece t here in
+    let a = c.in-Finish.ensures.acts in
+    let changed : Changed m.tasks.items tasks' i t t' (ended a.vars) = record { here = here; set_is = refl; does = a.after; thread = c.in-Finish.ensures.thread } in
+    let y = system_by m.until m.costs m.units.now m.tasks.items in
+    let y' = system_by m.until m.costs m.units.now tasks' in
+    let before : state_by m.time m.phase m.ran m.stopped m.tasks.items m.links.ready ≡ state_by m.time Effects (Some i) false m.tasks.items m.links.ready =
+    ap (λ p. state_by m.time p m.ran m.stopped m.tasks.items m.links.ready) c.requires.phase ∙ ap (λ r. state_by m.time Effects r m.stopped m.tasks.items m.links.ready) c.requires.ran
+    ∙ ap (λ b. state_by m.time Effects (Some i) b m.tasks.items m.links.ready) c.requires.goes_on in
+    let links : c.sleep.new.self.ready ≡ drop 1 m.links.ready = ap (λ q. q.ready) c.sleep.ensures ∙ ap (λ q. q.ready) c.pop_head.ensures.queues in
+    let after : state_by m.time Effects (Some i) false tasks' (drop 1 m.links.ready) ≡ state_by m.time m.phase m.ran m.stopped tasks' c.sleep.new.self.ready =
+    ap (λ p. state_by m.time p (Some i) false tasks' (drop 1 m.links.ready)) (sym c.requires.phase) ∙ ap (λ r. state_by m.time m.phase r false tasks' (drop 1 m.links.ready)) (sym c.requires.ran)
+    ∙ ap (λ b. state_by m.time m.phase m.ran b tasks' (drop 1 m.links.ready)) (sym c.requires.goes_on) ∙ ap (λ es. state_by m.time m.phase m.ran m.stopped tasks' es) (sym links) in
+    let used : t'.used ≡ t.used = ap (λ v. v.used) a.after in
+    let told : event.End m.time t.progress.stack.thread.unit t.used ∷ [] ≡ event.End m.time t'.progress.stack.thread.unit t'.used ∷ [] =
+    ap (λ th. event.End m.time th.unit t.used ∷ []) (sym c.in-Finish.ensures.thread) ∙ ap (λ n. event.End m.time t'.progress.stack.thread.unit n ∷ []) (sym used) in
+    let f = follows-renumbered y y' 1 _ _ _ _ (event.End m.time t.progress.stack.thread.unit t.used ∷ []) before
+    (finish-run m.until m.time m.costs m.units.now i m.tasks.items m.links sound t t' here at p.2 p.1 a tasks' changed)
+    (finish-differs m.until m.time m.costs m.units.now i m.tasks.items m.links sound t t' here at p.2 p.1 a tasks' changed)
+    (changed-system m.tasks.items tasks' i t t' (ended a.vars) changed m.until m.costs m.units.now) in
+    subst (λ (s : State). Follows (running_of m) (event.End m.time t'.progress.stack.thread.unit t'.used ∷ []) (record { system = y'; state = s })) after
+    (subst (λ (es : List Event). Follows (running_of m) es (record { system = y'; state = state_by m.time Effects (Some i) false tasks' (drop 1 m.links.ready) })) told f)
 
 pub returns-in-Silent-clause-nears : goal.returns-in-Silent-clause-nears
 returns-in-Silent-clause-nears c =
     let m = c.args.self.now in
-    let s = m.progress.stack in
-    let q = c.act-act.new.self in
-    let most = most_ends (system_of m) in
-    let p = piece_of c.args.piece (put_away s.frames.items) in
-    let rest = behind s.frames.items in
-    let was : pieces_left m.progress ≡ p ∷ rest = ap (λ x. started x (kept_frames s.frames.items)) c.requires.piece in
-    let few : ends_among (pieces_left q) < most = omega (arith, few-ends q.piece q.stack.frames.items, few-frames q.stack.thread q.stack.frames.items q.stack.fit, ap reserve c.act-act.ensures.thread) in
-    rw (c.act-act.ensures.thread, c.requires.phase, was) (nears-silent ((m.until - m.time) * (most + 4)) m.left _ (effort most (p ∷ rest)) (effort most (pieces_left q)) c.requires.used
-    (λ none. effort-falls m.costs most (libraries_of s.thread) q.stack.thread q.piece q.stack.frames.items m.ticking q.fits few (sym c.start-start.ensures.ticks ∙ none) p _ _ rest c.act-act.result c.act-act.ensures.deed)
-    (some-effort most p rest (omega (arith, few))))
+    let i = c.args.task in
+    let t = c.index_mut-active.result.now in
+    let t' = c.act-act.new.self in
+    let tasks' = set m.tasks.items i t' in
+    let sound : IsSound m.until m.time Effects (Some i) m.units.now m.tasks.items m.links =
+    subst (λ (r : Option ℕ). IsSound m.until m.time Effects r m.units.now m.tasks.items m.links) c.requires.ran (subst (λ (p : Phase). IsSound m.until m.time p m.ran m.units.now m.tasks.items m.links) c.requires.phase c.requires.whole) in
+    let here = slice_get_read m.tasks.items (length m.tasks.items) i t refl sound.here.0 c.index_mut-active.ensures.value in
+    let at = slice_get-map task_of m.tasks.items i ∙ ap (option_map task_of) here in
+    let p = c.requires.piece t here in
+    let a = c.in-Silent.ensures.acts in
+    let changed : Changed m.tasks.items tasks' i t t' (going m.costs a.vars a.pieces) = record { here = here; set_is = refl; does = a.after; thread = c.in-Silent.ensures.thread } in
+    let most = most_ends (system_by m.until m.costs m.units.now m.tasks.items) in
+    let most' = most_ends (system_by m.until m.costs m.units.now tasks') in
+    let same : most' ≡ most = ap most_ends (changed-system m.tasks.items tasks' i t t' (going m.costs a.vars a.pieces) changed m.until m.costs m.units.now) in
+    subst (λ (p : Phase). steps_by most' m.until m.time p tasks' m.ran < steps_by most m.until m.time p m.tasks.items m.ran) (sym c.requires.phase)
+    (subst (λ (r : Option ℕ). steps_by most' m.until m.time Effects tasks' r < steps_by most m.until m.time Effects m.tasks.items r) (sym c.requires.ran)
+    (nears-effect (m.until - m.time) most most' m.tasks.items tasks' i t t' same here (get-put m.tasks.items i t' sound.here.0) p.2
+    (c.in-Silent.ensures.falls most (reserve-most m.until m.time m.costs m.units.now m.tasks.items i t here (sound.kept i t here).units))))
+
+pub returns-in-Print-clause-of : goal.returns-in-Print-clause-of
+returns-in-Print-clause-of c =
+    let m = c.args.self.now in
+    let i = c.args.task in
+    let t = c.index_mut-active.result.now in
+    let sound : IsSound m.until m.time Effects (Some i) m.units.now m.tasks.items m.links =
+    subst (λ (r : Option ℕ). IsSound m.until m.time Effects r m.units.now m.tasks.items m.links) c.requires.ran (subst (λ (p : Phase). IsSound m.until m.time p m.ran m.units.now m.tasks.items m.links) c.requires.phase c.requires.whole) in
+    let here = slice_get_read m.tasks.items (length m.tasks.items) i t refl sound.here.0 c.index_mut-active.ensures.value in
+    record { place = i; task = t; here = here; is_unit = ap (λ th. th.unit) c.in-Print.ensures.thread }
+
+pub returns-in-Finish-clause-of : goal.returns-in-Finish-clause-of
+returns-in-Finish-clause-of c =
+    let m = c.args.self.now in
+    let i = c.args.task in
+    let t = c.index_mut-active.result.now in
+    let sound : IsSound m.until m.time Effects (Some i) m.units.now m.tasks.items m.links =
+    subst (λ (r : Option ℕ). IsSound m.until m.time Effects r m.units.now m.tasks.items m.links) c.requires.ran (subst (λ (p : Phase). IsSound m.until m.time p m.ran m.units.now m.tasks.items m.links) c.requires.phase c.requires.whole) in
+    let here = slice_get_read m.tasks.items (length m.tasks.items) i t refl sound.here.0 c.index_mut-active.ensures.value in
+    record { place = i; task = t; here = here; is_unit = ap (λ th. th.unit) c.in-Finish.ensures.thread }
+
+pub returns-in-Silent-clause-falls : goal.returns-in-Silent-clause-falls
+returns-in-Silent-clause-falls c = λ on.
+    let m = c.args.self.now in
+    let i = c.args.task in
+    let t = c.index_mut-active.result.now in
+    let t' = c.act-act.new.self in
+    let tasks' = set m.tasks.items i t' in
+    let sound : IsSound m.until m.time Effects (Some i) m.units.now m.tasks.items m.links =
+    subst (λ (r : Option ℕ). IsSound m.until m.time Effects r m.units.now m.tasks.items m.links) c.requires.ran (subst (λ (p : Phase). IsSound m.until m.time p m.ran m.units.now m.tasks.items m.links) c.requires.phase c.requires.whole) in
+    let here = slice_get_read m.tasks.items (length m.tasks.items) i t refl sound.here.0 c.index_mut-active.ensures.value in
+    let a = c.in-Silent.ensures.acts in
+    let changed : Changed m.tasks.items tasks' i t t' (going m.costs a.vars a.pieces) = record { here = here; set_is = refl; does = a.after; thread = c.in-Silent.ensures.thread } in
+    let same : sleeper (task_of t').readiness ≡ sleeper (task_of t).readiness = ap (λ u. sleeper u.readiness) a.after ∙ ap sleeper (going-readiness m.costs a.vars a.pieces (task_of t)) in
+    let few : tells_of (task_of t') + sleeper (task_of t').readiness + 0 ≤ tells_of (task_of t) + sleeper (task_of t).readiness = omega (arith, same, c.in-Silent.ensures.told) in
+    subst (λ (p : Phase). left_by m.until m.costs m.units.now m.time p m.ran m.stopped tasks' m.links.ready + 0 ≤ left_by m.until m.costs m.units.now m.time p m.ran m.stopped m.tasks.items m.links.ready)
+    (sym c.requires.phase)
+    (falls-effect m.tasks.items tasks' i t t' (going m.costs a.vars a.pieces) changed m.until m.costs m.units.now m.time 0 m.ran m.stopped m.links.ready m.links.ready few)
 
 pub returns-in-Print-clause-falls : goal.returns-in-Print-clause-falls
 returns-in-Print-clause-falls c = λ on.
     let m = c.args.self.now in
-    let s = m.progress.stack in
-    let later = tells-later m.costs _ (pieces_left c.act-act.new.self) m.ticking c.start-start.ensures.ticks in
-    let before = tells-now m.left 2 (first_tells (pieces_left m.progress)) c.requires.used
-    (ap (λ x. first_tells (started x (kept_frames s.frames.items))) c.requires.piece ∙ tells-print (libraries_of s.thread) (piece_of c.args.piece (put_away s.frames.items)) _ _ _ _ _ c.in-Print.ensures.deed) in
-    rw c.requires.phase (omega (arith, later, before))
+    let i = c.args.task in
+    let t = c.index_mut-active.result.now in
+    let t' = c.act-act.new.self in
+    let tasks' = set m.tasks.items i t' in
+    let sound : IsSound m.until m.time Effects (Some i) m.units.now m.tasks.items m.links =
+    subst (λ (r : Option ℕ). IsSound m.until m.time Effects r m.units.now m.tasks.items m.links) c.requires.ran (subst (λ (p : Phase). IsSound m.until m.time p m.ran m.units.now m.tasks.items m.links) c.requires.phase c.requires.whole) in
+    let here = slice_get_read m.tasks.items (length m.tasks.items) i t refl sound.here.0 c.index_mut-active.ensures.value in
+    let a = c.in-Print.ensures.acts in
+    let changed : Changed m.tasks.items tasks' i t t' (going m.costs a.vars a.pieces) = record { here = here; set_is = refl; does = a.after; thread = c.in-Print.ensures.thread } in
+    let same : sleeper (task_of t').readiness ≡ sleeper (task_of t).readiness = ap (λ u. sleeper u.readiness) a.after ∙ ap sleeper (going-readiness m.costs a.vars a.pieces (task_of t)) in
+    let few : tells_of (task_of t') + sleeper (task_of t').readiness + 1 ≤ tells_of (task_of t) + sleeper (task_of t).readiness = omega (arith, same, c.in-Print.ensures.told.0, c.in-Print.ensures.told.1) in
+    subst (λ (p : Phase). left_by m.until m.costs m.units.now m.time p m.ran m.stopped tasks' m.links.ready + 1 ≤ left_by m.until m.costs m.units.now m.time p m.ran m.stopped m.tasks.items m.links.ready)
+    (sym c.requires.phase)
+    (falls-effect m.tasks.items tasks' i t t' (going m.costs a.vars a.pieces) changed m.until m.costs m.units.now m.time 1 m.ran m.stopped m.links.ready m.links.ready few)
 
 pub returns-in-Finish-clause-falls : goal.returns-in-Finish-clause-falls
 returns-in-Finish-clause-falls c = λ on.
     let m = c.args.self.now in
-    let s = m.progress.stack in
-    let later = tells-later m.costs _ (pieces_left c.act-act.new.self) m.ticking c.start-start.ensures.ticks in
-    let before = tells-now m.left 2 (first_tells (pieces_left m.progress)) c.requires.used
-    (ap (λ x. first_tells (started x (kept_frames s.frames.items))) c.requires.piece ∙ tells-finish (libraries_of s.thread) (piece_of c.args.piece (put_away s.frames.items)) _ _ _ _ c.in-Finish.ensures.deed) in
-    rw c.requires.phase (omega (arith, later, before))
-
-pub returns-in-Finish-clause-moves : goal.returns-in-Finish-clause-moves
-returns-in-Finish-clause-moves c =
-    let m = c.args.self.now in
-    let s = m.progress.stack in
-    let q = c.act-act.new.self in
-    let none = c.in-Finish.ensures.ends in
-    let names = names-idle q.stack.thread q.piece (vars_left q) q.stack.frames.items (record { fits = q.fits; named = q.named; away = q.away }) none in
-    let keeps = kept-same q.stack.thread.«data».now (vars_left q) names q.stack.distinct in
-    let rest = behind s.frames.items in
-    let e = ends (system_of m) (state_of m) (task_of m) (piece_of c.args.piece (put_away s.frames.items)) rest (pieces_left q) (vars_left q) s.thread.offset s.thread.period
-    refl (ap (λ x. started x (kept_frames s.frames.items)) c.requires.piece) c.requires.used c.in-Finish.ensures.deed (ap (λ th. kept th.«data».now (vars_left q)) (sym c.in-Finish.ensures.thread) ∙ keeps) refl in
-    let view : Thread → List Piece → ℕ → ℕ → State = λ th ps l w. record (state_of m) {
-      tasks = record (task_of m) { thread = thread_of th; active = th.priority; readiness = Asleep m.next; vars = vars_left q; pieces = ps; left = l; works = w } ∷ [];
-    } in
-    let thread = c.in-Finish.ensures.thread in
-    let ticks = c.start-start.ensures.ticks ∙ ap (first_ticks m.costs) none in
-    let works = ap (λ w. m.works + w) (c.start-start.ensures.works ∙ ap first_works none) ∙ add-zero m.works in
-    let shown = ap (λ th. view th (pieces_left q) c.start-start.result.ticks (m.works + c.start-start.result.works)) thread
-    ∙ ap (λ ps. view s.thread ps c.start-start.result.ticks (m.works + c.start-start.result.works)) none
-    ∙ ap (λ l. view s.thread [] l (m.works + c.start-start.result.works)) ticks ∙ ap (view s.thread [] 0) works in
-    let all = ap (λ b. effect_step (system_of m) (ran_of b) (state_of m)) c.requires.ran ∙ e in
-    record {
-      system = ap (λ th. record (system_of m) { libraries = libraries_of th; threads = thread_of th ∷ [] }) thread;
-      state = shown ∙ sym (ap (λ n. n.0) all);
-      tells = ap (λ th. event.End m.time th.unit m.used ∷ []) thread ∙ sym (ap (λ n. n.1) all);
-    }
+    let i = c.args.task in
+    let t = c.index_mut-active.result.now in
+    let t' = c.act-act.new.self in
+    let tasks' = set m.tasks.items i t' in
+    let sound : IsSound m.until m.time Effects (Some i) m.units.now m.tasks.items m.links =
+    subst (λ (r : Option ℕ). IsSound m.until m.time Effects r m.units.now m.tasks.items m.links) c.requires.ran (subst (λ (p : Phase). IsSound m.until m.time p m.ran m.units.now m.tasks.items m.links) c.requires.phase c.requires.whole) in
+    let here = slice_get_read m.tasks.items (length m.tasks.items) i t refl sound.here.0 c.index_mut-active.ensures.value in
+    let a = c.in-Finish.ensures.acts in
+    let changed : Changed m.tasks.items tasks' i t t' (ended a.vars) = record { here = here; set_is = refl; does = a.after; thread = c.in-Finish.ensures.thread } in
+    let one : sleeper (task_of t').readiness ≤ 1 = by_ready t'.ready t'.next in
+    let few : tells_of (task_of t') + sleeper (task_of t').readiness + 1 ≤ tells_of (task_of t) + sleeper (task_of t).readiness = omega (arith, one, c.in-Finish.ensures.told.0, c.in-Finish.ensures.told.1) in
+    subst (λ (p : Phase). left_by m.until m.costs m.units.now m.time p m.ran m.stopped tasks' c.sleep.new.self.ready + 1 ≤ left_by m.until m.costs m.units.now m.time p m.ran m.stopped m.tasks.items m.links.ready)
+    (sym c.requires.phase)
+    (falls-effect m.tasks.items tasks' i t t' (ended a.vars) changed m.until m.costs m.units.now m.time 1 m.ran m.stopped m.links.ready c.sleep.new.self.ready few)
+  where
+    by_ready : (b : Bool) (n : ℕ) → sleeper (readiness_of b n) ≤ 1
+    by_ready true n = omega arith
+    by_ready false n = omega arith

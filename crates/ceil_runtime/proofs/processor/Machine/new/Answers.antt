@@ -1,65 +1,41 @@
-use Rattle.std.proofs.Common.{ℕ, List, [], ◌∷◌, map, ap, sym, subst, ◌∙◌, None, false}
-use Rattle.std.specs.Prelude.{slice_get, pos}
-use Rattle.seq_tree.specs.Variables.{Variables, written}
-use Rattle.machine.specs.Systems.{Library}
-use Rattle.machine.specs.Pieces.{Piece}
-use Rattle.machine.specs.States.{Effects, Asleep, shut}
-use Rattle.machine.specs.Meanings.{Running}
-use Rattle.ceil_runtime.specs.declared.thread.Thread.{Thread}
-use Rattle.ceil_runtime.specs.Progressed.{vars_left, pieces_left}
-use Rattle.ada_tree.specs.Trees.{unit_of, program_of}
+use Rattle.std.proofs.Common.{ap, arith, length, map, subst, sym, ◌∙◌}
+use Rattle.std.proofs.lemmas.List.{length-map}
+use Rattle.std.specs.List.{list_all}
+use Rattle.ada_tree.specs.InUse.{is_sequential}
+use Rattle.ada_tree.specs.Trees.{program_of, unit_of}
 use Rattle.arrivals_tree.specs.Arriving.{arrivals_of}
-use Rattle.ceil_runtime.specs.Threads.{HasOneTask, threads_from, libraries_from}
-use Rattle.ceil_runtime.specs.Written.{libraries_of, thread_of}
-use Rattle.ceil_runtime.proofs.Openings.{can-run, whole, one_task, begun_one}
+use Rattle.ceil_runtime.specs.Gathering.{AllThreads, threads_from}
+use Rattle.ceil_runtime.specs.Starts.{CanStart}
+use Rattle.ceil_runtime.specs.Written.{handed, thread_of}
+use Rattle.ceil_runtime.proofs.Openings.{can-start, near-horizon, opened-all, whole}
 use Rattle.ceil_runtime.proofs.processor.Machine.new.Goals as goal
 
-pub task_in-thread-requires : goal.task_in-thread-requires
-task_in-thread-requires c =
-    subst (λ us. HasOneTask (map unit_of us)) (sym c.as_slice.ensures.value) (one_task (program_of c.args.program.now) (arrivals_of c.args.arrivals.now) c.requires)
+pub threads_in-requires-clause-sequential : goal.threads_in-requires-clause-sequential
+threads_in-requires-clause-sequential c = ap (λ us. list_all (λ u. is_sequential u.form) (map unit_of us)) c.as_slice-units.ensures.value ∙ c.requires.usable
 
-pub new-requires : goal.new-requires
-new-requires c =
-    let t = c.task_in-thread.result in
-    can-run (program_of c.args.program.now) (arrivals_of c.args.arrivals.now) c.requires t
-    (ap (λ us. slice_get (map unit_of us) t.unit) (sym c.as_slice.ensures.value) ∙ c.task_in-thread.ensures.at)
-    (ap (λ us. libraries_from 0 (map unit_of us)) (c.task_in-thread.ensures.among ∙ c.as_slice.ensures.value))
+pub threads_in-requires-clause-few : goal.threads_in-requires-clause-few
+threads_in-requires-clause-few c =
+    let few = (whole (program_of c.args.program.now) (arrivals_of c.args.arrivals.now) c.requires).1 in
+    omega (arith, few, length-map c.args.program.now.units.items unit_of, ap length c.as_slice-units.ensures.value)
 
-pub invariant_of-result-clause-ticking : goal.invariant_of-result-clause-ticking
-invariant_of-result-clause-ticking c = (whole (program_of c.args.program.now) (arrivals_of c.args.arrivals.now) c.requires).0
+pub open-requires-clause-few : goal.open-requires-clause-few
+open-requires-clause-few c =
+    let few = (whole (program_of c.args.program.now) (arrivals_of c.args.arrivals.now) c.requires).1 in
+    omega (arith, few, length-map c.args.program.now.units.items unit_of, ap length c.as_slice-units.ensures.value, ap length c.as_slice.ensures.value, c.in_ok-threads.ensures.few)
 
-pub returns : goal.returns
-returns c =
-    let t = c.task_in-thread.result in
-    let b = begun_one (program_of c.args.program.now) (arrivals_of c.args.arrivals.now) _ c.requires (ap (λ us. threads_from 0 (map unit_of us)) (sym c.as_slice.ensures.value) ∙ c.task_in-thread.ensures.alone) in
-    let q = c.in_ok-progress.progress in
-    let view : Thread → Variables → List Piece → ℕ → List Library → Running = λ th vs ps next ls. record {
-      system = record { until = c.args.arrivals.now.until; costs = c.args.program.now.costs; libraries = ls; objects = []; threads = thread_of th ∷ [] };
-      state = record {
-        time = 0;
-        phase = Effects;
-        ran = None;
-        arrivals = [];
-        stopped = false;
-        tasks = record {
-          thread = thread_of th;
-          readiness = Asleep next;
-          active = th.priority;
-          next = next;
-          vars = vs;
-          pieces = ps;
-          left = 0;
-          used = 0;
-          works = 0;
-          inside = [];
-          gate = shut;
-        } ∷ [];
-        orders = pos 0 ∷ [];
-        stores = [];
-      };
-    } in
-    ap (λ th. view th (vars_left q) (pieces_left q) c.from.result (libraries_of th)) c.in_ok-progress.ensures.thread
-    ∙ ap (λ vs. view t vs (pieces_left q) c.from.result (libraries_of t)) c.in_ok-progress.ensures.vars
-    ∙ ap (λ ps. view t (written t.«data».now) ps c.from.result (libraries_of t)) c.in_ok-progress.ensures.pieces
-    ∙ ap (λ n. view t (written t.«data».now) [] n (libraries_of t)) c.from.ensures
-    ∙ ap (λ us. view t (written t.«data».now) [] t.offset (libraries_from 0 (map unit_of us))) (c.task_in-thread.ensures.among ∙ c.as_slice.ensures.value) ∙ sym b
+pub open-requires-clause-near : goal.open-requires-clause-near
+open-requires-clause-near c = let near = near-horizon (program_of c.args.program.now) (arrivals_of c.args.arrivals.now) c.requires in omega (arith, near)
+
+pub open-requires-clause-ticking : goal.open-requires-clause-ticking
+open-requires-clause-ticking c = (whole (program_of c.args.program.now) (arrivals_of c.args.arrivals.now) c.requires).0
+
+pub open-requires-clause-start : goal.open-requires-clause-start
+open-requires-clause-start c =
+    subst (AllThreads (CanStart _)) (sym c.as_slice.ensures.value)
+    (can-start (program_of c.args.program.now) (arrivals_of c.args.arrivals.now) c.requires _ _ (ap (λ ws. (handed ws).work) c.as_slice-work.ensures.value) (ap (map unit_of) c.as_slice-units.ensures.value) _ c.in_ok-threads.ensures.each)
+
+pub returns-clause-opens : goal.returns-clause-opens
+returns-clause-opens c =
+    c.in_ok-machine.ensures.opens
+    ∙ opened-all (program_of c.args.program.now) (arrivals_of c.args.arrivals.now) c.requires _ _ (ap (map unit_of) c.as_slice-units.ensures.value)
+    (ap (map thread_of) c.as_slice.ensures.value ∙ c.in_ok-threads.ensures.all ∙ ap (λ ws. threads_from ws 0 (map unit_of c.as_slice-units.result.now)) c.as_slice-work.ensures.value ∙ ap (λ us. threads_from c.args.arrivals.now.work.items 0 (map unit_of us)) c.as_slice-units.ensures.value)

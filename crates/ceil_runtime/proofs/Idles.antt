@@ -1,0 +1,30 @@
+-- A task of which no piece has started has nothing left, and one of which a piece has started is ready.
+use Rattle.std.specs.Prelude.{◌≡◌, Bool, true, false, ◌||◌, [], Some, None, refl}
+use Rattle.std.proofs.Common.{sym, ◌∙◌, ap, subst}
+use Rattle.ceil_runtime.specs.Fitting.{FitsFirst, place_of}
+use Rattle.ceil_runtime.specs.Progresses.{kept, started}
+use Rattle.ceil_runtime.specs.Progressed.{is_idle, pieces_left}
+use Rattle.ceil_runtime.specs.Works.{task_of}
+use Rattle.ceil_runtime.specs.Written.{first_place}
+use Rattle.ceil_runtime.specs.declared.piece.Piece as piece
+use Rattle.ceil_runtime.specs.declared.task.Task.{Task}
+use Rattle.ceil_runtime.proofs.Starting.{none-left}
+
+pub piece-none : (t : Task) → t.progress.piece ≡ None → (task_of t).pieces ≡ []
+piece-none t is =
+    ap (λ o. started o (kept t.progress.stack.frames.items)) is
+    ∙ none-left t.progress.stack.thread t.progress.stack.frames.items
+    (subst (FitsFirst (place_of (first_place t.progress.stack.thread) t.progress.stack.frames.items)) is t.progress.fits)
+
+pub piece-ready : (t : Task) (p : piece.Piece) → t.progress.piece ≡ Some p → t.ready ≡ true
+piece-ready t p is = by_ready t.ready refl t.asleep
+  where
+    some_pieces : is_idle (pieces_left t.progress) ≡ false
+    some_pieces = ap (λ o. is_idle (started o (kept t.progress.stack.frames.items))) is
+
+    clash : false ≡ true → ⊥
+    clash k = cc
+
+    by_ready : (r : Bool) → t.ready ≡ r → (r || is_idle (pieces_left t.progress)) ≡ true → t.ready ≡ true
+    by_ready true e h = e
+    by_ready false e h = absurd (clash (sym some_pieces ∙ h))

@@ -1,0 +1,113 @@
+-- Steps that tell nothing come to an end.
+use Rattle.std.specs.Prelude.{◌≡◌, ℕ, zero, suc, ◌+◌, ◌-◌, ◌*◌, ◌<◌, ◌≤◌, Bool, true, false, ◌==◌, if◌then◌else◌, fold, List, [], ◌∷◌, length, map, set, sum, Option, Some, None, slice_get, refl}
+use Rattle.std.proofs.Common.{sym, ◌∙◌, ap, subst, arith}
+use Rattle.seq_tree.specs.declared.tree.Costs.{Costs}
+use Rattle.ada_tree.specs.Trees.{unit_of}
+use Rattle.ada_tree.specs.declared.program.Unit as units
+use Rattle.ceil_runtime.specs.Callable.{calls_room}
+use Rattle.ceil_runtime.specs.Effort.{effort, most_ends}
+use Rattle.ceil_runtime.specs.Processing.{AllTasks, IsKept, system_by}
+use Rattle.ceil_runtime.specs.Stepping.{effort_of, ran_effort, steps_by}
+use Rattle.ceil_runtime.specs.Progressed.{pieces_left}
+use Rattle.ceil_runtime.specs.Libraries.{libraries_from}
+use Rattle.ceil_runtime.specs.Works.{task_of}
+use Rattle.ceil_runtime.specs.Written.{libraries_of, reserve, thread_of}
+use Rattle.ceil_runtime.specs.declared.task.Task.{Task}
+use Rattle.ceil_runtime.specs.declared.processor.Phase.TheVariants.{Effects, Use}
+use Rattle.ceil_runtime.proofs.Frames.{few-frames}
+use Rattle.ceil_runtime.proofs.Starting.{effort-most, few-ends}
+
+-- the sum of a list by its first number
+fold-from : (a : ℕ) (xs : List ℕ) → fold ◌+◌ a xs ≡ a + fold ◌+◌ 0 xs
+fold-from a [] = omega arith
+fold-from a (x ∷ xs) = let here = fold-from (a + x) xs in let there = fold-from (0 + x) xs in omega (arith, here, there)
+
+sum-cons : (x : ℕ) (xs : List ℕ) → sum (x ∷ xs) ≡ x + sum xs
+sum-cons x xs = let here = fold-from (0 + x) xs in omega (arith, here)
+
+-- each task's data are among all
+sum-most : (tasks : List Task) (i : ℕ) (t : Task) → slice_get tasks i ≡ Some t
+    → length t.progress.stack.thread.«data».now ≤ sum (map (λ th. length th.vars) (map (λ u. thread_of u.progress.stack.thread) tasks))
+sum-most [] i t at = absurd (none at)
+  where
+    none : None ≡ Some t → ⊥
+    none k = cc
+sum-most (u ∷ us) zero t at =
+    let whole = sum-cons (length u.progress.stack.thread.«data».now) (map (λ th. length th.vars) (map (λ w. thread_of w.progress.stack.thread) us)) in
+    let same : length u.progress.stack.thread.«data».now ≡ length t.progress.stack.thread.«data».now = ap (λ v. length v.progress.stack.thread.«data».now) (some_same at) in
+    omega (arith, whole, same)
+  where
+    some_same : Some u ≡ Some t → u ≡ t
+    some_same k = cc
+sum-most (u ∷ us) (suc i) t at =
+    let whole = sum-cons (length u.progress.stack.thread.«data».now) (map (λ th. length th.vars) (map (λ w. thread_of w.progress.stack.thread) us)) in
+    let more = sum-most us i t at in omega (arith, more, whole)
+
+-- what a task's frames may come to
+pub reserve-most : (until time : ℕ) (costs : Costs) (us : List units.Unit) (tasks : List Task) (i : ℕ) (t : Task) → slice_get tasks i ≡ Some t → t.progress.stack.thread.units.now ≡ us
+    → reserve t.progress.stack.thread ≤ most_ends (system_by until costs us tasks)
+reserve-most until time costs us tasks i t at of =
+    let room : calls_room [] (libraries_of t.progress.stack.thread) ≡ calls_room [] (libraries_from 0 (map unit_of us)) = ap (λ vs. calls_room [] (libraries_from 0 (map unit_of vs))) of in
+    omega (arith, sum-most tasks i t at, room)
+
+pub effort-few : (most : ℕ) (t : Task) → reserve t.progress.stack.thread ≤ most → effort most (task_of t).pieces ≤ most
+effort-few most t enough =
+    let s = t.progress.stack in
+    effort-most most (pieces_left t.progress) (omega (arith, few-ends t.progress.piece s.frames.items, few-frames s.thread s.frames.items s.fit, enough))
+
+pub ran-few : (until time : ℕ) (costs : Costs) (us : List units.Unit) (tasks : List Task) (ran : Option ℕ) → AllTasks (IsKept until time us) tasks
+    → ran_effort (most_ends (system_by until costs us tasks)) tasks ran ≤ most_ends (system_by until costs us tasks)
+ran-few until time costs us tasks None kept = omega arith
+ran-few until time costs us tasks (Some i) kept = by_task (slice_get tasks i) refl
+  where
+    most : ℕ
+    most = most_ends (system_by until costs us tasks)
+
+    by_left : (t : Task) (b : Bool) → effort (most_ends (system_by until costs us tasks)) (task_of t).pieces ≤ most_ends (system_by until costs us tasks)
+        → (if b then effort (most_ends (system_by until costs us tasks)) (task_of t).pieces else 0) ≤ most_ends (system_by until costs us tasks)
+    by_left t true h = h
+    by_left t false h = omega arith
+
+    by_task : (o : Option Task) → slice_get tasks i ≡ o → effort_of (most_ends (system_by until costs us tasks)) o ≤ most_ends (system_by until costs us tasks)
+    by_task None at = omega arith
+    by_task (Some t) at = by_left t (t.left == 0) (effort-few (most_ends (system_by until costs us tasks)) t (reserve-most until time costs us tasks i t at (kept i t at).units))
+
+-- the use of ticks
+pub nears-ticks : (until time time' most most' : ℕ) (tasks tasks' : List Task) (ran ran' : Option ℕ) → most' ≡ most → time < time' → time' ≤ until → ran_effort most' tasks' ran' ≤ most'
+    → steps_by most' until time' Effects tasks' ran' < steps_by most until time Use tasks ran
+nears-ticks until time time' most most' tasks tasks' ran ran' same later within few =
+    let left : until - time ≡ (until - time') + suc (time' - time - 1) = omega arith in
+    let now : (until - time') * (most' + 4) + (3 + ran_effort most' tasks' ran') < ((until - time') + suc (time' - time - 1)) * (most' + 4) + 0 =
+    lem (until - time') (time' - time - 1) most' (ran_effort most' tasks' ran') few in
+    let rate : (until - time) * (most + 4) ≡ ((until - time') + suc (time' - time - 1)) * (most' + 4) = ap (λ n. n * (most + 4)) left ∙ ap (λ n. ((until - time') + suc (time' - time - 1)) * (n + 4)) (sym same) in
+    omega (arith, now, rate)
+  where
+    lem : (a b m e : ℕ) → e ≤ m → a * (m + 4) + (3 + e) < (a + suc b) * (m + 4) + 0
+    lem a b m e h = grind arith
+
+-- an effect that is nothing to others
+pub nears-effect : (k most most' : ℕ) (tasks tasks' : List Task) (i : ℕ) (t t' : Task) → most' ≡ most → slice_get tasks i ≡ Some t → slice_get tasks' i ≡ Some t' → t.left ≡ 0
+    → (0 < effort most (task_of t).pieces) × (t'.left ≡ 0 → effort most (task_of t').pieces < effort most (task_of t).pieces)
+    → k * (most' + 4) + (3 + ran_effort most' tasks' (Some i)) < k * (most + 4) + (3 + ran_effort most tasks (Some i))
+nears-effect k most most' tasks tasks' i t t' same at at' used falls =
+    let before : ran_effort most tasks (Some i) ≡ effort most (task_of t).pieces = ap (effort_of most) at ∙ ap (λ l. if l == 0 then effort most (task_of t).pieces else 0) used in
+    let now : ran_effort most' tasks' (Some i) ≡ (if t'.left == 0 then effort most (task_of t').pieces else 0) = ap (λ n. ran_effort n tasks' (Some i)) same ∙ ap (effort_of most) at' in
+    let less : ran_effort most' tasks' (Some i) < ran_effort most tasks (Some i) = subst (λ (n : ℕ). n < ran_effort most tasks (Some i)) (sym now) (subst (λ (n : ℕ). (if t'.left == 0 then effort most (task_of t').pieces else 0) < n) (sym before) (by_left (t'.left == 0) refl)) in
+    let rate : k * (most' + 4) ≡ k * (most + 4) = ap (λ n. k * (n + 4)) same in
+    omega (arith, less, rate)
+  where
+    by_left : (b : Bool) → (t'.left == 0) ≡ b → (if b then effort most (task_of t').pieces else 0) < effort most (task_of t).pieces
+    by_left true e = falls.1 (is_zero t'.left e)
+      where
+        is_zero : (m : ℕ) → (m == 0) ≡ true → m ≡ 0
+        is_zero m h = grind arith
+    by_left false e = falls.0
+
+-- what was put at a place
+pub get-put : (tasks : List Task) (i : ℕ) (t : Task) → i < length tasks → slice_get (set tasks i t) i ≡ Some t
+get-put [] i t h = absurd (none i h)
+  where
+    none : (i : ℕ) → i < 0 → ⊥
+    none j k = omega arith
+get-put (v ∷ vs) zero t h = refl
+get-put (v ∷ vs) (suc i) t h = get-put vs i t (omega arith)

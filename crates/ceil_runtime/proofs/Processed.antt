@@ -1,0 +1,303 @@
+-- A processor after one of its tasks has changed, and after ticks were used.
+use Rattle.std.specs.Prelude.{◌≡◌, ◌⊎◌, ℕ, zero, suc, ◌+◌, ◌-◌, ◌*◌, ◌<◌, ◌≤◌, Bool, true, false, ◌==◌, ◌++◌, if◌then◌else◌, List, [], ◌∷◌, length, map, set, Option, Some, None, option_map, slice_get, refl}
+use Rattle.std.proofs.Common.{sym, ◌∙◌, ap, subst, arith, inl, inr, length-set, append-nil}
+use Rattle.std.proofs.lemmas.Option.{slice_get-map, slice_get_within}
+use Rattle.std.proofs.lemmas.Bool.Decides.{nat_tests}
+use Rattle.seq_tree.specs.Lists.{change}
+use Rattle.seq_tree.specs.declared.tree.Costs.{Costs}
+use Rattle.ada_tree.specs.declared.program.Unit as units
+use Rattle.trace_tree.specs.declared.event.Event.{Event}
+use Rattle.link_queue.specs.Queues.{Each, Entry, Queues}
+use Rattle.machine.specs.Systems.{System}
+use Rattle.machine.specs.States as states
+use Rattle.machine.specs.Dispatch.{dispatched}
+use Rattle.machine.specs.Releases.{Next}
+use Rattle.machine.specs.Steps.{step}
+use Rattle.machine.specs.Meanings.{Rest, run, and_then}
+use Rattle.trace_tree.specs.declared.event.Event.TheVariants as event
+use Rattle.dispatching.specs.Renumbering.{DifferInOrders}
+use Rattle.dispatching.proofs.Renumbered.{renumbered_tells}
+use Rattle.machine.proofs.RunLaws.{Rest-after}
+use Rattle.dispatching.specs.Jumping.{HasTicks, IsQuiet, ticks_later}
+use Rattle.dispatching.specs.Queueing.{AreQueued, AreSleeping, places}
+use Rattle.std.proofs.lemmas.List.{length-map}
+use Rattle.dispatching.proofs.Jumps.{ticks_or_one}
+use Rattle.dispatching.proofs.Places.{get-within}
+use Rattle.dispatching.proofs.Heads.{dispatched-head}
+use Rattle.dispatching.proofs.Queued.{queued-kept}
+use Rattle.dispatching.proofs.Sleeping.{none-due, sleeping-kept, sleeping-later}
+use Rattle.ceil_runtime.specs.Processing.{AllTasks, Follows, IsKept, IsSound, IsWithin, state_by, system_by}
+use Rattle.ceil_runtime.specs.Works.{task_of, used_ticks}
+use Rattle.ceil_runtime.specs.Written.{thread_of}
+use Rattle.ceil_runtime.specs.declared.task.Task.{Task}
+use Rattle.ceil_runtime.specs.declared.processor.Phase.TheVariants.{Effects, Arriving, Use}
+
+-- the task of an entry, where there is one
+abbrev first_or : ℕ → Option Entry → ℕ
+first_or task None = task
+first_or task (Some x) = x.0
+
+pub get_within : (i : ℕ) (tasks : List Task) (t : Task) → slice_get tasks i ≡ Some t → i < length tasks
+get_within i tasks t at = slice_get_within tasks i t at
+
+-- some steps lead from here to there
+pub follows-run : (y : System) (n : ℕ) (s s' : states.State) (told : List Event) → run y n s ≡ (s', told) → (rest : List Event) → Rest y s' rest → Rest y s (told ++ rest)
+follows-run y n s s' told runs rest r =
+    let P : Next → Type 0 = λ z. Rest y z.0 rest → Rest y s (z.1 ++ rest) in
+    subst P runs (Rest-after y n s rest) r
+
+-- runs that follow each other
+pub follows-of : (y y' : System) (n : ℕ) (s s' s'' t : states.State) (told : List Event) → s ≡ s' → run y n s' ≡ (s'', told) → s'' ≡ t → y' ≡ y
+    → Follows (record { system = y; state = s }) told (record { system = y'; state = t })
+follows-of y y' n s s' s'' t told before runs after same = record {
+  system = same;
+  tells = λ rest r. subst (λ (z : states.State). Rest y z (told ++ rest)) (sym before) (follows-run y n s' s'' told runs rest (subst (λ (z : states.State). Rest y z rest) (sym after) r));
+}
+
+-- one task has changed
+pub record Changed (tasks tasks' : List Task) (i : ℕ) (t t' : Task) (f : states.Task → states.Task) : Type 0 where
+  pub here : slice_get tasks i ≡ Some t
+  pub set_is : tasks' ≡ set tasks i t'
+  pub does : task_of t' ≡ f (task_of t)
+  pub thread : t'.progress.stack.thread ≡ t.progress.stack.thread
+
+map-set : (tasks : List Task) (i : ℕ) (t t' : Task) (f : states.Task → states.Task) → slice_get tasks i ≡ Some t → task_of t' ≡ f (task_of t) → map task_of (set tasks i t') ≡ change i f (map task_of tasks)
+map-set [] i t t' f here does = refl
+map-set (u ∷ us) zero t t' f here does = ap (λ v. v ∷ map task_of us) (does ∙ ap (λ w. f (task_of w)) (sym (some_same here)))
+  where
+    some_same : Some u ≡ Some t → u ≡ t
+    some_same k = cc
+map-set (u ∷ us) (suc i) t t' f here does = ap (λ vs. task_of u ∷ vs) (map-set us i t t' f here does)
+
+threads-set : (tasks : List Task) (i : ℕ) (t t' : Task) → slice_get tasks i ≡ Some t → t'.progress.stack.thread ≡ t.progress.stack.thread
+    → map (λ u. thread_of u.progress.stack.thread) (set tasks i t') ≡ map (λ u. thread_of u.progress.stack.thread) tasks
+threads-set [] i t t' here same = refl
+threads-set (u ∷ us) zero t t' here same = ap (λ v. v ∷ map (λ u. thread_of u.progress.stack.thread) us) (ap thread_of same ∙ ap (λ w. thread_of w.progress.stack.thread) (sym (some_same here)))
+  where
+    some_same : Some u ≡ Some t → u ≡ t
+    some_same k = cc
+threads-set (u ∷ us) (suc i) t t' here same = ap (λ vs. thread_of u.progress.stack.thread ∷ vs) (threads-set us i t t' here same)
+
+all-set : (P Q : Task → Type 0) (tasks : List Task) (i : ℕ) (t' : Task) → AllTasks P tasks → ((u : Task) → P u → Q u) → Q t' → AllTasks Q (set tasks i t')
+all-set P Q [] i t' all f q = λ j u at. absurd (none at)
+  where
+    none : {u : Task} → None ≡ Some u → ⊥
+    none k = cc
+all-set P Q (v ∷ vs) zero t' all f q = λ j u at. by_place j u at
+  where
+    by_place : (j : ℕ) (u : Task) → slice_get (t' ∷ vs) j ≡ Some u → Q u
+    by_place zero u at = subst Q (some_same at) q
+      where
+        some_same : Some t' ≡ Some u → t' ≡ u
+        some_same k = cc
+    by_place (suc j) u at = f u (all (suc j) u at)
+all-set P Q (v ∷ vs) (suc i) t' all f q = λ j u at. by_place j u at (all-set P Q vs i t' (λ k w here. all (suc k) w here) f q)
+  where
+    by_place : (j : ℕ) (u : Task) → slice_get (v ∷ set vs i t') j ≡ Some u → AllTasks Q (set vs i t') → Q u
+    by_place zero u at later = subst Q (some_same at) (f v (all 0 v refl))
+      where
+        some_same : Some v ≡ Some u → v ≡ u
+        some_same k = cc
+    by_place (suc j) u at later = later j u at
+
+module _ (tasks tasks' : List Task) (i : ℕ) (t t' : Task) (f : states.Task → states.Task) (c : Changed tasks tasks' i t t' f) where
+  pub changed-tasks : map task_of tasks' ≡ change i f (map task_of tasks)
+  changed-tasks = ap (map task_of) c.set_is ∙ map-set tasks i t t' f c.here c.does
+
+  pub changed-threads : map (λ u. thread_of u.progress.stack.thread) tasks' ≡ map (λ u. thread_of u.progress.stack.thread) tasks
+  changed-threads = ap (map (λ u. thread_of u.progress.stack.thread)) c.set_is ∙ threads-set tasks i t t' c.here c.thread
+
+  pub changed-length : length tasks' ≡ length tasks
+  changed-length = ap length c.set_is ∙ length-set tasks i t'
+
+  pub changed-all : (P Q : Task → Type 0) → AllTasks P tasks → ((u : Task) → P u → Q u) → Q t' → AllTasks Q tasks'
+  changed-all P Q all g q = subst (AllTasks Q) (sym c.set_is) (all-set P Q tasks i t' all g q)
+
+  pub changed-system : (until : ℕ) (costs : Costs) (us : List units.Unit) → system_by until costs us tasks' ≡ system_by until costs us tasks
+  changed-system until costs us = ap (λ ts. record (system_by until costs us tasks) { threads = ts }) changed-threads
+
+  -- a task that is there, as a state has it
+  pub here-of : slice_get (map task_of tasks) i ≡ Some (task_of t)
+  here-of = slice_get-map task_of tasks i ∙ ap (option_map task_of) c.here
+
+-- what is kept goes on as time passes
+pub kept-later : (until time later : ℕ) (us : List units.Unit) (t : Task) → time ≤ later → IsKept until time us t → IsKept until later us t
+kept-later until time later us t le k = record { used = omega (arith, k.used); works = omega (arith, k.works); next = k.next; units = k.units; idle = k.idle }
+
+-- the ticks ahead are quiet
+module _ (until time : ℕ) (costs : Costs) (us : List units.Unit) (ran : Option ℕ) (tasks : List Task) (q : Queues) (sound : IsSound until time Use ran us tasks q) (ticks : ℕ)
+    (some : 0 < ticks) (horizon : time + ticks ≤ until) (wake : Each (λ e. time + ticks ≤ e.1) q.asleep) where
+  quiet : (j : ℕ) → j < ticks - 1 → IsQuiet (system_by until costs us tasks) (state_by time Use ran false tasks q.ready) (time + suc j)
+  quiet j h = record {
+    no_sleeper = none-due (map task_of tasks) time q.asleep sound.sleeping (time + suc j) (omega arith) (λ e at. first q.asleep wake e at);
+    no_arrival = tt;
+    no_horizon = not_yet (time + suc j) until (omega arith);
+  }
+    where
+      first : (es : List Entry) → Each (λ e. time + ticks ≤ e.1) es → (e : Entry) → slice_get es 0 ≡ Some e → time + suc j < e.1
+      first [] all e at = absurd (none at)
+        where
+          none : None ≡ Some e → ⊥
+          none k = cc
+      first (x ∷ xs) all e at = let same : x ≡ e = some_same at in let later : time + ticks ≤ e.1 = subst (λ (z : Entry). time + ticks ≤ z.1) same all.0 in omega arith
+        where
+          some_same : Some x ≡ Some e → x ≡ e
+          some_same k = cc
+
+      not_yet : (a b : ℕ) → a < b → (a == b) ≡ false
+      not_yet a b k = grind (arith, nat_tests)
+
+  -- what the ticks come to
+  pub ticks-run : (o : Option ℕ) → dispatched (map task_of tasks) (places (length tasks) q.ready) ≡ o → (ticks ≡ 1) ⊎ HasTicks (map task_of tasks) ticks o
+      → run (system_by until costs us tasks) (4 * (ticks - 1) + 1) (state_by time Use ran false tasks q.ready) ≡ (ticks_later o ticks (state_by time Use ran false tasks q.ready), [])
+  ticks-run o first has =
+      let s : states.State = state_by time Use ran false tasks q.ready in
+      let n_is : suc (ticks - 1) ≡ ticks = omega arith in
+      let runs : run (system_by until costs us tasks) (4 * (ticks - 1) + 1) s ≡ (ticks_later (dispatched s.tasks s.orders) (suc (ticks - 1)) s, []) =
+      ticks_or_one (system_by until costs us tasks) (ticks - 1) s refl refl (by_ticks has) quiet in
+      runs ∙ ap (λ n. let next : Next = (ticks_later (dispatched s.tasks s.orders) n s, []) in next) n_is ∙ ap (λ d. let next : Next = (ticks_later d ticks s, []) in next) first
+    where
+      by_ticks : (ticks ≡ 1) ⊎ HasTicks (map task_of tasks) ticks o → (ticks - 1 ≡ 0) ⊎ HasTicks (map task_of tasks) (suc (ticks - 1)) (dispatched (map task_of tasks) (places (length tasks) q.ready))
+      by_ticks (inl one) = inl (omega arith)
+      by_ticks (inr h) = inr (subst (λ (n : ℕ). HasTicks (map task_of tasks) n (dispatched (map task_of tasks) (places (length tasks) q.ready))) (omega arith) (subst (HasTicks (map task_of tasks) ticks) (sym first) h))
+
+  -- without a ready task
+  pub idle-run : slice_get q.ready 0 ≡ None
+      → run (system_by until costs us tasks) (4 * (ticks - 1) + 1) (state_by time Use ran false tasks q.ready) ≡ (state_by (time + ticks) Effects None false tasks q.ready, [])
+  idle-run none = ticks-run None (dispatched-head (map task_of tasks) (places (length tasks) q.ready) q.ready sound.queued ∙ ap (option_map (λ e. e.0)) none) (inr tt)
+
+  pub idle-sound : IsSound until (time + ticks) Effects None us tasks q
+  idle-sound = record {
+    size = sound.size;
+    queued = sound.queued;
+    sleeping = sleeping-later (map task_of tasks) time (time + ticks) q.asleep sound.sleeping (omega arith) wake;
+    kept = λ i t at. kept-later until time (time + ticks) us t (omega arith) (sound.kept i t at);
+    here = tt;
+    near = sound.near;
+    in_time = horizon;
+  }
+
+  -- the first ready task
+  module _ (task level : ℕ) (tasks' : List Task) (t t' : Task) (c : Changed tasks tasks' task t t' (used_ticks ticks)) (first : ◌≡◌ {A = Option Entry} (slice_get q.ready 0) (Some (task, level))) (within : IsWithin tasks q.ready ticks)
+      (left : t'.left ≡ t.left - ticks) (used : t'.used ≡ t.used + ticks) (works : t'.works ≡ t.works) (next : t'.next ≡ t.next) (ready : t'.ready ≡ t.ready) where
+    has : (ticks ≡ 1) ⊎ HasTicks (map task_of tasks) ticks (Some task)
+    has = by_ready q.ready first within
+      where
+        by_ready : (ready : List Entry) → ◌≡◌ {A = Option Entry} (slice_get ready 0) (Some (task, level)) → IsWithin tasks ready ticks → (ticks ≡ 1) ⊎ HasTicks (map task_of tasks) ticks (Some task)
+        by_ready [] none w = absurd (no_head none)
+          where
+            no_head : ◌≡◌ {A = Option Entry} None (Some (task, level)) → ⊥
+            no_head k = cc
+        by_ready (e ∷ es) is w = by_left (w t (ap (slice_get tasks) (head_is is) ∙ c.here))
+          where
+            head_is : ◌≡◌ {A = Option Entry} (Some e) (Some (task, level)) → e.0 ≡ task
+            head_is k = ap (first_or task) k
+
+            by_left : (ticks ≡ 1) ⊎ (ticks ≤ t.left) → (ticks ≡ 1) ⊎ HasTicks (map task_of tasks) ticks (Some task)
+            by_left (inl one) = inl one
+            by_left (inr le) = inr (λ u at. lefts u (some_task (sym (here-of tasks tasks' task t t' (used_ticks ticks) c) ∙ at)))
+              where
+                some_task : {u : states.Task} → Some (task_of t) ≡ Some u → task_of t ≡ u
+                some_task l = cc
+
+                lefts : (u : states.Task) → task_of t ≡ u → ticks ≤ u.left
+                lefts u same = let l : t.left ≡ u.left = ap (λ v. v.left) same in omega (arith, le, l)
+
+    pub use-run : run (system_by until costs us tasks) (4 * (ticks - 1) + 1) (state_by time Use ran false tasks q.ready) ≡ (state_by (time + ticks) Effects (Some task) false tasks' q.ready, [])
+    use-run =
+        let view : List states.Task → ℕ → Next = λ ts n. (record (state_by (time + ticks) Effects (Some task) false tasks q.ready) { tasks = ts; orders = places n q.ready }, []) in
+        ticks-run (Some task) (dispatched-head (map task_of tasks) (places (length tasks) q.ready) q.ready sound.queued ∙ ap (option_map (λ e. e.0)) first) has
+        ∙ ap (λ ts. view ts (length tasks)) (sym (changed-tasks tasks tasks' task t t' (used_ticks ticks) c))
+        ∙ ap (view (map task_of tasks')) (sym (changed-length tasks tasks' task t t' (used_ticks ticks) c))
+
+    pub use-sound : IsSound until (time + ticks) Effects (Some task) us tasks' q
+    use-sound = record {
+      size = sound.size ∙ sym len;
+      queued = subst (λ (ts : List states.Task). AreQueued ts (places (length tasks') q.ready) q.ready) (sym ts_is)
+          (subst (λ (n : ℕ). AreQueued (change task (used_ticks ticks) (map task_of tasks)) (places n q.ready) q.ready) (sym len)
+          (queued-kept (map task_of tasks) (places (length tasks) q.ready) q.ready task (used_ticks ticks) sound.queued (λ u. (refl, refl))));
+      sleeping = subst (λ (ts : List states.Task). AreSleeping ts (time + ticks) q.asleep) (sym ts_is)
+          (sleeping-later (change task (used_ticks ticks) (map task_of tasks)) time (time + ticks) q.asleep
+          (sleeping-kept (map task_of tasks) time q.asleep task (used_ticks ticks) sound.sleeping (λ u. refl)) (omega arith) wake);
+      kept = changed-all tasks tasks' task t t' (used_ticks ticks) c (IsKept until time us) (IsKept until (time + ticks) us) sound.kept
+          (λ u k. kept-later until time (time + ticks) us u (omega arith) k) (keeps (sound.kept task t c.here));
+      here = (omega (arith, len, get_within task tasks t c.here), inl (level, first));
+      near = sound.near;
+      in_time = horizon;
+    }
+      where
+        len : length tasks' ≡ length tasks
+        len = changed-length tasks tasks' task t t' (used_ticks ticks) c
+
+        ts_is : map task_of tasks' ≡ change task (used_ticks ticks) (map task_of tasks)
+        ts_is = changed-tasks tasks tasks' task t t' (used_ticks ticks) c
+
+        none : 0 - ticks ≡ 0
+        none = omega arith
+
+        keeps : IsKept until time us t → IsKept until (time + ticks) us t'
+        keeps k = record {
+          used = omega (arith, k.used);
+          works = omega (arith, k.works);
+          next = omega (arith, k.next);
+          units = ap (λ th. th.units.now) c.thread ∙ k.units;
+          idle = λ not. left ∙ ap (λ l. l - ticks) (k.idle (sym ready ∙ not)) ∙ none;
+        }
+
+-- a task of the ready list is one of the tasks
+pub ready-known : (tasks : List Task) (ready : List Entry) (task level : ℕ) → AreQueued (map task_of tasks) (places (length tasks) ready) ready → ◌≡◌ {A = Option Entry} (slice_get ready 0) (Some (task, level)) → task < length tasks
+ready-known tasks [] task level q is = absurd (no_head is)
+  where
+    no_head : ◌≡◌ {A = Option Entry} None (Some (task, level)) → ⊥
+    no_head k = cc
+ready-known tasks (e ∷ es) task level q is =
+    let h : e.0 < length (map task_of tasks) = get-within e.0 (map task_of tasks) q.each.0.0 q.each.0.1 in
+    let same : e.0 ≡ task = ap (first_or task) is in
+    omega (arith, h, length-map tasks task_of, same)
+
+-- one step
+pub step-run : (y : System) (s s' : states.State) (told : List Event) → step y s ≡ (s', told) → run y 1 s ≡ (s', told)
+step-run y s s' told e = ap (and_then (run y 0)) e ∙ ap (λ es. let next : Next = (s', es) in next) (append-nil told)
+
+-- runs that follow each other but for order numbers
+pub follows-renumbered : (y y' : System) (n : ℕ) (s s' s'' t : states.State) (told : List Event) → s ≡ s' → run y n s' ≡ (s'', told) → DifferInOrders s'' t → y' ≡ y
+    → Follows (record { system = y; state = s }) told (record { system = y'; state = t })
+follows-renumbered y y' n s s' s'' t told before runs differ same = record {
+  system = same;
+  tells = λ rest r. subst (λ (z : states.State). Rest y z (told ++ rest)) (sym before) (follows-run y n s' s'' told runs rest ((renumbered_tells y s'' t rest differ).1 r));
+}
+
+-- arrivals: there are none
+pub arriving-goes : (y : System) (time : ℕ) (ran : Option ℕ) (tasks : List Task) (ready : List Entry) → (time ≡ y.until → ⊥)
+    → run y 1 (state_by time Arriving ran false tasks ready) ≡ (state_by time Use ran false tasks ready, [])
+arriving-goes y time ran tasks ready before =
+    step-run y (state_by time Arriving ran false tasks ready) (state_by time Use ran false tasks ready) []
+    (ap (λ b. if b then (record (state_by time Arriving ran false tasks ready) { stopped = true }, event.Horizon time ∷ []) else (state_by time Use ran false tasks ready, [])) (not_yet (time == y.until) refl))
+  where
+    not_yet : (b : Bool) → (time == y.until) ≡ b → b ≡ false
+    not_yet true e = absurd (before (same time y.until e))
+      where
+        same : (m n : ℕ) → (m == n) ≡ true → m ≡ n
+        same m n h = grind (arith, nat_tests)
+    not_yet false e = refl
+
+pub arriving-ends : (y : System) (time : ℕ) (ran : Option ℕ) (tasks : List Task) (ready : List Entry) → time ≡ y.until
+    → run y 1 (state_by time Arriving ran false tasks ready) ≡ (state_by time Arriving ran true tasks ready, event.Horizon time ∷ [])
+arriving-ends y time ran tasks ready now =
+    step-run y (state_by time Arriving ran false tasks ready) (state_by time Arriving ran true tasks ready) (event.Horizon time ∷ [])
+    (ap (λ b. if b then (record (state_by time Arriving ran false tasks ready) { stopped = true }, event.Horizon time ∷ []) else (state_by time Use ran false tasks ready, [])) (same time y.until now))
+  where
+    same : (m n : ℕ) → m ≡ n → (m == n) ≡ true
+    same m n h = grind (arith, nat_tests)
+
+-- the task that was put at a place
+pub get-set_same : (tasks : List Task) (i : ℕ) (t u : Task) → i < length tasks → slice_get (set tasks i t) i ≡ Some u → t ≡ u
+get-set_same [] i t u h at = absurd (none at)
+  where
+    none : None ≡ Some u → ⊥
+    none k = cc
+get-set_same (v ∷ vs) zero t u h at = some_same at
+  where
+    some_same : Some t ≡ Some u → t ≡ u
+    some_same k = cc
+get-set_same (v ∷ vs) (suc i) t u h at = get-set_same vs i t u (omega arith) at

@@ -1,0 +1,76 @@
+use Rattle.std.proofs.Common.{ℕ, ◌<◌, ◌+◌, sym, ap, subst, ◌∙◌, refl, arith, length, List, [], ◌∷◌, ◌++◌, take}
+use Rattle.std.proofs.lemmas.List.{take_all, take_more, length_push}
+use Rattle.std.proofs.lemmas.Option.{slice_get_read}
+use Rattle.arrivals_tree.specs.Acceptance.{has_nothing}
+use Rattle.ceil_runtime.specs.Written.{durations_of}
+use Rattle.link_queue.specs.Queues.{IsFree, Queues, in_time}
+use Rattle.ceil_runtime.specs.Starts.{AreOpen, opened}
+use Rattle.ceil_runtime.specs.declared.thread.Thread.{Thread}
+use Rattle.ceil_runtime.specs.declared.task.Task.{Task}
+use Rattle.ceil_runtime.proofs.Started.{open-free, open-more, open-none, open-running, open-sound}
+use Rattle.ceil_runtime.proofs.processor.Machine.open.Goals as goal
+
+pub threads-init : goal.threads-init
+threads-init c =
+    let none = c.in_ok-tasks.ensures.items in
+    let empty = c.in-Ok.ensures in
+    record {
+      opened = subst (λ (ts : List Task). AreOpen c.args.until c.args.units.now [] ts c.in-Ok.links) (sym none) (open-none c.args.until c.args.units.now c.in-Ok.links (ap (λ q. q.ready) empty) (ap (λ q. q.asleep) empty));
+      size = ap (λ q. q.size) empty;
+      place = sym (ap length none);
+      count = ap length none;
+      room = c.in_ok-tasks.ensures.capacity;
+    }
+
+pub new-requires-in-threads : goal.new-requires-in-threads
+new-requires-in-threads c =
+    (c.requires.start c.threads.thread-index c.thread-item.result (slice_get_read c.args.threads.now (length c.args.threads.now) c.threads.thread-index c.thread-item.result refl c.threads-test.true c.thread-item.is)).runs
+
+pub sleep-requires : goal.sleep-requires
+sleep-requires c =
+    let i = c.threads.invariant in
+    let known : length c.threads.tasks.items < c.threads.links.size = omega (arith, i.count, i.size, c.threads-test.true) in
+    subst (λ (n : ℕ). IsFree c.threads.links n) (sym i.place) (open-free c.args.until c.args.units.now (take c.threads.thread-index c.args.threads.now) c.threads.tasks.items c.threads.links i.opened known)
+
+pub invariant_of-push_reserved-clause-handed : goal.invariant_of-push_reserved-clause-handed
+invariant_of-push_reserved-clause-handed c = c.in_ok-durations.ensures ∙ ap durations_of (sym c.in_ok-progress.ensures.thread)
+
+pub invariant_of-push_reserved-clause-long : goal.invariant_of-push_reserved-clause-long
+invariant_of-push_reserved-clause-long c =
+    let th = c.thread-item.result in
+    ap has_nothing c.in_ok-durations.ensures
+    ∙ (c.requires.start c.threads.thread-index th (slice_get_read c.args.threads.now (length c.args.threads.now) c.threads.thread-index th refl c.threads-test.true c.thread-item.is)).long
+
+pub threads-preserved : goal.threads-preserved
+threads-preserved c =
+    let th = c.thread-item.result in
+    let i = c.threads.invariant in
+    let start = c.requires.start c.threads.thread-index th (slice_get_read c.args.threads.now (length c.args.threads.now) c.threads.thread-index th refl c.threads-test.true c.thread-item.is) in
+    let taken = take_more c.args.threads.now c.threads.thread-index th c.threads-test.true ∙ ap (λ h. take c.threads.thread-index c.args.threads.now ++ h ∷ []) (sym c.thread-item.is) in
+    let slept : ℕ → ℕ → Queues = λ n o. record c.threads.links { asleep = in_time (n, o) c.threads.links.asleep } in
+    let is = c.sleep.ensures ∙ ap (λ n. slept n c.from-in-threads.result) i.place ∙ ap (slept (length c.threads.tasks.items)) c.from-in-threads.ensures in
+    let longer = ap length c.push_reserved.ensures.items ∙ length_push c.threads.tasks.items _ in
+    record {
+      opened = subst (λ (ths : List Thread). AreOpen c.args.until c.args.units.now ths c.push_reserved.new.self.items c.sleep.new.self) (sym taken)
+          (subst (λ (ts : List Task). AreOpen c.args.until c.args.units.now (take c.threads.thread-index c.args.threads.now ++ th ∷ []) ts c.sleep.new.self) (sym c.push_reserved.ensures.items)
+          (open-more c.args.until c.args.units.now (take c.threads.thread-index c.args.threads.now) c.threads.tasks.items c.threads.links i.opened _ th
+          (record { thread = c.in_ok-progress.ensures.thread; vars = c.in_ok-progress.ensures.vars; pieces = c.in_ok-progress.ensures.pieces; ready = refl; next = c.from.ensures; left = refl; used = refl; works = refl })
+          start c.sleep.new.self is));
+      size = ap (λ q. q.size) c.sleep.ensures ∙ i.size;
+      place = ap (λ n. n + 1) i.place ∙ sym longer;
+      count = longer ∙ ap (λ n. n + 1) i.count;
+      room = omega (arith, i.room, c.push_reserved.ensures.capacity);
+    }
+
+pub returns-clause-whole : goal.returns-clause-whole
+returns-clause-whole c =
+    let i = c.threads.invariant in
+    open-sound c.args.until c.args.costs c.args.units.now (take c.threads.thread-index c.args.threads.now) c.threads.tasks.items c.threads.links i.opened c.requires.near
+    (omega (arith, i.size, i.count, c.threads-test.false, c.threads.auto.thread-index-end))
+
+pub returns-clause-opens : goal.returns-clause-opens
+returns-clause-opens c =
+    let i = c.threads.invariant in
+    open-running c.args.until c.args.costs c.args.units.now (take c.threads.thread-index c.args.threads.now) c.threads.tasks.items c.threads.links i.opened c.requires.near
+    (omega (arith, i.size, i.count, c.threads-test.false, c.threads.auto.thread-index-end))
+    ∙ ap (opened c.args.until c.args.costs c.args.units.now) (take_all c.threads.thread-index c.args.threads.now (omega (arith, c.threads-test.false)))

@@ -1,0 +1,123 @@
+use Rattle.std.proofs.Common.{◌≡◌, ℕ, ◌+◌, ◌<◌, [], ◌∷◌, add-zero, arith, ap, sym, ◌∙◌}
+use Rattle.std.specs.Prelude.{slice_get}
+use Rattle.seq_tree.specs.Variables.{kept}
+use Rattle.machine.specs.States.{Task, Asleep}
+use Rattle.ceil_runtime.specs.Effort.{ends_among, first_ticks, first_works}
+use Rattle.ceil_runtime.specs.Progresses.{behind, piece_of, put_away, started}
+use Rattle.ceil_runtime.specs.Progresses.{kept as kept_frames}
+use Rattle.ceil_runtime.specs.Progressed.{pieces_left, vars_left}
+use Rattle.ceil_runtime.specs.Left.{first_tells}
+use Rattle.ceil_runtime.specs.Works.{done_by, task_of}
+use Rattle.ceil_runtime.specs.Written.{durations_of, libraries_of, reserve, thread_of}
+use Rattle.ceil_runtime.specs.declared.thread.Thread.{Thread}
+use Rattle.ceil_runtime.proofs.Ends.{kept-same}
+use Rattle.ceil_runtime.proofs.Firsts.{names-idle}
+use Rattle.ceil_runtime.proofs.Frames.{few-frames}
+use Rattle.ceil_runtime.proofs.Starting.{effort-falls, few-ends, some-effort, tells-finish, tells-later, tells-now, tells-print}
+use Rattle.ceil_runtime.proofs.Goings.{falls-silent, going-starts, told-by}
+use Rattle.ceil_runtime.proofs.task.Task.act.Goals as goal
+
+pub returns-in-Silent-clause-acts : goal.returns-in-Silent-clause-acts
+returns-in-Silent-clause-acts c =
+    let m = c.args.self.now in
+    let s = m.progress.stack in
+    let q = c.act-act.new.self in
+    let view : Thread → ℕ → ℕ → Task = λ th l w. record (task_of m) { thread = thread_of th; active = th.priority; vars = vars_left q; pieces = pieces_left q; left = l; works = w } in
+    record {
+      piece = piece_of c.args.piece (put_away s.frames.items);
+      rest = behind s.frames.items;
+      vars = vars_left q;
+      pieces = pieces_left q;
+      first = ap (λ x. started x (kept_frames s.frames.items)) c.requires.piece;
+      does = c.act-act.ensures.deed;
+      after = ap (λ th. view th c.start-start.result.ticks (m.works + c.start-start.result.works)) c.act-act.ensures.thread
+          ∙ ap (λ l. view s.thread l (m.works + c.start-start.result.works)) (c.start-start.ensures.ticks ∙ ap (λ d. first_ticks c.args.costs.now d (pieces_left q)) c.duration-duration.ensures.next)
+          ∙ ap (λ w. view s.thread (first_ticks c.args.costs.now (slice_get (durations_of s.thread) m.works) (pieces_left q)) (m.works + w)) c.start-start.ensures.works
+          ∙ sym (going-starts c.args.costs.now (vars_left q) (pieces_left q) (task_of m))
+          ∙ ap (λ a. done_by a c.args.costs.now (vars_left q) (pieces_left q) (task_of m)) (sym c.in-Silent.is);
+    }
+
+pub returns-in-Print-clause-acts : goal.returns-in-Print-clause-acts
+returns-in-Print-clause-acts c =
+    let m = c.args.self.now in
+    let s = m.progress.stack in
+    let q = c.act-act.new.self in
+    let view : Thread → ℕ → ℕ → Task = λ th l w. record (task_of m) { thread = thread_of th; active = th.priority; vars = vars_left q; pieces = pieces_left q; left = l; works = w } in
+    record {
+      piece = piece_of c.args.piece (put_away s.frames.items);
+      rest = behind s.frames.items;
+      vars = vars_left q;
+      pieces = pieces_left q;
+      first = ap (λ x. started x (kept_frames s.frames.items)) c.requires.piece;
+      does = c.act-act.ensures.deed;
+      after = ap (λ th. view th c.start-start.result.ticks (m.works + c.start-start.result.works)) c.act-act.ensures.thread
+          ∙ ap (λ l. view s.thread l (m.works + c.start-start.result.works)) (c.start-start.ensures.ticks ∙ ap (λ d. first_ticks c.args.costs.now d (pieces_left q)) c.duration-duration.ensures.next)
+          ∙ ap (λ w. view s.thread (first_ticks c.args.costs.now (slice_get (durations_of s.thread) m.works) (pieces_left q)) (m.works + w)) c.start-start.ensures.works
+          ∙ sym (going-starts c.args.costs.now (vars_left q) (pieces_left q) (task_of m))
+          ∙ ap (λ a. done_by a c.args.costs.now (vars_left q) (pieces_left q) (task_of m)) (sym c.in-Print.is);
+    }
+
+pub returns-in-Finish-clause-acts : goal.returns-in-Finish-clause-acts
+returns-in-Finish-clause-acts c =
+    let m = c.args.self.now in
+    let s = m.progress.stack in
+    let q = c.act-act.new.self in
+    let none : pieces_left q ≡ [] = c.in-Finish.ensures.ends in
+    let names = names-idle q.stack.thread q.piece (vars_left q) q.stack.frames.items (record { fits = q.fits; named = q.named; away = q.away }) none in
+    let keeps = kept-same q.stack.thread.«data».now (vars_left q) names q.stack.distinct in
+    let ticks = c.start-start.ensures.ticks ∙ ap (first_ticks c.args.costs.now c.duration-duration.result) none in
+    let works = ap (λ w. m.works + w) (c.start-start.ensures.works ∙ ap first_works none) ∙ add-zero m.works in
+    let view : Thread → _ → _ → ℕ → ℕ → Task = λ th vs ps l w. record (task_of m) { thread = thread_of th; active = th.priority; readiness = Asleep m.next; vars = vs; pieces = ps; left = l; works = w } in
+    record {
+      piece = piece_of c.args.piece (put_away s.frames.items);
+      rest = behind s.frames.items;
+      vars = vars_left q;
+      pieces = pieces_left q;
+      first = ap (λ x. started x (kept_frames s.frames.items)) c.requires.piece;
+      does = c.act-act.ensures.deed;
+      after = ap (λ vs. view q.stack.thread vs (pieces_left q) c.start-start.result.ticks (m.works + c.start-start.result.works)) (sym keeps)
+          ∙ ap (λ th. view th (kept th.«data».now (vars_left q)) (pieces_left q) c.start-start.result.ticks (m.works + c.start-start.result.works)) c.act-act.ensures.thread
+          ∙ ap (λ ps. view s.thread (kept s.thread.«data».now (vars_left q)) ps c.start-start.result.ticks (m.works + c.start-start.result.works)) none
+          ∙ ap (λ l. view s.thread (kept s.thread.«data».now (vars_left q)) [] l (m.works + c.start-start.result.works)) ticks
+          ∙ ap (λ w. view s.thread (kept s.thread.«data».now (vars_left q)) [] 0 w) works
+          ∙ ap (λ a. done_by a c.args.costs.now (vars_left q) (pieces_left q) (task_of m)) (sym c.in-Finish.is);
+    }
+
+pub returns-in-Silent-clause-falls : goal.returns-in-Silent-clause-falls
+returns-in-Silent-clause-falls c =
+    let m = c.args.self.now in
+    let s = m.progress.stack in
+    let q = c.act-act.new.self in
+    let p = piece_of c.args.piece (put_away s.frames.items) in
+    let rest = behind s.frames.items in
+    let was : pieces_left m.progress ≡ p ∷ rest = ap (λ x. started x (kept_frames s.frames.items)) c.requires.piece in
+    falls-silent _ _ _ _ c.in-Silent.is
+    (λ most enough.
+    let few : ends_among (pieces_left q) < most = omega (arith, few-ends q.piece q.stack.frames.items, few-frames q.stack.thread q.stack.frames.items q.stack.fit, ap reserve c.act-act.ensures.thread, enough) in (
+      rw was (some-effort most p rest (omega (arith, few))),
+      λ none. rw was (effort-falls c.args.costs.now c.duration-duration.result most (libraries_of s.thread) q.stack.thread q.piece q.stack.frames.items c.requires.ticking c.duration-duration.ensures.long q.fits few (sym c.start-start.ensures.ticks ∙ none) p _ _ rest c.act-act.result c.act-act.ensures.deed),
+    ))
+
+pub returns-in-Silent-clause-told : goal.returns-in-Silent-clause-told
+returns-in-Silent-clause-told c =
+    let m = c.args.self.now in
+    let s = m.progress.stack in
+    told-by _ _ _ _ c.in-Silent.is (tells-later c.args.costs.now c.duration-duration.result c.start-start.result.ticks (pieces_left c.act-act.new.self) c.requires.ticking c.start-start.ensures.ticks)
+
+pub returns-in-Print-clause-told : goal.returns-in-Print-clause-told
+returns-in-Print-clause-told c =
+    let m = c.args.self.now in
+    let s = m.progress.stack in
+    told-by _ _ _ _ c.in-Print.is ((
+      tells-later c.args.costs.now c.duration-duration.result c.start-start.result.ticks (pieces_left c.act-act.new.self) c.requires.ticking c.start-start.ensures.ticks,
+      tells-now m.left 2 (first_tells (pieces_left m.progress)) c.requires.used (ap (λ x. first_tells (started x (kept_frames s.frames.items))) c.requires.piece ∙ tells-print (libraries_of s.thread) (piece_of c.args.piece (put_away s.frames.items)) _ _ _ _ _ c.in-Print.ensures.deed),
+    ))
+
+pub returns-in-Finish-clause-told : goal.returns-in-Finish-clause-told
+returns-in-Finish-clause-told c =
+    let m = c.args.self.now in
+    let s = m.progress.stack in
+    told-by _ _ _ _ c.in-Finish.is ((
+      tells-later c.args.costs.now c.duration-duration.result c.start-start.result.ticks (pieces_left c.act-act.new.self) c.requires.ticking c.start-start.ensures.ticks,
+      tells-now m.left 2 (first_tells (pieces_left m.progress)) c.requires.used (ap (λ x. first_tells (started x (kept_frames s.frames.items))) c.requires.piece ∙ tells-finish (libraries_of s.thread) (piece_of c.args.piece (put_away s.frames.items)) _ _ _ _ c.in-Finish.ensures.deed),
+    ))

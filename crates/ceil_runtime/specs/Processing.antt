@@ -1,0 +1,96 @@
+-- The processor over many tasks: what it stands for, and what always holds of it.
+-- Order numbers are not kept: a ready task's number is its place in the ready list, from 1, and that of any other task is 0.
+use Rattle.std.specs.Prelude.{◌≡◌, ◌⊎◌, ℕ, ◌+◌, ◌<◌, ◌≤◌, ◌^◌, Bool, true, false, ◌++◌, List, [], ◌∷◌, map, length, min, Option, Some, None, slice_get, ⊤}
+use Rattle.seq_tree.specs.declared.tree.Costs.{Costs}
+use Rattle.ada_tree.specs.Trees.{unit_of}
+use Rattle.ada_tree.specs.declared.program.Unit as units
+use Rattle.trace_tree.specs.declared.event.Event.{Event}
+use Rattle.link_queue.specs.Queues.{Entry, Each, Queues}
+use Rattle.machine.specs.Systems.{System}
+use Rattle.machine.specs.States as states
+use Rattle.machine.specs.Meanings.{Running, Rest}
+use Rattle.dispatching.specs.Queueing.{AreQueued, AreSleeping, places}
+use Rattle.ceil_runtime.specs.Libraries.{libraries_from}
+use Rattle.ceil_runtime.specs.Works.{task_of}
+use Rattle.ceil_runtime.specs.Written.{thread_of}
+use Rattle.ceil_runtime.specs.declared.task.Task.{Task}
+use Rattle.ceil_runtime.specs.declared.piece.Piece.{Piece}
+use Rattle.ceil_runtime.specs.declared.processor.Phase.{Phase}
+use Rattle.ceil_runtime.specs.declared.processor.Phase.TheVariants.{Effects, Delays, Arriving, Use}
+
+-- the part of an instant
+abbrev pub phase_of : Phase → states.Phase
+phase_of Effects = states.Effects
+phase_of Delays = states.Delays
+phase_of Arriving = states.Arriving
+phase_of Use = states.Use
+
+-- what is told from here is this, and then what is told from there; both are runs of one system
+pub record Follows (r : Running) (told : List Event) (r' : Running) : Type 0 where
+  pub system : r'.system ≡ r.system
+  pub tells : (rest : List Event) → Rest r.system r'.state rest → Rest r.system r.state (told ++ rest)
+
+-- what runs
+abbrev pub system_by : ℕ → Costs → List units.Unit → List Task → System
+system_by until costs us tasks = record {
+  until = until;
+  costs = costs;
+  libraries = libraries_from 0 (map unit_of us);
+  objects = [];
+  threads = map (λ t. thread_of t.progress.stack.thread) tasks;
+}
+
+-- where it stands
+abbrev pub state_by : ℕ → Phase → Option ℕ → Bool → List Task → List Entry → states.State
+state_by time phase ran stopped tasks ready = record {
+  time = time;
+  phase = phase_of phase;
+  ran = ran;
+  arrivals = [];
+  stopped = stopped;
+  tasks = map task_of tasks;
+  orders = places (length tasks) ready;
+  stores = [];
+}
+
+-- what is kept of each task: its counts are small, and it is of these units
+pub record IsKept (until time : ℕ) (us : List units.Unit) (t : Task) : Type 0 where
+  pub used : t.used ≤ time
+  pub works : t.works ≤ time + min t.left 1
+  pub next : t.next ≤ until + 2 ^ 33
+  pub units : t.progress.stack.thread.units.now ≡ us
+  pub idle : t.ready ≡ false → t.left ≡ 0
+
+abbrev pub AllTasks : (Task → Type 0) → List Task → Type 0
+AllTasks P tasks = (i : ℕ) (t : Task) → slice_get tasks i ≡ Some t → P t
+
+-- the task that used the tick before is the first ready one, or its activation has ended
+abbrev pub IsFirst : Option ℕ → List Task → List Entry → Type 0
+IsFirst None tasks ready = ⊤
+IsFirst (Some i) tasks ready = (i < length tasks) × (((level : ℕ) × (slice_get ready 0 ≡ Some (i, level))) ⊎ ((t : Task) → slice_get tasks i ≡ Some t → t.ready ≡ false))
+
+-- what holds in a part of an instant
+abbrev pub HoldsIn : Phase → ℕ → ℕ → Option ℕ → List Task → Queues → Type 0
+HoldsIn Effects until time ran tasks q = IsFirst ran tasks q.ready
+HoldsIn Delays until time ran tasks q = ⊤
+HoldsIn Arriving until time ran tasks q = Each (λ e. time < e.1) q.asleep
+HoldsIn Use until time ran tasks q = (time < until) × Each (λ e. time < e.1) q.asleep
+
+-- what always holds of a processor's fields
+pub record IsSound (until time : ℕ) (phase : Phase) (ran : Option ℕ) (us : List units.Unit) (tasks : List Task) (q : Queues) : Type 0 where
+  pub size : q.size ≡ length tasks
+  pub queued : AreQueued (map task_of tasks) (places (length tasks) q.ready) q.ready
+  pub sleeping : AreSleeping (map task_of tasks) time q.asleep
+  pub kept : AllTasks (IsKept until time us) tasks
+  pub here : HoldsIn phase until time ran tasks q
+  pub near : until < 2 ^ 32
+  pub in_time : time ≤ until
+
+-- so many ticks are at most those left of the first ready task's piece, or one
+abbrev pub IsWithin : List Task → List Entry → ℕ → Type 0
+IsWithin tasks [] n = ⊤
+IsWithin tasks (e ∷ es) n = (t : Task) → slice_get tasks e.0 ≡ Some t → (n ≡ 1) ⊎ (n ≤ t.left)
+
+-- the task at this place is ready, and the ticks of its piece are used
+abbrev pub HasPiece : List Task → ℕ → Piece → Type 0
+HasPiece tasks i p = (t : Task) → slice_get tasks i ≡ Some t → (t.progress.piece ≡ Some p) × (t.ready ≡ true) × (t.left ≡ 0)

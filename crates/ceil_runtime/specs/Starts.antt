@@ -1,0 +1,46 @@
+-- The opening of a processor: which tasks it can be opened for, and how far it has come.
+use Rattle.std.specs.Prelude.{◌≡◌, ℕ, ◌<◌, ◌^◌, false, List, [], map}
+use Rattle.arrivals_tree.specs.Acceptance.{has_nothing}
+use Rattle.seq_tree.specs.declared.tree.Costs.{Costs}
+use Rattle.ada_tree.specs.Trees.{unit_of}
+use Rattle.ada_tree.specs.declared.program.Unit as units
+use Rattle.link_queue.specs.Queues.{Queues}
+use Rattle.machine.specs.Systems.{System}
+use Rattle.machine.specs.Meanings.{Running}
+use Rattle.machine.specs.States.{first_task, opening}
+use Rattle.dispatching.specs.Queueing.{AreSleeping}
+use Rattle.ceil_runtime.specs.Processing.{AllTasks, IsKept}
+use Rattle.ceil_runtime.specs.Libraries.{libraries_from}
+use Rattle.ceil_runtime.specs.Works.{task_of}
+use Rattle.ceil_runtime.specs.Written.{CanRun, durations_of, thread_of}
+use Rattle.ceil_runtime.specs.declared.thread.Thread.{Thread}
+use Rattle.ceil_runtime.specs.declared.task.Task.{Task}
+
+-- what runs, where these are the tasks
+abbrev pub system_for : ℕ → Costs → List units.Unit → List Thread → System
+system_for until costs us threads = record {
+  until = until;
+  costs = costs;
+  libraries = libraries_from 0 (map unit_of us);
+  objects = [];
+  threads = map thread_of threads;
+}
+
+-- a task of these units that can be run
+pub record CanStart (us : List units.Unit) (t : Thread) : Type 0 where
+  pub runs : CanRun t
+  pub units : t.units.now ≡ us
+  pub offset : t.offset < 2 ^ 32
+  pub long : has_nothing (durations_of t) ≡ false
+
+-- these tasks at the opening, before all effects
+abbrev pub opened : ℕ → Costs → List units.Unit → List Thread → Running
+opened until costs us threads = record { system = system_for until costs us threads; state = opening (system_for until costs us threads) [] }
+
+-- tasks that are open so far
+pub record AreOpen (until : ℕ) (us : List units.Unit) (threads : List Thread) (tasks : List Task) (q : Queues) : Type 0 where
+  pub tasks_are : map task_of tasks ≡ map first_task (map thread_of threads)
+  pub threads_are : map (λ t. t.progress.stack.thread) tasks ≡ threads
+  pub ready : q.ready ≡ []
+  pub sleeping : AreSleeping (map task_of tasks) 0 q.asleep
+  pub kept : AllTasks (IsKept until 0 us) tasks

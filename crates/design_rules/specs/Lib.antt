@@ -1,0 +1,16 @@
+pub mod Broken
+pub mod Lookups
+pub mod Versions
+pub mod Clashes
+pub mod Words
+pub mod Includes
+pub mod Operations
+pub mod Fittings
+pub mod Uses
+pub mod Rings
+pub mod Sources
+pub mod Numbers
+pub mod Bodies
+pub mod Budgets
+pub mod Separations
+pub mod Rules

@@ -1,0 +1,29 @@
+-- That bytes are one design, have one fault or none, and that a design breaks one rule first or none.
+use Rattle.std.proofs.Common.{◌≡◌, ℕ, List, Option, Some, None, subst}
+use Rattle.seq_tree.specs.declared.text_fault.TextFault.{TextFault}
+use Rattle.ods_tree.specs.Designs as designs
+use Rattle.ods_tree.specs.Reading.{Reads}
+use Rattle.ods_read.specs.Answers.{Faults}
+pub use Rattle.ods_read.proofs.OneReading.{one-design, no-fault, one-fault}
+use Rattle.design_rules.specs.Broken.{Broken}
+use Rattle.design_rules.specs.Rules.{MeetsRules}
+use Rattle.ods_rules.specs.Told.{told_of}
+use Rattle.ods_rules.specs.declared.broken.Broken as code
+use Rattle.bridge.specs.Delivers.{IsBroken, BreaksRule}
+use Rattle.hrthood_top.proofs.OneRule.{one-broken}
+
+-- a design that meets the rules breaks none
+none_broken : (x : designs.Design) (told : Option Broken) → MeetsRules x → IsBroken x told → ⊥
+none_broken x None meets broken = broken
+none_broken x (Some told) meets broken = meets broken.rule broken.place told broken.offends
+
+pub no-rule : (bytes : List ℕ) (broken : code.Broken) (x : designs.Design) → BreaksRule bytes (told_of broken) → Reads bytes x → MeetsRules x → ⊥
+no-rule bytes broken x h reads meets =
+    let B : designs.Design → Type 0 = λ z. IsBroken z (told_of broken) in
+    none_broken x (told_of broken) meets (subst B (one-design bytes h.design x h.reads reads) h.broken)
+
+-- it breaks one first
+pub one-rule : (bytes : List ℕ) (a b : code.Broken) → BreaksRule bytes (told_of a) → BreaksRule bytes (told_of b) → a ≡ b
+one-rule bytes a b h k =
+    let B : designs.Design → Type 0 = λ z. IsBroken z (told_of a) in
+    one-broken k.design a b (subst B (one-design bytes h.design k.design h.reads k.reads) h.broken) k.broken

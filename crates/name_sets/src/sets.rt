@@ -1,0 +1,79 @@
+ghost use Rattle.std.specs.Prelude.{◌≡◌, ◌||◌, false, not, IfOk, OnOk};
+ghost use Rattle.seq_tree.specs.Calls.{same_op};
+ghost use Rattle.seq_tree.specs.Names.{Name as NameTree, same_name};
+ghost use Rattle.seq_tree.specs.declared.tree.OpName.{OpName};
+ghost use Rattle.name_sets.specs.Sets.{has, has_op};
+
+use seq_tree::{Name, NoMemory};
+use std::alloc::Global;
+use std::collections::BTreeSet;
+
+/// A set of names.
+#[derive(Drop)]
+pub struct Names<'a> {
+    set: BTreeSet<&'a [u8]>,
+}
+
+impl<'a> Names<'a> {
+    /// No names.
+    #[tactic(auto, unfolding(crate::specs::Sets::has))]
+    pub fn new(alloc: Global) -> Names<'a>
+        ensures { (n : NameTree) → has result n ≡ false }
+    {
+        Names {
+            set: BTreeSet::new(alloc),
+        }
+    }
+
+    /// Whether a name is in the set.
+    #[tactic(auto, unfolding(crate::specs::Sets::has))]
+    pub fn has(&self, name: &Name) -> bool
+        ensures { result ≡ has self.now name.now }
+    {
+        self.set.contains(name.bytes())
+    }
+
+    /// Adds a name, and says whether it is new.
+    #[tactic(auto, unfolding(crate::specs::Sets::has))]
+    pub fn add(&mut self, name: &'a Name) -> Result<bool, NoMemory>
+        ensures new { IfOk result (λ new. new ≡ not (has self.old name.entry.now)) }
+        ensures added { OnOk result ((n : NameTree) → has self.new n ≡ (same_name name.entry.now n || has self.old n)) }
+    {
+        Ok(self.set.insert(name.bytes())?)
+    }
+}
+
+/// A set of operations, by their objects and their own names.
+#[derive(Drop)]
+pub struct Ops<'a> {
+    set: BTreeSet<(&'a [u8], &'a [u8])>,
+}
+
+impl<'a> Ops<'a> {
+    /// No operations.
+    #[tactic(auto, unfolding(crate::specs::Sets::has_op))]
+    pub fn new(alloc: Global) -> Ops<'a>
+        ensures { (n : OpName) → has_op result n ≡ false }
+    {
+        Ops {
+            set: BTreeSet::new(alloc),
+        }
+    }
+
+    /// Whether an operation is in the set.
+    #[tactic(auto, unfolding(crate::specs::Sets::has_op))]
+    pub fn has(&self, object: &'a Name, op: &'a Name) -> bool
+        ensures { result ≡ has_op self.now (record { object = object.entry.now; op = op.entry.now }) }
+    {
+        self.set.contains(&(object.bytes(), op.bytes()))
+    }
+
+    /// Adds an operation.
+    #[tactic(auto, unfolding(crate::specs::Sets::has_op))]
+    pub fn add(&mut self, object: &'a Name, op: &'a Name) -> Result<(), NoMemory>
+        ensures { OnOk result ((n : OpName) → has_op self.new n ≡ (same_op (record { object = object.entry.now; op = op.entry.now }) n || has_op self.old n)) }
+    {
+        self.set.insert((object.bytes(), op.bytes()))?;
+        Ok(())
+    }
+}

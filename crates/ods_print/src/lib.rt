@@ -1,0 +1,17 @@
+//! Designs as text.
+//!
+//! It stands on the designs of `ods_tree`, on the layout of `seq_tree` and on the printer of blocks of `seq_print`.
+//! `format` carries its promise: exactly the text of a design. `reads_back` is its law: the text of a proper design, within its
+//! limit of bytes, reads as the same design.
+#![tactic(auto)]
+
+mod bodies;
+mod design;
+mod items;
+mod law;
+mod nodes;
+mod sections;
+mod words;
+
+pub use design::format;
+pub use law::reads_back;

@@ -1,0 +1,5 @@
+pub mod Callees
+pub mod Counting
+pub mod Different
+pub mod Over
+pub mod Tables

@@ -1,0 +1,20 @@
+use Rattle.std.proofs.Common.{sym, ◌∙◌}
+use Rattle.token_read.specs.Words.{bare}
+use Rattle.grammar.specs.Reading.{pure_at}
+use Rattle.seq_read.specs.Names.{may_name}
+use Rattle.seq_read.specs.Statements.{next_is_name}
+use Rattle.seq_read.specs.Parts.{datum_at}
+use Rattle.seq_read.proofs.PartSteps.{takes-datum}
+use Rattle.seq_read.proofs.Turns.{onward-turn, turn-shorter}
+use Rattle.seq_read.proofs.parts.more_data.Goals as goal
+
+pub data-smaller : goal.data-smaller
+data-smaller c =
+    turn-shorter (datum_at (may_name c.args.text)) c.data.rest.now c.in_ok-next.after.now c.in_ok-next.next (takes-datum (may_name c.args.text)) c.in_ok-next.ensures
+
+pub data-preserved : goal.data-preserved
+data-preserved c =
+    rw (c.in_ok-push.ensures.items)
+    (onward-turn (next_is_name (may_name c.args.text)) (datum_at (may_name c.args.text)) pure_at c.data.data.items (bare c.data.rest.now) c.in_ok-next.next (bare c.in_ok-next.after.now)
+    (takes-datum (may_name c.args.text)) (sym c.data-test.ensures) c.in_ok-next.ensures
+    ∙ c.data.invariant)

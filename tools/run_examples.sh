@@ -18,6 +18,12 @@ compare() {
     echo "$*: as wanted"
 }
 
+compare check one_cyclic_object.design <<'LINES'
+ok d objects 1 threads 1
+LINES
+compare check mine_pump.design <<'LINES'
+ok mine objects 12 threads 6
+LINES
 compare generate one_cyclic_object.design <one_cyclic_task.ada
 compare replay one_cyclic_task.ada until_20.arrivals <<'LINES'
 0 release a

@@ -1,6 +1,8 @@
 //! The tests of the whole toolset.
 
+mod cases;
 mod changed_tokens;
+mod checks;
 mod designs;
 mod formats;
 mod replays;

@@ -5,6 +5,7 @@ pub mod OneText
 pub mod OneDesign
 pub mod OneRule
 pub mod VerbLaws
+pub mod CheckLaws
 pub mod FormatLaws
 pub mod GenerateLaws
 pub mod ReplayLaws

@@ -6,7 +6,8 @@ use Rattle.seq_check.specs.declared.fault.BodyFault.{BodyFault}
 use Rattle.seq_check.specs.declared.fault.BodyFault.TheVariants as body
 use Rattle.ods_tree.specs.Designs.{Design}
 use Rattle.ods_tree.specs.Ticks.{in_ticks}
-use Rattle.design_rules.specs.Broken.{Broken, V01, V02, V09Calls, V09Objects, V09Starts, V11, V14, V15Cost}
+use Rattle.design_rules.specs.Broken.{Broken, V01, V02, V03, V04, V05, V06, V07, V08, V09Calls, V09Objects, V09Starts, V10, V11, V12, V14, V15Threads, V15Objects, V15Cost, V16, V17Tick, V17Priorities, V17, V13}
+use Rattle.seq_check.specs.Answers.{told_as}
 use Rattle.design_rules.specs.Rules as design
 use Rattle.ods_rules.specs.Told.{told_of}
 use Rattle.ods_rules.specs.declared.broken.Broken as code
@@ -100,17 +101,62 @@ one_broken x a b f g =
 abbrev code_of : Broken → code.Broken
 code_of (V01 name) = variant.V01 name
 code_of (V02 name) = variant.V02 name
+code_of (V03 object) = variant.V03 object
+code_of (V04 object) = variant.V04 object
+code_of (V05 object) = variant.V05 object
+code_of (V06 object target) = variant.V06 object target
+code_of (V07 object target) = variant.V07 object target
+code_of (V08 object target) = variant.V08 object target
+code_of (V09Calls name) = variant.V09Calls name
+code_of (V09Objects object) = variant.V09Objects object
+code_of (V09Starts thread) = variant.V09Starts thread
+code_of (V10 object sources starts) = variant.V10 object sources starts
 code_of (V11 object) = variant.V11 object
+code_of (V12 object) = variant.V12 object
 code_of (V14 thread cost budget) = variant.V14 thread cost budget
+code_of (V15Threads count) = variant.V15Threads count
+code_of (V15Objects count) = variant.V15Objects count
 code_of (V15Cost object part) = variant.V15Cost object part
-code_of _ = variant.NoMemory
+code_of (V16 starter period target separation) = variant.V16 starter period target separation
+code_of V17Tick = variant.V17Tick
+code_of V17Priorities = variant.V17Priorities
+code_of (V17 object) = variant.V17 object
+code_of (V13 object part fault) = variant.V13 object part (told_as fault)
+
+from_body : (object : Name) (part : Option Name) (f : BodyFault) (t : Broken) → told_of (variant.V13 object part f) ≡ Some t → variant.V13 object part f ≡ code_of t
+from_body object part body.Unknown t e = ap code_of (some-same (V13 object part faults.Unknown) t e)
+from_body object part body.Sort t e = ap code_of (some-same (V13 object part faults.Missorted) t e)
+from_body object part body.Divisor t e = ap code_of (some-same (V13 object part faults.Divisor) t e)
+from_body object part body.Exit t e = ap code_of (some-same (V13 object part faults.Exit) t e)
+from_body object part body.Assigned t e = ap code_of (some-same (V13 object part faults.Assigned) t e)
+from_body object part body.Actual t e = ap code_of (some-same (V13 object part faults.Actual) t e)
+from_body object part body.Count t e = ap code_of (some-same (V13 object part faults.Count) t e)
+from_body object part body.NoMemory t e = absurd cc
 
 from_told : (c : code.Broken) (t : Broken) → told_of c ≡ Some t → c ≡ code_of t
 from_told (variant.V01 name) t e = ap code_of (some-same (V01 name) t e)
 from_told (variant.V02 name) t e = ap code_of (some-same (V02 name) t e)
+from_told (variant.V03 object) t e = ap code_of (some-same (V03 object) t e)
+from_told (variant.V04 object) t e = ap code_of (some-same (V04 object) t e)
+from_told (variant.V05 object) t e = ap code_of (some-same (V05 object) t e)
+from_told (variant.V06 object target) t e = ap code_of (some-same (V06 object target) t e)
+from_told (variant.V07 object target) t e = ap code_of (some-same (V07 object target) t e)
+from_told (variant.V08 object target) t e = ap code_of (some-same (V08 object target) t e)
+from_told (variant.V09Calls name) t e = ap code_of (some-same (V09Calls name) t e)
+from_told (variant.V09Objects object) t e = ap code_of (some-same (V09Objects object) t e)
+from_told (variant.V09Starts thread) t e = ap code_of (some-same (V09Starts thread) t e)
+from_told (variant.V10 object sources starts) t e = ap code_of (some-same (V10 object sources starts) t e)
 from_told (variant.V11 object) t e = ap code_of (some-same (V11 object) t e)
+from_told (variant.V12 object) t e = ap code_of (some-same (V12 object) t e)
 from_told (variant.V14 thread cost budget) t e = ap code_of (some-same (V14 thread cost budget) t e)
+from_told (variant.V15Threads count) t e = ap code_of (some-same (V15Threads count) t e)
+from_told (variant.V15Objects count) t e = ap code_of (some-same (V15Objects count) t e)
 from_told (variant.V15Cost object part) t e = ap code_of (some-same (V15Cost object part) t e)
+from_told (variant.V16 starter period target separation) t e = ap code_of (some-same (V16 starter period target separation) t e)
+from_told variant.V17Tick t e = ap code_of (some-same V17Tick t e)
+from_told variant.V17Priorities t e = ap code_of (some-same V17Priorities t e)
+from_told (variant.V17 object) t e = ap code_of (some-same (V17 object) t e)
+from_told (variant.V13 object part fault) t e = from_body object part fault t e
 from_told variant.NoMemory t e = absurd cc
 
 is_told : (x : Design) (o : Option Broken) → IsBroken x o → (t : Broken) × (o ≡ Some t) × design.IsFirstBroken x t

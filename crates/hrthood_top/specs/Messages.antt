@@ -36,20 +36,53 @@ body_text body.Actual = codes " B6"
 body_text body.Count = codes " B7"
 body_text body.NoMemory = []
 
+-- a part of an object: the operation, or the thread
+abbrev pub part_text : Option Name → List ℕ
+part_text (Some op) = op
+part_text None = codes "thread"
+
 -- a line of a code and one name
 abbrev pub name_line : List ℕ → Name → List ℕ
 name_line code name = code ++ (name ++ codes "\n")
 
+-- a line of a code, an object and an operation of another
+abbrev pub use_line : List ℕ → Name → OpName → List ℕ
+use_line code object target = code ++ (object ++ (codes " " ++ (target.object ++ (codes "." ++ (target.op ++ codes "\n")))))
+
+-- a line of a code and one number
+abbrev pub count_line : List ℕ → ℕ → List ℕ
+count_line code count = code ++ (decimal count ++ codes "\n")
+
 -- the line of a rule that a design breaks; want of memory is no rule, and is never told so
 abbrev pub rule_line : Broken → List ℕ
-rule_line (rule.V01 name) = codes "refused V01 " ++ (name ++ codes "\n")
-rule_line (rule.V02 name) = codes "refused V02 " ++ (name ++ codes "\n")
-rule_line (rule.V11 (Some object)) = codes "refused V11 " ++ (object ++ codes "\n")
+rule_line (rule.V01 name) = name_line (codes "refused V01 ") name
+rule_line (rule.V02 name) = name_line (codes "refused V02 ") name
+rule_line (rule.V03 object) = name_line (codes "refused V03 ") object
+rule_line (rule.V04 object) = name_line (codes "refused V04 ") object
+rule_line (rule.V05 object) = name_line (codes "refused V05 ") object
+rule_line (rule.V06 object target) = use_line (codes "refused V06 ") object target
+rule_line (rule.V07 object target) = use_line (codes "refused V07 ") object target
+rule_line (rule.V08 object target) = use_line (codes "refused V08 ") object target
+rule_line (rule.V09Calls name) = codes "refused V09 " ++ (name.object ++ (codes "." ++ (name.op ++ codes "\n")))
+rule_line (rule.V09Objects object) = name_line (codes "refused V09 ") object
+rule_line (rule.V09Starts thread) = name_line (codes "refused V09 ") thread
+rule_line (rule.V10 object sources starts) =
+    codes "refused V10 " ++ (object ++ (codes " sources " ++ (decimal sources ++ (codes " starts " ++ (decimal starts ++ codes "\n")))))
+rule_line (rule.V11 (Some object)) = name_line (codes "refused V11 ") object
 rule_line (rule.V11 None) = codes "refused V11 costs\n"
+rule_line (rule.V12 object) = name_line (codes "refused V12 ") object
+rule_line (rule.V13 object part fault) = codes "refused V13 " ++ (object ++ (codes " " ++ (part_text part ++ (body_text fault ++ codes "\n"))))
 rule_line (rule.V14 thread cost budget) =
     codes "refused V14 " ++ (thread ++ (codes " cost " ++ (decimal cost ++ (codes " budget " ++ (decimal budget ++ codes "\n")))))
-rule_line (rule.V15Cost object (Some part)) = codes "refused V15 cost " ++ (object ++ (codes " " ++ (part ++ codes "\n")))
-rule_line (rule.V15Cost object None) = codes "refused V15 cost " ++ (object ++ codes " thread\n")
+rule_line (rule.V15Threads count) = count_line (codes "refused V15 threads ") count
+rule_line (rule.V15Objects count) = count_line (codes "refused V15 objects ") count
+rule_line (rule.V15Cost object part) = codes "refused V15 cost " ++ (object ++ (codes " " ++ (part_text part ++ codes "\n")))
+rule_line (rule.V16 starter period target separation) =
+    codes "refused V16 " ++ (starter ++ (codes " period " ++ (decimal period ++ (codes " " ++ (target
+    ++ (codes " separation " ++ (decimal separation ++ codes "\n")))))))
+rule_line rule.V17Tick = codes "refused V17 tick\n"
+rule_line rule.V17Priorities = codes "refused V17 priorities\n"
+rule_line (rule.V17 object) = name_line (codes "refused V17 ") object
 rule_line rule.NoMemory = codes "refused\n"
 
 -- the code of a limit

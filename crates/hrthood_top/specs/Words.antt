@@ -5,6 +5,8 @@ use Rattle.std.specs.Str.{bytes_eq}
 
 -- what is to be done, with the names of files
 pub data Command : Type 0 where
+  -- check the rules of a design
+  Check : (design : List ℕ) → Command
   -- print a design again
   Format : (design : List ℕ) → Command
   -- make the Ada text of a design
@@ -20,8 +22,9 @@ is_file_name (c ∷ cs) = not (c == 45)
 -- the command that a verb with the name of a design is, where it is one
 abbrev pub design_command : List ℕ → List ℕ → Option Command
 design_command verb design =
-    if bytes_eq verb (codes "format") then Some (Format design)
-    else (if bytes_eq verb (codes "generate") then Some (Generate design) else None)
+    if bytes_eq verb (codes "check") then Some (Check design)
+    else (if bytes_eq verb (codes "format") then Some (Format design)
+    else (if bytes_eq verb (codes "generate") then Some (Generate design) else None))
 
 -- the command that these words are
 abbrev pub command_of : List (List ℕ) → Option Command

@@ -5,6 +5,8 @@ ghost use Rattle.hrthood_top.specs.Commands.{command_tree};
 /// What is to be done, with the names of files.
 #[derive(Clone, Copy)]
 pub(crate) enum Command<'a> {
+    /// Check the rules of a design.
+    Check { design: &'a str },
     /// Print a design again.
     Format { design: &'a str },
     /// Make the Ada text of a design.
@@ -28,7 +30,9 @@ fn design_command<'a>(verb: &str, design: &'a str) -> Option<Command<'a>>
     ensures { MatchOption result (design_command verb.now design.entry.now ≡ None)
         (λ c. design_command verb.now design.entry.now ≡ Some (command_tree c)) }
 {
-    if verb == "format" {
+    if verb == "check" {
+        Some(Command::Check { design })
+    } else if verb == "format" {
         Some(Command::Format { design })
     } else if verb == "generate" {
         Some(Command::Generate { design })

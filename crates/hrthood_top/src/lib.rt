@@ -7,6 +7,7 @@
 #![tactic(auto)]
 
 mod ada_lines;
+mod check;
 mod command_words;
 mod design_lines;
 mod fetch;
@@ -26,6 +27,7 @@ mod toolset;
 mod trace;
 mod two_runs;
 
+pub use check::CheckRefusal;
 pub use file_kind::FileKind;
 pub use format::FormatRefusal;
 pub use generate::GenerateRefusal;

@@ -1,55 +1,75 @@
--- Adding up the ticks of an activation, up to the greatest cost.
-use Rattle.std.proofs.Common.{◌≡◌, ℕ, suc, ◌+◌, ◌<◌, ◌≤◌, Bool, true, false, nat_le, List, [], ◌∷◌, length, drop, Some, None, refl, sym, ap, ◌∙◌, arith}
-use Rattle.std.proofs.Math.ListN.{get_or}
-use Rattle.std.proofs.Math.Seq.{drop-cons}
-use Rattle.std.proofs.lemmas.Bool.{leb-true, le-leb}
-use Rattle.std.proofs.lemmas.List.{drop_all}
-use Rattle.seq_tree.specs.Statements.{Statement, Statements, End, Then}
-use Rattle.seq_tree.specs.declared.tree.Stmt.{Stmt}
-use Rattle.seq_tree.specs.declared.tree.Costs.{Costs}
-use Rattle.analysis.specs.Execution.{block_cost}
-use Rattle.ods_rules.specs.Parts.{statement_of, block_by}
-use Rattle.ods_rules.specs.Told.{within_greatest}
+-- Steps of the loops that work out what calls count: accounts of the calls of a block, and prices of operations, the first of each name.
+use Rattle.std.proofs.Common.{◌≡◌, ℕ, suc, Bool, true, false, cond, ◌||◌, List, [], ◌∷◌, Option, Some, None, refl, ap, sym, ◌∙◌}
+use Rattle.std.specs.Option.{option_or}
+use Rattle.std.specs.Prelude.{if◌then◌else◌, min, option_map}
+use Rattle.std.specs.List.{list_any}
+use Rattle.seq_tree.specs.Calls.{same_op}
+use Rattle.seq_tree.specs.Lists.{Each}
+use Rattle.seq_tree.proofs.Walks.{same_op-eq, same_op-refl}
+use Rattle.seq_tree.specs.declared.tree.OpName.{OpName}
+use Rattle.seq_cost.specs.Tables.{or_0}
+use Rattle.ods_tree.specs.Designs.{Design}
+use Rattle.analysis.specs.Execution.{cost_within}
+use Rattle.ods_tree.specs.Services.{flat_services}
+use Rattle.ods_tree.specs.Flattening.{flat}
+use Rattle.ods_rules.specs.Costed.{Costed, cap, costed_named, costed_ops, price, priced}
+use Rattle.ods_rules.proofs.PriceLaws.{deeper-price, price_named}
 
-pub cost-within : (n : ℕ) → n ≤ 1000000000 → within_greatest n ≡ Some n
-unfolding within_greatest
-cost-within n h = rw (le-leb n 1000000000 h) refl
+-- one more call has its count, where those that are left have theirs
+pub account-step : {V : Type 0} (v : OpName → V) (c n : OpName) (left : Bool) (after before : Option V) → after ≡ (if same_op c n then Some (v c) else before)
+    → (if left then Some (v n) else after) ≡ (if same_op c n || left then Some (v n) else before)
+account-step v c n left after before put = by left (same_op c n) refl
+  where
+    by : (l b : Bool) → same_op c n ≡ b → (if l then Some (v n) else after) ≡ (if b || l then Some (v n) else before)
+    by true true e = refl
+    by true false e = refl
+    by false true e = put ∙ ap (λ z. if z then Some (v c) else before) e ∙ ap (λ z. Some (v z)) (same_op-eq c n e)
+    by false false e = put ∙ ap (λ z. if z then Some (v c) else before) e
 
-pub cost-over : (n : ℕ) → 1000000000 < n → within_greatest n ≡ None
-unfolding within_greatest
-cost-over n h = over (nat_le n 1000000000) refl where
-  over : (b : Bool) → nat_le n 1000000000 ≡ b → within_greatest n ≡ None
-  over true e = absurd (omega (arith, leb-true n 1000000000 e, h))
-  over false e = rw e refl
+or-right : (a b : Bool) → b ≡ true → (a || b) ≡ true
+or-right true b h = refl
+or-right false b h = h
 
--- the cost of what is left of statements
-abbrev left : Costs → List Stmt → ℕ → ℕ
-left costs stmts i = block_cost costs [] (block_by (drop i stmts))
+or-left : (a b : Bool) → a ≡ true → (a || b) ≡ true
+or-left a b h = ap (λ z. z || b) h
 
--- the cost of a statement before others
-cost_then : (costs : Costs) (s : Statement) (rest : Statements) → block_cost costs [] (Then s rest) ≡ block_cost costs [] (Then s End) + block_cost costs [] rest
-cost_then costs s rest = omega arith
+-- what holds of each name that is among these holds of each of these
+pub each-among : (P : OpName → Type 0) (cs : List OpName) → ((n : OpName) → list_any (λ c. same_op c n) cs ≡ true → P n) → Each P cs
+each-among P [] all = tt
+each-among P (c ∷ cs) all =
+    (all c (or-left (same_op c c) (list_any (λ d. same_op d c) cs) (same_op-refl c)), each-among P cs (λ n h. all n (or-right (same_op c n) (list_any (λ d. same_op d n) cs) h)))
 
--- with the next statement the ticks so far are too many
-pub over_after : (costs : Costs) (stmts : List Stmt) (i total : ℕ) (s : Stmt) → i < length stmts → s ≡ get_or stmts i s → total + left costs stmts i ≡ block_cost costs [] (block_by stmts) →
-    1000000000 < total + block_cost costs [] (Then (statement_of s) End) → None ≡ within_greatest (block_cost costs [] (block_by stmts) + costs.finish)
-over_after costs stmts i total s inside at added over =
-    let parts : drop i stmts ≡ s ∷ drop (suc i) stmts = drop-cons stmts i s inside ∙ ap (λ t. t ∷ drop (suc i) stmts) (sym at) in
-    let whole : left costs stmts i ≡ block_cost costs [] (Then (statement_of s) (block_by (drop (suc i) stmts))) = ap (λ ss. block_cost costs [] (block_by ss)) parts in
-    let next = cost_then costs (statement_of s) (block_by (drop (suc i) stmts)) in
-    sym (cost-over (block_cost costs [] (block_by stmts) + costs.finish) (omega (arith, added, whole, next, over)))
+-- the first of a name stays; one more operation, where none of its name was before
+pub first-new : {V : Type 0} (value : Costed → V) (c : Costed) (n : OpName) (rest : List Costed) (after before : Option V) → after ≡ (if same_op c.name n then Some (value c) else before)
+    → (same_op c.name n ≡ true → before ≡ None)
+    → option_or after (option_map value (costed_named rest n)) ≡ option_or before (option_map value (costed_named (c ∷ rest) n))
+first-new value c n rest after before put none = by (same_op c.name n) refl
+  where
+    by : (b : Bool) → same_op c.name n ≡ b → option_or after (option_map value (costed_named rest n)) ≡ option_or before (option_map value (cond b (Some c) (costed_named rest n)))
+    by true e = ap (λ z. option_or z (option_map value (costed_named rest n))) (put ∙ ap (λ z. if z then Some (value c) else before) e) ∙ sym (ap (λ z. option_or z (Some (value c))) (none e))
+    by false e = ap (λ z. option_or z (option_map value (costed_named rest n))) (put ∙ ap (λ z. if z then Some (value c) else before) e)
 
--- behind the last statement the ticks so far are all
-pub within_after : (costs : Costs) (stmts : List Stmt) (i total : ℕ) → length stmts ≤ i → total + left costs stmts i ≡ block_cost costs [] (block_by stmts) →
-    total + costs.finish ≤ 1000000000 → Some (total + costs.finish) ≡ within_greatest (block_cost costs [] (block_by stmts) + costs.finish)
-within_after costs stmts i total end added within =
-    let none : left costs stmts i ≡ 0 = ap (λ ss. block_cost costs [] (block_by ss)) (drop_all i stmts end) in
-    let all : total + costs.finish ≡ block_cost costs [] (block_by stmts) + costs.finish = omega (arith, added, none) in
-    sym (cost-within (total + costs.finish) within) ∙ ap within_greatest all
+-- and where one was before
+pub first-old : {V : Type 0} (value : Costed → V) (c : Costed) (n : OpName) (rest : List Costed) (before : Option V) (old : V) → (same_op c.name n ≡ true → before ≡ Some old)
+    → option_or before (option_map value (costed_named rest n)) ≡ option_or before (option_map value (costed_named (c ∷ rest) n))
+first-old value c n rest before old some = by (same_op c.name n) refl
+  where
+    by : (b : Bool) → same_op c.name n ≡ b → option_or before (option_map value (costed_named rest n)) ≡ option_or before (option_map value (cond b (Some c) (costed_named rest n)))
+    by true e = ap (λ z. option_or z (option_map value (costed_named rest n))) (some e) ∙ sym (ap (λ z. option_or z (Some (value c))) (some e))
+    by false e = refl
 
--- with the end of the activation they are too many
-pub over_with_end : (costs : Costs) (stmts : List Stmt) (i total : ℕ) → length stmts ≤ i → total + left costs stmts i ≡ block_cost costs [] (block_by stmts) →
-    1000000000 < total + costs.finish → None ≡ within_greatest (block_cost costs [] (block_by stmts) + costs.finish)
-over_with_end costs stmts i total end added over =
-    let none : left costs stmts i ≡ 0 = ap (λ ss. block_cost costs [] (block_by ss)) (drop_all i stmts end) in
-    sym (cost-over (block_cost costs [] (block_by stmts) + costs.finish) (omega (arith, added, none, over)))
+pub or-none : {V : Type 0} (o : Option V) → option_or o None ≡ o
+or-none None = refl
+or-none (Some v) = refl
+
+-- what a call counts one deeper
+abbrev pub deeper_value : Design → ℕ → Costed → ℕ
+deeper_value x depth c = min cap (price x.costs (cost_within depth x.costs (flat_services (flat x))) c.block)
+
+-- prices of all operations are those of calls that are followed one deeper
+pub prices-agree : (x : Design) (depth : ℕ) (n : OpName) (o : Option ℕ) → o ≡ option_map (deeper_value x depth) (costed_named (costed_ops x) n) → or_0 o ≡ priced x (suc depth) n
+prices-agree x depth n o e = ap or_0 e ∙ by (costed_named (costed_ops x) n) ∙ sym (deeper-price x depth n)
+  where
+    by : (c : Option Costed) → or_0 (option_map (deeper_value x depth) c) ≡ min cap (price_named x (cost_within depth x.costs (flat_services (flat x))) c)
+    by None = refl
+    by (Some c) = refl

@@ -1,42 +1,154 @@
-ghost use Rattle.std.specs.Prelude.{◌≡◌};
-ghost use Rattle.ods_tree.specs.InUse.{IsUsableBlock, IsUsableDesign};
+ghost use Rattle.std.specs.Prelude.{◌≡◌, ◌<◌, Some, length, suc};
 ghost use Rattle.ods_tree.specs.Trees.{design_of};
-ghost use Rattle.ods_rules.specs.Parts.{block_by};
-ghost use Rattle.ods_rules.specs.Told.{Tells, first_told};
+ghost use Rattle.ods_tree.specs.Walk.{objects};
+ghost use Rattle.design_rules.specs.Rules.{Offends, Version};
 ghost use Rattle.ods_rules.specs.Checks.{Says};
+ghost use Rattle.ods_rules.specs.Indexing.{IsIndex};
+ghost use Rattle.ods_rules.specs.Judging.{Judges, Passes, PassesBefore};
+ghost use Rattle.ods_rules.specs.Orders.{Verdict, limit, rule_of};
 
+use crate::actives::no_idle_actives;
+use crate::bodies::bad_bodies;
 use crate::broken::Broken;
+use crate::budgets::bad_budgets;
+use crate::call_rings::ringed_op;
 use crate::checked::Checked;
-use crate::costs::cost_fits;
-use crate::names::{names_are_free, names_differ};
-use crate::numbers::{costs_fit, numbers_fit};
-use crate::parts::{Parts, parts_of};
+use crate::clashes::clashes;
+use crate::fittings::bad_fittings;
+use crate::includes::includes_fit;
+use crate::index::Index;
+use crate::kept::kept_names;
+use crate::numbers::numbers_fit;
+use crate::object_rings::ringed_object;
+use crate::operations::operations_fit;
+use crate::separations::bad_separations;
+use crate::sizes::bad_sizes;
+use crate::sources::bad_sources;
+use crate::start_rings::ringed_thread;
+use crate::ticks::set_ticks;
+use crate::uses::{absent, forbidden, strangers};
+use crate::versions::versions_fit;
 use ods_tree::Design;
 use std::alloc::Global;
 
-/// Tells the first rule that is broken.
-#[tactic(auto, unfolding(crate::specs::Told::first_told))]
-fn find_broken(alloc: Global, parts: Parts<'_>) -> Result<(), Broken>
-    requires { IsUsableBlock (block_by parts.stmts.now) }
-    ensures { Tells result (first_told parts.entry) }
-{
-    names_differ(alloc, parts.name, parts.object)?;
-    names_are_free(alloc, parts.name, parts.object)?;
-    costs_fit(parts.costs)?;
-    numbers_fit(alloc, parts.object, parts.attrs, parts.stmts)?;
-    cost_fits(alloc, parts.costs, parts.object, parts.attrs, parts.stmts)
+/// The rules in the order of their numbers, but for that on versions.
+#[derive(Clone, Copy)]
+pub(crate) enum Rule {
+    Clash,
+    KeptName,
+    Include,
+    Operation,
+    Fitting,
+    Stranger,
+    Absence,
+    Use,
+    CallRing,
+    ObjectRing,
+    StartRing,
+    Source,
+    Number,
+    IdleActive,
+    BodyFault,
+    Budget,
+    Size,
+    Spacing,
 }
 
-/// The design, where it meets the rules.
+/// The rule after this one, where there is one.
+fn next(rule: Rule) -> Option<Rule>
+    ensures { limit result ≡ suc (limit (Some rule)) }
+{
+    match rule {
+        Rule::Clash => Some(Rule::KeptName),
+        Rule::KeptName => Some(Rule::Include),
+        Rule::Include => Some(Rule::Operation),
+        Rule::Operation => Some(Rule::Fitting),
+        Rule::Fitting => Some(Rule::Stranger),
+        Rule::Stranger => Some(Rule::Absence),
+        Rule::Absence => Some(Rule::Use),
+        Rule::Use => Some(Rule::CallRing),
+        Rule::CallRing => Some(Rule::ObjectRing),
+        Rule::ObjectRing => Some(Rule::StartRing),
+        Rule::StartRing => Some(Rule::Source),
+        Rule::Source => Some(Rule::Number),
+        Rule::Number => Some(Rule::IdleActive),
+        Rule::IdleActive => Some(Rule::BodyFault),
+        Rule::BodyFault => Some(Rule::Budget),
+        Rule::Budget => Some(Rule::Size),
+        Rule::Size => Some(Rule::Spacing),
+        Rule::Spacing => None,
+    }
+}
+
+/// Tells the first offender against a rule, where no lower one is broken.
+#[tactic(auto, using(crate::proofs::VerdictLaws::judged_list))]
+fn judge(alloc: Global, index: &Index<'_>, rule: Rule) -> Result<(), Broken>
+    requires indexed { IsIndex index.now }
+    requires few { length (objects (design_of index.now.design.now)) < 4294967296 }
+    requires before { PassesBefore (design_of index.now.design.now) (rule_of rule) }
+    ensures { Judges (Offends (design_of index.entry.now.design.now) (design_of index.entry.now.design.now) (rule_of rule)) result }
+{
+    match rule {
+        Rule::Clash => clashes(alloc, index),
+        Rule::KeptName => kept_names(alloc, index),
+        Rule::Include => includes_fit(alloc, index),
+        Rule::Operation => operations_fit(alloc, index),
+        Rule::Fitting => bad_fittings(alloc, index),
+        Rule::Stranger => strangers(alloc, index),
+        Rule::Absence => absent(alloc, index),
+        Rule::Use => forbidden(alloc, index),
+        Rule::CallRing => ringed_op(alloc, index),
+        Rule::ObjectRing => ringed_object(alloc, index),
+        Rule::StartRing => ringed_thread(alloc, index),
+        Rule::Source => bad_sources(alloc, index),
+        Rule::Number => numbers_fit(alloc, index),
+        Rule::IdleActive => no_idle_actives(alloc, index),
+        Rule::BodyFault => bad_bodies(alloc, index),
+        Rule::Budget => bad_budgets(alloc, index),
+        Rule::Size => bad_sizes(alloc, index),
+        Rule::Spacing => bad_separations(alloc, index),
+    }
+}
+
+/// Tells the first offender against the first rule that is broken, rule by rule.
+#[tactic(auto, using(crate::proofs::VerdictLaws::order_laws))]
+fn judge_all(alloc: Global, index: &Index<'_>) -> Result<(), Broken>
+    requires indexed { IsIndex index.now }
+    requires few { length (objects (design_of index.now.design.now)) < 4294967296 }
+    requires version { Passes (design_of index.now.design.now) Version }
+    ensures { Verdict (design_of index.entry.now.design.now) result }
+{
+    let mut rule = Some(Rule::Clash);
+    'rules: while let Some(now) = rule {
+        judge(alloc, index, now)?;
+        rule = next(now);
+    }
+    Ok(())
+}
+
+/// Tells what is wrong with a design in ticks, but for its version.
+fn judge_design(alloc: Global, design: &Design) -> Result<(), Broken>
+    requires few { length (objects (design_of design.now)) < 4294967296 }
+    requires version { Passes (design_of design.now) Version }
+    ensures { Verdict (design_of design.now) result }
+{
+    let index = Index::new(alloc, design)?;
+    judge_all(alloc, &index)
+}
+
+/// Takes a design exactly where it meets the rules, and gives it in ticks; else tells the first rule that is broken, by number, and
+/// of it the first offender in flattened order and order of writing.
 ///
-/// It is of one cyclic object, as `read_design` reads it. Each other answer is the first rule that is broken, by number, then in
-/// order of writing, and of it the first offender; the design is given up. `NoMemory` may come wherever memory is asked for.
+/// The design has fewer than 4,294,967,296 objects. V17 speaks of the design as it is written, the others of the design in ticks.
+/// `NoMemory` comes for want of memory.
+#[tactic(auto, using(crate::proofs::VerdictLaws::check_laws, crate::proofs::CountLaws::count_laws))]
 pub fn check(alloc: Global, design: Design) -> Result<Checked, Broken>
-    requires { IsUsableDesign (design_of design) }
+    requires { length (objects (design_of design)) < 4294967296 }
     ensures { Says (design_of design) result }
 {
-    match find_broken(alloc, parts_of(&design)) {
-        Ok(()) => Ok(Checked { design }),
-        Err(broken) => Err(broken),
-    }
+    let mut design = design;
+    versions_fit(alloc, &design)?;
+    set_ticks(&mut design);
+    judge_design(alloc, &design)?;
+    Ok(Checked { design })
 }

@@ -13,7 +13,7 @@ use Rattle.seq_cost.specs.Different.{call_of, different}
 use Rattle.seq_cost.specs.Tables.{at, number_at, or_0}
 use Rattle.seq_cost.specs.declared.tables.OpTable.{OpTable}
 use Rattle.seq_cost.specs.Over.{BringsOver, front, within_most}
-use Rattle.seq_cost.specs.declared.counted.Counted.TheVariants.{Ticks, Calls, Through}
+use Rattle.seq_cost.specs.declared.counted.Counted.TheVariants.{Ticks, Calls, Through, Weighed}
 
 abbrev unit_costs : Costs
 unit_costs = record { assign = 1; test = 1; turn = 1; call = 2; nothing = 1; put = 1; finish = 1 }
@@ -52,6 +52,12 @@ work_is_no_call target = refl
 
 work_is_no_call_through : (target : Bor OpName) (account : Bor ℕ) → (weights_of ones (Through target account)).work 7 ≡ 0
 work_is_no_call_through target account = refl
+
+work_is_no_weighed_call : (account : Bor ℕ) → (weights_of ones (Weighed account)).work 7 ≡ 0
+work_is_no_weighed_call account = refl
+
+each_call_is_weighed : (account : Bor ℕ) → (weights_of ones (Weighed account)).called set.object set.op ≡ account.now
+each_call_is_weighed account = refl
 
 -- arms: the first costs a condition and 5, the second two conditions and 6, what follows two conditions and 2
 abbrev ticks : Weights

@@ -13,6 +13,8 @@ pub(crate) enum Counted<'a, A> {
     Calls { target: &'a OpName },
     /// The calls of an operation, and those in the bodies of what is called.
     Through { target: &'a OpName, account: &'a A },
+    /// What an account says of each call.
+    Weighed { account: &'a A },
 }
 
 /// No costs.
@@ -33,7 +35,7 @@ impl<'a, A: Account> Counted<'a, A> {
     {
         match self {
             Counted::Ticks { costs, .. } => **costs,
-            Counted::Calls { .. } | Counted::Through { .. } => FREE,
+            Counted::Calls { .. } | Counted::Through { .. } | Counted::Weighed { .. } => FREE,
         }
     }
 
@@ -43,7 +45,7 @@ impl<'a, A: Account> Counted<'a, A> {
     {
         match self {
             Counted::Ticks { .. } => ticks,
-            Counted::Calls { .. } | Counted::Through { .. } => 0,
+            Counted::Calls { .. } | Counted::Through { .. } | Counted::Weighed { .. } => 0,
         }
     }
 
@@ -61,6 +63,7 @@ impl<'a, A: Account> Counted<'a, A> {
                     account.count(object, op)
                 }
             }
+            Counted::Weighed { account } => account.count(object, op),
         }
     }
 }

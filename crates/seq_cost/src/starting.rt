@@ -1,5 +1,5 @@
 ghost use Rattle.std.specs.Prelude.{◌≡◌, min};
-ghost use Rattle.seq_tree.specs.Dearest.{starts, starts_through};
+ghost use Rattle.seq_tree.specs.Dearest.{counted, starts, starts_through};
 ghost use Rattle.seq_tree.specs.Trees.{block_of};
 ghost use Rattle.seq_cost.specs.Callees.{callee_starts};
 
@@ -30,4 +30,12 @@ pub fn starts_by<A: Account>(block: &Block, target: &OpName, account: &A) -> u32
     ensures { result ≡ min 2 (starts_through target.now (A.counts account.now) (block_of block.now)) }
 {
     block_weight(block, &Counted::Through { target, account }, 2) as u32
+}
+
+/// The greatest number on a path through a block, or 2 where it is more, where each call counts what an account says. It takes no
+/// memory.
+pub fn counted_by<A: Account>(block: &Block, account: &A) -> u32
+    ensures { result ≡ min 2 (counted (A.counts account.now) (block_of block.now)) }
+{
+    block_weight(block, &Counted::Weighed { account }, 2) as u32
 }

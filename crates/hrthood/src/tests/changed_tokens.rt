@@ -1,12 +1,13 @@
-//! Each token of an Ada text cut, doubled and replaced.
+//! Each token of an Ada text, and of a design, cut, doubled and replaced.
 
+use super::cases::run_design;
 use super::rows::{Outcome, run_words};
 use hood_io::MemShelf;
 use hrthood_top::Status;
 use std::test::Fail;
 
 /// The tokens of a text with a passive unit and a task, a space behind each.
-const TOKENS: &str =
+const ADA: &str =
     "pragma task_dispatching_policy ( fifo_within_priorities ) ; pragma locking_policy ( ceiling_locking ) ; with \
     ada . real_time ; package hrt is type word is mod 2 ** 32 ; subtype moment is ada . real_time . time ; \
     assign_cost : constant := 1 ; test_cost : constant := 1 ; turn_cost : constant := 1 ; call_cost : constant := \
@@ -23,10 +24,26 @@ const TOKENS: &str =
 
 /// What a replay of that text tells up to tick 20: three turns, each with an output, and a fourth that leaves the loop.
 /// A turn, a test, an output and the end take a tick each.
-const TOKENS_TRACE: &str =
+const ADA_TRACE: &str =
     "0 release a\n3 put a 1\n6 put a 2\n9 put a 3\n12 end a used 12\n20 horizon\n";
 
-/// What is done to one token of these.
+/// The tokens of a design with an object of each kind, links, units of time and a range of priorities, a space behind each.
+const DESIGN: &str =
+    "design d version 2 is tick = 1 ms ; priorities 5 .. 9 ; costs assign = 1 ; test = 1 ; turn = 1 ; call = 2 ; \
+    null = 1 ; put = 1 ; finish = 1 ; end costs ; object r is active provides set ( v : in word ) paer ; \
+    objects object c is cyclic attributes period = 100 ms ; deadline = 50 ; thread_budget = 1000 ; requires p . \
+    get ; s . start ; data x : word := 0 ; thread p . get ( 1 , x ) ; if x = 4 then s . start ( x ) ; elsif x > \
+    2 then put ( x ) ; else null ; end if ; for i in word range 1 .. 3 loop exit when i = 2 ; work ( 2 ) ; end \
+    loop ; x := ( x + 1 ) * 2 ; end thread ; end c ; object q is protected provides set ( v : in word ) paer ; \
+    data level : word := 0 ; operation set is begin level := v ; end set ; end q ; object p is passive provides \
+    get ( v : in word ; w : out word ) ; operation get is n : word := 1 ; begin w := v + n ; end get ; end p ; \
+    object s is sporadic attributes separation = 100 ; deadline = 60 ; thread_budget = 500 ; provides start ( v \
+    : in word ) aser ; thread put ( v ) ; end thread ; end s ; implements set by q . set ; end r ; end d ; ";
+
+/// What `check` tells of that design.
+const DESIGN_TAKEN: &str = "ok d objects 5 threads 2\n";
+
+/// What is done to one token.
 #[derive(Clone, Copy, Debug, PartialEq, Eq)]
 enum Change {
     Cut,
@@ -35,12 +52,17 @@ enum Change {
     Replaced,
 }
 
-/// The text of the tokens, one a line, with the token at a place changed.
-fn changed_text(rt: &HostRuntime, change: Change, place: usize) -> Result<Vec<u8>, Fail> {
+/// The text of tokens, one a line, with the token at a place changed.
+fn changed_text(
+    rt: &HostRuntime,
+    tokens: &str,
+    change: Change,
+    place: usize,
+) -> Result<Vec<u8>, Fail> {
     let mut text = Vec::new(rt.alloc());
     let mut token = Vec::new(rt.alloc());
     let mut index = 0_usize;
-    for byte in TOKENS.as_bytes() {
+    for byte in tokens.as_bytes() {
         if *byte != b' ' {
             token.push(*byte)?;
             continue;
@@ -68,37 +90,332 @@ struct Late {
     line: usize,
 }
 
-const fn told_at(change: Change, place: usize, line: usize) -> Late {
+/// The exceptions of the Ada text, by the places of the tokens from 0.
+const ADA_LATE: &[Late] = &[
     Late {
-        change,
-        place,
-        line,
-    }
-}
+        change: Change::Cut,
+        place: 144,
+        line: 146,
+    },
+    Late {
+        change: Change::Replaced,
+        place: 134,
+        line: 136,
+    },
+    Late {
+        change: Change::Replaced,
+        place: 144,
+        line: 146,
+    },
+    Late {
+        change: Change::Cut,
+        place: 198,
+        line: 200,
+    },
+    Late {
+        change: Change::Cut,
+        place: 201,
+        line: 205,
+    },
+    Late {
+        change: Change::Cut,
+        place: 205,
+        line: 208,
+    },
+    Late {
+        change: Change::Doubled,
+        place: 201,
+        line: 210,
+    },
+    Late {
+        change: Change::Replaced,
+        place: 206,
+        line: 208,
+    },
+    Late {
+        change: Change::Cut,
+        place: 209,
+        line: 211,
+    },
+    Late {
+        change: Change::Cut,
+        place: 223,
+        line: 225,
+    },
+    Late {
+        change: Change::Cut,
+        place: 226,
+        line: 228,
+    },
+    Late {
+        change: Change::Cut,
+        place: 280,
+        line: 282,
+    },
+    Late {
+        change: Change::Replaced,
+        place: 292,
+        line: 294,
+    },
+    Late {
+        change: Change::Doubled,
+        place: 296,
+        line: 303,
+    },
+];
 
-/// The exceptions, by the places of the tokens from 0.
-fn late_faults() -> [Late; 14] {
-    [
-        told_at(Change::Cut, 144, 146),
-        told_at(Change::Replaced, 134, 136),
-        told_at(Change::Replaced, 144, 146),
-        told_at(Change::Cut, 198, 200),
-        told_at(Change::Cut, 201, 205),
-        told_at(Change::Cut, 205, 208),
-        told_at(Change::Doubled, 201, 210),
-        told_at(Change::Replaced, 206, 208),
-        told_at(Change::Cut, 209, 211),
-        told_at(Change::Cut, 223, 225),
-        told_at(Change::Cut, 226, 228),
-        told_at(Change::Cut, 280, 282),
-        told_at(Change::Replaced, 292, 294),
-        told_at(Change::Doubled, 296, 303),
-    ]
-}
+/// The exceptions of the design. A word that is kept nowhere, as `version`, is a name where one may stand.
+const DESIGN_LATE: &[Late] = &[
+    Late {
+        change: Change::Cut,
+        place: 1,
+        line: 3,
+    },
+    Late {
+        change: Change::Cut,
+        place: 61,
+        line: 63,
+    },
+    Late {
+        change: Change::Cut,
+        place: 89,
+        line: 91,
+    },
+    Late {
+        change: Change::Cut,
+        place: 96,
+        line: 98,
+    },
+    Late {
+        change: Change::Cut,
+        place: 106,
+        line: 108,
+    },
+    Late {
+        change: Change::Cut,
+        place: 118,
+        line: 120,
+    },
+    Late {
+        change: Change::Cut,
+        place: 131,
+        line: 133,
+    },
+    Late {
+        change: Change::Cut,
+        place: 134,
+        line: 136,
+    },
+    Late {
+        change: Change::Cut,
+        place: 159,
+        line: 163,
+    },
+    Late {
+        change: Change::Cut,
+        place: 163,
+        line: 166,
+    },
+    Late {
+        change: Change::Cut,
+        place: 187,
+        line: 189,
+    },
+    Late {
+        change: Change::Cut,
+        place: 194,
+        line: 196,
+    },
+    Late {
+        change: Change::Cut,
+        place: 197,
+        line: 199,
+    },
+    Late {
+        change: Change::Cut,
+        place: 202,
+        line: 204,
+    },
+    Late {
+        change: Change::Cut,
+        place: 224,
+        line: 226,
+    },
+    Late {
+        change: Change::Cut,
+        place: 226,
+        line: 228,
+    },
+    Late {
+        change: Change::Cut,
+        place: 235,
+        line: 237,
+    },
+    Late {
+        change: Change::Cut,
+        place: 242,
+        line: 244,
+    },
+    Late {
+        change: Change::Cut,
+        place: 288,
+        line: 290,
+    },
+    Late {
+        change: Change::Cut,
+        place: 294,
+        line: 296,
+    },
+    Late {
+        change: Change::Doubled,
+        place: 0,
+        line: 3,
+    },
+    Late {
+        change: Change::Doubled,
+        place: 47,
+        line: 50,
+    },
+    Late {
+        change: Change::Doubled,
+        place: 62,
+        line: 65,
+    },
+    Late {
+        change: Change::Doubled,
+        place: 100,
+        line: 104,
+    },
+    Late {
+        change: Change::Doubled,
+        place: 114,
+        line: 119,
+    },
+    Late {
+        change: Change::Doubled,
+        place: 124,
+        line: 129,
+    },
+    Late {
+        change: Change::Doubled,
+        place: 159,
+        line: 168,
+    },
+    Late {
+        change: Change::Doubled,
+        place: 173,
+        line: 176,
+    },
+    Late {
+        change: Change::Doubled,
+        place: 208,
+        line: 211,
+    },
+    Late {
+        change: Change::Doubled,
+        place: 248,
+        line: 251,
+    },
+    Late {
+        change: Change::Doubled,
+        place: 277,
+        line: 282,
+    },
+    Late {
+        change: Change::Doubled,
+        place: 289,
+        line: 292,
+    },
+    Late {
+        change: Change::Replaced,
+        place: 53,
+        line: 56,
+    },
+    Late {
+        change: Change::Replaced,
+        place: 58,
+        line: 61,
+    },
+    Late {
+        change: Change::Replaced,
+        place: 59,
+        line: 61,
+    },
+    Late {
+        change: Change::Replaced,
+        place: 70,
+        line: 72,
+    },
+    Late {
+        change: Change::Replaced,
+        place: 100,
+        line: 102,
+    },
+    Late {
+        change: Change::Replaced,
+        place: 114,
+        line: 117,
+    },
+    Late {
+        change: Change::Replaced,
+        place: 146,
+        line: 148,
+    },
+    Late {
+        change: Change::Replaced,
+        place: 164,
+        line: 166,
+    },
+    Late {
+        change: Change::Replaced,
+        place: 179,
+        line: 182,
+    },
+    Late {
+        change: Change::Replaced,
+        place: 184,
+        line: 187,
+    },
+    Late {
+        change: Change::Replaced,
+        place: 185,
+        line: 187,
+    },
+    Late {
+        change: Change::Replaced,
+        place: 214,
+        line: 217,
+    },
+    Late {
+        change: Change::Replaced,
+        place: 224,
+        line: 226,
+    },
+    Late {
+        change: Change::Replaced,
+        place: 239,
+        line: 242,
+    },
+    Late {
+        change: Change::Replaced,
+        place: 267,
+        line: 270,
+    },
+    Late {
+        change: Change::Replaced,
+        place: 272,
+        line: 275,
+    },
+    Late {
+        change: Change::Replaced,
+        place: 273,
+        line: 275,
+    },
+];
 
-/// The line of the fault of a changed token.
-fn line_of_fault(change: Change, place: usize) -> usize {
-    for it in &late_faults() {
+/// The line of the fault of a changed token, where a text has these exceptions.
+fn line_of_fault(late: &[Late], change: Change, place: usize) -> usize {
+    for it in late {
         if it.change == change && it.place == place {
             return it.line;
         }
@@ -117,22 +434,61 @@ struct Told {
     err: String,
 }
 
-/// What is told of the text with a token changed. It is a program still where a semicolon stands in place of one, and without the
-/// `else`, where two assignments follow each other.
-fn told_of(rt: &HostRuntime, change: Change, place: usize, is_same: bool) -> Result<Told, Fail> {
-    if is_same || change == Change::Cut && place == 218 {
-        return Ok(Told {
-            status: Status::Done,
-            out: TOKENS_TRACE,
-            err: String::new(rt.alloc()),
-        });
+/// That a text is taken, with what is written then.
+fn taken(rt: &HostRuntime, out: &'static str) -> Told {
+    Told {
+        status: Status::Done,
+        out,
+        err: String::new(rt.alloc()),
     }
-    let line = line_of_fault(change, place);
-    Ok(Told {
+}
+
+/// That a text is refused, with this line.
+fn refused(err: String) -> Told {
+    Told {
         status: Status::Refused,
         out: "",
-        err: format!(in rt.alloc(); "refused S1 ada line {line} column 1\n")?,
-    })
+        err,
+    }
+}
+
+/// What is told of the Ada text with a token changed. It is a program still where a semicolon stands in place of one, and without the
+/// `else`, where two assignments follow each other.
+fn told_of_ada(
+    rt: &HostRuntime,
+    change: Change,
+    place: usize,
+    is_same: bool,
+) -> Result<Told, Fail> {
+    if is_same || change == Change::Cut && place == 218 {
+        return Ok(taken(rt, ADA_TRACE));
+    }
+    let line = line_of_fault(ADA_LATE, change, place);
+    let err = format!(in rt.alloc(); "refused S1 ada line {line} column 1\n")?;
+    Ok(refused(err))
+}
+
+/// What is told of the design with a token changed. It is a design still without a unit of time, which counts ticks, without the `else`,
+/// and without a constraint, where a rule is broken.
+fn told_of_design(
+    rt: &HostRuntime,
+    change: Change,
+    place: usize,
+    is_same: bool,
+) -> Result<Told, Fail> {
+    if is_same {
+        return Ok(taken(rt, DESIGN_TAKEN));
+    }
+    match (change, place) {
+        (Change::Cut, 70 | 128) => return Ok(taken(rt, DESIGN_TAKEN)),
+        (Change::Cut, 59) => return Ok(refused(String::from_str(rt.alloc(), "refused V05 r\n")?)),
+        (Change::Cut, 185) => return Ok(refused(String::from_str(rt.alloc(), "refused V04 q\n")?)),
+        (Change::Cut, 273) => return Ok(refused(String::from_str(rt.alloc(), "refused V04 s\n")?)),
+        _ => {}
+    }
+    let line = line_of_fault(DESIGN_LATE, change, place);
+    let err = format!(in rt.alloc(); "refused S1 design line {line} column 1\n")?;
+    Ok(refused(err))
 }
 
 /// Replays an Ada text up to tick 20.
@@ -144,13 +500,29 @@ fn replay_up_to_20(rt: &HostRuntime, ada: &[u8]) -> Result<Outcome, Fail> {
 }
 
 #[test]
-fn each_token_changed(rt: HostRuntime) -> Result<(), Fail> {
-    let whole = changed_text(&rt, Change::Cut, 331)?;
+fn each_token_of_an_ada_text_changed(rt: HostRuntime) -> Result<(), Fail> {
+    let whole = changed_text(&rt, ADA, Change::Cut, 331)?;
     for change in [Change::Cut, Change::Doubled, Change::Replaced] {
         for place in 0_usize..331 {
-            let text = changed_text(&rt, change, place)?;
+            let text = changed_text(&rt, ADA, change, place)?;
+            let told = told_of_ada(&rt, change, place, text == whole)?;
             let Outcome { status, out, err } = replay_up_to_20(&rt, &text)?;
-            let told = told_of(&rt, change, place, text == whole)?;
+            assert_eq!(rt; status, told.status, "{place}");
+            assert_eq!(rt; out.bytes(), told.out.as_bytes(), "{place}");
+            assert_eq!(rt; err.bytes(), told.err.as_bytes(), "{place}");
+        }
+    }
+    Ok(())
+}
+
+#[test]
+fn each_token_of_a_design_changed(rt: HostRuntime) -> Result<(), Fail> {
+    let whole = changed_text(&rt, DESIGN, Change::Cut, 300)?;
+    for change in [Change::Cut, Change::Doubled, Change::Replaced] {
+        for place in 0_usize..300 {
+            let text = changed_text(&rt, DESIGN, change, place)?;
+            let told = told_of_design(&rt, change, place, text == whole)?;
+            let Outcome { status, out, err } = run_design(&rt, "check", &text)?;
             assert_eq!(rt; status, told.status, "{place}");
             assert_eq!(rt; out.bytes(), told.out.as_bytes(), "{place}");
             assert_eq!(rt; err.bytes(), told.err.as_bytes(), "{place}");

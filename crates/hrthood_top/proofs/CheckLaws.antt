@@ -1,0 +1,29 @@
+-- That the verb `check` refuses a design for one reason, and none that meets the rules.
+use Rattle.std.proofs.Common.{◌≡◌, ℕ, List, subst, sym, ap}
+use Rattle.ods_tree.specs.Reading.{Reads}
+use Rattle.hrthood_top.specs.declared.file_kind.FileKind.TheVariants.{Design}
+use Rattle.hrthood_top.specs.declared.check.CheckRefusal.{CheckRefusal}
+use Rattle.hrthood_top.specs.declared.check.CheckRefusal.TheVariants.{Text, Rule}
+use Rattle.hrthood_top.specs.Checks.{IsTaken, CanCheck, RefusesCheck, checks}
+use Rattle.hrthood_top.proofs.OneDesign.{no-fault, one-fault, no-rule, one-rule}
+use Rattle.hrthood_top.proofs.VerbLaws.{IsExact}
+
+can_or_refuses : (bytes bytes' : List ℕ) → bytes ≡ bytes' → CanCheck bytes → (r : CheckRefusal) → RefusesCheck bytes' r → ⊥
+can_or_refuses bytes bytes' same w (Text found) h = no-fault bytes' w.design found (subst (λ z. Reads z w.design) same w.reads) h
+can_or_refuses bytes bytes' same w (Rule broken) h = no-rule bytes' broken w.design h (subst (λ z. Reads z w.design) same w.reads) w.meets
+
+one_refusal : (bytes : List ℕ) (r q : CheckRefusal) → RefusesCheck bytes r → RefusesCheck bytes q → r ≡ q
+one_refusal bytes (Text f) (Text g) h k = ap Text (one-fault bytes f g h k)
+one_refusal bytes (Text f) (Rule broken) h k = absurd (no-fault bytes k.design f k.reads h)
+one_refusal bytes (Rule broken) (Text f) h k = absurd (no-fault bytes h.design f h.reads k)
+one_refusal bytes (Rule broken) (Rule other) h k = ap Rule (one-rule bytes broken other h k)
+
+can_make : (bytes made : List ℕ) → IsTaken bytes made → CanCheck bytes
+can_make bytes made w = record { design = w.design; reads = w.reads; meets = w.meets }
+
+pub checks-exact : (design : List ℕ) → IsExact (checks design)
+checks-exact design = record {
+  one = λ a b same r q h k. one_refusal (b Design) r q (subst (λ z. RefusesCheck z r) same.0 h) k;
+  able = λ a b same w r h. can_or_refuses (a Design) (b Design) same.0 w r h;
+  made = λ a made w. can_make (a Design) made w;
+}

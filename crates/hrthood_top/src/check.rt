@@ -1,0 +1,108 @@
+ghost use Rattle.std.specs.Prelude.{◌≡◌, List, ℕ, IfOk};
+ghost use Rattle.hood_io.specs.Causes.{HasCause};
+ghost use Rattle.hood_io.specs.Sinks.{Puts};
+ghost use Rattle.ods_rules.specs.Checks.{checked_design};
+ghost use Rattle.hrthood_top.specs.Checks.{checks, check_line, taken_line, IsTaken, RefusesCheck};
+ghost use Rattle.hrthood_top.specs.Ends.{EndsVerb, outside};
+ghost use Rattle.hrthood_top.specs.Writing.{IsMade};
+
+use crate::design_lines::put_rule;
+use crate::fetch::{File, fetch_files};
+use crate::file_kind::FileKind;
+use crate::finish::{finish, tell_stop};
+use crate::halt::Halt;
+use crate::line::Line;
+use crate::status::Status;
+use crate::text_lines::put_fault;
+use hood_io::{Failed, Shelf, Sink};
+use itoa::Buffer;
+use ods_read::read_design;
+use ods_rules::{Broken, Checked, check as check_rules, count};
+use seq_tree::{NoMemory, TextFault};
+use std::alloc::Global;
+
+/// Why a design is not taken.
+#[derive(Drop, Debug)]
+pub enum CheckRefusal {
+    /// The bytes are not the text of a design, for this reason and at this place.
+    Text(TextFault),
+    /// The design breaks this rule; never for want of memory.
+    Rule(Broken),
+}
+
+impl Line for CheckRefusal {
+    ghost line = { check_line };
+
+    fn put<E: Sink>(&self, err: &mut E) -> Result<(), Failed>
+        ensures cause { HasCause (E.faults err.old) (E.faults err.new) result }
+        ensures puts { Puts (E.written err.old) (E.written err.new) (check_line self.now) result }
+    {
+        match self {
+            CheckRefusal::Text(fault) => put_fault(err, FileKind::Design, *fault),
+            CheckRefusal::Rule(broken) => put_rule(err, broken),
+        }
+    }
+}
+
+/// The line of a design that is taken.
+fn taken_line(alloc: Global, checked: &Checked) -> Result<Vec<u8>, NoMemory>
+    ensures { IfOk result (λ v. v.items ≡ taken_line (checked_design checked.now)) }
+{
+    let (objects, threads) = count(alloc, checked)?;
+    let mut number = Buffer::new();
+    let mut line = Vec::new(alloc);
+    line.extend_from_slice(b"ok ")?;
+    line.extend_from_slice(checked.design().name.bytes())?;
+    line.extend_from_slice(b" objects ")?;
+    line.extend_from_slice(number.format(objects).as_bytes())?;
+    line.extend_from_slice(b" threads ")?;
+    line.extend_from_slice(number.format(threads).as_bytes())?;
+    line.extend_from_slice(b"\n")?;
+    Ok(line)
+}
+
+/// What is told of the text of a design.
+fn check_text(alloc: Global, design: &[u8]) -> Result<Vec<u8>, Halt<CheckRefusal>>
+    ensures { IsMade (λ v. v.items) (IsTaken design.now) (RefusesCheck design.now) result }
+{
+    let read = match read_design(alloc, design) {
+        Ok(read) => read,
+        Err(TextFault::NoMemory) => return Err(Halt::NoMemory),
+        Err(fault) => return Err(Halt::Refused(CheckRefusal::Text(fault))),
+    };
+    let checked = match check_rules(alloc, read) {
+        Ok(checked) => checked,
+        Err(broken) => {
+            if broken.is_memory() {
+                return Err(Halt::NoMemory);
+            }
+            return Err(Halt::Refused(CheckRefusal::Rule(broken)));
+        }
+    };
+    match taken_line(alloc, &checked) {
+        Ok(line) => Ok(line),
+        Err(NoMemory) => Err(Halt::NoMemory),
+    }
+}
+
+/// Does the verb `check`, from its file to what is written.
+pub(crate) fn check<F: Shelf, O: Sink, E: Sink>(
+    alloc: Global,
+    design: &str,
+    shelf: &mut F,
+    out: &mut O,
+    err: &mut E,
+) -> Status
+    ensures { EndsVerb result (checks design.now)
+        (outside (F.told shelf.old) (F.faults shelf.old) (O.written out.old) (O.faults out.old) (E.written err.old) (E.faults err.old))
+        (outside (F.told shelf.new) (F.faults shelf.new) (O.written out.new) (O.faults out.new) (E.written err.new) (E.faults err.new)) }
+{
+    let files = [File {
+        kind: FileKind::Design,
+        name: design,
+    }];
+    match fetch_files(alloc, shelf, &files) {
+        Ok(texts) => finish(out, err, check_text(alloc, &texts.design)),
+        Err(stop) => tell_stop(err, stop),
+    }
+}

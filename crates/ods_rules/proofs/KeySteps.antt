@@ -1,0 +1,28 @@
+-- Tests of sets of names by two numbers and a further name.
+use Rattle.std.proofs.Common.{◌≡◌, ℕ, Bool, true, false, cond, List, ◌&&◌, ◌||◌, ◌==◌, refl, ap, ◌∙◌}
+use Rattle.std.specs.Cmp.{unsigned_tied}
+use Rattle.std.specs.Ordering.{is_eq, nat_cmp, ordering_then}
+use Rattle.std.specs.Cmp.Lexicographic.{slice_cmp}
+use Rattle.std.proofs.lemmas.Map.Text.{is_eq-slice_cmp}
+use Rattle.seq_tree.specs.Names.{same_name}
+use Rattle.name_sets.proofs.SetSteps.{is_eq-then}
+
+either : (a b : Bool) → cond a true b ≡ (a || b)
+either true b = refl
+either false b = refl
+
+-- a name that was added, or one that was there
+pub added_key : (place number p q : ℕ) (op name o n : List ℕ) (old : Bool) →
+    cond (is_eq (ordering_then (ordering_then (nat_cmp place p) (nat_cmp number q)) (ordering_then (slice_cmp nat_cmp op o) (slice_cmp nat_cmp name n)))) true old
+    ≡ (((place == p && number == q) && (same_name op o && same_name name n)) || old)
+added_key place number p q op name o n old =
+    let numbers = ordering_then (nat_cmp place p) (nat_cmp number q) in
+    let names = ordering_then (slice_cmp nat_cmp op o) (slice_cmp nat_cmp name n) in
+    either (is_eq (ordering_then numbers names)) old
+    ∙ ap (λ b. b || old) (is_eq-then numbers names)
+    ∙ ap (λ b. (b && is_eq names) || old) (is_eq-then (nat_cmp place p) (nat_cmp number q))
+    ∙ ap (λ b. ((b && is_eq (nat_cmp number q)) && is_eq names) || old) (unsigned_tied place p)
+    ∙ ap (λ b. ((place == p && b) && is_eq names) || old) (unsigned_tied number q)
+    ∙ ap (λ b. ((place == p && number == q) && b) || old) (is_eq-then (slice_cmp nat_cmp op o) (slice_cmp nat_cmp name n))
+    ∙ ap (λ b. ((place == p && number == q) && (b && is_eq (slice_cmp nat_cmp name n))) || old) (is_eq-slice_cmp op o)
+    ∙ ap (λ b. ((place == p && number == q) && (same_name op o && b)) || old) (is_eq-slice_cmp name n)

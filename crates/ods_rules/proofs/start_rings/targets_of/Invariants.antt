@@ -1,0 +1,10 @@
+use Rattle.std.proofs.Common.{◌≡◌, ◌||◌, map, drop}
+use Rattle.seq_tree.specs.Names.{Name}
+use Rattle.ods_rules.specs.Spreading.{is_there}
+use Rattle.ods_rules.specs.Starting.{has_target, thread_object}
+use Rattle.ods_rules.specs.Tables.{place_in}
+use Rattle.ods_rules.proofs.start_rings.targets_of.Given as goal
+
+-- the names so far, and those of the threads that are left
+abbrev pub invariant-threads : goal.invariant-threads
+invariant-threads l = (n : Name) → (is_there (place_in l.names n) || has_target (map thread_object (drop l.node-index l.threads)) n) ≡ has_target (map thread_object l.threads) n

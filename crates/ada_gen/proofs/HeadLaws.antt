@@ -14,10 +14,9 @@ use Rattle.seq_print.proofs.Fronts.{written}
 use Rattle.ods_tree.specs.Flats.{Thread, Flat}
 use Rattle.rt_response.specs.declared.rows.Bound.{Bound}
 use Rattle.analysis.specs.Ceilings.{Ranks}
-use Rattle.ada_tree.specs.InUse.{IsUsableProgram}
 use Rattle.ada_tree.specs.Spelling.{program_lines, program_tokens}
 use Rattle.ada_print.specs.Writable.{is_number, is_word, is_writable}
-use Rattle.ada_print.proofs.ReadLaws.{program-ok}
+use Rattle.ada_print.proofs.ApartLines.{program-ok}
 use Rattle.guarantee.specs.Programs.{comment, head, program_for, thread_comment}
 use Rattle.ada_gen.specs.Heads.{is_bound_writable, is_head_writable, is_thread_writable}
 use Rattle.ada_gen.specs.Rows.{row, rows}
@@ -125,7 +124,7 @@ gives-head f r places v rest ts w g =
     (gives-design f.name (rows f r (zip places v) ++ rest) ts n.0 (gives-rows f r places v rest ts m.0 m.1 g))
 
 -- the text of a program behind its head
-pub text-back : (f : Flat) (r : Ranks) (places : List ℕ) (v : List Bound) → IsUsableProgram (program_for f r) → is_writable (program_for f r) ≡ true → is_head_writable f r v ≡ true
+pub text-back : (f : Flat) (r : Ranks) (places : List ℕ) (v : List Bound) → is_writable (program_for f r) ≡ true → is_head_writable f r v ≡ true
     → plain (tokens (head f r places v ++ layout (program_lines (program_for f r)))) ≡ Ok (program_tokens (program_for f r))
-text-back f r places v usable ok w =
-    read-whole _ _ (gives-head f r places v _ _ w (gives-layout (program_lines (program_for f r)) (program-ok (program_for f r) usable ok)))
+text-back f r places v ok w =
+    read-whole _ _ (gives-head f r places v _ _ w (gives-layout (program_lines (program_for f r)) (program-ok (program_for f r) ok)))

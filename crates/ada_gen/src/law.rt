@@ -7,7 +7,6 @@ ghost use Rattle.ods_tree.specs.InUse.{IsUsableDesign};
 ghost use Rattle.ods_tree.specs.Reading.{Reads};
 ghost use Rattle.analysis.specs.Ceilings.{Ranks};
 ghost use Rattle.rt_response.specs.declared.rows.Bound.{Bound};
-ghost use Rattle.ada_tree.specs.InUse.{IsUsableProgram};
 ghost use Rattle.ada_tree.specs.Spelling.{program_lines, program_tokens};
 ghost use Rattle.ada_print.specs.Writable.{is_word, is_writable};
 ghost use Rattle.guarantee.specs.Programs.{head, program_for};
@@ -17,7 +16,6 @@ ghost use Rattle.ada_gen.specs.Heads.{is_head_writable};
 /// numbers can be read.
 pub fn text_reads_back()
     ensures { (f : Flat) (r : Ranks) (places : List ℕ) (bounds : List Bound)
-        → IsUsableProgram (program_for f r)
         → IsTrue (is_writable (program_for f r))
         → IsTrue (is_head_writable f r bounds)
         → plain (tokens (head f r places bounds ++ layout (program_lines (program_for f r))))

@@ -1,3 +1,5 @@
+pub mod HeadTexts
+pub mod LineTurns
 pub mod Layouts
-pub mod ReadLaws
-pub mod RangeLaws
+pub mod ApartLines
+mod Examples

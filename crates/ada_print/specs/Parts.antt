@@ -1,15 +1,16 @@
--- The parts of a program's text that don't depend on what its units are.
+-- The parts of a program's text that don't depend on what its units are, and the texts of parts of a line.
 -- The text keeps to ISO/IEC 8652:2012; its form is this project's own.
-use Rattle.std.specs.Prelude.{List, [], ◌∷◌, codes, ⊤}
+use Rattle.std.specs.Prelude.{ℕ, List, [], ◌∷◌, ◌++◌, codes, flat_map}
 use Prim.Native.String.{String}
+use Rattle.seq_tree.specs.Layout.{tokens_text}
 use Rattle.seq_tree.specs.Names.{Name}
+use Rattle.seq_tree.specs.Operations.{Signature}
 use Rattle.seq_tree.specs.Spelling.{Line, line}
 use Rattle.seq_tree.specs.declared.token.Token.{Token}
 use Rattle.seq_tree.specs.declared.token.Token.TheVariants.{Word, Sign}
 use Rattle.seq_tree.specs.declared.token.Mark.TheVariants.{LeftParen, RightParen, Semicolon, Dot}
-use Rattle.ada_tree.specs.InUse.{IsUsableForm}
-use Rattle.ada_tree.specs.Programs.{Unit}
-use Rattle.ada_tree.specs.Spelling.{end_line}
+use Rattle.seq_tree.specs.declared.tree.Param.{Param}
+use Rattle.ada_tree.specs.Spelling.{end_line, param_tokens}
 
 -- a word
 abbrev w : String → Token
@@ -41,7 +42,15 @@ closing_lines name =
     end_line 0 name ∷ line 0 (w "with" ∷ Word name ∷ semicolon ∷ []) ∷ line 0 (w "procedure" ∷ w "hrt_main" ∷ w "is" ∷ []) ∷ line 0 (w "begin" ∷ [])
     ∷ line 1 (w "null" ∷ semicolon ∷ []) ∷ end_line 0 (codes "hrt_main") ∷ []
 
--- units that are printed so far
-abbrev pub ArePrintable : List Unit → Type 0
-ArePrintable [] = ⊤
-ArePrintable (u ∷ us) = IsUsableForm u.form × ArePrintable us
+-- further parameters, each behind a semicolon
+abbrev pub params_more : List Param → List ℕ
+params_more ps = flat_map (λ p. codes "; " ++ tokens_text (param_tokens p)) ps
+
+-- parameters, behind the name of their operation
+abbrev pub params_text : List Param → List ℕ
+params_text [] = []
+params_text (p ∷ ps) = codes " (" ++ (tokens_text (param_tokens p) ++ (params_more ps ++ codes ")"))
+
+-- the head of a procedure
+abbrev pub head_text : Signature → List ℕ
+head_text sig = codes "procedure " ++ (sig.name ++ params_text sig.params)

@@ -1,7 +1,7 @@
 ghost use Rattle.std.specs.Prelude.{◌≡◌};
 ghost use Rattle.seq_tree.specs.Layout.{layout, line_text};
 ghost use Rattle.ada_tree.specs.Spelling.{constant_line, hrt_lines};
-ghost use Rattle.seq_print.specs.Printing.{Adds};
+ghost use Rattle.seq_print.specs.Printing.{Writes};
 
 use seq_print::{put, put_number};
 use seq_tree::{Costs, NoMemory};
@@ -21,7 +21,7 @@ end hrt;
 
 /// Adds the line of a cost.
 fn put_cost(into: &mut Vec<u8>, name: &[u8], cost: u32) -> Result<(), NoMemory>
-    ensures { Adds result into.old.items into.new.items (line_text (constant_line 1 name.now cost)) }
+    ensures { Writes result into.old.items into.new.items (line_text (constant_line 1 name.now cost)) }
 {
     put(into, b"   ")?;
     put(into, name)?;
@@ -30,7 +30,7 @@ fn put_cost(into: &mut Vec<u8>, name: &[u8], cost: u32) -> Result<(), NoMemory>
 
 /// Adds package `hrt` with these costs.
 pub(crate) fn add_hrt(costs: &Costs, into: &mut Vec<u8>) -> Result<(), NoMemory>
-    ensures { Adds result into.old.items into.new.items (layout (hrt_lines costs.now)) }
+    ensures { Writes result into.old.items into.new.items (layout (hrt_lines costs.now)) }
 {
     put(into, TYPES)?;
     put_cost(into, b"assign_cost", costs.assign)?;

@@ -1,13 +1,17 @@
 //! Ada programs as text.
 //!
 //! It stands on the programs of `ada_tree`, on the layout of `seq_tree` and on the printer of blocks of `seq_print`.
-//! `print_ada` carries its promise: exactly the lines of a program are added to a text, or nothing is. `reads_back` is its law:
-//! the text of a program reads back as the tokens of the program.
+//! `print_ada` carries its promise: exactly the text of a program is added to a text, or nothing is. `reads_back` is its law:
+//! the text of a proper program, within its limit of bytes, reads as the same program.
 #![tactic(auto)]
 
 mod costs;
+mod heads;
 mod law;
+mod operations;
 mod program;
+mod requests;
+mod tasks;
 mod units;
 
 pub use law::reads_back;

@@ -1,13 +1,12 @@
-ghost use Rattle.std.specs.Prelude.{◌≡◌, map};
+ghost use Rattle.std.specs.Prelude.{◌≡◌};
 ghost use Rattle.seq_tree.specs.Layout.{layout};
-ghost use Rattle.ada_tree.specs.InUse.{IsUsableProgram};
 ghost use Rattle.ada_tree.specs.Spelling.{program_lines};
-ghost use Rattle.ada_tree.specs.Trees.{program_of, unit_of};
-ghost use Rattle.seq_print.specs.Printing.{Adds, Prints};
-ghost use Rattle.ada_print.specs.Parts.{ArePrintable, body_lines, closing_lines, opening_lines, package_lines};
+ghost use Rattle.ada_tree.specs.Trees.{program_of};
+ghost use Rattle.seq_print.specs.Printing.{Prints, Writes};
+ghost use Rattle.ada_print.specs.Parts.{body_lines, closing_lines, opening_lines, package_lines};
 
 use crate::costs::add_hrt;
-use crate::units::{add_bodies, add_specifications};
+use crate::units::{add_specifications, add_unit_bodies};
 use ada_tree::AdaProgram;
 use seq_print::{put, put_name};
 use seq_tree::{Name, NoMemory};
@@ -24,21 +23,21 @@ const MAIN: &[u8] = b";\nprocedure hrt_main is\nbegin\n   null;\nend hrt_main;\n
 
 /// Adds what stands before package `hrt`.
 fn add_opening(into: &mut Vec<u8>) -> Result<(), NoMemory>
-    ensures { Adds result into.old.items into.new.items (layout opening_lines) }
+    ensures { Writes result into.old.items into.new.items (layout opening_lines) }
 {
     put(into, OPENING)
 }
 
 /// Adds what stands between package `hrt` and the specifications of the units.
 fn add_package(name: &Name, into: &mut Vec<u8>) -> Result<(), NoMemory>
-    ensures { Adds result into.old.items into.new.items (layout (package_lines name.now)) }
+    ensures { Writes result into.old.items into.new.items (layout (package_lines name.now)) }
 {
     put_name(into, b"with hrt;\nuse hrt;\npackage ", name, b" is\n")
 }
 
 /// Adds what stands between the specifications of the units and their bodies.
 fn add_package_body(name: &Name, into: &mut Vec<u8>) -> Result<(), NoMemory>
-    ensures { Adds result into.old.items into.new.items (layout (body_lines name.now)) }
+    ensures { Writes result into.old.items into.new.items (layout (body_lines name.now)) }
 {
     put_name(into, b"end ", name, b";\n")?;
     put_name(into, b"package body ", name, b" is\n")
@@ -46,7 +45,7 @@ fn add_package_body(name: &Name, into: &mut Vec<u8>) -> Result<(), NoMemory>
 
 /// Adds what stands behind the bodies of the units.
 fn add_closing(name: &Name, into: &mut Vec<u8>) -> Result<(), NoMemory>
-    ensures { Adds result into.old.items into.new.items (layout (closing_lines name.now)) }
+    ensures { Writes result into.old.items into.new.items (layout (closing_lines name.now)) }
 {
     put_name(into, b"end ", name, b";\n")?;
     put_name(into, b"with ", name, MAIN)
@@ -54,22 +53,20 @@ fn add_closing(name: &Name, into: &mut Vec<u8>) -> Result<(), NoMemory>
 
 /// Adds the lines of a program.
 fn add_program(alloc: Global, program: &AdaProgram, into: &mut Vec<u8>) -> Result<(), NoMemory>
-    requires { ArePrintable (map unit_of program.now.units.items) }
-    ensures { Adds result into.old.items into.new.items (layout (program_lines (program_of program.now))) }
+    ensures { Writes result into.old.items into.new.items (layout (program_lines (program_of program.now))) }
 {
     add_opening(into)?;
     add_hrt(&program.costs, into)?;
     add_package(&program.name, into)?;
-    add_specifications(program, into)?;
+    add_specifications(&program.units, into)?;
     add_package_body(&program.name, into)?;
-    add_bodies(alloc, program, into)?;
+    add_unit_bodies(alloc, &program.units, into)?;
     add_closing(&program.name, into)
 }
 
-/// Adds the text of a program of one cyclic unit without data, whose statements are `null;` and `work (n);`. After `NoMemory`
-/// `into` is as it was.
+/// Adds the text of a program: the pragmas, package `hrt` with the costs, the specifications of all units, their bodies in the same
+/// order, and the main procedure. No rules are checked. After `NoMemory` `into` is as it was.
 pub fn print_ada(alloc: Global, program: &AdaProgram, into: &mut Vec<u8>) -> Result<(), NoMemory>
-    requires { IsUsableProgram (program_of program.now) }
     ensures { Prints result into.old.items into.new.items (layout (program_lines (program_of program.now))) }
 {
     let mut text = Vec::new(alloc);

@@ -1,136 +1,138 @@
 ghost use Rattle.std.specs.Prelude.{◌≡◌, [], map, flat_map};
 ghost use Rattle.seq_tree.specs.Layout.{layout};
-ghost use Rattle.seq_tree.specs.Trees.{block_of};
-ghost use Rattle.ada_tree.specs.InUse.{IsUsableForm};
-ghost use Rattle.ada_tree.specs.Programs.{Cyclic};
-ghost use Rattle.ada_tree.specs.Spelling.{inner_body, inner_specification, specification_lines, task_lines, unit_body_lines};
+ghost use Rattle.seq_tree.specs.Trees.{operation_of};
+ghost use Rattle.ada_tree.specs.Programs.{Shared};
+ghost use Rattle.ada_tree.specs.Spelling.{inner_body, inner_specification, specification_lines, unit_body_lines};
 ghost use Rattle.ada_tree.specs.Trees.{form_of, unit_of};
-ghost use Rattle.seq_print.specs.Printing.{Adds};
-ghost use Rattle.ada_print.specs.Parts.{ArePrintable};
+ghost use Rattle.seq_print.specs.Printing.{Writes};
 
-use ada_tree::{AdaProgram, Form, Unit};
-use seq_print::{print_block, put, put_name, put_number};
-use seq_tree::{Block, NoMemory};
+use crate::heads::{add_data, add_declarations, add_renamings};
+use crate::operations::add_bodies;
+use crate::requests::{add_sporadic, add_sporadic_head};
+use crate::tasks::{add_cyclic, add_task};
+use ada_tree::{Form, Unit};
+use seq_print::{put, put_name, put_number};
+use seq_tree::{Datum, NoMemory, OpText};
 use std::alloc::Global;
 
-/// What the declaration of a task has before its priority.
-const TASK: &[u8] = b"      task hrt_thread is\n         pragma priority (";
+/// What a protected unit declares before its ceiling.
+const OBJECT: &[u8] = b"      protected hrt_object is\n         pragma priority (";
 
-/// What the body of a cyclic unit has before its offset.
-const FIRST: &[u8] =
-    b"      task body hrt_thread is\n         hrt_next : hrt.moment := hrt.after (hrt.epoch, ";
-
-/// What it has between its offset and its period.
-const NEXT: &[u8] = b");
-      begin
-         loop
-            delay until hrt_next;
-";
-
-/// What it has behind its statements.
-const LAST: &[u8] = b"            activation_end;\n         end loop;\n      end hrt_thread;\n";
-
-/// Adds the declaration of a task.
-fn add_task(priority: u32, into: &mut Vec<u8>) -> Result<(), NoMemory>
-    ensures { Adds result into.old.items into.new.items (layout (task_lines priority)) }
+/// Adds what stands in the specification of a protected unit.
+fn add_shared_head(
+    ceiling: u32,
+    vars: &[Datum],
+    ops: &[OpText],
+    into: &mut Vec<u8>,
+) -> Result<(), NoMemory>
+    ensures { Writes result into.old.items into.new.items (layout (inner_specification (Shared ceiling vars.now (map operation_of ops.now)))) }
 {
-    put_number(into, TASK, priority, b");\n      end hrt_thread;\n")
+    put_number(into, OBJECT, ceiling, b");\n")?;
+    add_declarations(ops, 3, into)?;
+    put(into, b"      private\n")?;
+    add_data(vars, 3, into)?;
+    put(into, b"      end hrt_object;\n")?;
+    add_renamings(ops, into)
+}
+
+/// Adds what stands in the body of a protected unit.
+fn add_shared(alloc: Global, ops: &[OpText], into: &mut Vec<u8>) -> Result<(), NoMemory>
+    ensures { Writes result into.old.items into.new.items (layout (inner_body (Shared 0 [] (map operation_of ops.now)))) }
+{
+    put(into, b"      protected body hrt_object is\n")?;
+    add_bodies(alloc, ops, 3, into)?;
+    put(into, b"      end hrt_object;\n")
 }
 
 /// Adds what stands in the specification of a unit.
-fn add_inner_specification(form: &Form, into: &mut Vec<u8>) -> Result<(), NoMemory>
-    requires { IsUsableForm (form_of form.now) }
-    ensures { Adds result into.old.items into.new.items (layout (inner_specification (form_of form.now))) }
+fn add_inner_head(form: &Form, into: &mut Vec<u8>) -> Result<(), NoMemory>
+    ensures { Writes result into.old.items into.new.items (layout (inner_specification (form_of form.now))) }
 {
     match form {
+        Form::Passive { ops } => add_declarations(ops, 2, into),
+        Form::Shared { ceiling, vars, ops } => add_shared_head(*ceiling, vars, ops, into),
         Form::Cyclic { priority, .. } => add_task(*priority, into),
-        Form::Passive { .. } => unreachable!(),
-        Form::Shared { .. } => unreachable!(),
-        Form::Sporadic { .. } => unreachable!(),
+        Form::Sporadic {
+            priority,
+            ceiling,
+            op,
+            separation,
+            jitter,
+            external,
+            ..
+        } => add_sporadic_head(
+            *priority,
+            *ceiling,
+            op,
+            *separation,
+            *jitter,
+            *external,
+            into,
+        ),
     }
 }
 
 /// Adds the specification of a unit.
 fn add_specification(unit: &Unit, into: &mut Vec<u8>) -> Result<(), NoMemory>
-    requires { IsUsableForm (form_of unit.now.form) }
-    ensures { Adds result into.old.items into.new.items (layout (specification_lines (unit_of unit.now))) }
+    ensures { Writes result into.old.items into.new.items (layout (specification_lines (unit_of unit.now))) }
 {
     put_name(into, b"   package ", &unit.name, b" is\n")?;
-    add_inner_specification(&unit.form, into)?;
+    add_inner_head(&unit.form, into)?;
     put_name(into, b"   end ", &unit.name, b";\n")
 }
 
-/// Adds the specifications of the units.
-pub(crate) fn add_specifications(program: &AdaProgram, into: &mut Vec<u8>) -> Result<(), NoMemory>
-    requires { ArePrintable (map unit_of program.now.units.items) }
-    ensures { Adds result into.old.items into.new.items (layout (flat_map specification_lines (map unit_of program.now.units.items))) }
+/// Adds the specifications of units.
+pub(crate) fn add_specifications(units: &[Unit], into: &mut Vec<u8>) -> Result<(), NoMemory>
+    ensures { Writes result into.old.items into.new.items (layout (flat_map specification_lines (map unit_of units.now))) }
 {
-    'units: for unit in &program.units {
+    'units: for unit in units {
         add_specification(unit, into)?;
     }
     Ok(())
 }
 
-/// Adds the body of a task with its loop.
-fn add_loop(
-    alloc: Global,
-    offset: u32,
-    period: u32,
-    block: &Block,
-    into: &mut Vec<u8>,
-) -> Result<(), NoMemory>
-    ensures { Adds result into.old.items into.new.items (layout (inner_body (Cyclic 0 offset period [] (block_of block.now)))) }
-{
-    put_number(into, FIRST, offset, NEXT)?;
-    put_number(
-        into,
-        b"            hrt_next := hrt.after (hrt_next, ",
-        period,
-        b");\n",
-    )?;
-    print_block(alloc, block, 4, into)?;
-    put(into, LAST)
-}
-
 /// Adds what stands in the body of a unit.
 fn add_inner_body(alloc: Global, form: &Form, into: &mut Vec<u8>) -> Result<(), NoMemory>
-    requires { IsUsableForm (form_of form.now) }
-    ensures { Adds result into.old.items into.new.items (layout (inner_body (form_of form.now))) }
+    ensures { Writes result into.old.items into.new.items (layout (inner_body (form_of form.now))) }
 {
     match form {
+        Form::Passive { ops } => add_bodies(alloc, ops, 2, into),
+        Form::Shared { ops, .. } => add_shared(alloc, ops, into),
         Form::Cyclic {
             offset,
             period,
+            vars,
             block,
             ..
-        } => add_loop(alloc, *offset, *period, block, into),
-        Form::Passive { .. } => unreachable!(),
-        Form::Shared { .. } => unreachable!(),
-        Form::Sporadic { .. } => unreachable!(),
+        } => add_cyclic(alloc, *offset, *period, vars, block, into),
+        Form::Sporadic {
+            op,
+            vars,
+            block,
+            ..
+        } => add_sporadic(alloc, op, vars, block, into),
     }
 }
 
 /// Adds the body of a unit.
-fn add_body(alloc: Global, unit: &Unit, into: &mut Vec<u8>) -> Result<(), NoMemory>
-    requires { IsUsableForm (form_of unit.now.form) }
-    ensures { Adds result into.old.items into.new.items (layout (unit_body_lines (unit_of unit.now))) }
+fn add_unit_body(alloc: Global, unit: &Unit, into: &mut Vec<u8>) -> Result<(), NoMemory>
+    ensures { Writes result into.old.items into.new.items (layout (unit_body_lines (unit_of unit.now))) }
 {
     put_name(into, b"   package body ", &unit.name, b" is\n")?;
     add_inner_body(alloc, &unit.form, into)?;
     put_name(into, b"   end ", &unit.name, b";\n")
 }
 
-/// Adds the bodies of the units.
-pub(crate) fn add_bodies(
+/// Adds the bodies of units.
+pub(crate) fn add_unit_bodies(
     alloc: Global,
-    program: &AdaProgram,
+    units: &[Unit],
     into: &mut Vec<u8>,
 ) -> Result<(), NoMemory>
-    requires { ArePrintable (map unit_of program.now.units.items) }
-    ensures { Adds result into.old.items into.new.items (layout (flat_map unit_body_lines (map unit_of program.now.units.items))) }
+    ensures { Writes result into.old.items into.new.items (layout (flat_map unit_body_lines (map unit_of units.now))) }
 {
-    'units: for unit in &program.units {
-        add_body(alloc, unit, into)?;
+    'units: for unit in units {
+        add_unit_body(alloc, unit, into)?;
     }
     Ok(())
 }

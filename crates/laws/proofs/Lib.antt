@@ -5,6 +5,7 @@ pub mod OneProgram
 pub mod ReadTokens
 pub mod TextSizes
 pub mod Comments
+pub mod LoneLines
 pub mod LoneTexts
 pub mod DesignTokens
 pub mod CyclicShape

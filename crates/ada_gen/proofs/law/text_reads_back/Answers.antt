@@ -2,4 +2,4 @@ use Rattle.ada_gen.proofs.HeadLaws.{text-back}
 use Rattle.ada_gen.proofs.law.text_reads_back.Goals as goal
 
 pub returns : goal.returns
-returns c f r places bounds usable ok w = text-back f r places bounds usable ok w
+returns c f r places bounds ok w = text-back f r places bounds ok w

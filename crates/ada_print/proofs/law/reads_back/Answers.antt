@@ -1,12 +1,13 @@
-use Rattle.ada_tree.specs.Spelling.{program_lines}
+use Rattle.std.proofs.Common.{[], refl}
+use Rattle.ada_tree.specs.Spelling.{program_lines, program_tokens}
 use Rattle.seq_print.proofs.BackLaws.{reads-back}
-use Rattle.ada_print.proofs.RangeLaws.{meets-writable}
-use Rattle.ada_print.proofs.ReadLaws.{program-ok}
+use Rattle.seq_print.proofs.TokenForms.{tokens-readable}
+use Rattle.ada_print.proofs.ApartLines.{program-ok}
 use Rattle.ada_print.proofs.law.reads_back.Goals as goal
 
 pub returns : goal.returns
 returns c = record {
-  writable = λ p usable meets named. meets-writable p usable meets named;
-  lines = λ p usable ok. program-ok p usable ok;
-  tokens = λ p comments usable ok are. reads-back (program_lines p) comments (program-ok p usable ok) are;
+  reads = λ p proper ok within. record { within = within; proper = proper; spelled = reads-back (program_lines p) [] (program-ok p ok) refl };
+  tokens = λ p comments ok are. reads-back (program_lines p) comments (program-ok p ok) are;
+  writable = λ text p r. tokens-readable text (program_tokens p) r.spelled;
 }

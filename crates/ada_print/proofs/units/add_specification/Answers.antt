@@ -1,17 +1,11 @@
 use Rattle.ada_tree.specs.Trees.{unit_of}
-use Rattle.seq_print.proofs.Chains.{adds-front, adds-same, adds-then, front-longer, front-same, front-then}
-use Rattle.ada_print.proofs.Layouts.{specification-unit}
+use Rattle.seq_print.proofs.Chains.{writes-added, writes-same, writes-then}
+use Rattle.ada_print.proofs.Layouts.{specification-text}
 use Rattle.ada_print.proofs.units.add_specification.Goals as goal
 
 pub returns : goal.returns
 returns c =
-    adds-same _ _ _ _ _ (specification-unit (unit_of c.args.unit.now))
-    (adds-then _ _ _ _ _ _ c.in_ok-put_name.ensures (adds-then _ _ _ _ _ _ c.in_ok-add_inner_specification.ensures c.put_name-2.ensures))
-
-pub returns-in_err-put_name : goal.returns-in_err-put_name
-returns-in_err-put_name c =
-    adds-front _ _ _ _ c.from_residual.ensures.0 (front-same _ _ _ _ (specification-unit (unit_of c.args.unit.now)) (front-longer _ _ _ _ c.in_err-put_name.ensures))
-
-pub returns-in_err-add_inner_specification : goal.returns-in_err-add_inner_specification
-returns-in_err-add_inner_specification c =
-    adds-front _ _ _ _ c.from_residual-in_err-add_inner_specification.ensures.0 (front-same _ _ _ _ (specification-unit (unit_of c.args.unit.now)) (front-then _ _ _ _ _ c.in_ok-put_name.ensures (front-longer _ _ _ _ c.in_err-add_inner_specification.ensures)))
+    writes-same _ c.args.into.now.items _ _ _ (specification-text (unit_of c.args.unit.now))
+    (writes-then _ c.args.into.now.items c.put_name.new.into.items _ _ _ c.in_ok-put_name.ensures
+    (writes-then _ c.put_name.new.into.items c.add_inner_head.new.into.items _ _ _ c.in_ok-add_inner_head.ensures
+    (writes-added _ _ _ _ c.put_name-2.ensures)))

@@ -1,5 +1,6 @@
--- The lines of a program whose names and numbers can be read are readable, so that its text reads back as its tokens.
-use Rattle.std.proofs.Common.{◌≡◌, ℕ, true, ◌&&◌, List, [], ◌∷◌, ◌++◌, codes, flat_map, refl, ◌∙◌}
+-- The lines of a program of one cyclic unit without data are readable where its names and numbers can be read.
+use Rattle.std.proofs.Common.{◌≡◌, ℕ, Bool, true, ◌&&◌, List, [], ◌∷◌, ◌++◌, codes, flat_map, refl, ◌∙◌}
+use Rattle.std.specs.Prelude.{⊤}
 use Rattle.std.specs.List.{list_all}
 use Rattle.std.proofs.lemmas.Bool.{and_from, and_parts}
 use Rattle.std.proofs.lemmas.List.Folds.{list_all-append}
@@ -13,8 +14,32 @@ use Rattle.seq_print.specs.Readable.{are_readable, is_readable_line}
 use Rattle.ada_tree.specs.InUse.{IsUsableBlock, IsUsableForm, IsUsableProgram, AreUsableUnits}
 use Rattle.ada_tree.specs.Programs.{Form, Unit, Program, Cyclic}
 use Rattle.ada_tree.specs.Spelling.{constant_line, hrt_lines, inner_body, inner_specification, program_lines, specification_lines, unit_body_lines, end_line}
-use Rattle.ada_print.specs.Parts.{ArePrintable, body_lines, closing_lines, opening_lines, package_lines}
-use Rattle.ada_print.specs.Writable.{are_costs_writable, is_block_writable, is_form_writable, is_number, is_word, is_writable}
+use Rattle.ada_print.specs.Parts.{body_lines, closing_lines, opening_lines, package_lines}
+use Rattle.ada_print.specs.Writable.{is_number, is_word}
+
+-- whether the costs can be read
+abbrev pub are_costs_writable : Costs → Bool
+are_costs_writable c = list_all is_number (c.assign ∷ c.test ∷ c.turn ∷ c.call ∷ c.nothing ∷ c.put ∷ c.finish ∷ [])
+
+-- whether the numbers of a block can be read, of what is built
+abbrev pub is_block_writable : Statements → Bool
+is_block_writable End = true
+is_block_writable (Then (Work ticks) rest) = is_number ticks && is_block_writable rest
+is_block_writable (Then _ rest) = is_block_writable rest
+
+-- whether what a unit is can be read, of what is built
+abbrev is_form_writable : Form → Bool
+is_form_writable (Cyclic priority offset period vars block) = list_all is_number (priority ∷ offset ∷ period ∷ []) && is_block_writable block
+is_form_writable _ = true
+
+-- whether the names and numbers of a program can be read, of what is built
+abbrev pub is_plain_writable : Program → Bool
+is_plain_writable p = is_word p.name && (are_costs_writable p.costs && list_all (λ u. is_word u.name && is_form_writable u.form) p.units)
+
+-- units that are built
+abbrev ArePlain : List Unit → Type 0
+ArePlain [] = ⊤
+ArePlain (u ∷ us) = IsUsableForm u.form × ArePlain us
 
 lines-append : (xs ys : List Line) → are_readable xs ≡ true → are_readable ys ≡ true → are_readable (xs ++ ys) ≡ true
 lines-append xs ys a b = list_all-append (λ l. is_readable_line l.tokens) xs ys ∙ and_from (are_readable xs) (are_readable ys) a b
@@ -79,7 +104,7 @@ unit_body-ok u usable w ok =
     rw w (lines-append (inner_body u.form) (end_line 1 u.name ∷ []) (inner_body-ok u.form usable ok) (end-ok 1 u.name w))
 
 units-ok : (f : Unit → List Line) → ((u : Unit) → IsUsableForm u.form → is_word u.name ≡ true → is_form_writable u.form ≡ true → are_readable (f u) ≡ true)
-    → (us : List Unit) → ArePrintable us → list_all (λ u. is_word u.name && is_form_writable u.form) us ≡ true → are_readable (flat_map f us) ≡ true
+    → (us : List Unit) → ArePlain us → list_all (λ u. is_word u.name && is_form_writable u.form) us ≡ true → are_readable (flat_map f us) ≡ true
 units-ok f each [] usable ok = refl
 units-ok f each (u ∷ us) usable ok =
     let p = and_parts (is_word u.name && is_form_writable u.form) _ ok in
@@ -95,7 +120,7 @@ body-ok name w = rw w refl
 closing-ok : (name : Name) → is_word name ≡ true → are_readable (closing_lines name) ≡ true
 closing-ok name w = rw w refl
 
-printable : (us : List Unit) → AreUsableUnits us → ArePrintable us
+printable : (us : List Unit) → AreUsableUnits us → ArePlain us
 printable [] usable = absurd usable
 printable (u ∷ []) usable = (usable, tt)
 printable (u ∷ v ∷ us) usable = absurd usable
@@ -107,8 +132,8 @@ parts-ok a b c d e f g ra rb rc rd re rf rg =
     (lines-append d (e ++ (f ++ g)) rd (lines-append e (f ++ g) re (lines-append f g rf rg)))))
 
 -- a program
-pub program-ok : (p : Program) → IsUsableProgram p → is_writable p ≡ true → are_readable (program_lines p) ≡ true
-program-ok p usable ok =
+pub plain-ok : (p : Program) → IsUsableProgram p → is_plain_writable p ≡ true → are_readable (program_lines p) ≡ true
+plain-ok p usable ok =
     let n = and_parts (is_word p.name) _ ok in
     let c = and_parts (are_costs_writable p.costs) _ n.1 in
     let us = printable p.units usable in

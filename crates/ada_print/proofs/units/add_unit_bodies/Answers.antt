@@ -1,0 +1,12 @@
+use Rattle.std.proofs.Common.{◌+◌, drop, flat_map, map}
+use Rattle.seq_tree.specs.Layout.{layout}
+use Rattle.ada_tree.specs.Spelling.{unit_body_lines}
+use Rattle.ada_tree.specs.Trees.{unit_of}
+use Rattle.ada_print.proofs.LineTurns.{groups-next, one-more}
+use Rattle.ada_print.proofs.units.add_unit_bodies.Goals as goal
+
+pub units-preserved : goal.units-preserved
+units-preserved c =
+    one-more c.units.into.items c.add_unit_body.new.into.items (layout (unit_body_lines (unit_of c.unit-item.result)))
+    (layout (flat_map unit_body_lines (map unit_of (drop (c.units.unit-index + 1) c.args.units.now)))) _ _ c.in_ok-add_unit_body.ensures
+    (groups-next unit_body_lines unit_of c.args.units.now c.units.unit-index c.unit-item.result c.units-test.true c.unit-item.is) c.units.invariant

@@ -1,0 +1,117 @@
+ghost use Rattle.std.specs.Prelude.{◌≡◌, codes, map};
+ghost use Rattle.seq_tree.specs.Layout.{layout, line_text, tokens_text};
+ghost use Rattle.seq_tree.specs.Trees.{operation_of, signature_of};
+ghost use Rattle.ada_tree.specs.Spelling.{datum_line, declaration_line, param_tokens, renaming_line};
+ghost use Rattle.seq_print.specs.Printing.{Writes};
+ghost use Rattle.ada_print.specs.Parts.{head_text, params_more, params_text};
+
+use seq_print::{put, put_indent, put_name, put_number};
+use seq_tree::{Datum, Mode, NoMemory, OpSig, OpText, Param};
+
+/// Adds a parameter.
+fn add_param(param: &Param, into: &mut Vec<u8>) -> Result<(), NoMemory>
+    ensures { Writes result into.old.items into.new.items (tokens_text (param_tokens param.now)) }
+{
+    match param.mode {
+        Mode::In => put_name(into, b"", &param.name, b" : in word"),
+        Mode::Out => put_name(into, b"", &param.name, b" : out word"),
+    }
+}
+
+/// Adds further parameters, each behind a semicolon.
+fn add_more(params: &[Param], into: &mut Vec<u8>) -> Result<(), NoMemory>
+    ensures { Writes result into.old.items into.new.items (params_more params.now) }
+{
+    'params: for param in params {
+        put(into, b"; ")?;
+        add_param(param, into)?;
+    }
+    Ok(())
+}
+
+/// Adds parameters in parentheses, where there are any, with a space before them.
+fn add_params(params: &[Param], into: &mut Vec<u8>) -> Result<(), NoMemory>
+    ensures { Writes result into.old.items into.new.items (params_text params.now) }
+{
+    match params.split_first() {
+        None => Ok(()),
+        Some((first, rest)) => {
+            put(into, b" (")?;
+            add_param(first, into)?;
+            add_more(rest, into)?;
+            put(into, b")")
+        }
+    }
+}
+
+/// Adds the head of a procedure.
+pub(crate) fn add_head(sig: &OpSig, into: &mut Vec<u8>) -> Result<(), NoMemory>
+    ensures { Writes result into.old.items into.new.items (head_text (signature_of sig.now)) }
+{
+    put(into, b"procedure ")?;
+    put(into, sig.name.bytes())?;
+    add_params(&sig.params, into)
+}
+
+/// Adds the declaration of a procedure.
+pub(crate) fn add_declaration(sig: &OpSig, level: u32, into: &mut Vec<u8>) -> Result<(), NoMemory>
+    ensures { Writes result into.old.items into.new.items (line_text (declaration_line level (signature_of sig.now))) }
+{
+    put_indent(into, level)?;
+    add_head(sig, into)?;
+    put(into, b";\n")
+}
+
+/// Adds the declarations of procedures.
+pub(crate) fn add_declarations(
+    ops: &[OpText],
+    level: u32,
+    into: &mut Vec<u8>,
+) -> Result<(), NoMemory>
+    ensures { Writes result into.old.items into.new.items (layout (map (λ o. declaration_line level o.sig) (map operation_of ops.now))) }
+{
+    'ops: for op in ops {
+        add_declaration(&op.sig, level, into)?;
+    }
+    Ok(())
+}
+
+/// Adds the name by which a procedure of a protected object is called.
+pub(crate) fn add_renaming(sig: &OpSig, object: &[u8], into: &mut Vec<u8>) -> Result<(), NoMemory>
+    ensures { Writes result into.old.items into.new.items (line_text (renaming_line 2 object.now (signature_of sig.now))) }
+{
+    put(into, b"      ")?;
+    add_head(sig, into)?;
+    put(into, b" renames ")?;
+    put(into, object)?;
+    put_name(into, b".", &sig.name, b";\n")
+}
+
+/// Adds the names by which the procedures of a protected unit are called.
+pub(crate) fn add_renamings(ops: &[OpText], into: &mut Vec<u8>) -> Result<(), NoMemory>
+    ensures { Writes result into.old.items into.new.items (layout (map (λ o. renaming_line 2 (codes "hrt_object") o.sig) (map operation_of ops.now))) }
+{
+    'ops: for op in ops {
+        add_renaming(&op.sig, b"hrt_object", into)?;
+    }
+    Ok(())
+}
+
+/// Adds a variable with its first value.
+fn add_datum(datum: &Datum, level: u32, into: &mut Vec<u8>) -> Result<(), NoMemory>
+    ensures { Writes result into.old.items into.new.items (line_text (datum_line level datum.now)) }
+{
+    put_indent(into, level)?;
+    put_name(into, b"", &datum.name, b" : word := ")?;
+    put_number(into, b"", datum.value, b";\n")
+}
+
+/// Adds variables with their first values.
+pub(crate) fn add_data(vars: &[Datum], level: u32, into: &mut Vec<u8>) -> Result<(), NoMemory>
+    ensures { Writes result into.old.items into.new.items (layout (map (datum_line level) vars.now)) }
+{
+    'vars: for var in vars {
+        add_datum(var, level, into)?;
+    }
+    Ok(())
+}

@@ -10,7 +10,7 @@ cd "$top/examples"
 compare() {
     local wanted found
     wanted=$(cat)
-    found=$("$top/hrthood" "$@")
+    found=$("$top/hrthood" "$@" 2>&1) || true
     if [ "$found" != "$wanted" ]; then
         printf '%s\n' "$*: other lines than wanted" "$found" >&2
         exit 1
@@ -23,6 +23,27 @@ ok d objects 1 threads 1
 LINES
 compare check mine_pump.design <<'LINES'
 ok mine objects 12 threads 6
+LINES
+compare analyse every_kind.design <<'LINES'
+thread button priority 3 period 200 deadline 20 jitter 3 cost 6 blocking 3 response 9
+thread printer priority 2 period 100 deadline 60 jitter 26 cost 2 blocking 3 response 11
+thread sampler priority 1 period 100 deadline 80 jitter 0 cost 18 blocking 0 response 26
+ceiling board 3
+ceiling printer 2
+ceiling button 3
+LINES
+compare analyse mine_pump.design <<'LINES'
+thread ch4_sensor priority 6 period 80 deadline 30 jitter 0 cost 21 blocking 2 response 23
+thread alarm_console priority 5 period 80 deadline 50 jitter 23 cost 6 blocking 2 response 29
+thread co_sensor priority 4 period 100 deadline 60 jitter 0 cost 14 blocking 4 response 45
+thread air_flow priority 3 period 100 deadline 100 jitter 0 cost 10 blocking 4 response 55
+thread water_handler priority 2 period 6000 deadline 200 jitter 5 cost 11 blocking 4 response 72
+thread flow_sensor priority 1 period 1000 deadline 900 jitter 0 cost 15 blocking 0 response 128
+ceiling motor 6
+ceiling ch4_status 6
+ceiling data_logger 4
+ceiling water_handler 2
+ceiling alarm_console 6
 LINES
 compare generate one_cyclic_object.design <one_cyclic_task.ada
 compare replay one_cyclic_task.ada until_20.arrivals <<'LINES'
@@ -54,4 +75,7 @@ compare replay sequential_task.ada until_150.arrivals <<'LINES'
 108 put a 24
 115 end a used 15
 150 horizon
+LINES
+compare replay units_of_every_kind.ada until_150.arrivals <<'LINES'
+refused N1 q
 LINES

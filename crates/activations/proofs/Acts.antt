@@ -8,9 +8,9 @@ use Rattle.seq_tree.specs.Variables.{Variables, kept, reads}
 use Rattle.seq_tree.specs.Values.{value, holds, handed}
 use Rattle.seq_tree.specs.Runs.{Path}
 use Rattle.seq_tree.specs.declared.tree.Datum.{Datum}
-use Rattle.machine.specs.Systems.{System, Guarded, Callee, Plain, Protected, Request, Unknown, callee}
+use Rattle.machine.specs.Systems.{System, ProtectedUnit, CallTarget, Plain, Protected, Request, Unknown, callee}
 use Rattle.machine.specs.Pieces.{Piece, Idle, Store, Leaving, Calling, Working, Printing, Testing, Turning, Turned, Returning, Closing, Keeping, Opening, Requested, Finishing, after_loop}
-use Rattle.machine.specs.Deeds.{Act, Silent, Print, Enter, Leave, Ended, Finish, Deed, deed, done, called}
+use Rattle.machine.specs.Deeds.{Act, Silent, Print, Enter, Leave, Ended, Finish, PieceOutcome, deed, done, called}
 use Rattle.guarantee.specs.Steps.{Step}
 use Rattle.guarantee.specs.Events as events
 use Rattle.activations.proofs.Courses.{Course, IsApt, IsTicks, FitPieces}
@@ -28,14 +28,14 @@ silent_if false vars vars' ps ps' = refl
 pub data Source (y : System) (vars : Variables) : Piece → Act → Type 0 where
   From_quiet : {x : Piece} {a : Act} → is_quiet a ≡ true → Source y vars x a
   From_put : (e : Expression) → Source y vars (Printing e) (Print (value e vars))
-  From_entry : (unit op : Name) (actuals : List Expression) (object k : ℕ) (g : Guarded) (o : Operation) → callee y unit op ≡ Protected object k g o
+  From_entry : (unit op : Name) (actuals : List Expression) (object k : ℕ) (g : ProtectedUnit) (o : Operation) → callee y unit op ≡ Protected object k g o
       → Source y vars (Calling unit op actuals) (Enter object k (handed o.sig.params actuals vars))
   From_leave : (object op : ℕ) (data' : List Datum) (outs stores : List Name) (caller : Variables)
       → Source y vars (Closing object op data' outs stores caller) (Leave object op (reads outs vars) (kept data' vars))
   From_ended : (task : ℕ) (v : Option ℕ) → Source y vars (Requested task v) (Ended task v)
   From_finish : Source y vars Finishing Finish
 
-source_call : (y : System) (vars : Variables) (unit op : Name) (actuals : List Expression) (rest : List Piece) (k : Callee) → callee y unit op ≡ k
+source_call : (y : System) (vars : Variables) (unit op : Name) (actuals : List Expression) (rest : List Piece) (k : CallTarget) → callee y unit op ≡ k
     → Source y vars (Calling unit op actuals) ((called k actuals vars rest).act)
 source_call y vars unit op actuals rest (Plain o) leads = From_quiet refl
 source_call y vars unit op actuals rest (Protected object k g o) leads = From_entry unit op actuals object k g o leads
@@ -64,7 +64,7 @@ apart : (a b : Act) → is_quiet a ≡ true → a ≡ b → is_quiet b ≡ false
 apart a b e same f = true≢false (sym e ∙ ap is_quiet same ∙ f)
 
 module _ (c : Course) (apt : IsApt c) (Over : Claim) where
-  abbrev after : Piece → Variables → List Piece → Deed
+  abbrev after : Piece → Variables → List Piece → PieceOutcome
   after x vars rest = done c.system x vars rest
 
   print_by : (x : Piece) (a : Act) (vars : Variables) (rest : List Piece) (s : Step) (ss : List Step) (n ticks v : ℕ) → Source c.system vars x a → a ≡ Print v
@@ -127,14 +127,14 @@ module _ (c : Course) (apt : IsApt c) (Over : Claim) where
   pub record Enters (x : Piece) (vars : Variables) (rest : List Piece) (time ticks object op : ℕ) (values : List ℕ) (data' : Variables) (ss : List Step) : Type 0 where
     pub unit : Name
     pub name : Name
-    pub guarded : Guarded
+    pub guarded : ProtectedUnit
     pub operation : Operation
     pub leads : callee c.system unit name ≡ Protected object op guarded operation
     pub body : Path
     pub ahead : (n : ℕ) → IsTicks c.system.costs x n → Ahead c Over vars (x ∷ rest) (enters time (c.op_name object op) values body ∷ ss) (n + ticks)
     pub passes : Passes c operation data' values (c.op_name object op) ss body
 
-  enter_at : (vars : Variables) (rest : List Piece) (time ticks object op k j : ℕ) (values : List ℕ) (data' : Variables) (ss : List Step) (unit name : Name) (actuals : List Expression) (g : Guarded) (o : Operation)
+  enter_at : (vars : Variables) (rest : List Piece) (time ticks object op k j : ℕ) (values : List ℕ) (data' : Variables) (ss : List Step) (unit name : Name) (actuals : List Expression) (g : ProtectedUnit) (o : Operation)
       → callee c.system unit name ≡ Protected k j g o → k ≡ object → j ≡ op → handed o.sig.params actuals vars ≡ values → FitPieces c.Good (Calling unit name actuals ∷ rest)
       → Ahead c Over ((called (Protected k j g o) actuals vars rest).vars ++ data') ((called (Protected k j g o) actuals vars rest).pieces) ss ticks
       → Enters (Calling unit name actuals) vars rest time ticks object op values data' ss

@@ -10,7 +10,7 @@ use Rattle.seq_tree.specs.Values.{value, holds}
 use Rattle.seq_tree.specs.Runs.{Action, Path, silent, joined, Called, RunBlock, Run, BeginsScript}
 use Rattle.seq_tree.specs.Runs as runs
 use Rattle.seq_tree.specs.declared.tree.Datum.{Datum}
-use Rattle.machine.specs.Systems.{Callee, Plain, Protected, Request, Unknown, callee}
+use Rattle.machine.specs.Systems.{CallTarget, Plain, Protected, Request, Unknown, callee}
 use Rattle.machine.specs.Pieces.{Piece, Idle, Store, Leaving, Calling, Working, Printing, Testing, Turning, Turned, Returning, Closing, Keeping, Opening, Requested, Finishing, pieces, branch_pieces, after_loop}
 use Rattle.machine.specs.Deeds.{Act, Silent, Ask, Keep, Open, done, called, deed}
 use Rattle.guarantee.specs.Events.{Deed, Leave, Request, Print}
@@ -87,7 +87,7 @@ is_quiet (Keep task v) = true
 is_quiet (Open task) = true
 is_quiet _ = false
 
-quiet_call : (c : Course) → IsApt c → (Over : Claim) (unit op : Name) (actuals : List Expression) (rest : List Piece) (vars : Variables) (ss : List steps.Step) (n ticks : ℕ) (k : Callee)
+quiet_call : (c : Course) → IsApt c → (Over : Claim) (unit op : Name) (actuals : List Expression) (rest : List Piece) (vars : Variables) (ss : List steps.Step) (n ticks : ℕ) (k : CallTarget)
     → callee c.system unit op ≡ k → c.Good unit op → n ≡ c.system.costs.call → is_quiet ((called k actuals vars rest).act) ≡ true
     → Ahead c Over ((called k actuals vars rest).vars) ((called k actuals vars rest).pieces) ss ticks → Ahead c Over vars (Calling unit op actuals ∷ rest) ss (n + ticks)
 quiet_call c apt Over unit op actuals rest vars ss n ticks (Plain o) leads good e quiet h =

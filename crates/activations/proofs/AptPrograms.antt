@@ -15,7 +15,7 @@ use Rattle.arrivals_tree.specs.Arriving.{Arrivals}
 use Rattle.trace_tree.specs.Lines.{unit_name, unit_ops}
 use Rattle.guarantee.specs.Events.{op_at}
 use Rattle.guarantee.specs.Software.{program_software, leads_to}
-use Rattle.machine.specs.Systems.{System, system, Guarded, Thread, Callee, Protected, Request, callee}
+use Rattle.machine.specs.Systems.{System, system, ProtectedUnit, TaskUnit, CallTarget, Protected, Request, callee}
 use Rattle.machine.specs.Effects.{object_unit, task_unit}
 use Rattle.activations.proofs.Courses.{IsApt, IsFitCallee, FitBlock, seen}
 use Rattle.activations.proofs.Programs.{entry_name, request_name, asked_op, IsKnown, Leads, course}
@@ -37,14 +37,14 @@ module _ (p : Program) (a : Arrivals) (meets : MeetsRules p) where
   resolved unit op = resolve p a unit op far
 
   -- the texts agree
-  leads_by : (unit op : Name) (k : Callee) (r : runs.Callee) → Resolved p y unit op k r → r ≡ seen k
+  leads_by : (unit op : Name) (k : CallTarget) (r : runs.Callee) → Resolved p y unit op k r → r ≡ seen k
   leads_by unit op k r (No_one none) = refl
   leads_by unit op k r (One_plain i u ops j o at form op_at' named op_named) = refl
   leads_by unit op k r (One_protected i u ceiling vars ops object j g o at form op_at' named op_named stands unit_at) = refl
   leads_by unit op k r (One_request i u task th at named stands unit_at asked) = refl
 
   -- a call that is offered leads somewhere
-  known_by : (unit op : Name) (k : Callee) (r : runs.Callee) → Resolved p y unit op k r → (o : Offer) → find (is_offer unit op) (offers p) ≡ Some o → IsKnown k
+  known_by : (unit op : Name) (k : CallTarget) (r : runs.Callee) → Resolved p y unit op k r → (o : Offer) → find (is_offer unit op) (offers p) ≡ Some o → IsKnown k
   known_by unit op k r (No_one none) o e = absurd (none-some o (sym none ∙ e))
   known_by unit op k r (One_plain i u ops j q at form op_at' named op_named) o e = tt
   known_by unit op k r (One_protected i u ceiling vars ops object j g q at form op_at' named op_named stands unit_at) o e = tt
@@ -59,7 +59,7 @@ module _ (p : Program) (a : Arrivals) (meets : MeetsRules p) where
   op_fits i u f ops j o at form are op_at' =
       body_fits p meets (Leads y) known i u j (op_body o) at (ap (λ f. slice_get (bodies f) j) form ∙ ap (λ bs. slice_get bs j) are ∙ slice_get-map op_body ops j ∙ ap (option_map op_body) op_at')
 
-  closed_by : (unit op : Name) (k : Callee) (r : runs.Callee) → Resolved p y unit op k r → IsKnown k → IsFitCallee (Leads y) k
+  closed_by : (unit op : Name) (k : CallTarget) (r : runs.Callee) → Resolved p y unit op k r → IsKnown k → IsFitCallee (Leads y) k
   closed_by unit op k r (No_one none) e = e
   closed_by unit op k r (One_plain i u ops j o at form op_at' named op_named) e = op_fits i u (Passive ops) ops j o at form refl op_at'
   closed_by unit op k r (One_protected i u ceiling vars ops object j g o at form op_at' named op_named stands unit_at) e = op_fits i u (Shared ceiling vars ops) ops j o at form refl op_at'
@@ -75,7 +75,7 @@ module _ (p : Program) (a : Arrivals) (meets : MeetsRules p) where
   same_names : (object object' op op' : Name) → object ≡ object' → op ≡ op' → (let n : OpName = record { object = object; op = op } in n) ≡ record { object = object'; op = op' }
   same_names object object' op op' e f = ap (λ x. let n : OpName = record { object = x; op = op } in n) e ∙ ap (λ x. record { object = object'; op = x }) f
 
-  entries_by : (unit op : Name) (k : Callee) (r : runs.Callee) → Resolved p y unit op k r → (object j : ℕ) (g : Guarded) (o : Operation) → k ≡ Protected object j g o
+  entries_by : (unit op : Name) (k : CallTarget) (r : runs.Callee) → Resolved p y unit op k r → (object j : ℕ) (g : ProtectedUnit) (o : Operation) → k ≡ Protected object j g o
       → entry_name p y object j ≡ record { object = unit; op = op }
   entries_by unit op k r (No_one none) object j g o e = absurd cc
   entries_by unit op k r (One_plain i u ops j' o' at form op_at' named op_named) object j g o e = absurd cc
@@ -83,19 +83,19 @@ module _ (p : Program) (a : Arrivals) (meets : MeetsRules p) where
   entries_by unit op k r (One_protected i u ceiling vars ops object' j' g' o' at form op_at' named op_named stands unit_at) object j g o e =
       let same_object : object' ≡ object = cc in
       let same_op : j' ≡ j = cc in
-      let unit_is : object_unit y object' ≡ i = ap (λ x. unwrap_or (option_map (λ (g : Guarded). g.unit) x) 0) stands ∙ unit_at in
+      let unit_is : object_unit y object' ≡ i = ap (λ x. unwrap_or (option_map (λ (g : ProtectedUnit). g.unit) x) 0) stands ∙ unit_at in
       ap (λ n. entry_name p y n j) (sym same_object) ∙ ap (entry_name p y object') (sym same_op)
       ∙ ap (λ n. op_at p n j') unit_is
       ∙ same_names (unit_name p i) unit _ op (name-at p i u at ∙ named) (op_name_at i u ceiling vars ops j' o' at form op_at' ∙ op_named)
 
-  requests_by : (unit op : Name) (k : Callee) (r : runs.Callee) → Resolved p y unit op k r → (task : ℕ) → k ≡ Request task → request_name p y task ≡ record { object = unit; op = op }
+  requests_by : (unit op : Name) (k : CallTarget) (r : runs.Callee) → Resolved p y unit op k r → (task : ℕ) → k ≡ Request task → request_name p y task ≡ record { object = unit; op = op }
   requests_by unit op k r (No_one none) task e = absurd cc
   requests_by unit op k r (One_plain i u ops j' o' at form op_at' named op_named) task e = absurd cc
   requests_by unit op k r (One_protected i u ceiling vars ops object j g o at form op_at' named op_named stands unit_at) task e = absurd cc
   requests_by unit op k r (One_request i u task' th at named stands unit_at asked) task e =
       let same : task' ≡ task = cc in
-      let unit_is : task_unit y task' ≡ i = ap (λ x. unwrap_or (option_map (λ (t : Thread). t.unit) x) 0) stands ∙ unit_at in
-      let op_is : asked_op y task' ≡ op = ap (λ x. unwrap_or (option_map (λ (t : Thread). asked_by t.timing) x) []) stands ∙ asked in
+      let unit_is : task_unit y task' ≡ i = ap (λ x. unwrap_or (option_map (λ (t : TaskUnit). t.unit) x) 0) stands ∙ unit_at in
+      let op_is : asked_op y task' ≡ op = ap (λ x. unwrap_or (option_map (λ (t : TaskUnit). asked_by t.timing) x) []) stands ∙ asked in
       ap (request_name p y) (sym same) ∙ same_names (unit_name p (task_unit y task')) unit (asked_op y task') op (ap (unit_name p) unit_is ∙ name-at p i u at ∙ named) op_is
 
   -- the setting is apt

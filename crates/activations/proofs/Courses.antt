@@ -9,7 +9,7 @@ use Rattle.seq_tree.specs.Runs.{Path, Setting, RunBody}
 use Rattle.seq_tree.specs.Runs as runs
 use Rattle.seq_tree.specs.declared.tree.Costs.{Costs}
 use Rattle.seq_tree.specs.declared.tree.OpName.{OpName}
-use Rattle.machine.specs.Systems.{System, Guarded, Callee, Plain, Protected, Request, Unknown, callee}
+use Rattle.machine.specs.Systems.{System, ProtectedUnit, CallTarget, Plain, Protected, Request, Unknown, callee}
 use Rattle.program_calls.proofs.Depths.{IsDeep}
 use Rattle.program_calls.proofs.Passives.{passive_calls}
 use Rattle.machine.specs.Pieces.{Piece, Leaving, Calling, Working, Testing, Turning, Turned, ticks_of}
@@ -26,7 +26,7 @@ pub record Course : Type 1 where
   pub MayCut : Type 0
 
 -- what a call leads to, as runs see it
-abbrev pub seen : Callee → runs.Callee
+abbrev pub seen : CallTarget → runs.Callee
 seen (Plain o) = runs.Plain o
 seen (Protected object op g o) = runs.Protected o.sig.params
 seen (Request task) = runs.Asked
@@ -55,7 +55,7 @@ abbrev mutual
   FitBranches Good within (When condition block others) = FitBlock Good within block × FitBranches Good within others
 
 -- what a good call leads to
-abbrev pub IsFitCallee : (Name → Name → Type 0) → Callee → Type 0
+abbrev pub IsFitCallee : (Name → Name → Type 0) → CallTarget → Type 0
 IsFitCallee Good (Plain o) = FitBlock Good false o.block
 IsFitCallee Good (Protected object op g o) = FitBlock Good false o.block
 IsFitCallee Good (Request task) = ⊤
@@ -64,7 +64,7 @@ IsFitCallee Good Unknown = ⊥
 -- a setting whose names and calls are those of its system, and whose good calls lead to what is fit, passive ones in no ring
 pub record IsApt (c : Course) : Type 0 where
   pub leads : (unit op : Name) → c.calls unit op ≡ seen (callee c.system unit op)
-  pub entries : (unit op : Name) (object k : ℕ) (g : Guarded) (o : Operation)
+  pub entries : (unit op : Name) (object k : ℕ) (g : ProtectedUnit) (o : Operation)
       → callee c.system unit op ≡ Protected object k g o → c.op_name object k ≡ record { object = unit; op = op }
   pub requests : (unit op : Name) (task : ℕ) → callee c.system unit op ≡ Request task → c.request_name task ≡ record { object = unit; op = op }
   pub closed : (unit op : Name) → c.Good unit op → IsFitCallee c.Good (callee c.system unit op)

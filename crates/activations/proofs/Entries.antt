@@ -11,7 +11,7 @@ use Rattle.seq_tree.specs.Values.{handed}
 use Rattle.seq_tree.specs.Runs.{Action, Path, silent, joined, Called, Chosen, RunBlock, Run, BeginsScript}
 use Rattle.seq_tree.specs.Runs as runs
 use Rattle.seq_tree.specs.declared.tree.OpName.{OpName}
-use Rattle.machine.specs.Systems.{Guarded, Protected, callee}
+use Rattle.machine.specs.Systems.{ProtectedUnit, Protected, callee}
 use Rattle.machine.specs.Pieces.{Piece, Calling, Closing, Finishing, pieces}
 use Rattle.guarantee.specs.Events.{Deed, Enter, Leave}
 use Rattle.guarantee.specs.Steps.{Step, closes, depth_after, shown, before_leave}
@@ -67,7 +67,7 @@ call_way c name o actuals vars results = record {
 abbrev pub enters : ℕ → OpName → List ℕ → Path → Step
 enters time name values body = record { time = time; deed = Enter name values; body = body }
 
-module _ (c : Course) (apt : IsApt c) (Over : Claim) (unit op : Name) (actuals : List Expression) (rest : List Piece) (vars : Variables) (object k : ℕ) (g : Guarded) (o : Operation)
+module _ (c : Course) (apt : IsApt c) (Over : Claim) (unit op : Name) (actuals : List Expression) (rest : List Piece) (vars : Variables) (object k : ℕ) (g : ProtectedUnit) (o : Operation)
     (leads : callee c.system unit op ≡ Protected object k g o) (data' : Variables) where
   abbrev name : OpName
   name = c.op_name object k

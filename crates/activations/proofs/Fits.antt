@@ -10,9 +10,9 @@ use Rattle.seq_tree.specs.Values.{holds}
 use Rattle.seq_tree.specs.Calls.{statement_calls, block_calls, branch_calls}
 use Rattle.seq_tree.specs.declared.tree.Costs.{Costs}
 use Rattle.seq_tree.specs.declared.tree.OpName.{OpName}
-use Rattle.machine.specs.Systems.{Callee, Plain, Protected, Request, Unknown, callee}
+use Rattle.machine.specs.Systems.{CallTarget, Plain, Protected, Request, Unknown, callee}
 use Rattle.machine.specs.Pieces.{Piece, Idle, Store, Leaving, Calling, Working, Printing, Testing, Turning, Turned, Returning, Closing, Keeping, Opening, Requested, Finishing, pieces_of, pieces, branch_pieces, after_loop, ticks_of, work_ticks}
-use Rattle.machine.specs.Deeds.{Deed, done, called}
+use Rattle.machine.specs.Deeds.{PieceOutcome, done, called}
 use Rattle.activations.proofs.Courses.{Course, IsApt, IsFitCallee, FitStatement, FitBlock, FitBranches, FitPieces, IsTicks}
 use Rattle.program_calls.proofs.Pieces.{in_loop-block, in_loop}
 
@@ -49,7 +49,7 @@ fit_after Good (Turned name at last body ∷ rest) f = f.1
 fit_after Good (_ ∷ rest) f = fit_after Good rest f.1
 
 -- a task's pieces stay fit
-fit_called : (Good : Name → Name → Type 0) (k : Callee) (actuals : List Expression) (vars : Variables) (rest : List Piece)
+fit_called : (Good : Name → Name → Type 0) (k : CallTarget) (actuals : List Expression) (vars : Variables) (rest : List Piece)
     → IsFitCallee Good k → FitPieces Good rest → FitPieces Good ((called k actuals vars rest).pieces)
 fit_called Good (Plain o) actuals vars rest f more = fit_block Good o.block _ f (tt, more)
 fit_called Good (Protected object op g o) actuals vars rest f more = fit_block Good o.block _ f (tt, more)
@@ -60,7 +60,7 @@ fit_if : (Good : Name → Name → Type 0) (b : Bool) (ps qs : List Piece) → F
 fit_if Good true ps qs f g = f
 fit_if Good false ps qs f g = g
 
-fit_left : (Good : Name → Name → Type 0) (b : Bool) (d e : Deed) → FitPieces Good d.pieces → FitPieces Good e.pieces → FitPieces Good ((if b then d else e).pieces)
+fit_left : (Good : Name → Name → Type 0) (b : Bool) (d e : PieceOutcome) → FitPieces Good d.pieces → FitPieces Good e.pieces → FitPieces Good ((if b then d else e).pieces)
 fit_left Good true d e f g = f
 fit_left Good false d e f g = g
 

@@ -8,7 +8,7 @@ use Rattle.trace_tree.specs.declared.event.Event.{Event}
 use Rattle.machine.specs.Systems.{System}
 use Rattle.machine.specs.Pieces.{Piece, Idle, Store, Leaving, Calling, Working, Printing, Testing, Turning, Turned, Returning, Closing, Keeping, Opening, Requested, Finishing, ticks_of}
 use Rattle.machine.specs.Deeds.{Act, Silent, Print, Enter, Leave, Ask, Keep, Open, Ended, Finish}
-use Rattle.machine.specs.States.{State, Task, Section, Object, Control}
+use Rattle.machine.specs.States.{State, Task, Resource, Object, Control}
 use Rattle.machine.specs.Releases.{going, released, release, release_task, serve, serve_task, is_waiting}
 use Rattle.machine.specs.Effects.{acted, entry, entered_at, stopped_at, exit, go, ended, ceiling_of}
 use Rattle.std.proofs.lemmas.Bool.{true≢false}
@@ -103,11 +103,11 @@ module _ (y : System) (some : AreSome y.costs) where
   serve-fresh : (k i : ℕ) (s : State) → FreshAt s.tasks i → FreshAt (serve y k s).0.tasks i
   serve-fresh k i s fresh = serve_task-fresh k i (slice_get s.tasks k) s fresh
 
-  entry-fresh : (i : ℕ) (t : Task) (c : Section) (told : List Event) (vars : Variables) (ps : List Piece) (s : State)
+  entry-fresh : (i : ℕ) (t : Task) (c : Resource) (told : List Event) (vars : Variables) (ps : List Piece) (s : State)
       → ((entry y i t c told vars ps s).0.stopped ≡ true) ⊎ FreshAt (entry y i t c told vars ps s).0.tasks i
   entry-fresh i t c told vars ps s = by c (nat_lt (ceiling_of y c) t.active)
     where
-      by : (z : Section) (b : Bool) → ((if b then stopped_at y t z s else entered_at y i z told vars ps s).0.stopped ≡ true) ⊎ FreshAt (if b then stopped_at y t z s else entered_at y i z told vars ps s).0.tasks i
+      by : (z : Resource) (b : Bool) → ((if b then stopped_at y t z s else entered_at y i z told vars ps s).0.stopped ≡ true) ⊎ FreshAt (if b then stopped_at y t z s else entered_at y i z told vars ps s).0.tasks i
       by z true = inl refl
       by (Object k) false = inr (fresh-own i _ s.tasks (λ u. going-fresh y.costs some _ _ _))
       by (Control k) false = inr (fresh-own i _ s.tasks (λ u. going-fresh y.costs some _ _ _))

@@ -12,7 +12,7 @@ use Rattle.trace_tree.specs.declared.event.Event.{Event}
 use Rattle.trace_tree.specs.declared.event.Event.TheVariants as event
 use Rattle.machine.specs.Systems.{System, system}
 use Rattle.machine.specs.Pieces.{Piece, Idle, Store, Leaving, Calling, Working, Printing, Testing, Turning, Turned, Returning, Closing, Keeping, Opening, Requested, Finishing, turns}
-use Rattle.machine.specs.Deeds.{Deed, done}
+use Rattle.machine.specs.Deeds.{PieceOutcome, done}
 use Rattle.machine.specs.States.{State, Task, Phase, Effects, Delays, Arriving, Use, opening}
 use Rattle.machine.specs.Dispatch.{dispatched}
 use Rattle.machine.specs.Releases.{going, released, release, release_task, serve, serve_task, is_waiting}
@@ -231,7 +231,7 @@ module _ (y : System) (some : AreSome y.costs) where
       away : Halts y (goes_to Delays s).0
       away = later (record s { phase = Delays }) refl refl
 
-      by_act : (i : ℕ) (t : Task) (d : Deed) → s.ran ≡ Some i → ((acted y i t d.act d.vars d.pieces s).0.stopped ≡ true) ⊎ FreshAt (acted y i t d.act d.vars d.pieces s).0.tasks i → Halts y (takes_effect y i t d s).0
+      by_act : (i : ℕ) (t : Task) (d : PieceOutcome) → s.ran ≡ Some i → ((acted y i t d.act d.vars d.pieces s).0.stopped ≡ true) ⊎ FreshAt (acted y i t d.act d.vars d.pieces s).0.tasks i → Halts y (takes_effect y i t d s).0
       by_act i t d ran (inl stopped) = (0, stopped)
       by_act i t d ran (inr fresh) = by_task (slice_get s'.tasks i) refl
         where

@@ -7,7 +7,7 @@ use Rattle.ada_tree.specs.Bodies.{Body, bodies}
 use Rattle.ada_tree.specs.Ranges.{is_outside, costs_break, whole_breaks}
 use Rattle.ada_tree.specs.Rules.{Ranges, Whole, MeetsRules}
 use Rattle.arrivals_tree.specs.Arriving.{Arrivals}
-use Rattle.machine.specs.Systems.{system, Thread, Timing, Periodic, Requested}
+use Rattle.machine.specs.Systems.{system, TaskUnit, ReleasePattern, Periodic, Requested}
 use Rattle.activations.proofs.Courses.{FitBlock}
 use Rattle.activations.proofs.Programs.{Leads}
 use Rattle.activations.proofs.AptPrograms.{fit_body}
@@ -41,11 +41,11 @@ pub costs_some : (p : Program) → MeetsRules p → AreSome p.costs
 costs_some p meets = costs_some_by p.costs (or_parts _ _ (or_parts _ _ (false_from_ne_true (whole_breaks p) (λ breaks. meets Ranges Whole breaks))).0).0
 
 -- the block of a task is one of its unit's bodies
-block_at : (th : Thread) (timing : Timing) (f : Form) → thread_form th timing f → (b : Body) × (slice_get (bodies f) 0 ≡ Some b) × (b.block ≡ th.block)
+block_at : (th : TaskUnit) (timing : ReleasePattern) (f : Form) → thread_form th timing f → (b : Body) × (slice_get (bodies f) 0 ≡ Some b) × (b.block ≡ th.block)
 block_at th (Periodic offset period) f e = (_, ap (λ g. slice_get (bodies g) 0) e, refl)
 block_at th (Requested op ceiling separation jitter external) f e = (_, ap (λ g. slice_get (bodies g) 0) e, refl)
 
-pub fit_thread : (p : Program) (a : Arrivals) → MeetsRules p → (k : ℕ) (th : Thread) → slice_get (system p a).threads k ≡ Some th → FitBlock (Leads (system p a)) false th.block
+pub fit_thread : (p : Program) (a : Arrivals) → MeetsRules p → (k : ℕ) (th : TaskUnit) → slice_get (system p a).threads k ≡ Some th → FitBlock (Leads (system p a)) false th.block
 fit_thread p a meets k th at =
     let found = thread-at p a k th at in
     let b = block_at th th.timing found.1.form (found.2).form in

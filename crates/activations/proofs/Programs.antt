@@ -5,7 +5,7 @@ use Rattle.seq_tree.specs.declared.tree.OpName.{OpName}
 use Rattle.ada_tree.specs.Programs.{Program}
 use Rattle.arrivals_tree.specs.Arriving.{Arrivals}
 use Rattle.trace_tree.specs.Lines.{unit_name}
-use Rattle.machine.specs.Systems.{System, system, Callee, Unknown, callee}
+use Rattle.machine.specs.Systems.{System, system, CallTarget, Unknown, callee}
 use Rattle.machine.specs.Effects.{object_unit, task_unit}
 use Rattle.guarantee.specs.Software.{program_software, leads_to}
 use Rattle.guarantee.specs.Events.{op_at}
@@ -23,7 +23,7 @@ abbrev pub request_name : Program → System → ℕ → OpName
 request_name p y task = record { object = unit_name p (task_unit y task); op = asked_op y task }
 
 -- a call that leads somewhere
-abbrev pub IsKnown : Callee → Type 0
+abbrev pub IsKnown : CallTarget → Type 0
 IsKnown Unknown = ⊥
 IsKnown _ = ⊤
 

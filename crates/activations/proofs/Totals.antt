@@ -15,7 +15,7 @@ use Rattle.seq_tree.specs.Dearest.{turn_count}
 use Rattle.seq_tree.specs.Runs.{Path, silent, joined, turned, Followed, Turns, Called, Chosen, RunStatement, RunBlock, RunBranch, request_value}
 use Rattle.seq_tree.specs.Runs as runs
 use Rattle.seq_tree.specs.declared.tree.OpName.{OpName}
-use Rattle.machine.specs.Systems.{Callee, Plain, Protected, Request, Unknown, callee}
+use Rattle.machine.specs.Systems.{CallTarget, Plain, Protected, Request, Unknown, callee}
 use Rattle.machine.specs.Pieces.{Piece, Idle, Store, Leaving, Calling, Working, Printing, Testing, Turning, Turned, Returning, Closing, Keeping, Opening, Requested, Finishing}
 use Rattle.activations.proofs.Courses.{Course, IsApt, IsFitCallee, seen, setting, FitStatement, FitBlock, FitBranches, FitPiece, FitPieces}
 use Rattle.program_calls.proofs.Depths.{IsDeep}
@@ -119,12 +119,12 @@ mutual
   map_branches Good Weak to within (When condition block others) f = (map_block Good Weak to within block f.0, map_branches Good Weak to within others f.1)
 
 -- a fact of the passive operation that a call leads to
-abbrev OfPlain : (Operation → Type 0) → Callee → Type 0
+abbrev OfPlain : (Operation → Type 0) → CallTarget → Type 0
 OfPlain Fact (Plain o) = Fact o
 OfPlain Fact _ = ⊤
 
 -- a call whose body has ways has one
-way_callee : (c : Course) (name : OpName) (k : Callee) → IsFitCallee c.Good k → OfPlain (λ o. (vars : Variables) → SomeWay false (RunBlock (setting c) o.block vars)) k
+way_callee : (c : Course) (name : OpName) (k : CallTarget) → IsFitCallee c.Good k → OfPlain (λ o. (vars : Variables) → SomeWay false (RunBlock (setting c) o.block vars)) k
     → (actuals : List Expression) (vars : Variables) → (p : Path) × Called (setting c) name (seen k) actuals vars p × (p.left ≡ false)
 way_callee c name (Plain o) f bodies actuals vars =
     let body = bodies (opened o (handed o.sig.params actuals vars)) in
@@ -158,7 +158,7 @@ way_callee c name (Request task) f bodies actuals vars =
 way_callee c name Unknown f bodies actuals vars = absurd f
 
 -- the body of a passive operation
-no_body : (Fact : Operation → Type 0) (k : Callee) → passive_by k ≡ None → OfPlain Fact k
+no_body : (Fact : Operation → Type 0) (k : CallTarget) → passive_by k ≡ None → OfPlain Fact k
 no_body Fact (Plain o) none = absurd (none-some (block_calls o.block) (sym none))
 no_body Fact (Protected object op g o) none = tt
 no_body Fact (Request task) none = tt
@@ -169,7 +169,7 @@ abbrev IsShallow : Course → ℕ → Name → Name → Type 0
 IsShallow c n unit op = IsDeep (passive_calls c.system) n (record { object = unit; op = op })
 
 some_body : (c : Course) (n : ℕ) → ((unit op : Name) → c.Good unit op → IsShallow c n unit op → HasWay c unit op)
-    → (k : Callee) → IsFitCallee c.Good k → ((cs : List OpName) → passive_by k ≡ Some cs → Each (IsDeep (passive_calls c.system) n) cs)
+    → (k : CallTarget) → IsFitCallee c.Good k → ((cs : List OpName) → passive_by k ≡ Some cs → Each (IsDeep (passive_calls c.system) n) cs)
     → OfPlain (λ o. (vars : Variables) → SomeWay false (RunBlock (setting c) o.block vars)) k
 some_body c n ways (Plain o) f all =
     let both : FitBlock (λ unit op. c.Good unit op × IsShallow c n unit op) false o.block =
@@ -181,11 +181,11 @@ some_body c n ways Unknown f all = tt
 
 shallow_way : (c : Course) → IsApt c → (n : ℕ) (unit op : Name) → c.Good unit op → IsShallow c n unit op → HasWay c unit op
 shallow_way c apt zero unit op good shallow actuals vars =
-    let k : Callee = callee c.system unit op in
+    let k : CallTarget = callee c.system unit op in
     let Goes : runs.Callee → Type 0 = λ k. (p : Path) × Called (setting c) (record { object = unit; op = op }) k actuals vars p × (p.left ≡ false) in
     subst Goes (sym (apt.leads unit op)) (way_callee c (record { object = unit; op = op }) k (apt.closed unit op good) (no_body _ k shallow) actuals vars)
 shallow_way c apt (suc n) unit op good shallow actuals vars =
-    let k : Callee = callee c.system unit op in
+    let k : CallTarget = callee c.system unit op in
     let Goes : runs.Callee → Type 0 = λ k. (p : Path) × Called (setting c) (record { object = unit; op = op }) k actuals vars p × (p.left ≡ false) in
     subst Goes (sym (apt.leads unit op)) (way_callee c (record { object = unit; op = op }) k (apt.closed unit op good)
     (some_body c n (shallow_way c apt n) k (apt.closed unit op good) shallow) actuals vars)

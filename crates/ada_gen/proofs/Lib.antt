@@ -1,4 +1,3 @@
 pub mod UnitSteps
 pub mod HeadLaws
-pub mod DesignNames
 mod Examples

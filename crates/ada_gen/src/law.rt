@@ -1,14 +1,11 @@
 ghost use Rattle.std.specs.Prelude.{◌≡◌, ◌++◌, ℕ, List, Ok, IsTrue};
 ghost use Rattle.seq_tree.specs.Layout.{layout};
 ghost use Rattle.seq_tree.specs.Lexis.{tokens, plain};
-ghost use Rattle.ods_tree.specs.Designs.{Design};
 ghost use Rattle.ods_tree.specs.Flats.{Flat};
-ghost use Rattle.ods_tree.specs.InUse.{IsUsableDesign};
-ghost use Rattle.ods_tree.specs.Reading.{Reads};
 ghost use Rattle.analysis.specs.Ceilings.{Ranks};
 ghost use Rattle.rt_response.specs.declared.rows.Bound.{Bound};
 ghost use Rattle.ada_tree.specs.Spelling.{program_lines, program_tokens};
-ghost use Rattle.ada_print.specs.Writable.{is_word, is_writable};
+ghost use Rattle.ada_print.specs.Writable.{is_writable};
 ghost use Rattle.guarantee.specs.Programs.{head, program_for};
 ghost use Rattle.ada_gen.specs.Heads.{is_head_writable};
 
@@ -20,11 +17,4 @@ pub fn text_reads_back()
         → IsTrue (is_head_writable f r bounds)
         → plain (tokens (head f r places bounds ++ layout (program_lines (program_for f r))))
         ≡ Ok (program_tokens (program_for f r)) }
-{}
-
-/// The names of a design that a text reads as can be read from a text again: they are folded and have at most 64 bytes.
-pub fn design_names_are_readable()
-    ensures { (text : List ℕ) (x : Design) (u : IsUsableDesign x)
-        → Reads text x
-        → IsTrue (is_word x.name) × IsTrue (is_word u.object) }
 {}

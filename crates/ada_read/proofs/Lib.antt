@@ -1,5 +1,7 @@
 pub mod LevelLaws
 pub mod ParamLaws
+pub mod DataLaws
+pub mod RequestLaws
 pub mod HeadLaws
 pub mod BodyLaws
 pub mod UnitLaws

@@ -228,10 +228,10 @@ reads-listed = reads-same _ AreListed Any listed_at
     (andthen (reads-fixed (Sign LeftParen)) (λ _. andthen reads-param (λ p. and_until (λ o. next_is (Sign Semicolon) o ≡ false) (fixed_tokens fixed.Close) close_stops (reads-params_from p) (λ ps.
     andthen (reads-text fixed.Close) (λ _. reads-pure Any ps (λ _. tt))))))
 
-abbrev AreUnlisted : List Param → List Token → Type 0
+abbrev pub AreUnlisted : List Param → List Token → Type 0
 AreUnlisted xs text = (xs ≡ []) × (text ≡ Sign Semicolon ∷ [])
 
-reads-unlisted : Reads AreUnlisted Any unlisted_at
+pub reads-unlisted : Reads AreUnlisted Any unlisted_at
 unfolding unlisted_at
 reads-unlisted = reads-same _ AreUnlisted Any unlisted_at
     (λ xs text g. (g.after.0, rw (g.whole, g.before, g.after.1) refl))

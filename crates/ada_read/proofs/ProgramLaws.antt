@@ -1,4 +1,4 @@
--- The reader of programs reads exactly the texts of the programs in use, where the reader of blocks reads exactly blocks.
+-- The reader of programs reads exactly the texts of programs, where the reader of blocks reads exactly blocks.
 use Rattle.std.proofs.Common.{◌≡◌, ℕ, Bool, true, false, List, [], ◌∷◌, ◌++◌, flat_map, codes, refl, sym, ap, subst, ◌∙◌, append_assoc}
 use Rattle.grammar.specs.Reading.{first, AreEach, Reads}
 use Rattle.grammar.proofs.Laws.{reads-same, reads-pure}
@@ -9,7 +9,6 @@ use Rattle.seq_tree.specs.declared.token.Token.{Token}
 use Rattle.seq_tree.specs.declared.token.Token.TheVariants.{Word}
 use Rattle.ada_tree.specs.Programs.{Program}
 use Rattle.ada_tree.specs.Programs as programs
-use Rattle.ada_tree.specs.InUse.{IsSequentialProgram}
 use Rattle.ada_tree.specs.Proper.{IsProperProgram}
 use Rattle.ada_tree.specs.Spelling.{specification_lines, unit_body_lines, program_tokens}
 use Rattle.ada_tree.specs.Words.{is_ada_name}
@@ -25,7 +24,7 @@ use Rattle.ada_read.specs.Readers.{services_at, units_at, main_at, program_at}
 use Rattle.ada_read.proofs.ParamLaws.{and_until, reads-text, joins-text, joins-part, costs_text, reads-costs, reads-ada_name}
 use Rattle.ada_read.proofs.HeadLaws.{AreHeads, reads-heads}
 use Rattle.ada_read.proofs.BodyLaws.{EndsBlock, IsBlock, limits, body_head_tokens, IsBody, reads-body_head, reads-bodies}
-use Rattle.ada_read.proofs.UnitLaws.{units_to, units_back}
+use Rattle.ada_read.proofs.UnitLaws.{units_to, heads_from, heads_good, heads_joined, bodies_back}
 
 -- the text before the program
 abbrev services_text : Costs → List Token
@@ -72,14 +71,14 @@ program_joined p =
     (units_before p.name (joined (flat_map specification_lines p.units)) (joined (flat_map unit_body_lines p.units)) (main_text p.name ++ []))
     ∙ rw (joined-append (flat_map specification_lines p.units) _, joined-append (flat_map unit_body_lines p.units) _) refl
 
--- a program in use that is proper within limits, and its text
+-- a program that is proper within limits, and its text
 abbrev pub IsProgram : (ℕ → Bool) → (ℕ → Bool) → Program → List Token → Type 0
-IsProgram nests chains p text = IsSequentialProgram p × IsProperProgram (limits nests chains) p × (text ≡ program_tokens p)
+IsProgram nests chains p text = IsProperProgram (limits nests chains) p × (text ≡ program_tokens p)
 
 module _ (nests chains : ℕ → Bool) (block : BlockReader) (blocks : Reads (IsBlock nests chains) (λ b o. EndsBlock o) block) where
   -- units by their specifications and their bodies
   abbrev AreUnits : Name → List programs.Unit → List Token → Type 0
-  AreUnits name us text = (hs : List Head) × (one : List Token) × (two : List Token) × AreHeads false hs one × AreEach (IsBody nests chains) hs us two × (text ≡ units_text name one two)
+  AreUnits name us text = (hs : List Head) × (one : List Token) × (two : List Token) × AreHeads hs one × AreEach (IsBody nests chains) hs us two × (text ≡ units_text name one two)
 
   end_after_heads : (name : Name) (rest : List Token) → next_is (Word (codes "package")) (first (end_tokens name ++ rest)) ≡ false
   end_after_heads name rest = refl
@@ -117,19 +116,22 @@ module _ (nests chains : ℕ → Bool) (block : BlockReader) (blocks : Reads (Is
   program_to : (p : Program) (text : List Token) → IsWritten p text → IsProgram nests chains p text
   program_to p text w =
       let u = w.2 in
-      let k = units_to nests chains false u.0 p.units u.1 u.2 u.3 u.4 in (
-        (k.0, k.1),
-        (w.0, k.2),
-        w.3 ∙ ap (λ us. services_text p.costs ++ Word p.name ∷ Word (codes "is") ∷ (us ++ (main_text p.name ++ []))) (u.5 ∙ ap (λ one. units_text p.name one u.2) k.3 ∙ ap (λ two. units_text p.name (joined (flat_map specification_lines p.units)) two) k.4)
+      let k = units_to nests chains u.0 p.units u.2 u.3.0 u.4 in (
+        (w.0, k.0),
+        w.3 ∙ ap (λ us. services_text p.costs ++ Word p.name ∷ Word (codes "is") ∷ (us ++ (main_text p.name ++ [])))
+            (u.5 ∙ ap (λ one. units_text p.name one u.2) (u.3.1 ∙ k.1) ∙ ap (λ two. units_text p.name (joined (flat_map specification_lines p.units)) two) k.2)
             ∙ program_joined p,
       )
 
   program_back : (p : Program) (text : List Token) → IsProgram nests chains p text → IsWritten p text
   program_back p text h =
-      let hs = units_back nests chains false p.units h.0.0 h.0.1 h.1.1 in
       let one = joined (flat_map specification_lines p.units) in
-      let two = joined (flat_map unit_body_lines p.units) in
-      (h.1.0, units_text p.name one two, (hs.heads, one, two, hs.specified, hs.bodied, refl), h.2 ∙ sym (program_joined p))
+      let two = joined (flat_map unit_body_lines p.units) in (
+        h.0.0,
+        units_text p.name one two,
+        (heads_from nests chains p.units, one, two, (heads_good nests chains p.units h.0.1, heads_joined nests chains p.units), bodies_back nests chains p.units h.0.1, refl),
+        h.1 ∙ sym (program_joined p),
+      )
 
   pub reads-program : Reads (IsProgram nests chains) Any (program_at block)
   reads-program = reads-same IsWritten (IsProgram nests chains) Any (program_at block) program_to program_back reads-written

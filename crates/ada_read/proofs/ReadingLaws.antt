@@ -18,7 +18,6 @@ use Rattle.seq_tree.specs.declared.token.Spanned.{Spanned}
 use Rattle.seq_tree.specs.declared.token.Place.{Place}
 use Rattle.ada_tree.specs.Programs.{Program}
 use Rattle.ada_tree.specs.Words.{is_ada_name}
-use Rattle.ada_tree.specs.InUse.{IsSequentialProgram}
 use Rattle.ada_tree.specs.Spelling.{program_tokens}
 use Rattle.ada_tree.specs.Reading as reading
 use Rattle.token_read.specs.Words.{bare}
@@ -67,7 +66,7 @@ programs_in n h = reads-program (λ d. nat_le d n) (λ c. nat_le c n) (block_at 
 
 pub reads-ada : Reads IsTextOf Any (program_at ada_block_at)
 reads-ada = reads-same _ IsTextOf Any (program_at ada_block_at)
-    (λ p ts g. record { sequential = g.0; proper = g.1; spelled = g.2 }) (λ p ts g. (g.sequential, g.proper, g.spelled))
+    (λ p ts g. record { proper = g.0; spelled = g.1 }) (λ p ts g. (g.proper, g.spelled))
     (reads-program (λ d. nat_le d 64) (λ c. nat_le c 32) ada_block_at (blocks_in 64 32 (omega arith)))
 
 widens_limited : (n : ℕ) → 64 < n → Widens (n - 64) (program_at ada_block_at) (program_at (block_at is_ada_name n n))
@@ -77,10 +76,10 @@ widens_in : (n m : ℕ) → 64 < n → n < m → Widens (m - 64) (program_at (bl
 widens_in n m h k = widens-program (m - 64) (block_at is_ada_name n n) (block_at is_ada_name m m) (widens-block is_ada_name n m k n m (m - 64) k (omega arith) (omega arith))
 
 program_in : (ts : List Token) → AnyProgram ts → (n : ℕ) × ((m : ℕ) → n ≤ m → (p : Program) × IsIn m p ts)
-program_in ts x = (extent_units x.0.units, λ m h. (x.0, (x.1, bound-program m x.0 h x.2, x.3)))
+program_in ts x = (extent_units x.0.units, λ m h. (x.0, (bound-program m x.0 h x.1, x.2)))
 
 program_out : (n : ℕ) (p : Program) (ts : List Token) → 64 < n → IsIn n p ts → AnyProgram ts
-program_out n p ts h g = (p, g.0, free-program n n p g.1, g.2)
+program_out n p ts h g = (p, free-program n n p g.0, g.1)
 
 pub tokens-faulty : (ts : List Token) (left : ℕ) → whole_at (program_at ada_block_at) ts ≡ Err (Syntax left) → IsSyntaxFault AnyProgram SomeProgram ts (length ts - left)
 tokens-faulty = syntax-fault Any (λ p. tt) IsTextOf (program_at ada_block_at) reads-ada IsIn (λ n. program_at (block_at is_ada_name n n)) 64 programs_in widens_limited widens_in AnyProgram SomeProgram
@@ -91,36 +90,34 @@ tokens-deep = whole-too-deep Any (λ p. tt) IsTextOf (program_at ada_block_at) r
     (λ ts x. x) (λ p ts g. (p, g)) program_in program_out
 
 -- FROM TOKENS TO THEIR TEXT
-pub reads-as : (bytes : List ℕ) (ts : List Spanned) (p : Program) → length bytes ≤ 16777216 → tokens bytes ≡ Ok ts → whole_at (program_at ada_block_at) (bare ts) ≡ Ok p → reading.Reads bytes p × IsSequentialProgram p
+pub reads-as : (bytes : List ℕ) (ts : List Spanned) (p : Program) → length bytes ≤ 16777216 → tokens bytes ≡ Ok ts → whole_at (program_at ada_block_at) (bare ts) ≡ Ok p → reading.Reads bytes p
 reads-as bytes ts p short e h =
     let a = whole-found IsTextOf Any (program_at ada_block_at) reads-ada (λ q. tt) (bare ts) p h in
-    (record { within = short; proper = a.proper; spelled = ap plain e ∙ ap Ok a.spelled }, a.sequential)
+    record { within = short; proper = a.proper; spelled = ap plain e ∙ ap Ok a.spelled }
 
-pub reads-only : (bytes : List ℕ) (ts : List Spanned) (p : Program) → tokens bytes ≡ Ok ts → IsSequentialProgram p → reading.Reads bytes p → whole_at (program_at ada_block_at) (bare ts) ≡ Ok p
-reads-only bytes ts p e sequential r =
+pub reads-only : (bytes : List ℕ) (ts : List Spanned) (p : Program) → tokens bytes ≡ Ok ts → reading.Reads bytes p → whole_at (program_at ada_block_at) (bare ts) ≡ Ok p
+reads-only bytes ts p e r =
     let same : Ok (bare ts) ≡ Ok (program_tokens p) = sym (ap plain e) ∙ r.spelled in
     let spelled : bare ts ≡ program_tokens p = cc in
-    whole-only IsTextOf Any (program_at ada_block_at) reads-ada (λ q. tt) (bare ts) p (record { sequential = sequential; proper = r.proper; spelled = spelled })
+    whole-only IsTextOf Any (program_at ada_block_at) reads-ada (λ q. tt) (bare ts) p (record { proper = r.proper; spelled = spelled })
 
-pub reads-one : (bytes : List ℕ) (ts : List Spanned) (p q : Program) → tokens bytes ≡ Ok ts → whole_at (program_at ada_block_at) (bare ts) ≡ Ok p → IsSequentialProgram q → reading.Reads bytes q → q ≡ p
-reads-one bytes ts p q e h sequential r = let k : Ok q ≡ Ok p = sym (reads-only bytes ts q e sequential r) ∙ h in cc
+pub reads-one : (bytes : List ℕ) (ts : List Spanned) (p q : Program) → tokens bytes ≡ Ok ts → whole_at (program_at ada_block_at) (bare ts) ≡ Ok p → reading.Reads bytes q → q ≡ p
+reads-one bytes ts p q e h r = let k : Ok q ≡ Ok p = sym (reads-only bytes ts q e r) ∙ h in cc
 
 -- what is answered of a program that was read
 pub judged-says : (bytes : List ℕ) (ts : List Spanned) (p : Program) (result : Result AdaProgram AdaFault) → length bytes ≤ 16777216 → tokens bytes ≡ Ok ts → whole_at (program_at ada_block_at) (bare ts) ≡ Ok p → IsJudged p result → Says bytes result
 judged-says bytes ts p (Ok q) short e h j =
-    let r = reads-as bytes ts p short e h in
-    let P : Program → Type 0 = λ x. reading.Accepts bytes x × IsSequentialProgram x in
-    subst P (sym j.0) (record { reads = r.0; meets = j.1 }, r.1)
+    let P : Program → Type 0 = λ x. reading.Accepts bytes x in
+    subst P (sym j.0) (record { reads = reads-as bytes ts p short e h; meets = j.1 })
 judged-says bytes ts p (Err (Text fault)) short e h j = absurd j
 judged-says bytes ts p (Err (Rule rule unit)) short e h j =
-    let r = reads-as bytes ts p short e h in
-    record { program = p; sequential = r.1; reads = r.0; alone = λ q sequential reads. reads-one bytes ts p q e h sequential reads; broken = j }
+    record { program = p; reads = reads-as bytes ts p short e h; alone = λ q reads. reads-one bytes ts p q e h reads; broken = j }
 judged-says bytes ts p (Err NoMemory) short e h j = tt
 
 pub judged-only : (bytes : List ℕ) (ts : List Spanned) (p : Program) (result : Result AdaProgram AdaFault) → tokens bytes ≡ Ok ts → whole_at (program_at ada_block_at) (bare ts) ≡ Ok p → IsJudged p result →
-    (q : Program) → IsSequentialProgram q → reading.Accepts bytes q → IfOk result (λ r. program_of r ≡ q)
-judged-only bytes ts p (Ok r) e h j q sequential a = j.0 ∙ sym (reads-one bytes ts p q e h sequential a.reads)
-judged-only bytes ts p (Err fault) e h j q sequential a = tt
+    (q : Program) → reading.Accepts bytes q → IfOk result (λ r. program_of r ≡ q)
+judged-only bytes ts p (Ok r) e h j q a = j.0 ∙ sym (reads-one bytes ts p q e h a.reads)
+judged-only bytes ts p (Err fault) e h j q a = tt
 
 -- what is answered of tokens with a fault
 at_place : (bytes : List ℕ) (ts : List Spanned) (halt : Halt) (place : Place) → whole_at (program_at ada_block_at) (bare ts) ≡ Err halt → place ≡ place_at bytes ts (left_of halt) →
@@ -137,13 +134,13 @@ pub deep-at : (bytes : List ℕ) (ts : List Spanned) (left : ℕ) (place : Place
 deep-at bytes ts left place short e h here = record { short = short; found = ts; read = e; index = length (bare ts) - left; fault = tokens-deep (bare ts) left h; here = at_place bytes ts (TooDeep left) place h here }
 
 -- A TEXT THAT READS AS A PROGRAM HAS NO FAULT
-pub reads-unfaulty : (bytes : List ℕ) (p : Program) (f : TextFault) → IsSequentialProgram p → reading.Reads bytes p → Faults bytes f → ⊥
-reads-unfaulty bytes p f sequential r h =
-    no-text-fault AnyProgram SomeProgram 16777216 bytes (program_tokens p) f r.within r.spelled (p, sequential, free-program 64 32 p r.proper, refl)
-    (p, record { sequential = sequential; proper = r.proper; spelled = refl }) h
+pub reads-unfaulty : (bytes : List ℕ) (p : Program) (f : TextFault) → reading.Reads bytes p → Faults bytes f → ⊥
+reads-unfaulty bytes p f r h =
+    no-text-fault AnyProgram SomeProgram 16777216 bytes (program_tokens p) f r.within r.spelled (p, free-program 64 32 p r.proper, refl)
+    (p, record { proper = r.proper; spelled = refl }) h
 
-pub accepts-unbroken : (bytes : List ℕ) (p : Program) (rule : AdaRule) (unit : Option Name) → IsSequentialProgram p → reading.Accepts bytes p → Breaks bytes rule unit → ⊥
-accepts-unbroken bytes p rule unit sequential a h =
-    let same : p ≡ h.program = h.alone p sequential a.reads in
+pub accepts-unbroken : (bytes : List ℕ) (p : Program) (rule : AdaRule) (unit : Option Name) → reading.Accepts bytes p → Breaks bytes rule unit → ⊥
+accepts-unbroken bytes p rule unit a h =
+    let same : p ≡ h.program = h.alone p a.reads in
     let P : Program → Type 0 = MeetsRules in
     subst P same a.meets (rule_of rule) h.broken.0 h.broken.1.broken

@@ -1,8 +1,7 @@
 -- Reading lists, one item at a time.
 use Rattle.std.proofs.Common.{◌≡◌, ℕ, suc, ◌+◌, ◌<◌, ◌≤◌, map, drop, get_or, drop-cons, drop_of_length-le, Bool, true, false, List, [], ◌∷◌, ◌++◌, length, Option, None, Ok, Err, codes, refl, sym, ap, ◌∙◌, arith, append_assoc, append-nil, length-append}
-use Rattle.grammar.specs.Reading.{Halt, Read, first, ◌>>=◌, all_from, many_at, each_at, Reads}
+use Rattle.grammar.specs.Reading.{Halt, Read, first, ◌>>=◌, many_at, each_at, Reads}
 use Rattle.grammar.proofs.Many.{many-turn, many-fails, many-ends}
-use Rattle.grammar.proofs.From.{from-turn, from-fails, from-ends}
 use Rattle.seq_tree.specs.Operations.{Signature, Operation}
 use Rattle.seq_tree.specs.Trees.{signature_of}
 use Rattle.seq_tree.specs.declared.tree.OpSig.{OpSig}
@@ -12,10 +11,10 @@ use Rattle.ada_tree.specs.Programs as programs
 use Rattle.token_read.specs.Readers.{next_is}
 use Rattle.token_read.proofs.TokenLaws.{Any}
 use Rattle.ada_read.specs.declared.heads.UnitHead.{UnitHead}
-use Rattle.ada_read.specs.Heads.{Head, seen_after, head_of}
-use Rattle.ada_read.specs.Readers.{ada_block_at, declaration_at, declarations_at, head_at, begins_head, heads_at, body_at, bodies_at, operation_at, operations_at}
+use Rattle.ada_read.specs.Heads.{Head, head_of}
+use Rattle.ada_read.specs.Readers.{ada_block_at, declaration_at, declarations_at, head_at, heads_at, body_at, bodies_at, operation_at, operations_at}
 use Rattle.ada_read.proofs.ParamLaws.{IsSpelled, IsNamedHead, declaration_tokens, reads-declaration}
-use Rattle.ada_read.proofs.HeadLaws.{IsHead, reads-head, starts_head, grows_head, ends_head, closing_heads}
+use Rattle.ada_read.proofs.HeadLaws.{IsGoodHead, head_text, reads-head}
 
 -- what is read, behind items that were read before
 unfoldable pub with_front : {A : Type 0} → List A → Read Token (List A) → Read Token (List A)
@@ -74,35 +73,22 @@ pub declaration-ends : (front : List Signature) (ts : List Token) → next_is (W
 unfolding declarations_at
 declaration-ends = spelled_ends IsNamedHead declaration_tokens (next_is (Word (codes "procedure"))) declaration_at reads-declaration (λ s rest h. refl) (λ s. omega arith) refl
 
--- SPECIFICATIONS, where a task was read before or not
-unfoldable pub heads_from : Bool → List Token → Read Token (List Head)
-heads_from seen = all_from begins_head seen_after head_at seen
+-- SPECIFICATIONS
+pub head-shorter : (ts : List Token) (h : Head) (rest : List Token) → head_at ts ≡ Ok (h, rest) → length rest < length ts
+head-shorter = spelled_shorter IsGoodHead head_text (next_is (Word (codes "package"))) head_at reads-head (λ h rest k. refl) (λ h. omega arith) refl
 
-pub heads_begin : (ts : List Token) → heads_at ts ≡ with_front [] (heads_from false ts)
-unfolding heads_at heads_from
-heads_begin ts = sym (front-none (heads_at ts))
+pub head-turn : (front : List Head) (ts : List Token) (h : Head) (rest : List Token) → next_is (Word (codes "package")) (first ts) ≡ true → head_at ts ≡ Ok (h, rest) →
+    with_front (front ++ h ∷ []) (heads_at rest) ≡ with_front front (heads_at ts)
+unfolding heads_at
+head-turn = spelled_turn IsGoodHead head_text (next_is (Word (codes "package"))) head_at reads-head (λ h rest k. refl) (λ h. omega arith) refl
 
-pub head-shorter : (seen : Bool) (ts : List Token) (h : Head) (rest : List Token) → head_at seen ts ≡ Ok (h, rest) → length rest < length ts
-head-shorter seen ts h rest e =
-    let f = (reads-head seen).sound ts h rest e in
-    omega (arith, ap length f.split, length-append f.text rest, grows_head seen h f.text f.spelled)
+pub head-fails : (front : List Head) (ts : List Token) (halt : Halt) → next_is (Word (codes "package")) (first ts) ≡ true → head_at ts ≡ Err halt → with_front front (heads_at ts) ≡ Err halt
+unfolding heads_at
+head-fails = spelled_fails IsGoodHead head_text (next_is (Word (codes "package"))) head_at reads-head (λ h rest k. refl) (λ h. omega arith) refl
 
-pub head-turn : (front : List Head) (seen : Bool) (ts : List Token) (h : Head) (rest : List Token) → begins_head seen (first ts) ≡ true → head_at seen ts ≡ Ok (h, rest) →
-    with_front (front ++ h ∷ []) (heads_from (seen_after seen h) rest) ≡ with_front front (heads_from seen ts)
-unfolding heads_from
-head-turn front seen ts h rest t e =
-    sym (ap (with_front front) (from-turn begins_head seen_after IsHead (λ a o. Unit {0}) head_at reads-head starts_head grows_head (λ a s o k. tt) ends_head closing_heads seen ts h rest t e)
-    ∙ regroup front h (all_from begins_head seen_after head_at (seen_after seen h) rest))
-
-pub head-fails : (front : List Head) (seen : Bool) (ts : List Token) (halt : Halt) → begins_head seen (first ts) ≡ true → head_at seen ts ≡ Err halt → with_front front (heads_from seen ts) ≡ Err halt
-unfolding heads_from with_front
-head-fails front seen ts halt t e =
-    rw (from-fails begins_head seen_after IsHead (λ a o. Unit {0}) head_at reads-head starts_head grows_head (λ a s o k. tt) ends_head closing_heads seen ts halt t e) refl
-
-pub head-ends : (front : List Head) (seen : Bool) (ts : List Token) → begins_head seen (first ts) ≡ false → with_front front (heads_from seen ts) ≡ Ok (front, ts)
-unfolding heads_from with_front
-head-ends front seen ts t =
-    rw (from-ends begins_head seen_after IsHead (λ a o. Unit {0}) head_at reads-head starts_head grows_head (λ a s o k. tt) ends_head closing_heads seen ts t, append-nil) refl
+pub head-ends : (front : List Head) (ts : List Token) → next_is (Word (codes "package")) (first ts) ≡ false → with_front front (heads_at ts) ≡ Ok (front, ts)
+unfolding heads_at
+head-ends = spelled_ends IsGoodHead head_text (next_is (Word (codes "package"))) head_at reads-head (λ h rest k. refl) (λ h. omega arith) refl
 
 -- ONE FOR EACH
 module _ {X B A : Type 0} (view : X → B) (r : B → List Token → Read Token A) (xs : List X) (i : ℕ) where
@@ -157,7 +143,7 @@ body-ends = each_ends head_of (body_at ada_block_at)
 
 pub ruleset declaration_steps = (front-none, declaration-shorter, declaration-turn, declaration-fails, declaration-ends)
 
-pub ruleset head_steps = (heads_begin, head-shorter, head-turn, head-fails, head-ends)
+pub ruleset head_steps = (front-none, head-shorter, head-turn, head-fails, head-ends)
 
 pub ruleset operation_steps = (front-none, operation-turn, operation-fails, operation-ends)
 

@@ -1,28 +1,29 @@
 -- The specifications and bodies that were read are those of the units of a program.
-use Rattle.std.proofs.Common.{◌≡◌, ℕ, suc, Bool, true, false, List, [], ◌∷◌, ◌++◌, map, filter, length, flat_map, codes, refl, sym, ap, subst, ◌∙◌, arith, append_assoc, if◌then◌else◌}
-use Rattle.std.specs.List.{list_all}
+use Rattle.std.proofs.Common.{◌≡◌, ℕ, suc, Bool, true, List, [], ◌∷◌, ◌++◌, map, flat_map, codes, refl, sym, ap, subst, ◌∙◌, append_assoc}
 use Rattle.seq_tree.specs.Lists.{Each}
 use Rattle.grammar.specs.Reading.{AreEach}
 use Rattle.seq_tree.specs.Names.{Name}
-use Rattle.seq_tree.specs.Statements.{Statements}
 use Rattle.seq_tree.specs.Operations.{Signature, Operation}
-use Rattle.seq_tree.specs.Spelling.{Line, joined, block_lines}
+use Rattle.seq_tree.specs.Spelling.{Line, line, joined, block_lines, block_tokens}
 use Rattle.seq_tree.specs.declared.tree.Datum.{Datum}
 use Rattle.seq_tree.specs.declared.token.Token.{Token}
-use Rattle.seq_tree.specs.declared.token.Token.TheVariants.{Word}
-use Rattle.ada_tree.specs.Programs.{Form, Passive, Shared, Cyclic, Sporadic, is_task}
+use Rattle.seq_tree.specs.declared.token.Token.TheVariants.{Word, Number, Sign}
+use Rattle.seq_tree.specs.declared.token.Mark.TheVariants.{Becomes}
+use Rattle.ada_tree.specs.Programs.{Form, Passive, Shared, Cyclic, Sporadic}
 use Rattle.ada_tree.specs.Programs as programs
-use Rattle.ada_tree.specs.InUse.{is_sequential}
 use Rattle.ada_tree.specs.Proper.{IsProperForm, IsProperOperation}
-use Rattle.ada_tree.specs.Spelling.{head_tokens, datum_line, declaration_line, body_lines, inner_body, specification_lines, unit_body_lines}
+use Rattle.ada_tree.specs.Spelling.{head_tokens, params_tokens, kept_token, request_token, datum_line, declaration_line, body_lines, end_line, renaming_line, inner_body, specification_lines, unit_body_lines}
 use Rattle.ada_tree.specs.Words.{is_ada_name}
 use Rattle.seq_read.specs.Parts.{end_tokens}
-use Rattle.ada_read.proofs.LevelLaws.{joined-append, block-level}
+use Rattle.ada_read.specs.declared.fixed_text.FixedText.TheVariants as fixed
 use Rattle.ada_read.specs.FixedTexts.{fixed_tokens}
-use Rattle.ada_read.specs.Heads.{Head, PassiveHead, TaskHead, seen_after}
+use Rattle.ada_read.specs.Heads.{Head, head_name}
+use Rattle.ada_read.proofs.LevelLaws.{joined-append, block-level}
 use Rattle.ada_read.proofs.ParamLaws.{IsNamedHead, declaration_tokens}
-use Rattle.ada_read.proofs.HeadLaws.{IsHead, AreHeads, head_text}
-use Rattle.ada_read.proofs.BodyLaws.{datum_tokens, operation_tokens, cyclic_tokens, body_head_tokens, limits, HasBody, IsBody}
+use Rattle.ada_read.proofs.DataLaws.{datum_tokens}
+use Rattle.ada_read.proofs.RequestLaws.{renaming_tokens}
+use Rattle.ada_read.proofs.HeadLaws.{IsGoodHead, head_text}
+use Rattle.ada_read.proofs.BodyLaws.{operation_tokens, body_head_tokens, form_tokens, head_from, limits, HasBody, HasForm, IsBody}
 
 -- THE TOKENS OF LINES
 -- lines in front of others
@@ -48,45 +49,73 @@ operations_joined : (level : ℕ) (ops : List Operation) → joined (flat_map (b
 operations_joined level [] = refl
 operations_joined level (o ∷ ops) = sym (glued (body_lines level o) (flat_map (body_lines level) ops) (operation_tokens o) (flat_map operation_tokens ops) (sym (operation_joined level o)) (sym (operations_joined level ops)))
 
-passive_specification : (name : Name) (ops : List Operation) → head_text (PassiveHead name (map (λ o. o.sig) ops)) ≡ joined (specification_lines (record { name = name; form = Passive ops }))
-passive_specification name ops = rw (joined-append (map (λ o. declaration_line 2 o.sig) ops) _, declarations_joined 2 ops) refl
-
-cyclic_specification : (name : Name) (priority offset period : ℕ) (vars : List Datum) (b : Statements) →
-    head_text (TaskHead name priority) ≡ joined (specification_lines (record { name = name; form = Cyclic priority offset period vars b }))
+renamings_joined : (ops : List Operation) → joined (map (λ o. renaming_line 2 (codes "hrt_object") o.sig) ops) ≡ flat_map renaming_tokens (map (λ o. o.sig) ops)
 unfolding fixed_tokens
-cyclic_specification name priority offset period vars b = refl
+renamings_joined [] = refl
+renamings_joined (o ∷ ops) = ap (λ us. renaming_tokens o.sig ++ us) (renamings_joined ops)
 
-passive_body : (name : Name) (ops : List Operation) → body_head_tokens name ++ (flat_map operation_tokens ops ++ end_tokens name) ≡ joined (unit_body_lines (record { name = name; form = Passive ops }))
+-- the parts of a protected specification in another grouping
+shared_grouped : (name : Name) (ceiling : ℕ) (declared stored renamed : List Token) →
+    Word (codes "package") ∷ Word name ∷ Word (codes "is") ∷ Word (codes "protected") ∷ (fixed_tokens fixed.ObjectHead ++ Number ceiling ∷ (fixed_tokens fixed.Close
+    ++ (declared ++ Word (codes "private") ∷ (stored ++ (fixed_tokens fixed.ObjectEnd ++ (renamed ++ end_tokens name))))))
+    ≡ Word (codes "package") ∷ Word name ∷ Word (codes "is") ∷ ((Word (codes "protected") ∷ (fixed_tokens fixed.ObjectHead ++ Number ceiling ∷ (fixed_tokens fixed.Close
+    ++ (declared ++ Word (codes "private") ∷ (stored ++ (fixed_tokens fixed.ObjectEnd ++ renamed)))))) ++ end_tokens name)
 unfolding fixed_tokens
-passive_body name ops = rw (joined-append (flat_map (body_lines 2) ops) _, operations_joined 2 ops) refl
+shared_grouped name ceiling declared stored renamed = simp append_assoc
 
-cyclic_body : (name : Name) (priority offset period : ℕ) (vars : List Datum) (b : Statements) →
-    body_head_tokens name ++ (cyclic_tokens offset period vars b ++ end_tokens name) ≡ joined (unit_body_lines (record { name = name; form = Cyclic priority offset period vars b }))
+-- the parts of a sporadic body in another grouping
+sporadic_grouped : (name request : Name) (kept variable : Token) (params stored block : List Token) →
+    body_head_tokens name ++ ((stored ++ ((fixed_tokens fixed.RequestBody ++ ((Word (codes "procedure") ∷ Word request ∷ params) ++ (fixed_tokens fixed.Keep ++ kept ∷ (fixed_tokens fixed.Opened
+    ++ Word request ∷ fixed_tokens fixed.Wait)))) ++ ((variable ∷ (fixed_tokens fixed.Waiting ++ variable ∷ fixed_tokens fixed.Close)) ++ (block ++ (fixed_tokens fixed.TaskLoop ++ []))))) ++ end_tokens name)
+    ≡ body_head_tokens name ++ ((stored ++ (fixed_tokens fixed.RequestBody ++ (((Word (codes "procedure") ∷ Word request ∷ params) ++ Word (codes "is") ∷ []) ++ (Word (codes "begin") ∷ Word (codes "hrt_value") ∷ Sign Becomes ∷ kept
+    ∷ (fixed_tokens fixed.Opened ++ Word request ∷ (fixed_tokens fixed.Wait ++ variable ∷ (fixed_tokens fixed.Waiting ++ variable ∷ (fixed_tokens fixed.Close ++ (block ++ (fixed_tokens fixed.TaskLoop ++ [])))))))))) ++ end_tokens name)
 unfolding fixed_tokens
-cyclic_body name priority offset period vars b =
+sporadic_grouped name request kept variable params stored block =
+    let keeps : List Token = fixed_tokens fixed.Keep ++ kept ∷ (fixed_tokens fixed.Opened ++ Word request ∷ fixed_tokens fixed.Wait) in
+    let waits : List Token = (variable ∷ (fixed_tokens fixed.Waiting ++ variable ∷ fixed_tokens fixed.Close)) ++ (block ++ (fixed_tokens fixed.TaskLoop ++ [])) in
+    ap (λ us. body_head_tokens name ++ ((stored ++ (fixed_tokens fixed.RequestBody ++ Word (codes "procedure") ∷ Word request ∷ us)) ++ end_tokens name))
+    (append_assoc params keeps waits ∙ sym (append_assoc params (Word (codes "is") ∷ []) _))
+
+-- A UNIT
+-- its specification
+specification_joined : (name : Name) (f : Form) → head_text (head_from name f) ≡ joined (specification_lines (record { name = name; form = f }))
+unfolding fixed_tokens
+specification_joined name (Passive ops) = rw (joined-append (map (λ o. declaration_line 2 o.sig) ops) _, declarations_joined 2 ops) refl
+specification_joined name (Shared ceiling vars ops) =
+    let declared : List Line = map (λ o. declaration_line 3 o.sig) ops in
+    let stored : List Line = map (datum_line 3) vars in
+    let renamed : List Line = map (λ o. renaming_line 2 (codes "hrt_object") o.sig) ops in
+    let divider : Line = line 2 (Word (codes "private") ∷ []) in
+    let last : Line = end_line 2 (codes "hrt_object") in
+    rw (
+      joined-append (declared ++ divider ∷ (stored ++ last ∷ renamed)) (end_line 1 name ∷ []),
+      joined-append declared (divider ∷ (stored ++ last ∷ renamed)),
+      declarations_joined 3 ops,
+      joined-append stored (last ∷ renamed),
+      data_joined 3 vars,
+      renamings_joined ops,
+    )
+    (shared_grouped name ceiling (flat_map declaration_tokens (map (λ o. o.sig) ops)) (flat_map datum_tokens vars) (flat_map renaming_tokens (map (λ o. o.sig) ops)))
+specification_joined name (Cyclic priority offset period vars b) = refl
+specification_joined name (Sporadic priority ceiling op separation jitter external vars b) = refl
+
+-- its body
+body_joined : (name : Name) (f : Form) → body_head_tokens name ++ (form_tokens f ++ end_tokens name) ≡ joined (unit_body_lines (record { name = name; form = f }))
+unfolding fixed_tokens
+body_joined name (Passive ops) = rw (joined-append (flat_map (body_lines 2) ops) _, operations_joined 2 ops) refl
+body_joined name (Shared ceiling vars ops) =
+    let last : Line = end_line 2 (codes "hrt_object") in
+    rw (joined-append (flat_map (body_lines 3) ops ++ last ∷ []) (end_line 1 name ∷ []), joined-append (flat_map (body_lines 3) ops) (last ∷ []), operations_joined 3 ops) refl
+body_joined name (Cyclic priority offset period vars b) =
     rw (joined-append (inner_body (Cyclic priority offset period vars b)) _, joined-append (map (datum_line 2) vars) _, data_joined 2 vars, joined-append (block_lines 4 b) _, block-level 4 0 b) refl
-
--- how many tasks are still to come
-abbrev pub tasks_left : Bool → ℕ
-tasks_left seen = if seen then 0 else 1
-
--- how many units have a task
-abbrev pub tasks : List programs.Unit → ℕ
-tasks us = length (filter (λ u. is_task u.form) us)
-
--- whether all units are of the forms in use
-abbrev pub are_sequential : List programs.Unit → Bool
-are_sequential us = list_all (λ u. is_sequential u.form) us
+body_joined name (Sporadic priority ceiling op separation jitter external vars b) =
+    rw (joined-append (inner_body (Sporadic priority ceiling op separation jitter external vars b)) _, joined-append (map (datum_line 2) vars) _, data_joined 2 vars, joined-append (block_lines 4 b) _, block-level 4 0 b)
+    (sporadic_grouped name op.name (kept_token op.params) (request_token op.params) (params_tokens op.params) (flat_map datum_tokens vars) (block_tokens b))
 
 module _ (nests chains : ℕ → Bool) where
   -- a unit that may be written and read
   abbrev pub IsGood : programs.Unit → Type 0
   IsGood u = (is_ada_name u.name ≡ true) × IsProperForm (limits nests chains) u.form
-
-  -- units by their two texts, where a task was read before or not
-  abbrev pub AreUnits : Bool → List programs.Unit → List Token → List Token → Type 0
-  AreUnits seen us one two =
-      (are_sequential us ≡ true) × (tasks us ≡ tasks_left seen) × Each IsGood us × (one ≡ joined (flat_map specification_lines us)) × (two ≡ joined (flat_map unit_body_lines us))
 
   operations_proper : (ops : List Operation) → Each IsNamedHead (map (λ o. o.sig) ops) → Each (HasBody nests chains) ops → Each (IsProperOperation (limits nests chains)) ops
   operations_proper [] h k = tt
@@ -100,111 +129,84 @@ module _ (nests chains : ℕ → Bool) where
   bodies_proper [] h = tt
   bodies_proper (o ∷ ops) h = ((h.0.2, h.0.3), bodies_proper ops h.1)
 
-  passive_step : (seen : Bool) (name own : Name) (ops : List Operation) (sigs : List Signature) (us : List programs.Unit) (one more two others : List Token) → IsHead seen (PassiveHead own sigs) one →
-      IsBody nests chains (PassiveHead own sigs) (record { name = name; form = Passive ops }) two → AreUnits seen us more others → AreUnits seen (record { name = name; form = Passive ops } ∷ us) (one ++ more) (two ++ others)
-  passive_step seen name own ops sigs us one more two others k b ih =
-      let P : Name → Type 0 = λ n. (is_ada_name n ≡ true) × (one ≡ head_text (PassiveHead n sigs)) × (two ≡ body_head_tokens n ++ (b.1 ++ end_tokens n)) in
-      let p : P name = subst P (sym b.0) (k.0, k.3, b.3) in
-      let Q : List Signature → Type 0 = λ ss. Each IsNamedHead ss × (one ≡ head_text (PassiveHead name ss)) in
-      let q = subst Q (sym b.2.0) (k.2, p.1) in (
-        ih.0,
-        ih.1,
-        ((p.0, operations_proper ops q.0 b.2.1), ih.2),
-        glued (specification_lines (record { name = name; form = Passive ops })) (flat_map specification_lines us) one more (q.1 ∙ passive_specification name ops) ih.3,
-        glued (unit_body_lines (record { name = name; form = Passive ops })) (flat_map unit_body_lines us) two others
-            (p.2 ∙ ap (λ inner. body_head_tokens name ++ (inner ++ end_tokens name)) b.2.2 ∙ passive_body name ops) ih.4,
+  -- its parts are good where it is
+  good_to : (name : Name) (f : Form) → IsGoodHead (head_from name f) → HasForm nests chains f → IsGood (record { name = name; form = f })
+  good_to name (Passive ops) h k = (h.0, operations_proper ops h.1 k)
+  good_to name (Shared ceiling vars ops) h k = (h.0, (h.1.1, operations_proper ops h.1.0 k))
+  good_to name (Cyclic priority offset period vars b) h k = (h.0, k)
+  good_to name (Sporadic priority ceiling op separation jitter external vars b) h k = (h.0, (h.1.0.0, h.1.0.1, h.1.1, k.0, k.1))
+
+  good_head : (name : Name) (f : Form) → IsGood (record { name = name; form = f }) → IsGoodHead (head_from name f)
+  good_head name (Passive ops) g = (g.0, heads_named ops g.1)
+  good_head name (Shared ceiling vars ops) g = (g.0, (heads_named ops g.1.1, g.1.0))
+  good_head name (Cyclic priority offset period vars b) g = (g.0, tt)
+  good_head name (Sporadic priority ceiling op separation jitter external vars b) g = (g.0, ((g.1.0, g.1.1), g.1.2))
+
+  good_form : (name : Name) (f : Form) → IsGood (record { name = name; form = f }) → HasForm nests chains f
+  good_form name (Passive ops) g = bodies_proper ops g.1
+  good_form name (Shared ceiling vars ops) g = bodies_proper ops g.1.1
+  good_form name (Cyclic priority offset period vars b) g = g.1
+  good_form name (Sporadic priority ceiling op separation jitter external vars b) g = (g.1.3, g.1.4)
+
+  from_name : (name : Name) (f : Form) → head_name (head_from name f) ≡ name
+  from_name name (Passive ops) = refl
+  from_name name (Shared ceiling vars ops) = refl
+  from_name name (Cyclic priority offset period vars b) = refl
+  from_name name (Sporadic priority ceiling op separation jitter external vars b) = refl
+
+  -- a body that was read
+  record WasRead (h : Head) (u : programs.Unit) (text : List Token) : Type 0 where
+    same : h ≡ head_from u.name u.form
+    form : HasForm nests chains u.form
+    whole : text ≡ joined (unit_body_lines u)
+
+  was_read : (h : Head) (u : programs.Unit) (text : List Token) → IsBody nests chains h u text → WasRead h u text
+  was_read h u text b =
+      let P : Name → Type 0 = λ n. (h ≡ head_from n u.form) × (text ≡ body_head_tokens n ++ (b.1 ++ end_tokens n)) in
+      let q : P u.name = subst P (sym b.0) (b.2.0, b.3) in
+      record {
+        same = q.0;
+        form = b.2.1;
+        whole = q.1 ∙ ap (λ inner. body_head_tokens u.name ++ (inner ++ end_tokens u.name)) b.2.2 ∙ body_joined u.name u.form;
+      }
+
+  -- UNITS
+  -- units by their two texts
+  abbrev pub AreUnits : List programs.Unit → List Token → List Token → Type 0
+  AreUnits us one two = Each IsGood us × (one ≡ joined (flat_map specification_lines us)) × (two ≡ joined (flat_map unit_body_lines us))
+
+  pub units_to : (hs : List Head) (us : List programs.Unit) (two : List Token) → Each IsGoodHead hs → AreEach (IsBody nests chains) hs us two → AreUnits us (flat_map head_text hs) two
+  units_to [] [] two g b = (tt, refl, b)
+  units_to [] (u ∷ us) two g b = absurd b
+  units_to (h ∷ hs) [] two g b = absurd b
+  units_to (h ∷ hs) (u ∷ us) two g b =
+      let r = was_read h u b.0 b.2 in
+      let k = units_to hs us b.1 g.1 b.3 in (
+        (good_to u.name u.form (subst IsGoodHead r.same g.0) r.form, k.0),
+        glued (specification_lines u) (flat_map specification_lines us) (head_text h) (flat_map head_text hs) (ap head_text r.same ∙ specification_joined u.name u.form) k.1,
+        b.4 ∙ glued (unit_body_lines u) (flat_map unit_body_lines us) b.0 b.1 r.whole k.2,
       )
 
-  cyclic_step : (seen : Bool) (name own : Name) (priority p offset period : ℕ) (vars : List Datum) (block : Statements) (us : List programs.Unit) (one more two others : List Token) → IsHead seen (TaskHead own p) one →
-      IsBody nests chains (TaskHead own p) (record { name = name; form = Cyclic priority offset period vars block }) two → AreUnits true us more others →
-      AreUnits seen (record { name = name; form = Cyclic priority offset period vars block } ∷ us) (one ++ more) (two ++ others)
-  cyclic_step true name own priority p offset period vars block us one more two others k b ih = absurd (let no = k.1 in cc)
-  cyclic_step false name own priority p offset period vars block us one more two others k b ih =
-      let P : Name → Type 0 = λ n. (is_ada_name n ≡ true) × (one ≡ head_text (TaskHead n p)) × (two ≡ body_head_tokens n ++ (b.1 ++ end_tokens n)) in
-      let q : P name = subst P (sym b.0) (k.0, k.3, b.3) in (
-        ih.0,
-        ap suc ih.1,
-        ((q.0, (b.2.1, b.2.2)), ih.2),
-        glued (specification_lines (record { name = name; form = Cyclic priority offset period vars block })) (flat_map specification_lines us) one more
-            (q.1 ∙ ap (λ n. head_text (TaskHead name n)) (sym b.2.0) ∙ cyclic_specification name priority offset period vars block) ih.3,
-        glued (unit_body_lines (record { name = name; form = Cyclic priority offset period vars block })) (flat_map unit_body_lines us) two others
-            (q.2 ∙ ap (λ inner. body_head_tokens name ++ (inner ++ end_tokens name)) b.2.3 ∙ cyclic_body name priority offset period vars block) ih.4,
-      )
+  -- the specifications of units
+  abbrev pub heads_from : List programs.Unit → List Head
+  heads_from us = map (λ u. head_from u.name u.form) us
 
-  unit_step : (seen : Bool) (h : Head) (name : Name) (form : Form) (us : List programs.Unit) (one more two others : List Token) → IsHead seen h one → IsBody nests chains h (record { name = name; form = form }) two →
-      AreUnits (seen_after seen h) us more others → AreUnits seen (record { name = name; form = form } ∷ us) (one ++ more) (two ++ others)
-  unit_step seen (PassiveHead own sigs) name (Passive ops) us one more two others k b ih = passive_step seen name own ops sigs us one more two others k b ih
-  unit_step seen (PassiveHead own sigs) name (Shared ceiling vars ops) us one more two others k b ih = absurd b.2
-  unit_step seen (PassiveHead own sigs) name (Cyclic priority offset period vars block) us one more two others k b ih = absurd b.2
-  unit_step seen (PassiveHead own sigs) name (Sporadic priority ceiling op separation jitter external vars block) us one more two others k b ih = absurd b.2
-  unit_step seen (TaskHead own p) name (Passive ops) us one more two others k b ih = absurd b.2
-  unit_step seen (TaskHead own p) name (Shared ceiling vars ops) us one more two others k b ih = absurd b.2
-  unit_step seen (TaskHead own p) name (Cyclic priority offset period vars block) us one more two others k b ih = cyclic_step seen name own priority p offset period vars block us one more two others k b ih
-  unit_step seen (TaskHead own p) name (Sporadic priority ceiling op separation jitter external vars block) us one more two others k b ih = absurd b.2
+  pub heads_good : (us : List programs.Unit) → Each IsGood us → Each IsGoodHead (heads_from us)
+  heads_good [] g = tt
+  heads_good (u ∷ us) g = (good_head u.name u.form g.0, heads_good us g.1)
 
-  pub units_to : (seen : Bool) (hs : List Head) (us : List programs.Unit) (one two : List Token) → AreHeads seen hs one → AreEach (IsBody nests chains) hs us two → AreUnits seen us one two
-  units_to true [] [] one two g b = (refl, refl, tt, g.0, b)
-  units_to false [] [] one two g b = absurd (let no = g.1 in cc)
-  units_to seen [] (u ∷ us) one two g b = absurd b
-  units_to seen (h ∷ hs) [] one two g b = absurd b
-  units_to seen (h ∷ hs) (u ∷ us) one two g b =
-      let k = unit_step seen h u.name u.form us g.0 g.1 b.0 b.1 g.2 b.2 (units_to (seen_after seen h) hs us g.1 b.1 g.3 b.3) in
-      (k.0, k.1, k.2, g.4 ∙ k.3, b.4 ∙ k.4)
+  pub heads_joined : (us : List programs.Unit) → joined (flat_map specification_lines us) ≡ flat_map head_text (heads_from us)
+  heads_joined [] = refl
+  heads_joined (u ∷ us) = sym (glued (specification_lines u) (flat_map specification_lines us) _ _ (specification_joined u.name u.form) (sym (heads_joined us)))
 
-  -- the specifications of units, with what they and the bodies are
-  pub record Heads (seen : Bool) (us : List programs.Unit) : Type 0 where
-    pub heads : List Head
-    pub specified : AreHeads seen heads (joined (flat_map specification_lines us))
-    pub bodied : AreEach (IsBody nests chains) heads us (joined (flat_map unit_body_lines us))
+  body_back : (u : programs.Unit) → IsGood u → IsBody nests chains (head_from u.name u.form) u (joined (unit_body_lines u))
+  body_back u g =
+      let named = from_name u.name u.form in
+      let P : Name → Type 0 = λ n. (u.name ≡ n) × (inner : List Token) × ((head_from u.name u.form ≡ head_from n u.form) × HasForm nests chains u.form × (inner ≡ form_tokens u.form))
+      × (joined (unit_body_lines u) ≡ body_head_tokens n ++ (inner ++ end_tokens n)) in
+      subst P (sym named) (refl, form_tokens u.form, (refl, good_form u.name u.form g, refl), sym (body_joined u.name u.form))
 
-  passive_back : (seen : Bool) (name : Name) (ops : List Operation) (us : List programs.Unit) → IsGood (record { name = name; form = Passive ops }) → Heads seen us → Heads seen (record { name = name; form = Passive ops } ∷ us)
-  passive_back seen name ops us good ih = record {
-    heads = PassiveHead name (map (λ o. o.sig) ops) ∷ ih.heads;
-    specified = (
-      joined (specification_lines (record { name = name; form = Passive ops })),
-      joined (flat_map specification_lines us),
-      (good.0, tt, heads_named ops good.1, sym (passive_specification name ops)),
-      ih.specified,
-      joined-append (specification_lines (record { name = name; form = Passive ops })) (flat_map specification_lines us),
-    );
-    bodied = (
-      joined (unit_body_lines (record { name = name; form = Passive ops })),
-      joined (flat_map unit_body_lines us),
-      (refl, flat_map operation_tokens ops, (refl, bodies_proper ops good.1, refl), sym (passive_body name ops)),
-      ih.bodied,
-      joined-append (unit_body_lines (record { name = name; form = Passive ops })) (flat_map unit_body_lines us),
-    );
-  }
-
-  cyclic_back : (name : Name) (priority offset period : ℕ) (vars : List Datum) (block : Statements) (us : List programs.Unit) → IsGood (record { name = name; form = Cyclic priority offset period vars block }) →
-      Heads true us → Heads false (record { name = name; form = Cyclic priority offset period vars block } ∷ us)
-  cyclic_back name priority offset period vars block us good ih = record {
-    heads = TaskHead name priority ∷ ih.heads;
-    specified = (
-      joined (specification_lines (record { name = name; form = Cyclic priority offset period vars block })),
-      joined (flat_map specification_lines us),
-      (good.0, refl, tt, sym (cyclic_specification name priority offset period vars block)),
-      ih.specified,
-      joined-append (specification_lines (record { name = name; form = Cyclic priority offset period vars block })) (flat_map specification_lines us),
-    );
-    bodied = (
-      joined (unit_body_lines (record { name = name; form = Cyclic priority offset period vars block })),
-      joined (flat_map unit_body_lines us),
-      (refl, cyclic_tokens offset period vars block, (refl, good.1.0, good.1.1, refl), sym (cyclic_body name priority offset period vars block)),
-      ih.bodied,
-      joined-append (unit_body_lines (record { name = name; form = Cyclic priority offset period vars block })) (flat_map unit_body_lines us),
-    );
-  }
-
-  unit_back : (seen : Bool) (name : Name) (form : Form) (us : List programs.Unit) → are_sequential (record { name = name; form = form } ∷ us) ≡ true → tasks (record { name = name; form = form } ∷ us) ≡ tasks_left seen →
-      IsGood (record { name = name; form = form }) → ((s : Bool) → are_sequential us ≡ true → tasks us ≡ tasks_left s → Heads s us) → Heads seen (record { name = name; form = form } ∷ us)
-  unit_back seen name (Passive ops) us all count good ih = passive_back seen name ops us good (ih seen all count)
-  unit_back true name (Cyclic priority offset period vars block) us all count good ih = absurd (omega (arith, count))
-  unit_back false name (Cyclic priority offset period vars block) us all count good ih = cyclic_back name priority offset period vars block us good (ih true all (omega (arith, count)))
-  unit_back seen name (Shared ceiling vars ops) us all count good ih = absurd (cc)
-  unit_back seen name (Sporadic priority ceiling op separation jitter external vars block) us all count good ih = absurd (cc)
-
-  pub units_back : (seen : Bool) (us : List programs.Unit) → are_sequential us ≡ true → tasks us ≡ tasks_left seen → Each IsGood us → Heads seen us
-  units_back true [] all count good = record { heads = []; specified = (refl, refl); bodied = refl }
-  units_back false [] all count good = absurd (omega (arith, count))
-  units_back seen (u ∷ us) all count good = unit_back seen u.name u.form us all count good.0 (λ s rest few. units_back s us rest few good.1)
+  pub bodies_back : (us : List programs.Unit) → Each IsGood us → AreEach (IsBody nests chains) (heads_from us) us (joined (flat_map unit_body_lines us))
+  bodies_back [] g = refl
+  bodies_back (u ∷ us) g =
+      (joined (unit_body_lines u), joined (flat_map unit_body_lines us), body_back u g.0, bodies_back us g.1, joined-append (unit_body_lines u) (flat_map unit_body_lines us))

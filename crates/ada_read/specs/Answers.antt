@@ -18,7 +18,6 @@ use Rattle.ada_tree.specs.Words.{is_ada_name}
 use Rattle.ada_tree.specs.Proper.{IsProperProgram}
 use Rattle.ada_tree.specs.Spelling.{program_tokens}
 use Rattle.ada_tree.specs.Reading.{Reads, Accepts}
-use Rattle.ada_tree.specs.InUse.{IsSequentialProgram}
 use Rattle.ada_tree.specs.declared.program.AdaProgram.{AdaProgram}
 use Rattle.ada_rules.specs.Verdicts as verdicts
 use Rattle.ada_rules.specs.declared.verdict.AdaRule.{AdaRule}
@@ -37,19 +36,18 @@ fault_of (lex.Number place) = Text (fault.Number place)
 fault_of (lex.Long place) = Text (fault.Long place)
 fault_of lex.NoMemory = NoMemory
 
--- a program that is read so far, with its tokens
+-- a program with its tokens
 pub record IsTextOf (p : Program) (text : List Token) : Type 0 where
-  pub sequential : IsSequentialProgram p
   pub proper : IsProperProgram (within_limits is_ada_name) p
   pub spelled : text ≡ program_tokens p
 
--- the tokens of some program that is read so far
+-- the tokens of some program
 abbrev pub SomeProgram : List Token → Type 0
 SomeProgram text = (p : Program) × IsTextOf p text
 
--- the tokens of some such program, whatever its nesting and its chains
+-- the tokens of some program, whatever its nesting and its chains
 abbrev pub AnyProgram : List Token → Type 0
-AnyProgram text = (p : Program) × IsSequentialProgram p × IsProperProgram (without_limits is_ada_name) p × (text ≡ program_tokens p)
+AnyProgram text = (p : Program) × IsProperProgram (without_limits is_ada_name) p × (text ≡ program_tokens p)
 
 -- a text that is short enough, and whose tokens have this fault at this place
 abbrev pub IsFaultyAt : List ℕ → Place → (ℕ → Fault) → Type 0
@@ -59,17 +57,16 @@ IsFaultyAt bytes place kind = texts.IsFaultyAt AnyProgram SomeProgram 16777216 b
 abbrev pub Faults : List ℕ → TextFault → Type 0
 Faults bytes fault = texts.Faults AnyProgram SomeProgram 16777216 bytes fault
 
--- a text that reads as one program, and as no other that is read so far, which breaks this rule first, at this unit
+-- a text that reads as one program, and as no other, which breaks this rule first, at this unit
 pub record Breaks (bytes : List ℕ) (rule : AdaRule) (unit : Option Name) : Type 0 where
   pub program : Program
-  pub sequential : IsSequentialProgram program
   pub reads : Reads bytes program
-  pub alone : (p : Program) → IsSequentialProgram p → Reads bytes p → p ≡ program
+  pub alone : (p : Program) → Reads bytes p → p ≡ program
   pub broken : verdicts.Says program (Err (told.Rule rule unit))
 
 -- what an answer says; want of memory says nothing
 abbrev pub Says : List ℕ → Result AdaProgram AdaFault → Type 0
-Says bytes (Ok p) = Accepts bytes (program_of p) × IsSequentialProgram (program_of p)
+Says bytes (Ok p) = Accepts bytes (program_of p)
 Says bytes (Err (Text fault)) = Faults bytes fault
 Says bytes (Err (Rule rule unit)) = Breaks bytes rule unit
 Says bytes (Err NoMemory) = ⊤

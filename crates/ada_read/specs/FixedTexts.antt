@@ -53,6 +53,37 @@ fixed_tokens fixed.TaskLoop =
 fixed_tokens fixed.Main =
     Sign Semicolon ∷ Word (codes "procedure") ∷ Word (codes "hrt_main") ∷ Word (codes "is") ∷ Word (codes "begin") ∷
     Word (codes "null") ∷ Sign Semicolon ∷ Word (codes "end") ∷ Word (codes "hrt_main") ∷ Sign Semicolon ∷ []
+fixed_tokens fixed.ObjectHead = Word (codes "hrt_object") ∷ Word (codes "is") ∷ Word (codes "pragma") ∷ Word (codes "priority") ∷ Sign LeftParen ∷ []
+fixed_tokens fixed.ObjectEnd = Word (codes "end") ∷ Word (codes "hrt_object") ∷ Sign Semicolon ∷ []
+fixed_tokens fixed.ObjectBody = Word (codes "protected") ∷ Word (codes "body") ∷ Word (codes "hrt_object") ∷ Word (codes "is") ∷ []
+fixed_tokens fixed.RequestHead = Word (codes "hrt_obcs") ∷ Word (codes "is") ∷ Word (codes "pragma") ∷ Word (codes "priority") ∷ Sign LeftParen ∷ []
+fixed_tokens fixed.RequestParam = Sign Colon ∷ Word (codes "in") ∷ Word (codes "word") ∷ Sign RightParen ∷ Sign Semicolon ∷ []
+fixed_tokens fixed.Entry =
+    Word (codes "entry") ∷ Word (codes "hrt_wait") ∷ Sign LeftParen ∷ Word (codes "hrt_request") ∷ Sign Colon ∷ Word (codes "out") ∷
+    Word (codes "word") ∷ Sign RightParen ∷ Sign Semicolon ∷ Word (codes "private") ∷ Word (codes "hrt_value") ∷ Sign Colon ∷
+    Word (codes "word") ∷ Sign Becomes ∷ Number 0 ∷ Sign Semicolon ∷ Word (codes "hrt_open") ∷ Sign Colon ∷ Word (codes "boolean") ∷
+    Sign Becomes ∷ Word (codes "false") ∷ Sign Semicolon ∷ Word (codes "end") ∷ Word (codes "hrt_obcs") ∷ Sign Semicolon ∷ []
+fixed_tokens fixed.Renames = Word (codes "renames") ∷ Word (codes "hrt_object") ∷ Sign Dot ∷ []
+fixed_tokens fixed.RequestRenames = Word (codes "renames") ∷ Word (codes "hrt_obcs") ∷ Sign Dot ∷ []
+fixed_tokens fixed.Separation =
+    Sign RightParen ∷ Sign Semicolon ∷ Word (codes "end") ∷ Word (codes "hrt_thread") ∷ Sign Semicolon ∷
+    Word (codes "hrt_separation") ∷ Sign Colon ∷ Word (codes "constant") ∷ Sign Becomes ∷ []
+fixed_tokens fixed.Jitter = Sign Semicolon ∷ Word (codes "hrt_jitter") ∷ Sign Colon ∷ Word (codes "constant") ∷ Sign Becomes ∷ []
+fixed_tokens fixed.External = Sign Semicolon ∷ Word (codes "hrt_external") ∷ Sign Colon ∷ Word (codes "constant") ∷ Word (codes "boolean") ∷ Sign Becomes ∷ []
+fixed_tokens fixed.RequestBody = Word (codes "protected") ∷ Word (codes "body") ∷ Word (codes "hrt_obcs") ∷ Word (codes "is") ∷ []
+fixed_tokens fixed.Keep = Word (codes "is") ∷ Word (codes "begin") ∷ Word (codes "hrt_value") ∷ Sign Becomes ∷ []
+fixed_tokens fixed.Zero = Number 0 ∷ []
+fixed_tokens fixed.Opened = Sign Semicolon ∷ Word (codes "hrt_open") ∷ Sign Becomes ∷ Word (codes "true") ∷ Sign Semicolon ∷ Word (codes "end") ∷ []
+fixed_tokens fixed.Wait =
+    Sign Semicolon ∷ Word (codes "entry") ∷ Word (codes "hrt_wait") ∷ Sign LeftParen ∷ Word (codes "hrt_request") ∷ Sign Colon ∷
+    Word (codes "out") ∷ Word (codes "word") ∷ Sign RightParen ∷ Word (codes "when") ∷ Word (codes "hrt_open") ∷ Word (codes "is") ∷
+    Word (codes "begin") ∷ Word (codes "hrt_request") ∷ Sign Becomes ∷ Word (codes "hrt_value") ∷ Sign Semicolon ∷
+    Word (codes "hrt_open") ∷ Sign Becomes ∷ Word (codes "false") ∷ Sign Semicolon ∷ Word (codes "end") ∷ Word (codes "hrt_wait") ∷
+    Sign Semicolon ∷ Word (codes "end") ∷ Word (codes "hrt_obcs") ∷ Sign Semicolon ∷ Word (codes "task") ∷ Word (codes "body") ∷
+    Word (codes "hrt_thread") ∷ Word (codes "is") ∷ []
+fixed_tokens fixed.Waiting =
+    Sign Colon ∷ Word (codes "word") ∷ Sign Becomes ∷ Number 0 ∷ Sign Semicolon ∷ Word (codes "begin") ∷ Word (codes "loop") ∷
+    Word (codes "hrt_obcs") ∷ Sign Dot ∷ Word (codes "hrt_wait") ∷ Sign LeftParen ∷ []
 
 -- a further parameter
 abbrev pub more_tokens : Param → List Token

@@ -1,76 +1,21 @@
 ghost use Rattle.std.specs.Prelude.{◌≡◌, map};
 ghost use Rattle.seq_tree.specs.Trees.{block_of, operation_of, signature_of};
-ghost use Rattle.ada_tree.specs.Spelling.{head_tokens, param_tokens, params_tokens};
 ghost use Rattle.ada_tree.specs.Trees.{form_of, unit_of};
 ghost use Rattle.token_read.specs.Words.{bare};
-ghost use Rattle.token_read.specs.Readers.{phrase_at, fixed_at};
-ghost use Rattle.ada_tree.specs.Words.{is_ada_name};
 ghost use Rattle.seq_read.specs.Halts.{Gives};
-ghost use Rattle.seq_read.specs.Parts.{data_at};
-ghost use Rattle.ada_read.specs.FixedTexts.{rest_tokens};
 ghost use Rattle.ada_read.specs.Heads.{head_of};
-ghost use Rattle.ada_read.specs.Readers.{ada_block_at, operation_at, operations_at, cyclic_at, passive_at, form_at, body_head_at, body_at, bodies_at};
+ghost use Rattle.ada_read.specs.Readers.{ada_block_at, operation_at, operations_at, cyclic_at, passive_at, shared_at, serving_at, form_at, body_head_at, body_at, bodies_at};
 
+use crate::copying::copy_data;
 use crate::fixed_text::{FixedText, fixed};
 use crate::heads::{UnitHead, head_name};
+use crate::names::data;
+use crate::renamings::same_head;
+use crate::requests::{keeping, waiting};
 use ada_tree::{Form, Unit};
-use seq_read::{Halt, Text, end_of, mark, number, word};
-use seq_tree::{Block, Datum, Mark, Mode, Name, OpSig, OpText, Param, Spanned};
+use seq_read::{Halt, Text, end_of, number, word};
+use seq_tree::{Block, Datum, Name, OpSig, OpText, Spanned};
 use std::alloc::Global;
-
-/// The tokens after this parameter, which is first.
-fn same_param<'a>(tokens: &'a [Spanned], param: &Param) -> Result<&'a [Spanned], Halt>
-    ensures { Gives (λ r. (tt, bare r.now)) result (phrase_at (param_tokens param.now) (bare tokens.entry.now)) }
-{
-    let tokens = word(tokens, param.name.bytes())?;
-    let tokens = mark(tokens, Mark::Colon)?;
-    let tokens = match param.mode {
-        Mode::In => word(tokens, b"in")?,
-        Mode::Out => word(tokens, b"out")?,
-    };
-    word(tokens, b"word")
-}
-
-/// The tokens after these further parameters, which are first, and the end of their list.
-fn same_rest<'a>(tokens: &'a [Spanned], params: &[Param]) -> Result<&'a [Spanned], Halt>
-    ensures { Gives (λ r. (tt, bare r.now)) result (phrase_at (rest_tokens params.now) (bare tokens.entry.now)) }
-{
-    let mut rest = tokens;
-    'params: for param in params {
-        rest = mark(rest, Mark::Semicolon)?;
-        rest = same_param(rest, param)?;
-    }
-    mark(rest, Mark::RightParen)
-}
-
-/// The tokens after these parameters, which are first.
-fn same_params<'a>(tokens: &'a [Spanned], params: &[Param]) -> Result<&'a [Spanned], Halt>
-    ensures { Gives (λ r. (tt, bare r.now)) result (phrase_at (params_tokens params.now) (bare tokens.entry.now)) }
-{
-    let Some((head, others)) = params.split_first() else {
-        return Ok(tokens);
-    };
-    let tokens = mark(tokens, Mark::LeftParen)?;
-    let tokens = same_param(tokens, head)?;
-    same_rest(tokens, others)
-}
-
-/// The tokens after this head of an operation, which is first.
-fn same_head<'a>(tokens: &'a [Spanned], sig: &OpSig) -> Result<&'a [Spanned], Halt>
-    ensures { Gives (λ r. (tt, bare r.now)) result (phrase_at (head_tokens (signature_of sig.now)) (bare tokens.entry.now)) }
-{
-    let tokens = word(tokens, b"procedure")?;
-    let tokens = word(tokens, sig.name.bytes())?;
-    same_params(tokens, &sig.params)
-}
-
-/// Variables, as many as there are, and the tokens after them.
-#[tactic(auto, unfolding(seq_read::specs::Names::may_name))]
-fn data(alloc: Global, tokens: &[Spanned]) -> Result<(Vec<Datum>, &[Spanned]), Halt>
-    ensures { Gives (λ r. (r.0.items, bare r.1.now)) result (data_at is_ada_name (bare tokens.now)) }
-{
-    seq_read::data(alloc, tokens, Text::Ada)
-}
 
 /// The longest block at the front, and the tokens after it.
 #[tactic(auto, unfolding(seq_read::specs::Names::may_name))]
@@ -154,6 +99,42 @@ fn cyclic(alloc: Global, tokens: &[Spanned], priority: u32) -> Result<(Form, &[S
     Ok((form, tokens))
 }
 
+/// What stands in the body of a protected unit with operations of these heads and with this ceiling and these data, and the tokens
+/// after it.
+#[tactic(auto, unfolding(crate::specs::Readers::shared_at))]
+fn shared<'a>(
+    alloc: Global,
+    tokens: &'a [Spanned],
+    ceiling: u32,
+    sigs: &[OpSig],
+    vars: &[Datum],
+) -> Result<(Form, &'a [Spanned]), Halt>
+    ensures { Gives (λ r. (form_of r.0, bare r.1.now)) result (shared_at ada_block_at ceiling (map signature_of sigs.now) vars.now (bare tokens.entry.now)) }
+{
+    let tokens = fixed(tokens, FixedText::ObjectBody)?;
+    let (ops, tokens) = operations(alloc, tokens, sigs)?;
+    let tokens = fixed(tokens, FixedText::ObjectEnd)?;
+    let vars = copy_data(alloc, vars)?;
+    let form = Form::Shared { ceiling, vars, ops };
+    Ok((form, tokens))
+}
+
+/// The statements of a task that waits for this request, and the tokens after the task.
+#[tactic(auto, unfolding(crate::specs::Readers::serving_at))]
+fn serving<'a>(
+    alloc: Global,
+    tokens: &'a [Spanned],
+    op: &OpSig,
+) -> Result<(Block, &'a [Spanned]), Halt>
+    ensures { Gives (λ r. (block_of r.0, bare r.1.now)) result (serving_at ada_block_at (signature_of op.now) (bare tokens.entry.now)) }
+{
+    let tokens = keeping(tokens, op)?;
+    let tokens = waiting(tokens, &op.params)?;
+    let (block, tokens) = block(alloc, tokens)?;
+    let tokens = fixed(tokens, FixedText::TaskLoop)?;
+    Ok((block, tokens))
+}
+
 /// What stands in the body of a unit with this specification, and the tokens after it.
 #[tactic(auto, unfolding(crate::specs::Readers::form_at))]
 fn form<'a>(
@@ -165,7 +146,37 @@ fn form<'a>(
 {
     match head {
         UnitHead::Passive { sigs, .. } => passive(alloc, tokens, sigs),
-        UnitHead::Task { priority, .. } => cyclic(alloc, tokens, *priority),
+        UnitHead::Shared {
+            ceiling,
+            sigs,
+            vars,
+            ..
+        } => shared(alloc, tokens, *ceiling, sigs, vars),
+        UnitHead::Cyclic { priority, .. } => cyclic(alloc, tokens, *priority),
+        UnitHead::Sporadic {
+            priority,
+            ceiling,
+            op,
+            separation,
+            jitter,
+            external,
+            ..
+        } => {
+            let (vars, tokens) = data(alloc, tokens)?;
+            let (block, tokens) = serving(alloc, tokens, op)?;
+            let op = op.copy(alloc)?;
+            let form = Form::Sporadic {
+                priority: *priority,
+                ceiling: *ceiling,
+                op,
+                separation: *separation,
+                jitter: *jitter,
+                external: *external,
+                vars,
+                block,
+            };
+            Ok((form, tokens))
+        }
     }
 }
 

@@ -31,6 +31,40 @@ pub(crate) enum FixedText {
     Close,
     /// The text from the last statement of a task to the end of its body.
     TaskLoop,
+    /// The declaration of a protected object from its name to its ceiling.
+    ObjectHead,
+    /// The end of a protected object.
+    ObjectEnd,
+    /// The beginning of the body of a protected object.
+    ObjectBody,
+    /// The declaration of a sporadic unit's protected object from its name to its ceiling.
+    RequestHead,
+    /// The parameter of a request from its name to the end of the declaration.
+    RequestParam,
+    /// The declaration of that object behind the request.
+    Entry,
+    /// What stands between the head of an operation and the name by which the object has it.
+    Renames,
+    /// What stands there in a sporadic unit.
+    RequestRenames,
+    /// The declaration of a sporadic unit's task from its priority to the unit's separation.
+    Separation,
+    /// The text from the separation to the jitter.
+    Jitter,
+    /// The text from the jitter to what says whether requests come from outside.
+    External,
+    /// The beginning of the body of a sporadic unit's protected object.
+    RequestBody,
+    /// The body of the request up to the value that it keeps.
+    Keep,
+    /// The value that a request without a parameter keeps.
+    Zero,
+    /// The body of the request from that value to its name.
+    Opened,
+    /// The text from the name of the request to the variable of the task.
+    Wait,
+    /// The text from that variable to where it is used.
+    Waiting,
     /// The main procedure, behind the name that it needs.
     Main,
 }
@@ -217,6 +251,185 @@ const MAIN: [Item; 10] = [
     Item::Sign(Mark::Semicolon),
 ];
 
+const OBJECT_HEAD: [Item; 5] = [
+    Item::Word("hrt_object"),
+    Item::Word("is"),
+    Item::Word("pragma"),
+    Item::Word("priority"),
+    Item::Sign(Mark::LeftParen),
+];
+
+const OBJECT_END: [Item; 3] = [
+    Item::Word("end"),
+    Item::Word("hrt_object"),
+    Item::Sign(Mark::Semicolon),
+];
+
+const OBJECT_BODY: [Item; 4] = [
+    Item::Word("protected"),
+    Item::Word("body"),
+    Item::Word("hrt_object"),
+    Item::Word("is"),
+];
+
+const REQUEST_HEAD: [Item; 5] = [
+    Item::Word("hrt_obcs"),
+    Item::Word("is"),
+    Item::Word("pragma"),
+    Item::Word("priority"),
+    Item::Sign(Mark::LeftParen),
+];
+
+const REQUEST_PARAM: [Item; 5] = [
+    Item::Sign(Mark::Colon),
+    Item::Word("in"),
+    Item::Word("word"),
+    Item::Sign(Mark::RightParen),
+    Item::Sign(Mark::Semicolon),
+];
+
+const ENTRY: [Item; 25] = [
+    Item::Word("entry"),
+    Item::Word("hrt_wait"),
+    Item::Sign(Mark::LeftParen),
+    Item::Word("hrt_request"),
+    Item::Sign(Mark::Colon),
+    Item::Word("out"),
+    Item::Word("word"),
+    Item::Sign(Mark::RightParen),
+    Item::Sign(Mark::Semicolon),
+    Item::Word("private"),
+    Item::Word("hrt_value"),
+    Item::Sign(Mark::Colon),
+    Item::Word("word"),
+    Item::Sign(Mark::Becomes),
+    Item::Number(0),
+    Item::Sign(Mark::Semicolon),
+    Item::Word("hrt_open"),
+    Item::Sign(Mark::Colon),
+    Item::Word("boolean"),
+    Item::Sign(Mark::Becomes),
+    Item::Word("false"),
+    Item::Sign(Mark::Semicolon),
+    Item::Word("end"),
+    Item::Word("hrt_obcs"),
+    Item::Sign(Mark::Semicolon),
+];
+
+const RENAMES: [Item; 3] = [
+    Item::Word("renames"),
+    Item::Word("hrt_object"),
+    Item::Sign(Mark::Dot),
+];
+
+const REQUEST_RENAMES: [Item; 3] = [
+    Item::Word("renames"),
+    Item::Word("hrt_obcs"),
+    Item::Sign(Mark::Dot),
+];
+
+const SEPARATION: [Item; 9] = [
+    Item::Sign(Mark::RightParen),
+    Item::Sign(Mark::Semicolon),
+    Item::Word("end"),
+    Item::Word("hrt_thread"),
+    Item::Sign(Mark::Semicolon),
+    Item::Word("hrt_separation"),
+    Item::Sign(Mark::Colon),
+    Item::Word("constant"),
+    Item::Sign(Mark::Becomes),
+];
+
+const JITTER: [Item; 5] = [
+    Item::Sign(Mark::Semicolon),
+    Item::Word("hrt_jitter"),
+    Item::Sign(Mark::Colon),
+    Item::Word("constant"),
+    Item::Sign(Mark::Becomes),
+];
+
+const EXTERNAL: [Item; 6] = [
+    Item::Sign(Mark::Semicolon),
+    Item::Word("hrt_external"),
+    Item::Sign(Mark::Colon),
+    Item::Word("constant"),
+    Item::Word("boolean"),
+    Item::Sign(Mark::Becomes),
+];
+
+const REQUEST_BODY: [Item; 4] = [
+    Item::Word("protected"),
+    Item::Word("body"),
+    Item::Word("hrt_obcs"),
+    Item::Word("is"),
+];
+
+const KEEP: [Item; 4] = [
+    Item::Word("is"),
+    Item::Word("begin"),
+    Item::Word("hrt_value"),
+    Item::Sign(Mark::Becomes),
+];
+
+const ZERO: [Item; 1] = [Item::Number(0)];
+
+const OPENED: [Item; 6] = [
+    Item::Sign(Mark::Semicolon),
+    Item::Word("hrt_open"),
+    Item::Sign(Mark::Becomes),
+    Item::Word("true"),
+    Item::Sign(Mark::Semicolon),
+    Item::Word("end"),
+];
+
+const WAIT: [Item; 31] = [
+    Item::Sign(Mark::Semicolon),
+    Item::Word("entry"),
+    Item::Word("hrt_wait"),
+    Item::Sign(Mark::LeftParen),
+    Item::Word("hrt_request"),
+    Item::Sign(Mark::Colon),
+    Item::Word("out"),
+    Item::Word("word"),
+    Item::Sign(Mark::RightParen),
+    Item::Word("when"),
+    Item::Word("hrt_open"),
+    Item::Word("is"),
+    Item::Word("begin"),
+    Item::Word("hrt_request"),
+    Item::Sign(Mark::Becomes),
+    Item::Word("hrt_value"),
+    Item::Sign(Mark::Semicolon),
+    Item::Word("hrt_open"),
+    Item::Sign(Mark::Becomes),
+    Item::Word("false"),
+    Item::Sign(Mark::Semicolon),
+    Item::Word("end"),
+    Item::Word("hrt_wait"),
+    Item::Sign(Mark::Semicolon),
+    Item::Word("end"),
+    Item::Word("hrt_obcs"),
+    Item::Sign(Mark::Semicolon),
+    Item::Word("task"),
+    Item::Word("body"),
+    Item::Word("hrt_thread"),
+    Item::Word("is"),
+];
+
+const WAITING: [Item; 11] = [
+    Item::Sign(Mark::Colon),
+    Item::Word("word"),
+    Item::Sign(Mark::Becomes),
+    Item::Number(0),
+    Item::Sign(Mark::Semicolon),
+    Item::Word("begin"),
+    Item::Word("loop"),
+    Item::Word("hrt_obcs"),
+    Item::Sign(Mark::Dot),
+    Item::Word("hrt_wait"),
+    Item::Sign(Mark::LeftParen),
+];
+
 /// The tokens of a fixed text.
 #[tactic(auto, unfolding(crate::specs::FixedTexts::fixed_tokens))]
 fn items(text: FixedText) -> &'static [Item]
@@ -234,6 +447,23 @@ fn items(text: FixedText) -> &'static [Item]
         FixedText::Close => &CLOSE,
         FixedText::TaskLoop => &TASK_LOOP,
         FixedText::Main => &MAIN,
+        FixedText::ObjectHead => &OBJECT_HEAD,
+        FixedText::ObjectEnd => &OBJECT_END,
+        FixedText::ObjectBody => &OBJECT_BODY,
+        FixedText::RequestHead => &REQUEST_HEAD,
+        FixedText::RequestParam => &REQUEST_PARAM,
+        FixedText::Entry => &ENTRY,
+        FixedText::Renames => &RENAMES,
+        FixedText::RequestRenames => &REQUEST_RENAMES,
+        FixedText::Separation => &SEPARATION,
+        FixedText::Jitter => &JITTER,
+        FixedText::External => &EXTERNAL,
+        FixedText::RequestBody => &REQUEST_BODY,
+        FixedText::Keep => &KEEP,
+        FixedText::Zero => &ZERO,
+        FixedText::Opened => &OPENED,
+        FixedText::Wait => &WAIT,
+        FixedText::Waiting => &WAITING,
     }
 }
 

@@ -1,15 +1,18 @@
 ghost use Rattle.std.specs.Prelude.{◌≡◌, map};
-ghost use Rattle.grammar.specs.Reading.{first};
+ghost use Rattle.seq_tree.specs.Trees.{signature_of};
 ghost use Rattle.token_read.specs.Words.{bare};
 ghost use Rattle.seq_read.specs.Halts.{Gives};
-ghost use Rattle.ada_read.specs.Heads.{head_of, head_name, seen_after};
-ghost use Rattle.ada_read.specs.Readers.{task_head_at, passive_head_at, begins_task, inner_at, head_at, begins_head, heads_at};
+ghost use Rattle.seq_read.specs.Parts.{named_at};
+ghost use Rattle.ada_read.specs.Heads.{head_of, head_name};
+ghost use Rattle.ada_read.specs.Readers.{constants_at, cyclic_head_at, head_at, heads_at, inner_at, object_head_at, passive_head_at, renamings_at, shared_head_at, sporadic_head_at, truth_named};
 
 use crate::fixed_text::{FixedText, fixed};
-use crate::names::name;
+use crate::names::{data, name};
 use crate::params::declarations;
-use seq_read::{Halt, end_of, number, word};
-use seq_tree::{Name, OpSig, Spanned};
+use crate::renamings::{renaming, request_renaming};
+use crate::requests::request;
+use seq_read::{Halt, any_word, end_of, mark, number, word};
+use seq_tree::{Datum, Mark, Name, OpSig, Spanned};
 use std::alloc::Global;
 use token_read::next_is_word;
 
@@ -17,9 +20,32 @@ use token_read::next_is_word;
 #[derive(Drop)]
 pub(crate) enum UnitHead {
     /// Operations alone, by their heads.
-    Passive { name: Name, sigs: Vec<OpSig> },
-    /// A task of this priority.
-    Task { name: Name, priority: u32 },
+    Passive {
+        name: Name,
+        sigs: Vec<OpSig>,
+    },
+    /// A protected object with this ceiling, with operations by their heads, and with data.
+    Shared {
+        name: Name,
+        ceiling: u32,
+        sigs: Vec<OpSig>,
+        vars: Vec<Datum>,
+    },
+    /// A cyclic task of this priority.
+    Cyclic {
+        name: Name,
+        priority: u32,
+    },
+    /// A task that waits for requests, with its protected object's ceiling and its constants.
+    Sporadic {
+        name: Name,
+        priority: u32,
+        ceiling: u32,
+        op: OpSig,
+        separation: u32,
+        jitter: u32,
+        external: bool,
+    },
 }
 
 /// The name of the unit.
@@ -28,30 +54,22 @@ pub(crate) fn head_name(head: &UnitHead) -> &Name
 {
     match head {
         UnitHead::Passive { name, .. } => name,
-        UnitHead::Task { name, .. } => name,
+        UnitHead::Shared { name, .. } => name,
+        UnitHead::Cyclic { name, .. } => name,
+        UnitHead::Sporadic { name, .. } => name,
     }
 }
 
-/// Whether a task has been read, behind a specification.
-fn seen_after(seen: bool, head: &UnitHead) -> bool
-    ensures { result ≡ seen_after seen (head_of head.now) }
-{
-    match head {
-        UnitHead::Passive { .. } => seen,
-        UnitHead::Task { .. } => true,
-    }
-}
-
-/// The specification of a unit of this name with a task, behind the name, and the tokens after it.
-#[tactic(auto, unfolding(crate::specs::Readers::task_head_at))]
-fn task_head(name: Name, tokens: &[Spanned]) -> Result<(UnitHead, &[Spanned]), Halt>
-    ensures { Gives (λ r. (head_of r.0, bare r.1.now)) result (task_head_at name (bare tokens.now)) }
+/// The specification of a cyclic unit of this name, behind the name, and the tokens after it.
+#[tactic(auto, unfolding(crate::specs::Readers::cyclic_head_at))]
+fn cyclic_head(name: Name, tokens: &[Spanned]) -> Result<(UnitHead, &[Spanned]), Halt>
+    ensures { Gives (λ r. (head_of r.0, bare r.1.now)) result (cyclic_head_at name (bare tokens.now)) }
 {
     let tokens = fixed(tokens, FixedText::TaskHead)?;
     let (priority, tokens) = number(tokens)?;
     let tokens = fixed(tokens, FixedText::TaskEnd)?;
     let tokens = end_of(tokens, name.bytes())?;
-    Ok((UnitHead::Task { name, priority }, tokens))
+    Ok((UnitHead::Cyclic { name, priority }, tokens))
 }
 
 /// The specification of a passive unit of this name, behind the name, and the tokens after it.
@@ -68,46 +86,172 @@ fn passive_head(
     Ok((UnitHead::Passive { name, sigs }, tokens))
 }
 
-/// Whether a task is next that may stand there: where none has been read before.
-fn begins_task(tokens: &[Spanned], seen: bool) -> bool
-    ensures { result ≡ begins_task seen (first (bare tokens.now)) }
+/// The tokens after the names by which these operations of a protected unit are called.
+fn renamings<'a>(tokens: &'a [Spanned], sigs: &[OpSig]) -> Result<&'a [Spanned], Halt>
+    ensures { Gives (λ r. (tt, bare r.now)) result (renamings_at (map signature_of sigs.now) (bare tokens.entry.now)) }
 {
-    !seen && next_is_word(tokens, b"task")
+    let mut rest = tokens;
+    'sigs: for sig in sigs {
+        rest = renaming(rest, sig)?;
+    }
+    Ok(rest)
 }
 
-/// The specification of a unit, and the tokens after it.
-#[tactic(auto, unfolding(crate::specs::Readers::head_at, crate::specs::Readers::inner_at))]
-fn head(alloc: Global, tokens: &[Spanned], seen: bool) -> Result<(UnitHead, &[Spanned]), Halt>
-    ensures { Gives (λ r. (head_of r.0, bare r.1.now)) result (head_at seen (bare tokens.now)) }
+/// The specification of a protected unit of this name, behind `protected`, and the tokens after it.
+#[tactic(auto, unfolding(crate::specs::Readers::shared_head_at))]
+fn shared_head(
+    alloc: Global,
+    name: Name,
+    tokens: &[Spanned],
+) -> Result<(UnitHead, &[Spanned]), Halt>
+    ensures { Gives (λ r. (head_of r.0, bare r.1.now)) result (shared_head_at name (bare tokens.now)) }
 {
-    let tokens = word(tokens, b"package")?;
-    let (name, tokens) = name(alloc, tokens)?;
-    let tokens = word(tokens, b"is")?;
-    if begins_task(tokens, seen) {
-        task_head(name, tokens)
+    let tokens = fixed(tokens, FixedText::ObjectHead)?;
+    let (ceiling, tokens) = number(tokens)?;
+    let tokens = fixed(tokens, FixedText::Close)?;
+    let (sigs, tokens) = declarations(alloc, tokens)?;
+    let tokens = word(tokens, b"private")?;
+    let (vars, tokens) = data(alloc, tokens)?;
+    let tokens = fixed(tokens, FixedText::ObjectEnd)?;
+    let tokens = renamings(tokens, &sigs)?;
+    let tokens = end_of(tokens, name.bytes())?;
+    let head = UnitHead::Shared {
+        name,
+        ceiling,
+        sigs,
+        vars,
+    };
+    Ok((head, tokens))
+}
+
+/// The truth value that a word stands for, where it does so.
+#[tactic(auto, unfolding(crate::specs::Readers::truth_named))]
+fn truth_named(name: &[u8]) -> Option<bool>
+    ensures { result ≡ truth_named name.now }
+{
+    if name == b"true".as_slice() {
+        Some(true)
+    } else if name == b"false".as_slice() {
+        Some(false)
+    } else {
+        None
+    }
+}
+
+/// The truth value that is first, and the tokens after it.
+#[tactic(auto, unfolding(seq_read::specs::Parts::named_at, token_read::specs::Readers::word_at))]
+fn truth(tokens: &[Spanned]) -> Result<(bool, &[Spanned]), Halt>
+    ensures { Gives (λ r. (r.0, bare r.1.now)) result (named_at truth_named (bare tokens.now)) }
+{
+    let (word, rest) = any_word(tokens)?;
+    match truth_named(word.bytes()) {
+        Some(value) => Ok((value, rest)),
+        None => Err(Halt::Syntax(tokens.len())),
+    }
+}
+
+/// The specification of a sporadic unit of this name, with this ceiling and this request, from its priority on, and the tokens
+/// after it.
+#[tactic(auto, unfolding(crate::specs::Readers::constants_at))]
+fn constants(
+    name: Name,
+    ceiling: u32,
+    op: OpSig,
+    tokens: &[Spanned],
+) -> Result<(UnitHead, &[Spanned]), Halt>
+    ensures { Gives (λ r. (head_of r.0, bare r.1.now)) result (constants_at name ceiling (signature_of op) (bare tokens.now)) }
+{
+    let tokens = fixed(tokens, FixedText::TaskHead)?;
+    let (priority, tokens) = number(tokens)?;
+    let tokens = fixed(tokens, FixedText::Separation)?;
+    let (separation, tokens) = number(tokens)?;
+    let tokens = fixed(tokens, FixedText::Jitter)?;
+    let (jitter, tokens) = number(tokens)?;
+    let tokens = fixed(tokens, FixedText::External)?;
+    let (external, tokens) = truth(tokens)?;
+    let tokens = mark(tokens, Mark::Semicolon)?;
+    let tokens = end_of(tokens, name.bytes())?;
+    let head = UnitHead::Sporadic {
+        name,
+        priority,
+        ceiling,
+        op,
+        separation,
+        jitter,
+        external,
+    };
+    Ok((head, tokens))
+}
+
+/// The specification of a sporadic unit of this name, behind `protected`, and the tokens after it.
+#[tactic(auto, unfolding(crate::specs::Readers::sporadic_head_at))]
+fn sporadic_head(
+    alloc: Global,
+    name: Name,
+    tokens: &[Spanned],
+) -> Result<(UnitHead, &[Spanned]), Halt>
+    ensures { Gives (λ r. (head_of r.0, bare r.1.now)) result (sporadic_head_at name (bare tokens.now)) }
+{
+    let tokens = fixed(tokens, FixedText::RequestHead)?;
+    let (ceiling, tokens) = number(tokens)?;
+    let tokens = fixed(tokens, FixedText::Close)?;
+    let (op, tokens) = request(alloc, tokens)?;
+    let tokens = fixed(tokens, FixedText::Entry)?;
+    let tokens = request_renaming(tokens, &op)?;
+    constants(name, ceiling, op, tokens)
+}
+
+/// The specification of a unit of this name with a protected object, behind the name, and the tokens after it.
+#[tactic(auto, unfolding(crate::specs::Readers::object_head_at))]
+fn object_head(
+    alloc: Global,
+    name: Name,
+    tokens: &[Spanned],
+) -> Result<(UnitHead, &[Spanned]), Halt>
+    ensures { Gives (λ r. (head_of r.0, bare r.1.now)) result (object_head_at name (bare tokens.now)) }
+{
+    let tokens = word(tokens, b"protected")?;
+    if next_is_word(tokens, b"hrt_object") {
+        shared_head(alloc, name, tokens)
+    } else {
+        sporadic_head(alloc, name, tokens)
+    }
+}
+
+/// The specification of a unit of this name, behind the name, and the tokens after it.
+#[tactic(auto, unfolding(crate::specs::Readers::inner_at))]
+fn inner(alloc: Global, name: Name, tokens: &[Spanned]) -> Result<(UnitHead, &[Spanned]), Halt>
+    ensures { Gives (λ r. (head_of r.0, bare r.1.now)) result (inner_at name (bare tokens.now)) }
+{
+    if next_is_word(tokens, b"task") {
+        cyclic_head(name, tokens)
+    } else if next_is_word(tokens, b"protected") {
+        object_head(alloc, name, tokens)
     } else {
         passive_head(alloc, name, tokens)
     }
 }
 
-/// Whether a specification is next, or must follow since no task has been read.
-fn begins_head(tokens: &[Spanned], seen: bool) -> bool
-    ensures { result ≡ begins_head seen (first (bare tokens.now)) }
+/// The specification of a unit, and the tokens after it.
+#[tactic(auto, unfolding(crate::specs::Readers::head_at))]
+fn head(alloc: Global, tokens: &[Spanned]) -> Result<(UnitHead, &[Spanned]), Halt>
+    ensures { Gives (λ r. (head_of r.0, bare r.1.now)) result (head_at (bare tokens.now)) }
 {
-    !seen || next_is_word(tokens, b"package")
+    let tokens = word(tokens, b"package")?;
+    let (name, tokens) = name(alloc, tokens)?;
+    let tokens = word(tokens, b"is")?;
+    inner(alloc, name, tokens)
 }
 
-/// The specifications of all units, of which exactly one has a task, and the tokens after them.
+/// The specifications of all units, and the tokens after them.
 #[tactic(auto, using(crate::proofs::Repeats::head_steps))]
 pub(crate) fn heads(alloc: Global, tokens: &[Spanned]) -> Result<(Vec<UnitHead>, &[Spanned]), Halt>
     ensures { Gives (λ r. (map head_of r.0.items, bare r.1.now)) result (heads_at (bare tokens.now)) }
 {
     let mut heads = Vec::new(alloc);
-    let mut seen = false;
     let mut rest = tokens;
-    'heads: while begins_head(rest, seen) {
-        let (next, after) = head(alloc, rest, seen)?;
-        seen = seen_after(seen, &next);
+    'heads: while next_is_word(rest, b"package") {
+        let (next, after) = head(alloc, rest)?;
         heads.push(next)?;
         rest = after;
     }

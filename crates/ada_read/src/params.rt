@@ -45,16 +45,24 @@ fn listed(alloc: Global, tokens: &[Spanned]) -> Result<(Vec<Param>, &[Spanned]),
     Ok((params, tokens))
 }
 
+/// No parameters, and the tokens after the end of their declaration.
+#[tactic(auto, unfolding(crate::specs::Readers::unlisted_at))]
+pub(crate) fn unlisted(alloc: Global, tokens: &[Spanned]) -> Result<(Vec<Param>, &[Spanned]), Halt>
+    ensures { Gives (λ r. (r.0.items, bare r.1.now)) result (unlisted_at (bare tokens.now)) }
+{
+    let tokens = mark(tokens, Mark::Semicolon)?;
+    Ok((Vec::new(alloc), tokens))
+}
+
 /// The parameters of a declaration, and the tokens after its end.
-#[tactic(auto, unfolding(crate::specs::Readers::params_at, crate::specs::Readers::unlisted_at))]
+#[tactic(auto, unfolding(crate::specs::Readers::params_at))]
 fn params(alloc: Global, tokens: &[Spanned]) -> Result<(Vec<Param>, &[Spanned]), Halt>
     ensures { Gives (λ r. (r.0.items, bare r.1.now)) result (params_at (bare tokens.now)) }
 {
     if next_is_mark(tokens, Mark::LeftParen) {
         listed(alloc, tokens)
     } else {
-        let tokens = mark(tokens, Mark::Semicolon)?;
-        Ok((Vec::new(alloc), tokens))
+        unlisted(alloc, tokens)
     }
 }
 

@@ -102,9 +102,8 @@ fn program(alloc: Global, tokens: &[Spanned]) -> Result<(AdaProgram, &[Spanned])
     Ok((program, tokens))
 }
 
-/// The program that these are all the tokens of. `Syntax` comes where the tokens are of no program of passive units and one
-/// cyclic unit, and `TooDeep` where they are but for their nesting or a chain, each with the tokens that were left; `NoMemory`
-/// comes for want of memory.
+/// The program that these are all the tokens of. `Syntax` comes where the tokens are of no program, and `TooDeep` where they are
+/// but for their nesting or a chain, each with the tokens that were left; `NoMemory` comes for want of memory.
 #[tactic(auto, using(seq_read::proofs::WholeSteps::whole_steps))]
 pub(crate) fn whole(alloc: Global, tokens: &[Spanned]) -> Result<AdaProgram, Halt>
     ensures { GivesWhole program_of result (whole_at (program_at ada_block_at) (bare tokens.now)) }

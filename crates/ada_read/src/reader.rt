@@ -1,7 +1,6 @@
 ghost use Rattle.std.specs.Prelude.{◌≡◌, IfOk};
 ghost use Rattle.ada_tree.specs.Programs.{Program};
 ghost use Rattle.ada_tree.specs.Reading.{Accepts};
-ghost use Rattle.ada_tree.specs.InUse.{IsSequentialProgram};
 ghost use Rattle.ada_tree.specs.Trees.{program_of};
 ghost use Rattle.ada_read.specs.Answers.{Says, fault_of};
 ghost use Rattle.ada_read.specs.Judged.{IsJudged};
@@ -41,7 +40,7 @@ fn judged(alloc: Global, program: AdaProgram) -> Result<AdaProgram, AdaFault>
     }
 }
 
-/// The program that a text is accepted as, of passive units and one cyclic unit.
+/// The program that a text is accepted as.
 ///
 /// The answers in order: `FileTooLong` comes for a text of over 16,777,216 bytes; `Byte`, `Number` and `Long` for a text without
 /// tokens, at their first fault; `Syntax` at the first token with which no text goes on, or at the end of the text, and `TooDeep` at
@@ -51,7 +50,7 @@ pub fn read_ada(alloc: Global, bytes: &[u8]) -> Result<AdaProgram, AdaFault>
     // What is answered is so.
     ensures says { Says bytes.now result }
     // A text that is accepted as a program is read as that one, unless memory runs out.
-    ensures only { (p : Program) → IsSequentialProgram p → Accepts bytes.now p → IfOk result (λ q. program_of q ≡ p) }
+    ensures only { (p : Program) → Accepts bytes.now p → IfOk result (λ q. program_of q ≡ p) }
 {
     if bytes.len() > MOST_BYTES {
         return Err(AdaFault::Text(TextFault::FileTooLong));

@@ -1,7 +1,7 @@
 -- The texts of the format, read as tokens, are those of the trees.
-use Rattle.std.specs.Prelude.{◌≡◌, ℕ, false, List, [], ◌∷◌, ◌++◌, map, Result, Ok, Err, codes, flat_map, refl}
+use Rattle.std.specs.Prelude.{◌≡◌, ℕ, true, false, List, [], ◌∷◌, ◌++◌, map, Result, Ok, Err, codes, flat_map, refl}
 use Rattle.seq_tree.specs.Expressions.{Number, Variable, Binary}
-use Rattle.seq_tree.specs.Statements.{Assign, Work, End, Then}
+use Rattle.seq_tree.specs.Statements.{Assign, Null, Work, End, Then}
 use Rattle.seq_tree.specs.Lexis.{Misread, tokens, tokens_after, front_by, start_of, name_front, number_front, longest}
 use Rattle.seq_tree.specs.Marks.{mark_of}
 use Rattle.seq_tree.specs.Spelling.{joined}
@@ -176,3 +176,71 @@ passive : unit_tokens (record {
     ∷ codes "   end p;" ∷ [])
 unfolding tokens tokens_after front_by start_of name_front number_front longest mark_of
 passive = refl
+
+-- a request without a parameter, which comes from outside, and a datum
+request_alone : unit_tokens (record { name = codes "s"; form = Sporadic 1 3 (record { name = codes "start"; params = [] }) 80 5 true (record { name = codes "x"; value = 7 } ∷ []) (Then Null End) })
+    ≡ read_text
+    (codes "   package s is"
+    ∷ codes "      protected hrt_obcs is"
+    ∷ codes "         pragma priority (3);"
+    ∷ codes "         procedure start;"
+    ∷ codes "         entry hrt_wait (hrt_request : out word);"
+    ∷ codes "      private"
+    ∷ codes "         hrt_value : word := 0;"
+    ∷ codes "         hrt_open : boolean := false;"
+    ∷ codes "      end hrt_obcs;"
+    ∷ codes "      procedure start renames hrt_obcs.start;"
+    ∷ codes "      task hrt_thread is"
+    ∷ codes "         pragma priority (1);"
+    ∷ codes "      end hrt_thread;"
+    ∷ codes "      hrt_separation : constant := 80;"
+    ∷ codes "      hrt_jitter : constant := 5;"
+    ∷ codes "      hrt_external : constant boolean := true;"
+    ∷ codes "   end s;"
+    ∷ codes "   package body s is"
+    ∷ codes "      x : word := 7;"
+    ∷ codes "      protected body hrt_obcs is"
+    ∷ codes "         procedure start is"
+    ∷ codes "         begin"
+    ∷ codes "            hrt_value := 0;"
+    ∷ codes "            hrt_open := true;"
+    ∷ codes "         end start;"
+    ∷ codes "         entry hrt_wait (hrt_request : out word) when hrt_open is"
+    ∷ codes "         begin"
+    ∷ codes "            hrt_request := hrt_value;"
+    ∷ codes "            hrt_open := false;"
+    ∷ codes "         end hrt_wait;"
+    ∷ codes "      end hrt_obcs;"
+    ∷ codes "      task body hrt_thread is"
+    ∷ codes "         hrt_request : word := 0;"
+    ∷ codes "      begin"
+    ∷ codes "         loop"
+    ∷ codes "            hrt_obcs.hrt_wait (hrt_request);"
+    ∷ codes "            null;"
+    ∷ codes "            activation_end;"
+    ∷ codes "         end loop;"
+    ∷ codes "      end hrt_thread;"
+    ∷ codes "   end s;" ∷ [])
+unfolding tokens tokens_after front_by start_of name_front number_front longest mark_of
+request_alone = refl
+
+-- units without operations, of which the protected one keeps `private`
+nothing_offered : unit_tokens (record { name = codes "p"; form = Passive [] })
+    ≡ read_text (codes "   package p is" ∷ codes "   end p;" ∷ codes "   package body p is" ∷ codes "   end p;" ∷ [])
+unfolding tokens tokens_after front_by start_of name_front number_front longest mark_of
+nothing_offered = refl
+
+nothing_kept : unit_tokens (record { name = codes "q"; form = Shared 2 [] [] })
+    ≡ read_text
+    (codes "   package q is"
+    ∷ codes "      protected hrt_object is"
+    ∷ codes "         pragma priority (2);"
+    ∷ codes "      private"
+    ∷ codes "      end hrt_object;"
+    ∷ codes "   end q;"
+    ∷ codes "   package body q is"
+    ∷ codes "      protected body hrt_object is"
+    ∷ codes "      end hrt_object;"
+    ∷ codes "   end q;" ∷ [])
+unfolding tokens tokens_after front_by start_of name_front number_front longest mark_of
+nothing_kept = refl

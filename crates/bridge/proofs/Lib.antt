@@ -1,4 +1,5 @@
-pub mod NodeSteps
-pub mod LoneLaws
-pub mod LoneTests
+pub mod RankRooms
+pub mod TableSizes
+pub mod Texts
+pub mod MadeDesigns
 pub mod Guarantees

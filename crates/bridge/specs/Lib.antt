@@ -1,4 +1,2 @@
-pub mod Rows
-pub mod Delivers
-pub mod Lone
 pub mod Makes
+pub mod Delivers

@@ -1,7 +1,6 @@
 ghost use Rattle.bridge.specs.Delivers.{Delivers};
 
 use crate::delivery::{Delivery, Refusal};
-use crate::lone::{is_lone, lone_of};
 use crate::making::make;
 use ods_read::read_design;
 use ods_rules::check;
@@ -11,8 +10,8 @@ use std::alloc::Global;
 /// The Ada text of a design, with bounds and ceilings, from the bytes of the design.
 ///
 /// The design is read, its rules are checked, its bounds are computed, and its text is made, in this order; what fails first is
-/// told. So far a text is made of designs of one cyclic object without data whose thread has `null;` and `work (n);` alone;
-/// `NotBuilt` tells the root of any other that meets the rules. `NoMemory` may come wherever memory is asked for.
+/// told. The text is guaranteed for the design: for all arrivals that keep the separations, what its program does is allowed by the
+/// design, and every activation whose bound falls within the horizon ends within it. `NoMemory` may come wherever memory is asked for.
 pub fn deliver(alloc: Global, design: &[u8]) -> Result<Delivery, Refusal>
     ensures { Delivers design.now result }
 {
@@ -21,7 +20,6 @@ pub fn deliver(alloc: Global, design: &[u8]) -> Result<Delivery, Refusal>
         Err(TextFault::NoMemory) => return Err(Refusal::NoMemory),
         Err(fault) => return Err(Refusal::Text(fault)),
     };
-    let lone = is_lone(&read);
     let checked = match check(alloc, read) {
         Ok(checked) => checked,
         Err(broken) => {
@@ -31,11 +29,5 @@ pub fn deliver(alloc: Global, design: &[u8]) -> Result<Delivery, Refusal>
             return Err(Refusal::Rule(broken));
         }
     };
-    let design = checked.design();
-    if !lone {
-        return Err(Refusal::NotBuilt {
-            object: design.root.name.copy(alloc)?,
-        });
-    }
-    make(alloc, lone_of(design))
+    make(alloc, &checked)
 }

@@ -1,40 +1,11 @@
 ghost use Rattle.std.specs.Prelude.{◌≡◌};
 ghost use Rattle.bridge.specs.declared.delivery.Refusal.TheVariants.{NoMemory};
 
+use design_bounds::{CeilingRow, NamedBound};
 use ods_rules::Broken;
 use rt_response::Miss;
 use seq_tree::{Name, TextFault};
 use std::alloc::{AllocError, AllocFailed};
-
-/// The bound of a thread, with the numbers that it was computed from, in ticks.
-#[derive(Drop, Debug)]
-pub struct NamedBound {
-    /// The thread.
-    pub name: Name,
-    /// Its priority, from 1 on; a greater one goes first.
-    pub priority: u32,
-    /// The least time from one nominal time to the next.
-    pub period: u32,
-    /// What its response time may be at most.
-    pub deadline: u32,
-    /// How late after its nominal time a release may come.
-    pub jitter: u32,
-    /// The greatest execution time of an activation.
-    pub cost: u32,
-    /// The longest time for which threads of lower priority can be in the way.
-    pub block: u32,
-    /// The time from a release to its end, at most.
-    pub response: u32,
-}
-
-/// The ceiling of a protected object, or of the control structure of a sporadic one.
-#[derive(Drop, Debug)]
-pub struct CeilingRow {
-    /// The object.
-    pub name: Name,
-    /// Its ceiling priority.
-    pub ceiling: u32,
-}
 
 /// What is made of a design.
 #[derive(Drop, Debug)]
@@ -54,11 +25,6 @@ pub enum Refusal {
     Text(TextFault),
     /// The design breaks this rule; never for want of memory.
     Rule(Broken),
-    /// No text is made of such designs so far.
-    NotBuilt {
-        /// Its root.
-        object: Name,
-    },
     /// A thread has a value over its limit, so that no bounds can be given.
     Miss {
         /// The thread.

@@ -1,14 +1,14 @@
 //! From the bytes of a design to its Ada text, with the guarantee.
 //!
-//! It stands on the readers of `ods_read`, the rules of `ods_rules`, the generator of `ada_gen`, the printer of `ada_print` and the
-//! laws of `laws`. `deliver` carries its promise: the text that it makes is guaranteed for the design that the bytes are, and each
-//! refusal comes for its cause alone.
+//! It stands on the readers of `ods_read`, the rules of `ods_rules`, the flat design of `ods_flat`, its bounds by `design_bounds`, the generator
+//! of `ada_gen`, the printer of `ada_print` and the law of `design_texts`. `deliver` carries its promise: the text that it makes is
+//! guaranteed for the design that the bytes are, and each refusal comes for its cause alone.
 #![tactic(auto)]
 
 mod delivering;
 mod delivery;
-mod lone;
 mod making;
 
 pub use delivering::deliver;
-pub use delivery::{CeilingRow, Delivery, NamedBound, Refusal};
+pub use delivery::{Delivery, Refusal};
+pub use design_bounds::{CeilingRow, NamedBound};

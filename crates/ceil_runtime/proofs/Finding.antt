@@ -12,7 +12,7 @@ use Rattle.ada_tree.specs.declared.program.Unit as units
 use Rattle.ada_tree.specs.declared.program.Form as forms
 use Rattle.ada_tree.specs.declared.program.Form.TheVariants as form
 use Rattle.ada_tree.specs.Programs.{Unit}
-use Rattle.machine.specs.Systems.{Library, op_named}
+use Rattle.machine.specs.Systems.{PassiveUnit, op_named}
 use Rattle.ceil_runtime.specs.Callable.{op_in, op_of}
 use Rattle.ceil_runtime.specs.Libraries.{libraries_from}
 use Rattle.ceil_runtime.proofs.Stacks.{not_true}
@@ -36,7 +36,7 @@ past-op ops i o name h is other =
     let at : map operation_of (drop i ops) ≡ operation_of o ∷ rest = ap (map operation_of) (drop-cons ops i o h) ∙ ap (λ x. operation_of x ∷ rest) (sym is) in
     rw (add-one, at, no) (found-anywhere 0 1 (λ p. same_name p.sig.name name) rest)
 
-pub op_of-anywhere : (n m : ℕ) (test : Library → Bool) (ls : List Library) (op : Name) → op_of (first_from n test ls) op ≡ op_of (first_from m test ls) op
+pub op_of-anywhere : (n m : ℕ) (test : PassiveUnit → Bool) (ls : List PassiveUnit) (op : Name) → op_of (first_from n test ls) op ≡ op_of (first_from m test ls) op
 op_of-anywhere n m test [] op = refl
 op_of-anywhere n m test (l ∷ ls) op = by_test (test l) refl (op_of-anywhere (suc n) (suc m) test ls op) where
   by_test : (b : Bool) → test l ≡ b → op_of (first_from (suc n) test ls) op ≡ op_of (first_from (suc m) test ls) op → op_of (first_from n test (l ∷ ls)) op ≡ op_of (first_from m test (l ∷ ls)) op

@@ -10,18 +10,18 @@ use Rattle.arrivals_tree.specs.Arriving.{Arrivals, durations}
 use Rattle.trace_tree.specs.declared.event.Event.{Event}
 use Rattle.trace_tree.specs.declared.event.Event.TheVariants as event
 use Rattle.trace_tree.specs.Placed.{IsPlaced}
-use Rattle.machine.specs.Systems.{Thread, thread_by, system}
+use Rattle.machine.specs.Systems.{TaskUnit, thread_by, system}
 use Rattle.ceil_runtime.specs.Stepping.{HasUnit, IsOfTask}
 use Rattle.ceil_runtime.specs.Written.{thread_of}
 use Rattle.ceil_runtime.specs.declared.task.Task.{Task}
 
 -- the unit of a task, where there is one
-abbrev unit_or : ℕ → Option Thread → ℕ
+abbrev unit_or : ℕ → Option TaskUnit → ℕ
 unit_or n None = n
 unit_or n (Some t) = t.unit
 
 -- each task of units is one of them
-member-unit : (a : Arrivals) (n : ℕ) (us : List Unit) (i : ℕ) (t : Thread)
+member-unit : (a : Arrivals) (n : ℕ) (us : List Unit) (i : ℕ) (t : TaskUnit)
     → slice_get (filter_map (λ u. thread_by (durations a u.0) u.0 u.1.name u.1.form) (enumerate_from n us)) i ≡ Some t → t.unit < n + length us
 member-unit a n [] i t e = absurd (none e)
   where
@@ -29,7 +29,7 @@ member-unit a n [] i t e = absurd (none e)
     none k = cc
 member-unit a n (u ∷ us) i t e = by_form u.name u.form i (member-unit a (n + 1) us) e where
   by_form : (name : Name) (f : Form) (i : ℕ)
-      → ((j : ℕ) (s : Thread) → slice_get (filter_map (λ u. thread_by (durations a u.0) u.0 u.1.name u.1.form) (enumerate_from (n + 1) us)) j ≡ Some s → s.unit < n + 1 + length us)
+      → ((j : ℕ) (s : TaskUnit) → slice_get (filter_map (λ u. thread_by (durations a u.0) u.0 u.1.name u.1.form) (enumerate_from (n + 1) us)) j ≡ Some s → s.unit < n + 1 + length us)
       → slice_get (filter_map (λ u. thread_by (durations a u.0) u.0 u.1.name u.1.form) (enumerate_from n (record { name = name; form = f } ∷ us))) i ≡ Some t → t.unit < n + length (u ∷ us)
   by_form name (Passive ops) i more k = let less = more i t k in omega (arith, less)
   by_form name (Shared ceiling vars ops) i more k = let less = more i t k in omega (arith, less)

@@ -9,10 +9,10 @@ use Rattle.seq_tree.specs.Values.{holds}
 use Rattle.seq_tree.specs.Variables.{Variables}
 use Rattle.seq_tree.specs.declared.tree.Costs.{Costs}
 use Rattle.ada_tree.specs.Ranges.{costs_break, is_outside}
-use Rattle.machine.specs.Systems.{System, Library, Callee, Plain, Protected, Request, Unknown, callee}
+use Rattle.machine.specs.Systems.{System, PassiveUnit, CallTarget, Plain, Protected, Request, Unknown, callee}
 use Rattle.machine.specs.Pieces.{Piece, Idle, Store, Leaving, Calling, Working, Printing, Testing, Turning, Turned, Returning, Closing, Keeping, Opening, Requested, Finishing, pieces, pieces_of, branch_pieces, turns, work_ticks}
 use Rattle.machine.specs.Deeds as deeds
-use Rattle.machine.specs.Deeds.{Deed, called, done}
+use Rattle.machine.specs.Deeds.{PieceOutcome, called, done}
 use Rattle.ceil_runtime.specs.Effort.{IsLong, ends_among, effort, first_ticks, first_works}
 use Rattle.ceil_runtime.specs.Fitting.{FitsFirst, place_of}
 use Rattle.ceil_runtime.specs.Left.{first_tells}
@@ -242,7 +242,7 @@ no_act : true ≡ false → ⊥
 no_act h = cc
 
 -- a system with these passive units and nothing else
-abbrev alone : List Library → System
+abbrev alone : List PassiveUnit → System
 alone libraries = record {
   until = 0;
   costs = record { assign = 0; test = 0; turn = 0; call = 0; «nothing» = 0; put = 0; finish = 0 };
@@ -256,13 +256,13 @@ silent_test : (y : System) (condition : Expression) (vs : Variables) (ps : List 
 silent_test y condition vs ps true e = rw e refl
 silent_test y condition vs ps false e = rw e refl
 
-calls_nothing_out : (k : Callee) (actuals : List Expression) (vs : Variables) (ps : List Piece) → ((n : ℕ) → (called k actuals vs ps).act ≡ deeds.Print n → ⊥) × ((called k actuals vs ps).act ≡ deeds.Finish → ⊥)
+calls_nothing_out : (k : CallTarget) (actuals : List Expression) (vs : Variables) (ps : List Piece) → ((n : ℕ) → (called k actuals vs ps).act ≡ deeds.Print n → ⊥) × ((called k actuals vs ps).act ≡ deeds.Finish → ⊥)
 calls_nothing_out (Plain o) actuals vs ps = ((λ n e. no_act (cc)), (λ e. no_act (cc)))
 calls_nothing_out (Protected object op g o) actuals vs ps = ((λ n e. no_act (cc)), (λ e. no_act (cc)))
 calls_nothing_out (Request task) actuals vs ps = ((λ n e. no_act (cc)), (λ e. no_act (cc)))
 calls_nothing_out Unknown actuals vs ps = ((λ n e. no_act (cc)), (λ e. no_act (cc)))
 
-pub tells-print : (ls : List Library) (p : Piece) (vs vs' : Variables) (ps qs : List Piece) (n : ℕ) → Does ls p vs ps (Print n) vs' qs → first_tells (p ∷ ps) ≡ 2
+pub tells-print : (ls : List PassiveUnit) (p : Piece) (vs vs' : Variables) (ps qs : List Piece) (n : ℕ) → Does ls p vs ps (Print n) vs' qs → first_tells (p ∷ ps) ≡ 2
 tells-print ls Idle vs vs' ps qs n h = let t = ap (λ d. d.act) (h (alone ls) refl) in absurd (no_act (cc))
 tells-print ls (Store target e) vs vs' ps qs n h = let t = ap (λ d. d.act) (h (alone ls) refl) in absurd (no_act (cc))
 tells-print ls (Leaving condition) vs vs' ps qs n h = let s = silent_test (alone ls) condition vs ps (holds condition vs) refl in let t = ap (λ d. d.act) (h (alone ls) refl) in absurd (no_act (cc))
@@ -279,7 +279,7 @@ tells-print ls (Opening task) vs vs' ps qs n h = let t = ap (λ d. d.act) (h (al
 tells-print ls (Requested task v) vs vs' ps qs n h = let t = ap (λ d. d.act) (h (alone ls) refl) in absurd (no_act (cc))
 tells-print ls Finishing vs vs' ps qs n h = refl
 
-pub tells-finish : (ls : List Library) (p : Piece) (vs vs' : Variables) (ps qs : List Piece) → Does ls p vs ps Finish vs' qs → first_tells (p ∷ ps) ≡ 2
+pub tells-finish : (ls : List PassiveUnit) (p : Piece) (vs vs' : Variables) (ps qs : List Piece) → Does ls p vs ps Finish vs' qs → first_tells (p ∷ ps) ≡ 2
 tells-finish ls Idle vs vs' ps qs h = let t = ap (λ d. d.act) (h (alone ls) refl) in absurd (no_act (cc))
 tells-finish ls (Store target e) vs vs' ps qs h = let t = ap (λ d. d.act) (h (alone ls) refl) in absurd (no_act (cc))
 tells-finish ls (Leaving condition) vs vs' ps qs h = let s = silent_test (alone ls) condition vs ps (holds condition vs) refl in let t = ap (λ d. d.act) (h (alone ls) refl) in absurd (no_act (cc))
@@ -297,7 +297,7 @@ tells-finish ls (Requested task v) vs vs' ps qs h = let t = ap (λ d. d.act) (h 
 tells-finish ls Finishing vs vs' ps qs h = refl
 
 -- effects without ticks between them come to an end
-module _ (c : Costs) (d : Option ℕ) (most : ℕ) (ls : List Library) (t : Thread) (first : Option rust.Piece) (fs : List Frame) (ticking' : costs_break c ≡ false) (long : IsLong d)
+module _ (c : Costs) (d : Option ℕ) (most : ℕ) (ls : List PassiveUnit) (t : Thread) (first : Option rust.Piece) (fs : List Frame) (ticking' : costs_break c ≡ false) (long : IsLong d)
     (fits : FitsFirst (place_of (first_place t) fs) first) (few : ends_among (started first (kept fs)) < most) (none : first_ticks c d (started first (kept fs)) ≡ 0) where
   pub effort-falls : (p : Piece) (vs vs' : Variables) (ps : List Piece) (act : Act) → Does ls p vs ps act vs' (started first (kept fs))
       → effort most (started first (kept fs)) < effort most (p ∷ ps)

@@ -2,7 +2,7 @@
 -- The pieces that are run do the same in every system with these passive units.
 use Rattle.std.specs.Prelude.{◌≡◌, List, [], ⊤}
 use Rattle.seq_tree.specs.Variables.{Variables}
-use Rattle.machine.specs.Systems.{System, Library}
+use Rattle.machine.specs.Systems.{System, PassiveUnit}
 use Rattle.machine.specs.Pieces.{Piece}
 use Rattle.machine.specs.Deeds as deeds
 use Rattle.machine.specs.Deeds.{deed, done}
@@ -23,7 +23,7 @@ act_of (Print value) = deeds.Print value
 act_of Finish = deeds.Finish
 
 -- what a piece does to variables and to the pieces behind it
-abbrev pub Does : List Library → Piece → Variables → List Piece → Act → Variables → List Piece → Type 0
+abbrev pub Does : List PassiveUnit → Piece → Variables → List Piece → Act → Variables → List Piece → Type 0
 Does libraries p vs rest act vs' rest' = (y : System) → y.libraries ≡ libraries → done y p vs rest ≡ deed (act_of act) vs' rest'
 
 -- the end of an activation leaves no pieces

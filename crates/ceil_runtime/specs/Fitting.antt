@@ -8,7 +8,7 @@ use Rattle.seq_tree.specs.Variables.{Variables}
 use Rattle.seq_tree.specs.Statements.{Statement, Statements, Branches, Null, Assign, If, For, ExitWhen, Call, Work, Put, End, Then, Nothing, Else, When}
 use Rattle.seq_tree.specs.declared.tree.OpName.{OpName}
 use Rattle.seq_tree.specs.declared.tree.Stmt.{Stmt}
-use Rattle.machine.specs.Systems.{Library}
+use Rattle.machine.specs.Systems.{PassiveUnit}
 use Rattle.ceil_runtime.specs.Callable.{IsClear, call_room, calls_room, op_name}
 use Rattle.ceil_runtime.specs.Progresses.{Kept, branches_left, kept, put_away, with_frame}
 use Rattle.ceil_runtime.specs.declared.piece.Call as call
@@ -20,7 +20,7 @@ use Rattle.ceil_runtime.specs.declared.piece.Frame.TheVariants as frame
 -- where statements stand: the passive units, the operations whose calls are under way, whether a loop is open, and how many
 -- frames may be added
 pub record Spot : Type 0 where
-  pub libraries : List Library
+  pub libraries : List PassiveUnit
   pub chain : List OpName
   pub inside : Bool
   pub room : ℕ

@@ -17,7 +17,7 @@ abbrev pub AllThreads : (Thread → Type 0) → List Thread → Type 0
 AllThreads P threads = (i : ℕ) (t : Thread) → slice_get threads i ≡ Some t → P t
 
 -- the tasks of units that are counted from this number on, with the durations that are handed to them
-abbrev pub threads_from : List WorkList → ℕ → List Unit → List systems.Thread
+abbrev pub threads_from : List WorkList → ℕ → List Unit → List systems.TaskUnit
 threads_from work n us = filter_map (λ u. thread_by (durations (handed work) u.0) u.0 u.1.name u.1.form) (enumerate_from n us)
 
 -- a task of these units, which stands where it says, and what is handed in

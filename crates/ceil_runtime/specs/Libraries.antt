@@ -3,8 +3,8 @@
 use Rattle.std.specs.Prelude.{ℕ, List, filter_map}
 use Rattle.std.specs.List.{enumerate_from}
 use Rattle.ada_tree.specs.Programs.{Unit}
-use Rattle.machine.specs.Systems.{Library, library_by}
+use Rattle.machine.specs.Systems.{PassiveUnit, library_by}
 
 -- the passive units
-abbrev pub libraries_from : ℕ → List Unit → List Library
+abbrev pub libraries_from : ℕ → List Unit → List PassiveUnit
 libraries_from n us = filter_map (λ u. library_by u.0 u.1.name u.1.form) (enumerate_from n us)

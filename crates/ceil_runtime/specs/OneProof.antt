@@ -7,7 +7,7 @@ use Rattle.seq_tree.specs.Statements.{Statement, Statements, Branches, Null, Ass
 use Rattle.seq_tree.specs.Trees.{arm_of, block_of, statement_of, statements_of}
 use Rattle.seq_tree.specs.Variables.{Variables}
 use Rattle.seq_tree.specs.declared.tree.OpName.{OpName}
-use Rattle.machine.specs.Systems.{Library}
+use Rattle.machine.specs.Systems.{PassiveUnit}
 use Rattle.ceil_runtime.specs.Callable.{IsClear, op_name}
 use Rattle.ceil_runtime.specs.Progresses.{Kept, branches_left, with_frame}
 use Rattle.ceil_runtime.specs.Written.{CanCall}
@@ -27,7 +27,7 @@ number_prop a b = Coded-set coded_ℕ a b
 names_prop : (a b : List Name) → IsProp (a ≡ b)
 names_prop a b = Coded-set (coded_list (coded_list coded_ℕ)) a b
 
-clear-prop : (libraries : List Library) (chain : List OpName) (c : OpName) → IsProp (IsClear libraries chain c)
+clear-prop : (libraries : List PassiveUnit) (chain : List OpName) (c : OpName) → IsProp (IsClear libraries chain c)
 clear-prop libraries chain c = hlevel truth_prop
 
 mutual
@@ -124,5 +124,5 @@ puts-away-prop (Some (is.Turned r)) away = none-prop away
 puts-away-prop (Some (is.Returning c)) away = Unit-prop
 puts-away-prop (Some is.Finishing) away = none-prop away
 
-pub can-call-prop : (libraries : List Library) → IsProp (CanCall libraries)
+pub can-call-prop : (libraries : List PassiveUnit) → IsProp (CanCall libraries)
 can-call-prop libraries = hlevel (le_prop, fits-block-prop)

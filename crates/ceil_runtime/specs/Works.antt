@@ -2,7 +2,7 @@
 use Rattle.std.specs.Prelude.{◌≡◌, ℕ, ◌-◌, ◌+◌, ◌<◌, ◌≤◌, Bool, true, false, List, [], ◌∷◌, ◌==◌, if◌then◌else◌, ⊤}
 use Rattle.seq_tree.specs.Variables.{Variables}
 use Rattle.seq_tree.specs.declared.tree.Costs.{Costs}
-use Rattle.machine.specs.Systems.{Library}
+use Rattle.machine.specs.Systems.{PassiveUnit}
 use Rattle.machine.specs.Pieces.{Piece}
 use Rattle.machine.specs.States as states
 use Rattle.machine.specs.Releases.{going}
@@ -49,7 +49,7 @@ done_by (Print value) costs vars ps t = going costs vars ps t
 done_by Finish costs vars ps t = ended vars t
 
 -- what a task's piece does, where its ticks are used
-pub record Acts (libraries : List Library) (costs : Costs) (t : states.Task) (act : Act) (t' : states.Task) : Type 0 where
+pub record Acts (libraries : List PassiveUnit) (costs : Costs) (t : states.Task) (act : Act) (t' : states.Task) : Type 0 where
   pub piece : Piece
   pub rest : List Piece
   pub vars : Variables

@@ -11,7 +11,7 @@ use Rattle.ada_tree.specs.Trees.{unit_of}
 use Rattle.arrivals_tree.specs.Arriving.{Arrivals, durations}
 use Rattle.arrivals_tree.specs.declared.arrivals.WorkList.{WorkList}
 use Rattle.machine.specs.Systems as systems
-use Rattle.machine.specs.Systems.{Library}
+use Rattle.machine.specs.Systems.{PassiveUnit}
 use Rattle.ceil_runtime.specs.Callable.{IsClear, call_room, calls_room, op_in}
 use Rattle.ceil_runtime.specs.Fitting.{FitsBlock, Place, Spot, above, in_call}
 use Rattle.ceil_runtime.specs.Libraries.{libraries_from}
@@ -26,7 +26,7 @@ abbrev pub data_names : Thread → List Name
 data_names t = map (λ d. d.name) t.data.now
 
 -- the passive units of its program
-abbrev pub libraries_of : Thread → List Library
+abbrev pub libraries_of : Thread → List PassiveUnit
 libraries_of t = libraries_from 0 (map unit_of t.units.now)
 
 -- lists of durations alone, as they are handed to a run
@@ -38,7 +38,7 @@ abbrev pub durations_of : Thread → List ℕ
 durations_of t = durations (handed t.work.now) t.unit
 
 -- the task as it is written
-abbrev pub thread_of : Thread → systems.Thread
+abbrev pub thread_of : Thread → systems.TaskUnit
 thread_of t = record {
   unit = t.unit;
   name = t.name.now;
@@ -68,7 +68,7 @@ pub record IsReady (s : Spot) (c : OpName) (o : Operation) : Type 0 where
   pub room : calls_room (c ∷ s.chain) s.libraries + call_room o ≤ calls_room s.chain s.libraries
 
 -- passive units whose operations can all be called
-abbrev pub CanCall : List Library → Type 0
+abbrev pub CanCall : List PassiveUnit → Type 0
 CanCall libraries =
     (s : Spot) (c : OpName) (o : Operation) → s.libraries ≡ libraries → op_in libraries c ≡ Some o → IsClear libraries s.chain c → IsReady s c o
 

@@ -6,10 +6,10 @@ use Rattle.std.proofs.lemmas.Option.{none-some, same_Some, slice_get_within, sli
 use Rattle.seq_tree.specs.Lists.{change, first_where}
 use Rattle.arrivals_tree.specs.declared.arrivals.Arrival.{Arrival}
 use Rattle.trace_tree.specs.declared.event.Event.TheVariants as event
-use Rattle.machine.specs.Systems.{System, Thread, Callee, Plain, Protected, Request, Unknown, callee}
+use Rattle.machine.specs.Systems.{System, TaskUnit, CallTarget, Plain, Protected, Request, Unknown, callee}
 use Rattle.machine.specs.Pieces.{Piece, Idle, Store, Leaving, Calling, Working, Printing, Testing, Turning, Turned, Returning, Closing, Keeping, Opening, Requested, Finishing}
 use Rattle.machine.specs.Deeds.{done}
-use Rattle.machine.specs.States.{State, Task, Phase, Effects, Delays, Arriving, Use, Ready, Section, Held, opening, first_task}
+use Rattle.machine.specs.States.{State, Task, Phase, Effects, Delays, Arriving, Use, Ready, Resource, Held, opening, first_task}
 use Rattle.machine.specs.Effects.{ceiling_of, acted}
 use Rattle.machine.specs.Dispatch.{dispatched}
 use Rattle.machine.specs.Releases.{Next, release, serve}
@@ -40,7 +40,7 @@ module _ (y : System) (lev bound : ℕ) (l : IsLimited y lev bound) where
   paid-piece i (Leaving condition) ps low fits = tt
   paid-piece i (Calling unit op actuals) ps low fits = by (callee y unit op) (l.calls unit op (fits.0 low))
     where
-      by : (c : Callee) → CostsAtMost y lev bound l.costing (l.costing.cost unit op) c → IsCallPaid y lev l.costing.cost bound (l.costing.cost unit op) c
+      by : (c : CallTarget) → CostsAtMost y lev bound l.costing (l.costing.cost unit op) c → IsCallPaid y lev l.costing.cost bound (l.costing.cost unit op) c
       by (Plain o) h = h.1
       by (Protected object j g o) h = (h.1, h.2)
       by (Request task) h = h
@@ -58,7 +58,7 @@ module _ (y : System) (lev bound : ℕ) (l : IsLimited y lev bound) where
   paid-piece i Finishing ps low fits = tt
 
   -- inside a section whose ceiling reaches the level a call costs at most what is owed
-  paid-again : (owed : ℕ) (p : Piece) (ps : List Piece) (section : Section) (ss : List Section) → closers (p ∷ ps) ≡ section ∷ ss → lev ≤ ceiling_of y section
+  paid-again : (owed : ℕ) (p : Piece) (ps : List Piece) (section : Resource) (ss : List Resource) → closers (p ∷ ps) ≡ section ∷ ss → lev ≤ ceiling_of y section
       → IsPaidPiece y lev l.costing.cost bound p → Owes y lev l.costing.cost owed (later (weights y l.costing.cost) p) ps → IsPaidPiece y lev l.costing.cost owed p
   paid-again owed Idle ps section ss e high paid h = tt
   paid-again owed (Store target value) ps section ss e high paid h = tt
@@ -68,7 +68,7 @@ module _ (y : System) (lev bound : ℕ) (l : IsLimited y lev bound) where
       most : l.costing.cost unit op ≤ owed
       most = owes-first y lev l.costing.cost owed (l.costing.cost unit op) ps section ss e high h
 
-      by : (c : Callee) → IsCallPaid y lev l.costing.cost bound (l.costing.cost unit op) c → IsCallPaid y lev l.costing.cost owed (l.costing.cost unit op) c
+      by : (c : CallTarget) → IsCallPaid y lev l.costing.cost bound (l.costing.cost unit op) c → IsCallPaid y lev l.costing.cost owed (l.costing.cost unit op) c
       by (Plain o) k = k
       by (Protected object j g o) k = (k.0, λ reach. most)
       by (Request task) k = (k.0, λ reach. most)
@@ -444,7 +444,7 @@ module _ (y : System) (lev bound : ℕ) (l : IsLimited y lev bound) where
   pub opening-pays : (as' : List Arrival) → Pays false 0 (opening y as')
   opening-pays as' i t stands = by (slice_get y.threads i) (sym (slice_get-map first_task y.threads i) ∙ stands)
     where
-      first : (th : Thread) → IsPaid y lev bound l false 0 None i (first_task th)
+      first : (th : TaskUnit) → IsPaid y lev bound l false 0 None i (first_task th)
       first th = record {
         rests = λ not. refl;
         short = tt;
@@ -454,7 +454,7 @@ module _ (y : System) (lev bound : ℕ) (l : IsLimited y lev bound) where
         calm = λ on low below run. tt;
       }
 
-      by : (o : Option Thread) → option_map first_task o ≡ Some t → IsPaid y lev bound l false 0 None i t
+      by : (o : Option TaskUnit) → option_map first_task o ≡ Some t → IsPaid y lev bound l false 0 None i t
       by None f = absurd (none-some t f)
       by (Some th) f = subst (IsPaid y lev bound l false 0 None i) (same_Some (first_task th) t f) (first th)
 

@@ -17,7 +17,7 @@ use Rattle.ods_tree.specs.Services as sort
 use Rattle.ods_tree.specs.Flats as flats
 use Rattle.guarantee.specs.Software.{guarded_by, program_software}
 use Rattle.guarantee.specs.ResponseLaw.{ceiling_named, ranked, program_services, IsBelowCeiling, CallsUpwards}
-use Rattle.machine.specs.Systems.{System, Thread, Guarded, Callee, Plain, Protected, Request, Unknown, system, callee}
+use Rattle.machine.specs.Systems.{System, TaskUnit, ProtectedUnit, CallTarget, Plain, Protected, Request, Unknown, system, callee}
 use Rattle.machine.specs.States.{Object, Control}
 use Rattle.machine.specs.Effects.{ceiling_of, ceiling_by}
 use Rattle.program_calls.proofs.Apart.{units_apart}
@@ -33,10 +33,10 @@ use Rattle.program_calls.proofs.Facts.{same-is}
 use Rattle.program_calls.proofs.RankedTasks.{ranked-at}
 
 -- ceilings of sections
-pub object-ceiling : (y : System) (i : ℕ) (g : Guarded) → slice_get y.objects i ≡ Some g → ceiling_of y (Object i) ≡ g.ceiling
+pub object-ceiling : (y : System) (i : ℕ) (g : ProtectedUnit) → slice_get y.objects i ≡ Some g → ceiling_of y (Object i) ≡ g.ceiling
 object-ceiling y i g e = ap (λ o. unwrap_or (option_map (λ x. x.ceiling) o) 0) e
 
-pub control-ceiling : (y : System) (i : ℕ) (t : Thread) → slice_get y.threads i ≡ Some t → ceiling_of y (Control i) ≡ ceiling_by t.timing
+pub control-ceiling : (y : System) (i : ℕ) (t : TaskUnit) → slice_get y.threads i ≡ Some t → ceiling_of y (Control i) ≡ ceiling_by t.timing
 control-ceiling y i t e = ap (λ o. unwrap_or (option_map (λ x. ceiling_by x.timing) o) 0) e
 
 -- the section of a call is on a ceiling of at least a level
@@ -50,7 +50,7 @@ module _ (p : Program) (a : Arrivals) (rules : MeetsRules p) where
   enters-above : (level : ℕ) (c : OpName) → IsBelowCeiling level (ceiling_named p c.object) (service_named (program_services p) c.object c.op) → EntersAbove y level (callee y c.object c.op)
   enters-above level c below = by (callee y c.object c.op) (leads-to y c.object c.op) (served-as p a (units_apart p rules) c.object c.op)
     where
-      by : (k : Callee) → LeadsTo y c.object c.op k → ServedAs p y c.object c.op k → EntersAbove y level k
+      by : (k : CallTarget) → LeadsTo y c.object c.op k → ServedAs p y c.object c.op k → EntersAbove y level k
       by (Plain o) l s = tt
       by (Protected object j g o) l s =
           let is = s.0 in
@@ -92,7 +92,7 @@ module _ (p : Program) (a : Arrivals) (rules : MeetsRules p) where
     calls = λ unit op made. by unit op (callee y unit op) (leads-to y unit op) (served-as p a (units_apart p rules) unit op);
   })
     where
-      by : (unit op : Name) (c : Callee) → LeadsTo y unit op c → ServedAs p y unit op c → StaysAbove y any c
+      by : (unit op : Name) (c : CallTarget) → LeadsTo y unit op c → ServedAs p y unit op c → StaysAbove y any c
       by unit op (Plain o) l s =
           let found = library-at p a l.place l.library l.stands in
           let within' = op-body-in found.1.form l.library.ops l.at o (ap bodies (found.2).form) l.holds in

@@ -2,20 +2,20 @@
 use Rattle.std.specs.Prelude.{◌≡◌, ℕ, List, [], ◌∷◌, drop, slice_get, Some, ⊤}
 use Rattle.seq_tree.specs.Lists.{Each}
 use Rattle.arrivals_tree.specs.declared.arrivals.Arrival.{Arrival}
-use Rattle.machine.specs.Systems.{System, Thread, Guarded}
-use Rattle.machine.specs.States.{State, Task, Section, Object, Control}
+use Rattle.machine.specs.Systems.{System, TaskUnit, ProtectedUnit}
+use Rattle.machine.specs.States.{State, Task, Resource, Object, Control}
 use Rattle.ceiling_locking.specs.Premises.{Ranking, IsElsewhere}
 use Rattle.ceiling_locking.specs.Sections.{Stands, sections, IsAmong}
 use Rattle.ceiling_locking.proofs.Permissions.{AllFall}
 use Rattle.ceiling_locking.proofs.Kept.{IsRequested, Keeps}
 
 -- a section that is there: an object, or the control structure of a task that is released at requests and gets no arrivals
-abbrev pub IsThere : System → List Arrival → Section → Type 0
-IsThere y as' (Object object) = (g : Guarded) × (slice_get y.objects object ≡ Some g)
-IsThere y as' (Control task) = (t : Thread) × (slice_get y.threads task ≡ Some t) × IsRequested t.timing × Each (IsElsewhere y task) as'
+abbrev pub IsThere : System → List Arrival → Resource → Type 0
+IsThere y as' (Object object) = (g : ProtectedUnit) × (slice_get y.objects object ≡ Some g)
+IsThere y as' (Control task) = (t : TaskUnit) × (slice_get y.threads task ≡ Some t) × IsRequested t.timing × Each (IsElsewhere y task) as'
 
 -- sections that are there, each of them once
-abbrev pub AreHeld : System → List Arrival → List Section → Type 0
+abbrev pub AreHeld : System → List Arrival → List Resource → Type 0
 AreHeld y as' [] = ⊤
 AreHeld y as' (s ∷ ss) = (IsAmong s ss → ⊥) × IsThere y as' s × AreHeld y as' ss
 

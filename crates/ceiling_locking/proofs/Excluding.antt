@@ -6,8 +6,8 @@ use Rattle.seq_tree.specs.Names.{Name, same_name}
 use Rattle.seq_tree.specs.Operations.{Operation}
 use Rattle.seq_tree.specs.Lists.{first_where}
 use Rattle.arrivals_tree.specs.declared.arrivals.Arrival.{Arrival}
-use Rattle.machine.specs.Systems.{System, Thread, Guarded, Library, Timing, Periodic, Requested, Callee, Plain, Protected, Request, Unknown, op_named, plain_by, protected_by, request_if, request_by, object_or, library_or, callee}
-use Rattle.machine.specs.States.{State, Task, Section, Object, Control, opening, first_task}
+use Rattle.machine.specs.Systems.{System, TaskUnit, ProtectedUnit, PassiveUnit, ReleasePattern, Periodic, Requested, CallTarget, Plain, Protected, Request, Unknown, op_named, plain_by, protected_by, request_if, request_by, object_or, library_or, callee}
+use Rattle.machine.specs.States.{State, Task, Resource, Object, Control, opening, first_task}
 use Rattle.machine.specs.Effects.{ceiling_of}
 use Rattle.machine.specs.Releases.{Next}
 use Rattle.machine.specs.Steps.{step}
@@ -26,13 +26,13 @@ use Rattle.ceiling_locking.proofs.Passing.{Face, face, faces, into, out_of, IsEn
 use Rattle.program_calls.proofs.Facts.{first-where}
 use Rattle.program_calls.proofs.Places.{changed}
 
-below-mono : (rank : ℕ → ℕ) (n m : ℕ) (ss : List Section) → m ≤ n → IsBelow rank n ss → IsBelow rank m ss
+below-mono : (rank : ℕ → ℕ) (n m : ℕ) (ss : List Resource) → m ≤ n → IsBelow rank n ss → IsBelow rank m ss
 below-mono rank n m [] less h = tt
 below-mono rank n m (Object object ∷ ss) less h = ((let top : n < rank object = h.0 in omega arith), below-mono rank n m ss less h.1)
 below-mono rank n m (Control task ∷ ss) less h = absurd h
 
 -- a call is not made inside an object of at most its rank, nor inside a control structure
-below-object : (rank : ℕ → ℕ) (n object : ℕ) (ss : List Section) → rank object ≤ n → IsBelow rank n ss → IsAmong (Object object) ss → ⊥
+below-object : (rank : ℕ → ℕ) (n object : ℕ) (ss : List Resource) → rank object ≤ n → IsBelow rank n ss → IsAmong (Object object) ss → ⊥
 below-object rank n object [] high h a = a
 below-object rank n object (Object other ∷ ss) high h (inl is) =
     let same : other ≡ object = cc in
@@ -42,7 +42,7 @@ below-object rank n object (Object other ∷ ss) high h (inl is) =
 below-object rank n object (Object other ∷ ss) high h (inr a) = below-object rank n object ss high h.1 a
 below-object rank n object (Control task ∷ ss) high h a = h
 
-below-control : (rank : ℕ → ℕ) (n task : ℕ) (ss : List Section) → IsBelow rank n ss → IsAmong (Control task) ss → ⊥
+below-control : (rank : ℕ → ℕ) (n task : ℕ) (ss : List Resource) → IsBelow rank n ss → IsAmong (Control task) ss → ⊥
 below-control rank n task [] h a = a
 below-control rank n task (Object other ∷ ss) h (inl is) = absurd (no is)
   where
@@ -52,7 +52,7 @@ below-control rank n task (Object other ∷ ss) h (inr a) = below-control rank n
 below-control rank n task (Control other ∷ ss) h a = h
 
 -- what a call of an object or of a task leads to is there
-pub callee-object : (y : System) (unit op : Name) (object j : ℕ) (g : Guarded) (o : Operation) → callee y unit op ≡ Protected object j g o → slice_get y.objects object ≡ Some g
+pub callee-object : (y : System) (unit op : Name) (object j : ℕ) (g : ProtectedUnit) (o : Operation) → callee y unit op ≡ Protected object j g o → slice_get y.objects object ≡ Some g
 callee-object y unit op object j g o e =
     by (first_where (λ l. same_name l.name unit) y.libraries) (first_where (λ x. same_name x.name unit) y.objects) refl (first_where (λ t. same_name t.name unit) y.threads) e
   where
@@ -60,11 +60,11 @@ callee-object y unit op object j g o e =
     plain None e' = cc
     plain (Some x) e' = cc
 
-    asked : (x : Option (ℕ × Thread)) → request_by op x ≡ Protected object j g o → ⊥
+    asked : (x : Option (ℕ × TaskUnit)) → request_by op x ≡ Protected object j g o → ⊥
     asked None e' = cc
     asked (Some t) e' = timed t.1.timing e'
       where
-        timed : (x : Timing) → request_if op t.0 x ≡ Protected object j g o → ⊥
+        timed : (x : ReleasePattern) → request_if op t.0 x ≡ Protected object j g o → ⊥
         timed (Periodic offset period) f = cc
         timed (Requested sig ceiling separation jitter external) f = chosen (same_name sig.name op) f
           where
@@ -72,7 +72,7 @@ callee-object y unit op object j g o e =
             chosen true k = cc
             chosen false k = cc
 
-    guarded : (x : ℕ × Guarded) → slice_get y.objects x.0 ≡ Some x.1 → (q : Option (ℕ × Operation)) → protected_by x q ≡ Protected object j g o → slice_get y.objects object ≡ Some g
+    guarded : (x : ℕ × ProtectedUnit) → slice_get y.objects x.0 ≡ Some x.1 → (q : Option (ℕ × Operation)) → protected_by x q ≡ Protected object j g o → slice_get y.objects object ≡ Some g
     guarded x at None e' = absurd (no e')
       where
         no : Unknown ≡ Protected object j g o → ⊥
@@ -82,13 +82,13 @@ callee-object y unit op object j g o e =
         let same : x.1 ≡ g = cc in
         subst (λ k. slice_get y.objects k ≡ Some g) place (at ∙ ap Some same)
 
-    by : (l : Option (ℕ × Library)) (x : Option (ℕ × Guarded)) → first_where (λ z. same_name z.name unit) y.objects ≡ x → (t : Option (ℕ × Thread))
+    by : (l : Option (ℕ × PassiveUnit)) (x : Option (ℕ × ProtectedUnit)) → first_where (λ z. same_name z.name unit) y.objects ≡ x → (t : Option (ℕ × TaskUnit))
         → library_or op l (object_or op x (request_by op t)) ≡ Protected object j g o → slice_get y.objects object ≡ Some g
     by (Some l) x f t e' = absurd (plain (op_named op l.1.ops) e')
     by None None f t e' = absurd (asked t e')
     by None (Some x) f t e' = guarded x (first-where (λ z. same_name z.name unit) y.objects x.0 x.1 f).0 (op_named op x.1.ops) e'
 
-pub callee-task : (y : System) (unit op : Name) (task : ℕ) → callee y unit op ≡ Request task → (t : Thread) × (slice_get y.threads task ≡ Some t) × IsRequested t.timing
+pub callee-task : (y : System) (unit op : Name) (task : ℕ) → callee y unit op ≡ Request task → (t : TaskUnit) × (slice_get y.threads task ≡ Some t) × IsRequested t.timing
 callee-task y unit op task e =
     by (first_where (λ l. same_name l.name unit) y.libraries) (first_where (λ x. same_name x.name unit) y.objects) (first_where (λ t. same_name t.name unit) y.threads) refl e
   where
@@ -96,19 +96,19 @@ callee-task y unit op task e =
     plain None e' = cc
     plain (Some x) e' = cc
 
-    guarded : (x : ℕ × Guarded) (q : Option (ℕ × Operation)) → protected_by x q ≡ Request task → ⊥
+    guarded : (x : ℕ × ProtectedUnit) (q : Option (ℕ × Operation)) → protected_by x q ≡ Request task → ⊥
     guarded x None e' = cc
     guarded x (Some q) e' = cc
 
-    timed : (t : ℕ × Thread) → slice_get y.threads t.0 ≡ Some t.1 → (x : Timing) → t.1.timing ≡ x → request_if op t.0 x ≡ Request task
-        → (u : Thread) × (slice_get y.threads task ≡ Some u) × IsRequested u.timing
+    timed : (t : ℕ × TaskUnit) → slice_get y.threads t.0 ≡ Some t.1 → (x : ReleasePattern) → t.1.timing ≡ x → request_if op t.0 x ≡ Request task
+        → (u : TaskUnit) × (slice_get y.threads task ≡ Some u) × IsRequested u.timing
     timed t at (Periodic offset period) is f = absurd (no f)
       where
         no : Unknown ≡ Request task → ⊥
         no k = cc
     timed t at (Requested sig ceiling separation jitter external) is f = chosen (same_name sig.name op) f
       where
-        chosen : (b : Bool) → (if b then Request t.0 else Unknown) ≡ Request task → (u : Thread) × (slice_get y.threads task ≡ Some u) × IsRequested u.timing
+        chosen : (b : Bool) → (if b then Request t.0 else Unknown) ≡ Request task → (u : TaskUnit) × (slice_get y.threads task ≡ Some u) × IsRequested u.timing
         chosen true k =
             let place : t.0 ≡ task = cc in
             (t.1, subst (λ n. slice_get y.threads n ≡ Some t.1) place at, subst IsRequested (sym is) tt)
@@ -117,8 +117,8 @@ callee-task y unit op task e =
             no : Unknown ≡ Request task → ⊥
             no k' = cc
 
-    by : (l : Option (ℕ × Library)) (x : Option (ℕ × Guarded)) (t : Option (ℕ × Thread)) → first_where (λ z. same_name z.name unit) y.threads ≡ t
-        → library_or op l (object_or op x (request_by op t)) ≡ Request task → (u : Thread) × (slice_get y.threads task ≡ Some u) × IsRequested u.timing
+    by : (l : Option (ℕ × PassiveUnit)) (x : Option (ℕ × ProtectedUnit)) (t : Option (ℕ × TaskUnit)) → first_where (λ z. same_name z.name unit) y.threads ≡ t
+        → library_or op l (object_or op x (request_by op t)) ≡ Request task → (u : TaskUnit) × (slice_get y.threads task ≡ Some u) × IsRequested u.timing
     by (Some l) x t f e' = absurd (plain (op_named op l.1.ops) e')
     by None (Some x) t f e' = absurd (guarded x (op_named op x.1.ops) e')
     by None None None f e' = absurd (no e')
@@ -146,7 +146,7 @@ module _ (y : System) (as' : List Arrival) (ex : MayExclude y as') where
     tasks = λ i t at. block-weaken (λ unit op. ex.ranking.made unit op ≡ true) (Inside (Falls ex.ranking) []) (λ unit op made. (made, tt)) false t.block (ex.tasks i t at);
   }
     where
-      by : (ss : List Section) (n : ℕ) → IsBelow ex.ranking.object_rank n ss → (c : Callee) → FallsTo y as' ex.ranking n c → LeadsWithin (Falls ex.ranking) c ss
+      by : (ss : List Resource) (n : ℕ) → IsBelow ex.ranking.object_rank n ss → (c : CallTarget) → FallsTo y as' ex.ranking n c → LeadsWithin (Falls ex.ranking) c ss
       by ss n below (Plain o) falls =
           block-weaken (IsMadeWithin ex.ranking n) (Inside (Falls ex.ranking) ss) (λ unit op h. (h.0, below-mono ex.ranking.object_rank n (ex.ranking.rank unit op) ss h.1 below)) false o.block falls
       by ss n below (Protected object j g o) falls =
@@ -163,10 +163,10 @@ module _ (y : System) (as' : List Arrival) (ex : MayExclude y as') where
       by ss n below Unknown falls = tt
 
   -- a section that is entered is there, and the task is not inside it
-  pub falls-bars : (section : Section) (ss : List Section) → IsEntered y (Falls ex.ranking) section ss → (IsAmong section ss → ⊥) × IsThere y as' section
+  pub falls-bars : (section : Resource) (ss : List Resource) → IsEntered y (Falls ex.ranking) section ss → (IsAmong section ss → ⊥) × IsThere y as' section
   falls-bars section ss e = by (callee y e.unit e.op) refl (ex.calls e.unit e.op e.may.0) e.enters
     where
-      by : (c : Callee) → callee y e.unit e.op ≡ c → FallsTo y as' ex.ranking (ex.ranking.rank e.unit e.op) c → entered_by c ≡ Some section
+      by : (c : CallTarget) → callee y e.unit e.op ≡ c → FallsTo y as' ex.ranking (ex.ranking.rank e.unit e.op) c → entered_by c ≡ Some section
           → (IsAmong section ss → ⊥) × IsThere y as' section
       by (Plain o) is falls enters = absurd (none-some section enters)
       by (Protected object j g o) is falls enters =
@@ -179,7 +179,7 @@ module _ (y : System) (as' : List Arrival) (ex : MayExclude y as') where
       by Unknown is falls enters = absurd (none-some section enters)
 
   -- a section is free where a task enters it
-  pub entry-free : (s : State) → Excludes y as' ex.ranking s → (i : ℕ) (t : Task) (section : Section) → IsEntering y (AllFall ex.ranking) s i t section → IsFree s.tasks section
+  pub entry-free : (s : State) → Excludes y as' ex.ranking s → (i : ℕ) (t : Task) (section : Resource) → IsEntering y (AllFall ex.ranking) s i t section → IsFree s.tasks section
   entry-free s x i t section e (j, u, su, among) = by (j == i) refl
     where
       kept : IsKept y (AllFall ex.ranking) (Some i) s.tasks s.orders
@@ -221,7 +221,7 @@ module _ (y : System) (as' : List Arrival) (ex : MayExclude y as') where
       subst (λ g. AreHeld y as' g.1) (sym same) rest)
       (λ other there. let found = face-at s.tasks i (face t) there in subst (λ f. AreHeld y as' f.1) found.2 (x.held i found.0 found.1))
     where
-      fewer : (ss : List Section) → AreHeld y as' ss → AreHeld y as' (drop 1 ss)
+      fewer : (ss : List Resource) → AreHeld y as' ss → AreHeld y as' (drop 1 ss)
       fewer [] h = tt
       fewer (z ∷ ss) h = h.2
 
@@ -246,10 +246,10 @@ module _ (y : System) (as' : List Arrival) (ex : MayExclude y as') where
     left = refl;
   }
     where
-      first-task-at : (i : ℕ) (t : Task) → Stands (map first_task y.threads) i t → (th : Thread) × (t ≡ first_task th)
+      first-task-at : (i : ℕ) (t : Task) → Stands (map first_task y.threads) i t → (th : TaskUnit) × (t ≡ first_task th)
       first-task-at i t stands = by (slice_get y.threads i) (sym (slice_get-map first_task y.threads i) ∙ stands)
         where
-          by : (o : Option Thread) → option_map first_task o ≡ Some t → (th : Thread) × (t ≡ first_task th)
+          by : (o : Option TaskUnit) → option_map first_task o ≡ Some t → (th : TaskUnit) × (t ≡ first_task th)
           by None f = absurd (none-some t f)
           by (Some th) f = (th, sym (same_Some (first_task th) t f))
 
@@ -285,6 +285,6 @@ module _ (y : System) (as' : List Arrival) (ex : MayExclude y as') where
           absurd (out (more (sections t) (subst (λ g. IsAmong section g.1) (same ∙ ap out_of (sym mine)) among))))
           (λ not there. absurd (out (subst (λ f. IsAmong section f.1) (sym (same-face s.tasks i t u at there)) among)))
         where
-          more : (ss : List Section) → IsAmong section (drop 1 ss) → IsAmong section ss
+          more : (ss : List Resource) → IsAmong section (drop 1 ss) → IsAmong section ss
           more [] a = a
           more (z ∷ ss) a = inr a

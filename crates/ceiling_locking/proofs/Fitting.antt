@@ -6,10 +6,10 @@ use Rattle.seq_tree.specs.Statements.{Statement, Statements, Branches, Null, Ass
 use Rattle.seq_tree.specs.Expressions.{Expression}
 use Rattle.seq_tree.specs.Values.{holds}
 use Rattle.seq_tree.specs.Variables.{Variables}
-use Rattle.machine.specs.Systems.{System, Callee, Plain, Protected, Request, Unknown, callee}
+use Rattle.machine.specs.Systems.{System, CallTarget, Plain, Protected, Request, Unknown, callee}
 use Rattle.machine.specs.Pieces.{Piece, Idle, Store, Leaving, Calling, Working, Printing, Testing, Turning, Turned, Returning, Closing, Keeping, Opening, Requested, Finishing, turns, pieces_of, pieces, branch_pieces, after_loop}
-use Rattle.machine.specs.Deeds.{Act, Silent, Print, Enter, Leave, Ask, Keep, Open, Ended, Finish, Deed, deed, called, done}
-use Rattle.machine.specs.States.{Section, Object, Control}
+use Rattle.machine.specs.Deeds.{Act, Silent, Print, Enter, Leave, Ask, Keep, Open, Ended, Finish, PieceOutcome, deed, called, done}
+use Rattle.machine.specs.States.{Resource, Object, Control}
 use Rattle.ceiling_locking.proofs.Pieces.{closers, is_in_loop, Permission, Inside, AreFit, entered_by, LeadsWithin, IsClosed}
 use Rattle.ceiling_locking.specs.Bodies.{Where, StatementFits, BlockFits, BranchesFit}
 use Rattle.std.proofs.lemmas.Bool.{false≢true}
@@ -93,7 +93,7 @@ mutual
 
 module _ (May : Permission) where
   -- what fits before pieces fits before others with the same ends
-  statement-moved : (s : Statement) (ss ss' : List Section) (b b' : Bool) → ss ≡ ss' → b ≡ b' → StatementFits (Inside May ss) b s → StatementFits (Inside May ss') b' s
+  statement-moved : (s : Statement) (ss ss' : List Resource) (b b' : Bool) → ss ≡ ss' → b ≡ b' → StatementFits (Inside May ss) b s → StatementFits (Inside May ss') b' s
   statement-moved s ss ss' b b' e f h = subst (λ c. StatementFits (Inside May ss') c s) f (subst (λ xs. StatementFits (Inside May xs) b s) e h)
 
   turns-fit : (name : Name) (at last : ℕ) (body : Statements) (rest : List Piece)
@@ -165,14 +165,14 @@ after-fit May (Requested task value ∷ ps) h = after-fit May ps h.1
 after-fit May (Finishing ∷ ps) h = after-fit May ps h.1
 
 -- a permitted call that enters a section, made inside these
-pub record IsEntered (y : System) (May : Permission) (section : Section) (ss : List Section) : Type 0 where
+pub record IsEntered (y : System) (May : Permission) (section : Resource) (ss : List Resource) : Type 0 where
   pub unit : Name
   pub op : Name
   pub enters : entered_by (callee y unit op) ≡ Some section
   pub may : May unit op ss
 
 -- what an act does to the ends of sections among the pieces
-abbrev pub ActFits : System → Permission → List Section → Act → List Piece → Type 0
+abbrev pub ActFits : System → Permission → List Resource → Act → List Piece → Type 0
 ActFits y May ss Silent ps = closers ps ≡ ss
 ActFits y May ss (Print v) ps = closers ps ≡ ss
 ActFits y May ss (Enter object op values) ps = IsEntered y May (Object object) ss × (closers ps ≡ Object object ∷ ss)
@@ -184,10 +184,10 @@ ActFits y May ss (Ended task v) ps = ss ≡ Control task ∷ closers ps
 ActFits y May ss Finish ps = (ss ≡ []) × (ps ≡ [])
 
 -- a deed whose pieces fit
-abbrev pub DeedFits : System → Permission → List Section → Deed → Type 0
+abbrev pub DeedFits : System → Permission → List Resource → PieceOutcome → Type 0
 DeedFits y May ss d = AreFit May d.pieces × ActFits y May ss d.act d.pieces
 
-called-fits : (y : System) (May : Permission) (unit op : Name) (actuals : List Expression) (vars : Variables) (ps : List Piece) (c : Callee)
+called-fits : (y : System) (May : Permission) (unit op : Name) (actuals : List Expression) (vars : Variables) (ps : List Piece) (c : CallTarget)
     → callee y unit op ≡ c → May unit op (closers ps) → LeadsWithin May c (closers ps) → AreFit May ps → DeedFits y May (closers ps) (called c actuals vars ps)
 called-fits y May unit op actuals vars ps (Plain o) e may within fits = (block-fit May o.block _ within (tt, fits), block-closers o.block _)
 called-fits y May unit op actuals vars ps (Protected object j g o) e may within fits =

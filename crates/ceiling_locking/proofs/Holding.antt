@@ -5,7 +5,7 @@ use Rattle.std.proofs.lemmas.Int.{ints}
 use Rattle.std.proofs.lemmas.Option.{same_Some}
 use Rattle.arrivals_tree.specs.declared.arrivals.Arrival.{Arrival}
 use Rattle.machine.specs.Systems.{System}
-use Rattle.machine.specs.States.{State, Task, Readiness, Asleep, Waiting, Ready, Section, Held, opening}
+use Rattle.machine.specs.States.{State, Task, Readiness, Asleep, Waiting, Ready, Resource, Held, opening}
 use Rattle.machine.specs.Meanings.{run}
 use Rattle.ceiling_locking.specs.Sections.{Stands, IsNumbered, AreStacked, sections}
 use Rattle.ceiling_locking.proofs.Kept.{IsAtRest, GoesBefore}
@@ -16,7 +16,7 @@ use Rattle.ceiling_locking.proofs.Moves.{stacked-base}
 use Rattle.ceiling_locking.proofs.Excluding.{opening-excludes, run-excludes}
 use Rattle.ceiling_locking.proofs.Numbers.{Differ, opening-differs, run-differs}
 
-held-once : (y : System) (as' : List Arrival) (ss : List Section) → AreHeld y as' ss → AreOnce ss
+held-once : (y : System) (as' : List Arrival) (ss : List Resource) → AreHeld y as' ss → AreOnce ss
 held-once y as' [] h = tt
 held-once y as' (s ∷ ss) h = (h.0, held-once y as' ss h.2)
 

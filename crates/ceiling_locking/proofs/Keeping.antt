@@ -10,10 +10,10 @@ use Rattle.seq_tree.specs.declared.tree.Costs.{Costs}
 use Rattle.arrivals_tree.specs.declared.arrivals.Arrival.{Arrival}
 use Rattle.trace_tree.specs.declared.event.Event.{Event}
 use Rattle.trace_tree.specs.declared.event.Event.TheVariants as event
-use Rattle.machine.specs.Systems.{System, Thread, Timing, Periodic, Requested}
+use Rattle.machine.specs.Systems.{System, TaskUnit, ReleasePattern, Periodic, Requested}
 use Rattle.machine.specs.Pieces.{Piece, Finishing, pieces, ticks_of, works_of}
 use Rattle.machine.specs.Deeds.{Act, Silent, Print, Enter, Leave, Ask, Keep, Open, Ended, Finish, done}
-use Rattle.machine.specs.States.{State, Task, Phase, Effects, Delays, Arriving, Use, Readiness, Asleep, Waiting, Ready, Section, Object, Control, Held, Gate, first_wait, first_task, opening}
+use Rattle.machine.specs.States.{State, Task, Phase, Effects, Delays, Arriving, Use, Readiness, Asleep, Waiting, Ready, Resource, Object, Control, Held, Gate, first_wait, first_task, opening}
 use Rattle.machine.specs.Effects.{ceiling_of, inside_now, outside_by, outside_now, lent, stopped_at, entered_at, entry, exit, resting, ended, acted, object_unit}
 use Rattle.machine.specs.Dispatch.{put_last, put_first, dispatched}
 use Rattle.machine.specs.Releases.{Next, going, released, release_task, release, is_waiting, serve_task, serve, parameter, next_time}
@@ -84,21 +84,21 @@ map-empty f (x ∷ xs) e = absurd (empty (f x) (map f xs) (sym e))
 pub ended-rests : (vars' : Variables) (t : Task) → t.inside ≡ [] → IsAtRest (ended vars' t).readiness (ended vars' t)
 ended-rests vars' t inside = by t.thread.timing refl
   where
-    by : (x : Timing) → t.thread.timing ≡ x → IsAtRest (resting x t.next) (ended vars' t)
+    by : (x : ReleasePattern) → t.thread.timing ≡ x → IsAtRest (resting x t.next) (ended vars' t)
     by (Periodic offset period) e = (inside, refl, subst IsPeriodic (sym e) tt)
     by (Requested op ceiling separation jitter external) e = (inside, refl)
 
 ended-sleeps : (vars' : Variables) (t : Task) → (ended vars' t).readiness ≡ Ready → ⊥
 ended-sleeps vars' t e = by t.thread.timing e
   where
-    by : (x : Timing) → resting x t.next ≡ Ready → ⊥
+    by : (x : ReleasePattern) → resting x t.next ≡ Ready → ⊥
     by (Periodic offset period) e' = cc
     by (Requested op ceiling separation jitter external) e' = cc
 
 -- what the system's texts promise
 pub record AreWritten (y : System) (May : ℕ → Permission) : Type 0 where
   pub closed : (i : ℕ) → IsClosed y (May i)
-  pub tasks : (i : ℕ) (t : Thread) → slice_get y.threads i ≡ Some t → BlockFits (Inside (May i) []) false t.block
+  pub tasks : (i : ℕ) (t : TaskUnit) → slice_get y.threads i ≡ Some t → BlockFits (Inside (May i) []) false t.block
 
 -- the opening
 pub opening-keeps : (y : System) (May : ℕ → Permission) (as' : List Arrival) → Keeps y May (opening y as')
@@ -116,17 +116,17 @@ opening-keeps y May as' = record {
   alone = λ i j t u section st su among among'. absurd (subst (IsAmong section) (let found = at i t st in ap sections found.2) among);
 }
   where
-    at : (i : ℕ) (t : Task) → Stands (map first_task y.threads) i t → (th : Thread) × (slice_get y.threads i ≡ Some th) × (t ≡ first_task th)
+    at : (i : ℕ) (t : Task) → Stands (map first_task y.threads) i t → (th : TaskUnit) × (slice_get y.threads i ≡ Some th) × (t ≡ first_task th)
     at i t stands = by (slice_get y.threads i) refl (sym (slice_get-map first_task y.threads i) ∙ stands)
       where
-        by : (o : Option Thread) → slice_get y.threads i ≡ o → option_map first_task o ≡ Some t → (th : Thread) × (slice_get y.threads i ≡ Some th) × (t ≡ first_task th)
+        by : (o : Option TaskUnit) → slice_get y.threads i ≡ o → option_map first_task o ≡ Some t → (th : TaskUnit) × (slice_get y.threads i ≡ Some th) × (t ≡ first_task th)
         by None e f = absurd (none-some t f)
         by (Some th) e f = (th, e, sym (same_Some (first_task th) t f))
 
-    rests : (th : Thread) → IsAtRest (first_wait th.timing) (first_task th)
+    rests : (th : TaskUnit) → IsAtRest (first_wait th.timing) (first_task th)
     rests th = by th.timing refl
       where
-        by : (x : Timing) → th.timing ≡ x → IsAtRest (first_wait x) (first_task th)
+        by : (x : ReleasePattern) → th.timing ≡ x → IsAtRest (first_wait x) (first_task th)
         by (Periodic offset period) e = (refl, refl, subst IsPeriodic (sym e) tt)
         by (Requested op ceiling separation jitter external) e = (refl, refl)
 
@@ -201,7 +201,7 @@ module _ (y : System) (May : ℕ → Permission) (text : AreWritten y May) where
           fits = fits;
         })
 
-    enter-keeps : (section : Section) (vars' : Variables) (ps : List Piece) → t.active ≤ ceiling_of y section
+    enter-keeps : (section : Resource) (vars' : Variables) (ps : List Piece) → t.active ≤ ceiling_of y section
         → closers ps ≡ section ∷ closers t.pieces → AreFit (May i) ps
         → IsKept y May (Some i) (change i (λ u. going y.costs vars' ps (inside_now section (ceiling_of y section) u)) s.tasks) (put_first i s.orders)
     enter-keeps section vars' ps low closes fits =
@@ -209,11 +209,11 @@ module _ (y : System) (May : ℕ → Permission) (text : AreWritten y May) where
         entered y May (Some i) s.tasks s.orders i t kept refl stands section (λ u. going y.costs vars' ps (inside_now section (ceiling_of y section) u))
         vars' ps (first_left y.costs ps within) (first_works ps within) (going-is y.costs vars' ps within) ready low closes fits
 
-    entry-goes : (section : Section) (told : List Event) (vars' : Variables) (ps : List Piece)
+    entry-goes : (section : Resource) (told : List Event) (vars' : Variables) (ps : List Piece)
         → closers ps ≡ section ∷ closers t.pieces → AreFit (May i) ps → Goes Effects (Some i) (Some i) (entry y i t section told vars' ps s)
     entry-goes section told vars' ps closes fits = by (nat_lt (ceiling_of y section) t.active) refl
       where
-        into : (x : Section) → closers ps ≡ x ∷ closers t.pieces → t.active ≤ ceiling_of y x → Goes Effects (Some i) (Some i) (entered_at y i x told vars' ps s)
+        into : (x : Resource) → closers ps ≡ x ∷ closers t.pieces → t.active ≤ ceiling_of y x → Goes Effects (Some i) (Some i) (entered_at y i x told vars' ps s)
         into (Object object) closes' low = (effects, ran, enter-keeps (Object object) (lent (Object object) s vars') ps low closes' fits)
         into (Control task) closes' low = (effects, ran, enter-keeps (Control task) (lent (Control task) s vars') ps low closes' fits)
 
@@ -222,7 +222,7 @@ module _ (y : System) (May : ℕ → Permission) (text : AreWritten y May) where
         by true e = (effects, ran, kept)
         by false e = into section closes (let low : t.active ≤ ceiling_of y section = grind arith in low)
 
-    exit-keeps : (section : Section) (vars' : Variables) (ps : List Piece) → closers t.pieces ≡ section ∷ closers ps → AreFit (May i) ps
+    exit-keeps : (section : Resource) (vars' : Variables) (ps : List Piece) → closers t.pieces ≡ section ∷ closers ps → AreFit (May i) ps
         → IsKept y May (Some i) (change i (λ u. going y.costs vars' ps (outside_now u)) s.tasks) (put_first i s.orders)
     exit-keeps section vars' ps closes fits = by t.inside refl
       where

@@ -1,17 +1,17 @@
 -- What the processor keeps: each ready task that may run before a holder has a base priority above the holder's active priority.
 -- Active priorities are those of ISO/IEC 8652:2012, D.1 and D.3; a holder is a task inside a protected object or a control structure.
 use Rattle.std.specs.Prelude.{◌≡◌, ◌≢◌, ◌≤◌, ◌<◌, ℕ, List, [], ◌∷◌, length, slice_get, Option, Some, None, ℤ, ◌<ℤ◌, ⊤}
-use Rattle.machine.specs.Systems.{System, Timing, Periodic, Requested}
-use Rattle.machine.specs.States.{State, Task, Phase, Effects, Delays, Arriving, Use, Readiness, Asleep, Waiting, Ready, Section, Held}
+use Rattle.machine.specs.Systems.{System, ReleasePattern, Periodic, Requested}
+use Rattle.machine.specs.States.{State, Task, Phase, Effects, Delays, Arriving, Use, Readiness, Asleep, Waiting, Ready, Resource, Held}
 use Rattle.ceiling_locking.specs.Sections.{Stands, IsNumbered, AreStacked, sections, IsAmong}
 use Rattle.ceiling_locking.proofs.Pieces.{closers, Permission, AreFit}
 
 -- whether a task is released at its own times, or at requests
-abbrev pub IsPeriodic : Timing → Type 0
+abbrev pub IsPeriodic : ReleasePattern → Type 0
 IsPeriodic (Periodic offset period) = ⊤
 IsPeriodic (Requested op ceiling separation jitter external) = ⊥
 
-abbrev pub IsRequested : Timing → Type 0
+abbrev pub IsRequested : ReleasePattern → Type 0
 IsRequested (Periodic offset period) = ⊥
 IsRequested (Requested op ceiling separation jitter external) = ⊤
 
@@ -45,7 +45,7 @@ pub record IsKept (y : System) (May : ℕ → Permission) (runner : Option ℕ) 
   pub runs : (i j : ℕ) (t u : Task) (h : Held) (hs : List Held)
       → runner ≡ Some i → Stands ts i t → Stands ts j u → i ≢ j → u.inside ≡ h ∷ hs → u.active < t.thread.priority
   -- no section is held by two tasks
-  pub alone : (i j : ℕ) (t u : Task) (section : Section)
+  pub alone : (i j : ℕ) (t u : Task) (section : Resource)
       → Stands ts i t → Stands ts j u → IsAmong section (sections t) → IsAmong section (sections u) → i ≡ j
 
 -- the runner at a phase

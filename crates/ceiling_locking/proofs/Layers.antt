@@ -5,7 +5,7 @@ use Rattle.std.specs.Prelude.{◌≡◌, ◌≤◌, ℕ, Bool, true, false, List
 use Rattle.seq_tree.specs.Names.{Name}
 use Rattle.seq_tree.specs.Lists.{Each}
 use Rattle.arrivals_tree.specs.declared.arrivals.Arrival.{Arrival}
-use Rattle.machine.specs.Systems.{System, Thread, Guarded, Callee, Plain, Protected, Request, Unknown, callee}
+use Rattle.machine.specs.Systems.{System, TaskUnit, ProtectedUnit, CallTarget, Plain, Protected, Request, Unknown, callee}
 use Rattle.machine.specs.States.{Object, Control}
 use Rattle.machine.specs.Effects.{ceiling_of}
 use Rattle.ceiling_locking.specs.Bodies.{BlockFits}
@@ -20,7 +20,7 @@ use Rattle.seq_tree.specs.Rings.{IsOnRing}
 use Rattle.ceiling_locking.proofs.Rankings.{rank, rank-falls}
 
 -- a call that enters only objects that this one calls
-abbrev pub LeadsOn : (ℕ → ℕ → Bool) → ℕ → Callee → Type 0
+abbrev pub LeadsOn : (ℕ → ℕ → Bool) → ℕ → CallTarget → Type 0
 LeadsOn leads object (Plain o) = ⊤
 LeadsOn leads object (Protected other op g o) = leads object other ≡ true
 LeadsOn leads object (Request task) = ⊤
@@ -34,7 +34,7 @@ abbrev pub IsInnerCall : System → (Name → Name → Bool) → (ℕ → ℕ �
 IsInnerCall y made leads object unit op = (made unit op ≡ true) × LeadsOn leads object (callee y unit op)
 
 -- what a made call leads to
-abbrev pub StaysInLayers : System → List Arrival → (Name → Name → Bool) → (ℕ → ℕ → Bool) → Callee → Type 0
+abbrev pub StaysInLayers : System → List Arrival → (Name → Name → Bool) → (ℕ → ℕ → Bool) → CallTarget → Type 0
 StaysInLayers y as' made leads (Plain o) = BlockFits (IsPassiveCall y made) false o.block
 StaysInLayers y as' made leads (Protected object op g o) = BlockFits (IsInnerCall y made leads object) false o.block
 StaysInLayers y as' made leads (Request task) = Each (IsElsewhere y task) as'
@@ -45,14 +45,14 @@ pub record IsLayered (y : System) (as' : List Arrival) : Type 0 where
   pub made : Name → Name → Bool
   pub leads : ℕ → ℕ → Bool
   pub no_ring : (object : ℕ) → IsOnRing (λ x z. leads x z ≡ true) object → ⊥
-  pub tasks : (i : ℕ) (t : Thread) → slice_get y.threads i ≡ Some t → BlockFits (λ unit op. made unit op ≡ true) false t.block
+  pub tasks : (i : ℕ) (t : TaskUnit) → slice_get y.threads i ≡ Some t → BlockFits (λ unit op. made unit op ≡ true) false t.block
   pub calls : (unit op : Name) → made unit op ≡ true → StaysInLayers y as' made leads (callee y unit op)
-  pub covered : (i : ℕ) (t : Thread) → slice_get y.threads i ≡ Some t → IsCovered t.priority t.timing
-  pub objects : (i j : ℕ) (g h : Guarded) → slice_get y.objects i ≡ Some g → slice_get y.objects j ≡ Some h → g.unit ≡ h.unit → i ≡ j
-  pub units : (i j : ℕ) (t u : Thread) → slice_get y.threads i ≡ Some t → slice_get y.threads j ≡ Some u → t.unit ≡ u.unit → i ≡ j
+  pub covered : (i : ℕ) (t : TaskUnit) → slice_get y.threads i ≡ Some t → IsCovered t.priority t.timing
+  pub objects : (i j : ℕ) (g h : ProtectedUnit) → slice_get y.objects i ≡ Some g → slice_get y.objects j ≡ Some h → g.unit ≡ h.unit → i ≡ j
+  pub units : (i j : ℕ) (t u : TaskUnit) → slice_get y.threads i ≡ Some t → slice_get y.threads j ≡ Some u → t.unit ≡ u.unit → i ≡ j
 
 -- a call that enters no section of a ceiling below this
-abbrev pub EntersAbove : System → ℕ → Callee → Type 0
+abbrev pub EntersAbove : System → ℕ → CallTarget → Type 0
 EntersAbove y n (Plain o) = ⊤
 EntersAbove y n (Protected object op g o) = n ≤ ceiling_of y (Object object)
 EntersAbove y n (Request task) = n ≤ ceiling_of y (Control task)
@@ -63,7 +63,7 @@ abbrev pub IsCallAbove : System → (Name → Name → Bool) → ℕ → Name �
 IsCallAbove y made n unit op = (made unit op ≡ true) × EntersAbove y n (callee y unit op)
 
 -- what a made call leads to: passive bodies call passive operations, protected bodies enter sections of ceilings of at least their own
-abbrev pub StaysAbove : System → (Name → Name → Bool) → Callee → Type 0
+abbrev pub StaysAbove : System → (Name → Name → Bool) → CallTarget → Type 0
 StaysAbove y made (Plain o) = BlockFits (IsPassiveCall y made) false o.block
 StaysAbove y made (Protected object op g o) = BlockFits (IsCallAbove y made (ceiling_of y (Object object))) false o.block
 StaysAbove y made (Request task) = ⊤
@@ -74,16 +74,16 @@ pub record KeepsCeilings (y : System) : Type 0 where
   pub made : Name → Name → Bool
   -- a number that no priority and no ceiling of an object is above
   pub top : ℕ
-  pub priorities : (i : ℕ) (t : Thread) → slice_get y.threads i ≡ Some t → t.priority ≤ top
-  pub ceilings : (i : ℕ) (g : Guarded) → slice_get y.objects i ≡ Some g → ceiling_of y (Object i) ≤ top
-  pub tasks : (i : ℕ) (t : Thread) → slice_get y.threads i ≡ Some t → BlockFits (IsCallAbove y made t.priority) false t.block
+  pub priorities : (i : ℕ) (t : TaskUnit) → slice_get y.threads i ≡ Some t → t.priority ≤ top
+  pub ceilings : (i : ℕ) (g : ProtectedUnit) → slice_get y.objects i ≡ Some g → ceiling_of y (Object i) ≤ top
+  pub tasks : (i : ℕ) (t : TaskUnit) → slice_get y.threads i ≡ Some t → BlockFits (IsCallAbove y made t.priority) false t.block
   pub calls : (unit op : Name) → made unit op ≡ true → StaysAbove y made (callee y unit op)
 
 module _ (y : System) (as' : List Arrival) (l : IsLayered y as') where
   abbrev object_rank : ℕ → ℕ
   object_rank x = suc (rank l.leads (length y.objects) x)
 
-  abbrev rank_by : Callee → ℕ
+  abbrev rank_by : CallTarget → ℕ
   rank_by (Plain o) = 0
   rank_by (Protected object j g o) = object_rank object
   rank_by (Request task) = 0
@@ -92,14 +92,14 @@ module _ (y : System) (as' : List Arrival) (l : IsLayered y as') where
   abbrev ranking : Ranking
   ranking = record { made = l.made; rank = λ unit op. rank_by (callee y unit op); object_rank = object_rank }
 
-  nothing-rank : (c : Callee) → IsUnprotected c → rank_by c ≡ 0
+  nothing-rank : (c : CallTarget) → IsUnprotected c → rank_by c ≡ 0
   nothing-rank (Plain o) h = refl
   nothing-rank (Protected object j g o) h = absurd h
   nothing-rank (Request task) h = absurd h
   nothing-rank Unknown h = refl
 
   -- an object that another calls has a lower rank
-  inner-rank : (unit op : Name) (object : ℕ) → object < length y.objects → (c : Callee) → LeadsTo y unit op c → LeadsOn l.leads object c → rank_by c < object_rank object
+  inner-rank : (unit op : Name) (object : ℕ) → object < length y.objects → (c : CallTarget) → LeadsTo y unit op c → LeadsOn l.leads object c → rank_by c < object_rank object
   inner-rank unit op object below (Plain o) there on = omega arith
   inner-rank unit op object below (Protected other j g o) there on =
       let falls = rank-falls l.leads (length y.objects) l.no_ring object other below (slice_get_within y.objects other g there.stands) on in
@@ -117,7 +117,7 @@ module _ (y : System) (as' : List Arrival) (l : IsLayered y as') where
     units = l.units;
   }
     where
-      by : (unit op : Name) (c : Callee) → LeadsTo y unit op c → StaysInLayers y as' l.made l.leads c → FallsTo y as' ranking (rank_by c) c
+      by : (unit op : Name) (c : CallTarget) → LeadsTo y unit op c → StaysInLayers y as' l.made l.leads c → FallsTo y as' ranking (rank_by c) c
       by unit op (Plain o) there stays =
           block-weaken (IsPassiveCall y l.made) (IsMadeWithin ranking 0)
           (λ unit' op' h. (h.0, (let none : rank_by (callee y unit' op') ≡ 0 = nothing-rank (callee y unit' op') h.1 in omega (arith, none)))) false o.block stays
@@ -136,7 +136,7 @@ module _ (y : System) (as' : List Arrival) (l : IsLayered y as') where
 
 -- where calls enter sections of ceilings of at least the caller's no run stops
 module _ (y : System) (k : KeepsCeilings y) where
-  abbrev low_by : Callee → ℕ
+  abbrev low_by : CallTarget → ℕ
   low_by (Plain o) = k.top
   low_by (Protected object j g o) = ceiling_of y (Object object)
   low_by (Request task) = ceiling_of y (Control task)
@@ -145,13 +145,13 @@ module _ (y : System) (k : KeepsCeilings y) where
   abbrev reach : Reach
   reach = record { made = k.made; low = λ unit op. low_by (callee y unit op) }
 
-  above-low : (n : ℕ) → n ≤ k.top → (c : Callee) → EntersAbove y n c → n ≤ low_by c
+  above-low : (n : ℕ) → n ≤ k.top → (c : CallTarget) → EntersAbove y n c → n ≤ low_by c
   above-low n small (Plain o) h = small
   above-low n small (Protected object j g o) h = h
   above-low n small (Request task) h = h
   above-low n small Unknown h = small
 
-  nothing-low : (c : Callee) → IsUnprotected c → k.top ≤ low_by c
+  nothing-low : (c : CallTarget) → IsUnprotected c → k.top ≤ low_by c
   nothing-low (Plain o) h = omega arith
   nothing-low (Protected object j g o) h = absurd h
   nothing-low (Request task) h = absurd h
@@ -167,7 +167,7 @@ module _ (y : System) (k : KeepsCeilings y) where
     calls = λ unit op made. by unit op (callee y unit op) (leads-to y unit op) (k.calls unit op made);
   }
     where
-      by : (unit op : Name) (c : Callee) → LeadsTo y unit op c → StaysAbove y k.made c → RisesTo y reach (low_by c) c
+      by : (unit op : Name) (c : CallTarget) → LeadsTo y unit op c → StaysAbove y k.made c → RisesTo y reach (low_by c) c
       by unit op (Plain o) there stays =
           block-weaken (IsPassiveCall y k.made) (IsMadeFrom reach k.top) (λ unit' op' h. (h.0, nothing-low (callee y unit' op') h.1)) false o.block stays
       by unit op (Protected object j g o) there stays = (

@@ -18,7 +18,7 @@ use Rattle.analysis.specs.Execution.{called_cost}
 use Rattle.analysis.specs.Sections as parts
 use Rattle.analysis.specs.Sections.{live_statement, live_calls, live_branches, section, sections_by, service_sections, sections_within, sections}
 use Rattle.guarantee.specs.ResponseLaw.{ranked, ceiling_named, program_services, task_sections}
-use Rattle.machine.specs.Systems.{System, Thread, Callee, Plain, Protected, Request, Unknown, system, callee}
+use Rattle.machine.specs.Systems.{System, TaskUnit, CallTarget, Plain, Protected, Request, Unknown, system, callee}
 use Rattle.machine.specs.States.{Object, Control}
 use Rattle.machine.specs.Effects.{ceiling_of, ceiling_by}
 use Rattle.ceiling_locking.specs.Bodies.{BlockFits, HasExitsInLoops}
@@ -55,7 +55,7 @@ module _ (p : Program) (a : Arrivals) (rules : MeetsRules p) (lev bound : ℕ) (
   served c = served-as p a (units_apart p rules) c.object c.op
 
   -- what tasks below the level lead to by live calls
-  abbrev low_calls : Thread → List OpName
+  abbrev low_calls : TaskUnit → List OpName
   low_calls t = flat_map (live_within ss) (live_calls t.block)
 
   abbrev is_low_call : OpName → Bool
@@ -70,14 +70,14 @@ module _ (p : Program) (a : Arrivals) (rules : MeetsRules p) (lev bound : ℕ) (
   -- the task below the level that leads to a call
   record IsLow (c : OpName) : Type 0 where
     place : ℕ
-    task : Thread
+    task : TaskUnit
     stands : slice_get y.threads place ≡ Some task
     below : task.priority < lev
     leads : IsIn c (low_calls task)
 
   low-of : (c : OpName) → is_low_call c ≡ true → IsLow c
   low-of c e =
-      let found = any-at (λ (t : Thread). nat_lt t.priority lev && list_any (same_op c) (low_calls t)) y.threads e in
+      let found = any-at (λ (t : TaskUnit). nat_lt t.priority lev && list_any (same_op c) (low_calls t)) y.threads e in
       let halves = and_parts (nat_lt found.1.priority lev) (list_any (same_op c) (low_calls found.1)) found.3 in
       let call = any-at (same_op c) (low_calls found.1) halves.1 in
       record {
@@ -88,9 +88,9 @@ module _ (p : Program) (a : Arrivals) (rules : MeetsRules p) (lev bound : ℕ) (
         leads = subst (λ z. IsIn z (low_calls found.1)) (sym (same_op-eq c call.1 call.3)) (at-in (low_calls found.1) call.0 call.1 call.2);
       }
 
-  low-is : (c : OpName) (i : ℕ) (t : Thread) → slice_get y.threads i ≡ Some t → t.priority < lev → IsIn c (low_calls t) → is_low_call c ≡ true
+  low-is : (c : OpName) (i : ℕ) (t : TaskUnit) → slice_get y.threads i ≡ Some t → t.priority < lev → IsIn c (low_calls t) → is_low_call c ≡ true
   low-is c i t at low h =
-      any-in (λ (z : Thread). nat_lt z.priority lev && list_any (same_op c) (low_calls z)) t y.threads (at-in y.threads i t at)
+      any-in (λ (z : TaskUnit). nat_lt z.priority lev && list_any (same_op c) (low_calls z)) t y.threads (at-in y.threads i t at)
       (both (nat_lt t.priority lev) (list_any (same_op c) (low_calls t)) (grind arith) (any-in (same_op c) c (low_calls t) h (same_op-refl c)))
     where
       both : (b d : Bool) → b ≡ true → d ≡ true → (b && d) ≡ true
@@ -137,7 +137,7 @@ module _ (p : Program) (a : Arrivals) (rules : MeetsRules p) (lev bound : ℕ) (
     call = call-costs p rules;
   }
     where
-      exits : (unit op : Name) (c : Callee) → LeadsTo y unit op c → HasExitsInLoops c
+      exits : (unit op : Name) (c : CallTarget) → LeadsTo y unit op c → HasExitsInLoops c
       exits unit op (Plain o) l =
           let found = library-at p a l.place l.library l.stands in
           body-fits p rules found.0 found.1 (found.2).stands (op_body o) (op-body-in found.1.form l.library.ops l.at o (ap bodies (found.2).form) l.holds) (λ unit' op'. ⊤) (λ x h. tt)
@@ -147,7 +147,7 @@ module _ (p : Program) (a : Arrivals) (rules : MeetsRules p) (lev bound : ℕ) (
       exits unit op (Request task) l = tt
       exits unit op Unknown l = tt
 
-      task-made : (i : ℕ) (t : Thread) → slice_get y.threads i ≡ Some t → BlockFits (λ unit op. t.priority < lev → IsMade costing unit op) false t.block
+      task-made : (i : ℕ) (t : TaskUnit) → slice_get y.threads i ≡ Some t → BlockFits (λ unit op. t.priority < lev → IsMade costing unit op) false t.block
       task-made i t at =
           let body = task-body p a i t at in
           subst (λ b. BlockFits (λ unit op. t.priority < lev → IsMade costing unit op) false b) body.5
@@ -155,7 +155,7 @@ module _ (p : Program) (a : Arrivals) (rules : MeetsRules p) (lev bound : ℕ) (
           (λ x h low. or_right (is_free (callee y x.object x.op)) (is_low_call x)
           ((low-is x i t at low (in-flat (live_within ss) x x (live_calls t.block) (subst (λ b. IsIn x (live_calls b)) body.5 h) (live-itself ss x))))))
 
-      calls : (unit op : Name) (c : Callee) → callee y unit op ≡ c → LeadsTo y unit op c → ServedAs p y unit op c → PaysCall p (record { object = unit; op = op }) c → made unit op ≡ true
+      calls : (unit op : Name) (c : CallTarget) → callee y unit op ≡ c → LeadsTo y unit op c → ServedAs p y unit op c → PaysCall p (record { object = unit; op = op }) c → made unit op ≡ true
           → CostsAtMost y lev bound costing (called_cost p.costs ss unit op) c
       calls unit op (Plain o) e l s pays is-made =
           let found = library-at p a l.place l.library l.stands in (

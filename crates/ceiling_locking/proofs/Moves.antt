@@ -6,7 +6,7 @@ use Rattle.seq_tree.specs.Lists.{change}
 use Rattle.seq_tree.specs.Variables.{Variables}
 use Rattle.machine.specs.Systems.{System}
 use Rattle.machine.specs.Pieces.{Piece}
-use Rattle.machine.specs.States.{Task, Readiness, Asleep, Waiting, Ready, Section, Held}
+use Rattle.machine.specs.States.{Task, Readiness, Asleep, Waiting, Ready, Resource, Held}
 use Rattle.machine.specs.Effects.{ceiling_of}
 use Rattle.machine.specs.Dispatch.{put_last, put_first}
 use Rattle.ceiling_locking.proofs.Pieces.{Permission, closers, AreFit}
@@ -21,7 +21,7 @@ stacked-base y base active [] s = omega arith
 stacked-base y base active (h ∷ hs) s = le_trans (stacked-base y base h.before hs s.2) s.1
 
 -- the ceiling of a section that a task is inside is at most its active priority
-pub stacked-ceiling : (y : System) (base active : ℕ) (hs : List Held) (section : Section) → AreStacked y base active hs → IsAmong section (map (λ h. h.section) hs) → ceiling_of y section ≤ active
+pub stacked-ceiling : (y : System) (base active : ℕ) (hs : List Held) (section : Resource) → AreStacked y base active hs → IsAmong section (map (λ h. h.section) hs) → ceiling_of y section ≤ active
 stacked-ceiling y base active [] section s a = absurd a
 stacked-ceiling y base active (h ∷ hs) section s a = by (λ later. stacked-ceiling y base h.before hs section s.2 later) a
   where
@@ -36,7 +36,7 @@ active-or-inside y base active [] s = inl s
 active-or-inside y base active (h ∷ hs) s = inr (h, hs, refl)
 
 -- a task that is inside a section is inside something
-pub among-inside : (section : Section) (hs : List Held) → IsAmong section (map (λ h. h.section) hs) → (h : Held) × (hs' : List Held) × (hs ≡ h ∷ hs')
+pub among-inside : (section : Resource) (hs : List Held) → IsAmong section (map (λ h. h.section) hs) → (h : Held) × (hs' : List Held) × (hs ≡ h ∷ hs')
 among-inside section [] a = absurd a
 among-inside section (h ∷ hs) a = (h, hs, refl)
 
@@ -68,7 +68,7 @@ module _ (y : System) (May : ℕ → Permission) where
     pub behind : (j : ℕ) (u : Task) (o p : ℤ) (h : Held) (hs : List Held) → j ≢ i → Stands ts j u → IsNumbered os' i o → IsNumbered os j p
         → u.readiness ≡ Ready → t.inside ≡ h ∷ hs → u.thread.priority ≤ t.active → GoesBefore t.active o u.active p
     pub chased : (k : ℕ) (v : Task) (h : Held) (hs : List Held) → r ≡ Some k → k ≢ i → Stands ts k v → t.inside ≡ h ∷ hs → t.active < v.thread.priority
-    pub apart : (j : ℕ) (u : Task) (section : Section) → j ≢ i → Stands ts j u → IsAmong section (sections u) → IsAmong section (sections t) → ⊥
+    pub apart : (j : ℕ) (u : Task) (section : Resource) → j ≢ i → Stands ts j u → IsAmong section (sections u) → IsAmong section (sections t) → ⊥
 
   pub replaced : (r : Option ℕ) (ts : List Task) (os os' : List ℤ) (i : ℕ) (f : Task → Task) (t t' : Task)
       → IsKept y May r ts os → Stands ts i t → f t ≡ t' → t'.thread ≡ t.thread
@@ -142,7 +142,7 @@ module _ (y : System) (May : ℕ → Permission) where
 
     -- the runner as it goes before all others, at a priority at least its base priority
     runner-apart : (t' : Task) → t'.thread ≡ t.thread → t.thread.priority ≤ t'.active
-        → ((j : ℕ) (u : Task) (section : Section) → j ≢ i → Stands ts j u → IsAmong section (sections u) → IsAmong section (sections t') → ⊥)
+        → ((j : ℕ) (u : Task) (section : Resource) → j ≢ i → Stands ts j u → IsAmong section (sections u) → IsAmong section (sections t') → ⊥)
         → IsApart r ts os (put_first i os) i t'
     runner-apart t' written high apart' = record {
       ahead = λ j u o p h hs not su no nu ready inside low.
@@ -155,7 +155,7 @@ module _ (y : System) (May : ℕ → Permission) where
     }
 
     -- it enters a section
-    pub entered : (section : Section) (f : Task → Task) (vars' : Variables) (ps : List Piece) (left' works' : ℕ)
+    pub entered : (section : Resource) (f : Task → Task) (vars' : Variables) (ps : List Piece) (left' works' : ℕ)
         → f t ≡ record t { active = ceiling_of y section; inside = record { section = section; before = t.active } ∷ t.inside; vars = vars'; pieces = ps; left = left'; works = works' }
         → t.readiness ≡ Ready → t.active ≤ ceiling_of y section → closers ps ≡ section ∷ closers t.pieces → AreFit (May i) ps
         → IsKept y May r (change i f ts) (put_first i os)
@@ -174,7 +174,7 @@ module _ (y : System) (May : ℕ → Permission) where
         })
         (runner-apart t' refl (le_trans base low) (λ j u other not su among among'. apart' j u other not su among among'))
       where
-        apart' : (j : ℕ) (u : Task) (other : Section) → j ≢ i → Stands ts j u → IsAmong other (sections u)
+        apart' : (j : ℕ) (u : Task) (other : Resource) → j ≢ i → Stands ts j u → IsAmong other (sections u)
             → (section ≡ other) ⊎ IsAmong other (sections t) → ⊥
         apart' j u other not su among (inl is) =
             let inside = among-inside other u.inside among in

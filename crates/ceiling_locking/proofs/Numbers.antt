@@ -8,10 +8,10 @@ use Rattle.seq_tree.specs.Variables.{Variables}
 use Rattle.arrivals_tree.specs.declared.arrivals.Arrival.{Arrival}
 use Rattle.trace_tree.specs.declared.event.Event.{Event}
 use Rattle.trace_tree.specs.declared.event.Event.TheVariants as event
-use Rattle.machine.specs.Systems.{System, Thread, Timing, Periodic, Requested}
+use Rattle.machine.specs.Systems.{System, TaskUnit, ReleasePattern, Periodic, Requested}
 use Rattle.machine.specs.Pieces.{Piece}
 use Rattle.machine.specs.Deeds.{Act, Silent, Print, Enter, Leave, Ask, Keep, Open, Ended, Finish, done}
-use Rattle.machine.specs.States.{State, Task, Phase, Effects, Delays, Arriving, Use, Ready, Section, Object, Control, opening, first_task, first_wait}
+use Rattle.machine.specs.States.{State, Task, Phase, Effects, Delays, Arriving, Use, Ready, Resource, Object, Control, opening, first_task, first_wait}
 use Rattle.machine.specs.Effects.{ceiling_of, stopped_at, entered_at, entry, exit, ended, resting, acted, object_unit, inside_now, outside_now, lent}
 use Rattle.machine.specs.Dispatch.{put_last, put_first, dispatched}
 use Rattle.machine.specs.Releases.{Next, going, released, release_task, release, is_waiting, serve_task, serve}
@@ -85,10 +85,10 @@ module _ (y : System) where
     go-differs : (i : ℕ) (vars' : Variables) (ps : List Piece) → Differ (change i (going y.costs vars' ps) s.tasks) s.orders
     go-differs i vars' ps = differ-change s.tasks s.orders i (going y.costs vars' ps) (going-ready vars' ps) differ
 
-    entry-differs : (i : ℕ) (t : Task) (section : Section) (told : List Event) (vars' : Variables) (ps : List Piece) → After (entry y i t section told vars' ps s)
+    entry-differs : (i : ℕ) (t : Task) (section : Resource) (told : List Event) (vars' : Variables) (ps : List Piece) → After (entry y i t section told vars' ps s)
     entry-differs i t section told vars' ps = by (nat_lt (ceiling_of y section) t.active)
       where
-        into : (x : Section) → After (entered_at y i x told vars' ps s)
+        into : (x : Resource) → After (entered_at y i x told vars' ps s)
         into (Object object) =
             differ-first s.tasks s.orders i (λ u. going y.costs (lent (Object object) s vars') ps (inside_now (Object object) (ceiling_of y (Object object)) u)) differ
         into (Control task) = differ-first s.tasks s.orders i (λ u. going y.costs vars' ps (inside_now (Control task) (ceiling_of y (Control task)) u)) differ
@@ -103,7 +103,7 @@ module _ (y : System) where
     never-ready : (vars' : Variables) (t : Task) → (ended vars' t).readiness ≡ Ready → t.readiness ≡ Ready
     never-ready vars' t e = absurd (by t.thread.timing e)
       where
-        by : (x : Timing) → resting x t.next ≡ Ready → ⊥
+        by : (x : ReleasePattern) → resting x t.next ≡ Ready → ⊥
         by (Periodic offset period) e' = cc
         by (Requested op ceiling separation jitter external) e' = cc
 
@@ -184,11 +184,11 @@ module _ (y : System) where
   pub opening-differs : (as' : List Arrival) → Differ (opening y as').tasks (opening y as').orders
   opening-differs as' i j t u o at bt ready ready' an bn = absurd (by (slice_get y.threads i) (sym (slice_get-map first_task y.threads i) ∙ at))
     where
-      sleeps : (x : Timing) → first_wait x ≡ Ready → ⊥
+      sleeps : (x : ReleasePattern) → first_wait x ≡ Ready → ⊥
       sleeps (Periodic offset period) e = cc
       sleeps (Requested op ceiling separation jitter external) e = cc
 
-      by : (z : Option Thread) → option_map first_task z ≡ Some t → ⊥
+      by : (z : Option TaskUnit) → option_map first_task z ≡ Some t → ⊥
       by None e = none-some t e
       by (Some th) e = sleeps th.timing (ap (λ x. x.readiness) (same_Some (first_task th) t e) ∙ ready)
 

@@ -7,10 +7,10 @@ use Rattle.seq_tree.specs.Statements.{Statement, Statements, Branches, Null, Ass
 use Rattle.seq_tree.specs.Values.{holds}
 use Rattle.seq_tree.specs.Variables.{Variables}
 use Rattle.seq_tree.specs.Dearest.{Weights, turn_count, dearest_statement, dearest, dearest_branch}
-use Rattle.machine.specs.Systems.{System, Callee, Plain, Protected, Request, Unknown, callee}
+use Rattle.machine.specs.Systems.{System, CallTarget, Plain, Protected, Request, Unknown, callee}
 use Rattle.machine.specs.Pieces.{Piece, Idle, Store, Leaving, Calling, Working, Printing, Testing, Turning, Turned, Returning, Closing, Keeping, Opening, Requested, Finishing, turns, pieces_of, pieces, branch_pieces, after_loop, ticks_of}
-use Rattle.machine.specs.Deeds.{Silent, Deed, deed, called, done}
-use Rattle.machine.specs.States.{Section, Object, Control}
+use Rattle.machine.specs.Deeds.{Silent, PieceOutcome, deed, called, done}
+use Rattle.machine.specs.States.{Resource, Object, Control}
 use Rattle.machine.specs.Effects.{ceiling_of}
 use Rattle.ceiling_locking.proofs.Pieces.{closers}
 use Rattle.ceiling_locking.proofs.Fitting.{either-way}
@@ -157,7 +157,7 @@ module _ (y : System) (level : ℕ) (called' : Name → Name → ℕ) where
   after-owes bound n (Finishing ∷ ps) h = after-owes bound n ps (skip bound n Finishing ps h)
 
   -- the first end of a section comes after at most the bound, where its ceiling reaches the level
-  pub owes-first : (bound n : ℕ) (ps : List Piece) (section : Section) (ss : List Section) → closers ps ≡ section ∷ ss → level ≤ ceiling_of y section → Owes bound n ps → n ≤ bound
+  pub owes-first : (bound n : ℕ) (ps : List Piece) (section : Resource) (ss : List Resource) → closers ps ≡ section ∷ ss → level ≤ ceiling_of y section → Owes bound n ps → n ≤ bound
   owes-first bound n [] section ss e high h = absurd (no e)
     where
       no : [] ≡ section ∷ ss → ⊥
@@ -181,7 +181,7 @@ module _ (y : System) (level : ℕ) (called' : Name → Name → ℕ) where
   owes-first bound n (Finishing ∷ ps) section ss e high h = owes-first bound n ps section ss e high (skip bound n Finishing ps h)
 
   -- a call that costs at most so much, and at most the bound where it enters a section whose ceiling reaches the level
-  abbrev pub IsCallPaid : ℕ → ℕ → Callee → Type 0
+  abbrev pub IsCallPaid : ℕ → ℕ → CallTarget → Type 0
   IsCallPaid bound n (Plain o) = dearest w o.block ≤ n
   IsCallPaid bound n (Protected object op g o) = (dearest w o.block ≤ n) × (level ≤ ceiling_of y (Object object) → n ≤ bound)
   IsCallPaid bound n (Request task) = (2 * y.costs.assign ≤ n) × (level ≤ ceiling_of y (Control task) → n ≤ bound)
@@ -192,7 +192,7 @@ module _ (y : System) (level : ℕ) (called' : Name → Name → ℕ) where
   IsPaidPiece bound (Calling unit op actuals) = IsCallPaid bound (called' unit op) (callee y unit op)
   IsPaidPiece bound _ = ⊤
 
-  called-owes : (bound n : ℕ) (actuals : List Expression) (vars : Variables) (ps : List Piece) (c : Callee) → IsCallPaid bound n c → Owes bound n ps → Owes bound 0 (called c actuals vars ps).pieces
+  called-owes : (bound n : ℕ) (actuals : List Expression) (vars : Variables) (ps : List Piece) (c : CallTarget) → IsCallPaid bound n c → Owes bound n ps → Owes bound 0 (called c actuals vars ps).pieces
   called-owes bound n actuals vars ps (Plain o) paid h =
       block-owes o.block bound 0 _ (tt, owes-mono bound n (0 + dearest w o.block + 0) ps (omega arith) h)
   called-owes bound n actuals vars ps (Protected object j g o) paid h =
@@ -218,7 +218,7 @@ module _ (y : System) (level : ℕ) (called' : Name → Name → ℕ) where
   done-owes bound Idle vars ps paid h = h
   done-owes bound (Store target e) vars ps paid h = h
   done-owes bound (Leaving condition) vars ps paid h =
-      either-way (λ (d : Deed). Owes bound 0 d.pieces) (holds condition vars) (deed Silent (drop 1 vars) (after_loop ps)) (deed Silent vars ps) (after-owes bound 0 ps h) h
+      either-way (λ (d : PieceOutcome). Owes bound 0 d.pieces) (holds condition vars) (deed Silent (drop 1 vars) (after_loop ps)) (deed Silent vars ps) (after-owes bound 0 ps h) h
   done-owes bound (Calling unit op actuals) vars ps paid h = called-owes bound (called' unit op) actuals vars ps (callee y unit op) paid h
   done-owes bound (Working ticks) vars ps paid h = h
   done-owes bound (Printing e) vars ps paid h = h

@@ -11,7 +11,7 @@ use Rattle.trace_tree.specs.Exclusion.{Passage, Into, Out, passages}
 use Rattle.machine.specs.Systems.{System}
 use Rattle.machine.specs.Pieces.{Piece, Finishing, pieces}
 use Rattle.machine.specs.Deeds.{Act, Silent, Print, Enter, Leave, Ask, Keep, Open, Ended, Finish, done}
-use Rattle.machine.specs.States.{State, Task, Phase, Effects, Delays, Arriving, Use, Ready, Section, Object, Control, Held, shut}
+use Rattle.machine.specs.States.{State, Task, Phase, Effects, Delays, Arriving, Use, Ready, Resource, Object, Control, Held, shut}
 use Rattle.machine.specs.Effects.{ceiling_of, inside_now, outside_by, outside_now, lent, stopped_at, entered_at, entry, exit, ended, acted, object_unit}
 use Rattle.machine.specs.Dispatch.{dispatched}
 use Rattle.machine.specs.Releases.{Next, going, released, release_task, release, is_waiting, serve_task, serve, parameter, next_time}
@@ -24,7 +24,7 @@ use Rattle.ceiling_locking.proofs.Keeping.{AreWritten, tick}
 
 -- what sections see of a task: its unit, and those that it is inside
 abbrev pub Face : Type 0
-Face = ℕ × List Section
+Face = ℕ × List Resource
 
 abbrev pub face : Task → Face
 face t = (t.thread.unit, sections t)
@@ -51,7 +51,7 @@ released-face costs t =
     going-face costs (parameter t.thread.timing t.gate.value ++ t.vars) (pieces t.thread.block (Finishing ∷ []))
     (record t { readiness = Ready; next = next_time t.thread.timing t.next; used = 0; gate = shut })
 
-abbrev pub into : Section → Face → Face
+abbrev pub into : Resource → Face → Face
 into section f = (f.0, section ∷ f.1)
 
 abbrev pub out_of : Face → Face
@@ -77,12 +77,12 @@ abbrev pub IsUnheard : List Event → Type 0
 IsUnheard told = (u : ℕ) (more : List Event) → passages u (told ++ more) ≡ passages u more
 
 -- a passage of a section, where it is the object of this unit
-abbrev pub passage_if : System → Section → ℕ → Passage → List Passage → List Passage
+abbrev pub passage_if : System → Resource → ℕ → Passage → List Passage → List Passage
 passage_if y (Object object) u p ps = if object_unit y object == u then p ∷ ps else ps
 passage_if y (Control task) u p ps = ps
 
 -- a task at the entry of a section
-pub record IsEntering (y : System) (May : ℕ → Permission) (s : State) (i : ℕ) (t : Task) (section : Section) : Type 0 where
+pub record IsEntering (y : System) (May : ℕ → Permission) (s : State) (i : ℕ) (t : Task) (section : Resource) : Type 0 where
   pub effects : s.phase ≡ Effects
   pub ran : s.ran ≡ Some i
   pub stands : Stands s.tasks i t
@@ -90,18 +90,18 @@ pub record IsEntering (y : System) (May : ℕ → Permission) (s : State) (i : �
   pub entered : IsEntered y (May i) section (sections t)
 
 -- a task at the exit from its innermost section
-pub record IsLeaving (s : State) (i : ℕ) (t : Task) (section : Section) : Type 0 where
+pub record IsLeaving (s : State) (i : ℕ) (t : Task) (section : Resource) : Type 0 where
   pub stands : Stands s.tasks i t
-  pub others : List Section
+  pub others : List Resource
   pub inside : sections t ≡ section ∷ others
 
 -- what a step is to sections
 pub data Passing (y : System) (May : ℕ → Permission) (s : State) (n : Next) : Type 0 where
   Stays : (same : faces n.0.tasks ≡ faces s.tasks) (unheard : IsUnheard n.1) → Passing y May s n
-  Enters : (i : ℕ) (t : Task) (section : Section) (entering : IsEntering y May s i t section)
+  Enters : (i : ℕ) (t : Task) (section : Resource) (entering : IsEntering y May s i t section)
       (changes : faces n.0.tasks ≡ change i (into section) (faces s.tasks))
       (tells : (u : ℕ) (more : List Event) → passages u (n.1 ++ more) ≡ passage_if y section u (Into t.thread.unit) (passages u more)) → Passing y May s n
-  Leaves : (i : ℕ) (t : Task) (section : Section) (leaving : IsLeaving s i t section)
+  Leaves : (i : ℕ) (t : Task) (section : Resource) (leaving : IsLeaving s i t section)
       (changes : faces n.0.tasks ≡ change i out_of (faces s.tasks))
       (tells : (u : ℕ) (more : List Event) → passages u (n.1 ++ more) ≡ passage_if y section u (Out t.thread.unit) (passages u more)) → Passing y May s n
 
@@ -131,12 +131,12 @@ module _ (y : System) where
 module _ (y : System) (May : ℕ → Permission) (text : AreWritten y May) where
   module _ (i : ℕ) (t : Task) (s : State) (effects : s.phase ≡ Effects) (ran : s.ran ≡ Some i) (stands : Stands s.tasks i t)
       (closes : closers t.pieces ≡ sections t) where
-    entry-passing : (section : Section) (told : List Event) (vars' : Variables) (ps : List Piece) → IsEntered y (May i) section (closers t.pieces)
+    entry-passing : (section : Resource) (told : List Event) (vars' : Variables) (ps : List Piece) → IsEntered y (May i) section (closers t.pieces)
         → ((u : ℕ) (more : List Event) → passages u (told ++ more) ≡ passage_if y section u (Into t.thread.unit) (passages u more))
         → Passing y May s (entry y i t section told vars' ps s)
     entry-passing section told vars' ps enters tells = by (nat_lt (ceiling_of y section) t.active) refl
       where
-        changes : (x : Section) → faces (entered_at y i x told vars' ps s).0.tasks ≡ change i (into x) (faces s.tasks)
+        changes : (x : Resource) → faces (entered_at y i x told vars' ps s).0.tasks ≡ change i (into x) (faces s.tasks)
         changes (Object object) =
             faces-change i (λ u. going y.costs (lent (Object object) s vars') ps (inside_now (Object object) (ceiling_of y (Object object)) u)) (into (Object object)) s.tasks
             (λ u. going-face y.costs (lent (Object object) s vars') ps (inside_now (Object object) (ceiling_of y (Object object)) u))
@@ -152,7 +152,7 @@ module _ (y : System) (May : ℕ → Permission) (text : AreWritten y May) where
             (record { effects = effects; ran = ran; stands = stands; low = (let low : t.active ≤ ceiling_of y section = grind arith in low); entered = subst (IsEntered y (May i) section) closes enters })
             (changes section) tells
 
-    leaving : (section : Section) (ps : List Piece) → closers t.pieces ≡ section ∷ closers ps → IsLeaving s i t section
+    leaving : (section : Resource) (ps : List Piece) → closers t.pieces ≡ section ∷ closers ps → IsLeaving s i t section
     leaving section ps e = record { stands = stands; others = closers ps; inside = sym closes ∙ e }
 
     acted-passing : (act : Act) (vars' : Variables) (ps : List Piece) → ActFits y (May i) (closers t.pieces) act ps → Passing y May s (acted y i t act vars' ps s)

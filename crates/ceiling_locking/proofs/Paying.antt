@@ -7,10 +7,10 @@ use Rattle.seq_tree.specs.Lists.{change}
 use Rattle.seq_tree.specs.Variables.{Variables}
 use Rattle.trace_tree.specs.declared.event.Event.{Event}
 use Rattle.trace_tree.specs.declared.event.Event.TheVariants as event
-use Rattle.machine.specs.Systems.{System, Callee, Plain, Protected, Request, Unknown, callee}
+use Rattle.machine.specs.Systems.{System, CallTarget, Plain, Protected, Request, Unknown, callee}
 use Rattle.machine.specs.Pieces.{Piece, Idle, Store, Leaving, Calling, Working, Printing, Testing, Turning, Turned, Returning, Closing, Keeping, Opening, Requested, Finishing, pieces, after_loop, ticks_of, work_ticks}
 use Rattle.machine.specs.Deeds.{Act, Silent, Print, Enter, Leave, Ask, Keep, Open, Ended, Finish, deed, done}
-use Rattle.machine.specs.States.{State, Task, Readiness, Ready, Section, Object, Control, Held, Gate, shut}
+use Rattle.machine.specs.States.{State, Task, Readiness, Ready, Resource, Object, Control, Held, Gate, shut}
 use Rattle.machine.specs.Effects.{ceiling_of, inside_now, outside_by, outside_now, lent, stopped_at, entered_at, entry, exit, ended, acted, object_unit}
 use Rattle.machine.specs.Releases.{going, released, release_task, release, is_waiting, serve_task, serve, parameter, next_time}
 use Rattle.ceiling_locking.proofs.Pieces.{Permission, Inside, closers, LeadsWithin}
@@ -36,7 +36,7 @@ limits-text y lev bound l = record {
       (λ unit op h low. h (let same : priority_at y i ≡ t.priority = priority-at y i t at in omega arith)) false t.block (l.tasks i t at);
 }
   where
-    by : (i : ℕ) (ss : List Section) (b : Bool) → nat_lt (priority_at y i) lev ≡ b → (n : ℕ) (c : Callee) → HasExitsInLoops c
+    by : (i : ℕ) (ss : List Resource) (b : Bool) → nat_lt (priority_at y i) lev ≡ b → (n : ℕ) (c : CallTarget) → HasExitsInLoops c
         → (priority_at y i < lev → CostsAtMost y lev bound l.costing n c) → LeadsWithin (AllLimited y lev l.costing i) c ss
     by i ss true e n (Plain o) exits costs =
         block-weaken (IsMade l.costing) (Inside (AllLimited y lev l.costing i) ss) (λ unit op h low. h) false o.block (costs (grind arith)).0
@@ -265,11 +265,11 @@ module _ (y : System) (lev bound : ℕ) (l : IsLimited y lev bound) where
                 going-paid (Some i) i (record t { active = h.before; inside = hs }) vars' ps (λ not. absurd (not ready)) (λ h' hs' e' not. not refl) owes
                 (λ on low high. debts on low (let more : lev ≤ h.before = high in omega arith))
 
-        entry-paid : (section : Section) (told : List Event) → (window ≡ true → t.thread.priority < lev → t.active < lev → ⊥)
+        entry-paid : (section : Resource) (told : List Event) → (window ≡ true → t.thread.priority < lev → t.active < lev → ⊥)
             → ArePaid window owed (Some i) (entry y i t section told vars' ps s).0.tasks
         entry-paid section told calm = by (nat_lt (ceiling_of y section) t.active)
           where
-            inner : (x : Section) (given : Variables) → IsPaid window owed (Some i) i (going y.costs given ps (inside_now x (ceiling_of y x) t))
+            inner : (x : Resource) (given : Variables) → IsPaid window owed (Some i) i (going y.costs given ps (inside_now x (ceiling_of y x) t))
             inner x given =
                 going-paid (Some i) i (inside_now x (ceiling_of y x) t) given ps (λ not. absurd (not ready)) (λ h hs e not. not refl) owes
                 (λ on low high. debts on low (reaches on low (nat_lt t.active lev) refl))
@@ -278,7 +278,7 @@ module _ (y : System) (lev bound : ℕ) (l : IsLimited y lev bound) where
                 reaches on low true e = absurd (calm on low (let below : t.active < lev = grind arith in below))
                 reaches on low false e = grind arith
 
-            into : (x : Section) → ArePaid window owed (Some i) (entered_at y i x told vars' ps s).0.tasks
+            into : (x : Resource) → ArePaid window owed (Some i) (entered_at y i x told vars' ps s).0.tasks
             into (Object object) =
                 paid-change (Some i) s.tasks i (λ u. going y.costs (lent (Object object) s vars') ps (inside_now (Object object) (ceiling_of y (Object object)) u)) t paid stands
                 (inner (Object object) (lent (Object object) s vars'))

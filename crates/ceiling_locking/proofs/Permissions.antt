@@ -1,7 +1,7 @@
 -- Which calls the laws allow inside which sections: of ranks that fall, to ceilings that rise, of tasks below a level, and all.
 use Rattle.std.specs.Prelude.{◌≡◌, ℕ, true, List, [], ◌∷◌, ⊤, ◌<◌}
 use Rattle.machine.specs.Systems.{System}
-use Rattle.machine.specs.States.{Section, Object, Control}
+use Rattle.machine.specs.States.{Resource, Object, Control}
 use Rattle.machine.specs.Effects.{ceiling_of}
 use Rattle.ceiling_locking.specs.Ceilings.{Reach, IsMadeFrom, priority_at}
 use Rattle.ceiling_locking.specs.Premises.{Ranking}
@@ -13,7 +13,7 @@ abbrev pub Anything : Permission
 Anything unit op ss = ⊤
 
 -- a rank below that of each object among these sections, none of which is a control structure
-abbrev pub IsBelow : (ℕ → ℕ) → ℕ → List Section → Type 0
+abbrev pub IsBelow : (ℕ → ℕ) → ℕ → List Resource → Type 0
 IsBelow object_rank n [] = ⊤
 IsBelow object_rank n (Object object ∷ ss) = (n < object_rank object) × IsBelow object_rank n ss
 IsBelow object_rank n (Control task ∷ ss) = ⊥
@@ -27,7 +27,7 @@ abbrev pub AllFall : Ranking → ℕ → Permission
 AllFall r i = Falls r
 
 -- the active priority of a task of this base priority inside these sections
-abbrev pub level : System → ℕ → List Section → ℕ
+abbrev pub level : System → ℕ → List Resource → ℕ
 level y base [] = base
 level y base (s ∷ ss) = ceiling_of y s
 

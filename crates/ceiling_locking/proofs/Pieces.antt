@@ -2,13 +2,13 @@
 -- The ends of sections are in the order of the pieces, so that the innermost section ends first.
 use Rattle.std.specs.Prelude.{◌≡◌, ℕ, Bool, true, false, List, [], ◌∷◌, Option, Some, None, ⊤}
 use Rattle.seq_tree.specs.Names.{Name}
-use Rattle.machine.specs.Systems.{System, Callee, Plain, Protected, Request, Unknown, callee}
+use Rattle.machine.specs.Systems.{System, CallTarget, Plain, Protected, Request, Unknown, callee}
 use Rattle.machine.specs.Pieces.{Piece, Leaving, Calling, Testing, Turning, Turned, Returning, Closing, Keeping, Opening, Requested, Finishing}
-use Rattle.machine.specs.States.{Section, Object, Control}
+use Rattle.machine.specs.States.{Resource, Object, Control}
 use Rattle.ceiling_locking.specs.Bodies.{BlockFits, BranchesFit}
 
 -- the sections that end among these pieces, in order
-abbrev pub closers : List Piece → List Section
+abbrev pub closers : List Piece → List Resource
 closers [] = []
 closers (Closing object op vars outs stores caller ∷ ps) = Object object ∷ closers ps
 closers (Requested task value ∷ ps) = Control task ∷ closers ps
@@ -26,10 +26,10 @@ is_in_loop (_ ∷ ps) = is_in_loop ps
 
 -- which calls may be made inside which sections, the innermost first
 abbrev pub Permission : Type 1
-Permission = Name → Name → List Section → Type 0
+Permission = Name → Name → List Resource → Type 0
 
 -- these calls, inside these sections
-abbrev pub Inside : Permission → List Section → Name → Name → Type 0
+abbrev pub Inside : Permission → List Resource → Name → Name → Type 0
 Inside May ss unit op = May unit op ss
 
 -- pieces whose first is the barrier of a request of this task, before its end
@@ -61,14 +61,14 @@ AreFit May [] = ⊤
 AreFit May (p ∷ ps) = IsFit May p ps × AreFit May ps
 
 -- the section that a call enters, where it enters one
-abbrev pub entered_by : Callee → Option Section
+abbrev pub entered_by : CallTarget → Option Resource
 entered_by (Plain o) = None
 entered_by (Protected object op g o) = Some (Object object)
 entered_by (Request task) = Some (Control task)
 entered_by Unknown = None
 
 -- the body that a call leads to, whose calls may be made there
-abbrev pub LeadsWithin : Permission → Callee → List Section → Type 0
+abbrev pub LeadsWithin : Permission → CallTarget → List Resource → Type 0
 LeadsWithin May (Plain o) ss = BlockFits (Inside May ss) false o.block
 LeadsWithin May (Protected object op g o) ss = BlockFits (Inside May (Object object ∷ ss)) false o.block
 LeadsWithin May (Request task) ss = ⊤
@@ -76,4 +76,4 @@ LeadsWithin May Unknown ss = ⊤
 
 -- calls whose bodies make such calls alone
 abbrev pub IsClosed : System → Permission → Type 0
-IsClosed y May = (unit op : Name) (ss : List Section) → May unit op ss → LeadsWithin May (callee y unit op) ss
+IsClosed y May = (unit op : Name) (ss : List Resource) → May unit op ss → LeadsWithin May (callee y unit op) ss

@@ -15,7 +15,7 @@ use Rattle.ada_tree.specs.Rules.{Rings, At, MeetsRules}
 use Rattle.arrivals_tree.specs.declared.arrivals.Arrival.{Arrival}
 use Rattle.arrivals_tree.specs.Arriving.{Arrivals}
 use Rattle.arrivals_tree.specs.Acceptance.{IsAccepted}
-use Rattle.machine.specs.Systems.{System, Thread, Guarded, Timing, Periodic, Requested, Callee, Plain, Protected, Request, system, callee}
+use Rattle.machine.specs.Systems.{System, TaskUnit, ProtectedUnit, ReleasePattern, Periodic, Requested, CallTarget, Plain, Protected, Request, system, callee}
 use Rattle.machine.specs.Systems as machine
 use Rattle.machine.specs.States.{opening}
 use Rattle.machine.specs.Meanings.{Meaning, run, start}
@@ -57,25 +57,25 @@ module _ (p : Program) (rules : MeetsRules p) where
     name_at x = unwrap_or (option_map (λ g. g.name) (slice_get y.objects x)) []
 
     -- whether an object calls another
-    abbrev leads_by : Option Guarded → ℕ → Bool
+    abbrev leads_by : Option ProtectedUnit → ℕ → Bool
     leads_by None z = false
     leads_by (Some g) z = list_any (same_name (name_at z)) (called_units p g.name)
 
     abbrev leads : ℕ → ℕ → Bool
     leads x z = leads_by (slice_get y.objects x) z
 
-    leads-unit : (x z : ℕ) → leads x z ≡ true → (g : Guarded) × (slice_get y.objects x ≡ Some g) × CallsUnit p (name_at x) (name_at z)
+    leads-unit : (x z : ℕ) → leads x z ≡ true → (g : ProtectedUnit) × (slice_get y.objects x ≡ Some g) × CallsUnit p (name_at x) (name_at z)
     leads-unit x z e = by (slice_get y.objects x) refl e
       where
-        by : (o : Option Guarded) → slice_get y.objects x ≡ o → leads_by o z ≡ true → (g : Guarded) × (slice_get y.objects x ≡ Some g) × CallsUnit p (name_at x) (name_at z)
+        by : (o : Option ProtectedUnit) → slice_get y.objects x ≡ o → leads_by o z ≡ true → (g : ProtectedUnit) × (slice_get y.objects x ≡ Some g) × CallsUnit p (name_at x) (name_at z)
         by None is h = absurd (false≢true h)
-        by (Some g) is h = (g, is, subst (λ n. CallsUnit p n (name_at z)) (sym (ap (λ o. unwrap_or (option_map (λ (w : Guarded). w.name) o) []) is)) h)
+        by (Some g) is h = (g, is, subst (λ n. CallsUnit p n (name_at z)) (sym (ap (λ o. unwrap_or (option_map (λ (w : ProtectedUnit). w.name) o) []) is)) h)
 
     units-way : (path : List ℕ) (x z : ℕ) → RingLeads (λ v w. leads v w ≡ true) x path z → RingLeads (CallsUnit p) (name_at x) (map name_at path) (name_at z)
     units-way [] x z way = (leads-unit x z way).2
     units-way (via ∷ path) x z way = ((leads-unit x via way.0).2, units-way path via z way.1)
 
-    first-object : (path : List ℕ) (x z : ℕ) → RingLeads (λ v w. leads v w ≡ true) x path z → (g : Guarded) × (slice_get y.objects x ≡ Some g)
+    first-object : (path : List ℕ) (x z : ℕ) → RingLeads (λ v w. leads v w ≡ true) x path z → (g : ProtectedUnit) × (slice_get y.objects x ≡ Some g)
     first-object [] x z way = let found = leads-unit x z way in (found.0, found.1)
     first-object (via ∷ path) x z way = let found = leads-unit x via way.0 in (found.0, found.1)
 
@@ -84,12 +84,12 @@ module _ (p : Program) (rules : MeetsRules p) where
         let g = first-object ring.0 x x ring.1 in
         let found = object-at p a x g.0 g.1 in
         let is = found.2 in
-        let named : name_at x ≡ found.1.name = ap (λ o. unwrap_or (option_map (λ (w : Guarded). w.name) o) []) g.1 ∙ sym is.name in
+        let named : name_at x ≡ found.1.name = ap (λ o. unwrap_or (option_map (λ (w : ProtectedUnit). w.name) o) []) g.1 ∙ sym is.name in
         rules Rings (At found.0) (found.1, is.stands, inr (map name_at ring.0, subst (λ n. RingLeads (CallsUnit p) n (map name_at ring.0) n) named (units-way ring.0 x x ring.1)))
 
     -- an object that a body enters is one that the body's object calls
-    on : (object : ℕ) (g : Guarded) → slice_get y.objects object ≡ Some g → (unit : Name) → g.name ≡ unit → (o : Operation) → IsIn o (ops_of_shared p unit)
-        → (x : OpName) → IsIn x (block_calls o.block) → (k : Callee) → LeadsTo y x.object x.op k → LeadsOn leads object k
+    on : (object : ℕ) (g : ProtectedUnit) → slice_get y.objects object ≡ Some g → (unit : Name) → g.name ≡ unit → (o : Operation) → IsIn o (ops_of_shared p unit)
+        → (x : OpName) → IsIn x (block_calls o.block) → (k : CallTarget) → LeadsTo y x.object x.op k → LeadsOn leads object k
     on object g at unit named o among x called (Plain q) l = tt
     on object g at unit named o among x called (Protected other j h q) l =
         let found = object-at p a other h l.stands in
@@ -100,16 +100,16 @@ module _ (p : Program) (rules : MeetsRules p) where
         let inner : IsIn x.object (called_units p unit) =
         filter-in (is_shared_name p) x.object (map (λ (z : OpName). z.object) (flat_map (λ (w : Operation). block_calls w.block) (ops_of_shared p unit)))
         (in-map (λ (z : OpName). z.object) x (flat_map (λ (w : Operation). block_calls w.block) (ops_of_shared p unit)) (in-flat (λ (w : Operation). block_calls w.block) o x (ops_of_shared p unit) among called)) shared in
-        let mine : name_at other ≡ h.name = ap (λ z. unwrap_or (option_map (λ (w : Guarded). w.name) z) []) l.stands in
+        let mine : name_at other ≡ h.name = ap (λ z. unwrap_or (option_map (λ (w : ProtectedUnit). w.name) z) []) l.stands in
         ap (λ z. leads_by z other) at
         ∙ any-in (same_name (name_at other)) x.object (called_units p g.name) (subst (λ n. IsIn x.object (called_units p n)) (sym named) inner) (ap (λ n. same_name n x.object) mine ∙ l.named)
     on object g at unit named o among x called (Request task) l = tt
     on object g at unit named o among x called machine.Unknown l = tt
 
-    covered : (i : ℕ) (t : Thread) → slice_get y.threads i ≡ Some t → IsCovered t.priority t.timing
+    covered : (i : ℕ) (t : TaskUnit) → slice_get y.threads i ≡ Some t → IsCovered t.priority t.timing
     covered i t at = by t.timing refl
       where
-        by : (x : Timing) → t.timing ≡ x → IsCovered t.priority x
+        by : (x : ReleasePattern) → t.timing ≡ x → IsCovered t.priority x
         by (Periodic offset period) e = tt
         by (Requested op ceiling separation jitter external) e = control-covers p rules a i t at op ceiling separation jitter external e
 
@@ -122,7 +122,7 @@ module _ (p : Program) (rules : MeetsRules p) where
         asked : is_free (callee y unit op) ≡ false → is_requested p c ≡ true
         asked e = or_second (is_free (callee y unit op)) (is_requested p c) e is-made
 
-        by : (x : Callee) → callee y unit op ≡ x → LeadsTo y unit op x → StaysInLayers y a.items made leads x
+        by : (x : CallTarget) → callee y unit op ≡ x → LeadsTo y unit op x → StaysInLayers y a.items made leads x
         by (Plain o) e l =
             let found = library-at p a l.place l.library l.stands in
             let is = found.2 in

@@ -7,10 +7,10 @@ use Rattle.seq_tree.specs.Variables.{Variables}
 use Rattle.arrivals_tree.specs.declared.arrivals.Arrival.{Arrival}
 use Rattle.trace_tree.specs.declared.event.Event.{Event}
 use Rattle.trace_tree.specs.declared.event.Event.TheVariants as event
-use Rattle.machine.specs.Systems.{System, Thread, Callee, Plain, Protected, Request, Unknown, callee}
+use Rattle.machine.specs.Systems.{System, TaskUnit, CallTarget, Plain, Protected, Request, Unknown, callee}
 use Rattle.machine.specs.Pieces.{Piece}
 use Rattle.machine.specs.Deeds.{Act, Silent, Print, Enter, Leave, Ask, Keep, Open, Ended, Finish, done}
-use Rattle.machine.specs.States.{State, Task, Phase, Effects, Delays, Arriving, Use, Section, Object, Control, Held, opening}
+use Rattle.machine.specs.States.{State, Task, Phase, Effects, Delays, Arriving, Use, Resource, Object, Control, Held, opening}
 use Rattle.machine.specs.Effects.{ceiling_of, stopped_at, entered_at, entry, exit, ended, acted, object_unit}
 use Rattle.machine.specs.Dispatch.{dispatched}
 use Rattle.machine.specs.Releases.{release_task, release, is_waiting, serve_task, serve}
@@ -30,7 +30,7 @@ pub stacked-level : (y : System) (base active : ℕ) (hs : List Held) → AreSta
 stacked-level y base active [] s = s
 stacked-level y base active (h ∷ hs) s = s.0
 
-pub priority-at : (y : System) (i : ℕ) (t : Thread) → slice_get y.threads i ≡ Some t → priority_at y i ≡ t.priority
+pub priority-at : (y : System) (i : ℕ) (t : TaskUnit) → slice_get y.threads i ≡ Some t → priority_at y i ≡ t.priority
 priority-at y i t e = ap (λ o. unwrap_or (option_map (λ th. th.priority) o) 0) e
 
 module _ (y : System) (c : IsCeiled y) where
@@ -41,14 +41,14 @@ module _ (y : System) (c : IsCeiled y) where
         (λ unit op h. (h.0, (let same : priority_at y i ≡ t.priority = priority-at y i t at in let low : t.priority ≤ c.reach.low unit op = h.1 in omega arith))) false t.block (c.tasks i t at);
   }
     where
-      by : (base : ℕ) (ss : List Section) (n : ℕ) → level y base ss ≤ n → (x : Callee) → RisesTo y c.reach n x → LeadsWithin (Rises y c.reach base) x ss
+      by : (base : ℕ) (ss : List Resource) (n : ℕ) → level y base ss ≤ n → (x : CallTarget) → RisesTo y c.reach n x → LeadsWithin (Rises y c.reach base) x ss
       by base ss n low (Plain o) rises = block-weaken (IsMadeFrom c.reach n) (Inside (Rises y c.reach base) ss) (λ unit op h. (h.0, le_trans low h.1)) false o.block rises
       by base ss n low (Protected object j g o) rises = rises.1
       by base ss n low (Request task) rises = tt
       by base ss n low Unknown rises = tt
 
   -- a section that is entered has a ceiling of at least the active priority
-  pub entry-low : (i : ℕ) (t : Task) (section : Section) → IsSound y (AllRise y c.reach i) i t → IsEntered y (AllRise y c.reach i) section (sections t) → t.active ≤ ceiling_of y section
+  pub entry-low : (i : ℕ) (t : Task) (section : Resource) → IsSound y (AllRise y c.reach i) i t → IsEntered y (AllRise y c.reach i) section (sections t) → t.active ≤ ceiling_of y section
   entry-low i t section sound e =
       let base : priority_at y i ≡ t.thread.priority = priority-at y i t.thread sound.written in
       let active : t.active ≡ level y t.thread.priority (sections t) = stacked-level y t.thread.priority t.active t.inside sound.stacked in
@@ -57,7 +57,7 @@ module _ (y : System) (c : IsCeiled y) where
       let high = by (callee y e.unit e.op) (c.calls e.unit e.op e.may.0) e.enters in
       omega (arith, now, low, high)
     where
-      by : (x : Callee) → RisesTo y c.reach (c.reach.low e.unit e.op) x → entered_by x ≡ Some section → c.reach.low e.unit e.op ≤ ceiling_of y section
+      by : (x : CallTarget) → RisesTo y c.reach (c.reach.low e.unit e.op) x → entered_by x ≡ Some section → c.reach.low e.unit e.op ≤ ceiling_of y section
       by (Plain o) rises enters = absurd (none-some section enters)
       by (Protected object j g o) rises enters = subst (λ z. c.reach.low e.unit e.op ≤ ceiling_of y z) (same_Some (Object object) section enters) rises.0
       by (Request task) rises enters = subst (λ z. c.reach.low e.unit e.op ≤ ceiling_of y z) (same_Some (Control task) section enters) rises
@@ -85,7 +85,7 @@ module _ (y : System) (c : IsCeiled y) where
           served false = tt
 
   module _ (s : State) (keeps : Keeps y (AllRise y c.reach) s) where
-    entry-goes-on : (i : ℕ) (t : Task) (section : Section) (told : List Event) (vars' : Variables) (ps : List Piece) → t.active ≤ ceiling_of y section → GoOn told
+    entry-goes-on : (i : ℕ) (t : Task) (section : Resource) (told : List Event) (vars' : Variables) (ps : List Piece) → t.active ≤ ceiling_of y section → GoOn told
         → GoOn (entry y i t section told vars' ps s).1
     entry-goes-on i t section told vars' ps low goes = by (nat_lt (ceiling_of y section) t.active) refl
       where

@@ -6,10 +6,10 @@ use Rattle.seq_tree.specs.Lists.{Each, change, first_where}
 use Rattle.seq_tree.specs.Variables.{Variables}
 use Rattle.arrivals_tree.specs.declared.arrivals.Arrival.{Arrival}
 use Rattle.trace_tree.specs.declared.event.Event.TheVariants as event
-use Rattle.machine.specs.Systems.{System, Timing, Periodic, Requested}
+use Rattle.machine.specs.Systems.{System, ReleasePattern, Periodic, Requested}
 use Rattle.machine.specs.Pieces.{Piece}
 use Rattle.machine.specs.Deeds.{Act, Silent, Print, Enter, Leave, Ask, Keep, Open, Ended, Finish, done}
-use Rattle.machine.specs.States.{State, Task, Phase, Effects, Delays, Arriving, Use, Readiness, Asleep, Waiting, Ready, Section, Object, Control, Held}
+use Rattle.machine.specs.States.{State, Task, Phase, Effects, Delays, Arriving, Use, Readiness, Asleep, Waiting, Ready, Resource, Object, Control, Held}
 use Rattle.machine.specs.Effects.{ceiling_of, ceiling_by, stopped_at, entered_at, exit, ended, acted, object_unit, outside_now, outside_by}
 use Rattle.machine.specs.Dispatch.{dispatched}
 use Rattle.machine.specs.Releases.{Next, going, released, release_task, release, is_waiting, serve_task, serve}
@@ -32,12 +32,12 @@ use Rattle.program_calls.proofs.Lists.{each-drop}
 use Rattle.std.proofs.lemmas.Bool.{false≢true}
 
 -- free sections stay so where the faces are the same
-free-same : (ts us : List Task) (section : Section) → faces us ≡ faces ts → IsFree ts section → IsFree us section
+free-same : (ts us : List Task) (section : Resource) → faces us ≡ faces ts → IsFree ts section → IsFree us section
 free-same ts us section same free (j, u, at, among) =
     let found = face-at ts j (face u) (ap (λ fs. slice_get fs j) (sym same) ∙ at-face us j u at) in
     free (j, found.0, found.1, subst (λ f. IsAmong section f.1) (sym found.2) among)
 
-periodic-requested : (t : Timing) → IsPeriodic t → IsRequested t → ⊥
+periodic-requested : (t : ReleasePattern) → IsPeriodic t → IsRequested t → ⊥
 periodic-requested (Periodic offset period) p q = q
 periodic-requested (Requested op ceiling separation jitter external) p q = p
 
@@ -138,7 +138,7 @@ module _ (y : System) (as' : List Arrival) (ex : MayExclude y as') where
               let ceiling : ceiling_of y (Control i) ≡ ceiling_by t.thread.timing = ap (λ o. unwrap_or (option_map (λ th. ceiling_by th.timing) o) 0) written in
               covers t.thread.timing (inside-there i j t u stands at among).0 (ex.covered i t.thread written) (let top : ceiling_by t.thread.timing < t.thread.priority = omega arith in top)
             where
-              covers : (timing : Timing) → IsRequested timing → IsCovered t.thread.priority timing → ceiling_by timing < t.thread.priority → ⊥
+              covers : (timing : ReleasePattern) → IsRequested timing → IsCovered t.thread.priority timing → ceiling_by timing < t.thread.priority → ⊥
               covers (Periodic offset period) asked covered low = asked
               covers (Requested op ceiling separation jitter external) asked covered low = omega arith
 

@@ -6,8 +6,8 @@ use Rattle.seq_tree.specs.Lists.{change}
 use Rattle.arrivals_tree.specs.declared.arrivals.Arrival.{Arrival}
 use Rattle.trace_tree.specs.declared.event.Event.{Event}
 use Rattle.trace_tree.specs.Exclusion.{Passage, Into, Out, passages, TakesTurns, Exclusive}
-use Rattle.machine.specs.Systems.{System, Thread, Guarded}
-use Rattle.machine.specs.States.{State, Task, Section, Object, Control, opening, first_task}
+use Rattle.machine.specs.Systems.{System, TaskUnit, ProtectedUnit}
+use Rattle.machine.specs.States.{State, Task, Resource, Object, Control, opening, first_task}
 use Rattle.machine.specs.Effects.{object_unit}
 use Rattle.machine.specs.Releases.{Next}
 use Rattle.machine.specs.Steps.{step}
@@ -31,20 +31,20 @@ IsHeldBy y fs u None = (i object : ℕ) (f : Face) → slice_get fs i ≡ Some f
 IsHeldBy y fs u (Some task) =
     (i : ℕ) × (object : ℕ) × (f : Face) × (slice_get fs i ≡ Some f) × IsAmong (Object object) f.1 × (object_unit y object ≡ u) × (f.0 ≡ task)
 
-pub among-there : (y : System) (as' : List Arrival) (section : Section) (ss : List Section) → AreHeld y as' ss → IsAmong section ss → IsThere y as' section
+pub among-there : (y : System) (as' : List Arrival) (section : Resource) (ss : List Resource) → AreHeld y as' ss → IsAmong section ss → IsThere y as' section
 among-there y as' section [] h a = absurd a
 among-there y as' section (z ∷ ss) h (inl is) = subst (IsThere y as') is h.1
 among-there y as' section (z ∷ ss) h (inr a) = among-there y as' section ss h.2 a
 
-pub unit-of : (y : System) (object : ℕ) (g : Guarded) → slice_get y.objects object ≡ Some g → object_unit y object ≡ g.unit
+pub unit-of : (y : System) (object : ℕ) (g : ProtectedUnit) → slice_get y.objects object ≡ Some g → object_unit y object ≡ g.unit
 unit-of y object g e = ap (λ o. unwrap_or (option_map (λ x. x.unit) o) 0) e
 
-pub fewer-among : (section : Section) (ss : List Section) → IsAmong section (drop 1 ss) → IsAmong section ss
+pub fewer-among : (section : Resource) (ss : List Resource) → IsAmong section (drop 1 ss) → IsAmong section ss
 fewer-among section [] a = a
 fewer-among section (z ∷ ss) a = inr a
 
 -- an object that isn't the innermost section stays when that is left
-other-stays : (section : Section) (object : ℕ) (ss others : List Section) → ss ≡ section ∷ others → (section ≡ Object object → ⊥)
+other-stays : (section : Resource) (object : ℕ) (ss others : List Resource) → ss ≡ section ∷ others → (section ≡ Object object → ⊥)
     → IsAmong (Object object) ss → IsAmong (Object object) (drop 1 ss)
 other-stays section object ss others e not a = subst (λ xs. IsAmong (Object object) (drop 1 xs)) (sym e) (by (subst (IsAmong (Object object)) e a))
   where
@@ -80,7 +80,7 @@ module _ (y : System) (as' : List Arrival) (ex : MayExclude y as') (s : State) (
       let q = face-at s.tasks j g ag in
       x.keeps.alone i j p.0 q.0 (Object a) p.1 q.1 (subst (λ z. IsAmong (Object a) z.1) (sym p.2) among) (subst (λ z. IsAmong (Object a) z.1) (sym q.2) among')
 
-  module _ (n : Next) (i : ℕ) (t : Task) (section : Section) where
+  module _ (n : Next) (i : ℕ) (t : Task) (section : Resource) where
     -- the entry of a section that isn't the object of this unit
     enters-other : (e : Stands s.tasks i t) → faces n.0.tasks ≡ change i (into section) (faces s.tasks)
         → ((a : ℕ) → section ≡ Object a → object_unit y a ≡ u → ⊥) → (o : Option ℕ) → IsHeldBy y (faces s.tasks) u o → IsHeldBy y (faces n.0.tasks) u o
@@ -106,7 +106,7 @@ module _ (y : System) (as' : List Arrival) (ex : MayExclude y as') (s : State) (
             let not : held.0 ≢ i = λ h. grind arith in
             (held.0, held.1, held.2, now held.0 ∙ change-else i held.0 (into section) (faces s.tasks) not ∙ held.3, held.4, held.5, held.6)
 
-    leaves-other : (others : List Section) → Stands s.tasks i t → sections t ≡ section ∷ others → faces n.0.tasks ≡ change i out_of (faces s.tasks)
+    leaves-other : (others : List Resource) → Stands s.tasks i t → sections t ≡ section ∷ others → faces n.0.tasks ≡ change i out_of (faces s.tasks)
         → ((a : ℕ) → section ≡ Object a → object_unit y a ≡ u → ⊥) → (o : Option ℕ) → IsHeldBy y (faces s.tasks) u o → IsHeldBy y (faces n.0.tasks) u o
     leaves-other others stands inside changes other None held = λ j a f at among is.
         changed i j out_of (faces s.tasks) f (ap (λ fs. slice_get fs j) (sym changes) ∙ at)
@@ -261,7 +261,7 @@ module _ (y : System) (as' : List Arrival) (ex : MayExclude y as') where
       let found = face-at (map first_task y.threads) i f at in
       by (slice_get y.threads i) found.0 (sym (slice_get-map first_task y.threads i) ∙ found.1) (subst (λ z. IsAmong (Object object) z.1) (sym found.2) among)
     where
-      by : (o : Option Thread) (t : Task) → option_map first_task o ≡ Some t → IsAmong (Object object) (sections t) → ⊥
+      by : (o : Option TaskUnit) (t : Task) → option_map first_task o ≡ Some t → IsAmong (Object object) (sections t) → ⊥
       by None t e a = absurd (none-some t e)
       by (Some th) t e a = subst (λ z. IsAmong (Object object) (sections z)) (sym (same_Some (first_task th) t e)) a
 

@@ -3,7 +3,7 @@
 use Rattle.std.specs.Prelude.{◌≡◌, Bool, true, false, nat_le, ⊤}
 use Rattle.seq_tree.specs.Names.{Name}
 use Rattle.seq_tree.specs.Statements.{Statement, Statements, Branches, If, For, ExitWhen, Call, End, Then, Nothing, Else, When}
-use Rattle.machine.specs.Systems.{Callee, Plain, Protected, Request, Unknown}
+use Rattle.machine.specs.Systems.{CallTarget, Plain, Protected, Request, Unknown}
 
 -- a fact where something is true
 abbrev pub Where : Bool → Type 0 → Type 0
@@ -29,7 +29,7 @@ abbrev mutual
   BranchesFit May in_loop (When condition block others) = BlockFits May in_loop block × BranchesFit May in_loop others
 
 -- a call whose body has its exits inside loops
-abbrev pub HasExitsInLoops : Callee → Type 0
+abbrev pub HasExitsInLoops : CallTarget → Type 0
 HasExitsInLoops (Plain o) = BlockFits (λ unit op. ⊤) false o.block
 HasExitsInLoops (Protected object op g o) = BlockFits (λ unit op. ⊤) false o.block
 HasExitsInLoops (Request task) = ⊤

@@ -3,7 +3,7 @@
 use Rattle.std.specs.Prelude.{◌≡◌, ◌≤◌, ℕ, Bool, true, false, slice_get, unwrap_or, option_map, Some, ⊤}
 use Rattle.seq_tree.specs.Names.{Name}
 use Rattle.trace_tree.specs.declared.event.Event.{Event}
-use Rattle.machine.specs.Systems.{System, Thread, Callee, Plain, Protected, Request, Unknown, callee}
+use Rattle.machine.specs.Systems.{System, TaskUnit, CallTarget, Plain, Protected, Request, Unknown, callee}
 use Rattle.machine.specs.States.{Object, Control}
 use Rattle.machine.specs.Effects.{ceiling_of}
 use Rattle.trace_tree.specs.declared.event.Event.TheVariants as event
@@ -19,7 +19,7 @@ abbrev pub IsMadeFrom : Reach → ℕ → Name → Name → Type 0
 IsMadeFrom r n unit op = (r.made unit op ≡ true) × (n ≤ r.low unit op)
 
 -- what a made call with this number leads to
-abbrev pub RisesTo : System → Reach → ℕ → Callee → Type 0
+abbrev pub RisesTo : System → Reach → ℕ → CallTarget → Type 0
 RisesTo y r n (Plain o) = BlockFits (IsMadeFrom r n) false o.block
 RisesTo y r n (Protected object op g o) = (n ≤ ceiling_of y (Object object)) × BlockFits (IsMadeFrom r (ceiling_of y (Object object))) false o.block
 RisesTo y r n (Request task) = n ≤ ceiling_of y (Control task)
@@ -28,7 +28,7 @@ RisesTo y r n Unknown = ⊤
 -- tasks call at ceilings of at least their priority, and protected bodies at ceilings of at least their own
 pub record IsCeiled (y : System) : Type 0 where
   pub reach : Reach
-  pub tasks : (i : ℕ) (t : Thread) → slice_get y.threads i ≡ Some t → BlockFits (IsMadeFrom reach t.priority) false t.block
+  pub tasks : (i : ℕ) (t : TaskUnit) → slice_get y.threads i ≡ Some t → BlockFits (IsMadeFrom reach t.priority) false t.block
   pub calls : (unit op : Name) → reach.made unit op ≡ true → RisesTo y reach (reach.low unit op) (callee y unit op)
 
 -- the base priority of the task at a place

@@ -2,7 +2,7 @@
 -- Dispatching is by active priority, then by order number (ISO/IEC 8652:2012, D.2.3); active priorities are those of D.1 and D.3.
 use Rattle.std.specs.Prelude.{◌≡◌, ◌⊎◌, ◌≤◌, ◌<◌, ℕ, List, [], ◌∷◌, ℤ, ◌<ℤ◌, ⊤}
 use Rattle.machine.specs.Systems.{System}
-use Rattle.machine.specs.States.{State, Task, Ready, Section, Held}
+use Rattle.machine.specs.States.{State, Task, Ready, Resource, Held}
 use Rattle.ceiling_locking.specs.Sections.{Stands, IsNumbered, AreStacked, sections, IsAmong, Holds}
 
 -- one that stands before another in the order of dispatch
@@ -10,7 +10,7 @@ abbrev pub StandsBefore : ℕ → ℤ → ℕ → ℤ → Type 0
 StandsBefore active order active' order' = (active' < active) ⊎ ((active ≡ active') × (order <ℤ order'))
 
 -- sections, each of them once
-abbrev pub AreOnce : List Section → Type 0
+abbrev pub AreOnce : List Resource → Type 0
 AreOnce [] = ⊤
 AreOnce (s ∷ ss) = (IsAmong s ss → ⊥) × AreOnce ss
 
@@ -31,7 +31,7 @@ pub record AreSafe (y : System) (s : State) : Type 0 where
       → t.readiness ≡ Ready → u.inside ≡ h ∷ hs → StandsBefore t.active o u.active p → u.active < t.thread.priority
   pub each : (i : ℕ) (t : Task) → Stands s.tasks i t → IsHolderOnce y t
   -- no section is held by two tasks
-  pub alone : (i j : ℕ) (t u : Task) (section : Section)
+  pub alone : (i j : ℕ) (t u : Task) (section : Resource)
       → Stands s.tasks i t → Stands s.tasks j u → Holds t section → Holds u section → i ≡ j
   -- the order numbers of different ready tasks differ
   pub differ : (i j : ℕ) (t u : Task) (o : ℤ)

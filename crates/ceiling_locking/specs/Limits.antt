@@ -3,7 +3,7 @@
 use Rattle.std.specs.Prelude.{◌≡◌, ◌≤◌, ◌<◌, ◌+◌, ◌*◌, ℕ, zero, suc, Bool, true, false, nat_le, List, slice_get, Option, Some, None, if◌then◌else◌, ⊤}
 use Rattle.seq_tree.specs.Names.{Name}
 use Rattle.seq_tree.specs.Dearest.{cost}
-use Rattle.machine.specs.Systems.{System, Thread, Callee, Plain, Protected, Request, Unknown, callee}
+use Rattle.machine.specs.Systems.{System, TaskUnit, CallTarget, Plain, Protected, Request, Unknown, callee}
 use Rattle.machine.specs.States.{State, Task, Phase, Effects, Delays, Arriving, Use, Ready, Object, Control}
 use Rattle.machine.specs.Effects.{ceiling_of}
 use Rattle.machine.specs.Dispatch.{dispatched}
@@ -22,7 +22,7 @@ abbrev pub IsMade : Costing → Name → Name → Type 0
 IsMade c unit op = c.made unit op ≡ true
 
 -- what a made call of this cost leads to: its body costs at most that, and where a ceiling reaches the level, that is at most a bound
-abbrev pub CostsAtMost : System → ℕ → ℕ → Costing → ℕ → Callee → Type 0
+abbrev pub CostsAtMost : System → ℕ → ℕ → Costing → ℕ → CallTarget → Type 0
 CostsAtMost y level bound c n (Plain o) = BlockFits (IsMade c) false o.block × (cost y.costs c.cost o.block ≤ n)
 CostsAtMost y level bound c n (Protected object op g o) =
     BlockFits (IsMade c) false o.block × (cost y.costs c.cost o.block ≤ n) × (level ≤ ceiling_of y (Object object) → n ≤ bound)
@@ -33,7 +33,7 @@ CostsAtMost y level bound c n Unknown = ⊤
 pub record IsLimited (y : System) (level bound : ℕ) : Type 0 where
   pub costing : Costing
   pub exits : (unit op : Name) → HasExitsInLoops (callee y unit op)
-  pub tasks : (i : ℕ) (t : Thread) → slice_get y.threads i ≡ Some t → BlockFits (λ unit op. t.priority < level → IsMade costing unit op) false t.block
+  pub tasks : (i : ℕ) (t : TaskUnit) → slice_get y.threads i ≡ Some t → BlockFits (λ unit op. t.priority < level → IsMade costing unit op) false t.block
   pub calls : (unit op : Name) → IsMade costing unit op → CostsAtMost y level bound costing (costing.cost unit op) (callee y unit op)
   pub call : 0 < y.costs.call
 

@@ -30,7 +30,7 @@ use Rattle.program_calls.proofs.Facts.{same-self}
 use Rattle.design_programs.proofs.Greatest.{at-least, at-most, fold-most}
 use Rattle.program_calls.proofs.Lists.{in-map, filter-in, in-filter, IsIn, place-of}
 
-priority-range : (f : Flat) (p : ℕ) → IsIn p (priorities_of f) → (1 ≤ p) × (p ≤ length f.threads)
+pub priority-range : (f : Flat) (p : ℕ) → IsIn p (priorities_of f) → (1 ≤ p) × (p ≤ length f.threads)
 priority-range f p h =
     let k = place-of p (priorities_of f) h in
     let r = priority-at (map (λ t. t.deadline) f.threads) k.0 p k.1 in
@@ -62,7 +62,7 @@ module _ (f : Flat) where
       let q = within-range d r.0.name in
       let e = r.2 in omega (arith, q, e))
 
-  ceiling-range : (name : Name) → (1 ≤ ceiling f ps name) × (ceiling f ps name ≤ most)
+  pub ceiling-range : (name : Name) → (1 ≤ ceiling f ps name) × (ceiling f ps name ≤ most)
   ceiling-range name = (le_trans (user-range name).0 (ceiling-user f ps name), within-range (length f.shared) name)
 
   own-priority : (t : Thread) (q : ℕ) → IsIn (t, q) (zip f.threads ps) → q ≤ ceiling f ps t.name
@@ -112,7 +112,7 @@ not-below : (c q up : ℕ) → q ≤ c → nat_lt (c + up) (q + up) ≡ false
 not-below c q up h = grind arith
 
 module _ (written x : Design) (met : AreMet written x) (same : written.version ≡ x.version) where
-  priorities-stated : bad_priorities (stated_priorities x) ≡ []
+  pub priorities-stated : bad_priorities (stated_priorities x) ≡ []
   priorities-stated = by written.version refl (none_listed (version_faults written) (met Version))
     where
       by : (v : Option VersionTwo) → written.version ≡ v → bad_version written.version written ≡ [] → bad_priorities (stated_priorities x) ≡ []
@@ -122,7 +122,7 @@ module _ (written x : Design) (met : AreMet written x) (same : written.version �
           ap (λ z. bad_priorities (option_and_then (λ w. w.priorities) z)) (sym same ∙ e)
           ∙ (nothing_first (bad_priorities v.priorities) _ (nothing_first (bad_tick v) _ (subst P e h)).1).0
 
-  room : max 1 (length (threads x)) + (first_priority x - 1) ≤ 60
+  pub room : max 1 (length (threads x)) + (first_priority x - 1) ≤ 60
   room =
       let a = threads-at-most x in
       let b = limited (stated_priorities x) (length (thread_objects x)) priorities-stated (thread-count written x met) in

@@ -9,7 +9,7 @@ use Rattle.seq_tree.specs.declared.tree.Costs.{Costs}
 use Rattle.link_queue.specs.Queues.{Entry}
 use Rattle.trace_tree.specs.declared.event.Event.{Event}
 use Rattle.trace_tree.specs.declared.event.Event.TheVariants as event
-use Rattle.machine.specs.Systems.{System, Thread, Periodic}
+use Rattle.machine.specs.Systems.{System, TaskUnit, Periodic}
 use Rattle.machine.specs.Pieces.{Finishing}
 use Rattle.machine.specs.States.{State, Task, Readiness, Asleep, Ready, Use, shut}
 use Rattle.machine.specs.Steps.{is_due}
@@ -25,7 +25,7 @@ use Rattle.dispatching.proofs.Sleeping.{due-sleeper}
 abbrev unit_costs : Costs
 unit_costs = record { assign = 1; test = 1; turn = 1; call = 1; nothing = 1; put = 1; finish = 1 }
 
-abbrev thread : ℕ → Thread
+abbrev thread : ℕ → TaskUnit
 thread unit = record { unit = unit; name = codes "a"; priority = 2; timing = Periodic 0 50; vars = []; block = End; durations = [] }
 
 -- a task that has so many ticks left before its end

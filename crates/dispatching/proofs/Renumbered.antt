@@ -8,10 +8,10 @@ use Rattle.seq_tree.specs.Variables.{Variables}
 use Rattle.arrivals_tree.specs.declared.arrivals.Arrival.{Arrival}
 use Rattle.trace_tree.specs.declared.event.Event.{Event}
 use Rattle.trace_tree.specs.declared.event.Event.TheVariants as event
-use Rattle.machine.specs.Systems.{System, Timing, Periodic, Requested}
+use Rattle.machine.specs.Systems.{System, ReleasePattern, Periodic, Requested}
 use Rattle.machine.specs.Pieces.{Piece}
-use Rattle.machine.specs.Deeds.{Deed, Act, Silent, Print, Enter, Leave, Ask, Keep, Open, Ended, Finish, done}
-use Rattle.machine.specs.States.{State, Task, Section, Object, Control, Phase, Effects, Delays, Arriving, Use, Ready}
+use Rattle.machine.specs.Deeds.{PieceOutcome, Act, Silent, Print, Enter, Leave, Ask, Keep, Open, Ended, Finish, done}
+use Rattle.machine.specs.States.{State, Task, Resource, Object, Control, Phase, Effects, Delays, Arriving, Use, Ready}
 use Rattle.machine.specs.Dispatch.{dispatched, put_last, put_first}
 use Rattle.machine.specs.Releases.{Next, after, going, release, release_task, released, serve, serve_task, is_waiting}
 use Rattle.machine.specs.Effects.{acted, ceiling_of, ended, entered_at, entry, exit, go, inside_now, lent, object_unit, outside_now, resting, stopped_at, takes_effect, task_unit}
@@ -185,7 +185,7 @@ going-tames y vars (p ∷ ps) t u r = r
 ended-tames : (vars : Variables) → Tames (ended vars)
 ended-tames vars t u r = absurd (never t.thread.timing t.next r.0)
   where
-    never : (timing : Timing) (next : ℕ) → resting timing next ≡ Ready → ⊥
+    never : (timing : ReleasePattern) (next : ℕ) → resting timing next ≡ Ready → ⊥
     never (Periodic offset period) next e = cc
     never (Requested op ceiling separation jitter external) next e = cc
 
@@ -211,7 +211,7 @@ serve-twin y i s ps h = by_task (slice_get s.tasks i)
     by_task None = record { state = refl; alike = h; told = refl }
     by_task (Some t) = by_test (is_waiting t.readiness && t.gate.open')
 
-entry-twin : (y : System) (i : ℕ) (t : Task) (section : Section) (told : List Event) (vars : Variables) (pieces : List Piece) (s : State) (ps : List ℤ)
+entry-twin : (y : System) (i : ℕ) (t : Task) (section : Resource) (told : List Event) (vars : Variables) (pieces : List Piece) (s : State) (ps : List ℤ)
     → Alike s.tasks s.orders ps → Twin (entry y i t section told vars pieces s) (entry y i t section told vars pieces (renumber ps s))
 entry-twin y i t (Object object) told vars pieces s ps h = by_test (nat_lt (ceiling_of y (Object object)) t.active)
   where
@@ -280,7 +280,7 @@ effect-twin y (Some i) s ps h = by_task (slice_get s.tasks i)
       where
         by_left : (b : Bool) → Twin (if b then takes_effect y i t (done y p t.vars rest) s else goes_to Delays s)
             (if b then takes_effect y i t (done y p t.vars rest) (renumber ps s) else goes_to Delays (renumber ps s))
-        by_left true = let d : Deed = done y p t.vars rest in acted-twin y i t d.act d.vars d.pieces s ps h
+        by_left true = let d : PieceOutcome = done y p t.vars rest in acted-twin y i t d.act d.vars d.pieces s ps h
         by_left false = goes-twin Delays s ps h
 
     by_task : (o : Option Task) → Twin (effect_at y i o s) (effect_at y i o (renumber ps s))

@@ -5,31 +5,27 @@ use Rattle.seq_tree.specs.declared.text_fault.TextFault.{TextFault}
 use Rattle.seq_tree.specs.declared.text_fault.TextFault.TheVariants as fault
 use Rattle.ods_tree.specs.Designs as designs
 use Rattle.ods_tree.specs.Flattening.{flat}
-use Rattle.ods_tree.specs.InUse.{IsUsableDesign}
 use Rattle.ods_tree.specs.Reading.{Reads}
-use Rattle.ods_tree.specs.Walk.{own_of}
 use Rattle.ods_tree.specs.Spelling.{design_tokens}
 use Rattle.ods_tree.specs.Ticks.{in_ticks}
 use Rattle.design_rules.specs.Broken.{Broken}
 use Rattle.design_rules.specs.Rules.{MeetsRules}
-use Rattle.ods_rules.specs.Told.{told_of}
-use Rattle.ods_rules.specs.declared.broken.Broken as code
-use Rattle.rt_response.specs.Rounds.{IsMiss}
+use Rattle.ods_index.specs.Told.{told_of}
+use Rattle.ods_index.specs.declared.broken.Broken as code
 use Rattle.rt_response.specs.declared.rows.Bound.{Bound}
 use Rattle.rt_response.specs.declared.rows.Miss as rows
 use Rattle.rt_response.specs.declared.rows.ThreadRow.{ThreadRow}
 use Rattle.rt_response.specs.Response.{IsAtMost, IsLeastVector}
 use Rattle.analysis.specs.Tables.{table}
 use Rattle.guarantee.specs.Programs.{text}
-use Rattle.bridge.specs.Delivers.{IsTextFor, IsNotBuilt, HasNoBounds, HasLongText}
-use Rattle.bridge.specs.Rows.{name_of_row}
+use Rattle.bridge.specs.Delivers.{IsTextFor, HasNoBounds, HasLongText}
 use Rattle.seq_tree.specs.Names.{Name}
 use Rattle.hrthood_top.specs.declared.file_kind.FileKind.TheVariants.{Design}
 use Rattle.hrthood_top.specs.declared.generate.GenerateRefusal.{GenerateRefusal}
-use Rattle.hrthood_top.specs.declared.generate.GenerateRefusal.TheVariants.{Text, Rule, NotBuilt, Miss, Long}
+use Rattle.hrthood_top.specs.declared.generate.GenerateRefusal.TheVariants.{Text, Rule, Miss, Long}
 use Rattle.hrthood_top.specs.Generates.{CanGenerate, RefusesDesign, generates}
 use Rattle.hrthood_top.proofs.OneDesign.{one-design, no-fault, one-fault, no-rule, one-rule}
-use Rattle.hrthood_top.proofs.OneRule.{one-at, one-miss}
+use Rattle.hrthood_top.proofs.OneBounds.{one-bounds}
 use Rattle.hrthood_top.proofs.VerbLaws.{IsExact}
 
 -- two vectors, neither of which is above the other
@@ -60,17 +56,14 @@ not_long bytes bytes' same w h =
 can_or_refuses : (bytes bytes' : List ℕ) → bytes ≡ bytes' → CanGenerate bytes → (r : GenerateRefusal) → RefusesDesign bytes' r → ⊥
 can_or_refuses bytes bytes' same w (Text found) h = no-fault bytes' w.design found (subst (λ z. Reads z w.design) same w.reads) h
 can_or_refuses bytes bytes' same w (Rule broken) h = no-rule bytes' broken w.design h (subst (λ z. Reads z w.design) same w.reads) w.meets
-can_or_refuses bytes bytes' same w (NotBuilt object) h =
-    h.unusable (subst IsUsableDesign (one-design bytes' w.design h.design (subst (λ z. Reads z w.design) same w.reads) h.reads) w.usable)
 can_or_refuses bytes bytes' same w (Miss thread miss) h =
     let one : h.design ≡ w.design = one-design bytes' h.design w.design h.reads (subst (λ z. Reads z w.design) same w.reads) in
-    h.none w.bounds (rw one w.least.fits)
+    h.missed.none w.bounds (rw one w.least.fits)
 can_or_refuses bytes bytes' same w Long h = not_long bytes bytes' same w h
 
 can_make : (bytes made : List ℕ) → IsTextFor bytes made → CanGenerate bytes
 can_make bytes made w = record {
   design = w.design;
-  usable = w.usable;
   reads = w.reads;
   meets = w.meets;
   bounds = w.bounds;
@@ -78,50 +71,28 @@ can_make bytes made w = record {
   short = (let short = w.short in rw w.made at short);
 }
 
-not_built_or_usable : (bytes : List ℕ) (object : Name) (x : designs.Design) → IsNotBuilt bytes object → IsUsableDesign x → Reads bytes x → ⊥
-not_built_or_usable bytes object x h usable reads = h.unusable (subst IsUsableDesign (one-design bytes x h.design reads h.reads) usable)
-
-one_root : (bytes : List ℕ) (object other : Name) → IsNotBuilt bytes object → IsNotBuilt bytes other → object ≡ other
-one_root bytes object other h k = h.root ∙ ap (λ z. (own_of z.root).name) (one-design bytes h.design k.design h.reads k.reads) ∙ sym k.root
-
 bounds_or_none : (bytes : List ℕ) (thread : Name) (miss : rows.Miss) → HasNoBounds bytes thread miss → HasLongText bytes → ⊥
 bounds_or_none bytes thread miss h k =
-    let one : h.design ≡ k.design = one-design bytes h.design k.design h.reads k.reads in h.none k.bounds (rw one k.least.fits)
+    let one : h.design ≡ k.design = one-design bytes h.design k.design h.reads k.reads in h.missed.none k.bounds (rw one k.least.fits)
 
 one_over : (bytes : List ℕ) (thread other : Name) (m n : rows.Miss) → HasNoBounds bytes thread m → HasNoBounds bytes other n → ◌≡◌ {A = GenerateRefusal} (Miss thread m) (Miss other n)
-one_over bytes thread other m n h k =
-    let design = one-design bytes h.design k.design h.reads k.reads in
-    let M : designs.Design → Type 0 = λ z. IsMiss (table (flat (in_ticks z))).rows m in
-    let miss : m ≡ n = one-miss (table (flat (in_ticks k.design))).rows m n (subst M design h.first) k.first in
-    let N : designs.Design → Type 0 = λ z. name_of_row (flat (in_ticks z)) m.index ≡ Some thread in
-    let here : name_of_row (flat (in_ticks k.design)) n.index ≡ Some thread = ap (λ z. name_of_row (flat (in_ticks k.design)) z.index) (sym miss) ∙ subst N design h.called in
-    let name : thread ≡ other = one-at _ thread other here k.called in
-    ap (λ z. Miss z m) name ∙ ap (λ z. Miss other z) miss
+one_over bytes thread other m n h k = (let one = one-bounds bytes thread other m n h k in ap (λ z. Miss z m) one.0 ∙ ap (λ z. Miss other z) one.1)
 
 one_refusal : (bytes : List ℕ) (r q : GenerateRefusal) → RefusesDesign bytes r → RefusesDesign bytes q → r ≡ q
 one_refusal bytes (Text f) (Text g) h k = ap Text (one-fault bytes f g h k)
 one_refusal bytes (Text f) (Rule broken) h k = absurd (no-fault bytes k.design f k.reads h)
-one_refusal bytes (Text f) (NotBuilt object) h k = absurd (no-fault bytes k.design f k.reads h)
 one_refusal bytes (Text f) (Miss thread miss) h k = absurd (no-fault bytes k.design f k.reads h)
 one_refusal bytes (Text f) Long h k = absurd (no-fault bytes k.design f k.reads h)
 one_refusal bytes (Rule broken) (Text f) h k = absurd (no-fault bytes h.design f h.reads k)
 one_refusal bytes (Rule broken) (Rule other) h k = ap Rule (one-rule bytes broken other h k)
-one_refusal bytes (Rule broken) (NotBuilt object) h k = absurd (no-rule bytes broken k.design h k.reads k.meets)
 one_refusal bytes (Rule broken) (Miss thread miss) h k = absurd (no-rule bytes broken k.design h k.reads k.meets)
 one_refusal bytes (Rule broken) Long h k = absurd (no-rule bytes broken k.design h k.reads k.meets)
-one_refusal bytes (NotBuilt object) (Text f) h k = absurd (no-fault bytes h.design f h.reads k)
-one_refusal bytes (NotBuilt object) (Rule broken) h k = absurd (no-rule bytes broken h.design k h.reads h.meets)
-one_refusal bytes (NotBuilt object) (NotBuilt other) h k = ap NotBuilt (one_root bytes object other h k)
-one_refusal bytes (NotBuilt object) (Miss thread miss) h k = absurd (not_built_or_usable bytes object k.design h k.usable k.reads)
-one_refusal bytes (NotBuilt object) Long h k = absurd (not_built_or_usable bytes object k.design h k.usable k.reads)
 one_refusal bytes (Miss thread miss) (Text f) h k = absurd (no-fault bytes h.design f h.reads k)
 one_refusal bytes (Miss thread miss) (Rule broken) h k = absurd (no-rule bytes broken h.design k h.reads h.meets)
-one_refusal bytes (Miss thread miss) (NotBuilt object) h k = absurd (not_built_or_usable bytes object h.design k h.usable h.reads)
 one_refusal bytes (Miss thread miss) (Miss other more) h k = one_over bytes thread other miss more h k
 one_refusal bytes (Miss thread miss) Long h k = absurd (bounds_or_none bytes thread miss h k)
 one_refusal bytes Long (Text f) h k = absurd (no-fault bytes h.design f h.reads k)
 one_refusal bytes Long (Rule broken) h k = absurd (no-rule bytes broken h.design k h.reads h.meets)
-one_refusal bytes Long (NotBuilt object) h k = absurd (not_built_or_usable bytes object h.design k h.usable h.reads)
 one_refusal bytes Long (Miss thread miss) h k = absurd (bounds_or_none bytes thread miss k h)
 one_refusal bytes Long Long h k = refl
 

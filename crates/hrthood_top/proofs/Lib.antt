@@ -4,8 +4,10 @@ pub mod Ending
 pub mod OneText
 pub mod OneDesign
 pub mod OneRule
+pub mod OneBounds
 pub mod VerbLaws
 pub mod CheckLaws
+pub mod AnalyseLaws
 pub mod FormatLaws
 pub mod GenerateLaws
 pub mod ReplayLaws

@@ -1,14 +1,12 @@
 -- That bytes are one design, have one fault or none, and that a design breaks one rule first or none.
 use Rattle.std.proofs.Common.{◌≡◌, ℕ, List, Option, Some, None, subst}
-use Rattle.seq_tree.specs.declared.text_fault.TextFault.{TextFault}
 use Rattle.ods_tree.specs.Designs as designs
 use Rattle.ods_tree.specs.Reading.{Reads}
-use Rattle.ods_read.specs.Answers.{Faults}
 pub use Rattle.ods_read.proofs.OneReading.{one-design, no-fault, one-fault}
 use Rattle.design_rules.specs.Broken.{Broken}
 use Rattle.design_rules.specs.Rules.{MeetsRules}
-use Rattle.ods_rules.specs.Told.{told_of}
-use Rattle.ods_rules.specs.declared.broken.Broken as code
+use Rattle.ods_index.specs.Told.{told_of}
+use Rattle.ods_index.specs.declared.broken.Broken as code
 use Rattle.bridge.specs.Delivers.{IsBroken, BreaksRule}
 use Rattle.hrthood_top.proofs.OneRule.{one-broken}
 

@@ -9,9 +9,9 @@ use Rattle.ods_tree.specs.Ticks.{in_ticks}
 use Rattle.design_rules.specs.Broken.{Broken, V01, V02, V03, V04, V05, V06, V07, V08, V09Calls, V09Objects, V09Starts, V10, V11, V12, V14, V15Threads, V15Objects, V15Cost, V16, V17Tick, V17Priorities, V17, V13}
 use Rattle.seq_check.specs.Answers.{told_as}
 use Rattle.design_rules.specs.Rules as design
-use Rattle.ods_rules.specs.Told.{told_of}
-use Rattle.ods_rules.specs.declared.broken.Broken as code
-use Rattle.ods_rules.specs.declared.broken.Broken.TheVariants as variant
+use Rattle.ods_index.specs.Told.{told_of}
+use Rattle.ods_index.specs.declared.broken.Broken as code
+use Rattle.ods_index.specs.declared.broken.Broken.TheVariants as variant
 use Rattle.bridge.specs.Delivers.{IsBroken}
 use Rattle.ada_tree.specs.Programs.{Program}
 use Rattle.ada_tree.specs.Bodies.{unit_fault}

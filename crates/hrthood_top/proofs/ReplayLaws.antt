@@ -1,8 +1,13 @@
 -- That the verb `replay` refuses texts for one reason, and none that it can be done of.
-use Rattle.std.proofs.Common.{◌≡◌, ℕ, List, Err, subst, sym, refl}
+use Rattle.std.proofs.Common.{◌≡◌, ℕ, Bool, true, false, List, [], ◌∷◌, Err, Some, None, subst, sym, refl}
+use Rattle.std.specs.Prelude.{◌&&◌, if◌then◌else◌}
+use Rattle.std.specs.List.{list_all}
+use Rattle.std.proofs.lemmas.Bool.{and_parts}
 use Rattle.seq_tree.specs.declared.text_fault.TextFault.{TextFault}
 use Rattle.seq_tree.specs.declared.text_fault.TextFault.TheVariants as fault
-use Rattle.ada_tree.specs.Programs.{Program}
+use Rattle.ada_tree.specs.InUse.{IsSequentialProgram, first_unbuilt, is_sequential}
+use Rattle.ada_tree.specs.Programs.{Unit, Program}
+use Rattle.ada_tree.specs.Reading.{Accepts}
 use Rattle.ada_read.proofs.ReadingLaws.{reads-unfaulty, accepts-unbroken}
 use Rattle.arrivals_read.specs.Answers as arriving
 use Rattle.arrivals_read.specs.Answers.{Says, SaysNothing, StopsAt}
@@ -18,7 +23,7 @@ use Rattle.ada_read.specs.Answers.{Breaks}
 use Rattle.ada_rules.specs.Verdicts as verdicts
 use Rattle.ada_rules.specs.declared.verdict.AdaRule.{AdaRule}
 use Rattle.ada_rules.specs.declared.verdict.RuleBreak.TheVariants as told
-use Rattle.hrthood_top.specs.Replays.{IsAdaAlone}
+use Rattle.hrthood_top.specs.Replays.{IsAdaAlone, IsUnbuilt}
 use Rattle.hrthood_top.proofs.OneText.{one-ada-fault, one-arrivals-fault}
 use Rattle.hrthood_top.proofs.OneRule.{one-verdict}
 use Rattle.hrthood_top.proofs.VerbLaws.{IsExact}
@@ -43,12 +48,41 @@ says-nothing bytes p (fault.TooDeep place) h = refused-nothing bytes p (fault.To
 says-nothing bytes p fault.FileTooLong h = refused-nothing bytes p fault.FileTooLong h
 says-nothing bytes p fault.NoMemory h = refused-nothing bytes p fault.NoMemory h
 
+-- a program without a unit that isn't run is run
+built_step : (b : Bool) (name : Name) (us : List Unit) → (first_unbuilt us ≡ None → list_all (λ u. is_sequential u.form) us ≡ true)
+    → (if b then first_unbuilt us else Some name) ≡ None → (b && list_all (λ u. is_sequential u.form) us) ≡ true
+built_step true name us others h = others h
+built_step false name us others h = absurd (cc)
+
+pub built-all : (us : List Unit) → first_unbuilt us ≡ None → list_all (λ u. is_sequential u.form) us ≡ true
+built-all [] h = refl
+built-all (u ∷ us) h = built_step (is_sequential u.form) u.name us (built-all us) h
+
+-- a program that is run has no unit that isn't
+built-none : (us : List Unit) → list_all (λ u. is_sequential u.form) us ≡ true → first_unbuilt us ≡ None
+built-none [] h = refl
+built-none (u ∷ us) h = let p = and_parts (is_sequential u.form) _ h in rw p.0 (built-none us p.1)
+
+-- so a text with one that isn't is no text of it
+unbuilt-not : (ada : List ℕ) (unit : Name) → IsUnbuilt ada unit → (p : Program) → Accepts ada p → IsSequentialProgram p → ⊥
+unbuilt-not ada unit h p accepts sequential =
+    let P : Program → Type 0 = λ q. IsSequentialProgram q in
+    let both : ◌≡◌ {A = Option Name} (Some unit) None = sym h.first ∙ built-none h.program.units (subst P (h.alone p accepts) sequential) in
+    cc
+
+one_unbuilt : (ada : List ℕ) (u v : Name) → IsUnbuilt ada u → IsUnbuilt ada v → u ≡ v
+one_unbuilt ada u v h k =
+    let program : h.program ≡ k.program = k.alone h.program h.accepts in
+    let both : ◌≡◌ {A = Option Name} (Some u) (Some v) = sym h.first ∙ ap (λ (p : Program). first_unbuilt p.units) program ∙ k.first in
+    cc
+
 can_or_refuses : (ada arrivals : List ℕ) → CanReplay ada arrivals → (r : ReplayRefusal) → RefusesReplay ada arrivals r → ⊥
-can_or_refuses ada arrivals w (refusal.Text found) h = reads-unfaulty ada w.program found w.sequential w.accepts.reads h
-can_or_refuses ada arrivals w (refusal.Unit rule unit) h = accepts-unbroken ada w.program rule unit w.sequential w.accepts h
+can_or_refuses ada arrivals w (refusal.Text found) h = reads-unfaulty ada w.program found w.accepts.reads h
+can_or_refuses ada arrivals w (refusal.Unit rule unit) h = accepts-unbroken ada w.program rule unit w.accepts h
+can_or_refuses ada arrivals w (refusal.NotBuilt unit) h = unbuilt-not ada unit h w.program w.accepts w.sequential
 can_or_refuses ada arrivals w (refusal.Arrivals found) h =
     let P : Program → Type 0 = λ p. SaysNothing arrivals p in
-    let nothing : SaysNothing arrivals w.program = subst P (sym (h.alone w.program w.sequential w.accepts)) (says-nothing arrivals h.program found h.none) in
+    let nothing : SaysNothing arrivals w.program = subst P (sym (h.alone w.program w.accepts)) (says-nothing arrivals h.program found h.none) in
     nothing w.under w.horizon_alone w.arrives
 
 can_make : (ada arrivals written : List ℕ) → Replays ada arrivals written → CanReplay ada arrivals
@@ -65,7 +99,7 @@ can_make ada arrivals written w = record {
 
 one_unit : (ada : List ℕ) (rule rule' : AdaRule) (unit unit' : Option Name) → Breaks ada rule unit → Breaks ada rule' unit' → ◌≡◌ {A = ReplayRefusal} (refusal.Unit rule unit) (refusal.Unit rule' unit')
 one_unit ada rule rule' unit unit' h k =
-    let program : h.program ≡ k.program = k.alone h.program h.sequential h.reads in
+    let program : h.program ≡ k.program = k.alone h.program h.reads in
     let S : Program → Type 0 = λ p. verdicts.Says p (Err (told.Rule rule unit)) in
     let first = subst S program h.broken in
     let same = one-verdict k.program rule rule' unit unit' first.0 k.broken.0 first.1 k.broken.1 first.2 k.broken.2 first.3 k.broken.3 in
@@ -73,19 +107,26 @@ one_unit ada rule rule' unit unit' h k =
 
 one_arrivals : (ada arrivals : List ℕ) (f g : TextFault) → IsAdaAlone ada arrivals f → IsAdaAlone ada arrivals g → f ≡ g
 one_arrivals ada arrivals f g h k =
-    let program : h.program ≡ k.program = k.alone h.program h.sequential h.accepts in
+    let program : h.program ≡ k.program = k.alone h.program h.accepts in
     let N : Program → Type 0 = λ p. IsNoArrivals arrivals p f in
     one-arrivals-fault arrivals k.program f g (subst N program h.none) k.none
 
 one_refusal : (ada arrivals : List ℕ) (r q : ReplayRefusal) → RefusesReplay ada arrivals r → RefusesReplay ada arrivals q → r ≡ q
 one_refusal ada arrivals (refusal.Text f) (refusal.Text g) h k = ap refusal.Text (one-ada-fault ada f g h k)
-one_refusal ada arrivals (refusal.Text f) (refusal.Unit rule unit) h k = absurd (reads-unfaulty ada k.program f k.sequential k.reads h)
-one_refusal ada arrivals (refusal.Text f) (refusal.Arrivals g) h k = absurd (reads-unfaulty ada k.program f k.sequential k.accepts.reads h)
-one_refusal ada arrivals (refusal.Unit rule unit) (refusal.Text g) h k = absurd (reads-unfaulty ada h.program g h.sequential h.reads k)
+one_refusal ada arrivals (refusal.Text f) (refusal.Unit rule unit) h k = absurd (reads-unfaulty ada k.program f k.reads h)
+one_refusal ada arrivals (refusal.Text f) (refusal.Arrivals g) h k = absurd (reads-unfaulty ada k.program f k.accepts.reads h)
+one_refusal ada arrivals (refusal.Unit rule unit) (refusal.Text g) h k = absurd (reads-unfaulty ada h.program g h.reads k)
 one_refusal ada arrivals (refusal.Unit rule unit) (refusal.Unit rule' unit') h k = one_unit ada rule rule' unit unit' h k
-one_refusal ada arrivals (refusal.Unit rule unit) (refusal.Arrivals g) h k = absurd (accepts-unbroken ada k.program rule unit k.sequential k.accepts h)
-one_refusal ada arrivals (refusal.Arrivals f) (refusal.Text g) h k = absurd (reads-unfaulty ada h.program g h.sequential h.accepts.reads k)
-one_refusal ada arrivals (refusal.Arrivals f) (refusal.Unit rule unit) h k = absurd (accepts-unbroken ada h.program rule unit h.sequential h.accepts k)
+one_refusal ada arrivals (refusal.Unit rule unit) (refusal.Arrivals g) h k = absurd (accepts-unbroken ada k.program rule unit k.accepts h)
+one_refusal ada arrivals (refusal.NotBuilt u) (refusal.Text g) h k = absurd (reads-unfaulty ada h.program g h.accepts.reads k)
+one_refusal ada arrivals (refusal.NotBuilt u) (refusal.Unit rule unit) h k = absurd (accepts-unbroken ada h.program rule unit h.accepts k)
+one_refusal ada arrivals (refusal.NotBuilt u) (refusal.NotBuilt v) h k = ap refusal.NotBuilt (one_unbuilt ada u v h k)
+one_refusal ada arrivals (refusal.NotBuilt u) (refusal.Arrivals g) h k = absurd (unbuilt-not ada u h k.program k.accepts k.sequential)
+one_refusal ada arrivals (refusal.Text f) (refusal.NotBuilt u) h k = absurd (reads-unfaulty ada k.program f k.accepts.reads h)
+one_refusal ada arrivals (refusal.Unit rule unit) (refusal.NotBuilt u) h k = absurd (accepts-unbroken ada k.program rule unit k.accepts h)
+one_refusal ada arrivals (refusal.Arrivals f) (refusal.NotBuilt u) h k = absurd (unbuilt-not ada u k h.program h.accepts h.sequential)
+one_refusal ada arrivals (refusal.Arrivals f) (refusal.Text g) h k = absurd (reads-unfaulty ada h.program g h.accepts.reads k)
+one_refusal ada arrivals (refusal.Arrivals f) (refusal.Unit rule unit) h k = absurd (accepts-unbroken ada h.program rule unit h.accepts k)
 one_refusal ada arrivals (refusal.Arrivals f) (refusal.Arrivals g) h k = ap refusal.Arrivals (one_arrivals ada arrivals f g h k)
 
 pub replays-exact : (ada arrivals : List ℕ) → IsExact (replays ada arrivals)

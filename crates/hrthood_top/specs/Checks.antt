@@ -1,7 +1,6 @@
 -- The verb `check`: whether a design is taken, how many objects and threads it has, or the first rule that it breaks.
 -- The rules are those of designs; the lines are this project's own.
 use Rattle.std.specs.Prelude.{◌≡◌, ℕ, List, [], ◌∷◌, ◌++◌, length, codes, decimal}
-use Rattle.seq_tree.specs.declared.text_fault.TextFault.{TextFault}
 use Rattle.ods_tree.specs.Designs as designs
 use Rattle.ods_tree.specs.Reading.{Reads}
 use Rattle.ods_tree.specs.Ticks.{in_ticks}
@@ -9,7 +8,7 @@ use Rattle.ods_tree.specs.Walk.{objects}
 use Rattle.ods_read.specs.Answers.{Faults}
 use Rattle.design_rules.specs.Rings.{thread_objects}
 use Rattle.design_rules.specs.Rules.{MeetsRules}
-use Rattle.ods_rules.specs.Told.{told_of}
+use Rattle.ods_index.specs.Told.{told_of}
 use Rattle.bridge.specs.Delivers.{BreaksRule}
 use Rattle.hrthood_top.specs.declared.file_kind.FileKind.TheVariants.{Design}
 use Rattle.hrthood_top.specs.declared.check.CheckRefusal.{CheckRefusal}

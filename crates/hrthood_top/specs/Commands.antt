@@ -2,16 +2,18 @@
 -- A command of the code has words, one of the definitions their bytes.
 use Rattle.hrthood_top.specs.Words as words
 use Rattle.hrthood_top.specs.Verbs.{Verb}
+use Rattle.hrthood_top.specs.Analyses.{analyses}
 use Rattle.hrthood_top.specs.Checks.{checks}
 use Rattle.hrthood_top.specs.Formats.{formats}
 use Rattle.hrthood_top.specs.Generates.{generates}
 use Rattle.hrthood_top.specs.Replays.{replays}
 use Rattle.hrthood_top.specs.declared.command_words.Command.{Command}
-use Rattle.hrthood_top.specs.declared.command_words.Command.TheVariants.{Check, Format, Generate, Replay}
+use Rattle.hrthood_top.specs.declared.command_words.Command.TheVariants.{Check, Analyse, Format, Generate, Replay}
 
 -- the verb of a command, with its files
 abbrev pub verb_of : words.Command → Verb
 verb_of (words.Check design) = checks design
+verb_of (words.Analyse design) = analyses design
 verb_of (words.Format design) = formats design
 verb_of (words.Generate design) = generates design
 verb_of (words.Replay ada arrivals) = replays ada arrivals
@@ -19,6 +21,7 @@ verb_of (words.Replay ada arrivals) = replays ada arrivals
 -- names are their bytes
 abbrev pub command_tree : Command → words.Command
 command_tree (Check design) = words.Check design.now
+command_tree (Analyse design) = words.Analyse design.now
 command_tree (Format design) = words.Format design.now
 command_tree (Generate design) = words.Generate design.now
 command_tree (Replay ada arrivals) = words.Replay ada.now arrivals.now

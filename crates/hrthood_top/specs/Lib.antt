@@ -4,6 +4,8 @@ pub mod Verbs
 pub mod Messages
 pub mod Tells
 pub mod Checks
+pub mod Taking
+pub mod Analyses
 pub mod Formats
 pub mod Generates
 pub mod Replays

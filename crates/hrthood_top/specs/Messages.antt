@@ -11,8 +11,8 @@ use Rattle.seq_check.specs.declared.fault.BodyFault.{BodyFault}
 use Rattle.seq_check.specs.declared.fault.BodyFault.TheVariants as body
 use Rattle.ada_rules.specs.declared.verdict.AdaRule.{AdaRule}
 use Rattle.ada_rules.specs.declared.verdict.AdaRule.TheVariants as rules
-use Rattle.ods_rules.specs.declared.broken.Broken.{Broken}
-use Rattle.ods_rules.specs.declared.broken.Broken.TheVariants as rule
+use Rattle.ods_index.specs.declared.broken.Broken.{Broken}
+use Rattle.ods_index.specs.declared.broken.Broken.TheVariants as rule
 use Rattle.rt_response.specs.declared.rows.Limit.{Limit}
 use Rattle.rt_response.specs.declared.rows.Limit.TheVariants.{Deadline, Separation}
 use Rattle.rt_response.specs.declared.rows.Miss as rows

@@ -1,11 +1,12 @@
 -- The verb `replay`: the trace of an Ada text under arrivals.
 -- No condition is put on where the Ada text came from.
-use Rattle.std.specs.Prelude.{◌≡◌, ℕ, List, [], ◌∷◌, codes, Result, Ok, Err, ⊤}
+use Rattle.std.specs.Prelude.{◌≡◌, ℕ, List, [], ◌∷◌, codes, Result, Ok, Err, Some, ⊤}
+use Rattle.seq_tree.specs.Names.{Name}
 use Rattle.seq_tree.specs.declared.text_fault.TextFault.{TextFault}
 use Rattle.seq_tree.specs.declared.text_fault.TextFault.TheVariants as fault
 use Rattle.ada_tree.specs.Programs.{Program}
 use Rattle.ada_tree.specs.Reading.{Accepts}
-use Rattle.ada_tree.specs.InUse.{IsSequentialProgram}
+use Rattle.ada_tree.specs.InUse.{IsSequentialProgram, first_unbuilt}
 use Rattle.ada_tree.specs.Trees.{program_of}
 use Rattle.ada_tree.specs.declared.program.AdaProgram.{AdaProgram}
 use Rattle.ada_read.specs.Answers.{Faults, Breaks}
@@ -22,7 +23,7 @@ use Rattle.hrthood_top.specs.declared.replay.ReplayRefusal.{ReplayRefusal}
 use Rattle.hrthood_top.specs.declared.replay.ReplayRefusal.TheVariants as refusal
 use Rattle.hrthood_top.specs.declared.halt.Halt.{Halt}
 use Rattle.hrthood_top.specs.declared.halt.Halt.TheVariants as halt
-use Rattle.hrthood_top.specs.Messages.{text_line, unit_line}
+use Rattle.hrthood_top.specs.Messages.{name_line, text_line, unit_line}
 use Rattle.hrthood_top.specs.Verbs.{Verb}
 
 -- a text is the trace of a program under arrivals: the lines of what the program means
@@ -38,7 +39,7 @@ pub record Replays (ada arrivals written : List ℕ) : Type 0 where
   pub under : arrived.Arrivals
   pub accepts : Accepts ada program
   pub sequential : IsSequentialProgram program
-  pub alone : (p : Program) → IsSequentialProgram p → Accepts ada p → p ≡ program
+  pub alone : (p : Program) → Accepts ada p → p ≡ program
   pub arrives : Arrives horizon_limit arrivals program under
   pub horizon_alone : AreUsableArrivals under
   pub alone_under : (a : arrived.Arrivals) → AreUsableArrivals a → Arrives horizon_limit arrivals program a → a ≡ under
@@ -60,25 +61,34 @@ abbrev pub IsNoArrivals : List ℕ → Program → TextFault → Type 0
 IsNoArrivals bytes p (fault.Syntax place) = arriving.Refuses bytes p (fault.Syntax place) × StopsAt bytes p place
 IsNoArrivals bytes p found = arriving.Refuses bytes p found
 
--- an Ada text is one of a program that is read, and of no other, and the arrivals text is none for it
+-- an Ada text is one of a program, and of no other, of which this unit is the first that is not run so far
+pub record IsUnbuilt (ada : List ℕ) (unit : Name) : Type 0 where
+  pub program : Program
+  pub accepts : Accepts ada program
+  pub alone : (p : Program) → Accepts ada p → p ≡ program
+  pub first : first_unbuilt program.units ≡ Some unit
+
+-- an Ada text is one of a program that is run, and of no other, and the arrivals text is none for it
 pub record IsAdaAlone (ada arrivals : List ℕ) (found : TextFault) : Type 0 where
   pub program : Program
   pub accepts : Accepts ada program
   pub sequential : IsSequentialProgram program
-  pub alone : (p : Program) → IsSequentialProgram p → Accepts ada p → p ≡ program
+  pub alone : (p : Program) → Accepts ada p → p ≡ program
   pub none : IsNoArrivals arrivals program found
 
--- why two texts are not replayed: the Ada text is no text of a program that is read, or its program breaks a rule, or the arrivals text
--- is none for its program
+-- why two texts are not replayed: the Ada text is no text of a program, or its program breaks a rule, or it has a unit that is not run
+-- so far, or the arrivals text is none for it
 abbrev pub RefusesReplay : List ℕ → List ℕ → ReplayRefusal → Type 0
 RefusesReplay ada arrivals (refusal.Text found) = Faults ada found
 RefusesReplay ada arrivals (refusal.Unit rule unit) = Breaks ada rule unit
+RefusesReplay ada arrivals (refusal.NotBuilt unit) = IsUnbuilt ada unit
 RefusesReplay ada arrivals (refusal.Arrivals found) = IsAdaAlone ada arrivals found
 
 -- the line that tells it; where an arrivals text is none is not told
 abbrev pub replay_line : ReplayRefusal → List ℕ
 replay_line (refusal.Text found) = text_line Ada found
 replay_line (refusal.Unit rule unit) = unit_line rule unit
+replay_line (refusal.NotBuilt unit) = name_line (codes "refused N1 ") unit
 replay_line (refusal.Arrivals found) = codes "refused S1 arrivals\n"
 
 -- the program of an Ada text, or why there is none
@@ -86,6 +96,7 @@ abbrev pub RunsAda : Result AdaProgram (Halt ReplayRefusal) → List ℕ → Typ
 RunsAda (Ok p) ada = Accepts ada (program_of p) × IsSequentialProgram (program_of p)
 RunsAda (Err (halt.Refused (refusal.Text found))) ada = Faults ada found
 RunsAda (Err (halt.Refused (refusal.Unit rule unit))) ada = Breaks ada rule unit
+RunsAda (Err (halt.Refused (refusal.NotBuilt unit))) ada = IsUnbuilt ada unit
 RunsAda (Err (halt.Refused (refusal.Arrivals found))) ada = ⊥
 RunsAda (Err halt.NoMemory) ada = ⊤
 

@@ -7,6 +7,8 @@ use Rattle.std.specs.Str.{bytes_eq}
 pub data Command : Type 0 where
   -- check the rules of a design
   Check : (design : List ℕ) → Command
+  -- compute the bounds and the ceilings of a design
+  Analyse : (design : List ℕ) → Command
   -- print a design again
   Format : (design : List ℕ) → Command
   -- make the Ada text of a design
@@ -23,8 +25,9 @@ is_file_name (c ∷ cs) = not (c == 45)
 abbrev pub design_command : List ℕ → List ℕ → Option Command
 design_command verb design =
     if bytes_eq verb (codes "check") then Some (Check design)
+    else (if bytes_eq verb (codes "analyse") then Some (Analyse design)
     else (if bytes_eq verb (codes "format") then Some (Format design)
-    else (if bytes_eq verb (codes "generate") then Some (Generate design) else None))
+    else (if bytes_eq verb (codes "generate") then Some (Generate design) else None)))
 
 -- the command that these words are
 abbrev pub command_of : List (List ℕ) → Option Command

@@ -13,11 +13,11 @@ use crate::finish::{finish, tell_stop};
 use crate::halt::Halt;
 use crate::line::Line;
 use crate::status::Status;
+use crate::take::take;
 use crate::text_lines::put_fault;
 use hood_io::{Failed, Shelf, Sink};
 use itoa::Buffer;
-use ods_read::read_design;
-use ods_rules::{Broken, Checked, check as check_rules, count};
+use ods_rules::{Broken, Checked, count};
 use seq_tree::{NoMemory, TextFault};
 use std::alloc::Global;
 
@@ -62,23 +62,11 @@ fn taken_line(alloc: Global, checked: &Checked) -> Result<Vec<u8>, NoMemory>
 }
 
 /// What is told of the text of a design.
+#[tactic(auto, using(crate::proofs::CheckLaws::check_laws))]
 fn check_text(alloc: Global, design: &[u8]) -> Result<Vec<u8>, Halt<CheckRefusal>>
     ensures { IsMade (λ v. v.items) (IsTaken design.now) (RefusesCheck design.now) result }
 {
-    let read = match read_design(alloc, design) {
-        Ok(read) => read,
-        Err(TextFault::NoMemory) => return Err(Halt::NoMemory),
-        Err(fault) => return Err(Halt::Refused(CheckRefusal::Text(fault))),
-    };
-    let checked = match check_rules(alloc, read) {
-        Ok(checked) => checked,
-        Err(broken) => {
-            if broken.is_memory() {
-                return Err(Halt::NoMemory);
-            }
-            return Err(Halt::Refused(CheckRefusal::Rule(broken)));
-        }
-    };
+    let checked = take(alloc, design)?;
     match taken_line(alloc, &checked) {
         Ok(line) => Ok(line),
         Err(NoMemory) => Err(Halt::NoMemory),

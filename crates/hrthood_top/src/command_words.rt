@@ -7,6 +7,8 @@ ghost use Rattle.hrthood_top.specs.Commands.{command_tree};
 pub(crate) enum Command<'a> {
     /// Check the rules of a design.
     Check { design: &'a str },
+    /// Compute the bounds and the ceilings of a design.
+    Analyse { design: &'a str },
     /// Print a design again.
     Format { design: &'a str },
     /// Make the Ada text of a design.
@@ -32,6 +34,8 @@ fn design_command<'a>(verb: &str, design: &'a str) -> Option<Command<'a>>
 {
     if verb == "check" {
         Some(Command::Check { design })
+    } else if verb == "analyse" {
+        Some(Command::Analyse { design })
     } else if verb == "format" {
         Some(Command::Format { design })
     } else if verb == "generate" {

@@ -2,7 +2,7 @@ ghost use Rattle.std.specs.Prelude.{◌≡◌};
 ghost use Rattle.hood_io.specs.Causes.{HasCause};
 ghost use Rattle.hood_io.specs.Sinks.{Puts};
 ghost use Rattle.hrthood_top.specs.Messages.{part_text, use_line, count_line, limit_text, rule_line, miss_line};
-ghost use Rattle.ods_rules.specs.declared.broken.Broken.TheVariants.{V09Calls, V10, V13, V14, V15Cost, V16};
+ghost use Rattle.ods_index.specs.declared.broken.Broken.TheVariants.{V09Calls, V10, V13, V14, V15Cost, V16};
 
 use crate::line::{put_each, put_named};
 use crate::text_lines::body_text;

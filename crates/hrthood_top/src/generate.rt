@@ -11,7 +11,7 @@ use crate::fetch::{File, fetch_files};
 use crate::file_kind::FileKind;
 use crate::finish::{finish, tell_stop};
 use crate::halt::Halt;
-use crate::line::{Line, put_named};
+use crate::line::Line;
 use crate::status::Status;
 use crate::text_lines::put_fault;
 use bridge::{Delivery, Refusal, deliver};
@@ -28,8 +28,6 @@ pub enum GenerateRefusal {
     Text(TextFault),
     /// The design breaks this rule; never for want of memory.
     Rule(Broken),
-    /// The design meets the rules, and no text is made of such designs so far: its root.
-    NotBuilt(Name),
     /// A thread has a value over its limit, so that no bounds can be given.
     Miss {
         /// The thread.
@@ -51,7 +49,6 @@ impl Line for GenerateRefusal {
         match self {
             GenerateRefusal::Text(fault) => put_fault(err, FileKind::Design, *fault),
             GenerateRefusal::Rule(broken) => put_rule(err, broken),
-            GenerateRefusal::NotBuilt(object) => put_named(err, b"refused N1 ", object, b"\n"),
             GenerateRefusal::Miss { thread, miss } => put_miss(err, thread, miss),
             GenerateRefusal::Long => put_all(err, b"refused S3 text\n"),
         }
@@ -69,7 +66,6 @@ fn generate_text(alloc: Global, design: &[u8]) -> Result<Vec<u8>, Halt<GenerateR
         }
         Err(Refusal::Text(fault)) => Err(Halt::Refused(GenerateRefusal::Text(fault))),
         Err(Refusal::Rule(broken)) => Err(Halt::Refused(GenerateRefusal::Rule(broken))),
-        Err(Refusal::NotBuilt { object }) => Err(Halt::Refused(GenerateRefusal::NotBuilt(object))),
         Err(Refusal::Miss { thread, miss }) => {
             Err(Halt::Refused(GenerateRefusal::Miss { thread, miss }))
         }

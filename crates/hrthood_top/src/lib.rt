@@ -7,6 +7,7 @@
 #![tactic(auto)]
 
 mod ada_lines;
+mod analyse;
 mod check;
 mod command_words;
 mod design_lines;
@@ -20,13 +21,16 @@ mod line;
 mod message;
 mod refusals;
 mod replay;
+mod report;
 mod status;
+mod take;
 mod text_lines;
 mod texts;
 mod toolset;
 mod trace;
 mod two_runs;
 
+pub use analyse::AnalyseRefusal;
 pub use check::CheckRefusal;
 pub use file_kind::FileKind;
 pub use format::FormatRefusal;

@@ -1,10 +1,10 @@
-ghost use Rattle.std.specs.Prelude.{◌≡◌, List, ℕ, IfOk};
+ghost use Rattle.std.specs.Prelude.{◌≡◌, List, ℕ, IfOk, map};
 ghost use Rattle.hood_io.specs.Causes.{HasCause};
 ghost use Rattle.hood_io.specs.Sinks.{Puts};
 ghost use Rattle.ada_tree.specs.Programs.{Program};
 ghost use Rattle.ada_tree.specs.Reading.{Accepts};
-ghost use Rattle.ada_tree.specs.InUse.{IsSequentialProgram};
-ghost use Rattle.ada_tree.specs.Trees.{program_of};
+ghost use Rattle.ada_tree.specs.InUse.{first_unbuilt, is_sequential};
+ghost use Rattle.ada_tree.specs.Trees.{program_of, unit_of};
 ghost use Rattle.hrthood_top.specs.Ends.{EndsVerb, outside};
 ghost use Rattle.hrthood_top.specs.Replays.{replays, replay_line, Replays, RefusesReplay, RunsAda};
 ghost use Rattle.hrthood_top.specs.Writing.{IsMade};
@@ -14,13 +14,13 @@ use crate::fetch::{File, fetch_files};
 use crate::file_kind::FileKind;
 use crate::finish::{finish, tell_stop};
 use crate::halt::Halt;
-use crate::line::Line;
+use crate::line::{Line, put_named};
 use crate::status::Status;
 use crate::text_lines::put_fault;
 use crate::trace::trace_text;
 use ada_read::{AdaFault, read_ada};
 use ada_rules::AdaRule;
-use ada_tree::AdaProgram;
+use ada_tree::{AdaProgram, Form, Unit};
 use arrivals_read::{ArrivalFault, read_arrivals};
 use hood_io::{Failed, Shelf, Sink, put_all};
 use seq_tree::{Name, NoMemory, TextFault};
@@ -38,6 +38,11 @@ pub enum ReplayRefusal {
         /// The unit.
         unit: Option<Name>,
     },
+    /// The program is read, and keeps the rules, but this first unit is of a form that is not run yet.
+    NotBuilt {
+        /// The unit.
+        unit: Name,
+    },
     /// The arrivals text is none for the program, for this reason and at this place.
     Arrivals(TextFault),
 }
@@ -52,18 +57,47 @@ impl Line for ReplayRefusal {
         match self {
             ReplayRefusal::Text(fault) => put_fault(err, FileKind::Ada, *fault),
             ReplayRefusal::Unit { rule, unit } => put_unit(err, *rule, unit),
+            ReplayRefusal::NotBuilt { unit } => put_named(err, b"refused N1 ", unit, b"\n"),
             ReplayRefusal::Arrivals(_) => put_all(err, b"refused S1 arrivals\n"),
         }
     }
 }
 
-/// The program of an Ada text.
+/// Whether a unit is of a form that is run so far.
+fn is_built(unit: &Unit) -> bool
+    ensures { result ≡ is_sequential (unit_of unit.now).form }
+{
+    match &unit.form {
+        Form::Passive { .. } => true,
+        Form::Shared { .. } => false,
+        Form::Cyclic { .. } => true,
+        Form::Sporadic { .. } => false,
+    }
+}
+
+/// The name of the first unit that is of a form that is not run so far.
+fn first_unbuilt(alloc: Global, units: &[Unit]) -> Result<Option<Name>, NoMemory>
+    ensures { IfOk result (λ name. name ≡ first_unbuilt (map unit_of units.now)) }
+{
+    'units: for unit in units {
+        if !is_built(unit) {
+            return Ok(Some(unit.name.copy(alloc)?));
+        }
+    }
+    Ok(None)
+}
+
+/// The program of an Ada text, where it is run.
 fn run_program(alloc: Global, ada: &[u8]) -> Result<AdaProgram, Halt<ReplayRefusal>>
     ensures says { RunsAda result ada.now }
-    ensures only { (p : Program) → IsSequentialProgram p → Accepts ada.now p → IfOk result (λ q. program_of q ≡ p) }
+    ensures only { (p : Program) → Accepts ada.now p → IfOk result (λ q. program_of q ≡ p) }
 {
     match read_ada(alloc, ada) {
-        Ok(program) => Ok(program),
+        Ok(program) => match first_unbuilt(alloc, &program.units) {
+            Ok(None) => Ok(program),
+            Ok(Some(unit)) => Err(Halt::Refused(ReplayRefusal::NotBuilt { unit })),
+            Err(NoMemory) => Err(Halt::NoMemory),
+        },
         Err(AdaFault::Text(fault)) => Err(Halt::Refused(ReplayRefusal::Text(fault))),
         Err(AdaFault::Rule { rule, unit }) => {
             Err(Halt::Refused(ReplayRefusal::Unit { rule, unit }))

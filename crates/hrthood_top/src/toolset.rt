@@ -3,6 +3,7 @@ ghost use Rattle.hrthood_top.specs.Words.{command_of};
 ghost use Rattle.hrthood_top.specs.Commands.{command_tree};
 ghost use Rattle.hrthood_top.specs.Ends.{Ends, Completes, outside};
 
+use crate::analyse::analyse;
 use crate::check::check;
 use crate::command_words::{Command, read_words};
 use crate::format::format;
@@ -32,6 +33,7 @@ fn run_command<F: Shelf, O: Sink, E: Sink>(
     };
     match command {
         Command::Check { design } => check(alloc, design, shelf, out, err),
+        Command::Analyse { design } => analyse(alloc, design, shelf, out, err),
         Command::Format { design } => format(alloc, design, shelf, out, err),
         Command::Generate { design } => generate(alloc, design, shelf, out, err),
         Command::Replay { ada, arrivals } => replay(alloc, ada, arrivals, shelf, out, err),

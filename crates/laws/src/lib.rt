@@ -1,16 +1,11 @@
-//! The laws that carry the end-to-end guarantee from the bytes of a design to its text, over definitions alone: no code runs here.
+//! The laws of two runs, over definitions alone: one that makes the text of a design, and one that replays that text and never sees the
+//! design. No code runs here.
 //!
-//! They stand on `right_runs`, which says of every design that the runs of its program are right, and on the laws of the reader and the
-//! printer of Ada texts. Each is the contract of a public function with an empty body. `generated_text_is_guaranteed` carries the
-//! promise for the designs whose text is built so far, those of one cyclic object whose thread has `null;` and `work (n);` alone;
-//! `replay_is_right` says of every design what a replay tells of a text that is accepted as its program; `cost_is_bound` says which
-//! bound fits.
+//! They stand on `right_runs`, which says of every design that the runs of its program are right, on `design_texts`, which says that the
+//! text of every design is accepted as its program, and on the reader of Ada texts, by which a text is accepted as one program alone. Each is
+//! the contract of a public function with an empty body. `generated_text_replays_right` carries the promise.
 #![tactic(auto)]
 
-mod bounds;
 mod replays;
-mod texts;
 
-pub use bounds::cost_is_bound;
-pub use replays::{program_is_usable, replay_is_right};
-pub use texts::generated_text_is_guaranteed;
+pub use replays::{generated_text_replays_right, replay_is_right};

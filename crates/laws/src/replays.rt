@@ -1,14 +1,13 @@
-ghost use Rattle.std.specs.Prelude.{ℕ, List};
+ghost use Rattle.std.specs.Prelude.{ℕ, ◌≤◌, List, length};
 ghost use Rattle.seq_tree.specs.Proper.{within_limits};
 ghost use Rattle.ods_tree.specs.Designs.{Design};
-ghost use Rattle.ods_tree.specs.InUse.{IsUsableDesign};
 ghost use Rattle.ods_tree.specs.Proper.{IsProperDesign};
+ghost use Rattle.ods_tree.specs.Reading.{Reads};
 ghost use Rattle.ods_tree.specs.Ticks.{in_ticks};
 ghost use Rattle.ods_tree.specs.Words.{is_design_name};
 ghost use Rattle.ods_tree.specs.Flattening.{flat};
 ghost use Rattle.design_rules.specs.Rules.{MeetsRules};
 ghost use Rattle.ada_tree.specs.Programs.{Program};
-ghost use Rattle.ada_tree.specs.InUse.{IsSequentialProgram, IsUsableProgram};
 ghost use Rattle.ada_tree.specs.Reading.{Accepts};
 ghost use Rattle.arrivals_tree.specs.Arriving.{Arrivals};
 ghost use Rattle.arrivals_tree.specs.Acceptance.{IsAccepted};
@@ -21,22 +20,28 @@ ghost use Rattle.rt_response.specs.declared.rows.Bound.{Bound};
 ghost use Rattle.analysis.specs.Tables.{table};
 ghost use Rattle.rt_response.specs.Response.{Fits};
 ghost use Rattle.guarantee.specs.Arrivals.{named_arrivals};
-ghost use Rattle.guarantee.specs.Programs.{program, responses};
-
-/// The program of a design of what is built is one of what is built.
-pub fn program_is_usable()
-    ensures { (x : Design) → IsUsableDesign x → IsUsableProgram (program x) }
-{}
+ghost use Rattle.guarantee.specs.Programs.{program, responses, text};
 
 /// What a replay tells of a text that is accepted as the program of a design is allowed by the design and within its bounds.
 ///
-/// The design is one that a text can have, it meets the rules, and `v` fits its table, in ticks. The text is accepted as the program `p`
-/// of what is read, and so is the design's own program; the arrivals are accepted for it, and `told` is what it means under them. So the
-/// promise holds over two runs: one that generates the text, and one that replays it and never sees the design.
+/// The design is one that a text can have, it meets the rules, and `v` fits its table, in ticks. The text is accepted as the program `p`,
+/// and so it is as the design's own program; the arrivals are accepted for it, and `told` is what it means under them. `limit` is the
+/// farthest horizon allowed, in ticks.
 pub fn replay_is_right()
-    ensures { (limit : ℕ) (x : Design) (text : List ℕ) (v : List Bound) (p : Program) (r : Arrivals) (told : List Event)
+    ensures { (limit : ℕ) (x : Design) (written : List ℕ) (v : List Bound) (p : Program) (r : Arrivals) (told : List Event)
         → IsProperDesign (within_limits is_design_name) x → MeetsRules x → Fits (table (flat (in_ticks x))).rows v
-        → IsSequentialProgram (program (in_ticks x)) → Accepts text (program (in_ticks x)) → IsSequentialProgram p → Accepts text p
-        → IsAccepted limit p r → Meaning p r told
+        → Accepts written (program (in_ticks x)) → Accepts written p → IsAccepted limit p r → Meaning p r told
+        → Allows (in_ticks x) (named_arrivals p r) (named p told) × IsBounded (responses (flat (in_ticks x)) v) r.until (named p told) }
+{}
+
+/// What a replay tells of the text of a design, by whatever program it is accepted as, is allowed by the design and within its bounds.
+///
+/// The design was read from bytes, it meets the rules, and `v` fits its table, in ticks; its text is within the limit of bytes. So the
+/// promise holds over two runs: one that makes the text, and one that replays it and never sees the design. `limit` is the farthest
+/// horizon allowed, in ticks.
+pub fn generated_text_replays_right()
+    ensures { (limit : ℕ) (x : Design) (bytes : List ℕ) (v : List Bound) (p : Program) (r : Arrivals) (told : List Event)
+        → Reads bytes x → MeetsRules x → Fits (table (flat (in_ticks x))).rows v → length (text (in_ticks x) v) ≤ 16777216
+        → Accepts (text (in_ticks x) v) p → IsAccepted limit p r → Meaning p r told
         → Allows (in_ticks x) (named_arrivals p r) (named p told) × IsBounded (responses (flat (in_ticks x)) v) r.until (named p told) }
 {}

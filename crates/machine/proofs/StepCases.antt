@@ -5,7 +5,7 @@ use Rattle.seq_tree.specs.Expressions.{Number}
 use Rattle.seq_tree.specs.Statements.{End}
 use Rattle.seq_tree.specs.declared.tree.Costs.{Costs}
 use Rattle.seq_tree.specs.declared.tree.Mode.TheVariants.{In}
-use Rattle.machine.specs.Systems.{System, Thread, Periodic, Requested, Request}
+use Rattle.machine.specs.Systems.{System, TaskUnit, Periodic, Requested, Request}
 use Rattle.machine.specs.Pieces as piece
 use Rattle.machine.specs.Deeds.{Ask, called, deed}
 use Rattle.machine.specs.States.{State, Task, Waiting, Ready, Asleep, shut, first_task, opening}
@@ -17,7 +17,7 @@ abbrev unit_costs : Costs
 unit_costs = record { assign = 1; test = 1; turn = 1; call = 2; nothing = 1; put = 1; finish = 1 }
 
 -- a sporadic thread with a parameter and a datum
-abbrev thread : Thread
+abbrev thread : TaskUnit
 thread = record {
   unit = 0;
   name = codes "s";

@@ -6,7 +6,7 @@ use Rattle.seq_tree.specs.declared.tree.Costs.{Costs}
 use Rattle.trace_tree.specs.declared.event.Event.{Event}
 use Rattle.trace_tree.specs.declared.event.Event.TheVariants as event
 use Rattle.seq_tree.specs.Lists.{change}
-use Rattle.machine.specs.Systems.{System, Timing, Periodic, Requested}
+use Rattle.machine.specs.Systems.{System, ReleasePattern, Periodic, Requested}
 use Rattle.machine.specs.Pieces.{Piece, Finishing, pieces, ticks_of, works_of}
 use Rattle.machine.specs.States.{State, Task, Readiness, Asleep, Waiting, Ready, shut}
 use Rattle.machine.specs.Dispatch.{put_last}
@@ -30,12 +30,12 @@ going costs vars (p ∷ ps) t = record t {
 }
 
 -- the next nominal time
-abbrev pub next_time : Timing → ℕ → ℕ
+abbrev pub next_time : ReleasePattern → ℕ → ℕ
 next_time (Periodic offset period) next = next + period
 next_time (Requested op ceiling separation jitter external) next = next
 
 -- the parameter of a request
-abbrev pub parameter : Timing → Option ℕ → Variables
+abbrev pub parameter : ReleasePattern → Option ℕ → Variables
 parameter (Periodic offset period) value = []
 parameter (Requested op ceiling separation jitter external) value = entered op.params (option_to_list value)
 

@@ -3,7 +3,7 @@
 use Rattle.std.specs.Prelude.{ℕ, Bool, false, List, [], map, length, replicate, Option, None, ℤ, pos}
 use Rattle.seq_tree.specs.Variables.{Variables, written}
 use Rattle.arrivals_tree.specs.declared.arrivals.Arrival.{Arrival}
-use Rattle.machine.specs.Systems.{System, Thread, Timing, Periodic, Requested}
+use Rattle.machine.specs.Systems.{System, TaskUnit, ReleasePattern, Periodic, Requested}
 use Rattle.machine.specs.Pieces.{Piece}
 
 -- the parts of an instant, in order
@@ -17,13 +17,13 @@ pub data Readiness : Type 0 where
   Ready : Readiness
 
 -- what a task is inside: a protected object, or the control structure of a task
-pub data Section : Type 0 where
-  Object : (object : ℕ) → Section
-  Control : (task : ℕ) → Section
+pub data Resource : Type 0 where
+  Object : (object : ℕ) → Resource
+  Control : (task : ℕ) → Resource
 
 -- a section that a task is inside, and its active priority before
 pub record Held : Type 0 where
-  pub section : Section
+  pub section : Resource
   pub before : ℕ
 
 -- the control structure of a sporadic task: the value kept, and whether it is open
@@ -34,7 +34,7 @@ pub record Gate : Type 0 where
 -- a task
 pub record Task : Type 0 where
   -- as it is written, with its base priority
-  pub thread : Thread
+  pub thread : TaskUnit
   pub readiness : Readiness
   -- the active priority
   pub active : ℕ
@@ -72,17 +72,17 @@ abbrev pub shut : Gate
 shut = record { value = None; open' = false }
 
 -- whether a task sleeps or waits first
-abbrev pub first_wait : Timing → Readiness
+abbrev pub first_wait : ReleasePattern → Readiness
 first_wait (Periodic offset period) = Asleep offset
 first_wait (Requested op ceiling separation jitter external) = Waiting
 
 -- the first nominal time
-abbrev pub first_time : Timing → ℕ
+abbrev pub first_time : ReleasePattern → ℕ
 first_time (Periodic offset period) = offset
 first_time (Requested op ceiling separation jitter external) = 0
 
 -- a task at the opening
-abbrev pub first_task : Thread → Task
+abbrev pub first_task : TaskUnit → Task
 first_task t = record {
   thread = t;
   readiness = first_wait t.timing;

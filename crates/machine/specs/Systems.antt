@@ -12,22 +12,22 @@ use Rattle.arrivals_tree.specs.Arriving.{Arrivals, durations}
 use Rattle.seq_tree.specs.Lists.{first_where}
 
 -- when a task is released: at its own times, or at requests of an operation
-pub data Timing : Type 0 where
-  Periodic : (offset period : ℕ) → Timing
-  Requested : (op : Signature) (ceiling separation jitter : ℕ) (external : Bool) → Timing
+pub data ReleasePattern : Type 0 where
+  Periodic : (offset period : ℕ) → ReleasePattern
+  Requested : (op : Signature) (ceiling separation jitter : ℕ) (external : Bool) → ReleasePattern
 
 -- a task as it is written, and how long its `work` statements take
-pub record Thread : Type 0 where
+pub record TaskUnit : Type 0 where
   pub unit : ℕ
   pub name : Name
   pub priority : ℕ
-  pub timing : Timing
+  pub timing : ReleasePattern
   pub vars : List Datum
   pub block : Statements
   pub durations : List ℕ
 
 -- a protected object as it is written
-pub record Guarded : Type 0 where
+pub record ProtectedUnit : Type 0 where
   pub unit : ℕ
   pub name : Name
   pub ceiling : ℕ
@@ -35,7 +35,7 @@ pub record Guarded : Type 0 where
   pub ops : List Operation
 
 -- a passive unit as it is written
-pub record Library : Type 0 where
+pub record PassiveUnit : Type 0 where
   pub unit : ℕ
   pub name : Name
   pub ops : List Operation
@@ -44,26 +44,26 @@ pub record Library : Type 0 where
 pub record System : Type 0 where
   pub until : ℕ
   pub costs : Costs
-  pub libraries : List Library
-  pub objects : List Guarded
-  pub threads : List Thread
+  pub libraries : List PassiveUnit
+  pub objects : List ProtectedUnit
+  pub threads : List TaskUnit
 
 -- a passive unit
-abbrev pub library_by : ℕ → Name → Form → Option Library
+abbrev pub library_by : ℕ → Name → Form → Option PassiveUnit
 library_by unit name (Passive ops) = Some (record { unit = unit; name = name; ops = ops })
 library_by unit name (Shared ceiling vars ops) = None
 library_by unit name (Cyclic priority offset period vars block) = None
 library_by unit name (Sporadic priority ceiling op separation jitter external vars block) = None
 
 -- a protected object
-abbrev pub object_by : ℕ → Name → Form → Option Guarded
+abbrev pub object_by : ℕ → Name → Form → Option ProtectedUnit
 object_by unit name (Passive ops) = None
 object_by unit name (Shared ceiling vars ops) = Some (record { unit = unit; name = name; ceiling = ceiling; vars = vars; ops = ops })
 object_by unit name (Cyclic priority offset period vars block) = None
 object_by unit name (Sporadic priority ceiling op separation jitter external vars block) = None
 
 -- a task
-abbrev pub thread_by : List ℕ → ℕ → Name → Form → Option Thread
+abbrev pub thread_by : List ℕ → ℕ → Name → Form → Option TaskUnit
 thread_by durations' unit name (Passive ops) = None
 thread_by durations' unit name (Shared ceiling vars ops) = None
 thread_by durations' unit name (Cyclic priority offset period vars block) = Some (record {
@@ -96,51 +96,51 @@ system p a = record {
 }
 
 -- what a call leads to
-pub data Callee : Type 0 where
+pub data CallTarget : Type 0 where
   -- an operation of a passive unit
-  Plain : Operation → Callee
+  Plain : Operation → CallTarget
   -- an operation of a protected object, both by their places
-  Protected : (object op : ℕ) → Guarded → Operation → Callee
+  Protected : (object op : ℕ) → ProtectedUnit → Operation → CallTarget
   -- the request of a task, by the task's place among the tasks
-  Request : (task : ℕ) → Callee
-  Unknown : Callee
+  Request : (task : ℕ) → CallTarget
+  Unknown : CallTarget
 
 -- the operation of this name, with its place
 abbrev pub op_named : Name → List Operation → Option (ℕ × Operation)
 op_named name = first_where (λ o. same_name o.sig.name name)
 
 -- a call of a passive operation
-abbrev pub plain_by : Option (ℕ × Operation) → Callee
+abbrev pub plain_by : Option (ℕ × Operation) → CallTarget
 plain_by None = Unknown
 plain_by (Some o) = Plain o.1
 
 -- a call of a protected operation
-abbrev pub protected_by : ℕ × Guarded → Option (ℕ × Operation) → Callee
+abbrev pub protected_by : ℕ × ProtectedUnit → Option (ℕ × Operation) → CallTarget
 protected_by object None = Unknown
 protected_by object (Some o) = Protected object.0 o.0 object.1 o.1
 
 -- a request, where the task is released by requests of this operation
-abbrev pub request_if : Name → ℕ → Timing → Callee
+abbrev pub request_if : Name → ℕ → ReleasePattern → CallTarget
 request_if op task (Periodic offset period) = Unknown
 request_if op task (Requested sig ceiling separation jitter external) = if same_name sig.name op then Request task else Unknown
 
 -- a request of a task
-abbrev pub request_by : Name → Option (ℕ × Thread) → Callee
+abbrev pub request_by : Name → Option (ℕ × TaskUnit) → CallTarget
 request_by op None = Unknown
 request_by op (Some t) = request_if op t.0 t.1.timing
 
 -- a call of a protected object, or what else it may be
-abbrev pub object_or : Name → Option (ℕ × Guarded) → Callee → Callee
+abbrev pub object_or : Name → Option (ℕ × ProtectedUnit) → CallTarget → CallTarget
 object_or op None others = others
 object_or op (Some o) others = protected_by o (op_named op o.1.ops)
 
 -- a call of a passive unit, or what else it may be
-abbrev pub library_or : Name → Option (ℕ × Library) → Callee → Callee
+abbrev pub library_or : Name → Option (ℕ × PassiveUnit) → CallTarget → CallTarget
 library_or op None others = others
 library_or op (Some l) others = plain_by (op_named op l.1.ops)
 
 -- what a call of this operation of this unit leads to
-abbrev pub callee : System → Name → Name → Callee
+abbrev pub callee : System → Name → Name → CallTarget
 callee y unit op =
     library_or op (first_where (λ l. same_name l.name unit) y.libraries)
     (object_or op (first_where (λ o. same_name o.name unit) y.objects)

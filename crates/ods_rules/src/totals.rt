@@ -4,8 +4,8 @@ ghost use Rattle.design_rules.specs.Rings.{thread_objects};
 ghost use Rattle.ods_rules.specs.Checks.{checked_design};
 
 use crate::checked::Checked;
-use crate::starts::threads_of;
-use crate::walk::walk;
+use ods_index::objects_of;
+use ods_starts::threads_of;
 use seq_tree::NoMemory;
 use std::alloc::Global;
 
@@ -13,7 +13,7 @@ use std::alloc::Global;
 pub fn count(alloc: Global, checked: &Checked) -> Result<(usize, usize), NoMemory>
     ensures { IfOk result (λ r. (r.0 ≡ length (objects (checked_design checked.now))) × (r.1 ≡ length (thread_objects (checked_design checked.now)))) }
 {
-    let objects = walk(alloc, checked.design())?;
+    let objects = objects_of(alloc, checked.design())?;
     let threads = threads_of(alloc, objects.as_slice())?;
     Ok((objects.len(), threads.len()))
 }

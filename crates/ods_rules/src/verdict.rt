@@ -3,31 +3,18 @@ ghost use Rattle.ods_tree.specs.Trees.{design_of};
 ghost use Rattle.ods_tree.specs.Walk.{objects};
 ghost use Rattle.design_rules.specs.Rules.{Offends, Version};
 ghost use Rattle.ods_rules.specs.Checks.{Says};
-ghost use Rattle.ods_rules.specs.Indexing.{IsIndex};
-ghost use Rattle.ods_rules.specs.Judging.{Judges, Passes, PassesBefore};
+ghost use Rattle.ods_index.specs.Indexing.{IsIndex};
+ghost use Rattle.ods_index.specs.Judging.{Judges, Passes, PassesBefore};
 ghost use Rattle.ods_rules.specs.Orders.{Verdict, limit, rule_of};
 
-use crate::actives::no_idle_actives;
-use crate::bodies::bad_bodies;
-use crate::broken::Broken;
-use crate::budgets::bad_budgets;
-use crate::call_rings::ringed_op;
 use crate::checked::Checked;
-use crate::clashes::clashes;
-use crate::fittings::bad_fittings;
-use crate::includes::includes_fit;
-use crate::index::Index;
-use crate::kept::kept_names;
-use crate::numbers::numbers_fit;
-use crate::object_rings::ringed_object;
-use crate::operations::operations_fit;
-use crate::separations::bad_separations;
-use crate::sizes::bad_sizes;
-use crate::sources::bad_sources;
-use crate::start_rings::ringed_thread;
-use crate::ticks::set_ticks;
-use crate::uses::{absent, forbidden, strangers};
-use crate::versions::versions_fit;
+use ods_costs::{bad_budgets, bad_sizes};
+use ods_index::{Broken, Index};
+use ods_names::{
+    absent, bad_bodies, bad_fittings, forbidden, includes_fit, kept_names, no_clashes,
+    no_idle_actives, numbers_fit, operations_fit, set_ticks, strangers, versions_fit,
+};
+use ods_starts::{bad_separations, bad_sources, ringed_object, ringed_op, ringed_thread};
 use ods_tree::Design;
 use std::alloc::Global;
 
@@ -89,7 +76,7 @@ fn judge(alloc: Global, index: &Index<'_>, rule: Rule) -> Result<(), Broken>
     ensures { Judges (Offends (design_of index.entry.now.design.now) (design_of index.entry.now.design.now) (rule_of rule)) result }
 {
     match rule {
-        Rule::Clash => clashes(alloc, index),
+        Rule::Clash => no_clashes(alloc, index),
         Rule::KeptName => kept_names(alloc, index),
         Rule::Include => includes_fit(alloc, index),
         Rule::Operation => operations_fit(alloc, index),

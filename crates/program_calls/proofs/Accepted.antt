@@ -12,7 +12,7 @@ use Rattle.ada_tree.specs.Rules.{Externals, At, MeetsRules}
 use Rattle.arrivals_tree.specs.declared.arrivals.Arrival.{Arrival}
 use Rattle.arrivals_tree.specs.Arriving.{Arrivals, Durations}
 use Rattle.arrivals_tree.specs.Acceptance.{Unknown, Unfit, Far, Falling, has_nothing, durations_fault, works_fault, request_fault_by, request_fault_at, item_fault, requests_fault, last_time, IsAccepted}
-use Rattle.machine.specs.Systems.{System, Thread, Timing, Periodic, Requested, Request, system, callee}
+use Rattle.machine.specs.Systems.{System, TaskUnit, ReleasePattern, Periodic, Requested, Request, system, callee}
 use Rattle.program_calls.proofs.Facts.{or_else-none, not-fault, no-fault, same-is}
 use Rattle.program_calls.proofs.Lists.{each-append, each-to}
 use Rattle.program_calls.proofs.Systems.{thread_form, IsTaskOf, thread-at, IsAskedBy, LeadsTo, LeadsToTask, leads-to}
@@ -58,16 +58,16 @@ pub all-for : (limit : ℕ) (p : Program) (a : Arrivals) → IsAccepted limit p 
 all-for limit p a accepted = requests-for p [] a.items (no-faults limit p a accepted).1
 
 -- a task that takes no requests from outside
-abbrev pub IsInside : Timing → Type 0
+abbrev pub IsInside : ReleasePattern → Type 0
 IsInside (Periodic offset period) = ⊤
 IsInside (Requested op ceiling separation jitter external) = external ≡ false
 
-inside-form : (t : Thread) (timing : Timing) (form : Form) → thread_form t timing form → IsInside timing → IsExternal form → ⊥
+inside-form : (t : TaskUnit) (timing : ReleasePattern) (form : Form) → thread_form t timing form → IsInside timing → IsExternal form → ⊥
 inside-form t (Periodic offset period) form is inside external = subst IsExternal is external
 inside-form t (Requested op ceiling separation jitter external') form is inside external = true≢false (sym (subst IsExternal is external) ∙ inside)
 
 -- arrivals are for other tasks
-pub elsewhere : (limit : ℕ) (p : Program) (a : Arrivals) → IsAccepted limit p a → (k : ℕ) (t : Thread) → slice_get (system p a).threads k ≡ Some t → IsInside t.timing
+pub elsewhere : (limit : ℕ) (p : Program) (a : Arrivals) → IsAccepted limit p a → (k : ℕ) (t : TaskUnit) → slice_get (system p a).threads k ≡ Some t → IsInside t.timing
     → Each (λ x. t.unit ≡ x.task → ⊥) a.items
 elsewhere limit p a accepted k t at inside = each-to (IsFor p) (λ x. t.unit ≡ x.task → ⊥) a.items (λ x f same. no x f same (thread-at p a k t at)) (all-for limit p a accepted)
   where
@@ -77,7 +77,7 @@ elsewhere limit p a accepted k t at inside = each-to (IsFor p) (λ x. t.unit ≡
         inside-form t t.timing u.form is.form inside (subst (λ z. IsExternal z.form) one f.external)
 
 -- a task that some task can request takes no requests from outside
-pub requested-inside : (p : Program) (a : Arrivals) → MeetsRules p → (unit op : Name) (j : ℕ) (t : Thread) → is_requested p (record { object = unit; op = op }) ≡ true
+pub requested-inside : (p : Program) (a : Arrivals) → MeetsRules p → (unit op : Name) (j : ℕ) (t : TaskUnit) → is_requested p (record { object = unit; op = op }) ≡ true
     → callee (system p a) unit op ≡ Request j → slice_get (system p a).threads j ≡ Some t → IsInside t.timing
 requested-inside p a meets unit op j t requested leads at = by t.timing refl
   where
@@ -96,7 +96,7 @@ requested-inside p a meets unit op j t requested leads at = by t.timing refl
     kept : breaks_external p found.1.name found.1.form ≡ false
     kept = false_from_ne_true (breaks_external p found.1.name found.1.form) (λ breaks. meets Externals (At found.0) (found.1, (found.2).stands, breaks))
 
-    by : (timing : Timing) → t.timing ≡ timing → IsInside timing
+    by : (timing : ReleasePattern) → t.timing ≡ timing → IsInside timing
     by (Periodic offset period) e = tt
     by (Requested sig ceiling separation jitter external) e =
         let form : found.1.form ≡ Sporadic t.priority ceiling sig separation jitter external t.vars t.block = subst (λ x. thread_form t x found.1.form) e (found.2).form in
@@ -135,6 +135,6 @@ own-each (w ∷ work) unit all = by (w.task == unit) (own-each work unit all.1)
     by false rest = rest
 
 -- a task's durations are of a tick at least each
-pub durations-each : (limit : ℕ) (p : Program) (a : Arrivals) → IsAccepted limit p a → (k : ℕ) (t : Thread) → slice_get (system p a).threads k ≡ Some t → Each (λ d. 1 ≤ d) t.durations
+pub durations-each : (limit : ℕ) (p : Program) (a : Arrivals) → IsAccepted limit p a → (k : ℕ) (t : TaskUnit) → slice_get (system p a).threads k ≡ Some t → Each (λ d. 1 ≤ d) t.durations
 durations-each limit p a accepted k t at =
     subst (Each (λ d. 1 ≤ d)) (sym (durations-of p a k t at)) (own-each a.work t.unit (works-each p a.work (no-faults limit p a accepted).0))

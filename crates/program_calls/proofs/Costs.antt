@@ -10,14 +10,14 @@ use Rattle.ods_tree.specs.Services.{Service, Sort}
 use Rattle.ods_tree.specs.Services as sort
 use Rattle.analysis.specs.Execution.{body_cost_by, service_cost, called_cost}
 use Rattle.guarantee.specs.ResponseLaw.{program_services}
-use Rattle.machine.specs.Systems.{Callee, Plain, Protected, Request, Unknown, system, callee}
+use Rattle.machine.specs.Systems.{CallTarget, Plain, Protected, Request, Unknown, system, callee}
 use Rattle.program_calls.specs.CallLaws.{HaveNoRing}
 use Rattle.program_calls.proofs.UnitNames.{AreApart}
 use Rattle.program_calls.proofs.Named.{IsServed, ServedAs, served-as}
 use Rattle.program_calls.proofs.Bodies.{costs-cover}
 
 -- what a call costs covers what it leads to
-abbrev pub PaysCall : Program → OpName → Callee → Type 0
+abbrev pub PaysCall : Program → OpName → CallTarget → Type 0
 PaysCall p c (Plain o) = cost p.costs (called_cost p.costs (program_services p)) o.block ≤ called_cost p.costs (program_services p) c.object c.op
 PaysCall p c (Protected object j g o) = cost p.costs (called_cost p.costs (program_services p)) o.block ≤ called_cost p.costs (program_services p) c.object c.op
 PaysCall p c (Request task) = 2 * p.costs.assign ≤ called_cost p.costs (program_services p) c.object c.op
@@ -35,7 +35,7 @@ module _ (p : Program) (a : Arrivals) (apart : AreApart p.units) (no_ring : Have
           costs-cover ss no_ring p.costs c.object c.op ∙ ap (service_cost p.costs (called_cost p.costs ss)) s.found
           ∙ ap (λ z. body_cost_by p.costs (called_cost p.costs ss) z s.service.op) s.sorts ∙ ap (body_cost_by p.costs (called_cost p.costs ss) x) s.does
 
-      by : (k : Callee) → ServedAs p (system p a) c.object c.op k → PaysCall p c k
+      by : (k : CallTarget) → ServedAs p (system p a) c.object c.op k → PaysCall p c k
       by (Plain o) s = let is = body sort.Plain o s in omega (arith, is)
       by (Protected object j g o) s = let is = body sort.Protected o s.0 in omega (arith, is)
       by (Request task) s =

@@ -6,7 +6,7 @@ use Rattle.trace_tree.specs.declared.event.Event.{Event}
 use Rattle.machine.specs.Systems.{System}
 use Rattle.machine.specs.Pieces.{Piece}
 use Rattle.machine.specs.Deeds.{Act, Silent, Print, Enter, Leave, Ask, Keep, Open, Ended, Finish}
-use Rattle.machine.specs.States.{State, Task, Section, Object, Control}
+use Rattle.machine.specs.States.{State, Task, Resource, Object, Control}
 use Rattle.machine.specs.Releases.{release, release_task, serve, serve_task, is_waiting}
 use Rattle.machine.specs.Effects.{acted, entry, entered_at, stopped_at, exit, ended, ceiling_of}
 
@@ -38,10 +38,10 @@ serve_task-same y i (Some t) s = by (is_waiting t.readiness && t.gate.open')
 pub serve-same : (y : System) (i : ℕ) (s : State) → IsSame s (serve y i s).0
 serve-same y i s = serve_task-same y i (slice_get s.tasks i) s
 
-entry-same : (y : System) (i : ℕ) (t : Task) (c : Section) (told : List Event) (vars : Variables) (ps : List Piece) (s : State) → IsSame s (entry y i t c told vars ps s).0
+entry-same : (y : System) (i : ℕ) (t : Task) (c : Resource) (told : List Event) (vars : Variables) (ps : List Piece) (s : State) → IsSame s (entry y i t c told vars ps s).0
 entry-same y i t c told vars ps s = by c (nat_lt (ceiling_of y c) t.active)
   where
-    by : (z : Section) (b : Bool) → IsSame s (if b then stopped_at y t z s else entered_at y i z told vars ps s).0
+    by : (z : Resource) (b : Bool) → IsSame s (if b then stopped_at y t z s else entered_at y i z told vars ps s).0
     by z true = record { time = refl; phase = refl; ran = refl; arrivals = refl }
     by (Object k) false = record { time = refl; phase = refl; ran = refl; arrivals = refl }
     by (Control k) false = record { time = refl; phase = refl; ran = refl; arrivals = refl }

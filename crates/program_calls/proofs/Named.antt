@@ -11,7 +11,7 @@ use Rattle.ods_tree.specs.Services.{Service, Sort, is_service, service_named, ca
 use Rattle.ods_tree.specs.Services as sort
 use Rattle.guarantee.specs.Software.{program_software, leads_to}
 use Rattle.guarantee.specs.ResponseLaw.{ceiling_of, ceiling_named, program_services}
-use Rattle.machine.specs.Systems.{System, Thread, Timing, Periodic, Requested, Callee, Plain, Protected, Request, Unknown, system, callee}
+use Rattle.machine.specs.Systems.{System, TaskUnit, ReleasePattern, Periodic, Requested, CallTarget, Plain, Protected, Request, Unknown, system, callee}
 use Rattle.machine.specs.Effects.{ceiling_by}
 use Rattle.program_calls.proofs.UnitNames.{AreOthers, AreApart, IsUnit, only-unit, unit-there}
 use Rattle.program_calls.proofs.Callees.{or_find, under, plain_of, protected_of, requests_of, own_ops, service_unit}
@@ -41,10 +41,10 @@ pub record IsRequestServed (p : Program) (unit op : Name) : Type 0 where
   pub found : service_named (program_services p) unit op ≡ Some service
   pub sorts : service.sort ≡ sort.Request
 
-abbrev pub ServedAs : Program → System → Name → Name → Callee → Type 0
+abbrev pub ServedAs : Program → System → Name → Name → CallTarget → Type 0
 ServedAs p y unit op (Plain o) = IsServed p unit op sort.Plain o
 ServedAs p y unit op (Protected object j g o) = IsServed p unit op sort.Protected o × (ceiling_named p unit ≡ g.ceiling)
-ServedAs p y unit op (Request task) = IsRequestServed p unit op × ((t : Thread) → slice_get y.threads task ≡ Some t → ceiling_named p unit ≡ ceiling_by t.timing)
+ServedAs p y unit op (Request task) = IsRequestServed p unit op × ((t : TaskUnit) → slice_get y.threads task ≡ Some t → ceiling_named p unit ≡ ceiling_by t.timing)
 ServedAs p y unit op Unknown = service_named (program_services p) unit op ≡ None
 
 -- a plain operation
@@ -103,13 +103,13 @@ none-served p unit op e = by (service_named (program_services p) unit op) refl e
     by (Some s) found f = absurd (sorted s s.sort f)
 
 -- the text's side of what is resolved
-abbrev pub Text : Callee → runs.Callee → Type 0
+abbrev pub Text : CallTarget → runs.Callee → Type 0
 Text (Plain o) r = r ≡ runs.Plain o
 Text (Protected object j g o) r = ⊤
 Text (Request task) r = r ≡ runs.Asked
 Text Unknown r = r ≡ runs.Unknown
 
-text-of : (p : Program) (y : System) (unit op : Name) (c : Callee) (r : runs.Callee) → Resolved p y unit op c r → Text c r
+text-of : (p : Program) (y : System) (unit op : Name) (c : CallTarget) (r : runs.Callee) → Resolved p y unit op c r → Text c r
 text-of p y unit op c r (No_one none) = refl
 text-of p y unit op c r (One_plain i u ops j o at form holds named called) = refl
 text-of p y unit op c r (One_protected i u ceiling vars ops object k g o at form holds named called stands unit-is) = tt
@@ -119,7 +119,7 @@ pub served-as : (p : Program) (a : Arrivals) → AreApart p.units → (unit op :
 served-as p a apart unit op =
     by (callee (system p a) unit op) (leads-to (system p a) unit op) (text-of p (system p a) unit op (callee (system p a) unit op) (leads_to (program_software p) unit op) (resolve p a unit op apart))
   where
-    by : (c : Callee) → LeadsTo (system p a) unit op c → Text c (leads_to (program_software p) unit op) → ServedAs p (system p a) unit op c
+    by : (c : CallTarget) → LeadsTo (system p a) unit op c → Text c (leads_to (program_software p) unit op) → ServedAs p (system p a) unit op c
     by (Plain o) l text = plain-served p unit op o text
     by (Protected object j g o) l text =
         let found = object-at p a object g l.stands in
@@ -151,7 +151,7 @@ served-as p a apart unit op =
           ceiling-is p unit h ∙ ap (λ u. ceiling_of u.form) (sym one) ∙ timed t t.timing found.1.form is.form,
     )
       where
-        timed : (t : Thread) (x : Timing) (f : Form) → thread_form t x f → ceiling_of f ≡ ceiling_by x
+        timed : (t : TaskUnit) (x : ReleasePattern) (f : Form) → thread_form t x f → ceiling_of f ≡ ceiling_by x
         timed t (Periodic offset period) f form = ap ceiling_of form
         timed t (Requested sig ceiling separation jitter external) f form = ap ceiling_of form
     by Unknown l text = none-served p unit op text

@@ -9,14 +9,14 @@ use Rattle.ada_tree.specs.Uses.{is_requested, breaks_external}
 use Rattle.ada_tree.specs.Rules.{MeetsRules}
 use Rattle.arrivals_tree.specs.declared.arrivals.Arrival.{Arrival}
 use Rattle.arrivals_tree.specs.Arriving.{Arrivals}
-use Rattle.machine.specs.Systems.{Thread, Timing, Periodic, Requested, system}
+use Rattle.machine.specs.Systems.{TaskUnit, ReleasePattern, Periodic, Requested, system}
 use Rattle.program_calls.proofs.Facts.{same-is}
 use Rattle.program_calls.proofs.Systems.{thread_form, thread-at, LeadsToTask, IsAskedBy}
 use Rattle.program_calls.proofs.UnitRules.{externals-kept}
 use Rattle.program_calls.proofs.Accepted.{IsExternal, IsFor}
 
 -- no task can request it
-external-not : (p : Program) → MeetsRules p → (k : ℕ) (u : Unit) → slice_get p.units k ≡ Some u → (t : Thread) → u.name ≡ t.name → (timing : Timing) → thread_form t timing u.form
+external-not : (p : Program) → MeetsRules p → (k : ℕ) (u : Unit) → slice_get p.units k ≡ Some u → (t : TaskUnit) → u.name ≡ t.name → (timing : ReleasePattern) → thread_form t timing u.form
     → (unit op : Name) → same_name t.name unit ≡ true → IsAskedBy op timing → is_requested p (record { object = unit; op = op }) ≡ true → IsExternal u.form → ⊥
 external-not p rules k u at t name (Periodic offset period) form unit op named asked made external = asked
 external-not p rules k u at t name (Requested sig ceiling separation jitter external') form unit op named asked made external =
@@ -32,7 +32,7 @@ external-not p rules k u at t name (Requested sig ceiling separation jitter exte
 
 -- so an arrival is for no task that some task can request
 pub requested-elsewhere : (p : Program) (a : Arrivals) → MeetsRules p → (unit op : Name) (task : ℕ) → LeadsToTask (system p a) unit op task → is_requested p (record { object = unit; op = op }) ≡ true
-    → (x : Arrival) → IsFor p x → (t : Thread) → slice_get (system p a).threads task ≡ Some t → t.unit ≡ x.task → ⊥
+    → (x : Arrival) → IsFor p x → (t : TaskUnit) → slice_get (system p a).threads task ≡ Some t → t.unit ≡ x.task → ⊥
 requested-elsewhere p a rules unit op task l made x f t at unit' =
     let same : l.thread ≡ t = same_Some l.thread t (sym l.stands ∙ at) in
     let found = thread-at p a task t at in

@@ -12,7 +12,7 @@ use Rattle.ada_tree.specs.Uses.{passive_ops, passive_named, Calls}
 use Rattle.ada_tree.specs.Rules.{Rings, At, MeetsRules}
 use Rattle.arrivals_tree.specs.Arriving.{Arrivals}
 use Rattle.guarantee.specs.ResponseLaw.{program_services}
-use Rattle.machine.specs.Systems.{System, Callee, Plain, Protected, Request, Unknown, system, callee}
+use Rattle.machine.specs.Systems.{System, CallTarget, Plain, Protected, Request, Unknown, system, callee}
 use Rattle.program_calls.proofs.Lists.{IsIn, at-in, in-flat, in-map, any-in, filter-in}
 use Rattle.program_calls.proofs.Systems.{library-at, LeadsToPlain, LeadsTo, leads-to}
 use Rattle.program_calls.proofs.Apart.{units_apart}
@@ -25,7 +25,7 @@ use Rattle.std.specs.List.{list_any}
 use Rattle.seq_tree.proofs.Walks.{same_op-eq, same_op-refl}
 
 -- the calls of the passive operation that a call leads to, where it leads to one
-abbrev pub passive_by : Callee → Option (List OpName)
+abbrev pub passive_by : CallTarget → Option (List OpName)
 passive_by (Plain o) = Some (block_calls o.block)
 passive_by (Protected object j g o) = None
 passive_by (Request task) = None
@@ -56,7 +56,7 @@ module _ (p : Program) (a : Arrivals) where
   plain-at : (c : OpName) (cs : List OpName) → passive_calls y c ≡ Some cs → (o : Operation) × LeadsToPlain y c.object c.op o × (block_calls o.block ≡ cs)
   plain-at c cs e = by (callee y c.object c.op) e (leads-to y c.object c.op)
     where
-      by : (k : Callee) → passive_by k ≡ Some cs → LeadsTo y c.object c.op k → (o : Operation) × LeadsToPlain y c.object c.op o × (block_calls o.block ≡ cs)
+      by : (k : CallTarget) → passive_by k ≡ Some cs → LeadsTo y c.object c.op k → (o : Operation) × LeadsToPlain y c.object c.op o × (block_calls o.block ≡ cs)
       by (Plain o) h l = (o, l, same_Some (block_calls o.block) cs h)
       by (Protected object j g o) h l = absurd (none-some cs h)
       by (Request task) h l = absurd (none-some cs h)
@@ -91,7 +91,7 @@ module _ (p : Program) (a : Arrivals) where
   there : MeetsRules p → (c : OpName) (cs : List OpName) → passive_calls y c ≡ Some cs → list_any (same_op c) (map name_of (program_services p)) ≡ true
   there meets c cs e = by (callee y c.object c.op) e (served-as p a (units_apart p meets) c.object c.op)
     where
-      by : (k : Callee) → passive_by k ≡ Some cs → ServedAs p y c.object c.op k → list_any (same_op c) (map name_of (program_services p)) ≡ true
+      by : (k : CallTarget) → passive_by k ≡ Some cs → ServedAs p y c.object c.op k → list_any (same_op c) (map name_of (program_services p)) ≡ true
       by (Plain o) h s =
           let found = named-is (program_services p) c s.service s.found in
           any-in (same_op c) (name_of s.service) (map name_of (program_services p)) (in-map name_of s.service (program_services p) found.0) (ap (same_op c) found.1 ∙ same_op-refl c)

@@ -9,25 +9,25 @@ use Rattle.ods_tree.specs.Flats as flats
 use Rattle.ods_tree.specs.Walk.{only_if}
 use Rattle.guarantee.specs.Software.{Task, task_by}
 use Rattle.guarantee.specs.ResponseLaw.{Ranked, priority_of, ranked}
-use Rattle.machine.specs.Systems.{Thread, Timing, Periodic, Requested, system}
+use Rattle.machine.specs.Systems.{TaskUnit, ReleasePattern, Periodic, Requested, system}
 use Rattle.program_calls.proofs.Systems.{thread_form, thread-at}
 use Rattle.program_calls.proofs.Lists.{each-made}
 
 -- a task of the system among those of the program
-pub record IsRanked (P : Ranked → Type 0) (t : Thread) : Type 0 where
+pub record IsRanked (P : Ranked → Type 0) (t : TaskUnit) : Type 0 where
   pub ranked : Ranked
   pub priority : ranked.priority ≡ t.priority
   pub block : ranked.task.block ≡ t.block
   pub holds : P ranked
 
-pub ranked-at : (p : Program) (a : Arrivals) (P : Ranked → Type 0) → Each P (ranked p) → (i : ℕ) (t : Thread) → slice_get (system p a).threads i ≡ Some t → IsRanked P t
+pub ranked-at : (p : Program) (a : Arrivals) (P : Ranked → Type 0) → Each P (ranked p) → (i : ℕ) (t : TaskUnit) → slice_get (system p a).threads i ≡ Some t → IsRanked P t
 ranked-at p a P each i t at =
     let found = thread-at p a i t at in by found.0 found.1 (found.2).stands t.timing (found.2).form
   where
     made : Name → Form → Option Ranked
     made name form = option_map (λ z. record { task = z; priority = priority_of form }) (task_by name form)
 
-    by : (k : ℕ) (u : Unit) → slice_get p.units k ≡ Some u → (x : Timing) → thread_form t x u.form → IsRanked P t
+    by : (k : ℕ) (u : Unit) → slice_get p.units k ≡ Some u → (x : ReleasePattern) → thread_form t x u.form → IsRanked P t
     by k u stands (Periodic offset period) form =
         let task : Task = record { name = u.name; timing = flats.Cyclic period offset; vars = t.vars; block = t.block } in
         let r : Ranked = record { task = task; priority = t.priority } in

@@ -9,7 +9,7 @@ use Rattle.seq_tree.specs.Operations.{out_names}
 use Rattle.seq_tree.specs.Values.{holds}
 use Rattle.seq_tree.specs.Expressions.{Expression}
 use Rattle.seq_tree.specs.Dearest.{Weights, turn_count, dearest_statement, dearest, dearest_branch}
-use Rattle.machine.specs.Systems.{System, Callee, Plain, Protected, Request, Unknown, callee}
+use Rattle.machine.specs.Systems.{System, CallTarget, Plain, Protected, Request, Unknown, callee}
 use Rattle.machine.specs.Pieces.{Piece, Idle, Store, Leaving, Calling, Working, Printing, Testing, Turning, Turned, Returning, Closing, Keeping, Opening, Requested, Finishing, turns, pieces_of, pieces, branch_pieces, after_loop}
 use Rattle.machine.specs.Deeds.{done, called, deed, Silent}
 
@@ -56,7 +56,7 @@ rest g [] = 0
 rest g (p ∷ ps) = own g p + behind g p + rest g ps
 
 -- a weight of a call that covers what the call leads to
-abbrev pub Covers : Measure → Callee → ℕ → Type 0
+abbrev pub Covers : Measure → CallTarget → ℕ → Type 0
 Covers g (Plain o) n = dearest g.weights o.block ≤ n
 Covers g (Protected object op guarded o) n = dearest g.weights o.block ≤ n
 Covers g (Request task) n = g.keeping + g.opening task + g.requesting task ≤ n
@@ -130,7 +130,7 @@ rest-after_loop g (Opening task ∷ ps) = omega (arith, rest-after_loop g ps)
 rest-after_loop g (Requested task value ∷ ps) = omega (arith, rest-after_loop g ps)
 rest-after_loop g (Finishing ∷ ps) = omega (arith, rest-after_loop g ps)
 
-rest-called : (g : Measure) (c : Callee) (actuals : List Expression) (vars : Variables) (ps : List Piece) (n : ℕ) → Covers g c n
+rest-called : (g : Measure) (c : CallTarget) (actuals : List Expression) (vars : Variables) (ps : List Piece) (n : ℕ) → Covers g c n
     → rest g ((called c actuals vars ps).pieces) ≤ n + rest g ps
 rest-called g (Plain o) actuals vars ps n deep = omega (arith, deep, rest-block g o.block (Returning (out_names o.sig.params) (targets o.sig.params actuals) vars ∷ ps))
 rest-called g (Protected object op guarded o) actuals vars ps n deep = omega (arith, deep, rest-block g o.block (Closing object op guarded.vars (out_names o.sig.params) (targets o.sig.params actuals) vars ∷ ps))

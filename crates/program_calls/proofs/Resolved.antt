@@ -14,15 +14,15 @@ use Rattle.arrivals_tree.specs.Arriving.{Arrivals, durations}
 use Rattle.ods_tree.specs.Services.{Service, is_service, callee_of, service_named}
 use Rattle.ods_tree.specs.Services as services
 use Rattle.guarantee.specs.Software.{program_software, leads_to}
-use Rattle.machine.specs.Systems.{System, system, Library, Guarded, Thread, Periodic, Requested, library_by, object_by, thread_by, Callee, Plain, Protected, Request, Unknown, callee, library_or, object_or, request_by, request_if, op_named, plain_by, protected_by}
-use Rattle.machine.specs.Systems.{Timing}
+use Rattle.machine.specs.Systems.{System, system, PassiveUnit, ProtectedUnit, TaskUnit, Periodic, Requested, library_by, object_by, thread_by, CallTarget, Plain, Protected, Request, Unknown, callee, library_or, object_or, request_by, request_if, op_named, plain_by, protected_by}
+use Rattle.machine.specs.Systems.{ReleasePattern}
 use Rattle.program_calls.proofs.UnitNames.{AreOthers, AreApart, IsUnit, unit_of_name, none_made, nothing_made, one_made, IsMade, find_others, find_unit}
 use Rattle.program_calls.proofs.Callees.{is_op, or_find, under, plain_of, protected_of, requests_of, own_ops, service_others, service_unit}
 use Rattle.std.proofs.lemmas.Option.{none-some, same_Some}
 use Rattle.program_calls.proofs.Facts.{same-is, is-same, first-where}
 
 -- the operation by which a task is requested
-abbrev pub asked_by : Timing → Name
+abbrev pub asked_by : ReleasePattern → Name
 asked_by (Periodic offset period) = []
 asked_by (Requested sig ceiling separation jitter external) = sig.name
 
@@ -31,14 +31,14 @@ abbrev pub is_offer : Name → Name → Offer → Bool
 is_offer unit op o = same_name o.object unit && same_name o.sig.name op
 
 -- what a call leads to, with the unit that it names
-pub data Resolved (p : Program) (y : System) (unit op : Name) : Callee → runs.Callee → Type 0 where
+pub data Resolved (p : Program) (y : System) (unit op : Name) : CallTarget → runs.Callee → Type 0 where
   No_one : find (is_offer unit op) (offers p) ≡ None → Resolved p y unit op Unknown runs.Unknown
   One_plain : (i : ℕ) (u : Unit) (ops : List Operation) (j : ℕ) (o : Operation) → slice_get p.units i ≡ Some u → u.form ≡ Passive ops → slice_get ops j ≡ Some o
       → u.name ≡ unit → o.sig.name ≡ op → Resolved p y unit op (Plain o) (runs.Plain o)
-  One_protected : (i : ℕ) (u : Unit) (ceiling : ℕ) (vars : List Datum) (ops : List Operation) (object k : ℕ) (g : Guarded) (o : Operation)
+  One_protected : (i : ℕ) (u : Unit) (ceiling : ℕ) (vars : List Datum) (ops : List Operation) (object k : ℕ) (g : ProtectedUnit) (o : Operation)
       → slice_get p.units i ≡ Some u → u.form ≡ Shared ceiling vars ops → slice_get ops k ≡ Some o → u.name ≡ unit → o.sig.name ≡ op
       → slice_get y.objects object ≡ Some g → g.unit ≡ i → Resolved p y unit op (Protected object k g o) (runs.Protected o.sig.params)
-  One_request : (i : ℕ) (u : Unit) (task : ℕ) (th : Thread) → slice_get p.units i ≡ Some u → u.name ≡ unit → slice_get y.threads task ≡ Some th → th.unit ≡ i
+  One_request : (i : ℕ) (u : Unit) (task : ℕ) (th : TaskUnit) → slice_get p.units i ≡ Some u → u.name ≡ unit → slice_get y.threads task ≡ Some th → th.unit ≡ i
       → asked_by th.timing ≡ op → Resolved p y unit op (Request task) runs.Asked
 
 at_front : (front : List Unit) (u : Unit) (back : List Unit) → slice_get (front ++ u ∷ back) (length front) ≡ Some u
@@ -47,16 +47,16 @@ at_front (f ∷ front) u back = at_front front u back
 
 -- what is made keeps the unit's name
 
-abbrev lib_of : ℕ → Unit → Option Library
+abbrev lib_of : ℕ → Unit → Option PassiveUnit
 lib_of n u = library_by n u.name u.form
 
-abbrev obj_of : ℕ → Unit → Option Guarded
+abbrev obj_of : ℕ → Unit → Option ProtectedUnit
 obj_of n u = object_by n u.name u.form
 
-abbrev task_of : Arrivals → ℕ → Unit → Option Thread
+abbrev task_of : Arrivals → ℕ → Unit → Option TaskUnit
 task_of a n u = thread_by (durations a n) n u.name u.form
 
-lib_keeps : (n : ℕ) (u : Unit) (x : Library) → lib_of n u ≡ Some x → x.name ≡ u.name
+lib_keeps : (n : ℕ) (u : Unit) (x : PassiveUnit) → lib_of n u ≡ Some x → x.name ≡ u.name
 lib_keeps n u x = by u.form
   where
     by : (f : Form) → library_by n u.name f ≡ Some x → x.name ≡ u.name
@@ -65,7 +65,7 @@ lib_keeps n u x = by u.form
     by (Cyclic priority offset period vars block) e = absurd (none-some x e)
     by (Sporadic priority ceiling op separation jitter external vars block) e = absurd (none-some x e)
 
-obj_keeps : (n : ℕ) (u : Unit) (x : Guarded) → obj_of n u ≡ Some x → x.name ≡ u.name
+obj_keeps : (n : ℕ) (u : Unit) (x : ProtectedUnit) → obj_of n u ≡ Some x → x.name ≡ u.name
 obj_keeps n u x = by u.form
   where
     by : (f : Form) → object_by n u.name f ≡ Some x → x.name ≡ u.name
@@ -74,7 +74,7 @@ obj_keeps n u x = by u.form
     by (Cyclic priority offset period vars block) e = absurd (none-some x e)
     by (Sporadic priority ceiling op separation jitter external vars block) e = absurd (none-some x e)
 
-task_keeps : (a : Arrivals) (n : ℕ) (u : Unit) (x : Thread) → task_of a n u ≡ Some x → x.name ≡ u.name
+task_keeps : (a : Arrivals) (n : ℕ) (u : Unit) (x : TaskUnit) → task_of a n u ≡ Some x → x.name ≡ u.name
 task_keeps a n u x = by u.form
   where
     by : (f : Form) → thread_by (durations a n) n u.name f ≡ Some x → x.name ≡ u.name
@@ -114,12 +114,12 @@ module _ (p : Program) (a : Arrivals) (unit op : Name) where
   abbrev y : System
   y = system p a
 
-  by_both : (k : Callee) (r : runs.Callee) → callee y unit op ≡ k → leads_to (program_software p) unit op ≡ r → Resolved p y unit op k r
+  by_both : (k : CallTarget) (r : runs.Callee) → callee y unit op ≡ k → leads_to (program_software p) unit op ≡ r → Resolved p y unit op k r
       → Resolved p y unit op (callee y unit op) (leads_to (program_software p) unit op)
   by_both k r e f h = subst (λ r. Resolved p y unit op (callee y unit op) r) (sym f) (subst (λ k. Resolved p y unit op k r) (sym e) h)
 
   -- what is found among the passive units, the objects and the tasks
-  found : (l : Option (ℕ × Library)) (o : Option (ℕ × Guarded)) (t : Option (ℕ × Thread)) → first_where (λ l. same_name l.name unit) y.libraries ≡ l
+  found : (l : Option (ℕ × PassiveUnit)) (o : Option (ℕ × ProtectedUnit)) (t : Option (ℕ × TaskUnit)) → first_where (λ l. same_name l.name unit) y.libraries ≡ l
       → first_where (λ l. same_name l.name unit) y.objects ≡ o → first_where (λ l. same_name l.name unit) y.threads ≡ t
       → callee y unit op ≡ library_or op l (object_or op o (request_by op t))
   found l o t e f g =
@@ -172,7 +172,7 @@ module _ (p : Program) (a : Arrivals) (unit op : Name) where
     plain_unit : (ops : List Operation) → h.unit.form ≡ Passive ops → Resolved p y unit op (callee y unit op) (leads_to (program_software p) unit op)
     plain_unit ops e = by (op_named op ops) refl
       where
-        lib : Library
+        lib : PassiveUnit
         lib = record { unit = at; name = h.unit.name; ops = ops }
 
         is_made : IsMade lib_of (λ l. l.name) lib_keeps unit 0 0 us lib
@@ -198,7 +198,7 @@ module _ (p : Program) (a : Arrivals) (unit op : Name) where
     protected_unit : (ceiling : ℕ) (vars : List Datum) (ops : List Operation) → h.unit.form ≡ Shared ceiling vars ops → Resolved p y unit op (callee y unit op) (leads_to (program_software p) unit op)
     protected_unit ceiling vars ops e = by (op_named op ops) refl
       where
-        obj : Guarded
+        obj : ProtectedUnit
         obj = record { unit = at; name = h.unit.name; ceiling = ceiling; vars = vars; ops = ops }
 
         is_made : IsMade obj_of (λ l. l.name) obj_keeps unit 0 0 us obj
@@ -227,7 +227,7 @@ module _ (p : Program) (a : Arrivals) (unit op : Name) where
             (One_protected at h.unit ceiling vars ops (0 + is_made.place) j obj o here e is.0 h.named (same-is o.sig.name op is.1) stands refl)
 
     -- a task
-    task_unit : (th : Thread) → task_of a at h.unit ≡ Some th → lib_of at h.unit ≡ None → obj_of at h.unit ≡ None
+    task_unit : (th : TaskUnit) → task_of a at h.unit ≡ Some th → lib_of at h.unit ≡ None → obj_of at h.unit ≡ None
         → (place : ℕ) × (callee y unit op ≡ request_if op place th.timing) × (slice_get y.threads place ≡ Some th)
     task_unit th e no_l no_o =
         let is_made : IsMade (task_of a) (λ l. l.name) (task_keeps a) unit 0 0 us th =
@@ -258,7 +258,7 @@ module _ (p : Program) (a : Arrivals) (unit op : Name) where
         → h.unit.form ≡ Sporadic priority ceiling sig separation jitter external vars block → Resolved p y unit op (callee y unit op) (leads_to (program_software p) unit op)
     sporadic_unit priority ceiling sig separation jitter external vars block e = by (same_name sig.name op) refl
       where
-        th : Thread
+        th : TaskUnit
         th = record {
           unit = at;
           name = h.unit.name;

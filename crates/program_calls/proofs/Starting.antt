@@ -18,7 +18,7 @@ use Rattle.ods_tree.specs.Services as sort
 use Rattle.analysis.specs.Starts.{calls_by, service_calls, calls_within, all_calls, can_request, starts_by, service_starts, starts_within, block_starts}
 use Rattle.analysis.specs.Sound.{name_of}
 use Rattle.guarantee.specs.ResponseLaw.{program_services}
-use Rattle.machine.specs.Systems.{Thread, Timing, Periodic, Requested, Callee, Plain, Protected, Request, Unknown, system, callee}
+use Rattle.machine.specs.Systems.{TaskUnit, ReleasePattern, Periodic, Requested, CallTarget, Plain, Protected, Request, Unknown, system, callee}
 use Rattle.program_calls.proofs.Facts.{same-is, is-same}
 use Rattle.program_calls.proofs.Lists.{IsIn, at-in, in-flat, in-some, filter-in, any-in, place-of}
 use Rattle.program_calls.proofs.Weights.{count-none}
@@ -135,18 +135,18 @@ task-shared (Cyclic priority offset period vars block) o e h = h
 task-shared (Sporadic priority ceiling op separation jitter external vars block) o e h = h
 
 -- what a call counts covers the body that it leads to
-abbrev pub CoversBody : Program → OpName → OpName → Callee → Type 0
+abbrev pub CoversBody : Program → OpName → OpName → CallTarget → Type 0
 CoversBody p target c (Plain o) = block_starts (program_services p) target o.block ≤ through (program_services p) target c.object c.op
 CoversBody p target c (Protected object k g o) = block_starts (program_services p) target o.block ≤ through (program_services p) target c.object c.op
 CoversBody p target c (Request task) = ⊤
 CoversBody p target c Unknown = ⊤
 
 -- of a program, where the target's object is a task
-module _ (p : Program) (a : Arrivals) (rules : MeetsRules p) (target : OpName) (j : ℕ) (th : Thread) (at : slice_get (system p a).threads j ≡ Some th) (named : target.object ≡ th.name) where
+module _ (p : Program) (a : Arrivals) (rules : MeetsRules p) (target : OpName) (j : ℕ) (th : TaskUnit) (at : slice_get (system p a).threads j ≡ Some th) (named : target.object ≡ th.name) where
   abbrev ss : List Service
   ss = program_services p
 
-  task-form : (t : Thread) (timing : Timing) (f : Form) → thread_form t timing f → is_task f ≡ true
+  task-form : (t : TaskUnit) (timing : ReleasePattern) (f : Form) → thread_form t timing f → is_task f ≡ true
   task-form t (Periodic offset period) f form = ap is_task form
   task-form t (Requested op ceiling separation jitter external) f form = ap is_task form
 
@@ -205,7 +205,7 @@ module _ (p : Program) (a : Arrivals) (rules : MeetsRules p) (target : OpName) (
       body : (x : Sort) (o : Operation) → IsServed p c.object c.op x o → block_starts ss target o.block ≤ through ss target c.object c.op
       body x o s = subst (λ (q : Operation). block_starts ss target q.block ≤ through ss target c.object c.op) s.does (service-covered c s.service s.found)
 
-      by : (k : Callee) → ServedAs p (system p a) c.object c.op k → CoversBody p target c k
+      by : (k : CallTarget) → ServedAs p (system p a) c.object c.op k → CoversBody p target c k
       by (Plain o) s = body sort.Plain o s
       by (Protected object k g o) s = body sort.Protected o s.0
       by (Request task) s = tt

@@ -9,7 +9,7 @@ use Rattle.ada_tree.specs.Bodies.{heads}
 use Rattle.ada_tree.specs.Rules.{MeetsRules}
 use Rattle.arrivals_tree.specs.Arriving.{Arrivals, durations}
 use Rattle.trace_tree.specs.Lines.{unit_name, unit_ops}
-use Rattle.machine.specs.Systems.{system, Thread, Guarded, thread_by}
+use Rattle.machine.specs.Systems.{system, TaskUnit, ProtectedUnit, thread_by}
 use Rattle.program_calls.proofs.Facts.{same-is, is-same}
 use Rattle.program_calls.proofs.Lists.{made-at}
 use Rattle.program_calls.proofs.Places.{all-at}
@@ -32,7 +32,7 @@ one-place (w ∷ us) (suc i) zero u v far at there same =
     absurd (true≢false (sym turned ∙ all-at (λ z. same_name w.name z.name ≡ false) us i u far.0 at))
 one-place (w ∷ us) (suc i) (suc j) u v far at there same = ap suc (one-place us i j u v far.1 at there same)
 
-thread-durations : (ds : List ℕ) (k : ℕ) (name : Name) (form : Form) (t : Thread) → thread_by ds k name form ≡ Some t → t.durations ≡ ds
+thread-durations : (ds : List ℕ) (k : ℕ) (name : Name) (form : Form) (t : TaskUnit) → thread_by ds k name form ≡ Some t → t.durations ≡ ds
 thread-durations ds k name (Passive ops) t e = absurd (none-some t e)
 thread-durations ds k name (Shared ceiling vars ops) t e = absurd (none-some t e)
 thread-durations ds k name (Cyclic priority offset period vars block) t e = sym (ap (λ x. x.durations) (same_Some _ t e))
@@ -40,12 +40,12 @@ thread-durations ds k name (Sporadic priority ceiling op separation jitter exter
 
 module _ (p : Program) (a : Arrivals) where
   -- the unit that a task is made of
-  pub record IsMadeOf (t : Thread) : Type 0 where
+  pub record IsMadeOf (t : TaskUnit) : Type 0 where
     pub unit : Unit
     pub here : slice_get p.units t.unit ≡ Some unit
     pub makes : thread_by (durations a t.unit) t.unit unit.name unit.form ≡ Some t
 
-  pub made-of : (k : ℕ) (t : Thread) → slice_get (system p a).threads k ≡ Some t → IsMadeOf t
+  pub made-of : (k : ℕ) (t : TaskUnit) → slice_get (system p a).threads k ≡ Some t → IsMadeOf t
   made-of k t at =
       let found = made-at (λ (u : ℕ × Unit). thread_by (durations a u.0) u.0 u.1.name u.1.form) 0 p.units k t at in
       let unit : t.unit ≡ 0 + found.0 = (thread-is (durations a (0 + found.0)) (0 + found.0) found.1.name found.1.form t found.3).1 in
@@ -55,24 +55,24 @@ module _ (p : Program) (a : Arrivals) where
         makes = ap (λ n. thread_by (durations a n) n found.1.name found.1.form) unit ∙ found.3;
       }
 
-  pub durations-of : (k : ℕ) (t : Thread) → slice_get (system p a).threads k ≡ Some t → t.durations ≡ durations a t.unit
+  pub durations-of : (k : ℕ) (t : TaskUnit) → slice_get (system p a).threads k ≡ Some t → t.durations ≡ durations a t.unit
   durations-of k t at = let m : IsMadeOf t = made-of k t at in thread-durations (durations a t.unit) t.unit m.unit.name m.unit.form t m.makes
 
   -- tasks and objects by the names of their units
-  pub thread_name : (k : ℕ) (t : Thread) → slice_get (system p a).threads k ≡ Some t → unit_name p t.unit ≡ t.name
+  pub thread_name : (k : ℕ) (t : TaskUnit) → slice_get (system p a).threads k ≡ Some t → unit_name p t.unit ≡ t.name
   thread_name k t at = let found = thread-at p a k t at in ap (unit_name p) (found.2).unit ∙ name-at p found.0 found.1 (found.2).stands ∙ (found.2).name
 
-  pub object_name : (k : ℕ) (g : Guarded) → slice_get (system p a).objects k ≡ Some g → unit_name p g.unit ≡ g.name
+  pub object_name : (k : ℕ) (g : ProtectedUnit) → slice_get (system p a).objects k ≡ Some g → unit_name p g.unit ≡ g.name
   object_name k g at = let found = object-at p a k g at in ap (unit_name p) (found.2).unit ∙ name-at p found.0 found.1 (found.2).stands ∙ (found.2).name
 
-  pub threads_apart : MeetsRules p → (j k : ℕ) (t u : Thread) → slice_get (system p a).threads j ≡ Some t → slice_get (system p a).threads k ≡ Some u → same_name t.name u.name ≡ true → j ≡ k
+  pub threads_apart : MeetsRules p → (j k : ℕ) (t u : TaskUnit) → slice_get (system p a).threads j ≡ Some t → slice_get (system p a).threads k ≡ Some u → same_name t.name u.name ≡ true → j ≡ k
   threads_apart meets j k t u at there same =
       let one = thread-at p a j t at in
       let two = thread-at p a k u there in
       let names : same_name one.1.name two.1.name ≡ true = ap (λ n. same_name n two.1.name) (one.2).name ∙ ap (same_name t.name) (two.2).name ∙ same in
       threads-differ p a j k t u at there ((one.2).unit ∙ one-place p.units one.0 two.0 one.1 two.1 (units_apart p meets) (one.2).stands (two.2).stands names ∙ sym (two.2).unit)
 
-  pub objects_apart : MeetsRules p → (j k : ℕ) (g h : Guarded) → slice_get (system p a).objects j ≡ Some g → slice_get (system p a).objects k ≡ Some h → same_name g.name h.name ≡ true → j ≡ k
+  pub objects_apart : MeetsRules p → (j k : ℕ) (g h : ProtectedUnit) → slice_get (system p a).objects j ≡ Some g → slice_get (system p a).objects k ≡ Some h → same_name g.name h.name ≡ true → j ≡ k
   objects_apart meets j k g h at there same =
       let one = object-at p a j g at in
       let two = object-at p a k h there in

@@ -14,7 +14,7 @@ use Rattle.ada_tree.specs.Ranges.{breaks_ranges, numbers_break, is_outside, jitt
 use Rattle.ada_tree.specs.Rules.{Uses, Bodies, Ranges, Externals, At, Whole, MeetsRules}
 use Rattle.seq_tree.specs.Operations.{Operation, Signature}
 use Rattle.arrivals_tree.specs.Arriving.{Arrivals}
-use Rattle.machine.specs.Systems.{Thread, Guarded, Timing, Periodic, Requested, system}
+use Rattle.machine.specs.Systems.{TaskUnit, ProtectedUnit, ReleasePattern, Periodic, Requested, system}
 use Rattle.program_calls.proofs.Facts.{or_else-none}
 use Rattle.program_calls.proofs.Lists.{IsIn, at-in, in-map, in-flat, none-in}
 use Rattle.program_calls.proofs.Systems.{thread_form, object-at, thread-at}
@@ -31,14 +31,14 @@ bodies-fault p form (c ∷ bs) b e (inr h) = bodies-fault p form bs b (or_else-n
 pub op-body-in : (form : Form) (ops : List Operation) (j : ℕ) (o : Operation) → bodies form ≡ map op_body ops → slice_get ops j ≡ Some o → IsIn (op_body o) (bodies form)
 op-body-in form ops j o is at = subst (IsIn (op_body o)) (sym is) (in-map op_body o ops (at-in ops j o at))
 
-pub task-body : (p : Program) (a : Arrivals) (i : ℕ) (t : Thread) → slice_get (system p a).threads i ≡ Some t
+pub task-body : (p : Program) (a : Arrivals) (i : ℕ) (t : TaskUnit) → slice_get (system p a).threads i ≡ Some t
     → (k : ℕ) × (u : Unit) × (b : Body) × (slice_get p.units k ≡ Some u) × IsIn b (bodies u.form) × (b.block ≡ t.block) × (is_task u.form ≡ true)
 task-body p a i t at =
     let found = thread-at p a i t at in
     let is = found.2 in
     by found.0 found.1 is.stands t.timing is.form
   where
-    by : (k : ℕ) (u : Unit) → slice_get p.units k ≡ Some u → (timing : Timing) → thread_form t timing u.form
+    by : (k : ℕ) (u : Unit) → slice_get p.units k ≡ Some u → (timing : ReleasePattern) → thread_form t timing u.form
         → (k' : ℕ) × (u' : Unit) × (b : Body) × (slice_get p.units k' ≡ Some u') × IsIn b (bodies u'.form) × (b.block ≡ t.block) × (is_task u'.form ≡ true)
     by k u stands (Periodic offset period) form =
         (k, u, record { params = []; locals = []; block = t.block }, stands, subst (λ f. IsIn (record { params = []; locals = []; block = t.block }) (bodies f)) (sym form) (inl refl), refl, ap is_task form)
@@ -87,11 +87,11 @@ module _ (p : Program) (rules : MeetsRules p) where
       (or_parts (numbers_break u.form || list_any (λ h. nat_lt 8 (length h.params)) (heads u.form)) (list_any (is_outside 1 1000000000) (flat_map (λ b. block_works b.block) (bodies u.form)))
       (ranges-kept k u at)).0).0
 
-  pub priority-within : (a : Arrivals) (i : ℕ) (t : Thread) → slice_get (system p a).threads i ≡ Some t → t.priority ≤ 60
+  pub priority-within : (a : Arrivals) (i : ℕ) (t : TaskUnit) → slice_get (system p a).threads i ≡ Some t → t.priority ≤ 60
   priority-within a i t at =
       let found = thread-at p a i t at in by found.1 (numbers-kept found.0 found.1 (found.2).stands) t.timing (found.2).form
     where
-      by : (u : Unit) → numbers_break u.form ≡ false → (x : Timing) → thread_form t x u.form → t.priority ≤ 60
+      by : (u : Unit) → numbers_break u.form ≡ false → (x : ReleasePattern) → thread_form t x u.form → t.priority ≤ 60
       by u numbers (Periodic offset period) form =
           let now : numbers_break (Cyclic t.priority offset period t.vars t.block) ≡ false = subst (λ f. numbers_break f ≡ false) form numbers in
           within t.priority (or_parts (is_outside 1 60 t.priority) (is_outside 1 1000000000 period)
@@ -103,13 +103,13 @@ module _ (p : Program) (rules : MeetsRules p) where
           let three = or_parts (is_outside 1 60 t.priority || is_outside 1 60 ceiling) (is_outside 1 1000000000 separation) two.0 in
           within t.priority (or_parts (is_outside 1 60 t.priority) (is_outside 1 60 ceiling) three.0).0
 
-  pub object-within : (a : Arrivals) (i : ℕ) (g : Guarded) → slice_get (system p a).objects i ≡ Some g → g.ceiling ≤ 60
+  pub object-within : (a : Arrivals) (i : ℕ) (g : ProtectedUnit) → slice_get (system p a).objects i ≡ Some g → g.ceiling ≤ 60
   object-within a i g at =
       let found = object-at p a i g at in
       within g.ceiling (subst (λ f. numbers_break f ≡ false) (found.2).form (numbers-kept found.0 found.1 (found.2).stands))
 
   -- the ceiling of a control structure is at least the priority of its task
-  pub control-covers : (a : Arrivals) (i : ℕ) (t : Thread) → slice_get (system p a).threads i ≡ Some t → (op : Signature) (ceiling separation jitter : ℕ) (external : Bool)
+  pub control-covers : (a : Arrivals) (i : ℕ) (t : TaskUnit) → slice_get (system p a).threads i ≡ Some t → (op : Signature) (ceiling separation jitter : ℕ) (external : Bool)
       → t.timing ≡ Requested op ceiling separation jitter external → t.priority ≤ ceiling
   control-covers a i t at op ceiling separation jitter external is =
       let found = thread-at p a i t at in

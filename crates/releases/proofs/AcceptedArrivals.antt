@@ -10,7 +10,7 @@ use Rattle.arrivals_tree.specs.declared.arrivals.Arrival.{Arrival}
 use Rattle.arrivals_tree.specs.Arriving.{Arrivals, durations}
 use Rattle.arrivals_tree.specs.Acceptance.{Unknown, Falling, Far, request_fault_by, request_fault_at, item_fault, requests_fault, works_fault, last_time, IsAccepted}
 use Rattle.trace_tree.specs.Lines.{unit_name}
-use Rattle.machine.specs.Systems.{Thread, system, thread_by}
+use Rattle.machine.specs.Systems.{TaskUnit, system, thread_by}
 use Rattle.guarantee.specs.Arrivals.{named_arrivals, DontFall}
 use Rattle.guarantee.specs.Arrivals as arrivals
 use Rattle.written_runs.proofs.Moves.{HasUnit}
@@ -62,7 +62,7 @@ unit_thread ds n (v ∷ us) zero u at task = by v.form (ap (λ z. is_task z.form
     by (Sporadic priority ceiling op separation jitter external vars block) t = (0, _, refl, omega arith)
 unit_thread ds n (v ∷ us) (suc m) u at task = by (thread_by (ds n) n v.name v.form) (unit_thread ds (n + 1) us m u at task)
   where
-    by : (o : Option Thread) → HasUnit (ths_of ds (n + 1) us) (n + 1 + m) → HasUnit (cons_option o (ths_of ds (n + 1) us)) (n + suc m)
+    by : (o : Option TaskUnit) → HasUnit (ths_of ds (n + 1) us) (n + 1 + m) → HasUnit (cons_option o (ths_of ds (n + 1) us)) (n + suc m)
     by None h = (h.0, h.1, h.2, omega (arith, h.3))
     by (Some th) h = (suc h.0, h.1, h.2, omega (arith, h.3))
 

@@ -11,10 +11,10 @@ use Rattle.arrivals_tree.specs.Arriving.{Arrivals}
 use Rattle.arrivals_tree.specs.Acceptance.{requests_fault, IsAccepted}
 use Rattle.trace_tree.specs.declared.event.Event.{Event}
 use Rattle.trace_tree.specs.declared.event.Event.TheVariants as event
-use Rattle.machine.specs.Systems.{System, Thread, system}
+use Rattle.machine.specs.Systems.{System, TaskUnit, system}
 use Rattle.machine.specs.Pieces.{Piece}
-use Rattle.machine.specs.Deeds.{Act, Silent, Print, Enter, Leave, Ask, Keep, Open, Ended, Finish, Deed, done}
-use Rattle.machine.specs.States.{State, Task, Phase, Effects, Delays, Arriving, Use, Section, Object, Control}
+use Rattle.machine.specs.Deeds.{Act, Silent, Print, Enter, Leave, Ask, Keep, Open, Ended, Finish, PieceOutcome, done}
+use Rattle.machine.specs.States.{State, Task, Phase, Effects, Delays, Arriving, Use, Resource, Object, Control}
 use Rattle.machine.specs.Dispatch.{dispatched}
 use Rattle.machine.specs.Releases.{Next, release_task, release, is_waiting, serve_task, serve}
 use Rattle.machine.specs.Effects.{acted, takes_effect, entry, entered_at, stopped_at, exit, ended, ceiling_of}
@@ -67,10 +67,10 @@ serve_task-quiet y i (Some t) s = by (is_waiting t.readiness && t.gate.open')
 serve-quiet : (y : System) (i : ℕ) (s : State) → Quiet s (serve y i s)
 serve-quiet y i s = serve_task-quiet y i (slice_get s.tasks i) s
 
-entry-quiet : (y : System) (i : ℕ) (t : Task) (c : Section) (told : List Event) (vars : Variables) (ps : List Piece) (s : State) → arrived told ≡ [] → Quiet s (entry y i t c told vars ps s)
+entry-quiet : (y : System) (i : ℕ) (t : Task) (c : Resource) (told : List Event) (vars : Variables) (ps : List Piece) (s : State) → arrived told ≡ [] → Quiet s (entry y i t c told vars ps s)
 entry-quiet y i t c told vars ps s none = by c (nat_lt (ceiling_of y c) t.active)
   where
-    by : (z : Section) (b : Bool) → Quiet s (if b then stopped_at y t z s else entered_at y i z told vars ps s)
+    by : (z : Resource) (b : Bool) → Quiet s (if b then stopped_at y t z s else entered_at y i z told vars ps s)
     by z true = (refl, refl)
     by (Object k) false = (none, refl)
     by (Control k) false = (none, refl)
@@ -106,7 +106,7 @@ abbrev Comes : State → Next → Type 0
 Comes s next = Quiet s next ⊎ Takes s next
 
 -- a unit of a thread that some task has
-task_there : (ths : List Thread) (ts : List Task) (unit : ℕ) → threads_of ts ≡ ths → HasUnit ths unit → (k : ℕ) × (t : Task) × (slice_get ts k ≡ Some t) × (t.thread.unit ≡ unit)
+task_there : (ths : List TaskUnit) (ts : List Task) (unit : ℕ) → threads_of ts ≡ ths → HasUnit ths unit → (k : ℕ) × (t : Task) × (slice_get ts k ≡ Some t) × (t.thread.unit ≡ unit)
 task_there ths ts unit same has = by (slice_get ts has.0) refl (sym (slice_get-map (λ u. u.thread) ts has.0) ∙ ap (λ hs. slice_get hs has.0) same ∙ has.2)
   where
     by : (o : Option Task) → slice_get ts has.0 ≡ o → option_map (λ u. u.thread) (slice_get ts has.0) ≡ Some has.1 → (k : ℕ) × (t : Task) × (slice_get ts k ≡ Some t) × (t.thread.unit ≡ unit)
@@ -187,7 +187,7 @@ record LeftOn (y : System) (s : State) (next : Next) : Type 0 where
   on : next.0.stopped ≡ false → Left next.0
   ends : Ends y s next → Later (suc s.time) s.arrivals
 
-no_horizon : (ths : List Thread) (now time : ℕ) (es : List Event) → Each (IsNow ths now) es → es ≡ event.Horizon time ∷ [] → ⊥
+no_horizon : (ths : List TaskUnit) (now time : ℕ) (es : List Event) → Each (IsNow ths now) es → es ≡ event.Horizon time ∷ [] → ⊥
 no_horizon ths now time es all e = let P : List Event → Type 0 = λ zs. Each (IsNow ths now) zs in (subst P e all).0
 
 nothing_horizon : (time : ℕ) → [] ≡ event.Horizon time ∷ [] → ⊥
@@ -233,7 +233,7 @@ step_left y s same on left =
               where
                 spent : (b : Bool) → LeftOn y s (if b then takes_effect y i t (done y x t.vars rest) s else goes_to Delays s)
                 spent true =
-                    let d : Deed = done y x t.vars rest in
+                    let d : PieceOutcome = done y x t.vars rest in
                     let L : List Arrival → Type 0 = λ zs. Later s.time zs in
                     within y s _ Effects is (λ n as'. refl) (acted-goes y y.threads i t d.act d.vars d.pieces s at same) (subst L (sym (acted-quiet y i t d.act d.vars d.pieces s).1) l)
                 spent false = passes y s _ l

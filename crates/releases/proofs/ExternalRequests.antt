@@ -13,7 +13,7 @@ use Rattle.ods_tree.specs.Walk.{only_if}
 use Rattle.trace_tree.specs.Lines.{unit_name}
 use Rattle.trace_tree.specs.declared.event.Event as machine
 use Rattle.trace_tree.specs.declared.event.Event.TheVariants as event
-use Rattle.machine.specs.Systems.{System, Thread, Timing, Requested, system}
+use Rattle.machine.specs.Systems.{System, TaskUnit, ReleasePattern, Requested, system}
 use Rattle.machine.specs.Meanings.{run, Meaning, start}
 use Rattle.guarantee.specs.Events.{named}
 use Rattle.guarantee.specs.Arrivals.{Arrival, named_arrivals, DontFall, KeepTime, times_of}
@@ -103,10 +103,10 @@ kept_within separation jitter until least now name (a ∷ items) falls keeps =
 
 -- a thread that others may request
 abbrev MayAsk : System → ℕ → Type 0
-MayAsk y j = (th : Thread) × (slice_get y.threads j ≡ Some th) × IsInside th.timing
+MayAsk y j = (th : TaskUnit) × (slice_get y.threads j ≡ Some th) × IsInside th.timing
 
 -- no request is told of a thread that is requested from outside
-none_asks : (limit : ℕ) (p : Program) (r : places.Arrivals) (trace : List machine.Event) (k : ℕ) (th : Thread) → MeetsRules p → IsAccepted limit p r → Meaning p r trace → slice_get (system p r).threads k ≡ Some th → (IsInside th.timing → ⊥)
+none_asks : (limit : ℕ) (p : Program) (r : places.Arrivals) (trace : List machine.Event) (k : ℕ) (th : TaskUnit) → MeetsRules p → IsAccepted limit p r → Meaning p r trace → slice_get (system p r).threads k ≡ Some th → (IsInside th.timing → ⊥)
     → Each (NotAsking p th.name) trace
 none_asks limit p r trace k th meets accepted m at outside =
     let y : System = system p r in
@@ -127,7 +127,7 @@ none_asks limit p r trace k th meets accepted m at outside =
         ∙ false_from_ne_true _ (λ same.
         let place : s.0 ≡ k = threads_apart p r meets s.0 k s.1.0 th s.1.1 at same in
         let one : s.1.0 ≡ th = same_Some s.1.0 th (sym s.1.1 ∙ ap (slice_get y.threads) place ∙ at) in
-        let I : Thread → Type 0 = λ z. IsInside z.timing in
+        let I : TaskUnit → Type 0 = λ z. IsInside z.timing in
         outside (subst I one s.1.2))
     by (event.Release time task value) s = tt
     by (event.Arrive time task value) s = tt
@@ -139,12 +139,12 @@ none_asks limit p r trace k th meets accepted m at outside =
     by (event.Horizon time) s = tt
 
 -- its requests keep the separation
-pub external_asked : (limit : ℕ) (p : Program) (r : places.Arrivals) (trace : List machine.Event) (k : ℕ) (th : Thread) (op : Signature) (ceiling separation jitter : ℕ)
+pub external_asked : (limit : ℕ) (p : Program) (r : places.Arrivals) (trace : List machine.Event) (k : ℕ) (th : TaskUnit) (op : Signature) (ceiling separation jitter : ℕ)
     → MeetsRules p → IsAccepted limit p r → Meaning p r trace → NeverStops (named p trace) → slice_get (system p r).threads k ≡ Some th → th.timing ≡ Requested op ceiling separation jitter true
     → DontFall 0 (named_arrivals p r).items → KeepTime separation jitter 0 (times_of th.name (named_arrivals p r).items)
     → KeepTime separation jitter 0 (asked (notices th.name (named p trace)))
 external_asked limit p r trace k th op ceiling separation jitter meets accepted m quiet at timing falls keeps =
-    let I : Timing → Type 0 = λ z. IsInside z in
+    let I : ReleasePattern → Type 0 = λ z. IsInside z in
     let all : Each (NotAsking p th.name) trace = none_asks limit p r trace k th meets accepted m at (λ h. true≢false (subst I timing h)) in
     let times : asked (notices th.name (named p trace)) ≡ times_of th.name (filter (λ a. nat_le a.time r.until) (named_arrivals p r).items) =
     asked-arrived p th.name trace all ∙ ap (times_of th.name) (are_told limit p r trace accepted m quiet) in

@@ -3,7 +3,7 @@ use Rattle.std.specs.Prelude.{◌≡◌, ◌⊎◌, ℕ, ◌≤◌, true, false,
 use Rattle.std.proofs.Common.{sym, ◌∙◌, ap, subst, arith, inl, inr}
 use Rattle.seq_tree.specs.Lists.{change}
 use Rattle.seq_tree.specs.declared.tree.Costs.{Costs}
-use Rattle.machine.specs.Systems.{Thread}
+use Rattle.machine.specs.Systems.{TaskUnit}
 use Rattle.machine.specs.Pieces.{Piece, Opening, Requested, Finishing}
 use Rattle.machine.specs.States.{Task, Gate, Waiting, Ready, shut}
 use Rattle.machine.specs.Releases.{released, next_time}
@@ -39,7 +39,7 @@ heads-released costs i ts heads k u at =
     changed i k (released costs) ts u at (λ x e there same. subst (λ z. Heads z.pieces) (sym same) (free_heads (released costs x).pieces (released-free costs x))) (λ apart there. heads k u there)
 
 -- a task that is released
-pub stands-released : (costs : Costs) (th : Thread) (j now : ℕ) (ts : List Task) (t : Task) → slice_get ts j ≡ Some t → t.thread ≡ th → HaveHeads ts → NoKeeper j ts
+pub stands-released : (costs : Costs) (th : TaskUnit) (j now : ℕ) (ts : List Task) (t : Task) → slice_get ts j ≡ Some t → t.thread ≡ th → HaveHeads ts → NoKeeper j ts
     → Stands th j now (change j (released costs) ts) [] None
 stands-released costs th j now ts t at thread heads none = record {
   t = released costs t;
@@ -52,7 +52,7 @@ stands-released costs th j now ts t at thread heads none = record {
 }
 
 -- a request that waits
-pub stands-waits : (th : Thread) (j now : ℕ) (ts : List Task) (t : Task) → slice_get ts j ≡ Some t → t.thread ≡ th → HaveHeads ts → NoKeeper j ts → t.readiness ≡ Ready → t.gate.open' ≡ true
+pub stands-waits : (th : TaskUnit) (j now : ℕ) (ts : List Task) (t : Task) → slice_get ts j ≡ Some t → t.thread ≡ th → HaveHeads ts → NoKeeper j ts → t.readiness ≡ Ready → t.gate.open' ≡ true
     → Stands th j now ts (record { time = now; value = t.gate.value } ∷ []) None
 stands-waits th j now ts t at thread heads none ready opens = record {
   t = t;
@@ -65,7 +65,7 @@ stands-waits th j now ts t at thread heads none ready opens = record {
 }
 
 -- a task that waits
-pub stands-idle : (th : Thread) (j now since : ℕ) (ts : List Task) (t : Task) → slice_get ts j ≡ Some t → t.thread ≡ th → HaveHeads ts → NoKeeper j ts → t.readiness ≡ Waiting → since ≤ now
+pub stands-idle : (th : TaskUnit) (j now since : ℕ) (ts : List Task) (t : Task) → slice_get ts j ≡ Some t → t.thread ≡ th → HaveHeads ts → NoKeeper j ts → t.readiness ≡ Waiting → since ≤ now
     → t.gate.open' ≡ false → Stands th j now ts [] (Some since)
 stands-idle th j now since ts t at thread heads none waits le closed = record {
   t = t;
@@ -103,7 +103,7 @@ two-changes i j f g ps ts fs gs k z at =
     one : (x : Task) → slice_get (change i f ts) k ≡ Some x → z.pieces ≡ x.pieces → Either' i ps ts k z
     one x there same = changed i k f ts x there (λ w e was is. inl (e, same ∙ ap (λ v. v.pieces) is ∙ fs w)) (λ apart was. inr (apart, x, was, same))
 
-module _ (th : Thread) (j now : ℕ) (ts : List Task) (q : List Pending) (idle : Option ℕ) (h : Stands th j now ts q idle) (i : ℕ) (u : Task) (there : slice_get ts i ≡ Some u) (alone : AsksAlone j i ts)
+module _ (th : TaskUnit) (j now : ℕ) (ts : List Task) (q : List Pending) (idle : Option ℕ) (h : Stands th j now ts q idle) (i : ℕ) (u : Task) (there : slice_get ts i ≡ Some u) (alone : AsksAlone j i ts)
     (f : Task → Task) (keeps' : (u : Task) → IsAsBefore u (f u)) where
   -- others have kept nothing
   other_none : (k : ℕ) (x : Task) → (k ≡ i → ⊥) → slice_get ts k ≡ Some x → keeps j x.pieces ≡ false

@@ -6,7 +6,7 @@ use Rattle.seq_tree.specs.Lists.{change}
 use Rattle.seq_tree.specs.Names.{Name, same_name}
 use Rattle.seq_tree.specs.Variables.{Variables}
 use Rattle.ods_tree.specs.Walk.{only_if}
-use Rattle.machine.specs.Systems.{System, Thread, Periodic}
+use Rattle.machine.specs.Systems.{System, TaskUnit, Periodic}
 use Rattle.machine.specs.Pieces.{Piece}
 use Rattle.machine.specs.States.{Task, Phase, Effects, Delays, Arriving, Use, Readiness, Asleep, Waiting, Ready}
 use Rattle.machine.specs.Releases.{going, released}
@@ -102,7 +102,7 @@ module _ (name : Name) (period until : ℕ) (ticks : ℕ) where
   }
 
   -- the end of the task
-  pub end_back : (k : ℕ) (th : Thread) (offset : ℕ) (vars : Variables) (ts : List Task) (now used : ℕ) (t : Task) (told : List Event) → th.timing ≡ Periodic offset period → slice_get ts k ≡ Some t → t.thread ≡ th → now ≤ until
+  pub end_back : (k : ℕ) (th : TaskUnit) (offset : ℕ) (vars : Variables) (ts : List Task) (now used : ℕ) (t : Task) (told : List Event) → th.timing ≡ Periodic offset period → slice_get ts k ≡ Some t → t.thread ≡ th → now ≤ until
       → (t.readiness ≡ Ready) → Claim k Effects now (change k (ended vars) ts) told → Claim k Effects now ts (By now name (End used) ∷ told)
   end_back k th offset vars ts now used t told timing here thread early ready c u at none responds ahead =
       let is : t ≡ u = same_Some t u (sym here ∙ at) in
@@ -139,7 +139,7 @@ module _ (name : Name) (period until : ℕ) (ticks : ℕ) where
   ends_mono m n (Horizon time ∷ told) h e = ends_mono m n told h e
 
   -- the release of the task at its time
-  pub release_back : (k : ℕ) (costs : System) (th : Thread) (offset : ℕ) (ts : List Task) (now m : ℕ) (t : Task) (told : List Event) → th.timing ≡ Periodic offset period → slice_get ts k ≡ Some t → t.thread ≡ th
+  pub release_back : (k : ℕ) (costs : System) (th : TaskUnit) (offset : ℕ) (ts : List Task) (now m : ℕ) (t : Task) (told : List Event) → th.timing ≡ Periodic offset period → slice_get ts k ≡ Some t → t.thread ≡ th
       → now ≤ until → ticks ≤ period → t.readiness ≡ Asleep m → m ≤ now
       → ((released costs.costs t).readiness ≡ Ready) × ((released costs.costs t).next ≡ t.next + period) × ((released costs.costs t).gate.value ≡ None)
       → Claim k Delays now (change k (released costs.costs) ts) told → Claim k Delays now ts (By now name (Release t.gate.value) ∷ told)

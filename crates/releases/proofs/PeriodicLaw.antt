@@ -12,10 +12,10 @@ use Rattle.arrivals_tree.specs.declared.arrivals.Arrival.{Arrival}
 use Rattle.arrivals_tree.specs.Arriving.{Arrivals}
 use Rattle.arrivals_tree.specs.Acceptance.{IsAccepted}
 use Rattle.trace_tree.specs.declared.event.Event as machine
-use Rattle.machine.specs.Systems.{System, Thread, Timing, Periodic, Requested, Callee, Plain, Protected, Request, Unknown, callee, system}
+use Rattle.machine.specs.Systems.{System, TaskUnit, ReleasePattern, Periodic, Requested, CallTarget, Plain, Protected, Request, Unknown, callee, system}
 use Rattle.machine.specs.Pieces.{Piece, Idle, Store, Leaving, Calling, Working, Printing, Testing, Turning, Turned, Returning, Closing, Keeping, Opening, Requested as RequestEnd, Finishing, after_loop}
 use Rattle.machine.specs.Deeds.{Silent, Keep, deed, done, called}
-use Rattle.machine.specs.States.{State, Section, Control, Effects, Asleep, Readiness, first_task, first_wait, first_time, opening}
+use Rattle.machine.specs.States.{State, Resource, Control, Effects, Asleep, Readiness, first_task, first_wait, first_time, opening}
 use Rattle.machine.specs.Steps.{step}
 use Rattle.machine.specs.Meanings.{run, Meaning, start}
 use Rattle.guarantee.specs.Software.{program_software}
@@ -49,7 +49,7 @@ use Rattle.program_calls.proofs.Accepted.{elsewhere}
 use Rattle.program_calls.proofs.Accepted.{IsInside}
 
 -- the barrier of a request, and its end
-opening_closers : (j : ℕ) (rest : List Piece) → AreOpening j rest → (cs : List Section) × (closers rest ≡ Control j ∷ cs)
+opening_closers : (j : ℕ) (rest : List Piece) → AreOpening j rest → (cs : List Resource) × (closers rest ≡ Control j ∷ cs)
 opening_closers j (Opening other ∷ RequestEnd same value ∷ ps) h = (closers ps, ap (λ n. Control n ∷ closers ps) h.1)
 opening_closers j _ h = absurd h
 
@@ -58,22 +58,22 @@ silent_keep j v e = cc
 
 -- a value is kept inside the control structure for which it is
 keep_parts : (y : System) (May : Permission) (x : Piece) (vars : Variables) (rest : List Piece) (j : ℕ) (v : Option ℕ) → (done y x vars rest).act ≡ Keep j v → AreFit May (x ∷ rest)
-    → (cs : List Section) × (closers (x ∷ rest) ≡ Control j ∷ cs)
+    → (cs : List Resource) × (closers (x ∷ rest) ≡ Control j ∷ cs)
 keep_parts y May (Keeping task value) vars rest j v e fit =
     let same : task ≡ j = keep_same task j value v e in
-    let o : (cs : List Section) × (closers rest ≡ Control task ∷ cs) = opening_closers task rest fit.0 in
+    let o : (cs : List Resource) × (closers rest ≡ Control task ∷ cs) = opening_closers task rest fit.0 in
     (o.0, o.1 ∙ ap (λ n. Control n ∷ o.0) same)
   where
     keep_same : (m n : ℕ) (a b : Option ℕ) → Keep m a ≡ Keep n b → m ≡ n
     keep_same m n a b q = cc
 keep_parts y May (Leaving condition) vars rest j v e fit = by (holds condition vars) e
   where
-    by : (b : Bool) → (if b then deed Silent (drop 1 vars) (after_loop rest) else deed Silent vars rest).act ≡ Keep j v → (cs : List Section) × (closers (Leaving condition ∷ rest) ≡ Control j ∷ cs)
+    by : (b : Bool) → (if b then deed Silent (drop 1 vars) (after_loop rest) else deed Silent vars rest).act ≡ Keep j v → (cs : List Resource) × (closers (Leaving condition ∷ rest) ≡ Control j ∷ cs)
     by true q = absurd (silent_keep j v q)
     by false q = absurd (silent_keep j v q)
 keep_parts y May (Calling unit op actuals) vars rest j v e fit = by (callee y unit op) e
   where
-    by : (c : Callee) → (called c actuals vars rest).act ≡ Keep j v → (cs : List Section) × (closers (Calling unit op actuals ∷ rest) ≡ Control j ∷ cs)
+    by : (c : CallTarget) → (called c actuals vars rest).act ≡ Keep j v → (cs : List Resource) × (closers (Calling unit op actuals ∷ rest) ≡ Control j ∷ cs)
     by (Plain o) q = absurd cc
     by (Protected object at g o) q = absurd cc
     by (Request task) q = absurd cc
@@ -92,17 +92,17 @@ keep_parts y May (RequestEnd task value) vars rest j v e fit = absurd cc
 keep_parts y May Finishing vars rest j v e fit = absurd cc
 
 -- nobody keeps a value in the control structure of a cyclic task
-keeps_away : (p : Program) (y : System) (w : software.Software) (names' : claims.Naming p y w) (k : ℕ) (th : Thread) (stands : slice_get y.threads k ≡ Some th) (offset period ticks : ℕ) (timing : th.timing ≡ Periodic offset period) (short : ticks ≤ period)
+keeps_away : (p : Program) (y : System) (w : software.Software) (names' : claims.Naming p y w) (k : ℕ) (th : TaskUnit) (stands : slice_get y.threads k ≡ Some th) (offset period ticks : ℕ) (timing : th.timing ≡ Periodic offset period) (short : ticks ≤ period)
     → (as' : List Arrival) (r : Ranking) (s : State) → Excludes y as' r s → KeepsAway p y w names' k th stands offset period ticks timing short s.tasks
 keeps_away p y w names' k th stands offset period ticks timing short as' r s x i t piece rest j v at has act same =
     let F : List Piece → Type 0 = λ ps. AreFit (AllFall r i) ps in
     let fit : AreFit (AllFall r i) (piece ∷ rest) = subst F has (x.keeps.sound i t at).fits in
-    let inside : (cs : List Section) × (closers (piece ∷ rest) ≡ Control j ∷ cs) = keep_parts y (AllFall r i) piece t.vars rest j v act fit in
+    let inside : (cs : List Resource) × (closers (piece ∷ rest) ≡ Control j ∷ cs) = keep_parts y (AllFall r i) piece t.vars rest j v act fit in
     let ss : sections t ≡ Control j ∷ inside.0 = sym (x.keeps.sound i t at).closes ∙ ap closers has ∙ inside.1 in
-    let H : List Section → Type 0 = λ cs. AreHeld y as' cs in
+    let H : List Resource → Type 0 = λ cs. AreHeld y as' cs in
     let there : IsThere y as' (Control j) = (subst H ss (x.held i t at)).1 in
     let is : there.0 ≡ th = same_Some there.0 th (sym there.1 ∙ ap (slice_get y.threads) (sym same) ∙ stands) in
-    let R : Timing → Type 0 = λ z. IsRequested z in
+    let R : ReleasePattern → Type 0 = λ z. IsRequested z in
     subst R (ap (λ z. z.timing) is ∙ timing) there.2
 
 run_elsewhere : (y : System) (P : Arrival → Type 0) (m : ℕ) (s : State) → Each P s.arrivals → Each P (run y m s).0.arrivals
@@ -113,7 +113,7 @@ run_elsewhere y P (suc m) s all =
     run_elsewhere y P m (step y s).0 (subst E (sym d.1) (each-drop P d.0 s.arrivals all))
 
 -- the releases of a cyclic thread
-pub on_time : (limit : ℕ) (p : Program) (r : Arrivals) (trace : List machine.Event) (k : ℕ) (th : Thread) (offset period ticks : ℕ) → MeetsRules p → IsAccepted limit p r → Meaning p r trace → NeverStops (named p trace)
+pub on_time : (limit : ℕ) (p : Program) (r : Arrivals) (trace : List machine.Event) (k : ℕ) (th : TaskUnit) (offset period ticks : ℕ) → MeetsRules p → IsAccepted limit p r → Meaning p r trace → NeverStops (named p trace)
     → slice_get (system p r).threads k ≡ Some th → th.timing ≡ Periodic offset period → ticks ≤ period → Responds r.until (named p trace) (record { thread = th.name; ticks = ticks })
     → AreOnTime period r.until offset (releases th.name (named p trace))
 on_time limit p r trace k th offset period ticks meets accepted m quiet at timing short responds =
@@ -140,7 +140,7 @@ pub are_periodic : (limit : ℕ) → CyclicTasksAreOnTime limit
 are_periodic limit p r trace meets accepted m quiet =
     each_task p r (λ t. EndsWithinPeriod r.until (named p trace) t.name t.timing → IsPeriodic r.until (named p trace) t.name t.timing) (λ k th at. by k th at th.timing refl)
   where
-    by : (k : ℕ) (th : Thread) → slice_get (system p r).threads k ≡ Some th → (timing : Timing) → th.timing ≡ timing
+    by : (k : ℕ) (th : TaskUnit) → slice_get (system p r).threads k ≡ Some th → (timing : ReleasePattern) → th.timing ≡ timing
         → EndsWithinPeriod r.until (named p trace) th.name (timing_at timing) → IsPeriodic r.until (named p trace) th.name (timing_at timing)
     by k th at (Periodic offset period) is ends = on_time limit p r trace k th offset period ends.0 meets accepted m quiet at is ends.1 ends.2
     by k th at (Requested op ceiling separation jitter external) is ends = tt

@@ -10,10 +10,10 @@ use Rattle.arrivals_tree.specs.declared.arrivals.Arrival.{Arrival}
 use Rattle.trace_tree.specs.Lines.{unit_name}
 use Rattle.trace_tree.specs.declared.event.Event as machine
 use Rattle.trace_tree.specs.declared.event.Event.TheVariants as event
-use Rattle.machine.specs.Systems.{System, Thread, Periodic}
+use Rattle.machine.specs.Systems.{System, TaskUnit, Periodic}
 use Rattle.machine.specs.Pieces.{Piece, Finishing, pieces}
 use Rattle.machine.specs.Deeds.{Act, Silent, Print, Enter, Leave, Ask, Keep, Open, Ended, Finish, done}
-use Rattle.machine.specs.States.{State, Task, Phase, Effects, Delays, Arriving, Use, Section, Object, Control, Held, Readiness, Asleep, Waiting, Ready, shut}
+use Rattle.machine.specs.States.{State, Task, Phase, Effects, Delays, Arriving, Use, Resource, Object, Control, Held, Readiness, Asleep, Waiting, Ready, shut}
 use Rattle.machine.specs.Dispatch.{dispatched}
 use Rattle.machine.specs.Releases.{Next, going, released, release_task, release, is_waiting, serve_task, serve, next_time, parameter}
 use Rattle.machine.specs.Effects.{acted, takes_effect, entered_at, stopped_at, exit, go, ended, ceiling_of, inside_now, outside_now, outside_by, lent, object_unit, task_unit}
@@ -37,7 +37,7 @@ use Rattle.program_calls.proofs.Facts.{first-none, first-where}
 use Rattle.program_calls.proofs.Tasks.{going-thread, outside-thread}
 
 -- faces through the changes of an act
-inside-face : (y : System) (vars : Variables) (ps : List Piece) (c : Section) (n : ℕ) (t : Task) → SameFace t (going y.costs vars ps (inside_now c n t))
+inside-face : (y : System) (vars : Variables) (ps : List Piece) (c : Resource) (n : ℕ) (t : Task) → SameFace t (going y.costs vars ps (inside_now c n t))
 inside-face y vars ps c n t = let g : SameFace (inside_now c n t) (going y.costs vars ps (inside_now c n t)) = going-face y vars ps (inside_now c n t) in record { readiness = g.readiness; next = g.next; value = g.value }
 
 outside_by-face : (hs : List Held) (t : Task) → SameFace t (outside_by hs t)
@@ -61,7 +61,7 @@ due_is now (Asleep m) e = record { at = m; asleep = refl; due = grind arith }
 due_is now Waiting e = absurd (true≢false (sym e))
 due_is now Ready e = absurd (true≢false (sym e))
 
-module _ (p : Program) (y : System) (w : Software) (names' : Naming p y w) (k : ℕ) (th : Thread) (stands : slice_get y.threads k ≡ Some th) (offset period ticks : ℕ) (timing : th.timing ≡ Periodic offset period) (short : ticks ≤ period) where
+module _ (p : Program) (y : System) (w : Software) (names' : Naming p y w) (k : ℕ) (th : TaskUnit) (stands : slice_get y.threads k ≡ Some th) (offset period ticks : ℕ) (timing : th.timing ≡ Periodic offset period) (short : ticks ≤ period) where
   abbrev C : Phase → ℕ → List Task → List Event → Type 0
   C phase now ts told = Claim th.name period y.until ticks k phase now ts told
 

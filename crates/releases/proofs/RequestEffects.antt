@@ -11,11 +11,11 @@ use Rattle.trace_tree.specs.declared.event.Event as machine
 use Rattle.trace_tree.specs.declared.event.Event.TheVariants as event
 use Rattle.trace_tree.specs.Lines.{unit_name}
 use Rattle.ods_tree.specs.Walk.{only_if}
-use Rattle.machine.specs.Systems.{System, Thread, Requested}
+use Rattle.machine.specs.Systems.{System, TaskUnit, Requested}
 use Rattle.machine.specs.Pieces.{Piece, Keeping, Opening}
 use Rattle.machine.specs.Pieces as parts
 use Rattle.machine.specs.Deeds.{Act, Silent, Print, Enter, Leave, Ask, Keep, Open, Ended, Finish}
-use Rattle.machine.specs.States.{State, Task, Gate, Held, Section, Object, Control, Readiness, Asleep, Waiting, Ready}
+use Rattle.machine.specs.States.{State, Task, Gate, Held, Resource, Object, Control, Readiness, Asleep, Waiting, Ready}
 use Rattle.machine.specs.Releases.{Next, going, serve}
 use Rattle.machine.specs.Effects.{acted, entry, entered_at, stopped_at, exit, go, ended, resting, inside_now, outside_now, outside_by, ceiling_of, lent, task_unit}
 use Rattle.guarantee.specs.Requests.{Pending, Asked, Taken, Done}
@@ -32,7 +32,7 @@ use Rattle.releases.proofs.Readiness.{waits_not_ready, busy_ready}
 use Rattle.program_calls.proofs.Tasks.{going-pieces, going-readiness, going-thread, going-gate}
 
 -- a task is to requests what it was, as it enters and leaves sections
-inside-keeps : (c : Section) (n : ℕ) (t : Task) → IsAsBefore t (inside_now c n t)
+inside-keeps : (c : Resource) (n : ℕ) (t : Task) → IsAsBefore t (inside_now c n t)
 inside-keeps c n t = (refl, refl, refl)
 
 outside-keeps : (hs : List Held) (t : Task) → IsAsBefore t (outside_by hs t)
@@ -44,7 +44,7 @@ going-keeps : (y : System) (vars : Variables) (ps : List Piece) (g : Task → Ta
 going-keeps y vars ps g keeps' t =
     (going-thread y.costs vars ps (g t) ∙ (keeps' t).0, going-gate y.costs vars ps (g t) ∙ (keeps' t).1, going-readiness y.costs vars ps (g t) ∙ (keeps' t).2)
 
-module _ (p : Program) (y : System) (j : ℕ) (th : Thread) (is : IsNamed p y j th) (sig : Signature) (ceiling separation jitter : ℕ) (external : Bool)
+module _ (p : Program) (y : System) (j : ℕ) (th : TaskUnit) (is : IsNamed p y j th) (sig : Signature) (ceiling separation jitter : ℕ) (external : Bool)
     (timing : th.timing ≡ Requested sig ceiling separation jitter external)
     (s : State) (q : List Pending) (idle : Option ℕ) (h : Stands th j s.time s.tasks q idle) (good : AreGood y s.tasks)
     (i : ℕ) (u : Task) (at : slice_get s.tasks i ≡ Some u) where
@@ -63,11 +63,11 @@ module _ (p : Program) (y : System) (j : ℕ) (th : Thread) (is : IsNamed p y j 
   quiet : (next : Next) → Stands th j s.time next.0.tasks q idle → told p y j th is next.1 ≡ [] → Goes next
   quiet next rel none = (q, idle, rel, subst (λ ns. Onward q idle ns q idle) (sym none) (onward_none q idle))
 
-  entry_goes : (c : Section) (es : List machine.Event) (vars : Variables) (ps : List Piece) → told p y j th is es ≡ [] → keeps j u.pieces ≡ false → Heads ps → keeps j ps ≡ false
+  entry_goes : (c : Resource) (es : List machine.Event) (vars : Variables) (ps : List Piece) → told p y j th is es ≡ [] → keeps j u.pieces ≡ false → Heads ps → keeps j ps ≡ false
       → Goes (entry y i u c es vars ps s)
   entry_goes c es vars ps none before heads none' = by c (nat_lt (ceiling_of y c) u.active)
     where
-      by : (z : Section) (b : Bool) → Goes (if b then stopped_at y u z s else entered_at y i z es vars ps s)
+      by : (z : Resource) (b : Bool) → Goes (if b then stopped_at y u z s else entered_at y i z es vars ps s)
       by z true = quiet (stopped_at y u z s) h refl
       by (Object k) false = quiet (entered_at y i (Object k) es vars ps s) (plain_change (lent (Object k) s vars) ps (inside_now (Object k) (ceiling_of y (Object k))) (inside-keeps (Object k) (ceiling_of y (Object k))) before heads none') none
       by (Control k) false = quiet (entered_at y i (Control k) es vars ps s) (plain_change vars ps (inside_now (Control k) (ceiling_of y (Control k))) (inside-keeps (Control k) (ceiling_of y (Control k))) before heads none') none
@@ -178,7 +178,7 @@ module _ (p : Program) (y : System) (j : ℕ) (th : Thread) (is : IsNamed p y j 
       by (r ∷ r' ∷ rs) queue = absurd queue
 
   -- a request of another task
-  made_other : (k : ℕ) (v : Option ℕ) (vars : Variables) (ps : List Piece) → (k ≡ j → ⊥) → ((w : Thread) × (slice_get y.threads k ≡ Some w)) → keeps j u.pieces ≡ false → is_free ps ≡ true
+  made_other : (k : ℕ) (v : Option ℕ) (vars : Variables) (ps : List Piece) → (k ≡ j → ⊥) → ((w : TaskUnit) × (slice_get y.threads k ≡ Some w)) → keeps j u.pieces ≡ false → is_free ps ≡ true
       → (x : Piece) (rest : List Piece) → u.pieces ≡ x ∷ rest → Goes (acted y i u (Ended k v) vars ps s)
   made_other k v vars ps apart valid none free x rest has =
       let s' : State = exit y i vars ps s in
@@ -255,7 +255,7 @@ module _ (p : Program) (y : System) (j : ℕ) (th : Thread) (is : IsNamed p y j 
   pub record MayAct : Type 0 where
     pub asking : asks j u.pieces ≡ true → AsksAlone j i s.tasks
     pub finishing : i ≡ j → AsksAlone j j s.tasks
-    pub valid : (k : ℕ) → asks k u.pieces ≡ true → (w : Thread) × (slice_get y.threads k ≡ Some w)
+    pub valid : (k : ℕ) → asks k u.pieces ≡ true → (w : TaskUnit) × (slice_get y.threads k ≡ Some w)
 
   plain_goes : (x : Piece) (rest : List Piece) (a : Act) (vars : Variables) (ps : List Piece) → MayAct → u.pieces ≡ x ∷ rest → is_plain a ≡ true → keeps j u.pieces ≡ false → is_free ps ≡ true → Goes (acted y i u a vars ps s)
   plain_goes x rest Silent vars ps may has plain none free = quiet (go y i vars ps s, []) (plain_change vars ps (λ w. w) (λ t. (refl, refl, refl)) none (free_heads ps free) (free_keeps j ps free)) refl

@@ -9,7 +9,7 @@ use Rattle.trace_tree.specs.declared.event.Event as machine
 use Rattle.trace_tree.specs.declared.event.Event.TheVariants as event
 use Rattle.trace_tree.specs.Lines.{unit_name}
 use Rattle.ods_tree.specs.Walk.{only_if}
-use Rattle.machine.specs.Systems.{System, Thread}
+use Rattle.machine.specs.Systems.{System, TaskUnit}
 use Rattle.machine.specs.States.{State, Task, Waiting, Ready, first_task}
 use Rattle.machine.specs.Releases.{Next, released, release, release_task, serve, serve_task, is_waiting}
 use Rattle.guarantee.specs.Events.{named}
@@ -50,20 +50,20 @@ good_change y i f ts good threads rests = record {
 }
 
 -- the unit of a task is that of its thread
-pub unit-at : (y : System) (k : ℕ) (th : Thread) → slice_get y.threads k ≡ Some th → task_unit y k ≡ th.unit
-unit-at y k th at = ap (λ o. unwrap_or (option_map (λ (t : Thread). t.unit) o) 0) at
+pub unit-at : (y : System) (k : ℕ) (th : TaskUnit) → slice_get y.threads k ≡ Some th → task_unit y k ≡ th.unit
+unit-at y k th at = ap (λ o. unwrap_or (option_map (λ (t : TaskUnit). t.unit) o) 0) at
 
 -- at the opening no task has pieces
 pub no_first_pieces : (y : System) (i : ℕ) (u : Task) → slice_get (map first_task y.threads) i ≡ Some u → u.pieces ≡ []
 no_first_pieces y i u at = let m = mapped-at first_task y.threads i u at in ap (λ t. t.pieces) (sym m.2)
 
 -- a task that is told of by its name alone
-pub record IsNamed (p : Program) (y : System) (j : ℕ) (th : Thread) : Type 0 where
+pub record IsNamed (p : Program) (y : System) (j : ℕ) (th : TaskUnit) : Type 0 where
   pub at : slice_get y.threads j ≡ Some th
   pub own : same_name (unit_name p th.unit) th.name ≡ true
-  pub others : (k : ℕ) (u : Thread) → slice_get y.threads k ≡ Some u → (k ≡ j → ⊥) → same_name (unit_name p u.unit) th.name ≡ false
+  pub others : (k : ℕ) (u : TaskUnit) → slice_get y.threads k ≡ Some u → (k ≡ j → ⊥) → same_name (unit_name p u.unit) th.name ≡ false
 
-module _ (p : Program) (y : System) (j : ℕ) (th : Thread) (is : IsNamed p y j th) where
+module _ (p : Program) (y : System) (j : ℕ) (th : TaskUnit) (is : IsNamed p y j th) where
   abbrev pub told : List machine.Event → List Notice
   told es = notices th.name (named p es)
 

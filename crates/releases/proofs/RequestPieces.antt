@@ -7,7 +7,7 @@ use Rattle.seq_tree.specs.Statements.{Statement, Statements, Branches, Null, Ass
 use Rattle.seq_tree.specs.Variables.{Variables}
 use Rattle.seq_tree.specs.Values.{holds}
 use Rattle.seq_tree.specs.Runs.{request_value}
-use Rattle.machine.specs.Systems.{System, Callee, Plain, Protected, Request, Unknown, callee}
+use Rattle.machine.specs.Systems.{System, CallTarget, Plain, Protected, Request, Unknown, callee}
 use Rattle.machine.specs.Pieces.{Piece, Idle, Store, Leaving, Calling, Working, Printing, Testing, Turning, Turned, Returning, Closing, Keeping, Opening, Requested, Finishing, pieces_of, pieces, branch_pieces, after_loop}
 use Rattle.machine.specs.Deeds.{Act, Silent, Ask, Keep, Open, Ended, deed, done, called}
 use Rattle.machine.specs.States.{Gate}
@@ -156,7 +156,7 @@ pub data Part : Piece → List Piece → Act → List Piece → Type 0 where
   Opens : (k : ℕ) (v : Option ℕ) (ps : List Piece) → is_free ps ≡ true → Part (Opening k) (Requested k v ∷ ps) (Open k) (Requested k v ∷ ps)
   Ends : (k : ℕ) (v : Option ℕ) (ps : List Piece) → is_free ps ≡ true → Part (Requested k v) ps (Ended k v) ps
 
-part_call : (k : Callee) (unit op : Name) (actuals : List Expression) (vars : Variables) (rest : List Piece) → is_free rest ≡ true
+part_call : (k : CallTarget) (unit op : Name) (actuals : List Expression) (vars : Variables) (rest : List Piece) → is_free rest ≡ true
     → Part (Calling unit op actuals) rest ((called k actuals vars rest).act) ((called k actuals vars rest).pieces)
 part_call (Plain o) unit op actuals vars rest free = Plainly refl (λ j. refl) (free_block o.block _ ∙ free)
 part_call (Protected object j g o) unit op actuals vars rest free = Plainly refl (λ i. refl) (free_block o.block _ ∙ free)

@@ -2,7 +2,7 @@
 use Rattle.std.specs.Prelude.{◌≡◌, ◌⊎◌, ℕ, ◌≤◌, Bool, true, false, List, [], ◌∷◌, slice_get, Option, Some, None, refl}
 use Rattle.std.proofs.Common.{sym, ◌∙◌, ap, subst, arith, inl, inr}
 use Rattle.seq_tree.specs.Lists.{change}
-use Rattle.machine.specs.Systems.{Thread}
+use Rattle.machine.specs.Systems.{TaskUnit}
 use Rattle.machine.specs.Pieces.{Piece}
 use Rattle.machine.specs.States.{Task, Gate, Readiness, Asleep, Waiting, Ready}
 use Rattle.guarantee.specs.Requests.{Pending}
@@ -31,7 +31,7 @@ Queue j now ts readiness g [] = g.open' ≡ true → Someone (opened j) ts
 Queue j now ts readiness g (r ∷ []) = (g.open' ≡ true) × (readiness ≡ Ready) × (r.time ≤ now) × ((r.value ≡ g.value) ⊎ Someone (keeps j) ts)
 Queue j now ts readiness g (r ∷ r' ∷ q) = ⊥
 
-pub record Stands (th : Thread) (j now : ℕ) (ts : List Task) (q : List Pending) (idle : Option ℕ) : Type 0 where
+pub record Stands (th : TaskUnit) (j now : ℕ) (ts : List Task) (q : List Pending) (idle : Option ℕ) : Type 0 where
   pub t : Task
   pub at : slice_get ts j ≡ Some t
   pub written : t.thread ≡ th
@@ -62,7 +62,7 @@ queue_on j now later ts ts' r g (p ∷ []) le stay h = (h.0, h.1, omega (arith, 
 queue_on j now later ts ts' r g (p ∷ p' ∷ q) le stay h = h
 
 -- the task itself stays as it is to requests
-pub transfer : (th : Thread) (j now later : ℕ) (ts ts' : List Task) (q : List Pending) (idle : Option ℕ) (h : Stands th j now ts q idle) → now ≤ later
+pub transfer : (th : TaskUnit) (j now later : ℕ) (ts ts' : List Task) (q : List Pending) (idle : Option ℕ) (h : Stands th j now ts q idle) → now ≤ later
     → (t' : Task) → slice_get ts' j ≡ Some t' → t'.thread ≡ h.t.thread → t'.gate ≡ h.t.gate → t'.readiness ≡ h.t.readiness
     → ((i : ℕ) (u : Task) → slice_get ts' i ≡ Some u → Heads u.pieces) → ((i : ℕ) (u : Task) → slice_get ts' i ≡ Some u → KeptBy j h.t.gate u.pieces) → Stay j ts ts'
     → Stands th j later ts' q idle
@@ -77,14 +77,14 @@ transfer th j now later ts ts' q idle h le t' at' thread gate readiness heads' k
 }
 
 -- later, with the same tasks
-pub later_on : (th : Thread) (j now later : ℕ) (ts : List Task) (q : List Pending) (idle : Option ℕ) → Stands th j now ts q idle → now ≤ later → Stands th j later ts q idle
+pub later_on : (th : TaskUnit) (j now later : ℕ) (ts : List Task) (q : List Pending) (idle : Option ℕ) → Stands th j now ts q idle → now ≤ later → Stands th j later ts q idle
 later_on th j now later ts q idle h le = transfer th j now later ts ts q idle h le h.t h.at refl refl refl h.heads h.kept (λ i u at e. (u, at, refl))
 
 -- a change of one task that has kept no value before and after it, or keeps its pieces; if it is the task itself, it stays as it is to requests
 abbrev pub IsStill : ℕ → (Task → Task) → Task → Type 0
 IsStill j f u = ((keeps j u.pieces ≡ false) × Heads (f u).pieces × (keeps j (f u).pieces ≡ false)) ⊎ ((f u).pieces ≡ u.pieces)
 
-pub moved : (th : Thread) (j now : ℕ) (ts : List Task) (q : List Pending) (idle : Option ℕ) (i : ℕ) (f : Task → Task) (h : Stands th j now ts q idle)
+pub moved : (th : TaskUnit) (j now : ℕ) (ts : List Task) (q : List Pending) (idle : Option ℕ) (i : ℕ) (f : Task → Task) (h : Stands th j now ts q idle)
     → ((u : Task) → slice_get ts i ≡ Some u → IsStill j f u)
     → (i ≡ j → IsAsBefore h.t (f h.t)) → Stands th j now (change i f ts) q idle
 moved th j now ts q idle i f h still own = places j i here elsewhere

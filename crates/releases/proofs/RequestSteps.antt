@@ -14,9 +14,9 @@ use Rattle.trace_tree.specs.declared.event.Event as machine
 use Rattle.trace_tree.specs.declared.event.Event.TheVariants as event
 use Rattle.trace_tree.specs.Lines.{unit_name}
 use Rattle.ods_tree.specs.Walk.{only_if}
-use Rattle.machine.specs.Systems.{System, Thread, Requested}
+use Rattle.machine.specs.Systems.{System, TaskUnit, Requested}
 use Rattle.machine.specs.Pieces.{Piece}
-use Rattle.machine.specs.Deeds.{Deed, done}
+use Rattle.machine.specs.Deeds.{PieceOutcome, done}
 use Rattle.machine.specs.States.{State, Task, Phase, Effects, Delays, Arriving, Use, Readiness, Asleep, Waiting, Ready, first_task, first_wait, opening, shut}
 use Rattle.machine.specs.Dispatch.{dispatched}
 use Rattle.machine.specs.Releases.{Next, released, release_task, serve}
@@ -38,14 +38,14 @@ use Rattle.program_calls.proofs.Facts.{first-where}
 use Rattle.releases.proofs.Readiness.{waits_not_ready}
 use Rattle.program_calls.proofs.Instants.{acted-same, serve-same}
 
-module _ (p : Program) (y : System) (j : ℕ) (th : Thread) (is : IsNamed p y j th) (sig : Signature) (ceiling separation jitter : ℕ) (external : Bool)
+module _ (p : Program) (y : System) (j : ℕ) (th : TaskUnit) (is : IsNamed p y j th) (sig : Signature) (ceiling separation jitter : ℕ) (external : Bool)
     (timing : th.timing ≡ Requested sig ceiling separation jitter external) where
   -- what is asked of a state: of its tasks, of the task whose pieces take effect, and of an arrival for the task
   pub record MayServe (s : State) : Type 0 where
     pub good : AreGood y s.tasks
     pub asking : (i : ℕ) (u : Task) → slice_get s.tasks i ≡ Some u → asks j u.pieces ≡ true → AsksAlone j i s.tasks
     pub finishing : (t : Task) → slice_get s.tasks j ≡ Some t → s.phase ≡ Effects → s.ran ≡ Some j → AsksAlone j j s.tasks
-    pub valid : (i : ℕ) (u : Task) (k : ℕ) → slice_get s.tasks i ≡ Some u → asks k u.pieces ≡ true → (w : Thread) × (slice_get y.threads k ≡ Some w)
+    pub valid : (i : ℕ) (u : Task) (k : ℕ) → slice_get s.tasks i ≡ Some u → asks k u.pieces ≡ true → (w : TaskUnit) × (slice_get y.threads k ≡ Some w)
     pub arriving : (a : Arrival) (others : List Arrival) → s.arrivals ≡ a ∷ others → a.task ≡ th.unit → (i : ℕ) (u : Task) → slice_get s.tasks i ≡ Some u → asks j u.pieces ≡ true → ⊥
 
   abbrev pub Steps : List Pending → Option ℕ → Next → Type 0
@@ -74,7 +74,7 @@ module _ (p : Program) (y : System) (j : ℕ) (th : Thread) (is : IsNamed p y j 
             → Steps q idle (if b then takes_effect y i u (done y x u.vars rest) s else goes_to Delays s)
         by_left i u x rest false ran at has = away
         by_left i u x rest true ran at has =
-            let d : Deed = done y x u.vars rest in
+            let d : PieceOutcome = done y x u.vars rest in
             let o = act_goes p y j th is sig ceiling separation jitter external timing s q idle h may.good i u at x rest d.act d.vars d.pieces (may_act i u ran at) has
             (part y x u.vars rest (subst Heads has (h.heads i u at))) in
             (o.0, o.1, subst (λ n. Stands th j n (acted y i u d.act d.vars d.pieces s).0.tasks o.0 o.1) (sym ((acted-same y i u d.act d.vars d.pieces s).time)) o.2, o.3)

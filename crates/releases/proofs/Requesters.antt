@@ -8,10 +8,10 @@ use Rattle.seq_tree.specs.Variables.{Variables}
 use Rattle.arrivals_tree.specs.declared.arrivals.Arrival.{Arrival}
 use Rattle.trace_tree.specs.declared.event.Event.{Event}
 use Rattle.trace_tree.specs.declared.event.Event.TheVariants as event
-use Rattle.machine.specs.Systems.{System, Callee, Plain, Protected, Request, Unknown, callee}
+use Rattle.machine.specs.Systems.{System, CallTarget, Plain, Protected, Request, Unknown, callee}
 use Rattle.machine.specs.Pieces.{Piece}
 use Rattle.machine.specs.Deeds.{Act, Silent, Print, Enter, Leave, Ask, Keep, Open, Ended, Finish, done}
-use Rattle.machine.specs.States.{State, Task, Phase, Effects, Delays, Arriving, Use, Section, Object, Control, first_task, opening}
+use Rattle.machine.specs.States.{State, Task, Phase, Effects, Delays, Arriving, Use, Resource, Object, Control, first_task, opening}
 use Rattle.machine.specs.Dispatch.{dispatched}
 use Rattle.machine.specs.Releases.{release_task, release, is_waiting, serve_task}
 use Rattle.machine.specs.Effects.{acted, takes_effect, entry, entered_at, stopped_at, exit, ended, ceiling_of, task_unit}
@@ -34,19 +34,19 @@ each_change Q (suc i) f (x ∷ xs) g all = (all.0, each_change Q i f xs g all.1)
 
 module _ (y : System) (P : ℕ → Type 0) where
   -- a section of a task that may be requested
-  abbrev pub IsOk : Section → Type 0
+  abbrev pub IsOk : Resource → Type 0
   IsOk (Object object) = ⊤
   IsOk (Control task) = P task
 
   abbrev pub AreOk : List Face → Type 0
   AreOk fs = Each (λ f. Each IsOk f.1) fs
 
-  entered_ok : (May : Permission) → ((unit op : Name) (ss : List Section) (j : ℕ) → May unit op ss → callee y unit op ≡ Request j → P j)
-      → (c : Section) (ss : List Section) → IsEntered y May c ss → IsOk c
+  entered_ok : (May : Permission) → ((unit op : Name) (ss : List Resource) (j : ℕ) → May unit op ss → callee y unit op ≡ Request j → P j)
+      → (c : Resource) (ss : List Resource) → IsEntered y May c ss → IsOk c
   entered_ok May requests (Object k) ss e = tt
   entered_ok May requests (Control k) ss e = by (callee y e.unit e.op) refl e.enters
     where
-      by : (q : Callee) → callee y e.unit e.op ≡ q → entered_by q ≡ Some (Control k) → P k
+      by : (q : CallTarget) → callee y e.unit e.op ≡ q → entered_by q ≡ Some (Control k) → P k
       by (Plain o) is h = absurd (none-some (Control k) h)
       by (Protected object at g o) is h = absurd cc
       by (Request task) is h =
@@ -59,7 +59,7 @@ module _ (y : System) (P : ℕ → Type 0) where
       by Unknown is h = absurd (none-some (Control k) h)
 
   -- each state of a run
-  step_ok : (May : ℕ → Permission) → AreWritten y May → ((i : ℕ) (unit op : Name) (ss : List Section) (j : ℕ) → May i unit op ss → callee y unit op ≡ Request j → P j)
+  step_ok : (May : ℕ → Permission) → AreWritten y May → ((i : ℕ) (unit op : Name) (ss : List Resource) (j : ℕ) → May i unit op ss → callee y unit op ≡ Request j → P j)
       → (s : State) → Keeps y May s → AreOk (faces s.tasks) → AreOk (faces (step y s).0.tasks)
   step_ok May text requests s keeps all = by (step-passing y May text s keeps)
     where
@@ -94,7 +94,7 @@ module _ (y : System) (P : ℕ → Type 0) where
       by true = release_task-said i (slice_get s.tasks i) s
       by false = tt
 
-  entry-said : (i : ℕ) (t : Task) (c : Section) (told : List Event) (vars : Variables) (ps : List Piece) (s : State) → Each IsSaid told → Each IsSaid (entry y i t c told vars ps s).1
+  entry-said : (i : ℕ) (t : Task) (c : Resource) (told : List Event) (vars : Variables) (ps : List Piece) (s : State) → Each IsSaid told → Each IsSaid (entry y i t c told vars ps s).1
   entry-said i t c told vars ps s all = by (nat_lt (ceiling_of y c) t.active)
     where
       by : (b : Bool) → Each IsSaid (if b then stopped_at y t c s else entered_at y i c told vars ps s).1
@@ -118,7 +118,7 @@ module _ (y : System) (P : ℕ → Type 0) where
   step_said : (May : ℕ → Permission) → AreWritten y May → (s : State) → Keeps y May s → AreOk (faces s.tasks) → Each IsSaid (step y s).1
   step_said May text s keeps all = stopped s.stopped
     where
-      ends_fit : (i j : ℕ) (ss : List Section) (act act' : Act) (ps : List Piece) → ActFits y (May i) ss act ps → act ≡ act' → ActFits y (May i) ss act' ps
+      ends_fit : (i j : ℕ) (ss : List Resource) (act act' : Act) (ps : List Piece) → ActFits y (May i) ss act ps → act ≡ act' → ActFits y (May i) ss act' ps
       ends_fit i j ss act act' ps h e = let Q : Act → Type 0 = λ z. ActFits y (May i) ss z ps in subst Q e h
 
       ends : (i : ℕ) (t : Task) (x : Piece) (rest : List Piece) (j : ℕ) (v : Option ℕ) → slice_get s.tasks i ≡ Some t → t.pieces ≡ x ∷ rest → (done y x t.vars rest).act ≡ Ended j v → P j
@@ -128,7 +128,7 @@ module _ (y : System) (P : ℕ → Type 0) where
           let top : closers (x ∷ rest) ≡ Control j ∷ closers (done y x t.vars rest).pieces =
           ends_fit i j (closers (x ∷ rest)) (done y x t.vars rest).act (Ended j v) (done y x t.vars rest).pieces (done-fits y (May i) (text.closed i) x t.vars rest fit).1 act in
           let ss : sections t ≡ Control j ∷ closers (done y x t.vars rest).pieces = sym (keeps.sound i t at).closes ∙ ap closers has ∙ top in
-          let O : List Section → Type 0 = λ cs. Each IsOk cs in
+          let O : List Resource → Type 0 = λ cs. Each IsOk cs in
           (subst O ss (all-at (λ f. Each IsOk f.1) (faces s.tasks) i (face t) all (map-at face s.tasks i t at))).0
 
       by_left : (i : ℕ) (t : Task) (x : Piece) (rest : List Piece) (b : Bool) → slice_get s.tasks i ≡ Some t → t.pieces ≡ x ∷ rest → Each IsSaid (if b then takes_effect y i t (done y x t.vars rest) s else goes_to Delays s).1
@@ -185,13 +185,13 @@ module _ (y : System) (P : ℕ → Type 0) where
       stopped false = phases s.phase
 
   -- a run
-  run_said : (May : ℕ → Permission) → AreWritten y May → ((i : ℕ) (unit op : Name) (ss : List Section) (j : ℕ) → May i unit op ss → callee y unit op ≡ Request j → P j)
+  run_said : (May : ℕ → Permission) → AreWritten y May → ((i : ℕ) (unit op : Name) (ss : List Resource) (j : ℕ) → May i unit op ss → callee y unit op ≡ Request j → P j)
       → (n : ℕ) (s : State) → Keeps y May s → AreOk (faces s.tasks) → Each IsSaid (run y n s).1
   run_said May text requests zero s keeps all = tt
   run_said May text requests (suc n) s keeps all =
       each-append IsSaid (step y s).1 (run y n (step y s).0).1 (step_said May text s keeps all)
       (run_said May text requests n (step y s).0 (step-keeps y May text s keeps) (step_ok May text requests s keeps all))
 
-  pub all_said : (May : ℕ → Permission) → AreWritten y May → ((i : ℕ) (unit op : Name) (ss : List Section) (j : ℕ) → May i unit op ss → callee y unit op ≡ Request j → P j)
+  pub all_said : (May : ℕ → Permission) → AreWritten y May → ((i : ℕ) (unit op : Name) (ss : List Resource) (j : ℕ) → May i unit op ss → callee y unit op ≡ Request j → P j)
       → (items : List Arrival) (n : ℕ) → Each IsSaid (run y n (opening y items)).1
   all_said May text requests items n = run_said May text requests n (opening y items) (opening-keeps y May items) (opening_ok items)

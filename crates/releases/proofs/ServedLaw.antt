@@ -13,7 +13,7 @@ use Rattle.arrivals_tree.specs.Acceptance.{IsAccepted}
 use Rattle.trace_tree.specs.declared.event.Event as machine
 use Rattle.trace_tree.specs.Lines.{unit_name}
 use Rattle.ods_tree.specs.Flats as flats
-use Rattle.machine.specs.Systems.{System, Thread, Timing, Periodic, Requested, system}
+use Rattle.machine.specs.Systems.{System, TaskUnit, ReleasePattern, Periodic, Requested, system}
 use Rattle.machine.specs.Pieces.{Piece, Closing, Keeping, Opening}
 use Rattle.machine.specs.Pieces as parts
 use Rattle.machine.specs.States.{State, Task, Effects, Control, opening}
@@ -69,7 +69,7 @@ each_left P n [] a others all e = absurd (empty n e)
 each_left P zero (x ∷ as') a others all e = let same : a ≡ x = cc in subst P (sym same) all.0
 each_left P (suc n) (x ∷ as') a others all e = each_left P n as' a others all.1 e
 
-module _ (limit : ℕ) (p : Program) (r : Arrivals) (meets : MeetsRules p) (accepted : IsAccepted limit p r) (j : ℕ) (th : Thread) (at : slice_get (system p r).threads j ≡ Some th)
+module _ (limit : ℕ) (p : Program) (r : Arrivals) (meets : MeetsRules p) (accepted : IsAccepted limit p r) (j : ℕ) (th : TaskUnit) (at : slice_get (system p r).threads j ≡ Some th)
     (sig : Signature) (ceiling separation jitter : ℕ) (external : Bool) (timing : th.timing ≡ Requested sig ceiling separation jitter external) where
   abbrev y : System
   y = system p r
@@ -109,7 +109,7 @@ module _ (limit : ℕ) (p : Program) (r : Arrivals) (meets : MeetsRules p) (acce
       among i u k stands asking = subst (IsAmong (Control k)) (x.keeps.sound i u stands).closes (asks_ends k u.pieces asking)
 
       ceiling_is : ceiling_of y (Control j) ≡ ceiling
-      ceiling_is = ap (λ o. unwrap_or (option_map (λ (t : Thread). ceiling_by t.timing) o) 0) at ∙ ap ceiling_by timing
+      ceiling_is = ap (λ o. unwrap_or (option_map (λ (t : TaskUnit). ceiling_by t.timing) o) 0) at ∙ ap ceiling_by timing
 
       covered : th.priority ≤ ceiling
       covered = subst (IsCovered th.priority) timing (ex.covered j th at)
@@ -136,7 +136,7 @@ module _ (limit : ℕ) (p : Program) (r : Arrivals) (meets : MeetsRules p) (acce
 pub all_served : (limit : ℕ) → RequestsAreServed limit
 all_served limit p r trace meets accepted m = each_task p r (λ t. IsServedWhile (named p trace) t.name t.timing) (λ k th at. by k th at th.timing refl)
   where
-    by : (k : ℕ) (th : Thread) → slice_get (system p r).threads k ≡ Some th → (timing : Timing) → th.timing ≡ timing → IsServedWhile (named p trace) th.name (timing_at timing)
+    by : (k : ℕ) (th : TaskUnit) → slice_get (system p r).threads k ≡ Some th → (timing : ReleasePattern) → th.timing ≡ timing → IsServedWhile (named p trace) th.name (timing_at timing)
     by k th at (Periodic offset period) e = tt
     by k th at (Requested sig ceiling separation jitter external) e = served_while limit p r meets accepted k th at sig ceiling separation jitter external e trace m
 

@@ -16,7 +16,7 @@ use Rattle.arrivals_tree.specs.Arriving.{Arrivals}
 use Rattle.arrivals_tree.specs.Acceptance.{IsAccepted}
 use Rattle.trace_tree.specs.declared.event.Event as machine
 use Rattle.trace_tree.specs.Lines.{unit_name}
-use Rattle.machine.specs.Systems.{System, Thread, Requested, system, Callee, Plain, Protected, Request, Unknown, callee}
+use Rattle.machine.specs.Systems.{System, TaskUnit, Requested, system, CallTarget, Plain, Protected, Request, Unknown, callee}
 use Rattle.machine.specs.States.{State, Control, opening}
 use Rattle.machine.specs.Effects.{task_unit}
 use Rattle.machine.specs.Meanings.{Meaning, run}
@@ -51,9 +51,9 @@ use Rattle.program_calls.proofs.Weights.{counting}
 use Rattle.program_calls.proofs.Threads.{threads_apart}
 use Rattle.written_runs.proofs.Namings.{naming}
 
-module _ (limit : ℕ) (p : Program) (r : Arrivals) (meets : MeetsRules p) (accepted : IsAccepted limit p r) (j : ℕ) (th : Thread) (at : slice_get (system p r).threads j ≡ Some th)
+module _ (limit : ℕ) (p : Program) (r : Arrivals) (meets : MeetsRules p) (accepted : IsAccepted limit p r) (j : ℕ) (th : TaskUnit) (at : slice_get (system p r).threads j ≡ Some th)
     (sig : Signature) (ceiling separation jitter : ℕ) (external : Bool) (timing : th.timing ≡ Requested sig ceiling separation jitter external)
-    (first : ℕ) (sth : Thread) (at_first : slice_get (system p r).threads first ≡ Some sth) where
+    (first : ℕ) (sth : TaskUnit) (at_first : slice_get (system p r).threads first ≡ Some sth) where
   abbrev y : System
   y = system p r
 
@@ -63,7 +63,7 @@ module _ (limit : ℕ) (p : Program) (r : Arrivals) (meets : MeetsRules p) (acce
   names' : Naming p y (program_software p)
   names' = naming p r meets
 
-  named_by : (k : ℕ) (z : Thread) → slice_get y.threads k ≡ Some z → IsNamed p y k z
+  named_by : (k : ℕ) (z : TaskUnit) → slice_get y.threads k ≡ Some z → IsNamed p y k z
   named_by k z stands = record {
     at = stands;
     own = is-same (unit_name p z.unit) z.name (names'.thread_name k z stands);
@@ -84,12 +84,12 @@ module _ (limit : ℕ) (p : Program) (r : Arrivals) (meets : MeetsRules p) (acce
           let names : record { object = unit_name p (task_unit y j); op = asked_op y j } ≡ record { object = unit; op = op } = (apt p r meets).requests unit op j e in
           let unit_is : task_unit y j ≡ th.unit = unit-at y j th at in
           let object : th.name ≡ unit = sym (names'.thread_name j th at) ∙ ap (unit_name p) (sym unit_is) ∙ ap (λ n. n.object) names in
-          let asked : asked_op y j ≡ sig.name = ap (λ o. unwrap_or (option_map (λ (t : Thread). asked_by t.timing) o) []) at ∙ ap asked_by timing in
+          let asked : asked_op y j ≡ sig.name = ap (λ o. unwrap_or (option_map (λ (t : TaskUnit). asked_by t.timing) o) []) at ∙ ap asked_by timing in
           let op_is : sig.name ≡ op = sym asked ∙ ap (λ n. n.op) names in
           let call : is_call_of target unit op ≡ true = ap (λ b. b && same_name sig.name op) (is-same th.name unit object) ∙ is-same sig.name op op_is in
           ap (λ b. let m : ℕ = if b then 1 else starts_within (length (program_services p)) (program_services p) target unit op in m) call
 
-      by : (k : Callee) → callee y unit op ≡ k → CoversBody p target (record { object = unit; op = op }) k → Covers (requests_of count_of j) k (count_of unit op)
+      by : (k : CallTarget) → callee y unit op ≡ k → CoversBody p target (record { object = unit; op = op }) k → Covers (requests_of count_of j) k (count_of unit op)
       by (Plain o) e h = h
       by (Protected object k g o) e h = h
       by (Request task) e h = own (task == j) refl
@@ -99,9 +99,9 @@ module _ (limit : ℕ) (p : Program) (r : Arrivals) (meets : MeetsRules p) (acce
           own false same = omega arith
       by Unknown e h = tt
 
-  module _ (once : block_starts (program_services p) target sth.block ≤ 1) (alone : (k : ℕ) (z : Thread) → slice_get y.threads k ≡ Some z → (k ≡ first → ⊥) → can_request (program_services p) th.name z.block ≡ false)
+  module _ (once : block_starts (program_services p) target sth.block ≤ 1) (alone : (k : ℕ) (z : TaskUnit) → slice_get y.threads k ≡ Some z → (k ≡ first → ⊥) → can_request (program_services p) th.name z.block ≡ false)
       (elsewhere : Each (IsElsewhere y j) r.items) where
-    blocks : (k : ℕ) (z : Thread) → slice_get y.threads k ≡ Some z → dearest (counting count_of) z.block ≤ (if k == first then 1 else 0)
+    blocks : (k : ℕ) (z : TaskUnit) → slice_get y.threads k ≡ Some z → dearest (counting count_of) z.block ≤ (if k == first then 1 else 0)
     blocks k z stands = by (k == first) refl
       where
         by : (b : Bool) → (k == first) ≡ b → dearest (counting count_of) z.block ≤ (if b then 1 else 0)
@@ -138,8 +138,8 @@ module _ (limit : ℕ) (p : Program) (r : Arrivals) (meets : MeetsRules p) (acce
 -- of tasks of the program
 pub starters_ask_once : (limit : ℕ) → StartersAskOnce limit
 starters_ask_once limit p r trace t s op separation meets accepted m is_t is_s timing alone once =
-    let h : (th : Thread) × (slice_get (system p r).threads is_t.0 ≡ Some th) × (task_at th ≡ t) = thread_of p r is_t.0 t is_t.1 in
-    let g : (th : Thread) × (slice_get (system p r).threads is_s.0 ≡ Some th) × (task_at th ≡ s) = thread_of p r is_s.0 s is_s.1 in
+    let h : (th : TaskUnit) × (slice_get (system p r).threads is_t.0 ≡ Some th) × (task_at th ≡ t) = thread_of p r is_t.0 t is_t.1 in
+    let g : (th : TaskUnit) × (slice_get (system p r).threads is_s.0 ≡ Some th) × (task_at th ≡ s) = thread_of p r is_s.0 s is_s.1 in
     subst (Holds t) g.2 (subst (λ a. Holds a (task_at g.0)) h.2 (of_threads is_t.0 h.0 h.1 is_s.0 g.0 g.1)) timing alone once
   where
     Holds : Task → Task → Type 0
@@ -147,7 +147,7 @@ starters_ask_once limit p r trace t s op separation meets accepted m is_t is_s t
         a.timing ≡ Sporadic op separation None → Each (λ u. can_request (program_services p) a.name u.block ≡ true → same_name u.name b.name ≡ true) (program_software p).tasks
         → block_starts (program_services p) (record { object = a.name; op = op.name }) b.block ≤ 1 → AsksOnce b.name a.name false (named p trace)
 
-    of_threads : (j : ℕ) (th : Thread) → slice_get (system p r).threads j ≡ Some th → (first : ℕ) (sth : Thread) → slice_get (system p r).threads first ≡ Some sth → Holds (task_at th) (task_at sth)
+    of_threads : (j : ℕ) (th : TaskUnit) → slice_get (system p r).threads j ≡ Some th → (first : ℕ) (sth : TaskUnit) → slice_get (system p r).threads first ≡ Some sth → Holds (task_at th) (task_at sth)
     of_threads j th at first sth at_first timing' alone' once' =
         let i : IsInternal th.timing op separation = internal th.timing op separation timing' in
         asks_once limit p r meets accepted j th at op i.ceiling separation i.jitter false i.is first sth at_first once'

@@ -11,10 +11,10 @@ use Rattle.arrivals_tree.specs.declared.arrivals.Arrival.{Arrival}
 use Rattle.trace_tree.specs.declared.event.Event as machine
 use Rattle.trace_tree.specs.declared.event.Event.TheVariants as event
 use Rattle.trace_tree.specs.Lines.{unit_name}
-use Rattle.machine.specs.Systems.{System, Thread}
+use Rattle.machine.specs.Systems.{System, TaskUnit}
 use Rattle.machine.specs.Pieces.{Piece, Finishing, pieces}
-use Rattle.machine.specs.Deeds.{Act, Silent, Print, Enter, Leave, Ask, Keep, Open, Ended, Finish, Deed, done}
-use Rattle.machine.specs.States.{State, Task, Phase, Effects, Delays, Arriving, Use, Section, Object, Control, Held, opening}
+use Rattle.machine.specs.Deeds.{Act, Silent, Print, Enter, Leave, Ask, Keep, Open, Ended, Finish, PieceOutcome, done}
+use Rattle.machine.specs.States.{State, Task, Phase, Effects, Delays, Arriving, Use, Resource, Object, Control, Held, opening}
 use Rattle.machine.specs.Dispatch.{dispatched}
 use Rattle.machine.specs.Releases.{Next, after, going, released, release, release_task, serve, serve_task, is_waiting}
 use Rattle.machine.specs.Effects.{acted, takes_effect, entry, entered_at, stopped_at, exit, ended, inside_now, outside_now, outside_by, ceiling_of, lent, task_unit}
@@ -37,8 +37,8 @@ use Rattle.program_calls.proofs.Facts.{first-where}
 use Rattle.program_calls.proofs.Weights.{counting}
 use Rattle.program_calls.proofs.Tasks.{going-pieces, going-thread, released-pieces}
 
-module _ (p : Program) (y : System) (through : Name → Name → ℕ) (j : ℕ) (th : Thread) (is : IsNamed p y j th) (first : ℕ) (sth : Thread) (starts' : IsNamed p y first sth) (c : CoversCalls y (requests_of through j))
-    (blocks : (k : ℕ) (z : Thread) → slice_get y.threads k ≡ Some z → dearest (counting through) z.block ≤ (if k == first then 1 else 0)) where
+module _ (p : Program) (y : System) (through : Name → Name → ℕ) (j : ℕ) (th : TaskUnit) (is : IsNamed p y j th) (first : ℕ) (sth : TaskUnit) (starts' : IsNamed p y first sth) (c : CoversCalls y (requests_of through j))
+    (blocks : (k : ℕ) (z : TaskUnit) → slice_get y.threads k ≡ Some z → dearest (counting through) z.block ≤ (if k == first then 1 else 0)) where
   abbrev n : List Piece → ℕ
   n = rest (requests_of through j)
 
@@ -86,12 +86,12 @@ module _ (p : Program) (y : System) (through : Name → Name → ℕ) (j : ℕ) 
       (λ x e there is. ap (slice_get y.threads) e ∙ written i x there ∙ ap Some (sym (ap (λ z. z.thread) is ∙ same x))) (λ apart there. written k u there)
 
   -- whether a name is the starter's, and the task's
-  name_first : (k : ℕ) (z : Thread) → slice_get y.threads k ≡ Some z → k ≡ first → same_name (unit_name p z.unit) sth.name ≡ true
+  name_first : (k : ℕ) (z : TaskUnit) → slice_get y.threads k ≡ Some z → k ≡ first → same_name (unit_name p z.unit) sth.name ≡ true
   name_first k z at e =
       let same : z ≡ sth = same_Some z sth (sym at ∙ ap (slice_get y.threads) e ∙ starts'.at) in
       ap (λ w. same_name (unit_name p w.unit) sth.name) same ∙ starts'.own
 
-  name_own : (k : ℕ) (z : Thread) → slice_get y.threads k ≡ Some z → k ≡ j → same_name (unit_name p z.unit) th.name ≡ true
+  name_own : (k : ℕ) (z : TaskUnit) → slice_get y.threads k ≡ Some z → k ≡ j → same_name (unit_name p z.unit) th.name ≡ true
   name_own k z at e =
       let same : z ≡ th = same_Some z th (sym at ∙ ap (slice_get y.threads) e ∙ is.at) in
       ap (λ w. same_name (unit_name p w.unit) th.name) same ∙ is.own
@@ -155,10 +155,10 @@ module _ (p : Program) (y : System) (through : Name → Name → ℕ) (j : ℕ) 
     change_goes : (f : Task → Task) (ps : List Piece) → ((z : Task) → (f z).pieces ≡ ps) → n ps ≤ allow i may → Bound (change i f s.tasks) may
     change_goes f ps same few = bound_change i f s.tasks may bound (λ z there. subst (λ qs. n qs ≤ allow i may) (sym (same z)) few)
 
-    entry_goes : (z : Section) (e : List machine.Event) (vars : Variables) (ps : List Piece) → Onward may (named p e) may → n ps ≤ allow i may → Outcome may (entry y i u z e vars ps s)
+    entry_goes : (z : Resource) (e : List machine.Event) (vars : Variables) (ps : List Piece) → Onward may (named p e) may → n ps ≤ allow i may → Outcome may (entry y i u z e vars ps s)
     entry_goes z e vars ps on few = by z (nat_lt (ceiling_of y z) u.active)
       where
-        by : (z : Section) (b : Bool) → Outcome may (if b then stopped_at y u z s else entered_at y i z e vars ps s)
+        by : (z : Resource) (b : Bool) → Outcome may (if b then stopped_at y u z s else entered_at y i z e vars ps s)
         by z true = (may, bound, λ more a. a)
         by (Object k) false = (may, change_goes (λ w. going y.costs (lent (Object k) s vars) ps (inside_now (Object k) (ceiling_of y (Object k)) w)) ps (λ w. going-pieces y.costs _ ps _) few, on)
         by (Control k) false = (may, change_goes (λ w. going y.costs vars ps (inside_now (Control k) (ceiling_of y (Control k)) w)) ps (λ w. going-pieces y.costs vars ps _) few, on)
@@ -186,7 +186,7 @@ module _ (p : Program) (y : System) (through : Name → Name → ℕ) (j : ℕ) 
             (serve_goes may i s' written' (bound_change i (ended vars) s.tasks may bound (λ z there. omega arith)))
 
     -- a request that has been made
-    ended_goes : (k : ℕ) (v : Option ℕ) (vars : Variables) (ps : List Piece) → (z : Thread) × (slice_get y.threads k ≡ Some z) → n ps + (if k == j then 1 else 0) ≤ allow i may → Outcome may (acted y i u (Ended k v) vars ps s)
+    ended_goes : (k : ℕ) (v : Option ℕ) (vars : Variables) (ps : List Piece) → (z : TaskUnit) × (slice_get y.threads k ≡ Some z) → n ps + (if k == j then 1 else 0) ≤ allow i may → Outcome may (acted y i u (Ended k v) vars ps s)
     ended_goes k v vars ps valid few = places k j own other
       where
         f : Task → Task
@@ -224,7 +224,7 @@ module _ (p : Program) (y : System) (through : Name → Name → ℕ) (j : ℕ) 
             (λ more a. where_false (same_name (unit_name p (task_unit y k)) th.name) _ _ (ap (λ m. same_name (unit_name p m) th.name) (unit-at y k valid.0 valid.1) ∙ is.others k valid.0 valid.1 apart) a)
             (serve_goes may k s' written' (change_goes f ps (λ w. going-pieces y.costs vars ps (outside_now w)) (omega (arith, few))))
 
-    act_goes : (a : Act) (vars : Variables) (ps : List Piece) → ((k : ℕ) (v : Option ℕ) → a ≡ Ended k v → (z : Thread) × (slice_get y.threads k ≡ Some z)) → n ps + made j a ≤ allow i may → Outcome may (acted y i u a vars ps s)
+    act_goes : (a : Act) (vars : Variables) (ps : List Piece) → ((k : ℕ) (v : Option ℕ) → a ≡ Ended k v → (z : TaskUnit) × (slice_get y.threads k ≡ Some z)) → n ps + made j a ≤ allow i may → Outcome may (acted y i u a vars ps s)
     act_goes Silent vars ps valid few = (may, change_goes (going y.costs vars ps) ps (going-pieces y.costs vars ps) (omega (arith, few)), λ more a. a)
     act_goes (Print v) vars ps valid few = (may, change_goes (going y.costs vars ps) ps (going-pieces y.costs vars ps) (omega (arith, few)), λ more a. a)
     act_goes (Enter object op values) vars ps valid few = entry_goes (Object object) _ vars ps (λ more a. a) (omega (arith, few))
@@ -241,7 +241,7 @@ module _ (p : Program) (y : System) (through : Name → Name → ℕ) (j : ℕ) 
   -- what is asked of a state
   pub record MayAsk (s : State) : Type 0 where
     pub written : (k : ℕ) (u : Task) → slice_get s.tasks k ≡ Some u → slice_get y.threads k ≡ Some u.thread
-    pub valid : (i : ℕ) (u : Task) (k : ℕ) → slice_get s.tasks i ≡ Some u → asks k u.pieces ≡ true → (z : Thread) × (slice_get y.threads k ≡ Some z)
+    pub valid : (i : ℕ) (u : Task) (k : ℕ) → slice_get s.tasks i ≡ Some u → asks k u.pieces ≡ true → (z : TaskUnit) × (slice_get y.threads k ≡ Some z)
     pub arriving : (a : Arrival) (others : List Arrival) → s.arrivals ≡ a ∷ others → a.task ≡ th.unit → ⊥
 
   ended_asks : (k : ℕ) (v : Option ℕ) (x : Piece) (a : Act) (vars : Variables) (rest : List Piece) → Source y vars x a → a ≡ Ended k v → asks k (x ∷ rest) ≡ true
@@ -265,7 +265,7 @@ module _ (p : Program) (y : System) (through : Name → Name → ℕ) (j : ℕ) 
         by_left : (i : ℕ) (u : Task) (x : Piece) (rest : List Piece) (b : Bool) → slice_get s.tasks i ≡ Some u → u.pieces ≡ x ∷ rest → Outcome may (if b then takes_effect y i u (done y x u.vars rest) s else goes_to Delays s)
         by_left i u x rest false at has = away
         by_left i u x rest true at has =
-            let d : Deed = done y x u.vars rest in
+            let d : PieceOutcome = done y x u.vars rest in
             let few : n (x ∷ rest) ≤ allow i may = subst (λ ps. n ps ≤ allow i may) has (bound i u at) in
             let falls : n d.pieces + made j d.act ≤ n (x ∷ rest) = count-done y through j c x u.vars rest in
             act_goes may s fits.written bound i u at d.act d.vars d.pieces

@@ -4,7 +4,7 @@ use Rattle.std.specs.Prelude.{◌≡◌, ◌⊎◌, ℕ, ◌+◌, ◌≤◌, ◌
 use Rattle.arrivals_tree.specs.declared.arrivals.Arrival.{Arrival}
 use Rattle.arrivals_tree.specs.Acceptance.{nominal, earlier_times}
 use Rattle.rt_response.specs.declared.rows.ThreadRow.{ThreadRow}
-use Rattle.machine.specs.Systems.{Timing, Periodic, Requested}
+use Rattle.machine.specs.Systems.{ReleasePattern, Periodic, Requested}
 use Rattle.machine.specs.Pieces.{Piece}
 use Rattle.machine.specs.States.{Phase, Effects, Delays, Arriving, Use, Readiness, Asleep, Waiting, Ready}
 use Rattle.response_law.proofs.Logs.{Made, Log, OfRow, EndedAt, IsOpenAt, IsTimed}
@@ -78,7 +78,7 @@ abbrev pub wait_of : Core → Wait
 wait_of c = record { next = c.next; readiness = c.readiness; open' = c.open'; unit = c.thread.unit }
 
 -- what is known of a task with a row by its timing
-abbrev pub Asked : Frame → Phase → ℕ → List Made → List Arrival → Option Kept → ℕ → Wait → ThreadRow → Timing → Type 0
+abbrev pub Asked : Frame → Phase → ℕ → List Made → List Arrival → Option Kept → ℕ → Wait → ThreadRow → ReleasePattern → Type 0
 Asked f phase time acts taken kept r w row (Periodic offset period) = OfRow acts r (λ m. m.nominal + row.period ≤ f.shift + w.next) × Sleeps phase time acts r w.next w.readiness
 Asked f phase time acts taken kept r w row (Requested op ceiling separation jitter external) =
     Awaits f time acts r w.open' row kept × Came f acts taken row w.unit external separation jitter kept × IsAwake w.readiness

@@ -6,7 +6,7 @@ use Rattle.seq_tree.specs.Operations.{Signature}
 use Rattle.arrivals_tree.specs.declared.arrivals.Arrival.{Arrival}
 use Rattle.arrivals_tree.specs.Acceptance.{next_nominal, nominal, earlier_times}
 use Rattle.rt_response.specs.declared.rows.ThreadRow.{ThreadRow}
-use Rattle.machine.specs.Systems.{Timing, Periodic, Requested}
+use Rattle.machine.specs.Systems.{ReleasePattern, Periodic, Requested}
 use Rattle.machine.specs.States.{Phase}
 use Rattle.response_law.proofs.Logs.{Made, Log, OfRow}
 use Rattle.program_calls.proofs.Remaining.{rest}
@@ -27,7 +27,7 @@ came-else f acts taken a row unit true separation jitter (Some q) differ h =
 came-else f acts taken a row unit false separation jitter None differ h = h
 came-else f acts taken a row unit false separation jitter (Some q) differ h = h
 
-asked-else : (f : Frame) (phase : Phase) (time : ℕ) (acts : List Made) (taken : List Arrival) (a : Arrival) (kept : Option Kept) (r : ℕ) (w : Wait) (row : ThreadRow) (t : Timing) → a.task ≢ w.unit
+asked-else : (f : Frame) (phase : Phase) (time : ℕ) (acts : List Made) (taken : List Arrival) (a : Arrival) (kept : Option Kept) (r : ℕ) (w : Wait) (row : ThreadRow) (t : ReleasePattern) → a.task ≢ w.unit
     → Asked f phase time acts taken kept r w row t → Asked f phase time acts (taken ++ a ∷ []) kept r w row t
 asked-else f phase time acts taken a kept r w row (Periodic offset period) differ h = h
 asked-else f phase time acts taken a kept r w row (Requested op ceiling separation jitter external) differ h =
@@ -146,7 +146,7 @@ asking-arrives f v l n a others j r c framed base asking no_mid is now has here 
       at_now,
     )
 
-    go : (t : Timing) → c.thread.timing ≡ t → IsAsked f j tabled.row t → KeepsApart t n.taken a → Asked f v.phase v.time l.acts n.taken (n.kept j) r (wait_of c) tabled.row t → Goal
+    go : (t : ReleasePattern) → c.thread.timing ≡ t → IsAsked f j tabled.row t → KeepsApart t n.taken a → Asked f v.phase v.time l.acts n.taken (n.kept j) r (wait_of c) tabled.row t → Goal
     go (Periodic offset period) e asks apart asked = absurd apart
     go (Requested op ceiling separation jitter external) e asks apart asked = by external apart.0 e asks apart asked
       where

@@ -4,7 +4,7 @@ use Rattle.std.proofs.Common.{sym, subst, inr, zero-le}
 use Rattle.seq_tree.specs.Lists.{change}
 use Rattle.arrivals_tree.specs.declared.arrivals.Arrival.{Arrival}
 use Rattle.rt_response.specs.declared.rows.ThreadRow.{ThreadRow}
-use Rattle.machine.specs.Systems.{Timing, Periodic, Requested}
+use Rattle.machine.specs.Systems.{ReleasePattern, Periodic, Requested}
 use Rattle.machine.specs.Effects.{resting}
 use Rattle.machine.specs.States.{Effects, Ready}
 use Rattle.response_law.proofs.Logs.{Made, Log, over_at, finished, EndedAt}
@@ -19,7 +19,7 @@ use Rattle.response_law.proofs.AskingLater.{IsLater, later-ended, asked-later}
 use Rattle.program_calls.proofs.Places.{same-item, each-changed}
 
 -- the task whose activation ended rests
-asked-rests : (f : Frame) (time : ℕ) (acts : List Made) (taken : List Arrival) (kept : Option Kept) (r : ℕ) (w : Wait) (row : ThreadRow) (t : Timing) → EndedAt acts r time
+asked-rests : (f : Frame) (time : ℕ) (acts : List Made) (taken : List Arrival) (kept : Option Kept) (r : ℕ) (w : Wait) (row : ThreadRow) (t : ReleasePattern) → EndedAt acts r time
     → Asked f Effects time acts taken kept r w row t → Asked f Effects time acts taken kept r (record w { readiness = resting t w.next }) row t
 asked-rests f time acts taken kept r w row (Periodic offset period) over h = (h.0, (refl, inr over))
 asked-rests f time acts taken kept r w row (Requested op ceiling separation jitter external) over h = (h.0, h.1, tt)

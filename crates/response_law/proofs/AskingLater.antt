@@ -4,7 +4,7 @@ use Rattle.std.proofs.Common.{sym, ◌∙◌, ap, subst, arith, inl, inr}
 use Rattle.seq_tree.specs.Lists.{change}
 use Rattle.arrivals_tree.specs.declared.arrivals.Arrival.{Arrival}
 use Rattle.rt_response.specs.declared.rows.ThreadRow.{ThreadRow}
-use Rattle.machine.specs.Systems.{Timing, Periodic, Requested}
+use Rattle.machine.specs.Systems.{ReleasePattern, Periodic, Requested}
 use Rattle.machine.specs.States.{Phase, Effects, Delays, Arriving, Use, Readiness, Asleep, Waiting, Ready}
 use Rattle.response_law.proofs.Logs.{Made, over_at, OfRow, EndedAt}
 use Rattle.response_law.proofs.Later.{WasThere, IsStill, was-self, still-grown, was-ended, still-ended}
@@ -82,7 +82,7 @@ any-later f time acts acts' r open' taken row unit false separation jitter None 
 any-later f time acts acts' r open' taken row unit external separation jitter (Some q) later awaits h =
     came-later f acts acts' time taken row unit external separation jitter q later.still awaits.past h
 
-pub asked-later : (f : Frame) (phase : Phase) (time : ℕ) (acts acts' : List Made) (taken : List Arrival) (kept : Option Kept) (r : ℕ) (w : Wait) (row : ThreadRow) (t : Timing) → IsLater acts acts' time r
+pub asked-later : (f : Frame) (phase : Phase) (time : ℕ) (acts acts' : List Made) (taken : List Arrival) (kept : Option Kept) (r : ℕ) (w : Wait) (row : ThreadRow) (t : ReleasePattern) → IsLater acts acts' time r
     → Asked f phase time acts taken kept r w row t → Asked f phase time acts' taken kept r w row t
 asked-later f phase time acts acts' taken kept r w row (Periodic offset period) later h =
     (of-row-later acts acts' time r (λ x. x + row.period ≤ f.shift + w.next) later h.0, sleeps-later phase time acts acts' time r w.next w.readiness later h.1)

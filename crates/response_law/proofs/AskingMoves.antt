@@ -4,7 +4,7 @@ use Rattle.std.proofs.Common.{subst, arith, inl, inr, le_trans}
 use Rattle.seq_tree.specs.Lists.{change}
 use Rattle.arrivals_tree.specs.declared.arrivals.Arrival.{Arrival}
 use Rattle.rt_response.specs.declared.rows.ThreadRow.{ThreadRow}
-use Rattle.machine.specs.Systems.{Timing, Periodic, Requested}
+use Rattle.machine.specs.Systems.{ReleasePattern, Periodic, Requested}
 use Rattle.machine.specs.Pieces.{Piece}
 use Rattle.machine.specs.States.{Phase, Effects, Delays, Arriving, Use, Readiness, Asleep, Waiting, Ready}
 use Rattle.machine.specs.Steps.{is_due}
@@ -20,7 +20,7 @@ use Rattle.program_calls.proofs.Places.{each-changed, each-changed-one}
 abbrev pub NoMid : Frame → View → Type 0
 NoMid f v = (j k s : ℕ) (c : Core) → slice_get v.cores j ≡ Some c → HasRow f k s → EndsRequest k c.pieces → ⊥
 
-asked-phase : (f : Frame) (phase phase' : Phase) (time : ℕ) (acts : List Made) (taken : List Arrival) (kept : Option Kept) (r : ℕ) (w : Wait) (row : ThreadRow) (t : Timing)
+asked-phase : (f : Frame) (phase phase' : Phase) (time : ℕ) (acts : List Made) (taken : List Arrival) (kept : Option Kept) (r : ℕ) (w : Wait) (row : ThreadRow) (t : ReleasePattern)
     → (Sleeps phase time acts r w.next w.readiness → Sleeps phase' time acts r w.next w.readiness)
     → Asked f phase time acts taken kept r w row t → Asked f phase' time acts taken kept r w row t
 asked-phase f phase phase' time acts taken kept r w row (Periodic offset period) sleeps asked = (asked.0, sleeps asked.1)
@@ -121,7 +121,7 @@ awaits-later f time acts r open' row (Some q) h =
     let past : q.asked ≤ time = h.past in
     record { asked = h.asked; past = omega (arith, past); before = h.before; apart = h.apart }
 
-asked-ticked : (f : Frame) (time : ℕ) (acts : List Made) (taken : List Arrival) (kept : Option Kept) (r : ℕ) (w : Wait) (row : ThreadRow) (t : Timing)
+asked-ticked : (f : Frame) (time : ℕ) (acts : List Made) (taken : List Arrival) (kept : Option Kept) (r : ℕ) (w : Wait) (row : ThreadRow) (t : ReleasePattern)
     → Asked f Use time acts taken kept r w row t → Asked f Effects (time + 1) acts taken kept r w row t
 asked-ticked f time acts taken kept r w row (Periodic offset period) asked = (asked.0, sleeps-effects time acts r w.next w.readiness asked.1)
 asked-ticked f time acts taken kept r w row (Requested op ceiling separation jitter external) asked = (awaits-later f time acts r w.open' row kept asked.0, asked.1, asked.2)

@@ -4,7 +4,7 @@ use Rattle.std.proofs.Common.{sym, ◌∙◌, subst, arith, inl, inr}
 use Rattle.std.proofs.lemmas.Bool.{cases_eq}
 use Rattle.arrivals_tree.specs.declared.arrivals.Arrival.{Arrival}
 use Rattle.rt_response.specs.declared.rows.ThreadRow.{ThreadRow}
-use Rattle.machine.specs.Systems.{Thread, Timing, Periodic, Requested}
+use Rattle.machine.specs.Systems.{TaskUnit, ReleasePattern, Periodic, Requested}
 use Rattle.machine.specs.Pieces.{Piece, Finishing, pieces}
 use Rattle.machine.specs.States.{Phase}
 use Rattle.response_law.proofs.Logs.{Made, Log, OfRow, IsTimely, started}
@@ -25,7 +25,7 @@ released-few f i k s c framed written has =
     omega (arith, framed.few k s i c.thread has written, rest-block (requests_measure f k) c.thread.block (Finishing ∷ []))
 
 -- it has not requested it before
-fresh-by : (f : Frame) (phase : Phase) (time : ℕ) (acts : List Made) (taken : List Arrival) (k s i r : ℕ) (w : Wait) (target row : ThreadRow) (q : Kept) (m : Made) (ps : List Piece) (t : Timing)
+fresh-by : (f : Frame) (phase : Phase) (time : ℕ) (acts : List Made) (taken : List Arrival) (k s i r : ℕ) (w : Wait) (target row : ThreadRow) (q : Kept) (m : Made) (ps : List Piece) (t : ReleasePattern)
     → IsAsked f k target t → Asked f phase time acts taken (Some q) s w target t → rest (requests_measure f k) ps ≤ quota f k i → HasRow f i r → slice_get f.rows r ≡ Some row
     → OfRow acts r (λ x. x.nominal + row.period ≤ m.nominal) → IsFresh f k ps target q m.nominal
 fresh-by f phase time acts taken k s i r w target row q m ps (Periodic offset period) asks asked few has line apart =
@@ -93,7 +93,7 @@ asking-released f v l n i r c m row framed base asking has here line of_row time
         let tabled : IsTabled f k z thread.0 = framed.tabled k z thread.0 also thread.1 in
         let same : tabled.row ≡ target = same-item (slice_get f.rows z) tabled.row target tabled.asks asks in
         let known : Asked f v.phase v.time l.acts n.taken (Some q) z (wait_of y.0) target thread.0.timing =
-        subst (λ (t : Thread). Asked f v.phase v.time l.acts n.taken (Some q) z (wait_of y.0) target t.timing) y.2
+        subst (λ (t : TaskUnit). Asked f v.phase v.time l.acts n.taken (Some q) z (wait_of y.0) target t.timing) y.2
         (subst (λ o. Asked f v.phase v.time l.acts n.taken o z (wait_of y.0) target y.0.thread.timing) is ((asking.of k y.0 y.1).asked z target also asks)) in
         subst (λ w. IsFresh f k (pieces c.thread.block (Finishing ∷ [])) target q w.nominal) new
         (fresh-by f v.phase v.time l.acts n.taken k z i r (wait_of y.0) target row q m (pieces c.thread.block (Finishing ∷ [])) thread.0.timing

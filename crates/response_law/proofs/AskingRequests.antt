@@ -5,7 +5,7 @@ use Rattle.std.proofs.lemmas.Bool.{cases_eq}
 use Rattle.std.proofs.lemmas.Option.{none-some}
 use Rattle.arrivals_tree.specs.declared.arrivals.Arrival.{Arrival}
 use Rattle.rt_response.specs.declared.rows.ThreadRow.{ThreadRow}
-use Rattle.machine.specs.Systems.{Timing, Periodic, Requested}
+use Rattle.machine.specs.Systems.{ReleasePattern, Periodic, Requested}
 use Rattle.machine.specs.Pieces.{Piece, Opening}
 use Rattle.machine.specs.Pieces as piece
 use Rattle.machine.specs.States.{Phase, Effects, Ready}
@@ -80,7 +80,7 @@ abbrev pub request_now : ℕ → ℕ → Made → Kept
 request_now time place m = record { nominal = m.nominal; asked = time; source = Some place }
 
 -- what is known of the target by its timing after the request
-asked-now : (f : Frame) (phase : Phase) (time : ℕ) (acts : List Made) (taken : List Arrival) (kept : Option Kept) (k i s r place : ℕ) (w : Wait) (target : ThreadRow) (m : Made) (t : Timing)
+asked-now : (f : Frame) (phase : Phase) (time : ℕ) (acts : List Made) (taken : List Arrival) (kept : Option Kept) (k i s r place : ℕ) (w : Wait) (target : ThreadRow) (m : Made) (t : ReleasePattern)
     → f.starter_of k ≡ Some i → HasRow f i r → slice_get acts place ≡ Some m → m.row ≡ r → m.over ≡ None → m.nominal ≤ f.shift + time → m.release ≤ time
     → ((q : Kept) → kept ≡ Some q → q.nominal + target.period ≤ m.nominal)
     → IsAsked f k target t → Asked f phase time acts taken kept s w target t → Asked f phase time acts taken (Some (request_now time place m)) s (record w { open' = true }) target t

@@ -6,7 +6,7 @@ use Rattle.std.proofs.lemmas.Bool.{cases_eq, eq-eqb, ne_eqb}
 use Rattle.seq_tree.specs.Lists.{change}
 use Rattle.arrivals_tree.specs.declared.arrivals.Arrival.{Arrival}
 use Rattle.rt_response.specs.declared.rows.ThreadRow.{ThreadRow}
-use Rattle.machine.specs.Systems.{Thread}
+use Rattle.machine.specs.Systems.{TaskUnit}
 use Rattle.machine.specs.Pieces.{Piece}
 use Rattle.machine.specs.States.{Phase, Effects, Ready}
 use Rattle.schedules.specs.Schedules.{ticks_of}
@@ -43,7 +43,7 @@ pub record IsOf (f : Frame) (cores : List Core) (current : ℕ → ℕ) (k : ℕ
   pub runs : m.over ≡ None → (c : Core) × (slice_get cores m.task ≡ Some c) × (c.readiness ≡ Ready) × (current m.task ≡ k)
 
 -- tasks of a view that are as they are written
-pub record AreThreads (cores : List Core) (threads : List Thread) : Type 0 where
+pub record AreThreads (cores : List Core) (threads : List TaskUnit) : Type 0 where
   pub same : map (λ c. c.thread) cores ≡ threads
 
 -- a log that belongs to a view, with the place of the last activation of each task
@@ -59,14 +59,14 @@ abbrev pub SomeLeft : Frame → View → Type 0
 SomeLeft f v = (j r : ℕ) (c : Core) → HasRow f j r → slice_get v.cores j ≡ Some c → c.readiness ≡ Ready → c.left ≢ 0
 
 -- the thread of a task, and the task of a thread
-pub written-at : {cores : List Core} {threads : List Thread} → AreThreads cores threads → (j : ℕ) (c : Core) → slice_get cores j ≡ Some c → slice_get threads j ≡ Some c.thread
+pub written-at : {cores : List Core} {threads : List TaskUnit} → AreThreads cores threads → (j : ℕ) (c : Core) → slice_get cores j ≡ Some c → slice_get threads j ≡ Some c.thread
 written-at {cores} {threads} written j c e = ap (λ ts. slice_get ts j) (sym written.same) ∙ map-at (λ x. x.thread) cores j c e
 
-pub core-at : {cores : List Core} {threads : List Thread} → AreThreads cores threads → (j : ℕ) (t : Thread) → slice_get threads j ≡ Some t → (c : Core) × (slice_get cores j ≡ Some c) × (c.thread ≡ t)
+pub core-at : {cores : List Core} {threads : List TaskUnit} → AreThreads cores threads → (j : ℕ) (t : TaskUnit) → slice_get threads j ≡ Some t → (c : Core) × (slice_get cores j ≡ Some c) × (c.thread ≡ t)
 core-at {cores} {threads} written j t e = mapped-at (λ x. x.thread) cores j t (ap (λ ts. slice_get ts j) written.same ∙ e)
 
 -- a change of what a task does leaves it as it is written
-pub threads-kept : (i : ℕ) (g : Core → Core) (cores : List Core) (threads : List Thread) → ((c : Core) → (g c).thread ≡ c.thread) → AreThreads cores threads → AreThreads (change i g cores) threads
+pub threads-kept : (i : ℕ) (g : Core → Core) (cores : List Core) (threads : List TaskUnit) → ((c : Core) → (g c).thread ≡ c.thread) → AreThreads cores threads → AreThreads (change i g cores) threads
 threads-kept i g cores threads same written = record { same = map-kept (λ x. x.thread) i g cores same ∙ written.same }
 
 -- a function with another value at one place

@@ -5,7 +5,7 @@ use Rattle.std.proofs.lemmas.Option.{none-some}
 use Rattle.seq_tree.specs.Lists.{change}
 use Rattle.seq_tree.specs.Dearest.{dearest}
 use Rattle.rt_response.specs.declared.rows.ThreadRow.{ThreadRow}
-use Rattle.machine.specs.Systems.{Timing, Periodic, Requested}
+use Rattle.machine.specs.Systems.{ReleasePattern, Periodic, Requested}
 use Rattle.machine.specs.Pieces.{Piece, Finishing, pieces}
 use Rattle.machine.specs.Effects.{resting}
 use Rattle.machine.specs.States.{Effects, Ready}
@@ -102,7 +102,7 @@ base-released f v l current i r c m framed base has here idle task of_row unende
     }
 
 -- a task that rests is not ready
-pub rest-not-ready : (t : Timing) (next : ℕ) → resting t next ≡ Ready → ⊥
+pub rest-not-ready : (t : ReleasePattern) (next : ℕ) → resting t next ≡ Ready → ⊥
 rest-not-ready (Periodic offset period) next e = cc
 rest-not-ready (Requested op ceiling separation jitter external) next e = cc
 

@@ -6,7 +6,7 @@ use Rattle.seq_tree.specs.Variables.{Variables, targets}
 use Rattle.seq_tree.specs.Operations.{out_names}
 use Rattle.seq_tree.specs.Values.{holds}
 use Rattle.seq_tree.specs.Expressions.{Expression}
-use Rattle.machine.specs.Systems.{System, Callee, Plain, Protected, Request, Unknown, callee}
+use Rattle.machine.specs.Systems.{System, CallTarget, Plain, Protected, Request, Unknown, callee}
 use Rattle.machine.specs.Pieces.{Piece, Idle, Store, Leaving, Calling, Working, Printing, Testing, Turning, Turned, Returning, Closing, Keeping, Opening, Requested, Finishing, turns, pieces_of, pieces, branch_pieces, after_loop}
 use Rattle.machine.specs.Deeds.{done, called, deed, Silent}
 
@@ -58,7 +58,7 @@ module _ (P : List Piece → Type 0) (plain : (p : Piece) (ps : List Piece) → 
     branches-carry (Else block) ps h = block-carries block ps h
     branches-carry (When condition block others) ps h = plain (Testing condition block others) ps tt h
 
-  called-carries : (c : Callee) (actuals : List Expression) (vars : Variables) (ps : List Piece) → P ps → P ((called c actuals vars ps).pieces)
+  called-carries : (c : CallTarget) (actuals : List Expression) (vars : Variables) (ps : List Piece) → P ps → P ((called c actuals vars ps).pieces)
   called-carries (Plain o) actuals vars ps h =
       block-carries o.block (Returning (out_names o.sig.params) (targets o.sig.params actuals) vars ∷ ps) (plain (Returning (out_names o.sig.params) (targets o.sig.params actuals) vars) ps tt h)
   called-carries (Protected object op g o) actuals vars ps h =

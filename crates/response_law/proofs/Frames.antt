@@ -8,7 +8,7 @@ use Rattle.seq_tree.specs.declared.tree.Costs.{Costs}
 use Rattle.arrivals_tree.specs.declared.arrivals.Arrival.{Arrival}
 use Rattle.arrivals_tree.specs.Acceptance.{next_nominal, nominal, earlier_times}
 use Rattle.rt_response.specs.declared.rows.ThreadRow.{ThreadRow}
-use Rattle.machine.specs.Systems.{System, Thread, Timing, Periodic, Requested}
+use Rattle.machine.specs.Systems.{System, TaskUnit, ReleasePattern, Periodic, Requested}
 use Rattle.machine.specs.Pieces.{Piece, Finishing, Opening, pieces}
 use Rattle.machine.specs.Pieces as piece
 use Rattle.program_calls.proofs.Remaining.{Measure, behind, rest, CoversCalls}
@@ -67,7 +67,7 @@ pub no-row : (f : Frame) (j r : ℕ) → f.row_of j ≡ None → HasRow f j r �
 no-row f j r none has = none-some r (sym none ∙ has)
 
 -- how a task with a row is requested
-abbrev pub IsAsked : Frame → ℕ → ThreadRow → Timing → Type 0
+abbrev pub IsAsked : Frame → ℕ → ThreadRow → ReleasePattern → Type 0
 IsAsked f j row (Periodic offset period) = (row.period ≤ period) × (f.starter_of j ≡ None)
 IsAsked f j row (Requested op ceiling separation jitter true) =
     (row.starter ≡ None) × (row.period ≤ separation) × (jitter ≤ row.jitter) × (jitter ≤ f.shift)
@@ -91,7 +91,7 @@ pub other-of : (f : Frame) (k i x : ℕ) → f.starter_of k ≡ Some x → x ≢
 other-of f k i x e differ = ap (λ o. quota_by o i) e ∙ one-apart x i differ
 
 -- a task with its row
-pub record IsTabled (f : Frame) (j r : ℕ) (t : Thread) : Type 0 where
+pub record IsTabled (f : Frame) (j r : ℕ) (t : TaskUnit) : Type 0 where
   pub row : ThreadRow
   pub asks : slice_get f.rows r ≡ Some row
   pub cost : dearest (ticks_measure f).weights t.block + f.system.costs.finish ≤ row.cost
@@ -103,27 +103,27 @@ StartsSome costs durations [] = ⊥
 StartsSome costs durations (p ∷ ps) = (works : ℕ) → 1 ≤ piece.ticks_of costs (slice_get durations works) p
 
 -- arrivals that may come, after those that came: for the task that each is for they keep the separation
-abbrev pub KeepsApart : Timing → List Arrival → Arrival → Type 0
+abbrev pub KeepsApart : ReleasePattern → List Arrival → Arrival → Type 0
 KeepsApart (Periodic offset period) before a = ⊥
 KeepsApart (Requested op ceiling separation jitter external) before a =
     (external ≡ true) × (next_nominal separation (nominal separation None (earlier_times a.task before)) a.time ≤ a.time + jitter)
 
-abbrev pub AreKeptApart : List Thread → List Arrival → List Arrival → Type 0
+abbrev pub AreKeptApart : List TaskUnit → List Arrival → List Arrival → Type 0
 AreKeptApart ts before [] = ⊤
 AreKeptApart ts before (a ∷ more) =
-    ((j : ℕ) (t : Thread) → slice_get ts j ≡ Some t → t.unit ≡ a.task → KeepsApart t.timing before a) × AreKeptApart ts (before ++ a ∷ []) more
+    ((j : ℕ) (t : TaskUnit) → slice_get ts j ≡ Some t → t.unit ≡ a.task → KeepsApart t.timing before a) × AreKeptApart ts (before ++ a ∷ []) more
 
 -- what is needed of a system with a table
 pub record IsFramed (f : Frame) : Type 0 where
-  pub tabled : (j r : ℕ) (t : Thread) → HasRow f j r → slice_get f.system.threads j ≡ Some t → IsTabled f j r t
-  pub placed : (j r : ℕ) → HasRow f j r → (t : Thread) × (slice_get f.system.threads j ≡ Some t)
+  pub tabled : (j r : ℕ) (t : TaskUnit) → HasRow f j r → slice_get f.system.threads j ≡ Some t → IsTabled f j r t
+  pub placed : (j r : ℕ) → HasRow f j r → (t : TaskUnit) × (slice_get f.system.threads j ≡ Some t)
   pub one : (i j r : ℕ) → HasRow f i r → HasRow f j r → i ≡ j
-  pub units : (i j : ℕ) (t u : Thread) → slice_get f.system.threads i ≡ Some t → slice_get f.system.threads j ≡ Some u → t.unit ≡ u.unit → i ≡ j
+  pub units : (i j : ℕ) (t u : TaskUnit) → slice_get f.system.threads i ≡ Some t → slice_get f.system.threads j ≡ Some u → t.unit ≡ u.unit → i ≡ j
   pub ticks : CoversCalls f.system (ticks_measure f)
   pub starts : (j : ℕ) → CoversCalls f.system (requests_measure f j)
-  pub few : (k s i : ℕ) (t : Thread) → HasRow f k s → slice_get f.system.threads i ≡ Some t → dearest (requests_measure f k).weights t.block ≤ quota f k i
+  pub few : (k s i : ℕ) (t : TaskUnit) → HasRow f k s → slice_get f.system.threads i ≡ Some t → dearest (requests_measure f k).weights t.block ≤ quota f k i
   pub starters : (k s i : ℕ) → HasRow f k s → f.starter_of k ≡ Some i → (r : ℕ) × HasRow f i r
-  pub positive : (i : ℕ) (t : Thread) → slice_get f.system.threads i ≡ Some t → StartsSome f.system.costs t.durations (pieces t.block (Finishing ∷ []))
+  pub positive : (i : ℕ) (t : TaskUnit) → slice_get f.system.threads i ≡ Some t → StartsSome f.system.costs t.durations (pieces t.block (Finishing ∷ []))
 
 -- a request as it is kept: the nominal time of the activation that it is for, when it came, and the activation of the starter that it came from
 pub record Kept : Type 0 where

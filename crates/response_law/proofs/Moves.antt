@@ -6,7 +6,7 @@ use Rattle.std.proofs.lemmas.Bool.{cases_eq}
 use Rattle.seq_tree.specs.Lists.{change, Each}
 use Rattle.trace_tree.specs.declared.event.Event.{Event}
 use Rattle.trace_tree.specs.declared.event.Event.TheVariants as event
-use Rattle.machine.specs.Systems.{Thread}
+use Rattle.machine.specs.Systems.{TaskUnit}
 use Rattle.machine.specs.States.{Phase, Effects, Delays, Arriving, Use, Ready}
 use Rattle.response_law.proofs.Logs.{Made, Log, started, over_at, finished, ticked}
 use Rattle.response_law.proofs.Later.{WasThere, IsStill, was-self, was-ended, still-grown, still-ended}
@@ -38,11 +38,11 @@ pub record AreUsers (f : Frame) (l : Log) (users : List (Option ℕ)) : Type 0 w
 
 -- what is told says of each task with a row what a log does
 abbrev pub AreTold : Frame → List Event → List Made → Type 0
-AreTold f es acts = (j r : ℕ) (t : Thread) → HasRow f j r → slice_get f.system.threads j ≡ Some t → answers t.unit es ≡ ends_of r acts
+AreTold f es acts = (j r : ℕ) (t : TaskUnit) → HasRow f j r → slice_get f.system.threads j ≡ Some t → answers t.unit es ≡ ends_of r acts
 
 -- a release or an end is of a thread's unit
 abbrev pub IsOfUnit : Frame → ℕ → Type 0
-IsOfUnit f task = (j : ℕ) × (t : Thread) × (slice_get f.system.threads j ≡ Some t) × (t.unit ≡ task)
+IsOfUnit f task = (j : ℕ) × (t : TaskUnit) × (slice_get f.system.threads j ≡ Some t) × (t.unit ≡ task)
 
 abbrev pub HasUnit : Frame → Event → Type 0
 HasUnit f (event.Release time task value) = IsOfUnit f task
@@ -76,7 +76,7 @@ pub record Moved (f : Frame) (v v' : View) (l : Log) (es : List Event) (users : 
 
 -- events that are not of tasks with rows, or are no releases and ends
 pub record AreQuiet (f : Frame) (es : List Event) : Type 0 where
-  pub same : (j r : ℕ) (t : Thread) (before : List Event) → HasRow f j r → slice_get f.system.threads j ≡ Some t → answers t.unit (before ++ es) ≡ answers t.unit before
+  pub same : (j r : ℕ) (t : TaskUnit) (before : List Event) → HasRow f j r → slice_get f.system.threads j ≡ Some t → answers t.unit (before ++ es) ≡ answers t.unit before
   pub units : Each (HasUnit f) es
 
 pub quiet-none : (f : Frame) → AreQuiet f []
@@ -85,7 +85,7 @@ quiet-none f = record { same = λ j r t before has at. ap (answers t.unit) (appe
 pub quiet-one : (f : Frame) (e : Event) → ((u : ℕ) → IsOther u e) → HasUnit f e → AreQuiet f (e ∷ [])
 quiet-one f e other unit = record { same = λ j r t before has at. answers-other t.unit before e (other t.unit); units = (unit, tt) }
 
-pub quiet-far : (f : Frame) (i : ℕ) (c : Thread) (e : Event) → IsFramed f → f.row_of i ≡ None → slice_get f.system.threads i ≡ Some c
+pub quiet-far : (f : Frame) (i : ℕ) (c : TaskUnit) (e : Event) → IsFramed f → f.row_of i ≡ None → slice_get f.system.threads i ≡ Some c
     → ((u : ℕ) → c.unit ≢ u → IsOther u e) → HasUnit f e → AreQuiet f (e ∷ [])
 quiet-far f i c e framed none at other unit = record {
   same = λ j r t before has stands.
@@ -159,7 +159,7 @@ user-later f acts acts' now all None user h = h
 user-later f acts acts' now all (Some k) user h = let still = all k h.0 h.1 in (still.made, still.stands, h.2 ∙ ap Some still.alike.task)
 
 -- a release of a task with a row
-pub grown-started : (f : Frame) (v v' : View) (l : Log) (i r : ℕ) (c : Thread) (m : Made) (value : Option ℕ) → IsFramed f → since v ≤ since v'
+pub grown-started : (f : Frame) (v v' : View) (l : Log) (i r : ℕ) (c : TaskUnit) (m : Made) (value : Option ℕ) → IsFramed f → since v ≤ since v'
     → HasRow f i r → slice_get f.system.threads i ≡ Some c → m.row ≡ r → m.over ≡ None → m.release ≡ v.time → since v ≤ v.time → Grown f v v' l (started m l) (event.Release v.time c.unit value ∷ []) []
 grown-started f v v' l i r c m value framed time has at of_row unended now begun = record {
   time = time;
@@ -172,7 +172,7 @@ grown-started f v v' l i r c m value framed time has at of_row unended now begun
   units = ((i, c, at, refl), tt);
 }
   where
-    told : (before : List Event) → AreTold f before l.acts → (j s : ℕ) (t : Thread) → HasRow f j s → slice_get f.system.threads j ≡ Some t → (j ≡ i) ⊎ (j ≢ i)
+    told : (before : List Event) → AreTold f before l.acts → (j s : ℕ) (t : TaskUnit) → HasRow f j s → slice_get f.system.threads j ≡ Some t → (j ≡ i) ⊎ (j ≢ i)
         → answers t.unit (before ++ event.Release v.time c.unit value ∷ []) ≡ ends_of s (l.acts ++ m ∷ [])
     told before known j s t has' at' (inl same) =
         let thread_same : c ≡ t = same-item (slice_get f.system.threads i) c t at (subst (λ k. slice_get f.system.threads k ≡ Some t) same at') in
@@ -212,7 +212,7 @@ grown-finished f v v' l n i r c used framed base time has here ready = record {
         let task_is : x.task ≡ i = framed.one x.task i r (subst (λ z. f.row_of x.task ≡ Some z) same is.row) has in
         sym found.3 ∙ ap n.current task_is
 
-    told : (before : List Event) → AreTold f before l.acts → (j s : ℕ) (t : Thread) → HasRow f j s → slice_get f.system.threads j ≡ Some t → (j ≡ i) ⊎ (j ≢ i)
+    told : (before : List Event) → AreTold f before l.acts → (j s : ℕ) (t : TaskUnit) → HasRow f j s → slice_get f.system.threads j ≡ Some t → (j ≡ i) ⊎ (j ≢ i)
         → answers t.unit (before ++ event.End v.time c.thread.unit used ∷ []) ≡ ends_of s (change (n.current i) (over_at (length l.ticks)) l.acts)
     told before known j s t has' at' (inl same) =
         let thread_same : c.thread ≡ t = same-item (slice_get f.system.threads i) c.thread t at (subst (λ k. slice_get f.system.threads k ≡ Some t) same at') in

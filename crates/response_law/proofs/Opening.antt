@@ -3,7 +3,7 @@ use Rattle.std.specs.Prelude.{◌≡◌, ℕ, zero, suc, ◌+◌, ◌≤◌, Boo
 use Rattle.std.proofs.Common.{◌∙◌, ap, subst, inl, zero-le}
 use Rattle.arrivals_tree.specs.declared.arrivals.Arrival.{Arrival}
 use Rattle.rt_response.specs.declared.rows.ThreadRow.{ThreadRow}
-use Rattle.machine.specs.Systems.{Thread, Timing, Periodic, Requested}
+use Rattle.machine.specs.Systems.{TaskUnit, ReleasePattern, Periodic, Requested}
 use Rattle.machine.specs.States.{Effects, Ready, first_wait, first_time, first_task, opening}
 use Rattle.response_law.proofs.Logs.{Made, Log}
 use Rattle.response_law.proofs.Views.{Core, core, view, now_of}
@@ -18,20 +18,20 @@ abbrev pub nothing_noted : Notes
 nothing_noted = record { current = λ j. 0; kept = λ j. None; taken = [] }
 
 -- a task at the opening
-first-core : (ts : List Thread) (j : ℕ) (c : Core) → slice_get (map core (map first_task ts)) j ≡ Some c → (t : Thread) × (slice_get ts j ≡ Some t) × (core (first_task t) ≡ c)
+first-core : (ts : List TaskUnit) (j : ℕ) (c : Core) → slice_get (map core (map first_task ts)) j ≡ Some c → (t : TaskUnit) × (slice_get ts j ≡ Some t) × (core (first_task t) ≡ c)
 first-core [] j c e = cc
 first-core (t ∷ ts) zero c e = let is : core (first_task t) ≡ c = cc in (t, refl, is)
 first-core (t ∷ ts) (suc j) c e = first-core ts j c e
 
-first-threads : (ts : List Thread) → map (λ (c : Core). c.thread) (map core (map first_task ts)) ≡ ts
+first-threads : (ts : List TaskUnit) → map (λ (c : Core). c.thread) (map core (map first_task ts)) ≡ ts
 first-threads [] = refl
 first-threads (t ∷ ts) = ap (λ us. t ∷ us) (first-threads ts)
 
-not-ready : (t : Timing) → first_wait t ≡ Ready → ⊥
+not-ready : (t : ReleasePattern) → first_wait t ≡ Ready → ⊥
 not-ready (Periodic offset period) e = cc
 not-ready (Requested op ceiling separation jitter external) e = cc
 
-first-asked : (f : Frame) (r : ℕ) (row : ThreadRow) (t : Thread) (timing : Timing)
+first-asked : (f : Frame) (r : ℕ) (row : ThreadRow) (t : TaskUnit) (timing : ReleasePattern)
     → Asked f Effects 0 [] [] None r (record { next = first_time timing; readiness = first_wait timing; open' = false; unit = t.unit }) row timing
 first-asked f r row t (Periodic offset period) = (λ k m e same. none k m e, (refl, inl zero-le))
   where
@@ -65,7 +65,7 @@ opening-along f as' apart = record {
     no_item : (k : ℕ) (m : Made) → slice_get [] k ≡ Some m → ⊥
     no_item k m e = cc
 
-    first : (j : ℕ) (t : Thread) → Asks f (now_of (view (opening f.system as'))) [] nothing_noted j (core (first_task t))
+    first : (j : ℕ) (t : TaskUnit) → Asks f (now_of (view (opening f.system as'))) [] nothing_noted j (core (first_task t))
     first j t = record {
       tidy = tt;
       few = λ k s has. zero-le;

@@ -14,7 +14,7 @@ use Rattle.ada_tree.specs.Ranges.{is_outside, numbers_break, costs_break, whole_
 use Rattle.ada_tree.specs.Rules.{MeetsRules, Ranges, Whole}
 use Rattle.arrivals_tree.specs.Arriving.{Arrivals, Durations, durations}
 use Rattle.arrivals_tree.specs.Acceptance.{Unknown, Unfit, Far, has_nothing, durations_fault, works_fault, requests_fault, IsAccepted}
-use Rattle.machine.specs.Systems.{Thread, thread_by, system}
+use Rattle.machine.specs.Systems.{TaskUnit, thread_by, system}
 use Rattle.machine.specs.Pieces.{Piece, Finishing, Turning, turns, pieces_of, pieces, branch_pieces, work_ticks}
 use Rattle.program_calls.proofs.Lists.{IsIn, in-left, in-right, in-flat, at-in, none-in, made-at}
 use Rattle.response_law.proofs.Frames.{StartsSome}
@@ -140,7 +140,7 @@ flat-in (x ∷ ws) task n i = by (x.task == task) i (λ j. flat-in ws task n j)
     by true j later = elim (split x.ticks (flat_map (λ w. w.ticks) (filter (λ w. w.task == task) ws)) j) [ inl here ↦ (x, inl refl, here) | inr far ↦ (let found = later far in (found.0, inr found.1, found.2)) ]
     by false j later = let found = later j in (found.0, inr found.1, found.2)
 
-thread-durations : (p : Program) (a : Arrivals) (i : ℕ) (t : Thread) → slice_get (system p a).threads i ≡ Some t → (k : ℕ) × (t.durations ≡ durations a k)
+thread-durations : (p : Program) (a : Arrivals) (i : ℕ) (t : TaskUnit) → slice_get (system p a).threads i ≡ Some t → (k : ℕ) × (t.durations ≡ durations a k)
 thread-durations p a i t e =
     let found = made-at (λ (u : ℕ × Unit). thread_by (durations a u.0) u.0 u.1.name u.1.form) 0 p.units i t e in
     by (durations a (0 + found.0)) (0 + found.0) found.1.form found.1.name found.3 refl
@@ -157,7 +157,7 @@ thread-durations p a i t e =
         durations_is : thread_by ds k name (Sporadic priority ceiling op separation jitter external vars block) ≡ Some t → ds ≡ t.durations
         durations_is g = cc
 
-pub starts-some : (p : Program) (a : Arrivals) (limit : ℕ) → MeetsRules p → IsAccepted limit p a → (i : ℕ) (t : Thread) → slice_get (system p a).threads i ≡ Some t
+pub starts-some : (p : Program) (a : Arrivals) (limit : ℕ) → MeetsRules p → IsAccepted limit p a → (i : ℕ) (t : TaskUnit) → slice_get (system p a).threads i ≡ Some t
     → StartsSome p.costs t.durations (pieces t.block (Finishing ∷ []))
 starts-some p a limit rules accepted i t at = block-start p.costs positive t.durations all t.block (Finishing ∷ []) works (λ w. positive.finish)
   where

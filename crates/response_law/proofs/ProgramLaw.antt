@@ -18,9 +18,9 @@ use Rattle.rt_response.specs.declared.rows.Bound.{Bound}
 use Rattle.rt_response.specs.Response.{Fits}
 use Rattle.trace_tree.specs.Lines.{unit_name}
 use Rattle.trace_tree.specs.declared.event.Event as machine
-use Rattle.machine.specs.Systems.{System, Thread, Timing, Periodic, Requested, Callee, Plain, Protected, Request, system, callee}
+use Rattle.machine.specs.Systems.{System, TaskUnit, ReleasePattern, Periodic, Requested, CallTarget, Plain, Protected, Request, system, callee}
 use Rattle.machine.specs.Systems as systems
-use Rattle.machine.specs.States.{Section, Object}
+use Rattle.machine.specs.States.{Resource, Object}
 use Rattle.machine.specs.Meanings.{Meaning}
 use Rattle.guarantee.specs.Events.{named}
 use Rattle.guarantee.specs.Bounded.{Response, Responds}
@@ -56,14 +56,14 @@ use Rattle.program_calls.proofs.UnitRules.{op-body-in, task-body, numbers-kept}
 use Rattle.program_calls.proofs.Costs.{PaysCall, pays-call}
 
 -- priorities of a task at least
-priority-some : (p : Program) (a : Arrivals) → MeetsRules p → (j : ℕ) (t : Thread) → slice_get (system p a).threads j ≡ Some t → 1 ≤ t.priority
+priority-some : (p : Program) (a : Arrivals) → MeetsRules p → (j : ℕ) (t : TaskUnit) → slice_get (system p a).threads j ≡ Some t → 1 ≤ t.priority
 priority-some p a rules j t at =
     let found = thread-at p a j t at in by found.1.form (numbers-kept p rules found.0 found.1 (found.2).stands) t.timing (found.2).form
   where
     least : (n : ℕ) → is_outside 1 60 n ≡ false → 1 ≤ n
     least n e = let low : nat_lt n 1 ≡ false = (or_parts (nat_lt n 1) (nat_lt 60 n) e).0 in grind arith
 
-    by : (form : Form) → numbers_break form ≡ false → (x : Timing) → thread_form t x form → 1 ≤ t.priority
+    by : (form : Form) → numbers_break form ≡ false → (x : ReleasePattern) → thread_form t x form → 1 ≤ t.priority
     by form e (Periodic offset period) is =
         let now : numbers_break (Cyclic t.priority offset period t.vars t.block) ≡ false = subst (λ g. numbers_break g ≡ false) is e in
         let one = or_parts (is_outside 1 60 t.priority || is_outside 1 1000000000 period) (nat_lt 1000000000 offset) now in
@@ -77,7 +77,7 @@ priority-some p a rules j t at =
 
 -- arrivals that are accepted keep their separations
 module _ (p : Program) (a : Arrivals) where
-  kept-by : (t : Thread) (form : Form) (before : List Arrival) (x : Arrival) (timing : Timing) → thread_form t timing form → request_fault_by form before x ≡ None → KeepsApart timing before x
+  kept-by : (t : TaskUnit) (form : Form) (before : List Arrival) (x : Arrival) (timing : ReleasePattern) → thread_form t timing form → request_fault_by form before x ≡ None → KeepsApart timing before x
   kept-by t form before x (Periodic offset period) is e = none-some Unknown (sym (subst (λ g. request_fault_by g before x ≡ None) is e))
   kept-by t form before x (Requested op ceiling separation jitter external) is e =
       let now : request_fault external op separation jitter before x ≡ None = subst (λ g. request_fault_by g before x ≡ None) is e in
@@ -97,7 +97,7 @@ module _ (p : Program) (a : Arrivals) where
       let own = or_else-none (fault_if (nat_lt x.time (last_time before)) Falling) (request_fault_at (slice_get p.units x.task) before x) parts.0 in
       (λ j t at unit. one j t at unit own.1, kept-apart (before ++ x ∷ []) items parts.1)
     where
-      one : (j : ℕ) (t : Thread) → slice_get (system p a).threads j ≡ Some t → t.unit ≡ x.task → request_fault_at (slice_get p.units x.task) before x ≡ None → KeepsApart t.timing before x
+      one : (j : ℕ) (t : TaskUnit) → slice_get (system p a).threads j ≡ Some t → t.unit ≡ x.task → request_fault_at (slice_get p.units x.task) before x ≡ None → KeepsApart t.timing before x
       one j t at unit fault =
           let found = thread-at p a j t at in
           let place : x.task ≡ found.0 = sym unit ∙ (found.2).unit in
@@ -114,7 +114,7 @@ module _ (p : Program) (a : Arrivals) (rules : MeetsRules p) where
         subst (λ b. BlockFits (Inside Anything []) false b) body.5 (body-fits p rules body.0 body.1 body.3 body.2 body.4 (Inside Anything []) (λ x h. tt));
   }
     where
-      by : (unit op : Name) (ss : List Section) (c : Callee) → LeadsTo (system p a) unit op c → LeadsWithin Anything c ss
+      by : (unit op : Name) (ss : List Resource) (c : CallTarget) → LeadsTo (system p a) unit op c → LeadsWithin Anything c ss
       by unit op ss (Plain o) l =
           let found = library-at p a l.place l.library l.stands in
           body-fits p rules found.0 found.1 (found.2).stands (op_body o) (op-body-in found.1.form l.library.ops l.at o (ap bodies (found.2).form) l.holds) (Inside Anything ss) (λ x h. tt)
@@ -129,14 +129,14 @@ module _ (p : Program) (a : Arrivals) (rules : MeetsRules p) where
   costs-deep : (ts : List Ranked) (rows : List ThreadRow) → CoversCalls (system p a) (ticks_measure (frame p ts rows a))
   costs-deep ts rows unit op = by (callee (system p a) unit op) (pays-call p a (units_apart p rules) (no-ring p rules) (record { object = unit; op = op }))
     where
-      by : (c : Callee) → PaysCall p (record { object = unit; op = op }) c → Covers (ticks_measure (frame p ts rows a)) c ((frame p ts rows a).called unit op)
+      by : (c : CallTarget) → PaysCall p (record { object = unit; op = op }) c → Covers (ticks_measure (frame p ts rows a)) c ((frame p ts rows a).called unit op)
       by (Plain o) h = h
       by (Protected object j g o) h = h
       by (Request task) h = omega (arith, h)
       by systems.Unknown h = tt
 
   -- a task's name is that of its unit alone
-  task-names : (ts : List Ranked) (rows : List ThreadRow) (j : ℕ) (t : Thread) → slice_get (system p a).threads j ≡ Some t → Names (frame p ts rows a) p t.name t.unit
+  task-names : (ts : List Ranked) (rows : List ThreadRow) (j : ℕ) (t : TaskUnit) → slice_get (system p a).threads j ≡ Some t → Names (frame p ts rows a) p t.name t.unit
   task-names ts rows j t at x is = by (thread-at p a j t at) (thread-at p a is.0 is.1 is.2)
     where
       by : (k : ℕ) × (u : Unit) × IsTaskOf p k u t → (k : ℕ) × (u : Unit) × IsTaskOf p k u is.1 → same_name (unit_name p x) t.name ≡ (x == t.unit)
@@ -221,9 +221,9 @@ module _ (p : Program) (a : Arrivals) (rules : MeetsRules p) where
             below : (j r : ℕ) → i < r → (w : Ranked) × (slice_get (ranked p) j ≡ Some w) × (slice_get ts r ≡ Some w) → priority_at (system p a) j < found.0.priority
             below j r high w = omega (arith, falls-at ts i r found.0 w.0 tabled.falls high found.1 w.2, priority-is j r w.0 w.1)
 
-            outside : (j : ℕ) → (frame p ts rows a).row_of j ≡ None → (o : Option Thread) → slice_get (system p a).threads j ≡ o → priority_at (system p a) j < found.0.priority
+            outside : (j : ℕ) → (frame p ts rows a).row_of j ≡ None → (o : Option TaskUnit) → slice_get (system p a).threads j ≡ o → priority_at (system p a) j < found.0.priority
             outside j none None e =
-                let zero_priority : priority_at (system p a) j ≡ 0 = ap (λ o. unwrap_or (option_map (λ (t : Thread). t.priority) o) 0) e in
+                let zero_priority : priority_at (system p a) j ≡ 0 = ap (λ o. unwrap_or (option_map (λ (t : TaskUnit). t.priority) o) 0) e in
                 let place = place-of p a rules ts rows tabled i found.0 found.1 in
                 let t = thread-of p a place.0 found.0 place.1 in
                 omega (arith, zero_priority, priority-some p a rules place.0 t.0 t.1, (t.2).priority)

@@ -5,7 +5,7 @@ use Rattle.std.proofs.lemmas.Option.{slice_get_within}
 use Rattle.std.proofs.lemmas.Bool.{false≢true, both_ways}
 use Rattle.seq_tree.specs.Operations.{Signature}
 use Rattle.rt_response.specs.declared.rows.ThreadRow.{ThreadRow}
-use Rattle.machine.specs.Systems.{Timing, Periodic, Requested}
+use Rattle.machine.specs.Systems.{ReleasePattern, Periodic, Requested}
 use Rattle.machine.specs.Releases.{next_time}
 use Rattle.machine.specs.States.{Delays, Readiness, Asleep, Waiting, Ready}
 use Rattle.response_law.proofs.Logs.{Made, Log, Follows, Cause, IsTimely, started, OfRow, EndedAt}
@@ -32,7 +32,7 @@ follows-of acts r time m of_row now h = record {
 }
 
 -- how a task waits as it is released
-abbrev wakes : Timing → Wait → Wait
+abbrev wakes : ReleasePattern → Wait → Wait
 wakes t w = record w { readiness = Ready; next = next_time t w.next; open' = false }
 
 -- how a task with a row is released
@@ -158,7 +158,7 @@ release-cyclic f v l n i r until c framed along has here phase asleep due begun 
         clash : (x : Readiness) → x ≡ Asleep until → x ≡ Ready → ⊥
         clash x a b = cc
 
-    go : (t : Timing) → c.thread.timing ≡ t → IsAsked f i tabled.row t → Asked f v.phase v.time l.acts n.taken (n.kept i) r (wait_of c) tabled.row t
+    go : (t : ReleasePattern) → c.thread.timing ≡ t → IsAsked f i tabled.row t → Asked f v.phase v.time l.acts n.taken (n.kept i) r (wait_of c) tabled.row t
         → Moved f v (changed i (released_core f.system.costs) v) l (event.Release v.time c.thread.unit value ∷ []) []
     go (Periodic offset period) is asks asked =
         let m : Made = cyclic_made f.shift i r c.next v.time in
@@ -183,7 +183,7 @@ release-requested f v l n i r c framed along has here waits opens late begun val
         clash : (x : Readiness) → x ≡ Waiting → x ≡ Ready → ⊥
         clash x a b = cc
 
-    go : (t : Timing) → c.thread.timing ≡ t → IsAsked f i tabled.row t → (o : Option Kept) → n.kept i ≡ o → Asked f v.phase v.time l.acts n.taken o r (wait_of c) tabled.row t
+    go : (t : ReleasePattern) → c.thread.timing ≡ t → IsAsked f i tabled.row t → (o : Option Kept) → n.kept i ≡ o → Asked f v.phase v.time l.acts n.taken o r (wait_of c) tabled.row t
         → Moved f v (changed i (released_core f.system.costs) v) l (event.Release v.time c.thread.unit value ∷ []) []
     go (Periodic offset period) is asks o kept asked = absurd (subst (Sleeps v.phase v.time l.acts r c.next) waits asked.1)
     go (Requested op ceiling separation jitter external) is asks None kept asked = absurd (both_ways c.open' asked.0.1 opens)

@@ -15,7 +15,7 @@ use Rattle.ada_tree.specs.Rules.{MeetsRules}
 use Rattle.arrivals_tree.specs.Arriving.{Arrivals}
 use Rattle.rt_response.specs.declared.rows.ThreadRow.{ThreadRow}
 use Rattle.ods_tree.specs.Flats as flats
-use Rattle.machine.specs.Systems.{System, Thread, Timing, Periodic, Requested, Callee, Plain, Protected, Request, Unknown, system, callee}
+use Rattle.machine.specs.Systems.{System, TaskUnit, ReleasePattern, Periodic, Requested, CallTarget, Plain, Protected, Request, Unknown, system, callee}
 use Rattle.analysis.specs.Starts.{starts_within, all_calls, can_request, block_starts}
 use Rattle.guarantee.specs.ResponseLaw.{Ranked, ranked, program_services, IsStarter, IsStarted, AreTabled}
 use Rattle.program_calls.proofs.Lists.{IsIn, at-in, zip-first}
@@ -46,32 +46,32 @@ module _ (p : Program) (a : Arrivals) (rules : MeetsRules p) where
   y = system p a
 
   -- a call of this task's request
-  record Requests (t : Thread) (c : OpName) : Type 0 where
+  record Requests (t : TaskUnit) (c : OpName) : Type 0 where
     named : same_name t.name c.object ≡ true
     asked : IsAskedBy c.op t.timing
 
-  requests : (k : ℕ) (t : Thread) (c : OpName) → slice_get y.threads k ≡ Some t → LeadsToTask y c.object c.op k → Requests t c
+  requests : (k : ℕ) (t : TaskUnit) (c : OpName) → slice_get y.threads k ≡ Some t → LeadsToTask y c.object c.op k → Requests t c
   requests k t c at l =
       let same : l.thread ≡ t = same-item (slice_get y.threads k) l.thread t l.stands at in
       record { named = subst (λ x. same_name x.name c.object ≡ true) same l.named; asked = subst (λ x. IsAskedBy c.op x.timing) same l.asked }
 
-  abbrev target_of : Thread → Signature → OpName
+  abbrev target_of : TaskUnit → Signature → OpName
   target_of t sig = record { object = t.name; op = sig.name }
 
   -- what is counted of a call covers what it leads to
-  abbrev count_by : ℕ → Option Thread → Measure
+  abbrev count_by : ℕ → Option TaskUnit → Measure
   count_by k o = record { weights = counting (counted_by p o); keeping = 0; opening = one_at k; requesting = λ task. 0 }
 
-  abbrev count_in : ℕ → Thread → Timing → Measure
+  abbrev count_in : ℕ → TaskUnit → ReleasePattern → Measure
   count_in k t x = record { weights = counting (counted_in p t.name x); keeping = 0; opening = one_at k; requesting = λ task. 0 }
 
   none-deep : (b : Statements) → dearest (counting (λ object op. 0)) b ≤ 0
   none-deep b = let none : dearest (counting (λ object op. 0)) b ≡ 0 = count-none (λ object op. 0) b (λ c h. refl) in omega (arith, none)
 
-  timed-deep : (k : ℕ) (t : Thread) → slice_get y.threads k ≡ Some t → (x : Timing) → t.timing ≡ x → (unit op : Name) → Covers (count_in k t x) (callee y unit op) (counted_in p t.name x unit op)
+  timed-deep : (k : ℕ) (t : TaskUnit) → slice_get y.threads k ≡ Some t → (x : ReleasePattern) → t.timing ≡ x → (unit op : Name) → Covers (count_in k t x) (callee y unit op) (counted_in p t.name x unit op)
   timed-deep k t at (Periodic offset period) e unit op = by (callee y unit op) (leads-to y unit op)
     where
-      by : (c : Callee) → LeadsTo y unit op c → Covers (count_in k t (Periodic offset period)) c 0
+      by : (c : CallTarget) → LeadsTo y unit op c → Covers (count_in k t (Periodic offset period)) c 0
       by (Plain o) l = none-deep o.block
       by (Protected object j g o) l = none-deep o.block
       by (Request task) l = counted k task 0 (λ same.
@@ -83,7 +83,7 @@ module _ (p : Program) (a : Arrivals) (rules : MeetsRules p) where
       c : OpName
       c = record { object = unit; op = op }
 
-      by : (x : Callee) → LeadsTo y unit op x → CoversBody p (target_of t sig) (record { object = unit; op = op }) x
+      by : (x : CallTarget) → LeadsTo y unit op x → CoversBody p (target_of t sig) (record { object = unit; op = op }) x
           → Covers (count_in k t (Requested sig ceiling separation jitter external)) x (counted_in p t.name (Requested sig ceiling separation jitter external) unit op)
       by (Plain o) l h = h
       by (Protected object j g o) l h = h
@@ -96,10 +96,10 @@ module _ (p : Program) (a : Arrivals) (rules : MeetsRules p) where
           omega (arith, one))
       by Unknown l h = tt
 
-  some-deep : (k : ℕ) (o : Option Thread) → slice_get y.threads k ≡ o → (unit op : Name) → Covers (count_by k o) (callee y unit op) (counted_by p o unit op)
+  some-deep : (k : ℕ) (o : Option TaskUnit) → slice_get y.threads k ≡ o → (unit op : Name) → Covers (count_by k o) (callee y unit op) (counted_by p o unit op)
   some-deep k None e unit op = by (callee y unit op) (leads-to y unit op)
     where
-      by : (c : Callee) → LeadsTo y unit op c → Covers (count_by k None) c 0
+      by : (c : CallTarget) → LeadsTo y unit op c → Covers (count_by k None) c 0
       by (Plain o) l = none-deep o.block
       by (Protected object j g o) l = none-deep o.block
       by (Request task) l = counted k task 0 (λ same. absurd (none-some l.thread (sym e ∙ ap (slice_get y.threads) same ∙ l.stands)))
@@ -111,7 +111,7 @@ module _ (p : Program) (a : Arrivals) (rules : MeetsRules p) where
   requests-deep ts rows k unit op = some-deep k (slice_get y.threads k) refl unit op
 
   -- what a task's block leads to, some task can call
-  reached : (i : ℕ) (t : Thread) → slice_get y.threads i ≡ Some t → (d : OpName) → IsIn d (all_calls (program_services p) t.block) → is_requested p d ≡ true
+  reached : (i : ℕ) (t : TaskUnit) → slice_get y.threads i ≡ Some t → (d : OpName) → IsIn d (all_calls (program_services p) t.block) → is_requested p d ≡ true
   reached i t at d among =
       block-requested p t.block
       (λ c h.
@@ -126,7 +126,7 @@ module _ (p : Program) (a : Arrivals) (rules : MeetsRules p) where
     same-call c object op e g = ap (λ x. let d : OpName = record { object = x; op = c.op } in d) e ∙ ap (λ x. let d : OpName = record { object = object; op = x } in d) g
 
     -- a task that is requested from outside can be requested by no task
-    never-outside : (k : ℕ) (t : Thread) (op : Signature) (ceiling separation jitter : ℕ) → slice_get y.threads k ≡ Some t → t.timing ≡ Requested op ceiling separation jitter true
+    never-outside : (k : ℕ) (t : TaskUnit) (op : Signature) (ceiling separation jitter : ℕ) → slice_get y.threads k ≡ Some t → t.timing ≡ Requested op ceiling separation jitter true
         → (c : OpName) → is_requested p c ≡ true → is_call_of (target_of t op) c.object c.op ≡ true → ⊥
     never-outside k t op ceiling separation jitter at e c made call =
         let found = thread-at p a k t at in
@@ -147,7 +147,7 @@ module _ (p : Program) (a : Arrivals) (rules : MeetsRules p) where
     none-most n m e = omega (arith, e)
 
     -- an activation requests a task with a row at most so often
-    pub requests-few : (k s i : ℕ) (t : Thread) → HasRow f k s → slice_get y.threads i ≡ Some t → dearest (requests_measure f k).weights t.block ≤ quota f k i
+    pub requests-few : (k s i : ℕ) (t : TaskUnit) → HasRow f k s → slice_get y.threads i ≡ Some t → dearest (requests_measure f k).weights t.block ≤ quota f k i
     requests-few k s i t has at = build (row-is p a rules ts rows tabled k s has)
       where
         build : (u : Ranked) × (slice_get (ranked p) k ≡ Some u) × (slice_get ts s ≡ Some u) → dearest (requests_measure f k).weights t.block ≤ quota f k i
@@ -156,20 +156,20 @@ module _ (p : Program) (a : Arrivals) (rules : MeetsRules p) where
             u : Ranked
             u = row.0
 
-            with_thread : (tk : Thread) × (slice_get y.threads k ≡ Some tk) × AreTwins tk row.0 → dearest (requests_measure f k).weights t.block ≤ quota f k i
+            with_thread : (tk : TaskUnit) × (slice_get y.threads k ≡ Some tk) × AreTwins tk row.0 → dearest (requests_measure f k).weights t.block ≤ quota f k i
             with_thread k-thread = with_table (task-tabled p a rules ts rows tabled k s k-thread.0 has k-thread.1)
               where
-                tk : Thread
+                tk : TaskUnit
                 tk = k-thread.0
 
-                counts : (x : Timing) → k-thread.0.timing ≡ x → dearest (requests_measure f k).weights t.block ≡ dearest (counting (counted_in p k-thread.0.name x)) t.block
+                counts : (x : ReleasePattern) → k-thread.0.timing ≡ x → dearest (requests_measure f k).weights t.block ≡ dearest (counting (counted_in p k-thread.0.name x)) t.block
                 counts x e =
                     ap (λ o. dearest (counting (counted_by p o)) t.block) k-thread.1 ∙ ap (λ z. dearest (counting (counted_in p k-thread.0.name z)) t.block) e
 
                 with_table : IsTabled f k s k-thread.0 → dearest (requests_measure f k).weights t.block ≤ quota f k i
                 with_table table = by k-thread.0.timing refl table.asked
                   where
-                    by : (x : Timing) → k-thread.0.timing ≡ x → IsAsked f k table.row x → dearest (requests_measure f k).weights t.block ≤ quota f k i
+                    by : (x : ReleasePattern) → k-thread.0.timing ≡ x → IsAsked f k table.row x → dearest (requests_measure f k).weights t.block ≤ quota f k i
                     by (Periodic offset period) e asked =
                         none-most (dearest (requests_measure f k).weights t.block) (quota f k i)
                         (counts (Periodic offset period) e ∙ count-none (λ object op. 0) t.block (λ c h. refl))

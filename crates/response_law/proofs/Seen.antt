@@ -7,12 +7,12 @@ use Rattle.seq_tree.specs.Variables.{Variables}
 use Rattle.seq_tree.specs.declared.tree.Costs.{Costs}
 use Rattle.trace_tree.specs.declared.event.Event.{Event}
 use Rattle.trace_tree.specs.declared.event.Event.TheVariants as event
-use Rattle.machine.specs.Systems.{System, Callee, Plain, Protected, Request, Unknown, callee}
+use Rattle.machine.specs.Systems.{System, CallTarget, Plain, Protected, Request, Unknown, callee}
 use Rattle.seq_tree.specs.Expressions.{Expression}
 use Rattle.seq_tree.specs.Values.{holds}
 use Rattle.machine.specs.Pieces.{Piece, Leaving, Calling, Opening, Requested, Finishing, pieces, after_loop}
 use Rattle.machine.specs.Deeds.{deed, Act, Silent, Print, Enter, Leave, Ask, Keep, Open, Ended, Finish, done, called}
-use Rattle.machine.specs.States.{State, Task, Section, Object, Control, Held}
+use Rattle.machine.specs.States.{State, Task, Resource, Object, Control, Held}
 use Rattle.machine.specs.Releases.{Next, going, released, parameter}
 use Rattle.machine.specs.Effects.{outside_by, outside_now, inside_now, lent, ceiling_of, stopped_at, entered_at, entry, exit, go, keep, open_gate, ended, acted, object_unit, section_unit}
 use Rattle.response_law.proofs.Views.{Core, View, core, view, on_with, released_core, ended_core, opened_core, changed}
@@ -52,7 +52,7 @@ view-exit y i vars qs s =
     (λ t. core-going y.costs vars qs (outside_now t) ∙ ap (on_with y.costs qs) (core-outside t.inside t)))
 
 -- a task enters a section
-view-entered : (y : System) (i : ℕ) (section : Section) (told : List Event) (vars : Variables) (qs : List Piece) (s : State)
+view-entered : (y : System) (i : ℕ) (section : Resource) (told : List Event) (vars : Variables) (qs : List Piece) (s : State)
     → view ((entered_at y i section told vars qs s).0) ≡ changed i (on_with y.costs qs) (view s)
 view-entered y i (Object object) told vars qs s =
     ap (with_cores s) (map-changed core i (λ u. going y.costs (lent (Object object) s vars) qs (inside_now (Object object) (ceiling_of y (Object object)) u)) (on_with y.costs qs) s.tasks
@@ -90,7 +90,7 @@ pub record Goes (f : Frame) (i : ℕ) (qs : List Piece) (s : State) (next : Next
   pub view' : (view next.0 ≡ changed i (on_with f.system.costs qs) (view s)) ⊎ (view next.0 ≡ view s)
   pub quiet : AreQuiet f next.1
 
-entry-goes : (f : Frame) (i : ℕ) (t : Task) (section : Section) (told : List Event) (vars : Variables) (qs : List Piece) (s : State) → AreQuiet f told → Goes f i qs s (entry f.system i t section told vars qs s)
+entry-goes : (f : Frame) (i : ℕ) (t : Task) (section : Resource) (told : List Event) (vars : Variables) (qs : List Piece) (s : State) → AreQuiet f told → Goes f i qs s (entry f.system i t section told vars qs s)
 entry-goes f i t section told vars qs s quiet = by (nat_lt (ceiling_of f.system section) t.active)
   where
     by : (b : Bool) → Goes f i qs s (if b then stopped_at f.system t section s else entered_at f.system i section told vars qs s)
@@ -120,7 +120,7 @@ IsQuietPiece (Requested task value) = ⊥
 IsQuietPiece Finishing = ⊥
 IsQuietPiece _ = ⊤
 
-called-quiet : (c : Callee) (actuals : List Expression) (vars : Variables) (ps : List Piece) → IsQuietAct ((called c actuals vars ps).act)
+called-quiet : (c : CallTarget) (actuals : List Expression) (vars : Variables) (ps : List Piece) → IsQuietAct ((called c actuals vars ps).act)
 called-quiet (Plain o) actuals vars ps = tt
 called-quiet (Protected object op g o) actuals vars ps = tt
 called-quiet (Request task) actuals vars ps = tt

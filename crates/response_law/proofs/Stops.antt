@@ -10,7 +10,7 @@ use Rattle.trace_tree.specs.declared.event.Event.TheVariants as event
 use Rattle.machine.specs.Systems.{System}
 use Rattle.machine.specs.Pieces.{Piece}
 use Rattle.machine.specs.Deeds.{Act, Silent, Print, Enter, Leave, Ask, Keep, Open, Ended, Finish, done}
-use Rattle.machine.specs.States.{State, Task, Phase, Effects, Delays, Arriving, Use, Section, Object, Control}
+use Rattle.machine.specs.States.{State, Task, Phase, Effects, Delays, Arriving, Use, Resource, Object, Control}
 use Rattle.machine.specs.Releases.{release, release_task, is_waiting, serve, serve_task}
 use Rattle.machine.specs.Dispatch.{dispatched}
 use Rattle.machine.specs.Effects.{stopped_at, entered_at, entry, exit, ended, acted, takes_effect, ceiling_of}
@@ -45,11 +45,11 @@ serve-stops y k s = by (slice_get s.tasks k)
         if_open true = released-stops y k (slice_get s.tasks k) s
         if_open false = refl
 
-entered-stops : (y : System) (i : ℕ) (section : Section) (told : List Event) (vars : Variables) (ps : List Piece) (s : State) → (entered_at y i section told vars ps s).0.stopped ≡ s.stopped
+entered-stops : (y : System) (i : ℕ) (section : Resource) (told : List Event) (vars : Variables) (ps : List Piece) (s : State) → (entered_at y i section told vars ps s).0.stopped ≡ s.stopped
 entered-stops y i (Object object) told vars ps s = refl
 entered-stops y i (Control task) told vars ps s = refl
 
-entry-stops : (y : System) (i : ℕ) (t : Task) (section : Section) (told : List Event) (vars : Variables) (ps : List Piece) (s : State) → Each GoesOn (entry y i t section told vars ps s).1
+entry-stops : (y : System) (i : ℕ) (t : Task) (section : Resource) (told : List Event) (vars : Variables) (ps : List Piece) (s : State) → Each GoesOn (entry y i t section told vars ps s).1
     → (entry y i t section told vars ps s).0.stopped ≡ s.stopped
 entry-stops y i t section told vars ps s h = by (nat_lt (ceiling_of y section) t.active) h
   where

@@ -10,7 +10,7 @@ use Rattle.rt_response.specs.Tables.{IsTable}
 use Rattle.rt_response.specs.Tables as tables
 use Rattle.rt_response.specs.Response.{Fits}
 use Rattle.trace_tree.specs.declared.event.Event.{Event}
-use Rattle.machine.specs.Systems.{System, Thread}
+use Rattle.machine.specs.Systems.{System, TaskUnit}
 use Rattle.machine.specs.Pieces.{Piece}
 use Rattle.machine.specs.Pieces as piece
 use Rattle.machine.specs.States.{State, Effects, Arriving, opening}
@@ -70,7 +70,7 @@ pub record IsResponsive (f : Frame) (v : List Bound) (as' : List Arrival) : Type
 -- each task with a row responds
 abbrev pub AllRespond : Frame → List Bound → List Event → Type 0
 AllRespond f v told =
-    (j r : ℕ) (t : Thread) (row : ThreadRow) (b : Bound) → HasRow f j r → slice_get f.system.threads j ≡ Some t → slice_get f.rows r ≡ Some row → slice_get v r ≡ Some b
+    (j r : ℕ) (t : TaskUnit) (row : ThreadRow) (b : Bound) → HasRow f j r → slice_get f.system.threads j ≡ Some t → slice_get f.rows r ≡ Some row → slice_get v r ≡ Some b
     → tables.Each (IsAnswered f.system.until b.response) (answers t.unit told)
 
 pub system-responds : (f : Frame) (v : List Bound) (as' : List Arrival) (told : List Event) → IsResponsive f v as' → Rest f.system (opening f.system as') told
@@ -96,7 +96,7 @@ system-responds f v as' told responsive rest = (goes_on, subst (Each (HasUnit f)
         subst (AllOnTime f.rows v (schedule_of f.rows f.shift whole.log)) ends.1
         (all-on-time f v as' rest.steps responsive.table responsive.fits responsive.levels whole calm)
 
-    responds : (j r : ℕ) (t : Thread) (row : ThreadRow) (b : Bound) → HasRow f j r → slice_get f.system.threads j ≡ Some t → slice_get f.rows r ≡ Some row → slice_get v r ≡ Some b
+    responds : (j r : ℕ) (t : TaskUnit) (row : ThreadRow) (b : Bound) → HasRow f j r → slice_get f.system.threads j ≡ Some t → slice_get f.rows r ≡ Some row → slice_get v r ≡ Some b
         → tables.Each (IsAnswered f.system.until b.response) (answers t.unit told)
     responds j r t row b has at asks gets =
         let says : answers t.unit ([] ++ (run f.system rest.steps (opening f.system as')).1) ≡ ends_of r whole.log.acts = whole.grown.told [] (none-told f) j r t has at in

@@ -9,7 +9,7 @@ use Rattle.ada_tree.specs.Rules.{MeetsRules}
 use Rattle.arrivals_tree.specs.Arriving.{Arrivals}
 use Rattle.rt_response.specs.declared.rows.ThreadRow.{ThreadRow}
 use Rattle.ods_tree.specs.Flats as flats
-use Rattle.machine.specs.Systems.{Thread, Timing, Periodic, Requested, system}
+use Rattle.machine.specs.Systems.{TaskUnit, ReleasePattern, Periodic, Requested, system}
 use Rattle.analysis.specs.Execution.{block_cost}
 use Rattle.guarantee.specs.ResponseLaw.{Ranked, ranked, program_services, IsStarter, IsStarted, AreTabled}
 use Rattle.program_calls.proofs.Systems.{thread_form, thread-at}
@@ -44,8 +44,8 @@ module _ (p : Program) (a : Arrivals) (rules : MeetsRules p) (ts : List Ranked) 
       ∙ ap (λ o. starter_if u.task.timing (starter_by (ranked p) ts o)) line
 
   -- how a task with a row is requested
-  asked-is : (j r : ℕ) (t : Thread) (u : Ranked) (row : ThreadRow) → HasRow f j r → slice_get (system p a).threads j ≡ Some t → slice_get (ranked p) j ≡ Some u → slice_get ts r ≡ Some u → AreTwins t u
-      → slice_get rows r ≡ Some row → row.period ≡ flats.period_of u.task.timing → IsStarted p ts row u.task.name u.task.timing → (x : Timing) → t.timing ≡ x → IsAsked f j row x
+  asked-is : (j r : ℕ) (t : TaskUnit) (u : Ranked) (row : ThreadRow) → HasRow f j r → slice_get (system p a).threads j ≡ Some t → slice_get (ranked p) j ≡ Some u → slice_get ts r ≡ Some u → AreTwins t u
+      → slice_get rows r ≡ Some row → row.period ≡ flats.period_of u.task.timing → IsStarted p ts row u.task.name u.task.timing → (x : ReleasePattern) → t.timing ≡ x → IsAsked f j row x
   asked-is j r t u row has at among listed twins line period started (Periodic offset every) e =
       let timing : u.task.timing ≡ flats.Cyclic every offset = subst (λ x. SameTiming x u.task.timing) e twins.timing in
       let is : row.period ≡ every = period ∙ ap flats.period_of timing in
@@ -84,7 +84,7 @@ module _ (p : Program) (a : Arrivals) (rules : MeetsRules p) (ts : List Ranked) 
             ∙ ap (λ o. place_in (ranked p) (item_at ts o)) inner.told ∙ ap (place_in (ranked p)) inner.stands ∙ place.2,
       )
 
-  pub task-tabled : (j r : ℕ) (t : Thread) → HasRow f j r → slice_get (system p a).threads j ≡ Some t → IsTabled f j r t
+  pub task-tabled : (j r : ℕ) (t : TaskUnit) → HasRow f j r → slice_get (system p a).threads j ≡ Some t → IsTabled f j r t
   task-tabled j r t has at = build (row-is p a rules ts rows tabled j r has) (twin-of p a j t at)
     where
       build : (u : Ranked) × (slice_get (ranked p) j ≡ Some u) × (slice_get ts r ≡ Some u) → HasTwin (ranked p) j t → IsTabled f j r t
@@ -110,7 +110,7 @@ module _ (p : Program) (a : Arrivals) (rules : MeetsRules p) (ts : List Ranked) 
       let is = task-tabled k s thread.0 has thread.1 in
       by thread.0.timing is.row is.asked
     where
-      by : (x : Timing) (row : ThreadRow) → IsAsked f k row x → (r : ℕ) × HasRow f i r
+      by : (x : ReleasePattern) (row : ThreadRow) → IsAsked f k row x → (r : ℕ) × HasRow f i r
       by (Periodic offset period) row asked = absurd (none-some i (sym asked.1 ∙ starts))
       by (Requested op ceiling separation jitter true) row asked = absurd (none-some i (sym asked.4 ∙ starts))
       by (Requested op ceiling separation jitter false) row asked =

@@ -14,7 +14,7 @@ use Rattle.rt_response.specs.declared.rows.ThreadRow.{ThreadRow}
 use Rattle.analysis.specs.Execution.{called_cost}
 use Rattle.analysis.specs.Starts.{starts_within}
 use Rattle.ods_tree.specs.Flats as flats
-use Rattle.machine.specs.Systems.{Thread, Timing, Periodic, Requested, system}
+use Rattle.machine.specs.Systems.{TaskUnit, ReleasePattern, Periodic, Requested, system}
 use Rattle.guarantee.specs.ResponseLaw.{Ranked, ranked, program_services, is_among, Falls, AreTabled}
 use Rattle.program_calls.proofs.Systems.{thread-at, threads-differ}
 use Rattle.response_law.proofs.Frames.{Frame, HasRow}
@@ -52,12 +52,12 @@ starter_in None o = None
 starter_in (Some u) o = starter_if u.task.timing o
 
 -- how often a call requests a task of this timing, itself or through the bodies of protected operations
-abbrev pub counted_in : Program → Name → Timing → Name → Name → ℕ
+abbrev pub counted_in : Program → Name → ReleasePattern → Name → Name → ℕ
 counted_in p name (Periodic offset period) unit op = 0
 counted_in p name (Requested sig ceiling separation jitter external) unit op =
     if is_call_of (record { object = name; op = sig.name }) unit op then 1 else starts_within (length (program_services p)) (program_services p) (record { object = name; op = sig.name }) unit op
 
-abbrev pub counted_by : Program → Option Thread → Name → Name → ℕ
+abbrev pub counted_by : Program → Option TaskUnit → Name → Name → ℕ
 counted_by p None unit op = 0
 counted_by p (Some t) unit op = counted_in p t.name t.timing unit op
 

@@ -6,7 +6,7 @@ use Rattle.ada_tree.specs.Rules.{MeetsRules}
 use Rattle.arrivals_tree.specs.Arriving.{Arrivals, durations}
 use Rattle.ods_tree.specs.Walk.{only_if}
 use Rattle.ods_tree.specs.Flats as flats
-use Rattle.machine.specs.Systems.{Thread, Timing, Periodic, Requested, thread_by, system}
+use Rattle.machine.specs.Systems.{TaskUnit, ReleasePattern, Periodic, Requested, thread_by, system}
 use Rattle.guarantee.specs.Software.{task_by}
 use Rattle.guarantee.specs.ResponseLaw.{Ranked, priority_of, ranked}
 use Rattle.program_calls.proofs.Apart.{units_apart}
@@ -14,30 +14,30 @@ use Rattle.program_calls.proofs.Lists.{zip-first, zip-second, BothMake, made-bot
 use Rattle.program_calls.proofs.UnitNames.{places-apart}
 
 -- the timing of a thread and of a task
-abbrev pub SameTiming : Timing → flats.Timing → Type 0
+abbrev pub SameTiming : ReleasePattern → flats.Timing → Type 0
 SameTiming (Periodic offset period) timing = timing ≡ flats.Cyclic period offset
 SameTiming (Requested op ceiling separation jitter external) timing = timing ≡ flats.Sporadic op separation (only_if external jitter)
 
 -- a thread and a task that are one
-pub record AreTwins (t : Thread) (u : Ranked) : Type 0 where
+pub record AreTwins (t : TaskUnit) (u : Ranked) : Type 0 where
   pub name : u.task.name ≡ t.name
   pub block : u.task.block ≡ t.block
   pub priority : u.priority ≡ t.priority
   pub timing : SameTiming t.timing u.task.timing
 
 -- the thread and the task of a unit
-abbrev thread_of : Arrivals → ℕ × Unit → Option Thread
+abbrev thread_of : Arrivals → ℕ × Unit → Option TaskUnit
 thread_of a u = thread_by (durations a u.0) u.0 u.1.name u.1.form
 
 abbrev ranked_by : Unit → Option Ranked
 ranked_by u = option_map (λ t. record { task = t; priority = priority_of u.form }) (task_by u.name u.form)
 
 -- a thread at a place, and the task that is one with it
-abbrev pub HasTwin : List Ranked → ℕ → Thread → Type 0
+abbrev pub HasTwin : List Ranked → ℕ → TaskUnit → Type 0
 HasTwin us j t = (u : Ranked) × (slice_get us j ≡ Some u) × AreTwins t u
 
-abbrev pub IsTwin : List Thread → ℕ → Ranked → Type 0
-IsTwin ts j u = (t : Thread) × (slice_get ts j ≡ Some t) × AreTwins t u
+abbrev pub IsTwin : List TaskUnit → ℕ → Ranked → Type 0
+IsTwin ts j u = (t : TaskUnit) × (slice_get ts j ≡ Some t) × AreTwins t u
 
 unit-twins : (a : Arrivals) (k : ℕ) (u : Unit) → BothMake AreTwins (thread_of a (k, u)) (ranked_by u)
 unit-twins a k u = by u.form
@@ -51,7 +51,7 @@ unit-twins a k u = by u.form
 twins : (p : Program) (a : Arrivals) → AllZip AreTwins (system p a).threads (ranked p)
 twins p a = made-both AreTwins (thread_of a) ranked_by (unit-twins a) 0 p.units
 
-pub twin-of : (p : Program) (a : Arrivals) (j : ℕ) (t : Thread) → slice_get (system p a).threads j ≡ Some t → HasTwin (ranked p) j t
+pub twin-of : (p : Program) (a : Arrivals) (j : ℕ) (t : TaskUnit) → slice_get (system p a).threads j ≡ Some t → HasTwin (ranked p) j t
 twin-of p a j t e = zip-first AreTwins (system p a).threads (ranked p) j t (twins p a) e
 
 pub thread-of : (p : Program) (a : Arrivals) (j : ℕ) (u : Ranked) → slice_get (ranked p) j ≡ Some u → IsTwin (system p a).threads j u

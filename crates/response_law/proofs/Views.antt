@@ -4,7 +4,7 @@ use Rattle.std.specs.Prelude.{ℕ, ◌+◌, ◌-◌, Bool, true, false, List, []
 use Rattle.seq_tree.specs.Lists.{change}
 use Rattle.seq_tree.specs.declared.tree.Costs.{Costs}
 use Rattle.arrivals_tree.specs.declared.arrivals.Arrival.{Arrival}
-use Rattle.machine.specs.Systems.{Thread}
+use Rattle.machine.specs.Systems.{TaskUnit}
 use Rattle.machine.specs.Pieces.{Piece, Finishing, pieces, ticks_of, works_of}
 use Rattle.machine.specs.States.{State, Task, Phase, Effects, Readiness, Ready}
 use Rattle.machine.specs.Releases.{next_time}
@@ -12,7 +12,7 @@ use Rattle.machine.specs.Effects.{resting}
 
 -- what matters of a task
 pub record Core : Type 0 where
-  pub thread : Thread
+  pub thread : TaskUnit
   pub readiness : Readiness
   pub next : ℕ
   pub pieces : List Piece

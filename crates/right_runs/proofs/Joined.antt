@@ -13,7 +13,7 @@ use Rattle.ods_tree.specs.Flats as flats
 use Rattle.ods_tree.specs.Flats.{period_of}
 use Rattle.ods_tree.specs.Walk.{only_if}
 use Rattle.trace_tree.specs.declared.event.Event as machine
-use Rattle.machine.specs.Systems.{Thread, Timing, Periodic, Requested, system}
+use Rattle.machine.specs.Systems.{TaskUnit, ReleasePattern, Periodic, Requested, system}
 use Rattle.machine.specs.Meanings.{Meaning}
 use Rattle.rt_response.specs.declared.rows.ThreadRow.{ThreadRow}
 use Rattle.rt_response.specs.declared.rows.Bound.{Bound}
@@ -139,7 +139,7 @@ tabled_at p ts rows v tabled fits i t here =
 -- the thread of a ranked task
 pub record HasThread (p : Program) (r : places.Arrivals) (t : Ranked) : Type 0 where
   pub place : ℕ
-  pub thread : Thread
+  pub thread : TaskUnit
   pub at : slice_get (system p r).threads place ≡ Some thread
   pub same : task_at thread ≡ t.task
 
@@ -159,7 +159,7 @@ ranked_at p k t e = ap (λ ts. slice_get ts k) (sym (ranked_tasks p.units)) ∙ 
 
 pub thread_of : (p : Program) (r : places.Arrivals) (k : ℕ) (t : Ranked) → slice_get (ranked p) k ≡ Some t → HasThread p r t
 thread_of p r k t e =
-    let m : (th : Thread) × (slice_get (system p r).threads k ≡ Some th) × (task_at th ≡ t.task) = tasks.thread_of p r k t.task (ranked_at p k t e) in
+    let m : (th : TaskUnit) × (slice_get (system p r).threads k ≡ Some th) × (task_at th ≡ t.task) = tasks.thread_of p r k t.task (ranked_at p k t e) in
     record { place = k; thread = m.0; at = m.1; same = m.2 }
 
 -- what is asked of a task that another requests, of its starter
@@ -258,7 +258,7 @@ module _ (limit : ℕ) (p : Program) (ts : List Ranked) (rows : List ThreadRow) 
         h : HasThread p r t
         h = thread_at i t d.here
 
-        by : (timing : Timing) → h.thread.timing ≡ timing → ((s : ℕ) (u : Ranked) (e : IsTabled ts rows v s u) → e.bound.jitter < d.bound.jitter → Keeps u e.bound) → Keeps t d.bound
+        by : (timing : ReleasePattern) → h.thread.timing ≡ timing → ((s : ℕ) (u : Ranked) (e : IsTabled ts rows v s u) → e.bound.jitter < d.bound.jitter → Keeps u e.bound) → Keeps t d.bound
         by (Periodic offset period) is before =
             let s : period_of t.task.timing ≡ period = ap period_of (sym (timed_so t h)) ∙ ap (λ z. period_of (timing_at z)) is in
             let N : Name → Type 0 = λ z. Responds r.until T (record { thread = z; ticks = d.bound.response }) in
@@ -307,7 +307,7 @@ module _ (limit : ℕ) (p : Program) (ts : List Ranked) (rows : List ThreadRow) 
           d : (i : ℕ) × IsTabled ts rows v i t
           d = let place = all-at (λ u. (i : ℕ) × (slice_get ts i ≡ Some u)) (ranked p) k t all e in (place.0, tabled_at p ts rows v tabled fits place.0 t place.1)
 
-          by : (timing : Timing) → h.thread.timing ≡ timing → HasNoOverrun T t.task.name (timing_at timing)
+          by : (timing : ReleasePattern) → h.thread.timing ≡ timing → HasNoOverrun T t.task.name (timing_at timing)
           by (Periodic offset period) is = tt
           by (Requested op ceiling separation jitter external) is = never_so d.0 t d.1 h op ceiling separation jitter external is
 

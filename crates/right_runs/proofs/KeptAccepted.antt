@@ -17,7 +17,7 @@ use Rattle.arrivals_tree.specs.Arriving as places
 use Rattle.arrivals_tree.specs.Arriving.{durations}
 use Rattle.arrivals_tree.specs.Acceptance.{Unknown, Unfit, Early, Falling, Far, fits, next_nominal, nominal, earlier_times, last_time, request_fault, request_fault_by, request_fault_at, item_fault, requests_fault, has_nothing, durations_fault, works_fault, IsAccepted}
 use Rattle.trace_tree.specs.Lines.{unit_name}
-use Rattle.machine.specs.Systems.{Thread, Timing, Periodic, Requested, system, thread_by}
+use Rattle.machine.specs.Systems.{TaskUnit, ReleasePattern, Periodic, Requested, system, thread_by}
 use Rattle.guarantee.specs.Software.{Task, program_software}
 use Rattle.guarantee.specs.Arrivals.{Durations, named_arrivals, DontFall, IsValueFor, Takes, IsTaken, IsExternal, KeepTime, KeepsSeparation, AreDurations, AreKept}
 use Rattle.written_runs.proofs.Moves.{HasUnit}
@@ -60,7 +60,7 @@ unfolding unit_name
 unit_unnamed p m at = ap (λ o. unwrap_or (option_map (λ v. v.name) o) []) at
 
 -- the place of a thread's name
-place_of_name : (p : Program) (r : places.Arrivals) → MeetsRules p → AreNonempty p → (k : ℕ) (th : Thread) (m : ℕ) → slice_get (system p r).threads k ≡ Some th → same_name th.name (unit_name p m) ≡ true → th.unit ≡ m
+place_of_name : (p : Program) (r : places.Arrivals) → MeetsRules p → AreNonempty p → (k : ℕ) (th : TaskUnit) (m : ℕ) → slice_get (system p r).threads k ≡ Some th → same_name th.name (unit_name p m) ≡ true → th.unit ≡ m
 place_of_name p r meets full k th m at same = by (slice_get p.units m) refl
   where
     f : IsMadeOf p r th
@@ -77,14 +77,14 @@ place_of_name p r meets full k th m at same = by (slice_get p.units m) refl
     by (Some u) e = one-place p.units th.unit m f.unit u (units_apart p meets) f.here e ((bytes_eq-Decides f.unit.name u.name).1 (own ∙ names ∙ name-at p m u e))
 
 -- a task that is found by its name
-pub record IsFoundThread (ths : List Thread) (name : Name) (t : Task) : Type 0 where
+pub record IsFoundThread (ths : List TaskUnit) (name : Name) (t : Task) : Type 0 where
   pub place' : ℕ
-  pub thread : Thread
+  pub thread : TaskUnit
   pub at : slice_get ths place' ≡ Some thread
   pub same : task_at thread ≡ t
   pub named_so : same_name thread.name name ≡ true
 
-found_thread : (ths : List Thread) (name : Name) (t : Task) → find (λ z. same_name z.name name) (map task_at ths) ≡ Some t → IsFoundThread ths name t
+found_thread : (ths : List TaskUnit) (name : Name) (t : Task) → find (λ z. same_name z.name name) (map task_at ths) ≡ Some t → IsFoundThread ths name t
 found_thread [] name t e = absurd (none-some t e)
 found_thread (u ∷ ths) name t e = by (same_name u.name name) refl e (found_thread ths name t)
   where
@@ -108,7 +108,7 @@ asked_named p r meets full a h =
     let T : List Task → Type 0 = λ ts. IsTaken (find (λ t. same_name t.name (unit_name p a.task)) ts) a.value in
     by (find (λ t. same_name t.name (unit_name p a.task)) (map task_at (system p r).threads)) refl (subst T (tasks_of p r) h)
   where
-    timed : (timing : Timing) (k : ℕ) (th : Thread) → slice_get (system p r).threads k ≡ Some th → th.unit ≡ a.task → th.timing ≡ timing → Takes (timing_at timing) a.value → IsAsked p r a
+    timed : (timing : ReleasePattern) (k : ℕ) (th : TaskUnit) → slice_get (system p r).threads k ≡ Some th → th.unit ≡ a.task → th.timing ≡ timing → Takes (timing_at timing) a.value → IsAsked p r a
     timed (Periodic offset period) k th at unit is takes = absurd takes
     timed (Requested op ceiling separation jitter false) k th at unit is takes = absurd takes
     timed (Requested op ceiling separation jitter true) k th at unit is takes = record {
@@ -159,7 +159,7 @@ step_keep separation jitter m before a more keeps = by (a.task == m) refl keeps
 -- separations that are kept from some arrivals on
 abbrev Keeping : Program → places.Arrivals → List place.Arrival → List place.Arrival → Type 0
 Keeping p r before items =
-    (k : ℕ) (th : Thread) (op : Signature) (ceiling separation jitter : ℕ) → slice_get (system p r).threads k ≡ Some th → th.timing ≡ Requested op ceiling separation jitter true
+    (k : ℕ) (th : TaskUnit) (op : Signature) (ceiling separation jitter : ℕ) → slice_get (system p r).threads k ≡ Some th → th.timing ≡ Requested op ceiling separation jitter true
     → KeepTime separation jitter (least_of separation (nominal separation None (earlier_times th.unit before))) (earlier_times th.unit items)
 
 -- no fault in the arrivals
@@ -192,19 +192,19 @@ no_requests_fault p r before (a ∷ more) falls all keeps =
     same_number x z h = grind arith
 
 -- durations
-task_form : (form : Form) (n : ℕ) (name : Name) (ds : List ℕ) (th : Thread) → thread_by ds n name form ≡ Some th → is_task form ≡ true
+task_form : (form : Form) (n : ℕ) (name : Name) (ds : List ℕ) (th : TaskUnit) → thread_by ds n name form ≡ Some th → is_task form ≡ true
 task_form (Passive ops) n name ds th e = absurd (none-some th e)
 task_form (Shared ceiling vars ops) n name ds th e = absurd (none-some th e)
 task_form (Cyclic priority offset period vars block) n name ds th e = refl
 task_form (Sporadic priority ceiling op separation jitter external vars block) n name ds th e = refl
 
-any_thread : (ths : List Thread) (name : Name) → list_any (λ t. same_name t.name name) (map task_at ths) ≡ true → (k : ℕ) × (th : Thread) × (slice_get ths k ≡ Some th) × (same_name th.name name ≡ true)
+any_thread : (ths : List TaskUnit) (name : Name) → list_any (λ t. same_name t.name name) (map task_at ths) ≡ true → (k : ℕ) × (th : TaskUnit) × (slice_get ths k ≡ Some th) × (same_name th.name name ≡ true)
 any_thread [] name e = absurd cc
 any_thread (u ∷ ths) name e = by (same_name u.name name) refl e (any_thread ths name)
   where
     by : (b : Bool) → same_name u.name name ≡ b → (b || list_any (λ t. same_name t.name name) (map task_at ths)) ≡ true
-        → (list_any (λ t. same_name t.name name) (map task_at ths) ≡ true → (k : ℕ) × (th : Thread) × (slice_get ths k ≡ Some th) × (same_name th.name name ≡ true))
-        → (k : ℕ) × (th : Thread) × (slice_get (u ∷ ths) k ≡ Some th) × (same_name th.name name ≡ true)
+        → (list_any (λ t. same_name t.name name) (map task_at ths) ≡ true → (k : ℕ) × (th : TaskUnit) × (slice_get ths k ≡ Some th) × (same_name th.name name ≡ true))
+        → (k : ℕ) × (th : TaskUnit) × (slice_get (u ∷ ths) k ≡ Some th) × (same_name th.name name ≡ true)
     by true is h later = (0, u, refl, is)
     by false is h later = let f = later h in (suc f.0, f.1, f.2, f.3)
 
@@ -236,9 +236,9 @@ each_unit : (p : Program) (r : places.Arrivals) (items : List place.Arrival) →
 each_unit p r [] all = tt
 each_unit p r (a ∷ items) all = ((all.0.place', all.0.thread, all.0.at, all.0.unit), each_unit p r items all.1)
 
-each_place : (P : Task → Type 0) (ths : List Thread) (k : ℕ) (th : Thread) → Each P (map task_at ths) → slice_get ths k ≡ Some th → P (task_at th)
+each_place : (P : Task → Type 0) (ths : List TaskUnit) (k : ℕ) (th : TaskUnit) → Each P (map task_at ths) → slice_get ths k ≡ Some th → P (task_at th)
 each_place P [] k th all e = absurd (none-some th e)
-each_place P (h ∷ ths) zero th all e = let Q : Thread → Type 0 = λ z. P (task_at z) in subst Q (same_Some h th e) all.0
+each_place P (h ∷ ths) zero th all e = let Q : TaskUnit → Type 0 = λ z. P (task_at z) in subst Q (same_Some h th e) all.0
 each_place P (h ∷ ths) (suc k) th all e = each_place P ths k th all.1 e
 
 -- all of it
@@ -249,7 +249,7 @@ accepted_by limit p r meets full kept =
     let S : List Task → Type 0 = λ ts. Each (λ t. KeepsSeparation (named_arrivals p r).items t.name t.timing) ts in
     let separations : Each (λ t. KeepsSeparation (named_arrivals p r).items t.name t.timing) (map task_at (system p r).threads) = subst S (tasks_of p r) kept.separations in
     let keeps : Keeping p r [] r.items = λ k th op ceiling separation jitter at timing.
-    (let Q : Timing → Type 0 = λ z. KeepsSeparation (named_arrivals p r).items th.name (timing_at z) in
+    (let Q : ReleasePattern → Type 0 = λ z. KeepsSeparation (named_arrivals p r).items th.name (timing_at z) in
     let K : List ℕ → Type 0 = λ ts. KeepTime separation jitter 0 ts in
     subst K (times-named p r th.unit th.name r.items (λ a has. unit_same p r meets k th at a has) units)
     (subst Q timing (each_place (λ t. KeepsSeparation (named_arrivals p r).items t.name t.timing) (system p r).threads k th separations at))) in

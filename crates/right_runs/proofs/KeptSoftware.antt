@@ -16,7 +16,7 @@ use Rattle.arrivals_tree.specs.Arriving as places
 use Rattle.arrivals_tree.specs.Arriving.{durations}
 use Rattle.arrivals_tree.specs.Acceptance.{Unknown, Unfit, Early, Falling, Far, fits, next_nominal, nominal, earlier_times, last_time, request_fault, request_fault_by, request_fault_at, item_fault, requests_fault, durations_fault, works_fault, IsAccepted}
 use Rattle.trace_tree.specs.Lines.{unit_name}
-use Rattle.machine.specs.Systems.{Thread, Timing, Periodic, Requested, system, thread_by}
+use Rattle.machine.specs.Systems.{TaskUnit, ReleasePattern, Periodic, Requested, system, thread_by}
 use Rattle.guarantee.specs.Software.{Task, program_software}
 use Rattle.guarantee.specs.Arrivals.{Durations, named_arrivals, IsValueFor, Takes, IsTaken, IsExternal, KeepTime, times_of, KeepsSeparation, AreDurations, AreKept}
 use Rattle.written_runs.proofs.Moves.{HasUnit}
@@ -101,7 +101,7 @@ pub record IsSporadic (form : Form) (op : Signature) (ceiling separation jitter 
   pub block : Statements
   pub form_is : form ≡ Sporadic priority ceiling op separation jitter external vars block
 
-pub sporadic_form : (form : Form) (n : ℕ) (name : Name) (ds : List ℕ) (th : Thread) (op : Signature) (ceiling separation jitter : ℕ) (external : Bool) → thread_by ds n name form ≡ Some th → th.timing ≡ Requested op ceiling separation jitter external
+pub sporadic_form : (form : Form) (n : ℕ) (name : Name) (ds : List ℕ) (th : TaskUnit) (op : Signature) (ceiling separation jitter : ℕ) (external : Bool) → thread_by ds n name form ≡ Some th → th.timing ≡ Requested op ceiling separation jitter external
     → IsSporadic form op ceiling separation jitter external
 sporadic_form (Passive ops) n name ds th op ceiling separation jitter external e timing = absurd (none-some th e)
 sporadic_form (Shared c vars ops) n name ds th op ceiling separation jitter external e timing = absurd (none-some th e)
@@ -111,17 +111,17 @@ sporadic_form (Cyclic priority offset period vars block) n name ds th op ceiling
     differ q = cc
 sporadic_form (Sporadic priority c op' s j x vars block) n name ds th op ceiling separation jitter external e timing =
     let q : Requested op' c s j x ≡ Requested op ceiling separation jitter external = ap (λ z. z.timing) (same_Some _ th e) ∙ timing in
-    let form_by : Timing → Form = λ t. by t in
+    let form_by : ReleasePattern → Form = λ t. by t in
     record { priority = priority; vars = vars; block = block; form_is = ap form_by q }
   where
-    by : Timing → Form
+    by : ReleasePattern → Form
     by (Periodic offset period) = Passive []
     by (Requested op'' c'' s'' j'' x'') = Sporadic priority c'' op'' s'' j'' x'' vars block
 
 -- a thread that is requested from outside with this value
 pub record IsAsked (p : Program) (r : places.Arrivals) (a : place.Arrival) : Type 0 where
   pub place' : ℕ
-  pub thread : Thread
+  pub thread : TaskUnit
   pub at : slice_get (system p r).threads place' ≡ Some thread
   pub unit : thread.unit ≡ a.task
   pub op : Signature
@@ -166,7 +166,7 @@ value_for (q ∷ ps) name None h = absurd (no_length (length ps) h)
 value_for (q ∷ ps) name (Some v) h = tt
 
 -- the first task of a name is that of the thread
-find_thread : (ths : List Thread) (k : ℕ) (th : Thread) → slice_get ths k ≡ Some th → ((j : ℕ) (u : Thread) → slice_get ths j ≡ Some u → same_name u.name th.name ≡ true → j ≡ k)
+find_thread : (ths : List TaskUnit) (k : ℕ) (th : TaskUnit) → slice_get ths k ≡ Some th → ((j : ℕ) (u : TaskUnit) → slice_get ths j ≡ Some u → same_name u.name th.name ≡ true → j ≡ k)
     → find (λ t. same_name t.name th.name) (map task_at ths) ≡ Some (task_at th)
 find_thread [] k th at apart = absurd (none-some th at)
 find_thread (u ∷ ths) zero th at apart =
@@ -192,11 +192,11 @@ items_asked p r before (a ∷ more) units e =
     )
 
 -- a name by its place
-thread_named : (p : Program) (r : places.Arrivals) (a : place.Arrival) (k : ℕ) (th : Thread) → slice_get (system p r).threads k ≡ Some th → th.unit ≡ a.task → unit_name p a.task ≡ th.name
+thread_named : (p : Program) (r : places.Arrivals) (a : place.Arrival) (k : ℕ) (th : TaskUnit) → slice_get (system p r).threads k ≡ Some th → th.unit ≡ a.task → unit_name p a.task ≡ th.name
 thread_named p r a k th at unit = ap (unit_name p) (sym unit) ∙ thread_name p r k th at
 
-taken_by : (timing : Timing) (op : Signature) (ceiling separation jitter : ℕ) (value : Option ℕ) → timing ≡ Requested op ceiling separation jitter true → fits op value ≡ true → Takes (timing_at timing) value
-taken_by timing op ceiling separation jitter value is fit = let P : Timing → Type 0 = λ z. Takes (timing_at z) value in subst P (sym is) (value_for op.params op.name value fit)
+taken_by : (timing : ReleasePattern) (op : Signature) (ceiling separation jitter : ℕ) (value : Option ℕ) → timing ≡ Requested op ceiling separation jitter true → fits op value ≡ true → Takes (timing_at timing) value
+taken_by timing op ceiling separation jitter value is fit = let P : ReleasePattern → Type 0 = λ z. Takes (timing_at z) value in subst P (sym is) (value_for op.params op.name value fit)
 
 is_external : (p : Program) (r : places.Arrivals) → MeetsRules p → (a : place.Arrival) → IsAsked p r a → IsExternal (program_software p).tasks (named_item p a)
 is_external p r meets a h =
@@ -209,7 +209,7 @@ is_external p r meets a h =
     subst N (sym name) (subst T (sym (tasks_of p r)) (subst O (sym found) (taken_by h.thread.timing h.op h.ceiling h.separation h.jitter a.value h.timing h.fit)))
 
 -- arrivals of a thread's unit are those of its name
-pub unit_same : (p : Program) (r : places.Arrivals) → MeetsRules p → (k : ℕ) (th : Thread) → slice_get (system p r).threads k ≡ Some th → (a : place.Arrival) → HasUnit (system p r).threads a.task → same_name (unit_name p a.task) th.name ≡ (a.task == th.unit)
+pub unit_same : (p : Program) (r : places.Arrivals) → MeetsRules p → (k : ℕ) (th : TaskUnit) → slice_get (system p r).threads k ≡ Some th → (a : place.Arrival) → HasUnit (system p r).threads a.task → same_name (unit_name p a.task) th.name ≡ (a.task == th.unit)
 unit_same p r meets k th at a has = by (a.task == th.unit) refl
   where
     name : unit_name p a.task ≡ has.1.name
@@ -224,10 +224,10 @@ unit_same p r meets k th at a has = by (a.task == th.unit) refl
 
 -- the separation of each task
 kept_separation : (p : Program) (r : places.Arrivals) → MeetsRules p → requests_fault p [] r.items ≡ None → Each (λ a. HasUnit (system p r).threads a.task) r.items
-    → (k : ℕ) (th : Thread) → slice_get (system p r).threads k ≡ Some th → KeepsSeparation (named_arrivals p r).items th.name (timing_at th.timing)
+    → (k : ℕ) (th : TaskUnit) → slice_get (system p r).threads k ≡ Some th → KeepsSeparation (named_arrivals p r).items th.name (timing_at th.timing)
 kept_separation p r meets clean units k th at = by th.timing refl
   where
-    by : (timing : Timing) → th.timing ≡ timing → KeepsSeparation (named_arrivals p r).items th.name (timing_at timing)
+    by : (timing : ReleasePattern) → th.timing ≡ timing → KeepsSeparation (named_arrivals p r).items th.name (timing_at timing)
     by (Periodic offset period) is = tt
     by (Requested op ceiling separation jitter false) is = tt
     by (Requested op ceiling separation jitter true) is =

@@ -1,11 +1,11 @@
 -- Rings by what is reached, by ranks that fall, and by another graph of the same edges.
-use Rattle.std.proofs.Common.{◌≡◌, ℕ, ◌+◌, ◌<◌, None, ◌==◌, Bool, true, false, not, ◌&&◌, ◌||◌, List, [], ◌∷◌, get_or, length, nat_le, nat_lt, refl, sym, ap, subst, ◌∙◌, arith, inl, inr}
+use Rattle.std.proofs.Common.{◌≡◌, ℕ, ◌+◌, ◌<◌, ◌≤◌, Option, ◌==◌, Bool, true, false, not, ◌&&◌, ◌||◌, List, [], ◌∷◌, get_or, length, nat_le, nat_lt, refl, sym, ap, subst, ◌∙◌, arith, inl, inr}
 use Rattle.std.specs.List.{list_any}
-use Rattle.std.proofs.lemmas.Bool.{eqb-true}
+use Rattle.std.proofs.lemmas.Bool.{eqb-true, eq-eqb}
 use Rattle.seq_tree.specs.Rings.{LeadsTo, IsOnRing}
 use Rattle.rings.specs.Graphs.{has_number, is_step}
-use Rattle.rings.specs.Ranks.{rises}
-use Rattle.rings.specs.Reached.{leads, Goes, IsReached, IsFirstOnRing, TellsRing}
+use Rattle.rings.specs.Ranks.{falls, is_before, stays}
+use Rattle.rings.specs.Reached.{leads, Goes, IsReached, TellsRing}
 use Rattle.rings.specs.declared.graph.Graph.{Graph}
 use Rattle.rings.proofs.Reaching.{both, and-from}
 
@@ -35,40 +35,58 @@ tells-ring g node targets at false sound complete = λ ring. let z : false ≡ t
     go ([], l) = (node, start node l, inl refl)
     go (via ∷ path, l) = (via, start via l.0, inr (path, l.1))
 
--- edges that fall make no ring
-none-rises : (test : ℕ × ℕ → Bool) (hit : ℕ × ℕ → Bool) (es : List (ℕ × ℕ)) → list_any test es ≡ false → list_any hit es ≡ true → (e : ℕ × ℕ) × (hit e ≡ true) × (test e ≡ false)
-none-rises test hit [] n h = (let z : false ≡ true = h in cc)
-none-rises test hit (e ∷ es) n h = by (none-rises test hit es) (test e) refl (hit e) refl n h
+-- an edge that a test doesn't take
+none-taken : (test : ℕ × ℕ → Bool) (hit : ℕ × ℕ → Bool) (es : List (ℕ × ℕ)) → list_any test es ≡ false → list_any hit es ≡ true → (e : ℕ × ℕ) × (hit e ≡ true) × (test e ≡ false)
+none-taken test hit [] n h = (let z : false ≡ true = h in cc)
+none-taken test hit (e ∷ es) n h = by (none-taken test hit es) (test e) refl (hit e) refl n h
   where
     by : (list_any test es ≡ false → list_any hit es ≡ true → (d : ℕ × ℕ) × (hit d ≡ true) × (test d ≡ false)) → (t : Bool) → test e ≡ t → (k : Bool) → hit e ≡ k → (t || list_any test es) ≡ false → (k || list_any hit es) ≡ true → (d : ℕ × ℕ) × (hit d ≡ true) × (test d ≡ false)
     by rest true p k q a b = (let z : true ≡ false = a in cc)
     by rest false p true q a b = (e, q, p)
     by rest false p false q a b = rest a b
 
-pub step-falls : (count : ℕ) (ranks : List ℕ) (es : List (ℕ × ℕ)) → list_any (rises count ranks) es ≡ false → (a b : ℕ) → is_step count es a b ≡ true → get_or ranks b 0 < get_or ranks a 0
-step-falls count ranks es none a b h =
-    let parts = both (nat_lt b count) (list_any (λ e. e.0 == a && e.1 == b) es) h in
-    let r = none-rises (rises count ranks) (λ e. e.0 == a && e.1 == b) es none parts.1 in
+step-untaken : (test : ℕ → ℕ → Bool) (count : ℕ) (es : List (ℕ × ℕ)) → list_any (λ e. test e.0 e.1) es ≡ false → (a b : ℕ) → is_step count es a b ≡ true → test a b ≡ false
+step-untaken test count es none a b h =
+    let r = none-taken (λ e. test e.0 e.1) (λ e. e.0 == a && e.1 == b) es none (both (nat_lt b count) (list_any (λ e. e.0 == a && e.1 == b) es) h).1 in
     let ends = both (r.0.0 == a) (r.0.1 == b) r.1 in
-    let from : r.0.0 ≡ a = eqb-true r.0.0 a ends.0 in
-    let to : r.0.1 ≡ b = eqb-true r.0.1 b ends.1 in
-    let low : (nat_lt b count && nat_le (get_or ranks a 0) (get_or ranks b 0)) ≡ false =
-    ap (λ z. nat_lt z count && nat_le (get_or ranks a 0) (get_or ranks z 0)) (sym to) ∙ ap (λ z. nat_lt r.0.1 count && nat_le (get_or ranks z 0) (get_or ranks r.0.1 0)) (sym from) ∙ r.2 in
-    let k : nat_le (get_or ranks a 0) (get_or ranks b 0) ≡ false = sym (ap (λ t. t && nat_le (get_or ranks a 0) (get_or ranks b 0)) parts.0) ∙ low in
-    grind (arith, k)
+    ap (λ z. test z b) (sym (eqb-true r.0.0 a ends.0)) ∙ ap (λ z. test r.0.0 z) (sym (eqb-true r.0.1 b ends.1)) ∙ r.2
 
-path-falls : (rank : ℕ → ℕ) (step : ℕ → ℕ → Bool) → ((a b : ℕ) → step a b ≡ true → rank b < rank a) → (path : List ℕ) (a b : ℕ) → LeadsTo (Goes step) a path b → rank b < rank a
-path-falls rank step falls [] a b h = falls a b h
-path-falls rank step falls (via ∷ path) a b h = let x = falls a via h.0 in let y = path-falls rank step falls path via b h.1 in omega (arith, x, y)
+step-inside : (count : ℕ) (es : List (ℕ × ℕ)) (a b : ℕ) → is_step count es a b ≡ true → nat_lt b count ≡ true
+step-inside count es a b h = (both (nat_lt b count) (list_any (λ e. e.0 == a && e.1 == b) es) h).0
 
-pub no-ring : (count : ℕ) (ranks : List ℕ) (es : List (ℕ × ℕ)) → true ≡ not (list_any (rises count ranks) es) → IsFirstOnRing (is_step count es) None
-no-ring count ranks es fall = λ n ring.
-    let none : list_any (rises count ranks) es ≡ false = by (list_any (rises count ranks) es) fall in
-    let k = path-falls (λ z. get_or ranks z 0) (is_step count es) (step-falls count ranks es none) ring.0 n n ring.1 in absurd (omega (arith, k))
-  where
-    by : (b : Bool) → true ≡ not b → b ≡ false
-    by true h = h
-    by false h = refl
+-- where no edge leads to a lower rank, no path does, and an edge of a ring stays at a rank
+module _ (count : ℕ) (ranks : List ℕ) (es : List (ℕ × ℕ)) (none : list_any (falls count ranks) es ≡ false) where
+  step-keeps : (a b : ℕ) → is_step count es a b ≡ true → get_or ranks a 0 ≤ get_or ranks b 0
+  step-keeps a b h =
+      let low : (nat_lt b count && nat_lt (get_or ranks b 0) (get_or ranks a 0)) ≡ false =
+      step-untaken (λ p q. nat_lt q count && nat_lt (get_or ranks q 0) (get_or ranks p 0)) count es none a b h in
+      let k : nat_lt (get_or ranks b 0) (get_or ranks a 0) ≡ false = sym (ap (λ t. t && nat_lt (get_or ranks b 0) (get_or ranks a 0)) (step-inside count es a b h)) ∙ low in
+      grind (arith, k)
+
+  path-keeps : (path : List ℕ) (a b : ℕ) → LeadsTo (Goes (is_step count es)) a path b → get_or ranks a 0 ≤ get_or ranks b 0
+  path-keeps [] a b h = step-keeps a b h
+  path-keeps (via ∷ path) a b h = let x = step-keeps a via h.0 in let y = path-keeps path via b h.1 in omega (arith, x, y)
+
+  ring-level : (n : ℕ) → IsOnRing (Goes (is_step count es)) n → (via : ℕ) × (is_step count es n via ≡ true) × (get_or ranks n 0 ≡ get_or ranks via 0)
+  ring-level n ([], h) = (n, h, refl)
+  ring-level n (via ∷ path, h) = let x = step-keeps n via h.0 in let y = path-keeps path via n h.1 in (via, h.0, omega (arith, x, y))
+
+  ring-stays : (n : ℕ) → IsOnRing (Goes (is_step count es)) n → list_any (stays count ranks n) es ≡ true
+  ring-stays n ring = by (list_any (stays count ranks n) es) refl
+    where
+      by : (t : Bool) → list_any (stays count ranks n) es ≡ t → list_any (stays count ranks n) es ≡ true
+      by true e = e
+      by false e =
+          let r = ring-level n ring in
+          let no : ((nat_lt r.0 count && get_or ranks n 0 == get_or ranks r.0 0) && nat_le n n) ≡ false =
+          step-untaken (λ p q. (nat_lt q count && get_or ranks p 0 == get_or ranks q 0) && nat_le p n) count es e n r.0 r.1 in
+          let level = and-from (nat_lt r.0 count) (get_or ranks n 0 == get_or ranks r.0 0) (step-inside count es n r.0 r.1) (eq-eqb (get_or ranks n 0) (get_or ranks r.0 0) r.2) in
+          let yes = and-from (nat_lt r.0 count && get_or ranks n 0 == get_or ranks r.0 0) (nat_le n n) level (grind arith) in
+          let z : true ≡ false = sym yes ∙ no in cc
+
+  -- no node before the first that such an edge leaves is on a ring
+  pub none-before : (first : Option ℕ) → ((n : ℕ) → is_before n first ≡ not (list_any (stays count ranks n) es)) → (n : ℕ) → is_before n first ≡ true → IsOnRing (Goes (is_step count es)) n → ⊥
+  none-before first is n before ring = let z : true ≡ false = sym before ∙ is n ∙ ap not (ring-stays n ring) in cc
 
 -- a node on a ring is one of the nodes
 pub ring-inside : (count : ℕ) (es : List (ℕ × ℕ)) (n : ℕ) → IsOnRing (Goes (is_step count es)) n → n < count

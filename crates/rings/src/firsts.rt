@@ -2,8 +2,8 @@ ghost use Rattle.std.specs.Prelude.{◌≡◌, IfOk, false, get_or};
 ghost use Rattle.rings.specs.Graphs.{is_step};
 ghost use Rattle.rings.specs.Reached.{IsFirstOnRing, TellsRing, leads};
 
+use crate::components::{any_falls, first_level, ranks_of};
 use crate::graph::Graph;
-use crate::ranks::{fall, ranks_of};
 use seq_tree::NoMemory;
 use std::alloc::Global;
 
@@ -43,8 +43,7 @@ fn first_by_search(
 }
 
 /// The first of this many nodes, by number, from which a path of one edge or more leads back to it. An edge to another number
-/// counts for nothing. Where there is no ring it takes near-linear time, and else a search along the edges for each node up to the
-/// first on a ring.
+/// counts for nothing. It takes near-linear time.
 pub fn first_on_ring(
     alloc: Global,
     count: usize,
@@ -52,9 +51,18 @@ pub fn first_on_ring(
 ) -> Result<Option<usize>, NoMemory>
     ensures { IfOk result (IsFirstOnRing (is_step count edges.now)) }
 {
-    let ranks = ranks_of(alloc, count, edges)?;
-    if fall(ranks.as_slice(), count, edges) {
-        return Ok(None);
+    let graph = Graph::new(alloc, count, edges)?;
+    let ranks = ranks_of(alloc, &graph, count, edges)?;
+    if any_falls(ranks.as_slice(), count, edges) {
+        return first_by_search(alloc, count, edges);
     }
-    first_by_search(alloc, count, edges)
+    match first_level(ranks.as_slice(), count, edges) {
+        None => Ok(None),
+        Some(node) => {
+            if is_on_ring(alloc, &graph, node)? {
+                return Ok(Some(node));
+            }
+            first_by_search(alloc, count, edges)
+        }
+    }
 }

@@ -1,11 +1,11 @@
 //! Rings of graphs: the first node that leads back to itself, and what nodes lead to.
 //!
 //! It stands on `LeadsTo` and `IsOnRing` of `seq_tree`. Nodes are numbers from 0 and edges are pairs of them. `first_on_ring` carries
-//! the promise: the first node by number from which a path of edges leads back to it. Where there is no ring it takes near-linear
-//! time; where there is one, a search along the edges for each node up to the first on a ring. `Graph::reached` tells all nodes to
-//! which paths lead.
+//! the promise: the first node by number from which a path of edges leads back to it, in near-linear time. `Graph::reached` tells all
+//! nodes to which paths lead.
 #![tactic(auto)]
 
+mod components;
 mod firsts;
 mod graph;
 mod ranks;

@@ -1,6 +1,4 @@
-ghost use Rattle.std.specs.Prelude.{◌≡◌, ◌≤◌, IfOk, false, get_or, length, not, true};
-ghost use Rattle.std.specs.List.{list_any};
-ghost use Rattle.rings.specs.Ranks.{rises};
+ghost use Rattle.std.specs.Prelude.{◌≤◌, IfOk, length};
 
 use crate::targets::Targets;
 use seq_tree::NoMemory;
@@ -17,13 +15,27 @@ struct Unranked {
     ready: Vec<usize>,
 }
 
-/// Counts the edges that leave each node, and turns them round.
-fn begun(alloc: Global, count: usize, edges: &[(usize, usize)]) -> Result<Unranked, NoMemory> {
+/// The nodes that edges leave, by the targets of these.
+pub(crate) fn sources_of(
+    alloc: Global,
+    count: usize,
+    edges: &[(usize, usize)],
+) -> Result<Targets, NoMemory> {
     let mut sources = Targets::new(alloc);
-    let mut left = vec![in alloc; 0usize; count]?;
     'edges: for edge in edges {
         if edge.1 < count {
             sources.add(alloc, edge.1, edge.0)?;
+        }
+    }
+    Ok(sources)
+}
+
+/// Counts the edges that leave each node, and turns them round.
+fn begun(alloc: Global, count: usize, edges: &[(usize, usize)]) -> Result<Unranked, NoMemory> {
+    let sources = sources_of(alloc, count, edges)?;
+    let mut left = vec![in alloc; 0usize; count]?;
+    'edges: for edge in edges {
+        if edge.1 < count {
             if let Some(number) = left.get_mut(edge.0) {
                 *number = number.saturating_add(1);
             }
@@ -74,43 +86,4 @@ pub fn targets_first(
         order.push(node)?;
     }
     Ok(order)
-}
-
-/// Ranks of nodes, each above those of its targets as far as that can be. What is answered is checked by `fall`, so that nothing
-/// is promised here.
-pub(crate) fn ranks_of(
-    alloc: Global,
-    count: usize,
-    edges: &[(usize, usize)],
-) -> Result<Vec<usize>, NoMemory> {
-    let order = targets_first(alloc, count, edges)?;
-    let mut ranks = vec![in alloc; 0usize; count]?;
-    'order: for (rank, node) in order.iter().enumerate() {
-        if let Some(slot) = ranks.get_mut(*node) {
-            *slot = rank;
-        }
-    }
-    Ok(ranks)
-}
-
-/// The rank of a node, and 0 where it has none.
-fn rank(ranks: &[usize], node: usize) -> usize
-    ensures { result ≡ get_or ranks.now node 0 }
-{
-    match ranks.get(node) {
-        None => 0,
-        Some(rank) => *rank,
-    }
-}
-
-/// Whether each edge leads to a lower rank, so that no ring is there.
-pub(crate) fn fall(ranks: &[usize], count: usize, edges: &[(usize, usize)]) -> bool
-    ensures { result ≡ not (list_any (rises count ranks.now) edges.now) }
-{
-    'edges: for edge in edges {
-        if edge.1 < count && rank(ranks, edge.0) <= rank(ranks, edge.1) {
-            return false;
-        }
-    }
-    true
 }

@@ -7,7 +7,7 @@ use Rattle.seq_tree.specs.Operations.{Operation}
 use Rattle.seq_tree.specs.Variables.{Variables, kept, entered}
 use Rattle.seq_tree.specs.Runs.{Path, Run, BeginsScript}
 use Rattle.ada_tree.specs.Programs.{Program}
-use Rattle.machine.specs.Systems.{System, Thread, Guarded, Timing, Periodic, Requested, Protected, callee, system}
+use Rattle.machine.specs.Systems.{System, TaskUnit, ProtectedUnit, ReleasePattern, Periodic, Requested, Protected, callee, system}
 use Rattle.machine.specs.Pieces.{Piece, Finishing, pieces, ticks_of}
 use Rattle.machine.specs.Deeds.{Enter, done}
 use Rattle.machine.specs.States.{Task, Gate, Ready, shut}
@@ -48,7 +48,7 @@ module _ (p : Program) (arrivals : Arrivals) (meets : MeetsRules p) where
   is_apt = apt p arrivals meets
 
   -- what is known of a task that goes on
-  pub record IsGoing (now : ℕ) (th : Thread) (before : ℕ) (vars : Variables) (ps : List Piece) (ss : List Step) : Type 0 where
+  pub record IsGoing (now : ℕ) (th : TaskUnit) (before : ℕ) (vars : Variables) (ps : List Piece) (ss : List Step) : Type 0 where
     pub used : ℕ
     pub ending : ℕ
     pub ticks : ℕ
@@ -76,8 +76,8 @@ module _ (p : Program) (arrivals : Arrivals) (meets : MeetsRules p) where
       → ((P : Claim) (u n : ℕ) → Ahead setup P vars ps ss u → IsTicks y.costs x n → Ahead setup P t.vars (x ∷ rest) ss' (n + u))
       → Stands p arrivals now (going y.costs vars ps t') (going y.costs vars ps t').pieces ss → Stands p arrivals now t t.pieces ss'
   stand_back now t t' x rest vars ps ss ss' here left thread used some fit durations back s =
-      let E : Thread → Type 0 = λ th. Each (λ d. 1 ≤ d) th.durations in
-      let G : Thread → Type 0 = λ th. IsGoing now th t'.used vars ps ss in
+      let E : TaskUnit → Type 0 = λ th. Each (λ d. 1 ≤ d) th.durations in
+      let G : TaskUnit → Type 0 = λ th. IsGoing now th t'.used vars ps ss in
       let U : ℕ → Type 0 = λ n. IsGoing now t.thread n vars ps ss in
       let g : IsGoing now t.thread t.used vars ps ss = subst U used (subst G thread (going_opens now vars ps t' ss some fit (subst E (sym thread) durations) s)) in
       let S : List Piece → Type 0 = λ ps'. Stands p arrivals now t ps' ss' in
@@ -93,7 +93,7 @@ module _ (p : Program) (arrivals : Arrivals) (meets : MeetsRules p) where
   -- a deed that enters an operation
   pub record IsEntry (now : ℕ) (t : Task) (x : Piece) (rest : List Piece) (data' : Variables) (object op : ℕ) (values : List ℕ) (ss : List Step) : Type 0 where
     pub operation : Operation
-    pub guarded : Guarded
+    pub guarded : ProtectedUnit
     pub unit : Name
     pub name : Name
     pub calls : callee y unit name ≡ Protected object op guarded operation
@@ -109,8 +109,8 @@ module _ (p : Program) (arrivals : Arrivals) (meets : MeetsRules p) where
   stand_enter now t t' x rest data' ss object op values here left thread used some fit durations act s =
       let vars : Variables = (done y x t.vars rest).vars ++ data' in
       let ps : List Piece = (done y x t.vars rest).pieces in
-      let E : Thread → Type 0 = λ th. Each (λ d. 1 ≤ d) th.durations in
-      let G : Thread → Type 0 = λ th. IsGoing now th t'.used vars ps ss in
+      let E : TaskUnit → Type 0 = λ th. Each (λ d. 1 ≤ d) th.durations in
+      let G : TaskUnit → Type 0 = λ th. IsGoing now th t'.used vars ps ss in
       let U : ℕ → Type 0 = λ n. IsGoing now t.thread n vars ps ss in
       let g : IsGoing now t.thread t.used vars ps ss =
       subst U used (subst G thread (going_opens now vars ps t' ss some (fit_done setup is_apt x t.vars rest fit) (subst E (sym thread) durations) s)) in
@@ -151,7 +151,7 @@ module _ (p : Program) (arrivals : Arrivals) (meets : MeetsRules p) where
       })
 
   -- the parameter of a release
-  parameter-same : (timing : Timing) (value : Option ℕ) (vars : Variables) → parameter timing value ++ vars ≡ entered (params_of (timing_at timing)) (option_to_list value) ++ vars
+  parameter-same : (timing : ReleasePattern) (value : Option ℕ) (vars : Variables) → parameter timing value ++ vars ≡ entered (params_of (timing_at timing)) (option_to_list value) ++ vars
   parameter-same (Periodic offset period) value vars = refl
   parameter-same (Requested op ceiling separation jitter external) value vars = refl
 

@@ -8,7 +8,7 @@ use Rattle.seq_tree.specs.Names.{Name, same_name}
 use Rattle.seq_tree.specs.Variables.{Variables}
 use Rattle.seq_tree.specs.Runs.{Path, silent}
 use Rattle.ada_tree.specs.Programs.{Program}
-use Rattle.machine.specs.Systems.{System, Thread, Guarded, system}
+use Rattle.machine.specs.Systems.{System, TaskUnit, ProtectedUnit, system}
 use Rattle.machine.specs.States.{Task}
 use Rattle.guarantee.specs.Software.{Software, program_software}
 use Rattle.guarantee.specs.Events.{Deed, Event, By}
@@ -33,7 +33,7 @@ places {P} k i same apart = by (k == i) refl
     by true e = same (eqb-true k i e)
     by false e = apart (eqb-false k i e)
 
-pub thread_at : (ths : List Thread) (ts : List Task) (k : ℕ) (t : Task) → threads_of ts ≡ ths → slice_get ts k ≡ Some t → slice_get ths k ≡ Some t.thread
+pub thread_at : (ths : List TaskUnit) (ts : List Task) (k : ℕ) (t : Task) → threads_of ts ≡ ths → slice_get ts k ≡ Some t → slice_get ths k ≡ Some t.thread
 thread_at ths ts k t same at = ap (λ hs. slice_get hs k) (sym same) ∙ slice_get-map (λ u. u.thread) ts k ∙ ap (option_map (λ u. u.thread)) at
 
 pub other_name : (p : Program) (y : System) (w : Software) → Naming p y w → (ts : List Task) (i k : ℕ) (t u : Task) → threads_of ts ≡ y.threads
@@ -91,7 +91,7 @@ module _ (p : Program) (arrivals : Arrivals) (meets : MeetsRules p) where
       (λ apart. others k u apart at (all k u (change-else i k f ts apart ∙ at)))
 
   -- an object
-  pub serves_back : (j : ℕ) (g : Guarded) (i : ℕ) (f : Task → Task) (t : Task) (ts : List Task) (stores stores' : List Variables) (ms ms' : List Moment) → slice_get ts i ≡ Some t
+  pub serves_back : (j : ℕ) (g : ProtectedUnit) (i : ℕ) (f : Task → Task) (t : Task) (ts : List Task) (stores stores' : List Variables) (ms ms' : List Moment) → slice_get ts i ≡ Some t
       → (f t).thread ≡ t.thread → passages g.name ms' ≡ passages g.name ms → unwrap_or (slice_get stores j) [] ≡ unwrap_or (slice_get stores' j) []
       → ((d : ℕ) → Holds j d (sections t) → (d' : ℕ) × Holds j d' (sections (f t)) × (HeldUntil w g t.thread.name d' ms → HeldUntil w g t.thread.name d ms'))
       → ((k : ℕ) (u : Task) (d : ℕ) → (k ≡ i → ⊥) → slice_get ts k ≡ Some u → HeldUntil w g u.thread.name d ms → HeldUntil w g u.thread.name d ms')
@@ -102,7 +102,7 @@ module _ (p : Program) (arrivals : Arrivals) (meets : MeetsRules p) where
         (λ e. let same : t ≡ u = same_Some t u (sym here ∙ ap (slice_get ts) (sym e) ∙ at) in
         let P : Task → Type 0 = λ z. HeldUntil w g z.thread.name d ms' in
         let Q : Task → Type 0 = λ z. Holds j d (sections z) in
-        let R : Thread → Type 0 = λ th. HeldUntil w g th.name (own d (subst Q (sym same) holds)).0 ms in
+        let R : TaskUnit → Type 0 = λ th. HeldUntil w g th.name (own d (subst Q (sym same) holds)).0 ms in
         let o : (d' : ℕ) × Holds j d' (sections (f t)) × (HeldUntil w g t.thread.name d' ms → HeldUntil w g t.thread.name d ms') = own d (subst Q (sym same) holds) in
         subst P same (o.2 (subst R thread (s.held i (f t) o.0 (change-at i f ts t here) o.1))))
         (λ apart. others k u d apart at (s.held k u d (change-else i k f ts apart ∙ at) holds));
@@ -119,7 +119,7 @@ module _ (p : Program) (arrivals : Arrivals) (meets : MeetsRules p) where
   }
 
   -- the way out of an object, from later on
-  pub held_same : (g : Guarded) (name : Name) (d : ℕ) (ms ms' : List Moment) → passages g.name ms' ≡ passages g.name ms → steps_of name ms' ≡ steps_of name ms
+  pub held_same : (g : ProtectedUnit) (name : Name) (d : ℕ) (ms ms' : List Moment) → passages g.name ms' ≡ passages g.name ms → steps_of name ms' ≡ steps_of name ms
       → HeldUntil w g name d ms → HeldUntil w g name d ms'
   held_same g name d ms ms' pass steps (inl none) = inl (pass ∙ none)
   held_same g name d ms ms' pass steps (inr out) = inr (record {
@@ -136,7 +136,7 @@ module _ (p : Program) (arrivals : Arrivals) (meets : MeetsRules p) where
     after = out.after;
   })
 
-  pub held_step : (g : Guarded) (name : Name) (d : ℕ) (s : Step) (ms ms' : List Moment) → passages g.name ms' ≡ passages g.name ms → steps_of name ms' ≡ s ∷ steps_of name ms
+  pub held_step : (g : ProtectedUnit) (name : Name) (d : ℕ) (s : Step) (ms ms' : List Moment) → passages g.name ms' ≡ passages g.name ms → steps_of name ms' ≡ s ∷ steps_of name ms
       → closes d s.deed ≡ false → HeldUntil w g name (depth_after d s.deed) ms → HeldUntil w g name d ms'
   held_step g name d s ms ms' pass steps inside (inl none) = inl (pass ∙ none)
   held_step g name d s ms ms' pass steps inside (inr out) = inr (record {
@@ -161,7 +161,7 @@ module _ (p : Program) (arrivals : Arrivals) (meets : MeetsRules p) where
       → ((j d : ℕ) → Holds j d (sections (f t)) → Holds j d (sections t))
       → Conducts p arrivals now (change i f ts) stores told → Conducts p arrivals now ts stores told
   quiet_back i f t ts stores now told here thread stand forth back c =
-      let P : Thread → Type 0 = λ th. Stands p arrivals now (f t) (f t).pieces (steps_of th.name c.moments') in
+      let P : TaskUnit → Type 0 = λ th. Stands p arrivals now (f t) (f t).pieces (steps_of th.name c.moments') in
       record {
         moments' = c.moments';
         tells = c.tells;
@@ -181,7 +181,7 @@ module _ (p : Program) (arrivals : Arrivals) (meets : MeetsRules p) where
       let m : Moment = did time t.thread.name deed (silent 0 []) in
       let ms : List Moment = c.moments' in
       let own : steps_of t.thread.name (m ∷ ms) ≡ step_at time deed (silent 0 []) ∷ steps_of t.thread.name ms = steps-own t.thread.name time deed (silent 0 []) ms plain.own in
-      let P : Thread → Type 0 = λ th. Stands p arrivals now (f t) (f t).pieces (steps_of th.name ms) in
+      let P : TaskUnit → Type 0 = λ th. Stands p arrivals now (f t) (f t).pieces (steps_of th.name ms) in
       let Q : List Step → Type 0 = λ ss. Stands p arrivals now t t.pieces ss in
       let other : (k : ℕ) (u : Task) → (k ≡ i → ⊥) → slice_get ts k ≡ Some u → steps_of u.thread.name (m ∷ ms) ≡ steps_of u.thread.name ms =
       λ k u apart at. steps-other t.thread.name u.thread.name time deed (silent 0 []) ms (other_name p y w names' ts i k t u same here at apart) in

@@ -7,9 +7,9 @@ use Rattle.seq_tree.specs.Statements.{Statements, Branches}
 use Rattle.seq_tree.specs.Variables.{Variables, kept}
 use Rattle.seq_tree.specs.Values.{holds}
 use Rattle.ada_tree.specs.Programs.{Program}
-use Rattle.machine.specs.Systems.{System, Guarded, Callee, Plain, Protected, Request, Unknown, callee, system}
+use Rattle.machine.specs.Systems.{System, ProtectedUnit, CallTarget, Plain, Protected, Request, Unknown, callee, system}
 use Rattle.machine.specs.Pieces.{Piece, Idle, Store, Leaving, Calling, Working, Printing, Testing, Turning, Turned, Returning, Closing, Keeping, Opening, Requested, Finishing, turns, pieces, branch_pieces, after_loop}
-use Rattle.machine.specs.Deeds.{Act, Silent, Leave, Ended, Finish, Deed, deed, done, called}
+use Rattle.machine.specs.Deeds.{Act, Silent, Leave, Ended, Finish, PieceOutcome, deed, done, called}
 use Rattle.machine.specs.States.{Object, Control}
 use Rattle.guarantee.specs.Software.{Software, program_software}
 use Rattle.written_runs.proofs.Claims.{Naming}
@@ -25,7 +25,7 @@ use Rattle.ceiling_locking.proofs.Pieces.{closers}
 abbrev pub IsBound : System → List Piece → Type 0
 IsBound y [] = ⊥
 IsBound y (Finishing ∷ rest) = rest ≡ []
-IsBound y (Closing object op vars outs stores caller ∷ rest) = (g : Guarded) × (slice_get y.objects object ≡ Some g) × (vars ≡ g.vars) × IsBound y rest
+IsBound y (Closing object op vars outs stores caller ∷ rest) = (g : ProtectedUnit) × (slice_get y.objects object ≡ Some g) × (vars ≡ g.vars) × IsBound y rest
 IsBound y (_ ∷ rest) = IsBound y rest
 
 -- this doesn't depend on pieces that a loop passes over
@@ -48,9 +48,9 @@ bound_loop : (y : System) (rest : List Piece) → in_loop rest ≡ true → IsBo
 bound_loop y rest e = subst (λ (P : Type 0). P) (sym (past_loop (IsBound y) (past_bound y) (λ name at last body xs. refl) rest e))
 
 -- what is known of a deed
-abbrev pub Known : System → Piece → Variables → List Piece → Act → Deed → Type 0
+abbrev pub Known : System → Piece → Variables → List Piece → Act → PieceOutcome → Type 0
 Known y x vars rest (Leave object op values data') d =
-    (g : Guarded) × (slice_get y.objects object ≡ Some g) × (data' ≡ kept g.vars vars) × (closers (x ∷ rest) ≡ Object object ∷ closers d.pieces) × IsBound y d.pieces
+    (g : ProtectedUnit) × (slice_get y.objects object ≡ Some g) × (data' ≡ kept g.vars vars) × (closers (x ∷ rest) ≡ Object object ∷ closers d.pieces) × IsBound y d.pieces
 Known y x vars rest (Ended task value) d = (closers (x ∷ rest) ≡ Control task ∷ closers d.pieces) × IsBound y d.pieces
 Known y x vars rest Finish d = (x ≡ Finishing) × (d.vars ≡ vars)
 Known y x vars rest _ d = IsBound y d.pieces
@@ -68,7 +68,7 @@ module _ (p : Program) (arrivals : Arrivals) (meets : MeetsRules p) where
   names' : Naming p y w
   names' = naming p arrivals meets
 
-  known_call : (unit op : Name) (actuals : List Expression) (vars : Variables) (rest : List Piece) (c : Callee) → callee y unit op ≡ c → IsBound y rest
+  known_call : (unit op : Name) (actuals : List Expression) (vars : Variables) (rest : List Piece) (c : CallTarget) → callee y unit op ≡ c → IsBound y rest
       → Known y (Calling unit op actuals) vars rest (called c actuals vars rest).act (called c actuals vars rest)
   known_call unit op actuals vars rest (Plain o) e h = bound_block y o.block _ h
   known_call unit op actuals vars rest (Protected object at g o) e h =

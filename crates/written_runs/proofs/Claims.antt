@@ -9,9 +9,9 @@ use Rattle.ada_tree.specs.Programs.{Program}
 use Rattle.trace_tree.specs.Lines.{unit_name}
 use Rattle.ods_tree.specs.Flats as flats
 use Rattle.ods_tree.specs.Walk.{only_if}
-use Rattle.machine.specs.Systems.{System, Thread, Guarded, Timing, Periodic, Requested, Protected, callee, system}
+use Rattle.machine.specs.Systems.{System, TaskUnit, ProtectedUnit, ReleasePattern, Periodic, Requested, Protected, callee, system}
 use Rattle.machine.specs.Pieces.{Piece}
-use Rattle.machine.specs.States.{Task, Section, Object, Control}
+use Rattle.machine.specs.States.{Task, Resource, Object, Control}
 use Rattle.guarantee.specs.Software.{Software, program_software}
 use Rattle.guarantee.specs.Software as software
 use Rattle.guarantee.specs.Events.{Deed, Event, By, Horizon}
@@ -26,14 +26,14 @@ use Rattle.activations.proofs.Ways.{Claim, Ahead, Within}
 use Rattle.ceiling_locking.specs.Sections.{sections}
 
 -- the task of a thread, and the object of an object, as the texts have them
-abbrev pub timing_at : Timing → flats.Timing
+abbrev pub timing_at : ReleasePattern → flats.Timing
 timing_at (Periodic offset period) = flats.Cyclic period offset
 timing_at (Requested op ceiling separation jitter external) = flats.Sporadic op separation (only_if external jitter)
 
-abbrev pub task_at : Thread → software.Task
+abbrev pub task_at : TaskUnit → software.Task
 task_at th = record { name = th.name; timing = timing_at th.timing; vars = th.vars; block = th.block }
 
-abbrev pub guarded_at : Guarded → flats.Guarded
+abbrev pub guarded_at : ProtectedUnit → flats.Guarded
 guarded_at g = record { name = g.name; vars = g.vars; ops = g.ops }
 
 -- names that tell tasks and objects apart, and are those of the software
@@ -41,11 +41,11 @@ pub record Naming (p : Program) (y : System) (w : Software) : Type 0 where
   pub finish : w.costs.finish ≡ y.costs.finish
   pub tasks : w.tasks ≡ map task_at y.threads
   pub shared : w.shared ≡ map guarded_at y.objects
-  pub thread_name : (k : ℕ) (th : Thread) → slice_get y.threads k ≡ Some th → unit_name p th.unit ≡ th.name
-  pub object_name : (j : ℕ) (g : Guarded) → slice_get y.objects j ≡ Some g → unit_name p g.unit ≡ g.name
-  pub threads_apart : (j k : ℕ) (th th' : Thread) → slice_get y.threads j ≡ Some th → slice_get y.threads k ≡ Some th' → same_name th.name th'.name ≡ true → j ≡ k
-  pub objects_apart : (j k : ℕ) (g g' : Guarded) → slice_get y.objects j ≡ Some g → slice_get y.objects k ≡ Some g' → same_name g.name g'.name ≡ true → j ≡ k
-  pub callees : (unit name : Name) (object op : ℕ) (g : Guarded) (o : Operation) → callee y unit name ≡ Protected object op g o
+  pub thread_name : (k : ℕ) (th : TaskUnit) → slice_get y.threads k ≡ Some th → unit_name p th.unit ≡ th.name
+  pub object_name : (j : ℕ) (g : ProtectedUnit) → slice_get y.objects j ≡ Some g → unit_name p g.unit ≡ g.name
+  pub threads_apart : (j k : ℕ) (th th' : TaskUnit) → slice_get y.threads j ≡ Some th → slice_get y.threads k ≡ Some th' → same_name th.name th'.name ≡ true → j ≡ k
+  pub objects_apart : (j k : ℕ) (g g' : ProtectedUnit) → slice_get y.objects j ≡ Some g → slice_get y.objects k ≡ Some g' → same_name g.name g'.name ≡ true → j ≡ k
+  pub callees : (unit name : Name) (object op : ℕ) (g : ProtectedUnit) (o : Operation) → callee y unit name ≡ Protected object op g o
       → (slice_get y.objects object ≡ Some g) × IsOpOf (guarded_at g) (entry_name p y object op).op o
 
 -- a moment of a thread
@@ -56,7 +56,7 @@ abbrev pub step_at : ℕ → Deed → Path → Step
 step_at time deed body = record { time = time; deed = deed; body = body }
 
 -- an end that is next, of an activation with this time used and at this time
-abbrev pub Finishes : System → Software → Thread → ℕ → ℕ → Claim
+abbrev pub Finishes : System → Software → TaskUnit → ℕ → ℕ → Claim
 Finishes y w th used ending vars ss u =
     (u ≡ y.costs.finish) × (body : Path) × (more : List Step) × (ss ≡ step_at ending (names.End used) body ∷ more) × Life w (task_at th) (kept th.vars vars) more
 
@@ -79,14 +79,14 @@ abbrev pub Threads : Program → Arrivals → ℕ → List Task → List Moment 
 Threads p a now ts ms = (k : ℕ) (t : Task) → slice_get ts k ≡ Some t → Stands p a now t t.pieces (steps_of t.thread.name ms)
 
 -- an object among sections, with so many objects entered after it
-abbrev pub Holds : ℕ → ℕ → List Section → Type 0
+abbrev pub Holds : ℕ → ℕ → List Resource → Type 0
 Holds object d [] = ⊥
 Holds object d (Control k ∷ cs) = Holds object d cs
 Holds object zero (Object k ∷ cs) = k ≡ object
 Holds object (suc d) (Object k ∷ cs) = Holds object d cs
 
 -- the way out of an object that is held
-pub record GoesOut (w : Software) (g : Guarded) (name : Name) (d : ℕ) (ms : List Moment) : Type 0 where
+pub record GoesOut (w : Software) (g : ProtectedUnit) (name : Name) (d : ℕ) (ms : List Moment) : Type 0 where
   pub op : OpName
   pub results : List ℕ
   pub more : List Passage
@@ -100,17 +100,17 @@ pub record GoesOut (w : Software) (g : Guarded) (name : Name) (d : ℕ) (ms : Li
   pub after : AreOneByOne w (guarded_at g) (kept g.vars leave.body.vars) more
 
 -- an object that is held is left next, or never again entered or left
-abbrev pub HeldUntil : Software → Guarded → Name → ℕ → List Moment → Type 0
+abbrev pub HeldUntil : Software → ProtectedUnit → Name → ℕ → List Moment → Type 0
 HeldUntil w g name d ms = (passages g.name ms ≡ []) ⊎ GoesOut w g name d ms
 
 -- an object
-pub record Serves (w : Software) (j : ℕ) (g : Guarded) (ts : List Task) (stores : List Variables) (ms : List Moment) : Type 0 where
+pub record Serves (w : Software) (j : ℕ) (g : ProtectedUnit) (ts : List Task) (stores : List Variables) (ms : List Moment) : Type 0 where
   pub held : (k : ℕ) (t : Task) (d : ℕ) → slice_get ts k ≡ Some t → Holds j d (sections t) → HeldUntil w g t.thread.name d ms
   pub free : ((k : ℕ) (t : Task) (d : ℕ) → slice_get ts k ≡ Some t → Holds j d (sections t) → ⊥) → AreOneByOne w (guarded_at g) (unwrap_or (slice_get stores j) []) (passages g.name ms)
 
 -- the objects
 abbrev pub Objects : System → Software → List Task → List Variables → List Moment → Type 0
-Objects y w ts stores ms = (j : ℕ) (g : Guarded) → slice_get y.objects j ≡ Some g → Serves w j g ts stores ms
+Objects y w ts stores ms = (j : ℕ) (g : ProtectedUnit) → slice_get y.objects j ≡ Some g → Serves w j g ts stores ms
 
 -- a state, and what is told from it on
 pub record Conducts (p : Program) (a : Arrivals) (now : ℕ) (ts : List Task) (stores : List Variables) (told : List Event) : Type 0 where

@@ -11,8 +11,8 @@ use Rattle.trace_tree.specs.Lines.{unit_name}
 use Rattle.trace_tree.specs.declared.event.Event as machine
 use Rattle.machine.specs.Systems.{System, system}
 use Rattle.machine.specs.Pieces.{Piece}
-use Rattle.machine.specs.Deeds.{Act, Silent, Print, Enter, Leave, Ask, Keep, Open, Ended, Finish, Deed, done}
-use Rattle.machine.specs.States.{State, Task, Section, Object, Control, Gate, Held, Ready, Readiness, Waiting, Asleep, shut}
+use Rattle.machine.specs.Deeds.{Act, Silent, Print, Enter, Leave, Ask, Keep, Open, Ended, Finish, PieceOutcome, done}
+use Rattle.machine.specs.States.{State, Task, Resource, Object, Control, Gate, Held, Ready, Readiness, Waiting, Asleep, shut}
 use Rattle.machine.specs.Releases.{Next, going, released, release_task, release, is_waiting, serve_task, serve, next_time}
 use Rattle.machine.specs.Effects.{acted, entered_at, stopped_at, exit, go, ended, inside_now, outside_now, outside_by, ceiling_of, object_unit}
 use Rattle.guarantee.specs.Software.{Software, program_software}
@@ -55,11 +55,11 @@ plain_closes (suc d) deed e = refl
 going-sections : (y : System) (vars : Variables) (ps : List Piece) (t : Task) → sections (going y.costs vars ps t) ≡ sections t
 going-sections y vars ps t = ap (map (λ h. h.section)) (going-inside y.costs vars ps t)
 
-outside-sections : (hs : List Held) (t : Task) (c : Section) (cs : List Section) → t.inside ≡ hs → map (λ h. h.section) hs ≡ c ∷ cs → sections (outside_by hs t) ≡ cs
+outside-sections : (hs : List Held) (t : Task) (c : Resource) (cs : List Resource) → t.inside ≡ hs → map (λ h. h.section) hs ≡ c ∷ cs → sections (outside_by hs t) ≡ cs
 outside-sections [] t c cs is e = absurd (cons_nil c cs (sym e))
 outside-sections (h ∷ hs) t c cs is e = tails _ _ _ _ e
   where
-    tails : (a b : Section) (as' bs : List Section) → a ∷ as' ≡ b ∷ bs → as' ≡ bs
+    tails : (a b : Resource) (as' bs : List Resource) → a ∷ as' ≡ b ∷ bs → as' ≡ bs
     tails a b as' bs q = cc
 
 -- tasks that are not ready have nothing left
@@ -115,10 +115,10 @@ module _ (p : Program) (arrivals : Arrivals) (meets : MeetsRules p) where
 
   -- same_sections that are equal
   forth : (t t' : Task) → sections t' ≡ sections t → (j d : ℕ) → Holds j d (sections t) → Holds j d (sections t')
-  forth t t' e j d h = let H : List Section → Type 0 = λ z. Holds j d z in subst H (sym e) h
+  forth t t' e j d h = let H : List Resource → Type 0 = λ z. Holds j d z in subst H (sym e) h
 
   back : (t t' : Task) → sections t' ≡ sections t → (j d : ℕ) → Holds j d (sections t') → Holds j d (sections t)
-  back t t' e j d h = let H : List Section → Type 0 = λ z. Holds j d z in subst H e h
+  back t t' e j d h = let H : List Resource → Type 0 = λ z. Holds j d z in subst H e h
 
   -- a release
   pub release_backs : (i : ℕ) (o : Option Task) (s : State) → slice_get s.tasks i ≡ o → AreFitting p arrivals y.threads → threads_of s.tasks ≡ y.threads → ((t : Task) → o ≡ Some t → t.pieces ≡ [])
@@ -201,7 +201,7 @@ module _ (p : Program) (arrivals : Arrivals) (meets : MeetsRules p) where
   go_back : (s : State) (i : ℕ) (t : Task) (x : Piece) (rest : List Piece) (told : List Event) → IsActing s i t x rest → IsBound y (done y x t.vars rest).pieces → is_quiet (done y x t.vars rest).act ≡ true
       → Conducts p arrivals s.time (change i (going y.costs (done y x t.vars rest).vars (done y x t.vars rest).pieces) s.tasks) s.stores told → Conducts p arrivals s.time s.tasks s.stores told
   go_back s i t x rest told a bound quiet c =
-      let d : Deed = done y x t.vars rest in
+      let d : PieceOutcome = done y x t.vars rest in
       let f : Task → Task = going y.costs d.vars d.pieces in
       let same_sections : sections (f t) ≡ sections t = going-sections y d.vars d.pieces t in
       quiet_back p arrivals meets i f t s.tasks s.stores s.time told a.here (going-thread y.costs d.vars d.pieces t) (λ ss z. quiet_stands s i t t x rest ss a refl refl bound quiet z)
@@ -214,7 +214,7 @@ module _ (p : Program) (arrivals : Arrivals) (meets : MeetsRules p) where
   print_back : (s : State) (i : ℕ) (t : Task) (x : Piece) (rest : List Piece) (v : ℕ) → IsActing s i t x rest → (done y x t.vars rest).act ≡ Print v → IsBound y (done y x t.vars rest).pieces
       → Backs s (acted y i t (Print v) (done y x t.vars rest).vars (done y x t.vars rest).pieces s)
   print_back s i t x rest v a act bound on quiet more c =
-      let d : Deed = done y x t.vars rest in
+      let d : PieceOutcome = done y x t.vars rest in
       let f : Task → Task = going y.costs d.vars d.pieces in
       let same_sections : sections (f t) ≡ sections t = going-sections y d.vars d.pieces t in
       renamed _ _ _ _ _ _ _ _ (named_by s.tasks i t a.threads a.here)
@@ -230,14 +230,14 @@ module _ (p : Program) (arrivals : Arrivals) (meets : MeetsRules p) where
       by : (b : Bool) → Backs s (if b then stopped_at y t (Control k) s else entered_at y i (Control k) [] (done y x t.vars rest).vars (done y x t.vars rest).pieces s)
       by true = λ on quiet more c. absurd (true≢false quiet)
       by false = λ on quiet more c.
-          let d : Deed = done y x t.vars rest in
+          let d : PieceOutcome = done y x t.vars rest in
           let t' : Task = inside_now (Control k) (ceiling_of y (Control k)) t in
           let f : Task → Task = λ u. going y.costs d.vars d.pieces (inside_now (Control k) (ceiling_of y (Control k)) u) in
           let same_sections : sections (f t) ≡ Control k ∷ sections t = going-sections y d.vars d.pieces t' in
           quiet_back p arrivals meets i f t s.tasks s.stores s.time more a.here (going-thread y.costs d.vars d.pieces t')
           (λ ss z. quiet_stands s i t t' x rest ss a refl refl bound (ap is_quiet act) z)
-          (λ j e h. let H : List Section → Type 0 = λ z. Holds j e z in subst H (sym same_sections) h)
-          (λ j e h. let H : List Section → Type 0 = λ z. Holds j e z in subst H same_sections h) c
+          (λ j e h. let H : List Resource → Type 0 = λ z. Holds j e z in subst H (sym same_sections) h)
+          (λ j e h. let H : List Resource → Type 0 = λ z. Holds j e z in subst H same_sections h) c
 
   keep_back : (s : State) (i : ℕ) (t : Task) (x : Piece) (rest : List Piece) (k : ℕ) (v : Option ℕ) → IsActing s i t x rest → (done y x t.vars rest).act ≡ Keep k v → IsBound y (done y x t.vars rest).pieces
       → Backs s (acted y i t (Keep k v) (done y x t.vars rest).vars (done y x t.vars rest).pieces s)
@@ -253,7 +253,7 @@ module _ (p : Program) (arrivals : Arrivals) (meets : MeetsRules p) where
       → (done y x t.vars rest).act ≡ Leave k op values data' → Known y x t.vars rest (Leave k op values data') (done y x t.vars rest)
       → Backs s (acted y i t (Leave k op values data') (done y x t.vars rest).vars (done y x t.vars rest).pieces s)
   leaves_back s i t x rest k op values data' a act known on quiet more c =
-      let d : Deed = done y x t.vars rest in
+      let d : PieceOutcome = done y x t.vars rest in
       let t' : Task = outside_now t in
       let f : Task → Task = λ u. going y.costs d.vars d.pieces (outside_now u) in
       let thread : (f t).thread ≡ t.thread = going-thread y.costs d.vars d.pieces t' ∙ outside-thread t.inside t in
@@ -275,7 +275,7 @@ module _ (p : Program) (arrivals : Arrivals) (meets : MeetsRules p) where
           → Backs s (if b then stopped_at y t (Object k) s else entered_at y i (Object k) (machine.TheVariants.Enter s.time t.thread.unit (object_unit y k) op values ∷ []) (done y x t.vars rest).vars (done y x t.vars rest).pieces s)
       by true alone = λ on quiet more c. absurd (true≢false quiet)
       by false alone = λ on quiet more c.
-          let d : Deed = done y x t.vars rest in
+          let d : PieceOutcome = done y x t.vars rest in
           let t' : Task = inside_now (Object k) (ceiling_of y (Object k)) t in
           let vars : Variables = d.vars ++ unwrap_or (slice_get s.stores k) [] in
           let f : Task → Task = λ u. going y.costs vars d.pieces (inside_now (Object k) (ceiling_of y (Object k)) u) in
@@ -291,7 +291,7 @@ module _ (p : Program) (arrivals : Arrivals) (meets : MeetsRules p) where
       → (done y x t.vars rest).act ≡ Ended k v → Known y x t.vars rest (Ended k v) (done y x t.vars rest)
       → Backs s (acted y i t (Ended k v) (done y x t.vars rest).vars (done y x t.vars rest).pieces s)
   ended_back s i t x rest k v a act known on quiet more c =
-      let d : Deed = done y x t.vars rest in
+      let d : PieceOutcome = done y x t.vars rest in
       let t' : Task = outside_now t in
       let f : Task → Task = λ u. going y.costs d.vars d.pieces (outside_now u) in
       let s' : State = exit y i d.vars d.pieces s in
@@ -306,14 +306,14 @@ module _ (p : Program) (arrivals : Arrivals) (meets : MeetsRules p) where
       (own_back p arrivals meets i f t s.tasks s.stores s.time s.time (names.Request (request_name p y k).object v) (named p (serve y k s').1 ++ more) a.here a.threads (thread t) (is_request (request_name p y k).object v)
       (λ ss z. own_stands s i t t' x rest ss (step_at s.time (names.Request (request_name p y k).object v) (silent 0 []) ∷ ss) a (outside-thread t.inside t) (outside-used t.inside t) known.1
       (λ P u n ahead legit. act_ended setup is_apt P x t.vars rest (step_at s.time (names.Request (request_name p y k).object v) (silent 0 [])) ss n u k v legit act refl ahead) z)
-      (λ j e h. let H : List Section → Type 0 = λ z. Holds j e z in subst H (sym behind) (subst H before h))
-      (λ j e h. let H : List Section → Type 0 = λ z. Holds j e z in subst H (sym before) (subst H behind h)) c')
+      (λ j e h. let H : List Resource → Type 0 = λ z. Holds j e z in subst H (sym behind) (subst H before h))
+      (λ j e h. let H : List Resource → Type 0 = λ z. Holds j e z in subst H (sym before) (subst H behind h)) c')
 
   finish_back : (s : State) (i : ℕ) (t : Task) (x : Piece) (rest : List Piece) → IsActing s i t x rest
       → (done y x t.vars rest).act ≡ Finish → Known y x t.vars rest Finish (done y x t.vars rest)
       → Backs s (acted y i t Finish (done y x t.vars rest).vars (done y x t.vars rest).pieces s)
   finish_back s i t x rest a act known on quiet more c =
-      let d : Deed = done y x t.vars rest in
+      let d : PieceOutcome = done y x t.vars rest in
       let f : Task → Task = ended d.vars in
       let s' : State = record s { tasks = change i f s.tasks } in
       let idles : Idles s'.tasks = idle_change i f t s.tasks a.here a.idles (λ h. refl) in

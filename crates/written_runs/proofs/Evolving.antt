@@ -7,10 +7,10 @@ use Rattle.seq_tree.specs.Statements.{Statement, Statements, Branches, Null, Ass
 use Rattle.seq_tree.specs.Variables.{Variables}
 use Rattle.ada_tree.specs.Programs.{Program}
 use Rattle.trace_tree.specs.declared.event.Event.{Event}
-use Rattle.machine.specs.Systems.{System, Thread, system}
+use Rattle.machine.specs.Systems.{System, TaskUnit, system}
 use Rattle.machine.specs.Pieces.{Piece, Finishing, Turning, turns, pieces_of, pieces, branch_pieces, ticks_of, Working}
 use Rattle.machine.specs.Deeds.{Act, Silent, Print, Enter, Leave, Ask, Keep, Open, Ended, Finish}
-use Rattle.machine.specs.States.{State, Task, Section, Object, Control, Gate, Ready, shut}
+use Rattle.machine.specs.States.{State, Task, Resource, Object, Control, Gate, Ready, shut}
 use Rattle.machine.specs.Releases.{going, released, release_task, release, is_waiting, serve_task, serve, parameter, next_time}
 use Rattle.machine.specs.Effects.{acted, entry, entered_at, stopped_at, exit, go, ended, inside_now, outside_now, lent, ceiling_of}
 use Rattle.written_runs.proofs.Moves.{threads_of, change-threads}
@@ -89,8 +89,8 @@ module _ (p : Program) (arrivals : Arrivals) where
   Evolve i ps ts ts' = (k : ℕ) (u' : Task) → slice_get ts' k ≡ Some u' → Became i ps ts k u'
 
   -- the threads of tasks fit
-  abbrev pub AreFitting : List Thread → Type 0
-  AreFitting ths = (k : ℕ) (th : Thread) → slice_get ths k ≡ Some th → FitBlock (Leads (system p arrivals)) false th.block × Each (λ d. 1 ≤ d) th.durations
+  abbrev pub AreFitting : List TaskUnit → Type 0
+  AreFitting ths = (k : ℕ) (th : TaskUnit) → slice_get ths k ≡ Some th → FitBlock (Leads (system p arrivals)) false th.block × Each (λ d. 1 ≤ d) th.durations
 
 module _ (p : Program) (arrivals : Arrivals) (meets : MeetsRules p) where
   abbrev y : System
@@ -180,10 +180,10 @@ module _ (p : Program) (arrivals : Arrivals) (meets : MeetsRules p) where
   pub evolve_gate : (i : ℕ) (ps : List Piece) (n : ℕ) (g : Gate → Gate) (ts : List Task) → Evolve p arrivals i ps ts (change n (λ u. record u { gate = g u.gate }) ts)
   evolve_gate i ps n g ts = evolve_change i ps n (λ u. record u { gate = g u.gate }) ts (λ t at. inl (record { task = t; at = at; pieces' = refl; left = refl }))
 
-  entry-evolves : (i : ℕ) (t : Task) (c : Section) (told : List Event) (vars : Variables) (ps : List Piece) (s : State) → Evolve p arrivals i ps s.tasks (entry y i t c told vars ps s).0.tasks
+  entry-evolves : (i : ℕ) (t : Task) (c : Resource) (told : List Event) (vars : Variables) (ps : List Piece) (s : State) → Evolve p arrivals i ps s.tasks (entry y i t c told vars ps s).0.tasks
   entry-evolves i t c told vars ps s = by c (nat_lt (ceiling_of y c) t.active)
     where
-      by : (z : Section) (b : Bool) → Evolve p arrivals i ps s.tasks (if b then stopped_at y t z s else entered_at y i z told vars ps s).0.tasks
+      by : (z : Resource) (b : Bool) → Evolve p arrivals i ps s.tasks (if b then stopped_at y t z s else entered_at y i z told vars ps s).0.tasks
       by z true = evolve_none i ps s.tasks
       by (Object k) false = evolve_own i (lent (Object k) s vars) ps (inside_now (Object k) (ceiling_of y (Object k))) s.tasks
       by (Control k) false = evolve_own i vars ps (inside_now (Control k) (ceiling_of y (Control k))) s.tasks

@@ -3,7 +3,7 @@ use Rattle.std.specs.Prelude.{◌≡◌, ℕ, zero, suc, List, [], ◌∷◌, sl
 use Rattle.std.proofs.Common.{sym, ◌∙◌, ap, subst, inl, inr}
 use Rattle.arrivals_tree.specs.declared.arrivals.Arrival.{Arrival}
 use Rattle.machine.specs.Systems.{System}
-use Rattle.machine.specs.States.{State, Task, Section, Object, Control, Ready, Readiness, Waiting, Asleep, opening}
+use Rattle.machine.specs.States.{State, Task, Resource, Object, Control, Ready, Readiness, Waiting, Asleep, opening}
 use Rattle.machine.specs.Meanings.{run}
 use Rattle.ceiling_locking.specs.Sections.{IsAmong, sections}
 use Rattle.ceiling_locking.proofs.Kept.{IsAtRest}
@@ -14,14 +14,14 @@ use Rattle.written_runs.proofs.Claims.{Holds}
 use Rattle.written_runs.proofs.StepsBack.{IsKept}
 
 -- an object that is held is among the sections
-among_held : (j d : ℕ) (cs : List Section) → Holds j d cs → IsAmong (Object j) cs
+among_held : (j d : ℕ) (cs : List Resource) → Holds j d cs → IsAmong (Object j) cs
 among_held j d [] h = absurd h
 among_held j d (Control k ∷ cs) h = inr (among_held j d cs h)
 among_held j zero (Object k ∷ cs) h = inl (ap Object h)
 among_held j (suc d) (Object k ∷ cs) h = inr (among_held j d cs h)
 
 -- it is held at one depth
-one_depth : (y : System) (as' : List Arrival) (j d d' : ℕ) (cs : List Section) → AreHeld y as' cs → Holds j d cs → Holds j d' cs → d ≡ d'
+one_depth : (y : System) (as' : List Arrival) (j d d' : ℕ) (cs : List Resource) → AreHeld y as' cs → Holds j d cs → Holds j d' cs → d ≡ d'
 one_depth y as' j d d' [] held h h' = absurd h
 one_depth y as' j d d' (Control k ∷ cs) held h h' = one_depth y as' j d d' cs held.2 h h'
 one_depth y as' j zero zero (Object k ∷ cs) held h h' = refl

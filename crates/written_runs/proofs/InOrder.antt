@@ -7,7 +7,7 @@ use Rattle.ada_tree.specs.Programs.{Program}
 use Rattle.arrivals_tree.specs.Arriving.{Arrivals}
 use Rattle.trace_tree.specs.declared.event.Event.{Event}
 use Rattle.trace_tree.specs.declared.event.Event.TheVariants as event
-use Rattle.machine.specs.Systems.{System, Thread, system}
+use Rattle.machine.specs.Systems.{System, TaskUnit, system}
 use Rattle.machine.specs.States.{State, first_task}
 use Rattle.machine.specs.Steps.{step}
 use Rattle.machine.specs.Meanings.{run, Meaning, start}
@@ -23,7 +23,7 @@ use Rattle.written_runs.proofs.Walks.{IsTimely, Walks, step-walks}
 use Rattle.std.proofs.lemmas.Bool.{true≢false, false≢true}
 
 -- events in order, before others
-told-in_order : (p : Program) (ths : List Thread) (until now later : ℕ) (es : List Event) (more : List names.Event)
+told-in_order : (p : Program) (ths : List TaskUnit) (until now later : ℕ) (es : List Event) (more : List names.Event)
     → ((unit : ℕ) → HasUnit ths unit → IsTask p unit) → now ≤ later → Each (IsNow ths later) es → list_any is_stopping es ≡ false
     → ((n : ℕ) → n ≤ later → IsInOrder (program_software p).tasks until n more)
     → IsInOrder (program_software p).tasks until now (named p es ++ more)
@@ -81,7 +81,7 @@ named-append p [] more = refl
 named-append p (e ∷ es) more = ap (λ ns. named_event p e ∷ ns) (named-append p es more)
 
 -- what is told from a state on is in order
-order-from : (p : Program) (y : System) (ths : List Thread) (n : ℕ) (s : State) (now : ℕ)
+order-from : (p : Program) (y : System) (ths : List TaskUnit) (n : ℕ) (s : State) (now : ℕ)
     → ((unit : ℕ) → HasUnit ths unit → IsTask p unit) → threads_of s.tasks ≡ ths → IsTimely y.until s.phase s.time → s.stopped ≡ false → now ≤ s.time
     → (run y n s).0.stopped ≡ true → list_any is_stopping (run y n s).1 ≡ false
     → IsInOrder (program_software p).tasks y.until now (named p (run y n s).1)
@@ -107,7 +107,7 @@ order-from p y ths (suc n) s now tasks same timely on early stops quiet = by (st
     by (inr (inr st)) later = absurd (false≢true (sym (quiet_front (step y s).1 (run y n (step y s).0).1 quiet) ∙ st))
 
 -- the threads at the opening
-pub first_threads : (ths : List Thread) → threads_of (map first_task ths) ≡ ths
+pub first_threads : (ths : List TaskUnit) → threads_of (map first_task ths) ≡ ths
 first_threads [] = refl
 first_threads (th ∷ ths) = ap (λ hs. th ∷ hs) (first_threads ths)
 

@@ -11,7 +11,7 @@ use Rattle.arrivals_tree.specs.declared.arrivals.Arrival.{Arrival}
 use Rattle.trace_tree.specs.declared.event.Event as machine
 use Rattle.trace_tree.specs.declared.event.Event.TheVariants as event
 use Rattle.ods_tree.specs.Flats as flats
-use Rattle.machine.specs.Systems.{System, Thread, system}
+use Rattle.machine.specs.Systems.{System, TaskUnit, system}
 use Rattle.machine.specs.Pieces.{Piece}
 use Rattle.machine.specs.States.{State, Task, first_task, opening}
 use Rattle.machine.specs.Steps.{step}
@@ -110,7 +110,7 @@ module _ (p : Program) (arrivals : Arrivals) (meets : MeetsRules p) (fits : AreF
       by (inr (inr st)) later = absurd (true≢false (sym st ∙ quiet_front (step y s).1 (run y n (step y s).0).1 quiet))
 
   -- the opening
-  first_at : (ths : List Thread) (k : ℕ) (t : Task) → slice_get (map first_task ths) k ≡ Some t → (th : Thread) × (slice_get ths k ≡ Some th) × (first_task th ≡ t)
+  first_at : (ths : List TaskUnit) (k : ℕ) (t : Task) → slice_get (map first_task ths) k ≡ Some t → (th : TaskUnit) × (slice_get ths k ≡ Some th) × (first_task th ≡ t)
   first_at [] k t e = absurd (none-some t e)
   first_at (th ∷ ths) zero t e = (th, refl, same_Some (first_task th) t e)
   first_at (th ∷ ths) (suc k) t e = first_at ths k t e
@@ -120,11 +120,11 @@ module _ (p : Program) (arrivals : Arrivals) (meets : MeetsRules p) (fits : AreF
     threads = first_threads y.threads;
     has = λ j g at. (written g.vars, slice_get-map (λ h. written h.vars) y.objects j ∙ ap (option_map (λ h. written h.vars)) at);
     lasts = λ k t at.
-        let f : (th : Thread) × (slice_get y.threads k ≡ Some th) × (first_task th ≡ t) = first_at y.threads k t at in
+        let f : (th : TaskUnit) × (slice_get y.threads k ≡ Some th) × (first_task th ≡ t) = first_at y.threads k t at in
         let P : Task → Type 0 = λ z. Lasts p arrivals z.pieces in
         subst P f.2 tt;
     left = λ k t at.
-        let f : (th : Thread) × (slice_get y.threads k ≡ Some th) × (first_task th ≡ t) = first_at y.threads k t at in
+        let f : (th : TaskUnit) × (slice_get y.threads k ≡ Some th) × (first_task th ≡ t) = first_at y.threads k t at in
         let P : Task → Type 0 = λ z. IsDue (opening y items) k ⊎ HasTicksLeft z.pieces z.left in
         subst P f.2 (inr tt);
   }
@@ -157,7 +157,7 @@ module _ (p : Program) (arrivals : Arrivals) (meets : MeetsRules p) (fits : AreF
             let stored : unwrap_or (slice_get s.stores j) [] ≡ written g.vars =
             ap (λ o. unwrap_or o []) (slice_get-map (λ h. written h.vars) y.objects j ∙ ap (option_map (λ h. written h.vars)) at) in
             subst A stored ((c.objects j g at).free (λ k t d there h.
-            let f : (th : Thread) × (slice_get y.threads k ≡ Some th) × (first_task th ≡ t) = first_at y.threads k t there in
+            let f : (th : TaskUnit) × (slice_get y.threads k ≡ Some th) × (first_task th ≡ t) = first_at y.threads k t there in
             let H : Task → Type 0 = λ z. Holds j d (sections z) in
             subst H (sym f.2) h))))));
       }

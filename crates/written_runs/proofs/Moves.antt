@@ -7,24 +7,24 @@ use Rattle.seq_tree.specs.Lists.{change, Each}
 use Rattle.seq_tree.specs.Variables.{Variables}
 use Rattle.trace_tree.specs.declared.event.Event.{Event}
 use Rattle.trace_tree.specs.declared.event.Event.TheVariants as event
-use Rattle.machine.specs.Systems.{System, Thread}
+use Rattle.machine.specs.Systems.{System, TaskUnit}
 use Rattle.machine.specs.Pieces.{Piece}
 use Rattle.machine.specs.Deeds.{Act, Silent, Print, Enter, Leave, Ask, Keep, Open, Ended, Finish}
-use Rattle.machine.specs.States.{State, Task, Section, Object, Control}
+use Rattle.machine.specs.States.{State, Task, Resource, Object, Control}
 use Rattle.machine.specs.Releases.{Next, after, going, released, release_task, release, is_waiting, serve_task, serve}
 use Rattle.machine.specs.Effects.{acted, entry, entered_at, stopped_at, exit, go, ended, inside_now, outside_now, lent, ceiling_of, task_unit}
 use Rattle.program_calls.proofs.Tasks.{going-thread, released-thread, outside-thread}
 
 -- the threads of tasks
-abbrev pub threads_of : List Task → List Thread
+abbrev pub threads_of : List Task → List TaskUnit
 threads_of ts = map (λ t. t.thread) ts
 
 -- a unit of one of these threads
-abbrev pub HasUnit : List Thread → ℕ → Type 0
-HasUnit ths unit = (k : ℕ) × (th : Thread) × (slice_get ths k ≡ Some th) × (th.unit ≡ unit)
+abbrev pub HasUnit : List TaskUnit → ℕ → Type 0
+HasUnit ths unit = (k : ℕ) × (th : TaskUnit) × (slice_get ths k ≡ Some th) × (th.unit ≡ unit)
 
 -- an event of a thread at this time, or a stop
-abbrev pub IsNow : List Thread → ℕ → Event → Type 0
+abbrev pub IsNow : List TaskUnit → ℕ → Event → Type 0
 IsNow ths now (event.Release time task value) = (time ≡ now) × HasUnit ths task
 IsNow ths now (event.Arrive time task value) = (time ≡ now) × HasUnit ths task
 IsNow ths now (event.Enter time task unit op values) = (time ≡ now) × HasUnit ths task
@@ -41,7 +41,7 @@ is_stopping (event.Stop time task unit priority ceiling) = true
 is_stopping _ = false
 
 -- what goes on within an instant
-pub record Goes (ths : List Thread) (s : State) (next : Next) : Type 0 where
+pub record Goes (ths : List TaskUnit) (s : State) (next : Next) : Type 0 where
   pub threads : threads_of next.0.tasks ≡ ths
   pub time : next.0.time ≡ s.time
   pub phase : next.0.phase ≡ s.phase
@@ -55,16 +55,16 @@ change-threads zero f (t ∷ ts) same = ap (λ th. th ∷ threads_of ts) (same t
 change-threads (suc i) f (t ∷ ts) same = ap (λ ths. t.thread ∷ ths) (change-threads i f ts same)
 
 -- the unit of a task
-pub unit_of : (ths : List Thread) (ts : List Task) (i : ℕ) (t : Task) → slice_get ts i ≡ Some t → threads_of ts ≡ ths → HasUnit ths t.thread.unit
+pub unit_of : (ths : List TaskUnit) (ts : List Task) (i : ℕ) (t : Task) → slice_get ts i ≡ Some t → threads_of ts ≡ ths → HasUnit ths t.thread.unit
 unit_of ths ts i t here same =
     (i, t.thread, ap (λ hs. slice_get hs i) (sym same) ∙ slice_get-map (λ u. u.thread) ts i ∙ ap (option_map (λ u. u.thread)) here, refl)
 
 -- nothing
-stays : (ths : List Thread) (s : State) → threads_of s.tasks ≡ ths → Goes ths s (s, [])
+stays : (ths : List TaskUnit) (s : State) → threads_of s.tasks ≡ ths → Goes ths s (s, [])
 stays ths s same = record { threads = same; time = refl; phase = refl; told = tt; stops = inl refl }
 
 -- from a state that differs in its tasks, order numbers and stores alone
-from_moved : (ths : List Thread) (s s' : State) (next : Next) → s'.time ≡ s.time → s'.phase ≡ s.phase → s'.stopped ≡ s.stopped → Goes ths s' next → Goes ths s next
+from_moved : (ths : List TaskUnit) (s s' : State) (next : Next) → s'.time ≡ s.time → s'.phase ≡ s.phase → s'.stopped ≡ s.stopped → Goes ths s' next → Goes ths s next
 from_moved ths s s' next time phase stopped g = record {
   threads = g.threads;
   time = g.time ∙ time;
@@ -74,7 +74,7 @@ from_moved ths s s' next time phase stopped g = record {
 }
 
 -- an event before
-told_before : (ths : List Thread) (s : State) (e : Event) (next : Next) → IsNow ths s.time e → is_stopping e ≡ false → Goes ths s next → Goes ths s (after (e ∷ []) next)
+told_before : (ths : List TaskUnit) (s : State) (e : Event) (next : Next) → IsNow ths s.time e → is_stopping e ≡ false → Goes ths s next → Goes ths s (after (e ∷ []) next)
 told_before ths s e next now quiet g = record {
   threads = g.threads;
   time = g.time;
@@ -84,7 +84,7 @@ told_before ths s e next now quiet g = record {
 }
 
 -- a release
-pub release_task-goes : (y : System) (ths : List Thread) (i : ℕ) (o : Option Task) (s : State) → slice_get s.tasks i ≡ o → threads_of s.tasks ≡ ths → Goes ths s (release_task y i o s)
+pub release_task-goes : (y : System) (ths : List TaskUnit) (i : ℕ) (o : Option Task) (s : State) → slice_get s.tasks i ≡ o → threads_of s.tasks ≡ ths → Goes ths s (release_task y i o s)
 release_task-goes y ths i None s here same = stays ths s same
 release_task-goes y ths i (Some t) s here same = record {
   threads = change-threads i (released y.costs) s.tasks (released-thread y.costs) ∙ same;
@@ -94,10 +94,10 @@ release_task-goes y ths i (Some t) s here same = record {
   stops = inl refl;
 }
 
-pub release-goes : (y : System) (ths : List Thread) (i : ℕ) (s : State) → threads_of s.tasks ≡ ths → Goes ths s (release y i s)
+pub release-goes : (y : System) (ths : List TaskUnit) (i : ℕ) (s : State) → threads_of s.tasks ≡ ths → Goes ths s (release y i s)
 release-goes y ths i s same = release_task-goes y ths i (slice_get s.tasks i) s refl same
 
-serve_task-goes : (y : System) (ths : List Thread) (i : ℕ) (o : Option Task) (s : State) → threads_of s.tasks ≡ ths → Goes ths s (serve_task y i o s)
+serve_task-goes : (y : System) (ths : List TaskUnit) (i : ℕ) (o : Option Task) (s : State) → threads_of s.tasks ≡ ths → Goes ths s (serve_task y i o s)
 serve_task-goes y ths i None s same = stays ths s same
 serve_task-goes y ths i (Some t) s same = by (is_waiting t.readiness && t.gate.open')
   where
@@ -105,15 +105,15 @@ serve_task-goes y ths i (Some t) s same = by (is_waiting t.readiness && t.gate.o
     by true = release-goes y ths i s same
     by false = stays ths s same
 
-pub serve-goes : (y : System) (ths : List Thread) (i : ℕ) (s : State) → threads_of s.tasks ≡ ths → Goes ths s (serve y i s)
+pub serve-goes : (y : System) (ths : List TaskUnit) (i : ℕ) (s : State) → threads_of s.tasks ≡ ths → Goes ths s (serve y i s)
 serve-goes y ths i s same = serve_task-goes y ths i (slice_get s.tasks i) s same
 
 -- an entry
-entry-goes : (y : System) (ths : List Thread) (i : ℕ) (t : Task) (section : Section) (told : List Event) (vars : Variables) (ps : List Piece) (s : State)
+entry-goes : (y : System) (ths : List TaskUnit) (i : ℕ) (t : Task) (section : Resource) (told : List Event) (vars : Variables) (ps : List Piece) (s : State)
     → Each (IsNow ths s.time) told → threads_of s.tasks ≡ ths → Goes ths s (entry y i t section told vars ps s)
 entry-goes y ths i t section told vars ps s now same = by section (nat_lt (ceiling_of y section) t.active)
   where
-    by : (c : Section) (b : Bool) → Goes ths s (if b then stopped_at y t c s else entered_at y i c told vars ps s)
+    by : (c : Resource) (b : Bool) → Goes ths s (if b then stopped_at y t c s else entered_at y i c told vars ps s)
     by c true = record { threads = same; time = refl; phase = refl; told = (tt, tt); stops = inr refl }
     by (Object object) false = record {
       threads = change-threads i (λ u. going y.costs (lent (Object object) s vars) ps (inside_now (Object object) (ceiling_of y (Object object)) u)) s.tasks
@@ -141,7 +141,7 @@ go-threads : (y : System) (i : ℕ) (vars : Variables) (ps : List Piece) (s : St
 go-threads y i vars ps s = change-threads i (going y.costs vars ps) s.tasks (going-thread y.costs vars ps)
 
 -- a deed
-pub acted-goes : (y : System) (ths : List Thread) (i : ℕ) (t : Task) (act : Act) (vars : Variables) (ps : List Piece) (s : State)
+pub acted-goes : (y : System) (ths : List TaskUnit) (i : ℕ) (t : Task) (act : Act) (vars : Variables) (ps : List Piece) (s : State)
     → slice_get s.tasks i ≡ Some t → threads_of s.tasks ≡ ths → Goes ths s (acted y i t act vars ps s)
 acted-goes y ths i t Silent vars ps s here same =
     record { threads = go-threads y i vars ps s ∙ same; time = refl; phase = refl; told = tt; stops = inl refl }

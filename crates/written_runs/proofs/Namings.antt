@@ -8,7 +8,7 @@ use Rattle.seq_tree.specs.Operations.{Operation}
 use Rattle.ada_tree.specs.Programs.{Program}
 use Rattle.ada_tree.specs.Rules.{MeetsRules}
 use Rattle.arrivals_tree.specs.Arriving.{Arrivals}
-use Rattle.machine.specs.Systems.{Guarded, Protected, system, callee}
+use Rattle.machine.specs.Systems.{ProtectedUnit, Protected, system, callee}
 use Rattle.guarantee.specs.Software.{program_software}
 use Rattle.guarantee.specs.Passages.{IsOpOf}
 use Rattle.written_runs.proofs.Claims as claims
@@ -29,7 +29,7 @@ first_found {A} test n (z ∷ xs) k x e = by (test z) e (first_found test (suc n
     by false h later = later h
 
 -- a call of a protected operation leads to an operation of that object, of the name that a trace has
-callees : (p : Program) (r : Arrivals) → MeetsRules p → (unit name : Name) (object at : ℕ) (g : Guarded) (o : Operation) → callee (system p r) unit name ≡ Protected object at g o
+callees : (p : Program) (r : Arrivals) → MeetsRules p → (unit name : Name) (object at : ℕ) (g : ProtectedUnit) (o : Operation) → callee (system p r) unit name ≡ Protected object at g o
     → (slice_get (system p r).objects object ≡ Some g) × IsOpOf (guarded_at g) (entry_name p (system p r) object at).op o
 callees p r meets unit name object at g o e =
     let l : LeadsToObject (system p r) unit name object at g o = subst (LeadsTo (system p r) unit name) e (leads-to (system p r) unit name) in

@@ -11,9 +11,9 @@ use Rattle.seq_tree.specs.declared.tree.OpName.{OpName}
 use Rattle.ada_tree.specs.Programs.{Program}
 use Rattle.trace_tree.specs.Lines.{unit_name}
 use Rattle.ods_tree.specs.Walk.{only_if}
-use Rattle.machine.specs.Systems.{System, Thread, Guarded, system}
+use Rattle.machine.specs.Systems.{System, TaskUnit, ProtectedUnit, system}
 use Rattle.machine.specs.Pieces.{Piece}
-use Rattle.machine.specs.States.{Task, Section, Object}
+use Rattle.machine.specs.States.{Task, Resource, Object}
 use Rattle.guarantee.specs.Software.{Software, program_software}
 use Rattle.guarantee.specs.Events.{Deed, Event, By}
 use Rattle.guarantee.specs.Events as names
@@ -43,7 +43,7 @@ Alone ts = (j k k' d d' : ℕ) (u u' : Task) → slice_get ts k ≡ Some u → s
 
 -- each object has its data
 abbrev pub HasStores : System → List Variables → Type 0
-HasStores y stores = (j : ℕ) (g : Guarded) → slice_get y.objects j ≡ Some g → (data' : Variables) × (slice_get stores j ≡ Some data')
+HasStores y stores = (j : ℕ) (g : ProtectedUnit) → slice_get y.objects j ≡ Some g → (data' : Variables) × (slice_get stores j ≡ Some data')
 
 pub set-here : {A : Type 0} (xs : List A) (k : ℕ) (x v : A) → slice_get xs k ≡ Some x → slice_get (set xs k v) k ≡ Some v
 set-here [] k x v e = absurd (none-some x e)
@@ -84,38 +84,38 @@ module _ (p : Program) (arrivals : Arrivals) (meets : MeetsRules p) where
   names' = naming p arrivals meets
 
   -- the name of an object in a trace
-  object_named : (k op : ℕ) (g : Guarded) → slice_get y.objects k ≡ Some g → (entry_name p y k op).object ≡ g.name
+  object_named : (k op : ℕ) (g : ProtectedUnit) → slice_get y.objects k ≡ Some g → (entry_name p y k op).object ≡ g.name
   object_named k op g at = ap (λ o. unit_name p (unwrap_or (option_map (λ h. h.unit) o) 0)) at ∙ names'.object_name k g at
 
   -- the passages of the object, and of others
-  into_here : (k op time : ℕ) (g : Guarded) (name : Name) (values : List ℕ) (body : Path) (ms : List Moment) → slice_get y.objects k ≡ Some g
+  into_here : (k op time : ℕ) (g : ProtectedUnit) (name : Name) (values : List ℕ) (body : Path) (ms : List Moment) → slice_get y.objects k ≡ Some g
       → passages g.name (did time name (names.Enter (entry_name p y k op) values) body ∷ ms) ≡ Into name (entry_name p y k op).op values (inside (steps_of name ms)) body ∷ passages g.name ms
   into_here k op time g name values body ms at =
       ap (λ n. cons_option (only_if (same_name n g.name) (Into name (entry_name p y k op).op values (inside (steps_of name ms)) body)) (passages g.name ms)) (object_named k op g at)
       ∙ ap (λ b. cons_option (only_if b (Into name (entry_name p y k op).op values (inside (steps_of name ms)) body)) (passages g.name ms)) (same-self g.name)
 
-  out_here : (k op time : ℕ) (g : Guarded) (name : Name) (values : List ℕ) (body : Path) (ms : List Moment) → slice_get y.objects k ≡ Some g
+  out_here : (k op time : ℕ) (g : ProtectedUnit) (name : Name) (values : List ℕ) (body : Path) (ms : List Moment) → slice_get y.objects k ≡ Some g
       → passages g.name (did time name (names.Leave (entry_name p y k op) values) body ∷ ms) ≡ Out name (entry_name p y k op).op values ∷ passages g.name ms
   out_here k op time g name values body ms at =
       ap (λ n. cons_option (only_if (same_name n g.name) (Out name (entry_name p y k op).op values)) (passages g.name ms)) (object_named k op g at)
       ∙ ap (λ b. cons_option (only_if b (Out name (entry_name p y k op).op values)) (passages g.name ms)) (same-self g.name)
 
-  apart_named : (j k op : ℕ) (g g' : Guarded) → slice_get y.objects k ≡ Some g → slice_get y.objects j ≡ Some g' → (j ≡ k → ⊥) → same_name (entry_name p y k op).object g'.name ≡ false
+  apart_named : (j k op : ℕ) (g g' : ProtectedUnit) → slice_get y.objects k ≡ Some g → slice_get y.objects j ≡ Some g' → (j ≡ k → ⊥) → same_name (entry_name p y k op).object g'.name ≡ false
   apart_named j k op g g' at there apart =
       ap (λ n. same_name n g'.name) (object_named k op g at) ∙ false_from_ne_true _ (λ e. apart (sym (names'.objects_apart k j g g' at there e)))
 
-  into_other : (j k op time : ℕ) (g g' : Guarded) (name : Name) (values : List ℕ) (body : Path) (ms : List Moment) → slice_get y.objects k ≡ Some g → slice_get y.objects j ≡ Some g' → (j ≡ k → ⊥)
+  into_other : (j k op time : ℕ) (g g' : ProtectedUnit) (name : Name) (values : List ℕ) (body : Path) (ms : List Moment) → slice_get y.objects k ≡ Some g → slice_get y.objects j ≡ Some g' → (j ≡ k → ⊥)
       → passages g'.name (did time name (names.Enter (entry_name p y k op) values) body ∷ ms) ≡ passages g'.name ms
   into_other j k op time g g' name values body ms at there apart =
       ap (λ b. cons_option (only_if b (Into name (entry_name p y k op).op values (inside (steps_of name ms)) body)) (passages g'.name ms)) (apart_named j k op g g' at there apart)
 
-  out_other : (j k op time : ℕ) (g g' : Guarded) (name : Name) (values : List ℕ) (body : Path) (ms : List Moment) → slice_get y.objects k ≡ Some g → slice_get y.objects j ≡ Some g' → (j ≡ k → ⊥)
+  out_other : (j k op time : ℕ) (g g' : ProtectedUnit) (name : Name) (values : List ℕ) (body : Path) (ms : List Moment) → slice_get y.objects k ≡ Some g → slice_get y.objects j ≡ Some g' → (j ≡ k → ⊥)
       → passages g'.name (did time name (names.Leave (entry_name p y k op) values) body ∷ ms) ≡ passages g'.name ms
   out_other j k op time g g' name values body ms at there apart =
       ap (λ b. cons_option (only_if b (Out name (entry_name p y k op).op values)) (passages g'.name ms)) (apart_named j k op g g' at there apart)
 
   -- a leave
-  pub leave_back : (i : ℕ) (f : Task → Task) (t : Task) (ts : List Task) (stores : List Variables) (now k op : ℕ) (g : Guarded) (values : List ℕ) (data' : Variables) (cs : List Section) (told : List Event)
+  pub leave_back : (i : ℕ) (f : Task → Task) (t : Task) (ts : List Task) (stores : List Variables) (now k op : ℕ) (g : ProtectedUnit) (values : List ℕ) (data' : Variables) (cs : List Resource) (told : List Event)
       → slice_get ts i ≡ Some t → threads_of ts ≡ y.threads → (f t).thread ≡ t.thread → slice_get y.objects k ≡ Some g → data' ≡ kept g.vars t.vars → HasStores y stores → Alone ts
       → sections t ≡ Object k ∷ cs → sections (f t) ≡ cs
       → ((ss : List Step) → Stands p arrivals now (f t) (f t).pieces ss → Stands p arrivals now t t.pieces (step_at now (names.Leave (entry_name p y k op) values) (silent 0 t.vars) ∷ ss))
@@ -127,13 +127,13 @@ module _ (p : Program) (arrivals : Arrivals) (meets : MeetsRules p) where
       let m : Moment = did now t.thread.name deed way in
       let ms : List Moment = c.moments' in
       let own : steps_of t.thread.name (m ∷ ms) ≡ step_at now deed way ∷ steps_of t.thread.name ms = steps-own t.thread.name now deed way ms refl in
-      let P : Thread → Type 0 = λ th. Stands p arrivals now (f t) (f t).pieces (steps_of th.name ms) in
+      let P : TaskUnit → Type 0 = λ th. Stands p arrivals now (f t) (f t).pieces (steps_of th.name ms) in
       let Q : List Step → Type 0 = λ ss. Stands p arrivals now t t.pieces ss in
       let other : (n : ℕ) (u : Task) → (n ≡ i → ⊥) → slice_get ts n ≡ Some u → steps_of u.thread.name (m ∷ ms) ≡ steps_of u.thread.name ms =
       λ n u apart there. steps-other t.thread.name u.thread.name now deed way ms (other_name p y w names' ts i n t u same here there apart) in
-      let top : Holds k 0 (sections t) = (let H : List Section → Type 0 = λ z. Holds k 0 z in subst H (sym before) refl) in
+      let top : Holds k 0 (sections t) = (let H : List Resource → Type 0 = λ z. Holds k 0 z in subst H (sym before) refl) in
       let deeper : (j d : ℕ) → Holds j d (sections (f t)) → Holds j (suc d) (sections t) =
-      λ j d h. (let H : List Section → Type 0 = λ z. Holds j d z in let K : List Section → Type 0 = λ z. Holds j (suc d) z in subst K (sym before) (subst H behind h)) in
+      λ j d h. (let H : List Resource → Type 0 = λ z. Holds j d z in let K : List Resource → Type 0 = λ z. Holds j (suc d) z in subst K (sym before) (subst H behind h)) in
       let mine : Serves w k g ts stores (m ∷ ms) = record {
         held = λ n u d there holds.
             let one : (n ≡ i) × (d ≡ 0) = alone k n i d 0 u t there here holds top in
@@ -171,18 +171,18 @@ module _ (p : Program) (arrivals : Arrivals) (meets : MeetsRules p) where
             (λ n u apart there s. let R : List Step → Type 0 = λ ss. Stands p arrivals now u u.pieces ss in subst R (sym (other n u apart there)) s) c.threads;
         objects = λ j g' there. places j k
             (λ e. let is : g ≡ g' = same_Some g g' (sym at ∙ ap (slice_get y.objects) (sym e) ∙ there) in
-            let R : Guarded → Type 0 = λ z. Serves w k z ts stores (m ∷ ms) in
+            let R : ProtectedUnit → Type 0 = λ z. Serves w k z ts stores (m ∷ ms) in
             let S : ℕ → Type 0 = λ n. Serves w n g' ts stores (m ∷ ms) in
             subst S (sym e) (subst R is mine))
             (λ apart.
             let pass : passages g'.name (m ∷ ms) ≡ passages g'.name ms = out_other j k op now g g' t.thread.name values way ms at there apart in
             serves_back p arrivals meets j g' i f t ts stores (set stores k data') ms (m ∷ ms) here thread pass (sym (ap (λ o. unwrap_or o []) (set-else k j data' stores apart)))
-            (λ d h. let H : List Section → Type 0 = λ z. Holds j d z in leaves j g' apart pass own d (subst H before h))
+            (λ d h. let H : List Resource → Type 0 = λ z. Holds j d z in leaves j g' apart pass own d (subst H before h))
             (λ n u d far at' s. held_same p arrivals meets g' u.thread.name d ms (m ∷ ms) pass (other n u far at') s)
             (λ d h. (suc d, deeper j d h)) (c.objects j g' there));
       }
     where
-      leaves : (j : ℕ) (g' : Guarded) → (j ≡ k → ⊥)
+      leaves : (j : ℕ) (g' : ProtectedUnit) → (j ≡ k → ⊥)
           → passages g'.name (did now t.thread.name (names.Leave (entry_name p y k op) values) (silent 0 t.vars) ∷ c.moments') ≡ passages g'.name c.moments'
           → steps_of t.thread.name (did now t.thread.name (names.Leave (entry_name p y k op) values) (silent 0 t.vars) ∷ c.moments')
           ≡ step_at now (names.Leave (entry_name p y k op) values) (silent 0 t.vars) ∷ steps_of t.thread.name c.moments'
@@ -190,7 +190,7 @@ module _ (p : Program) (arrivals : Arrivals) (meets : MeetsRules p) where
           → (d' : ℕ) × Holds j d' (sections (f t)) × (HeldUntil w g' t.thread.name d' c.moments' → HeldUntil w g' t.thread.name d (did now t.thread.name (names.Leave (entry_name p y k op) values) (silent 0 t.vars) ∷ c.moments'))
       leaves j g' apart pass own zero h = absurd (apart (sym h))
       leaves j g' apart pass own (suc d) h =
-          let H : List Section → Type 0 = λ z. Holds j d z in
+          let H : List Resource → Type 0 = λ z. Holds j d z in
           let down : d ≡ suc d - 1 = omega arith in
           let K : ℕ → Type 0 = λ e. HeldUntil w g' t.thread.name e c.moments' in
           (d, subst H (sym behind) h, λ s. held_step p arrivals meets g' t.thread.name (suc d) (step_at now (names.Leave (entry_name p y k op) values) (silent 0 t.vars)) c.moments' _ pass own refl (subst K down s))
@@ -208,7 +208,7 @@ module _ (p : Program) (arrivals : Arrivals) (meets : MeetsRules p) where
       heads leave leave' later later' (append_cancel_left inner' (leave ∷ later) (leave' ∷ later') (ap (λ i. i ++ leave ∷ later) (sym (sym one ∙ two)) ∙ sym e ∙ e'))
 
   -- the passages from an entry on
-  entry_serves : (g : Guarded) (o : Operation) (name : Name) (nm : OpName) (data' : Variables) (values : List ℕ) (body : Path) (ms : List Moment) → IsOpOf (guarded_at g) nm.op o
+  entry_serves : (g : ProtectedUnit) (o : Operation) (name : Name) (nm : OpName) (data' : Variables) (values : List ℕ) (body : Path) (ms : List Moment) → IsOpOf (guarded_at g) nm.op o
       → Passes setup o data' values nm (steps_of name ms) body
       → HeldUntil w g name 0 ms
       → AreOneByOne w (guarded_at g) data' (Into name nm.op values (inside (steps_of name ms)) body ∷ passages g.name ms)
@@ -253,20 +253,20 @@ module _ (p : Program) (arrivals : Arrivals) (meets : MeetsRules p) where
       → Conducts p arrivals now ts stores (By now t.thread.name (names.Enter (entry_name p y k op) values) ∷ told)
   enter_back i f t x rest ts stores now k op values told here same thread alone inside' stand c =
       let ms : List Moment = c.moments' in
-      let P : Thread → Type 0 = λ th. Stands p arrivals now (f t) (f t).pieces (steps_of th.name ms) in
+      let P : TaskUnit → Type 0 = λ th. Stands p arrivals now (f t) (f t).pieces (steps_of th.name ms) in
       let e : IsEntry p arrivals meets now t x rest (unwrap_or (slice_get stores k) []) k op values (steps_of t.thread.name ms) =
       stand (steps_of t.thread.name ms) (subst P thread (c.threads i (f t) (change-at i f ts t here))) in
       let deed : Deed = names.Enter (entry_name p y k op) values in
       let m : Moment = did now t.thread.name deed e.body in
-      let g : Guarded = e.guarded in
+      let g : ProtectedUnit = e.guarded in
       let link : (slice_get y.objects k ≡ Some g) × IsOpOf (guarded_at g) (entry_name p y k op).op e.operation = names'.callees e.unit e.name k op g e.operation e.calls in
       let own : steps_of t.thread.name (m ∷ ms) ≡ step_at now deed e.body ∷ steps_of t.thread.name ms = steps-own t.thread.name now deed e.body ms refl in
       let Q : List Step → Type 0 = λ ss. Stands p arrivals now t t.pieces ss in
       let other : (n : ℕ) (u : Task) → (n ≡ i → ⊥) → slice_get ts n ≡ Some u → steps_of u.thread.name (m ∷ ms) ≡ steps_of u.thread.name ms =
       λ n u apart there. steps-other t.thread.name u.thread.name now deed e.body ms (other_name p y w names' ts i n t u same here there apart) in
-      let top : Holds k 0 (sections (f t)) = (let H : List Section → Type 0 = λ z. Holds k 0 z in subst H (sym inside') refl) in
+      let top : Holds k 0 (sections (f t)) = (let H : List Resource → Type 0 = λ z. Holds k 0 z in subst H (sym inside') refl) in
       let deeper : (j d : ℕ) → Holds j d (sections t) → Holds j (suc d) (sections (f t)) =
-      λ j d h. (let K : List Section → Type 0 = λ z. Holds j (suc d) z in subst K (sym inside') h) in
+      λ j d h. (let K : List Resource → Type 0 = λ z. Holds j (suc d) z in subst K (sym inside') h) in
       let now_here : slice_get (change i f ts) i ≡ Some (f t) = change-at i f ts t here in
       let none : (n : ℕ) (u : Task) (d : ℕ) → slice_get ts n ≡ Some u → Holds k d (sections u) → ⊥ = λ n u d there holds. places n i
       (λ is. let same_task : t ≡ u = same_Some t u (sym here ∙ ap (slice_get ts) (sym is) ∙ there) in
@@ -276,7 +276,7 @@ module _ (p : Program) (arrivals : Arrivals) (meets : MeetsRules p) where
       let mine : Serves w k g ts stores (m ∷ ms) = record {
         held = λ n u d there holds. absurd (none n u d there holds);
         free = λ nobody.
-            let R : Thread → Type 0 = λ th. HeldUntil w g th.name 0 ms in
+            let R : TaskUnit → Type 0 = λ th. HeldUntil w g th.name 0 ms in
             let A : List Passage → Type 0 = λ ps. AreOneByOne w (guarded_at g) (unwrap_or (slice_get stores k) []) ps in
             subst A (sym (into_here k op now g t.thread.name values e.body ms link.0))
             (entry_serves g e.operation t.thread.name (entry_name p y k op) (unwrap_or (slice_get stores k) []) values e.body ms link.1 e.passes
@@ -289,7 +289,7 @@ module _ (p : Program) (arrivals : Arrivals) (meets : MeetsRules p) where
             (λ n u apart there s. let R : List Step → Type 0 = λ ss. Stands p arrivals now u u.pieces ss in subst R (sym (other n u apart there)) s) c.threads;
         objects = λ j g' there. places j k
             (λ is. let one : g ≡ g' = same_Some g g' (sym link.0 ∙ ap (slice_get y.objects) (sym is) ∙ there) in
-            let R : Guarded → Type 0 = λ z. Serves w k z ts stores (m ∷ ms) in
+            let R : ProtectedUnit → Type 0 = λ z. Serves w k z ts stores (m ∷ ms) in
             let S : ℕ → Type 0 = λ n. Serves w n g' ts stores (m ∷ ms) in
             subst S (sym is) (subst R one mine))
             (λ apart.
@@ -301,7 +301,7 @@ module _ (p : Program) (arrivals : Arrivals) (meets : MeetsRules p) where
               λ s. held_step p arrivals meets g' t.thread.name d (step_at now deed e.body) ms (m ∷ ms) pass own (closes-enter d (entry_name p y k op) values) s,
             ))
             (λ n u d far at' s. held_same p arrivals meets g' u.thread.name d ms (m ∷ ms) pass (other n u far at') s)
-            (λ d h. let H : List Section → Type 0 = λ z. Holds j d z in back j apart d (subst H inside' h)) (c.objects j g' there));
+            (λ d h. let H : List Resource → Type 0 = λ z. Holds j d z in back j apart d (subst H inside' h)) (c.objects j g' there));
       }
     where
       back : (j : ℕ) → (j ≡ k → ⊥) → (d : ℕ) → Holds j d (Object k ∷ sections t) → (d' : ℕ) × Holds j d' (sections t)

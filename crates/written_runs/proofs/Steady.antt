@@ -9,8 +9,8 @@ use Rattle.trace_tree.specs.declared.event.Event.{Event}
 use Rattle.trace_tree.specs.declared.event.Event.TheVariants as event
 use Rattle.machine.specs.Systems.{System, system}
 use Rattle.machine.specs.Pieces.{Piece}
-use Rattle.machine.specs.Deeds.{Act, Silent, Print, Enter, Leave, Ask, Keep, Open, Ended, Finish, Deed, done}
-use Rattle.machine.specs.States.{State, Task, Phase, Effects, Delays, Arriving, Use, Section, Object, Control}
+use Rattle.machine.specs.Deeds.{Act, Silent, Print, Enter, Leave, Ask, Keep, Open, Ended, Finish, PieceOutcome, done}
+use Rattle.machine.specs.States.{State, Task, Phase, Effects, Delays, Arriving, Use, Resource, Object, Control}
 use Rattle.machine.specs.Dispatch.{dispatched}
 use Rattle.machine.specs.Releases.{release_task, release, is_waiting, serve_task, serve}
 use Rattle.machine.specs.Effects.{acted, takes_effect, entry, entered_at, stopped_at, exit, ended, ceiling_of}
@@ -48,11 +48,11 @@ serve-stores y i s = at (slice_get s.tasks i)
         by false = refl
 
 -- and deeds leave each object some
-entry-stores : (y : System) (i : ℕ) (t : Task) (c : Section) (told : List Event) (vars : Variables) (ps : List Piece) (s : State) → HasStores y s.stores
+entry-stores : (y : System) (i : ℕ) (t : Task) (c : Resource) (told : List Event) (vars : Variables) (ps : List Piece) (s : State) → HasStores y s.stores
     → HasStores y (entry y i t c told vars ps s).0.stores
 entry-stores y i t c told vars ps s has = by c (nat_lt (ceiling_of y c) t.active)
   where
-    by : (z : Section) (b : Bool) → HasStores y (if b then stopped_at y t z s else entered_at y i z told vars ps s).0.stores
+    by : (z : Resource) (b : Bool) → HasStores y (if b then stopped_at y t z s else entered_at y i z told vars ps s).0.stores
     by z true = has
     by (Object k) false = set-stores y s.stores k [] has
     by (Control k) false = has
@@ -113,7 +113,7 @@ module _ (p : Program) (arrivals : Arrivals) (meets : MeetsRules p) (fits : AreF
       by_left : (i : ℕ) (t : Task) (x : Piece) (rest : List Piece) (b : Bool) → s.ran ≡ Some i → slice_get s.tasks i ≡ Some t → t.pieces ≡ x ∷ rest → (t.left == 0) ≡ b
           → Steady (if b then takes_effect y i t (done y x t.vars rest) s else goes_to Delays s).0
       by_left i t x rest true ran at has e =
-          let d : Deed = done y x t.vars rest in
+          let d : PieceOutcome = done y x t.vars rest in
           let L : List Piece → Type 0 = λ z. Lasts p arrivals z in
           let last : Lasts p arrivals (x ∷ rest) = subst L has (steady.lasts i t at) in
           let g : Goes y.threads s (acted y i t d.act d.vars d.pieces s) = acted-goes y y.threads i t d.act d.vars d.pieces s at steady.threads in

@@ -6,7 +6,7 @@ use Rattle.seq_tree.specs.Names.{same_name}
 use Rattle.ada_tree.specs.Programs.{Form, Unit, Program, Passive, Shared, Cyclic, Sporadic}
 use Rattle.arrivals_tree.specs.Arriving.{Arrivals, durations}
 use Rattle.trace_tree.specs.Lines.{unit_name}
-use Rattle.machine.specs.Systems.{Thread, Guarded, Periodic, Requested, system, thread_by, object_by}
+use Rattle.machine.specs.Systems.{TaskUnit, ProtectedUnit, Periodic, Requested, system, thread_by, object_by}
 use Rattle.guarantee.specs.Software.{program_software, task_by, guarded_by}
 use Rattle.guarantee.specs.Order.{is_task_name}
 use Rattle.written_runs.proofs.Moves.{HasUnit}
@@ -19,10 +19,10 @@ use Rattle.program_calls.proofs.Facts.{same-self}
 abbrev pub IsTask : Program → ℕ → Type 0
 IsTask p unit = is_task_name (program_software p).tasks (unit_name p unit) ≡ true
 
-abbrev pub ths_of : (ℕ → List ℕ) → ℕ → List Unit → List Thread
+abbrev pub ths_of : (ℕ → List ℕ) → ℕ → List Unit → List TaskUnit
 ths_of ds n us = filter_map (λ u. thread_by (ds u.0) u.0 u.1.name u.1.form) (enumerate_from n us)
 
-abbrev pub objects_of : ℕ → List Unit → List Guarded
+abbrev pub objects_of : ℕ → List Unit → List ProtectedUnit
 objects_of n us = filter_map (λ u. object_by u.0 u.1.name u.1.form) (enumerate_from n us)
 
 -- the tasks of the software are those of the threads
@@ -72,7 +72,7 @@ pub shared_of : (p : Program) (r : Arrivals) → (program_software p).shared ≡
 shared_of p r = objects_are 0 p.units
 
 -- a thread's name is that of a task
-among : (ths : List Thread) (k : ℕ) (th : Thread) → slice_get ths k ≡ Some th → is_task_name (map task_at ths) th.name ≡ true
+among : (ths : List TaskUnit) (k : ℕ) (th : TaskUnit) → slice_get ths k ≡ Some th → is_task_name (map task_at ths) th.name ≡ true
 among ths k th e = any-in (λ t. same_name t.name th.name) (task_at th) (map task_at ths) (in-map task_at th ths (at-in ths k th e)) (same-self th.name)
 
 pub is_task : (p : Program) (r : Arrivals) (unit : ℕ) → HasUnit (system p r).threads unit → IsTask p unit

@@ -27,6 +27,41 @@ const ADA: &str =
 const ADA_TRACE: &str =
     "0 release a\n3 put a 1\n6 put a 2\n9 put a 3\n12 end a used 12\n20 horizon\n";
 
+/// The tokens of a text with units of every kind, a space behind each.
+const UNITS: &str =
+    "pragma task_dispatching_policy ( fifo_within_priorities ) ; pragma locking_policy ( ceiling_locking ) ; with ada \
+    . real_time ; package hrt is type word is mod 2 ** 32 ; subtype moment is ada . real_time . time ; assign_cost : \
+    constant := 1 ; test_cost : constant := 1 ; turn_cost : constant := 1 ; call_cost : constant := 2 ; null_cost : \
+    constant := 1 ; put_cost : constant := 1 ; finish_cost : constant := 1 ; function epoch return moment ; function \
+    after ( start : moment ; ticks : natural ) return moment ; procedure work ( ticks : positive ) ; procedure put ( \
+    value : word ) ; procedure activation_end ; end hrt ; with hrt ; use hrt ; package d is package q is protected \
+    hrt_object is pragma priority ( 3 ) ; procedure set ( v : in word ) ; procedure get ( v : in word ; w : out word \
+    ) ; private last : word := 0 ; end hrt_object ; procedure set ( v : in word ) renames hrt_object . set ; \
+    procedure get ( v : in word ; w : out word ) renames hrt_object . get ; end q ; package s is protected hrt_obcs \
+    is pragma priority ( 3 ) ; procedure start ( v : in word ) ; entry hrt_wait ( hrt_request : out word ) ; private \
+    hrt_value : word := 0 ; hrt_open : boolean := false ; end hrt_obcs ; procedure start ( v : in word ) renames \
+    hrt_obcs . start ; task hrt_thread is pragma priority ( 2 ) ; end hrt_thread ; hrt_separation : constant := 50 ; \
+    hrt_jitter : constant := 0 ; hrt_external : constant boolean := false ; end s ; package t is protected hrt_obcs \
+    is pragma priority ( 3 ) ; procedure go ; entry hrt_wait ( hrt_request : out word ) ; private hrt_value : word \
+    := 0 ; hrt_open : boolean := false ; end hrt_obcs ; procedure go renames hrt_obcs . go ; task hrt_thread is \
+    pragma priority ( 3 ) ; end hrt_thread ; hrt_separation : constant := 80 ; hrt_jitter : constant := 5 ; \
+    hrt_external : constant boolean := true ; end t ; package a is task hrt_thread is pragma priority ( 1 ) ; end \
+    hrt_thread ; end a ; package p is procedure f ( v : in word ) ; end p ; end d ; package body d is package body q \
+    is protected body hrt_object is procedure set ( v : in word ) is begin last := v ; end set ; procedure get ( v : \
+    in word ; w : out word ) is n : word := 1 ; begin w := last + n ; end get ; end hrt_object ; end q ; package \
+    body s is protected body hrt_obcs is procedure start ( v : in word ) is begin hrt_value := v ; hrt_open := true \
+    ; end start ; entry hrt_wait ( hrt_request : out word ) when hrt_open is begin hrt_request := hrt_value ; \
+    hrt_open := false ; end hrt_wait ; end hrt_obcs ; task body hrt_thread is v : word := 0 ; begin loop hrt_obcs . \
+    hrt_wait ( v ) ; put ( v ) ; activation_end ; end loop ; end hrt_thread ; end s ; package body t is x : word := \
+    0 ; protected body hrt_obcs is procedure go is begin hrt_value := 0 ; hrt_open := true ; end go ; entry hrt_wait \
+    ( hrt_request : out word ) when hrt_open is begin hrt_request := hrt_value ; hrt_open := false ; end hrt_wait ; \
+    end hrt_obcs ; task body hrt_thread is hrt_request : word := 0 ; begin loop hrt_obcs . hrt_wait ( hrt_request ) \
+    ; q . get ( 1 , x ) ; activation_end ; end loop ; end hrt_thread ; end t ; package body a is task body \
+    hrt_thread is hrt_next : hrt . moment := hrt . after ( hrt . epoch , 0 ) ; begin loop delay until hrt_next ; \
+    hrt_next := hrt . after ( hrt_next , 100 ) ; s . start ( 7 ) ; p . f ( 1 ) ; activation_end ; end loop ; end \
+    hrt_thread ; end a ; package body p is procedure f ( v : in word ) is begin put ( v ) ; end f ; end p ; end d ; \
+    with d ; procedure hrt_main is begin null ; end hrt_main ; ";
+
 /// The tokens of a design with an object of each kind, links, units of time and a range of priorities, a space behind each.
 const DESIGN: &str =
     "design d version 2 is tick = 1 ms ; priorities 5 .. 9 ; costs assign = 1 ; test = 1 ; turn = 1 ; call = 2 ; \
@@ -161,6 +196,130 @@ const ADA_LATE: &[Late] = &[
         change: Change::Doubled,
         place: 296,
         line: 303,
+    },
+];
+
+/// The exceptions of the text with units of every kind.
+const UNITS_LATE: &[Late] = &[
+    Late {
+        change: Change::Cut,
+        place: 148,
+        line: 150,
+    },
+    Late {
+        change: Change::Cut,
+        place: 162,
+        line: 164,
+    },
+    Late {
+        change: Change::Cut,
+        place: 410,
+        line: 412,
+    },
+    Late {
+        change: Change::Cut,
+        place: 439,
+        line: 441,
+    },
+    Late {
+        change: Change::Cut,
+        place: 444,
+        line: 446,
+    },
+    Late {
+        change: Change::Cut,
+        place: 467,
+        line: 469,
+    },
+    Late {
+        change: Change::Cut,
+        place: 474,
+        line: 476,
+    },
+    Late {
+        change: Change::Cut,
+        place: 753,
+        line: 755,
+    },
+    Late {
+        change: Change::Doubled,
+        place: 558,
+        line: 563,
+    },
+    Late {
+        change: Change::Doubled,
+        place: 650,
+        line: 654,
+    },
+    Late {
+        change: Change::Doubled,
+        place: 712,
+        line: 717,
+    },
+    Late {
+        change: Change::Doubled,
+        place: 719,
+        line: 724,
+    },
+    Late {
+        change: Change::Doubled,
+        place: 749,
+        line: 754,
+    },
+    Late {
+        change: Change::Replaced,
+        place: 143,
+        line: 145,
+    },
+    Late {
+        change: Change::Replaced,
+        place: 148,
+        line: 150,
+    },
+    Late {
+        change: Change::Replaced,
+        place: 152,
+        line: 154,
+    },
+    Late {
+        change: Change::Replaced,
+        place: 162,
+        line: 164,
+    },
+    Late {
+        change: Change::Replaced,
+        place: 222,
+        line: 224,
+    },
+    Late {
+        change: Change::Replaced,
+        place: 405,
+        line: 407,
+    },
+    Late {
+        change: Change::Replaced,
+        place: 410,
+        line: 412,
+    },
+    Late {
+        change: Change::Replaced,
+        place: 471,
+        line: 474,
+    },
+    Late {
+        change: Change::Replaced,
+        place: 650,
+        line: 652,
+    },
+    Late {
+        change: Change::Replaced,
+        place: 712,
+        line: 714,
+    },
+    Late {
+        change: Change::Replaced,
+        place: 719,
+        line: 721,
     },
 ];
 
@@ -468,6 +627,22 @@ fn told_of_ada(
     Ok(refused(err))
 }
 
+/// What is told of the text with units of every kind with a token changed: its first unit, which is not run yet, where a semicolon stands
+/// in place of one.
+fn told_of_units(
+    rt: &HostRuntime,
+    change: Change,
+    place: usize,
+    is_same: bool,
+) -> Result<Told, Fail> {
+    if is_same {
+        return Ok(refused(String::from_str(rt.alloc(), "refused N1 q\n")?));
+    }
+    let line = line_of_fault(UNITS_LATE, change, place);
+    let err = format!(in rt.alloc(); "refused S1 ada line {line} column 1\n")?;
+    Ok(refused(err))
+}
+
 /// What is told of the design with a token changed. It is a design still without a unit of time, which counts ticks, without the `else`,
 /// and without a constraint, where a rule is broken.
 fn told_of_design(
@@ -506,6 +681,23 @@ fn each_token_of_an_ada_text_changed(rt: HostRuntime) -> Result<(), Fail> {
         for place in 0_usize..331 {
             let text = changed_text(&rt, ADA, change, place)?;
             let told = told_of_ada(&rt, change, place, text == whole)?;
+            let Outcome { status, out, err } = replay_up_to_20(&rt, &text)?;
+            assert_eq!(rt; status, told.status, "{place}");
+            assert_eq!(rt; out.bytes(), told.out.as_bytes(), "{place}");
+            assert_eq!(rt; err.bytes(), told.err.as_bytes(), "{place}");
+        }
+    }
+    Ok(())
+}
+
+/// The tokens before the program are those of the Ada text above.
+#[test]
+fn each_token_of_units_of_every_kind_changed(rt: HostRuntime) -> Result<(), Fail> {
+    let whole = changed_text(&rt, UNITS, Change::Cut, 774)?;
+    for change in [Change::Cut, Change::Doubled, Change::Replaced] {
+        for place in 127_usize..774 {
+            let text = changed_text(&rt, UNITS, change, place)?;
+            let told = told_of_units(&rt, change, place, text == whole)?;
             let Outcome { status, out, err } = replay_up_to_20(&rt, &text)?;
             assert_eq!(rt; status, told.status, "{place}");
             assert_eq!(rt; out.bytes(), told.out.as_bytes(), "{place}");

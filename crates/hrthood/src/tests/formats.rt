@@ -148,20 +148,6 @@ END d;
         err: "refused S1 design line 1 column 26\n",
         ..REFUSED
     },
-    Case {
-        name: "no text is made so far of a design of more than one cyclic object",
-        verb: "generate",
-        design: Shape::Children(STARTED),
-        err: "refused N1 r\n",
-        ..REFUSED
-    },
-    Case {
-        name: "nor of one that breaks a rule, which is told first",
-        verb: "generate",
-        design: Shape::Root("OBJECT a IS ACTIVE END a;"),
-        err: "refused V12 a\n",
-        ..REFUSED
-    },
 ];
 
 /// Designs of every form, which are printed again as they were printed.

@@ -34,6 +34,8 @@ pub enum Ada {
     Padded(usize),
     /// No byte.
     Empty,
+    /// These bytes.
+    Bytes(&'static str),
 }
 
 fn ada_bytes(rt: &HostRuntime, ada: Ada) -> Result<Vec<u8>, Fail> {
@@ -45,6 +47,7 @@ fn ada_bytes(rt: &HostRuntime, ada: Ada) -> Result<Vec<u8>, Fail> {
         }
         Ada::Padded(len) => padded(rt, &ada_text(rt, TASK)?, len),
         Ada::Empty => Ok(Vec::new(rt.alloc())),
+        Ada::Bytes(text) => Ok(text.as_bytes().to_vec(rt.alloc())?),
     }
 }
 

@@ -22,6 +22,8 @@ pub enum Shape {
     Doubling(u32),
     /// One cyclic object with spaces behind it, up to so many bytes.
     Padded(usize),
+    /// A cyclic object that calls, so many times, an operation whose link leads to names of 64 bytes.
+    Linked(usize),
 }
 
 /// One cyclic object that works for 3 ticks.
@@ -92,6 +94,25 @@ fn doubling(rt: &HostRuntime, count: u32) -> Result<Vec<u8>, Fail> {
     design(rt, "IS", &root)
 }
 
+const LINKED: &str = "OBJECT r IS ACTIVE OBJECTS OBJECT a IS ACTIVE PROVIDES f PAER; OBJECTS \
+     OBJECT nnnnnnnnnnnnnnnnnnnnnnnnnnnnnnnnnnnnnnnnnnnnnnnnnnnnnnnnnnnnnnnn IS PROTECTED \
+     PROVIDES mmmmmmmmmmmmmmmmmmmmmmmmmmmmmmmmmmmmmmmmmmmmmmmmmmmmmmmmmmmmmmmm PAER; \
+     OPERATION mmmmmmmmmmmmmmmmmmmmmmmmmmmmmmmmmmmmmmmmmmmmmmmmmmmmmmmmmmmmmmmm IS BEGIN null; \
+     END mmmmmmmmmmmmmmmmmmmmmmmmmmmmmmmmmmmmmmmmmmmmmmmmmmmmmmmmmmmmmmmm; \
+     END nnnnnnnnnnnnnnnnnnnnnnnnnnnnnnnnnnnnnnnnnnnnnnnnnnnnnnnnnnnnnnnn; IMPLEMENTS f BY \
+     nnnnnnnnnnnnnnnnnnnnnnnnnnnnnnnnnnnnnnnnnnnnnnnnnnnnnnnnnnnnnnnn.mmmmmmmmmmmmmmmmmmmmmmmmmmmmmmmmmmmmmmmmmmmmmmmmmmmmmmmmmmmmmmmm; \
+     END a; OBJECT c IS CYCLIC ATTRIBUTES PERIOD = 1000000; DEADLINE = 1000000; THREAD_BUDGET = 1000000; \
+     REQUIRES a.f; THREAD ";
+
+fn linked(rt: &HostRuntime, calls: usize) -> Result<Vec<u8>, Fail> {
+    let mut root = String::from_str(rt.alloc(), LINKED)?;
+    for _ in 0..calls {
+        root.push_str("a.f; ")?;
+    }
+    root.push_str("END THREAD; END c; END r;")?;
+    design(rt, "IS", &root)
+}
+
 /// The bytes of a design.
 pub fn shape_bytes(rt: &HostRuntime, shape: Shape) -> Result<Vec<u8>, Fail> {
     match shape {
@@ -109,5 +130,6 @@ pub fn shape_bytes(rt: &HostRuntime, shape: Shape) -> Result<Vec<u8>, Fail> {
         Shape::Sum(operators) => sum(rt, operators),
         Shape::Doubling(count) => doubling(rt, count),
         Shape::Padded(len) => padded(rt, &design(rt, "IS", CYCLIC)?, len),
+        Shape::Linked(calls) => linked(rt, calls),
     }
 }

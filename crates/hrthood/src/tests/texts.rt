@@ -158,3 +158,41 @@ pub const GIVES_NOTHING: Task = Task {
     vars: " x : word := 5;",
     ..TASK
 };
+
+/// A task with a sporadic unit whose requests come from outside.
+pub const REQUESTED: Task = Task {
+    heads: " package s is protected hrt_obcs is pragma priority (2); procedure start (v : in word); \
+        entry hrt_wait (hrt_request : out word); private hrt_value : word := 0; hrt_open : boolean := false; end hrt_obcs; \
+        procedure start (v : in word) renames hrt_obcs.start; task hrt_thread is pragma priority (2); end hrt_thread; \
+        hrt_separation : constant := 50; hrt_jitter : constant := 5; hrt_external : constant boolean := true; end s;",
+    bodies: " package body s is protected body hrt_obcs is procedure start (v : in word) is begin \
+        hrt_value := v; hrt_open := true; end start; entry hrt_wait (hrt_request : out word) when hrt_open is begin \
+        hrt_request := hrt_value; hrt_open := false; end hrt_wait; end hrt_obcs; \
+        task body hrt_thread is v : word := 0; begin loop hrt_obcs.hrt_wait (v); work (4); activation_end; end loop; \
+        end hrt_thread; end s;",
+    ..TASK
+};
+
+/// A task with a protected unit and a passive one.
+pub const PROTECTED: Task = Task {
+    heads: " package q is protected hrt_object is pragma priority (3); procedure set; private end hrt_object; \
+        procedure set renames hrt_object.set; end q; package p is procedure f; end p;",
+    bodies: " package body q is protected body hrt_object is procedure set is begin work (2); end set; end hrt_object; end q; \
+        package body p is procedure f is begin null; end f; end p;",
+    block: "q.set; p.f;",
+    ..TASK
+};
+
+/// The tasks of the second worked example of schedules: periods 7, 12 and 20, the shortest with the greatest priority.
+pub const THREE_TASKS: Task = Task {
+    unit: "c",
+    period: 20,
+    heads: " package a is task hrt_thread is pragma priority (3); end hrt_thread; end a; \
+        package b is task hrt_thread is pragma priority (2); end hrt_thread; end b;",
+    bodies: " package body a is task body hrt_thread is hrt_next : hrt.moment := hrt.after (hrt.epoch, 0); begin loop \
+        delay until hrt_next; hrt_next := hrt.after (hrt_next, 7); work (2); activation_end; end loop; end hrt_thread; end a; \
+        package body b is task body hrt_thread is hrt_next : hrt.moment := hrt.after (hrt.epoch, 0); begin loop \
+        delay until hrt_next; hrt_next := hrt.after (hrt_next, 12); work (2); activation_end; end loop; end hrt_thread; end b;",
+    block: "work (4);",
+    ..TASK
+};

@@ -8,9 +8,9 @@ use Rattle.ada_read.proofs.heads.heads.Goals as goal
 
 pub heads-smaller : goal.heads-smaller
 heads-smaller c =
-    omega (arith, head-shorter c.heads.seen (bare c.heads.rest.now) (head_of c.in_ok-next.next) (bare c.in_ok-next.after.now) c.in_ok-next.ensures, length-map c.heads.rest.now (λ (s : Spanned). s.token), length-map c.in_ok-next.after.now (λ (s : Spanned). s.token))
+    omega (arith, head-shorter (bare c.heads.rest.now) (head_of c.in_ok-next.next) (bare c.in_ok-next.after.now) c.in_ok-next.ensures, length-map c.heads.rest.now (λ (s : Spanned). s.token), length-map c.in_ok-next.after.now (λ (s : Spanned). s.token))
 
 pub heads-preserved : goal.heads-preserved
 heads-preserved c =
-    rw (c.in_ok-push.ensures.items, map-append, c.seen_after-seen.ensures)
-    (head-turn (map head_of c.heads.heads.items) c.heads.seen (bare c.heads.rest.now) (head_of c.in_ok-next.next) (bare c.in_ok-next.after.now) (sym c.heads-test.ensures) c.in_ok-next.ensures ∙ c.heads.invariant)
+    rw (c.in_ok-push.ensures.items, map-append)
+    (head-turn (map head_of c.heads.heads.items) (bare c.heads.rest.now) (head_of c.in_ok-next.next) (bare c.in_ok-next.after.now) (sym c.heads-test.ensures) c.in_ok-next.ensures ∙ c.heads.invariant)

@@ -17,8 +17,8 @@ returns-in-Ok-whole-clause-says c =
     judged-says c.args.bytes.now c.in-Ok.found.items (program_of c.in-Ok-whole.program) c.judged.result (omega arith) c.in-Ok.ensures (ap read_as (sym c.deref.ensures.value) ∙ c.in-Ok-whole.ensures) c.judged.ensures
 
 pub returns-in-Ok-whole-clause-only : goal.returns-in-Ok-whole-clause-only
-returns-in-Ok-whole-clause-only c p sequential a =
-    judged-only c.args.bytes.now c.in-Ok.found.items (program_of c.in-Ok-whole.program) c.judged.result c.in-Ok.ensures (ap read_as (sym c.deref.ensures.value) ∙ c.in-Ok-whole.ensures) c.judged.ensures p sequential a
+returns-in-Ok-whole-clause-only c p a =
+    judged-only c.args.bytes.now c.in-Ok.found.items (program_of c.in-Ok-whole.program) c.judged.result c.in-Ok.ensures (ap read_as (sym c.deref.ensures.value) ∙ c.in-Ok-whole.ensures) c.judged.ensures p a
 
 pub returns-in-Err-Syntax-clause-says : goal.returns-in-Err-Syntax-clause-says
 returns-in-Err-Syntax-clause-says c =

@@ -1,31 +1,35 @@
-use Rattle.std.proofs.Common.{◌<◌, length, ap, subst, ◌∙◌, unwrap_or, arith}
-use Rattle.bridge.specs.Makes.{alone}
-use Rattle.bridge.proofs.LoneLaws.{missed-made, least-made, ceilings-lone, told_miss}
+use Rattle.std.proofs.Common.{refl, arith}
+use Rattle.ods_tree.specs.Trees.{design_of, flat_of}
+use Rattle.ods_rules.specs.Checks.{checked_design}
+use Rattle.bridge.proofs.MadeDesigns.{sound-of, small-of, some-of, room-of, made-of, long-of}
 use Rattle.bridge.proofs.making.make.Goals as goal
 
-pub returns-then-deadline-cost : goal.returns-then-deadline-cost
-returns-then-deadline-cost c =
-    told_miss c.args.lone c.cost_of-cost.result c.unwrap_or-deadline.result c.in_ok-copy.field-0 c.from.result c.in_ok-copy.ensures c.from.ensures
-    (missed-made c.args.lone c.cost_of-cost.result c.unwrap_or-deadline.result c.requires.usable c.cost_of-cost.ensures
-    (c.unwrap_or-deadline.ensures ∙ ap (λ o. unwrap_or o 0) c.attribute.ensures) c.if-deadline-cost.true)
+pub analyse-requires-clause-sound : goal.analyse-requires-clause-sound
+analyse-requires-clause-sound c =
+    sound-of (checked_design c.args.checked.now) (design_of c.design.result.now) c.design.ensures.same c.design.ensures.ticked c.first_priority-first.result c.first_priority-first.ensures
+    (flat_of c.in_ok-flat.flat) c.in_ok-flat.ensures
+
+pub analyse-requires-clause-first : goal.analyse-requires-clause-first
+analyse-requires-clause-first c =
+    small-of (checked_design c.args.checked.now) (design_of c.design.result.now) c.design.ensures.same c.design.ensures.ticked c.first_priority-first.result c.first_priority-first.ensures
+    (flat_of c.in_ok-flat.flat) c.in_ok-flat.ensures
+
+pub text_of-requires-clause-first : goal.text_of-requires-clause-first
+text_of-requires-clause-first c =
+    some-of (checked_design c.args.checked.now) (design_of c.design.result.now) c.design.ensures.same c.design.ensures.ticked c.first_priority-first.result c.first_priority-first.ensures
+    (flat_of c.in_ok-flat.flat) c.in_ok-flat.ensures
+
+pub text_of-requires-clause-room : goal.text_of-requires-clause-room
+text_of-requires-clause-room c =
+    room-of (checked_design c.args.checked.now) (design_of c.design.result.now) c.design.ensures.same c.design.ensures.ticked c.first_priority-first.result c.first_priority-first.ensures
+    (flat_of c.in_ok-flat.flat) c.in_ok-flat.ensures
 
 pub returns-then-len-gt-MOST_BYTES : goal.returns-then-len-gt-MOST_BYTES
-returns-then-len-gt-MOST_BYTES c = record {
-  bounds = alone c.cost_of-cost.result;
-  least = least-made c.args.lone c.cost_of-cost.result c.unwrap_or-deadline.result c.requires.usable c.requires.meets c.cost_of-cost.ensures
-      (c.unwrap_or-deadline.ensures ∙ ap (λ o. unwrap_or o 0) c.attribute.ensures) (let within = c.if-deadline-cost.false in omega (arith, within));
-  long = let over = c.if-len-gt-MOST_BYTES.true in
-      let bytes : 16777216 < length c.in_ok-text.text.items = omega (arith, over, c.len.ensures, c.in_ok-text.text.ok.0) in
-      subst (λ t. 16777216 < length t) c.in_ok-text.ensures bytes;
-}
+returns-then-len-gt-MOST_BYTES c =
+    long-of (checked_design c.args.checked.now) (design_of c.design.result.now) c.design.ensures.same c.design.ensures.ticked c.first_priority-first.result c.first_priority-first.ensures
+    (flat_of c.in_ok-flat.flat) c.in_ok-flat.ensures c.in-Ok.analysis c.in-Ok.ensures c.in_ok-text.text.items c.in_ok-text.ensures (omega (arith, c.len.ensures, c.if-len-gt-MOST_BYTES.true))
 
 pub returns : goal.returns
-returns c = record {
-  bounds = alone c.cost_of-cost.result;
-  least = least-made c.args.lone c.cost_of-cost.result c.unwrap_or-deadline.result c.requires.usable c.requires.meets c.cost_of-cost.ensures
-      (c.unwrap_or-deadline.ensures ∙ ap (λ o. unwrap_or o 0) c.attribute.ensures) (let within = c.if-deadline-cost.false in omega (arith, within));
-  made = c.in_ok-text.ensures;
-  short = let within = c.if-len-gt-MOST_BYTES.false in omega (arith, within, c.len.ensures, c.in_ok-text.text.ok.0);
-  named = c.in_ok-bounds_of.ensures;
-  ceilings = c.new.ensures.items ∙ ceilings-lone c.args.lone;
-}
+returns c =
+    made-of (checked_design c.args.checked.now) (design_of c.design.result.now) c.design.ensures.same c.design.ensures.ticked c.first_priority-first.result c.first_priority-first.ensures
+    (flat_of c.in_ok-flat.flat) c.in_ok-flat.ensures c.in-Ok.analysis c.in-Ok.ensures _ c.in_ok-text.ensures (omega (arith, c.len.ensures, c.if-len-gt-MOST_BYTES.false)) refl refl

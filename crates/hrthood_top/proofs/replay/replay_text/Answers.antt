@@ -11,6 +11,6 @@ returns-in-Err-Text c =
       program = _;
       accepts = c.in_ok-program.ensures.says.0;
       sequential = c.in_ok-program.ensures.says.1;
-      alone = λ p sequential accepts. sym (c.in_ok-program.ensures.only p sequential accepts);
+      alone = λ p accepts. sym (c.in_ok-program.ensures.only p accepts);
       none = no-arrivals _ _ c.in-Err-Text.fault says (λ place e. c.in-Err-Text.ensures.first place (ap Err is ∙ ap (λ f. Err (Text f)) e));
     })

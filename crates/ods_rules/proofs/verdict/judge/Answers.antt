@@ -1,7 +1,7 @@
 use Rattle.std.proofs.Common.{subst}
 use Rattle.ods_tree.specs.Trees.{design_of}
 use Rattle.ods_rules.specs.declared.verdict.Rule.{Rule}
-use Rattle.ods_rules.specs.Judging.{PassesBefore}
+use Rattle.ods_index.specs.Judging.{PassesBefore}
 use Rattle.ods_rules.specs.Orders.{rule_of}
 use Rattle.ods_rules.proofs.verdict.judge.Goals as goal
 

@@ -1,0 +1,13 @@
+//! Whether a flat design meets its deadlines, and by which margin: priorities, ceilings, the table and the least bounds.
+//!
+//! It stands on the order of `rt_order`, the table of `rt_block` and the rounds of `rt_response`. `analyse` carries its promise: of
+//! every sound flat design the priorities, ceilings, table and least bounds, with the names of threads and objects and in the
+//! numbers of the design, or else the first value that is over its limit.
+#![tactic(auto)]
+
+mod analysing;
+mod naming;
+mod rows;
+
+pub use analysing::analyse;
+pub use rows::{Analysis, CeilingRow, NamedBound, NoBounds};

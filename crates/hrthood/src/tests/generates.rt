@@ -1,0 +1,345 @@
+//! Designs of every kind of object, and the Ada texts that are made of them.
+
+use super::cases::{Case, IN_MILLISECONDS, MINE, STARTED, run_case, run_design};
+use super::rows::{Outcome, run_words};
+use super::shapes::Shape;
+use hood_io::MemShelf;
+use hrthood_top::Status;
+use std::test::Fail;
+
+/// A passive, a protected, a cyclic and a sporadic object.
+const EVERY_KIND: &str = "DESIGN d IS
+COSTS ASSIGN = 1; TEST = 1; TURN = 1; CALL = 2; NULL = 1; PUT = 1; FINISH = 1; END COSTS;
+OBJECT whole IS ACTIVE
+OBJECTS
+  OBJECT p IS PASSIVE
+  PROVIDES next (a : in word; r : out word);
+  OPERATION next IS t : word := 1; BEGIN r := a * 3 + t; END next;
+  END p;
+  OBJECT q IS PROTECTED
+  PROVIDES set (v : in word) PAER;
+  DATA last : word := 0;
+  OPERATION set IS BEGIN last := v; END set;
+  END q;
+  OBJECT c IS CYCLIC
+  ATTRIBUTES PERIOD = 100; DEADLINE = 100; THREAD_BUDGET = 20;
+  REQUIRES p.next; s.start;
+  DATA x : word := 0;
+  THREAD p.next (x, x); s.start (x); END THREAD;
+  END c;
+  OBJECT s IS SPORADIC
+  ATTRIBUTES SEPARATION = 50; DEADLINE = 50; THREAD_BUDGET = 20;
+  PROVIDES start (v : in word) ASER;
+  REQUIRES q.set;
+  THREAD q.set (v); work (4); END THREAD;
+  END s;
+END whole;
+END d;
+";
+
+/// The text of its program. The request takes 2 ticks of the structure of `s`, which `s` can meet: it responds within 10. In the 8 ticks of
+/// `c` come the 8 of one activation of `s`, and `s` inherits those 16.
+const EVERY_KIND_TEXT: &str = "-- design d
+-- thread s priority 2 jitter 16 response 10 deadline 50
+-- thread c priority 1 jitter 0 response 16 deadline 100
+pragma task_dispatching_policy (fifo_within_priorities);
+pragma locking_policy (ceiling_locking);
+with ada.real_time;
+package hrt is
+   type word is mod 2 ** 32;
+   subtype moment is ada.real_time.time;
+   assign_cost : constant := 1;
+   test_cost : constant := 1;
+   turn_cost : constant := 1;
+   call_cost : constant := 2;
+   null_cost : constant := 1;
+   put_cost : constant := 1;
+   finish_cost : constant := 1;
+   function epoch return moment;
+   function after (start : moment; ticks : natural) return moment;
+   procedure work (ticks : positive);
+   procedure put (value : word);
+   procedure activation_end;
+end hrt;
+with hrt;
+use hrt;
+package d is
+   package p is
+      procedure next (a : in word; r : out word);
+   end p;
+   package q is
+      protected hrt_object is
+         pragma priority (2);
+         procedure set (v : in word);
+      private
+         last : word := 0;
+      end hrt_object;
+      procedure set (v : in word) renames hrt_object.set;
+   end q;
+   package c is
+      task hrt_thread is
+         pragma priority (1);
+      end hrt_thread;
+   end c;
+   package s is
+      protected hrt_obcs is
+         pragma priority (2);
+         procedure start (v : in word);
+         entry hrt_wait (hrt_request : out word);
+      private
+         hrt_value : word := 0;
+         hrt_open : boolean := false;
+      end hrt_obcs;
+      procedure start (v : in word) renames hrt_obcs.start;
+      task hrt_thread is
+         pragma priority (2);
+      end hrt_thread;
+      hrt_separation : constant := 50;
+      hrt_jitter : constant := 0;
+      hrt_external : constant boolean := false;
+   end s;
+end d;
+package body d is
+   package body p is
+      procedure next (a : in word; r : out word) is
+         t : word := 1;
+      begin
+         r := a * 3 + t;
+      end next;
+   end p;
+   package body q is
+      protected body hrt_object is
+         procedure set (v : in word) is
+         begin
+            last := v;
+         end set;
+      end hrt_object;
+   end q;
+   package body c is
+      x : word := 0;
+      task body hrt_thread is
+         hrt_next : hrt.moment := hrt.after (hrt.epoch, 0);
+      begin
+         loop
+            delay until hrt_next;
+            hrt_next := hrt.after (hrt_next, 100);
+            p.next (x, x);
+            s.start (x);
+            activation_end;
+         end loop;
+      end hrt_thread;
+   end c;
+   package body s is
+      protected body hrt_obcs is
+         procedure start (v : in word) is
+         begin
+            hrt_value := v;
+            hrt_open := true;
+         end start;
+         entry hrt_wait (hrt_request : out word) when hrt_open is
+         begin
+            hrt_request := hrt_value;
+            hrt_open := false;
+         end hrt_wait;
+      end hrt_obcs;
+      task body hrt_thread is
+         v : word := 0;
+      begin
+         loop
+            hrt_obcs.hrt_wait (v);
+            q.set (v);
+            work (4);
+            activation_end;
+         end loop;
+      end hrt_thread;
+   end s;
+end d;
+with d;
+procedure hrt_main is
+begin
+   null;
+end hrt_main;
+";
+
+/// A text of a design in which the least priority is written as 31, and a tick takes half a millisecond.
+const IN_MILLISECONDS_TEXT: &str = "-- design d
+-- thread a priority 31 jitter 0 response 4 deadline 10
+pragma task_dispatching_policy (fifo_within_priorities);
+pragma locking_policy (ceiling_locking);
+with ada.real_time;
+package hrt is
+   type word is mod 2 ** 32;
+   subtype moment is ada.real_time.time;
+   assign_cost : constant := 1;
+   test_cost : constant := 1;
+   turn_cost : constant := 1;
+   call_cost : constant := 2;
+   null_cost : constant := 1;
+   put_cost : constant := 1;
+   finish_cost : constant := 1;
+   function epoch return moment;
+   function after (start : moment; ticks : natural) return moment;
+   procedure work (ticks : positive);
+   procedure put (value : word);
+   procedure activation_end;
+end hrt;
+with hrt;
+use hrt;
+package d is
+   package a is
+      task hrt_thread is
+         pragma priority (31);
+      end hrt_thread;
+   end a;
+end d;
+package body d is
+   package body a is
+      task body hrt_thread is
+         hrt_next : hrt.moment := hrt.after (hrt.epoch, 0);
+      begin
+         loop
+            delay until hrt_next;
+            hrt_next := hrt.after (hrt_next, 10);
+            work (3);
+            activation_end;
+         end loop;
+      end hrt_thread;
+   end a;
+end d;
+with d;
+procedure hrt_main is
+begin
+   null;
+end hrt_main;
+";
+
+/// A design of which a text is made.
+const MADE: Case = Case {
+    name: "a design of every kind of object",
+    verb: "generate",
+    design: Shape::Whole(EVERY_KIND),
+    status: Status::Done,
+    out: EVERY_KIND_TEXT,
+    err: "",
+};
+
+/// A design of which no text is made.
+const REFUSED: Case = Case {
+    status: Status::Refused,
+    out: "",
+    ..MADE
+};
+
+/// Designs under `generate`.
+const GENERATED: &[Case] = &[
+    MADE,
+    Case {
+        name: "times with units and a range of priorities",
+        design: Shape::Two("TICK = 500 us; PRIORITIES 31 .. 60;", IN_MILLISECONDS),
+        out: IN_MILLISECONDS_TEXT,
+        ..MADE
+    },
+    Case {
+        name: "the rounds of the last of three threads",
+        design: Shape::Children(
+            "OBJECT a IS CYCLIC ATTRIBUTES PERIOD = 7; DEADLINE = 7; THREAD_BUDGET = 1000; THREAD work (2); END THREAD; END a; \
+             OBJECT b IS CYCLIC ATTRIBUTES PERIOD = 12; DEADLINE = 12; THREAD_BUDGET = 1000; THREAD work (2); END THREAD; END b; \
+             OBJECT c IS CYCLIC ATTRIBUTES PERIOD = 20; DEADLINE = 20; THREAD_BUDGET = 1000; THREAD work (5); END THREAD; END c;",
+        ),
+        err: "refused U1 c value 21 limit 20 round 3\n",
+        ..REFUSED
+    },
+    Case {
+        name: "jitter and response over the separation",
+        design: Shape::Root(
+            "OBJECT s IS SPORADIC ATTRIBUTES SEPARATION = 10; DEADLINE = 10; THREAD_BUDGET = 1000; ARRIVAL_JITTER = 6; \
+             PROVIDES start (v : in word) ASER; THREAD work (4); END THREAD; END s;",
+        ),
+        err: "refused U2 s value 11 limit 10 round 0\n",
+        ..REFUSED
+    },
+    Case {
+        name: "a text over its limit of a design of 650,000 bytes",
+        design: Shape::Linked(130_000),
+        err: "refused S3 text\n",
+        ..REFUSED
+    },
+    Case {
+        name: "a rule that is broken goes before bounds",
+        design: Shape::Root("OBJECT a IS ACTIVE END a;"),
+        err: "refused V12 a\n",
+        ..REFUSED
+    },
+];
+
+/// The heads of texts: the comments before the first line of the program.
+const HEADS: &[Case] = &[
+    Case {
+        name: "a thread that starts another",
+        design: Shape::Children(STARTED),
+        out: "-- design d
+-- thread s priority 2 jitter 10 response 7 deadline 20
+-- thread p priority 1 jitter 0 response 10 deadline 50
+pragma task_dispatching_policy (fifo_within_priorities);
+",
+        ..MADE
+    },
+    Case {
+        name: "the mine pump",
+        design: Shape::Whole(MINE),
+        out: "-- design mine
+-- thread ch4_sensor priority 6 jitter 0 response 23 deadline 30
+-- thread alarm_console priority 5 jitter 23 response 29 deadline 50
+-- thread co_sensor priority 4 jitter 0 response 45 deadline 60
+-- thread air_flow priority 3 jitter 0 response 55 deadline 100
+-- thread water_handler priority 2 jitter 5 response 72 deadline 200
+-- thread flow_sensor priority 1 jitter 0 response 128 deadline 900
+pragma task_dispatching_policy (fifo_within_priorities);
+",
+        ..MADE
+    },
+];
+
+#[test]
+fn texts_of_designs(rt: HostRuntime) -> Result<(), Fail> {
+    for case in GENERATED {
+        let Outcome { status, out, err } = run_case(&rt, case)?;
+        assert_eq!(rt; status, case.status, "{}", case.name);
+        assert_eq!(rt; out.bytes(), case.out.as_bytes(), "{}", case.name);
+        assert_eq!(rt; err.bytes(), case.err.as_bytes(), "{}", case.name);
+    }
+    Ok(())
+}
+
+#[test]
+fn heads_of_texts_of_designs(rt: HostRuntime) -> Result<(), Fail> {
+    for case in HEADS {
+        let Outcome { status, out, err } = run_case(&rt, case)?;
+        assert_eq!(rt; status, case.status, "{}", case.name);
+        assert!(rt;
+            out.bytes().starts_with(case.out.as_bytes()),
+            "{}",
+            case.name
+        );
+        assert_eq!(rt; err.bytes(), case.err.as_bytes(), "{}", case.name);
+    }
+    Ok(())
+}
+
+/// The text of a design is read as a program that meets the rules: it is refused for nothing but its first unit that is not run so far.
+#[test]
+fn texts_of_designs_are_accepted(rt: HostRuntime) -> Result<(), Fail> {
+    for (design, unit) in [(EVERY_KIND, "refused N1 q\n"), (MINE, "refused N1 motor\n")] {
+        let Outcome { status, out, err } = run_design(&rt, "generate", design.as_bytes())?;
+        assert_eq!(rt; status, Status::Done, "{unit}");
+        assert_eq!(rt; err.bytes(), b"".as_slice(), "{unit}");
+        let mut shelf = MemShelf::new(rt.alloc(), &[])?;
+        shelf.put("a", out.bytes())?;
+        shelf.put("r", b"UNTIL 20;")?;
+        let Outcome { status, out, err } = run_words(&rt, &["replay", "a", "r"], &mut shelf, 1000)?;
+        assert_eq!(rt; status, Status::Refused, "{unit}");
+        assert_eq!(rt; out.bytes(), b"".as_slice(), "{unit}");
+        assert_eq!(rt; err.bytes(), unit.as_bytes());
+    }
+    Ok(())
+}

@@ -1,0 +1,23 @@
+use Rattle.std.proofs.Common.{rules, Option, ◌≡◌, ◌++◌, map, ap, ◌∙◌}
+use Rattle.std.specs.Prelude.{option_map, IfOk}
+use Rattle.std.proofs.lemmas.Result.{IfOk-weaker}
+use Rattle.seq_tree.specs.Names.{Name}
+use Rattle.seq_tree.specs.Statements.{Statements}
+use Rattle.seq_tree.specs.Trees.{block_of}
+use Rattle.seq_cost.specs.Tables.{at}
+use Rattle.ods_tree.specs.Designs.{Design}
+use Rattle.ods_tree.specs.declared.design.Node.{the_lemmas}
+use Rattle.ods_costs.specs.Costed.{block_in, served_as, served_ops}
+use Rattle.ods_index.specs.Walking.{object_of}
+use Rattle.ods_costs.proofs.ServedSteps.{served-same}
+use Rattle.ods_costs.proofs.services.add_own.Goals as goal
+
+pub returns : goal.returns
+returns c =
+    let o = object_of c.args.node.now in
+    let look : Name → Option Statements = λ op. option_map (λ b. block_of b.now) (at c.in_ok-blocks.blocks (record { object = o.name; op = op })) in
+    let looks : (op : Name) → look op ≡ block_in o op = λ op. search (rules, the_lemmas, c.in_ok-blocks.ensures op) in
+    let given : IfOk c.add_operations.result (λ _. (x : Design) → map (served_as x) c.add_operations.new.into.items ≡ map (served_as x) c.args.into.now.items ++ served_ops x o.name look o.provides) = search (rules, the_lemmas) in
+    IfOk-weaker c.add_operations.result (λ _. (x : Design) → map (served_as x) c.add_operations.new.into.items ≡ map (served_as x) c.args.into.now.items ++ served_ops x o.name look o.provides)
+    (λ _. (x : Design) → map (served_as x) c.add_operations.new.into.items ≡ map (served_as x) c.args.into.now.items ++ served_ops x o.name (block_in o) o.provides)
+    (λ done is x. is x ∙ ap (λ l. map (served_as x) c.args.into.now.items ++ l) (served-same x o.name look (block_in o) o.provides looks)) given

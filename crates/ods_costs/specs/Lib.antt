@@ -1,0 +1,2 @@
+pub mod Costed
+pub mod Settled

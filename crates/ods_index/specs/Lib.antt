@@ -1,0 +1,9 @@
+pub mod Walking
+pub mod Nodes
+pub mod Tables
+pub mod Indexing
+pub mod Linked
+pub mod Scoped
+pub mod Told
+pub mod Judging
+pub mod OpPlaces

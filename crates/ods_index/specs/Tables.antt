@@ -1,0 +1,27 @@
+-- Tables of names: the place of the first of a name.
+-- A table is kept in the order of the bytes of its names.
+use Rattle.std.specs.Prelude.{ℕ, suc, List, [], ◌∷◌, Option, Some, None, cond}
+use Rattle.std.specs.Ordering.{nat_cmp}
+use Rattle.std.specs.Cmp.Lexicographic.{slice_cmp}
+use Rattle.std.specs.BTreeMap.{get_by}
+use Rattle.seq_tree.specs.Names.{Name, same_name}
+use Rattle.ods_tree.specs.declared.design.Provided.{Provided}
+use Rattle.ods_index.specs.declared.tables.Places.{Places}
+use Rattle.ods_index.specs.declared.walk.Standing.{Standing}
+use Rattle.ods_index.specs.Walking.{object_of}
+
+-- the place of the first of a name, where the places begin with this one
+abbrev pub place_from : ℕ → Name → List Name → Option ℕ
+place_from place name [] = None
+place_from place name (first ∷ rest) = cond (same_name first name) (Some place) (place_from (suc place) name rest)
+
+-- the name of an operation, and of an object
+abbrev pub op_name : Provided → Name
+op_name p = p.sig.name
+
+abbrev pub object_name : Standing → Name
+object_name s = (object_of s.node.now).name
+
+-- the place that a table has for a name
+unfoldable pub place_in : Places → Name → Option ℕ
+place_in t name = get_by (λ k. slice_cmp nat_cmp name k.now) t.map

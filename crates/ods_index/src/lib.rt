@@ -1,0 +1,30 @@
+//! A design as its rules read it: its objects in flattened order, tables of their names and operations, and what calls mean by links.
+//!
+//! It stands on the designs of `ods_tree`, the rules of `design_rules`, the faults of bodies of `seq_check` and the calls of
+//! `seq_cost`. `Broken` is what is told of a rule that a design breaks; the crates above find it.
+#![tactic(auto)]
+
+mod attributes;
+mod broken;
+mod index;
+mod kinds;
+mod links;
+mod ops;
+mod required;
+mod scopes;
+mod tables;
+mod walk;
+
+pub use attributes::{attribute, attribute_count, attribute_or_0};
+pub use broken::Broken;
+pub use index::Index;
+pub use kinds::{
+    has_thread, is_empty, is_idle_active, is_passive, is_protected, is_sporadic, is_terminal,
+    kind_place,
+};
+pub use links::{Links, OpView};
+pub use ops::{called_place, op_places, ops_of};
+pub use required::Required;
+pub use scopes::{Meanings, Scope};
+pub use tables::{OpTable, Places, places_of};
+pub use walk::{Standing, objects_of};

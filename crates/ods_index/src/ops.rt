@@ -1,0 +1,98 @@
+ghost use Rattle.std.specs.Prelude.{◌≡◌, ◌∷◌, ◌++◌, [], Some, None, IfOk, OnOk, if◌then◌else◌, filter, flat_map, map};
+ghost use Rattle.seq_tree.specs.Calls.{same_op};
+ghost use Rattle.seq_tree.specs.declared.tree.OpName.{OpName};
+ghost use Rattle.seq_cost.specs.Different.{call_of};
+ghost use Rattle.seq_cost.specs.Tables.{at};
+ghost use Rattle.ods_tree.specs.Links.{first_of, resolve};
+ghost use Rattle.ods_tree.specs.Trees.{design_of, provided_of};
+ghost use Rattle.ods_tree.specs.Walk.{is_terminal};
+ghost use Rattle.ods_index.specs.Linked.{op_of};
+ghost use Rattle.ods_index.specs.OpPlaces.{op_place_from, own_ops};
+ghost use Rattle.ods_index.specs.Walking.{standing_of};
+
+use crate::kinds::is_terminal;
+use crate::links::{Links, OpView};
+use crate::walk::Standing;
+use ods_tree::Provided;
+use seq_cost::{Call, OpTable};
+use seq_tree::{Name, NoMemory};
+use std::alloc::Global;
+
+/// Adds the operations that an object provides.
+fn add_provided<'a>(
+    ops: &mut Vec<OpView<'a>>,
+    object: &'a Name,
+    provides: &'a [Provided],
+) -> Result<(), NoMemory>
+    ensures { OnOk result (map op_of ops.new.items ≡ map op_of ops.old.items ++ map (λ p. record { object = object.entry.now; op = p.sig.name }) (map provided_of provides.entry.now)) }
+{
+    'provides: for provided in provides {
+        ops.push(OpView {
+            object,
+            op: &provided.sig.name,
+        })?;
+    }
+    Ok(())
+}
+
+/// Adds the operations of an object, where it has no children.
+fn add_ops<'a>(ops: &mut Vec<OpView<'a>>, standing: &Standing<'a>) -> Result<(), NoMemory>
+    ensures { OnOk result (map op_of ops.new.items ≡ map op_of ops.old.items ++ flat_map own_ops (filter is_terminal (standing_of standing.entry.now ∷ []))) }
+{
+    if !is_terminal(standing.node) {
+        return Ok(());
+    }
+    add_provided(ops, &standing.node.name, standing.node.provides.as_slice())
+}
+
+/// The operations of the terminal ones of these objects, in order, and of each in order of providing.
+pub fn ops_of<'a>(alloc: Global, objects: &[Standing<'a>]) -> Result<Vec<OpView<'a>>, NoMemory>
+    ensures { IfOk result (λ v. map op_of v.items ≡ flat_map own_ops (filter is_terminal (map standing_of objects.entry.now))) }
+{
+    let mut ops = Vec::new(alloc);
+    'objects: for standing in objects {
+        add_ops(&mut ops, standing)?;
+    }
+    Ok(ops)
+}
+
+/// Gives an operation a place, where it has none.
+fn add_place<'a>(
+    alloc: Global,
+    places: &mut OpTable<'a, usize>,
+    op: &OpView<'a>,
+    place: usize,
+) -> Result<(), NoMemory>
+    ensures { OnOk result ((n : OpName) → at places.new n ≡ first_of (at places.old n) (if same_op (op_of op.entry.now) n then Some place else None)) }
+{
+    match places.get(op.object, op.op) {
+        Some(_) => Ok(()),
+        None => Ok(places.put(alloc, op.object, op.op, place)?),
+    }
+}
+
+/// The places of operations by their names: of those of one name the first.
+pub fn op_places<'a>(alloc: Global, ops: &[OpView<'a>]) -> Result<OpTable<'a, usize>, NoMemory>
+    ensures { IfOk result (λ t. (n : OpName) → at t n ≡ op_place_from 0 (map op_of ops.entry.now) n) }
+{
+    let mut places = OpTable::new(alloc);
+    'ops: for (place, op) in ops.iter().enumerate() {
+        add_place(alloc, &mut places, op, place)?;
+    }
+    Ok(places)
+}
+
+/// The place of what a call means, where it is that of an operation.
+pub fn called_place<'a>(
+    links: &Links<'a>,
+    places: &OpTable<'a, usize>,
+    call: &Call<'a>,
+) -> Option<usize>
+    ensures { result ≡ at places.now (resolve (design_of links.now.design.now) (call_of call.entry.now)) }
+{
+    let meant = links.resolve(OpView {
+        object: call.object,
+        op: call.op,
+    });
+    places.get(meant.object, meant.op)
+}

@@ -1,0 +1,15 @@
+mod RuleExamples
+mod NeedExamples
+mod ClashExamples
+pub mod CountSteps
+pub mod KeySteps
+pub mod MentionSteps
+pub mod NameSteps
+pub mod NeedSteps
+pub mod ObjectSteps
+pub mod ScopeSteps
+pub mod SetSteps
+pub mod TakenLaws
+pub mod TakenSteps
+pub mod TickLaws
+pub mod WorkSteps

@@ -1,0 +1,82 @@
+-- What is known in a body, step by step, and what is told of its fault.
+use Rattle.std.proofs.Common.{◌≡◌, ℕ, ◌+◌, ◌<◌, ◌≤◌, Bool, true, false, List, [], ◌∷◌, ◌++◌, length, drop, map, filter, filter_map, flat_map, Option, Some, None, option_map, option_and_then, option_to_list, cond, Err, refl, ap, sym, subst, ◌∙◌, append_assoc}
+use Rattle.std.proofs.Math.ListN.{get_or, drop_of_length-le}
+use Rattle.std.proofs.lemmas.List.{append-nil}
+use Rattle.std.specs.List.{cons_option}
+use Rattle.seq_tree.specs.Names.{Name}
+use Rattle.seq_tree.specs.Operations.{is_out, out_names}
+use Rattle.seq_tree.specs.Faults as faults
+use Rattle.seq_tree.specs.declared.tree.Param.{Param}
+use Rattle.seq_tree.specs.declared.tree.Datum.{Datum}
+use Rattle.ods_tree.specs.Designs.{Body, Object, Design}
+use Rattle.ods_tree.specs.Walk.{Standing}
+use Rattle.design_rules.specs.Bodies.{body_fault, params_by}
+use Rattle.design_rules.specs.Lookups.{provided_named}
+use Rattle.ods_names.specs.BodyScopes.{names_in, part_fault}
+use Rattle.design_rules.specs.Broken.{Broken}
+use Rattle.ods_index.specs.Judging.{Tells, head_of}
+use Rattle.ods_index.specs.declared.broken.Broken as code
+use Rattle.ods_names.proofs.NeedSteps.{drop_step, told_of_all}
+
+outs_by : (p : Param) (ps : List Param) (b : Bool) → map (λ q. q.name) (cond b (p ∷ filter (λ q. is_out q.mode) ps) (filter (λ q. is_out q.mode) ps)) ≡ map (λ q. q.name) (cond b (p ∷ []) []) ++ out_names ps
+outs_by p ps true = refl
+outs_by p ps false = refl
+
+-- one parameter more
+pub outs_cons : (p : Param) (ps : List Param) → out_names (p ∷ ps) ≡ out_names (p ∷ []) ++ out_names ps
+outs_cons p ps = outs_by p ps (is_out p.mode)
+
+-- what is given for one item more
+cons_given : {B : Type 0} (o : Option B) (ys : List B) → cons_option o ys ≡ option_to_list o ++ ys
+cons_given None ys = refl
+cons_given (Some b) ys = refl
+
+pub given_cons : {A B : Type 0} (f : A → Option B) (x : A) (xs : List A) → filter_map f (x ∷ xs) ≡ option_to_list (f x) ++ filter_map f xs
+given_cons f x xs = cons_given (f x) (filter_map f xs)
+
+-- the first that is given, where there is one
+pub head_given : {A : Type 0} (o : Option A) → head_of (option_to_list o) ≡ o
+head_given None = refl
+head_given (Some a) = refl
+
+-- what is told of one item is told of those from it on, in all of which it is the same
+pub given_told : {A X : Type 0} (f : A → Option Broken) (v : X → A) (xs : List X) (i : ℕ) (x : X) (all wanted : Option Broken) (e : code.Broken) → i < length xs → x ≡ get_or xs i x →
+    head_of (filter_map f (map v (drop i xs))) ≡ all → f (v x) ≡ wanted → Tells (Err e) wanted → Tells (Err e) all
+given_told f v xs i x all wanted e inside at before here h =
+    let rest = map v (drop (i + 1) xs) in
+    let Told : Option Broken → Type 0 = λ w. Tells (Err e) w in
+    told_of_all e (option_to_list (f (v x))) (filter_map f rest) all
+    (ap head_of (sym (given_cons f (v x) rest) ∙ ap (λ ys. filter_map f (map v ys)) (sym (drop_step xs i x inside at))) ∙ before)
+    (subst Told (sym (head_given (f (v x)) ∙ here)) h)
+
+pub listed_told : {A X : Type 0} (f : A → List Broken) (v : X → A) (xs : List X) (i : ℕ) (x : X) (all : Option Broken) (e : code.Broken) → i < length xs → x ≡ get_or xs i x →
+    head_of (flat_map f (map v (drop i xs))) ≡ all → Tells (Err e) (head_of (f (v x))) → Tells (Err e) all
+listed_told f v xs i x all e inside at before h =
+    told_of_all e (f (v x)) (flat_map f (map v (drop (i + 1) xs))) all (ap (λ ys. head_of (flat_map f (map v ys))) (sym (drop_step xs i x inside at)) ∙ before) h
+
+-- the operation of a name of the object that stands here
+pub provided_here : (s : Option Standing) (o : Object) (n : Name) → option_map (λ t. t.own) s ≡ Some o → option_and_then (λ t. provided_named n t.own.provides) s ≡ provided_named n o.provides
+provided_here None o n e = absurd (cc)
+provided_here (Some t) o n e = cc
+
+-- the fault of a body, by what is known in it
+pub body_fault_by : (x : Design) (o : Object) (b : Body) (name : Name) (known : faults.Scope) (params : List Param) (locals : List Datum) →
+    o.name ≡ name → known ≡ names_in x o → params ≡ params_by (provided_named b.name o.provides) → locals ≡ b.locals →
+    body_fault x o b ≡ part_fault name (Some b.name) known params locals b.block
+body_fault_by x o b name known params locals n k p l =
+    let there = params_by (provided_named b.name o.provides) in
+    ap (λ z. part_fault z (Some b.name) (names_in x o) there b.locals b.block) n ∙ ap (λ z. part_fault name (Some b.name) z there b.locals b.block) (sym k)
+    ∙ ap (λ z. part_fault name (Some b.name) known z b.locals b.block) (sym p) ∙ ap (λ z. part_fault name (Some b.name) known params z b.block) (sym l)
+
+-- the names of the parameters that hand out, for one parameter more
+pub outs_step : (ps : List Param) (i : ℕ) (p : Param) (old new all : List Name) → i < length ps → p ≡ get_or ps i p → old ++ out_names (drop i ps) ≡ all →
+    new ≡ old ++ out_names (p ∷ []) → new ++ out_names (drop (i + 1) ps) ≡ all
+outs_step ps i p old new all inside at before one =
+    ap (λ ns. ns ++ out_names (drop (i + 1) ps)) one ∙ append_assoc old (out_names (p ∷ [])) (out_names (drop (i + 1) ps))
+    ∙ ap (λ ns. old ++ ns) (sym (outs_cons p (drop (i + 1) ps)) ∙ ap out_names (sym (drop_step ps i p inside at))) ∙ before
+
+-- and where none is left
+pub outs_end : (ps : List Param) (i : ℕ) (old all : List Name) → length ps ≤ i → old ++ out_names (drop i ps) ≡ all → old ≡ all
+outs_end ps i old all done before = sym (append-nil old) ∙ ap (λ qs. old ++ out_names qs) (sym (drop_of_length-le ps done)) ∙ before
+
+pub ruleset scope_steps = (given_cons, head_given)

@@ -1,0 +1,10 @@
+use Rattle.std.proofs.Common.{slice_get, ap, sym, ◌∙◌}
+use Rattle.ods_names.specs.Mentions.{requests_in, requests_of}
+use Rattle.ods_names.proofs.TakenSteps.{requests_here}
+use Rattle.ods_names.proofs.mentions.add_objects.Goals as goal
+
+pub add_object-requires : goal.add_object-requires
+unfolding requests_in
+add_object-requires c =
+    requests_here c.args.objects.now c.objects.place c.index-objects-place.result c.objects-test.true c.index-objects-place.is
+    ∙ ap (λ xs. requests_of (slice_get xs c.objects.place)) (sym c.requires)

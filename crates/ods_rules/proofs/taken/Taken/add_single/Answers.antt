@@ -1,6 +1,0 @@
-use Rattle.std.proofs.Common.{sym}
-use Rattle.ods_rules.proofs.TakenSteps.{single_added}
-use Rattle.ods_rules.proofs.taken.Taken.add_single.Goals as goal
-
-pub returns : goal.returns
-returns c = λ requests earlier open' h. single_added requests c.args.self.now c.add.new.self c.add-2.new.self earlier c.args.name.now open' c.in_ok-add.ensures.added c.in_ok-add-2.ensures.added h

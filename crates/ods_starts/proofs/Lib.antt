@@ -1,0 +1,16 @@
+mod GraphExamples
+mod GuardedExamples
+mod RequestExamples
+mod StartExamples
+mod StartingExamples
+pub mod CallRings
+pub mod NamePlaces
+pub mod NamedRings
+pub mod ObjectRings
+pub mod KeptCalls
+pub mod RequestLaws
+pub mod SourceLaws
+pub mod SpacingLaws
+pub mod SpreadLaws
+pub mod StartRings
+pub mod StartSteps

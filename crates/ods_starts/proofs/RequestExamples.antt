@@ -1,0 +1,146 @@
+-- Examples: which bodies are held and what they call, what is due, and what is told of sources, and what breaks each of them alone.
+use Rattle.std.specs.Prelude.{◌≡◌, ◌⊎◌, ℕ, true, false, List, [], ◌∷◌, Some, None, codes, map, option_map, refl, unwrap_or}
+use Rattle.std.proofs.Common.{inl, inr, arith, ap, Vec, Global}
+use Rattle.std.specs.BTreeMap.{get_by}
+use Rattle.std.specs.Cmp.Lexicographic.{slice_cmp}
+use Rattle.std.specs.Ordering.{nat_cmp}
+use Rattle.seq_tree.specs.Statements.{Statements, Call, End, Then}
+use Rattle.seq_tree.specs.declared.tree.Costs.{Costs}
+use Rattle.seq_tree.specs.declared.tree.OpName.{OpName}
+use Rattle.seq_cost.specs.Tables.{at, or_0}
+use Rattle.seq_cost.specs.declared.tables.OpTable.{OpTable}
+use Rattle.ods_tree.specs.Designs.{Design, Empty, Node, Object}
+use Rattle.ods_tree.specs.declared.design.AttrKey.TheVariants.{ArrivalJitter}
+use Rattle.ods_tree.specs.declared.design.Kind.TheVariants.{Protected, Sporadic}
+use Rattle.design_rules.specs.Broken.{V10}
+use Rattle.ods_starts.specs.Reaching.{reacher_of, reachers_at}
+use Rattle.ods_starts.specs.Requested.{AreDue, HeldBody, Knows, changes, greatest_count, held_bodies, held_calls, held_count, held_named, object_callers, op_callers, source_fault}
+use Rattle.ods_starts.specs.declared.reacher.Reacher.{Reacher}
+use Rattle.ods_starts.specs.declared.sources.Reachers.{Reachers}
+
+abbrev put : OpName
+put = record { object = codes "k"; op = codes "put" }
+
+abbrev set : OpName
+set = record { object = codes "q"; op = codes "set" }
+
+abbrev free : Costs
+free = record { assign = 1; test = 1; turn = 1; call = 1; nothing = 1; put = 1; finish = 1 }
+
+abbrev calls_set : Statements
+calls_set = Then (Call (codes "q") (codes "set") []) End
+
+-- a protected object whose operation calls q.set, where it requires these operations
+abbrev keeper : List OpName → Object
+keeper needs = record {
+  name = codes "k";
+  kind = Protected;
+  attrs = [];
+  provides = [];
+  needs = needs;
+  vars = [];
+  bodies = record { name = codes "put"; locals = []; block = calls_set } ∷ [];
+  thread = None;
+  links = [];
+}
+
+-- a sporadic object that is requested from outside
+abbrev outer : Object
+outer = record {
+  name = codes "q";
+  kind = Sporadic;
+  attrs = record { key = ArrivalJitter; value = 0; unit = None } ∷ [];
+  provides = [];
+  needs = [];
+  vars = [];
+  bodies = [];
+  thread = None;
+  links = [];
+}
+
+abbrev small : Object → Design
+small o = record { name = codes "d"; version = None; costs = free; root = Node o Empty }
+
+abbrev body_with : List OpName → HeldBody
+body_with needs = record { name = put; needs = needs; block = calls_set }
+
+held_there : held_bodies (small (keeper (set ∷ []))) ≡ body_with (set ∷ []) ∷ []
+held_there = refl
+
+not_protected : held_bodies (small outer) ≡ []
+not_protected = refl
+
+named_so : held_named put (body_with []) ≡ body_with [] ∷ []
+named_so = refl
+
+named_otherwise : held_named set (body_with []) ≡ []
+named_otherwise = refl
+
+required_call : held_calls (small outer) (body_with (set ∷ [])) ≡ set ∷ []
+required_call = refl
+
+call_not_required : held_calls (small outer) (body_with []) ≡ []
+call_not_required = refl
+
+calls_the_op : op_callers (small outer) set (body_with (set ∷ [])) ≡ put ∷ []
+calls_the_op = refl
+
+calls_another_op : op_callers (small outer) put (body_with (set ∷ [])) ≡ []
+calls_another_op = refl
+
+calls_the_object : object_callers (small outer) (codes "q") (body_with (set ∷ [])) ≡ put ∷ []
+calls_the_object = refl
+
+calls_another_object : object_callers (small outer) (codes "k") (body_with (set ∷ [])) ≡ []
+calls_another_object = refl
+
+requests_once : held_count (small outer) (codes "q") (λ n. 0) (body_with (set ∷ [])) ≡ 1
+requests_once = refl
+
+requests_through : held_count (small outer) (codes "p") (λ n. 3) (body_with (set ∷ [])) ≡ 3
+requests_through = refl
+
+requests_none : held_count (small outer) (codes "q") (λ n. 3) (body_with []) ≡ 0
+requests_none = refl
+
+greatest_of_two : greatest_count (small outer) (codes "q") (λ n. 3) (body_with [] ∷ body_with (set ∷ []) ∷ []) ≡ 1
+greatest_of_two = refl
+
+empty_knows : (t : OpTable ℕ) → ((n : OpName) → at t n ≡ None) → Knows t (λ n. 0)
+empty_knows t none n = ap or_0 (none n)
+
+empty_knows_no_request : (t : OpTable ℕ) → ((n : OpName) → at t n ≡ None) → Knows t (λ n. 1) → ⊥
+empty_knows_no_request t none knows = (let y : or_0 (at t set) ≡ 0 = ap or_0 (none set) in let z : or_0 (at t set) ≡ 1 = knows set in omega (arith, y, z))
+
+changed : (known counts : OpTable ℕ) → at known set ≡ None → at counts set ≡ Some 1 → changes known counts set ≡ true
+changed known counts k c = rw (k, c) refl
+
+unchanged : (known counts : OpTable ℕ) → at known set ≡ None → at counts set ≡ Some 0 → changes known counts set ≡ false
+unchanged known counts k c = rw (k, c) refl
+
+none_due : AreDue (small outer) (codes "q") 0 []
+none_due n = inr refl
+
+caller_is_due : AreDue (small (keeper (set ∷ []))) (codes "q") 0 [] → ⊥
+caller_is_due due = by (due put)
+  where
+    by : (false ≡ true) ⊎ (◌≡◌ {A = ℕ} 0 1) → ⊥
+    by (inl e) = cc
+    by (inr e) = omega (arith, e)
+
+reached_by : (r : Reachers) (v : Vec Reacher Global) → get_by (λ k. slice_cmp nat_cmp (codes "q") k.now) r.map ≡ Some v → reachers_at r (codes "q") ≡ map reacher_of v.items
+unfolding reachers_at
+reached_by r v e = ap (λ o. unwrap_or (option_map (λ w. map reacher_of w.items) o) []) e
+
+not_reached : (r : Reachers) → get_by (λ k. slice_cmp nat_cmp (codes "q") k.now) r.map ≡ None → reachers_at r (codes "q") ≡ []
+unfolding reachers_at
+not_reached r e = ap (λ o. unwrap_or (option_map (λ w. map reacher_of w.items) o) []) e
+
+from_outside : source_fault (small outer) outer ≡ None
+from_outside = refl
+
+no_source : source_fault (small outer) (record outer { attrs = [] }) ≡ Some (V10 (codes "q") 0 0)
+no_source = refl
+
+not_sporadic : source_fault (small outer) (record outer { attrs = []; kind = Protected }) ≡ None
+not_sporadic = refl

@@ -1,0 +1,10 @@
+use Rattle.std.proofs.Common.{◌≡◌, map, drop}
+use Rattle.ods_index.specs.Linked.{op_of}
+use Rattle.ods_starts.specs.Spreading.{IsSeen, found_all}
+use Rattle.ods_starts.proofs.starts.find_all.Given as goal
+
+-- what was found so far, and the operations that are left
+abbrev pub invariant-ops : goal.invariant-ops
+invariant-ops l =
+    IsSeen l.seen (map op_of l.found.items)
+    × (found_all (map op_of l.found.items) (map op_of (drop l.op-index l.ops)) ≡ found_all (map op_of l.initial.found.items) (map op_of l.ops))

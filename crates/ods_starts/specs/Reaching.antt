@@ -1,0 +1,39 @@
+-- The threads that reach objects, by the names of these.
+-- A thread reaches an object of which it calls an operation, itself or through protected operations.
+use Rattle.std.specs.Prelude.{◌≡◌, ◌<◌, List, [], filter, flat_map, length, map, option_map, unwrap_or}
+use Rattle.std.specs.Borrow.{Bor}
+use Rattle.std.specs.BTreeMap.{get_by}
+use Rattle.std.specs.Cmp.Lexicographic.{slice_cmp}
+use Rattle.std.specs.Ordering.{nat_cmp}
+use Rattle.seq_tree.specs.Names.{Name}
+use Rattle.seq_tree.specs.declared.tree.OpName.{OpName}
+use Rattle.ods_tree.specs.Designs.{Object}
+use Rattle.ods_tree.specs.Trees.{design_of}
+use Rattle.ods_tree.specs.declared.design.Node.{Node}
+use Rattle.design_rules.specs.Rings.{thread_objects}
+use Rattle.ods_starts.specs.Requested.{bodies_at, held_bodies, held_named}
+use Rattle.ods_starts.specs.Requesters.{HasCallers}
+use Rattle.ods_starts.specs.Spreading.{reaches}
+use Rattle.ods_index.specs.Walking.{object_of}
+use Rattle.ods_starts.specs.declared.reacher.Reacher.{Reacher}
+use Rattle.ods_starts.specs.declared.sources.Reachers.{Reachers}
+use Rattle.ods_starts.specs.declared.sources.Requests.{Requests}
+
+-- the object of a thread
+abbrev pub thread_of : Bor Node → Object
+thread_of n = object_of n.now
+
+abbrev pub reacher_of : Reacher → Object
+reacher_of r = object_of r.thread.now
+
+-- the threads that are kept for the name of an object
+unfoldable pub reachers_at : Reachers → Name → List Object
+reachers_at t name = unwrap_or (option_map (λ v. map reacher_of v.items) (get_by (λ k. slice_cmp nat_cmp name k.now) t.map)) []
+
+-- what requests are counted by is that of its design
+pub record AreRight (r : Requests) : Type 0 where
+  pub named : (n : OpName) → bodies_at r.bodies n ≡ flat_map (held_named n) (held_bodies (design_of r.starts.links.design.now))
+  pub called : HasCallers (design_of r.starts.links.design.now) r.callers
+  pub threads : map thread_of r.threads.items ≡ thread_objects (design_of r.starts.links.design.now)
+  pub reached : (n : Name) → reachers_at r.reachers n ≡ filter (λ o. reaches (design_of r.starts.links.design.now) o n) (thread_objects (design_of r.starts.links.design.now))
+  pub few : length (thread_objects (design_of r.starts.links.design.now)) < 4294967295

@@ -1,0 +1,63 @@
+-- What threads can start: the operations that a thread calls, itself or through protected operations, found level by level.
+-- Each operation is found once, in the order in which calls lead to it.
+use Rattle.std.specs.Prelude.{◌≡◌, ℕ, zero, suc, Bool, true, false, List, [], ◌∷◌, ◌++◌, map, filter, flat_map, drop, length, Option, Some, None, option_map, unwrap_or, if◌then◌else◌}
+use Rattle.std.specs.List.{list_any}
+use Rattle.std.specs.Ordering.{nat_cmp}
+use Rattle.std.specs.Cmp.Lexicographic.{slice_cmp}
+use Rattle.std.specs.BTreeMap.{get_by}
+use Rattle.seq_tree.specs.Calls.{block_calls, same_op}
+use Rattle.seq_tree.specs.Names.{Name, same_name}
+use Rattle.seq_tree.specs.declared.tree.OpName.{OpName}
+use Rattle.seq_cost.specs.Tables.{at}
+use Rattle.seq_cost.specs.declared.tables.OpTable.{OpTable}
+use Rattle.ods_tree.specs.Designs.{Body, Object, Design}
+use Rattle.ods_tree.specs.Links.{resolve}
+use Rattle.ods_tree.specs.Walk.{Standing}
+use Rattle.design_rules.specs.Rings.{thread_calls}
+use Rattle.ods_index.specs.Linked.{op_of}
+use Rattle.ods_starts.specs.declared.starts.BodyCalls.{BodyCalls}
+use Rattle.ods_starts.specs.declared.starts.Inner.{Inner}
+
+-- whether there is something
+abbrev pub is_there : {A : Type 0} → Option A → Bool
+is_there None = false
+is_there (Some a) = true
+
+-- the calls that are kept for an operation of an object
+unfoldable pub body_at : BodyCalls → Name → List OpName
+body_at t op = unwrap_or (option_map (λ v. map op_of v.items) (get_by (λ k. slice_cmp nat_cmp op k.now) t.map)) []
+
+-- the calls that are kept for an operation
+unfoldable pub inner_at : Inner → OpName → List OpName
+inner_at t name = unwrap_or (option_map (λ b. body_at b name.op) (get_by (λ k. slice_cmp nat_cmp name.object k.now) t.objects)) []
+
+-- the required calls of a body, links followed, where it is that of an operation of this name
+abbrev pub body_steps : Design → OpName → Name → List OpName → Body → List OpName
+body_steps x name object needs b =
+    if same_op (record { object = object; op = b.name }) name then map (resolve x) (filter (λ c. list_any (same_op c) needs) (block_calls b.block)) else []
+
+-- those of the bodies of an object
+abbrev pub steps_in : Design → OpName → Standing → List OpName
+steps_in x name s = flat_map (body_steps x name s.own.name s.own.needs) s.own.bodies
+
+-- an operation more, where it wasn't found before
+unfoldable pub found_more : List OpName → OpName → List OpName
+found_more all op = if list_any (same_op op) all then all else all ++ op ∷ []
+
+-- operations more
+abbrev pub found_all : List OpName → List OpName → List OpName
+found_all all [] = all
+found_all all (op ∷ ops) = found_all (found_more all op) ops
+
+-- what is found in so many levels of calls more, where all that those before this place call was found
+abbrev pub spread : (OpName → List OpName) → ℕ → ℕ → List OpName → List OpName
+spread next zero from all = all
+spread next (suc depth) from all = spread next depth (length all) (found_all all (flat_map next (drop from all)))
+
+-- a table of what was found
+abbrev pub IsSeen : OpTable (Unit {0}) → List OpName → Type 0
+IsSeen t all = (n : OpName) → is_there (at t n) ≡ list_any (same_op n) all
+
+-- whether the thread of an object calls an operation of an object of this name, itself or through protected operations
+abbrev pub reaches : Design → Object → Name → Bool
+reaches x from name = list_any (λ c. same_name c.object name) (thread_calls x from)

@@ -1,0 +1,43 @@
+ghost use Rattle.std.specs.Prelude.{◌≡◌, ◌<◌, length, option_map, slice_get};
+ghost use Rattle.ods_tree.specs.Trees.{design_of};
+ghost use Rattle.design_rules.specs.Broken.{V09Calls};
+ghost use Rattle.design_rules.specs.Rules.{CallRing, RingedOp};
+ghost use Rattle.ods_index.specs.Indexing.{IsIndex};
+ghost use Rattle.ods_index.specs.Judging.{Judges, PassesBefore, Tells};
+ghost use Rattle.ods_index.specs.Linked.{op_of};
+
+use crate::call_edges::edges_of;
+use ods_index::{Broken, Index, Links, OpView, op_places, ops_of};
+use rings::first_on_ring;
+use seq_tree::OpName;
+use std::alloc::Global;
+
+/// Tells an operation on a ring of calls, by its place.
+fn tell_op(alloc: Global, ops: &[OpView<'_>], place: usize) -> Result<(), Broken>
+    ensures { Tells result (option_map (λ o. V09Calls (op_of o)) (slice_get ops.now place)) }
+{
+    let Some(op) = ops.get(place) else {
+        return Ok(());
+    };
+    let object = op.object.copy(alloc)?;
+    let op = op.op.copy(alloc)?;
+    Err(Broken::V09Calls {
+        name: OpName { object, op },
+    })
+}
+
+/// V09: tells the first operation on a ring of calls.
+pub fn ringed_op(alloc: Global, index: &Index<'_>) -> Result<(), Broken>
+    requires indexed { IsIndex index.now }
+    requires before { PassesBefore (design_of index.now.design.now) CallRing }
+    ensures { Judges (RingedOp (design_of index.entry.now.design.now)) result }
+{
+    let links = Links::new(alloc, index.design)?;
+    let ops = ops_of(alloc, index.objects.as_slice())?;
+    let places = op_places(alloc, ops.as_slice())?;
+    let edges = edges_of(alloc, &links, &places, index.objects.as_slice())?;
+    match first_on_ring(alloc, ops.len(), edges.as_slice())? {
+        None => Ok(()),
+        Some(place) => tell_op(alloc, ops.as_slice(), place),
+    }
+}

@@ -1,0 +1,459 @@
+ghost use Rattle.std.specs.Prelude.{◌≡◌, ◌≤◌, ◌∷◌, ◌++◌, [], ℕ, Bool, IfOk, OnOk, drop, filter, flat_map, if◌then◌else◌, length, map, option_map, option_to_list, unwrap_or};
+ghost use Rattle.std.specs.List.{list_any};
+ghost use Rattle.seq_tree.specs.Calls.{block_calls, same_op};
+ghost use Rattle.seq_tree.specs.Names.{Name as NameTree, same_name};
+ghost use Rattle.seq_tree.specs.Trees.{block_of};
+ghost use Rattle.seq_tree.specs.declared.tree.OpName.{OpName as OpTree};
+ghost use Rattle.seq_cost.specs.Different.{call_of};
+ghost use Rattle.ods_tree.specs.Flattening.{is_protected};
+ghost use Rattle.ods_tree.specs.Links.{resolve};
+ghost use Rattle.ods_tree.specs.Trees.{body_of, design_of};
+ghost use Rattle.ods_tree.specs.Walk.{is_terminal};
+ghost use Rattle.design_rules.specs.Lookups.{has_thread};
+ghost use Rattle.design_rules.specs.Rings.{inner_calls, meant_calls, terminal_ops, thread_calls};
+ghost use Rattle.ods_index.specs.Indexing.{IsIndex};
+ghost use Rattle.ods_index.specs.Linked.{op_of};
+ghost use Rattle.ods_starts.specs.Spreading.{IsSeen, body_at, body_steps, found_all, found_more, inner_at, is_there, reaches, spread, steps_in};
+ghost use Rattle.ods_index.specs.Tables.{place_in};
+ghost use Rattle.ods_index.specs.Walking.{object_of, standing_of};
+
+use ods_index::{
+    Index, Links, OpView, Places, Required, Standing, has_thread, is_protected, is_terminal, ops_of,
+};
+use ods_tree::{Node, OpBody};
+use seq_cost::{Call, OpTable, written_calls};
+use seq_tree::{Block, Name, NoMemory};
+use std::alloc::Global;
+use std::collections::BTreeMap;
+
+/// What the bodies of an object call, by the names of their operations.
+#[derive(Drop)]
+pub(crate) struct BodyCalls<'a> {
+    map: BTreeMap<&'a [u8], Vec<OpView<'a>>>,
+}
+
+impl<'a> BodyCalls<'a> {
+    /// No calls.
+    #[tactic(auto, unfolding(crate::specs::Spreading::body_at))]
+    pub(crate) fn new(alloc: Global) -> BodyCalls<'a>
+        ensures { (n : NameTree) → body_at result n ≡ [] }
+    {
+        BodyCalls {
+            map: BTreeMap::new(alloc),
+        }
+    }
+
+    /// What the bodies of an operation call, where there is one.
+    #[tactic(auto, unfolding(crate::specs::Spreading::body_at))]
+    pub(crate) fn get(&self, op: &Name) -> Option<&[OpView<'a>]>
+        ensures { unwrap_or (option_map (λ v. map op_of v.now) result) [] ≡ body_at self.now op.now }
+    {
+        match self.map.get(op.bytes()) {
+            None => None,
+            Some(calls) => Some(calls.as_slice()),
+        }
+    }
+
+    /// Adds what a body of an operation calls.
+    #[tactic(auto, unfolding(crate::specs::Spreading::body_at))]
+    pub(crate) fn add(
+        &mut self,
+        alloc: Global,
+        op: &'a Name,
+        calls: &[OpView<'a>],
+    ) -> Result<(), NoMemory>
+        ensures { OnOk result ((n : NameTree) → body_at self.new n ≡ body_at self.old n ++ (if same_name op.entry.now n then map op_of calls.entry.now else [])) }
+    {
+        let mut all = match self.map.remove(op.bytes()) {
+            None => Vec::new(alloc),
+            Some(before) => before,
+        };
+        all.extend_from_slice(calls)?;
+        self.map.insert(op.bytes(), all)?;
+        Ok(())
+    }
+}
+
+/// What the bodies of protected operations call, links followed.
+#[derive(Drop)]
+pub(crate) struct Inner<'a> {
+    objects: BTreeMap<&'a [u8], BodyCalls<'a>>,
+}
+
+impl<'a> Inner<'a> {
+    /// No calls.
+    #[tactic(auto, unfolding(crate::specs::Spreading::inner_at))]
+    pub(crate) fn new(alloc: Global) -> Inner<'a>
+        ensures { (n : OpTree) → inner_at result n ≡ [] }
+    {
+        Inner {
+            objects: BTreeMap::new(alloc),
+        }
+    }
+
+    /// What the bodies of an operation call, where there is one.
+    #[tactic(auto, unfolding(crate::specs::Spreading::inner_at))]
+    fn get(&self, op: &OpView<'a>) -> Option<&[OpView<'a>]>
+        ensures { unwrap_or (option_map (λ v. map op_of v.now) result) [] ≡ inner_at self.now (op_of op.entry.now) }
+    {
+        match self.objects.get(op.object.bytes()) {
+            None => None,
+            Some(bodies) => bodies.get(op.op),
+        }
+    }
+
+    /// Adds what a body of an operation calls.
+    #[tactic(auto, unfolding(crate::specs::Spreading::inner_at))]
+    pub(crate) fn add(
+        &mut self,
+        alloc: Global,
+        object: &'a Name,
+        op: &'a Name,
+        calls: &[OpView<'a>],
+    ) -> Result<(), NoMemory>
+        ensures { OnOk result ((n : OpTree) → inner_at self.new n ≡ inner_at self.old n ++ (if same_op (record { object = object.entry.now; op = op.entry.now }) n then map op_of calls.entry.now else [])) }
+    {
+        let mut bodies = match self.objects.remove(object.bytes()) {
+            None => BodyCalls::new(alloc),
+            Some(bodies) => bodies,
+        };
+        bodies.add(alloc, op, calls)?;
+        self.objects.insert(object.bytes(), bodies)?;
+        Ok(())
+    }
+}
+
+/// Adds what a call means, where it is required.
+fn add_meant<'a>(
+    links: &Links<'a>,
+    needs: &Required<'a>,
+    call: &Call<'a>,
+    into: &mut Vec<OpView<'a>>,
+) -> Result<(), NoMemory>
+    ensures { OnOk result (map op_of into.new.items ≡ map op_of into.old.items ++ map (resolve (design_of links.now.design.now)) (filter (λ c. list_any (same_op c) needs.now.ops.now) (call_of call.entry.now ∷ []))) }
+{
+    if !needs.has(call) {
+        return Ok(());
+    }
+    into.push(links.resolve(OpView {
+        object: call.object,
+        op: call.op,
+    }))?;
+    Ok(())
+}
+
+/// Adds what calls mean, where they are required.
+fn add_all_meant<'a>(
+    links: &Links<'a>,
+    needs: &Required<'a>,
+    calls: &[Call<'a>],
+    into: &mut Vec<OpView<'a>>,
+) -> Result<(), NoMemory>
+    ensures { OnOk result (map op_of into.new.items ≡ map op_of into.old.items ++ map (resolve (design_of links.now.design.now)) (filter (λ c. list_any (same_op c) needs.now.ops.now) (map call_of calls.entry.now))) }
+{
+    'calls: for call in calls {
+        add_meant(links, needs, call, into)?;
+    }
+    Ok(())
+}
+
+/// What a block of an object calls, as it is required, links followed.
+pub(crate) fn meant_calls<'a>(
+    alloc: Global,
+    links: &Links<'a>,
+    needs: &Required<'a>,
+    block: &'a Block,
+) -> Result<Vec<OpView<'a>>, NoMemory>
+    ensures { IfOk result (λ v. map op_of v.items ≡ map (resolve (design_of links.now.design.now)) (filter (λ c. list_any (same_op c) needs.now.ops.now) (block_calls (block_of block.entry.now)))) }
+{
+    let calls = written_calls(alloc, block)?;
+    let mut meant = Vec::new(alloc);
+    add_all_meant(links, needs, calls.as_slice(), &mut meant)?;
+    Ok(meant)
+}
+
+/// Adds an operation, where it wasn't found before.
+#[tactic(auto, unfolding(crate::specs::Spreading::found_more))]
+fn find<'a>(
+    alloc: Global,
+    op: &OpView<'a>,
+    seen: &mut OpTable<'a, ()>,
+    found: &mut Vec<OpView<'a>>,
+) -> Result<(), NoMemory>
+    requires { IsSeen seen.old (map op_of found.old.items) }
+    ensures found { OnOk result (map op_of found.new.items ≡ found_more (map op_of found.old.items) (op_of op.entry.now)) }
+    ensures seen { OnOk result (IsSeen seen.new (map op_of found.new.items)) }
+{
+    match seen.get(op.object, op.op) {
+        Some(_) => Ok(()),
+        None => {
+            seen.put(alloc, op.object, op.op, ())?;
+            found.push(*op)?;
+            Ok(())
+        }
+    }
+}
+
+/// Adds operations that weren't found before.
+pub(crate) fn find_all<'a>(
+    alloc: Global,
+    ops: &[OpView<'a>],
+    seen: &mut OpTable<'a, ()>,
+    found: &mut Vec<OpView<'a>>,
+) -> Result<(), NoMemory>
+    requires { IsSeen seen.old (map op_of found.old.items) }
+    ensures found { OnOk result (map op_of found.new.items ≡ found_all (map op_of found.old.items) (map op_of ops.entry.now)) }
+    ensures seen { OnOk result (IsSeen seen.new (map op_of found.new.items)) }
+{
+    'ops: for op in ops {
+        find(alloc, op, seen, found)?;
+    }
+    Ok(())
+}
+
+/// Operations from a place on.
+fn rest_of<'a>(alloc: Global, ops: &[OpView<'a>], from: usize) -> Result<Vec<OpView<'a>>, NoMemory>
+    requires { from ≤ length ops.now }
+    ensures { IfOk result (λ v. v.items ≡ drop from ops.entry.now) }
+{
+    let (_, rest) = ops.split_at(from);
+    let mut found = Vec::new(alloc);
+    found.extend_from_slice(rest)?;
+    Ok(found)
+}
+
+/// Adds what an operation calls, where it wasn't found before.
+#[tactic(auto, using(crate::proofs::SpreadLaws::spread_laws))]
+fn follow<'a>(
+    alloc: Global,
+    inner: &Inner<'a>,
+    op: &OpView<'a>,
+    seen: &mut OpTable<'a, ()>,
+    found: &mut Vec<OpView<'a>>,
+) -> Result<(), NoMemory>
+    requires { IsSeen seen.old (map op_of found.old.items) }
+    ensures found { OnOk result (map op_of found.new.items ≡ found_all (map op_of found.old.items) (inner_at inner.entry.now (op_of op.entry.now))) }
+    ensures seen { OnOk result (IsSeen seen.new (map op_of found.new.items)) }
+{
+    match inner.get(op) {
+        None => Ok(()),
+        Some(calls) => find_all(alloc, calls, seen, found),
+    }
+}
+
+/// Adds what these operations call, where it wasn't found before.
+#[tactic(auto, using(crate::proofs::SpreadLaws::spread_laws))]
+pub(crate) fn follow_all<'a>(
+    alloc: Global,
+    inner: &Inner<'a>,
+    ops: &[OpView<'a>],
+    seen: &mut OpTable<'a, ()>,
+    found: &mut Vec<OpView<'a>>,
+) -> Result<(), NoMemory>
+    requires { IsSeen seen.old (map op_of found.old.items) }
+    ensures found { OnOk result (map op_of found.new.items ≡ found_all (map op_of found.old.items) (flat_map (inner_at inner.entry.now) (map op_of ops.entry.now))) }
+    ensures seen { OnOk result (IsSeen seen.new (map op_of found.new.items)) }
+{
+    'ops: for op in ops {
+        follow(alloc, inner, op, seen, found)?;
+    }
+    Ok(())
+}
+
+/// These operations and what they lead to through protected ones, in so many levels at most, up to one that finds none.
+fn search<'a>(
+    alloc: Global,
+    inner: &Inner<'a>,
+    depth: usize,
+    starts: &[OpView<'a>],
+) -> Result<Vec<OpView<'a>>, NoMemory>
+    ensures { IfOk result (λ v. map op_of v.items ≡ spread (inner_at inner.entry.now) depth 0 (found_all [] (map op_of starts.entry.now))) }
+{
+    let mut seen = OpTable::new(alloc);
+    let mut found = Vec::new(alloc);
+    find_all(alloc, starts, &mut seen, &mut found)?;
+    let mut from = 0;
+    'levels: for _ in 0..depth {
+        if from == found.len() {
+            return Ok(found);
+        }
+        let level = rest_of(alloc, found.as_slice(), from)?;
+        from = found.len();
+        follow_all(alloc, inner, level.as_slice(), &mut seen, &mut found)?;
+    }
+    Ok(found)
+}
+
+/// Adds what a body of an object calls.
+fn add_body<'a>(
+    alloc: Global,
+    links: &Links<'a>,
+    object: &'a Name,
+    needs: &Required<'a>,
+    body: &'a OpBody,
+    inner: &mut Inner<'a>,
+) -> Result<(), NoMemory>
+    ensures { OnOk result ((n : OpTree) → inner_at inner.new n ≡ inner_at inner.old n ++ body_steps (design_of links.now.design.now) n object.entry.now needs.now.ops.now (body_of body.entry.now)) }
+{
+    let calls = meant_calls(alloc, links, needs, &body.block)?;
+    inner.add(alloc, object, &body.name, calls.as_slice())
+}
+
+/// Adds what the bodies of an object call.
+fn add_bodies<'a>(
+    alloc: Global,
+    links: &Links<'a>,
+    object: &'a Name,
+    needs: &Required<'a>,
+    bodies: &'a [OpBody],
+    inner: &mut Inner<'a>,
+) -> Result<(), NoMemory>
+    ensures { OnOk result ((n : OpTree) → inner_at inner.new n ≡ inner_at inner.old n ++ flat_map (body_steps (design_of links.now.design.now) n object.entry.now needs.now.ops.now) (map body_of bodies.entry.now)) }
+{
+    'bodies: for body in bodies {
+        add_body(alloc, links, object, needs, body, inner)?;
+    }
+    Ok(())
+}
+
+/// Adds what the bodies of an object call, where it is protected and has no children.
+#[tactic(auto, using(ods_index::proofs::WalkSteps::node_steps))]
+fn add_object<'a>(
+    alloc: Global,
+    links: &Links<'a>,
+    standing: &Standing<'a>,
+    inner: &mut Inner<'a>,
+) -> Result<(), NoMemory>
+    ensures { OnOk result ((n : OpTree) → inner_at inner.new n ≡ inner_at inner.old n ++ flat_map (steps_in (design_of links.now.design.now) n) (filter (λ s. is_protected s.own.kind) (filter is_terminal (standing_of standing.entry.now ∷ [])))) }
+{
+    let node = standing.node;
+    if !is_terminal(node) {
+        return Ok(());
+    }
+    if !is_protected(node.kind) {
+        return Ok(());
+    }
+    let needs = Required::new(alloc, node.needs.as_slice())?;
+    add_bodies(
+        alloc,
+        links,
+        &node.name,
+        &needs,
+        node.bodies.as_slice(),
+        inner,
+    )
+}
+
+/// What the bodies of the terminal protected ones of these objects call.
+fn inner_of<'a>(
+    alloc: Global,
+    links: &Links<'a>,
+    objects: &[Standing<'a>],
+) -> Result<Inner<'a>, NoMemory>
+    ensures { IfOk result (λ t. (n : OpTree) → inner_at t n ≡ flat_map (steps_in (design_of links.now.design.now) n) (filter (λ s. is_protected s.own.kind) (filter is_terminal (map standing_of objects.entry.now)))) }
+{
+    let mut inner = Inner::new(alloc);
+    'objects: for standing in objects {
+        add_object(alloc, links, standing, &mut inner)?;
+    }
+    Ok(inner)
+}
+
+/// Adds an object, where it has a thread and no children.
+fn add_thread<'a>(standing: &Standing<'a>, into: &mut Vec<&'a Node>) -> Result<(), NoMemory>
+    ensures { OnOk result (map (λ n. object_of n.now) into.new.items ≡ map (λ n. object_of n.now) into.old.items ++ map (λ s. s.own) (filter (λ s. has_thread s.own.kind) (filter is_terminal (standing_of standing.entry.now ∷ [])))) }
+{
+    let node = standing.node;
+    if !is_terminal(node) {
+        return Ok(());
+    }
+    if !has_thread(node.kind) {
+        return Ok(());
+    }
+    into.push(node)?;
+    Ok(())
+}
+
+/// The terminal ones of these objects that have threads, in order.
+pub fn threads_of<'a>(alloc: Global, objects: &[Standing<'a>]) -> Result<Vec<&'a Node>, NoMemory>
+    ensures { IfOk result (λ v. map (λ n. object_of n.now) v.items ≡ map (λ s. s.own) (filter (λ s. has_thread s.own.kind) (filter is_terminal (map standing_of objects.entry.now)))) }
+{
+    let mut threads = Vec::new(alloc);
+    'objects: for standing in objects {
+        add_thread(standing, &mut threads)?;
+    }
+    Ok(threads)
+}
+
+/// A table of the names of the objects of operations.
+fn names_of<'a>(alloc: Global, ops: &[OpView<'a>]) -> Result<Places<'a>, NoMemory>
+    ensures { IfOk result (λ t. (n : NameTree) → is_there (place_in t n) ≡ list_any (λ c. same_name c.object n) (map op_of ops.entry.now)) }
+{
+    let mut names = Places::new(alloc);
+    'ops: for op in ops {
+        names.put(op.object, 0)?;
+    }
+    Ok(names)
+}
+
+/// What the thread of an object calls itself.
+#[tactic(auto, using(ods_index::proofs::WalkSteps::node_steps, crate::proofs::SpreadLaws::thread_laws))]
+fn thread_starts<'a>(
+    alloc: Global,
+    links: &Links<'a>,
+    node: &'a Node,
+) -> Result<Vec<OpView<'a>>, NoMemory>
+    ensures { IfOk result (λ v. map op_of v.items ≡ flat_map (meant_calls (design_of links.now.design.now) (object_of node.entry.now)) (option_to_list (object_of node.entry.now).thread)) }
+{
+    match &node.thread {
+        None => Ok(Vec::new(alloc)),
+        Some(block) => {
+            let needs = Required::new(alloc, node.needs.as_slice())?;
+            meant_calls(alloc, links, &needs, block)
+        }
+    }
+}
+
+/// What threads can start.
+#[derive(Drop)]
+pub(crate) struct Starts<'a> {
+    pub(crate) links: Links<'a>,
+    inner: Inner<'a>,
+    pub(crate) depth: usize,
+    ghost leads: { (n : OpTree) → inner_at inner n ≡ inner_calls (design_of links.design.now) n },
+    ghost deep: { depth ≡ length (terminal_ops (design_of links.design.now)) },
+}
+
+impl<'a> Starts<'a> {
+    /// What the threads of a design can start.
+    pub(crate) fn new(alloc: Global, index: &Index<'a>) -> Result<Starts<'a>, NoMemory>
+        requires { IsIndex index.now }
+        ensures { IfOk result (λ s. s.links.design.now ≡ index.now.design.now) }
+    {
+        let links = Links::new(alloc, index.design)?;
+        let inner = inner_of(alloc, &links, index.objects.as_slice())?;
+        let ops = ops_of(alloc, index.objects.as_slice())?;
+        let depth = ops.len();
+        Ok(Starts {
+            links,
+            inner,
+            depth,
+        })
+    }
+
+    /// The operations that the thread of an object calls, itself or through protected ones, each once.
+    pub(crate) fn calls(&self, alloc: Global, node: &'a Node) -> Result<Vec<OpView<'a>>, NoMemory>
+        ensures { IfOk result (λ v. (test : OpTree → Bool) → list_any test (map op_of v.items) ≡ list_any test (thread_calls (design_of self.now.links.design.now) (object_of node.entry.now))) }
+    {
+        let starts = thread_starts(alloc, &self.links, node)?;
+        search(alloc, &self.inner, self.depth, starts.as_slice())
+    }
+
+    /// A table of the names of the objects of which the thread of an object calls operations, itself or through protected ones.
+    pub(crate) fn reached(&self, alloc: Global, node: &'a Node) -> Result<Places<'a>, NoMemory>
+        ensures { IfOk result (λ t. (n : NameTree) → is_there (place_in t n) ≡ reaches (design_of self.now.links.design.now) (object_of node.entry.now) n) }
+    {
+        let found = self.calls(alloc, node)?;
+        names_of(alloc, found.as_slice())
+    }
+}

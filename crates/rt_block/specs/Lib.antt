@@ -1,0 +1,9 @@
+pub mod Entries
+pub mod Places
+pub mod Called
+pub mod Prices
+pub mod Spreads
+pub mod Longest
+pub mod Requests
+pub mod Ranked
+pub mod Known

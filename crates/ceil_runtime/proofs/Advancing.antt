@@ -16,14 +16,16 @@ follows-then r r' r'' told a b = record {
   tells = λ rest h. a.tells (told ++ rest) (subst (λ (y : System). Rest y r'.state (told ++ rest)) a.system (b.tells rest (subst (λ (y : System). Rest y r''.state rest) (sym a.system) h)));
 }
 
--- the one event in the buffer
-follows-pushed : (r r' r'' : Running) (e : Event) (before now : List Event) → Follows r [] r' → Follows r' (e ∷ []) r'' → before ≡ [] → now ≡ before ++ e ∷ [] → Follows r now r''
-follows-pushed r r' r'' e before now a b empty pushed =
-    subst (λ (es : List Event). Follows r es r'') (sym (pushed ∙ ap (λ xs. xs ++ e ∷ []) empty)) (follows-then r r' r'' (e ∷ []) a b)
-
 -- what is told from here is the events in the buffer, and what is told after them
-pub tells-pushed : (r r' r'' : Running) (e : Event) (before now : List Event) → Follows r [] r' → Follows r' (e ∷ []) r'' → before ≡ [] → now ≡ before ++ e ∷ []
-    → (r''.system ≡ r.system) × ((told : List Event) → Tells r'' told → Tells r (now ++ told))
-tells-pushed r r' r'' e before now a b empty pushed =
-    let f = follows-pushed r r' r'' e before now a b empty pushed in
-    (f.system, λ told t. f.tells told (subst (λ (y : System). Rest y r''.state told) f.system t))
+pub tells-told : (r r' r'' : Running) (told now : List Event) → Follows r [] r' → Follows r' told r'' → now ≡ told → (r''.system ≡ r.system) × ((rest : List Event) → Tells r'' rest → Tells r (now ++ rest))
+tells-told r r' r'' told now a b is =
+    let f : Follows r now r'' = subst (λ (es : List Event). Follows r es r'') (sym is) (follows-then r r' r'' told a b) in
+    (f.system, λ rest t. f.tells rest (subst (λ (y : System). Rest y r''.state rest) f.system t))
+
+-- one event was put into the empty buffer
+pub one-pushed : (e : Event) (before now : List Event) → before ≡ [] → now ≡ before ++ e ∷ [] → now ≡ e ∷ []
+one-pushed e before now empty pushed = pushed ∙ ap (λ xs. xs ++ e ∷ []) empty
+
+-- two events were
+pub two-pushed : (e f : Event) (before now : List Event) → before ≡ [] → now ≡ before ++ e ∷ f ∷ [] → now ≡ e ∷ f ∷ []
+two-pushed e f before now empty pushed = pushed ∙ ap (λ xs. xs ++ e ∷ f ∷ []) empty

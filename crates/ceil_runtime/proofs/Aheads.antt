@@ -1,6 +1,9 @@
 -- How many ticks stand before the next release, and what is left of the first ready task's piece.
-use Rattle.std.specs.Prelude.{◌≡◌, ◌⊎◌, ℕ, ◌+◌, ◌<◌, ◌≤◌, List, [], ◌∷◌, length, get_or, Option, Some, None, option_map, slice_get}
-use Rattle.std.proofs.Common.{sym, ◌∙◌, ap, arith, inl, inr}
+use Rattle.std.specs.Prelude.{◌≡◌, ◌⊎◌, ℕ, suc, ◌+◌, ◌-◌, ◌<◌, ◌≤◌, ◌==◌, Bool, true, false, nat_lt, List, [], ◌∷◌, length, get_or, Option, Some, None, option_map, slice_get, refl}
+use Rattle.std.proofs.Common.{sym, ◌∙◌, ap, subst, arith, inl, inr}
+use Rattle.std.proofs.lemmas.Bool.Decides.{nat_tests}
+use Rattle.arrivals_tree.specs.declared.arrivals.Arrival.{Arrival}
+use Rattle.dispatching.specs.Jumping.{NoArrival}
 use Rattle.std.proofs.lemmas.Option.{slice_get_read}
 use Rattle.link_queue.specs.Queues.{Each, Entry, IsOrdered, WakesBefore}
 use Rattle.link_queue.proofs.Lists.{each-map}
@@ -72,9 +75,6 @@ within-head tasks (e ∷ es) task level n t all first read le =
 
     found : slice_get tasks task ≡ Some t
     found = let known : task < length tasks = omega (arith, all.0, same) in slice_get_read tasks (length tasks) task t refl known read
-      where
-        refl : length tasks ≡ length tasks
-        refl = omega arith
 
     some_same : (u v : Task) → Some u ≡ Some v → u ≡ v
     some_same u v k = cc
@@ -89,3 +89,23 @@ within-none tasks (e ∷ es) n none = absurd (some none)
   where
     some : None ≡ Some e → ⊥
     some k = cc
+
+-- no arrival before the first one that is still to come
+pub before-arrival : (arrivals : List Arrival) (a : Arrival) (others : List Arrival) (time n : ℕ) → arrivals ≡ a ∷ others → (time < a.time → time + n ≤ a.time) → (j : ℕ) → j < n - 1 → NoArrival (time + suc j) arrivals
+before-arrival arrivals a others time n is within j h = subst (NoArrival (time + suc j)) (sym is) (by_time (nat_lt time a.time) refl)
+  where
+    not_then : (m k : ℕ) → (m ≡ k → ⊥) → (m == k) ≡ false
+    not_then m k other = grind (arith, nat_tests)
+
+    by_time : (b : Bool) → nat_lt time a.time ≡ b → (a.time == time + suc j) ≡ false
+    by_time true e = let later : time < a.time = lt time a.time e in let room : time + n ≤ a.time = within later in not_then a.time (time + suc j) (λ same. omega (arith, room, same, h))
+      where
+        lt : (m k : ℕ) → nat_lt m k ≡ true → m < k
+        lt m k t = grind (arith, nat_tests)
+    by_time false e = let past : a.time ≤ time = le time a.time e in not_then a.time (time + suc j) (λ same. omega (arith, past, same))
+      where
+        le : (m k : ℕ) → nat_lt m k ≡ false → k ≤ m
+        le m k t = grind (arith, nat_tests)
+
+pub fewer-arrival : (arrivals : List Arrival) (time n m : ℕ) → n ≤ m → ((j : ℕ) → j < m - 1 → NoArrival (time + suc j) arrivals) → (j : ℕ) → j < n - 1 → NoArrival (time + suc j) arrivals
+fewer-arrival arrivals time n m le none j h = none j (omega (arith, le, h))

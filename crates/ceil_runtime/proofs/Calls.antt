@@ -1,6 +1,6 @@
 -- Calls: what is known of an operation that is called, and the names of its variables.
 use Rattle.std.proofs.Common.{◌≡◌, ℕ, ◌+◌, ◌≤◌, true, List, [], ◌∷◌, ◌++◌, length, map, refl, ap, sym, subst, ◌∙◌, arith, Some, None, length-append}
-use Rattle.std.specs.Prelude.{is_some}
+use Rattle.std.specs.Prelude.{is_some, option_to_list, Option}
 use Rattle.std.proofs.lemmas.List.{length-map, map-append}
 use Rattle.seq_tree.specs.Names.{Name}
 use Rattle.seq_tree.specs.Operations.{Operation}
@@ -14,13 +14,20 @@ use Rattle.seq_tree.specs.declared.tree.OpName.{OpName}
 use Rattle.seq_tree.specs.declared.tree.Stmt.{Stmt}
 use Rattle.ceil_runtime.specs.Callable.{IsClear, op_in}
 use Rattle.ceil_runtime.specs.Fitting.{FitsBlock, FitsList, IsPushed, IsUnderWay, Place, Spot, above, body_names, call_name, in_call, names_of, place_of}
-use Rattle.ceil_runtime.specs.Written.{CanCall, IsReady, first_place, libraries_of, reserve}
+use Rattle.machine.specs.Releases.{parameter}
+use Rattle.ceil_runtime.specs.Effort.{request_params}
+use Rattle.ceil_runtime.specs.Stacked.{vars_of}
+use Rattle.ceil_runtime.specs.Written.{CanCall, IsReady, data_names, first_place, libraries_of, params_of, reserve, timing_of}
+use Rattle.ceil_runtime.specs.declared.thread.Timing.{Timing}
+use Rattle.ceil_runtime.specs.declared.thread.Timing.TheVariants as timing
+use Rattle.ceil_runtime.specs.declared.values.Var.{Var}
 use Rattle.ceil_runtime.specs.declared.thread.Thread.{Thread}
 use Rattle.ceil_runtime.specs.declared.piece.Call.{Call}
 use Rattle.ceil_runtime.specs.declared.piece.Frame.{Frame}
 use Rattle.ceil_runtime.specs.declared.piece.Frame.TheVariants as frame
 use Rattle.ceil_runtime.proofs.Blocks.{block-tree}
 use Rattle.ceil_runtime.proofs.Frames.{FitAll, few-frames, libraries-kept}
+use Rattle.ceil_runtime.proofs.Stacks.{vars-length}
 
 -- an operation that is clear is there
 pub is-there : (t : Thread) (fs : List Frame) (c : OpName) → IsClear (place_of (first_place t) fs).spot.libraries (place_of (first_place t) fs).spot.chain c → op_in (libraries_of t) c ≡ None → ⊥
@@ -78,3 +85,16 @@ names-written (d ∷ ds) = ap (λ ns. d.name ∷ ns) (names-written ds)
 pub names-opened : (ps : List Param) (ds : List Datum) (values : List ℕ) → names_of (entered ps values ++ written ds) ≡ map (λ p. p.name) ps ++ map (λ d. d.name) ds
 names-opened ps ds values =
     map-append (λ v. v.0) (entered ps values) (written ds) ∙ ap (λ ns. ns ++ names_of (written ds)) (names-entered ps values) ∙ ap (λ ns. map (λ p. p.name) ps ++ ns) (names-written ds)
+
+-- the names of a request's parameter, and of the variables behind it
+pub names-requested : (w : Timing) (value : Option ℕ) (vs : Variables) → names_of (parameter (timing_of w) value ++ vs) ≡ map (λ q. q.name) (request_params (timing_of w)) ++ names_of vs
+names-requested (timing.Periodic offset period) value vs = refl
+names-requested (timing.Requested op ceiling separation jitter external) value vs =
+    map-append (λ v. v.0) (entered op.now.params.items (option_to_list value)) vs ∙ ap (λ ns. ns ++ names_of vs) (names-entered op.now.params.items (option_to_list value))
+
+-- there is room for the parameters beside the data
+pub request-room : (t : Thread) (vars : List Var) → names_of (vars_of vars) ≡ data_names t → length vars + length (params_of t) + 2 ≤ reserve t
+request-room t vars names =
+    let count : length vars ≡ length t.«data».now =
+    sym (vars-length vars) ∙ sym (length-map (vars_of vars) (λ v. v.0)) ∙ ap length names ∙ length-map t.«data».now (λ d. d.name) in
+    omega (arith, count, length-map (params_of t) (λ q. q.name))

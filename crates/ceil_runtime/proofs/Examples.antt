@@ -1,5 +1,5 @@
 -- Examples of what a machine keeps: for each definition one case that holds, and one that breaks it alone.
-use Rattle.std.specs.Prelude.{◌≡◌, ℕ, zero, suc, ◌+◌, ◌<◌, ◌≤◌, true, false, [], ◌∷◌, Some, None, refl}
+use Rattle.std.specs.Prelude.{◌≡◌, ℕ, zero, suc, ◌+◌, ◌<◌, ◌≤◌, true, false, List, [], ◌∷◌, Some, None, refl}
 use Rattle.std.proofs.Common.{arith, sym, ◌∙◌}
 use Rattle.seq_tree.specs.declared.tree.Costs.{Costs}
 use Rattle.link_queue.specs.Queues.{Queues}
@@ -12,7 +12,18 @@ use Rattle.machine.specs.Meanings.{Running, Rest, run}
 use Rattle.ceil_runtime.specs.Effort.{IsLong, first_ticks}
 use Rattle.ceil_runtime.specs.Left.{Falls}
 use Rattle.ceil_runtime.specs.Processing.{Follows, HoldsIn, IsFirst}
-use Rattle.ceil_runtime.specs.Works.{readiness_of}
+use Rattle.ada_tree.specs.Programs.{Shared, Sporadic}
+use Rattle.seq_tree.specs.Statements.{End}
+use Rattle.seq_tree.specs.Variables.{Variables}
+use Rattle.ceil_runtime.specs.Doing.{KeepsData}
+use Rattle.ceil_runtime.specs.Readies.{readiness_of, rests_as}
+use Rattle.ceil_runtime.specs.Replayable.{is_run}
+use Rattle.ceil_runtime.specs.Stepping.{GoesOn, told_of}
+use Rattle.ceil_runtime.specs.Works.{asked}
+use Rattle.ceil_runtime.specs.declared.effects.Act.TheVariants.{Finish}
+use Rattle.ceil_runtime.specs.declared.processor.Told.TheVariants as told
+use Rattle.ceil_runtime.specs.declared.task.Readiness.TheVariants as readies
+use Rattle.ceil_runtime.specs.declared.thread.Timing.TheVariants as timing
 use Rattle.ceil_runtime.specs.declared.processor.Phase.TheVariants.{Arriving, Use}
 
 abbrev unit_costs : Costs
@@ -38,9 +49,54 @@ long = omega arith
 not-long : IsLong (Some 0) → ⊥
 not-long h = omega (arith, h)
 
--- a task that isn't ready sleeps until its next time
-sleeps : readiness_of false 50 ≡ states.Asleep 50
+-- a task that sleeps does so until its next time; one that waits has none
+sleeps : readiness_of readies.Asleep 50 ≡ states.Asleep 50
 sleeps = refl
+
+waits : readiness_of readies.Waiting 50 ≡ states.Waiting
+waits = refl
+
+-- a task that is released by requests waits, and doesn't sleep; one with times of its own sleeps
+rests : rests_as readies.Asleep (timing.Periodic 0 5) ≡ true
+rests = refl
+
+rests-not : rests_as readies.Waiting (timing.Periodic 0 5) ≡ false
+rests-not = refl
+
+-- the units that are run: a sporadic one that is requested from outside, and none that is requested from inside
+run-external : is_run (Sporadic 3 4 (record { name = []; params = [] }) 10 0 true [] End) ≡ true
+run-external = refl
+
+run-internal : is_run (Sporadic 3 4 (record { name = []; params = [] }) 10 0 false [] End) ≡ false
+run-internal = refl
+
+run-shared : is_run (Shared 4 [] []) ≡ false
+run-shared = refl
+
+-- a second arrival replaces the value that is kept
+replaced : (t : states.Task) → asked (Some 2) (asked (Some 1) t) ≡ asked (Some 2) t
+replaced t = refl
+
+-- what a step tells
+tells-two : told_of (told.Two (event.Arrive 3 0 None) (event.Release 3 0 None)) ≡ event.Arrive 3 0 None ∷ event.Release 3 0 None ∷ []
+tells-two = refl
+
+-- the last event of a run is its horizon alone
+goes-on : GoesOn (event.Arrive 3 0 None)
+goes-on = tt
+
+goes-on-not : GoesOn (event.Horizon 3) → ⊥
+goes-on-not h = h
+
+-- the end of an activation: the data are kept, and the parameter goes
+keeps : KeepsData Finish (record { name = 120 ∷ []; value = 7 } ∷ []) ((112 ∷ [], 4) ∷ (120 ∷ [], 9) ∷ []) ((120 ∷ [], 9) ∷ [])
+keeps = refl
+
+keeps-not : KeepsData Finish (record { name = 120 ∷ []; value = 7 } ∷ []) ((112 ∷ [], 4) ∷ (120 ∷ [], 9) ∷ []) [] → ⊥
+keeps-not h = none h
+  where
+    none : {v : List ℕ × ℕ} {vs : Variables} → ◌≡◌ {A = Variables} [] (v ∷ vs) → ⊥
+    none k = cc
 
 -- the sleepers after arrivals, and before ticks are used: none is due, and it is not the horizon
 abbrev sleeper : ℕ → Queues

@@ -1,6 +1,7 @@
 -- A run that goes on has as many events less to tell.
 use Rattle.std.specs.Prelude.{◌≡◌, ℕ, zero, suc, ◌+◌, ◌-◌, ◌*◌, ◌<◌, ◌≤◌, Bool, true, false, ◌==◌, if◌then◌else◌, List, [], ◌∷◌, length, Option, Some, None, slice_get}
 use Rattle.std.proofs.Common.{sym, ◌∙◌, ap, arith}
+use Rattle.arrivals_tree.specs.declared.arrivals.Arrival.{Arrival}
 use Rattle.seq_tree.specs.Lists.{change}
 use Rattle.machine.specs.Pieces.{Piece, Idle, Store, Leaving, Calling, Working, Printing, Testing, Turning, Turned, Returning, Closing, Keeping, Opening, Requested, Finishing}
 use Rattle.machine.specs.States.{Task, Readiness, Asleep, Waiting, Ready}
@@ -11,11 +12,13 @@ use Rattle.ada_tree.specs.declared.program.Unit as units
 use Rattle.link_queue.specs.Queues.{Entry}
 use Rattle.ceil_runtime.specs.Left.{first_tells, left, sleeper, sleepers, telling}
 use Rattle.ceil_runtime.specs.Processing.{state_by, system_by}
-use Rattle.ceil_runtime.specs.Works.{readiness_of, task_of, tells_of}
+use Rattle.ceil_runtime.specs.Works.{task_of, tells_of}
+use Rattle.ceil_runtime.specs.Readies.{readiness_of}
 use Rattle.ceil_runtime.specs.Written.{thread_of}
 use Rattle.ceil_runtime.specs.declared.task.Task as works
+use Rattle.ceil_runtime.specs.declared.task.Readiness.TheVariants as readiness
 use Rattle.ceil_runtime.specs.declared.processor.Phase.{Phase}
-use Rattle.ceil_runtime.specs.declared.processor.Phase.TheVariants.{Effects, Delays, Use}
+use Rattle.ceil_runtime.specs.declared.processor.Phase.TheVariants.{Effects, Delays, Arriving, Use}
 use Rattle.ceil_runtime.proofs.Processed.{Changed, changed-tasks, changed-threads, here-of}
 
 -- the sums after one task has changed
@@ -80,18 +83,25 @@ first-most (Keeping task value ∷ ps) = omega arith
 first-most (Opening task ∷ ps) = omega arith
 first-most (Requested task value ∷ ps) = omega arith
 
+pub sleeper-most : (r : Readiness) → sleeper r ≤ 1
+sleeper-most (Asleep until) = omega arith
+sleeper-most Waiting = omega arith
+sleeper-most Ready = omega arith
+
+-- a piece whose ticks are not used tells nothing
+pub starts-later : (t : works.Task) → 0 < t.left → tells_of (task_of t) ≡ 0
+starts-later t some = ap (λ b. if b then first_tells (task_of t).pieces else 0) (not_zero t.left some)
+  where
+    not_zero : (n : ℕ) → 0 < n → (n == 0) ≡ false
+    not_zero n h = grind arith
+
 pub telling-most : (ts : List Task) → telling ts + sleepers ts ≤ 3 * length ts
 telling-most [] = omega arith
-telling-most (t ∷ ts) = sums (tells_of t) (telling ts) (sleeper t.readiness) (sleepers ts) (length ts) (by_left (t.left == 0)) (by_readiness t.readiness) (telling-most ts)
+telling-most (t ∷ ts) = sums (tells_of t) (telling ts) (sleeper t.readiness) (sleepers ts) (length ts) (by_left (t.left == 0)) (sleeper-most t.readiness) (telling-most ts)
   where
     by_left : (b : Bool) → (if b then first_tells t.pieces else 0) ≤ 2
     by_left true = first-most t.pieces
     by_left false = omega arith
-
-    by_readiness : (r : Readiness) → sleeper r ≤ 1
-    by_readiness (Asleep until) = omega arith
-    by_readiness Waiting = omega arith
-    by_readiness Ready = omega arith
 
     sums : (a b c d n : ℕ) → a ≤ 2 → c ≤ 1 → b + d ≤ 3 * n → a + b + (c + d) ≤ 3 * suc n
     sums a b c d n h k l = omega arith
@@ -107,18 +117,24 @@ falls-ticks until time ticks n m e some within same few =
     lem a b k h = grind arith
 
 -- the number of a processor with these fields
-abbrev pub left_by : ℕ → Costs → List units.Unit → ℕ → Phase → Option ℕ → Bool → List works.Task → List Entry → ℕ
-left_by until costs us time p ran stopped tasks ready = left (record { system = system_by until costs us tasks; state = state_by time p ran stopped tasks ready })
+abbrev pub left_by : List Arrival → ℕ → Costs → List units.Unit → ℕ → Phase → Option ℕ → Bool → List works.Task → List Entry → ℕ
+left_by arrivals until costs us time p ran stopped tasks ready = left (record { system = system_by until costs us tasks; state = state_by arrivals time p ran stopped tasks ready })
 
 -- ticks are used
-pub falls-use : (until : ℕ) (costs : Costs) (us : List units.Unit) (time ticks : ℕ) (ran ran' : Option ℕ) (stopped stopped' : Bool) (tasks tasks' : List works.Task) (ready ready' : List Entry)
+pub falls-use : (arrivals : List Arrival) (until : ℕ) (costs : Costs) (us : List units.Unit) (time ticks : ℕ) (ran ran' : Option ℕ) (stopped stopped' : Bool) (tasks tasks' : List works.Task) (ready ready' : List Entry)
     → map (λ u. thread_of u.progress.stack.thread) tasks' ≡ map (λ u. thread_of u.progress.stack.thread) tasks → 0 < ticks → time + ticks ≤ until
-    → left_by until costs us (time + ticks) Effects ran' stopped' tasks' ready' + 0 ≤ left_by until costs us time Use ran stopped tasks ready
-falls-use until costs us time ticks ran ran' stopped stopped' tasks tasks' ready ready' same some within =
+    → left_by arrivals until costs us (time + ticks) Effects ran' stopped' tasks' ready' + 0 ≤ left_by arrivals until costs us time Use ran stopped tasks ready
+falls-use arrivals until costs us time ticks ran ran' stopped stopped' tasks tasks' ready ready' same some within =
     let few : telling (map task_of tasks') + sleepers (map task_of tasks') ≤ 3 * length (map (λ u. thread_of u.progress.stack.thread) tasks') =
     omega (arith, telling-most (map task_of tasks'), length-map tasks' task_of, length-map tasks' (λ u. thread_of u.progress.stack.thread)) in
-    falls-ticks until time ticks (length (map (λ u. thread_of u.progress.stack.thread) tasks')) (length (map (λ u. thread_of u.progress.stack.thread) tasks))
-    (telling (map task_of tasks') + sleepers (map task_of tasks')) some within (ap length same) few
+    let falls = falls-ticks until time ticks (length (map (λ u. thread_of u.progress.stack.thread) tasks')) (length (map (λ u. thread_of u.progress.stack.thread) tasks))
+    (telling (map task_of tasks') + sleepers (map task_of tasks')) some within (ap length same) few in
+    omega (arith, falls)
+
+-- an arrival for no task
+pub falls-nobody : (a : Arrival) (others : List Arrival) (until : ℕ) (costs : Costs) (us : List units.Unit) (time : ℕ) (ran : Option ℕ) (stopped : Bool) (tasks : List works.Task) (ready : List Entry)
+    → left_by others until costs us time Arriving ran stopped tasks ready + 0 ≤ left_by (a ∷ others) until costs us time Arriving ran stopped tasks ready
+falls-nobody a others until costs us time ran stopped tasks ready = omega arith
 
 -- one task has changed
 module _ (tasks tasks' : List works.Task) (i : ℕ) (t t' : works.Task) (f : Task → Task) (c : Changed tasks tasks' i t t' f) where
@@ -135,14 +151,19 @@ module _ (tasks tasks' : List works.Task) (i : ℕ) (t t' : works.Task) (f : Tas
   rate : (k : ℕ) → k * (3 * length (map (λ u. thread_of u.progress.stack.thread) tasks')) ≡ k * (3 * length (map (λ u. thread_of u.progress.stack.thread) tasks))
   rate k = ap (λ ts. k * (3 * length ts)) (changed-threads tasks tasks' i t t' f c)
 
-  pub falls-effect : (until : ℕ) (costs : Costs) (us : List units.Unit) (time n : ℕ) (ran : Option ℕ) (stopped : Bool) (ready ready' : List Entry)
+  pub falls-effect : (arrivals : List Arrival) (until : ℕ) (costs : Costs) (us : List units.Unit) (time n : ℕ) (ran : Option ℕ) (stopped : Bool) (ready ready' : List Entry)
       → tells_of (task_of t') + sleeper (task_of t').readiness + n ≤ tells_of (task_of t) + sleeper (task_of t).readiness
-      → left_by until costs us time Effects ran stopped tasks' ready' + n ≤ left_by until costs us time Effects ran stopped tasks ready
-  falls-effect until costs us time n ran stopped ready ready' h = omega (arith, rate (until - time), telling-sum, sleepers-sum, h)
+      → left_by arrivals until costs us time Effects ran stopped tasks' ready' + n ≤ left_by arrivals until costs us time Effects ran stopped tasks ready
+  falls-effect arrivals until costs us time n ran stopped ready ready' h = omega (arith, rate (until - time), telling-sum, sleepers-sum, h)
 
-  pub falls-release : (until : ℕ) (costs : Costs) (us : List units.Unit) (time : ℕ) (ran : Option ℕ) (stopped : Bool) (ready ready' : List Entry) → t.ready ≡ false → (task_of t').readiness ≡ Ready
-      → left_by until costs us time Delays ran stopped tasks' ready' + 1 ≤ left_by until costs us time Delays ran stopped tasks ready
-  falls-release until costs us time ran stopped ready ready' a b =
+  pub falls-release : (arrivals : List Arrival) (until : ℕ) (costs : Costs) (us : List units.Unit) (time : ℕ) (ran : Option ℕ) (stopped : Bool) (ready ready' : List Entry) → t.readiness ≡ readiness.Asleep → (task_of t').readiness ≡ Ready
+      → left_by arrivals until costs us time Delays ran stopped tasks' ready' + 1 ≤ left_by arrivals until costs us time Delays ran stopped tasks ready
+  falls-release arrivals until costs us time ran stopped ready ready' a b =
       let was : sleeper (task_of t).readiness ≡ 1 = ap (λ r. sleeper (readiness_of r t.next)) a in
       let is : sleeper (task_of t').readiness ≡ 0 = ap sleeper b in
       omega (arith, rate (until - time), sleepers-sum, was, is)
+
+  -- an arrival, which may tell two events
+  pub falls-arrival : (a : Arrival) (others : List Arrival) (until : ℕ) (costs : Costs) (us : List units.Unit) (time n : ℕ) (ran : Option ℕ) (stopped : Bool) (ready ready' : List Entry) → n ≤ 2
+      → left_by others until costs us time Arriving ran stopped tasks' ready' + n ≤ left_by (a ∷ others) until costs us time Arriving ran stopped tasks ready
+  falls-arrival a others until costs us time n ran stopped ready ready' h = omega (arith, rate (until - time), h)

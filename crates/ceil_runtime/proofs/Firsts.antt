@@ -1,21 +1,26 @@
 -- What is known of a piece that becomes first.
-use Rattle.std.proofs.Common.{◌≡◌, ℕ, List, [], ◌∷◌, ◌++◌, length, take, refl, ap, sym, subst, ◌∙◌, true, false, Option, Some, None}
+use Rattle.std.proofs.Common.{◌≡◌, ℕ, ◌+◌, ◌-◌, List, [], ◌∷◌, ◌++◌, length, take, drop, refl, ap, sym, subst, ◌∙◌, true, false, Option, Some, None, arith, length-append}
+use Rattle.std.proofs.lemmas.List.{length-map}
 use Rattle.std.specs.Borrow.{Bor}
 use Rattle.std.proofs.Math.Seq.{take-append_seam}
-use Rattle.seq_tree.specs.Names.{Name, same_name}
-use Rattle.seq_tree.specs.Variables.{Variables, write, stored}
+use Rattle.seq_tree.specs.Names.{Name, are_distinct, same_name}
+use Rattle.seq_tree.specs.Variables.{Variables, kept, write, stored}
 use Rattle.seq_tree.specs.declared.tree.Stmt.{Stmt}
-use Rattle.ceil_runtime.specs.Progresses.{kept, put_away, started}
+use Rattle.ceil_runtime.specs.Stacked.{vars_of}
+use Rattle.ceil_runtime.specs.Progresses.{put_away, started}
+use Rattle.ceil_runtime.specs.Progresses.{kept as kept_frames}
 use Rattle.ceil_runtime.specs.Fitting.{FitsFirst, FitsList, FitsPiece, IsOfStatement, IsPopped, IsPushed, Named, Place, PutsAway, Spot, names_of, next, place_of}
 use Rattle.ceil_runtime.specs.Doing.{IsFirst}
-use Rattle.ceil_runtime.specs.Written.{first_place, data_names}
+use Rattle.ceil_runtime.specs.Written.{first_place, data_names, param_names}
 use Rattle.ceil_runtime.specs.declared.thread.Thread.{Thread}
 use Rattle.ceil_runtime.specs.declared.values.Var.{Var}
 use Rattle.ceil_runtime.specs.declared.piece.Piece.{Piece}
 use Rattle.ceil_runtime.specs.declared.piece.Piece.TheVariants as piece
 use Rattle.ceil_runtime.specs.declared.piece.Frame.{Frame}
 use Rattle.ceil_runtime.specs.declared.piece.Frame.TheVariants as frame
+use Rattle.ceil_runtime.proofs.Ends.{kept-behind, names-kept}
 use Rattle.ceil_runtime.proofs.Frames.{first-frame}
+use Rattle.ceil_runtime.proofs.Stacks.{vars-front, vars-length}
 
 -- a piece that a statement begins with is like every other
 fits_statement : (p : Place) (q : Piece) → IsOfStatement q → FitsPiece p.spot q → FitsFirst p (Some q)
@@ -31,18 +36,18 @@ fits_statement p (piece.Turned r) of h = absurd of
 fits_statement p (piece.Returning c) of h = absurd of
 fits_statement p piece.Finishing of h = absurd of
 
-named_statement : (names now : List Name) (q : Piece) → IsOfStatement q → now ≡ names → Named names (Some q) now
-named_statement names now piece.Idle of h = h
-named_statement names now (piece.Store target value) of h = h
-named_statement names now (piece.Leaving condition) of h = h
-named_statement names now (piece.Calling object op actuals) of h = h
-named_statement names now (piece.Working ticks) of h = h
-named_statement names now (piece.Printing value) of h = h
-named_statement names now (piece.Testing arm arms other) of h = h
-named_statement names now (piece.Turning r) of h = h
-named_statement names now (piece.Turned r) of h = absurd of
-named_statement names now (piece.Returning c) of h = absurd of
-named_statement names now piece.Finishing of h = h
+named_statement : (p : Place) (now : List Name) (q : Piece) → IsOfStatement q → now ≡ p.names → Named p (Some q) now
+named_statement p now piece.Idle of h = h
+named_statement p now (piece.Store target value) of h = h
+named_statement p now (piece.Leaving condition) of h = h
+named_statement p now (piece.Calling object op actuals) of h = h
+named_statement p now (piece.Working ticks) of h = h
+named_statement p now (piece.Printing value) of h = h
+named_statement p now (piece.Testing arm arms other) of h = h
+named_statement p now (piece.Turning r) of h = h
+named_statement p now (piece.Turned r) of h = absurd of
+named_statement p now (piece.Returning c) of h = absurd of
+named_statement p now piece.Finishing of h = absurd of
 
 away_statement : (q : Piece) (away : Variables) → IsOfStatement q → away ≡ [] → PutsAway (Some q) away
 away_statement piece.Idle away of h = h
@@ -72,7 +77,7 @@ first-behind t q ss rest f fs gs hs vs popped is pushed fits of names away =
     let same : place_of (first_place t) hs ≡ here = pushed.place in
     record {
       fits = subst (λ p. FitsFirst p (Some q)) (sym same) (fits_statement here q of (fits here.spot was.here.2).0);
-      named = named_statement (place_of (first_place t) hs).names (names_of vs) q of (names ∙ ap (λ p. p.names) was.place ∙ ap (λ p. p.names) (sym same));
+      named = named_statement (place_of (first_place t) hs) (names_of vs) q of (names ∙ ap (λ p. p.names) was.place ∙ ap (λ p. p.names) (sym same));
       away = away_statement q (put_away hs) of (ap (λ k. k.away) pushed.kept ∙ was.here.0);
     }
 
@@ -84,11 +89,21 @@ no-finish t fs gs f popped is inside =
     let outside : (place_of (first_place t) fs).spot.inside ≡ false = ap (λ p. p.spot.inside) was.place ∙ ap (λ xs. (place_of (first_place t) xs).spot.inside) none in
     absurd (cc (inside, outside))
 
--- an activation has ended
-pub first-ended : (t : Thread) (vs : Variables) (fs gs : List Frame) → IsFirst t (Some piece.Finishing) vs fs → gs ≡ [] → IsFirst t None vs gs
-first-ended t vs fs gs h none =
-    let empty : fs ≡ [] = first-frame t fs h.fits in
-    subst (IsFirst t None vs) (sym none) (record { fits = refl; named = h.named ∙ ap (λ xs. (place_of (first_place t) xs).names) empty; away = refl })
+-- an activation has ended: the parameters go, and the data are kept
+module _ (t : Thread) (vars : List Var) (fs gs : List Frame) (h : IsFirst t (Some piece.Finishing) (vars_of vars) fs) (none : gs ≡ []) (distinct : are_distinct (data_names t ++ param_names t) ≡ true) where
+  names-ended : names_of (vars_of vars) ≡ param_names t ++ data_names t
+  names-ended = h.named ∙ ap (λ xs. (place_of (first_place t) xs).params ++ (place_of (first_place t) xs).names) (first-frame t fs h.fits)
+
+  pub kept-ended : vars_of (take (length t.«data».now) vars) ≡ kept t.«data».now (vars_of vars)
+  kept-ended =
+      let count : length vars ≡ length (param_names t) + length t.«data».now =
+      sym (vars-length vars) ∙ sym (length-map (vars_of vars) (λ v. v.0)) ∙ ap length names-ended ∙ length-append (param_names t) (data_names t) ∙ ap (λ n. length (param_names t) + n) (length-map t.«data».now (λ d. d.name)) in
+      let over : length vars - length t.«data».now ≡ length (param_names t) = omega arith in
+      vars-front vars (length t.«data».now) (omega arith) ∙ ap (λ n. drop n (vars_of vars)) over ∙ sym (kept-behind t.«data».now (param_names t) (vars_of vars) names-ended distinct)
+
+  pub first-ended : (vs : Variables) → vs ≡ kept t.«data».now (vars_of vars) → IsFirst t None vs gs
+  first-ended vs same =
+      subst (IsFirst t None vs) (sym none) (record { fits = refl; named = ap names_of same ∙ names-kept t.«data».now (vars_of vars); away = refl })
 
 -- an assignment keeps the names
 pub names-write : (name : Name) (v : ℕ) (vs : Variables) → names_of (write name v vs) ≡ names_of vs
@@ -122,6 +137,6 @@ all-back p fs gs f popped other = by_form f popped other where
   by_form (frame.Return c) h no_other = ap (λ k. k.away) h.kept
 
 -- a task that has nothing left has its data alone
-pub names-idle : (t : Thread) (first : Option Piece) (vs : Variables) (fs : List Frame) → IsFirst t first vs fs → started first (kept fs) ≡ [] → names_of vs ≡ data_names t
+pub names-idle : (t : Thread) (first : Option Piece) (vs : Variables) (fs : List Frame) → IsFirst t first vs fs → started first (kept_frames fs) ≡ [] → names_of vs ≡ data_names t
 names-idle t None vs fs h none = h.named ∙ ap (λ xs. (place_of (first_place t) xs).names) (first-frame t fs h.fits)
 names-idle t (Some q) vs fs h none = absurd (cc)

@@ -61,7 +61,7 @@ abbrev pub budget : Place → ℕ
 budget p = p.height + length p.names + p.spot.room + calls_room p.spot.chain p.spot.libraries
 
 frame-budget : (p : Place) (away : Variables) (f : Frame) → FitsFrame p away f → budget (next p f) ≤ budget p
-frame-budget p away frame.Finish h = omega (arith, h.1)
+frame-budget p away frame.Finish h = omega (arith, h.1, length-append p.params p.names)
 frame-budget p away (frame.Stmts ss) h = omega (arith, h.1)
 frame-budget p away (frame.Turned r) h = omega (arith, h.1.0)
 frame-budget p away (frame.Saved v) h = let some : length p.names ≡ suc (length (drop 1 p.names)) = ap length h in omega (arith, some)

@@ -9,48 +9,58 @@ use Rattle.seq_tree.specs.Statements.{Statements}
 use Rattle.seq_tree.specs.Trees.{block_of, statement_of, statements_of}
 use Rattle.seq_tree.specs.declared.tree.Block.{Block}
 use Rattle.seq_tree.specs.declared.tree.Datum.{Datum}
-use Rattle.ada_tree.specs.InUse.{is_sequential}
+use Rattle.ceil_runtime.specs.Replayable.{is_run}
 use Rattle.ada_tree.specs.Programs.{Unit, Form, Passive, Shared, Cyclic, Sporadic}
 use Rattle.ada_tree.specs.Trees.{form_of, unit_of}
 use Rattle.ada_tree.specs.declared.program.Unit as units
+use Rattle.ada_tree.specs.declared.program.Form as forms
 use Rattle.ada_tree.specs.declared.program.Form.TheVariants as form
 use Rattle.arrivals_tree.specs.Arriving.{durations}
 use Rattle.arrivals_tree.specs.declared.arrivals.WorkList.{WorkList}
 use Rattle.machine.specs.Systems.{thread_by}
 use Rattle.ceil_runtime.specs.Gathering.{Adds, AllThreads, IsThreadOf, threads_from}
-use Rattle.ceil_runtime.specs.Written.{handed, thread_of, written_as}
+use Rattle.ceil_runtime.specs.Written.{block_of_thread, form_by, handed, thread_of, timing_of, written_as}
+use Rattle.ceil_runtime.specs.declared.thread.Timing.{Timing}
+use Rattle.ceil_runtime.specs.declared.thread.Timing.TheVariants as timing
 use Rattle.ceil_runtime.specs.declared.thread.Thread.{Thread}
 use Rattle.ceil_runtime.proofs.Blocks.{block-tree}
 use Rattle.ceil_runtime.proofs.Started.{get-push}
 use Rattle.ceil_runtime.proofs.UnitsAt.{get-map, units-at}
 
 -- a task that is written as this unit, at its place
-pub record IsCyclic (lists : List WorkList) (us : List units.Unit) (place : ℕ) (u : units.Unit) (t : Thread) : Type 0 where
+pub record IsTaskAt (lists : List WorkList) (us : List units.Unit) (place : ℕ) (u : units.Unit) (t : Thread) : Type 0 where
   pub work : t.work.now ≡ lists
   pub units : t.units.now ≡ us
   pub unit : t.unit ≡ place
   pub written : unit_of u ≡ written_as t
   pub thread : thread_by (durations (handed lists) place) place (unit_of u).name (unit_of u).form ≡ Some (thread_of t)
 
-pub is-cyclic : (work : List WorkList) (us : List units.Unit) (place : ℕ) (u : units.Unit) (vars : _) (block : Block) (t : Thread)
-    → t.work.now ≡ work → t.units.now ≡ us → t.unit ≡ place → t.name.now ≡ u.name → u.form ≡ form.Cyclic t.priority t.offset t.period vars block → t.«data».now ≡ vars.items → t.stmts.now ≡ block.stmts.items
-    → IsCyclic work us place u t
-is-cyclic work us place u vars block t work_is units_are unit_is name_is form_is data_are stmts_are =
-    let made : Name → List Datum → Statements → Unit = λ n d b. record { name = n; form = Cyclic t.priority t.offset t.period d b } in
+-- the task that a form gives
+thread-by : (ds : List ℕ) (place : ℕ) (name : Name) (w : Timing) (priority : ℕ) (vars : List Datum) (block : Statements)
+    → thread_by ds place name (form_by w priority vars block) ≡ Some (record { unit = place; name = name; priority = priority; timing = timing_of w; vars = vars; block = block; durations = ds })
+thread-by ds place name (timing.Periodic offset period) priority vars block = refl
+thread-by ds place name (timing.Requested op ceiling separation jitter external) priority vars block = refl
+
+pub is-task : (work : List WorkList) (us : List units.Unit) (place : ℕ) (u : units.Unit) (f : forms.Form) (vars : List Datum) (block : Block) (t : Thread)
+    → t.work.now ≡ work → t.units.now ≡ us → t.unit ≡ place → t.name.now ≡ u.name → u.form ≡ f → form_of f ≡ form_by t.timing t.priority vars (block_of block) → t.«data».now ≡ vars → t.stmts.now ≡ block.stmts.items
+    → IsTaskAt work us place u t
+is-task work us place u f vars block t work_is units_are unit_is name_is form_is fits data_are stmts_are =
+    let made : Name → List Datum → Statements → Unit = λ n d b. record { name = n; form = form_by t.timing t.priority d b } in
     let whole : unit_of u ≡ written_as t =
-    ap (λ f. record { name = u.name; form = form_of f }) form_is ∙ ap (λ n. made n vars.items (block_of block)) (sym name_is) ∙ ap (λ d. made t.name.now d (block_of block)) (sym data_are)
+    ap (λ g. record { name = u.name; form = g }) (ap form_of form_is ∙ fits) ∙ ap (λ n. made n vars (block_of block)) (sym name_is) ∙ ap (λ d. made t.name.now d (block_of block)) (sym data_are)
     ∙ ap (made t.name.now t.«data».now) (block-tree block ∙ ap (λ ss. statements_of (map statement_of ss)) (sym stmts_are)) in
     record {
       work = work_is;
       units = units_are;
       unit = unit_is;
       written = whole;
-      thread = ap (λ v. thread_by (durations (handed work) place) place v.name v.form) whole ∙ ap (λ n. Some (record (thread_of t) { unit = n; durations = durations (handed work) n })) (sym unit_is)
+      thread = ap (λ v. thread_by (durations (handed work) place) place v.name v.form) whole ∙ thread-by (durations (handed work) place) place t.name.now t.timing t.priority t.«data».now (block_of_thread t)
+          ∙ ap (λ n. Some (record (thread_of t) { unit = n; durations = durations (handed work) n })) (sym unit_is)
           ∙ ap (λ w. Some (record (thread_of t) { durations = durations (handed w) t.unit })) (sym work_is);
     }
 
 module _ (work : List WorkList) (us : List units.Unit) (place : ℕ) (u : units.Unit) (ts : List Thread) where
-  pub adds-one : (t : Thread) (ts' : List Thread) → IsCyclic work us place u t → ts' ≡ ts ++ t ∷ [] → Adds work us place u ts ts'
+  pub adds-one : (t : Thread) (ts' : List Thread) → IsTaskAt work us place u t → ts' ≡ ts ++ t ∷ [] → Adds work us place u ts ts'
   adds-one t ts' c pushed = record {
     threads = ap (map thread_of) pushed ∙ map-append thread_of ts (t ∷ []) ∙ ap (λ o. map thread_of ts ++ option_to_list o) (sym c.thread);
     each = λ at all. subst (AllThreads (IsThreadOf work us)) (sym pushed) (λ i x here. by_place at all i x (get-push ts t x i here));
@@ -86,8 +96,8 @@ threads-cons work n u us = by_form u.form
 abbrev pub AreGathered : List WorkList → List units.Unit → ℕ → List Thread → Type 0
 AreGathered work us n ts = map thread_of ts ++ threads_from work n (map unit_of (drop n us)) ≡ threads_from work 0 (map unit_of us)
 
-abbrev pub AreSequential : List units.Unit → ℕ → Type 0
-AreSequential us n = list_all (λ u. is_sequential u.form) (map unit_of (drop n us)) ≡ true
+abbrev pub AreUsable : List units.Unit → ℕ → Type 0
+AreUsable us n = list_all (λ u. is_run u.form) (map unit_of (drop n us)) ≡ true
 
 and_true : (a b : Bool) → (a && b) ≡ true → (a ≡ true) × (b ≡ true)
 and_true true true e = (refl, refl)
@@ -107,8 +117,8 @@ module _ (work : List WorkList) (us : List units.Unit) (n : ℕ) (u : units.Unit
   pub is-here : slice_get (map unit_of us) n ≡ Some (unit_of u)
   is-here = get-map us n u h ∙ ap (λ v. Some (unit_of v)) (sym is)
 
-  pub sequential-here : AreSequential us n → (is_sequential (unit_of u).form ≡ true) × AreSequential us (n + 1)
-  sequential-here all = and_true _ _ (sym (ap (list_all (λ v. is_sequential v.form)) from_here) ∙ all)
+  pub usable-here : AreUsable us n → (is_run (unit_of u).form ≡ true) × AreUsable us (n + 1)
+  usable-here all = and_true _ _ (sym (ap (list_all (λ v. is_run v.form)) from_here) ∙ all)
 
   pub gathered-more : (ts ts' : List Thread) → Adds work us n u ts ts' → AreGathered work us n ts → AreGathered work us (n + 1) ts'
   gathered-more ts ts' a so_far =

@@ -3,10 +3,12 @@ use Rattle.std.proofs.Common.{◌≡◌, ◌+◌, List, [], ◌∷◌, ap, refl,
 use Rattle.std.specs.Prelude.{slice_get}
 use Rattle.seq_tree.specs.Variables.{Variables}
 use Rattle.seq_tree.specs.declared.tree.Costs.{Costs}
+use Rattle.machine.specs.Systems.{PassiveUnit}
 use Rattle.machine.specs.Pieces.{Piece}
 use Rattle.machine.specs.States.{Task}
 use Rattle.machine.specs.Releases.{going}
 use Rattle.ceil_runtime.specs.Effort.{first_ticks, first_works}
+use Rattle.ceil_runtime.specs.Doing.{Does, given}
 use Rattle.ceil_runtime.specs.Works.{EffortFalls, ToldBy}
 use Rattle.ceil_runtime.specs.declared.effects.Act.{Act}
 use Rattle.ceil_runtime.specs.declared.effects.Act.TheVariants.{Silent}
@@ -22,3 +24,7 @@ falls-silent act th t t' is falls = subst (λ (a : Act). EffortFalls a th t t') 
 
 pub told-by : (act act' : Act) (t t' : Task) → act ≡ act' → ToldBy act' t t' → ToldBy act t t'
 told-by act act' t t' is told = subst (λ (a : Act). ToldBy a t t') (sym is) told
+
+-- what a deed gives, by what it is to others
+pub does-given : (ls : List PassiveUnit) (p : Piece) (vs : Variables) (rest : List Piece) (act act' : Act) (now : Variables) (ps : List Piece) → act ≡ act' → Does ls p vs rest act (given act vs now) ps → Does ls p vs rest act (given act' vs now) ps
+does-given ls p vs rest act act' now ps is does = subst (λ (a : Act). Does ls p vs rest act (given a vs now) ps) is does

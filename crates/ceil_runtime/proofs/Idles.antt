@@ -4,6 +4,7 @@ use Rattle.std.proofs.Common.{sym, ◌∙◌, ap, subst}
 use Rattle.ceil_runtime.specs.Fitting.{FitsFirst, place_of}
 use Rattle.ceil_runtime.specs.Progresses.{kept, started}
 use Rattle.ceil_runtime.specs.Progressed.{is_idle, pieces_left}
+use Rattle.ceil_runtime.specs.Readies.{is_ready}
 use Rattle.ceil_runtime.specs.Works.{task_of}
 use Rattle.ceil_runtime.specs.Written.{first_place}
 use Rattle.ceil_runtime.specs.declared.piece.Piece as piece
@@ -16,8 +17,8 @@ piece-none t is =
     ∙ none-left t.progress.stack.thread t.progress.stack.frames.items
     (subst (FitsFirst (place_of (first_place t.progress.stack.thread) t.progress.stack.frames.items)) is t.progress.fits)
 
-pub piece-ready : (t : Task) (p : piece.Piece) → t.progress.piece ≡ Some p → t.ready ≡ true
-piece-ready t p is = by_ready t.ready refl t.asleep
+pub piece-ready : (t : Task) (p : piece.Piece) → t.progress.piece ≡ Some p → is_ready t.readiness ≡ true
+piece-ready t p is = by_ready (is_ready t.readiness) refl t.asleep
   where
     some_pieces : is_idle (pieces_left t.progress) ≡ false
     some_pieces = ap (λ o. is_idle (started o (kept t.progress.stack.frames.items))) is
@@ -25,6 +26,6 @@ piece-ready t p is = by_ready t.ready refl t.asleep
     clash : false ≡ true → ⊥
     clash k = cc
 
-    by_ready : (r : Bool) → t.ready ≡ r → (r || is_idle (pieces_left t.progress)) ≡ true → t.ready ≡ true
+    by_ready : (r : Bool) → is_ready t.readiness ≡ r → (r || is_idle (pieces_left t.progress)) ≡ true → is_ready t.readiness ≡ true
     by_ready true e h = e
     by_ready false e h = absurd (clash (sym some_pieces ∙ h))

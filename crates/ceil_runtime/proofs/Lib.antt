@@ -9,11 +9,13 @@ pub mod UnitsAt
 pub mod Finding
 pub mod CallLaws
 pub mod Openings
+pub mod Runnable
 pub mod Goings
 pub mod Aheads
 pub mod Processed
 pub mod Released
 pub mod Effected
+pub mod Arrived
 pub mod Idles
 pub mod Nearing
 pub mod Advancing

@@ -2,16 +2,18 @@
 use Rattle.std.specs.Prelude.{◌≡◌, ℕ, zero, suc, ◌+◌, ◌-◌, ◌*◌, ◌<◌, ◌≤◌, Bool, true, false, ◌==◌, if◌then◌else◌, fold, List, [], ◌∷◌, length, map, set, sum, Option, Some, None, slice_get, refl}
 use Rattle.std.proofs.Common.{sym, ◌∙◌, ap, subst, arith}
 use Rattle.seq_tree.specs.declared.tree.Costs.{Costs}
+use Rattle.arrivals_tree.specs.declared.arrivals.Arrival.{Arrival}
 use Rattle.ada_tree.specs.Trees.{unit_of}
 use Rattle.ada_tree.specs.declared.program.Unit as units
 use Rattle.ceil_runtime.specs.Callable.{calls_room}
-use Rattle.ceil_runtime.specs.Effort.{effort, most_ends}
+use Rattle.std.proofs.lemmas.List.{length-map}
+use Rattle.ceil_runtime.specs.Effort.{effort, most_ends, own_vars}
 use Rattle.ceil_runtime.specs.Processing.{AllTasks, IsKept, system_by}
 use Rattle.ceil_runtime.specs.Stepping.{effort_of, ran_effort, steps_by}
 use Rattle.ceil_runtime.specs.Progressed.{pieces_left}
 use Rattle.ceil_runtime.specs.Libraries.{libraries_from}
 use Rattle.ceil_runtime.specs.Works.{task_of}
-use Rattle.ceil_runtime.specs.Written.{libraries_of, reserve, thread_of}
+use Rattle.ceil_runtime.specs.Written.{libraries_of, params_of, reserve, thread_of}
 use Rattle.ceil_runtime.specs.declared.task.Task.{Task}
 use Rattle.ceil_runtime.specs.declared.processor.Phase.TheVariants.{Effects, Use}
 use Rattle.ceil_runtime.proofs.Frames.{few-frames}
@@ -27,20 +29,20 @@ sum-cons x xs = let here = fold-from (0 + x) xs in omega (arith, here)
 
 -- each task's data are among all
 sum-most : (tasks : List Task) (i : ℕ) (t : Task) → slice_get tasks i ≡ Some t
-    → length t.progress.stack.thread.«data».now ≤ sum (map (λ th. length th.vars) (map (λ u. thread_of u.progress.stack.thread) tasks))
+    → own_vars (thread_of t.progress.stack.thread) ≤ sum (map own_vars (map (λ u. thread_of u.progress.stack.thread) tasks))
 sum-most [] i t at = absurd (none at)
   where
     none : None ≡ Some t → ⊥
     none k = cc
 sum-most (u ∷ us) zero t at =
-    let whole = sum-cons (length u.progress.stack.thread.«data».now) (map (λ th. length th.vars) (map (λ w. thread_of w.progress.stack.thread) us)) in
-    let same : length u.progress.stack.thread.«data».now ≡ length t.progress.stack.thread.«data».now = ap (λ v. length v.progress.stack.thread.«data».now) (some_same at) in
+    let whole = sum-cons (own_vars (thread_of u.progress.stack.thread)) (map own_vars (map (λ w. thread_of w.progress.stack.thread) us)) in
+    let same : own_vars (thread_of u.progress.stack.thread) ≡ own_vars (thread_of t.progress.stack.thread) = ap (λ v. own_vars (thread_of v.progress.stack.thread)) (some_same at) in
     omega (arith, whole, same)
   where
     some_same : Some u ≡ Some t → u ≡ t
     some_same k = cc
 sum-most (u ∷ us) (suc i) t at =
-    let whole = sum-cons (length u.progress.stack.thread.«data».now) (map (λ th. length th.vars) (map (λ w. thread_of w.progress.stack.thread) us)) in
+    let whole = sum-cons (own_vars (thread_of u.progress.stack.thread)) (map own_vars (map (λ w. thread_of w.progress.stack.thread) us)) in
     let more = sum-most us i t at in omega (arith, more, whole)
 
 -- what a task's frames may come to
@@ -48,7 +50,7 @@ pub reserve-most : (until time : ℕ) (costs : Costs) (us : List units.Unit) (ta
     → reserve t.progress.stack.thread ≤ most_ends (system_by until costs us tasks)
 reserve-most until time costs us tasks i t at of =
     let room : calls_room [] (libraries_of t.progress.stack.thread) ≡ calls_room [] (libraries_from 0 (map unit_of us)) = ap (λ vs. calls_room [] (libraries_from 0 (map unit_of vs))) of in
-    omega (arith, sum-most tasks i t at, room)
+    omega (arith, sum-most tasks i t at, room, length-map (params_of t.progress.stack.thread) (λ q. q.name))
 
 pub effort-few : (most : ℕ) (t : Task) → reserve t.progress.stack.thread ≤ most → effort most (task_of t).pieces ≤ most
 effort-few most t enough =
@@ -73,9 +75,9 @@ ran-few until time costs us tasks (Some i) kept = by_task (slice_get tasks i) re
     by_task (Some t) at = by_left t (t.left == 0) (effort-few (most_ends (system_by until costs us tasks)) t (reserve-most until time costs us tasks i t at (kept i t at).units))
 
 -- the use of ticks
-pub nears-ticks : (until time time' most most' : ℕ) (tasks tasks' : List Task) (ran ran' : Option ℕ) → most' ≡ most → time < time' → time' ≤ until → ran_effort most' tasks' ran' ≤ most'
-    → steps_by most' until time' Effects tasks' ran' < steps_by most until time Use tasks ran
-nears-ticks until time time' most most' tasks tasks' ran ran' same later within few =
+pub nears-ticks : (arrivals : List Arrival) (until time time' most most' : ℕ) (tasks tasks' : List Task) (ran ran' : Option ℕ) → most' ≡ most → time < time' → time' ≤ until → ran_effort most' tasks' ran' ≤ most'
+    → steps_by arrivals most' until time' Effects tasks' ran' < steps_by arrivals most until time Use tasks ran
+nears-ticks arrivals until time time' most most' tasks tasks' ran ran' same later within few =
     let left : until - time ≡ (until - time') + suc (time' - time - 1) = omega arith in
     let now : (until - time') * (most' + 4) + (3 + ran_effort most' tasks' ran') < ((until - time') + suc (time' - time - 1)) * (most' + 4) + 0 =
     lem (until - time') (time' - time - 1) most' (ran_effort most' tasks' ran') few in
@@ -86,10 +88,10 @@ nears-ticks until time time' most most' tasks tasks' ran ran' same later within 
     lem a b m e h = grind arith
 
 -- an effect that is nothing to others
-pub nears-effect : (k most most' : ℕ) (tasks tasks' : List Task) (i : ℕ) (t t' : Task) → most' ≡ most → slice_get tasks i ≡ Some t → slice_get tasks' i ≡ Some t' → t.left ≡ 0
+pub nears-effect : (arrivals : List Arrival) (k most most' : ℕ) (tasks tasks' : List Task) (i : ℕ) (t t' : Task) → most' ≡ most → slice_get tasks i ≡ Some t → slice_get tasks' i ≡ Some t' → t.left ≡ 0
     → (0 < effort most (task_of t).pieces) × (t'.left ≡ 0 → effort most (task_of t').pieces < effort most (task_of t).pieces)
-    → k * (most' + 4) + (3 + ran_effort most' tasks' (Some i)) < k * (most + 4) + (3 + ran_effort most tasks (Some i))
-nears-effect k most most' tasks tasks' i t t' same at at' used falls =
+    → k * (most' + 4) + (3 + ran_effort most' tasks' (Some i)) + length arrivals < k * (most + 4) + (3 + ran_effort most tasks (Some i)) + length arrivals
+nears-effect arrivals k most most' tasks tasks' i t t' same at at' used falls =
     let before : ran_effort most tasks (Some i) ≡ effort most (task_of t).pieces = ap (effort_of most) at ∙ ap (λ l. if l == 0 then effort most (task_of t).pieces else 0) used in
     let now : ran_effort most' tasks' (Some i) ≡ (if t'.left == 0 then effort most (task_of t').pieces else 0) = ap (λ n. ran_effort n tasks' (Some i)) same ∙ ap (effort_of most) at' in
     let less : ran_effort most' tasks' (Some i) < ran_effort most tasks (Some i) = subst (λ (n : ℕ). n < ran_effort most tasks (Some i)) (sym now) (subst (λ (n : ℕ). (if t'.left == 0 then effort most (task_of t').pieces else 0) < n) (sym before) (by_left (t'.left == 0) refl)) in

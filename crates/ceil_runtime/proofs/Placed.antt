@@ -50,7 +50,7 @@ event-placed p a tasks (event.Horizon time) threads of = tt
 event-placed p a tasks (event.Release time task value) threads of = has-unit p a tasks task threads of
 event-placed p a tasks (event.End time task used) threads of = has-unit p a tasks task threads of
 event-placed p a tasks (event.Print time task value) threads of = has-unit p a tasks task threads of
-event-placed p a tasks (event.Arrive time task value) threads of = absurd of
+event-placed p a tasks (event.Arrive time task value) threads of = has-unit p a tasks task threads of
 event-placed p a tasks (event.Enter time task unit op values) threads of = absurd of
 event-placed p a tasks (event.Leave time task unit op values) threads of = absurd of
 event-placed p a tasks (event.Request time task target value) threads of = absurd of
@@ -61,3 +61,9 @@ pub pushed-placed : (p : Program) (a : Arrivals) (tasks : List Task) (e : Event)
     → (system p a).threads ≡ map (λ t. thread_of t.progress.stack.thread) tasks → IsOfTask tasks e → Each (IsPlaced p) now
 pushed-placed p a tasks e before now empty pushed threads of =
     subst (Each (IsPlaced p)) (sym (pushed ∙ ap (λ xs. xs ++ e ∷ []) empty)) (event-placed p a tasks e threads of, tt)
+
+-- the two events in the buffer
+pub both-placed : (p : Program) (a : Arrivals) (tasks : List Task) (e f : Event) (before now : List Event) → before ≡ [] → now ≡ before ++ e ∷ f ∷ []
+    → (system p a).threads ≡ map (λ t. thread_of t.progress.stack.thread) tasks → IsOfTask tasks e × IsOfTask tasks f → Each (IsPlaced p) now
+both-placed p a tasks e f before now empty pushed threads of =
+    subst (Each (IsPlaced p)) (sym (pushed ∙ ap (λ xs. xs ++ e ∷ f ∷ []) empty)) (event-placed p a tasks e threads of.0, (event-placed p a tasks f threads of.1, tt))

@@ -3,22 +3,23 @@ use Rattle.std.specs.Prelude.{◌≡◌, ◌⊎◌, ℕ, zero, suc, ◌+◌, ◌
 use Rattle.std.proofs.Common.{sym, ◌∙◌, ap, subst, arith, inl, inr, length-set, append-nil}
 use Rattle.std.proofs.lemmas.Option.{slice_get-map, slice_get_within}
 use Rattle.std.proofs.lemmas.Bool.Decides.{nat_tests}
-use Rattle.seq_tree.specs.Lists.{change}
+use Rattle.seq_tree.specs.Lists.{change, first_where}
 use Rattle.seq_tree.specs.declared.tree.Costs.{Costs}
 use Rattle.ada_tree.specs.declared.program.Unit as units
+use Rattle.arrivals_tree.specs.declared.arrivals.Arrival.{Arrival}
 use Rattle.trace_tree.specs.declared.event.Event.{Event}
 use Rattle.link_queue.specs.Queues.{Each, Entry, Queues}
 use Rattle.machine.specs.Systems.{System}
 use Rattle.machine.specs.States as states
 use Rattle.machine.specs.Dispatch.{dispatched}
 use Rattle.machine.specs.Releases.{Next}
-use Rattle.machine.specs.Steps.{step}
+use Rattle.machine.specs.Steps.{step, arrival_step, arrive_at, horizon_step}
 use Rattle.machine.specs.Meanings.{Rest, run, and_then}
 use Rattle.trace_tree.specs.declared.event.Event.TheVariants as event
 use Rattle.dispatching.specs.Renumbering.{DifferInOrders}
 use Rattle.dispatching.proofs.Renumbered.{renumbered_tells}
 use Rattle.machine.proofs.RunLaws.{Rest-after}
-use Rattle.dispatching.specs.Jumping.{HasTicks, IsQuiet, ticks_later}
+use Rattle.dispatching.specs.Jumping.{HasTicks, IsQuiet, NoArrival, ticks_later}
 use Rattle.dispatching.specs.Queueing.{AreQueued, AreSleeping, places}
 use Rattle.std.proofs.lemmas.List.{length-map}
 use Rattle.dispatching.proofs.Jumps.{ticks_or_one}
@@ -27,6 +28,7 @@ use Rattle.dispatching.proofs.Heads.{dispatched-head}
 use Rattle.dispatching.proofs.Queued.{queued-kept}
 use Rattle.dispatching.proofs.Sleeping.{none-due, sleeping-kept, sleeping-later}
 use Rattle.ceil_runtime.specs.Processing.{AllTasks, Follows, IsKept, IsSound, IsWithin, state_by, system_by}
+use Rattle.ceil_runtime.specs.Readies.{is_ready}
 use Rattle.ceil_runtime.specs.Works.{task_of, used_ticks}
 use Rattle.ceil_runtime.specs.Written.{thread_of}
 use Rattle.ceil_runtime.specs.declared.task.Task.{Task}
@@ -125,12 +127,12 @@ pub kept-later : (until time later : ℕ) (us : List units.Unit) (t : Task) → 
 kept-later until time later us t le k = record { used = omega (arith, k.used); works = omega (arith, k.works); next = k.next; units = k.units; idle = k.idle }
 
 -- the ticks ahead are quiet
-module _ (until time : ℕ) (costs : Costs) (us : List units.Unit) (ran : Option ℕ) (tasks : List Task) (q : Queues) (sound : IsSound until time Use ran us tasks q) (ticks : ℕ)
-    (some : 0 < ticks) (horizon : time + ticks ≤ until) (wake : Each (λ e. time + ticks ≤ e.1) q.asleep) where
-  quiet : (j : ℕ) → j < ticks - 1 → IsQuiet (system_by until costs us tasks) (state_by time Use ran false tasks q.ready) (time + suc j)
+module _ (arrivals : List Arrival) (until time : ℕ) (costs : Costs) (us : List units.Unit) (ran : Option ℕ) (tasks : List Task) (q : Queues) (sound : IsSound until time Use ran us tasks q) (ticks : ℕ)
+    (some : 0 < ticks) (horizon : time + ticks ≤ until) (wake : Each (λ e. time + ticks ≤ e.1) q.asleep) (none_arrives : (j : ℕ) → j < ticks - 1 → NoArrival (time + suc j) arrivals) where
+  quiet : (j : ℕ) → j < ticks - 1 → IsQuiet (system_by until costs us tasks) (state_by arrivals time Use ran false tasks q.ready) (time + suc j)
   quiet j h = record {
     no_sleeper = none-due (map task_of tasks) time q.asleep sound.sleeping (time + suc j) (omega arith) (λ e at. first q.asleep wake e at);
-    no_arrival = tt;
+    no_arrival = none_arrives j h;
     no_horizon = not_yet (time + suc j) until (omega arith);
   }
     where
@@ -149,9 +151,9 @@ module _ (until time : ℕ) (costs : Costs) (us : List units.Unit) (ran : Option
 
   -- what the ticks come to
   pub ticks-run : (o : Option ℕ) → dispatched (map task_of tasks) (places (length tasks) q.ready) ≡ o → (ticks ≡ 1) ⊎ HasTicks (map task_of tasks) ticks o
-      → run (system_by until costs us tasks) (4 * (ticks - 1) + 1) (state_by time Use ran false tasks q.ready) ≡ (ticks_later o ticks (state_by time Use ran false tasks q.ready), [])
+      → run (system_by until costs us tasks) (4 * (ticks - 1) + 1) (state_by arrivals time Use ran false tasks q.ready) ≡ (ticks_later o ticks (state_by arrivals time Use ran false tasks q.ready), [])
   ticks-run o first has =
-      let s : states.State = state_by time Use ran false tasks q.ready in
+      let s : states.State = state_by arrivals time Use ran false tasks q.ready in
       let n_is : suc (ticks - 1) ≡ ticks = omega arith in
       let runs : run (system_by until costs us tasks) (4 * (ticks - 1) + 1) s ≡ (ticks_later (dispatched s.tasks s.orders) (suc (ticks - 1)) s, []) =
       ticks_or_one (system_by until costs us tasks) (ticks - 1) s refl refl (by_ticks has) quiet in
@@ -163,7 +165,7 @@ module _ (until time : ℕ) (costs : Costs) (us : List units.Unit) (ran : Option
 
   -- without a ready task
   pub idle-run : slice_get q.ready 0 ≡ None
-      → run (system_by until costs us tasks) (4 * (ticks - 1) + 1) (state_by time Use ran false tasks q.ready) ≡ (state_by (time + ticks) Effects None false tasks q.ready, [])
+      → run (system_by until costs us tasks) (4 * (ticks - 1) + 1) (state_by arrivals time Use ran false tasks q.ready) ≡ (state_by arrivals (time + ticks) Effects None false tasks q.ready, [])
   idle-run none = ticks-run None (dispatched-head (map task_of tasks) (places (length tasks) q.ready) q.ready sound.queued ∙ ap (option_map (λ e. e.0)) none) (inr tt)
 
   pub idle-sound : IsSound until (time + ticks) Effects None us tasks q
@@ -174,12 +176,13 @@ module _ (until time : ℕ) (costs : Costs) (us : List units.Unit) (ran : Option
     kept = λ i t at. kept-later until time (time + ticks) us t (omega arith) (sound.kept i t at);
     here = tt;
     near = sound.near;
+    few = sound.few;
     in_time = horizon;
   }
 
   -- the first ready task
   module _ (task level : ℕ) (tasks' : List Task) (t t' : Task) (c : Changed tasks tasks' task t t' (used_ticks ticks)) (first : ◌≡◌ {A = Option Entry} (slice_get q.ready 0) (Some (task, level))) (within : IsWithin tasks q.ready ticks)
-      (left : t'.left ≡ t.left - ticks) (used : t'.used ≡ t.used + ticks) (works : t'.works ≡ t.works) (next : t'.next ≡ t.next) (ready : t'.ready ≡ t.ready) where
+      (left : t'.left ≡ t.left - ticks) (used : t'.used ≡ t.used + ticks) (works : t'.works ≡ t.works) (next : t'.next ≡ t.next) (ready : t'.readiness ≡ t.readiness) where
     has : (ticks ≡ 1) ⊎ HasTicks (map task_of tasks) ticks (Some task)
     has = by_ready q.ready first within
       where
@@ -203,9 +206,9 @@ module _ (until time : ℕ) (costs : Costs) (us : List units.Unit) (ran : Option
                 lefts : (u : states.Task) → task_of t ≡ u → ticks ≤ u.left
                 lefts u same = let l : t.left ≡ u.left = ap (λ v. v.left) same in omega (arith, le, l)
 
-    pub use-run : run (system_by until costs us tasks) (4 * (ticks - 1) + 1) (state_by time Use ran false tasks q.ready) ≡ (state_by (time + ticks) Effects (Some task) false tasks' q.ready, [])
+    pub use-run : run (system_by until costs us tasks) (4 * (ticks - 1) + 1) (state_by arrivals time Use ran false tasks q.ready) ≡ (state_by arrivals (time + ticks) Effects (Some task) false tasks' q.ready, [])
     use-run =
-        let view : List states.Task → ℕ → Next = λ ts n. (record (state_by (time + ticks) Effects (Some task) false tasks q.ready) { tasks = ts; orders = places n q.ready }, []) in
+        let view : List states.Task → ℕ → Next = λ ts n. (record (state_by arrivals (time + ticks) Effects (Some task) false tasks q.ready) { tasks = ts; orders = places n q.ready }, []) in
         ticks-run (Some task) (dispatched-head (map task_of tasks) (places (length tasks) q.ready) q.ready sound.queued ∙ ap (option_map (λ e. e.0)) first) has
         ∙ ap (λ ts. view ts (length tasks)) (sym (changed-tasks tasks tasks' task t t' (used_ticks ticks) c))
         ∙ ap (view (map task_of tasks')) (sym (changed-length tasks tasks' task t t' (used_ticks ticks) c))
@@ -223,6 +226,7 @@ module _ (until time : ℕ) (costs : Costs) (us : List units.Unit) (ran : Option
           (λ u k. kept-later until time (time + ticks) us u (omega arith) k) (keeps (sound.kept task t c.here));
       here = (omega (arith, len, get_within task tasks t c.here), inl (level, first));
       near = sound.near;
+      few = omega (arith, len, sound.few);
       in_time = horizon;
     }
       where
@@ -241,7 +245,7 @@ module _ (until time : ℕ) (costs : Costs) (us : List units.Unit) (ran : Option
           works = omega (arith, k.works);
           next = omega (arith, k.next);
           units = ap (λ th. th.units.now) c.thread ∙ k.units;
-          idle = λ not. left ∙ ap (λ l. l - ticks) (k.idle (sym ready ∙ not)) ∙ none;
+          idle = λ not. left ∙ ap (λ l. l - ticks) (k.idle (ap is_ready (sym ready) ∙ not)) ∙ none;
         }
 
 -- a task of the ready list is one of the tasks
@@ -267,12 +271,18 @@ follows-renumbered y y' n s s' s'' t told before runs differ same = record {
   tells = λ rest r. subst (λ (z : states.State). Rest y z (told ++ rest)) (sym before) (follows-run y n s' s'' told runs rest ((renumbered_tells y s'' t rest differ).1 r));
 }
 
--- arrivals: there are none
-pub arriving-goes : (y : System) (time : ℕ) (ran : Option ℕ) (tasks : List Task) (ready : List Entry) → (time ≡ y.until → ⊥)
-    → run y 1 (state_by time Arriving ran false tasks ready) ≡ (state_by time Use ran false tasks ready, [])
-arriving-goes y time ran tasks ready before =
-    step-run y (state_by time Arriving ran false tasks ready) (state_by time Use ran false tasks ready) []
-    (ap (λ b. if b then (record (state_by time Arriving ran false tasks ready) { stopped = true }, event.Horizon time ∷ []) else (state_by time Use ran false tasks ready, [])) (not_yet (time == y.until) refl))
+-- where none arrives now, the arrivals are over
+none-arrives : (y : System) (arrivals : List Arrival) (s : states.State) → NoArrival s.time arrivals → arrival_step y arrivals s ≡ horizon_step y s
+none-arrives y [] s none = refl
+none-arrives y (a ∷ others) s none =
+    ap (λ b. if b then arrive_at y a (first_where (λ t. t.thread.unit == a.task) s.tasks) (record s { arrivals = others }) else horizon_step y s) none
+
+pub arriving-goes : (y : System) (arrivals : List Arrival) (time : ℕ) (ran : Option ℕ) (tasks : List Task) (ready : List Entry) → NoArrival time arrivals → (time ≡ y.until → ⊥)
+    → run y 1 (state_by arrivals time Arriving ran false tasks ready) ≡ (state_by arrivals time Use ran false tasks ready, [])
+arriving-goes y arrivals time ran tasks ready none before =
+    step-run y (state_by arrivals time Arriving ran false tasks ready) (state_by arrivals time Use ran false tasks ready) []
+    (none-arrives y arrivals (state_by arrivals time Arriving ran false tasks ready) none
+    ∙ ap (λ b. if b then (record (state_by arrivals time Arriving ran false tasks ready) { stopped = true }, event.Horizon time ∷ []) else (state_by arrivals time Use ran false tasks ready, [])) (not_yet (time == y.until) refl))
   where
     not_yet : (b : Bool) → (time == y.until) ≡ b → b ≡ false
     not_yet true e = absurd (before (same time y.until e))
@@ -281,11 +291,12 @@ arriving-goes y time ran tasks ready before =
         same m n h = grind (arith, nat_tests)
     not_yet false e = refl
 
-pub arriving-ends : (y : System) (time : ℕ) (ran : Option ℕ) (tasks : List Task) (ready : List Entry) → time ≡ y.until
-    → run y 1 (state_by time Arriving ran false tasks ready) ≡ (state_by time Arriving ran true tasks ready, event.Horizon time ∷ [])
-arriving-ends y time ran tasks ready now =
-    step-run y (state_by time Arriving ran false tasks ready) (state_by time Arriving ran true tasks ready) (event.Horizon time ∷ [])
-    (ap (λ b. if b then (record (state_by time Arriving ran false tasks ready) { stopped = true }, event.Horizon time ∷ []) else (state_by time Use ran false tasks ready, [])) (same time y.until now))
+pub arriving-ends : (y : System) (arrivals : List Arrival) (time : ℕ) (ran : Option ℕ) (tasks : List Task) (ready : List Entry) → NoArrival time arrivals → time ≡ y.until
+    → run y 1 (state_by arrivals time Arriving ran false tasks ready) ≡ (state_by arrivals time Arriving ran true tasks ready, event.Horizon time ∷ [])
+arriving-ends y arrivals time ran tasks ready none now =
+    step-run y (state_by arrivals time Arriving ran false tasks ready) (state_by arrivals time Arriving ran true tasks ready) (event.Horizon time ∷ [])
+    (none-arrives y arrivals (state_by arrivals time Arriving ran false tasks ready) none
+    ∙ ap (λ b. if b then (record (state_by arrivals time Arriving ran false tasks ready) { stopped = true }, event.Horizon time ∷ []) else (state_by arrivals time Use ran false tasks ready, [])) (same time y.until now))
   where
     same : (m n : ℕ) → m ≡ n → (m == n) ≡ true
     same m n h = grind (arith, nat_tests)
@@ -301,3 +312,9 @@ get-set_same (v ∷ vs) zero t u h at = some_same at
     some_same : Some t ≡ Some u → t ≡ u
     some_same k = cc
 get-set_same (v ∷ vs) (suc i) t u h at = get-set_same vs i t u (omega arith) at
+
+-- of two tasks that are put at a place the later one stands there
+pub set-twice : (tasks : List Task) (i : ℕ) (t u : Task) → set (set tasks i t) i u ≡ set tasks i u
+set-twice [] i t u = refl
+set-twice (v ∷ vs) zero t u = refl
+set-twice (v ∷ vs) (suc i) t u = ap (λ ws. v ∷ ws) (set-twice vs i t u)

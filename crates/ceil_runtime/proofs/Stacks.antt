@@ -1,5 +1,6 @@
 -- Stacks: what is pushed stands first.
 use Rattle.std.proofs.Common.{◌≡◌, ℕ, suc, true, false, ◌+◌, ◌-◌, ◌≤◌, ◌<◌, List, [], ◌∷◌, ◌++◌, length, take, get_or, fold, refl, ap, sym, ◌∙◌, Bool, arith, drop, set, zero, Some}
+use Rattle.std.proofs.lemmas.List.{length-drop, take-append-drop}
 use Rattle.std.proofs.lemmas.List.Sums.{fold-append}
 use Rattle.std.proofs.lemmas.Slice.Eq.{bytes_eq-Decides}
 use Rattle.std.proofs.Math.Seq.{take-suc, drop-cons}
@@ -82,3 +83,20 @@ length_onto (v ∷ vs) base = let more = length_onto vs (with_var base v) in ome
 -- as many variables as in the stack
 pub vars-length : (vs : List Var) → length (vars_of vs) ≡ length vs
 vars-length vs = let more = length_onto vs [] in omega (arith, more)
+
+-- without the innermost variables
+drop-onto : (vs : List Var) (base : Variables) → drop (length vs) (fold with_var base vs) ≡ base
+drop-onto [] base = refl
+drop-onto (v ∷ vs) base = drop-one-more (length vs) (fold with_var (with_var base v) vs) ∙ ap (drop 1) (drop-onto vs (with_var base v))
+  where
+    drop-one-more : (n : ℕ) (xs : Variables) → drop (suc n) xs ≡ drop 1 (drop n xs)
+    drop-one-more zero xs = refl
+    drop-one-more (suc n) [] = refl
+    drop-one-more (suc n) (x ∷ xs) = drop-one-more n xs
+
+-- the outermost variables of a stack stand behind all others
+pub vars-front : (vs : List Var) (n : ℕ) → n ≤ length vs → vars_of (take n vs) ≡ drop (length vs - n) (vars_of vs)
+vars-front vs n h =
+    let count : length (drop n vs) ≡ length vs - n = length-drop n vs in
+    let whole : vars_of vs ≡ fold with_var (vars_of (take n vs)) (drop n vs) = ap vars_of (sym (take-append-drop n vs)) ∙ fold-append with_var [] (take n vs) (drop n vs) in
+    sym (ap (λ m. drop m (vars_of vs)) (sym count) ∙ ap (drop (length (drop n vs))) whole ∙ drop-onto (drop n vs) (vars_of (take n vs)))

@@ -10,17 +10,21 @@ use Rattle.link_queue.proofs.Lists.{each-map, each-put, in_order-time}
 use Rattle.machine.specs.Systems.{System}
 use Rattle.machine.specs.Meanings.{Running}
 use Rattle.machine.specs.States as states
-use Rattle.machine.specs.States.{Asleep, first_task, opening}
+use Rattle.machine.specs.States.{Asleep, first_task, first_time, first_wait, opening, shut}
+use Rattle.arrivals_tree.specs.declared.arrivals.Arrival.{Arrival}
 use Rattle.dispatching.specs.Queueing.{AreQueued, AreSleeping, IsIn, SleepsUntil, places, places_from}
 use Rattle.dispatching.proofs.Places.{get-within}
 use Rattle.dispatching.proofs.Queued.{in-new, in-put}
 use Rattle.dispatching.proofs.Ranks.{length-places}
 use Rattle.ceil_runtime.specs.Processing.{IsKept, IsSound, state_by, system_by}
 use Rattle.ceil_runtime.specs.Progressed.{vars_left, pieces_left}
-use Rattle.ceil_runtime.specs.Starts.{AreOpen, CanStart, opened, system_for}
-use Rattle.ceil_runtime.specs.Works.{readiness_of, task_of}
-use Rattle.ceil_runtime.specs.Written.{thread_of}
+use Rattle.ceil_runtime.specs.Readies.{gate_of, readiness_of}
+use Rattle.ceil_runtime.specs.Starts.{AreOpen, CanStart, first_slept, opened, system_for}
+use Rattle.ceil_runtime.specs.Works.{task_of}
+use Rattle.ceil_runtime.specs.Written.{thread_of, timing_of}
 use Rattle.ceil_runtime.specs.declared.thread.Thread.{Thread}
+use Rattle.ceil_runtime.specs.declared.thread.Timing.{Timing}
+use Rattle.ceil_runtime.specs.declared.thread.Timing.TheVariants as timing
 use Rattle.ceil_runtime.specs.declared.task.Task.{Task}
 use Rattle.ceil_runtime.specs.declared.processor.Phase.TheVariants.{Effects}
 
@@ -69,6 +73,18 @@ sleeping-push ts time asleep t until a is = record {
     by_place j k u sleeps (inl h) = in-put j (wakes_before (length ts, max until time)) (length ts, max until time) asleep (a.all j k u h sleeps)
     by_place j k u sleeps (inr h) = in-new j (wakes_before (length ts, max until time)) (length ts, max until time) asleep h.0
 
+-- one task more, which doesn't sleep
+waiting-push : (ts : List states.Task) (time : ℕ) (asleep : List Entry) (t : states.Task) → AreSleeping ts time asleep → ((k : ℕ) → t.readiness ≡ Asleep k → ⊥) → AreSleeping (ts ++ t ∷ []) time asleep
+waiting-push ts time asleep t a awake = record {
+  each = each-map (SleepsUntil ts time) (SleepsUntil (ts ++ t ∷ []) time) asleep (λ e s. (s.0, s.1, get-push-old ts t s.0 e.0 s.2, s.3, s.4)) a.each;
+  all = λ j k u here sleeps. by_place j k u sleeps (get-push ts t u j here);
+  ordered = a.ordered;
+}
+  where
+    by_place : (j k : ℕ) (u : states.Task) → u.readiness ≡ Asleep k → (slice_get ts j ≡ Some u) ⊎ ((j ≡ length ts) × (t ≡ u)) → IsIn j asleep
+    by_place j k u sleeps (inl h) = a.all j k u h sleeps
+    by_place j k u sleeps (inr h) = absurd (awake k (ap (λ v. v.readiness) h.1 ∙ sleeps))
+
 pub open-none : (until : ℕ) (us : List units.Unit) (q : Queues) → q.ready ≡ [] → q.asleep ≡ [] → AreOpen until us [] [] q
 open-none until us q ready asleep = record {
   tasks_are = refl;
@@ -89,45 +105,40 @@ pub record IsFresh (t : Task) (th : Thread) : Type 0 where
   pub thread : t.progress.stack.thread ≡ th
   pub vars : vars_left t.progress ≡ written th.«data».now
   pub pieces : pieces_left t.progress ≡ []
-  pub ready : t.ready ≡ false
-  pub next : t.next ≡ th.offset
+  pub rests : readiness_of t.readiness (first_time (timing_of th.timing)) ≡ first_wait (timing_of th.timing)
+  pub next : t.next ≡ first_time (timing_of th.timing)
   pub left : t.left ≡ 0
   pub used : t.used ≡ 0
   pub works : t.works ≡ 0
+  pub gate : gate_of t.gate ≡ shut
 
 module _ (until : ℕ) (us : List units.Unit) (threads : List Thread) (tasks : List Task) (q : Queues) (o : AreOpen until us threads tasks q) (t : Task) (th : Thread) (fresh : IsFresh t th) (can : CanStart us th) where
   first : task_of t ≡ first_task (thread_of th)
   first =
-      let view : Thread → _ → _ → ℕ → ℕ → ℕ → ℕ → states.Readiness → states.Task = λ h vs ps n l u w r. record (first_task (thread_of h)) { vars = vs; pieces = ps; next = n; left = l; used = u; works = w; readiness = r } in
-      let readiness : (task_of t).readiness ≡ Asleep t.next = asleep_if t.ready fresh.ready in
-      ap (view t.progress.stack.thread (vars_left t.progress) (pieces_left t.progress) t.next t.left t.used t.works) readiness
-      ∙ ap (λ h. view h (vars_left t.progress) (pieces_left t.progress) t.next t.left t.used t.works (Asleep t.next)) fresh.thread
-      ∙ ap (λ vs. view th vs (pieces_left t.progress) t.next t.left t.used t.works (Asleep t.next)) fresh.vars
-      ∙ ap (λ ps. view th (written th.«data».now) ps t.next t.left t.used t.works (Asleep t.next)) fresh.pieces
-      ∙ ap (λ n. view th (written th.«data».now) [] n t.left t.used t.works (Asleep n)) fresh.next
-      ∙ ap (λ l. view th (written th.«data».now) [] th.offset l t.used t.works (Asleep th.offset)) fresh.left
-      ∙ ap (λ u. view th (written th.«data».now) [] th.offset 0 u t.works (Asleep th.offset)) fresh.used
-      ∙ ap (λ w. view th (written th.«data».now) [] th.offset 0 0 w (Asleep th.offset)) fresh.works
-    where
-      asleep_if : (r : _) → r ≡ false → readiness_of r t.next ≡ Asleep t.next
-      asleep_if r h = ap (λ b. readiness_of b t.next) h
+      let view : Thread → _ → _ → ℕ → ℕ → ℕ → ℕ → states.Readiness → states.Gate → states.Task = λ h vs ps n l u w r g. record (first_task (thread_of h)) { vars = vs; pieces = ps; next = n; left = l; used = u; works = w; readiness = r; gate = g } in
+      let n0 : ℕ = first_time (timing_of th.timing) in
+      ap (λ n. view t.progress.stack.thread (vars_left t.progress) (pieces_left t.progress) n t.left t.used t.works (readiness_of t.readiness n) (gate_of t.gate)) fresh.next
+      ∙ ap (λ r. view t.progress.stack.thread (vars_left t.progress) (pieces_left t.progress) n0 t.left t.used t.works r (gate_of t.gate)) fresh.rests
+      ∙ ap (λ h. view h (vars_left t.progress) (pieces_left t.progress) n0 t.left t.used t.works (first_wait (timing_of th.timing)) (gate_of t.gate)) fresh.thread
+      ∙ ap (λ vs. view th vs (pieces_left t.progress) n0 t.left t.used t.works (first_wait (timing_of th.timing)) (gate_of t.gate)) fresh.vars
+      ∙ ap (λ ps. view th (written th.«data».now) ps n0 t.left t.used t.works (first_wait (timing_of th.timing)) (gate_of t.gate)) fresh.pieces
+      ∙ ap (λ l. view th (written th.«data».now) [] n0 l t.used t.works (first_wait (timing_of th.timing)) (gate_of t.gate)) fresh.left
+      ∙ ap (λ u. view th (written th.«data».now) [] n0 0 u t.works (first_wait (timing_of th.timing)) (gate_of t.gate)) fresh.used
+      ∙ ap (λ w. view th (written th.«data».now) [] n0 0 0 w (first_wait (timing_of th.timing)) (gate_of t.gate)) fresh.works
+      ∙ ap (λ g. view th (written th.«data».now) [] n0 0 0 0 (first_wait (timing_of th.timing)) g) fresh.gate
 
-  pub open-more : (q' : Queues) → q' ≡ record q { asleep = in_time (length tasks, th.offset) q.asleep } → AreOpen until us (threads ++ th ∷ []) (tasks ++ t ∷ []) q'
-  open-more q' is =
+  -- with one task more, and the lists that stand for it
+  open-pushed : (q' : Queues) → q'.ready ≡ q.ready → AreSleeping (map task_of tasks ++ task_of t ∷ []) 0 q'.asleep → AreOpen until us (threads ++ th ∷ []) (tasks ++ t ∷ []) q'
+  open-pushed q' ready slept =
       let ts_is : map task_of (tasks ++ t ∷ []) ≡ map task_of tasks ++ task_of t ∷ [] = map-append task_of tasks (t ∷ []) in
-      let slept : AreSleeping (map task_of tasks ++ task_of t ∷ []) 0 (in_time (length (map task_of tasks), max th.offset 0) q.asleep) =
-      sleeping-push (map task_of tasks) 0 q.asleep (task_of t) th.offset o.sleeping (ap (λ u. u.readiness) first) in
-      let most : max th.offset 0 ≡ th.offset = omega arith in
-      subst (AreOpen until us (threads ++ th ∷ []) (tasks ++ t ∷ [])) (sym is) (record {
+      record {
         tasks_are = ts_is ∙ ap (λ xs. xs ++ task_of t ∷ []) o.tasks_are ∙ ap (λ u. map first_task (map thread_of threads) ++ u ∷ []) first
             ∙ sym (ap (map first_task) (map-append thread_of threads (th ∷ [])) ∙ map-append first_task (map thread_of threads) (thread_of th ∷ []));
         threads_are = map-append (λ u. u.progress.stack.thread) tasks (t ∷ []) ∙ ap (λ xs. xs ++ t.progress.stack.thread ∷ []) o.threads_are ∙ ap (λ h. threads ++ h ∷ []) fresh.thread;
-        ready = o.ready;
-        sleeping = subst (λ (ts : List states.Task). AreSleeping ts 0 (in_time (length tasks, th.offset) q.asleep)) (sym ts_is)
-            (subst (λ (n : ℕ). AreSleeping (map task_of tasks ++ task_of t ∷ []) 0 (in_time (n, th.offset) q.asleep)) (length-map tasks task_of)
-            (subst (λ (n : ℕ). AreSleeping (map task_of tasks ++ task_of t ∷ []) 0 (in_time (length (map task_of tasks), n) q.asleep)) most slept));
+        ready = ready ∙ o.ready;
+        sleeping = subst (λ (ts : List states.Task). AreSleeping ts 0 q'.asleep) (sym ts_is) slept;
         kept = λ i u at. by_place i u (get-push tasks t u i at);
-      })
+      }
     where
       keeps : IsKept until 0 us t
       keeps = record {
@@ -141,6 +152,43 @@ module _ (until : ℕ) (us : List units.Unit) (threads : List Thread) (tasks : L
       by_place : (i : ℕ) (u : Task) → (slice_get tasks i ≡ Some u) ⊎ ((i ≡ length tasks) × (t ≡ u)) → IsKept until 0 us u
       by_place i u (inl h) = o.kept i u h
       by_place i u (inr h) = subst (IsKept until 0 us) h.1 keeps
+
+  -- it sleeps until its offset
+  pub open-more : (offset period : ℕ) (q' : Queues) → th.timing ≡ timing.Periodic offset period → q' ≡ record q { asleep = in_time (length tasks, offset) q.asleep } → AreOpen until us (threads ++ th ∷ []) (tasks ++ t ∷ []) q'
+  open-more offset period q' timed is =
+      let slept : AreSleeping (map task_of tasks ++ task_of t ∷ []) 0 (in_time (length (map task_of tasks), max offset 0) q.asleep) =
+      sleeping-push (map task_of tasks) 0 q.asleep (task_of t) offset o.sleeping (ap (λ u. u.readiness) first ∙ ap (λ w. first_wait (timing_of w)) timed) in
+      let most : max offset 0 ≡ offset = omega arith in
+      open-pushed q' (ap (λ x. x.ready) is)
+      (subst (AreSleeping (map task_of tasks ++ task_of t ∷ []) 0) (sym (ap (λ x. x.asleep) is))
+      (subst (λ (n : ℕ). AreSleeping (map task_of tasks ++ task_of t ∷ []) 0 (in_time (n, offset) q.asleep)) (length-map tasks task_of)
+      (subst (λ (n : ℕ). AreSleeping (map task_of tasks ++ task_of t ∷ []) 0 (in_time (length (map task_of tasks), n) q.asleep)) most slept)))
+
+  -- it waits
+  pub open-waiting : ((offset period : ℕ) → th.timing ≡ timing.Periodic offset period → ⊥) → AreOpen until us (threads ++ th ∷ []) (tasks ++ t ∷ []) q
+  open-waiting other =
+      open-pushed q refl (waiting-push (map task_of tasks) 0 q.asleep (task_of t) o.sleeping (λ k h. by_timing th.timing refl k (sym (ap (λ u. u.readiness) first) ∙ h)))
+    where
+      by_timing : (w : Timing) → th.timing ≡ w → (k : ℕ) → first_wait (timing_of th.timing) ≡ Asleep k → ⊥
+      by_timing (timing.Periodic offset period) e k h = other offset period e
+      by_timing (timing.Requested op ceiling separation jitter external) e k h = wrong (sym (ap (λ w. first_wait (timing_of w)) e) ∙ h)
+        where
+          wrong : states.Waiting ≡ Asleep k → ⊥
+          wrong x = cc
+
+-- it sleeps or waits
+pub open-next : (until : ℕ) (us : List units.Unit) (threads : List Thread) (tasks : List Task) (q : Queues) (o : AreOpen until us threads tasks q) (t : Task) (th : Thread) → IsFresh t th → CanStart us th
+    → (q' : Queues) → q' ≡ first_slept th.timing (length tasks) q → AreOpen until us (threads ++ th ∷ []) (tasks ++ t ∷ []) q'
+open-next until us threads tasks q o t th fresh can q' is = by_timing th.timing refl
+  where
+    by_timing : (w : Timing) → th.timing ≡ w → AreOpen until us (threads ++ th ∷ []) (tasks ++ t ∷ []) q'
+    by_timing (timing.Periodic offset period) e = open-more until us threads tasks q o t th fresh can offset period q' e (is ∙ ap (λ w. first_slept w (length tasks) q) e)
+    by_timing (timing.Requested op ceiling separation jitter external) e =
+        subst (AreOpen until us (threads ++ th ∷ []) (tasks ++ t ∷ [])) (sym (is ∙ ap (λ w. first_slept w (length tasks) q) e))
+        (open-waiting until us threads tasks q o t th fresh can (λ offset period other. wrong offset period (sym e ∙ other)))
+      where
+        wrong : (offset period : ℕ) → timing.Requested op ceiling separation jitter external ≡ timing.Periodic offset period → ⊥
+        wrong offset period k = cc
 
 -- the next task is in neither list
 pub open-free : (until : ℕ) (us : List units.Unit) (threads : List Thread) (tasks : List Task) (q : Queues) → AreOpen until us threads tasks q → length tasks < q.size → IsFree q (length tasks)
@@ -159,7 +207,7 @@ places-none k zero = refl
 places-none k (suc n) = ap (λ zs. pos 0 ∷ zs) (places-none (suc k) n)
 
 -- all tasks are open
-module _ (until : ℕ) (costs : Costs) (us : List units.Unit) (threads : List Thread) (tasks : List Task) (q : Queues) (o : AreOpen until us threads tasks q) (near : until < 2 ^ 32) (size : q.size ≡ length tasks) where
+module _ (until : ℕ) (costs : Costs) (us : List units.Unit) (threads : List Thread) (tasks : List Task) (q : Queues) (o : AreOpen until us threads tasks q) (near : until < 2 ^ 32) (few : length tasks < 2 ^ 32) (size : q.size ≡ length tasks) where
   pub open-sound : IsSound until 0 Effects None us tasks q
   open-sound = record {
     size = size;
@@ -173,6 +221,7 @@ module _ (until : ℕ) (costs : Costs) (us : List units.Unit) (threads : List Th
     kept = o.kept;
     here = tt;
     near = near;
+    few = few;
     in_time = omega arith;
   }
     where
@@ -184,30 +233,41 @@ module _ (until : ℕ) (costs : Costs) (us : List units.Unit) (threads : List Th
             where
               none : None ≡ Some t → ⊥
               none k = cc
-          by_list (h ∷ hs) zero at' = absurd (wrong (ap (λ u. u.readiness) (same at') ∙ is))
+          by_list (h ∷ hs) zero at' = absurd (by_timing h.timing (ap (λ u. u.readiness) (same at') ∙ is))
             where
               same : Some (first_task (thread_of h)) ≡ Some t → first_task (thread_of h) ≡ t
               same k = cc
 
-              wrong : Asleep h.offset ≡ states.Ready → ⊥
-              wrong k = cc
+              by_timing : (w : Timing) → first_wait (timing_of w) ≡ states.Ready → ⊥
+              by_timing (timing.Periodic offset period) k = wrong k
+                where
+                  wrong : Asleep offset ≡ states.Ready → ⊥
+                  wrong x = cc
+              by_timing (timing.Requested op ceiling separation jitter external) k = wrong k
+                where
+                  wrong : states.Waiting ≡ states.Ready → ⊥
+                  wrong x = cc
           by_list (h ∷ hs) (suc i) at' = by_list hs i at'
 
   threads-of : (ts : List Task) → map (λ t. thread_of t.progress.stack.thread) ts ≡ map thread_of (map (λ t. t.progress.stack.thread) ts)
   threads-of [] = refl
   threads-of (t ∷ ts) = ap (λ xs. thread_of t.progress.stack.thread ∷ xs) (threads-of ts)
 
-  open-state : state_by 0 Effects None false tasks q.ready ≡ opening (system_by until costs us tasks) []
-  open-state =
+  open-state : (arrivals : List Arrival) → state_by arrivals 0 Effects None false tasks q.ready ≡ opening (system_by until costs us tasks) arrivals
+  open-state arrivals =
       let threads_is : map (λ t. thread_of t.progress.stack.thread) tasks ≡ map thread_of threads = threads-of tasks ∙ ap (map thread_of) o.threads_are in
-      let view : List states.Task → List ℤ → states.State = λ ts os. record (state_by 0 Effects None false tasks q.ready) { tasks = ts; orders = os } in
+      let view : List states.Task → List ℤ → states.State = λ ts os. record (state_by arrivals 0 Effects None false tasks q.ready) { tasks = ts; orders = os } in
       ap (λ es. view (map task_of tasks) (places (length tasks) es)) o.ready ∙ ap (view (map task_of tasks)) (places-none 0 (length tasks))
       ∙ ap (λ ts. view ts (replicate (length tasks) (pos 0))) (o.tasks_are ∙ ap (map first_task) (sym threads_is))
       ∙ ap (λ n. view (map first_task (map (λ t. thread_of t.progress.stack.thread) tasks)) (replicate n (pos 0))) (sym (length-map tasks (λ t. thread_of t.progress.stack.thread)))
 
-  pub open-running : record { system = system_by until costs us tasks; state = state_by 0 Effects None false tasks q.ready } ≡ opened until costs us threads
-  open-running =
+  pub open-running : (arrivals : List Arrival) → record { system = system_by until costs us tasks; state = state_by arrivals 0 Effects None false tasks q.ready } ≡ opened until costs us arrivals threads
+  open-running arrivals =
       let view : System → states.State → Running = λ y s. record { system = y; state = s } in
-      ap (view (system_by until costs us tasks)) open-state
-      ∙ ap (λ ts. view (record (system_for until costs us threads) { threads = ts }) (opening (record (system_for until costs us threads) { threads = ts }) []))
+      ap (view (system_by until costs us tasks)) (open-state arrivals)
+      ∙ ap (λ ts. view (record (system_for until costs us threads) { threads = ts }) (opening (record (system_for until costs us threads) { threads = ts }) arrivals))
       (threads-of tasks ∙ ap (map thread_of) o.threads_are)
+
+pub slept-size : (w : Timing) (task : ℕ) (q : Queues) → (first_slept w task q).size ≡ q.size
+slept-size (timing.Periodic offset period) task q = refl
+slept-size (timing.Requested op ceiling separation jitter external) task q = refl

@@ -14,7 +14,7 @@ use Rattle.machine.specs.Pieces.{Piece, Idle, Store, Leaving, Calling, Working, 
 use Rattle.machine.specs.Deeds as deeds
 use Rattle.machine.specs.Deeds.{PieceOutcome, called, done}
 use Rattle.ceil_runtime.specs.Effort.{IsLong, ends_among, effort, first_ticks, first_works}
-use Rattle.ceil_runtime.specs.Fitting.{FitsFirst, place_of}
+use Rattle.ceil_runtime.specs.Fitting.{FitsBlock, FitsFirst, FitsStatement, Spot, place_of}
 use Rattle.ceil_runtime.specs.Left.{first_tells}
 use Rattle.ceil_runtime.specs.Doing.{Does}
 use Rattle.ceil_runtime.specs.Progresses.{Kept, behind, kept, nothing_kept, piece_of, started, with_frame}
@@ -340,3 +340,28 @@ some-effort most (Keeping task v) ps h = omega (arith, h)
 some-effort most (Opening task) ps h = omega (arith, h)
 some-effort most (Requested task v) ps h = omega (arith, h)
 some-effort most Finishing ps h = omega (arith, h)
+
+-- the first piece of an activation takes ticks
+module _ (c : Costs) (d : Option ℕ) (ticks : AreTicking c) (long : IsLong d) where
+  turns_ticks : (b : Bool) (name : Name) (at last : ℕ) (body : Statements) (rest : List Piece) → nat_le at last ≡ b → 0 < first_ticks c d rest → 0 < first_ticks c d (turns name at last body rest)
+  turns_ticks true name at last body rest e h = rw e ticks.turn
+  turns_ticks false name at last body rest e h = rw e h
+
+  statement_ticks : (s : Spot) (t : Statement) (rest : List Piece) → FitsStatement s t → 0 < first_ticks c d rest → 0 < first_ticks c d (pieces_of t rest)
+  statement_ticks s Null rest f h = ticks.«nothing»
+  statement_ticks s (Assign target e) rest f h = ticks.assign
+  statement_ticks s (If Nothing) rest f h = absurd f
+  statement_ticks s (If (Else block)) rest f h = absurd f
+  statement_ticks s (If (When condition block others)) rest f h = ticks.test
+  statement_ticks s (For name low high body) rest f h = turns_ticks (nat_le low high) name low high body rest refl h
+  statement_ticks s (ExitWhen condition) rest f h = ticks.test
+  statement_ticks s (Call object op actuals) rest f h = ticks.call
+  statement_ticks s (Work n) rest f h = work-long n d f long
+  statement_ticks s (Put e) rest f h = ticks.put
+
+  block_ticks : (s : Spot) (ss : Statements) (rest : List Piece) → FitsBlock s ss → 0 < first_ticks c d rest → 0 < first_ticks c d (pieces ss rest)
+  block_ticks s End rest f h = h
+  block_ticks s (Then first others) rest f h = statement_ticks s first (pieces others rest) f.0 (block_ticks s others rest f.1 h)
+
+pub activation-ticks : (c : Costs) (d : Option ℕ) (s : Spot) (ss : Statements) → costs_break c ≡ false → IsLong d → FitsBlock s ss → 0 < first_ticks c d (pieces ss (Finishing ∷ []))
+activation-ticks c d s ss ticks long f = block_ticks c d (ticking c ticks) long s ss (Finishing ∷ []) f (ticking c ticks).finish

@@ -2,8 +2,9 @@
 -- A `work` takes the smaller of its number and the next duration that is handed in for the task, where there is one.
 use Rattle.std.specs.Prelude.{ℕ, suc, ◌+◌, ◌<◌, IfSome, List, [], ◌∷◌, Option, length, map, sum}
 use Rattle.seq_tree.specs.declared.tree.Costs.{Costs}
+use Rattle.seq_tree.specs.declared.tree.Param.{Param}
 use Rattle.machine.specs.Pieces.{Piece, Turned, Returning, ticks_of, works_of}
-use Rattle.machine.specs.Systems.{System}
+use Rattle.machine.specs.Systems.{System, TaskUnit, ReleasePattern, Periodic, Requested}
 use Rattle.ceil_runtime.specs.Callable.{calls_room}
 
 -- the ticks of the first piece, with the duration that a `work` is handed
@@ -27,9 +28,18 @@ ends_among (Turned name at last body ∷ ps) = suc (ends_among ps)
 ends_among (Returning outs stores caller ∷ ps) = suc (ends_among ps)
 ends_among (_ ∷ ps) = ends_among ps
 
+-- the parameters of requests
+abbrev pub request_params : ReleasePattern → List Param
+request_params (Periodic offset period) = []
+request_params (Requested op ceiling separation jitter external) = op.params
+
+-- the variables that a task has outside of its loops
+abbrev pub own_vars : TaskUnit → ℕ
+own_vars t = length t.vars + length (request_params t.timing)
+
 -- the most ends that may follow each other: no task has more frames
 abbrev pub most_ends : System → ℕ
-most_ends y = sum (map (λ t. length t.vars) y.threads) + 196 + calls_room [] y.libraries
+most_ends y = sum (map own_vars y.threads) + 196 + calls_room [] y.libraries
 
 -- the most effects that may follow each other at one time
 abbrev pub effort : ℕ → List Piece → ℕ

@@ -29,6 +29,10 @@ pub record Spot : Type 0 where
 abbrev pub above : Spot → Spot
 above s = record s { room = s.room - 1 }
 
+-- behind one frame more, with these variables besides
+abbrev pub beside : List Name → Spot → Spot
+beside names s = record s { room = s.room - suc (length names) }
+
 -- inside a loop
 abbrev pub in_loop : Spot → Spot
 in_loop s = record s { inside = true; room = s.room - 3 }
@@ -91,10 +95,12 @@ IsOfStatement (piece.Returning c) = ⊥
 IsOfStatement piece.Finishing = ⊥
 IsOfStatement _ = ⊤
 
--- where a frame stands: the names of the variables there, and how many frames are below
+-- where a frame stands: the names of the variables there, those of the parameters that an activation begins with, and how many
+-- frames are below
 pub record Place : Type 0 where
   pub spot : Spot
   pub names : List Name
+  pub params : List Name
   pub height : ℕ
 
 -- the name of the operation of a call
@@ -111,11 +117,11 @@ body_names o = map (λ q. q.name) o.sig.params ++ map (λ d. d.name) o.locals
 
 -- where the next frame stands
 abbrev pub next : Place → Frame → Place
-next p frame.Finish = record p { spot = above p.spot; height = suc p.height }
+next p frame.Finish = record p { spot = beside p.params p.spot; names = p.params ++ p.names; height = suc p.height }
 next p (frame.Stmts ss) = record p { spot = above p.spot; height = suc p.height }
-next p (frame.Turned r) = record { spot = record p.spot { inside = true; room = p.spot.room - 2 }; names = r.name.now ∷ p.names; height = suc p.height }
+next p (frame.Turned r) = record p { spot = record p.spot { inside = true; room = p.spot.room - 2 }; names = r.name.now ∷ p.names; height = suc p.height }
 next p (frame.Saved v) = record p { names = drop 1 p.names; height = suc p.height }
-next p (frame.Return c) = record { spot = in_call p.spot (call_name c); names = body_names (operation_of c.op.now); height = suc p.height }
+next p (frame.Return c) = record p { spot = in_call p.spot (call_name c); names = body_names (operation_of c.op.now); height = suc p.height }
 
 -- a call that there is room for, before its body
 pub record IsUnderWay (s : Spot) (c : call.Call) : Type 0 where
@@ -124,7 +130,7 @@ pub record IsUnderWay (s : Spot) (c : call.Call) : Type 0 where
 
 -- a frame, with what is put away below it: a call ends where no variables of its caller are left, and all others stand on none
 abbrev pub FitsFrame : Place → Variables → Frame → Type 0
-FitsFrame p away frame.Finish = (away ≡ []) × (1 ≤ p.spot.room) × (p.height ≡ 0)
+FitsFrame p away frame.Finish = (away ≡ []) × (suc (length p.params) ≤ p.spot.room) × (p.height ≡ 0)
 FitsFrame p away (frame.Stmts ss) = (away ≡ []) × (1 ≤ p.spot.room) × FitsList (above p.spot) ss.now
 FitsFrame p away (frame.Turned r) = (away ≡ []) × FitsPiece p.spot (piece.Turned r)
 FitsFrame p away (frame.Saved v) = p.names ≡ v.name.now ∷ drop 1 p.names
@@ -163,11 +169,13 @@ FitsFirst p (Some piece.Finishing) = p.height ≡ 0
 FitsFirst p (Some (piece.Returning c)) = (p.names ≡ []) × (length c.op.now.sig.params.items ≤ 8)
 FitsFirst p (Some q) = FitsPiece p.spot q
 
--- the names of the variables while a piece is first: a turn that ends has one of its own, and a call ends with its own
-abbrev pub Named : List Name → Option Piece → List Name → Type 0
-Named names (Some (piece.Turned r)) now = now ≡ r.name.now ∷ names
-Named names (Some (piece.Returning c)) now = ⊤
-Named names _ now = now ≡ names
+-- the names of the variables while a piece is first: a turn that ends has one of its own, an activation ends with its parameters, and
+-- a call ends with its own variables
+abbrev pub Named : Place → Option Piece → List Name → Type 0
+Named p (Some (piece.Turned r)) now = now ≡ r.name.now ∷ p.names
+Named p (Some (piece.Returning c)) now = ⊤
+Named p (Some piece.Finishing) now = now ≡ p.params ++ p.names
+Named p _ now = now ≡ p.names
 
 -- the variables of a caller are put away above all pieces only where a call ends
 abbrev pub PutsAway : Option Piece → Variables → Type 0

@@ -1,5 +1,5 @@
 -- A number that falls in a run up to its stop.
--- It counts the events that may still be told, at most three at each tick for a task.
+-- It counts the events that may still be told, at most three at each tick for a task, and two for an arrival.
 use Rattle.std.specs.Prelude.{◌≡◌, ℕ, ◌+◌, ◌-◌, ◌*◌, ◌≤◌, false, List, [], ◌∷◌, length, ◌==◌, if◌then◌else◌}
 use Rattle.trace_tree.specs.declared.event.Event.{Event}
 use Rattle.machine.specs.Pieces.{Piece, Printing, Finishing}
@@ -38,7 +38,7 @@ rank Use s = 0
 
 -- the number that falls with each event
 abbrev pub left : Running → ℕ
-left r = (r.system.until - r.state.time) * (3 * length r.system.threads) + rank r.state.phase r.state
+left r = (r.system.until - r.state.time) * (3 * length r.system.threads) + rank r.state.phase r.state + 2 * length r.state.arrivals
 
 -- a run that goes on has as many events less to tell
 abbrev pub Falls : Running → List Event → Running → Type 0

@@ -3,12 +3,13 @@ pub mod Callable
 pub mod Progresses
 pub mod Fitting
 pub mod Libraries
+pub mod Effort
 pub mod Written
 pub mod Gathering
 pub mod OneProof
 pub mod Doing
-pub mod Effort
 pub mod Progressed
+pub mod Readies
 pub mod Replayable
 pub mod Left
 pub mod Turns

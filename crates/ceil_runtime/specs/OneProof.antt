@@ -96,19 +96,19 @@ fits-first-prop p (Some (is.Turned r)) = fits-piece-prop p.spot (is.Turned r)
 fits-first-prop p (Some (is.Returning c)) = ×_prop (names_prop p.names []) le_prop
 fits-first-prop p (Some is.Finishing) = number_prop p.height 0
 
-pub named-prop : (names : List Name) (first : Option piece.Piece) (now : List Name) → IsProp (Named names first now)
-named-prop names None now = names_prop now names
-named-prop names (Some is.Idle) now = names_prop now names
-named-prop names (Some (is.Store target value)) now = names_prop now names
-named-prop names (Some (is.Leaving condition)) now = names_prop now names
-named-prop names (Some (is.Calling object op actuals)) now = names_prop now names
-named-prop names (Some (is.Working ticks)) now = names_prop now names
-named-prop names (Some (is.Printing value)) now = names_prop now names
-named-prop names (Some (is.Testing arm arms other)) now = names_prop now names
-named-prop names (Some (is.Turning r)) now = names_prop now names
-named-prop names (Some (is.Turned r)) now = names_prop now _
-named-prop names (Some (is.Returning c)) now = Unit-prop
-named-prop names (Some is.Finishing) now = names_prop now names
+pub named-prop : (p : Place) (first : Option piece.Piece) (now : List Name) → IsProp (Named p first now)
+named-prop p None now = names_prop now p.names
+named-prop p (Some is.Idle) now = names_prop now p.names
+named-prop p (Some (is.Store target value)) now = names_prop now p.names
+named-prop p (Some (is.Leaving condition)) now = names_prop now p.names
+named-prop p (Some (is.Calling object op actuals)) now = names_prop now p.names
+named-prop p (Some (is.Working ticks)) now = names_prop now p.names
+named-prop p (Some (is.Printing value)) now = names_prop now p.names
+named-prop p (Some (is.Testing arm arms other)) now = names_prop now p.names
+named-prop p (Some (is.Turning r)) now = names_prop now p.names
+named-prop p (Some (is.Turned r)) now = names_prop now _
+named-prop p (Some (is.Returning c)) now = Unit-prop
+named-prop p (Some is.Finishing) now = names_prop now _
 
 pub puts-away-prop : (first : Option piece.Piece) (away : Variables) → IsProp (PutsAway first away)
 puts-away-prop None away = none-prop away

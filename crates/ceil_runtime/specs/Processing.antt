@@ -4,6 +4,7 @@ use Rattle.std.specs.Prelude.{◌≡◌, ◌⊎◌, ℕ, ◌+◌, ◌<◌, ◌�
 use Rattle.seq_tree.specs.declared.tree.Costs.{Costs}
 use Rattle.ada_tree.specs.Trees.{unit_of}
 use Rattle.ada_tree.specs.declared.program.Unit as units
+use Rattle.arrivals_tree.specs.declared.arrivals.Arrival.{Arrival}
 use Rattle.trace_tree.specs.declared.event.Event.{Event}
 use Rattle.link_queue.specs.Queues.{Entry, Each, Queues}
 use Rattle.machine.specs.Systems.{System}
@@ -11,6 +12,7 @@ use Rattle.machine.specs.States as states
 use Rattle.machine.specs.Meanings.{Running, Rest}
 use Rattle.dispatching.specs.Queueing.{AreQueued, AreSleeping, places}
 use Rattle.ceil_runtime.specs.Libraries.{libraries_from}
+use Rattle.ceil_runtime.specs.Readies.{is_ready}
 use Rattle.ceil_runtime.specs.Works.{task_of}
 use Rattle.ceil_runtime.specs.Written.{thread_of}
 use Rattle.ceil_runtime.specs.declared.task.Task.{Task}
@@ -41,12 +43,12 @@ system_by until costs us tasks = record {
 }
 
 -- where it stands
-abbrev pub state_by : ℕ → Phase → Option ℕ → Bool → List Task → List Entry → states.State
-state_by time phase ran stopped tasks ready = record {
+abbrev pub state_by : List Arrival → ℕ → Phase → Option ℕ → Bool → List Task → List Entry → states.State
+state_by arrivals time phase ran stopped tasks ready = record {
   time = time;
   phase = phase_of phase;
   ran = ran;
-  arrivals = [];
+  arrivals = arrivals;
   stopped = stopped;
   tasks = map task_of tasks;
   orders = places (length tasks) ready;
@@ -59,15 +61,15 @@ pub record IsKept (until time : ℕ) (us : List units.Unit) (t : Task) : Type 0 
   pub works : t.works ≤ time + min t.left 1
   pub next : t.next ≤ until + 2 ^ 33
   pub units : t.progress.stack.thread.units.now ≡ us
-  pub idle : t.ready ≡ false → t.left ≡ 0
+  pub idle : is_ready t.readiness ≡ false → t.left ≡ 0
 
 abbrev pub AllTasks : (Task → Type 0) → List Task → Type 0
 AllTasks P tasks = (i : ℕ) (t : Task) → slice_get tasks i ≡ Some t → P t
 
--- the task that used the tick before is the first ready one, or its activation has ended
+-- the task that used the tick before is the first ready one, or it has no effect: its activation has ended, or its piece has ticks left
 abbrev pub IsFirst : Option ℕ → List Task → List Entry → Type 0
 IsFirst None tasks ready = ⊤
-IsFirst (Some i) tasks ready = (i < length tasks) × (((level : ℕ) × (slice_get ready 0 ≡ Some (i, level))) ⊎ ((t : Task) → slice_get tasks i ≡ Some t → t.ready ≡ false))
+IsFirst (Some i) tasks ready = (i < length tasks) × (((level : ℕ) × (slice_get ready 0 ≡ Some (i, level))) ⊎ ((t : Task) → slice_get tasks i ≡ Some t → is_ready t.readiness ≡ true → t.left ≡ 0 → ⊥))
 
 -- what holds in a part of an instant
 abbrev pub HoldsIn : Phase → ℕ → ℕ → Option ℕ → List Task → Queues → Type 0
@@ -84,6 +86,7 @@ pub record IsSound (until time : ℕ) (phase : Phase) (ran : Option ℕ) (us : L
   pub kept : AllTasks (IsKept until time us) tasks
   pub here : HoldsIn phase until time ran tasks q
   pub near : until < 2 ^ 32
+  pub few : length tasks < 2 ^ 32
   pub in_time : time ≤ until
 
 -- so many ticks are at most those left of the first ready task's piece, or one
@@ -93,4 +96,4 @@ IsWithin tasks (e ∷ es) n = (t : Task) → slice_get tasks e.0 ≡ Some t → 
 
 -- the task at this place is ready, and the ticks of its piece are used
 abbrev pub HasPiece : List Task → ℕ → Piece → Type 0
-HasPiece tasks i p = (t : Task) → slice_get tasks i ≡ Some t → (t.progress.piece ≡ Some p) × (t.ready ≡ true) × (t.left ≡ 0)
+HasPiece tasks i p = (t : Task) → slice_get tasks i ≡ Some t → (t.progress.piece ≡ Some p) × (is_ready t.readiness ≡ true) × (t.left ≡ 0)

@@ -8,7 +8,7 @@ use Rattle.ceil_runtime.specs.declared.processor.Machine.{Machine}
 abbrev pub running_of : Machine → Running
 running_of m = record {
   system = system_by m.until m.costs m.units.now m.tasks.items;
-  state = state_by m.time m.phase m.ran m.stopped m.tasks.items m.links.ready;
+  state = state_by m.arrivals.now m.time m.phase m.ran m.stopped m.tasks.items m.links.ready;
 }
 
 -- a processor whose lists are those of its tasks

@@ -1,19 +1,22 @@
 -- The opening of a processor: which tasks it can be opened for, and how far it has come.
 use Rattle.std.specs.Prelude.{◌≡◌, ℕ, ◌<◌, ◌^◌, false, List, [], map}
 use Rattle.arrivals_tree.specs.Acceptance.{has_nothing}
+use Rattle.arrivals_tree.specs.declared.arrivals.Arrival.{Arrival}
 use Rattle.seq_tree.specs.declared.tree.Costs.{Costs}
 use Rattle.ada_tree.specs.Trees.{unit_of}
 use Rattle.ada_tree.specs.declared.program.Unit as units
-use Rattle.link_queue.specs.Queues.{Queues}
+use Rattle.link_queue.specs.Queues.{Queues, in_time}
 use Rattle.machine.specs.Systems.{System}
 use Rattle.machine.specs.Meanings.{Running}
-use Rattle.machine.specs.States.{first_task, opening}
+use Rattle.machine.specs.States.{first_task, first_time, opening}
 use Rattle.dispatching.specs.Queueing.{AreSleeping}
 use Rattle.ceil_runtime.specs.Processing.{AllTasks, IsKept}
 use Rattle.ceil_runtime.specs.Libraries.{libraries_from}
 use Rattle.ceil_runtime.specs.Works.{task_of}
-use Rattle.ceil_runtime.specs.Written.{CanRun, durations_of, thread_of}
+use Rattle.ceil_runtime.specs.Written.{CanRun, durations_of, thread_of, timing_of}
 use Rattle.ceil_runtime.specs.declared.thread.Thread.{Thread}
+use Rattle.ceil_runtime.specs.declared.thread.Timing.{Timing}
+use Rattle.ceil_runtime.specs.declared.thread.Timing.TheVariants.{Periodic, Requested}
 use Rattle.ceil_runtime.specs.declared.task.Task.{Task}
 
 -- what runs, where these are the tasks
@@ -30,12 +33,18 @@ system_for until costs us threads = record {
 pub record CanStart (us : List units.Unit) (t : Thread) : Type 0 where
   pub runs : CanRun t
   pub units : t.units.now ≡ us
-  pub offset : t.offset < 2 ^ 32
+  pub offset : first_time (timing_of t.timing) < 2 ^ 32
   pub long : has_nothing (durations_of t) ≡ false
 
 -- these tasks at the opening, before all effects
-abbrev pub opened : ℕ → Costs → List units.Unit → List Thread → Running
-opened until costs us threads = record { system = system_for until costs us threads; state = opening (system_for until costs us threads) [] }
+abbrev pub opened : ℕ → Costs → List units.Unit → List Arrival → List Thread → Running
+opened until costs us arrivals threads =
+    record { system = system_for until costs us threads; state = opening (system_for until costs us threads) arrivals }
+
+-- the lists with a task that has not run yet: it sleeps until its first time, where it has times of its own
+abbrev pub first_slept : Timing → ℕ → Queues → Queues
+first_slept (Periodic offset period) task q = record q { asleep = in_time (task, offset) q.asleep }
+first_slept (Requested op ceiling separation jitter external) task q = q
 
 -- tasks that are open so far
 pub record AreOpen (until : ℕ) (us : List units.Unit) (threads : List Thread) (tasks : List Task) (q : Queues) : Type 0 where

@@ -1,6 +1,7 @@
 -- What a step of a machine comes to: which event it tells, and how many steps may still follow in the instant.
 -- Each step that tells nothing is followed by fewer such steps.
-use Rattle.std.specs.Prelude.{◌≡◌, ℕ, ◌+◌, ◌-◌, ◌*◌, ◌<◌, ◌==◌, true, false, List, Option, Some, None, slice_get, if◌then◌else◌, ⊤}
+use Rattle.std.specs.Prelude.{◌≡◌, ℕ, ◌+◌, ◌-◌, ◌*◌, ◌<◌, ◌==◌, true, false, List, [], ◌∷◌, length, Option, Some, None, slice_get, if◌then◌else◌, ⊤}
+use Rattle.arrivals_tree.specs.declared.arrivals.Arrival.{Arrival}
 use Rattle.trace_tree.specs.declared.event.Event.{Event}
 use Rattle.trace_tree.specs.declared.event.Event.TheVariants as event
 use Rattle.ceil_runtime.specs.Processing.{system_by}
@@ -10,6 +11,8 @@ use Rattle.ceil_runtime.specs.declared.task.Task.{Task}
 use Rattle.ceil_runtime.specs.declared.processor.Phase.{Phase}
 use Rattle.ceil_runtime.specs.declared.processor.Phase.TheVariants.{Effects, Delays, Arriving, Use}
 use Rattle.ceil_runtime.specs.declared.processor.Machine.{Machine}
+use Rattle.ceil_runtime.specs.declared.processor.Told.{Told}
+use Rattle.ceil_runtime.specs.declared.processor.Told.TheVariants.{Nothing, One, Two}
 
 -- the effects that a task may still have in an instant
 abbrev pub effort_of : ℕ → Option Task → ℕ
@@ -28,28 +31,44 @@ steps_in most Arriving tasks ran = 1
 steps_in most Use tasks ran = 0
 
 -- the number that falls with each step that tells nothing
-abbrev pub steps_by : ℕ → ℕ → ℕ → Phase → List Task → Option ℕ → ℕ
-steps_by most until time phase tasks ran = (until - time) * (most + 4) + steps_in most phase tasks ran
+abbrev pub steps_by : List Arrival → ℕ → ℕ → ℕ → Phase → List Task → Option ℕ → ℕ
+steps_by arrivals most until time phase tasks ran = (until - time) * (most + 4) + steps_in most phase tasks ran + length arrivals
 
 abbrev pub most_of : Machine → ℕ
 most_of m = most_ends (system_by m.until m.costs m.units.now m.tasks.items)
 
 abbrev pub steps_left : Machine → ℕ
-steps_left m = steps_by (most_of m) m.until m.time m.phase m.tasks.items m.ran
+steps_left m = steps_by m.arrivals.now (most_of m) m.until m.time m.phase m.tasks.items m.ran
+
+-- the events that a step tells
+abbrev pub told_of : Told → List Event
+told_of Nothing = []
+told_of (One e) = e ∷ []
+told_of (Two e f) = e ∷ f ∷ []
 
 -- a step that tells nothing is followed by fewer such steps
-abbrev pub IsNear : Option Event → Machine → Machine → Type 0
-IsNear None m m' = steps_left m' < steps_left m
-IsNear (Some e) m m' = ⊤
+abbrev pub IsNear : Told → Machine → Machine → Type 0
+IsNear Nothing m m' = steps_left m' < steps_left m
+IsNear (One e) m m' = ⊤
+IsNear (Two e f) m m' = ⊤
+
+-- an event of a run that goes on
+abbrev pub GoesOn : Event → Type 0
+GoesOn (event.Release time task value) = ⊤
+GoesOn (event.Arrive time task value) = ⊤
+GoesOn (event.End time task used) = ⊤
+GoesOn (event.Print time task value) = ⊤
+GoesOn _ = ⊥
 
 -- a run stops at the horizon, and not before
-abbrev pub Ends : Option Event → Machine → Type 0
-Ends None m = m.stopped ≡ false
-Ends (Some (event.Horizon time)) m = (time ≡ m.time) × (m.stopped ≡ true)
-Ends (Some (event.Release time task value)) m = m.stopped ≡ false
-Ends (Some (event.End time task used)) m = m.stopped ≡ false
-Ends (Some (event.Print time task value)) m = m.stopped ≡ false
-Ends (Some _) m = ⊥
+abbrev pub EndsAt : Event → Machine → Type 0
+EndsAt (event.Horizon time) m = (time ≡ m.time) × (m.stopped ≡ true)
+EndsAt e m = GoesOn e × (m.stopped ≡ false)
+
+abbrev pub Ends : Told → Machine → Type 0
+Ends Nothing m = m.stopped ≡ false
+Ends (One e) m = EndsAt e m
+Ends (Two e f) m = GoesOn e × GoesOn f × (m.stopped ≡ false)
 
 -- a task of this unit
 pub record HasUnit (tasks : List Task) (unit : ℕ) : Type 0 where
@@ -62,10 +81,12 @@ pub record HasUnit (tasks : List Task) (unit : ℕ) : Type 0 where
 abbrev pub IsOfTask : List Task → Event → Type 0
 IsOfTask tasks (event.Horizon time) = ⊤
 IsOfTask tasks (event.Release time task value) = HasUnit tasks task
+IsOfTask tasks (event.Arrive time task value) = HasUnit tasks task
 IsOfTask tasks (event.End time task used) = HasUnit tasks task
 IsOfTask tasks (event.Print time task value) = HasUnit tasks task
 IsOfTask tasks _ = ⊥
 
-abbrev pub AreOfTask : List Task → Option Event → Type 0
-AreOfTask tasks None = ⊤
-AreOfTask tasks (Some e) = IsOfTask tasks e
+abbrev pub AreOfTask : List Task → Told → Type 0
+AreOfTask tasks Nothing = ⊤
+AreOfTask tasks (One e) = IsOfTask tasks e
+AreOfTask tasks (Two e f) = IsOfTask tasks e × IsOfTask tasks f

@@ -1,5 +1,5 @@
 -- A task at work: what it stands for, and what its methods do to it.
-use Rattle.std.specs.Prelude.{◌≡◌, ℕ, ◌-◌, ◌+◌, ◌<◌, ◌≤◌, Bool, true, false, List, [], ◌∷◌, ◌==◌, if◌then◌else◌, ⊤}
+use Rattle.std.specs.Prelude.{◌≡◌, ℕ, ◌-◌, ◌+◌, ◌<◌, ◌≤◌, true, List, [], ◌∷◌, Option, ◌==◌, if◌then◌else◌, ⊤}
 use Rattle.seq_tree.specs.Variables.{Variables}
 use Rattle.seq_tree.specs.declared.tree.Costs.{Costs}
 use Rattle.machine.specs.Systems.{PassiveUnit}
@@ -16,17 +16,13 @@ use Rattle.ceil_runtime.specs.Progressed.{vars_left, pieces_left}
 use Rattle.ceil_runtime.specs.declared.effects.Act.{Act}
 use Rattle.ceil_runtime.specs.declared.effects.Act.TheVariants.{Silent, Print, Finish}
 use Rattle.ceil_runtime.specs.declared.task.Task.{Task}
-
--- whether it sleeps until its next time
-abbrev pub readiness_of : Bool → ℕ → states.Readiness
-readiness_of true next = states.Ready
-readiness_of false next = states.Asleep next
+use Rattle.ceil_runtime.specs.Readies.{gate_of, readiness_of}
 
 -- the task
 abbrev pub task_of : Task → states.Task
 task_of t = record {
   thread = thread_of t.progress.stack.thread;
-  readiness = readiness_of t.ready t.next;
+  readiness = readiness_of t.readiness t.next;
   active = t.progress.stack.thread.priority;
   next = t.next;
   vars = vars_left t.progress;
@@ -35,8 +31,12 @@ task_of t = record {
   used = t.used;
   works = t.works;
   inside = [];
-  gate = states.shut;
+  gate = gate_of t.gate;
 }
+
+-- a task that a request from outside has reached
+abbrev pub asked : Option ℕ → states.Task → states.Task
+asked value t = record t { gate = record { value = value; open' = true } }
 
 -- a task that has used so many ticks
 abbrev pub used_ticks : ℕ → states.Task → states.Task

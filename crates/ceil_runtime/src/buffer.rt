@@ -77,4 +77,13 @@ impl EventBuf {
         self.slots[self.len] = event;
         self.len += 1;
     }
+
+    /// Two events more, where there is room for them.
+    pub(crate) fn push_both(&mut self, first: Event, second: Event)
+        requires { length self.old < 15 }
+        ensures { self.new ≡ self.old ++ first ∷ second ∷ [] }
+    {
+        self.push(first);
+        self.push(second);
+    }
 }

@@ -10,7 +10,7 @@ ghost use Rattle.ceil_runtime.specs.Stacked.{vars_of};
 ghost use Rattle.ceil_runtime.specs.Progresses.{behind, branches_left, kept, piece_of, put_away, started};
 ghost use Rattle.ceil_runtime.specs.Fitting.{FitsBranches, FitsIf, FitsPiece, names_of, place_of};
 ghost use Rattle.ceil_runtime.specs.Written.{first_place, libraries_of};
-ghost use Rattle.ceil_runtime.specs.Doing.{Does, EndsAt, IsFirst};
+ghost use Rattle.ceil_runtime.specs.Doing.{Does, EndsAt, IsFirst, KeepsData, given};
 
 use crate::callable::find_op;
 use crate::params::{hand_in, hand_out, open_data, open_params, store};
@@ -241,7 +241,8 @@ impl<'a> Stack<'a> {
     pub fn take_effect(&mut self, piece: Piece<'a>) -> Moved<'a>
         requires { IsFirst self.old.thread (Some piece) (vars_of self.old.vars.items) self.old.frames.items }
         ensures deed { Does (libraries_of self.old.thread) (piece_of piece.entry (put_away self.old.frames.items)) (vars_of self.old.vars.items) (behind self.old.frames.items)
-            result.act (vars_of self.new.vars.items) (started result.next (kept self.new.frames.items)) }
+            result.act (given result.act (vars_of self.old.vars.items) (vars_of self.new.vars.items)) (started result.next (kept self.new.frames.items)) }
+        ensures keeps { KeepsData result.act self.old.thread.data.now (vars_of self.old.vars.items) (vars_of self.new.vars.items) }
         ensures ends { EndsAt result.act (started result.next (kept self.new.frames.items)) }
         ensures first { IsFirst self.new.thread result.next (vars_of self.new.vars.items) self.new.frames.items }
         ensures thread { self.new.thread ≡ self.old.thread }
@@ -273,6 +274,7 @@ impl<'a> Stack<'a> {
             Piece::Returning(call) => silent(self.hand_back(call)),
             Piece::Finishing => {
                 self.frames.clear();
+                self.vars.truncate(self.thread.data.len());
                 Moved {
                     act: Act::Finish,
                     next: None,

@@ -4,8 +4,12 @@ ghost use Rattle.seq_tree.specs.Operations.{out_names};
 ghost use Rattle.seq_tree.specs.Trees.{expression_of};
 ghost use Rattle.seq_tree.specs.Values.{handed};
 ghost use Rattle.seq_tree.specs.Variables.{entered, reads, stored, target_by, targets, written};
+ghost use Rattle.machine.specs.Releases.{parameter};
+ghost use Rattle.ceil_runtime.specs.Effort.{request_params};
 ghost use Rattle.ceil_runtime.specs.Stacked.{vars_of};
+ghost use Rattle.ceil_runtime.specs.Written.{timing_of};
 
+use crate::thread::Timing;
 use crate::values::{Var, read, value_of, write};
 use seq_tree::{Datum, Expr, Mode, Name, Param};
 use trace_tree::Values;
@@ -117,6 +121,24 @@ pub fn open_params<'a>(vars: &mut Vec<Var<'a>>, params: &'a [Param], values: &[u
                 name: &param.name,
                 value: 0,
             });
+        }
+    }
+}
+
+/// Adds the parameter of a request, with the value that was requested, where there is one.
+pub fn open_request<'a>(vars: &mut Vec<Var<'a>>, timing: Timing<'a>, value: Option<u32>)
+    requires { vec_len vars.old + length (request_params (timing_of timing)) ≤ vec_capacity vars.old }
+    ensures vars { vars_of vars.new.items ≡ parameter (timing_of timing.entry) value ++ vars_of vars.old.items }
+    ensures room { vec_capacity vars.new ≡ vec_capacity vars.old }
+{
+    match timing {
+        Timing::Periodic { .. } => {}
+        Timing::Requested { op, .. } => {
+            let mut values = Values::new();
+            if let Some(value) = value {
+                values.push(value);
+            }
+            open_params(vars, op.params.as_slice(), values.as_slice());
         }
     }
 }

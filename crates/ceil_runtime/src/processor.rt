@@ -1,6 +1,11 @@
-ghost use Rattle.std.specs.Prelude.{◌≡◌, ◌<◌, ◌≤◌, ◌+◌, ◌++◌, List, length, [], false, option_to_list, Some};
+ghost use Rattle.std.specs.Prelude.{◌≡◌, ◌<◌, ◌≤◌, ◌+◌, ◌++◌, List, length, [], false, Some, option_map, map, ◌==◌};
 ghost use Rattle.ada_tree.specs.Ranges.{costs_break};
-ghost use Rattle.link_queue.specs.Queues.{Each};
+ghost use Rattle.link_queue.specs.Queues.{Each, IsFree};
+ghost use Rattle.std.specs.Prelude.{◌^◌, ◌-◌, ◌∷◌, suc, ℕ};
+ghost use Rattle.seq_tree.specs.Lists.{first_where};
+ghost use Rattle.dispatching.specs.Jumping.{NoArrival};
+ghost use Rattle.ceil_runtime.specs.Starts.{first_slept};
+ghost use Rattle.ceil_runtime.specs.Works.{task_of};
 ghost use Rattle.ceil_runtime.specs.Processing.{IsWithin};
 
 use crate::buffer::EventBuf;
@@ -8,10 +13,10 @@ use crate::durations::joined;
 use crate::effects::Act;
 use crate::piece::Piece;
 use crate::progress::Progress;
-use crate::task::Task;
-use crate::thread::{Thread, threads_in};
+use crate::task::{Gate, Readiness, Task};
+use crate::thread::{Thread, Timing, opening_rest, opening_time, threads_in};
 use ada_tree::{AdaProgram, Unit};
-use arrivals_tree::Arrivals;
+use arrivals_tree::{Arrival, Arrivals};
 use link_queue::Links;
 use seq_tree::{Costs, NoMemory};
 use std::alloc::Global;
@@ -44,6 +49,57 @@ enum Phase {
     Use,
 }
 
+/// What a step tells.
+#[derive(Drop)]
+enum Told {
+    Nothing,
+    One(Event),
+    Two(Event, Event),
+}
+
+/// Puts a task to sleep until its first time, where it has times of its own.
+fn sleep_first(links: &mut Links, task: u32, timing: Timing)
+    requires { IsFree links.old task }
+    ensures { links.new ≡ first_slept timing.entry task links.old }
+{
+    match timing {
+        Timing::Periodic { offset, .. } => links.sleep(task, u64::from(offset)),
+        Timing::Requested { .. } => {}
+    }
+}
+
+/// The place of the task of a unit among tasks, where it has one.
+fn place_of(tasks: &[Task], unit: u32) -> Option<u32>
+    requires { length tasks.now < 2 ^ 32 }
+    ensures { result ≡ option_map (λ t. t.0) (first_where (λ t. t.thread.unit == unit) (map task_of tasks.now)) }
+{
+    let mut place: u32 = 0;
+    'tasks: for task in tasks {
+        if task.progress.stack.thread.unit == unit {
+            return Some(place);
+        }
+        place += 1;
+    }
+    None
+}
+
+/// At most so many ticks, and no more than stand before the first arrival, where that is still to come.
+fn until_arrival(arrivals: &[Arrival], time: u64, most: u64) -> u64
+    requires some { 0 < most }
+    ensures some { 0 < result }
+    ensures most { result ≤ most }
+    ensures arrival { (j : ℕ) → j < result - 1 → NoArrival (time + suc j) arrivals.now }
+{
+    let Some((arrival, _)) = arrivals.split_first() else {
+        return most;
+    };
+    if time < arrival.time {
+        most.min(arrival.time - time)
+    } else {
+        most
+    }
+}
+
 /// How many ticks stand before the next release and the horizon.
 fn until_wake(links: &Links, time: u64, until: u64) -> u64
     requires before { time < until }
@@ -72,8 +128,8 @@ fn until_effect(links: &Links, tasks: &[Task], most: u64) -> u64
     }
 }
 
-/// How many ticks can be used at once: as many as stand before the next effect, the next release and the horizon.
-fn ticks_ahead(links: &Links, tasks: &[Task], time: u64, until: u64) -> u64
+/// How many ticks can be used at once: as many as stand before the next effect, release or arrival and the horizon.
+fn ticks_ahead(links: &Links, tasks: &[Task], arrivals: &[Arrival], time: u64, until: u64) -> u64
     requires before { time < until }
     requires later { Each (λ e. time < e.1) links.now.asleep }
     requires known { Each (λ e. e.0 < length tasks.now) links.now.ready }
@@ -81,8 +137,10 @@ fn ticks_ahead(links: &Links, tasks: &[Task], time: u64, until: u64) -> u64
     ensures horizon { time + result ≤ until }
     ensures wake { Each (λ e. time + result ≤ e.1) links.now.asleep }
     ensures within { IsWithin tasks.now links.now.ready result }
+    ensures arrival { (j : ℕ) → j < result - 1 → NoArrival (time + suc j) arrivals.now }
 {
-    until_effect(links, tasks, until_wake(links, time, until))
+    let most = until_arrival(arrivals, time, until_wake(links, time, until));
+    until_effect(links, tasks, most)
 }
 
 /// The processor at work on a program.
@@ -90,6 +148,8 @@ fn ticks_ahead(links: &Links, tasks: &[Task], time: u64, until: u64) -> u64
 pub struct Machine<'a> {
     tasks: Vec<Task<'a>>,
     links: Links,
+    // The arrivals left.
+    arrivals: &'a [Arrival],
     units: &'a [Unit],
     costs: Costs,
     until: u64,
@@ -102,7 +162,7 @@ pub struct Machine<'a> {
 }
 
 impl<'a> Machine<'a> {
-    ghost use Rattle.std.specs.Prelude.{◌^◌, IfOk};
+    ghost use Rattle.std.specs.Prelude.{IfOk};
     ghost use Rattle.ada_tree.specs.Trees.{program_of};
     ghost use Rattle.arrivals_tree.specs.Arriving.{arrivals_of};
     ghost use Rattle.machine.specs.Meanings.{Tells, begun};
@@ -120,10 +180,10 @@ impl<'a> Machine<'a> {
     ghost use Rattle.trace_tree.specs.Placed.{IsPlaced};
     ghost use Rattle.ceil_runtime.specs.Processing.{Follows, HasPiece};
     ghost use Rattle.ceil_runtime.specs.Shown.{IsWhole, running_of};
-    ghost use Rattle.ceil_runtime.specs.Stepping.{AreOfTask, Ends, IsNear, steps_left};
+    ghost use Rattle.ceil_runtime.specs.Stepping.{AreOfTask, Ends, IsNear, steps_left, told_of};
 
-    /// The opening of a program of cyclic tasks and passive units under arrivals that are accepted for it. A failed allocation
-    /// is the one error.
+    /// The opening of a program of cyclic tasks, sporadic tasks that are requested from outside, and passive units under
+    /// arrivals that are accepted for it. A failed allocation is the one error.
     pub fn new(
         alloc: Global,
         program: &'a AdaProgram,
@@ -142,23 +202,26 @@ impl<'a> Machine<'a> {
             threads.as_slice(),
             program.costs,
             arrivals.until,
+            arrivals.items.as_slice(),
         )?;
         Ok(machine)
     }
 
-    /// The opening for these tasks of a program's units: each sleeps until its offset. A failed allocation is the one error.
+    /// The opening for these tasks of a program's units: each sleeps until its offset, or waits for a request. A failed
+    /// allocation is the one error.
     fn open(
         alloc: Global,
         units: &'a [Unit],
         threads: &[Thread<'a>],
         costs: Costs,
         until: u64,
+        arrivals: &'a [Arrival],
     ) -> Result<Machine<'a>, NoMemory>
         requires few { length threads.now < 2 ^ 32 }
         requires near { until < 2 ^ 32 }
         requires ticking { costs_break costs ≡ false }
         requires start { AllThreads (CanStart units.now) threads.now }
-        ensures opens { IfOk result (λ m. running_of m ≡ opened until costs units.entry.now threads.entry.now) }
+        ensures opens { IfOk result (λ m. running_of m ≡ opened until costs units.entry.now arrivals.entry.now threads.entry.now) }
         ensures whole { IfOk result IsWhole }
     {
         let Ok(mut links) = Links::new(alloc, threads.len() as u32) else {
@@ -171,19 +234,21 @@ impl<'a> Machine<'a> {
             let durations = joined(alloc, thread.work, thread.unit)?;
             tasks.push_reserved(Task {
                 progress,
-                ready: false,
-                next: u64::from(thread.offset),
+                readiness: opening_rest(thread.timing),
+                next: opening_time(thread.timing),
                 left: 0,
                 used: 0,
                 works: 0,
                 durations,
+                gate: Gate::shut(),
             });
-            links.sleep(task, u64::from(thread.offset));
+            sleep_first(&mut links, task, thread.timing);
             task += 1;
         }
         Ok(Machine {
             tasks,
             links,
+            arrivals,
             units,
             costs,
             until,
@@ -206,7 +271,13 @@ impl<'a> Machine<'a> {
         ensures nears { steps_left self.new < steps_left self.old }
         ensures falls { Falls (running_of self.old) [] (running_of self.new) }
     {
-        let ticks = ticks_ahead(&self.links, self.tasks.as_slice(), self.time, self.until);
+        let ticks = ticks_ahead(
+            &self.links,
+            self.tasks.as_slice(),
+            self.arrivals,
+            self.time,
+            self.until,
+        );
         let head = self.links.head();
         self.time += ticks;
         self.phase = Phase::Effects;
@@ -218,129 +289,210 @@ impl<'a> Machine<'a> {
         self.tasks[task as usize].use_ticks(ticks);
     }
 
-    /// Arrivals: there are none so far, so that the horizon is what is left of this part, where its time has come.
-    fn arriving(&mut self) -> Option<Event>
+    /// The end of the arrivals of an instant: the horizon, where its time has come.
+    fn horizon(&mut self) -> Told
+        requires whole { IsWhole self.old }
+        requires phase { self.old.phase ≡ Phase.Arriving }
+        requires goes_on { self.old.stopped ≡ false }
+        requires none { NoArrival self.old.time self.old.arrivals.now }
+        ensures whole { self.new.stopped ≡ false → IsWhole self.new }
+        ensures follows { Follows (running_of self.old) (told_of result) (running_of self.new) }
+        ensures ends { Ends result self.new }
+        ensures nears { IsNear result self.old self.new }
+        ensures of { AreOfTask self.old.tasks.items result }
+        ensures falls { Falls (running_of self.old) (told_of result) (running_of self.new) }
+    {
+        if self.time == self.until {
+            self.stopped = true;
+            return Told::One(Event::Horizon { time: self.time });
+        }
+        self.phase = Phase::Use;
+        Told::Nothing
+    }
+
+    /// An arrival whose time has come: its value is kept, and where the task waits, it is released.
+    fn arrive(&mut self, arrival: Arrival, others: &'a [Arrival]) -> Told
+        requires whole { IsWhole self.old }
+        requires phase { self.old.phase ≡ Phase.Arriving }
+        requires goes_on { self.old.stopped ≡ false }
+        requires first { self.old.arrivals.now ≡ arrival ∷ others.now }
+        requires now { arrival.time ≡ self.old.time }
+        ensures whole { IsWhole self.new }
+        ensures follows { Follows (running_of self.old) (told_of result) (running_of self.new) }
+        ensures ends { Ends result self.new }
+        ensures nears { IsNear result self.old self.new }
+        ensures of { AreOfTask self.old.tasks.items result }
+        ensures falls { Falls (running_of self.old) (told_of result) (running_of self.new) }
+    {
+        let Some(task) = place_of(self.tasks.as_slice(), arrival.task) else {
+            self.arrivals = others;
+            return Told::Nothing;
+        };
+        self.arrivals = others;
+        let asked = &mut self.tasks[task as usize];
+        asked.arrive(arrival.value);
+        let arrived = Event::Arrive {
+            time: self.time,
+            task: arrival.task,
+            value: arrival.value,
+        };
+        let Readiness::Waiting = asked.readiness else {
+            return Told::One(arrived);
+        };
+        asked.release(&self.costs);
+        self.links
+            .push_tail(task, asked.progress.stack.thread.priority);
+        Told::Two(
+            arrived,
+            Event::Release {
+                time: self.time,
+                task: asked.progress.stack.thread.unit,
+                value: arrival.value,
+            },
+        )
+    }
+
+    /// Arrivals: the first of those left, where its time has come, and then the horizon.
+    fn arriving(&mut self) -> Told
         requires whole { IsWhole self.old }
         requires phase { self.old.phase ≡ Phase.Arriving }
         requires goes_on { self.old.stopped ≡ false }
         ensures whole { self.new.stopped ≡ false → IsWhole self.new }
-        ensures follows { Follows (running_of self.old) (option_to_list result) (running_of self.new) }
+        ensures follows { Follows (running_of self.old) (told_of result) (running_of self.new) }
         ensures ends { Ends result self.new }
         ensures nears { IsNear result self.old self.new }
         ensures of { AreOfTask self.old.tasks.items result }
-        ensures falls { Falls (running_of self.old) (option_to_list result) (running_of self.new) }
+        ensures falls { Falls (running_of self.old) (told_of result) (running_of self.new) }
     {
-        if self.time == self.until {
-            self.stopped = true;
-            return Some(Event::Horizon { time: self.time });
+        let Some((arrival, others)) = self.arrivals.split_first() else {
+            return self.horizon();
+        };
+        if arrival.time != self.time {
+            return self.horizon();
         }
-        self.phase = Phase::Use;
-        None
+        self.arrive(*arrival, others)
     }
 
     /// Delays: the release of the first sleeping task whose time has come.
-    fn delays(&mut self) -> Option<Event>
+    fn delays(&mut self) -> Told
         requires whole { IsWhole self.old }
         requires phase { self.old.phase ≡ Phase.Delays }
         requires goes_on { self.old.stopped ≡ false }
         ensures whole { IsWhole self.new }
-        ensures follows { Follows (running_of self.old) (option_to_list result) (running_of self.new) }
+        ensures follows { Follows (running_of self.old) (told_of result) (running_of self.new) }
         ensures ends { Ends result self.new }
         ensures nears { IsNear result self.old self.new }
         ensures of { AreOfTask self.old.tasks.items result }
-        ensures falls { Falls (running_of self.old) (option_to_list result) (running_of self.new) }
+        ensures falls { Falls (running_of self.old) (told_of result) (running_of self.new) }
     {
         let Some(task) = self.links.wake_due(self.time) else {
             self.phase = Phase::Arriving;
-            return None;
+            return Told::Nothing;
         };
         let released = &mut self.tasks[task as usize];
+        let value = released.gate.value;
         released.release(&self.costs);
         let thread = released.progress.stack.thread;
         self.links.push_tail(task, thread.priority);
-        Some(Event::Release {
+        Told::One(Event::Release {
             time: self.time,
             task: thread.unit,
-            value: None,
+            value,
         })
     }
 
     /// Effects: that of the piece of the task that used the tick before, where its ticks are used.
-    fn effects(&mut self) -> Option<Event>
+    fn effects(&mut self) -> Told
         requires whole { IsWhole self.old }
         requires phase { self.old.phase ≡ Phase.Effects }
         requires goes_on { self.old.stopped ≡ false }
         ensures whole { IsWhole self.new }
-        ensures follows { Follows (running_of self.old) (option_to_list result) (running_of self.new) }
+        ensures follows { Follows (running_of self.old) (told_of result) (running_of self.new) }
         ensures ends { Ends result self.new }
         ensures nears { IsNear result self.old self.new }
         ensures of { AreOfTask self.old.tasks.items result }
-        ensures falls { Falls (running_of self.old) (option_to_list result) (running_of self.new) }
+        ensures falls { Falls (running_of self.old) (told_of result) (running_of self.new) }
     {
         let Some(task) = self.ran else {
             self.phase = Phase::Delays;
-            return None;
+            return Told::Nothing;
         };
         let left = self.tasks[task as usize].left;
         let Some(piece) = self.tasks[task as usize].progress.piece else {
             self.phase = Phase::Delays;
-            return None;
+            return Told::Nothing;
         };
         if left != 0 {
             self.phase = Phase::Delays;
-            return None;
+            return Told::Nothing;
         }
         self.effect(task, piece)
     }
 
     /// The effect of the piece of a task, which is the first ready one.
-    fn effect(&mut self, task: u32, piece: Piece<'a>) -> Option<Event>
+    fn effect(&mut self, task: u32, piece: Piece<'a>) -> Told
         requires whole { IsWhole self.old }
         requires phase { self.old.phase ≡ Phase.Effects }
         requires goes_on { self.old.stopped ≡ false }
         requires ran { self.old.ran ≡ Some task }
         requires piece { HasPiece self.old.tasks.items task piece }
         ensures whole { IsWhole self.new }
-        ensures follows { Follows (running_of self.old) (option_to_list result) (running_of self.new) }
+        ensures follows { Follows (running_of self.old) (told_of result) (running_of self.new) }
         ensures ends { Ends result self.new }
         ensures nears { IsNear result self.old self.new }
         ensures of { AreOfTask self.old.tasks.items result }
-        ensures falls { Falls (running_of self.old) (option_to_list result) (running_of self.new) }
+        ensures falls { Falls (running_of self.old) (told_of result) (running_of self.new) }
     {
         let active = &mut self.tasks[task as usize];
         let act = active.act(&self.costs, piece);
         let unit = active.progress.stack.thread.unit;
-        let next = active.next;
-        let used = active.used;
         match act {
-            Act::Silent => None,
-            Act::Print(value) => Some(Event::Print {
+            Act::Silent => Told::Nothing,
+            Act::Print(value) => Told::One(Event::Print {
                 time: self.time,
                 task: unit,
                 value,
             }),
             Act::Finish => {
-                let _ = self.links.pop_head();
-                self.links.sleep(task, next.max(self.time));
-                Some(Event::End {
+                let ended = Event::End {
                     time: self.time,
                     task: unit,
-                    used,
-                })
+                    used: active.used,
+                };
+                let _ = self.links.pop_head();
+                if let Readiness::Asleep = active.readiness {
+                    self.links.sleep(task, active.next.max(self.time));
+                    return Told::One(ended);
+                }
+                let value = active.gate.value;
+                if !active.gate.open {
+                    return Told::One(ended);
+                }
+                active.release(&self.costs);
+                self.links
+                    .push_tail(task, active.progress.stack.thread.priority);
+                Told::Two(
+                    ended,
+                    Event::Release {
+                        time: self.time,
+                        task: unit,
+                        value,
+                    },
+                )
             }
         }
     }
 
     /// One step, or as many ticks as can be used at once, and what it tells.
-    fn step(&mut self) -> Option<Event>
+    fn step(&mut self) -> Told
         requires whole { IsWhole self.old }
         requires goes_on { self.old.stopped ≡ false }
         ensures whole { self.new.stopped ≡ false → IsWhole self.new }
-        ensures follows { Follows (running_of self.old) (option_to_list result) (running_of self.new) }
+        ensures follows { Follows (running_of self.old) (told_of result) (running_of self.new) }
         ensures ends { Ends result self.new }
         ensures nears { IsNear result self.old self.new }
         ensures of { AreOfTask self.old.tasks.items result }
-        ensures falls { Falls (running_of self.old) (option_to_list result) (running_of self.new) }
+        ensures falls { Falls (running_of self.old) (told_of result) (running_of self.new) }
     {
         match self.phase {
             Phase::Effects => self.effects(),
@@ -348,7 +500,7 @@ impl<'a> Machine<'a> {
             Phase::Arriving => self.arriving(),
             Phase::Use => {
                 self.use_ticks();
-                None
+                Told::Nothing
             }
         }
     }
@@ -371,13 +523,20 @@ impl<'a> Machine<'a> {
         ensures keeps { KeepsCeilings result }
     {
         'steps: loop {
-            if let Some(event) = self.step() {
-                events.push(event);
-                return if self.stopped {
-                    Turn::Horizon
-                } else {
-                    Turn::More
-                };
+            match self.step() {
+                Told::Nothing => {}
+                Told::One(event) => {
+                    events.push(event);
+                    return if self.stopped {
+                        Turn::Horizon
+                    } else {
+                        Turn::More
+                    };
+                }
+                Told::Two(first, second) => {
+                    events.push_both(first, second);
+                    return Turn::More;
+                }
             }
         }
     }

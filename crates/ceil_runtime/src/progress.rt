@@ -1,13 +1,14 @@
-ghost use Rattle.std.specs.Prelude.{◌≡◌, ◌≤◌, IfOk, None, Some, [], ◌∷◌, min};
+ghost use Rattle.std.specs.Prelude.{◌≡◌, ◌≤◌, IfOk, None, Some, [], ◌∷◌, ◌++◌, min};
 ghost use Rattle.machine.specs.Pieces.{Finishing, pieces, work_ticks};
+ghost use Rattle.machine.specs.Releases.{parameter};
 ghost use Rattle.seq_tree.specs.Variables.{written};
 ghost use Rattle.ceil_runtime.specs.Stacked.{vars_of};
 ghost use Rattle.ceil_runtime.specs.Progresses.{behind, piece_of, put_away};
 ghost use Rattle.ceil_runtime.specs.Fitting.{FitsFirst, Named, PutsAway, names_of, place_of};
 ghost use Rattle.ceil_runtime.specs.OneProof.{fits-first-prop, named-prop, puts-away-prop};
-ghost use Rattle.ceil_runtime.specs.Doing.{Does, EndsAt};
+ghost use Rattle.ceil_runtime.specs.Doing.{Does, EndsAt, KeepsData, given};
 ghost use Rattle.ceil_runtime.specs.Effort.{IsLong, first_ticks, first_works};
-ghost use Rattle.ceil_runtime.specs.Written.{CanRun, block_of_thread, first_place, libraries_of};
+ghost use Rattle.ceil_runtime.specs.Written.{CanRun, block_of_thread, first_place, libraries_of, timing_of};
 
 use crate::effects::Act;
 use crate::piece::{Frame, Piece};
@@ -60,7 +61,7 @@ pub struct Progress<'a> {
     pub stack: Stack<'a>,
     pub piece: Option<Piece<'a>>,
     ghost fits: { FitsFirst (place_of (first_place stack.thread) stack.frames.items) piece } by { fits-first-prop (place_of (first_place stack.thread) stack.frames.items) piece },
-    ghost named: { Named (place_of (first_place stack.thread) stack.frames.items).names piece (names_of (vars_of stack.vars.items)) } by { named-prop (place_of (first_place stack.thread) stack.frames.items).names piece (names_of (vars_of stack.vars.items)) },
+    ghost named: { Named (place_of (first_place stack.thread) stack.frames.items) piece (names_of (vars_of stack.vars.items)) } by { named-prop (place_of (first_place stack.thread) stack.frames.items) piece (names_of (vars_of stack.vars.items)) },
     ghost away: { PutsAway piece (put_away stack.frames.items) } by { puts-away-prop piece (put_away stack.frames.items) },
 }
 
@@ -78,21 +79,22 @@ impl<'a> Progress<'a> {
         Ok(Progress { stack, piece: None })
     }
 
-    /// Begins an activation.
-    pub fn begin(&mut self)
+    /// Begins an activation, with the value that was requested, where there is one.
+    pub fn begin(&mut self, value: Option<u32>)
         requires { pieces_left self.old ≡ [] }
         ensures thread { self.new.stack.thread ≡ self.old.stack.thread }
-        ensures vars { vars_left self.new ≡ vars_left self.old }
+        ensures vars { vars_left self.new ≡ parameter (timing_of self.old.stack.thread.timing) value ++ vars_left self.old }
         ensures pieces { pieces_left self.new ≡ pieces (block_of_thread self.old.stack.thread) (Finishing ∷ []) }
     {
-        self.piece = self.stack.begin();
+        self.piece = self.stack.begin(value);
     }
 
     /// Does what the piece does that has started, and starts the next one.
     pub fn act(&mut self, piece: Piece<'a>) -> Act
         requires { self.old.piece ≡ Some piece }
         ensures thread { self.new.stack.thread ≡ self.old.stack.thread }
-        ensures deed { Does (libraries_of self.old.stack.thread) (piece_of piece.entry (put_away self.old.stack.frames.items)) (vars_left self.old) (behind self.old.stack.frames.items) result (vars_left self.new) (pieces_left self.new) }
+        ensures deed { Does (libraries_of self.old.stack.thread) (piece_of piece.entry (put_away self.old.stack.frames.items)) (vars_left self.old) (behind self.old.stack.frames.items) result (given result (vars_left self.old) (vars_left self.new)) (pieces_left self.new) }
+        ensures keeps { KeepsData result self.old.stack.thread.data.now (vars_left self.old) (vars_left self.new) }
         ensures ends { EndsAt result (pieces_left self.new) }
     {
         let moved = self.stack.take_effect(piece);

@@ -8,14 +8,15 @@ ghost use Rattle.seq_tree.specs.Names.{are_distinct};
 ghost use Rattle.ceil_runtime.specs.Stacked.{vars_of};
 ghost use Rattle.ceil_runtime.specs.Progresses.{began, behind, kept, nothing_kept, put_away, started};
 ghost use Rattle.ceil_runtime.specs.Fitting.{Fit, FitSomewhere, FitsBlock, FitsFrame, FitsList, FitsPiece, IsOfStatement, IsPushed, Pops, Spot, above, names_of, place_of};
-ghost use Rattle.ceil_runtime.specs.Written.{CanCall, CanRun, block_of_thread, data_names, first_place, libraries_of, reserve};
+ghost use Rattle.ceil_runtime.specs.Written.{CanCall, CanRun, block_of_thread, block_place, data_names, first_place, libraries_of, param_names, reserve, timing_of};
+ghost use Rattle.machine.specs.Releases.{parameter};
 ghost use Rattle.ceil_runtime.specs.OneProof.{can-call-prop, fit-prop, fits-block-prop};
 ghost use Rattle.ceil_runtime.specs.Doing.{IsFirst};
 
 use crate::callable::calls_room;
-use crate::params::open_data;
+use crate::params::{open_data, open_request};
 use crate::piece::{Frame, Piece, first_piece};
-use crate::thread::Thread;
+use crate::thread::{Thread, params_len};
 use crate::values::Var;
 use seq_tree::{NoMemory, Stmt};
 use smallvec::SmallVec;
@@ -28,10 +29,9 @@ pub struct Stack<'a> {
     pub thread: Thread<'a>,
     pub vars: Vec<Var<'a>>,
     pub frames: SmallVec<Frame<'a>, 16>,
-    ghost block: { FitsBlock (above (above (first_place thread).spot)) (block_of_thread thread) } by { fits-block-prop (above (above (first_place thread).spot)) (block_of_thread thread) },
+    ghost block: { FitsBlock (above (block_place thread).spot) (block_of_thread thread) } by { fits-block-prop (above (block_place thread).spot) (block_of_thread thread) },
     ghost calls: { CanCall (libraries_of thread) } by { can-call-prop (libraries_of thread) },
-    ghost distinct: { are_distinct (data_names thread) ≡ true } by { Coded-set coded_bool (are_distinct (data_names thread)) true },
-    ghost period: { 0 < thread.period },
+    ghost distinct: { are_distinct (data_names thread ++ param_names thread) ≡ true } by { Coded-set coded_bool (are_distinct (data_names thread ++ param_names thread)) true },
     ghost fit: { Fit (first_place thread) nothing_kept frames.items } by { fit-prop (first_place thread) nothing_kept frames.items },
     ghost frames_room: { reserve thread ≤ frames.capacity },
     ghost vars_room: { reserve thread ≤ vec_capacity vars },
@@ -63,7 +63,12 @@ impl<'a> Stack<'a> {
         ensures frames { IfOk result (λ s. s.frames.items ≡ []) }
     {
         let calls = calls_room(thread.units).ok_or(NoMemory)?;
-        let own = thread.data.len().checked_add(196).ok_or(NoMemory)?;
+        let own = thread
+            .data
+            .len()
+            .checked_add(params_len(thread.timing))
+            .ok_or(NoMemory)?;
+        let own = own.checked_add(196).ok_or(NoMemory)?;
         let room = own.checked_add(calls).ok_or(NoMemory)?;
         let mut vars = Vec::with_capacity(alloc, room)?;
         open_data(&mut vars, thread.data);
@@ -94,15 +99,16 @@ impl<'a> Stack<'a> {
         self.frames.push_reserved(frame);
     }
 
-    /// Begins an activation.
-    pub fn begin(&mut self) -> Option<Piece<'a>>
+    /// Begins an activation, with the value that was requested, where there is one.
+    pub fn begin(&mut self, value: Option<u32>) -> Option<Piece<'a>>
         requires { names_of (vars_of self.old.vars.items) ≡ data_names self.old.thread }
         ensures pieces { started result (kept self.new.frames.items) ≡ pieces (block_of_thread self.old.thread) (Finishing ∷ []) }
         ensures first { IsFirst self.new.thread result (vars_of self.new.vars.items) self.new.frames.items }
-        ensures vars { vars_of self.new.vars.items ≡ vars_of self.old.vars.items }
+        ensures vars { vars_of self.new.vars.items ≡ parameter (timing_of self.old.thread.timing) value ++ vars_of self.old.vars.items }
         ensures thread { self.new.thread ≡ self.old.thread }
     {
         self.frames.clear();
+        open_request(&mut self.vars, self.thread.timing, value);
         self.push_frame(Frame::Finish);
         self.enter(self.thread.stmts)
     }

@@ -2,19 +2,52 @@ ghost use Rattle.std.specs.Prelude.{◌≡◌, ◌<◌, ◌≤◌, ◌^◌, ◌|
 ghost use Rattle.arrivals_tree.specs.Acceptance.{has_nothing};
 ghost use Rattle.ceil_runtime.specs.Effort.{IsLong};
 ghost use Rattle.ceil_runtime.specs.Written.{durations_of};
+ghost use Rattle.machine.specs.States.{shut};
 ghost use Rattle.ceil_runtime.specs.Progressed.{is_idle, pieces_left};
+ghost use Rattle.ceil_runtime.specs.Readies.{gate_of, is_ready, rests_as};
 
 use crate::effects::Act;
 use crate::piece::Piece;
 use crate::progress::Progress;
+use crate::thread::Timing;
 use seq_tree::Costs;
+
+/// Whether a task can run.
+#[derive(Clone, Copy, Debug, PartialEq, Eq)]
+pub enum Readiness {
+    /// It sleeps until its next time.
+    Asleep,
+    /// It waits for a request.
+    Waiting,
+    /// It is ready.
+    Ready,
+}
+
+/// The control structure of a task: the value that it keeps, and whether a request has opened it.
+#[derive(Clone, Copy, Debug, PartialEq, Eq)]
+pub struct Gate {
+    pub value: Option<u32>,
+    pub open: bool,
+}
+
+impl Gate {
+    /// A control structure without a request.
+    pub fn shut() -> Gate
+        ensures { gate_of result ≡ shut }
+    {
+        Gate {
+            value: None,
+            open: false,
+        }
+    }
+}
 
 /// A task at work: how far it has come, and what the processor counts of it.
 #[derive(Drop)]
 pub struct Task<'a> {
     pub progress: Progress<'a>,
-    /// Whether it is ready; otherwise it sleeps until its next time.
-    pub ready: bool,
+    /// Whether it can run.
+    pub readiness: Readiness,
     /// The nominal time of its next release, in ticks.
     pub next: u64,
     /// The ticks left of the piece that has started.
@@ -25,16 +58,21 @@ pub struct Task<'a> {
     pub works: u64,
     /// How long each `work` statement takes at most, in the order in which they start, where that is handed in.
     pub durations: Vec<u32>,
-    ghost asleep: { (ready || is_idle (pieces_left progress)) ≡ true },
+    /// The control structure, which stays shut where no request reaches the task.
+    pub gate: Gate,
+    ghost asleep: { (is_ready readiness || is_idle (pieces_left progress)) ≡ true },
+    ghost rests: { rests_as readiness progress.stack.thread.timing ≡ true },
     ghost handed: { durations.items ≡ durations_of progress.stack.thread },
     ghost long: { has_nothing durations.items ≡ false },
 }
 
 impl<'a> Task<'a> {
     ghost use Rattle.std.specs.Prelude.{◌+◌, min, slice_get};
-    ghost use Rattle.machine.specs.Releases.{released};
-    ghost use Rattle.ceil_runtime.specs.Written.{libraries_of};
-    ghost use Rattle.ceil_runtime.specs.Works.{Acts, EffortFalls, ToldBy, task_of, used_ticks};
+    ghost use Rattle.machine.specs.Releases.{next_time, released};
+    ghost use Rattle.machine.specs.Effects.{resting};
+    ghost use Rattle.ceil_runtime.specs.Written.{libraries_of, timing_of};
+    ghost use Rattle.ceil_runtime.specs.Works.{Acts, EffortFalls, ToldBy, asked, task_of, used_ticks};
+    ghost use Rattle.ceil_runtime.specs.Readies.{readiness_of};
     ghost use Rattle.ada_tree.specs.Ranges.{costs_break};
 
     /// How long the next `work` statement takes at most, where that is handed in.
@@ -51,25 +89,62 @@ impl<'a> Task<'a> {
         }
     }
 
-    /// The release of a task that sleeps.
+    /// Whether the task sleeps or waits after its activation.
+    fn resting(&self) -> Readiness
+        ensures readiness { readiness_of result self.now.next ≡ resting (timing_of self.now.progress.stack.thread.timing) self.now.next }
+        ensures rests { is_ready result ≡ false }
+        ensures fits { rests_as result self.now.progress.stack.thread.timing ≡ true }
+    {
+        match self.progress.stack.thread.timing {
+            Timing::Periodic { .. } => Readiness::Asleep,
+            Timing::Requested { .. } => Readiness::Waiting,
+        }
+    }
+
+    /// The nominal time of the release after the next one: that of a task that is released by requests stays.
+    fn later(&self) -> u64
+        requires { self.now.next < 2 ^ 63 }
+        ensures time { result ≡ next_time (timing_of self.now.progress.stack.thread.timing) self.now.next }
+        ensures near { result < self.now.next + 2 ^ 32 }
+    {
+        match self.progress.stack.thread.timing {
+            Timing::Periodic { period, .. } => self.next + u64::from(period),
+            Timing::Requested { .. } => self.next,
+        }
+    }
+
+    /// The release of a task that isn't ready.
     pub fn release(&mut self, costs: &Costs)
-        requires sleeps { self.old.ready ≡ false }
+        requires rests { is_ready self.old.readiness ≡ false }
         requires near { self.old.next < 2 ^ 63 }
         requires few { self.old.works < 2 ^ 63 }
+        requires ticking { costs_break costs.now ≡ false }
         ensures task { task_of self.new ≡ released costs.now (task_of self.old) }
         ensures thread { self.new.progress.stack.thread ≡ self.old.progress.stack.thread }
         ensures works { self.new.works ≤ self.old.works + min self.new.left 1 }
         ensures near { self.new.next < self.old.next + 2 ^ 32 }
+        // The first piece takes ticks.
+        ensures some { 0 < self.new.left }
     {
-        let period = u64::from(self.progress.stack.thread.period);
         let duration = self.duration();
-        self.progress.begin();
+        self.progress.begin(self.gate.value);
         let start = self.progress.start(costs, duration);
         self.left = start.ticks;
         self.works += start.works;
-        self.ready = true;
-        self.next += period;
+        self.readiness = Readiness::Ready;
+        self.next = self.later();
         self.used = 0;
+        self.gate = Gate::shut();
+    }
+
+    /// The arrival of a request from outside, whose value replaces one that is kept.
+    pub fn arrive(&mut self, value: Option<u32>)
+        ensures task { task_of self.new ≡ asked value (task_of self.old) }
+        ensures thread { self.new.progress.stack.thread ≡ self.old.progress.stack.thread }
+        ensures same { self.new.readiness ≡ self.old.readiness }
+        ensures opened { self.new.gate ≡ record { value = value; «open» = true } }
+    {
+        self.gate = Gate { value, open: true };
     }
 
     /// The use of so many ticks.
@@ -78,7 +153,7 @@ impl<'a> Task<'a> {
         requires small { self.old.used < 2 ^ 63 }
         ensures task { task_of self.new ≡ used_ticks ticks (task_of self.old) }
         ensures thread { self.new.progress.stack.thread ≡ self.old.progress.stack.thread }
-        ensures ready { self.new.ready ≡ self.old.ready }
+        ensures ready { self.new.readiness ≡ self.old.readiness }
     {
         self.used += ticks;
         self.left = self.left.saturating_sub(ticks as u32);
@@ -86,7 +161,7 @@ impl<'a> Task<'a> {
 
     /// The effect of the piece whose ticks are used.
     pub fn act(&mut self, costs: &Costs, piece: Piece<'a>) -> Act
-        requires ready { self.old.ready ≡ true }
+        requires ready { is_ready self.old.readiness ≡ true }
         requires piece { self.old.progress.piece ≡ Some piece }
         requires few { self.old.works < 2 ^ 63 }
         requires used { self.old.left ≡ 0 }
@@ -105,7 +180,7 @@ impl<'a> Task<'a> {
         match act {
             Act::Silent => {}
             Act::Print(_) => {}
-            Act::Finish => self.ready = false,
+            Act::Finish => self.readiness = self.resting(),
         }
         act
     }

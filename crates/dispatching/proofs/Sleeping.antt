@@ -218,3 +218,17 @@ sleeping-kept ts time asleep i f a same = record {
         was : (v : Task) → (u ≡ v) ⊎ (u ≡ f v) → v.readiness ≡ Asleep k
         was v (inl e) = ap (λ w. w.readiness) (sym e) ∙ sleeps'
         was v (inr e) = sym (same v) ∙ ap (λ w. w.readiness) (sym e) ∙ sleeps'
+
+-- a change of a task that sleeps neither before nor after it
+pub sleeping-awake : (ts : List Task) (time : ℕ) (asleep : List Entry) (i : ℕ) (t : Task) (f : Task → Task) → AreSleeping ts time asleep → slice_get ts i ≡ Some t → ((k : ℕ) → t.readiness ≡ Asleep k → ⊥)
+    → ((k : ℕ) → (f t).readiness ≡ Asleep k → ⊥) → AreSleeping (change i f ts) time asleep
+sleeping-awake ts time asleep i t f a at before after = record {
+  each = each-other i f ts time asleep (apart-awake ts time i t asleep at before a.each) a.each;
+  all = λ j k u here sleeps'. by_place j k u here sleeps' (cases_eq j i);
+  ordered = a.ordered;
+}
+  where
+    by_place : (j k : ℕ) (u : Task) → slice_get (change i f ts) j ≡ Some u → u.readiness ≡ Asleep k → (j ≡ i) ⊎ (j ≢ i) → IsIn j asleep
+    by_place j k u here sleeps' (inl same) =
+        absurd (after k (ap (λ v. v.readiness) (same_Some (f t) u (sym (get-changed i f ts t at) ∙ ap (slice_get (change i f ts)) (sym same) ∙ here)) ∙ sleeps'))
+    by_place j k u here sleeps' (inr d) = a.all j k u (all-others i f ts j u here d) sleeps'

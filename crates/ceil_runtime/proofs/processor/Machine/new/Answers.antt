@@ -1,17 +1,17 @@
 use Rattle.std.proofs.Common.{ap, arith, length, map, subst, sym, ◌∙◌}
 use Rattle.std.proofs.lemmas.List.{length-map}
 use Rattle.std.specs.List.{list_all}
-use Rattle.ada_tree.specs.InUse.{is_sequential}
+use Rattle.ceil_runtime.specs.Replayable.{is_run}
 use Rattle.ada_tree.specs.Trees.{program_of, unit_of}
 use Rattle.arrivals_tree.specs.Arriving.{arrivals_of}
 use Rattle.ceil_runtime.specs.Gathering.{AllThreads, threads_from}
-use Rattle.ceil_runtime.specs.Starts.{CanStart}
+use Rattle.ceil_runtime.specs.Starts.{CanStart, opened}
 use Rattle.ceil_runtime.specs.Written.{handed, thread_of}
 use Rattle.ceil_runtime.proofs.Openings.{can-start, near-horizon, opened-all, whole}
 use Rattle.ceil_runtime.proofs.processor.Machine.new.Goals as goal
 
-pub threads_in-requires-clause-sequential : goal.threads_in-requires-clause-sequential
-threads_in-requires-clause-sequential c = ap (λ us. list_all (λ u. is_sequential u.form) (map unit_of us)) c.as_slice-units.ensures.value ∙ c.requires.usable
+pub threads_in-requires-clause-usable : goal.threads_in-requires-clause-usable
+threads_in-requires-clause-usable c = ap (λ us. list_all (λ u. is_run u.form) (map unit_of us)) c.as_slice-units.ensures.value ∙ c.requires.usable
 
 pub threads_in-requires-clause-few : goal.threads_in-requires-clause-few
 threads_in-requires-clause-few c =
@@ -37,5 +37,6 @@ open-requires-clause-start c =
 pub returns-clause-opens : goal.returns-clause-opens
 returns-clause-opens c =
     c.in_ok-machine.ensures.opens
+    ∙ ap (λ xs. opened c.args.arrivals.now.until c.args.program.now.costs c.as_slice-units.result.now xs c.as_slice.result.now) c.as_slice-2.ensures.value
     ∙ opened-all (program_of c.args.program.now) (arrivals_of c.args.arrivals.now) c.requires _ _ (ap (map unit_of) c.as_slice-units.ensures.value)
     (ap (map thread_of) c.as_slice.ensures.value ∙ c.in_ok-threads.ensures.all ∙ ap (λ ws. threads_from ws 0 (map unit_of c.as_slice-units.result.now)) c.as_slice-work.ensures.value ∙ ap (λ us. threads_from c.args.arrivals.now.work.items 0 (map unit_of us)) c.as_slice-units.ensures.value)

@@ -1,13 +1,14 @@
-use Rattle.std.proofs.Common.{ℕ, ◌<◌, ◌+◌, sym, ap, subst, ◌∙◌, refl, arith, length, List, [], ◌∷◌, ◌++◌, take}
+use Rattle.std.proofs.Common.{◌≡◌, ℕ, ◌<◌, ◌+◌, sym, ap, subst, ◌∙◌, refl, arith, length, List, [], ◌∷◌, ◌++◌, take}
 use Rattle.std.proofs.lemmas.List.{take_all, take_more, length_push}
 use Rattle.std.proofs.lemmas.Option.{slice_get_read}
 use Rattle.arrivals_tree.specs.Acceptance.{has_nothing}
+use Rattle.ceil_runtime.specs.Readies.{rests_as}
 use Rattle.ceil_runtime.specs.Written.{durations_of}
-use Rattle.link_queue.specs.Queues.{IsFree, Queues, in_time}
-use Rattle.ceil_runtime.specs.Starts.{AreOpen, opened}
+use Rattle.link_queue.specs.Queues.{IsFree}
+use Rattle.ceil_runtime.specs.Starts.{AreOpen, first_slept, opened}
 use Rattle.ceil_runtime.specs.declared.thread.Thread.{Thread}
 use Rattle.ceil_runtime.specs.declared.task.Task.{Task}
-use Rattle.ceil_runtime.proofs.Started.{open-free, open-more, open-none, open-running, open-sound}
+use Rattle.ceil_runtime.proofs.Started.{open-free, open-next, open-none, open-running, open-sound, slept-size}
 use Rattle.ceil_runtime.proofs.processor.Machine.open.Goals as goal
 
 pub threads-init : goal.threads-init
@@ -26,8 +27,8 @@ pub new-requires-in-threads : goal.new-requires-in-threads
 new-requires-in-threads c =
     (c.requires.start c.threads.thread-index c.thread-item.result (slice_get_read c.args.threads.now (length c.args.threads.now) c.threads.thread-index c.thread-item.result refl c.threads-test.true c.thread-item.is)).runs
 
-pub sleep-requires : goal.sleep-requires
-sleep-requires c =
+pub sleep_first-requires : goal.sleep_first-requires
+sleep_first-requires c =
     let i = c.threads.invariant in
     let known : length c.threads.tasks.items < c.threads.links.size = omega (arith, i.count, i.size, c.threads-test.true) in
     subst (λ (n : ℕ). IsFree c.threads.links n) (sym i.place) (open-free c.args.until c.args.units.now (take c.threads.thread-index c.args.threads.now) c.threads.tasks.items c.threads.links i.opened known)
@@ -41,22 +42,24 @@ invariant_of-push_reserved-clause-long c =
     ap has_nothing c.in_ok-durations.ensures
     ∙ (c.requires.start c.threads.thread-index th (slice_get_read c.args.threads.now (length c.args.threads.now) c.threads.thread-index th refl c.threads-test.true c.thread-item.is)).long
 
+pub invariant_of-push_reserved-clause-rests : goal.invariant_of-push_reserved-clause-rests
+invariant_of-push_reserved-clause-rests c = ap (λ (h : Thread). rests_as c.opening_rest.result h.timing) c.in_ok-progress.ensures.thread ∙ c.opening_rest.ensures.fits
+
 pub threads-preserved : goal.threads-preserved
 threads-preserved c =
     let th = c.thread-item.result in
     let i = c.threads.invariant in
     let start = c.requires.start c.threads.thread-index th (slice_get_read c.args.threads.now (length c.args.threads.now) c.threads.thread-index th refl c.threads-test.true c.thread-item.is) in
     let taken = take_more c.args.threads.now c.threads.thread-index th c.threads-test.true ∙ ap (λ h. take c.threads.thread-index c.args.threads.now ++ h ∷ []) (sym c.thread-item.is) in
-    let slept : ℕ → ℕ → Queues = λ n o. record c.threads.links { asleep = in_time (n, o) c.threads.links.asleep } in
-    let is = c.sleep.ensures ∙ ap (λ n. slept n c.from-in-threads.result) i.place ∙ ap (slept (length c.threads.tasks.items)) c.from-in-threads.ensures in
+    let is : c.sleep_first.new.links ≡ first_slept th.timing (length c.threads.tasks.items) c.threads.links = c.sleep_first.ensures ∙ ap (λ n. first_slept th.timing n c.threads.links) i.place in
     let longer = ap length c.push_reserved.ensures.items ∙ length_push c.threads.tasks.items _ in
     record {
-      opened = subst (λ (ths : List Thread). AreOpen c.args.until c.args.units.now ths c.push_reserved.new.self.items c.sleep.new.self) (sym taken)
-          (subst (λ (ts : List Task). AreOpen c.args.until c.args.units.now (take c.threads.thread-index c.args.threads.now ++ th ∷ []) ts c.sleep.new.self) (sym c.push_reserved.ensures.items)
-          (open-more c.args.until c.args.units.now (take c.threads.thread-index c.args.threads.now) c.threads.tasks.items c.threads.links i.opened _ th
-          (record { thread = c.in_ok-progress.ensures.thread; vars = c.in_ok-progress.ensures.vars; pieces = c.in_ok-progress.ensures.pieces; ready = refl; next = c.from.ensures; left = refl; used = refl; works = refl })
-          start c.sleep.new.self is));
-      size = ap (λ q. q.size) c.sleep.ensures ∙ i.size;
+      opened = subst (λ (ths : List Thread). AreOpen c.args.until c.args.units.now ths c.push_reserved.new.self.items c.sleep_first.new.links) (sym taken)
+          (subst (λ (ts : List Task). AreOpen c.args.until c.args.units.now (take c.threads.thread-index c.args.threads.now ++ th ∷ []) ts c.sleep_first.new.links) (sym c.push_reserved.ensures.items)
+          (open-next c.args.until c.args.units.now (take c.threads.thread-index c.args.threads.now) c.threads.tasks.items c.threads.links i.opened _ th
+          (record { thread = c.in_ok-progress.ensures.thread; vars = c.in_ok-progress.ensures.vars; pieces = c.in_ok-progress.ensures.pieces; rests = c.opening_rest.ensures.readiness; next = c.opening_time.ensures; left = refl; used = refl; works = refl; gate = c.shut.ensures })
+          start c.sleep_first.new.links is));
+      size = ap (λ q. q.size) is ∙ slept-size th.timing (length c.threads.tasks.items) c.threads.links ∙ i.size;
       place = ap (λ n. n + 1) i.place ∙ sym longer;
       count = longer ∙ ap (λ n. n + 1) i.count;
       room = omega (arith, i.room, c.push_reserved.ensures.capacity);
@@ -65,12 +68,12 @@ threads-preserved c =
 pub returns-clause-whole : goal.returns-clause-whole
 returns-clause-whole c =
     let i = c.threads.invariant in
-    open-sound c.args.until c.args.costs c.args.units.now (take c.threads.thread-index c.args.threads.now) c.threads.tasks.items c.threads.links i.opened c.requires.near
+    open-sound c.args.until c.args.costs c.args.units.now (take c.threads.thread-index c.args.threads.now) c.threads.tasks.items c.threads.links i.opened c.requires.near (omega (arith, i.count, c.requires.few, c.threads-test.false, c.threads.auto.thread-index-end))
     (omega (arith, i.size, i.count, c.threads-test.false, c.threads.auto.thread-index-end))
 
 pub returns-clause-opens : goal.returns-clause-opens
 returns-clause-opens c =
     let i = c.threads.invariant in
-    open-running c.args.until c.args.costs c.args.units.now (take c.threads.thread-index c.args.threads.now) c.threads.tasks.items c.threads.links i.opened c.requires.near
-    (omega (arith, i.size, i.count, c.threads-test.false, c.threads.auto.thread-index-end))
-    ∙ ap (opened c.args.until c.args.costs c.args.units.now) (take_all c.threads.thread-index c.args.threads.now (omega (arith, c.threads-test.false)))
+    open-running c.args.until c.args.costs c.args.units.now (take c.threads.thread-index c.args.threads.now) c.threads.tasks.items c.threads.links i.opened c.requires.near (omega (arith, i.count, c.requires.few, c.threads-test.false, c.threads.auto.thread-index-end))
+    (omega (arith, i.size, i.count, c.threads-test.false, c.threads.auto.thread-index-end)) c.args.arrivals.now
+    ∙ ap (opened c.args.until c.args.costs c.args.units.now c.args.arrivals.now) (take_all c.threads.thread-index c.args.threads.now (omega (arith, c.threads-test.false)))

@@ -17,7 +17,7 @@ returns-in_default-clause-whole c =
     let m = c.args.self.now in
     let x = c.ticks_ahead-ticks.ensures in
     let sound : IsSound m.until m.time Use m.ran m.units.now m.tasks.items m.links = subst (λ (p : Phase). IsSound m.until m.time p m.ran m.units.now m.tasks.items m.links) c.requires.phase c.requires.whole in
-    idle-sound m.until m.time m.costs m.units.now m.ran m.tasks.items m.links sound c.ticks_ahead-ticks.result x.some x.horizon x.wake
+    idle-sound m.arrivals.now m.until m.time m.costs m.units.now m.ran m.tasks.items m.links sound c.ticks_ahead-ticks.result x.some x.horizon x.wake x.arrival
 
 pub returns-in_default-clause-follows : goal.returns-in_default-clause-follows
 returns-in_default-clause-follows c =
@@ -25,11 +25,11 @@ returns-in_default-clause-follows c =
     let x = c.ticks_ahead-ticks.ensures in
     let sound : IsSound m.until m.time Use m.ran m.units.now m.tasks.items m.links = subst (λ (p : Phase). IsSound m.until m.time p m.ran m.units.now m.tasks.items m.links) c.requires.phase c.requires.whole in
     let y = system_by m.until m.costs m.units.now m.tasks.items in
-    let before : state_by m.time m.phase m.ran m.stopped m.tasks.items m.links.ready ≡ state_by m.time Use m.ran false m.tasks.items m.links.ready =
-    ap (λ p. state_by m.time p m.ran m.stopped m.tasks.items m.links.ready) c.requires.phase ∙ ap (λ b. state_by m.time Use m.ran b m.tasks.items m.links.ready) c.requires.goes_on in
-    let after = ap (λ b. state_by (m.time + c.ticks_ahead-ticks.result) Effects None b m.tasks.items m.links.ready) (sym c.requires.goes_on) in
+    let before : state_by m.arrivals.now m.time m.phase m.ran m.stopped m.tasks.items m.links.ready ≡ state_by m.arrivals.now m.time Use m.ran false m.tasks.items m.links.ready =
+    ap (λ p. state_by m.arrivals.now m.time p m.ran m.stopped m.tasks.items m.links.ready) c.requires.phase ∙ ap (λ b. state_by m.arrivals.now m.time Use m.ran b m.tasks.items m.links.ready) c.requires.goes_on in
+    let after = ap (λ b. state_by m.arrivals.now (m.time + c.ticks_ahead-ticks.result) Effects None b m.tasks.items m.links.ready) (sym c.requires.goes_on) in
     follows-of y y (4 * (c.ticks_ahead-ticks.result - 1) + 1) _ _ _ _ [] before
-    (idle-run m.until m.time m.costs m.units.now m.ran m.tasks.items m.links sound c.ticks_ahead-ticks.result x.some x.horizon x.wake (sym c.in_default.ensures.head)) after refl
+    (idle-run m.arrivals.now m.until m.time m.costs m.units.now m.ran m.tasks.items m.links sound c.ticks_ahead-ticks.result x.some x.horizon x.wake x.arrival (sym c.in_default.ensures.head)) after refl
 
 pub use_ticks-requires-clause-small : goal.use_ticks-requires-clause-small
 use_ticks-requires-clause-small c =
@@ -48,7 +48,7 @@ returns-clause-whole c =
     let sound : IsSound m.until m.time Use m.ran m.units.now m.tasks.items m.links = subst (λ (p : Phase). IsSound m.until m.time p m.ran m.units.now m.tasks.items m.links) c.requires.phase c.requires.whole in
     let known : c.in-Some.task < length m.tasks.items = ready-known m.tasks.items m.links.ready c.in-Some.task c.in-Some.field-0-1 sound.queued (sym c.in-Some.ensures.head) in
     let here = slice_get_read m.tasks.items (length m.tasks.items) c.in-Some.task t refl known c.index_mut.ensures.value in
-    use-sound m.until m.time m.costs m.units.now m.ran m.tasks.items m.links sound c.ticks_ahead-ticks.result x.some x.horizon x.wake c.in-Some.task c.in-Some.field-0-1 _ t t'
+    use-sound m.arrivals.now m.until m.time m.costs m.units.now m.ran m.tasks.items m.links sound c.ticks_ahead-ticks.result x.some x.horizon x.wake x.arrival c.in-Some.task c.in-Some.field-0-1 _ t t'
     (record { here = here; set_is = refl; does = does; thread = c.use_ticks.ensures.thread }) (sym c.in-Some.ensures.head)
     (subst (λ ts. IsWithin ts m.links.ready c.ticks_ahead-ticks.result) c.as_slice.ensures.value x.within)
     (ap (λ v. v.left) does) (ap (λ v. v.used) does) (ap (λ v. v.works) does) (ap (λ v. v.next) does) c.use_ticks.ensures.ready
@@ -65,11 +65,11 @@ returns-clause-follows c =
     let here = slice_get_read m.tasks.items (length m.tasks.items) c.in-Some.task t refl known c.index_mut.ensures.value in
     let changed : Changed m.tasks.items (set m.tasks.items c.in-Some.task t') c.in-Some.task t t' (used_ticks c.ticks_ahead-ticks.result) = record { here = here; set_is = refl; does = does; thread = c.use_ticks.ensures.thread } in
     let y = system_by m.until m.costs m.units.now m.tasks.items in
-    let before : state_by m.time m.phase m.ran m.stopped m.tasks.items m.links.ready ≡ state_by m.time Use m.ran false m.tasks.items m.links.ready =
-    ap (λ p. state_by m.time p m.ran m.stopped m.tasks.items m.links.ready) c.requires.phase ∙ ap (λ b. state_by m.time Use m.ran b m.tasks.items m.links.ready) c.requires.goes_on in
-    let after = ap (λ b. state_by (m.time + c.ticks_ahead-ticks.result) Effects (Some c.in-Some.task) b (set m.tasks.items c.in-Some.task t') m.links.ready) (sym c.requires.goes_on) in
+    let before : state_by m.arrivals.now m.time m.phase m.ran m.stopped m.tasks.items m.links.ready ≡ state_by m.arrivals.now m.time Use m.ran false m.tasks.items m.links.ready =
+    ap (λ p. state_by m.arrivals.now m.time p m.ran m.stopped m.tasks.items m.links.ready) c.requires.phase ∙ ap (λ b. state_by m.arrivals.now m.time Use m.ran b m.tasks.items m.links.ready) c.requires.goes_on in
+    let after = ap (λ b. state_by m.arrivals.now (m.time + c.ticks_ahead-ticks.result) Effects (Some c.in-Some.task) b (set m.tasks.items c.in-Some.task t') m.links.ready) (sym c.requires.goes_on) in
     follows-of y _ (4 * (c.ticks_ahead-ticks.result - 1) + 1) _ _ _ _ [] before
-    (use-run m.until m.time m.costs m.units.now m.ran m.tasks.items m.links sound c.ticks_ahead-ticks.result x.some x.horizon x.wake c.in-Some.task c.in-Some.field-0-1 _ t t' changed (sym c.in-Some.ensures.head)
+    (use-run m.arrivals.now m.until m.time m.costs m.units.now m.ran m.tasks.items m.links sound c.ticks_ahead-ticks.result x.some x.horizon x.wake x.arrival c.in-Some.task c.in-Some.field-0-1 _ t t' changed (sym c.in-Some.ensures.head)
     (subst (λ ts. IsWithin ts m.links.ready c.ticks_ahead-ticks.result) c.as_slice.ensures.value x.within)
     (ap (λ v. v.left) does) (ap (λ v. v.used) does) (ap (λ v. v.works) does) (ap (λ v. v.next) does) c.use_ticks.ensures.ready)
     after (changed-system m.tasks.items _ c.in-Some.task t t' (used_ticks c.ticks_ahead-ticks.result) changed m.until m.costs m.units.now)
@@ -90,17 +90,17 @@ returns-clause-nears c =
     let few = ran-few m.until time' m.costs m.units.now tasks' (Some c.in-Some.task) (returns-clause-whole c).kept in
     let most = most_ends (system_by m.until m.costs m.units.now m.tasks.items) in
     let most' = most_ends (system_by m.until m.costs m.units.now tasks') in
-    subst (λ (p : Phase). steps_by most' m.until time' Effects tasks' (Some c.in-Some.task) < steps_by most m.until m.time p m.tasks.items m.ran) (sym c.requires.phase)
-    (nears-ticks m.until m.time time' most most' m.tasks.items tasks' m.ran (Some c.in-Some.task) same (omega (arith, x.some)) x.horizon few)
+    subst (λ (p : Phase). steps_by m.arrivals.now most' m.until time' Effects tasks' (Some c.in-Some.task) < steps_by m.arrivals.now most m.until m.time p m.tasks.items m.ran) (sym c.requires.phase)
+    (nears-ticks m.arrivals.now m.until m.time time' most most' m.tasks.items tasks' m.ran (Some c.in-Some.task) same (omega (arith, x.some)) x.horizon few)
 
 pub returns-in_default-clause-falls : goal.returns-in_default-clause-falls
 returns-in_default-clause-falls c = λ on.
     let m = c.args.self.now in
     let x = c.ticks_ahead-ticks.ensures in
     let time' = m.time + c.ticks_ahead-ticks.result in
-    subst (λ (p : Phase). left_by m.until m.costs m.units.now time' Effects None m.stopped m.tasks.items m.links.ready + 0 ≤ left_by m.until m.costs m.units.now m.time p m.ran m.stopped m.tasks.items m.links.ready)
+    subst (λ (p : Phase). left_by m.arrivals.now m.until m.costs m.units.now time' Effects None m.stopped m.tasks.items m.links.ready + 0 ≤ left_by m.arrivals.now m.until m.costs m.units.now m.time p m.ran m.stopped m.tasks.items m.links.ready)
     (sym c.requires.phase)
-    (falls-use m.until m.costs m.units.now m.time c.ticks_ahead-ticks.result m.ran None m.stopped m.stopped m.tasks.items m.tasks.items m.links.ready m.links.ready refl x.some x.horizon)
+    (falls-use m.arrivals.now m.until m.costs m.units.now m.time c.ticks_ahead-ticks.result m.ran None m.stopped m.stopped m.tasks.items m.tasks.items m.links.ready m.links.ready refl x.some x.horizon)
 
 pub returns-clause-falls : goal.returns-clause-falls
 returns-clause-falls c = λ on.
@@ -114,7 +114,7 @@ returns-clause-falls c = λ on.
     let tasks' = set m.tasks.items c.in-Some.task t' in
     let changed : Changed m.tasks.items tasks' c.in-Some.task t t' (used_ticks c.ticks_ahead-ticks.result) = record { here = here; set_is = refl; does = does; thread = c.use_ticks.ensures.thread } in
     let time' = m.time + c.ticks_ahead-ticks.result in
-    subst (λ (p : Phase). left_by m.until m.costs m.units.now time' Effects (Some c.in-Some.task) m.stopped tasks' m.links.ready + 0 ≤ left_by m.until m.costs m.units.now m.time p m.ran m.stopped m.tasks.items m.links.ready)
+    subst (λ (p : Phase). left_by m.arrivals.now m.until m.costs m.units.now time' Effects (Some c.in-Some.task) m.stopped tasks' m.links.ready + 0 ≤ left_by m.arrivals.now m.until m.costs m.units.now m.time p m.ran m.stopped m.tasks.items m.links.ready)
     (sym c.requires.phase)
-    (falls-use m.until m.costs m.units.now m.time c.ticks_ahead-ticks.result m.ran (Some c.in-Some.task) m.stopped m.stopped m.tasks.items tasks' m.links.ready m.links.ready
+    (falls-use m.arrivals.now m.until m.costs m.units.now m.time c.ticks_ahead-ticks.result m.ran (Some c.in-Some.task) m.stopped m.stopped m.tasks.items tasks' m.links.ready m.links.ready
     (changed-threads m.tasks.items tasks' c.in-Some.task t t' (used_ticks c.ticks_ahead-ticks.result) changed) x.some x.horizon)

@@ -2,7 +2,7 @@ use Rattle.std.proofs.Common.{arith, ap, ◌∙◌}
 use Rattle.seq_tree.specs.Variables.{write}
 use Rattle.ceil_runtime.specs.Stacked.{vars_of}
 use Rattle.ceil_runtime.specs.Fitting.{names_of}
-use Rattle.ceil_runtime.proofs.Firsts.{first-ended, first-at, names-write, whole-slice}
+use Rattle.ceil_runtime.proofs.Firsts.{first-ended, first-at, kept-ended, names-write, whole-slice}
 use Rattle.ceil_runtime.proofs.stack.Stack.take_effect.Goals as goal
 
 pub next_piece-requires-in-Store-clause-names : goal.next_piece-requires-in-Store-clause-names
@@ -12,7 +12,13 @@ next_piece-requires-in-Store-clause-names c =
     ∙ ap names_of c.write.ensures ∙ ap (λ vs. names_of (write c.in-Store.target.now c.value_of-value.result (vars_of vs))) c.as_mut_slice.ensures.value
     ∙ names-write c.in-Store.target.now c.value_of-value.result (vars_of s.vars.items) ∙ (first-at _ _ _ _ _ c.requires c.in-Store.is).named
 
+pub returns-in-Finishing-clause-keeps : goal.returns-in-Finishing-clause-keeps
+returns-in-Finishing-clause-keeps c =
+    let s = c.args.self.now in
+    ap vars_of c.truncate.ensures.items
+    ∙ kept-ended s.thread s.vars.items s.frames.items c.clear.new.self.items (first-at _ _ _ _ _ c.requires c.in-Finishing.is) c.clear.ensures.items s.distinct
+
 pub returns-in-Finishing-clause-first : goal.returns-in-Finishing-clause-first
 returns-in-Finishing-clause-first c =
     let s = c.args.self.now in
-    first-ended s.thread (vars_of s.vars.items) s.frames.items c.clear.new.self.items (first-at _ _ _ _ _ c.requires c.in-Finishing.is) c.clear.ensures.items
+    first-ended s.thread s.vars.items s.frames.items c.clear.new.self.items (first-at _ _ _ _ _ c.requires c.in-Finishing.is) c.clear.ensures.items s.distinct _ (returns-in-Finishing-clause-keeps c)

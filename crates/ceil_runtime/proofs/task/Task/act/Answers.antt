@@ -1,20 +1,19 @@
 use Rattle.std.proofs.Common.{◌≡◌, ℕ, ◌+◌, ◌<◌, [], ◌∷◌, add-zero, arith, ap, sym, ◌∙◌}
 use Rattle.std.specs.Prelude.{slice_get}
 use Rattle.seq_tree.specs.Variables.{kept}
-use Rattle.machine.specs.States.{Task, Asleep}
+use Rattle.machine.specs.States.{Readiness, Task}
+use Rattle.machine.specs.Effects.{resting}
 use Rattle.ceil_runtime.specs.Effort.{ends_among, first_ticks, first_works}
 use Rattle.ceil_runtime.specs.Progresses.{behind, piece_of, put_away, started}
 use Rattle.ceil_runtime.specs.Progresses.{kept as kept_frames}
 use Rattle.ceil_runtime.specs.Progressed.{pieces_left, vars_left}
 use Rattle.ceil_runtime.specs.Left.{first_tells}
 use Rattle.ceil_runtime.specs.Works.{done_by, task_of}
-use Rattle.ceil_runtime.specs.Written.{durations_of, libraries_of, reserve, thread_of}
+use Rattle.ceil_runtime.specs.Written.{durations_of, libraries_of, reserve, thread_of, timing_of}
 use Rattle.ceil_runtime.specs.declared.thread.Thread.{Thread}
-use Rattle.ceil_runtime.proofs.Ends.{kept-same}
-use Rattle.ceil_runtime.proofs.Firsts.{names-idle}
 use Rattle.ceil_runtime.proofs.Frames.{few-frames}
 use Rattle.ceil_runtime.proofs.Starting.{effort-falls, few-ends, some-effort, tells-finish, tells-later, tells-now, tells-print}
-use Rattle.ceil_runtime.proofs.Goings.{falls-silent, going-starts, told-by}
+use Rattle.ceil_runtime.proofs.Goings.{does-given, falls-silent, going-starts, told-by}
 use Rattle.ceil_runtime.proofs.task.Task.act.Goals as goal
 
 pub returns-in-Silent-clause-acts : goal.returns-in-Silent-clause-acts
@@ -29,7 +28,7 @@ returns-in-Silent-clause-acts c =
       vars = vars_left q;
       pieces = pieces_left q;
       first = ap (λ x. started x (kept_frames s.frames.items)) c.requires.piece;
-      does = c.act-act.ensures.deed;
+      does = does-given (libraries_of s.thread) (piece_of c.args.piece (put_away s.frames.items)) (vars_left m.progress) (behind s.frames.items) _ _ (vars_left q) (pieces_left q) c.in-Silent.is c.act-act.ensures.deed;
       after = ap (λ th. view th c.start-start.result.ticks (m.works + c.start-start.result.works)) c.act-act.ensures.thread
           ∙ ap (λ l. view s.thread l (m.works + c.start-start.result.works)) (c.start-start.ensures.ticks ∙ ap (λ d. first_ticks c.args.costs.now d (pieces_left q)) c.duration-duration.ensures.next)
           ∙ ap (λ w. view s.thread (first_ticks c.args.costs.now (slice_get (durations_of s.thread) m.works) (pieces_left q)) (m.works + w)) c.start-start.ensures.works
@@ -49,7 +48,7 @@ returns-in-Print-clause-acts c =
       vars = vars_left q;
       pieces = pieces_left q;
       first = ap (λ x. started x (kept_frames s.frames.items)) c.requires.piece;
-      does = c.act-act.ensures.deed;
+      does = does-given (libraries_of s.thread) (piece_of c.args.piece (put_away s.frames.items)) (vars_left m.progress) (behind s.frames.items) _ _ (vars_left q) (pieces_left q) c.in-Print.is c.act-act.ensures.deed;
       after = ap (λ th. view th c.start-start.result.ticks (m.works + c.start-start.result.works)) c.act-act.ensures.thread
           ∙ ap (λ l. view s.thread l (m.works + c.start-start.result.works)) (c.start-start.ensures.ticks ∙ ap (λ d. first_ticks c.args.costs.now d (pieces_left q)) c.duration-duration.ensures.next)
           ∙ ap (λ w. view s.thread (first_ticks c.args.costs.now (slice_get (durations_of s.thread) m.works) (pieces_left q)) (m.works + w)) c.start-start.ensures.works
@@ -63,24 +62,24 @@ returns-in-Finish-clause-acts c =
     let s = m.progress.stack in
     let q = c.act-act.new.self in
     let none : pieces_left q ≡ [] = c.in-Finish.ensures.ends in
-    let names = names-idle q.stack.thread q.piece (vars_left q) q.stack.frames.items (record { fits = q.fits; named = q.named; away = q.away }) none in
-    let keeps = kept-same q.stack.thread.«data».now (vars_left q) names q.stack.distinct in
     let ticks = c.start-start.ensures.ticks ∙ ap (first_ticks c.args.costs.now c.duration-duration.result) none in
     let works = ap (λ w. m.works + w) (c.start-start.ensures.works ∙ ap first_works none) ∙ add-zero m.works in
-    let view : Thread → _ → _ → ℕ → ℕ → Task = λ th vs ps l w. record (task_of m) { thread = thread_of th; active = th.priority; readiness = Asleep m.next; vars = vs; pieces = ps; left = l; works = w } in
+    let view : Thread → Readiness → _ → _ → ℕ → ℕ → Task = λ th r vs ps l w. record (task_of m) { thread = thread_of th; active = th.priority; readiness = r; vars = vs; pieces = ps; left = l; works = w } in
+    let rests = c.resting-self.ensures.readiness ∙ ap (λ th. resting (timing_of th.timing) m.next) c.act-act.ensures.thread in
     record {
       piece = piece_of c.args.piece (put_away s.frames.items);
       rest = behind s.frames.items;
-      vars = vars_left q;
+      vars = vars_left m.progress;
       pieces = pieces_left q;
       first = ap (λ x. started x (kept_frames s.frames.items)) c.requires.piece;
-      does = c.act-act.ensures.deed;
-      after = ap (λ vs. view q.stack.thread vs (pieces_left q) c.start-start.result.ticks (m.works + c.start-start.result.works)) (sym keeps)
-          ∙ ap (λ th. view th (kept th.«data».now (vars_left q)) (pieces_left q) c.start-start.result.ticks (m.works + c.start-start.result.works)) c.act-act.ensures.thread
-          ∙ ap (λ ps. view s.thread (kept s.thread.«data».now (vars_left q)) ps c.start-start.result.ticks (m.works + c.start-start.result.works)) none
-          ∙ ap (λ l. view s.thread (kept s.thread.«data».now (vars_left q)) [] l (m.works + c.start-start.result.works)) ticks
-          ∙ ap (λ w. view s.thread (kept s.thread.«data».now (vars_left q)) [] 0 w) works
-          ∙ ap (λ a. done_by a c.args.costs.now (vars_left q) (pieces_left q) (task_of m)) (sym c.in-Finish.is);
+      does = does-given (libraries_of s.thread) (piece_of c.args.piece (put_away s.frames.items)) (vars_left m.progress) (behind s.frames.items) _ _ (vars_left q) (pieces_left q) c.in-Finish.is c.act-act.ensures.deed;
+      after = ap (λ r. view q.stack.thread r (vars_left q) (pieces_left q) c.start-start.result.ticks (m.works + c.start-start.result.works)) rests
+          ∙ ap (λ th. view th (resting (timing_of s.thread.timing) m.next) (vars_left q) (pieces_left q) c.start-start.result.ticks (m.works + c.start-start.result.works)) c.act-act.ensures.thread
+          ∙ ap (λ vs. view s.thread (resting (timing_of s.thread.timing) m.next) vs (pieces_left q) c.start-start.result.ticks (m.works + c.start-start.result.works)) c.in-Finish.ensures.keeps
+          ∙ ap (λ ps. view s.thread (resting (timing_of s.thread.timing) m.next) (kept s.thread.«data».now (vars_left m.progress)) ps c.start-start.result.ticks (m.works + c.start-start.result.works)) none
+          ∙ ap (λ l. view s.thread (resting (timing_of s.thread.timing) m.next) (kept s.thread.«data».now (vars_left m.progress)) [] l (m.works + c.start-start.result.works)) ticks
+          ∙ ap (λ w. view s.thread (resting (timing_of s.thread.timing) m.next) (kept s.thread.«data».now (vars_left m.progress)) [] 0 w) works
+          ∙ ap (λ a. done_by a c.args.costs.now (vars_left m.progress) (pieces_left q) (task_of m)) (sym c.in-Finish.is);
     }
 
 pub returns-in-Silent-clause-falls : goal.returns-in-Silent-clause-falls
@@ -100,8 +99,6 @@ returns-in-Silent-clause-falls c =
 
 pub returns-in-Silent-clause-told : goal.returns-in-Silent-clause-told
 returns-in-Silent-clause-told c =
-    let m = c.args.self.now in
-    let s = m.progress.stack in
     told-by _ _ _ _ c.in-Silent.is (tells-later c.args.costs.now c.duration-duration.result c.start-start.result.ticks (pieces_left c.act-act.new.self) c.requires.ticking c.start-start.ensures.ticks)
 
 pub returns-in-Print-clause-told : goal.returns-in-Print-clause-told

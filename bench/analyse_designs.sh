@@ -1,13 +1,17 @@
 #!/usr/bin/env bash
-# How long it takes to analyse designs, and the most memory: 30 threads that each call the first of 469 protected objects, of which each
-# calls the next one; the same with passive objects; and two threads whose response times take more and more rounds to find.
-# Needs awk and /usr/bin/time. No part of the gate.
+# How much processor time it takes to analyse designs, and the most memory: 30 threads that each call the first of up to 469 protected
+# objects, of which each calls the next one, and the same with passive objects, with the exponent by which the time grows with the
+# objects; then threads whose response times take many rounds to find, with the count of rounds: two threads, of which the first leaves
+# the second one tick of each period; and threads that each come half as often as the one before, so that the last finds little left.
+# The rounds are those that change a number; they are counted by asking for a deadline one tick short of the response, which is refused
+# in the last of them. Needs awk and /usr/bin/time. No part of the gate.
 set -euo pipefail
 
 top=$(CDPATH='' cd -- "$(dirname -- "${BASH_SOURCE[0]}")/.." && pwd)
 room=$(mktemp -d)
 trap 'rm -rf "$room"' EXIT
 "$top/tools/prove_program.sh" >/dev/null
+program=$top/crates/hrthood/out/hrthood
 
 costs='COSTS ASSIGN = 1; TEST = 1; TURN = 1; CALL = 2; NULL = 1; PUT = 1; FINISH = 1; END COSTS;'
 
@@ -27,33 +31,82 @@ chain() {
     }'
 }
 
-# Two threads; the first leaves the second one tick of each period of this many.
-rounds() {
-    awk -v period="$1" -v costs="$costs" 'BEGIN {
+# Two threads, the last of which has this deadline; the first leaves it one tick of each period of this many.
+one_tick_left() {
+    awk -v period="$1" -v deadline="$2" -v costs="$costs" 'BEGIN {
         print "DESIGN d IS " costs "\nOBJECT r IS ACTIVE\nOBJECTS"
         print "OBJECT a IS CYCLIC ATTRIBUTES PERIOD = " period "; DEADLINE = " period "; THREAD_BUDGET = 1000000000;"
         print "THREAD work (" period - 2 "); END THREAD; END a;"
-        print "OBJECT b IS CYCLIC ATTRIBUTES PERIOD = 1000000000; DEADLINE = 1000000000; THREAD_BUDGET = 1000000000;"
-        print "THREAD work (" int(1000000000 / period) - 2 "); END THREAD; END b;"
+        print "OBJECT last IS CYCLIC ATTRIBUTES PERIOD = 1000000000; DEADLINE = " deadline "; THREAD_BUDGET = 1000000000;"
+        print "THREAD work (" int(1000000000 / period) - 2 "); END THREAD; END last;"
         print "END r;\nEND d;"
     }'
 }
 
-# Analyses the design in the room, and tells the time, the memory and the last line of what is said.
-measure() {
-    /usr/bin/time -f '%e %M' -o "$room/time" "$top/crates/hrthood/out/hrthood" analyse "$room/design" >"$room/out" 2>"$room/err" || true
-    local seconds memory
-    read -r seconds memory <"$room/time"
-    printf '%s: %s s, %s KiB, said last: %s\n' "$1" "$seconds" "$memory" "$(cat "$room/out" "$room/err" | tail -n 1)"
+# So many threads of 2 ticks each, at periods of 4, 8, 16 and so on, and a last one of 4 ticks with this deadline.
+halves() {
+    awk -v count="$1" -v deadline="$2" -v costs="$costs" 'BEGIN {
+        print "DESIGN d IS " costs "\nOBJECT r IS ACTIVE\nOBJECTS"
+        for (k = 1; k <= count; k++) {
+            period = 2 * 2 ^ k
+            print "OBJECT t" k " IS CYCLIC ATTRIBUTES PERIOD = " period "; DEADLINE = " period "; THREAD_BUDGET = 2;"
+            print "THREAD null; END THREAD; END t" k ";"
+        }
+        print "OBJECT last IS CYCLIC ATTRIBUTES PERIOD = 1000000000; DEADLINE = " deadline "; THREAD_BUDGET = 4;"
+        print "THREAD work (3); END THREAD; END last;"
+        print "END r;\nEND d;"
+    }'
 }
 
-for count in 59 118 235 469; do
-    chain PROTECTED ' PAER' "$count" >"$room/design"
-    measure "30 threads, $count protected objects"
-    chain PASSIVE '' "$count" >"$room/design"
-    measure "30 threads, $count passive objects"
-done
-for period in 1000 10000 100000; do
-    rounds "$period" >"$room/design"
-    measure "one tick of $period left"
-done
+# Analyses the design in the room, and sets the least of three processor times.
+analyse() {
+    TIMEFORMAT='%U %S'
+    best=9999
+    for _ in 1 2 3; do
+        { time "$program" analyse "$room/design" >"$room/out" 2>"$room/err" || true; } 2>"$room/time"
+        best=$(awk -v best="$best" '{ print $1 + $2 < best ? $1 + $2 : best }' "$room/time")
+    done
+}
+
+# Tells the time and the memory of an analysis of chains of objects of this kind, at four lengths, and how they grow.
+chains() {
+    : >"$room/times"
+    for count in 59 118 235 469; do
+        chain "$1" "$2" "$count" >"$room/design"
+        analyse
+        /usr/bin/time -f '%M' -o "$room/memory" "$program" analyse "$room/design" >/dev/null 2>&1 || true
+        echo "$count $best" >>"$room/times"
+        printf '30 threads, %s %s objects: %s s, %s KiB, said last: %s\n' "$count" "$1" "$best" "$(tail -n 1 "$room/memory")" \
+            "$(cat "$room/out" "$room/err" | tail -n 1)"
+    done
+    printf '%s objects: exponent %s\n' "$1" "$(exponent "$room/times")"
+}
+
+# Tells the exponent of the first number of a line by which the second grows.
+exponent() {
+    awk '{ x = log($1); y = log($2 > 0 ? $2 : 0.0005); n++; sx += x; sy += y; xx += x * x; xy += x * y }
+        END { printf "%.2f", (n * xy - sx * sy) / (n * xx - sx * sx) }' "$1"
+}
+
+# Tells the time of an analysis of designs of this form, of these sizes, with the count of its rounds, and how it grows with them.
+rounds() {
+    local form=$1 size response round
+    shift
+    : >"$room/times"
+    for size in "$@"; do
+        "$form" "$size" 1000000000 >"$room/design"
+        analyse
+        response=$(awk '$2 == "last" { print $NF }' "$room/out")
+        "$form" "$size" $((response - 1)) >"$room/short"
+        round=$("$program" analyse "$room/short" 2>&1 | awk '$3 == "last" { print $NF }') || true
+        echo "$round $best" >>"$room/times"
+        printf '%s %s: response %s, %s rounds, %s s\n' "$form" "$size" "$response" "$round" "$best"
+    done
+    printf '%s: exponent %s of the rounds\n' "$form" "$(exponent "$room/times")"
+}
+
+echo "$(nproc) cores, of which each run uses one"
+chains PROTECTED ' PAER'
+chains PASSIVE ''
+rounds one_tick_left 1000 10000 100000 1000000
+rounds halves 16 18 20 22

@@ -1,7 +1,9 @@
 #!/usr/bin/env bash
-# How long it takes to check designs of nearly 1/8, 1/4, 1/2 and 1 MiB, the most memory, and the exponent by which the time grows from
-# the first to the last: one thread with a long block; 499 passive objects, each with operations that call the next one's; and
-# objects that each call every operation of the others that call nothing. Each design is taken.
+# How much processor time it takes to check and to print designs of nearly 1/8, 1/4, 1/2 and 1 MiB, the most memory, and the exponent by
+# which the time grows with the bytes (the slope of the line that fits the logarithms of the four sizes best): one thread with a long
+# block; one object with many data, each of which its thread assigns; a thread that requires and calls many operations of one object;
+# 499 passive objects, each with operations that call the next one's; objects that each call every operation of the others that call
+# nothing; and 499 objects that each call as many of the next ones as the bytes allow, one in each branch of an `if`. Each is taken.
 # Needs awk and /usr/bin/time. No part of the gate.
 set -euo pipefail
 
@@ -9,17 +11,45 @@ top=$(CDPATH='' cd -- "$(dirname -- "${BASH_SOURCE[0]}")/.." && pwd)
 room=$(mktemp -d)
 trap 'rm -rf "$room"' EXIT
 "$top/tools/prove_program.sh" >/dev/null
+program=$top/crates/hrthood/out/hrthood
 
 costs='COSTS ASSIGN = 1; TEST = 1; TURN = 1; CALL = 2; NULL = 1; PUT = 1; FINISH = 1; END COSTS;'
+attributes='ATTRIBUTES PERIOD = 1000000000; DEADLINE = 1000000000; THREAD_BUDGET = 1000000000;'
 
 # One thread with a block of this many bytes.
 block() {
-    awk -v size="$1" -v costs="$costs" 'BEGIN {
-        print "DESIGN d IS " costs "\nOBJECT a IS CYCLIC"
-        print "ATTRIBUTES PERIOD = 1000000000; DEADLINE = 1000000000; THREAD_BUDGET = 1000000000;\nTHREAD"
+    awk -v size="$1" -v costs="$costs" -v attributes="$attributes" 'BEGIN {
+        print "DESIGN d IS " costs "\nOBJECT a IS CYCLIC " attributes "\nTHREAD"
         line = "null; work (1); null; work (2);"
         for (n = 200; n < size; n += length(line) + 1) print line
         print "END THREAD;\nEND a;\nEND d;"
+    }'
+}
+
+# One object with so many data, each assigned once by its thread, that the text has about this many bytes.
+data() {
+    awk -v size="$1" -v costs="$costs" -v attributes="$attributes" 'BEGIN {
+        count = int(size / 33)
+        print "DESIGN d IS " costs "\nOBJECT a IS CYCLIC " attributes "\nDATA"
+        for (k = 10001; k <= 10000 + count; k++) print "x" k " : word := 0;"
+        print "THREAD"
+        for (k = 10001; k <= 10000 + count; k++) print "x" k " := 0;"
+        print "END THREAD;\nEND a;\nEND d;"
+    }'
+}
+
+# A thread that requires and calls so many operations of one object.
+needs() {
+    awk -v size="$1" -v costs="$costs" -v attributes="$attributes" 'BEGIN {
+        count = int(size / 73)
+        print "DESIGN d IS " costs "\nOBJECT r IS ACTIVE\nOBJECTS\nOBJECT a IS CYCLIC " attributes "\nREQUIRES"
+        for (k = 10001; k <= 10000 + count; k++) print "p.f" k ";"
+        print "THREAD"
+        for (k = 10001; k <= 10000 + count; k++) print "p.f" k ";"
+        print "END THREAD;\nEND a;\nOBJECT p IS PASSIVE PROVIDES"
+        for (k = 10001; k <= 10000 + count; k++) print "f" k ";"
+        for (k = 10001; k <= 10000 + count; k++) print "OPERATION f" k " IS BEGIN null; END f" k ";"
+        print "END p;\nEND r;\nEND d;"
     }'
 }
 
@@ -56,18 +86,48 @@ wide() {
     }'
 }
 
-for form in block chain wide; do
-    : >"$room/times"
-    for size in 131072 262144 524288 1048576; do
-        "$form" $((size - 8192)) >"$room/design"
-        bytes=$(wc -c <"$room/design")
-        /usr/bin/time -f '%e %M' -o "$room/time" "$top/crates/hrthood/out/hrthood" check "$room/design" >"$room/out" 2>"$room/err" || true
-        read -r seconds memory <"$room/time"
-        echo "$bytes $seconds" >>"$room/times"
-        printf '%s, %s bytes: %s s, %s KiB, said: %s\n' "$form" "$bytes" "$seconds" "$memory" "$(cat "$room/out" "$room/err")"
+# 499 objects of one operation, of which each calls so many of the next ones, where there are as many, one in each branch of an `if`.
+each() {
+    awk -v size="$1" -v costs="$costs" 'BEGIN {
+        calls = int((size / 499 - 80) / 38); if (calls < 1) calls = 1
+        print "DESIGN d IS " costs "\nOBJECT r IS PASSIVE\nOBJECTS"
+        for (k = 1; k < 500; k++) {
+            last = k + calls < 499 ? k + calls : 499
+            print "OBJECT p" k " IS PASSIVE PROVIDES f (v : in word);"
+            if (k < 499) print "REQUIRES"
+            for (j = k + 1; j <= last; j++) print "p" j ".f;"
+            print "OPERATION f IS BEGIN"
+            for (j = k + 1; j <= last; j++) print (j == k + 1 ? "if" : "elsif") " v = " j " then p" j ".f (v);"
+            print (k < 499 ? "end if; " : "null; ") "END f; END p" k ";"
+        }
+        print "END r;\nEND d;"
+    }'
+}
+
+# Tells the exponent of the bytes by which the seconds grow.
+exponent() {
+    awk '{ x = log($1); y = log($2 > 0 ? $2 : 0.0005); n++; sx += x; sy += y; xx += x * x; xy += x * y }
+        END { printf "%.2f", (n * xy - sx * sy) / (n * xx - sx * sx) }' "$1"
+}
+
+echo "$(nproc) cores, of which each run uses one"
+TIMEFORMAT='%U %S'
+for form in block data needs chain wide each; do
+    for verb in check format; do
+        : >"$room/times"
+        for size in 131072 262144 524288 1048576; do
+            "$form" $((size - 8192)) >"$room/design"
+            bytes=$(wc -c <"$room/design")
+            best=9999
+            for _ in 1 2 3; do
+                { time "$program" "$verb" "$room/design" >"$room/out" 2>"$room/err" || true; } 2>"$room/time"
+                best=$(awk -v best="$best" '{ print $1 + $2 < best ? $1 + $2 : best }' "$room/time")
+            done
+            /usr/bin/time -f '%M' -o "$room/memory" "$program" "$verb" "$room/design" >/dev/null 2>&1 || true
+            echo "$bytes $best" >>"$room/times"
+            printf '%s, %s, %s bytes: %s s, %s KiB, said last: %s\n' "$form" "$verb" "$bytes" "$best" "$(tail -n 1 "$room/memory")" \
+                "$(cat "$room/out" "$room/err" | tail -n 1)"
+        done
+        printf '%s, %s: exponent %s\n' "$form" "$verb" "$(exponent "$room/times")"
     done
-    awk -v form="$form" 'NR == 1 { n = $1; t = $2 } END {
-        if (t > 0 && $2 > 0) printf "%s: exponent %.2f\n", form, log($2 / t) / log($1 / n)
-        else printf "%s: too fast for the clock\n", form
-    }' "$room/times"
 done

@@ -1,27 +1,26 @@
 #!/usr/bin/env bash
-# How fast a text is replayed: one cyclic task that is released at each tick, up to the longest horizon.
-# Prints the ticks and the lines of trace a second, and the number of cores. No part of the gate.
+# How fast a text is replayed up to the longest horizon of 1,000,000,000 ticks: a cyclic task that is released each 2,000 ticks, which
+# writes 1,000,002 lines, and one that is released twice in all, so that the processor idles.
+# Prints the seconds, the lines of trace a second, and the most memory. Needs awk and /usr/bin/time. No part of the gate.
 set -euo pipefail
 
 top=$(CDPATH='' cd -- "$(dirname -- "${BASH_SOURCE[0]}")/.." && pwd)
-until=1000000
 scratch=$(mktemp -d)
 trap 'rm -rf "$scratch"' EXIT
-
-# The example's task with period 1 and one tick of work. It never keeps up, which a replay allows.
-sed -e '/^-- /d' -e 's/hrt.after (hrt_next, 10)/hrt.after (hrt_next, 1)/' -e 's/work (3);/work (1);/' \
-    "$top/examples/one_cyclic_task.ada" >"$scratch/each_tick.ada"
-printf 'UNTIL %d;\n' "$until" >"$scratch/longest.arrivals"
+printf 'UNTIL 1000000000;\n' >"$scratch/longest.arrivals"
 
 # Proves and builds the program before the clock starts.
 "$top/tools/prove_program.sh" >/dev/null
 
-begun=$EPOCHREALTIME
-"$top/hrthood" replay "$scratch/each_tick.ada" "$scratch/longest.arrivals" >"$scratch/trace"
-ended=$EPOCHREALTIME
-
-lines=$(wc -l <"$scratch/trace")
-awk -v begun="$begun" -v ended="$ended" -v ticks="$until" -v lines="$lines" -v cores="$(nproc)" 'BEGIN {
-    seconds = ended - begun
-    printf "%d ticks and %d lines in %.2f s: %.0f ticks/s, %.0f lines/s, %d cores\n", ticks, lines, seconds, ticks / seconds, lines / seconds, cores
-}'
+for period in 2000 1000000000; do
+    sed -e '/^-- /d' -e "s/hrt.after (hrt_next, 10)/hrt.after (hrt_next, $period)/" \
+        "$top/examples/one_cyclic_task.ada" >"$scratch/task.ada"
+    /usr/bin/time -f '%e %M' -o "$scratch/time" \
+        "$top/crates/hrthood/out/hrthood" replay "$scratch/task.ada" "$scratch/longest.arrivals" >"$scratch/trace"
+    read -r seconds memory <"$scratch/time"
+    awk -v period="$period" -v lines="$(wc -l <"$scratch/trace")" -v seconds="$seconds" -v memory="$memory" 'BEGIN {
+        printf "period %d: %d lines in %.2f s and %d KiB", period, lines, seconds, memory
+        if (seconds > 0) printf ", %.0f lines/s", lines / seconds
+        printf "\n"
+    }'
+done

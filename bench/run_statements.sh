@@ -1,5 +1,5 @@
 #!/usr/bin/env bash
-# How many statements of one task are run in a second: 10,000,000 of them, in replays of 1,000,000 ticks, which is the longest horizon.
+# How many statements of one task are run in a second: 10,000,000 of them, in replays of 1,000,000 ticks.
 # Each statement takes one tick: the turns of a loop and its assignments, then the same with calls of a passive operation.
 # Prints the statements a second, and the number of cores. Needs awk. No part of the gate.
 set -euo pipefail

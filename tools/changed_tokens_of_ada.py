@@ -1,7 +1,7 @@
 #!/usr/bin/env python3
 """Tells where no Ada text goes on, for each token of the text of units of every kind in `changed_tokens.rt` cut, doubled and replaced.
 
-It is a recogniser of the grammar of Ada texts that shares nothing with the toolset, and prints the rows of the table there: what
+It is a recogniser of the grammar of Ada texts that shares nothing with the toolset, and prints the lines of the list there: what
 is not told at the first token that differs, and what is a program still. No part of the gate.
 """
 
@@ -210,7 +210,7 @@ def main():
                 if fault is None:
                     print(f"{change} {place} {token}: a program")
                 elif fault != place + (change == "Doubled"):
-                    print(f"    Late {{ change: Change::{change}, place: {place}, line: {fault + 1} }},")
+                    print(f"    {change.lower()} {place} {fault + 1}")
 
 
 if __name__ == "__main__":

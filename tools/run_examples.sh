@@ -46,6 +46,12 @@ ceiling water_handler 2
 ceiling alarm_console 6
 LINES
 compare generate one_cyclic_object.design <one_cyclic_task.ada
+compare generate units_of_every_kind.design < <(cat - units_of_every_kind.ada <<'LINES'
+-- design d
+-- thread s priority 2 jitter 16 response 10 deadline 50
+-- thread c priority 1 jitter 0 response 16 deadline 100
+LINES
+)
 compare replay one_cyclic_task.ada until_20.arrivals <<'LINES'
 0 release a
 4 end a used 4
@@ -75,6 +81,32 @@ compare replay sequential_task.ada until_150.arrivals <<'LINES'
 108 put a 24
 115 end a used 15
 150 horizon
+LINES
+compare replay requested_task.ada two_requests.arrivals <<'LINES'
+0 release a
+2 end a used 2
+3 arrive s 5
+3 release s 5
+5 put s 5
+8 end s used 5
+10 release a
+13 end a used 3
+20 release a
+22 arrive s 7
+22 release s 7
+24 put s 12
+27 end s used 5
+29 end a used 4
+30 release a
+30 horizon
+LINES
+compare replay requested_task.ada until_20.arrivals <<'LINES'
+0 release a
+4 end a used 4
+10 release a
+14 end a used 4
+20 release a
+20 horizon
 LINES
 compare replay units_of_every_kind.ada until_150.arrivals <<'LINES'
 refused N1 q

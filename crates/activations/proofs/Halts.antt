@@ -18,7 +18,7 @@ use Rattle.machine.specs.Dispatch.{dispatched}
 use Rattle.machine.specs.Releases.{going, released, release, release_task, serve, serve_task, is_waiting}
 use Rattle.machine.specs.Effects.{acted, takes_effect, exit, outside_now}
 use Rattle.machine.specs.Steps.{step, step_in, goes_to, effect_of, effect_at, effect_step, delay_step, horizon_step, arrive_at, arrival_step, use_step, is_due}
-use Rattle.machine.specs.Meanings.{run, Meaning}
+use Rattle.machine.specs.Meanings.{run, Meaning, Rest}
 use Rattle.activations.proofs.ProgramFacts.{costs_some}
 use Rattle.activations.proofs.Fresh.{AreSome, is_slow, quick, HasLeft, IsFresh, FreshAt, released-ready, acted-fresh}
 use Rattle.std.proofs.lemmas.Option.{none-some, same_Some}
@@ -379,18 +379,51 @@ module _ (y : System) (some : AreSome y.costs) where
   from_instant (suc left) s phase within near =
       instant s phase within (λ s' phase' time' within'. from_instant left s' phase' within' (omega (arith, time', near)))
 
+  -- from a part of an instant on
+  from_use : (s : State) → s.phase ≡ Use → s.time + 1 ≤ y.until → Halts y s
+  from_use s phase ahead = use_end s phase (λ s' phase' time'. from_instant y.until s' phase' (omega (arith, time', ahead)) (omega arith))
+
+  from_arrivals : (s : State) → s.phase ≡ Arriving → s.time ≤ y.until → Halts y s
+  from_arrivals s phase within =
+      arrivals_end s.arrivals s phase refl (λ s' phase' time' early.
+      from_use s' phase' (early_is s'.time y.until (omega (arith, time', within)) early))
+
+  from_delays : (s : State) → s.phase ≡ Delays → s.time ≤ y.until → Halts y s
+  from_delays s phase within =
+      delays_end (due s.time s.tasks) s phase (omega arith) (λ s' phase' time'. from_arrivals s' phase' (omega (arith, time', within)))
+
+  -- from any state on that is not past the horizon, nor at it where a tick is to be used
+  pub state_halts : (s : State) → s.time ≤ y.until → (s.phase ≡ Use → s.time + 1 ≤ y.until) → Halts y s
+  state_halts s within ahead = by s.phase refl
+    where
+      by : (phase : Phase) → s.phase ≡ phase → Halts y s
+      by Effects e = from_instant y.until s e within (omega arith)
+      by Delays e = from_delays s e within
+      by Arriving e = from_arrivals s e within
+      by Use e = from_use s e (ahead e)
+
   -- from the opening on
   pub opening_halts : (items : List Arrival) → Halts y (opening y items)
   opening_halts items = from_instant y.until (opening y items) refl (omega arith) (omega arith)
 
+-- what is told from a state from which a run comes to its stop
+told_from : (y : System) (s : State) → Halts y s → (told : List Event) × Rest y s told
+told_from y s h = ((run y h.0 s).1, record { steps = h.0; stops = h.1; tells = refl })
+
 -- every program whose costs are of a tick at least has a meaning under all arrivals
 pub meaning_exists : (p : Program) (a : Arrivals) → AreSome p.costs → (told : List Event) × Meaning p a told
-meaning_exists p a some =
-    let h : Halts (system p a) (opening (system p a) a.items) = opening_halts (system p a) some a.items in
-    ((run (system p a) h.0 (opening (system p a) a.items)).1, record { steps = h.0; stops = h.1; tells = refl })
+meaning_exists p a some = told_from (system p a) (opening (system p a) a.items) (opening_halts (system p a) some a.items)
+
+-- the costs of a program that meets the rules
+readable_costs : (p : Program) → MeetsRules p → AreSome p.costs
+readable_costs p meets =
+    let some = costs_some p meets in
+    record { assign = some.assign; test = some.test; turn = some.turn; call = some.call; nothing = some.nothing; put = some.put; finish = some.finish }
 
 -- and so has every program that meets the rules
 pub readable_means : (p : Program) (a : Arrivals) → MeetsRules p → (told : List Event) × Meaning p a told
-readable_means p a meets =
-    let some = costs_some p meets in
-    meaning_exists p a (record { assign = some.assign; test = some.test; turn = some.turn; call = some.call; nothing = some.nothing; put = some.put; finish = some.finish })
+readable_means p a meets = meaning_exists p a (readable_costs p meets)
+
+-- a run of such a program tells something from each state on that is not past the horizon, nor at it where a tick is to be used
+pub readable_goes_on : (p : Program) (a : Arrivals) (s : State) → MeetsRules p → s.time ≤ a.until → (s.phase ≡ Use → s.time + 1 ≤ a.until) → (told : List Event) × Rest (system p a) s told
+readable_goes_on p a s meets within ahead = told_from (system p a) s (state_halts (system p a) (readable_costs p meets) s within ahead)

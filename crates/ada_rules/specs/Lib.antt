@@ -7,4 +7,4 @@ pub mod UnitTests
 pub mod FaultsTold
 pub mod Edges
 pub mod Verdicts
-pub mod Ranks
+pub mod Places

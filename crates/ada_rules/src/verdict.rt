@@ -7,7 +7,7 @@ use crate::bodies::first_by_bodies;
 use crate::externals::first_by_externals;
 use crate::naming::first_by_names;
 use crate::ranges::{first_by_ranges, whole_breaks};
-use crate::rings::first_by_rings;
+use crate::rounds::first_by_rings;
 use crate::uses::first_by_uses;
 use ada_tree::AdaProgram;
 use seq_check::BodyFault;

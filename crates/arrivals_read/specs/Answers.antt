@@ -1,66 +1,80 @@
--- What the answers of the reader of arrivals say of the text.
--- Places are those of the lexical grammar, a line and a column from 1.
-use Rattle.std.specs.Prelude.{◌≡◌, ℕ, ◌<◌, ◌≤◌, List, length, Result, Ok, Err, IsOk, ⊤}
-use Rattle.grammar.specs.Reading.{IsFirstFault}
-use Rattle.seq_tree.specs.Lexis.{Misread, Stray, Great, Long, tokens}
+-- What the reader of arrivals answers, by cases. A place is the line and the column of a token, or of the end of the text.
+-- A text that is too long is told first, then lexical faults, then those of syntax, then the horizon, then the items in their order.
+use Rattle.std.specs.Prelude.{◌≡◌, ℕ, ◌<◌, ◌≤◌, List, length, slice_get, Some, Result, Ok, Err, ⊤}
+use Rattle.seq_tree.specs.Names.{Name}
+use Rattle.seq_tree.specs.Lexis.{tokens}
 use Rattle.seq_tree.specs.declared.token.Token.{Token}
-use Rattle.seq_tree.specs.declared.token.Place.{Place}
 use Rattle.seq_tree.specs.declared.token.Spanned.{Spanned}
 use Rattle.seq_tree.specs.declared.text_fault.TextFault.{TextFault}
-use Rattle.seq_tree.specs.declared.text_fault.TextFault.TheVariants as text
+use Rattle.seq_tree.specs.declared.text_fault.TextFault.TheVariants as fault
 use Rattle.token_read.specs.Words.{bare}
-use Rattle.seq_read.specs.Places.{place_at}
+use Rattle.token_read.specs.declared.fault.LexFault.{LexFault}
+use Rattle.token_read.specs.declared.fault.LexFault.TheVariants as lex
+use Rattle.seq_read.specs.TextFaults as texts
 use Rattle.ada_tree.specs.Programs.{Program}
-use Rattle.arrivals_tree.specs.Arrived.{Arrives}
-use Rattle.arrivals_tree.specs.Arriving.{Arrivals, arrivals_of}
-use Rattle.arrivals_tree.specs.ArrivalTexts.{ArrivalText, arrival_tokens, said}
-use Rattle.arrivals_tree.specs.InUse.{AreUsableArrivals, horizon_limit}
+use Rattle.arrivals_tree.specs.Acceptance as acceptance
+use Rattle.arrivals_tree.specs.Acceptance.{Falling, Unknown, Unfit, Early}
+use Rattle.arrivals_tree.specs.Arrived.{Arrives, horizon_limit}
+use Rattle.arrivals_tree.specs.Arriving.{arrivals_of}
+use Rattle.arrivals_tree.specs.ArrivalTexts.{ArrivalText, arrival_tokens}
+use Rattle.arrivals_tree.specs.FirstWrong.{first_wrong}
 use Rattle.arrivals_tree.specs.declared.arrivals.Arrivals as values
 use Rattle.arrivals_read.specs.declared.fault.ArrivalFault.{ArrivalFault}
-use Rattle.arrivals_read.specs.declared.fault.ArrivalFault.TheVariants.{Text, NoMemory}
+use Rattle.arrivals_read.specs.declared.fault.ArrivalFault.TheVariants.{Text, Q1, Q2, Q3, Q4, Q5, NoMemory}
 
--- no arrivals of what is built are said
-abbrev pub SaysNothing : List ℕ → Program → Type 0
-SaysNothing bytes p = (a : Arrivals) → AreUsableArrivals a → Arrives horizon_limit bytes p a → ⊥
+-- the fault of a reader of tokens, as a fault of arrivals
+abbrev pub fault_of : LexFault → ArrivalFault
+fault_of (lex.Byte place) = Text (fault.Byte place)
+fault_of (lex.Number place) = Text (fault.Number place)
+fault_of (lex.Long place) = Text (fault.Long place)
+fault_of lex.NoMemory = NoMemory
 
--- what a fault says of a text
-abbrev pub Refuses : List ℕ → Program → TextFault → Type 0
-Refuses bytes p (text.Byte place) = (length bytes ≤ 1048576) × (tokens bytes ≡ Err (Stray place))
-Refuses bytes p (text.Number place) = (length bytes ≤ 1048576) × (tokens bytes ≡ Err (Great place))
-Refuses bytes p (text.Long place) = (length bytes ≤ 1048576) × (tokens bytes ≡ Err (Long place))
-Refuses bytes p (text.Syntax place) = (length bytes ≤ 1048576) × IsOk (tokens bytes) × SaysNothing bytes p
-Refuses bytes p (text.TooDeep place) = ⊥
-Refuses bytes p text.FileTooLong = 1048576 < length bytes
-Refuses bytes p text.NoMemory = ⊥
+-- the tokens of a text of arrivals, of any program
+abbrev pub AnyArrivals : List Token → Type 0
+AnyArrivals text = (t : ArrivalText) × (text ≡ arrival_tokens t)
 
--- what an answer says of a text
-abbrev pub Says : List ℕ → Program → Result values.Arrivals ArrivalFault → Type 0
-Says bytes p (Ok a) = AreUsableArrivals (arrivals_of a) × Arrives horizon_limit bytes p (arrivals_of a)
-Says bytes p (Err (Text fault)) = Refuses bytes p fault
-Says bytes p (Err NoMemory) = ⊤
+-- what a fault of the text says; nothing in arrivals nests
+abbrev pub Faults : List ℕ → TextFault → Type 0
+Faults bytes found = texts.Faults AnyArrivals AnyArrivals 1048576 bytes found
 
--- a text that says arrivals of what is built, with a horizon that is not too far, has these tokens
-pub record IsTextOf (p : Program) (t : ArrivalText) (text : List Token) : Type 0 where
-  pub usable : AreUsableArrivals (said p t)
-  pub near : t.until ≤ horizon_limit
-  pub spelled : text ≡ arrival_tokens t
-
--- the tokens before this place begin such a text, and with the one at it they begin none
-pub record StopsAt (bytes : List ℕ) (p : Program) (place : Place) : Type 0 where
-  pub found : List Spanned
+-- bytes that are few enough, their tokens with their places, and the text of arrivals that has these tokens
+pub record IsText (bytes : List ℕ) (found : List Spanned) (t : ArrivalText) : Type 0 where
+  pub within : length bytes ≤ 1048576
   pub read : tokens bytes ≡ Ok found
-  pub left : ℕ
-  pub here : place ≡ place_at bytes found left
-  pub first : IsFirstFault (IsTextOf p) (bare found) left
+  pub spelled : bare found ≡ arrival_tokens t
 
--- an answer with tokens, by a view of it, is that of the lexical grammar, unless memory ran out
-abbrev pub GivesTokens : {X Y : Type 0} → (X → Y) → Result X ArrivalFault → Result Y Misread → Type 0
-GivesTokens view (Ok x) read = read ≡ Ok (view x)
-GivesTokens view (Err (Text (text.Byte place))) read = read ≡ Err (Stray place)
-GivesTokens view (Err (Text (text.Number place))) read = read ≡ Err (Great place)
-GivesTokens view (Err (Text (text.Long place))) read = read ≡ Err (Long place)
-GivesTokens view (Err (Text (text.Syntax place))) read = ⊥
-GivesTokens view (Err (Text (text.TooDeep place))) read = ⊥
-GivesTokens view (Err (Text text.FileTooLong)) read = ⊥
-GivesTokens view (Err (Text text.NoMemory)) read = ⊥
-GivesTokens view (Err NoMemory) read = ⊤
+-- a text of arrivals whose horizon is too far
+pub record IsFar (bytes : List ℕ) (value : ℕ) : Type 0 where
+  pub found : List Spanned
+  pub tree : ArrivalText
+  pub text : IsText bytes found tree
+  pub until : value ≡ tree.until
+  pub far : horizon_limit < value
+
+-- a text of arrivals, whose first item with something wrong begins in this line, and has this name
+pub record IsWrong (bytes : List ℕ) (p : Program) (fault : acceptance.ArrivalFault) (line : ℕ) (name : Name) : Type 0 where
+  pub found : List Spanned
+  pub tree : ArrivalText
+  pub text : IsText bytes found tree
+  pub near : tree.until ≤ horizon_limit
+  pub before : ℕ
+  pub wrong : first_wrong p tree ≡ Some (record { fault = fault; name = name; before = before })
+  pub token : Spanned
+  pub begins : slice_get found before ≡ Some token
+  pub here : line ≡ token.place.line
+
+-- what a fault says of a text and a program; want of memory is none
+abbrev pub Refuses : List ℕ → Program → ArrivalFault → Type 0
+Refuses bytes p (Text found) = Faults bytes found
+Refuses bytes p (Q1 line) = (name : Name) × IsWrong bytes p Falling line name
+Refuses bytes p (Q2 line name) = IsWrong bytes p Unknown line name
+Refuses bytes p (Q3 line object) = IsWrong bytes p Early line object
+Refuses bytes p (Q4 value limit) = IsFar bytes value × (limit ≡ horizon_limit)
+Refuses bytes p (Q5 line) = (name : Name) × IsWrong bytes p Unfit line name
+Refuses bytes p NoMemory = ⊥
+
+-- what an answer says; want of memory says nothing
+abbrev pub Says : List ℕ → Program → Result values.Arrivals ArrivalFault → Type 0
+Says bytes p (Ok a) = Arrives horizon_limit bytes p (arrivals_of a)
+Says bytes p (Err NoMemory) = ⊤
+Says bytes p (Err found) = Refuses bytes p found

@@ -1,2 +1,6 @@
 pub mod Answers
-pub mod Horizons
+pub mod Readers
+pub mod Texts
+pub mod Tables
+pub mod Checked
+pub mod Found

@@ -1,97 +1,128 @@
-ghost use Rattle.std.specs.Prelude.{◌≡◌, ◌≤◌, Err, IfOk, length};
+ghost use Rattle.std.specs.Prelude.{◌≡◌, ◌<◌, ◌≤◌, ℕ, List, Ok, IfOk, length, slice_get};
 ghost use Rattle.ada_tree.specs.Trees.{program_of};
-ghost use Rattle.arrivals_tree.specs.Arrived.{Arrives};
+ghost use Rattle.arrivals_tree.specs.Arrived.{Arrives, horizon_limit};
 ghost use Rattle.arrivals_tree.specs.Arriving.{Arrivals as Tree, arrivals_of};
-ghost use Rattle.arrivals_tree.specs.InUse.{AreUsableArrivals, horizon_limit};
-ghost use Rattle.arrivals_read.specs.Answers.{GivesTokens, Says, StopsAt};
-ghost use Rattle.arrivals_read.specs.Horizons.{horizon_alone, horizon_at};
-ghost use Rattle.grammar.specs.Reading.{whole_at};
+ghost use Rattle.arrivals_tree.specs.ArrivalTexts.{arrival_tokens};
+ghost use Rattle.arrivals_read.specs.Answers.{Says, fault_of};
+ghost use Rattle.arrivals_read.specs.Found.{Tells, line_at};
+ghost use Rattle.arrivals_read.specs.Texts.{text_of};
 ghost use Rattle.seq_tree.specs.Lexis.{tokens};
-ghost use Rattle.token_read.specs.Words.{GivesWhole, bare};
+ghost use Rattle.token_read.specs.Words.{bare};
 
+use crate::checks::Cause;
 use crate::fault::ArrivalFault;
+use crate::items::{Refusal, items};
+use crate::text::{Text, whole};
 use ada_tree::AdaProgram;
 use arrivals_tree::Arrivals;
 use seq_read::place_of;
-use seq_tree::{Mark, Place, Spanned, TextFault};
+use seq_tree::{Name, NoMemory, Spanned, TextFault};
 use std::alloc::Global;
-use token_read::{LexFault, ReadFault, mark, number_within, tokens, word};
+use token_read::{LexFault, ReadFault, tokens};
 
 /// The most bytes that a text of arrivals may have.
 const TEXT_LIMIT: usize = 1_048_576;
 
 /// The farthest horizon, in ticks.
-const HORIZON_LIMIT: u32 = 1_000_000;
+const HORIZON_LIMIT: u32 = 1_000_000_000;
 
-// The tokens of a text, or its first fault of the lexical grammar as a fault of the arrivals.
-fn text_tokens(alloc: Global, bytes: &[u8]) -> Result<Vec<Spanned>, ArrivalFault>
-    requires { length bytes.now ≤ 1048576 }
-    ensures { GivesTokens (λ v. v.items) result (tokens bytes.now) }
+/// The fault of a text that has no tokens.
+fn misread(fault: LexFault) -> ArrivalFault
+    ensures { result ≡ fault_of fault }
 {
-    match tokens(alloc, bytes) {
-        Ok(found) => Ok(found),
-        Err(LexFault::Byte(place)) => Err(ArrivalFault::Text(TextFault::Byte(place))),
-        Err(LexFault::Number(place)) => Err(ArrivalFault::Text(TextFault::Number(place))),
-        Err(LexFault::Long(place)) => Err(ArrivalFault::Text(TextFault::Long(place))),
-        Err(LexFault::NoMemory) => Err(ArrivalFault::NoMemory),
+    match fault {
+        LexFault::Byte(place) => ArrivalFault::Text(TextFault::Byte(place)),
+        LexFault::Number(place) => ArrivalFault::Text(TextFault::Number(place)),
+        LexFault::Long(place) => ArrivalFault::Text(TextFault::Long(place)),
+        LexFault::NoMemory => ArrivalFault::NoMemory,
     }
 }
 
-// Reads `UNTIL n;` and nothing behind it. The range is tried here, so that a horizon too far is a fault of syntax.
-#[tactic(auto, unfolding(crate::specs::Horizons::horizon_at))]
-fn horizon(tokens: &[Spanned]) -> Result<u32, ReadFault>
-    ensures { GivesWhole (λ n. n) result (whole_at horizon_at (bare tokens.now)) }
+/// The line of the token behind so many others.
+fn line_of(found: &[Spanned], before: usize) -> u32
+    requires { before < length found.now }
+    ensures { result ≡ line_at (slice_get found.now before) }
 {
-    let rest = word(tokens, b"until")?;
-    let (until, rest) = number_within(rest, 0, HORIZON_LIMIT)?;
-    let rest = mark(rest, Mark::Semicolon)?;
-    if rest.is_empty() {
-        Ok(until)
-    } else {
-        Err(ReadFault::Syntax(rest.len()))
+    found[before].place.line
+}
+
+/// What is wrong with an item of this name in this line, as it is told.
+fn told(alloc: Global, cause: Cause, line: u32, name: &Name) -> ArrivalFault
+    ensures { Tells cause line name.now result }
+{
+    match (cause, name.copy(alloc)) {
+        (Cause::Falling, _) => ArrivalFault::Q1 { line },
+        (Cause::Unknown, Ok(name)) => ArrivalFault::Q2 { line, name },
+        (Cause::Early, Ok(object)) => ArrivalFault::Q3 { line, object },
+        (Cause::Unfit, _) => ArrivalFault::Q5 { line },
+        (_, Err(NoMemory)) => ArrivalFault::NoMemory,
     }
 }
 
-// Arrivals that are a horizon alone.
-fn alone(alloc: Global, until: u32) -> Arrivals
-    ensures { arrivals_of result ≡ horizon_alone until }
+/// The arrivals that a text says of a program, where they are accepted. `found` are all of its tokens.
+fn accepted(
+    alloc: Global,
+    found: &[Spanned],
+    text: &Text,
+    program: &AdaProgram,
+) -> Result<Arrivals, ArrivalFault>
+    requires few { length (program_of program.now).units < 4294967296 }
+    requires spelled { bare found.now ≡ arrival_tokens (text_of text.now) }
+    ensures { (bytes : List ℕ) → length bytes ≤ 1048576 → tokens bytes ≡ Ok found.now → Says bytes (program_of program.now) result }
 {
-    Arrivals {
-        until: u64::from(until),
-        work: Vec::new(alloc),
-        items: Vec::new(alloc),
+    if text.until > HORIZON_LIMIT {
+        return Err(ArrivalFault::Q4 {
+            value: text.until,
+            limit: HORIZON_LIMIT,
+        });
+    }
+    match items(alloc, program, text) {
+        Ok(arrivals) => Ok(arrivals),
+        Err(
+            Refusal::Wrong {
+                cause,
+                name,
+                before,
+            },
+        ) => Err(told(alloc, cause, line_of(found, before), name)),
+        Err(Refusal::NoMemory) => Err(ArrivalFault::NoMemory),
     }
 }
 
-/// The arrivals that a text says of a program: so far the horizon alone, as `UNTIL 1000;`, of 0 to 1,000,000 ticks.
+/// The arrivals that a text says of a program.
 ///
-/// `Text` with `FileTooLong` comes where the text has more than 1,048,576 bytes, with `Byte`, `Number` or `Long` at its
-/// first fault of the lexical grammar, and with `Syntax` where its tokens say no arrivals that are accepted: at the first
-/// token with which no text of such arrivals goes on, a horizon too far among them, or at the end of the text. `TooDeep`
-/// never comes. `NoMemory` may come wherever memory is asked for.
+/// The text is `UNTIL`, the horizon and `;`, then lists of durations as `WORK s 3, 4;`, then requests from outside as `AT 5 s 1;`,
+/// all in ticks. A name means the program's first unit of it. Requests behind the horizon are checked as the others are.
+///
+/// The answers in order: `Text` with `FileTooLong` comes for a text of over 1,048,576 bytes, with `Byte`, `Number` or `Long` at its
+/// first fault of the lexical grammar, and with `Syntax` at the first token with which no text of arrivals goes on, or at the end of
+/// the text; `Q4` for a horizon of over 1,000,000,000; then, at the first item in which something is wrong, `Q1` for a time below
+/// that of the request before, `Q2` for durations of what is no task or a request of what is no external sporadic task, `Q5` for a
+/// duration of 0 and for a value that is missing or isn't asked for, and `Q3` for a separation that isn't kept, in this order within
+/// an item. `NoMemory` may come wherever memory is asked for.
 pub fn read_arrivals(
     alloc: Global,
     bytes: &[u8],
     program: &AdaProgram,
 ) -> Result<Arrivals, ArrivalFault>
+    requires few { length (program_of program.now).units < 4294967296 }
     // What is answered is so.
     ensures says { Says bytes.now (program_of program.now) result }
-    // A text that says arrivals of what is built is read as those, unless memory runs out.
-    ensures only { (a : Tree) → AreUsableArrivals a → Arrives horizon_limit bytes.now (program_of program.now) a
-        → IfOk result (λ b. arrivals_of b ≡ a) }
-    // The place of `Syntax` is the first with which no text of such arrivals goes on.
-    ensures first { (place : Place) → result ≡ Err (ArrivalFault.Text (TextFault.Syntax place))
-        → StopsAt bytes.now (program_of program.now) place }
+    // A text that says arrivals that are accepted is read as those, unless memory runs out.
+    ensures only { (a : Tree) → Arrives horizon_limit bytes.now (program_of program.now) a → IfOk result (λ b. arrivals_of b ≡ a) }
 {
     if bytes.len() > TEXT_LIMIT {
         return Err(ArrivalFault::Text(TextFault::FileTooLong));
     }
-    let tokens = text_tokens(alloc, bytes)?;
-    match horizon(&tokens) {
-        Ok(until) => Ok(alone(alloc, until)),
-        Err(ReadFault::Syntax(left)) => {
-            Err(ArrivalFault::Text(TextFault::Syntax(place_of(bytes, &tokens, left))))
-        }
-        Err(ReadFault::NoMemory) => Err(ArrivalFault::NoMemory),
+    match tokens(alloc, bytes) {
+        Err(fault) => Err(misread(fault)),
+        Ok(found) => match whole(alloc, &found) {
+            Ok(text) => accepted(alloc, &found, &text, program),
+            Err(ReadFault::NoMemory) => Err(ArrivalFault::NoMemory),
+            Err(ReadFault::Syntax(left)) => {
+                let place = place_of(bytes, &found, left);
+                Err(ArrivalFault::Text(TextFault::Syntax(place)))
+            }
+        },
     }
 }

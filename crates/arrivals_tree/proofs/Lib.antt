@@ -1,1 +1,2 @@
 mod ArrivalCases
+mod TextCases

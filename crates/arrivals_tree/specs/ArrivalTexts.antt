@@ -7,7 +7,8 @@ use Rattle.seq_tree.specs.declared.token.Token.TheVariants.{Word, Number, Sign}
 use Rattle.seq_tree.specs.declared.token.Mark.TheVariants.{Comma, Semicolon}
 use Rattle.ada_tree.specs.Programs.{Program}
 use Rattle.seq_tree.specs.Lists.{first_where}
-use Rattle.arrivals_tree.specs.Arriving.{Arrivals}
+use Rattle.arrivals_tree.specs.Arriving.{Arrivals, Durations}
+use Rattle.arrivals_tree.specs.declared.arrivals.Arrival.{Arrival}
 
 -- durations for a task
 pub record WorkText : Type 0 where
@@ -53,10 +54,14 @@ arrival_tokens t =
 abbrev pub unit_place : Program → Name → ℕ
 unit_place p name = unwrap_or (option_map (λ u. u.0) (first_where (λ u. same_name u.name name) p.units)) (length p.units)
 
+-- what durations say of a program
+abbrev pub work_of : Program → WorkText → Durations
+work_of p w = record { task = unit_place p w.name; ticks = w.first ∷ w.others }
+
+-- what a request says of a program
+abbrev pub request_of : Program → AtText → Arrival
+request_of p r = record { time = r.time; task = unit_place p r.name; value = r.value }
+
 -- what a text says of a program
 abbrev pub said : Program → ArrivalText → Arrivals
-said p t = record {
-  until = t.until;
-  work = map (λ w. record { task = unit_place p w.name; ticks = w.first ∷ w.others }) t.works;
-  items = map (λ r. record { time = r.time; task = unit_place p r.name; value = r.value }) t.requests;
-}
+said p t = record { until = t.until; work = map (work_of p) t.works; items = map (request_of p) t.requests }

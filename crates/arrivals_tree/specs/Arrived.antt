@@ -7,6 +7,10 @@ use Rattle.arrivals_tree.specs.Arriving.{Arrivals}
 use Rattle.arrivals_tree.specs.ArrivalTexts.{ArrivalText, arrival_tokens, said}
 use Rattle.arrivals_tree.specs.Acceptance.{IsAccepted}
 
+-- the farthest horizon that is accepted, in ticks
+abbrev pub horizon_limit : ℕ
+horizon_limit = 1000000000
+
 -- a text gives these arrivals for a program, up to the farthest horizon allowed
 pub record Arrives (limit : ℕ) (text : List ℕ) (p : Program) (a : Arrivals) : Type 0 where
   pub within : length text ≤ 1048576

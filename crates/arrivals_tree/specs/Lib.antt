@@ -2,4 +2,4 @@ pub mod Arriving
 pub mod ArrivalTexts
 pub mod Acceptance
 pub mod Arrived
-pub mod InUse
+pub mod FirstWrong

@@ -1,11 +1,12 @@
 ghost use Rattle.std.specs.Prelude.{◌≡◌};
 ghost use Rattle.bridge.specs.declared.delivery.Refusal.TheVariants.{NoMemory};
 
-use design_bounds::{CeilingRow, NamedBound};
+use design_bounds::CeilingRow;
 use ods_rules::Broken;
 use rt_response::Miss;
 use seq_tree::{Name, TextFault};
 use std::alloc::{AllocError, AllocFailed};
+use trace_text::NamedBound;
 
 /// What is made of a design.
 #[derive(Drop, Debug)]

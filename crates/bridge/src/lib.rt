@@ -11,4 +11,4 @@ mod making;
 
 pub use delivering::deliver;
 pub use delivery::{Delivery, Refusal};
-pub use design_bounds::{CeilingRow, NamedBound};
+pub use design_bounds::CeilingRow;

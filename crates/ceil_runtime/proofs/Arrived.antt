@@ -4,6 +4,7 @@ use Rattle.std.proofs.Common.{sym, ◌∙◌, ap, subst, arith, drop, drop-cons,
 use Rattle.std.proofs.lemmas.Bool.Decides.{nat_tests}
 use Rattle.std.proofs.lemmas.List.{length-map}
 use Rattle.std.proofs.lemmas.Option.{same_Some}
+use Rattle.seq_tree.specs.Variables.{Variables}
 use Rattle.seq_tree.specs.Lists.{change, first_from, first_where}
 use Rattle.seq_tree.specs.declared.tree.Costs.{Costs}
 use Rattle.ada_tree.specs.declared.program.Unit as units
@@ -87,22 +88,22 @@ here-task tasks i t unit h is same =
 number_same : (m n : ℕ) → (m == n) ≡ true → m ≡ n
 number_same m n h = grind (arith, nat_tests)
 
-module _ (a : Arrival) (others : List Arrival) (until time : ℕ) (costs : Costs) (us : List units.Unit) (ran : Option ℕ) (tasks : List Task) (q : Queues) (sound : IsSound until time Arriving ran us tasks q) (now : a.time ≡ time) where
-  arrival-step : step (system_by until costs us tasks) (state_by (a ∷ others) time Arriving ran false tasks q.ready)
-      ≡ arrive_at (system_by until costs us tasks) a (first_where (is_of a.task) (map task_of tasks)) (state_by others time Arriving ran false tasks q.ready)
+module _ (stores : List Variables) (a : Arrival) (others : List Arrival) (until time : ℕ) (costs : Costs) (us : List units.Unit) (ran : Option ℕ) (tasks : List Task) (q : Queues) (sound : IsSound until time Arriving ran us tasks q) (now : a.time ≡ time) where
+  arrival-step : step (system_by until costs us tasks) (state_by stores (a ∷ others) time Arriving ran false tasks q.ready)
+      ≡ arrive_at (system_by until costs us tasks) a (first_where (is_of a.task) (map task_of tasks)) (state_by stores others time Arriving ran false tasks q.ready)
   arrival-step =
-      ap (λ b. if b then arrive_at (system_by until costs us tasks) a (first_where (is_of a.task) (map task_of tasks)) (state_by others time Arriving ran false tasks q.ready)
-      else horizon_step (system_by until costs us tasks) (state_by (a ∷ others) time Arriving ran false tasks q.ready)) (same_number a.time time now)
+      ap (λ b. if b then arrive_at (system_by until costs us tasks) a (first_where (is_of a.task) (map task_of tasks)) (state_by stores others time Arriving ran false tasks q.ready)
+      else horizon_step (system_by until costs us tasks) (state_by stores (a ∷ others) time Arriving ran false tasks q.ready)) (same_number a.time time now)
 
   -- no task is of its unit
   pub nobody-asked : None ≡ option_map (λ (t : ℕ × states.Task). t.0) (first_where (is_of a.task) (map task_of tasks))
-      → run (system_by until costs us tasks) 1 (state_by (a ∷ others) time Arriving ran false tasks q.ready) ≡ (state_by others time Arriving ran false tasks q.ready, [])
+      → run (system_by until costs us tasks) 1 (state_by stores (a ∷ others) time Arriving ran false tasks q.ready) ≡ (state_by stores others time Arriving ran false tasks q.ready, [])
   nobody-asked none =
-      step-run (system_by until costs us tasks) (state_by (a ∷ others) time Arriving ran false tasks q.ready) (state_by others time Arriving ran false tasks q.ready) []
+      step-run (system_by until costs us tasks) (state_by stores (a ∷ others) time Arriving ran false tasks q.ready) (state_by stores others time Arriving ran false tasks q.ready) []
       (arrival-step ∙ by_found (first_where (is_of a.task) (map task_of tasks)) none)
     where
       by_found : (o : Option (ℕ × states.Task)) → None ≡ option_map (λ (t : ℕ × states.Task). t.0) o
-          → arrive_at (system_by until costs us tasks) a o (state_by others time Arriving ran false tasks q.ready) ≡ (state_by others time Arriving ran false tasks q.ready, [])
+          → arrive_at (system_by until costs us tasks) a o (state_by stores others time Arriving ran false tasks q.ready) ≡ (state_by stores others time Arriving ran false tasks q.ready, [])
       by_found None h = refl
       by_found (Some t) h = absurd (some h)
         where
@@ -127,24 +128,24 @@ module _ (a : Arrival) (others : List Arrival) (until time : ℕ) (costs : Costs
       pub asked-unit : a.task ≡ t.progress.stack.thread.unit
       asked-unit = sym (ap (λ u. u.thread.unit) (sym is_task) ∙ number_same place.item.thread.unit a.task place.passes)
 
-      asked-step : step (system_by until costs us tasks) (state_by (a ∷ others) time Arriving ran false tasks q.ready)
-          ≡ after (event.Arrive time a.task a.value ∷ []) (serve (system_by until costs us tasks) i (changed_at i (asked a.value) (state_by others time Arriving ran false tasks q.ready)))
-      asked-step = arrival-step ∙ ap (λ o. arrive_at (system_by until costs us tasks) a o (state_by others time Arriving ran false tasks q.ready)) place.first
+      asked-step : step (system_by until costs us tasks) (state_by stores (a ∷ others) time Arriving ran false tasks q.ready)
+          ≡ after (event.Arrive time a.task a.value ∷ []) (serve (system_by until costs us tasks) i (changed_at i (asked a.value) (state_by stores others time Arriving ran false tasks q.ready)))
+      asked-step = arrival-step ∙ ap (λ o. arrive_at (system_by until costs us tasks) a o (state_by stores others time Arriving ran false tasks q.ready)) place.first
 
       asked-at : slice_get (change i (asked a.value) (map task_of tasks)) i ≡ Some (task_of t')
       asked-at = get-changed i (asked a.value) (map task_of tasks) (task_of t) (here-of tasks tasks' i t t' (asked a.value) c) ∙ ap Some (sym c.does)
 
       -- the task doesn't wait
-      pub asked-run : is_waiting (task_of t').readiness ≡ false → run (system_by until costs us tasks) 1 (state_by (a ∷ others) time Arriving ran false tasks q.ready)
-          ≡ (record (state_by others time Arriving ran false tasks q.ready) { tasks = change i (asked a.value) (map task_of tasks) }, event.Arrive time a.task a.value ∷ [])
+      pub asked-run : is_waiting (task_of t').readiness ≡ false → run (system_by until costs us tasks) 1 (state_by stores (a ∷ others) time Arriving ran false tasks q.ready)
+          ≡ (record (state_by stores others time Arriving ran false tasks q.ready) { tasks = change i (asked a.value) (map task_of tasks) }, event.Arrive time a.task a.value ∷ [])
       asked-run not =
           let y : System = system_by until costs us tasks in
-          step-run y (state_by (a ∷ others) time Arriving ran false tasks q.ready) (changed_at i (asked a.value) (state_by others time Arriving ran false tasks q.ready)) (event.Arrive time a.task a.value ∷ [])
-          (asked-step ∙ ap (after (event.Arrive time a.task a.value ∷ [])) (serve-none y i (task_of t') (changed_at i (asked a.value) (state_by others time Arriving ran false tasks q.ready)) asked-at (ap (λ b. b && (task_of t').gate.open') not)))
+          step-run y (state_by stores (a ∷ others) time Arriving ran false tasks q.ready) (changed_at i (asked a.value) (state_by stores others time Arriving ran false tasks q.ready)) (event.Arrive time a.task a.value ∷ [])
+          (asked-step ∙ ap (after (event.Arrive time a.task a.value ∷ [])) (serve-none y i (task_of t') (changed_at i (asked a.value) (state_by stores others time Arriving ran false tasks q.ready)) asked-at (ap (λ b. b && (task_of t').gate.open') not)))
 
-      pub asked-state : record (state_by others time Arriving ran false tasks q.ready) { tasks = change i (asked a.value) (map task_of tasks) } ≡ state_by others time Arriving ran false tasks' q.ready
+      pub asked-state : record (state_by stores others time Arriving ran false tasks q.ready) { tasks = change i (asked a.value) (map task_of tasks) } ≡ state_by stores others time Arriving ran false tasks' q.ready
       asked-state =
-          let view : List states.Task → ℕ → states.State = λ ts n. record (state_by others time Arriving ran false tasks q.ready) { tasks = ts; orders = places n q.ready } in
+          let view : List states.Task → ℕ → states.State = λ ts n. record (state_by stores others time Arriving ran false tasks q.ready) { tasks = ts; orders = places n q.ready } in
           ap (λ ts. view ts (length tasks)) (sym (changed-tasks tasks tasks' i t t' (asked a.value) c)) ∙ ap (view (map task_of tasks')) (sym (changed-length tasks tasks' i t t' (asked a.value) c))
 
       asked-queued : AreQueued (map task_of tasks') (places (length tasks) q.ready) q.ready
@@ -186,23 +187,23 @@ module _ (a : Arrival) (others : List Arrival) (until time : ℕ) (costs : Costs
 
       -- the task waits: it is released
       module _ (t'' : Task) (tasks'' : List Task) (d : Changed tasks' tasks'' i t' t'' (released costs)) (waits : t'.readiness ≡ readies.Waiting) where
-        pub answered-run : run (system_by until costs us tasks) 1 (state_by (a ∷ others) time Arriving ran false tasks q.ready)
+        pub answered-run : run (system_by until costs us tasks) 1 (state_by stores (a ∷ others) time Arriving ran false tasks q.ready)
             ≡ (
-              record (state_by others time Arriving ran false tasks q.ready) { tasks = change i (released costs) (change i (asked a.value) (map task_of tasks)); orders = put_last i (places (length tasks) q.ready) },
+              record (state_by stores others time Arriving ran false tasks q.ready) { tasks = change i (released costs) (change i (asked a.value) (map task_of tasks)); orders = put_last i (places (length tasks) q.ready) },
               event.Arrive time a.task a.value ∷ event.Release time t'.progress.stack.thread.unit (task_of t').gate.value ∷ [],
             )
         answered-run =
             let y : System = system_by until costs us tasks in
             let is_open : (task_of t').gate.open' ≡ true = ap (λ u. u.gate.open') c.does in
             let test : (is_waiting (task_of t').readiness && (task_of t').gate.open') ≡ true = ap (λ r. is_waiting (readiness_of r t'.next) && (task_of t').gate.open') waits ∙ is_open in
-            step-run y (state_by (a ∷ others) time Arriving ran false tasks q.ready) _ _
-            (asked-step ∙ ap (after (event.Arrive time a.task a.value ∷ [])) (serve-run y i (task_of t') (changed_at i (asked a.value) (state_by others time Arriving ran false tasks q.ready)) asked-at test))
+            step-run y (state_by stores (a ∷ others) time Arriving ran false tasks q.ready) _ _
+            (asked-step ∙ ap (after (event.Arrive time a.task a.value ∷ [])) (serve-run y i (task_of t') (changed_at i (asked a.value) (state_by stores others time Arriving ran false tasks q.ready)) asked-at test))
 
         pub answered-differs : DifferInOrders
-            (record (state_by others time Arriving ran false tasks q.ready) { tasks = change i (released costs) (change i (asked a.value) (map task_of tasks)); orders = put_last i (places (length tasks) q.ready) })
-            (state_by others time Arriving ran false tasks'' (at_tail (i, (task_of t'').active) q.ready))
+            (record (state_by stores others time Arriving ran false tasks q.ready) { tasks = change i (released costs) (change i (asked a.value) (map task_of tasks)); orders = put_last i (places (length tasks) q.ready) })
+            (state_by stores others time Arriving ran false tasks'' (at_tail (i, (task_of t'').active) q.ready))
         answered-differs = record {
-          same = ap (λ ts. record (state_by others time Arriving ran false tasks'' (at_tail (i, (task_of t'').active) q.ready)) { tasks = ts })
+          same = ap (λ ts. record (state_by stores others time Arriving ran false tasks'' (at_tail (i, (task_of t'').active) q.ready)) { tasks = ts })
               (changed-tasks tasks' tasks'' i t' t'' (released costs) d ∙ ap (change i (released costs)) (changed-tasks tasks tasks' i t t' (asked a.value) c));
           ranks = subst (λ (ts : List states.Task). RankAlike (change i (released costs) ts) (put_last i (places (length tasks) q.ready)) (places (length tasks'') (at_tail (i, (task_of t'').active) q.ready)))
               (changed-tasks tasks tasks' i t t' (asked a.value) c)
@@ -211,4 +212,4 @@ module _ (a : Arrival) (others : List Arrival) (until time : ℕ) (costs : Costs
 
         pub answered-sound : (q' : Queues) → t'.readiness ≡ t.readiness → q' ≡ record q { ready = at_tail (i, (task_of t'').active) q.ready } → t''.works ≤ t'.works + min t''.left 1 → IsSound until time Arriving ran us tasks'' q'
         answered-sound q' same is works =
-            waiting-released until time costs us Arriving ran tasks' tasks'' q q' i t' t'' (asked-sound same) d waits works is (subst (λ (x : Queues). Each (λ e. time < e.1) x.asleep) (sym is) sound.here)
+            waiting-released until time costs us Arriving ran tasks' tasks'' q q' i t' t'' (λ ts es. refl) (asked-sound same) d waits works is (subst (λ (x : Queues). Each (λ e. time < e.1) x.asleep) (sym is) sound.here)

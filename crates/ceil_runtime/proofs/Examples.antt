@@ -1,5 +1,5 @@
 -- Examples of what a machine keeps: for each definition one case that holds, and one that breaks it alone.
-use Rattle.std.specs.Prelude.{◌≡◌, ℕ, zero, suc, ◌+◌, ◌<◌, ◌≤◌, true, false, List, [], ◌∷◌, Some, None, refl}
+use Rattle.std.specs.Prelude.{◌≡◌, ℕ, zero, suc, ◌+◌, ◌<◌, ◌≤◌, true, false, List, [], ◌∷◌, Option, Some, None, refl}
 use Rattle.std.proofs.Common.{arith, sym, ◌∙◌}
 use Rattle.seq_tree.specs.declared.tree.Costs.{Costs}
 use Rattle.link_queue.specs.Queues.{Queues}
@@ -11,13 +11,15 @@ use Rattle.machine.specs.Systems.{System}
 use Rattle.machine.specs.Meanings.{Running, Rest, run}
 use Rattle.ceil_runtime.specs.Effort.{IsLong, first_ticks}
 use Rattle.ceil_runtime.specs.Left.{Falls}
-use Rattle.ceil_runtime.specs.Processing.{Follows, HoldsIn, IsFirst}
+use Rattle.ceil_runtime.specs.Processing.{Follows, HasNoEffect, HoldsIn, IsRunning}
+use Rattle.ceil_runtime.specs.Shown.{IsSettled}
+use Rattle.ceil_runtime.specs.declared.task.Task.{Task}
 use Rattle.ada_tree.specs.Programs.{Shared, Sporadic}
 use Rattle.seq_tree.specs.Statements.{End}
 use Rattle.seq_tree.specs.Variables.{Variables}
 use Rattle.ceil_runtime.specs.Doing.{KeepsData}
 use Rattle.ceil_runtime.specs.Readies.{readiness_of, rests_as}
-use Rattle.ceil_runtime.specs.Replayable.{is_run}
+use Rattle.ada_tree.specs.InUse.{is_run}
 use Rattle.ceil_runtime.specs.Stepping.{GoesOn, told_of}
 use Rattle.ceil_runtime.specs.Works.{asked}
 use Rattle.ceil_runtime.specs.declared.effects.Act.TheVariants.{Finish}
@@ -114,9 +116,22 @@ before-horizon = (omega arith, (omega arith, tt))
 at-horizon : HoldsIn Use 3 3 None [] (sleeper 4) → ⊥
 at-horizon h = let before = h.0 in omega (arith, before)
 
--- the task that used the tick before is one of the tasks
-no-task : IsFirst (Some 0) [] [] → ⊥
-no-task h = let known : 0 < 0 = h.0 in omega (arith, known)
+-- the task that has effects is one of the tasks, and the one that used the tick before
+no-task : IsRunning (Some 0) (Some 0) [] → ⊥
+no-task h = let known : 0 < 0 = h.1 in omega (arith, known)
+
+another-ran : (tasks : List Task) → IsRunning (Some 0) (Some 1) tasks → ⊥
+another-ran tasks h = differ h.0
+  where
+    differ : ◌≡◌ {A = Option ℕ} (Some 1) (Some 0) → ⊥
+    differ k = cc
+
+-- where none has effects, no task used the tick before, or that one has no effect any more
+nobody-ran : (tasks : List Task) → IsRunning None None tasks
+nobody-ran tasks = tt
+
+no-effect-of : HasNoEffect (Some 0) [] → ⊥
+no-effect-of h = let known : 0 < 0 = h.0 in omega (arith, known)
 
 -- a run that has stopped tells nothing more
 abbrev idle : System
@@ -127,6 +142,16 @@ over = record { time = 0; phase = states.Effects; ran = None; arrivals = []; sto
 
 abbrev at_end : Running
 at_end = record { system = idle; state = over }
+
+-- the ready tasks stand in their list while no task has effects
+settled : IsSettled over
+settled phase = refl
+
+settled-not : IsSettled (record over { ran = Some 0 }) → ⊥
+settled-not h = some_none (h refl)
+  where
+    some_none : ◌≡◌ {A = Option ℕ} (Some 0) None → ⊥
+    some_none k = cc
 
 follows : Follows at_end [] at_end
 follows = record { system = refl; tells = λ rest h. h }

@@ -9,7 +9,7 @@ use Rattle.seq_tree.specs.Statements.{Statements}
 use Rattle.seq_tree.specs.Trees.{block_of, statement_of, statements_of}
 use Rattle.seq_tree.specs.declared.tree.Block.{Block}
 use Rattle.seq_tree.specs.declared.tree.Datum.{Datum}
-use Rattle.ceil_runtime.specs.Replayable.{is_run}
+use Rattle.ada_tree.specs.InUse.{is_run}
 use Rattle.ada_tree.specs.Programs.{Unit, Form, Passive, Shared, Cyclic, Sporadic}
 use Rattle.ada_tree.specs.Trees.{form_of, unit_of}
 use Rattle.ada_tree.specs.declared.program.Unit as units

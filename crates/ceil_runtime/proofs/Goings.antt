@@ -9,18 +9,13 @@ use Rattle.machine.specs.States.{Task}
 use Rattle.machine.specs.Releases.{going}
 use Rattle.ceil_runtime.specs.Effort.{first_ticks, first_works}
 use Rattle.ceil_runtime.specs.Doing.{Does, given}
-use Rattle.ceil_runtime.specs.Works.{EffortFalls, ToldBy}
+use Rattle.ceil_runtime.specs.Works.{ToldBy}
 use Rattle.ceil_runtime.specs.declared.effects.Act.{Act}
-use Rattle.ceil_runtime.specs.declared.effects.Act.TheVariants.{Silent}
-use Rattle.ceil_runtime.specs.declared.thread.Thread.{Thread}
 
 pub going-starts : (costs : Costs) (vars : Variables) (ps : List Piece) (t : Task)
     → going costs vars ps t ≡ record t { vars = vars; pieces = ps; left = first_ticks costs (slice_get t.thread.durations t.works) ps; works = t.works + first_works ps }
 going-starts costs vars [] t = ap (λ w. record t { vars = vars; pieces = []; left = 0; works = w }) (sym (add-zero t.works))
 going-starts costs vars (p ∷ ps) t = refl
-
-pub falls-silent : (act : Act) (th : Thread) (t t' : Task) → act ≡ Silent → EffortFalls Silent th t t' → EffortFalls act th t t'
-falls-silent act th t t' is falls = subst (λ (a : Act). EffortFalls a th t t') (sym is) falls
 
 pub told-by : (act act' : Act) (t t' : Task) → act ≡ act' → ToldBy act' t t' → ToldBy act t t'
 told-by act act' t t' is told = subst (λ (a : Act). ToldBy a t t') (sym is) told

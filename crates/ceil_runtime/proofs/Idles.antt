@@ -1,6 +1,7 @@
 -- A task of which no piece has started has nothing left, and one of which a piece has started is ready.
-use Rattle.std.specs.Prelude.{◌≡◌, Bool, true, false, ◌||◌, [], Some, None, refl}
-use Rattle.std.proofs.Common.{sym, ◌∙◌, ap, subst}
+use Rattle.std.specs.Prelude.{◌≡◌, ◌⊎◌, Bool, true, false, ◌||◌, List, [], ◌∷◌, Some, None, refl}
+use Rattle.std.proofs.Common.{sym, ◌∙◌, ap, subst, inl, inr}
+use Rattle.machine.specs.Pieces.{Piece}
 use Rattle.ceil_runtime.specs.Fitting.{FitsFirst, place_of}
 use Rattle.ceil_runtime.specs.Progresses.{kept, started}
 use Rattle.ceil_runtime.specs.Progressed.{is_idle, pieces_left}
@@ -29,3 +30,19 @@ piece-ready t p is = by_ready (is_ready t.readiness) refl t.asleep
     by_ready : (r : Bool) → is_ready t.readiness ≡ r → (r || is_idle (pieces_left t.progress)) ≡ true → is_ready t.readiness ≡ true
     by_ready true e h = e
     by_ready false e h = absurd (clash (sym some_pieces ∙ h))
+
+-- a task that is not ready has nothing left
+pub rests-idle : (t : Task) → is_ready t.readiness ≡ false → (task_of t).pieces ≡ []
+rests-idle t not = by_pieces (pieces_left t.progress) refl
+  where
+    clash : false ≡ true → ⊥
+    clash k = cc
+
+    by_pieces : (ps : List Piece) → pieces_left t.progress ≡ ps → pieces_left t.progress ≡ []
+    by_pieces [] e = e
+    by_pieces (p ∷ ps) e = absurd (clash (sym (ap (λ b. b || is_idle (pieces_left t.progress)) not ∙ ap is_idle e) ∙ t.asleep))
+
+-- a task without a piece whose ticks are used has no effect
+pub nothing-due : (t : Task) → (t.progress.piece ≡ None) ⊎ (t.left ≡ 0 → ⊥) → ((task_of t).pieces ≡ []) ⊎ (t.left ≡ 0 → ⊥)
+nothing-due t (inl none) = inl (piece-none t none)
+nothing-due t (inr some) = inr some

@@ -9,7 +9,6 @@ pub mod UnitsAt
 pub mod Finding
 pub mod CallLaws
 pub mod Openings
-pub mod Runnable
 pub mod Goings
 pub mod Aheads
 pub mod Processed
@@ -19,9 +18,17 @@ pub mod Arrived
 pub mod Idles
 pub mod Nearing
 pub mod Advancing
+pub mod Standing
 pub mod Started
 pub mod Gathered
 pub mod Joined
 pub mod Placed
 pub mod Falling
 pub mod Examples
+pub mod ExamplesSections
+pub mod Stepped
+pub mod ObjectsFound
+pub mod Sectioned
+pub mod Requests
+pub mod SectionSteps
+pub mod RequestSteps

@@ -1,5 +1,5 @@
 -- Steps that tell nothing come to an end.
-use Rattle.std.specs.Prelude.{◌≡◌, ℕ, zero, suc, ◌+◌, ◌-◌, ◌*◌, ◌<◌, ◌≤◌, Bool, true, false, ◌==◌, if◌then◌else◌, fold, List, [], ◌∷◌, length, map, set, sum, Option, Some, None, slice_get, refl}
+use Rattle.std.specs.Prelude.{◌≡◌, ℕ, zero, suc, ◌+◌, ◌-◌, ◌*◌, ◌<◌, ◌≤◌, Bool, true, false, ◌==◌, if◌then◌else◌, fold, List, [], ◌∷◌, map, sum, Option, Some, None, option_map, slice_get, refl}
 use Rattle.std.proofs.Common.{sym, ◌∙◌, ap, subst, arith}
 use Rattle.seq_tree.specs.declared.tree.Costs.{Costs}
 use Rattle.arrivals_tree.specs.declared.arrivals.Arrival.{Arrival}
@@ -7,9 +7,12 @@ use Rattle.ada_tree.specs.Trees.{unit_of}
 use Rattle.ada_tree.specs.declared.program.Unit as units
 use Rattle.ceil_runtime.specs.Callable.{calls_room}
 use Rattle.std.proofs.lemmas.List.{length-map}
+use Rattle.std.proofs.lemmas.Option.{slice_get-map}
+use Rattle.machine.specs.States as states
 use Rattle.ceil_runtime.specs.Effort.{effort, most_ends, own_vars}
 use Rattle.ceil_runtime.specs.Processing.{AllTasks, IsKept, system_by}
-use Rattle.ceil_runtime.specs.Stepping.{effort_of, ran_effort, steps_by}
+use Rattle.ceil_runtime.specs.Left.{effort_of, ran_effort}
+use Rattle.ceil_runtime.specs.Stepping.{steps_by}
 use Rattle.ceil_runtime.specs.Progressed.{pieces_left}
 use Rattle.ceil_runtime.specs.Libraries.{libraries_from}
 use Rattle.ceil_runtime.specs.Works.{task_of}
@@ -58,9 +61,9 @@ effort-few most t enough =
     effort-most most (pieces_left t.progress) (omega (arith, few-ends t.progress.piece s.frames.items, few-frames s.thread s.frames.items s.fit, enough))
 
 pub ran-few : (until time : ℕ) (costs : Costs) (us : List units.Unit) (tasks : List Task) (ran : Option ℕ) → AllTasks (IsKept until time us) tasks
-    → ran_effort (most_ends (system_by until costs us tasks)) tasks ran ≤ most_ends (system_by until costs us tasks)
+    → ran_effort (most_ends (system_by until costs us tasks)) (map task_of tasks) ran ≤ most_ends (system_by until costs us tasks)
 ran-few until time costs us tasks None kept = omega arith
-ran-few until time costs us tasks (Some i) kept = by_task (slice_get tasks i) refl
+ran-few until time costs us tasks (Some i) kept = subst (λ (o : Option states.Task). effort_of (most_ends (system_by until costs us tasks)) o ≤ most_ends (system_by until costs us tasks)) (sym (slice_get-map task_of tasks i)) (by_task (slice_get tasks i) refl)
   where
     most : ℕ
     most = most_ends (system_by until costs us tasks)
@@ -70,46 +73,41 @@ ran-few until time costs us tasks (Some i) kept = by_task (slice_get tasks i) re
     by_left t true h = h
     by_left t false h = omega arith
 
-    by_task : (o : Option Task) → slice_get tasks i ≡ o → effort_of (most_ends (system_by until costs us tasks)) o ≤ most_ends (system_by until costs us tasks)
+    by_task : (o : Option Task) → slice_get tasks i ≡ o → effort_of (most_ends (system_by until costs us tasks)) (option_map task_of o) ≤ most_ends (system_by until costs us tasks)
     by_task None at = omega arith
     by_task (Some t) at = by_left t (t.left == 0) (effort-few (most_ends (system_by until costs us tasks)) t (reserve-most until time costs us tasks i t at (kept i t at).units))
 
 -- the use of ticks
-pub nears-ticks : (arrivals : List Arrival) (until time time' most most' : ℕ) (tasks tasks' : List Task) (ran ran' : Option ℕ) → most' ≡ most → time < time' → time' ≤ until → ran_effort most' tasks' ran' ≤ most'
-    → steps_by arrivals most' until time' Effects tasks' ran' < steps_by arrivals most until time Use tasks ran
-nears-ticks arrivals until time time' most most' tasks tasks' ran ran' same later within few =
+pub nears-ticks : (running : Option ℕ) (arrivals : List Arrival) (until time time' most most' : ℕ) (tasks tasks' : List Task) (ran ran' : Option ℕ) → most' ≡ most → time < time' → time' ≤ until → ran_effort most' (map task_of tasks') ran' ≤ most'
+    → steps_by arrivals most' until time' (Effects running) tasks' ran' < steps_by arrivals most until time Use tasks ran
+nears-ticks running arrivals until time time' most most' tasks tasks' ran ran' same later within few =
     let left : until - time ≡ (until - time') + suc (time' - time - 1) = omega arith in
-    let now : (until - time') * (most' + 4) + (3 + ran_effort most' tasks' ran') < ((until - time') + suc (time' - time - 1)) * (most' + 4) + 0 =
-    lem (until - time') (time' - time - 1) most' (ran_effort most' tasks' ran') few in
+    let now : (until - time') * (most' + 4) + (3 + ran_effort most' (map task_of tasks') ran') < ((until - time') + suc (time' - time - 1)) * (most' + 4) + 0 =
+    lem (until - time') (time' - time - 1) most' (ran_effort most' (map task_of tasks') ran') few in
     let rate : (until - time) * (most + 4) ≡ ((until - time') + suc (time' - time - 1)) * (most' + 4) = ap (λ n. n * (most + 4)) left ∙ ap (λ n. ((until - time') + suc (time' - time - 1)) * (n + 4)) (sym same) in
     omega (arith, now, rate)
   where
     lem : (a b m e : ℕ) → e ≤ m → a * (m + 4) + (3 + e) < (a + suc b) * (m + 4) + 0
     lem a b m e h = grind arith
 
--- an effect that is nothing to others
-pub nears-effect : (arrivals : List Arrival) (k most most' : ℕ) (tasks tasks' : List Task) (i : ℕ) (t t' : Task) → most' ≡ most → slice_get tasks i ≡ Some t → slice_get tasks' i ≡ Some t' → t.left ≡ 0
-    → (0 < effort most (task_of t).pieces) × (t'.left ≡ 0 → effort most (task_of t').pieces < effort most (task_of t).pieces)
-    → k * (most' + 4) + (3 + ran_effort most' tasks' (Some i)) + length arrivals < k * (most + 4) + (3 + ran_effort most tasks (Some i)) + length arrivals
-nears-effect arrivals k most most' tasks tasks' i t t' same at at' used falls =
-    let before : ran_effort most tasks (Some i) ≡ effort most (task_of t).pieces = ap (effort_of most) at ∙ ap (λ l. if l == 0 then effort most (task_of t).pieces else 0) used in
-    let now : ran_effort most' tasks' (Some i) ≡ (if t'.left == 0 then effort most (task_of t').pieces else 0) = ap (λ n. ran_effort n tasks' (Some i)) same ∙ ap (effort_of most) at' in
-    let less : ran_effort most' tasks' (Some i) < ran_effort most tasks (Some i) = subst (λ (n : ℕ). n < ran_effort most tasks (Some i)) (sym now) (subst (λ (n : ℕ). (if t'.left == 0 then effort most (task_of t').pieces else 0) < n) (sym before) (by_left (t'.left == 0) refl)) in
-    let rate : k * (most' + 4) ≡ k * (most + 4) = ap (λ n. k * (n + 4)) same in
-    omega (arith, less, rate)
+-- the effects of the task that used the tick before, before and after one of them
+pub fewer-effects : (most most' : ℕ) (tasks tasks' : List states.Task) (i : ℕ) (t t' : states.Task) → most' ≡ most → slice_get tasks i ≡ Some t → slice_get tasks' i ≡ Some t' → t.left ≡ 0
+    → (0 < effort most t.pieces) × (t'.left ≡ 0 → effort most t'.pieces < effort most t.pieces) → ran_effort most' tasks' (Some i) < ran_effort most tasks (Some i)
+fewer-effects most most' tasks tasks' i t t' same at at' used falls =
+    let before : ran_effort most tasks (Some i) ≡ effort most t.pieces = ap (effort_of most) at ∙ ap (λ l. if l == 0 then effort most t.pieces else 0) used in
+    let now : ran_effort most' tasks' (Some i) ≡ (if t'.left == 0 then effort most t'.pieces else 0) = ap (λ n. ran_effort n tasks' (Some i)) same ∙ ap (effort_of most) at' in
+    subst (λ (n : ℕ). n < ran_effort most tasks (Some i)) (sym now) (subst (λ (n : ℕ). (if t'.left == 0 then effort most t'.pieces else 0) < n) (sym before) (by_left (t'.left == 0) refl))
   where
-    by_left : (b : Bool) → (t'.left == 0) ≡ b → (if b then effort most (task_of t').pieces else 0) < effort most (task_of t).pieces
+    by_left : (b : Bool) → (t'.left == 0) ≡ b → (if b then effort most t'.pieces else 0) < effort most t.pieces
     by_left true e = falls.1 (is_zero t'.left e)
       where
         is_zero : (m : ℕ) → (m == 0) ≡ true → m ≡ 0
         is_zero m h = grind arith
     by_left false e = falls.0
 
--- what was put at a place
-pub get-put : (tasks : List Task) (i : ℕ) (t : Task) → i < length tasks → slice_get (set tasks i t) i ≡ Some t
-get-put [] i t h = absurd (none i h)
-  where
-    none : (i : ℕ) → i < 0 → ⊥
-    none j k = omega arith
-get-put (v ∷ vs) zero t h = refl
-get-put (v ∷ vs) (suc i) t h = get-put vs i t (omega arith)
+-- an effect that tells nothing
+pub nears-effect : (running running' : Option ℕ) (arrivals : List Arrival) (until time most most' : ℕ) (tasks tasks' : List Task) (ran : Option ℕ) → most' ≡ most → ran_effort most' (map task_of tasks') ran < ran_effort most (map task_of tasks) ran
+    → steps_by arrivals most' until time (Effects running') tasks' ran < steps_by arrivals most until time (Effects running) tasks ran
+nears-effect running running' arrivals until time most most' tasks tasks' ran same less =
+    let rate : (until - time) * (most' + 4) ≡ (until - time) * (most + 4) = ap (λ n. (until - time) * (n + 4)) same in
+    omega (arith, less, rate)

@@ -1,14 +1,15 @@
 -- A processor after one of its tasks has changed, and after ticks were used.
-use Rattle.std.specs.Prelude.{◌≡◌, ◌⊎◌, ℕ, zero, suc, ◌+◌, ◌-◌, ◌*◌, ◌<◌, ◌≤◌, Bool, true, false, ◌==◌, ◌++◌, if◌then◌else◌, List, [], ◌∷◌, length, map, set, Option, Some, None, option_map, slice_get, refl}
+use Rattle.std.specs.Prelude.{◌≡◌, ◌⊎◌, ℕ, zero, suc, ◌+◌, ◌-◌, ◌*◌, ◌<◌, ◌≤◌, Bool, true, false, ◌==◌, ◌++◌, if◌then◌else◌, List, [], ◌∷◌, drop, length, map, set, Option, Some, None, option_map, slice_get, refl}
 use Rattle.std.proofs.Common.{sym, ◌∙◌, ap, subst, arith, inl, inr, length-set, append-nil}
-use Rattle.std.proofs.lemmas.Option.{slice_get-map, slice_get_within}
+use Rattle.std.proofs.lemmas.Option.{same_Some, slice_get-map, slice_get_within}
 use Rattle.std.proofs.lemmas.Bool.Decides.{nat_tests}
+use Rattle.seq_tree.specs.Variables.{Variables}
 use Rattle.seq_tree.specs.Lists.{change, first_where}
 use Rattle.seq_tree.specs.declared.tree.Costs.{Costs}
 use Rattle.ada_tree.specs.declared.program.Unit as units
 use Rattle.arrivals_tree.specs.declared.arrivals.Arrival.{Arrival}
 use Rattle.trace_tree.specs.declared.event.Event.{Event}
-use Rattle.link_queue.specs.Queues.{Each, Entry, Queues}
+use Rattle.link_queue.specs.Queues.{Each, Entry, Queues, at_head}
 use Rattle.machine.specs.Systems.{System}
 use Rattle.machine.specs.States as states
 use Rattle.machine.specs.Dispatch.{dispatched}
@@ -26,8 +27,9 @@ use Rattle.dispatching.proofs.Jumps.{ticks_or_one}
 use Rattle.dispatching.proofs.Places.{get-within}
 use Rattle.dispatching.proofs.Heads.{dispatched-head}
 use Rattle.dispatching.proofs.Queued.{queued-kept}
+use Rattle.dispatching.proofs.Running.{running-taken}
 use Rattle.dispatching.proofs.Sleeping.{none-due, sleeping-kept, sleeping-later}
-use Rattle.ceil_runtime.specs.Processing.{AllTasks, Follows, IsKept, IsSound, IsWithin, state_by, system_by}
+use Rattle.ceil_runtime.specs.Processing.{AllTasks, Follows, IsKept, IsSound, IsWithin, order_of, state_by, system_by, with_task}
 use Rattle.ceil_runtime.specs.Readies.{is_ready}
 use Rattle.ceil_runtime.specs.Works.{task_of, used_ticks}
 use Rattle.ceil_runtime.specs.Written.{thread_of}
@@ -126,10 +128,19 @@ module _ (tasks tasks' : List Task) (i : ℕ) (t t' : Task) (f : states.Task →
 pub kept-later : (until time later : ℕ) (us : List units.Unit) (t : Task) → time ≤ later → IsKept until time us t → IsKept until later us t
 kept-later until time later us t le k = record { used = omega (arith, k.used); works = omega (arith, k.works); next = k.next; units = k.units; idle = k.idle }
 
+-- what was put at a place
+pub get-put : (tasks : List Task) (i : ℕ) (t : Task) → i < length tasks → slice_get (set tasks i t) i ≡ Some t
+get-put [] i t h = absurd (none i h)
+  where
+    none : (i : ℕ) → i < 0 → ⊥
+    none j k = omega arith
+get-put (v ∷ vs) zero t h = refl
+get-put (v ∷ vs) (suc i) t h = get-put vs i t (omega arith)
+
 -- the ticks ahead are quiet
-module _ (arrivals : List Arrival) (until time : ℕ) (costs : Costs) (us : List units.Unit) (ran : Option ℕ) (tasks : List Task) (q : Queues) (sound : IsSound until time Use ran us tasks q) (ticks : ℕ)
+module _ (stores : List Variables) (arrivals : List Arrival) (until time : ℕ) (costs : Costs) (us : List units.Unit) (ran : Option ℕ) (tasks : List Task) (q : Queues) (sound : IsSound until time Use ran us tasks q) (ticks : ℕ)
     (some : 0 < ticks) (horizon : time + ticks ≤ until) (wake : Each (λ e. time + ticks ≤ e.1) q.asleep) (none_arrives : (j : ℕ) → j < ticks - 1 → NoArrival (time + suc j) arrivals) where
-  quiet : (j : ℕ) → j < ticks - 1 → IsQuiet (system_by until costs us tasks) (state_by arrivals time Use ran false tasks q.ready) (time + suc j)
+  quiet : (j : ℕ) → j < ticks - 1 → IsQuiet (system_by until costs us tasks) (state_by stores arrivals time Use ran false tasks q.ready) (time + suc j)
   quiet j h = record {
     no_sleeper = none-due (map task_of tasks) time q.asleep sound.sleeping (time + suc j) (omega arith) (λ e at. first q.asleep wake e at);
     no_arrival = none_arrives j h;
@@ -151,9 +162,9 @@ module _ (arrivals : List Arrival) (until time : ℕ) (costs : Costs) (us : List
 
   -- what the ticks come to
   pub ticks-run : (o : Option ℕ) → dispatched (map task_of tasks) (places (length tasks) q.ready) ≡ o → (ticks ≡ 1) ⊎ HasTicks (map task_of tasks) ticks o
-      → run (system_by until costs us tasks) (4 * (ticks - 1) + 1) (state_by arrivals time Use ran false tasks q.ready) ≡ (ticks_later o ticks (state_by arrivals time Use ran false tasks q.ready), [])
+      → run (system_by until costs us tasks) (4 * (ticks - 1) + 1) (state_by stores arrivals time Use ran false tasks q.ready) ≡ (ticks_later o ticks (state_by stores arrivals time Use ran false tasks q.ready), [])
   ticks-run o first has =
-      let s : states.State = state_by arrivals time Use ran false tasks q.ready in
+      let s : states.State = state_by stores arrivals time Use ran false tasks q.ready in
       let n_is : suc (ticks - 1) ≡ ticks = omega arith in
       let runs : run (system_by until costs us tasks) (4 * (ticks - 1) + 1) s ≡ (ticks_later (dispatched s.tasks s.orders) (suc (ticks - 1)) s, []) =
       ticks_or_one (system_by until costs us tasks) (ticks - 1) s refl refl (by_ticks has) quiet in
@@ -165,10 +176,10 @@ module _ (arrivals : List Arrival) (until time : ℕ) (costs : Costs) (us : List
 
   -- without a ready task
   pub idle-run : slice_get q.ready 0 ≡ None
-      → run (system_by until costs us tasks) (4 * (ticks - 1) + 1) (state_by arrivals time Use ran false tasks q.ready) ≡ (state_by arrivals (time + ticks) Effects None false tasks q.ready, [])
+      → run (system_by until costs us tasks) (4 * (ticks - 1) + 1) (state_by stores arrivals time Use ran false tasks q.ready) ≡ (state_by stores arrivals (time + ticks) (Effects None) None false tasks q.ready, [])
   idle-run none = ticks-run None (dispatched-head (map task_of tasks) (places (length tasks) q.ready) q.ready sound.queued ∙ ap (option_map (λ e. e.0)) none) (inr tt)
 
-  pub idle-sound : IsSound until (time + ticks) Effects None us tasks q
+  pub idle-sound : IsSound until (time + ticks) (Effects None) None us tasks q
   idle-sound = record {
     size = sound.size;
     queued = sound.queued;
@@ -206,29 +217,50 @@ module _ (arrivals : List Arrival) (until time : ℕ) (costs : Costs) (us : List
                 lefts : (u : states.Task) → task_of t ≡ u → ticks ≤ u.left
                 lefts u same = let l : t.left ≡ u.left = ap (λ v. v.left) same in omega (arith, le, l)
 
-    pub use-run : run (system_by until costs us tasks) (4 * (ticks - 1) + 1) (state_by arrivals time Use ran false tasks q.ready) ≡ (state_by arrivals (time + ticks) Effects (Some task) false tasks' q.ready, [])
-    use-run =
-        let view : List states.Task → ℕ → Next = λ ts n. (record (state_by arrivals (time + ticks) Effects (Some task) false tasks q.ready) { tasks = ts; orders = places n q.ready }, []) in
-        ticks-run (Some task) (dispatched-head (map task_of tasks) (places (length tasks) q.ready) q.ready sound.queued ∙ ap (option_map (λ e. e.0)) first) has
-        ∙ ap (λ ts. view ts (length tasks)) (sym (changed-tasks tasks tasks' task t t' (used_ticks ticks) c))
-        ∙ ap (view (map task_of tasks')) (sym (changed-length tasks tasks' task t t' (used_ticks ticks) c))
+    -- the task is taken off the ready list, and stands first in the order of dispatch
+    use-order : order_of (Effects (Some task)) tasks' (drop 1 q.ready) ≡ q.ready
+    use-order =
+        ap (λ o. with_task task o (drop 1 q.ready)) (ap (λ ts. slice_get ts task) c.set_is ∙ get-put tasks task t' (get_within task tasks t c.here))
+        ∙ by_ready q.ready first sound.queued
+      where
+        by_ready : (ready : List Entry) → ◌≡◌ {A = Option Entry} (slice_get ready 0) (Some (task, level)) → AreQueued (map task_of tasks) (places (length tasks) q.ready) ready → at_head (task, (task_of t').active) (drop 1 ready) ≡ ready
+        by_ready [] none w = absurd (no_head none)
+          where
+            no_head : ◌≡◌ {A = Option Entry} None (Some (task, level)) → ⊥
+            no_head k = cc
+        by_ready (e ∷ es) is w =
+            let same : e.0 ≡ task = ap (first_or task) is in
+            let here : task_of t ≡ w.each.0.0 = same_Some (task_of t) w.each.0.0 (sym (here-of tasks tasks' task t t' (used_ticks ticks) c) ∙ ap (slice_get (map task_of tasks)) (sym same) ∙ w.each.0.1) in
+            let active : (task_of t').active ≡ e.1 = ap (λ u. u.active) c.does ∙ ap (λ u. u.active) here ∙ w.each.0.3 in
+            ap (λ n. at_head (n, (task_of t').active) es) (sym same) ∙ ap (λ n. at_head (e.0, n) es) active ∙ running-taken (places (length tasks) q.ready) e es w.ordered
 
-    pub use-sound : IsSound until (time + ticks) Effects (Some task) us tasks' q
-    use-sound = record {
+    pub use-run : run (system_by until costs us tasks) (4 * (ticks - 1) + 1) (state_by stores arrivals time Use ran false tasks q.ready)
+        ≡ (state_by stores arrivals (time + ticks) (Effects (Some task)) (Some task) false tasks' (drop 1 q.ready), [])
+    use-run =
+        let view : List states.Task → ℕ → List Entry → Next =
+        λ ts n es. (record (state_by stores arrivals (time + ticks) (Effects None) (Some task) false tasks q.ready) { tasks = ts; orders = places n es }, []) in
+        ticks-run (Some task) (dispatched-head (map task_of tasks) (places (length tasks) q.ready) q.ready sound.queued ∙ ap (option_map (λ e. e.0)) first) has
+        ∙ ap (λ ts. view ts (length tasks) q.ready) (sym (changed-tasks tasks tasks' task t t' (used_ticks ticks) c))
+        ∙ ap (λ n. view (map task_of tasks') n q.ready) (sym (changed-length tasks tasks' task t t' (used_ticks ticks) c))
+        ∙ ap (view (map task_of tasks') (length tasks')) (sym use-order)
+
+    pub use-sound : (q' : Queues) → q' ≡ record q { ready = drop 1 q.ready } → IsSound until (time + ticks) (Effects (Some task)) (Some task) us tasks' q'
+    use-sound q' is = subst (IsSound until (time + ticks) (Effects (Some task)) (Some task) us tasks') (sym is) (record {
       size = sound.size ∙ sym len;
-      queued = subst (λ (ts : List states.Task). AreQueued ts (places (length tasks') q.ready) q.ready) (sym ts_is)
+      queued = subst (λ (es : List Entry). AreQueued (map task_of tasks') (places (length tasks') es) es) (sym use-order)
+          (subst (λ (ts : List states.Task). AreQueued ts (places (length tasks') q.ready) q.ready) (sym ts_is)
           (subst (λ (n : ℕ). AreQueued (change task (used_ticks ticks) (map task_of tasks)) (places n q.ready) q.ready) (sym len)
-          (queued-kept (map task_of tasks) (places (length tasks) q.ready) q.ready task (used_ticks ticks) sound.queued (λ u. (refl, refl))));
+          (queued-kept (map task_of tasks) (places (length tasks) q.ready) q.ready task (used_ticks ticks) sound.queued (λ u. (refl, refl)))));
       sleeping = subst (λ (ts : List states.Task). AreSleeping ts (time + ticks) q.asleep) (sym ts_is)
           (sleeping-later (change task (used_ticks ticks) (map task_of tasks)) time (time + ticks) q.asleep
           (sleeping-kept (map task_of tasks) time q.asleep task (used_ticks ticks) sound.sleeping (λ u. refl)) (omega arith) wake);
       kept = changed-all tasks tasks' task t t' (used_ticks ticks) c (IsKept until time us) (IsKept until (time + ticks) us) sound.kept
           (λ u k. kept-later until time (time + ticks) us u (omega arith) k) (keeps (sound.kept task t c.here));
-      here = (omega (arith, len, get_within task tasks t c.here), inl (level, first));
+      here = (refl, omega (arith, len, get_within task tasks t c.here));
       near = sound.near;
       few = omega (arith, len, sound.few);
       in_time = horizon;
-    }
+    })
       where
         len : length tasks' ≡ length tasks
         len = changed-length tasks tasks' task t t' (used_ticks ticks) c
@@ -247,6 +279,24 @@ module _ (arrivals : List Arrival) (until time : ℕ) (costs : Costs) (us : List
           units = ap (λ th. th.units.now) c.thread ∙ k.units;
           idle = λ not. left ∙ ap (λ l. l - ticks) (k.idle (ap is_ready (sym ready) ∙ not)) ∙ none;
         }
+
+-- the first entry of a list, by its task
+pub first-entry : (ready : List Entry) (task : ℕ) → Some task ≡ option_map (λ (e : Entry). e.0) (slice_get ready 0) → (level : ℕ) × ◌≡◌ {A = Option Entry} (slice_get ready 0) (Some (task, level))
+first-entry [] task is = absurd (none is)
+  where
+    none : Some task ≡ None → ⊥
+    none k = cc
+first-entry (e ∷ es) task is = (e.1, ap (λ n. let x : Option Entry = Some (n, e.1) in x) (sym (same is)))
+  where
+    same : Some task ≡ Some e.0 → task ≡ e.0
+    same k = cc
+
+pub no-entry : (ready : List Entry) → None ≡ option_map (λ (e : Entry). e.0) (slice_get ready 0) → (slice_get ready 0 ≡ None) × (drop 1 ready ≡ ready)
+no-entry [] is = (refl, refl)
+no-entry (e ∷ es) is = absurd (none is)
+  where
+    none : None ≡ Some e.0 → ⊥
+    none k = cc
 
 -- a task of the ready list is one of the tasks
 pub ready-known : (tasks : List Task) (ready : List Entry) (task level : ℕ) → AreQueued (map task_of tasks) (places (length tasks) ready) ready → ◌≡◌ {A = Option Entry} (slice_get ready 0) (Some (task, level)) → task < length tasks
@@ -277,12 +327,12 @@ none-arrives y [] s none = refl
 none-arrives y (a ∷ others) s none =
     ap (λ b. if b then arrive_at y a (first_where (λ t. t.thread.unit == a.task) s.tasks) (record s { arrivals = others }) else horizon_step y s) none
 
-pub arriving-goes : (y : System) (arrivals : List Arrival) (time : ℕ) (ran : Option ℕ) (tasks : List Task) (ready : List Entry) → NoArrival time arrivals → (time ≡ y.until → ⊥)
-    → run y 1 (state_by arrivals time Arriving ran false tasks ready) ≡ (state_by arrivals time Use ran false tasks ready, [])
-arriving-goes y arrivals time ran tasks ready none before =
-    step-run y (state_by arrivals time Arriving ran false tasks ready) (state_by arrivals time Use ran false tasks ready) []
-    (none-arrives y arrivals (state_by arrivals time Arriving ran false tasks ready) none
-    ∙ ap (λ b. if b then (record (state_by arrivals time Arriving ran false tasks ready) { stopped = true }, event.Horizon time ∷ []) else (state_by arrivals time Use ran false tasks ready, [])) (not_yet (time == y.until) refl))
+pub arriving-goes : (y : System) (stores : List Variables) (arrivals : List Arrival) (time : ℕ) (ran : Option ℕ) (tasks : List Task) (ready : List Entry) → NoArrival time arrivals → (time ≡ y.until → ⊥)
+    → run y 1 (state_by stores arrivals time Arriving ran false tasks ready) ≡ (state_by stores arrivals time Use ran false tasks ready, [])
+arriving-goes y stores arrivals time ran tasks ready none before =
+    step-run y (state_by stores arrivals time Arriving ran false tasks ready) (state_by stores arrivals time Use ran false tasks ready) []
+    (none-arrives y arrivals (state_by stores arrivals time Arriving ran false tasks ready) none
+    ∙ ap (λ b. if b then (record (state_by stores arrivals time Arriving ran false tasks ready) { stopped = true }, event.Horizon time ∷ []) else (state_by stores arrivals time Use ran false tasks ready, [])) (not_yet (time == y.until) refl))
   where
     not_yet : (b : Bool) → (time == y.until) ≡ b → b ≡ false
     not_yet true e = absurd (before (same time y.until e))
@@ -291,12 +341,12 @@ arriving-goes y arrivals time ran tasks ready none before =
         same m n h = grind (arith, nat_tests)
     not_yet false e = refl
 
-pub arriving-ends : (y : System) (arrivals : List Arrival) (time : ℕ) (ran : Option ℕ) (tasks : List Task) (ready : List Entry) → NoArrival time arrivals → time ≡ y.until
-    → run y 1 (state_by arrivals time Arriving ran false tasks ready) ≡ (state_by arrivals time Arriving ran true tasks ready, event.Horizon time ∷ [])
-arriving-ends y arrivals time ran tasks ready none now =
-    step-run y (state_by arrivals time Arriving ran false tasks ready) (state_by arrivals time Arriving ran true tasks ready) (event.Horizon time ∷ [])
-    (none-arrives y arrivals (state_by arrivals time Arriving ran false tasks ready) none
-    ∙ ap (λ b. if b then (record (state_by arrivals time Arriving ran false tasks ready) { stopped = true }, event.Horizon time ∷ []) else (state_by arrivals time Use ran false tasks ready, [])) (same time y.until now))
+pub arriving-ends : (y : System) (stores : List Variables) (arrivals : List Arrival) (time : ℕ) (ran : Option ℕ) (tasks : List Task) (ready : List Entry) → NoArrival time arrivals → time ≡ y.until
+    → run y 1 (state_by stores arrivals time Arriving ran false tasks ready) ≡ (state_by stores arrivals time Arriving ran true tasks ready, event.Horizon time ∷ [])
+arriving-ends y stores arrivals time ran tasks ready none now =
+    step-run y (state_by stores arrivals time Arriving ran false tasks ready) (state_by stores arrivals time Arriving ran true tasks ready) (event.Horizon time ∷ [])
+    (none-arrives y arrivals (state_by stores arrivals time Arriving ran false tasks ready) none
+    ∙ ap (λ b. if b then (record (state_by stores arrivals time Arriving ran false tasks ready) { stopped = true }, event.Horizon time ∷ []) else (state_by stores arrivals time Use ran false tasks ready, [])) (same time y.until now))
   where
     same : (m n : ℕ) → m ≡ n → (m == n) ≡ true
     same m n h = grind (arith, nat_tests)

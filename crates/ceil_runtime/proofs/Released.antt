@@ -20,13 +20,13 @@ use Rattle.machine.specs.Dispatch.{put_last}
 use Rattle.machine.specs.Releases.{going, is_waiting, next_time, release, release_task, released, serve, serve_task}
 use Rattle.machine.specs.Steps.{delay_step}
 use Rattle.machine.specs.Meanings.{run}
-use Rattle.dispatching.specs.Queueing.{AreQueued, AreSleeping, SleepsUntil, places}
+use Rattle.dispatching.specs.Queueing.{AreQueued, AreSleeping, IsReadyAt, SleepsUntil, places}
 use Rattle.dispatching.specs.Renumbering.{DifferInOrders, RankAlike}
 use Rattle.dispatching.proofs.Queued.{apart-ready, queued-released}
 use Rattle.dispatching.proofs.Ranks.{queued-places, ranks-alike}
 use Rattle.dispatching.proofs.Sleeping.{apart-awake, first-due, none-due, sleeping-awake, sleeping-fewer}
 use Rattle.dispatching.proofs.Places.{get-within}
-use Rattle.ceil_runtime.specs.Processing.{HoldsIn, IsKept, IsSound, state_by, system_by}
+use Rattle.ceil_runtime.specs.Processing.{HoldsIn, IsKept, IsSound, order_of, state_by, system_by}
 use Rattle.ceil_runtime.specs.Readies.{is_ready, readiness_of, rests_as}
 use Rattle.ceil_runtime.specs.Works.{task_of}
 use Rattle.ceil_runtime.specs.Written.{timing_of}
@@ -207,24 +207,25 @@ waits-next r (timing.Periodic offset period) next h e = absurd (clash (sym (ap (
 waits-next r (timing.Requested op ceiling separation jitter external) next h e = refl
 
 -- a task that waits is released
-pub waiting-released : (until time : ℕ) (costs : Costs) (us : List units.Unit) (p : Phase) (ran : Option ℕ) (tasks tasks' : List Task) (q q' : Queues) (i : ℕ) (t t' : Task) → IsSound until time p ran us tasks q
-    → Changed tasks tasks' i t t' (released costs) → t.readiness ≡ readies.Waiting → t'.works ≤ t.works + min t'.left 1 → q' ≡ record q { ready = at_tail (i, (task_of t').active) q.ready } → HoldsIn p until time ran tasks' q'
+pub waiting-released : (until time : ℕ) (costs : Costs) (us : List units.Unit) (p : Phase) (ran : Option ℕ) (tasks tasks' : List Task) (q q' : Queues) (i : ℕ) (t t' : Task) → ((ts : List Task) (es : List Entry) → order_of p ts es ≡ es)
+    → IsSound until time p ran us tasks q → Changed tasks tasks' i t t' (released costs) → t.readiness ≡ readies.Waiting → t'.works ≤ t.works + min t'.left 1 → q' ≡ record q { ready = at_tail (i, (task_of t').active) q.ready } → HoldsIn p until time ran tasks' q'
     → IsSound until time p ran us tasks' q'
-waiting-released until time costs us p ran tasks tasks' q q' i t t' sound c waits works is here =
+waiting-released until time costs us p ran tasks tasks' q q' i t t' plain sound c waits works is here =
+    let queued : AreQueued (map task_of tasks) (places (length tasks) q.ready) q.ready = subst (λ (es : List Entry). AreQueued (map task_of tasks) (places (length tasks) es) es) (plain tasks q.ready) sound.queued in
     let rests : is_ready t.readiness ≡ false = ap is_ready waits in
     let os : List ℤ = places (length tasks) q.ready in
     let len : length tasks' ≡ length tasks = changed-length tasks tasks' i t t' (released costs) c in
     let k : IsKept until time us t = sound.kept i t c.here in
-    let next : t'.next ≡ t.next = tail-next costs tasks tasks' os q.ready i t t' c sound.queued rests ∙ waits-next t.readiness t.progress.stack.thread.timing t.next t.rests waits in
+    let next : t'.next ≡ t.next = tail-next costs tasks tasks' os q.ready i t t' c queued rests ∙ waits-next t.readiness t.progress.stack.thread.timing t.next t.rests waits in
     record {
       size = ap (λ x. x.size) is ∙ sound.size ∙ sym len;
-      queued = subst (λ (x : List Entry). AreQueued (map task_of tasks') (places (length tasks') x) x) (sym (ap (λ x. x.ready) is)) (tail-placed costs tasks tasks' os q.ready i t t' c sound.queued rests);
+      queued = subst (λ (x : List Entry). AreQueued (map task_of tasks') (places (length tasks') x) x) (sym (plain tasks' q'.ready ∙ ap (λ x. x.ready) is)) (tail-placed costs tasks tasks' os q.ready i t t' c queued rests);
       sleeping = subst (AreSleeping (map task_of tasks') time) (sym (ap (λ x. x.asleep) is))
           (subst (λ (ts : List states.Task). AreSleeping ts time q.asleep) (sym (changed-tasks tasks tasks' i t t' (released costs) c))
           (sleeping-awake (map task_of tasks) time q.asleep i (task_of t) (released costs) sound.sleeping (here-of tasks tasks' i t t' (released costs) c)
           (λ n h. asleep-apart t.readiness t.next n (λ e. wrong (sym e ∙ waits)) h) (λ n h. not_asleep n (sym (going-readiness costs _ _ _) ∙ h))));
       kept = changed-all tasks tasks' i t t' (released costs) c (IsKept until time us) (IsKept until time us) sound.kept (λ u h. h)
-          (tail-kept costs tasks tasks' os q.ready i t t' c sound.queued rests until time us k works (omega (arith, next, k.next)));
+          (tail-kept costs tasks tasks' os q.ready i t t' c queued rests until time us k works (omega (arith, next, k.next)));
       here = here;
       near = sound.near;
       few = omega (arith, len, sound.few);
@@ -235,13 +236,13 @@ waiting-released until time costs us p ran tasks tasks' q q' i t t' sound c wait
     wrong k = cc
 
 -- a task that waits is in neither list
-pub waiting-free : (until time : ℕ) (us : List units.Unit) (p : Phase) (ran : Option ℕ) (tasks : List Task) (q : Queues) → IsSound until time p ran us tasks q → (i : ℕ) (t : Task) → slice_get tasks i ≡ Some t
-    → t.readiness ≡ readies.Waiting → IsFree q i
-waiting-free until time us p ran tasks q sound i t here waits =
+pub waiting-free : (until time : ℕ) (us : List units.Unit) (p : Phase) (ran : Option ℕ) (tasks : List Task) (q : Queues) → IsSound until time p ran us tasks q → Each (IsReadyAt (map task_of tasks)) q.ready
+    → (i : ℕ) (t : Task) → slice_get tasks i ≡ Some t → t.readiness ≡ readies.Waiting → IsFree q i
+waiting-free until time us p ran tasks q sound each i t here waits =
     let at : slice_get (map task_of tasks) i ≡ Some (task_of t) = slice_get-map task_of tasks i ∙ ap (option_map task_of) here in
     record {
       known = omega (arith, sound.size, slice_get_within tasks i t here);
-      not_ready = apart-ready (map task_of tasks) i (task_of t) q.ready at (rests-apart t.readiness t.next (ap is_ready waits)) sound.queued.each;
+      not_ready = apart-ready (map task_of tasks) i (task_of t) q.ready at (rests-apart t.readiness t.next (ap is_ready waits)) each;
       not_asleep = apart-awake (map task_of tasks) time i (task_of t) q.asleep at (λ k h. asleep-apart t.readiness t.next k (λ e. wrong (sym e ∙ waits)) h) sound.sleeping.each;
     }
   where
@@ -257,12 +258,12 @@ serve-run y i u s at test = ap (λ o. serve_task y i o s) at ∙ ap (λ b. if b 
 pub serve-none : (y : System) (i : ℕ) (u : states.Task) (s : states.State) → slice_get s.tasks i ≡ Some u → (is_waiting u.readiness && u.gate.open') ≡ false → serve y i s ≡ (s, [])
 serve-none y i u s at test = ap (λ o. serve_task y i o s) at ∙ ap (λ b. if b then release y i s else (s, [])) test
 
-module _ (arrivals : List Arrival) (until time : ℕ) (costs : Costs) (us : List units.Unit) (ran : Option ℕ) (tasks : List Task) (q : Queues) (sound : IsSound until time Delays ran us tasks q) where
+module _ (stores : List Variables) (arrivals : List Arrival) (until time : ℕ) (costs : Costs) (us : List units.Unit) (ran : Option ℕ) (tasks : List Task) (q : Queues) (sound : IsSound until time Delays ran us tasks q) where
   -- the delays are over
-  pub delays-over : None ≡ due time q.asleep → run (system_by until costs us tasks) 1 (state_by arrivals time Delays ran false tasks q.ready) ≡ (state_by arrivals time Arriving ran false tasks q.ready, [])
+  pub delays-over : None ≡ due time q.asleep → run (system_by until costs us tasks) 1 (state_by stores arrivals time Delays ran false tasks q.ready) ≡ (state_by stores arrivals time Arriving ran false tasks q.ready, [])
   delays-over none =
-      step-run (system_by until costs us tasks) (state_by arrivals time Delays ran false tasks q.ready) (state_by arrivals time Arriving ran false tasks q.ready) []
-      (ap (λ o. delay_step (system_by until costs us tasks) o (state_by arrivals time Delays ran false tasks q.ready))
+      step-run (system_by until costs us tasks) (state_by stores arrivals time Delays ran false tasks q.ready) (state_by stores arrivals time Arriving ran false tasks q.ready) []
+      (ap (λ o. delay_step (system_by until costs us tasks) o (state_by stores arrivals time Delays ran false tasks q.ready))
       (none-due (map task_of tasks) time q.asleep sound.sleeping time (omega arith) (none_woken time q.asleep none).0))
 
   later-all : (es : List Entry) → ((e : Entry) → slice_get es 0 ≡ Some e → time < e.1) → IsOrdered WakesBefore es → Each (λ e. time < e.1) es
@@ -311,23 +312,23 @@ module _ (arrivals : List Arrival) (until time : ℕ) (costs : Costs) (us : List
       rests : is_ready t.readiness ≡ false
       rests = ap is_ready (woken-asleep t c.here).0
 
-      pub release-run : run (system_by until costs us tasks) 1 (state_by arrivals time Delays ran false tasks q.ready)
+      pub release-run : run (system_by until costs us tasks) 1 (state_by stores arrivals time Delays ran false tasks q.ready)
           ≡ (
-            record (state_by arrivals time Delays ran false tasks q.ready) { tasks = change task (released costs) (map task_of tasks); orders = put_last task (places (length tasks) q.ready) },
+            record (state_by stores arrivals time Delays ran false tasks q.ready) { tasks = change task (released costs) (map task_of tasks); orders = put_last task (places (length tasks) q.ready) },
             event.Release time t.progress.stack.thread.unit t.gate.value ∷ [],
           )
       release-run =
-          let s : states.State = state_by arrivals time Delays ran false tasks q.ready in
+          let s : states.State = state_by stores arrivals time Delays ran false tasks q.ready in
           let y : System = system_by until costs us tasks in
           step-run y s _ _
           (ap (λ o. delay_step y o s) (first-due (map task_of tasks) time (task, entry.key) entry.others (task_of t) sleepers entry.now (here-of tasks tasks' task t t' (released costs) c))
           ∙ ap (λ o. release_task y task o s) (here-of tasks tasks' task t t' (released costs) c))
 
       pub release-differs : DifferInOrders
-          (record (state_by arrivals time Delays ran false tasks q.ready) { tasks = change task (released costs) (map task_of tasks); orders = put_last task (places (length tasks) q.ready) })
-          (state_by arrivals time Delays ran false tasks' (at_tail (task, (task_of t').active) q.ready))
+          (record (state_by stores arrivals time Delays ran false tasks q.ready) { tasks = change task (released costs) (map task_of tasks); orders = put_last task (places (length tasks) q.ready) })
+          (state_by stores arrivals time Delays ran false tasks' (at_tail (task, (task_of t').active) q.ready))
       release-differs = record {
-        same = ap (λ ts. record (state_by arrivals time Delays ran false tasks' (at_tail (task, (task_of t').active) q.ready)) { tasks = ts }) (changed-tasks tasks tasks' task t t' (released costs) c);
+        same = ap (λ ts. record (state_by stores arrivals time Delays ran false tasks' (at_tail (task, (task_of t').active) q.ready)) { tasks = ts }) (changed-tasks tasks tasks' task t t' (released costs) c);
         ranks = tail-ranks costs tasks tasks' (places (length tasks) q.ready) q.ready task t t' c sound.queued rests;
       }
 

@@ -20,6 +20,9 @@ use Rattle.ceil_runtime.specs.Processing.{IsKept, IsSound, state_by, system_by}
 use Rattle.ceil_runtime.specs.Progressed.{vars_left, pieces_left}
 use Rattle.ceil_runtime.specs.Readies.{gate_of, readiness_of}
 use Rattle.ceil_runtime.specs.Starts.{AreOpen, CanStart, first_slept, opened, system_for}
+use Rattle.ceil_runtime.specs.Insides.{inside_of}
+use Rattle.ada_tree.specs.Trees.{unit_of}
+use Rattle.ceil_runtime.specs.Libraries.{objects_from}
 use Rattle.ceil_runtime.specs.Works.{task_of}
 use Rattle.ceil_runtime.specs.Written.{thread_of, timing_of}
 use Rattle.ceil_runtime.specs.declared.thread.Thread.{Thread}
@@ -111,13 +114,17 @@ pub record IsFresh (t : Task) (th : Thread) : Type 0 where
   pub used : t.used ≡ 0
   pub works : t.works ≡ 0
   pub gate : gate_of t.gate ≡ shut
+  pub active : t.active ≡ th.priority
+  pub inside : t.inside.items ≡ []
 
 module _ (until : ℕ) (us : List units.Unit) (threads : List Thread) (tasks : List Task) (q : Queues) (o : AreOpen until us threads tasks q) (t : Task) (th : Thread) (fresh : IsFresh t th) (can : CanStart us th) where
   first : task_of t ≡ first_task (thread_of th)
   first =
       let view : Thread → _ → _ → ℕ → ℕ → ℕ → ℕ → states.Readiness → states.Gate → states.Task = λ h vs ps n l u w r g. record (first_task (thread_of h)) { vars = vs; pieces = ps; next = n; left = l; used = u; works = w; readiness = r; gate = g } in
       let n0 : ℕ = first_time (timing_of th.timing) in
-      ap (λ n. view t.progress.stack.thread (vars_left t.progress) (pieces_left t.progress) n t.left t.used t.works (readiness_of t.readiness n) (gate_of t.gate)) fresh.next
+      ap (λ (a : ℕ). record (task_of t) { active = a }) (fresh.active ∙ ap (λ h. h.priority) (sym fresh.thread))
+      ∙ ap (λ hs. record (task_of t) { active = t.progress.stack.thread.priority; inside = inside_of hs }) fresh.inside
+      ∙ ap (λ n. view t.progress.stack.thread (vars_left t.progress) (pieces_left t.progress) n t.left t.used t.works (readiness_of t.readiness n) (gate_of t.gate)) fresh.next
       ∙ ap (λ r. view t.progress.stack.thread (vars_left t.progress) (pieces_left t.progress) n0 t.left t.used t.works r (gate_of t.gate)) fresh.rests
       ∙ ap (λ h. view h (vars_left t.progress) (pieces_left t.progress) n0 t.left t.used t.works (first_wait (timing_of th.timing)) (gate_of t.gate)) fresh.thread
       ∙ ap (λ vs. view th vs (pieces_left t.progress) n0 t.left t.used t.works (first_wait (timing_of th.timing)) (gate_of t.gate)) fresh.vars
@@ -208,7 +215,7 @@ places-none k (suc n) = ap (λ zs. pos 0 ∷ zs) (places-none (suc k) n)
 
 -- all tasks are open
 module _ (until : ℕ) (costs : Costs) (us : List units.Unit) (threads : List Thread) (tasks : List Task) (q : Queues) (o : AreOpen until us threads tasks q) (near : until < 2 ^ 32) (few : length tasks < 2 ^ 32) (size : q.size ≡ length tasks) where
-  pub open-sound : IsSound until 0 Effects None us tasks q
+  pub open-sound : IsSound until 0 (Effects None) None us tasks q
   open-sound = record {
     size = size;
     queued = subst (λ (es : List Entry). AreQueued (map task_of tasks) (places (length tasks) es) es) (sym o.ready) (record {
@@ -253,15 +260,15 @@ module _ (until : ℕ) (costs : Costs) (us : List units.Unit) (threads : List Th
   threads-of [] = refl
   threads-of (t ∷ ts) = ap (λ xs. thread_of t.progress.stack.thread ∷ xs) (threads-of ts)
 
-  open-state : (arrivals : List Arrival) → state_by arrivals 0 Effects None false tasks q.ready ≡ opening (system_by until costs us tasks) arrivals
+  open-state : (arrivals : List Arrival) → state_by (map (λ g. written g.vars) (objects_from 0 (map unit_of us))) arrivals 0 (Effects None) None false tasks q.ready ≡ opening (system_by until costs us tasks) arrivals
   open-state arrivals =
       let threads_is : map (λ t. thread_of t.progress.stack.thread) tasks ≡ map thread_of threads = threads-of tasks ∙ ap (map thread_of) o.threads_are in
-      let view : List states.Task → List ℤ → states.State = λ ts os. record (state_by arrivals 0 Effects None false tasks q.ready) { tasks = ts; orders = os } in
+      let view : List states.Task → List ℤ → states.State = λ ts os. record (state_by (map (λ g. written g.vars) (objects_from 0 (map unit_of us))) arrivals 0 (Effects None) None false tasks q.ready) { tasks = ts; orders = os } in
       ap (λ es. view (map task_of tasks) (places (length tasks) es)) o.ready ∙ ap (view (map task_of tasks)) (places-none 0 (length tasks))
       ∙ ap (λ ts. view ts (replicate (length tasks) (pos 0))) (o.tasks_are ∙ ap (map first_task) (sym threads_is))
       ∙ ap (λ n. view (map first_task (map (λ t. thread_of t.progress.stack.thread) tasks)) (replicate n (pos 0))) (sym (length-map tasks (λ t. thread_of t.progress.stack.thread)))
 
-  pub open-running : (arrivals : List Arrival) → record { system = system_by until costs us tasks; state = state_by arrivals 0 Effects None false tasks q.ready } ≡ opened until costs us arrivals threads
+  pub open-running : (arrivals : List Arrival) → record { system = system_by until costs us tasks; state = state_by (map (λ g. written g.vars) (objects_from 0 (map unit_of us))) arrivals 0 (Effects None) None false tasks q.ready } ≡ opened until costs us arrivals threads
   open-running arrivals =
       let view : System → states.State → Running = λ y s. record { system = y; state = s } in
       ap (view (system_by until costs us tasks)) (open-state arrivals)

@@ -14,6 +14,8 @@ pub mod Replayable
 pub mod Left
 pub mod Turns
 pub mod Works
+pub mod Insides
+pub mod Objects
 pub mod Processing
 pub mod Starts
 pub mod Shown

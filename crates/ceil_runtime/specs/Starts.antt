@@ -11,7 +11,7 @@ use Rattle.machine.specs.Meanings.{Running}
 use Rattle.machine.specs.States.{first_task, first_time, opening}
 use Rattle.dispatching.specs.Queueing.{AreSleeping}
 use Rattle.ceil_runtime.specs.Processing.{AllTasks, IsKept}
-use Rattle.ceil_runtime.specs.Libraries.{libraries_from}
+use Rattle.ceil_runtime.specs.Libraries.{libraries_from, objects_from}
 use Rattle.ceil_runtime.specs.Works.{task_of}
 use Rattle.ceil_runtime.specs.Written.{CanRun, durations_of, thread_of, timing_of}
 use Rattle.ceil_runtime.specs.declared.thread.Thread.{Thread}
@@ -25,7 +25,7 @@ system_for until costs us threads = record {
   until = until;
   costs = costs;
   libraries = libraries_from 0 (map unit_of us);
-  objects = [];
+  objects = objects_from 0 (map unit_of us);
   threads = map thread_of threads;
 }
 

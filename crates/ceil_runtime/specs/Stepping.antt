@@ -1,11 +1,13 @@
 -- What a step of a machine comes to: which event it tells, and how many steps may still follow in the instant.
 -- Each step that tells nothing is followed by fewer such steps.
-use Rattle.std.specs.Prelude.{◌≡◌, ℕ, ◌+◌, ◌-◌, ◌*◌, ◌<◌, ◌==◌, true, false, List, [], ◌∷◌, length, Option, Some, None, slice_get, if◌then◌else◌, ⊤}
+use Rattle.std.specs.Prelude.{◌≡◌, ℕ, ◌+◌, ◌-◌, ◌*◌, ◌<◌, true, false, List, [], ◌∷◌, length, map, Option, Some, slice_get, ⊤}
 use Rattle.arrivals_tree.specs.declared.arrivals.Arrival.{Arrival}
 use Rattle.trace_tree.specs.declared.event.Event.{Event}
 use Rattle.trace_tree.specs.declared.event.Event.TheVariants as event
-use Rattle.ceil_runtime.specs.Processing.{system_by}
-use Rattle.ceil_runtime.specs.Effort.{effort, most_ends}
+use Rattle.ceil_runtime.specs.Processing.{Follows, system_by}
+use Rattle.ceil_runtime.specs.Left.{Falls, ran_effort}
+use Rattle.ceil_runtime.specs.Shown.{IsWhole, running_of}
+use Rattle.ceil_runtime.specs.Effort.{most_ends}
 use Rattle.ceil_runtime.specs.Works.{task_of}
 use Rattle.ceil_runtime.specs.declared.task.Task.{Task}
 use Rattle.ceil_runtime.specs.declared.processor.Phase.{Phase}
@@ -14,18 +16,9 @@ use Rattle.ceil_runtime.specs.declared.processor.Machine.{Machine}
 use Rattle.ceil_runtime.specs.declared.processor.Told.{Told}
 use Rattle.ceil_runtime.specs.declared.processor.Told.TheVariants.{Nothing, One, Two}
 
--- the effects that a task may still have in an instant
-abbrev pub effort_of : ℕ → Option Task → ℕ
-effort_of most None = 0
-effort_of most (Some t) = if t.left == 0 then effort most (task_of t).pieces else 0
-
-abbrev pub ran_effort : ℕ → List Task → Option ℕ → ℕ
-ran_effort most tasks None = 0
-ran_effort most tasks (Some i) = effort_of most (slice_get tasks i)
-
 -- the steps that an instant may still have, by its part
 abbrev pub steps_in : ℕ → Phase → List Task → Option ℕ → ℕ
-steps_in most Effects tasks ran = 3 + ran_effort most tasks ran
+steps_in most (Effects running) tasks ran = 3 + ran_effort most (map task_of tasks) ran
 steps_in most Delays tasks ran = 2
 steps_in most Arriving tasks ran = 1
 steps_in most Use tasks ran = 0
@@ -90,3 +83,12 @@ abbrev pub AreOfTask : List Task → Told → Type 0
 AreOfTask tasks Nothing = ⊤
 AreOfTask tasks (One e) = IsOfTask tasks e
 AreOfTask tasks (Two e f) = IsOfTask tasks e × IsOfTask tasks f
+
+-- a step from a machine that runs to another, and what it tells
+pub record IsStep (m : Machine) (told : Told) (m' : Machine) : Type 0 where
+  pub whole : m'.stopped ≡ false → IsWhole m'
+  pub follows : Follows (running_of m) (told_of told) (running_of m')
+  pub ends : Ends told m'
+  pub nears : IsNear told m m'
+  pub of : AreOfTask m.tasks.items told
+  pub falls : Falls (running_of m) (told_of told) (running_of m')

@@ -1,5 +1,5 @@
 -- A task at work: what it stands for, and what its methods do to it.
-use Rattle.std.specs.Prelude.{◌≡◌, ℕ, ◌-◌, ◌+◌, ◌<◌, ◌≤◌, true, List, [], ◌∷◌, Option, ◌==◌, if◌then◌else◌, ⊤}
+use Rattle.std.specs.Prelude.{◌≡◌, ℕ, ◌-◌, ◌+◌, ◌<◌, ◌≤◌, true, List, ◌∷◌, Option, ◌==◌, if◌then◌else◌}
 use Rattle.seq_tree.specs.Variables.{Variables}
 use Rattle.seq_tree.specs.declared.tree.Costs.{Costs}
 use Rattle.machine.specs.Systems.{PassiveUnit}
@@ -9,6 +9,7 @@ use Rattle.machine.specs.Releases.{going}
 use Rattle.machine.specs.Effects.{ended}
 use Rattle.ceil_runtime.specs.Doing.{Does}
 use Rattle.ceil_runtime.specs.Effort.{effort}
+use Rattle.ceil_runtime.specs.Insides.{inside_of}
 use Rattle.ceil_runtime.specs.Left.{first_tells}
 use Rattle.ceil_runtime.specs.Written.{reserve, thread_of}
 use Rattle.ceil_runtime.specs.declared.thread.Thread.{Thread}
@@ -23,20 +24,28 @@ abbrev pub task_of : Task → states.Task
 task_of t = record {
   thread = thread_of t.progress.stack.thread;
   readiness = readiness_of t.readiness t.next;
-  active = t.progress.stack.thread.priority;
+  active = t.active;
   next = t.next;
   vars = vars_left t.progress;
   pieces = pieces_left t.progress;
   left = t.left;
   used = t.used;
   works = t.works;
-  inside = [];
+  inside = inside_of t.inside.items;
   gate = gate_of t.gate;
 }
 
 -- a task that a request from outside has reached
 abbrev pub asked : Option ℕ → states.Task → states.Task
 asked value t = record t { gate = record { value = value; open' = true } }
+
+-- a task whose control structure has taken the value of a request
+abbrev pub kept_value : Option ℕ → states.Task → states.Task
+kept_value value t = record t { gate = record t.gate { value = value } }
+
+-- a task whose control structure has opened
+abbrev pub opened_now : states.Task → states.Task
+opened_now t = record t { gate = record t.gate { open' = true } }
 
 -- a task that has used so many ticks
 abbrev pub used_ticks : ℕ → states.Task → states.Task
@@ -58,11 +67,9 @@ pub record Acts (libraries : List PassiveUnit) (costs : Costs) (t : states.Task)
   pub does : Does libraries piece t.vars rest act vars pieces
   pub after : t' ≡ done_by act costs vars pieces t
 
--- a piece that is nothing to others leaves fewer effects for this instant
-abbrev pub EffortFalls : Act → Thread → states.Task → states.Task → Type 0
-EffortFalls Silent thread t t' = (most : ℕ) → reserve thread ≤ most → (0 < effort most t.pieces) × (t'.left ≡ 0 → effort most t'.pieces < effort most t.pieces)
-EffortFalls (Print value) thread t t' = ⊤
-EffortFalls Finish thread t t' = ⊤
+-- a piece leaves fewer effects for this instant
+abbrev pub EffortFalls : Thread → states.Task → states.Task → Type 0
+EffortFalls thread t t' = (most : ℕ) → reserve thread ≤ most → (0 < effort most t.pieces) × (t'.left ≡ 0 → effort most t'.pieces < effort most t.pieces)
 
 -- twice the events that a task's piece tells, where its ticks are used
 abbrev pub tells_of : states.Task → ℕ

@@ -11,6 +11,8 @@ ghost use Rattle.ceil_runtime.specs.Processing.{IsWithin};
 use crate::buffer::EventBuf;
 use crate::durations::joined;
 use crate::effects::Act;
+use crate::object::Object;
+use crate::objects::objects_in;
 use crate::piece::Piece;
 use crate::progress::Progress;
 use crate::task::{Gate, Readiness, Task};
@@ -43,7 +45,9 @@ pub enum Turn {
 /// A part of an instant.
 #[derive(Clone, Copy, Debug, PartialEq, Eq)]
 enum Phase {
-    Effects,
+    /// The task that used the tick before has effects, where there is one whose piece has no ticks left. It is not in the ready list
+    /// then: it may enter and leave sections, and release other tasks, before it is put back.
+    Effects(Option<u32>),
     Delays,
     Arriving,
     Use,
@@ -147,6 +151,7 @@ fn ticks_ahead(links: &Links, tasks: &[Task], arrivals: &[Arrival], time: u64, u
 #[derive(Drop)]
 pub struct Machine<'a> {
     tasks: Vec<Task<'a>>,
+    objects: Vec<Object<'a>>,
     links: Links,
     // The arrivals left.
     arrivals: &'a [Arrival],
@@ -178,9 +183,9 @@ impl<'a> Machine<'a> {
     ghost use Rattle.machine.specs.Systems.{system};
     ghost use Rattle.seq_tree.specs.Lists.{Each as EachEvent};
     ghost use Rattle.trace_tree.specs.Placed.{IsPlaced};
-    ghost use Rattle.ceil_runtime.specs.Processing.{Follows, HasPiece};
-    ghost use Rattle.ceil_runtime.specs.Shown.{IsWhole, running_of};
-    ghost use Rattle.ceil_runtime.specs.Stepping.{AreOfTask, Ends, IsNear, steps_left, told_of};
+    ghost use Rattle.ceil_runtime.specs.Processing.{Follows, HasNoPiece, HasPiece, IsDue};
+    ghost use Rattle.ceil_runtime.specs.Shown.{IsSettled, IsWhole, running_of};
+    ghost use Rattle.ceil_runtime.specs.Stepping.{AreOfTask, Ends, IsNear, IsStep, steps_left, told_of};
 
     /// The opening of a program of cyclic tasks, sporadic tasks that are requested from outside, and passive units under
     /// arrivals that are accepted for it. A failed allocation is the one error.
@@ -219,6 +224,7 @@ impl<'a> Machine<'a> {
     ) -> Result<Machine<'a>, NoMemory>
         requires few { length threads.now < 2 ^ 32 }
         requires near { until < 2 ^ 32 }
+        requires known { length units.now < 2 ^ 32 }
         requires ticking { costs_break costs ≡ false }
         requires start { AllThreads (CanStart units.now) threads.now }
         ensures opens { IfOk result (λ m. running_of m ≡ opened until costs units.entry.now arrivals.entry.now threads.entry.now) }
@@ -227,14 +233,18 @@ impl<'a> Machine<'a> {
         let Ok(mut links) = Links::new(alloc, threads.len() as u32) else {
             return Err(NoMemory);
         };
+        let objects = objects_in(alloc, units)?;
         let mut tasks = Vec::with_capacity(alloc, threads.len())?;
         let mut task: u32 = 0;
         'threads: for thread in threads {
             let progress = Progress::new(alloc, *thread)?;
             let durations = joined(alloc, thread.work, thread.unit)?;
+            let inside = Vec::with_capacity(alloc, units.len())?;
             tasks.push_reserved(Task {
                 progress,
                 readiness: opening_rest(thread.timing),
+                active: thread.priority,
+                inside,
                 next: opening_time(thread.timing),
                 left: 0,
                 used: 0,
@@ -247,13 +257,14 @@ impl<'a> Machine<'a> {
         }
         Ok(Machine {
             tasks,
+            objects,
             links,
             arrivals,
             units,
             costs,
             until,
             time: 0,
-            phase: Phase::Effects,
+            phase: Phase::Effects(None),
             ran: None,
             stopped: false,
         })
@@ -266,7 +277,6 @@ impl<'a> Machine<'a> {
         requires goes_on { self.old.stopped ≡ false }
         ensures whole { IsWhole self.new }
         ensures follows { Follows (running_of self.old) [] (running_of self.new) }
-        ensures phase { self.new.phase ≡ Phase.Effects }
         ensures goes_on { self.new.stopped ≡ false }
         ensures nears { steps_left self.new < steps_left self.old }
         ensures falls { Falls (running_of self.old) [] (running_of self.new) }
@@ -278,14 +288,14 @@ impl<'a> Machine<'a> {
             self.time,
             self.until,
         );
-        let head = self.links.head();
         self.time += ticks;
-        self.phase = Phase::Effects;
-        let Some((task, _)) = head else {
+        let Some(task) = self.links.pop_head() else {
             self.ran = None;
+            self.phase = Phase::Effects(None);
             return;
         };
         self.ran = Some(task);
+        self.phase = Phase::Effects(Some(task));
         self.tasks[task as usize].use_ticks(ticks);
     }
 
@@ -340,8 +350,7 @@ impl<'a> Machine<'a> {
             return Told::One(arrived);
         };
         asked.release(&self.costs);
-        self.links
-            .push_tail(task, asked.progress.stack.thread.priority);
+        self.links.push_tail(task, asked.active);
         Told::Two(
             arrived,
             Event::Release {
@@ -392,56 +401,65 @@ impl<'a> Machine<'a> {
         let released = &mut self.tasks[task as usize];
         let value = released.gate.value;
         released.release(&self.costs);
-        let thread = released.progress.stack.thread;
-        self.links.push_tail(task, thread.priority);
+        self.links.push_tail(task, released.active);
         Told::One(Event::Release {
             time: self.time,
-            task: thread.unit,
+            task: released.progress.stack.thread.unit,
             value,
         })
     }
 
-    /// Effects: that of the piece of the task that used the tick before, where its ticks are used.
-    fn effects(&mut self) -> Told
-        requires whole { IsWhole self.old }
-        requires phase { self.old.phase ≡ Phase.Effects }
-        requires goes_on { self.old.stopped ≡ false }
-        ensures whole { IsWhole self.new }
-        ensures follows { Follows (running_of self.old) (told_of result) (running_of self.new) }
-        ensures ends { Ends result self.new }
-        ensures nears { IsNear result self.old self.new }
-        ensures of { AreOfTask self.old.tasks.items result }
-        ensures falls { Falls (running_of self.old) (told_of result) (running_of self.new) }
+    /// The piece of a task, where its ticks are used.
+    fn due(&self, task: u32) -> Option<Piece<'a>>
+        requires known { task < length self.now.tasks.items }
+        ensures { IsDue self.now.tasks.items task result }
     {
-        let Some(task) = self.ran else {
-            self.phase = Phase::Delays;
-            return Told::Nothing;
-        };
-        let left = self.tasks[task as usize].left;
-        let Some(piece) = self.tasks[task as usize].progress.piece else {
-            self.phase = Phase::Delays;
-            return Told::Nothing;
-        };
-        if left != 0 {
-            self.phase = Phase::Delays;
-            return Told::Nothing;
+        let active = &self.tasks[task as usize];
+        if active.left == 0 {
+            active.progress.piece
+        } else {
+            None
         }
+    }
+
+    /// The end of the effects of an instant. The task that had them goes before the other ready tasks of its active priority.
+    fn end_effects(&mut self, task: u32)
+        requires whole { IsWhole self.old }
+        requires phase { self.old.phase ≡ Phase.Effects (Some task) }
+        requires goes_on { self.old.stopped ≡ false }
+        requires none { HasNoPiece self.old.tasks.items task }
+        ensures { IsStep self.old Told.Nothing self.new }
+    {
+        let active = self.tasks[task as usize].active;
+        self.links.push_head(task, active);
+        self.phase = Phase::Delays;
+    }
+
+    /// Effects: that of the piece of the task that used the tick before, where its ticks are used.
+    fn effects(&mut self, running: Option<u32>) -> Told
+        requires whole { IsWhole self.old }
+        requires phase { self.old.phase ≡ Phase.Effects running }
+        requires goes_on { self.old.stopped ≡ false }
+        ensures { IsStep self.old result self.new }
+    {
+        let Some(task) = running else {
+            self.phase = Phase::Delays;
+            return Told::Nothing;
+        };
+        let Some(piece) = self.due(task) else {
+            self.end_effects(task);
+            return Told::Nothing;
+        };
         self.effect(task, piece)
     }
 
-    /// The effect of the piece of a task, which is the first ready one.
+    /// The effect of the piece of a task whose ticks are used.
     fn effect(&mut self, task: u32, piece: Piece<'a>) -> Told
         requires whole { IsWhole self.old }
-        requires phase { self.old.phase ≡ Phase.Effects }
+        requires phase { self.old.phase ≡ Phase.Effects (Some task) }
         requires goes_on { self.old.stopped ≡ false }
-        requires ran { self.old.ran ≡ Some task }
         requires piece { HasPiece self.old.tasks.items task piece }
-        ensures whole { IsWhole self.new }
-        ensures follows { Follows (running_of self.old) (told_of result) (running_of self.new) }
-        ensures ends { Ends result self.new }
-        ensures nears { IsNear result self.old self.new }
-        ensures of { AreOfTask self.old.tasks.items result }
-        ensures falls { Falls (running_of self.old) (told_of result) (running_of self.new) }
+        ensures { IsStep self.old result self.new }
     {
         let active = &mut self.tasks[task as usize];
         let act = active.act(&self.costs, piece);
@@ -459,7 +477,7 @@ impl<'a> Machine<'a> {
                     task: unit,
                     used: active.used,
                 };
-                let _ = self.links.pop_head();
+                self.phase = Phase::Effects(None);
                 if let Readiness::Asleep = active.readiness {
                     self.links.sleep(task, active.next.max(self.time));
                     return Told::One(ended);
@@ -469,8 +487,7 @@ impl<'a> Machine<'a> {
                     return Told::One(ended);
                 }
                 active.release(&self.costs);
-                self.links
-                    .push_tail(task, active.progress.stack.thread.priority);
+                self.links.push_tail(task, active.active);
                 Told::Two(
                     ended,
                     Event::Release {
@@ -487,15 +504,10 @@ impl<'a> Machine<'a> {
     fn step(&mut self) -> Told
         requires whole { IsWhole self.old }
         requires goes_on { self.old.stopped ≡ false }
-        ensures whole { self.new.stopped ≡ false → IsWhole self.new }
-        ensures follows { Follows (running_of self.old) (told_of result) (running_of self.new) }
-        ensures ends { Ends result self.new }
-        ensures nears { IsNear result self.old self.new }
-        ensures of { AreOfTask self.old.tasks.items result }
-        ensures falls { Falls (running_of self.old) (told_of result) (running_of self.new) }
+        ensures { IsStep self.old result self.new }
     {
         match self.phase {
-            Phase::Effects => self.effects(),
+            Phase::Effects(running) => self.effects(running),
             Phase::Delays => self.delays(),
             Phase::Arriving => self.arriving(),
             Phase::Use => {
@@ -541,10 +553,11 @@ impl<'a> Machine<'a> {
         }
     }
 
-    /// The queues that the machine keeps. A task's number in them is its place among the tasks, from 0.
+    /// The queues that the machine keeps. A task's number in them is its place among the tasks, from 0. At the opening, and in every part of
+    /// an instant but the effects of a task, the ready list is the ready tasks in order of dispatch; the sleeping tasks are so always.
     pub fn queues(&self) -> &Links
         requires whole { IsWhole self.now }
-        ensures ready { AreQueued (running_of self.now).state.tasks (running_of self.now).state.orders result.now.ready }
+        ensures ready { IsSettled (running_of self.now).state → AreQueued (running_of self.now).state.tasks (running_of self.now).state.orders result.now.ready }
         ensures asleep { AreSleeping (running_of self.now).state.tasks (running_of self.now).state.time result.now.asleep }
     {
         &self.links

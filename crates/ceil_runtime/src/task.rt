@@ -1,4 +1,4 @@
-ghost use Rattle.std.specs.Prelude.{◌≡◌, ◌<◌, ◌≤◌, ◌^◌, ◌||◌, ◌==◌, true, false, [], Some};
+ghost use Rattle.std.specs.Prelude.{◌≡◌, ◌<◌, ◌≤◌, ◌^◌, ◌||◌, ◌==◌, true, false, [], length, vec_capacity, Some};
 ghost use Rattle.arrivals_tree.specs.Acceptance.{has_nothing};
 ghost use Rattle.ceil_runtime.specs.Effort.{IsLong};
 ghost use Rattle.ceil_runtime.specs.Written.{durations_of};
@@ -7,6 +7,7 @@ ghost use Rattle.ceil_runtime.specs.Progressed.{is_idle, pieces_left};
 ghost use Rattle.ceil_runtime.specs.Readies.{gate_of, is_ready, rests_as};
 
 use crate::effects::Act;
+use crate::inside::Held;
 use crate::piece::Piece;
 use crate::progress::Progress;
 use crate::thread::Timing;
@@ -48,6 +49,10 @@ pub struct Task<'a> {
     pub progress: Progress<'a>,
     /// Whether it can run.
     pub readiness: Readiness,
+    /// The active priority.
+    pub active: u32,
+    /// The sections that it is inside, the innermost last.
+    pub inside: Vec<Held>,
     /// The nominal time of its next release, in ticks.
     pub next: u64,
     /// The ticks left of the piece that has started.
@@ -64,6 +69,7 @@ pub struct Task<'a> {
     ghost rests: { rests_as readiness progress.stack.thread.timing ≡ true },
     ghost handed: { durations.items ≡ durations_of progress.stack.thread },
     ghost long: { has_nothing durations.items ≡ false },
+    ghost room: { length progress.stack.thread.units.now ≤ vec_capacity inside },
 }
 
 impl<'a> Task<'a> {
@@ -170,7 +176,7 @@ impl<'a> Task<'a> {
         ensures thread { self.new.progress.stack.thread ≡ self.old.progress.stack.thread }
         ensures works { self.new.works ≤ self.old.works + min self.new.left 1 }
         ensures told { ToldBy result (task_of self.old) (task_of self.new) }
-        ensures falls { EffortFalls result self.old.progress.stack.thread (task_of self.old) (task_of self.new) }
+        ensures falls { EffortFalls self.old.progress.stack.thread (task_of self.old) (task_of self.new) }
     {
         let duration = self.duration();
         let act = self.progress.act(piece);

@@ -1,6 +1,6 @@
 ghost use Rattle.std.specs.Prelude.{◌≡◌, ◌≤◌, ◌<◌, true, false, [], map, length, vec_len, vec_capacity, IfOk};
 ghost use Rattle.std.specs.List.{list_all};
-ghost use Rattle.ceil_runtime.specs.Replayable.{is_run};
+ghost use Rattle.ada_tree.specs.InUse.{is_run};
 ghost use Rattle.ada_tree.specs.Trees.{unit_of};
 ghost use Rattle.ceil_runtime.specs.Effort.{request_params};
 ghost use Rattle.machine.specs.States.{first_time, first_wait};

@@ -11,7 +11,7 @@ ghost use Rattle.design_bounds.specs.Analyses.{Analyses, IsRefused};
 ghost use Rattle.design_bounds.specs.Rows.{ceiling_rows, named_bounds};
 
 use crate::naming::{ceiling_rows, named_rows, numbered};
-use crate::rows::{Analysis, CeilingRow, NamedBound, NoBounds};
+use crate::rows::{Analysis, CeilingRow, NoBounds};
 use analysis::{Ranking, Table};
 use ods_tree::Flat;
 use rt_block::blocking;
@@ -19,6 +19,7 @@ use rt_order::order;
 use rt_response::{Bound, Miss, respond};
 use seq_tree::NoMemory;
 use std::alloc::Global;
+use trace_text::NamedBound;
 
 /// The refusal of a value over its limit, with the thread of its row.
 fn missed(alloc: Global, flat: &Flat, table: &Table, miss: Miss) -> NoBounds

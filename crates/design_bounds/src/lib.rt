@@ -10,4 +10,4 @@ mod naming;
 mod rows;
 
 pub use analysing::analyse;
-pub use rows::{Analysis, CeilingRow, NamedBound, NoBounds};
+pub use rows::{Analysis, CeilingRow, NoBounds};

@@ -4,12 +4,13 @@ ghost use Rattle.ods_tree.specs.Trees.{flat_of, guarded_of, thread_of};
 ghost use Rattle.analysis.specs.Ceilings.{numbered};
 ghost use Rattle.design_bounds.specs.Rows.{control_rows, named_at, named_bound, shared_rows};
 
-use crate::rows::{CeilingRow, NamedBound};
+use crate::rows::CeilingRow;
 use analysis::Table;
 use ods_tree::{Flat, FlatShared, FlatThread, Timing};
 use rt_response::{Bound, ThreadRow};
 use seq_tree::{Name, NoMemory};
 use std::alloc::Global;
+use trace_text::NamedBound;
 
 /// A priority or ceiling as it is written, where the least priority is written as `first`.
 fn written(number: u32, first: u32) -> u32

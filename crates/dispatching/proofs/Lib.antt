@@ -6,5 +6,6 @@ pub mod Queued
 pub mod Heads
 pub mod Ranks
 pub mod Sleeping
-pub mod HeldBack
+pub mod Running
+pub mod Acts
 mod Examples

@@ -14,7 +14,7 @@ use Rattle.hrthood_top.specs.Messages.{too_long_line, fault_line}
 use Rattle.hrthood_top.specs.Verbs.{Verb}
 use Rattle.hrthood_top.specs.Ends.{Outside, Writes, TooLong, Refusal, Refuses, TellsMessage, EndsVerb}
 use Rattle.hrthood_top.specs.Fetches.{FetchesAll}
-use Rattle.hrthood_top.specs.Writing.{IsMade, Finishes, TellsStop}
+use Rattle.hrthood_top.specs.Writing.{IsMade, Finishes, Streams, TellsStop}
 use Rattle.hrthood_top.proofs.Fetching.{if_some-map}
 
 -- files that could not be had
@@ -47,8 +47,21 @@ ends-made view v status.ReadFault (Ok z) texts x y held log m f = absurd f
 ends-made view v status.NoMemory (Ok z) texts x y held log m f = absurd f
 ends-made view v ended (Err (halt.Refused refusal)) texts x y held log m f =
     let E : Status → Type 0 = λ z. EndsVerb z v x y in
-    subst E (sym f.0)
-    (Refusal refusal, if_some-map x.told (λ t. HoldsAll t v.files texts) (λ t. Refuses t v (Refusal refusal)) held (λ t p. (texts, p, m)), log, f.1, f.2)
+    subst E (sym f.1.0)
+    (Refusal refusal, if_some-map x.told (λ t. HoldsAll t v.files texts) (λ t. Refuses t v (Refusal refusal)) held (λ t p. (texts, p, m)), log, f.0, f.1.1)
 ends-made view v ended (Err halt.NoMemory) texts x y held log m f =
     let E : Status → Type 0 = λ z. EndsVerb z v x y in
-    subst E (sym f.0) (length v.files, log ∙ ap (λ z. grown x.told (fetched z)) (sym (take-length v.files)), f.1, f.2)
+    subst E (sym f.1.0) (length v.files, log ∙ ap (λ z. grown x.told (fetched z)) (sym (take-length v.files)), f.0, f.1.1)
+
+-- what was written of files that are there, as it came
+pub ends-streamed : (v : Verb) (ended : Status) (texts : Texts) (x y : Outside) → IfSome x.told (λ t. HoldsAll t v.files texts) → y.told ≡ grown x.told (fetched v.files)
+    → Streams (v.Makes texts) (v.Refuses texts) v.line ended x.out y.out x.write_faults y.write_faults x.err y.err x.tell_faults y.tell_faults → EndsVerb ended v x y
+ends-streamed v status.Done texts x y held log s =
+    (s.0, s.2.0, if_some-map x.told (λ t. HoldsAll t v.files texts) (λ t. Writes t v s.0) held (λ t p. (texts, p, s.1)), log, s.2.1)
+ends-streamed v status.WriteFault texts x y held log s =
+    (s.0, s.2.0, s.2.1, s.2.2, if_some-map x.told (λ t. HoldsAll t v.files texts) (λ t. Writes t v s.0) held (λ t p. (texts, p, s.1)), s.2.3, log, s.2.4)
+ends-streamed v status.Refused texts x y held log s =
+    (Refusal s.0, if_some-map x.told (λ t. HoldsAll t v.files texts) (λ t. Refuses t v (Refusal s.0)) held (λ t p. (texts, p, s.1)), log, s.2, s.3)
+ends-streamed v status.NoMemory texts x y held log s = (length v.files, log ∙ ap (λ z. grown x.told (fetched z)) (sym (take-length v.files)), s.0, s.1)
+ends-streamed v status.ReadFault texts x y held log s = absurd s.2
+ends-streamed v status.Usage texts x y held log s = absurd s.2

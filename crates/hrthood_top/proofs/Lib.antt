@@ -1,6 +1,7 @@
 pub mod Pieces
 pub mod Fetching
 pub mod Ending
+pub mod Streamed
 pub mod OneText
 pub mod OneDesign
 pub mod OneRule
@@ -12,5 +13,8 @@ pub mod FormatLaws
 pub mod GenerateLaws
 pub mod ReplayLaws
 pub mod Completing
+pub mod Replayed
 pub mod Replaying
+pub mod Gathering
+mod Examples
 pub mod Tracing

@@ -11,7 +11,7 @@ use Rattle.rt_response.specs.declared.rows.Bound.{Bound}
 use Rattle.analysis.specs.Tables.{table}
 use Rattle.bridge.specs.Delivers.{HasNoBounds}
 use Rattle.design_bounds.specs.Rows.{named_bounds, ceiling_rows}
-use Rattle.design_bounds.specs.declared.rows.NamedBound.{NamedBound}
+use Rattle.trace_text.specs.declared.bound.NamedBound.{NamedBound}
 use Rattle.design_bounds.specs.declared.rows.CeilingRow.{CeilingRow}
 use Rattle.hrthood_top.specs.declared.file_kind.FileKind.TheVariants.{Design}
 use Rattle.hrthood_top.specs.declared.analyse.AnalyseRefusal.{AnalyseRefusal}

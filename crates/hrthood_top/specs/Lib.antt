@@ -14,5 +14,6 @@ pub mod Ends
 pub mod Exact
 pub mod TwoRuns
 pub mod Fetches
+pub mod Streaming
 pub mod Writing
 pub mod Exits

@@ -16,7 +16,10 @@ use Rattle.ods_index.specs.declared.broken.Broken.TheVariants as rule
 use Rattle.rt_response.specs.declared.rows.Limit.{Limit}
 use Rattle.rt_response.specs.declared.rows.Limit.TheVariants.{Deadline, Separation}
 use Rattle.rt_response.specs.declared.rows.Miss as rows
+use Rattle.arrivals_read.specs.declared.fault.ArrivalFault.{ArrivalFault}
+use Rattle.arrivals_read.specs.declared.fault.ArrivalFault.TheVariants as arrival
 use Rattle.hrthood_top.specs.declared.file_kind.FileKind.{FileKind}
+use Rattle.hrthood_top.specs.declared.file_kind.FileKind.TheVariants.{Arrivals}
 use Rattle.hrthood_top.specs.declared.message.Message.{Message}
 use Rattle.hrthood_top.specs.declared.message.Message.TheVariants.{Usage, TooLong, ReadFault, WriteFault, NoMemory}
 use Rattle.hrthood_top.specs.Files.{kind_text}
@@ -142,6 +145,20 @@ unit_text (Some name) = name
 -- the line of a rule that a program breaks
 abbrev pub unit_line : AdaRule → Option Name → List ℕ
 unit_line rule unit = codes "refused " ++ (rule_text rule ++ (gap_text unit ++ (unit_text unit ++ (fault_text rule ++ codes "\n"))))
+
+-- a line of a code, the line of an item in an arrivals file, and a name
+abbrev pub item_line : List ℕ → ℕ → Name → List ℕ
+item_line code line name = code ++ (decimal line ++ (codes " " ++ (name ++ codes "\n")))
+
+-- the line of what is wrong with arrivals; want of memory is never told so
+abbrev pub arrivals_line : ArrivalFault → List ℕ
+arrivals_line (arrival.Text found) = text_line Arrivals found
+arrivals_line (arrival.Q1 line) = count_line (codes "refused Q1 line ") line
+arrivals_line (arrival.Q2 line name) = item_line (codes "refused Q2 line ") line name
+arrivals_line (arrival.Q3 line object) = item_line (codes "refused Q3 line ") line object
+arrivals_line (arrival.Q4 value limit) = codes "refused Q4 value " ++ (decimal value ++ (codes " limit " ++ (decimal limit ++ codes "\n")))
+arrivals_line (arrival.Q5 line) = count_line (codes "refused Q5 line ") line
+arrivals_line arrival.NoMemory = codes "refused\n"
 
 -- the line of a file that is over its limit
 abbrev pub too_long_line : FileKind → List ℕ

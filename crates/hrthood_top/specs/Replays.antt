@@ -2,19 +2,18 @@
 -- No condition is put on where the Ada text came from.
 use Rattle.std.specs.Prelude.{◌≡◌, ℕ, List, [], ◌∷◌, codes, Result, Ok, Err, Some, ⊤}
 use Rattle.seq_tree.specs.Names.{Name}
-use Rattle.seq_tree.specs.declared.text_fault.TextFault.{TextFault}
-use Rattle.seq_tree.specs.declared.text_fault.TextFault.TheVariants as fault
 use Rattle.ada_tree.specs.Programs.{Program}
 use Rattle.ada_tree.specs.Reading.{Accepts}
-use Rattle.ada_tree.specs.InUse.{IsSequentialProgram, first_unbuilt}
+use Rattle.ada_tree.specs.InUse.{IsRunProgram, first_unbuilt}
 use Rattle.ada_tree.specs.Trees.{program_of}
 use Rattle.ada_tree.specs.declared.program.AdaProgram.{AdaProgram}
 use Rattle.ada_read.specs.Answers.{Faults, Breaks}
 use Rattle.arrivals_tree.specs.Arriving as arrived
-use Rattle.arrivals_tree.specs.Arrived.{Arrives}
+use Rattle.arrivals_tree.specs.Arriving.{arrivals_of}
+use Rattle.arrivals_tree.specs.Arrived.{Arrives, horizon_limit}
+use Rattle.arrivals_tree.specs.declared.arrivals.Arrivals as values
 use Rattle.arrivals_read.specs.Answers as arriving
-use Rattle.arrivals_read.specs.Answers.{StopsAt}
-use Rattle.arrivals_tree.specs.InUse.{AreUsableArrivals, horizon_limit}
+use Rattle.arrivals_read.specs.declared.fault.ArrivalFault.{ArrivalFault}
 use Rattle.trace_tree.specs.declared.event.Event.{Event}
 use Rattle.trace_tree.specs.Lines.{lines}
 use Rattle.machine.specs.Meanings.{Meaning}
@@ -23,7 +22,7 @@ use Rattle.hrthood_top.specs.declared.replay.ReplayRefusal.{ReplayRefusal}
 use Rattle.hrthood_top.specs.declared.replay.ReplayRefusal.TheVariants as refusal
 use Rattle.hrthood_top.specs.declared.halt.Halt.{Halt}
 use Rattle.hrthood_top.specs.declared.halt.Halt.TheVariants as halt
-use Rattle.hrthood_top.specs.Messages.{name_line, text_line, unit_line}
+use Rattle.hrthood_top.specs.Messages.{arrivals_line, name_line, text_line, unit_line}
 use Rattle.hrthood_top.specs.Verbs.{Verb}
 
 -- a text is the trace of a program under arrivals: the lines of what the program means
@@ -32,34 +31,36 @@ pub record IsTrace (p : Program) (a : arrived.Arrivals) (text : List ℕ) : Type
   pub means : Meaning p a told
   pub whole : text ≡ lines p told
 
--- an Ada text and an arrivals text replay to this: the trace of the one program that the first says, under the arrivals that the second
--- alone says of it
+-- an Ada text says this program, which is run, and no other one
+pub record SaysProgram (ada : List ℕ) (p : Program) : Type 0 where
+  pub accepts : Accepts ada p
+  pub run : IsRunProgram p
+  pub alone : (q : Program) → Accepts ada q → q ≡ p
+
+-- an arrivals text says these arrivals of a program, and no other ones
+pub record SaysArrivals (arrivals : List ℕ) (p : Program) (a : arrived.Arrivals) : Type 0 where
+  pub arrives : Arrives horizon_limit arrivals p a
+  pub alone : (b : arrived.Arrivals) → Arrives horizon_limit arrivals p b → b ≡ a
+
+-- an Ada text and an arrivals text replay to this: the trace of the program that the first says, under the arrivals that the second
+-- says of it
 pub record Replays (ada arrivals written : List ℕ) : Type 0 where
   pub program : Program
   pub under : arrived.Arrivals
-  pub accepts : Accepts ada program
-  pub sequential : IsSequentialProgram program
-  pub alone : (p : Program) → Accepts ada p → p ≡ program
-  pub arrives : Arrives horizon_limit arrivals program under
-  pub horizon_alone : AreUsableArrivals under
-  pub alone_under : (a : arrived.Arrivals) → AreUsableArrivals a → Arrives horizon_limit arrivals program a → a ≡ under
+  pub says : SaysProgram ada program
+  pub arriving : SaysArrivals arrivals program under
   pub trace : IsTrace program under written
 
--- an Ada text and an arrivals text that can be replayed: they say a program and arrivals, under which the program means something
+-- an Ada text and an arrivals text that can be replayed: they say a program that is run and arrivals, under which the program means
+-- something
 pub record CanReplay (ada arrivals : List ℕ) : Type 0 where
   pub program : Program
   pub under : arrived.Arrivals
   pub accepts : Accepts ada program
-  pub sequential : IsSequentialProgram program
+  pub run : IsRunProgram program
   pub arrives : Arrives horizon_limit arrivals program under
-  pub horizon_alone : AreUsableArrivals under
   pub told : List Event
   pub means : Meaning program under told
-
--- why bytes are no arrivals of a program, and where no text of any goes on
-abbrev pub IsNoArrivals : List ℕ → Program → TextFault → Type 0
-IsNoArrivals bytes p (fault.Syntax place) = arriving.Refuses bytes p (fault.Syntax place) × StopsAt bytes p place
-IsNoArrivals bytes p found = arriving.Refuses bytes p found
 
 -- an Ada text is one of a program, and of no other, of which this unit is the first that is not run so far
 pub record IsUnbuilt (ada : List ℕ) (unit : Name) : Type 0 where
@@ -68,13 +69,11 @@ pub record IsUnbuilt (ada : List ℕ) (unit : Name) : Type 0 where
   pub alone : (p : Program) → Accepts ada p → p ≡ program
   pub first : first_unbuilt program.units ≡ Some unit
 
--- an Ada text is one of a program that is run, and of no other, and the arrivals text is none for it
-pub record IsAdaAlone (ada arrivals : List ℕ) (found : TextFault) : Type 0 where
+-- an Ada text says a program, and the arrivals text is none for it, for this reason
+pub record IsAdaAlone (ada arrivals : List ℕ) (found : ArrivalFault) : Type 0 where
   pub program : Program
-  pub accepts : Accepts ada program
-  pub sequential : IsSequentialProgram program
-  pub alone : (p : Program) → Accepts ada p → p ≡ program
-  pub none : IsNoArrivals arrivals program found
+  pub says : SaysProgram ada program
+  pub none : arriving.Refuses arrivals program found
 
 -- why two texts are not replayed: the Ada text is no text of a program, or its program breaks a rule, or it has a unit that is not run
 -- so far, or the arrivals text is none for it
@@ -84,21 +83,27 @@ RefusesReplay ada arrivals (refusal.Unit rule unit) = Breaks ada rule unit
 RefusesReplay ada arrivals (refusal.NotBuilt unit) = IsUnbuilt ada unit
 RefusesReplay ada arrivals (refusal.Arrivals found) = IsAdaAlone ada arrivals found
 
--- the line that tells it; where an arrivals text is none is not told
+-- the line that tells it
 abbrev pub replay_line : ReplayRefusal → List ℕ
 replay_line (refusal.Text found) = text_line Ada found
 replay_line (refusal.Unit rule unit) = unit_line rule unit
 replay_line (refusal.NotBuilt unit) = name_line (codes "refused N1 ") unit
-replay_line (refusal.Arrivals found) = codes "refused S1 arrivals\n"
+replay_line (refusal.Arrivals found) = arrivals_line found
 
 -- the program of an Ada text, or why there is none
-abbrev pub RunsAda : Result AdaProgram (Halt ReplayRefusal) → List ℕ → Type 0
-RunsAda (Ok p) ada = Accepts ada (program_of p) × IsSequentialProgram (program_of p)
-RunsAda (Err (halt.Refused (refusal.Text found))) ada = Faults ada found
-RunsAda (Err (halt.Refused (refusal.Unit rule unit))) ada = Breaks ada rule unit
-RunsAda (Err (halt.Refused (refusal.NotBuilt unit))) ada = IsUnbuilt ada unit
-RunsAda (Err (halt.Refused (refusal.Arrivals found))) ada = ⊥
-RunsAda (Err halt.NoMemory) ada = ⊤
+abbrev pub ReadsAda : Result AdaProgram (Halt ReplayRefusal) → List ℕ → Type 0
+ReadsAda (Ok p) ada = SaysProgram ada (program_of p)
+ReadsAda (Err (halt.Refused (refusal.Text found))) ada = Faults ada found
+ReadsAda (Err (halt.Refused (refusal.Unit rule unit))) ada = Breaks ada rule unit
+ReadsAda (Err (halt.Refused (refusal.NotBuilt unit))) ada = IsUnbuilt ada unit
+ReadsAda (Err (halt.Refused (refusal.Arrivals found))) ada = ⊥
+ReadsAda (Err halt.NoMemory) ada = ⊤
+
+-- the arrivals for a program, or why there are none, where an Ada text says the program
+abbrev pub ReadsArrivals : Result values.Arrivals (Halt ReplayRefusal) → List ℕ → List ℕ → Program → Type 0
+ReadsArrivals (Ok a) ada arrivals p = SaysArrivals arrivals p (arrivals_of a)
+ReadsArrivals (Err (halt.Refused refused)) ada arrivals p = SaysProgram ada p → RefusesReplay ada arrivals refused
+ReadsArrivals (Err halt.NoMemory) ada arrivals p = ⊤
 
 -- the verb
 abbrev pub replays : List ℕ → List ℕ → Verb

@@ -1,10 +1,10 @@
 ghost use Rattle.std.specs.Prelude.{◌≡◌};
 ghost use Rattle.hood_io.specs.Causes.{HasCause};
 ghost use Rattle.hood_io.specs.Sinks.{Puts};
-ghost use Rattle.hrthood_top.specs.Messages.{part_text, use_line, count_line, limit_text, rule_line, miss_line};
+ghost use Rattle.hrthood_top.specs.Messages.{part_text, use_line, limit_text, rule_line, miss_line};
 ghost use Rattle.ods_index.specs.declared.broken.Broken.TheVariants.{V09Calls, V10, V13, V14, V15Cost, V16};
 
-use crate::line::{put_each, put_named};
+use crate::line::{put_count, put_each, put_named};
 use crate::text_lines::body_text;
 use hood_io::{Failed, Sink, put_all};
 use itoa::Buffer;
@@ -31,18 +31,6 @@ fn part_text(part: &Option<Name>) -> &[u8]
         Some(op) => op.bytes(),
         None => b"thread",
     }
-}
-
-/// Writes a line of a code and one number; after a failure a proper front of it was written.
-fn put_count<E: Sink>(err: &mut E, code: &[u8], count: u32) -> Result<(), Failed>
-    ensures cause { HasCause (E.faults err.old) (E.faults err.new) result }
-    ensures puts { Puts (E.written err.old) (E.written err.new) (count_line code.now count) result }
-{
-    let mut number = Buffer::new();
-    put_each(
-        err,
-        &[code, number.format(count).as_bytes(), b"\n".as_slice()],
-    )
 }
 
 /// Writes a line of a code, an object and an operation of another; after a failure a proper front of it was written.

@@ -1,21 +1,36 @@
 ghost use Rattle.std.specs.Prelude.{◌≡◌, List, ℕ};
-ghost use Rattle.hrthood_top.specs.Writing.{WritesText, Finishes, TellsStop};
+ghost use Rattle.hrthood_top.specs.Writing.{Finishes, TellsHalt, TellsStop, TellsWritten};
 
 use crate::fetch::Stop;
 use crate::halt::Halt;
 use crate::line::{Line, tell};
 use crate::message::Message;
 use crate::status::Status;
-use hood_io::{Sink, put_all};
+use hood_io::{Failed, Sink, put_all};
 
-/// Writes a text, or tells that it could not be written whole.
-fn write_text<O: Sink, E: Sink>(out: &mut O, err: &mut E, text: &[u8]) -> Status
-    ensures { WritesText result text.now (O.written out.old) (O.written out.new) (O.faults out.old) (O.faults out.new)
-        (E.written err.old) (E.written err.new) (E.faults err.old) (E.faults err.new) }
+/// Tells why a verb made nothing.
+pub(crate) fn tell_halt<R: Line + Drop, E: Sink>(err: &mut E, why: Halt<R>) -> Status
+    ensures { TellsHalt R.line why result (E.written err.old) (E.written err.new) (E.faults err.old) (E.faults err.new) }
 {
-    match put_all(out, text) {
+    match why {
+        Halt::Refused(refusal) => {
+            tell(err, &refusal);
+            Status::Refused
+        }
+        Halt::NoMemory => {
+            tell(err, &Message::NoMemory);
+            Status::NoMemory
+        }
+    }
+}
+
+/// Tells where a text could not be written whole.
+pub(crate) fn tell_written<E: Sink>(err: &mut E, written: Result<(), Failed>) -> Status
+    ensures { TellsWritten written result (E.written err.old) (E.written err.new) (E.faults err.old) (E.faults err.new) }
+{
+    match written {
         Ok(()) => Status::Done,
-        Err(_) => {
+        Err(Failed) => {
             tell(err, &Message::WriteFault);
             Status::WriteFault
         }
@@ -32,15 +47,8 @@ pub(crate) fn finish<R: Line + Drop, O: Sink, E: Sink>(
         (E.written err.old) (E.written err.new) (E.faults err.old) (E.faults err.new) }
 {
     match made {
-        Ok(text) => write_text(out, err, &text),
-        Err(Halt::Refused(refusal)) => {
-            tell(err, &refusal);
-            Status::Refused
-        }
-        Err(Halt::NoMemory) => {
-            tell(err, &Message::NoMemory);
-            Status::NoMemory
-        }
+        Ok(text) => tell_written(err, put_all(out, &text)),
+        Err(why) => tell_halt(err, why),
     }
 }
 

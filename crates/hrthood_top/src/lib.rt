@@ -8,6 +8,7 @@
 
 mod ada_lines;
 mod analyse;
+mod arrival_lines;
 mod check;
 mod command_words;
 mod design_lines;
@@ -19,6 +20,7 @@ mod generate;
 mod halt;
 mod line;
 mod message;
+mod page;
 mod refusals;
 mod replay;
 mod report;

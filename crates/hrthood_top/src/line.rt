@@ -1,10 +1,11 @@
 ghost use Rattle.std.specs.Prelude.{◌++◌, List, ℕ};
 ghost use Rattle.hood_io.specs.Causes.{HasCause};
 ghost use Rattle.hood_io.specs.Sinks.{Puts};
-ghost use Rattle.hrthood_top.specs.Messages.{joined};
+ghost use Rattle.hrthood_top.specs.Messages.{joined, count_line};
 ghost use Rattle.hrthood_top.specs.Tells.{Tells};
 
 use hood_io::{Failed, Sink, put_all};
+use itoa::Buffer;
 use seq_tree::Name;
 
 /// What is told in one line.
@@ -50,4 +51,16 @@ pub(crate) fn put_named<E: Sink>(
     ensures puts { Puts (E.written err.old) (E.written err.new) (before.now ++ (name.now ++ behind.now)) result }
 {
     put_each(err, &[before, name.bytes(), behind])
+}
+
+/// Writes a line of a code and one number; after a failure a proper front of it was written.
+pub(crate) fn put_count<E: Sink>(err: &mut E, code: &[u8], count: u32) -> Result<(), Failed>
+    ensures cause { HasCause (E.faults err.old) (E.faults err.new) result }
+    ensures puts { Puts (E.written err.old) (E.written err.new) (count_line code.now count) result }
+{
+    let mut number = Buffer::new();
+    put_each(
+        err,
+        &[code, number.format(count).as_bytes(), b"\n".as_slice()],
+    )
 }

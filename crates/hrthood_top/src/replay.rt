@@ -1,28 +1,30 @@
 ghost use Rattle.std.specs.Prelude.{◌≡◌, List, ℕ, IfOk, map};
 ghost use Rattle.hood_io.specs.Causes.{HasCause};
 ghost use Rattle.hood_io.specs.Sinks.{Puts};
-ghost use Rattle.ada_tree.specs.Programs.{Program};
-ghost use Rattle.ada_tree.specs.Reading.{Accepts};
-ghost use Rattle.ada_tree.specs.InUse.{first_unbuilt, is_sequential};
+ghost use Rattle.ada_tree.specs.InUse.{first_unbuilt, is_run};
+ghost use Rattle.ada_tree.specs.Rules.{MeetsRules};
 ghost use Rattle.ada_tree.specs.Trees.{program_of, unit_of};
 ghost use Rattle.hrthood_top.specs.Ends.{EndsVerb, outside};
-ghost use Rattle.hrthood_top.specs.Replays.{replays, replay_line, Replays, RefusesReplay, RunsAda};
-ghost use Rattle.hrthood_top.specs.Writing.{IsMade};
+ghost use Rattle.hrthood_top.specs.Replays.{replays, replay_line, Replays, RefusesReplay, ReadsAda, ReadsArrivals};
+ghost use Rattle.hrthood_top.specs.Writing.{Streams};
 
 use crate::ada_lines::put_unit;
+use crate::arrival_lines::put_arrivals;
 use crate::fetch::{File, fetch_files};
 use crate::file_kind::FileKind;
-use crate::finish::{finish, tell_stop};
+use crate::finish::{tell_halt, tell_stop, tell_written};
 use crate::halt::Halt;
 use crate::line::{Line, put_named};
 use crate::status::Status;
 use crate::text_lines::put_fault;
-use crate::trace::trace_text;
+use crate::trace::put_trace;
 use ada_read::{AdaFault, read_ada};
 use ada_rules::AdaRule;
 use ada_tree::{AdaProgram, Form, Unit};
 use arrivals_read::{ArrivalFault, read_arrivals};
-use hood_io::{Failed, Shelf, Sink, put_all};
+use arrivals_tree::Arrivals;
+use ceil_runtime::Machine;
+use hood_io::{Failed, Shelf, Sink};
 use seq_tree::{Name, NoMemory, TextFault};
 use std::alloc::Global;
 
@@ -43,8 +45,8 @@ pub enum ReplayRefusal {
         /// The unit.
         unit: Name,
     },
-    /// The arrivals text is none for the program, for this reason and at this place.
-    Arrivals(TextFault),
+    /// The arrivals text is none for the program, for this reason; never for want of memory.
+    Arrivals(ArrivalFault),
 }
 
 impl Line for ReplayRefusal {
@@ -58,20 +60,20 @@ impl Line for ReplayRefusal {
             ReplayRefusal::Text(fault) => put_fault(err, FileKind::Ada, *fault),
             ReplayRefusal::Unit { rule, unit } => put_unit(err, *rule, unit),
             ReplayRefusal::NotBuilt { unit } => put_named(err, b"refused N1 ", unit, b"\n"),
-            ReplayRefusal::Arrivals(_) => put_all(err, b"refused S1 arrivals\n"),
+            ReplayRefusal::Arrivals(fault) => put_arrivals(err, fault),
         }
     }
 }
 
 /// Whether a unit is of a form that is run so far.
 fn is_built(unit: &Unit) -> bool
-    ensures { result ≡ is_sequential (unit_of unit.now).form }
+    ensures { result ≡ is_run (unit_of unit.now).form }
 {
     match &unit.form {
         Form::Passive { .. } => true,
         Form::Shared { .. } => false,
         Form::Cyclic { .. } => true,
-        Form::Sporadic { .. } => false,
+        Form::Sporadic { external, .. } => *external,
     }
 }
 
@@ -88,9 +90,9 @@ fn first_unbuilt(alloc: Global, units: &[Unit]) -> Result<Option<Name>, NoMemory
 }
 
 /// The program of an Ada text, where it is run.
-fn run_program(alloc: Global, ada: &[u8]) -> Result<AdaProgram, Halt<ReplayRefusal>>
-    ensures says { RunsAda result ada.now }
-    ensures only { (p : Program) → Accepts ada.now p → IfOk result (λ q. program_of q ≡ p) }
+fn read_program(alloc: Global, ada: &[u8]) -> Result<AdaProgram, Halt<ReplayRefusal>>
+    ensures says { ReadsAda result ada.now }
+    ensures meets { IfOk result (λ p. MeetsRules (program_of p)) }
 {
     match read_ada(alloc, ada) {
         Ok(program) => match first_unbuilt(alloc, &program.units) {
@@ -106,21 +108,46 @@ fn run_program(alloc: Global, ada: &[u8]) -> Result<AdaProgram, Halt<ReplayRefus
     }
 }
 
-/// What a replay of these two texts writes.
-fn replay_text(alloc: Global, ada: &[u8], arrivals: &[u8]) -> Result<Vec<u8>, Halt<ReplayRefusal>>
-    ensures { IsMade (λ v. v.items) (Replays ada.now arrivals.now) (RefusesReplay ada.now arrivals.now) result }
+/// What an arrivals text says of a program that an Ada text says.
+fn read_under(
+    alloc: Global,
+    arrivals: &[u8],
+    program: &AdaProgram,
+) -> Result<Arrivals, Halt<ReplayRefusal>>
+    requires { MeetsRules (program_of program.now) }
+    ensures { (ada : List ℕ) → ReadsArrivals result ada arrivals.now (program_of program.now) }
 {
-    let program = run_program(alloc, ada)?;
-    let under = match read_arrivals(alloc, arrivals, &program) {
-        Ok(under) => under,
-        Err(ArrivalFault::Text(fault)) => {
-            return Err(Halt::Refused(ReplayRefusal::Arrivals(fault)));
-        }
-        Err(ArrivalFault::NoMemory) => return Err(Halt::NoMemory),
+    match read_arrivals(alloc, arrivals, program) {
+        Ok(under) => Ok(under),
+        Err(ArrivalFault::NoMemory) => Err(Halt::NoMemory),
+        Err(fault) => Err(Halt::Refused(ReplayRefusal::Arrivals(fault))),
+    }
+}
+
+/// Replays an Ada text under an arrivals text: nothing is written before both are read and the run can begin, and then each line as
+/// its event comes.
+fn replay_texts<O: Sink, E: Sink>(
+    alloc: Global,
+    ada: &[u8],
+    arrivals: &[u8],
+    out: &mut O,
+    err: &mut E,
+) -> Status
+    ensures { Streams (Replays ada.now arrivals.now) (RefusesReplay ada.now arrivals.now) replay_line result
+        (O.written out.old) (O.written out.new) (O.faults out.old) (O.faults out.new)
+        (E.written err.old) (E.written err.new) (E.faults err.old) (E.faults err.new) }
+{
+    let program = match read_program(alloc, ada) {
+        Ok(program) => program,
+        Err(why) => return tell_halt(err, why),
     };
-    match trace_text(alloc, &program, &under) {
-        Ok(text) => Ok(text),
-        Err(NoMemory) => Err(Halt::NoMemory),
+    let under = match read_under(alloc, arrivals, &program) {
+        Ok(under) => under,
+        Err(why) => return tell_halt(err, why),
+    };
+    match Machine::new(alloc, &program, &under) {
+        Ok(machine) => tell_written(err, put_trace(&program, machine, out)),
+        Err(NoMemory) => tell_halt(err, Halt::<ReplayRefusal>::NoMemory),
     }
 }
 
@@ -148,7 +175,7 @@ pub(crate) fn replay<F: Shelf, O: Sink, E: Sink>(
         },
     ];
     match fetch_files(alloc, shelf, &files) {
-        Ok(texts) => finish(out, err, replay_text(alloc, &texts.ada, &texts.arrivals)),
+        Ok(texts) => replay_texts(alloc, &texts.ada, &texts.arrivals, out, err),
         Err(stop) => tell_stop(err, stop),
     }
 }

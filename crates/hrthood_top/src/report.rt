@@ -1,10 +1,11 @@
 ghost use Rattle.std.specs.Prelude.{◌≡◌, ◌++◌, IfOk, OnOk};
 ghost use Rattle.hrthood_top.specs.Analyses.{bound_line, ceiling_line, demands, findings, labelled, report};
 
-use design_bounds::{CeilingRow, NamedBound};
+use design_bounds::CeilingRow;
 use itoa::Buffer;
 use seq_tree::NoMemory;
 use std::alloc::Global;
+use trace_text::NamedBound;
 
 /// Adds a word and a number.
 fn add_number(text: &mut Vec<u8>, label: &[u8], number: u32) -> Result<(), NoMemory>

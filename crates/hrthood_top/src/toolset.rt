@@ -41,8 +41,8 @@ fn run_command<F: Shelf, O: Sink, E: Sink>(
 }
 
 /// All that the program does, for the words after its name: it fetches the files of the words in their order,
-/// and writes to `out` only when everything but the writing has succeeded. `err` gets one line where the answer
-/// isn't `Done`.
+/// and writes to `out` only when everything but the writing has succeeded. A replay writes while it runs, once the run
+/// can begin, and takes no memory from then on. `err` gets one line where the answer isn't `Done`.
 #[tactic(auto, using(crate::proofs::Completing::completed))]
 pub fn run<F: Shelf, O: Sink, E: Sink>(
     alloc: Global,

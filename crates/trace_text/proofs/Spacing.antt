@@ -17,3 +17,5 @@ spaced-append (x ∷ xs) ys = ap (λ t. 32 ∷ (x ++ t)) (spaced-append xs ys) �
 pub ruleset spaced_steps = (spaced-append, append_assoc)
 
 pub ruleset joined_steps = (joined, append_assoc)
+
+pub ruleset append_steps = (append_assoc)

@@ -1,8 +1,7 @@
-//! Each token of an Ada text, and of a design, cut, doubled and replaced.
+//! Each token of an Ada text, of a design and of an arrivals file, cut, doubled and replaced.
 
-use super::cases::run_design;
-use super::rows::{Outcome, run_words};
-use hood_io::MemShelf;
+use super::rows::{Outcome, number, replay_under, row_text, run_design};
+use super::texts::ada_text;
 use hrthood_top::Status;
 use std::test::Fail;
 
@@ -78,9 +77,18 @@ const DESIGN: &str =
 /// What `check` tells of that design.
 const DESIGN_TAKEN: &str = "ok d objects 5 threads 2\n";
 
+/// The tokens of an arrivals file, a space behind each.
+const ARRIVALS: &str = "UNTIL 20 ; WORK a 1 , 2 ; AT 6 s 7 ; ";
+
+/// What a replay of a task with a sporadic unit tells under them. The first activation of `a` takes one tick of its statement and that of
+/// its end, the second two and one; that of `s`, which goes before it, takes four and one.
+const ARRIVALS_TRACE: &str =
+    "0 release a\n2 end a used 2\n6 arrive s 7\n6 release s 7\n10 release a\n11 end s used 5\n14 end a used 3\n\
+    20 release a\n20 horizon\n";
+
 /// What is done to one token.
 #[derive(Clone, Copy, Debug, PartialEq, Eq)]
-enum Change {
+pub enum Change {
     Cut,
     Doubled,
     /// A semicolon stands in its place.
@@ -117,472 +125,139 @@ fn changed_text(
     Ok(text)
 }
 
-/// A changed token and the line of the fault, where the fault isn't told at the first token that differs.
-#[derive(Clone, Copy)]
-struct Late {
-    change: Change,
-    place: usize,
-    line: usize,
-}
-
-/// The exceptions of the Ada text, by the places of the tokens from 0.
-const ADA_LATE: &[Late] = &[
-    Late {
-        change: Change::Cut,
-        place: 144,
-        line: 146,
-    },
-    Late {
-        change: Change::Replaced,
-        place: 134,
-        line: 136,
-    },
-    Late {
-        change: Change::Replaced,
-        place: 144,
-        line: 146,
-    },
-    Late {
-        change: Change::Cut,
-        place: 198,
-        line: 200,
-    },
-    Late {
-        change: Change::Cut,
-        place: 201,
-        line: 205,
-    },
-    Late {
-        change: Change::Cut,
-        place: 205,
-        line: 208,
-    },
-    Late {
-        change: Change::Doubled,
-        place: 201,
-        line: 210,
-    },
-    Late {
-        change: Change::Replaced,
-        place: 206,
-        line: 208,
-    },
-    Late {
-        change: Change::Cut,
-        place: 209,
-        line: 211,
-    },
-    Late {
-        change: Change::Cut,
-        place: 223,
-        line: 225,
-    },
-    Late {
-        change: Change::Cut,
-        place: 226,
-        line: 228,
-    },
-    Late {
-        change: Change::Cut,
-        place: 280,
-        line: 282,
-    },
-    Late {
-        change: Change::Replaced,
-        place: 292,
-        line: 294,
-    },
-    Late {
-        change: Change::Doubled,
-        place: 296,
-        line: 303,
-    },
-];
+/// The exceptions of the Ada text, where the fault isn't told at the first token that differs: what is done, the place of the token
+/// from 0, and the line of the fault.
+const ADA_LATE: &str = "cut 144 146
+    replaced 134 136
+    replaced 144 146
+    cut 198 200
+    cut 201 205
+    cut 205 208
+    doubled 201 210
+    replaced 206 208
+    cut 209 211
+    cut 223 225
+    cut 226 228
+    cut 280 282
+    replaced 292 294
+    doubled 296 303";
 
 /// The exceptions of the text with units of every kind.
-const UNITS_LATE: &[Late] = &[
-    Late {
-        change: Change::Cut,
-        place: 148,
-        line: 150,
-    },
-    Late {
-        change: Change::Cut,
-        place: 162,
-        line: 164,
-    },
-    Late {
-        change: Change::Cut,
-        place: 410,
-        line: 412,
-    },
-    Late {
-        change: Change::Cut,
-        place: 439,
-        line: 441,
-    },
-    Late {
-        change: Change::Cut,
-        place: 444,
-        line: 446,
-    },
-    Late {
-        change: Change::Cut,
-        place: 467,
-        line: 469,
-    },
-    Late {
-        change: Change::Cut,
-        place: 474,
-        line: 476,
-    },
-    Late {
-        change: Change::Cut,
-        place: 753,
-        line: 755,
-    },
-    Late {
-        change: Change::Doubled,
-        place: 558,
-        line: 563,
-    },
-    Late {
-        change: Change::Doubled,
-        place: 650,
-        line: 654,
-    },
-    Late {
-        change: Change::Doubled,
-        place: 712,
-        line: 717,
-    },
-    Late {
-        change: Change::Doubled,
-        place: 719,
-        line: 724,
-    },
-    Late {
-        change: Change::Doubled,
-        place: 749,
-        line: 754,
-    },
-    Late {
-        change: Change::Replaced,
-        place: 143,
-        line: 145,
-    },
-    Late {
-        change: Change::Replaced,
-        place: 148,
-        line: 150,
-    },
-    Late {
-        change: Change::Replaced,
-        place: 152,
-        line: 154,
-    },
-    Late {
-        change: Change::Replaced,
-        place: 162,
-        line: 164,
-    },
-    Late {
-        change: Change::Replaced,
-        place: 222,
-        line: 224,
-    },
-    Late {
-        change: Change::Replaced,
-        place: 405,
-        line: 407,
-    },
-    Late {
-        change: Change::Replaced,
-        place: 410,
-        line: 412,
-    },
-    Late {
-        change: Change::Replaced,
-        place: 471,
-        line: 474,
-    },
-    Late {
-        change: Change::Replaced,
-        place: 650,
-        line: 652,
-    },
-    Late {
-        change: Change::Replaced,
-        place: 712,
-        line: 714,
-    },
-    Late {
-        change: Change::Replaced,
-        place: 719,
-        line: 721,
-    },
-];
+const UNITS_LATE: &str = "cut 148 150
+    cut 162 164
+    cut 410 412
+    cut 439 441
+    cut 444 446
+    cut 467 469
+    cut 474 476
+    cut 753 755
+    doubled 558 563
+    doubled 650 654
+    doubled 712 717
+    doubled 719 724
+    doubled 749 754
+    replaced 143 145
+    replaced 148 150
+    replaced 152 154
+    replaced 162 164
+    replaced 222 224
+    replaced 405 407
+    replaced 410 412
+    replaced 471 474
+    replaced 650 652
+    replaced 712 714
+    replaced 719 721";
 
 /// The exceptions of the design. A word that is kept nowhere, as `version`, is a name where one may stand.
-const DESIGN_LATE: &[Late] = &[
-    Late {
-        change: Change::Cut,
-        place: 1,
-        line: 3,
-    },
-    Late {
-        change: Change::Cut,
-        place: 61,
-        line: 63,
-    },
-    Late {
-        change: Change::Cut,
-        place: 89,
-        line: 91,
-    },
-    Late {
-        change: Change::Cut,
-        place: 96,
-        line: 98,
-    },
-    Late {
-        change: Change::Cut,
-        place: 106,
-        line: 108,
-    },
-    Late {
-        change: Change::Cut,
-        place: 118,
-        line: 120,
-    },
-    Late {
-        change: Change::Cut,
-        place: 131,
-        line: 133,
-    },
-    Late {
-        change: Change::Cut,
-        place: 134,
-        line: 136,
-    },
-    Late {
-        change: Change::Cut,
-        place: 159,
-        line: 163,
-    },
-    Late {
-        change: Change::Cut,
-        place: 163,
-        line: 166,
-    },
-    Late {
-        change: Change::Cut,
-        place: 187,
-        line: 189,
-    },
-    Late {
-        change: Change::Cut,
-        place: 194,
-        line: 196,
-    },
-    Late {
-        change: Change::Cut,
-        place: 197,
-        line: 199,
-    },
-    Late {
-        change: Change::Cut,
-        place: 202,
-        line: 204,
-    },
-    Late {
-        change: Change::Cut,
-        place: 224,
-        line: 226,
-    },
-    Late {
-        change: Change::Cut,
-        place: 226,
-        line: 228,
-    },
-    Late {
-        change: Change::Cut,
-        place: 235,
-        line: 237,
-    },
-    Late {
-        change: Change::Cut,
-        place: 242,
-        line: 244,
-    },
-    Late {
-        change: Change::Cut,
-        place: 288,
-        line: 290,
-    },
-    Late {
-        change: Change::Cut,
-        place: 294,
-        line: 296,
-    },
-    Late {
-        change: Change::Doubled,
-        place: 0,
-        line: 3,
-    },
-    Late {
-        change: Change::Doubled,
-        place: 47,
-        line: 50,
-    },
-    Late {
-        change: Change::Doubled,
-        place: 62,
-        line: 65,
-    },
-    Late {
-        change: Change::Doubled,
-        place: 100,
-        line: 104,
-    },
-    Late {
-        change: Change::Doubled,
-        place: 114,
-        line: 119,
-    },
-    Late {
-        change: Change::Doubled,
-        place: 124,
-        line: 129,
-    },
-    Late {
-        change: Change::Doubled,
-        place: 159,
-        line: 168,
-    },
-    Late {
-        change: Change::Doubled,
-        place: 173,
-        line: 176,
-    },
-    Late {
-        change: Change::Doubled,
-        place: 208,
-        line: 211,
-    },
-    Late {
-        change: Change::Doubled,
-        place: 248,
-        line: 251,
-    },
-    Late {
-        change: Change::Doubled,
-        place: 277,
-        line: 282,
-    },
-    Late {
-        change: Change::Doubled,
-        place: 289,
-        line: 292,
-    },
-    Late {
-        change: Change::Replaced,
-        place: 53,
-        line: 56,
-    },
-    Late {
-        change: Change::Replaced,
-        place: 58,
-        line: 61,
-    },
-    Late {
-        change: Change::Replaced,
-        place: 59,
-        line: 61,
-    },
-    Late {
-        change: Change::Replaced,
-        place: 70,
-        line: 72,
-    },
-    Late {
-        change: Change::Replaced,
-        place: 100,
-        line: 102,
-    },
-    Late {
-        change: Change::Replaced,
-        place: 114,
-        line: 117,
-    },
-    Late {
-        change: Change::Replaced,
-        place: 146,
-        line: 148,
-    },
-    Late {
-        change: Change::Replaced,
-        place: 164,
-        line: 166,
-    },
-    Late {
-        change: Change::Replaced,
-        place: 179,
-        line: 182,
-    },
-    Late {
-        change: Change::Replaced,
-        place: 184,
-        line: 187,
-    },
-    Late {
-        change: Change::Replaced,
-        place: 185,
-        line: 187,
-    },
-    Late {
-        change: Change::Replaced,
-        place: 214,
-        line: 217,
-    },
-    Late {
-        change: Change::Replaced,
-        place: 224,
-        line: 226,
-    },
-    Late {
-        change: Change::Replaced,
-        place: 239,
-        line: 242,
-    },
-    Late {
-        change: Change::Replaced,
-        place: 267,
-        line: 270,
-    },
-    Late {
-        change: Change::Replaced,
-        place: 272,
-        line: 275,
-    },
-    Late {
-        change: Change::Replaced,
-        place: 273,
-        line: 275,
-    },
-];
+const DESIGN_LATE: &str = "cut 1 3
+    cut 61 63
+    cut 89 91
+    cut 96 98
+    cut 106 108
+    cut 118 120
+    cut 131 133
+    cut 134 136
+    cut 159 163
+    cut 163 166
+    cut 187 189
+    cut 194 196
+    cut 197 199
+    cut 202 204
+    cut 224 226
+    cut 226 228
+    cut 235 237
+    cut 242 244
+    cut 288 290
+    cut 294 296
+    doubled 0 3
+    doubled 47 50
+    doubled 62 65
+    doubled 100 104
+    doubled 114 119
+    doubled 124 129
+    doubled 159 168
+    doubled 173 176
+    doubled 208 211
+    doubled 248 251
+    doubled 277 282
+    doubled 289 292
+    replaced 53 56
+    replaced 58 61
+    replaced 59 61
+    replaced 70 72
+    replaced 100 102
+    replaced 114 117
+    replaced 146 148
+    replaced 164 166
+    replaced 179 182
+    replaced 184 187
+    replaced 185 187
+    replaced 214 217
+    replaced 224 226
+    replaced 239 242
+    replaced 267 270
+    replaced 272 275
+    replaced 273 275";
+
+/// The exceptions of the arrivals file. A second `work` is the name of a task, and a semicolon may end an item early.
+const ARRIVALS_LATE: &str = "doubled 3 6
+    replaced 6 8
+    replaced 12 14";
+
+/// The word for a change in a list of exceptions.
+fn word_of(change: Change) -> &'static str {
+    match change {
+        Change::Cut => "cut",
+        Change::Doubled => "doubled",
+        Change::Replaced => "replaced",
+    }
+}
+
+/// The line of the fault of a changed token in a list of exceptions, where it has one.
+pub fn exception(late: &str, change: Change, place: usize) -> Option<usize> {
+    for row in late.lines() {
+        let mut words = row.split_whitespace();
+        if words.next() == Some(word_of(change)) && words.next().map(number) == Some(place) {
+            return words.next().map(number);
+        }
+    }
+    None
+}
 
 /// The line of the fault of a changed token, where a text has these exceptions.
-fn line_of_fault(late: &[Late], change: Change, place: usize) -> usize {
-    for it in late {
-        if it.change == change && it.place == place {
-            return it.line;
-        }
+fn line_of_fault(late: &str, change: Change, place: usize) -> usize {
+    if let Some(line) = exception(late, change, place) {
+        return line;
     }
     match change {
         Change::Cut | Change::Replaced => place.saturating_add(1),
         Change::Doubled => place.saturating_add(2),
     }
+}
+
+/// The line of the fault of a changed token of the design, where it is a design no more.
+pub fn line_of_design_fault(change: Change, place: usize) -> usize {
+    line_of_fault(DESIGN_LATE, change, place)
 }
 
 /// What is told of a text: the status, standard output and standard error.
@@ -661,17 +336,27 @@ fn told_of_design(
         (Change::Cut, 273) => return Ok(refused(String::from_str(rt.alloc(), "refused V04 s\n")?)),
         _ => {}
     }
-    let line = line_of_fault(DESIGN_LATE, change, place);
+    let line = line_of_design_fault(change, place);
     let err = format!(in rt.alloc(); "refused S1 design line {line} column 1\n")?;
     Ok(refused(err))
 }
 
-/// Replays an Ada text up to tick 20.
-fn replay_up_to_20(rt: &HostRuntime, ada: &[u8]) -> Result<Outcome, Fail> {
-    let mut shelf = MemShelf::new(rt.alloc(), &[])?;
-    shelf.put("a.ada", ada)?;
-    shelf.put("r", b"UNTIL 20;")?;
-    run_words(rt, &["replay", "a.ada", "r"], &mut shelf, 1000)
+/// What is told of the arrivals file with a token changed. Without its value the request is one still, which its task does not take.
+fn told_of_arrivals(
+    rt: &HostRuntime,
+    change: Change,
+    place: usize,
+    is_same: bool,
+) -> Result<Told, Fail> {
+    if is_same {
+        return Ok(taken(rt, ARRIVALS_TRACE));
+    }
+    if change == Change::Cut && place == 12 {
+        return Ok(refused(String::from_str(rt.alloc(), "refused Q5 line 10\n")?));
+    }
+    let line = line_of_fault(ARRIVALS_LATE, change, place);
+    let err = format!(in rt.alloc(); "refused S1 arrivals line {line} column 1\n")?;
+    Ok(refused(err))
 }
 
 #[test]
@@ -681,7 +366,7 @@ fn each_token_of_an_ada_text_changed(rt: HostRuntime) -> Result<(), Fail> {
         for place in 0_usize..331 {
             let text = changed_text(&rt, ADA, change, place)?;
             let told = told_of_ada(&rt, change, place, text == whole)?;
-            let Outcome { status, out, err } = replay_up_to_20(&rt, &text)?;
+            let Outcome { status, out, err } = replay_under(&rt, &text, b"UNTIL 20;")?;
             assert_eq!(rt; status, told.status, "{place}");
             assert_eq!(rt; out.bytes(), told.out.as_bytes(), "{place}");
             assert_eq!(rt; err.bytes(), told.err.as_bytes(), "{place}");
@@ -698,7 +383,7 @@ fn each_token_of_units_of_every_kind_changed(rt: HostRuntime) -> Result<(), Fail
         for place in 127_usize..774 {
             let text = changed_text(&rt, UNITS, change, place)?;
             let told = told_of_units(&rt, change, place, text == whole)?;
-            let Outcome { status, out, err } = replay_up_to_20(&rt, &text)?;
+            let Outcome { status, out, err } = replay_under(&rt, &text, b"UNTIL 20;")?;
             assert_eq!(rt; status, told.status, "{place}");
             assert_eq!(rt; out.bytes(), told.out.as_bytes(), "{place}");
             assert_eq!(rt; err.bytes(), told.err.as_bytes(), "{place}");
@@ -715,6 +400,23 @@ fn each_token_of_a_design_changed(rt: HostRuntime) -> Result<(), Fail> {
             let text = changed_text(&rt, DESIGN, change, place)?;
             let told = told_of_design(&rt, change, place, text == whole)?;
             let Outcome { status, out, err } = run_design(&rt, "check", &text)?;
+            assert_eq!(rt; status, told.status, "{place}");
+            assert_eq!(rt; out.bytes(), told.out.as_bytes(), "{place}");
+            assert_eq!(rt; err.bytes(), told.err.as_bytes(), "{place}");
+        }
+    }
+    Ok(())
+}
+
+#[test]
+fn each_token_of_arrivals_changed(rt: HostRuntime) -> Result<(), Fail> {
+    let ada = ada_text(&rt, &row_text(&rt, "like: requested", "")?)?;
+    let whole = changed_text(&rt, ARRIVALS, Change::Cut, 14)?;
+    for change in [Change::Cut, Change::Doubled, Change::Replaced] {
+        for place in 0_usize..14 {
+            let text = changed_text(&rt, ARRIVALS, change, place)?;
+            let told = told_of_arrivals(&rt, change, place, text == whole)?;
+            let Outcome { status, out, err } = replay_under(&rt, &ada, &text)?;
             assert_eq!(rt; status, told.status, "{place}");
             assert_eq!(rt; out.bytes(), told.out.as_bytes(), "{place}");
             assert_eq!(rt; err.bytes(), told.err.as_bytes(), "{place}");

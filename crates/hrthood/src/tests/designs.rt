@@ -1,240 +1,120 @@
 //! Texts of designs, and designs that are refused.
 
-use super::rows::{NO_COMMAND, ONE_TASK, Out, Row, Source};
-use super::texts::{OBJECT, Object, TASK, Task};
-use hrthood_top::Status;
+use super::rows::run_table;
+use std::test::Fail;
 
-/// The text of the design of this task.
-const ONE_TEXT: Row = Row {
-    name: "the text of one cyclic object",
-    words: &["generate", "d"],
-    out: Out::Ada(TASK),
-    ..ONE_TASK
-};
+/// What rows of designs of which a text is made have.
+const MADE: &str = "words: generate d
+    status: done";
 
-/// A design that is refused.
-const REFUSED_DESIGN: Row = Row {
-    status: Status::Refused,
-    out: Out::Bytes(""),
-    ..ONE_TEXT
-};
+/// What rows of designs that are refused have.
+const REFUSED: &str = "words: generate d
+    status: refused";
 
 /// Examples of `generate` by files and words.
-pub const TEXTS: &[Row] = &[
-    ONE_TEXT,
-    Row {
-        name: "a design at its limit",
-        design: Source::Padded(1_048_576),
-        ..ONE_TEXT
-    },
-    Row {
-        name: "an activation of its budget",
-        design: Source::Object(Object {
-            attributes: "PERIOD = 50; DEADLINE = 50; THREAD_BUDGET = 12;",
-            thread: "work (11);",
-            ..OBJECT
-        }),
-        out: Out::Ada(Task {
-            period: 50,
-            deadline: 50,
-            response: 12,
-            block: "work (11);",
-            ..TASK
-        }),
-        ..ONE_TEXT
-    },
-    Row {
-        name: "a full sink has the beginning of an Ada text",
-        room: 30,
-        status: Status::WriteFault,
-        out: Out::Bytes("-- design d\n-- thread a priori"),
-        err: "fault writing\n",
-        ..ONE_TEXT
-    },
-    Row {
-        name: "a design that can't be fetched",
-        fails: &[0],
-        status: Status::ReadFault,
-        out: Out::Bytes(""),
-        err: "fault reading d\n",
-        ..ONE_TEXT
-    },
-    Row {
-        name: "an absent design",
-        words: &["generate", "e"],
-        status: Status::ReadFault,
-        out: Out::Bytes(""),
-        err: "fault reading e\n",
-        ..ONE_TEXT
-    },
-    Row {
-        name: "a design is missing",
-        words: &["generate"],
-        ..NO_COMMAND
-    },
-    Row {
-        name: "a design that begins with a dash",
-        words: &["generate", "-d"],
-        ..NO_COMMAND
-    },
-    Row {
-        name: "a design too many",
-        words: &["generate", "d", "d"],
-        ..NO_COMMAND
-    },
+const TEXTS: &[&str] = &[
+    "name: the text of one cyclic object
+    told: ada",
+    "name: a design at its limit
+    design_len: 1048576
+    told: ada",
+    "name: an activation of its budget
+    attributes: PERIOD = 50; DEADLINE = 50; THREAD_BUDGET = 12;
+    thread: work (11);
+    period: 50
+    deadline: 50
+    response: 12
+    block: work (11);
+    told: ada",
+    "name: a full sink has the beginning of an Ada text
+    room: 30
+    status: write fault
+    told: ada
+    err: fault writing",
+    "name: a design that can't be fetched
+    fails: 0
+    status: read fault
+    err: fault reading d",
+    "name: an absent design
+    words: generate e
+    status: read fault
+    err: fault reading e",
+    "name: a design is missing
+    like: no command
+    words: generate",
+    "name: a design that begins with a dash
+    like: no command
+    words: generate -d",
+    "name: a design too many
+    like: no command
+    words: generate d d",
 ];
 
 /// Designs that are refused for their text, their attributes or their length.
-pub const REFUSED_SOURCES: &[Row] = &[
-    Row {
-        name: "a design over its limit",
-        design: Source::Padded(1_048_577),
-        err: "refused S3 design\n",
-        ..REFUSED_DESIGN
-    },
-    Row {
-        name: "an empty design",
-        design: Source::Bytes(""),
-        err: "refused S1 design line 1 column 1\n",
-        ..REFUSED_DESIGN
-    },
-    Row {
-        name: "the beginning of a design",
-        design: Source::Bytes("DESIGN d"),
-        err: "refused S1 design line 1 column 9\n",
-        ..REFUSED_DESIGN
-    },
-    Row {
-        name: "a period is missing",
-        design: Source::Object(Object {
-            attributes: "DEADLINE = 10; THREAD_BUDGET = 1000;",
-            ..OBJECT
-        }),
-        err: "refused V11 a\n",
-        ..REFUSED_DESIGN
-    },
-    Row {
-        name: "a period twice",
-        design: Source::Object(Object {
-            attributes: "PERIOD = 10; PERIOD = 10; DEADLINE = 10; THREAD_BUDGET = 1000;",
-            ..OBJECT
-        }),
-        err: "refused V11 a\n",
-        ..REFUSED_DESIGN
-    },
-    Row {
-        name: "a period of nothing",
-        design: Source::Object(Object {
-            attributes: "PERIOD = 0; DEADLINE = 10; THREAD_BUDGET = 1000;",
-            ..OBJECT
-        }),
-        err: "refused V11 a\n",
-        ..REFUSED_DESIGN
-    },
-    Row {
-        name: "a period that is too long",
-        design: Source::Object(Object {
-            attributes: "PERIOD = 1000000001; DEADLINE = 10; THREAD_BUDGET = 1000;",
-            ..OBJECT
-        }),
-        err: "refused V11 a\n",
-        ..REFUSED_DESIGN
-    },
-    Row {
-        name: "a deadline over the period",
-        design: Source::Object(Object {
-            attributes: "PERIOD = 10; DEADLINE = 11; THREAD_BUDGET = 1000;",
-            ..OBJECT
-        }),
-        err: "refused V11 a\n",
-        ..REFUSED_DESIGN
-    },
+const REFUSED_SOURCES: &[&str] = &[
+    "name: a design over its limit
+    design_len: 1048577
+    err: refused S3 design",
+    "name: an empty design
+    whole:
+    err: refused S1 design line 1 column 1",
+    "name: the beginning of a design
+    whole: DESIGN d
+    err: refused S1 design line 1 column 9",
+    "name: a period is missing
+    attributes: DEADLINE = 10; THREAD_BUDGET = 1000;
+    err: refused V11 a",
+    "name: a period twice
+    attributes: PERIOD = 10; PERIOD = 10; DEADLINE = 10; THREAD_BUDGET = 1000;
+    err: refused V11 a",
+    "name: a period of nothing
+    attributes: PERIOD = 0; DEADLINE = 10; THREAD_BUDGET = 1000;
+    err: refused V11 a",
+    "name: a period that is too long
+    attributes: PERIOD = 1000000001; DEADLINE = 10; THREAD_BUDGET = 1000;
+    err: refused V11 a",
+    "name: a deadline over the period
+    attributes: PERIOD = 10; DEADLINE = 11; THREAD_BUDGET = 1000;
+    err: refused V11 a",
 ];
 
 /// Designs of one object that are refused for a rule or a bound.
-pub const REFUSED_OBJECTS: &[Row] = &[
-    Row {
-        name: "an object with the design's name",
-        design: Source::Object(Object {
-            name: "D",
-            ..OBJECT
-        }),
-        err: "refused V01 d\n",
-        ..REFUSED_DESIGN
-    },
-    Row {
-        name: "an object with a reserved name",
-        design: Source::Object(Object {
-            name: "task",
-            ..OBJECT
-        }),
-        err: "refused V02 task\n",
-        ..REFUSED_DESIGN
-    },
-    Row {
-        name: "an object with a kept name",
-        design: Source::Object(Object {
-            name: "hrt_x",
-            ..OBJECT
-        }),
-        err: "refused V02 hrt_x\n",
-        ..REFUSED_DESIGN
-    },
-    Row {
-        name: "work of nothing",
-        design: Source::Object(Object {
-            thread: "work (0);",
-            ..OBJECT
-        }),
-        err: "refused V11 a\n",
-        ..REFUSED_DESIGN
-    },
-    Row {
-        name: "a cost of nothing",
-        design: Source::Object(Object {
-            cost: "0",
-            ..OBJECT
-        }),
-        err: "refused V11 costs\n",
-        ..REFUSED_DESIGN
-    },
-    Row {
-        name: "a cost that is too great",
-        design: Source::Object(Object {
-            cost: "1001",
-            ..OBJECT
-        }),
-        err: "refused V11 costs\n",
-        ..REFUSED_DESIGN
-    },
-    Row {
-        name: "an activation over its budget",
-        design: Source::Object(Object {
-            attributes: "PERIOD = 50; DEADLINE = 50; THREAD_BUDGET = 10;",
-            thread: "work (11);",
-            ..OBJECT
-        }),
-        err: "refused V14 a cost 12 budget 10\n",
-        ..REFUSED_DESIGN
-    },
-    Row {
-        name: "an activation that is too dear",
-        design: Source::Object(Object {
-            attributes: "PERIOD = 1000000000; DEADLINE = 1000000000; THREAD_BUDGET = 1000000000;",
-            thread: "work (1000000000);",
-            ..OBJECT
-        }),
-        err: "refused V15 cost a thread\n",
-        ..REFUSED_DESIGN
-    },
-    Row {
-        name: "a response over its deadline",
-        design: Source::Object(Object {
-            attributes: "PERIOD = 50; DEADLINE = 5; THREAD_BUDGET = 1000;",
-            thread: "work (5);",
-            ..OBJECT
-        }),
-        err: "refused U1 a value 6 limit 5 round 0\n",
-        ..REFUSED_DESIGN
-    },
+const REFUSED_OBJECTS: &[&str] = &[
+    "name: an object with the design's name
+    object: D
+    err: refused V01 d",
+    "name: an object with a reserved name
+    object: task
+    err: refused V02 task",
+    "name: an object with a kept name
+    object: hrt_x
+    err: refused V02 hrt_x",
+    "name: work of nothing
+    thread: work (0);
+    err: refused V11 a",
+    "name: a cost of nothing
+    null: 0
+    err: refused V11 costs",
+    "name: a cost that is too great
+    null: 1001
+    err: refused V11 costs",
+    "name: an activation over its budget
+    attributes: PERIOD = 50; DEADLINE = 50; THREAD_BUDGET = 10;
+    thread: work (11);
+    err: refused V14 a cost 12 budget 10",
+    "name: an activation that is too dear
+    attributes: PERIOD = 1000000000; DEADLINE = 1000000000; THREAD_BUDGET = 1000000000;
+    thread: work (1000000000);
+    err: refused V15 cost a thread",
+    "name: a response over its deadline
+    attributes: PERIOD = 50; DEADLINE = 5; THREAD_BUDGET = 1000;
+    thread: work (5);
+    err: refused U1 a value 6 limit 5 round 0",
 ];
+
+#[test]
+fn designs_are_written_or_refused(rt: HostRuntime) -> Result<(), Fail> {
+    run_table(&rt, &rt, MADE, TEXTS)?;
+    run_table(&rt, &rt, REFUSED, REFUSED_SOURCES)?;
+    run_table(&rt, &rt, REFUSED, REFUSED_OBJECTS)
+}

@@ -1,14 +1,13 @@
 //! Designs of every kind of object, and the Ada texts that are made of them.
 
-use super::cases::{Case, IN_MILLISECONDS, MINE, STARTED, run_case, run_design};
-use super::rows::{Outcome, run_words};
-use super::shapes::Shape;
+use super::rows::{Outcome, lines, row_text, run_design, run_row, run_table, run_words};
+use super::texts::MINE;
 use hood_io::MemShelf;
 use hrthood_top::Status;
 use std::test::Fail;
 
 /// A passive, a protected, a cyclic and a sporadic object.
-const EVERY_KIND: &str = "DESIGN d IS
+pub const EVERY_KIND: &str = "DESIGN d IS
 COSTS ASSIGN = 1; TEST = 1; TURN = 1; CALL = 2; NULL = 1; PUT = 1; FINISH = 1; END COSTS;
 OBJECT whole IS ACTIVE
 OBJECTS
@@ -39,7 +38,7 @@ END d;
 
 /// The text of its program. The request takes 2 ticks of the structure of `s`, which `s` can meet: it responds within 10. In the 8 ticks of
 /// `c` come the 8 of one activation of `s`, and `s` inherits those 16.
-const EVERY_KIND_TEXT: &str = "-- design d
+pub const EVERY_KIND_TEXT: &str = "-- design d
 -- thread s priority 2 jitter 16 response 10 deadline 50
 -- thread c priority 1 jitter 0 response 16 deadline 100
 pragma task_dispatching_policy (fifo_within_priorities);
@@ -162,7 +161,7 @@ end hrt_main;
 ";
 
 /// A text of a design in which the least priority is written as 31, and a tick takes half a millisecond.
-const IN_MILLISECONDS_TEXT: &str = "-- design d
+pub const IN_MILLISECONDS_TEXT: &str = "-- design d
 -- thread a priority 31 jitter 0 response 4 deadline 10
 pragma task_dispatching_policy (fifo_within_priorities);
 pragma locking_policy (ceiling_locking);
@@ -213,115 +212,74 @@ begin
 end hrt_main;
 ";
 
-/// A design of which a text is made.
-const MADE: Case = Case {
-    name: "a design of every kind of object",
-    verb: "generate",
-    design: Shape::Whole(EVERY_KIND),
-    status: Status::Done,
-    out: EVERY_KIND_TEXT,
-    err: "",
-};
-
-/// A design of which no text is made.
-const REFUSED: Case = Case {
-    status: Status::Refused,
-    out: "",
-    ..MADE
-};
+/// What rows of designs of which a text is made have.
+const MADE: &str = "words: generate d
+    status: done";
 
 /// Designs under `generate`.
-const GENERATED: &[Case] = &[
-    MADE,
-    Case {
-        name: "times with units and a range of priorities",
-        design: Shape::Two("TICK = 500 us; PRIORITIES 31 .. 60;", IN_MILLISECONDS),
-        out: IN_MILLISECONDS_TEXT,
-        ..MADE
-    },
-    Case {
-        name: "the rounds of the last of three threads",
-        design: Shape::Children(
-            "OBJECT a IS CYCLIC ATTRIBUTES PERIOD = 7; DEADLINE = 7; THREAD_BUDGET = 1000; THREAD work (2); END THREAD; END a; \
-             OBJECT b IS CYCLIC ATTRIBUTES PERIOD = 12; DEADLINE = 12; THREAD_BUDGET = 1000; THREAD work (2); END THREAD; END b; \
-             OBJECT c IS CYCLIC ATTRIBUTES PERIOD = 20; DEADLINE = 20; THREAD_BUDGET = 1000; THREAD work (5); END THREAD; END c;",
-        ),
-        err: "refused U1 c value 21 limit 20 round 3\n",
-        ..REFUSED
-    },
-    Case {
-        name: "jitter and response over the separation",
-        design: Shape::Root(
-            "OBJECT s IS SPORADIC ATTRIBUTES SEPARATION = 10; DEADLINE = 10; THREAD_BUDGET = 1000; ARRIVAL_JITTER = 6; \
-             PROVIDES start (v : in word) ASER; THREAD work (4); END THREAD; END s;",
-        ),
-        err: "refused U2 s value 11 limit 10 round 0\n",
-        ..REFUSED
-    },
-    Case {
-        name: "a text over its limit of a design of 650,000 bytes",
-        design: Shape::Linked(130_000),
-        err: "refused S3 text\n",
-        ..REFUSED
-    },
-    Case {
-        name: "a rule that is broken goes before bounds",
-        design: Shape::Root("OBJECT a IS ACTIVE END a;"),
-        err: "refused V12 a\n",
-        ..REFUSED
-    },
+const GENERATED: &[&str] = &[
+    "name: a design of every kind of object
+    whole: @every kind
+    told: every kind text",
+    "name: times with units and a range of priorities
+    head: TICK = 500 us; PRIORITIES 31 .. 60;
+    root: @milliseconds
+    told: milliseconds text",
+    "name: the rounds of the last of three threads
+    children: OBJECT a IS CYCLIC ATTRIBUTES PERIOD = 7; DEADLINE = 7; THREAD_BUDGET = 1000; THREAD work (2); END THREAD; END a; \
+        OBJECT b IS CYCLIC ATTRIBUTES PERIOD = 12; DEADLINE = 12; THREAD_BUDGET = 1000; THREAD work (2); END THREAD; END b; \
+        OBJECT c IS CYCLIC ATTRIBUTES PERIOD = 20; DEADLINE = 20; THREAD_BUDGET = 1000; THREAD work (5); END THREAD; END c;
+    status: refused
+    err: refused U1 c value 21 limit 20 round 3",
+    "name: jitter and response over the separation
+    root: OBJECT s IS SPORADIC ATTRIBUTES SEPARATION = 10; DEADLINE = 10; THREAD_BUDGET = 1000; ARRIVAL_JITTER = 6; \
+        PROVIDES start (v : in word) ASER; THREAD work (4); END THREAD; END s;
+    status: refused
+    err: refused U2 s value 11 limit 10 round 0",
+    "name: a text over its limit of a design of 650,000 bytes
+    linked: 130000
+    status: refused
+    err: refused S3 text",
+    "name: a rule that is broken goes before bounds
+    root: OBJECT a IS ACTIVE END a;
+    status: refused
+    err: refused V12 a",
 ];
 
 /// The heads of texts: the comments before the first line of the program.
-const HEADS: &[Case] = &[
-    Case {
-        name: "a thread that starts another",
-        design: Shape::Children(STARTED),
-        out: "-- design d
--- thread s priority 2 jitter 10 response 7 deadline 20
--- thread p priority 1 jitter 0 response 10 deadline 50
-pragma task_dispatching_policy (fifo_within_priorities);
-",
-        ..MADE
-    },
-    Case {
-        name: "the mine pump",
-        design: Shape::Whole(MINE),
-        out: "-- design mine
--- thread ch4_sensor priority 6 jitter 0 response 23 deadline 30
--- thread alarm_console priority 5 jitter 23 response 29 deadline 50
--- thread co_sensor priority 4 jitter 0 response 45 deadline 60
--- thread air_flow priority 3 jitter 0 response 55 deadline 100
--- thread water_handler priority 2 jitter 5 response 72 deadline 200
--- thread flow_sensor priority 1 jitter 0 response 128 deadline 900
-pragma task_dispatching_policy (fifo_within_priorities);
-",
-        ..MADE
-    },
+const HEADS: &[&str] = &[
+    "name: a thread that starts another
+    children: @started
+    out: -- design d
+    out: -- thread s priority 2 jitter 10 response 7 deadline 20
+    out: -- thread p priority 1 jitter 0 response 10 deadline 50
+    out: pragma task_dispatching_policy (fifo_within_priorities);",
+    "name: the mine pump
+    whole: @mine
+    out: -- design mine
+    out: -- thread ch4_sensor priority 6 jitter 0 response 23 deadline 30
+    out: -- thread alarm_console priority 5 jitter 23 response 29 deadline 50
+    out: -- thread co_sensor priority 4 jitter 0 response 45 deadline 60
+    out: -- thread air_flow priority 3 jitter 0 response 55 deadline 100
+    out: -- thread water_handler priority 2 jitter 5 response 72 deadline 200
+    out: -- thread flow_sensor priority 1 jitter 0 response 128 deadline 900
+    out: pragma task_dispatching_policy (fifo_within_priorities);",
 ];
 
 #[test]
 fn texts_of_designs(rt: HostRuntime) -> Result<(), Fail> {
-    for case in GENERATED {
-        let Outcome { status, out, err } = run_case(&rt, case)?;
-        assert_eq!(rt; status, case.status, "{}", case.name);
-        assert_eq!(rt; out.bytes(), case.out.as_bytes(), "{}", case.name);
-        assert_eq!(rt; err.bytes(), case.err.as_bytes(), "{}", case.name);
-    }
-    Ok(())
+    run_table(&rt, &rt, MADE, GENERATED)
 }
 
 #[test]
 fn heads_of_texts_of_designs(rt: HostRuntime) -> Result<(), Fail> {
-    for case in HEADS {
-        let Outcome { status, out, err } = run_case(&rt, case)?;
-        assert_eq!(rt; status, case.status, "{}", case.name);
-        assert!(rt;
-            out.bytes().starts_with(case.out.as_bytes()),
-            "{}",
-            case.name
-        );
-        assert_eq!(rt; err.bytes(), case.err.as_bytes(), "{}", case.name);
+    for given in HEADS {
+        let row = row_text(&rt, given, MADE)?;
+        let Outcome { status, out, err } = run_row(&rt, &row)?;
+        let head = lines(&rt, &row, "out")?;
+        assert_eq!(rt; status, Status::Done, "{given}");
+        assert!(rt; out.bytes().starts_with(&head), "{given}");
+        assert_eq!(rt; err.bytes(), b"".as_slice(), "{given}");
     }
     Ok(())
 }

@@ -1,108 +1,105 @@
-//! A worked example as a row: what `run` is given, and what it must answer and write.
+//! Tables of worked examples: what `run` is given, and what it must answer and write.
+//!
+//! A table is a list of rows, and a row is a text: lines of a key, a colon, a space and a value. So a table is one constant of bytes for
+//! the prover, whatever its rows say, and costs it next to nothing; rows that were structs took a second and more each.
+//!
+//! | Key | What it says | Where a row has none |
+//! |---|---|---|
+//! | `name` | what the row shows | |
+//! | `like` | the rows' part whose keys the row has too (`texts.rt`) | none |
+//! | `words` | the words of the command line, `''` for the empty one | those of the table |
+//! | `fails` | the place of the fetch that fails, from 0 | none fails |
+//! | `room` | the room of standard output in bytes | 100,000 |
+//! | `r` | a line of the file `r`; a row may have several, with a line feed between them | `arrivals` |
+//! | `arrivals`, `arrivals_len` | the file `r`, and its length, with spaces behind a text that is shorter | those of the table |
+//! | `status` | how the run ends | that of the table |
+//! | `out`, `err` | a line of standard output, and of standard error; a row may have several | nothing is written |
+//! | `told` | the text of standard output by its name, where it stands elsewhere; `ada` is that of the row's task | |
+//!
+//! `shapes.rt` has the keys of the design, which is the file `d`, and `texts.rt` those of the Ada text, which is `a.ada`. Of `out` and
+//! `told` so much is wanted as there is room for.
 
-use super::texts::{OBJECT, Object, TASK, Task, ada_text, design_text, padded};
+use super::shapes::design_bytes;
+use super::texts::{USUAL, ada_bytes, ada_text, joined, named, padded};
 use hood_io::{MemShelf, MemSink};
 use hrthood_top::{Status, run};
+use std::process::Abort;
 use std::test::Fail;
 
-/// The design of a row.
-#[derive(Clone, Copy)]
-pub enum Source {
-    Object(Object),
-    /// The design of one object with spaces behind it, up to so many bytes.
-    Padded(usize),
-    /// These bytes.
-    Bytes(&'static str),
-}
-
-fn design_bytes(rt: &HostRuntime, source: Source) -> Result<Vec<u8>, Fail> {
-    match source {
-        Source::Object(object) => design_text(rt, object),
-        Source::Padded(len) => padded(rt, &design_text(rt, OBJECT)?, len),
-        Source::Bytes(text) => Ok(text.as_bytes().to_vec(rt.alloc())?),
-    }
-}
-
-/// The Ada text of a row.
-#[derive(Clone, Copy)]
-pub enum Ada {
-    /// The text with this task.
-    Task(Task),
-    /// The text of task `a` without its last token.
-    Cut,
-    /// The text of task `a` with spaces behind it, up to so many bytes.
-    Padded(usize),
-    /// No byte.
-    Empty,
-    /// These bytes.
-    Bytes(&'static str),
-}
-
-fn ada_bytes(rt: &HostRuntime, ada: Ada) -> Result<Vec<u8>, Fail> {
-    match ada {
-        Ada::Task(task) => ada_text(rt, task),
-        Ada::Cut => {
-            let text = ada_text(rt, TASK)?;
-            padded(rt, &text, text.len().saturating_sub(2))
+/// The value of a key in a row: what stands behind the key on its first line, if it has one.
+pub fn value<'a>(row: &'a str, key: &str) -> Option<&'a str> {
+    for line in row.lines() {
+        if let Some((name, text)) = line.split_once(':') {
+            if name.trim_start() == key {
+                return Some(text.strip_prefix(' ').unwrap_or(text));
+            }
         }
-        Ada::Padded(len) => padded(rt, &ada_text(rt, TASK)?, len),
-        Ada::Empty => Ok(Vec::new(rt.alloc())),
-        Ada::Bytes(text) => Ok(text.as_bytes().to_vec(rt.alloc())?),
+    }
+    None
+}
+
+/// The value of a key, or the text that it names behind an `@`; empty where the row has no such key.
+pub fn text<'a>(row: &'a str, key: &str) -> &'a str {
+    let found = value(row, key).unwrap_or("");
+    match found.strip_prefix('@') {
+        Some(name) => named(name),
+        None => found,
     }
 }
 
-/// What a row writes.
-#[derive(Clone, Copy)]
-pub enum Out {
-    /// These bytes.
-    Bytes(&'static str),
-    /// The Ada text with this task.
-    Ada(Task),
+/// The number that these digits write.
+pub fn number(digits: &str) -> usize {
+    let mut sum = 0_usize;
+    for digit in digits.as_bytes() {
+        let digit = usize::from(digit.wrapping_sub(b'0'));
+        sum = sum.saturating_mul(10).saturating_add(digit);
+    }
+    sum
 }
 
-pub fn out_bytes(rt: &HostRuntime, out: Out) -> Result<Vec<u8>, Fail> {
-    match out {
-        Out::Bytes(text) => Ok(text.as_bytes().to_vec(rt.alloc())?),
-        Out::Ada(task) => ada_text(rt, task),
+/// The text with spaces behind it, up to the length that the key has, if it is longer.
+pub fn lengthened(rt: &HostRuntime, text: &[u8], row: &str, key: &str) -> Result<Vec<u8>, Fail> {
+    let len = number(value(row, key).unwrap_or(""));
+    padded(rt, text, len.max(text.len()))
+}
+
+/// The lines of a key, each with a line feed behind it.
+pub fn lines(rt: &HostRuntime, row: &str, key: &str) -> Result<Vec<u8>, Fail> {
+    let mut all = Vec::new(rt.alloc());
+    for line in row.lines() {
+        if let Some((name, text)) = line.split_once(':') {
+            if name.trim_start() == key {
+                let text = text.strip_prefix(' ').unwrap_or(text);
+                all.extend_from_slice(text.as_bytes())?;
+                all.push(b'\n')?;
+            }
+        }
+    }
+    Ok(all)
+}
+
+/// The bytes of a row's file `r`.
+fn arrivals_bytes(rt: &HostRuntime, row: &str) -> Result<Vec<u8>, Fail> {
+    let mut arrivals = lines(rt, row, "r")?;
+    let _ = arrivals.pop();
+    if arrivals.is_empty() {
+        arrivals.extend_from_slice(text(row, "arrivals").as_bytes())?;
+    }
+    lengthened(rt, &arrivals, row, "arrivals_len")
+}
+
+/// The part of rows that a row is like.
+fn part<'x>(given: &'x str) -> &'x str {
+    match value(given, "like") {
+        Some(name) => named(name),
+        None => "",
     }
 }
 
-/// A worked example: what `run` is given, and what it must answer and write.
-#[derive(Clone, Copy)]
-pub struct Row {
-    pub name: &'static str,
-    pub words: &'static [&'static str],
-    pub design: Source,
-    pub ada: Ada,
-    pub arrivals: &'static str,
-    /// The length of the arrivals file, with spaces behind a text that is shorter.
-    pub arrivals_len: usize,
-    /// The places of fetches that fail.
-    pub fails: &'static [u64],
-    /// The room of standard output.
-    pub room: usize,
-    pub status: Status,
-    pub out: Out,
-    pub err: &'static str,
+/// A row of a table whose rows have these keys too, where they don't say otherwise.
+pub fn row_text<'x>(rt: &HostRuntime, given: &'x str, usual: &'x str) -> Result<String, Fail> {
+    joined(rt, &[given, "\n", part(given), "\n", usual, "\n", USUAL])
 }
-
-/// The first worked example: a cyclic task of period 10 whose activations take 4 ticks.
-pub const ONE_TASK: Row = Row {
-    name: "one cyclic task",
-    words: &["replay", "a.ada", "r"],
-    design: Source::Object(OBJECT),
-    ada: Ada::Task(TASK),
-    arrivals: "UNTIL 20;",
-    arrivals_len: 0,
-    fails: &[],
-    room: 10_000,
-    status: Status::Done,
-    out: Out::Bytes(TRACE),
-    err: "",
-};
-
-const TRACE: &str =
-    "0 release a\n4 end a used 4\n10 release a\n14 end a used 4\n20 release a\n20 horizon\n";
 
 pub fn words(rt: &HostRuntime, words: &[&str]) -> Result<Vec<String>, Fail> {
     let mut all = Vec::new(rt.alloc());
@@ -112,7 +109,18 @@ pub fn words(rt: &HostRuntime, words: &[&str]) -> Result<Vec<String>, Fail> {
     Ok(all)
 }
 
+/// The words of a command line, apart from each other by spaces.
+fn line_words(rt: &HostRuntime, line: &str) -> Result<Vec<String>, Fail> {
+    let mut all = Vec::new(rt.alloc());
+    for word in line.split_whitespace() {
+        let word = if word == "''" { "" } else { word };
+        all.push(String::from_str(rt.alloc(), word)?)?;
+    }
+    Ok(all)
+}
+
 /// What a run answers and writes.
+#[derive(Drop)]
 pub struct Outcome {
     pub status: Status,
     pub out: MemSink,
@@ -120,45 +128,117 @@ pub struct Outcome {
 }
 
 /// Runs words over a shelf, with so much room in standard output.
+fn run_over(
+    rt: &HostRuntime,
+    words: &[String],
+    shelf: &mut MemShelf,
+    room: usize,
+) -> Result<Outcome, Fail> {
+    let mut out = MemSink::new(rt.alloc(), room)?;
+    let mut err = MemSink::new(rt.alloc(), 1000)?;
+    let status = run(rt.alloc(), words, shelf, &mut out, &mut err);
+    Ok(Outcome { status, out, err })
+}
+
+/// Runs these words over a shelf, with so much room in standard output.
 pub fn run_words(
     rt: &HostRuntime,
     line: &[&str],
     shelf: &mut MemShelf,
     room: usize,
 ) -> Result<Outcome, Fail> {
-    let mut out = MemSink::new(rt.alloc(), room)?;
-    let mut err = MemSink::new(rt.alloc(), 1000)?;
     let words = words(rt, line)?;
-    let status = run(rt.alloc(), &words, shelf, &mut out, &mut err);
-    Ok(Outcome { status, out, err })
+    run_over(rt, &words, shelf, room)
+}
+
+/// What a verb does with the bytes of a design.
+pub fn run_design(rt: &HostRuntime, verb: &str, design: &[u8]) -> Result<Outcome, Fail> {
+    let mut shelf = MemShelf::new(rt.alloc(), &[])?;
+    shelf.put("d", design)?;
+    run_words(rt, &[verb, "d"], &mut shelf, 100_000)
+}
+
+/// Replays an Ada text under an arrivals file.
+pub fn replay_under(rt: &HostRuntime, ada: &[u8], arrivals: &[u8]) -> Result<Outcome, Fail> {
+    let mut shelf = MemShelf::new(rt.alloc(), &[])?;
+    shelf.put("a.ada", ada)?;
+    shelf.put("r", arrivals)?;
+    run_words(rt, &["replay", "a.ada", "r"], &mut shelf, 1000)
+}
+
+/// An empty shelf, on which the fetch that a row names fails.
+fn shelf_of(rt: &HostRuntime, row: &str) -> Result<MemShelf, Fail> {
+    Ok(match value(row, "fails") {
+        Some(place) => MemShelf::new(rt.alloc(), &[number(place) as u64])?,
+        None => MemShelf::new(rt.alloc(), &[])?,
+    })
 }
 
 /// Runs a row.
-pub fn run_row(rt: &HostRuntime, row: &Row) -> Result<Outcome, Fail> {
-    let mut shelf = MemShelf::new(rt.alloc(), row.fails)?;
-    shelf.put("d", &design_bytes(rt, row.design)?)?;
-    shelf.put("a.ada", &ada_bytes(rt, row.ada)?)?;
-    let arrivals = row.arrivals.as_bytes();
-    let arrivals = padded(rt, arrivals, row.arrivals_len.max(arrivals.len()))?;
-    shelf.put("r", &arrivals)?;
-    run_words(rt, row.words, &mut shelf, row.room)
+pub fn run_row(rt: &HostRuntime, row: &str) -> Result<Outcome, Fail> {
+    let mut shelf = shelf_of(rt, row)?;
+    shelf.put("d", &design_bytes(rt, row)?)?;
+    shelf.put("a.ada", &ada_bytes(rt, row)?)?;
+    shelf.put("r", &arrivals_bytes(rt, row)?)?;
+    let words = line_words(rt, text(row, "words"))?;
+    run_over(rt, &words, &mut shelf, number(text(row, "room")))
 }
 
-/// The line for words that are no command.
-const USAGE: &str =
-    "usage: hrthood check D | analyse D | format D | generate D | replay A R | verify D R | sample N\n";
+/// The word for a status in a row.
+fn word_of(status: Status) -> &'static str {
+    match status {
+        Status::Done => "done",
+        Status::Refused => "refused",
+        Status::Usage => "usage",
+        Status::ReadFault => "read fault",
+        Status::WriteFault => "write fault",
+        Status::NoMemory => "no memory",
+    }
+}
 
-/// Words that are no command.
-pub const NO_COMMAND: Row = Row {
-    status: Status::Usage,
-    out: Out::Bytes(""),
-    err: USAGE,
-    ..ONE_TASK
-};
+/// What a row wants in standard output.
+fn wanted_out(rt: &HostRuntime, row: &str) -> Result<Vec<u8>, Fail> {
+    let mut out = match value(row, "told") {
+        None => lines(rt, row, "out")?,
+        Some("ada") => ada_text(rt, row)?,
+        Some(name) => named(name).as_bytes().to_vec(rt.alloc())?,
+    };
+    out.truncate(number(text(row, "room")));
+    Ok(out)
+}
 
-/// A replay that is refused.
-pub const REFUSED_TASK: Row = Row {
-    status: Status::Refused,
-    out: Out::Bytes(""),
-    ..ONE_TASK
-};
+/// Looks at what a run wrote to standard output for a row.
+fn check_out(rt: &impl Abort, host: &HostRuntime, row: &str, out: &[u8]) -> Result<(), Fail> {
+    let wanted = wanted_out(host, row)?;
+    assert_eq!(rt; out, wanted.as_slice(), "{row}");
+    Ok(())
+}
+
+/// Looks at what a run wrote to standard error for a row.
+fn check_err(rt: &impl Abort, host: &HostRuntime, row: &str, err: &[u8]) -> Result<(), Fail> {
+    let wanted = lines(host, row, "err")?;
+    assert_eq!(rt; err, wanted.as_slice(), "{row}");
+    Ok(())
+}
+
+/// Runs a row, and looks at all that is told of it.
+fn check_row(rt: &impl Abort, host: &HostRuntime, row: &str) -> Result<(), Fail> {
+    let Outcome { status, out, err } = run_row(host, row)?;
+    assert_eq!(rt; word_of(status), text(row, "status"), "{row}");
+    check_out(rt, host, row, out.bytes())?;
+    check_err(rt, host, row, err.bytes())
+}
+
+/// Runs each row of a table, whose rows have these keys too, and looks at all that is told of it.
+pub fn run_table(
+    rt: &impl Abort,
+    host: &HostRuntime,
+    usual: &str,
+    table: &[&str],
+) -> Result<(), Fail> {
+    for given in table {
+        let row = row_text(host, given, usual)?;
+        check_row(rt, host, &row)?;
+    }
+    Ok(())
+}

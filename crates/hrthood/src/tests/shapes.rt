@@ -1,96 +1,104 @@
 //! Designs of examples, from the texts of their objects.
+//!
+//! | Key | The design |
+//! |---|---|
+//! | `whole` | these bytes |
+//! | `root` | this object alone |
+//! | `children` | these objects, in an active one |
+//! | `head` | beside `root`: of version 2, with this between its version and its costs |
+//! | `parenthesised` | of an object whose thread assigns a number in so many parentheses, on a line of its own |
+//! | `sum` | of an object whose thread assigns a sum of so many operators, on a line of its own |
+//! | `doubling` | of passive objects of which each calls the next one twice, up to this many |
+//! | `linked` | of a cyclic object that calls, so many times, an operation whose link leads to names of 64 bytes |
+//! | none of these | of one cyclic object, with `object`, `attributes`, `thread` and the cost of `null;` in `null` |
+//! | `design_len` | beside any: with spaces behind it, up to so many bytes |
 
-use super::texts::padded;
+use super::rows::{lengthened, number, text, value};
+use super::texts::joined;
 use std::test::Fail;
-
-/// A design, by what differs from others.
-#[derive(Clone, Copy)]
-pub enum Shape {
-    /// These bytes.
-    Whole(&'static str),
-    /// This object alone.
-    Root(&'static str),
-    /// These objects, in an active one.
-    Children(&'static str),
-    /// A design of version 2, with what stands between its version and its costs, and its object.
-    Two(&'static str, &'static str),
-    /// An object whose thread assigns a number in so many parentheses, on a line of its own.
-    Parenthesised(usize),
-    /// An object whose thread assigns a sum of so many operators, on a line of its own.
-    Sum(usize),
-    /// Passive objects of which each calls the next one twice, up to this many.
-    Doubling(u32),
-    /// One cyclic object with spaces behind it, up to so many bytes.
-    Padded(usize),
-    /// A cyclic object that calls, so many times, an operation whose link leads to names of 64 bytes.
-    Linked(usize),
-}
-
-/// One cyclic object that works for 3 ticks.
-pub const CYCLIC: &str =
-    "OBJECT a IS CYCLIC ATTRIBUTES PERIOD = 10; DEADLINE = 10; THREAD_BUDGET = 1000; \
-     THREAD work (3); END THREAD; END a;";
 
 const COSTS: &str =
     "COSTS ASSIGN = 1; TEST = 1; TURN = 1; CALL = 2; NULL = 1; PUT = 1; FINISH = 1; END COSTS;";
 
 /// The text of the design `d` with this between its name and its costs, and this root.
-fn design(rt: &HostRuntime, head: &str, root: &str) -> Result<Vec<u8>, Fail> {
-    let text = format!(in rt.alloc(); "DESIGN d {head} {COSTS}\n{root}\nEND d;\n")?;
-    Ok(text.as_bytes().to_vec(rt.alloc())?)
+fn design<'x>(rt: &HostRuntime, head: &'x str, root: &'x str) -> Result<String, Fail> {
+    joined(
+        rt,
+        &["DESIGN d ", head, " ", COSTS, "\n", root, "\nEND d;\n"],
+    )
 }
 
 /// The text of a design whose thread has one assignment, on line 4.
-fn assigning(rt: &HostRuntime, value: &[u8]) -> Result<Vec<u8>, Fail> {
-    let mut text = design(
+fn assigning(rt: &HostRuntime, value: &str) -> Result<String, Fail> {
+    joined(
         rt,
-        "IS",
-        "OBJECT a IS CYCLIC ATTRIBUTES PERIOD = 10; DEADLINE = 10; THREAD_BUDGET = 1000;\nDATA x : word := 0; THREAD\n",
-    )?;
-    let head = text.len().saturating_sub(8);
-    text.truncate(head);
-    text.extend_from_slice(b"x := ")?;
-    text.extend_from_slice(value)?;
-    text.extend_from_slice(b";\nEND THREAD; END a;\nEND d;\n")?;
-    Ok(text)
+        &[
+            "DESIGN d IS ",
+            COSTS,
+            "\nOBJECT a IS CYCLIC ATTRIBUTES PERIOD = 10; DEADLINE = 10; THREAD_BUDGET = 1000;\n\
+            DATA x : word := 0; THREAD\nx := ",
+            value,
+            ";\nEND THREAD; END a;\nEND d;\n",
+        ],
+    )
 }
 
-/// The piece so many times.
-fn repeated(into: &mut Vec<u8>, piece: &[u8], times: usize) -> Result<(), Fail> {
+/// The piece so many times, behind what stands there.
+fn repeated(into: &mut String, piece: &str, times: usize) -> Result<(), Fail> {
     for _ in 0..times {
-        into.extend_from_slice(piece)?;
+        into.push_str(piece)?;
     }
     Ok(())
 }
 
-fn parenthesised(rt: &HostRuntime, times: usize) -> Result<Vec<u8>, Fail> {
-    let mut value = Vec::new(rt.alloc());
-    repeated(&mut value, b"(", times)?;
-    value.push(b'1')?;
-    repeated(&mut value, b")", times)?;
+fn parenthesised(rt: &HostRuntime, times: usize) -> Result<String, Fail> {
+    let mut value = String::new(rt.alloc());
+    repeated(&mut value, "(", times)?;
+    value.push_str("1")?;
+    repeated(&mut value, ")", times)?;
     assigning(rt, &value)
 }
 
-fn sum(rt: &HostRuntime, operators: usize) -> Result<Vec<u8>, Fail> {
-    let mut value = Vec::new(rt.alloc());
-    value.push(b'1')?;
-    repeated(&mut value, b" + 1", operators)?;
+fn sum(rt: &HostRuntime, operators: usize) -> Result<String, Fail> {
+    let mut value = String::from_str(rt.alloc(), "1")?;
+    repeated(&mut value, " + 1", operators)?;
     assigning(rt, &value)
 }
 
-fn doubling(rt: &HostRuntime, count: u32) -> Result<Vec<u8>, Fail> {
+fn doubling(rt: &HostRuntime, count: usize) -> Result<String, Fail> {
     let mut root = String::from_str(rt.alloc(), "OBJECT r IS ACTIVE OBJECTS ")?;
     for k in 1..count {
+        let this = format!(in rt.alloc(); "{k}")?;
         let next = k.saturating_add(1);
-        let object = format!(in rt.alloc();
-            "OBJECT p{k} IS PASSIVE PROVIDES f; REQUIRES p{next}.f; OPERATION f IS BEGIN p{next}.f; p{next}.f; END f; END p{k}; "
-        )?;
-        root.push_str(&object)?;
+        let next = format!(in rt.alloc(); "{next}")?;
+        root.push_str(&joined(
+            rt,
+            &[
+                "OBJECT p",
+                &this,
+                " IS PASSIVE PROVIDES f; REQUIRES p",
+                &next,
+                ".f; OPERATION f IS BEGIN p",
+                &next,
+                ".f; p",
+                &next,
+                ".f; END f; END p",
+                &this,
+                "; ",
+            ],
+        )?)?;
     }
-    let last = format!(in rt.alloc();
-        "OBJECT p{count} IS PASSIVE PROVIDES f; OPERATION f IS BEGIN null; END f; END p{count}; END r;"
-    )?;
-    root.push_str(&last)?;
+    let last = format!(in rt.alloc(); "{count}")?;
+    root.push_str(&joined(
+        rt,
+        &[
+            "OBJECT p",
+            &last,
+            " IS PASSIVE PROVIDES f; OPERATION f IS BEGIN null; END f; END p",
+            &last,
+            "; END r;",
+        ],
+    )?)?;
     design(rt, "IS", &root)
 }
 
@@ -104,32 +112,75 @@ const LINKED: &str = "OBJECT r IS ACTIVE OBJECTS OBJECT a IS ACTIVE PROVIDES f P
      END a; OBJECT c IS CYCLIC ATTRIBUTES PERIOD = 1000000; DEADLINE = 1000000; THREAD_BUDGET = 1000000; \
      REQUIRES a.f; THREAD ";
 
-fn linked(rt: &HostRuntime, calls: usize) -> Result<Vec<u8>, Fail> {
+fn linked(rt: &HostRuntime, calls: usize) -> Result<String, Fail> {
     let mut root = String::from_str(rt.alloc(), LINKED)?;
-    for _ in 0..calls {
-        root.push_str("a.f; ")?;
-    }
+    repeated(&mut root, "a.f; ", calls)?;
     root.push_str("END THREAD; END c; END r;")?;
     design(rt, "IS", &root)
 }
 
-/// The bytes of a design.
-pub fn shape_bytes(rt: &HostRuntime, shape: Shape) -> Result<Vec<u8>, Fail> {
-    match shape {
-        Shape::Whole(text) => Ok(text.as_bytes().to_vec(rt.alloc())?),
-        Shape::Root(object) => design(rt, "IS", object),
-        Shape::Children(objects) => {
-            let root = format!(in rt.alloc(); "OBJECT r IS ACTIVE OBJECTS {objects} END r;")?;
-            design(rt, "IS", &root)
-        }
-        Shape::Two(head, object) => {
-            let version = format!(in rt.alloc(); "VERSION 2 IS {head}")?;
-            design(rt, &version, object)
-        }
-        Shape::Parenthesised(times) => parenthesised(rt, times),
-        Shape::Sum(operators) => sum(rt, operators),
-        Shape::Doubling(count) => doubling(rt, count),
-        Shape::Padded(len) => padded(rt, &design(rt, "IS", CYCLIC)?, len),
-        Shape::Linked(calls) => linked(rt, calls),
+/// The text of a design of one cyclic object.
+fn one_object(rt: &HostRuntime, row: &str) -> Result<String, Fail> {
+    let name = text(row, "object");
+    joined(
+        rt,
+        &[
+            "DESIGN d IS\nCOSTS ASSIGN = 1; TEST = 1; TURN = 1; CALL = 2; NULL = ",
+            text(row, "null"),
+            "; PUT = 1; FINISH = 1; END COSTS;\nOBJECT ",
+            name,
+            " IS CYCLIC\nATTRIBUTES ",
+            text(row, "attributes"),
+            "\nTHREAD ",
+            text(row, "thread"),
+            " END THREAD;\nEND ",
+            name,
+            ";\nEND d;\n",
+        ],
+    )
+}
+
+/// The text of a design that is made by a count, or else of one object.
+fn counted(rt: &HostRuntime, row: &str) -> Result<String, Fail> {
+    if let Some(times) = value(row, "parenthesised") {
+        return parenthesised(rt, number(times));
     }
+    if let Some(operators) = value(row, "sum") {
+        return sum(rt, number(operators));
+    }
+    if let Some(count) = value(row, "doubling") {
+        return doubling(rt, number(count));
+    }
+    match value(row, "linked") {
+        Some(calls) => linked(rt, number(calls)),
+        None => one_object(rt, row),
+    }
+}
+
+/// The text of a row's design, without spaces behind it.
+fn shape_text(rt: &HostRuntime, row: &str) -> Result<String, Fail> {
+    if value(row, "whole").is_some() {
+        return Ok(String::from_str(rt.alloc(), text(row, "whole"))?);
+    }
+    if value(row, "children").is_some() {
+        let objects = text(row, "children");
+        let root = joined(rt, &["OBJECT r IS ACTIVE OBJECTS ", objects, " END r;"])?;
+        return design(rt, "IS", &root);
+    }
+    if value(row, "root").is_none() {
+        return counted(rt, row);
+    }
+    match value(row, "head") {
+        Some(head) => {
+            let head = joined(rt, &["VERSION 2 IS ", head])?;
+            design(rt, &head, text(row, "root"))
+        }
+        None => design(rt, "IS", text(row, "root")),
+    }
+}
+
+/// The bytes of a row's design.
+pub fn design_bytes(rt: &HostRuntime, row: &str) -> Result<Vec<u8>, Fail> {
+    let text = shape_text(rt, row)?;
+    lengthened(rt, text.as_bytes(), row, "design_len")
 }

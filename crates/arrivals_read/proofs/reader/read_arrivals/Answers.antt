@@ -1,25 +1,28 @@
-use Rattle.std.proofs.Common.{◌≡◌, arith, refl, ◌∙◌}
+use Rattle.std.proofs.Common.{◌≡◌, Ok, Err, ap, sym, ◌∙◌, arith}
+use Rattle.grammar.specs.Reading.{Syntax, whole_at}
+use Rattle.ada_tree.specs.Trees.{program_of}
+use Rattle.token_read.specs.Words.{bare}
 use Rattle.seq_read.specs.Places.{place_at}
-use Rattle.arrivals_read.proofs.HorizonLaws.{horizon-answered, horizon-stops, one-said, nothing-said}
+use Rattle.arrivals_read.specs.Readers.{arrivals_at}
+use Rattle.arrivals_read.specs.Texts.{text_of}
+use Rattle.arrivals_read.proofs.Reaching.{arrivals-found, arrivals-faulty}
+use Rattle.arrivals_read.proofs.Refusals.{says-only}
 use Rattle.arrivals_read.proofs.reader.read_arrivals.Goals as goal
 
-pub returns-in-Ok-clause-says : goal.returns-in-Ok-clause-says
-returns-in-Ok-clause-says c =
-    horizon-answered _ _ _ c.in-Ok.until c.alone.result (omega arith) c.in_ok-tokens.ensures (rw c.deref.ensures.value at c.in-Ok.ensures) c.alone.ensures
+pub accepted-requires-clause-spelled : goal.accepted-requires-clause-spelled
+accepted-requires-clause-spelled c =
+    ap bare c.deref-in-Ok-whole.ensures.value ∙ arrivals-found (bare c.in-Ok.found.items) (text_of c.in-Ok-whole.text) (rw c.deref.ensures.value at c.in-Ok-whole.ensures)
 
-pub returns-in-Ok-clause-only : goal.returns-in-Ok-clause-only
-returns-in-Ok-clause-only c =
-    λ a usable said. c.alone.ensures ∙ one-said _ _ _ c.in-Ok.until a c.in_ok-tokens.ensures (rw c.deref.ensures.value at c.in-Ok.ensures) usable said
+pub returns-in-Ok-whole-clause-only : goal.returns-in-Ok-whole-clause-only
+returns-in-Ok-whole-clause-only c = λ a arrives.
+    says-only c.args.bytes.now (program_of c.args.program.now) c.accepted.result
+    (c.accepted.ensures c.args.bytes.now (omega (arith, c.if-bytes-gt-TEXT_LIMIT.false)) (c.in-Ok.ensures ∙ ap Ok (sym c.deref-in-Ok-whole.ensures.value))) a arrives
 
-pub returns-in-Err-Syntax-clause-says : goal.returns-in-Err-Syntax-clause-says
-returns-in-Err-Syntax-clause-says c =
-    (omega arith, rw c.in_ok-tokens.ensures refl, nothing-said _ _ _ c.in-Err-Syntax.left c.in_ok-tokens.ensures (rw (c.in-Err-Syntax.field-0-is, c.deref.ensures.value) at c.in-Err-Syntax.ensures))
-
-pub returns-in-Err-Syntax-clause-first : goal.returns-in-Err-Syntax-clause-first
-returns-in-Err-Syntax-clause-first c place e =
-    let fails = rw (c.in-Err-Syntax.field-0-is, c.deref.ensures.value) at c.in-Err-Syntax.ensures in
+pub returns-clause-says : goal.returns-clause-says
+returns-clause-says c =
     let taken = c.in-Err-Syntax.field-0-is in
     let listed = c.deref-in-Err-Syntax.ensures.value in
-    let told = c.place_of.ensures in
-    let here : place ≡ place_at c.args.bytes.now c.in_ok-tokens.tokens.items c.in-Err-Syntax.left = cc in
-    horizon-stops _ _ _ c.in-Err-Syntax.left place c.in_ok-tokens.ensures fails here
+    let told = c.place_of-place.ensures in
+    let here : c.place_of-place.result ≡ place_at c.args.bytes.now c.in-Ok.found.items c.in-Err-Syntax.left = cc in
+    let fails : whole_at arrivals_at (bare c.in-Ok.found.items) ≡ Err (Syntax c.in-Err-Syntax.left) = rw (c.in-Err-Syntax.field-0-is, c.deref.ensures.value) at c.in-Err-Syntax.ensures in
+    arrivals-faulty c.args.bytes.now c.in-Ok.found.items c.in-Err-Syntax.left c.place_of-place.result (omega (arith, c.if-bytes-gt-TEXT_LIMIT.false)) c.in-Ok.ensures fails here

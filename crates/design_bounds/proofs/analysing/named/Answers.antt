@@ -2,7 +2,7 @@ use Rattle.std.proofs.Common.{◌≡◌, List, IfOk, ap, subst, ◌∙◌}
 use Rattle.ods_tree.specs.Trees.{flat_of}
 use Rattle.analysis.specs.Ceilings.{numbered}
 use Rattle.analysis.specs.Trees.{ranks_of, table_of}
-use Rattle.design_bounds.specs.declared.rows.NamedBound.{NamedBound}
+use Rattle.trace_text.specs.declared.bound.NamedBound.{NamedBound}
 use Rattle.design_bounds.proofs.RankLaws.{small-threads}
 use Rattle.design_bounds.proofs.RowLaws.{named-same}
 use Rattle.design_bounds.proofs.analysing.named.Goals as goal

@@ -1,13 +1,13 @@
-use Rattle.std.proofs.Common.{ℕ, refl, Vec, Global}
+use Rattle.std.proofs.Common.{refl}
 use Rattle.hrthood_top.specs.Fetches.{texts_of}
 use Rattle.hrthood_top.specs.Replays.{replays}
-use Rattle.hrthood_top.proofs.Ending.{ends-made, ends-stop}
+use Rattle.hrthood_top.proofs.Ending.{ends-streamed, ends-stop}
 use Rattle.hrthood_top.proofs.replay.replay.Goals as goal
 
 pub returns-in-Ok : goal.returns-in-Ok
 returns-in-Ok g c =
-    ends-made (λ (v : Vec ℕ Global). v.items) (replays c.args.ada.now c.args.arrivals.now) _ _ (texts_of c.in-Ok.texts) _ _ c.in-Ok.ensures.0 c.in-Ok.ensures.1
-    (rw (c.deref.ensures.value, c.deref-in-Ok.ensures.value) at c.replay_text.ensures) c.finish.ensures
+    ends-streamed (replays c.args.ada.now c.args.arrivals.now) _ (texts_of c.in-Ok.texts) _ _ c.in-Ok.ensures.0 c.in-Ok.ensures.1
+    (rw (c.deref.ensures.value, c.deref-in-Ok.ensures.value) at c.replay_texts.ensures)
 
 pub returns-in-Err : goal.returns-in-Err
 returns-in-Err g c = ends-stop texts_of (replays c.args.ada.now c.args.arrivals.now) _ _ _ _ c.in-Err.ensures c.tell_stop.ensures refl

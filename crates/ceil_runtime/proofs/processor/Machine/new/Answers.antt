@@ -1,7 +1,7 @@
 use Rattle.std.proofs.Common.{ap, arith, length, map, subst, sym, ◌∙◌}
 use Rattle.std.proofs.lemmas.List.{length-map}
 use Rattle.std.specs.List.{list_all}
-use Rattle.ceil_runtime.specs.Replayable.{is_run}
+use Rattle.ada_tree.specs.InUse.{is_run}
 use Rattle.ada_tree.specs.Trees.{program_of, unit_of}
 use Rattle.arrivals_tree.specs.Arriving.{arrivals_of}
 use Rattle.ceil_runtime.specs.Gathering.{AllThreads, threads_from}
@@ -22,6 +22,11 @@ pub open-requires-clause-few : goal.open-requires-clause-few
 open-requires-clause-few c =
     let few = (whole (program_of c.args.program.now) (arrivals_of c.args.arrivals.now) c.requires).1 in
     omega (arith, few, length-map c.args.program.now.units.items unit_of, ap length c.as_slice-units.ensures.value, ap length c.as_slice.ensures.value, c.in_ok-threads.ensures.few)
+
+pub open-requires-clause-known : goal.open-requires-clause-known
+open-requires-clause-known c =
+    let few = (whole (program_of c.args.program.now) (arrivals_of c.args.arrivals.now) c.requires).1 in
+    omega (arith, few, length-map c.args.program.now.units.items unit_of, ap length c.as_slice-units.ensures.value)
 
 pub open-requires-clause-near : goal.open-requires-clause-near
 open-requires-clause-near c = let near = near-horizon (program_of c.args.program.now) (arrivals_of c.args.arrivals.now) c.requires in omega (arith, near)

@@ -4,6 +4,14 @@ use Rattle.std.proofs.lemmas.Option.{slice_get_read}
 use Rattle.arrivals_tree.specs.Acceptance.{has_nothing}
 use Rattle.ceil_runtime.specs.Readies.{rests_as}
 use Rattle.ceil_runtime.specs.Written.{durations_of}
+use Rattle.std.specs.Prelude.{None, false, map}
+use Rattle.seq_tree.specs.Variables.{Variables}
+use Rattle.ada_tree.specs.Trees.{unit_of}
+use Rattle.machine.specs.Meanings.{Running}
+use Rattle.ceil_runtime.specs.Libraries.{objects_from}
+use Rattle.ceil_runtime.specs.Processing.{state_by, system_by}
+use Rattle.ceil_runtime.specs.declared.processor.Phase.TheVariants.{Effects}
+use Rattle.ceil_runtime.proofs.ObjectsFound.{found-stores}
 use Rattle.link_queue.specs.Queues.{IsFree}
 use Rattle.ceil_runtime.specs.Starts.{AreOpen, first_slept, opened}
 use Rattle.ceil_runtime.specs.declared.thread.Thread.{Thread}
@@ -45,6 +53,12 @@ invariant_of-push_reserved-clause-long c =
 pub invariant_of-push_reserved-clause-rests : goal.invariant_of-push_reserved-clause-rests
 invariant_of-push_reserved-clause-rests c = ap (λ (h : Thread). rests_as c.opening_rest.result h.timing) c.in_ok-progress.ensures.thread ∙ c.opening_rest.ensures.fits
 
+pub invariant_of-push_reserved-clause-room : goal.invariant_of-push_reserved-clause-room
+invariant_of-push_reserved-clause-room c =
+    let th = c.thread-item.result in
+    let start = c.requires.start c.threads.thread-index th (slice_get_read c.args.threads.now (length c.args.threads.now) c.threads.thread-index th refl c.threads-test.true c.thread-item.is) in
+    omega (arith, c.in_ok-inside.ensures.capacity, ap length start.units, ap (λ (h : Thread). length h.units.now) c.in_ok-progress.ensures.thread)
+
 pub threads-preserved : goal.threads-preserved
 threads-preserved c =
     let th = c.thread-item.result in
@@ -57,7 +71,7 @@ threads-preserved c =
       opened = subst (λ (ths : List Thread). AreOpen c.args.until c.args.units.now ths c.push_reserved.new.self.items c.sleep_first.new.links) (sym taken)
           (subst (λ (ts : List Task). AreOpen c.args.until c.args.units.now (take c.threads.thread-index c.args.threads.now ++ th ∷ []) ts c.sleep_first.new.links) (sym c.push_reserved.ensures.items)
           (open-next c.args.until c.args.units.now (take c.threads.thread-index c.args.threads.now) c.threads.tasks.items c.threads.links i.opened _ th
-          (record { thread = c.in_ok-progress.ensures.thread; vars = c.in_ok-progress.ensures.vars; pieces = c.in_ok-progress.ensures.pieces; rests = c.opening_rest.ensures.readiness; next = c.opening_time.ensures; left = refl; used = refl; works = refl; gate = c.shut.ensures })
+          (record { thread = c.in_ok-progress.ensures.thread; vars = c.in_ok-progress.ensures.vars; pieces = c.in_ok-progress.ensures.pieces; rests = c.opening_rest.ensures.readiness; next = c.opening_time.ensures; left = refl; used = refl; works = refl; gate = c.shut.ensures; active = refl; inside = c.in_ok-inside.ensures.items })
           start c.sleep_first.new.links is));
       size = ap (λ q. q.size) is ∙ slept-size th.timing (length c.threads.tasks.items) c.threads.links ∙ i.size;
       place = ap (λ n. n + 1) i.place ∙ sym longer;
@@ -74,6 +88,12 @@ returns-clause-whole c =
 pub returns-clause-opens : goal.returns-clause-opens
 returns-clause-opens c =
     let i = c.threads.invariant in
-    open-running c.args.until c.args.costs c.args.units.now (take c.threads.thread-index c.args.threads.now) c.threads.tasks.items c.threads.links i.opened c.requires.near (omega (arith, i.count, c.requires.few, c.threads-test.false, c.threads.auto.thread-index-end))
+    let us = c.args.units.now in
+    let ts = c.threads.tasks.items in
+    let stores = found-stores c.in_ok-objects.objects.items (objects_from 0 (map unit_of us)) c.in_ok-objects.ensures in
+    let view : List Variables → Running = λ kept.
+    record { system = system_by c.args.until c.args.costs us ts; state = state_by kept c.args.arrivals.now 0 (Effects None) None false ts c.threads.links.ready } in
+    ap view stores
+    ∙ open-running c.args.until c.args.costs us (take c.threads.thread-index c.args.threads.now) ts c.threads.links i.opened c.requires.near (omega (arith, i.count, c.requires.few, c.threads-test.false, c.threads.auto.thread-index-end))
     (omega (arith, i.size, i.count, c.threads-test.false, c.threads.auto.thread-index-end)) c.args.arrivals.now
-    ∙ ap (opened c.args.until c.args.costs c.args.units.now c.args.arrivals.now) (take_all c.threads.thread-index c.args.threads.now (omega (arith, c.threads-test.false)))
+    ∙ ap (opened c.args.until c.args.costs us c.args.arrivals.now) (take_all c.threads.thread-index c.args.threads.now (omega (arith, c.threads-test.false)))

@@ -13,7 +13,7 @@ use Rattle.ceil_runtime.specs.Written.{durations_of, libraries_of, reserve, thre
 use Rattle.ceil_runtime.specs.declared.thread.Thread.{Thread}
 use Rattle.ceil_runtime.proofs.Frames.{few-frames}
 use Rattle.ceil_runtime.proofs.Starting.{effort-falls, few-ends, some-effort, tells-finish, tells-later, tells-now, tells-print}
-use Rattle.ceil_runtime.proofs.Goings.{does-given, falls-silent, going-starts, told-by}
+use Rattle.ceil_runtime.proofs.Goings.{does-given, going-starts, told-by}
 use Rattle.ceil_runtime.proofs.task.Task.act.Goals as goal
 
 pub returns-in-Silent-clause-acts : goal.returns-in-Silent-clause-acts
@@ -21,7 +21,7 @@ returns-in-Silent-clause-acts c =
     let m = c.args.self.now in
     let s = m.progress.stack in
     let q = c.act-act.new.self in
-    let view : Thread → ℕ → ℕ → Task = λ th l w. record (task_of m) { thread = thread_of th; active = th.priority; vars = vars_left q; pieces = pieces_left q; left = l; works = w } in
+    let view : Thread → ℕ → ℕ → Task = λ th l w. record (task_of m) { thread = thread_of th; vars = vars_left q; pieces = pieces_left q; left = l; works = w } in
     record {
       piece = piece_of c.args.piece (put_away s.frames.items);
       rest = behind s.frames.items;
@@ -41,7 +41,7 @@ returns-in-Print-clause-acts c =
     let m = c.args.self.now in
     let s = m.progress.stack in
     let q = c.act-act.new.self in
-    let view : Thread → ℕ → ℕ → Task = λ th l w. record (task_of m) { thread = thread_of th; active = th.priority; vars = vars_left q; pieces = pieces_left q; left = l; works = w } in
+    let view : Thread → ℕ → ℕ → Task = λ th l w. record (task_of m) { thread = thread_of th; vars = vars_left q; pieces = pieces_left q; left = l; works = w } in
     record {
       piece = piece_of c.args.piece (put_away s.frames.items);
       rest = behind s.frames.items;
@@ -64,7 +64,7 @@ returns-in-Finish-clause-acts c =
     let none : pieces_left q ≡ [] = c.in-Finish.ensures.ends in
     let ticks = c.start-start.ensures.ticks ∙ ap (first_ticks c.args.costs.now c.duration-duration.result) none in
     let works = ap (λ w. m.works + w) (c.start-start.ensures.works ∙ ap first_works none) ∙ add-zero m.works in
-    let view : Thread → Readiness → _ → _ → ℕ → ℕ → Task = λ th r vs ps l w. record (task_of m) { thread = thread_of th; active = th.priority; readiness = r; vars = vs; pieces = ps; left = l; works = w } in
+    let view : Thread → Readiness → _ → _ → ℕ → ℕ → Task = λ th r vs ps l w. record (task_of m) { thread = thread_of th; readiness = r; vars = vs; pieces = ps; left = l; works = w } in
     let rests = c.resting-self.ensures.readiness ∙ ap (λ th. resting (timing_of th.timing) m.next) c.act-act.ensures.thread in
     record {
       piece = piece_of c.args.piece (put_away s.frames.items);
@@ -83,19 +83,43 @@ returns-in-Finish-clause-acts c =
     }
 
 pub returns-in-Silent-clause-falls : goal.returns-in-Silent-clause-falls
-returns-in-Silent-clause-falls c =
+returns-in-Silent-clause-falls c = λ most enough.
     let m = c.args.self.now in
     let s = m.progress.stack in
     let q = c.act-act.new.self in
     let p = piece_of c.args.piece (put_away s.frames.items) in
     let rest = behind s.frames.items in
     let was : pieces_left m.progress ≡ p ∷ rest = ap (λ x. started x (kept_frames s.frames.items)) c.requires.piece in
-    falls-silent _ _ _ _ c.in-Silent.is
-    (λ most enough.
     let few : ends_among (pieces_left q) < most = omega (arith, few-ends q.piece q.stack.frames.items, few-frames q.stack.thread q.stack.frames.items q.stack.fit, ap reserve c.act-act.ensures.thread, enough) in (
       rw was (some-effort most p rest (omega (arith, few))),
       λ none. rw was (effort-falls c.args.costs.now c.duration-duration.result most (libraries_of s.thread) q.stack.thread q.piece q.stack.frames.items c.requires.ticking c.duration-duration.ensures.long q.fits few (sym c.start-start.ensures.ticks ∙ none) p _ _ rest c.act-act.result c.act-act.ensures.deed),
-    ))
+    )
+
+pub returns-in-Print-clause-falls : goal.returns-in-Print-clause-falls
+returns-in-Print-clause-falls c = λ most enough.
+    let m = c.args.self.now in
+    let s = m.progress.stack in
+    let q = c.act-act.new.self in
+    let p = piece_of c.args.piece (put_away s.frames.items) in
+    let rest = behind s.frames.items in
+    let was : pieces_left m.progress ≡ p ∷ rest = ap (λ x. started x (kept_frames s.frames.items)) c.requires.piece in
+    let few : ends_among (pieces_left q) < most = omega (arith, few-ends q.piece q.stack.frames.items, few-frames q.stack.thread q.stack.frames.items q.stack.fit, ap reserve c.act-act.ensures.thread, enough) in (
+      rw was (some-effort most p rest (omega (arith, few))),
+      λ none. rw was (effort-falls c.args.costs.now c.duration-duration.result most (libraries_of s.thread) q.stack.thread q.piece q.stack.frames.items c.requires.ticking c.duration-duration.ensures.long q.fits few (sym c.start-start.ensures.ticks ∙ none) p _ _ rest c.act-act.result c.act-act.ensures.deed),
+    )
+
+pub returns-in-Finish-clause-falls : goal.returns-in-Finish-clause-falls
+returns-in-Finish-clause-falls c = λ most enough.
+    let m = c.args.self.now in
+    let s = m.progress.stack in
+    let q = c.act-act.new.self in
+    let p = piece_of c.args.piece (put_away s.frames.items) in
+    let rest = behind s.frames.items in
+    let was : pieces_left m.progress ≡ p ∷ rest = ap (λ x. started x (kept_frames s.frames.items)) c.requires.piece in
+    let few : ends_among (pieces_left q) < most = omega (arith, few-ends q.piece q.stack.frames.items, few-frames q.stack.thread q.stack.frames.items q.stack.fit, ap reserve c.act-act.ensures.thread, enough) in (
+      rw was (some-effort most p rest (omega (arith, few))),
+      λ none. rw was (effort-falls c.args.costs.now c.duration-duration.result most (libraries_of s.thread) q.stack.thread q.piece q.stack.frames.items c.requires.ticking c.duration-duration.ensures.long q.fits few (sym c.start-start.ensures.ticks ∙ none) p _ _ rest c.act-act.result c.act-act.ensures.deed),
+    )
 
 pub returns-in-Silent-clause-told : goal.returns-in-Silent-clause-told
 returns-in-Silent-clause-told c =

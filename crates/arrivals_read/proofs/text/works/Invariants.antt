@@ -1,0 +1,13 @@
+use Rattle.std.proofs.Common.{◌≡◌, length, map}
+use Rattle.token_read.specs.Words.{bare}
+use Rattle.arrivals_read.specs.Readers.{works_at}
+use Rattle.arrivals_read.specs.Texts.{work_text}
+use Rattle.arrivals_read.proofs.Turns.{with_front}
+use Rattle.arrivals_read.proofs.text.works.Given as goal
+
+-- the durations so far, and then those of what is left
+abbrev pub invariant-works : goal.invariant-works
+invariant-works l = with_front (map work_text l.works.items) (works_at (bare l.rest)) ≡ works_at (bare l.fn.tokens)
+
+abbrev pub decreases-works : goal.decreases-works
+decreases-works l = length l.rest

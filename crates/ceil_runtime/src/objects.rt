@@ -1,0 +1,54 @@
+ghost use Rattle.std.specs.Prelude.{◌≡◌, ◌<◌, ◌^◌, length, map, vec_len, vec_capacity, IfOk};
+ghost use Rattle.ada_tree.specs.Trees.{unit_of};
+ghost use Rattle.ceil_runtime.specs.Libraries.{objects_from};
+ghost use Rattle.ceil_runtime.specs.Objects.{AddsObject, first_object, shown};
+
+use crate::object::Object;
+use crate::params::open_data;
+use ada_tree::{Form, Unit};
+use seq_tree::NoMemory;
+use std::alloc::Global;
+
+/// Adds the protected object of a unit, where it is one, with its data as they are written. A failed allocation is the one error.
+fn add_object<'a>(
+    alloc: Global,
+    objects: &mut Vec<Object<'a>>,
+    place: u32,
+    unit: &'a Unit,
+) -> Result<(), NoMemory>
+    requires room { vec_len objects.old < vec_capacity objects.old }
+    ensures adds { IfOk result (λ done. AddsObject place unit.entry.now objects.old.items objects.new.items) }
+    ensures capacity { vec_capacity objects.new ≡ vec_capacity objects.old }
+{
+    match &unit.form {
+        Form::Shared { ceiling, vars, .. } => {
+            let written = vars.as_slice();
+            let mut data = Vec::with_capacity(alloc, written.len())?;
+            open_data(&mut data, written);
+            objects.push_reserved(Object {
+                unit: place,
+                ceiling: *ceiling,
+                written,
+                data,
+            });
+        }
+        Form::Passive { .. } => {}
+        Form::Cyclic { .. } => {}
+        Form::Sporadic { .. } => {}
+    }
+    Ok(())
+}
+
+/// The protected objects among units, in their order. A failed allocation is the one error.
+pub fn objects_in<'a>(alloc: Global, units: &'a [Unit]) -> Result<Vec<Object<'a>>, NoMemory>
+    requires few { length units.now < 2 ^ 32 }
+    ensures { IfOk result (λ os. map shown os.items ≡ map first_object (objects_from 0 (map unit_of units.entry.now))) }
+{
+    let mut objects = Vec::with_capacity(alloc, units.len())?;
+    let mut place: u32 = 0;
+    'units: for unit in units {
+        add_object(alloc, &mut objects, place, unit)?;
+        place += 1;
+    }
+    Ok(objects)
+}

@@ -1,0 +1,7 @@
+mod DesignExamples
+mod ProperExamples
+mod SoundExamples
+mod ProgramExamples
+mod TextExamples
+mod LawExamples
+mod ViewExamples

@@ -1,0 +1,25 @@
+-- What is written of a text that comes piece by piece: a page gathers pieces before the sink gets them.
+-- A run tells one event after another, of which the lines are such pieces.
+use Rattle.std.specs.Prelude.{◌≡◌, ℕ, ◌<◌, List, ◌++◌, length, take, Option, Result, Ok, Err}
+use Rattle.ada_tree.specs.Programs.{Program}
+use Rattle.hood_io.specs.Sinks.{Appends, Puts}
+use Rattle.machine.specs.Meanings.{Running, Tells}
+use Rattle.trace_tree.specs.declared.event.Event.{Event}
+use Rattle.trace_tree.specs.Lines.{lines}
+
+-- of what a page held and then a piece a front was written, and the page holds the others
+abbrev pub IsGathered : List ℕ → List ℕ → List ℕ → Option (List ℕ) → Option (List ℕ) → Type 0
+IsGathered held piece held' before now = (front : List ℕ) × Appends before now front × (front ++ held' ≡ held ++ piece)
+
+-- a proper front of a text was written
+abbrev pub IsCut : List ℕ → Option (List ℕ) → Option (List ℕ) → Type 0
+IsCut text before now = (n : ℕ) × (n < length text) × Appends before now (take n text)
+
+-- a piece is gathered behind what a page held, or after a failure a proper front of both was written
+abbrev pub Gathers : {E : Type 0} → List ℕ → List ℕ → List ℕ → Option (List ℕ) → Option (List ℕ) → Result (Unit {0}) E → Type 0
+Gathers held piece held' before now (Ok u) = IsGathered held piece held' before now
+Gathers held piece held' before now (Err e) = IsCut (held ++ piece) before now
+
+-- the lines of all that is told from where a run stands up to its stop are written, or after a failure a proper front of them
+abbrev pub PutsRun : {E : Type 0} → Program → Running → Option (List ℕ) → Option (List ℕ) → Result (Unit {0}) E → Type 0
+PutsRun p run before now result = (told : List Event) × Tells run told × Puts before now (lines p told) result

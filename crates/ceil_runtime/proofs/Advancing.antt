@@ -1,10 +1,15 @@
 -- Runs that follow each other, one after another.
-use Rattle.std.specs.Prelude.{◌≡◌, List, [], ◌∷◌, ◌++◌, refl}
+use Rattle.std.specs.Prelude.{◌≡◌, ℕ, true, false, List, [], ◌∷◌, ◌++◌, refl}
 use Rattle.std.proofs.Common.{sym, ◌∙◌, ap, subst}
 use Rattle.trace_tree.specs.declared.event.Event.{Event}
+use Rattle.trace_tree.specs.declared.event.Event.TheVariants as event
 use Rattle.machine.specs.Systems.{System}
 use Rattle.machine.specs.Meanings.{Running, Rest, Tells}
 use Rattle.ceil_runtime.specs.Processing.{Follows}
+use Rattle.ceil_runtime.specs.Shown.{running_of}
+use Rattle.ceil_runtime.specs.Stepping.{EndsAt}
+use Rattle.ceil_runtime.specs.Turns.{FallsAt, Turned, last_turn}
+use Rattle.ceil_runtime.specs.declared.processor.Machine.{Machine}
 
 pub follows-none : (r : Running) → Follows r [] r
 follows-none r = record { system = refl; tells = λ rest h. h }
@@ -29,3 +34,29 @@ one-pushed e before now empty pushed = pushed ∙ ap (λ xs. xs ++ e ∷ []) emp
 -- two events were
 pub two-pushed : (e f : Event) (before now : List Event) → before ≡ [] → now ≡ before ++ e ∷ f ∷ [] → now ≡ e ∷ f ∷ []
 two-pushed e f before now empty pushed = pushed ∙ ap (λ xs. xs ++ e ∷ f ∷ []) empty
+
+no_both : false ≡ true → ⊥
+no_both h = cc
+
+-- the answer to the last event says what the run has come to
+pub stop-turned : (e : Event) (m : Machine) (told : List Event) → told ≡ e ∷ [] → EndsAt e m → m.stopped ≡ true → Turned (last_turn e) told (running_of m)
+stop-turned (event.Horizon time) m told is ends stopped = (([], is ∙ ap (λ n. event.Horizon n ∷ []) ends.0, refl), stopped)
+stop-turned (event.Stop time task unit priority ceiling) m told is ends stopped = (([], is, refl), stopped)
+stop-turned (event.Release time task v) m told is ends stopped = absurd (no_both (sym ends.1 ∙ stopped))
+stop-turned (event.Arrive time task v) m told is ends stopped = absurd (no_both (sym ends.1 ∙ stopped))
+stop-turned (event.Enter time task unit op values) m told is ends stopped = absurd (no_both (sym ends.1 ∙ stopped))
+stop-turned (event.Leave time task unit op values) m told is ends stopped = absurd (no_both (sym ends.1 ∙ stopped))
+stop-turned (event.Request time task target v) m told is ends stopped = absurd (no_both (sym ends.1 ∙ stopped))
+stop-turned (event.Print time task v) m told is ends stopped = absurd (no_both (sym ends.1 ∙ stopped))
+stop-turned (event.End time task used) m told is ends stopped = absurd (no_both (sym ends.1 ∙ stopped))
+
+pub last-falls : (e : Event) (old new : ℕ) → FallsAt (last_turn e) old new
+last-falls (event.Horizon time) old new = tt
+last-falls (event.Stop time task unit priority ceiling) old new = tt
+last-falls (event.Release time task v) old new = tt
+last-falls (event.Arrive time task v) old new = tt
+last-falls (event.Enter time task unit op values) old new = tt
+last-falls (event.Leave time task unit op values) old new = tt
+last-falls (event.Request time task target v) old new = tt
+last-falls (event.Print time task v) old new = tt
+last-falls (event.End time task used) old new = tt

@@ -24,11 +24,11 @@ use Rattle.dispatching.proofs.Queued.{queued-kept}
 use Rattle.dispatching.proofs.Sleeping.{sleeping-kept}
 use Rattle.ceil_runtime.specs.Processing.{IsKept, IsSound, state_by, system_by}
 use Rattle.ceil_runtime.specs.Readies.{is_ready, readiness_of}
-use Rattle.ceil_runtime.specs.Works.{asked, task_of}
+use Rattle.ceil_runtime.specs.Works.{asked, IsNested, task_of}
 use Rattle.ceil_runtime.specs.declared.task.Task.{Task}
 use Rattle.ceil_runtime.specs.declared.task.Readiness.TheVariants as readies
 use Rattle.ceil_runtime.specs.declared.processor.Phase.TheVariants.{Arriving}
-use Rattle.ceil_runtime.proofs.Processed.{Changed, changed-all, changed-length, changed-tasks, here-of, step-run}
+use Rattle.ceil_runtime.proofs.Processed.{changed-alike, Changed, changed-all, changed-length, changed-tasks, here-of, step-run}
 use Rattle.ceil_runtime.proofs.Released.{changed_at, serve-none, serve-run, tail-ranks, waiting-released}
 
 -- the item at the place that is found first passes the test
@@ -163,6 +163,7 @@ module _ (stores : List Variables) (a : Arrival) (others : List Arrival) (until 
         here = sound.here;
         near = sound.near;
         few = omega (arith, len, sound.few);
+        calls = changed-alike tasks tasks' i t t' (asked a.value) c us sound.calls;
         in_time = sound.in_time;
       }
         where
@@ -183,6 +184,7 @@ module _ (stores : List Variables) (a : Arrival) (others : List Arrival) (until 
                 next = omega (arith, next, k.next);
                 units = ap (λ th. th.units.now) c.thread ∙ k.units;
                 idle = λ not. left_same ∙ k.idle (ap is_ready (sym same) ∙ not);
+                nested = subst IsNested (sym c.does) k.nested;
               }
 
       -- the task waits: it is released

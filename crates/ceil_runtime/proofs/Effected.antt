@@ -7,7 +7,6 @@ use Rattle.std.proofs.lemmas.Option.{same_Some, slice_get-map}
 use Rattle.seq_tree.specs.Variables.{Variables}
 use Rattle.seq_tree.specs.Lists.{change}
 use Rattle.seq_tree.specs.declared.tree.Costs.{Costs}
-use Rattle.ada_tree.specs.Trees.{unit_of}
 use Rattle.ada_tree.specs.declared.program.Unit as units
 use Rattle.arrivals_tree.specs.declared.arrivals.Arrival.{Arrival}
 use Rattle.trace_tree.specs.declared.event.Event.TheVariants as event
@@ -31,10 +30,9 @@ use Rattle.dispatching.proofs.Sleeping.{apart-awake, sleeping-awake, sleeping-ke
 use Rattle.dispatching.proofs.Places.{get-changed}
 use Rattle.ceil_runtime.specs.Doing.{act_of}
 use Rattle.ceil_runtime.specs.Processing.{AllTasks, HasNoEffect, IsKept, IsSound, order_of, state_by, system_by, with_task}
-use Rattle.ceil_runtime.specs.Libraries.{libraries_from}
 use Rattle.ceil_runtime.specs.Readies.{is_ready, readiness_of}
-use Rattle.ceil_runtime.specs.Works.{Acts, task_of}
-use Rattle.ceil_runtime.specs.Written.{libraries_of}
+use Rattle.ceil_runtime.specs.Works.{Acts, IsNested, task_of}
+use Rattle.ceil_runtime.specs.Written.{system_of}
 use Rattle.ceil_runtime.specs.declared.effects.Act.{Act}
 use Rattle.ceil_runtime.specs.declared.effects.Act.TheVariants.{Finish}
 use Rattle.ceil_runtime.specs.declared.task.Task.{Task}
@@ -42,7 +40,7 @@ use Rattle.ceil_runtime.specs.declared.task.Readiness as readiness
 use Rattle.ceil_runtime.specs.declared.task.Readiness.TheVariants as readies
 use Rattle.ceil_runtime.specs.declared.processor.Phase.TheVariants.{Effects, Delays}
 use Rattle.ceil_runtime.proofs.Idles.{rests-idle}
-use Rattle.ceil_runtime.proofs.Processed.{Changed, changed-all, changed-length, changed-tasks, get-put, get-set_same, get_within, step-run}
+use Rattle.ceil_runtime.proofs.Processed.{runs-alike, changed-alike, Changed, changed-all, changed-length, changed-tasks, get-put, get-set_same, get_within, step-run}
 use Rattle.ceil_runtime.proofs.Released.{changed_at, asleep-apart, going-active, going-next, going-readiness, going-used, ready-is, serve-none, serve-run, tail-ranks, waiting-released}
 
 clash : true ≡ false → ⊥
@@ -91,7 +89,7 @@ nobody-run y stores arrivals time (Some i) tasks ready none = by_task (slice_get
 
 pub nobody-sound : (until time : ℕ) (us : List units.Unit) (ran : Option ℕ) (tasks : List Task) (q : Queues) → IsSound until time (Effects None) ran us tasks q → IsSound until time Delays ran us tasks q
 nobody-sound until time us ran tasks q s =
-    record { size = s.size; queued = s.queued; sleeping = s.sleeping; kept = s.kept; here = tt; near = s.near; few = s.few; in_time = s.in_time }
+    record { size = s.size; queued = s.queued; sleeping = s.sleeping; kept = s.kept; here = tt; near = s.near; few = s.few; calls = s.calls; in_time = s.in_time }
 
 -- the task that has effects
 module _ (until time : ℕ) (us : List units.Unit) (i : ℕ) (ran : Option ℕ) (tasks : List Task) (q : Queues) (sound : IsSound until time (Effects (Some i)) ran us tasks q) (t : Task) (here : slice_get tasks i ≡ Some t) where
@@ -137,6 +135,7 @@ module _ (until time : ℕ) (us : List units.Unit) (i : ℕ) (ran : Option ℕ) 
     here = tt;
     near = sound.near;
     few = sound.few;
+    calls = sound.calls;
     in_time = sound.in_time;
   })
 
@@ -170,8 +169,9 @@ module _ (until time : ℕ) (us : List units.Unit) (i : ℕ) (ran : Option ℕ) 
     ranks = moved-ranks;
   }
 
-  pub moved-sound : ((u : states.Task) → (f u).readiness ≡ u.readiness) → (task_of t').used ≡ t.used → (task_of t').next ≡ t.next → t'.works ≤ time + min t'.left 1 → IsSound until time (Effects (Some i)) ran us tasks' q
-  moved-sound same used next works = record {
+  pub moved-sound : ((u : states.Task) → (f u).readiness ≡ u.readiness) → (task_of t').used ≡ t.used → (task_of t').next ≡ t.next → t'.works ≤ time + min t'.left 1 → (IsNested (task_of t) → IsNested (task_of t'))
+      → IsSound until time (Effects (Some i)) ran us tasks' q
+  moved-sound same used next works nests = record {
     size = sound.size ∙ sym len;
     queued = subst (AreQueued (map task_of tasks') (places (length tasks') (order_of (Effects (Some i)) tasks' q.ready))) (sym order-now) placed-now;
     sleeping = subst (λ (ts : List states.Task). AreSleeping ts time q.asleep) (sym (changed-tasks tasks tasks' i t t' f c)) (sleeping-kept (map task_of tasks) time q.asleep i f sound.sleeping same);
@@ -179,6 +179,7 @@ module _ (until time : ℕ) (us : List units.Unit) (i : ℕ) (ran : Option ℕ) 
     here = (sound.here.0, omega (arith, len, sound.here.1));
     near = sound.near;
     few = omega (arith, len, sound.few);
+    calls = changed-alike tasks tasks' i t t' f c us sound.calls;
     in_time = sound.in_time;
   }
     where
@@ -192,12 +193,13 @@ module _ (until time : ℕ) (us : List units.Unit) (i : ℕ) (ran : Option ℕ) 
         next = omega (arith, next, k.next);
         units = ap (λ th. th.units.now) c.thread ∙ k.units;
         idle = λ not. absurd (clash (sym (ap is_ready ready_now) ∙ not));
+        nested = nests k.nested;
       }
 
 -- a piece's effect
 module _ (stores : List Variables) (arrivals : List Arrival) (until time : ℕ) (costs : Costs) (us : List units.Unit) (i : ℕ) (tasks : List Task) (q : Queues) (sound : IsSound until time (Effects (Some i)) (Some i) us tasks q)
     (t t' : Task) (here : slice_get tasks i ≡ Some t) (used_up : t.left ≡ 0) (act : Act)
-    (a : Acts (libraries_of t.progress.stack.thread) costs (task_of t) act (task_of t')) where
+    (a : Acts (system_of t.progress.stack.thread) costs (task_of t) act (task_of t')) where
   at : slice_get (map task_of tasks) i ≡ Some (task_of t)
   at = slice_get-map task_of tasks i ∙ ap (option_map task_of) here
 
@@ -207,16 +209,16 @@ module _ (stores : List Variables) (arrivals : List Arrival) (until time : ℕ) 
   act-step =
       let s : states.State = state_by stores arrivals time (Effects (Some i)) (Some i) false tasks q.ready in
       let y : System = system_by until costs us tasks in
-      let libraries : y.libraries ≡ libraries_of t.progress.stack.thread = ap (λ vs. libraries_from 0 (map unit_of vs)) (sym (sound.kept i t here).units) in
       ap (λ o. effect_at y i o s) at ∙ ap (λ ps. effect_of y i (task_of t) ps s) a.first
       ∙ ap (λ l. if l == 0 then takes_effect y i (task_of t) (done y a.piece (task_of t).vars a.rest) s else goes_to states.Delays s) used_up
-      ∙ ap (λ d. takes_effect y i (task_of t) d s) (a.does y libraries)
+      ∙ ap (λ d. takes_effect y i (task_of t) d s) (a.does y (runs-alike until costs us tasks sound.calls i t here))
 
   pub act-few : t.works ≤ time
   act-few = let k : IsKept until time us t = sound.kept i t here in omega (arith, k.works, used_up)
 
   -- a task that goes on
-  module _ (tasks' : List Task) (c : Changed tasks tasks' i t t' (going costs a.vars a.pieces)) (works : t'.works ≤ t.works + min t'.left 1) where
+  module _ (tasks' : List Task) (c : Changed tasks tasks' i t t' (going costs a.vars a.pieces)) (works : t'.works ≤ t.works + min t'.left 1)
+      (nests : IsNested (task_of t) → IsNested (task_of t')) where
     going_queued : AreQueued (change i (going costs a.vars a.pieces) (map task_of tasks)) (places (length tasks) (order_of (Effects (Some i)) tasks q.ready)) (at_head (i, (task_of t').active) q.ready)
     going_queued =
         subst (λ (l : ℕ). AreQueued (change i (going costs a.vars a.pieces) (map task_of tasks)) (places (length tasks) (order_of (Effects (Some i)) tasks q.ready)) (at_head (i, l) q.ready)) (sym (ap (λ u. u.active) c.does ∙ going-active costs a.vars a.pieces (task_of t)))
@@ -225,7 +227,7 @@ module _ (stores : List Variables) (arrivals : List Arrival) (until time : ℕ) 
     pub going-sound : IsSound until time (Effects (Some i)) (Some i) us tasks' q
     going-sound =
         moved-sound until time us i (Some i) tasks q sound tasks' t t' (going costs a.vars a.pieces) c (places (length tasks) (order_of (Effects (Some i)) tasks q.ready)) going_queued (λ u. going-readiness costs a.vars a.pieces u)
-        (ap (λ u. u.used) c.does ∙ going-used costs a.vars a.pieces (task_of t)) (ap (λ u. u.next) c.does ∙ going-next costs a.vars a.pieces (task_of t)) (omega (arith, works, act-few))
+        (ap (λ u. u.used) c.does ∙ going-used costs a.vars a.pieces (task_of t)) (ap (λ u. u.next) c.does ∙ going-next costs a.vars a.pieces (task_of t)) (omega (arith, works, act-few)) nests
 
     pub going-differs : DifferInOrders (record (state_by stores arrivals time (Effects (Some i)) (Some i) false tasks q.ready) { tasks = change i (going costs a.vars a.pieces) (map task_of tasks) }) (state_by stores arrivals time (Effects (Some i)) (Some i) false tasks' q.ready)
     going-differs = moved-differs until time us i (Some i) tasks q sound tasks' t t' (going costs a.vars a.pieces) c (places (length tasks) (order_of (Effects (Some i)) tasks q.ready)) going_queued stores arrivals
@@ -244,7 +246,7 @@ resting-apart (Requested op ceiling separation jitter external) next h = clash' 
 -- the end of an activation
 module _ (stores : List Variables) (arrivals : List Arrival) (until time : ℕ) (costs : Costs) (us : List units.Unit) (i : ℕ) (tasks : List Task) (q : Queues) (sound : IsSound until time (Effects (Some i)) (Some i) us tasks q)
     (t t' : Task) (here : slice_get tasks i ≡ Some t) (used_up : t.left ≡ 0)
-    (a : Acts (libraries_of t.progress.stack.thread) costs (task_of t) Finish (task_of t')) (tasks' : List Task) (c : Changed tasks tasks' i t t' (ended a.vars)) where
+    (a : Acts (system_of t.progress.stack.thread) costs (task_of t) Finish (task_of t')) (tasks' : List Task) (c : Changed tasks tasks' i t t' (ended a.vars)) where
   end-at : slice_get (map task_of tasks) i ≡ Some (task_of t)
   end-at = slice_get-map task_of tasks i ∙ ap (option_map task_of) here
 
@@ -298,8 +300,8 @@ module _ (stores : List Variables) (arrivals : List Arrival) (until time : ℕ) 
       by_readiness readies.Waiting e = ap is_ready e
       by_readiness readies.Ready e = absurd (resting-apart (task_of t).thread.timing t.next (sym (ap (λ u. u.readiness) c.does) ∙ ap (λ r. readiness_of r t'.next) e))
 
-  ended-kept : t'.works ≤ t.works + min t'.left 1 → AllTasks (IsKept until time us) tasks'
-  ended-kept works = changed-all tasks tasks' i t t' (ended a.vars) c (IsKept until time us) (IsKept until time us) sound.kept (λ u k. k) (keeps (sound.kept i t here))
+  ended-kept : t'.works ≤ t.works + min t'.left 1 → (IsNested (task_of t) → IsNested (task_of t')) → AllTasks (IsKept until time us) tasks'
+  ended-kept works nests = changed-all tasks tasks' i t t' (ended a.vars) c (IsKept until time us) (IsKept until time us) sound.kept (λ u k. k) (keeps (sound.kept i t here))
     where
       next_same : t'.next ≡ t.next
       next_same = ap (λ u. u.next) c.does
@@ -314,6 +316,7 @@ module _ (stores : List Variables) (arrivals : List Arrival) (until time : ℕ) 
         next = omega (arith, next_same, k.next);
         units = ap (λ th. th.units.now) c.thread ∙ k.units;
         idle = λ not. ap (λ u. u.left) c.does;
+        nested = nests k.nested;
       }
 
   ended-here : HasNoEffect (Some i) tasks'
@@ -329,34 +332,36 @@ module _ (stores : List Variables) (arrivals : List Arrival) (until time : ℕ) 
       wrong e = cc
 
   -- it sleeps
-  pub finish-sound : (q' : Queues) → t'.readiness ≡ readies.Asleep → q' ≡ record q { asleep = in_time (i, max t'.next time) q.asleep } → t'.works ≤ t.works + min t'.left 1
+  pub finish-sound : (q' : Queues) → t'.readiness ≡ readies.Asleep → q' ≡ record q { asleep = in_time (i, max t'.next time) q.asleep } → t'.works ≤ t.works + min t'.left 1 → (IsNested (task_of t) → IsNested (task_of t'))
       → IsSound until time (Effects None) (Some i) us tasks' q'
-  finish-sound q' sleeps is works =
+  finish-sound q' sleeps is works nests =
       subst (IsSound until time (Effects None) (Some i) us tasks') (sym is) (record {
         size = sound.size ∙ sym end-len;
         queued = placed;
         sleeping = subst (λ (ts : List states.Task). AreSleeping ts time (in_time (i, max t'.next time) q.asleep)) (sym (changed-tasks tasks tasks' i t t' (ended a.vars) c))
             (sleeping-more (map task_of tasks) time q.asleep i t'.next (task_of t) (ended a.vars) sound.sleeping end-at awake
             (ap (λ u. u.readiness) (sym c.does) ∙ ap (λ r. readiness_of r t'.next) sleeps));
-        kept = ended-kept works;
+        kept = ended-kept works nests;
         here = ended-here;
         near = sound.near;
         few = omega (arith, end-len, sound.few);
+        calls = changed-alike tasks tasks' i t t' (ended a.vars) c us sound.calls;
         in_time = sound.in_time;
       })
 
   -- it waits
-  pub wait-sound : (t'.readiness ≡ readies.Asleep → ⊥) → t'.works ≤ t.works + min t'.left 1 → IsSound until time (Effects None) (Some i) us tasks' q
-  wait-sound waits works = record {
+  pub wait-sound : (t'.readiness ≡ readies.Asleep → ⊥) → t'.works ≤ t.works + min t'.left 1 → (IsNested (task_of t) → IsNested (task_of t')) → IsSound until time (Effects None) (Some i) us tasks' q
+  wait-sound waits works nests = record {
     size = sound.size ∙ sym end-len;
     queued = placed;
     sleeping = subst (λ (ts : List states.Task). AreSleeping ts time q.asleep) (sym (changed-tasks tasks tasks' i t t' (ended a.vars) c))
         (sleeping-awake (map task_of tasks) time q.asleep i (task_of t) (ended a.vars) sound.sleeping end-at awake
         (λ k h. asleep-apart t'.readiness t'.next k waits (ap (λ u. u.readiness) c.does ∙ h)));
-    kept = ended-kept works;
+    kept = ended-kept works nests;
     here = ended-here;
     near = sound.near;
     few = omega (arith, end-len, sound.few);
+    calls = changed-alike tasks tasks' i t t' (ended a.vars) c us sound.calls;
     in_time = sound.in_time;
   }
 
@@ -392,10 +397,10 @@ module _ (stores : List Variables) (arrivals : List Arrival) (until time : ℕ) 
           (tail-ranks costs tasks' tasks'' end_orders q.ready i t' t'' d ended-queued ended-rests);
     }
 
-    pub served-sound : (q' : Queues) → q' ≡ record q { ready = at_tail (i, (task_of t'').active) q.ready } → t'.works ≤ t.works + min t'.left 1 → t''.works ≤ t'.works + min t''.left 1 → 0 < t''.left
+    pub served-sound : (q' : Queues) → q' ≡ record q { ready = at_tail (i, (task_of t'').active) q.ready } → t'.works ≤ t.works + min t'.left 1 → t''.works ≤ t'.works + min t''.left 1 → 0 < t''.left → (IsNested (task_of t) → IsNested (task_of t'))
         → IsSound until time (Effects None) (Some i) us tasks'' q'
-    served-sound q' is works works' some =
-        waiting-released until time costs us (Effects None) (Some i) tasks' tasks'' q q' i t' t'' (λ ts es. refl) (wait-sound not works) d (waits-now not) works' is
+    served-sound q' is works works' some nests =
+        waiting-released until time costs us (Effects None) (Some i) tasks' tasks'' q q' i t' t'' (λ ts es. refl) (wait-sound not works nests) d (waits-now not) works' is
         (omega (arith, changed-length tasks' tasks'' i t' t'' (released costs) d, end-len, sound.here.1), λ u there ready none. nothing (subst (λ (v : Task). 0 < v.left) (same u there) some) none)
       where
         nothing : {n : ℕ} → 0 < n → n ≡ 0 → ⊥

@@ -14,12 +14,9 @@ use Rattle.ceil_runtime.specs.Left.{Falls}
 use Rattle.ceil_runtime.specs.Processing.{Follows, HasNoEffect, HoldsIn, IsRunning}
 use Rattle.ceil_runtime.specs.Shown.{IsSettled}
 use Rattle.ceil_runtime.specs.declared.task.Task.{Task}
-use Rattle.ada_tree.specs.Programs.{Shared, Sporadic}
-use Rattle.seq_tree.specs.Statements.{End}
 use Rattle.seq_tree.specs.Variables.{Variables}
 use Rattle.ceil_runtime.specs.Doing.{KeepsData}
 use Rattle.ceil_runtime.specs.Readies.{readiness_of, rests_as}
-use Rattle.ada_tree.specs.InUse.{is_run}
 use Rattle.ceil_runtime.specs.Stepping.{GoesOn, told_of}
 use Rattle.ceil_runtime.specs.Works.{asked}
 use Rattle.ceil_runtime.specs.declared.effects.Act.TheVariants.{Finish}
@@ -64,16 +61,6 @@ rests = refl
 
 rests-not : rests_as readies.Waiting (timing.Periodic 0 5) ≡ false
 rests-not = refl
-
--- the units that are run: a sporadic one that is requested from outside, and none that is requested from inside
-run-external : is_run (Sporadic 3 4 (record { name = []; params = [] }) 10 0 true [] End) ≡ true
-run-external = refl
-
-run-internal : is_run (Sporadic 3 4 (record { name = []; params = [] }) 10 0 false [] End) ≡ false
-run-internal = refl
-
-run-shared : is_run (Shared 4 [] []) ≡ false
-run-shared = refl
 
 -- a second arrival replaces the value that is kept
 replaced : (t : states.Task) → asked (Some 2) (asked (Some 1) t) ≡ asked (Some 2) t

@@ -1,68 +1,118 @@
--- Examples of sections, objects and the effects that are left: for each definition one case that holds, and one that breaks it alone.
-use Rattle.std.specs.Prelude.{◌≡◌, ℕ, true, false, List, [], ◌∷◌, Some, None, refl}
-use Rattle.seq_tree.specs.Statements.{End}
-use Rattle.seq_tree.specs.declared.tree.Datum.{Datum}
-use Rattle.ada_tree.specs.Programs.{Unit, Passive, Shared, Cyclic}
-use Rattle.machine.specs.Systems.{TaskUnit, Periodic}
-use Rattle.machine.specs.Pieces.{Piece, Finishing, Turned}
+-- Examples of sections and of what is known of a task that enters one: for each definition one case that holds, and one that breaks it.
+use Rattle.std.specs.Prelude.{◌≡◌, ℕ, ◌<◌, ◌≤◌, List, [], ◌∷◌, Some, None, slice_get, refl}
+use Rattle.std.proofs.Common.{ap, sym, ◌∙◌, arith}
+use Rattle.seq_tree.specs.Trees.{operation_of}
+use Rattle.seq_tree.specs.Variables.{Variables}
+use Rattle.machine.specs.Systems.{Protected, callee}
+use Rattle.machine.specs.Pieces as pieces
+use Rattle.machine.specs.Deeds as deeds
+use Rattle.machine.specs.Deeds.{called, done}
+use Rattle.machine.specs.Releases.{going}
 use Rattle.machine.specs.States as states
-use Rattle.machine.specs.States.{Task, Ready, shut}
-use Rattle.machine.specs.Effects.{inside_now, outside_now}
-use Rattle.ceil_runtime.specs.Insides.{inside_of}
-use Rattle.ceil_runtime.specs.Left.{ran_effort}
-use Rattle.ceil_runtime.specs.Libraries.{objects_from}
-use Rattle.ceil_runtime.specs.Objects.{first_object}
-use Rattle.ceil_runtime.specs.Works.{kept_value, opened_now}
-use Rattle.ceil_runtime.specs.declared.inside.Section.TheVariants.{Object, Control}
+use Rattle.machine.specs.States.{shut}
+use Rattle.ceil_runtime.specs.Doing.{IsAmong, IsEntry, StaysOutside}
+use Rattle.ceil_runtime.specs.Libraries.{no_costs}
+use Rattle.ceil_runtime.specs.Stepping.{HasOp}
+use Rattle.ceil_runtime.specs.Works.{Enters, IsNested, Leaves}
+use Rattle.ceil_runtime.specs.Written.{system_of}
+use Rattle.ceil_runtime.specs.declared.piece.Entry.{Entry}
+use Rattle.ceil_runtime.specs.declared.piece.Piece.TheVariants as is
+use Rattle.ceil_runtime.specs.declared.task.Task.{Task}
+use Rattle.ceil_runtime.proofs.ExamplesCalls.{object, task, three}
 
--- the section that was entered last is the innermost one
-innermost : inside_of (record { section = Object 2; before = 3 } ∷ record { section = Control 0; before = 7 } ∷ [])
-    ≡ record { section = states.Control 0; before = 7 } ∷ record { section = states.Object 2; before = 3 } ∷ []
-innermost = refl
+-- a task that a piece concerns is one of the tasks
+among : IsAmong three (deeds.Ask 0)
+among = omega arith
 
--- a task, ready at priority 3, with so many ticks left of its end
-abbrev thread : TaskUnit
-thread = record { unit = 1; name = 116 ∷ []; priority = 3; timing = Periodic 0 10; vars = []; block = End; durations = [] }
+among-not : IsAmong three (deeds.Keep 1 None) → ⊥
+among-not h = let one : 1 < 1 = h in omega (arith, one)
 
-abbrev task : List Piece → ℕ → Task
-task pieces left = record { thread = thread; readiness = Ready; active = 3; next = 10; vars = []; pieces = pieces; left = left; used = 0; works = 0; inside = []; gate = shut }
+-- a piece without a call stays outside, the end of a protected body does not
+idle-outside : StaysOutside three is.Idle
+idle-outside = tt
 
--- inside it has the ceiling, and outside again what it had
-ceiling-inside : (inside_now (states.Object 0) 9 (task [] 0)).active ≡ 9
-ceiling-inside = refl
+closing-not : (e : Entry) → StaysOutside three (is.Closing e) → ⊥
+closing-not e h = h
 
-priority-back : outside_now (inside_now (states.Object 0) 9 (task [] 0)) ≡ task [] 0
-priority-back = refl
+-- the call of an operation of the object, which is the first one
+entry : (e : Entry) → callee three e.call.object.now e.call.name.now ≡ Protected e.object e.place object (operation_of e.call.op.now) → e.object ≡ 0 → object.vars ≡ e.«data».now → IsEntry three e
+entry e calls first vars = record { object = object; calls = calls; at = ap (slice_get three.objects) first; vars = vars }
 
--- a value that is kept replaces another one, and leaves the barrier as it is
-value-replaced : (kept_value (Some 2) (kept_value (Some 1) (task [] 0))).gate ≡ record { value = Some 2; open' = false }
-value-replaced = refl
+entry-not : (e : Entry) → e.object ≡ 1 → IsEntry three e → ⊥
+entry-not e second h = none (ap (slice_get three.objects) (sym second) ∙ h.at)
+  where
+    none : None ≡ Some h.object → ⊥
+    none k = cc
 
-barrier-open : (opened_now (kept_value (Some 2) (task [] 0))).gate ≡ record { value = Some 2; open' = true }
-barrier-open = refl
+-- a task that is about to call the operation of the object, and one that is about to leave it
+abbrev at : List pieces.Piece → List states.Held → states.Task
+at ps inside = record {
+  thread = task;
+  readiness = states.Ready;
+  active = 4;
+  next = 0;
+  vars = [];
+  pieces = ps;
+  left = 0;
+  used = 0;
+  works = 0;
+  inside = inside;
+  gate = shut;
+}
 
--- the protected objects of units, each with its place, and their data as they are written
-abbrev datum : Datum
-datum = record { name = 120 ∷ []; value = 7 }
+abbrev caller : states.Task
+caller = at (pieces.Calling (2 ∷ []) (21 ∷ []) [] ∷ []) []
 
-abbrev units : List Unit
-units = record { name = 112 ∷ []; form = Passive [] } ∷ record { name = 111 ∷ []; form = Shared 4 (datum ∷ []) [] } ∷ record { name = 116 ∷ []; form = Cyclic 3 0 10 [] End } ∷ []
+abbrev leaver : states.Task
+leaver = at (pieces.Closing 0 0 [] [] [] [] ∷ []) (record { section = states.Object 0; before = 4 } ∷ [])
 
-one-object : objects_from 0 units ≡ record { unit = 1; name = 111 ∷ []; ceiling = 4; vars = datum ∷ []; ops = [] } ∷ []
-one-object = refl
+abbrev outcome : deeds.PieceOutcome
+outcome = done three (pieces.Calling (2 ∷ []) (21 ∷ []) []) [] []
 
-written-data : (first_object (record { unit = 1; name = 111 ∷ []; ceiling = 4; vars = datum ∷ []; ops = [] })).store ≡ (120 ∷ [], 7) ∷ []
-written-data = refl
+enters : Enters three no_costs 0 0 [] [] caller (going no_costs outcome.vars outcome.pieces caller)
+enters = record {
+  piece = pieces.Calling (2 ∷ []) (21 ∷ []) [];
+  rest = [];
+  vars = outcome.vars;
+  pieces = outcome.pieces;
+  first = refl;
+  does = λ y alike. ap (λ k. called k [] [] []) (alike (2 ∷ []) (21 ∷ []));
+  after = refl;
+}
 
--- the effects that are left in an instant are those of the task that used the tick before, where its piece has no ticks left
-no-effort-yet : ran_effort 9 (task (Finishing ∷ []) 1 ∷ []) (Some 0) ≡ 0
-no-effort-yet = refl
+first_is : {p q : pieces.Piece} {ps qs : List pieces.Piece} → p ∷ ps ≡ q ∷ qs → p ≡ q
+first_is e = cc
 
-some-effort-now : ran_effort 9 (task (Finishing ∷ []) 0 ∷ []) (Some 0) ≡ 9
-some-effort-now = refl
+enters-not : (values : List ℕ) (lent : Variables) (t : states.Task) → Enters three no_costs 1 0 values lent caller t → ⊥
+enters-not values lent t h =
+    wrong (ap (λ p. (done three p [] h.rest).act) (first_is h.first) ∙ ap (λ d. d.act) (h.does three (λ unit op. refl)))
+  where
+    wrong : deeds.Enter 0 0 [] ≡ deeds.Enter 1 0 values → ⊥
+    wrong k = cc
 
-an-end-of-a-turn : ran_effort 9 (task (Turned [] 1 2 End ∷ Finishing ∷ []) 0 ∷ []) (Some 0) ≡ 1
-an-end-of-a-turn = refl
+leaves : Leaves three no_costs 0 0 [] [] leaver (going no_costs [] [] leaver)
+leaves = record { piece = pieces.Closing 0 0 [] [] [] []; rest = []; vars = []; pieces = []; first = refl; does = λ y alike. refl; after = refl }
 
-nobody-ran-before : ran_effort 9 (task (Finishing ∷ []) 0 ∷ []) None ≡ 0
-nobody-ran-before = refl
+leaves-not : (values : List ℕ) (data' : Variables) (t : states.Task) → Leaves three no_costs 0 0 values data' caller t → ⊥
+leaves-not values data' t h =
+    wrong (ap (λ p. (done three p [] h.rest).act) (first_is h.first) ∙ ap (λ d. d.act) (h.does three (λ unit op. refl)))
+  where
+    wrong : deeds.Enter 0 0 [] ≡ deeds.Leave 0 0 values data' → ⊥
+    wrong k = cc
+
+-- a task is inside as many sections at most as it is still to leave
+nested : IsNested leaver
+nested = omega arith
+
+nested-not : IsNested (at [] leaver.inside) → ⊥
+nested-not h = let one : 1 ≤ 0 = h in omega (arith, one)
+
+-- an operation of the object, which has one
+has-op : (t : Task) → system_of t.progress.stack.thread ≡ three → HasOp (t ∷ []) 1 0
+has-op t same = record { place = 0; task = t; here = refl; object = 0; entered = object; at = ap (λ y. slice_get y.objects 0) same; is_unit = refl; is_op = omega arith }
+
+has-op-not : HasOp [] 1 0 → ⊥
+has-op-not h = none h.here
+  where
+    none : None ≡ Some h.task → ⊥
+    none k = cc

@@ -7,7 +7,8 @@ use Rattle.seq_tree.specs.Names.{Name, are_distinct, same_name}
 use Rattle.seq_tree.specs.Variables.{Variables, kept, write, stored}
 use Rattle.seq_tree.specs.declared.tree.Stmt.{Stmt}
 use Rattle.ceil_runtime.specs.Stacked.{vars_of}
-use Rattle.ceil_runtime.specs.Progresses.{put_away, started}
+use Rattle.machine.specs.Pieces as pieces
+use Rattle.ceil_runtime.specs.Progresses.{put_away, started, with_parts}
 use Rattle.ceil_runtime.specs.Progresses.{kept as kept_frames}
 use Rattle.ceil_runtime.specs.Fitting.{FitsFirst, FitsList, FitsPiece, IsOfStatement, IsPopped, IsPushed, Named, Place, PutsAway, Spot, names_of, next, place_of}
 use Rattle.ceil_runtime.specs.Doing.{IsFirst}
@@ -34,6 +35,10 @@ fits_statement p (piece.Testing arm arms other) of h = h
 fits_statement p (piece.Turning r) of h = h
 fits_statement p (piece.Turned r) of h = absurd of
 fits_statement p (piece.Returning c) of h = absurd of
+fits_statement p (piece.Closing e) of h = absurd of
+fits_statement p (piece.Keeping r) of h = absurd of
+fits_statement p (piece.Opening r) of h = absurd of
+fits_statement p (piece.Requested r) of h = absurd of
 fits_statement p piece.Finishing of h = absurd of
 
 named_statement : (p : Place) (now : List Name) (q : Piece) → IsOfStatement q → now ≡ p.names → Named p (Some q) now
@@ -47,6 +52,10 @@ named_statement p now (piece.Testing arm arms other) of h = h
 named_statement p now (piece.Turning r) of h = h
 named_statement p now (piece.Turned r) of h = absurd of
 named_statement p now (piece.Returning c) of h = absurd of
+named_statement p now (piece.Closing e) of h = absurd of
+named_statement p now (piece.Keeping r) of h = absurd of
+named_statement p now (piece.Opening r) of h = absurd of
+named_statement p now (piece.Requested r) of h = absurd of
 named_statement p now piece.Finishing of h = absurd of
 
 away_statement : (q : Piece) (away : Variables) → IsOfStatement q → away ≡ [] → PutsAway (Some q) away
@@ -60,7 +69,29 @@ away_statement (piece.Testing arm arms other) away of h = h
 away_statement (piece.Turning r) away of h = h
 away_statement (piece.Turned r) away of h = h
 away_statement (piece.Returning c) away of h = absurd of
+away_statement (piece.Closing e) away of h = absurd of
+away_statement (piece.Keeping r) away of h = absurd of
+away_statement (piece.Opening r) away of h = absurd of
+away_statement (piece.Requested r) away of h = absurd of
 away_statement piece.Finishing away of h = h
+
+-- a piece that a statement begins with is no part of a request
+pub no-parts : (q : Piece) (ps : List pieces.Piece) → IsOfStatement q → with_parts q ps ≡ ps
+no-parts piece.Idle ps of = refl
+no-parts (piece.Store target value) ps of = refl
+no-parts (piece.Leaving condition) ps of = refl
+no-parts (piece.Calling object op actuals) ps of = refl
+no-parts (piece.Working ticks) ps of = refl
+no-parts (piece.Printing value) ps of = refl
+no-parts (piece.Testing arm arms other) ps of = refl
+no-parts (piece.Turning r) ps of = refl
+no-parts (piece.Turned r) ps of = refl
+no-parts (piece.Returning c) ps of = refl
+no-parts (piece.Closing e) ps of = refl
+no-parts (piece.Keeping r) ps of = absurd of
+no-parts (piece.Opening r) ps of = absurd of
+no-parts (piece.Requested r) ps of = refl
+no-parts piece.Finishing ps of = refl
 
 -- frames from which one of this form was taken
 pub popped-at : (p : Place) (fs gs : List Frame) (f g : Frame) → IsPopped p fs gs f → f ≡ g → IsPopped p fs gs g
@@ -135,6 +166,7 @@ all-back p fs gs f popped other = by_form f popped other where
   by_form (frame.Turned r) h no_other = ap (λ k. k.away) h.kept ∙ h.here.0
   by_form (frame.Saved v) h no_other = absurd (no_other v refl)
   by_form (frame.Return c) h no_other = ap (λ k. k.away) h.kept
+  by_form (frame.Close e lent) h no_other = ap (λ k. k.away) h.kept
 
 -- a task that has nothing left has its data alone
 pub names-idle : (t : Thread) (first : Option Piece) (vs : Variables) (fs : List Frame) → IsFirst t first vs fs → started first (kept_frames fs) ≡ [] → names_of vs ≡ data_names t

@@ -1,14 +1,14 @@
 -- Frames: what is pushed stands first, and where the next frame stands.
-use Rattle.std.proofs.Common.{◌≡◌, ℕ, suc, ◌+◌, ◌≤◌, ◌<◌, List, [], ◌∷◌, ◌++◌, length, drop, map, fold, refl, ap, sym, subst, ◌∙◌, arith, append-nil, Option, Some, None}
+use Rattle.std.proofs.Common.{◌≡◌, ℕ, suc, ◌+◌, ◌≤◌, ◌<◌, List, [], ◌∷◌, ◌++◌, length, drop, take, map, fold, refl, ap, sym, subst, ◌∙◌, arith, append-nil, Option, Some, None}
 use Rattle.std.specs.Prelude.{IsSome, option_to_list}
 use Rattle.std.proofs.lemmas.Bool.{false≢true}
 use Rattle.std.proofs.lemmas.List.Sums.{fold-append}
-use Rattle.std.proofs.lemmas.List.{length-map}
+use Rattle.std.proofs.lemmas.List.{length-map, length-take}
 use Rattle.std.proofs.Common.{length-append}
 use Rattle.seq_tree.specs.Variables.{Variables}
 use Rattle.ceil_runtime.specs.Callable.{calls_room}
 use Rattle.ceil_runtime.specs.Progresses.{Kept, kept, nothing_kept, put_away, with_frame}
-use Rattle.ceil_runtime.specs.Fitting.{Fit, FitsFrame, IsPopped, IsPushed, Place, Pops, names_of, next, place_of}
+use Rattle.ceil_runtime.specs.Fitting.{Fit, FitsFrame, IsPopped, IsPushed, Place, Pops, entry_names, names_of, next, place_of}
 use Rattle.ceil_runtime.specs.Written.{first_place, reserve}
 use Rattle.ceil_runtime.specs.Stacked.{vars_of}
 use Rattle.ceil_runtime.specs.declared.values.Var.{Var}
@@ -58,7 +58,7 @@ pushed-fit p f fs gs e h k = subst (FitAll p) (sym e) (fit-push p nothing_kept f
 
 -- the room that is taken and that may still be taken: it never grows
 abbrev pub budget : Place → ℕ
-budget p = p.height + length p.names + p.spot.room + calls_room p.spot.chain p.spot.libraries
+budget p = p.height + length p.names + p.spot.room + calls_room p.spot.chain p.spot.system
 
 frame-budget : (p : Place) (away : Variables) (f : Frame) → FitsFrame p away f → budget (next p f) ≤ budget p
 frame-budget p away frame.Finish h = omega (arith, h.1, length-append p.params p.names)
@@ -71,6 +71,14 @@ frame-budget p away (frame.Return c) h =
     let locals = c.op.now.locals.items in
     let names = length-append (map (λ q. q.name) params) (map (λ d. d.name) locals) in
     omega (arith, none, h.1.room, names, length-map params (λ q. q.name), length-map locals (λ d. d.name))
+frame-budget p away (frame.Close e lent) h =
+    let none : length p.names ≡ 0 = ap length h.0 in
+    let params = e.call.op.now.sig.params.items in
+    let locals = e.call.op.now.locals.items in
+    let body = length-append (map (λ q. q.name) params) (map (λ d. d.name) locals) in
+    let names = length-append (map (λ q. q.name) params ++ map (λ d. d.name) locals) (take lent (entry_names e)) in
+    let few = length-take lent (entry_names e) in
+    omega (arith, none, h.1.room, body, names, few, length-map params (λ q. q.name), length-map locals (λ d. d.name), length-map e.«data».now (λ d. d.name))
 
 fit-budget : (p : Place) (k : Kept) (fs : List Frame) → Fit p k fs → budget (place_of p fs) ≤ budget p
 fit-budget p k [] h = omega arith
@@ -82,23 +90,25 @@ one_higher p (frame.Stmts ss) = refl
 one_higher p (frame.Turned r) = refl
 one_higher p (frame.Saved v) = refl
 one_higher p (frame.Return c) = refl
+one_higher p (frame.Close e lent) = refl
 
 -- as many frames below as there are
 height-length : (p : Place) (fs : List Frame) → (place_of p fs).height ≡ p.height + length fs
 height-length p [] = omega arith
 height-length p (f ∷ fs) = let more = height-length (next p f) fs in let one = one_higher p f in omega (arith, more, one)
 
-same_libraries : (p : Place) (f : Frame) → (next p f).spot.libraries ≡ p.spot.libraries
-same_libraries p frame.Finish = refl
-same_libraries p (frame.Stmts ss) = refl
-same_libraries p (frame.Turned r) = refl
-same_libraries p (frame.Saved v) = refl
-same_libraries p (frame.Return c) = refl
+same_system : (p : Place) (f : Frame) → (next p f).spot.system ≡ p.spot.system
+same_system p frame.Finish = refl
+same_system p (frame.Stmts ss) = refl
+same_system p (frame.Turned r) = refl
+same_system p (frame.Saved v) = refl
+same_system p (frame.Return c) = refl
+same_system p (frame.Close e lent) = refl
 
--- the passive units are the same everywhere
-pub libraries-kept : (p : Place) (fs : List Frame) → (place_of p fs).spot.libraries ≡ p.spot.libraries
-libraries-kept p [] = refl
-libraries-kept p (f ∷ fs) = libraries-kept (next p f) fs ∙ same_libraries p f
+-- the units that calls lead to are the same everywhere
+pub system-kept : (p : Place) (fs : List Frame) → (place_of p fs).spot.system ≡ p.spot.system
+system-kept p [] = refl
+system-kept p (f ∷ fs) = system-kept (next p f) fs ∙ same_system p f
 
 -- no more frames, and no more variables, than there is room for
 pub few-frames : (t : Thread) (fs : List Frame) → FitAll (first_place t) fs

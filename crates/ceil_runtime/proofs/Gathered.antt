@@ -1,6 +1,5 @@
 -- The tasks among units, gathered one after another.
-use Rattle.std.specs.Prelude.{◌≡◌, ◌⊎◌, ℕ, ◌+◌, ◌<◌, ◌≤◌, Bool, true, false, ◌&&◌, ◌++◌, List, [], ◌∷◌, length, map, drop, get_or, None, Some, option_to_list, slice_get, refl}
-use Rattle.std.specs.List.{list_all}
+use Rattle.std.specs.Prelude.{◌≡◌, ◌⊎◌, ℕ, ◌+◌, ◌<◌, ◌≤◌, ◌++◌, List, [], ◌∷◌, length, map, drop, get_or, None, Some, option_to_list, slice_get, refl}
 use Rattle.std.proofs.Common.{sym, ◌∙◌, ap, subst, arith, inl, inr, append_assoc, append-nil}
 use Rattle.std.proofs.lemmas.List.{length_push, map-append}
 use Rattle.std.proofs.Math.ListN.{drop_of_length-le}
@@ -9,7 +8,6 @@ use Rattle.seq_tree.specs.Statements.{Statements}
 use Rattle.seq_tree.specs.Trees.{block_of, statement_of, statements_of}
 use Rattle.seq_tree.specs.declared.tree.Block.{Block}
 use Rattle.seq_tree.specs.declared.tree.Datum.{Datum}
-use Rattle.ada_tree.specs.InUse.{is_run}
 use Rattle.ada_tree.specs.Programs.{Unit, Form, Passive, Shared, Cyclic, Sporadic}
 use Rattle.ada_tree.specs.Trees.{form_of, unit_of}
 use Rattle.ada_tree.specs.declared.program.Unit as units
@@ -18,8 +16,9 @@ use Rattle.ada_tree.specs.declared.program.Form.TheVariants as form
 use Rattle.arrivals_tree.specs.Arriving.{durations}
 use Rattle.arrivals_tree.specs.declared.arrivals.WorkList.{WorkList}
 use Rattle.machine.specs.Systems.{thread_by}
-use Rattle.ceil_runtime.specs.Gathering.{Adds, AllThreads, IsThreadOf, threads_from}
-use Rattle.ceil_runtime.specs.Written.{block_of_thread, form_by, handed, thread_of, timing_of, written_as}
+use Rattle.ceil_runtime.specs.Gathering.{Adds, AllThreads, IsThreadOf}
+use Rattle.ceil_runtime.specs.Libraries.{handed, threads_from}
+use Rattle.ceil_runtime.specs.Written.{block_of_thread, form_by, thread_of, timing_of, written_as}
 use Rattle.ceil_runtime.specs.declared.thread.Timing.{Timing}
 use Rattle.ceil_runtime.specs.declared.thread.Timing.TheVariants as timing
 use Rattle.ceil_runtime.specs.declared.thread.Thread.{Thread}
@@ -83,6 +82,9 @@ module _ (work : List WorkList) (us : List units.Unit) (place : ℕ) (u : units.
 pub passive-none : (work : List WorkList) (place : ℕ) (u : units.Unit) (ops : _) → u.form ≡ form.Passive ops → thread_by (durations (handed work) place) place (unit_of u).name (unit_of u).form ≡ None
 passive-none work place u ops is = ap (λ f. thread_by (durations (handed work) place) place u.name (form_of f)) is
 
+pub shared-none : (work : List WorkList) (place : ℕ) (u : units.Unit) (ceiling : _) (vars : _) (ops : _) → u.form ≡ form.Shared ceiling vars ops → thread_by (durations (handed work) place) place (unit_of u).name (unit_of u).form ≡ None
+shared-none work place u ceiling vars ops is = ap (λ f. thread_by (durations (handed work) place) place u.name (form_of f)) is
+
 threads-cons : (work : List WorkList) (n : ℕ) (u : Unit) (us : List Unit) → threads_from work n (u ∷ us) ≡ option_to_list (thread_by (durations (handed work) n) n u.name u.form) ++ threads_from work (n + 1) us
 threads-cons work n u us = by_form u.form
   where
@@ -96,29 +98,12 @@ threads-cons work n u us = by_form u.form
 abbrev pub AreGathered : List WorkList → List units.Unit → ℕ → List Thread → Type 0
 AreGathered work us n ts = map thread_of ts ++ threads_from work n (map unit_of (drop n us)) ≡ threads_from work 0 (map unit_of us)
 
-abbrev pub AreUsable : List units.Unit → ℕ → Type 0
-AreUsable us n = list_all (λ u. is_run u.form) (map unit_of (drop n us)) ≡ true
-
-and_true : (a b : Bool) → (a && b) ≡ true → (a ≡ true) × (b ≡ true)
-and_true true true e = (refl, refl)
-and_true true false e = absurd (no_true e)
-  where
-    no_true : false ≡ true → ⊥
-    no_true h = cc
-and_true false b e = absurd (no_true e)
-  where
-    no_true : false ≡ true → ⊥
-    no_true h = cc
-
 module _ (work : List WorkList) (us : List units.Unit) (n : ℕ) (u : units.Unit) (h : n < length us) (is : u ≡ get_or us n u) where
   from_here : map unit_of (drop n us) ≡ unit_of u ∷ map unit_of (drop (n + 1) us)
   from_here = units-at us n u h ∙ ap (λ v. unit_of v ∷ map unit_of (drop (n + 1) us)) (sym is)
 
   pub is-here : slice_get (map unit_of us) n ≡ Some (unit_of u)
   is-here = get-map us n u h ∙ ap (λ v. Some (unit_of v)) (sym is)
-
-  pub usable-here : AreUsable us n → (is_run (unit_of u).form ≡ true) × AreUsable us (n + 1)
-  usable-here all = and_true _ _ (sym (ap (list_all (λ v. is_run v.form)) from_here) ∙ all)
 
   pub gathered-more : (ts ts' : List Thread) → Adds work us n u ts ts' → AreGathered work us n ts → AreGathered work us (n + 1) ts'
   gathered-more ts ts' a so_far =

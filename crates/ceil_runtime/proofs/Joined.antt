@@ -7,7 +7,7 @@ use Rattle.std.proofs.lemmas.Option.{none-some, same_Some}
 use Rattle.arrivals_tree.specs.Acceptance.{has_nothing}
 use Rattle.arrivals_tree.specs.Arriving.{durations}
 use Rattle.arrivals_tree.specs.declared.arrivals.WorkList.{WorkList}
-use Rattle.ceil_runtime.specs.Written.{handed}
+use Rattle.ceil_runtime.specs.Libraries.{handed}
 
 or_false : (a b : Bool) → (a || b) ≡ false → (a ≡ false) × (b ≡ false)
 or_false false false e = (refl, refl)

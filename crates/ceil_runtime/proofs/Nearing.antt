@@ -5,7 +5,7 @@ use Rattle.seq_tree.specs.declared.tree.Costs.{Costs}
 use Rattle.arrivals_tree.specs.declared.arrivals.Arrival.{Arrival}
 use Rattle.ada_tree.specs.Trees.{unit_of}
 use Rattle.ada_tree.specs.declared.program.Unit as units
-use Rattle.ceil_runtime.specs.Callable.{calls_room}
+use Rattle.ceil_runtime.specs.Callable.{calls_room, libraries_room, objects_room}
 use Rattle.std.proofs.lemmas.List.{length-map}
 use Rattle.std.proofs.lemmas.Option.{slice_get-map}
 use Rattle.machine.specs.States as states
@@ -14,9 +14,9 @@ use Rattle.ceil_runtime.specs.Processing.{AllTasks, IsKept, system_by}
 use Rattle.ceil_runtime.specs.Left.{effort_of, ran_effort}
 use Rattle.ceil_runtime.specs.Stepping.{steps_by}
 use Rattle.ceil_runtime.specs.Progressed.{pieces_left}
-use Rattle.ceil_runtime.specs.Libraries.{libraries_from}
+use Rattle.ceil_runtime.specs.Libraries.{libraries_from, objects_from}
 use Rattle.ceil_runtime.specs.Works.{task_of}
-use Rattle.ceil_runtime.specs.Written.{libraries_of, params_of, reserve, thread_of}
+use Rattle.ceil_runtime.specs.Written.{system_of, params_of, reserve, thread_of}
 use Rattle.ceil_runtime.specs.declared.task.Task.{Task}
 use Rattle.ceil_runtime.specs.declared.processor.Phase.TheVariants.{Effects, Use}
 use Rattle.ceil_runtime.proofs.Frames.{few-frames}
@@ -52,7 +52,8 @@ sum-most (u ∷ us) (suc i) t at =
 pub reserve-most : (until time : ℕ) (costs : Costs) (us : List units.Unit) (tasks : List Task) (i : ℕ) (t : Task) → slice_get tasks i ≡ Some t → t.progress.stack.thread.units.now ≡ us
     → reserve t.progress.stack.thread ≤ most_ends (system_by until costs us tasks)
 reserve-most until time costs us tasks i t at of =
-    let room : calls_room [] (libraries_of t.progress.stack.thread) ≡ calls_room [] (libraries_from 0 (map unit_of us)) = ap (λ vs. calls_room [] (libraries_from 0 (map unit_of vs))) of in
+    let room : calls_room [] (system_of t.progress.stack.thread) ≡ calls_room [] (system_by until costs us tasks) =
+    ap (λ vs. libraries_room [] (libraries_from 0 (map unit_of vs)) + objects_room [] (objects_from 0 (map unit_of vs))) of in
     omega (arith, sum-most tasks i t at, room, length-map (params_of t.progress.stack.thread) (λ q. q.name))
 
 pub effort-few : (most : ℕ) (t : Task) → reserve t.progress.stack.thread ≤ most → effort most (task_of t).pieces ≤ most

@@ -29,9 +29,12 @@ use Rattle.dispatching.proofs.Heads.{dispatched-head}
 use Rattle.dispatching.proofs.Queued.{queued-kept}
 use Rattle.dispatching.proofs.Running.{running-taken}
 use Rattle.dispatching.proofs.Sleeping.{none-due, sleeping-kept, sleeping-later}
-use Rattle.ceil_runtime.specs.Processing.{AllTasks, Follows, IsKept, IsSound, IsWithin, order_of, state_by, system_by, with_task}
+use Rattle.ceil_runtime.specs.Callable.{CallsAlike}
+use Rattle.ceil_runtime.specs.Libraries.{no_costs}
+use Rattle.ceil_runtime.specs.Written.{system_of}
+use Rattle.ceil_runtime.specs.Processing.{AreAlike, AllTasks, Follows, IsKept, IsSound, IsWithin, order_of, state_by, system_by, with_task}
 use Rattle.ceil_runtime.specs.Readies.{is_ready}
-use Rattle.ceil_runtime.specs.Works.{task_of, used_ticks}
+use Rattle.ceil_runtime.specs.Works.{IsNested, task_of, used_ticks}
 use Rattle.ceil_runtime.specs.Written.{thread_of}
 use Rattle.ceil_runtime.specs.declared.task.Task.{Task}
 use Rattle.ceil_runtime.specs.declared.processor.Phase.TheVariants.{Effects, Arriving, Use}
@@ -120,13 +123,24 @@ module _ (tasks tasks' : List Task) (i : ℕ) (t t' : Task) (f : states.Task →
   pub changed-system : (until : ℕ) (costs : Costs) (us : List units.Unit) → system_by until costs us tasks' ≡ system_by until costs us tasks
   changed-system until costs us = ap (λ ts. record (system_by until costs us tasks) { threads = ts }) changed-threads
 
+  pub changed-alike : (us : List units.Unit) → AreAlike us tasks → AreAlike us tasks'
+  changed-alike us alike =
+      let y : System = system_by 0 no_costs us tasks in
+      let own : system_of t'.progress.stack.thread ≡ y = ap system_of c.thread ∙ alike i t c.here in
+      let all = changed-all (λ u. system_of u.progress.stack.thread ≡ y) (λ u. system_of u.progress.stack.thread ≡ y) alike (λ u h. h) own in
+      subst (λ (z : System). AllTasks (λ u. system_of u.progress.stack.thread ≡ z) tasks') (sym (changed-system 0 no_costs us)) all
+
   -- a task that is there, as a state has it
   pub here-of : slice_get (map task_of tasks) i ≡ Some (task_of t)
   here-of = slice_get-map task_of tasks i ∙ ap (option_map task_of) c.here
 
+-- the calls of each task lead to the same in what runs
+pub runs-alike : (until : ℕ) (costs : Costs) (us : List units.Unit) (tasks : List Task) → AreAlike us tasks → AllTasks (λ t. CallsAlike (system_by until costs us tasks) (system_of t.progress.stack.thread)) tasks
+runs-alike until costs us tasks alike = λ i t at. subst (CallsAlike (system_by until costs us tasks)) (sym (alike i t at)) (λ unit op. refl)
+
 -- what is kept goes on as time passes
 pub kept-later : (until time later : ℕ) (us : List units.Unit) (t : Task) → time ≤ later → IsKept until time us t → IsKept until later us t
-kept-later until time later us t le k = record { used = omega (arith, k.used); works = omega (arith, k.works); next = k.next; units = k.units; idle = k.idle }
+kept-later until time later us t le k = record { used = omega (arith, k.used); works = omega (arith, k.works); next = k.next; units = k.units; idle = k.idle; nested = k.nested }
 
 -- what was put at a place
 pub get-put : (tasks : List Task) (i : ℕ) (t : Task) → i < length tasks → slice_get (set tasks i t) i ≡ Some t
@@ -188,6 +202,7 @@ module _ (stores : List Variables) (arrivals : List Arrival) (until time : ℕ) 
     here = tt;
     near = sound.near;
     few = sound.few;
+    calls = sound.calls;
     in_time = horizon;
   }
 
@@ -259,6 +274,7 @@ module _ (stores : List Variables) (arrivals : List Arrival) (until time : ℕ) 
       here = (refl, omega (arith, len, get_within task tasks t c.here));
       near = sound.near;
       few = omega (arith, len, sound.few);
+      calls = changed-alike tasks tasks' task t t' (used_ticks ticks) c us sound.calls;
       in_time = horizon;
     })
       where
@@ -278,6 +294,7 @@ module _ (stores : List Variables) (arrivals : List Arrival) (until time : ℕ) 
           next = omega (arith, k.next);
           units = ap (λ th. th.units.now) c.thread ∙ k.units;
           idle = λ not. left ∙ ap (λ l. l - ticks) (k.idle (ap is_ready (sym ready) ∙ not)) ∙ none;
+          nested = subst IsNested (sym c.does) k.nested;
         }
 
 -- the first entry of a list, by its task

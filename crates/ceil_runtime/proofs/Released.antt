@@ -1,5 +1,5 @@
 -- The release of a task: at its time, or where it waits; and the end of the delays of an instant.
-use Rattle.std.specs.Prelude.{◌≡◌, ℕ, ◌+◌, ◌<◌, ◌≤◌, ◌^◌, min, Bool, true, false, ◌&&◌, nat_le, if◌then◌else◌, List, [], ◌∷◌, length, map, Option, Some, None, option_map, slice_get, ℤ, refl}
+use Rattle.std.specs.Prelude.{◌≡◌, ℕ, ◌+◌, ◌<◌, ◌≤◌, ◌^◌, min, Bool, true, false, ◌&&◌, ◌||◌, ◌++◌, nat_le, if◌then◌else◌, List, [], ◌∷◌, length, map, Option, Some, None, option_map, slice_get, ℤ, refl}
 use Rattle.std.proofs.Common.{sym, ◌∙◌, ap, subst, arith, inl, inr}
 use Rattle.std.proofs.lemmas.Bool.Decides.{nat_tests}
 use Rattle.std.proofs.lemmas.List.{length-map}
@@ -12,12 +12,12 @@ use Rattle.arrivals_tree.specs.declared.arrivals.Arrival.{Arrival}
 use Rattle.trace_tree.specs.declared.event.Event.TheVariants as event
 use Rattle.link_queue.specs.Queues.{Each, Entry, IsFree, IsOrdered, Queues, WakesBefore, after_due, at_tail, due}
 use Rattle.link_queue.proofs.Lists.{each-map}
-use Rattle.machine.specs.Pieces.{Piece}
+use Rattle.machine.specs.Pieces.{Piece, Finishing, pieces}
 use Rattle.machine.specs.Systems.{System}
 use Rattle.machine.specs.States as states
-use Rattle.machine.specs.States.{Asleep, Ready}
+use Rattle.machine.specs.States.{Asleep, Ready, shut}
 use Rattle.machine.specs.Dispatch.{put_last}
-use Rattle.machine.specs.Releases.{going, is_waiting, next_time, release, release_task, released, serve, serve_task}
+use Rattle.machine.specs.Releases.{going, is_waiting, next_time, parameter, release, release_task, released, serve, serve_task}
 use Rattle.machine.specs.Steps.{delay_step}
 use Rattle.machine.specs.Meanings.{run}
 use Rattle.dispatching.specs.Queueing.{AreQueued, AreSleeping, IsReadyAt, SleepsUntil, places}
@@ -27,8 +27,10 @@ use Rattle.dispatching.proofs.Ranks.{queued-places, ranks-alike}
 use Rattle.dispatching.proofs.Sleeping.{apart-awake, first-due, none-due, sleeping-awake, sleeping-fewer}
 use Rattle.dispatching.proofs.Places.{get-within}
 use Rattle.ceil_runtime.specs.Processing.{HoldsIn, IsKept, IsSound, order_of, state_by, system_by}
+use Rattle.ceil_runtime.specs.Effort.{sections_among}
+use Rattle.ceil_runtime.specs.Progressed.{is_idle, pieces_left}
 use Rattle.ceil_runtime.specs.Readies.{is_ready, readiness_of, rests_as}
-use Rattle.ceil_runtime.specs.Works.{task_of}
+use Rattle.ceil_runtime.specs.Works.{IsNested, task_of}
 use Rattle.ceil_runtime.specs.Written.{timing_of}
 use Rattle.ceil_runtime.specs.declared.thread.Timing.{Timing}
 use Rattle.ceil_runtime.specs.declared.thread.Timing.TheVariants as timing
@@ -37,7 +39,7 @@ use Rattle.ceil_runtime.specs.declared.task.Readiness as readiness
 use Rattle.ceil_runtime.specs.declared.task.Readiness.TheVariants as readies
 use Rattle.ceil_runtime.specs.declared.processor.Phase.{Phase}
 use Rattle.ceil_runtime.specs.declared.processor.Phase.TheVariants.{Delays, Arriving}
-use Rattle.ceil_runtime.proofs.Processed.{Changed, changed-all, changed-length, changed-tasks, here-of, step-run}
+use Rattle.ceil_runtime.proofs.Processed.{changed-alike, Changed, changed-all, changed-length, changed-tasks, here-of, step-run}
 
 -- what a task that goes on is dispatched by
 pub going-active : (costs : Costs) (vars : Variables) (ps : List Piece) (t : states.Task) → (going costs vars ps t).active ≡ t.active
@@ -58,6 +60,29 @@ going-next costs vars (p ∷ ps) t = refl
 
 pub released-used : (costs : Costs) (t : states.Task) → (released costs t).used ≡ 0
 released-used costs t = going-used costs _ _ _
+
+-- a task that is released is inside no section
+pub going-inside : (costs : Costs) (vars : Variables) (ps : List Piece) (t : states.Task) → (going costs vars ps t).inside ≡ t.inside
+going-inside costs vars [] t = refl
+going-inside costs vars (p ∷ ps) t = refl
+
+pub released-nested : (costs : Costs) (t : Task) → is_ready t.readiness ≡ false → IsNested (task_of t) → IsNested (released costs (task_of t))
+released-nested costs t rests h =
+    let idle : pieces_left t.progress ≡ [] = by_pieces (pieces_left t.progress) (or_right (is_ready t.readiness) (is_idle (pieces_left t.progress)) rests t.asleep) in
+    let none : length (task_of t).inside ≤ 0 = subst (λ ps. length (task_of t).inside ≤ sections_among ps) idle h in
+    let same : (released costs (task_of t)).inside ≡ (task_of t).inside =
+    going-inside costs (parameter (task_of t).thread.timing (task_of t).gate.value ++ (task_of t).vars) (pieces (task_of t).thread.block (Finishing ∷ []))
+    (record (task_of t) { readiness = Ready; next = next_time (task_of t).thread.timing t.next; used = 0; gate = shut }) in
+    let many : length (released costs (task_of t)).inside ≡ length (task_of t).inside = ap length same in
+    omega (arith, none, many)
+  where
+    or_right : (a b : Bool) → a ≡ false → (a || b) ≡ true → b ≡ true
+    or_right false b e k = k
+    or_right true b e k = cc
+
+    by_pieces : (ps : List Piece) → is_idle ps ≡ true → ps ≡ []
+    by_pieces [] e = refl
+    by_pieces (p ∷ ps) e = cc
 
 pub released-readiness : (costs : Costs) (t : states.Task) → (released costs t).readiness ≡ Ready
 released-readiness costs t = going-readiness costs _ _ _
@@ -190,6 +215,7 @@ module _ (costs : Costs) (tasks tasks' : List Task) (os : List ℤ) (ready : Lis
         next = next;
         units = ap (λ th. th.units.now) c.thread ∙ k.units;
         idle = λ not. absurd (clash (sym (ap is_ready is-released) ∙ not));
+        nested = subst IsNested (sym c.does) (released-nested costs t rests k.nested);
       }
     where
       clash : true ≡ false → ⊥
@@ -229,6 +255,7 @@ waiting-released until time costs us p ran tasks tasks' q q' i t t' plain sound 
       here = here;
       near = sound.near;
       few = omega (arith, len, sound.few);
+      calls = changed-alike tasks tasks' i t t' (released costs) c us sound.calls;
       in_time = sound.in_time;
     }
   where
@@ -285,6 +312,7 @@ module _ (stores : List Variables) (arrivals : List Arrival) (until time : ℕ) 
         here = later-all q.asleep (none_woken time q.asleep none).0 sound.sleeping.ordered;
         near = sound.near;
         few = sound.few;
+        calls = sound.calls;
         in_time = sound.in_time;
       })
 
@@ -349,5 +377,6 @@ module _ (stores : List Variables) (arrivals : List Arrival) (until time : ℕ) 
             here = tt;
             near = sound.near;
             few = omega (arith, len, sound.few);
+            calls = changed-alike tasks tasks' task t t' (released costs) c us sound.calls;
             in_time = sound.in_time;
           })

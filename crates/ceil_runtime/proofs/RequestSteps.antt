@@ -21,13 +21,13 @@ use Rattle.dispatching.specs.Renumbering.{DifferInOrders}
 use Rattle.dispatching.proofs.Acts.{go-queued, goes-active, other-waits, goes-readiness, outside-readiness, release-queued, served}
 use Rattle.dispatching.proofs.Places.{get-changed, get-other}
 use Rattle.dispatching.proofs.Queued.{queued-kept}
-use Rattle.ceil_runtime.specs.Effort.{effort, most_ends}
+use Rattle.ceil_runtime.specs.Effort.{effort, most_ends, sections_among}
 use Rattle.ceil_runtime.specs.Left.{sleeper}
 use Rattle.ceil_runtime.specs.Processing.{IsKept, IsSound, order_of, state_by, system_by}
 use Rattle.ceil_runtime.specs.Readies.{readiness_of}
 use Rattle.ceil_runtime.specs.Shown.{IsWhole, stores_of}
 use Rattle.ceil_runtime.specs.Stepping.{AreOfTask, Ends, IsStep}
-use Rattle.ceil_runtime.specs.Works.{EffortFalls, task_of}
+use Rattle.ceil_runtime.specs.Works.{EffortFalls, IsNested, task_of}
 use Rattle.ceil_runtime.specs.Written.{reserve}
 use Rattle.ceil_runtime.specs.declared.task.Task.{Task}
 use Rattle.ceil_runtime.specs.declared.task.Readiness.TheVariants as readies
@@ -47,7 +47,7 @@ module _ (m : Machine) (i : ℕ) (whole : IsWhole m) (phase : m.phase ≡ Effect
     (piece : Piece) (rest pieces : List Piece) (vars : Variables) (act : deeds.Act) (first : (task_of t).pieces ≡ piece ∷ rest)
     (does : done (system_by m.until m.costs m.units.now m.tasks.items) piece (task_of t).vars rest ≡ deed act vars pieces)
     (thread : t'.progress.stack.thread ≡ t.progress.stack.thread) (works : t'.works ≤ t.works + min t'.left 1) (falls : EffortFalls t.progress.stack.thread (task_of t) (task_of t'))
-    (tasks' : List Task) (items : tasks' ≡ set m.tasks.items i t') where
+    (nests : IsNested (task_of t) → IsNested (task_of t')) (tasks' : List Task) (items : tasks' ≡ set m.tasks.items i t') where
   requests_whole : IsSound m.until m.time (Effects (Some i)) (Some i) m.units.now m.tasks.items m.links
   requests_whole = running-sound m i whole phase on
 
@@ -68,7 +68,7 @@ module _ (m : Machine) (i : ℕ) (whole : IsWhole m) (phase : m.phase ≡ Effect
 
   -- a part that another task's control structure takes
   module _ (task : task_of t' ≡ going m.costs vars pieces (task_of t)) (k : ℕ) (f : states.Task → states.Task) (same : (v : states.Task) → ((f v).readiness ≡ v.readiness) × ((f v).active ≡ v.active))
-      (rests : (v : states.Task) → ((f v).pieces ≡ v.pieces) × ((f v).left ≡ v.left))
+      (rests : (v : states.Task) → ((f v).pieces ≡ v.pieces) × ((f v).left ≡ v.left)) (held : (v : states.Task) → (f v).inside ≡ v.inside)
       (gates : acted requests_in i (task_of t) act vars pieces (effect_state m i) ≡ (record (effect_state m i) { tasks = change k f (change i (going m.costs vars pieces) (map task_of m.tasks.items)) }, []))
       (u u' : Task) (m' : Machine) (b : IsBeside m m' (Effects (Some i))) (c : Changed tasks' m'.tasks.items k u u' f) (ready : u'.readiness ≡ u.readiness) (left : u'.left ≡ u.left) (used : u'.used ≡ u.used)
       (works' : u'.works ≡ u.works) (next : u'.next ≡ u.next) (links : m'.links ≡ m.links) (stores : stores_of m' ≡ stores_of m) where
@@ -87,7 +87,7 @@ module _ (m : Machine) (i : ℕ) (whole : IsWhole m) (phase : m.phase ≡ Effect
     gate_whole =
         let h : IsKept m.until m.time m.units.now t = requests_whole.kept i t here in
         moved-sound m.until m.time m.units.now i (Some i) m.tasks.items m.links requests_whole tasks' t t' (going m.costs vars pieces) gate_changed requests_orders gate_first
-        (λ v. goes-readiness m.costs vars pieces v) (ap (λ v. v.used) task ∙ same_used pieces) (ap (λ v. v.next) task ∙ same_next pieces) (omega (arith, works, h.works, due))
+        (λ v. goes-readiness m.costs vars pieces v) (ap (λ v. v.used) task ∙ same_used pieces) (ap (λ v. v.next) task ∙ same_next pieces) (omega (arith, works, h.works, due)) nests
       where
         same_used : (ps : List Piece) → (going m.costs vars ps (task_of t)).used ≡ t.used
         same_used [] = refl
@@ -129,6 +129,12 @@ module _ (m : Machine) (i : ℕ) (whole : IsWhole m) (phase : m.phase ≡ Effect
         subst (AreQueued (change k f (change i (going m.costs vars pieces) (map task_of m.tasks.items))) requests_orders) (sym gate_order)
         (queued-kept (change i (going m.costs vars pieces) (map task_of m.tasks.items)) requests_orders (at_head (i, (task_of t').active) m.links.ready) k f gate_first same)
 
+    gate_nests : IsNested (task_of u) → IsNested (task_of u')
+    gate_nests h =
+        let one = ap (λ v. length v.inside) c.does ∙ ap length (held (task_of u)) in
+        let two = ap (λ v. sections_among v.pieces) c.does ∙ ap sections_among (rests (task_of u)).0 in
+        omega (arith, h, one, two)
+
     abbrev gate_state : states.State
     gate_state = record (effect_state m i) { tasks = change k f (change i (going m.costs vars pieces) (map task_of m.tasks.items)) }
 
@@ -152,7 +158,7 @@ module _ (m : Machine) (i : ℕ) (whole : IsWhole m) (phase : m.phase ≡ Effect
         (settled-differs (stores_of m) m.arrivals.now m.time i m'.tasks.items (change k f (change i (going m.costs vars pieces) (map task_of m.tasks.items))) requests_orders m.links.ready gate_tasks gate_queued gate_state refl refl refl)))
         system_is
         (subst (IsSound m.until m.time (Effects (Some i)) (Some i) m.units.now m'.tasks.items) (sym links)
-        (gate-sound m.until m.time m.units.now i tasks' m.links gate_whole k m'.tasks.items u u' f c same ready left used works' next))
+        (gate-sound m.until m.time m.units.now i tasks' m.links gate_whole k m'.tasks.items u u' f c same ready left used works' next gate_nests))
         (b.stopped ∙ on) tt less (omega (arith, less, sleep, sleep', one, two))
 
   -- the end of a request, by which the task that is requested is released, since it waits and its control structure is open
@@ -168,7 +174,7 @@ module _ (m : Machine) (i : ℕ) (whole : IsWhole m) (phase : m.phase ≡ Effect
     answer_first = left-queued (stores_of m) m.arrivals.now m.until m.time m.costs m.units.now i m.tasks.items m.links requests_whole t here due vars pieces tasks' t' answer_changed
 
     answer_whole : IsSound m.until m.time (Effects (Some i)) (Some i) m.units.now tasks' m.links
-    answer_whole = left-sound (stores_of m) m.arrivals.now m.until m.time m.costs m.units.now i m.tasks.items m.links requests_whole t here due vars pieces tasks' t' answer_changed works
+    answer_whole = left-sound (stores_of m) m.arrivals.now m.until m.time m.costs m.units.now i m.tasks.items m.links requests_whole t here due vars pieces tasks' t' answer_changed works nests
 
     answer_there : slice_get (change i (λ v. going m.costs vars pieces (outside_now v)) (map task_of m.tasks.items)) k ≡ Some (task_of u)
     answer_there = ap (λ ts. slice_get ts k) (sym (changed-tasks m.tasks.items tasks' i t t' _ answer_changed)) ∙ here-of tasks' m'.tasks.items k u u' _ c

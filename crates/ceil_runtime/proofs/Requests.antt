@@ -21,12 +21,12 @@ use Rattle.dispatching.proofs.Ranks.{queued-places, ranks-alike}
 use Rattle.dispatching.proofs.Sleeping.{sleeping-awake, sleeping-kept}
 use Rattle.ceil_runtime.specs.Processing.{IsKept, IsSound, order_of, state_by, system_by, with_task}
 use Rattle.ceil_runtime.specs.Readies.{is_ready, readiness_of}
-use Rattle.ceil_runtime.specs.Works.{task_of}
+use Rattle.ceil_runtime.specs.Works.{IsNested, task_of}
 use Rattle.ceil_runtime.specs.declared.task.Task.{Task}
 use Rattle.ceil_runtime.specs.declared.task.Readiness.TheVariants as readies
 use Rattle.ceil_runtime.specs.declared.processor.Phase.TheVariants.{Effects}
-use Rattle.ceil_runtime.proofs.Processed.{Changed, changed-all, changed-length, changed-tasks, here-of}
-use Rattle.ceil_runtime.proofs.Released.{asleep-apart, going-next, going-readiness, ready-is, released-readiness, released-used, waits-next}
+use Rattle.ceil_runtime.proofs.Processed.{changed-alike, Changed, changed-all, changed-length, changed-tasks, here-of}
+use Rattle.ceil_runtime.proofs.Released.{asleep-apart, going-next, going-readiness, ready-is, released-nested, released-readiness, released-used, waits-next}
 
 -- the order of dispatch by the state of the task that has effects
 pub order-by : (i : ℕ) (tasks : List Task) (a : states.Task) (es : List Entry) → slice_get (map task_of tasks) i ≡ Some a → order_of (Effects (Some i)) tasks es ≡ at_head (i, a.active) es
@@ -93,8 +93,9 @@ module _ (until time : ℕ) (us : List units.Unit) (i : ℕ) (tasks : List Task)
       settled-differs stores arrivals time i tasks' (change k f (map task_of tasks)) (places (length tasks) (order_of (Effects (Some i)) tasks q.ready)) q.ready (changed-tasks tasks tasks' k u u' f c) gate_queued
       (record (state_by stores arrivals time (Effects (Some i)) (Some i) false tasks q.ready) { tasks = change k f (map task_of tasks) }) refl refl refl
 
-  pub gate-sound : u'.readiness ≡ u.readiness → u'.left ≡ u.left → u'.used ≡ u.used → u'.works ≡ u.works → u'.next ≡ u.next → IsSound until time (Effects (Some i)) (Some i) us tasks' q
-  gate-sound ready left used works next = record {
+  pub gate-sound : u'.readiness ≡ u.readiness → u'.left ≡ u.left → u'.used ≡ u.used → u'.works ≡ u.works → u'.next ≡ u.next → (IsNested (task_of u) → IsNested (task_of u'))
+      → IsSound until time (Effects (Some i)) (Some i) us tasks' q
+  gate-sound ready left used works next nests = record {
     size = sound.size ∙ sym len;
     queued = settled-queued [] [] time i tasks' (change k f (map task_of tasks)) (places (length tasks) (order_of (Effects (Some i)) tasks q.ready)) q.ready (changed-tasks tasks tasks' k u u' f c) gate_queued;
     sleeping = subst (λ (ts : List states.Task). AreSleeping ts time q.asleep) (sym (changed-tasks tasks tasks' k u u' f c)) (sleeping-kept (map task_of tasks) time q.asleep k f sound.sleeping (λ v. (same v).0));
@@ -102,6 +103,7 @@ module _ (until time : ℕ) (us : List units.Unit) (i : ℕ) (tasks : List Task)
     here = (sound.here.0, omega (arith, len, sound.here.1));
     near = sound.near;
     few = omega (arith, len, sound.few);
+    calls = changed-alike tasks tasks' k u u' f c us sound.calls;
     in_time = sound.in_time;
   }
     where
@@ -115,6 +117,7 @@ module _ (until time : ℕ) (us : List units.Unit) (i : ℕ) (tasks : List Task)
         next = omega (arith, next, h.next);
         units = ap (λ th. th.units.now) c.thread ∙ h.units;
         idle = λ not. left ∙ h.idle (ap is_ready (sym ready) ∙ not);
+        nested = nests h.nested;
       }
 
 -- the release of another task, which waits
@@ -167,6 +170,7 @@ module _ (until time : ℕ) (costs : Costs) (us : List units.Unit) (i : ℕ) (ta
     here = (sound.here.0, omega (arith, len, sound.here.1));
     near = sound.near;
     few = omega (arith, len, sound.few);
+    calls = changed-alike tasks tasks' k u u' (released costs) c us sound.calls;
     in_time = sound.in_time;
   })
     where
@@ -198,4 +202,5 @@ module _ (until time : ℕ) (costs : Costs) (us : List units.Unit) (i : ℕ) (ta
             next = omega (arith, next, h.next);
             units = ap (λ th. th.units.now) c.thread ∙ h.units;
             idle = λ not. absurd (clash (sym (ap is_ready now_ready) ∙ not));
+            nested = subst IsNested (sym c.does) (released-nested costs u (ap is_ready waits) h.nested);
           }

@@ -16,7 +16,7 @@ use Rattle.ceil_runtime.specs.Left.{sleeper}
 use Rattle.ceil_runtime.specs.Processing.{IsSound, state_by, system_by}
 use Rattle.ceil_runtime.specs.Shown.{IsWhole, stores_of}
 use Rattle.ceil_runtime.specs.Stepping.{AreOfTask, Ends, IsStep, told_of}
-use Rattle.ceil_runtime.specs.Works.{EffortFalls, task_of}
+use Rattle.ceil_runtime.specs.Works.{EffortFalls, IsNested, task_of}
 use Rattle.ceil_runtime.specs.declared.task.Task.{Task}
 use Rattle.ceil_runtime.specs.declared.processor.Machine.{Machine}
 use Rattle.ceil_runtime.specs.declared.processor.Phase.TheVariants.{Effects}
@@ -29,7 +29,8 @@ use Rattle.ceil_runtime.proofs.Stepped.{IsBeside, effect-step, effect_state, few
 module _ (m : Machine) (i : ℕ) (whole : IsWhole m) (phase : m.phase ≡ Effects (Some i)) (on : m.stopped ≡ false) (t t' : Task) (here : slice_get m.tasks.items i ≡ Some t) (due : t.left ≡ 0)
     (piece : Piece) (rest pieces : List Piece) (vars : Variables) (act : deeds.Act) (first : (task_of t).pieces ≡ piece ∷ rest)
     (does : done (system_by m.until m.costs m.units.now m.tasks.items) piece (task_of t).vars rest ≡ deed act vars pieces)
-    (thread : t'.progress.stack.thread ≡ t.progress.stack.thread) (works : t'.works ≤ t.works + min t'.left 1) (falls : EffortFalls t.progress.stack.thread (task_of t) (task_of t')) where
+    (thread : t'.progress.stack.thread ≡ t.progress.stack.thread) (works : t'.works ≤ t.works + min t'.left 1) (falls : EffortFalls t.progress.stack.thread (task_of t) (task_of t'))
+    (nests : IsNested (task_of t) → IsNested (task_of t')) where
   sections_whole : IsSound m.until m.time (Effects (Some i)) (Some i) m.units.now m.tasks.items m.links
   sections_whole = running-sound m i whole phase on
 
@@ -60,7 +61,7 @@ module _ (m : Machine) (i : ℕ) (whole : IsWhole m) (phase : m.phase ≡ Effect
         (entered-differs (stores_of m) m.arrivals.now m.until m.time m.costs m.units.now i m.tasks.items m.links sections_whole t here due section (told_of told) vars pieces m'.tasks.items t' enter_changed low)))
         (system-after m m'.tasks.items i t t' _ enter_changed)
         (subst (IsSound m.until m.time (Effects (Some i)) (Some i) m.units.now m'.tasks.items) (sym links)
-        (entered-sound (stores_of m) m.arrivals.now m.until m.time m.costs m.units.now i m.tasks.items m.links sections_whole t here due section (told_of told) vars pieces m'.tasks.items t' enter_changed low works))
+        (entered-sound (stores_of m) m.arrivals.now m.until m.time m.costs m.units.now i m.tasks.items m.links sections_whole t here due section (told_of told) vars pieces m'.tasks.items t' enter_changed low works nests))
         ends of less (omega (arith, less, sleep, same, few))
 
   -- the exit from the section that was entered last, where nobody is released by it
@@ -86,5 +87,5 @@ module _ (m : Machine) (i : ℕ) (whole : IsWhole m) (phase : m.phase ≡ Effect
         (left-differs (stores_of m) m.arrivals.now m.until m.time m.costs m.units.now i m.tasks.items m.links sections_whole t here due vars pieces m'.tasks.items t' exit_changed stores')))
         (system-after m m'.tasks.items i t t' _ exit_changed)
         (subst (IsSound m.until m.time (Effects (Some i)) (Some i) m.units.now m'.tasks.items) (sym links)
-        (left-sound (stores_of m) m.arrivals.now m.until m.time m.costs m.units.now i m.tasks.items m.links sections_whole t here due vars pieces m'.tasks.items t' exit_changed works))
+        (left-sound (stores_of m) m.arrivals.now m.until m.time m.costs m.units.now i m.tasks.items m.links sections_whole t here due vars pieces m'.tasks.items t' exit_changed works nests))
         ends of less (omega (arith, less, sleep, same, few))

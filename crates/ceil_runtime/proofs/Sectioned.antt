@@ -25,7 +25,7 @@ use Rattle.dispatching.specs.Queueing.{AreQueued, places}
 use Rattle.dispatching.specs.Renumbering.{DifferInOrders}
 use Rattle.dispatching.proofs.Acts.{entry-goes, entry-queued, entry-stops, exit-queued, goes-active, goes-readiness, outside-readiness}
 use Rattle.ceil_runtime.specs.Processing.{IsKept, IsSound, order_of, state_by, system_by}
-use Rattle.ceil_runtime.specs.Works.{task_of}
+use Rattle.ceil_runtime.specs.Works.{IsNested, task_of}
 use Rattle.ceil_runtime.specs.declared.task.Task.{Task}
 use Rattle.ceil_runtime.specs.declared.processor.Phase.TheVariants.{Effects}
 use Rattle.ceil_runtime.proofs.Effected.{moved-ranks, moved-sound, order-queued}
@@ -97,13 +97,13 @@ module _ (stores : List Variables) (arrivals : List Arrival) (until time : ℕ) 
             by_section (Object object) = refl
             by_section (Control task) = refl
 
-    pub entered-sound : t'.works ≤ t.works + min t'.left 1 → IsSound until time (Effects (Some i)) (Some i) us tasks' q
-    entered-sound works =
+    pub entered-sound : t'.works ≤ t.works + min t'.left 1 → (IsNested (task_of t) → IsNested (task_of t')) → IsSound until time (Effects (Some i)) (Some i) us tasks' q
+    entered-sound works nests =
         let k : IsKept until time us t = sound.kept i t here in
         let vs : Variables = lent section acting vars in
         let inside : states.Task = inside_now section (ceiling_of acts_in section) (task_of t) in
         moved-sound until time us i (Some i) tasks q sound tasks' t t' _ c (put_first i acting_orders) entered-queued (λ u. goes-readiness costs vs pieces (inside_now section (ceiling_of acts_in section) u))
-        (ap (λ u. u.used) c.does ∙ (goes-used costs vs pieces inside).0) (ap (λ u. u.next) c.does ∙ (goes-used costs vs pieces inside).1) (omega (arith, works, k.works, due))
+        (ap (λ u. u.used) c.does ∙ (goes-used costs vs pieces inside).0) (ap (λ u. u.next) c.does ∙ (goes-used costs vs pieces inside).1) (omega (arith, works, k.works, due)) nests
 
   -- the exit from the innermost section
   module _ (vars : Variables) (pieces : List Piece) (tasks' : List Task) (t' : Task) (c : Changed tasks tasks' i t t' (λ u. going costs vars pieces (outside_now u))) where
@@ -122,9 +122,9 @@ module _ (stores : List Variables) (arrivals : List Arrival) (until time : ℕ) 
       ranks = moved-ranks until time us i (Some i) tasks q sound tasks' t t' _ c (put_first i acting_orders) left-queued;
     }
 
-    pub left-sound : t'.works ≤ t.works + min t'.left 1 → IsSound until time (Effects (Some i)) (Some i) us tasks' q
-    left-sound works =
+    pub left-sound : t'.works ≤ t.works + min t'.left 1 → (IsNested (task_of t) → IsNested (task_of t')) → IsSound until time (Effects (Some i)) (Some i) us tasks' q
+    left-sound works nests =
         let k : IsKept until time us t = sound.kept i t here in
         moved-sound until time us i (Some i) tasks q sound tasks' t t' _ c (put_first i acting_orders) left-queued (λ u. goes-readiness costs vars pieces (outside_now u) ∙ outside-readiness u)
         (ap (λ u. u.used) c.does ∙ (goes-used costs vars pieces (outside_now (task_of t))).0 ∙ (outside-used (task_of t).inside (task_of t)).0)
-        (ap (λ u. u.next) c.does ∙ (goes-used costs vars pieces (outside_now (task_of t))).1 ∙ (outside-used (task_of t).inside (task_of t)).1) (omega (arith, works, k.works, due))
+        (ap (λ u. u.next) c.does ∙ (goes-used costs vars pieces (outside_now (task_of t))).1 ∙ (outside-used (task_of t).inside (task_of t)).1) (omega (arith, works, k.works, due)) nests

@@ -1,5 +1,5 @@
 -- The opening of a processor, task by task.
-use Rattle.std.specs.Prelude.{◌≡◌, ◌≢◌, ◌⊎◌, ℕ, zero, suc, ◌<◌, ◌^◌, max, false, List, [], ◌∷◌, ◌++◌, length, map, replicate, Some, None, slice_get, ℤ, pos, refl}
+use Rattle.std.specs.Prelude.{◌≡◌, ◌≢◌, ◌⊎◌, ℕ, zero, suc, ◌<◌, ◌^◌, max, false, List, [], ◌∷◌, ◌++◌, length, map, replicate, Some, None, option_map, slice_get, ℤ, pos, refl}
 use Rattle.std.proofs.Common.{sym, ◌∙◌, ap, subst, arith, inl, inr}
 use Rattle.std.proofs.lemmas.List.{length-map, map-append}
 use Rattle.seq_tree.specs.Variables.{written}
@@ -16,15 +16,18 @@ use Rattle.dispatching.specs.Queueing.{AreQueued, AreSleeping, IsIn, SleepsUntil
 use Rattle.dispatching.proofs.Places.{get-within}
 use Rattle.dispatching.proofs.Queued.{in-new, in-put}
 use Rattle.dispatching.proofs.Ranks.{length-places}
-use Rattle.ceil_runtime.specs.Processing.{IsKept, IsSound, state_by, system_by}
+use Rattle.ceil_runtime.specs.Processing.{AreAlike, IsKept, IsSound, state_by, system_by}
 use Rattle.ceil_runtime.specs.Progressed.{vars_left, pieces_left}
 use Rattle.ceil_runtime.specs.Readies.{gate_of, readiness_of}
 use Rattle.ceil_runtime.specs.Starts.{AreOpen, CanStart, first_slept, opened, system_for}
 use Rattle.ceil_runtime.specs.Insides.{inside_of}
 use Rattle.ada_tree.specs.Trees.{unit_of}
-use Rattle.ceil_runtime.specs.Libraries.{objects_from}
-use Rattle.ceil_runtime.specs.Works.{task_of}
-use Rattle.ceil_runtime.specs.Written.{thread_of, timing_of}
+use Rattle.ceil_runtime.specs.Gathering.{AllThreads, IsThreadOf}
+use Rattle.ceil_runtime.specs.Libraries.{no_costs, objects_from, system_from, threads_from}
+use Rattle.arrivals_tree.specs.declared.arrivals.WorkList.{WorkList}
+use Rattle.std.proofs.lemmas.Option.{slice_get-map}
+use Rattle.ceil_runtime.specs.Works.{IsNested, task_of}
+use Rattle.ceil_runtime.specs.Written.{system_of, thread_of, timing_of}
 use Rattle.ceil_runtime.specs.declared.thread.Thread.{Thread}
 use Rattle.ceil_runtime.specs.declared.thread.Timing.{Timing}
 use Rattle.ceil_runtime.specs.declared.thread.Timing.TheVariants as timing
@@ -154,6 +157,7 @@ module _ (until : ℕ) (us : List units.Unit) (threads : List Thread) (tasks : L
         next = omega (arith, fresh.next, can.offset);
         units = ap (λ h. h.units.now) fresh.thread ∙ can.units;
         idle = λ not. fresh.left;
+        nested = subst IsNested (sym first) (omega arith);
       }
 
       by_place : (i : ℕ) (u : Task) → (slice_get tasks i ≡ Some u) ⊎ ((i ≡ length tasks) × (t ≡ u)) → IsKept until 0 us u
@@ -213,8 +217,29 @@ places-none : (k n : ℕ) → places_from k n [] ≡ replicate n (pos 0)
 places-none k zero = refl
 places-none k (suc n) = ap (λ zs. pos 0 ∷ zs) (places-none (suc k) n)
 
+threads-of : (ts : List Task) → map (λ t. thread_of t.progress.stack.thread) ts ≡ map thread_of (map (λ t. t.progress.stack.thread) ts)
+threads-of [] = refl
+threads-of (t ∷ ts) = ap (λ xs. thread_of t.progress.stack.thread ∷ xs) (threads-of ts)
+
+-- the calls of all tasks lead to the same in what is opened
+pub open-alike : (us : List units.Unit) (threads : List Thread) (tasks : List Task) → map (λ t. t.progress.stack.thread) tasks ≡ threads
+    → AllThreads (λ th. system_of th ≡ system_for 0 no_costs us threads) threads → AreAlike us tasks
+open-alike us threads tasks same all = λ i t at.
+    let here : slice_get threads i ≡ Some t.progress.stack.thread =
+    ap (λ ths. slice_get ths i) (sym same) ∙ slice_get-map (λ u. u.progress.stack.thread) tasks i ∙ ap (option_map (λ u. u.progress.stack.thread)) at in
+    let system : system_for 0 no_costs us threads ≡ system_by 0 no_costs us tasks =
+    ap (λ ths. record (system_for 0 no_costs us threads) { threads = ths }) (ap (map thread_of) (sym same) ∙ sym (threads-of tasks)) in
+    all i t.progress.stack.thread here ∙ system
+
+pub start-alike : (work : List WorkList) (us : List units.Unit) (ts : List Thread) → map thread_of ts ≡ threads_from work 0 (map unit_of us) → AllThreads (IsThreadOf work us) ts
+    → AllThreads (λ t. system_of t ≡ system_for 0 no_costs us ts) ts
+start-alike work us ts are each = λ i t at.
+    let is : IsThreadOf work us t = each i t at in
+    ap (λ ws. system_from ws (map unit_of t.units.now)) is.work ∙ ap (λ vs. system_from work (map unit_of vs)) is.units
+    ∙ ap (λ ths. record (system_for 0 no_costs us ts) { threads = ths }) (sym are)
+
 -- all tasks are open
-module _ (until : ℕ) (costs : Costs) (us : List units.Unit) (threads : List Thread) (tasks : List Task) (q : Queues) (o : AreOpen until us threads tasks q) (near : until < 2 ^ 32) (few : length tasks < 2 ^ 32) (size : q.size ≡ length tasks) where
+module _ (until : ℕ) (costs : Costs) (us : List units.Unit) (threads : List Thread) (tasks : List Task) (q : Queues) (o : AreOpen until us threads tasks q) (near : until < 2 ^ 32) (few : length tasks < 2 ^ 32) (size : q.size ≡ length tasks) (alike : AreAlike us tasks) where
   pub open-sound : IsSound until 0 (Effects None) None us tasks q
   open-sound = record {
     size = size;
@@ -229,6 +254,7 @@ module _ (until : ℕ) (costs : Costs) (us : List units.Unit) (threads : List Th
     here = tt;
     near = near;
     few = few;
+    calls = alike;
     in_time = omega arith;
   }
     where
@@ -255,10 +281,6 @@ module _ (until : ℕ) (costs : Costs) (us : List units.Unit) (threads : List Th
                   wrong : states.Waiting ≡ states.Ready → ⊥
                   wrong x = cc
           by_list (h ∷ hs) (suc i) at' = by_list hs i at'
-
-  threads-of : (ts : List Task) → map (λ t. thread_of t.progress.stack.thread) ts ≡ map thread_of (map (λ t. t.progress.stack.thread) ts)
-  threads-of [] = refl
-  threads-of (t ∷ ts) = ap (λ xs. thread_of t.progress.stack.thread ∷ xs) (threads-of ts)
 
   open-state : (arrivals : List Arrival) → state_by (map (λ g. written g.vars) (objects_from 0 (map unit_of us))) arrivals 0 (Effects None) None false tasks q.ready ≡ opening (system_by until costs us tasks) arrivals
   open-state arrivals =

@@ -1,26 +1,20 @@
 -- What starts after an effect: how many ticks, and how many effects and events may follow.
 use Rattle.std.proofs.Common.{◌≡◌, ℕ, suc, ◌+◌, ◌≤◌, ◌<◌, Bool, true, false, ◌||◌, List, [], ◌∷◌, min, length, fold, map, refl, ap, sym, ◌∙◌, arith, nat_lt, Option, Some, None}
-use Rattle.std.specs.Prelude.{◌==◌, if◌then◌else◌, nat_le}
+use Rattle.std.specs.Prelude.{nat_le}
 use Rattle.seq_tree.specs.Names.{Name}
-use Rattle.seq_tree.specs.Expressions.{Expression}
 use Rattle.seq_tree.specs.Statements.{Statement, Statements, Branches, Null, Assign, If, For, ExitWhen, Call, Work, Put, End, Then, Nothing, Else, When}
 use Rattle.seq_tree.specs.Trees.{statement_of, statements_of}
-use Rattle.seq_tree.specs.Values.{holds}
 use Rattle.seq_tree.specs.Variables.{Variables}
 use Rattle.seq_tree.specs.declared.tree.Costs.{Costs}
 use Rattle.ada_tree.specs.Ranges.{costs_break, is_outside}
-use Rattle.machine.specs.Systems.{System, PassiveUnit, CallTarget, Plain, Protected, Request, Unknown, callee}
+use Rattle.machine.specs.Systems.{System}
 use Rattle.machine.specs.Pieces.{Piece, Idle, Store, Leaving, Calling, Working, Printing, Testing, Turning, Turned, Returning, Closing, Keeping, Opening, Requested, Finishing, pieces, pieces_of, branch_pieces, turns, work_ticks}
 use Rattle.machine.specs.Deeds as deeds
-use Rattle.machine.specs.Deeds.{PieceOutcome, called, done}
 use Rattle.ceil_runtime.specs.Effort.{IsLong, ends_among, effort, first_ticks, first_works}
 use Rattle.ceil_runtime.specs.Fitting.{FitsBlock, FitsFirst, FitsStatement, Spot, place_of}
-use Rattle.ceil_runtime.specs.Left.{first_tells}
 use Rattle.ceil_runtime.specs.Doing.{Does}
 use Rattle.ceil_runtime.specs.Progresses.{Kept, behind, kept, nothing_kept, piece_of, started, with_frame}
 use Rattle.ceil_runtime.specs.Written.{first_place}
-use Rattle.ceil_runtime.specs.declared.effects.Act.{Act}
-use Rattle.ceil_runtime.specs.declared.effects.Act.TheVariants.{Print, Finish}
 use Rattle.ceil_runtime.specs.declared.piece.Piece as rust
 use Rattle.ceil_runtime.specs.declared.piece.Piece.TheVariants as is
 use Rattle.ceil_runtime.specs.declared.piece.Frame.{Frame}
@@ -100,6 +94,7 @@ ends-frame k (frame.Stmts ss) = let same = ends-pieces (statements_of (map state
 ends-frame k (frame.Turned r) = omega arith
 ends-frame k (frame.Saved v) = omega arith
 ends-frame k (frame.Return c) = omega arith
+ends-frame k (frame.Close e lent) = omega arith
 
 ends-frames : (fs : List Frame) (k : Kept) → ends_among (fold with_frame k fs).pieces ≤ ends_among k.pieces + length fs
 ends-frames [] k = omega arith
@@ -117,6 +112,10 @@ few-ends (Some (is.Testing arm arms other)) fs = let more = ends-frames fs nothi
 few-ends (Some (is.Turning r)) fs = let more = ends-frames fs nothing_kept in omega (arith, more)
 few-ends (Some (is.Turned r)) fs = let more = ends-frames fs nothing_kept in omega (arith, more)
 few-ends (Some (is.Returning c)) fs = let more = ends-frames fs nothing_kept in omega (arith, more)
+few-ends (Some (is.Closing e)) fs = let more = ends-frames fs nothing_kept in omega (arith, more)
+few-ends (Some (is.Keeping r)) fs = let more = ends-frames fs nothing_kept in omega (arith, more)
+few-ends (Some (is.Opening r)) fs = let more = ends-frames fs nothing_kept in omega (arith, more)
+few-ends (Some (is.Requested r)) fs = let more = ends-frames fs nothing_kept in omega (arith, more)
 few-ends (Some is.Finishing) fs = let more = ends-frames fs nothing_kept in omega (arith, more)
 
 -- no more effects than this follow each other
@@ -147,7 +146,7 @@ work-long : (n : ℕ) (d : Option ℕ) → 0 < n → IsLong d → 0 < work_ticks
 work-long n None h long = h
 work-long n (Some k) h long = omega (arith, h, long)
 
--- a piece without ticks is the end of a turn or of a body
+-- a piece without ticks is the end of a turn, of a body or of a request
 quiet : (c : Costs) (d : Option ℕ) (most : ℕ) (t : Thread) (first : Option rust.Piece) (fs : List Frame) → AreTicking c → IsLong d → FitsFirst (place_of (first_place t) fs) first
     → first_ticks c d (started first (kept fs)) ≡ 0 → effort most (started first (kept fs)) ≤ ends_among (started first (kept fs))
 quiet c d most t None fs ticks long h none = rw (none-left t fs h) (omega arith)
@@ -161,6 +160,10 @@ quiet c d most t (Some (is.Testing arm arms other)) fs ticks long h none = absur
 quiet c d most t (Some (is.Turning r)) fs ticks long h none = absurd (omega (arith, none, ticks.turn))
 quiet c d most t (Some (is.Turned r)) fs ticks long h none = omega arith
 quiet c d most t (Some (is.Returning call)) fs ticks long h none = omega arith
+quiet c d most t (Some (is.Closing e)) fs ticks long h none = omega arith
+quiet c d most t (Some (is.Keeping r)) fs ticks long h none = absurd (omega (arith, none, ticks.assign))
+quiet c d most t (Some (is.Opening r)) fs ticks long h none = absurd (omega (arith, none, ticks.assign))
+quiet c d most t (Some (is.Requested r)) fs ticks long h none = omega arith
 quiet c d most t (Some is.Finishing) fs ticks long h none = absurd (omega (arith, none, ticks.finish))
 
 -- what starts with a piece does not depend on what stands behind it
@@ -175,6 +178,10 @@ same-ticks c d (is.Testing arm arms other) away ps = refl
 same-ticks c d (is.Turning r) away ps = refl
 same-ticks c d (is.Turned r) away ps = refl
 same-ticks c d (is.Returning call) away ps = refl
+same-ticks c d (is.Closing e) away ps = refl
+same-ticks c d (is.Keeping r) away ps = refl
+same-ticks c d (is.Opening r) away ps = refl
+same-ticks c d (is.Requested r) away ps = refl
 same-ticks c d is.Finishing away ps = refl
 
 pub same-works : (q : rust.Piece) (away : Variables) (ps : List Piece) → first_works (piece_of q [] ∷ []) ≡ first_works (piece_of q away ∷ ps)
@@ -188,6 +195,10 @@ same-works (is.Testing arm arms other) away ps = refl
 same-works (is.Turning r) away ps = refl
 same-works (is.Turned r) away ps = refl
 same-works (is.Returning call) away ps = refl
+same-works (is.Closing e) away ps = refl
+same-works (is.Keeping r) away ps = refl
+same-works (is.Opening r) away ps = refl
+same-works (is.Requested r) away ps = refl
 same-works is.Finishing away ps = refl
 
 -- a `work` statement that starts takes a tick
@@ -204,124 +215,43 @@ works-tick c d t (Some (is.Testing arm arms other)) fs long h = omega arith
 works-tick c d t (Some (is.Turning r)) fs long h = omega arith
 works-tick c d t (Some (is.Turned r)) fs long h = omega arith
 works-tick c d t (Some (is.Returning call)) fs long h = omega arith
+works-tick c d t (Some (is.Closing e)) fs long h = omega arith
+works-tick c d t (Some (is.Keeping r)) fs long h = omega arith
+works-tick c d t (Some (is.Opening r)) fs long h = omega arith
+works-tick c d t (Some (is.Requested r)) fs long h = omega arith
 works-tick c d t (Some is.Finishing) fs long h = omega arith
 
-if_zero : (b : Bool) → ◌≡◌ {A = ℕ} (if b then 0 else 0) 0
-if_zero true = refl
-if_zero false = refl
-
-ticks_left : (n k : ℕ) → 0 < n → (if n == 0 then k else 0) ≡ 0
-ticks_left n k h = let some : (n == 0) ≡ false = grind arith in rw some refl
-
--- what starts tells nothing before its ticks are used
-later : (c : Costs) (d : Option ℕ) (qs : List Piece) → AreTicking c → (if first_ticks c d qs == 0 then first_tells qs else 0) ≡ 0
-later c d [] t = refl
-later c d (Idle ∷ ps) t = if_zero (first_ticks c d (Idle ∷ ps) == 0)
-later c d (Store target e ∷ ps) t = if_zero (first_ticks c d (Store target e ∷ ps) == 0)
-later c d (Leaving condition ∷ ps) t = if_zero (first_ticks c d (Leaving condition ∷ ps) == 0)
-later c d (Calling unit op actuals ∷ ps) t = if_zero (first_ticks c d (Calling unit op actuals ∷ ps) == 0)
-later c d (Working ticks ∷ ps) t = if_zero (first_ticks c d (Working ticks ∷ ps) == 0)
-later c d (Printing e ∷ ps) t = ticks_left c.put 2 t.put
-later c d (Testing condition block others ∷ ps) t = if_zero (first_ticks c d (Testing condition block others ∷ ps) == 0)
-later c d (Turning name at last body ∷ ps) t = if_zero (first_ticks c d (Turning name at last body ∷ ps) == 0)
-later c d (Turned name at last body ∷ ps) t = if_zero (first_ticks c d (Turned name at last body ∷ ps) == 0)
-later c d (Returning outs stores caller ∷ ps) t = if_zero (first_ticks c d (Returning outs stores caller ∷ ps) == 0)
-later c d (Closing object op vars outs stores caller ∷ ps) t = if_zero (first_ticks c d (Closing object op vars outs stores caller ∷ ps) == 0)
-later c d (Keeping task v ∷ ps) t = if_zero (first_ticks c d (Keeping task v ∷ ps) == 0)
-later c d (Opening task ∷ ps) t = if_zero (first_ticks c d (Opening task ∷ ps) == 0)
-later c d (Requested task v ∷ ps) t = if_zero (first_ticks c d (Requested task v ∷ ps) == 0)
-later c d (Finishing ∷ ps) t = ticks_left c.finish 2 t.finish
-
-pub tells-later : (c : Costs) (d : Option ℕ) (n : ℕ) (qs : List Piece) → costs_break c ≡ false → n ≡ first_ticks c d qs → (if n == 0 then first_tells qs else 0) ≡ 0
-tells-later c d n qs t e = ap (λ k. if k == 0 then first_tells qs else 0) e ∙ later c d qs (ticking c t)
-
-pub tells-now : (l k f : ℕ) → l ≡ 0 → f ≡ k → (if l == 0 then f else 0) ≡ k
-tells-now l k f e h = rw e h
-
-no_act : true ≡ false → ⊥
-no_act h = cc
-
--- a system with these passive units and nothing else
-abbrev alone : List PassiveUnit → System
-alone libraries = record {
-  until = 0;
-  costs = record { assign = 0; test = 0; turn = 0; call = 0; «nothing» = 0; put = 0; finish = 0 };
-  libraries = libraries;
-  objects = [];
-  threads = [];
-}
-
--- an event is told by a piece that tells one
-silent_test : (y : System) (condition : Expression) (vs : Variables) (ps : List Piece) (b : Bool) → holds condition vs ≡ b → (done y (Leaving condition) vs ps).act ≡ deeds.Silent
-silent_test y condition vs ps true e = rw e refl
-silent_test y condition vs ps false e = rw e refl
-
-calls_nothing_out : (k : CallTarget) (actuals : List Expression) (vs : Variables) (ps : List Piece) → ((n : ℕ) → (called k actuals vs ps).act ≡ deeds.Print n → ⊥) × ((called k actuals vs ps).act ≡ deeds.Finish → ⊥)
-calls_nothing_out (Plain o) actuals vs ps = ((λ n e. no_act (cc)), (λ e. no_act (cc)))
-calls_nothing_out (Protected object op g o) actuals vs ps = ((λ n e. no_act (cc)), (λ e. no_act (cc)))
-calls_nothing_out (Request task) actuals vs ps = ((λ n e. no_act (cc)), (λ e. no_act (cc)))
-calls_nothing_out Unknown actuals vs ps = ((λ n e. no_act (cc)), (λ e. no_act (cc)))
-
-pub tells-print : (ls : List PassiveUnit) (p : Piece) (vs vs' : Variables) (ps qs : List Piece) (n : ℕ) → Does ls p vs ps (Print n) vs' qs → first_tells (p ∷ ps) ≡ 2
-tells-print ls Idle vs vs' ps qs n h = let t = ap (λ d. d.act) (h (alone ls) refl) in absurd (no_act (cc))
-tells-print ls (Store target e) vs vs' ps qs n h = let t = ap (λ d. d.act) (h (alone ls) refl) in absurd (no_act (cc))
-tells-print ls (Leaving condition) vs vs' ps qs n h = let s = silent_test (alone ls) condition vs ps (holds condition vs) refl in let t = ap (λ d. d.act) (h (alone ls) refl) in absurd (no_act (cc))
-tells-print ls (Calling unit op actuals) vs vs' ps qs n h = absurd ((calls_nothing_out (callee (alone ls) unit op) actuals vs ps).0 n (ap (λ d. d.act) (h (alone ls) refl)))
-tells-print ls (Working ticks) vs vs' ps qs n h = let t = ap (λ d. d.act) (h (alone ls) refl) in absurd (no_act (cc))
-tells-print ls (Printing e) vs vs' ps qs n h = refl
-tells-print ls (Testing condition block others) vs vs' ps qs n h = let t = ap (λ d. d.act) (h (alone ls) refl) in absurd (no_act (cc))
-tells-print ls (Turning name at last body) vs vs' ps qs n h = let t = ap (λ d. d.act) (h (alone ls) refl) in absurd (no_act (cc))
-tells-print ls (Turned name at last body) vs vs' ps qs n h = let t = ap (λ d. d.act) (h (alone ls) refl) in absurd (no_act (cc))
-tells-print ls (Returning outs stores caller) vs vs' ps qs n h = let t = ap (λ d. d.act) (h (alone ls) refl) in absurd (no_act (cc))
-tells-print ls (Closing object op vars outs stores caller) vs vs' ps qs n h = let t = ap (λ d. d.act) (h (alone ls) refl) in absurd (no_act (cc))
-tells-print ls (Keeping task v) vs vs' ps qs n h = let t = ap (λ d. d.act) (h (alone ls) refl) in absurd (no_act (cc))
-tells-print ls (Opening task) vs vs' ps qs n h = let t = ap (λ d. d.act) (h (alone ls) refl) in absurd (no_act (cc))
-tells-print ls (Requested task v) vs vs' ps qs n h = let t = ap (λ d. d.act) (h (alone ls) refl) in absurd (no_act (cc))
-tells-print ls Finishing vs vs' ps qs n h = refl
-
-pub tells-finish : (ls : List PassiveUnit) (p : Piece) (vs vs' : Variables) (ps qs : List Piece) → Does ls p vs ps Finish vs' qs → first_tells (p ∷ ps) ≡ 2
-tells-finish ls Idle vs vs' ps qs h = let t = ap (λ d. d.act) (h (alone ls) refl) in absurd (no_act (cc))
-tells-finish ls (Store target e) vs vs' ps qs h = let t = ap (λ d. d.act) (h (alone ls) refl) in absurd (no_act (cc))
-tells-finish ls (Leaving condition) vs vs' ps qs h = let s = silent_test (alone ls) condition vs ps (holds condition vs) refl in let t = ap (λ d. d.act) (h (alone ls) refl) in absurd (no_act (cc))
-tells-finish ls (Calling unit op actuals) vs vs' ps qs h = absurd ((calls_nothing_out (callee (alone ls) unit op) actuals vs ps).1 (ap (λ d. d.act) (h (alone ls) refl)))
-tells-finish ls (Working ticks) vs vs' ps qs h = let t = ap (λ d. d.act) (h (alone ls) refl) in absurd (no_act (cc))
-tells-finish ls (Printing e) vs vs' ps qs h = refl
-tells-finish ls (Testing condition block others) vs vs' ps qs h = let t = ap (λ d. d.act) (h (alone ls) refl) in absurd (no_act (cc))
-tells-finish ls (Turning name at last body) vs vs' ps qs h = let t = ap (λ d. d.act) (h (alone ls) refl) in absurd (no_act (cc))
-tells-finish ls (Turned name at last body) vs vs' ps qs h = let t = ap (λ d. d.act) (h (alone ls) refl) in absurd (no_act (cc))
-tells-finish ls (Returning outs stores caller) vs vs' ps qs h = let t = ap (λ d. d.act) (h (alone ls) refl) in absurd (no_act (cc))
-tells-finish ls (Closing object op vars outs stores caller) vs vs' ps qs h = let t = ap (λ d. d.act) (h (alone ls) refl) in absurd (no_act (cc))
-tells-finish ls (Keeping task v) vs vs' ps qs h = let t = ap (λ d. d.act) (h (alone ls) refl) in absurd (no_act (cc))
-tells-finish ls (Opening task) vs vs' ps qs h = let t = ap (λ d. d.act) (h (alone ls) refl) in absurd (no_act (cc))
-tells-finish ls (Requested task v) vs vs' ps qs h = let t = ap (λ d. d.act) (h (alone ls) refl) in absurd (no_act (cc))
-tells-finish ls Finishing vs vs' ps qs h = refl
-
 -- effects without ticks between them come to an end
-module _ (c : Costs) (d : Option ℕ) (most : ℕ) (ls : List PassiveUnit) (t : Thread) (first : Option rust.Piece) (fs : List Frame) (ticking' : costs_break c ≡ false) (long : IsLong d)
+module _ (c : Costs) (d : Option ℕ) (most : ℕ) (z : System) (t : Thread) (first : Option rust.Piece) (fs : List Frame) (ticking' : costs_break c ≡ false) (long : IsLong d)
     (fits : FitsFirst (place_of (first_place t) fs) first) (few : ends_among (started first (kept fs)) < most) (none : first_ticks c d (started first (kept fs)) ≡ 0) where
-  pub effort-falls : (p : Piece) (vs vs' : Variables) (ps : List Piece) (act : Act) → Does ls p vs ps act vs' (started first (kept fs))
+  calm : effort most (started first (kept fs)) ≤ ends_among (started first (kept fs))
+  calm = quiet c d most t first fs (ticking c ticking') long fits none
+
+  pub effort-falls : (p : Piece) (vs vs' : Variables) (ps : List Piece) (act : deeds.Act) → Does z p vs ps act vs' (started first (kept fs))
       → effort most (started first (kept fs)) < effort most (p ∷ ps)
-  effort-falls Idle vs vs' ps act does = let calm = quiet c d most t first fs (ticking c ticking') long fits none in omega (arith, calm, few)
-  effort-falls (Store target e) vs vs' ps act does = let calm = quiet c d most t first fs (ticking c ticking') long fits none in omega (arith, calm, few)
-  effort-falls (Leaving condition) vs vs' ps act does = let calm = quiet c d most t first fs (ticking c ticking') long fits none in omega (arith, calm, few)
-  effort-falls (Calling unit op actuals) vs vs' ps act does = let calm = quiet c d most t first fs (ticking c ticking') long fits none in omega (arith, calm, few)
-  effort-falls (Working ticks) vs vs' ps act does = let calm = quiet c d most t first fs (ticking c ticking') long fits none in omega (arith, calm, few)
-  effort-falls (Printing e) vs vs' ps act does = let calm = quiet c d most t first fs (ticking c ticking') long fits none in omega (arith, calm, few)
-  effort-falls (Testing condition block others) vs vs' ps act does = let calm = quiet c d most t first fs (ticking c ticking') long fits none in omega (arith, calm, few)
-  effort-falls (Turning name at last body) vs vs' ps act does = let calm = quiet c d most t first fs (ticking c ticking') long fits none in omega (arith, calm, few)
+  effort-falls Idle vs vs' ps act does = omega (arith, calm, few)
+  effort-falls (Store target e) vs vs' ps act does = omega (arith, calm, few)
+  effort-falls (Leaving condition) vs vs' ps act does = omega (arith, calm, few)
+  effort-falls (Calling unit op actuals) vs vs' ps act does = omega (arith, calm, few)
+  effort-falls (Working ticks) vs vs' ps act does = omega (arith, calm, few)
+  effort-falls (Printing e) vs vs' ps act does = omega (arith, calm, few)
+  effort-falls (Testing condition block others) vs vs' ps act does = omega (arith, calm, few)
+  effort-falls (Turning name at last body) vs vs' ps act does = omega (arith, calm, few)
   effort-falls (Turned name at last body) vs vs' ps act does =
-      let calm = quiet c d most t first fs (ticking c ticking') long fits none in
-      let same : ends_among (started first (kept fs)) ≡ ends_among ps = sym (ap (λ d. ends_among d.pieces) (does (alone ls) refl)) ∙ ends_turns (nat_le (suc at) last) name (suc at) last body ps refl in
+      let same : ends_among (started first (kept fs)) ≡ ends_among ps = sym (ap (λ d. ends_among d.pieces) (does z (λ unit op. refl))) ∙ ends_turns (nat_le (suc at) last) name (suc at) last body ps refl in
       omega (arith, calm, same)
   effort-falls (Returning outs stores caller) vs vs' ps act does =
-      let calm = quiet c d most t first fs (ticking c ticking') long fits none in
-      let same : ends_among (started first (kept fs)) ≡ ends_among ps = sym (ap (λ d. ends_among d.pieces) (does (alone ls) refl)) in
+      let same : ends_among (started first (kept fs)) ≡ ends_among ps = sym (ap (λ d. ends_among d.pieces) (does z (λ unit op. refl))) in
       omega (arith, calm, same)
-  effort-falls (Closing object op vars outs stores caller) vs vs' ps act does = let calm = quiet c d most t first fs (ticking c ticking') long fits none in omega (arith, calm, few)
-  effort-falls (Keeping task v) vs vs' ps act does = let calm = quiet c d most t first fs (ticking c ticking') long fits none in omega (arith, calm, few)
-  effort-falls (Opening task) vs vs' ps act does = let calm = quiet c d most t first fs (ticking c ticking') long fits none in omega (arith, calm, few)
-  effort-falls (Requested task v) vs vs' ps act does = let calm = quiet c d most t first fs (ticking c ticking') long fits none in omega (arith, calm, few)
-  effort-falls Finishing vs vs' ps act does = let calm = quiet c d most t first fs (ticking c ticking') long fits none in omega (arith, calm, few)
+  effort-falls (Closing object op vars outs stores caller) vs vs' ps act does =
+      let same : ends_among (started first (kept fs)) ≡ ends_among ps = sym (ap (λ d. ends_among d.pieces) (does z (λ unit op. refl))) in
+      omega (arith, calm, same)
+  effort-falls (Keeping task v) vs vs' ps act does = omega (arith, calm, few)
+  effort-falls (Opening task) vs vs' ps act does = omega (arith, calm, few)
+  effort-falls (Requested task v) vs vs' ps act does =
+      let same : ends_among (started first (kept fs)) ≡ ends_among ps = sym (ap (λ d. ends_among d.pieces) (does z (λ unit op. refl))) in
+      omega (arith, calm, same)
+  effort-falls Finishing vs vs' ps act does = omega (arith, calm, few)
 
 -- each piece counts
 pub some-effort : (most : ℕ) (p : Piece) (ps : List Piece) → 0 < most → 0 < effort most (p ∷ ps)

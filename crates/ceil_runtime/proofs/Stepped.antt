@@ -18,7 +18,7 @@ use Rattle.dispatching.specs.Renumbering.{DifferInOrders}
 use Rattle.ceil_runtime.specs.Doing.{act_of}
 use Rattle.ceil_runtime.specs.Effort.{most_ends}
 use Rattle.ceil_runtime.specs.Readies.{readiness_of}
-use Rattle.ceil_runtime.specs.Written.{libraries_of, reserve}
+use Rattle.ceil_runtime.specs.Written.{system_of, reserve}
 use Rattle.ceil_runtime.specs.declared.effects.Act.{Act}
 use Rattle.ceil_runtime.specs.declared.effects.Act.TheVariants.{Finish}
 use Rattle.ceil_runtime.specs.declared.task.Readiness.TheVariants as readies
@@ -26,7 +26,7 @@ use Rattle.ceil_runtime.specs.Left.{left, ran_effort, sleeper, sleepers}
 use Rattle.ceil_runtime.specs.Processing.{Follows, IsSound, order_of, state_by, system_by}
 use Rattle.ceil_runtime.specs.Shown.{IsWhole, running_of, stores_of}
 use Rattle.ceil_runtime.specs.Stepping.{AreOfTask, Ends, HasUnit, IsNear, IsStep, steps_by, steps_left, told_of}
-use Rattle.ceil_runtime.specs.Works.{Acts, EffortFalls, task_of}
+use Rattle.ceil_runtime.specs.Works.{Acts, EffortFalls, IsNested, task_of}
 use Rattle.ceil_runtime.specs.declared.task.Task.{Task}
 use Rattle.ceil_runtime.specs.declared.processor.Machine.{Machine}
 use Rattle.ceil_runtime.specs.declared.processor.Phase.{Phase}
@@ -179,8 +179,8 @@ fewer-after m i whole tasks' t t' f c due falls =
 
 -- a piece that leaves the task ready, and says at most two events
 module _ (m : Machine) (i : ℕ) (whole : IsWhole m) (phase : m.phase ≡ Effects (Some i)) (on : m.stopped ≡ false) (t t' : Task) (here : slice_get m.tasks.items i ≡ Some t) (due : t.left ≡ 0) (act : Act)
-    (a : Acts (libraries_of t.progress.stack.thread) m.costs (task_of t) act (task_of t')) (thread : t'.progress.stack.thread ≡ t.progress.stack.thread) (works : t'.works ≤ t.works + min t'.left 1)
-    (falls : EffortFalls t.progress.stack.thread (task_of t) (task_of t')) where
+    (a : Acts (system_of t.progress.stack.thread) m.costs (task_of t) act (task_of t')) (thread : t'.progress.stack.thread ≡ t.progress.stack.thread) (works : t'.works ≤ t.works + min t'.left 1)
+    (falls : EffortFalls t.progress.stack.thread (task_of t) (task_of t')) (nests : IsNested (task_of t) → IsNested (task_of t')) where
   module _ (m' : Machine) (b : IsBeside m m' (Effects (Some i))) (items : m'.tasks.items ≡ set m.tasks.items i t') (links : m'.links ≡ m.links) (stores : stores_of m' ≡ stores_of m) (does : task_of t' ≡ going m.costs a.vars a.pieces (task_of t)) (told : Told)
       (says : takes_effect (system_by m.until m.costs m.units.now m.tasks.items) i (task_of t) (deed (act_of act) a.vars a.pieces) (state_by (stores_of m) m.arrivals.now m.time (Effects (Some i)) (Some i) false m.tasks.items m.links.ready)
       ≡ (record (state_by (stores_of m) m.arrivals.now m.time (Effects (Some i)) (Some i) false m.tasks.items m.links.ready) { tasks = change i (going m.costs a.vars a.pieces) (map task_of m.tasks.items) }, told_of told))
@@ -203,16 +203,16 @@ module _ (m : Machine) (i : ℕ) (whole : IsWhole m) (phase : m.phase ≡ Effect
         (step-run (system_by m.until m.costs m.units.now m.tasks.items) (effect_state m i) going_state (told_of told) (act-step (stores_of m) m.arrivals.now m.until m.time m.costs m.units.now i m.tasks.items m.links going_whole t t' here due act a ∙ says))
         (subst (λ σ. DifferInOrders going_state (state_by σ m.arrivals.now m.time (Effects (Some i)) (Some i) false m'.tasks.items m'.links.ready)) (sym stores)
         (subst (λ (q : Queues). DifferInOrders going_state (state_by (stores_of m) m.arrivals.now m.time (Effects (Some i)) (Some i) false m'.tasks.items q.ready)) (sym links)
-        (going-differs (stores_of m) m.arrivals.now m.until m.time m.costs m.units.now i m.tasks.items m.links going_whole t t' here due act a m'.tasks.items going_changed works)))
+        (going-differs (stores_of m) m.arrivals.now m.until m.time m.costs m.units.now i m.tasks.items m.links going_whole t t' here due act a m'.tasks.items going_changed works nests)))
         (system-after m m'.tasks.items i t t' _ going_changed)
         (subst (IsSound m.until m.time (Effects (Some i)) (Some i) m.units.now m'.tasks.items) (sym links)
-        (going-sound (stores_of m) m.arrivals.now m.until m.time m.costs m.units.now i m.tasks.items m.links going_whole t t' here due act a m'.tasks.items going_changed works))
+        (going-sound (stores_of m) m.arrivals.now m.until m.time m.costs m.units.now i m.tasks.items m.links going_whole t t' here due act a m'.tasks.items going_changed works nests))
         ends of less (omega (arith, less, sleep, same, few))
 
 -- the end of an activation
 module _ (m : Machine) (i : ℕ) (whole : IsWhole m) (phase : m.phase ≡ Effects (Some i)) (on : m.stopped ≡ false) (t t' : Task) (here : slice_get m.tasks.items i ≡ Some t) (due : t.left ≡ 0)
-    (a : Acts (libraries_of t.progress.stack.thread) m.costs (task_of t) Finish (task_of t')) (thread : t'.progress.stack.thread ≡ t.progress.stack.thread) (works : t'.works ≤ t.works + min t'.left 1)
-    (falls : EffortFalls t.progress.stack.thread (task_of t) (task_of t')) where
+    (a : Acts (system_of t.progress.stack.thread) m.costs (task_of t) Finish (task_of t')) (thread : t'.progress.stack.thread ≡ t.progress.stack.thread) (works : t'.works ≤ t.works + min t'.left 1)
+    (falls : EffortFalls t.progress.stack.thread (task_of t) (task_of t')) (nests : IsNested (task_of t) → IsNested (task_of t')) where
   finish_whole : IsSound m.until m.time (Effects (Some i)) (Some i) m.units.now m.tasks.items m.links
   finish_whole = running-sound m i whole phase on
 
@@ -285,7 +285,7 @@ module _ (m : Machine) (i : ℕ) (whole : IsWhole m) (phase : m.phase ≡ Effect
           (subst (λ (q : Queues). DifferInOrders served_state (state_by (stores_of m) m.arrivals.now m.time (Effects None) (Some i) false m'.tasks.items q.ready)) (sym links_are)
           (served-differs (stores_of m) m.arrivals.now m.until m.time m.costs m.units.now i m.tasks.items m.links finish_whole t t' here due a tasks' finish_changed t'' m'.tasks.items now not)))
           system_is
-          (served-sound (stores_of m) m.arrivals.now m.until m.time m.costs m.units.now i m.tasks.items m.links finish_whole t t' here due a tasks' finish_changed t'' m'.tasks.items now not m'.links links_are works works' some)
+          (served-sound (stores_of m) m.arrivals.now m.until m.time m.costs m.units.now i m.tasks.items m.links finish_whole t t' here due a tasks' finish_changed t'' m'.tasks.items now not m'.links links_are works works' some nests)
           (tt, tt, on-still m i whole phase on m' (Effects None) b) (first-of, first-of) less (omega (arith, less, sleep, sleep', rests, ready, awake))
         where
           nothing : {n : ℕ} → 0 < n → n ≡ 0 → ⊥

@@ -1,26 +1,27 @@
 -- What is known of statements, pieces and frames: where they stand, and how far the frames may grow.
 -- An `if` adds one frame to those of its block; a loop adds two, and a variable that a call would put away.
-use Rattle.std.specs.Prelude.{◌≡◌, ℕ, suc, ◌+◌, ◌-◌, ◌≤◌, ◌<◌, Bool, true, false, List, [], ◌∷◌, ◌++◌, map, drop, fold, length, Option, Some, None, ⊤}
+use Rattle.std.specs.Prelude.{◌≡◌, ℕ, suc, ◌+◌, ◌-◌, ◌≤◌, ◌<◌, Bool, true, false, List, [], ◌∷◌, ◌++◌, map, drop, take, fold, length, Option, Some, None, option_map, slice_get, unwrap_or, ⊤}
 use Rattle.seq_tree.specs.Names.{Name}
 use Rattle.seq_tree.specs.Trees.{statement_of, statements_of, block_of, arm_of, operation_of}
 use Rattle.seq_tree.specs.Operations.{Operation}
-use Rattle.seq_tree.specs.Variables.{Variables}
+use Rattle.seq_tree.specs.Variables.{Variables, written}
 use Rattle.seq_tree.specs.Statements.{Statement, Statements, Branches, Null, Assign, If, For, ExitWhen, Call, Work, Put, End, Then, Nothing, Else, When}
 use Rattle.seq_tree.specs.declared.tree.OpName.{OpName}
 use Rattle.seq_tree.specs.declared.tree.Stmt.{Stmt}
-use Rattle.machine.specs.Systems.{PassiveUnit}
+use Rattle.machine.specs.Systems.{System}
 use Rattle.ceil_runtime.specs.Callable.{IsClear, call_room, calls_room, op_name}
 use Rattle.ceil_runtime.specs.Progresses.{Kept, branches_left, kept, put_away, with_frame}
 use Rattle.ceil_runtime.specs.declared.piece.Call as call
+use Rattle.ceil_runtime.specs.declared.piece.Entry.{Entry}
 use Rattle.ceil_runtime.specs.declared.piece.Piece.{Piece}
 use Rattle.ceil_runtime.specs.declared.piece.Piece.TheVariants as piece
 use Rattle.ceil_runtime.specs.declared.piece.Frame.{Frame}
 use Rattle.ceil_runtime.specs.declared.piece.Frame.TheVariants as frame
 
--- where statements stand: the passive units, the operations whose calls are under way, whether a loop is open, and how many
--- frames may be added
+-- where statements stand: the units that calls lead to, the operations whose calls are under way, whether a loop is open, and
+-- how many frames may be added
 pub record Spot : Type 0 where
-  pub libraries : List PassiveUnit
+  pub system : System
   pub chain : List OpName
   pub inside : Bool
   pub room : ℕ
@@ -46,7 +47,7 @@ abbrev mutual
   FitsStatement s (If branches) = FitsIf s branches
   FitsStatement s (For name low high body) = (3 ≤ s.room) × FitsBlock (in_loop s) body
   FitsStatement s (ExitWhen condition) = s.inside ≡ true
-  FitsStatement s (Call object op actuals) = IsClear s.libraries s.chain (op_name object op)
+  FitsStatement s (Call object op actuals) = IsClear s.system s.chain (op_name object op)
   FitsStatement s (Work ticks) = 0 < ticks
   FitsStatement s (Put value) = ⊤
 
@@ -81,17 +82,24 @@ pub record FitSomewhere (block : List Stmt) : Type 0 where
 -- a piece
 abbrev pub FitsPiece : Spot → Piece → Type 0
 FitsPiece s (piece.Leaving condition) = s.inside ≡ true
-FitsPiece s (piece.Calling object op actuals) = IsClear s.libraries s.chain (op_name object.now op.now)
+FitsPiece s (piece.Calling object op actuals) = IsClear s.system s.chain (op_name object.now op.now)
 FitsPiece s (piece.Working ticks) = 0 < ticks
 FitsPiece s (piece.Testing arm arms other) = FitsIf s (When (arm_of arm.now).0 (arm_of arm.now).1 (branches_left arms.now other.now))
 FitsPiece s (piece.Turning r) = (3 ≤ s.room) × FitsBlock (in_loop s) (block_of r.body.now)
 FitsPiece s (piece.Turned r) = (3 ≤ s.room) × FitsBlock (in_loop s) (block_of r.body.now)
+FitsPiece s (piece.Keeping r) = r.task < length s.system.threads
+FitsPiece s (piece.Opening r) = r.task < length s.system.threads
+FitsPiece s (piece.Requested r) = r.task < length s.system.threads
 FitsPiece s _ = ⊤
 
 -- a piece that a statement begins with
 abbrev pub IsOfStatement : Piece → Type 0
 IsOfStatement (piece.Turned r) = ⊥
 IsOfStatement (piece.Returning c) = ⊥
+IsOfStatement (piece.Closing e) = ⊥
+IsOfStatement (piece.Keeping r) = ⊥
+IsOfStatement (piece.Opening r) = ⊥
+IsOfStatement (piece.Requested r) = ⊥
 IsOfStatement piece.Finishing = ⊥
 IsOfStatement _ = ⊤
 
@@ -115,6 +123,18 @@ in_call s c = record s { chain = c ∷ s.chain; inside = false; room = 193 }
 abbrev pub body_names : Operation → List Name
 body_names o = map (λ q. q.name) o.sig.params ++ map (λ d. d.name) o.locals
 
+-- the names of an object's data
+abbrev pub entry_names : Entry → List Name
+entry_names e = map (λ d. d.name) e.«data».now
+
+-- how many operations an object has
+abbrev pub ops_count : System → ℕ → ℕ
+ops_count y object = unwrap_or (option_map (λ g. length g.ops) (slice_get y.objects object)) 0
+
+-- the object that a call enters is there, with the data of the call, and so is the operation
+abbrev pub IsOfObject : System → Entry → Type 0
+IsOfObject y e = (option_map (λ g. written g.vars) (slice_get y.objects e.object) ≡ Some (written e.«data».now)) × (e.place < ops_count y e.object)
+
 -- where the next frame stands
 abbrev pub next : Place → Frame → Place
 next p frame.Finish = record p { spot = beside p.params p.spot; names = p.params ++ p.names; height = suc p.height }
@@ -122,11 +142,16 @@ next p (frame.Stmts ss) = record p { spot = above p.spot; height = suc p.height 
 next p (frame.Turned r) = record p { spot = record p.spot { inside = true; room = p.spot.room - 2 }; names = r.name.now ∷ p.names; height = suc p.height }
 next p (frame.Saved v) = record p { names = drop 1 p.names; height = suc p.height }
 next p (frame.Return c) = record p { spot = in_call p.spot (call_name c); names = body_names (operation_of c.op.now); height = suc p.height }
+next p (frame.Close e lent) = record p {
+  spot = in_call p.spot (call_name e.call);
+  names = body_names (operation_of e.call.op.now) ++ take lent (entry_names e);
+  height = suc p.height;
+}
 
--- a call that there is room for, before its body
-pub record IsUnderWay (s : Spot) (c : call.Call) : Type 0 where
+-- a call that there is room for, before its body, with so many data of an object
+pub record IsUnderWay (s : Spot) (c : call.Call) (more : ℕ) : Type 0 where
   pub few : length c.op.now.sig.params.items ≤ 8
-  pub room : calls_room (call_name c ∷ s.chain) s.libraries + call_room (operation_of c.op.now) ≤ calls_room s.chain s.libraries
+  pub room : calls_room (call_name c ∷ s.chain) s.system + call_room more (operation_of c.op.now) ≤ calls_room s.chain s.system
 
 -- a frame, with what is put away below it: a call ends where no variables of its caller are left, and all others stand on none
 abbrev pub FitsFrame : Place → Variables → Frame → Type 0
@@ -134,7 +159,8 @@ FitsFrame p away frame.Finish = (away ≡ []) × (suc (length p.params) ≤ p.sp
 FitsFrame p away (frame.Stmts ss) = (away ≡ []) × (1 ≤ p.spot.room) × FitsList (above p.spot) ss.now
 FitsFrame p away (frame.Turned r) = (away ≡ []) × FitsPiece p.spot (piece.Turned r)
 FitsFrame p away (frame.Saved v) = p.names ≡ v.name.now ∷ drop 1 p.names
-FitsFrame p away (frame.Return c) = (p.names ≡ []) × IsUnderWay p.spot c
+FitsFrame p away (frame.Return c) = (p.names ≡ []) × IsUnderWay p.spot c 0
+FitsFrame p away (frame.Close e lent) = (p.names ≡ []) × IsUnderWay p.spot e.call (length e.«data».now) × IsOfObject p.spot.system e
 
 -- frames from a place on
 abbrev pub Fit : Place → Kept → List Frame → Type 0
@@ -167,6 +193,7 @@ abbrev pub FitsFirst : Place → Option Piece → Type 0
 FitsFirst p None = p.height ≡ 0
 FitsFirst p (Some piece.Finishing) = p.height ≡ 0
 FitsFirst p (Some (piece.Returning c)) = (p.names ≡ []) × (length c.op.now.sig.params.items ≤ 8)
+FitsFirst p (Some (piece.Closing e)) = (p.names ≡ []) × (length e.call.op.now.sig.params.items ≤ 8) × IsOfObject p.spot.system e
 FitsFirst p (Some q) = FitsPiece p.spot q
 
 -- the names of the variables while a piece is first: a turn that ends has one of its own, an activation ends with its parameters, and
@@ -174,12 +201,14 @@ FitsFirst p (Some q) = FitsPiece p.spot q
 abbrev pub Named : Place → Option Piece → List Name → Type 0
 Named p (Some (piece.Turned r)) now = now ≡ r.name.now ∷ p.names
 Named p (Some (piece.Returning c)) now = ⊤
+Named p (Some (piece.Closing e)) now = ⊤
 Named p (Some piece.Finishing) now = now ≡ p.params ++ p.names
 Named p _ now = now ≡ p.names
 
 -- the variables of a caller are put away above all pieces only where a call ends
 abbrev pub PutsAway : Option Piece → Variables → Type 0
 PutsAway (Some (piece.Returning c)) away = ⊤
+PutsAway (Some (piece.Closing e)) away = ⊤
 PutsAway _ away = away ≡ []
 
 -- the names of variables

@@ -1,24 +1,18 @@
 -- The tasks of a program's units, gathered one unit after another.
 -- A task knows the place of its unit, from 0.
-use Rattle.std.specs.Prelude.{◌≡◌, ℕ, suc, ◌≤◌, ◌++◌, List, map, length, filter_map, option_to_list, Some, slice_get}
-use Rattle.std.specs.List.{enumerate_from}
-use Rattle.ada_tree.specs.Programs.{Unit}
+use Rattle.std.specs.Prelude.{◌≡◌, ℕ, suc, ◌≤◌, ◌++◌, List, map, length, option_to_list, Some, slice_get}
 use Rattle.arrivals_tree.specs.Arriving.{durations}
 use Rattle.arrivals_tree.specs.declared.arrivals.WorkList.{WorkList}
-use Rattle.machine.specs.Systems as systems
 use Rattle.ada_tree.specs.Trees.{unit_of}
 use Rattle.ada_tree.specs.declared.program.Unit as units
 use Rattle.machine.specs.Systems.{thread_by}
-use Rattle.ceil_runtime.specs.Written.{handed, thread_of, written_as}
+use Rattle.ceil_runtime.specs.Libraries.{handed}
+use Rattle.ceil_runtime.specs.Written.{thread_of, written_as}
 use Rattle.ceil_runtime.specs.declared.thread.Thread.{Thread}
 
 -- a fact of each task
 abbrev pub AllThreads : (Thread → Type 0) → List Thread → Type 0
 AllThreads P threads = (i : ℕ) (t : Thread) → slice_get threads i ≡ Some t → P t
-
--- the tasks of units that are counted from this number on, with the durations that are handed to them
-abbrev pub threads_from : List WorkList → ℕ → List Unit → List systems.TaskUnit
-threads_from work n us = filter_map (λ u. thread_by (durations (handed work) u.0) u.0 u.1.name u.1.form) (enumerate_from n us)
 
 -- a task of these units, which stands where it says, and what is handed in
 pub record IsThreadOf (lists : List WorkList) (us : List units.Unit) (t : Thread) : Type 0 where

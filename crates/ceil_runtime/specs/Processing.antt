@@ -12,10 +12,12 @@ use Rattle.machine.specs.Systems.{System}
 use Rattle.machine.specs.States as states
 use Rattle.machine.specs.Meanings.{Running, Rest}
 use Rattle.dispatching.specs.Queueing.{AreQueued, AreSleeping, places}
-use Rattle.ceil_runtime.specs.Libraries.{libraries_from, objects_from}
+use Rattle.ceil_runtime.specs.Libraries.{libraries_from, objects_from, no_costs}
 use Rattle.ceil_runtime.specs.Readies.{is_ready}
-use Rattle.ceil_runtime.specs.Works.{task_of}
-use Rattle.ceil_runtime.specs.Written.{thread_of}
+use Rattle.ceil_runtime.specs.Doing.{IsDeed}
+use Rattle.ceil_runtime.specs.declared.effects.Deed.{Deed}
+use Rattle.ceil_runtime.specs.Works.{ActsAs, IsNested, task_of}
+use Rattle.ceil_runtime.specs.Written.{system_of, thread_of}
 use Rattle.ceil_runtime.specs.declared.task.Task.{Task}
 use Rattle.ceil_runtime.specs.declared.piece.Piece.{Piece}
 use Rattle.ceil_runtime.specs.declared.processor.Phase.{Phase}
@@ -69,13 +71,14 @@ state_by stores arrivals time phase ran stopped tasks ready = record {
   stores = stores;
 }
 
--- what is kept of each task: its counts are small, and it is of these units
+-- what is kept of each task: its counts are small, it is of these units, and it is inside so many sections as it is still to leave
 pub record IsKept (until time : ℕ) (us : List units.Unit) (t : Task) : Type 0 where
   pub used : t.used ≤ time
   pub works : t.works ≤ time + min t.left 1
   pub next : t.next ≤ until + 2 ^ 33
   pub units : t.progress.stack.thread.units.now ≡ us
   pub idle : is_ready t.readiness ≡ false → t.left ≡ 0
+  pub nested : IsNested (task_of t)
 
 abbrev pub AllTasks : (Task → Type 0) → List Task → Type 0
 AllTasks P tasks = (i : ℕ) (t : Task) → slice_get tasks i ≡ Some t → P t
@@ -97,12 +100,17 @@ HoldsIn Delays until time ran tasks q = ⊤
 HoldsIn Arriving until time ran tasks q = Each (λ e. time < e.1) q.asleep
 HoldsIn Use until time ran tasks q = (time < until) × Each (λ e. time < e.1) q.asleep
 
+-- the units that each task's calls may lead to are those that run
+abbrev pub AreAlike : List units.Unit → List Task → Type 0
+AreAlike us tasks = AllTasks (λ t. system_of t.progress.stack.thread ≡ system_by 0 no_costs us tasks) tasks
+
 -- what always holds of a processor's fields
 pub record IsSound (until time : ℕ) (phase : Phase) (ran : Option ℕ) (us : List units.Unit) (tasks : List Task) (q : Queues) : Type 0 where
   pub size : q.size ≡ length tasks
   pub queued : AreQueued (map task_of tasks) (places (length tasks) (order_of phase tasks q.ready)) (order_of phase tasks q.ready)
   pub sleeping : AreSleeping (map task_of tasks) time q.asleep
   pub kept : AllTasks (IsKept until time us) tasks
+  pub calls : AreAlike us tasks
   pub here : HoldsIn phase until time ran tasks q
   pub near : until < 2 ^ 32
   pub few : length tasks < 2 ^ 32
@@ -125,3 +133,7 @@ HasNoPiece tasks i = (t : Task) → slice_get tasks i ≡ Some t → (t.progress
 abbrev pub IsDue : List Task → ℕ → Option Piece → Type 0
 IsDue tasks i None = HasNoPiece tasks i
 IsDue tasks i (Some p) = HasPiece tasks i p
+
+-- the task at this place has a piece that reaches this
+abbrev pub IsReaching : List Task → ℕ → Piece → Deed → Type 0
+IsReaching tasks i p d = (t : Task) → slice_get tasks i ≡ Some t → IsDeed (system_of t.progress.stack.thread) p d × ActsAs (system_of t.progress.stack.thread) (task_of t) d

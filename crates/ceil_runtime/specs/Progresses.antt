@@ -13,8 +13,9 @@ use Rattle.seq_tree.specs.declared.tree.Stmt.{Stmt}
 use Rattle.ada_tree.specs.Words.{is_ada_name}
 use Rattle.machine.specs.Pieces as pieces
 use Rattle.ceil_runtime.specs.declared.piece.Call.{Call}
+use Rattle.ceil_runtime.specs.declared.piece.Entry.{Entry}
 use Rattle.ceil_runtime.specs.declared.piece.Piece.{Piece}
-use Rattle.ceil_runtime.specs.declared.piece.Piece.TheVariants.{Idle, Store, Leaving, Calling, Working, Printing, Testing, Turning, Turned, Returning, Finishing}
+use Rattle.ceil_runtime.specs.declared.piece.Piece.TheVariants.{Idle, Store, Leaving, Calling, Working, Printing, Testing, Turning, Turned, Returning, Closing, Keeping, Opening, Requested, Finishing}
 use Rattle.ceil_runtime.specs.declared.piece.Frame.{Frame}
 use Rattle.ceil_runtime.specs.declared.piece.Frame.TheVariants as frame
 
@@ -30,6 +31,12 @@ abbrev pub returning : Call → Variables → pieces.Piece
 returning c caller =
     pieces.Returning (out_names c.op.now.sig.params.items) (targets c.op.now.sig.params.items (map expression_of c.actuals.now)) caller
 
+-- the end of the body of a call that has entered a protected object
+abbrev pub closing : Entry → Variables → pieces.Piece
+closing e caller =
+    pieces.Closing e.object e.place e.«data».now (out_names e.call.op.now.sig.params.items)
+    (targets e.call.op.now.sig.params.items (map expression_of e.call.actuals.now)) caller
+
 -- a piece; the variables of a caller are those that are put away
 abbrev pub piece_of : Piece → Variables → pieces.Piece
 piece_of Idle away = pieces.Idle
@@ -42,7 +49,17 @@ piece_of (Testing arm arms other) away = pieces.Testing (arm_of arm.now).0 (arm_
 piece_of (Turning r) away = pieces.Turning r.name.now r.at r.last (block_of r.body.now)
 piece_of (Turned r) away = pieces.Turned r.name.now r.at r.last (block_of r.body.now)
 piece_of (Returning c) away = returning c away
+piece_of (Closing e) away = closing e away
+piece_of (Keeping r) away = pieces.Keeping r.task r.value
+piece_of (Opening r) away = pieces.Opening r.task
+piece_of (Requested r) away = pieces.Requested r.task r.value
 piece_of Finishing away = pieces.Finishing
+
+-- what stands behind a piece before all frames: the parts of a request that are left
+abbrev pub with_parts : Piece → List pieces.Piece → List pieces.Piece
+with_parts (Keeping r) ps = pieces.Opening r.task ∷ pieces.Requested r.task r.value ∷ ps
+with_parts (Opening r) ps = pieces.Requested r.task r.value ∷ ps
+with_parts _ ps = ps
 
 -- what frames stand for: pieces, and the variables of a caller that are put away above them
 pub record Kept : Type 0 where
@@ -61,6 +78,7 @@ with_frame k (frame.Stmts ss) = record k { pieces = pieces.pieces (statements_of
 with_frame k (frame.Turned r) = record k { pieces = pieces.Turned r.name.now r.at r.last (block_of r.body.now) ∷ k.pieces }
 with_frame k (frame.Saved v) = record k { away = k.away ++ (v.name.now, v.value) ∷ [] }
 with_frame k (frame.Return c) = record { pieces = returning c k.away ∷ k.pieces; away = [] }
+with_frame k (frame.Close e lent) = record { pieces = closing e k.away ∷ k.pieces; away = [] }
 
 -- no frames
 abbrev pub nothing_kept : Kept
@@ -81,7 +99,7 @@ put_away frames = (kept frames).away
 -- pieces with a first one, where there is one
 abbrev pub started : Option Piece → Kept → List pieces.Piece
 started None k = k.pieces
-started (Some p) k = piece_of p k.away ∷ k.pieces
+started (Some p) k = piece_of p k.away ∷ with_parts p k.pieces
 
 -- what starts with a statement
 abbrev pub Starts : Statement → Option Piece → Type 0

@@ -1,7 +1,5 @@
 -- What is asked of a program and its arrivals before a run: all that their readers promise.
--- The part of the language is the one that is built so far. That no sporadic task of it is requested by a call follows from the rules.
 use Rattle.ada_tree.specs.Programs.{Program}
-use Rattle.ada_tree.specs.InUse.{IsRunProgram}
 use Rattle.seq_tree.specs.Proper.{within_limits}
 use Rattle.ada_tree.specs.Words.{is_ada_name}
 use Rattle.ada_tree.specs.Proper.{IsProperProgram}
@@ -14,5 +12,4 @@ use Rattle.arrivals_tree.specs.Arrived.{horizon_limit}
 pub record IsReplayable (p : Program) (a : Arrivals) : Type 0 where
   pub proper : IsProperProgram (within_limits is_ada_name) p
   pub meets : MeetsRules p
-  pub usable : IsRunProgram p
   pub accepted : IsAccepted horizon_limit p a

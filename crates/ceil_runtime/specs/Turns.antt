@@ -30,7 +30,7 @@ abbrev pub FallsAt : Turn → ℕ → ℕ → Type 0
 FallsAt More old new = new < old
 FallsAt _ old new = Unit {0}
 
--- an answer without a violation of a ceiling: no protected object is called so far
-abbrev pub KeepsCeilings : Turn → Type 0
-KeepsCeilings (CeilingViolation time task object priority ceiling) = ⊥
-KeepsCeilings _ = Unit {0}
+-- the answer to the last event of a run
+abbrev pub last_turn : Event → Turn
+last_turn (event.Stop time task unit priority ceiling) = CeilingViolation time task unit priority ceiling
+last_turn _ = Horizon

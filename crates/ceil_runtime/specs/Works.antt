@@ -1,21 +1,24 @@
 -- A task at work: what it stands for, and what its methods do to it.
-use Rattle.std.specs.Prelude.{◌≡◌, ℕ, ◌-◌, ◌+◌, ◌<◌, ◌≤◌, true, List, ◌∷◌, Option, ◌==◌, if◌then◌else◌}
+use Rattle.std.specs.Prelude.{◌≡◌, ℕ, suc, ◌-◌, ◌+◌, ◌<◌, ◌≤◌, true, List, ◌∷◌, ◌++◌, length, Option}
 use Rattle.seq_tree.specs.Variables.{Variables}
 use Rattle.seq_tree.specs.declared.tree.Costs.{Costs}
-use Rattle.machine.specs.Systems.{PassiveUnit}
+use Rattle.machine.specs.Systems.{System}
 use Rattle.machine.specs.Pieces.{Piece}
+use Rattle.machine.specs.Deeds as deeds
+use Rattle.machine.specs.Deeds.{done}
 use Rattle.machine.specs.States as states
 use Rattle.machine.specs.Releases.{going}
 use Rattle.machine.specs.Effects.{ended}
-use Rattle.ceil_runtime.specs.Doing.{Does}
-use Rattle.ceil_runtime.specs.Effort.{effort}
+use Rattle.ceil_runtime.specs.Callable.{CallsAlike}
+use Rattle.ceil_runtime.specs.Doing.{Does, IsActOf, act_of}
+use Rattle.ceil_runtime.specs.Effort.{effort, sections_among}
 use Rattle.ceil_runtime.specs.Insides.{inside_of}
-use Rattle.ceil_runtime.specs.Left.{first_tells}
 use Rattle.ceil_runtime.specs.Written.{reserve, thread_of}
 use Rattle.ceil_runtime.specs.declared.thread.Thread.{Thread}
 use Rattle.ceil_runtime.specs.Progressed.{vars_left, pieces_left}
 use Rattle.ceil_runtime.specs.declared.effects.Act.{Act}
-use Rattle.ceil_runtime.specs.declared.effects.Act.TheVariants.{Silent, Print, Finish}
+use Rattle.ceil_runtime.specs.declared.effects.Act.TheVariants.{Finish}
+use Rattle.ceil_runtime.specs.declared.effects.Deed.{Deed}
 use Rattle.ceil_runtime.specs.declared.task.Task.{Task}
 use Rattle.ceil_runtime.specs.Readies.{gate_of, readiness_of}
 
@@ -53,30 +56,55 @@ used_ticks n t = record t { left = t.left - n; used = t.used + n }
 
 -- a task after what its piece does
 abbrev pub done_by : Act → Costs → Variables → List Piece → states.Task → states.Task
-done_by Silent costs vars ps t = going costs vars ps t
-done_by (Print value) costs vars ps t = going costs vars ps t
 done_by Finish costs vars ps t = ended vars t
+done_by _ costs vars ps t = going costs vars ps t
 
 -- what a task's piece does, where its ticks are used
-pub record Acts (libraries : List PassiveUnit) (costs : Costs) (t : states.Task) (act : Act) (t' : states.Task) : Type 0 where
+pub record Acts (z : System) (costs : Costs) (t : states.Task) (act : Act) (t' : states.Task) : Type 0 where
   pub piece : Piece
   pub rest : List Piece
   pub vars : Variables
   pub pieces : List Piece
   pub first : t.pieces ≡ piece ∷ rest
-  pub does : Does libraries piece t.vars rest act vars pieces
+  pub does : Does z piece t.vars rest (act_of act) vars pieces
   pub after : t' ≡ done_by act costs vars pieces t
 
--- a piece leaves fewer effects for this instant
+-- the same where it enters an operation of a protected object, both by their places: the object's data come to its variables
+pub record Enters (z : System) (costs : Costs) (object op : ℕ) (values : List ℕ) (lent : Variables) (t t' : states.Task) : Type 0 where
+  pub piece : Piece
+  pub rest : List Piece
+  pub vars : Variables
+  pub pieces : List Piece
+  pub first : t.pieces ≡ piece ∷ rest
+  pub does : Does z piece t.vars rest (deeds.Enter object op values) vars pieces
+  pub after : t' ≡ going costs (vars ++ lent) pieces t
+
+-- the same where it leaves the operation, with the object's data
+pub record Leaves (z : System) (costs : Costs) (object op : ℕ) (values : List ℕ) (data' : Variables) (t t' : states.Task) : Type 0 where
+  pub piece : Piece
+  pub rest : List Piece
+  pub vars : Variables
+  pub pieces : List Piece
+  pub first : t.pieces ≡ piece ∷ rest
+  pub does : Does z piece t.vars rest (deeds.Leave object op values data') vars pieces
+  pub after : t' ≡ going costs vars pieces t
+
+-- the act of a task's first piece, by what the piece reaches
+abbrev pub ActsAs : System → states.Task → Deed → Type 0
+ActsAs z t reached = (p : Piece) (rest : List Piece) → t.pieces ≡ p ∷ rest → (y : System) → CallsAlike y z → IsActOf reached (done y p t.vars rest).act
+
+-- how many sections a task is inside after an act, by how many it was before
+abbrev pub StaysInside : deeds.Act → ℕ → ℕ → Type 0
+StaysInside (deeds.Enter object op values) n m = m ≡ suc n
+StaysInside (deeds.Leave object op values data') n m = n ≡ suc m
+StaysInside (deeds.Ask task) n m = m ≡ suc n
+StaysInside (deeds.Ended task value) n m = n ≡ suc m
+StaysInside _ n m = m ≡ n
+
+-- a task is inside so many sections at most as it has ends of sections left
+abbrev pub IsNested : states.Task → Type 0
+IsNested t = length t.inside ≤ sections_among t.pieces
+
+-- the effect of a piece leaves fewer effects for this instant
 abbrev pub EffortFalls : Thread → states.Task → states.Task → Type 0
 EffortFalls thread t t' = (most : ℕ) → reserve thread ≤ most → (0 < effort most t.pieces) × (t'.left ≡ 0 → effort most t'.pieces < effort most t.pieces)
-
--- twice the events that a task's piece tells, where its ticks are used
-abbrev pub tells_of : states.Task → ℕ
-tells_of t = if t.left == 0 then first_tells t.pieces else 0
-
--- a piece that has told its event, and the next one, which has ticks to use or tells nothing
-abbrev pub ToldBy : Act → states.Task → states.Task → Type 0
-ToldBy Silent t t' = tells_of t' ≡ 0
-ToldBy (Print value) t t' = (tells_of t' ≡ 0) × (tells_of t ≡ 2)
-ToldBy Finish t t' = (tells_of t' ≡ 0) × (tells_of t ≡ 2)

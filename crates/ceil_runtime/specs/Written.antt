@@ -10,14 +10,13 @@ use Rattle.seq_tree.specs.declared.tree.Param.{Param}
 use Rattle.seq_tree.specs.declared.tree.OpName.{OpName}
 use Rattle.ada_tree.specs.Programs.{Form, Unit, Cyclic, Sporadic}
 use Rattle.ada_tree.specs.Trees.{unit_of}
-use Rattle.arrivals_tree.specs.Arriving.{Arrivals, durations}
-use Rattle.arrivals_tree.specs.declared.arrivals.WorkList.{WorkList}
+use Rattle.arrivals_tree.specs.Arriving.{durations}
 use Rattle.machine.specs.Systems as systems
-use Rattle.machine.specs.Systems.{PassiveUnit}
-use Rattle.ceil_runtime.specs.Callable.{IsClear, call_room, calls_room, op_in}
+use Rattle.machine.specs.Systems.{System}
+use Rattle.ceil_runtime.specs.Callable.{IsClear, call_room, calls_room, data_by, op_in, target_in}
 use Rattle.ceil_runtime.specs.Effort.{request_params}
 use Rattle.ceil_runtime.specs.Fitting.{FitsBlock, Place, Spot, above, in_call, next}
-use Rattle.ceil_runtime.specs.Libraries.{libraries_from}
+use Rattle.ceil_runtime.specs.Libraries.{handed, system_from}
 use Rattle.ceil_runtime.specs.declared.thread.Thread.{Thread}
 use Rattle.ceil_runtime.specs.declared.thread.Timing.{Timing}
 use Rattle.ceil_runtime.specs.declared.thread.Timing.TheVariants.{Periodic, Requested}
@@ -44,13 +43,9 @@ params_of t = request_params (timing_of t.timing)
 abbrev pub param_names : Thread → List Name
 param_names t = map (λ q. q.name) (params_of t)
 
--- the passive units of its program
-abbrev pub libraries_of : Thread → List PassiveUnit
-libraries_of t = libraries_from 0 (map unit_of t.units.now)
-
--- lists of durations alone, as they are handed to a run
-abbrev pub handed : List WorkList → Arrivals
-handed work = record { until = 0; work = map (λ w. record { task = w.task; ticks = w.ticks.items }) work; items = [] }
+-- the units of its program, which its calls lead to
+abbrev pub system_of : Thread → System
+system_of t = system_from t.work.now (map unit_of t.units.now)
 
 -- its durations
 abbrev pub durations_of : Thread → List ℕ
@@ -81,7 +76,7 @@ written_as t = record { name = t.name.now; form = form_by t.timing t.priority t.
 -- where the first frame of an activation stands; there is room for the parameters besides
 abbrev pub first_place : Thread → Place
 first_place t = record {
-  spot = record { libraries = libraries_of t; chain = []; inside = false; room = length (param_names t) + 194 };
+  spot = record { system = system_of t; chain = []; inside = false; room = length (param_names t) + 194 };
   names = data_names t;
   params = param_names t;
   height = 0;
@@ -94,21 +89,21 @@ block_place t = next (first_place t) frame.Finish
 -- the room that is enough for every run of a task: for each of its data, for the parameters of a request, for its own frames, and
 -- for a call of each operation
 abbrev pub reserve : Thread → ℕ
-reserve t = length t.data.now + length (param_names t) + 196 + calls_room [] (libraries_of t)
+reserve t = length t.data.now + length (param_names t) + 196 + calls_room [] (system_of t)
 
 -- an operation that can be called where it is clear: its body does with the frames of a call, and there is room for the call
+-- and for the data that come with it
 pub record IsReady (s : Spot) (c : OpName) (o : Operation) : Type 0 where
   pub block : FitsBlock (above (in_call s c)) o.block
   pub few : length o.sig.params ≤ 8
-  pub room : calls_room (c ∷ s.chain) s.libraries + call_room o ≤ calls_room s.chain s.libraries
+  pub room : calls_room (c ∷ s.chain) s.system + call_room (length (data_by (target_in s.system c))) o ≤ calls_room s.chain s.system
 
--- passive units whose operations can all be called
-abbrev pub CanCall : List PassiveUnit → Type 0
-CanCall libraries =
-    (s : Spot) (c : OpName) (o : Operation) → s.libraries ≡ libraries → op_in libraries c ≡ Some o → IsClear libraries s.chain c → IsReady s c o
+-- units whose operations can all be called
+abbrev pub CanCall : System → Type 0
+CanCall y = (s : Spot) (c : OpName) (o : Operation) → s.system ≡ y → op_in y c ≡ Some o → IsClear y s.chain c → IsReady s c o
 
 -- a task that can be run
 pub record CanRun (t : Thread) : Type 0 where
   pub block : FitsBlock (above (block_place t).spot) (block_of_thread t)
   pub distinct : are_distinct (data_names t ++ param_names t) ≡ true
-  pub calls : CanCall (libraries_of t)
+  pub calls : CanCall (system_of t)

@@ -1,6 +1,6 @@
 ghost use Rattle.std.specs.Prelude.{◌≡◌, ◌++◌, ◌∷◌, [], IfOk, OnOk};
 ghost use Rattle.arrivals_tree.specs.Arriving.{durations};
-ghost use Rattle.ceil_runtime.specs.Written.{handed};
+ghost use Rattle.ceil_runtime.specs.Libraries.{handed};
 
 use arrivals_tree::WorkList;
 use seq_tree::NoMemory;

@@ -1,23 +1,24 @@
-ghost use Rattle.std.specs.Prelude.{◌≡◌, suc, true, [], ◌∷◌, drop, map, if◌then◌else◌, Some};
-ghost use Rattle.seq_tree.specs.Trees.{arm_of, block_of, expression_of};
+ghost use Rattle.std.specs.Prelude.{◌≡◌, ◌≤◌, suc, true, false, [], ◌∷◌, ◌++◌, drop, map, if◌then◌else◌, Some};
+ghost use Rattle.seq_tree.specs.Trees.{arm_of, block_of, expression_of, operation_of};
 ghost use Rattle.seq_tree.specs.Operations.{out_names};
-ghost use Rattle.seq_tree.specs.Values.{holds};
-ghost use Rattle.seq_tree.specs.Variables.{reads, stored, targets};
+ghost use Rattle.seq_tree.specs.Values.{handed, holds};
+ghost use Rattle.seq_tree.specs.Variables.{opened, reads, stored, targets};
 ghost use Rattle.seq_tree.specs.Statements.{When};
+ghost use Rattle.machine.specs.Systems.{Plain as PlainCall, callee};
 ghost use Rattle.machine.specs.Pieces.{Turned as DoneTurned, after_loop, branch_pieces, pieces, turns};
 ghost use Rattle.ceil_runtime.specs.declared.piece.Piece.TheVariants as PieceIs;
 ghost use Rattle.ceil_runtime.specs.Stacked.{vars_of};
-ghost use Rattle.ceil_runtime.specs.Progresses.{behind, branches_left, kept, piece_of, put_away, started};
-ghost use Rattle.ceil_runtime.specs.Fitting.{FitsBranches, FitsIf, FitsPiece, names_of, place_of};
-ghost use Rattle.ceil_runtime.specs.Written.{first_place, libraries_of};
-ghost use Rattle.ceil_runtime.specs.Doing.{Does, EndsAt, IsFirst, KeepsData, given};
+ghost use Rattle.ceil_runtime.specs.Progresses.{behind, branches_left, kept, piece_of, put_away, returning, started, with_parts};
+ghost use Rattle.ceil_runtime.specs.Fitting.{FitsBlock, FitsBranches, FitsIf, FitsPiece, above, body_names, names_of, place_of};
+ghost use Rattle.ceil_runtime.specs.Written.{first_place, system_of};
+ghost use Rattle.ceil_runtime.specs.Doing.{Does, EndsAt, IsFirst, IsOutside, KeepsData, StaysOutside, act_of, given, is_finish};
 
-use crate::callable::find_op;
-use crate::params::{hand_in, hand_out, open_data, open_params, store};
-use crate::piece::{Call, Frame, Piece, Round};
+use crate::callable::{Callee, find_callee};
+use crate::params::{hand_in, hand_out, open_data, open_params, request_value, store};
+use crate::piece::{Call, Entry, Frame, Piece, Request, Round};
 use crate::stack::Stack;
 use crate::values::{Var, value_of, write};
-use seq_tree::{Arm, Block, Expr, Name};
+use seq_tree::{Arm, Block, Expr, Name, OpText};
 use trace_tree::Values;
 
 /// What a piece is to others.
@@ -27,8 +28,29 @@ pub enum Act {
     Silent,
     /// This value is written.
     Print(u32),
+    /// The request of the task at this place begins: its control structure is entered.
+    Ask(usize),
+    /// The value of a request is kept in the control structure of the task at this place.
+    Keep { task: usize, value: Option<u32> },
+    /// The barrier of the task at this place opens.
+    Open(usize),
+    /// The request of the task at this place is over: its control structure is left.
+    Ended { task: usize, value: Option<u32> },
     /// The activation ends.
     Finish,
+}
+
+/// What a piece reaches before its effect.
+#[derive(Clone, Copy, Drop)]
+pub enum Deed<'a> {
+    /// Nothing but the task itself.
+    Own,
+    /// The protected object of this call, which it enters.
+    Enter(Entry<'a>),
+    /// The protected object of this call, which it leaves.
+    Leave(Entry<'a>),
+    /// The control structure of the task at this place, which it enters.
+    Ask(usize),
 }
 
 /// What a piece has done, and the piece that comes then.
@@ -148,7 +170,7 @@ impl<'a> Stack<'a> {
     }
 
     /// Puts the variables of the caller away.
-    fn put_vars_away(&mut self)
+    pub fn put_vars_away(&mut self)
         requires away { put_away self.old.frames.items ≡ [] }
         requires names { names_of (vars_of self.old.vars.items) ≡ (place_of (first_place self.old.thread) self.old.frames.items).names }
         ensures pieces { behind self.new.frames.items ≡ behind self.old.frames.items }
@@ -184,38 +206,94 @@ impl<'a> Stack<'a> {
         }
     }
 
-    /// A call: the values are handed in, and the body begins.
-    fn call(&mut self, object: &'a Name, name: &'a Name, actuals: &'a [Expr]) -> Option<Piece<'a>>
-        requires { IsFirst self.old.thread (Some (PieceIs.Calling object name actuals)) (vars_of self.old.vars.items) self.old.frames.items }
-        ensures deed { Does (libraries_of self.old.thread) (piece_of (PieceIs.Calling object.entry name.entry actuals.entry) []) (vars_of self.old.vars.items) (behind self.old.frames.items)
-            Act.Silent (vars_of self.new.vars.items) (started result (kept self.new.frames.items)) }
+    /// The body of an operation begins with these values. What an object lends stands among the variables already.
+    pub fn begin_body(&mut self, op: &'a OpText, values: &[u32]) -> Option<Piece<'a>>
+        requires away { put_away self.old.frames.items ≡ [] }
+        requires names { (place_of (first_place self.old.thread) self.old.frames.items).names ≡ body_names (operation_of op.now) ++ names_of (vars_of self.old.vars.items) }
+        requires room { 1 ≤ (place_of (first_place self.old.thread) self.old.frames.items).spot.room }
+        requires block { FitsBlock (above (place_of (first_place self.old.thread) self.old.frames.items).spot) (operation_of op.now).block }
+        ensures pieces { started result (kept self.new.frames.items) ≡ pieces (operation_of op.entry.now).block (behind self.old.frames.items) }
         ensures first { IsFirst self.new.thread result (vars_of self.new.vars.items) self.new.frames.items }
+        ensures vars { vars_of self.new.vars.items ≡ opened (operation_of op.entry.now) values.now ++ vars_of self.old.vars.items }
         ensures thread { self.new.thread ≡ self.old.thread }
     {
-        let Some(op) = find_op(self.thread.units, object, name) else {
-            unreachable!()
-        };
-        let mut values = Values::new();
-        hand_in(
-            &mut values,
-            op.sig.params.as_slice(),
-            actuals,
-            self.vars.as_slice(),
-        );
-        self.put_vars_away();
-        self.push_frame(Frame::Return(Call {
-            object,
-            name,
-            op,
-            actuals,
-        }));
         open_data(&mut self.vars, op.locals.as_slice());
-        open_params(&mut self.vars, op.sig.params.as_slice(), values.as_slice());
+        open_params(&mut self.vars, op.sig.params.as_slice(), values);
         self.enter(op.block.stmts.as_slice())
     }
 
-    /// The end of a call's body: the values are handed out, and the caller goes on.
-    fn hand_back(&mut self, call: Call<'a>) -> Option<Piece<'a>>
+    /// A call of a passive operation: the values are handed in, and the body begins.
+    fn call(&mut self, call: Call<'a>) -> Option<Piece<'a>>
+        requires first { IsFirst self.old.thread (Some (PieceIs.Calling call.object call.name call.actuals)) (vars_of self.old.vars.items) self.old.frames.items }
+        requires calls { callee (system_of self.old.thread) call.object.now call.name.now ≡ PlainCall (operation_of call.op.now) }
+        ensures pieces { started result (kept self.new.frames.items) ≡ pieces (operation_of call.entry.op.now).block (returning call.entry (vars_of self.old.vars.items) ∷ behind self.old.frames.items) }
+        ensures first { IsFirst self.new.thread result (vars_of self.new.vars.items) self.new.frames.items }
+        ensures vars { vars_of self.new.vars.items
+            ≡ opened (operation_of call.entry.op.now) (handed call.entry.op.now.sig.params.items (map expression_of call.entry.actuals.now) (vars_of self.old.vars.items)) }
+        ensures thread { self.new.thread ≡ self.old.thread }
+    {
+        let mut values = Values::new();
+        hand_in(
+            &mut values,
+            call.op.sig.params.as_slice(),
+            call.actuals,
+            self.vars.as_slice(),
+        );
+        self.put_vars_away();
+        self.push_frame(Frame::Return(call));
+        self.begin_body(call.op, values.as_slice())
+    }
+
+    /// A call that enters no protected object.
+    fn call_outside(&mut self, object: &'a Name, name: &'a Name, actuals: &'a [Expr]) -> Moved<'a>
+        requires first { IsFirst self.old.thread (Some (PieceIs.Calling object name actuals)) (vars_of self.old.vars.items) self.old.frames.items }
+        requires outside { IsOutside (callee (system_of self.old.thread) object.now name.now) }
+        ensures deed { Does (system_of self.old.thread) (piece_of (PieceIs.Calling object.entry name.entry actuals.entry) []) (vars_of self.old.vars.items) (behind self.old.frames.items)
+            (act_of result.act) (vars_of self.new.vars.items) (started result.next (kept self.new.frames.items)) }
+        ensures goes_on { is_finish result.act ≡ false }
+        ensures first { IsFirst self.new.thread result.next (vars_of self.new.vars.items) self.new.frames.items }
+        ensures thread { self.new.thread ≡ self.old.thread }
+    {
+        match find_callee(self.thread.units, object, name) {
+            Some(Callee::Plain(op)) => silent(self.call(Call {
+                object,
+                name,
+                op,
+                actuals,
+            })),
+            Some(Callee::Request(task)) => Moved {
+                act: Act::Ask(task),
+                next: Some(Piece::Keeping(Request {
+                    task,
+                    value: request_value(actuals, self.vars.as_slice()),
+                })),
+            },
+            Some(Callee::Protected { .. }) => unreachable!(),
+            None => unreachable!(),
+        }
+    }
+
+    /// Stores the values that a call hands out, and the caller goes on.
+    pub fn hand_back(&mut self, call: Call<'a>, values: &[u32]) -> Option<Piece<'a>>
+        requires { (place_of (first_place self.old.thread) self.old.frames.items).names ≡ [] }
+        ensures pieces { started result (kept self.new.frames.items) ≡ behind self.old.frames.items }
+        ensures first { IsFirst self.new.thread result (vars_of self.new.vars.items) self.new.frames.items }
+        ensures vars { vars_of self.new.vars.items ≡ stored (targets call.entry.op.now.sig.params.items (map expression_of call.entry.actuals.now)) values.now (put_away self.old.frames.items) }
+        ensures thread { self.new.thread ≡ self.old.thread }
+    {
+        self.vars.clear();
+        self.take_vars_back();
+        store(
+            self.vars.as_mut_slice(),
+            call.op.sig.params.as_slice(),
+            call.actuals,
+            values,
+        );
+        self.next_piece()
+    }
+
+    /// The end of the body of a passive operation.
+    fn end_call(&mut self, call: Call<'a>) -> Option<Piece<'a>>
         requires { IsFirst self.old.thread (Some (PieceIs.Returning call)) (vars_of self.old.vars.items) self.old.frames.items }
         ensures pieces { started result (kept self.new.frames.items) ≡ behind self.old.frames.items }
         ensures first { IsFirst self.new.thread result (vars_of self.new.vars.items) self.new.frames.items }
@@ -223,25 +301,21 @@ impl<'a> Stack<'a> {
             ≡ stored (targets call.entry.op.now.sig.params.items (map expression_of call.entry.actuals.now)) (reads (out_names call.entry.op.now.sig.params.items) (vars_of self.old.vars.items)) (put_away self.old.frames.items) }
         ensures thread { self.new.thread ≡ self.old.thread }
     {
-        let params = call.op.sig.params.as_slice();
         let mut values = Values::new();
-        hand_out(&mut values, params, self.vars.as_slice());
-        self.vars.clear();
-        self.take_vars_back();
-        store(
-            self.vars.as_mut_slice(),
-            params,
-            call.actuals,
-            values.as_slice(),
+        hand_out(
+            &mut values,
+            call.op.sig.params.as_slice(),
+            self.vars.as_slice(),
         );
-        self.next_piece()
+        self.hand_back(call, values.as_slice())
     }
 
-    /// Does what a piece does, and starts the next one.
+    /// Does what a piece does that neither enters a protected object nor leaves one, and starts the next one.
     pub fn take_effect(&mut self, piece: Piece<'a>) -> Moved<'a>
-        requires { IsFirst self.old.thread (Some piece) (vars_of self.old.vars.items) self.old.frames.items }
-        ensures deed { Does (libraries_of self.old.thread) (piece_of piece.entry (put_away self.old.frames.items)) (vars_of self.old.vars.items) (behind self.old.frames.items)
-            result.act (given result.act (vars_of self.old.vars.items) (vars_of self.new.vars.items)) (started result.next (kept self.new.frames.items)) }
+        requires first { IsFirst self.old.thread (Some piece) (vars_of self.old.vars.items) self.old.frames.items }
+        requires outside { StaysOutside (system_of self.old.thread) piece }
+        ensures deed { Does (system_of self.old.thread) (piece_of piece.entry (put_away self.old.frames.items)) (vars_of self.old.vars.items) (with_parts piece.entry (behind self.old.frames.items))
+            (act_of result.act) (given result.act (vars_of self.old.vars.items) (vars_of self.new.vars.items)) (started result.next (kept self.new.frames.items)) }
         ensures keeps { KeepsData result.act self.old.thread.data.now (vars_of self.old.vars.items) (vars_of self.new.vars.items) }
         ensures ends { EndsAt result.act (started result.next (kept self.new.frames.items)) }
         ensures first { IsFirst self.new.thread result.next (vars_of self.new.vars.items) self.new.frames.items }
@@ -259,7 +333,7 @@ impl<'a> Stack<'a> {
                 object,
                 op,
                 actuals,
-            } => silent(self.call(object, op, actuals)),
+            } => self.call_outside(object, op, actuals),
             Piece::Working(_) => silent(self.next_piece()),
             Piece::Printing(value) => {
                 let value = value_of(value, self.vars.as_slice());
@@ -271,7 +345,26 @@ impl<'a> Stack<'a> {
             Piece::Testing { arm, arms, other } => silent(self.test(arm, arms, other)),
             Piece::Turning(round) => silent(self.turn(round)),
             Piece::Turned(round) => silent(self.turned(round)),
-            Piece::Returning(call) => silent(self.hand_back(call)),
+            Piece::Returning(call) => silent(self.end_call(call)),
+            Piece::Closing(_) => unreachable!(),
+            Piece::Keeping(request) => Moved {
+                act: Act::Keep {
+                    task: request.task,
+                    value: request.value,
+                },
+                next: Some(Piece::Opening(request)),
+            },
+            Piece::Opening(request) => Moved {
+                act: Act::Open(request.task),
+                next: Some(Piece::Requested(request)),
+            },
+            Piece::Requested(request) => Moved {
+                act: Act::Ended {
+                    task: request.task,
+                    value: request.value,
+                },
+                next: self.next_piece(),
+            },
             Piece::Finishing => {
                 self.frames.clear();
                 self.vars.truncate(self.thread.data.len());

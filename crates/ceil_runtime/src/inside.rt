@@ -1,4 +1,4 @@
-ghost use Rattle.std.specs.Prelude.{◌≡◌, ◌<◌, length, vec_capacity};
+ghost use Rattle.std.specs.Prelude.{◌≡◌, ◌<◌, length, nat_lt, vec_capacity};
 
 use crate::task::{Gate, Task};
 
@@ -21,8 +21,7 @@ impl<'a> Task<'a> {
     ghost use Rattle.ceil_runtime.specs.Insides.{resource_of};
     ghost use Rattle.ceil_runtime.specs.Works.{kept_value, opened_now, task_of};
 
-    /// The entry into a section: the active priority is its ceiling until the exit. There is room for as many sections as the
-    /// program has units.
+    /// The entry into a section: the active priority is its ceiling until the exit.
     pub fn go_inside(&mut self, section: Section, ceiling: u32)
         requires { length self.old.inside.items < vec_capacity self.old.inside }
         ensures task { task_of self.new ≡ inside_now (resource_of section) ceiling (task_of self.old) }
@@ -31,6 +30,13 @@ impl<'a> Task<'a> {
         let before = self.active;
         self.inside.push_reserved(Held { section, before });
         self.active = ceiling;
+    }
+
+    /// Whether the active priority is above a ceiling: the task must not enter the section then.
+    pub fn is_above(&self, ceiling: u32) -> bool
+        ensures { result ≡ nat_lt ceiling self.now.active }
+    {
+        self.active > ceiling
     }
 
     /// The exit from the section that was entered last: the active priority is the one from before the entry.

@@ -1,14 +1,15 @@
 //! The modelled processor at work: from a program and its arrivals, one event after another up to the horizon or a stop.
-//! It stands on the definitions of `machine` and on the queues of `link_queue`, and runs the part of the language that is built so far:
-//! any number of cyclic tasks, and of sporadic ones that are requested from outside, with their data, and the operations of passive
-//! units that they call.
+//! It stands on the definitions of `machine` and on the queues of `link_queue`, and runs every program that meets the rules: any number of
+//! cyclic and sporadic tasks, the protected objects that they enter, nested where they call each other, and the requests between tasks.
 //! `Machine::advance` carries its promise: what it tells, followed by all that is told afterwards, is what was to be told.
 #![tactic(auto)]
 
+mod acting;
 mod buffer;
 mod callable;
 mod durations;
 mod effects;
+mod entries;
 mod inside;
 mod law;
 mod object;

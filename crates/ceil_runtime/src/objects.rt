@@ -9,7 +9,8 @@ use ada_tree::{Form, Unit};
 use seq_tree::NoMemory;
 use std::alloc::Global;
 
-/// Adds the protected object of a unit, where it is one, with its data as they are written. A failed allocation is the one error.
+/// Adds the protected object of a unit, where it is one, with its data as they are written. The one error is a failed allocation, or
+/// an object with more operations than an event has places for.
 fn add_object<'a>(
     alloc: Global,
     objects: &mut Vec<Object<'a>>,
@@ -21,13 +22,17 @@ fn add_object<'a>(
     ensures capacity { vec_capacity objects.new ≡ vec_capacity objects.old }
 {
     match &unit.form {
-        Form::Shared { ceiling, vars, .. } => {
+        Form::Shared { ceiling, vars, ops } => {
+            if ops.len() > u32::MAX as usize {
+                return Err(NoMemory);
+            }
             let written = vars.as_slice();
             let mut data = Vec::with_capacity(alloc, written.len())?;
             open_data(&mut data, written);
             objects.push_reserved(Object {
                 unit: place,
                 ceiling: *ceiling,
+                ops: ops.len(),
                 written,
                 data,
             });
@@ -39,7 +44,8 @@ fn add_object<'a>(
     Ok(())
 }
 
-/// The protected objects among units, in their order. A failed allocation is the one error.
+/// The protected objects among units, in their order. The one error is a failed allocation, or an object with more operations than an
+/// event has places for.
 pub fn objects_in<'a>(alloc: Global, units: &'a [Unit]) -> Result<Vec<Object<'a>>, NoMemory>
     requires few { length units.now < 2 ^ 32 }
     ensures { IfOk result (λ os. map shown os.items ≡ map first_object (objects_from 0 (map unit_of units.entry.now))) }

@@ -1,9 +1,10 @@
-ghost use Rattle.std.specs.Prelude.{◌≡◌, ◌≤◌, ◌+◌, ◌++◌, List, length, map, option_map, option_to_list, vec_len, vec_capacity};
+ghost use Rattle.std.specs.Prelude.{◌≡◌, ◌≤◌, ◌+◌, ◌++◌, List, [], length, map, option_map, option_to_list, vec_len, vec_capacity};
 ghost use Rattle.seq_tree.specs.Names.{Name as NameBytes};
 ghost use Rattle.seq_tree.specs.Operations.{out_names};
 ghost use Rattle.seq_tree.specs.Trees.{expression_of};
 ghost use Rattle.seq_tree.specs.Values.{handed};
-ghost use Rattle.seq_tree.specs.Variables.{entered, reads, stored, target_by, targets, written};
+ghost use Rattle.seq_tree.specs.Runs.{request_value};
+ghost use Rattle.seq_tree.specs.Variables.{entered, kept, reads, stored, target_by, targets, written};
 ghost use Rattle.machine.specs.Releases.{parameter};
 ghost use Rattle.ceil_runtime.specs.Effort.{request_params};
 ghost use Rattle.ceil_runtime.specs.Stacked.{vars_of};
@@ -156,6 +157,46 @@ pub fn open_data<'a>(vars: &mut Vec<Var<'a>>, data: &'a [Datum])
         vars.push_reserved(Var {
             name: &data[at].name,
             value: data[at].value,
+        });
+    }
+}
+
+/// The value of a request, where it has one.
+pub fn request_value(actuals: &[Expr], vars: &[Var]) -> Option<u32>
+    ensures { result ≡ request_value (map expression_of actuals.now) (vars_of vars.now) }
+{
+    let (actual, _) = actuals.split_first()?;
+    Some(value_of(actual, vars))
+}
+
+/// Moves variables to the end of others, in order.
+pub fn move_vars<'a>(vars: &mut Vec<Var<'a>>, from: &mut Vec<Var<'a>>)
+    requires { vec_len vars.old + vec_len from.old ≤ vec_capacity vars.old }
+    ensures vars { vars.new.items ≡ vars.old.items ++ from.old.items }
+    ensures len { vec_len vars.new ≡ vec_len vars.old + vec_len from.old }
+    ensures room { vec_capacity vars.new ≡ vec_capacity vars.old }
+    ensures moved { from.new.items ≡ [] }
+    ensures same { vec_capacity from.new ≡ vec_capacity from.old }
+{
+    'vars: for var in from.as_slice() {
+        vars.push_reserved(*var);
+    }
+    from.clear();
+}
+
+/// Puts these data, with the values that they have among some variables, in place of what is kept.
+pub fn keep_data<'a>(into: &mut Vec<Var<'a>>, data: &'a [Datum], vars: &[Var])
+    requires { length «data».now ≤ vec_capacity into.old }
+    ensures kept { vars_of into.new.items ≡ kept «data».entry.now (vars_of vars.now) }
+    ensures room { vec_capacity into.new ≡ vec_capacity into.old }
+{
+    into.clear();
+    let mut at = data.len();
+    'data: while at > 0 {
+        at -= 1;
+        into.push_reserved(Var {
+            name: &data[at].name,
+            value: read(&data[at].name, vars),
         });
     }
 }

@@ -4,7 +4,7 @@ ghost use Rattle.ceil_runtime.specs.Progresses.{Starts};
 ghost use Rattle.ceil_runtime.specs.Fitting.{FitsPiece, FitsSomewhere, FitsStatement, IsOfStatement, Spot};
 
 use crate::values::Var;
-use seq_tree::{Arm, Block, Expr, Name, OpText, Stmt};
+use seq_tree::{Arm, Block, Datum, Expr, Name, OpText, Stmt};
 
 /// The turn of a loop at a value, up to the last one.
 #[derive(Clone, Copy, Drop)]
@@ -15,13 +15,30 @@ pub struct Round<'a> {
     pub body: &'a Block,
 }
 
-/// A call of a passive operation that is under way: the names that it was called by, the operation, and the actuals.
+/// A call of an operation that is under way: the names that it was called by, the operation, and the actuals.
 #[derive(Clone, Copy, Drop)]
 pub struct Call<'a> {
     pub object: &'a Name,
     pub name: &'a Name,
     pub op: &'a OpText,
     pub actuals: &'a [Expr],
+}
+
+/// A call of an operation of a protected object: the place of the object among the objects and of the operation among those of
+/// its unit, from 0, and the data of the object as they are written.
+#[derive(Clone, Copy, Drop)]
+pub struct Entry<'a> {
+    pub call: Call<'a>,
+    pub object: usize,
+    pub place: usize,
+    pub data: &'a [Datum],
+}
+
+/// A request that is under way: the task that is requested, by its place among the tasks from 0, and the value.
+#[derive(Clone, Copy, Drop)]
+pub struct Request {
+    pub task: usize,
+    pub value: Option<u32>,
 }
 
 /// A piece of what a task has left to do.
@@ -58,6 +75,14 @@ pub enum Piece<'a> {
     Turned(Round<'a>),
     /// The end of the body of a call.
     Returning(Call<'a>),
+    /// The end of the body of a call that has entered a protected object.
+    Closing(Entry<'a>),
+    /// The first part of a request: its value is kept.
+    Keeping(Request),
+    /// The second part: the barrier opens.
+    Opening(Request),
+    /// The end of a request.
+    Requested(Request),
     /// The end of the activation.
     Finishing,
 }
@@ -76,6 +101,8 @@ pub enum Frame<'a> {
     Saved(Var<'a>),
     /// The end of the body of a call.
     Return(Call<'a>),
+    /// The end of the body of a call that has entered a protected object, and how many of the object's variables came with it.
+    Close(Entry<'a>, usize),
 }
 
 /// The first piece of a statement, and None of a loop without a turn.

@@ -1,22 +1,26 @@
-ghost use Rattle.std.specs.Prelude.{◌≡◌, ◌<◌, ◌≤◌, ◌+◌, ◌++◌, List, length, [], false, Some, option_map, map, ◌==◌};
+ghost use Rattle.std.specs.Prelude.{◌≡◌, ◌<◌, ◌≤◌, ◌+◌, ◌++◌, List, length, [], true, false, Some, option_map, map, ◌==◌};
 ghost use Rattle.ada_tree.specs.Ranges.{costs_break};
 ghost use Rattle.link_queue.specs.Queues.{Each, IsFree};
 ghost use Rattle.std.specs.Prelude.{◌^◌, ◌-◌, ◌∷◌, suc, ℕ};
 ghost use Rattle.seq_tree.specs.Lists.{first_where};
 ghost use Rattle.dispatching.specs.Jumping.{NoArrival};
 ghost use Rattle.ceil_runtime.specs.Starts.{first_slept};
+ghost use Rattle.ceil_runtime.specs.Turns.{last_turn};
 ghost use Rattle.ceil_runtime.specs.Works.{task_of};
+ghost use Rattle.ceil_runtime.specs.Objects.{AreObjectsOf};
 ghost use Rattle.ceil_runtime.specs.Processing.{IsWithin};
 
 use crate::buffer::EventBuf;
 use crate::durations::joined;
-use crate::effects::Act;
+use crate::effects::{Act, Deed};
+use crate::inside::Section;
 use crate::object::Object;
 use crate::objects::objects_in;
-use crate::piece::Piece;
+use crate::piece::{Entry, Piece};
 use crate::progress::Progress;
+use crate::stack::room_of;
 use crate::task::{Gate, Readiness, Task};
-use crate::thread::{Thread, Timing, opening_rest, opening_time, threads_in};
+use crate::thread::{Thread, Timing, ceiling_of, opening_rest, opening_time, threads_in};
 use ada_tree::{AdaProgram, Unit};
 use arrivals_tree::{Arrival, Arrivals};
 use link_queue::Links;
@@ -40,6 +44,35 @@ pub enum Turn {
         priority: u32,
         ceiling: u32,
     },
+}
+
+/// The answer to the last event of a run: the horizon, or the stop at a ceiling.
+fn turn_of(event: &Event) -> Turn
+    ensures { result ≡ last_turn event.now }
+{
+    match event {
+        Event::Stop {
+            time,
+            task,
+            unit,
+            priority,
+            ceiling,
+        } => Turn::CeilingViolation {
+            time: *time,
+            task: *task,
+            object: *unit,
+            priority: *priority,
+            ceiling: *ceiling,
+        },
+        Event::Release { .. } => Turn::Horizon,
+        Event::Arrive { .. } => Turn::Horizon,
+        Event::Enter { .. } => Turn::Horizon,
+        Event::Leave { .. } => Turn::Horizon,
+        Event::Request { .. } => Turn::Horizon,
+        Event::Print { .. } => Turn::Horizon,
+        Event::End { .. } => Turn::Horizon,
+        Event::Horizon { .. } => Turn::Horizon,
+    }
 }
 
 /// A part of an instant.
@@ -164,6 +197,7 @@ pub struct Machine<'a> {
     ran: Option<u32>,
     stopped: bool,
     ghost ticking: { costs_break costs ≡ false },
+    ghost known: { AreObjectsOf units.now objects.items },
 }
 
 impl<'a> Machine<'a> {
@@ -173,22 +207,27 @@ impl<'a> Machine<'a> {
     ghost use Rattle.machine.specs.Meanings.{Tells, begun};
     ghost use Rattle.trace_tree.specs.declared.event.Event.{Event};
     ghost use Rattle.ceil_runtime.specs.Replayable.{IsReplayable};
-    ghost use Rattle.ceil_runtime.specs.Starts.{CanStart, opened};
+    ghost use Rattle.ceil_runtime.specs.Libraries.{no_costs};
+    ghost use Rattle.ceil_runtime.specs.Starts.{CanStart, opened, system_for};
+    ghost use Rattle.ceil_runtime.specs.Written.{system_of};
     ghost use Rattle.ceil_runtime.specs.Gathering.{AllThreads};
     ghost use Rattle.dispatching.specs.Queueing.{AreQueued, AreSleeping};
     ghost use Rattle.ceil_runtime.specs.Left.{Falls, left};
-    ghost use Rattle.ceil_runtime.specs.Turns.{FallsAt, KeepsCeilings, Turned};
+    ghost use Rattle.ceil_runtime.specs.Turns.{FallsAt, Turned};
     ghost use Rattle.ada_tree.specs.Programs.{Program};
     ghost use Rattle.arrivals_tree.specs.Arriving.{Arrivals as Arriving};
     ghost use Rattle.machine.specs.Systems.{system};
     ghost use Rattle.seq_tree.specs.Lists.{Each as EachEvent};
     ghost use Rattle.trace_tree.specs.Placed.{IsPlaced};
-    ghost use Rattle.ceil_runtime.specs.Processing.{Follows, HasNoPiece, HasPiece, IsDue};
+    ghost use Rattle.ceil_runtime.specs.Processing.{Follows, HasNoPiece, HasPiece, IsDue, IsReaching};
+    ghost use Rattle.trace_tree.specs.declared.event.Event.TheVariants as event;
+    ghost use Rattle.ceil_runtime.specs.declared.task.Task.{Task};
+    ghost use Rattle.std.specs.Prelude.{slice_get};
     ghost use Rattle.ceil_runtime.specs.Shown.{IsSettled, IsWhole, running_of};
-    ghost use Rattle.ceil_runtime.specs.Stepping.{AreOfTask, Ends, IsNear, IsStep, steps_left, told_of};
+    ghost use Rattle.ceil_runtime.specs.Stepping.{AreOfTask, Ends, HasStopped, IsNear, IsStep, steps_left, told_of};
 
-    /// The opening of a program of cyclic tasks, sporadic tasks that are requested from outside, and passive units under
-    /// arrivals that are accepted for it. A failed allocation is the one error.
+    /// The opening of a program under arrivals that are accepted for it. The one error is a failed allocation, or a protected object
+    /// with more operations than an event has places for.
     pub fn new(
         alloc: Global,
         program: &'a AdaProgram,
@@ -212,8 +251,8 @@ impl<'a> Machine<'a> {
         Ok(machine)
     }
 
-    /// The opening for these tasks of a program's units: each sleeps until its offset, or waits for a request. A failed
-    /// allocation is the one error.
+    /// The opening for these tasks of a program's units: each sleeps until its offset, or waits for a request. The errors are those of
+    /// `new`.
     fn open(
         alloc: Global,
         units: &'a [Unit],
@@ -227,6 +266,7 @@ impl<'a> Machine<'a> {
         requires known { length units.now < 2 ^ 32 }
         requires ticking { costs_break costs ≡ false }
         requires start { AllThreads (CanStart units.now) threads.now }
+        requires alike { AllThreads (λ t. system_of t ≡ system_for 0 no_costs units.now threads.now) threads.now }
         ensures opens { IfOk result (λ m. running_of m ≡ opened until costs units.entry.now arrivals.entry.now threads.entry.now) }
         ensures whole { IfOk result IsWhole }
     {
@@ -239,7 +279,10 @@ impl<'a> Machine<'a> {
         'threads: for thread in threads {
             let progress = Progress::new(alloc, *thread)?;
             let durations = joined(alloc, thread.work, thread.unit)?;
-            let inside = Vec::with_capacity(alloc, units.len())?;
+            let Some(room) = room_of(*thread) else {
+                return Err(NoMemory);
+            };
+            let inside = Vec::with_capacity(alloc, room)?;
             tasks.push_reserved(Task {
                 progress,
                 readiness: opening_rest(thread.timing),
@@ -461,6 +504,112 @@ impl<'a> Machine<'a> {
         requires piece { HasPiece self.old.tasks.items task piece }
         ensures { IsStep self.old result self.new }
     {
+        match self.tasks[task as usize].deed(piece) {
+            Deed::Own => self.act(task, piece),
+            Deed::Enter(entry) => self.enter(task, piece, entry),
+            Deed::Leave(entry) => self.leave(task, piece, entry),
+            Deed::Ask(target) => self.ask(task, piece, target),
+        }
+    }
+
+    /// The stop of the run: a task was to enter a section of this unit, whose ceiling is below the task's active priority.
+    fn stop(&mut self, task: u32, unit: u32, ceiling: u32) -> Told
+        requires known { task < length self.old.tasks.items }
+        ensures machine { HasStopped self.old self.new }
+        ensures told { (t : Task) → slice_get self.old.tasks.items task ≡ Some t → result ≡ Told.One (event.Stop self.old.time t.progress.stack.thread.unit unit t.active ceiling) }
+    {
+        let caller = &self.tasks[task as usize];
+        let stop = Event::Stop {
+            time: self.time,
+            task: caller.progress.stack.thread.unit,
+            unit,
+            priority: caller.active,
+            ceiling,
+        };
+        self.stopped = true;
+        Told::One(stop)
+    }
+
+    /// The entry into a protected object, whose data the task takes, unless its active priority is above the ceiling.
+    fn enter(&mut self, task: u32, piece: Piece<'a>, entry: Entry<'a>) -> Told
+        requires whole { IsWhole self.old }
+        requires phase { self.old.phase ≡ Phase.Effects (Some task) }
+        requires goes_on { self.old.stopped ≡ false }
+        requires piece { HasPiece self.old.tasks.items task piece }
+        requires reaches { IsReaching self.old.tasks.items task piece (Deed.Enter entry) }
+        ensures { IsStep self.old result self.new }
+    {
+        let object = &self.objects[entry.object];
+        let unit = object.unit;
+        let ceiling = object.ceiling;
+        if self.tasks[task as usize].is_above(ceiling) {
+            return self.stop(task, unit, ceiling);
+        }
+        let object = &mut self.objects[entry.object];
+        let caller = &mut self.tasks[task as usize];
+        let values = caller.enter(&self.costs, entry, &mut object.data);
+        caller.go_inside(Section::Object(entry.object), ceiling);
+        Told::One(Event::Enter {
+            time: self.time,
+            task: caller.progress.stack.thread.unit,
+            unit: object.unit,
+            op: entry.place as u32,
+            values,
+        })
+    }
+
+    /// The exit from a protected object, which takes its data back.
+    fn leave(&mut self, task: u32, piece: Piece<'a>, entry: Entry<'a>) -> Told
+        requires whole { IsWhole self.old }
+        requires phase { self.old.phase ≡ Phase.Effects (Some task) }
+        requires goes_on { self.old.stopped ≡ false }
+        requires piece { HasPiece self.old.tasks.items task piece }
+        requires reaches { IsReaching self.old.tasks.items task piece (Deed.Leave entry) }
+        ensures { IsStep self.old result self.new }
+    {
+        let object = &mut self.objects[entry.object];
+        let caller = &mut self.tasks[task as usize];
+        let values = caller.leave(&self.costs, entry, &mut object.data);
+        caller.go_outside();
+        Told::One(Event::Leave {
+            time: self.time,
+            task: caller.progress.stack.thread.unit,
+            unit: object.unit,
+            op: entry.place as u32,
+            values,
+        })
+    }
+
+    /// The entry into the control structure of a task, unless the active priority of the one that requests it is above the ceiling.
+    fn ask(&mut self, task: u32, piece: Piece<'a>, target: usize) -> Told
+        requires whole { IsWhole self.old }
+        requires phase { self.old.phase ≡ Phase.Effects (Some task) }
+        requires goes_on { self.old.stopped ≡ false }
+        requires piece { HasPiece self.old.tasks.items task piece }
+        requires reaches { IsReaching self.old.tasks.items task piece (Deed.Ask target) }
+        ensures { IsStep self.old result self.new }
+    {
+        let asked = &self.tasks[target];
+        let unit = asked.progress.stack.thread.unit;
+        let ceiling = ceiling_of(asked.progress.stack.thread.timing);
+        if self.tasks[task as usize].is_above(ceiling) {
+            return self.stop(task, unit, ceiling);
+        }
+        let caller = &mut self.tasks[task as usize];
+        caller.act(&self.costs, piece);
+        caller.go_inside(Section::Control(target), ceiling);
+        Told::Nothing
+    }
+
+    /// The effect of a piece that neither enters a section nor leaves a protected object.
+    fn act(&mut self, task: u32, piece: Piece<'a>) -> Told
+        requires whole { IsWhole self.old }
+        requires phase { self.old.phase ≡ Phase.Effects (Some task) }
+        requires goes_on { self.old.stopped ≡ false }
+        requires piece { HasPiece self.old.tasks.items task piece }
+        requires reaches { IsReaching self.old.tasks.items task piece Deed.Own }
+        ensures { IsStep self.old result self.new }
+    {
         let active = &mut self.tasks[task as usize];
         let act = active.act(&self.costs, piece);
         let unit = active.progress.stack.thread.unit;
@@ -471,6 +620,45 @@ impl<'a> Machine<'a> {
                 task: unit,
                 value,
             }),
+            Act::Ask(_) => unreachable!(),
+            Act::Keep {
+                task: target,
+                value,
+            } => {
+                self.tasks[target].keep(value);
+                Told::Nothing
+            }
+            Act::Open(target) => {
+                self.tasks[target].open_gate();
+                Told::Nothing
+            }
+            Act::Ended {
+                task: target,
+                value,
+            } => {
+                active.go_outside();
+                let asked = &mut self.tasks[target];
+                let request = Event::Request {
+                    time: self.time,
+                    task: unit,
+                    target: asked.progress.stack.thread.unit,
+                    value,
+                };
+                if !asked.is_served() {
+                    return Told::One(request);
+                }
+                let kept = asked.gate.value;
+                asked.release(&self.costs);
+                self.links.push_tail(target as u32, asked.active);
+                Told::Two(
+                    request,
+                    Event::Release {
+                        time: self.time,
+                        task: asked.progress.stack.thread.unit,
+                        value: kept,
+                    },
+                )
+            }
             Act::Finish => {
                 let ended = Event::End {
                     time: self.time,
@@ -531,19 +719,14 @@ impl<'a> Machine<'a> {
         ensures falls { FallsAt result (left (running_of self.old)) (left (running_of self.new)) }
         // The events are of the program that runs.
         ensures placed { (p : Program) (a : Arriving) → (running_of self.old).system ≡ system p a → EachEvent (IsPlaced p) events.new }
-        // So far no protected object is called, and nothing is requested.
-        ensures keeps { KeepsCeilings result }
     {
         'steps: loop {
             match self.step() {
                 Told::Nothing => {}
                 Told::One(event) => {
+                    let last = turn_of(&event);
                     events.push(event);
-                    return if self.stopped {
-                        Turn::Horizon
-                    } else {
-                        Turn::More
-                    };
+                    return if self.stopped { last } else { Turn::More };
                 }
                 Told::Two(first, second) => {
                     events.push_both(first, second);

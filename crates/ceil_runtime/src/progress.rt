@@ -1,21 +1,25 @@
-ghost use Rattle.std.specs.Prelude.{◌≡◌, ◌≤◌, IfOk, None, Some, [], ◌∷◌, ◌++◌, min};
+ghost use Rattle.std.specs.Prelude.{◌≡◌, ◌≤◌, IfOk, None, Some, [], ◌∷◌, ◌++◌, length, min, take, vec_len, vec_capacity};
+ghost use Rattle.machine.specs.Deeds as deeds;
 ghost use Rattle.machine.specs.Pieces.{Finishing, pieces, work_ticks};
 ghost use Rattle.machine.specs.Releases.{parameter};
 ghost use Rattle.seq_tree.specs.Variables.{written};
 ghost use Rattle.ceil_runtime.specs.Stacked.{vars_of};
-ghost use Rattle.ceil_runtime.specs.Progresses.{behind, piece_of, put_away};
-ghost use Rattle.ceil_runtime.specs.Fitting.{FitsFirst, Named, PutsAway, names_of, place_of};
+ghost use Rattle.ceil_runtime.specs.declared.piece.Piece.TheVariants as PieceIs;
+ghost use Rattle.ceil_runtime.specs.Progresses.{behind, piece_of, put_away, with_parts};
+ghost use Rattle.ceil_runtime.specs.Fitting.{FitsFirst, Named, PutsAway, entry_names, names_of, place_of};
 ghost use Rattle.ceil_runtime.specs.OneProof.{fits-first-prop, named-prop, puts-away-prop};
-ghost use Rattle.ceil_runtime.specs.Doing.{Does, EndsAt, KeepsData, given};
+ghost use Rattle.ceil_runtime.specs.Doing.{Does, DoesEnter, EndsAt, IsDeed, IsEntry, KeepsData, StaysOutside, act_of, given};
 ghost use Rattle.ceil_runtime.specs.Effort.{IsLong, first_ticks, first_works};
-ghost use Rattle.ceil_runtime.specs.Written.{CanRun, block_of_thread, first_place, libraries_of, timing_of};
+ghost use Rattle.ceil_runtime.specs.Written.{CanRun, block_of_thread, first_place, system_of, timing_of};
 
-use crate::effects::Act;
-use crate::piece::{Frame, Piece};
+use crate::effects::{Act, Deed};
+use crate::piece::{Entry, Frame, Piece};
 use crate::stack::Stack;
 use crate::thread::Thread;
+use crate::values::Var;
 use seq_tree::{Costs, NoMemory};
 use std::alloc::Global;
+use trace_tree::Values;
 
 /// What starts with a piece: its ticks, and how many `work` statements start with it.
 #[derive(Clone, Copy, Debug, PartialEq, Eq)]
@@ -50,6 +54,10 @@ fn start_of(costs: &Costs, duration: Option<u32>, piece: Piece) -> Start
         Piece::Turning(_) => (costs.turn, 0),
         Piece::Turned(_) => (0, 0),
         Piece::Returning(_) => (0, 0),
+        Piece::Closing(_) => (0, 0),
+        Piece::Keeping(_) => (costs.assign, 0),
+        Piece::Opening(_) => (costs.assign, 0),
+        Piece::Requested(_) => (0, 0),
         Piece::Finishing => (costs.finish, 0),
     };
     Start { ticks, works }
@@ -89,17 +97,57 @@ impl<'a> Progress<'a> {
         self.piece = self.stack.begin(value);
     }
 
+    /// What the piece reaches that has started, before its effect.
+    pub fn deed(&self, piece: Piece<'a>) -> Deed<'a>
+        requires { self.now.piece ≡ Some piece }
+        ensures { IsDeed (system_of self.now.stack.thread) piece.entry result }
+    {
+        self.stack.deed(piece)
+    }
+
     /// Does what the piece does that has started, and starts the next one.
     pub fn act(&mut self, piece: Piece<'a>) -> Act
-        requires { self.old.piece ≡ Some piece }
+        requires piece { self.old.piece ≡ Some piece }
+        requires outside { StaysOutside (system_of self.old.stack.thread) piece }
         ensures thread { self.new.stack.thread ≡ self.old.stack.thread }
-        ensures deed { Does (libraries_of self.old.stack.thread) (piece_of piece.entry (put_away self.old.stack.frames.items)) (vars_left self.old) (behind self.old.stack.frames.items) result (given result (vars_left self.old) (vars_left self.new)) (pieces_left self.new) }
+        ensures deed { Does (system_of self.old.stack.thread) (piece_of piece.entry (put_away self.old.stack.frames.items)) (vars_left self.old) (with_parts piece.entry (behind self.old.stack.frames.items)) (act_of result) (given result (vars_left self.old) (vars_left self.new)) (pieces_left self.new) }
         ensures keeps { KeepsData result self.old.stack.thread.data.now (vars_left self.old) (vars_left self.new) }
         ensures ends { EndsAt result (pieces_left self.new) }
     {
         let moved = self.stack.take_effect(piece);
         self.piece = moved.next;
         moved.act
+    }
+
+    /// Enters an operation of a protected object, and starts the first piece of its body. The data of the object are taken.
+    pub fn enter(&mut self, entry: Entry<'a>, data: &mut Vec<Var<'a>>) -> Values
+        requires piece { self.old.piece ≡ Some (PieceIs.Calling entry.call.object entry.call.name entry.call.actuals) }
+        requires entry { IsEntry (system_of self.old.stack.thread) entry }
+        requires names { names_of (vars_of «data».old.items) ≡ take (vec_len «data».old) (entry_names entry) }
+        ensures thread { self.new.stack.thread ≡ self.old.stack.thread }
+        ensures deed { DoesEnter (system_of self.old.stack.thread) (piece_of (PieceIs.Calling entry.entry.call.object entry.entry.call.name entry.entry.call.actuals) []) (vars_left self.old) (behind self.old.stack.frames.items)
+            entry.entry.object entry.entry.place result (vars_of «data».old.items) (vars_left self.new) (pieces_left self.new) }
+        ensures lent { «data».new.items ≡ [] }
+        ensures room { vec_capacity «data».new ≡ vec_capacity «data».old }
+    {
+        let crossed = self.stack.enter_object(entry, data);
+        self.piece = crossed.next;
+        crossed.values
+    }
+
+    /// Leaves an operation of a protected object, and starts what the caller does next. The data of the object go back.
+    pub fn leave(&mut self, entry: Entry<'a>, data: &mut Vec<Var<'a>>) -> Values
+        requires piece { self.old.piece ≡ Some (PieceIs.Closing entry) }
+        requires room { length entry.«data».now ≤ vec_capacity «data».old }
+        ensures thread { self.new.stack.thread ≡ self.old.stack.thread }
+        ensures deed { Does (system_of self.old.stack.thread) (piece_of (PieceIs.Closing entry.entry) (put_away self.old.stack.frames.items)) (vars_left self.old) (behind self.old.stack.frames.items)
+            (deeds.Leave entry.entry.object entry.entry.place result (vars_of «data».new.items)) (vars_left self.new) (pieces_left self.new) }
+        ensures names { names_of (vars_of «data».new.items) ≡ entry_names entry.entry }
+        ensures room { vec_capacity «data».new ≡ vec_capacity «data».old }
+    {
+        let crossed = self.stack.leave_object(entry, data);
+        self.piece = crossed.next;
+        crossed.values
     }
 
     /// What has started, with the duration that a `work` is handed.

@@ -8,7 +8,7 @@ ghost use Rattle.seq_tree.specs.Names.{are_distinct};
 ghost use Rattle.ceil_runtime.specs.Stacked.{vars_of};
 ghost use Rattle.ceil_runtime.specs.Progresses.{began, behind, kept, nothing_kept, put_away, started};
 ghost use Rattle.ceil_runtime.specs.Fitting.{Fit, FitSomewhere, FitsBlock, FitsFrame, FitsList, FitsPiece, IsOfStatement, IsPushed, Pops, Spot, above, names_of, place_of};
-ghost use Rattle.ceil_runtime.specs.Written.{CanCall, CanRun, block_of_thread, block_place, data_names, first_place, libraries_of, param_names, reserve, timing_of};
+ghost use Rattle.ceil_runtime.specs.Written.{CanCall, CanRun, block_of_thread, block_place, data_names, first_place, system_of, param_names, reserve, timing_of};
 ghost use Rattle.machine.specs.Releases.{parameter};
 ghost use Rattle.ceil_runtime.specs.OneProof.{can-call-prop, fit-prop, fits-block-prop};
 ghost use Rattle.ceil_runtime.specs.Doing.{IsFirst};
@@ -30,7 +30,7 @@ pub struct Stack<'a> {
     pub vars: Vec<Var<'a>>,
     pub frames: SmallVec<Frame<'a>, 16>,
     ghost block: { FitsBlock (above (block_place thread).spot) (block_of_thread thread) } by { fits-block-prop (above (block_place thread).spot) (block_of_thread thread) },
-    ghost calls: { CanCall (libraries_of thread) } by { can-call-prop (libraries_of thread) },
+    ghost calls: { CanCall (system_of thread) } by { can-call-prop (system_of thread) },
     ghost distinct: { are_distinct (data_names thread ++ param_names thread) ≡ true } by { Coded-set coded_bool (are_distinct (data_names thread ++ param_names thread)) true },
     ghost fit: { Fit (first_place thread) nothing_kept frames.items } by { fit-prop (first_place thread) nothing_kept frames.items },
     ghost frames_room: { reserve thread ≤ frames.capacity },
@@ -54,6 +54,20 @@ fn first_of<'a>(stmts: &'a [Stmt]) -> Option<(Piece<'a>, &'a [Stmt])>
     None
 }
 
+/// The room that is enough for every run of a task, and None where no number tells it.
+pub fn room_of(thread: Thread) -> Option<usize>
+    ensures { IfSome result (λ room. reserve thread.entry ≡ room) }
+{
+    let calls = calls_room(thread.units)?;
+    let own = thread
+        .data
+        .len()
+        .checked_add(params_len(thread.timing))?
+        .checked_add(196)?;
+    let room = own.checked_add(calls)?;
+    Some(room)
+}
+
 impl<'a> Stack<'a> {
     /// The stacks of a task before its first activation, its data as they are written.
     pub fn new(alloc: Global, thread: Thread<'a>) -> Result<Stack<'a>, NoMemory>
@@ -62,14 +76,7 @@ impl<'a> Stack<'a> {
         ensures vars { IfOk result (λ s. vars_of s.vars.items ≡ written thread.entry.data.now) }
         ensures frames { IfOk result (λ s. s.frames.items ≡ []) }
     {
-        let calls = calls_room(thread.units).ok_or(NoMemory)?;
-        let own = thread
-            .data
-            .len()
-            .checked_add(params_len(thread.timing))
-            .ok_or(NoMemory)?;
-        let own = own.checked_add(196).ok_or(NoMemory)?;
-        let room = own.checked_add(calls).ok_or(NoMemory)?;
+        let room = room_of(thread).ok_or(NoMemory)?;
         let mut vars = Vec::with_capacity(alloc, room)?;
         open_data(&mut vars, thread.data);
         let frames = SmallVec::with_capacity(alloc, room)?;
@@ -127,6 +134,7 @@ impl<'a> Stack<'a> {
                 Frame::Finish => return Some(Piece::Finishing),
                 Frame::Turned(round) => return Some(Piece::Turned(round)),
                 Frame::Return(call) => return Some(Piece::Returning(call)),
+                Frame::Close(entry, _) => return Some(Piece::Closing(entry)),
                 Frame::Saved(_) => unreachable!(),
                 Frame::Stmts(stmts) => match first_of(stmts) {
                     Some((piece, rest)) => {
@@ -173,6 +181,7 @@ impl<'a> Stack<'a> {
                 Frame::Stmts(_) => {}
                 Frame::Finish => unreachable!(),
                 Frame::Return(_) => unreachable!(),
+                Frame::Close(..) => unreachable!(),
                 Frame::Saved(_) => unreachable!(),
             }
         }

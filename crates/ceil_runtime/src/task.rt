@@ -1,14 +1,12 @@
 ghost use Rattle.std.specs.Prelude.{◌≡◌, ◌<◌, ◌≤◌, ◌^◌, ◌||◌, ◌==◌, true, false, [], length, vec_capacity, Some};
 ghost use Rattle.arrivals_tree.specs.Acceptance.{has_nothing};
 ghost use Rattle.ceil_runtime.specs.Effort.{IsLong};
-ghost use Rattle.ceil_runtime.specs.Written.{durations_of};
+ghost use Rattle.ceil_runtime.specs.Written.{durations_of, reserve};
 ghost use Rattle.machine.specs.States.{shut};
 ghost use Rattle.ceil_runtime.specs.Progressed.{is_idle, pieces_left};
 ghost use Rattle.ceil_runtime.specs.Readies.{gate_of, is_ready, rests_as};
 
-use crate::effects::Act;
 use crate::inside::Held;
-use crate::piece::Piece;
 use crate::progress::Progress;
 use crate::thread::Timing;
 use seq_tree::Costs;
@@ -69,20 +67,21 @@ pub struct Task<'a> {
     ghost rests: { rests_as readiness progress.stack.thread.timing ≡ true },
     ghost handed: { durations.items ≡ durations_of progress.stack.thread },
     ghost long: { has_nothing durations.items ≡ false },
-    ghost room: { length progress.stack.thread.units.now ≤ vec_capacity inside },
+    ghost room: { reserve progress.stack.thread ≤ vec_capacity inside },
 }
 
 impl<'a> Task<'a> {
     ghost use Rattle.std.specs.Prelude.{◌+◌, min, slice_get};
-    ghost use Rattle.machine.specs.Releases.{next_time, released};
+    ghost use Rattle.machine.specs.Releases.{is_waiting, next_time, released};
+    ghost use Rattle.std.specs.Prelude.{◌&&◌};
     ghost use Rattle.machine.specs.Effects.{resting};
-    ghost use Rattle.ceil_runtime.specs.Written.{libraries_of, timing_of};
-    ghost use Rattle.ceil_runtime.specs.Works.{Acts, EffortFalls, ToldBy, asked, task_of, used_ticks};
+    ghost use Rattle.ceil_runtime.specs.Written.{timing_of};
+    ghost use Rattle.ceil_runtime.specs.Works.{asked, task_of, used_ticks};
     ghost use Rattle.ceil_runtime.specs.Readies.{readiness_of};
     ghost use Rattle.ada_tree.specs.Ranges.{costs_break};
 
     /// How long the next `work` statement takes at most, where that is handed in.
-    fn duration(&self) -> Option<u32>
+    pub fn duration(&self) -> Option<u32>
         requires { self.now.works < 2 ^ 63 }
         ensures next { result ≡ slice_get (durations_of self.now.progress.stack.thread) self.now.works }
         ensures long { IsLong result }
@@ -96,7 +95,7 @@ impl<'a> Task<'a> {
     }
 
     /// Whether the task sleeps or waits after its activation.
-    fn resting(&self) -> Readiness
+    pub fn resting(&self) -> Readiness
         ensures readiness { readiness_of result self.now.next ≡ resting (timing_of self.now.progress.stack.thread.timing) self.now.next }
         ensures rests { is_ready result ≡ false }
         ensures fits { rests_as result self.now.progress.stack.thread.timing ≡ true }
@@ -104,6 +103,17 @@ impl<'a> Task<'a> {
         match self.progress.stack.thread.timing {
             Timing::Periodic { .. } => Readiness::Asleep,
             Timing::Requested { .. } => Readiness::Waiting,
+        }
+    }
+
+    /// Whether the task waits and its control structure is open.
+    pub fn is_served(&self) -> bool
+        ensures { result ≡ (is_waiting (task_of self.now).readiness && (task_of self.now).gate.open') }
+    {
+        match self.readiness {
+            Readiness::Waiting => self.gate.open,
+            Readiness::Asleep => false,
+            Readiness::Ready => false,
         }
     }
 
@@ -163,31 +173,5 @@ impl<'a> Task<'a> {
     {
         self.used += ticks;
         self.left = self.left.saturating_sub(ticks as u32);
-    }
-
-    /// The effect of the piece whose ticks are used.
-    pub fn act(&mut self, costs: &Costs, piece: Piece<'a>) -> Act
-        requires ready { is_ready self.old.readiness ≡ true }
-        requires piece { self.old.progress.piece ≡ Some piece }
-        requires few { self.old.works < 2 ^ 63 }
-        requires used { self.old.left ≡ 0 }
-        requires ticking { costs_break costs.now ≡ false }
-        ensures acts { Acts (libraries_of self.old.progress.stack.thread) costs.now (task_of self.old) result (task_of self.new) }
-        ensures thread { self.new.progress.stack.thread ≡ self.old.progress.stack.thread }
-        ensures works { self.new.works ≤ self.old.works + min self.new.left 1 }
-        ensures told { ToldBy result (task_of self.old) (task_of self.new) }
-        ensures falls { EffortFalls self.old.progress.stack.thread (task_of self.old) (task_of self.new) }
-    {
-        let duration = self.duration();
-        let act = self.progress.act(piece);
-        let start = self.progress.start(costs, duration);
-        self.left = start.ticks;
-        self.works += start.works;
-        match act {
-            Act::Silent => {}
-            Act::Print(_) => {}
-            Act::Finish => self.readiness = self.resting(),
-        }
-        act
     }
 }

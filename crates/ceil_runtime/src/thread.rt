@@ -1,12 +1,13 @@
 ghost use Rattle.std.specs.Prelude.{◌≡◌, ◌≤◌, ◌<◌, true, false, [], map, length, vec_len, vec_capacity, IfOk};
 ghost use Rattle.std.specs.List.{list_all};
-ghost use Rattle.ada_tree.specs.InUse.{is_run};
 ghost use Rattle.ada_tree.specs.Trees.{unit_of};
 ghost use Rattle.ceil_runtime.specs.Effort.{request_params};
 ghost use Rattle.machine.specs.States.{first_time, first_wait};
 ghost use Rattle.ceil_runtime.specs.Readies.{is_ready, readiness_of, rests_as};
 ghost use Rattle.ceil_runtime.specs.Written.{thread_of, timing_of};
-ghost use Rattle.ceil_runtime.specs.Gathering.{Adds, AllThreads, IsThreadOf, threads_from};
+ghost use Rattle.machine.specs.Effects.{ceiling_by};
+ghost use Rattle.ceil_runtime.specs.Gathering.{Adds, AllThreads, IsThreadOf};
+ghost use Rattle.ceil_runtime.specs.Libraries.{threads_from};
 
 use crate::task::Readiness;
 use ada_tree::{Form, Unit};
@@ -86,7 +87,6 @@ fn add_thread<'a>(
     place: u32,
     unit: &'a Unit,
 )
-    requires usable { is_run (unit_of unit.now).form ≡ true }
     requires room { vec_len threads.old < vec_capacity threads.old }
     ensures adds { Adds work.entry.now units.entry.now place unit.entry.now threads.old.items threads.new.items }
     ensures capacity { vec_capacity threads.new ≡ vec_capacity threads.old }
@@ -137,7 +137,7 @@ fn add_thread<'a>(
             stmts: block.stmts.as_slice(),
         }),
         Form::Passive { .. } => {}
-        Form::Shared { .. } => unreachable!(),
+        Form::Shared { .. } => {}
     }
 }
 
@@ -147,7 +147,6 @@ pub fn threads_in<'a>(
     units: &'a [Unit],
     work: &'a [WorkList],
 ) -> Result<Vec<Thread<'a>>, NoMemory>
-    requires usable { list_all (λ u. is_run u.form) (map unit_of units.now) ≡ true }
     requires few { length units.now ≤ 500 }
     ensures all { IfOk result (λ ts. map thread_of ts.items ≡ threads_from work.entry.now 0 (map unit_of units.entry.now)) }
     ensures each { IfOk result (λ ts. AllThreads (IsThreadOf work.entry.now units.entry.now) ts.items) }
@@ -160,4 +159,14 @@ pub fn threads_in<'a>(
         place += 1;
     }
     Ok(threads)
+}
+
+/// The ceiling of the control structure of a task, which is 0 where it has times of its own.
+pub fn ceiling_of(timing: Timing) -> u32
+    ensures { result ≡ ceiling_by (timing_of timing.entry) }
+{
+    match timing {
+        Timing::Periodic { .. } => 0,
+        Timing::Requested { ceiling, .. } => ceiling,
+    }
 }

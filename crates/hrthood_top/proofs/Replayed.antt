@@ -31,7 +31,7 @@ arrivals-halted ada arrivals p NoMemory says h = tt
 
 -- both say something that can be run
 pub texts-replayable : (ada arrivals : List ℕ) (p : Program) (a : Arrivals) → SaysProgram ada p → SaysArrivals arrivals p a → IsReplayable p a
-texts-replayable ada arrivals p a s r = record { proper = s.accepts.reads.proper; meets = s.accepts.meets; usable = s.run; accepted = r.arrives.accepted }
+texts-replayable ada arrivals p a s r = record { proper = s.accepts.reads.proper; meets = s.accepts.meets; accepted = r.arrives.accepted }
 
 -- the lines of a run from its opening on are put
 pub streams-run : {E : Type 0} (ada arrivals : List ℕ) (p : Program) (a : Arrivals) (m : Running) (written : Result (Unit {0}) E) (ended : Status) (out out' : Option (List ℕ)) (faults faults' : ℕ) (err err' : Option (List ℕ)) (told told' : ℕ)

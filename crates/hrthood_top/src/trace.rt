@@ -36,7 +36,7 @@ fn put_lines<O: Sink>(
     Ok(())
 }
 
-/// Runs a program from where a machine stands up to the horizon, and writes the line of each event that it tells. After a failure a
+/// Runs a program from where a machine stands up to the horizon, or to a stop, and writes the line of each event that it tells. After a failure a
 /// proper front of these lines was written. It takes no memory.
 pub(crate) fn put_trace<O: Sink>(
     program: &AdaProgram,
@@ -59,7 +59,7 @@ pub(crate) fn put_trace<O: Sink>(
         match turn {
             Turn::More => events.clear(),
             Turn::Horizon => return page.flush(out),
-            Turn::CeilingViolation { .. } => unreachable!(),
+            Turn::CeilingViolation { .. } => return page.flush(out),
         }
     }
 }

@@ -1,6 +1,6 @@
 use Rattle.std.proofs.Common.{◌≡◌, ◌++◌, drop}
 use Rattle.arrivals_tree.specs.Arriving.{durations}
-use Rattle.ceil_runtime.specs.Written.{handed}
+use Rattle.ceil_runtime.specs.Libraries.{handed}
 use Rattle.ceil_runtime.proofs.durations.joined.Given as goal
 
 -- the durations of the lists so far are joined

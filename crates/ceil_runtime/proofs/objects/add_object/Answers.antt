@@ -15,11 +15,11 @@ returns-in-Cyclic-clause-adds c = adds-nothing c.args.place c.args.unit.now _ c.
 pub returns-in-Sporadic-clause-adds : goal.returns-in-Sporadic-clause-adds
 returns-in-Sporadic-clause-adds c = adds-nothing c.args.place c.args.unit.now _ c.args.objects.now.items c.in-Sporadic.is refl
 
-pub invariant_of-push_reserved : goal.invariant_of-push_reserved
-invariant_of-push_reserved c =
+pub invariant_of-push_reserved-clause-names : goal.invariant_of-push_reserved-clause-names
+invariant_of-push_reserved-clause-names c =
     let ws = c.as_slice-written.result.now in
     let len : vec_len c.open_data.new.vars ≡ length ws = omega (arith, c.open_data.ensures.len, c.in_ok-data-in-Shared.ensures.len) in
-    record {
-      names = ap names_of (c.open_data.ensures.vars ∙ ap (λ (vs : List Var). written ws ++ vars_of vs) c.in_ok-data-in-Shared.ensures.items) ∙ data-names ws ∙ ap (λ n. take n (map (λ d. d.name) ws)) (sym len);
-      room = omega (arith, c.open_data.ensures.room, c.in_ok-data-in-Shared.ensures.capacity, c.as_slice-written.ensures.len);
-    }
+    ap names_of (c.open_data.ensures.vars ∙ ap (λ (vs : List Var). written ws ++ vars_of vs) c.in_ok-data-in-Shared.ensures.items) ∙ data-names ws ∙ ap (λ n. take n (map (λ d. d.name) ws)) (sym len)
+
+pub invariant_of-push_reserved-clause-room : goal.invariant_of-push_reserved-clause-room
+invariant_of-push_reserved-clause-room c = omega (arith, c.open_data.ensures.room, c.in_ok-data-in-Shared.ensures.capacity, c.as_slice-written.ensures.len)

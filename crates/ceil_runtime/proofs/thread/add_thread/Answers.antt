@@ -1,5 +1,5 @@
 use Rattle.std.proofs.Common.{refl}
-use Rattle.ceil_runtime.proofs.Gathered.{adds-none, adds-one, is-task, passive-none}
+use Rattle.ceil_runtime.proofs.Gathered.{adds-none, adds-one, is-task, passive-none, shared-none}
 use Rattle.ceil_runtime.proofs.thread.add_thread.Goals as goal
 
 pub returns-in-Cyclic-clause-adds : goal.returns-in-Cyclic-clause-adds
@@ -15,3 +15,7 @@ returns-in-Sporadic-clause-adds c =
 pub returns-in-Passive-clause-adds : goal.returns-in-Passive-clause-adds
 returns-in-Passive-clause-adds c =
     adds-none c.args.work.now c.args.units.now c.args.place c.args.unit.now c.args.threads.now.items (passive-none c.args.work.now c.args.place c.args.unit.now _ c.in-Passive.is)
+
+pub returns-in-Shared-clause-adds : goal.returns-in-Shared-clause-adds
+returns-in-Shared-clause-adds c =
+    adds-none c.args.work.now c.args.units.now c.args.place c.args.unit.now c.args.threads.now.items (shared-none c.args.work.now c.args.place c.args.unit.now _ _ _ c.in-Shared.is)

@@ -2,10 +2,10 @@ use Rattle.std.proofs.Common.{◌≡◌, ℕ, ◌+◌, List, ap, arith, refl, su
 use Rattle.std.specs.Prelude.{None, Some}
 use Rattle.ada_tree.specs.Trees.{unit_of}
 use Rattle.ceil_runtime.specs.Gathering.{Adds, AllThreads, IsThreadOf}
-use Rattle.ceil_runtime.specs.Gathering.{threads_from}
+use Rattle.ceil_runtime.specs.Libraries.{threads_from}
 use Rattle.ceil_runtime.specs.Written.{thread_of}
 use Rattle.ceil_runtime.specs.declared.thread.Thread.{Thread}
-use Rattle.ceil_runtime.proofs.Gathered.{gathered-all, gathered-more, is-here, usable-here}
+use Rattle.ceil_runtime.proofs.Gathered.{gathered-all, gathered-more, is-here}
 use Rattle.ceil_runtime.proofs.thread.threads_in.Goals as goal
 
 pub units-init : goal.units-init
@@ -13,7 +13,6 @@ units-init c =
     let none = c.in_ok-threads.ensures.items in
     record {
       place = refl;
-      usable = c.requires.usable;
       gathered = ap (λ (ts : List Thread). map thread_of ts ++ threads_from c.args.work.now 0 (map unit_of c.args.units.now)) none;
       each = subst (AllThreads (IsThreadOf c.args.work.now c.args.units.now)) (sym none) (λ i t at. absurd (nothing t at));
       few = let empty = ap length none in omega (arith, empty);
@@ -22,9 +21,6 @@ units-init c =
   where
     nothing : (t : Thread) → None ≡ Some t → ⊥
     nothing t k = cc
-
-pub add_thread-requires-clause-usable : goal.add_thread-requires-clause-usable
-add_thread-requires-clause-usable c = (usable-here c.args.work.now c.args.units.now c.units.unit-index c.unit-item.result c.units-test.true c.unit-item.is c.units.invariant.usable).0
 
 pub units-preserved : goal.units-preserved
 units-preserved c =
@@ -35,7 +31,6 @@ units-preserved c =
     subst (λ (n : ℕ). Adds c.args.work.now us n u c.units.threads.items c.add_thread.new.threads.items) i.place c.add_thread.ensures.adds in
     record {
       place = ap (λ n. n + 1) i.place;
-      usable = (usable-here c.args.work.now us c.units.unit-index u c.units-test.true c.unit-item.is i.usable).1;
       gathered = gathered-more c.args.work.now us c.units.unit-index u c.units-test.true c.unit-item.is c.units.threads.items c.add_thread.new.threads.items adds i.gathered;
       each = adds.each (is-here c.args.work.now us c.units.unit-index u c.units-test.true c.unit-item.is) i.each;
       few = omega (arith, adds.few, i.few);

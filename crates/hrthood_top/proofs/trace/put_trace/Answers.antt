@@ -43,3 +43,12 @@ pub returns-in-Horizon-clause-puts : goal.returns-in-Horizon-clause-puts
 returns-in-Horizon-clause-puts g c =
     all_told _ _ _ _ _ _ _ _ (one_turn _ _ _ _ _ _ _ _ _ _ c.turns.invariant.so_far (rw c.events.ensures at c.in_ok-put_lines.ensures.gathers) c.in-Horizon.ensures.rest)
     c.in-Horizon.ensures.turned.1 c.flush.ensures.puts
+
+pub returns-in-CeilingViolation-clause-cause : goal.returns-in-CeilingViolation-clause-cause
+returns-in-CeilingViolation-clause-cause g c =
+    cause-later _ _ _ _ (omega (arith, c.turns.invariant.later, c.put_lines.ensures.cause.later)) c.flush-in-CeilingViolation.ensures.cause
+
+pub returns-in-CeilingViolation-clause-puts : goal.returns-in-CeilingViolation-clause-puts
+returns-in-CeilingViolation-clause-puts g c =
+    all_told _ _ _ _ _ _ _ _ (one_turn _ _ _ _ _ _ _ _ _ _ c.turns.invariant.so_far (rw c.events.ensures at c.in_ok-put_lines.ensures.gathers) c.in-CeilingViolation.ensures.rest)
+    c.in-CeilingViolation.ensures.turned.1 c.flush-in-CeilingViolation.ensures.puts

@@ -1,7 +1,10 @@
-use Rattle.std.proofs.Common.{ap, sym, ◌∙◌, [], ◌∷◌}
+use Rattle.std.proofs.Common.{ap, subst, sym, ◌∙◌, [], ◌∷◌}
+use Rattle.ceil_runtime.specs.Left.{left}
 use Rattle.ceil_runtime.specs.Shown.{running_of}
-use Rattle.ceil_runtime.proofs.Advancing.{one-pushed, tells-told, two-pushed}
-use Rattle.ceil_runtime.proofs.Placed.{both-placed, pushed-placed}
+use Rattle.ceil_runtime.specs.Turns.{FallsAt, Turned}
+use Rattle.ceil_runtime.specs.declared.processor.Turn.{Turn}
+use Rattle.ceil_runtime.proofs.Advancing.{last-falls, one-pushed, stop-turned, tells-told, two-pushed}
+use Rattle.ceil_runtime.proofs.Placed.{both-placed, of-units, pushed-placed}
 use Rattle.ceil_runtime.proofs.processor.Machine.advance.Goals as goal
 
 pub returns-then-self-clause-rest : goal.returns-then-self-clause-rest
@@ -30,8 +33,29 @@ returns-in-Two-clause-system c =
 
 pub returns-else-self-clause-placed : goal.returns-else-self-clause-placed
 returns-else-self-clause-placed c = λ p a runs.
-    pushed-placed p a c.steps.self.tasks.items c.in-One.event _ c.push.new.self c.steps.invariant.empty c.push.ensures (ap (λ y. y.threads) (sym (c.steps.invariant.follows.system ∙ runs))) c.in-One.ensures.of
+    pushed-placed p a c.steps.self.tasks.items c.in-One.event _ c.push.new.self c.steps.invariant.empty c.push.ensures
+    (of-units p c.steps.self.tasks.items c.steps.self.units.now c.steps.self.until c.steps.self.time c.steps.invariant.whole.kept (ap (λ y. y.objects) (c.steps.invariant.follows.system ∙ runs)))
+    (ap (λ y. y.threads) (sym (c.steps.invariant.follows.system ∙ runs))) c.in-One.ensures.of
 
 pub returns-in-Two-clause-placed : goal.returns-in-Two-clause-placed
 returns-in-Two-clause-placed c = λ p a runs.
-    both-placed p a c.steps.self.tasks.items c.in-Two.first c.in-Two.second _ c.push_both.new.self c.steps.invariant.empty c.push_both.ensures (ap (λ y. y.threads) (sym (c.steps.invariant.follows.system ∙ runs))) c.in-Two.ensures.of
+    both-placed p a c.steps.self.tasks.items c.in-Two.first c.in-Two.second _ c.push_both.new.self c.steps.invariant.empty c.push_both.ensures
+    (of-units p c.steps.self.tasks.items c.steps.self.units.now c.steps.self.until c.steps.self.time c.steps.invariant.whole.kept (ap (λ y. y.objects) (c.steps.invariant.follows.system ∙ runs)))
+    (ap (λ y. y.threads) (sym (c.steps.invariant.follows.system ∙ runs))) c.in-Two.ensures.of
+
+pub returns-then-self-clause-placed : goal.returns-then-self-clause-placed
+returns-then-self-clause-placed c = λ p a runs.
+    pushed-placed p a c.steps.self.tasks.items c.in-One.event _ c.push.new.self c.steps.invariant.empty c.push.ensures
+    (of-units p c.steps.self.tasks.items c.steps.self.units.now c.steps.self.until c.steps.self.time c.steps.invariant.whole.kept (ap (λ y. y.objects) (c.steps.invariant.follows.system ∙ runs)))
+    (ap (λ y. y.threads) (sym (c.steps.invariant.follows.system ∙ runs))) c.in-One.ensures.of
+
+pub returns-then-self-clause-turned : goal.returns-then-self-clause-turned
+returns-then-self-clause-turned c =
+    subst (λ (t : Turn). Turned t c.push.new.self (running_of c.step.new.self)) (sym c.turn_of-last.ensures)
+    (stop-turned c.in-One.event c.step.new.self _ (one-pushed c.in-One.event _ c.push.new.self c.steps.invariant.empty c.push.ensures) c.in-One.ensures.ends c.if-self.true)
+
+pub returns-then-self-clause-falls : goal.returns-then-self-clause-falls
+returns-then-self-clause-falls c =
+    let was = left (running_of c.args.self.now) in
+    let now = left (running_of c.step.new.self) in
+    subst (λ (t : Turn). FallsAt t was now) (sym c.turn_of-last.ensures) (last-falls c.in-One.event was now)

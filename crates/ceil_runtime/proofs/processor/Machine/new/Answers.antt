@@ -1,20 +1,17 @@
-use Rattle.std.proofs.Common.{ap, arith, length, map, subst, sym, ◌∙◌}
+use Rattle.std.proofs.Common.{ap, arith, length, map, subst, sym, ◌∙◌, ◌≡◌}
 use Rattle.std.proofs.lemmas.List.{length-map}
-use Rattle.std.specs.List.{list_all}
-use Rattle.ada_tree.specs.InUse.{is_run}
 use Rattle.ada_tree.specs.Trees.{program_of, unit_of}
 use Rattle.arrivals_tree.specs.Arriving.{arrivals_of}
-use Rattle.ceil_runtime.specs.Gathering.{AllThreads, threads_from}
-use Rattle.ceil_runtime.specs.Starts.{CanStart, opened}
-use Rattle.ceil_runtime.specs.Written.{handed, thread_of}
+use Rattle.ceil_runtime.specs.Gathering.{AllThreads}
+use Rattle.ceil_runtime.specs.Libraries.{handed, no_costs, threads_from}
+use Rattle.ceil_runtime.specs.Starts.{CanStart, opened, system_for}
+use Rattle.ceil_runtime.specs.Written.{system_of, thread_of}
 use Rattle.ceil_runtime.proofs.Openings.{can-start, near-horizon, opened-all, whole}
+use Rattle.ceil_runtime.proofs.Started.{start-alike}
 use Rattle.ceil_runtime.proofs.processor.Machine.new.Goals as goal
 
-pub threads_in-requires-clause-usable : goal.threads_in-requires-clause-usable
-threads_in-requires-clause-usable c = ap (λ us. list_all (λ u. is_run u.form) (map unit_of us)) c.as_slice-units.ensures.value ∙ c.requires.usable
-
-pub threads_in-requires-clause-few : goal.threads_in-requires-clause-few
-threads_in-requires-clause-few c =
+pub threads_in-requires : goal.threads_in-requires
+threads_in-requires c =
     let few = (whole (program_of c.args.program.now) (arrivals_of c.args.arrivals.now) c.requires).1 in
     omega (arith, few, length-map c.args.program.now.units.items unit_of, ap length c.as_slice-units.ensures.value)
 
@@ -45,3 +42,8 @@ returns-clause-opens c =
     ∙ ap (λ xs. opened c.args.arrivals.now.until c.args.program.now.costs c.as_slice-units.result.now xs c.as_slice.result.now) c.as_slice-2.ensures.value
     ∙ opened-all (program_of c.args.program.now) (arrivals_of c.args.arrivals.now) c.requires _ _ (ap (map unit_of) c.as_slice-units.ensures.value)
     (ap (map thread_of) c.as_slice.ensures.value ∙ c.in_ok-threads.ensures.all ∙ ap (λ ws. threads_from ws 0 (map unit_of c.as_slice-units.result.now)) c.as_slice-work.ensures.value ∙ ap (λ us. threads_from c.args.arrivals.now.work.items 0 (map unit_of us)) c.as_slice-units.ensures.value)
+
+pub open-requires-clause-alike : goal.open-requires-clause-alike
+open-requires-clause-alike c =
+    subst (λ ths. AllThreads (λ t. system_of t ≡ system_for 0 no_costs c.as_slice-units.result.now ths) ths) (sym c.as_slice.ensures.value)
+    (start-alike c.as_slice-work.result.now c.as_slice-units.result.now _ c.in_ok-threads.ensures.all c.in_ok-threads.ensures.each)

@@ -16,7 +16,8 @@ use Rattle.link_queue.specs.Queues.{IsFree}
 use Rattle.ceil_runtime.specs.Starts.{AreOpen, first_slept, opened}
 use Rattle.ceil_runtime.specs.declared.thread.Thread.{Thread}
 use Rattle.ceil_runtime.specs.declared.task.Task.{Task}
-use Rattle.ceil_runtime.proofs.Started.{open-free, open-next, open-none, open-running, open-sound, slept-size}
+use Rattle.ceil_runtime.proofs.ObjectsKept.{opened-objects}
+use Rattle.ceil_runtime.proofs.Started.{open-alike, open-free, open-next, open-none, open-running, open-sound, slept-size}
 use Rattle.ceil_runtime.proofs.processor.Machine.open.Goals as goal
 
 pub threads-init : goal.threads-init
@@ -53,12 +54,6 @@ invariant_of-push_reserved-clause-long c =
 pub invariant_of-push_reserved-clause-rests : goal.invariant_of-push_reserved-clause-rests
 invariant_of-push_reserved-clause-rests c = ap (λ (h : Thread). rests_as c.opening_rest.result h.timing) c.in_ok-progress.ensures.thread ∙ c.opening_rest.ensures.fits
 
-pub invariant_of-push_reserved-clause-room : goal.invariant_of-push_reserved-clause-room
-invariant_of-push_reserved-clause-room c =
-    let th = c.thread-item.result in
-    let start = c.requires.start c.threads.thread-index th (slice_get_read c.args.threads.now (length c.args.threads.now) c.threads.thread-index th refl c.threads-test.true c.thread-item.is) in
-    omega (arith, c.in_ok-inside.ensures.capacity, ap length start.units, ap (λ (h : Thread). length h.units.now) c.in_ok-progress.ensures.thread)
-
 pub threads-preserved : goal.threads-preserved
 threads-preserved c =
     let th = c.thread-item.result in
@@ -79,11 +74,15 @@ threads-preserved c =
       room = omega (arith, i.room, c.push_reserved.ensures.capacity);
     }
 
+pub invariant_of-result-clause-known : goal.invariant_of-result-clause-known
+invariant_of-result-clause-known c = opened-objects c.args.units.now c.in_ok-objects.objects.items c.in_ok-objects.ensures
+
 pub returns-clause-whole : goal.returns-clause-whole
 returns-clause-whole c =
     let i = c.threads.invariant in
     open-sound c.args.until c.args.costs c.args.units.now (take c.threads.thread-index c.args.threads.now) c.threads.tasks.items c.threads.links i.opened c.requires.near (omega (arith, i.count, c.requires.few, c.threads-test.false, c.threads.auto.thread-index-end))
     (omega (arith, i.size, i.count, c.threads-test.false, c.threads.auto.thread-index-end))
+    (open-alike c.args.units.now c.args.threads.now c.threads.tasks.items (i.opened.threads_are ∙ take_all c.threads.thread-index c.args.threads.now (omega (arith, c.threads-test.false))) c.requires.alike)
 
 pub returns-clause-opens : goal.returns-clause-opens
 returns-clause-opens c =
@@ -95,5 +94,5 @@ returns-clause-opens c =
     record { system = system_by c.args.until c.args.costs us ts; state = state_by kept c.args.arrivals.now 0 (Effects None) None false ts c.threads.links.ready } in
     ap view stores
     ∙ open-running c.args.until c.args.costs us (take c.threads.thread-index c.args.threads.now) ts c.threads.links i.opened c.requires.near (omega (arith, i.count, c.requires.few, c.threads-test.false, c.threads.auto.thread-index-end))
-    (omega (arith, i.size, i.count, c.threads-test.false, c.threads.auto.thread-index-end)) c.args.arrivals.now
+    (omega (arith, i.size, i.count, c.threads-test.false, c.threads.auto.thread-index-end)) (open-alike c.args.units.now c.args.threads.now ts (i.opened.threads_are ∙ take_all c.threads.thread-index c.args.threads.now (omega (arith, c.threads-test.false))) c.requires.alike) c.args.arrivals.now
     ∙ ap (opened c.args.until c.args.costs us c.args.arrivals.now) (take_all c.threads.thread-index c.args.threads.now (omega (arith, c.threads-test.false)))

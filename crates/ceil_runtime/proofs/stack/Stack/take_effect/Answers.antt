@@ -10,15 +10,15 @@ next_piece-requires-in-Store-clause-names c =
     let s = c.args.self.now in
     ap (λ vs. names_of (vars_of vs)) (whole-slice s.vars.len c.write.new.vars _ (omega (arith, s.vars.ok, c.write.auto.vars, c.as_mut_slice.ensures.len)))
     ∙ ap names_of c.write.ensures ∙ ap (λ vs. names_of (write c.in-Store.target.now c.value_of-value.result (vars_of vs))) c.as_mut_slice.ensures.value
-    ∙ names-write c.in-Store.target.now c.value_of-value.result (vars_of s.vars.items) ∙ (first-at _ _ _ _ _ c.requires c.in-Store.is).named
+    ∙ names-write c.in-Store.target.now c.value_of-value.result (vars_of s.vars.items) ∙ (first-at _ _ _ _ _ c.requires.first c.in-Store.is).named
 
 pub returns-in-Finishing-clause-keeps : goal.returns-in-Finishing-clause-keeps
 returns-in-Finishing-clause-keeps c =
     let s = c.args.self.now in
     ap vars_of c.truncate.ensures.items
-    ∙ kept-ended s.thread s.vars.items s.frames.items c.clear.new.self.items (first-at _ _ _ _ _ c.requires c.in-Finishing.is) c.clear.ensures.items s.distinct
+    ∙ kept-ended s.thread s.vars.items s.frames.items c.clear.new.self.items (first-at _ _ _ _ _ c.requires.first c.in-Finishing.is) c.clear.ensures.items s.distinct
 
 pub returns-in-Finishing-clause-first : goal.returns-in-Finishing-clause-first
 returns-in-Finishing-clause-first c =
     let s = c.args.self.now in
-    first-ended s.thread s.vars.items s.frames.items c.clear.new.self.items (first-at _ _ _ _ _ c.requires c.in-Finishing.is) c.clear.ensures.items s.distinct _ (returns-in-Finishing-clause-keeps c)
+    first-ended s.thread s.vars.items s.frames.items c.clear.new.self.items (first-at _ _ _ _ _ c.requires.first c.in-Finishing.is) c.clear.ensures.items s.distinct _ (returns-in-Finishing-clause-keeps c)

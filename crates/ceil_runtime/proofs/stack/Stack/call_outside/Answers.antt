@@ -1,0 +1,19 @@
+use Rattle.std.proofs.Common.{◌<◌, length, subst, sym, Some}
+use Rattle.machine.specs.Systems.{callee}
+use Rattle.ceil_runtime.specs.Callable.{IsCallee, op_name}
+use Rattle.ceil_runtime.specs.Written.{first_place, system_of}
+use Rattle.ceil_runtime.proofs.Doings.{request-at}
+use Rattle.ceil_runtime.proofs.Frames.{system-kept}
+use Rattle.ceil_runtime.proofs.stack.Stack.call_outside.Goals as goal
+
+pub returns-in-Some-Request-clause-first : goal.returns-in-Some-Request-clause-first
+returns-in-Some-Request-clause-first c =
+    let s = c.args.self.now in
+    let target = callee (system_of s.thread) c.args.object.now c.args.name.now in
+    let asked = subst (λ x. IsCallee (Some x) target) c.in-Some-Request.field-0-is (c.in-Some-Request.ensures s.thread.work.now) in
+    let below = request-at (system_of s.thread) (op_name c.args.object.now c.args.name.now) c.in-Some-Request.task asked in
+    record {
+      fits = subst (λ y. c.in-Some-Request.task < length y.threads) (sym (system-kept (first_place s.thread) s.frames.items)) below;
+      named = c.requires.first.named;
+      away = c.requires.first.away;
+    }

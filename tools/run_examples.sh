@@ -5,6 +5,8 @@ set -euo pipefail
 
 top=$(CDPATH='' cd -- "$(dirname -- "${BASH_SOURCE[0]}")/.." && pwd)
 cd "$top/examples"
+room=$(mktemp -d)
+trap 'rm -rf "$room"' EXIT
 
 # The words, then the lines that are wanted on standard input.
 compare() {
@@ -109,5 +111,73 @@ compare replay requested_task.ada until_20.arrivals <<'LINES'
 20 horizon
 LINES
 compare replay units_of_every_kind.ada until_150.arrivals <<'LINES'
-refused N1 q
+0 release c
+7 request c s 1
+7 release s 1
+9 enter s q.set 1
+10 leave s q.set
+15 end s used 8
+16 end c used 8
+100 release c
+107 request c s 4
+107 release s 4
+109 enter s q.set 4
+110 leave s q.set
+115 end s used 8
+116 end c used 8
+150 horizon
+LINES
+compare generate every_kind.design < <(cat - every_kind.ada <<'LINES'
+-- design kinds
+-- thread button priority 3 jitter 3 response 9 deadline 20
+-- thread printer priority 2 jitter 26 response 11 deadline 60
+-- thread sampler priority 1 jitter 0 response 26 deadline 80
+LINES
+)
+compare replay every_kind.ada two_presses.arrivals <<'LINES'
+10 release sampler
+20 enter sampler board.note 2
+21 arrive button 7
+21 release button 7
+23 leave sampler board.note
+25 enter button board.note 7
+27 leave button board.note
+28 end button used 5
+32 request sampler printer 2
+32 release printer 2
+33 put printer 2
+34 end printer used 2
+35 end sampler used 18
+110 release sampler
+118 enter sampler board.note 4
+120 leave sampler board.note
+124 request sampler printer 4
+124 release printer 4
+125 put printer 4
+126 end printer used 2
+127 end sampler used 15
+210 release sampler
+219 arrive button 8
+219 release button 8
+221 enter button board.note 8
+224 leave button board.note
+225 end button used 6
+226 enter sampler board.note 8
+229 leave sampler board.note
+233 request sampler printer 8
+233 release printer 8
+234 put printer 8
+235 end printer used 2
+236 end sampler used 18
+240 horizon
+LINES
+# The same with a ceiling of the board below the priority of the button.
+sed '/protected hrt_object is/ { n; s/3/2/ }' every_kind.ada >"$room/low_ceiling.ada"
+compare replay "$room/low_ceiling.ada" two_presses.arrivals <<'LINES'
+10 release sampler
+20 enter sampler board.note 2
+21 arrive button 7
+21 release button 7
+23 stop button board priority 3 ceiling 2
+refused C1 time 23 task button object board priority 3 ceiling 2
 LINES

@@ -1,5 +1,6 @@
 -- The head of a text gives no tokens: each of its lines is a comment.
-use Rattle.std.proofs.Common.{◌≡◌, ℕ, zero, suc, Bool, true, false, not, ◌&&◌, List, [], ◌∷◌, ◌++◌, codes, decimal, Option, Some, None, Ok, slice_get, option_map, unwrap_or, refl, sym, ap, subst, ◌∙◌, append_assoc}
+use Rattle.std.proofs.Common.{◌≡◌, ℕ, zero, suc, Bool, true, false, not, ◌&&◌, List, [], ◌∷◌, ◌++◌, codes, decimal, Option, Some, None, Ok}
+use Rattle.std.proofs.Common.{slice_get, option_map, unwrap_or, refl, sym, ap, subst, ◌∙◌, append_assoc}
 use Rattle.std.specs.Char.{is_ascii_alphabetic, is_ascii_alphanumeric, is_ascii_digit}
 use Rattle.std.specs.List.{join_with_byte, list_all, zip}
 use Rattle.std.specs.Str.{all_ascii_digits}
@@ -70,7 +71,8 @@ join-no_feed w (v ∷ vs) e =
     list_all-append is_not_line_feed w (32 ∷ join_with_byte 32 (v ∷ vs)) ∙ and_from _ _ p.0 (join-no_feed v vs p.1)
 
 -- a comment of words
-gives-words : (w : List ℕ) (ws : List (List ℕ)) (rest : List ℕ) (ts : List Token) → list_all is_comment (w ∷ ws) ≡ true → Gives rest ts → Gives (comment (w ∷ ws) ++ rest) ts
+gives-words : (w : List ℕ) (ws : List (List ℕ)) (rest : List ℕ) (ts : List Token) → list_all is_comment (w ∷ ws) ≡ true → Gives rest ts
+    → Gives (comment (w ∷ ws) ++ rest) ts
 gives-words w ws rest ts e g =
     let body = 32 ∷ join_with_byte 32 (w ∷ ws) in
     let P : List ℕ → Type 0 = λ x. Gives (45 ∷ 45 ∷ x) ts in
@@ -81,14 +83,19 @@ gives-design name rest ts w g =
     let n : is_comment name ≡ true = word-no_feed name w in
     gives-words (codes "design") (name ∷ []) rest ts (and_from (is_comment name) true n refl) g
 
-gives-thread : (t : Thread × ℕ) (b : Bound) (rest : List ℕ) (ts : List Token) → is_thread_writable t ≡ true → is_bound_writable b ≡ true → Gives rest ts → Gives (thread_comment t b ++ rest) ts
+gives-thread : (t : Thread × ℕ) (b : Bound) (rest : List ℕ) (ts : List Token) → is_thread_writable t ≡ true → is_bound_writable b ≡ true
+    → Gives rest ts → Gives (thread_comment t b ++ rest) ts
 gives-thread t b rest ts w k g =
     let p = and_parts (is_word t.0.name) _ w in
     let q = and_parts (is_number t.0.deadline) (is_number t.1) p.1 in
     let m = and_parts (is_number b.jitter) (is_number b.response) k in
     gives-words (codes "thread")
-    (t.0.name ∷ codes "priority" ∷ decimal t.1 ∷ codes "jitter" ∷ decimal b.jitter ∷ codes "response" ∷ decimal b.response ∷ codes "deadline" ∷ decimal t.0.deadline ∷ []) rest ts
-    (and_from _ _ (word-no_feed t.0.name p.0) (and_from _ _ (number-no_feed t.1 q.1) (and_from _ _ (number-no_feed b.jitter m.0) (and_from _ _ (number-no_feed b.response m.1) (and_from _ true (number-no_feed t.0.deadline q.0) refl)))))
+    (t.0.name ∷ codes "priority" ∷ decimal t.1 ∷ codes "jitter" ∷ decimal b.jitter ∷ codes "response" ∷ decimal b.response ∷ codes "deadline"
+    ∷ decimal t.0.deadline ∷ []) rest ts
+    (and_from _ _ (word-no_feed t.0.name p.0)
+    (and_from _ _ (number-no_feed t.1 q.1)
+    (and_from _ _ (number-no_feed b.jitter m.0)
+    (and_from _ _ (number-no_feed b.response m.1) (and_from _ true (number-no_feed t.0.deadline q.0) refl)))))
     g
 
 all-at : {A : Type 0} (test : A → Bool) (xs : List A) (i : ℕ) (x : A) → list_all test xs ≡ true → slice_get xs i ≡ Some x → test x ≡ true
@@ -99,12 +106,14 @@ all-at test (y ∷ ys) zero x e h =
     subst P same (and_parts (test y) _ e).0
 all-at test (y ∷ ys) (suc i) x e h = all-at test ys i x (and_parts (test y) _ e).1 h
 
-gives-row : (o : Option (Thread × ℕ)) (b : Bound) (rest : List ℕ) (ts : List Token) → ((t : Thread × ℕ) → o ≡ Some t → is_thread_writable t ≡ true) → is_bound_writable b ≡ true → Gives rest ts
+gives-row : (o : Option (Thread × ℕ)) (b : Bound) (rest : List ℕ) (ts : List Token)
+    → ((t : Thread × ℕ) → o ≡ Some t → is_thread_writable t ≡ true) → is_bound_writable b ≡ true → Gives rest ts
     → Gives (unwrap_or (option_map (λ t. thread_comment t b) o) [] ++ rest) ts
 gives-row None b rest ts w k g = g
 gives-row (Some t) b rest ts w k g = gives-thread t b rest ts (w t refl) k g
 
-gives-rows : (f : Flat) (r : Ranks) (places : List ℕ) (v : List Bound) (rest : List ℕ) (ts : List Token) → list_all is_thread_writable (zip f.threads r.threads) ≡ true → list_all is_bound_writable v ≡ true
+gives-rows : (f : Flat) (r : Ranks) (places : List ℕ) (v : List Bound) (rest : List ℕ) (ts : List Token)
+    → list_all is_thread_writable (zip f.threads r.threads) ≡ true → list_all is_bound_writable v ≡ true
     → Gives rest ts → Gives (rows f r (zip places v) ++ rest) ts
 gives-rows f r [] v rest ts w k g = g
 gives-rows f r (p ∷ ps) [] rest ts w k g = g
@@ -112,10 +121,12 @@ gives-rows f r (p ∷ ps) (b ∷ bs) rest ts w k g =
     let m = and_parts (is_bound_writable b) _ k in
     let P : List ℕ → Type 0 = λ x. Gives x ts in
     subst P (sym (append_assoc (row f r (p, b)) (rows f r (zip ps bs)) rest))
-    (gives-row (slice_get (zip f.threads r.threads) p) b (rows f r (zip ps bs) ++ rest) ts (λ t e. all-at is_thread_writable (zip f.threads r.threads) p t w e) m.0
+    (gives-row (slice_get (zip f.threads r.threads) p) b (rows f r (zip ps bs) ++ rest) ts
+    (λ t e. all-at is_thread_writable (zip f.threads r.threads) p t w e) m.0
     (gives-rows f r ps bs rest ts w m.1 g))
 
-gives-head : (f : Flat) (r : Ranks) (places : List ℕ) (v : List Bound) (rest : List ℕ) (ts : List Token) → is_head_writable f r v ≡ true → Gives rest ts → Gives (head f r places v ++ rest) ts
+gives-head : (f : Flat) (r : Ranks) (places : List ℕ) (v : List Bound) (rest : List ℕ) (ts : List Token) → is_head_writable f r v ≡ true
+    → Gives rest ts → Gives (head f r places v ++ rest) ts
 gives-head f r places v rest ts w g =
     let n = and_parts (is_word f.name) _ w in
     let m = and_parts (list_all is_thread_writable (zip f.threads r.threads)) _ n.1 in

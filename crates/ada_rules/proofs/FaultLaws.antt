@@ -17,15 +17,6 @@ use Rattle.ada_rules.specs.Firsts.{NoneBefore}
 use Rattle.ada_rules.specs.FaultsTold.{HasFault, IsToldAs, IsFirstFault, bodies_fault_at, unit_offers}
 use Rattle.ada_rules.proofs.FirstLaws.{none_more, unit_at}
 
--- one parameter, then the others
-pub outs-cons : (q : Param) (qs : List Param) → out_names (q ∷ qs) ≡ out_names (q ∷ []) ++ out_names qs
-outs-cons q qs = go q.mode refl where
-  go : (m : Mode) → q.mode ≡ m → out_names (q ∷ qs) ≡ out_names (q ∷ []) ++ out_names qs
-  go In e = rw e refl
-  go Out e = rw e refl
-
-pub ruleset fault_laws = (outs-cons, append_assoc)
-
 -- the faults of bodies, with all that can be called
 pub faults_at : (p : Program) (form : Form) (bs : List Body) → bodies_fault_at (offers p) (data_of form) bs ≡ bodies_fault p form bs
 faults_at p form [] = refl

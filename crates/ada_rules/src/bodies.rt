@@ -1,10 +1,9 @@
-ghost use Rattle.std.specs.Prelude.{◌≡◌, [], ◌∷◌, ◌++◌, IfOk, OnOk, flat_map, map};
+ghost use Rattle.std.specs.Prelude.{◌≡◌, ◌++◌, IfOk, OnOk, flat_map, map};
 ghost use Rattle.seq_tree.specs.Faults.{Scope as ScopeTree, block_fault};
-ghost use Rattle.seq_tree.specs.Operations.{out_names};
 ghost use Rattle.seq_tree.specs.Statements.{Statements};
-ghost use Rattle.seq_tree.specs.Trees.{block_of, offer_of};
 ghost use Rattle.seq_check.specs.Answers.{Says};
-ghost use Rattle.seq_check.specs.Scopes.{scope_of};
+ghost use Rattle.seq_check.specs.Scopes.{offer_view};
+ghost use Rattle.seq_check.specs.Views.{offers_of};
 ghost use Rattle.ada_tree.specs.Bodies.{bodies, data_of};
 ghost use Rattle.ada_tree.specs.Trees.{form_of, program_of, unit_of};
 ghost use Rattle.ada_rules.specs.FaultsTold.{IsFault, IsFirstFault, bodies_fault_at, body_scope, unit_offers};
@@ -14,111 +13,45 @@ ghost use Rattle.ada_rules.specs.Parts.{body_of};
 use crate::lists::{data_of, heads_of};
 use crate::parts::{BodyView, bodies_of};
 use ada_tree::{AdaProgram, Form, Unit};
-use seq_check::{BodyFault, Scope, check_block};
-use seq_tree::{Callable, Datum, Mode, Name, NoMemory, OpSig, Param};
+use seq_check::{BodyFault, Calls, Data, Known, Offer, check_known};
+use seq_tree::{Name, NoMemory, OpSig};
 use std::alloc::Global;
 
-/// Adds copies of the names of data.
-fn copy_data(alloc: Global, names: &mut Vec<Name>, data: &[Datum]) -> Result<(), NoMemory>
-    ensures { OnOk result (names.new.items ≡ names.old.items ++ map (λ d. d.name) data.now) }
-{
-    'data: for datum in data {
-        names.push(datum.name.copy(alloc)?)?;
-    }
-    Ok(())
-}
-
-/// Adds copies of the names of parameters.
-fn copy_params(alloc: Global, names: &mut Vec<Name>, params: &[Param]) -> Result<(), NoMemory>
-    ensures { OnOk result (names.new.items ≡ names.old.items ++ map (λ q. q.name) params.now) }
-{
-    'params: for param in params {
-        names.push(param.name.copy(alloc)?)?;
-    }
-    Ok(())
-}
-
-/// Adds a copy of the name of a parameter, where it hands a value out.
-fn copy_out(alloc: Global, names: &mut Vec<Name>, param: &Param) -> Result<(), NoMemory>
-    ensures { OnOk result (names.new.items ≡ names.old.items ++ out_names (param.now ∷ [])) }
-{
-    match param.mode {
-        Mode::In => Ok(()),
-        Mode::Out => {
-            names.push(param.name.copy(alloc)?)?;
-            Ok(())
-        }
-    }
-}
-
-/// Adds copies of the names of parameters that hand values out.
-#[tactic(auto, using(crate::proofs::FaultLaws::fault_laws))]
-fn copy_outs(alloc: Global, names: &mut Vec<Name>, params: &[Param]) -> Result<(), NoMemory>
-    ensures { OnOk result (names.new.items ≡ names.old.items ++ out_names params.now) }
-{
-    'params: for param in params {
-        copy_out(alloc, names, param)?;
-    }
-    Ok(())
-}
-
 /// Adds the operations of an object with these heads.
-fn add_offers(
-    alloc: Global,
-    calls: &mut Vec<Callable>,
-    object: &Name,
-    heads: &[&OpSig],
+fn add_offers<'a>(
+    offers: &mut Vec<Offer<'a>>,
+    object: &'a Name,
+    heads: &[&'a OpSig],
 ) -> Result<(), NoMemory>
-    ensures { OnOk result (map offer_of calls.new.items ≡ map offer_of calls.old.items ++ map (λ h. record { object = object.now; sig = h }) (map head_of heads.now)) }
+    ensures { OnOk result (map offer_view offers.new.items ≡ map offer_view offers.old.items ++ map (λ h. record { object = object.entry.now; sig = h }) (map head_of heads.entry.now)) }
 {
     'heads: for head in heads {
-        calls.push(Callable {
-            object: object.copy(alloc)?,
-            sig: head.copy(alloc)?,
-        })?;
+        offers.push(Offer { object, sig: *head })?;
     }
     Ok(())
 }
 
 /// Adds the operations of a unit.
-fn add_unit_offers(alloc: Global, calls: &mut Vec<Callable>, unit: &Unit) -> Result<(), NoMemory>
-    ensures { OnOk result (map offer_of calls.new.items ≡ map offer_of calls.old.items ++ unit_offers (unit_of unit.now)) }
+fn add_unit_offers<'a>(
+    alloc: Global,
+    offers: &mut Vec<Offer<'a>>,
+    unit: &'a Unit,
+) -> Result<(), NoMemory>
+    ensures { OnOk result (map offer_view offers.new.items ≡ map offer_view offers.old.items ++ unit_offers (unit_of unit.entry.now)) }
 {
     let heads = heads_of(alloc, &unit.form)?;
-    add_offers(alloc, calls, &unit.name, heads.as_slice())
+    add_offers(offers, &unit.name, heads.as_slice())
 }
 
 /// All operations that can be called.
-fn offers_of(alloc: Global, units: &[Unit]) -> Result<Vec<Callable>, NoMemory>
-    ensures { IfOk result (λ v. map offer_of v.items ≡ flat_map unit_offers (map unit_of units.now)) }
+fn all_offers<'a>(alloc: Global, units: &'a [Unit]) -> Result<Vec<Offer<'a>>, NoMemory>
+    ensures { IfOk result (λ v. map offer_view v.items ≡ flat_map unit_offers (map unit_of units.entry.now)) }
 {
-    let mut calls = Vec::new(alloc);
+    let mut offers = Vec::new(alloc);
     'units: for unit in units {
-        add_unit_offers(alloc, &mut calls, unit)?;
+        add_unit_offers(alloc, &mut offers, unit)?;
     }
-    Ok(calls)
-}
-
-/// Makes a scope that of a body; what can be called stays.
-fn enter_body(
-    alloc: Global,
-    scope: &mut Scope,
-    data: &[Datum],
-    body: &BodyView<'_>,
-) -> Result<(), NoMemory>
-    ensures scope { OnOk result (scope_of scope.new ≡ body_scope (map offer_of scope.old.calls.items) data.now (body_of body.entry.now)) }
-{
-    let mut reads = Vec::new(alloc);
-    copy_data(alloc, &mut reads, data)?;
-    copy_params(alloc, &mut reads, body.params)?;
-    copy_data(alloc, &mut reads, body.locals)?;
-    let mut writes = Vec::new(alloc);
-    copy_data(alloc, &mut writes, data)?;
-    copy_outs(alloc, &mut writes, body.params)?;
-    copy_data(alloc, &mut writes, body.locals)?;
-    scope.reads = reads;
-    scope.writes = writes;
-    Ok(())
+    Ok(offers)
 }
 
 /// The fault that is told, or none.
@@ -139,31 +72,29 @@ fn fault_told(answer: Result<(), BodyFault>) -> Result<Option<BodyFault>, NoMemo
 }
 
 /// The first fault of a body.
-fn body_fault(
+fn body_fault<'k, 'a>(
     alloc: Global,
-    scope: &mut Scope,
-    data: &[Datum],
-    body: &BodyView<'_>,
+    calls: &'k Calls<'a>,
+    shared: &'k Data<'a>,
+    body: &BodyView<'a>,
 ) -> Result<Option<BodyFault>, NoMemory>
-    ensures told { IfOk result (λ o. IsFault o (block_fault (body_scope (map offer_of scope.old.calls.items) data.now (body_of body.entry.now)) (body_of body.entry.now).block)) }
-    ensures calls { OnOk result (map offer_of scope.new.calls.items ≡ map offer_of scope.old.calls.items) }
+    ensures { IfOk result (λ o. IsFault o (block_fault (body_scope (offers_of calls.entry.now) shared.entry.now.vars.now (body_of body.entry.now)) (body_of body.entry.now).block)) }
 {
-    enter_body(alloc, scope, data, body)?;
-    fault_told(check_block(alloc, scope, body.block))
+    let known = Known::new(alloc, shared, calls, body.params, body.locals)?;
+    fault_told(check_known(&known, body.block))
 }
 
 /// The first fault of bodies.
-fn bodies_fault(
+fn bodies_fault<'k, 'a>(
     alloc: Global,
-    scope: &mut Scope,
-    data: &[Datum],
-    bodies: &[BodyView<'_>],
+    calls: &'k Calls<'a>,
+    shared: &'k Data<'a>,
+    bodies: &[BodyView<'a>],
 ) -> Result<Option<BodyFault>, NoMemory>
-    ensures told { IfOk result (λ o. IsFault o (bodies_fault_at (map offer_of scope.old.calls.items) data.now (map body_of bodies.entry.now))) }
-    ensures calls { OnOk result (map offer_of scope.new.calls.items ≡ map offer_of scope.old.calls.items) }
+    ensures { IfOk result (λ o. IsFault o (bodies_fault_at (offers_of calls.entry.now) shared.entry.now.vars.now (map body_of bodies.entry.now))) }
 {
     'bodies: for body in bodies {
-        if let Some(fault) = body_fault(alloc, scope, data, body)? {
+        if let Some(fault) = body_fault(alloc, calls, shared, body)? {
             return Ok(Some(fault));
         }
     }
@@ -171,12 +102,16 @@ fn bodies_fault(
 }
 
 /// The first fault of a unit.
-fn unit_fault(alloc: Global, scope: &mut Scope, form: &Form) -> Result<Option<BodyFault>, NoMemory>
-    ensures told { IfOk result (λ o. IsFault o (bodies_fault_at (map offer_of scope.old.calls.items) (data_of (form_of form.now)) (bodies (form_of form.now)))) }
-    ensures calls { OnOk result (map offer_of scope.new.calls.items ≡ map offer_of scope.old.calls.items) }
+fn unit_fault<'a>(
+    alloc: Global,
+    calls: &Calls<'a>,
+    form: &'a Form,
+) -> Result<Option<BodyFault>, NoMemory>
+    ensures { IfOk result (λ o. IsFault o (bodies_fault_at (offers_of calls.entry.now) (data_of (form_of form.entry.now)) (bodies (form_of form.entry.now)))) }
 {
+    let shared = Data::new(alloc, data_of(form))?;
     let bodies = bodies_of(alloc, form)?;
-    bodies_fault(alloc, scope, data_of(form), bodies.as_slice())
+    bodies_fault(alloc, calls, &shared, bodies.as_slice())
 }
 
 /// A unit with a fault in a body.
@@ -194,14 +129,10 @@ pub(crate) fn first_by_bodies(
     ensures { IfOk result (IsFirstFault (program_of program.now)) }
 {
     let list = program.units.as_slice();
-    let calls = offers_of(alloc, list)?;
-    let mut scope = Scope {
-        reads: Vec::new(alloc),
-        writes: Vec::new(alloc),
-        calls,
-    };
+    let offers = all_offers(alloc, list)?;
+    let calls = Calls::new(alloc, offers)?;
     'units: for (place, unit) in list.iter().enumerate() {
-        match unit_fault(alloc, &mut scope, &unit.form)? {
+        match unit_fault(alloc, &calls, &unit.form)? {
             None => {}
             Some(fault) => return Ok(Some(FaultAt { place, fault })),
         }

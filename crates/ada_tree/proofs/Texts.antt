@@ -12,6 +12,7 @@ use Rattle.seq_tree.specs.declared.tree.Costs.{Costs}
 use Rattle.seq_tree.specs.declared.tree.Mode.TheVariants.{In, Out}
 use Rattle.ada_tree.specs.Programs.{Unit, Passive, Shared, Cyclic, Sporadic}
 use Rattle.ada_tree.specs.Spelling.{program_tokens, specification_lines, unit_body_lines}
+use Rattle.ada_tree.proofs.OneCyclic.{one_cyclic_lines}
 
 abbrev read : Result (List Spanned) Misread → List Token
 read (Ok ts) = map (λ t. t.token) ts
@@ -25,57 +26,9 @@ abbrev unit_costs : Costs
 unit_costs = record { assign = 1; test = 1; turn = 1; call = 2; nothing = 1; put = 1; finish = 1 }
 
 -- the text of one cyclic task that works
-one_cyclic : program_tokens (record { name = codes "d"; costs = unit_costs; units = record { name = codes "a"; form = Cyclic 1 0 10 [] (Then (Work 3) End) } ∷ [] })
-    ≡ read_text
-    (codes "-- design d"
-    ∷ codes "-- thread a priority 1 jitter 0 response 4 deadline 10"
-    ∷ codes "pragma task_dispatching_policy (fifo_within_priorities);"
-    ∷ codes "pragma locking_policy (ceiling_locking);"
-    ∷ codes "with ada.real_time;"
-    ∷ codes "package hrt is"
-    ∷ codes "   type word is mod 2 ** 32;"
-    ∷ codes "   subtype moment is ada.real_time.time;"
-    ∷ codes "   assign_cost : constant := 1;"
-    ∷ codes "   test_cost : constant := 1;"
-    ∷ codes "   turn_cost : constant := 1;"
-    ∷ codes "   call_cost : constant := 2;"
-    ∷ codes "   null_cost : constant := 1;"
-    ∷ codes "   put_cost : constant := 1;"
-    ∷ codes "   finish_cost : constant := 1;"
-    ∷ codes "   function epoch return moment;"
-    ∷ codes "   function after (start : moment; ticks : natural) return moment;"
-    ∷ codes "   procedure work (ticks : positive);"
-    ∷ codes "   procedure put (value : word);"
-    ∷ codes "   procedure activation_end;"
-    ∷ codes "end hrt;"
-    ∷ codes "with hrt;"
-    ∷ codes "use hrt;"
-    ∷ codes "package d is"
-    ∷ codes "   package a is"
-    ∷ codes "      task hrt_thread is"
-    ∷ codes "         pragma priority (1);"
-    ∷ codes "      end hrt_thread;"
-    ∷ codes "   end a;"
-    ∷ codes "end d;"
-    ∷ codes "package body d is"
-    ∷ codes "   package body a is"
-    ∷ codes "      task body hrt_thread is"
-    ∷ codes "         hrt_next : hrt.moment := hrt.after (hrt.epoch, 0);"
-    ∷ codes "      begin"
-    ∷ codes "         loop"
-    ∷ codes "            delay until hrt_next;"
-    ∷ codes "            hrt_next := hrt.after (hrt_next, 10);"
-    ∷ codes "            work (3);"
-    ∷ codes "            activation_end;"
-    ∷ codes "         end loop;"
-    ∷ codes "      end hrt_thread;"
-    ∷ codes "   end a;"
-    ∷ codes "end d;"
-    ∷ codes "with d;"
-    ∷ codes "procedure hrt_main is"
-    ∷ codes "begin"
-    ∷ codes "   null;"
-    ∷ codes "end hrt_main;" ∷ [])
+one_cyclic : program_tokens
+    (record { name = codes "d"; costs = unit_costs; units = record { name = codes "a"; form = Cyclic 1 0 10 [] (Then (Work 3) End) } ∷ [] })
+    ≡ read_text one_cyclic_lines
 unfolding tokens tokens_after front_by start_of name_front number_front longest mark_of
 one_cyclic = refl
 
@@ -83,7 +36,11 @@ one_cyclic = refl
 abbrev unit_tokens : Unit → List Token
 unit_tokens u = joined (specification_lines u ++ unit_body_lines u)
 
-sporadic : unit_tokens (record { name = codes "s"; form = Sporadic 2 2 (record { name = codes "start"; params = record { name = codes "v"; mode = In } ∷ [] }) 50 0 false [] (Then (Work 4) End) })
+sporadic : unit_tokens (record {
+  name = codes "s";
+  form = Sporadic 2 2
+      (record { name = codes "start"; params = record { name = codes "v"; mode = In } ∷ [] }) 50 0 false [] (Then (Work 4) End);
+})
     ≡ read_text
     (codes "   package s is"
     ∷ codes "      protected hrt_obcs is"
@@ -131,7 +88,12 @@ sporadic = refl
 protected : unit_tokens (record {
   name = codes "q";
   form = Shared 2 (record { name = codes "last"; value = 0 } ∷ [])
-      (record { sig = record { name = codes "set"; params = record { name = codes "v"; mode = In } ∷ [] }; locals = []; block = Then (Assign (codes "last") (Variable (codes "v"))) End } ∷ []);
+      (record {
+        sig = record { name = codes "set"; params = record { name = codes "v"; mode = In } ∷ [] };
+        locals = [];
+        block = Then
+            (Assign (codes "last") (Variable (codes "v"))) End;
+      } ∷ []);
 })
     ≡ read_text
     (codes "   package q is"
@@ -178,7 +140,12 @@ unfolding tokens tokens_after front_by start_of name_front number_front longest 
 passive = refl
 
 -- a request without a parameter, which comes from outside, and a datum
-request_alone : unit_tokens (record { name = codes "s"; form = Sporadic 1 3 (record { name = codes "start"; params = [] }) 80 5 true (record { name = codes "x"; value = 7 } ∷ []) (Then Null End) })
+request_alone : unit_tokens
+    (record {
+      name = codes "s";
+      form = Sporadic 1 3 (record { name = codes "start"; params = [] }) 80 5 true
+          (record { name = codes "x"; value = 7 } ∷ []) (Then Null End);
+    })
     ≡ read_text
     (codes "   package s is"
     ∷ codes "      protected hrt_obcs is"

@@ -47,7 +47,8 @@ three_cyclic-fits : map (excess (three 4)) (0 ∷ 1 ∷ 2 ∷ 3 ∷ 4 ∷ []) �
 three_cyclic-fits = refl
 
 -- the same, where the last is too dear
-one_too_dear-rounds : map (λ k. responses (round (rows_of (three 5)) k)) (0 ∷ 1 ∷ 2 ∷ 3 ∷ []) ≡ (3 ∷ 3 ∷ 6 ∷ []) ∷ (3 ∷ 6 ∷ 12 ∷ []) ∷ (3 ∷ 6 ∷ 15 ∷ []) ∷ (3 ∷ 6 ∷ 21 ∷ []) ∷ []
+one_too_dear-rounds : map (λ k. responses (round (rows_of (three 5)) k)) (0 ∷ 1 ∷ 2 ∷ 3 ∷ []) ≡ (3 ∷ 3 ∷ 6 ∷ []) ∷ (3 ∷ 6 ∷ 12 ∷ [])
+    ∷ (3 ∷ 6 ∷ 15 ∷ []) ∷ (3 ∷ 6 ∷ 21 ∷ []) ∷ []
 one_too_dear-rounds = refl
 
 one_too_dear-miss : map (excess (three 5)) (0 ∷ 1 ∷ 2 ∷ 3 ∷ []) ≡
@@ -74,7 +75,9 @@ started_thread-ranks = refl
 
 -- a section at an activation's end
 abbrev guarded : Design
-guarded = several (cyc (codes "l") 20 20 (call (codes "q") (codes "set") ∷ []) ∷ cyc_at (codes "h") 10 9 3 (call (codes "q") (codes "set") ∷ []) ∷ pro (codes "q") (codes "set") (Work 3 ∷ []) ∷ [])
+guarded =
+    several (cyc (codes "l") 20 20 (call (codes "q") (codes "set") ∷ []) ∷ cyc_at (codes "h") 10 9 3 (call (codes "q") (codes "set") ∷ [])
+    ∷ pro (codes "q") (codes "set") (Work 3 ∷ []) ∷ [])
 
 section_at_end-table : rows_of guarded ≡
     record { period = 10; deadline = 9; jitter = 0; cost = 6; block = 3; starter = None }
@@ -119,5 +122,6 @@ turns_and_exit-bounds : round (rows_of loops) 1 ≡ bound 0 10 ∷ []
 turns_and_exit-bounds = refl
 
 -- a jitter over the separation
-over_its_separation-miss : excess (design (spo_external (codes "s") 10 10 6 (Work 4 ∷ []))) 0 ≡ Some (record { index = 0; which = Separation; value = 11; limit = 10 })
+over_its_separation-miss : excess (design (spo_external (codes "s") 10 10 6 (Work 4 ∷ []))) 0
+    ≡ Some (record { index = 0; which = Separation; value = 11; limit = 10 })
 over_its_separation-miss = refl

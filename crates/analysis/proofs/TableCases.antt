@@ -32,17 +32,21 @@ never-rows : rows_of never ≡ row 10 10 0 6 0 None ∷ row 20 20 0 1 0 None ∷
 never-rows = refl
 
 -- only the thread of lower priority calls it, in a loop of no turn
-never-ceiling : ranks (flat (several (cyc (codes "l") 20 20 (Null ∷ []) ∷ cyc (codes "h") 10 10 (For (codes "i") 1 0 (block (call (codes "q") (codes "set") ∷ [])) ∷ [])
+never-ceiling : ranks (flat
+    (several (cyc (codes "l") 20 20 (Null ∷ []) ∷ cyc (codes "h") 10 10 (For (codes "i") 1 0 (block (call (codes "q") (codes "set") ∷ [])) ∷ [])
     ∷ pro (codes "q") (codes "set") (Work 3 ∷ []) ∷ []))) ≡ record { threads = 1 ∷ 2 ∷ []; shared = 2 ∷ []; obcs = 0 ∷ 0 ∷ [] }
 never-ceiling = refl
 
 -- a chain of three calls
-chain-rows : rows_of (several (cyc (codes "a") 50 50 (call (codes "p") (codes "f") ∷ []) ∷ pas (codes "p") (codes "f") (call (codes "q") (codes "g") ∷ [])
-    ∷ pas (codes "q") (codes "g") (call (codes "r2") (codes "h") ∷ []) ∷ pas (codes "r2") (codes "h") (Work 5 ∷ []) ∷ [])) ≡ row 50 50 0 12 0 None ∷ []
+chain-rows : rows_of (several
+    (cyc (codes "a") 50 50 (call (codes "p") (codes "f") ∷ []) ∷ pas (codes "p") (codes "f") (call (codes "q") (codes "g") ∷ [])
+    ∷ pas (codes "q") (codes "g") (call (codes "r2") (codes "h") ∷ []) ∷ pas (codes "r2") (codes "h") (Work 5 ∷ []) ∷ []))
+    ≡ row 50 50 0 12 0 None ∷ []
 chain-rows = refl
 
 -- a thread that is requested from outside has no starter, though one calls it
-external-rows : rows_of (several (cyc (codes "p") 50 50 (Call (codes "s") (codes "start") (Number 7 ∷ []) ∷ []) ∷ spo_external (codes "s") 50 20 3 (Work 4 ∷ []) ∷ []))
+external-rows : rows_of (several
+    (cyc (codes "p") 50 50 (Call (codes "s") (codes "start") (Number 7 ∷ []) ∷ []) ∷ spo_external (codes "s") 50 20 3 (Work 4 ∷ []) ∷ []))
     ≡ row 50 20 3 5 2 None ∷ row 50 50 0 5 0 None ∷ []
 external-rows = refl
 
@@ -65,15 +69,18 @@ started_once = refl
 never_started : started_of (design sporadic) ≡ false ∷ []
 never_started = refl
 
-started_by_two : started_of (several (cyc (codes "p") 50 50 (start ∷ []) ∷ cyc (codes "o") 50 50 (start ∷ []) ∷ sporadic ∷ [])) ≡ true ∷ true ∷ false ∷ []
+started_by_two : started_of (several (cyc (codes "p") 50 50 (start ∷ []) ∷ cyc (codes "o") 50 50 (start ∷ []) ∷ sporadic ∷ [])) ≡ true ∷ true
+    ∷ false ∷ []
 started_by_two = refl
 
 started_twice : started_of (several (cyc (codes "p") 50 50 (start ∷ start ∷ []) ∷ sporadic ∷ [])) ≡ true ∷ false ∷ []
 started_twice = refl
 
-external_not_started : map (λ ss. started_of (several (cyc (codes "p") 50 50 ss ∷ spo_external (codes "s") 50 20 3 (Work 4 ∷ []) ∷ []))) ((Null ∷ []) ∷ (start ∷ []) ∷ [])
+external_not_started : map (λ ss. started_of (several (cyc (codes "p") 50 50 ss ∷ spo_external (codes "s") 50 20 3 (Work 4 ∷ []) ∷ [])))
+    ((Null ∷ []) ∷ (start ∷ []) ∷ [])
     ≡ (true ∷ true ∷ []) ∷ (true ∷ false ∷ []) ∷ []
 external_not_started = refl
 
-started_too_often : map (λ n. spaced_of (several (cyc (codes "p") n 49 (start ∷ []) ∷ sporadic ∷ []))) (49 ∷ 50 ∷ []) ≡ (true ∷ false ∷ []) ∷ (true ∷ true ∷ []) ∷ []
+started_too_often : map (λ n. spaced_of (several (cyc (codes "p") n 49 (start ∷ []) ∷ sporadic ∷ []))) (49 ∷ 50 ∷ []) ≡ (true ∷ false ∷ [])
+    ∷ (true ∷ true ∷ []) ∷ []
 started_too_often = refl

@@ -113,7 +113,8 @@ deep-counts = refl
 -- as often as a loop turns, and the greatest over branches
 abbrev turns : Design
 turns = several (cyc (codes "p") 50 50 (set "q" ∷ [])
-    ∷ pro (codes "q") (codes "set") (For (codes "i") 1 3 (block (set "e" ∷ [])) ∷ If (When (Number 1) (block (start ∷ [])) (Else (block (set "e" ∷ start ∷ [])))) ∷ [])
+    ∷ pro (codes "q") (codes "set")
+    (For (codes "i") 1 3 (block (set "e" ∷ [])) ∷ If (When (Number 1) (block (start ∷ [])) (Else (block (set "e" ∷ start ∷ [])))) ∷ [])
     ∷ pro (codes "e") (codes "set") (start ∷ []) ∷ spo (codes "s") 50 20 (Work 4 ∷ []) ∷ [])
 
 turns-counts : map (start_count (services_of turns) (codes "s") (record { name = codes "start"; params = [] })) (flat turns).threads ≡ 5 ∷ 0 ∷ []

@@ -1,5 +1,5 @@
 -- Examples: how a design is walked, linked and flattened, and which designs are proper and well formed.
-use Rattle.std.specs.Prelude.{◌≡◌, true, false, [], ◌∷◌, map, flat_map, Some, None, Ok, codes, refl}
+use Rattle.std.specs.Prelude.{◌≡◌, true, false, [], ◌∷◌, ◌++◌, map, flat_map, Some, None, Ok, codes, refl}
 use Rattle.seq_tree.specs.Names.{Name}
 use Rattle.seq_tree.specs.Expressions.{Number, Variable}
 use Rattle.seq_tree.specs.Statements.{Statement, Statements, Null, Assign, If, For, ExitWhen, Call, Work, Put, End, Nothing, Else, When}
@@ -273,7 +273,9 @@ full = Node (linked_to (codes "r") (op (codes "p") (codes "f"))) (trees (
     ∷ Node (record (object (codes "c")) { kind = kind.Cyclic; attrs = attr Period 10 ∷ attr Offset 2 ∷ [] }) Empty ∷ []))
 
 full_spelled : Ok (flat_map (λ l. map part_token l.parts) (tree_lines 1 full))
-    ≡ plain (tokens (codes "object r is active provides f; objects object p is passive provides f (v : in word; w : out word); g hser; h pser; operation f is x : word := 7; begin null; end f; end p; object c is cyclic attributes period = 10; offset = 2; end c; implements f by p.f; end r;"))
+    ≡ plain (tokens (codes "object r is active provides f; objects object p is passive provides f (v : in word; w : out word); g hser; h pser; "
+    ++ codes "operation f is x : word := 7; begin null; end f; end p; object c is cyclic attributes period = 10; offset = 2; end c; "
+    ++ codes "implements f by p.f; end r;"))
 unfolding tokens tokens_after front_by start_of name_front number_front longest mark_of
 full_spelled = refl
 

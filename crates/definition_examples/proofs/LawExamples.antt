@@ -1,16 +1,17 @@
 -- Examples: which arrivals keep separations, and which tables are those of a program. Each but the first breaks one condition alone.
-use Rattle.std.specs.Prelude.{◌≡◌, ◌≤◌, ◌<◌, ℕ, zero, suc, true, false, List, [], ◌∷◌, slice_get, Option, Some, None, option_map, codes, refl}
-use Rattle.std.proofs.Common.{lit≤, lit<, arith, ap}
-use Rattle.seq_tree.specs.Names.{Name}
+use Rattle.std.specs.Prelude.{◌≡◌, ◌≤◌, ◌<◌, ℕ, zero, suc, true, false, List, [], ◌∷◌, map, slice_get, Option, Some, None, option_map, codes, refl}
+use Rattle.std.proofs.Common.{lit≤, lit<, arith, ap, sym, subst, ◌∙◌}
+use Rattle.seq_tree.specs.Names.{Name, same_name}
 use Rattle.seq_tree.specs.Statements.{Statement, Work}
-use Rattle.seq_tree.specs.Operations.{Operation}
+use Rattle.seq_tree.specs.Operations.{Operation, Signature}
 use Rattle.ods_tree.specs.Designs.{Design}
 use Rattle.ods_tree.specs.Flats as flats
 use Rattle.ods_tree.proofs.Short.{row_costs, block, call, cyc, spo_external, several}
 use Rattle.ada_tree.specs.Programs.{Form, Unit, Program, Shared, Cyclic, Sporadic}
 use Rattle.rt_response.specs.declared.rows.ThreadRow.{ThreadRow}
+use Rattle.analysis.specs.Starts.{block_starts}
 use Rattle.guarantee.specs.Arrivals.{Arrival, Arrivals, KeepsSeparations}
-use Rattle.guarantee.specs.ResponseLaw.{Ranked, ranked, AreTabled}
+use Rattle.guarantee.specs.ResponseLaw.{Ranked, ranked, AreTabled, CallsUpwards, IsStarter, ceiling_named, program_services}
 
 -- a thread that is requested from outside at least 10 ticks apart, with a jitter of 5, beside a cyclic one
 abbrev asked : Design
@@ -79,7 +80,8 @@ program first second = record {
 }
 
 abbrev task : Name → ℕ → ℕ → Ranked
-task name period priority = record { task = record { name = name; timing = flats.Cyclic period 0; vars = []; block = block calling }; priority = priority }
+task name period priority =
+    record { task = record { name = name; timing = flats.Cyclic period 0; vars = []; block = block calling }; priority = priority }
 
 abbrev high : Ranked
 high = task (codes "h") 20 2
@@ -99,9 +101,27 @@ tabled = record {
   table = record {
     count = lit≤ tt;
     each = (
-      record { asks = lit≤ tt; before_next = lit≤ tt; period = lit≤ tt; works = lit≤ tt; cost = lit≤ tt; block = lit≤ tt; jitter = lit≤ tt; starter = tt },
+      record {
+        asks = lit≤ tt;
+        before_next = lit≤ tt;
+        period = lit≤ tt;
+        works = lit≤ tt;
+        cost = lit≤ tt;
+        block = lit≤ tt;
+        jitter = lit≤ tt;
+        starter = tt;
+      },
       (
-        record { asks = lit≤ tt; before_next = lit≤ tt; period = lit≤ tt; works = lit≤ tt; cost = lit≤ tt; block = lit≤ tt; jitter = lit≤ tt; starter = tt },
+        record {
+          asks = lit≤ tt;
+          before_next = lit≤ tt;
+          period = lit≤ tt;
+          works = lit≤ tt;
+          cost = lit≤ tt;
+          block = lit≤ tt;
+          jitter = lit≤ tt;
+          starter = tt;
+        },
         tt,
       ),
     );
@@ -163,13 +183,103 @@ short_block w = (let outer_section : 3 ≤ 2 = (w.blocks.0.0 (lit< tt)).0 (lit�
 
 -- a task that is requested from outside: no other starts it, and its jitter is in its row
 abbrev alone : Program
-alone = record { name = codes "d"; costs = row_costs; units = unit (codes "s") (Sporadic 1 1 (record { name = codes "start"; params = [] }) 20 4 true [] (block (Work 1 ∷ []))) ∷ [] }
+alone =
+    record {
+      name = codes "d";
+      costs = row_costs;
+      units = unit (codes "s")
+          (Sporadic 1 1 (record { name = codes "start"; params = [] }) 20 4 true [] (block (Work 1 ∷ []))) ∷ [];
+    }
 
 abbrev requested : Ranked
-requested = record { task = record { name = codes "s"; timing = flats.Sporadic (record { name = codes "start"; params = [] }) 20 (Some 4); vars = []; block = block (Work 1 ∷ []) }; priority = 1 }
+requested =
+    record {
+      task = record {
+        name = codes "s";
+        timing = flats.Sporadic (record { name = codes "start"; params = [] }) 20
+            (Some 4);
+        vars = [];
+        block = block (Work 1 ∷ []);
+      };
+      priority = 1;
+    }
 
 less_jitter : AreTabled alone (requested ∷ []) (record (row 20 10 2 0) { jitter = 3 } ∷ []) → ⊥
 less_jitter w = (let covers : 4 ≤ 3 = w.started.0.1 in omega (arith, covers))
 
 started_by_another : AreTabled alone (requested ∷ []) (record (row 20 10 2 0) { jitter = 4; starter = Some 0 } ∷ []) → ⊥
 started_by_another w = (let none : ◌≡◌ {A = Option ℕ} (Some 0) None = w.started.0.0 in cc)
+
+-- a task that another one starts: priorities, ceilings, and requests at ceilings of at least a priority
+abbrev start : Signature
+start = record { name = codes "start"; params = [] }
+
+abbrev request : Statement
+request = call (codes "s") (codes "start")
+
+abbrev starting : List Statement → List Statement → ℕ → Program
+starting first second ceiling = record {
+  name = codes "d";
+  costs = row_costs;
+  units = unit (codes "p") (Cyclic 2 0 50 [] (block first)) ∷ unit (codes "o") (Cyclic 1 0 60 [] (block second))
+      ∷ unit (codes "s") (Sporadic 3 ceiling start 50 0 false [] (block (Work 1 ∷ []))) ∷ [];
+}
+
+abbrev started : ℕ → Program
+started ceiling = starting (request ∷ []) (Work 1 ∷ []) ceiling
+
+their_priorities : map (λ (t : Ranked). t.priority) (ranked (started 5)) ≡ 2 ∷ 1 ∷ 3 ∷ []
+their_priorities = refl
+
+their_ceilings : map (ceiling_named (started 5)) (codes "p" ∷ codes "o" ∷ codes "s" ∷ []) ≡ 0 ∷ 0 ∷ 5 ∷ []
+their_ceilings = refl
+
+requests_upwards : CallsUpwards (started 2) 2 (block (request ∷ []))
+requests_upwards = (lit≤ tt, tt)
+
+requests_downwards : CallsUpwards (started 1) 2 (block (request ∷ [])) → ⊥
+requests_downwards h = (let above : 2 ≤ 1 = h.0 in omega (arith, above))
+
+-- its one starter, which requests it once
+abbrev first_task : List Statement → Ranked
+first_task ss = record { task = record { name = codes "p"; timing = flats.Cyclic 50 0; vars = []; block = block ss }; priority = 2 }
+
+abbrev started_task : Ranked
+started_task =
+    record { task = record { name = codes "s"; timing = flats.Sporadic start 50 None; vars = []; block = block (Work 1 ∷ []) }; priority = 3 }
+
+abbrev Starts : List Statement → List Statement → Type 0
+Starts first second =
+    IsStarter (starting first second 3) (started_task ∷ first_task first ∷ []) (record (row 50 20 2 0) { starter = Some 1 }) (codes "s") start 50
+
+one_starter : Starts (request ∷ []) (Work 1 ∷ [])
+one_starter = record {
+  place = 1;
+  starter = first_task (request ∷ []);
+  stands = refl;
+  told = refl;
+  requests = refl;
+  alone = (λ h. refl, (λ h. cc, (λ h. cc, tt)));
+  period = lit≤ tt;
+  once = lit≤ tt;
+}
+
+second_place : {n : ℕ} → ◌≡◌ {A = Option ℕ} (Some 1) (Some n) → n ≡ 1
+second_place e = cc
+
+-- who stands at the place that the row tells
+it_is : (first second : List Statement) (w : Starts first second) → w.starter ≡ first_task first
+it_is first second w =
+    let e : Some w.starter ≡ Some (first_task first) = sym w.stands
+    ∙ ap (slice_get (started_task ∷ first_task first ∷ [])) (second_place w.told) in cc
+
+requested_twice : Starts (request ∷ request ∷ []) (Work 1 ∷ []) → ⊥
+requested_twice w =
+    let services = program_services (starting (request ∷ request ∷ []) (Work 1 ∷ []) 3) in
+    let P : Ranked → Type 0 = λ z. block_starts services (record { object = codes "s"; op = codes "start" }) z.task.block ≤ 1 in
+    let once : 2 ≤ 1 = subst P (it_is (request ∷ request ∷ []) (Work 1 ∷ []) w) w.once in omega (arith, once)
+
+requested_by_two : Starts (request ∷ []) (request ∷ []) → ⊥
+requested_by_two w =
+    let P : Ranked → Type 0 = λ z. same_name (codes "o") z.task.name ≡ true in
+    let same : false ≡ true = subst P (it_is (request ∷ []) (request ∷ []) w) (w.alone.1.0 refl) in cc

@@ -5,3 +5,4 @@ mod ProgramExamples
 mod TextExamples
 mod LawExamples
 mod ViewExamples
+mod RunExamples

@@ -259,7 +259,9 @@ readable : map (λ n. unit_fault (of_units (body_of (Put (Variable n) ∷ []) �
     ∷ codes "y" ∷ codes "v" ∷ codes "z" ∷ []) ≡ None ∷ None ∷ None ∷ None ∷ Some Unknown ∷ []
 readable = refl
 
-outside_loop : map (λ ss. unit_fault (of_units []) (cyclic (codes "t") [] ss)) ((For (codes "i") 1 2 (block (ExitWhen (Binary bin.Eq (Variable (codes "i")) (Number 1)) ∷ [])) ∷ []) ∷ (ExitWhen (Binary bin.Eq (Variable (codes "i")) (Number 1)) ∷ []) ∷ []) ≡ None ∷ Some Unknown ∷ []
+outside_loop : map (λ ss. unit_fault (of_units []) (cyclic (codes "t") [] ss))
+    ((For (codes "i") 1 2 (block (ExitWhen (Binary bin.Eq (Variable (codes "i")) (Number 1)) ∷ [])) ∷ [])
+    ∷ (ExitWhen (Binary bin.Eq (Variable (codes "i")) (Number 1)) ∷ []) ∷ []) ≡ None ∷ Some Unknown ∷ []
 outside_loop = refl
 
 exit_without_loop : unit_fault (of_units []) (cyclic (codes "t") (datum (codes "x")
@@ -290,7 +292,8 @@ priorities : map (λ p. cyclic_numbers p 0 10) (0 ∷ 1 ∷ 60 ∷ 61 ∷ []) �
 priorities = refl
 
 abbrev sporadic_numbers : ℕ → ℕ → Bool → Bool
-sporadic_numbers separation jitter external = breaks_ranges (unit (codes "s") (Sporadic 1 1 (head (codes "start") []) separation jitter external [] (block (Null ∷ []))))
+sporadic_numbers separation jitter external =
+    breaks_ranges (unit (codes "s") (Sporadic 1 1 (head (codes "start") []) separation jitter external [] (block (Null ∷ []))))
 
 separations : map (λ n. sporadic_numbers n 0 true) (0 ∷ 1 ∷ 1000000000 ∷ 1000000001 ∷ []) ≡ true ∷ false ∷ false ∷ true ∷ []
 separations = refl

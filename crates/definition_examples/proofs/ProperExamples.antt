@@ -125,7 +125,18 @@ too_deep h = (let within : false ≡ true = h.nests in cc)
 
 deepest : IsProperObject limits None 64 (record fine { bodies = []; thread = None })
 unfolding is_design_name
-deepest = record { nests = refl; name = refl; attrs = (refl, tt); provides = ((refl, (refl, tt)), tt); needs = ((refl, refl), tt); vars = (refl, tt); bodies = tt; thread = tt; links = ((refl, (refl, refl)), tt) }
+deepest =
+    record {
+      nests = refl;
+      name = refl;
+      attrs = (refl, tt);
+      provides = ((refl, (refl, tt)), tt);
+      needs = ((refl, refl), tt);
+      vars = (refl, tt);
+      bodies = tt;
+      thread = tt;
+      links = ((refl, (refl, refl)), tt);
+    }
 
 one_deeper : IsProperTree limits None 64 (Node fine Empty) → ⊥
 one_deeper h = too_deep h.0

@@ -71,7 +71,8 @@ small = flat row_costs (library (block (call (codes "p") (codes "g") ∷ [])) �
     ∷ []) (asking (block (call (codes "q") (codes "set") ∷ request ∷ [])) ∷ asked ∷ [])
 
 formed : IsWellFormed small
-formed = record { names = refl; op_names = refl; thread_count = lit≤ tt; entry_count = lit≤ tt; costs = refl; ranges = refl; calls = refl; plain = refl }
+formed =
+    record { names = refl; op_names = refl; thread_count = lit≤ tt; entry_count = lit≤ tt; costs = refl; ranges = refl; calls = refl; plain = refl }
 
 -- names are those of all entries, and blocks those of all operations and threads
 all_entries : entry_names small ≡ codes "p" ∷ codes "q" ∷ codes "c" ∷ codes "s" ∷ []
@@ -113,8 +114,10 @@ too_many_entries : IsWellFormed (flat row_costs (replicate 500 (library one)) (g
 too_many_entries h = (let few : 501 ≤ 500 = h.entry_count in omega (arith, few))
 
 -- each cost is 1 to 1,000
-cost_bounds : IsWellFormed (flat (record { assign = 1000; test = 1000; turn = 1000; call = 1000; nothing = 1000; put = 1000; finish = 1000 }) [] [] [])
-cost_bounds = record { names = refl; op_names = refl; thread_count = lit≤ tt; entry_count = lit≤ tt; costs = refl; ranges = refl; calls = refl; plain = refl }
+cost_bounds : IsWellFormed
+    (flat (record { assign = 1000; test = 1000; turn = 1000; call = 1000; nothing = 1000; put = 1000; finish = 1000 }) [] [] [])
+cost_bounds =
+    record { names = refl; op_names = refl; thread_count = lit≤ tt; entry_count = lit≤ tt; costs = refl; ranges = refl; calls = refl; plain = refl }
 
 costless_assign : IsWellFormed (flat (record row_costs { assign = 0 }) [] [] []) → ⊥
 costless_assign h = (let each : false ≡ true = h.costs in cc)

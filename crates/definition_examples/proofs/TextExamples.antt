@@ -139,7 +139,9 @@ no_fault_of_text : (n : ℕ) → IsSyntaxFault Limited Limited (a ∷ semicolon 
 no_fault_of_text n f = f.none refl
 
 no_depth_without_text : IsDepthFault Limited Limited (a ∷ a ∷ []) 1 → ⊥
-no_depth_without_text f = (let further : f.goes_on.0 ≤ 1 = reached.greatest f.goes_on.0 f.goes_on.1.within f.goes_on.1.begins in let past = f.goes_on.2 in omega (arith, further, past))
+no_depth_without_text f =
+    (let further : f.goes_on.0
+    ≤ 1 = reached.greatest f.goes_on.0 f.goes_on.1.within f.goes_on.1.begins in let past = f.goes_on.2 in omega (arith, further, past))
 
 -- a ring leads back to where it began, in a step or in more
 abbrev Next : ℕ → ℕ → Type 0

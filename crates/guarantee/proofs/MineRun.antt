@@ -373,7 +373,8 @@ mine_allowed = record {
                 );
                 script = (step 9 (ev.Enter (op "ch4_status" "write") (7 ∷ [])) (way [] ((codes "v", 7) ∷ (codes "level", 7) ∷ []) 1 1)
                     ∷ step 10 (ev.Leave (op "ch4_status" "write") []) none
-                    ∷ step 13 (ev.Enter (op "motor" "set_safety") (0 ∷ [])) (way [] ((codes "s", 0) ∷ (codes "pump", 0) ∷ (codes "unsafe", 0) ∷ []) 2 2)
+                    ∷ step 13 (ev.Enter (op "motor" "set_safety") (0 ∷ []))
+                    (way [] ((codes "s", 0) ∷ (codes "pump", 0) ∷ (codes "unsafe", 0) ∷ []) 2 2)
                     ∷ step 15 (ev.Leave (op "motor" "set_safety") []) none ∷ []);
                 end = step 16 (ev.End 16) none;
                 used = 16;
@@ -426,7 +427,8 @@ mine_allowed = record {
                   );
                   script = (step 89 (ev.Enter (op "ch4_status" "write") (14 ∷ [])) (way [] ((codes "v", 14) ∷ (codes "level", 14) ∷ []) 1 1)
                       ∷ step 90 (ev.Leave (op "ch4_status" "write") []) none
-                      ∷ step 93 (ev.Enter (op "motor" "set_safety") (0 ∷ [])) (way [] ((codes "s", 0) ∷ (codes "pump", 1) ∷ (codes "unsafe", 0) ∷ []) 2 2)
+                      ∷ step 93 (ev.Enter (op "motor" "set_safety") (0 ∷ []))
+                      (way [] ((codes "s", 0) ∷ (codes "pump", 1) ∷ (codes "unsafe", 0) ∷ []) 2 2)
                       ∷ step 95 (ev.Leave (op "motor" "set_safety") []) none ∷ []);
                   end = step 96 (ev.End 16) none;
                   used = 16;
@@ -488,7 +490,8 @@ mine_allowed = record {
                     begins = (
                       (ru.Enter (op "data_logger" "log") (6 ∷ []) ∷ ru.Leave (op "data_logger" "log") [] ∷ []),
                       (
-                        (way (ru.Enter (op "data_logger" "log") (6 ∷ []) ∷ ru.Leave (op "data_logger" "log") [] ∷ []) ((codes "reading", 6) ∷ []) 4 9),
+                        (way (ru.Enter (op "data_logger" "log") (6 ∷ []) ∷ ru.Leave (op "data_logger" "log") [] ∷ [])
+                            ((codes "reading", 6) ∷ []) 4 9),
                         (
                           8,
                           (_, refl, (_, (_, refl, (_, (_, ([], refl, refl), (_, refl, refl)), refl)), refl)),
@@ -547,7 +550,8 @@ mine_allowed = record {
                       begins = (
                         (ru.Enter (op "ch4_status" "read") [] ∷ ru.Leave (op "ch4_status" "read") (0 ∷ []) ∷ []),
                         (
-                          (way (ru.Enter (op "ch4_status" "read") [] ∷ ru.Leave (op "ch4_status" "read") (0 ∷ []) ∷ []) ((codes "level", 0) ∷ []) 4 7),
+                          (way (ru.Enter (op "ch4_status" "read") [] ∷ ru.Leave (op "ch4_status" "read") (0 ∷ []) ∷ [])
+                              ((codes "level", 0) ∷ []) 4 7),
                           (
                             8,
                             (_, refl, (_, (_, ((0 ∷ []), refl, refl), (_, (_, (_, refl, refl), (_, refl, refl)), refl)), refl)),

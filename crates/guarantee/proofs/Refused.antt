@@ -96,7 +96,8 @@ served_at_the_end : Served (Asked 4 (Some 7) ∷ Taken 4 (Some 7) ∷ Asked 6 (S
 served_at_the_end = (refl, refl, (refl, refl, tt))
 
 -- two requests that wait are served in their order
-served_in_order : Served (Asked 1 (Some 1) ∷ Taken 1 (Some 1) ∷ Asked 2 (Some 2) ∷ Asked 3 (Some 3) ∷ Done 5 ∷ Taken 5 (Some 2) ∷ Done 6 ∷ Taken 6 (Some 3) ∷ [])
+served_in_order : Served (Asked 1 (Some 1) ∷ Taken 1 (Some 1) ∷ Asked 2 (Some 2) ∷ Asked 3 (Some 3) ∷ Done 5 ∷ Taken 5 (Some 2) ∷ Done 6
+    ∷ Taken 6 (Some 3) ∷ [])
 served_in_order = (refl, refl, (refl, refl, (refl, refl, tt)))
 
 -- a request of an idle thread isn't left unserved
@@ -220,7 +221,8 @@ begun_before_another (inl h) = no_last h.1.end h.1.script h.1.steps
 begun_before_another (inr h) = (let e : ◌≡◌ {A = List Activation} (printed 10 1 ∷ []) [] = h.1 in cc)
 
 -- an arrival is nothing that the thread does
-arrival_is_no_step : map (λ s. s.deed) (steps_of a (moments (By 1 a (Arrive None) ∷ By 1 a (Release None) ∷ By 2 b (Release None) ∷ []) [])) ≡ Release None ∷ []
+arrival_is_no_step : map (λ s. s.deed) (steps_of a (moments (By 1 a (Arrive None) ∷ By 1 a (Release None) ∷ By 2 b (Release None) ∷ []) []))
+    ≡ Release None ∷ []
 arrival_is_no_step = refl
 
 -- what belongs to an operation ends at its leave, and isn't what belongs to an operation inside it
@@ -230,13 +232,20 @@ q = record { object = codes "q"; op = codes "next" }
 abbrev e : OpName
 e = record { object = codes "e"; op = codes "next" }
 
-of_the_operation : inside (map (λ d. (at 0 d).step) (Print 1 ∷ Enter e [] ∷ Print 2 ∷ Leave e [] ∷ Print 3 ∷ Leave q [] ∷ Print 4 ∷ Enter e [] ∷ Leave e [] ∷ []))
+of_the_operation : inside
+    (map (λ d. (at 0 d).step) (Print 1 ∷ Enter e [] ∷ Print 2 ∷ Leave e [] ∷ Print 3 ∷ Leave q [] ∷ Print 4 ∷ Enter e [] ∷ Leave e [] ∷ []))
     ≡ Print 1 ∷ Enter e [] ∷ Leave e [] ∷ Print 3 ∷ []
 of_the_operation = refl
 
 -- an object that hands out how often it has been entered
 abbrev next : Operation
-next = record { sig = record { name = codes "next"; params = record { name = codes "n"; mode = Out } ∷ [] }; locals = []; block = block (count ∷ Assign (codes "n") (Variable x) ∷ []) }
+next =
+    record {
+      sig = record { name = codes "next"; params = record { name = codes "n"; mode = Out } ∷ [] };
+      locals = [];
+      block = block
+          (count ∷ Assign (codes "n") (Variable x) ∷ []);
+    }
 
 abbrev guard : Guarded
 guard = record { name = codes "q"; vars = datum ∷ []; ops = next ∷ [] }
@@ -248,15 +257,29 @@ abbrev Serves : List Passage → Type 0
 Serves = AreOneByOne nothing guard ((x, 0) ∷ [])
 
 -- an operation goes on from the data that the one before left
-object_data_kept : Serves (Into a (codes "next") [] [] (counted 1) ∷ Out a (codes "next") (1 ∷ []) ∷ Into b (codes "next") [] [] (counted 2) ∷ Out b (codes "next") (2 ∷ []) ∷ [])
+object_data_kept : Serves
+    (Into a (codes "next") [] [] (counted 1) ∷ Out a (codes "next") (1 ∷ []) ∷ Into b (codes "next") [] [] (counted 2)
+    ∷ Out b (codes "next") (2 ∷ []) ∷ [])
 object_data_kept = (
   refl,
   refl,
-  record { operation = _; stands = refl; runs = record { run = (0, (_, refl, (_, (_, refl, (_, refl, refl)), refl)), refl); shows = refl }; gives = refl },
+  record {
+    operation = _;
+    stands = refl;
+    runs = record
+        { run = (0, (_, refl, (_, (_, refl, (_, refl, refl)), refl)), refl); shows = refl };
+    gives = refl;
+  },
   (
     refl,
     refl,
-    record { operation = _; stands = refl; runs = record { run = (0, (_, refl, (_, (_, refl, (_, refl, refl)), refl)), refl); shows = refl }; gives = refl },
+    record {
+      operation = _;
+      stands = refl;
+      runs = record
+          { run = (0, (_, refl, (_, (_, refl, (_, refl, refl)), refl)), refl); shows = refl };
+      gives = refl;
+    },
     tt,
   ),
 )
@@ -333,10 +356,13 @@ listed = refl
 
 -- the table of the response law: a section at a ceiling that equals a thread's priority blocks that thread
 abbrev sectioned : form.Program
-sectioned = program (several (cyc (codes "l") 20 20 (call (codes "q") (codes "set") ∷ []) ∷ cyc_at (codes "h") 10 9 3 (call (codes "q") (codes "set") ∷ []) ∷ pro (codes "q") (codes "set") (Work 3 ∷ []) ∷ []))
+sectioned =
+    program (several (cyc (codes "l") 20 20 (call (codes "q") (codes "set") ∷ [])
+    ∷ cyc_at (codes "h") 10 9 3 (call (codes "q") (codes "set") ∷ []) ∷ pro (codes "q") (codes "set") (Work 3 ∷ []) ∷ []))
 
 abbrev higher : Ranked
-higher = record { task = record { name = codes "h"; timing = Cyclic 10 3; vars = []; block = block (call (codes "q") (codes "set") ∷ []) }; priority = 2 }
+higher =
+    record { task = record { name = codes "h"; timing = Cyclic 10 3; vars = []; block = block (call (codes "q") (codes "set") ∷ []) }; priority = 2 }
 
 short_block : AreTabled sectioned (higher ∷ []) (record { period = 10; deadline = 9; jitter = 0; cost = 6; block = 2; starter = None } ∷ []) → ⊥
 short_block w =

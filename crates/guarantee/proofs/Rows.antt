@@ -143,7 +143,9 @@ no_script used (a ∷ as') q = not_end used a (ap first q)
     first [] = End used
     first (d ∷ ds) = d
 
-too_much : (w : Software) (t : Task) (vars : List (Name × ℕ)) (b : Path) → AreRuns w t vars (record { time = 4; value = Some 7; steps = record { depth = 0; step = record { time = 9; deed = End 6; body = b } } ∷ [] } ∷ []) → ⊥
+too_much : (w : Software) (t : Task) (vars : List (Name × ℕ)) (b : Path)
+    → AreRuns w t vars (record
+    { time = 4; value = Some 7; steps = record { depth = 0; step = record { time = 9; deed = End 6; body = b } } ∷ [] } ∷ []) → ⊥
 too_much w t vars b (inl whole) =
     let x : Step = record { time = 9; deed = End 6; body = b } in
     let same : x ≡ whole.1.end = last_one x whole.1.end whole.1.script whole.1.steps in
@@ -215,16 +217,19 @@ other_allowed = record {
 }
 
 -- another value than the request's isn't allowed
-wrong_value : Allows started arrivals (By 0 p (Release None) ∷ By 4 p (Request s (Some 7)) ∷ By 4 s (Release (Some 8)) ∷ By 9 s (End 5) ∷ By 10 p (End 5) ∷ Horizon 12 ∷ []) → ⊥
+wrong_value : Allows started arrivals
+    (By 0 p (Release None) ∷ By 4 p (Request s (Some 7)) ∷ By 4 s (Release (Some 8)) ∷ By 9 s (End 5) ∷ By 10 p (End 5) ∷ Horizon 12 ∷ []) → ⊥
 wrong_value h =
     let same : ◌≡◌ {A = Option ℕ} (Some 8) (Some 7) = h.requested.1.0.1 in
     cc
 
 -- what the processor tells of the generated program is that trace
-end_to_end : IsRight started (record { jitter = 10; response = 7 } ∷ record { jitter = 0; response = 10 } ∷ []) (program started) (record { until = 12; work = []; items = [] })
+end_to_end : IsRight started (record { jitter = 10; response = 7 } ∷ record { jitter = 0; response = 10 } ∷ []) (program started)
+    (record { until = 12; work = []; items = [] })
 unfolding unit_name unit_ops
 end_to_end = record {
-  trace = event.Release 0 0 None ∷ event.Request 4 0 1 (Some 7) ∷ event.Release 4 1 (Some 7) ∷ event.End 9 1 5 ∷ event.End 10 0 5 ∷ event.Horizon 12 ∷ [];
+  trace =
+      event.Release 0 0 None ∷ event.Request 4 0 1 (Some 7) ∷ event.Release 4 1 (Some 7) ∷ event.End 9 1 5 ∷ event.End 10 0 5 ∷ event.Horizon 12 ∷ [];
   means = record { steps = 100; stops = refl; tells = refl };
   allowed = allowed;
   bounded = bounded;

@@ -53,7 +53,17 @@ abbrev p : Ranked
 p = record { task = record { name = codes "p"; timing = Cyclic 50 0; vars = []; block = block (call (codes "q") (codes "set") ∷ []) }; priority = 1 }
 
 abbrev s : Ranked
-s = record { task = record { name = codes "s"; timing = Sporadic (record { name = codes "start"; params = v_in ∷ [] }) 50 None; vars = []; block = block (Work 4 ∷ []) }; priority = 2 }
+s =
+    record {
+      task = record {
+        name = codes "s";
+        timing = Sporadic
+            (record { name = codes "start"; params = v_in ∷ [] }) 50 None;
+        vars = [];
+        block = block (Work 4 ∷ []);
+      };
+      priority = 2;
+    }
 
 by_priority : ranked through ≡ p ∷ s ∷ []
 by_priority = refl
@@ -75,8 +85,12 @@ starter = record {
 
 -- a separation that is longer than the period has no starter
 no_starter : IsStarter through (s ∷ p ∷ []) row_of_s (codes "s") (record { name = codes "start"; params = v_in ∷ [] }) 51 → ⊥
-no_starter w = (let e : Some w.starter ≡ Some p = sym w.stands ∙ ap (slice_get (s ∷ p ∷ [])) (place w.told) in let same : w.starter ≡ p = cc in
-    let long : 51 ≤ period_of w.starter.task.timing = w.period in let P : Ranked → Type 0 = λ z. 51 ≤ period_of z.task.timing in let short : 51 ≤ 50 = subst P same long in omega (arith, short))
+no_starter w = (
+    let e : Some w.starter ≡ Some p = sym w.stands ∙ ap (slice_get (s ∷ p ∷ [])) (place w.told) in
+    let same : w.starter ≡ p = cc in
+    let long : 51 ≤ period_of w.starter.task.timing = w.period in
+    let P : Ranked → Type 0 = λ z. 51 ≤ period_of z.task.timing in
+    let short : 51 ≤ 50 = subst P same long in omega (arith, short))
   where
     place : {n : ℕ} → Some 1 ≡ Some n → n ≡ 1
     place e = cc
@@ -87,7 +101,8 @@ q_set = record { object = codes "q"; op = codes "set" }
 
 abbrev trace : List Event
 trace =
-    By 0 (codes "p") (Release None) ∷ By 2 (codes "p") (Enter q_set []) ∷ By 6 (codes "p") (Request (codes "s") (Some 7)) ∷ By 6 (codes "s") (Release (Some 7))
+    By 0 (codes "p") (Release None) ∷ By 2 (codes "p") (Enter q_set []) ∷ By 6 (codes "p") (Request (codes "s") (Some 7))
+    ∷ By 6 (codes "s") (Release (Some 7))
     ∷ By 6 (codes "p") (Leave q_set []) ∷ By 11 (codes "s") (End 5) ∷ By 12 (codes "p") (End 7) ∷ Horizon 15 ∷ []
 
 abbrev none : Path
@@ -112,7 +127,17 @@ allowed = record {
       lit≤ tt,
       refl,
       refl,
-      (lit≤ tt, refl, refl, (lit≤ tt, refl, refl, (lit≤ tt, refl, refl, (lit≤ tt, refl, refl, (lit≤ tt, refl, refl, (lit≤ tt, refl, refl, (lit≤ tt, refl, refl))))))),
+      (
+        lit≤ tt,
+        refl,
+        refl,
+        (
+          lit≤ tt,
+          refl,
+          refl,
+          (lit≤ tt, refl, refl, (lit≤ tt, refl, refl, (lit≤ tt, refl, refl, (lit≤ tt, refl, refl, (lit≤ tt, refl, refl))))),
+        ),
+      ),
     );
     bodies = none ∷ in_q ∷ [];
     threads = (

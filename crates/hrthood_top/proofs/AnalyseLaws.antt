@@ -1,5 +1,5 @@
 -- That the verb `analyse` refuses a design for one reason, and none that meets the rules and has bounds.
-use Rattle.std.proofs.Common.{◌≡◌, ℕ, List, Some, subst, sym, ap, ◌∙◌}
+use Rattle.std.proofs.Common.{◌≡◌, ℕ, List, subst, ap, ◌∙◌}
 use Rattle.seq_tree.specs.Names.{Name}
 use Rattle.ods_tree.specs.Designs as designs
 use Rattle.ods_tree.specs.Flats.{Flat}
@@ -22,7 +22,7 @@ use Rattle.hrthood_top.specs.Taking.{IsTakenAs}
 use Rattle.hrthood_top.proofs.CheckLaws.{not-untaken, one_refusal}
 use Rattle.hrthood_top.proofs.OneDesign.{one-design}
 use Rattle.hrthood_top.proofs.OneBounds.{one-bounds}
-use Rattle.hrthood_top.proofs.VerbLaws.{IsExact}
+use Rattle.hrthood_top.proofs.VerbLaws.{IsExact, never-stops}
 
 -- what is reported of a design that is taken, and what is over its limit
 pub analysed-as : (bytes text : List ℕ) (x : designs.Design) → IsTakenAs bytes x → IsReported x text → IsAnalysed bytes text
@@ -73,6 +73,7 @@ analyses-exact design = record {
   one = λ a b same r q h k. one_cause (b Design) r q (subst (λ z. RefusesAnalysis z r) same.0 h) k;
   able = λ a b same w r h. can_or_refuses (a Design) (b Design) same.0 w r h;
   made = λ a made w. can_make (a Design) made w;
+  stops = never-stops (analyses design) (λ texts text stop h. h);
 }
 
 -- what is refused of what runs of a design is refused of the design

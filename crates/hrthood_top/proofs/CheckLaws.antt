@@ -9,7 +9,7 @@ use Rattle.hrthood_top.specs.declared.check.CheckRefusal.TheVariants.{Text, Rule
 use Rattle.hrthood_top.specs.Checks.{IsTaken, CanCheck, RefusesCheck, checks, taken_line}
 use Rattle.hrthood_top.specs.Taking.{IsTakenAs}
 use Rattle.hrthood_top.proofs.OneDesign.{no-fault, one-fault, no-rule, one-rule}
-use Rattle.hrthood_top.proofs.VerbLaws.{IsExact}
+use Rattle.hrthood_top.proofs.VerbLaws.{IsExact, never-stops}
 
 -- bytes of a design that meets the rules are taken
 pub not-untaken : (bytes : List ℕ) (x : designs.Design) (r : CheckRefusal) → Reads bytes x → MeetsRules x → RefusesCheck bytes r → ⊥
@@ -37,6 +37,7 @@ checks-exact design = record {
   one = λ a b same r q h k. one_refusal (b Design) r q (subst (λ z. RefusesCheck z r) same.0 h) k;
   able = λ a b same w r h. can_or_refuses (a Design) (b Design) same.0 w r h;
   made = λ a made w. can_make (a Design) made w;
+  stops = never-stops (checks design) (λ texts text stop h. h);
 }
 
 pub ruleset check_laws = (taken-as)

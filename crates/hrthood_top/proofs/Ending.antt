@@ -1,7 +1,8 @@
 -- How a command ends, from what was fetched, made and told.
-use Rattle.std.proofs.Common.{◌≡◌, ℕ, List, length, Result, Ok, Err, sym, ap, subst, ◌∙◌}
+use Rattle.std.proofs.Common.{◌≡◌, ℕ, List, length, Result, Ok, Err, sym, ap, subst, ◌∙◌, inl, inr}
 use Rattle.std.proofs.Math.Seq.{take-length}
-use Rattle.std.specs.Prelude.{IfSome}
+use Rattle.std.specs.Prelude.{IfSome, ◌⊎◌}
+use Rattle.hood_io.specs.Shelves.{Told}
 use Rattle.hrthood_top.specs.declared.status.Status.{Status}
 use Rattle.hrthood_top.specs.declared.status.Status.TheVariants as status
 use Rattle.hrthood_top.specs.declared.halt.Halt.{Halt}
@@ -12,9 +13,9 @@ use Rattle.hrthood_top.specs.declared.file_kind.FileKind.{FileKind}
 use Rattle.hrthood_top.specs.Files.{Texts, HoldsAll, IsTooLong, fetched, grown}
 use Rattle.hrthood_top.specs.Messages.{too_long_line, fault_line}
 use Rattle.hrthood_top.specs.Verbs.{Verb}
-use Rattle.hrthood_top.specs.Ends.{Outside, Writes, TooLong, Refusal, Refuses, TellsMessage, EndsVerb}
+use Rattle.hrthood_top.specs.Ends.{Outside, Writes, WritesAtMost, WritesUpTo, TooLong, Refusal, Stopped, Refuses, TellsMessage, EndsVerb}
 use Rattle.hrthood_top.specs.Fetches.{FetchesAll}
-use Rattle.hrthood_top.specs.Writing.{IsMade, Finishes, Streams, TellsStop}
+use Rattle.hrthood_top.specs.Writing.{IsMade, Finishes, Streams, TellsStop, course}
 use Rattle.hrthood_top.proofs.Fetching.{if_some-map}
 
 -- files that could not be had
@@ -40,7 +41,7 @@ pub ends-made : {X : Type 0} (view : X → List ℕ) (v : Verb) (ended : Status)
 ends-made view v status.Done (Ok z) texts x y held log m f =
     (view z, f.0, if_some-map x.told (λ t. HoldsAll t v.files texts) (λ t. Writes t v (view z)) held (λ t p. (texts, p, m)), log, f.1)
 ends-made view v status.WriteFault (Ok z) texts x y held log m f =
-    (view z, f.0, f.1, f.2, if_some-map x.told (λ t. HoldsAll t v.files texts) (λ t. Writes t v (view z)) held (λ t p. (texts, p, m)), f.3, log, f.4)
+    (view z, f.0, f.1, f.2, if_some-map x.told (λ t. HoldsAll t v.files texts) (λ t. WritesAtMost t v (view z)) held (λ t p. inl (texts, p, m)), f.3, log, f.4)
 ends-made view v status.Refused (Ok z) texts x y held log m f = absurd f
 ends-made view v status.Usage (Ok z) texts x y held log m f = absurd f
 ends-made view v status.ReadFault (Ok z) texts x y held log m f = absurd f
@@ -53,15 +54,27 @@ ends-made view v ended (Err halt.NoMemory) texts x y held log m f =
     let E : Status → Type 0 = λ z. EndsVerb z v x y in
     subst E (sym f.1.0) (length v.files, log ∙ ap (λ z. grown x.told (fetched z)) (sym (take-length v.files)), f.0, f.1.1)
 
+-- what a verb writes, up to its stop
+at_most : (v : Verb) (texts : Texts) (text : List ℕ) (t : Told) → HoldsAll t v.files texts → v.Makes texts text ⊎ ((stop : v.Stop) × v.Stops texts text stop) → WritesAtMost t v text
+at_most v texts text t held (inl made) = inl (texts, held, made)
+at_most v texts text t held (inr (stop, stops)) = inr (stop, (texts, held, stops))
+
 -- what was written of files that are there, as it came
 pub ends-streamed : (v : Verb) (ended : Status) (texts : Texts) (x y : Outside) → IfSome x.told (λ t. HoldsAll t v.files texts) → y.told ≡ grown x.told (fetched v.files)
-    → Streams (v.Makes texts) (v.Refuses texts) v.line ended x.out y.out x.write_faults y.write_faults x.err y.err x.tell_faults y.tell_faults → EndsVerb ended v x y
+    → Streams (course v texts) ended x.out y.out x.write_faults y.write_faults x.err y.err x.tell_faults y.tell_faults → EndsVerb ended v x y
 ends-streamed v status.Done texts x y held log s =
-    (s.0, s.2.0, if_some-map x.told (λ t. HoldsAll t v.files texts) (λ t. Writes t v s.0) held (λ t p. (texts, p, s.1)), log, s.2.1)
+    (s.0, s.2, if_some-map x.told (λ t. HoldsAll t v.files texts) (λ t. Writes t v s.0) held (λ t p. (texts, p, s.1)), log, s.3)
 ends-streamed v status.WriteFault texts x y held log s =
-    (s.0, s.2.0, s.2.1, s.2.2, if_some-map x.told (λ t. HoldsAll t v.files texts) (λ t. Writes t v s.0) held (λ t p. (texts, p, s.1)), s.2.3, log, s.2.4)
-ends-streamed v status.Refused texts x y held log s =
+    (s.0, s.2.0, s.2.1, s.2.2, if_some-map x.told (λ t. HoldsAll t v.files texts) (λ t. WritesAtMost t v s.0) held (λ t p. at_most v texts s.0 t p s.1), s.2.3, log, s.2.4)
+ends-streamed v status.Refused texts x y held log (inl s) =
     (Refusal s.0, if_some-map x.told (λ t. HoldsAll t v.files texts) (λ t. Refuses t v (Refusal s.0)) held (λ t p. (texts, p, s.1)), log, s.2, s.3)
+ends-streamed v status.Refused texts x y held log (inr s) = (
+  Stopped s.0,
+  if_some-map x.told (λ t. HoldsAll t v.files texts) (λ t. Refuses t v (Stopped s.0)) held (λ t p. (s.1, (texts, p, s.2))),
+  log,
+  (s.1, s.3, if_some-map x.told (λ t. HoldsAll t v.files texts) (λ t. WritesUpTo t v s.0 s.1) held (λ t p. (texts, p, s.2))),
+  s.4,
+)
 ends-streamed v status.NoMemory texts x y held log s = (length v.files, log ∙ ap (λ z. grown x.told (fetched z)) (sym (take-length v.files)), s.0, s.1)
-ends-streamed v status.ReadFault texts x y held log s = absurd s.2
-ends-streamed v status.Usage texts x y held log s = absurd s.2
+ends-streamed v status.ReadFault texts x y held log s = absurd s
+ends-streamed v status.Usage texts x y held log s = absurd s

@@ -82,7 +82,7 @@ pub record AreSoFar (files : List File) (i : ℕ) (texts : Texts) (told told' : 
   pub held : IfSome told (λ t. HoldsAll t (take i files) texts)
   pub log : told' ≡ grown told (fetched (take i files))
 
-grown-nothing : (told : Option Told) → told ≡ grown told []
+pub grown-nothing : (told : Option Told) → told ≡ grown told []
 grown-nothing None = refl
 grown-nothing (Some t) = ap (λ l. Some (record t { log = l })) (sym (append-nil t.log))
 

@@ -9,7 +9,7 @@ use Rattle.hrthood_top.specs.declared.format.FormatRefusal.{FormatRefusal}
 use Rattle.hrthood_top.specs.declared.format.FormatRefusal.TheVariants.{Text}
 use Rattle.hrthood_top.specs.Formats.{IsFormatted, RefusesFormat, formats}
 use Rattle.hrthood_top.proofs.OneDesign.{no-fault, one-fault}
-use Rattle.hrthood_top.proofs.VerbLaws.{IsExact}
+use Rattle.hrthood_top.proofs.VerbLaws.{IsExact, never-stops}
 
 -- what is printed of a design that was read
 pub formatted : (bytes text : List ℕ) (x : designs.Design) → Reads bytes x → text ≡ design_text x → IsFormatted bytes text
@@ -31,4 +31,5 @@ formats-exact design = record {
   one = λ a b same r q h k. one_refusal (b Design) r q (subst (λ z. RefusesFormat z r) same.0 h) k;
   able = λ a b same w r h. can_or_refuses (a Design) (b Design) w.0 same.0 w.1 r h;
   made = λ a made w. (w.design, w.reads);
+  stops = never-stops (formats design) (λ texts text stop h. h);
 }

@@ -2,7 +2,7 @@
 use Rattle.std.proofs.Common.{◌≡◌, ℕ, zero, suc, ◌+◌, ◌<◌, ◌≤◌, List, [], ◌∷◌, ◌++◌, length, drop, get_or, Option, Result, Ok, Err, refl, sym, ap, subst, ◌∙◌, append_assoc, append-nil, arith, drop-cons, add-one}
 use Rattle.std.proofs.lemmas.List.{drop_all}
 use Rattle.seq_tree.specs.Lists.{Each}
-use Rattle.hood_io.specs.Causes.{HasCause, Rose}
+use Rattle.hood_io.specs.Causes.{HasCause}
 use Rattle.hood_io.proofs.Appending.{appends-none, appends-twice, puts-behind, puts-stopped}
 use Rattle.ada_tree.specs.Programs.{Program}
 use Rattle.trace_tree.specs.declared.event.Event.{Event}

@@ -1,17 +1,9 @@
 -- That the verb `generate` refuses a design for one reason, and none that it can be done of.
-use Rattle.std.proofs.Common.{◌≡◌, ℕ, List, [], ◌∷◌, length, Option, Some, None, Ok, Err, refl, sym, ap, subst, ◌∙◌, arith}
-use Rattle.seq_tree.specs.Lexis.{Misread, plain, tokens}
-use Rattle.seq_tree.specs.declared.text_fault.TextFault.{TextFault}
-use Rattle.seq_tree.specs.declared.text_fault.TextFault.TheVariants as fault
+use Rattle.std.proofs.Common.{◌≡◌, ℕ, List, [], ◌∷◌, length, refl, ap, subst, ◌∙◌, arith}
 use Rattle.ods_tree.specs.Designs as designs
 use Rattle.ods_tree.specs.Flattening.{flat}
 use Rattle.ods_tree.specs.Reading.{Reads}
-use Rattle.ods_tree.specs.Spelling.{design_tokens}
 use Rattle.ods_tree.specs.Ticks.{in_ticks}
-use Rattle.design_rules.specs.Broken.{Broken}
-use Rattle.design_rules.specs.Rules.{MeetsRules}
-use Rattle.ods_index.specs.Told.{told_of}
-use Rattle.ods_index.specs.declared.broken.Broken as code
 use Rattle.rt_response.specs.declared.rows.Bound.{Bound}
 use Rattle.rt_response.specs.declared.rows.Miss as rows
 use Rattle.rt_response.specs.declared.rows.ThreadRow.{ThreadRow}
@@ -26,7 +18,7 @@ use Rattle.hrthood_top.specs.declared.generate.GenerateRefusal.TheVariants.{Text
 use Rattle.hrthood_top.specs.Generates.{CanGenerate, RefusesDesign, generates}
 use Rattle.hrthood_top.proofs.OneDesign.{one-design, no-fault, one-fault, no-rule, one-rule}
 use Rattle.hrthood_top.proofs.OneBounds.{one-bounds}
-use Rattle.hrthood_top.proofs.VerbLaws.{IsExact}
+use Rattle.hrthood_top.proofs.VerbLaws.{IsExact, never-stops}
 
 -- two vectors, neither of which is above the other
 same_vectors : (v u : List Bound) → IsAtMost v u → IsAtMost u v → v ≡ u
@@ -41,7 +33,7 @@ same_vectors (a ∷ v) (b ∷ u) p q =
     rw (first, rest) refl
 
 -- there is one least vector
-one_least : (rows : List ThreadRow) (v u : List Bound) → IsLeastVector rows v → IsLeastVector rows u → v ≡ u
+pub one_least : (rows : List ThreadRow) (v u : List Bound) → IsLeastVector rows v → IsLeastVector rows u → v ≡ u
 one_least rows v u p q = same_vectors v u (p.least u q.fits) (q.least v p.fits)
 
 not_long : (bytes bytes' : List ℕ) → bytes ≡ bytes' → CanGenerate bytes → HasLongText bytes' → ⊥
@@ -53,7 +45,7 @@ not_long bytes bytes' same w h =
     let equal : length (text (in_ticks h.design) h.bounds) ≡ length (text (in_ticks w.design) w.bounds) = ap (λ z. L z h.bounds) one ∙ ap (L w.design) bounds in
     let long = h.long in let short = w.short in omega (arith, equal)
 
-can_or_refuses : (bytes bytes' : List ℕ) → bytes ≡ bytes' → CanGenerate bytes → (r : GenerateRefusal) → RefusesDesign bytes' r → ⊥
+pub can_or_refuses : (bytes bytes' : List ℕ) → bytes ≡ bytes' → CanGenerate bytes → (r : GenerateRefusal) → RefusesDesign bytes' r → ⊥
 can_or_refuses bytes bytes' same w (Text found) h = no-fault bytes' w.design found (subst (λ z. Reads z w.design) same w.reads) h
 can_or_refuses bytes bytes' same w (Rule broken) h = no-rule bytes' broken w.design h (subst (λ z. Reads z w.design) same w.reads) w.meets
 can_or_refuses bytes bytes' same w (Miss thread miss) h =
@@ -61,7 +53,7 @@ can_or_refuses bytes bytes' same w (Miss thread miss) h =
     h.missed.none w.bounds (rw one w.least.fits)
 can_or_refuses bytes bytes' same w Long h = not_long bytes bytes' same w h
 
-can_make : (bytes made : List ℕ) → IsTextFor bytes made → CanGenerate bytes
+abbrev pub can_make : (bytes made : List ℕ) → IsTextFor bytes made → CanGenerate bytes
 can_make bytes made w = record {
   design = w.design;
   reads = w.reads;
@@ -78,7 +70,7 @@ bounds_or_none bytes thread miss h k =
 one_over : (bytes : List ℕ) (thread other : Name) (m n : rows.Miss) → HasNoBounds bytes thread m → HasNoBounds bytes other n → ◌≡◌ {A = GenerateRefusal} (Miss thread m) (Miss other n)
 one_over bytes thread other m n h k = (let one = one-bounds bytes thread other m n h k in ap (λ z. Miss z m) one.0 ∙ ap (λ z. Miss other z) one.1)
 
-one_refusal : (bytes : List ℕ) (r q : GenerateRefusal) → RefusesDesign bytes r → RefusesDesign bytes q → r ≡ q
+pub one_refusal : (bytes : List ℕ) (r q : GenerateRefusal) → RefusesDesign bytes r → RefusesDesign bytes q → r ≡ q
 one_refusal bytes (Text f) (Text g) h k = ap Text (one-fault bytes f g h k)
 one_refusal bytes (Text f) (Rule broken) h k = absurd (no-fault bytes k.design f k.reads h)
 one_refusal bytes (Text f) (Miss thread miss) h k = absurd (no-fault bytes k.design f k.reads h)
@@ -101,4 +93,5 @@ generates-exact design = record {
   one = λ a b same r q h k. one_refusal (b Design) r q (subst (λ z. RefusesDesign z r) same.0 h) k;
   able = λ a b same w r h. can_or_refuses (a Design) (b Design) same.0 w r h;
   made = λ a made w. can_make (a Design) made w;
+  stops = never-stops (generates design) (λ texts text stop h. h);
 }

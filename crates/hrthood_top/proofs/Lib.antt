@@ -11,10 +11,15 @@ pub mod CheckLaws
 pub mod AnalyseLaws
 pub mod FormatLaws
 pub mod GenerateLaws
+pub mod RunEnds
 pub mod ReplayLaws
 pub mod Completing
 pub mod Replayed
 pub mod Replaying
+pub mod VerifyLaws
+pub mod Verified
+pub mod SampleLaws
+pub mod Summed
 pub mod Gathering
 mod Examples
 pub mod Tracing

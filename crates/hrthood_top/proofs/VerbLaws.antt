@@ -4,11 +4,28 @@ use Rattle.seq_tree.specs.Lists.{Each}
 use Rattle.hood_io.specs.Shelves.{Told}
 use Rattle.hrthood_top.specs.Files.{File, Texts, Holds, HoldsAll, IsTooLong}
 use Rattle.hrthood_top.specs.Verbs.{Verb}
-use Rattle.hrthood_top.specs.Ends.{Writes, Cause, TooLong, Refusal, Refuses, CanDo}
+use Rattle.hrthood_top.specs.Ends.{Writes, Cause, TooLong, Refusal, Stopped, Refuses, CanDo}
 
 -- texts that are the same for these files
 abbrev pub Agree : List File → Texts → Texts → Type 0
 Agree files a b = Each (λ file. a file.kind ≡ b file.kind) files
+
+-- what is to be shown of a verb that may stop
+pub record StopsExactly (v : Verb) : Type 0 where
+  -- what it can be done of it does not stop at
+  pub able : (a b : Texts) → Agree v.files a b → v.CanDo a → (stop : v.Stop) (text : List ℕ) → v.Stops b text stop → ⊥
+  -- nor does it stop at what it refuses
+  pub apart : (a b : Texts) → Agree v.files a b → (r : v.Refusal) → v.Refuses a r → (stop : v.Stop) (text : List ℕ) → v.Stops b text stop → ⊥
+  -- it stops in one way
+  pub one : (a b : Texts) → Agree v.files a b → (s q : v.Stop) (x y : List ℕ) → v.Stops a x s → v.Stops b y q → s ≡ q
+
+-- a verb that never stops
+pub never-stops : (v : Verb) → ((texts : Texts) (text : List ℕ) (stop : v.Stop) → v.Stops texts text stop → ⊥) → StopsExactly v
+never-stops v never = record {
+  able = λ a b same w stop text h. never b text stop h;
+  apart = λ a b same r h stop text k. never b text stop k;
+  one = λ a b same s q x y h k. absurd (never a x s h);
+}
 
 -- what is to be shown of a verb
 pub record IsExact (v : Verb) : Type 0 where
@@ -18,6 +35,7 @@ pub record IsExact (v : Verb) : Type 0 where
   pub one : (a b : Texts) → Agree v.files a b → (r q : v.Refusal) → v.Refuses a r → v.Refuses b q → r ≡ q
   -- what it makes something of, it can be done of
   pub made : (a : Texts) (text : List ℕ) → v.Makes a text → v.CanDo a
+  pub stops : StopsExactly v
 
 -- a shelf has one file of a name
 pub one_file : (t : Told) (name a b : List ℕ) → t.files name ≡ Some a → t.files name ≡ Some b → a ≡ b
@@ -45,6 +63,7 @@ not-over t v front file texts h k =
 pub not-refused : (t : Told) (v : Verb) (cause : Cause v) → IsExact v → CanDo t v → Refuses t v cause → ⊥
 not-refused t v (TooLong front file) exact w h = not-over t v front file w.0 h w.1
 not-refused t v (Refusal refusal) exact w h = exact.able w.0 h.0 (held-agree t v.files w.0 h.0 w.1 h.1) w.2 refusal h.2
+not-refused t v (Stopped stop) exact w h = exact.stops.able w.0 h.1.0 (held-agree t v.files w.0 h.1.0 w.1 h.1.1) w.2 stop h.0 h.1.2
 
 -- nor has one that writes something
 pub not-written : (t : Told) (v : Verb) (cause : Cause v) (text : List ℕ) → IsExact v → Refuses t v cause → Writes t v text → ⊥
@@ -80,4 +99,12 @@ one-cause t v (TooLong front file) (TooLong front' file') exact h k =
     ap (λ z. TooLong z file) same.fronts ∙ ap (λ z. TooLong front' z) same.files
 one-cause t v (TooLong front file) (Refusal refusal) exact h k = absurd (not-over t v front file k.0 h k.1)
 one-cause t v (Refusal refusal) (TooLong front file) exact h k = absurd (not-over t v front file h.0 k h.1)
+one-cause t v (TooLong front file) (Stopped stop) exact h k = absurd (not-over t v front file k.1.0 h k.1.1)
+one-cause t v (Stopped stop) (TooLong front file) exact h k = absurd (not-over t v front file h.1.0 k h.1.1)
+one-cause t v (Refusal refusal) (Stopped stop) exact h k =
+    absurd (exact.stops.apart h.0 k.1.0 (held-agree t v.files h.0 k.1.0 h.1 k.1.1) refusal h.2 stop k.0 k.1.2)
+one-cause t v (Stopped stop) (Refusal refusal) exact h k =
+    absurd (exact.stops.apart k.0 h.1.0 (held-agree t v.files k.0 h.1.0 k.1 h.1.1) refusal k.2 stop h.0 h.1.2)
+one-cause t v (Stopped stop) (Stopped other) exact h k =
+    ap (λ z. Stopped z) (exact.stops.one h.1.0 k.1.0 (held-agree t v.files h.1.0 k.1.0 h.1.1 k.1.1) stop other h.0 k.0 h.1.2 k.1.2)
 one-cause t v (Refusal refusal) (Refusal other) exact h k = ap (λ z. Refusal z) (exact.one h.0 k.0 (held-agree t v.files h.0 k.0 h.1 k.1) refusal other h.2 k.2)

@@ -84,5 +84,8 @@ analyses design = record {
   Refusal = AnalyseRefusal;
   Refuses = λ texts refusal. RefusesAnalysis (texts Design) refusal;
   line = analyse_line;
+  Stop = ⊥;
+  Stops = λ texts text stop. ⊥;
+  stop_line = λ stop. [];
   CanDo = λ texts. CanAnalyse (texts Design);
 }

@@ -53,5 +53,8 @@ checks design = record {
   Refusal = CheckRefusal;
   Refuses = λ texts refusal. RefusesCheck (texts Design) refusal;
   line = check_line;
+  Stop = ⊥;
+  Stops = λ texts text stop. ⊥;
+  stop_line = λ stop. [];
   CanDo = λ texts. CanCheck (texts Design);
 }

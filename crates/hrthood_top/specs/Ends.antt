@@ -37,26 +37,45 @@ TellsMessage x y line = Tells x.err y.err x.tell_faults y.tell_faults line
 abbrev pub Writes : Told → Verb → List ℕ → Type 0
 Writes t v text = (texts : Texts) × HoldsAll t v.files texts × v.Makes texts text
 
--- why a command is refused: a file of it is too long, behind others that are not, or its verb refuses what they hold
+-- what a verb writes before it stops there
+abbrev pub WritesUpTo : Told → (v : Verb) → v.Stop → List ℕ → Type 0
+WritesUpTo t v stop text = (texts : Texts) × HoldsAll t v.files texts × v.Stops texts text stop
+
+-- what a verb writes, up to its stop where it stops
+abbrev pub WritesAtMost : Told → Verb → List ℕ → Type 0
+WritesAtMost t v text = Writes t v text ⊎ ((stop : v.Stop) × WritesUpTo t v stop text)
+
+-- why a command is refused: a file of it is too long, behind others that are not, or its verb refuses what they hold, or stops behind what
+-- it has written
 pub data Cause (v : Verb) : Type 0 where
   TooLong : (front : List File) (file : File) → Cause v
   Refusal : (refusal : v.Refusal) → Cause v
+  Stopped : (stop : v.Stop) → Cause v
 
 -- such a cause stands, with the files that a shelf holds
 abbrev pub Refuses : Told → (v : Verb) → Cause v → Type 0
 Refuses t v (TooLong front file) =
     (back : List File) × (v.files ≡ front ++ file ∷ back) × (texts : Texts) × HoldsAll t front texts × IsTooLong t file
 Refuses t v (Refusal refusal) = (texts : Texts) × HoldsAll t v.files texts × v.Refuses texts refusal
+Refuses t v (Stopped stop) = (text : List ℕ) × WritesUpTo t v stop text
+
+-- what is written before a refusal: what a verb writes before it stops, else nothing
+abbrev pub WritesBefore : Option Told → (v : Verb) → Cause v → Option (List ℕ) → Option (List ℕ) → Type 0
+WritesBefore told v (TooLong front file) out out' = out' ≡ out
+WritesBefore told v (Refusal refusal) out out' = out' ≡ out
+WritesBefore told v (Stopped stop) out out' = (text : List ℕ) × Appends out out' text × IfSome told (λ t. WritesUpTo t v stop text)
 
 -- the files that are fetched before a refusal: those up to the one that is too long, else all
 abbrev pub fetched_before : (v : Verb) → Cause v → List File
 fetched_before v (TooLong front file) = front ++ file ∷ []
 fetched_before v (Refusal refusal) = v.files
+fetched_before v (Stopped stop) = v.files
 
 -- the line that tells a cause
 abbrev pub cause_line : (v : Verb) → Cause v → List ℕ
 cause_line v (TooLong front file) = too_long_line file.kind
 cause_line v (Refusal refusal) = v.line refusal
+cause_line v (Stopped stop) = v.stop_line stop
 
 -- how a command ends, from what stood outside before to what stands there after
 abbrev pub EndsVerb : Status → Verb → Outside → Outside → Type 0
@@ -64,11 +83,11 @@ EndsVerb Done v x y =
     (text : List ℕ) × Appends x.out y.out text × IfSome x.told (λ t. Writes t v text)
     × (y.told ≡ grown x.told (fetched v.files)) × (y.err ≡ x.err)
 EndsVerb WriteFault v x y =
-    (text : List ℕ) × (n : ℕ) × (n < length text) × Appends x.out y.out (take n text) × IfSome x.told (λ t. Writes t v text)
+    (text : List ℕ) × (n : ℕ) × (n < length text) × Appends x.out y.out (take n text) × IfSome x.told (λ t. WritesAtMost t v text)
     × Rose x.write_faults y.write_faults × (y.told ≡ grown x.told (fetched v.files)) × TellsMessage x y (message_line message.WriteFault)
 EndsVerb Refused v x y =
     (cause : Cause v) × IfSome x.told (λ t. Refuses t v cause) × (y.told ≡ grown x.told (fetched (fetched_before v cause)))
-    × (y.out ≡ x.out) × TellsMessage x y (cause_line v cause)
+    × WritesBefore x.told v cause x.out y.out × TellsMessage x y (cause_line v cause)
 EndsVerb ReadFault v x y =
     (front : List File) × (file : File) × (back : List File) × (v.files ≡ front ++ file ∷ back)
     × (y.told ≡ grown x.told (fetched front ++ failed file.name ∷ [])) × Rose x.read_faults y.read_faults

@@ -9,6 +9,6 @@ use Rattle.hrthood_top.specs.Ends.{Writes, Cause, Refuses}
 abbrev pub HasOneCause : Told → Verb → Type 0
 HasOneCause t v = (p q : Cause v) → Refuses t v p → Refuses t v q → p ≡ q
 
--- no cause stands where a text is written
+-- no cause stands where what a verb makes is written
 abbrev pub WritesOrRefuses : Told → Verb → Type 0
 WritesOrRefuses t v = (cause : Cause v) (text : List ℕ) → Refuses t v cause → Writes t v text → ⊥

@@ -1,7 +1,6 @@
 -- The verb `format`: the text of a design, printed again. The rules are not checked.
 -- The layout is this project's own.
 use Rattle.std.specs.Prelude.{◌≡◌, ℕ, ◌≤◌, List, [], ◌∷◌, length}
-use Rattle.seq_tree.specs.declared.text_fault.TextFault.{TextFault}
 use Rattle.ods_tree.specs.Designs as designs
 use Rattle.ods_tree.specs.Layout.{design_text}
 use Rattle.ods_tree.specs.Reading.{Reads}
@@ -35,5 +34,8 @@ formats design = record {
   Refusal = FormatRefusal;
   Refuses = λ texts refusal. RefusesFormat (texts Design) refusal;
   line = format_line;
+  Stop = ⊥;
+  Stops = λ texts text stop. ⊥;
+  stop_line = λ stop. [];
   CanDo = λ texts. (x : designs.Design) × Reads (texts Design) x;
 }

@@ -8,7 +8,11 @@ pub mod Taking
 pub mod Analyses
 pub mod Formats
 pub mod Generates
+pub mod Violations
 pub mod Replays
+pub mod RightTraces
+pub mod Verifies
+pub mod Samples
 pub mod Commands
 pub mod Ends
 pub mod Exact

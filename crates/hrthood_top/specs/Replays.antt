@@ -1,10 +1,8 @@
 -- The verb `replay`: the trace of an Ada text under arrivals.
 -- No condition is put on where the Ada text came from.
-use Rattle.std.specs.Prelude.{◌≡◌, ℕ, List, [], ◌∷◌, codes, Result, Ok, Err, Some, ⊤}
-use Rattle.seq_tree.specs.Names.{Name}
+use Rattle.std.specs.Prelude.{◌≡◌, ℕ, List, [], ◌∷◌, Result, Ok, Err, ⊤}
 use Rattle.ada_tree.specs.Programs.{Program}
 use Rattle.ada_tree.specs.Reading.{Accepts}
-use Rattle.ada_tree.specs.InUse.{IsRunProgram, first_unbuilt}
 use Rattle.ada_tree.specs.Trees.{program_of}
 use Rattle.ada_tree.specs.declared.program.AdaProgram.{AdaProgram}
 use Rattle.ada_read.specs.Answers.{Faults, Breaks}
@@ -16,25 +14,26 @@ use Rattle.arrivals_read.specs.Answers as arriving
 use Rattle.arrivals_read.specs.declared.fault.ArrivalFault.{ArrivalFault}
 use Rattle.trace_tree.specs.declared.event.Event.{Event}
 use Rattle.trace_tree.specs.Lines.{lines}
+use Rattle.trace_tree.specs.Exclusion.{Exclusive}
 use Rattle.machine.specs.Meanings.{Meaning}
 use Rattle.hrthood_top.specs.declared.file_kind.FileKind.TheVariants.{Ada, Arrivals}
 use Rattle.hrthood_top.specs.declared.replay.ReplayRefusal.{ReplayRefusal}
 use Rattle.hrthood_top.specs.declared.replay.ReplayRefusal.TheVariants as refusal
 use Rattle.hrthood_top.specs.declared.halt.Halt.{Halt}
 use Rattle.hrthood_top.specs.declared.halt.Halt.TheVariants as halt
-use Rattle.hrthood_top.specs.Messages.{arrivals_line, name_line, text_line, unit_line}
+use Rattle.hrthood_top.specs.Messages.{arrivals_line, text_line, unit_line}
 use Rattle.hrthood_top.specs.Verbs.{Verb}
+use Rattle.hrthood_top.specs.Violations.{EndsAt, RunsOut, Violation, violation_line}
 
--- a text is the trace of a program under arrivals: the lines of what the program means
-pub record IsTrace (p : Program) (a : arrived.Arrivals) (text : List ℕ) : Type 0 where
-  pub told : List Event
+-- a text is the trace of a program under arrivals: the lines of what the program means, in which no object is inside two operations
+pub record IsTrace (p : Program) (a : arrived.Arrivals) (told : List Event) (text : List ℕ) : Type 0 where
   pub means : Meaning p a told
+  pub exclusive : Exclusive told
   pub whole : text ≡ lines p told
 
--- an Ada text says this program, which is run, and no other one
+-- an Ada text says this program, and no other one
 pub record SaysProgram (ada : List ℕ) (p : Program) : Type 0 where
   pub accepts : Accepts ada p
-  pub run : IsRunProgram p
   pub alone : (q : Program) → Accepts ada q → q ≡ p
 
 -- an arrivals text says these arrivals of a program, and no other ones
@@ -42,32 +41,36 @@ pub record SaysArrivals (arrivals : List ℕ) (p : Program) (a : arrived.Arrival
   pub arrives : Arrives horizon_limit arrivals p a
   pub alone : (b : arrived.Arrivals) → Arrives horizon_limit arrivals p b → b ≡ a
 
--- an Ada text and an arrivals text replay to this: the trace of the program that the first says, under the arrivals that the second
+-- an Ada text and an arrivals text give this text: the trace of the program that the first says, under the arrivals that the second
 -- says of it
-pub record Replays (ada arrivals written : List ℕ) : Type 0 where
+pub record Traces (ada arrivals : List ℕ) (told : List Event) (written : List ℕ) : Type 0 where
   pub program : Program
   pub under : arrived.Arrivals
   pub says : SaysProgram ada program
   pub arriving : SaysArrivals arrivals program under
-  pub trace : IsTrace program under written
+  pub trace : IsTrace program under told written
 
--- an Ada text and an arrivals text that can be replayed: they say a program that is run and arrivals, under which the program means
--- something
+-- they replay to this: a trace up to the horizon
+pub record Replays (ada arrivals written : List ℕ) : Type 0 where
+  pub told : List Event
+  pub traces : Traces ada arrivals told written
+  pub runs_out : RunsOut told
+
+-- they replay to this up to the stop at a violated ceiling, which is the last of the trace
+pub record StopsAt (ada arrivals written : List ℕ) (v : Violation) : Type 0 where
+  pub told : List Event
+  pub traces : Traces ada arrivals told written
+  pub ends : EndsAt traces.program told v
+
+-- an Ada text and an arrivals text that can be replayed: they say a program and arrivals, under which what the program means has no stop
 pub record CanReplay (ada arrivals : List ℕ) : Type 0 where
   pub program : Program
   pub under : arrived.Arrivals
   pub accepts : Accepts ada program
-  pub run : IsRunProgram program
   pub arrives : Arrives horizon_limit arrivals program under
   pub told : List Event
   pub means : Meaning program under told
-
--- an Ada text is one of a program, and of no other, of which this unit is the first that is not run so far
-pub record IsUnbuilt (ada : List ℕ) (unit : Name) : Type 0 where
-  pub program : Program
-  pub accepts : Accepts ada program
-  pub alone : (p : Program) → Accepts ada p → p ≡ program
-  pub first : first_unbuilt program.units ≡ Some unit
+  pub runs_out : RunsOut told
 
 -- an Ada text says a program, and the arrivals text is none for it, for this reason
 pub record IsAdaAlone (ada arrivals : List ℕ) (found : ArrivalFault) : Type 0 where
@@ -75,19 +78,16 @@ pub record IsAdaAlone (ada arrivals : List ℕ) (found : ArrivalFault) : Type 0 
   pub says : SaysProgram ada program
   pub none : arriving.Refuses arrivals program found
 
--- why two texts are not replayed: the Ada text is no text of a program, or its program breaks a rule, or it has a unit that is not run
--- so far, or the arrivals text is none for it
+-- why two texts are not replayed: the Ada text is no text of a program, or its program breaks a rule, or the arrivals text is none for it
 abbrev pub RefusesReplay : List ℕ → List ℕ → ReplayRefusal → Type 0
 RefusesReplay ada arrivals (refusal.Text found) = Faults ada found
 RefusesReplay ada arrivals (refusal.Unit rule unit) = Breaks ada rule unit
-RefusesReplay ada arrivals (refusal.NotBuilt unit) = IsUnbuilt ada unit
 RefusesReplay ada arrivals (refusal.Arrivals found) = IsAdaAlone ada arrivals found
 
 -- the line that tells it
 abbrev pub replay_line : ReplayRefusal → List ℕ
 replay_line (refusal.Text found) = text_line Ada found
 replay_line (refusal.Unit rule unit) = unit_line rule unit
-replay_line (refusal.NotBuilt unit) = name_line (codes "refused N1 ") unit
 replay_line (refusal.Arrivals found) = arrivals_line found
 
 -- the program of an Ada text, or why there is none
@@ -95,7 +95,6 @@ abbrev pub ReadsAda : Result AdaProgram (Halt ReplayRefusal) → List ℕ → Ty
 ReadsAda (Ok p) ada = SaysProgram ada (program_of p)
 ReadsAda (Err (halt.Refused (refusal.Text found))) ada = Faults ada found
 ReadsAda (Err (halt.Refused (refusal.Unit rule unit))) ada = Breaks ada rule unit
-ReadsAda (Err (halt.Refused (refusal.NotBuilt unit))) ada = IsUnbuilt ada unit
 ReadsAda (Err (halt.Refused (refusal.Arrivals found))) ada = ⊥
 ReadsAda (Err halt.NoMemory) ada = ⊤
 
@@ -113,5 +112,8 @@ replays ada arrivals = record {
   Refusal = ReplayRefusal;
   Refuses = λ texts refused. RefusesReplay (texts Ada) (texts Arrivals) refused;
   line = replay_line;
+  Stop = Violation;
+  Stops = λ texts written v. StopsAt (texts Ada) (texts Arrivals) written v;
+  stop_line = violation_line;
   CanDo = λ texts. CanReplay (texts Ada) (texts Arrivals);
 }

@@ -13,5 +13,9 @@ pub record Verb : Type 1 where
   pub Refusal : Type 0
   pub Refuses : Texts → Refusal → Type 0
   pub line : Refusal → List ℕ
+  -- how it can stop behind a text that it has written, where it writes as it goes, and the line that tells this
+  pub Stop : Type 0
+  pub Stops : Texts → List ℕ → Stop → Type 0
+  pub stop_line : Stop → List ℕ
   -- bytes that have what it asks for
   pub CanDo : Texts → Type 0

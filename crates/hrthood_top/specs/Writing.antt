@@ -1,6 +1,6 @@
 -- What is written of what a verb made, and what is told where it made nothing or a file could not be had.
 -- A status that comes from neither is none of these.
-use Rattle.std.specs.Prelude.{◌≡◌, ℕ, ◌<◌, List, length, take, Option, Result, Ok, Err, ⊤}
+use Rattle.std.specs.Prelude.{◌≡◌, ℕ, ◌<◌, List, length, take, Option, Result, Ok, Err, ◌⊎◌, ⊤}
 use Rattle.hood_io.specs.Causes.{Rose}
 use Rattle.hood_io.specs.Sinks.{Appends}
 use Rattle.hrthood_top.specs.declared.status.Status.{Status}
@@ -12,6 +12,12 @@ use Rattle.hrthood_top.specs.declared.fetch.Stop.TheVariants.{TooLong, ReadFault
 use Rattle.hrthood_top.specs.declared.message.Message.TheVariants as message
 use Rattle.hrthood_top.specs.Messages.{message_line, too_long_line, fault_line}
 use Rattle.hrthood_top.specs.Tells.{Tells}
+use Rattle.hrthood_top.specs.Files.{Texts}
+use Rattle.hrthood_top.specs.Verbs.{Verb}
+use Rattle.hrthood_top.specs.declared.violation.Ending.{Ending}
+use Rattle.hrthood_top.specs.declared.violation.Ending.TheVariants.{Horizon, Stopped}
+use Rattle.hrthood_top.specs.Violations.{violation_line}
+use Rattle.hrthood_top.specs.Streaming.{violation_of}
 
 -- what a verb made of bytes, or why it made nothing; want of memory says nothing
 abbrev pub IsMade : {X R : Type 0} → (X → List ℕ) → (List ℕ → Type 0) → (R → Type 0) → Result X (Halt R) → Type 0
@@ -42,13 +48,53 @@ abbrev pub TellsWritten : {E : Type 0} → Result (Unit {0}) E → Status → Op
 TellsWritten (Ok u) ended err err' told told' = (ended ≡ status.Done) × (err' ≡ err)
 TellsWritten (Err e) ended err err' told told' = (ended ≡ status.WriteFault) × Tells err err' told told' (message_line message.WriteFault)
 
--- a verb that writes as it goes: the text that it makes is written, or where the faults rose a proper front of it; or why it makes nothing is told
-abbrev pub Streams : {R : Type 0} → (List ℕ → Type 0) → (R → Type 0) → (R → List ℕ) → Status
-    → Option (List ℕ) → Option (List ℕ) → ℕ → ℕ → Option (List ℕ) → Option (List ℕ) → ℕ → ℕ → Type 0
-Streams {R} Makes Refuses line status.Refused out out' faults faults' err err' told told' =
-    (refusal : R) × Refuses refusal × (out' ≡ out) × Tells err err' told told' (line refusal)
-Streams {R} Makes Refuses line status.NoMemory out out' faults faults' err err' told told' = (out' ≡ out) × Tells err err' told told' (message_line message.NoMemory)
-Streams {R} Makes Refuses line ended out out' faults faults' err err' told told' = (text : List ℕ) × Makes text × WritesText ended text out out' faults faults' err err' told told'
+-- what a verb does of the bytes of its files where it writes as it goes: what it makes, why it makes nothing, how it stops behind what it has
+-- written, and the lines that tell these
+pub record Course : Type 1 where
+  pub Makes : List ℕ → Type 0
+  pub Refusal : Type 0
+  pub Refuses : Refusal → Type 0
+  pub line : Refusal → List ℕ
+  pub Stop : Type 0
+  pub Stops : List ℕ → Stop → Type 0
+  pub stop_line : Stop → List ℕ
+
+-- the course of a verb, with the bytes of its files
+abbrev pub course : Verb → Texts → Course
+course v texts = record {
+  Makes = v.Makes texts;
+  Refusal = v.Refusal;
+  Refuses = v.Refuses texts;
+  line = v.line;
+  Stop = v.Stop;
+  Stops = v.Stops texts;
+  stop_line = v.stop_line;
+}
+
+-- it makes nothing for a reason, which is told
+abbrev pub HaltsSo : Course → Option (List ℕ) → Option (List ℕ) → Option (List ℕ) → Option (List ℕ) → ℕ → ℕ → Type 0
+HaltsSo c out out' err err' told told' = (refusal : c.Refusal) × c.Refuses refusal × (out' ≡ out) × Tells err err' told told' (c.line refusal)
+
+-- it stops behind what it has written, which is told
+abbrev pub StopsSo : Course → Option (List ℕ) → Option (List ℕ) → Option (List ℕ) → Option (List ℕ) → ℕ → ℕ → Type 0
+StopsSo c out out' err err' told told' =
+    (stop : c.Stop) × (text : List ℕ) × c.Stops text stop × Appends out out' text × Tells err err' told told' (c.stop_line stop)
+
+-- a verb that writes as it goes: the text that it makes is written, or what it writes before it stops, or where the faults rose a proper front of
+-- either; or why it makes nothing is told
+abbrev pub Streams : Course → Status → Option (List ℕ) → Option (List ℕ) → ℕ → ℕ → Option (List ℕ) → Option (List ℕ) → ℕ → ℕ → Type 0
+Streams c status.Done out out' faults faults' err err' told told' = (text : List ℕ) × c.Makes text × Appends out out' text × (err' ≡ err)
+Streams c status.Refused out out' faults faults' err err' told told' = HaltsSo c out out' err err' told told' ⊎ StopsSo c out out' err err' told told'
+Streams c status.WriteFault out out' faults faults' err err' told told' =
+    (text : List ℕ) × (c.Makes text ⊎ ((stop : c.Stop) × c.Stops text stop)) × WritesText status.WriteFault text out out' faults faults' err err' told told'
+Streams c status.NoMemory out out' faults faults' err err' told told' = (out' ≡ out) × Tells err err' told told' (message_line message.NoMemory)
+Streams c _ out out' faults faults' err err' told told' = ⊥
+
+-- how a run ended is told, where it did not come to the horizon
+abbrev pub TellsEnding : {E : Type 0} → Result Ending E → Status → Option (List ℕ) → Option (List ℕ) → ℕ → ℕ → Type 0
+TellsEnding (Ok Horizon) ended err err' told told' = (ended ≡ status.Done) × (err' ≡ err)
+TellsEnding (Ok (Stopped v)) ended err err' told told' = (ended ≡ status.Refused) × Tells err err' told told' (violation_line (violation_of v))
+TellsEnding (Err e) ended err err' told told' = (ended ≡ status.WriteFault) × Tells err err' told told' (message_line message.WriteFault)
 
 -- why files could not be had is told
 abbrev pub TellsStop : Status → Stop → Option (List ℕ) → Option (List ℕ) → ℕ → ℕ → Type 0

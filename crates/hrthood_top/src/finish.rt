@@ -1,12 +1,24 @@
 ghost use Rattle.std.specs.Prelude.{◌≡◌, List, ℕ};
-ghost use Rattle.hrthood_top.specs.Writing.{Finishes, TellsHalt, TellsStop, TellsWritten};
+ghost use Rattle.hrthood_top.specs.Messages.{message_line};
+ghost use Rattle.hrthood_top.specs.Tells.{Tells};
+ghost use Rattle.hrthood_top.specs.Writing.{Finishes, TellsEnding, TellsHalt, TellsStop, TellsWritten};
 
 use crate::fetch::Stop;
 use crate::halt::Halt;
 use crate::line::{Line, tell};
 use crate::message::Message;
 use crate::status::Status;
+use crate::violation::Ending;
 use hood_io::{Failed, Sink, put_all};
+
+/// Tells that memory was wanted.
+pub(crate) fn tell_no_memory<E: Sink>(err: &mut E) -> Status
+    ensures ended { result ≡ Status.NoMemory }
+    ensures told { Tells (E.written err.old) (E.written err.new) (E.faults err.old) (E.faults err.new) (message_line Message.NoMemory) }
+{
+    tell(err, &Message::NoMemory);
+    Status::NoMemory
+}
 
 /// Tells why a verb made nothing.
 pub(crate) fn tell_halt<R: Line + Drop, E: Sink>(err: &mut E, why: Halt<R>) -> Status
@@ -17,11 +29,17 @@ pub(crate) fn tell_halt<R: Line + Drop, E: Sink>(err: &mut E, why: Halt<R>) -> S
             tell(err, &refusal);
             Status::Refused
         }
-        Halt::NoMemory => {
-            tell(err, &Message::NoMemory);
-            Status::NoMemory
-        }
+        Halt::NoMemory => tell_no_memory(err),
     }
+}
+
+/// Tells that a text could not be written whole.
+fn tell_failed<E: Sink>(err: &mut E) -> Status
+    ensures ended { result ≡ Status.WriteFault }
+    ensures told { Tells (E.written err.old) (E.written err.new) (E.faults err.old) (E.faults err.new) (message_line Message.WriteFault) }
+{
+    tell(err, &Message::WriteFault);
+    Status::WriteFault
 }
 
 /// Tells where a text could not be written whole.
@@ -30,10 +48,21 @@ pub(crate) fn tell_written<E: Sink>(err: &mut E, written: Result<(), Failed>) ->
 {
     match written {
         Ok(()) => Status::Done,
-        Err(Failed) => {
-            tell(err, &Message::WriteFault);
-            Status::WriteFault
+        Err(Failed) => tell_failed(err),
+    }
+}
+
+/// Tells how a run ended, where its trace could not be written whole or it stopped at a ceiling.
+pub(crate) fn tell_ending<E: Sink>(err: &mut E, ran: Result<Ending<'_>, Failed>) -> Status
+    ensures { TellsEnding ran.entry result (E.written err.old) (E.written err.new) (E.faults err.old) (E.faults err.new) }
+{
+    match ran {
+        Ok(Ending::Horizon) => Status::Done,
+        Ok(Ending::Stopped(violation)) => {
+            tell(err, &violation);
+            Status::Refused
         }
+        Err(Failed) => tell_failed(err),
     }
 }
 
@@ -65,9 +94,6 @@ pub(crate) fn tell_stop<E: Sink>(err: &mut E, stop: Stop) -> Status
             tell(err, &Message::ReadFault(name));
             Status::ReadFault
         }
-        Stop::NoMemory => {
-            tell(err, &Message::NoMemory);
-            Status::NoMemory
-        }
+        Stop::NoMemory => tell_no_memory(err),
     }
 }

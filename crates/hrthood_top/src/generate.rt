@@ -56,7 +56,7 @@ impl Line for GenerateRefusal {
 }
 
 /// What is made of the text of a design.
-fn generate_text(alloc: Global, design: &[u8]) -> Result<Vec<u8>, Halt<GenerateRefusal>>
+pub(crate) fn generate_text(alloc: Global, design: &[u8]) -> Result<Vec<u8>, Halt<GenerateRefusal>>
     ensures { IsMade (λ v. v.items) (IsTextFor design.now) (RefusesDesign design.now) result }
 {
     match deliver(alloc, design) {

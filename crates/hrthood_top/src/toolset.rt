@@ -2,6 +2,7 @@ ghost use Rattle.std.specs.Prelude.{◌≡◌, ◌↔◌, None, Some, map, strin
 ghost use Rattle.hrthood_top.specs.Words.{command_of};
 ghost use Rattle.hrthood_top.specs.Commands.{command_tree};
 ghost use Rattle.hrthood_top.specs.Ends.{Ends, Completes, outside};
+ghost use Rattle.hrthood_top.specs.Samples.{EndsSample};
 
 use crate::analyse::analyse;
 use crate::check::check;
@@ -11,7 +12,9 @@ use crate::generate::generate;
 use crate::line::tell;
 use crate::message::Message;
 use crate::replay::replay;
+use crate::sample::write_sample;
 use crate::status::Status;
+use crate::verify::verify;
 use hood_io::{Shelf, Sink};
 use std::alloc::Global;
 
@@ -23,9 +26,10 @@ fn run_command<F: Shelf, O: Sink, E: Sink>(
     out: &mut O,
     err: &mut E,
 ) -> Status
-    ensures { Ends result (command_of (map string_bytes words.now))
+    ensures ends { Ends result (command_of (map string_bytes words.now))
         (outside (F.told shelf.old) (F.faults shelf.old) (O.written out.old) (O.faults out.old) (E.written err.old) (E.faults err.old))
         (outside (F.told shelf.new) (F.faults shelf.new) (O.written out.new) (O.faults out.new) (E.written err.new) (E.faults err.new)) }
+    ensures summed { EndsSample result (command_of (map string_bytes words.now)) (O.written out.old) (O.written out.new) }
 {
     let Some(command) = read_words(words) else {
         tell(err, &Message::Usage);
@@ -37,6 +41,8 @@ fn run_command<F: Shelf, O: Sink, E: Sink>(
         Command::Format { design } => format(alloc, design, shelf, out, err),
         Command::Generate { design } => generate(alloc, design, shelf, out, err),
         Command::Replay { ada, arrivals } => replay(alloc, ada, arrivals, shelf, out, err),
+        Command::Verify { design, arrivals } => verify(alloc, design, arrivals, shelf, out, err),
+        Command::Sample { threads } => write_sample(alloc, threads, out, err),
     }
 }
 
@@ -57,6 +63,8 @@ pub fn run<F: Shelf, O: Sink, E: Sink>(
     ensures ends { Ends result (command_of (map string_bytes words.now))
         (outside (F.told shelf.old) (F.faults shelf.old) (O.written out.old) (O.faults out.old) (E.written err.old) (E.faults err.old))
         (outside (F.told shelf.new) (F.faults shelf.new) (O.written out.new) (O.faults out.new) (E.written err.new) (E.faults err.new)) }
+    // A sample is never refused, and what is written of it is its summary, whatever the shelf.
+    ensures summed { EndsSample result (command_of (map string_bytes words.now)) (O.written out.old) (O.written out.new) }
     // What can be done is done, unless memory is wanted or a fault came.
     ensures completes { Completes result (command_of (map string_bytes words.now))
         (outside (F.told shelf.old) (F.faults shelf.old) (O.written out.old) (O.faults out.old) (E.written err.old) (E.faults err.old))

@@ -45,7 +45,11 @@ cyclic n priority period vars b = record { name = n; form = Cyclic priority 0 pe
 
 abbrev sporadic : Name → ℕ → ℕ → Name → Name → ℕ → ℕ → Bool → List Statement → Unit
 sporadic n priority ceiling f param separation jitter external b =
-    record { name = n; form = Sporadic priority ceiling (record { name = f; params = record { name = param; mode = In } ∷ [] }) separation jitter external [] (block b) }
+    record {
+      name = n;
+      form = Sporadic priority ceiling
+          (record { name = f; params = record { name = param; mode = In } ∷ [] }) separation jitter external [] (block b);
+    }
 
 abbrev set : Name → Expression → Statement
 set = Assign
@@ -69,7 +73,8 @@ mine = record {
       ∷ shared (codes "ch4_status") 6 (codes "level" ∷ [])
       (operation (codes "write") v In (set (codes "level") (var v) ∷ []) ∷ operation (codes "read") v Out (set v (var (codes "level")) ∷ []) ∷ [])
       ∷ shared (codes "data_logger") 4 (codes "count" ∷ codes "last" ∷ [])
-      (operation (codes "log") v In (set (codes "count") (Binary op.Add (var (codes "count")) (Number 1)) ∷ set (codes "last") (var v) ∷ Work 2 ∷ []) ∷ [])
+      (operation (codes "log") v In
+      (set (codes "count") (Binary op.Add (var (codes "count")) (Number 1)) ∷ set (codes "last") (var v) ∷ Work 2 ∷ []) ∷ [])
       ∷ sporadic (codes "water_handler") 2 2 (codes "water") (codes "high") 6000 5 true
       (call (codes "motor") (codes "set_pump") (var (codes "high") ∷ []) ∷ call (codes "data_logger") (codes "log") (var (codes "high") ∷ []) ∷ [])
       ∷ cyclic (codes "flow_sensor") 1 1000 (codes "p" ∷ [])
@@ -84,7 +89,8 @@ mine = record {
       (Work 6 ∷ set (codes "reading") (Binary op.Mod (Paren (Binary op.Add (var (codes "reading")) (Number 3))) (Number 20))
       ∷ call (codes "data_logger") (codes "log") (var (codes "reading") ∷ []) ∷ [])
       ∷ cyclic (codes "air_flow") 3 100 (codes "level" ∷ [])
-      (Work 4 ∷ call (codes "ch4_status") (codes "read") (var (codes "level") ∷ []) ∷ when (Binary op.Ge (var (codes "level")) (Number 40)) (Put (var (codes "level")) ∷ []) [] ∷ [])
+      (Work 4 ∷ call (codes "ch4_status") (codes "read") (var (codes "level") ∷ [])
+      ∷ when (Binary op.Ge (var (codes "level")) (Number 40)) (Put (var (codes "level")) ∷ []) [] ∷ [])
       ∷ sporadic (codes "alarm_console") 5 6 (codes "alert") v 80 0 false (Put (var v) ∷ Work 4 ∷ []) ∷ [];
 }
 

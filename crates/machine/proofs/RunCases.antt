@@ -40,19 +40,27 @@ overrun : Meaning (program (cyclic (codes "a") 1 0 3 (one (Work 4)) ∷ [])) (re
 overrun = record { steps = 80; stops = refl; tells = refl }
 
 -- a request during an activation is served at its end
-waiting_request : Meaning (program (record { name = codes "s"; form = Sporadic 1 1 (record { name = codes "start"; params = record { name = codes "v"; mode = In } ∷ [] }) 3 0 true [] (one (Work 4)) } ∷ []))
+waiting_request : Meaning
+    (program (record {
+      name = codes "s";
+      form = Sporadic 1 1
+          (record { name = codes "start"; params = record { name = codes "v"; mode = In } ∷ [] }) 3 0 true [] (one (Work 4));
+    } ∷ []))
     (record { until = 12; work = []; items = record { time = 0; task = 0; value = Some 1 } ∷ record { time = 3; task = 0; value = Some 2 } ∷ [] })
-    (event.Arrive 0 0 (Some 1) ∷ event.Release 0 0 (Some 1) ∷ event.Arrive 3 0 (Some 2) ∷ event.End 5 0 5 ∷ event.Release 5 0 (Some 2) ∷ event.End 10 0 5 ∷ event.Horizon 12 ∷ [])
+    (event.Arrive 0 0 (Some 1) ∷ event.Release 0 0 (Some 1) ∷ event.Arrive 3 0 (Some 2) ∷ event.End 5 0 5 ∷ event.Release 5 0 (Some 2)
+    ∷ event.End 10 0 5 ∷ event.Horizon 12 ∷ [])
 waiting_request = record { steps = 90; stops = refl; tells = refl }
 
 -- a duration over the number of its `work` is cut
-long_duration : Meaning (program (cyclic (codes "a") 1 0 10 (one (Work 3)) ∷ [])) (record { until = 5; work = record { task = 0; ticks = 9 ∷ [] } ∷ []; items = [] })
+long_duration : Meaning (program (cyclic (codes "a") 1 0 10 (one (Work 3)) ∷ []))
+    (record { until = 5; work = record { task = 0; ticks = 9 ∷ [] } ∷ []; items = [] })
     (event.Release 0 0 None ∷ event.End 4 0 4 ∷ event.Horizon 5 ∷ [])
 long_duration = record { steps = 50; stops = refl; tells = refl }
 
 -- behind an inner section the priority is that of the outer one, and not the task's own
 outer_priority : Meaning (program (shared (codes "q") 2 (two (call (codes "e")) (Work 2)) ∷ shared (codes "e") 3 (one (Work 1))
     ∷ cyclic (codes "l") 1 0 40 (one (call (codes "q"))) ∷ cyclic (codes "m") 2 5 40 (one Null) ∷ [])) (record { until = 12; work = []; items = [] })
-    (event.Release 0 2 None ∷ event.Enter 2 2 0 0 [] ∷ event.Enter 4 2 1 0 [] ∷ event.Leave 5 2 1 0 [] ∷ event.Release 5 3 None ∷ event.Leave 7 2 0 0 []
+    (event.Release 0 2 None ∷ event.Enter 2 2 0 0 [] ∷ event.Enter 4 2 1 0 [] ∷ event.Leave 5 2 1 0 [] ∷ event.Release 5 3 None
+    ∷ event.Leave 7 2 0 0 []
     ∷ event.End 9 3 2 ∷ event.End 10 2 8 ∷ event.Horizon 12 ∷ [])
 outer_priority = record { steps = 100; stops = refl; tells = refl }

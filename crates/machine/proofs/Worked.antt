@@ -49,7 +49,11 @@ cyclic n priority offset period vars b = record { name = n; form = Cyclic priori
 
 abbrev sporadic : Name → ℕ → ℕ → ℕ → ℕ → Bool → Statements → Unit
 sporadic n priority ceiling separation jitter external b =
-    record { name = n; form = Sporadic priority ceiling (record { name = codes "start"; params = record { name = codes "v"; mode = In } ∷ [] }) separation jitter external [] b }
+    record {
+      name = n;
+      form = Sporadic priority ceiling
+          (record { name = codes "start"; params = record { name = codes "v"; mode = In } ∷ [] }) separation jitter external [] b;
+    }
 
 abbrev operation : Name → List Param → Statements → Operation
 operation n params b = record { sig = record { name = n; params = params }; locals = []; block = b }
@@ -69,25 +73,32 @@ one_cyclic : Meaning (program (cyclic a 1 0 10 [] (one (Work 3)) ∷ [])) (until
 one_cyclic = record { steps = 120; stops = refl; tells = refl }
 
 -- three cyclic tasks
-three_cyclic : Meaning (program (cyclic (codes "a") 3 0 7 [] (one (Work 2)) ∷ cyclic (codes "b") 2 0 12 [] (one (Work 2)) ∷ cyclic (codes "c") 1 0 20 [] (one (Work 4)) ∷ [])) (until 20)
+three_cyclic : Meaning (program
+    (cyclic (codes "a") 3 0 7 [] (one (Work 2)) ∷ cyclic (codes "b") 2 0 12 [] (one (Work 2)) ∷ cyclic (codes "c") 1 0 20 [] (one (Work 4))
+    ∷ [])) (until 20)
     (event.Release 0 0 None ∷ event.Release 0 1 None ∷ event.Release 0 2 None ∷ event.End 3 0 3 ∷ event.End 6 1 3 ∷ event.Release 7 0 None
     ∷ event.End 10 0 3 ∷ event.Release 12 1 None ∷ event.Release 14 0 None ∷ event.End 17 0 3 ∷ event.End 18 1 3 ∷ event.End 20 2 5
     ∷ event.Release 20 2 None ∷ event.Horizon 20 ∷ [])
 three_cyclic = record { steps = 150; stops = refl; tells = refl }
 
 -- a started task
-started_task : Meaning (program (cyclic p 1 0 50 [] (one (Call s (codes "start") (Number 7 ∷ []))) ∷ sporadic s 2 2 50 0 false (one (Work 4)) ∷ [])) (until 12)
+started_task : Meaning (program
+    (cyclic p 1 0 50 [] (one (Call s (codes "start") (Number 7 ∷ []))) ∷ sporadic s 2 2 50 0 false (one (Work 4)) ∷ [])) (until 12)
     (event.Release 0 0 None ∷ event.Request 4 0 1 (Some 7) ∷ event.Release 4 1 (Some 7) ∷ event.End 9 1 5 ∷ event.End 10 0 5 ∷ event.Horizon 12 ∷ [])
 started_task = record { steps = 100; stops = refl; tells = refl }
 
 -- a section at an activation's end
 sections_of : ℕ → Program
-sections_of ceiling = program (shared q ceiling (codes "set") (one (Work 3)) ∷ cyclic (codes "l") 1 0 20 [] (one (call q (codes "set"))) ∷ cyclic (codes "h") 2 3 10 [] (one (call q (codes "set"))) ∷ [])
+sections_of ceiling =
+    program (shared q ceiling (codes "set") (one (Work 3)) ∷ cyclic (codes "l") 1 0 20 [] (one (call q (codes "set")))
+    ∷ cyclic (codes "h") 2 3 10 [] (one (call q (codes "set"))) ∷ [])
 
 section_at_an_end : Meaning (sections_of 2) (until 32)
-    (event.Release 0 1 None ∷ event.Enter 2 1 0 0 [] ∷ event.Release 3 2 None ∷ event.Leave 5 1 0 0 [] ∷ event.Enter 7 2 0 0 [] ∷ event.Leave 10 2 0 0 []
+    (event.Release 0 1 None ∷ event.Enter 2 1 0 0 [] ∷ event.Release 3 2 None ∷ event.Leave 5 1 0 0 [] ∷ event.Enter 7 2 0 0 []
+    ∷ event.Leave 10 2 0 0 []
     ∷ event.End 11 2 6 ∷ event.End 12 1 6 ∷ event.Release 13 2 None ∷ event.Enter 15 2 0 0 [] ∷ event.Leave 18 2 0 0 [] ∷ event.End 19 2 6
-    ∷ event.Release 20 1 None ∷ event.Enter 22 1 0 0 [] ∷ event.Release 23 2 None ∷ event.Leave 25 1 0 0 [] ∷ event.Enter 27 2 0 0 [] ∷ event.Leave 30 2 0 0 []
+    ∷ event.Release 20 1 None ∷ event.Enter 22 1 0 0 [] ∷ event.Release 23 2 None ∷ event.Leave 25 1 0 0 [] ∷ event.Enter 27 2 0 0 []
+    ∷ event.Leave 30 2 0 0 []
     ∷ event.End 31 2 6 ∷ event.End 32 1 6 ∷ event.Horizon 32 ∷ [])
 unfolding sections_of
 section_at_an_end = record { steps = 200; stops = refl; tells = refl }
@@ -95,9 +106,12 @@ section_at_an_end = record { steps = 200; stops = refl; tells = refl }
 -- the release at the instant of an enter stands behind the task inside
 release_at_an_enter : Meaning (program (shared (codes "q1") 3 (codes "set") (one (Work 2)) ∷ shared (codes "q2") 3 (codes "set") (one (Work 2))
     ∷ cyclic (codes "x") 3 2 40 [] (two (call (codes "q1") (codes "set")) (call (codes "q2") (codes "set")))
-    ∷ cyclic (codes "y") 2 4 40 [] (one (call (codes "q2") (codes "set"))) ∷ cyclic (codes "z") 1 0 40 [] (one (call (codes "q1") (codes "set"))) ∷ [])) (until 20)
-    (event.Release 0 4 None ∷ event.Enter 2 4 0 0 [] ∷ event.Release 2 2 None ∷ event.Leave 4 4 0 0 [] ∷ event.Release 4 3 None ∷ event.Enter 6 2 0 0 []
-    ∷ event.Leave 8 2 0 0 [] ∷ event.Enter 10 2 1 0 [] ∷ event.Leave 12 2 1 0 [] ∷ event.End 13 2 9 ∷ event.Enter 15 3 1 0 [] ∷ event.Leave 17 3 1 0 []
+    ∷ cyclic (codes "y") 2 4 40 [] (one (call (codes "q2") (codes "set")))
+    ∷ cyclic (codes "z") 1 0 40 [] (one (call (codes "q1") (codes "set"))) ∷ [])) (until 20)
+    (event.Release 0 4 None ∷ event.Enter 2 4 0 0 [] ∷ event.Release 2 2 None ∷ event.Leave 4 4 0 0 [] ∷ event.Release 4 3 None
+    ∷ event.Enter 6 2 0 0 []
+    ∷ event.Leave 8 2 0 0 [] ∷ event.Enter 10 2 1 0 [] ∷ event.Leave 12 2 1 0 [] ∷ event.End 13 2 9 ∷ event.Enter 15 3 1 0 []
+    ∷ event.Leave 17 3 1 0 []
     ∷ event.End 18 3 5 ∷ event.End 19 4 5 ∷ event.Horizon 20 ∷ [])
 release_at_an_enter = record { steps = 130; stops = refl; tells = refl }
 
@@ -116,7 +130,8 @@ loops = record { steps = 40; stops = refl; tells = refl }
 -- requests from outside, with a jitter of 5
 requests_from_outside : Meaning (program (sporadic s 1 1 500 5 true (one (Work 4)) ∷ []))
     (record { until = 600; work = []; items = record { time = 0; task = 0; value = Some 1 } ∷ record { time = 495; task = 0; value = Some 1 } ∷ [] })
-    (event.Arrive 0 0 (Some 1) ∷ event.Release 0 0 (Some 1) ∷ event.End 5 0 5 ∷ event.Arrive 495 0 (Some 1) ∷ event.Release 495 0 (Some 1) ∷ event.End 500 0 5
+    (event.Arrive 0 0 (Some 1) ∷ event.Release 0 0 (Some 1) ∷ event.End 5 0 5 ∷ event.Arrive 495 0 (Some 1) ∷ event.Release 495 0 (Some 1)
+    ∷ event.End 500 0 5
     ∷ event.Horizon 600 ∷ [])
 requests_from_outside = record { steps = 2450; stops = refl; tells = refl }
 
@@ -127,25 +142,35 @@ unfolding sections_of
 low_ceiling = record { steps = 60; stops = refl; tells = refl }
 
 -- a duration from the arrivals
-durations_given : Meaning (program (cyclic a 1 0 10 [] (one (Work 3)) ∷ [])) (record { until = 20; work = record { task = 0; ticks = 1 ∷ [] } ∷ []; items = [] })
+durations_given : Meaning (program (cyclic a 1 0 10 [] (one (Work 3)) ∷ []))
+    (record { until = 20; work = record { task = 0; ticks = 1 ∷ [] } ∷ []; items = [] })
     (event.Release 0 0 None ∷ event.End 2 0 2 ∷ event.Release 10 0 None ∷ event.End 14 0 4 ∷ event.Release 20 0 None ∷ event.Horizon 20 ∷ [])
 durations_given = record { steps = 120; stops = refl; tells = refl }
 
 -- two tasks of one priority: the one that leaves a section goes before the one that was released meanwhile
-equal_priorities : Meaning (program (shared q 3 (codes "set") (one (Work 2)) ∷ cyclic (codes "x") 2 0 40 [] (two (call q (codes "set")) Null) ∷ cyclic (codes "y") 2 3 40 [] (one Null) ∷ [])) (until 10)
-    (event.Release 0 1 None ∷ event.Enter 2 1 0 0 [] ∷ event.Release 3 2 None ∷ event.Leave 4 1 0 0 [] ∷ event.End 6 1 6 ∷ event.End 8 2 2 ∷ event.Horizon 10 ∷ [])
+equal_priorities : Meaning
+    (program (shared q 3 (codes "set") (one (Work 2)) ∷ cyclic (codes "x") 2 0 40 [] (two (call q (codes "set")) Null)
+    ∷ cyclic (codes "y") 2 3 40 [] (one Null) ∷ [])) (until 10)
+    (event.Release 0 1 None ∷ event.Enter 2 1 0 0 [] ∷ event.Release 3 2 None ∷ event.Leave 4 1 0 0 [] ∷ event.End 6 1 6 ∷ event.End 8 2 2
+    ∷ event.Horizon 10 ∷ [])
 equal_priorities = record { steps = 80; stops = refl; tells = refl }
 
 -- inner sections: a protected operation calls another
-inner_section : Meaning (program (shared q 1 (codes "set") (three (Work 2) (call (codes "e") (codes "set")) (Work 1)) ∷ shared (codes "e") 2 (codes "set") (one (Work 2))
-    ∷ cyclic (codes "l") 1 0 40 [] (one (call q (codes "set"))) ∷ cyclic (codes "h") 2 7 20 [] (one (call (codes "e") (codes "set"))) ∷ [])) (until 20)
-    (event.Release 0 2 None ∷ event.Enter 2 2 0 0 [] ∷ event.Enter 6 2 1 0 [] ∷ event.Release 7 3 None ∷ event.Leave 8 2 1 0 [] ∷ event.Enter 10 3 1 0 [] ∷ event.Leave 12 3 1 0 []
+inner_section : Meaning (program
+    (shared q 1 (codes "set") (three (Work 2) (call (codes "e") (codes "set")) (Work 1)) ∷ shared (codes "e") 2 (codes "set") (one (Work 2))
+    ∷ cyclic (codes "l") 1 0 40 [] (one (call q (codes "set"))) ∷ cyclic (codes "h") 2 7 20 [] (one (call (codes "e") (codes "set"))) ∷ []))
+    (until 20)
+    (event.Release 0 2 None ∷ event.Enter 2 2 0 0 [] ∷ event.Enter 6 2 1 0 [] ∷ event.Release 7 3 None ∷ event.Leave 8 2 1 0 []
+    ∷ event.Enter 10 3 1 0 [] ∷ event.Leave 12 3 1 0 []
     ∷ event.End 13 3 5 ∷ event.Leave 14 2 0 0 [] ∷ event.End 15 2 10 ∷ event.Horizon 20 ∷ [])
 inner_section = record { steps = 130; stops = refl; tells = refl }
 
 -- a request inside a section
-request_inside : Meaning (program (shared q 1 (codes "set") (one (Call s (codes "start") (Number 7 ∷ []))) ∷ cyclic p 1 0 50 [] (one (call q (codes "set"))) ∷ sporadic s 2 2 50 0 false (one (Work 4)) ∷ [])) (until 15)
-    (event.Release 0 1 None ∷ event.Enter 2 1 0 0 [] ∷ event.Request 6 1 2 (Some 7) ∷ event.Release 6 2 (Some 7) ∷ event.Leave 6 1 0 0 [] ∷ event.End 11 2 5 ∷ event.End 12 1 7 ∷ event.Horizon 15 ∷ [])
+request_inside : Meaning (program
+    (shared q 1 (codes "set") (one (Call s (codes "start") (Number 7 ∷ []))) ∷ cyclic p 1 0 50 [] (one (call q (codes "set")))
+    ∷ sporadic s 2 2 50 0 false (one (Work 4)) ∷ [])) (until 15)
+    (event.Release 0 1 None ∷ event.Enter 2 1 0 0 [] ∷ event.Request 6 1 2 (Some 7) ∷ event.Release 6 2 (Some 7) ∷ event.Leave 6 1 0 0 []
+    ∷ event.End 11 2 5 ∷ event.End 12 1 7 ∷ event.Horizon 15 ∷ [])
 request_inside = record { steps = 100; stops = refl; tells = refl }
 
 -- what may be wrong with arrivals
@@ -185,6 +210,8 @@ background_task : Meaning (program (shared q 2 (codes "set") (one (Work 2))
     ∷ record { name = codes "log"; form = Shared 1 [] (operation (codes "note") (record { name = codes "v"; mode = In } ∷ []) (one (Work 1)) ∷ []) }
     ∷ cyclic (codes "h") 2 0 8 [] (one (call q (codes "set")))
     ∷ cyclic (codes "idle") 1 0 1 [] (two (call q (codes "set")) (Call (codes "log") (codes "note") (Number 1 ∷ []))) ∷ [])) (until 16)
-    (event.Release 0 2 None ∷ event.Release 0 3 None ∷ event.Enter 2 2 0 0 [] ∷ event.Leave 4 2 0 0 [] ∷ event.End 5 2 5 ∷ event.Enter 7 3 0 0 [] ∷ event.Release 8 2 None
-    ∷ event.Leave 9 3 0 0 [] ∷ event.Enter 11 2 0 0 [] ∷ event.Leave 13 2 0 0 [] ∷ event.End 14 2 5 ∷ event.Enter 16 3 1 0 (1 ∷ []) ∷ event.Release 16 2 None ∷ event.Horizon 16 ∷ [])
+    (event.Release 0 2 None ∷ event.Release 0 3 None ∷ event.Enter 2 2 0 0 [] ∷ event.Leave 4 2 0 0 [] ∷ event.End 5 2 5
+    ∷ event.Enter 7 3 0 0 [] ∷ event.Release 8 2 None
+    ∷ event.Leave 9 3 0 0 [] ∷ event.Enter 11 2 0 0 [] ∷ event.Leave 13 2 0 0 [] ∷ event.End 14 2 5 ∷ event.Enter 16 3 1 0 (1 ∷ [])
+    ∷ event.Release 16 2 None ∷ event.Horizon 16 ∷ [])
 background_task = record { steps = 110; stops = refl; tells = refl }

@@ -3,77 +3,33 @@ use Rattle.std.proofs.Common.{◌≡◌, ℕ, Bool, true, false, [], ◌∷◌, 
 use Rattle.std.specs.Prelude.{codes}
 use Rattle.seq_tree.specs.Names.{Name, same_name}
 use Rattle.seq_tree.specs.Statements.{Work}
-use Rattle.seq_tree.specs.declared.tree.OpName.{OpName}
-use Rattle.ods_tree.specs.Designs.{Tree, Node, Design}
+use Rattle.ods_tree.specs.Designs.{Tree}
 use Rattle.ods_tree.specs.Services.{Plain, Request}
-use Rattle.ods_tree.specs.Walk.{Standing, objects, own_of}
+use Rattle.ods_tree.specs.Walk.{objects, own_of}
 use Rattle.ods_tree.specs.declared.design.Kind.TheVariants as kind
-use Rattle.ods_tree.specs.declared.design.AttrKey.TheVariants.{Period, Separation, ThreadBudget}
-use Rattle.ods_tree.proofs.Short.{attr, block, call, cyc_with, spo_with, pro, pas, trees, design, row_costs}
+use Rattle.ods_tree.proofs.Short.{block, call, pas, design, row_costs}
 use Rattle.design_rules.specs.Broken.{V14, V15Cost}
-use Rattle.ods_costs.specs.Costed.{block_in, cap, costed_block, costed_named, costed_ops, dear_parts, gives_operations, gives_request, meant, over_budgets, price, priced, request_in, served_ops, served_part, threads_among}
+use Rattle.ods_costs.specs.Costed.{block_in, cap, costed_block, costed_named, costed_ops, dear_parts, gives_operations, gives_request}
+use Rattle.ods_costs.specs.Costed.{meant, over_budgets, price, priced, request_in, served_ops, served_part, threads_among}
 use Rattle.ods_costs.specs.declared.services.Part.TheVariants as part
-
-abbrev f : OpName
-f = record { object = codes "p"; op = codes "f" }
-
-abbrev g : OpName
-g = record { object = codes "q"; op = codes "g" }
-
-abbrev go : OpName
-go = record { object = codes "s"; op = codes "go" }
-
-abbrev by_root : OpName
-by_root = record { object = codes "r"; op = codes "f" }
-
--- a passive object, a protected one that calls it, a cyclic one that calls both, and a sporadic one; the root hands an operation on
-abbrev passive : Tree
-passive = pas (codes "p") (codes "f") (Work 3 ∷ [])
-
-abbrev guarded : Tree
-guarded = pro (codes "q") (codes "g") (call (codes "p") (codes "f") ∷ [])
-
-abbrev cyclic : Tree
-cyclic = cyc_with (codes "t") (attr Period 100 ∷ attr ThreadBudget 8 ∷ []) [] (call (codes "r") (codes "f") ∷ call (codes "q") (codes "g") ∷ [])
-
-abbrev sporadic : Tree
-sporadic = spo_with (codes "s") (codes "go") (codes "v") (attr Separation 100 ∷ attr ThreadBudget 100 ∷ []) (Work 1 ∷ [])
-
-abbrev root : Tree
-root = Node (record {
-  name = codes "r";
-  kind = kind.Active;
-  attrs = [];
-  provides = (record { sig = record { name = codes "f"; params = [] }; constraint = None } ∷ []);
-  needs = [];
-  vars = [];
-  bodies = [];
-  thread = None;
-  links = (record { op = codes "f"; to = f } ∷ []);
-}) (trees (passive ∷ guarded ∷ cyclic ∷ sporadic ∷ []))
-
-abbrev x : Design
-x = design root
-
-abbrev alone : Tree → Standing
-alone t = record { own = own_of t; parent = None; siblings = own_of t ∷ []; children = [] }
-
-abbrev parent : Tree → Standing
-parent t = record { own = own_of t; parent = None; siblings = own_of t ∷ []; children = own_of passive ∷ [] }
+use Rattle.ods_index.proofs.SmallDesign.{f, g, go, by_root, passive, guarded, cyclic, sporadic, x, alone, parent}
 
 -- the operations that may be called: not that of the root, which has children; a request has no block
 ops : costed_ops x
-    ≡ record { name = f; block = Some (block (Work 3 ∷ [])) } ∷ record { name = g; block = Some (block (call (codes "p") (codes "f") ∷ [])) } ∷ record { name = go; block = None } ∷ []
+    ≡ record { name = f; block = Some (block (Work 3 ∷ [])) } ∷ record { name = g; block = Some (block (call (codes "p") (codes "f") ∷ [])) }
+    ∷ record { name = go; block = None } ∷ []
 ops = refl
 
-plain_block : costed_block Plain (record { sig = record { name = codes "f"; params = [] }; locals = []; block = block (Work 3 ∷ []) }) ≡ Some (block (Work 3 ∷ []))
+plain_block : costed_block Plain (record { sig = record { name = codes "f"; params = [] }; locals = []; block = block (Work 3 ∷ []) })
+    ≡ Some (block (Work 3 ∷ []))
 plain_block = refl
 
 request_block : costed_block Request (record { sig = record { name = codes "f"; params = [] }; locals = []; block = block (Work 3 ∷ []) }) ≡ None
 request_block = refl
 
 -- the first of a name
-first_named : costed_named (record { name = f; block = None } ∷ record { name = f; block = Some (block []) } ∷ []) f ≡ Some (record { name = f; block = None })
+first_named : costed_named (record { name = f; block = None } ∷ record { name = f; block = Some (block []) } ∷ []) f
+    ≡ Some (record { name = f; block = None })
 first_named = refl
 
 none_named : costed_named (costed_ops x) by_root ≡ None

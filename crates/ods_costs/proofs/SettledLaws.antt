@@ -1,5 +1,6 @@
 -- What calls count stays as it is, however deep they are followed, once following them one deeper changed nothing.
-use Rattle.std.proofs.Common.{◌≡◌, ℕ, zero, suc, Bool, true, false, not, ◌||◌, ◌+◌, ◌-◌, ◌≤◌, ◌⊎◌, inl, inr, nat_eq, List, [], ◌∷◌, Option, Some, None, map, arith, refl, ap, sym, ◌∙◌}
+use Rattle.std.proofs.Common.{◌≡◌, ℕ, zero, suc, Bool, true, false, not, ◌||◌, ◌+◌, ◌-◌, ◌≤◌, ◌⊎◌, inl, inr, nat_eq, List, [], ◌∷◌, Option}
+use Rattle.std.proofs.Common.{Some, None, map, arith, refl, ap, sym, ◌∙◌}
 use Rattle.std.specs.Prelude.{min}
 use Rattle.std.specs.List.{list_any}
 use Rattle.seq_tree.specs.Calls.{same_op, block_calls}
@@ -8,7 +9,8 @@ use Rattle.seq_tree.specs.Names.{Name}
 use Rattle.seq_tree.specs.Statements.{Statements}
 use Rattle.seq_tree.specs.declared.tree.OpName.{OpName}
 use Rattle.seq_tree.proofs.Walks.{same_op-eq}
-use Rattle.seq_cost.proofs.Listed.{block-same}
+use Rattle.seq_cost.proofs.CutCosts.{cap-called}
+use Rattle.seq_cost.proofs.Listed.{block-same, each-all}
 use Rattle.seq_cost.specs.Tables.{number_at}
 use Rattle.seq_cost.specs.declared.tables.OpTable.{OpTable}
 use Rattle.ods_tree.specs.Designs.{Design}
@@ -17,8 +19,7 @@ use Rattle.ods_tree.specs.Services.{flat_services}
 use Rattle.analysis.specs.Execution.{cost_within}
 use Rattle.ods_costs.specs.Costed.{AgreesAt, Costed, cap, costed_named, costed_ops, differs, price, priced, served_as}
 use Rattle.ods_costs.specs.declared.services.Served.{Served}
-use Rattle.ods_index.proofs.CapLaws.{cap-called}
-use Rattle.ods_costs.proofs.PriceLaws.{deeper-price, each-all, price_named}
+use Rattle.ods_costs.proofs.PriceLaws.{deeper-price, price_named}
 
 equal : (a b : ℕ) → not (nat_eq a b) ≡ false → a ≡ b
 equal a b h = grind (arith, h)
@@ -27,7 +28,8 @@ equal a b h = grind (arith, h)
 same-or-none : (x : Design) (f g : Name → Name → ℕ) (ss : List Served) (n : OpName) → list_any (differs f g) ss ≡ false
     → (costed_named (map (served_as x) ss) n ≡ None) ⊎ (f n.object n.op ≡ g n.object n.op)
 same-or-none x f g [] n h = inl refl
-same-or-none x f g (s ∷ ss) n h = by (differs f g s) (same_op (record { object = s.object.now; op = s.op.now }) n) refl refl h (same-or-none x f g ss n)
+same-or-none x f g (s ∷ ss) n h =
+    by (differs f g s) (same_op (record { object = s.object.now; op = s.op.now }) n) refl refl h (same-or-none x f g ss n)
   where
     by : (d b : Bool) → differs f g s ≡ d → same_op (record { object = s.object.now; op = s.op.now }) n ≡ b → (d || list_any (differs f g) ss) ≡ false
         → (list_any (differs f g) ss ≡ false → (costed_named (map (served_as x) ss) n ≡ None) ⊎ (f n.object n.op ≡ g n.object n.op))
@@ -35,7 +37,8 @@ same-or-none x f g (s ∷ ss) n h = by (differs f g s) (same_op (record { object
     by true b d e k later = absurd (cc)
     by false true d e k later =
         let is : record { object = s.object.now; op = s.op.now } ≡ n = same_op-eq (record { object = s.object.now; op = s.op.now }) n e in
-        inr (sym (ap (λ (o : OpName). f o.object o.op) is) ∙ equal (f s.object.now s.op.now) (g s.object.now s.op.now) d ∙ ap (λ (o : OpName). g o.object o.op) is)
+        inr (sym (ap (λ (o : OpName). f o.object o.op) is) ∙ equal (f s.object.now s.op.now) (g s.object.now s.op.now) d
+        ∙ ap (λ (o : OpName). g o.object o.op) is)
     by false false d e k later = rw e (later k)
 
 module _ (x : Design) where
@@ -48,7 +51,8 @@ module _ (x : Design) where
   none-priced (suc depth) n e = deeper-price x depth n ∙ ap (λ o. min cap (price_named x (inner depth) o)) e
 
   -- blocks whose calls count the same, cut
-  cut-same : (f g : Name → Name → ℕ) (b : Statements) → ((n : OpName) → min cap (f n.object n.op) ≡ min cap (g n.object n.op)) → min cap (cost x.costs f b) ≡ min cap (cost x.costs g b)
+  cut-same : (f g : Name → Name → ℕ) (b : Statements) → ((n : OpName) → min cap (f n.object n.op) ≡ min cap (g n.object n.op))
+      → min cap (cost x.costs f b) ≡ min cap (cost x.costs g b)
   cut-same f g b same =
       cap-called cap x.costs (λ ticks. ticks) f b
       ∙ ap (min cap) (block-same x.costs (λ ticks. ticks) (λ object op. min cap (f object op)) (λ object op. min cap (g object op)) b
@@ -56,7 +60,8 @@ module _ (x : Design) where
       ∙ sym (cap-called cap x.costs (λ ticks. ticks) g b)
 
   -- one deeper still
-  still-one : (depth : ℕ) → ((n : OpName) → priced x depth n ≡ priced x (suc depth) n) → (n : OpName) → priced x (suc depth) n ≡ priced x (suc (suc depth)) n
+  still-one : (depth : ℕ) → ((n : OpName) → priced x depth n ≡ priced x (suc depth) n) → (n : OpName) → priced x (suc depth) n
+      ≡ priced x (suc (suc depth)) n
   still-one depth same n = deeper-price x depth n ∙ by (costed_named (costed_ops x) n) ∙ sym (deeper-price x (suc depth) n)
     where
       of : (b : Option Statements) → min cap (price x.costs (inner depth) b) ≡ min cap (price x.costs (inner (suc depth)) b)
@@ -68,17 +73,21 @@ module _ (x : Design) where
       by (Some c) = of c.block
 
   -- any depth more
-  settled : (more depth : ℕ) → ((n : OpName) → priced x depth n ≡ priced x (suc depth) n) → (n : OpName) → priced x depth n ≡ priced x (more + depth) n
+  settled : (more depth : ℕ) → ((n : OpName) → priced x depth n ≡ priced x (suc depth) n) → (n : OpName) → priced x depth n
+      ≡ priced x (more + depth) n
   settled zero depth same n = ap (λ d. priced x d n) (omega arith)
   settled (suc more) depth same n = same n ∙ settled more (suc depth) (still-one depth same) n ∙ ap (λ d. priced x d n) (omega arith)
 
   -- a table that following calls one deeper doesn't change is that of any depth more
   pub settled-table : (depth whole : ℕ) (known next : OpTable ℕ) (ss : List Served) → map (served_as x) ss ≡ costed_ops x → depth ≤ whole
-      → AgreesAt x depth known → AgreesAt x (suc depth) next → list_any (differs (number_at known) (number_at next)) ss ≡ false → AgreesAt x whole known
+      → AgreesAt x depth known → AgreesAt x (suc depth) next → list_any (differs (number_at known) (number_at next)) ss ≡ false
+      → AgreesAt x whole known
   settled-table depth whole known next ss all deep now after same n =
       let one : (m : OpName) → priced x depth m ≡ priced x (suc depth) m = λ m. by m (same-or-none x (number_at known) (number_at next) ss m same) in
       now n ∙ settled (whole - depth) depth one n ∙ ap (λ d. priced x d n) (omega (arith, deep))
     where
-      by : (m : OpName) → (costed_named (map (served_as x) ss) m ≡ None) ⊎ (number_at known m.object m.op ≡ number_at next m.object m.op) → priced x depth m ≡ priced x (suc depth) m
-      by m (inl e) = let gone : costed_named (costed_ops x) m ≡ None = ap (λ cs. costed_named cs m) (sym all) ∙ e in none-priced depth m gone ∙ sym (none-priced (suc depth) m gone)
+      by : (m : OpName) → (costed_named (map (served_as x) ss) m ≡ None) ⊎ (number_at known m.object m.op ≡ number_at next m.object m.op)
+          → priced x depth m ≡ priced x (suc depth) m
+      by m (inl e) = let gone : costed_named (costed_ops x) m ≡ None = ap (λ cs. costed_named cs m) (sym all) ∙ e in none-priced depth m gone
+          ∙ sym (none-priced (suc depth) m gone)
       by m (inr e) = sym (now m) ∙ e ∙ after m

@@ -1,5 +1,6 @@
 -- Threads counted object by object, and what is too dear of a design object by object.
-use Rattle.std.proofs.Common.{◌≡◌, ℕ, suc, Bool, true, false, ◌&&◌, List, [], ◌∷◌, ◌++◌, Option, Some, None, filter, flat_map, length, Result, refl, ap, sym, subst, ◌∙◌}
+use Rattle.std.proofs.Common.{◌≡◌, ℕ, suc, Bool, true, false, ◌&&◌, List, [], ◌∷◌, ◌++◌, Option, Some, None, filter, flat_map, length}
+use Rattle.std.proofs.Common.{Result, refl, ap, sym, subst, ◌∙◌}
 use Rattle.std.specs.Prelude.{filter_map, option_to_list, option_and_then}
 use Rattle.ods_tree.specs.Designs.{Design}
 use Rattle.ods_tree.specs.Ticks.{stated_priorities}
@@ -13,16 +14,19 @@ use Rattle.ods_index.specs.declared.broken.Broken as code
 use Rattle.ods_index.proofs.TellSteps.{head_later}
 
 -- one object more, that runs by a thread
-pub thread-more : (s : Standing) (ss : List Standing) → (is_terminal s && has_thread s.own.kind) ≡ true → length (threads_among (s ∷ ss)) ≡ suc (length (threads_among ss))
+pub thread-more : (s : Standing) (ss : List Standing) → (is_terminal s && has_thread s.own.kind) ≡ true → length (threads_among (s ∷ ss))
+    ≡ suc (length (threads_among ss))
 thread-more s ss e = by (is_terminal s) (has_thread s.own.kind) refl refl e
   where
-    by : (t h : Bool) → is_terminal s ≡ t → has_thread s.own.kind ≡ h → (t && h) ≡ true → length (threads_among (s ∷ ss)) ≡ suc (length (threads_among ss))
+    by : (t h : Bool) → is_terminal s ≡ t → has_thread s.own.kind ≡ h → (t && h) ≡ true → length (threads_among (s ∷ ss))
+        ≡ suc (length (threads_among ss))
     by false h t e k = absurd (cc)
     by true false t e k = absurd (cc)
     by true true t e k = rw (t, e) refl
 
 -- and one that doesn't
-pub thread-none : (s : Standing) (ss : List Standing) → (is_terminal s && has_thread s.own.kind) ≡ false → length (threads_among (s ∷ ss)) ≡ length (threads_among ss)
+pub thread-none : (s : Standing) (ss : List Standing) → (is_terminal s && has_thread s.own.kind) ≡ false → length (threads_among (s ∷ ss))
+    ≡ length (threads_among ss)
 thread-none s ss e = by (is_terminal s) (has_thread s.own.kind) refl refl e
   where
     by : (t h : Bool) → is_terminal s ≡ t → has_thread s.own.kind ≡ h → (t && h) ≡ false → length (threads_among (s ∷ ss)) ≡ length (threads_among ss)
@@ -34,7 +38,8 @@ bodies-split : {A B : Type 0} (f : A → Option B) (xs : List A) → filter_map 
 bodies-split f [] = refl
 bodies-split {A = A} {B = B} f (a ∷ xs) = by (f a) refl (bodies-split f xs)
   where
-    by : (o : Option B) → f a ≡ o → filter_map f xs ≡ flat_map (λ c. option_to_list (f c)) xs → filter_map f (a ∷ xs) ≡ flat_map (λ c. option_to_list (f c)) (a ∷ xs)
+    by : (o : Option B) → f a ≡ o → filter_map f xs ≡ flat_map (λ c. option_to_list (f c)) xs → filter_map f (a ∷ xs)
+        ≡ flat_map (λ c. option_to_list (f c)) (a ∷ xs)
     by None e h = rw e h
     by (Some b) e h = rw e (ap (λ l. b ∷ l) h)
 
@@ -48,13 +53,16 @@ thread-split {A = A} {B = B} f (Some a) = by (f a) refl
 
 -- what is too dear goes object by object
 pub dear-split : (x : Design) (ss : List Standing)
-    → flat_map (λ s. filter_map (dear_body x s.own) s.own.bodies ++ filter_map (dear_thread x s.own) (option_to_list s.own.thread)) (filter is_terminal ss) ≡ flat_map (dear_parts x) ss
+    → flat_map (λ s. filter_map (dear_body x s.own) s.own.bodies ++ filter_map (dear_thread x s.own) (option_to_list s.own.thread))
+    (filter is_terminal ss) ≡ flat_map (dear_parts x) ss
 dear-split x [] = refl
 dear-split x (s ∷ ss) = by (is_terminal s) refl (dear-split x ss)
   where
     by : (t : Bool) → is_terminal s ≡ t
-        → flat_map (λ s. filter_map (dear_body x s.own) s.own.bodies ++ filter_map (dear_thread x s.own) (option_to_list s.own.thread)) (filter is_terminal ss) ≡ flat_map (dear_parts x) ss
-        → flat_map (λ s. filter_map (dear_body x s.own) s.own.bodies ++ filter_map (dear_thread x s.own) (option_to_list s.own.thread)) (filter is_terminal (s ∷ ss)) ≡ flat_map (dear_parts x) (s ∷ ss)
+        → flat_map (λ s. filter_map (dear_body x s.own) s.own.bodies ++ filter_map (dear_thread x s.own) (option_to_list s.own.thread))
+        (filter is_terminal ss) ≡ flat_map (dear_parts x) ss
+        → flat_map (λ s. filter_map (dear_body x s.own) s.own.bodies ++ filter_map (dear_thread x s.own) (option_to_list s.own.thread))
+        (filter is_terminal (s ∷ ss)) ≡ flat_map (dear_parts x) (s ∷ ss)
     by false t h = rw t h
     by true t h = rw (t, bodies-split (dear_body x s.own) s.own.bodies, thread-split (dear_thread x s.own) s.own.thread, h) refl
 
@@ -65,14 +73,19 @@ pub sizes-told : (x y : Design) (ss : List Standing) (count : ℕ) (answer : Res
     → Tells answer (head_of (flat_map (dear_parts y) ss)) → Tells answer (head_of (bad_sizes x))
 sizes-told x y ss count answer same all counted threads many h =
     let costs : Design → List Standing → List Broken = λ z vs. flat_map (dear_parts z) vs in
-    let dear : List Broken = flat_map (λ s. filter_map (dear_body x s.own) s.own.bodies ++ filter_map (dear_thread x s.own) (option_to_list s.own.thread)) (filter is_terminal (objects x)) in
-    let first : List Standing → List Broken = λ vs. over_limit (thread_limit (stated_priorities x)) (length (threads_among vs)) (V15Threads (length (threads_among vs))) in
+    let dear : List Broken = flat_map
+    (λ s. filter_map (dear_body x s.own) s.own.bodies ++ filter_map (dear_thread x s.own) (option_to_list s.own.thread))
+    (filter is_terminal (objects x)) in
+    let first : List Standing
+    → List Broken = λ vs. over_limit (thread_limit (stated_priorities x)) (length (threads_among vs)) (V15Threads (length (threads_among vs))) in
     let second : ℕ → List Broken = λ n. over_limit 500 n (V15Objects n) in
     let no-threads : head_of (first (objects x)) ≡ None = ap (λ vs. head_of (first vs)) (sym all) ∙ threads in
-    let not-many : head_of (second (length (objects x))) ≡ None = ap (λ n. head_of (second n)) (sym (counted ∙ ap (λ (vs : List Standing). length vs) all)) ∙ many in
+    let not-many : head_of (second (length (objects x)))
+    ≡ None = ap (λ n. head_of (second n)) (sym (counted ∙ ap (λ (vs : List Standing). length vs) all)) ∙ many in
     let path : head_of (costs y ss) ≡ head_of (bad_sizes x) =
     ap (λ z. head_of (costs z ss)) same ∙ ap (λ vs. head_of (costs x vs)) all ∙ ap head_of (sym (dear-split x (objects x)))
-    ∙ sym (head_later (second (length (objects x))) dear not-many) ∙ sym (head_later (first (objects x)) (second (length (objects x)) ++ dear) no-threads) in
+    ∙ sym (head_later (second (length (objects x))) dear not-many)
+    ∙ sym (head_later (first (objects x)) (second (length (objects x)) ++ dear) no-threads) in
     subst (λ w. Tells answer w) path h
 
 pub ruleset thread_steps = (thread-more, thread-none)

@@ -1,6 +1,7 @@
 -- What the costs of operations are worked out from: each that may be called, by its name and its block; a request has none.
 -- Costs are cut at one tick over the greatest.
-use Rattle.std.specs.Prelude.{◌++◌, flat_map, ◌≡◌, ℕ, ◌*◌, Bool, ◌&&◌, false, not, nat_eq, List, [], Option, Some, None, option_map, option_and_then, option_to_list, min, map, filter, filter_map, find, if◌then◌else◌}
+use Rattle.std.specs.Prelude.{◌++◌, flat_map, ◌≡◌, ℕ, ◌*◌, Bool, ◌&&◌, false, not, nat_eq, List, [], Option, Some, None, option_map}
+use Rattle.std.specs.Prelude.{option_and_then, option_to_list, min, map, filter, filter_map, find, if◌then◌else◌}
 use Rattle.seq_tree.specs.Names.{Name}
 use Rattle.seq_tree.specs.Calls.{same_op}
 use Rattle.seq_tree.specs.Statements.{Statements}
@@ -82,7 +83,8 @@ AgreesAt x depth t = (n : OpName) → number_at t n.object n.op ≡ priced x dep
 -- the operations of these that an object provides, by their blocks
 abbrev pub served_ops : Design → Name → (Name → Option Statements) → List Provided → List Costed
 served_ops x object block ps =
-    filter_map (λ p. option_map (λ b. record { name = record { object = object; op = p.sig.name }; block = Some (resolved x b) }) (block p.sig.name)) ps
+    filter_map (λ p. option_map (λ b. record { name = record { object = object; op = p.sig.name }; block = Some (resolved x b) })
+    (block p.sig.name)) ps
 
 -- the block of an operation of an object
 abbrev pub block_in : Object → Name → Option Statements
@@ -91,7 +93,9 @@ block_in o op = option_map (λ b. b.block) (body_named op o.bodies)
 -- the request of an object with a thread, where it provides an operation
 abbrev pub request_in : Object → List Costed
 request_in o =
-    option_to_list (option_and_then (λ (sig : Signature). option_map (λ b. record { name = record { object = o.name; op = sig.name }; block = None }) o.thread) (request_op o.provides))
+    option_to_list (option_and_then
+    (λ (sig : Signature). option_map (λ b. record { name = record { object = o.name; op = sig.name }; block = None }) o.thread)
+    (request_op o.provides))
 
 -- whether an object of a kind gives its operations to a part
 abbrev pub gives_operations : Part → Kind → Bool
@@ -109,7 +113,8 @@ gives_request Requests kind = is_sporadic kind
 abbrev pub served_part : Design → Part → Standing → List Costed
 served_part x part s =
     if is_terminal s
-    then (if gives_operations part s.own.kind then served_ops x s.own.name (block_in s.own) s.own.provides else if gives_request part s.own.kind then request_in s.own else [])
+    then (if gives_operations part s.own.kind then served_ops x s.own.name (block_in s.own) s.own.provides
+    else if gives_request part s.own.kind then request_in s.own else [])
     else []
 
 -- the threads over their budgets among those of an object
@@ -126,4 +131,5 @@ dear_bodies x o b = option_to_list (dear_body x o b)
 
 -- what is too dear of an object: the bodies of its operations, then its thread
 abbrev pub dear_parts : Design → Standing → List Broken
-dear_parts x s = if is_terminal s then flat_map (dear_bodies x s.own) s.own.bodies ++ option_to_list (option_and_then (dear_thread x s.own) s.own.thread) else []
+dear_parts x s =
+    if is_terminal s then flat_map (dear_bodies x s.own) s.own.bodies ++ option_to_list (option_and_then (dear_thread x s.own) s.own.thread) else []

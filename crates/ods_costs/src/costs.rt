@@ -46,7 +46,9 @@ fn account_of<'a>(
     known: &OpTable<'a, u32>,
     calls: &[Call<'a>],
 ) -> Result<OpTable<'a, u32>, NoMemory>
-    ensures { IfOk result (λ t. (n : OpName) → at t n ≡ (if list_any (λ c. same_op c n) (map call_of calls.entry.now) then Some (meant (design_of links.now.design.now) (number_at known.now) n.object n.op) else None)) }
+    ensures { IfOk result (λ t. (n : OpName) → at t n
+        ≡ (if list_any (λ c. same_op c n) (map call_of calls.entry.now)
+        then Some (meant (design_of links.now.design.now) (number_at known.now) n.object n.op) else None)) }
 {
     let mut account = OpTable::new(alloc);
     'calls: for call in calls {
@@ -63,7 +65,9 @@ fn ticks_of<'a>(
     known: &OpTable<'a, u32>,
     block: &'a Block,
 ) -> Result<u32, NoMemory>
-    ensures { IfOk result (λ n. n ≡ min cap (cost (design_of links.now.design.now).costs (meant (design_of links.now.design.now) (number_at known.now)) (block_of block.entry.now))) }
+    ensures { IfOk result (λ n. n
+        ≡ min cap (cost (design_of links.now.design.now).costs (meant (design_of links.now.design.now) (number_at known.now))
+        (block_of block.entry.now))) }
 {
     let calls = written_calls(alloc, block)?;
     let account = account_of(alloc, links, known, calls.as_slice())?;
@@ -78,7 +82,9 @@ fn price_of<'a>(
     served: &Served<'a>,
 ) -> Result<u32, NoMemory>
     ensures { IfOk result (λ n. (depth : ℕ) → AgreesAt (design_of links.now.design.now) depth known.now
-        → n ≡ min cap (price (design_of links.now.design.now).costs (cost_within depth (design_of links.now.design.now).costs (flat_services (flat (design_of links.now.design.now)))) (served_as (design_of links.now.design.now) served.entry.now).block)) }
+        → n ≡ min cap (price (design_of links.now.design.now).costs
+        (cost_within depth (design_of links.now.design.now).costs (flat_services (flat (design_of links.now.design.now))))
+        (served_as (design_of links.now.design.now) served.entry.now).block)) }
 {
     match served.block {
         None => Ok(CAP.min(2 * u64::from(links.design.costs.assign)) as u32),
@@ -94,7 +100,8 @@ fn deeper<'a>(
     known: &OpTable<'a, u32>,
 ) -> Result<OpTable<'a, u32>, NoMemory>
     requires { map (served_as (design_of links.now.design.now)) services.now ≡ costed_ops (design_of links.now.design.now) }
-    ensures { IfOk result (λ t. (depth : ℕ) → AgreesAt (design_of links.now.design.now) depth known.now → AgreesAt (design_of links.now.design.now) (suc depth) t) }
+    ensures { IfOk result (λ t. (depth : ℕ) → AgreesAt (design_of links.now.design.now) depth known.now
+        → AgreesAt (design_of links.now.design.now) (suc depth) t) }
 {
     let mut prices = OpTable::new(alloc);
     'services: for served in services {
@@ -157,7 +164,8 @@ fn firsts_of<'a>(
     alloc: Global,
     services: &[Served<'a>],
 ) -> Result<OpTable<'a, Served<'a>>, NoMemory>
-    ensures { IfOk result (λ t. (x : DesignTree) (n : OpName) → option_map (served_as x) (at t n) ≡ costed_named (map (served_as x) services.entry.now) n) }
+    ensures { IfOk result (λ t. (x : DesignTree) (n : OpName) → option_map (served_as x) (at t n)
+        ≡ costed_named (map (served_as x) services.entry.now) n) }
 {
     let mut firsts = OpTable::new(alloc);
     'services: for served in services {
@@ -209,7 +217,8 @@ fn lacks_callee<'a>(
     known: &OpTable<'a, u32>,
     block: &'a Block,
 ) -> Result<bool, NoMemory>
-    ensures { IfOk result (λ b. b ≡ list_any (is_unpriced (design_of links.now.design.now) firsts.now known.now) (block_calls (block_of block.entry.now))) }
+    ensures { IfOk result (λ b. b
+        ≡ list_any (is_unpriced (design_of links.now.design.now) firsts.now known.now) (block_calls (block_of block.entry.now))) }
 {
     let calls = written_calls(alloc, block)?;
     Ok(any_unpriced(links, firsts, known, calls.as_slice()))
@@ -224,7 +233,8 @@ fn block_price<'a>(
     block: &'a Block,
 ) -> Result<Option<u32>, NoMemory>
     requires { HasFirsts (design_of links.now.design.now) firsts.now }
-    ensures { IfOk result (λ o. IfSome o (λ n. (from : ℕ) → IsSettled (design_of links.now.design.now) from known.now → Stays (design_of links.now.design.now) from (Some (resolved (design_of links.now.design.now) (block_of block.entry.now))) n)) }
+    ensures { IfOk result (λ o. IfSome o (λ n. (from : ℕ) → IsSettled (design_of links.now.design.now) from known.now
+        → Stays (design_of links.now.design.now) from (Some (resolved (design_of links.now.design.now) (block_of block.entry.now))) n)) }
 {
     let lacks = lacks_callee(alloc, links, firsts, known, block)?;
     if lacks {
@@ -243,7 +253,8 @@ fn settled_price<'a>(
     served: &Served<'a>,
 ) -> Result<Option<u32>, NoMemory>
     requires { HasFirsts (design_of links.now.design.now) firsts.now }
-    ensures { IfOk result (λ o. IfSome o (λ n. (from : ℕ) → IsSettled (design_of links.now.design.now) from known.now → Stays (design_of links.now.design.now) from (served_as (design_of links.now.design.now) served.entry.now).block n)) }
+    ensures { IfOk result (λ o. IfSome o (λ n. (from : ℕ) → IsSettled (design_of links.now.design.now) from known.now
+        → Stays (design_of links.now.design.now) from (served_as (design_of links.now.design.now) served.entry.now).block n)) }
 {
     match served.block {
         None => Ok(Some(CAP.min(2 * u64::from(links.design.costs.assign)) as u32)),
@@ -261,8 +272,10 @@ fn put_first<'a>(
     known: &mut OpTable<'a, u32>,
 ) -> Result<(), NoMemory>
     requires firsts { HasFirsts (design_of links.now.design.now) firsts.now }
-    requires first { costed_named (costed_ops (design_of links.now.design.now)) (served_name named.now) ≡ Some (served_as (design_of links.now.design.now) first.now) }
-    ensures { OnOk result ((from : ℕ) → IsSettled (design_of links.now.design.now) from known.old → IsSettled (design_of links.now.design.now) (from + 1) known.new) }
+    requires first { costed_named (costed_ops (design_of links.now.design.now)) (served_name named.now)
+        ≡ Some (served_as (design_of links.now.design.now) first.now) }
+    ensures { OnOk result ((from : ℕ) → IsSettled (design_of links.now.design.now) from known.old
+        → IsSettled (design_of links.now.design.now) (from + 1) known.new) }
 {
     let price = settled_price(alloc, links, firsts, known, first)?;
     match price {
@@ -283,7 +296,8 @@ fn put_named<'a>(
     known: &mut OpTable<'a, u32>,
 ) -> Result<(), NoMemory>
     requires { HasFirsts (design_of links.now.design.now) firsts.now }
-    ensures { OnOk result ((from : ℕ) → IsSettled (design_of links.now.design.now) from known.old → IsSettled (design_of links.now.design.now) (from + 1) known.new) }
+    ensures { OnOk result ((from : ℕ) → IsSettled (design_of links.now.design.now) from known.old
+        → IsSettled (design_of links.now.design.now) (from + 1) known.new) }
 {
     match firsts.get(named.object, named.op) {
         None => Ok(()),
@@ -301,7 +315,8 @@ fn put_price<'a>(
     known: &mut OpTable<'a, u32>,
 ) -> Result<(), NoMemory>
     requires { HasFirsts (design_of links.now.design.now) firsts.now }
-    ensures { OnOk result ((from : ℕ) → IsSettled (design_of links.now.design.now) from known.old → IsSettled (design_of links.now.design.now) (from + 1) known.new) }
+    ensures { OnOk result ((from : ℕ) → IsSettled (design_of links.now.design.now) from known.old
+        → IsSettled (design_of links.now.design.now) (from + 1) known.new) }
 {
     match services.get(place) {
         None => Ok(()),

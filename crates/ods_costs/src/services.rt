@@ -61,7 +61,8 @@ fn blocks_of<'a>(
     object: &'a Name,
     bodies: &'a [OpBody],
 ) -> Result<OpTable<'a, &'a Block>, NoMemory>
-    ensures { IfOk result (λ t. (op : NameTree) → option_map (λ b. block_of b.now) (at t (record { object = object.entry.now; op = op })) ≡ option_map (λ b. b.block) (body_named op (map body_of bodies.entry.now))) }
+    ensures { IfOk result (λ t. (op : NameTree) → option_map (λ b. block_of b.now) (at t (record { object = object.entry.now; op = op }))
+        ≡ option_map (λ b. b.block) (body_named op (map body_of bodies.entry.now))) }
 {
     let mut blocks = OpTable::new(alloc);
     'bodies: for body in bodies {
@@ -79,7 +80,10 @@ fn add_operation<'a>(
     blocks: &OpTable<'a, &'a Block>,
     into: &mut Vec<Served<'a>>,
 ) -> Result<(), NoMemory>
-    ensures { IfOk result (λ _. (x : DesignTree) → map (served_as x) into.new.items ≡ map (served_as x) into.old.items ++ served_ops x object.entry.now (λ op. option_map (λ b. block_of b.now) (at blocks.now (record { object = object.entry.now; op = op }))) (provided_of provided.entry.now ∷ [])) }
+    ensures { IfOk result (λ _. (x : DesignTree) → map (served_as x) into.new.items ≡ map (served_as x) into.old.items
+        ++ served_ops x object.entry.now
+        (λ op. option_map (λ b. block_of b.now) (at blocks.now (record { object = object.entry.now; op = op }))) (provided_of provided.entry.now
+        ∷ [])) }
 {
     match blocks.get(object, &provided.sig.name) {
         None => Ok(()),
@@ -101,7 +105,10 @@ fn add_operations<'a>(
     blocks: &OpTable<'a, &'a Block>,
     into: &mut Vec<Served<'a>>,
 ) -> Result<(), NoMemory>
-    ensures { IfOk result (λ _. (x : DesignTree) → map (served_as x) into.new.items ≡ map (served_as x) into.old.items ++ served_ops x object.entry.now (λ op. option_map (λ b. block_of b.now) (at blocks.now (record { object = object.entry.now; op = op }))) (map provided_of provides.entry.now)) }
+    ensures { IfOk result (λ _. (x : DesignTree) → map (served_as x) into.new.items ≡ map (served_as x) into.old.items
+        ++ served_ops x object.entry.now
+        (λ op. option_map (λ b. block_of b.now) (at blocks.now (record { object = object.entry.now; op = op })))
+        (map provided_of provides.entry.now)) }
 {
     'provides: for provided in provides {
         add_operation(object, provided, blocks, into)?;
@@ -111,7 +118,8 @@ fn add_operations<'a>(
 
 /// Adds the request of a sporadic object, where it has a thread.
 fn add_request<'a>(node: &'a Node, into: &mut Vec<Served<'a>>) -> Result<(), NoMemory>
-    ensures { IfOk result (λ _. (x : DesignTree) → map (served_as x) into.new.items ≡ map (served_as x) into.old.items ++ request_in (object_of node.entry.now)) }
+    ensures { IfOk result (λ _. (x : DesignTree) → map (served_as x) into.new.items ≡ map (served_as x) into.old.items
+        ++ request_in (object_of node.entry.now)) }
 {
     if node.thread.is_none() {
         return Ok(());
@@ -131,7 +139,8 @@ fn add_request<'a>(node: &'a Node, into: &mut Vec<Served<'a>>) -> Result<(), NoM
 
 /// Adds the operations that an object provides and has bodies for.
 fn add_own<'a>(alloc: Global, node: &'a Node, into: &mut Vec<Served<'a>>) -> Result<(), NoMemory>
-    ensures { IfOk result (λ _. (x : DesignTree) → map (served_as x) into.new.items ≡ map (served_as x) into.old.items ++ served_ops x (object_of node.entry.now).name (block_in (object_of node.entry.now)) (object_of node.entry.now).provides) }
+    ensures { IfOk result (λ _. (x : DesignTree) → map (served_as x) into.new.items ≡ map (served_as x) into.old.items
+        ++ served_ops x (object_of node.entry.now).name (block_in (object_of node.entry.now)) (object_of node.entry.now).provides) }
 {
     let blocks = blocks_of(alloc, &node.name, node.bodies.as_slice())?;
     add_operations(&node.name, node.provides.as_slice(), &blocks, into)
@@ -144,7 +153,8 @@ fn add_object<'a>(
     standing: &Standing<'a>,
     into: &mut Vec<Served<'a>>,
 ) -> Result<(), NoMemory>
-    ensures { IfOk result (λ _. (x : DesignTree) → map (served_as x) into.new.items ≡ map (served_as x) into.old.items ++ served_part x part (standing_of standing.entry.now)) }
+    ensures { IfOk result (λ _. (x : DesignTree) → map (served_as x) into.new.items ≡ map (served_as x) into.old.items
+        ++ served_part x part (standing_of standing.entry.now)) }
 {
     let node = standing.node;
     if !is_terminal(node) {
@@ -166,7 +176,8 @@ fn add_part<'a>(
     objects: &[Standing<'a>],
     into: &mut Vec<Served<'a>>,
 ) -> Result<(), NoMemory>
-    ensures { IfOk result (λ _. (x : DesignTree) → map (served_as x) into.new.items ≡ map (served_as x) into.old.items ++ flat_map (served_part x part) (map standing_of objects.entry.now)) }
+    ensures { IfOk result (λ _. (x : DesignTree) → map (served_as x) into.new.items ≡ map (served_as x) into.old.items
+        ++ flat_map (served_part x part) (map standing_of objects.entry.now)) }
 {
     'objects: for standing in objects {
         add_object(alloc, part, standing, into)?;
@@ -179,7 +190,10 @@ pub(crate) fn services_of<'a>(
     alloc: Global,
     objects: &[Standing<'a>],
 ) -> Result<Vec<Served<'a>>, NoMemory>
-    ensures { IfOk result (λ v. (x : DesignTree) → map (served_as x) v.items ≡ flat_map (served_part x Plain) (map standing_of objects.entry.now) ++ (flat_map (served_part x Guarded) (map standing_of objects.entry.now) ++ flat_map (served_part x Requests) (map standing_of objects.entry.now))) }
+    ensures { IfOk result (λ v. (x : DesignTree) → map (served_as x) v.items
+        ≡ flat_map (served_part x Plain) (map standing_of objects.entry.now)
+        ++ (flat_map (served_part x Guarded) (map standing_of objects.entry.now)
+        ++ flat_map (served_part x Requests) (map standing_of objects.entry.now))) }
 {
     let mut services = Vec::new(alloc);
     add_part(alloc, Part::Plain, objects, &mut services)?;

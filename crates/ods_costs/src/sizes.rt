@@ -70,7 +70,9 @@ fn thread_count(objects: &[Standing<'_>]) -> usize
 /// Tells threads that are more than there may be.
 fn threads_fit(objects: &[Standing<'_>], limit: u64) -> Result<(), Broken>
     requires { length objects.now < 4294967296 }
-    ensures { Tells result (head_of (over_limit limit (length (threads_among (map standing_of objects.entry.now))) (V15Threads (length (threads_among (map standing_of objects.entry.now)))))) }
+    ensures { Tells result (head_of
+        (over_limit limit (length (threads_among (map standing_of objects.entry.now)))
+        (V15Threads (length (threads_among (map standing_of objects.entry.now)))))) }
 {
     let count = thread_count(objects);
     if limit < count as u64 {
@@ -140,7 +142,8 @@ fn bodies_fit<'a>(
     node: &'a Node,
     bodies: &'a [OpBody],
 ) -> Result<(), Broken>
-    ensures { Tells result (head_of (flat_map (dear_bodies (design_of priced.now.links.design.now) (object_of node.entry.now)) (map body_of bodies.entry.now))) }
+    ensures { Tells result (head_of
+        (flat_map (dear_bodies (design_of priced.now.links.design.now) (object_of node.entry.now)) (map body_of bodies.entry.now))) }
 {
     'bodies: for body in bodies {
         body_fits(alloc, priced, node, body)?;

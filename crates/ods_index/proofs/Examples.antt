@@ -1,22 +1,17 @@
 -- What the definitions hold of, and what breaks each alone.
 use Rattle.std.proofs.Common.{◌≡◌, true, false, [], ◌∷◌, Some, None, Ok, Err, refl, arith, ℕ, zero, suc}
-use Rattle.ods_tree.specs.Designs.{Tree}
 use Rattle.design_rules.specs.Broken.{V17Tick, V17Priorities, V15Threads}
 use Rattle.design_rules.specs.Rules.{IsListed}
 use Rattle.ods_index.specs.Judging.{Tells, Judges, IsFirstOffender, IsTold, IsToldFirst, head_of}
 use Rattle.ods_index.specs.Tables.{place_from}
 use Rattle.std.specs.Prelude.{codes}
-use Rattle.seq_tree.specs.Statements.{Work}
 use Rattle.ods_tree.specs.Walk.{own_of}
-use Rattle.ods_tree.proofs.Short.{pas, group}
+use Rattle.ods_tree.proofs.Short.{group}
 use Rattle.ods_index.specs.Told.{is_memory, told_of}
 use Rattle.ods_index.specs.Walking.{inside}
-use Rattle.seq_tree.specs.declared.tree.OpName.{OpName}
 use Rattle.ods_index.specs.OpPlaces.{op_place_from, own_ops}
 use Rattle.ods_index.specs.declared.broken.Broken.TheVariants as code
-
-abbrev passive : Tree
-passive = pas (codes "p") (codes "f") (Work 3 ∷ [])
+use Rattle.ods_index.proofs.SmallDesign.{f, g, go, passive}
 
 -- of two with one name the first is found, and none of a name that is not there
 first_of_two : place_from 0 (98 ∷ []) ((97 ∷ []) ∷ (98 ∷ []) ∷ (98 ∷ []) ∷ []) ≡ Some 1
@@ -91,15 +86,6 @@ inside_none : inside passive ≡ []
 inside_none = refl
 
 -- the first operation of a name has its place
-abbrev f : OpName
-f = record { object = codes "p"; op = codes "f" }
-
-abbrev g : OpName
-g = record { object = codes "q"; op = codes "g" }
-
-abbrev go : OpName
-go = record { object = codes "s"; op = codes "go" }
-
 places : op_place_from 0 (f ∷ g ∷ g ∷ []) g ≡ Some 1
 places = refl
 

@@ -5,4 +5,4 @@ pub mod LinkLaws
 pub mod RequiredSteps
 pub mod TellSteps
 pub mod AccountSteps
-pub mod CapLaws
+pub mod SmallDesign

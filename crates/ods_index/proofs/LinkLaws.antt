@@ -1,5 +1,6 @@
 -- Objects kept at places, tables of the places of their names, and what a name leads to through them.
-use Rattle.std.proofs.Common.{◌≡◌, ◌++◌, ℕ, zero, suc, Bool, true, false, cond, List, [], ◌∷◌, map, length, Option, Some, None, option_map, option_and_then, unwrap_or, if◌then◌else◌, refl, sym, ap, subst, ◌∙◌}
+use Rattle.std.proofs.Common.{◌≡◌, ◌++◌, ℕ, zero, suc, Bool, true, false, cond, List, [], ◌∷◌, map, length, Option, Some, None, option_map}
+use Rattle.std.proofs.Common.{option_and_then, unwrap_or, if◌then◌else◌, refl, sym, ap, subst, ◌∙◌}
 use Rattle.std.specs.List.{slice_get}
 use Rattle.std.specs.Ordering.{is_eq, nat_cmp}
 use Rattle.std.specs.Cmp.Lexicographic.{slice_cmp}
@@ -21,11 +22,13 @@ use Rattle.ods_index.specs.Linked.{by_links}
 use Rattle.ods_index.specs.Scoped.{AreChildren, AreNamed, Covers, Finds, Keeps, child_named, inner_of, meaning_at, scope_trees}
 
 -- one operation more
-then_cond : {A B : Type 0} (f : A → Option B) (b : Bool) (a : A) (o : Option A) → option_and_then f (cond b (Some a) o) ≡ cond b (f a) (option_and_then f o)
+then_cond : {A B : Type 0} (f : A → Option B) (b : Bool) (a : A) (o : Option A) → option_and_then f (cond b (Some a) o)
+    ≡ cond b (f a) (option_and_then f o)
 then_cond f true a o = refl
 then_cond f false a o = refl
 
-pub meaning_put : {A B : Type 0} (f : A → B) (key op n : Name) (meant : Option A) (old new : Option (Option A)) → key ≡ op → new ≡ cond (is_eq (slice_cmp nat_cmp key n)) (Some meant) old
+pub meaning_put : {A B : Type 0} (f : A → B) (key op n : Name) (meant : Option A) (old new : Option (Option A)) → key ≡ op → new
+    ≡ cond (is_eq (slice_cmp nat_cmp key n)) (Some meant) old
     → option_and_then (option_map f) new ≡ cond (same_name op n) (option_map f meant) (option_and_then (option_map f) old)
 meaning_put f key op n meant old new same made =
     ap (option_and_then (option_map f)) made
@@ -73,7 +76,8 @@ links_meant : (ts : List Tree) (places : Places) (children : Trees) (o : Option 
     → option_and_then (λ to. meaning_at ts places to.object to.op) o ≡ option_and_then (child_op children) o
 links_meant ts places children o are =
     then_same (λ to. meaning_at ts places to.object to.op) (child_op children)
-    (λ to. ap (option_and_then (λ t. terminal_op t to.op)) (found_tree ts (place_in places to.object) (child_named to.object children) (are to.object)) ∙ sym (child_meant children to)) o
+    (λ to. ap (option_and_then (λ t. terminal_op t to.op))
+    (found_tree ts (place_in places to.object) (child_named to.object children) (are to.object)) ∙ sym (child_meant children to)) o
 
 -- one place more
 push_keeps : (ts : List Tree) (t : Tree) → Keeps ts (ts ++ t ∷ [])
@@ -86,28 +90,35 @@ push_at [] t = refl
 push_at (x ∷ xs) t = push_at xs t
 
 -- one object more
-pushed_trees : (n : nodes.Node) (mid new : List Scope) (s : Scope) → s.node.now ≡ n → new ≡ mid ++ s ∷ [] → scope_trees new ≡ scope_trees mid ++ tree_of n ∷ []
-pushed_trees n mid new s same is = ap scope_trees is ∙ map-append (λ r. tree_of r.node.now) mid (s ∷ []) ∙ ap (λ m. scope_trees mid ++ tree_of m ∷ []) same
+pushed_trees : (n : nodes.Node) (mid new : List Scope) (s : Scope) → s.node.now ≡ n → new ≡ mid ++ s ∷ [] → scope_trees new ≡ scope_trees mid
+    ++ tree_of n ∷ []
+pushed_trees n mid new s same is =
+    ap scope_trees is ∙ map-append (λ r. tree_of r.node.now) mid (s ∷ []) ∙ ap (λ m. scope_trees mid ++ tree_of m ∷ []) same
 
 pushed_keeps : (old mid new : List Tree) (t : Tree) → Keeps old mid → new ≡ mid ++ t ∷ [] → Keeps old new
 pushed_keeps old mid new t keeps is p u e =
     let P : List Tree → Type 0 = λ ts. slice_get ts p ≡ Some u in
     subst P (sym is) (push_keeps mid t p u (keeps p u e))
 
-pub object_kept : (n : nodes.Node) (old mid new : List Scope) (s : Scope) → s.node.now ≡ n → new ≡ mid ++ s ∷ [] → Keeps (scope_trees old) (scope_trees mid) → Keeps (scope_trees old) (scope_trees new)
-object_kept n old mid new s same is keeps = pushed_keeps (scope_trees old) (scope_trees mid) (scope_trees new) (tree_of n) keeps (pushed_trees n mid new s same is)
+pub object_kept : (n : nodes.Node) (old mid new : List Scope) (s : Scope) → s.node.now ≡ n → new ≡ mid ++ s ∷ []
+    → Keeps (scope_trees old) (scope_trees mid) → Keeps (scope_trees old) (scope_trees new)
+object_kept n old mid new s same is keeps =
+    pushed_keeps (scope_trees old) (scope_trees mid) (scope_trees new) (tree_of n) keeps (pushed_trees n mid new s same is)
 
-pub object_placed : (n : nodes.Node) (mid new : List Scope) (s : Scope) (p : ℕ) → s.node.now ≡ n → new ≡ mid ++ s ∷ [] → p ≡ length mid → slice_get (scope_trees new) p ≡ Some (tree_of n)
+pub object_placed : (n : nodes.Node) (mid new : List Scope) (s : Scope) (p : ℕ) → s.node.now ≡ n → new ≡ mid ++ s ∷ [] → p ≡ length mid
+    → slice_get (scope_trees new) p ≡ Some (tree_of n)
 object_placed n mid new s p same is at =
     ap (λ ts. slice_get ts p) (pushed_trees n mid new s same is)
     ∙ ap (slice_get (scope_trees mid ++ tree_of n ∷ [])) (at ∙ sym (length-map mid (λ r. tree_of r.node.now)))
     ∙ push_at (scope_trees mid) (tree_of n)
 
-first_if : (b : Bool) (t : Tree) (inner found : Option Tree) → (if b then Some t else first_of inner found) ≡ first_of (if b then Some t else inner) found
+first_if : (b : Bool) (t : Tree) (inner found : Option Tree) → (if b then Some t else first_of inner found)
+    ≡ first_of (if b then Some t else inner) found
 first_if true t inner found = refl
 first_if false t inner found = refl
 
-covers_whole : (old mid new : List Tree) (initial before after : Places) (own : Object) (kids : Trees) (p : ℕ) → Keeps mid new → slice_get new p ≡ Some (Node own kids)
+covers_whole : (old mid new : List Tree) (initial before after : Places) (own : Object) (kids : Trees) (p : ℕ) → Keeps mid new → slice_get new p
+    ≡ Some (Node own kids)
     → Covers (λ n. inner_named n kids) old initial mid before
     → ((n : Name) → place_in after n ≡ cond (same_name own.name n) (Some p) (place_in before n))
     → Covers (λ n. tree_named n (Node own kids)) old initial new after
@@ -134,7 +145,8 @@ name_node n = ap (λ t. (own_of t).name) (fold_out-Node Tree node_layer n)
 by_inner : (t : Tree) (op : Name) → by_links t op ≡ option_and_then (child_op (inner_of t)) (link_for op (own_of t).links)
 by_inner (Node own children) op = refl
 
-pub scope_right : (n : nodes.Node) (ts : List Tree) (children : Places) (given : Name → Option OpName) (links : List Link) → links ≡ (out-Node n).links.items
+pub scope_right : (n : nodes.Node) (ts : List Tree) (children : Places) (given : Name → Option OpName) (links : List Link) → links
+    ≡ (out-Node n).links.items
     → AreChildren ts children (inner_of (tree_of n))
     → ((op : Name) → given op ≡ option_and_then (λ to. meaning_at ts children to.object to.op) (link_for op links))
     → (op : Name) → given op ≡ by_links (tree_of n) op
@@ -147,9 +159,11 @@ covers_tree : (t : Tree) (old mid new : List Tree) (initial before after : Place
     → Covers (λ n. inner_named n (inner_of t)) old initial mid before
     → ((n : Name) → place_in after n ≡ cond (same_name (own_of t).name n) (Some p) (place_in before n))
     → Covers (λ n. tree_named n t) old initial new after
-covers_tree (Node own children) old mid new initial before after p keeps at was made = covers_whole old mid new initial before after own children p keeps at was made
+covers_tree (Node own children) old mid new initial before after p keeps at was made =
+    covers_whole old mid new initial before after own children p keeps at was made
 
-pub object_named : (n : nodes.Node) (old mid new : List Scope) (s : Scope) (initial before after : Places) (kids : List nodes.Node) (name : Name) (p : ℕ)
+pub object_named : (n : nodes.Node) (old mid new : List Scope) (s : Scope) (initial before after : Places) (kids : List nodes.Node)
+    (name : Name) (p : ℕ)
     → s.node.now ≡ n → new ≡ mid ++ s ∷ [] → p ≡ length mid → kids ≡ (out-Node n).children.items → name ≡ (out-Node n).name
     → Covers (λ m. inner_named m (trees_of (map tree_of kids))) (scope_trees old) initial (scope_trees mid) before
     → ((m : Name) → place_in after m ≡ cond (same_name name m) (Some p) (place_in before m))
@@ -170,13 +184,15 @@ first_none (Some t) = refl
 none_found : (ts : List Tree) (o : Option ℕ) → o ≡ None → Finds ts o None
 none_found ts o e = let P : Option ℕ → Type 0 = λ q. Finds ts q None in subst P (sym e) tt
 
-pub names_whole : (old new : List Tree) (before after : Places) (t : Tree) → ((n : Name) → place_in before n ≡ None) → Covers (λ n. tree_named n t) old before new after → AreNamed new after t
+pub names_whole : (old new : List Tree) (before after : Places) (t : Tree) → ((n : Name) → place_in before n ≡ None)
+    → Covers (λ n. tree_named n t) old before new after → AreNamed new after t
 names_whole old new before after t none covers object op =
     let P : Option Tree → Type 0 = λ u. Finds new (place_in after object) u in
     ap (option_and_then (λ u. terminal_op u op)) (found_tree new (place_in after object) (tree_named object t)
     (subst P (first_none (tree_named object t)) (covers object None (none_found old (place_in before object) (none object)))))
 
 -- what a name among objects leads to is what it means
-pub resolved : (ts : List Tree) (names : Places) (x : Design) (name : OpName) (o : Option OpName) → AreNamed ts names x.root → o ≡ meaning_at ts names name.object name.op
+pub resolved : (ts : List Tree) (names : Places) (x : Design) (name : OpName) (o : Option OpName) → AreNamed ts names x.root → o
+    ≡ meaning_at ts names name.object name.op
     → unwrap_or o name ≡ resolve x name
 resolved ts names x name o named is = ap (λ z. unwrap_or z name) (is ∙ named name.object name.op)

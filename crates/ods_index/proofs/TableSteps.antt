@@ -1,5 +1,6 @@
 -- The place that a table has for a name, and what stands there.
-use Rattle.std.proofs.Common.{◌≡◌, ℕ, suc, subst, ◌<◌, Bool, true, false, cond, List, [], ◌∷◌, map, drop, length, Option, Some, None, option_map, refl, ap, sym, Bor, ◌∙◌}
+use Rattle.std.proofs.Common.{◌≡◌, ℕ, suc, subst, ◌<◌, Bool, true, false, cond, List, [], ◌∷◌, map, drop, length, Option, Some, None}
+use Rattle.std.proofs.Common.{option_map, refl, ap, sym, Bor, ◌∙◌}
 use Rattle.std.specs.List.{slice_get}
 use Rattle.std.specs.Slice.{IsItemAt}
 use Rattle.std.proofs.lemmas.Option.{slice_get_past, slice_get-get_or, slice_get-map}
@@ -16,13 +17,15 @@ place_step f xs i d n within = ap (λ ys. place_from i n (map f ys)) (drop-cons 
 
 -- a table with one name more
 pub put_place : {A : Type 0} (f : A → Name) (xs : List A) (i : ℕ) (d : A) (old new : Name → Option ℕ) → i < length xs →
-    ((n : Name) → old n ≡ place_from (suc i) n (map f (drop (suc i) xs))) → ((n : Name) → new n ≡ cond (same_name (f (get_or xs i d)) n) (Some i) (old n)) →
+    ((n : Name) → old n ≡ place_from (suc i) n (map f (drop (suc i) xs)))
+    → ((n : Name) → new n ≡ cond (same_name (f (get_or xs i d)) n) (Some i) (old n)) →
     (n : Name) → new n ≡ place_from i n (map f (drop i xs))
 put_place f xs i d old new within was is n =
     is n ∙ ap (cond (same_name (f (get_or xs i d)) n) (Some i)) (was n) ∙ sym (place_step f xs i d n within)
 
 -- one place on
-shift_by : (b : Bool) (k : ℕ) (o more : Option ℕ) → more ≡ option_map (λ i. suc i) o → cond b (Some (suc k)) more ≡ option_map (λ i. suc i) (cond b (Some k) o)
+shift_by : (b : Bool) (k : ℕ) (o more : Option ℕ) → more ≡ option_map (λ i. suc i) o → cond b (Some (suc k)) more
+    ≡ option_map (λ i. suc i) (cond b (Some k) o)
 shift_by true k o more e = refl
 shift_by false k o more e = e
 
@@ -35,7 +38,8 @@ module _ {A B : Type 0} (g : A → B) where
   abbrev pub at_place : List A → ℕ → Option B
   at_place xs i = option_map g (slice_get xs i)
 
-  past_first : (x : A) (xs : List A) (o : Option ℕ) → option_and_then (at_place (x ∷ xs)) (option_map (λ i. suc i) o) ≡ option_and_then (at_place xs) o
+  past_first : (x : A) (xs : List A) (o : Option ℕ) → option_and_then (at_place (x ∷ xs)) (option_map (λ i. suc i) o)
+      ≡ option_and_then (at_place xs) o
   past_first x xs None = refl
   past_first x xs (Some i) = refl
 
@@ -50,7 +54,8 @@ module _ {A B : Type 0} (g : A → B) where
   found_place f n [] = refl
   found_place f n (x ∷ xs) =
       found_by (same_name (f (g x)) n) x xs (place_from 1 n (map (λ y. f (g y)) xs)) _
-      (ap (option_and_then (at_place (x ∷ xs))) (place_shift n 0 (map (λ y. f (g y)) xs)) ∙ past_first x xs (place_from 0 n (map (λ y. f (g y)) xs)) ∙ found_place f n xs)
+      (ap (option_and_then (at_place (x ∷ xs))) (place_shift n 0 (map (λ y. f (g y)) xs))
+      ∙ past_first x xs (place_from 0 n (map (λ y. f (g y)) xs)) ∙ found_place f n xs)
 
 -- what `get` lends is what stands there
 got : {A : Type 0} (xs : List A) (i : ℕ) (r : Option (Bor A)) → IsItemAt xs i r → option_map (λ x. x.now) r ≡ slice_get xs i
@@ -58,7 +63,8 @@ got xs i None e = sym (slice_get_past xs i e.3)
 got xs i (Some x) e = sym (slice_get-get_or xs i x.now e.3.0 ∙ ap (λ y. Some y) (sym e.1))
 
 -- the same, seen as something else
-pub got_as : {A B : Type 0} (g : A → B) (xs : List A) (i : ℕ) (r : Option (Bor A)) → IsItemAt xs i r → option_map (λ x. g x.now) r ≡ option_map g (slice_get xs i)
+pub got_as : {A B : Type 0} (g : A → B) (xs : List A) (i : ℕ) (r : Option (Bor A)) → IsItemAt xs i r → option_map (λ x. g x.now) r
+    ≡ option_map g (slice_get xs i)
 got_as g xs i None e = ap (option_map g) (got xs i None e)
 got_as g xs i (Some x) e = ap (option_map g) (got xs i (Some x) e)
 
@@ -68,14 +74,16 @@ module _ {A B : Type 0} (g : A → B) where
   seen_at xs (Some i) = slice_get-map g xs i
 
   -- a table of names finds the first of a name
-  pub place_found : (f : B → Name) (n : Name) (xs : List A) (ys : List B) (o : Option ℕ) → map g xs ≡ ys → o ≡ place_from 0 n (map (λ x. f (g x)) xs) →
+  pub place_found : (f : B → Name) (n : Name) (xs : List A) (ys : List B) (o : Option ℕ) → map g xs ≡ ys → o
+      ≡ place_from 0 n (map (λ x. f (g x)) xs) →
       option_and_then (slice_get ys) o ≡ find (λ y. same_name (f y) n) ys
   place_found f n xs ys o e h =
       let Found : List B → Type 0 = λ zs. option_and_then (slice_get zs) o ≡ find (λ y. same_name (f y) n) zs in
       subst Found e (seen_at xs o ∙ ap (option_and_then (at_place g xs)) h ∙ found_place g f n xs)
 
   -- what stands at a place of another list of the same
-  same_by : {C D : Type 0} (h : B → C) (k : C → Option D) (c : C) (o : Option A) → Some c ≡ option_map (λ x. h (g x)) o → k c ≡ option_and_then (λ y. k (h y)) (option_map g o)
+  same_by : {C D : Type 0} (h : B → C) (k : C → Option D) (c : C) (o : Option A) → Some c ≡ option_map (λ x. h (g x)) o → k c
+      ≡ option_and_then (λ y. k (h y)) (option_map g o)
   same_by h k c None e = absurd (cc)
   same_by h k c (Some x) e = ap k (cc)
 

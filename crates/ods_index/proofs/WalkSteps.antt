@@ -19,9 +19,11 @@ roots_of_nodes (n ∷ ns) = ap (λ os. object_of n ∷ os) (roots_of_nodes ns)
 
 -- the objects of a tree, by the nodes of its children
 standings_by : (t : Tree) (own : Object) (kids : List nodes.Node) (p : Option Object) (s : List Object) → t ≡ Node own (trees_of (map tree_of kids)) →
-    standings p s t ≡ record { own = own_of t; parent = p; siblings = s; children = inside t } ∷ inner_standings (Some (own_of t)) (map object_of kids) (trees_of (map tree_of kids))
+    standings p s t ≡ record { own = own_of t; parent = p; siblings = s; children = inside t }
+    ∷ inner_standings (Some (own_of t)) (map object_of kids) (trees_of (map tree_of kids))
 standings_by t own kids p s e =
-    rw e (ap (λ os. record { own = own; parent = p; siblings = s; children = roots (trees_of (map tree_of kids)) } ∷ inner_standings (Some own) os (trees_of (map tree_of kids))) (roots_of_nodes kids))
+    rw e (ap (λ os. record { own = own; parent = p; siblings = s; children = roots (trees_of (map tree_of kids)) }
+    ∷ inner_standings (Some own) os (trees_of (map tree_of kids))) (roots_of_nodes kids))
 
 -- the objects of a node, by those of its children
 pub standings_of_node : (n : nodes.Node) (p : Option Object) (s : List Object) →
@@ -55,7 +57,8 @@ pub walked : (s : Standing) (old one new : List Standing) (kids : List nodes.Nod
     ≡ map standing_of one ++ inner_standings (Some (object_of s.node.now)) (map object_of kids) (trees_of (map tree_of kids)) →
     map standing_of new ≡ map standing_of old ++ standings (parent_of s.parent) (siblings_of (object_of s.node.now) s.siblings) (tree_of s.node.now)
 walked s old one new kids i pushed here done e =
-    let inner : List nodes.Node → List nodes.Node → List walk.Standing = λ ks ls. inner_standings (Some (object_of s.node.now)) (map object_of ks) (trees_of (map tree_of ls)) in
+    let inner : List nodes.Node → List nodes.Node
+    → List walk.Standing = λ ks ls. inner_standings (Some (object_of s.node.now)) (map object_of ks) (trees_of (map tree_of ls)) in
     sym (append-nil (map standing_of new)) ∙ ap (λ ks. map standing_of new ++ inner kids ks) (sym (drop_of_length-le kids done))
     ∙ e ∙ ap (λ ss. ss ++ inner kids kids) (ap (map standing_of) pushed ∙ map-append standing_of old (s ∷ []))
     ∙ append_assoc (map standing_of old) (standing_of s ∷ []) (inner kids kids)

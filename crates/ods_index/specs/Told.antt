@@ -2,7 +2,8 @@
 -- Want of memory tells nothing; the fault of a body that is told is none of memory.
 use Rattle.std.specs.Prelude.{Bool, true, false, Option, Some, None, option_map}
 use Rattle.seq_check.specs.Answers.{fault_of}
-use Rattle.design_rules.specs.Broken.{Broken, V01, V02, V03, V04, V05, V06, V07, V08, V09Calls, V09Objects, V09Starts, V10, V11, V12, V13, V14, V15Threads, V15Objects, V15Cost, V16, V17Tick, V17Priorities, V17}
+use Rattle.design_rules.specs.Broken.{Broken, V01, V02, V03, V04, V05, V06, V07, V08, V09Calls, V09Objects, V09Starts, V10, V11, V12, V13}
+use Rattle.design_rules.specs.Broken.{V14, V15Threads, V15Objects, V15Cost, V16, V17Tick, V17Priorities, V17}
 use Rattle.ods_index.specs.declared.broken.Broken as code
 use Rattle.ods_index.specs.declared.broken.Broken.TheVariants as variant
 

@@ -69,7 +69,8 @@ impl<'a> Index<'a> {
     /// The place of the first object of a name, where there is one.
     pub fn place(&self, name: &Name) -> Option<usize>
         requires { IsIndex self.now }
-        ensures found { option_and_then (slice_get (objects (design_of self.now.design.now))) result ≡ object_named (design_of self.now.design.now) name.now }
+        ensures found { option_and_then (slice_get (objects (design_of self.now.design.now))) result
+            ≡ object_named (design_of self.now.design.now) name.now }
         ensures first { result ≡ place_from 0 name.now (map object_name self.now.objects.items) }
     {
         self.places.get(name)
@@ -92,7 +93,8 @@ impl<'a> Index<'a> {
     /// The first operation of a name that the object at a place provides, where there is one.
     pub fn provided(&self, place: usize, op: &Name) -> Option<&'a Provided>
         requires { IsIndex self.now }
-        ensures { option_map (λ p. provided_of p.now) result ≡ option_and_then (λ s. provided_named op.now s.own.provides) (slice_get (objects (design_of self.now.design.now)) place) }
+        ensures { option_map (λ p. provided_of p.now) result
+            ≡ option_and_then (λ s. provided_named op.now s.own.provides) (slice_get (objects (design_of self.now.design.now)) place) }
     {
         match self.ops.get(place) {
             None => None,

@@ -43,7 +43,8 @@ fn meanings_of<'a>(
     children: &Places<'a>,
     links: &'a [Link],
 ) -> Result<Meanings<'a>, NoMemory>
-    ensures { IfOk result (λ m. (op : NameTree) → meaning_in m op ≡ option_and_then (λ to. meaning_at (scope_trees scopes.now) children.now to.object to.op) (link_for op links.entry.now)) }
+    ensures { IfOk result (λ m. (op : NameTree) → meaning_in m op
+        ≡ option_and_then (λ to. meaning_at (scope_trees scopes.now) children.now to.object to.op) (link_for op links.entry.now)) }
 {
     let mut meanings = Meanings::new(alloc);
     let mut place = links.len();
@@ -81,7 +82,8 @@ fn add_object<'a>(
 ) -> Result<usize, NoMemory>
     ensures kept { OnOk result (Keeps (scope_trees scopes.old.items) (scope_trees scopes.new.items)) }
     ensures placed { IfOk result (λ p. slice_get (scope_trees scopes.new.items) p ≡ Some (tree_of node.entry.now)) }
-    ensures named { OnOk result (Covers (λ n. tree_named n (tree_of node.entry.now)) (scope_trees scopes.old.items) names.old (scope_trees scopes.new.items) names.new) }
+    ensures named { OnOk result
+        (Covers (λ n. tree_named n (tree_of node.entry.now)) (scope_trees scopes.old.items) names.old (scope_trees scopes.new.items) names.new) }
 {
     let children = add_objects(alloc, scopes, names, node.children.as_slice())?;
     let scope = scope_of(alloc, scopes.as_slice(), &children, node)?;
@@ -101,7 +103,9 @@ fn add_objects<'a>(
 ) -> Result<Places<'a>, NoMemory>
     ensures kept { OnOk result (Keeps (scope_trees scopes.old.items) (scope_trees scopes.new.items)) }
     ensures placed { IfOk result (λ c. AreChildren (scope_trees scopes.new.items) c (trees_of (map tree_of nodes.entry.now))) }
-    ensures named { OnOk result (Covers (λ n. inner_named n (trees_of (map tree_of nodes.entry.now))) (scope_trees scopes.old.items) names.old (scope_trees scopes.new.items) names.new) }
+    ensures named { OnOk result
+        (Covers (λ n. inner_named n (trees_of (map tree_of nodes.entry.now))) (scope_trees scopes.old.items) names.old
+        (scope_trees scopes.new.items) names.new) }
 {
     let mut children = Places::new(alloc);
     let mut left = nodes.len();

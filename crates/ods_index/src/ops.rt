@@ -24,7 +24,8 @@ fn add_provided<'a>(
     object: &'a Name,
     provides: &'a [Provided],
 ) -> Result<(), NoMemory>
-    ensures { OnOk result (map op_of ops.new.items ≡ map op_of ops.old.items ++ map (λ p. record { object = object.entry.now; op = p.sig.name }) (map provided_of provides.entry.now)) }
+    ensures { OnOk result (map op_of ops.new.items ≡ map op_of ops.old.items
+        ++ map (λ p. record { object = object.entry.now; op = p.sig.name }) (map provided_of provides.entry.now)) }
 {
     'provides: for provided in provides {
         ops.push(OpView {
@@ -37,7 +38,8 @@ fn add_provided<'a>(
 
 /// Adds the operations of an object, where it has no children.
 fn add_ops<'a>(ops: &mut Vec<OpView<'a>>, standing: &Standing<'a>) -> Result<(), NoMemory>
-    ensures { OnOk result (map op_of ops.new.items ≡ map op_of ops.old.items ++ flat_map own_ops (filter is_terminal (standing_of standing.entry.now ∷ []))) }
+    ensures { OnOk result (map op_of ops.new.items ≡ map op_of ops.old.items
+        ++ flat_map own_ops (filter is_terminal (standing_of standing.entry.now ∷ []))) }
 {
     if !is_terminal(standing.node) {
         return Ok(());
@@ -63,7 +65,8 @@ fn add_place<'a>(
     op: &OpView<'a>,
     place: usize,
 ) -> Result<(), NoMemory>
-    ensures { OnOk result ((n : OpName) → at places.new n ≡ first_of (at places.old n) (if same_op (op_of op.entry.now) n then Some place else None)) }
+    ensures { OnOk result ((n : OpName) → at places.new n
+        ≡ first_of (at places.old n) (if same_op (op_of op.entry.now) n then Some place else None)) }
 {
     match places.get(op.object, op.op) {
         Some(_) => Ok(()),

@@ -41,7 +41,8 @@ impl<'a> Meanings<'a> {
     /// Gives an operation this meaning, whatever it meant.
     #[tactic(auto, unfolding(crate::specs::Linked::meaning_in))]
     pub fn put(&mut self, op: &'a Name, meant: Option<OpView<'a>>) -> Result<(), NoMemory>
-        ensures { OnOk result ((n : NameTree) → meaning_in self.new n ≡ cond (same_name op.entry.now n) (option_map op_of meant.entry) (meaning_in self.old n)) }
+        ensures { OnOk result ((n : NameTree) → meaning_in self.new n
+            ≡ cond (same_name op.entry.now n) (option_map op_of meant.entry) (meaning_in self.old n)) }
     {
         self.map.insert(op.bytes(), meant)?;
         Ok(())

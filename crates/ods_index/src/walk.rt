@@ -23,7 +23,8 @@ fn add_objects<'a>(
     parent: Option<&'a Node>,
     siblings: Option<&'a [Node]>,
 ) -> Result<(), NoMemory>
-    ensures { OnOk result (map standing_of into.new.items ≡ map standing_of into.old.items ++ standings (parent_of parent.entry) (siblings_of (object_of node.entry.now) siblings.entry) (tree_of node.entry.now)) }
+    ensures { OnOk result (map standing_of into.new.items ≡ map standing_of into.old.items
+        ++ standings (parent_of parent.entry) (siblings_of (object_of node.entry.now) siblings.entry) (tree_of node.entry.now)) }
 {
     into.push(Standing {
         node,

@@ -4,27 +4,19 @@ use Rattle.std.proofs.Math.ListN.{get_or, drop_of_length-le}
 use Rattle.std.proofs.lemmas.List.{append-nil}
 use Rattle.std.specs.List.{cons_option}
 use Rattle.seq_tree.specs.Names.{Name}
-use Rattle.seq_tree.specs.Operations.{is_out, out_names}
-use Rattle.seq_tree.specs.Faults as faults
+use Rattle.seq_tree.specs.Operations.{Offer}
 use Rattle.seq_tree.specs.declared.tree.Param.{Param}
 use Rattle.seq_tree.specs.declared.tree.Datum.{Datum}
 use Rattle.ods_tree.specs.Designs.{Body, Object, Design}
 use Rattle.ods_tree.specs.Walk.{Standing}
-use Rattle.design_rules.specs.Bodies.{body_fault, params_by}
+use Rattle.design_rules.specs.Bodies.{body_fault, offers, params_by}
 use Rattle.design_rules.specs.Lookups.{provided_named}
-use Rattle.ods_names.specs.BodyScopes.{names_in, part_fault}
+use Rattle.ods_names.specs.BodyScopes.{part_fault}
+use Rattle.seq_check.specs.Scopes.{scope_with}
 use Rattle.design_rules.specs.Broken.{Broken}
 use Rattle.ods_index.specs.Judging.{Tells, head_of}
 use Rattle.ods_index.specs.declared.broken.Broken as code
 use Rattle.ods_names.proofs.NeedSteps.{drop_step, told_of_all}
-
-outs_by : (p : Param) (ps : List Param) (b : Bool) → map (λ q. q.name) (cond b (p ∷ filter (λ q. is_out q.mode) ps) (filter (λ q. is_out q.mode) ps)) ≡ map (λ q. q.name) (cond b (p ∷ []) []) ++ out_names ps
-outs_by p ps true = refl
-outs_by p ps false = refl
-
--- one parameter more
-pub outs_cons : (p : Param) (ps : List Param) → out_names (p ∷ ps) ≡ out_names (p ∷ []) ++ out_names ps
-outs_cons p ps = outs_by p ps (is_out p.mode)
 
 -- what is given for one item more
 cons_given : {B : Type 0} (o : Option B) (ys : List B) → cons_option o ys ≡ option_to_list o ++ ys
@@ -60,23 +52,15 @@ provided_here None o n e = absurd (cc)
 provided_here (Some t) o n e = cc
 
 -- the fault of a body, by what is known in it
-pub body_fault_by : (x : Design) (o : Object) (b : Body) (name : Name) (known : faults.Scope) (params : List Param) (locals : List Datum) →
-    o.name ≡ name → known ≡ names_in x o → params ≡ params_by (provided_named b.name o.provides) → locals ≡ b.locals →
-    body_fault x o b ≡ part_fault name (Some b.name) known params locals b.block
-body_fault_by x o b name known params locals n k p l =
+pub body_fault_by : (x : Design) (o : Object) (b : Body) (name : Name) (vars : List Datum) (calls : List Offer) (params : List Param) (locals : List Datum) →
+    o.name ≡ name → vars ≡ o.vars → calls ≡ offers x o → params ≡ params_by (provided_named b.name o.provides) → locals ≡ b.locals →
+    body_fault x o b ≡ part_fault name (Some b.name) (scope_with vars calls params locals) b.block
+body_fault_by x o b name vars calls params locals n v c p l =
     let there = params_by (provided_named b.name o.provides) in
-    ap (λ z. part_fault z (Some b.name) (names_in x o) there b.locals b.block) n ∙ ap (λ z. part_fault name (Some b.name) z there b.locals b.block) (sym k)
-    ∙ ap (λ z. part_fault name (Some b.name) known z b.locals b.block) (sym p) ∙ ap (λ z. part_fault name (Some b.name) known params z b.block) (sym l)
-
--- the names of the parameters that hand out, for one parameter more
-pub outs_step : (ps : List Param) (i : ℕ) (p : Param) (old new all : List Name) → i < length ps → p ≡ get_or ps i p → old ++ out_names (drop i ps) ≡ all →
-    new ≡ old ++ out_names (p ∷ []) → new ++ out_names (drop (i + 1) ps) ≡ all
-outs_step ps i p old new all inside at before one =
-    ap (λ ns. ns ++ out_names (drop (i + 1) ps)) one ∙ append_assoc old (out_names (p ∷ [])) (out_names (drop (i + 1) ps))
-    ∙ ap (λ ns. old ++ ns) (sym (outs_cons p (drop (i + 1) ps)) ∙ ap out_names (sym (drop_step ps i p inside at))) ∙ before
-
--- and where none is left
-pub outs_end : (ps : List Param) (i : ℕ) (old all : List Name) → length ps ≤ i → old ++ out_names (drop i ps) ≡ all → old ≡ all
-outs_end ps i old all done before = sym (append-nil old) ∙ ap (λ qs. old ++ out_names qs) (sym (drop_of_length-le ps done)) ∙ before
+    ap (λ z. part_fault z (Some b.name) (scope_with o.vars (offers x o) there b.locals) b.block) n
+    ∙ ap (λ z. part_fault name (Some b.name) (scope_with z (offers x o) there b.locals) b.block) (sym v)
+    ∙ ap (λ z. part_fault name (Some b.name) (scope_with vars z there b.locals) b.block) (sym c)
+    ∙ ap (λ z. part_fault name (Some b.name) (scope_with vars calls z b.locals) b.block) (sym p)
+    ∙ ap (λ z. part_fault name (Some b.name) (scope_with vars calls params z) b.block) (sym l)
 
 pub ruleset scope_steps = (given_cons, head_given)

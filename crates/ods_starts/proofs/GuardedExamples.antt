@@ -37,7 +37,18 @@ guards = refl
 
 abbrev parent : Kind → List OpName → Object
 parent kind needs =
-    record { name = codes "m"; kind = kind; attrs = []; provides = []; needs = needs; vars = []; bodies = []; thread = None; links = record { op = codes "f"; to = op "q" "g" } ∷ [] }
+    record {
+      name = codes "m";
+      kind = kind;
+      attrs = [];
+      provides = [];
+      needs = needs;
+      vars = [];
+      bodies = [];
+      thread = None;
+      links = record
+          { op = codes "f"; to = op "q" "g" } ∷ [];
+    }
 
 not_with_children : guards_among (objects (design (Node (parent Protected []) (trees (plain ∷ []))))) ≡ []
 not_with_children = refl

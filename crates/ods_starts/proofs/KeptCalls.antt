@@ -11,6 +11,7 @@ use Rattle.seq_tree.specs.Calls.{same_op}
 use Rattle.seq_tree.specs.Names.{Name, same_name}
 use Rattle.seq_tree.specs.declared.tree.OpName.{OpName}
 use Rattle.seq_tree.proofs.Walks.{same_op-eq, same_op-refl}
+use Rattle.seq_cost.proofs.TableSteps.{one_name}
 use Rattle.ods_starts.specs.Spreading.{is_there}
 
 added-cases : {A V : Type 0} (items : V → List A) (same : Bool) (after removed old : Option V) (all changed : V) (calls : List A)
@@ -18,7 +19,8 @@ added-cases : {A V : Type 0} (items : V → List A) (same : Bool) (after removed
     → (same ≡ true → items all ≡ unwrap_or (option_map items old) [])
     → unwrap_or (option_map items after) [] ≡ unwrap_or (option_map items old) [] ++ (if same then calls else [])
 added-cases items true after removed old all changed calls a r c o = ap (λ z. unwrap_or (option_map items z) []) a ∙ c ∙ ap (λ z. z ++ calls) (o refl)
-added-cases items false after removed old all changed calls a r c o = ap (λ z. unwrap_or (option_map items z) []) (a ∙ r) ∙ sym (append-nil (unwrap_or (option_map items old) []))
+added-cases items false after removed old all changed calls a r c o =
+    ap (λ z. unwrap_or (option_map items z) []) (a ∙ r) ∙ sym (append-nil (unwrap_or (option_map items old) []))
 
 -- the calls of a name after some were added to those of one
 pub added : {A V : Type 0} (items : V → List A) (key n : Name) (after removed old : Option V) (all changed : V) (calls : List A)
@@ -30,9 +32,25 @@ added items key n after removed old all changed calls a r c o =
     subst P (is_eq-slice_cmp key n) (added-cases items (is_eq (slice_cmp nat_cmp key n)) after removed old all changed calls a r c o)
 
 -- one test inside another
-pub if-both : {A : Type 0} (a b : Bool) (xs : List A) → (if a then (if b then xs else []) else []) ≡ (if a && b then xs else [])
+if-both : {A : Type 0} (a b : Bool) (xs : List A) → (if a then (if b then xs else []) else []) ≡ (if a && b then xs else [])
 if-both true b xs = refl
 if-both false b xs = refl
+
+-- the calls of a name, where they were found by bytes, taken out, changed for one operation, and put back
+pub added-both : {A V : Type 0} (items : V → List A) (found : Name → Option V) (key n : Name) (inner : Bool) (taken put : Name)
+    (after removed : Option V)
+    (all changed : V) (calls : List A)
+    → after ≡ cond (is_eq (slice_cmp nat_cmp put n)) (Some changed) removed → put ≡ key
+    → removed ≡ cond (is_eq (slice_cmp nat_cmp taken n)) None (found n) → taken ≡ key
+    → items changed ≡ items all ++ (if inner then calls else []) → items all ≡ unwrap_or (option_map items (found taken)) []
+    → unwrap_or (option_map items after) [] ≡ unwrap_or (option_map items (found n)) [] ++ (if same_name key n && inner then calls else [])
+added-both items found key n inner taken put after removed all changed calls a put-is r taken-is c before =
+    added items key n after removed (found n) all changed (if inner then calls else [])
+    (a ∙ ap (λ m. cond (is_eq (slice_cmp nat_cmp m n)) (Some changed) removed) put-is)
+    (r ∙ ap (λ m. cond (is_eq (slice_cmp nat_cmp m n)) None (found n)) taken-is)
+    c
+    (λ h. before ∙ ap (λ w. unwrap_or (option_map items (found w)) []) (taken-is ∙ one_name key n h))
+    ∙ ap (λ z. unwrap_or (option_map items (found n)) [] ++ z) (if-both (same_name key n) inner calls)
 
 -- an operation that was put into the table is found, where it wasn't
 pub seen-more : (op n : OpName) (all : List OpName) (after before : Option (Unit {0})) → after ≡ (if same_op op n then Some tt else before)
@@ -64,4 +82,5 @@ seen-more op n all after before put was = by (same_op op n) refl
 
     by : (b : Bool) → same_op op n ≡ b → is_there after ≡ list_any (same_op n) (all ++ op ∷ [])
     by true e = ap is_there (put ∙ ap (λ z. if z then Some tt else before) e) ∙ true-or (list_any (same_op n) all) ∙ sym (end true (swap true e))
-    by false e = ap is_there (put ∙ ap (λ z. if z then Some tt else before) e) ∙ was ∙ or-false (list_any (same_op n) all) ∙ sym (end false (swap false e))
+    by false e =
+        ap is_there (put ∙ ap (λ z. if z then Some tt else before) e) ∙ was ∙ or-false (list_any (same_op n) all) ∙ sym (end false (swap false e))

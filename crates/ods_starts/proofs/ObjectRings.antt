@@ -1,5 +1,6 @@
 -- Rings of calls between protected objects are rings between their places.
-use Rattle.std.proofs.Common.{◌≡◌, ℕ, ◌≤◌, ◌==◌, Bool, true, false, ◌&&◌, List, ◌∷◌, map, filter_map, flat_map, length, slice_get, nat_lt, Option, Some, None, Bor, refl, sym, ap, subst, ◌∙◌, arith}
+use Rattle.std.proofs.Common.{◌≡◌, ℕ, ◌≤◌, ◌==◌, Bool, true, false, ◌&&◌, List, ◌∷◌, map, filter_map, flat_map, length, slice_get, nat_lt}
+use Rattle.std.proofs.Common.{Option, Some, None, Bor, refl, sym, ap, subst, ◌∙◌, arith}
 use Rattle.std.specs.List.{list_any}
 use Rattle.std.proofs.lemmas.Bool.{eqb-true, eq-eqb}
 use Rattle.std.proofs.lemmas.List.{length-map}
@@ -27,7 +28,8 @@ use Rattle.rings.specs.Reached.{Goes, IsFirstOnRing}
 use Rattle.rings.proofs.Reaching.{and-from, both}
 
 -- one object more, that is protected and has no children
-pub guards_more : (s : Standing) (ss : List Standing) → (is_terminal s && is_protected s.own.kind) ≡ true → guards_among (s ∷ ss) ≡ s.own ∷ guards_among ss
+pub guards_more : (s : Standing) (ss : List Standing) → (is_terminal s && is_protected s.own.kind) ≡ true → guards_among (s ∷ ss) ≡ s.own
+    ∷ guards_among ss
 guards_more s ss e = by (is_terminal s) (is_protected s.own.kind) refl refl e
   where
     by : (t p : Bool) → is_terminal s ≡ t → is_protected s.own.kind ≡ p → (t && p) ≡ true → guards_among (s ∷ ss) ≡ s.own ∷ guards_among ss
@@ -62,22 +64,37 @@ same_both a b c e f = same-is a b e ∙ same-is b c f
 
 between : (x : Design) (a c : Name) → CallsObject x a c → Between x a c
 between x a c h =
-    let f = some-in (λ f. same_name f.name a && list_any (λ t. same_name t.name c && calls_object x f t) (protected_objects x)) (protected_objects x) h in
+    let f = some-in (λ f. same_name f.name a && list_any (λ t. same_name t.name c && calls_object x f t) (protected_objects x))
+    (protected_objects x) h in
     let g = both (same_name f.0.name a) (list_any (λ t. same_name t.name c && calls_object x f.0 t) (protected_objects x)) f.2 in
     let t = some-in (λ t. same_name t.name c && calls_object x f.0 t) (protected_objects x) g.1 in
     let u = both (same_name t.0.name c) (calls_object x f.0 t.0) t.2 in
     let k = some-in (λ k. same_name k.object t.0.name) (flat_map (λ b. meant_calls x f.0 b.block) f.0.bodies) u.1 in
     let b = from-flat (λ b. meant_calls x f.0 b.block) k.0 f.0.bodies k.1 in
-    record { from = f.0; stands = f.1; named = same-is f.0.name a g.0; body = b.0; held = b.1; call = k.0; written = b.2; to = same_both k.0.object t.0.name c k.2 u.0 }
+    record {
+      from = f.0;
+      stands = f.1;
+      named = same-is f.0.name a g.0;
+      body = b.0;
+      held = b.1;
+      call = k.0;
+      written = b.2;
+      to = same_both
+          k.0.object t.0.name c k.2 u.0;
+    }
 
-called : (x : Design) (f t : Object) (b : Body) (k : OpName) → In f (protected_objects x) → In t (protected_objects x) → In b f.bodies → In k (meant_calls x f b.block) → t.name ≡ k.object → CallsObject x f.name k.object
+called : (x : Design) (f t : Object) (b : Body) (k : OpName) → In f (protected_objects x) → In t (protected_objects x) → In b f.bodies
+    → In k (meant_calls x f b.block) → t.name ≡ k.object → CallsObject x f.name k.object
 called x f t b k hf ht hb hk same =
     let here : calls_object x f t ≡ true =
-    any-in (λ c. same_name c.object t.name) k (flat_map (λ d. meant_calls x f d.block) f.bodies) (in-flat (λ d. meant_calls x f d.block) b k f.bodies hb hk)
+    any-in (λ c. same_name c.object t.name) k (flat_map (λ d. meant_calls x f d.block) f.bodies)
+    (in-flat (λ d. meant_calls x f d.block) b k f.bodies hb hk)
     (ap (λ n. same_name k.object n) same ∙ same-self k.object) in
-    any-in (λ g. same_name g.name f.name && list_any (λ u. same_name u.name k.object && calls_object x g u) (protected_objects x)) f (protected_objects x) hf
+    any-in (λ g. same_name g.name f.name && list_any (λ u. same_name u.name k.object && calls_object x g u) (protected_objects x)) f
+    (protected_objects x) hf
     (and-from _ _ (same-self f.name)
-    (any-in (λ u. same_name u.name k.object && calls_object x f u) t (protected_objects x) ht (and-from _ _ (ap (λ n. same_name n k.object) same ∙ same-self k.object) here)))
+    (any-in (λ u. same_name u.name k.object && calls_object x f u) t (protected_objects x) ht
+    (and-from _ _ (ap (λ n. same_name n k.object) same ∙ same-self k.object) here)))
 
 module _ (x : Design) (place : Name → Option ℕ) (placed : (n : Name) → place n ≡ place_from 0 n (names-of (protected_objects x))) where
   abbrev pub edges-of : List (ℕ × ℕ)
@@ -102,12 +119,14 @@ module _ (x : Design) (place : Name → Option ℕ) (placed : (n : Name) → pla
       let at : place d.from.name ≡ Some p = ap place d.named ∙ e in
       let target : In q (filter_map (λ k. place k.object) (meant_calls x d.from d.body.block)) =
       in-taken (λ k. place k.object) d.call q (meant_calls x d.from d.body.block) d.written (ap place d.to ∙ f) in
-      let edge : In (p, q) (meant_edges place x d.from.needs p (block_calls d.body.block)) = in-map (λ t. (p, t)) q (filter_map (λ k. place k.object) (meant_calls x d.from d.body.block)) target in
+      let edge : In (p, q) (meant_edges place x d.from.needs p (block_calls d.body.block)) = in-map (λ t. (p, t)) q
+      (filter_map (λ k. place k.object) (meant_calls x d.from d.body.block)) target in
       let P : Option ℕ → Type 0 = λ o. In (p, q) (edges_at place x d.from o) in
       let own : In (p, q) (guard_edges place x d.from) =
       subst P (sym at) (in-flat (λ b. meant_edges place x d.from.needs p (block_calls b.block)) d.body (p, q) d.from.bodies d.held edge) in
       and-from _ _ (grind (arith, inside))
-      (any-in (λ e. e.0 == p && e.1 == q) (p, q) edges-of (in-flat (guard_edges place x) d.from (p, q) (protected_objects x) d.stands own) (and-from _ _ (eq-eqb p p refl) (eq-eqb q q refl)))
+      (any-in (λ e. e.0 == p && e.1 == q) (p, q) edges-of (in-flat (guard_edges place x) d.from (p, q) (protected_objects x) d.stands own)
+      (and-from _ _ (eq-eqb p p refl) (eq-eqb q q refl)))
 
   -- an edge is a call between objects with these places
   step-back : (p q : ℕ) → step-of p q ≡ true → (a c : Name) × (place a ≡ Some p) × (place c ≡ Some q) × CallsObject x a c
@@ -117,7 +136,8 @@ module _ (x : Design) (place : Name → Option ℕ) (placed : (n : Name) → pla
       let f = from-flat (guard_edges place x) e.0 (protected_objects x) e.1 in
       by f.0 f.1 e.0 (eqb-true e.0.0 p ends.0) (eqb-true e.0.1 q ends.1) (place f.0.name) refl f.2
     where
-      by : (f : Object) → In f (protected_objects x) → (e : ℕ × ℕ) → e.0 ≡ p → e.1 ≡ q → (o : Option ℕ) → place f.name ≡ o → In e (edges_at place x f o)
+      by : (f : Object) → In f (protected_objects x) → (e : ℕ × ℕ) → e.0 ≡ p → e.1 ≡ q → (o : Option ℕ) → place f.name ≡ o
+          → In e (edges_at place x f o)
           → (a c : Name) × (place a ≡ Some p) × (place c ≡ Some q) × CallsObject x a c
       by f h e first second None at i = absurd i
       by f h e first second (Some from) at i =
@@ -137,14 +157,19 @@ module _ (x : Design) (place : Name → Option ℕ) (placed : (n : Name) → pla
   ringed : (i : ℕ) (told : Broken) → RingedObject x i told → (p : ℕ) × (p ≤ i) × IsOnRing (Goes step-of) p
   ringed i told r =
       let f = none-later 0 (names-of (protected_objects x)) r.object.name i (name-at (protected_objects x) i r.object r.stands) in
-      let y = f.2 in
-      (f.0, omega (arith, y), ring_of_places (names-of (protected_objects x)) place (CallsObject x) step-of stands-at step-forth step-back source-placed r.object.name f.0 (placed r.object.name ∙ f.1) r.ring)
+      let y = f.2 in (
+        f.0,
+        omega (arith, y),
+        ring_of_places (names-of (protected_objects x)) place
+            (CallsObject x) step-of stands-at step-forth step-back source-placed r.object.name f.0 (placed r.object.name ∙ f.1) r.ring,
+      )
 
   -- no place on a ring, or the first
   pub none-ringed : IsFirstOnRing step-of None → (i : ℕ) (told : Broken) → RingedObject x i told → ⊥
   none-ringed none i told r = let f = ringed i told r in none f.0 f.2
 
-  pub first-ringed : (first : ℕ) → IsFirstOnRing step-of (Some first) → (o : Object) × (slice_get (protected_objects x) first ≡ Some o) × IsFirstOffender (RingedObject x) (V09Objects o.name)
+  pub first-ringed : (first : ℕ) → IsFirstOnRing step-of (Some first) → (o : Object) × (slice_get (protected_objects x) first ≡ Some o)
+      × IsFirstOffender (RingedObject x) (V09Objects o.name)
   first-ringed first (ring, earlier) =
       let r = ring_of_names (names-of (protected_objects x)) place (CallsObject x) step-of stands-at step-forth step-back source-placed first ring in
       let o = object-at (protected_objects x) first r.0 (stands-at r.0 first r.1) in

@@ -14,7 +14,8 @@ use Rattle.ods_tree.specs.declared.design.AttrKey.TheVariants.{ArrivalJitter}
 use Rattle.ods_tree.specs.declared.design.Kind.TheVariants.{Protected, Sporadic}
 use Rattle.design_rules.specs.Broken.{V10}
 use Rattle.ods_starts.specs.Reaching.{reacher_of, reachers_at}
-use Rattle.ods_starts.specs.Requested.{AreDue, HeldBody, Knows, changes, greatest_count, held_bodies, held_calls, held_count, held_named, object_callers, op_callers, source_fault}
+use Rattle.ods_starts.specs.Requested.{AreDue, HeldBody, Knows, changes, greatest_count, held_bodies, held_calls, held_count, held_named}
+use Rattle.ods_starts.specs.Requested.{object_callers, op_callers, source_fault}
 use Rattle.ods_starts.specs.declared.reacher.Reacher.{Reacher}
 use Rattle.ods_starts.specs.declared.sources.Reachers.{Reachers}
 
@@ -110,7 +111,8 @@ empty_knows : (t : OpTable ℕ) → ((n : OpName) → at t n ≡ None) → Knows
 empty_knows t none n = ap or_0 (none n)
 
 empty_knows_no_request : (t : OpTable ℕ) → ((n : OpName) → at t n ≡ None) → Knows t (λ n. 1) → ⊥
-empty_knows_no_request t none knows = (let y : or_0 (at t set) ≡ 0 = ap or_0 (none set) in let z : or_0 (at t set) ≡ 1 = knows set in omega (arith, y, z))
+empty_knows_no_request t none knows =
+    (let y : or_0 (at t set) ≡ 0 = ap or_0 (none set) in let z : or_0 (at t set) ≡ 1 = knows set in omega (arith, y, z))
 
 changed : (known counts : OpTable ℕ) → at known set ≡ None → at counts set ≡ Some 1 → changes known counts set ≡ true
 changed known counts k c = rw (k, c) refl
@@ -128,7 +130,8 @@ caller_is_due due = by (due put)
     by (inl e) = cc
     by (inr e) = omega (arith, e)
 
-reached_by : (r : Reachers) (v : Vec Reacher Global) → get_by (λ k. slice_cmp nat_cmp (codes "q") k.now) r.map ≡ Some v → reachers_at r (codes "q") ≡ map reacher_of v.items
+reached_by : (r : Reachers) (v : Vec Reacher Global) → get_by (λ k. slice_cmp nat_cmp (codes "q") k.now) r.map ≡ Some v
+    → reachers_at r (codes "q") ≡ map reacher_of v.items
 unfolding reachers_at
 reached_by r v e = ap (λ o. unwrap_or (option_map (λ w. map reacher_of w.items) o) []) e
 

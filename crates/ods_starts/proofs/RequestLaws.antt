@@ -1,6 +1,7 @@
 -- Requests that are cut at 2, counted level by level: cutting what is known of protected operations changes no cut number, and
 -- a number changes one level deeper only where that of an operation that is called has changed.
-use Rattle.std.proofs.Common.{◌≡◌, ◌⊎◌, inl, inr, ◌≤◌, ◌+◌, ◌-◌, ◌*◌, ℕ, zero, suc, Bool, true, false, cond, not, nat_eq, ◌&&◌, ◌||◌, List, [], ◌∷◌, ◌++◌, Option, Some, None, map, filter, flat_map, fold, arith, refl, ap, sym, subst, ◌∙◌}
+use Rattle.std.proofs.Common.{◌≡◌, ◌⊎◌, inl, inr, ◌≤◌, ◌+◌, ◌-◌, ◌*◌, ℕ, zero, suc, Bool, true, false, cond, not, nat_eq, ◌&&◌, ◌||◌, List}
+use Rattle.std.proofs.Common.{[], ◌∷◌, ◌++◌, Option, Some, None, map, filter, flat_map, fold, arith, refl, ap, sym, subst, ◌∙◌}
 use Rattle.std.specs.Prelude.{min, max, unwrap_or, ◌==◌, if◌then◌else◌}
 use Rattle.std.specs.List.{list_any}
 use Rattle.std.proofs.lemmas.List.{map-append}
@@ -10,7 +11,8 @@ use Rattle.seq_tree.specs.Calls.{block_calls, same_op}
 use Rattle.seq_tree.specs.Dearest.{Weights, counted, dearest, dearest_branch, dearest_statement, free, turn_count}
 use Rattle.seq_tree.specs.Lists.{Each}
 use Rattle.seq_tree.specs.Names.{Name, same_name}
-use Rattle.seq_tree.specs.Statements.{Statement, Statements, Branches, Null, Assign, If, For, ExitWhen, Call, Work, Put, End, Then, Nothing, Else, When}
+use Rattle.seq_tree.specs.Statements.{Statement, Statements, Branches, Null, Assign, If, For, ExitWhen, Call, Work, Put, End, Then}
+use Rattle.seq_tree.specs.Statements.{Nothing, Else, When}
 use Rattle.seq_tree.specs.declared.tree.OpName.{OpName}
 use Rattle.seq_tree.proofs.Walks.{same_op-eq, same_op-refl}
 use Rattle.seq_cost.specs.Tables.{or_0}
@@ -20,35 +22,41 @@ use Rattle.ods_tree.specs.Flattening.{is_protected}
 use Rattle.ods_tree.specs.Links.{resolve}
 use Rattle.ods_tree.specs.Walk.{Standing, terminals}
 use Rattle.design_rules.specs.Sources.{body_starts, start_weight, starts_within}
-use Rattle.ods_starts.specs.Requested.{AreDue, HeldBody, call_weight, greatest_count, held, held_bodies, held_calls, held_count, held_in, held_named, object_caller, object_callers, op_caller, op_callers}
+use Rattle.ods_starts.specs.Requested.{AreDue, HeldBody, call_weight, greatest_count, held, held_bodies, held_calls, held_count, held_in}
+use Rattle.ods_starts.specs.Requested.{held_named, object_caller, object_callers, op_caller, op_callers}
 use Rattle.ods_starts.specs.Spreading.{found_all}
 use Rattle.ods_index.proofs.AccountSteps.{each-among}
-use Rattle.ods_index.proofs.CapLaws.{cap-called}
+use Rattle.seq_cost.proofs.CutCosts.{cap-called}
 use Rattle.ods_starts.proofs.SpreadLaws.{In, any-some, any-true, grown-all, in-flat, in-left, in-right}
 
 cut-twice : (n k : ℕ) → n ≡ min 2 k → min 2 n ≡ min 2 k
 cut-twice n k e = grind (arith, e)
 
 -- a call whose meaning is known cut
-pub call-cut : (x : Design) (target : Name) (needs : List OpName) (known inner : OpName → ℕ) → ((m : OpName) → known m ≡ min 2 (inner m)) → (n : OpName)
+pub call-cut : (x : Design) (target : Name) (needs : List OpName) (known inner : OpName → ℕ) → ((m : OpName) → known m ≡ min 2 (inner m))
+    → (n : OpName)
     → min 2 (call_weight x target known needs n) ≡ min 2 (call_weight x target inner needs n)
 call-cut x target needs known inner agrees n = by (list_any (same_op n) needs) (same_name (resolve x n).object target)
   where
-    by : (a b : Bool) → min 2 (if a then (if b then 1 else known (resolve x n)) else 0) ≡ min 2 (if a then (if b then 1 else inner (resolve x n)) else 0)
+    by : (a b : Bool) → min 2 (if a then (if b then 1 else known (resolve x n)) else 0)
+        ≡ min 2 (if a then (if b then 1 else inner (resolve x n)) else 0)
     by true true = refl
     by true false = cut-twice (known (resolve x n)) (inner (resolve x n)) (agrees (resolve x n))
     by false b = refl
 
 -- a block, where its calls count the same when they are cut
-pub counted-each : (f g : Name → Name → ℕ) (b : Statements) → Each (λ c. min 2 (f c.object c.op) ≡ min 2 (g c.object c.op)) (block_calls b) → min 2 (counted f b) ≡ min 2 (counted g b)
+pub counted-each : (f g : Name → Name → ℕ) (b : Statements) → Each (λ c. min 2 (f c.object c.op) ≡ min 2 (g c.object c.op)) (block_calls b)
+    → min 2 (counted f b) ≡ min 2 (counted g b)
 counted-each f g b same =
     cap-called 2 free (λ ticks. 0) f b
     ∙ ap (min 2) (block-same free (λ ticks. 0) (λ object op. min 2 (f object op)) (λ object op. min 2 (g object op)) b same)
     ∙ sym (cap-called 2 free (λ ticks. 0) g b)
 
 -- and where all calls do
-pub counted-cut : (f g : Name → Name → ℕ) (b : Statements) → ((object op : Name) → min 2 (f object op) ≡ min 2 (g object op)) → min 2 (counted f b) ≡ min 2 (counted g b)
-counted-cut f g b same = counted-each f g b (each-among (λ c. min 2 (f c.object c.op) ≡ min 2 (g c.object c.op)) (block_calls b) (λ c h. same c.object c.op))
+pub counted-cut : (f g : Name → Name → ℕ) (b : Statements) → ((object op : Name) → min 2 (f object op) ≡ min 2 (g object op))
+    → min 2 (counted f b) ≡ min 2 (counted g b)
+counted-cut f g b same =
+    counted-each f g b (each-among (λ c. min 2 (f c.object c.op) ≡ min 2 (g c.object c.op)) (block_calls b) (λ c h. same c.object c.op))
 
 -- calls that count nothing
 abbrev none : Weights
@@ -82,7 +90,8 @@ mutual
   branches-none : (b : Branches) → dearest_branch none b ≡ 0
   branches-none Nothing = refl
   branches-none (Else block) = counted-none block
-  branches-none (When condition block others) = most-none (dearest none block) (dearest_branch none others) (counted-none block) (branches-none others)
+  branches-none (When condition block others) =
+      most-none (dearest none block) (dearest_branch none others) (counted-none block) (branches-none others)
 
 -- a block whose calls count nothing
 pub counted-quiet : (f : Name → Name → ℕ) (b : Statements) → Each (λ c. f c.object c.op ≡ 0) (block_calls b) → counted f b ≡ 0
@@ -205,7 +214,9 @@ module _ (x : Design) (target : Name) where
     own o b = counted (start_weight x target inner o) b.block
 
     most-append : (hs ks : List HeldBody) → most (hs ++ ks) ≡ max (most hs) (most ks)
-    most-append hs ks = ap (fold max 0) (map-append (held_count x target inner) hs ks) ∙ fold-both (map (held_count x target inner) hs) (map (held_count x target inner) ks)
+    most-append hs ks =
+        ap (fold max 0) (map-append (held_count x target inner) hs ks)
+        ∙ fold-both (map (held_count x target inner) hs) (map (held_count x target inner) ks)
 
     most-cons : (h : HeldBody) (hs : List HeldBody) → most (h ∷ hs) ≡ max (held_count x target inner h) (most hs)
     most-cons h hs = fold-cons (held_count x target inner h) (map (held_count x target inner) hs)
@@ -219,18 +230,25 @@ module _ (x : Design) (target : Name) where
         h : HeldBody
         h = held o.name o.needs b
 
-        by : (t : Bool) → same_name b.name n.op ≡ t → most (named n (map (held o.name o.needs) bs)) ≡ fold max 0 (map (own o) (filter (λ d. same_name d.name n.op) bs))
+        by : (t : Bool) → same_name b.name n.op ≡ t → most (named n (map (held o.name o.needs) bs))
+            ≡ fold max 0 (map (own o) (filter (λ d. same_name d.name n.op) bs))
             → most ((if same_name o.name n.object && same_name b.name n.op then h ∷ [] else []) ++ named n (map (held o.name o.needs) bs))
-            ≡ fold max 0 (map (own o) (cond (same_name b.name n.op) (b ∷ filter (λ d. same_name d.name n.op) bs) (filter (λ d. same_name d.name n.op) bs)))
-        by true t k = rw (e, t) (most-cons h (named n (map (held o.name o.needs) bs)) ∙ ap (max (own o b)) k ∙ sym (fold-cons (own o b) (map (own o) (filter (λ d. same_name d.name n.op) bs))))
+            ≡ fold max 0 (map (own o)
+            (cond (same_name b.name n.op) (b ∷ filter (λ d. same_name d.name n.op) bs) (filter (λ d. same_name d.name n.op) bs)))
+        by true t k =
+            rw (e, t) (most-cons h (named n (map (held o.name o.needs) bs)) ∙ ap (max (own o b)) k
+            ∙ sym (fold-cons (own o b) (map (own o) (filter (λ d. same_name d.name n.op) bs))))
         by false t k = rw (e, t) k
 
     body-none : (n : OpName) (o : Object) (bs : List Body) → same_name o.name n.object ≡ false → named n (map (held o.name o.needs) bs) ≡ []
     body-none n o [] e = refl
-    body-none n o (b ∷ bs) e = ap (λ t. (if t && same_name b.name n.op then held o.name o.needs b ∷ [] else []) ++ named n (map (held o.name o.needs) bs)) e ∙ body-none n o bs e
+    body-none n o (b ∷ bs) e =
+        ap (λ t. (if t && same_name b.name n.op then held o.name o.needs b ∷ [] else []) ++ named n (map (held o.name o.needs) bs)) e
+        ∙ body-none n o bs e
 
     object-most : (n : OpName) (ss : List Standing)
-        → most (named n (flat_map (λ s. held_in s.own) ss)) ≡ fold max 0 (map (body_starts x target inner n.op) (filter (λ o. same_name o.name n.object) (map (λ s. s.own) ss)))
+        → most (named n (flat_map (λ s. held_in s.own) ss))
+        ≡ fold max 0 (map (body_starts x target inner n.op) (filter (λ o. same_name o.name n.object) (map (λ s. s.own) ss)))
     object-most n [] = refl
     object-most n (s ∷ ss) =
         ap most (flat_map-append (held_named n) (held_in s.own) (flat_map (λ s. held_in s.own) ss))
@@ -243,16 +261,20 @@ module _ (x : Design) (target : Name) where
         max-zero : (k : ℕ) → max 0 k ≡ k
         max-zero k = grind arith
 
-        by : (t : Bool) → same_name s.own.name n.object ≡ t → most (named n (flat_map (λ s. held_in s.own) ss)) ≡ fold max 0 (map (body_starts x target inner n.op) rest)
+        by : (t : Bool) → same_name s.own.name n.object ≡ t → most (named n (flat_map (λ s. held_in s.own) ss))
+            ≡ fold max 0 (map (body_starts x target inner n.op) rest)
             → max (most (named n (held_in s.own))) (most (named n (flat_map (λ s. held_in s.own) ss)))
             ≡ fold max 0 (map (body_starts x target inner n.op) (cond (same_name s.own.name n.object) (s.own ∷ rest) rest))
         by true t k =
-            rw t (ap (λ m. max m (most (named n (flat_map (λ s. held_in s.own) ss)))) (body-most n s.own s.own.bodies t) ∙ ap (max (body_starts x target inner n.op s.own)) k
+            rw t (ap (λ m. max m (most (named n (flat_map (λ s. held_in s.own) ss)))) (body-most n s.own s.own.bodies t)
+            ∙ ap (max (body_starts x target inner n.op s.own)) k
             ∙ sym (fold-cons (body_starts x target inner n.op s.own) (map (body_starts x target inner n.op) rest)))
-        by false t k = rw t (ap (λ hs. max (most hs) (most (named n (flat_map (λ s. held_in s.own) ss)))) (body-none n s.own s.own.bodies t) ∙ max-zero _ ∙ k)
+        by false t k =
+            rw t (ap (λ hs. max (most hs) (most (named n (flat_map (λ s. held_in s.own) ss)))) (body-none n s.own s.own.bodies t) ∙ max-zero _ ∙ k)
 
   -- one level deeper, body by body
-  pub deeper-count : (depth : ℕ) (n : OpName) → starts_within (suc depth) x target n ≡ greatest_count x target (starts_within depth x target) (flat_map (held_named n) (held_bodies x))
+  pub deeper-count : (depth : ℕ) (n : OpName) → starts_within (suc depth) x target n
+      ≡ greatest_count x target (starts_within depth x target) (flat_map (held_named n) (held_bodies x))
   deeper-count depth n = sym (object-most (starts_within depth x target) n (filter (λ s. is_protected s.own.kind) (terminals x)))
 
   -- a call that a body makes is listed with it
@@ -261,24 +283,30 @@ module _ (x : Design) (target : Name) where
       let P : Bool → Type 0 = λ b. In n (if b then h.name ∷ [] else []) in
       in-flat (op_caller m h.name) m n (held_calls x h) k (subst P (sym (same_op-refl m)) (inl (same_op-eq h.name n e)))
 
-  object-listed : (n m : OpName) (h : HeldBody) → same_op h.name n ≡ true → same_name m.object target ≡ true → In m (held_calls x h) → In n (object_callers x target h)
+  object-listed : (n m : OpName) (h : HeldBody) → same_op h.name n ≡ true → same_name m.object target ≡ true → In m (held_calls x h)
+      → In n (object_callers x target h)
   object-listed n m h e s k =
       let P : Bool → Type 0 = λ b. In n (if b then h.name ∷ [] else []) in
       in-flat (object_caller target h.name) m n (held_calls x h) k (subst P (sym s) (inl (same_op-eq h.name n e)))
 
   meant-in : (h : HeldBody) (c : OpName) → In c (block_calls h.block) → list_any (same_op c) h.needs ≡ true → In (resolve x c) (held_calls x h)
-  meant-in h c k e = in-map (resolve x) c (filter (λ d. list_any (same_op d) h.needs) (block_calls h.block)) (in-filter (λ d. list_any (same_op d) h.needs) c (block_calls h.block) k e)
+  meant-in h c k e =
+      in-map (resolve x) c (filter (λ d. list_any (same_op d) h.needs) (block_calls h.block))
+      (in-filter (λ d. list_any (same_op d) h.needs) c (block_calls h.block) k e)
 
   -- a body, where what it calls counts the same
-  held-same : (f g : OpName → ℕ) (h : HeldBody) → ((m : OpName) → In m (held_calls x h) → min 2 (f m) ≡ min 2 (g m)) → min 2 (held_count x target f h) ≡ min 2 (held_count x target g h)
+  held-same : (f g : OpName → ℕ) (h : HeldBody) → ((m : OpName) → In m (held_calls x h) → min 2 (f m) ≡ min 2 (g m))
+      → min 2 (held_count x target f h) ≡ min 2 (held_count x target g h)
   held-same f g h same =
-      counted-each (λ object op. call_weight x target f h.needs (record { object = object; op = op })) (λ object op. call_weight x target g h.needs (record { object = object; op = op })) h.block
+      counted-each (λ object op. call_weight x target f h.needs (record { object = object; op = op }))
+      (λ object op. call_weight x target g h.needs (record { object = object; op = op })) h.block
       (each-in (λ c. min 2 (call_weight x target f h.needs c) ≡ min 2 (call_weight x target g h.needs c)) (block_calls h.block) (λ c k. one c k))
     where
       one : (c : OpName) → In c (block_calls h.block) → min 2 (call_weight x target f h.needs c) ≡ min 2 (call_weight x target g h.needs c)
       one c k = by (list_any (same_op c) h.needs) refl (same_name (resolve x c).object target)
         where
-          by : (a : Bool) → list_any (same_op c) h.needs ≡ a → (b : Bool) → min 2 (if a then (if b then 1 else f (resolve x c)) else 0) ≡ min 2 (if a then (if b then 1 else g (resolve x c)) else 0)
+          by : (a : Bool) → list_any (same_op c) h.needs ≡ a → (b : Bool) → min 2 (if a then (if b then 1 else f (resolve x c)) else 0)
+              ≡ min 2 (if a then (if b then 1 else g (resolve x c)) else 0)
           by true e true = refl
           by true e false = same (resolve x c) (meant-in h c k e)
           by false e b = refl
@@ -289,7 +317,8 @@ module _ (x : Design) (target : Name) where
   -- a body that calls no operation of the target, where others count nothing
   held-quiet : (h : HeldBody) → ((m : OpName) → In m (held_calls x h) → same_name m.object target ≡ true → ⊥) → held_count x target (λ m. 0) h ≡ 0
   held-quiet h quiet =
-      counted-quiet (λ object op. call_weight x target (λ m. 0) h.needs (record { object = object; op = op })) h.block (each-in (λ c. call_weight x target (λ m. 0) h.needs c ≡ 0) (block_calls h.block) (λ c k. one c k))
+      counted-quiet (λ object op. call_weight x target (λ m. 0) h.needs (record { object = object; op = op })) h.block
+      (each-in (λ c. call_weight x target (λ m. 0) h.needs c ≡ 0) (block_calls h.block) (λ c k. one c k))
     where
       one : (c : OpName) → In c (block_calls h.block) → call_weight x target (λ m. 0) h.needs c ≡ 0
       one c k = by (list_any (same_op c) h.needs) refl (same_name (resolve x c).object target) refl
@@ -306,13 +335,16 @@ module _ (x : Design) (target : Name) where
   pub local : (f g : OpName → ℕ) (n : OpName) (hs : List HeldBody) → ((m : OpName) → In n (flat_map (op_callers x m) hs) → min 2 (f m) ≡ min 2 (g m))
       → min 2 (greatest_count x target f (named n hs)) ≡ min 2 (greatest_count x target g (named n hs))
   local f g n [] same = refl
-  local f g n (h ∷ hs) same = by (same_op h.name n) refl (local f g n hs (λ m k. same m (in-right n (op_callers x m h) (flat_map (op_callers x m) hs) k)))
+  local f g n (h ∷ hs) same =
+      by (same_op h.name n) refl (local f g n hs (λ m k. same m (in-right n (op_callers x m h) (flat_map (op_callers x m) hs) k)))
     where
       by : (t : Bool) → same_op h.name n ≡ t → min 2 (greatest_count x target f (named n hs)) ≡ min 2 (greatest_count x target g (named n hs))
-          → min 2 (greatest_count x target f ((if t then h ∷ [] else []) ++ named n hs)) ≡ min 2 (greatest_count x target g ((if t then h ∷ [] else []) ++ named n hs))
+          → min 2 (greatest_count x target f ((if t then h ∷ [] else []) ++ named n hs))
+          ≡ min 2 (greatest_count x target g ((if t then h ∷ [] else []) ++ named n hs))
       by true e k =
           ap (min 2) (most-cons f h (named n hs))
-          ∙ cap-pair (held_count x target f h) (held_count x target g h) (greatest_count x target f (named n hs)) (greatest_count x target g (named n hs))
+          ∙ cap-pair (held_count x target f h) (held_count x target g h) (greatest_count x target f (named n hs))
+          (greatest_count x target g (named n hs))
           (held-same f g h (λ m j. same m (in-left n (op_callers x m h) (flat_map (op_callers x m) hs) (op-listed n m h e j)))) k
           ∙ ap (min 2) (sym (most-cons g h (named n hs)))
       by false e k = k
@@ -321,15 +353,19 @@ module _ (x : Design) (target : Name) where
   max-nothing a b h k = grind (arith, h, k)
 
   -- an operation that calls none of the target
-  quiet-here : (n : OpName) (hs : List HeldBody) → (In n (flat_map (object_callers x target) hs) → ⊥) → greatest_count x target (λ m. 0) (named n hs) ≡ 0
+  quiet-here : (n : OpName) (hs : List HeldBody) → (In n (flat_map (object_callers x target) hs) → ⊥)
+      → greatest_count x target (λ m. 0) (named n hs) ≡ 0
   quiet-here n [] quiet = refl
-  quiet-here n (h ∷ hs) quiet = by (same_op h.name n) refl (quiet-here n hs (λ k. quiet (in-right n (object_callers x target h) (flat_map (object_callers x target) hs) k)))
+  quiet-here n (h ∷ hs) quiet =
+      by (same_op h.name n) refl (quiet-here n hs (λ k. quiet (in-right n (object_callers x target h) (flat_map (object_callers x target) hs) k)))
     where
-      by : (t : Bool) → same_op h.name n ≡ t → greatest_count x target (λ m. 0) (named n hs) ≡ 0 → greatest_count x target (λ m. 0) ((if t then h ∷ [] else []) ++ named n hs) ≡ 0
+      by : (t : Bool) → same_op h.name n ≡ t → greatest_count x target (λ m. 0) (named n hs) ≡ 0
+          → greatest_count x target (λ m. 0) ((if t then h ∷ [] else []) ++ named n hs) ≡ 0
       by true e k =
           most-cons (λ m. 0) h (named n hs)
           ∙ max-nothing (held_count x target (λ m. 0) h) (greatest_count x target (λ m. 0) (named n hs))
-          (held-quiet h (λ m j s. quiet (in-left n (object_callers x target h) (flat_map (object_callers x target) hs) (object-listed n m h e s j)))) k
+          (held-quiet h (λ m j s. quiet
+          (in-left n (object_callers x target h) (flat_map (object_callers x target) hs) (object-listed n m h e s j)))) k
       by false e k = k
 
   abbrev cut : ℕ → OpName → ℕ
@@ -343,11 +379,14 @@ module _ (x : Design) (target : Name) where
       by true e = inl e
       by false e =
           inr (ap (min 2) (sym (deeper-count 0 n ∙ quiet-here n (held_bodies x)
-          (λ k. let P : List OpName → Type 0 = λ z. In n z in no (Among n (found_all [] found)) (in-among n (found_all [] found) ((grown-all [] found).found n (subst P (sym is) k))) e))))
+          (λ k.
+          let P : List OpName → Type 0 = λ z. In n z in no (Among n (found_all [] found))
+          (in-among n (found_all [] found) ((grown-all [] found).found n (subst P (sym is) k))) e))))
 
   -- what was due and didn't change, or wasn't due, is the same one level deeper
   pub same-unless : (depth : ℕ) (due : List OpName) (known counts : OpName → ℕ) → ((n : OpName) → known n ≡ cut depth n) → AreDue x target depth due
-      → ((n : OpName) → Among n due ≡ true → counts n ≡ cut (suc depth) n) → (n : OpName) → Among n (filter (λ m. not (nat_eq (known m) (counts m))) due) ≡ false → cut depth n ≡ cut (suc depth) n
+      → ((n : OpName) → Among n due ≡ true → counts n ≡ cut (suc depth) n) → (n : OpName)
+      → Among n (filter (λ m. not (nat_eq (known m) (counts m))) due) ≡ false → cut depth n ≡ cut (suc depth) n
   same-unless depth due known counts knows are count n e = by (are n)
     where
       equal : (a b : ℕ) → not (nat_eq a b) ≡ false → a ≡ b
@@ -356,7 +395,8 @@ module _ (x : Design) (target : Name) where
       due-same : Among n due ≡ true → (b : Bool) → not (nat_eq (known n) (counts n)) ≡ b → cut depth n ≡ cut (suc depth) n
       due-same h true d =
           no (Among n (filter (λ m. not (nat_eq (known m) (counts m))) due))
-          (in-among n (filter (λ m. not (nat_eq (known m) (counts m))) due) (in-filter (λ m. not (nat_eq (known m) (counts m))) n due (among-in n due h) d)) e
+          (in-among n (filter (λ m. not (nat_eq (known m) (counts m))) due)
+          (in-filter (λ m. not (nat_eq (known m) (counts m))) n due (among-in n due h) d)) e
       due-same h false d = sym (knows n) ∙ equal (known n) (counts n) d ∙ count n h
 
       by : (Among n due ≡ true) ⊎ (cut depth n ≡ cut (suc depth) n) → cut depth n ≡ cut (suc depth) n
@@ -364,21 +404,27 @@ module _ (x : Design) (target : Name) where
       by (inr s) = s
 
   -- what is known one level deeper
-  pub next-known : (depth : ℕ) (due : List OpName) (known counts next : OpName → ℕ) → ((n : OpName) → known n ≡ cut depth n) → AreDue x target depth due
+  pub next-known : (depth : ℕ) (due : List OpName) (known counts next : OpName → ℕ) → ((n : OpName) → known n ≡ cut depth n)
+      → AreDue x target depth due
       → ((n : OpName) → Among n due ≡ true → counts n ≡ cut (suc depth) n)
-      → ((n : OpName) → next n ≡ (if Among n (filter (λ m. not (nat_eq (known m) (counts m))) due) then counts n else known n)) → (n : OpName) → next n ≡ cut (suc depth) n
+      → ((n : OpName) → next n ≡ (if Among n (filter (λ m. not (nat_eq (known m) (counts m))) due) then counts n else known n)) → (n : OpName)
+      → next n ≡ cut (suc depth) n
   next-known depth due known counts next knows are count is n = by (Among n changed) refl
     where
       changed : List OpName
       changed = filter (λ m. not (nat_eq (known m) (counts m))) due
 
       by : (b : Bool) → Among n changed ≡ b → next n ≡ cut (suc depth) n
-      by true e = is n ∙ ap (λ b. if b then counts n else known n) e ∙ count n (in-among n due (from-filter (λ m. not (nat_eq (known m) (counts m))) n due (among-in n changed e)))
+      by true e =
+          is n ∙ ap (λ b. if b then counts n else known n) e
+          ∙ count n (in-among n due (from-filter (λ m. not (nat_eq (known m) (counts m))) n due (among-in n changed e)))
       by false e = is n ∙ ap (λ b. if b then counts n else known n) e ∙ knows n ∙ same-unless depth due known counts knows are count n e
 
   -- and what is due then
-  pub next-due : (depth : ℕ) (callers : OpName → List OpName) (changed : List OpName) → ((n : OpName) → callers n ≡ flat_map (op_callers x n) (held_bodies x))
-      → ((n : OpName) → Among n changed ≡ false → cut depth n ≡ cut (suc depth) n) → AreDue x target (suc depth) (found_all [] (flat_map callers changed))
+  pub next-due : (depth : ℕ) (callers : OpName → List OpName) (changed : List OpName)
+      → ((n : OpName) → callers n ≡ flat_map (op_callers x n) (held_bodies x))
+      → ((n : OpName) → Among n changed ≡ false → cut depth n ≡ cut (suc depth) n)
+      → AreDue x target (suc depth) (found_all [] (flat_map callers changed))
   next-due depth callers changed is same n = by (Among n due) refl
     where
       due : List OpName
@@ -387,14 +433,16 @@ module _ (x : Design) (target : Name) where
       unchanged : (m : OpName) → Among n due ≡ false → In n (flat_map (op_callers x m) (held_bodies x)) → (b : Bool) → Among m changed ≡ b → b ≡ false
       unchanged m e k true h =
           let P : List OpName → Type 0 = λ z. In n z in
-          no (Among n due) (in-among n due ((grown-all [] (flat_map callers changed)).found n (in-flat callers m n changed (among-in m changed h) (subst P (sym (is m)) k)))) e
+          no (Among n due) (in-among n due
+          ((grown-all [] (flat_map callers changed)).found n (in-flat callers m n changed (among-in m changed h) (subst P (sym (is m)) k)))) e
       unchanged m e k false h = refl
 
       by : (b : Bool) → Among n due ≡ b → (Among n due ≡ true) ⊎ (cut (suc depth) n ≡ cut (suc (suc depth)) n)
       by true e = inl e
       by false e =
           inr (ap (min 2) (deeper-count depth n)
-          ∙ local (starts_within depth x target) (starts_within (suc depth) x target) n (held_bodies x) (λ m k. same m (unchanged m e k (Among m changed) refl))
+          ∙ local (starts_within depth x target) (starts_within (suc depth) x target) n (held_bodies x)
+          (λ m k. same m (unchanged m e k (Among m changed) refl))
           ∙ ap (min 2) (sym (deeper-count (suc depth) n)))
 
   -- where nothing is due, nothing changes however deep calls are followed
@@ -407,7 +455,8 @@ module _ (x : Design) (target : Name) where
   settled zero depth same n = ap (λ d. cut d n) (omega arith)
   settled (suc more) depth same n = same n ∙ settled more (suc depth) (still depth same) n ∙ ap (λ d. cut d n) (omega arith)
 
-  pub none-due : (depth whole : ℕ) (due : List OpName) → due ≡ [] → AreDue x target depth due → depth ≤ whole → (n : OpName) → cut depth n ≡ cut whole n
+  pub none-due : (depth whole : ℕ) (due : List OpName) → due ≡ [] → AreDue x target depth due → depth ≤ whole → (n : OpName) → cut depth n
+      ≡ cut whole n
   none-due depth whole due empty are deep n = settled (whole - depth) depth (λ m. by m (are m)) n ∙ ap (λ d. cut d n) (omega (arith, deep))
     where
       by : (m : OpName) → (Among m due ≡ true) ⊎ (cut depth m ≡ cut (suc depth) m) → cut depth m ≡ cut (suc depth) m

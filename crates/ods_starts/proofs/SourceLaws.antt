@@ -1,5 +1,6 @@
 -- Threads that request an object: how many reach it, and that one that doesn't reach it never requests it.
-use Rattle.std.proofs.Common.{◌≡◌, ◌≤◌, ◌<◌, ℕ, zero, suc, Bool, true, false, cond, not, ◌&&◌, ◌||◌, List, [], ◌∷◌, ◌++◌, Option, Some, None, is_some, map, filter, flat_map, fold, length, arith, refl, ap, sym, ◌∙◌}
+use Rattle.std.proofs.Common.{◌≡◌, ◌≤◌, ◌<◌, ℕ, zero, suc, Bool, true, false, cond, not, ◌&&◌, ◌||◌, List, [], ◌∷◌, ◌++◌, Option, Some}
+use Rattle.std.proofs.Common.{None, is_some, map, filter, flat_map, fold, length, arith, refl, ap, sym, ◌∙◌}
 use Rattle.std.specs.Prelude.{max, min, nat_le, ◌==◌, option_to_list, if◌then◌else◌}
 use Rattle.std.specs.List.{list_any}
 use Rattle.std.proofs.lemmas.List.{append-nil}
@@ -18,7 +19,8 @@ use Rattle.ods_tree.specs.declared.design.Node.{out-Node}
 use Rattle.ods_tree.specs.Walk.{Standing, inner_standings, is_terminal, objects, only_if, own_of, roots, standings}
 use Rattle.design_rules.specs.Broken.{V10}
 use Rattle.design_rules.specs.Lookups.{has_thread, is_sporadic, requires}
-use Rattle.design_rules.specs.Rings.{calls_within, can_start, inner_calls, meant_calls, operation_calls, protected_objects, terminal_ops, thread_objects}
+use Rattle.design_rules.specs.Rings.{calls_within, can_start, inner_calls, meant_calls, operation_calls, protected_objects, terminal_ops}
+use Rattle.design_rules.specs.Rings.{thread_objects}
 use Rattle.design_rules.specs.Sources.{body_starts, breaks_sources, requests_by, source_count, start_count, start_weight, starts_within}
 use Rattle.ods_starts.specs.Requested.{source_fault}
 use Rattle.ods_starts.specs.Spreading.{is_there, reaches}
@@ -43,7 +45,8 @@ abbrev weigh : Bool → ℕ → ℕ
 weigh here k = if here then 1 else k
 
 -- where what leads to a target is told by this test, what doesn't counts nothing
-module _ (x : Design) (target : Name) (inner : OpName → ℕ) (leads : OpName → Bool) (quiet : (m : OpName) → leads m ≡ false → weigh (same_name m.object target) (inner m) ≡ 0) where
+module _ (x : Design) (target : Name) (inner : OpName → ℕ) (leads : OpName → Bool)
+    (quiet : (m : OpName) → leads m ≡ false → weigh (same_name m.object target) (inner m) ≡ 0) where
   abbrev weight : Object → OpName → ℕ
   weight o c = start_weight x target inner o c.object c.op
 
@@ -54,28 +57,35 @@ module _ (x : Design) (target : Name) (inner : OpName → ℕ) (leads : OpName �
       by : (b : Bool) → requires o c ≡ b → list_any leads (map (resolve x) (cond b (c ∷ filter (requires o) cs) (filter (requires o) cs))) ≡ false
           → (list_any leads (map (resolve x) (filter (requires o) cs)) ≡ false → Each (λ d. weight o d ≡ 0) cs) → Each (λ d. weight o d ≡ 0) (c ∷ cs)
       by true e k rest =
-          let parts = or-parts (leads (resolve x c)) (list_any leads (map (resolve x) (filter (requires o) cs))) k in
-          (ap (λ b. if b then weigh (same_name (resolve x c).object target) (inner (resolve x c)) else 0) e ∙ quiet (resolve x c) parts.0, rest parts.1)
+          let parts = or-parts (leads (resolve x c)) (list_any leads (map (resolve x) (filter (requires o) cs))) k in (
+            ap (λ b. if b then weigh (same_name (resolve x c).object target) (inner (resolve x c)) else 0) e
+                ∙ quiet (resolve x c) parts.0,
+            rest parts.1,
+          )
       by false e k rest = (ap (λ b. if b then weigh (same_name (resolve x c).object target) (inner (resolve x c)) else 0) e, rest k)
 
   pub block-quiet : (o : Object) (b : Statements) → list_any leads (meant_calls x o b) ≡ false → counted (start_weight x target inner o) b ≡ 0
   block-quiet o b h = counted-quiet (start_weight x target inner o) b (each-quiet o (block_calls b) h)
 
-  bodies-quiet : (o : Object) (bs : List Body) → list_any leads (flat_map (λ b. meant_calls x o b.block) bs) ≡ false → fold max 0 (map (λ b. counted (start_weight x target inner o) b.block) bs) ≡ 0
+  bodies-quiet : (o : Object) (bs : List Body) → list_any leads (flat_map (λ b. meant_calls x o b.block) bs) ≡ false
+      → fold max 0 (map (λ b. counted (start_weight x target inner o) b.block) bs) ≡ 0
   bodies-quiet o [] h = refl
   bodies-quiet o (b ∷ bs) h =
       let parts = or-parts (list_any leads (meant_calls x o b.block)) (list_any leads (flat_map (λ d. meant_calls x o d.block) bs))
       (sym (list_any-append leads (meant_calls x o b.block) (flat_map (λ d. meant_calls x o d.block) bs)) ∙ h) in
       fold-cons (counted (start_weight x target inner o) b.block) (map (λ d. counted (start_weight x target inner o) d.block) bs)
-      ∙ max-nothing (counted (start_weight x target inner o) b.block) (fold max 0 (map (λ d. counted (start_weight x target inner o) d.block) bs)) (block-quiet o b.block parts.0) (bodies-quiet o bs parts.1)
+      ∙ max-nothing (counted (start_weight x target inner o) b.block)
+      (fold max 0 (map (λ d. counted (start_weight x target inner o) d.block) bs)) (block-quiet o b.block parts.0) (bodies-quiet o bs parts.1)
 
-  objects-quiet : (op : Name) (os : List Object) → list_any leads (flat_map (λ o. operation_calls x o op) os) ≡ false → fold max 0 (map (body_starts x target inner op) os) ≡ 0
+  objects-quiet : (op : Name) (os : List Object) → list_any leads (flat_map (λ o. operation_calls x o op) os) ≡ false
+      → fold max 0 (map (body_starts x target inner op) os) ≡ 0
   objects-quiet op [] h = refl
   objects-quiet op (o ∷ os) h =
       let parts = or-parts (list_any leads (operation_calls x o op)) (list_any leads (flat_map (λ d. operation_calls x d op) os))
       (sym (list_any-append leads (operation_calls x o op) (flat_map (λ d. operation_calls x d op) os)) ∙ h) in
       fold-cons (body_starts x target inner op o) (map (body_starts x target inner op) os)
-      ∙ max-nothing (body_starts x target inner op o) (fold max 0 (map (body_starts x target inner op) os)) (bodies-quiet o (filter (λ b. same_name b.name op) o.bodies) parts.0) (objects-quiet op os parts.1)
+      ∙ max-nothing (body_starts x target inner op o) (fold max 0 (map (body_starts x target inner op) os))
+      (bodies-quiet o (filter (λ b. same_name b.name op) o.bodies) parts.0) (objects-quiet op os parts.1)
 
 module _ (x : Design) (target : Name) where
   abbrev here : OpName → Bool
@@ -96,7 +106,8 @@ module _ (x : Design) (target : Name) where
   quiet-within zero n h = refl
   quiet-within (suc depth) n h =
       let parts = or-parts (here n) (list_any here (flat_map (calls_within depth x) (inner_calls x n))) h in
-      objects-quiet x target (starts_within depth x target) (leads_within depth) (λ m k. unless-here m (starts_within depth x target m) (first-here depth m k) (quiet-within depth m k)) n.op
+      objects-quiet x target (starts_within depth x target) (leads_within depth)
+      (λ m k. unless-here m (starts_within depth x target m) (first-here depth m k) (quiet-within depth m k)) n.op
       (filter (λ o. same_name o.name n.object) (protected_objects x)) (sym (any-flat here (calls_within depth x) (inner_calls x n)) ∙ parts.1)
 
   quiet-call : (depth : ℕ) (m : OpName) → leads_within depth m ≡ false → weigh (here m) (starts_within depth x target m) ≡ 0
@@ -110,7 +121,8 @@ module _ (x : Design) (target : Name) where
       depth = length (terminal_ops x)
 
       front : (xs ys : List OpName) → list_any (leads_within depth) (xs ++ ys) ≡ false → list_any (leads_within depth) xs ≡ false
-      front xs ys k = (or-parts (list_any (leads_within depth) xs) (list_any (leads_within depth) ys) (sym (list_any-append (leads_within depth) xs ys) ∙ k)).0
+      front xs ys k =
+          (or-parts (list_any (leads_within depth) xs) (list_any (leads_within depth) ys) (sym (list_any-append (leads_within depth) xs ys) ∙ k)).0
 
       by : (t : Option Statements) → list_any (leads_within depth) (flat_map (meant_calls x o) (option_to_list t)) ≡ false
           → fold max 0 (map (counted (start_weight x target (starts_within depth x target) o)) (option_to_list t)) ≡ 0
@@ -121,7 +133,8 @@ module _ (x : Design) (target : Name) where
           (block-quiet x target (starts_within depth x target) (leads_within depth) (quiet-call depth) o b (front (meant_calls x o b) [] k)) refl
 
 -- and so only threads that reach a target count
-pub greatest-reached : (x : Design) (target : Name) (os : List Object) → fold max 0 (map (requests_by x target) (filter (λ o. reaches x o target) os)) ≡ fold max 0 (map (requests_by x target) os)
+pub greatest-reached : (x : Design) (target : Name) (os : List Object)
+    → fold max 0 (map (requests_by x target) (filter (λ o. reaches x o target) os)) ≡ fold max 0 (map (requests_by x target) os)
 greatest-reached x target [] = refl
 greatest-reached x target (o ∷ os) = by (reaches x o target) refl (greatest-reached x target os)
   where
@@ -136,16 +149,22 @@ greatest-reached x target (o ∷ os) = by (reaches x o target) refl (greatest-re
 
     by : (t : Bool) → reaches x o target ≡ t → fold max 0 (map (requests_by x target) some) ≡ all
         → fold max 0 (map (requests_by x target) (cond t (o ∷ some) some)) ≡ fold max 0 (map (requests_by x target) (o ∷ os))
-    by true e rest = fold-cons (requests_by x target o) (map (requests_by x target) some) ∙ ap (max (requests_by x target o)) rest ∙ sym (fold-cons (requests_by x target o) (map (requests_by x target) os))
-    by false e rest = rest ∙ nothing-more (requests_by x target o) all (quiet-thread x target o e) ∙ sym (fold-cons (requests_by x target o) (map (requests_by x target) os))
+    by true e rest =
+        fold-cons (requests_by x target o) (map (requests_by x target) some) ∙ ap (max (requests_by x target o)) rest
+        ∙ sym (fold-cons (requests_by x target o) (map (requests_by x target) os))
+    by false e rest =
+        rest ∙ nothing-more (requests_by x target o) all (quiet-thread x target o e)
+        ∙ sym (fold-cons (requests_by x target o) (map (requests_by x target) os))
 
-pub start-counted : (x : Design) (o : Object) (name : Name) (os : List Object) → os ≡ filter (λ f. reaches x f name) (thread_objects x) → name ≡ o.name → min 2 (fold max 0 (map (requests_by x name) os)) ≡ start_count x o
+pub start-counted : (x : Design) (o : Object) (name : Name) (os : List Object) → os ≡ filter (λ f. reaches x f name) (thread_objects x) → name
+    ≡ o.name → min 2 (fold max 0 (map (requests_by x name) os)) ≡ start_count x o
 start-counted x o name os are is =
     ap (λ (fs : List Object). min 2 (fold max 0 (map (requests_by x name) fs))) are ∙ ap (min 2) (greatest-reached x name (thread_objects x))
     ∙ ap (λ n. min 2 (fold max 0 (map (requests_by x n) (thread_objects x)))) is
 
 -- the threads that reach an object are those that can start it, where it is sporadic
-pub starters-counted : (x : Design) (o : Object) (fs : List Object) → is_sporadic o.kind ≡ true → length (filter (λ f. reaches x f o.name) fs) ≡ length (filter (λ f. can_start x f o) fs)
+pub starters-counted : (x : Design) (o : Object) (fs : List Object) → is_sporadic o.kind ≡ true → length (filter (λ f. reaches x f o.name) fs)
+    ≡ length (filter (λ f. can_start x f o) fs)
 starters-counted x o fs e = ap (λ b. length (filter (λ f. b && reaches x f o.name) fs)) (sym e)
 
 -- a name that is there already
@@ -164,7 +183,8 @@ found-again there m h n = by (same_name m n) refl
     by true e = ap there (sym ((bytes_eq-Decides m n).0 e)) ∙ h ∙ sym (or-true (there n))
     by false e = or-false (there n)
 
-pub nothing-again : {A : Type 0} (there : Name → Bool) (m : Name) (xs one : List A) → there m ≡ true → (n : Name) → xs ≡ xs ++ (if not (there n) && same_name m n then one else [])
+pub nothing-again : {A : Type 0} (there : Name → Bool) (m : Name) (xs one : List A) → there m ≡ true → (n : Name) → xs ≡ xs
+    ++ (if not (there n) && same_name m n then one else [])
 nothing-again there m xs one h n = by (there n) refl (same_name m n) refl
   where
     by : (b : Bool) → there n ≡ b → (t : Bool) → same_name m n ≡ t → xs ≡ xs ++ (if not b && t then one else [])
@@ -173,7 +193,8 @@ nothing-again there m xs one h n = by (there n) refl (same_name m n) refl
     by false e false k = sym (append-nil xs)
 
 -- one that is new
-pub found-new : (m n : Name) (place : ℕ) (old new : Option ℕ) → new ≡ cond (same_name m n) (Some place) old → is_there new ≡ (is_there old || same_name m n)
+pub found-new : (m n : Name) (place : ℕ) (old new : Option ℕ) → new ≡ cond (same_name m n) (Some place) old → is_there new
+    ≡ (is_there old || same_name m n)
 found-new m n place old new e = ap is_there e ∙ by (same_name m n) (is_there old) refl
   where
     by : (t b : Bool) → is_there old ≡ b → is_there (cond t (Some place) old) ≡ (is_there old || t)
@@ -182,7 +203,8 @@ found-new m n place old new e = ap is_there e ∙ by (same_name m n) (is_there o
     by false true e = e ∙ ap (λ c. c || false) (sym e)
     by false false e = e ∙ ap (λ c. c || false) (sym e)
 
-pub added-new : {A : Type 0} (there : Name → Bool) (m : Name) (xs ys one : List A) → there m ≡ false → (n : Name) → ys ≡ xs ++ (if same_name m n then one else [])
+pub added-new : {A : Type 0} (there : Name → Bool) (m : Name) (xs ys one : List A) → there m ≡ false → (n : Name) → ys ≡ xs
+    ++ (if same_name m n then one else [])
     → ys ≡ xs ++ (if not (there n) && same_name m n then one else [])
 added-new there m xs ys one h n e = e ∙ ap (λ b. xs ++ (if b then one else [])) (by (there n) refl (same_name m n) refl)
   where
@@ -192,10 +214,12 @@ added-new there m xs ys one h n e = e ∙ ap (λ b. xs ++ (if b then one else []
     by false e t k = refl
 
 -- what was kept before the first operation, and after one more
-pub added-once : {A : Type 0} (xs ys zs one : List A) (old new here : Bool) → ys ≡ xs ++ (if old then one else []) → new ≡ (old || here) → zs ≡ ys ++ (if not old && here then one else [])
+pub added-once : {A : Type 0} (xs ys zs one : List A) (old new here : Bool) → ys ≡ xs ++ (if old then one else []) → new ≡ (old || here) → zs
+    ≡ ys ++ (if not old && here then one else [])
     → zs ≡ xs ++ (if new then one else [])
 added-once xs ys zs one true new here y n z = z ∙ append-nil ys ∙ y ∙ ap (λ b. xs ++ (if b then one else [])) (sym n)
-added-once xs ys zs one false new here y n z = z ∙ ap (λ l. l ++ (if here then one else [])) (y ∙ append-nil xs) ∙ ap (λ b. xs ++ (if b then one else [])) (sym n)
+added-once xs ys zs one false new here y n z =
+    z ∙ ap (λ l. l ++ (if here then one else [])) (y ∙ append-nil xs) ∙ ap (λ b. xs ++ (if b then one else [])) (sym n)
 
 -- fewer threads than objects, but for a design of one object
 pub filter-shorter : {A : Type 0} (p : A → Bool) (xs : List A) → length (filter p xs) ≤ length xs

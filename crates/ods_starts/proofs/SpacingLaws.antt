@@ -13,8 +13,10 @@ use Rattle.design_rules.specs.Separations.{spacing}
 use Rattle.ods_starts.specs.Spacings.{spaced}
 
 -- the same names make the same be told
-pub spaced-same : (f g : Name → Bool) (from : Object) (ts : List Object) → ((n : Name) → f n ≡ g n) → filter_map (spaced f from) ts ≡ filter_map (spaced g from) ts
+pub spaced-same : (f g : Name → Bool) (from : Object) (ts : List Object) → ((n : Name) → f n ≡ g n) → filter_map (spaced f from) ts
+    ≡ filter_map (spaced g from) ts
 spaced-same f g from [] same = refl
 spaced-same f g from (t ∷ ts) same =
-    ap (λ b. cons_option (only_if ((is_sporadic t.kind && b) && nat_lt (spacing from) (attribute_or 0 Separation t)) (V16 from.name (spacing from) t.name (attribute_or 0 Separation t))) (filter_map (spaced f from) ts)) (same t.name)
+    ap (λ b. cons_option (only_if ((is_sporadic t.kind && b) && nat_lt (spacing from) (attribute_or 0 Separation t))
+    (V16 from.name (spacing from) t.name (attribute_or 0 Separation t))) (filter_map (spaced f from) ts)) (same t.name)
     ∙ ap (λ l. cons_option (spaced g from t) l) (spaced-same f g from ts same)

@@ -1,5 +1,6 @@
 -- What is found level by level is what calls lead to, so deep as there are levels.
-use Rattle.std.proofs.Common.{◌≡◌, ◌⊎◌, inl, inr, ℕ, zero, suc, ◌+◌, ◌-◌, ◌<◌, ◌≤◌, Bool, true, false, cond, List, [], ◌∷◌, ◌++◌, Option, Some, None, map, filter, flat_map, drop, length, ◌&&◌, ◌||◌, arith, refl, ap, sym, subst, ◌∙◌, append_assoc}
+use Rattle.std.proofs.Common.{◌≡◌, ◌⊎◌, inl, inr, ℕ, zero, suc, ◌+◌, ◌-◌, ◌<◌, ◌≤◌, Bool, true, false, cond, List, [], ◌∷◌, ◌++◌, Option}
+use Rattle.std.proofs.Common.{Some, None, map, filter, flat_map, drop, length, ◌&&◌, ◌||◌, arith, refl, ap, sym, subst, ◌∙◌, append_assoc}
 use Rattle.std.specs.Prelude.{if◌then◌else◌}
 use Rattle.std.specs.List.{list_any}
 use Rattle.std.proofs.lemmas.List.{append-nil, length-append}
@@ -82,7 +83,8 @@ grown-one all op = by (list_any (same_op op) all) refl
         one a (inr k) h = absurd k
     by false e = record { more = op ∷ []; grown = refl; looked = λ a h. h; found = λ a h. in-right a all (op ∷ []) h }
 
-grown-then : (all mid after : List OpName) (op : OpName) (ops : List OpName) → Grown all mid (op ∷ []) → Grown mid after ops → Grown all after (op ∷ ops)
+grown-then : (all mid after : List OpName) (op : OpName) (ops : List OpName) → Grown all mid (op ∷ []) → Grown mid after ops
+    → Grown all after (op ∷ ops)
 grown-then all mid after op ops g k = record {
   more = g.more ++ k.more;
   grown = k.grown ∙ ap (λ z. z ++ k.more) g.grown ∙ append_assoc all g.more k.more;
@@ -104,7 +106,8 @@ grown-then all mid after op ops g k = record {
 
 pub grown-all : (all ops : List OpName) → Grown all (found_all all ops) ops
 grown-all all [] = record { more = []; grown = sym (append-nil all); looked = λ a h. h; found = λ a h. absurd h }
-grown-all all (op ∷ ops) = grown-then all (found_more all op) (found_all (found_more all op) ops) op ops (grown-one all op) (grown-all (found_more all op) ops)
+grown-all all (op ∷ ops) =
+    grown-then all (found_more all op) (found_all (found_more all op) ops) op ops (grown-one all op) (grown-all (found_more all op) ops)
 
 -- none is lost
 pub found-longer : (all ops : List OpName) → length all ≤ length (found_all all ops)
@@ -124,7 +127,8 @@ spread-next next depth i from all h = let less : depth - i ≡ suc (depth - (i +
 pub spread-ends : (next : OpName → List OpName) (depth from : ℕ) (all : List OpName) → length all ≤ from → spread next depth from all ≡ all
 spread-ends next zero from all h = refl
 spread-ends next (suc depth) from all h =
-    ap (λ ops. spread next depth (length all) (found_all all (flat_map next ops))) (drop_of_length-le all h) ∙ spread-ends next depth (length all) all (omega arith)
+    ap (λ ops. spread next depth (length all) (found_all all (flat_map next ops))) (drop_of_length-le all h)
+    ∙ spread-ends next depth (length all) all (omega arith)
 
 module _ (x : Design) (next : OpName → List OpName) (is : (n : OpName) → next n ≡ inner_calls x n) where
   in-next : (n m : OpName) → In m (inner_calls x n) → In m (next n)
@@ -139,31 +143,38 @@ module _ (x : Design) (next : OpName → List OpName) (is : (n : OpName) → nex
   here (suc depth) n = inl refl
 
   -- what is new is what those from the place on call
-  new-in : (from : ℕ) (all : List OpName) (a : OpName) → In a (drop (length all) (found_all all (flat_map next (drop from all)))) → In a (flat_map next (drop from all))
+  new-in : (from : ℕ) (all : List OpName) (a : OpName) → In a (drop (length all) (found_all all (flat_map next (drop from all))))
+      → In a (flat_map next (drop from all))
   new-in from all a h =
       let g = grown-all all (flat_map next (drop from all)) in
       let P : List OpName → Type 0 = λ z. In a z in
       g.looked a (subst P (ap (drop (length all)) g.grown ∙ drop-append_seam all g.more) h)
 
   -- what is found was found before, or is led to from the place on
-  pub sound : (depth from : ℕ) (all : List OpName) (c : OpName) → In c (spread next depth from all) → In c all ⊎ ((n : OpName) × In n (drop from all) × In c (calls_within depth x n))
+  pub sound : (depth from : ℕ) (all : List OpName) (c : OpName) → In c (spread next depth from all) → In c all
+      ⊎ ((n : OpName) × In n (drop from all) × In c (calls_within depth x n))
   sound zero from all c h = inl h
   sound (suc depth) from all c h = by (sound depth (length all) after c h)
     where
       after : List OpName
       after = found_all all (flat_map next (drop from all))
 
-      called : (m : OpName) → In m (flat_map next (drop from all)) → In c (calls_within depth x m) → (n : OpName) × In n (drop from all) × In c (calls_within (suc depth) x n)
+      called : (m : OpName) → In m (flat_map next (drop from all)) → In c (calls_within depth x m) → (n : OpName) × In n (drop from all)
+          × In c (calls_within (suc depth) x n)
       called m k j =
           let r = from-flat next m (drop from all) k in
           (r.0, r.1, inr (in-flat (calls_within depth x) m c (inner_calls x r.0) (from-next r.0 m r.2) j))
 
-      old : In c all ⊎ In c (grown-all all (flat_map next (drop from all))).more → In c all ⊎ ((n : OpName) × In n (drop from all) × In c (calls_within (suc depth) x n))
+      old : In c all ⊎ In c (grown-all all (flat_map next (drop from all))).more → In c all
+          ⊎ ((n : OpName) × In n (drop from all) × In c (calls_within (suc depth) x n))
       old (inl k) = inl k
       old (inr k) = inr (called c ((grown-all all (flat_map next (drop from all))).looked c k) (here depth c))
 
-      by : In c after ⊎ ((m : OpName) × In m (drop (length all) after) × In c (calls_within depth x m)) → In c all ⊎ ((n : OpName) × In n (drop from all) × In c (calls_within (suc depth) x n))
-      by (inl k) = let g = grown-all all (flat_map next (drop from all)) in let P : List OpName → Type 0 = λ z. In c z in old (in-parts c all g.more (subst P g.grown k))
+      by : In c after ⊎ ((m : OpName) × In m (drop (length all) after) × In c (calls_within depth x m)) → In c all
+          ⊎ ((n : OpName) × In n (drop from all) × In c (calls_within (suc depth) x n))
+      by (inl k) =
+          let g = grown-all all (flat_map next (drop from all)) in
+          let P : List OpName → Type 0 = λ z. In c z in old (in-parts c all g.more (subst P g.grown k))
       by (inr r) = inr (called r.0 (new-in from all r.0 r.1) r.2)
 
   -- those before the place call nothing that isn't there
@@ -176,7 +187,8 @@ module _ (x : Design) (next : OpName → List OpName) (is : (n : OpName) → nex
       let P : List OpName → Type 0 = λ z. In a z in subst P (sym g.grown) (in-left a all g.more h)
 
   -- what they call is there one level later
-  called-later : (from : ℕ) (all : List OpName) → Closed from all → (n m : OpName) → In n all → In m (next n) → In m (found_all all (flat_map next (drop from all)))
+  called-later : (from : ℕ) (all : List OpName) → Closed from all → (n m : OpName) → In n all → In m (next n)
+      → In m (found_all all (flat_map next (drop from all)))
   called-later from all closed n m h k = by (closed n h)
     where
       by : In n (drop from all) ⊎ ((m : OpName) → In m (next n) → In m all) → In m (found_all all (flat_map next (drop from all)))
@@ -189,7 +201,8 @@ module _ (x : Design) (next : OpName → List OpName) (is : (n : OpName) → nex
       let P : List OpName → Type 0 = λ z. In n z in by (in-parts n all g.more (subst P g.grown h))
     where
       by : In n all ⊎ In n (grown-all all (flat_map next (drop from all))).more
-          → In n (drop (length all) (found_all all (flat_map next (drop from all)))) ⊎ ((m : OpName) → In m (next n) → In m (found_all all (flat_map next (drop from all))))
+          → In n (drop (length all) (found_all all (flat_map next (drop from all))))
+          ⊎ ((m : OpName) → In m (next n) → In m (found_all all (flat_map next (drop from all))))
       by (inl k) = inr (λ m j. called-later from all closed n m k j)
       by (inr k) =
           let g = grown-all all (flat_map next (drop from all)) in
@@ -200,26 +213,31 @@ module _ (x : Design) (next : OpName → List OpName) (is : (n : OpName) → nex
   stays (suc depth) from all c h = stays depth (length all) (found_all all (flat_map next (drop from all))) c (kept from all c h)
 
   -- what is led to is found
-  pub complete : (depth from : ℕ) (all : List OpName) → Closed from all → (n c : OpName) → In n all → In c (calls_within depth x n) → In c (spread next depth from all)
+  pub complete : (depth from : ℕ) (all : List OpName) → Closed from all → (n c : OpName) → In n all → In c (calls_within depth x n)
+      → In c (spread next depth from all)
   complete zero from all closed n c h (inl e) = let P : OpName → Type 0 = λ z. In z all in subst P e h
   complete zero from all closed n c h (inr k) = absurd k
   complete (suc depth) from all closed n c h (inl e) = let P : OpName → Type 0 = λ z. In z all in stays (suc depth) from all c (subst P e h)
   complete (suc depth) from all closed n c h (inr k) =
       let r = from-flat (calls_within depth x) c (inner_calls x n) k in
-      complete depth (length all) (found_all all (flat_map next (drop from all))) (closed-later from all closed) r.0 c (called-later from all closed n r.0 h (in-next n r.0 r.1)) r.2
+      complete depth (length all) (found_all all (flat_map next (drop from all))) (closed-later from all closed) r.0 c
+      (called-later from all closed n r.0 h (in-next n r.0 r.1)) r.2
 
   -- from no operations before
-  pub spread-in : (depth : ℕ) (starts : List OpName) (c : OpName) → In c (spread next depth 0 (found_all [] starts)) → In c (flat_map (calls_within depth x) starts)
+  pub spread-in : (depth : ℕ) (starts : List OpName) (c : OpName) → In c (spread next depth 0 (found_all [] starts))
+      → In c (flat_map (calls_within depth x) starts)
   spread-in depth starts c h = by (sound depth 0 (found_all [] starts) c h)
     where
       from-starts : (n : OpName) → In n (found_all [] starts) → In n starts
       from-starts n k = let g = grown-all [] starts in let P : List OpName → Type 0 = λ z. In n z in g.looked n (subst P g.grown k)
 
-      by : In c (found_all [] starts) ⊎ ((n : OpName) × In n (found_all [] starts) × In c (calls_within depth x n)) → In c (flat_map (calls_within depth x) starts)
+      by : In c (found_all [] starts) ⊎ ((n : OpName) × In n (found_all [] starts) × In c (calls_within depth x n))
+          → In c (flat_map (calls_within depth x) starts)
       by (inl k) = in-flat (calls_within depth x) c c starts (from-starts c k) (here depth c)
       by (inr r) = in-flat (calls_within depth x) r.0 c starts (from-starts r.0 r.1) r.2
 
-  pub in-spread : (depth : ℕ) (starts : List OpName) (c : OpName) → In c (flat_map (calls_within depth x) starts) → In c (spread next depth 0 (found_all [] starts))
+  pub in-spread : (depth : ℕ) (starts : List OpName) (c : OpName) → In c (flat_map (calls_within depth x) starts)
+      → In c (spread next depth 0 (found_all [] starts))
   in-spread depth starts c h =
       let r = from-flat (calls_within depth x) c starts h in
       complete depth 0 (found_all [] starts) (λ n k. inl k) r.0 c ((grown-all [] starts).found r.0 r.1) r.2
@@ -238,7 +256,8 @@ pub any-some : (p : OpName → Bool) (xs : List OpName) → list_any p xs ≡ tr
 any-some p [] h = absurd (cc)
 any-some p (x ∷ xs) h = by (any-some p xs) (p x) refl h
   where
-    by : (list_any p xs ≡ true → (a : OpName) × In a xs × (p a ≡ true)) → (b : Bool) → p x ≡ b → (b || list_any p xs) ≡ true → (a : OpName) × In a (x ∷ xs) × (p a ≡ true)
+    by : (list_any p xs ≡ true → (a : OpName) × In a xs × (p a ≡ true)) → (b : Bool) → p x ≡ b → (b || list_any p xs) ≡ true → (a : OpName)
+        × In a (x ∷ xs) × (p a ≡ true)
     by rest true e k = (x, inl refl, e)
     by rest false e k = let r = rest k in (r.0, inr r.1, r.2)
 
@@ -248,7 +267,8 @@ same-bool false true f g = g refl
 same-bool false false f g = refl
 
 -- a test finds one among the found ones where it does among those that are led to
-pub spread-any : (x : Design) (next : OpName → List OpName) → ((n : OpName) → next n ≡ inner_calls x n) → (p : OpName → Bool) (depth : ℕ) (starts : List OpName)
+pub spread-any : (x : Design) (next : OpName → List OpName) → ((n : OpName) → next n ≡ inner_calls x n)
+    → (p : OpName → Bool) (depth : ℕ) (starts : List OpName)
     → list_any p (spread next depth 0 (found_all [] starts)) ≡ list_any p (flat_map (calls_within depth x) starts)
 spread-any x next is p depth starts = same-bool _ _ forth back
   where
@@ -267,32 +287,44 @@ pub ruleset spread_laws = (found-append)
 pub ruleset thread_laws = (append-nil)
 
 -- the calls that are kept are those of protected operations
-body-steps : (x : Design) (n : OpName) (o : Object) (bs : List Body) → same_name o.name n.object ≡ true → flat_map (body_steps x n o.name o.needs) bs ≡ flat_map (λ b. meant_calls x o b.block) (filter (λ b. same_name b.name n.op) bs)
+body-steps : (x : Design) (n : OpName) (o : Object) (bs : List Body) → same_name o.name n.object ≡ true
+    → flat_map (body_steps x n o.name o.needs) bs ≡ flat_map (λ b. meant_calls x o b.block) (filter (λ b. same_name b.name n.op) bs)
 body-steps x n o [] e = refl
 body-steps x n o (b ∷ bs) e = by (same_name b.name n.op) refl (body-steps x n o bs e)
   where
-    by : (t : Bool) → same_name b.name n.op ≡ t → flat_map (body_steps x n o.name o.needs) bs ≡ flat_map (λ d. meant_calls x o d.block) (filter (λ d. same_name d.name n.op) bs)
+    by : (t : Bool) → same_name b.name n.op ≡ t → flat_map (body_steps x n o.name o.needs) bs
+        ≡ flat_map (λ d. meant_calls x o d.block) (filter (λ d. same_name d.name n.op) bs)
         → (if same_name o.name n.object && same_name b.name n.op then meant_calls x o b.block else []) ++ flat_map (body_steps x n o.name o.needs) bs
-        ≡ flat_map (λ d. meant_calls x o d.block) (if same_name b.name n.op then b ∷ filter (λ d. same_name d.name n.op) bs else filter (λ d. same_name d.name n.op) bs)
+        ≡ flat_map (λ d. meant_calls x o d.block)
+        (if same_name b.name n.op then b ∷ filter (λ d. same_name d.name n.op) bs else filter (λ d. same_name d.name n.op) bs)
     by true t k = rw (e, t) (ap (λ l. meant_calls x o b.block ++ l) k)
     by false t k = rw (e, t) k
 
-no-steps : (x : Design) (n : OpName) (o : Object) (bs : List Body) → same_name o.name n.object ≡ false → flat_map (body_steps x n o.name o.needs) bs ≡ []
+no-steps : (x : Design) (n : OpName) (o : Object) (bs : List Body) → same_name o.name n.object ≡ false
+    → flat_map (body_steps x n o.name o.needs) bs ≡ []
 no-steps x n o [] e = refl
-no-steps x n o (b ∷ bs) e = ap (λ t. (if t && same_name b.name n.op then meant_calls x o b.block else []) ++ flat_map (body_steps x n o.name o.needs) bs) e ∙ no-steps x n o bs e
+no-steps x n o (b ∷ bs) e =
+    ap (λ t. (if t && same_name b.name n.op then meant_calls x o b.block else []) ++ flat_map (body_steps x n o.name o.needs) bs) e
+    ∙ no-steps x n o bs e
 
-pub inner-steps : (x : Design) (n : OpName) (ss : List Standing) → flat_map (steps_in x n) ss ≡ flat_map (λ o. operation_calls x o n.op) (filter (λ o. same_name o.name n.object) (map (λ s. s.own) ss))
+pub inner-steps : (x : Design) (n : OpName) (ss : List Standing) → flat_map (steps_in x n) ss
+    ≡ flat_map (λ o. operation_calls x o n.op) (filter (λ o. same_name o.name n.object) (map (λ s. s.own) ss))
 inner-steps x n [] = refl
 inner-steps x n (s ∷ ss) = by (same_name s.own.name n.object) refl (inner-steps x n ss)
   where
-    by : (t : Bool) → same_name s.own.name n.object ≡ t → flat_map (steps_in x n) ss ≡ flat_map (λ o. operation_calls x o n.op) (filter (λ o. same_name o.name n.object) (map (λ s. s.own) ss))
+    by : (t : Bool) → same_name s.own.name n.object ≡ t → flat_map (steps_in x n) ss
+        ≡ flat_map (λ o. operation_calls x o n.op) (filter (λ o. same_name o.name n.object) (map (λ s. s.own) ss))
         → flat_map (body_steps x n s.own.name s.own.needs) s.own.bodies ++ flat_map (steps_in x n) ss
-        ≡ flat_map (λ o. operation_calls x o n.op) (if same_name s.own.name n.object then s.own ∷ filter (λ o. same_name o.name n.object) (map (λ s. s.own) ss) else filter (λ o. same_name o.name n.object) (map (λ s. s.own) ss))
-    by true t k = rw t (ap (λ l. l ++ flat_map (steps_in x n) ss) (body-steps x n s.own s.own.bodies t) ∙ ap (λ l. operation_calls x s.own n.op ++ l) k)
+        ≡ flat_map (λ o. operation_calls x o n.op)
+        (if same_name s.own.name n.object then s.own ∷ filter (λ o. same_name o.name n.object) (map (λ s. s.own) ss)
+        else filter (λ o. same_name o.name n.object) (map (λ s. s.own) ss))
+    by true t k =
+        rw t (ap (λ l. l ++ flat_map (steps_in x n) ss) (body-steps x n s.own s.own.bodies t) ∙ ap (λ l. operation_calls x s.own n.op ++ l) k)
     by false t k = rw t (ap (λ l. l ++ flat_map (steps_in x n) ss) (no-steps x n s.own s.own.bodies t) ∙ k)
 
 -- one name more in a table
-pub named-more : (own n : Name) (after before : Option ℕ) (left : Bool) → after ≡ cond (same_name own n) (Some 0) before → (is_there after || left) ≡ (is_there before || (same_name own n || left))
+pub named-more : (own n : Name) (after before : Option ℕ) (left : Bool) → after ≡ cond (same_name own n) (Some 0) before
+    → (is_there after || left) ≡ (is_there before || (same_name own n || left))
 named-more own n after before left e = ap (λ z. is_there z || left) e ∙ by (same_name own n) (is_there before) refl
   where
     by : (t b : Bool) → is_there before ≡ b → (is_there (cond t (Some 0) before) || left) ≡ (is_there before || (t || left))

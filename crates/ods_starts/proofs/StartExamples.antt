@@ -90,16 +90,20 @@ seen_none t none n = ap is_there (none n)
 seen_some : (t : OpTable (Unit {0})) → ((n : OpName) → at t n ≡ None) → IsSeen t (set ∷ []) → ⊥
 seen_some t none seen = (let z : false ≡ true = sym (ap is_there (none set)) ∙ seen set in cc)
 
-body_of_name : body_steps (small []) (record { object = codes "a"; op = codes "do" }) (codes "a") (set ∷ []) (record { name = codes "do"; locals = []; block = Then (Call (codes "q") (codes "set") []) End }) ≡ set ∷ []
+body_of_name : body_steps (small []) (record { object = codes "a"; op = codes "do" }) (codes "a") (set ∷ [])
+    (record { name = codes "do"; locals = []; block = Then (Call (codes "q") (codes "set") []) End }) ≡ set ∷ []
 body_of_name = refl
 
-body_of_other_name : body_steps (small []) (record { object = codes "a"; op = codes "go" }) (codes "a") (set ∷ []) (record { name = codes "do"; locals = []; block = Then (Call (codes "q") (codes "set") []) End }) ≡ []
+body_of_other_name : body_steps (small []) (record { object = codes "a"; op = codes "go" }) (codes "a") (set ∷ [])
+    (record { name = codes "do"; locals = []; block = Then (Call (codes "q") (codes "set") []) End }) ≡ []
 body_of_other_name = refl
 
-steps_of_object : steps_in (small []) (record { object = codes "a"; op = codes "do" }) (record { own = caller (set ∷ []); parent = None; siblings = []; children = [] }) ≡ set ∷ []
+steps_of_object : steps_in (small []) (record { object = codes "a"; op = codes "do" })
+    (record { own = caller (set ∷ []); parent = None; siblings = []; children = [] }) ≡ set ∷ []
 steps_of_object = refl
 
-no_steps_without_need : steps_in (small []) (record { object = codes "a"; op = codes "do" }) (record { own = caller []; parent = None; siblings = []; children = [] }) ≡ []
+no_steps_without_need : steps_in (small []) (record { object = codes "a"; op = codes "do" })
+    (record { own = caller []; parent = None; siblings = []; children = [] }) ≡ []
 no_steps_without_need = refl
 
 reached_by_call : reaches (small (set ∷ [])) (caller (set ∷ [])) (codes "q") ≡ true

@@ -1,5 +1,6 @@
 -- Rings of starts between threads are rings between their places.
-use Rattle.std.proofs.Common.{◌≡◌, ℕ, ◌≤◌, Bool, true, false, ◌&&◌, List, map, filter, length, slice_get, nat_lt, Option, Some, None, Bor, refl, sym, ap, subst, ◌∙◌, arith}
+use Rattle.std.proofs.Common.{◌≡◌, ℕ, ◌≤◌, Bool, true, false, ◌&&◌, List, map, filter, length, slice_get, nat_lt, Option, Some, None, Bor}
+use Rattle.std.proofs.Common.{refl, sym, ap, subst, ◌∙◌, arith}
 use Rattle.std.specs.Prelude.{if◌then◌else◌}
 use Rattle.std.specs.List.{list_any}
 use Rattle.std.proofs.lemmas.Bool.{eqb-true, eq-eqb}
@@ -66,13 +67,16 @@ started x a c h =
       object = same-too k.0.object t.0.name c k.2 target;
     }
 
-starts : (x : Design) (f t : Object) (k : OpName) → In f (thread_objects x) → In t (thread_objects x) → is_sporadic t.kind ≡ true → In k (thread_calls x f) → t.name ≡ k.object → StartsThread x f.name k.object
+starts : (x : Design) (f t : Object) (k : OpName) → In f (thread_objects x) → In t (thread_objects x) → is_sporadic t.kind ≡ true
+    → In k (thread_calls x f) → t.name ≡ k.object → StartsThread x f.name k.object
 starts x f t k hf ht sporadic hk same =
     let here : can_start x f t ≡ true =
-    and-from _ _ sporadic (any-in (λ c. same_name c.object t.name) k (thread_calls x f) hk (ap (λ n. same_name k.object n) same ∙ same-self k.object)) in
+    and-from _ _ sporadic (any-in (λ c. same_name c.object t.name) k (thread_calls x f) hk
+    (ap (λ n. same_name k.object n) same ∙ same-self k.object)) in
     any-in (λ g. same_name g.name f.name && list_any (λ u. same_name u.name k.object && can_start x g u) (thread_objects x)) f (thread_objects x) hf
     (and-from _ _ (same-self f.name)
-    (any-in (λ u. same_name u.name k.object && can_start x f u) t (thread_objects x) ht (and-from _ _ (ap (λ n. same_name n k.object) same ∙ same-self k.object) here)))
+    (any-in (λ u. same_name u.name k.object && can_start x f u) t (thread_objects x) ht
+    (and-from _ _ (ap (λ n. same_name n k.object) same ∙ same-self k.object) here)))
 
 -- a place that is told is this one
 is-place : (o : Option ℕ) (p : ℕ) → is_at o p ≡ true → o ≡ Some p
@@ -116,9 +120,11 @@ module _ (x : Design) (place target : Name → Option ℕ) (count : ℕ) (es : L
       any-in (is_target c) d.to (thread_objects x) d.held (and-from _ _ d.sporadic (ap (λ n. same_name n c) d.target ∙ same-self c)) in
       let there : target c ≡ Some q = graph.aimed c ∙ ap (λ b. if b then place c else None) known ∙ f in
       let calls : list_any (λ k. is_at (target k.object) q) (thread_calls x d.from) ≡ true =
-      any-in (λ k. is_at (target k.object) q) d.call (thread_calls x d.from) d.called (place-is (target d.call.object) q (ap target d.object ∙ there)) in
+      any-in (λ k. is_at (target k.object) q) d.call (thread_calls x d.from) d.called
+      (place-is (target d.call.object) q (ap target d.object ∙ there)) in
       let enough = graph.counted in
-      and-from _ _ (grind (arith, inside, enough)) (graph.made p q ∙ any-in (starts_at place target x p q) d.from (thread_objects x) d.stands (and-from _ _ at calls))
+      and-from _ _ (grind (arith, inside, enough))
+      (graph.made p q ∙ any-in (starts_at place target x p q) d.from (thread_objects x) d.stands (and-from _ _ at calls))
 
   -- an edge is a start between threads with these places
   step-back : (p q : ℕ) → step-of p q ≡ true → (a c : Name) × (place a ≡ Some p) × (place c ≡ Some q) × StartsThread x a c
@@ -127,7 +133,8 @@ module _ (x : Design) (place target : Name → Option ℕ) (count : ℕ) (es : L
       let f = some-in (starts_at place target x p q) (thread_objects x) (sym (graph.made p q) ∙ e.1) in
       let g = both (is_at (place f.0.name) p) (list_any (λ k. is_at (target k.object) q) (thread_calls x f.0)) f.2 in
       let k = some-in (λ k. is_at (target k.object) q) (thread_calls x f.0) g.1 in
-      let r = target-parts (has_target (thread_objects x) k.0.object) (place k.0.object) q (sym (graph.aimed k.0.object) ∙ is-place (target k.0.object) q k.2) in
+      let r = target-parts (has_target (thread_objects x) k.0.object) (place k.0.object) q
+      (sym (graph.aimed k.0.object) ∙ is-place (target k.0.object) q k.2) in
       let t = some-in (is_target k.0.object) (thread_objects x) r.0 in
       let u = both (is_sporadic t.0.kind) (same_name t.0.name k.0.object) t.2 in
       (f.0.name, k.0.object, is-place (place f.0.name) p g.0, r.1, starts x f.0 t.0 k.0 f.1 t.1 u.0 k.1 (same-is t.0.name k.0.object u.1))
@@ -141,14 +148,19 @@ module _ (x : Design) (place target : Name → Option ℕ) (count : ℕ) (es : L
   ringed : (i : ℕ) (told : Broken) → RingedThread x i told → (p : ℕ) × (p ≤ i) × IsOnRing (Goes step-of) p
   ringed i told r =
       let f = none-later 0 (names-of (thread_objects x)) r.thread.name i (name-at (thread_objects x) i r.thread r.stands) in
-      let y = f.2 in
-      (f.0, omega (arith, y), ring_of_places (names-of (thread_objects x)) place (StartsThread x) step-of stands-at step-forth step-back source-placed r.thread.name f.0 (graph.placed r.thread.name ∙ f.1) r.ring)
+      let y = f.2 in (
+        f.0,
+        omega (arith, y),
+        ring_of_places (names-of (thread_objects x)) place
+            (StartsThread x) step-of stands-at step-forth step-back source-placed r.thread.name f.0 (graph.placed r.thread.name ∙ f.1) r.ring,
+      )
 
   -- no place on a ring, or the first
   pub none-ringed : IsFirstOnRing step-of None → (i : ℕ) (told : Broken) → RingedThread x i told → ⊥
   none-ringed none i told r = let f = ringed i told r in none f.0 f.2
 
-  pub first-ringed : (first : ℕ) → IsFirstOnRing step-of (Some first) → (o : Object) × (slice_get (thread_objects x) first ≡ Some o) × IsFirstOffender (RingedThread x) (V09Starts o.name)
+  pub first-ringed : (first : ℕ) → IsFirstOnRing step-of (Some first) → (o : Object) × (slice_get (thread_objects x) first ≡ Some o)
+      × IsFirstOffender (RingedThread x) (V09Starts o.name)
   first-ringed first (ring, earlier) =
       let r = ring_of_names (names-of (thread_objects x)) place (StartsThread x) step-of stands-at step-forth step-back source-placed first ring in
       let o = object-at (thread_objects x) first r.0 (stands-at r.0 first r.1) in
@@ -167,10 +179,13 @@ pub whole-threads : (x : Design) (seen : List Standing) (all : List (Bor Node)) 
     → map node_object all ≡ map (λ s. s.own) (filter (λ s. has_thread s.own.kind) (filter is_terminal seen)) → map node_object all ≡ thread_objects x
 whole-threads x seen all walked threads = threads ∙ ap (λ ss. map (λ s. s.own) (filter (λ s. has_thread s.own.kind) (filter is_terminal ss))) walked
 
-pub graph-of : (x y : Design) (seen : List Standing) (all one two : List (Bor Node)) (t : ThreadPlaces) (es fs : List (ℕ × ℕ)) (count : ℕ) → seen ≡ objects x → y ≡ x
+pub graph-of : (x y : Design) (seen : List Standing) (all one two : List (Bor Node)) (t : ThreadPlaces) (es fs : List (ℕ × ℕ)) (count : ℕ)
+    → seen ≡ objects x → y ≡ x
     → map node_object all ≡ map (λ s. s.own) (filter (λ s. has_thread s.own.kind) (filter is_terminal seen)) → one ≡ all → two ≡ all
-    → ((n : Name) → place_in t.places n ≡ place_from 0 n (map node_name one)) → ((n : Name) → is_there (place_in t.sporadic n) ≡ has_target (map node_object one) n)
-    → ((p q : ℕ) → has_edge es p q ≡ list_any (starts_at (place_in t.places) (target_in t) y p q) (map node_object two)) → fs ≡ es → count ≡ length all
+    → ((n : Name) → place_in t.places n ≡ place_from 0 n (map node_name one))
+    → ((n : Name) → is_there (place_in t.sporadic n) ≡ has_target (map node_object one) n)
+    → ((p q : ℕ) → has_edge es p q ≡ list_any (starts_at (place_in t.places) (target_in t) y p q) (map node_object two)) → fs ≡ es → count
+    ≡ length all
     → IsGraph x (place_in t.places) (target_in t) count fs
 graph-of x y seen all one two t es fs count walked design threads first second placed aimed made same counted =
     let whole = whole-threads x seen all walked threads in
@@ -179,7 +194,9 @@ graph-of x y seen all one two t es fs count walked design threads first second p
     record {
       placed = λ n. placed n ∙ ap (λ ns. place_from 0 n ns) (names-same one ∙ ap names-of named);
       aimed = λ n. ap (λ b. if b then place_in t.places n else None) (aimed n ∙ ap (λ os. has_target os n) named);
-      made = λ p q. ap (λ z. has_edge z p q) same ∙ made p q ∙ ap (λ z. list_any (starts_at (place_in t.places) (target_in t) z p q) (map node_object two)) design
+      made =
+          λ p q. ap (λ z. has_edge z p q) same ∙ made p q
+          ∙ ap (λ z. list_any (starts_at (place_in t.places) (target_in t) z p q) (map node_object two)) design
           ∙ ap (list_any (starts_at (place_in t.places) (target_in t) x p q)) again;
       counted = counted ∙ sym (length-map all node_object) ∙ ap length whole;
     }

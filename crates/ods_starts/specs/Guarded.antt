@@ -16,7 +16,8 @@ guards_among ss = map (λ s. s.own) (filter (λ s. is_protected s.own.kind) (fil
 
 -- the edges from a place to those of the objects of which the required ones of these calls are
 abbrev pub meant_edges : (Name → Option ℕ) → Design → List OpName → ℕ → List OpName → List (ℕ × ℕ)
-meant_edges place x needs from calls = map (λ t. (from, t)) (filter_map (λ c. place c.object) (map (resolve x) (filter (λ c. list_any (same_op c) needs) calls)))
+meant_edges place x needs from calls =
+    map (λ t. (from, t)) (filter_map (λ c. place c.object) (map (resolve x) (filter (λ c. list_any (same_op c) needs) calls)))
 
 -- the edges from a place of these bodies
 abbrev pub bodies_edges : (Name → Option ℕ) → Design → List OpName → ℕ → List Body → List (ℕ × ℕ)

@@ -35,5 +35,6 @@ pub record AreRight (r : Requests) : Type 0 where
   pub named : (n : OpName) → bodies_at r.bodies n ≡ flat_map (held_named n) (held_bodies (design_of r.starts.links.design.now))
   pub called : HasCallers (design_of r.starts.links.design.now) r.callers
   pub threads : map thread_of r.threads.items ≡ thread_objects (design_of r.starts.links.design.now)
-  pub reached : (n : Name) → reachers_at r.reachers n ≡ filter (λ o. reaches (design_of r.starts.links.design.now) o n) (thread_objects (design_of r.starts.links.design.now))
+  pub reached : (n : Name) → reachers_at r.reachers n
+      ≡ filter (λ o. reaches (design_of r.starts.links.design.now) o n) (thread_objects (design_of r.starts.links.design.now))
   pub few : length (thread_objects (design_of r.starts.links.design.now)) < 4294967295

@@ -1,6 +1,7 @@
 -- How often calls request an object, by what is known of protected operations, and which operations call which.
 -- It is the rule on sources, body by body.
-use Rattle.std.specs.Prelude.{◌≡◌, ◌⊎◌, ◌&&◌, ℕ, suc, Bool, true, List, [], ◌∷◌, Option, map, filter, flat_map, fold, max, min, nat_eq, not, option_map, unwrap_or, if◌then◌else◌}
+use Rattle.std.specs.Prelude.{◌≡◌, ◌⊎◌, ◌&&◌, ℕ, suc, Bool, true, List, [], ◌∷◌, Option, map, filter, flat_map, fold, max, min, nat_eq}
+use Rattle.std.specs.Prelude.{not, option_map, unwrap_or, if◌then◌else◌}
 use Rattle.std.specs.List.{list_any}
 use Rattle.std.specs.Ordering.{nat_cmp}
 use Rattle.std.specs.Cmp.Lexicographic.{slice_cmp}
@@ -26,7 +27,8 @@ use Rattle.ods_starts.specs.declared.held.ProtectedBody.{ProtectedBody}
 
 -- how often a call requests a target, where these operations are required
 abbrev pub call_weight : Design → Name → (OpName → ℕ) → List OpName → OpName → ℕ
-call_weight x target inner needs name = if list_any (same_op name) needs then (if same_name (resolve x name).object target then 1 else inner (resolve x name)) else 0
+call_weight x target inner needs name =
+    if list_any (same_op name) needs then (if same_name (resolve x name).object target then 1 else inner (resolve x name)) else 0
 
 -- how often a block requests a target on one path, at most
 abbrev pub block_count : Design → Name → (OpName → ℕ) → List OpName → Statements → ℕ
@@ -106,7 +108,8 @@ bodies_at t name = unwrap_or (option_map (λ b. op_bodies_at b name.op) (get_by 
 
 -- the operations whose counts change one level deeper are among these
 abbrev pub AreDue : Design → Name → ℕ → List OpName → Type 0
-AreDue x target depth due = (n : OpName) → (list_any (λ c. same_op c n) due ≡ true) ⊎ (min 2 (starts_within depth x target n) ≡ min 2 (starts_within (suc depth) x target n))
+AreDue x target depth due =
+    (n : OpName) → (list_any (λ c. same_op c n) due ≡ true) ⊎ (min 2 (starts_within depth x target n) ≡ min 2 (starts_within (suc depth) x target n))
 
 -- what is told of the sources of an object
 abbrev pub source_fault : Design → Object → Option Broken

@@ -13,4 +13,5 @@ use Rattle.design_rules.specs.Separations.{spacing}
 -- what is told of a thread and of another, where it reaches the objects of which this is true
 abbrev pub spaced : (Name → Bool) → Object → Object → Option Broken
 spaced reach from to =
-    only_if ((is_sporadic to.kind && reach to.name) && nat_lt (spacing from) (attribute_or 0 Separation to)) (V16 from.name (spacing from) to.name (attribute_or 0 Separation to))
+    only_if ((is_sporadic to.kind && reach to.name) && nat_lt (spacing from) (attribute_or 0 Separation to))
+    (V16 from.name (spacing from) to.name (attribute_or 0 Separation to))

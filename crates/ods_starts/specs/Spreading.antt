@@ -1,6 +1,7 @@
 -- What threads can start: the operations that a thread calls, itself or through protected operations, found level by level.
 -- Each operation is found once, in the order in which calls lead to it.
-use Rattle.std.specs.Prelude.{◌≡◌, ℕ, zero, suc, Bool, true, false, List, [], ◌∷◌, ◌++◌, map, filter, flat_map, drop, length, Option, Some, None, option_map, unwrap_or, if◌then◌else◌}
+use Rattle.std.specs.Prelude.{◌≡◌, ℕ, zero, suc, Bool, true, false, List, [], ◌∷◌, ◌++◌, map, filter, flat_map, drop, length, Option, Some}
+use Rattle.std.specs.Prelude.{None, option_map, unwrap_or, if◌then◌else◌}
 use Rattle.std.specs.List.{list_any}
 use Rattle.std.specs.Ordering.{nat_cmp}
 use Rattle.std.specs.Cmp.Lexicographic.{slice_cmp}
@@ -34,7 +35,8 @@ inner_at t name = unwrap_or (option_map (λ b. body_at b name.op) (get_by (λ k.
 -- the required calls of a body, links followed, where it is that of an operation of this name
 abbrev pub body_steps : Design → OpName → Name → List OpName → Body → List OpName
 body_steps x name object needs b =
-    if same_op (record { object = object; op = b.name }) name then map (resolve x) (filter (λ c. list_any (same_op c) needs) (block_calls b.block)) else []
+    if same_op (record { object = object; op = b.name }) name
+    then map (resolve x) (filter (λ c. list_any (same_op c) needs) (block_calls b.block)) else []
 
 -- those of the bodies of an object
 abbrev pub steps_in : Design → OpName → Standing → List OpName

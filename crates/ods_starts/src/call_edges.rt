@@ -21,7 +21,8 @@ fn add_call<'a>(
     call: &Call<'a>,
     edges: &mut Vec<(usize, usize)>,
 ) -> Result<(), NoMemory>
-    ensures { OnOk result (edges.new.items ≡ edges.old.items ++ called_edges (at places.now) (design_of links.now.design.now) needs.now.ops.now from (call_of call.entry.now ∷ [])) }
+    ensures { OnOk result (edges.new.items ≡ edges.old.items
+        ++ called_edges (at places.now) (design_of links.now.design.now) needs.now.ops.now from (call_of call.entry.now ∷ [])) }
 {
     if !needs.has(call) {
         return Ok(());
@@ -44,7 +45,8 @@ fn add_calls<'a>(
     calls: &[Call<'a>],
     edges: &mut Vec<(usize, usize)>,
 ) -> Result<(), NoMemory>
-    ensures { OnOk result (edges.new.items ≡ edges.old.items ++ called_edges (at places.now) (design_of links.now.design.now) needs.now.ops.now from (map call_of calls.entry.now)) }
+    ensures { OnOk result (edges.new.items ≡ edges.old.items
+        ++ called_edges (at places.now) (design_of links.now.design.now) needs.now.ops.now from (map call_of calls.entry.now)) }
 {
     'calls: for call in calls {
         add_call(links, places, needs, from, call, edges)?;
@@ -62,7 +64,8 @@ fn add_body<'a>(
     body: &'a OpBody,
     edges: &mut Vec<(usize, usize)>,
 ) -> Result<(), NoMemory>
-    ensures { OnOk result (edges.new.items ≡ edges.old.items ++ body_edges (at places.now) (design_of links.now.design.now) object.entry.now needs.now.ops.now (body_of body.entry.now)) }
+    ensures { OnOk result (edges.new.items ≡ edges.old.items
+        ++ body_edges (at places.now) (design_of links.now.design.now) object.entry.now needs.now.ops.now (body_of body.entry.now)) }
 {
     match places.get(object, &body.name) {
         None => Ok(()),
@@ -83,7 +86,8 @@ fn add_bodies<'a>(
     bodies: &'a [OpBody],
     edges: &mut Vec<(usize, usize)>,
 ) -> Result<(), NoMemory>
-    ensures { OnOk result (edges.new.items ≡ edges.old.items ++ flat_map (body_edges (at places.now) (design_of links.now.design.now) object.entry.now needs.now.ops.now) (map body_of bodies.entry.now)) }
+    ensures { OnOk result (edges.new.items ≡ edges.old.items
+        ++ flat_map (body_edges (at places.now) (design_of links.now.design.now) object.entry.now needs.now.ops.now) (map body_of bodies.entry.now)) }
 {
     'bodies: for body in bodies {
         add_body(alloc, links, places, object, needs, body, edges)?;
@@ -99,7 +103,8 @@ fn add_object<'a>(
     standing: &Standing<'a>,
     edges: &mut Vec<(usize, usize)>,
 ) -> Result<(), NoMemory>
-    ensures { OnOk result (edges.new.items ≡ edges.old.items ++ flat_map (object_edges (at places.now) (design_of links.now.design.now)) (filter is_terminal (standing_of standing.entry.now ∷ []))) }
+    ensures { OnOk result (edges.new.items ≡ edges.old.items
+        ++ flat_map (object_edges (at places.now) (design_of links.now.design.now)) (filter is_terminal (standing_of standing.entry.now ∷ []))) }
 {
     let node = standing.node;
     if !is_terminal(node) {
@@ -124,7 +129,8 @@ pub(crate) fn edges_of<'a>(
     places: &OpTable<'a, usize>,
     objects: &[Standing<'a>],
 ) -> Result<Vec<(usize, usize)>, NoMemory>
-    ensures { IfOk result (λ v. v.items ≡ flat_map (object_edges (at places.now) (design_of links.now.design.now)) (filter is_terminal (map standing_of objects.entry.now))) }
+    ensures { IfOk result (λ v. v.items
+        ≡ flat_map (object_edges (at places.now) (design_of links.now.design.now)) (filter is_terminal (map standing_of objects.entry.now))) }
 {
     let mut edges = Vec::new(alloc);
     'objects: for standing in objects {

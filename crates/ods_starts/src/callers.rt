@@ -34,8 +34,10 @@ impl<'a> Callers<'a> {
 
     /// Adds a call.
     fn add_call(&mut self, alloc: Global, from: OpView<'a>, to: &OpView<'a>) -> Result<(), NoMemory>
-        ensures ops { OnOk result ((n : OpTree) → inner_at self.new.ops n ≡ inner_at self.old.ops n ++ op_caller n (op_of from.entry) (op_of to.entry.now)) }
-        ensures objects { OnOk result ((n : NameTree) → body_at self.new.objects n ≡ body_at self.old.objects n ++ object_caller n (op_of from.entry) (op_of to.entry.now)) }
+        ensures ops { OnOk result ((n : OpTree) → inner_at self.new.ops n ≡ inner_at self.old.ops n
+            ++ op_caller n (op_of from.entry) (op_of to.entry.now)) }
+        ensures objects { OnOk result ((n : NameTree) → body_at self.new.objects n ≡ body_at self.old.objects n
+            ++ object_caller n (op_of from.entry) (op_of to.entry.now)) }
     {
         let caller = [from];
         self.ops.add(alloc, to.object, to.op, &caller)?;
@@ -50,8 +52,10 @@ impl<'a> Callers<'a> {
         from: OpView<'a>,
         calls: &[OpView<'a>],
     ) -> Result<(), NoMemory>
-        ensures ops { OnOk result ((n : OpTree) → inner_at self.new.ops n ≡ inner_at self.old.ops n ++ flat_map (op_caller n (op_of from.entry)) (map op_of calls.entry.now)) }
-        ensures objects { OnOk result ((n : NameTree) → body_at self.new.objects n ≡ body_at self.old.objects n ++ flat_map (object_caller n (op_of from.entry)) (map op_of calls.entry.now)) }
+        ensures ops { OnOk result ((n : OpTree) → inner_at self.new.ops n ≡ inner_at self.old.ops n
+            ++ flat_map (op_caller n (op_of from.entry)) (map op_of calls.entry.now)) }
+        ensures objects { OnOk result ((n : NameTree) → body_at self.new.objects n ≡ body_at self.old.objects n
+            ++ flat_map (object_caller n (op_of from.entry)) (map op_of calls.entry.now)) }
     {
         'calls: for to in calls {
             self.add_call(alloc, from, to)?;
@@ -66,8 +70,10 @@ impl<'a> Callers<'a> {
         links: &Links<'a>,
         body: &ProtectedBody<'a>,
     ) -> Result<(), NoMemory>
-        ensures ops { OnOk result ((n : OpTree) → inner_at self.new.ops n ≡ inner_at self.old.ops n ++ op_callers (design_of links.now.design.now) n (held_of body.entry.now)) }
-        ensures objects { OnOk result ((n : NameTree) → body_at self.new.objects n ≡ body_at self.old.objects n ++ object_callers (design_of links.now.design.now) n (held_of body.entry.now)) }
+        ensures ops { OnOk result ((n : OpTree) → inner_at self.new.ops n ≡ inner_at self.old.ops n
+            ++ op_callers (design_of links.now.design.now) n (held_of body.entry.now)) }
+        ensures objects { OnOk result ((n : NameTree) → body_at self.new.objects n ≡ body_at self.old.objects n
+            ++ object_callers (design_of links.now.design.now) n (held_of body.entry.now)) }
     {
         let calls = meant_calls(alloc, links, &body.needs, body.block)?;
         let from = OpView {
@@ -83,8 +89,10 @@ impl<'a> Callers<'a> {
         links: &Links<'a>,
         bodies: &[ProtectedBody<'a>],
     ) -> Result<Callers<'a>, NoMemory>
-        ensures ops { IfOk result (λ t. (n : OpTree) → inner_at t.ops n ≡ flat_map (op_callers (design_of links.now.design.now) n) (map held_of bodies.entry.now)) }
-        ensures objects { IfOk result (λ t. (n : NameTree) → body_at t.objects n ≡ flat_map (object_callers (design_of links.now.design.now) n) (map held_of bodies.entry.now)) }
+        ensures ops { IfOk result (λ t. (n : OpTree) → inner_at t.ops n
+            ≡ flat_map (op_callers (design_of links.now.design.now) n) (map held_of bodies.entry.now)) }
+        ensures objects { IfOk result (λ t. (n : NameTree) → body_at t.objects n
+            ≡ flat_map (object_callers (design_of links.now.design.now) n) (map held_of bodies.entry.now)) }
     {
         let mut callers = Callers::new(alloc);
         'bodies: for body in bodies {

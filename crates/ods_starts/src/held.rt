@@ -69,7 +69,8 @@ impl<'a> OpBodies<'a> {
     /// Adds a body.
     #[tactic(auto, unfolding(crate::specs::Requested::op_bodies_at))]
     fn add(&mut self, alloc: Global, body: &ProtectedBody<'a>) -> Result<(), NoMemory>
-        ensures { OnOk result ((n : NameTree) → op_bodies_at self.new n ≡ op_bodies_at self.old n ++ (if same_name body.entry.now.op.now n then held_of body.entry.now ∷ [] else [])) }
+        ensures { OnOk result ((n : NameTree) → op_bodies_at self.new n ≡ op_bodies_at self.old n
+            ++ (if same_name body.entry.now.op.now n then held_of body.entry.now ∷ [] else [])) }
     {
         let more = body.again()?;
         let mut all = match self.map.remove(body.op.bytes()) {
@@ -132,7 +133,8 @@ fn add_bodies<'a>(
     needs: &Rc<Required<'a>>,
     bodies: &'a [OpBody],
 ) -> Result<(), NoMemory>
-    ensures { OnOk result (map held_of into.new.items ≡ map held_of into.old.items ++ map (held object.entry.now needs.now.value.ops.now) (map body_of bodies.entry.now)) }
+    ensures { OnOk result (map held_of into.new.items ≡ map held_of into.old.items
+        ++ map (held object.entry.now needs.now.value.ops.now) (map body_of bodies.entry.now)) }
 {
     'bodies: for body in bodies {
         into.push(ProtectedBody {
@@ -152,7 +154,8 @@ fn add_object<'a>(
     into: &mut Vec<ProtectedBody<'a>>,
     standing: &Standing<'a>,
 ) -> Result<(), NoMemory>
-    ensures { OnOk result (map held_of into.new.items ≡ map held_of into.old.items ++ flat_map (λ s. held_in s.own) (filter (λ s. is_protected s.own.kind) (filter is_terminal (standing_of standing.entry.now ∷ [])))) }
+    ensures { OnOk result (map held_of into.new.items ≡ map held_of into.old.items
+        ++ flat_map (λ s. held_in s.own) (filter (λ s. is_protected s.own.kind) (filter is_terminal (standing_of standing.entry.now ∷ [])))) }
 {
     let node = standing.node;
     if !is_terminal(node) {
@@ -170,7 +173,8 @@ pub(crate) fn bodies_of<'a>(
     alloc: Global,
     objects: &[Standing<'a>],
 ) -> Result<Vec<ProtectedBody<'a>>, NoMemory>
-    ensures { IfOk result (λ v. map held_of v.items ≡ flat_map (λ s. held_in s.own) (filter (λ s. is_protected s.own.kind) (filter is_terminal (map standing_of objects.entry.now)))) }
+    ensures { IfOk result (λ v. map held_of v.items
+        ≡ flat_map (λ s. held_in s.own) (filter (λ s. is_protected s.own.kind) (filter is_terminal (map standing_of objects.entry.now)))) }
 {
     let mut bodies = Vec::new(alloc);
     'objects: for standing in objects {

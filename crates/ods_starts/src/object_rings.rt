@@ -63,7 +63,8 @@ fn add_call<'a>(
     call: &Call<'a>,
     edges: &mut Vec<(usize, usize)>,
 ) -> Result<(), NoMemory>
-    ensures { OnOk result (edges.new.items ≡ edges.old.items ++ meant_edges (place_in places.now) (design_of links.now.design.now) needs.now.ops.now from (call_of call.entry.now ∷ [])) }
+    ensures { OnOk result (edges.new.items ≡ edges.old.items
+        ++ meant_edges (place_in places.now) (design_of links.now.design.now) needs.now.ops.now from (call_of call.entry.now ∷ [])) }
 {
     if !needs.has(call) {
         return Ok(());
@@ -86,7 +87,8 @@ fn add_calls<'a>(
     calls: &[Call<'a>],
     edges: &mut Vec<(usize, usize)>,
 ) -> Result<(), NoMemory>
-    ensures { OnOk result (edges.new.items ≡ edges.old.items ++ meant_edges (place_in places.now) (design_of links.now.design.now) needs.now.ops.now from (map call_of calls.entry.now)) }
+    ensures { OnOk result (edges.new.items ≡ edges.old.items
+        ++ meant_edges (place_in places.now) (design_of links.now.design.now) needs.now.ops.now from (map call_of calls.entry.now)) }
 {
     'calls: for call in calls {
         add_call(links, places, needs, from, call, edges)?;
@@ -104,7 +106,8 @@ fn add_body<'a>(
     body: &'a OpBody,
     edges: &mut Vec<(usize, usize)>,
 ) -> Result<(), NoMemory>
-    ensures { OnOk result (edges.new.items ≡ edges.old.items ++ bodies_edges (place_in places.now) (design_of links.now.design.now) needs.now.ops.now from (body_of body.entry.now ∷ [])) }
+    ensures { OnOk result (edges.new.items ≡ edges.old.items
+        ++ bodies_edges (place_in places.now) (design_of links.now.design.now) needs.now.ops.now from (body_of body.entry.now ∷ [])) }
 {
     let calls = written_calls(alloc, &body.block)?;
     add_calls(links, places, needs, from, calls.as_slice(), edges)
@@ -120,7 +123,8 @@ fn add_bodies<'a>(
     bodies: &'a [OpBody],
     edges: &mut Vec<(usize, usize)>,
 ) -> Result<(), NoMemory>
-    ensures { OnOk result (edges.new.items ≡ edges.old.items ++ bodies_edges (place_in places.now) (design_of links.now.design.now) needs.now.ops.now from (map body_of bodies.entry.now)) }
+    ensures { OnOk result (edges.new.items ≡ edges.old.items
+        ++ bodies_edges (place_in places.now) (design_of links.now.design.now) needs.now.ops.now from (map body_of bodies.entry.now)) }
 {
     'bodies: for body in bodies {
         add_body(alloc, links, places, needs, from, body, edges)?;
@@ -136,7 +140,8 @@ fn add_object<'a>(
     node: &'a Node,
     edges: &mut Vec<(usize, usize)>,
 ) -> Result<(), NoMemory>
-    ensures { OnOk result (edges.new.items ≡ edges.old.items ++ guard_edges (place_in places.now) (design_of links.now.design.now) (object_of node.entry.now)) }
+    ensures { OnOk result (edges.new.items ≡ edges.old.items
+        ++ guard_edges (place_in places.now) (design_of links.now.design.now) (object_of node.entry.now)) }
 {
     match places.get(&node.name) {
         None => Ok(()),
@@ -162,7 +167,8 @@ fn edges_of<'a>(
     places: &Places<'a>,
     guards: &[&'a Node],
 ) -> Result<Vec<(usize, usize)>, NoMemory>
-    ensures { IfOk result (λ v. v.items ≡ flat_map (guard_edges (place_in places.now) (design_of links.now.design.now)) (map node_object guards.entry.now)) }
+    ensures { IfOk result (λ v. v.items
+        ≡ flat_map (guard_edges (place_in places.now) (design_of links.now.design.now)) (map node_object guards.entry.now)) }
 {
     let mut edges = Vec::new(alloc);
     'guards: for node in guards {

@@ -8,7 +8,8 @@ ghost use Rattle.seq_cost.specs.Tables.{at};
 ghost use Rattle.ods_tree.specs.Trees.{design_of};
 ghost use Rattle.design_rules.specs.Sources.{starts_within};
 ghost use Rattle.ods_index.specs.Linked.{op_of};
-ghost use Rattle.ods_starts.specs.Requested.{Knows, block_count, bodies_at, call_weight, changes, greatest_count, held_bodies, held_named, held_of, known_in};
+ghost use Rattle.ods_starts.specs.Requested.{Knows, block_count, bodies_at, call_weight, changes, greatest_count, held_bodies, held_named};
+ghost use Rattle.ods_starts.specs.Requested.{held_of, known_in};
 ghost use Rattle.ods_starts.specs.Requesters.{HasCallers};
 
 use crate::callers::Callers;
@@ -50,7 +51,9 @@ fn account_of<'a>(
     known: &OpTable<'a, u32>,
     calls: &[Call<'a>],
 ) -> Result<OpTable<'a, u32>, NoMemory>
-    ensures { IfOk result (λ t. (n : OpTree) → at t n ≡ (if list_any (λ c. same_op c n) (map call_of calls.entry.now) then Some (call_weight (design_of links.now.design.now) target.now (known_in known.now) needs.now.ops.now n) else None)) }
+    ensures { IfOk result (λ t. (n : OpTree) → at t n
+        ≡ (if list_any (λ c. same_op c n) (map call_of calls.entry.now)
+        then Some (call_weight (design_of links.now.design.now) target.now (known_in known.now) needs.now.ops.now n) else None)) }
 {
     let mut account = OpTable::new(alloc);
     'calls: for call in calls {
@@ -70,7 +73,8 @@ pub(crate) fn block_requests<'a>(
     known: &OpTable<'a, u32>,
     block: &'a Block,
 ) -> Result<u32, NoMemory>
-    ensures { IfOk result (λ n. (inner : OpTree → ℕ) → Knows known.now inner → n ≡ min 2 (block_count (design_of links.now.design.now) target.now inner needs.now.ops.now (block_of block.entry.now))) }
+    ensures { IfOk result (λ n. (inner : OpTree → ℕ) → Knows known.now inner → n
+        ≡ min 2 (block_count (design_of links.now.design.now) target.now inner needs.now.ops.now (block_of block.entry.now))) }
 {
     let calls = written_calls(alloc, block)?;
     let account = account_of(alloc, links, needs, target, known, calls.as_slice())?;
@@ -85,7 +89,8 @@ fn greatest_of<'a>(
     known: &OpTable<'a, u32>,
     bodies: &[ProtectedBody<'a>],
 ) -> Result<u32, NoMemory>
-    ensures { IfOk result (λ n. (inner : OpTree → ℕ) → Knows known.now inner → n ≡ min 2 (greatest_count (design_of links.now.design.now) target.now inner (map held_of bodies.entry.now))) }
+    ensures { IfOk result (λ n. (inner : OpTree → ℕ) → Knows known.now inner → n
+        ≡ min 2 (greatest_count (design_of links.now.design.now) target.now inner (map held_of bodies.entry.now))) }
 {
     let mut greatest: u32 = 0;
     'bodies: for body in bodies {
@@ -104,7 +109,8 @@ fn count_of<'a>(
     bodies: &Bodies<'a>,
     op: &OpView<'a>,
 ) -> Result<u32, NoMemory>
-    ensures { IfOk result (λ n. (inner : OpTree → ℕ) → Knows known.now inner → n ≡ min 2 (greatest_count (design_of links.now.design.now) target.now inner (bodies_at bodies.now (op_of op.entry.now)))) }
+    ensures { IfOk result (λ n. (inner : OpTree → ℕ) → Knows known.now inner → n
+        ≡ min 2 (greatest_count (design_of links.now.design.now) target.now inner (bodies_at bodies.now (op_of op.entry.now)))) }
 {
     match bodies.get(op) {
         None => Ok(0),
@@ -121,7 +127,9 @@ fn counts_of<'a>(
     bodies: &Bodies<'a>,
     ops: &[OpView<'a>],
 ) -> Result<OpTable<'a, u32>, NoMemory>
-    ensures { IfOk result (λ t. (inner : OpTree → ℕ) → Knows known.now inner → (n : OpTree) → at t n ≡ (if list_any (λ c. same_op c n) (map op_of ops.entry.now) then Some (min 2 (greatest_count (design_of links.now.design.now) target.now inner (bodies_at bodies.now n))) else None)) }
+    ensures { IfOk result (λ t. (inner : OpTree → ℕ) → Knows known.now inner → (n : OpTree) → at t n
+        ≡ (if list_any (λ c. same_op c n) (map op_of ops.entry.now)
+        then Some (min 2 (greatest_count (design_of links.now.design.now) target.now inner (bodies_at bodies.now n))) else None)) }
 {
     let mut counts = OpTable::new(alloc);
     'ops: for op in ops {
@@ -179,7 +187,8 @@ fn put_counts<'a>(
     counts: &OpTable<'a, u32>,
     ops: &[OpView<'a>],
 ) -> Result<(), NoMemory>
-    ensures { OnOk result ((n : OpTree) → known_in known.new n ≡ (if list_any (λ c. same_op c n) (map op_of ops.entry.now) then known_in counts.now n else known_in known.old n)) }
+    ensures { OnOk result ((n : OpTree) → known_in known.new n
+        ≡ (if list_any (λ c. same_op c n) (map op_of ops.entry.now) then known_in counts.now n else known_in known.old n)) }
 {
     'ops: for op in ops {
         let count = counts.get(op.object, op.op).unwrap_or(0);

@@ -56,7 +56,8 @@ fn targets_fit(
     reached: &Places<'_>,
     threads: &[&Node],
 ) -> Result<(), Broken>
-    ensures { Tells result (head_of (filter_map (spaced (λ n. is_there (place_in reached.entry.now n)) (object_of from.now)) (map (λ t. object_of t.now) threads.now))) }
+    ensures { Tells result (head_of
+        (filter_map (spaced (λ n. is_there (place_in reached.entry.now n)) (object_of from.now)) (map (λ t. object_of t.now) threads.now))) }
 {
     'threads: for to in threads {
         target_fits(alloc, from, reached, to)?;
@@ -71,7 +72,9 @@ fn starter_fits<'a>(
     threads: &[&'a Node],
     from: &'a Node,
 ) -> Result<(), Broken>
-    ensures { Tells result (head_of (filter_map (spaced (reaches (design_of starts.now.links.design.now) (object_of from.entry.now)) (object_of from.entry.now)) (map (λ t. object_of t.now) threads.entry.now))) }
+    ensures { Tells result (head_of
+        (filter_map (spaced (reaches (design_of starts.now.links.design.now) (object_of from.entry.now)) (object_of from.entry.now))
+        (map (λ t. object_of t.now) threads.entry.now))) }
 {
     let reached = starts.reached(alloc, from)?;
     targets_fit(alloc, from, &reached, threads)
@@ -80,7 +83,9 @@ fn starter_fits<'a>(
 /// Tells the first of these threads that starts another more often than its separation allows.
 #[tactic(auto, using(ods_index::proofs::TellSteps::tell_steps))]
 fn starters_fit<'a>(alloc: Global, starts: &Starts<'a>, threads: &[&'a Node]) -> Result<(), Broken>
-    ensures { Tells result (head_of (flat_map (λ f. filter_map (spaced (reaches (design_of starts.now.links.design.now) f) f) (map (λ t. object_of t.now) threads.entry.now)) (map (λ t. object_of t.now) threads.entry.now))) }
+    ensures { Tells result (head_of
+        (flat_map (λ f. filter_map (spaced (reaches (design_of starts.now.links.design.now) f) f)
+        (map (λ t. object_of t.now) threads.entry.now)) (map (λ t. object_of t.now) threads.entry.now))) }
 {
     'threads: for from in threads {
         starter_fits(alloc, starts, threads, from)?;

@@ -1,4 +1,5 @@
-ghost use Rattle.std.specs.Prelude.{◌≡◌, ◌<◌, ◌≤◌, ◌+◌, ◌||◌, ◌&&◌, ◌++◌, ◌∷◌, [], ◌==◌, ℕ, true, IfOk, OnOk, filter, filter_map, fold, if◌then◌else◌, length, map, max, min, nat_le, not, option_map, option_to_list, unwrap_or};
+ghost use Rattle.std.specs.Prelude.{◌≡◌, ◌<◌, ◌≤◌, ◌+◌, ◌||◌, ◌&&◌, ◌++◌, ◌∷◌, [], ◌==◌, ℕ, true, IfOk, OnOk, filter, filter_map, fold};
+ghost use Rattle.std.specs.Prelude.{if◌then◌else◌, length, map, max, min, nat_le, not, option_map, option_to_list, unwrap_or};
 ghost use Rattle.std.specs.List.{list_any};
 ghost use Rattle.seq_tree.specs.Names.{Name as NameTree, same_name};
 ghost use Rattle.seq_tree.specs.declared.tree.OpName.{OpName as OpTree};
@@ -73,7 +74,8 @@ impl<'a> Reachers<'a> {
     /// Adds a thread to those that reach an object.
     #[tactic(auto, unfolding(crate::specs::Reaching::reachers_at))]
     fn add(&mut self, alloc: Global, name: &'a Name, reacher: &Reacher<'a>) -> Result<(), NoMemory>
-        ensures { OnOk result ((n : NameTree) → reachers_at self.new n ≡ reachers_at self.old n ++ (if same_name name.entry.now n then reacher_of reacher.entry.now ∷ [] else [])) }
+        ensures { OnOk result ((n : NameTree) → reachers_at self.new n ≡ reachers_at self.old n
+            ++ (if same_name name.entry.now n then reacher_of reacher.entry.now ∷ [] else [])) }
     {
         let more = reacher.again()?;
         let mut all = match self.map.remove(name.bytes()) {
@@ -94,8 +96,10 @@ fn add_reached<'a>(
     found: &mut Places<'a>,
     reachers: &mut Reachers<'a>,
 ) -> Result<(), NoMemory>
-    ensures found { OnOk result ((n : NameTree) → is_there (place_in found.new n) ≡ (is_there (place_in found.old n) || same_name (op_of op.entry.now).object n)) }
-    ensures reachers { OnOk result ((n : NameTree) → reachers_at reachers.new n ≡ reachers_at reachers.old n ++ (if not (is_there (place_in found.old n)) && same_name (op_of op.entry.now).object n then reacher_of reacher.entry.now ∷ [] else [])) }
+    ensures found { OnOk result ((n : NameTree) → is_there (place_in found.new n)
+        ≡ (is_there (place_in found.old n) || same_name (op_of op.entry.now).object n)) }
+    ensures reachers { OnOk result ((n : NameTree) → reachers_at reachers.new n ≡ reachers_at reachers.old n
+        ++ (if not (is_there (place_in found.old n)) && same_name (op_of op.entry.now).object n then reacher_of reacher.entry.now ∷ [] else [])) }
 {
     if found.get(op.object).is_some() {
         return Ok(());
@@ -111,7 +115,8 @@ fn add_all_reached<'a>(
     reacher: &Reacher<'a>,
     reachers: &mut Reachers<'a>,
 ) -> Result<(), NoMemory>
-    ensures { OnOk result ((n : NameTree) → reachers_at reachers.new n ≡ reachers_at reachers.old n ++ (if list_any (λ c. same_name c.object n) (map op_of ops.entry.now) then reacher_of reacher.entry.now ∷ [] else [])) }
+    ensures { OnOk result ((n : NameTree) → reachers_at reachers.new n ≡ reachers_at reachers.old n
+        ++ (if list_any (λ c. same_name c.object n) (map op_of ops.entry.now) then reacher_of reacher.entry.now ∷ [] else [])) }
 {
     let mut found = Places::new(alloc);
     'ops: for op in ops {
@@ -127,7 +132,8 @@ fn add_thread<'a>(
     thread: &'a Node,
     reachers: &mut Reachers<'a>,
 ) -> Result<(), NoMemory>
-    ensures { OnOk result ((n : NameTree) → reachers_at reachers.new n ≡ reachers_at reachers.old n ++ filter (λ o. reaches (design_of starts.now.links.design.now) o n) (object_of thread.entry.now ∷ [])) }
+    ensures { OnOk result ((n : NameTree) → reachers_at reachers.new n ≡ reachers_at reachers.old n
+        ++ filter (λ o. reaches (design_of starts.now.links.design.now) o n) (object_of thread.entry.now ∷ [])) }
 {
     let calls = starts.calls(alloc, thread)?;
     let reacher = Reacher::new(alloc, thread)?;
@@ -140,7 +146,8 @@ fn reachers_of<'a>(
     starts: &Starts<'a>,
     threads: &[&'a Node],
 ) -> Result<Reachers<'a>, NoMemory>
-    ensures { IfOk result (λ t. (n : NameTree) → reachers_at t n ≡ filter (λ o. reaches (design_of starts.now.links.design.now) o n) (map thread_of threads.entry.now)) }
+    ensures { IfOk result (λ t. (n : NameTree) → reachers_at t n
+        ≡ filter (λ o. reaches (design_of starts.now.links.design.now) o n) (map thread_of threads.entry.now)) }
 {
     let mut reachers = Reachers::new(alloc);
     'threads: for thread in threads {
@@ -170,7 +177,9 @@ fn requests_in<'a>(
     known: &OpTable<'a, u32>,
     reacher: &Reacher<'a>,
 ) -> Result<u32, NoMemory>
-    ensures { IfOk result (λ n. (inner : OpTree → ℕ) → Knows known.now inner → n ≡ min 2 (fold max 0 (map (block_count (design_of links.now.design.now) target.now inner (reacher_of reacher.entry.now).needs) (option_to_list (reacher_of reacher.entry.now).thread)))) }
+    ensures { IfOk result (λ n. (inner : OpTree → ℕ) → Knows known.now inner → n
+        ≡ min 2 (fold max 0 (map (block_count (design_of links.now.design.now) target.now inner (reacher_of reacher.entry.now).needs)
+        (option_to_list (reacher_of reacher.entry.now).thread)))) }
 {
     let node = reacher.thread;
     match &node.thread {
@@ -188,7 +197,8 @@ fn most_requests<'a>(
     reachers: &[Reacher<'a>],
 ) -> Result<u32, NoMemory>
     requires { Knows known.now (starts_within (length (terminal_ops (design_of links.now.design.now))) (design_of links.now.design.now) target.now) }
-    ensures { IfOk result (λ n. n ≡ min 2 (fold max 0 (map (requests_by (design_of links.now.design.now) target.now) (map reacher_of reachers.entry.now)))) }
+    ensures { IfOk result (λ n. n
+        ≡ min 2 (fold max 0 (map (requests_by (design_of links.now.design.now) target.now) (map reacher_of reachers.entry.now)))) }
 {
     let mut greatest: u32 = 0;
     'reachers: for reacher in reachers {
@@ -274,7 +284,8 @@ impl<'a> Requests<'a> {
         reachers: &[Reacher<'a>],
     ) -> Result<u32, NoMemory>
         requires { AreRight self.now }
-        ensures { IfOk result (λ n. n ≡ min 2 (fold max 0 (map (requests_by (design_of self.now.starts.links.design.now) name.now) (map reacher_of reachers.entry.now)))) }
+        ensures { IfOk result (λ n. n
+            ≡ min 2 (fold max 0 (map (requests_by (design_of self.now.starts.links.design.now) name.now) (map reacher_of reachers.entry.now)))) }
     {
         let links = &self.starts.links;
         let known = counts_within(

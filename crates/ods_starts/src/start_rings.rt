@@ -23,7 +23,8 @@ use std::alloc::Global;
 /// Adds the name of a thread, where it is sporadic.
 #[tactic(auto, using(ods_index::proofs::WalkSteps::node_steps, crate::proofs::StartSteps::target_steps))]
 fn add_target<'a>(node: &'a Node, names: &mut Places<'a>) -> Result<(), NoMemory>
-    ensures { OnOk result ((n : NameTree) → is_there (place_in names.new n) ≡ (is_there (place_in names.old n) || is_target n (object_of node.entry.now))) }
+    ensures { OnOk result ((n : NameTree) → is_there (place_in names.new n)
+        ≡ (is_there (place_in names.old n) || is_target n (object_of node.entry.now))) }
 {
     if !is_sporadic(node.kind) {
         return Ok(());
@@ -113,7 +114,9 @@ fn add_thread<'a>(
     node: &'a Node,
     edges: &mut Vec<(usize, usize)>,
 ) -> Result<(), NoMemory>
-    ensures { OnOk result ((p q : ℕ) → has_edge edges.new.items p q ≡ (has_edge edges.old.items p q || starts_at (place_in places.now.places) (target_in places.now) (design_of starts.now.links.design.now) p q (object_of node.entry.now))) }
+    ensures { OnOk result ((p q : ℕ) → has_edge edges.new.items p q
+        ≡ (has_edge edges.old.items p q
+        || starts_at (place_in places.now.places) (target_in places.now) (design_of starts.now.links.design.now) p q (object_of node.entry.now))) }
 {
     match places.places.get(&node.name) {
         None => Ok(()),
@@ -133,7 +136,9 @@ fn edges_of<'a>(
     places: &ThreadPlaces<'a>,
     threads: &[&'a Node],
 ) -> Result<Vec<(usize, usize)>, NoMemory>
-    ensures { IfOk result (λ v. (p q : ℕ) → has_edge v.items p q ≡ list_any (starts_at (place_in places.now.places) (target_in places.now) (design_of starts.now.links.design.now) p q) (map node_object threads.entry.now)) }
+    ensures { IfOk result (λ v. (p q : ℕ) → has_edge v.items p q
+        ≡ list_any (starts_at (place_in places.now.places) (target_in places.now) (design_of starts.now.links.design.now) p q)
+        (map node_object threads.entry.now)) }
 {
     let mut edges = Vec::new(alloc);
     'threads: for node in threads {

@@ -1,4 +1,5 @@
-ghost use Rattle.std.specs.Prelude.{◌≡◌, ◌≤◌, ◌∷◌, ◌++◌, [], ℕ, Bool, IfOk, OnOk, drop, filter, flat_map, if◌then◌else◌, length, map, option_map, option_to_list, unwrap_or};
+ghost use Rattle.std.specs.Prelude.{◌≡◌, ◌≤◌, ◌∷◌, ◌++◌, [], ℕ, Bool, IfOk, OnOk, drop, filter, flat_map, if◌then◌else◌, length, map};
+ghost use Rattle.std.specs.Prelude.{option_map, option_to_list, unwrap_or};
 ghost use Rattle.std.specs.List.{list_any};
 ghost use Rattle.seq_tree.specs.Calls.{block_calls, same_op};
 ghost use Rattle.seq_tree.specs.Names.{Name as NameTree, same_name};
@@ -62,7 +63,8 @@ impl<'a> BodyCalls<'a> {
         op: &'a Name,
         calls: &[OpView<'a>],
     ) -> Result<(), NoMemory>
-        ensures { OnOk result ((n : NameTree) → body_at self.new n ≡ body_at self.old n ++ (if same_name op.entry.now n then map op_of calls.entry.now else [])) }
+        ensures { OnOk result ((n : NameTree) → body_at self.new n ≡ body_at self.old n
+            ++ (if same_name op.entry.now n then map op_of calls.entry.now else [])) }
     {
         let mut all = match self.map.remove(op.bytes()) {
             None => Vec::new(alloc),
@@ -111,7 +113,8 @@ impl<'a> Inner<'a> {
         op: &'a Name,
         calls: &[OpView<'a>],
     ) -> Result<(), NoMemory>
-        ensures { OnOk result ((n : OpTree) → inner_at self.new n ≡ inner_at self.old n ++ (if same_op (record { object = object.entry.now; op = op.entry.now }) n then map op_of calls.entry.now else [])) }
+        ensures { OnOk result ((n : OpTree) → inner_at self.new n ≡ inner_at self.old n
+            ++ (if same_op (record { object = object.entry.now; op = op.entry.now }) n then map op_of calls.entry.now else [])) }
     {
         let mut bodies = match self.objects.remove(object.bytes()) {
             None => BodyCalls::new(alloc),
@@ -130,7 +133,8 @@ fn add_meant<'a>(
     call: &Call<'a>,
     into: &mut Vec<OpView<'a>>,
 ) -> Result<(), NoMemory>
-    ensures { OnOk result (map op_of into.new.items ≡ map op_of into.old.items ++ map (resolve (design_of links.now.design.now)) (filter (λ c. list_any (same_op c) needs.now.ops.now) (call_of call.entry.now ∷ []))) }
+    ensures { OnOk result (map op_of into.new.items ≡ map op_of into.old.items
+        ++ map (resolve (design_of links.now.design.now)) (filter (λ c. list_any (same_op c) needs.now.ops.now) (call_of call.entry.now ∷ []))) }
 {
     if !needs.has(call) {
         return Ok(());
@@ -149,7 +153,8 @@ fn add_all_meant<'a>(
     calls: &[Call<'a>],
     into: &mut Vec<OpView<'a>>,
 ) -> Result<(), NoMemory>
-    ensures { OnOk result (map op_of into.new.items ≡ map op_of into.old.items ++ map (resolve (design_of links.now.design.now)) (filter (λ c. list_any (same_op c) needs.now.ops.now) (map call_of calls.entry.now))) }
+    ensures { OnOk result (map op_of into.new.items ≡ map op_of into.old.items
+        ++ map (resolve (design_of links.now.design.now)) (filter (λ c. list_any (same_op c) needs.now.ops.now) (map call_of calls.entry.now))) }
 {
     'calls: for call in calls {
         add_meant(links, needs, call, into)?;
@@ -164,7 +169,9 @@ pub(crate) fn meant_calls<'a>(
     needs: &Required<'a>,
     block: &'a Block,
 ) -> Result<Vec<OpView<'a>>, NoMemory>
-    ensures { IfOk result (λ v. map op_of v.items ≡ map (resolve (design_of links.now.design.now)) (filter (λ c. list_any (same_op c) needs.now.ops.now) (block_calls (block_of block.entry.now)))) }
+    ensures { IfOk result (λ v. map op_of v.items
+        ≡ map (resolve (design_of links.now.design.now))
+        (filter (λ c. list_any (same_op c) needs.now.ops.now) (block_calls (block_of block.entry.now)))) }
 {
     let calls = written_calls(alloc, block)?;
     let mut meant = Vec::new(alloc);
@@ -251,7 +258,8 @@ pub(crate) fn follow_all<'a>(
     found: &mut Vec<OpView<'a>>,
 ) -> Result<(), NoMemory>
     requires { IsSeen seen.old (map op_of found.old.items) }
-    ensures found { OnOk result (map op_of found.new.items ≡ found_all (map op_of found.old.items) (flat_map (inner_at inner.entry.now) (map op_of ops.entry.now))) }
+    ensures found { OnOk result (map op_of found.new.items
+        ≡ found_all (map op_of found.old.items) (flat_map (inner_at inner.entry.now) (map op_of ops.entry.now))) }
     ensures seen { OnOk result (IsSeen seen.new (map op_of found.new.items)) }
 {
     'ops: for op in ops {
@@ -293,7 +301,8 @@ fn add_body<'a>(
     body: &'a OpBody,
     inner: &mut Inner<'a>,
 ) -> Result<(), NoMemory>
-    ensures { OnOk result ((n : OpTree) → inner_at inner.new n ≡ inner_at inner.old n ++ body_steps (design_of links.now.design.now) n object.entry.now needs.now.ops.now (body_of body.entry.now)) }
+    ensures { OnOk result ((n : OpTree) → inner_at inner.new n ≡ inner_at inner.old n
+        ++ body_steps (design_of links.now.design.now) n object.entry.now needs.now.ops.now (body_of body.entry.now)) }
 {
     let calls = meant_calls(alloc, links, needs, &body.block)?;
     inner.add(alloc, object, &body.name, calls.as_slice())
@@ -308,7 +317,8 @@ fn add_bodies<'a>(
     bodies: &'a [OpBody],
     inner: &mut Inner<'a>,
 ) -> Result<(), NoMemory>
-    ensures { OnOk result ((n : OpTree) → inner_at inner.new n ≡ inner_at inner.old n ++ flat_map (body_steps (design_of links.now.design.now) n object.entry.now needs.now.ops.now) (map body_of bodies.entry.now)) }
+    ensures { OnOk result ((n : OpTree) → inner_at inner.new n ≡ inner_at inner.old n
+        ++ flat_map (body_steps (design_of links.now.design.now) n object.entry.now needs.now.ops.now) (map body_of bodies.entry.now)) }
 {
     'bodies: for body in bodies {
         add_body(alloc, links, object, needs, body, inner)?;
@@ -324,7 +334,9 @@ fn add_object<'a>(
     standing: &Standing<'a>,
     inner: &mut Inner<'a>,
 ) -> Result<(), NoMemory>
-    ensures { OnOk result ((n : OpTree) → inner_at inner.new n ≡ inner_at inner.old n ++ flat_map (steps_in (design_of links.now.design.now) n) (filter (λ s. is_protected s.own.kind) (filter is_terminal (standing_of standing.entry.now ∷ [])))) }
+    ensures { OnOk result ((n : OpTree) → inner_at inner.new n ≡ inner_at inner.old n
+        ++ flat_map (steps_in (design_of links.now.design.now) n)
+        (filter (λ s. is_protected s.own.kind) (filter is_terminal (standing_of standing.entry.now ∷ [])))) }
 {
     let node = standing.node;
     if !is_terminal(node) {
@@ -350,7 +362,9 @@ fn inner_of<'a>(
     links: &Links<'a>,
     objects: &[Standing<'a>],
 ) -> Result<Inner<'a>, NoMemory>
-    ensures { IfOk result (λ t. (n : OpTree) → inner_at t n ≡ flat_map (steps_in (design_of links.now.design.now) n) (filter (λ s. is_protected s.own.kind) (filter is_terminal (map standing_of objects.entry.now)))) }
+    ensures { IfOk result (λ t. (n : OpTree) → inner_at t n
+        ≡ flat_map (steps_in (design_of links.now.design.now) n)
+        (filter (λ s. is_protected s.own.kind) (filter is_terminal (map standing_of objects.entry.now)))) }
 {
     let mut inner = Inner::new(alloc);
     'objects: for standing in objects {
@@ -361,7 +375,8 @@ fn inner_of<'a>(
 
 /// Adds an object, where it has a thread and no children.
 fn add_thread<'a>(standing: &Standing<'a>, into: &mut Vec<&'a Node>) -> Result<(), NoMemory>
-    ensures { OnOk result (map (λ n. object_of n.now) into.new.items ≡ map (λ n. object_of n.now) into.old.items ++ map (λ s. s.own) (filter (λ s. has_thread s.own.kind) (filter is_terminal (standing_of standing.entry.now ∷ [])))) }
+    ensures { OnOk result (map (λ n. object_of n.now) into.new.items ≡ map (λ n. object_of n.now) into.old.items
+        ++ map (λ s. s.own) (filter (λ s. has_thread s.own.kind) (filter is_terminal (standing_of standing.entry.now ∷ [])))) }
 {
     let node = standing.node;
     if !is_terminal(node) {
@@ -376,7 +391,8 @@ fn add_thread<'a>(standing: &Standing<'a>, into: &mut Vec<&'a Node>) -> Result<(
 
 /// The terminal ones of these objects that have threads, in order.
 pub fn threads_of<'a>(alloc: Global, objects: &[Standing<'a>]) -> Result<Vec<&'a Node>, NoMemory>
-    ensures { IfOk result (λ v. map (λ n. object_of n.now) v.items ≡ map (λ s. s.own) (filter (λ s. has_thread s.own.kind) (filter is_terminal (map standing_of objects.entry.now)))) }
+    ensures { IfOk result (λ v. map (λ n. object_of n.now) v.items
+        ≡ map (λ s. s.own) (filter (λ s. has_thread s.own.kind) (filter is_terminal (map standing_of objects.entry.now)))) }
 {
     let mut threads = Vec::new(alloc);
     'objects: for standing in objects {
@@ -403,7 +419,8 @@ fn thread_starts<'a>(
     links: &Links<'a>,
     node: &'a Node,
 ) -> Result<Vec<OpView<'a>>, NoMemory>
-    ensures { IfOk result (λ v. map op_of v.items ≡ flat_map (meant_calls (design_of links.now.design.now) (object_of node.entry.now)) (option_to_list (object_of node.entry.now).thread)) }
+    ensures { IfOk result (λ v. map op_of v.items
+        ≡ flat_map (meant_calls (design_of links.now.design.now) (object_of node.entry.now)) (option_to_list (object_of node.entry.now).thread)) }
 {
     match &node.thread {
         None => Ok(Vec::new(alloc)),
@@ -443,7 +460,8 @@ impl<'a> Starts<'a> {
 
     /// The operations that the thread of an object calls, itself or through protected ones, each once.
     pub(crate) fn calls(&self, alloc: Global, node: &'a Node) -> Result<Vec<OpView<'a>>, NoMemory>
-        ensures { IfOk result (λ v. (test : OpTree → Bool) → list_any test (map op_of v.items) ≡ list_any test (thread_calls (design_of self.now.links.design.now) (object_of node.entry.now))) }
+        ensures { IfOk result (λ v. (test : OpTree → Bool) → list_any test (map op_of v.items)
+            ≡ list_any test (thread_calls (design_of self.now.links.design.now) (object_of node.entry.now))) }
     {
         let starts = thread_starts(alloc, &self.links, node)?;
         search(alloc, &self.inner, self.depth, starts.as_slice())
@@ -451,7 +469,8 @@ impl<'a> Starts<'a> {
 
     /// A table of the names of the objects of which the thread of an object calls operations, itself or through protected ones.
     pub(crate) fn reached(&self, alloc: Global, node: &'a Node) -> Result<Places<'a>, NoMemory>
-        ensures { IfOk result (λ t. (n : NameTree) → is_there (place_in t n) ≡ reaches (design_of self.now.links.design.now) (object_of node.entry.now) n) }
+        ensures { IfOk result (λ t. (n : NameTree) → is_there (place_in t n)
+            ≡ reaches (design_of self.now.links.design.now) (object_of node.entry.now) n) }
     {
         let found = self.calls(alloc, node)?;
         names_of(alloc, found.as_slice())

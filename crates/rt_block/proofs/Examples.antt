@@ -67,7 +67,8 @@ small = record { name = codes "d"; costs = costs; passive = lib ∷ []; shared =
 
 -- its operations: a plain one has no ceiling, the inner object has the greatest of its callers, and requests come last
 all_served : entries small (1 ∷ 3 ∷ 2 ∷ [])
-    ≡ plain_entry (codes "lib") (operation lib_block) ∷ protected_entry 1 (codes "q") (operation outer_block) ∷ protected_entry 3 (codes "e") (operation inner_block)
+    ≡ plain_entry (codes "lib") (operation lib_block) ∷ protected_entry 1 (codes "q") (operation outer_block)
+    ∷ protected_entry 3 (codes "e") (operation inner_block)
     ∷ request_entry 2 (codes "s") start ∷ []
 all_served = refl
 

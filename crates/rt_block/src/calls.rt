@@ -69,7 +69,8 @@ fn add_statement<'a>(stmt: &'a Stmt, found: &mut Vec<Call<'a>>) -> Result<(), No
 #[cycle(gathering)]
 #[tactic(auto, using(crate::proofs::LiveLaws::live_laws))]
 fn add_arms<'a>(arms: &'a [Arm], found: &mut Vec<Call<'a>>) -> Result<(), NoMemory>
-    ensures { IfOk result (λ _. map call_of found.new.items ≡ map call_of found.old.items ++ live_branches (branches_of (map arm_of arms.entry.now) Nothing)) }
+    ensures { IfOk result (λ _. map call_of found.new.items ≡ map call_of found.old.items
+        ++ live_branches (branches_of (map arm_of arms.entry.now) Nothing)) }
 {
     'arms: for arm in arms {
         add_block(&arm.block, found)?;
@@ -81,7 +82,8 @@ fn add_arms<'a>(arms: &'a [Arm], found: &mut Vec<Call<'a>>) -> Result<(), NoMemo
 #[cycle(gathering)]
 #[tactic(auto, using(crate::proofs::LiveLaws::live_laws))]
 fn add_other<'a>(other: &'a Option<Block>, found: &mut Vec<Call<'a>>) -> Result<(), NoMemory>
-    ensures { IfOk result (λ _. map call_of found.new.items ≡ map call_of found.old.items ++ live_branches (otherwise (option_map block_of other.entry.now))) }
+    ensures { IfOk result (λ _. map call_of found.new.items ≡ map call_of found.old.items
+        ++ live_branches (otherwise (option_map block_of other.entry.now))) }
 {
     match other {
         None => Ok(()),
@@ -166,7 +168,8 @@ pub(crate) fn thread_calls(
     scope: Scope,
     threads: &[FlatThread],
 ) -> Result<Vec<Vec<usize>>, NoMemory>
-    ensures same { IfOk result (λ v. map (λ l. l.items) v.items ≡ map (λ t. called_places (at places.now) scope t.block) (map thread_of threads.now)) }
+    ensures same { IfOk result (λ v. map (λ l. l.items) v.items
+        ≡ map (λ t. called_places (at places.now) scope t.block) (map thread_of threads.now)) }
     ensures long { IfOk result (λ v. length v.items ≡ length threads.now) }
 {
     let mut calls = Vec::new(alloc);

@@ -19,7 +19,8 @@ fn add_place<'a>(
     served: &Served<'a>,
     place: usize,
 ) -> Result<(), NoMemory>
-    ensures { OnOk result ((n : OpName) → at places.new n ≡ first_of (at places.old n) (if same_op (entry_at served.entry.now).name n then Some place else None)) }
+    ensures { OnOk result ((n : OpName) → at places.new n
+        ≡ first_of (at places.old n) (if same_op (entry_at served.entry.now).name n then Some place else None)) }
 {
     match places.get(served.object, served.op) {
         Some(_) => Ok(()),

@@ -72,7 +72,9 @@ fn own_at(alloc: Global, facts: &Facts<'_>, level: u32) -> Result<Vec<u32>, NoMe
 /// The longest sections that calls lead to, where their ceilings reach a level.
 fn longest_at(alloc: Global, facts: &Facts<'_>, level: u32) -> Result<Vec<u32>, NoMemory>
     requires { IsKnown facts.now }
-    ensures { IfOk result (λ v. v.items ≡ spread (length facts.now.services.items) (map (λ l. l.items) facts.now.live_inner.items) (own_sections level (known_entries facts.now) facts.now.prices.items)) }
+    ensures { IfOk result (λ v. v.items
+        ≡ spread (length facts.now.services.items) (map (λ l. l.items) facts.now.live_inner.items)
+        (own_sections level (known_entries facts.now) facts.now.prices.items)) }
 {
     let own = own_at(alloc, facts, level)?;
     spread(

@@ -33,7 +33,8 @@ fn add_plain<'a>(
     ops: &'a [OpText],
     into: &mut Vec<Served<'a>>,
 ) -> Result<(), NoMemory>
-    ensures { OnOk result (map entry_at into.new.items ≡ map entry_at into.old.items ++ map (plain_entry object.entry.now) (map operation_of ops.entry.now)) }
+    ensures { OnOk result (map entry_at into.new.items ≡ map entry_at into.old.items
+        ++ map (plain_entry object.entry.now) (map operation_of ops.entry.now)) }
 {
     'ops: for op in ops {
         into.push(Served {
@@ -53,7 +54,8 @@ fn add_protected<'a>(
     ops: &'a [OpText],
     into: &mut Vec<Served<'a>>,
 ) -> Result<(), NoMemory>
-    ensures { OnOk result (map entry_at into.new.items ≡ map entry_at into.old.items ++ map (protected_entry ceiling object.entry.now) (map operation_of ops.entry.now)) }
+    ensures { OnOk result (map entry_at into.new.items ≡ map entry_at into.old.items
+        ++ map (protected_entry ceiling object.entry.now) (map operation_of ops.entry.now)) }
 {
     'ops: for op in ops {
         into.push(Served {
@@ -83,7 +85,8 @@ fn add_shared<'a>(
     into: &mut Vec<Served<'a>>,
 ) -> Result<(), NoMemory>
     requires { length ceilings.now ≡ length shared.now }
-    ensures { OnOk result (map entry_at into.new.items ≡ map entry_at into.old.items ++ flat_map protected_entries (zip (map guarded_of shared.entry.now) ceilings.entry.now)) }
+    ensures { OnOk result (map entry_at into.new.items ≡ map entry_at into.old.items
+        ++ flat_map protected_entries (zip (map guarded_of shared.entry.now) ceilings.entry.now)) }
 {
     'shared: for (i, object) in shared.iter().enumerate() {
         add_protected(&object.name, ceilings[i], object.ops.as_slice(), into)?;
@@ -120,7 +123,8 @@ fn add_requests<'a>(
     into: &mut Vec<Served<'a>>,
 ) -> Result<(), NoMemory>
     requires { length ceilings.now ≡ length threads.now }
-    ensures { OnOk result (map entry_at into.new.items ≡ map entry_at into.old.items ++ flat_map (λ t. asked_entries t.0 t.1) (zip (map thread_of threads.entry.now) ceilings.entry.now)) }
+    ensures { OnOk result (map entry_at into.new.items ≡ map entry_at into.old.items
+        ++ flat_map (λ t. asked_entries t.0 t.1) (zip (map thread_of threads.entry.now) ceilings.entry.now)) }
 {
     'threads: for (i, thread) in threads.iter().enumerate() {
         add_request(thread, ceilings[i], into)?;
@@ -139,7 +143,9 @@ pub(crate) fn services_of<'a>(
 ) -> Result<Vec<Served<'a>>, NoMemory>
     requires shared { length shared_ceilings.now ≡ length shared.now }
     requires threads { length ceilings.now ≡ length threads.now }
-    ensures { IfOk result (λ v. map entry_at v.items ≡ flat_map plain_entries (map library_of passive.entry.now) ++ (flat_map protected_entries (zip (map guarded_of shared.entry.now) shared_ceilings.entry.now) ++ flat_map (λ t. asked_entries t.0 t.1) (zip (map thread_of threads.entry.now) ceilings.entry.now))) }
+    ensures { IfOk result (λ v. map entry_at v.items ≡ flat_map plain_entries (map library_of passive.entry.now)
+        ++ (flat_map protected_entries (zip (map guarded_of shared.entry.now) shared_ceilings.entry.now)
+        ++ flat_map (λ t. asked_entries t.0 t.1) (zip (map thread_of threads.entry.now) ceilings.entry.now))) }
 {
     let mut services = Vec::new(alloc);
     add_libraries(passive, &mut services)?;

@@ -69,7 +69,9 @@ fn first_starter(
 /// Which calls lead to the request of a thread, by places: 1 for those that do.
 fn requests_at(alloc: Global, facts: &Facts<'_>, name: &Name) -> Result<Vec<u32>, NoMemory>
     requires { IsKnown facts.now }
-    ensures { IfOk result (λ v. v.items ≡ spread (length facts.now.services.items) (map (λ l. l.items) facts.now.written_inner.items) (map (λ e. asks name.now e.work) (known_entries facts.now))) }
+    ensures { IfOk result (λ v. v.items
+        ≡ spread (length facts.now.services.items) (map (λ l. l.items) facts.now.written_inner.items)
+        (map (λ e. asks name.now e.work) (known_entries facts.now))) }
 {
     let own = all_asks(alloc, facts.services.as_slice(), name)?;
     spread(

@@ -1,5 +1,8 @@
+pub mod NameLaws
 pub mod PlaceLaws
 pub mod SortLaws
 pub mod ExpressionLaws
 pub mod ActualLaws
+pub mod SeenLaws
 pub mod FaultLaws
+mod KnownExamples

@@ -1,17 +1,25 @@
-ghost use Rattle.std.specs.Prelude.{◌≡◌, map};
+ghost use Rattle.std.specs.Prelude.{◌≡◌, ◌&&◌, ◌||◌, IfOk, OnOk, map};
 ghost use Rattle.std.specs.List.{list_any};
+ghost use Rattle.seq_tree.specs.Expressions.{Expression};
 ghost use Rattle.seq_tree.specs.Faults.{actuals_fault, is_fixed, is_fixed_actual, is_no_variable, is_variable, out_actuals, repeats, stands_again};
 ghost use Rattle.seq_tree.specs.Operations.{is_out};
 ghost use Rattle.seq_tree.specs.Trees.{expression_of};
+ghost use Rattle.name_sets.specs.Sets.{has};
 ghost use Rattle.seq_check.specs.Answers.{answer_of};
 ghost use Rattle.seq_check.specs.Places.{place_of};
+ghost use Rattle.seq_check.specs.Seen.{is_same, is_seen};
 
 use crate::fault::BodyFault;
 use crate::place::{Place, same_name};
-use seq_tree::{Expr, Mode, Name, Param};
+use name_sets::Names;
+use seq_tree::{Expr, Mode, Name, NoMemory, Param};
+use std::alloc::Global;
+
+/// As many parameters as an operation of a program that meets the rules has at most.
+const FEW: usize = 8;
 
 /// Whether a parameter of this mode hands a value out.
-fn is_out(mode: Mode) -> bool
+pub(crate) fn is_out(mode: Mode) -> bool
     ensures { result ≡ is_out mode }
 {
     match mode {
@@ -70,8 +78,8 @@ fn stands_again(actual: &Expr, params: &[Param], actuals: &[Expr]) -> bool
     }
 }
 
-/// Whether a variable is the actual of two `out` parameters.
-fn repeats(params: &[Param], actuals: &[Expr]) -> bool
+/// Whether a variable is the actual of two `out` parameters, by a look at each two.
+fn repeats_by_pairs(params: &[Param], actuals: &[Expr]) -> bool
     ensures { result ≡ repeats (out_actuals params.now (map expression_of actuals.now)) }
 {
     let mut params = params;
@@ -87,6 +95,68 @@ fn repeats(params: &[Param], actuals: &[Expr]) -> bool
         actuals = others;
     }
     false
+}
+
+/// Adds the variable that an actual is to a set, and says whether it was there.
+fn add_variable<'a>(seen: &mut Names<'a>, actual: &'a Expr) -> Result<bool, NoMemory>
+    ensures told { IfOk result (λ b. b ≡ is_seen (has seen.old) (expression_of actual.entry.now)) }
+    ensures added { OnOk result ((x : Expression) → is_seen (has seen.new) x ≡ (is_same (expression_of actual.entry.now) x || is_seen (has seen.old) x)) }
+{
+    match actual {
+        Expr::Variable(name) => Ok(!seen.add(name)?),
+        Expr::Number(_) | Expr::Paren(_) | Expr::Not(_) | Expr::Binary(..) => Ok(false),
+    }
+}
+
+/// Does the same where a parameter hands a value out.
+fn add_out_actual<'a>(
+    seen: &mut Names<'a>,
+    param: &Param,
+    actual: &'a Expr,
+) -> Result<bool, NoMemory>
+    ensures told { IfOk result (λ b. b ≡ (is_out param.now.mode && is_seen (has seen.old) (expression_of actual.entry.now))) }
+    ensures added { OnOk result ((x : Expression) → is_seen (has seen.new) x ≡ ((is_out param.now.mode && is_same (expression_of actual.entry.now) x) || is_seen (has seen.old) x)) }
+{
+    match param.mode {
+        Mode::In => Ok(false),
+        Mode::Out => add_variable(seen, actual),
+    }
+}
+
+/// Whether a variable is the actual of two `out` parameters, by a set of those before.
+fn repeats_by_set(alloc: Global, params: &[Param], actuals: &[Expr]) -> Result<bool, NoMemory>
+    ensures { IfOk result (λ b. b ≡ repeats (out_actuals params.now (map expression_of actuals.now))) }
+{
+    let mut seen = Names::new(alloc);
+    let mut params = params;
+    let mut actuals = actuals;
+    'outs: while let (Some((param, later)), Some((actual, others))) = (
+        params.split_first(),
+        actuals.split_first(),
+    ) {
+        if add_out_actual(&mut seen, param, actual)? {
+            return Ok(true);
+        }
+        params = later;
+        actuals = others;
+    }
+    Ok(false)
+}
+
+/// Whether a variable is the actual of two `out` parameters. Of many parameters a set tells, where there is memory for one.
+fn repeats(params: &[Param], actuals: &[Expr], place: &Place) -> bool
+    ensures { result ≡ repeats (out_actuals params.now (map expression_of actuals.now)) }
+{
+    if params.len() <= FEW {
+        return repeats_by_pairs(params, actuals);
+    }
+    match place.memory() {
+        None => repeats_by_pairs(params, actuals),
+        Some(alloc) => match repeats_by_set(alloc, params, actuals) {
+            Ok(found) => found,
+            Err(_) => repeats_by_pairs(params, actuals),
+        },
+    }
 }
 
 /// Whether an actual of an `out` parameter is a variable that can't be assigned here.
@@ -120,7 +190,7 @@ pub(crate) fn check_actuals(
     if hands_out_fixed(params, actuals, place) {
         return Err(BodyFault::Assigned);
     }
-    if hands_out_no_variable(params, actuals) || repeats(params, actuals) {
+    if hands_out_no_variable(params, actuals) || repeats(params, actuals, place) {
         return Err(BodyFault::Actual);
     }
     if params.len() != actuals.len() {

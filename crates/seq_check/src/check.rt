@@ -5,11 +5,13 @@ ghost use Rattle.seq_tree.specs.Trees.{arm_of, block_of, branches_of, expression
 ghost use Rattle.seq_check.specs.Answers.{Says, answer_of};
 ghost use Rattle.seq_check.specs.Places.{place_of};
 ghost use Rattle.seq_check.specs.Scopes.{scope_of};
+ghost use Rattle.seq_check.specs.Views.{known_scope};
 ghost use Rattle.seq_check.specs.declared.fault.BodyFault.TheVariants as fault;
 
 use crate::actuals::{check_actuals, is_fixed};
 use crate::expressions::{check_condition, check_conditions, check_word, check_words};
 use crate::fault::BodyFault;
+use crate::known::Known;
 use crate::place::Place;
 use crate::scope::Scope;
 use seq_tree::{Arm, Block, Expr, Name, Stmt};
@@ -128,4 +130,15 @@ pub fn check_block(_alloc: Global, scope: &mut Scope, block: &Block) -> Result<(
     ensures same { scope_of scope.new ≡ scope_of scope.old }
 {
     check_at(block, &Place::Body(scope))
+}
+
+/// Tells the first fault of a body as `check_block` does, by what is known at its beginning, which is the same where the scope is.
+/// Each name is looked up in a set or a table, so that the time grows near-linearly with the body. For a call with more than 8
+/// parameters memory is asked for, and done without where there is none: `NoMemory` never comes.
+#[tactic(auto, using(crate::proofs::FaultLaws::fault_laws))]
+pub fn check_known(known: &Known<'_, '_>, block: &Block) -> Result<(), BodyFault>
+    ensures says { Says result (block_fault (known_scope known.now) (block_of block.now)) }
+    ensures ample { IfErr result (λ e. e ≡ fault.NoMemory → ⊥) }
+{
+    check_at(block, &Place::Known(&*known))
 }

@@ -16,6 +16,11 @@ each-right : (P : OpName → Type 0) (cs ds : List OpName) → Each P (cs ++ ds)
 each-right P [] ds h = h
 each-right P (c ∷ cs) ds h = each-right P cs ds h.1
 
+-- what holds of every operation holds of those of a list
+pub each-all : (P : OpName → Type 0) → ((c : OpName) → P c) → (cs : List OpName) → Each P cs
+each-all P all [] = tt
+each-all P all (c ∷ cs) = (all c, each-all P all cs)
+
 module _ (costs : Costs) (work : ℕ → ℕ) (f g : Name → Name → ℕ) where
   abbrev v : Weights
   v = record { costs = costs; work = work; called = f }

@@ -52,7 +52,12 @@ bound-of-none = refl
 
 -- a whole summary: the task of the second unit was released twice and ended once; the passive unit has no line
 whole : (name : Name) (costs : Costs) (block : Statements)
-    → summary (record { name = name; costs = costs; units = record { name = codes "p"; form = Passive [] } ∷ record { name = codes "a"; form = Cyclic 1 0 10 [] block } ∷ [] })
+    → summary (record {
+      name = name;
+      costs = costs;
+      units = record { name = codes "p"; form = Passive [] }
+          ∷ record { name = codes "a"; form = Cyclic 1 0 10 [] block } ∷ [];
+    })
     (bound (codes "a") 12 ∷ []) (Release 0 1 None ∷ End 4 1 4 ∷ Release 10 1 None ∷ Horizon 12 ∷ [])
     ≡ (codes "thread a" ++ (((codes " releases " ++ decimal 2) ++ ((codes " ends " ++ decimal 1) ++ (codes " greatest " ++ decimal 4)))
     ++ ((codes " bound " ++ decimal 12) ++ codes "\n")) ++ [])

@@ -1,5 +1,6 @@
 -- One more event changes what is kept as the code changes it.
-use Rattle.std.specs.Prelude.{◌≡◌, ◌≢◌, ℕ, zero, suc, ◌+◌, ◌-◌, ◌<◌, ◌≤◌, List, [], ◌∷◌, ◌++◌, length, map, filter_map, min, max, Option, Some, None, option_to_list, ◌==◌, Bool, true, false, if◌then◌else◌, flat_map, replicate, get_or, set, refl}
+use Rattle.std.specs.Prelude.{◌≡◌, ◌≢◌, ℕ, zero, suc, ◌+◌, ◌-◌, ◌<◌, ◌≤◌, List, [], ◌∷◌, ◌++◌, length, map, filter_map, min, max, Option}
+use Rattle.std.specs.Prelude.{Some, None, option_to_list, ◌==◌, Bool, true, false, if◌then◌else◌, flat_map, replicate, get_or, set, refl}
 use Rattle.std.proofs.Common.{sym, ◌∙◌, ap, subst, arith, add-one}
 use Rattle.std.proofs.lemmas.List.{length-append}
 use Rattle.std.proofs.lemmas.Bool.{eq-eqb, eqb-true}
@@ -12,7 +13,8 @@ use Rattle.std.specs.List.{enumerate_from}
 use Rattle.ada_tree.specs.Programs.{Unit}
 use Rattle.trace_text.specs.declared.bound.NamedBound.{NamedBound}
 use Rattle.trace_text.specs.Summaries.{unit_line, end_time, greatest, kept_count, next_end, release_time, response_of, responses, sooner}
-use Rattle.trace_text.specs.Tallies.{ended, least, lower, open_times, released, tallies_from, Tallies, noted, tallies, tally, tally_lines, tasks_after, unended, waited}
+use Rattle.trace_text.specs.Tallies.{ended, least, lower, open_times, released, tallies_from, Tallies, noted, tallies, tally, tally_lines}
+use Rattle.trace_text.specs.Tallies.{tasks_after, unended, waited}
 
 sooner-none : (o : Option ℕ) → sooner o None ≡ o
 sooner-none None = refl
@@ -25,7 +27,8 @@ sooner-assoc (Some n) b c = refl
 -- the first end with one more event
 next_end-more : (task : ℕ) (told : List Event) (e : Event) → next_end task (told ++ e ∷ []) ≡ sooner (next_end task told) (end_time task e)
 next_end-more task [] e = sooner-none (end_time task e)
-next_end-more task (x ∷ told) e = ap (sooner (end_time task x)) (next_end-more task told e) ∙ sooner-assoc (end_time task x) (next_end task told) (end_time task e)
+next_end-more task (x ∷ told) e =
+    ap (sooner (end_time task x)) (next_end-more task told e) ∙ sooner-assoc (end_time task x) (next_end task told) (end_time task e)
 
 -- an event that is no end leaves the first end
 next_end-kept : (task : ℕ) (told : List Event) (e : Event) → end_time task e ≡ None → next_end task (told ++ e ∷ []) ≡ next_end task told
@@ -47,7 +50,8 @@ append-one [] ys zs = refl
 append-one (x ∷ xs) ys zs = ap (λ t. x ∷ t) (append-one xs ys zs)
 
 -- an event that is no end adds its release to those that are open
-open-kept : (task : ℕ) (told : List Event) (e : Event) → end_time task e ≡ None → open_times task (told ++ e ∷ []) ≡ open_times task told ++ option_to_list (release_time task e)
+open-kept : (task : ℕ) (told : List Event) (e : Event) → end_time task e ≡ None → open_times task (told ++ e ∷ []) ≡ open_times task told
+    ++ option_to_list (release_time task e)
 open-kept task [] e h = nil (option_to_list (release_time task e)) where
   nil : (xs : List ℕ) → xs ++ [] ≡ xs
   nil [] = refl
@@ -58,11 +62,14 @@ open-kept task (x ∷ told) e h =
     ∙ append-one (option_to_list (unended (release_time task x) (next_end task told))) (open_times task told) (option_to_list (release_time task e))
 
 -- an end closes all
-open-ended : (task : ℕ) (told : List Event) (e : Event) (time : ℕ) → end_time task e ≡ Some time → release_time task e ≡ None → open_times task (told ++ e ∷ []) ≡ []
+open-ended : (task : ℕ) (told : List Event) (e : Event) (time : ℕ) → end_time task e ≡ Some time → release_time task e ≡ None
+    → open_times task (told ++ e ∷ []) ≡ []
 open-ended task [] e time h none = ap (λ o. option_to_list (unended o None) ++ []) none
 open-ended task (x ∷ told) e time h none =
-    ap (λ o. option_to_list (unended (release_time task x) o) ++ open_times task (told ++ e ∷ [])) (there (next_end task told) (next_end-more task told e ∙ ap (sooner (next_end task told)) h)).1
-    ∙ ap (λ o. option_to_list o ++ open_times task (told ++ e ∷ [])) (gone (release_time task x) (there (next_end task told) (next_end-more task told e ∙ ap (sooner (next_end task told)) h)).0)
+    ap (λ o. option_to_list (unended (release_time task x) o) ++ open_times task (told ++ e ∷ []))
+    (there (next_end task told) (next_end-more task told e ∙ ap (sooner (next_end task told)) h)).1
+    ∙ ap (λ o. option_to_list o ++ open_times task (told ++ e ∷ []))
+    (gone (release_time task x) (there (next_end task told) (next_end-more task told e ∙ ap (sooner (next_end task told)) h)).0)
     ∙ open-ended task told e time h none where
       there : (o : Option ℕ) → {n : Option ℕ} → n ≡ sooner o (Some time) → (m : ℕ) × (n ≡ Some m)
       there None p = (time, p)
@@ -89,8 +96,10 @@ responses-ended : (task : ℕ) (told : List Event) (e : Event) (time : ℕ) → 
     → greatest (responses task (told ++ e ∷ [])) ≡ max (greatest (responses task told)) (longest time (open_times task told))
 responses-ended task [] e time h none = ap (λ o. greatest (option_to_list (response_of o None) ++ [])) none ∙ sym (max-nothing 0)
 responses-ended task (x ∷ told) e time h none =
-    ap (λ o. greatest (option_to_list (response_of (release_time task x) o) ++ responses task (told ++ e ∷ []))) (next_end-more task told e ∙ ap (sooner (next_end task told)) h)
-    ∙ go (release_time task x) (next_end task told) (responses task (told ++ e ∷ [])) (responses task told) (open_times task told) (responses-ended task told e time h none) where
+    ap (λ o. greatest (option_to_list (response_of (release_time task x) o) ++ responses task (told ++ e ∷ [])))
+    (next_end-more task told e ∙ ap (sooner (next_end task told)) h)
+    ∙ go (release_time task x) (next_end task told) (responses task (told ++ e ∷ [])) (responses task told) (open_times task told)
+    (responses-ended task told e time h none) where
       go : (r n : Option ℕ) (more rs open' : List ℕ) → greatest more ≡ max (greatest rs) (longest time open')
           → greatest (option_to_list (response_of r (sooner n (Some time))) ++ more)
           ≡ max (greatest (option_to_list (response_of r n) ++ rs)) (longest time (option_to_list (unended r n) ++ open'))
@@ -133,7 +142,8 @@ count-more : (n m : ℕ) → min (n + 1) m ≡ min (min n m + 1) m
 count-more n m = omega (arith)
 
 -- how many an event adds
-counted : (f : Event → Option ℕ) (told : List Event) (e : Event) → length (filter_map f (told ++ e ∷ [])) ≡ length (filter_map f told) + length (filter_map f (e ∷ []))
+counted : (f : Event → Option ℕ) (told : List Event) (e : Event) → length (filter_map f (told ++ e ∷ []))
+    ≡ length (filter_map f told) + length (filter_map f (e ∷ []))
 counted f told e = ap length (filter_map-append f told (e ∷ [])) ∙ length-append (filter_map f told) (filter_map f (e ∷ []))
 
 plus-zero : (n : ℕ) → n + 0 ≡ n
@@ -142,9 +152,10 @@ plus-zero n = omega (arith)
 -- an event that counts
 count-one : (f : Event → Option ℕ) (told : List Event) (e : Event) (n : ℕ) → f e ≡ Some n
     → kept_count (length (filter_map f (told ++ e ∷ []))) ≡ kept_count (kept_count (length (filter_map f told)) + 1)
-count-one f told e n h = ap kept_count (counted f told e ∙ added (length (filter_map f told))) ∙ count-more (length (filter_map f told)) 18446744073709551615 where
-  added : (k : ℕ) → k + length (filter_map f (e ∷ [])) ≡ k + 1
-  added k = rw h refl
+count-one f told e n h =
+    ap kept_count (counted f told e ∙ added (length (filter_map f told))) ∙ count-more (length (filter_map f told)) 18446744073709551615 where
+      added : (k : ℕ) → k + length (filter_map f (e ∷ [])) ≡ k + 1
+      added k = rw h refl
 
 -- an event that does not
 count-none : (f : Event → Option ℕ) (told : List Event) (e : Event) → f e ≡ None
@@ -162,7 +173,8 @@ append-nil' [] = refl
 append-nil' (x ∷ xs) = ap (λ t. x ∷ t) (append-nil' xs)
 
 -- an event that neither releases nor ends a task
-pub tally-kept : (told : List Event) (e : Event) (task : ℕ) → release_time task e ≡ None → end_time task e ≡ None → tally (told ++ e ∷ []) task ≡ tally told task
+pub tally-kept : (told : List Event) (e : Event) (task : ℕ) → release_time task e ≡ None → end_time task e ≡ None → tally (told ++ e ∷ []) task
+    ≡ tally told task
 tally-kept told e task r n =
     parts (tally (told ++ e ∷ []) task) (tally told task) (count-none (release_time task) told e r) (count-none (end_time task) told e n)
     (ap greatest (responses-kept task told e n))
@@ -172,7 +184,8 @@ tally-kept told e task r n =
 pub tally-released : (told : List Event) (e : Event) (task time : ℕ) → release_time task e ≡ Some time → end_time task e ≡ None
     → tally (told ++ e ∷ []) task ≡ released time (tally told task)
 tally-released told e task time r n =
-    parts (tally (told ++ e ∷ []) task) (released time (tally told task)) (count-one (release_time task) told e time r) (count-none (end_time task) told e n)
+    parts (tally (told ++ e ∷ []) task) (released time (tally told task)) (count-one (release_time task) told e time r)
+    (count-none (end_time task) told e n)
     (ap greatest (responses-kept task told e n))
     (ap least (open-kept task told e n ∙ ap (λ o. open_times task told ++ option_to_list o) r) ∙ least-more (open_times task told) time)
 
@@ -180,7 +193,8 @@ tally-released told e task time r n =
 pub tally-ended : (told : List Event) (e : Event) (task time : ℕ) → release_time task e ≡ None → end_time task e ≡ Some time
     → tally (told ++ e ∷ []) task ≡ ended time (tally told task)
 tally-ended told e task time r n =
-    parts (tally (told ++ e ∷ []) task) (ended time (tally told task)) (count-none (release_time task) told e r) (count-one (end_time task) told e time n)
+    parts (tally (told ++ e ∷ []) task) (ended time (tally told task)) (count-none (release_time task) told e r)
+    (count-one (end_time task) told e time n)
     (responses-ended task told e time n r ∙ ap (max (greatest (responses task told))) (longest-least time (open_times task told)))
     (ap least (open-ended task told e time n r))
 
@@ -199,7 +213,8 @@ tallies-kept place (suc size) told e same =
     ∙ ap (λ ts. tally told place ∷ ts) (tallies-kept (suc place) size told e (λ task h. same task (omega (arith, h))))
 
 -- tasks from a place on, where one changes
-tallies-changed : (place size at : ℕ) (told : List Event) (e : Event) (f : Tally → Tally) → tally (told ++ e ∷ []) (place + at) ≡ f (tally told (place + at))
+tallies-changed : (place size at : ℕ) (told : List Event) (e : Event) (f : Tally → Tally) → tally (told ++ e ∷ []) (place + at)
+    ≡ f (tally told (place + at))
     → ((task : ℕ) → (place + at) ≢ task → tally (told ++ e ∷ []) task ≡ tally told task)
     → tallies_from place size (told ++ e ∷ []) ≡ change at f (tallies_from place size told)
 tallies-changed place zero at told e f here same = refl
@@ -221,7 +236,8 @@ from-first : (size at : ℕ) (told : List Event) (e : Event) (f : Tally → Tall
     → ((task : ℕ) → at ≢ task → tally (told ++ e ∷ []) task ≡ tally told task)
     → tallies_from 0 size (told ++ e ∷ []) ≡ change at f (tallies_from 0 size told)
 from-first size at told e f here same =
-    tallies-changed 0 size at told e f (subst (λ k. tally (told ++ e ∷ []) k ≡ f (tally told k)) (sym (zero-plus at)) here) (λ task h. same task (λ p. h (zero-plus at ∙ p))) where
+    tallies-changed 0 size at told e f (subst (λ k. tally (told ++ e ∷ []) k ≡ f (tally told k)) (sym (zero-plus at)) here)
+    (λ task h. same task (λ p. h (zero-plus at ∙ p))) where
       zero-plus : (n : ℕ) → 0 + n ≡ n
       zero-plus n = omega (arith)
 
@@ -234,18 +250,25 @@ if-not a b time h = ap (λ c. if c then Some time else None) (not-same a b h)
 -- what is kept of the tasks after one more event
 pub tasks-after : (size : ℕ) (told : List Event) (e : Event) → tallies_from 0 size (told ++ e ∷ []) ≡ tasks_after e (tallies_from 0 size told)
 tasks-after size told (Release time task value) =
-    from-first size task told (Release time task value) (released time) (tally-released told (Release time task value) task time (if-same task time) refl)
+    from-first size task told (Release time task value) (released time)
+    (tally-released told (Release time task value) task time (if-same task time) refl)
     (λ other h. tally-kept told (Release time task value) other (if-not task other time h) refl)
 tasks-after size told (End time task used) =
     from-first size task told (End time task used) (ended time) (tally-ended told (End time task used) task time refl (if-same task time))
     (λ other h. tally-kept told (End time task used) other refl (if-not task other time h))
-tasks-after size told (Arrive time task value) = tallies-kept 0 size told (Arrive time task value) (λ other h. tally-kept told (Arrive time task value) other refl refl)
-tasks-after size told (Enter time task unit op values) = tallies-kept 0 size told (Enter time task unit op values) (λ other h. tally-kept told (Enter time task unit op values) other refl refl)
-tasks-after size told (Leave time task unit op values) = tallies-kept 0 size told (Leave time task unit op values) (λ other h. tally-kept told (Leave time task unit op values) other refl refl)
-tasks-after size told (Request time task target value) = tallies-kept 0 size told (Request time task target value) (λ other h. tally-kept told (Request time task target value) other refl refl)
-tasks-after size told (Print time task value) = tallies-kept 0 size told (Print time task value) (λ other h. tally-kept told (Print time task value) other refl refl)
+tasks-after size told (Arrive time task value) =
+    tallies-kept 0 size told (Arrive time task value) (λ other h. tally-kept told (Arrive time task value) other refl refl)
+tasks-after size told (Enter time task unit op values) =
+    tallies-kept 0 size told (Enter time task unit op values) (λ other h. tally-kept told (Enter time task unit op values) other refl refl)
+tasks-after size told (Leave time task unit op values) =
+    tallies-kept 0 size told (Leave time task unit op values) (λ other h. tally-kept told (Leave time task unit op values) other refl refl)
+tasks-after size told (Request time task target value) =
+    tallies-kept 0 size told (Request time task target value) (λ other h. tally-kept told (Request time task target value) other refl refl)
+tasks-after size told (Print time task value) =
+    tallies-kept 0 size told (Print time task value) (λ other h. tally-kept told (Print time task value) other refl refl)
 tasks-after size told (Stop time task unit priority ceiling) =
-    tallies-kept 0 size told (Stop time task unit priority ceiling) (λ other h. tally-kept told (Stop time task unit priority ceiling) other refl refl)
+    tallies-kept 0 size told (Stop time task unit priority ceiling)
+    (λ other h. tally-kept told (Stop time task unit priority ceiling) other refl refl)
 tasks-after size told (Horizon time) = tallies-kept 0 size told (Horizon time) (λ other h. tally-kept told (Horizon time) other refl refl)
 
 -- the count of all after one more event
@@ -273,4 +296,5 @@ pub lines-are : (bounds : List NamedBound) (place : ℕ) (us : List Unit) (told 
     → tally_lines bounds us (tallies_from place (length us) told) ≡ flat_map (unit_line bounds told) (enumerate_from place us)
 lines-are bounds place [] told = refl
 lines-are bounds place (u ∷ us) told =
-    ap (λ t. unit_line bounds told (place, u) ++ t) (lines-are bounds (suc place) us told ∙ ap (λ n. flat_map (unit_line bounds told) (enumerate_from n us)) (sym (add-one place)))
+    ap (λ t. unit_line bounds told (place, u) ++ t)
+    (lines-are bounds (suc place) us told ∙ ap (λ n. flat_map (unit_line bounds told) (enumerate_from n us)) (sym (add-one place)))

@@ -1,5 +1,6 @@
 -- What is kept of the events that were noted, and how one more event changes it.
-use Rattle.std.specs.Prelude.{◌≡◌, ℕ, zero, suc, ◌+◌, ◌-◌, ◌<◌, List, [], ◌∷◌, ◌++◌, length, filter_map, min, max, if◌then◌else◌, Option, Some, None, option_to_list, ⊤}
+use Rattle.std.specs.Prelude.{◌≡◌, ℕ, zero, suc, ◌+◌, ◌-◌, ◌<◌, List, [], ◌∷◌, ◌++◌, length, filter_map, min, max, if◌then◌else◌, Option}
+use Rattle.std.specs.Prelude.{Some, None, option_to_list, ⊤}
 use Rattle.seq_tree.specs.Lists.{change}
 use Rattle.ada_tree.specs.Programs.{Unit, is_task}
 use Rattle.trace_tree.specs.declared.event.Event.{Event}
@@ -80,7 +81,8 @@ IsBelow size _ = ⊤
 abbrev pub tally_lines : List NamedBound → List Unit → List Tally → List ℕ
 tally_lines bounds [] ts = []
 tally_lines bounds (u ∷ us) [] = []
-tally_lines bounds (u ∷ us) (t ∷ ts) = (if is_task u.form then task_line bounds u.name t.releases t.ends t.greatest else []) ++ tally_lines bounds us ts
+tally_lines bounds (u ∷ us) (t ∷ ts) =
+    (if is_task u.form then task_line bounds u.name t.releases t.ends t.greatest else []) ++ tally_lines bounds us ts
 
 -- after an event
 abbrev pub noted : Event → Tallies → Tallies

@@ -3,14 +3,14 @@ ghost use Rattle.std.specs.List.{join_with_byte};
 ghost use Rattle.seq_tree.specs.Trees.{signature_of};
 ghost use Rattle.ada_tree.specs.Bodies.{heads};
 ghost use Rattle.ada_tree.specs.Trees.{form_of, program_of};
-ghost use Rattle.trace_tree.specs.Lines.{line, op_name, unit_name, unit_ops, words};
+ghost use Rattle.trace_tree.specs.Lines.{line, op_name, unit_name, unit_ops, value_words, words};
 ghost use Rattle.trace_tree.specs.Placed.{IsPlaced};
-ghost use Rattle.trace_text.specs.Spaced.{spaced};
+ghost use Rattle.trace_text.specs.Spaced.{first_words, other_words, spaced};
 
 use crate::line_buf::LineBuf;
 use ada_tree::{AdaProgram, Form, Unit};
 use seq_tree::{Name, OpSig};
-use trace_tree::Event;
+use trace_tree::{Event, Values};
 
 // The head of the operation at a place of a unit. That of a sporadic unit is its request operation.
 #[tactic(auto, using(crate::proofs::Names::head_steps))]
@@ -83,95 +83,113 @@ fn put_head(program: &AdaProgram, time: u64, kind: &[u8], task: u32, into: &mut 
     put_unit(program, task, into);
 }
 
-// Adds the levels that stopped a run, each after a space.
+// Adds the unit that a task was to enter when the run stopped, and the levels that stopped it, each after a space.
 #[tactic(auto, using(crate::proofs::Spacing::spaced_steps))]
-fn put_levels(priority: u32, ceiling: u32, into: &mut LineBuf)
-    requires { length into.old + 60 ≤ 512 }
+fn put_stop(program: &AdaProgram, unit: u32, priority: u32, ceiling: u32, into: &mut LineBuf)
+    requires unit { unit < length (program_of program.now).units }
+    requires room { length into.old + 125 ≤ 512 }
     ensures text { into.new
         ≡ into.old
-        ++ spaced (codes "priority" ∷ decimal priority ∷ codes "ceiling" ∷ decimal ceiling ∷ []) }
-    ensures len { length into.new ≤ length into.old + 60 }
+        ++ spaced (unit_name (program_of program.now) unit ∷ codes "priority" ∷ decimal priority ∷ codes "ceiling" ∷ decimal ceiling ∷ []) }
+    ensures len { length into.new ≤ length into.old + 125 }
 {
+    put_unit(program, unit, into);
     into.word(b"priority");
     into.number(u64::from(priority));
     into.word(b"ceiling");
     into.number(u64::from(ceiling));
 }
 
+// What an event's line begins with: the time, what happens and, but for the horizon, the task.
+#[tactic(auto, using(crate::proofs::Spacing::joined_steps))]
+fn put_start(program: &AdaProgram, event: &Event, into: &mut LineBuf)
+    requires empty { into.old ≡ [] }
+    requires placed { IsPlaced (program_of program.now) event.now }
+    ensures text { into.new ≡ join_with_byte 32 (first_words (program_of program.now) event.now) }
+    ensures len { length into.new ≤ 102 }
+{
+    match event {
+        Event::Release { time, task, .. } => put_head(program, *time, b"release", *task, into),
+        Event::Arrive { time, task, .. } => put_head(program, *time, b"arrive", *task, into),
+        Event::Enter { time, task, .. } => put_head(program, *time, b"enter", *task, into),
+        Event::Leave { time, task, .. } => put_head(program, *time, b"leave", *task, into),
+        Event::Request { time, task, .. } => put_head(program, *time, b"request", *task, into),
+        Event::Print { time, task, .. } => put_head(program, *time, b"put", *task, into),
+        Event::End { time, task, .. } => put_head(program, *time, b"end", *task, into),
+        Event::Stop { time, task, .. } => put_head(program, *time, b"stop", *task, into),
+        Event::Horizon { time } => {
+            into.digits(*time);
+            into.word(b"horizon");
+        }
+    }
+}
+
+// Adds an operation that is entered or left, and the values that are handed in or out, each after a space.
+#[tactic(auto, using(crate::proofs::Spacing::spaced_steps))]
+fn put_passage(program: &AdaProgram, unit: u32, op: u32, values: &Values, into: &mut LineBuf)
+    requires unit { unit < length (program_of program.now).units }
+    requires op { op < length (unit_ops (program_of program.now) unit) }
+    requires room { length into.old + 298 ≤ 512 }
+    ensures text { into.new
+        ≡ into.old ++ spaced (op_name (program_of program.now) unit op ∷ value_words values.now) }
+    ensures len { length into.new ≤ length into.old + 298 }
+{
+    put_op(program, unit, op, into);
+    into.values(values);
+}
+
+// Adds the words behind those that an event's line begins with, each after a space.
+#[tactic(auto, using(crate::proofs::Spacing::spaced_steps))]
+fn put_rest(program: &AdaProgram, event: &Event, into: &mut LineBuf)
+    requires placed { IsPlaced (program_of program.now) event.now }
+    requires room { length into.old + 298 ≤ 512 }
+    ensures text { into.new ≡ into.old ++ spaced (other_words (program_of program.now) event.now) }
+    ensures len { length into.new ≤ length into.old + 298 }
+{
+    match event {
+        Event::Release { value, .. } => into.value(value),
+        Event::Arrive { value, .. } => into.value(value),
+        Event::Enter {
+            unit,
+            op,
+            values,
+            ..
+        } => put_passage(program, *unit, *op, values, into),
+        Event::Leave {
+            unit,
+            op,
+            values,
+            ..
+        } => put_passage(program, *unit, *op, values, into),
+        Event::Request { target, value, .. } => {
+            put_unit(program, *target, into);
+            into.value(value);
+        }
+        Event::Print { value, .. } => into.number(u64::from(*value)),
+        Event::End { used, .. } => {
+            into.word(b"used");
+            into.number(*used);
+        }
+        Event::Stop {
+            unit,
+            priority,
+            ceiling,
+            ..
+        } => put_stop(program, *unit, *priority, *ceiling, into),
+        Event::Horizon { .. } => {}
+    }
+}
+
 // The words of an event's line, with a space between them.
-#[tactic(auto, unfolding(trace_tree::specs::Lines::words), using(crate::proofs::Spacing::joined_steps))]
+#[tactic(auto, using(crate::proofs::Spacing::line_steps))]
 fn put_words(program: &AdaProgram, event: &Event, into: &mut LineBuf)
     requires empty { into.old ≡ [] }
     requires placed { IsPlaced (program_of program.now) event.now }
     ensures text { into.new ≡ join_with_byte 32 (words (program_of program.now) event.now) }
     ensures len { length into.new ≤ 500 }
 {
-    match event {
-        Event::Release { time, task, value } => {
-            put_head(program, *time, b"release", *task, into);
-            into.value(value);
-        }
-        Event::Arrive { time, task, value } => {
-            put_head(program, *time, b"arrive", *task, into);
-            into.value(value);
-        }
-        Event::Enter {
-            time,
-            task,
-            unit,
-            op,
-            values,
-        } => {
-            put_head(program, *time, b"enter", *task, into);
-            put_op(program, *unit, *op, into);
-            into.values(values);
-        }
-        Event::Leave {
-            time,
-            task,
-            unit,
-            op,
-            values,
-        } => {
-            put_head(program, *time, b"leave", *task, into);
-            put_op(program, *unit, *op, into);
-            into.values(values);
-        }
-        Event::Request {
-            time,
-            task,
-            target,
-            value,
-        } => {
-            put_head(program, *time, b"request", *task, into);
-            put_unit(program, *target, into);
-            into.value(value);
-        }
-        Event::Print { time, task, value } => {
-            put_head(program, *time, b"put", *task, into);
-            into.number(u64::from(*value));
-        }
-        Event::End { time, task, used } => {
-            put_head(program, *time, b"end", *task, into);
-            into.word(b"used");
-            into.number(*used);
-        }
-        Event::Stop {
-            time,
-            task,
-            unit,
-            priority,
-            ceiling,
-        } => {
-            put_head(program, *time, b"stop", *task, into);
-            put_unit(program, *unit, into);
-            put_levels(*priority, *ceiling, into);
-        }
-        Event::Horizon { time } => {
-            into.digits(*time);
-            into.word(b"horizon");
-        }
-    }
+    put_start(program, event, into);
+    put_rest(program, event, into);
 }
 
 /// Makes `into` hold exactly the line of an event, with its line feed; what it held before is dropped. The event's

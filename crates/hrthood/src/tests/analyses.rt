@@ -21,19 +21,12 @@ const BOUNDS: &[&str] = &[
     out: thread b priority 2 period 12 deadline 12 jitter 0 cost 3 blocking 0 response 6
     out: thread c priority 1 period 20 deadline 20 jitter 0 cost 5 blocking 0 response 20",
     "name: a section at the end of an activation
-    children: OBJECT l IS CYCLIC ATTRIBUTES PERIOD = 20; DEADLINE = 20; THREAD_BUDGET = 1000; REQUIRES q.set; THREAD q.set; END THREAD; \
-        END l; OBJECT h IS CYCLIC ATTRIBUTES PERIOD = 10; OFFSET = 3; DEADLINE = 9; THREAD_BUDGET = 1000; REQUIRES q.set; THREAD q.set; \
-        END THREAD; END h; OBJECT q IS PROTECTED PROVIDES set PAER; OPERATION set IS BEGIN work (3); END set; END q;
+    children: @section at the end
     out: thread h priority 2 period 10 deadline 9 jitter 0 cost 6 blocking 3 response 9
     out: thread l priority 1 period 20 deadline 20 jitter 0 cost 6 blocking 0 response 18
     out: ceiling q 2",
     "name: two protected objects
-    children: OBJECT x IS CYCLIC ATTRIBUTES PERIOD = 40; OFFSET = 2; DEADLINE = 20; THREAD_BUDGET = 1000; REQUIRES q1.set; q2.set; \
-        THREAD q1.set; q2.set; END THREAD; END x; OBJECT y IS CYCLIC ATTRIBUTES PERIOD = 40; OFFSET = 4; DEADLINE = 30; \
-        THREAD_BUDGET = 1000; REQUIRES q2.set; THREAD q2.set; END THREAD; END y; OBJECT z IS CYCLIC ATTRIBUTES PERIOD = 40; \
-        DEADLINE = 40; THREAD_BUDGET = 1000; REQUIRES q1.set; THREAD q1.set; END THREAD; END z; OBJECT q1 IS PROTECTED PROVIDES set PAER; \
-        OPERATION set IS BEGIN work (2); END set; END q1; OBJECT q2 IS PROTECTED PROVIDES set PAER; OPERATION set IS BEGIN work (2); \
-        END set; END q2;
+    children: @two objects
     out: thread x priority 3 period 40 deadline 20 jitter 0 cost 9 blocking 2 response 11
     out: thread y priority 2 period 40 deadline 30 jitter 0 cost 5 blocking 2 response 16
     out: thread z priority 1 period 40 deadline 40 jitter 0 cost 5 blocking 0 response 19

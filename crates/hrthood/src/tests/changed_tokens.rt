@@ -61,6 +61,11 @@ const UNITS: &str =
     hrt_thread ; end a ; package body p is procedure f ( v : in word ) is begin put ( v ) ; end f ; end p ; end d ; \
     with d ; procedure hrt_main is begin null ; end hrt_main ; ";
 
+/// What a replay of that text tells up to tick 20. The call and the request of `a` take four ticks; then `s` puts in 4 and ends with 5, and
+/// `a` calls in 6 and 7, puts in 8 and ends with 9. Nothing requests `t`.
+const UNITS_TRACE: &str =
+    "0 release a\n4 request a s 7\n4 release s 7\n5 put s 7\n6 end s used 2\n9 put a 1\n10 end a used 8\n20 horizon\n";
+
 /// The tokens of a design with an object of each kind, links, units of time and a range of priorities, a space behind each.
 const DESIGN: &str =
     "design d version 2 is tick = 1 ms ; priorities 5 .. 9 ; costs assign = 1 ; test = 1 ; turn = 1 ; call = 2 ; \
@@ -302,8 +307,7 @@ fn told_of_ada(
     Ok(refused(err))
 }
 
-/// What is told of the text with units of every kind with a token changed: its first unit, which is not run yet, where a semicolon stands
-/// in place of one.
+/// What is told of the text with units of every kind with a token changed. It is a program still where a semicolon stands in place of one.
 fn told_of_units(
     rt: &HostRuntime,
     change: Change,
@@ -311,7 +315,7 @@ fn told_of_units(
     is_same: bool,
 ) -> Result<Told, Fail> {
     if is_same {
-        return Ok(refused(String::from_str(rt.alloc(), "refused N1 q\n")?));
+        return Ok(taken(rt, UNITS_TRACE));
     }
     let line = line_of_fault(UNITS_LATE, change, place);
     let err = format!(in rt.alloc(); "refused S1 ada line {line} column 1\n")?;

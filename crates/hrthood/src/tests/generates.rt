@@ -1,8 +1,7 @@
 //! Designs of every kind of object, and the Ada texts that are made of them.
 
-use super::rows::{Outcome, lines, row_text, run_design, run_row, run_table, run_words};
-use super::texts::MINE;
-use hood_io::MemShelf;
+use super::rows::{Outcome, arrivals_bytes, lines, replay_under, row_text, run_row, run_table};
+use super::verifies::TRACES;
 use hrthood_top::Status;
 use std::test::Fail;
 
@@ -284,20 +283,38 @@ fn heads_of_texts_of_designs(rt: HostRuntime) -> Result<(), Fail> {
     Ok(())
 }
 
-/// The text of a design is read as a program that meets the rules: it is refused for nothing but its first unit that is not run so far.
+/// A design whose text is replayed.
+const REPLAYED: &[&str] = &[
+    "name: a design of every kind of object
+    whole: @every kind
+    why: the passive operation takes 0 to 2 and hands out 1; the call and the request of s take 3 to 6, its section 9, its work 10 to 13
+    out: 0 release c
+    out: 7 request c s 1
+    out: 7 release s 1
+    out: 9 enter s q.set 1
+    out: 10 leave s q.set
+    out: 15 end s used 8
+    out: 16 end c used 8
+    out: 20 horizon",
+];
+
+/// The text of a design that one command writes another replays. Traces of other designs are those that `verify` has of them.
 #[test]
-fn texts_of_designs_are_accepted(rt: HostRuntime) -> Result<(), Fail> {
-    for (design, unit) in [(EVERY_KIND, "refused N1 q\n"), (MINE, "refused N1 motor\n")] {
-        let Outcome { status, out, err } = run_design(&rt, "generate", design.as_bytes())?;
-        assert_eq!(rt; status, Status::Done, "{unit}");
-        assert_eq!(rt; err.bytes(), b"".as_slice(), "{unit}");
-        let mut shelf = MemShelf::new(rt.alloc(), &[])?;
-        shelf.put("a", out.bytes())?;
-        shelf.put("r", b"UNTIL 20;")?;
-        let Outcome { status, out, err } = run_words(&rt, &["replay", "a", "r"], &mut shelf, 1000)?;
-        assert_eq!(rt; status, Status::Refused, "{unit}");
-        assert_eq!(rt; out.bytes(), b"".as_slice(), "{unit}");
-        assert_eq!(rt; err.bytes(), unit.as_bytes());
+fn texts_of_designs_are_replayed(rt: HostRuntime) -> Result<(), Fail> {
+    for table in [REPLAYED, TRACES] {
+        for given in table {
+            let row = row_text(&rt, given, "words: generate d\narrivals: UNTIL 20;")?;
+            let made = run_row(&rt, &row)?;
+            assert_eq!(rt; made.status, Status::Done, "{given}");
+            let Outcome { status, out, err } = replay_under(
+                &rt,
+                made.out.bytes(),
+                &arrivals_bytes(&rt, &row)?,
+            )?;
+            assert_eq!(rt; status, Status::Done, "{given}");
+            assert_eq!(rt; out.bytes(), lines(&rt, &row, "out")?.as_slice(), "{given}");
+            assert_eq!(rt; err.bytes(), b"".as_slice(), "{given}");
+        }
     }
     Ok(())
 }

@@ -15,9 +15,10 @@
 //! | `status` | how the run ends | that of the table |
 //! | `out`, `err` | a line of standard output, and of standard error; a row may have several | nothing is written |
 //! | `told` | the text of standard output by its name, where it stands elsewhere; `ada` is that of the row's task | |
+//! | `why` | how `out` was derived, for a reader; no test reads it | |
 //!
-//! `shapes.rt` has the keys of the design, which is the file `d`, and `texts.rt` those of the Ada text, which is `a.ada`. Of `out` and
-//! `told` so much is wanted as there is room for.
+//! `shapes.rt` has the keys of the design, which is the file `d`, and `texts.rt` and `units.rt` those of the Ada text, which is `a.ada`. Of
+//! `out` and `told` so much is wanted as there is room for.
 
 use super::shapes::design_bytes;
 use super::texts::{USUAL, ada_bytes, ada_text, joined, named, padded};
@@ -79,7 +80,7 @@ pub fn lines(rt: &HostRuntime, row: &str, key: &str) -> Result<Vec<u8>, Fail> {
 }
 
 /// The bytes of a row's file `r`.
-fn arrivals_bytes(rt: &HostRuntime, row: &str) -> Result<Vec<u8>, Fail> {
+pub fn arrivals_bytes(rt: &HostRuntime, row: &str) -> Result<Vec<u8>, Fail> {
     let mut arrivals = lines(rt, row, "r")?;
     let _ = arrivals.pop();
     if arrivals.is_empty() {
@@ -163,7 +164,7 @@ pub fn replay_under(rt: &HostRuntime, ada: &[u8], arrivals: &[u8]) -> Result<Out
     let mut shelf = MemShelf::new(rt.alloc(), &[])?;
     shelf.put("a.ada", ada)?;
     shelf.put("r", arrivals)?;
-    run_words(rt, &["replay", "a.ada", "r"], &mut shelf, 1000)
+    run_words(rt, &["replay", "a.ada", "r"], &mut shelf, 10_000)
 }
 
 /// An empty shelf, on which the fetch that a row names fails.

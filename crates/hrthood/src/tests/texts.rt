@@ -8,6 +8,7 @@
 //! | `heads`, `bodies` | the specifications and the bodies of the units before it |
 //! | `vars`, `block` | the variables of its unit, and its block |
 //! | `separation`, `jitter` | where a row has them, the program has one task `s` in place of the cyclic one, which is requested from outside with a word `v` |
+//! | the keys of `units.rt` | where a row has one of them, the program has these units alone |
 //! | `ada_cut` | so many bytes are missing at its end |
 //! | `ada_len` | with spaces behind it, up to so many bytes |
 
@@ -16,6 +17,8 @@ use super::formats::{COMMENTED, FORMATTED, TOO_GREAT};
 use super::generates::{EVERY_KIND, EVERY_KIND_TEXT, IN_MILLISECONDS_TEXT};
 use super::replays::NO_UNITS;
 use super::rows::{lengthened, number, text, value};
+use super::sections::{SECTION_AT_THE_END, TWO_OBJECTS};
+use super::units::{bodies, specs};
 use std::test::Fail;
 
 /// What rows of every table have: a cyclic task of period 10 whose activations take 4 ticks.
@@ -265,8 +268,28 @@ fn asked_text(rt: &HostRuntime, row: &str) -> Result<Vec<u8>, Fail> {
     Ok(text.as_bytes().to_vec(rt.alloc())?)
 }
 
+/// The Ada text of the program `d` with these specifications of units, and their bodies.
+fn units_text(rt: &HostRuntime, row: &str, specs: &str) -> Result<Vec<u8>, Fail> {
+    let text = joined(
+        rt,
+        &[
+            &unit_hrt(rt, row)?,
+            "package d is\n",
+            specs,
+            "end d;\npackage body d is\n",
+            &bodies(rt, row)?,
+            "end d;\nwith d;\nprocedure hrt_main is begin null; end hrt_main;\n",
+        ],
+    )?;
+    Ok(text.as_bytes().to_vec(rt.alloc())?)
+}
+
 /// The text of a row's program.
 fn program_text(rt: &HostRuntime, row: &str) -> Result<Vec<u8>, Fail> {
+    let specs = specs(rt, row)?;
+    if !specs.is_empty() {
+        return units_text(rt, row, &specs);
+    }
     match value(row, "separation") {
         Some(_) => asked_text(rt, row),
         None => ada_text(rt, row),
@@ -313,11 +336,13 @@ const NAMED: &[(&str, &str)] = &[
     ("no units", NO_UNITS),
     ("protected", PROTECTED),
     ("requested", REQUESTED),
+    ("section at the end", SECTION_AT_THE_END),
     ("started", STARTED),
     ("starting", STARTING),
     ("three tasks", THREE_TASKS),
     ("too great", TOO_GREAT),
     ("trace", TRACE),
+    ("two objects", TWO_OBJECTS),
     ("wrong", WRONG),
     ("wrong without clashes", WRONG_WITHOUT_CLASHES),
 ];

@@ -14,6 +14,8 @@ threads-preserved c =
     let q = c.index-ceiling.result.now in
     let h : c.threads.i < length ps = omega arith in
     let k : c.threads.i < length cs = omega arith in
-    pair-step thread_of thread_unit unit_of c.deref-thread-items.result.now (zip ps cs) c.threads.i c.thread-item.result (p, q) c.threads.units.items c.push.new.self.items _ _
-    c.threads-test.true (beside-length ps cs c.threads.i h k) c.thread-item.is (beside ps cs c.threads.i p q h k c.index-priority.ensures c.index-ceiling.ensures)
+    pair-step thread_of thread_unit unit_of c.deref-thread-items.result.now (zip ps cs) c.threads.i c.thread-item.result
+    (p, q) c.threads.units.items c.push.new.self.items _ _
+    c.threads-test.true (beside-length ps cs c.threads.i h k) c.thread-item.is
+    (beside ps cs c.threads.i p q h k c.index-priority.ensures c.index-ceiling.ensures)
     c.in_ok-thread_unit.ensures c.in_ok-push.ensures.items c.threads.invariant

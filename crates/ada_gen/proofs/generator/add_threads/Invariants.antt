@@ -8,5 +8,6 @@ use Rattle.ada_gen.proofs.generator.add_threads.Given as goal
 -- with the units of the threads that are left, those of all have been added
 abbrev pub invariant-threads : goal.invariant-threads
 invariant-threads l =
-    map unit_of l.units.items ++ map thread_unit (zip (map thread_of (drop l.i l.thread-items)) (drop l.i (zip l.order.threads.items l.order.obcs.items)))
+    map unit_of l.units.items
+    ++ map thread_unit (zip (map thread_of (drop l.i l.thread-items)) (drop l.i (zip l.order.threads.items l.order.obcs.items)))
     ≡ map unit_of l.initial.units.items ++ map thread_unit (zip (map thread_of l.thread-items) (zip l.order.threads.items l.order.obcs.items))

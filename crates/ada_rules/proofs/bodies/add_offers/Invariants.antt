@@ -1,8 +1,8 @@
 use Rattle.std.proofs.Common.{◌≡◌, ◌++◌, map, take}
-use Rattle.seq_tree.specs.Trees.{offer_of}
+use Rattle.seq_check.specs.Scopes.{offer_view}
 use Rattle.ada_rules.specs.Lists.{head_of}
 use Rattle.ada_rules.proofs.bodies.add_offers.Given as goal
 
 -- the operations so far are those of the heads so far
 abbrev pub invariant-heads : goal.invariant-heads
-invariant-heads l = map offer_of l.calls.items ≡ map offer_of l.initial.calls.items ++ map (λ h. record { object = l.object; sig = h }) (map head_of (take l.head-index l.heads))
+invariant-heads l = map offer_view l.offers.items ≡ map offer_view l.initial.offers.items ++ map (λ h. record { object = l.object; sig = h }) (map head_of (take l.head-index l.heads))

@@ -7,7 +7,7 @@ use Rattle.hrthood_top.proofs.replay.replay.Goals as goal
 pub returns-in-Ok : goal.returns-in-Ok
 returns-in-Ok g c =
     ends-streamed (replays c.args.ada.now c.args.arrivals.now) _ (texts_of c.in-Ok.texts) _ _ c.in-Ok.ensures.0 c.in-Ok.ensures.1
-    (rw (c.deref.ensures.value, c.deref-in-Ok.ensures.value) at c.replay_texts.ensures)
+    (c.replay_texts.ensures c.args.ada.now c.args.arrivals.now)
 
 pub returns-in-Err : goal.returns-in-Err
 returns-in-Err g c = ends-stop texts_of (replays c.args.ada.now c.args.arrivals.now) _ _ _ _ c.in-Err.ensures c.tell_stop.ensures refl

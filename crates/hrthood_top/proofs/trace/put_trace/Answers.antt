@@ -2,7 +2,7 @@ use Rattle.std.proofs.Common.{arith, refl, ◌∙◌}
 use Rattle.std.proofs.lemmas.Result.{err_from_is_err_and}
 use Rattle.ada_tree.specs.Trees.{program_of}
 use Rattle.hrthood_top.proofs.Gathering.{cause-later}
-use Rattle.hrthood_top.proofs.Tracing.{none_told, one_turn, turn_failed, all_told, goes_on}
+use Rattle.hrthood_top.proofs.Tracing.{none_told, one_turn, turn_failed, all_told, goes_on, ends-out, ends-stopped, stop-placed}
 use Rattle.hrthood_top.proofs.trace.put_trace.Goals as goal
 
 pub turns-init : goal.turns-init
@@ -26,7 +26,7 @@ turns-preserved g c = record {
   whole = c.in-More.ensures.whole c.in-More.ensures.turned.2;
   system = c.in-More.ensures.system ∙ c.turns.invariant.system;
   empty = c.clear.ensures;
-  so_far = one_turn _ _ _ _ _ _ _ _ _ _ c.turns.invariant.so_far (rw c.events.ensures at c.in_ok-put_lines.ensures.gathers) c.in-More.ensures.rest;
+  so_far = one_turn _ _ _ _ _ _ _ _ _ _ c.turns.invariant.so_far (rw c.events.ensures at c.in_ok-put_lines.ensures.gathers) c.in-More.ensures.turned.1 c.in-More.ensures.rest;
 }
 
 pub returns-in_err-put_lines-clause-puts : goal.returns-in_err-put_lines-clause-puts
@@ -37,18 +37,29 @@ returns-in_err-put_lines-clause-puts g c =
 
 pub returns-in-Horizon-clause-cause : goal.returns-in-Horizon-clause-cause
 returns-in-Horizon-clause-cause g c =
-    cause-later _ _ _ _ (omega (arith, c.turns.invariant.later, c.put_lines.ensures.cause.later)) c.flush.ensures.cause
+    cause-later _ _ _ _ (omega (arith, c.turns.invariant.later, c.put_lines.ensures.cause.later)) c.close.ensures.cause
 
 pub returns-in-Horizon-clause-puts : goal.returns-in-Horizon-clause-puts
 returns-in-Horizon-clause-puts g c =
-    all_told _ _ _ _ _ _ _ _ (one_turn _ _ _ _ _ _ _ _ _ _ c.turns.invariant.so_far (rw c.events.ensures at c.in_ok-put_lines.ensures.gathers) c.in-Horizon.ensures.rest)
-    c.in-Horizon.ensures.turned.1 c.flush.ensures.puts
+    all_told (program_of c.args.program.now) _ _ _ _ _ _ _ _ _ _ _ _ c.turns.invariant.so_far (rw c.events.ensures at c.in_ok-put_lines.ensures.gathers)
+    (ends-out (program_of c.args.program.now) _ _ c.in-Horizon.ensures.turned.0) c.in-Horizon.ensures.turned.1 c.in-Horizon.ensures.rest c.close.ensures.closes
+
+pub violation_at-at-requires-clause-task : goal.violation_at-at-requires-clause-task
+violation_at-at-requires-clause-task g c =
+    (stop-placed (program_of c.args.program.now) _ _ _ _ _ _ c.in-CeilingViolation.ensures.turned.0
+    (c.advance-turn.ensures.placed _ c.requires.runs.0 (c.turns.invariant.system ∙ c.requires.runs.1))).0
+
+pub violation_at-at-requires-clause-object : goal.violation_at-at-requires-clause-object
+violation_at-at-requires-clause-object g c =
+    (stop-placed (program_of c.args.program.now) _ _ _ _ _ _ c.in-CeilingViolation.ensures.turned.0
+    (c.advance-turn.ensures.placed _ c.requires.runs.0 (c.turns.invariant.system ∙ c.requires.runs.1))).1
 
 pub returns-in-CeilingViolation-clause-cause : goal.returns-in-CeilingViolation-clause-cause
 returns-in-CeilingViolation-clause-cause g c =
-    cause-later _ _ _ _ (omega (arith, c.turns.invariant.later, c.put_lines.ensures.cause.later)) c.flush-in-CeilingViolation.ensures.cause
+    cause-later _ _ _ _ (omega (arith, c.turns.invariant.later, c.put_lines.ensures.cause.later)) c.close-in-CeilingViolation.ensures.cause
 
 pub returns-in-CeilingViolation-clause-puts : goal.returns-in-CeilingViolation-clause-puts
 returns-in-CeilingViolation-clause-puts g c =
-    all_told _ _ _ _ _ _ _ _ (one_turn _ _ _ _ _ _ _ _ _ _ c.turns.invariant.so_far (rw c.events.ensures at c.in_ok-put_lines.ensures.gathers) c.in-CeilingViolation.ensures.rest)
-    c.in-CeilingViolation.ensures.turned.1 c.flush-in-CeilingViolation.ensures.puts
+    all_told (program_of c.args.program.now) _ _ _ _ _ _ _ _ _ _ _ _ c.turns.invariant.so_far (rw c.events.ensures at c.in_ok-put_lines.ensures.gathers)
+    (ends-stopped (program_of c.args.program.now) _ _ _ _ _ c.violation_at-at.result _ c.in-CeilingViolation.ensures.turned.0 c.violation_at-at.ensures)
+    c.in-CeilingViolation.ensures.turned.1 c.in-CeilingViolation.ensures.rest c.close-in-CeilingViolation.ensures.closes

@@ -6,4 +6,6 @@ use Rattle.ods_costs.proofs.budgets.budget_of.Given as goal
 
 -- it is up to those that are left
 abbrev pub invariant-attrs : goal.invariant-attrs
-invariant-attrs l = unwrap_or (option_map (λ a. a.value) (find (has_key ThreadBudget) (drop l.attr-index l.attrs))) 0 ≡ unwrap_or (option_map (λ a. a.value) (find (has_key ThreadBudget) l.attrs)) 0
+invariant-attrs l =
+    unwrap_or (option_map (λ a. a.value) (find (has_key ThreadBudget) (drop l.attr-index l.attrs))) 0
+    ≡ unwrap_or (option_map (λ a. a.value) (find (has_key ThreadBudget) l.attrs)) 0

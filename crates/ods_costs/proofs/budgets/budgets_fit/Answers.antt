@@ -24,10 +24,13 @@ returns-in_err-object_fits c =
     let is : c.from_residual.result ≡ Err e = search rules in
     let later = flat_map (over_budgets x) (map standing_of (drop (c.objects.standing-index + 1) items)) in
     let own = over_budgets x (standing_of c.standing-item.result) in
-    let step : drop c.objects.standing-index items ≡ c.standing-item.result ∷ drop (c.objects.standing-index + 1) items = drop_step items c.objects.standing-index c.standing-item.result c.objects-test.true c.standing-item.is in
+    let step : drop c.objects.standing-index items ≡ c.standing-item.result
+    ∷ drop (c.objects.standing-index + 1) items = drop_step items c.objects.standing-index c.standing-item.result c.objects-test.true
+    c.standing-item.is in
     let whole : head_of (bad_budgets y) ≡ head_of (own ++ later) =
     all ∙ sym c.objects.invariant ∙ ap (λ (ss : List Standing). head_of (flat_map (over_budgets x) (map standing_of ss))) step in
-    subst (λ w. Tells c.from_residual.result w) (sym whole) (subst (λ r. Tells r (head_of (own ++ later))) (sym is) (tells_front e own later c.in_err-object_fits.ensures))
+    subst (λ w. Tells c.from_residual.result w) (sym whole)
+    (subst (λ r. Tells r (head_of (own ++ later))) (sym is) (tells_front e own later c.in_err-object_fits.ensures))
 
 pub returns : goal.returns
 returns c =

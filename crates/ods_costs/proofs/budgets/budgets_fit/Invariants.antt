@@ -8,4 +8,5 @@ use Rattle.ods_costs.proofs.budgets.budgets_fit.Given as goal
 -- it is up to the objects that are left
 abbrev pub invariant-objects : goal.invariant-objects
 invariant-objects l =
-    head_of (flat_map (over_budgets (design_of l.priced.links.design.now)) (map standing_of (drop l.standing-index l.standing-items))) ≡ head_of (flat_map (over_budgets (design_of l.priced.links.design.now)) (map standing_of l.index.objects.items))
+    head_of (flat_map (over_budgets (design_of l.priced.links.design.now)) (map standing_of (drop l.standing-index l.standing-items)))
+    ≡ head_of (flat_map (over_budgets (design_of l.priced.links.design.now)) (map standing_of l.index.objects.items))

@@ -13,4 +13,5 @@ use Rattle.ods_costs.proofs.costs.account_of.Given as goal
 abbrev pub invariant-calls : goal.invariant-calls
 invariant-calls l =
     let v : OpName → ℕ = λ n. meant (design_of l.links.design.now) (number_at l.known) n.object n.op in
-    (n : OpName) → (if list_any (λ c. same_op c n) (map call_of (drop l.call-index l.calls)) then Some (v n) else at l.account n) ≡ (if list_any (λ c. same_op c n) (map call_of l.calls) then Some (v n) else None)
+    (n : OpName) → (if list_any (λ c. same_op c n) (map call_of (drop l.call-index l.calls)) then Some (v n) else at l.account n)
+    ≡ (if list_any (λ c. same_op c n) (map call_of l.calls) then Some (v n) else None)

@@ -8,4 +8,5 @@ use Rattle.ods_costs.proofs.costs.any_unpriced.Given as goal
 -- it is up to the calls that are left
 abbrev pub invariant-calls : goal.invariant-calls
 invariant-calls l =
-    list_any (is_unpriced (design_of l.links.design.now) l.firsts l.known) (map call_of (drop l.call-index l.calls)) ≡ list_any (is_unpriced (design_of l.links.design.now) l.firsts l.known) (map call_of l.calls)
+    list_any (is_unpriced (design_of l.links.design.now) l.firsts l.known) (map call_of (drop l.call-index l.calls))
+    ≡ list_any (is_unpriced (design_of l.links.design.now) l.firsts l.known) (map call_of l.calls)

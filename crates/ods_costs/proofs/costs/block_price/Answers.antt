@@ -8,4 +8,5 @@ pub returns : goal.returns
 returns c = λ from settled depth deep.
     let none : c.in_ok-lacks.lacks ≡ false = search rules in
     c.in_ok-price.ensures
-    ∙ block-settled (design_of c.args.links.now.design.now) from depth c.args.firsts.now c.args.known.now (block_of c.args.block.now) c.requires settled deep (sym c.in_ok-lacks.ensures ∙ none)
+    ∙ block-settled (design_of c.args.links.now.design.now) from depth c.args.firsts.now c.args.known.now
+    (block_of c.args.block.now) c.requires settled deep (sym c.in_ok-lacks.ensures ∙ none)

@@ -13,4 +13,6 @@ returns c = λ depth agrees n.
     let x = design_of c.args.links.now.design.now in
     let left : drop c.services.served-index c.args.services.now ≡ [] = drop_all c.services.served-index c.args.services.now c.services-test.false in
     prices-agree x depth n (at c.services.prices n)
-    (sym (or-none (at c.services.prices n)) ∙ ap (λ vs. option_or (at c.services.prices n) (option_map (deeper_value x depth) (costed_named (map (served_as x) vs) n))) (sym left) ∙ c.services.invariant depth agrees n)
+    (sym (or-none (at c.services.prices n))
+    ∙ ap (λ vs. option_or (at c.services.prices n) (option_map (deeper_value x depth) (costed_named (map (served_as x) vs) n))) (sym left)
+    ∙ c.services.invariant depth agrees n)

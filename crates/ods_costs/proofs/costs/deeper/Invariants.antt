@@ -13,4 +13,5 @@ abbrev pub invariant-services : goal.invariant-services
 invariant-services l =
     let x = design_of l.links.design.now in
     (depth : ℕ) → AgreesAt x depth l.known → (n : OpName)
-    → option_or (at l.prices n) (option_map (deeper_value x depth) (costed_named (map (served_as x) (drop l.served-index l.services)) n)) ≡ option_map (deeper_value x depth) (costed_named (costed_ops x) n)
+    → option_or (at l.prices n) (option_map (deeper_value x depth) (costed_named (map (served_as x) (drop l.served-index l.services)) n))
+    ≡ option_map (deeper_value x depth) (costed_named (costed_ops x) n)

@@ -10,4 +10,6 @@ use Rattle.ods_costs.proofs.costs.firsts_of.Given as goal
 -- the first operations so far, and those of the ones that are left, are the first of all
 abbrev pub invariant-services : goal.invariant-services
 invariant-services l =
-    (x : Design) (n : OpName) → option_or (option_map (served_as x) (at l.firsts n)) (costed_named (map (served_as x) (drop l.served-index l.services)) n) ≡ costed_named (map (served_as x) l.services) n
+    (x : Design) (n : OpName)
+    → option_or (option_map (served_as x) (at l.firsts n)) (costed_named (map (served_as x) (drop l.served-index l.services)) n)
+    ≡ costed_named (map (served_as x) l.services) n

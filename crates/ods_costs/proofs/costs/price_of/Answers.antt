@@ -19,7 +19,8 @@ returns-in-Some c =
     let at : c.args.served.now.block ≡ Some c.in-Some.block = search rules in
     let inner = λ (depth : ℕ). cost_within depth x.costs (flat_services (flat x)) in
     IfOk-weaker c.ticks_of.result (λ n. n ≡ min cap (cost x.costs (meant x (number_at c.args.known.now)) (block_of c.in-Some.block.now)))
-    (λ n. (depth : ℕ) → AgreesAt x depth c.args.known.now → n ≡ min cap (price x.costs (inner depth) (option_map (λ b. resolved x (block_of b.now)) c.args.served.now.block)))
+    (λ n. (depth : ℕ) → AgreesAt x depth c.args.known.now → n
+    ≡ min cap (price x.costs (inner depth) (option_map (λ b. resolved x (block_of b.now)) c.args.served.now.block)))
     (λ n is depth agrees. is ∙ priced-all x depth (number_at c.args.known.now) (block_of c.in-Some.block.now) agrees
     ∙ ap (λ o. min cap (price x.costs (inner depth) (option_map (λ b. resolved x (block_of b.now)) o))) (sym at))
     c.ticks_of.ensures

@@ -13,5 +13,6 @@ returns-in-Some c =
     let x = design_of c.args.links.now.design.now in
     let at : c.args.served.now.block ≡ Some c.in-Some.block = search rules in
     let P : Option (Bor Block) → Type 0 =
-    λ b. IfOk c.block_price.result (λ o. IfSome o (λ n. (from : ℕ) → IsSettled x from c.args.known.now → Stays x from (option_map (λ b. resolved x (block_of b.now)) b) n)) in
+    λ b. IfOk c.block_price.result
+    (λ o. IfSome o (λ n. (from : ℕ) → IsSettled x from c.args.known.now → Stays x from (option_map (λ b. resolved x (block_of b.now)) b) n)) in
     subst P (sym at) c.block_price.ensures

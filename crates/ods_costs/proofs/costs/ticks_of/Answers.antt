@@ -20,6 +20,7 @@ returns c =
     let known = meant x (number_at c.args.known.now) in
     let P : OpName → Type 0 = λ n. number_at account n.object n.op ≡ known n.object n.op in
     let each : Each P (map call_of c.as_slice.result.now) =
-    each-among P (map call_of c.as_slice.result.now) (λ n h. ap or_0 (c.in_ok-account.ensures n ∙ ap (λ z. if z then Some (known n.object n.op) else None) h)) in
+    each-among P (map call_of c.as_slice.result.now)
+    (λ n h. ap or_0 (c.in_ok-account.ensures n ∙ ap (λ z. if z then Some (known n.object n.op) else None) h)) in
     let calls : map call_of c.as_slice.result.now ≡ block_calls b = ap (map call_of) c.as_slice.ensures.value ∙ c.in_ok-calls.ensures in
     c.capped_cost.ensures ∙ ap (min cap) (block-same x.costs (λ ticks. ticks) (number_at account) known b (subst (Each P) calls each))

@@ -10,5 +10,9 @@ use Rattle.ods_costs.proofs.services.add_operations.Given as goal
 -- the operations so far, and those that are left
 abbrev pub invariant-provides : goal.invariant-provides
 invariant-provides l =
-    (x : Design) → map (served_as x) l.into.items ++ served_ops x l.object (λ op. option_map (λ b. block_of b.now) (at l.blocks (record { object = l.object; op = op }))) (map provided_of (drop l.provided-index l.provides))
-    ≡ map (served_as x) l.initial.into.items ++ served_ops x l.object (λ op. option_map (λ b. block_of b.now) (at l.blocks (record { object = l.object; op = op }))) (map provided_of l.provides)
+    (x : Design) → map (served_as x) l.into.items
+    ++ served_ops x l.object (λ op. option_map (λ b. block_of b.now) (at l.blocks (record { object = l.object; op = op })))
+    (map provided_of (drop l.provided-index l.provides))
+    ≡ map (served_as x) l.initial.into.items
+    ++ served_ops x l.object (λ op. option_map (λ b. block_of b.now) (at l.blocks (record { object = l.object; op = op })))
+    (map provided_of l.provides)

@@ -17,7 +17,12 @@ returns c =
     let o = object_of c.args.node.now in
     let look : Name → Option Statements = λ op. option_map (λ b. block_of b.now) (at c.in_ok-blocks.blocks (record { object = o.name; op = op })) in
     let looks : (op : Name) → look op ≡ block_in o op = λ op. search (rules, the_lemmas, c.in_ok-blocks.ensures op) in
-    let given : IfOk c.add_operations.result (λ _. (x : Design) → map (served_as x) c.add_operations.new.into.items ≡ map (served_as x) c.args.into.now.items ++ served_ops x o.name look o.provides) = search (rules, the_lemmas) in
-    IfOk-weaker c.add_operations.result (λ _. (x : Design) → map (served_as x) c.add_operations.new.into.items ≡ map (served_as x) c.args.into.now.items ++ served_ops x o.name look o.provides)
-    (λ _. (x : Design) → map (served_as x) c.add_operations.new.into.items ≡ map (served_as x) c.args.into.now.items ++ served_ops x o.name (block_in o) o.provides)
+    let given : IfOk c.add_operations.result
+    (λ _. (x : Design) → map (served_as x) c.add_operations.new.into.items ≡ map (served_as x) c.args.into.now.items
+    ++ served_ops x o.name look o.provides) = search (rules, the_lemmas) in
+    IfOk-weaker c.add_operations.result
+    (λ _. (x : Design) → map (served_as x) c.add_operations.new.into.items ≡ map (served_as x) c.args.into.now.items
+    ++ served_ops x o.name look o.provides)
+    (λ _. (x : Design) → map (served_as x) c.add_operations.new.into.items ≡ map (served_as x) c.args.into.now.items
+    ++ served_ops x o.name (block_in o) o.provides)
     (λ done is x. is x ∙ ap (λ l. map (served_as x) c.args.into.now.items ++ l) (served-same x o.name look (block_in o) o.provides looks)) given

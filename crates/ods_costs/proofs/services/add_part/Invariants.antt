@@ -7,4 +7,5 @@ use Rattle.ods_costs.proofs.services.add_part.Given as goal
 -- what was given so far, and what the objects that are left give
 abbrev pub invariant-objects : goal.invariant-objects
 invariant-objects l =
-    (x : Design) → map (served_as x) l.into.items ++ flat_map (served_part x l.part) (map standing_of (drop l.standing-index l.objects)) ≡ map (served_as x) l.initial.into.items ++ flat_map (served_part x l.part) (map standing_of l.objects)
+    (x : Design) → map (served_as x) l.into.items ++ flat_map (served_part x l.part) (map standing_of (drop l.standing-index l.objects))
+    ≡ map (served_as x) l.initial.into.items ++ flat_map (served_part x l.part) (map standing_of l.objects)

@@ -11,4 +11,6 @@ use Rattle.ods_costs.proofs.services.blocks_of.Given as goal
 -- the blocks so far, and those of the bodies that are left, are the blocks of all
 abbrev pub invariant-bodies : goal.invariant-bodies
 invariant-bodies l =
-    (op : Name) → option_or (option_map (λ b. block_of b.now) (at l.blocks (record { object = l.object; op = op }))) (option_map (λ b. b.block) (body_named op (map body_of (drop l.body-index l.bodies)))) ≡ option_map (λ b. b.block) (body_named op (map body_of l.bodies))
+    (op : Name) → option_or (option_map (λ b. block_of b.now) (at l.blocks (record { object = l.object; op = op })))
+    (option_map (λ b. b.block) (body_named op (map body_of (drop l.body-index l.bodies))))
+    ≡ option_map (λ b. b.block) (body_named op (map body_of l.bodies))

@@ -16,10 +16,13 @@ returns-in_err-parts_fit c =
     let is : c.from_residual.result ≡ Err e = search rules in
     let later = flat_map (dear_parts x) (map standing_of (drop (c.objects.standing-index + 1) items)) in
     let own = dear_parts x (standing_of c.standing-item.result) in
-    let step : drop c.objects.standing-index items ≡ c.standing-item.result ∷ drop (c.objects.standing-index + 1) items = drop_step items c.objects.standing-index c.standing-item.result c.objects-test.true c.standing-item.is in
+    let step : drop c.objects.standing-index items ≡ c.standing-item.result
+    ∷ drop (c.objects.standing-index + 1) items = drop_step items c.objects.standing-index c.standing-item.result c.objects-test.true
+    c.standing-item.is in
     let whole : head_of (flat_map (dear_parts x) (map standing_of items)) ≡ head_of (own ++ later) =
     sym c.objects.invariant ∙ ap (λ (ss : List Standing). head_of (flat_map (dear_parts x) (map standing_of ss))) step in
-    subst (λ w. Tells c.from_residual.result w) (sym whole) (subst (λ r. Tells r (head_of (own ++ later))) (sym is) (tells_front e own later c.in_err-parts_fit.ensures))
+    subst (λ w. Tells c.from_residual.result w) (sym whole)
+    (subst (λ r. Tells r (head_of (own ++ later))) (sym is) (tells_front e own later c.in_err-parts_fit.ensures))
 
 pub objects-preserved : goal.objects-preserved
 objects-preserved c =
@@ -27,5 +30,8 @@ objects-preserved c =
     let items = c.args.objects.now in
     let later = flat_map (dear_parts x) (map standing_of (drop (c.objects.standing-index + 1) items)) in
     let own = dear_parts x (standing_of c.standing-item.result) in
-    let step : drop c.objects.standing-index items ≡ c.standing-item.result ∷ drop (c.objects.standing-index + 1) items = drop_step items c.objects.standing-index c.standing-item.result c.objects-test.true c.standing-item.is in
-    sym (head_later own later c.in_ok-parts_fit.ensures) ∙ ap (λ (ss : List Standing). head_of (flat_map (dear_parts x) (map standing_of ss))) (sym step) ∙ c.objects.invariant
+    let step : drop c.objects.standing-index items ≡ c.standing-item.result
+    ∷ drop (c.objects.standing-index + 1) items = drop_step items c.objects.standing-index c.standing-item.result c.objects-test.true
+    c.standing-item.is in
+    sym (head_later own later c.in_ok-parts_fit.ensures)
+    ∙ ap (λ (ss : List Standing). head_of (flat_map (dear_parts x) (map standing_of ss))) (sym step) ∙ c.objects.invariant

@@ -16,9 +16,12 @@ pub returns : goal.returns
 returns c =
     let x = design_of c.args.index.now.design.now in
     let items = c.as_slice-objects.result.now in
-    let all : map standing_of items ≡ objects x = ap (λ (vs : List Standing). map standing_of vs) c.as_slice-objects.ensures.value ∙ c.requires.indexed.walked in
+    let all : map standing_of items ≡ objects x = ap (λ (vs : List Standing). map standing_of vs) c.as_slice-objects.ensures.value
+    ∙ c.requires.indexed.walked in
     let count = length (threads_among (map standing_of items)) in
-    let limit : thread_limit (stated_priorities x) ≡ c.thread_limit-limit.result = sym (c.thread_limit-limit.ensures ∙ ap thread_limit c.priorities_of.ensures) in
+    let limit : thread_limit (stated_priorities x)
+    ≡ c.thread_limit-limit.result = sym (c.thread_limit-limit.ensures ∙ ap thread_limit c.priorities_of.ensures) in
     let threads : head_of (over_limit (thread_limit (stated_priorities x)) count (V15Threads count)) ≡ None =
     ap (λ k. head_of (over_limit k count (V15Threads count))) limit ∙ c.in_ok-threads_fit.ensures in
-    sizes-told x (design_of c.args.priced.now.links.design.now) (map standing_of items) (length items) c.costs_fit.result c.requires.same all (sym (length-map items standing_of)) threads c.in_ok-count_fits.ensures c.costs_fit.ensures
+    sizes-told x (design_of c.args.priced.now.links.design.now) (map standing_of items) (length items) c.costs_fit.result c.requires.same all
+    (sym (length-map items standing_of)) threads c.in_ok-count_fits.ensures c.costs_fit.ensures

@@ -6,4 +6,5 @@ use Rattle.ods_costs.proofs.sizes.thread_count.Given as goal
 -- with those that are left it is the count of all, and it is no more than the objects so far
 abbrev pub invariant-objects : goal.invariant-objects
 invariant-objects l =
-    (l.count + length (threads_among (map standing_of (drop l.standing-index l.objects))) ≡ length (threads_among (map standing_of l.objects))) × (l.count ≤ l.standing-index)
+    (l.count + length (threads_among (map standing_of (drop l.standing-index l.objects))) ≡ length (threads_among (map standing_of l.objects)))
+    × (l.count ≤ l.standing-index)

@@ -10,7 +10,8 @@ invariant-add_objects-nodes l =
     (l.left ≤ length l.nodes)
     × Keeps (scope_trees l.initial.scopes.items) (scope_trees l.scopes.items)
     × AreChildren (scope_trees l.scopes.items) l.children (trees_of (map tree_of (drop l.left l.nodes)))
-    × Covers (λ n. inner_named n (trees_of (map tree_of (drop l.left l.nodes)))) (scope_trees l.initial.scopes.items) l.initial.names (scope_trees l.scopes.items) l.names
+    × Covers (λ n. inner_named n (trees_of (map tree_of (drop l.left l.nodes)))) (scope_trees l.initial.scopes.items) l.initial.names
+    (scope_trees l.scopes.items) l.names
 
 -- the objects that are left
 abbrev pub decreases-add_objects-nodes : goal.decreases-add_objects-nodes

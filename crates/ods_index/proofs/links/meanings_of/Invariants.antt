@@ -9,7 +9,8 @@ use Rattle.ods_index.proofs.links.meanings_of.Given as goal
 abbrev pub invariant-links : goal.invariant-links
 invariant-links l =
     (l.place ≤ length l.links)
-    × ((op : Name) → meaning_in l.meanings op ≡ option_and_then (λ to. meaning_at (scope_trees l.scopes) l.children to.object to.op) (link_for op (drop l.place l.links)))
+    × ((op : Name) → meaning_in l.meanings op
+    ≡ option_and_then (λ to. meaning_at (scope_trees l.scopes) l.children to.object to.op) (link_for op (drop l.place l.links)))
 
 -- the links that are left
 abbrev pub decreases-links : goal.decreases-links

@@ -8,4 +8,5 @@ use Rattle.ods_index.proofs.ops.op_places.Given as goal
 
 -- the places of the operations so far, or of those that are left
 abbrev pub invariant-ops : goal.invariant-ops
-invariant-ops l = (n : OpName) → first_of (at l.places n) (op_place_from l.place (map op_of (drop l.place l.ops)) n) ≡ op_place_from 0 (map op_of l.ops) n
+invariant-ops l =
+    (n : OpName) → first_of (at l.places n) (op_place_from l.place (map op_of (drop l.place l.ops)) n) ≡ op_place_from 0 (map op_of l.ops) n

@@ -7,5 +7,7 @@ use Rattle.ods_index.proofs.walk.+walk.Given as goal
 -- the objects so far, and those inside the children that are left
 abbrev pub invariant-children : goal.invariant-children
 invariant-children l =
-    map standing_of l.into.items ++ inner_standings (Some (object_of l.node)) (map object_of l.child-items) (trees_of (map tree_of (drop l.child-index l.child-items)))
-    ≡ map standing_of l.initial.into.items ++ inner_standings (Some (object_of l.node)) (map object_of l.child-items) (trees_of (map tree_of l.child-items))
+    map standing_of l.into.items
+    ++ inner_standings (Some (object_of l.node)) (map object_of l.child-items) (trees_of (map tree_of (drop l.child-index l.child-items)))
+    ≡ map standing_of l.initial.into.items
+    ++ inner_standings (Some (object_of l.node)) (map object_of l.child-items) (trees_of (map tree_of l.child-items))

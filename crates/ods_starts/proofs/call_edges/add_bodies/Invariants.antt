@@ -7,5 +7,6 @@ use Rattle.ods_starts.proofs.call_edges.add_bodies.Given as goal
 -- the edges so far, and those of the bodies that are left
 abbrev pub invariant-bodies : goal.invariant-bodies
 invariant-bodies l =
-    l.edges.items ++ flat_map (body_edges (at l.places) (design_of l.links.design.now) l.object l.needs.ops.now) (map body_of (drop l.body-index l.bodies))
+    l.edges.items ++ flat_map (body_edges (at l.places) (design_of l.links.design.now) l.object l.needs.ops.now)
+    (map body_of (drop l.body-index l.bodies))
     ≡ l.initial.edges.items ++ flat_map (body_edges (at l.places) (design_of l.links.design.now) l.object l.needs.ops.now) (map body_of l.bodies)

@@ -9,5 +9,6 @@ use Rattle.ods_starts.proofs.call_edges.edges_of.Given as goal
 -- the edges so far, and those of the objects that are left
 abbrev pub invariant-objects : goal.invariant-objects
 invariant-objects l =
-    l.edges.items ++ flat_map (object_edges (at l.places) (design_of l.links.design.now)) (filter is_terminal (map standing_of (drop l.standing-index l.objects)))
+    l.edges.items ++ flat_map (object_edges (at l.places) (design_of l.links.design.now))
+    (filter is_terminal (map standing_of (drop l.standing-index l.objects)))
     ≡ flat_map (object_edges (at l.places) (design_of l.links.design.now)) (filter is_terminal (map standing_of l.objects))

@@ -8,5 +8,7 @@ use Rattle.ods_starts.proofs.held.bodies_of.Given as goal
 -- the bodies so far, and those of the objects that are left
 abbrev pub invariant-objects : goal.invariant-objects
 invariant-objects l =
-    map held_of l.bodies.items ++ flat_map (λ s. held_in s.own) (filter (λ s. is_protected s.own.kind) (filter is_terminal (map standing_of (drop l.standing-index l.objects))))
+    map held_of l.bodies.items
+    ++ flat_map (λ s. held_in s.own)
+    (filter (λ s. is_protected s.own.kind) (filter is_terminal (map standing_of (drop l.standing-index l.objects))))
     ≡ flat_map (λ s. held_in s.own) (filter (λ s. is_protected s.own.kind) (filter is_terminal (map standing_of l.objects)))

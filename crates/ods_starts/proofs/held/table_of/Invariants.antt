@@ -5,4 +5,6 @@ use Rattle.ods_starts.proofs.held.table_of.Given as goal
 
 -- the bodies so far, and those that are left
 abbrev pub invariant-bodies : goal.invariant-bodies
-invariant-bodies l = (n : OpName) → bodies_at l.table n ++ flat_map (held_named n) (map held_of (drop l.body-index l.bodies)) ≡ flat_map (held_named n) (map held_of l.bodies)
+invariant-bodies l =
+    (n : OpName) → bodies_at l.table n ++ flat_map (held_named n) (map held_of (drop l.body-index l.bodies))
+    ≡ flat_map (held_named n) (map held_of l.bodies)

@@ -6,4 +6,5 @@ use Rattle.ods_starts.proofs.object_rings.guards_of.Given as goal
 
 -- the objects so far, and those of the ones that are left
 abbrev pub invariant-objects : goal.invariant-objects
-invariant-objects l = map node_object l.guards.items ++ guards_among (map standing_of (drop l.standing-index l.objects)) ≡ guards_among (map standing_of l.objects)
+invariant-objects l =
+    map node_object l.guards.items ++ guards_among (map standing_of (drop l.standing-index l.objects)) ≡ guards_among (map standing_of l.objects)

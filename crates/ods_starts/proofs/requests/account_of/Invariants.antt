@@ -13,4 +13,5 @@ use Rattle.ods_starts.proofs.requests.account_of.Given as goal
 abbrev pub invariant-calls : goal.invariant-calls
 invariant-calls l =
     let v : OpName → ℕ = call_weight (design_of l.links.design.now) l.target (known_in l.known) l.needs.ops.now in
-    (n : OpName) → (if list_any (λ c. same_op c n) (map call_of (drop l.call-index l.calls)) then Some (v n) else at l.account n) ≡ (if list_any (λ c. same_op c n) (map call_of l.calls) then Some (v n) else None)
+    (n : OpName) → (if list_any (λ c. same_op c n) (map call_of (drop l.call-index l.calls)) then Some (v n) else at l.account n)
+    ≡ (if list_any (λ c. same_op c n) (map call_of l.calls) then Some (v n) else None)

@@ -26,7 +26,9 @@ returns c = λ inner agrees.
     let w : Name → Name → ℕ = λ object op. call_weight x target known needs (record { object = object; op = op }) in
     let P : OpName → Type 0 = λ n. number_at account n.object n.op ≡ w n.object n.op in
     let each : Each P (map call_of c.as_slice.result.now) =
-    each-among P (map call_of c.as_slice.result.now) (λ n h. ap or_0 (c.in_ok-account.ensures n ∙ ap (λ z. if z then Some (w n.object n.op) else None) h)) in
+    each-among P (map call_of c.as_slice.result.now)
+    (λ n h. ap or_0 (c.in_ok-account.ensures n ∙ ap (λ z. if z then Some (w n.object n.op) else None) h)) in
     let calls : map call_of c.as_slice.result.now ≡ block_calls b = ap (map call_of) c.as_slice.ensures.value ∙ c.in_ok-calls.ensures in
     c.counted_by.ensures ∙ ap (min 2) (block-same free (λ ticks. 0) (number_at account) w b (subst (Each P) calls each))
-    ∙ counted-cut w (λ object op. call_weight x target inner needs (record { object = object; op = op })) b (λ object op. call-cut x target needs known inner agrees (record { object = object; op = op }))
+    ∙ counted-cut w (λ object op. call_weight x target inner needs (record { object = object; op = op })) b
+    (λ object op. call-cut x target needs known inner agrees (record { object = object; op = op }))

@@ -5,4 +5,6 @@ use Rattle.ods_starts.proofs.requests.changed_of.Given as goal
 
 -- those so far, and those that are left
 abbrev pub invariant-ops : goal.invariant-ops
-invariant-ops l = map op_of l.changed.items ++ filter (changes l.known l.counts) (map op_of (drop l.op-index l.ops)) ≡ filter (changes l.known l.counts) (map op_of l.ops)
+invariant-ops l =
+    map op_of l.changed.items ++ filter (changes l.known l.counts) (map op_of (drop l.op-index l.ops))
+    ≡ filter (changes l.known l.counts) (map op_of l.ops)

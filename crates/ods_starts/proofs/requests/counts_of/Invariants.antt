@@ -13,5 +13,7 @@ use Rattle.ods_starts.proofs.requests.counts_of.Given as goal
 abbrev pub invariant-ops : goal.invariant-ops
 invariant-ops l =
     (inner : OpName → ℕ) → Knows l.known inner → (n : OpName)
-    → (if list_any (λ c. same_op c n) (map op_of (drop l.op-index l.ops)) then Some (min 2 (greatest_count (design_of l.links.design.now) l.target inner (bodies_at l.bodies n))) else at l.counts n)
-    ≡ (if list_any (λ c. same_op c n) (map op_of l.ops) then Some (min 2 (greatest_count (design_of l.links.design.now) l.target inner (bodies_at l.bodies n))) else None)
+    → (if list_any (λ c. same_op c n) (map op_of (drop l.op-index l.ops))
+    then Some (min 2 (greatest_count (design_of l.links.design.now) l.target inner (bodies_at l.bodies n))) else at l.counts n)
+    ≡ (if list_any (λ c. same_op c n) (map op_of l.ops)
+    then Some (min 2 (greatest_count (design_of l.links.design.now) l.target inner (bodies_at l.bodies n))) else None)

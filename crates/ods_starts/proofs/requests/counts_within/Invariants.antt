@@ -7,4 +7,6 @@ use Rattle.ods_starts.proofs.requests.counts_within.Given as goal
 
 -- calls are followed as deep as there were turns, and what changes next is due
 abbrev pub invariant-levels : goal.invariant-levels
-invariant-levels l = Knows l.known (starts_within l.counter (design_of l.links.design.now) l.target) × AreDue (design_of l.links.design.now) l.target l.counter (map op_of l.due.items)
+invariant-levels l =
+    Knows l.known (starts_within l.counter (design_of l.links.design.now) l.target)
+    × AreDue (design_of l.links.design.now) l.target l.counter (map op_of l.due.items)

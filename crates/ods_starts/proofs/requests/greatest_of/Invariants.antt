@@ -9,4 +9,5 @@ abbrev pub invariant-bodies : goal.invariant-bodies
 invariant-bodies l =
     let x = design_of l.links.design.now in
     (inner : OpName → ℕ) → Knows l.known inner → (l.greatest ≤ 2)
-    × (min 2 (fold max l.greatest (map (held_count x l.target inner) (map held_of (drop l.body-index l.bodies)))) ≡ min 2 (greatest_count x l.target inner (map held_of l.bodies)))
+    × (min 2 (fold max l.greatest (map (held_count x l.target inner) (map held_of (drop l.body-index l.bodies))))
+    ≡ min 2 (greatest_count x l.target inner (map held_of l.bodies)))

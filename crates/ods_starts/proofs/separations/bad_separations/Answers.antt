@@ -19,8 +19,10 @@ returns c =
     let threads : List Object = map (λ t. object_of t.now) c.as_slice-2.result.now in
     let same : threads ≡ thread_objects y =
     ap (map (λ (t : Bor Node). object_of t.now)) c.as_slice-2.ensures.value ∙ c.in_ok-threads.ensures
-    ∙ ap (λ ss. map (λ s. s.own) (filter (λ s. has_thread s.own.kind) (filter is_terminal ss))) (ap (map standing_of) c.as_slice.ensures.value ∙ c.requires.walked) in
-    let all : flat_map (λ f. filter_map (spaced (reaches (design_of c.in_ok-starts.starts.links.design.now) f) f) threads) threads ≡ bad_separations y =
+    ∙ ap (λ ss. map (λ s. s.own) (filter (λ s. has_thread s.own.kind) (filter is_terminal ss)))
+    (ap (map standing_of) c.as_slice.ensures.value ∙ c.requires.walked) in
+    let all : flat_map (λ f. filter_map (spaced (reaches (design_of c.in_ok-starts.starts.links.design.now) f) f) threads) threads
+    ≡ bad_separations y =
     ap (λ d. flat_map (λ f. filter_map (spaced (reaches (design_of d) f) f) threads) threads) c.in_ok-starts.ensures
     ∙ ap (λ (ts : List Object). flat_map (λ f. filter_map (spaced (reaches y f) f) ts) ts) same in
     subst (λ w. Tells c.starters_fit.result (head_of w)) all c.starters_fit.ensures

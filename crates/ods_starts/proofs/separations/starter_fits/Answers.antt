@@ -12,4 +12,6 @@ returns c =
     let x = design_of c.args.starts.now.links.design.now in
     let from = object_of c.args.from.now in
     let reached = c.in_ok-reached.reached in
-    subst (λ w. Tells c.targets_fit.result (head_of w)) (spaced-same (λ n. is_there (place_in reached n)) (reaches x from) from (map (λ t. object_of t.now) c.args.threads.now) c.in_ok-reached.ensures) c.targets_fit.ensures
+    subst (λ w. Tells c.targets_fit.result (head_of w))
+    (spaced-same (λ n. is_there (place_in reached n)) (reaches x from) from
+    (map (λ t. object_of t.now) c.args.threads.now) c.in_ok-reached.ensures) c.targets_fit.ensures

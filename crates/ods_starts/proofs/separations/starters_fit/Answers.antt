@@ -21,7 +21,9 @@ returns-in_err-starter_fits c =
     let is : c.from_residual.result ≡ Err e = search rules in
     let own = told (object_of c.from-item.result.now) in
     let later = flat_map told (map (λ t. object_of t.now) (drop (c.threads.from-index + 1) threads)) in
-    let step : drop c.threads.from-index threads ≡ c.from-item.result ∷ drop (c.threads.from-index + 1) threads = drop_step threads c.threads.from-index c.from-item.result c.threads-test.true c.from-item.is in
+    let step : drop c.threads.from-index threads ≡ c.from-item.result
+    ∷ drop (c.threads.from-index + 1) threads = drop_step threads c.threads.from-index c.from-item.result c.threads-test.true c.from-item.is in
     let whole : head_of (flat_map told (map (λ t. object_of t.now) threads)) ≡ head_of (own ++ later) =
     sym c.threads.invariant ∙ ap (λ (ts : List (Bor Node)). head_of (flat_map told (map (λ t. object_of t.now) ts))) step in
-    subst (λ w. Tells c.from_residual.result w) (sym whole) (subst (λ r. Tells r (head_of (own ++ later))) (sym is) (tells_front e own later c.in_err-starter_fits.ensures))
+    subst (λ w. Tells c.from_residual.result w) (sym whole)
+    (subst (λ r. Tells r (head_of (own ++ later))) (sym is) (tells_front e own later c.in_err-starter_fits.ensures))

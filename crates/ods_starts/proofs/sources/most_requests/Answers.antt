@@ -16,8 +16,11 @@ reachers-preserved c =
     let count = requests_by x c.args.target.now in
     let reachers = c.args.reachers.now in
     let rest = map reacher_of (drop (c.reachers.reacher-index + 1) reachers) in
-    let step : drop c.reachers.reacher-index reachers ≡ c.reacher-item.result ∷ drop (c.reachers.reacher-index + 1) reachers = drop_step reachers c.reachers.reacher-index c.reacher-item.result c.reachers-test.true c.reacher-item.is in
-    greatest-more count (reacher_of c.reacher-item.result) rest c.reachers.greatest c.in_ok-count.count c.max-greatest.result (min 2 (fold max 0 (map count (map reacher_of reachers))))
+    let step : drop c.reachers.reacher-index reachers ≡ c.reacher-item.result
+    ∷ drop (c.reachers.reacher-index + 1) reachers = drop_step reachers c.reachers.reacher-index c.reacher-item.result c.reachers-test.true
+    c.reacher-item.is in
+    greatest-more count (reacher_of c.reacher-item.result) rest c.reachers.greatest c.in_ok-count.count c.max-greatest.result
+    (min 2 (fold max 0 (map count (map reacher_of reachers))))
     c.max-greatest.ensures (c.in_ok-count.ensures (starts_within (length (terminal_ops x)) x c.args.target.now) c.requires) c.reachers.invariant.0
     (ap (λ (rs : List Reacher). min 2 (fold max c.reachers.greatest (map count (map reacher_of rs)))) (sym step) ∙ c.reachers.invariant.1)
 
@@ -25,4 +28,5 @@ pub returns : goal.returns
 returns c =
     let count = requests_by (design_of c.args.links.now.design.now) c.args.target.now in
     let left : drop c.reachers.reacher-index c.args.reachers.now ≡ [] = drop_all c.reachers.reacher-index c.args.reachers.now c.reachers-test.false in
-    greatest-all c.reachers.greatest _ c.reachers.invariant.0 (ap (λ (rs : List Reacher). min 2 (fold max c.reachers.greatest (map count (map reacher_of rs)))) (sym left) ∙ c.reachers.invariant.1)
+    greatest-all c.reachers.greatest _ c.reachers.invariant.0
+    (ap (λ (rs : List Reacher). min 2 (fold max c.reachers.greatest (map count (map reacher_of rs)))) (sym left) ∙ c.reachers.invariant.1)

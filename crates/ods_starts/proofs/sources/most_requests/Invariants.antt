@@ -9,4 +9,5 @@ abbrev pub invariant-reachers : goal.invariant-reachers
 invariant-reachers l =
     let x = design_of l.links.design.now in
     (l.greatest ≤ 2)
-    × (min 2 (fold max l.greatest (map (requests_by x l.target) (map reacher_of (drop l.reacher-index l.reachers)))) ≡ min 2 (fold max 0 (map (requests_by x l.target) (map reacher_of l.reachers))))
+    × (min 2 (fold max l.greatest (map (requests_by x l.target) (map reacher_of (drop l.reacher-index l.reachers))))
+    ≡ min 2 (fold max 0 (map (requests_by x l.target) (map reacher_of l.reachers))))

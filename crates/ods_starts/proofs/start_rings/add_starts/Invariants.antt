@@ -5,4 +5,6 @@ use Rattle.ods_starts.proofs.start_rings.add_starts.Given as goal
 
 -- the edges so far, and those of the operations that are left
 abbrev pub invariant-ops : goal.invariant-ops
-invariant-ops l = l.edges.items ++ start_edges (target_in l.places) l.from (map op_of (drop l.op-index l.ops)) ≡ l.initial.edges.items ++ start_edges (target_in l.places) l.from (map op_of l.ops)
+invariant-ops l =
+    l.edges.items ++ start_edges (target_in l.places) l.from (map op_of (drop l.op-index l.ops)) ≡ l.initial.edges.items
+    ++ start_edges (target_in l.places) l.from (map op_of l.ops)

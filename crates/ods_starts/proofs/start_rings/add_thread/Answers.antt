@@ -18,8 +18,10 @@ returns-in_ok-add_starts-in-Some c = λ p q.
     let all = thread_calls (design_of c.args.starts.now.links.design.now) own in
     let old = c.args.edges.now.items in
     let calls : Bool = list_any (λ k. is_at (target_in places k.object) q) all in
-    let at : Some c.in-Some.from ≡ place_in places.places own.name = c.in-Some.ensures ∙ ap (λ o. place_in places.places o.name) (sym (own_fields c.args.node.now)) in
+    let at : Some c.in-Some.from ≡ place_in places.places own.name = c.in-Some.ensures
+    ∙ ap (λ o. place_in places.places o.name) (sym (own_fields c.args.node.now)) in
     let same : (test : OpName → Bool) → list_any test (map op_of c.as_slice.result.now) ≡ list_any test all =
     λ test. ap (λ vs. list_any test (map op_of vs)) c.as_slice.ensures.value ∙ c.in_ok-ops-in-Some.ensures test in
-    edges-more (target_in places) c.in-Some.from p q old c.add_starts.new.edges.items (map op_of c.as_slice.result.now) all c.in_ok-add_starts-in-Some.ensures same
+    edges-more (target_in places) c.in-Some.from p q old c.add_starts.new.edges.items
+    (map op_of c.as_slice.result.now) all c.in_ok-add_starts-in-Some.ensures same
     ∙ ap (λ o. has_edge old p q || (is_at o p && calls)) at

@@ -9,5 +9,7 @@ use Rattle.ods_starts.proofs.start_rings.edges_of.Given as goal
 -- the edges so far, and those of the threads that are left
 abbrev pub invariant-threads : goal.invariant-threads
 invariant-threads l =
-    (p q : ℕ) → (has_edge l.edges.items p q || list_any (starts_at (place_in l.places.places) (target_in l.places) (design_of l.starts.links.design.now) p q) (map node_object (drop l.node-index l.threads)))
+    (p q : ℕ) → (has_edge l.edges.items p q
+    || list_any (starts_at (place_in l.places.places) (target_in l.places) (design_of l.starts.links.design.now) p q)
+    (map node_object (drop l.node-index l.threads)))
     ≡ list_any (starts_at (place_in l.places.places) (target_in l.places) (design_of l.starts.links.design.now) p q) (map node_object l.threads)

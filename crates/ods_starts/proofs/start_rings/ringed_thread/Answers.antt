@@ -18,11 +18,15 @@ returns-in-None c =
     let x = design_of c.args.index.now.design.now in
     let t = c.in_ok-places.places in
     let count : c.len.result ≡ length c.in_ok-threads.threads.items = omega (arith, c.len.ensures, c.in_ok-threads.threads.ok.0) in
-    let graph = graph-of x (design_of c.in_ok-starts.starts.links.design.now) (map standing_of c.as_slice.result.now) c.in_ok-threads.threads.items c.as_slice-2.result.now c.as_slice-3.result.now t
-    c.in_ok-edges.edges.items c.as_slice-4.result.now c.len.result (ap (map standing_of) c.as_slice.ensures.value ∙ c.requires.walked) (ap design_of c.in_ok-starts.ensures) c.in_ok-threads.ensures
-    c.as_slice-2.ensures.value c.as_slice-3.ensures.value c.in_ok-places.ensures.places c.in_ok-places.ensures.sporadic c.in_ok-edges.ensures c.as_slice-4.ensures.value count in
+    let graph = graph-of x (design_of c.in_ok-starts.starts.links.design.now)
+    (map standing_of c.as_slice.result.now) c.in_ok-threads.threads.items c.as_slice-2.result.now c.as_slice-3.result.now t
+    c.in_ok-edges.edges.items c.as_slice-4.result.now c.len.result (ap (map standing_of) c.as_slice.ensures.value ∙ c.requires.walked)
+    (ap design_of c.in_ok-starts.ensures) c.in_ok-threads.ensures
+    c.as_slice-2.ensures.value c.as_slice-3.ensures.value c.in_ok-places.ensures.places c.in_ok-places.ensures.sporadic c.in_ok-edges.ensures
+    c.as_slice-4.ensures.value count in
     none-ringed x (place_in t.places) (target_in t) c.len.result c.as_slice-4.result.now graph
-    (first-same (step-of x (place_in t.places) (target_in t) c.len.result c.as_slice-4.result.now graph) c.in_ok-first_on_ring.field-0 None c.in-None.is c.in_ok-first_on_ring.ensures)
+    (first-same (step-of x (place_in t.places) (target_in t) c.len.result c.as_slice-4.result.now graph) c.in_ok-first_on_ring.field-0 None
+    c.in-None.is c.in_ok-first_on_ring.ensures)
 
 pub returns : goal.returns
 returns c =
@@ -30,13 +34,18 @@ returns c =
     let t = c.in_ok-places.places in
     let walked : map standing_of c.as_slice.result.now ≡ objects x = ap (map standing_of) c.as_slice.ensures.value ∙ c.requires.walked in
     let count : c.len.result ≡ length c.in_ok-threads.threads.items = omega (arith, c.len.ensures, c.in_ok-threads.threads.ok.0) in
-    let graph = graph-of x (design_of c.in_ok-starts.starts.links.design.now) (map standing_of c.as_slice.result.now) c.in_ok-threads.threads.items c.as_slice-2.result.now c.as_slice-3.result.now t
+    let graph = graph-of x (design_of c.in_ok-starts.starts.links.design.now)
+    (map standing_of c.as_slice.result.now) c.in_ok-threads.threads.items c.as_slice-2.result.now c.as_slice-3.result.now t
     c.in_ok-edges.edges.items c.as_slice-4.result.now c.len.result walked (ap design_of c.in_ok-starts.ensures) c.in_ok-threads.ensures
-    c.as_slice-2.ensures.value c.as_slice-3.ensures.value c.in_ok-places.ensures.places c.in_ok-places.ensures.sporadic c.in_ok-edges.ensures c.as_slice-4.ensures.value count in
+    c.as_slice-2.ensures.value c.as_slice-3.ensures.value c.in_ok-places.ensures.places c.in_ok-places.ensures.sporadic c.in_ok-edges.ensures
+    c.as_slice-4.ensures.value count in
     let f = first-ringed x (place_in t.places) (target_in t) c.len.result c.as_slice-4.result.now graph c.in-Some.place
-    (first-same (step-of x (place_in t.places) (target_in t) c.len.result c.as_slice-4.result.now graph) c.in_ok-first_on_ring.field-0 (Some c.in-Some.place) c.in-Some.is c.in_ok-first_on_ring.ensures) in
+    (first-same (step-of x (place_in t.places) (target_in t) c.len.result c.as_slice-4.result.now graph) c.in_ok-first_on_ring.field-0
+    (Some c.in-Some.place) c.in-Some.is c.in_ok-first_on_ring.ensures) in
     let threads : map node_object c.as_slice-in-Some.result.now ≡ thread_objects x =
-    ap (map node_object) c.as_slice-in-Some.ensures.value ∙ whole-threads x (map standing_of c.as_slice.result.now) c.in_ok-threads.threads.items walked c.in_ok-threads.ensures in
+    ap (map node_object) c.as_slice-in-Some.ensures.value
+    ∙ whole-threads x (map standing_of c.as_slice.result.now) c.in_ok-threads.threads.items walked c.in_ok-threads.ensures in
     tells-first (RingedThread x) c.tell_thread.result (V09Starts f.0.name)
-    (told-by c.tell_thread.result _ (V09Starts f.0.name) c.tell_thread.ensures (tell-same V09Starts c.as_slice-in-Some.result.now c.in-Some.place f.0 (ap (λ vs. slice_get vs c.in-Some.place) threads ∙ f.1)))
+    (told-by c.tell_thread.result _ (V09Starts f.0.name) c.tell_thread.ensures
+    (tell-same V09Starts c.as_slice-in-Some.result.now c.in-Some.place f.0 (ap (λ vs. slice_get vs c.in-Some.place) threads ∙ f.1)))
     f.2

@@ -8,4 +8,6 @@ use Rattle.ods_starts.proofs.start_rings.targets_of.Given as goal
 
 -- the names so far, and those of the threads that are left
 abbrev pub invariant-threads : goal.invariant-threads
-invariant-threads l = (n : Name) → (is_there (place_in l.names n) || has_target (map node_object (drop l.node-index l.threads)) n) ≡ has_target (map node_object l.threads) n
+invariant-threads l =
+    (n : Name) → (is_there (place_in l.names n) || has_target (map node_object (drop l.node-index l.threads)) n)
+    ≡ has_target (map node_object l.threads) n

@@ -10,5 +10,7 @@ use Rattle.ods_starts.proofs.starts.add_all_meant.Given as goal
 -- what was added so far, and what the calls mean that are left
 abbrev pub invariant-calls : goal.invariant-calls
 invariant-calls l =
-    map op_of l.into.items ++ map (resolve (design_of l.links.design.now)) (filter (λ c. list_any (same_op c) l.needs.ops.now) (map call_of (drop l.call-index l.calls)))
-    ≡ map op_of l.initial.into.items ++ map (resolve (design_of l.links.design.now)) (filter (λ c. list_any (same_op c) l.needs.ops.now) (map call_of l.calls))
+    map op_of l.into.items ++ map (resolve (design_of l.links.design.now))
+    (filter (λ c. list_any (same_op c) l.needs.ops.now) (map call_of (drop l.call-index l.calls)))
+    ≡ map op_of l.initial.into.items
+    ++ map (resolve (design_of l.links.design.now)) (filter (λ c. list_any (same_op c) l.needs.ops.now) (map call_of l.calls))

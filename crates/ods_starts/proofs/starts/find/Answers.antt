@@ -9,5 +9,6 @@ use Rattle.ods_starts.proofs.starts.find.Goals as goal
 
 pub returns-in_ok-push-in-None-clause-seen : goal.returns-in_ok-push-in-None-clause-seen
 returns-in_ok-push-in-None-clause-seen c = λ n.
-    seen-more (op_of c.args.op.now) n (map op_of c.args.found.now.items) (at c.put.new.self n) (at c.args.seen.now n) (c.in_ok-put-in-None.ensures n) (c.requires n)
+    seen-more (op_of c.args.op.now) n (map op_of c.args.found.now.items) (at c.put.new.self n) (at c.args.seen.now n)
+    (c.in_ok-put-in-None.ensures n) (c.requires n)
     ∙ ap (list_any (same_op n)) (sym (ap (map op_of) c.in_ok-push-in-None.ensures.items ∙ map-append op_of c.args.found.now.items _))

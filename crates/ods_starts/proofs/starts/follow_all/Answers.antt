@@ -11,7 +11,8 @@ ops-preserved c =
     let next = inner_at c.args.inner.now in
     let all = map op_of c.ops.found.items in
     let later = flat_map next (map op_of (drop (c.ops.op-index + 1) c.args.ops.now)) in
-    let step : drop c.ops.op-index c.args.ops.now ≡ c.op-item.result ∷ drop (c.ops.op-index + 1) c.args.ops.now = drop_step c.args.ops.now c.ops.op-index c.op-item.result c.ops-test.true c.op-item.is in (
+    let step : drop c.ops.op-index c.args.ops.now ≡ c.op-item.result
+    ∷ drop (c.ops.op-index + 1) c.args.ops.now = drop_step c.args.ops.now c.ops.op-index c.op-item.result c.ops-test.true c.op-item.is in (
       c.in_ok-follow.ensures.seen,
       ap (λ z. found_all z later) c.in_ok-follow.ensures.found ∙ sym (found-append (next (op_of c.op-item.result)) later all)
           ∙ ap (λ (ops : List OpView). found_all all (flat_map next (map op_of ops))) (sym step) ∙ c.ops.invariant.1,

@@ -7,4 +7,5 @@ use Rattle.ods_starts.proofs.starts.follow_all.Given as goal
 abbrev pub invariant-ops : goal.invariant-ops
 invariant-ops l =
     IsSeen l.seen (map op_of l.found.items)
-    × (found_all (map op_of l.found.items) (flat_map (inner_at l.inner) (map op_of (drop l.op-index l.ops))) ≡ found_all (map op_of l.initial.found.items) (flat_map (inner_at l.inner) (map op_of l.ops)))
+    × (found_all (map op_of l.found.items) (flat_map (inner_at l.inner) (map op_of (drop l.op-index l.ops)))
+    ≡ found_all (map op_of l.initial.found.items) (flat_map (inner_at l.inner) (map op_of l.ops)))

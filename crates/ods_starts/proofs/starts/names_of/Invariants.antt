@@ -8,4 +8,6 @@ use Rattle.ods_starts.proofs.starts.names_of.Given as goal
 
 -- the names so far, and those of the operations that are left
 abbrev pub invariant-ops : goal.invariant-ops
-invariant-ops l = (n : Name) → (is_there (place_in l.names n) || list_any (λ c. same_name c.object n) (map op_of (drop l.op-index l.ops))) ≡ list_any (λ c. same_name c.object n) (map op_of l.ops)
+invariant-ops l =
+    (n : Name) → (is_there (place_in l.names n) || list_any (λ c. same_name c.object n) (map op_of (drop l.op-index l.ops)))
+    ≡ list_any (λ c. same_name c.object n) (map op_of l.ops)

@@ -13,7 +13,8 @@ levels-preserved c =
     let after = found_all all (flat_map next (drop from all)) in
     let new = map op_of c.follow_all.new.found.items in
     let level : map op_of c.as_slice-in-levels.result.now ≡ drop from all =
-    ap (map op_of) (c.as_slice-in-levels.ensures.value ∙ c.in_ok-level.ensures ∙ ap (drop from) c.as_slice.ensures.value) ∙ sym (drop-map op_of from c.levels.found.items) in
+    ap (map op_of) (c.as_slice-in-levels.ensures.value ∙ c.in_ok-level.ensures ∙ ap (drop from) c.as_slice.ensures.value)
+    ∙ sym (drop-map op_of from c.levels.found.items) in
     let grown : new ≡ after = c.in_ok-follow_all.ensures.found ∙ ap (λ z. found_all all (flat_map next z)) level in
     let names : length all ≡ length c.levels.found.items = length-map c.levels.found.items op_of in
     let count : c.len-from.result ≡ length all = omega (arith, c.len-from.ensures, c.levels.found.ok.0, names) in
@@ -31,4 +32,5 @@ returns-then-from-len c =
     let next = inner_at c.args.inner.now in
     let all = map op_of c.levels.found.items in
     let names : length all ≡ length c.levels.found.items = length-map c.levels.found.items op_of in
-    sym (spread-ends next (c.args.depth - c.levels.counter) c.levels.from all (omega (arith, c.if-from-len.true, c.len.ensures, c.levels.found.ok.0, names))) ∙ c.levels.invariant.2
+    sym (spread-ends next (c.args.depth - c.levels.counter) c.levels.from all
+    (omega (arith, c.if-from-len.true, c.len.ensures, c.levels.found.ok.0, names))) ∙ c.levels.invariant.2

@@ -7,4 +7,5 @@ use Rattle.ods_starts.proofs.starts.search.Given as goal
 abbrev pub invariant-levels : goal.invariant-levels
 invariant-levels l =
     IsSeen l.seen (map op_of l.found.items) × (l.from ≤ length l.found.items)
-    × (spread (inner_at l.inner) (l.depth - l.counter) l.from (map op_of l.found.items) ≡ spread (inner_at l.inner) l.depth 0 (found_all [] (map op_of l.starts)))
+    × (spread (inner_at l.inner) (l.depth - l.counter) l.from (map op_of l.found.items)
+    ≡ spread (inner_at l.inner) l.depth 0 (found_all [] (map op_of l.starts)))

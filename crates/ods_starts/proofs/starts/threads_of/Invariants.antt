@@ -7,5 +7,6 @@ use Rattle.ods_starts.proofs.starts.threads_of.Given as goal
 -- the threads so far, and those of the objects that are left
 abbrev pub invariant-objects : goal.invariant-objects
 invariant-objects l =
-    map (λ n. object_of n.now) l.threads.items ++ map (λ s. s.own) (filter (λ s. has_thread s.own.kind) (filter is_terminal (map standing_of (drop l.standing-index l.objects))))
+    map (λ n. object_of n.now) l.threads.items
+    ++ map (λ s. s.own) (filter (λ s. has_thread s.own.kind) (filter is_terminal (map standing_of (drop l.standing-index l.objects))))
     ≡ map (λ s. s.own) (filter (λ s. has_thread s.own.kind) (filter is_terminal (map standing_of l.objects)))

@@ -7,5 +7,7 @@ use Rattle.rt_block.proofs.costs.prices_of.Goals as goal
 pub returns-then-same : goal.returns-then-same
 returns-then-same c =
     let deep : c.depths.counter ≤ length c.args.services.now = omega (arith, c.depths-test.true) in
-    prices-settled c.args.costs.now (at c.args.places.now) (map entry_at c.args.services.now) (length c.args.services.now) c.depths.counter c.depths.known.items c.in_ok-next.next.items deep c.depths.invariant
-    (rw c.as_slice.ensures.value at c.in_ok-next.ensures) (sym c.as_slice-in-depths.ensures.value ∙ c.same.ensures c.if-same.true ∙ c.as_slice-in-depths-2.ensures.value)
+    prices-settled c.args.costs.now (at c.args.places.now) (map entry_at c.args.services.now)
+    (length c.args.services.now) c.depths.counter c.depths.known.items c.in_ok-next.next.items deep c.depths.invariant
+    (rw c.as_slice.ensures.value at c.in_ok-next.ensures)
+    (sym c.as_slice-in-depths.ensures.value ∙ c.same.ensures c.if-same.true ∙ c.as_slice-in-depths-2.ensures.value)

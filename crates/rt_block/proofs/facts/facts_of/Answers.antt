@@ -23,12 +23,20 @@ returns-clause-known c =
     ∙ ap (λ n. prices n f.costs place (map entry_at ss)) many ∙ ap (λ xs. prices (length es) f.costs place xs) served in
     record {
       served = served;
-      placed = λ n. c.in_ok-places.ensures n ∙ ap (λ xs. place_from 0 (map (λ e. e.name) (map entry_at xs)) n) c.as_slice.ensures.value ∙ ap (λ xs. place_from 0 (map (λ e. e.name) xs) n) served;
+      placed =
+          λ n. c.in_ok-places.ensures n ∙ ap (λ xs. place_from 0 (map (λ e. e.name) (map entry_at xs)) n) c.as_slice.ensures.value
+          ∙ ap (λ xs. place_from 0 (map (λ e. e.name) xs) n) served;
       priced = priced;
-      live_inner = c.in_ok-live_inner.ensures.same ∙ ap (λ xs. map (λ e. inner_places place Live e.work) (map entry_at xs)) c.as_slice-3.ensures.value ∙ ap (map (λ e. inner_places place Live e.work)) served;
+      live_inner =
+          c.in_ok-live_inner.ensures.same ∙ ap (λ xs. map (λ e. inner_places place Live e.work) (map entry_at xs)) c.as_slice-3.ensures.value
+          ∙ ap (map (λ e. inner_places place Live e.work)) served;
       live = c.in_ok-live.ensures.same ∙ ap (λ xs. map (λ t. called_places place Live t.block) (map thread_of xs)) c.as_slice-4.ensures.value;
-      written_inner = c.in_ok-written_inner.ensures.same ∙ ap (λ xs. map (λ e. inner_places place Written e.work) (map entry_at xs)) c.as_slice-5.ensures.value ∙ ap (map (λ e. inner_places place Written e.work)) served;
-      written = c.in_ok-written.ensures.same ∙ ap (λ xs. map (λ t. called_places place Written t.block) (map thread_of xs)) c.as_slice-6.ensures.value;
+      written_inner =
+          c.in_ok-written_inner.ensures.same
+          ∙ ap (λ xs. map (λ e. inner_places place Written e.work) (map entry_at xs)) c.as_slice-5.ensures.value
+          ∙ ap (map (λ e. inner_places place Written e.work)) served;
+      written =
+          c.in_ok-written.ensures.same ∙ ap (λ xs. map (λ t. called_places place Written t.block) (map thread_of xs)) c.as_slice-6.ensures.value;
       prices_long = ap length priced ∙ prices-long f.costs place es ∙ sym many;
       live_inner_long = c.in_ok-live_inner.ensures.long ∙ ap length c.as_slice-3.ensures.value;
       written_inner_long = c.in_ok-written_inner.ensures.long ∙ ap length c.as_slice-5.ensures.value;

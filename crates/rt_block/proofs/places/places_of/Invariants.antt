@@ -8,4 +8,6 @@ use Rattle.rt_block.proofs.places.places_of.Given as goal
 
 -- the places of the operations so far, or of those that are left
 abbrev pub invariant-services : goal.invariant-services
-invariant-services l = (n : OpName) → first_of (at l.places n) (place_from l.place (map (λ e. e.name) (map entry_at (drop l.place l.services))) n) ≡ place_from 0 (map (λ e. e.name) (map entry_at l.services)) n
+invariant-services l =
+    (n : OpName) → first_of (at l.places n) (place_from l.place (map (λ e. e.name) (map entry_at (drop l.place l.services))) n)
+    ≡ place_from 0 (map (λ e. e.name) (map entry_at l.services)) n

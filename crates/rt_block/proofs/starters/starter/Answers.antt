@@ -21,9 +21,13 @@ returns c =
     let own = map (λ e. asks name e.work) es in
     let many : length k.services.items ≡ length es = sym (length-map k.services.items entry_at) ∙ ap length known.served in
     let reached : c.in_ok-known.known.items ≡ spread (length es) (map (λ e. inner_places (at k.places) Written e.work) es) own =
-    c.in_ok-known.ensures ∙ ap (λ n. spread n (map (λ l. l.items) k.written_inner.items) own) many ∙ ap (λ i. spread (length es) i own) known.written_inner in
+    c.in_ok-known.ensures ∙ ap (λ n. spread n (map (λ l. l.items) k.written_inner.items) own) many
+    ∙ ap (λ i. spread (length es) i own) known.written_inner in
     c.first_starter.ensures
-    ∙ ap (λ vs. position_from (requests_of name vs) 0 (zip (map thread_of c.as_slice.result.now) (map (λ l. l.items) c.as_slice-2.result.now))) (c.as_slice-3.ensures.value ∙ reached)
-    ∙ ap (λ ts. position_from (requests_of name (spread (length es) (map (λ e. inner_places (at k.places) Written e.work) es) own)) 0 (zip (map thread_of ts) (map (λ l. l.items) c.as_slice-2.result.now))) c.as_slice.ensures.value
-    ∙ ap (λ ls. position_from (requests_of name (spread (length es) (map (λ e. inner_places (at k.places) Written e.work) es) own)) 0 (zip (design k).threads (map (λ l. l.items) ls))) c.as_slice-2.ensures.value
+    ∙ ap (λ vs. position_from (requests_of name vs) 0 (zip (map thread_of c.as_slice.result.now) (map (λ l. l.items) c.as_slice-2.result.now)))
+    (c.as_slice-3.ensures.value ∙ reached)
+    ∙ ap (λ ts. position_from (requests_of name (spread (length es) (map (λ e. inner_places (at k.places) Written e.work) es) own)) 0
+    (zip (map thread_of ts) (map (λ l. l.items) c.as_slice-2.result.now))) c.as_slice.ensures.value
+    ∙ ap (λ ls. position_from (requests_of name (spread (length es) (map (λ e. inner_places (at k.places) Written e.work) es) own)) 0
+    (zip (design k).threads (map (λ l. l.items) ls))) c.as_slice-2.ensures.value
     ∙ starter-is (design k) (levels k) (at k.places) known.placed name own (map (λ l. l.items) k.written.items) refl known.written

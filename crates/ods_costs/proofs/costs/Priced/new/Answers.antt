@@ -12,9 +12,11 @@ use Rattle.ods_costs.proofs.costs.Priced.new.Goals as goal
 pub all_prices-requires : goal.all_prices-requires
 all_prices-requires c =
     let x = design_of c.args.index.now.design.now in
-    let given : Design → List walk.Standing → List Costed = λ y ss. flat_map (served_part y Plain) ss ++ (flat_map (served_part y Guarded) ss ++ flat_map (served_part y Requests) ss) in
+    let given : Design → List walk.Standing → List Costed = λ y ss. flat_map (served_part y Plain) ss
+    ++ (flat_map (served_part y Guarded) ss ++ flat_map (served_part y Requests) ss) in
     let items : c.as_slice-2.result.now ≡ c.in_ok-services.services.items = c.as_slice-2.ensures.value in
     let found : map (served_as x) c.as_slice-2.result.now ≡ given x (walk.objects x) =
-    ap (map (served_as x)) items ∙ c.in_ok-services.ensures x ∙ ap (λ vs. given x (map standing_of vs)) c.as_slice.ensures.value ∙ ap (given x) c.requires.walked in
+    ap (map (served_as x)) items ∙ c.in_ok-services.ensures x ∙ ap (λ vs. given x (map standing_of vs)) c.as_slice.ensures.value
+    ∙ ap (given x) c.requires.walked in
     let whole : map (served_as x) c.as_slice-2.result.now ≡ costed_ops x = found ∙ all-parts x in
     subst (λ (d : code.Design). map (served_as (design_of d)) c.as_slice-2.result.now ≡ costed_ops (design_of d)) (sym c.in_ok-links.ensures) whole

@@ -7,10 +7,14 @@ use Rattle.ods_index.proofs.links.Links.resolve.Goals as goal
 
 pub returns-in-None : goal.returns-in-None
 returns-in-None c =
-    resolved (scope_trees c.args.self.now.scopes.items) c.args.self.now.names (design_of c.args.self.now.design.now) (op_of c.args.name) None c.args.self.now.named
-    (ap (option_map op_of) (sym c.in-None.is) ∙ c.meaning.ensures ∙ ap (λ ss. meaning_at (scope_trees ss) c.args.self.now.names c.args.name.object.now c.args.name.op.now) c.as_slice.ensures.value)
+    resolved (scope_trees c.args.self.now.scopes.items) c.args.self.now.names (design_of c.args.self.now.design.now)
+    (op_of c.args.name) None c.args.self.now.named
+    (ap (option_map op_of) (sym c.in-None.is) ∙ c.meaning.ensures
+    ∙ ap (λ ss. meaning_at (scope_trees ss) c.args.self.now.names c.args.name.object.now c.args.name.op.now) c.as_slice.ensures.value)
 
 pub returns-in-Some : goal.returns-in-Some
 returns-in-Some c =
-    resolved (scope_trees c.args.self.now.scopes.items) c.args.self.now.names (design_of c.args.self.now.design.now) (op_of c.args.name) (Some (op_of c.in-Some.meant)) c.args.self.now.named
-    (ap (option_map op_of) (sym c.in-Some.is) ∙ c.meaning.ensures ∙ ap (λ ss. meaning_at (scope_trees ss) c.args.self.now.names c.args.name.object.now c.args.name.op.now) c.as_slice.ensures.value)
+    resolved (scope_trees c.args.self.now.scopes.items) c.args.self.now.names (design_of c.args.self.now.design.now) (op_of c.args.name)
+    (Some (op_of c.in-Some.meant)) c.args.self.now.named
+    (ap (option_map op_of) (sym c.in-Some.is) ∙ c.meaning.ensures
+    ∙ ap (λ ss. meaning_at (scope_trees ss) c.args.self.now.names c.args.name.object.now c.args.name.op.now) c.as_slice.ensures.value)

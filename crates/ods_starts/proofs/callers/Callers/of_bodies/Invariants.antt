@@ -10,5 +10,7 @@ use Rattle.ods_starts.proofs.callers.Callers.of_bodies.Given as goal
 abbrev pub invariant-bodies : goal.invariant-bodies
 invariant-bodies l =
     let x = design_of l.links.design.now in
-    ((n : OpName) → inner_at l.callers.ops n ++ flat_map (op_callers x n) (map held_of (drop l.body-index l.bodies)) ≡ flat_map (op_callers x n) (map held_of l.bodies))
-    × ((n : Name) → body_at l.callers.objects n ++ flat_map (object_callers x n) (map held_of (drop l.body-index l.bodies)) ≡ flat_map (object_callers x n) (map held_of l.bodies))
+    ((n : OpName) → inner_at l.callers.ops n ++ flat_map (op_callers x n) (map held_of (drop l.body-index l.bodies))
+    ≡ flat_map (op_callers x n) (map held_of l.bodies))
+    × ((n : Name) → body_at l.callers.objects n ++ flat_map (object_callers x n) (map held_of (drop l.body-index l.bodies))
+    ≡ flat_map (object_callers x n) (map held_of l.bodies))

@@ -16,7 +16,8 @@ unfolding op_bodies_at
 returns c = λ n.
     let q : Bor (List ℕ) = record { ref_ptr = (0, 0); now = n } in
     let items : Vec ProtectedBody Global → List HeldBody = λ v. map held_of v.items in
-    let found : (w : List ℕ) → BTreeMap (Bor (List ℕ)) (Vec ProtectedBody Global) → Option (Vec ProtectedBody Global) = λ w m. get_by (λ k. slice_cmp nat_cmp w k.now) m in
+    let found : (w : List ℕ) → BTreeMap (Bor (List ℕ)) (Vec ProtectedBody Global)
+    → Option (Vec ProtectedBody Global) = λ w m. get_by (λ k. slice_cmp nat_cmp w k.now) m in
     let key = c.args.body.now.op.now in
     let old = found n c.args.self.now.map in
     let removed = found n c.remove.new.self in
@@ -34,5 +35,6 @@ returns c = λ n.
     added items key n (found n c.insert.new.self) removed old c.match-remove.all c.push.new.self (held_of c.args.body.now ∷ [])
     (c.in_ok-insert.ensures.updates.0 q ∙ ap (λ m. cond (is_eq (slice_cmp nat_cmp m n)) (Some c.push.new.self) removed) c.bytes-2.ensures.bytes)
     (c.remove.ensures.updates.0 q ∙ ap (λ m. cond (is_eq (slice_cmp nat_cmp m n)) None old) c.bytes.ensures.bytes)
-    (ap (map held_of) c.in_ok-push.ensures.items ∙ map-append held_of c.match-remove.all.items (c.in_ok-more.more ∷ []) ∙ ap (λ h. map held_of c.match-remove.all.items ++ h ∷ []) c.in_ok-more.ensures)
+    (ap (map held_of) c.in_ok-push.ensures.items ∙ map-append held_of c.match-remove.all.items (c.in_ok-more.more ∷ [])
+    ∙ ap (λ h. map held_of c.match-remove.all.items ++ h ∷ []) c.in_ok-more.ensures)
     (λ h. before ∙ ap (λ w. unwrap_or (option_map items (found w c.args.self.now.map)) []) (c.bytes.ensures.bytes ∙ one_name key n h))

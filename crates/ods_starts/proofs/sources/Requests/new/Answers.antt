@@ -21,12 +21,16 @@ returns-clause-right c =
     let y = design_of c.args.index.now.design.now in
     let x = design_of c.in_ok-starts.starts.links.design.now in
     let same : objects y ≡ objects x = ap (λ (d : code.Design). objects (design_of d)) (sym c.in_ok-starts.ensures) in
-    let walked : map standing_of c.as_slice.result.now ≡ objects x = ap (λ (ss : List Standing). map standing_of ss) c.as_slice.ensures.value ∙ c.requires.indexed.walked ∙ same in
-    let again : map standing_of c.as_slice-4.result.now ≡ objects x = ap (λ (ss : List Standing). map standing_of ss) c.as_slice-4.ensures.value ∙ c.requires.indexed.walked ∙ same in
+    let walked : map standing_of c.as_slice.result.now ≡ objects x = ap (λ (ss : List Standing). map standing_of ss) c.as_slice.ensures.value
+    ∙ c.requires.indexed.walked ∙ same in
+    let again : map standing_of c.as_slice-4.result.now ≡ objects x = ap (λ (ss : List Standing). map standing_of ss) c.as_slice-4.ensures.value
+    ∙ c.requires.indexed.walked ∙ same in
     let bodies : map held_of c.in_ok-listed.listed.items ≡ held_bodies x =
     c.in_ok-listed.ensures ∙ ap (λ ss. flat_map (λ s. held_in s.own) (filter (λ s. is_protected s.own.kind) (filter is_terminal ss))) walked in
-    let first : map held_of c.as_slice-2.result.now ≡ held_bodies x = ap (λ (bs : List ProtectedBody). map held_of bs) c.as_slice-2.ensures.value ∙ bodies in
-    let second : map held_of c.as_slice-3.result.now ≡ held_bodies x = ap (λ (bs : List ProtectedBody). map held_of bs) c.as_slice-3.ensures.value ∙ bodies in
+    let first : map held_of c.as_slice-2.result.now
+    ≡ held_bodies x = ap (λ (bs : List ProtectedBody). map held_of bs) c.as_slice-2.ensures.value ∙ bodies in
+    let second : map held_of c.as_slice-3.result.now
+    ≡ held_bodies x = ap (λ (bs : List ProtectedBody). map held_of bs) c.as_slice-3.ensures.value ∙ bodies in
     let threads : map thread_of c.in_ok-threads.threads.items ≡ thread_objects x =
     c.in_ok-threads.ensures ∙ ap (λ ss. map (λ s. s.own) (filter (λ s. has_thread s.own.kind) (filter is_terminal ss))) again in
     record {
@@ -36,6 +40,10 @@ returns-clause-right c =
         objects = λ n. c.in_ok-callers.ensures.objects n ∙ ap (λ hs. flat_map (object_callers x n) hs) second;
       };
       threads = threads;
-      reached = λ n. c.in_ok-reachers.ensures n ∙ ap (λ (ts : List (Bor Node)). filter (λ o. reaches x o n) (map thread_of ts)) c.as_slice-5.ensures.value ∙ ap (λ (os : List Object). filter (λ o. reaches x o n) os) threads;
-      few = subst (λ (d : code.Design). length (thread_objects (design_of d)) < 4294967295) (sym c.in_ok-starts.ensures) (few-threads y c.requires.few);
+      reached =
+          λ n. c.in_ok-reachers.ensures n
+          ∙ ap (λ (ts : List (Bor Node)). filter (λ o. reaches x o n) (map thread_of ts)) c.as_slice-5.ensures.value
+          ∙ ap (λ (os : List Object). filter (λ o. reaches x o n) os) threads;
+      few =
+          subst (λ (d : code.Design). length (thread_objects (design_of d)) < 4294967295) (sym c.in_ok-starts.ensures) (few-threads y c.requires.few);
     }

@@ -12,8 +12,10 @@ pub sum_of-requires : goal.sum_of-requires
 sum_of-requires c =
     let x = design_of c.args.self.now.starts.links.design.now in
     let name = (out-Node c.args.node.now).name in
-    let kept : c.count-inside.result ≡ length (filter (λ f. reaches x f name) (thread_objects x)) = c.count-inside.ensures ∙ ap (λ (os : List Object). length os) (c.requires.right.reached name) in
-    let few : length (filter (λ f. reaches x f name) (thread_objects x)) ≤ length (thread_objects x) = filter-shorter (λ f. reaches x f name) (thread_objects x) in
+    let kept : c.count-inside.result ≡ length (filter (λ f. reaches x f name) (thread_objects x)) = c.count-inside.ensures
+    ∙ ap (λ (os : List Object). length os) (c.requires.right.reached name) in
+    let few : length (filter (λ f. reaches x f name) (thread_objects x))
+    ≤ length (thread_objects x) = filter-shorter (λ f. reaches x f name) (thread_objects x) in
     omega (arith, c.outside_count-outside.ensures.one, kept, few, c.requires.right.few)
 
 pub returns : goal.returns
@@ -23,6 +25,7 @@ returns c =
     let name = (out-Node c.args.node.now).name in
     let inside : c.count-inside.result ≡ length (filter (λ f. can_start x f o) (thread_objects x)) =
     c.count-inside.ensures ∙ ap (λ (os : List Object). length os) (c.requires.right.reached name)
-    ∙ ap (λ m. length (filter (λ f. reaches x f m) (thread_objects x))) (own-name c.args.node.now) ∙ starters-counted x o (thread_objects x) c.requires.sporadic in
+    ∙ ap (λ m. length (filter (λ f. reaches x f m) (thread_objects x))) (own-name c.args.node.now)
+    ∙ starters-counted x o (thread_objects x) c.requires.sporadic in
     c.sum_of.ensures ∙ ap (λ n. n + c.outside_count-outside.result) inside
     ∙ ap (λ n. length (filter (λ f. can_start x f o) (thread_objects x)) + n) c.outside_count-outside.ensures.count

@@ -16,14 +16,17 @@ returns-in-None c =
     let x = design_of c.args.self.now.starts.links.design.now in
     let name : Name = (out-Node c.args.node.now).name in
     start-counted x (object_of c.args.node.now) name []
-    (ap (λ (r : Option (Bor (List Reacher))). unwrap_or (option_map (λ v. map reacher_of v.now) r) []) (sym c.in-None.is) ∙ c.get.ensures ∙ c.requires.reached name) (own-name c.args.node.now)
+    (ap (λ (r : Option (Bor (List Reacher))). unwrap_or (option_map (λ v. map reacher_of v.now) r) []) (sym c.in-None.is) ∙ c.get.ensures
+    ∙ c.requires.reached name) (own-name c.args.node.now)
 
 pub returns-in-Some : goal.returns-in-Some
 returns-in-Some c =
     let x = design_of c.args.self.now.starts.links.design.now in
     let o = object_of c.args.node.now in
     let name : Name = (out-Node c.args.node.now).name in
-    IfOk-weaker c.start_count_by.result (λ n. n ≡ min 2 (fold max 0 (map (requests_by x name) (map reacher_of c.in-Some.reachers.now)))) (λ n. n ≡ start_count x o)
+    IfOk-weaker c.start_count_by.result (λ n. n ≡ min 2 (fold max 0 (map (requests_by x name) (map reacher_of c.in-Some.reachers.now))))
+    (λ n. n ≡ start_count x o)
     (λ n is. is ∙ start-counted x o name (map reacher_of c.in-Some.reachers.now)
-    (ap (λ (r : Option (Bor (List Reacher))). unwrap_or (option_map (λ v. map reacher_of v.now) r) []) (sym c.in-Some.is) ∙ c.get.ensures ∙ c.requires.reached name) (own-name c.args.node.now))
+    (ap (λ (r : Option (Bor (List Reacher))). unwrap_or (option_map (λ v. map reacher_of v.now) r) []) (sym c.in-Some.is) ∙ c.get.ensures
+    ∙ c.requires.reached name) (own-name c.args.node.now))
     c.start_count_by.ensures

@@ -12,4 +12,5 @@ returns c =
     let yes : c.is_sporadic.result ≡ true = search rules in
     let kind : is_sporadic o.kind ≡ true = ap is_sporadic (sym (own-kind c.args.node.now)) ∙ sym c.is_sporadic.ensures ∙ yes in
     subst (λ w. Tells c.counts_fit.result w)
-    (fault-counted (design_of c.args.self.now.starts.links.design.now) o c.source_count-sources.result c.in_ok-starts.starts kind c.source_count-sources.ensures c.in_ok-starts.ensures) c.counts_fit.ensures
+    (fault-counted (design_of c.args.self.now.starts.links.design.now) o c.source_count-sources.result c.in_ok-starts.starts kind
+    c.source_count-sources.ensures c.in_ok-starts.ensures) c.counts_fit.ensures

@@ -18,7 +18,8 @@ unfolding body_at
 returns c = λ n.
     let q : Bor (List ℕ) = record { ref_ptr = (0, 0); now = n } in
     let items : Vec OpView Global → List OpName = λ v. map op_of v.items in
-    let found : (w : List ℕ) → BTreeMap (Bor (List ℕ)) (Vec OpView Global) → Option (Vec OpView Global) = λ w m. get_by (λ k. slice_cmp nat_cmp w k.now) m in
+    let found : (w : List ℕ) → BTreeMap (Bor (List ℕ)) (Vec OpView Global)
+    → Option (Vec OpView Global) = λ w m. get_by (λ k. slice_cmp nat_cmp w k.now) m in
     let key = c.args.op.now in
     let old = found n c.args.self.now.map in
     let removed = found n c.remove.new.self in
@@ -34,7 +35,8 @@ returns c = λ n.
           )
     ] in
     added items key n (found n c.insert.new.self) removed old c.match-remove.all c.extend_from_slice.new.self (map op_of c.args.calls.now)
-    (c.in_ok-insert.ensures.updates.0 q ∙ ap (λ m. cond (is_eq (slice_cmp nat_cmp m n)) (Some c.extend_from_slice.new.self) removed) c.bytes-2.ensures.bytes)
+    (c.in_ok-insert.ensures.updates.0 q
+    ∙ ap (λ m. cond (is_eq (slice_cmp nat_cmp m n)) (Some c.extend_from_slice.new.self) removed) c.bytes-2.ensures.bytes)
     (c.remove.ensures.updates.0 q ∙ ap (λ m. cond (is_eq (slice_cmp nat_cmp m n)) None old) c.bytes.ensures.bytes)
     (ap (map op_of) c.in_ok-extend_from_slice.ensures.items ∙ map-append op_of c.match-remove.all.items c.args.calls.now)
     (λ h. before ∙ ap (λ w. unwrap_or (option_map items (found w c.args.self.now.map)) []) (c.bytes.ensures.bytes ∙ one_name key n h))

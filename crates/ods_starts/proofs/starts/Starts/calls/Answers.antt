@@ -21,6 +21,7 @@ returns c =
     let starts : map op_of c.as_slice.result.now ≡ own = ap (map op_of) c.as_slice.ensures.value ∙ c.in_ok-starts.ensures in
     IfOk-weaker c.search.result (λ v. map op_of v.items ≡ spread next self.depth 0 (found_all [] (map op_of c.as_slice.result.now)))
     (λ v. (test : OpName → Bool) → list_any test (map op_of v.items) ≡ list_any test (thread_calls x o))
-    (λ v is test. ap (list_any test) (is ∙ ap (λ z. spread next self.depth 0 (found_all [] z)) starts) ∙ spread-any x next self.leads test self.depth own
+    (λ v is test. ap (list_any test) (is ∙ ap (λ z. spread next self.depth 0 (found_all [] z)) starts)
+    ∙ spread-any x next self.leads test self.depth own
     ∙ ap (λ d. list_any test (flat_map (calls_within d x) own)) self.deep)
     c.search.ensures

@@ -20,5 +20,7 @@ invariant_of-result c =
     record {
       leads = λ n. c.in_ok-inner.ensures n ∙ ap (λ ss. flat_map (steps_in x n) (filter (λ s. is_protected s.own.kind) (filter is_terminal ss))) walked
           ∙ inner-steps x n (filter (λ s. is_protected s.own.kind) (terminals x));
-      deep = count ∙ sym (length-map c.in_ok-ops.ops.items op_of) ∙ ap length (c.in_ok-ops.ensures ∙ ap (λ ss. flat_map own_ops (filter is_terminal ss)) again);
+      deep =
+          count ∙ sym (length-map c.in_ok-ops.ops.items op_of)
+          ∙ ap length (c.in_ok-ops.ensures ∙ ap (λ ss. flat_map own_ops (filter is_terminal ss)) again);
     }

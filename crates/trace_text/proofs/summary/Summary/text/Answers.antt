@@ -10,7 +10,8 @@ returns c told h =
     let us = map unit_of c.args.program.now.units.items in
     let units : map unit_of c.as_slice.result.now ≡ us = ap (map unit_of) c.as_slice.ensures.value in
     let kept : Tallies = record { tasks = c.as_slice-2.result.now; lines = c.self.inside.lines } in
-    let same : kept ≡ tallies (length us) told = (λ i. record { tasks = c.as_slice-2.ensures.value i; lines = c.self.inside.lines }) ∙ c.self.view_is ∙ h in
+    let same : kept ≡ tallies (length us) told = (λ i. record { tasks = c.as_slice-2.ensures.value i; lines = c.self.inside.lines })
+    ∙ c.self.view_is ∙ h in
     c.in_ok-text.ensures
     ∙ ap (λ vs. tally_lines c.args.bounds.now vs kept.tasks ++ count_line kept.lines) units
     ∙ ap (λ t. tally_lines c.args.bounds.now us t.tasks ++ count_line t.lines) same

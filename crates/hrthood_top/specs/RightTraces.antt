@@ -1,0 +1,43 @@
+-- What is right about the trace of a text that was made of a design: the design's machine allows it, within the least bounds.
+-- It is the promise of the project, said of bytes.
+use Rattle.std.specs.Prelude.{◌≡◌, ℕ, List}
+use Rattle.ods_tree.specs.Designs.{Design}
+use Rattle.ods_tree.specs.Flattening.{flat}
+use Rattle.ods_tree.specs.Ticks.{in_ticks}
+use Rattle.ods_tree.specs.Reading.{Reads}
+use Rattle.design_rules.specs.Rules.{MeetsRules}
+use Rattle.rt_response.specs.Response.{IsLeastVector}
+use Rattle.rt_response.specs.declared.rows.Bound.{Bound}
+use Rattle.analysis.specs.Tables.{table}
+use Rattle.ada_tree.specs.Programs.{Program}
+use Rattle.ada_tree.specs.Reading.{Accepts}
+use Rattle.arrivals_tree.specs.Arriving.{Arrivals}
+use Rattle.arrivals_tree.specs.Arrived.{Arrives, horizon_limit}
+use Rattle.trace_tree.specs.declared.event.Event.{Event}
+use Rattle.trace_tree.specs.Exclusion.{Exclusive}
+use Rattle.trace_tree.specs.Lines.{lines}
+use Rattle.machine.specs.Meanings.{Meaning}
+use Rattle.guarantee.specs.Events.{named}
+use Rattle.guarantee.specs.Arrivals.{named_arrivals}
+use Rattle.guarantee.specs.Allowed.{Allows}
+use Rattle.guarantee.specs.Bounded.{IsBounded}
+use Rattle.guarantee.specs.Programs.{responses}
+
+-- lines are the trace of the one program that an Ada text says, a run that a design allows, within its least bounds, under the arrivals of
+-- a text
+pub record IsRightTrace (design text arrivals written : List ℕ) : Type 0 where
+  pub of : Design
+  pub reads : Reads design of
+  pub meets : MeetsRules of
+  pub bounds : List Bound
+  pub least : IsLeastVector (table (flat (in_ticks of))).rows bounds
+  pub program : Program
+  pub accepts : Accepts text program
+  pub under : Arrivals
+  pub arrives : Arrives horizon_limit arrivals program under
+  pub told : List Event
+  pub means : Meaning program under told
+  pub whole : written ≡ lines program told
+  pub exclusive : Exclusive told
+  pub allowed : Allows (in_ticks of) (named_arrivals program under) (named program told)
+  pub bounded : IsBounded (responses (flat (in_ticks of)) bounds) under.until (named program told)

@@ -3,7 +3,10 @@
 //! The numbers are those of a simulation in ticks that knows nothing of the toolset: of the ready threads the one with the shortest
 //! deadline runs, but a thread on the board is not preempted. An activation uses 10 ticks, one more on the board, and one to end.
 
-use super::rows::run_table;
+use super::rows::{number, run_table, run_words};
+use hood_io::MemShelf;
+use hrthood_top::Status;
+use std::process::Abort;
 use std::test::Fail;
 
 /// What rows of samples have.
@@ -124,6 +127,49 @@ const NO_SAMPLES: &[&str] = &[
     like: no command
     words: samples 1",
 ];
+
+/// The number behind a word of a line.
+fn behind(line: &str, word: &str) -> usize {
+    let mut words = line.split_whitespace();
+    for here in &mut words {
+        if here == word {
+            break;
+        }
+    }
+    number(words.next().unwrap_or(""))
+}
+
+/// Looks at the summary of the sample of so many threads: there is a line for each of them, in order, with its bound, and no time is
+/// over it.
+fn check_sample(rt: &impl Abort, host: &HostRuntime, threads: usize) -> Result<(), Fail> {
+    let count = format!(in host.alloc(); "{threads}")?;
+    let mut shelf = MemShelf::new(host.alloc(), &[])?;
+    let run = run_words(host, &["sample", &count], &mut shelf, 10_000)?;
+    assert!(rt; run.status == Status::Done, "{threads}");
+    let summary = str::from_utf8(run.out.bytes()).unwrap_or("");
+    let mut lines = summary.lines();
+    for k in 1..threads.saturating_add(1) {
+        let line = lines.next().unwrap_or("");
+        let start = format!(in host.alloc(); "thread t{k} releases ")?;
+        assert!(rt; line.starts_with(start.as_str()), "{summary}");
+        let last = usize::from(k == threads);
+        let bound = k.saturating_mul(12).saturating_add(1).saturating_sub(last);
+        assert_eq!(rt; behind(line, "bound"), bound, "{summary}");
+        let greatest = behind(line, "greatest");
+        assert!(rt; 0 < greatest && greatest <= bound, "{summary}");
+    }
+    assert!(rt; lines.next().unwrap_or("").starts_with("lines "), "{summary}");
+    assert!(rt; lines.next().is_none(), "{summary}");
+    Ok(())
+}
+
+#[test]
+fn each_sample_keeps_its_bounds(rt: HostRuntime) -> Result<(), Fail> {
+    for threads in 1..31_usize {
+        check_sample(&rt, &rt, threads)?;
+    }
+    Ok(())
+}
 
 #[test]
 fn samples_are_summed_up(rt: HostRuntime) -> Result<(), Fail> {

@@ -9,6 +9,8 @@ mod blocks;
 #[cfg(test)]
 mod bounds;
 #[cfg(test)]
+mod counts;
+#[cfg(test)]
 mod flats;
 #[cfg(test)]
 mod queues;

@@ -1,0 +1,76 @@
+//! Calls on the paths through a block, and the different calls that it has.
+
+use seq_cost::{Started, calls, starts, starts_through};
+use seq_read::read_block;
+use seq_tree::{Block, Name, OpName};
+use std::test::Fail;
+use token_read::tokens;
+
+/// Two calls of `p.f` on the longer path for it, two of `q.g` on the other, and three of `r.h` in a loop.
+const PATHS: &str = "if x = 1 then p.f; else q.g; q.g; end if; p.f; for i in word range 1 .. 3 loop r.h; end loop; end";
+
+/// One call of `p.f` or of `q.g`, and a loop without a turn.
+const ONE_OF_TWO: &str = "if x = 1 then p.f; else q.g; end if; for i in word range 2 .. 1 loop p.f; end loop; end";
+
+/// The block that a text begins with.
+fn block(rt: &HostRuntime, text: &str) -> Result<Block, Fail> {
+    let found = tokens(rt.alloc(), text.as_bytes())?;
+    let (block, _) = read_block(rt.alloc(), &found, 0, 0)?;
+    Ok(block)
+}
+
+/// The operation of an object, by their names.
+fn operation(rt: &HostRuntime, object: &str, op: &str) -> Result<OpName, Fail> {
+    Ok(OpName {
+        object: Name::make(rt.alloc(), object.as_bytes())?,
+        op: Name::make(rt.alloc(), op.as_bytes())?,
+    })
+}
+
+#[test]
+fn calls_are_counted_on_the_path_that_has_most_of_them(rt: HostRuntime) -> Result<(), Fail> {
+    for (text, object, op, wanted) in [
+        (PATHS, "p", "f", 2_u32),
+        (PATHS, "q", "g", 2),
+        (PATHS, "r", "h", 2),
+        (PATHS, "p", "g", 0),
+        (ONE_OF_TWO, "p", "f", 1),
+        (ONE_OF_TWO, "q", "g", 1),
+        (ONE_OF_TWO, "r", "h", 0),
+    ] {
+        let target = operation(&rt, object, op)?;
+        let count = starts(&block(&rt, text)?, &target);
+        assert_eq!(rt; count, wanted, "{object}.{op}: {text}");
+    }
+    Ok(())
+}
+
+#[test]
+fn calls_of_others_count_what_they_have(rt: HostRuntime) -> Result<(), Fail> {
+    for (object, op, each, wanted) in [
+        ("q", "g", 0_u32, 1_u32),
+        ("q", "g", 1, 1),
+        ("q", "g", 2, 2),
+        ("r", "h", 2, 1),
+    ] {
+        let target = operation(&rt, "p", "f")?;
+        let callees = [Started {
+            name: operation(&rt, object, op)?,
+            starts: each,
+        }];
+        let count = starts_through(&block(&rt, ONE_OF_TWO)?, &target, &callees);
+        assert_eq!(rt; count, wanted, "{object}.{op} {each}");
+    }
+    Ok(())
+}
+
+#[test]
+fn each_call_is_told_once(rt: HostRuntime) -> Result<(), Fail> {
+    let found = calls(rt.alloc(), &block(&rt, PATHS)?)?;
+    assert_eq!(rt; found.len(), 3);
+    for (call, (object, op)) in found.iter().zip([("p", "f"), ("q", "g"), ("r", "h")]) {
+        assert_eq!(rt; call.object.bytes(), object.as_bytes());
+        assert_eq!(rt; call.op.bytes(), op.as_bytes());
+    }
+    Ok(())
+}

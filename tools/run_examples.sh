@@ -10,9 +10,19 @@ trap 'rm -rf "$room"' EXIT
 
 # The words, then the lines that are wanted on standard input.
 compare() {
-    local wanted found
+    look_at "$("$top/hrthood" "$@" </dev/null 2>&1 || true)" "$@"
+}
+
+# The same of the lines behind the one between a text and its trace.
+compare_trace() {
+    look_at "$("$top/hrthood" "$@" </dev/null 2>&1 | sed '1,/^-- trace$/d' || true)" "$@"
+}
+
+# The lines that were found, and the words.
+look_at() {
+    local wanted found=$1
+    shift
     wanted=$(cat)
-    found=$("$top/hrthood" "$@" 2>&1) || true
     if [ "$found" != "$wanted" ]; then
         printf '%s\n' "$*: other lines than wanted" "$found" >&2
         exit 1
@@ -46,6 +56,44 @@ ceiling ch4_status 6
 ceiling data_logger 4
 ceiling water_handler 2
 ceiling alarm_console 6
+LINES
+compare_trace verify mine_pump.design one_water_alarm.arrivals <<'LINES'
+0 release flow_sensor
+0 release ch4_sensor
+0 release co_sensor
+0 release air_flow
+9 enter ch4_sensor ch4_status.write 7
+10 leave ch4_sensor ch4_status.write
+13 enter ch4_sensor motor.set_safety 0
+15 leave ch4_sensor motor.set_safety
+16 end ch4_sensor used 16
+25 enter co_sensor data_logger.log 3
+29 leave co_sensor data_logger.log
+30 end co_sensor used 14
+30 arrive water_handler 1
+30 release water_handler 1
+36 enter air_flow ch4_status.read
+37 leave air_flow ch4_status.read 7
+39 end air_flow used 9
+41 enter water_handler motor.set_pump 1
+43 leave water_handler motor.set_pump
+45 enter water_handler data_logger.log 1
+49 leave water_handler data_logger.log
+50 end water_handler used 11
+57 enter flow_sensor motor.state
+58 leave flow_sensor motor.state 1
+60 enter flow_sensor data_logger.log 1
+64 leave flow_sensor data_logger.log
+65 end flow_sensor used 15
+80 release ch4_sensor
+89 enter ch4_sensor ch4_status.write 14
+90 leave ch4_sensor ch4_status.write
+93 enter ch4_sensor motor.set_safety 0
+95 leave ch4_sensor motor.set_safety
+96 end ch4_sensor used 16
+100 release co_sensor
+100 release air_flow
+100 horizon
 LINES
 compare generate one_cyclic_object.design <one_cyclic_task.ada
 compare generate units_of_every_kind.design < <(cat - units_of_every_kind.ada <<'LINES'

@@ -6,7 +6,7 @@ use hrthood_top::Status;
 use std::test::Fail;
 
 /// The tokens of a text with a passive unit and a task, a space behind each.
-const ADA: &str =
+pub const ADA: &str =
     "pragma task_dispatching_policy ( fifo_within_priorities ) ; pragma locking_policy ( ceiling_locking ) ; with \
     ada . real_time ; package hrt is type word is mod 2 ** 32 ; subtype moment is ada . real_time . time ; \
     assign_cost : constant := 1 ; test_cost : constant := 1 ; turn_cost : constant := 1 ; call_cost : constant := \
@@ -67,7 +67,7 @@ const UNITS_TRACE: &str =
     "0 release a\n4 request a s 7\n4 release s 7\n5 put s 7\n6 end s used 2\n9 put a 1\n10 end a used 8\n20 horizon\n";
 
 /// The tokens of a design with an object of each kind, links, units of time and a range of priorities, a space behind each.
-const DESIGN: &str =
+pub const DESIGN: &str =
     "design d version 2 is tick = 1 ms ; priorities 5 .. 9 ; costs assign = 1 ; test = 1 ; turn = 1 ; call = 2 ; \
     null = 1 ; put = 1 ; finish = 1 ; end costs ; object r is active provides set ( v : in word ) paer ; \
     objects object c is cyclic attributes period = 100 ms ; deadline = 50 ; thread_budget = 1000 ; requires p . \

@@ -25,6 +25,12 @@ const NO_DESIGNS: &[&str] = &[
     "name: a nesting too deep
     parenthesised: 64
     err: refused S2 design line 4 column 69",
+    "name: objects nested too deep, of which the first stands on line 2
+    nested: 65
+    err: refused S2 design line 66 column 1",
+    "name: as many objects as may be nested, and an end in the place of the next
+    nested: 64
+    err: refused S1 design line 67 column 1",
     "name: a chain too long
     sum: 33
     err: refused S2 design line 4 column 136",

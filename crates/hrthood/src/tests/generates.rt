@@ -237,6 +237,7 @@ const GENERATED: &[&str] = &[
     err: refused U2 s value 11 limit 10 round 0",
     "name: a text over its limit of a design of 650,000 bytes
     linked: 130000
+    err_room: 1000
     status: refused
     err: refused S3 text",
     "name: a rule that is broken goes before bounds

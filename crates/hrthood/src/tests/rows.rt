@@ -10,6 +10,7 @@
 //! | `words` | the words of the command line, `''` for the empty one | those of the table |
 //! | `fails` | the place of the fetch that fails, from 0 | none fails |
 //! | `room` | the room of standard output in bytes | 100,000 |
+//! | `err_room` | the room of standard error in bytes | 1,000 |
 //! | `r` | a line of the file `r`; a row may have several, with a line feed between them | `arrivals` |
 //! | `arrivals`, `arrivals_len` | the file `r`, and its length, with spaces behind a text that is shorter | those of the table |
 //! | `status` | how the run ends | that of the table |
@@ -18,7 +19,8 @@
 //! | `why` | how `out` was derived, for a reader; no test reads it | |
 //!
 //! `shapes.rt` has the keys of the design, which is the file `d`, and `texts.rt` and `units.rt` those of the Ada text, which is `a.ada`. Of
-//! `out` and `told` so much is wanted as there is room for.
+//! `out`, `told` and `err` so much is wanted as there is room for. A row of another status than `done` without an `err_room`
+//! is run once more without room in standard error, which changes nothing else.
 
 use super::shapes::design_bytes;
 use super::texts::{USUAL, ada_bytes, ada_text, joined, named, padded};
@@ -128,15 +130,16 @@ pub struct Outcome {
     pub err: MemSink,
 }
 
-/// Runs words over a shelf, with so much room in standard output.
+/// Runs words over a shelf, with so much room in standard output and in standard error.
 fn run_over(
     rt: &HostRuntime,
     words: &[String],
     shelf: &mut MemShelf,
     room: usize,
+    err_room: usize,
 ) -> Result<Outcome, Fail> {
     let mut out = MemSink::new(rt.alloc(), room)?;
-    let mut err = MemSink::new(rt.alloc(), 1000)?;
+    let mut err = MemSink::new(rt.alloc(), err_room)?;
     let status = run(rt.alloc(), words, shelf, &mut out, &mut err);
     Ok(Outcome { status, out, err })
 }
@@ -149,7 +152,7 @@ pub fn run_words(
     room: usize,
 ) -> Result<Outcome, Fail> {
     let words = words(rt, line)?;
-    run_over(rt, &words, shelf, room)
+    run_over(rt, &words, shelf, room, 1000)
 }
 
 /// What a verb does with the bytes of a design.
@@ -182,7 +185,8 @@ pub fn run_row(rt: &HostRuntime, row: &str) -> Result<Outcome, Fail> {
     shelf.put("a.ada", &ada_bytes(rt, row)?)?;
     shelf.put("r", &arrivals_bytes(rt, row)?)?;
     let words = line_words(rt, text(row, "words"))?;
-    run_over(rt, &words, &mut shelf, number(text(row, "room")))
+    let err_room = number(text(row, "err_room"));
+    run_over(rt, &words, &mut shelf, number(text(row, "room")), err_room)
 }
 
 /// The word for a status in a row.
@@ -217,20 +221,21 @@ fn check_out(rt: &impl Abort, host: &HostRuntime, row: &str, out: &[u8]) -> Resu
 
 /// Looks at what a run wrote to standard error for a row.
 fn check_err(rt: &impl Abort, host: &HostRuntime, row: &str, err: &[u8]) -> Result<(), Fail> {
-    let wanted = lines(host, row, "err")?;
+    let mut wanted = lines(host, row, "err")?;
+    wanted.truncate(number(text(row, "err_room")));
     assert_eq!(rt; err, wanted.as_slice(), "{row}");
     Ok(())
 }
 
 /// Runs a row, and looks at all that is told of it.
-fn check_row(rt: &impl Abort, host: &HostRuntime, row: &str) -> Result<(), Fail> {
+pub fn check_row(rt: &impl Abort, host: &HostRuntime, row: &str) -> Result<(), Fail> {
     let Outcome { status, out, err } = run_row(host, row)?;
     assert_eq!(rt; word_of(status), text(row, "status"), "{row}");
     check_out(rt, host, row, out.bytes())?;
     check_err(rt, host, row, err.bytes())
 }
 
-/// Runs each row of a table, whose rows have these keys too, and looks at all that is told of it.
+/// Runs each row of a table, whose rows have these keys too, and looks at all that is told of it, with room in standard error and without.
 pub fn run_table(
     rt: &impl Abort,
     host: &HostRuntime,
@@ -240,6 +245,9 @@ pub fn run_table(
     for given in table {
         let row = row_text(host, given, usual)?;
         check_row(rt, host, &row)?;
+        if value(given, "err_room").is_none() && text(&row, "status") != "done" {
+            check_row(rt, host, &joined(host, &["err_room: 0\n", &row])?)?;
+        }
     }
     Ok(())
 }

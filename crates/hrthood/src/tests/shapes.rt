@@ -8,6 +8,7 @@
 //! | `head` | beside `root`: of version 2, with this between its version and its costs |
 //! | `parenthesised` | of an object whose thread assigns a number in so many parentheses, on a line of its own |
 //! | `sum` | of an object whose thread assigns a sum of so many operators, on a line of its own |
+//! | `nested` | of so many objects, each in the one before it, on a line of its own and without an end |
 //! | `doubling` | of passive objects of which each calls the next one twice, up to this many |
 //! | `linked` | of a cyclic object that calls, so many times, an operation whose link leads to names of 64 bytes |
 //! | none of these | of one cyclic object, with `object`, `attributes`, `thread` and the cost of `null;` in `null` |
@@ -63,6 +64,14 @@ fn sum(rt: &HostRuntime, operators: usize) -> Result<String, Fail> {
     let mut value = String::from_str(rt.alloc(), "1")?;
     repeated(&mut value, " + 1", operators)?;
     assigning(rt, &value)
+}
+
+fn nested(rt: &HostRuntime, count: usize) -> Result<String, Fail> {
+    let mut root = String::new(rt.alloc());
+    for k in 0..count {
+        root.push_str(&format!(in rt.alloc(); "OBJECT o{k} IS ACTIVE OBJECTS\n")?)?;
+    }
+    design(rt, "IS", &root)
 }
 
 fn doubling(rt: &HostRuntime, count: usize) -> Result<String, Fail> {
@@ -147,6 +156,9 @@ fn counted(rt: &HostRuntime, row: &str) -> Result<String, Fail> {
     }
     if let Some(operators) = value(row, "sum") {
         return sum(rt, number(operators));
+    }
+    if let Some(count) = value(row, "nested") {
+        return nested(rt, number(count));
     }
     if let Some(count) = value(row, "doubling") {
         return doubling(rt, number(count));

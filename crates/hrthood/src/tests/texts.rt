@@ -32,7 +32,8 @@ pub const USUAL: &str = "unit: a
     object: a
     attributes: PERIOD = 10; DEADLINE = 10; THREAD_BUDGET = 1000;
     thread: work (3);
-    room: 100000";
+    room: 100000
+    err_room: 1000";
 
 /// The text of these pieces.
 pub fn joined(rt: &HostRuntime, pieces: &[&str]) -> Result<String, Fail> {
@@ -477,7 +478,7 @@ END mine;
 ";
 
 /// What a replay of the usual task tells up to tick 20.
-const TRACE: &str =
+pub const TRACE: &str =
     "0 release a\n4 end a used 4\n10 release a\n14 end a used 4\n20 release a\n20 horizon\n";
 
 /// Words that are no command.

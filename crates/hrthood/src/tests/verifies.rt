@@ -119,10 +119,12 @@ const REFUSED: &[&str] = &[
     status: refused
     err: refused Q2 line 1 a",
     "name: a design that can't be read
+    whole: @mine
     fails: 0
     status: read fault
     err: fault reading d",
     "name: arrivals that can't be read
+    whole: @mine
     fails: 1
     status: read fault
     err: fault reading r",

@@ -91,6 +91,20 @@ fn each_room_of_standard_output(rt: HostRuntime) -> Result<(), Fail> {
     Ok(())
 }
 
+/// Of each verb, and of a replay that stops: a byte at a time, all is written as at once.
+#[test]
+fn a_byte_at_a_time(rt: HostRuntime) -> Result<(), Fail> {
+    for given in WRITTEN {
+        let row = row_text(&rt, given, USUAL)?;
+        let whole = run_row(&rt, &row)?;
+        let Outcome { status, out, err } = run_row(&rt, &joined(&rt, &["most: 1\n", &row])?)?;
+        assert_eq!(rt; status, whole.status, "{row}");
+        assert_eq!(rt; out.bytes(), whole.out.bytes(), "{row}");
+        assert_eq!(rt; err.bytes(), whole.err.bytes(), "{row}");
+    }
+    Ok(())
+}
+
 /// Runs that tell something on standard error.
 const TOLD: &[&str] = &[
     "words: check

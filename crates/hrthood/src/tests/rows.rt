@@ -11,6 +11,7 @@
 //! | `fails` | the place of the fetch that fails, from 0 | none fails |
 //! | `room` | the room of standard output in bytes | 100,000 |
 //! | `err_room` | the room of standard error in bytes | 1,000 |
+//! | `most` | how many bytes one write to either takes at most, from 1 | 100,000 |
 //! | `r` | a line of the file `r`; a row may have several, with a line feed between them | `arrivals` |
 //! | `arrivals`, `arrivals_len` | the file `r`, and its length, with spaces behind a text that is shorter | those of the table |
 //! | `status` | how the run ends | that of the table |
@@ -130,18 +131,18 @@ pub struct Outcome {
     pub err: MemSink,
 }
 
-/// Runs words over a shelf, with so much room in standard output and in standard error.
+/// Runs words over a shelf and two sinks.
 fn run_over(
     rt: &HostRuntime,
     words: &[String],
     shelf: &mut MemShelf,
-    room: usize,
-    err_room: usize,
-) -> Result<Outcome, Fail> {
-    let mut out = MemSink::new(rt.alloc(), room)?;
-    let mut err = MemSink::new(rt.alloc(), err_room)?;
+    out: MemSink,
+    err: MemSink,
+) -> Outcome {
+    let mut out = out;
+    let mut err = err;
     let status = run(rt.alloc(), words, shelf, &mut out, &mut err);
-    Ok(Outcome { status, out, err })
+    Outcome { status, out, err }
 }
 
 /// Runs these words over a shelf, with so much room in standard output.
@@ -152,7 +153,9 @@ pub fn run_words(
     room: usize,
 ) -> Result<Outcome, Fail> {
     let words = words(rt, line)?;
-    run_over(rt, &words, shelf, room, 1000)
+    let out = MemSink::new(rt.alloc(), room)?;
+    let err = MemSink::new(rt.alloc(), 1000)?;
+    Ok(run_over(rt, &words, shelf, out, err))
 }
 
 /// What a verb does with the bytes of a design.
@@ -185,8 +188,10 @@ pub fn run_row(rt: &HostRuntime, row: &str) -> Result<Outcome, Fail> {
     shelf.put("a.ada", &ada_bytes(rt, row)?)?;
     shelf.put("r", &arrivals_bytes(rt, row)?)?;
     let words = line_words(rt, text(row, "words"))?;
-    let err_room = number(text(row, "err_room"));
-    run_over(rt, &words, &mut shelf, number(text(row, "room")), err_room)
+    let most = number(text(row, "most")).max(1);
+    let out = MemSink::piecewise(rt.alloc(), number(text(row, "room")), most)?;
+    let err = MemSink::piecewise(rt.alloc(), number(text(row, "err_room")), most)?;
+    Ok(run_over(rt, &words, &mut shelf, out, err))
 }
 
 /// The word for a status in a row.

@@ -158,7 +158,10 @@ fn check_sample(rt: &impl Abort, host: &HostRuntime, threads: usize) -> Result<(
         let greatest = behind(line, "greatest");
         assert!(rt; 0 < greatest && greatest <= bound, "{summary}");
     }
-    assert!(rt; lines.next().unwrap_or("").starts_with("lines "), "{summary}");
+    assert!(rt;
+        lines.next().unwrap_or("").starts_with("lines "),
+        "{summary}"
+    );
     assert!(rt; lines.next().is_none(), "{summary}");
     Ok(())
 }

@@ -33,7 +33,8 @@ pub const USUAL: &str = "unit: a
     attributes: PERIOD = 10; DEADLINE = 10; THREAD_BUDGET = 1000;
     thread: work (3);
     room: 100000
-    err_room: 1000";
+    err_room: 1000
+    most: 100000";
 
 /// The text of these pieces.
 pub fn joined(rt: &HostRuntime, pieces: &[&str]) -> Result<String, Fail> {

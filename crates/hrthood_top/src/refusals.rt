@@ -7,6 +7,6 @@ ghost use Rattle.hrthood_top.specs.Exact.{HasOneCause, WritesOrRefuses};
 pub fn refused_exactly_where()
     // Two causes are one.
     ensures one { (t : Told) (c : Command) → HasOneCause t (verb_of c) }
-    // None stands where something is written.
+    // None stands where what the verb makes is written.
     ensures none { (t : Told) (c : Command) → WritesOrRefuses t (verb_of c) }
 {}

@@ -15,7 +15,7 @@ use Rattle.hrthood_top.specs.Messages.{too_long_line, fault_line}
 use Rattle.hrthood_top.specs.Verbs.{Verb}
 use Rattle.hrthood_top.specs.Ends.{Outside, Writes, WritesAtMost, WritesUpTo, TooLong, Refusal, Stopped, Refuses, TellsMessage, EndsVerb}
 use Rattle.hrthood_top.specs.Fetches.{FetchesAll}
-use Rattle.hrthood_top.specs.Writing.{IsMade, Finishes, Streams, TellsStop, course}
+use Rattle.hrthood_top.specs.Writing.{IsMade, Finishes, Streams, TellsHalt, TellsStop}
 use Rattle.hrthood_top.proofs.Fetching.{if_some-map}
 
 -- files that could not be had
@@ -37,7 +37,7 @@ ends-stop view v ended stop.NoMemory x y h s out =
 -- what was made of files that are there
 pub ends-made : {X : Type 0} (view : X → List ℕ) (v : Verb) (ended : Status) (made : Result X (Halt v.Refusal)) (texts : Texts) (x y : Outside) →
     IfSome x.told (λ t. HoldsAll t v.files texts) → y.told ≡ grown x.told (fetched v.files) → IsMade view (v.Makes texts) (v.Refuses texts) made →
-    Finishes view v.line made ended x.out y.out x.write_faults y.write_faults x.err y.err x.tell_faults y.tell_faults → EndsVerb ended v x y
+    Finishes view (TellsHalt v.line) made ended x.out y.out x.write_faults y.write_faults x.err y.err x.tell_faults y.tell_faults → EndsVerb ended v x y
 ends-made view v status.Done (Ok z) texts x y held log m f =
     (view z, f.0, if_some-map x.told (λ t. HoldsAll t v.files texts) (λ t. Writes t v (view z)) held (λ t p. (texts, p, m)), log, f.1)
 ends-made view v status.WriteFault (Ok z) texts x y held log m f =
@@ -61,7 +61,7 @@ at_most v texts text t held (inr (stop, stops)) = inr (stop, (texts, held, stops
 
 -- what was written of files that are there, as it came
 pub ends-streamed : (v : Verb) (ended : Status) (texts : Texts) (x y : Outside) → IfSome x.told (λ t. HoldsAll t v.files texts) → y.told ≡ grown x.told (fetched v.files)
-    → Streams (course v texts) ended x.out y.out x.write_faults y.write_faults x.err y.err x.tell_faults y.tell_faults → EndsVerb ended v x y
+    → Streams v texts ended x.out y.out x.write_faults y.write_faults x.err y.err x.tell_faults y.tell_faults → EndsVerb ended v x y
 ends-streamed v status.Done texts x y held log s =
     (s.0, s.2, if_some-map x.told (λ t. HoldsAll t v.files texts) (λ t. Writes t v s.0) held (λ t p. (texts, p, s.1)), log, s.3)
 ends-streamed v status.WriteFault texts x y held log s =

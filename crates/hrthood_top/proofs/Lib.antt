@@ -22,4 +22,9 @@ pub mod SampleLaws
 pub mod Summed
 pub mod Gathering
 mod Examples
+mod ParserSteps
+pub mod ParserLaws
+pub mod ParserCommands
+pub mod WordsRead
+pub mod UnreadEnds
 pub mod Tracing

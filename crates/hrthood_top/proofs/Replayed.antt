@@ -22,7 +22,7 @@ use Rattle.hrthood_top.specs.Files.{Texts}
 use Rattle.hrthood_top.specs.Replays.{Replays, StopsAt, Traces, RefusesReplay, ReadsAda, ReadsArrivals, SaysProgram, SaysArrivals, replays}
 use Rattle.hrthood_top.specs.Streaming.{PutsRun, violation_of}
 use Rattle.hrthood_top.specs.Violations.{EndsAt, RunsOut, Violation}
-use Rattle.hrthood_top.specs.Writing.{Streams, TellsEnding, course}
+use Rattle.hrthood_top.specs.Writing.{Streams, TellsEnding}
 use Rattle.hrthood_top.proofs.RunEnds.{meaning-ends}
 use Rattle.hrthood_top.proofs.Streamed.{IsHalted}
 
@@ -67,21 +67,21 @@ replays_or_stops ada arrivals p a told says arriving means = by (meaning-ends p 
 -- the lines of a run from its opening on are put
 pub streams-run : {E : Type 0} (x y : List ℕ) (texts : Texts) (p : Program) (a : Arrivals) (m : Running) (ran : Result Ending E) (ended : Status) (out out' : Option (List ℕ)) (faults faults' : ℕ) (err err' : Option (List ℕ)) (told told' : ℕ)
     → SaysProgram (texts kind.Ada) p → SaysArrivals (texts kind.Arrivals) p a → m ≡ begun p a → PutsRun p m out out' ran → HasCause faults faults' ran → TellsEnding ran ended err err' told told'
-    → Streams (course (replays x y) texts) ended out out' faults faults' err err' told told'
+    → Streams (replays x y) texts ended out out' faults faults' err err' told told'
 streams-run x y texts p a m (Ok Horizon) ended out out' faults faults' err err' told told' says arriving opens puts cause t =
-    let S : Status → Type 0 = λ z. Streams (course (replays x y) texts) z out out' faults faults' err err' told told' in
+    let S : Status → Type 0 = λ z. Streams (replays x y) texts z out out' faults faults' err err' told told' in
     let means = subst (λ (r : Running). Tells r puts.0) opens puts.1 in
     let made : Replays (texts kind.Ada) (texts kind.Arrivals) (lines p puts.0) =
     record { told = puts.0; traces = traced (texts kind.Ada) (texts kind.Arrivals) p a puts.0 says arriving means; runs_out = puts.2 } in
     subst S (sym t.0) (lines p puts.0, made, puts.3, t.1)
 streams-run x y texts p a m (Ok (Stopped v)) ended out out' faults faults' err err' told told' says arriving opens puts cause t =
-    let S : Status → Type 0 = λ z. Streams (course (replays x y) texts) z out out' faults faults' err err' told told' in
+    let S : Status → Type 0 = λ z. Streams (replays x y) texts z out out' faults faults' err err' told told' in
     let means = subst (λ (r : Running). Tells r puts.0) opens puts.1 in
     let stops : StopsAt (texts kind.Ada) (texts kind.Arrivals) (lines p puts.0) (violation_of v) =
     record { told = puts.0; traces = traced (texts kind.Ada) (texts kind.Arrivals) p a puts.0 says arriving means; ends = puts.2 } in
     subst S (sym t.0) (inr (violation_of v, lines p puts.0, stops, puts.3, t.1))
 streams-run x y texts p a m (Err e) ended out out' faults faults' err err' told told' says arriving opens puts cause t =
-    let S : Status → Type 0 = λ z. Streams (course (replays x y) texts) z out out' faults faults' err err' told told' in
+    let S : Status → Type 0 = λ z. Streams (replays x y) texts z out out' faults faults' err err' told told' in
     let means = subst (λ (r : Running). Tells r puts.0) opens puts.1 in
     let either = replays_or_stops (texts kind.Ada) (texts kind.Arrivals) p a puts.0 says arriving means in
     subst S (sym t.0) (lines p puts.0, either, (puts.2.0, puts.2.1, puts.2.2, cause.failed, t.1))

@@ -32,9 +32,9 @@ use Rattle.hrthood_top.specs.Ends.{EndsVerb, outside}
 use Rattle.hrthood_top.specs.Files.{Texts, HoldsAll}
 use Rattle.hrthood_top.specs.Generates.{CanGenerate}
 use Rattle.hrthood_top.specs.Replays.{SaysProgram, SaysArrivals}
-use Rattle.hrthood_top.specs.Samples.{FinishesText, IsSummary, IsSummed, SummaryEnds, samples, text_bounds}
+use Rattle.hrthood_top.specs.Samples.{IsSummary, IsSummed, SummaryEnds, samples, text_bounds}
 use Rattle.hrthood_top.specs.Verifies.{trace_mark}
-use Rattle.hrthood_top.specs.Writing.{Streams, course}
+use Rattle.hrthood_top.specs.Writing.{Finishes, Streams, TellsMemory}
 use Rattle.hrthood_top.proofs.Ending.{ends-streamed}
 use Rattle.hrthood_top.proofs.Fetching.{grown-nothing}
 use Rattle.hrthood_top.proofs.OneDesign.{one-design}
@@ -205,7 +205,7 @@ held-none None texts = tt
 held-none (Some t) texts = tt
 
 sample-streams : {X E : Type 0} (view : X → List ℕ) (n : ℕ) (texts : Texts) (ended : Status) (made : Result X E) (out out' : Option (List ℕ)) (faults faults' : ℕ) (err err' : Option (List ℕ)) (told told' : ℕ)
-    → IfOk made (λ x. IsSummed n (view x)) → FinishesText view made ended out out' faults faults' err err' told told' → Streams (course (samples n) texts) ended out out' faults faults' err err' told told'
+    → IfOk made (λ x. IsSummed n (view x)) → Finishes view (λ e. TellsMemory) made ended out out' faults faults' err err' told told' → Streams (samples n) texts ended out out' faults faults' err err' told told'
 sample-streams view n texts status.Done (Ok x) out out' faults faults' err err' told told' m f = (view x, m, f.0, f.1)
 sample-streams view n texts status.WriteFault (Ok x) out out' faults faults' err err' told told' m f = (view x, inl m, f)
 sample-streams view n texts status.Refused (Ok x) out out' faults faults' err err' told told' m f = absurd f
@@ -213,11 +213,11 @@ sample-streams view n texts status.Usage (Ok x) out out' faults faults' err err'
 sample-streams view n texts status.ReadFault (Ok x) out out' faults faults' err err' told told' m f = absurd f
 sample-streams view n texts status.NoMemory (Ok x) out out' faults faults' err err' told told' m f = absurd f
 sample-streams view n texts ended (Err e) out out' faults faults' err err' told told' m f =
-    let S : Status → Type 0 = λ z. Streams (course (samples n) texts) z out out' faults faults' err err' told told' in
-    subst S (sym f.0) (f.1, f.2)
+    let S : Status → Type 0 = λ z. Streams (samples n) texts z out out' faults faults' err err' told told' in
+    subst S (sym f.1.0) (f.0, f.1.1)
 
 pub sample-ends : {X E : Type 0} (view : X → List ℕ) (n : ℕ) (ended : Status) (made : Result X E) (out out' : Option (List ℕ)) (faults faults' : ℕ) (err err' : Option (List ℕ)) (told told' : ℕ)
-    → IfOk made (λ x. IsSummed n (view x)) → FinishesText view made ended out out' faults faults' err err' told told'
+    → IfOk made (λ x. IsSummed n (view x)) → Finishes view (λ e. TellsMemory) made ended out out' faults faults' err err' told told'
     → (shelf : Option Told) (reads : ℕ) → EndsVerb ended (samples n) (outside shelf reads out faults err told) (outside shelf reads out' faults' err' told')
 sample-ends view n ended made out out' faults faults' err err' told told' m f shelf reads =
     let none : Texts = λ kind. [] in
@@ -225,7 +225,7 @@ sample-ends view n ended made out out' faults faults' err err' told told' m f sh
     (sample-streams view n none ended made out out' faults faults' err err' told told' m f)
 
 pub summary-ends : {X E : Type 0} (view : X → List ℕ) (n : ℕ) (ended : Status) (made : Result X E) (out out' : Option (List ℕ)) (faults faults' : ℕ) (err err' : Option (List ℕ)) (told told' : ℕ)
-    → IfOk made (λ x. IsSummed n (view x)) → FinishesText view made ended out out' faults faults' err err' told told' → SummaryEnds n ended out out'
+    → IfOk made (λ x. IsSummed n (view x)) → Finishes view (λ e. TellsMemory) made ended out out' faults faults' err err' told told' → SummaryEnds n ended out out'
 summary-ends view n status.Done (Ok x) out out' faults faults' err err' told told' m f = (view x, m, f.0)
 summary-ends view n status.WriteFault (Ok x) out out' faults faults' err err' told told' m f = (view x, m, f.0, f.1, f.2)
 summary-ends view n status.Refused (Ok x) out out' faults faults' err err' told told' m f = absurd f
@@ -234,4 +234,4 @@ summary-ends view n status.ReadFault (Ok x) out out' faults faults' err err' tol
 summary-ends view n status.NoMemory (Ok x) out out' faults faults' err err' told told' m f = absurd f
 summary-ends view n ended (Err e) out out' faults faults' err err' told told' m f =
     let S : Status → Type 0 = λ z. SummaryEnds n z out out' in
-    subst S (sym f.0) f.1
+    subst S (sym f.1.0) f.0

@@ -1,6 +1,5 @@
 -- What is verified of a design and an arrivals text: its text, and the trace of that text, which never stops.
 use Rattle.std.proofs.Common.{◌≡◌, ℕ, List, ◌++◌, Option, Result, Ok, Err, sym, subst, append_assoc, inl}
-use Rattle.seq_tree.specs.Names.{Name}
 use Rattle.seq_tree.specs.Proper.{within_limits}
 use Rattle.seq_tree.specs.declared.text_fault.TextFault.{TextFault}
 use Rattle.ods_tree.specs.Designs as designs
@@ -13,10 +12,9 @@ use Rattle.design_programs.proofs.SoundDesigns.{flat-sound}
 use Rattle.design_programs.proofs.TabledTasks.{sound-tabled}
 use Rattle.ceiling_locking.proofs.Ceiled.{is-ceiled}
 use Rattle.ceiling_locking.proofs.Stopping.{rest-goes-on}
-use Rattle.ada_rules.specs.declared.verdict.AdaRule.{AdaRule}
 use Rattle.ada_tree.specs.Programs.{Program}
-use Rattle.ada_read.specs.Answers.{Breaks, Faults}
-use Rattle.ada_read.proofs.ReadingLaws.{reads-unfaulty, accepts-unbroken}
+use Rattle.ada_read.specs.Answers.{Faults}
+use Rattle.ada_read.proofs.ReadingLaws.{reads-unfaulty}
 use Rattle.arrivals_tree.specs.Arriving.{Arrivals}
 use Rattle.arrivals_tree.specs.Arrived.{Arrives, horizon_limit}
 use Rattle.arrivals_read.specs.Answers as arriving
@@ -44,7 +42,7 @@ use Rattle.hrthood_top.specs.Replays.{Replays, SaysProgram, SaysArrivals}
 use Rattle.hrthood_top.specs.Streaming.{IsCut, PutsRun, violation_of}
 use Rattle.hrthood_top.specs.Verifies.{IsVerified, IsTextAlone, RefusesVerify, PutsBehind, halted_arrivals, halted_design, trace_mark, verifies}
 use Rattle.hrthood_top.specs.Violations.{RunsOut}
-use Rattle.hrthood_top.specs.Writing.{IsMade, Streams, TellsEnding, course}
+use Rattle.hrthood_top.specs.Writing.{IsMade, Streams, TellsEnding}
 use Rattle.hrthood_top.proofs.Gathering.{cut-more}
 use Rattle.hrthood_top.proofs.Replayed.{traced}
 use Rattle.hrthood_top.proofs.Replaying.{accepted_text, right_trace}
@@ -54,9 +52,6 @@ use Rattle.hrthood_top.proofs.Streamed.{IsHalted}
 -- a text that was made of a design has no fault, and breaks no rule
 pub made-unfaulty : (design made : List ℕ) (found : TextFault) → IsTextFor design made → Faults made found → ⊥
 made-unfaulty design made found w h = reads-unfaulty made (program (in_ticks w.design)) found (accepted_text design made w).reads h
-
-pub made-unbroken : (design made : List ℕ) (rule : AdaRule) (unit : Option Name) → IsTextFor design made → Breaks made rule unit → ⊥
-made-unbroken design made rule unit w h = accepts-unbroken made (program (in_ticks w.design)) rule unit (accepted_text design made w) h
 
 -- what was not made has a reason
 pub made-halted : {X R : Type 0} (view : X → List ℕ) (Makes : List ℕ → Type 0) (Refuses : R → Type 0) (why : Halt R) → IsMade view Makes Refuses (Err why) → IsHalted Refuses why
@@ -123,16 +118,16 @@ verified design arrivals made p a told w says arriving means =
 -- the text, and the lines of a run from its opening on, are put
 pub streams-verified : {E : Type 0} (x y : List ℕ) (texts : Texts) (made : List ℕ) (p : Program) (a : Arrivals) (m : Running) (ran : Result Ending E) (ended : Status) (out out' : Option (List ℕ)) (faults faults' : ℕ) (err err' : Option (List ℕ)) (told told' : ℕ)
     → IsTextFor (texts kind.Design) made → SaysProgram made p → SaysArrivals (texts kind.Arrivals) p a → m ≡ begun p a → PutsBehind (made ++ trace_mark) p m out out' ran → HasCause faults faults' ran
-    → TellsEnding ran ended err err' told told' → Streams (course (verifies x y) texts) ended out out' faults faults' err err' told told'
+    → TellsEnding ran ended err err' told told' → Streams (verifies x y) texts ended out out' faults faults' err err' told told'
 streams-verified x y texts made p a m (Ok Horizon) ended out out' faults faults' err err' told told' w says arriving opens puts cause t =
-    let S : Status → Type 0 = λ z. Streams (course (verifies x y) texts) z out out' faults faults' err err' told told' in
+    let S : Status → Type 0 = λ z. Streams (verifies x y) texts z out out' faults faults' err err' told told' in
     let means = subst (λ (r : Running). Tells r puts.0) opens puts.1 in
     subst S (sym t.0) ((made ++ trace_mark) ++ lines p puts.0, verified (texts kind.Design) (texts kind.Arrivals) made p a puts.0 w says arriving means, puts.3, t.1)
 streams-verified x y texts made p a m (Ok (Stopped v)) ended out out' faults faults' err err' told told' w says arriving opens puts cause t =
     let means = subst (λ (r : Running). Tells r puts.0) opens puts.1 in
     absurd (runs-out-unstopped p puts.0 (violation_of v) (made-runs-out (texts kind.Design) made p a puts.0 w says means) puts.2)
 streams-verified x y texts made p a m (Err e) ended out out' faults faults' err err' told told' w says arriving opens puts cause t =
-    let S : Status → Type 0 = λ z. Streams (course (verifies x y) texts) z out out' faults faults' err err' told told' in
+    let S : Status → Type 0 = λ z. Streams (verifies x y) texts z out out' faults faults' err err' told told' in
     let means = subst (λ (r : Running). Tells r puts.0) opens puts.1 in
     subst S (sym t.0)
     ((made ++ trace_mark) ++ lines p puts.0, inl (verified (texts kind.Design) (texts kind.Arrivals) made p a puts.0 w says arriving means), (puts.2.0, puts.2.1, puts.2.2, cause.failed, t.1))

@@ -1,4 +1,5 @@
 pub mod Words
+pub mod Parsing
 pub mod Files
 pub mod Verbs
 pub mod Messages
@@ -14,6 +15,7 @@ pub mod RightTraces
 pub mod Verifies
 pub mod Samples
 pub mod Commands
+pub mod Reading
 pub mod Ends
 pub mod Exact
 pub mod TwoRuns

@@ -1,6 +1,6 @@
 -- The verb `sample`: the summary of what `verify` does of the design and the arrivals of a sample.
 -- It reads no file and refuses nothing. The samples are this project's own.
-use Rattle.std.specs.Prelude.{◌≡◌, ℕ, ◌<◌, List, [], length, take, Option, Some, Result, Ok, Err, ⊤}
+use Rattle.std.specs.Prelude.{◌≡◌, ℕ, ◌<◌, List, [], length, take, Option, Some, ⊤}
 use Rattle.ods_tree.specs.Flattening.{flat}
 use Rattle.ods_tree.specs.Layout.{design_text}
 use Rattle.ods_tree.specs.Ticks.{in_ticks, first_priority}
@@ -11,15 +11,11 @@ use Rattle.trace_text.specs.declared.bound.NamedBound.{NamedBound}
 use Rattle.trace_text.specs.Summaries.{summary}
 use Rattle.sample_design.specs.Requests.{sample_arrivals}
 use Rattle.sample_design.specs.Samples.{sample_design}
-use Rattle.hrthood_top.specs.declared.message.Message.TheVariants as message
 use Rattle.hrthood_top.specs.declared.status.Status.{Status}
 use Rattle.hrthood_top.specs.declared.status.Status.TheVariants as status
-use Rattle.hrthood_top.specs.Messages.{message_line}
-use Rattle.hrthood_top.specs.Tells.{Tells}
 use Rattle.hrthood_top.specs.Verbs.{Verb}
 use Rattle.hrthood_top.specs.Verifies.{IsVerified}
 use Rattle.hrthood_top.specs.Words.{Command, Sample}
-use Rattle.hrthood_top.specs.Writing.{WritesText}
 
 -- the bounds of the text of a design, with the names of the threads
 abbrev pub text_bounds : (design text : List ℕ) → IsTextFor design text → List NamedBound
@@ -34,13 +30,6 @@ pub record IsSummary (design arrivals written : List ℕ) : Type 0 where
 -- the summary of the sample of so many threads
 abbrev pub IsSummed : ℕ → List ℕ → Type 0
 IsSummed n written = IsSummary (design_text (sample_design n)) (sample_arrivals n) written
-
--- a text that is refused for no reason is written, or want of memory is told in its place
-abbrev pub FinishesText : {X E : Type 0} → (X → List ℕ) → Result X E → Status
-    → Option (List ℕ) → Option (List ℕ) → ℕ → ℕ → Option (List ℕ) → Option (List ℕ) → ℕ → ℕ → Type 0
-FinishesText view (Ok x) ended out out' faults faults' err err' told told' = WritesText ended (view x) out out' faults faults' err err' told told'
-FinishesText view (Err e) ended out out' faults faults' err err' told told' =
-    (ended ≡ status.NoMemory) × (out' ≡ out) × Tells err err' told told' (message_line message.NoMemory)
 
 -- how a sample of so many threads ends: its summary is written, or a proper front of it, or nothing for want of memory; it is never refused
 abbrev pub SummaryEnds : ℕ → Status → Option (List ℕ) → Option (List ℕ) → Type 0

@@ -32,63 +32,47 @@ WritesText status.WriteFault text out out' faults faults' err err' told told' =
     (n : ℕ) × (n < length text) × Appends out out' (take n text) × Rose faults faults' × Tells err err' told told' (message_line message.WriteFault)
 WritesText _ text out out' faults faults' err err' told told' = ⊥
 
+-- want of memory is told
+abbrev pub TellsMemory : Status → Option (List ℕ) → Option (List ℕ) → ℕ → ℕ → Type 0
+TellsMemory ended err err' told told' = (ended ≡ status.NoMemory) × Tells err err' told told' (message_line message.NoMemory)
+
 -- why a verb makes nothing is told
 abbrev pub TellsHalt : {R : Type 0} → (R → List ℕ) → Halt R → Status → Option (List ℕ) → Option (List ℕ) → ℕ → ℕ → Type 0
 TellsHalt line (halt.Refused refusal) ended err err' told told' = (ended ≡ status.Refused) × Tells err err' told told' (line refusal)
-TellsHalt line halt.NoMemory ended err err' told told' = (ended ≡ status.NoMemory) × Tells err err' told told' (message_line message.NoMemory)
+TellsHalt line halt.NoMemory ended err err' told told' = TellsMemory ended err err' told told'
 
 -- what was made is written, or why nothing was made is told
-abbrev pub Finishes : {X R : Type 0} → (X → List ℕ) → (R → List ℕ) → Result X (Halt R) → Status
+abbrev pub Finishes : {X E : Type 0} → (X → List ℕ) → (E → Status → Option (List ℕ) → Option (List ℕ) → ℕ → ℕ → Type 0) → Result X E → Status
     → Option (List ℕ) → Option (List ℕ) → ℕ → ℕ → Option (List ℕ) → Option (List ℕ) → ℕ → ℕ → Type 0
-Finishes view line (Ok x) ended out out' faults faults' err err' told told' = WritesText ended (view x) out out' faults faults' err err' told told'
-Finishes view line (Err why) ended out out' faults faults' err err' told told' = (out' ≡ out) × TellsHalt line why ended err err' told told'
+Finishes view TellsWhy (Ok x) ended out out' faults faults' err err' told told' = WritesText ended (view x) out out' faults faults' err err' told told'
+Finishes view TellsWhy (Err why) ended out out' faults faults' err err' told told' = (out' ≡ out) × TellsWhy why ended err err' told told'
 
 -- whether a text was written whole is told; the text is no matter
 abbrev pub TellsWritten : {E : Type 0} → Result (Unit {0}) E → Status → Option (List ℕ) → Option (List ℕ) → ℕ → ℕ → Type 0
 TellsWritten (Ok u) ended err err' told told' = (ended ≡ status.Done) × (err' ≡ err)
 TellsWritten (Err e) ended err err' told told' = (ended ≡ status.WriteFault) × Tells err err' told told' (message_line message.WriteFault)
 
--- what a verb does of the bytes of its files where it writes as it goes: what it makes, why it makes nothing, how it stops behind what it has
--- written, and the lines that tell these
-pub record Course : Type 1 where
-  pub Makes : List ℕ → Type 0
-  pub Refusal : Type 0
-  pub Refuses : Refusal → Type 0
-  pub line : Refusal → List ℕ
-  pub Stop : Type 0
-  pub Stops : List ℕ → Stop → Type 0
-  pub stop_line : Stop → List ℕ
-
--- the course of a verb, with the bytes of its files
-abbrev pub course : Verb → Texts → Course
-course v texts = record {
-  Makes = v.Makes texts;
-  Refusal = v.Refusal;
-  Refuses = v.Refuses texts;
-  line = v.line;
-  Stop = v.Stop;
-  Stops = v.Stops texts;
-  stop_line = v.stop_line;
-}
-
--- it makes nothing for a reason, which is told
-abbrev pub HaltsSo : Course → Option (List ℕ) → Option (List ℕ) → Option (List ℕ) → Option (List ℕ) → ℕ → ℕ → Type 0
-HaltsSo c out out' err err' told told' = (refusal : c.Refusal) × c.Refuses refusal × (out' ≡ out) × Tells err err' told told' (c.line refusal)
+-- a verb makes nothing of texts for a reason, which is told
+abbrev pub HaltsSo : Verb → Texts → Option (List ℕ) → Option (List ℕ) → Option (List ℕ) → Option (List ℕ) → ℕ → ℕ → Type 0
+HaltsSo v texts out out' err err' told told' =
+    (refusal : v.Refusal) × v.Refuses texts refusal × (out' ≡ out) × Tells err err' told told' (v.line refusal)
 
 -- it stops behind what it has written, which is told
-abbrev pub StopsSo : Course → Option (List ℕ) → Option (List ℕ) → Option (List ℕ) → Option (List ℕ) → ℕ → ℕ → Type 0
-StopsSo c out out' err err' told told' =
-    (stop : c.Stop) × (text : List ℕ) × c.Stops text stop × Appends out out' text × Tells err err' told told' (c.stop_line stop)
+abbrev pub StopsSo : Verb → Texts → Option (List ℕ) → Option (List ℕ) → Option (List ℕ) → Option (List ℕ) → ℕ → ℕ → Type 0
+StopsSo v texts out out' err err' told told' =
+    (stop : v.Stop) × (text : List ℕ) × v.Stops texts text stop × Appends out out' text × Tells err err' told told' (v.stop_line stop)
 
 -- a verb that writes as it goes: the text that it makes is written, or what it writes before it stops, or where the faults rose a proper front of
 -- either; or why it makes nothing is told
-abbrev pub Streams : Course → Status → Option (List ℕ) → Option (List ℕ) → ℕ → ℕ → Option (List ℕ) → Option (List ℕ) → ℕ → ℕ → Type 0
-Streams c status.Done out out' faults faults' err err' told told' = (text : List ℕ) × c.Makes text × Appends out out' text × (err' ≡ err)
-Streams c status.Refused out out' faults faults' err err' told told' = HaltsSo c out out' err err' told told' ⊎ StopsSo c out out' err err' told told'
-Streams c status.WriteFault out out' faults faults' err err' told told' =
-    (text : List ℕ) × (c.Makes text ⊎ ((stop : c.Stop) × c.Stops text stop)) × WritesText status.WriteFault text out out' faults faults' err err' told told'
-Streams c status.NoMemory out out' faults faults' err err' told told' = (out' ≡ out) × Tells err err' told told' (message_line message.NoMemory)
-Streams c _ out out' faults faults' err err' told told' = ⊥
+abbrev pub Streams : Verb → Texts → Status → Option (List ℕ) → Option (List ℕ) → ℕ → ℕ → Option (List ℕ) → Option (List ℕ) → ℕ → ℕ → Type 0
+Streams v texts status.Done out out' faults faults' err err' told told' = (text : List ℕ) × v.Makes texts text × Appends out out' text × (err' ≡ err)
+Streams v texts status.Refused out out' faults faults' err err' told told' =
+    HaltsSo v texts out out' err err' told told' ⊎ StopsSo v texts out out' err err' told told'
+Streams v texts status.WriteFault out out' faults faults' err err' told told' =
+    (text : List ℕ) × (v.Makes texts text ⊎ ((stop : v.Stop) × v.Stops texts text stop))
+    × WritesText status.WriteFault text out out' faults faults' err err' told told'
+Streams v texts status.NoMemory out out' faults faults' err err' told told' = (out' ≡ out) × Tells err err' told told' (message_line message.NoMemory)
+Streams v texts _ out out' faults faults' err err' told told' = ⊥
 
 -- how a run ended is told, where it did not come to the horizon
 abbrev pub TellsEnding : {E : Type 0} → Result Ending E → Status → Option (List ℕ) → Option (List ℕ) → ℕ → ℕ → Type 0

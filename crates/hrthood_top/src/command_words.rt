@@ -1,6 +1,14 @@
-ghost use Rattle.std.specs.Prelude.{◌≡◌, ◌≤◌, map, IfSome, MatchOption, None, Some, string_bytes};
+ghost use Rattle.std.specs.Prelude.{◌≡◌, ◌≤◌, map, IfSome, IfOk, MatchOption, None, Some, Err, string_bytes, is_some, true, codes, ◌⊎◌};
+ghost use Rattle.clap.specs.Words.{first_value, found_of, subcommand_rows_of};
 ghost use Rattle.hrthood_top.specs.Words.{arrivals_command, command_of, design_command, is_file_name, sample_command, sample_size, thread_count};
 ghost use Rattle.hrthood_top.specs.Commands.{HasFewThreads, command_tree};
+ghost use Rattle.hrthood_top.specs.Parsing.{are_plain, asks_help, found_command, has_flags, word_command, words_command};
+ghost use Rattle.hrthood_top.specs.Reading.{ReadsAs};
+
+use crate::parsing::parse;
+use clap::ArgMatches;
+use clap::error::ErrorKind;
+use std::alloc::Global;
 
 /// What is to be done, with the names of files or a count of threads, from 1 to 30.
 #[derive(Clone, Copy)]
@@ -19,6 +27,15 @@ pub(crate) enum Command<'a> {
     Verify { design: &'a str, arrivals: &'a str },
     /// Make the sample of so many threads, verify it and sum up its run.
     Sample { threads: u32 },
+}
+
+/// Why no command is read.
+#[derive(Clone, Copy)]
+pub(crate) enum Unread {
+    /// The words are no command.
+    NoCommand,
+    /// Memory was wanted to read a command.
+    NoMemory,
 }
 
 /// Whether a word may name a file: it isn't empty and doesn't begin with a dash.
@@ -107,19 +124,105 @@ fn sample_command<'a>(count: &str) -> Option<Command<'a>>
     Some(Command::Sample { threads })
 }
 
-/// The command that the words are, where they are one.
-pub(crate) fn read_words(words: &[String]) -> Option<Command<'_>>
-    ensures command { MatchOption result (command_of (map string_bytes words.entry.now) ≡ None)
-        (λ c. command_of (map string_bytes words.entry.now) ≡ Some (command_tree c)) }
+/// The command that a verb with one word is, where it is one.
+fn word_command<'a>(verb: &str, word: &'a str) -> Option<Command<'a>>
+    ensures command { MatchOption result (word_command verb.now word.entry.now ≡ None)
+        (λ c. word_command verb.now word.entry.now ≡ Some (command_tree c)) }
     ensures few { IfSome result HasFewThreads }
 {
-    match words {
-        [verb, count] if verb.as_str() == "sample" => sample_command(count.as_str()),
-        [verb, design] if is_file_name(design.as_str()) => {
-            design_command(verb.as_str(), design.as_str())
+    if verb == "sample" {
+        sample_command(word)
+    } else {
+        design_command(verb, word)
+    }
+}
+
+/// The command that a verb is with what the parser found of its words, where it is one.
+fn words_command<'a>(verb: &str, words: &ArgMatches<'a>) -> Option<Command<'a>>
+    ensures command { MatchOption result (words_command verb.now (first_value (found_of words.now) (codes "first")) (first_value (found_of words.now) (codes "second")) ≡ None)
+        (λ c. words_command verb.now (first_value (found_of words.now) (codes "first")) (first_value (found_of words.now) (codes "second")) ≡ Some (command_tree c)) }
+    ensures few { IfSome result HasFewThreads }
+{
+    let first = words.get_str("first")?;
+    match words.get_str("second") {
+        Some(second) => arrivals_command(verb, first, second),
+        None => word_command(verb, first),
+    }
+}
+
+/// The command that the parser found, where it is one.
+fn found_command<'a>(matches: &ArgMatches<'a>) -> Option<Command<'a>>
+    ensures command { MatchOption result (found_command (subcommand_rows_of matches.now) ≡ None)
+        (λ c. found_command (subcommand_rows_of matches.now) ≡ Some (command_tree c)) }
+    ensures few { IfSome result HasFewThreads }
+{
+    let (verb, words) = matches.subcommand()?;
+    words_command(verb, words)
+}
+
+/// Whether a word is empty or begins with a dash.
+fn has_flags(words: &[String]) -> bool
+    ensures { result ≡ has_flags (map string_bytes words.now) }
+{
+    'words: for word in words {
+        if !is_file_name(word.as_str()) {
+            return true;
         }
-        [verb, file, arrivals] if is_file_name(file.as_str()) && is_file_name(arrivals.as_str()) =>
-            { arrivals_command(verb.as_str(), file.as_str(), arrivals.as_str()) }
-        _ => None,
+    }
+    false
+}
+
+/// Whether the first word asks for help.
+fn asks_help(words: &[String]) -> bool
+    ensures { result ≡ asks_help (map string_bytes words.now) }
+{
+    match words.first() {
+        Some(verb) => verb.as_str() == "help",
+        None => false,
+    }
+}
+
+/// Whether plain words are a command; it takes no memory.
+fn is_command(words: &[String]) -> bool
+    requires { are_plain (map string_bytes words.now) ≡ true }
+    ensures { result ≡ is_some (command_of (map string_bytes words.now)) }
+{
+    match words {
+        [verb, word] => word_command(verb.as_str(), word.as_str()).is_some(),
+        [verb, file, arrivals] => {
+            arrivals_command(verb.as_str(), file.as_str(), arrivals.as_str()).is_some()
+        }
+        _ => false,
+    }
+}
+
+/// Why plain words are not read: memory was wanted for a command, or they are none.
+fn why_unread(kind: ErrorKind, words: &[String]) -> Unread
+    requires plain { are_plain (map string_bytes words.now) ≡ true }
+    requires cause { (kind ≡ ErrorKind.OutOfMemory) ⊎ (command_of (map string_bytes words.now) ≡ None) }
+    ensures { ReadsAs (Err result) (command_of (map string_bytes words.now)) }
+{
+    if kind != ErrorKind::OutOfMemory {
+        return Unread::NoCommand;
+    }
+    // Words that are no command are told so, though memory was wanted.
+    if is_command(words) {
+        Unread::NoMemory
+    } else {
+        Unread::NoCommand
+    }
+}
+
+/// The command that the words are, where they are one.
+pub(crate) fn read_words<'a>(alloc: Global, words: &'a [String]) -> Result<Command<'a>, Unread>
+    ensures command { ReadsAs result (command_of (map string_bytes words.entry.now)) }
+    ensures few { IfOk result HasFewThreads }
+{
+    if has_flags(words) || asks_help(words) {
+        return Err(Unread::NoCommand);
+    }
+    match parse(alloc, words) {
+        Ok(matches) => found_command(&matches).ok_or(Unread::NoCommand),
+        Err(fault) => Err(why_unread(fault.kind(), words)),
     }
 }

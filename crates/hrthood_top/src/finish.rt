@@ -72,7 +72,7 @@ pub(crate) fn finish<R: Line + Drop, O: Sink, E: Sink>(
     err: &mut E,
     made: Result<Vec<u8>, Halt<R>>,
 ) -> Status
-    ensures { Finishes (λ v. v.items) R.line made result (O.written out.old) (O.written out.new) (O.faults out.old) (O.faults out.new)
+    ensures { Finishes (λ v. v.items) (TellsHalt R.line) made result (O.written out.old) (O.written out.new) (O.faults out.old) (O.faults out.new)
         (E.written err.old) (E.written err.new) (E.faults err.old) (E.faults err.new) }
 {
     match made {

@@ -21,6 +21,7 @@ mod halt;
 mod line;
 mod message;
 mod page;
+mod parsing;
 mod refusals;
 mod replay;
 mod report;

@@ -6,7 +6,7 @@ ghost use Rattle.ada_tree.specs.Trees.{program_of};
 ghost use Rattle.hrthood_top.specs.Ends.{EndsVerb, outside};
 ghost use Rattle.hrthood_top.specs.Fetches.{texts_of};
 ghost use Rattle.hrthood_top.specs.Replays.{replays, replay_line, ReadsAda, ReadsArrivals};
-ghost use Rattle.hrthood_top.specs.Writing.{Streams, course};
+ghost use Rattle.hrthood_top.specs.Writing.{Streams};
 
 use crate::ada_lines::put_unit;
 use crate::arrival_lines::put_arrivals;
@@ -94,7 +94,7 @@ fn read_under(
 /// Replays an Ada text under an arrivals text, whatever the names of their files: nothing is written before both are read and the run can
 /// begin, and then each line as its event comes.
 fn replay_texts<O: Sink, E: Sink>(alloc: Global, texts: &Texts, out: &mut O, err: &mut E) -> Status
-    ensures { (ada arrivals : List ℕ) → Streams (course (replays ada arrivals) (texts_of texts.now)) result
+    ensures { (ada arrivals : List ℕ) → Streams (replays ada arrivals) (texts_of texts.now) result
         (O.written out.old) (O.written out.new) (O.faults out.old) (O.faults out.new)
         (E.written err.old) (E.written err.new) (E.faults err.old) (E.faults err.new) }
 {

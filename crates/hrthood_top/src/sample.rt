@@ -13,7 +13,8 @@ ghost use Rattle.trace_tree.specs.declared.event.Event.{Event as Happening};
 ghost use Rattle.hrthood_top.specs.Ends.{EndsVerb, outside};
 ghost use Rattle.hrthood_top.specs.Generates.{CanGenerate};
 ghost use Rattle.hrthood_top.specs.Replays.{SaysArrivals};
-ghost use Rattle.hrthood_top.specs.Samples.{FinishesText, IsSummed, SummaryEnds, samples};
+ghost use Rattle.hrthood_top.specs.Samples.{IsSummed, SummaryEnds, samples};
+ghost use Rattle.hrthood_top.specs.Writing.{Finishes, TellsMemory};
 
 use crate::finish::{tell_no_memory, tell_written};
 use crate::status::Status;
@@ -116,7 +117,7 @@ fn finish_text<O: Sink, E: Sink>(
     err: &mut E,
     made: Result<Vec<u8>, NoMemory>,
 ) -> Status
-    ensures { FinishesText (λ v. v.items) made result (O.written out.old) (O.written out.new) (O.faults out.old) (O.faults out.new)
+    ensures { Finishes (λ v. v.items) (λ e. TellsMemory) made result (O.written out.old) (O.written out.new) (O.faults out.old) (O.faults out.new)
         (E.written err.old) (E.written err.new) (E.faults err.old) (E.faults err.new) }
 {
     match made {

@@ -6,7 +6,8 @@ ghost use Rattle.hrthood_top.specs.Samples.{EndsSample};
 
 use crate::analyse::analyse;
 use crate::check::check;
-use crate::command_words::{Command, read_words};
+use crate::command_words::{Command, Unread, read_words};
+use crate::finish::tell_no_memory;
 use crate::format::format;
 use crate::generate::generate;
 use crate::line::tell;
@@ -19,6 +20,7 @@ use hood_io::{Shelf, Sink};
 use std::alloc::Global;
 
 /// Does a command, from its files to what is written.
+#[tactic(auto, using(crate::proofs::UnreadEnds::unread_ends))]
 fn run_command<F: Shelf, O: Sink, E: Sink>(
     alloc: Global,
     words: &[String],
@@ -31,9 +33,13 @@ fn run_command<F: Shelf, O: Sink, E: Sink>(
         (outside (F.told shelf.new) (F.faults shelf.new) (O.written out.new) (O.faults out.new) (E.written err.new) (E.faults err.new)) }
     ensures summed { EndsSample result (command_of (map string_bytes words.now)) (O.written out.old) (O.written out.new) }
 {
-    let Some(command) = read_words(words) else {
-        tell(err, &Message::Usage);
-        return Status::Usage;
+    let command = match read_words(alloc, words) {
+        Ok(command) => command,
+        Err(Unread::NoCommand) => {
+            tell(err, &Message::Usage);
+            return Status::Usage;
+        }
+        Err(Unread::NoMemory) => return tell_no_memory(err),
     };
     match command {
         Command::Check { design } => check(alloc, design, shelf, out, err),

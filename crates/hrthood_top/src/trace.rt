@@ -19,10 +19,11 @@ use seq_tree::Name;
 use trace_text::{LineBuf, line};
 use trace_tree::Event;
 
-/// Writes the lines of events of a program, through a page.
+/// Writes the lines of events of a program, each made in a buffer, through a page.
 fn put_lines<O: Sink>(
     program: &AdaProgram,
     events: &[Event],
+    buffer: &mut LineBuf,
     page: &mut Page,
     out: &mut O,
 ) -> Result<(), Failed>
@@ -30,9 +31,8 @@ fn put_lines<O: Sink>(
     ensures cause { HasCause (O.faults out.old) (O.faults out.new) result }
     ensures gathers { Gathers page.old (lines (program_of program.now) events.now) page.new (O.written out.old) (O.written out.new) result }
 {
-    let mut buffer = LineBuf::new();
     'events: for event in events {
-        line(program, event, &mut buffer);
+        line(program, event, buffer);
         page.put(buffer.bytes(), out)?;
     }
     Ok(())
@@ -104,10 +104,11 @@ pub(crate) fn put_trace<'a, O: Sink>(
 {
     let mut running = machine;
     let mut events = EventBuf::new();
+    let mut buffer = LineBuf::new();
     let mut page = Page::new();
     'turns: loop {
         let turn = running.advance(&mut events);
-        put_lines(program, events.events(), &mut page, out)?;
+        put_lines(program, events.events(), &mut buffer, &mut page, out)?;
         match turn {
             Turn::More => events.clear(),
             Turn::Horizon => return close(&mut page, out, Ending::Horizon),

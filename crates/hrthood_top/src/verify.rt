@@ -11,7 +11,7 @@ ghost use Rattle.hrthood_top.specs.Ends.{EndsVerb, outside};
 ghost use Rattle.hrthood_top.specs.Fetches.{texts_of};
 ghost use Rattle.hrthood_top.specs.Replays.{SaysProgram};
 ghost use Rattle.hrthood_top.specs.Verifies.{PutsBehind, halted_arrivals, halted_design, trace_mark, verifies, verify_line};
-ghost use Rattle.hrthood_top.specs.Writing.{Streams, course};
+ghost use Rattle.hrthood_top.specs.Writing.{Streams};
 
 use crate::arrival_lines::put_arrivals;
 use crate::fetch::{File, fetch_files};
@@ -111,7 +111,7 @@ fn put_verified<'a, O: Sink>(
 /// Verifies a design under an arrivals text, whatever the names of their files: nothing is written before its text is made and read, the arrivals
 /// are read, and the run can begin.
 fn verify_texts<O: Sink, E: Sink>(alloc: Global, texts: &Texts, out: &mut O, err: &mut E) -> Status
-    ensures { (design arrivals : List ℕ) → Streams (course (verifies design arrivals) (texts_of texts.now)) result
+    ensures { (design arrivals : List ℕ) → Streams (verifies design arrivals) (texts_of texts.now) result
         (O.written out.old) (O.written out.new) (O.faults out.old) (O.faults out.new)
         (E.written err.old) (E.written err.new) (E.faults err.old) (E.faults err.new) }
 {

@@ -7,7 +7,7 @@ use Rattle.hrthood_top.specs.declared.halt.Halt.TheVariants.{NoMemory}
 use Rattle.hrthood_top.specs.Fetches.{texts_of}
 use Rattle.hrthood_top.specs.Generates.{RefusesDesign}
 use Rattle.hrthood_top.specs.Verifies.{verifies}
-use Rattle.hrthood_top.specs.Writing.{IsMade, course}
+use Rattle.hrthood_top.specs.Writing.{IsMade}
 use Rattle.hrthood_top.proofs.Replayed.{texts-replayable}
 use Rattle.hrthood_top.proofs.ReplayLaws.{few-units}
 use Rattle.hrthood_top.proofs.Streamed.{streams-halted}
@@ -19,7 +19,7 @@ returns-in-Err g c = λ design arrivals.
     let d = c.args.texts.now.design.items in
     let M : List ℕ → Type 0 = λ z. IsMade (λ (v : Vec ℕ Global). v.items) (IsTextFor z) (RefusesDesign z) (Err c.in-Err.why) in
     let reason = made-halted (λ (v : Vec ℕ Global). v.items) (IsTextFor d) (RefusesDesign d) c.in-Err.why (subst M c.deref.ensures.value c.in-Err.ensures) in
-    streams-halted (course (verifies design arrivals) (texts_of c.args.texts.now)) c.design_halt.result _ _ _ _ _ _ _ _ _
+    streams-halted (verifies design arrivals) (texts_of c.args.texts.now) c.design_halt.result _ _ _ _ _ _ _ _ _
     (rw c.design_halt.ensures (design-halted d c.args.texts.now.arrivals.items c.in-Err.why reason)) refl c.tell_halt.ensures
 
 pub read_made-requires : goal.read_made-requires
@@ -30,12 +30,12 @@ read_arrivals-requires g c = let few = few-units (program_of c.in-Ok-read_made.p
 
 pub returns-in-Err-read_made : goal.returns-in-Err-read_made
 returns-in-Err-read_made g c = λ design arrivals.
-    streams-halted (course (verifies design arrivals) (texts_of c.args.texts.now)) NoMemory _ _ _ _ _ _ _ _ _ tt refl c.tell_halt-in-Err-read_made.ensures
+    streams-halted (verifies design arrivals) (texts_of c.args.texts.now) NoMemory _ _ _ _ _ _ _ _ _ tt refl c.tell_halt-in-Err-read_made.ensures
 
 pub returns-in-Err-read_arrivals : goal.returns-in-Err-read_arrivals
 returns-in-Err-read_arrivals g c = λ design arrivals.
     let S : List ℕ → Type 0 = λ z. Says z (program_of c.in-Ok-read_made.program) (Err c.in-Err-read_arrivals.fault) in
-    streams-halted (course (verifies design arrivals) (texts_of c.args.texts.now)) c.arrivals_halt.result _ _ _ _ _ _ _ _ _
+    streams-halted (verifies design arrivals) (texts_of c.args.texts.now) c.arrivals_halt.result _ _ _ _ _ _ _ _ _
     (rw c.arrivals_halt.ensures (arrivals-unsaid c.args.texts.now.design.items c.args.texts.now.arrivals.items c.in-Ok.text.items (program_of c.in-Ok-read_made.program) c.in-Err-read_arrivals.fault
     (rw c.deref.ensures.value at c.in-Ok.ensures) (rw c.deref-2.ensures.value at c.in-Ok-read_made.ensures.says) (subst S c.deref-3.ensures.value c.in-Err-read_arrivals.ensures.says)))
     refl c.tell_halt-in-Err-read_arrivals.ensures

@@ -1,0 +1,19 @@
+use Rattle.std.proofs.Common.{rules, ◌≡◌, ◌∙◌, map, string_bytes, true, ap}
+use Rattle.clap.specs.Words.{subcommand_rows_of}
+use Rattle.hrthood_top.specs.Words.{command_of}
+use Rattle.hrthood_top.specs.Parsing.{are_plain, found_command}
+use Rattle.hrthood_top.proofs.ParserCommands.{has_kind}
+use Rattle.hrthood_top.proofs.ParserLaws.{plain-reads}
+use Rattle.hrthood_top.proofs.WordsRead.{read-found}
+use Rattle.hrthood_top.proofs.command_words.read_words.Goals as goal
+
+pub why_unread-requires-clause-cause : goal.why_unread-requires-clause-cause
+why_unread-requires-clause-cause c =
+    let plain : are_plain (map string_bytes c.args.words.now) ≡ true = search rules in
+    rw c.kind.ensures (has_kind (map string_bytes c.args.words.now) c.in-Err.fault plain c.in-Err.ensures.kinds)
+
+pub returns-in-Ok-clause-command : goal.returns-in-Ok-clause-command
+returns-in-Ok-clause-command c =
+    let plain : are_plain (map string_bytes c.args.words.now) ≡ true = search rules in
+    read-found (command_of (map string_bytes c.args.words.now)) (found_command (subcommand_rows_of c.in-Ok.matches)) c.found_command.result c.ok_or.result c.ok_or.ensures.value
+    (ap found_command c.in-Ok.ensures.ok ∙ (plain-reads (map string_bytes c.args.words.now) plain).0 c.in-Ok.ensures.kinds) c.found_command.ensures.command

@@ -2,7 +2,6 @@
 use Rattle.std.proofs.Common.{◌≡◌, ℕ, ◌+◌, ◌-◌, List, [], ◌∷◌, ◌++◌, length, take, drop, refl, ap, sym, subst, ◌∙◌, true, false, Option, Some, None, arith, length-append}
 use Rattle.std.proofs.lemmas.List.{length-map}
 use Rattle.std.specs.Borrow.{Bor}
-use Rattle.std.proofs.Math.Seq.{take-append_seam}
 use Rattle.seq_tree.specs.Names.{Name, are_distinct, same_name}
 use Rattle.seq_tree.specs.Variables.{Variables, kept, write, stored}
 use Rattle.seq_tree.specs.declared.tree.Stmt.{Stmt}
@@ -148,10 +147,6 @@ pub names-stored : (names : List Name) (values : List ℕ) (vs : Variables) → 
 names-stored [] values vs = refl
 names-stored (n ∷ ns) [] vs = refl
 names-stored (n ∷ ns) (v ∷ values) vs = names-stored ns values (write n v vs) ∙ names-write n v vs
-
--- what is written to all of a list
-pub whole-slice : (n : ℕ) (xs ys : List Var) → n ≡ length xs → take n (xs ++ ys) ≡ xs
-whole-slice n xs ys e = ap (λ k. take k (xs ++ ys)) e ∙ take-append_seam xs ys
 
 -- a first piece of this form
 pub first-at : (t : Thread) (p q : Piece) (vs : Variables) (fs : List Frame) → IsFirst t (Some p) vs fs → p ≡ q → IsFirst t (Some q) vs fs

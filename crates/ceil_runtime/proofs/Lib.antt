@@ -1,5 +1,6 @@
 pub mod Blocks
 pub mod Stacks
+pub mod Chained
 pub mod Frames
 pub mod Firsts
 pub mod Calls
@@ -32,6 +33,7 @@ pub mod Placed
 pub mod Falling
 pub mod Examples
 pub mod ExamplesCalls
+pub mod ExamplesChains
 pub mod Stepped
 pub mod ObjectsFound
 pub mod Sectioned

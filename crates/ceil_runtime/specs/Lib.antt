@@ -1,4 +1,5 @@
 pub mod Stacked
+pub mod Chains
 pub mod Callable
 pub mod Progresses
 pub mod Fitting

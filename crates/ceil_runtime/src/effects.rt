@@ -17,7 +17,7 @@ use crate::callable::{Callee, find_callee};
 use crate::params::{hand_in, hand_out, open_data, open_params, request_value, store};
 use crate::piece::{Call, Entry, Frame, Piece, Request, Round};
 use crate::stack::Stack;
-use crate::values::{Var, value_of, write};
+use crate::values::{Var, value_of};
 use seq_tree::{Arm, Block, Expr, Name, OpText};
 use trace_tree::Values;
 
@@ -103,7 +103,7 @@ impl<'a> Stack<'a> {
         ensures vars { vars_of self.new.vars.items ≡ vars_of self.old.vars.items }
         ensures thread { self.new.thread ≡ self.old.thread }
     {
-        if value_of(&arm.cond, self.vars.as_slice()) == 1 {
+        if value_of(&arm.cond, &self.vars) == 1 {
             self.enter(arm.block.stmts.as_slice())
         } else {
             self.otherwise(arms, other)
@@ -161,7 +161,7 @@ impl<'a> Stack<'a> {
         ensures vars { vars_of self.new.vars.items ≡ (if holds (expression_of condition.now) (vars_of self.old.vars.items) then drop 1 (vars_of self.old.vars.items) else vars_of self.old.vars.items) }
         ensures thread { self.new.thread ≡ self.old.thread }
     {
-        if value_of(condition, self.vars.as_slice()) == 1 {
+        if value_of(condition, &self.vars) == 1 {
             self.leave_loop();
             self.next_piece()
         } else {
@@ -237,7 +237,7 @@ impl<'a> Stack<'a> {
             &mut values,
             call.op.sig.params.as_slice(),
             call.actuals,
-            self.vars.as_slice(),
+            &self.vars,
         );
         self.put_vars_away();
         self.push_frame(Frame::Return(call));
@@ -265,7 +265,7 @@ impl<'a> Stack<'a> {
                 act: Act::Ask(task),
                 next: Some(Piece::Keeping(Request {
                     task,
-                    value: request_value(actuals, self.vars.as_slice()),
+                    value: request_value(actuals, &self.vars),
                 })),
             },
             Some(Callee::Protected { .. }) => unreachable!(),
@@ -284,7 +284,7 @@ impl<'a> Stack<'a> {
         self.vars.clear();
         self.take_vars_back();
         store(
-            self.vars.as_mut_slice(),
+            &mut self.vars,
             call.op.sig.params.as_slice(),
             call.actuals,
             values,
@@ -305,7 +305,7 @@ impl<'a> Stack<'a> {
         hand_out(
             &mut values,
             call.op.sig.params.as_slice(),
-            self.vars.as_slice(),
+            &self.vars,
         );
         self.hand_back(call, values.as_slice())
     }
@@ -324,8 +324,8 @@ impl<'a> Stack<'a> {
         match piece {
             Piece::Idle => silent(self.next_piece()),
             Piece::Store { target, value } => {
-                let value = value_of(value, self.vars.as_slice());
-                write(self.vars.as_mut_slice(), target, value);
+                let value = value_of(value, &self.vars);
+                self.vars.write(target, value);
                 silent(self.next_piece())
             }
             Piece::Leaving(condition) => silent(self.leave(condition)),
@@ -336,7 +336,7 @@ impl<'a> Stack<'a> {
             } => self.call_outside(object, op, actuals),
             Piece::Working(_) => silent(self.next_piece()),
             Piece::Printing(value) => {
-                let value = value_of(value, self.vars.as_slice());
+                let value = value_of(value, &self.vars);
                 Moved {
                     act: Act::Print(value),
                     next: self.next_piece(),

@@ -102,7 +102,7 @@ impl<'a> Stack<'a> {
             &mut values,
             call.op.sig.params.as_slice(),
             call.actuals,
-            self.vars.as_slice(),
+            &self.vars,
         );
         self.put_vars_away();
         self.push_frame(Frame::Close(entry, data.len()));
@@ -127,9 +127,9 @@ impl<'a> Stack<'a> {
         hand_out(
             &mut values,
             entry.call.op.sig.params.as_slice(),
-            self.vars.as_slice(),
+            &self.vars,
         );
-        keep_data(data, entry.data, self.vars.as_slice());
+        keep_data(data, entry.data, &self.vars);
         let next = self.hand_back(entry.call, values.as_slice());
         Crossed { values, next }
     }

@@ -22,6 +22,7 @@ mod stack;
 mod task;
 mod thread;
 mod values;
+mod vars;
 
 pub use buffer::EventBuf;
 pub use law::one_meaning;

@@ -1,13 +1,32 @@
-ghost use Rattle.std.specs.Prelude.{◌≡◌, ◌<◌, ◌^◌, length, map, vec_len, vec_capacity, IfOk};
+ghost use Rattle.std.specs.Prelude.{◌≡◌, ◌+◌, ◌++◌, ◌≤◌, ◌<◌, ◌^◌, length, map, vec_len, vec_capacity, IfOk};
+ghost use Rattle.seq_tree.specs.Variables.{written};
+ghost use Rattle.ceil_runtime.specs.Stacked.{vars_of};
 ghost use Rattle.ada_tree.specs.Trees.{unit_of};
 ghost use Rattle.ceil_runtime.specs.Libraries.{objects_from};
 ghost use Rattle.ceil_runtime.specs.Objects.{AddsObject, first_object, shown};
 
 use crate::object::Object;
-use crate::params::open_data;
+use crate::values::Var;
 use ada_tree::{Form, Unit};
-use seq_tree::NoMemory;
+use seq_tree::{Datum, NoMemory};
 use std::alloc::Global;
+
+/// Adds the data of an object at their written values.
+fn fill_data<'a>(vars: &mut Vec<Var<'a>>, data: &'a [Datum])
+    requires { vec_len vars.old + length «data».now ≤ vec_capacity vars.old }
+    ensures vars { vars_of vars.new.items ≡ written «data».entry.now ++ vars_of vars.old.items }
+    ensures len { vec_len vars.new ≡ vec_len vars.old + length «data».entry.now }
+    ensures room { vec_capacity vars.new ≡ vec_capacity vars.old }
+{
+    let mut at = data.len();
+    'data: while at > 0 {
+        at -= 1;
+        vars.push_reserved(Var {
+            name: &data[at].name,
+            value: data[at].value,
+        });
+    }
+}
 
 /// Adds the protected object of a unit, where it is one, with its data as they are written. The one error is a failed allocation, or
 /// an object with more operations than an event has places for.
@@ -28,7 +47,7 @@ fn add_object<'a>(
             }
             let written = vars.as_slice();
             let mut data = Vec::with_capacity(alloc, written.len())?;
-            open_data(&mut data, written);
+            fill_data(&mut data, written);
             objects.push_reserved(Object {
                 unit: place,
                 ceiling: *ceiling,

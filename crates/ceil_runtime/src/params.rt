@@ -11,14 +11,15 @@ ghost use Rattle.ceil_runtime.specs.Stacked.{vars_of};
 ghost use Rattle.ceil_runtime.specs.Written.{timing_of};
 
 use crate::thread::Timing;
-use crate::values::{Var, read, value_of, write};
+use crate::values::{Var, read, value_of};
+use crate::vars::Vars;
 use seq_tree::{Datum, Expr, Mode, Name, Param};
 use trace_tree::Values;
 
 /// Adds the values of the actuals that are handed in, in order.
-pub fn hand_in(values: &mut Values, params: &[Param], actuals: &[Expr], vars: &[Var])
+pub fn hand_in(values: &mut Values, params: &[Param], actuals: &[Expr], vars: &Vars)
     requires { length values.old + length params.now ≤ 8 }
-    ensures { values.new ≡ values.old ++ handed params.now (map expression_of actuals.now) (vars_of vars.now) }
+    ensures { values.new ≡ values.old ++ handed params.now (map expression_of actuals.now) (vars_of vars.now.items) }
 {
     let Some((param, params)) = params.split_first() else {
         return;
@@ -36,9 +37,9 @@ pub fn hand_in(values: &mut Values, params: &[Param], actuals: &[Expr], vars: &[
 }
 
 /// Adds the values of the parameters that are handed out, in order.
-pub fn hand_out(values: &mut Values, params: &[Param], vars: &[Var])
+pub fn hand_out(values: &mut Values, params: &[Param], vars: &Vars)
     requires { length values.old + length params.now ≤ 8 }
-    ensures { values.new ≡ values.old ++ reads (out_names params.now) (vars_of vars.now) }
+    ensures { values.new ≡ values.old ++ reads (out_names params.now) (vars_of vars.now.items) }
 {
     let Some((param, params)) = params.split_first() else {
         return;
@@ -69,8 +70,10 @@ fn target<'a>(param: &Param, actual: &'a Expr) -> Option<&'a Name>
 }
 
 /// Stores values in the actuals that are handed out, in order.
-pub fn store(vars: &mut [Var], params: &[Param], actuals: &[Expr], values: &[u32])
-    ensures { vars_of vars.new ≡ stored (targets params.now (map expression_of actuals.now)) values.now (vars_of vars.old) }
+pub fn store(vars: &mut Vars, params: &[Param], actuals: &[Expr], values: &[u32])
+    ensures vars { vars_of vars.new.items ≡ stored (targets params.now (map expression_of actuals.now)) values.now (vars_of vars.old.items) }
+    ensures len { vec_len vars.new ≡ vec_len vars.old }
+    ensures capacity { vec_capacity vars.new ≡ vec_capacity vars.old }
 {
     let Some((param, params)) = params.split_first() else {
         return;
@@ -85,12 +88,12 @@ pub fn store(vars: &mut [Var], params: &[Param], actuals: &[Expr], values: &[u32
     let Some((value, values)) = values.split_first() else {
         return;
     };
-    write(vars, name, *value);
+    vars.write(name, *value);
     store(vars, params, actuals, values);
 }
 
 /// Adds parameters with the values handed in, and 0 for those that are handed out.
-pub fn open_params<'a>(vars: &mut Vec<Var<'a>>, params: &'a [Param], values: &[u32])
+pub fn open_params<'a>(vars: &mut Vars<'a>, params: &'a [Param], values: &[u32])
     requires { vec_len vars.old + length params.now ≤ vec_capacity vars.old }
     ensures vars { vars_of vars.new.items ≡ entered params.entry.now values.now ++ vars_of vars.old.items }
     ensures len { vec_len vars.new ≡ vec_len vars.old + length params.entry.now }
@@ -127,7 +130,7 @@ pub fn open_params<'a>(vars: &mut Vec<Var<'a>>, params: &'a [Param], values: &[u
 }
 
 /// Adds the parameter of a request, with the value that was requested, where there is one.
-pub fn open_request<'a>(vars: &mut Vec<Var<'a>>, timing: Timing<'a>, value: Option<u32>)
+pub fn open_request<'a>(vars: &mut Vars<'a>, timing: Timing<'a>, value: Option<u32>)
     requires { vec_len vars.old + length (request_params (timing_of timing)) ≤ vec_capacity vars.old }
     ensures vars { vars_of vars.new.items ≡ parameter (timing_of timing.entry) value ++ vars_of vars.old.items }
     ensures room { vec_capacity vars.new ≡ vec_capacity vars.old }
@@ -145,7 +148,7 @@ pub fn open_request<'a>(vars: &mut Vec<Var<'a>>, timing: Timing<'a>, value: Opti
 }
 
 /// Adds data or locals at their written values.
-pub fn open_data<'a>(vars: &mut Vec<Var<'a>>, data: &'a [Datum])
+pub fn open_data<'a>(vars: &mut Vars<'a>, data: &'a [Datum])
     requires { vec_len vars.old + length «data».now ≤ vec_capacity vars.old }
     ensures vars { vars_of vars.new.items ≡ written «data».entry.now ++ vars_of vars.old.items }
     ensures len { vec_len vars.new ≡ vec_len vars.old + length «data».entry.now }
@@ -162,15 +165,15 @@ pub fn open_data<'a>(vars: &mut Vec<Var<'a>>, data: &'a [Datum])
 }
 
 /// The value of a request, where it has one.
-pub fn request_value(actuals: &[Expr], vars: &[Var]) -> Option<u32>
-    ensures { result ≡ request_value (map expression_of actuals.now) (vars_of vars.now) }
+pub fn request_value(actuals: &[Expr], vars: &Vars) -> Option<u32>
+    ensures { result ≡ request_value (map expression_of actuals.now) (vars_of vars.now.items) }
 {
     let (actual, _) = actuals.split_first()?;
     Some(value_of(actual, vars))
 }
 
 /// Moves variables to the end of others, in order.
-pub fn move_vars<'a>(vars: &mut Vec<Var<'a>>, from: &mut Vec<Var<'a>>)
+pub fn move_vars<'a>(vars: &mut Vars<'a>, from: &mut Vec<Var<'a>>)
     requires { vec_len vars.old + vec_len from.old ≤ vec_capacity vars.old }
     ensures vars { vars.new.items ≡ vars.old.items ++ from.old.items }
     ensures len { vec_len vars.new ≡ vec_len vars.old + vec_len from.old }
@@ -185,9 +188,9 @@ pub fn move_vars<'a>(vars: &mut Vec<Var<'a>>, from: &mut Vec<Var<'a>>)
 }
 
 /// Puts these data, with the values that they have among some variables, in place of what is kept.
-pub fn keep_data<'a>(into: &mut Vec<Var<'a>>, data: &'a [Datum], vars: &[Var])
+pub fn keep_data<'a>(into: &mut Vec<Var<'a>>, data: &'a [Datum], vars: &Vars)
     requires { length «data».now ≤ vec_capacity into.old }
-    ensures kept { vars_of into.new.items ≡ kept «data».entry.now (vars_of vars.now) }
+    ensures kept { vars_of into.new.items ≡ kept «data».entry.now (vars_of vars.now.items) }
     ensures room { vec_capacity into.new ≡ vec_capacity into.old }
 {
     into.clear();

@@ -17,7 +17,7 @@ use crate::callable::calls_room;
 use crate::params::{open_data, open_request};
 use crate::piece::{Frame, Piece, first_piece};
 use crate::thread::{Thread, params_len};
-use crate::values::Var;
+use crate::vars::Vars;
 use seq_tree::{NoMemory, Stmt};
 use smallvec::SmallVec;
 use std::alloc::Global;
@@ -27,7 +27,7 @@ use std::alloc::Global;
 #[derive(Drop)]
 pub struct Stack<'a> {
     pub thread: Thread<'a>,
-    pub vars: Vec<Var<'a>>,
+    pub vars: Vars<'a>,
     pub frames: SmallVec<Frame<'a>, 16>,
     ghost block: { FitsBlock (above (block_place thread).spot) (block_of_thread thread) } by { fits-block-prop (above (block_place thread).spot) (block_of_thread thread) },
     ghost calls: { CanCall (system_of thread) } by { can-call-prop (system_of thread) },
@@ -77,7 +77,7 @@ impl<'a> Stack<'a> {
         ensures frames { IfOk result (λ s. s.frames.items ≡ []) }
     {
         let room = room_of(thread).ok_or(NoMemory)?;
-        let mut vars = Vec::with_capacity(alloc, room)?;
+        let mut vars = Vars::with_capacity(alloc, room)?;
         open_data(&mut vars, thread.data);
         let frames = SmallVec::with_capacity(alloc, room)?;
         Ok(Stack {

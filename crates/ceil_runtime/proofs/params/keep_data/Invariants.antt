@@ -8,7 +8,7 @@ abbrev pub invariant-data : goal.invariant-data
 invariant-data l = record {
   within : l.at ≤ length l.«data»;
   count : vec_len l.into + l.at ≡ length l.«data»;
-  vars : vars_of l.into.items ≡ kept (drop l.at l.«data») (vars_of l.vars);
+  vars : vars_of l.into.items ≡ kept (drop l.at l.«data») (vars_of l.vars.items);
   room : vec_capacity l.into ≡ vec_capacity l.fn.into;
 }
 

@@ -1,16 +1,13 @@
-use Rattle.std.proofs.Common.{arith, ap, ◌∙◌}
-use Rattle.seq_tree.specs.Variables.{write}
+use Rattle.std.proofs.Common.{ap, ◌∙◌}
 use Rattle.ceil_runtime.specs.Stacked.{vars_of}
 use Rattle.ceil_runtime.specs.Fitting.{names_of}
-use Rattle.ceil_runtime.proofs.Firsts.{first-ended, first-at, kept-ended, names-write, whole-slice}
+use Rattle.ceil_runtime.proofs.Firsts.{first-ended, first-at, kept-ended, names-write}
 use Rattle.ceil_runtime.proofs.stack.Stack.take_effect.Goals as goal
 
 pub next_piece-requires-in-Store-clause-names : goal.next_piece-requires-in-Store-clause-names
 next_piece-requires-in-Store-clause-names c =
     let s = c.args.self.now in
-    ap (λ vs. names_of (vars_of vs)) (whole-slice s.vars.len c.write.new.vars _ (omega (arith, s.vars.ok, c.write.auto.vars, c.as_mut_slice.ensures.len)))
-    ∙ ap names_of c.write.ensures ∙ ap (λ vs. names_of (write c.in-Store.target.now c.value_of-value.result (vars_of vs))) c.as_mut_slice.ensures.value
-    ∙ names-write c.in-Store.target.now c.value_of-value.result (vars_of s.vars.items) ∙ (first-at _ _ _ _ _ c.requires.first c.in-Store.is).named
+    ap names_of c.write.ensures.vars ∙ names-write c.in-Store.target.now c.value_of-value.result (vars_of s.vars.items) ∙ (first-at _ _ _ _ _ c.requires.first c.in-Store.is).named
 
 pub returns-in-Finishing-clause-keeps : goal.returns-in-Finishing-clause-keeps
 returns-in-Finishing-clause-keeps c =

@@ -11,6 +11,7 @@ pub mod Rooms
 pub mod Doings
 pub mod CallLaws
 pub mod Targets
+pub mod CalleeSteps
 pub mod Leading
 pub mod Alike
 pub mod Sections
@@ -32,6 +33,7 @@ pub mod Placed
 pub mod Falling
 pub mod Examples
 pub mod ExamplesCalls
+pub mod ExamplesCallees
 pub mod Stepped
 pub mod ObjectsFound
 pub mod Sectioned

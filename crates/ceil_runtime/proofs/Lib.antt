@@ -12,6 +12,7 @@ pub mod Rooms
 pub mod Doings
 pub mod CallLaws
 pub mod Targets
+pub mod CalleeSteps
 pub mod Leading
 pub mod Alike
 pub mod Sections
@@ -34,6 +35,7 @@ pub mod Falling
 pub mod Examples
 pub mod ExamplesCalls
 pub mod ExamplesChains
+pub mod ExamplesCallees
 pub mod Stepped
 pub mod ObjectsFound
 pub mod Sectioned

@@ -142,7 +142,7 @@ module _ (m : Machine) (i : ℕ) (whole : IsWhole m) (phase : m.phase ≡ Effect
     gate-step =
         let system_is = changed-system tasks' m'.tasks.items k u u' f c m.until m.costs m.units.now ∙ system-after m tasks' i t t' _ gate_changed in
         let most : ℕ = most_ends requests_in in
-        let enough : reserve t.progress.stack.thread ≤ most = reserve-most m.until m.time m.costs m.units.now m.tasks.items i t here (whole.kept i t here).units in
+        let enough : reserve t.progress.stack.thread ≤ most = reserve-most m.until m.time m.costs m.units.now m.tasks.items i t here (whole.sound.kept i t here).units in
         let fall = falls most enough in
         let less = fewer-effects most _ (map task_of m.tasks.items) (map task_of m'.tasks.items) i (task_of t) gate_here.0 (ap most_ends system_is) requests_at gate_here.1 due
         (fall.0, λ none. subst (λ ps. effort most ps < effort most (task_of t).pieces) (sym gate_here.3) (fall.1 (sym gate_here.4 ∙ none))) in
@@ -215,7 +215,7 @@ module _ (m : Machine) (i : ℕ) (whole : IsWhole m) (phase : m.phase ≡ Effect
     answer-step =
         let system_is = changed-system tasks' m'.tasks.items k u u' _ c m.until m.costs m.units.now ∙ system-after m tasks' i t t' _ answer_changed in
         let most : ℕ = most_ends requests_in in
-        let enough : reserve t.progress.stack.thread ≤ most = reserve-most m.until m.time m.costs m.units.now m.tasks.items i t here (whole.kept i t here).units in
+        let enough : reserve t.progress.stack.thread ≤ most = reserve-most m.until m.time m.costs m.units.now m.tasks.items i t here (whole.sound.kept i t here).units in
         let less = fewer-effects most _ (map task_of m.tasks.items) (map task_of m'.tasks.items) i (task_of t) (task_of t') (ap most_ends system_is) requests_at answer_here due (falls most enough) in
         let sleep = sleepers-sum m.tasks.items tasks' i t t' _ answer_changed m.until m.costs m.units.now in
         let sleep' = sleepers-sum tasks' m'.tasks.items k u u' _ c m.until m.costs m.units.now in

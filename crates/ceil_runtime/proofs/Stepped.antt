@@ -15,6 +15,9 @@ use Rattle.link_queue.specs.Queues.{Entry, Queues, at_head, at_tail}
 use Rattle.machine.specs.Dispatch.{put_last}
 use Rattle.dispatching.specs.Queueing.{places}
 use Rattle.dispatching.specs.Renumbering.{DifferInOrders}
+use Rattle.ada_tree.specs.Trees.{unit_of}
+use Rattle.ceil_runtime.specs.Called.{AreCallees, AreCalleesOf}
+use Rattle.ceil_runtime.specs.Libraries.{system_from}
 use Rattle.ceil_runtime.specs.Doing.{act_of}
 use Rattle.ceil_runtime.specs.Effort.{most_ends}
 use Rattle.ceil_runtime.specs.Readies.{readiness_of}
@@ -44,15 +47,26 @@ pub record IsBeside (m m' : Machine) (p : Phase) : Type 0 where
   pub until : m'.until ≡ m.until
   pub costs : m'.costs ≡ m.costs
   pub units : m'.units.now ≡ m.units.now
+  pub callees : m'.callees ≡ m.callees
   pub arrivals : m'.arrivals.now ≡ m.arrivals.now
   pub time : m'.time ≡ m.time
   pub ran : m'.ran ≡ m.ran
   pub stopped : m'.stopped ≡ m.stopped
   pub phase : m'.phase ≡ p
 
+-- its calls lead to what they led to
+callees-beside : (m m' : Machine) (p : Phase) → IsBeside m m' p → AreCalleesOf m.callees m.units.now → AreCalleesOf m'.callees m'.units.now
+callees-beside m m' p b h = subst (λ t. AreCalleesOf t m'.units.now) (sym b.callees) (subst (AreCalleesOf m.callees) (sym b.units) h)
+
+-- so do the calls of each of its tasks
+pub task-callees : (m : Machine) (i : ℕ) (t : Task) → IsWhole m → slice_get m.tasks.items i ≡ Some t → AreCallees m.callees (system_of t.progress.stack.thread)
+task-callees m i t whole here =
+    subst (λ us. AreCallees m.callees (system_from t.progress.stack.thread.work.now (map unit_of us))) (sym (whole.sound.kept i t here).units)
+    (whole.callees t.progress.stack.thread.work.now)
+
 module _ (m : Machine) (i : ℕ) (whole : IsWhole m) (phase : m.phase ≡ Effects (Some i)) (on : m.stopped ≡ false) where
   whole_here : IsSound m.until m.time (Effects (Some i)) m.ran m.units.now m.tasks.items m.links
-  whole_here = subst (λ (p : Phase). IsSound m.until m.time p m.ran m.units.now m.tasks.items m.links) phase whole
+  whole_here = subst (λ (p : Phase). IsSound m.until m.time p m.ran m.units.now m.tasks.items m.links) phase whole.sound
 
   pub running-sound : IsSound m.until m.time (Effects (Some i)) (Some i) m.units.now m.tasks.items m.links
   running-sound = subst (λ (r : Option ℕ). IsSound m.until m.time (Effects (Some i)) r m.units.now m.tasks.items m.links) whole_here.here.0 whole_here
@@ -84,12 +98,15 @@ module _ (m : Machine) (i : ℕ) (whole : IsWhole m) (phase : m.phase ≡ Effect
         ∙ ap (λ n. state_by (stores_of m') m.arrivals.now m.time p (Some i) n m'.tasks.items m'.links.ready) on-still
 
     pub whole-after : IsSound m.until m.time p (Some i) m.units.now m'.tasks.items m'.links → IsWhole m'
-    whole-after h =
-        subst (λ n. IsSound n m'.time m'.phase m'.ran m'.units.now m'.tasks.items m'.links) (sym b.until)
-        (subst (λ n. IsSound m.until n m'.phase m'.ran m'.units.now m'.tasks.items m'.links) (sym b.time)
-        (subst (λ n. IsSound m.until m.time n m'.ran m'.units.now m'.tasks.items m'.links) (sym b.phase)
-        (subst (λ n. IsSound m.until m.time p n m'.units.now m'.tasks.items m'.links) (sym (b.ran ∙ whole_here.here.0))
-        (subst (λ n. IsSound m.until m.time p (Some i) n m'.tasks.items m'.links) (sym b.units) h))))
+    whole-after h = record {
+      sound =
+          subst (λ n. IsSound n m'.time m'.phase m'.ran m'.units.now m'.tasks.items m'.links) (sym b.until)
+          (subst (λ n. IsSound m.until n m'.phase m'.ran m'.units.now m'.tasks.items m'.links) (sym b.time)
+          (subst (λ n. IsSound m.until m.time n m'.ran m'.units.now m'.tasks.items m'.links) (sym b.phase)
+          (subst (λ n. IsSound m.until m.time p n m'.units.now m'.tasks.items m'.links) (sym (b.ran ∙ whole_here.here.0))
+          (subst (λ n. IsSound m.until m.time p (Some i) n m'.tasks.items m'.links) (sym b.units) h))));
+      callees = callees-beside m m' p b whole.callees;
+    }
 
     pub follows-after : (told : Told) (s' : states.State) → run runs_in 1 shows ≡ (s', told_of told) → DifferInOrders s' (state_by (stores_of m') m.arrivals.now m.time p (Some i) false m'.tasks.items m'.links.ready) → (system_by m.until m.costs m.units.now m'.tasks.items) ≡ runs_in
         → Follows (running_of m) (told_of told) (running_of m')
@@ -172,7 +189,7 @@ pub fewer-after : (m : Machine) (i : ℕ) → IsWhole m → (tasks' : List Task)
     → ran_effort (most_ends (system_by m.until m.costs m.units.now tasks')) (map task_of tasks') (Some i) < ran_effort (most_ends (system_by m.until m.costs m.units.now m.tasks.items)) (map task_of m.tasks.items) (Some i)
 fewer-after m i whole tasks' t t' f c due falls =
     let most : ℕ = most_ends (system_by m.until m.costs m.units.now m.tasks.items) in
-    let enough : reserve t.progress.stack.thread ≤ most = reserve-most m.until m.time m.costs m.units.now m.tasks.items i t c.here (whole.kept i t c.here).units in
+    let enough : reserve t.progress.stack.thread ≤ most = reserve-most m.until m.time m.costs m.units.now m.tasks.items i t c.here (whole.sound.kept i t c.here).units in
     let now : slice_get tasks' i ≡ Some t' = ap (λ ts. slice_get ts i) c.set_is ∙ get-put m.tasks.items i t' (get_within i m.tasks.items t c.here) in
     fewer-effects most _ (map task_of m.tasks.items) (map task_of tasks') i (task_of t) (task_of t') (ap most_ends (system-after m tasks' i t t' f c)) (here-of m.tasks.items tasks' i t t' f c)
     (slice_get-map task_of tasks' i ∙ ap (option_map task_of) now) due (falls most enough)
@@ -274,7 +291,7 @@ module _ (m : Machine) (i : ℕ) (whole : IsWhole m) (phase : m.phase ≡ Effect
           let rests : sleeper (task_of t').readiness ≡ 0 = ap (λ r. sleeper (readiness_of r t'.next)) waits in
           let ready : sleeper (task_of t'').readiness ≡ 0 = ap (λ u. sleeper u.readiness) task ∙ ap sleeper (released-readiness m.costs (task_of t')) in
           let most : ℕ = most_ends (system_by m.until m.costs m.units.now m.tasks.items) in
-          let enough : reserve t.progress.stack.thread ≤ most = reserve-most m.until m.time m.costs m.units.now m.tasks.items i t here (whole.kept i t here).units in
+          let enough : reserve t.progress.stack.thread ≤ most = reserve-most m.until m.time m.costs m.units.now m.tasks.items i t here (whole.sound.kept i t here).units in
           let here'' : slice_get m'.tasks.items i ≡ Some t'' = ap (λ ts. slice_get ts i) again ∙ get-put tasks' i t'' (get_within i tasks' t' now.here) in
           let less = fewer-effects most _ (map task_of m.tasks.items) (map task_of m'.tasks.items) i (task_of t) (task_of t'') (ap most_ends system_is) (here-of m.tasks.items tasks' i t t' _ finish_changed)
           (slice_get-map task_of m'.tasks.items i ∙ ap (option_map task_of) here'') due ((falls most enough).0, λ none. absurd (nothing some none)) in
@@ -334,7 +351,7 @@ module _ (m : Machine) (i : ℕ) (whole : IsWhole m) (phase : m.phase ≡ Effect
 -- no task has effects
 module _ (m : Machine) (whole : IsWhole m) (phase : m.phase ≡ Effects None) (on : m.stopped ≡ false) (m' : Machine) (b : IsBeside m m' Delays) (items : m'.tasks.items ≡ m.tasks.items) (links : m'.links ≡ m.links) (stores : stores_of m' ≡ stores_of m) where
   nobody_whole : IsSound m.until m.time (Effects None) m.ran m.units.now m.tasks.items m.links
-  nobody_whole = subst (λ (p : Phase). IsSound m.until m.time p m.ran m.units.now m.tasks.items m.links) phase whole
+  nobody_whole = subst (λ (p : Phase). IsSound m.until m.time p m.ran m.units.now m.tasks.items m.links) phase whole.sound
 
   nobody_before : (running_of m).state ≡ state_by (stores_of m) m.arrivals.now m.time (Effects None) m.ran false m.tasks.items m.links.ready
   nobody_before =
@@ -356,15 +373,18 @@ module _ (m : Machine) (whole : IsWhole m) (phase : m.phase ≡ Effects None) (o
 
   pub nobody-step : IsStep m Nothing m'
   nobody-step = record {
-    whole = λ on'.
-        subst (λ n. IsSound n m'.time m'.phase m'.ran m'.units.now m'.tasks.items m'.links) (sym b.until)
-        (subst (λ n. IsSound m.until n m'.phase m'.ran m'.units.now m'.tasks.items m'.links) (sym b.time)
-        (subst (λ n. IsSound m.until m.time n m'.ran m'.units.now m'.tasks.items m'.links) (sym b.phase)
-        (subst (λ n. IsSound m.until m.time Delays n m'.units.now m'.tasks.items m'.links) (sym b.ran)
-        (subst (λ n. IsSound m.until m.time Delays m.ran n m'.tasks.items m'.links) (sym b.units)
-        (subst (λ n. IsSound m.until m.time Delays m.ran m.units.now n m'.links) (sym items)
-        (subst (λ n. IsSound m.until m.time Delays m.ran m.units.now m.tasks.items n) (sym links)
-        (nobody-sound m.until m.time m.units.now m.ran m.tasks.items m.links nobody_whole)))))));
+    whole = λ on'. record {
+      sound =
+            subst (λ n. IsSound n m'.time m'.phase m'.ran m'.units.now m'.tasks.items m'.links) (sym b.until)
+            (subst (λ n. IsSound m.until n m'.phase m'.ran m'.units.now m'.tasks.items m'.links) (sym b.time)
+            (subst (λ n. IsSound m.until m.time n m'.ran m'.units.now m'.tasks.items m'.links) (sym b.phase)
+            (subst (λ n. IsSound m.until m.time Delays n m'.units.now m'.tasks.items m'.links) (sym b.ran)
+            (subst (λ n. IsSound m.until m.time Delays m.ran n m'.tasks.items m'.links) (sym b.units)
+            (subst (λ n. IsSound m.until m.time Delays m.ran m.units.now n m'.links) (sym items)
+            (subst (λ n. IsSound m.until m.time Delays m.ran m.units.now m.tasks.items n) (sym links)
+            (nobody-sound m.until m.time m.units.now m.ran m.tasks.items m.links nobody_whole)))))));
+      callees = callees-beside m m' Delays b whole.callees;
+    };
     follows = follows-of (system_by m.until m.costs m.units.now m.tasks.items) (running_of m').system 1 (running_of m).state _ _ (running_of m').state [] nobody_before (nobody-run (system_by m.until m.costs m.units.now m.tasks.items) (stores_of m) m.arrivals.now m.time m.ran m.tasks.items m.links.ready nobody_whole.here) nobody_after nobody_system;
     ends = b.stopped ∙ on;
     nears = fewer-steps;

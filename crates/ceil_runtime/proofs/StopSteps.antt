@@ -69,7 +69,7 @@ module _ (m : Machine) (i : ℕ) (whole : IsWhole m) (phase : m.phase ≡ Effect
   stop_whole = running-sound m i whole phase on
 
   stop_ran : m.ran ≡ Some i
-  stop_ran = (subst (λ p. IsSound m.until m.time p m.ran m.units.now m.tasks.items m.links) phase whole).here.0
+  stop_ran = (subst (λ p. IsSound m.until m.time p m.ran m.units.now m.tasks.items m.links) phase whole.sound).here.0
 
   stop_before : (running_of m).state ≡ effect_state m i
   stop_before =

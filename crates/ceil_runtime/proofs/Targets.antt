@@ -101,6 +101,14 @@ module _ (work : List WorkList) where
   past_unit n a b d us c name (Cyclic priority offset period vars block) e = (a, b, suc d, rw e refl)
   past_unit n a b d us c name (Sporadic priority ceiling sig separation jitter external vars block) e = (a, b, suc d, rw e refl)
 
+  -- a call of a name that no unit has leads nowhere
+  pub no-target : (n a b d : ℕ) (us : List Unit) (c : OpName) → is_named (map (λ v. v.name) us) c.object ≡ false → target_from n a b d us c ≡ Unknown
+  no-target n a b d [] c h = refl
+  no-target n a b d (u ∷ us) c h =
+      let both = or_false (same_name u.name c.object) (is_named (map (λ v. v.name) us) c.object) h in
+      let past = past_unit n a b d us c u.name u.form both.0 in
+      past.3 ∙ no-target (n + 1) past.0 past.1 past.2 us c both.1
+
   -- a call leads to the unit of its name
   pub at-unit : (us : List Unit) (n a b d i : ℕ) (u : Unit) (c : OpName) → AreApart us → slice_get us i ≡ Some u → same_name u.name c.object ≡ true
       → (object : ℕ) × (task : ℕ) × (place : ℕ) × (target_from n a b d us c ≡ unit_target object task place u.name u.form c.op)

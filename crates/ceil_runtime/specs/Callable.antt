@@ -2,7 +2,7 @@
 -- Units of one name are told by the first of them, and so are operations of one name.
 use Rattle.std.specs.Prelude.{◌≡◌, ℕ, ◌+◌, Bool, true, false, List, [], ◌∷◌, length, map, if◌then◌else◌, Option, Some, None}
 use Rattle.std.specs.List.{list_any}
-use Rattle.seq_tree.specs.Names.{Name}
+use Rattle.seq_tree.specs.Names.{Name, same_name}
 use Rattle.seq_tree.specs.Operations.{Operation}
 use Rattle.seq_tree.specs.Calls.{block_calls, same_op}
 use Rattle.seq_tree.specs.Trees.{operation_of}
@@ -101,10 +101,10 @@ IsCallee (Some (found.Plain o)) k = k ≡ Plain (operation_of o.now)
 IsCallee (Some (found.Protected object place data' o)) k = (g : ProtectedUnit) × (k ≡ Protected object place g (operation_of o.now)) × (g.vars ≡ data'.now)
 IsCallee (Some (found.Request task)) k = k ≡ Request task
 
--- the request of a task that was found, where one was
-abbrev pub requested : Option ℕ → CallTarget
-requested None = Unknown
-requested (Some task) = Request task
+-- the request of a task by this operation, where a task was found that is requested by one
+abbrev pub requested : Name → Option (ℕ × Name) → CallTarget
+requested op None = Unknown
+requested op (Some t) = if same_name t.1 op then Request t.0 else Unknown
 
 -- what a call takes of a protected object: its place, its data and its operations
 pub record ObjectParts : Type 0 where

@@ -4,6 +4,7 @@ pub mod Callable
 pub mod Progresses
 pub mod Fitting
 pub mod Libraries
+pub mod Called
 pub mod Effort
 pub mod Written
 pub mod Gathering

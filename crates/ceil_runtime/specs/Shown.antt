@@ -4,6 +4,7 @@ use Rattle.std.specs.Prelude.{◌≡◌, List, map, None}
 use Rattle.seq_tree.specs.Variables.{Variables}
 use Rattle.machine.specs.Meanings.{Running}
 use Rattle.machine.specs.States.{State, Effects}
+use Rattle.ceil_runtime.specs.Called.{AreCalleesOf}
 use Rattle.ceil_runtime.specs.Objects.{store_of}
 use Rattle.ceil_runtime.specs.Processing.{IsSound, state_by, system_by}
 use Rattle.ceil_runtime.specs.declared.processor.Machine.{Machine}
@@ -19,9 +20,10 @@ running_of m = record {
   state = state_by (stores_of m) m.arrivals.now m.time m.phase m.ran m.stopped m.tasks.items m.links.ready;
 }
 
--- a processor whose lists are those of its tasks
-abbrev pub IsWhole : Machine → Type 0
-IsWhole m = IsSound m.until m.time m.phase m.ran m.units.now m.tasks.items m.links
+-- a processor whose lists are those of its tasks, and whose calls lead to what those of its units do
+pub record IsWhole (m : Machine) : Type 0 where
+  pub sound : IsSound m.until m.time m.phase m.ran m.units.now m.tasks.items m.links
+  pub callees : AreCalleesOf m.callees m.units.now
 
 -- no task has effects: the part of the instant is another one, or no task used the tick before
 abbrev pub IsSettled : State → Type 0

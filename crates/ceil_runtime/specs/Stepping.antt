@@ -120,6 +120,7 @@ pub record HasStopped (m m' : Machine) : Type 0 where
   pub links : m'.links ≡ m.links
   pub arrivals : m'.arrivals.now ≡ m.arrivals.now
   pub units : m'.units.now ≡ m.units.now
+  pub callees : m'.callees ≡ m.callees
   pub costs : m'.costs ≡ m.costs
   pub until : m'.until ≡ m.until
   pub time : m'.time ≡ m.time

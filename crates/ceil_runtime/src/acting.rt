@@ -8,7 +8,9 @@ ghost use Rattle.ceil_runtime.specs.Readies.{is_ready};
 ghost use Rattle.ceil_runtime.specs.Stacked.{vars_of};
 ghost use Rattle.ceil_runtime.specs.Works.{Acts, ActsAs, EffortFalls, Enters, Leaves, StaysInside, task_of};
 ghost use Rattle.ceil_runtime.specs.Written.{system_of};
+ghost use Rattle.ceil_runtime.specs.Called.{AreCallees};
 
+use crate::callees::Callees;
 use crate::effects::{Act, Deed};
 use crate::piece::{Entry, Piece};
 use crate::task::Task;
@@ -18,16 +20,18 @@ use trace_tree::Values;
 
 impl<'a> Task<'a> {
     /// What the piece reaches that has started, before its effect: a ceiling is tested then.
-    pub fn deed(&self, piece: Piece<'a>) -> Deed<'a>
-        requires { self.now.progress.piece ≡ Some piece }
+    pub fn deed(&self, callees: &Callees<'a>, piece: Piece<'a>) -> Deed<'a>
+        requires callees { AreCallees callees.now (system_of self.now.progress.stack.thread) }
+        requires piece { self.now.progress.piece ≡ Some piece }
         ensures deed { IsDeed (system_of self.now.progress.stack.thread) piece.entry result }
         ensures acts { ActsAs (system_of self.now.progress.stack.thread) (task_of self.now) result }
     {
-        self.progress.deed(piece)
+        self.progress.deed(callees, piece)
     }
 
     /// The effect of a piece whose ticks are used, and that neither enters a protected object nor leaves one.
-    pub fn act(&mut self, costs: &Costs, piece: Piece<'a>) -> Act
+    pub fn act(&mut self, costs: &Costs, callees: &Callees<'a>, piece: Piece<'a>) -> Act
+        requires callees { AreCallees callees.now (system_of self.old.progress.stack.thread) }
         requires ready { is_ready self.old.readiness ≡ true }
         requires piece { self.old.progress.piece ≡ Some piece }
         requires outside { StaysOutside (system_of self.old.progress.stack.thread) piece }
@@ -42,7 +46,7 @@ impl<'a> Task<'a> {
         ensures inside { StaysInside (act_of result) (sections_among (task_of self.old).pieces) (sections_among (task_of self.new).pieces) }
     {
         let duration = self.duration();
-        let act = self.progress.act(piece);
+        let act = self.progress.act(callees, piece);
         let start = self.progress.start(costs, duration);
         self.left = start.ticks;
         self.works += start.works;

@@ -4,8 +4,8 @@ ghost use Rattle.seq_tree.specs.Lists.{first_where};
 ghost use Rattle.seq_tree.specs.Names.{Name as NameBytes, same_name};
 ghost use Rattle.seq_tree.specs.Trees.{operation_of};
 ghost use Rattle.ada_tree.specs.Trees.{unit_of};
-ghost use Rattle.machine.specs.Systems.{callee, op_named, request_by};
-ghost use Rattle.ceil_runtime.specs.Callable.{IsCallee, calls_room, found_object, object_parts, ops_room, requested};
+ghost use Rattle.machine.specs.Systems.{request_by};
+ghost use Rattle.ceil_runtime.specs.Callable.{calls_room, found_object, object_parts, ops_room, requested};
 ghost use Rattle.ceil_runtime.specs.Libraries.{libraries_from, objects_from, system_from, threads_from};
 
 use ada_tree::{Form, Unit};
@@ -30,28 +30,14 @@ pub enum Callee<'a> {
 
 /// A protected object: its place among the objects, its data as they are written, and its operations.
 #[derive(Clone, Copy, Drop)]
-struct Object<'a> {
-    place: usize,
-    data: &'a [Datum],
-    ops: &'a [OpText],
-}
-
-/// The first operation of this name, with its place.
-fn op_named<'a>(ops: &'a [OpText], name: &Name) -> Option<(usize, &'a OpText)>
-    ensures { option_map (λ o. (o.0, operation_of o.1.now)) result ≡ op_named name.now (map operation_of ops.entry.now) }
-{
-    let mut place: usize = 0;
-    'ops: for op in ops {
-        if op.sig.name.same(name) {
-            return Some((place, op));
-        }
-        place += 1;
-    }
-    None
+pub struct Object<'a> {
+    pub place: usize,
+    pub data: &'a [Datum],
+    pub ops: &'a [OpText],
 }
 
 /// The operations of the first passive unit of this name.
-fn library_named<'a>(units: &'a [Unit], name: &Name) -> Option<&'a [OpText]>
+pub fn library_named<'a>(units: &'a [Unit], name: &Name) -> Option<&'a [OpText]>
     ensures { option_map (λ ops. map operation_of ops.now) result ≡ option_map (λ l. l.1.ops) (first_where (λ l. same_name l.name name.now) (libraries_from 0 (map unit_of units.entry.now))) }
 {
     'units: for unit in units {
@@ -70,7 +56,7 @@ fn library_named<'a>(units: &'a [Unit], name: &Name) -> Option<&'a [OpText]>
 }
 
 /// The first protected object of this name.
-fn object_named<'a>(units: &'a [Unit], name: &Name) -> Option<Object<'a>>
+pub fn object_named<'a>(units: &'a [Unit], name: &Name) -> Option<Object<'a>>
     ensures { option_map found_object result ≡ option_map object_parts (first_where (λ g. same_name g.name name.now) (objects_from 0 (map unit_of units.entry.now))) }
 {
     let mut place: usize = 0;
@@ -94,9 +80,10 @@ fn object_named<'a>(units: &'a [Unit], name: &Name) -> Option<Object<'a>>
     None
 }
 
-/// The place of the first task of this name, where it is requested by this operation.
-fn task_requested(units: &[Unit], name: &Name, op: &Name) -> Option<usize>
-    ensures { (work : List WorkList) → requested result ≡ request_by op.now (first_where (λ t. same_name t.name name.now) (threads_from work 0 (map unit_of units.now))) }
+/// The first task of this name, where it is released by requests: its place, and the operation that requests it.
+pub fn task_named<'a>(units: &'a [Unit], name: &Name) -> Option<(usize, &'a Name)>
+    ensures { (work : List WorkList) (op : NameBytes) → requested op (option_map (λ t. (t.0, t.1.now)) result)
+        ≡ request_by op (first_where (λ t. same_name t.name name.now) (threads_from work 0 (map unit_of units.entry.now))) }
 {
     let mut place: usize = 0;
     'units: for unit in units {
@@ -109,40 +96,15 @@ fn task_requested(units: &[Unit], name: &Name, op: &Name) -> Option<usize>
                 }
                 place += 1;
             }
-            Form::Sporadic { op: request, .. } => {
+            Form::Sporadic { op, .. } => {
                 if unit.name.same(name) {
-                    return if request.name.same(op) {
-                        Some(place)
-                    } else {
-                        None
-                    };
+                    return Some((place, &op.name));
                 }
                 place += 1;
             }
         }
     }
     None
-}
-
-/// What a call of this operation of the unit of this name leads to, and None where it leads nowhere.
-pub fn find_callee<'a>(units: &'a [Unit], unit: &Name, op: &Name) -> Option<Callee<'a>>
-    ensures { (work : List WorkList) → IsCallee result (callee (system_from work (map unit_of units.entry.now)) unit.now op.now) }
-{
-    if let Some(ops) = library_named(units, unit) {
-        let (_, op) = op_named(ops, op)?;
-        return Some(Callee::Plain(op));
-    }
-    if let Some(object) = object_named(units, unit) {
-        let (place, op) = op_named(object.ops, op)?;
-        return Some(Callee::Protected {
-            object: object.place,
-            place,
-            data: object.data,
-            op,
-        });
-    }
-    let task = task_requested(units, unit, op)?;
-    Some(Callee::Request(task))
 }
 
 /// The room for a call of each of these operations of a unit with so many data, and None where no number tells it.

@@ -11,9 +11,11 @@ ghost use Rattle.ceil_runtime.specs.Stacked.{vars_of};
 ghost use Rattle.ceil_runtime.specs.Progresses.{behind, branches_left, kept, piece_of, put_away, returning, started, with_parts};
 ghost use Rattle.ceil_runtime.specs.Fitting.{FitsBlock, FitsBranches, FitsIf, FitsPiece, above, body_names, names_of, place_of};
 ghost use Rattle.ceil_runtime.specs.Written.{first_place, system_of};
+ghost use Rattle.ceil_runtime.specs.Called.{AreCallees};
 ghost use Rattle.ceil_runtime.specs.Doing.{Does, EndsAt, IsFirst, IsOutside, KeepsData, StaysOutside, act_of, given, is_finish};
 
-use crate::callable::{Callee, find_callee};
+use crate::callable::Callee;
+use crate::callees::Callees;
 use crate::params::{hand_in, hand_out, open_data, open_params, request_value, store};
 use crate::piece::{Call, Entry, Frame, Piece, Request, Round};
 use crate::stack::Stack;
@@ -245,7 +247,8 @@ impl<'a> Stack<'a> {
     }
 
     /// A call that enters no protected object.
-    fn call_outside(&mut self, object: &'a Name, name: &'a Name, actuals: &'a [Expr]) -> Moved<'a>
+    fn call_outside(&mut self, callees: &Callees<'a>, object: &'a Name, name: &'a Name, actuals: &'a [Expr]) -> Moved<'a>
+        requires callees { AreCallees callees.now (system_of self.old.thread) }
         requires first { IsFirst self.old.thread (Some (PieceIs.Calling object name actuals)) (vars_of self.old.vars.items) self.old.frames.items }
         requires outside { IsOutside (callee (system_of self.old.thread) object.now name.now) }
         ensures deed { Does (system_of self.old.thread) (piece_of (PieceIs.Calling object.entry name.entry actuals.entry) []) (vars_of self.old.vars.items) (behind self.old.frames.items)
@@ -254,7 +257,7 @@ impl<'a> Stack<'a> {
         ensures first { IsFirst self.new.thread result.next (vars_of self.new.vars.items) self.new.frames.items }
         ensures thread { self.new.thread ≡ self.old.thread }
     {
-        match find_callee(self.thread.units, object, name) {
+        match callees.find(object, name) {
             Some(Callee::Plain(op)) => silent(self.call(Call {
                 object,
                 name,
@@ -311,7 +314,8 @@ impl<'a> Stack<'a> {
     }
 
     /// Does what a piece does that neither enters a protected object nor leaves one, and starts the next one.
-    pub fn take_effect(&mut self, piece: Piece<'a>) -> Moved<'a>
+    pub fn take_effect(&mut self, callees: &Callees<'a>, piece: Piece<'a>) -> Moved<'a>
+        requires callees { AreCallees callees.now (system_of self.old.thread) }
         requires first { IsFirst self.old.thread (Some piece) (vars_of self.old.vars.items) self.old.frames.items }
         requires outside { StaysOutside (system_of self.old.thread) piece }
         ensures deed { Does (system_of self.old.thread) (piece_of piece.entry (put_away self.old.frames.items)) (vars_of self.old.vars.items) (with_parts piece.entry (behind self.old.frames.items))
@@ -333,7 +337,7 @@ impl<'a> Stack<'a> {
                 object,
                 op,
                 actuals,
-            } => self.call_outside(object, op, actuals),
+            } => self.call_outside(callees, object, op, actuals),
             Piece::Working(_) => silent(self.next_piece()),
             Piece::Printing(value) => {
                 let value = value_of(value, &self.vars);

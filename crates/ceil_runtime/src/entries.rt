@@ -5,9 +5,11 @@ ghost use Rattle.ceil_runtime.specs.Stacked.{vars_of};
 ghost use Rattle.ceil_runtime.specs.Progresses.{behind, kept, piece_of, put_away, started};
 ghost use Rattle.ceil_runtime.specs.Fitting.{entry_names, names_of};
 ghost use Rattle.ceil_runtime.specs.Written.{system_of};
+ghost use Rattle.ceil_runtime.specs.Called.{AreCallees};
 ghost use Rattle.ceil_runtime.specs.Doing.{Does, DoesEnter, IsDeed, IsEntry, IsFirst};
 
-use crate::callable::{Callee, find_callee};
+use crate::callable::Callee;
+use crate::callees::Callees;
 use crate::effects::Deed;
 use crate::params::{hand_in, hand_out, keep_data, move_vars};
 use crate::piece::{Call, Entry, Frame, Piece};
@@ -25,11 +27,12 @@ pub struct Crossed<'a> {
 
 impl<'a> Stack<'a> {
     /// What a call reaches.
-    fn reached(&self, object: &'a Name, name: &'a Name, actuals: &'a [Expr]) -> Deed<'a>
-        requires { IsFirst self.now.thread (Some (PieceIs.Calling object name actuals)) (vars_of self.now.vars.items) self.now.frames.items }
+    fn reached(&self, callees: &Callees<'a>, object: &'a Name, name: &'a Name, actuals: &'a [Expr]) -> Deed<'a>
+        requires callees { AreCallees callees.now (system_of self.now.thread) }
+        requires first { IsFirst self.now.thread (Some (PieceIs.Calling object name actuals)) (vars_of self.now.vars.items) self.now.frames.items }
         ensures { IsDeed (system_of self.now.thread) (PieceIs.Calling object.entry name.entry actuals.entry) result }
     {
-        match find_callee(self.thread.units, object, name) {
+        match callees.find(object, name) {
             Some(Callee::Plain(_)) => Deed::Own,
             Some(
                 Callee::Protected {
@@ -55,8 +58,9 @@ impl<'a> Stack<'a> {
     }
 
     /// What a piece reaches before its effect.
-    pub fn deed(&self, piece: Piece<'a>) -> Deed<'a>
-        requires { IsFirst self.now.thread (Some piece) (vars_of self.now.vars.items) self.now.frames.items }
+    pub fn deed(&self, callees: &Callees<'a>, piece: Piece<'a>) -> Deed<'a>
+        requires callees { AreCallees callees.now (system_of self.now.thread) }
+        requires first { IsFirst self.now.thread (Some piece) (vars_of self.now.vars.items) self.now.frames.items }
         ensures { IsDeed (system_of self.now.thread) piece.entry result }
     {
         match piece {
@@ -64,7 +68,7 @@ impl<'a> Stack<'a> {
                 object,
                 op,
                 actuals,
-            } => self.reached(object, op, actuals),
+            } => self.reached(callees, object, op, actuals),
             Piece::Closing(entry) => Deed::Leave(entry),
             Piece::Idle => Deed::Own,
             Piece::Store { .. } => Deed::Own,

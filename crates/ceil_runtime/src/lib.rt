@@ -7,6 +7,7 @@
 mod acting;
 mod buffer;
 mod callable;
+mod callees;
 mod durations;
 mod effects;
 mod entries;

@@ -11,6 +11,7 @@ ghost use Rattle.ceil_runtime.specs.Objects.{AreObjectsOf};
 ghost use Rattle.ceil_runtime.specs.Processing.{IsWithin};
 
 use crate::buffer::EventBuf;
+use crate::callees::Callees;
 use crate::durations::joined;
 use crate::effects::{Act, Deed};
 use crate::inside::Section;
@@ -189,6 +190,8 @@ pub struct Machine<'a> {
     // The arrivals left.
     arrivals: &'a [Arrival],
     units: &'a [Unit],
+    // What each call of the units leads to.
+    callees: Callees<'a>,
     costs: Costs,
     until: u64,
     time: u64,
@@ -274,6 +277,7 @@ impl<'a> Machine<'a> {
             return Err(NoMemory);
         };
         let objects = objects_in(alloc, units)?;
+        let callees = Callees::of_units(alloc, units)?;
         let mut tasks = Vec::with_capacity(alloc, threads.len())?;
         let mut task: u32 = 0;
         'threads: for thread in threads {
@@ -304,6 +308,7 @@ impl<'a> Machine<'a> {
             links,
             arrivals,
             units,
+            callees,
             costs,
             until,
             time: 0,
@@ -504,7 +509,7 @@ impl<'a> Machine<'a> {
         requires piece { HasPiece self.old.tasks.items task piece }
         ensures { IsStep self.old result self.new }
     {
-        match self.tasks[task as usize].deed(piece) {
+        match self.tasks[task as usize].deed(&self.callees, piece) {
             Deed::Own => self.act(task, piece),
             Deed::Enter(entry) => self.enter(task, piece, entry),
             Deed::Leave(entry) => self.leave(task, piece, entry),
@@ -596,7 +601,7 @@ impl<'a> Machine<'a> {
             return self.stop(task, unit, ceiling);
         }
         let caller = &mut self.tasks[task as usize];
-        caller.act(&self.costs, piece);
+        caller.act(&self.costs, &self.callees, piece);
         caller.go_inside(Section::Control(target), ceiling);
         Told::Nothing
     }
@@ -611,7 +616,7 @@ impl<'a> Machine<'a> {
         ensures { IsStep self.old result self.new }
     {
         let active = &mut self.tasks[task as usize];
-        let act = active.act(&self.costs, piece);
+        let act = active.act(&self.costs, &self.callees, piece);
         let unit = active.progress.stack.thread.unit;
         match act {
             Act::Silent => Told::Nothing,

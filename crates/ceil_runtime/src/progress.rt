@@ -10,8 +10,10 @@ ghost use Rattle.ceil_runtime.specs.Fitting.{FitsFirst, Named, PutsAway, entry_n
 ghost use Rattle.ceil_runtime.specs.OneProof.{fits-first-prop, named-prop, puts-away-prop};
 ghost use Rattle.ceil_runtime.specs.Doing.{Does, DoesEnter, EndsAt, IsDeed, IsEntry, KeepsData, StaysOutside, act_of, given};
 ghost use Rattle.ceil_runtime.specs.Effort.{IsLong, first_ticks, first_works};
+ghost use Rattle.ceil_runtime.specs.Called.{AreCallees};
 ghost use Rattle.ceil_runtime.specs.Written.{CanRun, block_of_thread, first_place, system_of, timing_of};
 
+use crate::callees::Callees;
 use crate::effects::{Act, Deed};
 use crate::piece::{Entry, Frame, Piece};
 use crate::stack::Stack;
@@ -98,15 +100,17 @@ impl<'a> Progress<'a> {
     }
 
     /// What the piece reaches that has started, before its effect.
-    pub fn deed(&self, piece: Piece<'a>) -> Deed<'a>
-        requires { self.now.piece ≡ Some piece }
+    pub fn deed(&self, callees: &Callees<'a>, piece: Piece<'a>) -> Deed<'a>
+        requires callees { AreCallees callees.now (system_of self.now.stack.thread) }
+        requires piece { self.now.piece ≡ Some piece }
         ensures { IsDeed (system_of self.now.stack.thread) piece.entry result }
     {
-        self.stack.deed(piece)
+        self.stack.deed(callees, piece)
     }
 
     /// Does what the piece does that has started, and starts the next one.
-    pub fn act(&mut self, piece: Piece<'a>) -> Act
+    pub fn act(&mut self, callees: &Callees<'a>, piece: Piece<'a>) -> Act
+        requires callees { AreCallees callees.now (system_of self.old.stack.thread) }
         requires piece { self.old.piece ≡ Some piece }
         requires outside { StaysOutside (system_of self.old.stack.thread) piece }
         ensures thread { self.new.stack.thread ≡ self.old.stack.thread }
@@ -114,7 +118,7 @@ impl<'a> Progress<'a> {
         ensures keeps { KeepsData result self.old.stack.thread.data.now (vars_left self.old) (vars_left self.new) }
         ensures ends { EndsAt result (pieces_left self.new) }
     {
-        let moved = self.stack.take_effect(piece);
+        let moved = self.stack.take_effect(callees, piece);
         self.piece = moved.next;
         moved.act
     }

@@ -22,7 +22,7 @@ use Rattle.ceil_runtime.proofs.Processed.{Changed, get-put, get_within, runs-ali
 use Rattle.ceil_runtime.proofs.Reached.{among-tasks, nests-ended, nests-going, reached-act, stays-own}
 use Rattle.ceil_runtime.proofs.Released.{waiting-free}
 use Rattle.ceil_runtime.proofs.RequestSteps.{gate-step}
-use Rattle.ceil_runtime.proofs.Stepped.{effect_state, finish-step, going-step, running-sound, served-step}
+use Rattle.ceil_runtime.proofs.Stepped.{effect_state, finish-step, going-step, running-sound, served-step, task-callees}
 use Rattle.ceil_runtime.proofs.processor.Machine.act.Goals as goal
 
 pub act-act-requires-clause-few : goal.act-act-requires-clause-few
@@ -35,6 +35,15 @@ act-act-requires-clause-few c =
     let k = sound.kept i t here in
     omega (arith, k.works, sound.in_time, sound.near)
 
+pub act-act-requires-clause-callees : goal.act-act-requires-clause-callees
+act-act-requires-clause-callees c =
+    let m = c.args.self.now in
+    let i = c.args.task in
+    let t = c.index_mut-active.result.now in
+    let sound = running-sound m i c.requires.whole c.requires.phase c.requires.goes_on in
+    let here = slice_get_read m.tasks.items (length m.tasks.items) i t refl sound.here.1 c.index_mut-active.ensures.value in
+    task-callees m i t c.requires.whole here
+
 pub returns-in-Silent : goal.returns-in-Silent
 returns-in-Silent c =
     let m = c.args.self.now in
@@ -46,7 +55,7 @@ returns-in-Silent c =
     let p = c.requires.piece t here in
     let a = c.in-Silent.ensures.acts in
     going-step m i c.requires.whole c.requires.phase c.requires.goes_on t t' here p.2 Silent a c.in-Silent.ensures.thread c.in-Silent.ensures.works c.in-Silent.ensures.falls (nests-going t t' m.costs a.vars a.pieces a.after c.in-Silent.ensures.inside) _
-    (record { until = refl; costs = refl; units = refl; arrivals = refl; time = refl; ran = refl; stopped = refl; phase = c.requires.phase }) refl refl refl a.after Nothing refl c.requires.goes_on tt (omega arith)
+    (record { until = refl; costs = refl; units = refl; callees = refl; arrivals = refl; time = refl; ran = refl; stopped = refl; phase = c.requires.phase }) refl refl refl a.after Nothing refl c.requires.goes_on tt (omega arith)
 
 pub returns-in-Print : goal.returns-in-Print
 returns-in-Print c =
@@ -59,7 +68,7 @@ returns-in-Print c =
     let p = c.requires.piece t here in
     let a = c.in-Print.ensures.acts in
     going-step m i c.requires.whole c.requires.phase c.requires.goes_on t t' here p.2 (Print c.in-Print.value) a c.in-Print.ensures.thread c.in-Print.ensures.works c.in-Print.ensures.falls (nests-going t t' m.costs a.vars a.pieces a.after c.in-Print.ensures.inside) _
-    (record { until = refl; costs = refl; units = refl; arrivals = refl; time = refl; ran = refl; stopped = refl; phase = c.requires.phase }) refl refl refl a.after (One (event.Print m.time t'.progress.stack.thread.unit c.in-Print.value))
+    (record { until = refl; costs = refl; units = refl; callees = refl; arrivals = refl; time = refl; ran = refl; stopped = refl; phase = c.requires.phase }) refl refl refl a.after (One (event.Print m.time t'.progress.stack.thread.unit c.in-Print.value))
     (ap (λ th. let next : Next = (record (effect_state m i) { tasks = change i (going m.costs a.vars a.pieces) (map task_of m.tasks.items) }, event.Print m.time th.unit c.in-Print.value ∷ []) in next) (sym c.in-Print.ensures.thread)) (tt, c.requires.goes_on)
     (record { place = i; task = t; here = here; is_unit = ap (λ th. th.unit) c.in-Print.ensures.thread }) (omega arith)
 
@@ -131,7 +140,7 @@ returns-in-Asleep c =
     let changed : Changed m.tasks.items tasks' i t t' (ended a.vars) = record { here = here; set_is = refl; does = a.after; thread = c.in-Finish.ensures.thread } in
     let until : ℕ → Queues = λ n. record m.links { asleep = in_time (i, n) m.links.asleep } in
     finish-step m i c.requires.whole c.requires.phase c.requires.goes_on t t' here p.2 a c.in-Finish.ensures.thread c.in-Finish.ensures.works c.in-Finish.ensures.falls (nests-ended t t' a.vars a.after c.in-Finish.ensures.inside) tasks' refl _
-    (record { until = refl; costs = refl; units = refl; arrivals = refl; time = refl; ran = refl; stopped = refl; phase = refl }) refl (ap (λ (q : Queues). q.ready) c.sleep.ensures) refl (ap (λ r. is_waiting (readiness_of r t'.next) && t'.gate.«open») c.in-Asleep.is)
+    (record { until = refl; costs = refl; units = refl; callees = refl; arrivals = refl; time = refl; ran = refl; stopped = refl; phase = refl }) refl (ap (λ (q : Queues). q.ready) c.sleep.ensures) refl (ap (λ r. is_waiting (readiness_of r t'.next) && t'.gate.«open») c.in-Asleep.is)
     (finish-sound (stores_of m) m.arrivals.now m.until m.time m.costs m.units.now i m.tasks.items m.links sound t t' here p.2 a tasks' changed c.sleep.new.self c.in-Asleep.is (c.sleep.ensures ∙ ap until c.max.ensures) c.in-Finish.ensures.works (nests-ended t t' a.vars a.after c.in-Finish.ensures.inside))
 
 pub returns-then-not-active : goal.returns-then-not-active
@@ -148,7 +157,7 @@ returns-then-not-active c =
     let changed : Changed m.tasks.items tasks' i t t' (ended a.vars) = record { here = here; set_is = refl; does = a.after; thread = c.in-Finish.ensures.thread } in
     let waits = waits-now (stores_of m) m.arrivals.now m.until m.time m.costs m.units.now i m.tasks.items m.links sound t t' here p.2 a tasks' changed c.in_default.not-Asleep in
     finish-step m i c.requires.whole c.requires.phase c.requires.goes_on t t' here p.2 a c.in-Finish.ensures.thread c.in-Finish.ensures.works c.in-Finish.ensures.falls (nests-ended t t' a.vars a.after c.in-Finish.ensures.inside) tasks' refl _
-    (record { until = refl; costs = refl; units = refl; arrivals = refl; time = refl; ran = refl; stopped = refl; phase = refl }) refl refl refl (ap (λ r. is_waiting (readiness_of r t'.next) && t'.gate.«open») waits ∙ c.if-not-active.true)
+    (record { until = refl; costs = refl; units = refl; callees = refl; arrivals = refl; time = refl; ran = refl; stopped = refl; phase = refl }) refl refl refl (ap (λ r. is_waiting (readiness_of r t'.next) && t'.gate.«open») waits ∙ c.if-not-active.true)
     (wait-sound (stores_of m) m.arrivals.now m.until m.time m.costs m.units.now i m.tasks.items m.links sound t t' here p.2 a tasks' changed c.in_default.not-Asleep c.in-Finish.ensures.works (nests-ended t t' a.vars a.after c.in-Finish.ensures.inside))
 
 pub returns-else-not-active : goal.returns-else-not-active
@@ -166,7 +175,7 @@ returns-else-not-active c =
     let t'' = c.release-in-Finish.new.self in
     served-step m i c.requires.whole c.requires.phase c.requires.goes_on t t' here p.2 a c.in-Finish.ensures.thread c.in-Finish.ensures.works c.in-Finish.ensures.falls (nests-ended t t' a.vars a.after c.in-Finish.ensures.inside) tasks' refl
     t'' c.release-in-Finish.ensures.task c.release-in-Finish.ensures.thread c.release-in-Finish.ensures.works c.release-in-Finish.ensures.some c.in_default.not-Asleep c.if-not-active.false _
-    (record { until = refl; costs = refl; units = refl; arrivals = refl; time = refl; ran = refl; stopped = refl; phase = refl }) (sym (set-twice m.tasks.items i t' t'')) c.push_tail-in-Finish.ensures refl
+    (record { until = refl; costs = refl; units = refl; callees = refl; arrivals = refl; time = refl; ran = refl; stopped = refl; phase = refl }) (sym (set-twice m.tasks.items i t' t'')) c.push_tail-in-Finish.ensures refl
 
 pub act-act-requires-clause-outside : goal.act-act-requires-clause-outside
 act-act-requires-clause-outside c =
@@ -239,7 +248,7 @@ returns-in-Keep c =
     (a.does (system_by m.until m.costs m.units.now m.tasks.items) (runs-alike m.until m.costs m.units.now m.tasks.items sound.calls i t here))
     c.in-Keep.ensures.thread c.in-Keep.ensures.works c.in-Keep.ensures.falls (nests-going t t' m.costs a.vars a.pieces a.after c.in-Keep.ensures.inside) tasks' refl
     a.after k (kept_value c.in-Keep.value) (λ v. (refl, refl)) (λ v. (refl, refl)) (λ v. refl) refl u c.keep.new.self _
-    (record { until = refl; costs = refl; units = refl; arrivals = refl; time = refl; ran = refl; stopped = refl; phase = c.requires.phase })
+    (record { until = refl; costs = refl; units = refl; callees = refl; arrivals = refl; time = refl; ran = refl; stopped = refl; phase = c.requires.phase })
     (record { here = there; set_is = refl; does = c.keep.ensures.task; thread = ap (λ g. g.stack.thread) c.keep.ensures.progress })
     c.keep.ensures.same (ap (λ v. v.left) c.keep.ensures.task) (ap (λ v. v.used) c.keep.ensures.task) (ap (λ v. v.works) c.keep.ensures.task) (ap (λ v. v.next) c.keep.ensures.task) refl refl
 
@@ -262,7 +271,7 @@ returns-in-Open c =
     (a.does (system_by m.until m.costs m.units.now m.tasks.items) (runs-alike m.until m.costs m.units.now m.tasks.items sound.calls i t here))
     c.in-Open.ensures.thread c.in-Open.ensures.works c.in-Open.ensures.falls (nests-going t t' m.costs a.vars a.pieces a.after c.in-Open.ensures.inside) tasks' refl
     a.after k opened_now (λ v. (refl, refl)) (λ v. (refl, refl)) (λ v. refl) refl u c.open_gate.new.self _
-    (record { until = refl; costs = refl; units = refl; arrivals = refl; time = refl; ran = refl; stopped = refl; phase = c.requires.phase })
+    (record { until = refl; costs = refl; units = refl; callees = refl; arrivals = refl; time = refl; ran = refl; stopped = refl; phase = c.requires.phase })
     (record { here = there; set_is = refl; does = c.open_gate.ensures.task; thread = ap (λ g. g.stack.thread) c.open_gate.ensures.progress })
     c.open_gate.ensures.same (ap (λ v. v.left) c.open_gate.ensures.task) (ap (λ v. v.used) c.open_gate.ensures.task) (ap (λ v. v.works) c.open_gate.ensures.task) (ap (λ v. v.next) c.open_gate.ensures.task) refl refl
 
@@ -359,7 +368,7 @@ returns-then-not-is_served c =
     let below = among-tasks m.units.now m.tasks.items sound.calls i t here k c.in-Ended.ensures.among in
     let there : slice_get tasks' k ≡ Some u = slice_get_read tasks' (length tasks') k u refl (omega (arith, below, length-set m.tasks.items i t'')) c.index_mut-asked.ensures.value in
     unserved-step m i c.requires.whole c.requires.phase c.requires.goes_on t here p.2 t' t'' c.in-Ended.ensures.thread c.go_outside.ensures.progress c.in-Ended.ensures.works c.in-Ended.ensures.falls _
-    (record { until = refl; costs = refl; units = refl; arrivals = refl; time = refl; ran = refl; stopped = refl; phase = c.requires.phase }) (same-put m.tasks.items i t'' k u there) refl
+    (record { until = refl; costs = refl; units = refl; callees = refl; arrivals = refl; time = refl; ran = refl; stopped = refl; phase = c.requires.phase }) (same-put m.tasks.items i t'' k u there) refl
     k refl c.in-Ended.value a c.in-Ended.ensures.inside c.go_outside.ensures.task u there (sym c.is_served.ensures ∙ c.if-not-is_served.true)
 
 pub returns-else-not-is_served : goal.returns-else-not-is_served
@@ -381,5 +390,5 @@ returns-else-not-is_served c =
     let waits = waits-open u (sym c.is_served.ensures ∙ c.if-not-is_served.false) in
     let thread'' = ap (λ g. g.stack.thread) c.go_outside.ensures.progress ∙ c.in-Ended.ensures.thread in
     answered-step m i c.requires.whole c.requires.phase c.requires.goes_on t here p.2 t' t'' c.in-Ended.ensures.thread c.go_outside.ensures.progress c.in-Ended.ensures.works c.in-Ended.ensures.falls _
-    (record { until = refl; costs = refl; units = refl; arrivals = refl; time = refl; ran = refl; stopped = refl; phase = c.requires.phase })
+    (record { until = refl; costs = refl; units = refl; callees = refl; arrivals = refl; time = refl; ran = refl; stopped = refl; phase = c.requires.phase })
     k c.in-Ended.value a c.in-Ended.ensures.inside c.go_outside.ensures.task u c.release.new.self there refl c.release.ensures.task c.release.ensures.thread waits.0 waits.1 c.release.ensures.works c.push_tail.ensures refl

@@ -34,19 +34,19 @@ returns-in-Two-clause-system c =
 pub returns-else-self-clause-placed : goal.returns-else-self-clause-placed
 returns-else-self-clause-placed c = λ p a runs.
     pushed-placed p a c.steps.self.tasks.items c.in-One.event _ c.push.new.self c.steps.invariant.empty c.push.ensures
-    (of-units p c.steps.self.tasks.items c.steps.self.units.now c.steps.self.until c.steps.self.time c.steps.invariant.whole.kept (ap (λ y. y.objects) (c.steps.invariant.follows.system ∙ runs)))
+    (of-units p c.steps.self.tasks.items c.steps.self.units.now c.steps.self.until c.steps.self.time c.steps.invariant.whole.sound.kept (ap (λ y. y.objects) (c.steps.invariant.follows.system ∙ runs)))
     (ap (λ y. y.threads) (sym (c.steps.invariant.follows.system ∙ runs))) c.in-One.ensures.of
 
 pub returns-in-Two-clause-placed : goal.returns-in-Two-clause-placed
 returns-in-Two-clause-placed c = λ p a runs.
     both-placed p a c.steps.self.tasks.items c.in-Two.first c.in-Two.second _ c.push_both.new.self c.steps.invariant.empty c.push_both.ensures
-    (of-units p c.steps.self.tasks.items c.steps.self.units.now c.steps.self.until c.steps.self.time c.steps.invariant.whole.kept (ap (λ y. y.objects) (c.steps.invariant.follows.system ∙ runs)))
+    (of-units p c.steps.self.tasks.items c.steps.self.units.now c.steps.self.until c.steps.self.time c.steps.invariant.whole.sound.kept (ap (λ y. y.objects) (c.steps.invariant.follows.system ∙ runs)))
     (ap (λ y. y.threads) (sym (c.steps.invariant.follows.system ∙ runs))) c.in-Two.ensures.of
 
 pub returns-then-self-clause-placed : goal.returns-then-self-clause-placed
 returns-then-self-clause-placed c = λ p a runs.
     pushed-placed p a c.steps.self.tasks.items c.in-One.event _ c.push.new.self c.steps.invariant.empty c.push.ensures
-    (of-units p c.steps.self.tasks.items c.steps.self.units.now c.steps.self.until c.steps.self.time c.steps.invariant.whole.kept (ap (λ y. y.objects) (c.steps.invariant.follows.system ∙ runs)))
+    (of-units p c.steps.self.tasks.items c.steps.self.units.now c.steps.self.until c.steps.self.time c.steps.invariant.whole.sound.kept (ap (λ y. y.objects) (c.steps.invariant.follows.system ∙ runs)))
     (ap (λ y. y.threads) (sym (c.steps.invariant.follows.system ∙ runs))) c.in-One.ensures.of
 
 pub returns-then-self-clause-turned : goal.returns-then-self-clause-turned

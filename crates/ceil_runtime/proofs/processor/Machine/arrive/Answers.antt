@@ -27,7 +27,7 @@ use Rattle.ceil_runtime.proofs.processor.Machine.arrive.Goals as goal
 pub index_mut-asked-requires : goal.index_mut-asked-requires
 index_mut-asked-requires c =
     let m = c.args.self.now in
-    let sound : IsSound m.until m.time Arriving m.ran m.units.now m.tasks.items m.links = subst (λ (p : Phase). IsSound m.until m.time p m.ran m.units.now m.tasks.items m.links) c.requires.phase c.requires.whole in
+    let sound : IsSound m.until m.time Arriving m.ran m.units.now m.tasks.items m.links = subst (λ (p : Phase). IsSound m.until m.time p m.ran m.units.now m.tasks.items m.links) c.requires.phase c.requires.whole.sound in
     let i = c.in-Some.task in
     let found : Some i ≡ option_map (λ (x : ℕ × Task'). x.0) (first_where (is_of c.args.arrival.task) (map task_of m.tasks.items)) =
     c.in-Some.ensures ∙ ap (λ ts. option_map (λ (x : ℕ × Task'). x.0) (first_where (is_of c.args.arrival.task) (map task_of ts))) c.as_slice.ensures.value in
@@ -37,7 +37,7 @@ index_mut-asked-requires c =
 pub returns-in_default-clause-follows : goal.returns-in_default-clause-follows
 returns-in_default-clause-follows c =
     let m = c.args.self.now in
-    let sound : IsSound m.until m.time Arriving m.ran m.units.now m.tasks.items m.links = subst (λ (p : Phase). IsSound m.until m.time p m.ran m.units.now m.tasks.items m.links) c.requires.phase c.requires.whole in
+    let sound : IsSound m.until m.time Arriving m.ran m.units.now m.tasks.items m.links = subst (λ (p : Phase). IsSound m.until m.time p m.ran m.units.now m.tasks.items m.links) c.requires.phase c.requires.whole.sound in
     let none : None ≡ option_map (λ (x : ℕ × Task'). x.0) (first_where (is_of c.args.arrival.task) (map task_of m.tasks.items)) =
     c.in_default.ensures ∙ ap (λ ts. option_map (λ (x : ℕ × Task'). x.0) (first_where (is_of c.args.arrival.task) (map task_of ts))) c.as_slice.ensures.value in
     let y = system_by m.until m.costs m.units.now m.tasks.items in
@@ -68,7 +68,7 @@ returns-in_default-clause-falls c = λ on.
 pub returns-in_default-readiness-clause-whole : goal.returns-in_default-readiness-clause-whole
 returns-in_default-readiness-clause-whole c =
     let m = c.args.self.now in
-    let sound : IsSound m.until m.time Arriving m.ran m.units.now m.tasks.items m.links = subst (λ (p : Phase). IsSound m.until m.time p m.ran m.units.now m.tasks.items m.links) c.requires.phase c.requires.whole in
+    let sound : IsSound m.until m.time Arriving m.ran m.units.now m.tasks.items m.links = subst (λ (p : Phase). IsSound m.until m.time p m.ran m.units.now m.tasks.items m.links) c.requires.phase c.requires.whole.sound in
     let i = c.in-Some.task in
     let found : Some i ≡ option_map (λ (x : ℕ × Task'). x.0) (first_where (is_of c.args.arrival.task) (map task_of m.tasks.items)) =
     c.in-Some.ensures ∙ ap (λ ts. option_map (λ (x : ℕ × Task'). x.0) (first_where (is_of c.args.arrival.task) (map task_of ts))) c.as_slice.ensures.value in
@@ -78,12 +78,16 @@ returns-in_default-readiness-clause-whole c =
     let known = asked-known (stores_of m) c.args.arrival c.args.others.now m.until m.time m.costs m.units.now m.ran m.tasks.items m.links sound c.requires.now i found in
     let here = slice_get_read m.tasks.items (length m.tasks.items) i t refl known c.index_mut-asked.ensures.value in
     let changed : Changed m.tasks.items tasks' i t t' (asked c.args.arrival.value) = record { here = here; set_is = refl; does = c.arrive.ensures.task; thread = c.arrive.ensures.thread } in
-    subst (λ (p : Phase). IsSound m.until m.time p m.ran m.units.now tasks' m.links) (sym c.requires.phase) (asked-sound (stores_of m) c.args.arrival c.args.others.now m.until m.time m.costs m.units.now m.ran m.tasks.items m.links sound c.requires.now i found t t' tasks' changed c.arrive.ensures.same)
+    record {
+      sound =
+          subst (λ (p : Phase). IsSound m.until m.time p m.ran m.units.now tasks' m.links) (sym c.requires.phase) (asked-sound (stores_of m) c.args.arrival c.args.others.now m.until m.time m.costs m.units.now m.ran m.tasks.items m.links sound c.requires.now i found t t' tasks' changed c.arrive.ensures.same);
+      callees = c.requires.whole.callees;
+    }
 
 pub returns-in_default-readiness-clause-follows : goal.returns-in_default-readiness-clause-follows
 returns-in_default-readiness-clause-follows c =
     let m = c.args.self.now in
-    let sound : IsSound m.until m.time Arriving m.ran m.units.now m.tasks.items m.links = subst (λ (p : Phase). IsSound m.until m.time p m.ran m.units.now m.tasks.items m.links) c.requires.phase c.requires.whole in
+    let sound : IsSound m.until m.time Arriving m.ran m.units.now m.tasks.items m.links = subst (λ (p : Phase). IsSound m.until m.time p m.ran m.units.now m.tasks.items m.links) c.requires.phase c.requires.whole.sound in
     let i = c.in-Some.task in
     let found : Some i ≡ option_map (λ (x : ℕ × Task'). x.0) (first_where (is_of c.args.arrival.task) (map task_of m.tasks.items)) =
     c.in-Some.ensures ∙ ap (λ ts. option_map (λ (x : ℕ × Task'). x.0) (first_where (is_of c.args.arrival.task) (map task_of ts))) c.as_slice.ensures.value in
@@ -107,7 +111,7 @@ returns-in_default-readiness-clause-follows c =
 pub returns-in_default-readiness-clause-of : goal.returns-in_default-readiness-clause-of
 returns-in_default-readiness-clause-of c =
     let m = c.args.self.now in
-    let sound : IsSound m.until m.time Arriving m.ran m.units.now m.tasks.items m.links = subst (λ (p : Phase). IsSound m.until m.time p m.ran m.units.now m.tasks.items m.links) c.requires.phase c.requires.whole in
+    let sound : IsSound m.until m.time Arriving m.ran m.units.now m.tasks.items m.links = subst (λ (p : Phase). IsSound m.until m.time p m.ran m.units.now m.tasks.items m.links) c.requires.phase c.requires.whole.sound in
     let i = c.in-Some.task in
     let found : Some i ≡ option_map (λ (x : ℕ × Task'). x.0) (first_where (is_of c.args.arrival.task) (map task_of m.tasks.items)) =
     c.in-Some.ensures ∙ ap (λ ts. option_map (λ (x : ℕ × Task'). x.0) (first_where (is_of c.args.arrival.task) (map task_of ts))) c.as_slice.ensures.value in
@@ -122,7 +126,7 @@ returns-in_default-readiness-clause-of c =
 pub returns-in_default-readiness-clause-falls : goal.returns-in_default-readiness-clause-falls
 returns-in_default-readiness-clause-falls c = λ on.
     let m = c.args.self.now in
-    let sound : IsSound m.until m.time Arriving m.ran m.units.now m.tasks.items m.links = subst (λ (p : Phase). IsSound m.until m.time p m.ran m.units.now m.tasks.items m.links) c.requires.phase c.requires.whole in
+    let sound : IsSound m.until m.time Arriving m.ran m.units.now m.tasks.items m.links = subst (λ (p : Phase). IsSound m.until m.time p m.ran m.units.now m.tasks.items m.links) c.requires.phase c.requires.whole.sound in
     let i = c.in-Some.task in
     let found : Some i ≡ option_map (λ (x : ℕ × Task'). x.0) (first_where (is_of c.args.arrival.task) (map task_of m.tasks.items)) =
     c.in-Some.ensures ∙ ap (λ ts. option_map (λ (x : ℕ × Task'). x.0) (first_where (is_of c.args.arrival.task) (map task_of ts))) c.as_slice.ensures.value in
@@ -143,7 +147,7 @@ release-requires-clause-rests c =
 pub release-requires-clause-near : goal.release-requires-clause-near
 release-requires-clause-near c =
     let m = c.args.self.now in
-    let sound : IsSound m.until m.time Arriving m.ran m.units.now m.tasks.items m.links = subst (λ (p : Phase). IsSound m.until m.time p m.ran m.units.now m.tasks.items m.links) c.requires.phase c.requires.whole in
+    let sound : IsSound m.until m.time Arriving m.ran m.units.now m.tasks.items m.links = subst (λ (p : Phase). IsSound m.until m.time p m.ran m.units.now m.tasks.items m.links) c.requires.phase c.requires.whole.sound in
     let i = c.in-Some.task in
     let found : Some i ≡ option_map (λ (x : ℕ × Task'). x.0) (first_where (is_of c.args.arrival.task) (map task_of m.tasks.items)) =
     c.in-Some.ensures ∙ ap (λ ts. option_map (λ (x : ℕ × Task'). x.0) (first_where (is_of c.args.arrival.task) (map task_of ts))) c.as_slice.ensures.value in
@@ -159,7 +163,7 @@ release-requires-clause-near c =
 pub release-requires-clause-few : goal.release-requires-clause-few
 release-requires-clause-few c =
     let m = c.args.self.now in
-    let sound : IsSound m.until m.time Arriving m.ran m.units.now m.tasks.items m.links = subst (λ (p : Phase). IsSound m.until m.time p m.ran m.units.now m.tasks.items m.links) c.requires.phase c.requires.whole in
+    let sound : IsSound m.until m.time Arriving m.ran m.units.now m.tasks.items m.links = subst (λ (p : Phase). IsSound m.until m.time p m.ran m.units.now m.tasks.items m.links) c.requires.phase c.requires.whole.sound in
     let i = c.in-Some.task in
     let found : Some i ≡ option_map (λ (x : ℕ × Task'). x.0) (first_where (is_of c.args.arrival.task) (map task_of m.tasks.items)) =
     c.in-Some.ensures ∙ ap (λ ts. option_map (λ (x : ℕ × Task'). x.0) (first_where (is_of c.args.arrival.task) (map task_of ts))) c.as_slice.ensures.value in
@@ -175,7 +179,7 @@ release-requires-clause-few c =
 pub push_tail-requires : goal.push_tail-requires
 push_tail-requires c =
     let m = c.args.self.now in
-    let sound : IsSound m.until m.time Arriving m.ran m.units.now m.tasks.items m.links = subst (λ (p : Phase). IsSound m.until m.time p m.ran m.units.now m.tasks.items m.links) c.requires.phase c.requires.whole in
+    let sound : IsSound m.until m.time Arriving m.ran m.units.now m.tasks.items m.links = subst (λ (p : Phase). IsSound m.until m.time p m.ran m.units.now m.tasks.items m.links) c.requires.phase c.requires.whole.sound in
     let i = c.in-Some.task in
     let found : Some i ≡ option_map (λ (x : ℕ × Task'). x.0) (first_where (is_of c.args.arrival.task) (map task_of m.tasks.items)) =
     c.in-Some.ensures ∙ ap (λ ts. option_map (λ (x : ℕ × Task'). x.0) (first_where (is_of c.args.arrival.task) (map task_of ts))) c.as_slice.ensures.value in
@@ -191,7 +195,7 @@ push_tail-requires c =
 pub returns-clause-whole : goal.returns-clause-whole
 returns-clause-whole c =
     let m = c.args.self.now in
-    let sound : IsSound m.until m.time Arriving m.ran m.units.now m.tasks.items m.links = subst (λ (p : Phase). IsSound m.until m.time p m.ran m.units.now m.tasks.items m.links) c.requires.phase c.requires.whole in
+    let sound : IsSound m.until m.time Arriving m.ran m.units.now m.tasks.items m.links = subst (λ (p : Phase). IsSound m.until m.time p m.ran m.units.now m.tasks.items m.links) c.requires.phase c.requires.whole.sound in
     let i = c.in-Some.task in
     let found : Some i ≡ option_map (λ (x : ℕ × Task'). x.0) (first_where (is_of c.args.arrival.task) (map task_of m.tasks.items)) =
     c.in-Some.ensures ∙ ap (λ ts. option_map (λ (x : ℕ × Task'). x.0) (first_where (is_of c.args.arrival.task) (map task_of ts))) c.as_slice.ensures.value in
@@ -206,13 +210,17 @@ returns-clause-whole c =
     let again : Changed tasks' tasks'' i t' t'' (released m.costs) =
     record { here = get-put m.tasks.items i t' known; set_is = sym (set-twice m.tasks.items i t' t''); does = c.release.ensures.task; thread = c.release.ensures.thread } in
     let waits : t'.readiness ≡ readies.Waiting = c.in-Waiting.is in
-    subst (λ (p : Phase). IsSound m.until m.time p m.ran m.units.now tasks'' c.push_tail.new.self) (sym c.requires.phase)
-    (answered-sound (stores_of m) c.args.arrival c.args.others.now m.until m.time m.costs m.units.now m.ran m.tasks.items m.links sound c.requires.now i found t t' tasks' changed t'' tasks'' again waits c.push_tail.new.self c.arrive.ensures.same c.push_tail.ensures c.release.ensures.works)
+    record {
+      sound =
+          subst (λ (p : Phase). IsSound m.until m.time p m.ran m.units.now tasks'' c.push_tail.new.self) (sym c.requires.phase)
+          (answered-sound (stores_of m) c.args.arrival c.args.others.now m.until m.time m.costs m.units.now m.ran m.tasks.items m.links sound c.requires.now i found t t' tasks' changed t'' tasks'' again waits c.push_tail.new.self c.arrive.ensures.same c.push_tail.ensures c.release.ensures.works);
+      callees = c.requires.whole.callees;
+    }
 
 pub returns-clause-follows : goal.returns-clause-follows
 returns-clause-follows c =
     let m = c.args.self.now in
-    let sound : IsSound m.until m.time Arriving m.ran m.units.now m.tasks.items m.links = subst (λ (p : Phase). IsSound m.until m.time p m.ran m.units.now m.tasks.items m.links) c.requires.phase c.requires.whole in
+    let sound : IsSound m.until m.time Arriving m.ran m.units.now m.tasks.items m.links = subst (λ (p : Phase). IsSound m.until m.time p m.ran m.units.now m.tasks.items m.links) c.requires.phase c.requires.whole.sound in
     let i = c.in-Some.task in
     let found : Some i ≡ option_map (λ (x : ℕ × Task'). x.0) (first_where (is_of c.args.arrival.task) (map task_of m.tasks.items)) =
     c.in-Some.ensures ∙ ap (λ ts. option_map (λ (x : ℕ × Task'). x.0) (first_where (is_of c.args.arrival.task) (map task_of ts))) c.as_slice.ensures.value in
@@ -251,7 +259,7 @@ returns-clause-follows c =
 pub returns-clause-of : goal.returns-clause-of
 returns-clause-of c =
     let m = c.args.self.now in
-    let sound : IsSound m.until m.time Arriving m.ran m.units.now m.tasks.items m.links = subst (λ (p : Phase). IsSound m.until m.time p m.ran m.units.now m.tasks.items m.links) c.requires.phase c.requires.whole in
+    let sound : IsSound m.until m.time Arriving m.ran m.units.now m.tasks.items m.links = subst (λ (p : Phase). IsSound m.until m.time p m.ran m.units.now m.tasks.items m.links) c.requires.phase c.requires.whole.sound in
     let i = c.in-Some.task in
     let found : Some i ≡ option_map (λ (x : ℕ × Task'). x.0) (first_where (is_of c.args.arrival.task) (map task_of m.tasks.items)) =
     c.in-Some.ensures ∙ ap (λ ts. option_map (λ (x : ℕ × Task'). x.0) (first_where (is_of c.args.arrival.task) (map task_of ts))) c.as_slice.ensures.value in
@@ -269,7 +277,7 @@ returns-clause-of c =
 pub returns-clause-falls : goal.returns-clause-falls
 returns-clause-falls c = λ on.
     let m = c.args.self.now in
-    let sound : IsSound m.until m.time Arriving m.ran m.units.now m.tasks.items m.links = subst (λ (p : Phase). IsSound m.until m.time p m.ran m.units.now m.tasks.items m.links) c.requires.phase c.requires.whole in
+    let sound : IsSound m.until m.time Arriving m.ran m.units.now m.tasks.items m.links = subst (λ (p : Phase). IsSound m.until m.time p m.ran m.units.now m.tasks.items m.links) c.requires.phase c.requires.whole.sound in
     let i = c.in-Some.task in
     let found : Some i ≡ option_map (λ (x : ℕ × Task'). x.0) (first_where (is_of c.args.arrival.task) (map task_of m.tasks.items)) =
     c.in-Some.ensures ∙ ap (λ ts. option_map (λ (x : ℕ × Task'). x.0) (first_where (is_of c.args.arrival.task) (map task_of ts))) c.as_slice.ensures.value in

@@ -21,7 +21,7 @@ use Rattle.ceil_runtime.proofs.processor.Machine.delays.Goals as goal
 pub returns-in_default-clause-follows : goal.returns-in_default-clause-follows
 returns-in_default-clause-follows c =
     let m = c.args.self.now in
-    let sound : IsSound m.until m.time Delays m.ran m.units.now m.tasks.items m.links = subst (λ (p : Phase). IsSound m.until m.time p m.ran m.units.now m.tasks.items m.links) c.requires.phase c.requires.whole in
+    let sound : IsSound m.until m.time Delays m.ran m.units.now m.tasks.items m.links = subst (λ (p : Phase). IsSound m.until m.time p m.ran m.units.now m.tasks.items m.links) c.requires.phase c.requires.whole.sound in
     let y = system_by m.until m.costs m.units.now m.tasks.items in
     let before : state_by (stores_of m) m.arrivals.now m.time m.phase m.ran m.stopped m.tasks.items m.links.ready ≡ state_by (stores_of m) m.arrivals.now m.time Delays m.ran false m.tasks.items m.links.ready =
     ap (λ p. state_by (stores_of m) m.arrivals.now m.time p m.ran m.stopped m.tasks.items m.links.ready) c.requires.phase ∙ ap (λ b. state_by (stores_of m) m.arrivals.now m.time Delays m.ran b m.tasks.items m.links.ready) c.requires.goes_on in
@@ -31,7 +31,7 @@ returns-in_default-clause-follows c =
 pub release-requires-clause-few : goal.release-requires-clause-few
 release-requires-clause-few c =
     let m = c.args.self.now in
-    let sound : IsSound m.until m.time Delays m.ran m.units.now m.tasks.items m.links = subst (λ (p : Phase). IsSound m.until m.time p m.ran m.units.now m.tasks.items m.links) c.requires.phase c.requires.whole in
+    let sound : IsSound m.until m.time Delays m.ran m.units.now m.tasks.items m.links = subst (λ (p : Phase). IsSound m.until m.time p m.ran m.units.now m.tasks.items m.links) c.requires.phase c.requires.whole.sound in
     let known = woken-known (stores_of m) m.arrivals.now m.until m.time m.costs m.units.now m.ran m.tasks.items m.links sound c.in-Some.task c.in-Some.ensures.task in
     let k = sound.kept c.in-Some.task c.index_mut-released.result.now (slice_get_read m.tasks.items (length m.tasks.items) c.in-Some.task c.index_mut-released.result.now refl known c.index_mut-released.ensures.value) in
     omega (arith, k.works, sound.in_time, sound.near)
@@ -40,7 +40,7 @@ pub release-requires-clause-rests : goal.release-requires-clause-rests
 release-requires-clause-rests c =
     let m = c.args.self.now in
     let t = c.index_mut-released.result.now in
-    let sound : IsSound m.until m.time Delays m.ran m.units.now m.tasks.items m.links = subst (λ (p : Phase). IsSound m.until m.time p m.ran m.units.now m.tasks.items m.links) c.requires.phase c.requires.whole in
+    let sound : IsSound m.until m.time Delays m.ran m.units.now m.tasks.items m.links = subst (λ (p : Phase). IsSound m.until m.time p m.ran m.units.now m.tasks.items m.links) c.requires.phase c.requires.whole.sound in
     let known = woken-known (stores_of m) m.arrivals.now m.until m.time m.costs m.units.now m.ran m.tasks.items m.links sound c.in-Some.task c.in-Some.ensures.task in
     ap is_ready (woken-asleep (stores_of m) m.arrivals.now m.until m.time m.costs m.units.now m.ran m.tasks.items m.links sound c.in-Some.task c.in-Some.ensures.task t
     (slice_get_read m.tasks.items (length m.tasks.items) c.in-Some.task t refl known c.index_mut-released.ensures.value)).0
@@ -49,7 +49,7 @@ pub release-requires-clause-near : goal.release-requires-clause-near
 release-requires-clause-near c =
     let m = c.args.self.now in
     let t = c.index_mut-released.result.now in
-    let sound : IsSound m.until m.time Delays m.ran m.units.now m.tasks.items m.links = subst (λ (p : Phase). IsSound m.until m.time p m.ran m.units.now m.tasks.items m.links) c.requires.phase c.requires.whole in
+    let sound : IsSound m.until m.time Delays m.ran m.units.now m.tasks.items m.links = subst (λ (p : Phase). IsSound m.until m.time p m.ran m.units.now m.tasks.items m.links) c.requires.phase c.requires.whole.sound in
     let known = woken-known (stores_of m) m.arrivals.now m.until m.time m.costs m.units.now m.ran m.tasks.items m.links sound c.in-Some.task c.in-Some.ensures.task in
     let k = sound.kept c.in-Some.task t (slice_get_read m.tasks.items (length m.tasks.items) c.in-Some.task t refl known c.index_mut-released.ensures.value) in
     omega (arith, k.next, sound.near)
@@ -59,21 +59,25 @@ returns-clause-whole c =
     let m = c.args.self.now in
     let t = c.index_mut-released.result.now in
     let t' = c.release.new.self in
-    let sound : IsSound m.until m.time Delays m.ran m.units.now m.tasks.items m.links = subst (λ (p : Phase). IsSound m.until m.time p m.ran m.units.now m.tasks.items m.links) c.requires.phase c.requires.whole in
+    let sound : IsSound m.until m.time Delays m.ran m.units.now m.tasks.items m.links = subst (λ (p : Phase). IsSound m.until m.time p m.ran m.units.now m.tasks.items m.links) c.requires.phase c.requires.whole.sound in
     let known = woken-known (stores_of m) m.arrivals.now m.until m.time m.costs m.units.now m.ran m.tasks.items m.links sound c.in-Some.task c.in-Some.ensures.task in
     let here = slice_get_read m.tasks.items (length m.tasks.items) c.in-Some.task t refl known c.index_mut-released.ensures.value in
     let changed : Changed m.tasks.items (set m.tasks.items c.in-Some.task t') c.in-Some.task t t' (released m.costs) = record { here = here; set_is = refl; does = c.release.ensures.task; thread = c.release.ensures.thread } in
     let put : Queues → Queues = λ q. record q { ready = at_tail (c.in-Some.task, t'.active) q.ready } in
-    subst (λ (p : Phase). IsSound m.until m.time p m.ran m.units.now (set m.tasks.items c.in-Some.task t') c.push_tail.new.self) (sym c.requires.phase)
-    (release-sound (stores_of m) m.arrivals.now m.until m.time m.costs m.units.now m.ran m.tasks.items m.links sound c.in-Some.task c.in-Some.ensures.task _ t t' changed c.push_tail.new.self
-    (c.push_tail.ensures ∙ ap put c.in-Some.ensures.queues) c.release.ensures.works c.release.ensures.near)
+    record {
+      sound =
+          subst (λ (p : Phase). IsSound m.until m.time p m.ran m.units.now (set m.tasks.items c.in-Some.task t') c.push_tail.new.self) (sym c.requires.phase)
+          (release-sound (stores_of m) m.arrivals.now m.until m.time m.costs m.units.now m.ran m.tasks.items m.links sound c.in-Some.task c.in-Some.ensures.task _ t t' changed c.push_tail.new.self
+          (c.push_tail.ensures ∙ ap put c.in-Some.ensures.queues) c.release.ensures.works c.release.ensures.near);
+      callees = c.requires.whole.callees;
+    }
 
 pub returns-clause-follows : goal.returns-clause-follows
 returns-clause-follows c =
     let m = c.args.self.now in
     let t = c.index_mut-released.result.now in
     let t' = c.release.new.self in
-    let sound : IsSound m.until m.time Delays m.ran m.units.now m.tasks.items m.links = subst (λ (p : Phase). IsSound m.until m.time p m.ran m.units.now m.tasks.items m.links) c.requires.phase c.requires.whole in
+    let sound : IsSound m.until m.time Delays m.ran m.units.now m.tasks.items m.links = subst (λ (p : Phase). IsSound m.until m.time p m.ran m.units.now m.tasks.items m.links) c.requires.phase c.requires.whole.sound in
     let known = woken-known (stores_of m) m.arrivals.now m.until m.time m.costs m.units.now m.ran m.tasks.items m.links sound c.in-Some.task c.in-Some.ensures.task in
     let here = slice_get_read m.tasks.items (length m.tasks.items) c.in-Some.task t refl known c.index_mut-released.ensures.value in
     let changed : Changed m.tasks.items (set m.tasks.items c.in-Some.task t') c.in-Some.task t t' (released m.costs) = record { here = here; set_is = refl; does = c.release.ensures.task; thread = c.release.ensures.thread } in
@@ -100,7 +104,7 @@ pub returns-clause-of : goal.returns-clause-of
 returns-clause-of c =
     let m = c.args.self.now in
     let t = c.index_mut-released.result.now in
-    let sound : IsSound m.until m.time Delays m.ran m.units.now m.tasks.items m.links = subst (λ (p : Phase). IsSound m.until m.time p m.ran m.units.now m.tasks.items m.links) c.requires.phase c.requires.whole in
+    let sound : IsSound m.until m.time Delays m.ran m.units.now m.tasks.items m.links = subst (λ (p : Phase). IsSound m.until m.time p m.ran m.units.now m.tasks.items m.links) c.requires.phase c.requires.whole.sound in
     let known = woken-known (stores_of m) m.arrivals.now m.until m.time m.costs m.units.now m.ran m.tasks.items m.links sound c.in-Some.task c.in-Some.ensures.task in
     record {
       place = c.in-Some.task;
@@ -115,7 +119,7 @@ returns-clause-falls c = λ on.
     let t = c.index_mut-released.result.now in
     let t' = c.release.new.self in
     let tasks' = set m.tasks.items c.in-Some.task t' in
-    let sound : IsSound m.until m.time Delays m.ran m.units.now m.tasks.items m.links = subst (λ (p : Phase). IsSound m.until m.time p m.ran m.units.now m.tasks.items m.links) c.requires.phase c.requires.whole in
+    let sound : IsSound m.until m.time Delays m.ran m.units.now m.tasks.items m.links = subst (λ (p : Phase). IsSound m.until m.time p m.ran m.units.now m.tasks.items m.links) c.requires.phase c.requires.whole.sound in
     let known = woken-known (stores_of m) m.arrivals.now m.until m.time m.costs m.units.now m.ran m.tasks.items m.links sound c.in-Some.task c.in-Some.ensures.task in
     let here = slice_get_read m.tasks.items (length m.tasks.items) c.in-Some.task t refl known c.index_mut-released.ensures.value in
     let changed : Changed m.tasks.items tasks' c.in-Some.task t t' (released m.costs) = record { here = here; set_is = refl; does = c.release.ensures.task; thread = c.release.ensures.thread } in

@@ -5,7 +5,7 @@ use Rattle.ceil_runtime.specs.Works.{ActsAs, task_of}
 use Rattle.ceil_runtime.specs.Written.{system_of}
 use Rattle.ceil_runtime.specs.declared.effects.Deed.TheVariants.{Own, Enter, Leave, Ask}
 use Rattle.ceil_runtime.specs.declared.task.Task.{Task}
-use Rattle.ceil_runtime.proofs.Stepped.{running-sound}
+use Rattle.ceil_runtime.proofs.Stepped.{running-sound, task-callees}
 use Rattle.ceil_runtime.proofs.processor.Machine.effect.Goals as goal
 
 pub act-requires-clause-reaches : goal.act-requires-clause-reaches
@@ -39,3 +39,11 @@ ask-requires-clause-reaches c =
     let t = c.index.result.now in
     let here = slice_get_read m.tasks.items (length m.tasks.items) i t refl (running-sound m i c.requires.whole c.requires.phase c.requires.goes_on).here.1 c.index.ensures in
     λ u there. subst (λ (v : Task). IsDeed (system_of v.progress.stack.thread) c.args.piece (Ask c.in-Ask.target) × ActsAs (system_of v.progress.stack.thread) (task_of v) (Ask c.in-Ask.target)) (same_Some t u (sym here ∙ there)) (c.in-Ask.ensures.deed, c.in-Ask.ensures.acts)
+
+pub deed-requires-clause-callees : goal.deed-requires-clause-callees
+deed-requires-clause-callees c =
+    let m = c.args.self.now in
+    let i = c.args.task in
+    let t = c.index.result.now in
+    let here = slice_get_read m.tasks.items (length m.tasks.items) i t refl (running-sound m i c.requires.whole c.requires.phase c.requires.goes_on).here.1 c.index.ensures in
+    task-callees m i t c.requires.whole here

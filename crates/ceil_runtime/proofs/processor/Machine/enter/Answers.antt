@@ -186,7 +186,7 @@ returns-then-is_above c =
     stop-before m i c.requires.whole c.requires.phase c.requires.goes_on t here p.2 c.args.piece p.0 (Object e.object) o.unit o.ceiling
     (event.Enter m.time t.progress.stack.thread.unit (object_unit (system_by m.until m.costs m.units.now m.tasks.items) e.object) e.place act.0 ∷ []) (deeds.Enter e.object e.place act.0) act.1 (λ vars ps. refl)
     (entered-unit m.until m.costs m.units.now m.tasks.items e.object f.entered.entered f.at o shows) (entered-ceiling m.until m.costs m.units.now m.tasks.items e.object f.entered.entered f.at o shows)
-    (sym c.is_above.ensures ∙ c.if-is_above.true) (inl (found-unit m.units.now m.tasks.items m.objects.items i t here e o there f)) c.stop.new.self (record { tasks = s.tasks; objects = s.objects; links = s.links; arrivals = s.arrivals; units = s.units; costs = s.costs; until = s.until; time = s.time; phase = s.phase; ran = s.ran; stopped = s.stopped }) c.stop.result (c.stop.ensures.told t here)
+    (sym c.is_above.ensures ∙ c.if-is_above.true) (inl (found-unit m.units.now m.tasks.items m.objects.items i t here e o there f)) c.stop.new.self (record { tasks = s.tasks; objects = s.objects; links = s.links; arrivals = s.arrivals; units = s.units; callees = s.callees; costs = s.costs; until = s.until; time = s.time; phase = s.phase; ran = s.ran; stopped = s.stopped }) c.stop.result (c.stop.ensures.told t here)
 
 pub returns : goal.returns
 returns c =
@@ -209,5 +209,5 @@ returns c =
     let t' = c.enter-values.new.self in
     let low = ap (λ x. nat_lt x.ceiling t.active) (sym same_o) ∙ ap (λ v. nat_lt o0.ceiling v.active) (sym same_t) ∙ sym c.is_above.ensures ∙ c.if-is_above.false in
     enter-step m i c.requires.whole c.requires.phase c.requires.goes_on t here p.2 t' c.go_inside.new.self c.enter-values.ensures.thread c.go_inside.ensures.progress c.enter-values.ensures.works c.enter-values.ensures.falls _
-    (record { until = refl; costs = refl; units = refl; arrivals = refl; time = refl; ran = refl; stopped = refl; phase = c.requires.phase }) refl refl e.object e.place _ f.entered.entered f.at o _ there (found-shows m.units.now m.tasks.items m.objects.items i t here e o there f) refl (found-op m.units.now m.tasks.items m.objects.items i t here e o there f)
+    (record { until = refl; costs = refl; units = refl; callees = refl; arrivals = refl; time = refl; ran = refl; stopped = refl; phase = c.requires.phase }) refl refl e.object e.place _ f.entered.entered f.at o _ there (found-shows m.units.now m.tasks.items m.objects.items i t here e o there f) refl (found-op m.units.now m.tasks.items m.objects.items i t here e o there f)
     c.enter-values.ensures.enters c.enter-values.ensures.inside (c.go_inside.ensures.task ∙ ap (λ x. inside_now (Object e.object) x.ceiling (task_of t')) same_o) low (ap vars_of c.enter-values.ensures.lent)

@@ -135,5 +135,5 @@ returns c =
     let o = c.index_mut-object.result.now in
     let there = slice_get_read m.objects.items (length m.objects.items) e.object o refl (slice_get_within m.objects.items e.object f.is.object f.is.here) c.index_mut-object.ensures.value in
     leave-step m i c.requires.whole c.requires.phase c.requires.goes_on t here p.2 c.leave-values.new.self c.go_outside.new.self c.leave-values.ensures.thread c.go_outside.ensures.progress c.leave-values.ensures.works c.leave-values.ensures.falls _
-    (record { until = refl; costs = refl; units = refl; arrivals = refl; time = refl; ran = refl; stopped = refl; phase = c.requires.phase }) refl refl e.object e.place _ f.entered.entered f.at o _ there (found-shows m.units.now m.tasks.items m.objects.items i t here e o there f) refl (found-op m.units.now m.tasks.items m.objects.items i t here e o there f)
+    (record { until = refl; costs = refl; units = refl; callees = refl; arrivals = refl; time = refl; ran = refl; stopped = refl; phase = c.requires.phase }) refl refl e.object e.place _ f.entered.entered f.at o _ there (found-shows m.units.now m.tasks.items m.objects.items i t here e o there f) refl (found-op m.units.now m.tasks.items m.objects.items i t here e o there f)
     c.leave-values.ensures.leaves c.leave-values.ensures.inside c.go_outside.ensures.task

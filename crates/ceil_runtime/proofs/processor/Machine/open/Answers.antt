@@ -80,9 +80,13 @@ invariant_of-result-clause-known c = opened-objects c.args.units.now c.in_ok-obj
 pub returns-clause-whole : goal.returns-clause-whole
 returns-clause-whole c =
     let i = c.threads.invariant in
-    open-sound c.args.until c.args.costs c.args.units.now (take c.threads.thread-index c.args.threads.now) c.threads.tasks.items c.threads.links i.opened c.requires.near (omega (arith, i.count, c.requires.few, c.threads-test.false, c.threads.auto.thread-index-end))
-    (omega (arith, i.size, i.count, c.threads-test.false, c.threads.auto.thread-index-end))
-    (open-alike c.args.units.now c.args.threads.now c.threads.tasks.items (i.opened.threads_are ∙ take_all c.threads.thread-index c.args.threads.now (omega (arith, c.threads-test.false))) c.requires.alike)
+    record {
+      sound =
+          open-sound c.args.until c.args.costs c.args.units.now (take c.threads.thread-index c.args.threads.now) c.threads.tasks.items c.threads.links i.opened c.requires.near (omega (arith, i.count, c.requires.few, c.threads-test.false, c.threads.auto.thread-index-end))
+          (omega (arith, i.size, i.count, c.threads-test.false, c.threads.auto.thread-index-end))
+          (open-alike c.args.units.now c.args.threads.now c.threads.tasks.items (i.opened.threads_are ∙ take_all c.threads.thread-index c.args.threads.now (omega (arith, c.threads-test.false))) c.requires.alike);
+      callees = c.in_ok-callees.ensures;
+    }
 
 pub returns-clause-opens : goal.returns-clause-opens
 returns-clause-opens c =

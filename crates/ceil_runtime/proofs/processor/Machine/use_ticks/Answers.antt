@@ -17,17 +17,20 @@ pub returns-in_default-clause-whole : goal.returns-in_default-clause-whole
 returns-in_default-clause-whole c =
     let m = c.args.self.now in
     let x = c.ticks_ahead-ticks.ensures in
-    let sound : IsSound m.until m.time Use m.ran m.units.now m.tasks.items m.links = subst (λ (p : Phase). IsSound m.until m.time p m.ran m.units.now m.tasks.items m.links) c.requires.phase c.requires.whole in
+    let sound : IsSound m.until m.time Use m.ran m.units.now m.tasks.items m.links = subst (λ (p : Phase). IsSound m.until m.time p m.ran m.units.now m.tasks.items m.links) c.requires.phase c.requires.whole.sound in
     let none = no-entry m.links.ready c.in_default.ensures.task in
     let same = c.in_default.ensures.queues ∙ ap (λ (es : List Entry). record m.links { ready = es }) none.1 in
-    subst (IsSound m.until (m.time + c.ticks_ahead-ticks.result) (Effects None) None m.units.now m.tasks.items) (sym same)
-    (idle-sound (stores_of m) m.arrivals.now m.until m.time m.costs m.units.now m.ran m.tasks.items m.links sound c.ticks_ahead-ticks.result x.some x.horizon x.wake x.arrival)
+    record {
+      sound = subst (IsSound m.until (m.time + c.ticks_ahead-ticks.result) (Effects None) None m.units.now m.tasks.items) (sym same)
+          (idle-sound (stores_of m) m.arrivals.now m.until m.time m.costs m.units.now m.ran m.tasks.items m.links sound c.ticks_ahead-ticks.result x.some x.horizon x.wake x.arrival);
+      callees = c.requires.whole.callees;
+    }
 
 pub returns-in_default-clause-follows : goal.returns-in_default-clause-follows
 returns-in_default-clause-follows c =
     let m = c.args.self.now in
     let x = c.ticks_ahead-ticks.ensures in
-    let sound : IsSound m.until m.time Use m.ran m.units.now m.tasks.items m.links = subst (λ (p : Phase). IsSound m.until m.time p m.ran m.units.now m.tasks.items m.links) c.requires.phase c.requires.whole in
+    let sound : IsSound m.until m.time Use m.ran m.units.now m.tasks.items m.links = subst (λ (p : Phase). IsSound m.until m.time p m.ran m.units.now m.tasks.items m.links) c.requires.phase c.requires.whole.sound in
     let none = no-entry m.links.ready c.in_default.ensures.task in
     let y = system_by m.until m.costs m.units.now m.tasks.items in
     let before : state_by (stores_of m) m.arrivals.now m.time m.phase m.ran m.stopped m.tasks.items m.links.ready ≡ state_by (stores_of m) m.arrivals.now m.time Use m.ran false m.tasks.items m.links.ready =
@@ -50,7 +53,7 @@ returns-in_default-clause-falls c = λ on.
 pub index_mut-requires : goal.index_mut-requires
 index_mut-requires c =
     let m = c.args.self.now in
-    let sound : IsSound m.until m.time Use m.ran m.units.now m.tasks.items m.links = subst (λ (p : Phase). IsSound m.until m.time p m.ran m.units.now m.tasks.items m.links) c.requires.phase c.requires.whole in
+    let sound : IsSound m.until m.time Use m.ran m.units.now m.tasks.items m.links = subst (λ (p : Phase). IsSound m.until m.time p m.ran m.units.now m.tasks.items m.links) c.requires.phase c.requires.whole.sound in
     let head = first-entry m.links.ready c.in-Some.task c.in-Some.ensures.task in
     let known : c.in-Some.task < length m.tasks.items = ready-known m.tasks.items m.links.ready c.in-Some.task head.0 sound.queued head.1 in
     omega (arith, known, m.tasks.ok)
@@ -59,7 +62,7 @@ pub use_ticks-requires-clause-small : goal.use_ticks-requires-clause-small
 use_ticks-requires-clause-small c =
     let m = c.args.self.now in
     let t = c.index_mut.result.now in
-    let sound : IsSound m.until m.time Use m.ran m.units.now m.tasks.items m.links = subst (λ (p : Phase). IsSound m.until m.time p m.ran m.units.now m.tasks.items m.links) c.requires.phase c.requires.whole in
+    let sound : IsSound m.until m.time Use m.ran m.units.now m.tasks.items m.links = subst (λ (p : Phase). IsSound m.until m.time p m.ran m.units.now m.tasks.items m.links) c.requires.phase c.requires.whole.sound in
     let head = first-entry m.links.ready c.in-Some.task c.in-Some.ensures.task in
     let known : c.in-Some.task < length m.tasks.items = ready-known m.tasks.items m.links.ready c.in-Some.task head.0 sound.queued head.1 in
     let here = slice_get_read m.tasks.items (length m.tasks.items) c.in-Some.task t refl known c.index_mut.ensures.value in
@@ -73,15 +76,19 @@ returns-clause-whole c =
     let t = c.index_mut.result.now in
     let t' = c.use_ticks.new.self in
     let does = c.use_ticks.ensures.task in
-    let sound : IsSound m.until m.time Use m.ran m.units.now m.tasks.items m.links = subst (λ (p : Phase). IsSound m.until m.time p m.ran m.units.now m.tasks.items m.links) c.requires.phase c.requires.whole in
+    let sound : IsSound m.until m.time Use m.ran m.units.now m.tasks.items m.links = subst (λ (p : Phase). IsSound m.until m.time p m.ran m.units.now m.tasks.items m.links) c.requires.phase c.requires.whole.sound in
     let head = first-entry m.links.ready c.in-Some.task c.in-Some.ensures.task in
     let known : c.in-Some.task < length m.tasks.items = ready-known m.tasks.items m.links.ready c.in-Some.task head.0 sound.queued head.1 in
     let here = slice_get_read m.tasks.items (length m.tasks.items) c.in-Some.task t refl known c.index_mut.ensures.value in
     let tasks' = set m.tasks.items c.in-Some.task t' in
     let changed : Changed m.tasks.items tasks' c.in-Some.task t t' (used_ticks c.ticks_ahead-ticks.result) = record { here = here; set_is = refl; does = does; thread = c.use_ticks.ensures.thread } in
-    use-sound (stores_of m) m.arrivals.now m.until m.time m.costs m.units.now m.ran m.tasks.items m.links sound c.ticks_ahead-ticks.result x.some x.horizon x.wake x.arrival c.in-Some.task head.0 tasks' t t' changed head.1
-    (subst (λ ts. IsWithin ts m.links.ready c.ticks_ahead-ticks.result) c.as_slice.ensures.value x.within)
-    (ap (λ v. v.left) does) (ap (λ v. v.used) does) (ap (λ v. v.works) does) (ap (λ v. v.next) does) c.use_ticks.ensures.ready c.pop_head.new.self c.in-Some.ensures.queues
+    record {
+      sound =
+          use-sound (stores_of m) m.arrivals.now m.until m.time m.costs m.units.now m.ran m.tasks.items m.links sound c.ticks_ahead-ticks.result x.some x.horizon x.wake x.arrival c.in-Some.task head.0 tasks' t t' changed head.1
+          (subst (λ ts. IsWithin ts m.links.ready c.ticks_ahead-ticks.result) c.as_slice.ensures.value x.within)
+          (ap (λ v. v.left) does) (ap (λ v. v.used) does) (ap (λ v. v.works) does) (ap (λ v. v.next) does) c.use_ticks.ensures.ready c.pop_head.new.self c.in-Some.ensures.queues;
+      callees = c.requires.whole.callees;
+    }
 
 pub returns-clause-follows : goal.returns-clause-follows
 returns-clause-follows c =
@@ -90,7 +97,7 @@ returns-clause-follows c =
     let t = c.index_mut.result.now in
     let t' = c.use_ticks.new.self in
     let does = c.use_ticks.ensures.task in
-    let sound : IsSound m.until m.time Use m.ran m.units.now m.tasks.items m.links = subst (λ (p : Phase). IsSound m.until m.time p m.ran m.units.now m.tasks.items m.links) c.requires.phase c.requires.whole in
+    let sound : IsSound m.until m.time Use m.ran m.units.now m.tasks.items m.links = subst (λ (p : Phase). IsSound m.until m.time p m.ran m.units.now m.tasks.items m.links) c.requires.phase c.requires.whole.sound in
     let head = first-entry m.links.ready c.in-Some.task c.in-Some.ensures.task in
     let known : c.in-Some.task < length m.tasks.items = ready-known m.tasks.items m.links.ready c.in-Some.task head.0 sound.queued head.1 in
     let here = slice_get_read m.tasks.items (length m.tasks.items) c.in-Some.task t refl known c.index_mut.ensures.value in
@@ -115,7 +122,7 @@ returns-clause-nears c =
     let t = c.index_mut.result.now in
     let t' = c.use_ticks.new.self in
     let does = c.use_ticks.ensures.task in
-    let sound : IsSound m.until m.time Use m.ran m.units.now m.tasks.items m.links = subst (λ (p : Phase). IsSound m.until m.time p m.ran m.units.now m.tasks.items m.links) c.requires.phase c.requires.whole in
+    let sound : IsSound m.until m.time Use m.ran m.units.now m.tasks.items m.links = subst (λ (p : Phase). IsSound m.until m.time p m.ran m.units.now m.tasks.items m.links) c.requires.phase c.requires.whole.sound in
     let head = first-entry m.links.ready c.in-Some.task c.in-Some.ensures.task in
     let known : c.in-Some.task < length m.tasks.items = ready-known m.tasks.items m.links.ready c.in-Some.task head.0 sound.queued head.1 in
     let here = slice_get_read m.tasks.items (length m.tasks.items) c.in-Some.task t refl known c.index_mut.ensures.value in
@@ -123,7 +130,7 @@ returns-clause-nears c =
     let changed : Changed m.tasks.items tasks' c.in-Some.task t t' (used_ticks c.ticks_ahead-ticks.result) = record { here = here; set_is = refl; does = does; thread = c.use_ticks.ensures.thread } in
     let same = ap most_ends (changed-system m.tasks.items tasks' c.in-Some.task t t' (used_ticks c.ticks_ahead-ticks.result) changed m.until m.costs m.units.now) in
     let time' = m.time + c.ticks_ahead-ticks.result in
-    let few = ran-few m.until time' m.costs m.units.now tasks' (Some c.in-Some.task) (returns-clause-whole c).kept in
+    let few = ran-few m.until time' m.costs m.units.now tasks' (Some c.in-Some.task) (returns-clause-whole c).sound.kept in
     let most = most_ends (system_by m.until m.costs m.units.now m.tasks.items) in
     let most' = most_ends (system_by m.until m.costs m.units.now tasks') in
     subst (λ (p : Phase). steps_by m.arrivals.now most' m.until time' (Effects (Some c.in-Some.task)) tasks' (Some c.in-Some.task) < steps_by m.arrivals.now most m.until m.time p m.tasks.items m.ran) (sym c.requires.phase)
@@ -136,7 +143,7 @@ returns-clause-falls c = λ on.
     let t = c.index_mut.result.now in
     let t' = c.use_ticks.new.self in
     let does = c.use_ticks.ensures.task in
-    let sound : IsSound m.until m.time Use m.ran m.units.now m.tasks.items m.links = subst (λ (p : Phase). IsSound m.until m.time p m.ran m.units.now m.tasks.items m.links) c.requires.phase c.requires.whole in
+    let sound : IsSound m.until m.time Use m.ran m.units.now m.tasks.items m.links = subst (λ (p : Phase). IsSound m.until m.time p m.ran m.units.now m.tasks.items m.links) c.requires.phase c.requires.whole.sound in
     let head = first-entry m.links.ready c.in-Some.task c.in-Some.ensures.task in
     let known : c.in-Some.task < length m.tasks.items = ready-known m.tasks.items m.links.ready c.in-Some.task head.0 sound.queued head.1 in
     let here = slice_get_read m.tasks.items (length m.tasks.items) c.in-Some.task t refl known c.index_mut.ensures.value in
@@ -144,7 +151,7 @@ returns-clause-falls c = λ on.
     let changed : Changed m.tasks.items tasks' c.in-Some.task t t' (used_ticks c.ticks_ahead-ticks.result) = record { here = here; set_is = refl; does = does; thread = c.use_ticks.ensures.thread } in
     let time' = m.time + c.ticks_ahead-ticks.result in
     let same = changed-system m.tasks.items tasks' c.in-Some.task t t' (used_ticks c.ticks_ahead-ticks.result) changed m.until m.costs m.units.now in
-    let few = ran-few m.until time' m.costs m.units.now tasks' (Some c.in-Some.task) (returns-clause-whole c).kept in
+    let few = ran-few m.until time' m.costs m.units.now tasks' (Some c.in-Some.task) (returns-clause-whole c).sound.kept in
     subst (λ (p : Phase). left_by (stores_of m) m.arrivals.now m.until m.costs m.units.now time' (Effects (Some c.in-Some.task)) (Some c.in-Some.task) m.stopped tasks' c.pop_head.new.self.ready + 0 ≤ left_by (stores_of m) m.arrivals.now m.until m.costs m.units.now m.time p m.ran m.stopped m.tasks.items m.links.ready)
     (sym c.requires.phase)
     (falls-use (stores_of m) (stores_of m) (Some c.in-Some.task) m.arrivals.now m.until m.costs m.units.now m.time c.ticks_ahead-ticks.result m.ran (Some c.in-Some.task) m.stopped m.stopped m.tasks.items tasks' m.links.ready c.pop_head.new.self.ready

@@ -8,5 +8,5 @@ use Rattle.ceil_runtime.proofs.stack.Stack.deed.Goals as goal
 pub returns-in-Closing : goal.returns-in-Closing
 returns-in-Closing c =
     let s = c.args.self.now in
-    let first = first-at _ _ _ _ _ c.requires c.in-Closing.is in
+    let first = first-at _ _ _ _ _ c.requires.first c.in-Closing.is in
     (c.in-Closing.is, subst (λ y. IsOfObject y c.in-Closing.entry) (system-kept (first_place s.thread) s.frames.items) first.fits.2)

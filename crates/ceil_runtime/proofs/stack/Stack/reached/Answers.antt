@@ -9,13 +9,13 @@ use Rattle.ceil_runtime.proofs.stack.Stack.reached.Goals as goal
 pub unreachable-requires : goal.unreachable-requires
 unreachable-requires c =
     let s = c.args.self.now in
-    is-there s.thread s.frames.items (op_name c.args.object.now c.args.name.now) c.requires.fits (c.in-None.ensures s.thread.work.now)
+    is-there s.thread s.frames.items (op_name c.args.object.now c.args.name.now) c.requires.first.fits (c.in-None.ensures (system_of s.thread) c.requires.callees)
 
 pub returns-in-Some-Protected : goal.returns-in-Some-Protected
 returns-in-Some-Protected c =
     let s = c.args.self.now in
     let target = callee (system_of s.thread) c.args.object.now c.args.name.now in
-    let found = subst (λ x. IsCallee (Some x) target) c.in-Some-Protected.field-0-is (c.in-Some-Protected.ensures s.thread.work.now) in (
+    let found = subst (λ x. IsCallee (Some x) target) c.in-Some-Protected.field-0-is (c.in-Some-Protected.ensures (system_of s.thread) c.requires.callees) in (
       refl,
       record {
         object = found.0;

@@ -2,7 +2,7 @@ use Rattle.std.proofs.Common.{◌≡◌, ◌≤◌, List, map, drop}
 use Rattle.ada_tree.specs.Trees.{unit_of}
 use Rattle.arrivals_tree.specs.declared.arrivals.WorkList.{WorkList}
 use Rattle.ceil_runtime.proofs.Finding.{task_at}
-use Rattle.ceil_runtime.proofs.callable.task_requested.Given as goal
+use Rattle.ceil_runtime.proofs.callable.task_named.Given as goal
 
 -- the tasks so far are others
 abbrev pub invariant-units : goal.invariant-units

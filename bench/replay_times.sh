@@ -134,6 +134,24 @@ last_operation() {
     text
 }
 
+# A task that enters an object by the last of so many operations, in a loop.
+last_entry() {
+    awk -v count="$1" -v specs="$room/specs" -v bodies="$room/bodies" 'BEGIN {
+        print "package p is protected hrt_object is pragma priority (1);" >specs
+        print "package body p is protected body hrt_object is" >bodies
+        for (k = 1; k <= count; k++) {
+            print "procedure f" k ";" >specs
+            print "procedure f" k " is begin null; end f" k ";" >bodies
+        }
+        print "private end hrt_object;" >specs
+        for (k = 1; k <= count; k++) print "procedure f" k " renames hrt_object.f" k ";" >specs
+        print "end p;" >specs
+        print "end hrt_object; end p;" >bodies
+    }'
+    cyclic 1 "$forever p.f$1; end loop;" ''
+    text
+}
+
 # Sets `best` to the least of three processor times of a replay of the text in the room up to this horizon.
 replay() {
     local TIMEFORMAT='%U %S'
@@ -176,7 +194,7 @@ forms() {
 }
 
 echo "$(nproc) cores, of which each run uses one"
-[ $# -gt 0 ] || set -- horizons tasks descents sections loop_below last_variable last_operation
+[ $# -gt 0 ] || set -- horizons tasks descents sections loop_below last_variable last_operation last_entry
 for form in "$@"; do
     case $form in
         horizons) forms "$form" 125000 250000 500000 1000000 ;;

@@ -1,5 +1,5 @@
 -- What is found for a call, and what a call leads to.
-use Rattle.std.proofs.Common.{◌≡◌, ℕ, suc, ◌+◌, ◌<◌, Bool, true, false, cond, ◌&&◌, ◌||◌, List, [], ◌∷◌, length, map, drop, get_or, refl, ap, sym, ◌∙◌, subst, drop-cons, add-one, Option, Some, None}
+use Rattle.std.proofs.Common.{◌≡◌, ℕ, suc, ◌<◌, Bool, true, false, cond, ◌&&◌, ◌||◌, List, [], ◌∷◌, length, map, drop, get_or, refl, ap, sym, ◌∙◌, subst, drop-cons, Option, Some, None}
 use Rattle.std.specs.Prelude.{option_map, if◌then◌else◌}
 use Rattle.std.specs.Ordering.{is_eq, nat_cmp, ordering_then}
 use Rattle.std.specs.Cmp.Lexicographic.{slice_cmp}
@@ -15,8 +15,8 @@ use Rattle.seq_tree.specs.declared.tree.OpName.{OpName}
 use Rattle.seq_tree.specs.declared.tree.OpText.{OpText}
 use Rattle.ada_tree.specs.Programs.{Unit}
 use Rattle.arrivals_tree.specs.declared.arrivals.WorkList.{WorkList}
-use Rattle.machine.specs.Systems.{System, PassiveUnit, ProtectedUnit, TaskUnit, CallTarget, Plain, Protected, Request, Unknown, library_or, object_or, op_named, plain_by, protected_by, request_by}
-use Rattle.ceil_runtime.specs.Callable.{IsCallee, ObjectParts, found_object, object_parts, op_name, requested, target_in}
+use Rattle.machine.specs.Systems.{System, PassiveUnit, ProtectedUnit, CallTarget, Plain, Protected, Request, Unknown, library_or, object_or, op_named, plain_by, protected_by, request_by}
+use Rattle.ceil_runtime.specs.Callable.{IsCallee, found_object, object_parts, op_name, requested, target_in}
 use Rattle.ceil_runtime.specs.Called.{AreCalleesBut, IsOpOf, found_in}
 use Rattle.ceil_runtime.specs.Libraries.{system_from}
 use Rattle.ceil_runtime.specs.declared.callable.Callee.{Callee}
@@ -25,7 +25,7 @@ use Rattle.ceil_runtime.specs.declared.callable.Object.{Object}
 use Rattle.ceil_runtime.specs.declared.callees.Callees.{Callees}
 use Rattle.ceil_runtime.specs.declared.callees.Owner.{Owner}
 use Rattle.ceil_runtime.specs.declared.callees.Owner.TheVariants.{Passive, Shared}
-use Rattle.ceil_runtime.proofs.CallLaws.{no_true, or_false, same-one, same-self}
+use Rattle.ceil_runtime.proofs.CallLaws.{no_true, same-one}
 use Rattle.ceil_runtime.proofs.Finding.{library_named, named, object_named, task_named}
 use Rattle.ceil_runtime.proofs.Targets.{no-target}
 

@@ -1,21 +1,20 @@
 -- Examples of what is found for calls: for each definition one case that holds, and one that breaks it alone.
-use Rattle.std.specs.Prelude.{◌≡◌, ℕ, true, false, [], ◌∷◌, map, Some, None, refl, Option}
-use Rattle.std.proofs.Common.{sym, subst, ◌∙◌, Bor}
+use Rattle.std.specs.Prelude.{◌≡◌, ℕ, [], ◌∷◌, Some, None, refl}
+use Rattle.std.proofs.Common.{sym, subst, Bor}
 use Rattle.seq_tree.specs.Trees.{operation_of}
 use Rattle.seq_tree.specs.Operations.{Operation}
-use Rattle.seq_tree.specs.declared.tree.Datum.{Datum}
 use Rattle.seq_tree.specs.declared.tree.OpName.{OpName}
 use Rattle.seq_tree.specs.declared.tree.OpText.{OpText}
 use Rattle.ada_tree.specs.Programs.{Unit, Passive as PassiveForm}
-use Rattle.machine.specs.Systems.{System, CallTarget, Protected, Request, Unknown}
+use Rattle.machine.specs.Systems.{System, Request, Unknown}
 use Rattle.ceil_runtime.specs.Callable.{IsCallee, op_name, requested, target_in}
 use Rattle.ceil_runtime.specs.Called.{AreCallees, AreCalleesBut, AreCalleesOf, IsOpOf, found_in}
-use Rattle.ceil_runtime.specs.declared.callable.Callee.{Callee}
+use Rattle.ceil_runtime.specs.Libraries.{system_from}
 use Rattle.ceil_runtime.specs.declared.callable.Callee.TheVariants as found
 use Rattle.ceil_runtime.specs.declared.callees.Callees.{Callees}
 use Rattle.ceil_runtime.specs.declared.callees.Owner.TheVariants.{Passive, Shared}
 use Rattle.ceil_runtime.proofs.CalleeSteps.{none-added}
-use Rattle.ceil_runtime.proofs.ExamplesCalls.{object, three}
+use Rattle.ceil_runtime.proofs.ExamplesCalls.{three}
 
 -- a task that is requested by 7 and by nothing else
 requested-by : requested (7 ∷ []) (Some (2, 7 ∷ [])) ≡ Request 2
@@ -37,7 +36,7 @@ shared-op vars op = (refl, refl, refl)
 
 shared-not : (vars : Bor _) (op : Bor OpText) → IsOpOf (Shared 4 vars) (Some (found.Protected 5 3 vars op)) (Some (3, operation_of op.now)) → ⊥
 shared-not vars op h = wrong h.0 where
-  wrong : 5 ≡ 4 → ⊥
+  wrong : ◌≡◌ {A = ℕ} 5 4 → ⊥
   wrong e = cc
 
 -- nothing is found where no unit is, and nothing is not what the units of a system are called by
@@ -66,8 +65,8 @@ but-all : (t : Callees) (o : Operation) → ((c : OpName) → found_in t c ≡ N
 but-all t o nothing = none-added t (unit o ∷ []) nothing
 
 but-none : (t : Callees) (o : Operation) → ((c : OpName) → found_in t c ≡ None) → AreCalleesBut t (unit o ∷ []) [] → ⊥
-but-none t o nothing but = wrong (subst (λ r. IsCallee r (target_in _ plain)) (nothing plain) (but.found [] plain refl)) where
+but-none t o nothing but = wrong (subst (λ r. IsCallee r (target_in (system_from [] (unit o ∷ [])) plain)) (nothing plain) (but.found [] plain refl)) where
   plain : OpName
   plain = op_name (1 ∷ []) (11 ∷ [])
-  wrong : target_in (record { until = 0; costs = three.costs; libraries = record { unit = 0; name = 1 ∷ []; ops = record o { sig = record { name = 11 ∷ []; params = [] } } ∷ [] } ∷ []; objects = []; threads = [] }) plain ≡ Unknown → ⊥
+  wrong : target_in (system_from [] (unit o ∷ [])) plain ≡ Unknown → ⊥
   wrong e = cc

@@ -1,8 +1,10 @@
 -- Examples of sections and of what is known of a task that enters one: for each definition one case that holds, and one that breaks it.
-use Rattle.std.specs.Prelude.{◌≡◌, ℕ, ◌<◌, ◌≤◌, List, [], ◌∷◌, Some, None, slice_get, refl}
+use Rattle.std.specs.Prelude.{◌≡◌, ℕ, ◌<◌, ◌≤◌, true, false, List, [], ◌∷◌, map, Some, None, option_map, slice_get, refl}
 use Rattle.std.proofs.Common.{ap, sym, ◌∙◌, arith}
 use Rattle.seq_tree.specs.Trees.{operation_of}
-use Rattle.seq_tree.specs.Variables.{Variables}
+use Rattle.seq_tree.specs.Variables.{Variables, written}
+use Rattle.ada_tree.specs.Trees.{unit_of}
+use Rattle.ada_tree.specs.declared.program.Unit as units
 use Rattle.machine.specs.Systems.{Protected, callee}
 use Rattle.machine.specs.Pieces as pieces
 use Rattle.machine.specs.Deeds as deeds
@@ -11,12 +13,16 @@ use Rattle.machine.specs.Releases.{going}
 use Rattle.machine.specs.States as states
 use Rattle.machine.specs.States.{shut}
 use Rattle.ceil_runtime.specs.Doing.{IsAmong, IsEntry, StaysOutside}
-use Rattle.ceil_runtime.specs.Libraries.{no_costs}
-use Rattle.ceil_runtime.specs.Stepping.{HasOp}
+use Rattle.ceil_runtime.specs.Fitting.{IsOfObject, ops_count}
+use Rattle.ceil_runtime.specs.Libraries.{no_costs, objects_from}
+use Rattle.ceil_runtime.specs.Objects.{AreObjectsOf, first_object, lasting, shown}
+use Rattle.ceil_runtime.specs.Stepping.{HasOp, HasStopped}
 use Rattle.ceil_runtime.specs.Works.{Enters, IsNested, Leaves}
 use Rattle.ceil_runtime.specs.Written.{system_of}
+use Rattle.ceil_runtime.specs.declared.object.Object as objects
 use Rattle.ceil_runtime.specs.declared.piece.Entry.{Entry}
 use Rattle.ceil_runtime.specs.declared.piece.Piece.TheVariants as is
+use Rattle.ceil_runtime.specs.declared.processor.Machine.{Machine}
 use Rattle.ceil_runtime.specs.declared.task.Task.{Task}
 use Rattle.ceil_runtime.proofs.ExamplesCalls.{object, task, three}
 
@@ -43,6 +49,48 @@ entry-not e second h = none (ap (slice_get three.objects) (sym second) ∙ h.at)
   where
     none : None ≡ Some h.object → ⊥
     none k = cc
+
+-- the object of an entry has the data that are written of it, and the operation
+of-object : (e : Entry) → e.object ≡ 0 → e.place ≡ 0 → object.vars ≡ e.«data».now → IsOfObject three e
+of-object e first op vars =
+    let count : ops_count three e.object ≡ 1 = ap (ops_count three) first in (
+      ap (λ i. option_map (λ g. written g.vars) (slice_get three.objects i)) first ∙ ap (λ ds. Some (written ds)) vars,
+      omega (arith, count, op),
+    )
+
+of-object-not : (e : Entry) → e.object ≡ 0 → e.place ≡ 1 → IsOfObject three e → ⊥
+of-object-not e first op h = let count : ops_count three e.object ≡ 1 = ap (ops_count three) first in omega (arith, count, op, h.1)
+
+-- what lasts of an object is all but its data
+lasts : (store : Variables) → lasting (record (first_object object) { store = store }) ≡ lasting (first_object object)
+lasts store = refl
+
+lasts-not : lasting (record (first_object object) { ceiling = 6 }) ≡ lasting (first_object object) → ⊥
+lasts-not h = differ (ap (λ o. o.ceiling) h)
+  where
+    differ : 6 ≡ 5 → ⊥
+    differ k = cc
+
+-- the objects of units, in their order
+objects-of : (u : units.Unit) (o : objects.Object) → objects_from 0 (unit_of u ∷ []) ≡ object ∷ [] → lasting (shown o) ≡ lasting (first_object object) → AreObjectsOf (u ∷ []) (o ∷ [])
+objects-of u o found same = ap (λ x. x ∷ []) same ∙ sym (ap (map (λ g. lasting (first_object g))) found)
+
+objects-of-not : (o : objects.Object) → AreObjectsOf [] (o ∷ []) → ⊥
+objects-of-not o h = some h
+  where
+    some : lasting (shown o) ∷ [] ≡ [] → ⊥
+    some k = cc
+
+-- a machine that has stopped is else as it was
+has-stopped : (m : Machine) → HasStopped m (record m { stopped = true })
+has-stopped m =
+    record { tasks = refl; objects = refl; links = refl; arrivals = refl; units = refl; callees = refl; costs = refl; until = refl; time = refl; phase = refl; ran = refl; stopped = refl }
+
+has-stopped-not : (m : Machine) → HasStopped m (record m { stopped = false }) → ⊥
+has-stopped-not m h = runs h.stopped
+  where
+    runs : false ≡ true → ⊥
+    runs k = cc
 
 -- a task that is about to call the operation of the object, and one that is about to leave it
 abbrev at : List pieces.Piece → List states.Held → states.Task

@@ -35,20 +35,9 @@ other-name x y other = not_true (same_name x y) (λ e. other ((bytes_eq-Decides 
 pub own-name : (x y : Name) → x ≡ y → same_name x y ≡ true
 own-name x y e = (bytes_eq-Decides x y).1 e
 
--- an operation of another name is passed over, and one of this name is found
+-- whether an operation has this name
 abbrev pub named : Name → Operation → Bool
 named name o = same_name o.sig.name name
-
-ops_at : (ops : List OpText) (i : ℕ) (o : OpText) → i < length ops → o ≡ get_or ops i o → map operation_of (drop i ops) ≡ operation_of o ∷ map operation_of (drop (suc i) ops)
-ops_at ops i o h is = ap (map operation_of) (drop-cons ops i o h) ∙ ap (λ x. operation_of x ∷ map operation_of (drop (suc i) ops)) (sym is)
-
-pub past-op : (ops : List OpText) (i : ℕ) (o : OpText) (name : Name) → i < length ops → o ≡ get_or ops i o → (o.sig.name ≡ name → ⊥)
-    → first_from (i + 1) (named name) (map operation_of (drop (i + 1) ops)) ≡ first_from i (named name) (map operation_of (drop i ops))
-past-op ops i o name h is other = rw (add-one, ops_at ops i o h is, other-name o.sig.name name other) refl
-
-pub here-op : (ops : List OpText) (i : ℕ) (o : OpText) (name : Name) → i < length ops → o ≡ get_or ops i o → o.sig.name ≡ name
-    → Some (i, operation_of o) ≡ first_from i (named name) (map operation_of (drop i ops))
-here-op ops i o name h is same = rw (ops_at ops i o h is, own-name o.sig.name name same) refl
 
 -- the unit at a place is first of those from there on
 at_place : (us : List units.Unit) (i : ℕ) (u : units.Unit) → i < length us → u ≡ get_or us i u → map unit_of (drop i us) ≡ record { name = u.name; form = form_of u.form } ∷ map unit_of (drop (i + 1) us)

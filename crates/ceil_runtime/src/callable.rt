@@ -1,4 +1,4 @@
-ghost use Rattle.std.specs.Prelude.{◌≡◌, ℕ, List, [], map, option_map, IfSome};
+ghost use Rattle.std.specs.Prelude.{◌≡◌, List, [], map, option_map, IfSome};
 ghost use Rattle.arrivals_tree.specs.declared.arrivals.WorkList.{WorkList};
 ghost use Rattle.seq_tree.specs.Lists.{first_where};
 ghost use Rattle.seq_tree.specs.Names.{Name as NameBytes, same_name};

@@ -1,4 +1,4 @@
-use Rattle.std.proofs.Common.{◌≡◌, ℕ, length, map}
+use Rattle.std.proofs.Common.{◌≡◌, length, map}
 use Rattle.seq_tree.specs.Names.{is_named}
 use Rattle.ada_tree.specs.Trees.{unit_of}
 use Rattle.ceil_runtime.proofs.callees.has_unit.Given as goal

@@ -1,6 +1,7 @@
-use Rattle.std.proofs.Common.{refl, subst, Some}
+use Rattle.std.proofs.Common.{refl, subst, sym, Some}
 use Rattle.machine.specs.Systems.{callee}
 use Rattle.ceil_runtime.specs.Callable.{IsCallee, op_name}
+use Rattle.ceil_runtime.specs.Doing.{IsPlain}
 use Rattle.ceil_runtime.specs.Written.{system_of}
 use Rattle.ceil_runtime.proofs.Calls.{is-there}
 use Rattle.ceil_runtime.proofs.Doings.{protected-at}
@@ -24,3 +25,16 @@ returns-in-Some-Protected c =
         vars = found.2;
       },
     )
+
+pub returns-in-Some-Plain : goal.returns-in-Some-Plain
+returns-in-Some-Plain c =
+    let s = c.args.self.now in
+    let target = callee (system_of s.thread) c.args.object.now c.args.name.now in
+    let found = subst (λ x. IsCallee (Some x) target) c.in-Some-Plain.field-0-is (c.in-Some-Plain.ensures (system_of s.thread) c.requires.callees) in
+    subst IsPlain (sym found) tt
+
+pub returns-in-Some-Request : goal.returns-in-Some-Request
+returns-in-Some-Request c =
+    let s = c.args.self.now in
+    let target = callee (system_of s.thread) c.args.object.now c.args.name.now in
+    subst (λ x. IsCallee (Some x) target) c.in-Some-Request.field-0-is (c.in-Some-Request.ensures (system_of s.thread) c.requires.callees)

@@ -98,6 +98,7 @@ pub library-fits : (y : System) (unit : Name) (ops : List Operation) (r : Option
 library-fits y unit ops r c is e fits = subst (λ n. IsCallee r (target_in y (record { object = n; op = c.op }))) (same-one unit c.object e) (by_unit (first_where (library_named unit) y.libraries) is) where
   others : CallTarget
   others = object_or c.op (first_where (object_named unit) y.objects) (request_by c.op (first_where (task_named unit) y.threads))
+
   by_unit : (x : Option (ℕ × PassiveUnit)) → Some ops ≡ option_map (λ (l : ℕ × PassiveUnit). l.1.ops) x → IsCallee r (library_or c.op x others)
   by_unit None k = absurd (cc)
   by_unit (Some l) k =
@@ -114,6 +115,7 @@ object-fits y unit o r c none is e fits =
   where
     others : CallTarget
     others = request_by c.op (first_where (task_named unit) y.threads)
+
     by_units : (l : Option (ℕ × PassiveUnit)) (x : Option (ℕ × ProtectedUnit)) → None ≡ option_map (λ (m : ℕ × PassiveUnit). m.1.ops) l → Some (found_object o) ≡ option_map object_parts x
         → IsCallee r (library_or c.op l (object_or c.op x others))
     by_units (Some l) x k h = absurd (cc)
@@ -134,6 +136,7 @@ rest_target y unit c none none' e =
   where
     others : CallTarget
     others = request_by c.op (first_where (task_named unit) y.threads)
+
     by_units : (l : Option (ℕ × PassiveUnit)) (x : Option (ℕ × ProtectedUnit)) → None ≡ option_map (λ (m : ℕ × PassiveUnit). m.1.ops) l → None ≡ option_map object_parts x
         → others ≡ library_or c.op l (object_or c.op x others)
     by_units None None k h = refl
@@ -170,6 +173,7 @@ added-later t us rest u but again = record { none = λ c e. but.none c (rw e (or
   or_more : (b : Bool) → (b || true) ≡ true
   or_more true = refl
   or_more false = refl
+
   by_name : (c : OpName) (b : Bool) → same_name u.name c.object ≡ b → is_named (map (λ v. v.name) rest) c.object ≡ false → (same_name u.name c.object || is_named (map (λ v. v.name) rest) c.object) ≡ false
   by_name c true k e = absurd (no_true (sym again ∙ ap (is_named (map (λ v. v.name) rest)) (same-one u.name c.object k) ∙ e))
   by_name c false k e = rw (k, e) refl
@@ -182,6 +186,7 @@ added-now t t' us rest u but last added others = record { none = λ c e. none_st
   none_still : (c : OpName) (b : Bool) → same_name u.name c.object ≡ b → is_named (map (λ v. v.name) rest) c.object ≡ true → found_in t' c ≡ None
   none_still c true k e = absurd (no_true (sym e ∙ ap (is_named (map (λ v. v.name) rest)) (sym (same-one u.name c.object k)) ∙ last))
   none_still c false k e = others c k ∙ but.none c (rw (k, e) refl)
+
   found_now : (work : List WorkList) (c : OpName) (b : Bool) → same_name u.name c.object ≡ b → is_named (map (λ v. v.name) rest) c.object ≡ false → IsCallee (found_in t' c) (target_in (system_from work us) c)
   found_now work c true k e = added work c k
   found_now work c false k e = subst (λ r. IsCallee r (target_in (system_from work us) c)) (sym (others c k)) (but.found work c (rw (k, e) refl))

@@ -104,13 +104,13 @@ write-none name value (v ∷ vs) base e =
 write_first : (name : Name) (value : ℕ) (v : Var) (vs : List Var) (base : Variables) (d w : Var) (m : ℕ) → up_to_last (same_name name) (names_in vs) ≡ m
     → (b : Bool) → same_name name v.name.now ≡ b
     → ((k : ℕ) → up_to_last (same_name name) (names_in vs) ≡ suc k → w.name.now ≡ (get_or vs k d).name.now
-      → write name value (fold with_var (with_var base v) vs) ≡ fold with_var (with_var base v) (set vs k w))
+    → write name value (fold with_var (with_var base v) vs) ≡ fold with_var (with_var base v) (set vs k w))
     → w.value ≡ value → (k : ℕ) → with_first m b ≡ suc k → w.name.now ≡ (get_or (v ∷ vs) k d).name.now
     → write name value (fold with_var (with_var base v) vs) ≡ fold with_var base (set (v ∷ vs) k w)
 write_first name value v vs base d w zero l true t others valued zero e named =
     let here : write name value (with_var base v) ≡ (v.name.now, value) ∷ base = rw t refl in
     write-none name value vs (with_var base v) l ∙ ap (λ x. fold with_var x vs)
-      (here ∙ ap (λ x. (x, value) ∷ base) (sym named) ∙ ap (λ x. (w.name.now, x) ∷ base) (sym valued))
+    (here ∙ ap (λ x. (x, value) ∷ base) (sym named) ∙ ap (λ x. (w.name.now, x) ∷ base) (sym valued))
 write_first name value v vs base d w zero l true t others valued (suc k) e named = absurd (omega (arith, e))
 write_first name value v vs base d w zero l false t others valued k e named = absurd (omega (arith, e))
 write_first name value v vs base d w (suc m) l b t others valued zero e named = absurd (omega (arith, e))
@@ -196,16 +196,18 @@ module _ (n : ℕ) (names : List Name) (below heads : List ℕ) (table : IsTable
       ap (λ b. up_to_last (is_in n b) (take k names)) (sym bucket) ∙ same_some _ _ (sym (table.before k x here) ∙ is) in
       let count : length (take k names) ≡ k = length-take-le k names (omega (arith, less)) in
       let fewer : next ≤ length (take k names) = subst (λ m. m ≤ length (take k names)) before (last-within test (take k names)) in
-      let unlike : same_name name x ≡ false = not_true (same_name name x) (λ h. other (sym ((bytes_eq-Decides name x).0 h))) in
-      (record {
-        within = omega (arith, fewer, count, less);
-        same = ap (up_to_last (same_name name)) (sym (take-take next k names (omega (arith, fewer, count))))
-            ∙ ap (λ m. up_to_last (same_name name) (take m (take k names))) (sym before)
-            ∙ sym (last-narrow (same_name name) test (same_bucket n name) (take k names))
-            ∙ sym (last-past (same_name name) (take k names) x unlike) ∙ ap (up_to_last (same_name name)) (sym (take-more k names x here))
-            ∙ ap (λ m. up_to_last (same_name name) (take m names)) (sym e) ∙ on.same;
-        of = λ j up y there. last-passes test (take k names) j (before ∙ up) y (get-take k names j (omega (arith, up, fewer, count)) ∙ there);
-      }, omega (arith, e, fewer, count))
+      let unlike : same_name name x ≡ false = not_true (same_name name x) (λ h. other (sym ((bytes_eq-Decides name x).0 h))) in (
+        record {
+          within = omega (arith, fewer, count, less);
+          same = ap (up_to_last (same_name name)) (sym (take-take next k names (omega (arith, fewer, count))))
+              ∙ ap (λ m. up_to_last (same_name name) (take m (take k names))) (sym before)
+              ∙ sym (last-narrow (same_name name) test (same_bucket n name) (take k names))
+              ∙ sym (last-past (same_name name) (take k names) x unlike) ∙ ap (up_to_last (same_name name)) (sym (take-more k names x here))
+              ∙ ap (λ m. up_to_last (same_name name) (take m names)) (sym e) ∙ on.same;
+          of = λ j up y there. last-passes test (take k names) j (before ∙ up) y (get-take k names j (omega (arith, up, fewer, count)) ∙ there);
+        },
+        omega (arith, e, fewer, count),
+      )
 
   -- the name itself
   pub chain-found : (at k : ℕ) (x : Name) → IsOnChain n names name at → at ≡ suc k → slice_get names k ≡ Some x → x ≡ name → at ≡ up_to_last (same_name name) names
@@ -257,6 +259,7 @@ table-pushed n names name below heads h table less is = record {
     last_by bucket few false e =
         let other : bucket ≡ bucket_of n name → ⊥ = λ s. absurd (cc (eq-eqb bucket (bucket_of n name) s, e)) in
         get-other heads (bucket_of n name) bucket (suc (length names)) other ∙ table.last bucket few ∙ ap Some (sym (last_with n bucket names name other))
+
     before_by : (place : ℕ) (x : Name) → slice_get (names ++ name ∷ []) place ≡ Some x → (b : Bool) → ltb place (length names) ≡ b
         → slice_get (below ++ h ∷ []) place ≡ Some (up_to_last (is_in n (bucket_of n x)) (take place (names ++ name ∷ [])))
     before_by place x here true e =
@@ -282,16 +285,18 @@ table-popped n names name bs h heads table less = record {
   each = each;
   last = λ bucket few. last_by bucket few (eqb bucket (bucket_of n name)) refl;
   before = λ place x here.
-    let few : place < length names = slice_get_within names place x here in
-    sym (get-left bs (h ∷ []) place (omega (arith, few, each))) ∙ table.before place x (get-left names (name ∷ []) place few ∙ here)
-    ∙ ap (λ xs. Some (up_to_last (is_in n (bucket_of n x)) xs)) (take-append-le place names (name ∷ []) (omega (arith, few)));
+      let few : place < length names = slice_get_within names place x here in
+      sym (get-left bs (h ∷ []) place (omega (arith, few, each))) ∙ table.before place x (get-left names (name ∷ []) place few ∙ here)
+      ∙ ap (λ xs. Some (up_to_last (is_in n (bucket_of n x)) xs)) (take-append-le place names (name ∷ []) (omega (arith, few)));
 }
   where
     each : length bs ≡ length names
     each = let one = length-append bs (h ∷ []) in let other = length-append names (name ∷ []) in omega (arith, one, other, table.each)
+
     top : h ≡ up_to_last (is_in n (bucket_of n name)) names
     top = same_some _ _ (sym (get-seam bs h []) ∙ ap (slice_get (bs ++ h ∷ [])) each ∙ table.before (length names) name (get-seam names name [])
         ∙ ap (λ xs. Some (up_to_last (is_in n (bucket_of n name)) xs)) (take-append_seam names (name ∷ [])))
+
     last_by : (bucket : ℕ) → bucket < n → (b : Bool) → eqb bucket (bucket_of n name) ≡ b
         → slice_get (set heads (bucket_of n name) h) bucket ≡ Some (up_to_last (is_in n bucket) names)
     last_by bucket few true e =
@@ -346,8 +351,8 @@ table-push vs now v below below' heads m b h len table count is less at pushed l
     table-pushed n (names_in vs) v.name.now below heads h table (bucket-within m b v.name.now heads count is less) (head-at m b v.name.now heads h count is less at) in
     let two : IsTable n (names_in now) below' (set heads b len) =
     subst (λ hs. IsTable n (names_in now) below' hs) (ap (λ k. set heads k (suc (length (names_in vs)))) bucket ∙ ap (set heads b) far)
-      (subst (λ bs. IsTable n (names_in now) bs (set heads (bucket_of n v.name.now) (suc (length (names_in vs))))) (sym longer)
-        (subst (λ ns. IsTable n ns (below ++ h ∷ []) (set heads (bucket_of n v.name.now) (suc (length (names_in vs))))) names one)) in
+    (subst (λ bs. IsTable n (names_in now) bs (set heads (bucket_of n v.name.now) (suc (length (names_in vs))))) (sym longer)
+    (subst (λ ns. IsTable n ns (below ++ h ∷ []) (set heads (bucket_of n v.name.now) (suc (length (names_in vs))))) names one)) in
     subst (λ k. IsTable k (names_in now) below' (set heads b len)) (sym (length-set heads b len)) two
 
 -- a table after a pop: what was below the innermost variable is the head of its bucket
@@ -376,5 +381,5 @@ pub table-opened : (vs : List Var) (below heads : List ℕ) (n : ℕ) → vs ≡
 table-opened vs below heads n none nothing zeros some =
     let count : n ≡ length heads = sym (ap length zeros ∙ length-replicate n 0) in
     subst (λ k. IsTable k (names_in vs) below heads) count
-      (subst (λ hs. IsTable n (names_in vs) below hs) (sym zeros)
-        (subst (λ bs. IsTable n (names_in vs) bs (replicate n 0)) (sym nothing) (subst (λ xs. IsTable n (names_in xs) [] (replicate n 0)) (sym none) (table-empty n some))))
+    (subst (λ hs. IsTable n (names_in vs) below hs) (sym zeros)
+    (subst (λ bs. IsTable n (names_in vs) bs (replicate n 0)) (sym nothing) (subst (λ xs. IsTable n (names_in xs) [] (replicate n 0)) (sym none) (table-empty n some))))

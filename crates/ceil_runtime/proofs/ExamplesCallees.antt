@@ -50,6 +50,7 @@ callees-not : (t : Callees) → ((c : OpName) → found_in t c ≡ None) → Are
 callees-not t nothing are = wrong (subst (λ r. IsCallee r (target_in three shared)) (nothing shared) (are shared)) where
   shared : OpName
   shared = op_name (2 ∷ []) (21 ∷ [])
+
   wrong : target_in three shared ≡ Unknown → ⊥
   wrong e = cc
 
@@ -68,5 +69,6 @@ but-none : (t : Callees) (o : Operation) → ((c : OpName) → found_in t c ≡ 
 but-none t o nothing but = wrong (subst (λ r. IsCallee r (target_in (system_from [] (unit o ∷ [])) plain)) (nothing plain) (but.found [] plain refl)) where
   plain : OpName
   plain = op_name (1 ∷ []) (11 ∷ [])
+
   wrong : target_in (system_from [] (unit o ∷ [])) plain ≡ Unknown → ⊥
   wrong e = cc

@@ -67,10 +67,12 @@ table = record { some = omega arith; size = refl; each = refl; last = last; befo
   where
     same : (x y : Name) → Some x ≡ Some y → x ≡ y
     same x y h = cc
+
     last : (bucket : ℕ) → bucket < 2 → slice_get {X = ℕ} (2 ∷ 3 ∷ []) bucket ≡ Some (up_to_last (is_in 2 bucket) three)
     last zero less = refl
     last (suc zero) less = refl
     last (suc (suc bucket)) less = absurd (omega (arith, less))
+
     before : (place : ℕ) (name : Name) → slice_get three place ≡ Some name
         → slice_get {X = ℕ} (0 ∷ 0 ∷ 1 ∷ []) place ≡ Some (up_to_last (is_in 2 (bucket_of 2 name)) (take place three))
     before zero name at = refl

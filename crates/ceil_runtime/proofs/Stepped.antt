@@ -375,14 +375,14 @@ module _ (m : Machine) (whole : IsWhole m) (phase : m.phase ≡ Effects None) (o
   nobody-step = record {
     whole = λ on'. record {
       sound =
-            subst (λ n. IsSound n m'.time m'.phase m'.ran m'.units.now m'.tasks.items m'.links) (sym b.until)
-            (subst (λ n. IsSound m.until n m'.phase m'.ran m'.units.now m'.tasks.items m'.links) (sym b.time)
-            (subst (λ n. IsSound m.until m.time n m'.ran m'.units.now m'.tasks.items m'.links) (sym b.phase)
-            (subst (λ n. IsSound m.until m.time Delays n m'.units.now m'.tasks.items m'.links) (sym b.ran)
-            (subst (λ n. IsSound m.until m.time Delays m.ran n m'.tasks.items m'.links) (sym b.units)
-            (subst (λ n. IsSound m.until m.time Delays m.ran m.units.now n m'.links) (sym items)
-            (subst (λ n. IsSound m.until m.time Delays m.ran m.units.now m.tasks.items n) (sym links)
-            (nobody-sound m.until m.time m.units.now m.ran m.tasks.items m.links nobody_whole)))))));
+          subst (λ n. IsSound n m'.time m'.phase m'.ran m'.units.now m'.tasks.items m'.links) (sym b.until)
+          (subst (λ n. IsSound m.until n m'.phase m'.ran m'.units.now m'.tasks.items m'.links) (sym b.time)
+          (subst (λ n. IsSound m.until m.time n m'.ran m'.units.now m'.tasks.items m'.links) (sym b.phase)
+          (subst (λ n. IsSound m.until m.time Delays n m'.units.now m'.tasks.items m'.links) (sym b.ran)
+          (subst (λ n. IsSound m.until m.time Delays m.ran n m'.tasks.items m'.links) (sym b.units)
+          (subst (λ n. IsSound m.until m.time Delays m.ran m.units.now n m'.links) (sym items)
+          (subst (λ n. IsSound m.until m.time Delays m.ran m.units.now m.tasks.items n) (sym links)
+          (nobody-sound m.until m.time m.units.now m.ran m.tasks.items m.links nobody_whole)))))));
       callees = callees-beside m m' Delays b whole.callees;
     };
     follows = follows-of (system_by m.until m.costs m.units.now m.tasks.items) (running_of m').system 1 (running_of m).state _ _ (running_of m').state [] nobody_before (nobody-run (system_by m.until m.costs m.units.now m.tasks.items) (stores_of m) m.arrivals.now m.time m.ran m.tasks.items m.links.ready nobody_whole.here) nobody_after nobody_system;

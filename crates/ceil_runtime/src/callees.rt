@@ -93,7 +93,12 @@ impl<'a> Callees<'a> {
     }
 
     /// Adds the operations of a unit of which none is there. From the last to the first, so that of two with one name the first stays.
-    fn add_ops(&mut self, unit: &'a Name, owner: Owner<'a>, ops: &'a [OpText]) -> Result<(), NoMemory>
+    fn add_ops(
+        &mut self,
+        unit: &'a Name,
+        owner: Owner<'a>,
+        ops: &'a [OpText],
+    ) -> Result<(), NoMemory>
         requires { (c : OpName) → same_name unit.now c.object ≡ true → found_in self.old c ≡ None }
         ensures added { OnOk result ((c : OpName) → same_name unit.entry.now c.object ≡ true → IsOpOf owner.entry (found_in self.new c) (op_named c.op (map operation_of ops.entry.now))) }
         ensures others { OnOk result ((c : OpName) → same_name unit.entry.now c.object ≡ false → found_in self.new c ≡ found_in self.old c) }

@@ -247,7 +247,13 @@ impl<'a> Stack<'a> {
     }
 
     /// A call that enters no protected object.
-    fn call_outside(&mut self, callees: &Callees<'a>, object: &'a Name, name: &'a Name, actuals: &'a [Expr]) -> Moved<'a>
+    fn call_outside(
+        &mut self,
+        callees: &Callees<'a>,
+        object: &'a Name,
+        name: &'a Name,
+        actuals: &'a [Expr],
+    ) -> Moved<'a>
         requires callees { AreCallees callees.now (system_of self.old.thread) }
         requires first { IsFirst self.old.thread (Some (PieceIs.Calling object name actuals)) (vars_of self.old.vars.items) self.old.frames.items }
         requires outside { IsOutside (callee (system_of self.old.thread) object.now name.now) }
@@ -305,11 +311,7 @@ impl<'a> Stack<'a> {
         ensures thread { self.new.thread ≡ self.old.thread }
     {
         let mut values = Values::new();
-        hand_out(
-            &mut values,
-            call.op.sig.params.as_slice(),
-            &self.vars,
-        );
+        hand_out(&mut values, call.op.sig.params.as_slice(), &self.vars);
         self.hand_back(call, values.as_slice())
     }
 

@@ -27,7 +27,13 @@ pub struct Crossed<'a> {
 
 impl<'a> Stack<'a> {
     /// What a call reaches.
-    fn reached(&self, callees: &Callees<'a>, object: &'a Name, name: &'a Name, actuals: &'a [Expr]) -> Deed<'a>
+    fn reached(
+        &self,
+        callees: &Callees<'a>,
+        object: &'a Name,
+        name: &'a Name,
+        actuals: &'a [Expr],
+    ) -> Deed<'a>
         requires callees { AreCallees callees.now (system_of self.now.thread) }
         requires first { IsFirst self.now.thread (Some (PieceIs.Calling object name actuals)) (vars_of self.now.vars.items) self.now.frames.items }
         ensures { IsDeed (system_of self.now.thread) (PieceIs.Calling object.entry name.entry actuals.entry) result }
@@ -128,11 +134,7 @@ impl<'a> Stack<'a> {
         ensures thread { self.new.thread ≡ self.old.thread }
     {
         let mut values = Values::new();
-        hand_out(
-            &mut values,
-            entry.call.op.sig.params.as_slice(),
-            &self.vars,
-        );
+        hand_out(&mut values, entry.call.op.sig.params.as_slice(), &self.vars);
         keep_data(data, entry.data, &self.vars);
         let next = self.hand_back(entry.call, values.as_slice());
         Crossed { values, next }

@@ -177,8 +177,16 @@ record IsNoVerb (v : Text) : Type 0 where
   help : bytes_eq v (codes "help") ≡ false
 
 none-met : (v : Text) → IsNoVerb v → subcommand_met names idle v ≡ None
-none-met v h = rw (flipped v (codes "check") h.check, flipped v (codes "analyse") h.analyse, flipped v (codes "format") h.format, flipped v (codes "generate") h.generate,
-  flipped v (codes "replay") h.replay, flipped v (codes "verify") h.verify, flipped v (codes "sample") h.sample, flipped v (codes "help") h.help) refl
+none-met v h = rw (
+  flipped v (codes "check") h.check,
+  flipped v (codes "analyse") h.analyse,
+  flipped v (codes "format") h.format,
+  flipped v (codes "generate") h.generate,
+  flipped v (codes "replay") h.replay,
+  flipped v (codes "verify") h.verify,
+  flipped v (codes "sample") h.sample,
+  flipped v (codes "help") h.help,
+) refl
 
 unknown-fault : (v : Text) (words : List Text) → IsNoVerb v → is_file_name v ≡ true → fault_of command_line (v ∷ words) ≡ kind.UnknownArgument ∷ kind.InvalidSubcommand ∷ []
 unknown-fault v words h p =

@@ -7,10 +7,12 @@ use std::test::Fail;
 use token_read::tokens;
 
 /// Two calls of `p.f` on the longer path for it, two of `q.g` on the other, and three of `r.h` in a loop.
-const PATHS: &str = "if x = 1 then p.f; else q.g; q.g; end if; p.f; for i in word range 1 .. 3 loop r.h; end loop; end";
+const PATHS: &str =
+    "if x = 1 then p.f; else q.g; q.g; end if; p.f; for i in word range 1 .. 3 loop r.h; end loop; end";
 
 /// One call of `p.f` or of `q.g`, and a loop without a turn.
-const ONE_OF_TWO: &str = "if x = 1 then p.f; else q.g; end if; for i in word range 2 .. 1 loop p.f; end loop; end";
+const ONE_OF_TWO: &str =
+    "if x = 1 then p.f; else q.g; end if; for i in word range 2 .. 1 loop p.f; end loop; end";
 
 /// The block that a text begins with.
 fn block(rt: &HostRuntime, text: &str) -> Result<Block, Fail> {

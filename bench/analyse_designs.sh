@@ -4,16 +4,8 @@
 # objects; then threads whose response times take many rounds to find, with the count of rounds: two threads, of which the first leaves
 # the second one tick of each period; and threads that each come half as often as the one before, so that the last finds little left.
 # The rounds are those that change a number; they are counted by asking for a deadline one tick short of the response, which is refused
-# in the last of them. Needs awk and /usr/bin/time. No part of the gate.
-set -euo pipefail
-
-top=$(CDPATH='' cd -- "$(dirname -- "${BASH_SOURCE[0]}")/.." && pwd)
-room=$(mktemp -d)
-trap 'rm -rf "$room"' EXIT
-"$top/tools/prove_program.sh" >/dev/null
-program=$top/crates/hrthood/out/hrthood
-
-costs='COSTS ASSIGN = 1; TEST = 1; TURN = 1; CALL = 2; NULL = 1; PUT = 1; FINISH = 1; END COSTS;'
+# in the last of them.
+source "$(dirname -- "${BASH_SOURCE[0]}")/measure.sh"
 
 # 30 threads, and so many objects of this kind, with this constraint on their operations, in a chain.
 chain() {
@@ -58,34 +50,17 @@ halves() {
     }'
 }
 
-# Analyses the design in the room, and sets the least of three processor times.
-analyse() {
-    TIMEFORMAT='%U %S'
-    best=9999
-    for _ in 1 2 3; do
-        { time "$program" analyse "$room/design" >"$room/out" 2>"$room/err" || true; } 2>"$room/time"
-        best=$(awk -v best="$best" '{ print $1 + $2 < best ? $1 + $2 : best }' "$room/time")
-    done
-}
-
 # Tells the time and the memory of an analysis of chains of objects of this kind, at four lengths, and how they grow.
 chains() {
     : >"$room/times"
     for count in 59 118 235 469; do
         chain "$1" "$2" "$count" >"$room/design"
-        analyse
-        /usr/bin/time -f '%M' -o "$room/memory" "$program" analyse "$room/design" >/dev/null 2>&1 || true
+        run analyse "$room/design"
         echo "$count $best" >>"$room/times"
-        printf '30 threads, %s %s objects: %s s, %s KiB, said last: %s\n' "$count" "$1" "$best" "$(tail -n 1 "$room/memory")" \
-            "$(cat "$room/out" "$room/err" | tail -n 1)"
+        printf '30 threads, %s %s objects: %s s, %s KiB, said last: %s\n' "$count" "$1" "$best" \
+            "$(memory analyse "$room/design")" "$(said)"
     done
     printf '%s objects: exponent %s\n' "$1" "$(exponent "$room/times")"
-}
-
-# Tells the exponent of the first number of a line by which the second grows.
-exponent() {
-    awk '{ x = log($1); y = log($2 > 0 ? $2 : 0.0005); n++; sx += x; sy += y; xx += x * x; xy += x * y }
-        END { printf "%.2f", (n * xy - sx * sy) / (n * xx - sx * sx) }' "$1"
 }
 
 # Tells the time of an analysis of designs of this form, of these sizes, with the count of its rounds, and how it grows with them.
@@ -95,7 +70,7 @@ rounds() {
     : >"$room/times"
     for size in "$@"; do
         "$form" "$size" 1000000000 >"$room/design"
-        analyse
+        run analyse "$room/design"
         response=$(awk '$2 == "last" { print $NF }' "$room/out")
         "$form" "$size" $((response - 1)) >"$room/short"
         round=$("$program" analyse "$room/short" 2>&1 | awk '$3 == "last" { print $NF }') || true
@@ -105,7 +80,6 @@ rounds() {
     printf '%s: exponent %s of the rounds\n' "$form" "$(exponent "$room/times")"
 }
 
-echo "$(nproc) cores, of which each run uses one"
 chains PROTECTED ' PAER'
 chains PASSIVE ''
 rounds one_tick_left 1000 10000 100000 1000000

@@ -1,20 +1,10 @@
 #!/usr/bin/env bash
-# How much processor time it takes to check and to print designs of nearly 1/8, 1/4, 1/2 and 1 MiB, the most memory, and the exponent by
-# which the time grows with the bytes (the slope of the line that fits the logarithms of the four sizes best): one thread with a long
-# block; one object with many data, each of which its thread assigns; a thread that requires and calls many operations of one object;
-# 499 passive objects, each with operations that call the next one's; objects that each call every operation of the others that call
-# nothing; and 499 objects that each call as many of the next ones as the bytes allow, one in each branch of an `if`. Each is taken.
-# Needs awk and /usr/bin/time. No part of the gate.
-set -euo pipefail
-
-top=$(CDPATH='' cd -- "$(dirname -- "${BASH_SOURCE[0]}")/.." && pwd)
-room=$(mktemp -d)
-trap 'rm -rf "$room"' EXIT
-"$top/tools/prove_program.sh" >/dev/null
-program=$top/crates/hrthood/out/hrthood
-
-costs='COSTS ASSIGN = 1; TEST = 1; TURN = 1; CALL = 2; NULL = 1; PUT = 1; FINISH = 1; END COSTS;'
-attributes='ATTRIBUTES PERIOD = 1000000000; DEADLINE = 1000000000; THREAD_BUDGET = 1000000000;'
+# How long it takes to check designs of nearly 1/8, 1/4, 1/2 and 1 MiB, to print them and to write their Ada texts, the most memory, and the
+# exponent by which the time grows with the bytes: one thread with a long block; one object with many data, each of which its thread
+# assigns; a thread that requires and calls many operations of one object; 499 passive objects, each with operations that call the next
+# one's; objects that each call every operation of the others that call nothing; and 499 objects that each call as many of the next ones as
+# the bytes allow, one in each branch of an `if`. Each is taken. Names of forms as words measure those alone.
+source "$(dirname -- "${BASH_SOURCE[0]}")/measure.sh"
 
 # One thread with a block of this many bytes.
 block() {
@@ -104,30 +94,9 @@ each() {
     }'
 }
 
-# Tells the exponent of the bytes by which the seconds grow.
-exponent() {
-    awk '{ x = log($1); y = log($2 > 0 ? $2 : 0.0005); n++; sx += x; sy += y; xx += x * x; xy += x * y }
-        END { printf "%.2f", (n * xy - sx * sy) / (n * xx - sx * sx) }' "$1"
-}
-
-echo "$(nproc) cores, of which each run uses one"
-TIMEFORMAT='%U %S'
-for form in block data needs chain wide each; do
-    for verb in check format; do
-        : >"$room/times"
-        for size in 131072 262144 524288 1048576; do
-            "$form" $((size - 8192)) >"$room/design"
-            bytes=$(wc -c <"$room/design")
-            best=9999
-            for _ in 1 2 3; do
-                { time "$program" "$verb" "$room/design" >"$room/out" 2>"$room/err" || true; } 2>"$room/time"
-                best=$(awk -v best="$best" '{ print $1 + $2 < best ? $1 + $2 : best }' "$room/time")
-            done
-            /usr/bin/time -f '%M' -o "$room/memory" "$program" "$verb" "$room/design" >/dev/null 2>&1 || true
-            echo "$bytes $best" >>"$room/times"
-            printf '%s, %s, %s bytes: %s s, %s KiB, said last: %s\n' "$form" "$verb" "$bytes" "$best" "$(tail -n 1 "$room/memory")" \
-                "$(cat "$room/out" "$room/err" | tail -n 1)"
-        done
-        printf '%s, %s: exponent %s\n' "$form" "$verb" "$(exponent "$room/times")"
+[ $# -gt 0 ] || set -- block data needs chain wide each
+for form in "$@"; do
+    for verb in check format generate; do
+        grow "$verb" "$form" 122880 253952 516096 1040384
     done
 done

@@ -1,45 +1,96 @@
-#!/bin/sh
-# How long it takes to read and judge Ada texts of nearly 1, 4 and 16 MiB, and the most memory: one task with one long block, and a
-# task beside a passive unit of many operations that nothing calls. Both are then replayed up to 20 ticks.
-# Needs awk and /usr/bin/time. No part of the gate.
-set -eu
-top=$(CDPATH='' cd -- "$(dirname -- "$0")/.." && pwd)
-room=$(mktemp -d)
-trap 'rm -rf "$room"' EXIT
-"$top/tools/prove_program.sh" >/dev/null
-base=$top/examples/one_cyclic_task.ada
+#!/usr/bin/env bash
+# How long it takes to read and judge Ada texts, at four sizes each, and the exponent by which the time grows with the bytes: near 1 where
+# no rule and no name is searched for. Each text is replayed for 20 ticks. Each form is described at its function; a text that breaks a
+# rule ends with the refusal that is printed. Names of forms as words, as `read_ada_texts.sh ring_chain`, measure those alone.
+source "$(dirname -- "${BASH_SOURCE[0]}")/measure.sh"
 
+# One task with a block of nearly this many bytes.
 block() {
     awk -v size="$1" '
-        /work \(3\);/ { line = "            null; work (1);"; for (n = 0; n < size; n += length(line) + 1) print line; next }
-        { print }
-        ' "$base"
+        /work \(3\);/ { line = "            null; work (1);"; for (n = 4096; n < size; n += length(line) + 1) print line; next }
+        { print }' "$base"
 }
 
+# The text of one task with a passive unit `p`: the lines of its specification and of its body stand in the room.
+with_unit() {
+    awk -v heads="$room/heads" -v bodies="$room/bodies" '
+        function copy(file, line) { while ((getline line <file) > 0) print line; close(file) }
+        { print }
+        /^package d is/ { print "   package p is"; copy(heads); print "   end p;" }
+        /^package body d is/ { print "   package body p is"; copy(bodies); print "   end p;" }' "$base"
+}
+
+# Operations that nothing calls, in a text of nearly this many bytes.
 operations() {
-    awk -v size="$1" '
+    awk -v size="$1" -v heads="$room/heads" -v bodies="$room/bodies" '
         function head(n) { return "      procedure f" n " (v : in word; w : out word)" }
         BEGIN {
             body = "         x : word := 1;\n      begin\n         x := (v + 1) * 2;\n         if x = 4 then\n            w := x;\n"
             body = body "         else\n            w := 1;\n         end if;\n      end f"
-            for (n = 0; used < size; n++) used += 2 * length(head(n)) + length(body) + 18
-        }
-        { print }
-        /^package d is/ { print "   package p is"; for (k = 0; k < n; k++) print head(k) ";"; print "   end p;" }
-        /^package body d is/ {
-            print "   package body p is"
-            for (k = 0; k < n; k++) print head(k) " is\n" body k ";"
-            print "   end p;"
-        }' "$base"
+            for (n = 0; used < size - 4096; n++) {
+                print head(n) ";" >heads
+                print head(n) " is\n" body n ";" >bodies
+                used += 2 * length(head(n)) + length(body) + length(n) + 10
+            }
+        }'
+    with_unit
 }
 
-for form in block operations; do
-    for size in 1048576 4194304 16777216; do
-        "$form" $((size - 4096)) >"$room/text.ada"
-        bytes=$(wc -c <"$room/text.ada")
-        printf '%s, %s bytes: ' "$form" "$bytes"
-        /usr/bin/time -f '%e s, %M KiB' -o "$room/time" "$top/crates/hrthood/out/hrthood" replay "$room/text.ada" \
-            "$top/examples/until_20.arrivals" >"$room/out" 2>"$room/err" || true
-        printf '%s, said: %s\n' "$(tail -n 1 "$room/time")" "$(cat "$room/err" "$room/out" | tail -n 1)"
-    done
+# So many operations, of which the k-th calls the one that a rule in awk gives, or none where it gives 0.
+calling() {
+    awk -v count="$1" -v heads="$room/heads" -v bodies="$room/bodies" "BEGIN {
+        for (k = 1; k <= count; k++) {
+            t = $2
+            print \"procedure f\" k \";\" >heads
+            print \"procedure f\" k \" is begin \" (t ? \"p.f\" t : \"null\") \"; end f\" k \";\" >bodies
+        }
+    }"
+    with_unit
+}
+
+# A chain of so many operations, of which the last calls itself: refused as a ring.
+ring_chain() { calling "$1" 'k < count ? k + 1 : count'; }
+
+# A ring through so many operations: refused.
+whole_ring() { calling "$1" 'k < count ? k + 1 : 1'; }
+
+# So many operations that call the last one: taken.
+calls_of_the_last() { calling "$1" 'k < count ? count : 0'; }
+
+# One operation with so many locals, of which each but the first is assigned once from the one before: taken.
+variables() {
+    echo 'procedure f;' >"$room/heads"
+    awk -v count="$1" 'BEGIN {
+        print "procedure f is"
+        for (k = 1; k <= count; k++) print "v" k " : word := 1;"
+        print "begin"
+        for (k = 2; k <= count; k++) print "v" k " := v" k - 1 ";"
+        print "end f;"
+    }' >"$room/bodies"
+    with_unit
+}
+
+# An operation with so many `out` parameters, and one that calls it with as many locals: refused, since 8 parameters are the most.
+outs() {
+    awk -v count="$1" -v heads="$room/heads" -v bodies="$room/bodies" 'BEGIN {
+        line = "procedure f ("
+        for (k = 1; k <= count; k++) { print line "v" k " : out word" (k < count ? ";" : ");") >heads; line = "" }
+        print "procedure g;" >heads
+        line = "procedure f ("
+        for (k = 1; k <= count; k++) { print line "v" k " : out word" (k < count ? ";" : ") is begin null; end f;") >bodies; line = "" }
+        print "procedure g is" >bodies
+        for (k = 1; k <= count; k++) print "x" k " : word := 1;" >bodies
+        line = "begin p.f ("
+        for (k = 1; k <= count; k++) { print line "x" k (k < count ? "," : "); end g;") >bodies; line = "" }
+    }'
+    with_unit
+}
+
+[ $# -gt 0 ] || set -- block operations ring_chain whole_ring calls_of_the_last variables outs
+for form in "$@"; do
+    case $form in
+        block | operations) grow replay "$form" 2097152 4194304 8388608 16777216 ;;
+        variables) grow replay "$form" 40000 80000 160000 320000 ;;
+        *) grow replay "$form" 4000 8000 16000 32000 ;;
+    esac
 done

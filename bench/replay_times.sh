@@ -4,15 +4,8 @@
 # replay of one tick, is taken off. Where the size is a horizon, 1 is wanted. Elsewhere all sizes run as many statements, so that 0 is
 # wanted: a processor that searches its tasks, its frames, its variables or its operations has 1. Each form is described at its function.
 # Names of forms as words, as `replay_times.sh last_variable`, measure those alone.
-# Needs awk and /usr/bin/time. No part of the gate.
-set -euo pipefail
+source "$(dirname -- "${BASH_SOURCE[0]}")/measure.sh"
 
-top=$(CDPATH='' cd -- "$(dirname -- "${BASH_SOURCE[0]}")/.." && pwd)
-room=$(mktemp -d)
-trap 'rm -rf "$room"' EXIT
-"$top/tools/prove_program.sh" >/dev/null
-program=$top/crates/hrthood/out/hrthood
-base=$top/examples/one_cyclic_task.ada
 forever='for i in word range 1 .. 4294967295 loop'
 
 # The text of a program of the units whose specifications and bodies stand in the room.
@@ -152,21 +145,10 @@ last_entry() {
     text
 }
 
-# Sets `best` to the least of three processor times of a replay of the text in the room up to this horizon.
+# Replays the text in the room up to this horizon.
 replay() {
-    local TIMEFORMAT='%U %S'
     echo "UNTIL $1;" >"$room/arrivals"
-    best=9999
-    for _ in 1 2 3; do
-        { time "$program" replay "$room/text" "$room/arrivals" >"$room/out" 2>"$room/err" || true; } 2>"$room/time"
-        best=$(awk -v best="$best" '{ print $1 + $2 < best ? $1 + $2 : best }' "$room/time")
-    done
-}
-
-# Tells the exponent of the first number of a line by which the second grows.
-exponent() {
-    awk '{ x = log($1); y = log($2 > 0 ? $2 : 0.0005); n++; sx += x; sy += y; xx += x * x; xy += x * y }
-        END { printf "%.2f", (n * xy - sx * sy) / (n * xx - sx * sx) }' "$1"
+    run replay "$room/text" "$room/arrivals"
 }
 
 # Measures a form at four sizes, and tells the exponent.
@@ -185,15 +167,14 @@ forms() {
         reading=$best
         replay "$until"
         seconds=$(awk -v whole="$best" -v reading="$reading" 'BEGIN { printf "%.3f", whole - reading }')
-        /usr/bin/time -f '%M' -o "$room/memory" "$program" replay "$room/text" "$room/arrivals" >/dev/null 2>&1 || true
         echo "$size $seconds" >>"$room/times"
         printf '%s, size %s: %s s for %s ticks and %s lines, %s s for reading, %s KiB, said last: %s\n' "$form" "$size" "$seconds" \
-            "$until" "$(wc -l <"$room/out")" "$reading" "$(tail -n 1 "$room/memory")" "$(cat "$room/out" "$room/err" | tail -n 1)"
+            "$until" "$(wc -l <"$room/out")" "$reading" \
+            "$(memory replay "$room/text" "$room/arrivals")" "$(said)"
     done
     printf '%s: exponent %s\n' "$form" "$(exponent "$room/times")"
 }
 
-echo "$(nproc) cores, of which each run uses one"
 [ $# -gt 0 ] || set -- horizons tasks descents sections loop_below last_variable last_operation last_entry
 for form in "$@"; do
     case $form in

@@ -9,9 +9,11 @@ use Rattle.seq_tree.specs.Runs.{Path, silent}
 use Rattle.ods_tree.proofs.Mine.{mine}
 use Rattle.guarantee.specs.Events as ev
 use Rattle.guarantee.specs.Events.{Event}
+use Rattle.guarantee.specs.Software.{software}
 use Rattle.guarantee.specs.Arrivals.{Arrivals}
 use Rattle.guarantee.specs.Steps.{Step}
 use Rattle.guarantee.specs.Allowed.{Allows}
+use Rattle.guarantee.proofs.Ordered.{in_order}
 
 abbrev none : Path
 none = silent 0 []
@@ -71,186 +73,7 @@ trace =
 mine_allowed : Allows mine water trace
 mine_allowed = record {
   written = record {
-    order = (
-      lit≤ tt,
-      refl,
-      refl,
-      (
-        lit≤ tt,
-        refl,
-        refl,
-        (
-          lit≤ tt,
-          refl,
-          refl,
-          (
-            lit≤ tt,
-            refl,
-            refl,
-            (
-              lit≤ tt,
-              refl,
-              refl,
-              (
-                lit≤ tt,
-                refl,
-                refl,
-                (
-                  lit≤ tt,
-                  refl,
-                  refl,
-                  (
-                    lit≤ tt,
-                    refl,
-                    refl,
-                    (
-                      lit≤ tt,
-                      refl,
-                      refl,
-                      (
-                        lit≤ tt,
-                        refl,
-                        refl,
-                        (
-                          lit≤ tt,
-                          refl,
-                          refl,
-                          (
-                            lit≤ tt,
-                            refl,
-                            refl,
-                            (
-                              lit≤ tt,
-                              refl,
-                              refl,
-                              (
-                                lit≤ tt,
-                                refl,
-                                refl,
-                                (
-                                  lit≤ tt,
-                                  refl,
-                                  refl,
-                                  (
-                                    lit≤ tt,
-                                    refl,
-                                    refl,
-                                    (
-                                      lit≤ tt,
-                                      refl,
-                                      refl,
-                                      (
-                                        lit≤ tt,
-                                        refl,
-                                        refl,
-                                        (
-                                          lit≤ tt,
-                                          refl,
-                                          refl,
-                                          (
-                                            lit≤ tt,
-                                            refl,
-                                            refl,
-                                            (
-                                              lit≤ tt,
-                                              refl,
-                                              refl,
-                                              (
-                                                lit≤ tt,
-                                                refl,
-                                                refl,
-                                                (
-                                                  lit≤ tt,
-                                                  refl,
-                                                  refl,
-                                                  (
-                                                    lit≤ tt,
-                                                    refl,
-                                                    refl,
-                                                    (
-                                                      lit≤ tt,
-                                                      refl,
-                                                      refl,
-                                                      (
-                                                        lit≤ tt,
-                                                        refl,
-                                                        refl,
-                                                        (
-                                                          lit≤ tt,
-                                                          refl,
-                                                          refl,
-                                                          (
-                                                            lit≤ tt,
-                                                            refl,
-                                                            refl,
-                                                            (
-                                                              lit≤ tt,
-                                                              refl,
-                                                              refl,
-                                                              (
-                                                                lit≤ tt,
-                                                                refl,
-                                                                refl,
-                                                                (
-                                                                  lit≤ tt,
-                                                                  refl,
-                                                                  refl,
-                                                                  (
-                                                                    lit≤ tt,
-                                                                    refl,
-                                                                    refl,
-                                                                    (
-                                                                      lit≤ tt,
-                                                                      refl,
-                                                                      refl,
-                                                                      (
-                                                                        lit≤ tt,
-                                                                        refl,
-                                                                        refl,
-                                                                        (
-                                                                          lit≤ tt,
-                                                                          refl,
-                                                                          refl,
-                                                                          (
-                                                                            lit≤ tt,
-                                                                            refl,
-                                                                            refl,
-                                                                          ),
-                                                                        ),
-                                                                      ),
-                                                                    ),
-                                                                  ),
-                                                                ),
-                                                              ),
-                                                            ),
-                                                          ),
-                                                        ),
-                                                      ),
-                                                    ),
-                                                  ),
-                                                ),
-                                              ),
-                                            ),
-                                          ),
-                                        ),
-                                      ),
-                                    ),
-                                  ),
-                                ),
-                              ),
-                            ),
-                          ),
-                        ),
-                      ),
-                    ),
-                  ),
-                ),
-              ),
-            ),
-          ),
-        ),
-      ),
-    );
+    order = in_order (software mine).tasks 100 0 trace refl;
     bodies = (none ∷ none ∷ none ∷ none ∷ (way [] ((codes "v", 7) ∷ (codes "level", 7) ∷ []) 1 1) ∷ none
         ∷ (way [] ((codes "s", 0) ∷ (codes "pump", 0) ∷ (codes "unsafe", 0) ∷ []) 2 2) ∷ none ∷ none
         ∷ (way [] ((codes "v", 3) ∷ (codes "count", 1) ∷ (codes "last", 3) ∷ []) 3 4) ∷ none ∷ none ∷ none ∷ none

@@ -8,12 +8,13 @@ use Rattle.seq_tree.specs.Runs.{Action, Path, silent}
 use Rattle.seq_tree.specs.Runs as runs
 use Rattle.ods_tree.specs.Designs.{Design}
 use Rattle.ods_tree.proofs.Short.{cyc, spo, several}
-use Rattle.guarantee.specs.Software.{Task, Software}
+use Rattle.guarantee.specs.Software.{Task, Software, software}
 use Rattle.guarantee.specs.Events.{Deed, Release, Request, End, Event, By, Horizon}
 use Rattle.guarantee.specs.Arrivals.{Arrivals, KeepsSeparations}
 use Rattle.guarantee.specs.Steps.{Step, Placed, shown}
 use Rattle.guarantee.specs.Scripts.{AreRuns}
 use Rattle.guarantee.specs.Allowed.{Allows}
+use Rattle.guarantee.proofs.Ordered.{in_order}
 use Rattle.guarantee.specs.Programs.{program}
 use Rattle.guarantee.specs.Guaranteed.{IsRight}
 use Rattle.trace_tree.specs.declared.event.Event.TheVariants as event
@@ -57,7 +58,7 @@ at time deed = record { depth = 0; step = step time deed }
 allowed : Allows started arrivals (trace 5)
 allowed = record {
   written = record {
-    order = (lit≤ tt, refl, refl, (lit≤ tt, refl, refl, (lit≤ tt, refl, refl, (lit≤ tt, refl, refl, (lit≤ tt, refl, refl, (lit≤ tt, refl, refl))))));
+    order = in_order (software started).tasks arrivals.until 0 (trace 5) refl;
     bodies = [];
     threads = (
       (
@@ -166,7 +167,7 @@ other_trace =
 other_allowed : Allows started arrivals other_trace
 other_allowed = record {
   written = record {
-    order = (lit≤ tt, refl, refl, (lit≤ tt, refl, refl, (lit≤ tt, refl, refl, (lit≤ tt, refl, refl, (lit≤ tt, refl, refl, (lit≤ tt, refl, refl))))));
+    order = in_order (software started).tasks arrivals.until 0 other_trace refl;
     bodies = [];
     threads = (
       (

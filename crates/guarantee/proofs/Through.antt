@@ -13,10 +13,11 @@ use Rattle.ods_tree.proofs.Short.{block, cyc, cyc_at, spo, pro, several, call, v
 use Rattle.ods_tree.specs.Flats.{Cyclic, Sporadic, period_of}
 use Rattle.ada_tree.specs.Programs.{Program}
 use Rattle.rt_response.specs.declared.rows.ThreadRow.{ThreadRow}
-use Rattle.guarantee.specs.Software.{program_software}
+use Rattle.guarantee.specs.Software.{software, program_software}
 use Rattle.guarantee.specs.Events.{Deed, Release, Enter, Leave, Request, End, Event, By, Horizon}
 use Rattle.guarantee.specs.Steps.{Step}
 use Rattle.guarantee.specs.Allowed.{Allows}
+use Rattle.guarantee.proofs.Ordered.{in_order}
 use Rattle.guarantee.specs.Programs.{program, program_for}
 use Rattle.guarantee.specs.ResponseLaw.{Ranked, ranked, ceiling_named, CallsUpwards, IsStarter}
 
@@ -123,22 +124,7 @@ step time deed body = record { time = time; deed = deed; body = body }
 allowed : Allows requesting (record { until = 15; work = []; items = [] }) trace
 allowed = record {
   written = record {
-    order = (
-      lit≤ tt,
-      refl,
-      refl,
-      (
-        lit≤ tt,
-        refl,
-        refl,
-        (
-          lit≤ tt,
-          refl,
-          refl,
-          (lit≤ tt, refl, refl, (lit≤ tt, refl, refl, (lit≤ tt, refl, refl, (lit≤ tt, refl, refl, (lit≤ tt, refl, refl))))),
-        ),
-      ),
-    );
+    order = in_order (software requesting).tasks 15 0 trace refl;
     bodies = none ∷ in_q ∷ [];
     threads = (
       (

@@ -1,0 +1,64 @@
+# What the measures of this folder share; each reads it in with `source`, and by itself it measures nothing.
+#
+# With the path of a program in PROGRAM that one is measured, else this repository's, which is proved and built before the clock starts.
+# Seconds are processor time, the least of three runs. The exponent is that by which the seconds grow with a size: the slope of the line
+# that fits the logarithms best. It needs awk and /usr/bin/time. No part of the gate.
+set -euo pipefail
+
+top=$(CDPATH='' cd -- "$(dirname -- "${BASH_SOURCE[0]}")/.." && pwd)
+room=$(mktemp -d)
+trap 'rm -rf "$room"' EXIT
+program=${PROGRAM:-$top/crates/hrthood/out/hrthood}
+[ -n "${PROGRAM:-}" ] || "$top/tools/prove_program.sh" >/dev/null
+
+base=$top/examples/one_cyclic_task.ada
+arrivals=$top/examples/until_20.arrivals
+costs='COSTS ASSIGN = 1; TEST = 1; TURN = 1; CALL = 2; NULL = 1; PUT = 1; FINISH = 1; END COSTS;'
+attributes='ATTRIBUTES PERIOD = 1000000000; DEADLINE = 1000000000; THREAD_BUDGET = 1000000000;'
+
+# Runs the program with these words, and sets the least of three processor times. What it says stands in the room.
+run() {
+    local TIMEFORMAT='%U %S'
+    best=9999
+    for _ in 1 2 3; do
+        { time "$program" "$@" >"$room/out" 2>"$room/err" || true; } 2>"$room/time"
+        best=$(awk -v best="$best" '{ print $1 + $2 < best ? $1 + $2 : best }' "$room/time")
+    done
+}
+
+# The most memory of a run with these words, in KiB.
+memory() {
+    /usr/bin/time -f '%M' -o "$room/memory" "$program" "$@" >/dev/null 2>&1 || true
+    tail -n 1 "$room/memory"
+}
+
+# The last line of what the last run said.
+said() {
+    cat <(tail -n 1 "$room/out") "$room/err" | tail -n 1
+}
+
+# The exponent of the first number of a line by which the second grows.
+exponent() {
+    awk '{ x = log($1); y = log($2 > 0 ? $2 : 0.0005); n++; sx += x; sy += y; xx += x * x; xy += x * y }
+        END { printf "%.2f", (n * xy - sx * sy) / (n * xx - sx * sx) }' "$1"
+}
+
+# Runs a verb on the texts that a form gives at these sizes, and tells the times, the memory and the exponent of the bytes.
+grow() {
+    local verb=$1 form=$2 size bytes
+    local -a words=("$verb" "$room/text")
+    shift 2
+    case $verb in replay | verify) words+=("$arrivals") ;; esac
+    : >"$room/times"
+    for size in "$@"; do
+        "$form" "$size" >"$room/text"
+        bytes=$(wc -c <"$room/text")
+        run "${words[@]}"
+        echo "$bytes $best" >>"$room/times"
+        printf '%s, %s, size %s, %s bytes: %s s, %s KiB, said last: %s\n' "$verb" "$form" "$size" "$bytes" "$best" \
+            "$(memory "${words[@]}")" "$(said)"
+    done
+    printf '%s, %s: exponent %s\n' "$verb" "$form" "$(exponent "$room/times")"
+}
+
+echo "$(nproc) cores, of which each run uses one"

@@ -4,12 +4,18 @@
 # rule ends with the refusal that is printed. Names of forms as words, as `read_ada_texts.sh ring_chain`, measure those alone.
 source "$(dirname -- "${BASH_SOURCE[0]}")/measure.sh"
 
-# One task with a block of nearly this many bytes.
-block() {
-    awk -v size="$1" '
-        /work \(3\);/ { line = "            null; work (1);"; for (n = 4096; n < size; n += length(line) + 1) print line; next }
+# One task with a block of nearly this many bytes, which has this line again and again.
+lines() {
+    awk -v size="$1" -v line="$2" '
+        /work \(3\);/ { for (n = 4096; n < size; n += length(line) + 1) print line; next }
         { print }' "$base"
 }
+
+# Two statements a line, behind spaces.
+block() { lines "$1" '            null; work (1);'; }
+
+# Nothing but statements: most memory a byte goes to such texts.
+nulls() { lines "$1" 'null;'; }
 
 # The text of one task with a passive unit `p`: the lines of its specification and of its body stand in the room.
 with_unit() {
@@ -86,10 +92,10 @@ outs() {
     with_unit
 }
 
-[ $# -gt 0 ] || set -- block operations ring_chain whole_ring calls_of_the_last variables outs
+[ $# -gt 0 ] || set -- block nulls operations ring_chain whole_ring calls_of_the_last variables outs
 for form in "$@"; do
     case $form in
-        block | operations) grow replay "$form" 2097152 4194304 8388608 16777216 ;;
+        block | nulls | operations) grow replay "$form" 2097152 4194304 8388608 16777216 ;;
         variables) grow replay "$form" 40000 80000 160000 320000 ;;
         *) grow replay "$form" 4000 8000 16000 32000 ;;
     esac

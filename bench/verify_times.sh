@@ -1,34 +1,28 @@
 #!/usr/bin/env bash
 # How long it takes to verify a design, to sum up samples and to read arrivals, at four sizes each, and the exponent by which the time
-# grows: `verify` of the mine pump up to horizons of the size, which also writes its text; `sample` by the lines of the trace of so many
-# threads; and a replay of 1 tick under so many requests from outside, or durations of work. 1 is wanted of each, and less where the
-# size is small. Names of forms as words, as `verify_times.sh requests`, measure those alone.
+# grows with the size: `verify` of the mine pump up to horizons, which also writes its text; `sample` of so many threads; and a replay of
+# 1 tick under so many requests from outside, or durations of work. At most 1 is wanted; a run of few milliseconds tells little. Names of forms as words, as `verify_times.sh requests`, measure those alone.
 source "$(dirname -- "${BASH_SOURCE[0]}")/measure.sh"
 
-# Each form sets the words of the run, and what its size is counted in.
+# Each form sets the words of the run.
 horizons() {
     echo "UNTIL $1;" >"$room/arrivals"
     words=(verify "$top/examples/mine_pump.design" "$room/arrivals")
-    counted=$1
 }
 
 threads() {
     words=(sample "$1")
-    "$program" "${words[@]}" >"$room/out"
-    counted=$(awk '/^lines / { print $2 }' "$room/out")
 }
 
 requests() {
-    awk -v count="$1" 'BEGIN { print "UNTIL 1;"; for (k = 1; k <= count; k++) print "AT " 20 * k " s " k ";" }' >"$room/arrivals"
+    awk -v count="$1" 'BEGIN { print "UNTIL 1;"; for (k = 1; k <= count; k++) print "AT " 20 * k " s 5;" }' >"$room/arrivals"
     words=(replay "$top/examples/requested_task.ada" "$room/arrivals")
-    counted=$1
 }
 
 durations() {
     awk -v count="$1" 'BEGIN { print "UNTIL 1;"; print "WORK a 1"; for (k = 2; k <= count; k++) print ", " k % 3 + 1; print ";" }' \
         >"$room/arrivals"
     words=(replay "$top/examples/requested_task.ada" "$room/arrivals")
-    counted=$1
 }
 
 # Measures a form at these sizes, and tells the exponent.
@@ -39,8 +33,8 @@ forms() {
     for size in "$@"; do
         "$form" "$size"
         run "${words[@]}"
-        echo "$counted $best" >>"$room/times"
-        printf '%s, size %s, counted %s: %s s, %s KiB, said last: %s\n' "$form" "$size" "$counted" "$best" "$(memory "${words[@]}")" "$(said)"
+        echo "$size $best" >>"$room/times"
+        printf '%s, size %s: %s s, %s KiB, said last: %s\n' "$form" "$size" "$best" "$(memory "${words[@]}")" "$(said)"
     done
     printf '%s: exponent %s\n' "$form" "$(exponent "$room/times")"
 }

@@ -7,7 +7,7 @@ use Rattle.clap.specs.Walk.{Row, Rule, Text, rows_of, rule_of}
 use Rattle.clap.specs.Simple.{App, HasMatchesOf, Shape, app_of, app_of_fields, is_simple, new_app, new_shape, on_top, subcommand_of, subcommand_rows, subcommand_rows_of, with_subcommand}
 use Rattle.clap.specs.Faults.{fault_of, is_simple_and_free}
 use Rattle.clap.specs.Kinds.{FailsBy, HasKind, IsAmong, Kinds}
-use Rattle.clap.specs.Matches.{first_value, found_of, subcommand_name_of}
+use Rattle.clap.specs.Matches.{found_of, subcommand_name_of}
 use Rattle.clap.specs.Values.{kind_of}
 use Rattle.clap.specs.Built.{AddsArg, AddsSubcommand}
 use Rattle.clap.specs.declared.builder.arg.Arg.{Arg}
@@ -20,7 +20,7 @@ use Rattle.clap.specs.declared.parser.matches.ArgMatches.TheViews.{out-ArgMatche
 use Rattle.clap.specs.declared.parser.matches.SubCommand.{SubCommand}
 use Rattle.clap.proofs.WalkLemmas.{first_value-rows}
 use Rattle.hrthood_top.specs.Words.{command_of}
-use Rattle.hrthood_top.specs.Parsing.{IsVerb, are_plain, found_command, command_line, words_command}
+use Rattle.hrthood_top.specs.Parsing.{IsVerb, are_plain, command_line, found_command, given_command, words_command}
 use Rattle.hrthood_top.proofs.ParserLaws.{plain-reads}
 
 pub word-added : (old : Command) (a : Arg) (new : Command) (s : Shape) (r : Rule) → AddsArg old a new → IsVerb s old → rule_of a ≡ r → a.global ≡ false
@@ -75,7 +75,7 @@ name-is (Some b) = refl
 
 -- the command of what was entered
 pub found-is : (m inner : ArgMatches) (name : Text) → subcommand_name_of m ≡ Some name → option_map (λ p. p.1) (subcommand_rows_of m) ≡ Some (rows_of (found_of inner))
-    → found_command (subcommand_rows_of m) ≡ words_command name (first_value (found_of inner) (codes "first")) (first_value (found_of inner) (codes "second"))
+    → found_command (subcommand_rows_of m) ≡ given_command name (found_of inner)
 found-is m inner name e f =
     ap found_command (entered-is name (rows_of (found_of inner)) (subcommand_rows_of m) (name-is (out-ArgMatches m).subcommand ∙ e) f)
     ∙ ap₂ (words_command name) (sym (first_value-rows (found_of inner) (codes "first"))) (sym (first_value-rows (found_of inner) (codes "second")))

@@ -4,6 +4,8 @@ use Rattle.std.specs.Prelude.{◌≡◌, ℕ, Bool, true, false, List, [], ◌�
 use Rattle.std.specs.List.{list_any}
 use Rattle.std.specs.Str.{bytes_eq}
 use Rattle.clap.specs.Walk.{Row, Rule, Text, first_of}
+use Rattle.clap.specs.Matches.{first_value}
+use Rattle.clap.specs.declared.parser.matches.Found.{Found}
 use Rattle.clap.specs.Simple.{App, Shape, new_rule, new_shape, shape_of}
 use Rattle.clap.specs.declared.builder.command.Command as parser
 use Rattle.clap.specs.declared.builder.command.Command.TheViews.{out-Command as fields_of}
@@ -46,6 +48,10 @@ abbrev pub words_command : List ℕ → Option (List ℕ) → Option (List ℕ) 
 words_command verb None second = None
 words_command verb (Some first) None = word_command verb first
 words_command verb (Some first) (Some second) = arrivals_command verb first second
+
+-- the same, by what the parser found
+abbrev pub given_command : List ℕ → Found → Option Command
+given_command verb found = words_command verb (first_value found (codes "first")) (first_value found (codes "second"))
 
 -- the command that a verb is with what was found of its words
 abbrev pub found_command : Option (Text × List Row) → Option Command

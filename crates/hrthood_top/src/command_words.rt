@@ -1,8 +1,8 @@
-ghost use Rattle.std.specs.Prelude.{◌≡◌, ◌≤◌, map, IfSome, IfOk, MatchOption, None, Some, Err, string_bytes, is_some, true, codes, ◌⊎◌};
-ghost use Rattle.clap.specs.Words.{first_value, found_of, subcommand_rows_of};
+ghost use Rattle.std.specs.Prelude.{◌≡◌, ◌≤◌, map, IfSome, IfOk, MatchOption, None, Some, Err, string_bytes, is_some, true, ◌⊎◌};
+ghost use Rattle.clap.specs.Words.{found_of, subcommand_rows_of};
 ghost use Rattle.hrthood_top.specs.Words.{arrivals_command, command_of, design_command, is_file_name, sample_command, sample_size, thread_count};
 ghost use Rattle.hrthood_top.specs.Commands.{HasFewThreads, command_tree};
-ghost use Rattle.hrthood_top.specs.Parsing.{are_plain, asks_help, found_command, has_flags, word_command, words_command};
+ghost use Rattle.hrthood_top.specs.Parsing.{are_plain, asks_help, found_command, given_command, has_flags, word_command};
 ghost use Rattle.hrthood_top.specs.Reading.{ReadsAs};
 
 use crate::parsing::parse;
@@ -138,9 +138,9 @@ fn word_command<'a>(verb: &str, word: &'a str) -> Option<Command<'a>>
 }
 
 /// The command that a verb is with what the parser found of its words, where it is one.
-fn words_command<'a>(verb: &str, words: &ArgMatches<'a>) -> Option<Command<'a>>
-    ensures command { MatchOption result (words_command verb.now (first_value (found_of words.now) (codes "first")) (first_value (found_of words.now) (codes "second")) ≡ None)
-        (λ c. words_command verb.now (first_value (found_of words.now) (codes "first")) (first_value (found_of words.now) (codes "second")) ≡ Some (command_tree c)) }
+fn given_command<'a>(verb: &str, words: &ArgMatches<'a>) -> Option<Command<'a>>
+    ensures command { MatchOption result (given_command verb.now (found_of words.now) ≡ None)
+        (λ c. given_command verb.now (found_of words.now) ≡ Some (command_tree c)) }
     ensures few { IfSome result HasFewThreads }
 {
     let first = words.get_str("first")?;
@@ -157,7 +157,7 @@ fn found_command<'a>(matches: &ArgMatches<'a>) -> Option<Command<'a>>
     ensures few { IfSome result HasFewThreads }
 {
     let (verb, words) = matches.subcommand()?;
-    words_command(verb, words)
+    given_command(verb, words)
 }
 
 /// Whether a word is empty or begins with a dash.

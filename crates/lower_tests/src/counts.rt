@@ -14,9 +14,11 @@ const PATHS: &str =
 const ONE_OF_TWO: &str =
     "if x = 1 then p.f; else q.g; end if; for i in word range 2 .. 1 loop p.f; end loop; end";
 
-/// The block that a text begins with.
+/// The block that a short text begins with.
 fn block(rt: &HostRuntime, text: &str) -> Result<Block, Fail> {
-    let found = tokens(rt.alloc(), text.as_bytes())?;
+    let bytes = text.as_bytes();
+    let (bytes, _) = bytes.split_at(bytes.len().min(1000));
+    let found = tokens(rt.alloc(), bytes)?;
     let (block, _) = read_block(rt.alloc(), &found, 0, 0)?;
     Ok(block)
 }

@@ -1,5 +1,5 @@
 -- Laws of the table by which a variable is found by its name.
-use Rattle.std.proofs.Common.{◌≡◌, ℕ, zero, suc, ◌-◌, ◌≤◌, ◌<◌, List, [], ◌∷◌, ◌++◌, length, map, take, set, get_or, fold, refl, ap, sym, subst, ◌∙◌, Bool, true, false, Option, Some, None, eqb, ltb, ◌==◌, replicate, arith}
+use Rattle.std.proofs.Common.{◌≡◌, ℕ, zero, suc, ◌-◌, ◌≤◌, ◌<◌, List, [], ◌∷◌, ◌++◌, length, take, set, get_or, fold, refl, ap, sym, subst, ◌∙◌, Bool, true, false, Option, Some, None, eqb, ltb, ◌==◌, replicate, arith}
 use Rattle.std.specs.Prelude.{slice_get}
 use Rattle.std.proofs.lemmas.Bool.{eq-eqb, eqb-true, lt-ltb, ltb-true}
 use Rattle.std.proofs.lemmas.List.{length-append, length-map, length-set, length-replicate, length-take-le, map-append, take-append-le, take-take}

@@ -66,9 +66,10 @@ but-all : (t : Callees) (o : Operation) → ((c : OpName) → found_in t c ≡ N
 but-all t o nothing = none-added t (unit o ∷ []) nothing
 
 but-none : (t : Callees) (o : Operation) → ((c : OpName) → found_in t c ≡ None) → AreCalleesBut t (unit o ∷ []) [] → ⊥
-but-none t o nothing but = wrong (subst (λ r. IsCallee r (target_in (system_from [] (unit o ∷ [])) plain)) (nothing plain) (but.found [] plain refl)) where
-  plain : OpName
-  plain = op_name (1 ∷ []) (11 ∷ [])
+but-none t o nothing but =
+    wrong (subst (λ r. IsCallee r (target_in (system_from [] (unit o ∷ [])) plain)) (nothing plain) (but.found [] plain refl)) where
+      plain : OpName
+      plain = op_name (1 ∷ []) (11 ∷ [])
 
-  wrong : target_in (system_from [] (unit o ∷ [])) plain ≡ Unknown → ⊥
-  wrong e = cc
+      wrong : target_in (system_from [] (unit o ∷ [])) plain ≡ Unknown → ⊥
+      wrong e = cc

@@ -1,5 +1,5 @@
 -- Examples of the table by which a variable is found by its name: for each definition one case that holds, and one that breaks it alone.
-use Rattle.std.specs.Prelude.{◌≡◌, ℕ, zero, suc, ◌<◌, Bool, true, false, List, [], ◌∷◌, length, map, take, Some, None, slice_get, codes, refl}
+use Rattle.std.specs.Prelude.{◌≡◌, ℕ, zero, suc, ◌<◌, true, List, [], ◌∷◌, take, Some, slice_get, codes, refl}
 use Rattle.std.proofs.Common.{arith, subst}
 use Rattle.seq_tree.specs.Names.{Name}
 use Rattle.ceil_runtime.specs.Chains.{IsTable, bucket_of, is_in, mixed, names_in, up_to_last, with_first}

@@ -68,7 +68,7 @@ lasts store = refl
 lasts-not : lasting (record (first_object object) { ceiling = 6 }) ≡ lasting (first_object object) → ⊥
 lasts-not h = differ (ap (λ o. o.ceiling) h)
   where
-    differ : 6 ≡ 5 → ⊥
+    differ : ◌≡◌ {A = ℕ} 6 5 → ⊥
     differ k = cc
 
 -- the objects of units, in their order

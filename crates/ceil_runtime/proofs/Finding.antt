@@ -1,12 +1,10 @@
 -- Operations and units by their names: those of other names are passed over.
-use Rattle.std.proofs.Common.{◌≡◌, ℕ, suc, ◌+◌, ◌<◌, Bool, true, false, List, [], ◌∷◌, length, map, drop, get_or, refl, ap, sym, ◌∙◌, drop-cons, add-one, add-zero, Option, Some}
+use Rattle.std.proofs.Common.{◌≡◌, ℕ, suc, ◌+◌, ◌<◌, Bool, true, false, List, [], ◌∷◌, length, map, drop, get_or, refl, ap, sym, ◌∙◌, add-one, add-zero, Option}
 use Rattle.std.specs.Prelude.{option_map}
 use Rattle.std.proofs.lemmas.Slice.Eq.{bytes_eq-Decides}
 use Rattle.seq_tree.specs.Names.{Name, same_name}
 use Rattle.seq_tree.specs.Lists.{first_from}
 use Rattle.seq_tree.specs.Operations.{Operation}
-use Rattle.seq_tree.specs.Trees.{operation_of}
-use Rattle.seq_tree.specs.declared.tree.OpText.{OpText}
 use Rattle.ada_tree.specs.Trees.{unit_of, form_of}
 use Rattle.ada_tree.specs.declared.program.Unit as units
 use Rattle.ada_tree.specs.declared.program.Form as forms
@@ -31,9 +29,6 @@ found-anywhere {A} {B} n m test f (x ∷ xs) = by_test (test x) refl (found-anyw
 -- names that differ
 pub other-name : (x y : Name) → (x ≡ y → ⊥) → same_name x y ≡ false
 other-name x y other = not_true (same_name x y) (λ e. other ((bytes_eq-Decides x y).0 e))
-
-pub own-name : (x y : Name) → x ≡ y → same_name x y ≡ true
-own-name x y e = (bytes_eq-Decides x y).1 e
 
 -- whether an operation has this name
 abbrev pub named : Name → Operation → Bool

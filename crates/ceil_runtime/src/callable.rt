@@ -38,7 +38,8 @@ pub struct Object<'a> {
 
 /// The operations of the first passive unit of this name.
 pub fn library_named<'a>(units: &'a [Unit], name: &Name) -> Option<&'a [OpText]>
-    ensures { option_map (λ ops. map operation_of ops.now) result ≡ option_map (λ l. l.1.ops) (first_where (λ l. same_name l.name name.now) (libraries_from 0 (map unit_of units.entry.now))) }
+    ensures { option_map (λ ops. map operation_of ops.now) result
+        ≡ option_map (λ l. l.1.ops) (first_where (λ l. same_name l.name name.now) (libraries_from 0 (map unit_of units.entry.now))) }
 {
     'units: for unit in units {
         match &unit.form {
@@ -57,7 +58,8 @@ pub fn library_named<'a>(units: &'a [Unit], name: &Name) -> Option<&'a [OpText]>
 
 /// The first protected object of this name.
 pub fn object_named<'a>(units: &'a [Unit], name: &Name) -> Option<Object<'a>>
-    ensures { option_map found_object result ≡ option_map object_parts (first_where (λ g. same_name g.name name.now) (objects_from 0 (map unit_of units.entry.now))) }
+    ensures { option_map found_object result
+        ≡ option_map object_parts (first_where (λ g. same_name g.name name.now) (objects_from 0 (map unit_of units.entry.now))) }
 {
     let mut place: usize = 0;
     'units: for unit in units {

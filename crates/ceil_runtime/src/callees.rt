@@ -86,7 +86,8 @@ impl<'a> Callees<'a> {
     /// Lets the calls of an operation lead to this, whatever they led to.
     #[tactic(auto, unfolding(crate::specs::Called::found_in))]
     fn put(&mut self, unit: &'a Name, op: &'a Name, callee: Callee<'a>) -> Result<(), NoMemory>
-        ensures { OnOk result ((c : OpName) → found_in self.new c ≡ cond (same_op (op_name unit.entry.now op.entry.now) c) (Some callee.entry) (found_in self.old c)) }
+        ensures { OnOk result ((c : OpName) → found_in self.new c
+            ≡ cond (same_op (op_name unit.entry.now op.entry.now) c) (Some callee.entry) (found_in self.old c)) }
     {
         self.map.insert((unit.bytes(), op.bytes()), callee)?;
         Ok(())
@@ -100,7 +101,9 @@ impl<'a> Callees<'a> {
         ops: &'a [OpText],
     ) -> Result<(), NoMemory>
         requires { (c : OpName) → same_name unit.now c.object ≡ true → found_in self.old c ≡ None }
-        ensures added { OnOk result ((c : OpName) → same_name unit.entry.now c.object ≡ true → IsOpOf owner.entry (found_in self.new c) (op_named c.op (map operation_of ops.entry.now))) }
+        ensures added { OnOk result
+            ((c : OpName) → same_name unit.entry.now c.object ≡ true
+            → IsOpOf owner.entry (found_in self.new c) (op_named c.op (map operation_of ops.entry.now))) }
         ensures others { OnOk result ((c : OpName) → same_name unit.entry.now c.object ≡ false → found_in self.new c ≡ found_in self.old c) }
     {
         let mut place = ops.len();

@@ -11,7 +11,8 @@ use Rattle.ceil_runtime.proofs.callees.Callees.add_ops.Given as goal
 abbrev pub invariant-ops : goal.invariant-ops
 invariant-ops l = record {
   within : l.place ≤ length l.ops;
-  added : (c : OpName) → same_name l.unit c.object ≡ true → IsOpOf l.owner (found_in l.self c) (first_from l.place (named c.op) (map operation_of (drop l.place l.ops)));
+  added : (c : OpName) → same_name l.unit c.object ≡ true
+      → IsOpOf l.owner (found_in l.self c) (first_from l.place (named c.op) (map operation_of (drop l.place l.ops)));
   others : (c : OpName) → same_name l.unit c.object ≡ false → found_in l.self c ≡ found_in l.fn.self c;
 }
 

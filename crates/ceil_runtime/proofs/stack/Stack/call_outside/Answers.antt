@@ -11,7 +11,8 @@ pub returns-in-Some-Request-clause-first : goal.returns-in-Some-Request-clause-f
 returns-in-Some-Request-clause-first c =
     let s = c.args.self.now in
     let target = callee (system_of s.thread) c.args.object.now c.args.name.now in
-    let asked = subst (λ x. IsCallee (Some x) target) c.in-Some-Request.field-0-is (c.in-Some-Request.ensures (system_of s.thread) c.requires.callees) in
+    let asked = subst (λ x. IsCallee (Some x) target) c.in-Some-Request.field-0-is
+    (c.in-Some-Request.ensures (system_of s.thread) c.requires.callees) in
     let below = request-at (system_of s.thread) (op_name c.args.object.now c.args.name.now) c.in-Some-Request.task asked in
     record {
       fits = subst (λ y. c.in-Some-Request.task < length y.threads) (sym (system-kept (first_place s.thread) s.frames.items)) below;
@@ -29,7 +30,8 @@ pub unreachable-requires : goal.unreachable-requires
 unreachable-requires c =
     let s = c.args.self.now in
     let target = callee (system_of s.thread) c.args.object.now c.args.name.now in
-    let found = subst (λ x. IsCallee (Some x) target) c.in-Some-Protected.field-0-is (c.in-Some-Protected.ensures (system_of s.thread) c.requires.callees) in
+    let found = subst (λ x. IsCallee (Some x) target) c.in-Some-Protected.field-0-is
+    (c.in-Some-Protected.ensures (system_of s.thread) c.requires.callees) in
     subst IsOutside found.1 c.requires.outside
 
 pub unreachable-requires-in-None : goal.unreachable-requires-in-None

@@ -10,18 +10,22 @@ use Rattle.ceil_runtime.proofs.stack.Stack.reached.Goals as goal
 pub unreachable-requires : goal.unreachable-requires
 unreachable-requires c =
     let s = c.args.self.now in
-    is-there s.thread s.frames.items (op_name c.args.object.now c.args.name.now) c.requires.first.fits (c.in-None.ensures (system_of s.thread) c.requires.callees)
+    is-there s.thread s.frames.items (op_name c.args.object.now c.args.name.now) c.requires.first.fits
+    (c.in-None.ensures (system_of s.thread) c.requires.callees)
 
 pub returns-in-Some-Protected : goal.returns-in-Some-Protected
 returns-in-Some-Protected c =
     let s = c.args.self.now in
     let target = callee (system_of s.thread) c.args.object.now c.args.name.now in
-    let found = subst (λ x. IsCallee (Some x) target) c.in-Some-Protected.field-0-is (c.in-Some-Protected.ensures (system_of s.thread) c.requires.callees) in (
+    let found = subst (λ x. IsCallee (Some x) target) c.in-Some-Protected.field-0-is
+    (c.in-Some-Protected.ensures (system_of s.thread) c.requires.callees) in (
       refl,
       record {
         object = found.0;
         calls = found.1;
-        at = protected-at (system_of s.thread) (op_name c.args.object.now c.args.name.now) c.in-Some-Protected.at c.in-Some-Protected.place found.0 _ found.1;
+        at =
+            protected-at (system_of s.thread)
+            (op_name c.args.object.now c.args.name.now) c.in-Some-Protected.at c.in-Some-Protected.place found.0 _ found.1;
         vars = found.2;
       },
     )

@@ -1,4 +1,4 @@
-use Rattle.std.proofs.Common.{arith, length, sym, ap, ◌∙◌, vec_len}
+use Rattle.std.proofs.Common.{arith, length, ap, ◌∙◌, vec_len}
 use Rattle.std.proofs.lemmas.List.{length-map}
 use Rattle.seq_tree.specs.Names.{same_name}
 use Rattle.ceil_runtime.specs.Chains.{names_in, up_to_last}

@@ -1,8 +1,4 @@
 use Rattle.std.proofs.Common.{◌≡◌, ◌-◌, suc, arith, get_or, Some, sym, ap, ◌∙◌, [], vec_len}
-use Rattle.seq_tree.specs.Names.{same_name}
-use Rattle.seq_eval.specs.Lookups.{found}
-use Rattle.ceil_runtime.specs.Stacked.{vars_of}
-use Rattle.ceil_runtime.specs.Chains.{names_in, up_to_last}
 use Rattle.ceil_runtime.proofs.Chained.{found-last, found-none}
 use Rattle.ceil_runtime.proofs.vars.VarsLookup.value.Goals as goal
 

@@ -1,19 +1,19 @@
 -- What the parser makes of plain words: it has no fault exactly where they have the shape of a command, and then it finds the command.
-use Rattle.std.proofs.Common.{◌≡◌, ◌∙◌, ℕ, Bool, true, false, not, List, [], ◌∷◌, ◌++◌, Option, Some, None, refl, sym, ap, ap₂, subst, fold, append_assoc, append-nil, if◌then◌else◌, inl, inr, arith}
-use Rattle.std.specs.Prelude.{◌&&◌, ◌==◌, option_map, option_and_then, is_some, codes, find}
+use Rattle.std.proofs.Common.{◌≡◌, ◌∙◌, Bool, true, false, not, List, [], ◌∷◌, ◌++◌, Some, None, refl, sym, ap, ap₂, subst, fold, append_assoc, append-nil}
+use Rattle.std.specs.Prelude.{is_some, codes, find}
 use Rattle.std.specs.List.{list_all}
 use Rattle.std.specs.Str.{bytes_eq}
 use Rattle.std.proofs.lemmas.Bool.{not-true}
 use Rattle.std.proofs.lemmas.Slice.Eq.{bytes_eq-Decides}
-use Rattle.clap.specs.Walk.{Text, Names, Held, Rule, Walk, idle, nothing_held, finished, first_of, subcommand_met, walk, walk_from, walked, answers_to, rows_after}
+use Rattle.clap.specs.Walk.{Text, Names, Walk, idle, nothing_held, subcommand_met, walk, walk_from, walked, answers_to}
 use Rattle.clap.specs.Simple.{App, Shape, built, entered, label_of, names_of, rows_at, subcommand_of}
 use Rattle.clap.specs.Kinds.{Kinds, or_else}
-use Rattle.clap.specs.Faults.{built_fault, entered_fault, fault_of, level_fault, turn_fault, walk_fault, step_fault}
+use Rattle.clap.specs.Faults.{built_fault, entered_fault, fault_of, turn_fault, walk_fault}
 use Rattle.clap.specs.declared.error.kind.ErrorKind.{ErrorKind}
 use Rattle.clap.specs.declared.error.kind.ErrorKind.TheVariants as kind
 use Rattle.std.proofs.lemmas.Bool.{and_parts}
 use Rattle.clap.proofs.OnLiterals.{clap_on_literals}
-use Rattle.hrthood_top.specs.Words.{Command, command_of, is_file_name, design_command, arrivals_command}
+use Rattle.hrthood_top.specs.Words.{command_of, is_file_name, arrivals_command}
 use Rattle.hrthood_top.specs.Parsing.{are_plain, asks_help, found_command, has_flags, one_word, command_line, two_words, word_command, words_command}
 use Rattle.hrthood_top.proofs.ParserSteps.{at, comes_to, leaf, word_fault, turn-plain, found_first, found_second, one-none, one-one, one-more, one-finds-first, one-finds-second, two-none, two-one, two-two, two-more, two-finds-first, two-finds-second}
 

@@ -1,18 +1,17 @@
 -- What the parser makes of plain words, step by step: a verb's name enters the verb, and each word behind it goes to the next place.
-use Rattle.std.proofs.Common.{◌≡◌, ◌∙◌, ℕ, Bool, true, false, not, List, [], ◌∷◌, ◌++◌, Option, Some, None, refl, sym, ap, ap₂, subst, fold, append_assoc, append-nil, if◌then◌else◌}
-use Rattle.std.specs.Prelude.{◌==◌, option_map, option_and_then, is_some, codes, find}
-use Rattle.std.specs.List.{list_all}
+use Rattle.std.proofs.Common.{◌≡◌, ◌∙◌, ℕ, Bool, true, false, List, [], ◌∷◌, Option, Some, None, refl, ap, ap₂}
+use Rattle.std.specs.Prelude.{◌==◌, codes}
 use Rattle.std.specs.Str.{bytes_eq}
 use Rattle.std.proofs.lemmas.Bool.{not-true}
 use Rattle.clap.specs.Lexer.{long_of, short_of}
-use Rattle.clap.specs.Walk.{Text, Names, Held, Rule, Walk, Step, Row, arg_by_index, idle, nothing_held, finished, settled, subcommand_met, to_positional, value, walk, walk_from, walked, word_met, rows_after, answers_to, first_of}
-use Rattle.clap.specs.Simple.{App, Shape, built, built_leaf, entered, inherited, label_of, marked_built, names_of, rows_at, subcommand_of, with_leaf_noted}
+use Rattle.clap.specs.Walk.{Text, Names, Held, Rule, Walk, arg_by_index, idle, nothing_held, finished, settled, subcommand_met, to_positional, value, walk, walk_from, walked, rows_after, first_of}
+use Rattle.clap.specs.Simple.{Shape, built_leaf, inherited, marked_built, with_leaf_noted}
 use Rattle.clap.specs.Kinds.{Kinds, or_else}
-use Rattle.clap.specs.Faults.{check_fault, defaults_fault, entered_fault, fault_of, level_fault, settle_fault, stray_fault, step_fault, turn_fault, walk_fault}
+use Rattle.clap.specs.Faults.{check_fault, defaults_fault, level_fault, settle_fault, step_fault, turn_fault, walk_fault}
 use Rattle.clap.specs.declared.error.kind.ErrorKind.TheVariants as kind
 use Rattle.clap.proofs.OnLiterals.{clap_on_literals}
 use Rattle.hrthood_top.specs.Words.{is_file_name}
-use Rattle.hrthood_top.specs.Parsing.{needed, one_word, command_line, two_words}
+use Rattle.hrthood_top.specs.Parsing.{one_word, command_line, two_words}
 
 -- PLAIN WORDS
 

@@ -1,7 +1,6 @@
 -- How a run ends that reads no command for want of memory.
 use Rattle.std.proofs.Common.{◌≡◌, ◌∙◌, List, ℕ, true, Option, Some, None, refl}
 use Rattle.std.specs.Prelude.{is_some}
-use Rattle.hood_io.specs.Shelves.{Told}
 use Rattle.hrthood_top.specs.declared.message.Message.TheVariants as message
 use Rattle.hrthood_top.specs.declared.status.Status.TheVariants as status
 use Rattle.hrthood_top.specs.Words.{Command, Check, Analyse, Format, Generate, Replay, Verify, Sample}

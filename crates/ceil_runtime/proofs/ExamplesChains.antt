@@ -1,6 +1,6 @@
 -- Examples of the table by which a variable is found by its name: for each definition one case that holds, and one that breaks it alone.
 use Rattle.std.specs.Prelude.{◌≡◌, ℕ, zero, suc, ◌<◌, true, List, [], ◌∷◌, take, Some, slice_get, codes, refl}
-use Rattle.std.proofs.Common.{arith, subst}
+use Rattle.std.proofs.Common.{◌∙◌, ap, arith, get_or, subst, sym}
 use Rattle.seq_tree.specs.Names.{Name}
 use Rattle.ceil_runtime.specs.Chains.{IsTable, bucket_of, is_in, mixed, names_in, up_to_last, with_first}
 use Rattle.ceil_runtime.specs.declared.values.Var.{Var}
@@ -10,7 +10,7 @@ two-bytes : mixed 97 98 ≡ 6363201
 two-bytes = refl
 
 other-order : mixed 98 97 ≡ 6363201 → ⊥
-other-order h = cc
+other-order h = let told : 6428799 ≡ 6363201 = h in omega (arith, told)
 
 -- of two buckets, the names `a` and `c` are of one, and `b` is of the other
 bucket-a : bucket_of 2 (codes "a") ≡ 1
@@ -58,7 +58,9 @@ in-order : (v w : Var) → names_in (v ∷ w ∷ []) ≡ v.name.now ∷ w.name.n
 in-order v w = refl
 
 not-turned : (v w : Var) → v.name.now ≡ codes "a" → w.name.now ≡ codes "b" → names_in (v ∷ w ∷ []) ≡ codes "b" ∷ codes "a" ∷ [] → ⊥
-not-turned v w a b h = cc
+not-turned v w a b h =
+    let same : codes "a" ≡ codes "b" = sym a ∙ ap (λ ns. get_or ns 0 []) h in
+    let first : 97 ≡ 98 = ap (λ (n : Name). get_or n 0 0) same in omega (arith, first)
 
 -- the table of the three: `c` is followed by `a`
 table : IsTable 2 three (0 ∷ 0 ∷ 1 ∷ []) (2 ∷ 3 ∷ [])

@@ -2,7 +2,8 @@
 # How much processor time it takes to run programs on the modelled processor, each form at four sizes, and the exponent by which the time
 # grows with the size (the slope of the line that fits the logarithms of the four sizes best). The time of reading, which is that of a
 # replay of one tick, is taken off. Where the size is a horizon, 1 is wanted. Elsewhere all sizes run as many statements, so that 0 is
-# wanted: a processor that searches its tasks, its frames, its variables or its operations has 1. Each form is described at its function.
+# wanted: a processor that searches its tasks, its frames, its variables or its operations, or moves its variables, has 1. Each form is
+# described at its function.
 # Names of forms as words, as `replay_times.sh last_variable`, measure those alone.
 source "$(dirname -- "${BASH_SOURCE[0]}")/measure.sh"
 
@@ -111,6 +112,14 @@ last_variable() {
     text
 }
 
+# A task with so many variables that calls a passive operation without parameters, in a loop.
+calls_beside_variables() {
+    echo 'package p is procedure f; end p;' >"$room/specs"
+    echo 'package body p is procedure f is begin null; end f; end p;' >"$room/bodies"
+    cyclic 1 "$forever p.f; end loop;" "$(awk -v count="$1" 'BEGIN { for (k = 1; k <= count; k++) print "v" k " : word := 0;" }')"
+    text
+}
+
 # A task that calls the last of so many passive operations, in a loop.
 last_operation() {
     awk -v count="$1" -v specs="$room/specs" -v bodies="$room/bodies" 'BEGIN {
@@ -160,7 +169,7 @@ forms() {
         "$form" "$size" >"$room/text"
         case $form in
             horizons) until=$size ;;
-            last_*) until=200000 ;;
+            last_* | calls_beside_variables) until=200000 ;;
             *) until=1000000 ;;
         esac
         replay 1
@@ -175,12 +184,12 @@ forms() {
     printf '%s: exponent %s\n' "$form" "$(exponent "$room/times")"
 }
 
-[ $# -gt 0 ] || set -- horizons tasks descents sections loop_below last_variable last_operation last_entry
+[ $# -gt 0 ] || set -- horizons tasks descents sections loop_below last_variable calls_beside_variables last_operation last_entry
 for form in "$@"; do
     case $form in
         horizons) forms "$form" 125000 250000 500000 1000000 ;;
         tasks) forms "$form" 4 8 16 30 ;;
-        last_*) forms "$form" 500 1000 2000 4000 ;;
+        last_* | calls_beside_variables) forms "$form" 500 1000 2000 4000 ;;
         *) forms "$form" 50 100 200 400 ;;
     esac
 done

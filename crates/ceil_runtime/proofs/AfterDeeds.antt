@@ -9,6 +9,7 @@ use Rattle.machine.specs.Pieces.{Piece}
 use Rattle.machine.specs.Deeds as deeds
 use Rattle.machine.specs.States as states
 use Rattle.machine.specs.Releases.{going}
+use Rattle.ceil_runtime.specs.Framed.{frames_of}
 use Rattle.ceil_runtime.specs.Doing.{Does}
 use Rattle.ceil_runtime.specs.Effort.{IsLong, effort, ends_among, first_ticks, first_works}
 use Rattle.ceil_runtime.specs.Progressed.{pieces_left, vars_left}
@@ -43,7 +44,7 @@ pub falls-on : (m : Task) (q : Progress) (costs : Costs) (duration : Option ℕ)
     → Does z p vs rest act vs' (pieces_left q) → ticks ≡ first_ticks costs duration (pieces_left q)
     → (most : ℕ) → reserve m.progress.stack.thread ≤ most → (0 < effort most (pieces_left m.progress)) × (ticks ≡ 0 → effort most (pieces_left q) < effort most (pieces_left m.progress))
 falls-on m q costs duration z p vs vs' rest act ticks thread was ticking long does starts most enough =
-    let few : ends_among (pieces_left q) < most = omega (arith, few-ends q.piece q.stack.frames.items, few-frames q.stack.thread q.stack.frames.items q.stack.fit, ap reserve thread, enough) in (
+    let few : ends_among (pieces_left q) < most = omega (arith, few-ends q.piece (frames_of q.stack), few-frames q.stack.thread (frames_of q.stack) q.stack.fit, ap reserve thread, enough) in (
       rw was (some-effort most p rest (omega (arith, few))),
-      λ none. rw was (effort-falls costs duration most z q.stack.thread q.piece q.stack.frames.items ticking long q.fits few (sym starts ∙ none) p vs vs' rest act does),
+      λ none. rw was (effort-falls costs duration most z q.stack.thread q.piece (frames_of q.stack) ticking long q.fits few (sym starts ∙ none) p vs vs' rest act does),
     )

@@ -77,7 +77,7 @@ names-body o values vs =
 
 -- there is room for the variables of a body
 pub body-room : (t : Thread) (o : Operation) (fs : List Frame) (vars : List Var) → FitAll (first_place t) fs → (place_of (first_place t) fs).names ≡ body_names o ++ names_of (vars_of vars)
-    → length vars + length o.locals + length o.sig.params + 2 ≤ reserve t
+    → length fs + length vars + length o.locals + length o.sig.params + 2 ≤ reserve t
 body-room t o fs vars fit names =
     let few = few-frames t fs fit in
     let all : length (place_of (first_place t) fs).names ≡ length (body_names o ++ names_of (vars_of vars)) = ap length names in
@@ -100,7 +100,7 @@ entry-spot t fs gs s e lent at pushed = ap (λ x. x.spot) pushed.place ∙ ap (�
 
 -- there is room for the data that an object lends
 pub lent-room : (t : Thread) (fs gs : List Frame) (e : Entry) (lent : ℕ) (vars : List Var) → FitAll (first_place t) gs → IsPushed (first_place t) (frame.Close e lent) fs gs
-    → names_of (vars_of vars) ≡ take lent (entry_names e) → length vars + 2 ≤ reserve t
+    → names_of (vars_of vars) ≡ take lent (entry_names e) → length gs + length vars + 2 ≤ reserve t
 lent-room t fs gs e lent vars fit pushed names =
     let few = few-frames t gs fit in
     let all : length (place_of (first_place t) gs).names ≡ length (body_names (operation_of e.call.op.now) ++ take lent (entry_names e)) = ap (λ p. length p.names) pushed.place in

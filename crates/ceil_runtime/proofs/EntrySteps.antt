@@ -19,6 +19,7 @@ use Rattle.machine.specs.Deeds.{PieceOutcome, deed, done}
 use Rattle.machine.specs.Releases.{Next, after, going, is_waiting, released, serve}
 use Rattle.machine.specs.Effects.{acted, ceiling_of, entry, exit, inside_now, object_unit, outside_now, section_unit, task_unit}
 use Rattle.dispatching.proofs.Acts.{not-served}
+use Rattle.ceil_runtime.specs.Framed.{frames_of}
 use Rattle.ceil_runtime.specs.Doing.{IsActOf}
 use Rattle.ceil_runtime.specs.Effort.{sections_among}
 use Rattle.ceil_runtime.specs.Libraries.{objects_from}
@@ -98,19 +99,19 @@ module _ (m : Machine) (i : ℕ) (whole : IsWhole m) (phase : m.phase ≡ Effect
 
   -- the act of a piece, before its effect
   pub reached-at : (q : Piece) (d : Deed) → t.progress.piece ≡ Some q → ActsAs (system_of t.progress.stack.thread) (task_of t) d
-      → IsActOf d (done entry_in (piece_of q (put_away t.progress.stack.frames.items)) (task_of t).vars (with_parts q (behind t.progress.stack.frames.items))).act
+      → IsActOf d (done entry_in (piece_of q (put_away (frames_of t.progress.stack))) (task_of t).vars (with_parts q (behind (frames_of t.progress.stack)))).act
   reached-at q d has reaches =
-      let fs = t.progress.stack.frames.items in
+      let fs = (frames_of t.progress.stack) in
       reaches (piece_of q (put_away fs)) (with_parts q (behind fs)) (ap (λ o. started o (kept fs)) has) entry_in (runs-alike m.until m.costs m.units.now m.tasks.items (running-sound m i whole phase on).calls i t here)
 
   -- the stop before a section
   pub stop-before : (q : Piece) → t.progress.piece ≡ Some q → (section : Resource) (unit ceiling : ℕ) (told' : List Event) (act : deeds.Act)
-      → (done entry_in (piece_of q (put_away t.progress.stack.frames.items)) (task_of t).vars (with_parts q (behind t.progress.stack.frames.items))).act ≡ act
+      → (done entry_in (piece_of q (put_away (frames_of t.progress.stack))) (task_of t).vars (with_parts q (behind (frames_of t.progress.stack)))).act ≡ act
       → ((vars : Variables) (ps : List pieces.Piece) → acted entry_in i (task_of t) act vars ps (effect_state m i) ≡ entry entry_in i (task_of t) section told' vars ps (effect_state m i))
       → section_unit entry_in section ≡ unit → ceiling_of entry_in section ≡ ceiling → nat_lt ceiling t.active ≡ true → HasObject m.tasks.items unit ⊎ HasUnit m.tasks.items unit
       → (m' : Machine) → HasStopped m m' → (told : Told) → told ≡ One (event.Stop m.time t.progress.stack.thread.unit unit t.active ceiling) → IsStep m told m'
   stop-before q has section unit ceiling told' act is enters unit_is ceiling_is above of m' stopped told says =
-      let fs = t.progress.stack.frames.items in
+      let fs = (frames_of t.progress.stack) in
       let outcome : PieceOutcome = done entry_in (piece_of q (put_away fs)) (task_of t).vars (with_parts q (behind fs)) in
       let does : outcome ≡ deed act outcome.vars outcome.pieces = ap (λ a. deed a outcome.vars outcome.pieces) is in
       let step = stop-step m i whole phase on t here due (piece_of q (put_away fs)) (with_parts q (behind fs)) outcome.pieces outcome.vars act (ap (λ o. started o (kept fs)) has) does section told'

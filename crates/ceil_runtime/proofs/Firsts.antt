@@ -167,3 +167,8 @@ all-back p fs gs f popped other = by_form f popped other where
 pub names-idle : (t : Thread) (first : Option Piece) (vs : Variables) (fs : List Frame) → IsFirst t first vs fs → started first (kept_frames fs) ≡ [] → names_of vs ≡ data_names t
 names-idle t None vs fs h none = h.named ∙ ap (λ xs. (place_of (first_place t) xs).names) (first-frame t fs h.fits)
 names-idle t (Some q) vs fs h none = absurd (cc)
+
+-- and no frames
+pub frames-idle : (t : Thread) (first : Option Piece) (vs : Variables) (fs : List Frame) → IsFirst t first vs fs → started first (kept_frames fs) ≡ [] → fs ≡ []
+frames-idle t None vs fs h none = first-frame t fs h.fits
+frames-idle t (Some q) vs fs h none = absurd (cc)

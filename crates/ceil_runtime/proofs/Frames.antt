@@ -24,11 +24,11 @@ kept-push fs f = fold-append with_frame nothing_kept fs (f ∷ [])
 pub place-push : (p : Place) (fs : List Frame) (f : Frame) → place_of p (fs ++ f ∷ []) ≡ next (place_of p fs) f
 place-push p fs f = fold-append next p fs (f ∷ [])
 
-fit-push : (p : Place) (k : Kept) (fs : List Frame) (f : Frame) → Fit p k fs → FitsFrame (place_of p fs) (fold with_frame k fs).away f → Fit p k (fs ++ f ∷ [])
+pub fit-push : (p : Place) (k : Kept) (fs : List Frame) (f : Frame) → Fit p k fs → FitsFrame (place_of p fs) (fold with_frame k fs).away f → Fit p k (fs ++ f ∷ [])
 fit-push p k [] f h here = (here, tt)
 fit-push p k (g ∷ fs) f h here = (h.0, fit-push (next p g) (with_frame k g) fs f h.1 here)
 
-fit-pop : (p : Place) (k : Kept) (fs : List Frame) (f : Frame) → Fit p k (fs ++ f ∷ []) → Fit p k fs × FitsFrame (place_of p fs) (fold with_frame k fs).away f
+pub fit-pop : (p : Place) (k : Kept) (fs : List Frame) (f : Frame) → Fit p k (fs ++ f ∷ []) → Fit p k fs × FitsFrame (place_of p fs) (fold with_frame k fs).away f
 fit-pop p k [] f h = (tt, h.0)
 fit-pop p k (g ∷ fs) f h = let more = fit-pop (next p g) (with_frame k g) fs f h.1 in ((h.0, more.0), more.1)
 
@@ -37,10 +37,10 @@ abbrev pub FitAll : Place → List Frame → Type 0
 FitAll p fs = Fit p nothing_kept fs
 
 -- what is known of frames from which one was taken
-popped : (p : Place) (fs gs : List Frame) (f : Frame) → fs ≡ gs ++ f ∷ [] → FitAll p fs → IsPopped p fs gs f
+pub popped : (p : Place) (fs gs : List Frame) (f : Frame) → fs ≡ gs ++ f ∷ [] → FitAll p fs → IsPopped p fs gs f
 popped p fs gs f e h = record { items = e; kept = ap kept e ∙ kept-push gs f; place = ap (place_of p) e ∙ place-push p gs f; here = (fit-pop p nothing_kept gs f (subst (FitAll p) e h)).1 }
 
-popped-fit : (p : Place) (fs gs : List Frame) (f : Frame) → fs ≡ gs ++ f ∷ [] → FitAll p fs → FitAll p gs
+pub popped-fit : (p : Place) (fs gs : List Frame) (f : Frame) → fs ≡ gs ++ f ∷ [] → FitAll p fs → FitAll p gs
 popped-fit p fs gs f e h = (fit-pop p nothing_kept gs f (subst (FitAll p) e h)).0
 
 -- what is taken off frames, and that the others stand as they did
@@ -129,8 +129,9 @@ room-for t fs f h k =
     let few = few-frames t (fs ++ f ∷ []) (fit-push (first_place t) nothing_kept fs f h k) in
     omega (arith, few, length-append fs (f ∷ []))
 
--- as many variables as names, and room for two more
-pub few-vars : (t : Thread) (fs : List Frame) (vars : List Var) → FitAll (first_place t) fs → names_of (vars_of vars) ≡ (place_of (first_place t) fs).names → length vars + 2 ≤ reserve t
+-- as many variables as names, and room for them beside the frames, and for two more
+pub few-vars : (t : Thread) (fs : List Frame) (vars : List Var) → FitAll (first_place t) fs → names_of (vars_of vars) ≡ (place_of (first_place t) fs).names
+    → length fs + length vars + 2 ≤ reserve t
 few-vars t fs vars h names =
     let few = few-frames t fs h in
     let same : length vars ≡ length (place_of (first_place t) fs).names = sym (vars-length vars) ∙ sym (length-map (vars_of vars) (λ v. v.0)) ∙ ap length names in

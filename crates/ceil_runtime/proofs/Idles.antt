@@ -2,6 +2,7 @@
 use Rattle.std.specs.Prelude.{◌≡◌, ◌⊎◌, Bool, true, false, ◌||◌, List, [], ◌∷◌, Some, None, refl}
 use Rattle.std.proofs.Common.{sym, ◌∙◌, ap, subst, inl, inr}
 use Rattle.machine.specs.Pieces.{Piece}
+use Rattle.ceil_runtime.specs.Framed.{frames_of}
 use Rattle.ceil_runtime.specs.Fitting.{FitsFirst, place_of}
 use Rattle.ceil_runtime.specs.Progresses.{kept, started}
 use Rattle.ceil_runtime.specs.Progressed.{is_idle, pieces_left}
@@ -14,15 +15,15 @@ use Rattle.ceil_runtime.proofs.Starting.{none-left}
 
 pub piece-none : (t : Task) → t.progress.piece ≡ None → (task_of t).pieces ≡ []
 piece-none t is =
-    ap (λ o. started o (kept t.progress.stack.frames.items)) is
-    ∙ none-left t.progress.stack.thread t.progress.stack.frames.items
-    (subst (FitsFirst (place_of (first_place t.progress.stack.thread) t.progress.stack.frames.items)) is t.progress.fits)
+    ap (λ o. started o (kept (frames_of t.progress.stack))) is
+    ∙ none-left t.progress.stack.thread (frames_of t.progress.stack)
+    (subst (FitsFirst (place_of (first_place t.progress.stack.thread) (frames_of t.progress.stack))) is t.progress.fits)
 
 pub piece-ready : (t : Task) (p : piece.Piece) → t.progress.piece ≡ Some p → is_ready t.readiness ≡ true
 piece-ready t p is = by_ready (is_ready t.readiness) refl t.asleep
   where
     some_pieces : is_idle (pieces_left t.progress) ≡ false
-    some_pieces = ap (λ o. is_idle (started o (kept t.progress.stack.frames.items))) is
+    some_pieces = ap (λ o. is_idle (started o (kept (frames_of t.progress.stack)))) is
 
     clash : false ≡ true → ⊥
     clash k = cc

@@ -2,6 +2,8 @@ pub mod Blocks
 pub mod Stacks
 pub mod Chained
 pub mod Frames
+pub mod Spreads
+pub mod Scopings
 pub mod Firsts
 pub mod Calls
 pub mod Starting

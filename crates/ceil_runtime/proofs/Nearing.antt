@@ -5,6 +5,7 @@ use Rattle.seq_tree.specs.declared.tree.Costs.{Costs}
 use Rattle.arrivals_tree.specs.declared.arrivals.Arrival.{Arrival}
 use Rattle.ada_tree.specs.Trees.{unit_of}
 use Rattle.ada_tree.specs.declared.program.Unit as units
+use Rattle.ceil_runtime.specs.Framed.{frames_of}
 use Rattle.ceil_runtime.specs.Callable.{calls_room, libraries_room, objects_room}
 use Rattle.std.proofs.lemmas.List.{length-map}
 use Rattle.std.proofs.lemmas.Option.{slice_get-map}
@@ -59,7 +60,7 @@ reserve-most until time costs us tasks i t at of =
 pub effort-few : (most : ℕ) (t : Task) → reserve t.progress.stack.thread ≤ most → effort most (task_of t).pieces ≤ most
 effort-few most t enough =
     let s = t.progress.stack in
-    effort-most most (pieces_left t.progress) (omega (arith, few-ends t.progress.piece s.frames.items, few-frames s.thread s.frames.items s.fit, enough))
+    effort-most most (pieces_left t.progress) (omega (arith, few-ends t.progress.piece (frames_of s), few-frames s.thread (frames_of s) s.fit, enough))
 
 pub ran-few : (until time : ℕ) (costs : Costs) (us : List units.Unit) (tasks : List Task) (ran : Option ℕ) → AllTasks (IsKept until time us) tasks
     → ran_effort (most_ends (system_by until costs us tasks)) (map task_of tasks) ran ≤ most_ends (system_by until costs us tasks)

@@ -11,6 +11,7 @@ use Rattle.machine.specs.Systems.{System, CallTarget, Plain, Protected, Request,
 use Rattle.machine.specs.Pieces.{Piece, Idle, Store, Leaving, Calling, Working, Printing, Testing, Turning, Turned, Returning, Closing, Keeping, Opening, Requested, Finishing, after_loop, branch_pieces, pieces, pieces_of, turns}
 use Rattle.machine.specs.Deeds as deeds
 use Rattle.machine.specs.Deeds.{called, done}
+use Rattle.ceil_runtime.specs.Framed.{frames_of}
 use Rattle.ceil_runtime.specs.Callable.{op_name}
 use Rattle.ceil_runtime.specs.Doing.{Does, IsAmong}
 use Rattle.ceil_runtime.specs.Effort.{ends_among, sections_among}
@@ -78,7 +79,7 @@ few_ends (Finishing ∷ ps) = few_ends ps
 pub few-sections : (p : Progress) → sections_among (pieces_left p) + 1 ≤ reserve p.stack.thread
 few-sections p =
     let s = p.stack in
-    omega (arith, few_ends (pieces_left p), few-ends p.piece s.frames.items, few-frames s.thread s.frames.items s.fit)
+    omega (arith, few_ends (pieces_left p), few-ends p.piece (frames_of s), few-frames s.thread (frames_of s) s.fit)
 
 -- a loop that is left ends inside the same sections
 abbrev LoopsInside : Place → Kept → Type 0

@@ -1,5 +1,7 @@
 pub mod Stacked
 pub mod Chains
+pub mod Scoped
+pub mod Slots
 pub mod Callable
 pub mod Progresses
 pub mod Fitting
@@ -10,6 +12,7 @@ pub mod Written
 pub mod Gathering
 pub mod OneProof
 pub mod Doing
+pub mod Framed
 pub mod Progressed
 pub mod Readies
 pub mod Replayable

@@ -3,6 +3,7 @@
 use Rattle.std.specs.Prelude.{Bool, true, false, List, [], ◌∷◌}
 use Rattle.seq_tree.specs.Variables.{Variables}
 use Rattle.machine.specs.Pieces.{Piece}
+use Rattle.ceil_runtime.specs.Framed.{frames_of}
 use Rattle.ceil_runtime.specs.Stacked.{vars_of}
 use Rattle.ceil_runtime.specs.Progresses.{started, kept}
 use Rattle.ceil_runtime.specs.declared.progress.Progress.{Progress}
@@ -13,7 +14,7 @@ vars_left p = vars_of p.stack.vars.items
 
 -- its pieces
 abbrev pub pieces_left : Progress → List Piece
-pieces_left p = started p.piece (kept p.stack.frames.items)
+pieces_left p = started p.piece (kept (frames_of p.stack))
 
 -- whether there are no pieces
 abbrev pub is_idle : List Piece → Bool

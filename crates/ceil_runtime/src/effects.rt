@@ -74,13 +74,15 @@ fn silent<'a>(next: Option<Piece<'a>>) -> Moved<'a>
 }
 
 impl<'a> Stack<'a> {
+    ghost use Rattle.ceil_runtime.specs.Framed.{frames_of};
+
     /// What comes behind a condition that doesn't hold.
     fn otherwise(&mut self, arms: &'a [Arm], other: &'a Option<Block>) -> Option<Piece<'a>>
-        requires away { put_away self.old.frames.items ≡ [] }
-        requires names { names_of (vars_of self.old.vars.items) ≡ (place_of (first_place self.old.thread) self.old.frames.items).names }
-        requires branches { FitsBranches (place_of (first_place self.old.thread) self.old.frames.items).spot (branches_left arms.now other.now) }
-        ensures pieces { started result (kept self.new.frames.items) ≡ branch_pieces (branches_left arms.entry.now other.entry.now) (behind self.old.frames.items) }
-        ensures first { IsFirst self.new.thread result (vars_of self.new.vars.items) self.new.frames.items }
+        requires away { put_away (frames_of self.old) ≡ [] }
+        requires names { names_of (vars_of self.old.vars.items) ≡ (place_of (first_place self.old.thread) (frames_of self.old)).names }
+        requires branches { FitsBranches (place_of (first_place self.old.thread) (frames_of self.old)).spot (branches_left arms.now other.now) }
+        ensures pieces { started result (kept (frames_of self.new)) ≡ branch_pieces (branches_left arms.entry.now other.entry.now) (behind (frames_of self.old)) }
+        ensures first { IsFirst self.new.thread result (vars_of self.new.vars.items) (frames_of self.new) }
         ensures vars { vars_of self.new.vars.items ≡ vars_of self.old.vars.items }
         ensures thread { self.new.thread ≡ self.old.thread }
     {
@@ -95,13 +97,13 @@ impl<'a> Stack<'a> {
 
     /// The test of an arm.
     fn test(&mut self, arm: &'a Arm, arms: &'a [Arm], other: &'a Option<Block>) -> Option<Piece<'a>>
-        requires away { put_away self.old.frames.items ≡ [] }
-        requires names { names_of (vars_of self.old.vars.items) ≡ (place_of (first_place self.old.thread) self.old.frames.items).names }
-        requires arms { FitsIf (place_of (first_place self.old.thread) self.old.frames.items).spot (When (arm_of arm.now).0 (arm_of arm.now).1 (branches_left arms.now other.now)) }
-        ensures pieces { started result (kept self.new.frames.items)
-            ≡ (if holds (arm_of arm.entry.now).0 (vars_of self.old.vars.items) then pieces (arm_of arm.entry.now).1 (behind self.old.frames.items)
-            else branch_pieces (branches_left arms.entry.now other.entry.now) (behind self.old.frames.items)) }
-        ensures first { IsFirst self.new.thread result (vars_of self.new.vars.items) self.new.frames.items }
+        requires away { put_away (frames_of self.old) ≡ [] }
+        requires names { names_of (vars_of self.old.vars.items) ≡ (place_of (first_place self.old.thread) (frames_of self.old)).names }
+        requires arms { FitsIf (place_of (first_place self.old.thread) (frames_of self.old)).spot (When (arm_of arm.now).0 (arm_of arm.now).1 (branches_left arms.now other.now)) }
+        ensures pieces { started result (kept (frames_of self.new))
+            ≡ (if holds (arm_of arm.entry.now).0 (vars_of self.old.vars.items) then pieces (arm_of arm.entry.now).1 (behind (frames_of self.old))
+            else branch_pieces (branches_left arms.entry.now other.entry.now) (behind (frames_of self.old))) }
+        ensures first { IsFirst self.new.thread result (vars_of self.new.vars.items) (frames_of self.new) }
         ensures vars { vars_of self.new.vars.items ≡ vars_of self.old.vars.items }
         ensures thread { self.new.thread ≡ self.old.thread }
     {
@@ -114,12 +116,12 @@ impl<'a> Stack<'a> {
 
     /// The beginning of a turn.
     fn turn(&mut self, round: Round<'a>) -> Option<Piece<'a>>
-        requires away { put_away self.old.frames.items ≡ [] }
-        requires names { names_of (vars_of self.old.vars.items) ≡ (place_of (first_place self.old.thread) self.old.frames.items).names }
-        requires round { FitsPiece (place_of (first_place self.old.thread) self.old.frames.items).spot (PieceIs.Turning round) }
-        ensures pieces { started result (kept self.new.frames.items)
-            ≡ pieces (block_of round.entry.body.now) (DoneTurned round.entry.name.now round.entry.at round.entry.last (block_of round.entry.body.now) ∷ behind self.old.frames.items) }
-        ensures first { IsFirst self.new.thread result (vars_of self.new.vars.items) self.new.frames.items }
+        requires away { put_away (frames_of self.old) ≡ [] }
+        requires names { names_of (vars_of self.old.vars.items) ≡ (place_of (first_place self.old.thread) (frames_of self.old)).names }
+        requires round { FitsPiece (place_of (first_place self.old.thread) (frames_of self.old)).spot (PieceIs.Turning round) }
+        ensures pieces { started result (kept (frames_of self.new))
+            ≡ pieces (block_of round.entry.body.now) (DoneTurned round.entry.name.now round.entry.at round.entry.last (block_of round.entry.body.now) ∷ behind (frames_of self.old)) }
+        ensures first { IsFirst self.new.thread result (vars_of self.new.vars.items) (frames_of self.new) }
         ensures vars { vars_of self.new.vars.items ≡ (round.entry.name.now, round.entry.at) ∷ vars_of self.old.vars.items }
         ensures thread { self.new.thread ≡ self.old.thread }
     {
@@ -133,13 +135,13 @@ impl<'a> Stack<'a> {
 
     /// The end of a turn, whose variable goes.
     fn turned(&mut self, round: Round<'a>) -> Option<Piece<'a>>
-        requires { IsFirst self.old.thread (Some (PieceIs.Turned round)) (vars_of self.old.vars.items) self.old.frames.items }
-        ensures pieces { started result (kept self.new.frames.items) ≡ turns round.entry.name.now (suc round.entry.at) round.entry.last (block_of round.entry.body.now) (behind self.old.frames.items) }
-        ensures first { IsFirst self.new.thread result (vars_of self.new.vars.items) self.new.frames.items }
+        requires { IsFirst self.old.thread (Some (PieceIs.Turned round)) (vars_of self.old.vars.items) (frames_of self.old) }
+        ensures pieces { started result (kept (frames_of self.new)) ≡ turns round.entry.name.now (suc round.entry.at) round.entry.last (block_of round.entry.body.now) (behind (frames_of self.old)) }
+        ensures first { IsFirst self.new.thread result (vars_of self.new.vars.items) (frames_of self.new) }
         ensures vars { vars_of self.new.vars.items ≡ drop 1 (vars_of self.old.vars.items) }
         ensures thread { self.new.thread ≡ self.old.thread }
     {
-        let _ = self.vars.pop();
+        self.vars.pop();
         if round.at < round.last {
             Some(Piece::Turning(Round {
                 name: round.name,
@@ -154,12 +156,12 @@ impl<'a> Stack<'a> {
 
     /// An `exit when`.
     fn leave(&mut self, condition: &Expr) -> Option<Piece<'a>>
-        requires away { put_away self.old.frames.items ≡ [] }
-        requires names { names_of (vars_of self.old.vars.items) ≡ (place_of (first_place self.old.thread) self.old.frames.items).names }
-        requires inside { (place_of (first_place self.old.thread) self.old.frames.items).spot.inside ≡ true }
-        ensures pieces { started result (kept self.new.frames.items)
-            ≡ (if holds (expression_of condition.now) (vars_of self.old.vars.items) then after_loop (behind self.old.frames.items) else behind self.old.frames.items) }
-        ensures first { IsFirst self.new.thread result (vars_of self.new.vars.items) self.new.frames.items }
+        requires away { put_away (frames_of self.old) ≡ [] }
+        requires names { names_of (vars_of self.old.vars.items) ≡ (place_of (first_place self.old.thread) (frames_of self.old)).names }
+        requires inside { (place_of (first_place self.old.thread) (frames_of self.old)).spot.inside ≡ true }
+        ensures pieces { started result (kept (frames_of self.new))
+            ≡ (if holds (expression_of condition.now) (vars_of self.old.vars.items) then after_loop (behind (frames_of self.old)) else behind (frames_of self.old)) }
+        ensures first { IsFirst self.new.thread result (vars_of self.new.vars.items) (frames_of self.new) }
         ensures vars { vars_of self.new.vars.items ≡ (if holds (expression_of condition.now) (vars_of self.old.vars.items) then drop 1 (vars_of self.old.vars.items) else vars_of self.old.vars.items) }
         ensures thread { self.new.thread ≡ self.old.thread }
     {
@@ -173,49 +175,41 @@ impl<'a> Stack<'a> {
 
     /// Puts the variables of the caller away.
     pub fn put_vars_away(&mut self)
-        requires away { put_away self.old.frames.items ≡ [] }
-        requires names { names_of (vars_of self.old.vars.items) ≡ (place_of (first_place self.old.thread) self.old.frames.items).names }
-        ensures pieces { behind self.new.frames.items ≡ behind self.old.frames.items }
-        ensures away { put_away self.new.frames.items ≡ vars_of self.old.vars.items }
+        requires away { put_away (frames_of self.old) ≡ [] }
+        requires names { names_of (vars_of self.old.vars.items) ≡ (place_of (first_place self.old.thread) (frames_of self.old)).names }
+        ensures pieces { behind (frames_of self.new) ≡ behind (frames_of self.old) }
+        ensures away { put_away (frames_of self.new) ≡ vars_of self.old.vars.items }
         ensures vars { self.new.vars.items ≡ [] }
-        ensures names { (place_of (first_place self.new.thread) self.new.frames.items).names ≡ [] }
-        ensures spot { (place_of (first_place self.new.thread) self.new.frames.items).spot ≡ (place_of (first_place self.old.thread) self.old.frames.items).spot }
+        ensures names { (place_of (first_place self.new.thread) (frames_of self.new)).names ≡ [] }
+        ensures spot { (place_of (first_place self.new.thread) (frames_of self.new)).spot ≡ (place_of (first_place self.old.thread) (frames_of self.old)).spot }
         ensures thread { self.new.thread ≡ self.old.thread }
     {
-        'vars: while let Some(var) = self.vars.pop() {
-            self.push_frame(Frame::Saved(var));
-        }
+        self.away = self.vars.len();
+        self.vars.put_away();
     }
 
     /// Takes the variables of the caller back.
     fn take_vars_back(&mut self)
         requires vars { self.old.vars.items ≡ [] }
-        requires names { (place_of (first_place self.old.thread) self.old.frames.items).names ≡ [] }
-        ensures pieces { behind self.new.frames.items ≡ behind self.old.frames.items }
-        ensures away { put_away self.new.frames.items ≡ [] }
-        ensures names { names_of (vars_of self.new.vars.items) ≡ (place_of (first_place self.new.thread) self.new.frames.items).names }
-        ensures vars { vars_of self.new.vars.items ≡ put_away self.old.frames.items }
+        requires names { (place_of (first_place self.old.thread) (frames_of self.old)).names ≡ [] }
+        ensures pieces { behind (frames_of self.new) ≡ behind (frames_of self.old) }
+        ensures away { put_away (frames_of self.new) ≡ [] }
+        ensures names { names_of (vars_of self.new.vars.items) ≡ (place_of (first_place self.new.thread) (frames_of self.new)).names }
+        ensures vars { vars_of self.new.vars.items ≡ put_away (frames_of self.old) }
         ensures thread { self.new.thread ≡ self.old.thread }
     {
-        'frames: while let Some(frame) = self.pop_frame() {
-            match frame {
-                Frame::Saved(var) => self.vars.push_reserved(var),
-                other => {
-                    self.push_frame(other);
-                    return;
-                }
-            }
-        }
+        self.vars.take_back(self.away);
+        self.away = 0;
     }
 
     /// The body of an operation begins with these values. What an object lends stands among the variables already.
     pub fn begin_body(&mut self, op: &'a OpText, values: &[u32]) -> Option<Piece<'a>>
-        requires away { put_away self.old.frames.items ≡ [] }
-        requires names { (place_of (first_place self.old.thread) self.old.frames.items).names ≡ body_names (operation_of op.now) ++ names_of (vars_of self.old.vars.items) }
-        requires room { 1 ≤ (place_of (first_place self.old.thread) self.old.frames.items).spot.room }
-        requires block { FitsBlock (above (place_of (first_place self.old.thread) self.old.frames.items).spot) (operation_of op.now).block }
-        ensures pieces { started result (kept self.new.frames.items) ≡ pieces (operation_of op.entry.now).block (behind self.old.frames.items) }
-        ensures first { IsFirst self.new.thread result (vars_of self.new.vars.items) self.new.frames.items }
+        requires away { put_away (frames_of self.old) ≡ [] }
+        requires names { (place_of (first_place self.old.thread) (frames_of self.old)).names ≡ body_names (operation_of op.now) ++ names_of (vars_of self.old.vars.items) }
+        requires room { 1 ≤ (place_of (first_place self.old.thread) (frames_of self.old)).spot.room }
+        requires block { FitsBlock (above (place_of (first_place self.old.thread) (frames_of self.old)).spot) (operation_of op.now).block }
+        ensures pieces { started result (kept (frames_of self.new)) ≡ pieces (operation_of op.entry.now).block (behind (frames_of self.old)) }
+        ensures first { IsFirst self.new.thread result (vars_of self.new.vars.items) (frames_of self.new) }
         ensures vars { vars_of self.new.vars.items ≡ opened (operation_of op.entry.now) values.now ++ vars_of self.old.vars.items }
         ensures thread { self.new.thread ≡ self.old.thread }
     {
@@ -226,10 +220,10 @@ impl<'a> Stack<'a> {
 
     /// A call of a passive operation: the values are handed in, and the body begins.
     fn call(&mut self, call: Call<'a>) -> Option<Piece<'a>>
-        requires first { IsFirst self.old.thread (Some (PieceIs.Calling call.object call.name call.actuals)) (vars_of self.old.vars.items) self.old.frames.items }
+        requires first { IsFirst self.old.thread (Some (PieceIs.Calling call.object call.name call.actuals)) (vars_of self.old.vars.items) (frames_of self.old) }
         requires calls { callee (system_of self.old.thread) call.object.now call.name.now ≡ PlainCall (operation_of call.op.now) }
-        ensures pieces { started result (kept self.new.frames.items) ≡ pieces (operation_of call.entry.op.now).block (returning call.entry (vars_of self.old.vars.items) ∷ behind self.old.frames.items) }
-        ensures first { IsFirst self.new.thread result (vars_of self.new.vars.items) self.new.frames.items }
+        ensures pieces { started result (kept (frames_of self.new)) ≡ pieces (operation_of call.entry.op.now).block (returning call.entry (vars_of self.old.vars.items) ∷ behind (frames_of self.old)) }
+        ensures first { IsFirst self.new.thread result (vars_of self.new.vars.items) (frames_of self.new) }
         ensures vars { vars_of self.new.vars.items
             ≡ opened (operation_of call.entry.op.now) (handed call.entry.op.now.sig.params.items (map expression_of call.entry.actuals.now) (vars_of self.old.vars.items)) }
         ensures thread { self.new.thread ≡ self.old.thread }
@@ -255,12 +249,12 @@ impl<'a> Stack<'a> {
         actuals: &'a [Expr],
     ) -> Moved<'a>
         requires callees { AreCallees callees.now (system_of self.old.thread) }
-        requires first { IsFirst self.old.thread (Some (PieceIs.Calling object name actuals)) (vars_of self.old.vars.items) self.old.frames.items }
+        requires first { IsFirst self.old.thread (Some (PieceIs.Calling object name actuals)) (vars_of self.old.vars.items) (frames_of self.old) }
         requires outside { IsOutside (callee (system_of self.old.thread) object.now name.now) }
-        ensures deed { Does (system_of self.old.thread) (piece_of (PieceIs.Calling object.entry name.entry actuals.entry) []) (vars_of self.old.vars.items) (behind self.old.frames.items)
-            (act_of result.act) (vars_of self.new.vars.items) (started result.next (kept self.new.frames.items)) }
+        ensures deed { Does (system_of self.old.thread) (piece_of (PieceIs.Calling object.entry name.entry actuals.entry) []) (vars_of self.old.vars.items) (behind (frames_of self.old))
+            (act_of result.act) (vars_of self.new.vars.items) (started result.next (kept (frames_of self.new))) }
         ensures goes_on { is_finish result.act ≡ false }
-        ensures first { IsFirst self.new.thread result.next (vars_of self.new.vars.items) self.new.frames.items }
+        ensures first { IsFirst self.new.thread result.next (vars_of self.new.vars.items) (frames_of self.new) }
         ensures thread { self.new.thread ≡ self.old.thread }
     {
         match callees.find(object, name) {
@@ -284,10 +278,10 @@ impl<'a> Stack<'a> {
 
     /// Stores the values that a call hands out, and the caller goes on.
     pub fn hand_back(&mut self, call: Call<'a>, values: &[u32]) -> Option<Piece<'a>>
-        requires { (place_of (first_place self.old.thread) self.old.frames.items).names ≡ [] }
-        ensures pieces { started result (kept self.new.frames.items) ≡ behind self.old.frames.items }
-        ensures first { IsFirst self.new.thread result (vars_of self.new.vars.items) self.new.frames.items }
-        ensures vars { vars_of self.new.vars.items ≡ stored (targets call.entry.op.now.sig.params.items (map expression_of call.entry.actuals.now)) values.now (put_away self.old.frames.items) }
+        requires { (place_of (first_place self.old.thread) (frames_of self.old)).names ≡ [] }
+        ensures pieces { started result (kept (frames_of self.new)) ≡ behind (frames_of self.old) }
+        ensures first { IsFirst self.new.thread result (vars_of self.new.vars.items) (frames_of self.new) }
+        ensures vars { vars_of self.new.vars.items ≡ stored (targets call.entry.op.now.sig.params.items (map expression_of call.entry.actuals.now)) values.now (put_away (frames_of self.old)) }
         ensures thread { self.new.thread ≡ self.old.thread }
     {
         self.vars.clear();
@@ -303,11 +297,11 @@ impl<'a> Stack<'a> {
 
     /// The end of the body of a passive operation.
     fn end_call(&mut self, call: Call<'a>) -> Option<Piece<'a>>
-        requires { IsFirst self.old.thread (Some (PieceIs.Returning call)) (vars_of self.old.vars.items) self.old.frames.items }
-        ensures pieces { started result (kept self.new.frames.items) ≡ behind self.old.frames.items }
-        ensures first { IsFirst self.new.thread result (vars_of self.new.vars.items) self.new.frames.items }
+        requires { IsFirst self.old.thread (Some (PieceIs.Returning call)) (vars_of self.old.vars.items) (frames_of self.old) }
+        ensures pieces { started result (kept (frames_of self.new)) ≡ behind (frames_of self.old) }
+        ensures first { IsFirst self.new.thread result (vars_of self.new.vars.items) (frames_of self.new) }
         ensures vars { vars_of self.new.vars.items
-            ≡ stored (targets call.entry.op.now.sig.params.items (map expression_of call.entry.actuals.now)) (reads (out_names call.entry.op.now.sig.params.items) (vars_of self.old.vars.items)) (put_away self.old.frames.items) }
+            ≡ stored (targets call.entry.op.now.sig.params.items (map expression_of call.entry.actuals.now)) (reads (out_names call.entry.op.now.sig.params.items) (vars_of self.old.vars.items)) (put_away (frames_of self.old)) }
         ensures thread { self.new.thread ≡ self.old.thread }
     {
         let mut values = Values::new();
@@ -318,13 +312,13 @@ impl<'a> Stack<'a> {
     /// Does what a piece does that neither enters a protected object nor leaves one, and starts the next one.
     pub fn take_effect(&mut self, callees: &Callees<'a>, piece: Piece<'a>) -> Moved<'a>
         requires callees { AreCallees callees.now (system_of self.old.thread) }
-        requires first { IsFirst self.old.thread (Some piece) (vars_of self.old.vars.items) self.old.frames.items }
+        requires first { IsFirst self.old.thread (Some piece) (vars_of self.old.vars.items) (frames_of self.old) }
         requires outside { StaysOutside (system_of self.old.thread) piece }
-        ensures deed { Does (system_of self.old.thread) (piece_of piece.entry (put_away self.old.frames.items)) (vars_of self.old.vars.items) (with_parts piece.entry (behind self.old.frames.items))
-            (act_of result.act) (given result.act (vars_of self.old.vars.items) (vars_of self.new.vars.items)) (started result.next (kept self.new.frames.items)) }
+        ensures deed { Does (system_of self.old.thread) (piece_of piece.entry (put_away (frames_of self.old))) (vars_of self.old.vars.items) (with_parts piece.entry (behind (frames_of self.old)))
+            (act_of result.act) (given result.act (vars_of self.old.vars.items) (vars_of self.new.vars.items)) (started result.next (kept (frames_of self.new))) }
         ensures keeps { KeepsData result.act self.old.thread.data.now (vars_of self.old.vars.items) (vars_of self.new.vars.items) }
-        ensures ends { EndsAt result.act (started result.next (kept self.new.frames.items)) }
-        ensures first { IsFirst self.new.thread result.next (vars_of self.new.vars.items) self.new.frames.items }
+        ensures ends { EndsAt result.act (started result.next (kept (frames_of self.new))) }
+        ensures first { IsFirst self.new.thread result.next (vars_of self.new.vars.items) (frames_of self.new) }
         ensures thread { self.new.thread ≡ self.old.thread }
     {
         match piece {
@@ -372,7 +366,6 @@ impl<'a> Stack<'a> {
                 next: self.next_piece(),
             },
             Piece::Finishing => {
-                self.frames.clear();
                 self.vars.truncate(self.thread.data.len());
                 Moved {
                     act: Act::Finish,

@@ -26,6 +26,8 @@ pub struct Crossed<'a> {
 }
 
 impl<'a> Stack<'a> {
+    ghost use Rattle.ceil_runtime.specs.Framed.{frames_of};
+
     /// What a call reaches.
     fn reached(
         &self,
@@ -35,7 +37,7 @@ impl<'a> Stack<'a> {
         actuals: &'a [Expr],
     ) -> Deed<'a>
         requires callees { AreCallees callees.now (system_of self.now.thread) }
-        requires first { IsFirst self.now.thread (Some (PieceIs.Calling object name actuals)) (vars_of self.now.vars.items) self.now.frames.items }
+        requires first { IsFirst self.now.thread (Some (PieceIs.Calling object name actuals)) (vars_of self.now.vars.items) (frames_of self.now) }
         ensures { IsDeed (system_of self.now.thread) (PieceIs.Calling object.entry name.entry actuals.entry) result }
     {
         match callees.find(object, name) {
@@ -66,7 +68,7 @@ impl<'a> Stack<'a> {
     /// What a piece reaches before its effect.
     pub fn deed(&self, callees: &Callees<'a>, piece: Piece<'a>) -> Deed<'a>
         requires callees { AreCallees callees.now (system_of self.now.thread) }
-        requires first { IsFirst self.now.thread (Some piece) (vars_of self.now.vars.items) self.now.frames.items }
+        requires first { IsFirst self.now.thread (Some piece) (vars_of self.now.vars.items) (frames_of self.now) }
         ensures { IsDeed (system_of self.now.thread) piece.entry result }
     {
         match piece {
@@ -95,13 +97,13 @@ impl<'a> Stack<'a> {
     /// The entry into an operation of a protected object: the values are handed in, the data of the object come to the
     /// variables, and the body begins.
     pub fn enter_object(&mut self, entry: Entry<'a>, data: &mut Vec<Var<'a>>) -> Crossed<'a>
-        requires first { IsFirst self.old.thread (Some (PieceIs.Calling entry.call.object entry.call.name entry.call.actuals)) (vars_of self.old.vars.items) self.old.frames.items }
+        requires first { IsFirst self.old.thread (Some (PieceIs.Calling entry.call.object entry.call.name entry.call.actuals)) (vars_of self.old.vars.items) (frames_of self.old) }
         requires entry { IsEntry (system_of self.old.thread) entry }
         requires names { names_of (vars_of «data».old.items) ≡ take (vec_len «data».old) (entry_names entry) }
         ensures deed { DoesEnter (system_of self.old.thread) (piece_of (PieceIs.Calling entry.entry.call.object entry.entry.call.name entry.entry.call.actuals) [])
-            (vars_of self.old.vars.items) (behind self.old.frames.items)
-            entry.entry.object entry.entry.place result.values (vars_of «data».old.items) (vars_of self.new.vars.items) (started result.next (kept self.new.frames.items)) }
-        ensures first { IsFirst self.new.thread result.next (vars_of self.new.vars.items) self.new.frames.items }
+            (vars_of self.old.vars.items) (behind (frames_of self.old))
+            entry.entry.object entry.entry.place result.values (vars_of «data».old.items) (vars_of self.new.vars.items) (started result.next (kept (frames_of self.new))) }
+        ensures first { IsFirst self.new.thread result.next (vars_of self.new.vars.items) (frames_of self.new) }
         ensures lent { «data».new.items ≡ [] }
         ensures room { vec_capacity «data».new ≡ vec_capacity «data».old }
         ensures thread { self.new.thread ≡ self.old.thread }
@@ -124,11 +126,11 @@ impl<'a> Stack<'a> {
     /// The exit from an operation of a protected object: the data of the object go back, the values are handed out, and the
     /// caller goes on.
     pub fn leave_object(&mut self, entry: Entry<'a>, data: &mut Vec<Var<'a>>) -> Crossed<'a>
-        requires first { IsFirst self.old.thread (Some (PieceIs.Closing entry)) (vars_of self.old.vars.items) self.old.frames.items }
+        requires first { IsFirst self.old.thread (Some (PieceIs.Closing entry)) (vars_of self.old.vars.items) (frames_of self.old) }
         requires room { length entry.«data».now ≤ vec_capacity «data».old }
-        ensures deed { Does (system_of self.old.thread) (piece_of (PieceIs.Closing entry.entry) (put_away self.old.frames.items)) (vars_of self.old.vars.items) (behind self.old.frames.items)
-            (deeds.Leave entry.entry.object entry.entry.place result.values (vars_of «data».new.items)) (vars_of self.new.vars.items) (started result.next (kept self.new.frames.items)) }
-        ensures first { IsFirst self.new.thread result.next (vars_of self.new.vars.items) self.new.frames.items }
+        ensures deed { Does (system_of self.old.thread) (piece_of (PieceIs.Closing entry.entry) (put_away (frames_of self.old))) (vars_of self.old.vars.items) (behind (frames_of self.old))
+            (deeds.Leave entry.entry.object entry.entry.place result.values (vars_of «data».new.items)) (vars_of self.new.vars.items) (started result.next (kept (frames_of self.new))) }
+        ensures first { IsFirst self.new.thread result.next (vars_of self.new.vars.items) (frames_of self.new) }
         ensures names { names_of (vars_of «data».new.items) ≡ entry_names entry.entry }
         ensures room { vec_capacity «data».new ≡ vec_capacity «data».old }
         ensures thread { self.new.thread ≡ self.old.thread }

@@ -19,6 +19,7 @@ mod params;
 mod piece;
 mod processor;
 mod progress;
+mod scopes;
 mod stack;
 mod task;
 mod thread;

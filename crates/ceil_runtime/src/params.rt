@@ -10,14 +10,14 @@ ghost use Rattle.ceil_runtime.specs.Effort.{request_params};
 ghost use Rattle.ceil_runtime.specs.Stacked.{vars_of};
 ghost use Rattle.ceil_runtime.specs.Written.{timing_of};
 
+use crate::scopes::Scopes;
 use crate::thread::Timing;
 use crate::values::{Var, read, value_of};
-use crate::vars::Vars;
 use seq_tree::{Datum, Expr, Mode, Name, Param};
 use trace_tree::Values;
 
 /// Adds the values of the actuals that are handed in, in order.
-pub fn hand_in(values: &mut Values, params: &[Param], actuals: &[Expr], vars: &Vars)
+pub fn hand_in(values: &mut Values, params: &[Param], actuals: &[Expr], vars: &Scopes)
     requires { length values.old + length params.now ≤ 8 }
     ensures { values.new ≡ values.old ++ handed params.now (map expression_of actuals.now) (vars_of vars.now.items) }
 {
@@ -37,7 +37,7 @@ pub fn hand_in(values: &mut Values, params: &[Param], actuals: &[Expr], vars: &V
 }
 
 /// Adds the values of the parameters that are handed out, in order.
-pub fn hand_out(values: &mut Values, params: &[Param], vars: &Vars)
+pub fn hand_out(values: &mut Values, params: &[Param], vars: &Scopes)
     requires { length values.old + length params.now ≤ 8 }
     ensures { values.new ≡ values.old ++ reads (out_names params.now) (vars_of vars.now.items) }
 {
@@ -70,10 +70,10 @@ fn target<'a>(param: &Param, actual: &'a Expr) -> Option<&'a Name>
 }
 
 /// Stores values in the actuals that are handed out, in order.
-pub fn store(vars: &mut Vars, params: &[Param], actuals: &[Expr], values: &[u32])
+pub fn store(vars: &mut Scopes, params: &[Param], actuals: &[Expr], values: &[u32])
     ensures vars { vars_of vars.new.items ≡ stored (targets params.now (map expression_of actuals.now)) values.now (vars_of vars.old.items) }
-    ensures len { vec_len vars.new ≡ vec_len vars.old }
-    ensures capacity { vec_capacity vars.new ≡ vec_capacity vars.old }
+    ensures away { vars.new.away ≡ vars.old.away }
+    ensures room { vars.new.room ≡ vars.old.room }
 {
     let Some((param, params)) = params.split_first() else {
         return;
@@ -93,11 +93,12 @@ pub fn store(vars: &mut Vars, params: &[Param], actuals: &[Expr], values: &[u32]
 }
 
 /// Adds parameters with the values handed in, and 0 for those that are handed out.
-pub fn open_params<'a>(vars: &mut Vars<'a>, params: &'a [Param], values: &[u32])
-    requires { vec_len vars.old + length params.now ≤ vec_capacity vars.old }
+pub fn open_params<'a>(vars: &mut Scopes<'a>, params: &'a [Param], values: &[u32])
+    requires { length vars.old.away + length vars.old.items + length params.now ≤ vars.old.room }
     ensures vars { vars_of vars.new.items ≡ entered params.entry.now values.now ++ vars_of vars.old.items }
-    ensures len { vec_len vars.new ≡ vec_len vars.old + length params.entry.now }
-    ensures room { vec_capacity vars.new ≡ vec_capacity vars.old }
+    ensures len { length vars.new.items ≡ length vars.old.items + length params.entry.now }
+    ensures away { vars.new.away ≡ vars.old.away }
+    ensures room { vars.new.room ≡ vars.old.room }
 {
     let Some((param, params)) = params.split_first() else {
         return;
@@ -130,10 +131,11 @@ pub fn open_params<'a>(vars: &mut Vars<'a>, params: &'a [Param], values: &[u32])
 }
 
 /// Adds the parameter of a request, with the value that was requested, where there is one.
-pub fn open_request<'a>(vars: &mut Vars<'a>, timing: Timing<'a>, value: Option<u32>)
-    requires { vec_len vars.old + length (request_params (timing_of timing)) ≤ vec_capacity vars.old }
+pub fn open_request<'a>(vars: &mut Scopes<'a>, timing: Timing<'a>, value: Option<u32>)
+    requires { length vars.old.away + length vars.old.items + length (request_params (timing_of timing)) ≤ vars.old.room }
     ensures vars { vars_of vars.new.items ≡ parameter (timing_of timing.entry) value ++ vars_of vars.old.items }
-    ensures room { vec_capacity vars.new ≡ vec_capacity vars.old }
+    ensures away { vars.new.away ≡ vars.old.away }
+    ensures room { vars.new.room ≡ vars.old.room }
 {
     match timing {
         Timing::Periodic { .. } => {}
@@ -148,11 +150,12 @@ pub fn open_request<'a>(vars: &mut Vars<'a>, timing: Timing<'a>, value: Option<u
 }
 
 /// Adds data or locals at their written values.
-pub fn open_data<'a>(vars: &mut Vars<'a>, data: &'a [Datum])
-    requires { vec_len vars.old + length «data».now ≤ vec_capacity vars.old }
+pub fn open_data<'a>(vars: &mut Scopes<'a>, data: &'a [Datum])
+    requires { length vars.old.away + length vars.old.items + length «data».now ≤ vars.old.room }
     ensures vars { vars_of vars.new.items ≡ written «data».entry.now ++ vars_of vars.old.items }
-    ensures len { vec_len vars.new ≡ vec_len vars.old + length «data».entry.now }
-    ensures room { vec_capacity vars.new ≡ vec_capacity vars.old }
+    ensures len { length vars.new.items ≡ length vars.old.items + length «data».entry.now }
+    ensures away { vars.new.away ≡ vars.old.away }
+    ensures room { vars.new.room ≡ vars.old.room }
 {
     let mut at = data.len();
     'data: while at > 0 {
@@ -165,7 +168,7 @@ pub fn open_data<'a>(vars: &mut Vars<'a>, data: &'a [Datum])
 }
 
 /// The value of a request, where it has one.
-pub fn request_value(actuals: &[Expr], vars: &Vars) -> Option<u32>
+pub fn request_value(actuals: &[Expr], vars: &Scopes) -> Option<u32>
     ensures { result ≡ request_value (map expression_of actuals.now) (vars_of vars.now.items) }
 {
     let (actual, _) = actuals.split_first()?;
@@ -173,11 +176,12 @@ pub fn request_value(actuals: &[Expr], vars: &Vars) -> Option<u32>
 }
 
 /// Moves variables to the end of others, in order.
-pub fn move_vars<'a>(vars: &mut Vars<'a>, from: &mut Vec<Var<'a>>)
-    requires { vec_len vars.old + vec_len from.old ≤ vec_capacity vars.old }
+pub fn move_vars<'a>(vars: &mut Scopes<'a>, from: &mut Vec<Var<'a>>)
+    requires { length vars.old.away + length vars.old.items + vec_len from.old ≤ vars.old.room }
     ensures vars { vars.new.items ≡ vars.old.items ++ from.old.items }
-    ensures len { vec_len vars.new ≡ vec_len vars.old + vec_len from.old }
-    ensures room { vec_capacity vars.new ≡ vec_capacity vars.old }
+    ensures len { length vars.new.items ≡ length vars.old.items + vec_len from.old }
+    ensures away { vars.new.away ≡ vars.old.away }
+    ensures room { vars.new.room ≡ vars.old.room }
     ensures moved { from.new.items ≡ [] }
     ensures same { vec_capacity from.new ≡ vec_capacity from.old }
 {
@@ -188,7 +192,7 @@ pub fn move_vars<'a>(vars: &mut Vars<'a>, from: &mut Vec<Var<'a>>)
 }
 
 /// Puts these data, with the values that they have among some variables, in place of what is kept.
-pub fn keep_data<'a>(into: &mut Vec<Var<'a>>, data: &'a [Datum], vars: &Vars)
+pub fn keep_data<'a>(into: &mut Vec<Var<'a>>, data: &'a [Datum], vars: &Scopes)
     requires { length «data».now ≤ vec_capacity into.old }
     ensures kept { vars_of into.new.items ≡ kept «data».entry.now (vars_of vars.now.items) }
     ensures room { vec_capacity into.new ≡ vec_capacity into.old }

@@ -97,12 +97,19 @@ pub enum Frame<'a> {
     Stmts(&'a [Stmt]),
     /// The end of a turn.
     Turned(Round<'a>),
-    /// A variable of a caller, put away until the call above it ends.
+    /// A variable of a caller, put away until the call above it ends. It stands in contracts alone: a slot counts such variables.
     Saved(Var<'a>),
     /// The end of the body of a call.
     Return(Call<'a>),
     /// The end of the body of a call that has entered a protected object, and how many of the object's variables came with it.
     Close(Entry<'a>, usize),
+}
+
+/// A frame, and how many variables of a caller are put away below it.
+#[derive(Clone, Copy, Default, Drop)]
+pub struct Slot<'a> {
+    pub away: usize,
+    pub frame: Frame<'a>,
 }
 
 /// The first piece of a statement, and None of a loop without a turn.

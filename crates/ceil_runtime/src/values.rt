@@ -4,7 +4,7 @@ ghost use Rattle.seq_tree.specs.Values.{value};
 ghost use Rattle.seq_tree.specs.Variables.{read};
 ghost use Rattle.ceil_runtime.specs.Stacked.{vars_of};
 
-use crate::vars::Vars;
+use crate::scopes::Scopes;
 use seq_eval::{Lookup, eval};
 use seq_tree::{Expr, Name};
 
@@ -16,7 +16,7 @@ pub struct Var<'a> {
 }
 
 /// The value of an expression: an unknown name reads as 0, as the definitions have it.
-pub fn value_of(expr: &Expr, vars: &Vars) -> u32
+pub fn value_of(expr: &Expr, vars: &Scopes) -> u32
     ensures { result ≡ value (expression_of expr.now) (vars_of vars.now.items) }
 {
     eval(expr, vars)
@@ -24,7 +24,7 @@ pub fn value_of(expr: &Expr, vars: &Vars) -> u32
 
 /// The value of the innermost variable of this name, and 0 where there is none.
 #[tactic(auto, using(seq_eval::proofs::Reading::found_read))]
-pub fn read(name: &Name, vars: &Vars) -> u32
+pub fn read(name: &Name, vars: &Scopes) -> u32
     ensures { result ≡ read name.now (vars_of vars.now.items) }
 {
     vars.value(name).unwrap_or(0)

@@ -1,4 +1,4 @@
-ghost use Rattle.std.specs.Prelude.{◌≡◌, ◌+◌, ◌-◌, ◌<◌, ◌≤◌, ◌↔◌, [], ◌∷◌, ◌++◌, length, take, vec_len, vec_capacity, IfOk, IsSome, option_to_list};
+ghost use Rattle.std.specs.Prelude.{◌≡◌, ◌+◌, ◌-◌, ◌<◌, ◌≤◌, ◌↔◌, [], ◌∷◌, ◌++◌, drop, length, take, vec_len, vec_capacity, IfOk, IsSome, option_to_list};
 ghost use Rattle.seq_tree.specs.Names.{same_name};
 ghost use Rattle.seq_tree.specs.Variables.{write};
 ghost use Rattle.seq_eval.specs.Lookups.{found};
@@ -6,7 +6,6 @@ ghost use Rattle.ceil_runtime.specs.Chains.{bucket_of, names_in, up_to_last};
 ghost use Rattle.ceil_runtime.specs.Stacked.{vars_of};
 
 use crate::values::Var;
-use seq_eval::Lookup;
 use seq_tree::{Name, NoMemory};
 use std::alloc::Global;
 use std::marker::Model;
@@ -131,28 +130,25 @@ impl<'a> Vars<'a> {
         0
     }
 
-    /// Gives the innermost variable of this name a value, where there is one.
-    pub fn write(&mut self, name: &Name, value: u32)
-        ensures vars { vars_of self.new.items ≡ write name.now value (vars_of self.old.items) }
+    /// Gives the innermost variable of this name a value, where one stands from a place on.
+    pub fn write_from(&mut self, floor: usize, name: &Name, value: u32)
+        ensures vars { vars_of (drop floor self.new.items) ≡ write name.now value (vars_of (drop floor self.old.items)) }
+        ensures front { take floor self.new.items ≡ take floor self.old.items }
         ensures len { vec_len self.new ≡ vec_len self.old }
         ensures capacity { vec_capacity self.new ≡ vec_capacity self.old }
     {
         let at = self.find(name);
-        if at > 0 {
+        if at > floor {
             self.vars[at - 1].value = value;
         }
     }
-}
 
-impl Lookup for Vars<'_> {
-    ghost meaning = { λ v. vars_of v.items };
-
-    /// The value of the innermost variable of this name, where there is one.
-    fn value(&self, name: &Name) -> Option<u32>
-        ensures { result ≡ found name.now (vars_of self.now.items) }
+    /// The value of the innermost variable of this name, where one stands from a place on.
+    pub fn value_from(&self, floor: usize, name: &Name) -> Option<u32>
+        ensures { result ≡ found name.now (vars_of (drop floor self.now.items)) }
     {
         let at = self.find(name);
-        if at > 0 {
+        if at > floor {
             Some(self.vars[at - 1].value)
         } else {
             None

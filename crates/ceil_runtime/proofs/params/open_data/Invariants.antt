@@ -1,4 +1,4 @@
-use Rattle.std.proofs.Common.{◌≡◌, ◌≤◌, ◌+◌, ◌++◌, length, drop, vec_capacity, vec_len}
+use Rattle.std.proofs.Common.{◌≡◌, ◌≤◌, ◌+◌, ◌++◌, length, drop}
 use Rattle.seq_tree.specs.Variables.{written}
 use Rattle.ceil_runtime.specs.Stacked.{vars_of}
 use Rattle.ceil_runtime.proofs.params.open_data.Given as goal
@@ -7,9 +7,10 @@ use Rattle.ceil_runtime.proofs.params.open_data.Given as goal
 abbrev pub invariant-data : goal.invariant-data
 invariant-data l = record {
   within : l.at ≤ length l.«data»;
-  count : vec_len l.vars + l.at ≡ vec_len l.fn.vars + length l.«data»;
+  count : length l.vars.items + l.at ≡ length l.fn.vars.items + length l.«data»;
   vars : vars_of l.vars.items ≡ written (drop l.at l.«data») ++ vars_of l.fn.vars.items;
-  room : vec_capacity l.vars ≡ vec_capacity l.fn.vars;
+  away : l.vars.away ≡ l.fn.vars.away;
+  room : l.vars.room ≡ l.fn.vars.room;
 }
 
 abbrev pub decreases-data : goal.decreases-data

@@ -1,4 +1,5 @@
 use Rattle.std.proofs.Common.{◌≡◌, [], ap, arith, sym, subst, ◌∙◌, Some}
+use Rattle.ceil_runtime.specs.Framed.{frames_of}
 use Rattle.ceil_runtime.specs.Effort.{first_ticks, first_works}
 use Rattle.ceil_runtime.specs.Fitting.{FitsFirst, place_of}
 use Rattle.ceil_runtime.specs.Progressed.{pieces_left}
@@ -10,7 +11,7 @@ use Rattle.ceil_runtime.proofs.progress.Progress.start.Goals as goal
 pub returns-in-None : goal.returns-in-None
 returns-in-None c =
     let p = c.args.self.now in
-    let fs = p.stack.frames.items in
+    let fs = (frames_of p.stack) in
     let none : pieces_left p ≡ [] = ap (λ o. started o (kept fs)) c.in-None.is ∙ none-left p.stack.thread fs (subst (FitsFirst (place_of (first_place p.stack.thread) fs)) c.in-None.is p.fits) in
     record { ticks = sym (ap (first_ticks c.args.costs.now c.args.duration) none); works = sym (ap first_works none); some = omega arith }
 
@@ -18,7 +19,7 @@ pub returns-in-Some : goal.returns-in-Some
 returns-in-Some c =
     let p = c.args.self.now in
     let q = c.in-Some.piece in
-    let fs = p.stack.frames.items in
+    let fs = (frames_of p.stack) in
     let same : started (Some q) (kept fs) ≡ pieces_left p = sym (ap (λ o. started o (kept fs)) c.in-Some.is) in
     let ticks = c.start_of.ensures.ticks ∙ same-ticks c.args.costs.now c.args.duration q (put_away fs) (behind fs) ∙ ap (first_ticks c.args.costs.now c.args.duration) same in
     let works = c.start_of.ensures.works ∙ same-works q (put_away fs) (behind fs) ∙ ap first_works same in

@@ -1,5 +1,6 @@
 use Rattle.std.proofs.Common.{◌<◌, length, subst, sym, Some}
 use Rattle.machine.specs.Systems.{callee}
+use Rattle.ceil_runtime.specs.Framed.{frames_of}
 use Rattle.ceil_runtime.specs.Callable.{IsCallee, op_name}
 use Rattle.ceil_runtime.specs.Doing.{IsOutside}
 use Rattle.ceil_runtime.specs.Written.{first_place, system_of}
@@ -15,7 +16,7 @@ returns-in-Some-Request-clause-first c =
     (c.in-Some-Request.ensures (system_of s.thread) c.requires.callees) in
     let below = request-at (system_of s.thread) (op_name c.args.object.now c.args.name.now) c.in-Some-Request.task asked in
     record {
-      fits = subst (λ y. c.in-Some-Request.task < length y.threads) (sym (system-kept (first_place s.thread) s.frames.items)) below;
+      fits = subst (λ y. c.in-Some-Request.task < length y.threads) (sym (system-kept (first_place s.thread) (frames_of s))) below;
       named = c.requires.first.named;
       away = c.requires.first.away;
     }

@@ -1,4 +1,5 @@
 use Rattle.std.proofs.Common.{sym, subst, ◌∙◌, Some}
+use Rattle.ceil_runtime.specs.Framed.{frames_of}
 use Rattle.ceil_runtime.specs.Stacked.{vars_of}
 use Rattle.ceil_runtime.specs.Fitting.{IsPushed}
 use Rattle.ceil_runtime.specs.Written.{first_place}
@@ -13,8 +14,8 @@ returns-in-Some-first_of-clause-first c =
     let last = c.push_frame.new.self in
     let q = c.in-Some-first_of.piece in
     let rest = c.in-Some-first_of.rest in
-    let pushed = subst (λ t. IsPushed (first_place t) (frame.Stmts rest) c.pop_frame.new.self.frames.items last.frames.items) c.pop_frame.ensures.thread c.push_frame.ensures.frames in
-    let first = first-behind s.thread q c.in-Stmts.stmts rest c.in-Some.frame s.frames.items c.pop_frame.new.self.frames.items last.frames.items (vars_of s.vars.items)
+    let pushed = subst (λ t. IsPushed (first_place t) (frame.Stmts rest) (frames_of c.pop_frame.new.self) (frames_of last)) c.pop_frame.ensures.thread c.push_frame.ensures.frames in
+    let first = first-behind s.thread q c.in-Stmts.stmts rest c.in-Some.frame (frames_of s) (frames_of c.pop_frame.new.self) (frames_of last) (vars_of s.vars.items)
     c.in-Some.ensures.frames c.in-Stmts.is pushed c.in-Some-first_of.ensures.fits c.in-Some-first_of.ensures.of c.frames.invariant.names c.frames.invariant.away in
-    subst (λ t. IsFirst t (Some q) (vars_of last.vars.items) last.frames.items) (sym (c.push_frame.ensures.thread ∙ c.pop_frame.ensures.thread))
-    (subst (λ v. IsFirst s.thread (Some q) (vars_of v.items) last.frames.items) (sym (c.push_frame.ensures.vars ∙ c.pop_frame.ensures.vars)) first)
+    subst (λ t. IsFirst t (Some q) (vars_of last.vars.items) (frames_of last)) (sym (c.push_frame.ensures.thread ∙ c.pop_frame.ensures.thread))
+    (subst (λ v. IsFirst s.thread (Some q) (vars_of v.items) (frames_of last)) (sym (c.push_frame.ensures.vars ∙ c.pop_frame.ensures.vars)) first)

@@ -1,4 +1,5 @@
 use Rattle.std.proofs.Common.{◌≡◌, [], length}
+use Rattle.ceil_runtime.specs.Framed.{frames_of}
 use Rattle.ceil_runtime.specs.Stacked.{vars_of}
 use Rattle.ceil_runtime.specs.Progresses.{behind, put_away}
 use Rattle.ceil_runtime.specs.Fitting.{names_of, place_of}
@@ -8,12 +9,12 @@ use Rattle.ceil_runtime.proofs.stack.Stack.next_piece.Given as goal
 -- the frames so far had no pieces
 abbrev pub invariant-frames : goal.invariant-frames
 invariant-frames l = record {
-  pieces : behind l.self.frames.items ≡ behind l.fn.self.frames.items;
-  away : put_away l.self.frames.items ≡ [];
-  names : names_of (vars_of l.self.vars.items) ≡ (place_of (first_place l.self.thread) l.self.frames.items).names;
+  pieces : behind (frames_of l.self) ≡ behind (frames_of l.fn.self);
+  away : put_away (frames_of l.self) ≡ [];
+  names : names_of (vars_of l.self.vars.items) ≡ (place_of (first_place l.self.thread) (frames_of l.self)).names;
   vars : vars_of l.self.vars.items ≡ vars_of l.fn.self.vars.items;
   thread : l.self.thread ≡ l.fn.self.thread;
 }
 
 abbrev pub decreases-frames : goal.decreases-frames
-decreases-frames l = length l.self.frames.items
+decreases-frames l = length (frames_of l.self)

@@ -1,5 +1,6 @@
 use Rattle.std.proofs.Common.{refl, subst, sym, Some}
 use Rattle.machine.specs.Systems.{callee}
+use Rattle.ceil_runtime.specs.Framed.{frames_of}
 use Rattle.ceil_runtime.specs.Callable.{IsCallee, op_name}
 use Rattle.ceil_runtime.specs.Doing.{IsPlain}
 use Rattle.ceil_runtime.specs.Written.{system_of}
@@ -10,7 +11,7 @@ use Rattle.ceil_runtime.proofs.stack.Stack.reached.Goals as goal
 pub unreachable-requires : goal.unreachable-requires
 unreachable-requires c =
     let s = c.args.self.now in
-    is-there s.thread s.frames.items (op_name c.args.object.now c.args.name.now) c.requires.first.fits
+    is-there s.thread (frames_of s) (op_name c.args.object.now c.args.name.now) c.requires.first.fits
     (c.in-None.ensures (system_of s.thread) c.requires.callees)
 
 pub returns-in-Some-Protected : goal.returns-in-Some-Protected

@@ -1,34 +1,45 @@
-use Rattle.std.proofs.Common.{◌++◌, arith, ap, subst, sym, ◌∙◌}
-use Rattle.std.specs.Prelude.{vec_capacity, vec_len}
+use Rattle.std.proofs.Common.{◌+◌, arith, ap, sym, subst, length, ◌∙◌}
 use Rattle.ceil_runtime.specs.Stacked.{vars_of}
-use Rattle.ceil_runtime.specs.Fitting.{IsPushed, names_of, place_of}
+use Rattle.ceil_runtime.specs.Slots.{counted, spread}
+use Rattle.ceil_runtime.specs.Progresses.{behind, nothing_kept, put_away}
+use Rattle.ceil_runtime.specs.Fitting.{Fit, names_of, place_of}
 use Rattle.ceil_runtime.specs.Written.{first_place}
-use Rattle.ceil_runtime.proofs.Firsts.{all-back}
-use Rattle.ceil_runtime.proofs.Frames.{few-vars}
+use Rattle.ceil_runtime.proofs.Spreads.{back-away, back-behind, back-counted, back-fit, back-names, back-vars}
 use Rattle.ceil_runtime.proofs.stack.Stack.take_vars_back.Goals as goal
 
-pub push_reserved-requires : goal.push_reserved-requires
-push_reserved-requires c =
-    let s = c.frames.self in
-    let len = ap vec_len c.pop_frame.ensures.vars in
-    let room = ap vec_capacity c.pop_frame.ensures.vars in
-    omega (arith, few-vars s.thread s.frames.items s.vars.items s.fit c.frames.invariant.names, s.vars_room, s.vars.ok, len, room)
+pub take_back-requires-clause-within : goal.take_back-requires-clause-within
+take_back-requires-clause-within c = let s = c.args.self.now in omega (arith, s.counted)
 
-pub returns-in_default-frame : goal.returns-in_default-frame
-returns-in_default-frame c =
-    let s = c.frames.self in
-    let mid = c.pop_frame.new.self in
-    let last = c.push_frame.new.self in
-    let same = c.push_frame.ensures.thread ∙ c.in-Some.ensures.thread in
-    let pushed = subst (λ t. IsPushed (first_place t) c.in-Some.frame mid.frames.items last.frames.items) c.in-Some.ensures.thread c.push_frame.ensures.frames in
-    let popped = c.in-Some.ensures.frames in
-    let kept_same = pushed.kept ∙ sym popped.kept in
-    let none = all-back (first_place s.thread) s.frames.items mid.frames.items c.in-Some.frame popped c.in_default-frame.not-Saved in
-    let vars = ap (λ v. vars_of v.items) (c.push_frame.ensures.vars ∙ c.in-Some.ensures.vars) in
-    record {
-      pieces = ap (λ k. k.pieces) kept_same ∙ c.frames.invariant.pieces;
-      away = ap (λ k. k.away) kept_same ∙ none;
-      names = ap names_of vars ∙ c.frames.invariant.names ∙ ap (λ p. p.names) (popped.place ∙ sym pushed.place) ∙ ap (λ t. (place_of (first_place t) last.frames.items).names) (sym same);
-      vars = vars ∙ sym (ap (λ vs. vs ++ vars_of s.vars.items) none) ∙ c.frames.invariant.away;
-      thread = same ∙ c.frames.invariant.thread;
-    }
+pub invariant_of-self-clause-fit : goal.invariant_of-self-clause-fit
+invariant_of-self-clause-fit c =
+    let s = c.args.self.now in
+    subst (λ vs. Fit (first_place s.thread) nothing_kept (spread vs s.frames.items)) (sym c.take_back.ensures.away)
+    (back-fit (first_place s.thread) s.vars.away s.frames.items s.away s.counted s.fit s.bare)
+
+pub invariant_of-self-clause-counted : goal.invariant_of-self-clause-counted
+invariant_of-self-clause-counted c =
+    let s = c.args.self.now in
+    let all = ap length c.take_back.ensures.away ∙ back-counted (first_place s.thread) s.vars.away s.frames.items s.away s.counted s.fit s.bare in
+    omega (arith, all)
+
+pub returns-clause-pieces : goal.returns-clause-pieces
+returns-clause-pieces c =
+    let s = c.args.self.now in
+    ap (λ vs. behind (spread vs s.frames.items)) c.take_back.ensures.away ∙ back-behind (first_place s.thread) s.vars.away s.frames.items s.away s.counted s.fit s.bare
+
+pub returns-clause-away : goal.returns-clause-away
+returns-clause-away c =
+    let s = c.args.self.now in
+    ap (λ vs. put_away (spread vs s.frames.items)) c.take_back.ensures.away ∙ back-away (first_place s.thread) s.vars.away s.frames.items s.away s.counted s.fit s.bare
+
+pub returns-clause-names : goal.returns-clause-names
+returns-clause-names c =
+    let s = c.args.self.now in
+    ap (λ vs. names_of (vars_of vs)) c.take_back.ensures.items
+    ∙ back-names (first_place s.thread) s.vars.away s.frames.items s.away s.counted s.fit s.bare c.requires.names
+    ∙ sym (ap (λ vs. (place_of (first_place s.thread) (spread vs s.frames.items)).names) c.take_back.ensures.away)
+
+pub returns-clause-vars : goal.returns-clause-vars
+returns-clause-vars c =
+    let s = c.args.self.now in
+    ap vars_of c.take_back.ensures.items ∙ back-vars (first_place s.thread) s.vars.away s.frames.items s.away s.counted s.fit s.bare

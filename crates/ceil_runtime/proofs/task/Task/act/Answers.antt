@@ -2,6 +2,7 @@ use Rattle.std.proofs.Common.{◌≡◌, ℕ, ◌+◌, [], add-zero, ap, arith, 
 use Rattle.seq_tree.specs.Variables.{kept}
 use Rattle.machine.specs.States.{Readiness, Task}
 use Rattle.machine.specs.Effects.{resting}
+use Rattle.ceil_runtime.specs.Framed.{frames_of}
 use Rattle.ceil_runtime.specs.Doing.{Does, act_of, given}
 use Rattle.ceil_runtime.specs.Effort.{first_ticks, first_works}
 use Rattle.ceil_runtime.specs.Progresses.{behind, piece_of, put_away, started, with_parts}
@@ -21,10 +22,10 @@ returns-in_default c =
     let m = c.args.self.now in
     let s = m.progress.stack in
     let q = c.act-act.new.self in
-    let p = piece_of c.args.piece (put_away s.frames.items) in
-    let rest = with_parts c.args.piece (behind s.frames.items) in
+    let p = piece_of c.args.piece (put_away (frames_of s)) in
+    let rest = with_parts c.args.piece (behind (frames_of s)) in
     let other = c.in_default.not-Finish in
-    let was = ap (λ x. started x (kept_frames s.frames.items)) c.requires.piece in
+    let was = ap (λ x. started x (kept_frames (frames_of s))) c.requires.piece in
     let does = subst (λ vs. Does (system_of s.thread) p (vars_left m.progress) rest (act_of c.act-act.result) vs (pieces_left q)) (goes-given c.act-act.result (vars_left m.progress) (vars_left q) other) c.act-act.ensures.deed in
     record {
       acts = record {
@@ -42,10 +43,10 @@ returns-in_default c =
       works = omega (arith, c.start-start.ensures.some);
       falls = falls-on m q c.args.costs.now c.duration-duration.result (system_of s.thread) p (vars_left m.progress) (vars_left q) rest (act_of c.act-act.result) c.start-start.result.ticks
           c.act-act.ensures.thread was c.requires.ticking c.duration-duration.ensures.long does c.start-start.ensures.ticks;
-      among = is-among s.thread c.args.piece s.frames.items (vars_left m.progress) (vars_left q) (pieces_left q) (act_of c.act-act.result)
-          (subst (FitsFirst (place_of (first_place s.thread) s.frames.items)) c.requires.piece m.progress.fits) does;
-      inside = stays-inside (system_of s.thread) s.thread c.args.piece s.frames.items (pieces_left m.progress) (vars_left m.progress) (vars_left q) (pieces_left q) (act_of c.act-act.result)
-          (subst (FitsFirst (place_of (first_place s.thread) s.frames.items)) c.requires.piece m.progress.fits) was does;
+      among = is-among s.thread c.args.piece (frames_of s) (vars_left m.progress) (vars_left q) (pieces_left q) (act_of c.act-act.result)
+          (subst (FitsFirst (place_of (first_place s.thread) (frames_of s))) c.requires.piece m.progress.fits) does;
+      inside = stays-inside (system_of s.thread) s.thread c.args.piece (frames_of s) (pieces_left m.progress) (vars_left m.progress) (vars_left q) (pieces_left q) (act_of c.act-act.result)
+          (subst (FitsFirst (place_of (first_place s.thread) (frames_of s))) c.requires.piece m.progress.fits) was does;
     }
 
 pub returns-in-Finish-clause-acts : goal.returns-in-Finish-clause-acts
@@ -53,8 +54,8 @@ returns-in-Finish-clause-acts c =
     let m = c.args.self.now in
     let s = m.progress.stack in
     let q = c.act-act.new.self in
-    let p = piece_of c.args.piece (put_away s.frames.items) in
-    let rest = with_parts c.args.piece (behind s.frames.items) in
+    let p = piece_of c.args.piece (put_away (frames_of s)) in
+    let rest = with_parts c.args.piece (behind (frames_of s)) in
     let none : pieces_left q ≡ [] = c.in-Finish.ensures.ends in
     let ticks = c.start-start.ensures.ticks ∙ ap (first_ticks c.args.costs.now c.duration-duration.result) none in
     let works = ap (λ w. m.works + w) (c.start-start.ensures.works ∙ ap first_works none) ∙ add-zero m.works in
@@ -65,7 +66,7 @@ returns-in-Finish-clause-acts c =
       rest = rest;
       vars = vars_left m.progress;
       pieces = pieces_left q;
-      first = ap (λ x. started x (kept_frames s.frames.items)) c.requires.piece;
+      first = ap (λ x. started x (kept_frames (frames_of s))) c.requires.piece;
       does = subst (λ vs. Does (system_of s.thread) p (vars_left m.progress) rest (act_of c.act-act.result) vs (pieces_left q)) (ap (λ a. given a (vars_left m.progress) (vars_left q)) c.in-Finish.is) c.act-act.ensures.deed;
       after = ap (λ r. view q.stack.thread r (vars_left q) (pieces_left q) c.start-start.result.ticks (m.works + c.start-start.result.works)) rests
           ∙ ap (λ th. view th (resting (timing_of s.thread.timing) m.next) (vars_left q) (pieces_left q) c.start-start.result.ticks (m.works + c.start-start.result.works)) c.act-act.ensures.thread
@@ -81,13 +82,13 @@ returns-in-Finish-clause-inside c =
     let m = c.args.self.now in
     let s = m.progress.stack in
     let q = c.act-act.new.self in
-    stays-inside (system_of s.thread) s.thread c.args.piece s.frames.items (pieces_left m.progress) (vars_left m.progress) (given c.act-act.result (vars_left m.progress) (vars_left q)) (pieces_left q) (act_of c.act-act.result)
-    (subst (FitsFirst (place_of (first_place s.thread) s.frames.items)) c.requires.piece m.progress.fits) (ap (λ x. started x (kept_frames s.frames.items)) c.requires.piece) c.act-act.ensures.deed
+    stays-inside (system_of s.thread) s.thread c.args.piece (frames_of s) (pieces_left m.progress) (vars_left m.progress) (given c.act-act.result (vars_left m.progress) (vars_left q)) (pieces_left q) (act_of c.act-act.result)
+    (subst (FitsFirst (place_of (first_place s.thread) (frames_of s))) c.requires.piece m.progress.fits) (ap (λ x. started x (kept_frames (frames_of s))) c.requires.piece) c.act-act.ensures.deed
 
 pub returns-in-Finish-clause-among : goal.returns-in-Finish-clause-among
 returns-in-Finish-clause-among c =
     let m = c.args.self.now in
     let s = m.progress.stack in
     let q = c.act-act.new.self in
-    is-among s.thread c.args.piece s.frames.items (vars_left m.progress) (given c.act-act.result (vars_left m.progress) (vars_left q)) (pieces_left q) (act_of c.act-act.result)
-    (subst (FitsFirst (place_of (first_place s.thread) s.frames.items)) c.requires.piece m.progress.fits) c.act-act.ensures.deed
+    is-among s.thread c.args.piece (frames_of s) (vars_left m.progress) (given c.act-act.result (vars_left m.progress) (vars_left q)) (pieces_left q) (act_of c.act-act.result)
+    (subst (FitsFirst (place_of (first_place s.thread) (frames_of s))) c.requires.piece m.progress.fits) c.act-act.ensures.deed

@@ -21,5 +21,5 @@ enter-requires-clause-names c =
     ap (λ v. names_of (vars_of v.items)) c.push_frame.ensures.vars ∙ ap names_of c.open_request.ensures.vars ∙ names-requested s.thread.timing c.args.value (vars_of s.vars.items)
     ∙ ap (λ ns. param_names s.thread ++ ns) c.requires.names
     ∙ sym (ap (λ p. p.names) (c.push_frame.ensures.frames.place
-      ∙ ap (λ xs. next (place_of (first_place s.thread) xs) frame.Finish) (ap (λ vs. spread vs s.frames.items) c.open_request.ensures.away ∙ c.requires.frames)))
+    ∙ ap (λ xs. next (place_of (first_place s.thread) xs) frame.Finish) (ap (λ vs. spread vs s.frames.items) c.open_request.ensures.away ∙ c.requires.frames)))
     ∙ ap (λ t. (place_of (first_place t) (frames_of last)).names) (sym c.push_frame.ensures.thread)

@@ -21,8 +21,17 @@ pub open_params-requires : goal.open_params-requires
 open_params-requires c =
     let s = c.args.self.now in
     let room = body-room s.thread (operation_of c.args.op.now) (frames_of s) s.vars.items s.fit c.requires.names in
-    omega (arith, room, s.vars_room, spread-length s.vars.away s.frames.items, ap length c.as_slice.ensures.value, ap length c.as_slice-2.ensures.value,
-    c.open_data.ensures.len, ap length c.open_data.ensures.away, c.open_data.ensures.room)
+    omega (
+      arith,
+      room,
+      s.vars_room,
+      spread-length s.vars.away s.frames.items,
+      ap length c.as_slice.ensures.value,
+      ap length c.as_slice-2.ensures.value,
+      c.open_data.ensures.len,
+      ap length c.open_data.ensures.away,
+      c.open_data.ensures.room,
+    )
 
 pub enter-requires-clause-names : goal.enter-requires-clause-names
 enter-requires-clause-names c =

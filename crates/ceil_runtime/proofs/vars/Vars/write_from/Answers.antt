@@ -17,7 +17,7 @@ invariant_of-self c =
     let was = c.index_mut.result.now in
     let w : Var = record { name = was.name; value = c.args.value } in (
       subst (λ ns. IsTable (length t.heads.items) ns t.below.items t.heads.items)
-        (sym (map-set_same (λ (x : Var). x.name.now) t.vars.items (c.find-at.result - 1) w was (ap (λ (x : Var). x.name.now) c.index_mut.ensures.value))) c.self.invariant.0,
+          (sym (map-set_same (λ (x : Var). x.name.now) t.vars.items (c.find-at.result - 1) w was (ap (λ (x : Var). x.name.now) c.index_mut.ensures.value))) c.self.invariant.0,
       c.self.invariant.1,
     )
 

@@ -10,8 +10,8 @@ use seq_tree::{Name, NoMemory};
 use std::alloc::Global;
 use std::marker::Model;
 
-/// The variables of a body, the innermost last, with a table by which one is found by its name: what a name costs does not grow with
-/// the variables of other names. Contracts see it as the `Vec` of its variables.
+/// The variables of a body, the innermost last, with a table by which one is found by its name: a name is compared with those of its own
+/// bucket alone, as tables of symbols are searched. Contracts see it as the `Vec` of its variables.
 #[derive(Drop)]
 pub struct Vars<'a> {
     vars: Vec<Var<'a>>,

@@ -1,17 +1,9 @@
 -- Parts of statements, put one after another.
-use Rattle.std.proofs.Common.{◌≡◌, ℕ, Option, Some, None, option_map, Vec, List, [], ◌∷◌, ◌++◌, map, refl, sym, ap, ◌∙◌, append_assoc}
-use Rattle.std.specs.declared.alloc.Global.{Global}
+use Rattle.std.proofs.Common.{◌≡◌, List, [], ◌∷◌, ◌++◌, map, refl, sym, ap, ◌∙◌, append_assoc}
 use Rattle.std.proofs.lemmas.List.{map-append}
 use Rattle.seq_tree.specs.Expressions.{Expression}
-use Rattle.seq_tree.specs.Names.{Name}
-use Rattle.seq_tree.specs.Statements.{Statement, Statements, Branches, If, For, Call, Work}
-use Rattle.seq_tree.specs.Trees.{arm_layer, arm_of, block_layer, block_of, branches_of, expression_of, otherwise, statement_layer, statement_of}
-use Rattle.seq_tree.specs.declared.tree.Arm.{Arm}
-use Rattle.seq_tree.specs.declared.tree.Block.{Block}
-use Rattle.seq_tree.specs.declared.tree.Expr.{Expr}
-use Rattle.seq_tree.specs.declared.tree.Stmt.{roll-Stmt, fold-roll-Stmt}
-use Rattle.seq_tree.specs.declared.tree.Stmt.TheOpen as layer
-use Rattle.seq_tree.specs.declared.tree.Stmt.TheVariants as stmt
+use Rattle.seq_tree.specs.Statements.{Statements, Branches}
+use Rattle.seq_tree.specs.Trees.{branches_of}
 use Rattle.ada_rules.specs.Parts.{Part, part_of, arms_parts, block_parts, branch_parts}
 use Rattle.ada_rules.specs.declared.parts.Part as code
 
@@ -19,24 +11,6 @@ use Rattle.ada_rules.specs.declared.parts.Part as code
 pub branches_parts : (arms : List (Expression × Statements)) (others : Branches) → branch_parts (branches_of arms others) ≡ arms_parts arms ++ branch_parts others
 branches_parts [] others = refl
 branches_parts (arm ∷ arms) others = ap (λ ps. block_parts arm.1 ++ ps) (branches_parts arms others) ∙ sym (append_assoc (block_parts arm.1) (arms_parts arms) (branch_parts others))
-
--- the trees of statements
-pub if_tree : (arms : Vec Arm Global) (other : Option Block) → statement_of (stmt.If arms other) ≡ If (branches_of (map arm_of arms.items) (otherwise (option_map block_of other)))
-unfolding roll-Stmt denote.Hole.Carrier.roll
-if_tree arms None = fold-roll-Stmt Statement (Expression × Statements) Statements statement_layer arm_layer block_layer (layer.If arms None)
-if_tree arms (Some block) = fold-roll-Stmt Statement (Expression × Statements) Statements statement_layer arm_layer block_layer (layer.If arms (Some block))
-
-pub for_tree : (name : Name) (low high : ℕ) (body : Block) → statement_of (stmt.For name low high body) ≡ For name low high (block_of body)
-unfolding roll-Stmt denote.Hole.Carrier.roll
-for_tree name low high body = fold-roll-Stmt Statement (Expression × Statements) Statements statement_layer arm_layer block_layer (layer.For name low high body)
-
-pub call_tree : (object op : Name) (actuals : Vec Expr Global) → statement_of (stmt.Call object op actuals) ≡ Call object op (map expression_of actuals.items)
-unfolding roll-Stmt denote.Hole.Carrier.roll
-call_tree object op actuals = fold-roll-Stmt Statement (Expression × Statements) Statements statement_layer arm_layer block_layer (layer.Call object op actuals)
-
-pub work_tree : (ticks : ℕ) → statement_of (stmt.Work ticks) ≡ Work ticks
-unfolding roll-Stmt denote.Hole.Carrier.roll
-work_tree ticks = fold-roll-Stmt Statement (Expression × Statements) Statements statement_layer arm_layer block_layer (layer.Work ticks)
 
 -- one part more
 pub pushed : (old new : List code.Part) (p : code.Part) → new ≡ old ++ p ∷ [] → map part_of new ≡ map part_of old ++ part_of p ∷ []

@@ -1,15 +1,15 @@
 -- Lists of statements and branches whose calls are read by links.
+use Rattle.std.specs.Prelude.{Box}
 use Rattle.std.proofs.Common.{◌≡◌, List, [], ◌∷◌, map, Option, Some, None, option_map, Vec, refl, ap, sym, ◌∙◌}
 use Rattle.std.specs.declared.alloc.Global.{Global}
 use Rattle.seq_tree.specs.Expressions.{Expression}
 use Rattle.seq_tree.specs.Statements.{Statement, Statements, Then, When, If}
-use Rattle.seq_tree.specs.Trees.{arm_layer, arm_of, block_layer, block_of, branches_of, otherwise, statement_layer, statement_of, statements_of}
+use Rattle.seq_tree.specs.Trees.{arm_of, block_of, branches_of, otherwise, statement_of, statements_of}
 use Rattle.seq_tree.specs.declared.tree.Arm.{Arm}
-use Rattle.seq_tree.specs.declared.tree.Block.{Block, Block-F, roll-Block, fold-roll-Block}
+use Rattle.seq_tree.specs.declared.tree.Block.{Block}
 use Rattle.seq_tree.specs.declared.tree.OpName.{OpName}
-use Rattle.seq_tree.specs.declared.tree.Stmt.{roll-Stmt, fold-roll-Stmt}
-use Rattle.seq_tree.specs.declared.tree.Stmt.TheOpen as layer
 use Rattle.seq_tree.specs.declared.tree.Stmt.TheVariants as stmt
+use Rattle.seq_tree.proofs.TreeForms.{if-tree}
 use Rattle.ods_tree.specs.Links.{renamed, renamed_statement, renamed_branches}
 use Rattle.ods_flat.specs.Renaming.{renamed_arm}
 
@@ -28,22 +28,9 @@ pub renamed-arms : (means : OpName → OpName) (arms : List (Expression × State
 renamed-arms means [] o = renamed-else means o
 renamed-arms means (a ∷ arms) o = ap (When a.0 (renamed means a.1)) (renamed-arms means arms o)
 
--- the tree of a block of statements
-pub block-tree : (x : Block-F _ _ _) → block_of (roll-Block x) ≡ statements_of (map statement_of x.stmts.items)
-block-tree x = fold-roll-Block Statement (Expression × Statements) Statements statement_layer arm_layer block_layer x
-
-pub block-open : (b : Block) → block_of b ≡ statements_of (map statement_of b.stmts.items)
-block-open b = block-tree (record { stmts = b.stmts })
-
--- the tree of an `if`
-if-tree : (arms : Vec Arm Global) (other : Option Block) → statement_of (stmt.If arms other) ≡ If (branches_of (map arm_of arms.items) (otherwise (option_map block_of other)))
-unfolding roll-Stmt denote.Hole.Carrier.roll
-if-tree arms None = fold-roll-Stmt Statement (Expression × Statements) Statements statement_layer arm_layer block_layer (layer.If arms None)
-if-tree arms (Some block) = fold-roll-Stmt Statement (Expression × Statements) Statements statement_layer arm_layer block_layer (layer.If arms (Some block))
-
 -- an `if` of such arms and such an `else`
-pub if-renamed : (means : OpName → OpName) (arms : Vec Arm Global) (other : Option Block) (old : List (Expression × Statements)) (o : Option Statements) (s : Statement)
-    → map arm_of arms.items ≡ map (renamed_arm means) old → option_map block_of other ≡ option_map (renamed means) o → s ≡ If (branches_of old (otherwise o))
+pub if-renamed : (means : OpName → OpName) (arms : Box (Vec Arm Global) Global) (other : Option Block) (old : List (Expression × Statements)) (o : Option Statements) (s : Statement)
+    → map arm_of arms.value.items ≡ map (renamed_arm means) old → option_map block_of other ≡ option_map (renamed means) o → s ≡ If (branches_of old (otherwise o))
     → statement_of (stmt.If arms other) ≡ renamed_statement means s
 if-renamed means arms other old o s armed elsed is =
     if-tree arms other

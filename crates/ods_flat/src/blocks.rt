@@ -54,7 +54,7 @@ fn resolved_statement<'a>(
             value: value.copy(alloc)?,
         }),
         Stmt::If { arms, other } => Ok(Stmt::If {
-            arms: resolved_arms(alloc, links, arms.as_slice())?,
+            arms: Box::new(alloc, resolved_arms(alloc, links, arms.as_slice())?)?,
             other: resolved_other(alloc, links, other)?,
         }),
         Stmt::For {

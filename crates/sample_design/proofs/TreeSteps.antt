@@ -1,15 +1,10 @@
--- The trees of what the code puts together: of a block, and of an object with those inside it.
+-- The trees of what the code puts together: of an object with those inside it.
 use Rattle.std.specs.Prelude.{◌≡◌, map, option_map}
-use Rattle.seq_tree.specs.Statements.{Statement, Statements}
-use Rattle.seq_tree.specs.Expressions.{Expression}
-use Rattle.seq_tree.specs.Trees.{block_of, statement_of, statements_of, statement_layer, arm_layer, block_layer}
-use Rattle.seq_tree.specs.declared.tree.Block.{Block-F, roll-Block, fold-roll-Block}
+use Rattle.seq_tree.specs.Trees.{block_of}
+use Rattle.seq_tree.proofs.TreeForms.{block_of_roll}
 use Rattle.ods_tree.specs.Designs.{Tree, Node}
 use Rattle.ods_tree.specs.Trees.{provided_of, body_of, trees_of, node_layer, tree_of}
 use Rattle.ods_tree.specs.declared.design.Node.{Node-F, roll-Node, fold-roll-Node}
-
-pub block_of_roll : (x : Block-F _ _ _) → block_of (roll-Block x) ≡ statements_of (map statement_of x.stmts.items)
-block_of_roll x = fold-roll-Block Statement (Expression × Statements) Statements statement_layer arm_layer block_layer x
 
 pub tree_of_roll : (x : Node-F _) → tree_of (roll-Node x) ≡ Node (record {
   name = x.name;

@@ -8,4 +8,4 @@ pub mod Spacing
 pub mod Depths
 pub mod StatementTexts
 pub mod TokenForms
-pub mod TreeForms
+pub mod ArmForms

@@ -48,12 +48,6 @@ arm-takes is_name most deeper =
 
 pub ruleset branch_steps = (if-start, onward-fails, onward-ends)
 
--- the tree of an `if`
-pub tree-of-if : (arms : Vec Arm Global) (other : Option Block) → statement_of (stmt.If arms other) ≡ If (branches_of (map arm_of arms.items) (otherwise (option_map block_of other)))
-unfolding roll-Stmt denote.Hole.Carrier.roll
-tree-of-if arms None = fold-roll-Stmt Statement (Expression × Statements) Statements statement_layer arm_layer block_layer (layer.If arms None)
-tree-of-if arms (Some block) = fold-roll-Stmt Statement (Expression × Statements) Statements statement_layer arm_layer block_layer (layer.If arms (Some block))
-
 -- STATEMENTS
 pub statement_whole : (is_name : Name → Bool) (most deeper : ℕ) (ts : List Token) → statement_at is_name most deeper ts
     ≡ statement_with is_name (expression_at is_name most deeper) (branching_at is_name most deeper) (looping_at is_name most deeper) (kind_of (first ts)) ts
@@ -74,9 +68,5 @@ pub block-start : (is_name : Name → Bool) (statement : StatementReader) (ts re
     statements_after is_name statement (s ∷ []) rest ≡ block_with is_name statement ts
 unfolding block_with onward
 block-start is_name statement ts rest s h = rw h refl
-
--- the tree of a block of statements
-pub block_of_roll : (x : Block-F _ _ _) → block_of (roll-Block x) ≡ statements_of (map statement_of x.stmts.items)
-block_of_roll x = fold-roll-Block Statement (Expression × Statements) Statements statement_layer arm_layer block_layer x
 
 pub ruleset block_steps = (block-start, onward-fails, onward-ends)

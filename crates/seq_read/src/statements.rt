@@ -310,6 +310,7 @@ fn conditional(
     let ended = word(ended, b"end")?;
     let ended = word(ended, b"if")?;
     let ended = mark(ended, Mark::Semicolon)?;
+    let arms = Box::new(alloc, arms)?;
     Ok((Stmt::If { arms, other }, ended))
 }
 

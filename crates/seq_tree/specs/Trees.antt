@@ -51,7 +51,7 @@ arm_layer a = (expression_of a.cond, a.block)
 abbrev pub statement_layer : Stmt-F Statement (Expression × Statements) Statements → Statement
 statement_layer stmt.Null = Null
 statement_layer (stmt.Assign target value) = Assign target (expression_of value)
-statement_layer (stmt.If arms other) = If (branches_of arms.items (otherwise other))
+statement_layer (stmt.If arms other) = If (branches_of (box_value arms).items (otherwise other))
 statement_layer (stmt.For name low high body) = For name low high body
 statement_layer (stmt.ExitWhen condition) = ExitWhen (expression_of condition)
 statement_layer (stmt.Call object op actuals) = Call object op (map expression_of actuals.items)

@@ -123,7 +123,7 @@ impl Stmt {
                 value: value.copy(alloc)?,
             }),
             Stmt::If { arms, other } => Ok(Stmt::If {
-                arms: copy_arms(alloc, arms)?,
+                arms: Box::new(alloc, copy_arms(alloc, arms)?)?,
                 other: copy_other(alloc, other)?,
             }),
             Stmt::For {

@@ -25,20 +25,21 @@ impl From<NoMemory> for NameFault {
     }
 }
 
-/// A name, folded to lower case, of 1 to 64 bytes. Contracts see it as its bytes.
+/// A name, folded to lower case, of 1 to 64 bytes. Contracts see it as its bytes. It is one pointer, since a tree holds up to two
+/// names in each statement, and most statements hold none.
 #[derive(Drop, Debug)]
 pub struct Name {
-    bytes: Vec<u8>,
+    bytes: Box<Vec<u8>>,
 }
 
 impl Model for Name {
-    ghost use Rattle.std.specs.Prelude.{List, ℕ, ◌<◌, ◌≤◌, length};
+    ghost use Rattle.std.specs.Prelude.{List, ℕ, ◌<◌, ◌≤◌, length, box_value};
 
     ghost Value = { List ℕ };
 
-    ghost view = { λ n. n.bytes.items };
+    ghost view = { λ n. (box_value n.bytes).items };
 
-    ghost invariant = { λ n. (0 < length n.bytes.items) × (length n.bytes.items ≤ 64) };
+    ghost invariant = { λ n. (0 < length (box_value n.bytes).items) × (length (box_value n.bytes).items ≤ 64) };
 }
 
 impl Name {
@@ -60,7 +61,8 @@ impl Name {
         requires { (0 < length bytes.now) × (length bytes.now ≤ 64) }
         ensures { IfOk result (λ n. n ≡ str_to_ascii_lowercase bytes.now) }
     {
-        let bytes = bytes.iter().map(|b| b.to_ascii_lowercase()).collect(alloc)?;
+        let folded: Vec<u8> = bytes.iter().map(|b| b.to_ascii_lowercase()).collect(alloc)?;
+        let bytes = Box::new(alloc, folded)?;
         Ok(Name { bytes })
     }
 
@@ -68,7 +70,7 @@ impl Name {
     pub fn copy(&self, alloc: Global) -> Result<Name, NoMemory>
         ensures { IfOk result (λ n. n ≡ self.now) }
     {
-        let bytes = Vec::from_slice(alloc, self.bytes.as_slice())?;
+        let bytes = Box::new(alloc, Vec::from_slice(alloc, self.bytes.as_slice())?)?;
         Ok(Name { bytes })
     }
 

@@ -5,7 +5,8 @@ use Rattle.seq_tree.specs.Trees.{arm_of, block_of, branches_of, otherwise, state
 use Rattle.seq_tree.specs.declared.tree.Stmt.{the_lemmas}
 use Rattle.ods_tree.specs.Links.{renamed, renamed_statement, resolve}
 use Rattle.ods_tree.specs.Trees.{design_of}
-use Rattle.ods_flat.proofs.RenamingLaws.{block-open, block-tree, if-renamed, renamed-list}
+use Rattle.seq_tree.proofs.TreeForms.{block-tree, block_of_roll}
+use Rattle.ods_flat.proofs.RenamingLaws.{if-renamed, renamed-list}
 use Rattle.ods_flat.proofs.blocks.+resolving.Goals as goal
 
 pub resolved_block-returns : goal.resolved_block-returns
@@ -15,14 +16,14 @@ resolved_block-returns t c =
     let old = map statement_of items in
     let ended : length items ≤ c.stmts.stmt-index = search rules in
     let made : map statement_of c.stmts.stmts.items ≡ map (renamed_statement means) old = c.stmts.invariant ∙ ap (λ ss. map (renamed_statement means) (map statement_of ss)) (take_all c.stmts.stmt-index items ended) in
-    let whole = block-open c.args.block.now in
+    let whole = block-tree c.args.block.now in
     let opened : block_of c.args.block.now ≡ statements_of old = search (rules, whole) in
-    block-tree (record { stmts = c.stmts.stmts }) ∙ ap statements_of made ∙ renamed-list means old ∙ ap (renamed means) (sym opened)
+    block_of_roll (record { stmts = c.stmts.stmts }) ∙ ap statements_of made ∙ renamed-list means old ∙ ap (renamed means) (sym opened)
 
 pub resolved_statement-returns-in_ok-resolved_other-in-If : goal.resolved_statement-returns-in_ok-resolved_other-in-If
 resolved_statement-returns-in_ok-resolved_other-in-If t c =
     let means = resolve (design_of c.args.links.now.design.now) in
-    let arms = map arm_of c.in-If.arms.items in
+    let arms = map arm_of c.in-If.arms.value.items in
     let opened : statement_of c.args.stmt.now ≡ If (branches_of arms (otherwise (option_map block_of c.in-If.other))) = search (rules, the_lemmas) in
     if-renamed means c.in_ok-resolved_arms-in-If.field-0 c.in_ok-resolved_other-in-If.field-0 arms (option_map block_of c.in-If.other) (statement_of c.args.stmt.now)
-    (rw c.as_slice.ensures.value at c.in_ok-resolved_arms-in-If.ensures) c.in_ok-resolved_other-in-If.ensures opened
+    (rw (c.as_slice.ensures.value, c.deref.ensures) at c.in_ok-resolved_arms-in-If.ensures) c.in_ok-resolved_other-in-If.ensures opened

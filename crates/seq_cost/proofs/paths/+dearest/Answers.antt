@@ -11,10 +11,10 @@ use Rattle.seq_cost.proofs.paths.+dearest.Goals as goal
 pub statement_weight-returns-in-If : goal.statement_weight-returns-in-If
 statement_weight-returns-in-If g t c =
     let w = weights_of g.A.Account.counts c.args.counted.now in
-    let arms = map arm_of c.in-If.arms.items in
+    let arms = map arm_of c.in-If.arms.value.items in
     let others = otherwise (option_map block_of c.in-If.other) in
     let opened : statement_of c.args.stmt.now ≡ If (branches_of arms others) = search (rules, the_lemmas) in
-    let summed : c.arms_weight.result ≡ min c.args.limit (arms_weight w arms (min c.args.limit (dearest_branch w others))) = rw (sym c.other_weight-others.ensures, sym c.deref.ensures.value) c.arms_weight.ensures in
+    let summed : c.arms_weight.result ≡ min c.args.limit (arms_weight w arms (min c.args.limit (dearest_branch w others))) = rw (sym c.other_weight-others.ensures, sym c.deref.ensures, sym c.deref-in-If.ensures.value) c.arms_weight.ensures in
     rw opened (summed ∙ cap-branches c.args.limit w arms others)
 
 pub statement_weight-returns-in-For : goal.statement_weight-returns-in-For

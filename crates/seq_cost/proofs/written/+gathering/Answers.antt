@@ -24,8 +24,8 @@ add_block-stmts-preserved t c =
 
 pub add_statement-returns-in_ok-add_arms-in-If : goal.add_statement-returns-in_ok-add_arms-in-If
 add_statement-returns-in_ok-add_arms-in-If t c =
-    let arms = map arm_of c.in-If.arms.items in
+    let arms = map arm_of c.in-If.arms.value.items in
     let others = otherwise (option_map block_of c.in-If.other) in
     let opened : statement_of c.args.stmt.now ≡ If (branches_of arms others) = search (rules, the_lemmas) in
-    let first : map call_of c.add_arms.new.found.items ≡ map call_of c.args.found.now.items ++ branch_calls (branches_of arms Nothing) = rw (sym c.deref.ensures.value) c.in_ok-add_arms-in-If.ensures in
+    let first : map call_of c.add_arms.new.found.items ≡ map call_of c.args.found.now.items ++ branch_calls (branches_of arms Nothing) = rw (sym c.deref.ensures, sym c.deref-in-If.ensures.value) c.in_ok-add_arms-in-If.ensures in
     rw (opened, branch-append arms others, joined (map call_of c.args.found.now.items) (branch_calls (branches_of arms Nothing)) (branch_calls others), sym first) c.add_other.ensures

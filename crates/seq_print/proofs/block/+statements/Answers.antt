@@ -6,7 +6,7 @@ use Rattle.seq_tree.specs.Trees.{arm_of, block_of, branches_of, statement_of}
 use Rattle.seq_tree.specs.declared.tree.Stmt.{the_lemmas}
 use Rattle.seq_print.proofs.Chains.{two-more, writes-same, writes-then}
 use Rattle.seq_print.proofs.StatementTexts.{arms-text, else-text, if-text, loop-text}
-use Rattle.seq_print.proofs.TreeForms.{if-tree}
+use Rattle.seq_tree.proofs.TreeForms.{if-tree}
 use Rattle.seq_print.proofs.block.+statements.Goals as goal
 
 pub add_other-returns-in_ok-put_line-in-Some : goal.add_other-returns-in_ok-put_line-in-Some
@@ -18,8 +18,8 @@ add_other-returns-in_ok-put_line-in-Some t c =
 pub add_statement-returns-in_ok-add_other-in-If : goal.add_statement-returns-in_ok-add_other-in-If
 add_statement-returns-in_ok-add_other-in-If t c =
     rw (c.in-If.is, if-tree c.in-If.arms c.in-If.other)
-    (writes-same _ c.args.into.now.items _ _ _ (if-text c.args.level (map arm_of c.in-If.arms.items) (option_map block_of c.in-If.other))
-    (writes-then _ c.args.into.now.items c.add_arms.new.into.items _ _ _ (rw c.deref.ensures.value at c.in_ok-add_arms-in-If.ensures)
+    (writes-same _ c.args.into.now.items _ _ _ (if-text c.args.level (map arm_of c.in-If.arms.value.items) (option_map block_of c.in-If.other))
+    (writes-then _ c.args.into.now.items c.add_arms.new.into.items _ _ _ (rw (c.deref-in-If.ensures.value, c.deref.ensures) at c.in_ok-add_arms-in-If.ensures)
     (writes-then _ c.add_arms.new.into.items c.add_other.new.into.items _ _ _ c.in_ok-add_other-in-If.ensures c.put_line-in-If.ensures)))
 
 pub add_statement-returns-in_ok-add_lines-in-For : goal.add_statement-returns-in_ok-add_lines-in-For

@@ -9,7 +9,8 @@ use Rattle.seq_read.specs.Expressions.{expression_at}
 use Rattle.seq_read.specs.Statements.{begins_statement, arm_at, statement_at, block_at}
 use Rattle.seq_read.proofs.Turns.{onward-turn, onward-ends, turn-shorter}
 use Rattle.seq_read.proofs.TokenTakes.{takes-statement}
-use Rattle.seq_read.proofs.BlockSteps.{close_if, close_block, if-closes, arm-takes, block_of_roll, tree-of-if}
+use Rattle.seq_read.proofs.BlockSteps.{close_if, close_block, if-closes, arm-takes}
+use Rattle.seq_tree.proofs.TreeForms.{block_of_roll, if-tree}
 use Rattle.seq_read.proofs.statements.+nesting.Goals as goal
 
 pub conditional-arms-smaller : goal.conditional-arms-smaller
@@ -50,4 +51,4 @@ conditional-returns t c =
     ∙ onward-ends (next_is (token.Word (codes "elsif"))) (arm_at (expression_at (may_name c.args.text) 32 c.args.deeper) block) (close_if block) (map arm_of c.arms.arms.items) (bare c.arms.rest.now) (sym c.arms-test.ensures)
     ∙ if-closes block (map arm_of c.arms.arms.items) (otherwise (option_map block_of c.in_ok-other.other)) (bare c.arms.rest.now) (bare c.in_ok-other.ended.now) (bare c.in_ok-ended.ended.now)
     (bare c.in_ok-ended-2.ended.now) (bare c.in_ok-ended-3.ended.now) c.in_ok-other.ensures c.in_ok-ended.ensures.gives c.in_ok-ended-2.ensures.gives c.in_ok-ended-3.ensures.gives
-    ∙ ap (λ s. Ok (s, bare c.in_ok-ended-3.ended.now)) (sym (tree-of-if c.arms.arms c.in_ok-other.other))
+    ∙ ap (λ s. Ok (s, bare c.in_ok-ended-3.ended.now)) (sym (if-tree c.arms.arms c.in_ok-other.other))

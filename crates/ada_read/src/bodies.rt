@@ -1,7 +1,7 @@
 ghost use Rattle.std.specs.Prelude.{◌≡◌, map};
 ghost use Rattle.seq_tree.specs.Trees.{block_of, operation_of, signature_of};
 ghost use Rattle.ada_tree.specs.Trees.{form_of, unit_of};
-ghost use Rattle.token_read.specs.Words.{bare};
+ghost use Rattle.token_read.specs.Ahead.{ahead};
 ghost use Rattle.seq_read.specs.Halts.{Gives};
 ghost use Rattle.ada_read.specs.Heads.{head_of};
 ghost use Rattle.ada_read.specs.Readers.{ada_block_at, operation_at, operations_at, cyclic_at, passive_at, shared_at, serving_at, form_at, body_head_at, body_at, bodies_at};
@@ -14,13 +14,14 @@ use crate::renamings::same_head;
 use crate::requests::{keeping, waiting};
 use ada_tree::{Form, Unit};
 use seq_read::{Halt, Text, end_of, number, word};
-use seq_tree::{Block, Datum, Name, OpSig, OpText, Spanned};
+use seq_tree::{Block, Datum, Name, OpSig, OpText};
 use std::alloc::Global;
+use token_read::Tokens;
 
 /// The longest block at the front, and the tokens after it.
 #[tactic(auto, unfolding(seq_read::specs::Names::may_name))]
-fn block(alloc: Global, tokens: &[Spanned]) -> Result<(Block, &[Spanned]), Halt>
-    ensures { Gives (λ r. (block_of r.0, bare r.1.now)) result (ada_block_at (bare tokens.now)) }
+fn block(alloc: Global, tokens: Tokens) -> Result<(Block, Tokens), Halt>
+    ensures { Gives (λ r. (block_of r.0, ahead r.1)) result (ada_block_at (ahead tokens.entry)) }
 {
     seq_read::block(alloc, tokens, Text::Ada, 64)
 }
@@ -29,10 +30,10 @@ fn block(alloc: Global, tokens: &[Spanned]) -> Result<(Block, &[Spanned]), Halt>
 #[tactic(auto, unfolding(crate::specs::Readers::operation_at))]
 fn operation<'a>(
     alloc: Global,
-    tokens: &'a [Spanned],
+    tokens: Tokens<'a>,
     sig: &OpSig,
-) -> Result<(OpText, &'a [Spanned]), Halt>
-    ensures { Gives (λ r. (operation_of r.0, bare r.1.now)) result (operation_at ada_block_at (signature_of sig.now) (bare tokens.entry.now)) }
+) -> Result<(OpText, Tokens<'a>), Halt>
+    ensures { Gives (λ r. (operation_of r.0, ahead r.1)) result (operation_at ada_block_at (signature_of sig.now) (ahead tokens.entry)) }
 {
     let tokens = same_head(tokens, sig)?;
     let tokens = word(tokens, b"is")?;
@@ -48,10 +49,10 @@ fn operation<'a>(
 #[tactic(auto, using(crate::proofs::Repeats::operation_steps))]
 fn operations<'a>(
     alloc: Global,
-    tokens: &'a [Spanned],
+    tokens: Tokens<'a>,
     sigs: &[OpSig],
-) -> Result<(Vec<OpText>, &'a [Spanned]), Halt>
-    ensures { Gives (λ r. (map operation_of r.0.items, bare r.1.now)) result (operations_at ada_block_at (map signature_of sigs.now) (bare tokens.entry.now)) }
+) -> Result<(Vec<OpText>, Tokens<'a>), Halt>
+    ensures { Gives (λ r. (map operation_of r.0.items, ahead r.1)) result (operations_at ada_block_at (map signature_of sigs.now) (ahead tokens.entry)) }
 {
     let mut ops = Vec::new(alloc);
     let mut rest = tokens;
@@ -67,10 +68,10 @@ fn operations<'a>(
 #[tactic(auto, unfolding(crate::specs::Readers::passive_at))]
 fn passive<'a>(
     alloc: Global,
-    tokens: &'a [Spanned],
+    tokens: Tokens<'a>,
     sigs: &[OpSig],
-) -> Result<(Form, &'a [Spanned]), Halt>
-    ensures { Gives (λ r. (form_of r.0, bare r.1.now)) result (passive_at ada_block_at (map signature_of sigs.now) (bare tokens.entry.now)) }
+) -> Result<(Form, Tokens<'a>), Halt>
+    ensures { Gives (λ r. (form_of r.0, ahead r.1)) result (passive_at ada_block_at (map signature_of sigs.now) (ahead tokens.entry)) }
 {
     let (ops, tokens) = operations(alloc, tokens, sigs)?;
     Ok((Form::Passive { ops }, tokens))
@@ -78,8 +79,8 @@ fn passive<'a>(
 
 /// What stands in the body of a unit with a task of this priority, and the tokens after it.
 #[tactic(auto, unfolding(crate::specs::Readers::cyclic_at))]
-fn cyclic(alloc: Global, tokens: &[Spanned], priority: u32) -> Result<(Form, &[Spanned]), Halt>
-    ensures { Gives (λ r. (form_of r.0, bare r.1.now)) result (cyclic_at ada_block_at priority (bare tokens.now)) }
+fn cyclic(alloc: Global, tokens: Tokens, priority: u32) -> Result<(Form, Tokens), Halt>
+    ensures { Gives (λ r. (form_of r.0, ahead r.1)) result (cyclic_at ada_block_at priority (ahead tokens.entry)) }
 {
     let (vars, tokens) = data(alloc, tokens)?;
     let tokens = fixed(tokens, FixedText::TaskBody)?;
@@ -104,12 +105,12 @@ fn cyclic(alloc: Global, tokens: &[Spanned], priority: u32) -> Result<(Form, &[S
 #[tactic(auto, unfolding(crate::specs::Readers::shared_at))]
 fn shared<'a>(
     alloc: Global,
-    tokens: &'a [Spanned],
+    tokens: Tokens<'a>,
     ceiling: u32,
     sigs: &[OpSig],
     vars: &[Datum],
-) -> Result<(Form, &'a [Spanned]), Halt>
-    ensures { Gives (λ r. (form_of r.0, bare r.1.now)) result (shared_at ada_block_at ceiling (map signature_of sigs.now) vars.now (bare tokens.entry.now)) }
+) -> Result<(Form, Tokens<'a>), Halt>
+    ensures { Gives (λ r. (form_of r.0, ahead r.1)) result (shared_at ada_block_at ceiling (map signature_of sigs.now) vars.now (ahead tokens.entry)) }
 {
     let tokens = fixed(tokens, FixedText::ObjectBody)?;
     let (ops, tokens) = operations(alloc, tokens, sigs)?;
@@ -123,10 +124,10 @@ fn shared<'a>(
 #[tactic(auto, unfolding(crate::specs::Readers::serving_at))]
 fn serving<'a>(
     alloc: Global,
-    tokens: &'a [Spanned],
+    tokens: Tokens<'a>,
     op: &OpSig,
-) -> Result<(Block, &'a [Spanned]), Halt>
-    ensures { Gives (λ r. (block_of r.0, bare r.1.now)) result (serving_at ada_block_at (signature_of op.now) (bare tokens.entry.now)) }
+) -> Result<(Block, Tokens<'a>), Halt>
+    ensures { Gives (λ r. (block_of r.0, ahead r.1)) result (serving_at ada_block_at (signature_of op.now) (ahead tokens.entry)) }
 {
     let tokens = keeping(tokens, op)?;
     let tokens = waiting(tokens, &op.params)?;
@@ -139,10 +140,10 @@ fn serving<'a>(
 #[tactic(auto, unfolding(crate::specs::Readers::form_at))]
 fn form<'a>(
     alloc: Global,
-    tokens: &'a [Spanned],
+    tokens: Tokens<'a>,
     head: &UnitHead,
-) -> Result<(Form, &'a [Spanned]), Halt>
-    ensures { Gives (λ r. (form_of r.0, bare r.1.now)) result (form_at ada_block_at (head_of head.now) (bare tokens.entry.now)) }
+) -> Result<(Form, Tokens<'a>), Halt>
+    ensures { Gives (λ r. (form_of r.0, ahead r.1)) result (form_at ada_block_at (head_of head.now) (ahead tokens.entry)) }
 {
     match head {
         UnitHead::Passive { sigs, .. } => passive(alloc, tokens, sigs),
@@ -182,8 +183,8 @@ fn form<'a>(
 
 /// The tokens after the beginning of the body of a package of this name.
 #[tactic(auto, unfolding(crate::specs::Readers::body_head_at))]
-pub(crate) fn body_head<'a>(tokens: &'a [Spanned], name: &Name) -> Result<&'a [Spanned], Halt>
-    ensures { Gives (λ r. (tt, bare r.now)) result (body_head_at name.now (bare tokens.entry.now)) }
+pub(crate) fn body_head<'a>(tokens: Tokens<'a>, name: &Name) -> Result<Tokens<'a>, Halt>
+    ensures { Gives (λ r. (tt, ahead r)) result (body_head_at name.now (ahead tokens.entry)) }
 {
     let tokens = fixed(tokens, FixedText::PackageBody)?;
     let tokens = word(tokens, name.bytes())?;
@@ -194,10 +195,10 @@ pub(crate) fn body_head<'a>(tokens: &'a [Spanned], name: &Name) -> Result<&'a [S
 #[tactic(auto, unfolding(crate::specs::Readers::body_at))]
 fn body<'a>(
     alloc: Global,
-    tokens: &'a [Spanned],
+    tokens: Tokens<'a>,
     head: &UnitHead,
-) -> Result<(Unit, &'a [Spanned]), Halt>
-    ensures { Gives (λ r. (unit_of r.0, bare r.1.now)) result (body_at ada_block_at (head_of head.now) (bare tokens.entry.now)) }
+) -> Result<(Unit, Tokens<'a>), Halt>
+    ensures { Gives (λ r. (unit_of r.0, ahead r.1)) result (body_at ada_block_at (head_of head.now) (ahead tokens.entry)) }
 {
     let tokens = body_head(tokens, head_name(head))?;
     let (form, tokens) = form(alloc, tokens, head)?;
@@ -210,10 +211,10 @@ fn body<'a>(
 #[tactic(auto, using(crate::proofs::Repeats::body_steps))]
 pub(crate) fn bodies<'a>(
     alloc: Global,
-    tokens: &'a [Spanned],
+    tokens: Tokens<'a>,
     heads: &[UnitHead],
-) -> Result<(Vec<Unit>, &'a [Spanned]), Halt>
-    ensures { Gives (λ r. (map unit_of r.0.items, bare r.1.now)) result (bodies_at ada_block_at (map head_of heads.now) (bare tokens.entry.now)) }
+) -> Result<(Vec<Unit>, Tokens<'a>), Halt>
+    ensures { Gives (λ r. (map unit_of r.0.items, ahead r.1)) result (bodies_at ada_block_at (map head_of heads.now) (ahead tokens.entry)) }
 {
     let mut units = Vec::new(alloc);
     let mut rest = tokens;

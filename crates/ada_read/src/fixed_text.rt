@@ -1,12 +1,13 @@
 ghost use Rattle.std.specs.Prelude.{◌≡◌, map};
 ghost use Rattle.seq_read.specs.Halts.{Gives};
-ghost use Rattle.token_read.specs.Words.{bare, item_token};
+ghost use Rattle.token_read.specs.Ahead.{ahead};
+ghost use Rattle.token_read.specs.Words.{item_token};
 ghost use Rattle.token_read.specs.Readers.{phrase_at};
 ghost use Rattle.ada_read.specs.FixedTexts.{fixed_tokens, cost_name};
 
 use seq_read::{Halt, phrase};
-use seq_tree::{Mark, Spanned};
-use token_read::Item;
+use seq_tree::Mark;
+use token_read::{Item, Tokens};
 
 /// A text that is the same in each program, between what differs.
 #[derive(Clone, Copy, Debug)]
@@ -468,8 +469,8 @@ fn items(text: FixedText) -> &'static [Item]
 }
 
 /// The tokens after a fixed text.
-pub(crate) fn fixed(tokens: &[Spanned], text: FixedText) -> Result<&[Spanned], Halt>
-    ensures { Gives (λ r. (tt, bare r.now)) result (phrase_at (fixed_tokens text) (bare tokens.now)) }
+pub(crate) fn fixed(tokens: Tokens, text: FixedText) -> Result<Tokens, Halt>
+    ensures { Gives (λ r. (tt, ahead r)) result (phrase_at (fixed_tokens text) (ahead tokens.entry)) }
 {
     phrase(tokens, items(text))
 }

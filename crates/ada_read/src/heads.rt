@@ -1,6 +1,6 @@
 ghost use Rattle.std.specs.Prelude.{◌≡◌, map};
 ghost use Rattle.seq_tree.specs.Trees.{signature_of};
-ghost use Rattle.token_read.specs.Words.{bare};
+ghost use Rattle.token_read.specs.Ahead.{ahead};
 ghost use Rattle.seq_read.specs.Halts.{Gives};
 ghost use Rattle.seq_read.specs.Parts.{named_at};
 ghost use Rattle.ada_read.specs.Heads.{head_of, head_name};
@@ -12,9 +12,9 @@ use crate::params::declarations;
 use crate::renamings::{renaming, request_renaming};
 use crate::requests::request;
 use seq_read::{Halt, any_word, end_of, mark, number, word};
-use seq_tree::{Datum, Mark, Name, OpSig, Spanned};
+use seq_tree::{Datum, Mark, Name, OpSig};
 use std::alloc::Global;
-use token_read::next_is_word;
+use token_read::{Tokens, next_is_word};
 
 /// The specification of a unit, apart from its body.
 #[derive(Drop)]
@@ -62,8 +62,8 @@ pub(crate) fn head_name(head: &UnitHead) -> &Name
 
 /// The specification of a cyclic unit of this name, behind the name, and the tokens after it.
 #[tactic(auto, unfolding(crate::specs::Readers::cyclic_head_at))]
-fn cyclic_head(name: Name, tokens: &[Spanned]) -> Result<(UnitHead, &[Spanned]), Halt>
-    ensures { Gives (λ r. (head_of r.0, bare r.1.now)) result (cyclic_head_at name (bare tokens.now)) }
+fn cyclic_head(name: Name, tokens: Tokens) -> Result<(UnitHead, Tokens), Halt>
+    ensures { Gives (λ r. (head_of r.0, ahead r.1)) result (cyclic_head_at name (ahead tokens.entry)) }
 {
     let tokens = fixed(tokens, FixedText::TaskHead)?;
     let (priority, tokens) = number(tokens)?;
@@ -77,9 +77,9 @@ fn cyclic_head(name: Name, tokens: &[Spanned]) -> Result<(UnitHead, &[Spanned]),
 fn passive_head(
     alloc: Global,
     name: Name,
-    tokens: &[Spanned],
-) -> Result<(UnitHead, &[Spanned]), Halt>
-    ensures { Gives (λ r. (head_of r.0, bare r.1.now)) result (passive_head_at name (bare tokens.now)) }
+    tokens: Tokens,
+) -> Result<(UnitHead, Tokens), Halt>
+    ensures { Gives (λ r. (head_of r.0, ahead r.1)) result (passive_head_at name (ahead tokens.entry)) }
 {
     let (sigs, tokens) = declarations(alloc, tokens)?;
     let tokens = end_of(tokens, name.bytes())?;
@@ -87,8 +87,8 @@ fn passive_head(
 }
 
 /// The tokens after the names by which these operations of a protected unit are called.
-fn renamings<'a>(tokens: &'a [Spanned], sigs: &[OpSig]) -> Result<&'a [Spanned], Halt>
-    ensures { Gives (λ r. (tt, bare r.now)) result (renamings_at (map signature_of sigs.now) (bare tokens.entry.now)) }
+fn renamings<'a>(tokens: Tokens<'a>, sigs: &[OpSig]) -> Result<Tokens<'a>, Halt>
+    ensures { Gives (λ r. (tt, ahead r)) result (renamings_at (map signature_of sigs.now) (ahead tokens.entry)) }
 {
     let mut rest = tokens;
     'sigs: for sig in sigs {
@@ -102,9 +102,9 @@ fn renamings<'a>(tokens: &'a [Spanned], sigs: &[OpSig]) -> Result<&'a [Spanned],
 fn shared_head(
     alloc: Global,
     name: Name,
-    tokens: &[Spanned],
-) -> Result<(UnitHead, &[Spanned]), Halt>
-    ensures { Gives (λ r. (head_of r.0, bare r.1.now)) result (shared_head_at name (bare tokens.now)) }
+    tokens: Tokens,
+) -> Result<(UnitHead, Tokens), Halt>
+    ensures { Gives (λ r. (head_of r.0, ahead r.1)) result (shared_head_at name (ahead tokens.entry)) }
 {
     let tokens = fixed(tokens, FixedText::ObjectHead)?;
     let (ceiling, tokens) = number(tokens)?;
@@ -140,11 +140,12 @@ fn truth_named(name: &[u8]) -> Option<bool>
 
 /// The truth value that is first, and the tokens after it.
 #[tactic(auto, unfolding(seq_read::specs::Parts::named_at, token_read::specs::Readers::word_at))]
-fn truth(tokens: &[Spanned]) -> Result<(bool, &[Spanned]), Halt>
-    ensures { Gives (λ r. (r.0, bare r.1.now)) result (named_at truth_named (bare tokens.now)) }
+fn truth(tokens: Tokens) -> Result<(bool, Tokens), Halt>
+    ensures { Gives (λ r. (r.0, ahead r.1)) result (named_at truth_named (ahead tokens.entry)) }
 {
     let (word, rest) = any_word(tokens)?;
-    match truth_named(word.bytes()) {
+    let folded = word.folded();
+    match truth_named(folded.bytes()) {
         Some(value) => Ok((value, rest)),
         None => Err(Halt::Syntax(tokens.len())),
     }
@@ -157,9 +158,9 @@ fn constants(
     name: Name,
     ceiling: u32,
     op: OpSig,
-    tokens: &[Spanned],
-) -> Result<(UnitHead, &[Spanned]), Halt>
-    ensures { Gives (λ r. (head_of r.0, bare r.1.now)) result (constants_at name ceiling (signature_of op) (bare tokens.now)) }
+    tokens: Tokens,
+) -> Result<(UnitHead, Tokens), Halt>
+    ensures { Gives (λ r. (head_of r.0, ahead r.1)) result (constants_at name ceiling (signature_of op) (ahead tokens.entry)) }
 {
     let tokens = fixed(tokens, FixedText::TaskHead)?;
     let (priority, tokens) = number(tokens)?;
@@ -188,9 +189,9 @@ fn constants(
 fn sporadic_head(
     alloc: Global,
     name: Name,
-    tokens: &[Spanned],
-) -> Result<(UnitHead, &[Spanned]), Halt>
-    ensures { Gives (λ r. (head_of r.0, bare r.1.now)) result (sporadic_head_at name (bare tokens.now)) }
+    tokens: Tokens,
+) -> Result<(UnitHead, Tokens), Halt>
+    ensures { Gives (λ r. (head_of r.0, ahead r.1)) result (sporadic_head_at name (ahead tokens.entry)) }
 {
     let tokens = fixed(tokens, FixedText::RequestHead)?;
     let (ceiling, tokens) = number(tokens)?;
@@ -206,9 +207,9 @@ fn sporadic_head(
 fn object_head(
     alloc: Global,
     name: Name,
-    tokens: &[Spanned],
-) -> Result<(UnitHead, &[Spanned]), Halt>
-    ensures { Gives (λ r. (head_of r.0, bare r.1.now)) result (object_head_at name (bare tokens.now)) }
+    tokens: Tokens,
+) -> Result<(UnitHead, Tokens), Halt>
+    ensures { Gives (λ r. (head_of r.0, ahead r.1)) result (object_head_at name (ahead tokens.entry)) }
 {
     let tokens = word(tokens, b"protected")?;
     if next_is_word(tokens, b"hrt_object") {
@@ -220,8 +221,8 @@ fn object_head(
 
 /// The specification of a unit of this name, behind the name, and the tokens after it.
 #[tactic(auto, unfolding(crate::specs::Readers::inner_at))]
-fn inner(alloc: Global, name: Name, tokens: &[Spanned]) -> Result<(UnitHead, &[Spanned]), Halt>
-    ensures { Gives (λ r. (head_of r.0, bare r.1.now)) result (inner_at name (bare tokens.now)) }
+fn inner(alloc: Global, name: Name, tokens: Tokens) -> Result<(UnitHead, Tokens), Halt>
+    ensures { Gives (λ r. (head_of r.0, ahead r.1)) result (inner_at name (ahead tokens.entry)) }
 {
     if next_is_word(tokens, b"task") {
         cyclic_head(name, tokens)
@@ -234,8 +235,8 @@ fn inner(alloc: Global, name: Name, tokens: &[Spanned]) -> Result<(UnitHead, &[S
 
 /// The specification of a unit, and the tokens after it.
 #[tactic(auto, unfolding(crate::specs::Readers::head_at))]
-fn head(alloc: Global, tokens: &[Spanned]) -> Result<(UnitHead, &[Spanned]), Halt>
-    ensures { Gives (λ r. (head_of r.0, bare r.1.now)) result (head_at (bare tokens.now)) }
+fn head(alloc: Global, tokens: Tokens) -> Result<(UnitHead, Tokens), Halt>
+    ensures { Gives (λ r. (head_of r.0, ahead r.1)) result (head_at (ahead tokens.entry)) }
 {
     let tokens = word(tokens, b"package")?;
     let (name, tokens) = name(alloc, tokens)?;
@@ -245,8 +246,8 @@ fn head(alloc: Global, tokens: &[Spanned]) -> Result<(UnitHead, &[Spanned]), Hal
 
 /// The specifications of all units, and the tokens after them.
 #[tactic(auto, using(crate::proofs::Repeats::head_steps))]
-pub(crate) fn heads(alloc: Global, tokens: &[Spanned]) -> Result<(Vec<UnitHead>, &[Spanned]), Halt>
-    ensures { Gives (λ r. (map head_of r.0.items, bare r.1.now)) result (heads_at (bare tokens.now)) }
+pub(crate) fn heads(alloc: Global, tokens: Tokens) -> Result<(Vec<UnitHead>, Tokens), Halt>
+    ensures { Gives (λ r. (map head_of r.0.items, ahead r.1)) result (heads_at (ahead tokens.entry)) }
 {
     let mut heads = Vec::new(alloc);
     let mut rest = tokens;

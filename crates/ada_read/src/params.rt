@@ -1,7 +1,7 @@
 ghost use Rattle.std.specs.Prelude.{◌≡◌, map};
 ghost use Rattle.seq_tree.specs.Trees.{signature_of};
 ghost use Rattle.ada_tree.specs.Words.{is_ada_name};
-ghost use Rattle.token_read.specs.Words.{bare};
+ghost use Rattle.token_read.specs.Ahead.{ahead};
 ghost use Rattle.seq_read.specs.Halts.{Gives};
 ghost use Rattle.seq_read.specs.Parts.{param_at, params_from_at};
 ghost use Rattle.ada_read.specs.Readers.{listed_at, unlisted_at, params_at, declaration_at, declarations_at};
@@ -9,14 +9,14 @@ ghost use Rattle.ada_read.specs.Readers.{listed_at, unlisted_at, params_at, decl
 use crate::fixed_text::{FixedText, fixed};
 use crate::names::name;
 use seq_read::{Halt, Text, mark, word};
-use seq_tree::{Mark, OpSig, Param, Spanned};
+use seq_tree::{Mark, OpSig, Param};
 use std::alloc::Global;
-use token_read::{next_is_mark, next_is_word};
+use token_read::{Tokens, next_is_mark, next_is_word};
 
 /// A parameter, and the tokens after it.
 #[tactic(auto, unfolding(seq_read::specs::Names::may_name))]
-fn param(alloc: Global, tokens: &[Spanned]) -> Result<(Param, &[Spanned]), Halt>
-    ensures { Gives (λ r. (r.0, bare r.1.now)) result (param_at is_ada_name (bare tokens.now)) }
+fn param(alloc: Global, tokens: Tokens) -> Result<(Param, Tokens), Halt>
+    ensures { Gives (λ r. (r.0, ahead r.1)) result (param_at is_ada_name (ahead tokens.entry)) }
 {
     seq_read::param(alloc, tokens, Text::Ada)
 }
@@ -25,18 +25,18 @@ fn param(alloc: Global, tokens: &[Spanned]) -> Result<(Param, &[Spanned]), Halt>
 #[tactic(auto, unfolding(seq_read::specs::Names::may_name))]
 fn params_from(
     alloc: Global,
-    tokens: &[Spanned],
+    tokens: Tokens,
     head: Param,
-) -> Result<(Vec<Param>, &[Spanned]), Halt>
-    ensures { Gives (λ r. (r.0.items, bare r.1.now)) result (params_from_at is_ada_name head (bare tokens.now)) }
+) -> Result<(Vec<Param>, Tokens), Halt>
+    ensures { Gives (λ r. (r.0.items, ahead r.1)) result (params_from_at is_ada_name head (ahead tokens.entry)) }
 {
     seq_read::params_from(alloc, tokens, Text::Ada, head)
 }
 
 /// Parameters, one at least, and the tokens after the end of their declaration.
 #[tactic(auto, unfolding(crate::specs::Readers::listed_at))]
-fn listed(alloc: Global, tokens: &[Spanned]) -> Result<(Vec<Param>, &[Spanned]), Halt>
-    ensures { Gives (λ r. (r.0.items, bare r.1.now)) result (listed_at (bare tokens.now)) }
+fn listed(alloc: Global, tokens: Tokens) -> Result<(Vec<Param>, Tokens), Halt>
+    ensures { Gives (λ r. (r.0.items, ahead r.1)) result (listed_at (ahead tokens.entry)) }
 {
     let tokens = mark(tokens, Mark::LeftParen)?;
     let (head, tokens) = param(alloc, tokens)?;
@@ -47,8 +47,8 @@ fn listed(alloc: Global, tokens: &[Spanned]) -> Result<(Vec<Param>, &[Spanned]),
 
 /// No parameters, and the tokens after the end of their declaration.
 #[tactic(auto, unfolding(crate::specs::Readers::unlisted_at))]
-pub(crate) fn unlisted(alloc: Global, tokens: &[Spanned]) -> Result<(Vec<Param>, &[Spanned]), Halt>
-    ensures { Gives (λ r. (r.0.items, bare r.1.now)) result (unlisted_at (bare tokens.now)) }
+pub(crate) fn unlisted(alloc: Global, tokens: Tokens) -> Result<(Vec<Param>, Tokens), Halt>
+    ensures { Gives (λ r. (r.0.items, ahead r.1)) result (unlisted_at (ahead tokens.entry)) }
 {
     let tokens = mark(tokens, Mark::Semicolon)?;
     Ok((Vec::new(alloc), tokens))
@@ -56,8 +56,8 @@ pub(crate) fn unlisted(alloc: Global, tokens: &[Spanned]) -> Result<(Vec<Param>,
 
 /// The parameters of a declaration, and the tokens after its end.
 #[tactic(auto, unfolding(crate::specs::Readers::params_at))]
-fn params(alloc: Global, tokens: &[Spanned]) -> Result<(Vec<Param>, &[Spanned]), Halt>
-    ensures { Gives (λ r. (r.0.items, bare r.1.now)) result (params_at (bare tokens.now)) }
+fn params(alloc: Global, tokens: Tokens) -> Result<(Vec<Param>, Tokens), Halt>
+    ensures { Gives (λ r. (r.0.items, ahead r.1)) result (params_at (ahead tokens.entry)) }
 {
     if next_is_mark(tokens, Mark::LeftParen) {
         listed(alloc, tokens)
@@ -68,8 +68,8 @@ fn params(alloc: Global, tokens: &[Spanned]) -> Result<(Vec<Param>, &[Spanned]),
 
 /// The declaration of an operation, and the tokens after it.
 #[tactic(auto, unfolding(crate::specs::Readers::declaration_at))]
-fn declaration(alloc: Global, tokens: &[Spanned]) -> Result<(OpSig, &[Spanned]), Halt>
-    ensures { Gives (λ r. (signature_of r.0, bare r.1.now)) result (declaration_at (bare tokens.now)) }
+fn declaration(alloc: Global, tokens: Tokens) -> Result<(OpSig, Tokens), Halt>
+    ensures { Gives (λ r. (signature_of r.0, ahead r.1)) result (declaration_at (ahead tokens.entry)) }
 {
     let tokens = word(tokens, b"procedure")?;
     let (name, tokens) = name(alloc, tokens)?;
@@ -81,9 +81,9 @@ fn declaration(alloc: Global, tokens: &[Spanned]) -> Result<(OpSig, &[Spanned]),
 #[tactic(auto, using(crate::proofs::Repeats::declaration_steps))]
 pub(crate) fn declarations(
     alloc: Global,
-    tokens: &[Spanned],
-) -> Result<(Vec<OpSig>, &[Spanned]), Halt>
-    ensures { Gives (λ r. (map signature_of r.0.items, bare r.1.now)) result (declarations_at (bare tokens.now)) }
+    tokens: Tokens,
+) -> Result<(Vec<OpSig>, Tokens), Halt>
+    ensures { Gives (λ r. (map signature_of r.0.items, ahead r.1)) result (declarations_at (ahead tokens.entry)) }
 {
     let mut sigs = Vec::new(alloc);
     let mut rest = tokens;

@@ -1,7 +1,7 @@
 ghost use Rattle.std.specs.Prelude.{◌≡◌, map};
 ghost use Rattle.grammar.specs.Reading.{whole_at};
 ghost use Rattle.ada_tree.specs.Trees.{program_of, unit_of};
-ghost use Rattle.token_read.specs.Words.{bare};
+ghost use Rattle.token_read.specs.Ahead.{ahead};
 ghost use Rattle.seq_read.specs.Halts.{Gives, GivesWhole};
 ghost use Rattle.ada_read.specs.Readers.{ada_block_at, cost_at, costs_at, services_at, units_at, main_at, program_at};
 
@@ -11,13 +11,14 @@ use crate::heads::heads;
 use crate::names::name;
 use ada_tree::{AdaProgram, Unit};
 use seq_read::{Halt, end_of, mark, number, word};
-use seq_tree::{Costs, Mark, Name, Spanned};
+use seq_tree::{Costs, Mark, Name};
 use std::alloc::Global;
+use token_read::Tokens;
 
 /// The ticks that a kind of statement takes, and the tokens after them.
 #[tactic(auto, unfolding(crate::specs::Readers::cost_at))]
-fn cost(tokens: &[Spanned], cost: CostName) -> Result<(u32, &[Spanned]), Halt>
-    ensures { Gives (λ r. (r.0, bare r.1.now)) result (cost_at cost (bare tokens.now)) }
+fn cost(tokens: Tokens, cost: CostName) -> Result<(u32, Tokens), Halt>
+    ensures { Gives (λ r. (r.0, ahead r.1)) result (cost_at cost (ahead tokens.entry)) }
 {
     let tokens = word(tokens, cost_name(cost))?;
     let tokens = fixed(tokens, FixedText::Constant)?;
@@ -28,8 +29,8 @@ fn cost(tokens: &[Spanned], cost: CostName) -> Result<(u32, &[Spanned]), Halt>
 
 /// The costs of all kinds of statements, and the tokens after them.
 #[tactic(auto, unfolding(crate::specs::Readers::costs_at))]
-fn costs(tokens: &[Spanned]) -> Result<(Costs, &[Spanned]), Halt>
-    ensures { Gives (λ r. (r.0, bare r.1.now)) result (costs_at (bare tokens.now)) }
+fn costs(tokens: Tokens) -> Result<(Costs, Tokens), Halt>
+    ensures { Gives (λ r. (r.0, ahead r.1)) result (costs_at (ahead tokens.entry)) }
 {
     let (assign, tokens) = cost(tokens, CostName::Assign)?;
     let (test, tokens) = cost(tokens, CostName::Test)?;
@@ -52,8 +53,8 @@ fn costs(tokens: &[Spanned]) -> Result<(Costs, &[Spanned]), Halt>
 
 /// The costs that the text before the program tells, and the tokens after that text.
 #[tactic(auto, unfolding(crate::specs::Readers::services_at))]
-fn services(tokens: &[Spanned]) -> Result<(Costs, &[Spanned]), Halt>
-    ensures { Gives (λ r. (r.0, bare r.1.now)) result (services_at (bare tokens.now)) }
+fn services(tokens: Tokens) -> Result<(Costs, Tokens), Halt>
+    ensures { Gives (λ r. (r.0, ahead r.1)) result (services_at (ahead tokens.entry)) }
 {
     let tokens = fixed(tokens, FixedText::Opening)?;
     let (costs, tokens) = costs(tokens)?;
@@ -65,10 +66,10 @@ fn services(tokens: &[Spanned]) -> Result<(Costs, &[Spanned]), Halt>
 #[tactic(auto, unfolding(crate::specs::Readers::units_at))]
 fn units<'a>(
     alloc: Global,
-    tokens: &'a [Spanned],
+    tokens: Tokens<'a>,
     name: &Name,
-) -> Result<(Vec<Unit>, &'a [Spanned]), Halt>
-    ensures { Gives (λ r. (map unit_of r.0.items, bare r.1.now)) result (units_at ada_block_at name.now (bare tokens.entry.now)) }
+) -> Result<(Vec<Unit>, Tokens<'a>), Halt>
+    ensures { Gives (λ r. (map unit_of r.0.items, ahead r.1)) result (units_at ada_block_at name.now (ahead tokens.entry)) }
 {
     let (heads, tokens) = heads(alloc, tokens)?;
     let tokens = end_of(tokens, name.bytes())?;
@@ -80,8 +81,8 @@ fn units<'a>(
 
 /// The tokens after the main procedure of a program of this name.
 #[tactic(auto, unfolding(crate::specs::Readers::main_at))]
-fn main_procedure<'a>(tokens: &'a [Spanned], name: &Name) -> Result<&'a [Spanned], Halt>
-    ensures { Gives (λ r. (tt, bare r.now)) result (main_at name.now (bare tokens.entry.now)) }
+fn main_procedure<'a>(tokens: Tokens<'a>, name: &Name) -> Result<Tokens<'a>, Halt>
+    ensures { Gives (λ r. (tt, ahead r)) result (main_at name.now (ahead tokens.entry)) }
 {
     let tokens = word(tokens, b"with")?;
     let tokens = word(tokens, name.bytes())?;
@@ -90,8 +91,8 @@ fn main_procedure<'a>(tokens: &'a [Spanned], name: &Name) -> Result<&'a [Spanned
 
 /// The program at the front, and the tokens after it.
 #[tactic(auto, unfolding(crate::specs::Readers::program_at))]
-fn program(alloc: Global, tokens: &[Spanned]) -> Result<(AdaProgram, &[Spanned]), Halt>
-    ensures { Gives (λ r. (program_of r.0, bare r.1.now)) result (program_at ada_block_at (bare tokens.now)) }
+fn program(alloc: Global, tokens: Tokens) -> Result<(AdaProgram, Tokens), Halt>
+    ensures { Gives (λ r. (program_of r.0, ahead r.1)) result (program_at ada_block_at (ahead tokens.entry)) }
 {
     let (costs, tokens) = services(tokens)?;
     let (name, tokens) = name(alloc, tokens)?;
@@ -105,8 +106,8 @@ fn program(alloc: Global, tokens: &[Spanned]) -> Result<(AdaProgram, &[Spanned])
 /// The program that these are all the tokens of. `Syntax` comes where the tokens are of no program, and `TooDeep` where they are
 /// but for their nesting or a chain, each with the tokens that were left; `NoMemory` comes for want of memory.
 #[tactic(auto, using(seq_read::proofs::WholeSteps::whole_steps))]
-pub(crate) fn whole(alloc: Global, tokens: &[Spanned]) -> Result<AdaProgram, Halt>
-    ensures { GivesWhole program_of result (whole_at (program_at ada_block_at) (bare tokens.now)) }
+pub(crate) fn whole(alloc: Global, tokens: Tokens) -> Result<AdaProgram, Halt>
+    ensures { GivesWhole program_of result (whole_at (program_at ada_block_at) (ahead tokens.entry)) }
 {
     let (program, rest) = program(alloc, tokens)?;
     if rest.is_empty() {

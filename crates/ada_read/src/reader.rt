@@ -12,7 +12,7 @@ use ada_tree::AdaProgram;
 use seq_read::{Halt, place_of};
 use seq_tree::TextFault;
 use std::alloc::Global;
-use token_read::{LexFault, tokens};
+use token_read::{LexFault, Tokens};
 
 /// The most bytes that a text may have.
 const MOST_BYTES: usize = 16_777_216;
@@ -55,17 +55,17 @@ pub fn read_ada(alloc: Global, bytes: &[u8]) -> Result<AdaProgram, AdaFault>
     if bytes.len() > MOST_BYTES {
         return Err(AdaFault::Text(TextFault::FileTooLong));
     }
-    match tokens(alloc, bytes) {
+    match Tokens::of(bytes) {
         Err(fault) => Err(misread(fault)),
-        Ok(found) => match whole(alloc, &found) {
+        Ok(found) => match whole(alloc, found) {
             Ok(program) => judged(alloc, program),
             Err(Halt::NoMemory) => Err(AdaFault::NoMemory),
             Err(Halt::Syntax(left)) => {
-                let place = place_of(bytes, &found, left);
+                let place = place_of(bytes, found, left);
                 Err(AdaFault::Text(TextFault::Syntax(place)))
             }
             Err(Halt::TooDeep(left)) => {
-                let place = place_of(bytes, &found, left);
+                let place = place_of(bytes, found, left);
                 Err(AdaFault::Text(TextFault::TooDeep(place)))
             }
         },

@@ -3,7 +3,7 @@ ghost use Rattle.seq_tree.specs.Trees.{signature_of};
 ghost use Rattle.seq_tree.specs.declared.token.Token.TheVariants.{Word, Sign};
 ghost use Rattle.seq_tree.specs.declared.token.Mark.TheVariants.{Semicolon};
 ghost use Rattle.ada_tree.specs.Spelling.{head_tokens, param_tokens, params_tokens};
-ghost use Rattle.token_read.specs.Words.{bare};
+ghost use Rattle.token_read.specs.Ahead.{ahead};
 ghost use Rattle.token_read.specs.Readers.{phrase_at};
 ghost use Rattle.seq_read.specs.Halts.{Gives};
 ghost use Rattle.ada_read.specs.FixedTexts.{rest_tokens};
@@ -11,11 +11,12 @@ ghost use Rattle.ada_read.specs.Readers.{renaming_at, request_renaming_at};
 
 use crate::fixed_text::{FixedText, fixed};
 use seq_read::{Halt, mark, word};
-use seq_tree::{Mark, Mode, OpSig, Param, Spanned};
+use seq_tree::{Mark, Mode, OpSig, Param};
+use token_read::Tokens;
 
 /// The tokens after this parameter, which is first.
-fn same_param<'a>(tokens: &'a [Spanned], param: &Param) -> Result<&'a [Spanned], Halt>
-    ensures { Gives (λ r. (tt, bare r.now)) result (phrase_at (param_tokens param.now) (bare tokens.entry.now)) }
+fn same_param<'a>(tokens: Tokens<'a>, param: &Param) -> Result<Tokens<'a>, Halt>
+    ensures { Gives (λ r. (tt, ahead r)) result (phrase_at (param_tokens param.now) (ahead tokens.entry)) }
 {
     let tokens = word(tokens, param.name.bytes())?;
     let tokens = mark(tokens, Mark::Colon)?;
@@ -27,8 +28,8 @@ fn same_param<'a>(tokens: &'a [Spanned], param: &Param) -> Result<&'a [Spanned],
 }
 
 /// The tokens after these further parameters, which are first, and the end of their list.
-fn same_rest<'a>(tokens: &'a [Spanned], params: &[Param]) -> Result<&'a [Spanned], Halt>
-    ensures { Gives (λ r. (tt, bare r.now)) result (phrase_at (rest_tokens params.now) (bare tokens.entry.now)) }
+fn same_rest<'a>(tokens: Tokens<'a>, params: &[Param]) -> Result<Tokens<'a>, Halt>
+    ensures { Gives (λ r. (tt, ahead r)) result (phrase_at (rest_tokens params.now) (ahead tokens.entry)) }
 {
     let mut rest = tokens;
     'params: for param in params {
@@ -39,8 +40,8 @@ fn same_rest<'a>(tokens: &'a [Spanned], params: &[Param]) -> Result<&'a [Spanned
 }
 
 /// The tokens after these parameters, which are first.
-fn same_params<'a>(tokens: &'a [Spanned], params: &[Param]) -> Result<&'a [Spanned], Halt>
-    ensures { Gives (λ r. (tt, bare r.now)) result (phrase_at (params_tokens params.now) (bare tokens.entry.now)) }
+fn same_params<'a>(tokens: Tokens<'a>, params: &[Param]) -> Result<Tokens<'a>, Halt>
+    ensures { Gives (λ r. (tt, ahead r)) result (phrase_at (params_tokens params.now) (ahead tokens.entry)) }
 {
     let Some((head, others)) = params.split_first() else {
         return Ok(tokens);
@@ -51,8 +52,8 @@ fn same_params<'a>(tokens: &'a [Spanned], params: &[Param]) -> Result<&'a [Spann
 }
 
 /// The tokens after this head of an operation, which is first.
-pub(crate) fn same_head<'a>(tokens: &'a [Spanned], sig: &OpSig) -> Result<&'a [Spanned], Halt>
-    ensures { Gives (λ r. (tt, bare r.now)) result (phrase_at (head_tokens (signature_of sig.now)) (bare tokens.entry.now)) }
+pub(crate) fn same_head<'a>(tokens: Tokens<'a>, sig: &OpSig) -> Result<Tokens<'a>, Halt>
+    ensures { Gives (λ r. (tt, ahead r)) result (phrase_at (head_tokens (signature_of sig.now)) (ahead tokens.entry)) }
 {
     let tokens = word(tokens, b"procedure")?;
     let tokens = word(tokens, sig.name.bytes())?;
@@ -60,8 +61,8 @@ pub(crate) fn same_head<'a>(tokens: &'a [Spanned], sig: &OpSig) -> Result<&'a [S
 }
 
 /// The tokens after this name and the end of a line.
-fn named_end<'a>(tokens: &'a [Spanned], sig: &OpSig) -> Result<&'a [Spanned], Halt>
-    ensures { Gives (λ r. (tt, bare r.now)) result (phrase_at (Word sig.now.name ∷ Sign Semicolon ∷ []) (bare tokens.entry.now)) }
+fn named_end<'a>(tokens: Tokens<'a>, sig: &OpSig) -> Result<Tokens<'a>, Halt>
+    ensures { Gives (λ r. (tt, ahead r)) result (phrase_at (Word sig.now.name ∷ Sign Semicolon ∷ []) (ahead tokens.entry)) }
 {
     let tokens = word(tokens, sig.name.bytes())?;
     mark(tokens, Mark::Semicolon)
@@ -69,8 +70,8 @@ fn named_end<'a>(tokens: &'a [Spanned], sig: &OpSig) -> Result<&'a [Spanned], Ha
 
 /// The tokens after the name by which this operation of a protected unit is called.
 #[tactic(auto, unfolding(crate::specs::Readers::renaming_at))]
-pub(crate) fn renaming<'a>(tokens: &'a [Spanned], sig: &OpSig) -> Result<&'a [Spanned], Halt>
-    ensures { Gives (λ r. (tt, bare r.now)) result (renaming_at (signature_of sig.now) (bare tokens.entry.now)) }
+pub(crate) fn renaming<'a>(tokens: Tokens<'a>, sig: &OpSig) -> Result<Tokens<'a>, Halt>
+    ensures { Gives (λ r. (tt, ahead r)) result (renaming_at (signature_of sig.now) (ahead tokens.entry)) }
 {
     let tokens = same_head(tokens, sig)?;
     let tokens = fixed(tokens, FixedText::Renames)?;
@@ -80,10 +81,10 @@ pub(crate) fn renaming<'a>(tokens: &'a [Spanned], sig: &OpSig) -> Result<&'a [Sp
 /// The tokens after the name by which this request of a sporadic unit is called.
 #[tactic(auto, unfolding(crate::specs::Readers::request_renaming_at))]
 pub(crate) fn request_renaming<'a>(
-    tokens: &'a [Spanned],
+    tokens: Tokens<'a>,
     sig: &OpSig,
-) -> Result<&'a [Spanned], Halt>
-    ensures { Gives (λ r. (tt, bare r.now)) result (request_renaming_at (signature_of sig.now) (bare tokens.entry.now)) }
+) -> Result<Tokens<'a>, Halt>
+    ensures { Gives (λ r. (tt, ahead r)) result (request_renaming_at (signature_of sig.now) (ahead tokens.entry)) }
 {
     let tokens = same_head(tokens, sig)?;
     let tokens = fixed(tokens, FixedText::RequestRenames)?;

@@ -22,7 +22,6 @@ use Rattle.arrivals_tree.specs.FirstWrong.{Wrong, wrong_at, work_fault, wrong_wo
 use Rattle.arrivals_read.specs.declared.fault.ArrivalFault.{ArrivalFault}
 use Rattle.arrivals_read.specs.declared.fault.ArrivalFault.TheVariants as told
 use Rattle.arrivals_read.specs.Answers.{AnyArrivals, Faults, IsText, IsFar, IsWrong, Refuses, Says}
-use Rattle.arrivals_read.specs.Found.{line_at}
 use Rattle.arrivals_read.proofs.Reaching.{one-tree}
 
 -- THE FIRST FAULT OF ARRIVALS IS THAT OF THE ITEM THAT IS TOLD
@@ -117,6 +116,11 @@ told_by Unknown line name = told.Q2 line name
 told_by Unfit line name = told.Q5 line
 told_by Early line name = told.Q3 line name
 told_by Far line name = told.NoMemory
+
+-- the line of a token
+abbrev line_at : Option Spanned → ℕ
+line_at None = 0
+line_at (Some s) = s.place.line
 
 abbrev told_wrong : List Spanned → Option Wrong → ArrivalFault
 told_wrong found None = told.NoMemory

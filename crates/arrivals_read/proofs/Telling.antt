@@ -5,6 +5,7 @@ use Rattle.seq_tree.specs.Faults.{or_else}
 use Rattle.seq_tree.specs.Names.{Name}
 use Rattle.seq_tree.specs.Lexis.{tokens, plain}
 use Rattle.seq_tree.specs.declared.token.Spanned.{Spanned}
+use Rattle.token_read.specs.Places.{place_or}
 use Rattle.token_read.specs.Words.{bare}
 use Rattle.ada_tree.specs.Programs.{Program}
 use Rattle.arrivals_tree.specs.declared.arrivals.Arrival.{Arrival}
@@ -19,7 +20,7 @@ use Rattle.arrivals_read.specs.declared.fault.ArrivalFault.{ArrivalFault}
 use Rattle.arrivals_read.specs.declared.fault.ArrivalFault.TheVariants as told
 use Rattle.arrivals_read.specs.Answers.{IsText, IsWrong, Says}
 use Rattle.arrivals_read.specs.Checked.{fault_named}
-use Rattle.arrivals_read.specs.Found.{Tells, line_at}
+use Rattle.arrivals_read.specs.Found.{Tells}
 use Rattle.arrivals_read.proofs.Refusals.{cause, fault-near}
 
 -- THE PLACE OF AN ITEM is that of a token
@@ -90,7 +91,7 @@ token-within p found t w spelled wrong = let h = wrong-within p t w wrong in ome
 
 -- something is wrong, as it was found
 pub wrong-found : (bytes : List ℕ) (p : Program) (found : List Spanned) (t : ArrivalText) (fault : acceptance.ArrivalFault) (name : Name) (before line : ℕ) → IsText bytes found t → t.until ≤ horizon_limit →
-    first_wrong p t ≡ Some (record { fault = fault; name = name; before = before }) → line ≡ line_at (slice_get found before) → IsWrong bytes p fault line name
+    first_wrong p t ≡ Some (record { fault = fault; name = name; before = before }) → line ≡ (place_or bytes (slice_get found before)).line → IsWrong bytes p fault line name
 wrong-found bytes p found t fault name before line text near wrong here =
     let token = there found before (token-within p found t (record { fault = fault; name = name; before = before }) text.spelled wrong) in
     record {
@@ -102,7 +103,7 @@ wrong-found bytes p found t fault name before line text near wrong here =
       wrong = wrong;
       token = token.token;
       begins = token.is;
-      here = here ∙ ap line_at token.is;
+      here = here ∙ ap (λ o. (place_or bytes o).line) token.is;
     }
 
 module _ (bytes : List ℕ) (p : Program) where

@@ -5,9 +5,6 @@ use Rattle.grammar.proofs.Many.{many-turn, many-fails, many-ends}
 use Rattle.seq_tree.specs.declared.token.Token.{Token}
 use Rattle.seq_tree.specs.declared.token.Token.TheVariants.{Word, Sign}
 use Rattle.seq_tree.specs.declared.token.Mark.TheVariants.{Comma}
-use Rattle.std.proofs.lemmas.List.{length-map}
-use Rattle.seq_tree.specs.declared.token.Spanned.{Spanned}
-use Rattle.token_read.specs.Words.{bare}
 use Rattle.token_read.specs.Readers.{next_is}
 use Rattle.token_read.proofs.TokenLaws.{Any}
 use Rattle.arrivals_tree.specs.ArrivalTexts.{WorkText, AtText, work_tokens, request_tokens}
@@ -105,15 +102,15 @@ unfolding requests_at
 request-ends = ends_with request_tokens (next_is (Word (codes "at"))) request_at reads-request (λ r rest. refl) (λ r. omega arith) refl
 
 -- THE END OF THE TEXT
-pub end-empty : (ts : List Spanned) → length ts ≡ 0 → end_at (bare ts) ≡ Ok (tt, [])
+pub end-empty : (ts : List Token) → length ts ≡ 0 → end_at ts ≡ Ok (tt, [])
 unfolding end_at
 end-empty [] h = refl
 end-empty (t ∷ ts) h = absurd (omega arith)
 
-pub end-more : (ts : List Spanned) → 0 < length ts → end_at (bare ts) ≡ Err (Syntax (length ts))
+pub end-more : (ts : List Token) → 0 < length ts → end_at ts ≡ Err (Syntax (length ts))
 unfolding end_at
 end-more [] h = absurd (omega arith)
-end-more (t ∷ ts) h = ap (λ n. Err (Syntax (suc n))) (length-map ts (λ (s : Spanned). s.token))
+end-more (t ∷ ts) h = refl
 
 pub ruleset other_steps = (front-none, other-shorter, other-turn, other-fails, other-ends)
 

@@ -2,7 +2,7 @@
 -- Durations stand before requests.
 use Rattle.std.specs.Prelude.{◌≡◌, ℕ, Option, Some, None, Result, Ok, Err, ⊤}
 use Rattle.seq_tree.specs.Names.{Name}
-use Rattle.seq_tree.specs.declared.token.Spanned.{Spanned}
+use Rattle.token_read.specs.Lexemes.{word_bytes}
 use Rattle.arrivals_tree.specs.Acceptance.{Falling, Unknown, Unfit, Early}
 use Rattle.arrivals_tree.specs.Arriving.{Durations}
 use Rattle.arrivals_tree.specs.FirstWrong.{Wrong}
@@ -21,13 +21,8 @@ durations_of w = record { task = w.task; ticks = w.ticks.items }
 -- what was found: the value, by a view, where nothing is wrong, or else what is
 abbrev pub Finds : {X V : Type 0} → (X → V) → Result X Refusal → Option Wrong → V → Type 0
 Finds view (Ok x) wrong value = (wrong ≡ None) × (view x ≡ value)
-Finds view (Err (refusal.Wrong cause name before)) wrong value = wrong ≡ Some (record { fault = fault_named cause; name = name.now; before = before })
+Finds view (Err (refusal.Wrong cause name before)) wrong value = wrong ≡ Some (record { fault = fault_named cause; name = word_bytes name; before = before })
 Finds view (Err refusal.NoMemory) wrong value = ⊤
-
--- the line of a token
-abbrev pub line_at : Option Spanned → ℕ
-line_at None = 0
-line_at (Some s) = s.place.line
 
 -- what is told of an item of this name in this line; want of memory tells nothing
 abbrev pub Tells : Cause → ℕ → Name → ArrivalFault → Type 0

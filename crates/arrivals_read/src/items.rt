@@ -12,15 +12,16 @@ use crate::text::{RequestItem, Text, WorkItem};
 use crate::units::Units;
 use ada_tree::AdaProgram;
 use arrivals_tree::{Arrival, Arrivals, WorkList};
-use seq_tree::{Name, NoMemory};
+use seq_tree::NoMemory;
 use std::alloc::{AllocError, AllocFailed, Global};
+use token_read::Word;
 
 /// Why the items of a text are no arrivals.
 pub(crate) enum Refusal<'a> {
     /// The first item in which something is wrong: what, the name that stands in it, and how many tokens stand before it.
     Wrong {
         cause: Cause,
-        name: &'a Name,
+        name: Word<'a>,
         before: usize,
     },
     /// Want of memory.

@@ -1,13 +1,13 @@
-ghost use Rattle.std.specs.Prelude.{◌≡◌, ◌<◌, ◌≤◌, ℕ, List, Ok, IfOk, length, slice_get};
+ghost use Rattle.std.specs.Prelude.{◌≡◌, ◌<◌, ◌≤◌, Ok, IfOk, length};
 ghost use Rattle.ada_tree.specs.Trees.{program_of};
 ghost use Rattle.arrivals_tree.specs.Arrived.{Arrives, horizon_limit};
 ghost use Rattle.arrivals_tree.specs.Arriving.{Arrivals as Tree, arrivals_of};
 ghost use Rattle.arrivals_tree.specs.ArrivalTexts.{arrival_tokens};
 ghost use Rattle.arrivals_read.specs.Answers.{Says, fault_of};
-ghost use Rattle.arrivals_read.specs.Found.{Tells, line_at};
+ghost use Rattle.arrivals_read.specs.Found.{Tells};
 ghost use Rattle.arrivals_read.specs.Texts.{text_of};
-ghost use Rattle.seq_tree.specs.Lexis.{tokens};
-ghost use Rattle.token_read.specs.Words.{bare};
+ghost use Rattle.seq_tree.specs.Lexis.{plain, tokens};
+ghost use Rattle.token_read.specs.Lexemes.{word_bytes};
 
 use crate::checks::Cause;
 use crate::fault::ArrivalFault;
@@ -16,9 +16,9 @@ use crate::text::{Text, whole};
 use ada_tree::AdaProgram;
 use arrivals_tree::Arrivals;
 use seq_read::place_of;
-use seq_tree::{Name, NoMemory, Spanned, TextFault};
+use seq_tree::{NoMemory, TextFault};
 use std::alloc::Global;
-use token_read::{LexFault, ReadFault, tokens};
+use token_read::{LexFault, ReadFault, Tokens, Word, place_behind};
 
 /// The most bytes that a text of arrivals may have.
 const TEXT_LIMIT: usize = 1_048_576;
@@ -38,19 +38,11 @@ fn misread(fault: LexFault) -> ArrivalFault
     }
 }
 
-/// The line of the token behind so many others.
-fn line_of(found: &[Spanned], before: usize) -> u32
-    requires { before < length found.now }
-    ensures { result ≡ line_at (slice_get found.now before) }
-{
-    found[before].place.line
-}
-
 /// What is wrong with an item of this name in this line, as it is told.
-fn told(alloc: Global, cause: Cause, line: u32, name: &Name) -> ArrivalFault
-    ensures { Tells cause line name.now result }
+fn told(alloc: Global, cause: Cause, line: u32, name: Word) -> ArrivalFault
+    ensures { Tells cause line (word_bytes name.entry) result }
 {
-    match (cause, name.copy(alloc)) {
+    match (cause, name.name(alloc)) {
         (Cause::Falling, _) => ArrivalFault::Q1 { line },
         (Cause::Unknown, Ok(name)) => ArrivalFault::Q2 { line, name },
         (Cause::Early, Ok(object)) => ArrivalFault::Q3 { line, object },
@@ -59,16 +51,18 @@ fn told(alloc: Global, cause: Cause, line: u32, name: &Name) -> ArrivalFault
     }
 }
 
-/// The arrivals that a text says of a program, where they are accepted. `found` are all of its tokens.
+/// The arrivals that a text, which was read from these bytes, says of a program, where they are accepted.
 fn accepted(
     alloc: Global,
-    found: &[Spanned],
+    bytes: &[u8],
     text: &Text,
     program: &AdaProgram,
 ) -> Result<Arrivals, ArrivalFault>
     requires few { length (program_of program.now).units < 4294967296 }
-    requires spelled { bare found.now ≡ arrival_tokens (text_of text.now) }
-    ensures { (bytes : List ℕ) → length bytes ≤ 1048576 → tokens bytes ≡ Ok found.now → Says bytes (program_of program.now) result }
+    requires short { length bytes.now ≤ 1048576 }
+    requires sized { length (arrival_tokens (text_of text.now)) ≤ 1048576 }
+    requires spelled { plain (tokens bytes.now) ≡ Ok (arrival_tokens (text_of text.now)) }
+    ensures { Says bytes.now (program_of program.now) result }
 {
     if text.until > HORIZON_LIMIT {
         return Err(ArrivalFault::Q4 {
@@ -84,7 +78,10 @@ fn accepted(
                 name,
                 before,
             },
-        ) => Err(told(alloc, cause, line_of(found, before), name)),
+        ) => {
+            let place = place_behind(bytes, before);
+            Err(told(alloc, cause, place.line, name))
+        }
         Err(Refusal::NoMemory) => Err(ArrivalFault::NoMemory),
     }
 }
@@ -114,13 +111,13 @@ pub fn read_arrivals(
     if bytes.len() > TEXT_LIMIT {
         return Err(ArrivalFault::Text(TextFault::FileTooLong));
     }
-    match tokens(alloc, bytes) {
+    match Tokens::of(bytes) {
         Err(fault) => Err(misread(fault)),
-        Ok(found) => match whole(alloc, &found) {
-            Ok(text) => accepted(alloc, &found, &text, program),
+        Ok(found) => match whole(alloc, found) {
+            Ok(text) => accepted(alloc, bytes, &text, program),
             Err(ReadFault::NoMemory) => Err(ArrivalFault::NoMemory),
             Err(ReadFault::Syntax(left)) => {
-                let place = place_of(bytes, &found, left);
+                let place = place_of(bytes, found, left);
                 Err(ArrivalFault::Text(TextFault::Syntax(place)))
             }
         },

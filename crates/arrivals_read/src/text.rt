@@ -1,19 +1,18 @@
 ghost use Rattle.std.specs.Prelude.{◌≡◌, map};
 ghost use Rattle.grammar.specs.Reading.{whole_at};
-ghost use Rattle.token_read.specs.Words.{Gives, GivesWhole, bare};
+ghost use Rattle.token_read.specs.Ahead.{ahead};
+ghost use Rattle.token_read.specs.Words.{Gives, GivesWhole};
 ghost use Rattle.arrivals_read.specs.Readers.{arrivals_at, other_at, others_at, request_at, requests_at, until_at, value_at, work_at, works_at};
 ghost use Rattle.arrivals_read.specs.Texts.{request_text, text_of, work_text};
 
-use seq_tree::{Mark, Name, Spanned};
+use seq_tree::Mark;
 use std::alloc::Global;
-use token_read::{
-    ReadFault, any_word, mark, next_is_mark, next_is_number, next_is_word, number, word,
-};
+use token_read::{ReadFault, Tokens, Word, any_word, mark, next_is_mark, next_is_number, next_is_word, number, word};
 
 /// Durations for a task, in ticks: one and further ones.
 #[derive(Drop)]
 pub(crate) struct WorkItem<'a> {
-    pub(crate) name: &'a Name,
+    pub(crate) name: Word<'a>,
     pub(crate) first: u32,
     pub(crate) others: Vec<u32>,
 }
@@ -22,7 +21,7 @@ pub(crate) struct WorkItem<'a> {
 #[derive(Clone, Copy)]
 pub(crate) struct RequestItem<'a> {
     pub(crate) time: u32,
-    pub(crate) name: &'a Name,
+    pub(crate) name: Word<'a>,
     pub(crate) value: Option<u32>,
 }
 
@@ -36,8 +35,8 @@ pub(crate) struct Text<'a> {
 
 /// A further duration, and the tokens after it.
 #[tactic(auto, unfolding(crate::specs::Readers::other_at))]
-fn other(tokens: &[Spanned]) -> Result<(u32, &[Spanned]), ReadFault>
-    ensures { Gives (λ r. (r.0, bare r.1.now)) result (other_at (bare tokens.now)) }
+fn other(tokens: Tokens) -> Result<(u32, Tokens), ReadFault>
+    ensures { Gives (λ r. (r.0, ahead r.1)) result (other_at (ahead tokens.entry)) }
 {
     let tokens = mark(tokens, Mark::Comma)?;
     number(tokens)
@@ -45,8 +44,8 @@ fn other(tokens: &[Spanned]) -> Result<(u32, &[Spanned]), ReadFault>
 
 /// Further durations, as many as there are, and the tokens after them.
 #[tactic(auto, using(crate::proofs::Turns::other_steps))]
-fn others(alloc: Global, tokens: &[Spanned]) -> Result<(Vec<u32>, &[Spanned]), ReadFault>
-    ensures { Gives (λ r. (r.0.items, bare r.1.now)) result (others_at (bare tokens.now)) }
+fn others(alloc: Global, tokens: Tokens) -> Result<(Vec<u32>, Tokens), ReadFault>
+    ensures { Gives (λ r. (r.0.items, ahead r.1)) result (others_at (ahead tokens.entry)) }
 {
     let mut others = Vec::new(alloc);
     let mut rest = tokens;
@@ -62,9 +61,9 @@ fn others(alloc: Global, tokens: &[Spanned]) -> Result<(Vec<u32>, &[Spanned]), R
 #[tactic(auto, unfolding(crate::specs::Readers::work_at))]
 fn work<'a>(
     alloc: Global,
-    tokens: &'a [Spanned],
-) -> Result<(WorkItem<'a>, &'a [Spanned]), ReadFault>
-    ensures { Gives (λ r. (work_text r.0, bare r.1.now)) result (work_at (bare tokens.entry.now)) }
+    tokens: Tokens<'a>,
+) -> Result<(WorkItem<'a>, Tokens<'a>), ReadFault>
+    ensures { Gives (λ r. (work_text r.0, ahead r.1)) result (work_at (ahead tokens.entry)) }
 {
     let tokens = word(tokens, b"work")?;
     let (name, tokens) = any_word(tokens)?;
@@ -83,9 +82,9 @@ fn work<'a>(
 #[tactic(auto, using(crate::proofs::Turns::work_steps))]
 fn works<'a>(
     alloc: Global,
-    tokens: &'a [Spanned],
-) -> Result<(Vec<WorkItem<'a>>, &'a [Spanned]), ReadFault>
-    ensures { Gives (λ r. (map work_text r.0.items, bare r.1.now)) result (works_at (bare tokens.entry.now)) }
+    tokens: Tokens<'a>,
+) -> Result<(Vec<WorkItem<'a>>, Tokens<'a>), ReadFault>
+    ensures { Gives (λ r. (map work_text r.0.items, ahead r.1)) result (works_at (ahead tokens.entry)) }
 {
     let mut works = Vec::new(alloc);
     let mut rest = tokens;
@@ -99,8 +98,8 @@ fn works<'a>(
 
 /// The value that is first, where there is one, and the tokens after the end of its request.
 #[tactic(auto, unfolding(crate::specs::Readers::value_at, crate::specs::Readers::some_at, crate::specs::Readers::none_at))]
-fn value(tokens: &[Spanned]) -> Result<(Option<u32>, &[Spanned]), ReadFault>
-    ensures { Gives (λ r. (r.0, bare r.1.now)) result (value_at (bare tokens.now)) }
+fn value(tokens: Tokens) -> Result<(Option<u32>, Tokens), ReadFault>
+    ensures { Gives (λ r. (r.0, ahead r.1)) result (value_at (ahead tokens.entry)) }
 {
     if next_is_number(tokens) {
         let (value, tokens) = number(tokens)?;
@@ -114,8 +113,8 @@ fn value(tokens: &[Spanned]) -> Result<(Option<u32>, &[Spanned]), ReadFault>
 
 /// A request from outside, and the tokens after it.
 #[tactic(auto, unfolding(crate::specs::Readers::request_at))]
-fn request<'a>(tokens: &'a [Spanned]) -> Result<(RequestItem<'a>, &'a [Spanned]), ReadFault>
-    ensures { Gives (λ r. (request_text r.0, bare r.1.now)) result (request_at (bare tokens.entry.now)) }
+fn request<'a>(tokens: Tokens<'a>) -> Result<(RequestItem<'a>, Tokens<'a>), ReadFault>
+    ensures { Gives (λ r. (request_text r.0, ahead r.1)) result (request_at (ahead tokens.entry)) }
 {
     let tokens = word(tokens, b"at")?;
     let (time, tokens) = number(tokens)?;
@@ -128,9 +127,9 @@ fn request<'a>(tokens: &'a [Spanned]) -> Result<(RequestItem<'a>, &'a [Spanned])
 #[tactic(auto, using(crate::proofs::Turns::request_steps))]
 fn requests<'a>(
     alloc: Global,
-    tokens: &'a [Spanned],
-) -> Result<(Vec<RequestItem<'a>>, &'a [Spanned]), ReadFault>
-    ensures { Gives (λ r. (map request_text r.0.items, bare r.1.now)) result (requests_at (bare tokens.entry.now)) }
+    tokens: Tokens<'a>,
+) -> Result<(Vec<RequestItem<'a>>, Tokens<'a>), ReadFault>
+    ensures { Gives (λ r. (map request_text r.0.items, ahead r.1)) result (requests_at (ahead tokens.entry)) }
 {
     let mut requests = Vec::new(alloc);
     let mut rest = tokens;
@@ -144,8 +143,8 @@ fn requests<'a>(
 
 /// The horizon, and the tokens after it.
 #[tactic(auto, unfolding(crate::specs::Readers::until_at))]
-fn until(tokens: &[Spanned]) -> Result<(u32, &[Spanned]), ReadFault>
-    ensures { Gives (λ r. (r.0, bare r.1.now)) result (until_at (bare tokens.now)) }
+fn until(tokens: Tokens) -> Result<(u32, Tokens), ReadFault>
+    ensures { Gives (λ r. (r.0, ahead r.1)) result (until_at (ahead tokens.entry)) }
 {
     let tokens = word(tokens, b"until")?;
     let (until, tokens) = number(tokens)?;
@@ -156,8 +155,8 @@ fn until(tokens: &[Spanned]) -> Result<(u32, &[Spanned]), ReadFault>
 /// The arrivals that these are all the tokens of. `Syntax` comes where they are of none, with the tokens that were left; `NoMemory`
 /// comes for want of memory.
 #[tactic(auto, unfolding(crate::specs::Readers::arrivals_at), using(crate::proofs::Turns::end_steps))]
-pub(crate) fn whole<'a>(alloc: Global, tokens: &'a [Spanned]) -> Result<Text<'a>, ReadFault>
-    ensures { GivesWhole text_of result (whole_at arrivals_at (bare tokens.entry.now)) }
+pub(crate) fn whole<'a>(alloc: Global, tokens: Tokens<'a>) -> Result<Text<'a>, ReadFault>
+    ensures { GivesWhole text_of result (whole_at arrivals_at (ahead tokens.entry)) }
 {
     let (until, tokens) = until(tokens)?;
     let (works, tokens) = works(alloc, tokens)?;

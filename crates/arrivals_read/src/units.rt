@@ -2,12 +2,14 @@ ghost use Rattle.std.specs.Prelude.{◌≡◌, ◌<◌, None, Some, IfOk, OnOk, 
 ghost use Rattle.seq_tree.specs.Names.{Name as NameTree, same_name};
 ghost use Rattle.ada_tree.specs.Trees.{program_of, unit_of};
 ghost use Rattle.arrivals_tree.specs.ArrivalTexts.{unit_place};
+ghost use Rattle.token_read.specs.Lexemes.{word_bytes};
 ghost use Rattle.arrivals_read.specs.Tables.{first_place, place_in};
 
 use ada_tree::{AdaProgram, Unit};
 use seq_tree::{Name, NoMemory};
 use std::alloc::Global;
 use std::collections::BTreeMap;
+use token_read::Word;
 
 /// A table of names: for each the place that was put last.
 #[derive(Drop)]
@@ -28,10 +30,10 @@ impl<'a> Places<'a> {
 
     /// The place of a name, where it has one.
     #[tactic(auto, unfolding(crate::specs::Tables::place_in))]
-    fn get(&self, name: &Name) -> Option<u32>
+    fn get(&self, name: &[u8]) -> Option<u32>
         ensures { result ≡ place_in self.now name.now }
     {
-        match self.map.get(name.bytes()) {
+        match self.map.get(name) {
             None => None,
             Some(place) => Some(*place),
         }
@@ -72,10 +74,11 @@ impl<'a> Units<'a> {
     }
 
     /// The place of the first unit of a name, and the number of units where there is none.
-    pub(crate) fn place(&self, name: &Name) -> u32
-        ensures { result ≡ unit_place (program_of self.now.program.now) name.now }
+    pub(crate) fn place(&self, name: Word) -> u32
+        ensures { result ≡ unit_place (program_of self.now.program.now) (word_bytes name.entry) }
     {
-        match self.places.get(name) {
+        let folded = name.folded();
+        match self.places.get(folded.bytes()) {
             None => self.program.units.len() as u32,
             Some(place) => place,
         }

@@ -2,7 +2,7 @@ ghost use Rattle.std.specs.Prelude.{◌≡◌, codes, map, option_map};
 ghost use Rattle.seq_tree.specs.Trees.{block_of};
 ghost use Rattle.ods_tree.specs.Trees.{body_of};
 ghost use Rattle.ods_tree.specs.Words.{is_design_name};
-ghost use Rattle.token_read.specs.Words.{bare};
+ghost use Rattle.token_read.specs.Ahead.{ahead};
 ghost use Rattle.seq_read.specs.Halts.{Gives};
 ghost use Rattle.seq_read.specs.Statements.{block_at};
 ghost use Rattle.ods_read.specs.Readers.{body_at, bodies_at, activation_at, thread_at};
@@ -11,22 +11,22 @@ use crate::names::name;
 use crate::sections::locals;
 use ods_tree::OpBody;
 use seq_read::{Halt, Text, end_of, word};
-use seq_tree::{Block, Spanned};
+use seq_tree::Block;
 use std::alloc::Global;
-use token_read::next_is_word;
+use token_read::{Tokens, next_is_word};
 
 /// The longest block at the front, inside which constructs nest at most `deeper` deep, and the tokens after it.
 #[tactic(auto, unfolding(seq_read::specs::Names::may_name))]
-fn block(alloc: Global, tokens: &[Spanned], deeper: u32) -> Result<(Block, &[Spanned]), Halt>
-    ensures { Gives (λ r. (block_of r.0, bare r.1.now)) result (block_at is_design_name 32 deeper (bare tokens.now)) }
+fn block(alloc: Global, tokens: Tokens, deeper: u32) -> Result<(Block, Tokens), Halt>
+    ensures { Gives (λ r. (block_of r.0, ahead r.1)) result (block_at is_design_name 32 deeper (ahead tokens.entry)) }
 {
     seq_read::block(alloc, tokens, Text::Design, deeper)
 }
 
 /// The body of an operation, and the tokens after it.
 #[tactic(auto, unfolding(crate::specs::Readers::body_at))]
-fn body(alloc: Global, tokens: &[Spanned], deeper: u32) -> Result<(OpBody, &[Spanned]), Halt>
-    ensures { Gives (λ r. (body_of r.0, bare r.1.now)) result (body_at (block_at is_design_name 32 deeper) (bare tokens.now)) }
+fn body(alloc: Global, tokens: Tokens, deeper: u32) -> Result<(OpBody, Tokens), Halt>
+    ensures { Gives (λ r. (body_of r.0, ahead r.1)) result (body_at (block_at is_design_name 32 deeper) (ahead tokens.entry)) }
 {
     let tokens = word(tokens, b"operation")?;
     let (name, tokens) = name(alloc, tokens)?;
@@ -47,10 +47,10 @@ fn body(alloc: Global, tokens: &[Spanned], deeper: u32) -> Result<(OpBody, &[Spa
 #[tactic(auto, using(crate::proofs::ListSteps::body_steps))]
 pub(crate) fn bodies(
     alloc: Global,
-    tokens: &[Spanned],
+    tokens: Tokens,
     deeper: u32,
-) -> Result<(Vec<OpBody>, &[Spanned]), Halt>
-    ensures { Gives (λ r. (map body_of r.0.items, bare r.1.now)) result (bodies_at (block_at is_design_name 32 deeper) (bare tokens.now)) }
+) -> Result<(Vec<OpBody>, Tokens), Halt>
+    ensures { Gives (λ r. (map body_of r.0.items, ahead r.1)) result (bodies_at (block_at is_design_name 32 deeper) (ahead tokens.entry)) }
 {
     let mut bodies = Vec::new(alloc);
     let mut rest = tokens;
@@ -66,10 +66,10 @@ pub(crate) fn bodies(
 #[tactic(auto, unfolding(crate::specs::Readers::thread_at, crate::specs::Readers::activation_at))]
 pub(crate) fn thread(
     alloc: Global,
-    tokens: &[Spanned],
+    tokens: Tokens,
     deeper: u32,
-) -> Result<(Option<Block>, &[Spanned]), Halt>
-    ensures { Gives (λ r. (option_map block_of r.0, bare r.1.now)) result (thread_at (block_at is_design_name 32 deeper) (bare tokens.now)) }
+) -> Result<(Option<Block>, Tokens), Halt>
+    ensures { Gives (λ r. (option_map block_of r.0, ahead r.1)) result (thread_at (block_at is_design_name 32 deeper) (ahead tokens.entry)) }
 {
     if next_is_word(tokens, b"thread") {
         let tokens = word(tokens, b"thread")?;

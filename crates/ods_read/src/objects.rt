@@ -1,6 +1,6 @@
 ghost use Rattle.std.specs.Prelude.{◌≡◌, codes, map};
 ghost use Rattle.ods_tree.specs.Trees.{tree_of, trees_of};
-ghost use Rattle.token_read.specs.Words.{bare};
+ghost use Rattle.token_read.specs.Ahead.{ahead};
 ghost use Rattle.seq_read.specs.Halts.{Gives};
 ghost use Rattle.ods_read.specs.ObjectReaders.{over_at, tree_at, tree_list_at, children_at};
 ghost use Rattle.ods_read.specs.Nesting.{inside_at};
@@ -13,14 +13,13 @@ use crate::sections::{data, implements};
 use crate::values::kind;
 use ods_tree::Node;
 use seq_read::{Halt, end_of, word};
-use seq_tree::Spanned;
 use std::alloc::Global;
-use token_read::next_is_word;
+use token_read::{Tokens, next_is_word};
 
 /// The fault where no object may nest any more.
 #[tactic(auto, unfolding(crate::specs::ObjectReaders::over_at))]
-fn over(tokens: &[Spanned]) -> Result<(Vec<Node>, &[Spanned]), Halt>
-    ensures { Gives (λ r. (trees_of (map tree_of r.0.items), bare r.1.now)) result (over_at (bare tokens.now)) }
+fn over(tokens: Tokens) -> Result<(Vec<Node>, Tokens), Halt>
+    ensures { Gives (λ r. (trees_of (map tree_of r.0.items), ahead r.1)) result (over_at (ahead tokens.entry)) }
 {
     if next_is_word(tokens, b"object") {
         Err(Halt::TooDeep(tokens.len()))
@@ -34,11 +33,11 @@ fn over(tokens: &[Spanned]) -> Result<(Vec<Node>, &[Spanned]), Halt>
 #[tactic(auto, using(crate::proofs::ObjectSteps::list_steps))]
 fn object_list(
     alloc: Global,
-    tokens: &[Spanned],
+    tokens: Tokens,
     units: bool,
     deeper: u32,
-) -> Result<(Vec<Node>, &[Spanned]), Halt>
-    ensures { Gives (λ r. (trees_of (map tree_of r.0.items), bare r.1.now)) result (tree_list_at (tree_at units 32 deeper) (bare tokens.now)) }
+) -> Result<(Vec<Node>, Tokens), Halt>
+    ensures { Gives (λ r. (trees_of (map tree_of r.0.items), ahead r.1)) result (tree_list_at (tree_at units 32 deeper) (ahead tokens.entry)) }
 {
     let (head, mut rest) = object(alloc, tokens, units, deeper)?;
     let mut nodes = Vec::new(alloc);
@@ -55,11 +54,11 @@ fn object_list(
 #[cycle(objects)]
 fn inside(
     alloc: Global,
-    tokens: &[Spanned],
+    tokens: Tokens,
     units: bool,
     deeper: u32,
-) -> Result<(Vec<Node>, &[Spanned]), Halt>
-    ensures { Gives (λ r. (trees_of (map tree_of r.0.items), bare r.1.now)) result (inside_at units deeper (bare tokens.now)) }
+) -> Result<(Vec<Node>, Tokens), Halt>
+    ensures { Gives (λ r. (trees_of (map tree_of r.0.items), ahead r.1)) result (inside_at units deeper (ahead tokens.entry)) }
 {
     match deeper.checked_sub(1) {
         None => over(tokens),
@@ -72,11 +71,11 @@ fn inside(
 #[tactic(auto, unfolding(crate::specs::ObjectReaders::children_at))]
 fn children(
     alloc: Global,
-    tokens: &[Spanned],
+    tokens: Tokens,
     units: bool,
     deeper: u32,
-) -> Result<(Vec<Node>, &[Spanned]), Halt>
-    ensures { Gives (λ r. (trees_of (map tree_of r.0.items), bare r.1.now)) result (children_at (inside_at units deeper) (bare tokens.now)) }
+) -> Result<(Vec<Node>, Tokens), Halt>
+    ensures { Gives (λ r. (trees_of (map tree_of r.0.items), ahead r.1)) result (children_at (inside_at units deeper) (ahead tokens.entry)) }
 {
     if next_is_word(tokens, b"objects") {
         let tokens = word(tokens, b"objects")?;
@@ -94,11 +93,11 @@ fn children(
 #[tactic(auto, unfolding(crate::specs::ObjectReaders::object_at), using(crate::proofs::ObjectSteps::object_steps))]
 pub(crate) fn object(
     alloc: Global,
-    tokens: &[Spanned],
+    tokens: Tokens,
     units: bool,
     deeper: u32,
-) -> Result<(Node, &[Spanned]), Halt>
-    ensures { Gives (λ r. (tree_of r.0, bare r.1.now)) result (tree_at units 32 deeper (bare tokens.now)) }
+) -> Result<(Node, Tokens), Halt>
+    ensures { Gives (λ r. (tree_of r.0, ahead r.1)) result (tree_at units 32 deeper (ahead tokens.entry)) }
 {
     let tokens = word(tokens, b"object")?;
     let (name, tokens) = name(alloc, tokens)?;

@@ -9,7 +9,7 @@ use ods_tree::Design;
 use seq_read::{Halt, place_of};
 use seq_tree::TextFault;
 use std::alloc::Global;
-use token_read::{LexFault, tokens};
+use token_read::{LexFault, Tokens};
 
 /// The most bytes that a design may have.
 const MOST_BYTES: usize = 1_048_576;
@@ -41,17 +41,17 @@ pub fn read_design(alloc: Global, bytes: &[u8]) -> Result<Design, TextFault>
     if bytes.len() > MOST_BYTES {
         return Err(TextFault::FileTooLong);
     }
-    match tokens(alloc, bytes) {
+    match Tokens::of(bytes) {
         Err(fault) => Err(misread(fault)),
-        Ok(found) => match whole(alloc, &found) {
+        Ok(found) => match whole(alloc, found) {
             Ok(design) => Ok(design),
             Err(Halt::NoMemory) => Err(TextFault::NoMemory),
             Err(Halt::Syntax(left)) => {
-                let place = place_of(bytes, &found, left);
+                let place = place_of(bytes, found, left);
                 Err(TextFault::Syntax(place))
             }
             Err(Halt::TooDeep(left)) => {
-                let place = place_of(bytes, &found, left);
+                let place = place_of(bytes, found, left);
                 Err(TextFault::TooDeep(place))
             }
         },

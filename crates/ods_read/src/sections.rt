@@ -1,5 +1,5 @@
 ghost use Rattle.std.specs.Prelude.{◌≡◌, codes};
-ghost use Rattle.token_read.specs.Words.{bare};
+ghost use Rattle.token_read.specs.Ahead.{ahead};
 ghost use Rattle.seq_read.specs.Halts.{Gives};
 ghost use Rattle.ods_read.specs.Heads.{data_from_at};
 ghost use Rattle.ods_read.specs.Readers.{datum_at, locals_at, datum_list_at, data_at, link_at, link_list_at, implements_at};
@@ -7,22 +7,22 @@ ghost use Rattle.ods_read.specs.Readers.{datum_at, locals_at, datum_list_at, dat
 use crate::names::{name, next_is_name, op_name};
 use ods_tree::Link;
 use seq_read::{Halt, Text, mark, word};
-use seq_tree::{Datum, Mark, Spanned};
+use seq_tree::{Datum, Mark};
 use std::alloc::Global;
-use token_read::next_is_word;
+use token_read::{Tokens, next_is_word};
 
 /// Local variables, as many as there are, and the tokens after them.
 #[tactic(auto, unfolding(seq_read::specs::Names::may_name, seq_read::specs::Parts::data_at, seq_read::specs::Parts::datum_at, crate::specs::Readers::locals_at, crate::specs::Readers::datum_at))]
-pub(crate) fn locals(alloc: Global, tokens: &[Spanned]) -> Result<(Vec<Datum>, &[Spanned]), Halt>
-    ensures { Gives (λ r. (r.0.items, bare r.1.now)) result (locals_at (bare tokens.now)) }
+pub(crate) fn locals(alloc: Global, tokens: Tokens) -> Result<(Vec<Datum>, Tokens), Halt>
+    ensures { Gives (λ r. (r.0.items, ahead r.1)) result (locals_at (ahead tokens.entry)) }
 {
     seq_read::data(alloc, tokens, Text::Design)
 }
 
 /// A variable with its first value, and the tokens after it.
 #[tactic(auto, unfolding(seq_read::specs::Names::may_name, seq_read::specs::Parts::datum_at, crate::specs::Readers::datum_at))]
-fn datum(alloc: Global, tokens: &[Spanned]) -> Result<(Datum, &[Spanned]), Halt>
-    ensures { Gives (λ r. (r.0, bare r.1.now)) result (datum_at (bare tokens.now)) }
+fn datum(alloc: Global, tokens: Tokens) -> Result<(Datum, Tokens), Halt>
+    ensures { Gives (λ r. (r.0, ahead r.1)) result (datum_at (ahead tokens.entry)) }
 {
     seq_read::datum(alloc, tokens, Text::Design)
 }
@@ -31,18 +31,18 @@ fn datum(alloc: Global, tokens: &[Spanned]) -> Result<(Datum, &[Spanned]), Halt>
 #[tactic(auto, unfolding(seq_read::specs::Names::may_name, seq_read::specs::Parts::more_data_at, seq_read::specs::Parts::data_at, seq_read::specs::Parts::datum_at, crate::specs::Readers::datum_at, crate::specs::Readers::locals_at, crate::specs::Heads::data_from_at))]
 fn more_data(
     alloc: Global,
-    tokens: &[Spanned],
+    tokens: Tokens,
     front: Vec<Datum>,
-) -> Result<(Vec<Datum>, &[Spanned]), Halt>
-    ensures { Gives (λ r. (r.0.items, bare r.1.now)) result (data_from_at front.items (bare tokens.now)) }
+) -> Result<(Vec<Datum>, Tokens), Halt>
+    ensures { Gives (λ r. (r.0.items, ahead r.1)) result (data_from_at front.items (ahead tokens.entry)) }
 {
     seq_read::more_data(alloc, tokens, Text::Design, front)
 }
 
 /// Data, one at least, and the tokens after them.
 #[tactic(auto, unfolding(crate::specs::Readers::datum_list_at, crate::specs::Readers::locals_at, crate::specs::Heads::data_from_at))]
-fn datum_list(alloc: Global, tokens: &[Spanned]) -> Result<(Vec<Datum>, &[Spanned]), Halt>
-    ensures { Gives (λ r. (r.0.items, bare r.1.now)) result (datum_list_at (bare tokens.now)) }
+fn datum_list(alloc: Global, tokens: Tokens) -> Result<(Vec<Datum>, Tokens), Halt>
+    ensures { Gives (λ r. (r.0.items, ahead r.1)) result (datum_list_at (ahead tokens.entry)) }
 {
     let (head, tokens) = datum(alloc, tokens)?;
     let mut vars = Vec::new(alloc);
@@ -52,8 +52,8 @@ fn datum_list(alloc: Global, tokens: &[Spanned]) -> Result<(Vec<Datum>, &[Spanne
 
 /// The data of an object, none where it has no section of them, and the tokens after them.
 #[tactic(auto, unfolding(crate::specs::Readers::data_at))]
-pub(crate) fn data(alloc: Global, tokens: &[Spanned]) -> Result<(Vec<Datum>, &[Spanned]), Halt>
-    ensures { Gives (λ r. (r.0.items, bare r.1.now)) result (data_at (bare tokens.now)) }
+pub(crate) fn data(alloc: Global, tokens: Tokens) -> Result<(Vec<Datum>, Tokens), Halt>
+    ensures { Gives (λ r. (r.0.items, ahead r.1)) result (data_at (ahead tokens.entry)) }
 {
     if next_is_word(tokens, b"data") {
         let tokens = word(tokens, b"data")?;
@@ -65,8 +65,8 @@ pub(crate) fn data(alloc: Global, tokens: &[Spanned]) -> Result<(Vec<Datum>, &[S
 
 /// A link from an operation to that of an object inside, and the tokens after it.
 #[tactic(auto, unfolding(crate::specs::Readers::link_at))]
-fn link(alloc: Global, tokens: &[Spanned]) -> Result<(Link, &[Spanned]), Halt>
-    ensures { Gives (λ r. (r.0, bare r.1.now)) result (link_at (bare tokens.now)) }
+fn link(alloc: Global, tokens: Tokens) -> Result<(Link, Tokens), Halt>
+    ensures { Gives (λ r. (r.0, ahead r.1)) result (link_at (ahead tokens.entry)) }
 {
     let (op, tokens) = name(alloc, tokens)?;
     let tokens = word(tokens, b"by")?;
@@ -77,8 +77,8 @@ fn link(alloc: Global, tokens: &[Spanned]) -> Result<(Link, &[Spanned]), Halt>
 
 /// Links, one at least, and the tokens after them.
 #[tactic(auto, unfolding(crate::specs::Readers::link_list_at), using(crate::proofs::ListSteps::link_steps))]
-fn link_list(alloc: Global, tokens: &[Spanned]) -> Result<(Vec<Link>, &[Spanned]), Halt>
-    ensures { Gives (λ r. (r.0.items, bare r.1.now)) result (link_list_at (bare tokens.now)) }
+fn link_list(alloc: Global, tokens: Tokens) -> Result<(Vec<Link>, Tokens), Halt>
+    ensures { Gives (λ r. (r.0.items, ahead r.1)) result (link_list_at (ahead tokens.entry)) }
 {
     let (head, mut rest) = link(alloc, tokens)?;
     let mut links = Vec::new(alloc);
@@ -93,8 +93,8 @@ fn link_list(alloc: Global, tokens: &[Spanned]) -> Result<(Vec<Link>, &[Spanned]
 
 /// The links of an object, none where it has no section of them, and the tokens after them.
 #[tactic(auto, unfolding(crate::specs::Readers::implements_at))]
-pub(crate) fn implements(alloc: Global, tokens: &[Spanned]) -> Result<(Vec<Link>, &[Spanned]), Halt>
-    ensures { Gives (λ r. (r.0.items, bare r.1.now)) result (implements_at (bare tokens.now)) }
+pub(crate) fn implements(alloc: Global, tokens: Tokens) -> Result<(Vec<Link>, Tokens), Halt>
+    ensures { Gives (λ r. (r.0.items, ahead r.1)) result (implements_at (ahead tokens.entry)) }
 {
     if next_is_word(tokens, b"implements") {
         let tokens = word(tokens, b"implements")?;

@@ -1,13 +1,13 @@
 ghost use Rattle.std.specs.Prelude.{◌≡◌, codes};
 ghost use Rattle.grammar.specs.Reading.{first};
-ghost use Rattle.token_read.specs.Words.{bare};
+ghost use Rattle.token_read.specs.Ahead.{ahead};
 ghost use Rattle.seq_read.specs.Halts.{Gives};
 ghost use Rattle.seq_read.specs.Parts.{named_at};
 ghost use Rattle.ods_read.specs.Readers.{next_by, kind_named, key_named, constraint_named, constraint_at, unit_named, unit_at};
 
 use ods_tree::{AttrKey, Constraint, Kind, TickUnit};
 use seq_read::{Halt, any_word};
-use seq_tree::{Spanned, Token};
+use token_read::{Lexeme, Tokens};
 
 /// The kind of an object that a word stands for, where it does so.
 #[tactic(auto, unfolding(crate::specs::Readers::kind_named))]
@@ -87,11 +87,12 @@ fn unit_named(name: &[u8]) -> Option<TickUnit>
 
 /// The kind of an object, and the tokens after it.
 #[tactic(auto, unfolding(seq_read::specs::Parts::named_at, token_read::specs::Readers::word_at))]
-pub(crate) fn kind(tokens: &[Spanned]) -> Result<(Kind, &[Spanned]), Halt>
-    ensures { Gives (λ r. (r.0, bare r.1.now)) result (named_at kind_named (bare tokens.now)) }
+pub(crate) fn kind(tokens: Tokens) -> Result<(Kind, Tokens), Halt>
+    ensures { Gives (λ r. (r.0, ahead r.1)) result (named_at kind_named (ahead tokens.entry)) }
 {
     let (word, rest) = any_word(tokens)?;
-    match kind_named(word.bytes()) {
+    let folded = word.folded();
+    match kind_named(folded.bytes()) {
         Some(kind) => Ok((kind, rest)),
         None => Err(Halt::Syntax(tokens.len())),
     }
@@ -99,11 +100,12 @@ pub(crate) fn kind(tokens: &[Spanned]) -> Result<(Kind, &[Spanned]), Halt>
 
 /// What an attribute states, and the tokens after it.
 #[tactic(auto, unfolding(seq_read::specs::Parts::named_at, token_read::specs::Readers::word_at))]
-pub(crate) fn key(tokens: &[Spanned]) -> Result<(AttrKey, &[Spanned]), Halt>
-    ensures { Gives (λ r. (r.0, bare r.1.now)) result (named_at key_named (bare tokens.now)) }
+pub(crate) fn key(tokens: Tokens) -> Result<(AttrKey, Tokens), Halt>
+    ensures { Gives (λ r. (r.0, ahead r.1)) result (named_at key_named (ahead tokens.entry)) }
 {
     let (word, rest) = any_word(tokens)?;
-    match key_named(word.bytes()) {
+    let folded = word.folded();
+    match key_named(folded.bytes()) {
         Some(key) => Ok((key, rest)),
         None => Err(Halt::Syntax(tokens.len())),
     }
@@ -111,41 +113,38 @@ pub(crate) fn key(tokens: &[Spanned]) -> Result<(AttrKey, &[Spanned]), Halt>
 
 /// A unit of time, and the tokens after it.
 #[tactic(auto, unfolding(seq_read::specs::Parts::named_at, token_read::specs::Readers::word_at))]
-pub(crate) fn unit(tokens: &[Spanned]) -> Result<(TickUnit, &[Spanned]), Halt>
-    ensures { Gives (λ r. (r.0, bare r.1.now)) result (named_at unit_named (bare tokens.now)) }
+pub(crate) fn unit(tokens: Tokens) -> Result<(TickUnit, Tokens), Halt>
+    ensures { Gives (λ r. (r.0, ahead r.1)) result (named_at unit_named (ahead tokens.entry)) }
 {
     let (word, rest) = any_word(tokens)?;
-    match unit_named(word.bytes()) {
+    let folded = word.folded();
+    match unit_named(folded.bytes()) {
         Some(unit) => Ok((unit, rest)),
         None => Err(Halt::Syntax(tokens.len())),
     }
 }
 
 /// Whether an attribute is next.
-pub(crate) fn next_is_key(tokens: &[Spanned]) -> bool
-    ensures { result ≡ next_by key_named (first (bare tokens.now)) }
+pub(crate) fn next_is_key(tokens: Tokens) -> bool
+    ensures { result ≡ next_by key_named (first (ahead tokens.entry)) }
 {
-    let Some(spanned) = tokens.first() else {
+    let Some(Lexeme::Word(word)) = tokens.first() else {
         return false;
     };
-    match &spanned.token {
-        Token::Word(name) => key_named(name.bytes()).is_some(),
-        _ => false,
-    }
+    let folded = word.folded();
+    key_named(folded.bytes()).is_some()
 }
 
 /// A constraint where one is next, and the tokens after it.
 #[tactic(auto, unfolding(crate::specs::Readers::constraint_at, seq_read::specs::Parts::named_at))]
-pub(crate) fn constraint(tokens: &[Spanned]) -> Result<(Option<Constraint>, &[Spanned]), Halt>
-    ensures { Gives (λ r. (r.0, bare r.1.now)) result (constraint_at (bare tokens.now)) }
+pub(crate) fn constraint(tokens: Tokens) -> Result<(Option<Constraint>, Tokens), Halt>
+    ensures { Gives (λ r. (r.0, ahead r.1)) result (constraint_at (ahead tokens.entry)) }
 {
-    let Some((spanned, rest)) = tokens.split_first() else {
+    let Some((Lexeme::Word(word), rest)) = tokens.split_first() else {
         return Ok((None, tokens));
     };
-    let Token::Word(name) = &spanned.token else {
-        return Ok((None, tokens));
-    };
-    match constraint_named(name.bytes()) {
+    let folded = word.folded();
+    match constraint_named(folded.bytes()) {
         Some(constraint) => Ok((Some(constraint), rest)),
         None => Ok((None, tokens)),
     }
@@ -154,21 +153,19 @@ pub(crate) fn constraint(tokens: &[Spanned]) -> Result<(Option<Constraint>, &[Sp
 /// A unit of time where one is next and units may stand, and the tokens after it.
 #[tactic(auto, unfolding(crate::specs::Readers::unit_at, seq_read::specs::Parts::named_at))]
 pub(crate) fn unit_after(
-    tokens: &[Spanned],
+    tokens: Tokens,
     units: bool,
-) -> Result<(Option<TickUnit>, &[Spanned]), Halt>
-    ensures { Gives (λ r. (r.0, bare r.1.now)) result (unit_at units (bare tokens.now)) }
+) -> Result<(Option<TickUnit>, Tokens), Halt>
+    ensures { Gives (λ r. (r.0, ahead r.1)) result (unit_at units (ahead tokens.entry)) }
 {
     if !units {
         return Ok((None, tokens));
     }
-    let Some((spanned, rest)) = tokens.split_first() else {
+    let Some((Lexeme::Word(word), rest)) = tokens.split_first() else {
         return Ok((None, tokens));
     };
-    let Token::Word(name) = &spanned.token else {
-        return Ok((None, tokens));
-    };
-    match unit_named(name.bytes()) {
+    let folded = word.folded();
+    match unit_named(folded.bytes()) {
         Some(unit) => Ok((Some(unit), rest)),
         None => Ok((None, tokens)),
     }

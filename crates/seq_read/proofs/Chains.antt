@@ -1,13 +1,10 @@
 -- Chains of operators, one operator after another.
 use Rattle.std.proofs.Common.{◌≡◌, ℕ, zero, suc, ◌<◌, ◌-◌, Bool, true, false, cond, List, length, Option, Ok, Err, refl, sym, ap, ◌∙◌, arith}
-use Rattle.std.proofs.lemmas.List.{length-map}
 use Rattle.grammar.specs.Reading.{Halt, TooDeep, Read, first, token_at, ◌>>=◌}
 use Rattle.seq_tree.specs.Names.{Name}
 use Rattle.seq_tree.specs.Expressions.{Expression, Binary}
 use Rattle.seq_tree.specs.declared.tree.BinOp.{BinOp}
 use Rattle.seq_tree.specs.declared.token.Token.{Token}
-use Rattle.seq_tree.specs.declared.token.Spanned.{Spanned}
-use Rattle.token_read.specs.Words.{bare}
 use Rattle.seq_read.specs.declared.operators.Class.{Class}
 use Rattle.seq_read.specs.declared.operators.Class.TheVariants.{Multiplying, Adding, Relational, And, Or, Xor}
 use Rattle.seq_read.specs.Operators.{begins, sees_operator, logical_class}
@@ -49,10 +46,10 @@ pub chain-fails : (class : Class) (operand : ExpressionReader) (n : ℕ) (e : Ex
     binary_at class operand e ts ≡ Err halt → chain_at class operand n e ts ≡ Err halt
 chain-fails class operand n e ts halt h t b = chain-next class operand n e ts h t ∙ ap (λ q. q >>= λ z. chain_at class operand (n - 1) z.0 z.1) b
 
-pub chain-full : (class : Class) (operand : ExpressionReader) (n : ℕ) (e : Expression) (ts : List Spanned) → n ≡ 0 → begins class (first (bare ts)) ≡ true →
-    chain_at class operand n e (bare ts) ≡ Err (TooDeep (length ts))
+pub chain-full : (class : Class) (operand : ExpressionReader) (n : ℕ) (e : Expression) (ts : List Token) → n ≡ 0 → begins class (first ts) ≡ true →
+    chain_at class operand n e ts ≡ Err (TooDeep (length ts))
 unfolding chain_at
-chain-full class operand zero e ts h t = rw t (ap (λ k. Err (TooDeep k)) (length-map ts (λ (s : Spanned). s.token)))
+chain-full class operand zero e ts h t = rw t refl
 chain-full class operand (suc n) e ts h t = absurd (omega arith)
 
 pub chain-ends : (class : Class) (operand : ExpressionReader) (n : ℕ) (e : Expression) (ts : List Token) → begins class (first ts) ≡ false → chain_at class operand n e ts ≡ Ok (e, ts)

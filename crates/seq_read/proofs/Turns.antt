@@ -1,10 +1,7 @@
 -- Repetitions, one turn after another.
 use Rattle.std.proofs.Common.{◌≡◌, ℕ, zero, suc, ◌<◌, Bool, true, false, cond, List, [], ◌∷◌, ◌++◌, length, Option, Ok, Err, refl, sym, ap, ◌∙◌, arith, append_assoc, append-nil}
-use Rattle.std.proofs.lemmas.List.{length-map}
 use Rattle.grammar.specs.Reading.{Halt, Read, first, ◌>>=◌, many_at, from_at}
 use Rattle.seq_tree.specs.declared.token.Token.{Token}
-use Rattle.seq_tree.specs.declared.token.Spanned.{Spanned}
-use Rattle.token_read.specs.Words.{bare}
 use Rattle.seq_read.proofs.Takes.{Takes}
 
 -- as many as there are, behind those that are read already, and what follows
@@ -57,8 +54,7 @@ unfolding onward
 onward-ends test r follow front ts t = rw (t, append-nil) refl
 
 -- each turn takes a token
-pub turn-shorter : {A : Type 0} (r : List Token → Read Token A) (ts us : List Spanned) (a : A) → Takes 1 r → r (bare ts) ≡ Ok (a, bare us) → length us < length ts
-turn-shorter r ts us a one e =
-    omega (arith, one.fewer (bare ts) a (bare us) e, length-map ts (λ (s : Spanned). s.token), length-map us (λ (s : Spanned). s.token))
+pub turn-shorter : {A : Type 0} (r : List Token → Read Token A) (ts us : List Token) (a : A) → Takes 1 r → r ts ≡ Ok (a, us) → length us < length ts
+turn-shorter r ts us a one e = omega (arith, one.fewer ts a us e)
 
 pub ruleset turns_on = (onward-turn, onward-fails, onward-ends, turn-shorter)

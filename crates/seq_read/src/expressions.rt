@@ -1,6 +1,6 @@
 ghost use Rattle.std.specs.Prelude.{◌≡◌, codes};
 ghost use Rattle.seq_tree.specs.Trees.{expression_of};
-ghost use Rattle.token_read.specs.Words.{bare};
+ghost use Rattle.token_read.specs.Ahead.{ahead};
 ghost use Rattle.seq_read.specs.Halts.{Gives};
 ghost use Rattle.seq_read.specs.Names.{may_name};
 ghost use Rattle.seq_read.specs.Expressions.{literal_at, variable_at, primary_at, inverse_at, factor_at, chain_at, term_at, simple_at, comparison_at, relation_at, logic_at, expression_at};
@@ -10,14 +10,14 @@ use crate::halt::Halt;
 use crate::names::Text;
 use crate::operators::{Class, begins, logical_class, operator};
 use crate::tokens::{mark, name, number, word};
-use seq_tree::{Expr, Mark, Spanned};
+use seq_tree::{Expr, Mark};
 use std::alloc::Global;
-use token_read::{next_is_mark, next_is_number, next_is_word};
+use token_read::{Tokens, next_is_mark, next_is_number, next_is_word};
 
 /// A number.
 #[tactic(auto, unfolding(crate::specs::Expressions::literal_at))]
-fn literal(tokens: &[Spanned]) -> Result<(Expr, &[Spanned]), Halt>
-    ensures { Gives (λ r. (expression_of r.0, bare r.1.now)) result (literal_at (bare tokens.now)) }
+fn literal(tokens: Tokens) -> Result<(Expr, Tokens), Halt>
+    ensures { Gives (λ r. (expression_of r.0, ahead r.1)) result (literal_at (ahead tokens.entry)) }
 {
     let (value, tokens) = number(tokens)?;
     Ok((Expr::Number(value), tokens))
@@ -25,8 +25,8 @@ fn literal(tokens: &[Spanned]) -> Result<(Expr, &[Spanned]), Halt>
 
 /// A variable.
 #[tactic(auto, unfolding(crate::specs::Expressions::variable_at))]
-fn variable(alloc: Global, tokens: &[Spanned], text: Text) -> Result<(Expr, &[Spanned]), Halt>
-    ensures { Gives (λ r. (expression_of r.0, bare r.1.now)) result (variable_at (may_name text) (bare tokens.now)) }
+fn variable(alloc: Global, tokens: Tokens, text: Text) -> Result<(Expr, Tokens), Halt>
+    ensures { Gives (λ r. (expression_of r.0, ahead r.1)) result (variable_at (may_name text) (ahead tokens.entry)) }
 {
     let (variable, tokens) = name(alloc, tokens, text)?;
     Ok((Expr::Variable(variable), tokens))
@@ -37,11 +37,11 @@ fn variable(alloc: Global, tokens: &[Spanned], text: Text) -> Result<(Expr, &[Sp
 #[tactic(auto, unfolding(crate::specs::Expressions::paren_at))]
 fn paren(
     alloc: Global,
-    tokens: &[Spanned],
+    tokens: Tokens,
     text: Text,
     deeper: u32,
-) -> Result<(Expr, &[Spanned]), Halt>
-    ensures { Gives (λ r. (expression_of r.0, bare r.1.now)) result (opened_at (may_name text) 32 deeper (bare tokens.now)) }
+) -> Result<(Expr, Tokens), Halt>
+    ensures { Gives (λ r. (expression_of r.0, ahead r.1)) result (opened_at (may_name text) 32 deeper (ahead tokens.entry)) }
 {
     let Some(deeper) = deeper.checked_sub(1) else {
         return Err(Halt::TooDeep(tokens.len()));
@@ -57,11 +57,11 @@ fn paren(
 #[tactic(auto, unfolding(crate::specs::Expressions::primary_at))]
 fn primary(
     alloc: Global,
-    tokens: &[Spanned],
+    tokens: Tokens,
     text: Text,
     deeper: u32,
-) -> Result<(Expr, &[Spanned]), Halt>
-    ensures { Gives (λ r. (expression_of r.0, bare r.1.now)) result (primary_at (may_name text) (opened_at (may_name text) 32 deeper) (bare tokens.now)) }
+) -> Result<(Expr, Tokens), Halt>
+    ensures { Gives (λ r. (expression_of r.0, ahead r.1)) result (primary_at (may_name text) (opened_at (may_name text) 32 deeper) (ahead tokens.entry)) }
 {
     if next_is_mark(tokens, Mark::LeftParen) {
         paren(alloc, tokens, text, deeper)
@@ -77,11 +77,11 @@ fn primary(
 #[tactic(auto, unfolding(crate::specs::Expressions::inverse_at))]
 fn inverse(
     alloc: Global,
-    tokens: &[Spanned],
+    tokens: Tokens,
     text: Text,
     deeper: u32,
-) -> Result<(Expr, &[Spanned]), Halt>
-    ensures { Gives (λ r. (expression_of r.0, bare r.1.now)) result (inverse_at (may_name text) (opened_at (may_name text) 32 deeper) (bare tokens.now)) }
+) -> Result<(Expr, Tokens), Halt>
+    ensures { Gives (λ r. (expression_of r.0, ahead r.1)) result (inverse_at (may_name text) (opened_at (may_name text) 32 deeper) (ahead tokens.entry)) }
 {
     let tokens = word(tokens, b"not")?;
     let (inner, tokens) = primary(alloc, tokens, text, deeper)?;
@@ -93,11 +93,11 @@ fn inverse(
 #[tactic(auto, unfolding(crate::specs::Expressions::factor_at))]
 fn factor(
     alloc: Global,
-    tokens: &[Spanned],
+    tokens: Tokens,
     text: Text,
     deeper: u32,
-) -> Result<(Expr, &[Spanned]), Halt>
-    ensures { Gives (λ r. (expression_of r.0, bare r.1.now)) result (factor_at (may_name text) (opened_at (may_name text) 32 deeper) (bare tokens.now)) }
+) -> Result<(Expr, Tokens), Halt>
+    ensures { Gives (λ r. (expression_of r.0, ahead r.1)) result (factor_at (may_name text) (opened_at (may_name text) 32 deeper) (ahead tokens.entry)) }
 {
     if next_is_word(tokens, b"not") {
         inverse(alloc, tokens, text, deeper)
@@ -110,12 +110,12 @@ fn factor(
 #[cycle(levels)]
 fn operand(
     alloc: Global,
-    tokens: &[Spanned],
+    tokens: Tokens,
     text: Text,
     deeper: u32,
     class: Class,
-) -> Result<(Expr, &[Spanned]), Halt>
-    ensures { Gives (λ r. (expression_of r.0, bare r.1.now)) result (operand_at (may_name text) 32 (opened_at (may_name text) 32 deeper) class (bare tokens.now)) }
+) -> Result<(Expr, Tokens), Halt>
+    ensures { Gives (λ r. (expression_of r.0, ahead r.1)) result (operand_at (may_name text) 32 (opened_at (may_name text) 32 deeper) class (ahead tokens.entry)) }
 {
     match class {
         Class::Multiplying => factor(alloc, tokens, text, deeper),
@@ -130,12 +130,12 @@ fn operand(
 fn binary(
     alloc: Global,
     left: Expr,
-    tokens: &[Spanned],
+    tokens: Tokens,
     text: Text,
     deeper: u32,
     class: Class,
-) -> Result<(Expr, &[Spanned]), Halt>
-    ensures { Gives (λ r. (expression_of r.0, bare r.1.now)) result (binary_at class (operand_at (may_name text) 32 (opened_at (may_name text) 32 deeper) class) (expression_of left) (bare tokens.now)) }
+) -> Result<(Expr, Tokens), Halt>
+    ensures { Gives (λ r. (expression_of r.0, ahead r.1)) result (binary_at class (operand_at (may_name text) 32 (opened_at (may_name text) 32 deeper) class) (expression_of left) (ahead tokens.entry)) }
 {
     let (op, tokens) = operator(tokens, class)?;
     let (right, tokens) = operand(alloc, tokens, text, deeper, class)?;
@@ -150,12 +150,12 @@ fn binary(
 fn chain(
     alloc: Global,
     first: Expr,
-    tokens: &[Spanned],
+    tokens: Tokens,
     text: Text,
     deeper: u32,
     class: Class,
-) -> Result<(Expr, &[Spanned]), Halt>
-    ensures { Gives (λ r. (expression_of r.0, bare r.1.now)) result (chain_at class (operand_at (may_name text) 32 (opened_at (may_name text) 32 deeper) class) 32 (expression_of first) (bare tokens.now)) }
+) -> Result<(Expr, Tokens), Halt>
+    ensures { Gives (λ r. (expression_of r.0, ahead r.1)) result (chain_at class (operand_at (may_name text) 32 (opened_at (may_name text) 32 deeper) class) 32 (expression_of first) (ahead tokens.entry)) }
 {
     let mut left = first;
     let mut rest = tokens;
@@ -177,11 +177,11 @@ fn chain(
 #[tactic(auto, unfolding(crate::specs::Expressions::term_at))]
 fn term(
     alloc: Global,
-    tokens: &[Spanned],
+    tokens: Tokens,
     text: Text,
     deeper: u32,
-) -> Result<(Expr, &[Spanned]), Halt>
-    ensures { Gives (λ r. (expression_of r.0, bare r.1.now)) result (term_at (may_name text) 32 (opened_at (may_name text) 32 deeper) (bare tokens.now)) }
+) -> Result<(Expr, Tokens), Halt>
+    ensures { Gives (λ r. (expression_of r.0, ahead r.1)) result (term_at (may_name text) 32 (opened_at (may_name text) 32 deeper) (ahead tokens.entry)) }
 {
     let (first, tokens) = factor(alloc, tokens, text, deeper)?;
     chain(alloc, first, tokens, text, deeper, Class::Multiplying)
@@ -192,11 +192,11 @@ fn term(
 #[tactic(auto, unfolding(crate::specs::Expressions::simple_at))]
 fn simple(
     alloc: Global,
-    tokens: &[Spanned],
+    tokens: Tokens,
     text: Text,
     deeper: u32,
-) -> Result<(Expr, &[Spanned]), Halt>
-    ensures { Gives (λ r. (expression_of r.0, bare r.1.now)) result (simple_at (may_name text) 32 (opened_at (may_name text) 32 deeper) (bare tokens.now)) }
+) -> Result<(Expr, Tokens), Halt>
+    ensures { Gives (λ r. (expression_of r.0, ahead r.1)) result (simple_at (may_name text) 32 (opened_at (may_name text) 32 deeper) (ahead tokens.entry)) }
 {
     let (first, tokens) = term(alloc, tokens, text, deeper)?;
     chain(alloc, first, tokens, text, deeper, Class::Adding)
@@ -207,11 +207,11 @@ fn simple(
 #[tactic(auto, unfolding(crate::specs::Expressions::relation_at, crate::specs::Expressions::comparison_at))]
 fn relation(
     alloc: Global,
-    tokens: &[Spanned],
+    tokens: Tokens,
     text: Text,
     deeper: u32,
-) -> Result<(Expr, &[Spanned]), Halt>
-    ensures { Gives (λ r. (expression_of r.0, bare r.1.now)) result (relation_at (may_name text) 32 (opened_at (may_name text) 32 deeper) (bare tokens.now)) }
+) -> Result<(Expr, Tokens), Halt>
+    ensures { Gives (λ r. (expression_of r.0, ahead r.1)) result (relation_at (may_name text) 32 (opened_at (may_name text) 32 deeper) (ahead tokens.entry)) }
 {
     let (left, tokens) = simple(alloc, tokens, text, deeper)?;
     if begins(tokens, Class::Relational) {
@@ -229,11 +229,11 @@ fn relation(
 #[tactic(auto, using(crate::proofs::Chains::expression_steps))]
 pub fn expression(
     alloc: Global,
-    tokens: &[Spanned],
+    tokens: Tokens,
     text: Text,
     deeper: u32,
-) -> Result<(Expr, &[Spanned]), Halt>
-    ensures { Gives (λ r. (expression_of r.0, bare r.1.now)) result (expression_at (may_name text) 32 deeper (bare tokens.now)) }
+) -> Result<(Expr, Tokens), Halt>
+    ensures { Gives (λ r. (expression_of r.0, ahead r.1)) result (expression_at (may_name text) 32 deeper (ahead tokens.entry)) }
 {
     let (first, tokens) = relation(alloc, tokens, text, deeper)?;
     chain(alloc, first, tokens, text, deeper, logical_class(tokens))

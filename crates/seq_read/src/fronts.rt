@@ -9,6 +9,7 @@ use crate::names::Text;
 use crate::statements::block;
 use seq_tree::{Block, Expr, Spanned};
 use std::alloc::Global;
+use token_read::Tokens;
 
 /// How many constructs may stand in one another.
 const MOST_NESTING: u32 = 64;
@@ -39,7 +40,8 @@ pub fn read_block(
     ensures { SaysBlock depth from (drop from (bare tokens.now)) result }
 {
     let (_, front) = tokens.split_at(from);
-    match block(alloc, front, Text::Plain, MOST_NESTING - depth) {
+    let here = Tokens::listed(front);
+    match block(alloc, here, Text::Plain, MOST_NESTING - depth) {
         Ok((block, rest)) => Ok((block, tokens.len().saturating_sub(rest.len()))),
         Err(halt) => Err(told(tokens.len(), halt)),
     }
@@ -58,7 +60,8 @@ pub fn read_expr(
     ensures { SaysExpression depth from (drop from (bare tokens.now)) result }
 {
     let (_, front) = tokens.split_at(from);
-    match expression(alloc, front, Text::Plain, MOST_NESTING - depth) {
+    let here = Tokens::listed(front);
+    match expression(alloc, here, Text::Plain, MOST_NESTING - depth) {
         Ok((expr, rest)) => Ok((expr, tokens.len().saturating_sub(rest.len()))),
         Err(halt) => Err(told(tokens.len(), halt)),
     }

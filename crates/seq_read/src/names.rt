@@ -1,12 +1,13 @@
 ghost use Rattle.std.specs.Prelude.{◌≡◌};
 ghost use Rattle.grammar.specs.Reading.{first};
 ghost use Rattle.seq_tree.specs.Proper.{is_block_name};
-ghost use Rattle.token_read.specs.Words.{bare};
+ghost use Rattle.token_read.specs.Ahead.{ahead};
+ghost use Rattle.token_read.specs.Lexemes.{word_bytes};
 ghost use Rattle.seq_read.specs.Names.{may_name};
 ghost use Rattle.seq_read.specs.Statements.{next_is_name};
 
-use seq_tree::{Name, Spanned, Token};
 use words::{is_ada_name, is_among, is_design_name};
+use token_read::{Lexeme, Tokens, Word};
 
 /// The words of blocks and expressions.
 const WORDS: [&str; 20] = [
@@ -34,26 +35,27 @@ fn is_block_name(name: &[u8]) -> bool
 
 /// Whether a word may be a name in this kind of text.
 #[tactic(auto, unfolding(crate::specs::Names::may_name))]
-pub fn may_name(word: &Name, text: Text) -> bool
-    ensures { result ≡ may_name text word.now }
+pub fn may_name(word: Word, text: Text) -> bool
+    ensures { result ≡ may_name text (word_bytes word.entry) }
 {
+    let folded = word.folded();
     match text {
-        Text::Plain => is_block_name(word.bytes()),
-        Text::Ada => is_ada_name(word.bytes()),
-        Text::Design => is_design_name(word.bytes()),
+        Text::Plain => is_block_name(folded.bytes()),
+        Text::Ada => is_ada_name(folded.bytes()),
+        Text::Design => is_design_name(folded.bytes()),
     }
 }
 
 /// Whether a word is next that may be a name in this kind of text.
 #[tactic(auto, unfolding(crate::specs::Statements::next_is_name))]
-pub fn next_is_name(tokens: &[Spanned], text: Text) -> bool
-    ensures { result ≡ next_is_name (may_name text) (first (bare tokens.now)) }
+pub fn next_is_name(tokens: Tokens, text: Text) -> bool
+    ensures { result ≡ next_is_name (may_name text) (first (ahead tokens.entry)) }
 {
-    let Some(spanned) = tokens.first() else {
+    let Some(lexeme) = tokens.first() else {
         return false;
     };
-    match &spanned.token {
-        Token::Word(name) => may_name(name, text),
+    match lexeme {
+        Lexeme::Word(word) => may_name(word, text),
         _ => false,
     }
 }

@@ -1,5 +1,5 @@
 ghost use Rattle.std.specs.Prelude.{◌≡◌, codes};
-ghost use Rattle.token_read.specs.Words.{bare};
+ghost use Rattle.token_read.specs.Ahead.{ahead};
 ghost use Rattle.token_read.specs.Readers.{phrase_at};
 ghost use Rattle.seq_read.specs.Halts.{Gives};
 ghost use Rattle.seq_read.specs.Names.{may_name};
@@ -8,13 +8,13 @@ ghost use Rattle.seq_read.specs.Parts.{end_tokens, mode_named, named_at, param_a
 use crate::halt::Halt;
 use crate::names::{Text, next_is_name};
 use crate::tokens::{any_word, mark, name, number, word};
-use seq_tree::{Datum, Mark, Mode, Param, Spanned};
+use seq_tree::{Datum, Mark, Mode, Param};
 use std::alloc::Global;
-use token_read::next_is_mark;
+use token_read::{Tokens, next_is_mark};
 
 /// The tokens after a closing `end`, the word behind it and a semicolon.
-pub fn end_of<'a>(tokens: &'a [Spanned], text: &[u8]) -> Result<&'a [Spanned], Halt>
-    ensures { Gives (λ r. (tt, bare r.now)) result (phrase_at (end_tokens text.now) (bare tokens.entry.now)) }
+pub fn end_of<'a>(tokens: Tokens<'a>, text: &[u8]) -> Result<Tokens<'a>, Halt>
+    ensures { Gives (λ r. (tt, ahead r)) result (phrase_at (end_tokens text.now) (ahead tokens.entry)) }
 {
     let tokens = word(tokens, b"end")?;
     let tokens = word(tokens, text)?;
@@ -37,11 +37,12 @@ fn mode_named(name: &[u8]) -> Option<Mode>
 
 /// The mode that is first, and the tokens after it.
 #[tactic(auto, unfolding(crate::specs::Parts::named_at, token_read::specs::Readers::word_at))]
-fn mode(tokens: &[Spanned]) -> Result<(Mode, &[Spanned]), Halt>
-    ensures { Gives (λ r. (r.0, bare r.1.now)) result (named_at mode_named (bare tokens.now)) }
+fn mode(tokens: Tokens) -> Result<(Mode, Tokens), Halt>
+    ensures { Gives (λ r. (r.0, ahead r.1)) result (named_at mode_named (ahead tokens.entry)) }
 {
     let (word, rest) = any_word(tokens)?;
-    match mode_named(word.bytes()) {
+    let folded = word.folded();
+    match mode_named(folded.bytes()) {
         Some(mode) => Ok((mode, rest)),
         None => Err(Halt::Syntax(tokens.len())),
     }
@@ -49,8 +50,8 @@ fn mode(tokens: &[Spanned]) -> Result<(Mode, &[Spanned]), Halt>
 
 /// A parameter, `name : mode word`, and the tokens after it.
 #[tactic(auto, unfolding(crate::specs::Parts::param_at))]
-pub fn param(alloc: Global, tokens: &[Spanned], text: Text) -> Result<(Param, &[Spanned]), Halt>
-    ensures { Gives (λ r. (r.0, bare r.1.now)) result (param_at (may_name text) (bare tokens.now)) }
+pub fn param(alloc: Global, tokens: Tokens, text: Text) -> Result<(Param, Tokens), Halt>
+    ensures { Gives (λ r. (r.0, ahead r.1)) result (param_at (may_name text) (ahead tokens.entry)) }
 {
     let (name, tokens) = name(alloc, tokens, text)?;
     let tokens = mark(tokens, Mark::Colon)?;
@@ -61,8 +62,8 @@ pub fn param(alloc: Global, tokens: &[Spanned], text: Text) -> Result<(Param, &[
 
 /// A further parameter, and the tokens after it.
 #[tactic(auto, unfolding(crate::specs::Parts::more_param_at))]
-fn more_param(alloc: Global, tokens: &[Spanned], text: Text) -> Result<(Param, &[Spanned]), Halt>
-    ensures { Gives (λ r. (r.0, bare r.1.now)) result (more_param_at (may_name text) (bare tokens.now)) }
+fn more_param(alloc: Global, tokens: Tokens, text: Text) -> Result<(Param, Tokens), Halt>
+    ensures { Gives (λ r. (r.0, ahead r.1)) result (more_param_at (may_name text) (ahead tokens.entry)) }
 {
     let tokens = mark(tokens, Mark::Semicolon)?;
     param(alloc, tokens, text)
@@ -72,11 +73,11 @@ fn more_param(alloc: Global, tokens: &[Spanned], text: Text) -> Result<(Param, &
 #[tactic(auto, using(crate::proofs::PartSteps::param_steps))]
 pub fn params_from(
     alloc: Global,
-    tokens: &[Spanned],
+    tokens: Tokens,
     text: Text,
     head: Param,
-) -> Result<(Vec<Param>, &[Spanned]), Halt>
-    ensures { Gives (λ r. (r.0.items, bare r.1.now)) result (params_from_at (may_name text) head (bare tokens.now)) }
+) -> Result<(Vec<Param>, Tokens), Halt>
+    ensures { Gives (λ r. (r.0.items, ahead r.1)) result (params_from_at (may_name text) head (ahead tokens.entry)) }
 {
     let mut params = Vec::new(alloc);
     params.push(head)?;
@@ -91,8 +92,8 @@ pub fn params_from(
 
 /// A variable with its first value, `name : word := number;`, and the tokens after it.
 #[tactic(auto, unfolding(crate::specs::Parts::datum_at))]
-pub fn datum(alloc: Global, tokens: &[Spanned], text: Text) -> Result<(Datum, &[Spanned]), Halt>
-    ensures { Gives (λ r. (r.0, bare r.1.now)) result (datum_at (may_name text) (bare tokens.now)) }
+pub fn datum(alloc: Global, tokens: Tokens, text: Text) -> Result<(Datum, Tokens), Halt>
+    ensures { Gives (λ r. (r.0, ahead r.1)) result (datum_at (may_name text) (ahead tokens.entry)) }
 {
     let (name, tokens) = name(alloc, tokens, text)?;
     let tokens = mark(tokens, Mark::Colon)?;
@@ -107,11 +108,11 @@ pub fn datum(alloc: Global, tokens: &[Spanned], text: Text) -> Result<(Datum, &[
 #[tactic(auto, using(crate::proofs::PartSteps::datum_steps))]
 pub fn more_data(
     alloc: Global,
-    tokens: &[Spanned],
+    tokens: Tokens,
     text: Text,
     front: Vec<Datum>,
-) -> Result<(Vec<Datum>, &[Spanned]), Halt>
-    ensures { Gives (λ r. (r.0.items, bare r.1.now)) result (more_data_at (may_name text) front.items (bare tokens.now)) }
+) -> Result<(Vec<Datum>, Tokens), Halt>
+    ensures { Gives (λ r. (r.0.items, ahead r.1)) result (more_data_at (may_name text) front.items (ahead tokens.entry)) }
 {
     let mut data = front;
     let mut rest = tokens;
@@ -125,8 +126,8 @@ pub fn more_data(
 
 /// Variables, as many as there are, and the tokens after them.
 #[tactic(auto, using(crate::proofs::PartSteps::data_steps))]
-pub fn data(alloc: Global, tokens: &[Spanned], text: Text) -> Result<(Vec<Datum>, &[Spanned]), Halt>
-    ensures { Gives (λ r. (r.0.items, bare r.1.now)) result (data_at (may_name text) (bare tokens.now)) }
+pub fn data(alloc: Global, tokens: Tokens, text: Text) -> Result<(Vec<Datum>, Tokens), Halt>
+    ensures { Gives (λ r. (r.0.items, ahead r.1)) result (data_at (may_name text) (ahead tokens.entry)) }
 {
     more_data(alloc, tokens, text, Vec::new(alloc))
 }

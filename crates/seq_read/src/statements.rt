@@ -1,7 +1,7 @@
 ghost use Rattle.std.specs.Prelude.{◌≡◌, codes, map, option_map};
 ghost use Rattle.grammar.specs.Reading.{first};
 ghost use Rattle.seq_tree.specs.Trees.{arm_of, block_of, expression_of, otherwise, statement_of};
-ghost use Rattle.token_read.specs.Words.{bare};
+ghost use Rattle.token_read.specs.Ahead.{ahead};
 ghost use Rattle.seq_read.specs.Halts.{Gives};
 ghost use Rattle.seq_read.specs.Names.{may_name};
 ghost use Rattle.seq_read.specs.Expressions.{expression_at};
@@ -12,9 +12,9 @@ use crate::expressions::expression;
 use crate::halt::Halt;
 use crate::names::{Text, next_is_name};
 use crate::tokens::{mark, name, number, word};
-use seq_tree::{Arm, Block, Expr, Mark, Name, Spanned, Stmt};
+use seq_tree::{Arm, Block, Expr, Mark, Name, Stmt};
 use std::alloc::Global;
-use token_read::{next_is_mark, next_is_word};
+use token_read::{Tokens, next_is_mark, next_is_word};
 
 /// The kinds of statements, by how they begin.
 #[derive(Clone, Copy, Debug, PartialEq, Eq)]
@@ -31,8 +31,8 @@ pub(crate) enum Kind {
 
 /// The kind of statement that the next token begins: by its word, or by a name.
 #[tactic(auto, unfolding(crate::specs::Statements::kind_of))]
-fn kind_of(tokens: &[Spanned]) -> Kind
-    ensures { result ≡ kind_of (first (bare tokens.now)) }
+fn kind_of(tokens: Tokens) -> Kind
+    ensures { result ≡ kind_of (first (ahead tokens.entry)) }
 {
     if next_is_word(tokens, b"null") {
         Kind::Null
@@ -53,8 +53,8 @@ fn kind_of(tokens: &[Spanned]) -> Kind
 
 /// Whether a statement is next.
 #[tactic(auto, unfolding(crate::specs::Statements::begins_statement))]
-fn begins_statement(tokens: &[Spanned], text: Text) -> bool
-    ensures { result ≡ begins_statement (may_name text) (first (bare tokens.now)) }
+fn begins_statement(tokens: Tokens, text: Text) -> bool
+    ensures { result ≡ begins_statement (may_name text) (first (ahead tokens.entry)) }
 {
     match kind_of(tokens) {
         Kind::Named => next_is_name(tokens, text),
@@ -64,8 +64,8 @@ fn begins_statement(tokens: &[Spanned], text: Text) -> bool
 
 /// `null;`
 #[tactic(auto, unfolding(crate::specs::Statements::null_at))]
-fn null(tokens: &[Spanned]) -> Result<(Stmt, &[Spanned]), Halt>
-    ensures { Gives (λ r. (statement_of r.0, bare r.1.now)) result (null_at (bare tokens.now)) }
+fn null(tokens: Tokens) -> Result<(Stmt, Tokens), Halt>
+    ensures { Gives (λ r. (statement_of r.0, ahead r.1)) result (null_at (ahead tokens.entry)) }
 {
     let tokens = word(tokens, b"null")?;
     let tokens = mark(tokens, Mark::Semicolon)?;
@@ -74,8 +74,8 @@ fn null(tokens: &[Spanned]) -> Result<(Stmt, &[Spanned]), Halt>
 
 /// `work (n);`
 #[tactic(auto, unfolding(crate::specs::Statements::work_at))]
-fn work(tokens: &[Spanned]) -> Result<(Stmt, &[Spanned]), Halt>
-    ensures { Gives (λ r. (statement_of r.0, bare r.1.now)) result (work_at (bare tokens.now)) }
+fn work(tokens: Tokens) -> Result<(Stmt, Tokens), Halt>
+    ensures { Gives (λ r. (statement_of r.0, ahead r.1)) result (work_at (ahead tokens.entry)) }
 {
     let tokens = word(tokens, b"work")?;
     let tokens = mark(tokens, Mark::LeftParen)?;
@@ -89,11 +89,11 @@ fn work(tokens: &[Spanned]) -> Result<(Stmt, &[Spanned]), Halt>
 #[tactic(auto, unfolding(crate::specs::Statements::put_at))]
 fn put(
     alloc: Global,
-    tokens: &[Spanned],
+    tokens: Tokens,
     text: Text,
     deeper: u32,
-) -> Result<(Stmt, &[Spanned]), Halt>
-    ensures { Gives (λ r. (statement_of r.0, bare r.1.now)) result (put_at (expression_at (may_name text) 32 deeper) (bare tokens.now)) }
+) -> Result<(Stmt, Tokens), Halt>
+    ensures { Gives (λ r. (statement_of r.0, ahead r.1)) result (put_at (expression_at (may_name text) 32 deeper) (ahead tokens.entry)) }
 {
     let tokens = word(tokens, b"put")?;
     let tokens = mark(tokens, Mark::LeftParen)?;
@@ -107,11 +107,11 @@ fn put(
 #[tactic(auto, unfolding(crate::specs::Statements::exit_at))]
 fn exit(
     alloc: Global,
-    tokens: &[Spanned],
+    tokens: Tokens,
     text: Text,
     deeper: u32,
-) -> Result<(Stmt, &[Spanned]), Halt>
-    ensures { Gives (λ r. (statement_of r.0, bare r.1.now)) result (exit_at (expression_at (may_name text) 32 deeper) (bare tokens.now)) }
+) -> Result<(Stmt, Tokens), Halt>
+    ensures { Gives (λ r. (statement_of r.0, ahead r.1)) result (exit_at (expression_at (may_name text) 32 deeper) (ahead tokens.entry)) }
 {
     let tokens = word(tokens, b"exit")?;
     let tokens = word(tokens, b"when")?;
@@ -125,11 +125,11 @@ fn exit(
 fn assignment(
     alloc: Global,
     target: Name,
-    tokens: &[Spanned],
+    tokens: Tokens,
     text: Text,
     deeper: u32,
-) -> Result<(Stmt, &[Spanned]), Halt>
-    ensures { Gives (λ r. (statement_of r.0, bare r.1.now)) result (assignment_at (expression_at (may_name text) 32 deeper) target (bare tokens.now)) }
+) -> Result<(Stmt, Tokens), Halt>
+    ensures { Gives (λ r. (statement_of r.0, ahead r.1)) result (assignment_at (expression_at (may_name text) 32 deeper) target (ahead tokens.entry)) }
 {
     let tokens = mark(tokens, Mark::Becomes)?;
     let (value, tokens) = expression(alloc, tokens, text, deeper)?;
@@ -141,11 +141,11 @@ fn assignment(
 #[tactic(auto, unfolding(crate::specs::Statements::further_at))]
 fn further(
     alloc: Global,
-    tokens: &[Spanned],
+    tokens: Tokens,
     text: Text,
     deeper: u32,
-) -> Result<(Expr, &[Spanned]), Halt>
-    ensures { Gives (λ r. (expression_of r.0, bare r.1.now)) result (further_at (expression_at (may_name text) 32 deeper) (bare tokens.now)) }
+) -> Result<(Expr, Tokens), Halt>
+    ensures { Gives (λ r. (expression_of r.0, ahead r.1)) result (further_at (expression_at (may_name text) 32 deeper) (ahead tokens.entry)) }
 {
     let tokens = mark(tokens, Mark::Comma)?;
     expression(alloc, tokens, text, deeper)
@@ -155,11 +155,11 @@ fn further(
 #[tactic(auto, unfolding(crate::specs::Statements::list_at), using(crate::proofs::ActualSteps::actual_steps))]
 fn list(
     alloc: Global,
-    tokens: &[Spanned],
+    tokens: Tokens,
     text: Text,
     deeper: u32,
-) -> Result<(Vec<Expr>, &[Spanned]), Halt>
-    ensures { Gives (λ r. (map expression_of r.0.items, bare r.1.now)) result (list_at (expression_at (may_name text) 32 deeper) (bare tokens.now)) }
+) -> Result<(Vec<Expr>, Tokens), Halt>
+    ensures { Gives (λ r. (map expression_of r.0.items, ahead r.1)) result (list_at (expression_at (may_name text) 32 deeper) (ahead tokens.entry)) }
 {
     let opened = mark(tokens, Mark::LeftParen)?;
     let (head, mut rest) = expression(alloc, opened, text, deeper)?;
@@ -178,11 +178,11 @@ fn list(
 #[tactic(auto, unfolding(crate::specs::Statements::actuals_at))]
 fn actuals(
     alloc: Global,
-    tokens: &[Spanned],
+    tokens: Tokens,
     text: Text,
     deeper: u32,
-) -> Result<(Vec<Expr>, &[Spanned]), Halt>
-    ensures { Gives (λ r. (map expression_of r.0.items, bare r.1.now)) result (actuals_at (expression_at (may_name text) 32 deeper) (bare tokens.now)) }
+) -> Result<(Vec<Expr>, Tokens), Halt>
+    ensures { Gives (λ r. (map expression_of r.0.items, ahead r.1)) result (actuals_at (expression_at (may_name text) 32 deeper) (ahead tokens.entry)) }
 {
     if next_is_mark(tokens, Mark::LeftParen) {
         list(alloc, tokens, text, deeper)
@@ -196,11 +196,11 @@ fn actuals(
 fn call(
     alloc: Global,
     object: Name,
-    tokens: &[Spanned],
+    tokens: Tokens,
     text: Text,
     deeper: u32,
-) -> Result<(Stmt, &[Spanned]), Halt>
-    ensures { Gives (λ r. (statement_of r.0, bare r.1.now)) result (call_at (may_name text) (expression_at (may_name text) 32 deeper) object (bare tokens.now)) }
+) -> Result<(Stmt, Tokens), Halt>
+    ensures { Gives (λ r. (statement_of r.0, ahead r.1)) result (call_at (may_name text) (expression_at (may_name text) 32 deeper) object (ahead tokens.entry)) }
 {
     let tokens = mark(tokens, Mark::Dot)?;
     let (op, tokens) = name(alloc, tokens, text)?;
@@ -220,11 +220,11 @@ fn call(
 #[tactic(auto, unfolding(crate::specs::Statements::named_at))]
 fn named(
     alloc: Global,
-    tokens: &[Spanned],
+    tokens: Tokens,
     text: Text,
     deeper: u32,
-) -> Result<(Stmt, &[Spanned]), Halt>
-    ensures { Gives (λ r. (statement_of r.0, bare r.1.now)) result (named_at (may_name text) (expression_at (may_name text) 32 deeper) (bare tokens.now)) }
+) -> Result<(Stmt, Tokens), Halt>
+    ensures { Gives (λ r. (statement_of r.0, ahead r.1)) result (named_at (may_name text) (expression_at (may_name text) 32 deeper) (ahead tokens.entry)) }
 {
     let (first, tokens) = name(alloc, tokens, text)?;
     if next_is_mark(tokens, Mark::Becomes) {
@@ -239,11 +239,11 @@ fn named(
 #[tactic(auto, unfolding(crate::specs::Statements::guarded_at))]
 fn guarded(
     alloc: Global,
-    tokens: &[Spanned],
+    tokens: Tokens,
     text: Text,
     deeper: u32,
-) -> Result<(Arm, &[Spanned]), Halt>
-    ensures { Gives (λ r. (arm_of r.0, bare r.1.now)) result (guarded_at (expression_at (may_name text) 32 deeper) (block_at (may_name text) 32 deeper) (bare tokens.now)) }
+) -> Result<(Arm, Tokens), Halt>
+    ensures { Gives (λ r. (arm_of r.0, ahead r.1)) result (guarded_at (expression_at (may_name text) 32 deeper) (block_at (may_name text) 32 deeper) (ahead tokens.entry)) }
 {
     let (cond, tokens) = expression(alloc, tokens, text, deeper)?;
     let tokens = word(tokens, b"then")?;
@@ -256,11 +256,11 @@ fn guarded(
 #[tactic(auto, unfolding(crate::specs::Statements::arm_at))]
 fn arm(
     alloc: Global,
-    tokens: &[Spanned],
+    tokens: Tokens,
     text: Text,
     deeper: u32,
-) -> Result<(Arm, &[Spanned]), Halt>
-    ensures { Gives (λ r. (arm_of r.0, bare r.1.now)) result (arm_at (expression_at (may_name text) 32 deeper) (block_at (may_name text) 32 deeper) (bare tokens.now)) }
+) -> Result<(Arm, Tokens), Halt>
+    ensures { Gives (λ r. (arm_of r.0, ahead r.1)) result (arm_at (expression_at (may_name text) 32 deeper) (block_at (may_name text) 32 deeper) (ahead tokens.entry)) }
 {
     let tokens = word(tokens, b"elsif")?;
     guarded(alloc, tokens, text, deeper)
@@ -271,11 +271,11 @@ fn arm(
 #[tactic(auto, unfolding(crate::specs::Statements::otherwise_at, crate::specs::Statements::else_at))]
 fn other(
     alloc: Global,
-    tokens: &[Spanned],
+    tokens: Tokens,
     text: Text,
     deeper: u32,
-) -> Result<(Option<Block>, &[Spanned]), Halt>
-    ensures { Gives (λ r. (otherwise (option_map block_of r.0), bare r.1.now)) result (otherwise_at (block_at (may_name text) 32 deeper) (bare tokens.now)) }
+) -> Result<(Option<Block>, Tokens), Halt>
+    ensures { Gives (λ r. (otherwise (option_map block_of r.0), ahead r.1)) result (otherwise_at (block_at (may_name text) 32 deeper) (ahead tokens.entry)) }
 {
     if next_is_word(tokens, b"else") {
         let tokens = word(tokens, b"else")?;
@@ -291,11 +291,11 @@ fn other(
 #[tactic(auto, unfolding(crate::specs::Statements::if_at), using(crate::proofs::BlockSteps::branch_steps))]
 fn conditional(
     alloc: Global,
-    tokens: &[Spanned],
+    tokens: Tokens,
     text: Text,
     deeper: u32,
-) -> Result<(Stmt, &[Spanned]), Halt>
-    ensures { Gives (λ r. (statement_of r.0, bare r.1.now)) result (if_at (expression_at (may_name text) 32 deeper) (block_at (may_name text) 32 deeper) (bare tokens.now)) }
+) -> Result<(Stmt, Tokens), Halt>
+    ensures { Gives (λ r. (statement_of r.0, ahead r.1)) result (if_at (expression_at (may_name text) 32 deeper) (block_at (may_name text) 32 deeper) (ahead tokens.entry)) }
 {
     let begun = word(tokens, b"if")?;
     let (head, mut rest) = guarded(alloc, begun, text, deeper)?;
@@ -318,11 +318,11 @@ fn conditional(
 #[cycle(nesting)]
 fn branching(
     alloc: Global,
-    tokens: &[Spanned],
+    tokens: Tokens,
     text: Text,
     deeper: u32,
-) -> Result<(Stmt, &[Spanned]), Halt>
-    ensures { Gives (λ r. (statement_of r.0, bare r.1.now)) result (branching_at (may_name text) 32 deeper (bare tokens.now)) }
+) -> Result<(Stmt, Tokens), Halt>
+    ensures { Gives (λ r. (statement_of r.0, ahead r.1)) result (branching_at (may_name text) 32 deeper (ahead tokens.entry)) }
 {
     match deeper.checked_sub(1) {
         None => Err(Halt::TooDeep(tokens.len())),
@@ -335,11 +335,11 @@ fn branching(
 #[tactic(auto, unfolding(crate::specs::Statements::for_at))]
 fn looping(
     alloc: Global,
-    tokens: &[Spanned],
+    tokens: Tokens,
     text: Text,
     deeper: u32,
-) -> Result<(Stmt, &[Spanned]), Halt>
-    ensures { Gives (λ r. (statement_of r.0, bare r.1.now)) result (looping_at (may_name text) 32 deeper (bare tokens.now)) }
+) -> Result<(Stmt, Tokens), Halt>
+    ensures { Gives (λ r. (statement_of r.0, ahead r.1)) result (looping_at (may_name text) 32 deeper (ahead tokens.entry)) }
 {
     let Some(deeper) = deeper.checked_sub(1) else {
         return Err(Halt::TooDeep(tokens.len()));
@@ -373,12 +373,12 @@ fn looping(
 #[tactic(auto, unfolding(crate::specs::Statements::statement_with))]
 fn of_kind(
     alloc: Global,
-    tokens: &[Spanned],
+    tokens: Tokens,
     text: Text,
     deeper: u32,
     kind: Kind,
-) -> Result<(Stmt, &[Spanned]), Halt>
-    ensures { Gives (λ r. (statement_of r.0, bare r.1.now)) result (statement_with (may_name text) (expression_at (may_name text) 32 deeper) (branching_at (may_name text) 32 deeper) (looping_at (may_name text) 32 deeper) kind (bare tokens.now)) }
+) -> Result<(Stmt, Tokens), Halt>
+    ensures { Gives (λ r. (statement_of r.0, ahead r.1)) result (statement_with (may_name text) (expression_at (may_name text) 32 deeper) (branching_at (may_name text) 32 deeper) (looping_at (may_name text) 32 deeper) kind (ahead tokens.entry)) }
 {
     match kind {
         Kind::Null => null(tokens),
@@ -396,11 +396,11 @@ fn of_kind(
 #[tactic(auto, using(crate::proofs::BlockSteps::statement_whole))]
 fn statement(
     alloc: Global,
-    tokens: &[Spanned],
+    tokens: Tokens,
     text: Text,
     deeper: u32,
-) -> Result<(Stmt, &[Spanned]), Halt>
-    ensures { Gives (λ r. (statement_of r.0, bare r.1.now)) result (statement_at (may_name text) 32 deeper (bare tokens.now)) }
+) -> Result<(Stmt, Tokens), Halt>
+    ensures { Gives (λ r. (statement_of r.0, ahead r.1)) result (statement_at (may_name text) 32 deeper (ahead tokens.entry)) }
 {
     of_kind(alloc, tokens, text, deeper, kind_of(tokens))
 }
@@ -413,11 +413,11 @@ fn statement(
 #[tactic(auto, unfolding(crate::specs::Statements::block_with), using(crate::proofs::BlockSteps::block_steps))]
 pub fn block(
     alloc: Global,
-    tokens: &[Spanned],
+    tokens: Tokens,
     text: Text,
     deeper: u32,
-) -> Result<(Block, &[Spanned]), Halt>
-    ensures { Gives (λ r. (block_of r.0, bare r.1.now)) result (block_at (may_name text) 32 deeper (bare tokens.now)) }
+) -> Result<(Block, Tokens), Halt>
+    ensures { Gives (λ r. (block_of r.0, ahead r.1)) result (block_at (may_name text) 32 deeper (ahead tokens.entry)) }
 {
     let (head, mut rest) = statement(alloc, tokens, text, deeper)?;
     let mut stmts = Vec::new(alloc);

@@ -33,7 +33,7 @@ step place (Some t) (Ok others) = refl
 step place t (Err e) = refl
 
 -- the definition as an equation: the first token, and the tokens of what is left
-tokens-cons : (place : Place) (c : ℕ) (cs : List ℕ) (f : Front) → front_by (start_of c cs) place (c ∷ cs) ≡ Ok f → 0 < f.len → tokens_after 0 place (c ∷ cs) ≡ with_front (with_token f.token place []) (tokens_after 0 (place_past place (take f.len (c ∷ cs))) (drop f.len (c ∷ cs)))
+pub tokens-cons : (place : Place) (c : ℕ) (cs : List ℕ) (f : Front) → front_by (start_of c cs) place (c ∷ cs) ≡ Ok f → 0 < f.len → tokens_after 0 place (c ∷ cs) ≡ with_front (with_token f.token place []) (tokens_after 0 (place_past place (take f.len (c ∷ cs))) (drop f.len (c ∷ cs)))
 unfolding tokens_after
 tokens-cons place c cs f e h =
     let one : f.len ≡ suc (f.len - 1) = omega arith in

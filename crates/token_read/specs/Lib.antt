@@ -1,5 +1,8 @@
 pub mod Outcomes
 pub mod Places
+pub mod Lexemes
 pub mod Fronts
 pub mod Words
+pub mod Behind
+pub mod Ahead
 pub mod Readers

@@ -1,4 +1,4 @@
-ghost use Rattle.std.specs.Prelude.{◌≡◌, ◌+◌, ◌<◌, ◌≤◌, ◌∷◌, [], IfOk, length};
+ghost use Rattle.std.specs.Prelude.{◌≡◌, ◌+◌, ◌<◌, ◌≤◌, ◌∷◌, [], IfErr, IfOk, length};
 ghost use Rattle.std.specs.List.{prefix_len};
 ghost use Rattle.seq_tree.specs.Lexis.{Other, front_by, is_not_line_feed, mark_front, name_front, number_front, start_of};
 ghost use Rattle.seq_tree.specs.Marks.{mark_of};
@@ -7,42 +7,43 @@ ghost use Rattle.token_read.specs.Outcomes.{Gives};
 ghost use Rattle.token_read.specs.Places.{Fits};
 
 use crate::fault::LexFault;
+use crate::lexemes::{Lexeme, Raw, Word};
 use crate::marks::{double, single};
 use crate::numbers::number_value;
 use crate::places::place_past;
-use seq_tree::{Name, Part, Place, Token, run_len};
-use std::alloc::Global;
+use seq_tree::{Part, Place, run_len};
 
 /// What stands at the front of a text: a token, or white space or a comment, and its length in bytes.
-#[derive(Drop, Debug)]
-pub(crate) struct Front {
-    pub token: Option<Token>,
+#[derive(Clone, Copy, Debug)]
+pub(crate) struct Front<'a> {
+    pub token: Option<Lexeme<'a>>,
     pub len: usize,
 }
 
 /// The name with these bytes at a place.
 #[tactic(auto, unfolding(seq_tree::specs::Lexis::name_front))]
-fn name_front(alloc: Global, place: Place, name: &[u8]) -> Result<Front, LexFault>
+fn name_front<'a>(place: Place, name: &'a [u8]) -> Result<Front<'a>, LexFault>
     requires { 0 < length name.now }
-    ensures name { Gives front_view result (name_front place name.now) }
-    ensures len { IfOk result (λ f. f.len ≡ length name.now) }
+    ensures name { Gives front_view result (name_front place name.entry.now) }
+    ensures len { IfOk result (λ f. f.len ≡ length name.entry.now) }
+    ensures ample { IfErr result (λ e. e ≡ LexFault.NoMemory → ⊥) }
 {
     if name.len() > 64 {
         return Err(LexFault::Long(place));
     }
-    let folded = Name::folded(alloc, name)?;
     Ok(Front {
-        token: Some(Token::Word(folded)),
+        token: Some(Lexeme::Word(Word::Raw(Raw::of(name)))),
         len: name.len(),
     })
 }
 
 /// The number with these digits at a place, before this rest.
 #[tactic(auto, unfolding(seq_tree::specs::Lexis::number_front))]
-fn number_front(place: Place, digits: &[u8], rest: &[u8]) -> Result<Front, LexFault>
+fn number_front(place: Place, digits: &[u8], rest: &[u8]) -> Result<Front<'static>, LexFault>
     requires { Fits place (length digits.now) }
     ensures number { Gives front_view result (number_front place digits.now rest.now) }
     ensures len { IfOk result (λ f. f.len ≡ length digits.now) }
+    ensures ample { IfErr result (λ e. e ≡ LexFault.NoMemory → ⊥) }
 {
     let Some(value) = number_value(digits) else {
         return Err(LexFault::Number(place));
@@ -53,19 +54,20 @@ fn number_front(place: Place, digits: &[u8], rest: &[u8]) -> Result<Front, LexFa
         }
     }
     Ok(Front {
-        token: Some(Token::Number(value)),
+        token: Some(Lexeme::Number(value)),
         len: digits.len(),
     })
 }
 
 /// The mark of one byte at a place.
-fn single_front(place: Place, byte: u8) -> Result<Front, LexFault>
+fn single_front(place: Place, byte: u8) -> Result<Front<'static>, LexFault>
     ensures mark { Gives front_view result (mark_front (mark_of (byte ∷ [])) place 1) }
     ensures len { IfOk result (λ f. f.len ≡ 1) }
+    ensures ample { IfErr result (λ e. e ≡ LexFault.NoMemory → ⊥) }
 {
     match single(byte) {
         Some(mark) => Ok(Front {
-            token: Some(Token::Sign(mark)),
+            token: Some(Lexeme::Sign(mark)),
             len: 1,
         }),
         None => Err(LexFault::Byte(place)),
@@ -74,16 +76,17 @@ fn single_front(place: Place, byte: u8) -> Result<Front, LexFault>
 
 /// The mark at the front of a text, by its first byte and the others.
 #[tactic(auto, using(crate::proofs::MarkLaws::mark_fronts))]
-fn mark_front(place: Place, first: u8, rest: &[u8]) -> Result<Front, LexFault>
+fn mark_front(place: Place, first: u8, rest: &[u8]) -> Result<Front<'static>, LexFault>
     ensures mark { Gives front_view result (front_by Other place (first ∷ rest.now)) }
     ensures len { IfOk result (λ f. (0 < f.len) × (f.len ≤ length rest.now + 1)) }
+    ensures ample { IfErr result (λ e. e ≡ LexFault.NoMemory → ⊥) }
 {
     match rest.split_first() {
         None => single_front(place, first),
         Some((second, _)) => match double(first, *second) {
             None => single_front(place, first),
             Some(mark) => Ok(Front {
-                token: Some(Token::Sign(mark)),
+                token: Some(Lexeme::Sign(mark)),
                 len: 2,
             }),
         },
@@ -130,17 +133,17 @@ fn comment_len(bytes: &[u8]) -> usize
 
 /// What stands at the front of a text that is not empty, at its place.
 #[tactic(auto, using(crate::proofs::FrontLaws::fronts))]
-pub(crate) fn front_of(
-    alloc: Global,
+pub(crate) fn front_of<'a>(
     place: Place,
-    bytes: &[u8],
+    bytes: &'a [u8],
     first: u8,
-    rest: &[u8],
-) -> Result<Front, LexFault>
+    rest: &'a [u8],
+) -> Result<Front<'a>, LexFault>
     requires fits { Fits place (length bytes.now) }
     requires parts { bytes.now ≡ first ∷ rest.now }
-    ensures front { Gives front_view result (front_by (start_of first rest.now) place bytes.now) }
-    ensures len { IfOk result (λ f. (0 < f.len) × (f.len ≤ length bytes.now)) }
+    ensures front { Gives front_view result (front_by (start_of first rest.entry.now) place bytes.entry.now) }
+    ensures len { IfOk result (λ f. (0 < f.len) × (f.len ≤ length bytes.entry.now)) }
+    ensures ample { IfErr result (λ e. e ≡ LexFault.NoMemory → ⊥) }
 {
     match start_of(first, rest) {
         Start::Space => Ok(Front {
@@ -153,7 +156,7 @@ pub(crate) fn front_of(
         }),
         Start::Name => {
             let (name, _) = bytes.split_at(1 + run_len(Part::LetterOrDigit, rest));
-            name_front(alloc, place, name)
+            name_front(place, name)
         }
         Start::Numeral => {
             let (digits, after) = bytes.split_at(1 + run_len(Part::Digit, rest));

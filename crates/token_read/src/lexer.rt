@@ -1,19 +1,27 @@
-ghost use Rattle.std.specs.Prelude.{◌≡◌, ◌≤◌, ◌++◌, [], IfErr, OnOk, length};
+ghost use Rattle.std.specs.Prelude.{◌≡◌, ◌≤◌, ◌++◌, [], IfErr, OnOk, length, option_map};
 ghost use Rattle.seq_tree.specs.Lexis.{tokens, with_token};
+ghost use Rattle.token_read.specs.Lexemes.{token_of};
 ghost use Rattle.token_read.specs.Outcomes.{Gives};
 
 use crate::fault::LexFault;
 use crate::fronts::{Front, front_of};
+use crate::lexemes::Lexeme;
 use crate::places::place_past;
-use seq_tree::{Place, Spanned, Token};
+use seq_tree::{Place, Spanned};
 use std::alloc::Global;
 
 /// Adds the token at a place, where there is one.
-fn add(found: &mut Vec<Spanned>, place: Place, token: Option<Token>) -> Result<(), LexFault>
-    ensures ok { OnOk result (found.new.items ≡ found.old.items ++ with_token token place []) }
+fn add(
+    alloc: Global,
+    found: &mut Vec<Spanned>,
+    place: Place,
+    token: Option<Lexeme>,
+) -> Result<(), LexFault>
+    ensures ok { OnOk result (found.new.items ≡ found.old.items ++ with_token (option_map token_of token.entry) place []) }
     ensures err { IfErr result (λ e. e ≡ LexFault.NoMemory) }
 {
-    if let Some(token) = token {
+    if let Some(lexeme) = token {
+        let token = lexeme.token(alloc)?;
         found.push(Spanned { token, place })?;
     }
     Ok(())
@@ -31,8 +39,8 @@ pub fn tokens(alloc: Global, bytes: &[u8]) -> Result<Vec<Spanned>, LexFault>
     let mut left = bytes;
     let mut place = Place { line: 1, column: 1 };
     'tokens: while let Some((first, rest)) = left.split_first() {
-        let Front { token, len } = front_of(alloc, place, left, *first, rest)?;
-        add(&mut found, place, token)?;
+        let Front { token, len } = front_of(place, left, *first, rest)?;
+        add(alloc, &mut found, place, token)?;
         let (front, after) = left.split_at(len);
         place = place_past(place, front);
         left = after;

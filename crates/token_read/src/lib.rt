@@ -1,23 +1,29 @@
 //! The tokens of a text with their places, and readers of single tokens.
 //!
-//! It stands on seq_tree, which has the tokens and what a text's tokens are, and on the laws of `grammar`. `tokens` carries the
-//! promise: exactly the tokens of the text, or exactly its first fault and the place. Each reader of one token takes the tokens
-//! that are left, and answers what the front of them is with the tokens behind it, or how many tokens were left where it stopped:
+//! It stands on seq_tree, which has the tokens and what a text's tokens are, and on the laws of `grammar`. `Tokens::of`
+//! carries the promise: exactly the tokens of the text, taken from it as they are read, without memory, or exactly its first fault
+//! and the place; `tokens` answers them as a list. Each reader of one token takes the tokens that are left, and answers what the front of them is with the tokens behind it, or how many tokens were left where it stopped:
 //! its contract is a reader of the definitions (`Readers`), of which `TokenLaws` proves that it reads exactly its grammar.
 #![tactic(auto)]
 
 mod fault;
 mod fronts;
+mod lexemes;
 mod lexer;
 mod marks;
 mod numbers;
 mod places;
 mod read_fault;
+mod token_places;
+mod tokens_left;
 mod words;
 
 pub use fault::LexFault;
+pub use lexemes::{Folded, Lexeme, Word};
 pub use lexer::tokens;
 pub use read_fault::ReadFault;
+pub use token_places::place_behind;
+pub use tokens_left::Tokens;
 pub use words::{
     Item, any_word, mark, next_is_mark, next_is_number, next_is_word, number, number_within,
     phrase, word,

@@ -1,6 +1,6 @@
 use Rattle.std.proofs.Common.{◌≡◌, map, drop}
 use Rattle.ada_tree.specs.Trees.{unit_of}
-use Rattle.token_read.specs.Words.{bare}
+use Rattle.token_read.specs.Ahead.{ahead}
 use Rattle.ada_read.specs.Heads.{head_of}
 use Rattle.ada_read.specs.Readers.{ada_block_at, bodies_at}
 use Rattle.ada_read.proofs.Repeats.{with_front}
@@ -8,4 +8,4 @@ use Rattle.ada_read.proofs.bodies.bodies.Given as goal
 
 -- the units so far, and then those of the specifications that are left
 abbrev pub invariant-heads : goal.invariant-heads
-invariant-heads l = with_front (map unit_of l.units.items) (bodies_at ada_block_at (map head_of (drop l.head-index l.heads)) (bare l.rest)) ≡ bodies_at ada_block_at (map head_of l.heads) (bare l.fn.tokens)
+invariant-heads l = with_front (map unit_of l.units.items) (bodies_at ada_block_at (map head_of (drop l.head-index l.heads)) (ahead l.rest)) ≡ bodies_at ada_block_at (map head_of l.heads) (ahead l.fn.tokens)

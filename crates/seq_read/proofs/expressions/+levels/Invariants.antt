@@ -1,6 +1,6 @@
 use Rattle.std.proofs.Common.{◌≡◌, ◌+◌, ◌*◌}
 use Rattle.seq_tree.specs.Trees.{expression_of}
-use Rattle.token_read.specs.Words.{bare}
+use Rattle.token_read.specs.Ahead.{ahead}
 use Rattle.seq_read.specs.Names.{may_name}
 use Rattle.seq_read.specs.Expressions.{chain_at}
 use Rattle.seq_read.specs.Levels.{opened_at, operand_at}
@@ -44,8 +44,8 @@ decreases-expression l = 20 * l.deeper + 19
 -- the chain so far, and then what is left
 abbrev pub invariant-chain-operators : goal.invariant-chain-operators
 invariant-chain-operators l =
-    chain_at l.fn.class (operand_at (may_name l.fn.text) 32 (opened_at (may_name l.fn.text) 32 l.fn.deeper) l.fn.class) l.room (expression_of l.left) (bare l.rest)
-    ≡ chain_at l.fn.class (operand_at (may_name l.fn.text) 32 (opened_at (may_name l.fn.text) 32 l.fn.deeper) l.fn.class) 32 (expression_of l.fn.first) (bare l.fn.tokens)
+    chain_at l.fn.class (operand_at (may_name l.fn.text) 32 (opened_at (may_name l.fn.text) 32 l.fn.deeper) l.fn.class) l.room (expression_of l.left) (ahead l.rest)
+    ≡ chain_at l.fn.class (operand_at (may_name l.fn.text) 32 (opened_at (may_name l.fn.text) 32 l.fn.deeper) l.fn.class) 32 (expression_of l.fn.first) (ahead l.fn.tokens)
 
 abbrev pub decreases-chain-operators : goal.decreases-chain-operators
 decreases-chain-operators l = l.room

@@ -1,6 +1,6 @@
 use Rattle.std.proofs.Common.{◌≡◌, ◌+◌, ◌*◌, length, map}
 use Rattle.seq_tree.specs.Trees.{arm_of, statement_of}
-use Rattle.token_read.specs.Words.{bare}
+use Rattle.token_read.specs.Ahead.{ahead}
 use Rattle.seq_read.specs.Names.{may_name}
 use Rattle.seq_read.specs.Expressions.{expression_at}
 use Rattle.seq_read.specs.Statements.{statement_at, block_at, if_at}
@@ -38,17 +38,17 @@ decreases-conditional l = 10 * l.deeper + 6
 -- the arms so far, and then what is left
 abbrev pub invariant-conditional-arms : goal.invariant-conditional-arms
 invariant-conditional-arms l =
-    arms_after (expression_at (may_name l.fn.text) 32 l.fn.deeper) (block_at (may_name l.fn.text) 32 l.fn.deeper) (map arm_of l.arms.items) (bare l.rest)
-    ≡ if_at (expression_at (may_name l.fn.text) 32 l.fn.deeper) (block_at (may_name l.fn.text) 32 l.fn.deeper) (bare l.fn.tokens)
+    arms_after (expression_at (may_name l.fn.text) 32 l.fn.deeper) (block_at (may_name l.fn.text) 32 l.fn.deeper) (map arm_of l.arms.items) (ahead l.rest)
+    ≡ if_at (expression_at (may_name l.fn.text) 32 l.fn.deeper) (block_at (may_name l.fn.text) 32 l.fn.deeper) (ahead l.fn.tokens)
 
 abbrev pub decreases-conditional-arms : goal.decreases-conditional-arms
-decreases-conditional-arms l = length l.rest
+decreases-conditional-arms l = length (ahead l.rest)
 
 -- the statements so far, and then those of what is left
 abbrev pub invariant-block-stmts : goal.invariant-block-stmts
 invariant-block-stmts l =
-    statements_after (may_name l.fn.text) (statement_at (may_name l.fn.text) 32 l.fn.deeper) (map statement_of l.stmts.items) (bare l.rest)
-    ≡ block_at (may_name l.fn.text) 32 l.fn.deeper (bare l.fn.tokens)
+    statements_after (may_name l.fn.text) (statement_at (may_name l.fn.text) 32 l.fn.deeper) (map statement_of l.stmts.items) (ahead l.rest)
+    ≡ block_at (may_name l.fn.text) 32 l.fn.deeper (ahead l.fn.tokens)
 
 abbrev pub decreases-block-stmts : goal.decreases-block-stmts
-decreases-block-stmts l = length l.rest
+decreases-block-stmts l = length (ahead l.rest)

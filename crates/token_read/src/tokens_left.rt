@@ -1,0 +1,184 @@
+ghost use Rattle.std.specs.Prelude.{◌≡◌, ◌+◌, ◌++◌, ◌<◌, ◌≤◌, ◌==◌, ◌∷◌, [], true, IfErr, IfOk, length, option_map};
+ghost use Rattle.seq_tree.specs.Lexis.{plain, tokens};
+ghost use Rattle.token_read.specs.Behind.{Finds, behind, counted, is_whole, seen};
+ghost use Rattle.token_read.specs.Outcomes.{Gives};
+ghost use Rattle.token_read.specs.Words.{bare};
+
+use crate::fault::LexFault;
+use crate::fronts::{Front, front_of};
+use crate::lexemes::Lexeme;
+use crate::places::place_past;
+use seq_tree::{Place, Spanned};
+
+/// The tokens that are left, of a list or of a text. Those of a text are taken from its bytes one by one, without memory.
+#[derive(Clone, Copy, Debug)]
+pub struct Tokens<'a> {
+    // The first token, read already; then those of the list, and then those of the text; and how many they are.
+    next: Option<Lexeme<'a>>,
+    listed: &'a [Spanned],
+    text: &'a [u8],
+    count: usize,
+    ghost few: { length text.now ≤ 16777216 },
+    ghost whole: { is_whole text.now ≡ true },
+    ghost counts: { count ≡ length (counted next (bare listed.now ++ behind text.now)) },
+}
+
+/// What stands at the front of a text without faults: a token, or white space or a comment; and the bytes behind it.
+fn front_and_rest<'a>(bytes: &'a [u8], first: u8, rest: &'a [u8]) -> (Option<Lexeme<'a>>, &'a [u8])
+    requires few { length bytes.now ≤ 16777216 }
+    requires whole { is_whole bytes.now ≡ true }
+    requires parts { bytes.now ≡ first ∷ rest.now }
+    ensures behind { behind bytes.entry.now ≡ seen result.0 (behind result.1.now) }
+    ensures whole { is_whole result.1.now ≡ true }
+    ensures less { length result.1.now < length bytes.entry.now }
+{
+    let start = Place { line: 1, column: 1 };
+    let Ok(Front { token, len }) = front_of(start, bytes, first, rest) else {
+        unreachable!();
+    };
+    let (_, after) = bytes.split_at(len);
+    (token, after)
+}
+
+/// The first token of a text without faults and the bytes behind it, where there is one.
+fn next_of<'a>(bytes: &'a [u8]) -> Option<(Lexeme<'a>, &'a [u8])>
+    requires few { length bytes.now ≤ 16777216 }
+    requires whole { is_whole bytes.now ≡ true }
+    ensures { Finds result (behind bytes.entry.now) }
+{
+    let mut left = bytes;
+    'fronts: while let Some((first, rest)) = left.split_first() {
+        let (token, after) = front_and_rest(left, *first, rest);
+        match token {
+            Some(lexeme) => return Some((lexeme, after)),
+            None => left = after,
+        }
+    }
+    None
+}
+
+/// How many tokens there are, with one more where one was found.
+fn more(count: usize, token: Option<Lexeme>) -> usize
+    requires { count < 16777216 }
+    ensures { result ≡ count + length (seen token.entry []) }
+{
+    match token {
+        Some(_) => count + 1,
+        None => count,
+    }
+}
+
+/// How many tokens a text has, or its first fault.
+fn count_of(bytes: &[u8]) -> Result<usize, LexFault>
+    requires { length bytes.now ≤ 16777216 }
+    ensures gives { Gives (λ _. behind bytes.now) result (plain (tokens bytes.now)) }
+    ensures counts { IfOk result (λ n. n ≡ length (behind bytes.now)) }
+    ensures whole { IfOk result (λ _. is_whole bytes.now ≡ true) }
+    ensures few { IfOk result (λ n. n ≤ length bytes.now) }
+    ensures ample { IfErr result (λ e. e ≡ LexFault.NoMemory → ⊥) }
+{
+    let mut count = 0;
+    let mut left = bytes;
+    let mut place = Place { line: 1, column: 1 };
+    'tokens: while let Some((first, rest)) = left.split_first() {
+        let Front { token, len } = front_of(place, left, *first, rest)?;
+        count = more(count, token);
+        let (front, after) = left.split_at(len);
+        place = place_past(place, front);
+        left = after;
+    }
+    Ok(count)
+}
+
+impl<'a> Tokens<'a> {
+    ghost use Rattle.token_read.specs.Ahead.{Splits, ahead};
+    ghost use Rattle.grammar.specs.Reading.{first};
+    ghost use Rattle.token_read.specs.Lexemes.{token_of};
+
+    // The tokens of a list and then those of a text, so many.
+    #[tactic(auto, unfolding(crate::specs::Ahead::ahead))]
+    fn from(listed: &'a [Spanned], text: &'a [u8], count: usize) -> Tokens<'a>
+        requires few { length text.now ≤ 16777216 }
+        requires whole { is_whole text.now ≡ true }
+        requires counts { count ≡ length (bare listed.now ++ behind text.now) }
+        ensures { ahead result ≡ bare listed.entry.now ++ behind text.entry.now }
+    {
+        if let Some((spanned, others)) = listed.split_first() {
+            return Tokens {
+                next: Some(Lexeme::of(&spanned.token)),
+                listed: others,
+                text,
+                count,
+            };
+        }
+        match next_of(text) {
+            Some((lexeme, after)) => Tokens {
+                next: Some(lexeme),
+                listed,
+                text: after,
+                count,
+            },
+            None => Tokens {
+                next: None,
+                listed,
+                text,
+                count,
+            },
+        }
+    }
+
+    /// The tokens of a text of at most 16,777,216 bytes, which is gone through once, for its first fault and their number. No
+    /// memory is taken: `Byte`, `Number` and `Long` tell the first fault of the text and its place, and `NoMemory` never comes.
+    pub fn of(bytes: &'a [u8]) -> Result<Tokens<'a>, LexFault>
+        requires { length bytes.now ≤ 16777216 }
+        ensures gives { Gives ahead result (plain (tokens bytes.entry.now)) }
+        ensures few { IfOk result (λ t. length (ahead t) ≤ length bytes.entry.now) }
+        ensures ample { IfErr result (λ e. e ≡ LexFault.NoMemory → ⊥) }
+    {
+        let count = count_of(bytes)?;
+        Ok(Tokens::from(&[], bytes, count))
+    }
+
+    /// The tokens of a list.
+    #[tactic(auto, using(crate::proofs::BehindSteps::list_steps))]
+    pub fn listed(list: &'a [Spanned]) -> Tokens<'a>
+        ensures { ahead result ≡ bare list.entry.now }
+    {
+        Tokens::from(list, &[], list.len())
+    }
+
+    /// How many tokens are left.
+    #[tactic(auto, unfolding(crate::specs::Ahead::ahead))]
+    pub fn len(self) -> usize
+        ensures { result ≡ length (ahead self.entry) }
+    {
+        self.count
+    }
+
+    /// Whether no token is left.
+    #[tactic(auto, unfolding(crate::specs::Ahead::ahead))]
+    pub fn is_empty(self) -> bool
+        ensures { result ≡ (length (ahead self.entry) == 0) }
+    {
+        self.count == 0
+    }
+
+    /// The first token, where there is one.
+    #[tactic(auto, unfolding(crate::specs::Ahead::ahead))]
+    pub fn first(self) -> Option<Lexeme<'a>>
+        ensures { option_map token_of result ≡ first (ahead self.entry) }
+    {
+        self.next
+    }
+
+    /// The first token and those after it, where there is one.
+    #[tactic(auto, unfolding(crate::specs::Ahead::ahead))]
+    pub fn split_first(self) -> Option<(Lexeme<'a>, Tokens<'a>)>
+        ensures { Splits result (ahead self.entry) }
+    {
+        match self.next {
+            Some(lexeme) => Some((lexeme, Tokens::from(self.listed, self.text, self.count - 1))),
+            None => None,
+        }
+    }
+}

@@ -56,16 +56,21 @@ flat_filters_first {A} f p q x ys = by (q x)
     by true = flat_filter_first f p x (filter q ys)
     by false = refl
 
+pub placed_one : {B C D : Type 0} (pair : D → C) (place : B → Option D) (x : B) (ys : List B)
+    → map pair (filter_map place (x ∷ ys)) ≡ map pair (filter_map place (x ∷ [])) ++ map pair (filter_map place ys)
+placed_one {B} {C} {D} pair place x ys = by (place x) (filter_map place ys)
+  where
+    by : (o : Option D) (ds : List D) → map pair (cons_option o ds) ≡ map pair (cons_option o []) ++ map pair ds
+    by None ds = refl
+    by (Some d) ds = refl
+
 pub placed_first : {A B C D : Type 0} (pair : D → C) (place : B → Option D) (f : A → B) (p : A → Bool) (x : A) (ys : List A)
     → map pair (filter_map place (map f (filter p (x ∷ ys)))) ≡ map pair (filter_map place (map f (filter p (x ∷ [])))) ++ map pair (filter_map place (map f (filter p ys)))
-placed_first {A} {B} {C} {D} pair place f p x ys = by (p x)
+placed_first {A} pair place f p x ys = by (p x)
   where
-    placed : (o : Option D) (ds : List D) → map pair (cons_option o ds) ≡ map pair (cons_option o []) ++ map pair ds
-    placed None ds = refl
-    placed (Some d) ds = refl
     by : (b : Bool) → map pair (filter_map place (map f (cond b (x ∷ filter p ys) (filter p ys))))
         ≡ map pair (filter_map place (map f (cond b (x ∷ []) []))) ++ map pair (filter_map place (map f (filter p ys)))
-    by true = placed (place (f x)) (filter_map place (map f (filter p ys)))
+    by true = placed_one pair place (f x) (map f (filter p ys))
     by false = refl
 
 -- nothing is told of an item, so that it is up to those behind it

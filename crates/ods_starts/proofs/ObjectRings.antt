@@ -27,27 +27,6 @@ use Rattle.rings.specs.Graphs.{is_step}
 use Rattle.rings.specs.Reached.{Goes, IsFirstOnRing}
 use Rattle.rings.proofs.Reaching.{and-from, both}
 
--- one object more, that is protected and has no children
-pub guards_more : (s : Standing) (ss : List Standing) → (is_terminal s && is_protected s.own.kind) ≡ true → guards_among (s ∷ ss) ≡ s.own
-    ∷ guards_among ss
-guards_more s ss e = by (is_terminal s) (is_protected s.own.kind) refl refl e
-  where
-    by : (t p : Bool) → is_terminal s ≡ t → is_protected s.own.kind ≡ p → (t && p) ≡ true → guards_among (s ∷ ss) ≡ s.own ∷ guards_among ss
-    by false p t e k = absurd (cc)
-    by true false t e k = absurd (cc)
-    by true true t e k = rw (t, e) refl
-
--- and one that isn't, or has
-pub guards_same : (s : Standing) (ss : List Standing) → (is_terminal s && is_protected s.own.kind) ≡ false → guards_among (s ∷ ss) ≡ guards_among ss
-guards_same s ss e = by (is_terminal s) (is_protected s.own.kind) refl refl e
-  where
-    by : (t p : Bool) → is_terminal s ≡ t → is_protected s.own.kind ≡ p → (t && p) ≡ false → guards_among (s ∷ ss) ≡ guards_among ss
-    by false p t e k = rw t refl
-    by true false t e k = rw (t, e) refl
-    by true true t e k = absurd (cc)
-
-pub ruleset guard_steps = (guards_more, guards_same)
-
 -- a call between protected objects, by the body that it stands in
 pub record Between (x : Design) (a c : Name) : Type 0 where
   pub from : Object

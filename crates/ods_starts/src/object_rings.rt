@@ -1,9 +1,7 @@
-ghost use Rattle.std.specs.Prelude.{◌≡◌, ◌∷◌, ◌++◌, ◌&&◌, [], Some, IfOk, OnOk, flat_map, map, option_map, slice_get};
+ghost use Rattle.std.specs.Prelude.{◌≡◌, ◌∷◌, ◌++◌, [], Some, IfOk, OnOk, flat_map, map, option_map, slice_get};
 ghost use Rattle.seq_cost.specs.Different.{call_of};
-ghost use Rattle.ods_tree.specs.Flattening.{is_protected};
 ghost use Rattle.ods_tree.specs.Links.{resolve};
 ghost use Rattle.ods_tree.specs.Trees.{body_of, design_of};
-ghost use Rattle.ods_tree.specs.Walk.{is_terminal};
 ghost use Rattle.design_rules.specs.Broken.{V09Objects};
 ghost use Rattle.design_rules.specs.Rules.{RingedObject};
 ghost use Rattle.ods_starts.specs.Guarded.{bodies_edges, guard_edges, guards_among, meant_edges};
@@ -22,23 +20,28 @@ use seq_cost::{Call, written_calls};
 use seq_tree::NoMemory;
 use std::alloc::Global;
 
-/// Whether an object is protected and has no children.
-fn is_guard(standing: &Standing<'_>) -> bool
-    ensures { result ≡ (is_terminal (standing_of standing.now) && is_protected (standing_of standing.now).own.kind) }
+/// Adds an object, where it is protected and has no children.
+fn add_guard<'a>(standing: &Standing<'a>, into: &mut Vec<&'a Node>) -> Result<(), NoMemory>
+    ensures { OnOk result (map node_object into.new.items ≡ map node_object into.old.items ++ guards_among (standing_of standing.entry.now ∷ [])) }
 {
-    is_terminal(standing.node) && is_protected(standing.node.kind)
+    let node = standing.node;
+    if !is_terminal(node) {
+        return Ok(());
+    }
+    if !is_protected(node.kind) {
+        return Ok(());
+    }
+    into.push(node)?;
+    Ok(())
 }
 
 /// The protected ones of these objects that have no children, in order.
-#[tactic(auto, using(crate::proofs::ObjectRings::guard_steps))]
 fn guards_of<'a>(alloc: Global, objects: &[Standing<'a>]) -> Result<Vec<&'a Node>, NoMemory>
     ensures { IfOk result (λ v. map node_object v.items ≡ guards_among (map standing_of objects.entry.now)) }
 {
     let mut guards = Vec::new(alloc);
     'objects: for standing in objects {
-        if is_guard(standing) {
-            guards.push(standing.node)?;
-        }
+        add_guard(standing, &mut guards)?;
     }
     Ok(guards)
 }

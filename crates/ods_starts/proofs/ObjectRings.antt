@@ -1,5 +1,5 @@
 -- Rings of calls between protected objects are rings between their places.
-use Rattle.std.proofs.Common.{◌≡◌, ℕ, ◌≤◌, ◌==◌, Bool, true, false, ◌&&◌, List, ◌∷◌, map, filter_map, flat_map, length, slice_get, nat_lt}
+use Rattle.std.proofs.Common.{◌≡◌, ℕ, ◌≤◌, ◌==◌, Bool, true, ◌&&◌, List, map, filter_map, flat_map, length, slice_get, nat_lt}
 use Rattle.std.proofs.Common.{Option, Some, None, Bor, refl, sym, ap, subst, ◌∙◌, arith}
 use Rattle.std.specs.List.{list_any}
 use Rattle.std.proofs.lemmas.Bool.{eqb-true, eq-eqb}
@@ -10,13 +10,11 @@ use Rattle.seq_tree.specs.Names.{Name, same_name}
 use Rattle.seq_tree.specs.Rings.{IsOnRing}
 use Rattle.seq_tree.specs.declared.tree.OpName.{OpName}
 use Rattle.ods_tree.specs.Designs.{Body, Object, Design}
-use Rattle.ods_tree.specs.Flattening.{is_protected}
-use Rattle.ods_tree.specs.Walk.{Standing, is_terminal}
 use Rattle.ods_tree.specs.declared.design.Node.{Node}
 use Rattle.design_rules.specs.Broken.{Broken, V09Objects}
 use Rattle.design_rules.specs.Rings.{CallsObject, calls_object, meant_calls, protected_objects}
 use Rattle.design_rules.specs.Rules.{RingedObject}
-use Rattle.ods_starts.specs.Guarded.{edges_at, guard_edges, guards_among, meant_edges}
+use Rattle.ods_starts.specs.Guarded.{edges_at, guard_edges, meant_edges}
 use Rattle.ods_index.specs.Judging.{IsFirstOffender}
 use Rattle.ods_index.specs.Nodes.{node_object}
 use Rattle.ods_index.specs.Tables.{place_from}

@@ -4,12 +4,13 @@ ghost use Rattle.ods_tree.specs.Links.{resolve};
 ghost use Rattle.ods_tree.specs.Trees.{body_of, design_of};
 ghost use Rattle.design_rules.specs.Broken.{V09Objects};
 ghost use Rattle.design_rules.specs.Rules.{RingedObject};
-ghost use Rattle.ods_starts.specs.Guarded.{bodies_edges, guard_edges, guards_among, meant_edges};
+ghost use Rattle.ods_starts.specs.Guarded.{bodies_edges, guard_edges, guards_among, guards_step, meant_edges};
 ghost use Rattle.ods_index.specs.Indexing.{IsIndex};
 ghost use Rattle.ods_index.specs.Judging.{Judges, Tells};
 ghost use Rattle.ods_index.specs.Nodes.{node_name, node_object};
 ghost use Rattle.ods_index.specs.Tables.{place_in};
 ghost use Rattle.ods_index.specs.Walking.{object_of, standing_of};
+ghost use Rattle.rings.specs.Reached.{IsFirstOnRing};
 
 use ods_index::{
     Broken, Index, Links, OpView, Places, Required, Standing, is_protected, is_terminal, places_of,
@@ -199,16 +200,27 @@ fn tell_object(alloc: Global, guards: &[&Node], place: usize) -> Result<(), Brok
     }
 }
 
+/// The place of the first of these objects that is on a ring of calls.
+fn first_ringed<'a>(
+    alloc: Global,
+    index: &Index<'a>,
+    guards: &[&'a Node],
+) -> Result<Option<usize>, NoMemory>
+    ensures { IfOk result (IsFirstOnRing (guards_step (design_of index.entry.now.design.now) (map node_object guards.entry.now))) }
+{
+    let links = Links::new(alloc, index.design)?;
+    let places = places_of(alloc, guards)?;
+    let edges = edges_of(alloc, &links, &places, guards)?;
+    first_on_ring(alloc, guards.len(), edges.as_slice())
+}
+
 /// V09: tells the first protected object on a ring of calls.
 pub fn ringed_object(alloc: Global, index: &Index<'_>) -> Result<(), Broken>
     requires { IsIndex index.now }
     ensures { Judges (RingedObject (design_of index.entry.now.design.now)) result }
 {
-    let links = Links::new(alloc, index.design)?;
     let guards = guards_of(alloc, index.objects.as_slice())?;
-    let places = places_of(alloc, guards.as_slice())?;
-    let edges = edges_of(alloc, &links, &places, guards.as_slice())?;
-    match first_on_ring(alloc, guards.len(), edges.as_slice())? {
+    match first_ringed(alloc, index, guards.as_slice())? {
         None => Ok(()),
         Some(place) => tell_object(alloc, guards.as_slice(), place),
     }

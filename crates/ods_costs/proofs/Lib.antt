@@ -1,4 +1,5 @@
 mod CostExamples
+pub mod LoopSteps
 pub mod BudgetSteps
 pub mod CostSteps
 pub mod PriceLaws

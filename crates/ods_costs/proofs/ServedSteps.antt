@@ -15,6 +15,7 @@ use Rattle.ods_tree.specs.Walk.{Standing, is_terminal, objects}
 use Rattle.ods_tree.specs.declared.design.Kind.{Kind}
 use Rattle.ods_tree.specs.declared.design.Kind.TheVariants as kind
 use Rattle.ods_costs.specs.Costed.{Costed, costed, costed_ops, block_in, request_in, served_ops, served_part, gives_operations, gives_request}
+use Rattle.ods_costs.proofs.LoopSteps.{given_first}
 use Rattle.ods_costs.specs.declared.services.Part.{Part}
 use Rattle.ods_costs.specs.declared.services.Part.TheVariants as part
 
@@ -22,6 +23,12 @@ pub served-same : (x : Design) (object : Name) (look seen : Name → Option Stat
     → served_ops x object look ps ≡ served_ops x object seen ps
 served-same x object look seen [] same = refl
 served-same x object look seen (p ∷ ps) same = rw (same p.sig.name, served-same x object look seen ps same) refl
+
+pub served-first : (x : Design) (object : Name) (look : Name → Option Statements) (p : Provided) (ps : List Provided)
+    → served_ops x object look (p ∷ ps) ≡ served_ops x object look (p ∷ []) ++ served_ops x object look ps
+served-first x object look p ps =
+    let given : Provided → Option Costed = λ q. option_map (λ b. record { name = record { object = object; op = q.sig.name }; block = Some (resolved x b) }) (look q.sig.name) in
+    given_first given p ps
 
 pub served-inner : (x : Design) (p : Part) (s : Standing) → is_terminal s ≡ false → served_part x p s ≡ []
 served-inner x p s h = rw h refl

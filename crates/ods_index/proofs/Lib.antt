@@ -1,4 +1,5 @@
 mod Examples
+pub mod LoopSteps
 pub mod WalkSteps
 pub mod TableSteps
 pub mod LinkLaws

@@ -1,7 +1,6 @@
 -- What is known in a body, step by step, and what is told of its fault.
-use Rattle.std.proofs.Common.{◌≡◌, ℕ, ◌+◌, ◌<◌, ◌≤◌, Bool, true, false, List, [], ◌∷◌, ◌++◌, length, drop, map, filter, filter_map, flat_map, Option, Some, None, option_map, option_and_then, option_to_list, cond, Err, refl, ap, sym, subst, ◌∙◌, append_assoc}
-use Rattle.std.proofs.Math.ListN.{get_or, drop_of_length-le}
-use Rattle.std.proofs.lemmas.List.{append-nil}
+use Rattle.std.proofs.Common.{◌≡◌, ℕ, ◌+◌, ◌<◌, List, ◌∷◌, ◌++◌, length, drop, map, filter_map, flat_map, Option, Some, None, option_map, option_and_then, option_to_list, Err, refl, ap, sym, subst, ◌∙◌, append_assoc}
+use Rattle.std.proofs.Math.ListN.{get_or}
 use Rattle.std.specs.List.{cons_option}
 use Rattle.seq_tree.specs.Names.{Name}
 use Rattle.seq_tree.specs.Operations.{Offer}
@@ -25,6 +24,14 @@ cons_given (Some b) ys = refl
 
 pub given_cons : {A B : Type 0} (f : A → Option B) (x : A) (xs : List A) → filter_map f (x ∷ xs) ≡ option_to_list (f x) ++ filter_map f xs
 given_cons f x xs = cons_given (f x) (filter_map f xs)
+
+-- what is given for an item is added, and what is left is that of the items behind it
+pub given_added : {A B : Type 0} (f : A → Option B) (xs : List A) (i : ℕ) (x : A) (before new all : List B) → i < length xs → x ≡ get_or xs i x →
+    new ≡ before ++ option_to_list (f x) → before ++ filter_map f (drop i xs) ≡ all → new ++ filter_map f (drop (i + 1) xs) ≡ all
+given_added f xs i x before new all inside at made was =
+    let rest = drop (i + 1) xs in
+    ap (λ ys. ys ++ filter_map f rest) made ∙ append_assoc before (option_to_list (f x)) (filter_map f rest) ∙ ap (λ ys. before ++ ys) (sym (given_cons f x rest))
+    ∙ ap (λ ys. before ++ filter_map f ys) (sym (drop_step xs i x inside at)) ∙ was
 
 -- the first that is given, where there is one
 pub head_given : {A : Type 0} (o : Option A) → head_of (option_to_list o) ≡ o

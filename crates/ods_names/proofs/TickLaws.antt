@@ -171,6 +171,10 @@ some_by : (b : Bool) (n : ℕ) → is_within 1 1000000000 n ≡ b → option_to_
 some_by true n e none = grind (arith, e)
 some_by false n e none = absurd (cc)
 
+-- the tick of a version is some time, where nothing is wrong with it
+pub tick_by : (v : VersionTwo) (tick : ℕ) → tick ≡ tick_time v → head_of (bad_tick v) ≡ None → 0 < tick
+tick_by v tick is e = rw is (some_by (is_within 1 1000000000 (tick_time v)) (tick_time v) refl (none_at_all (bad_tick v) e))
+
 pub tick_some : (x : Design) (v : VersionTwo) → x.version ≡ Some v → head_of (version_faults x) ≡ None → 0 < tick_time v
 tick_some x v same e =
     some_by (is_within 1 1000000000 (tick_time v)) (tick_time v) refl

@@ -1,9 +1,9 @@
 -- What the definitions of the graph of calls hold of, and what breaks each alone.
-use Rattle.std.proofs.Common.{◌≡◌, ℕ, [], ◌∷◌, Option, None, refl}
+use Rattle.std.proofs.Common.{◌≡◌, ℕ, true, false, [], ◌∷◌, Option, None, refl}
 use Rattle.std.specs.Prelude.{codes}
 use Rattle.seq_tree.specs.declared.tree.OpName.{OpName}
 use Rattle.ods_tree.proofs.Short.{block, call}
-use Rattle.ods_starts.specs.Graphed.{body_edges, called_edges, edges_from, object_edges}
+use Rattle.ods_starts.specs.Graphed.{body_edges, called_edges, calls_step, edges_from, object_edges}
 use Rattle.ods_index.specs.OpPlaces.{op_place_from}
 use Rattle.ods_index.proofs.SmallDesign.{f, g, go, by_root, guarded, x, alone}
 
@@ -29,3 +29,10 @@ edges_of_object = refl
 edges_of_other_body : body_edges place x (codes "q") (f ∷ [])
     (record { name = codes "h"; locals = []; block = block (call (codes "p") (codes "f") ∷ []) }) ≡ []
 edges_of_other_body = refl
+
+-- a step goes from the place of who calls to that of who is called, and not back
+calls_step_is : calls_step x (f ∷ g ∷ []) 1 0 ≡ true
+calls_step_is = refl
+
+calls_step_back : calls_step x (f ∷ g ∷ []) 0 1 ≡ false
+calls_step_back = refl

@@ -1,6 +1,6 @@
 -- The graph of calls between protected objects: what is an edge of it, and what is none.
 use Rattle.std.specs.Prelude.{◌≡◌, ℕ, List, [], ◌∷◌, map, Option, Some, None, codes}
-use Rattle.std.proofs.Common.{refl}
+use Rattle.std.proofs.Common.{true, false, refl}
 use Prim.Native.String.{String}
 use Rattle.seq_tree.specs.Names.{Name}
 use Rattle.seq_tree.specs.declared.tree.OpName.{OpName}
@@ -9,7 +9,7 @@ use Rattle.ods_tree.specs.Walk.{objects, own_of}
 use Rattle.ods_tree.specs.declared.design.Kind.{Kind}
 use Rattle.ods_tree.specs.declared.design.Kind.TheVariants.{Active, Protected}
 use Rattle.ods_tree.proofs.Short.{block, call, design, pas, pro, several, trees}
-use Rattle.ods_starts.specs.Guarded.{bodies_edges, edges_at, guard_edges, guards_among, meant_edges}
+use Rattle.ods_starts.specs.Guarded.{bodies_edges, edges_at, guard_edges, guards_among, guards_step, meant_edges}
 use Rattle.ods_index.specs.Tables.{place_from}
 
 abbrev op : String → String → OpName
@@ -99,3 +99,10 @@ guarded = refl
 
 unguarded : guard_edges place three (own_of plain) ≡ []
 unguarded = refl
+
+-- a step goes from one of the two to the other, and from none to itself
+guards_step_is : guards_step three (own_of first ∷ own_of second ∷ []) 0 1 ≡ true
+guards_step_is = refl
+
+guards_step_self : guards_step three (own_of first ∷ own_of second ∷ []) 0 0 ≡ false
+guards_step_self = refl

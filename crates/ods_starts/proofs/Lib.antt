@@ -7,6 +7,7 @@ pub mod CallRings
 pub mod NamePlaces
 pub mod NamedRings
 pub mod ObjectRings
+pub mod LoopSteps
 pub mod KeptCalls
 pub mod RequestLaws
 pub mod SourceLaws

@@ -1,5 +1,5 @@
 -- Rings of calls between protected objects are rings between their places.
-use Rattle.std.proofs.Common.{◌≡◌, ℕ, ◌≤◌, ◌==◌, Bool, true, false, ◌&&◌, List, ◌∷◌, map, filter_map, flat_map, length, slice_get, nat_lt}
+use Rattle.std.proofs.Common.{◌≡◌, ℕ, ◌≤◌, ◌==◌, Bool, true, ◌&&◌, List, map, filter_map, flat_map, length, slice_get, nat_lt}
 use Rattle.std.proofs.Common.{Option, Some, None, Bor, refl, sym, ap, subst, ◌∙◌, arith}
 use Rattle.std.specs.List.{list_any}
 use Rattle.std.proofs.lemmas.Bool.{eqb-true, eq-eqb}
@@ -10,13 +10,11 @@ use Rattle.seq_tree.specs.Names.{Name, same_name}
 use Rattle.seq_tree.specs.Rings.{IsOnRing}
 use Rattle.seq_tree.specs.declared.tree.OpName.{OpName}
 use Rattle.ods_tree.specs.Designs.{Body, Object, Design}
-use Rattle.ods_tree.specs.Flattening.{is_protected}
-use Rattle.ods_tree.specs.Walk.{Standing, is_terminal}
 use Rattle.ods_tree.specs.declared.design.Node.{Node}
 use Rattle.design_rules.specs.Broken.{Broken, V09Objects}
 use Rattle.design_rules.specs.Rings.{CallsObject, calls_object, meant_calls, protected_objects}
 use Rattle.design_rules.specs.Rules.{RingedObject}
-use Rattle.ods_starts.specs.Guarded.{edges_at, guard_edges, guards_among, meant_edges}
+use Rattle.ods_starts.specs.Guarded.{edges_at, guard_edges, meant_edges}
 use Rattle.ods_index.specs.Judging.{IsFirstOffender}
 use Rattle.ods_index.specs.Nodes.{node_object}
 use Rattle.ods_index.specs.Tables.{place_from}
@@ -26,27 +24,6 @@ use Rattle.ods_starts.proofs.NamedRings.{ring_of_names, ring_of_places}
 use Rattle.rings.specs.Graphs.{is_step}
 use Rattle.rings.specs.Reached.{Goes, IsFirstOnRing}
 use Rattle.rings.proofs.Reaching.{and-from, both}
-
--- one object more, that is protected and has no children
-pub guards_more : (s : Standing) (ss : List Standing) → (is_terminal s && is_protected s.own.kind) ≡ true → guards_among (s ∷ ss) ≡ s.own
-    ∷ guards_among ss
-guards_more s ss e = by (is_terminal s) (is_protected s.own.kind) refl refl e
-  where
-    by : (t p : Bool) → is_terminal s ≡ t → is_protected s.own.kind ≡ p → (t && p) ≡ true → guards_among (s ∷ ss) ≡ s.own ∷ guards_among ss
-    by false p t e k = absurd (cc)
-    by true false t e k = absurd (cc)
-    by true true t e k = rw (t, e) refl
-
--- and one that isn't, or has
-pub guards_same : (s : Standing) (ss : List Standing) → (is_terminal s && is_protected s.own.kind) ≡ false → guards_among (s ∷ ss) ≡ guards_among ss
-guards_same s ss e = by (is_terminal s) (is_protected s.own.kind) refl refl e
-  where
-    by : (t p : Bool) → is_terminal s ≡ t → is_protected s.own.kind ≡ p → (t && p) ≡ false → guards_among (s ∷ ss) ≡ guards_among ss
-    by false p t e k = rw t refl
-    by true false t e k = rw (t, e) refl
-    by true true t e k = absurd (cc)
-
-pub ruleset guard_steps = (guards_more, guards_same)
 
 -- a call between protected objects, by the body that it stands in
 pub record Between (x : Design) (a c : Name) : Type 0 where

@@ -1,13 +1,15 @@
 -- The graph of calls between terminal operations, by their places: an edge for each required call, links followed.
 -- Places are those of `OpPlaces`.
-use Rattle.std.specs.Prelude.{ℕ, List, [], map, filter, filter_map, flat_map, Option, Some, None}
+use Rattle.std.specs.Prelude.{ℕ, Bool, List, [], map, filter, filter_map, flat_map, length, Option, Some, None}
 use Rattle.std.specs.List.{list_any}
 use Rattle.seq_tree.specs.Calls.{same_op, block_calls}
 use Rattle.seq_tree.specs.Names.{Name}
 use Rattle.seq_tree.specs.declared.tree.OpName.{OpName}
 use Rattle.ods_tree.specs.Designs.{Body, Design}
 use Rattle.ods_tree.specs.Links.{resolve}
-use Rattle.ods_tree.specs.Walk.{Standing}
+use Rattle.ods_tree.specs.Walk.{Standing, terminals}
+use Rattle.ods_index.specs.OpPlaces.{op_place_from}
+use Rattle.rings.specs.Graphs.{is_step}
 
 -- the edges from a place to those of the required ones of these calls
 abbrev pub called_edges : (OpName → Option ℕ) → Design → List OpName → ℕ → List OpName → List (ℕ × ℕ)
@@ -25,3 +27,7 @@ body_edges place x object needs b = edges_from place x needs (place (record { ob
 -- the edges of the bodies of an object
 abbrev pub object_edges : (OpName → Option ℕ) → Design → Standing → List (ℕ × ℕ)
 object_edges place x s = flat_map (body_edges place x s.own.name s.own.needs) s.own.bodies
+
+-- the steps between the places of these operations: an edge for each call
+abbrev pub calls_step : Design → List OpName → ℕ → ℕ → Bool
+calls_step x ops = is_step (length ops) (flat_map (object_edges (op_place_from 0 ops) x) (terminals x))

@@ -1,6 +1,6 @@
 -- The graph of calls between protected objects, by their places: an edge for each required call in a body, links followed.
 -- Places count from 0 in flattened order; of objects of one name the first counts.
-use Rattle.std.specs.Prelude.{ℕ, List, [], map, filter, filter_map, flat_map, Option, Some, None}
+use Rattle.std.specs.Prelude.{ℕ, Bool, List, [], map, filter, filter_map, flat_map, length, Option, Some, None}
 use Rattle.std.specs.List.{list_any}
 use Rattle.seq_tree.specs.Calls.{block_calls, same_op}
 use Rattle.seq_tree.specs.Names.{Name}
@@ -9,6 +9,8 @@ use Rattle.ods_tree.specs.Designs.{Body, Object, Design}
 use Rattle.ods_tree.specs.Flattening.{is_protected}
 use Rattle.ods_tree.specs.Links.{resolve}
 use Rattle.ods_tree.specs.Walk.{Standing, is_terminal}
+use Rattle.ods_index.specs.Tables.{place_from}
+use Rattle.rings.specs.Graphs.{is_step}
 
 -- the protected ones of these objects, where they have no children
 abbrev pub guards_among : List Standing → List Object
@@ -31,3 +33,7 @@ edges_at place x o (Some from) = bodies_edges place x o.needs from o.bodies
 -- the edges of an object
 abbrev pub guard_edges : (Name → Option ℕ) → Design → Object → List (ℕ × ℕ)
 guard_edges place x o = edges_at place x o (place o.name)
+
+-- the steps between the places of these objects: an edge for each call
+abbrev pub guards_step : Design → List Object → ℕ → ℕ → Bool
+guards_step x os = is_step (length os) (flat_map (guard_edges (λ n. place_from 0 n (map (λ o. o.name) os)) x) os)

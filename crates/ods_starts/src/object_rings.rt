@@ -1,17 +1,16 @@
-ghost use Rattle.std.specs.Prelude.{◌≡◌, ◌∷◌, ◌++◌, ◌&&◌, [], Some, IfOk, OnOk, flat_map, map, option_map, slice_get};
+ghost use Rattle.std.specs.Prelude.{◌≡◌, ◌∷◌, ◌++◌, [], Some, IfOk, OnOk, flat_map, map, option_map, slice_get};
 ghost use Rattle.seq_cost.specs.Different.{call_of};
-ghost use Rattle.ods_tree.specs.Flattening.{is_protected};
 ghost use Rattle.ods_tree.specs.Links.{resolve};
 ghost use Rattle.ods_tree.specs.Trees.{body_of, design_of};
-ghost use Rattle.ods_tree.specs.Walk.{is_terminal};
 ghost use Rattle.design_rules.specs.Broken.{V09Objects};
 ghost use Rattle.design_rules.specs.Rules.{RingedObject};
-ghost use Rattle.ods_starts.specs.Guarded.{bodies_edges, guard_edges, guards_among, meant_edges};
+ghost use Rattle.ods_starts.specs.Guarded.{bodies_edges, guard_edges, guards_among, guards_step, meant_edges};
 ghost use Rattle.ods_index.specs.Indexing.{IsIndex};
 ghost use Rattle.ods_index.specs.Judging.{Judges, Tells};
 ghost use Rattle.ods_index.specs.Nodes.{node_name, node_object};
 ghost use Rattle.ods_index.specs.Tables.{place_in};
 ghost use Rattle.ods_index.specs.Walking.{object_of, standing_of};
+ghost use Rattle.rings.specs.Reached.{IsFirstOnRing};
 
 use ods_index::{
     Broken, Index, Links, OpView, Places, Required, Standing, is_protected, is_terminal, places_of,
@@ -22,23 +21,28 @@ use seq_cost::{Call, written_calls};
 use seq_tree::NoMemory;
 use std::alloc::Global;
 
-/// Whether an object is protected and has no children.
-fn is_guard(standing: &Standing<'_>) -> bool
-    ensures { result ≡ (is_terminal (standing_of standing.now) && is_protected (standing_of standing.now).own.kind) }
+/// Adds an object, where it is protected and has no children.
+fn add_guard<'a>(standing: &Standing<'a>, into: &mut Vec<&'a Node>) -> Result<(), NoMemory>
+    ensures { OnOk result (map node_object into.new.items ≡ map node_object into.old.items ++ guards_among (standing_of standing.entry.now ∷ [])) }
 {
-    is_terminal(standing.node) && is_protected(standing.node.kind)
+    let node = standing.node;
+    if !is_terminal(node) {
+        return Ok(());
+    }
+    if !is_protected(node.kind) {
+        return Ok(());
+    }
+    into.push(node)?;
+    Ok(())
 }
 
 /// The protected ones of these objects that have no children, in order.
-#[tactic(auto, using(crate::proofs::ObjectRings::guard_steps))]
 fn guards_of<'a>(alloc: Global, objects: &[Standing<'a>]) -> Result<Vec<&'a Node>, NoMemory>
     ensures { IfOk result (λ v. map node_object v.items ≡ guards_among (map standing_of objects.entry.now)) }
 {
     let mut guards = Vec::new(alloc);
     'objects: for standing in objects {
-        if is_guard(standing) {
-            guards.push(standing.node)?;
-        }
+        add_guard(standing, &mut guards)?;
     }
     Ok(guards)
 }
@@ -196,16 +200,27 @@ fn tell_object(alloc: Global, guards: &[&Node], place: usize) -> Result<(), Brok
     }
 }
 
+/// The place of the first of these objects that is on a ring of calls.
+fn first_ringed<'a>(
+    alloc: Global,
+    index: &Index<'a>,
+    guards: &[&'a Node],
+) -> Result<Option<usize>, NoMemory>
+    ensures { IfOk result (IsFirstOnRing (guards_step (design_of index.entry.now.design.now) (map node_object guards.entry.now))) }
+{
+    let links = Links::new(alloc, index.design)?;
+    let places = places_of(alloc, guards)?;
+    let edges = edges_of(alloc, &links, &places, guards)?;
+    first_on_ring(alloc, guards.len(), edges.as_slice())
+}
+
 /// V09: tells the first protected object on a ring of calls.
 pub fn ringed_object(alloc: Global, index: &Index<'_>) -> Result<(), Broken>
     requires { IsIndex index.now }
     ensures { Judges (RingedObject (design_of index.entry.now.design.now)) result }
 {
-    let links = Links::new(alloc, index.design)?;
     let guards = guards_of(alloc, index.objects.as_slice())?;
-    let places = places_of(alloc, guards.as_slice())?;
-    let edges = edges_of(alloc, &links, &places, guards.as_slice())?;
-    match first_on_ring(alloc, guards.len(), edges.as_slice())? {
+    match first_ringed(alloc, index, guards.as_slice())? {
         None => Ok(()),
         Some(place) => tell_object(alloc, guards.as_slice(), place),
     }

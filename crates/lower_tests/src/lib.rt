@@ -13,6 +13,8 @@ mod counts;
 #[cfg(test)]
 mod flats;
 #[cfg(test)]
+mod openings;
+#[cfg(test)]
 mod queues;
 #[cfg(test)]
 mod streams;

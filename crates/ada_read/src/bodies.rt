@@ -122,11 +122,7 @@ fn shared<'a>(
 
 /// The statements of a task that waits for this request, and the tokens after the task.
 #[tactic(auto, unfolding(crate::specs::Readers::serving_at))]
-fn serving<'a>(
-    alloc: Global,
-    tokens: Tokens<'a>,
-    op: &OpSig,
-) -> Result<(Block, Tokens<'a>), Halt>
+fn serving<'a>(alloc: Global, tokens: Tokens<'a>, op: &OpSig) -> Result<(Block, Tokens<'a>), Halt>
     ensures { Gives (λ r. (block_of r.0, ahead r.1)) result (serving_at ada_block_at (signature_of op.now) (ahead tokens.entry)) }
 {
     let tokens = keeping(tokens, op)?;
@@ -138,11 +134,7 @@ fn serving<'a>(
 
 /// What stands in the body of a unit with this specification, and the tokens after it.
 #[tactic(auto, unfolding(crate::specs::Readers::form_at))]
-fn form<'a>(
-    alloc: Global,
-    tokens: Tokens<'a>,
-    head: &UnitHead,
-) -> Result<(Form, Tokens<'a>), Halt>
+fn form<'a>(alloc: Global, tokens: Tokens<'a>, head: &UnitHead) -> Result<(Form, Tokens<'a>), Halt>
     ensures { Gives (λ r. (form_of r.0, ahead r.1)) result (form_at ada_block_at (head_of head.now) (ahead tokens.entry)) }
 {
     match head {
@@ -193,11 +185,7 @@ pub(crate) fn body_head<'a>(tokens: Tokens<'a>, name: &Name) -> Result<Tokens<'a
 
 /// The unit with this specification, from its body, and the tokens after that.
 #[tactic(auto, unfolding(crate::specs::Readers::body_at))]
-fn body<'a>(
-    alloc: Global,
-    tokens: Tokens<'a>,
-    head: &UnitHead,
-) -> Result<(Unit, Tokens<'a>), Halt>
+fn body<'a>(alloc: Global, tokens: Tokens<'a>, head: &UnitHead) -> Result<(Unit, Tokens<'a>), Halt>
     ensures { Gives (λ r. (unit_of r.0, ahead r.1)) result (body_at ada_block_at (head_of head.now) (ahead tokens.entry)) }
 {
     let tokens = body_head(tokens, head_name(head))?;

@@ -74,11 +74,7 @@ fn cyclic_head(name: Name, tokens: Tokens) -> Result<(UnitHead, Tokens), Halt>
 
 /// The specification of a passive unit of this name, behind the name, and the tokens after it.
 #[tactic(auto, unfolding(crate::specs::Readers::passive_head_at))]
-fn passive_head(
-    alloc: Global,
-    name: Name,
-    tokens: Tokens,
-) -> Result<(UnitHead, Tokens), Halt>
+fn passive_head(alloc: Global, name: Name, tokens: Tokens) -> Result<(UnitHead, Tokens), Halt>
     ensures { Gives (λ r. (head_of r.0, ahead r.1)) result (passive_head_at name (ahead tokens.entry)) }
 {
     let (sigs, tokens) = declarations(alloc, tokens)?;
@@ -99,11 +95,7 @@ fn renamings<'a>(tokens: Tokens<'a>, sigs: &[OpSig]) -> Result<Tokens<'a>, Halt>
 
 /// The specification of a protected unit of this name, behind `protected`, and the tokens after it.
 #[tactic(auto, unfolding(crate::specs::Readers::shared_head_at))]
-fn shared_head(
-    alloc: Global,
-    name: Name,
-    tokens: Tokens,
-) -> Result<(UnitHead, Tokens), Halt>
+fn shared_head(alloc: Global, name: Name, tokens: Tokens) -> Result<(UnitHead, Tokens), Halt>
     ensures { Gives (λ r. (head_of r.0, ahead r.1)) result (shared_head_at name (ahead tokens.entry)) }
 {
     let tokens = fixed(tokens, FixedText::ObjectHead)?;
@@ -186,11 +178,7 @@ fn constants(
 
 /// The specification of a sporadic unit of this name, behind `protected`, and the tokens after it.
 #[tactic(auto, unfolding(crate::specs::Readers::sporadic_head_at))]
-fn sporadic_head(
-    alloc: Global,
-    name: Name,
-    tokens: Tokens,
-) -> Result<(UnitHead, Tokens), Halt>
+fn sporadic_head(alloc: Global, name: Name, tokens: Tokens) -> Result<(UnitHead, Tokens), Halt>
     ensures { Gives (λ r. (head_of r.0, ahead r.1)) result (sporadic_head_at name (ahead tokens.entry)) }
 {
     let tokens = fixed(tokens, FixedText::RequestHead)?;
@@ -204,11 +192,7 @@ fn sporadic_head(
 
 /// The specification of a unit of this name with a protected object, behind the name, and the tokens after it.
 #[tactic(auto, unfolding(crate::specs::Readers::object_head_at))]
-fn object_head(
-    alloc: Global,
-    name: Name,
-    tokens: Tokens,
-) -> Result<(UnitHead, Tokens), Halt>
+fn object_head(alloc: Global, name: Name, tokens: Tokens) -> Result<(UnitHead, Tokens), Halt>
     ensures { Gives (λ r. (head_of r.0, ahead r.1)) result (object_head_at name (ahead tokens.entry)) }
 {
     let tokens = word(tokens, b"protected")?;

@@ -23,11 +23,7 @@ fn param(alloc: Global, tokens: Tokens) -> Result<(Param, Tokens), Halt>
 
 /// All parameters from this first one on, and the tokens after them.
 #[tactic(auto, unfolding(seq_read::specs::Names::may_name))]
-fn params_from(
-    alloc: Global,
-    tokens: Tokens,
-    head: Param,
-) -> Result<(Vec<Param>, Tokens), Halt>
+fn params_from(alloc: Global, tokens: Tokens, head: Param) -> Result<(Vec<Param>, Tokens), Halt>
     ensures { Gives (λ r. (r.0.items, ahead r.1)) result (params_from_at is_ada_name head (ahead tokens.entry)) }
 {
     seq_read::params_from(alloc, tokens, Text::Ada, head)
@@ -79,10 +75,7 @@ fn declaration(alloc: Global, tokens: Tokens) -> Result<(OpSig, Tokens), Halt>
 
 /// Declarations of operations, as many as there are, and the tokens after them.
 #[tactic(auto, using(crate::proofs::Repeats::declaration_steps))]
-pub(crate) fn declarations(
-    alloc: Global,
-    tokens: Tokens,
-) -> Result<(Vec<OpSig>, Tokens), Halt>
+pub(crate) fn declarations(alloc: Global, tokens: Tokens) -> Result<(Vec<OpSig>, Tokens), Halt>
     ensures { Gives (λ r. (map signature_of r.0.items, ahead r.1)) result (declarations_at (ahead tokens.entry)) }
 {
     let mut sigs = Vec::new(alloc);

@@ -80,10 +80,7 @@ pub(crate) fn renaming<'a>(tokens: Tokens<'a>, sig: &OpSig) -> Result<Tokens<'a>
 
 /// The tokens after the name by which this request of a sporadic unit is called.
 #[tactic(auto, unfolding(crate::specs::Readers::request_renaming_at))]
-pub(crate) fn request_renaming<'a>(
-    tokens: Tokens<'a>,
-    sig: &OpSig,
-) -> Result<Tokens<'a>, Halt>
+pub(crate) fn request_renaming<'a>(tokens: Tokens<'a>, sig: &OpSig) -> Result<Tokens<'a>, Halt>
     ensures { Gives (λ r. (tt, ahead r)) result (request_renaming_at (signature_of sig.now) (ahead tokens.entry)) }
 {
     let tokens = same_head(tokens, sig)?;

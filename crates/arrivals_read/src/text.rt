@@ -7,7 +7,10 @@ ghost use Rattle.arrivals_read.specs.Texts.{request_text, text_of, work_text};
 
 use seq_tree::Mark;
 use std::alloc::Global;
-use token_read::{ReadFault, Tokens, Word, any_word, mark, next_is_mark, next_is_number, next_is_word, number, word};
+use token_read::{
+    ReadFault, Tokens, Word, any_word, mark, next_is_mark, next_is_number, next_is_word, number,
+    word,
+};
 
 /// Durations for a task, in ticks: one and further ones.
 #[derive(Drop)]
@@ -59,10 +62,7 @@ fn others(alloc: Global, tokens: Tokens) -> Result<(Vec<u32>, Tokens), ReadFault
 
 /// Durations for a task, and the tokens after them.
 #[tactic(auto, unfolding(crate::specs::Readers::work_at))]
-fn work<'a>(
-    alloc: Global,
-    tokens: Tokens<'a>,
-) -> Result<(WorkItem<'a>, Tokens<'a>), ReadFault>
+fn work<'a>(alloc: Global, tokens: Tokens<'a>) -> Result<(WorkItem<'a>, Tokens<'a>), ReadFault>
     ensures { Gives (λ r. (work_text r.0, ahead r.1)) result (work_at (ahead tokens.entry)) }
 {
     let tokens = word(tokens, b"work")?;

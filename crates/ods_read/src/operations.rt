@@ -23,11 +23,7 @@ fn param(alloc: Global, tokens: Tokens) -> Result<(Param, Tokens), Halt>
 
 /// All parameters from this first one on, and the tokens after them.
 #[tactic(auto, unfolding(seq_read::specs::Names::may_name, seq_read::specs::Parts::params_from_at, seq_read::specs::Parts::more_param_at, seq_read::specs::Parts::param_at, crate::specs::Readers::more_param_at, crate::specs::Readers::param_at, crate::specs::Heads::params_from_at))]
-fn params_from(
-    alloc: Global,
-    tokens: Tokens,
-    head: Param,
-) -> Result<(Vec<Param>, Tokens), Halt>
+fn params_from(alloc: Global, tokens: Tokens, head: Param) -> Result<(Vec<Param>, Tokens), Halt>
     ensures { Gives (λ r. (r.0.items, ahead r.1)) result (params_from_at head (ahead tokens.entry)) }
 {
     seq_read::params_from(alloc, tokens, Text::Design, head)
@@ -96,10 +92,7 @@ fn provided_list(alloc: Global, tokens: Tokens) -> Result<(Vec<Provided>, Tokens
 
 /// The operations that an object provides, none where it has no section of them, and the tokens after them.
 #[tactic(auto, unfolding(crate::specs::Readers::provides_at))]
-pub(crate) fn provides(
-    alloc: Global,
-    tokens: Tokens,
-) -> Result<(Vec<Provided>, Tokens), Halt>
+pub(crate) fn provides(alloc: Global, tokens: Tokens) -> Result<(Vec<Provided>, Tokens), Halt>
     ensures { Gives (λ r. (map provided_of r.0.items, ahead r.1)) result (provides_at (ahead tokens.entry)) }
 {
     if next_is_word(tokens, b"provides") {

@@ -29,11 +29,7 @@ fn datum(alloc: Global, tokens: Tokens) -> Result<(Datum, Tokens), Halt>
 
 /// These variables and all that follow them, and the tokens after those.
 #[tactic(auto, unfolding(seq_read::specs::Names::may_name, seq_read::specs::Parts::more_data_at, seq_read::specs::Parts::data_at, seq_read::specs::Parts::datum_at, crate::specs::Readers::datum_at, crate::specs::Readers::locals_at, crate::specs::Heads::data_from_at))]
-fn more_data(
-    alloc: Global,
-    tokens: Tokens,
-    front: Vec<Datum>,
-) -> Result<(Vec<Datum>, Tokens), Halt>
+fn more_data(alloc: Global, tokens: Tokens, front: Vec<Datum>) -> Result<(Vec<Datum>, Tokens), Halt>
     ensures { Gives (λ r. (r.0.items, ahead r.1)) result (data_from_at front.items (ahead tokens.entry)) }
 {
     seq_read::more_data(alloc, tokens, Text::Design, front)

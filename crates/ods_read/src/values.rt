@@ -152,10 +152,7 @@ pub(crate) fn constraint(tokens: Tokens) -> Result<(Option<Constraint>, Tokens),
 
 /// A unit of time where one is next and units may stand, and the tokens after it.
 #[tactic(auto, unfolding(crate::specs::Readers::unit_at, seq_read::specs::Parts::named_at))]
-pub(crate) fn unit_after(
-    tokens: Tokens,
-    units: bool,
-) -> Result<(Option<TickUnit>, Tokens), Halt>
+pub(crate) fn unit_after(tokens: Tokens, units: bool) -> Result<(Option<TickUnit>, Tokens), Halt>
     ensures { Gives (λ r. (r.0, ahead r.1)) result (unit_at units (ahead tokens.entry)) }
 {
     if !units {

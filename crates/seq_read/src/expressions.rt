@@ -35,12 +35,7 @@ fn variable(alloc: Global, tokens: Tokens, text: Text) -> Result<(Expr, Tokens),
 /// An expression in parentheses, inside which they nest less deep than `deeper`.
 #[cycle(levels)]
 #[tactic(auto, unfolding(crate::specs::Expressions::paren_at))]
-fn paren(
-    alloc: Global,
-    tokens: Tokens,
-    text: Text,
-    deeper: u32,
-) -> Result<(Expr, Tokens), Halt>
+fn paren(alloc: Global, tokens: Tokens, text: Text, deeper: u32) -> Result<(Expr, Tokens), Halt>
     ensures { Gives (λ r. (expression_of r.0, ahead r.1)) result (opened_at (may_name text) 32 deeper (ahead tokens.entry)) }
 {
     let Some(deeper) = deeper.checked_sub(1) else {
@@ -55,12 +50,7 @@ fn paren(
 /// A number, a variable, or an expression in parentheses.
 #[cycle(levels)]
 #[tactic(auto, unfolding(crate::specs::Expressions::primary_at))]
-fn primary(
-    alloc: Global,
-    tokens: Tokens,
-    text: Text,
-    deeper: u32,
-) -> Result<(Expr, Tokens), Halt>
+fn primary(alloc: Global, tokens: Tokens, text: Text, deeper: u32) -> Result<(Expr, Tokens), Halt>
     ensures { Gives (λ r. (expression_of r.0, ahead r.1)) result (primary_at (may_name text) (opened_at (may_name text) 32 deeper) (ahead tokens.entry)) }
 {
     if next_is_mark(tokens, Mark::LeftParen) {
@@ -75,12 +65,7 @@ fn primary(
 /// `not` and a primary.
 #[cycle(levels)]
 #[tactic(auto, unfolding(crate::specs::Expressions::inverse_at))]
-fn inverse(
-    alloc: Global,
-    tokens: Tokens,
-    text: Text,
-    deeper: u32,
-) -> Result<(Expr, Tokens), Halt>
+fn inverse(alloc: Global, tokens: Tokens, text: Text, deeper: u32) -> Result<(Expr, Tokens), Halt>
     ensures { Gives (λ r. (expression_of r.0, ahead r.1)) result (inverse_at (may_name text) (opened_at (may_name text) 32 deeper) (ahead tokens.entry)) }
 {
     let tokens = word(tokens, b"not")?;
@@ -91,12 +76,7 @@ fn inverse(
 /// A primary, or `not` and a primary.
 #[cycle(levels)]
 #[tactic(auto, unfolding(crate::specs::Expressions::factor_at))]
-fn factor(
-    alloc: Global,
-    tokens: Tokens,
-    text: Text,
-    deeper: u32,
-) -> Result<(Expr, Tokens), Halt>
+fn factor(alloc: Global, tokens: Tokens, text: Text, deeper: u32) -> Result<(Expr, Tokens), Halt>
     ensures { Gives (λ r. (expression_of r.0, ahead r.1)) result (factor_at (may_name text) (opened_at (may_name text) 32 deeper) (ahead tokens.entry)) }
 {
     if next_is_word(tokens, b"not") {
@@ -175,12 +155,7 @@ fn chain(
 /// Factors.
 #[cycle(levels)]
 #[tactic(auto, unfolding(crate::specs::Expressions::term_at))]
-fn term(
-    alloc: Global,
-    tokens: Tokens,
-    text: Text,
-    deeper: u32,
-) -> Result<(Expr, Tokens), Halt>
+fn term(alloc: Global, tokens: Tokens, text: Text, deeper: u32) -> Result<(Expr, Tokens), Halt>
     ensures { Gives (λ r. (expression_of r.0, ahead r.1)) result (term_at (may_name text) 32 (opened_at (may_name text) 32 deeper) (ahead tokens.entry)) }
 {
     let (first, tokens) = factor(alloc, tokens, text, deeper)?;
@@ -190,12 +165,7 @@ fn term(
 /// Terms.
 #[cycle(levels)]
 #[tactic(auto, unfolding(crate::specs::Expressions::simple_at))]
-fn simple(
-    alloc: Global,
-    tokens: Tokens,
-    text: Text,
-    deeper: u32,
-) -> Result<(Expr, Tokens), Halt>
+fn simple(alloc: Global, tokens: Tokens, text: Text, deeper: u32) -> Result<(Expr, Tokens), Halt>
     ensures { Gives (λ r. (expression_of r.0, ahead r.1)) result (simple_at (may_name text) 32 (opened_at (may_name text) 32 deeper) (ahead tokens.entry)) }
 {
     let (first, tokens) = term(alloc, tokens, text, deeper)?;
@@ -205,12 +175,7 @@ fn simple(
 /// A comparison, or one side alone.
 #[cycle(levels)]
 #[tactic(auto, unfolding(crate::specs::Expressions::relation_at, crate::specs::Expressions::comparison_at))]
-fn relation(
-    alloc: Global,
-    tokens: Tokens,
-    text: Text,
-    deeper: u32,
-) -> Result<(Expr, Tokens), Halt>
+fn relation(alloc: Global, tokens: Tokens, text: Text, deeper: u32) -> Result<(Expr, Tokens), Halt>
     ensures { Gives (λ r. (expression_of r.0, ahead r.1)) result (relation_at (may_name text) 32 (opened_at (may_name text) 32 deeper) (ahead tokens.entry)) }
 {
     let (left, tokens) = simple(alloc, tokens, text, deeper)?;

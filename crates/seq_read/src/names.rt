@@ -6,8 +6,8 @@ ghost use Rattle.token_read.specs.Lexemes.{word_bytes};
 ghost use Rattle.seq_read.specs.Names.{may_name};
 ghost use Rattle.seq_read.specs.Statements.{next_is_name};
 
-use words::{is_ada_name, is_among, is_design_name};
 use token_read::{Lexeme, Tokens, Word};
+use words::{is_ada_name, is_among, is_design_name};
 
 /// The words of blocks and expressions.
 const WORDS: [&str; 20] = [

@@ -28,9 +28,7 @@ fn operator_of(lexeme: Lexeme, class: Class) -> Option<BinOp>
     match (class, lexeme) {
         (Class::Multiplying, Lexeme::Sign(Mark::Star)) => Some(BinOp::Mul),
         (Class::Multiplying, Lexeme::Sign(Mark::Slash)) => Some(BinOp::Div),
-        (Class::Multiplying, Lexeme::Word(word)) if word.is(b"mod") => Some(
-            BinOp::Mod,
-        ),
+        (Class::Multiplying, Lexeme::Word(word)) if word.is(b"mod") => Some(BinOp::Mod),
         (Class::Adding, Lexeme::Sign(Mark::Plus)) => Some(BinOp::Add),
         (Class::Adding, Lexeme::Sign(Mark::Minus)) => Some(BinOp::Sub),
         (Class::Relational, Lexeme::Sign(Mark::Equal)) => Some(BinOp::Eq),

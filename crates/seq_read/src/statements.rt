@@ -87,12 +87,7 @@ fn work(tokens: Tokens) -> Result<(Stmt, Tokens), Halt>
 
 /// `put (e);`
 #[tactic(auto, unfolding(crate::specs::Statements::put_at))]
-fn put(
-    alloc: Global,
-    tokens: Tokens,
-    text: Text,
-    deeper: u32,
-) -> Result<(Stmt, Tokens), Halt>
+fn put(alloc: Global, tokens: Tokens, text: Text, deeper: u32) -> Result<(Stmt, Tokens), Halt>
     ensures { Gives (λ r. (statement_of r.0, ahead r.1)) result (put_at (expression_at (may_name text) 32 deeper) (ahead tokens.entry)) }
 {
     let tokens = word(tokens, b"put")?;
@@ -105,12 +100,7 @@ fn put(
 
 /// `exit when e;`
 #[tactic(auto, unfolding(crate::specs::Statements::exit_at))]
-fn exit(
-    alloc: Global,
-    tokens: Tokens,
-    text: Text,
-    deeper: u32,
-) -> Result<(Stmt, Tokens), Halt>
+fn exit(alloc: Global, tokens: Tokens, text: Text, deeper: u32) -> Result<(Stmt, Tokens), Halt>
     ensures { Gives (λ r. (statement_of r.0, ahead r.1)) result (exit_at (expression_at (may_name text) 32 deeper) (ahead tokens.entry)) }
 {
     let tokens = word(tokens, b"exit")?;
@@ -139,12 +129,7 @@ fn assignment(
 
 /// A further actual.
 #[tactic(auto, unfolding(crate::specs::Statements::further_at))]
-fn further(
-    alloc: Global,
-    tokens: Tokens,
-    text: Text,
-    deeper: u32,
-) -> Result<(Expr, Tokens), Halt>
+fn further(alloc: Global, tokens: Tokens, text: Text, deeper: u32) -> Result<(Expr, Tokens), Halt>
     ensures { Gives (λ r. (expression_of r.0, ahead r.1)) result (further_at (expression_at (may_name text) 32 deeper) (ahead tokens.entry)) }
 {
     let tokens = mark(tokens, Mark::Comma)?;
@@ -153,12 +138,7 @@ fn further(
 
 /// Actuals in parentheses.
 #[tactic(auto, unfolding(crate::specs::Statements::list_at), using(crate::proofs::ActualSteps::actual_steps))]
-fn list(
-    alloc: Global,
-    tokens: Tokens,
-    text: Text,
-    deeper: u32,
-) -> Result<(Vec<Expr>, Tokens), Halt>
+fn list(alloc: Global, tokens: Tokens, text: Text, deeper: u32) -> Result<(Vec<Expr>, Tokens), Halt>
     ensures { Gives (λ r. (map expression_of r.0.items, ahead r.1)) result (list_at (expression_at (may_name text) 32 deeper) (ahead tokens.entry)) }
 {
     let opened = mark(tokens, Mark::LeftParen)?;
@@ -218,12 +198,7 @@ fn call(
 
 /// An assignment or a call.
 #[tactic(auto, unfolding(crate::specs::Statements::named_at))]
-fn named(
-    alloc: Global,
-    tokens: Tokens,
-    text: Text,
-    deeper: u32,
-) -> Result<(Stmt, Tokens), Halt>
+fn named(alloc: Global, tokens: Tokens, text: Text, deeper: u32) -> Result<(Stmt, Tokens), Halt>
     ensures { Gives (λ r. (statement_of r.0, ahead r.1)) result (named_at (may_name text) (expression_at (may_name text) 32 deeper) (ahead tokens.entry)) }
 {
     let (first, tokens) = name(alloc, tokens, text)?;
@@ -237,12 +212,7 @@ fn named(
 /// A condition, and the block behind `then`.
 #[cycle(nesting)]
 #[tactic(auto, unfolding(crate::specs::Statements::guarded_at))]
-fn guarded(
-    alloc: Global,
-    tokens: Tokens,
-    text: Text,
-    deeper: u32,
-) -> Result<(Arm, Tokens), Halt>
+fn guarded(alloc: Global, tokens: Tokens, text: Text, deeper: u32) -> Result<(Arm, Tokens), Halt>
     ensures { Gives (λ r. (arm_of r.0, ahead r.1)) result (guarded_at (expression_at (may_name text) 32 deeper) (block_at (may_name text) 32 deeper) (ahead tokens.entry)) }
 {
     let (cond, tokens) = expression(alloc, tokens, text, deeper)?;
@@ -254,12 +224,7 @@ fn guarded(
 /// `elsif` with its condition and its block.
 #[cycle(nesting)]
 #[tactic(auto, unfolding(crate::specs::Statements::arm_at))]
-fn arm(
-    alloc: Global,
-    tokens: Tokens,
-    text: Text,
-    deeper: u32,
-) -> Result<(Arm, Tokens), Halt>
+fn arm(alloc: Global, tokens: Tokens, text: Text, deeper: u32) -> Result<(Arm, Tokens), Halt>
     ensures { Gives (λ r. (arm_of r.0, ahead r.1)) result (arm_at (expression_at (may_name text) 32 deeper) (block_at (may_name text) 32 deeper) (ahead tokens.entry)) }
 {
     let tokens = word(tokens, b"elsif")?;
@@ -316,12 +281,7 @@ fn conditional(
 
 /// An `if`, inside which constructs nest less deep than `deeper`.
 #[cycle(nesting)]
-fn branching(
-    alloc: Global,
-    tokens: Tokens,
-    text: Text,
-    deeper: u32,
-) -> Result<(Stmt, Tokens), Halt>
+fn branching(alloc: Global, tokens: Tokens, text: Text, deeper: u32) -> Result<(Stmt, Tokens), Halt>
     ensures { Gives (λ r. (statement_of r.0, ahead r.1)) result (branching_at (may_name text) 32 deeper (ahead tokens.entry)) }
 {
     match deeper.checked_sub(1) {
@@ -333,12 +293,7 @@ fn branching(
 /// A loop, inside which constructs nest less deep than `deeper`.
 #[cycle(nesting)]
 #[tactic(auto, unfolding(crate::specs::Statements::for_at))]
-fn looping(
-    alloc: Global,
-    tokens: Tokens,
-    text: Text,
-    deeper: u32,
-) -> Result<(Stmt, Tokens), Halt>
+fn looping(alloc: Global, tokens: Tokens, text: Text, deeper: u32) -> Result<(Stmt, Tokens), Halt>
     ensures { Gives (λ r. (statement_of r.0, ahead r.1)) result (looping_at (may_name text) 32 deeper (ahead tokens.entry)) }
 {
     let Some(deeper) = deeper.checked_sub(1) else {
@@ -394,12 +349,7 @@ fn of_kind(
 /// A statement, inside which constructs nest at most `deeper` deep.
 #[cycle(nesting)]
 #[tactic(auto, using(crate::proofs::BlockSteps::statement_whole))]
-fn statement(
-    alloc: Global,
-    tokens: Tokens,
-    text: Text,
-    deeper: u32,
-) -> Result<(Stmt, Tokens), Halt>
+fn statement(alloc: Global, tokens: Tokens, text: Text, deeper: u32) -> Result<(Stmt, Tokens), Halt>
     ensures { Gives (λ r. (statement_of r.0, ahead r.1)) result (statement_at (may_name text) 32 deeper (ahead tokens.entry)) }
 {
     of_kind(alloc, tokens, text, deeper, kind_of(tokens))

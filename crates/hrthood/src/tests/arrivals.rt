@@ -1,7 +1,7 @@
 //! Replays under arrivals: requests from outside, durations and horizons, and what is refused.
 
 use super::replays::{REFUSED, REPLAYED};
-use super::rows::{check_replay, lines, row_text, run_table};
+use super::rows::{Outcome, lines, replay_under, row_text, run_table};
 use super::texts::ada_text;
 use std::test::Fail;
 
@@ -294,7 +294,8 @@ fn idle_ticks_take_no_time(rt: HostRuntime) -> Result<(), Fail> {
     let ada = ada_text(&rt, &row_text(&rt, LONGEST, REPLAYED)?)?;
     let wanted = lines(&rt, LONGEST, "out")?;
     for _ in 0..1000_u32 {
-        check_replay(&rt, &rt, &ada, b"UNTIL 1000000000;", &wanted, LONGEST)?;
+        let Outcome { out, .. } = replay_under(&rt, &ada, b"UNTIL 1000000000;")?;
+        assert_eq!(rt; out.bytes(), wanted.as_slice());
     }
     Ok(())
 }

@@ -1,7 +1,8 @@
 //! Each token of an Ada text, of a design and of an arrivals file, cut, doubled and replaced.
 
-use super::rows::{check_told, number, run_file};
-use std::process::Abort;
+use super::rows::{Outcome, number, replay_under, row_text, run_design};
+use super::texts::ada_text;
+use hrthood_top::Status;
 use std::test::Fail;
 
 /// The tokens of a text with a passive unit and a task, a space behind each.
@@ -99,20 +100,6 @@ pub enum Change {
     Replaced,
 }
 
-/// Adds a token, changed so if it is.
-fn push_changed(text: &mut Vec<u8>, token: &[u8], change: Option<Change>) -> Result<(), Fail> {
-    match change {
-        None => text.extend_from_slice(token)?,
-        Some(Change::Cut) => {}
-        Some(Change::Doubled) => {
-            text.extend_from_slice(token)?;
-            text.extend_from_slice(token)?;
-        }
-        Some(Change::Replaced) => text.extend_from_slice(b";\n")?,
-    }
-    Ok(())
-}
-
 /// The text of tokens, one a line, with the token at a place changed.
 fn changed_text(
     rt: &HostRuntime,
@@ -129,11 +116,14 @@ fn changed_text(
             continue;
         }
         token.push(b'\n')?;
-        push_changed(
-            &mut text,
-            &token,
-            if index == place { Some(change) } else { None },
-        )?;
+        if index != place {
+            text.extend_from_slice(&token)?;
+        } else if change == Change::Doubled {
+            text.extend_from_slice(&token)?;
+            text.extend_from_slice(&token)?;
+        } else if change == Change::Replaced {
+            text.extend_from_slice(b";\n")?;
+        }
         token.clear();
         index = index.saturating_add(1);
     }
@@ -275,162 +265,166 @@ pub fn line_of_design_fault(change: Change, place: usize) -> usize {
     line_of_fault(DESIGN_LATE, change, place)
 }
 
-/// A text whose tokens are changed.
-struct Text {
-    /// Its kind, as `run_file` has them; its refusals name the file of it.
-    kind: &'static str,
-    file: &'static str,
-    tokens: &'static str,
-    /// The places of the first token that is changed, and of the one behind the last.
-    first: usize,
-    end: usize,
-    /// What is written where it is taken.
+/// What is told of a text: the status, standard output and standard error.
+#[derive(Drop)]
+struct Told {
+    status: Status,
     out: &'static str,
-    /// The places of faults that are not told at the first token that differs.
-    late: &'static str,
-    /// What is told of some changes otherwise: a refusal, or nothing where it is a text of its kind still.
-    others: &'static [(Change, usize, &'static str)],
+    err: String,
 }
 
-/// It is a program still without the `else`, where two assignments follow each other.
-const ADA_TEXT: Text = Text {
-    kind: "ada",
-    file: "ada",
-    tokens: ADA,
-    first: 0,
-    end: 331,
-    out: ADA_TRACE,
-    late: ADA_LATE,
-    others: &[(Change::Cut, 218, "")],
-};
-
-/// The tokens before the program are those of the Ada text above.
-const UNITS_TEXT: Text = Text {
-    kind: "ada",
-    file: "ada",
-    tokens: UNITS,
-    first: 127,
-    end: 774,
-    out: UNITS_TRACE,
-    late: UNITS_LATE,
-    others: &[],
-};
-
-/// It is a design still without a unit of time, which counts ticks, without the `else`, and without a constraint, where a rule is broken.
-const DESIGN_TEXT: Text = Text {
-    kind: "check",
-    file: "design",
-    tokens: DESIGN,
-    first: 0,
-    end: 300,
-    out: DESIGN_TAKEN,
-    late: DESIGN_LATE,
-    others: &[
-        (Change::Cut, 70, ""),
-        (Change::Cut, 128, ""),
-        (Change::Cut, 59, "refused V05 r\n"),
-        (Change::Cut, 185, "refused V04 q\n"),
-        (Change::Cut, 273, "refused V04 s\n"),
-    ],
-};
-
-/// Without its value the request is one still, which its task does not take.
-const ARRIVALS_TEXT: Text = Text {
-    kind: "arrivals",
-    file: "arrivals",
-    tokens: ARRIVALS,
-    first: 0,
-    end: 14,
-    out: ARRIVALS_TRACE,
-    late: ARRIVALS_LATE,
-    others: &[(Change::Cut, 12, "refused Q5 line 10\n")],
-};
-
-/// The line that refuses a text with a token changed; empty where it is taken.
-fn refusal(rt: &HostRuntime, text: &Text, change: Change, place: usize) -> Result<String, Fail> {
-    for (other, at, told) in text.others {
-        if *other == change && *at == place {
-            return Ok(String::from_str(rt.alloc(), told)?);
-        }
+/// That a text is taken, with what is written then.
+fn taken(rt: &HostRuntime, out: &'static str) -> Told {
+    Told {
+        status: Status::Done,
+        out,
+        err: String::new(rt.alloc()),
     }
-    let file = text.file;
-    let line = line_of_fault(text.late, change, place);
-    Ok(format!(in rt.alloc(); "refused S1 {file} line {line} column 1\n")?)
 }
 
-/// Looks at what is told of a changed text that is refused with this line, or taken where it is empty.
-fn check_changed(
-    rt: &impl Abort,
-    host: &HostRuntime,
-    text: &Text,
-    changed: &[u8],
-    refusal: &str,
-) -> Result<(), Fail> {
-    let told = run_file(host, text.kind, changed)?;
-    let (status, out) = if refusal.is_empty() {
-        ("done", text.out)
-    } else {
-        ("refused", "")
-    };
-    check_told(
-        rt,
-        &told,
-        status,
-        out.as_bytes(),
-        refusal.as_bytes(),
-        refusal,
-    );
-    Ok(())
+/// That a text is refused, with this line.
+fn refused(err: String) -> Told {
+    Told {
+        status: Status::Refused,
+        out: "",
+        err,
+    }
 }
 
-/// Looks at what is told of a text with the token at a place changed. It is taken where a semicolon stands in place of one.
-fn check_token(
-    rt: &impl Abort,
-    host: &HostRuntime,
-    text: &Text,
+/// What is told of the Ada text with a token changed. It is a program still where a semicolon stands in place of one, and without the
+/// `else`, where two assignments follow each other.
+fn told_of_ada(
+    rt: &HostRuntime,
     change: Change,
     place: usize,
-) -> Result<(), Fail> {
-    let whole = changed_text(host, text.tokens, Change::Cut, text.end)?;
-    let changed = changed_text(host, text.tokens, change, place)?;
-    if changed == whole {
-        return check_changed(rt, host, text, &changed, "");
+    is_same: bool,
+) -> Result<Told, Fail> {
+    if is_same || change == Change::Cut && place == 218 {
+        return Ok(taken(rt, ADA_TRACE));
     }
-    check_changed(
-        rt,
-        host,
-        text,
-        &changed,
-        &refusal(host, text, change, place)?,
-    )
+    let line = line_of_fault(ADA_LATE, change, place);
+    let err = format!(in rt.alloc(); "refused S1 ada line {line} column 1\n")?;
+    Ok(refused(err))
 }
 
-/// Looks at what is told of a text with each of its tokens changed.
-fn check_tokens(rt: &impl Abort, host: &HostRuntime, text: &Text) -> Result<(), Fail> {
-    for change in [Change::Cut, Change::Doubled, Change::Replaced] {
-        for place in text.first..text.end {
-            check_token(rt, host, text, change, place)?;
-        }
+/// What is told of the text with units of every kind with a token changed. It is a program still where a semicolon stands in place of one.
+fn told_of_units(
+    rt: &HostRuntime,
+    change: Change,
+    place: usize,
+    is_same: bool,
+) -> Result<Told, Fail> {
+    if is_same {
+        return Ok(taken(rt, UNITS_TRACE));
     }
-    Ok(())
+    let line = line_of_fault(UNITS_LATE, change, place);
+    let err = format!(in rt.alloc(); "refused S1 ada line {line} column 1\n")?;
+    Ok(refused(err))
+}
+
+/// What is told of the design with a token changed. It is a design still without a unit of time, which counts ticks, without the `else`,
+/// and without a constraint, where a rule is broken.
+fn told_of_design(
+    rt: &HostRuntime,
+    change: Change,
+    place: usize,
+    is_same: bool,
+) -> Result<Told, Fail> {
+    if is_same {
+        return Ok(taken(rt, DESIGN_TAKEN));
+    }
+    match (change, place) {
+        (Change::Cut, 70 | 128) => return Ok(taken(rt, DESIGN_TAKEN)),
+        (Change::Cut, 59) => return Ok(refused(String::from_str(rt.alloc(), "refused V05 r\n")?)),
+        (Change::Cut, 185) => return Ok(refused(String::from_str(rt.alloc(), "refused V04 q\n")?)),
+        (Change::Cut, 273) => return Ok(refused(String::from_str(rt.alloc(), "refused V04 s\n")?)),
+        _ => {}
+    }
+    let line = line_of_design_fault(change, place);
+    let err = format!(in rt.alloc(); "refused S1 design line {line} column 1\n")?;
+    Ok(refused(err))
+}
+
+/// What is told of the arrivals file with a token changed. Without its value the request is one still, which its task does not take.
+fn told_of_arrivals(
+    rt: &HostRuntime,
+    change: Change,
+    place: usize,
+    is_same: bool,
+) -> Result<Told, Fail> {
+    if is_same {
+        return Ok(taken(rt, ARRIVALS_TRACE));
+    }
+    if change == Change::Cut && place == 12 {
+        return Ok(refused(String::from_str(rt.alloc(), "refused Q5 line 10\n")?));
+    }
+    let line = line_of_fault(ARRIVALS_LATE, change, place);
+    let err = format!(in rt.alloc(); "refused S1 arrivals line {line} column 1\n")?;
+    Ok(refused(err))
 }
 
 #[test]
 fn each_token_of_an_ada_text_changed(rt: HostRuntime) -> Result<(), Fail> {
-    check_tokens(&rt, &rt, &ADA_TEXT)
+    let whole = changed_text(&rt, ADA, Change::Cut, 331)?;
+    for change in [Change::Cut, Change::Doubled, Change::Replaced] {
+        for place in 0_usize..331 {
+            let text = changed_text(&rt, ADA, change, place)?;
+            let told = told_of_ada(&rt, change, place, text == whole)?;
+            let Outcome { status, out, err } = replay_under(&rt, &text, b"UNTIL 20;")?;
+            assert_eq!(rt; status, told.status, "{place}");
+            assert_eq!(rt; out.bytes(), told.out.as_bytes(), "{place}");
+            assert_eq!(rt; err.bytes(), told.err.as_bytes(), "{place}");
+        }
+    }
+    Ok(())
 }
 
+/// The tokens before the program are those of the Ada text above.
 #[test]
 fn each_token_of_units_of_every_kind_changed(rt: HostRuntime) -> Result<(), Fail> {
-    check_tokens(&rt, &rt, &UNITS_TEXT)
+    let whole = changed_text(&rt, UNITS, Change::Cut, 774)?;
+    for change in [Change::Cut, Change::Doubled, Change::Replaced] {
+        for place in 127_usize..774 {
+            let text = changed_text(&rt, UNITS, change, place)?;
+            let told = told_of_units(&rt, change, place, text == whole)?;
+            let Outcome { status, out, err } = replay_under(&rt, &text, b"UNTIL 20;")?;
+            assert_eq!(rt; status, told.status, "{place}");
+            assert_eq!(rt; out.bytes(), told.out.as_bytes(), "{place}");
+            assert_eq!(rt; err.bytes(), told.err.as_bytes(), "{place}");
+        }
+    }
+    Ok(())
 }
 
 #[test]
 fn each_token_of_a_design_changed(rt: HostRuntime) -> Result<(), Fail> {
-    check_tokens(&rt, &rt, &DESIGN_TEXT)
+    let whole = changed_text(&rt, DESIGN, Change::Cut, 300)?;
+    for change in [Change::Cut, Change::Doubled, Change::Replaced] {
+        for place in 0_usize..300 {
+            let text = changed_text(&rt, DESIGN, change, place)?;
+            let told = told_of_design(&rt, change, place, text == whole)?;
+            let Outcome { status, out, err } = run_design(&rt, "check", &text)?;
+            assert_eq!(rt; status, told.status, "{place}");
+            assert_eq!(rt; out.bytes(), told.out.as_bytes(), "{place}");
+            assert_eq!(rt; err.bytes(), told.err.as_bytes(), "{place}");
+        }
+    }
+    Ok(())
 }
 
 #[test]
 fn each_token_of_arrivals_changed(rt: HostRuntime) -> Result<(), Fail> {
-    check_tokens(&rt, &rt, &ARRIVALS_TEXT)
+    let ada = ada_text(&rt, &row_text(&rt, "like: requested", "")?)?;
+    let whole = changed_text(&rt, ARRIVALS, Change::Cut, 14)?;
+    for change in [Change::Cut, Change::Doubled, Change::Replaced] {
+        for place in 0_usize..14 {
+            let text = changed_text(&rt, ARRIVALS, change, place)?;
+            let told = told_of_arrivals(&rt, change, place, text == whole)?;
+            let Outcome { status, out, err } = replay_under(&rt, &ada, &text)?;
+            assert_eq!(rt; status, told.status, "{place}");
+            assert_eq!(rt; out.bytes(), told.out.as_bytes(), "{place}");
+            assert_eq!(rt; err.bytes(), told.err.as_bytes(), "{place}");
+        }
+    }
+    Ok(())
 }

@@ -4,8 +4,9 @@
 use super::changed_tokens::{ADA, DESIGN};
 use super::formats::FORMATTED;
 use super::generates::{EVERY_KIND, EVERY_KIND_TEXT};
-use super::rows::{check_replay, check_told, requested_text, row_text, run_file};
+use super::rows::{Outcome, replay_under, row_text, run_design};
 use super::texts::{TRACE, ada_text};
+use hrthood_top::Status;
 use std::process::Abort;
 use std::test::Fail;
 
@@ -80,16 +81,8 @@ fn zeroed(rt: &HostRuntime, text: &[u8], place: usize) -> Result<Vec<u8>, Fail> 
     Ok(bytes)
 }
 
-/// The name of a file of this kind in a refusal: a verb reads a design.
-fn file_of<'x>(kind: &'x str) -> &'x str {
-    match kind {
-        "ada" | "arrivals" => kind,
-        _ => "design",
-    }
-}
-
-/// The line that refuses a file of this kind at the place behind these bytes: lines and columns count from 1, and a line ends with a line feed.
-fn refusal(rt: &HostRuntime, code: &str, kind: &str, front: &[u8]) -> Result<String, Fail> {
+/// The line that refuses a file at the place behind these bytes: lines and columns count from 1, and a line ends with a line feed.
+fn refusal(rt: &HostRuntime, code: &str, file: &str, front: &[u8]) -> Result<String, Fail> {
     let mut line = 1_usize;
     let mut column = 1_usize;
     for byte in front {
@@ -99,23 +92,69 @@ fn refusal(rt: &HostRuntime, code: &str, kind: &str, front: &[u8]) -> Result<Str
             column = 1;
         }
     }
-    let file = file_of(kind);
     Ok(format!(in rt.alloc(); "refused {code} {file} line {line} column {column}\n")?)
 }
 
-/// Looks at what is told of a file of this kind that is refused with this code behind a front.
-fn check_refused(
+/// Looks at what is told of a text that is refused with this line.
+fn check_refused(rt: &impl Abort, told: &Outcome, refusal: &str) {
+    assert_eq!(rt; told.status, Status::Refused, "{refusal}");
+    assert_eq!(rt; told.out.bytes(), b"".as_slice(), "{refusal}");
+    assert_eq!(rt; told.err.bytes(), refusal.as_bytes(), "{refusal}");
+}
+
+/// Looks at what a verb tells of each damaged design.
+fn check_design(
     rt: &impl Abort,
     host: &HostRuntime,
-    kind: &str,
-    code: &str,
-    bytes: &[u8],
-    front: &[u8],
+    verb: &str,
+    design: &[u8],
 ) -> Result<(), Fail> {
-    let refusal = refusal(host, code, kind, front)?;
-    let told = run_file(host, kind, bytes)?;
-    check_told(rt, &told, "refused", b"", refusal.as_bytes(), &refusal);
+    for front in &fronts(host, design)? {
+        let told = run_design(host, verb, front)?;
+        check_refused(rt, &told, &refusal(host, "S1", "design", front)?);
+        let told = run_design(host, verb, &zeroed(host, design, front.len())?)?;
+        check_refused(rt, &told, &refusal(host, "L1", "design", front)?);
+    }
     Ok(())
+}
+
+/// For each token of each design, of which all are found: with the text cut off before it, `check`, `format` and `analyse` end with the
+/// status of a refusal and nothing on standard output, and tell S1 behind the last byte that is left; with a byte of value 0 in its place
+/// they tell L1 at that byte.
+#[test]
+fn designs_damaged_at_each_token(rt: HostRuntime) -> Result<(), Fail> {
+    for (design, tokens) in DESIGNS {
+        let design = design.as_bytes();
+        assert_eq!(rt; fronts(&rt, design)?.len(), *tokens);
+        for verb in ["check", "format", "analyse"] {
+            check_design(&rt, &rt, verb, design)?;
+        }
+    }
+    Ok(())
+}
+
+/// Looks at what `replay` tells of each damaged Ada text, of which so many tokens are found.
+fn check_ada(rt: &impl Abort, host: &HostRuntime, ada: &[u8], tokens: usize) -> Result<(), Fail> {
+    let fronts = fronts(host, ada)?;
+    assert_eq!(rt; fronts.len(), tokens);
+    for front in &fronts {
+        let told = replay_under(host, front, b"UNTIL 20;")?;
+        check_refused(rt, &told, &refusal(host, "S1", "ada", front)?);
+        let told = replay_under(host, &zeroed(host, ada, front.len())?, b"UNTIL 20;")?;
+        check_refused(rt, &told, &refusal(host, "L1", "ada", front)?);
+    }
+    Ok(())
+}
+
+/// For each token of each Ada text, of which all are found: with the text cut off before it, `replay` ends with the status of a refusal
+/// and nothing on standard output, and tells S1 behind the last byte that is left; with a byte of value 0 in its place it tells L1 at that
+/// byte. The last text is that of one cyclic task.
+#[test]
+fn ada_texts_damaged_at_each_token(rt: HostRuntime) -> Result<(), Fail> {
+    for (ada, tokens) in TEXTS {
+        check_ada(&rt, &rt, ada.as_bytes(), *tokens)?;
+    }
+    check_ada(&rt, &rt, &ada_text(&rt, &row_text(&rt, "", "")?)?, 227)
 }
 
 /// What a replay tells under a front of the arrivals that is a whole file.
@@ -128,83 +167,18 @@ fn whole(front: &[u8]) -> Option<&'static str> {
     None
 }
 
-/// Looks at what is told of a file that is cut off behind a front.
-fn check_front(rt: &impl Abort, host: &HostRuntime, kind: &str, front: &[u8]) -> Result<(), Fail> {
+/// Looks at what `replay` tells under a front of an arrivals file.
+fn check_front(rt: &impl Abort, host: &HostRuntime, ada: &[u8], front: &[u8]) -> Result<(), Fail> {
+    let told = replay_under(host, ada, front)?;
     match whole(front) {
-        None => check_refused(rt, host, kind, "S1", front, front),
+        None => check_refused(rt, &told, &refusal(host, "S1", "arrivals", front)?),
         Some(trace) => {
-            let ada = requested_text(host)?;
-            check_replay(rt, host, &ada, front, trace.as_bytes(), trace)
+            assert_eq!(rt; told.status, Status::Done, "{trace}");
+            assert_eq!(rt; told.out.bytes(), trace.as_bytes(), "{trace}");
+            assert_eq!(rt; told.err.bytes(), b"".as_slice(), "{trace}");
         }
     }
-}
-
-/// Looks at what is told of a file that has a byte of value 0 behind a front.
-fn check_zeroed(
-    rt: &impl Abort,
-    host: &HostRuntime,
-    kind: &str,
-    bytes: &[u8],
-    front: &[u8],
-) -> Result<(), Fail> {
-    let zeroed = zeroed(host, bytes, front.len())?;
-    check_refused(rt, host, kind, "L1", &zeroed, front)
-}
-
-/// Looks at what is told of a file, of which so many tokens are found, damaged at each of them.
-fn check_damaged(
-    rt: &impl Abort,
-    host: &HostRuntime,
-    kind: &str,
-    bytes: &[u8],
-    tokens: usize,
-) -> Result<(), Fail> {
-    let fronts = fronts(host, bytes)?;
-    assert_eq!(rt; fronts.len(), tokens);
-    for front in &fronts {
-        check_front(rt, host, kind, front)?;
-        check_zeroed(rt, host, kind, bytes, front)?;
-    }
     Ok(())
-}
-
-/// Looks at what is told of each text of a table, damaged at each of its tokens.
-fn check_table(
-    rt: &impl Abort,
-    host: &HostRuntime,
-    kind: &str,
-    table: &[(&str, usize)],
-) -> Result<(), Fail> {
-    for (text, tokens) in table {
-        check_damaged(rt, host, kind, text.as_bytes(), *tokens)?;
-    }
-    Ok(())
-}
-
-/// For each token of each design, of which all are found: with the text cut off before it, `check`, `format` and `analyse` end with the
-/// status of a refusal and nothing on standard output, and tell S1 behind the last byte that is left; with a byte of value 0 in its place
-/// they tell L1 at that byte.
-#[test]
-fn designs_damaged_at_each_token(rt: HostRuntime) -> Result<(), Fail> {
-    for verb in ["check", "format", "analyse"] {
-        check_table(&rt, &rt, verb, DESIGNS)?;
-    }
-    Ok(())
-}
-
-/// For each token of each Ada text, of which all are found: with the text cut off before it, `replay` ends with the status of a refusal
-/// and nothing on standard output, and tells S1 behind the last byte that is left; with a byte of value 0 in its place it tells L1 at that
-/// byte. The last text is that of one cyclic task.
-#[test]
-fn ada_texts_damaged_at_each_token(rt: HostRuntime) -> Result<(), Fail> {
-    check_table(&rt, &rt, "ada", TEXTS)?;
-    check_damaged(
-        &rt,
-        &rt,
-        "ada",
-        &ada_text(&rt, &row_text(&rt, "", "")?)?,
-        227,
-    )
 }
 
 /// For each token of each arrivals file, of which all are found: with the file cut off before it, `replay` ends with the status of a
@@ -212,5 +186,16 @@ fn ada_texts_damaged_at_each_token(rt: HostRuntime) -> Result<(), Fail> {
 /// byte of value 0 in its place it tells L1 at that byte.
 #[test]
 fn arrivals_damaged_at_each_token(rt: HostRuntime) -> Result<(), Fail> {
-    check_table(&rt, &rt, "arrivals", ARRIVALS)
+    let ada = ada_text(&rt, &row_text(&rt, "like: requested", "")?)?;
+    for (arrivals, tokens) in ARRIVALS {
+        let arrivals = arrivals.as_bytes();
+        let fronts = fronts(&rt, arrivals)?;
+        assert_eq!(rt; fronts.len(), *tokens);
+        for front in &fronts {
+            check_front(&rt, &rt, &ada, front)?;
+            let told = replay_under(&rt, &ada, &zeroed(&rt, arrivals, front.len())?)?;
+            check_refused(&rt, &told, &refusal(&rt, "L1", "arrivals", front)?);
+        }
+    }
+    Ok(())
 }

@@ -1,8 +1,8 @@
 //! Designs of every kind of object, and the Ada texts that are made of them.
 
-use super::rows::{arrivals_bytes, check_replay, check_told, lines, row_text, run_row, run_table};
+use super::rows::{Outcome, arrivals_bytes, lines, replay_under, row_text, run_row, run_table};
 use super::verifies::TRACES;
-use std::process::Abort;
+use hrthood_top::Status;
 use std::test::Fail;
 
 /// A passive, a protected, a cyclic and a sporadic object.
@@ -271,21 +271,15 @@ fn texts_of_designs(rt: HostRuntime) -> Result<(), Fail> {
     run_table(&rt, &rt, MADE, GENERATED)
 }
 
-/// Looks at the head of the text of a row's design.
-fn check_head(rt: &impl Abort, host: &HostRuntime, given: &str) -> Result<(), Fail> {
-    let row = row_text(host, given, MADE)?;
-    let head = lines(host, &row, "out")?;
-    let told = run_row(host, &row)?;
-    let text = told.out.bytes();
-    check_told(rt, &told, "done", text, b"", given);
-    assert!(rt; text.starts_with(&head), "{given}");
-    Ok(())
-}
-
 #[test]
 fn heads_of_texts_of_designs(rt: HostRuntime) -> Result<(), Fail> {
     for given in HEADS {
-        check_head(&rt, &rt, given)?;
+        let row = row_text(&rt, given, MADE)?;
+        let Outcome { status, out, err } = run_row(&rt, &row)?;
+        let head = lines(&rt, &row, "out")?;
+        assert_eq!(rt; status, Status::Done, "{given}");
+        assert!(rt; out.bytes().starts_with(&head), "{given}");
+        assert_eq!(rt; err.bytes(), b"".as_slice(), "{given}");
     }
     Ok(())
 }
@@ -305,23 +299,22 @@ const REPLAYED: &[&str] = &[
     out: 20 horizon",
 ];
 
-/// Makes the text of a row's design, and looks at its replay.
-fn check_made(rt: &impl Abort, host: &HostRuntime, given: &str) -> Result<(), Fail> {
-    let row = row_text(host, given, "words: generate d\narrivals: UNTIL 20;")?;
-    let arrivals = arrivals_bytes(host, &row)?;
-    let trace = lines(host, &row, "out")?;
-    let made = run_row(host, &row)?;
-    let text = made.out.bytes();
-    check_told(rt, &made, "done", text, b"", given);
-    check_replay(rt, host, text, &arrivals, &trace, given)
-}
-
 /// The text of a design that one command writes another replays. Traces of other designs are those that `verify` has of them.
 #[test]
 fn texts_of_designs_are_replayed(rt: HostRuntime) -> Result<(), Fail> {
     for table in [REPLAYED, TRACES] {
         for given in table {
-            check_made(&rt, &rt, given)?;
+            let row = row_text(&rt, given, "words: generate d\narrivals: UNTIL 20;")?;
+            let made = run_row(&rt, &row)?;
+            assert_eq!(rt; made.status, Status::Done, "{given}");
+            let Outcome { status, out, err } = replay_under(
+                &rt,
+                made.out.bytes(),
+                &arrivals_bytes(&rt, &row)?,
+            )?;
+            assert_eq!(rt; status, Status::Done, "{given}");
+            assert_eq!(rt; out.bytes(), lines(&rt, &row, "out")?.as_slice(), "{given}");
+            assert_eq!(rt; err.bytes(), b"".as_slice(), "{given}");
         }
     }
     Ok(())

@@ -131,11 +131,6 @@ pub struct Outcome {
     pub err: MemSink,
 }
 
-/// What a run wrote to standard output; empty where that is no text.
-pub fn text_of<'x>(told: &'x Outcome) -> &'x str {
-    str::from_utf8(told.out.bytes()).unwrap_or("")
-}
-
 /// Runs words over a shelf and two sinks.
 fn run_over(
     rt: &HostRuntime,
@@ -178,20 +173,6 @@ pub fn replay_under(rt: &HostRuntime, ada: &[u8], arrivals: &[u8]) -> Result<Out
     run_words(rt, &["replay", "a.ada", "r"], &mut shelf, 10_000)
 }
 
-/// The Ada text that arrivals are given to: of a task with a sporadic unit.
-pub fn requested_text(rt: &HostRuntime) -> Result<Vec<u8>, Fail> {
-    ada_text(rt, &row_text(rt, "like: requested", "")?)
-}
-
-/// What is told of the bytes of a file of this kind: of `ada` and `arrivals` by a replay, and else of a design by the verb of that name.
-pub fn run_file(rt: &HostRuntime, kind: &str, bytes: &[u8]) -> Result<Outcome, Fail> {
-    match kind {
-        "ada" => replay_under(rt, bytes, b"UNTIL 20;"),
-        "arrivals" => replay_under(rt, &requested_text(rt)?, bytes),
-        verb => run_design(rt, verb, bytes),
-    }
-}
-
 /// An empty shelf, on which the fetch that a row names fails.
 fn shelf_of(rt: &HostRuntime, row: &str) -> Result<MemShelf, Fail> {
     Ok(match value(row, "fails") {
@@ -214,7 +195,7 @@ pub fn run_row(rt: &HostRuntime, row: &str) -> Result<Outcome, Fail> {
 }
 
 /// The word for a status in a row.
-pub fn word_of(status: Status) -> &'static str {
+fn word_of(status: Status) -> &'static str {
     match status {
         Status::Done => "done",
         Status::Refused => "refused",
@@ -236,66 +217,30 @@ fn wanted_out(rt: &HostRuntime, row: &str) -> Result<Vec<u8>, Fail> {
     Ok(out)
 }
 
-/// What a row wants in standard error.
-fn wanted_err(rt: &HostRuntime, row: &str) -> Result<Vec<u8>, Fail> {
-    let mut err = lines(rt, row, "err")?;
-    err.truncate(number(text(row, "err_room")));
-    Ok(err)
+/// Looks at what a run wrote to standard output for a row.
+fn check_out(rt: &impl Abort, host: &HostRuntime, row: &str, out: &[u8]) -> Result<(), Fail> {
+    let wanted = wanted_out(host, row)?;
+    assert_eq!(rt; out, wanted.as_slice(), "{row}");
+    Ok(())
 }
 
-/// Looks whether these are the bytes that a row wants.
-pub fn check_bytes(rt: &impl Abort, found: &[u8], wanted: &[u8], row: &str) {
-    assert_eq!(rt; found, wanted, "{row}");
-}
-
-/// Looks at what a run answered, by the word for its status, and at all that it wrote to standard output and standard error.
-pub fn check_told(
-    rt: &impl Abort,
-    told: &Outcome,
-    status: &str,
-    out: &[u8],
-    err: &[u8],
-    row: &str,
-) {
-    check_bytes(rt, word_of(told.status).as_bytes(), status.as_bytes(), row);
-    check_bytes(rt, told.out.bytes(), out, row);
-    check_bytes(rt, told.err.bytes(), err, row);
-}
-
-/// Replays an Ada text under an arrivals file, which is done and gives this trace.
-pub fn check_replay(
-    rt: &impl Abort,
-    host: &HostRuntime,
-    ada: &[u8],
-    arrivals: &[u8],
-    trace: &[u8],
-    row: &str,
-) -> Result<(), Fail> {
-    let told = replay_under(host, ada, arrivals)?;
-    check_told(rt, &told, "done", trace, b"", row);
+/// Looks at what a run wrote to standard error for a row.
+fn check_err(rt: &impl Abort, host: &HostRuntime, row: &str, err: &[u8]) -> Result<(), Fail> {
+    let mut wanted = lines(host, row, "err")?;
+    wanted.truncate(number(text(row, "err_room")));
+    assert_eq!(rt; err, wanted.as_slice(), "{row}");
     Ok(())
 }
 
 /// Runs a row, and looks at all that is told of it.
 pub fn check_row(rt: &impl Abort, host: &HostRuntime, row: &str) -> Result<(), Fail> {
-    let out = wanted_out(host, row)?;
-    let err = wanted_err(host, row)?;
-    let told = run_row(host, row)?;
-    check_told(rt, &told, text(row, "status"), &out, &err, row);
-    Ok(())
+    let Outcome { status, out, err } = run_row(host, row)?;
+    assert_eq!(rt; word_of(status), text(row, "status"), "{row}");
+    check_out(rt, host, row, out.bytes())?;
+    check_err(rt, host, row, err.bytes())
 }
 
-/// Runs a row that has these keys too, and looks at all that is told of it, with room in standard error and without.
-fn check_given(rt: &impl Abort, host: &HostRuntime, usual: &str, given: &str) -> Result<(), Fail> {
-    let row = row_text(host, given, usual)?;
-    check_row(rt, host, &row)?;
-    if value(given, "err_room").is_none() && text(&row, "status") != "done" {
-        return check_row(rt, host, &joined(host, &["err_room: 0\n", &row])?);
-    }
-    Ok(())
-}
-
-/// Runs each row of a table, whose rows have these keys too, and looks at all that is told of it.
+/// Runs each row of a table, whose rows have these keys too, and looks at all that is told of it, with room in standard error and without.
 pub fn run_table(
     rt: &impl Abort,
     host: &HostRuntime,
@@ -303,7 +248,11 @@ pub fn run_table(
     table: &[&str],
 ) -> Result<(), Fail> {
     for given in table {
-        check_given(rt, host, usual, given)?;
+        let row = row_text(host, given, usual)?;
+        check_row(rt, host, &row)?;
+        if value(given, "err_room").is_none() && text(&row, "status") != "done" {
+            check_row(rt, host, &joined(host, &["err_room: 0\n", &row])?)?;
+        }
     }
     Ok(())
 }

@@ -3,7 +3,9 @@
 //! The numbers are those of a simulation in ticks that knows nothing of the toolset: of the ready threads the one with the shortest
 //! deadline runs, but a thread on the board is not preempted. An activation uses 10 ticks, one more on the board, and one to end.
 
-use super::rows::{check_told, number, row_text, run_row, run_table, text_of};
+use super::rows::{number, run_table, run_words};
+use hood_io::MemShelf;
+use hrthood_top::Status;
 use std::process::Abort;
 use std::test::Fail;
 
@@ -137,52 +139,31 @@ fn behind(line: &str, word: &str) -> usize {
     number(words.next().unwrap_or(""))
 }
 
-/// Looks at the line of a thread in the summary of a sample of so many: it is within its bound.
-fn check_line(
-    rt: &impl Abort,
-    host: &HostRuntime,
-    line: &str,
-    thread: usize,
-    threads: usize,
-) -> Result<(), Fail> {
-    let start = format!(in host.alloc(); "thread t{thread} releases ")?;
-    assert!(rt; line.starts_with(start.as_str()), "{line}");
-    let last = usize::from(thread == threads);
-    let bound = thread
-        .saturating_mul(12)
-        .saturating_add(1)
-        .saturating_sub(last);
-    assert_eq!(rt; behind(line, "bound"), bound, "{line}");
-    let greatest = behind(line, "greatest");
-    assert!(rt; 0 < greatest && greatest <= bound, "{line}");
-    Ok(())
-}
-
-/// Looks at the summary of a sample: there is a line for each of so many threads, in order, and one with the number of lines.
-fn check_summary(
-    rt: &impl Abort,
-    host: &HostRuntime,
-    summary: &str,
-    threads: usize,
-) -> Result<(), Fail> {
-    let mut lines = summary.lines();
-    for thread in 1..threads.saturating_add(1) {
-        check_line(rt, host, lines.next().unwrap_or(""), thread, threads)?;
-    }
-    let last = lines.next().unwrap_or("");
-    assert!(rt; last.starts_with("lines "), "{summary}");
-    assert!(rt; lines.next().is_none(), "{summary}");
-    Ok(())
-}
-
 /// Looks at the summary of the sample of so many threads: there is a line for each of them, in order, with its bound, and no time is
 /// over it.
 fn check_sample(rt: &impl Abort, host: &HostRuntime, threads: usize) -> Result<(), Fail> {
-    let row = format!(in host.alloc(); "words: sample {threads}\n")?;
-    let row = row_text(host, &row, "")?;
-    let told = run_row(host, &row)?;
-    check_told(rt, &told, "done", told.out.bytes(), b"", &row);
-    check_summary(rt, host, text_of(&told), threads)
+    let count = format!(in host.alloc(); "{threads}")?;
+    let mut shelf = MemShelf::new(host.alloc(), &[])?;
+    let run = run_words(host, &["sample", &count], &mut shelf, 10_000)?;
+    assert!(rt; run.status == Status::Done, "{threads}");
+    let summary = str::from_utf8(run.out.bytes()).unwrap_or("");
+    let mut lines = summary.lines();
+    for k in 1..threads.saturating_add(1) {
+        let line = lines.next().unwrap_or("");
+        let start = format!(in host.alloc(); "thread t{k} releases ")?;
+        assert!(rt; line.starts_with(start.as_str()), "{summary}");
+        let last = usize::from(k == threads);
+        let bound = k.saturating_mul(12).saturating_add(1).saturating_sub(last);
+        assert_eq!(rt; behind(line, "bound"), bound, "{summary}");
+        let greatest = behind(line, "greatest");
+        assert!(rt; 0 < greatest && greatest <= bound, "{summary}");
+    }
+    assert!(rt;
+        lines.next().unwrap_or("").starts_with("lines "),
+        "{summary}"
+    );
+    assert!(rt; lines.next().is_none(), "{summary}");
+    Ok(())
 }
 
 #[test]

@@ -2,10 +2,10 @@
 //! how, where the trace is not that of a schedule that was worked out before the program was there.
 
 use super::replays::{REFUSED, REPLAYED};
-use super::rows::{check_bytes, check_told, row_text, run_design, run_table};
+use super::rows::{Outcome, row_text, run_design, run_table};
 use super::shapes::design_bytes;
 use super::texts::ada_bytes;
-use std::process::Abort;
+use hrthood_top::Status;
 use std::test::Fail;
 
 /// Two threads and an object, of which each activation of the first meets a section of the second.
@@ -502,22 +502,19 @@ fn said(rt: &HostRuntime, text: &[u8]) -> Result<Vec<u8>, Fail> {
     Ok(all)
 }
 
-/// Looks whether the text of a row's design says what the text of its units does.
-fn check_text(rt: &impl Abort, host: &HostRuntime, given: &str) -> Result<(), Fail> {
-    let row = row_text(host, given, REPLAYED)?;
-    let units = said(host, &ada_bytes(host, &row)?)?;
-    let told = run_design(host, "generate", &design_bytes(host, &row)?)?;
-    let text = told.out.bytes();
-    check_told(rt, &told, "done", text, b"", given);
-    check_bytes(rt, &said(host, text)?, &units, given);
-    Ok(())
-}
-
 /// The designs of the worked schedules have the Ada texts of their units.
 #[test]
 fn designs_have_the_texts_of_their_units(rt: HostRuntime) -> Result<(), Fail> {
     for given in WORKED {
-        check_text(&rt, &rt, given)?;
+        let row = row_text(&rt, given, REPLAYED)?;
+        let Outcome { status, out, err } = run_design(&rt, "generate", &design_bytes(&rt, &row)?)?;
+        assert_eq!(rt; status, Status::Done, "{given}");
+        assert_eq!(rt;
+            said(&rt, out.bytes())?,
+            said(&rt, &ada_bytes(&rt, &row)?)?,
+            "{given}"
+        );
+        assert_eq!(rt; err.bytes(), b"".as_slice(), "{given}");
     }
     Ok(())
 }

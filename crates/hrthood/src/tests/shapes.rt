@@ -74,23 +74,40 @@ fn nested(rt: &HostRuntime, count: usize) -> Result<String, Fail> {
     design(rt, "IS", &root)
 }
 
-/// A passive object that calls the next one twice.
-fn calling(rt: &HostRuntime, k: usize) -> Result<String, Fail> {
-    let next = k.saturating_add(1);
-    Ok(format!(in rt.alloc();
-        "OBJECT p{k} IS PASSIVE PROVIDES f; REQUIRES p{next}.f; OPERATION f IS BEGIN p{next}.f; p{next}.f; END f; END p{k}; "
-    )?)
-}
-
 fn doubling(rt: &HostRuntime, count: usize) -> Result<String, Fail> {
     let mut root = String::from_str(rt.alloc(), "OBJECT r IS ACTIVE OBJECTS ")?;
     for k in 1..count {
-        root.push_str(&calling(rt, k)?)?;
+        let this = format!(in rt.alloc(); "{k}")?;
+        let next = k.saturating_add(1);
+        let next = format!(in rt.alloc(); "{next}")?;
+        root.push_str(&joined(
+            rt,
+            &[
+                "OBJECT p",
+                &this,
+                " IS PASSIVE PROVIDES f; REQUIRES p",
+                &next,
+                ".f; OPERATION f IS BEGIN p",
+                &next,
+                ".f; p",
+                &next,
+                ".f; END f; END p",
+                &this,
+                "; ",
+            ],
+        )?)?;
     }
-    let last = format!(in rt.alloc();
-        "OBJECT p{count} IS PASSIVE PROVIDES f; OPERATION f IS BEGIN null; END f; END p{count}; END r;"
-    )?;
-    root.push_str(&last)?;
+    let last = format!(in rt.alloc(); "{count}")?;
+    root.push_str(&joined(
+        rt,
+        &[
+            "OBJECT p",
+            &last,
+            " IS PASSIVE PROVIDES f; OPERATION f IS BEGIN null; END f; END p",
+            &last,
+            "; END r;",
+        ],
+    )?)?;
     design(rt, "IS", &root)
 }
 

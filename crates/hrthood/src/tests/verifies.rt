@@ -1,8 +1,8 @@
 //! Designs that are verified: the text of each, and the trace of that text.
 
-use super::rows::{check_told, lines, row_text, run_design, run_row, run_table};
+use super::rows::{Outcome, lines, row_text, run_design, run_row, run_table};
 use super::shapes::design_bytes;
-use std::process::Abort;
+use hrthood_top::Status;
 use std::test::Fail;
 
 /// What rows of designs that are verified have. `out` is the trace.
@@ -135,28 +135,31 @@ const REFUSED: &[&str] = &[
     err: fault writing",
 ];
 
-/// What a row wants to be written: the text that `generate` makes of its design, the line between, and the trace.
-fn wanted(rt: &HostRuntime, row: &str) -> Result<Vec<u8>, Fail> {
-    let made = run_design(rt, "generate", &design_bytes(rt, row)?)?;
-    let mut all = made.out.bytes().to_vec(rt.alloc())?;
-    all.extend_from_slice(MARK)?;
-    all.extend_from_slice(&lines(rt, row, "out")?)?;
-    Ok(all)
-}
-
-/// Looks at what is told of a row's design.
-fn check_verified(rt: &impl Abort, host: &HostRuntime, given: &str) -> Result<(), Fail> {
-    let row = row_text(host, given, VERIFIED)?;
-    let wanted = wanted(host, &row)?;
-    let told = run_row(host, &row)?;
-    check_told(rt, &told, "done", &wanted, b"", given);
-    Ok(())
+/// What stands before the line between, and what stands behind it.
+fn parts<'x>(written: &'x [u8]) -> Option<(&'x [u8], &'x [u8])> {
+    for place in 0..written.len() {
+        let (text, back) = written.split_at(place);
+        if let Some(trace) = back.strip_prefix(MARK) {
+            return Some((text, trace));
+        }
+    }
+    None
 }
 
 #[test]
 fn traces_of_designs(rt: HostRuntime) -> Result<(), Fail> {
     for given in TRACES {
-        check_verified(&rt, &rt, given)?;
+        let row = row_text(&rt, given, VERIFIED)?;
+        let Outcome { status, out, err } = run_row(&rt, &row)?;
+        assert_eq!(rt; status, Status::Done, "{given}");
+        assert_eq!(rt; err.bytes(), b"".as_slice(), "{given}");
+        let made = run_design(&rt, "generate", &design_bytes(&rt, &row)?)?;
+        let wanted = lines(&rt, &row, "out")?;
+        assert_eq!(rt;
+            parts(out.bytes()),
+            Some((made.out.bytes(), wanted.as_slice())),
+            "{given}"
+        );
     }
     Ok(())
 }

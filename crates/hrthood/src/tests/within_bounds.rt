@@ -1,7 +1,7 @@
 //! Responses in traces beside the bounds that `analyse` tells of the design.
 
 use super::replays::REPLAYED;
-use super::rows::{number, replay_under, row_text, run_design, text_of};
+use super::rows::{number, replay_under, row_text, run_design};
 use super::sections::WORKED;
 use super::shapes::design_bytes;
 use super::texts::MINE;
@@ -35,19 +35,6 @@ fn bound_of<'x>(line: &'x str) -> Option<(&'x str, usize)> {
     Some((name, number(bound)))
 }
 
-/// Looks whether each thread of these bounds has ends in a trace, all of them within its bound.
-fn check_ends(rt: &impl Abort, bounds: &str, trace: &str) {
-    let mut threads = 0_usize;
-    for line in bounds.lines() {
-        if let Some((name, bound)) = bound_of(line) {
-            let greatest = greatest(trace, name);
-            assert!(rt; 0 < greatest && greatest <= bound, "{line}");
-            threads = threads.saturating_add(1);
-        }
-    }
-    assert!(rt; 0 < threads, "{trace}");
-}
-
 /// Replays the text of a design, and looks whether each thread has ends, all of them within its bound.
 fn check_bounds(
     rt: &impl Abort,
@@ -58,7 +45,16 @@ fn check_bounds(
     let bounds = run_design(host, "analyse", design)?;
     let text = run_design(host, "generate", design)?;
     let replay = replay_under(host, text.out.bytes(), arrivals)?;
-    check_ends(rt, text_of(&bounds), text_of(&replay));
+    let trace = str::from_utf8(replay.out.bytes()).unwrap_or("");
+    let mut threads = 0_usize;
+    for line in str::from_utf8(bounds.out.bytes()).unwrap_or("").lines() {
+        if let Some((name, bound)) = bound_of(line) {
+            let greatest = greatest(trace, name);
+            assert!(rt; 0 < greatest && greatest <= bound, "{line}");
+            threads = threads.saturating_add(1);
+        }
+    }
+    assert!(rt; 0 < threads, "{trace}");
     Ok(())
 }
 

@@ -393,20 +393,6 @@ fn add_thread<'a>(
     }
 }
 
-/// Adds the operations of the object at a place, and their parameters.
-#[tactic(auto, using(ods_index::proofs::WalkSteps::node_steps))]
-fn add_provided<'a>(
-    source: Source<'_, 'a>,
-    into: &mut Vec<Mention<'a>>,
-    place: usize,
-    node: &'a Node,
-) -> Result<(), NoMemory>
-    ensures { OnOk result (gathered source.entry.index.now into.new.items ≡ gathered source.entry.index.now into.old.items ++ flat_map (operation_mentions place (object_of node.entry.now)) (object_of node.entry.now).provides) }
-{
-    let bodies = body_names(source.alloc, node.bodies.as_slice())?;
-    add_operations(source, into, place, node, &bodies, node.provides.as_slice())
-}
-
 /// Adds the names of the object at a place, in order of writing.
 #[tactic(auto, using(ods_index::proofs::WalkSteps::node_steps))]
 fn add_object<'a>(
@@ -419,8 +405,9 @@ fn add_object<'a>(
     ensures { OnOk result (gathered source.entry.index.now into.new.items ≡ gathered source.entry.index.now into.old.items ++ object_mentions (place, standing_of standing.entry.now)) }
 {
     let node = standing.node;
+    let bodies = body_names(source.alloc, node.bodies.as_slice())?;
     add(source, into, Role::Single, &node.name)?;
-    add_provided(source, into, place, node)?;
+    add_operations(source, into, place, node, &bodies, node.provides.as_slice())?;
     add_data(source, into, place, node.vars.as_slice())?;
     add_bodies(source, into, place, node.bodies.as_slice())?;
     add_thread(source, into, place, node)

@@ -48,6 +48,7 @@ pub mod StopSteps
 pub mod Reached
 pub mod ObjectsKept
 pub mod EntrySteps
+pub mod ActedLaws
 pub mod EntryFacts
 pub mod ExamplesSections
 pub mod Standing

@@ -10,7 +10,7 @@ use Rattle.link_queue.proofs.Lists.{each-map, each-put, in_order-time}
 use Rattle.machine.specs.Systems.{System}
 use Rattle.machine.specs.Meanings.{Running}
 use Rattle.machine.specs.States as states
-use Rattle.machine.specs.States.{Asleep, first_task, first_time, first_wait, opening, shut}
+use Rattle.machine.specs.States.{Asleep, first_task, first_time, first_wait, opening}
 use Rattle.arrivals_tree.specs.declared.arrivals.Arrival.{Arrival}
 use Rattle.dispatching.specs.Queueing.{AreQueued, AreSleeping, IsIn, SleepsUntil, places, places_from}
 use Rattle.dispatching.proofs.Places.{get-within}
@@ -19,7 +19,7 @@ use Rattle.dispatching.proofs.Ranks.{length-places}
 use Rattle.ceil_runtime.specs.Processing.{AreAlike, IsKept, IsSound, state_by, system_by}
 use Rattle.ceil_runtime.specs.Progressed.{vars_left, pieces_left}
 use Rattle.ceil_runtime.specs.Readies.{gate_of, readiness_of}
-use Rattle.ceil_runtime.specs.Starts.{AreOpen, CanStart, first_slept, opened, system_for}
+use Rattle.ceil_runtime.specs.Starts.{AreOpen, CanStart, IsFresh, first_slept, opened, system_for}
 use Rattle.ceil_runtime.specs.Insides.{inside_of}
 use Rattle.ada_tree.specs.Trees.{unit_of}
 use Rattle.ceil_runtime.specs.Gathering.{AllThreads, IsThreadOf}
@@ -105,20 +105,6 @@ open-none until us q ready asleep = record {
 
     none' : {u : Task} → None ≡ Some u → ⊥
     none' k = cc
-
--- a task before its first activation
-pub record IsFresh (t : Task) (th : Thread) : Type 0 where
-  pub thread : t.progress.stack.thread ≡ th
-  pub vars : vars_left t.progress ≡ written th.«data».now
-  pub pieces : pieces_left t.progress ≡ []
-  pub rests : readiness_of t.readiness (first_time (timing_of th.timing)) ≡ first_wait (timing_of th.timing)
-  pub next : t.next ≡ first_time (timing_of th.timing)
-  pub left : t.left ≡ 0
-  pub used : t.used ≡ 0
-  pub works : t.works ≡ 0
-  pub gate : gate_of t.gate ≡ shut
-  pub active : t.active ≡ th.priority
-  pub inside : t.inside.items ≡ []
 
 module _ (until : ℕ) (us : List units.Unit) (threads : List Thread) (tasks : List Task) (q : Queues) (o : AreOpen until us threads tasks q) (t : Task) (th : Thread) (fresh : IsFresh t th) (can : CanStart us th) where
   first : task_of t ≡ first_task (thread_of th)

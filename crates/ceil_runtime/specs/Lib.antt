@@ -25,3 +25,4 @@ pub mod Processing
 pub mod Starts
 pub mod Shown
 pub mod Stepping
+pub mod Acted

@@ -1,5 +1,5 @@
 -- The variables of a task as its body sees them: those of the body, and apart from them those of its callers.
-use Rattle.std.specs.Prelude.{ℕ, List, drop, take, length, Vec, vec_capacity}
+use Rattle.std.specs.Prelude.{ℕ, List, drop, take, Vec, vec_capacity}
 use Rattle.std.specs.declared.alloc.Global.{Global}
 use Rattle.ceil_runtime.specs.declared.values.Var.{Var}
 

@@ -1,8 +1,8 @@
-ghost use Rattle.std.specs.Prelude.{◌≡◌, ◌≤◌, suc, true, false, [], ◌∷◌, ◌++◌, drop, map, if◌then◌else◌, Some};
+ghost use Rattle.std.specs.Prelude.{◌≡◌, ◌≤◌, suc, true, false, [], ◌∷◌, ◌++◌, drop, map, if◌then◌else◌, None, Some};
 ghost use Rattle.seq_tree.specs.Trees.{arm_of, block_of, expression_of, operation_of};
 ghost use Rattle.seq_tree.specs.Operations.{out_names};
-ghost use Rattle.seq_tree.specs.Values.{handed, holds};
-ghost use Rattle.seq_tree.specs.Variables.{opened, reads, stored, targets};
+ghost use Rattle.seq_tree.specs.Values.{handed, holds, value as value_by};
+ghost use Rattle.seq_tree.specs.Variables.{kept as kept_data, opened, reads, stored, targets, write};
 ghost use Rattle.seq_tree.specs.Statements.{When};
 ghost use Rattle.machine.specs.Systems.{Plain as PlainCall, callee};
 ghost use Rattle.machine.specs.Pieces.{Turned as DoneTurned, after_loop, branch_pieces, pieces, turns};
@@ -93,6 +93,48 @@ impl<'a> Stack<'a> {
                 None => self.next_piece(),
             },
         }
+    }
+
+    /// An assignment.
+    fn assign(&mut self, target: &Name, value: &Expr) -> Option<Piece<'a>>
+        requires away { put_away (frames_of self.old) ≡ [] }
+        requires names { names_of (vars_of self.old.vars.items) ≡ (place_of (first_place self.old.thread) (frames_of self.old)).names }
+        ensures pieces { started result (kept (frames_of self.new)) ≡ behind (frames_of self.old) }
+        ensures first { IsFirst self.new.thread result (vars_of self.new.vars.items) (frames_of self.new) }
+        ensures vars { vars_of self.new.vars.items ≡ write target.now (value_by (expression_of value.now) (vars_of self.old.vars.items)) (vars_of self.old.vars.items) }
+        ensures thread { self.new.thread ≡ self.old.thread }
+    {
+        let value = value_of(value, &self.vars);
+        self.vars.write(target, value);
+        self.next_piece()
+    }
+
+    /// An output.
+    fn print(&mut self, value: &Expr) -> Moved<'a>
+        requires away { put_away (frames_of self.old) ≡ [] }
+        requires names { names_of (vars_of self.old.vars.items) ≡ (place_of (first_place self.old.thread) (frames_of self.old)).names }
+        ensures act { result.act ≡ Act.Print (value_by (expression_of value.now) (vars_of self.old.vars.items)) }
+        ensures pieces { started result.next (kept (frames_of self.new)) ≡ behind (frames_of self.old) }
+        ensures first { IsFirst self.new.thread result.next (vars_of self.new.vars.items) (frames_of self.new) }
+        ensures vars { vars_of self.new.vars.items ≡ vars_of self.old.vars.items }
+        ensures thread { self.new.thread ≡ self.old.thread }
+    {
+        let value = value_of(value, &self.vars);
+        Moved {
+            act: Act::Print(value),
+            next: self.next_piece(),
+        }
+    }
+
+    /// The end of an activation: of its variables the data of the task alone are left.
+    fn close(&mut self)
+        requires { IsFirst self.old.thread (Some PieceIs.Finishing) (vars_of self.old.vars.items) (frames_of self.old) }
+        ensures keeps { vars_of self.new.vars.items ≡ kept_data self.old.thread.data.now (vars_of self.old.vars.items) }
+        ensures pieces { started None (kept (frames_of self.new)) ≡ [] }
+        ensures first { IsFirst self.new.thread None (vars_of self.new.vars.items) (frames_of self.new) }
+        ensures thread { self.new.thread ≡ self.old.thread }
+    {
+        self.vars.truncate(self.thread.data.len());
     }
 
     /// The test of an arm.
@@ -323,11 +365,7 @@ impl<'a> Stack<'a> {
     {
         match piece {
             Piece::Idle => silent(self.next_piece()),
-            Piece::Store { target, value } => {
-                let value = value_of(value, &self.vars);
-                self.vars.write(target, value);
-                silent(self.next_piece())
-            }
+            Piece::Store { target, value } => silent(self.assign(target, value)),
             Piece::Leaving(condition) => silent(self.leave(condition)),
             Piece::Calling {
                 object,
@@ -335,13 +373,7 @@ impl<'a> Stack<'a> {
                 actuals,
             } => self.call_outside(callees, object, op, actuals),
             Piece::Working(_) => silent(self.next_piece()),
-            Piece::Printing(value) => {
-                let value = value_of(value, &self.vars);
-                Moved {
-                    act: Act::Print(value),
-                    next: self.next_piece(),
-                }
-            }
+            Piece::Printing(value) => self.print(value),
             Piece::Testing { arm, arms, other } => silent(self.test(arm, arms, other)),
             Piece::Turning(round) => silent(self.turn(round)),
             Piece::Turned(round) => silent(self.turned(round)),
@@ -366,7 +398,7 @@ impl<'a> Stack<'a> {
                 next: self.next_piece(),
             },
             Piece::Finishing => {
-                self.vars.truncate(self.thread.data.len());
+                self.close();
                 Moved {
                     act: Act::Finish,
                     next: None,

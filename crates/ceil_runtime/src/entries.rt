@@ -1,4 +1,4 @@
-ghost use Rattle.std.specs.Prelude.{◌≡◌, ◌≤◌, [], ◌++◌, length, map, take, vec_len, vec_capacity, Some};
+ghost use Rattle.std.specs.Prelude.{◌≡◌, ◌≤◌, [], length, take, vec_len, vec_capacity, Some};
 ghost use Rattle.machine.specs.Deeds as deeds;
 ghost use Rattle.ceil_runtime.specs.declared.piece.Piece.TheVariants as PieceIs;
 ghost use Rattle.ceil_runtime.specs.Stacked.{vars_of};

@@ -12,16 +12,13 @@ ghost use Rattle.ceil_runtime.specs.Processing.{IsWithin};
 
 use crate::buffer::EventBuf;
 use crate::callees::Callees;
-use crate::durations::joined;
 use crate::effects::{Act, Deed};
 use crate::inside::Section;
 use crate::object::Object;
 use crate::objects::objects_in;
 use crate::piece::{Entry, Piece};
-use crate::progress::Progress;
-use crate::stack::room_of;
-use crate::task::{Gate, Readiness, Task};
-use crate::thread::{Thread, Timing, ceiling_of, opening_rest, opening_time, threads_in};
+use crate::task::{Readiness, Task};
+use crate::thread::{Thread, Timing, ceiling_of, threads_in};
 use ada_tree::{AdaProgram, Unit};
 use arrivals_tree::{Arrival, Arrivals};
 use link_queue::Links;
@@ -227,6 +224,9 @@ impl<'a> Machine<'a> {
     ghost use Rattle.ceil_runtime.specs.declared.task.Task.{Task};
     ghost use Rattle.std.specs.Prelude.{slice_get};
     ghost use Rattle.ceil_runtime.specs.Shown.{IsSettled, IsWhole, running_of};
+    ghost use Rattle.std.specs.Prelude.{Vec};
+    ghost use Rattle.std.specs.declared.alloc.Global.{Global};
+    ghost use Rattle.ceil_runtime.specs.Acted.{HasActed, with_tasks};
     ghost use Rattle.ceil_runtime.specs.Stepping.{AreOfTask, Ends, HasStopped, IsNear, IsStep, steps_left, told_of};
 
     /// The opening of a program under arrivals that are accepted for it. The one error is a failed allocation, or a protected object
@@ -281,24 +281,8 @@ impl<'a> Machine<'a> {
         let mut tasks = Vec::with_capacity(alloc, threads.len())?;
         let mut task: u32 = 0;
         'threads: for thread in threads {
-            let progress = Progress::new(alloc, *thread)?;
-            let durations = joined(alloc, thread.work, thread.unit)?;
-            let Some(room) = room_of(*thread) else {
-                return Err(NoMemory);
-            };
-            let inside = Vec::with_capacity(alloc, room)?;
-            tasks.push_reserved(Task {
-                progress,
-                readiness: opening_rest(thread.timing),
-                active: thread.priority,
-                inside,
-                next: opening_time(thread.timing),
-                left: 0,
-                used: 0,
-                works: 0,
-                durations,
-                gate: Gate::shut(),
-            });
+            let fresh = Task::new(alloc, *thread)?;
+            tasks.push_reserved(fresh);
             sleep_first(&mut links, task, thread.timing);
             task += 1;
         }
@@ -640,57 +624,75 @@ impl<'a> Machine<'a> {
             Act::Ended {
                 task: target,
                 value,
-            } => {
-                active.go_outside();
-                let asked = &mut self.tasks[target];
-                let request = Event::Request {
-                    time: self.time,
-                    task: unit,
-                    target: asked.progress.stack.thread.unit,
-                    value,
-                };
-                if !asked.is_served() {
-                    return Told::One(request);
-                }
-                let kept = asked.gate.value;
-                asked.release(&self.costs);
-                self.links.push_tail(target as u32, asked.active);
-                Told::Two(
-                    request,
-                    Event::Release {
-                        time: self.time,
-                        task: asked.progress.stack.thread.unit,
-                        value: kept,
-                    },
-                )
-            }
-            Act::Finish => {
-                let ended = Event::End {
-                    time: self.time,
-                    task: unit,
-                    used: active.used,
-                };
-                self.phase = Phase::Effects(None);
-                if let Readiness::Asleep = active.readiness {
-                    self.links.sleep(task, active.next.max(self.time));
-                    return Told::One(ended);
-                }
-                let value = active.gate.value;
-                if !active.gate.open {
-                    return Told::One(ended);
-                }
-                active.release(&self.costs);
-                self.links.push_tail(task, active.active);
-                Told::Two(
-                    ended,
-                    Event::Release {
-                        time: self.time,
-                        task: unit,
-                        value,
-                    },
-                )
-            }
+            } => self.answer(task, target, value),
+            Act::Finish => self.finish(task),
         }
+    }
+
+    /// The end of a request, by which its task leaves the control structure: the task that was requested is released, where it waits and
+    /// its control structure is open.
+    fn answer(&mut self, task: u32, target: usize, value: Option<u32>) -> Told
+        requires acted { (ts : Vec Task Global) × (t : Task) × (t' : Task) × HasActed ts self.old task (Act.Ended target value) t t' }
+        ensures { (ts : Vec Task Global) (t t' : Task) → HasActed ts self.old task (Act.Ended target value) t t' → IsStep (with_tasks ts self.old) result self.new }
+    {
+        let active = &mut self.tasks[task as usize];
+        let unit = active.progress.stack.thread.unit;
+        active.go_outside();
+        let asked = &mut self.tasks[target];
+        let request = Event::Request {
+            time: self.time,
+            task: unit,
+            target: asked.progress.stack.thread.unit,
+            value,
+        };
+        if !asked.is_served() {
+            return Told::One(request);
+        }
+        let kept = asked.gate.value;
+        asked.release(&self.costs);
+        self.links.push_tail(target as u32, asked.active);
+        Told::Two(
+            request,
+            Event::Release {
+                time: self.time,
+                task: asked.progress.stack.thread.unit,
+                value: kept,
+            },
+        )
+    }
+
+    /// The end of an activation: the task sleeps until its next time, or waits for a request, and is released at once where its control
+    /// structure is open.
+    fn finish(&mut self, task: u32) -> Told
+        requires acted { (ts : Vec Task Global) × (t : Task) × (t' : Task) × HasActed ts self.old task Act.Finish t t' }
+        ensures { (ts : Vec Task Global) (t t' : Task) → HasActed ts self.old task Act.Finish t t' → IsStep (with_tasks ts self.old) result self.new }
+    {
+        let active = &mut self.tasks[task as usize];
+        let unit = active.progress.stack.thread.unit;
+        let ended = Event::End {
+            time: self.time,
+            task: unit,
+            used: active.used,
+        };
+        self.phase = Phase::Effects(None);
+        if let Readiness::Asleep = active.readiness {
+            self.links.sleep(task, active.next.max(self.time));
+            return Told::One(ended);
+        }
+        let value = active.gate.value;
+        if !active.gate.open {
+            return Told::One(ended);
+        }
+        active.release(&self.costs);
+        self.links.push_tail(task, active.active);
+        Told::Two(
+            ended,
+            Event::Release {
+                time: self.time,
+                task: unit,
+                value,
+            },
+        )
     }
 
     /// One step, or as many ticks as can be used at once, and what it tells.

@@ -16,7 +16,7 @@ ghost use Rattle.ceil_runtime.specs.Written.{CanRun, block_of_thread, first_plac
 
 use crate::callees::Callees;
 use crate::effects::{Act, Deed};
-use crate::piece::{Entry, Frame, Piece};
+use crate::piece::{Entry, Piece};
 use crate::stack::Stack;
 use crate::thread::Thread;
 use crate::values::Var;

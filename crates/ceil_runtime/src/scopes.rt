@@ -1,4 +1,4 @@
-ghost use Rattle.std.specs.Prelude.{◌≡◌, ◌+◌, ◌-◌, ◌<◌, ◌≤◌, ◌↔◌, [], ◌∷◌, ◌++◌, drop, length, take, IfOk, IsSome, option_to_list};
+ghost use Rattle.std.specs.Prelude.{◌≡◌, ◌+◌, ◌-◌, ◌<◌, ◌≤◌, [], ◌∷◌, ◌++◌, drop, length, take, IfOk};
 ghost use Rattle.seq_tree.specs.Variables.{write};
 ghost use Rattle.seq_eval.specs.Lookups.{found};
 ghost use Rattle.ceil_runtime.specs.Stacked.{vars_of};
@@ -10,12 +10,13 @@ use seq_tree::{Name, NoMemory};
 use std::alloc::Global;
 use std::marker::Model;
 
-/// The variables of a task: those of the body that runs, the innermost last, and below them those of its callers, which are put away.
-/// A body that begins puts away as many as there are in no time that grows with them.
+/// The variables of a task in one list: first those that are put away, which are of the callers of the body that runs, the outermost first,
+/// and from the floor on those of the body, the innermost last. So a body that begins puts all variables away by raising the floor, in no
+/// time that grows with them. How many are put away of each caller stands in the slots of the task's frames (`Stack`).
 #[derive(Drop)]
 pub struct Scopes<'a> {
     vars: Vars<'a>,
-    // How many variables are put away: the first so many.
+    // How many variables are put away: the place of the first one of the body that runs.
     floor: usize,
 }
 

@@ -1,4 +1,4 @@
-ghost use Rattle.std.specs.Prelude.{◌≡◌, ◌+◌, ◌≤◌, ◌<◌, [], ◌∷◌, ◌++◌, drop, map, length, true, vec_capacity, IfSome, IfOk, Some};
+ghost use Rattle.std.specs.Prelude.{◌≡◌, ◌+◌, ◌≤◌, ◌<◌, [], ◌∷◌, ◌++◌, drop, map, length, true, IfSome, IfOk, Some};
 ghost use Rattle.seq_tree.specs.Trees.{statement_of, statements_of};
 ghost use Rattle.seq_tree.specs.Variables.{written};
 ghost use Rattle.machine.specs.Pieces.{Finishing, Piece as DonePiece, after_loop, pieces};

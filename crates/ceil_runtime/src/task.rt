@@ -1,4 +1,4 @@
-ghost use Rattle.std.specs.Prelude.{◌≡◌, ◌<◌, ◌≤◌, ◌^◌, ◌||◌, ◌==◌, true, false, [], length, vec_capacity, Some};
+ghost use Rattle.std.specs.Prelude.{◌≡◌, ◌<◌, ◌≤◌, ◌^◌, ◌||◌, true, false, vec_capacity, Some};
 ghost use Rattle.arrivals_tree.specs.Acceptance.{has_nothing};
 ghost use Rattle.ceil_runtime.specs.Effort.{IsLong};
 ghost use Rattle.ceil_runtime.specs.Written.{durations_of, reserve};
@@ -6,10 +6,13 @@ ghost use Rattle.machine.specs.States.{shut};
 ghost use Rattle.ceil_runtime.specs.Progressed.{is_idle, pieces_left};
 ghost use Rattle.ceil_runtime.specs.Readies.{gate_of, is_ready, rests_as};
 
+use crate::durations::joined;
 use crate::inside::Held;
 use crate::progress::Progress;
-use crate::thread::Timing;
-use seq_tree::Costs;
+use crate::stack::room_of;
+use crate::thread::{Thread, Timing, opening_rest, opening_time};
+use seq_tree::{Costs, NoMemory};
+use std::alloc::Global;
 
 /// Whether a task can run.
 #[derive(Clone, Copy, Debug, PartialEq, Eq)]
@@ -73,12 +76,38 @@ pub struct Task<'a> {
 impl<'a> Task<'a> {
     ghost use Rattle.std.specs.Prelude.{◌+◌, min, slice_get};
     ghost use Rattle.machine.specs.Releases.{is_waiting, next_time, released};
-    ghost use Rattle.std.specs.Prelude.{◌&&◌};
+    ghost use Rattle.std.specs.Prelude.{◌&&◌, IfOk};
     ghost use Rattle.machine.specs.Effects.{resting};
-    ghost use Rattle.ceil_runtime.specs.Written.{timing_of};
+    ghost use Rattle.ceil_runtime.specs.Starts.{IsFresh};
+    ghost use Rattle.ceil_runtime.specs.Written.{CanRun, timing_of};
     ghost use Rattle.ceil_runtime.specs.Works.{asked, task_of, used_ticks};
     ghost use Rattle.ceil_runtime.specs.Readies.{readiness_of};
     ghost use Rattle.ada_tree.specs.Ranges.{costs_break};
+
+    /// A task before its first activation: it sleeps until its offset, or waits for a request. The one error is a failed allocation, or a
+    /// task for which no room is enough.
+    pub fn new(alloc: Global, thread: Thread<'a>) -> Result<Task<'a>, NoMemory>
+        requires runs { CanRun thread }
+        requires long { has_nothing (durations_of thread) ≡ false }
+        ensures { IfOk result (λ t. IsFresh t thread.entry) }
+    {
+        let progress = Progress::new(alloc, thread)?;
+        let durations = joined(alloc, thread.work, thread.unit)?;
+        let room = room_of(thread).ok_or(NoMemory)?;
+        let inside = Vec::with_capacity(alloc, room)?;
+        Ok(Task {
+            progress,
+            readiness: opening_rest(thread.timing),
+            active: thread.priority,
+            inside,
+            next: opening_time(thread.timing),
+            left: 0,
+            used: 0,
+            works: 0,
+            durations,
+            gate: Gate::shut(),
+        })
+    }
 
     /// How long the next `work` statement takes at most, where that is handed in.
     pub fn duration(&self) -> Option<u32>

@@ -1,5 +1,4 @@
-ghost use Rattle.std.specs.Prelude.{◌≡◌, ◌≤◌, ◌<◌, true, false, [], map, length, vec_len, vec_capacity, IfOk};
-ghost use Rattle.std.specs.List.{list_all};
+ghost use Rattle.std.specs.Prelude.{◌≡◌, ◌≤◌, ◌<◌, true, false, map, length, vec_len, vec_capacity, IfOk};
 ghost use Rattle.ada_tree.specs.Trees.{unit_of};
 ghost use Rattle.ceil_runtime.specs.Effort.{request_params};
 ghost use Rattle.machine.specs.States.{first_time, first_wait};

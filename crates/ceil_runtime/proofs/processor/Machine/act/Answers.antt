@@ -1,13 +1,11 @@
-use Rattle.std.proofs.Common.{◌≡◌, ℕ, [], ◌∷◌, length, sym, ap, ◌∙◌, refl, arith, map, set, length-set, true, false, Some}
-use Rattle.std.specs.Prelude.{◌&&◌, slice_get}
+use Rattle.std.proofs.Common.{◌≡◌, [], ◌∷◌, length, sym, ap, refl, arith, map, set, length-set, true, false, Some}
+use Rattle.std.specs.Prelude.{slice_get}
 use Rattle.std.proofs.lemmas.Option.{slice_get_read}
-use Rattle.link_queue.specs.Queues.{Queues, in_time}
+use Rattle.link_queue.specs.Queues.{in_time}
 use Rattle.seq_tree.specs.Lists.{change}
-use Rattle.machine.specs.Effects.{ended}
-use Rattle.machine.specs.Releases.{Next, going, is_waiting}
+use Rattle.machine.specs.Releases.{Next, going}
 use Rattle.machine.specs.Deeds as deeds
 use Rattle.ceil_runtime.specs.Processing.{system_by}
-use Rattle.ceil_runtime.specs.Readies.{is_ready, readiness_of}
 use Rattle.ceil_runtime.specs.Works.{kept_value, opened_now, task_of}
 use Rattle.ceil_runtime.specs.Written.{system_of}
 use Rattle.ceil_runtime.specs.declared.effects.Deed.TheVariants.{Own}
@@ -15,14 +13,11 @@ use Rattle.ceil_runtime.specs.declared.processor.Phase.TheVariants.{Effects}
 use Rattle.ceil_runtime.specs.declared.effects.Act.TheVariants.{Silent, Print}
 use Rattle.ceil_runtime.specs.declared.processor.Told.TheVariants.{Nothing, One}
 use Rattle.trace_tree.specs.declared.event.Event.TheVariants as event
-use Rattle.ceil_runtime.specs.Shown.{stores_of}
-use Rattle.ceil_runtime.proofs.Effected.{ended-rests, finish-sound, running-free, wait-sound, waits-now}
-use Rattle.ceil_runtime.proofs.EntrySteps.{answered-step, left-whole, ready-each, same-put, unserved-step, waits-open}
-use Rattle.ceil_runtime.proofs.Processed.{Changed, get-put, get_within, runs-alike, set-twice}
-use Rattle.ceil_runtime.proofs.Reached.{among-tasks, nests-ended, nests-going, reached-act, stays-own}
-use Rattle.ceil_runtime.proofs.Released.{waiting-free}
+use Rattle.ceil_runtime.proofs.ActedLaws.{same-step}
+use Rattle.ceil_runtime.proofs.Processed.{runs-alike}
+use Rattle.ceil_runtime.proofs.Reached.{among-tasks, nests-going, reached-act, stays-own}
 use Rattle.ceil_runtime.proofs.RequestSteps.{gate-step}
-use Rattle.ceil_runtime.proofs.Stepped.{effect_state, finish-step, going-step, running-sound, served-step, task-callees}
+use Rattle.ceil_runtime.proofs.Stepped.{effect_state, going-step, running-sound, task-callees}
 use Rattle.ceil_runtime.proofs.processor.Machine.act.Goals as goal
 
 pub act-act-requires-clause-few : goal.act-act-requires-clause-few
@@ -72,111 +67,6 @@ returns-in-Print c =
     (ap (λ th. let next : Next = (record (effect_state m i) { tasks = change i (going m.costs a.vars a.pieces) (map task_of m.tasks.items) }, event.Print m.time th.unit c.in-Print.value ∷ []) in next) (sym c.in-Print.ensures.thread)) (tt, c.requires.goes_on)
     (record { place = i; task = t; here = here; is_unit = ap (λ th. th.unit) c.in-Print.ensures.thread }) (omega arith)
 
-pub sleep-requires : goal.sleep-requires
-sleep-requires c =
-    let m = c.args.self.now in
-    let i = c.args.task in
-    let t = c.index_mut-active.result.now in
-    let sound = running-sound m i c.requires.whole c.requires.phase c.requires.goes_on in
-    let here = slice_get_read m.tasks.items (length m.tasks.items) i t refl sound.here.1 c.index_mut-active.ensures.value in
-    running-free m.until m.time m.units.now i _ m.tasks.items m.links sound t here
-
-pub push_tail-requires-in-Finish : goal.push_tail-requires-in-Finish
-push_tail-requires-in-Finish c =
-    let m = c.args.self.now in
-    let i = c.args.task in
-    let t = c.index_mut-active.result.now in
-    let sound = running-sound m i c.requires.whole c.requires.phase c.requires.goes_on in
-    let here = slice_get_read m.tasks.items (length m.tasks.items) i t refl sound.here.1 c.index_mut-active.ensures.value in
-    running-free m.until m.time m.units.now i _ m.tasks.items m.links sound t here
-
-pub release-requires-in-Finish-clause-rests : goal.release-requires-in-Finish-clause-rests
-release-requires-in-Finish-clause-rests c =
-    let m = c.args.self.now in
-    let i = c.args.task in
-    let t = c.index_mut-active.result.now in
-    let t' = c.act-act.new.self in
-    let sound = running-sound m i c.requires.whole c.requires.phase c.requires.goes_on in
-    let here = slice_get_read m.tasks.items (length m.tasks.items) i t refl sound.here.1 c.index_mut-active.ensures.value in
-    let p = c.requires.piece t here in
-    let a = c.in-Finish.ensures.acts in
-    let tasks' = set m.tasks.items i t' in
-    let changed : Changed m.tasks.items tasks' i t t' (ended a.vars) = record { here = here; set_is = refl; does = a.after; thread = c.in-Finish.ensures.thread } in
-    ended-rests (stores_of m) m.arrivals.now m.until m.time m.costs m.units.now i m.tasks.items m.links sound t t' here p.2 a tasks' changed
-
-pub release-requires-in-Finish-clause-near : goal.release-requires-in-Finish-clause-near
-release-requires-in-Finish-clause-near c =
-    let m = c.args.self.now in
-    let i = c.args.task in
-    let t = c.index_mut-active.result.now in
-    let t' = c.act-act.new.self in
-    let sound = running-sound m i c.requires.whole c.requires.phase c.requires.goes_on in
-    let here = slice_get_read m.tasks.items (length m.tasks.items) i t refl sound.here.1 c.index_mut-active.ensures.value in
-    let next : t'.next ≡ t.next = ap (λ v. v.next) c.in-Finish.ensures.acts.after in
-    let k = sound.kept i t here in
-    omega (arith, next, k.next, sound.near)
-
-pub release-requires-in-Finish-clause-few : goal.release-requires-in-Finish-clause-few
-release-requires-in-Finish-clause-few c =
-    let m = c.args.self.now in
-    let i = c.args.task in
-    let t = c.index_mut-active.result.now in
-    let sound = running-sound m i c.requires.whole c.requires.phase c.requires.goes_on in
-    let here = slice_get_read m.tasks.items (length m.tasks.items) i t refl sound.here.1 c.index_mut-active.ensures.value in
-    let k = sound.kept i t here in
-    omega (arith, c.in-Finish.ensures.works, k.works, sound.in_time, sound.near)
-
-pub returns-in-Asleep : goal.returns-in-Asleep
-returns-in-Asleep c =
-    let m = c.args.self.now in
-    let i = c.args.task in
-    let t = c.index_mut-active.result.now in
-    let t' = c.act-act.new.self in
-    let sound = running-sound m i c.requires.whole c.requires.phase c.requires.goes_on in
-    let here = slice_get_read m.tasks.items (length m.tasks.items) i t refl sound.here.1 c.index_mut-active.ensures.value in
-    let p = c.requires.piece t here in
-    let a = c.in-Finish.ensures.acts in
-    let tasks' = set m.tasks.items i t' in
-    let changed : Changed m.tasks.items tasks' i t t' (ended a.vars) = record { here = here; set_is = refl; does = a.after; thread = c.in-Finish.ensures.thread } in
-    let until : ℕ → Queues = λ n. record m.links { asleep = in_time (i, n) m.links.asleep } in
-    finish-step m i c.requires.whole c.requires.phase c.requires.goes_on t t' here p.2 a c.in-Finish.ensures.thread c.in-Finish.ensures.works c.in-Finish.ensures.falls (nests-ended t t' a.vars a.after c.in-Finish.ensures.inside) tasks' refl _
-    (record { until = refl; costs = refl; units = refl; callees = refl; arrivals = refl; time = refl; ran = refl; stopped = refl; phase = refl }) refl (ap (λ (q : Queues). q.ready) c.sleep.ensures) refl (ap (λ r. is_waiting (readiness_of r t'.next) && t'.gate.«open») c.in-Asleep.is)
-    (finish-sound (stores_of m) m.arrivals.now m.until m.time m.costs m.units.now i m.tasks.items m.links sound t t' here p.2 a tasks' changed c.sleep.new.self c.in-Asleep.is (c.sleep.ensures ∙ ap until c.max.ensures) c.in-Finish.ensures.works (nests-ended t t' a.vars a.after c.in-Finish.ensures.inside))
-
-pub returns-then-not-active : goal.returns-then-not-active
-returns-then-not-active c =
-    let m = c.args.self.now in
-    let i = c.args.task in
-    let t = c.index_mut-active.result.now in
-    let t' = c.act-act.new.self in
-    let sound = running-sound m i c.requires.whole c.requires.phase c.requires.goes_on in
-    let here = slice_get_read m.tasks.items (length m.tasks.items) i t refl sound.here.1 c.index_mut-active.ensures.value in
-    let p = c.requires.piece t here in
-    let a = c.in-Finish.ensures.acts in
-    let tasks' = set m.tasks.items i t' in
-    let changed : Changed m.tasks.items tasks' i t t' (ended a.vars) = record { here = here; set_is = refl; does = a.after; thread = c.in-Finish.ensures.thread } in
-    let waits = waits-now (stores_of m) m.arrivals.now m.until m.time m.costs m.units.now i m.tasks.items m.links sound t t' here p.2 a tasks' changed c.in_default.not-Asleep in
-    finish-step m i c.requires.whole c.requires.phase c.requires.goes_on t t' here p.2 a c.in-Finish.ensures.thread c.in-Finish.ensures.works c.in-Finish.ensures.falls (nests-ended t t' a.vars a.after c.in-Finish.ensures.inside) tasks' refl _
-    (record { until = refl; costs = refl; units = refl; callees = refl; arrivals = refl; time = refl; ran = refl; stopped = refl; phase = refl }) refl refl refl (ap (λ r. is_waiting (readiness_of r t'.next) && t'.gate.«open») waits ∙ c.if-not-active.true)
-    (wait-sound (stores_of m) m.arrivals.now m.until m.time m.costs m.units.now i m.tasks.items m.links sound t t' here p.2 a tasks' changed c.in_default.not-Asleep c.in-Finish.ensures.works (nests-ended t t' a.vars a.after c.in-Finish.ensures.inside))
-
-pub returns-else-not-active : goal.returns-else-not-active
-returns-else-not-active c =
-    let m = c.args.self.now in
-    let i = c.args.task in
-    let t = c.index_mut-active.result.now in
-    let t' = c.act-act.new.self in
-    let sound = running-sound m i c.requires.whole c.requires.phase c.requires.goes_on in
-    let here = slice_get_read m.tasks.items (length m.tasks.items) i t refl sound.here.1 c.index_mut-active.ensures.value in
-    let p = c.requires.piece t here in
-    let a = c.in-Finish.ensures.acts in
-    let tasks' = set m.tasks.items i t' in
-    let changed : Changed m.tasks.items tasks' i t t' (ended a.vars) = record { here = here; set_is = refl; does = a.after; thread = c.in-Finish.ensures.thread } in
-    let t'' = c.release-in-Finish.new.self in
-    served-step m i c.requires.whole c.requires.phase c.requires.goes_on t t' here p.2 a c.in-Finish.ensures.thread c.in-Finish.ensures.works c.in-Finish.ensures.falls (nests-ended t t' a.vars a.after c.in-Finish.ensures.inside) tasks' refl
-    t'' c.release-in-Finish.ensures.task c.release-in-Finish.ensures.thread c.release-in-Finish.ensures.works c.release-in-Finish.ensures.some c.in_default.not-Asleep c.if-not-active.false _
-    (record { until = refl; costs = refl; units = refl; callees = refl; arrivals = refl; time = refl; ran = refl; stopped = refl; phase = refl }) (sym (set-twice m.tasks.items i t' t'')) c.push_tail-in-Finish.ensures refl
-
 pub act-act-requires-clause-outside : goal.act-act-requires-clause-outside
 act-act-requires-clause-outside c =
     let m = c.args.self.now in
@@ -217,16 +107,6 @@ index_mut-requires-in-Open c =
     let sound = running-sound m i c.requires.whole c.requires.phase c.requires.goes_on in
     let here = slice_get_read m.tasks.items (length m.tasks.items) i t refl sound.here.1 c.index_mut-active.ensures.value in
     let below = among-tasks m.units.now m.tasks.items sound.calls i t here c.in-Open.target c.in-Open.ensures.among in
-    omega (arith, below, m.tasks.ok.0)
-
-pub index_mut-asked-requires : goal.index_mut-asked-requires
-index_mut-asked-requires c =
-    let m = c.args.self.now in
-    let i = c.args.task in
-    let t = c.index_mut-active.result.now in
-    let sound = running-sound m i c.requires.whole c.requires.phase c.requires.goes_on in
-    let here = slice_get_read m.tasks.items (length m.tasks.items) i t refl sound.here.1 c.index_mut-active.ensures.value in
-    let below = among-tasks m.units.now m.tasks.items sound.calls i t here c.in-Ended.target c.in-Ended.ensures.among in
     omega (arith, below, m.tasks.ok.0)
 
 pub returns-in-Keep : goal.returns-in-Keep
@@ -275,120 +155,108 @@ returns-in-Open c =
     (record { here = there; set_is = refl; does = c.open_gate.ensures.task; thread = ap (λ g. g.stack.thread) c.open_gate.ensures.progress })
     c.open_gate.ensures.same (ap (λ v. v.left) c.open_gate.ensures.task) (ap (λ v. v.used) c.open_gate.ensures.task) (ap (λ v. v.works) c.open_gate.ensures.task) (ap (λ v. v.next) c.open_gate.ensures.task) refl refl
 
-pub release-requires-clause-rests : goal.release-requires-clause-rests
-release-requires-clause-rests c =
-    let u = c.index_mut-asked.result.now in
-    let waits = waits-open u (sym c.is_served.ensures ∙ c.if-not-is_served.false) in
-    ap is_ready waits.0
-
-pub release-requires-clause-near : goal.release-requires-clause-near
-release-requires-clause-near c =
+pub answer-requires : goal.answer-requires
+answer-requires c =
     let m = c.args.self.now in
     let i = c.args.task in
     let t = c.index_mut-active.result.now in
     let sound = running-sound m i c.requires.whole c.requires.phase c.requires.goes_on in
     let here = slice_get_read m.tasks.items (length m.tasks.items) i t refl sound.here.1 c.index_mut-active.ensures.value in
-    let t' = c.act-act.new.self in
-    let t'' = c.go_outside.new.self in
     let p = c.requires.piece t here in
-    let a = c.in-Ended.ensures.acts in
-    let k = c.in-Ended.target in
-    let tasks' = set m.tasks.items i t'' in
-    let u = c.index_mut-asked.result.now in
-    let below = among-tasks m.units.now m.tasks.items sound.calls i t here k c.in-Ended.ensures.among in
-    let there : slice_get tasks' k ≡ Some u = slice_get_read tasks' (length tasks') k u refl (omega (arith, below, length-set m.tasks.items i t'')) c.index_mut-asked.ensures.value in
-    let sound' = left-whole m i c.requires.whole c.requires.phase c.requires.goes_on t here p.2 t' t'' c.in-Ended.ensures.thread c.go_outside.ensures.progress c.in-Ended.ensures.works k c.in-Ended.value a c.in-Ended.ensures.inside c.go_outside.ensures.task in
-    let kept = sound'.kept k u there in
-    omega (arith, kept.next, sound.near)
+    record {
+      acted = (
+        m.tasks,
+        t,
+        c.act-act.new.self,
+        record {
+          whole = record { sound = c.requires.whole.sound; callees = c.requires.whole.callees };
+          phase = c.requires.phase;
+          goes_on = c.requires.goes_on;
+          here = here;
+          due = p.2;
+          acts = c.in-Ended.ensures.acts;
+          thread = c.in-Ended.ensures.thread;
+          works = c.in-Ended.ensures.works;
+          falls = c.in-Ended.ensures.falls;
+          among = c.in-Ended.ensures.among;
+          inside = c.in-Ended.ensures.inside;
+          tasks = refl;
+        },
+      );
+    }
 
-pub release-requires-clause-few : goal.release-requires-clause-few
-release-requires-clause-few c =
+pub returns-in-Ended : goal.returns-in-Ended
+returns-in-Ended c =
     let m = c.args.self.now in
     let i = c.args.task in
     let t = c.index_mut-active.result.now in
     let sound = running-sound m i c.requires.whole c.requires.phase c.requires.goes_on in
     let here = slice_get_read m.tasks.items (length m.tasks.items) i t refl sound.here.1 c.index_mut-active.ensures.value in
-    let t' = c.act-act.new.self in
-    let t'' = c.go_outside.new.self in
     let p = c.requires.piece t here in
-    let a = c.in-Ended.ensures.acts in
-    let k = c.in-Ended.target in
-    let tasks' = set m.tasks.items i t'' in
-    let u = c.index_mut-asked.result.now in
-    let below = among-tasks m.units.now m.tasks.items sound.calls i t here k c.in-Ended.ensures.among in
-    let there : slice_get tasks' k ≡ Some u = slice_get_read tasks' (length tasks') k u refl (omega (arith, below, length-set m.tasks.items i t'')) c.index_mut-asked.ensures.value in
-    let sound' = left-whole m i c.requires.whole c.requires.phase c.requires.goes_on t here p.2 t' t'' c.in-Ended.ensures.thread c.go_outside.ensures.progress c.in-Ended.ensures.works k c.in-Ended.value a c.in-Ended.ensures.inside c.go_outside.ensures.task in
-    let kept = sound'.kept k u there in
-    omega (arith, kept.works, sound.in_time, sound.near)
+    same-step _ m _ c.answer.result refl refl refl (c.answer.ensures m.tasks t c.act-act.new.self (record {
+      whole = record { sound = c.requires.whole.sound; callees = c.requires.whole.callees };
+      phase = c.requires.phase;
+      goes_on = c.requires.goes_on;
+      here = here;
+      due = p.2;
+      acts = c.in-Ended.ensures.acts;
+      thread = c.in-Ended.ensures.thread;
+      works = c.in-Ended.ensures.works;
+      falls = c.in-Ended.ensures.falls;
+      among = c.in-Ended.ensures.among;
+      inside = c.in-Ended.ensures.inside;
+      tasks = refl;
+    }))
 
-pub push_tail-requires : goal.push_tail-requires
-push_tail-requires c =
+pub finish-requires : goal.finish-requires
+finish-requires c =
     let m = c.args.self.now in
     let i = c.args.task in
     let t = c.index_mut-active.result.now in
     let sound = running-sound m i c.requires.whole c.requires.phase c.requires.goes_on in
     let here = slice_get_read m.tasks.items (length m.tasks.items) i t refl sound.here.1 c.index_mut-active.ensures.value in
-    let t' = c.act-act.new.self in
-    let t'' = c.go_outside.new.self in
     let p = c.requires.piece t here in
-    let a = c.in-Ended.ensures.acts in
-    let k = c.in-Ended.target in
-    let tasks' = set m.tasks.items i t'' in
-    let u = c.index_mut-asked.result.now in
-    let below = among-tasks m.units.now m.tasks.items sound.calls i t here k c.in-Ended.ensures.among in
-    let there : slice_get tasks' k ≡ Some u = slice_get_read tasks' (length tasks') k u refl (omega (arith, below, length-set m.tasks.items i t'')) c.index_mut-asked.ensures.value in
-    let sound' = left-whole m i c.requires.whole c.requires.phase c.requires.goes_on t here p.2 t' t'' c.in-Ended.ensures.thread c.go_outside.ensures.progress c.in-Ended.ensures.works k c.in-Ended.value a c.in-Ended.ensures.inside c.go_outside.ensures.task in
-    let waits = waits-open u (sym c.is_served.ensures ∙ c.if-not-is_served.false) in
-    waiting-free m.until m.time m.units.now (Effects (Some i)) (Some i) tasks' m.links sound' (ready-each m.until m.time m.units.now i (Some i) tasks' m.links sound' t'' (get-put m.tasks.items i t'' (get_within i m.tasks.items t here))) k u there waits.0
+    record {
+      acted = (
+        m.tasks,
+        t,
+        c.act-act.new.self,
+        record {
+          whole = record { sound = c.requires.whole.sound; callees = c.requires.whole.callees };
+          phase = c.requires.phase;
+          goes_on = c.requires.goes_on;
+          here = here;
+          due = p.2;
+          acts = c.in-Finish.ensures.acts;
+          thread = c.in-Finish.ensures.thread;
+          works = c.in-Finish.ensures.works;
+          falls = c.in-Finish.ensures.falls;
+          among = c.in-Finish.ensures.among;
+          inside = c.in-Finish.ensures.inside;
+          tasks = refl;
+        },
+      );
+    }
 
-pub overflow_cast-target : goal.overflow_cast-target
-overflow_cast-target c =
+pub returns-in-Finish : goal.returns-in-Finish
+returns-in-Finish c =
     let m = c.args.self.now in
     let i = c.args.task in
     let t = c.index_mut-active.result.now in
     let sound = running-sound m i c.requires.whole c.requires.phase c.requires.goes_on in
     let here = slice_get_read m.tasks.items (length m.tasks.items) i t refl sound.here.1 c.index_mut-active.ensures.value in
-    let below = among-tasks m.units.now m.tasks.items sound.calls i t here c.in-Ended.target c.in-Ended.ensures.among in
-    omega (arith, below, sound.few)
-
-pub returns-then-not-is_served : goal.returns-then-not-is_served
-returns-then-not-is_served c =
-    let m = c.args.self.now in
-    let i = c.args.task in
-    let t = c.index_mut-active.result.now in
-    let sound = running-sound m i c.requires.whole c.requires.phase c.requires.goes_on in
-    let here = slice_get_read m.tasks.items (length m.tasks.items) i t refl sound.here.1 c.index_mut-active.ensures.value in
-    let t' = c.act-act.new.self in
-    let t'' = c.go_outside.new.self in
     let p = c.requires.piece t here in
-    let a = c.in-Ended.ensures.acts in
-    let k = c.in-Ended.target in
-    let tasks' = set m.tasks.items i t'' in
-    let u = c.index_mut-asked.result.now in
-    let below = among-tasks m.units.now m.tasks.items sound.calls i t here k c.in-Ended.ensures.among in
-    let there : slice_get tasks' k ≡ Some u = slice_get_read tasks' (length tasks') k u refl (omega (arith, below, length-set m.tasks.items i t'')) c.index_mut-asked.ensures.value in
-    unserved-step m i c.requires.whole c.requires.phase c.requires.goes_on t here p.2 t' t'' c.in-Ended.ensures.thread c.go_outside.ensures.progress c.in-Ended.ensures.works c.in-Ended.ensures.falls _
-    (record { until = refl; costs = refl; units = refl; callees = refl; arrivals = refl; time = refl; ran = refl; stopped = refl; phase = c.requires.phase }) (same-put m.tasks.items i t'' k u there) refl
-    k refl c.in-Ended.value a c.in-Ended.ensures.inside c.go_outside.ensures.task u there (sym c.is_served.ensures ∙ c.if-not-is_served.true)
-
-pub returns-else-not-is_served : goal.returns-else-not-is_served
-returns-else-not-is_served c =
-    let m = c.args.self.now in
-    let i = c.args.task in
-    let t = c.index_mut-active.result.now in
-    let sound = running-sound m i c.requires.whole c.requires.phase c.requires.goes_on in
-    let here = slice_get_read m.tasks.items (length m.tasks.items) i t refl sound.here.1 c.index_mut-active.ensures.value in
-    let t' = c.act-act.new.self in
-    let t'' = c.go_outside.new.self in
-    let p = c.requires.piece t here in
-    let a = c.in-Ended.ensures.acts in
-    let k = c.in-Ended.target in
-    let tasks' = set m.tasks.items i t'' in
-    let u = c.index_mut-asked.result.now in
-    let below = among-tasks m.units.now m.tasks.items sound.calls i t here k c.in-Ended.ensures.among in
-    let there : slice_get tasks' k ≡ Some u = slice_get_read tasks' (length tasks') k u refl (omega (arith, below, length-set m.tasks.items i t'')) c.index_mut-asked.ensures.value in
-    let waits = waits-open u (sym c.is_served.ensures ∙ c.if-not-is_served.false) in
-    let thread'' = ap (λ g. g.stack.thread) c.go_outside.ensures.progress ∙ c.in-Ended.ensures.thread in
-    answered-step m i c.requires.whole c.requires.phase c.requires.goes_on t here p.2 t' t'' c.in-Ended.ensures.thread c.go_outside.ensures.progress c.in-Ended.ensures.works c.in-Ended.ensures.falls _
-    (record { until = refl; costs = refl; units = refl; callees = refl; arrivals = refl; time = refl; ran = refl; stopped = refl; phase = c.requires.phase })
-    k c.in-Ended.value a c.in-Ended.ensures.inside c.go_outside.ensures.task u c.release.new.self there refl c.release.ensures.task c.release.ensures.thread waits.0 waits.1 c.release.ensures.works c.push_tail.ensures refl
+    same-step _ m _ c.finish.result refl refl refl (c.finish.ensures m.tasks t c.act-act.new.self (record {
+      whole = record { sound = c.requires.whole.sound; callees = c.requires.whole.callees };
+      phase = c.requires.phase;
+      goes_on = c.requires.goes_on;
+      here = here;
+      due = p.2;
+      acts = c.in-Finish.ensures.acts;
+      thread = c.in-Finish.ensures.thread;
+      works = c.in-Finish.ensures.works;
+      falls = c.in-Finish.ensures.falls;
+      among = c.in-Finish.ensures.among;
+      inside = c.in-Finish.ensures.inside;
+      tasks = refl;
+    }))

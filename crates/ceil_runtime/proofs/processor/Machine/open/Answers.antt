@@ -1,9 +1,6 @@
 use Rattle.std.proofs.Common.{◌≡◌, ℕ, ◌<◌, ◌+◌, sym, ap, subst, ◌∙◌, refl, arith, length, List, [], ◌∷◌, ◌++◌, take}
 use Rattle.std.proofs.lemmas.List.{take_all, take_more, length_push}
 use Rattle.std.proofs.lemmas.Option.{slice_get_read}
-use Rattle.arrivals_tree.specs.Acceptance.{has_nothing}
-use Rattle.ceil_runtime.specs.Readies.{rests_as}
-use Rattle.ceil_runtime.specs.Written.{durations_of}
 use Rattle.std.specs.Prelude.{None, false, map}
 use Rattle.seq_tree.specs.Variables.{Variables}
 use Rattle.ada_tree.specs.Trees.{unit_of}
@@ -32,27 +29,19 @@ threads-init c =
       room = c.in_ok-tasks.ensures.capacity;
     }
 
-pub new-requires-in-threads : goal.new-requires-in-threads
-new-requires-in-threads c =
+pub new-requires-in-threads-clause-runs : goal.new-requires-in-threads-clause-runs
+new-requires-in-threads-clause-runs c =
     (c.requires.start c.threads.thread-index c.thread-item.result (slice_get_read c.args.threads.now (length c.args.threads.now) c.threads.thread-index c.thread-item.result refl c.threads-test.true c.thread-item.is)).runs
+
+pub new-requires-in-threads-clause-long : goal.new-requires-in-threads-clause-long
+new-requires-in-threads-clause-long c =
+    (c.requires.start c.threads.thread-index c.thread-item.result (slice_get_read c.args.threads.now (length c.args.threads.now) c.threads.thread-index c.thread-item.result refl c.threads-test.true c.thread-item.is)).long
 
 pub sleep_first-requires : goal.sleep_first-requires
 sleep_first-requires c =
     let i = c.threads.invariant in
     let known : length c.threads.tasks.items < c.threads.links.size = omega (arith, i.count, i.size, c.threads-test.true) in
     subst (λ (n : ℕ). IsFree c.threads.links n) (sym i.place) (open-free c.args.until c.args.units.now (take c.threads.thread-index c.args.threads.now) c.threads.tasks.items c.threads.links i.opened known)
-
-pub invariant_of-push_reserved-clause-handed : goal.invariant_of-push_reserved-clause-handed
-invariant_of-push_reserved-clause-handed c = c.in_ok-durations.ensures ∙ ap durations_of (sym c.in_ok-progress.ensures.thread)
-
-pub invariant_of-push_reserved-clause-long : goal.invariant_of-push_reserved-clause-long
-invariant_of-push_reserved-clause-long c =
-    let th = c.thread-item.result in
-    ap has_nothing c.in_ok-durations.ensures
-    ∙ (c.requires.start c.threads.thread-index th (slice_get_read c.args.threads.now (length c.args.threads.now) c.threads.thread-index th refl c.threads-test.true c.thread-item.is)).long
-
-pub invariant_of-push_reserved-clause-rests : goal.invariant_of-push_reserved-clause-rests
-invariant_of-push_reserved-clause-rests c = ap (λ (h : Thread). rests_as c.opening_rest.result h.timing) c.in_ok-progress.ensures.thread ∙ c.opening_rest.ensures.fits
 
 pub threads-preserved : goal.threads-preserved
 threads-preserved c =
@@ -66,7 +55,7 @@ threads-preserved c =
       opened = subst (λ (ths : List Thread). AreOpen c.args.until c.args.units.now ths c.push_reserved.new.self.items c.sleep_first.new.links) (sym taken)
           (subst (λ (ts : List Task). AreOpen c.args.until c.args.units.now (take c.threads.thread-index c.args.threads.now ++ th ∷ []) ts c.sleep_first.new.links) (sym c.push_reserved.ensures.items)
           (open-next c.args.until c.args.units.now (take c.threads.thread-index c.args.threads.now) c.threads.tasks.items c.threads.links i.opened _ th
-          (record { thread = c.in_ok-progress.ensures.thread; vars = c.in_ok-progress.ensures.vars; pieces = c.in_ok-progress.ensures.pieces; rests = c.opening_rest.ensures.readiness; next = c.opening_time.ensures; left = refl; used = refl; works = refl; gate = c.shut.ensures; active = refl; inside = c.in_ok-inside.ensures.items })
+          c.in_ok-fresh.ensures
           start c.sleep_first.new.links is));
       size = ap (λ q. q.size) is ∙ slept-size th.timing (length c.threads.tasks.items) c.threads.links ∙ i.size;
       place = ap (λ n. n + 1) i.place ∙ sym longer;

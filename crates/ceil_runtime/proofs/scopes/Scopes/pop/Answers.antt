@@ -1,4 +1,4 @@
-use Rattle.std.proofs.Common.{ap, drop, ◌∙◌}
+use Rattle.std.proofs.Common.{ap, ◌∙◌}
 use Rattle.ceil_runtime.specs.Stacked.{vars_of}
 use Rattle.ceil_runtime.proofs.Scopings.{vars-inner}
 use Rattle.ceil_runtime.proofs.scopes.Scopes.pop.Goals as goal

@@ -1,4 +1,4 @@
-use Rattle.std.proofs.Common.{◌+◌, arith, ap, sym, subst, length, ◌∙◌}
+use Rattle.std.proofs.Common.{arith, ap, sym, subst, length, ◌∙◌}
 use Rattle.ceil_runtime.specs.Stacked.{vars_of}
 use Rattle.ceil_runtime.specs.Slots.{counted, spread}
 use Rattle.ceil_runtime.specs.Progresses.{behind, nothing_kept, put_away}

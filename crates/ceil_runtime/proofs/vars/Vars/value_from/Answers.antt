@@ -3,7 +3,6 @@ use Rattle.seq_tree.specs.Names.{same_name}
 use Rattle.seq_eval.specs.Lookups.{found}
 use Rattle.ceil_runtime.specs.Stacked.{vars_of}
 use Rattle.ceil_runtime.specs.Chains.{names_in, up_to_last}
-use Rattle.ceil_runtime.specs.declared.values.Var.{Var}
 use Rattle.ceil_runtime.proofs.Scopings.{found-from, found-out}
 use Rattle.ceil_runtime.proofs.vars.Vars.value_from.Goals as goal
 

@@ -33,8 +33,8 @@ returns-in-Err-Syntax-clause-says c =
     faulty-at c.args.bytes.now ts.0 c.in-Err-Syntax.left c.place_of-place.result (omega arith) ts.1 (ap read_as ts.2 ∙ fails)
     (rw (← c.in-Err-Syntax.left-is) (c.place_of-place.ensures ts.0 ts.1 ts.3))
 
-pub returns-clause-says : goal.returns-clause-says
-returns-clause-says c =
+pub returns-in-Err-TooDeep-clause-says : goal.returns-in-Err-TooDeep-clause-says
+returns-in-Err-TooDeep-clause-says c =
     let ts = found-list (tokens c.args.bytes.now) (ahead c.in-Ok.found) c.in-Ok.ensures.gives in
     let fails = rw c.in-Err-TooDeep.field-0-is at c.in-Err-TooDeep.ensures in
     deep-at c.args.bytes.now ts.0 c.in-Err-TooDeep.left c.place_of-place-in-Err-TooDeep.result (omega arith) ts.1 (ap read_as ts.2 ∙ fails)

@@ -1,5 +1,5 @@
 -- Reading lists, one item at a time.
-use Rattle.std.proofs.Common.{◌≡◌, ℕ, suc, ◌<◌, true, false, List, [], ◌∷◌, ◌++◌, length, Ok, Err, codes, refl, sym, ap, ◌∙◌, arith, append_assoc, append-nil, length-append}
+use Rattle.std.proofs.Common.{◌≡◌, ℕ, ◌<◌, true, false, List, [], ◌∷◌, ◌++◌, length, Ok, Err, codes, refl, sym, ap, ◌∙◌, arith, append_assoc, append-nil, length-append}
 use Rattle.grammar.specs.Reading.{Halt, Syntax, Read, first, ◌>>=◌, many_at, Reads}
 use Rattle.grammar.proofs.Many.{many-turn, many-fails, many-ends}
 use Rattle.seq_tree.specs.declared.token.Token.{Token}

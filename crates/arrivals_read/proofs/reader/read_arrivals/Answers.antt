@@ -1,4 +1,4 @@
-use Rattle.std.proofs.Common.{◌≡◌, Ok, length, ap, ◌∙◌, arith}
+use Rattle.std.proofs.Common.{Ok, length, ap, ◌∙◌, arith}
 use Rattle.grammar.specs.Reading.{whole_at}
 use Rattle.seq_tree.specs.Lexis.{tokens}
 use Rattle.ada_tree.specs.Trees.{program_of}

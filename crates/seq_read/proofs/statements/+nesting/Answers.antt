@@ -1,6 +1,7 @@
 use Rattle.std.proofs.Common.{sym, ap, map, codes, Ok, option_map, ◌∙◌}
 use Rattle.std.proofs.lemmas.List.{map-append}
-use Rattle.seq_tree.specs.Trees.{arm_of, block_of, otherwise, statement_of}
+use Rattle.seq_tree.specs.Statements.{If}
+use Rattle.seq_tree.specs.Trees.{arm_of, block_of, branches_of, otherwise, statement_of}
 use Rattle.seq_tree.specs.declared.token.Token.TheVariants as token
 use Rattle.token_read.specs.Ahead.{ahead}
 use Rattle.token_read.specs.Readers.{next_is}
@@ -51,4 +52,5 @@ conditional-returns t c =
     ∙ onward-ends (next_is (token.Word (codes "elsif"))) (arm_at (expression_at (may_name c.args.text) 32 c.args.deeper) block) (close_if block) (map arm_of c.arms.arms.items) (ahead c.arms.rest) (sym c.arms-test.ensures)
     ∙ if-closes block (map arm_of c.arms.arms.items) (otherwise (option_map block_of c.in_ok-other.other)) (ahead c.arms.rest) (ahead c.in_ok-other.ended) (ahead c.in_ok-ended.ended)
     (ahead c.in_ok-ended-2.ended) (ahead c.in_ok-ended-3.ended) c.in_ok-other.ensures c.in_ok-ended.ensures.gives c.in_ok-ended-2.ensures.gives c.in_ok-ended-3.ensures.gives
+    ∙ ap (λ v. Ok (If (branches_of (map arm_of v.items) (otherwise (option_map block_of c.in_ok-other.other))), ahead c.in_ok-ended-3.ended)) (sym c.in_ok-arms.ensures.ok)
     ∙ ap (λ s. Ok (s, ahead c.in_ok-ended-3.ended)) (sym (if-tree c.in_ok-arms.arms c.in_ok-other.other))

@@ -1,4 +1,4 @@
-use Rattle.std.proofs.Common.{List, Result, sym, ap, ◌∙◌, arith}
+use Rattle.std.proofs.Common.{List, Result, ap, ◌∙◌, arith}
 use Rattle.grammar.specs.Reading.{Halt, whole_at}
 use Rattle.seq_tree.specs.Lexis.{tokens}
 use Rattle.seq_tree.specs.declared.token.Token.{Token}

@@ -53,10 +53,12 @@ fn resolved_statement<'a>(
             target: target.copy(alloc)?,
             value: value.copy(alloc)?,
         }),
-        Stmt::If { arms, other } => Ok(Stmt::If {
-            arms: Box::new(alloc, resolved_arms(alloc, links, arms.as_slice())?)?,
-            other: resolved_other(alloc, links, other)?,
-        }),
+        Stmt::If { arms, other } => {
+            let copies = resolved_arms(alloc, links, arms.as_slice())?;
+            let arms = Box::new(alloc, copies)?;
+            let other = resolved_other(alloc, links, other)?;
+            Ok(Stmt::If { arms, other })
+        }
         Stmt::For {
             name,
             low,

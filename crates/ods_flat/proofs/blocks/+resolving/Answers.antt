@@ -6,6 +6,7 @@ use Rattle.seq_tree.specs.declared.tree.Stmt.{the_lemmas}
 use Rattle.ods_tree.specs.Links.{renamed, renamed_statement, resolve}
 use Rattle.ods_tree.specs.Trees.{design_of}
 use Rattle.seq_tree.proofs.TreeForms.{block-tree, block_of_roll}
+use Rattle.ods_flat.specs.Renaming.{renamed_arm}
 use Rattle.ods_flat.proofs.RenamingLaws.{if-renamed, renamed-list}
 use Rattle.ods_flat.proofs.blocks.+resolving.Goals as goal
 
@@ -20,10 +21,11 @@ resolved_block-returns t c =
     let opened : block_of c.args.block.now ≡ statements_of old = search (rules, whole) in
     block_of_roll (record { stmts = c.stmts.stmts }) ∙ ap statements_of made ∙ renamed-list means old ∙ ap (renamed means) (sym opened)
 
-pub resolved_statement-returns-in_ok-resolved_other-in-If : goal.resolved_statement-returns-in_ok-resolved_other-in-If
-resolved_statement-returns-in_ok-resolved_other-in-If t c =
+pub resolved_statement-returns-in_ok-other-in-If : goal.resolved_statement-returns-in_ok-other-in-If
+resolved_statement-returns-in_ok-other-in-If t c =
     let means = resolve (design_of c.args.links.now.design.now) in
     let arms = map arm_of c.in-If.arms.value.items in
     let opened : statement_of c.args.stmt.now ≡ If (branches_of arms (otherwise (option_map block_of c.in-If.other))) = search (rules, the_lemmas) in
-    if-renamed means c.in_ok-resolved_arms-in-If.field-0 c.in_ok-resolved_other-in-If.field-0 arms (option_map block_of c.in-If.other) (statement_of c.args.stmt.now)
-    (rw (c.as_slice.ensures.value, c.deref.ensures) at c.in_ok-resolved_arms-in-If.ensures) c.in_ok-resolved_other-in-If.ensures opened
+    let copied : map arm_of c.in_ok-copies-in-If.copies.items ≡ map (renamed_arm means) arms = rw (c.as_slice.ensures.value, c.deref.ensures) at c.in_ok-copies-in-If.ensures in
+    if-renamed means c.in_ok-arms-in-If.arms c.in_ok-other-in-If.other arms (option_map block_of c.in-If.other) (statement_of c.args.stmt.now)
+    (ap (λ v. map arm_of v.items) c.in_ok-arms-in-If.ensures.ok ∙ copied) c.in_ok-other-in-If.ensures opened

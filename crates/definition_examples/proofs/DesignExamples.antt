@@ -15,7 +15,7 @@ use Rattle.ods_tree.specs.Attributes.{attribute, attribute_or, attribute_count}
 use Rattle.ods_tree.specs.Walk.{objects, terminals, own_of, only_if}
 use Rattle.ods_tree.specs.Links.{link_for, resolve, resolved, tree_named}
 use Rattle.ods_tree.specs.Flats.{Cyclic, Sporadic, Flat}
-use Rattle.ods_tree.specs.Flattening.{operation_by, operations, timing_by, thread_by, threads, flat}
+use Rattle.ods_tree.specs.Flattening.{operation_by, operations, timing_by, thread_by, flat}
 use Rattle.ods_tree.specs.Services.{Plain, Protected, Request, flat_services, service_named, callee_by, callee_of}
 use Rattle.ods_tree.specs.Spelling.{part_token, tree_lines}
 use Rattle.ods_tree.specs.declared.design.Kind.TheVariants as kind

@@ -3,6 +3,7 @@ mod ProperExamples
 mod SoundExamples
 mod ProgramExamples
 mod TextExamples
+mod TokenExamples
 mod LawExamples
 mod ViewExamples
 mod RunExamples

@@ -11,8 +11,6 @@ mod bounds;
 #[cfg(test)]
 mod counts;
 #[cfg(test)]
-mod flats;
-#[cfg(test)]
 mod openings;
 #[cfg(test)]
 mod queues;

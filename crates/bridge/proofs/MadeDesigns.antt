@@ -45,7 +45,8 @@ module _ (x y : Design) (same : y ≡ x) (met : AreMet y y) (first : ℕ) (writt
     texts : (t : List ℕ) → t ≡ flat_text first f a.bounds.items → t ≡ flat_text (first_priority x) (flat x) a.bounds.items
     texts t e = e ∙ ap (λ n. flat_text n f a.bounds.items) named ∙ ap (λ g. flat_text (first_priority x) g a.bounds.items) flattened
 
-    pub made-of : (d : Delivery) → d.text.items ≡ flat_text first f a.bounds.items → length d.text.items ≤ 16777216 → d.bounds.items ≡ a.named.items → d.ceilings.items ≡ a.ceilings.items → IsMade x d
+    pub made-of : (d : Delivery) → d.text.items ≡ flat_text first f a.bounds.items → length d.text.items ≤ 16777216 → d.bounds.items ≡ a.named.items
+        → d.ceilings.items ≡ a.ceilings.items → IsMade x d
     made-of d e short bounds ceilings =
         let k = right in record {
           bounds = a.bounds.items;

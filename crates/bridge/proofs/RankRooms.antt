@@ -1,5 +1,6 @@
 -- The priorities and ceilings of a design that meets the rules are at most 60 as they are written.
-use Rattle.std.proofs.Common.{◌≡◌, ℕ, suc, ◌+◌, ◌-◌, ◌≤◌, ◌<◌, Bool, true, false, not, ◌&&◌, List, [], ◌∷◌, length, max, nat_le, Option, Some, None, option_and_then, option_to_list, refl, sym, ap, subst, ◌∙◌, arith}
+use Rattle.std.proofs.Common.{◌≡◌, ℕ, suc, ◌+◌, ◌-◌, ◌≤◌, ◌<◌, Bool, true, false, not, ◌&&◌, List, [], ◌∷◌, length, max, nat_le, Option, Some}
+use Rattle.std.proofs.Common.{None, option_and_then, option_to_list, refl, sym, ap, subst, ◌∙◌, arith}
 use Rattle.std.proofs.lemmas.Bool.{and_parts, leb-true}
 use Rattle.ods_tree.specs.Designs.{Design}
 use Rattle.ods_tree.specs.Walk.{only_if}
@@ -22,7 +23,8 @@ range-first None h = omega arith
 range-first (Some range) h = by (is_range range) refl h
   where
     by : (b : Bool) → is_range range ≡ b → option_to_list (only_if (not (is_range range)) V17Priorities) ≡ [] → 1 ≤ range.0
-    by true e k = leb-true 1 range.0 (and_parts (nat_le 1 range.0) (nat_le range.0 range.1) (and_parts (nat_le 1 range.0 && nat_le range.0 range.1) (nat_le range.1 60) e).0).0
+    by true e k = leb-true 1 range.0 (and_parts (nat_le 1 range.0) (nat_le range.0 range.1)
+        (and_parts (nat_le 1 range.0 && nat_le range.0 range.1) (nat_le range.1 60) e).0).0
     by false e k = (let z : V17Priorities ∷ [] ≡ [] = sym (ap (λ b. option_to_list (only_if (not b) V17Priorities)) e) ∙ k in cc)
 
 module _ (x : Design) (met : AreMet x x) where
@@ -41,7 +43,10 @@ module _ (x : Design) (met : AreMet x x) where
 
   pub has-room : HasRoom (first_priority x) (flat x)
   has-room = record {
-    threads = each-in (λ n. n + (first_priority x - 1) ≤ 60) (priorities_of (flat x)) (λ n h. let r = priority-range (flat x) n h in let k = most in omega (arith, r.1, k));
-    shared = each-made (λ n. n + (first_priority x - 1) ≤ 60) (λ (g : Guarded). ceiling (flat x) (priorities_of (flat x)) g.name) (flat x).shared (λ g. small-ceiling g.name);
-    obcs = each-made (λ n. n + (first_priority x - 1) ≤ 60) (λ (t : Thread). control_ceiling (flat x) (priorities_of (flat x)) t.name t.timing) (flat x).threads (λ t. small-control t.timing t.name);
+    threads = each-in (λ n. n + (first_priority x - 1) ≤ 60) (priorities_of (flat x)) (λ n h. let r = priority-range (flat x) n h in let k = most
+        in omega (arith, r.1, k));
+    shared = each-made (λ n. n + (first_priority x - 1) ≤ 60) (λ (g : Guarded). ceiling (flat x)
+        (priorities_of (flat x)) g.name) (flat x).shared (λ g. small-ceiling g.name);
+    obcs = each-made (λ n. n + (first_priority x - 1) ≤ 60) (λ (t : Thread). control_ceiling (flat x)
+        (priorities_of (flat x)) t.name t.timing) (flat x).threads (λ t. small-control t.timing t.name);
   }

@@ -14,8 +14,10 @@ use Rattle.bridge.specs.Makes.{flat_text}
 abbrev text-by : ℕ → Flat → Ranks → ThreadTable → List Bound → List ℕ
 text-by first f r t v = head f (written_ranks first r) t.places v ++ layout (program_lines (program_for f (written_ranks first r)))
 
-pub made-text : (first : ℕ) (f : Flat) (r : Ranks) (t : ThreadTable) (v w : List Bound) (p : Program) (before behind : List ℕ) → r ≡ ranks f → t ≡ table f → w ≡ v
-    → before ≡ head f (written_ranks first r) t.places w → p ≡ program_for f (written_ranks first r) → behind ≡ before ++ layout (program_lines p) → behind ≡ flat_text first f v
+pub made-text : (first : ℕ) (f : Flat) (r : Ranks) (t : ThreadTable) (v w : List Bound) (p : Program) (before behind : List ℕ) → r ≡ ranks f
+    → t ≡ table f → w ≡ v
+    → before ≡ head f (written_ranks first r) t.places w → p ≡ program_for f (written_ranks first r) → behind ≡ before ++ layout (program_lines p)
+    → behind ≡ flat_text first f v
 made-text first f r t v w p before behind ranked tabled bounds headed made printed =
     printed ∙ ap (λ q. before ++ layout (program_lines q)) made
     ∙ ap (λ b. b ++ layout (program_lines (program_for f (written_ranks first r)))) headed

@@ -30,19 +30,22 @@ analysed-as bytes text x w r =
     let R : designs.Design → Type 0 = λ y. IsReported y text in
     record { design = w.design; reads = w.reads; meets = w.meets; reported = subst R w.ticked r }
 
-pub missed-as : (bytes : List ℕ) (thread : Name) (miss : rows.Miss) (x : designs.Design) → IsTakenAs bytes x → IsMissed (flat x) thread miss → HasNoBounds bytes thread miss
+pub missed-as : (bytes : List ℕ) (thread : Name) (miss : rows.Miss) (x : designs.Design) → IsTakenAs bytes x → IsMissed (flat x) thread miss
+    → HasNoBounds bytes thread miss
 missed-as bytes thread miss x w m =
     let M : designs.Design → Type 0 = λ y. IsMissed (flat y) thread miss in
     record { design = w.design; reads = w.reads; meets = w.meets; missed = subst M w.ticked m }
 
 -- what the analysis of what runs of a design says of the design
-pub reported-as : (x : designs.Design) (first : ℕ) (f : Flat) (a : Analysis) (text : List ℕ) → f ≡ flat x → first ≡ first_priority x → IsAnalysis first f a → text ≡ report a.named.items a.ceilings.items
+pub reported-as : (x : designs.Design) (first : ℕ) (f : Flat) (a : Analysis) (text : List ℕ) → f ≡ flat x → first ≡ first_priority x
+    → IsAnalysis first f a → text ≡ report a.named.items a.ceilings.items
     → IsReported x text
 reported-as x first f a text e h an t =
     let Least : Flat → Type 0 = λ g. IsLeastVector (table g).rows a.bounds.items in
     let named : a.named.items ≡ named_bounds (first_priority x) (flat x) a.bounds.items =
     an.named ∙ ap (λ g. named_bounds first g a.bounds.items) e ∙ ap (λ n. named_bounds n (flat x) a.bounds.items) h in
-    let ceilings : a.ceilings.items ≡ ceiling_rows (first_priority x) (flat x) = an.ceilings ∙ ap (ceiling_rows first) e ∙ ap (λ n. ceiling_rows n (flat x)) h in
+    let ceilings : a.ceilings.items ≡ ceiling_rows (first_priority x) (flat x)
+    = an.ceilings ∙ ap (ceiling_rows first) e ∙ ap (λ n. ceiling_rows n (flat x)) h in
     record {
       bounds = a.bounds.items;
       least = subst Least e an.least;
@@ -56,7 +59,8 @@ can_or_refuses bytes bytes' same w (Miss thread miss) h =
     let F : designs.Design → Type 0 = λ z. Fits (table (flat (in_ticks z))).rows w.bounds in
     h.missed.none w.bounds (subst F one w.fits)
 
-one_over : (bytes : List ℕ) (thread other : Name) (m n : rows.Miss) → HasNoBounds bytes thread m → HasNoBounds bytes other n → ◌≡◌ {A = AnalyseRefusal} (Miss thread m) (Miss other n)
+one_over : (bytes : List ℕ) (thread other : Name) (m n : rows.Miss) → HasNoBounds bytes thread m → HasNoBounds bytes other n
+    → ◌≡◌ {A = AnalyseRefusal} (Miss thread m) (Miss other n)
 one_over bytes thread other m n h k = (let one = one-bounds bytes thread other m n h k in ap (λ z. Miss z m) one.0 ∙ ap (λ z. Miss other z) one.1)
 
 one_cause : (bytes : List ℕ) (r q : AnalyseRefusal) → RefusesAnalysis bytes r → RefusesAnalysis bytes q → r ≡ q

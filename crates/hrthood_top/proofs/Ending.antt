@@ -19,12 +19,14 @@ use Rattle.hrthood_top.specs.Writing.{IsMade, Finishes, Streams, TellsHalt, Tell
 use Rattle.hrthood_top.proofs.Fetching.{if_some-map}
 
 -- files that could not be had
-pub ends-stop : {X : Type 0} (view : X → Texts) (v : Verb) (ended : Status) (why : Stop) (x y : Outside) → FetchesAll view (Err why) v.files x.told y.told x.read_faults y.read_faults →
+pub ends-stop : {X : Type 0} (view : X → Texts) (v : Verb) (ended : Status) (why : Stop) (x y : Outside)
+    → FetchesAll view (Err why) v.files x.told y.told x.read_faults y.read_faults →
     TellsStop ended why x.err y.err x.tell_faults y.tell_faults → y.out ≡ x.out → EndsVerb ended v x y
 ends-stop view v ended (stop.TooLong kind) x y h s out =
     let E : Status → Type 0 = λ z. EndsVerb z v x y in
     let T : FileKind → Type 0 = λ z. TellsMessage x y (too_long_line z) in
-    let stands = if_some-map x.told (λ t. (texts : Texts) × HoldsAll t h.front texts × IsTooLong t h.file) (λ t. Refuses t v (TooLong h.front h.file)) h.held (λ t p. (h.back, h.place, p.0, p.1, p.2)) in
+    let stands = if_some-map x.told (λ t. (texts : Texts) × HoldsAll t h.front texts
+    × IsTooLong t h.file) (λ t. Refuses t v (TooLong h.front h.file)) h.held (λ t p. (h.back, h.place, p.0, p.1, p.2)) in
     subst E (sym s.0) (TooLong h.front h.file, stands, h.log, out, subst T h.of s.1)
 ends-stop view v ended (stop.ReadFault name) x y h s out =
     let E : Status → Type 0 = λ z. EndsVerb z v x y in
@@ -37,35 +39,62 @@ ends-stop view v ended stop.NoMemory x y h s out =
 -- what was made of files that are there
 pub ends-made : {X : Type 0} (view : X → List ℕ) (v : Verb) (ended : Status) (made : Result X (Halt v.Refusal)) (texts : Texts) (x y : Outside) →
     IfSome x.told (λ t. HoldsAll t v.files texts) → y.told ≡ grown x.told (fetched v.files) → IsMade view (v.Makes texts) (v.Refuses texts) made →
-    Finishes view (TellsHalt v.line) made ended x.out y.out x.write_faults y.write_faults x.err y.err x.tell_faults y.tell_faults → EndsVerb ended v x y
+    Finishes view (TellsHalt v.line) made ended x.out y.out x.write_faults y.write_faults x.err y.err x.tell_faults y.tell_faults
+    → EndsVerb ended v x y
 ends-made view v status.Done (Ok z) texts x y held log m f =
     (view z, f.0, if_some-map x.told (λ t. HoldsAll t v.files texts) (λ t. Writes t v (view z)) held (λ t p. (texts, p, m)), log, f.1)
-ends-made view v status.WriteFault (Ok z) texts x y held log m f =
-    (view z, f.0, f.1, f.2, if_some-map x.told (λ t. HoldsAll t v.files texts) (λ t. WritesAtMost t v (view z)) held (λ t p. inl (texts, p, m)), f.3, log, f.4)
+ends-made view v status.WriteFault (Ok z) texts x y held log m f = (
+  view z,
+  f.0,
+  f.1,
+  f.2,
+  if_some-map x.told (λ t. HoldsAll t v.files texts) (λ t. WritesAtMost t v (view z)) held (λ t p.
+      inl (texts, p, m)),
+  f.3,
+  log,
+  f.4,
+)
 ends-made view v status.Refused (Ok z) texts x y held log m f = absurd f
 ends-made view v status.Usage (Ok z) texts x y held log m f = absurd f
 ends-made view v status.ReadFault (Ok z) texts x y held log m f = absurd f
 ends-made view v status.NoMemory (Ok z) texts x y held log m f = absurd f
 ends-made view v ended (Err (halt.Refused refusal)) texts x y held log m f =
     let E : Status → Type 0 = λ z. EndsVerb z v x y in
-    subst E (sym f.1.0)
-    (Refusal refusal, if_some-map x.told (λ t. HoldsAll t v.files texts) (λ t. Refuses t v (Refusal refusal)) held (λ t p. (texts, p, m)), log, f.0, f.1.1)
+    subst E (sym f.1.0) (
+      Refusal refusal,
+      if_some-map x.told (λ t. HoldsAll t v.files texts) (λ t. Refuses t v (Refusal refusal)) held (λ t p.
+          (texts, p, m)),
+      log,
+      f.0,
+      f.1.1,
+    )
 ends-made view v ended (Err halt.NoMemory) texts x y held log m f =
     let E : Status → Type 0 = λ z. EndsVerb z v x y in
     subst E (sym f.1.0) (length v.files, log ∙ ap (λ z. grown x.told (fetched z)) (sym (take-length v.files)), f.0, f.1.1)
 
 -- what a verb writes, up to its stop
-at_most : (v : Verb) (texts : Texts) (text : List ℕ) (t : Told) → HoldsAll t v.files texts → v.Makes texts text ⊎ ((stop : v.Stop) × v.Stops texts text stop) → WritesAtMost t v text
+at_most : (v : Verb) (texts : Texts) (text : List ℕ) (t : Told) → HoldsAll t v.files texts
+    → v.Makes texts text ⊎ ((stop : v.Stop) × v.Stops texts text stop) → WritesAtMost t v text
 at_most v texts text t held (inl made) = inl (texts, held, made)
 at_most v texts text t held (inr (stop, stops)) = inr (stop, (texts, held, stops))
 
 -- what was written of files that are there, as it came
-pub ends-streamed : (v : Verb) (ended : Status) (texts : Texts) (x y : Outside) → IfSome x.told (λ t. HoldsAll t v.files texts) → y.told ≡ grown x.told (fetched v.files)
+pub ends-streamed : (v : Verb) (ended : Status) (texts : Texts) (x y : Outside) → IfSome x.told (λ t. HoldsAll t v.files texts)
+    → y.told ≡ grown x.told (fetched v.files)
     → Streams v texts ended x.out y.out x.write_faults y.write_faults x.err y.err x.tell_faults y.tell_faults → EndsVerb ended v x y
 ends-streamed v status.Done texts x y held log s =
     (s.0, s.2, if_some-map x.told (λ t. HoldsAll t v.files texts) (λ t. Writes t v s.0) held (λ t p. (texts, p, s.1)), log, s.3)
-ends-streamed v status.WriteFault texts x y held log s =
-    (s.0, s.2.0, s.2.1, s.2.2, if_some-map x.told (λ t. HoldsAll t v.files texts) (λ t. WritesAtMost t v s.0) held (λ t p. at_most v texts s.0 t p s.1), s.2.3, log, s.2.4)
+ends-streamed v status.WriteFault texts x y held log s = (
+  s.0,
+  s.2.0,
+  s.2.1,
+  s.2.2,
+  if_some-map x.told (λ t. HoldsAll t v.files texts) (λ t. WritesAtMost t v s.0) held (λ t p.
+      at_most v texts s.0 t p s.1),
+  s.2.3,
+  log,
+  s.2.4,
+)
 ends-streamed v status.Refused texts x y held log (inl s) =
     (Refusal s.0, if_some-map x.told (λ t. HoldsAll t v.files texts) (λ t. Refuses t v (Refusal s.0)) held (λ t p. (texts, p, s.1)), log, s.2, s.3)
 ends-streamed v status.Refused texts x y held log (inr s) = (
@@ -75,6 +104,7 @@ ends-streamed v status.Refused texts x y held log (inr s) = (
   (s.1, s.3, if_some-map x.told (λ t. HoldsAll t v.files texts) (λ t. WritesUpTo t v s.0 s.1) held (λ t p. (texts, p, s.2))),
   s.4,
 )
-ends-streamed v status.NoMemory texts x y held log s = (length v.files, log ∙ ap (λ z. grown x.told (fetched z)) (sym (take-length v.files)), s.0, s.1)
+ends-streamed v status.NoMemory texts x y held log s
+    = (length v.files, log ∙ ap (λ z. grown x.told (fetched z)) (sym (take-length v.files)), s.0, s.1)
 ends-streamed v status.ReadFault texts x y held log s = absurd s
 ends-streamed v status.Usage texts x y held log s = absurd s

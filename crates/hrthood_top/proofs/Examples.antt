@@ -28,11 +28,18 @@ not_out : RunsOut (event.Release 0 0 None ∷ event.Stop 5 0 1 2 1 ∷ []) → �
 not_out h = h.1.0
 
 -- the violation that a stop at the end tells
-stopped : (p : Program) → EndsAt p (event.Release 0 0 None ∷ event.Stop 5 0 1 2 1 ∷ []) (record { time = 5; task = unit_name p 0; object = unit_name p 1; priority = 2; ceiling = 1 })
+stopped : (p : Program) → EndsAt p (event.Release 0 0 None ∷ event.Stop 5 0 1 2 1 ∷ [])
+    (record { time = 5; task = unit_name p 0; object = unit_name p 1; priority = 2; ceiling = 1 })
 stopped p = record { front = event.Release 0 0 None ∷ []; task = 0; object = 1; last = refl; task_name = refl; object_name = refl }
 
 -- its priority is not the ceiling
-not_so : (p : Program) → EndsAt p (event.Stop 5 0 1 2 1 ∷ []) (record { time = 5; task = unit_name p 0; object = unit_name p 1; priority = 1; ceiling = 1 }) → ⊥
+not_so : (p : Program) → EndsAt p (event.Stop 5 0 1 2 1 ∷ []) (record {
+  time = 5;
+  task = unit_name p 0;
+  object = unit_name p 1;
+  priority = 1;
+  ceiling = 1;
+}) → ⊥
 not_so p h = by h.front h.last
   where
     by : (front : List Event) → event.Stop 5 0 1 2 1 ∷ [] ≡ front ++ event.Stop 5 h.task h.object 1 1 ∷ [] → ⊥

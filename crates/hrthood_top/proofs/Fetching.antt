@@ -1,5 +1,6 @@
 -- Fetching one file after another.
-use Rattle.std.proofs.Common.{◌≡◌, ℕ, zero, suc, false, ◌+◌, ◌<◌, ◌≤◌, List, [], ◌∷◌, ◌++◌, length, take, map, get_or, Option, Some, None, refl, sym, ap, subst, ◌∙◌, arith, append_assoc, append-nil, add-one, Vec, Global}
+use Rattle.std.proofs.Common.{◌≡◌, ℕ, zero, suc, false, ◌+◌, ◌<◌, ◌≤◌, List, [], ◌∷◌, ◌++◌, length, take, map, get_or, Option, Some, None, refl}
+use Rattle.std.proofs.Common.{sym, ap, subst, ◌∙◌, arith, append_assoc, append-nil, add-one, Vec, Global}
 use Rattle.std.specs.Prelude.{IfSome, Ok, Err}
 use Rattle.seq_tree.specs.Lists.{Each}
 use Rattle.hood_io.specs.Causes.{Rose}
@@ -16,7 +17,8 @@ grown-grown None es fs = refl
 grown-grown (Some t) es fs = ap (λ l. Some (record t { log = l })) (append_assoc t.log es fs)
 
 -- the log after two steps
-grown-after : (told told' told'' : Option Told) (es fs : List Entry) → told' ≡ grown told es → told'' ≡ grown told' fs → told'' ≡ grown told (es ++ fs)
+grown-after : (told told' told'' : Option Told) (es fs : List Entry) → told' ≡ grown told es → told'' ≡ grown told' fs
+    → told'' ≡ grown told (es ++ fs)
 grown-after told told' told'' es fs e f = f ∙ ap (λ z. grown z fs) e ∙ grown-grown told es fs
 
 fetched-append : (files more : List File) → fetched (files ++ more) ≡ fetched files ++ fetched more
@@ -24,7 +26,8 @@ fetched-append [] more = refl
 fetched-append (f ∷ files) more = ap (λ z. record { name = f.name; failed = false } ∷ z) (fetched-append files more)
 
 -- what holds of the files of a shelf held before its log grew
-if_told-before : (told told' : Option Told) (es : List Entry) (P : (List ℕ → Option (List ℕ)) → Type 0) → told' ≡ grown told es → IfSome told' (λ t. P t.files) → IfSome told (λ t. P t.files)
+if_told-before : (told told' : Option Told) (es : List Entry) (P : (List ℕ → Option (List ℕ)) → Type 0) → told' ≡ grown told es
+    → IfSome told' (λ t. P t.files) → IfSome told (λ t. P t.files)
 if_told-before None told' es P e h = tt
 if_told-before (Some t) told' es P e h = let Q : Option Told → Type 0 = λ o. IfSome o (λ u. P u.files) in subst Q e h
 
@@ -61,19 +64,22 @@ each-of : {A : Type 0} (P : A → Type 0) (front : List A) (x : A) (back : List 
 each-of P [] x back h = h.0
 each-of P (y ∷ front) x back h = each-of P front x back h.1
 
-apart-before : (front : List File) (file : File) (back : List File) → AreApart (front ++ file ∷ back) → Each (λ other. other.kind ≡ file.kind → ⊥) front
+apart-before : (front : List File) (file : File) (back : List File) → AreApart (front ++ file ∷ back)
+    → Each (λ other. other.kind ≡ file.kind → ⊥) front
 apart-before [] file back h = tt
 apart-before (f ∷ front) file back h =
     (λ e. each-of (λ other. other.kind ≡ f.kind → ⊥) front file back h.0 (sym e), apart-before front file back h.1)
 
 -- files stay where the text of another kind is taken
-held-still : (t : Told) (files : List File) (kind : FileKind) (old new : Texts) → Each (λ other. other.kind ≡ kind → ⊥) files → ((other : FileKind) → (other ≡ kind → ⊥) → new other ≡ old other) →
+held-still : (t : Told) (files : List File) (kind : FileKind) (old new : Texts) → Each (λ other. other.kind ≡ kind → ⊥) files
+    → ((other : FileKind) → (other ≡ kind → ⊥) → new other ≡ old other) →
     HoldsAll t files old → HoldsAll t files new
 held-still t [] kind old new apart others h = tt
 held-still t (f ∷ files) kind old new apart others h =
     (subst (Holds t f) (sym (others f.kind apart.0)) h.0, held-still t files kind old new apart.1 others h.1)
 
-held-more : (t : Told) (files : List File) (file : File) (texts : Texts) → HoldsAll t files texts → Holds t file (texts file.kind) → HoldsAll t (files ++ file ∷ []) texts
+held-more : (t : Told) (files : List File) (file : File) (texts : Texts) → HoldsAll t files texts → Holds t file (texts file.kind)
+    → HoldsAll t (files ++ file ∷ []) texts
 held-more t [] file texts h one = (one, tt)
 held-more t (f ∷ files) file texts h one = (h.0, held-more t files file texts h.1 one)
 
@@ -90,14 +96,18 @@ pub none-so-far : (files : List File) (texts : Texts) (told : Option Told) → A
 none-so-far files texts None = record { held = tt; log = refl }
 none-so-far files texts (Some t) = record { held = tt; log = grown-nothing (Some t) }
 
-log-more : (files : List File) (i : ℕ) (file : File) (told told' told'' : Option Told) → told' ≡ grown told (fetched (take i files)) → told'' ≡ grown told' (fetched (file ∷ [])) →
+log-more : (files : List File) (i : ℕ) (file : File) (told told' told'' : Option Told) → told' ≡ grown told (fetched (take i files))
+    → told'' ≡ grown told' (fetched (file ∷ [])) →
     told'' ≡ grown told (fetched (take i files ++ file ∷ []))
 log-more files i file told told' told'' e f =
-    grown-after told told' told'' (fetched (take i files)) (fetched (file ∷ [])) e f ∙ ap (grown told) (sym (fetched-append (take i files) (file ∷ [])))
+    grown-after told told' told'' (fetched (take i files)) (fetched (file ∷ [])) e f ∙ ap (grown told)
+    (sym (fetched-append (take i files) (file ∷ [])))
 
 -- one more file is there
-pub one-more : (files : List code.File) (i : ℕ) (d : code.File) (old new : Texts) (x : Vec ℕ Global) (told told' told'' : Option Told) (faults faults' : ℕ) → i < length files → AreApart (map file_tree files) →
-    AreSoFar (map file_tree files) i old told told' → Fetches (λ (v : Vec ℕ Global). v.items) (Ok x) (file_tree (get_or files i d)) told' told'' faults faults' →
+pub one-more : (files : List code.File) (i : ℕ) (d : code.File) (old new : Texts) (x : Vec ℕ Global) (told told' told'' : Option Told)
+    (faults faults' : ℕ) → i < length files → AreApart (map file_tree files) →
+    AreSoFar (map file_tree files) i old told told'
+    → Fetches (λ (v : Vec ℕ Global). v.items) (Ok x) (file_tree (get_or files i d)) told' told'' faults faults' →
     new (get_or files i d).kind ≡ x.items → ((other : FileKind) → (other ≡ (get_or files i d).kind → ⊥) → new other ≡ old other) →
     AreSoFar (map file_tree files) (i + 1) new told told''
 one-more files i d old new x told told' told'' faults faults' h apart s f taken others =
@@ -105,7 +115,8 @@ one-more files i d old new x told told' told'' faults faults' h apart s f taken 
     let file = file_tree (get_or files i d) in
     let c = cut-at files i d h in
     let before = apart-before (take i all) file c.back (subst AreApart c.place apart) in
-    let one : IfSome told (λ t. Holds t file x.items) = if_told-before told told' (fetched (take i all)) (λ files'. (files' file.name ≡ Some x.items) × (length x.items ≤ _)) s.log f.0 in
+    let one : IfSome told (λ t. Holds t file x.items) = if_told-before told told' (fetched (take i all)) (λ files'. (files' file.name ≡ Some x.items)
+    × (length x.items ≤ _)) s.log f.0 in
     let held : IfSome told (λ t. HoldsAll t (take i all ++ file ∷ []) new) =
     if_some-both told (λ t. HoldsAll t (take i all) old) (λ t. Holds t file x.items) (λ t. HoldsAll t (take i all ++ file ∷ []) new) s.held one
     (λ t p q. held-more t (take i all) file new (held-still t (take i all) file.kind old new before others p) (subst (Holds t file) (sym taken) q)) in
@@ -118,21 +129,25 @@ rose-later : (a b c : ℕ) → a ≤ b → Rose b c → Rose a c
 rose-later a b c h r = omega arith
 
 -- a fetch that stops, behind those that were done
-pub stops-here : {X : Type 0} (view : X → Texts) (stop : Stop) (files : List code.File) (i : ℕ) (d : code.File) (texts : Texts) (told told' told'' : Option Told) (faults faults' faults'' : ℕ) → i < length files →
-    AreSoFar (map file_tree files) i texts told told' → faults ≤ faults' → Fetches (λ (v : Vec ℕ Global). v.items) (Err stop) (file_tree (get_or files i d)) told' told'' faults' faults'' →
+pub stops-here : {X : Type 0} (view : X → Texts) (stop : Stop) (files : List code.File) (i : ℕ) (d : code.File) (texts : Texts)
+    (told told' told'' : Option Told) (faults faults' faults'' : ℕ) → i < length files →
+    AreSoFar (map file_tree files) i texts told told' → faults ≤ faults'
+    → Fetches (λ (v : Vec ℕ Global). v.items) (Err stop) (file_tree (get_or files i d)) told' told'' faults' faults'' →
     FetchesAll view (Err stop) (map file_tree files) told told'' faults faults''
 stops-here view (TooLong kind) files i d texts told told' told'' faults faults' faults'' h s later f =
     let all = map file_tree files in
     let file = file_tree (get_or files i d) in
     let c = cut-at files i d h in
-    let over : IfSome told (λ t. IsTooLong t file) = if_told-before told told' (fetched (take i all)) (λ files'. (text : List ℕ) × (files' file.name ≡ Some text) × (_ < length text)) s.log f.1 in
+    let over : IfSome told (λ t. IsTooLong t file) = if_told-before told told' (fetched (take i all)) (λ files'. (text : List ℕ)
+    × (files' file.name ≡ Some text) × (_ < length text)) s.log f.1 in
     record {
       front = take i all;
       file = file;
       back = c.back;
       place = c.place;
       of = f.0;
-      held = if_some-both told (λ t. HoldsAll t (take i all) texts) (λ t. IsTooLong t file) (λ t. (ts : Texts) × HoldsAll t (take i all) ts × IsTooLong t file) s.held over (λ t p q. (texts, p, q));
+      held = if_some-both told (λ t. HoldsAll t (take i all) texts) (λ t. IsTooLong t file) (λ t. (ts : Texts) × HoldsAll t (take i all) ts
+          × IsTooLong t file) s.held over (λ t p q. (texts, p, q));
       log = log-more all i file told told' told'' s.log f.2;
     }
 stops-here view (ReadFault name) files i d texts told told' told'' faults faults' faults'' h s later f =
@@ -153,7 +168,8 @@ stops-here view NoMemory files i d texts told told' told'' faults faults' faults
     (i, f ∙ sym (grown-nothing told') ∙ s.log)
 
 -- all files are there
-pub all-there : {X : Type 0} (view : X → Texts) (x : X) (files : List code.File) (i : ℕ) (told told' : Option Told) (faults faults' : ℕ) → length files ≤ i → AreSoFar (map file_tree files) i (view x) told told' →
+pub all-there : {X : Type 0} (view : X → Texts) (x : X) (files : List code.File) (i : ℕ) (told told' : Option Told) (faults faults' : ℕ)
+    → length files ≤ i → AreSoFar (map file_tree files) i (view x) told told' →
     FetchesAll view (Ok x) (map file_tree files) told told' faults faults'
 all-there view x files i told told' faults faults' h s =
     let whole = all-taken files i h in

@@ -1,5 +1,6 @@
 -- Pieces of a text that a page gathers, one after another, and what is written of the whole.
-use Rattle.std.proofs.Common.{◌≡◌, ℕ, zero, suc, ◌+◌, ◌<◌, ◌≤◌, List, [], ◌∷◌, ◌++◌, length, drop, get_or, Option, Result, Ok, Err, refl, sym, ap, subst, ◌∙◌, append_assoc, append-nil, arith, drop-cons, add-one}
+use Rattle.std.proofs.Common.{◌≡◌, ℕ, zero, suc, ◌+◌, ◌<◌, ◌≤◌, List, [], ◌∷◌, ◌++◌, length, drop, get_or, Option, Result, Ok, Err, refl, sym}
+use Rattle.std.proofs.Common.{ap, subst, ◌∙◌, append_assoc, append-nil, arith, drop-cons, add-one}
 use Rattle.std.proofs.lemmas.List.{drop_all}
 use Rattle.seq_tree.specs.Lists.{Each}
 use Rattle.hood_io.specs.Causes.{HasCause}
@@ -16,7 +17,8 @@ each-at P (x ∷ xs) zero d h e = e.0
 each-at P (x ∷ xs) (suc i) d h e = each-at P xs i d (let less : i < length xs = omega arith in less) e.1
 
 -- one more line
-pub lines-next : (p : Program) (es : List Event) (i : ℕ) (d : Event) (text text' front : List ℕ) → i < length es → text ++ lines p (drop i es) ≡ front →
+pub lines-next : (p : Program) (es : List Event) (i : ℕ) (d : Event) (text text' front : List ℕ) → i < length es
+    → text ++ lines p (drop i es) ≡ front →
     text' ≡ text ++ line p (get_or es i d) → text' ++ lines p (drop (i + 1) es) ≡ front
 lines-next p es i d text text' front h whole more =
     ap (λ z. z ++ lines p (drop (i + 1) es)) more ∙ append_assoc text (line p (get_or es i d)) (lines p (drop (i + 1) es))
@@ -30,12 +32,14 @@ gathered-none held a = ([], appends-none a, sym (append-nil held))
 behind : (held x y front held' : List ℕ) → front ++ held' ≡ held ++ x → front ++ (held' ++ y) ≡ held ++ (x ++ y)
 behind held x y front held' e = sym (append_assoc front held' y) ∙ ap (λ z. z ++ y) e ∙ append_assoc held x y
 
-pub gathered-then : (held x y held' held'' : List ℕ) (a b c : Option (List ℕ)) → IsGathered held x held' a b → IsGathered held' y held'' b c → IsGathered held (x ++ y) held'' a c
+pub gathered-then : (held x y held' held'' : List ℕ) (a b c : Option (List ℕ)) → IsGathered held x held' a b → IsGathered held' y held'' b c
+    → IsGathered held (x ++ y) held'' a c
 gathered-then held x y held' held'' a b c g h =
     (g.0 ++ h.0, appends-twice a b c g.0 h.0 g.1 h.1, append_assoc g.0 h.0 held'' ∙ ap (λ z. g.0 ++ z) h.2 ∙ behind held x y g.0 held' g.2)
 
 -- one piece, and then one that is not gathered
-pub gathered-failed : (held x y held' : List ℕ) (a b c : Option (List ℕ)) → IsGathered held x held' a b → IsCut (held' ++ y) b c → IsCut (held ++ (x ++ y)) a c
+pub gathered-failed : (held x y held' : List ℕ) (a b c : Option (List ℕ)) → IsGathered held x held' a b → IsCut (held' ++ y) b c
+    → IsCut (held ++ (x ++ y)) a c
 gathered-failed held x y held' a b c g p =
     subst (λ z. IsCut z a c) (behind held x y g.0 held' g.2) (puts-behind {E = Unit {0}} a b c g.0 (held' ++ y) (Err tt) g.1 p)
 
@@ -53,7 +57,8 @@ pub none_gathered : (p : Program) (es : List Event) (held : List ℕ) (a : Optio
 none_gathered p es held a = record { front = []; gathered = gathered-none held a; whole = refl }
 
 -- one more line
-pub line_gathered : (p : Program) (es : List Event) (i : ℕ) (e : Event) (piece held held' held'' : List ℕ) (a b c : Option (List ℕ)) → i < length es → e ≡ get_or es i e → piece ≡ line p e
+pub line_gathered : (p : Program) (es : List Event) (i : ℕ) (e : Event) (piece held held' held'' : List ℕ) (a b c : Option (List ℕ)) → i < length es
+    → e ≡ get_or es i e → piece ≡ line p e
     → AreGathered p es i held held' a b → IsGathered held' piece held'' b c → AreGathered p es (i + 1) held held'' a c
 line_gathered p es i e piece held held' held'' a b c h at is w g = record {
   front = w.front ++ piece;
@@ -62,7 +67,8 @@ line_gathered p es i e piece held held' held'' a b c h at is w g = record {
 }
 
 -- a line that is not gathered
-pub line_failed : (p : Program) (es : List Event) (i : ℕ) (e : Event) (piece held held' : List ℕ) (a b c : Option (List ℕ)) → i < length es → e ≡ get_or es i e → piece ≡ line p e
+pub line_failed : (p : Program) (es : List Event) (i : ℕ) (e : Event) (piece held held' : List ℕ) (a b c : Option (List ℕ)) → i < length es
+    → e ≡ get_or es i e → piece ≡ line p e
     → AreGathered p es i held held' a b → IsCut (held' ++ piece) b c → IsCut (held ++ lines p es) a c
 line_failed p es i e piece held held' a b c h at is w g =
     let more : List ℕ = lines p (drop (i + 1) es) in
@@ -72,7 +78,8 @@ line_failed p es i e piece held held' a b c h at is w g =
     (cut-more (held ++ (w.front ++ piece)) more a c (gathered-failed held w.front piece held' a b c w.gathered g))
 
 -- all lines
-pub lines_gathered : (p : Program) (es : List Event) (i : ℕ) (held held' : List ℕ) (a b : Option (List ℕ)) → length es ≤ i → AreGathered p es i held held' a b → IsGathered held (lines p es) held' a b
+pub lines_gathered : (p : Program) (es : List Event) (i : ℕ) (held held' : List ℕ) (a b : Option (List ℕ)) → length es ≤ i
+    → AreGathered p es i held held' a b → IsGathered held (lines p es) held' a b
 lines_gathered p es i held held' a b h w =
     let end : w.front ≡ lines p es = sym (append-nil w.front) ∙ ap (λ z. w.front ++ lines p z) (sym (drop_all i es h)) ∙ w.whole in
     (w.gathered.0, w.gathered.1, w.gathered.2 ∙ ap (λ z. held ++ z) end)

@@ -42,7 +42,8 @@ not_long bytes bytes' same w h =
     let P : designs.Design → Type 0 = λ z. IsLeastVector (table (flat (in_ticks z))).rows h.bounds in
     let bounds : h.bounds ≡ w.bounds = one_least (table (flat (in_ticks w.design))).rows h.bounds w.bounds (subst P one h.least) w.least in
     let L : designs.Design → List Bound → ℕ = λ z v. length (text (in_ticks z) v) in
-    let equal : length (text (in_ticks h.design) h.bounds) ≡ length (text (in_ticks w.design) w.bounds) = ap (λ z. L z h.bounds) one ∙ ap (L w.design) bounds in
+    let equal : length (text (in_ticks h.design) h.bounds) ≡ length (text (in_ticks w.design) w.bounds)
+    = ap (λ z. L z h.bounds) one ∙ ap (L w.design) bounds in
     let long = h.long in let short = w.short in omega (arith, equal)
 
 pub can_or_refuses : (bytes bytes' : List ℕ) → bytes ≡ bytes' → CanGenerate bytes → (r : GenerateRefusal) → RefusesDesign bytes' r → ⊥
@@ -67,7 +68,8 @@ bounds_or_none : (bytes : List ℕ) (thread : Name) (miss : rows.Miss) → HasNo
 bounds_or_none bytes thread miss h k =
     let one : h.design ≡ k.design = one-design bytes h.design k.design h.reads k.reads in h.missed.none k.bounds (rw one k.least.fits)
 
-one_over : (bytes : List ℕ) (thread other : Name) (m n : rows.Miss) → HasNoBounds bytes thread m → HasNoBounds bytes other n → ◌≡◌ {A = GenerateRefusal} (Miss thread m) (Miss other n)
+one_over : (bytes : List ℕ) (thread other : Name) (m n : rows.Miss) → HasNoBounds bytes thread m → HasNoBounds bytes other n
+    → ◌≡◌ {A = GenerateRefusal} (Miss thread m) (Miss other n)
 one_over bytes thread other m n h k = (let one = one-bounds bytes thread other m n h k in ap (λ z. Miss z m) one.0 ∙ ap (λ z. Miss other z) one.1)
 
 pub one_refusal : (bytes : List ℕ) (r q : GenerateRefusal) → RefusesDesign bytes r → RefusesDesign bytes q → r ≡ q

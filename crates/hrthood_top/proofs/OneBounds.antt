@@ -12,10 +12,12 @@ use Rattle.bridge.specs.Delivers.{HasNoBounds}
 use Rattle.hrthood_top.proofs.OneDesign.{one-design}
 use Rattle.hrthood_top.proofs.OneRule.{one-at, one-miss}
 
-pub one-bounds : (bytes : List ℕ) (thread other : Name) (m n : rows.Miss) → HasNoBounds bytes thread m → HasNoBounds bytes other n → (thread ≡ other) × (m ≡ n)
+pub one-bounds : (bytes : List ℕ) (thread other : Name) (m n : rows.Miss) → HasNoBounds bytes thread m → HasNoBounds bytes other n
+    → (thread ≡ other) × (m ≡ n)
 one-bounds bytes thread other m n h k =
     let M : Design → Type 0 = λ z. IsMissed (flat (in_ticks z)) thread m in
     let here : IsMissed (flat (in_ticks k.design)) thread m = subst M (one-design bytes h.design k.design h.reads k.reads) h.missed in
     let miss : m ≡ n = one-miss (table (flat (in_ticks k.design))).rows m n here.first k.missed.first in
-    let called : name_of_row (flat (in_ticks k.design)) n.index ≡ Some thread = ap (λ z. name_of_row (flat (in_ticks k.design)) z.index) (sym miss) ∙ here.called in
+    let called : name_of_row (flat (in_ticks k.design)) n.index ≡ Some thread
+    = ap (λ z. name_of_row (flat (in_ticks k.design)) z.index) (sym miss) ∙ here.called in
     (one-at _ thread other called k.missed.called, miss)

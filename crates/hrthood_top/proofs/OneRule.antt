@@ -6,7 +6,8 @@ use Rattle.seq_check.specs.declared.fault.BodyFault.{BodyFault}
 use Rattle.seq_check.specs.declared.fault.BodyFault.TheVariants as body
 use Rattle.ods_tree.specs.Designs.{Design}
 use Rattle.ods_tree.specs.Ticks.{in_ticks}
-use Rattle.design_rules.specs.Broken.{Broken, V01, V02, V03, V04, V05, V06, V07, V08, V09Calls, V09Objects, V09Starts, V10, V11, V12, V14, V15Threads, V15Objects, V15Cost, V16, V17Tick, V17Priorities, V17, V13}
+use Rattle.design_rules.specs.Broken.{Broken, V01, V02, V03, V04, V05, V06, V07, V08, V09Calls, V09Objects, V09Starts, V10, V11, V12, V14}
+use Rattle.design_rules.specs.Broken.{V15Threads, V15Objects, V15Cost, V16, V17Tick, V17Priorities, V17, V13}
 use Rattle.seq_check.specs.Answers.{told_as}
 use Rattle.design_rules.specs.Rules as design
 use Rattle.ods_index.specs.Told.{told_of}
@@ -42,7 +43,9 @@ item_at d (x ∷ xs) (suc n) = item_at d xs n
 -- THE RULES OF DESIGNS
 -- a rule by its number
 abbrev design_rule : ℕ → design.Rule
-design_rule n = item_at design.Spacing (design.Version ∷ design.Clash ∷ design.KeptName ∷ design.Include ∷ design.Operation ∷ design.Fitting ∷ design.Stranger ∷ design.Absence ∷ design.Use ∷ design.CallRing ∷ design.ObjectRing ∷ design.StartRing ∷ design.Source ∷ design.Number ∷ design.IdleActive ∷ design.BodyFault ∷ design.Budget ∷ design.Size ∷ design.Spacing ∷ []) n
+design_rule n = item_at design.Spacing (design.Version ∷ design.Clash ∷ design.KeptName ∷ design.Include ∷ design.Operation ∷ design.Fitting
+    ∷ design.Stranger ∷ design.Absence ∷ design.Use ∷ design.CallRing ∷ design.ObjectRing ∷ design.StartRing ∷ design.Source ∷ design.Number
+    ∷ design.IdleActive ∷ design.BodyFault ∷ design.Budget ∷ design.Size ∷ design.Spacing ∷ []) n
 
 design_rule-is : (r : design.Rule) → design_rule (design.number_of r) ≡ r
 design_rule-is design.Version = refl
@@ -65,7 +68,8 @@ design_rule-is design.Budget = refl
 design_rule-is design.Size = refl
 design_rule-is design.Spacing = refl
 
-one_offender : (written x : Design) (r : design.Rule) (place : ℕ) (a b : Broken) → design.Offends written x r place a → design.Offends written x r place b → a ≡ b
+one_offender : (written x : Design) (r : design.Rule) (place : ℕ) (a b : Broken) → design.Offends written x r place a
+    → design.Offends written x r place b → a ≡ b
 one_offender written x design.Version place a b h k = one-at _ a b h k
 one_offender written x design.Clash place a b h k = one-at _ a b h k
 one_offender written x design.KeptName place a b h k = one-at _ a b h k
@@ -76,8 +80,10 @@ one_offender written x design.Stranger place a b h k = one-at _ a b h k
 one_offender written x design.Absence place a b h k = one-at _ a b h k
 one_offender written x design.Use place a b h k = one-at _ a b h k
 one_offender written x design.CallRing place a b h k = h.tells ∙ ap V09Calls (one-at _ h.op k.op h.stands k.stands) ∙ sym k.tells
-one_offender written x design.ObjectRing place a b h k = h.tells ∙ ap (λ o. V09Objects o.name) (one-at _ h.object k.object h.stands k.stands) ∙ sym k.tells
-one_offender written x design.StartRing place a b h k = h.tells ∙ ap (λ o. V09Starts o.name) (one-at _ h.thread k.thread h.stands k.stands) ∙ sym k.tells
+one_offender written x design.ObjectRing place a b h k
+    = h.tells ∙ ap (λ o. V09Objects o.name) (one-at _ h.object k.object h.stands k.stands) ∙ sym k.tells
+one_offender written x design.StartRing place a b h k
+    = h.tells ∙ ap (λ o. V09Starts o.name) (one-at _ h.thread k.thread h.stands k.stands) ∙ sym k.tells
 one_offender written x design.Source place a b h k = one-at _ a b h k
 one_offender written x design.Number place a b h k = one-at _ a b h k
 one_offender written x design.IdleActive place a b h k = one-at _ a b h k
@@ -88,7 +94,8 @@ one_offender written x design.Spacing place a b h k = one-at _ a b h k
 
 one_broken : (x : Design) (a b : Broken) → design.IsFirstBroken x a → design.IsFirstBroken x b → a ≡ b
 one_broken x a b f g =
-    let number = no-less (design.number_of f.rule) (design.number_of g.rule) (λ l. g.none_lower f.rule f.place a l f.offends) (λ l. f.none_lower g.rule g.place b l g.offends) in
+    let number = no-less (design.number_of f.rule) (design.number_of g.rule) (λ l. g.none_lower f.rule f.place a l f.offends)
+    (λ l. f.none_lower g.rule g.place b l g.offends) in
     let same : f.rule ≡ g.rule = sym (design_rule-is f.rule) ∙ ap design_rule number ∙ design_rule-is g.rule in
     let O : design.Rule → Type 0 = λ r. design.Offends x (in_ticks x) r f.place a in
     let offends = subst O same f.offends in
@@ -123,7 +130,8 @@ code_of V17Priorities = variant.V17Priorities
 code_of (V17 object) = variant.V17 object
 code_of (V13 object part fault) = variant.V13 object part (told_as fault)
 
-from_body : (object : Name) (part : Option Name) (f : BodyFault) (t : Broken) → told_of (variant.V13 object part f) ≡ Some t → variant.V13 object part f ≡ code_of t
+from_body : (object : Name) (part : Option Name) (f : BodyFault) (t : Broken) → told_of (variant.V13 object part f) ≡ Some t
+    → variant.V13 object part f ≡ code_of t
 from_body object part body.Unknown t e = ap code_of (some-same (V13 object part faults.Unknown) t e)
 from_body object part body.Sort t e = ap code_of (some-same (V13 object part faults.Missorted) t e)
 from_body object part body.Divisor t e = ap code_of (some-same (V13 object part faults.Divisor) t e)
@@ -280,7 +288,8 @@ same_fault p rule.G6 rule.G6 s e h k = refl
 same_fault p rule.G6 (rule.G4 g) s e h k = absurd cc
 same_fault p (rule.G4 f) rule.G6 s e h k = absurd cc
 
-pub one-verdict : (p : Program) (r q : AdaRule) (u v : Option Name) (s t : ada.Site) → ada.IsFirstBroken p (rule_of r) s → ada.IsFirstBroken p (rule_of q) t → u ≡ name_at p s → v ≡ name_at p t →
+pub one-verdict : (p : Program) (r q : AdaRule) (u v : Option Name) (s t : ada.Site) → ada.IsFirstBroken p (rule_of r) s
+    → ada.IsFirstBroken p (rule_of q) t → u ≡ name_at p s → v ≡ name_at p t →
     IsFaultAt p r s → IsFaultAt p q t → (r ≡ q) × (u ≡ v)
 one-verdict p r q u v s t f g a b h k =
     let same = one_first p (rule_of r) (rule_of q) s t f g in

@@ -1,5 +1,6 @@
 -- Writing one piece after another.
-use Rattle.std.proofs.Common.{◌≡◌, ℕ, ◌+◌, ◌<◌, ◌≤◌, List, ◌++◌, length, take, drop, get_or, Option, Bor, refl, sym, ap, subst, ◌∙◌, arith, append_assoc, length-append, drop-cons, add-one, append-nil}
+use Rattle.std.proofs.Common.{◌≡◌, ℕ, ◌+◌, ◌<◌, ◌≤◌, List, ◌++◌, length, take, drop, get_or, Option, Bor, refl, sym, ap, subst, ◌∙◌, arith}
+use Rattle.std.proofs.Common.{append_assoc, length-append, drop-cons, add-one, append-nil}
 use Rattle.std.proofs.lemmas.List.{take-append-le, drop_all}
 use Rattle.std.proofs.Math.Seq.{take-append-add}
 use Rattle.hood_io.specs.Sinks.{Appends}
@@ -7,7 +8,8 @@ use Rattle.hood_io.proofs.Appending.{appends-twice}
 use Rattle.hrthood_top.specs.Messages.{joined}
 
 -- the pieces from one on are this one and those behind it
-joined-next : (ps : List (Bor (List ℕ))) (i : ℕ) (d : Bor (List ℕ)) → i < length ps → joined (drop i ps) ≡ (get_or ps i d).now ++ joined (drop (i + 1) ps)
+joined-next : (ps : List (Bor (List ℕ))) (i : ℕ) (d : Bor (List ℕ)) → i < length ps
+    → joined (drop i ps) ≡ (get_or ps i d).now ++ joined (drop (i + 1) ps)
 joined-next ps i d h = rw (drop-cons ps i d, add-one) refl
 
 -- pieces of which a front is written, and those that are left
@@ -17,7 +19,8 @@ pub record IsWritten (a b : Option (List ℕ)) (ps : List (Bor (List ℕ))) (i :
   pub whole : front ++ joined (drop i ps) ≡ joined ps
 
 -- one more piece is written
-pub one_more : (a b c : Option (List ℕ)) (ps : List (Bor (List ℕ))) (i : ℕ) (d : Bor (List ℕ)) → i < length ps → IsWritten a b ps i → Appends b c (get_or ps i d).now → IsWritten a c ps (i + 1)
+pub one_more : (a b c : Option (List ℕ)) (ps : List (Bor (List ℕ))) (i : ℕ) (d : Bor (List ℕ)) → i < length ps → IsWritten a b ps i
+    → Appends b c (get_or ps i d).now → IsWritten a c ps (i + 1)
 one_more a b c ps i d h w here = record {
   front = w.front ++ (get_or ps i d).now;
   before = appends-twice a b c w.front (get_or ps i d).now w.before here;
@@ -26,7 +29,8 @@ one_more a b c ps i d h w here = record {
 
 -- a piece that is written in part leaves a proper front of the whole
 pub part_of_all : (a b c : Option (List ℕ)) (ps : List (Bor (List ℕ))) (i : ℕ) (d : Bor (List ℕ)) → i < length ps → IsWritten a b ps i →
-    (n : ℕ) × (n < length (get_or ps i d).now) × Appends b c (take n (get_or ps i d).now) → (k : ℕ) × (k < length (joined ps)) × Appends a c (take k (joined ps))
+    (n : ℕ) × (n < length (get_or ps i d).now) × Appends b c (take n (get_or ps i d).now)
+    → (k : ℕ) × (k < length (joined ps)) × Appends a c (take k (joined ps))
 part_of_all a b c ps i d h w part =
     let piece = (get_or ps i d).now in
     let more = joined (drop (i + 1) ps) in

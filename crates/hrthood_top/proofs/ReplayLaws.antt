@@ -39,7 +39,8 @@ few-units p meets =
     grind arith
 
 -- texts that say a program and arrivals are not refused
-said_or_refuses : (ada arrivals : List ℕ) (p : Program) (a : Arrivals) → Accepts ada p → Arrives horizon_limit arrivals p a → (r : ReplayRefusal) → RefusesReplay ada arrivals r → ⊥
+said_or_refuses : (ada arrivals : List ℕ) (p : Program) (a : Arrivals) → Accepts ada p → Arrives horizon_limit arrivals p a → (r : ReplayRefusal)
+    → RefusesReplay ada arrivals r → ⊥
 said_or_refuses ada arrivals p a accepts arrives (refusal.Text found) h = reads-unfaulty ada p found accepts.reads h
 said_or_refuses ada arrivals p a accepts arrives (refusal.Unit rule unit) h = accepts-unbroken ada p rule unit accepts h
 said_or_refuses ada arrivals p a accepts arrives (refusal.Arrivals found) h =
@@ -60,7 +61,8 @@ can_make ada arrivals written w = record {
   runs_out = w.runs_out;
 }
 
-one_unit : (ada : List ℕ) (rule rule' : AdaRule) (unit unit' : Option Name) → Breaks ada rule unit → Breaks ada rule' unit' → ◌≡◌ {A = ReplayRefusal} (refusal.Unit rule unit) (refusal.Unit rule' unit')
+one_unit : (ada : List ℕ) (rule rule' : AdaRule) (unit unit' : Option Name) → Breaks ada rule unit → Breaks ada rule' unit'
+    → ◌≡◌ {A = ReplayRefusal} (refusal.Unit rule unit) (refusal.Unit rule' unit')
 one_unit ada rule rule' unit unit' h k =
     let program : h.program ≡ k.program = k.alone h.program h.reads in
     let S : Program → Type 0 = λ p. verdicts.Says p (Err (told.Rule rule unit)) in
@@ -90,7 +92,8 @@ record IsSame (ada arrivals : List ℕ) (p : Program) (told told' : List Event) 
   programs : p ≡ t.program
   meanings : told ≡ told'
 
-one_meaning : (ada arrivals : List ℕ) (p : Program) (a : Arrivals) (told told' : List Event) (text : List ℕ) → Accepts ada p → Arrives horizon_limit arrivals p a → Meaning p a told
+one_meaning : (ada arrivals : List ℕ) (p : Program) (a : Arrivals) (told told' : List Event) (text : List ℕ) → Accepts ada p
+    → Arrives horizon_limit arrivals p a → Meaning p a told
     → (t : Traces ada arrivals told' text) → IsSame ada arrivals p told told' text t
 one_meaning ada arrivals p a told told' text accepts arrives means t =
     let programs : p ≡ t.program = t.says.alone p accepts in
@@ -111,11 +114,13 @@ can_or_stops ada arrivals text v w h =
     runs-out-unstopped h.traces.program w.told v w.runs_out (subst E (sym same.meanings) h.ends)
 
 refuses_or_stops : (ada arrivals text : List ℕ) (r : ReplayRefusal) (v : Violation) → RefusesReplay ada arrivals r → StopsAt ada arrivals text v → ⊥
-refuses_or_stops ada arrivals text r v h k = said_or_refuses ada arrivals k.traces.program k.traces.under k.traces.says.accepts k.traces.arriving.arrives r h
+refuses_or_stops ada arrivals text r v h k
+    = said_or_refuses ada arrivals k.traces.program k.traces.under k.traces.says.accepts k.traces.arriving.arrives r h
 
 one_stop : (ada arrivals x y : List ℕ) (v w : Violation) → StopsAt ada arrivals x v → StopsAt ada arrivals y w → v ≡ w
 one_stop ada arrivals x y v w h k =
-    let same = one_meaning ada arrivals h.traces.program h.traces.under h.told k.told y h.traces.says.accepts h.traces.arriving.arrives h.traces.trace.means k.traces in
+    let same = one_meaning ada arrivals h.traces.program h.traces.under h.told k.told y h.traces.says.accepts h.traces.arriving.arrives
+    h.traces.trace.means k.traces in
     let E : List Event → Type 0 = λ es. EndsAt h.traces.program es v in
     let P : Program → Type 0 = λ p. EndsAt p k.told v in
     one-violation k.traces.program k.told v w (subst P same.programs (subst E same.meanings h.ends)) k.ends

@@ -34,7 +34,8 @@ ada-halted ada arrivals (Refused (refusal.Arrivals found)) h = absurd h
 ada-halted ada arrivals NoMemory h = tt
 
 -- an arrivals text that says none of it
-pub arrivals-halted : (ada arrivals : List ℕ) (p : Program) (why : Halt ReplayRefusal) → SaysProgram ada p → ReadsArrivals (Err why) ada arrivals p → IsHalted (RefusesReplay ada arrivals) why
+pub arrivals-halted : (ada arrivals : List ℕ) (p : Program) (why : Halt ReplayRefusal) → SaysProgram ada p → ReadsArrivals (Err why) ada arrivals p
+    → IsHalted (RefusesReplay ada arrivals) why
 arrivals-halted ada arrivals p (Refused refused) says h = h says
 arrivals-halted ada arrivals p NoMemory says h = tt
 
@@ -43,7 +44,8 @@ pub texts-replayable : (ada arrivals : List ℕ) (p : Program) (a : Arrivals) �
 texts-replayable ada arrivals p a s r = record { proper = s.accepts.reads.proper; meets = s.accepts.meets; accepted = r.arrives.accepted }
 
 -- what a run tells is a trace
-abbrev pub traced : (ada arrivals : List ℕ) (p : Program) (a : Arrivals) (told : List Event) → SaysProgram ada p → SaysArrivals arrivals p a → Meaning p a told → Traces ada arrivals told (lines p told)
+abbrev pub traced : (ada arrivals : List ℕ) (p : Program) (a : Arrivals) (told : List Event) → SaysProgram ada p → SaysArrivals arrivals p a
+    → Meaning p a told → Traces ada arrivals told (lines p told)
 traced ada arrivals p a told says arriving means = record {
   program = p;
   under = a;
@@ -53,20 +55,24 @@ traced ada arrivals p a told says arriving means = record {
 }
 
 -- such a trace comes to the horizon, or to a stop
-replays_or_stops : (ada arrivals : List ℕ) (p : Program) (a : Arrivals) (told : List Event) → SaysProgram ada p → SaysArrivals arrivals p a → Meaning p a told
+replays_or_stops : (ada arrivals : List ℕ) (p : Program) (a : Arrivals) (told : List Event) → SaysProgram ada p → SaysArrivals arrivals p a
+    → Meaning p a told
     → Replays ada arrivals (lines p told) ⊎ ((v : Violation) × StopsAt ada arrivals (lines p told) v)
 replays_or_stops ada arrivals p a told says arriving means = by (meaning-ends p a told means)
   where
     trace : Traces ada arrivals told (lines p told)
     trace = traced ada arrivals p a told says arriving means
 
-    by : RunsOut told ⊎ ((v : Violation) × EndsAt p told v) → Replays ada arrivals (lines p told) ⊎ ((v : Violation) × StopsAt ada arrivals (lines p told) v)
+    by : RunsOut told ⊎ ((v : Violation) × EndsAt p told v) → Replays ada arrivals (lines p told)
+        ⊎ ((v : Violation) × StopsAt ada arrivals (lines p told) v)
     by (inl out) = inl (record { told = told; traces = trace; runs_out = out })
     by (inr (v, h)) = inr (v, record { told = told; traces = trace; ends = h })
 
 -- the lines of a run from its opening on are put
-pub streams-run : {E : Type 0} (x y : List ℕ) (texts : Texts) (p : Program) (a : Arrivals) (m : Running) (ran : Result Ending E) (ended : Status) (out out' : Option (List ℕ)) (faults faults' : ℕ) (err err' : Option (List ℕ)) (told told' : ℕ)
-    → SaysProgram (texts kind.Ada) p → SaysArrivals (texts kind.Arrivals) p a → m ≡ begun p a → PutsRun p m out out' ran → HasCause faults faults' ran → TellsEnding ran ended err err' told told'
+pub streams-run : {E : Type 0} (x y : List ℕ) (texts : Texts) (p : Program) (a : Arrivals) (m : Running) (ran : Result Ending E) (ended : Status)
+    (out out' : Option (List ℕ)) (faults faults' : ℕ) (err err' : Option (List ℕ)) (told told' : ℕ)
+    → SaysProgram (texts kind.Ada) p → SaysArrivals (texts kind.Arrivals) p a → m ≡ begun p a → PutsRun p m out out' ran → HasCause faults faults' ran
+    → TellsEnding ran ended err err' told told'
     → Streams (replays x y) texts ended out out' faults faults' err err' told told'
 streams-run x y texts p a m (Ok Horizon) ended out out' faults faults' err err' told told' says arriving opens puts cause t =
     let S : Status → Type 0 = λ z. Streams (replays x y) texts z out out' faults faults' err err' told told' in

@@ -1,5 +1,6 @@
 -- What a run tells has no stop, or one stop, at its end.
-use Rattle.std.proofs.Common.{◌≡◌, ℕ, zero, suc, Bool, true, false, List, [], ◌∷◌, ◌++◌, Option, Some, None, refl, sym, ap, subst, ◌∙◌, append_assoc, append-nil, inl, inr}
+use Rattle.std.proofs.Common.{◌≡◌, ℕ, zero, suc, Bool, true, false, List, [], ◌∷◌, ◌++◌, Option, Some, None, refl, sym, ap, subst, ◌∙◌}
+use Rattle.std.proofs.Common.{append_assoc, append-nil, inl, inr}
 use Rattle.std.specs.Prelude.{◌⊎◌, ◌&&◌, ◌==◌, nat_lt, slice_get, if◌then◌else◌}
 use Rattle.seq_tree.specs.Lists.{change, first_where}
 use Rattle.seq_tree.specs.Variables.{Variables}
@@ -16,7 +17,8 @@ use Rattle.machine.specs.States.{State, Task, Phase, Effects, Delays, Arriving, 
 use Rattle.machine.specs.Dispatch.{dispatched}
 use Rattle.machine.specs.Effects.{ceiling_of, section_unit, entered_at, stopped_at, entry, exit, ended, acted, object_unit}
 use Rattle.machine.specs.Releases.{Next, release_task, release, is_waiting, serve_task, serve}
-use Rattle.machine.specs.Steps.{goes_to, effect_of, effect_at, effect_step, is_due, delay_step, horizon_step, arrive_at, arrival_step, use_step, step_in, step}
+use Rattle.machine.specs.Steps.{goes_to, effect_of, effect_at, effect_step, is_due, delay_step, horizon_step, arrive_at, arrival_step, use_step}
+use Rattle.machine.specs.Steps.{step_in, step}
 use Rattle.machine.specs.Meanings.{run, Meaning}
 use Rattle.machine.proofs.RunLaws.{stopped_stays}
 use Rattle.program_calls.proofs.Lists.{each-append}
@@ -55,7 +57,8 @@ serve-out y k s = by (slice_get s.tasks k)
     by None = tt
     by (Some t) = by_test (is_waiting t.readiness && t.gate.open')
 
-entry-steps : (y : System) (i : ℕ) (t : Task) (section : Resource) (told : List Event) (vars : Variables) (ps : List Piece) (s : State) → RunsOut told → Steps (entry y i t section told vars ps s)
+entry-steps : (y : System) (i : ℕ) (t : Task) (section : Resource) (told : List Event) (vars : Variables) (ps : List Piece) (s : State) → RunsOut told
+    → Steps (entry y i t section told vars ps s)
 entry-steps y i t section told vars ps s out = by (nat_lt (ceiling_of y section) t.active)
   where
     by : (b : Bool) → Steps (if b then stopped_at y t section s else entered_at y i section told vars ps s)
@@ -73,7 +76,8 @@ entry-steps y i t section told vars ps s out = by (nat_lt (ceiling_of y section)
 acted-steps : (y : System) (i : ℕ) (t : Task) (act : Act) (vars : Variables) (ps : List Piece) (s : State) → Steps (acted y i t act vars ps s)
 acted-steps y i t Silent vars ps s = inl tt
 acted-steps y i t (Print v) vars ps s = inl (tt, tt)
-acted-steps y i t (Enter object op values) vars ps s = entry-steps y i t (Object object) (event.Enter s.time t.thread.unit (object_unit y object) op values ∷ []) vars ps s (tt, tt)
+acted-steps y i t (Enter object op values) vars ps s
+    = entry-steps y i t (Object object) (event.Enter s.time t.thread.unit (object_unit y object) op values ∷ []) vars ps s (tt, tt)
 acted-steps y i t (Leave object op values data') vars ps s = inl (tt, tt)
 acted-steps y i t (Ask task) vars ps s = entry-steps y i t (Control task) [] vars ps s tt
 acted-steps y i t (Keep task v) vars ps s = inl tt
@@ -118,7 +122,13 @@ arrival-steps y (a ∷ others) s = by (a.time == s.time)
 
     at : (o : Option (ℕ × Task)) → Steps (arrive_at y a o later)
     at None = inl tt
-    at (Some t) = inl (tt, serve-out y t.0 (record later { tasks = change t.0 (λ u. record u { gate = record { value = a.value; open' = true } }) later.tasks }))
+    at (Some t) = inl (
+      tt,
+      serve-out y t.0 (record later {
+        tasks
+            = change t.0 (λ u. record u { gate = record { value = a.value; open' = true } }) later.tasks;
+      }),
+    )
 
     by : (b : Bool) → Steps (if b then arrive_at y a (first_where (λ t. t.thread.unit == a.task) s.tasks) later else horizon_step y s)
     by true = at (first_where (λ t. t.thread.unit == a.task) s.tasks)
@@ -203,7 +213,8 @@ meaning-ends p a told m = subst (λ es. RunsOut es ⊎ ((v : Violation) × EndsA
     by {es} (inr h) = inr (violation_told p es h)
 
 -- what ends at a violated ceiling has a stop
-pub stop-told : (front : List Event) (time task object priority ceiling : ℕ) → RunsOut (front ++ event.Stop time task object priority ceiling ∷ []) → ⊥
+pub stop-told : (front : List Event) (time task object priority ceiling : ℕ)
+    → RunsOut (front ++ event.Stop time task object priority ceiling ∷ []) → ⊥
 stop-told [] time task object priority ceiling h = h.0
 stop-told (e ∷ front) time task object priority ceiling h = stop-told front time task object priority ceiling h.1
 
@@ -232,13 +243,16 @@ stop-parts : (a b c d e a' b' c' d' e' : ℕ) → ◌≡◌ {A = Event} (event.S
 stop-parts a b c d e a' b' c' d' e' h = record { times = cc; tasks = cc; objects = cc; priorities = cc; ceilings = cc }
 
 violation-same : (t t' : ℕ) (a a' o o' : List ℕ) (q q' c c' : ℕ) → t ≡ t' → a ≡ a' → o ≡ o' → q ≡ q' → c ≡ c'
-    → ◌≡◌ {A = Violation} (record { time = t; task = a; object = o; priority = q; ceiling = c }) (record { time = t'; task = a'; object = o'; priority = q'; ceiling = c' })
+    → ◌≡◌ {A = Violation} (record { time = t; task = a; object = o; priority = q; ceiling = c })
+    (record { time = t'; task = a'; object = o'; priority = q'; ceiling = c' })
 violation-same t t' a a' o o' q q' c c' e f g h i = rw (e, f, g, h, i) refl
 
 -- what is told ends at one violation
 pub one-violation : (p : Program) (told : List Event) (v w : Violation) → EndsAt p told v → EndsAt p told w → v ≡ w
 one-violation p told v w h k =
-    let ends = last-same (event.Stop v.time h.task h.object v.priority v.ceiling) (event.Stop w.time k.task k.object w.priority w.ceiling) h.front k.front (sym h.last ∙ k.last) in
+    let ends = last-same (event.Stop v.time h.task h.object v.priority v.ceiling) (event.Stop w.time k.task k.object w.priority w.ceiling) h.front
+    k.front (sym h.last ∙ k.last) in
     let same = stop-parts v.time h.task h.object v.priority v.ceiling w.time k.task k.object w.priority w.ceiling ends in
     violation-same v.time w.time v.task w.task v.object w.object v.priority w.priority v.ceiling w.ceiling
-    same.times (h.task_name ∙ ap (unit_name p) same.tasks ∙ sym k.task_name) (h.object_name ∙ ap (unit_name p) same.objects ∙ sym k.object_name) same.priorities same.ceilings
+    same.times (h.task_name ∙ ap (unit_name p) same.tasks ∙ sym k.task_name) (h.object_name ∙ ap (unit_name p) same.objects ∙ sym k.object_name)
+    same.priorities same.ceilings

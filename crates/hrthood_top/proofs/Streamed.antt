@@ -14,8 +14,10 @@ IsHalted Refuses (Refused refusal) = Refuses refusal
 IsHalted Refuses NoMemory = ⊤
 
 -- nothing was made
-pub streams-halted : (v : Verb) (texts : Texts) (why : Halt v.Refusal) (ended : Status) (out out' : Option (List ℕ)) (faults faults' : ℕ) (err err' : Option (List ℕ)) (told told' : ℕ)
-    → IsHalted (v.Refuses texts) why → out' ≡ out → TellsHalt v.line why ended err err' told told' → Streams v texts ended out out' faults faults' err err' told told'
+pub streams-halted : (v : Verb) (texts : Texts) (why : Halt v.Refusal) (ended : Status) (out out' : Option (List ℕ)) (faults faults' : ℕ)
+    (err err' : Option (List ℕ)) (told told' : ℕ)
+    → IsHalted (v.Refuses texts) why → out' ≡ out → TellsHalt v.line why ended err err' told told'
+    → Streams v texts ended out out' faults faults' err err' told told'
 streams-halted v texts (Refused refusal) ended out out' faults faults' err err' told told' h same t =
     let S : Status → Type 0 = λ z. Streams v texts z out out' faults faults' err err' told told' in
     subst S (sym t.0) (inl (refusal, h, same, t.1))

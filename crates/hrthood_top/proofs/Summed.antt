@@ -1,5 +1,6 @@
 -- The summary of a sample: its design is never refused, its events are counted one turn after another, and what is counted of its run is told.
-use Rattle.std.proofs.Common.{◌≡◌, ℕ, zero, suc, ◌+◌, ◌<◌, ◌≤◌, true, List, [], ◌∷◌, ◌++◌, length, take, get_or, Option, Some, None, Result, Ok, Err, refl, sym, ap, subst, ◌∙◌, arith, append_assoc, append-nil, add-one, inl}
+use Rattle.std.proofs.Common.{◌≡◌, ℕ, zero, suc, ◌+◌, ◌<◌, ◌≤◌, true, List, [], ◌∷◌, ◌++◌, length, take, get_or, Option, Some, None, Result, Ok}
+use Rattle.std.proofs.Common.{Err, refl, sym, ap, subst, ◌∙◌, arith, append_assoc, append-nil, add-one, inl}
 use Rattle.std.specs.Prelude.{IfOk, IfSome}
 use Rattle.seq_tree.specs.Lists.{Each}
 use Rattle.ods_tree.specs.Layout.{design_text}
@@ -51,7 +52,8 @@ sample-delivered n design low high e =
     (record { design = sample_design n; reads = v.reads; meets = v.rules; bounds = sample_bounds n; least = v.bounds; short = v.short })
 
 -- the arrivals of a sample are accepted for the program of its text
-pub sample-arrives : (n : ℕ) (design arrivals made : List ℕ) (p : Program) → 1 ≤ n → n ≤ 30 → design ≡ design_text (sample_design n) → arrivals ≡ sample_arrivals n → IsTextFor design made
+pub sample-arrives : (n : ℕ) (design arrivals made : List ℕ) (p : Program) → 1 ≤ n → n ≤ 30 → design ≡ design_text (sample_design n)
+    → arrivals ≡ sample_arrivals n → IsTextFor design made
     → SaysProgram made p → (a : Arrivals) × Arrives horizon_limit arrivals p a
 sample-arrives n design arrivals made p low high e f w says =
     let v : IsValid n = sample-valid n low high in
@@ -65,7 +67,8 @@ sample-arrives n design arrivals made p low high e f w says =
     (v.arrivals, subst B (sym f) (subst A same v.arrives))
 
 -- arrivals that are accepted are not refused
-pub arrivals-unrefused : (arrivals : List ℕ) (p : Program) (found : ArrivalFault) → (a : Arrivals) × Arrives horizon_limit arrivals p a → arriving.Refuses arrivals p found → ⊥
+pub arrivals-unrefused : (arrivals : List ℕ) (p : Program) (found : ArrivalFault) → (a : Arrivals) × Arrives horizon_limit arrivals p a
+    → arriving.Refuses arrivals p found → ⊥
 arrivals-unrefused arrivals p found (a, h) r = refused-nothing arrivals p found r a h
 
 -- EVENTS THAT ARE COUNTED
@@ -116,7 +119,8 @@ none-noted es kept = record { after = λ size told h. let T : List Event → Typ
 
 -- the next event is of a task that is counted
 pub next-below : (es : List Event) (i : ℕ) (e : Event) (before now : Tallies) → i < length es → e ≡ get_or es i e
-    → (size : ℕ) × (told : List Event) × (before ≡ tallies size told) × Each (IsBelow size) es → AreNoted es i before now → IsBelow (length now.tasks) e
+    → (size : ℕ) × (told : List Event) × (before ≡ tallies size told) × Each (IsBelow size) es → AreNoted es i before now
+    → IsBelow (length now.tasks) e
 next-below es i e before now h at (size, told, is, each) noted =
     let long : length now.tasks ≡ size = ap (λ (t : Tallies). length t.tasks) (noted.after size told is) ∙ tallies-long 0 size (told ++ take i es) in
     subst (λ n. IsBelow n e) (sym long) (each-at (IsBelow size) es i e h at each)
@@ -126,7 +130,8 @@ pub one-noted : (es : List Event) (i : ℕ) (e : Event) (before now next : Talli
     → ((size : ℕ) (told : List Event) → now ≡ tallies size told → next ≡ tallies size (told ++ e ∷ [])) → AreNoted es (i + 1) before next
 one-noted es i e before now next h at noted more = record {
   after = λ size told is.
-      let all : (told ++ take i es) ++ e ∷ [] ≡ told ++ take (i + 1) es = append_assoc told (take i es) (e ∷ []) ∙ ap (λ z. told ++ z) (take-next es i e h at ∙ ap (λ n. take n es) (sym (add-one i))) in
+      let all : (told ++ take i es) ++ e ∷ [] ≡ told ++ take (i + 1) es
+      = append_assoc told (take i es) (e ∷ []) ∙ ap (λ z. told ++ z) (take-next es i e h at ∙ ap (λ n. take n es) (sym (add-one i))) in
       more size (told ++ take i es) (noted.after size told is) ∙ ap (tallies size) all;
 }
 
@@ -148,7 +153,8 @@ none-counted size r kept e = record { told = []; is = e; behind = λ more t. t }
 
 -- one more turn
 pub one-counted : (size : ℕ) (first now next : Running) (kept kept' : Tallies) (es : List Event) → IsCounted size first now kept
-    → ((n : ℕ) (told : List Event) → kept ≡ tallies n told → kept' ≡ tallies n (told ++ es)) → ((more : List Event) → Tells next more → Tells now (es ++ more))
+    → ((n : ℕ) (told : List Event) → kept ≡ tallies n told → kept' ≡ tallies n (told ++ es))
+    → ((more : List Event) → Tells next more → Tells now (es ++ more))
     → IsCounted size first next kept'
 one-counted size first now next kept kept' es s noted after = record {
   told = s.told ++ es;
@@ -166,8 +172,10 @@ all-counted size first now kept s stopped =
 -- THE SUMMARY
 
 -- what is told of a run of a text is its summary
-is-summary : (design arrivals made : List ℕ) (w : IsTextFor design made) (bounds : List NamedBound) (p : Program) (a : Arrivals) (told : List Event) (written : List ℕ)
-    → bounds ≡ text_bounds design made w → SaysProgram made p → SaysArrivals arrivals p a → Meaning p a told → written ≡ summary p bounds told → IsSummary design arrivals written
+is-summary : (design arrivals made : List ℕ) (w : IsTextFor design made) (bounds : List NamedBound) (p : Program) (a : Arrivals) (told : List Event)
+    (written : List ℕ)
+    → bounds ≡ text_bounds design made w → SaysProgram made p → SaysArrivals arrivals p a → Meaning p a told → written ≡ summary p bounds told
+    → IsSummary design arrivals written
 is-summary design arrivals made w bounds p a told written named says arriving means is = record {
   verified = (made ++ trace_mark) ++ lines p told;
   run = verified design arrivals made p a told w says arriving means;
@@ -175,15 +183,18 @@ is-summary design arrivals made w bounds p a told written named says arriving me
 }
 
 -- that of a sample
-of-sample : (n : ℕ) (design arrivals written : List ℕ) → design ≡ design_text (sample_design n) → arrivals ≡ sample_arrivals n → IsSummary design arrivals written → IsSummed n written
+of-sample : (n : ℕ) (design arrivals written : List ℕ) → design ≡ design_text (sample_design n) → arrivals ≡ sample_arrivals n
+    → IsSummary design arrivals written → IsSummed n written
 of-sample n design arrivals written e f s =
     let D : List ℕ → Type 0 = λ z. IsSummary z arrivals written in
     let R : List ℕ → Type 0 = λ z. IsSummary (design_text (sample_design n)) z written in
     subst R f (subst D e s)
 
 -- what was made of the texts of a sample
-pub is-summed : {X E : Type 0} (view : X → List ℕ) (n : ℕ) (design arrivals made : List ℕ) (bounds : List NamedBound) (d : Delivery) (p : Program) (a : Arrivals) (m : Running) (kept : Tallies) (r : Result X E)
-    → design ≡ design_text (sample_design n) → arrivals ≡ sample_arrivals n → IsDelivered design d → made ≡ d.text.items → bounds ≡ d.bounds.items → SaysProgram made p → SaysArrivals arrivals p a
+pub is-summed : {X E : Type 0} (view : X → List ℕ) (n : ℕ) (design arrivals made : List ℕ) (bounds : List NamedBound) (d : Delivery) (p : Program)
+    (a : Arrivals) (m : Running) (kept : Tallies) (r : Result X E)
+    → design ≡ design_text (sample_design n) → arrivals ≡ sample_arrivals n → IsDelivered design d → made ≡ d.text.items → bounds ≡ d.bounds.items
+    → SaysProgram made p → SaysArrivals arrivals p a
     → m ≡ begun p a → (told : List Event) × Tells m told × (kept ≡ tallies (length p.units) told)
     → ((told : List Event) → kept ≡ tallies (length p.units) told → IfOk r (λ t. view t ≡ summary p bounds told)) → IfOk r (λ t. IsSummed n (view t))
 is-summed {X} {E} view n design arrivals made bounds d p a m kept r e f w same all says arriving opens (told, tells, is) text = by r (text told is)
@@ -195,7 +206,8 @@ is-summed {X} {E} view n design arrivals made bounds d p a m kept r e f w same a
     means = subst (λ (y : Running). Tells y told) opens tells
 
     by : (s : Result X E) → IfOk s (λ t. view t ≡ summary p bounds told) → IfOk s (λ t. IsSummed n (view t))
-    by (Ok t) h = of-sample n design arrivals (view t) e f (is-summary design arrivals d.text.items w.whole bounds p a told (view t) (all ∙ w.named) says' arriving means h)
+    by (Ok t) h = of-sample n design arrivals (view t) e f (is-summary design arrivals d.text.items w.whole bounds p a told (view t)
+        (all ∙ w.named) says' arriving means h)
     by (Err x) h = tt
 
 -- HOW A SAMPLE ENDS
@@ -204,8 +216,10 @@ held-none : (told : Option Told) (texts : Texts) → IfSome told (λ t. HoldsAll
 held-none None texts = tt
 held-none (Some t) texts = tt
 
-sample-streams : {X E : Type 0} (view : X → List ℕ) (n : ℕ) (texts : Texts) (ended : Status) (made : Result X E) (out out' : Option (List ℕ)) (faults faults' : ℕ) (err err' : Option (List ℕ)) (told told' : ℕ)
-    → IfOk made (λ x. IsSummed n (view x)) → Finishes view (λ e. TellsMemory) made ended out out' faults faults' err err' told told' → Streams (samples n) texts ended out out' faults faults' err err' told told'
+sample-streams : {X E : Type 0} (view : X → List ℕ) (n : ℕ) (texts : Texts) (ended : Status) (made : Result X E) (out out' : Option (List ℕ))
+    (faults faults' : ℕ) (err err' : Option (List ℕ)) (told told' : ℕ)
+    → IfOk made (λ x. IsSummed n (view x)) → Finishes view (λ e. TellsMemory) made ended out out' faults faults' err err' told told'
+    → Streams (samples n) texts ended out out' faults faults' err err' told told'
 sample-streams view n texts status.Done (Ok x) out out' faults faults' err err' told told' m f = (view x, m, f.0, f.1)
 sample-streams view n texts status.WriteFault (Ok x) out out' faults faults' err err' told told' m f = (view x, inl m, f)
 sample-streams view n texts status.Refused (Ok x) out out' faults faults' err err' told told' m f = absurd f
@@ -216,16 +230,21 @@ sample-streams view n texts ended (Err e) out out' faults faults' err err' told 
     let S : Status → Type 0 = λ z. Streams (samples n) texts z out out' faults faults' err err' told told' in
     subst S (sym f.1.0) (f.0, f.1.1)
 
-pub sample-ends : {X E : Type 0} (view : X → List ℕ) (n : ℕ) (ended : Status) (made : Result X E) (out out' : Option (List ℕ)) (faults faults' : ℕ) (err err' : Option (List ℕ)) (told told' : ℕ)
+pub sample-ends : {X E : Type 0} (view : X → List ℕ) (n : ℕ) (ended : Status) (made : Result X E) (out out' : Option (List ℕ)) (faults faults' : ℕ)
+    (err err' : Option (List ℕ)) (told told' : ℕ)
     → IfOk made (λ x. IsSummed n (view x)) → Finishes view (λ e. TellsMemory) made ended out out' faults faults' err err' told told'
-    → (shelf : Option Told) (reads : ℕ) → EndsVerb ended (samples n) (outside shelf reads out faults err told) (outside shelf reads out' faults' err' told')
+    → (shelf : Option Told) (reads : ℕ)
+    → EndsVerb ended (samples n) (outside shelf reads out faults err told) (outside shelf reads out' faults' err' told')
 sample-ends view n ended made out out' faults faults' err err' told told' m f shelf reads =
     let none : Texts = λ kind. [] in
-    ends-streamed (samples n) ended none (outside shelf reads out faults err told) (outside shelf reads out' faults' err' told') (held-none shelf none) (grown-nothing shelf)
+    ends-streamed (samples n) ended none (outside shelf reads out faults err told) (outside shelf reads out' faults' err' told')
+    (held-none shelf none) (grown-nothing shelf)
     (sample-streams view n none ended made out out' faults faults' err err' told told' m f)
 
-pub summary-ends : {X E : Type 0} (view : X → List ℕ) (n : ℕ) (ended : Status) (made : Result X E) (out out' : Option (List ℕ)) (faults faults' : ℕ) (err err' : Option (List ℕ)) (told told' : ℕ)
-    → IfOk made (λ x. IsSummed n (view x)) → Finishes view (λ e. TellsMemory) made ended out out' faults faults' err err' told told' → SummaryEnds n ended out out'
+pub summary-ends : {X E : Type 0} (view : X → List ℕ) (n : ℕ) (ended : Status) (made : Result X E) (out out' : Option (List ℕ)) (faults faults' : ℕ)
+    (err err' : Option (List ℕ)) (told told' : ℕ)
+    → IfOk made (λ x. IsSummed n (view x)) → Finishes view (λ e. TellsMemory) made ended out out' faults faults' err err' told told'
+    → SummaryEnds n ended out out'
 summary-ends view n status.Done (Ok x) out out' faults faults' err err' told told' m f = (view x, m, f.0)
 summary-ends view n status.WriteFault (Ok x) out out' faults faults' err err' told told' m f = (view x, m, f.0, f.1, f.2)
 summary-ends view n status.Refused (Ok x) out out' faults faults' err err' told told' m f = absurd f

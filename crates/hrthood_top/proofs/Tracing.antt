@@ -1,5 +1,6 @@
 -- The trace of a program, one line and one turn after another.
-use Rattle.std.proofs.Common.{◌≡◌, ℕ, Bool, true, false, ◌+◌, ◌≤◌, List, [], ◌∷◌, ◌++◌, Option, Result, Ok, Err, refl, sym, ap, subst, ◌∙◌, append_assoc, append-nil}
+use Rattle.std.proofs.Common.{◌≡◌, ℕ, Bool, true, false, ◌+◌, ◌≤◌, List, [], ◌∷◌, ◌++◌, Option, Result, Ok, Err, refl, sym, ap, subst, ◌∙◌}
+use Rattle.std.proofs.Common.{append_assoc, append-nil}
 use Rattle.std.specs.List.{list_any}
 use Rattle.std.proofs.lemmas.Bool.{or_parts}
 use Rattle.std.proofs.lemmas.List.Concat.{flat_map-append}
@@ -37,7 +38,12 @@ pub record SoFar (p : Program) (first now : Running) (held : List ℕ) (a b : Op
   pub behind : (more : List Event) → Tells now more → Tells first (told ++ more)
 
 pub none_told : (p : Program) (r : Running) (held : List ℕ) (a : Option (List ℕ)) → held ≡ [] → SoFar p r r held a a
-none_told p r held a e = record { told = []; out = tt; gathered = subst (λ z. IsGathered [] [] z a a) (sym e) (gathered-none [] a); behind = λ more t. t }
+none_told p r held a e = record {
+  told = [];
+  out = tt;
+  gathered = subst (λ z. IsGathered [] [] z a a) (sym e) (gathered-none [] a);
+  behind = λ more t. t;
+}
 
 -- events of which none is the last of a run are no stops
 event-goes-on : (e : Event) → is_last e ≡ false → GoesOn e
@@ -61,7 +67,8 @@ horizon-out time es h = subst RunsOut (sym h.1) (each-append GoesOn h.0 (event.H
 
 -- one more turn
 pub one_turn : (p : Program) (first now next : Running) (held held' : List ℕ) (a b c : Option (List ℕ)) (es : List Event) → SoFar p first now held a b
-    → IsGathered held (lines p es) held' b c → list_any is_last es ≡ false → ((more : List Event) → Tells next more → Tells now (es ++ more)) → SoFar p first next held' a c
+    → IsGathered held (lines p es) held' b c → list_any is_last es ≡ false → ((more : List Event) → Tells next more → Tells now (es ++ more))
+    → SoFar p first next held' a c
 one_turn p first now next held held' a b c es s g quiet after =
     let G : List ℕ → Type 0 = λ z. IsGathered [] z held' a c in
     record {
@@ -72,20 +79,25 @@ one_turn p first now next held held' a b c es s g quiet after =
     }
 
 -- a turn of which a line is not gathered
-pub turn_failed : (p : Program) (first now next : Running) (held : List ℕ) (a b c : Option (List ℕ)) (es : List Event) → SoFar p first now held a b → IsCut (held ++ lines p es) b c
-    → ((more : List Event) → Tells next more → Tells now (es ++ more)) → (more : List Event) × Tells next more → (told : List Event) × Tells first told × IsCut (lines p told) a c
+pub turn_failed : (p : Program) (first now next : Running) (held : List ℕ) (a b c : Option (List ℕ)) (es : List Event) → SoFar p first now held a b
+    → IsCut (held ++ lines p es) b c
+    → ((more : List Event) → Tells next more → Tells now (es ++ more)) → (more : List Event) × Tells next more
+    → (told : List Event) × Tells first told × IsCut (lines p told) a c
 turn_failed p first now next held a b c es s g after rest =
     let all : (lines p s.told ++ lines p es) ++ lines p rest.0 ≡ lines p (s.told ++ (es ++ rest.0)) =
     append_assoc (lines p s.told) (lines p es) (lines p rest.0) ∙ ap (λ z. lines p s.told ++ z) (sym (flat_map-append (line p) es rest.0))
     ∙ sym (flat_map-append (line p) s.told (es ++ rest.0)) in (
       s.told ++ (es ++ rest.0),
       s.behind (es ++ rest.0) (after rest.0 rest.1),
-      subst (λ z. IsCut z a c) all (cut-more (lines p s.told ++ lines p es) (lines p rest.0) a c (gathered-failed [] (lines p s.told) (lines p es) held a b c s.gathered g)),
+      subst (λ z. IsCut z a c) all (cut-more (lines p s.told ++ lines p es) (lines p rest.0) a c
+          (gathered-failed [] (lines p s.told) (lines p es) held a b c s.gathered g)),
     )
 
 -- a run that has stopped is told whole, with the events of its last turn, and how it ended
-pub all_told : {E : Type 0} (p : Program) (first now next : Running) (ending : Ending) (held held' : List ℕ) (a b c d : Option (List ℕ)) (es : List Event) (r : Result Ending E) → SoFar p first now held a b
-    → IsGathered held (lines p es) held' b c → EndsSo p ending es → next.state.stopped ≡ true → ((more : List Event) → Tells next more → Tells now (es ++ more)) → Closes held' ending c d r → PutsRun p first a d r
+pub all_told : {E : Type 0} (p : Program) (first now next : Running) (ending : Ending) (held held' : List ℕ) (a b c d : Option (List ℕ))
+    (es : List Event) (r : Result Ending E) → SoFar p first now held a b
+    → IsGathered held (lines p es) held' b c → EndsSo p ending es → next.state.stopped ≡ true
+    → ((more : List Event) → Tells next more → Tells now (es ++ more)) → Closes held' ending c d r → PutsRun p first a d r
 all_told {E} p first now next ending held held' a b c d es r s g ends stopped after closed = by r closed
   where
     told : List Event
@@ -115,8 +127,13 @@ all_told {E} p first now next ending held held' a b c d es r s g ends stopped af
 
     by : (given : Result Ending E) → Closes held' ending c d given → PutsRun p first a d given
     by (Ok given) h =
-        let A : List ℕ → Type 0 = λ z. Appends a d z in
-        (told, tells, ends_all given (subst (λ z. EndsSo p z es) (sym h.0) ends), subst A gathered.2 (appends-twice a c d gathered.0 held' gathered.1 h.1))
+        let A : List ℕ → Type 0 = λ z. Appends a d z in (
+          told,
+          tells,
+          ends_all given (subst (λ z. EndsSo p z es) (sym h.0) ends),
+          subst A gathered.2 (appends-twice a c d gathered.0 held'
+              gathered.1 h.1),
+        )
     by (Err e) h =
         let C : List ℕ → Type 0 = λ z. IsCut z a d in
         (told, tells, subst C gathered.2 (puts-behind {E = Unit {0}} a c d gathered.0 held' (Err tt) gathered.1 h))
@@ -126,8 +143,10 @@ pub ends-out : (p : Program) (time : ℕ) (es : List Event) → EndsWith (event.
 ends-out p time es h = horizon-out time es h
 
 -- a turn that came to a stop
-pub ends-stopped : (p : Program) (time task object priority ceiling : ℕ) (v : values.Violation) (es : List Event) → EndsWith (event.Stop time task object priority ceiling) es
-    → violation_of v ≡ record { time = time; task = unit_name p task; object = unit_name p object; priority = priority; ceiling = ceiling } → EndsSo p (Stopped v) es
+pub ends-stopped : (p : Program) (time task object priority ceiling : ℕ) (v : values.Violation) (es : List Event)
+    → EndsWith (event.Stop time task object priority ceiling) es
+    → violation_of v ≡ record { time = time; task = unit_name p task; object = unit_name p object; priority = priority; ceiling = ceiling }
+    → EndsSo p (Stopped v) es
 ends-stopped p time task object priority ceiling v es h is =
     let E : Violation → Type 0 = λ w. EndsAt p es w in
     subst E (sym is) (record { front = h.0; task = task; object = object; last = h.1; task_name = refl; object_name = refl })
@@ -137,12 +156,15 @@ last-placed : (p : Program) (front : List Event) (e : Event) → Each (IsPlaced 
 last-placed p [] e h = h.0
 last-placed p (f ∷ front) e h = last-placed p front e h.1
 
-pub stop-placed : (p : Program) (time task object priority ceiling : ℕ) (es : List Event) → EndsWith (event.Stop time task object priority ceiling) es → Each (IsPlaced p) es
+pub stop-placed : (p : Program) (time task object priority ceiling : ℕ) (es : List Event) → EndsWith (event.Stop time task object priority ceiling) es
+    → Each (IsPlaced p) es
     → IsUnit p task × IsUnit p object
-stop-placed p time task object priority ceiling es h placed = last-placed p h.0 (event.Stop time task object priority ceiling) (subst (Each (IsPlaced p)) h.1 placed)
+stop-placed p time task object priority ceiling es h placed
+    = last-placed p h.0 (event.Stop time task object priority ceiling) (subst (Each (IsPlaced p)) h.1 placed)
 
 -- from where a machine stands something is told, up to the stop
-pub goes_on : (p : Program) (a : Arrivals) (m : Machine) → MeetsRules p → (running_of m).system ≡ system p a → ((running_of m).state.stopped ≡ false → IsWhole m) → (more : List Event) × Tells (running_of m) more
+pub goes_on : (p : Program) (a : Arrivals) (m : Machine) → MeetsRules p → (running_of m).system ≡ system p a
+    → ((running_of m).state.stopped ≡ false → IsWhole m) → (more : List Event) × Tells (running_of m) more
 goes_on p a m meets is whole = by (running_of m).state.stopped refl
   where
     until : (running_of m).system.until ≡ a.until

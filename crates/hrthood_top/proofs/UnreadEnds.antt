@@ -10,7 +10,8 @@ use Rattle.hrthood_top.specs.Samples.{EndsSample}
 use Rattle.hrthood_top.proofs.Fetching.{grown-nothing}
 
 -- no file was fetched and nothing written
-pub unread-ends : (is : Option Command) (x y : Outside) → is_some is ≡ true → y.told ≡ x.told → y.out ≡ x.out → TellsMessage x y (message_line message.NoMemory) → Ends status.NoMemory is x y
+pub unread-ends : (is : Option Command) (x y : Outside) → is_some is ≡ true → y.told ≡ x.told → y.out ≡ x.out
+    → TellsMessage x y (message_line message.NoMemory) → Ends status.NoMemory is x y
 unread-ends None x y some told out tells = absurd (cc some)
 unread-ends (Some c) x y some told out tells = (0, told ∙ grown-nothing x.told, out, tells)
 

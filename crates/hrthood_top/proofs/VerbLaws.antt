@@ -50,7 +50,8 @@ not-too-long t file text h k =
     let same : k.0 ≡ text = one_file t file.name k.0 text k.1 h.0 in
     let long = k.2 in let short = h.1 in omega (arith, ap length same, long, short)
 
-none-too-long : (t : Told) (front : List File) (file : File) (back : List File) (texts : Texts) → HoldsAll t (front ++ file ∷ back) texts → IsTooLong t file → ⊥
+none-too-long : (t : Told) (front : List File) (file : File) (back : List File) (texts : Texts) → HoldsAll t (front ++ file ∷ back) texts
+    → IsTooLong t file → ⊥
 none-too-long t [] file back texts h k = not-too-long t file (texts file.kind) h.0 k
 none-too-long t (f ∷ front) file back texts h k = none-too-long t front file back texts h.1 k
 
@@ -80,7 +81,8 @@ cons_first x y xs ys e = cc
 cons_rest : {A : Type 0} (x y : A) (xs ys : List A) → x ∷ xs ≡ y ∷ ys → xs ≡ ys
 cons_rest x y xs ys e = cc
 
-one-too-long : (t : Told) (front front' back back' : List File) (file file' : File) (a b : Texts) → front ++ file ∷ back ≡ front' ++ file' ∷ back' → HoldsAll t front a → HoldsAll t front' b →
+one-too-long : (t : Told) (front front' back back' : List File) (file file' : File) (a b : Texts) → front ++ file ∷ back ≡ front' ++ file' ∷ back'
+    → HoldsAll t front a → HoldsAll t front' b →
     IsTooLong t file → IsTooLong t file' → IsSame front front' file file'
 one-too-long t [] [] back back' file file' a b e h k x y = record { fronts = refl; files = cons_first file file' back back' e }
 one-too-long t [] (f ∷ front') back back' file file' a b e h k x y =
@@ -107,4 +109,5 @@ one-cause t v (Stopped stop) (Refusal refusal) exact h k =
     absurd (exact.stops.apart k.0 h.1.0 (held-agree t v.files k.0 h.1.0 k.1 h.1.1) refusal k.2 stop h.0 h.1.2)
 one-cause t v (Stopped stop) (Stopped other) exact h k =
     ap (λ z. Stopped z) (exact.stops.one h.1.0 k.1.0 (held-agree t v.files h.1.0 k.1.0 h.1.1 k.1.1) stop other h.0 k.0 h.1.2 k.1.2)
-one-cause t v (Refusal refusal) (Refusal other) exact h k = ap (λ z. Refusal z) (exact.one h.0 k.0 (held-agree t v.files h.0 k.0 h.1 k.1) refusal other h.2 k.2)
+one-cause t v (Refusal refusal) (Refusal other) exact h k
+    = ap (λ z. Refusal z) (exact.one h.0 k.0 (held-agree t v.files h.0 k.0 h.1 k.1) refusal other h.2 k.2)

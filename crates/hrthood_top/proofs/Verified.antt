@@ -54,23 +54,28 @@ pub made-unfaulty : (design made : List ℕ) (found : TextFault) → IsTextFor d
 made-unfaulty design made found w h = reads-unfaulty made (program (in_ticks w.design)) found (accepted_text design made w).reads h
 
 -- what was not made has a reason
-pub made-halted : {X R : Type 0} (view : X → List ℕ) (Makes : List ℕ → Type 0) (Refuses : R → Type 0) (why : Halt R) → IsMade view Makes Refuses (Err why) → IsHalted Refuses why
+pub made-halted : {X R : Type 0} (view : X → List ℕ) (Makes : List ℕ → Type 0) (Refuses : R → Type 0) (why : Halt R)
+    → IsMade view Makes Refuses (Err why) → IsHalted Refuses why
 made-halted view Makes Refuses (halt.Refused refusal) h = h
 made-halted view Makes Refuses halt.NoMemory h = tt
 
 -- what was read is what the text says
-pub said-arrivals : (arrivals : List ℕ) (p : Program) (a : Arrivals) → Arrives horizon_limit arrivals p a → ((b : Arrivals) → Arrives horizon_limit arrivals p b → a ≡ b) → SaysArrivals arrivals p a
+pub said-arrivals : (arrivals : List ℕ) (p : Program) (a : Arrivals) → Arrives horizon_limit arrivals p a
+    → ((b : Arrivals) → Arrives horizon_limit arrivals p b → a ≡ b) → SaysArrivals arrivals p a
 said-arrivals arrivals p a arrives only = record { arrives = arrives; alone = λ b h. sym (only b h) }
 
 -- why nothing is verified
-pub design-halted : (design arrivals : List ℕ) (why : Halt GenerateRefusal) → IsHalted (RefusesDesign design) why → IsHalted (RefusesVerify design arrivals) (halted_design why)
+pub design-halted : (design arrivals : List ℕ) (why : Halt GenerateRefusal) → IsHalted (RefusesDesign design) why
+    → IsHalted (RefusesVerify design arrivals) (halted_design why)
 design-halted design arrivals (halt.Refused refusal) h = h
 design-halted design arrivals halt.NoMemory h = tt
 
-alone : (design arrivals text : List ℕ) (p : Program) (found : ArrivalFault) → IsTextFor design text → SaysProgram text p → arriving.Refuses arrivals p found → IsTextAlone design arrivals found
+alone : (design arrivals text : List ℕ) (p : Program) (found : ArrivalFault) → IsTextFor design text → SaysProgram text p
+    → arriving.Refuses arrivals p found → IsTextAlone design arrivals found
 alone design arrivals text p found made says h = record { text = text; made = made; alone = record { program = p; says = says; none = h } }
 
-pub arrivals-unsaid : (design arrivals text : List ℕ) (p : Program) (found : ArrivalFault) → IsTextFor design text → SaysProgram text p → arriving.Says arrivals p (Err found)
+pub arrivals-unsaid : (design arrivals text : List ℕ) (p : Program) (found : ArrivalFault) → IsTextFor design text → SaysProgram text p
+    → arriving.Says arrivals p (Err found)
     → IsHalted (RefusesVerify design arrivals) (halted_arrivals found)
 arrivals-unsaid design arrivals text p (fault.Text f) made says h = alone design arrivals text p (fault.Text f) made says h
 arrivals-unsaid design arrivals text p (fault.Q1 line) made says h = alone design arrivals text p (fault.Q1 line) made says h
@@ -81,31 +86,43 @@ arrivals-unsaid design arrivals text p (fault.Q5 line) made says h = alone desig
 arrivals-unsaid design arrivals text p fault.NoMemory made says h = tt
 
 -- the lines of a run behind what was written before
-pub behind-run : {E : Type 0} (front : List ℕ) (p : Program) (m : Running) (before mid now : Option (List ℕ)) (ran : Result Ending E) → Appends before mid front → PutsRun p m mid now ran → PutsBehind front p m before now ran
-behind-run front p m before mid now (Ok ending) first puts = (puts.0, puts.1, puts.2, appends-twice before mid now front (lines p puts.0) first puts.3)
-behind-run front p m before mid now (Err e) first puts = (puts.0, puts.1, puts-behind {E = Unit {0}} before mid now front (lines p puts.0) (Err tt) first puts.2)
+pub behind-run : {E : Type 0} (front : List ℕ) (p : Program) (m : Running) (before mid now : Option (List ℕ)) (ran : Result Ending E)
+    → Appends before mid front → PutsRun p m mid now ran → PutsBehind front p m before now ran
+behind-run front p m before mid now (Ok ending) first puts
+    = (puts.0, puts.1, puts.2, appends-twice before mid now front (lines p puts.0) first puts.3)
+behind-run front p m before mid now (Err e) first puts
+    = (puts.0, puts.1, puts-behind {E = Unit {0}} before mid now front (lines p puts.0) (Err tt) first puts.2)
 
 -- what stands before them was not written whole
-pub front-cut : {E : Type 0} (front : List ℕ) (p : Program) (m : Running) (before now : Option (List ℕ)) (e : E) → IsCut front before now → (told : List Event) × Tells m told → PutsBehind {E = E} front p m before now (Err e)
+pub front-cut : {E : Type 0} (front : List ℕ) (p : Program) (m : Running) (before now : Option (List ℕ)) (e : E) → IsCut front before now
+    → (told : List Event) × Tells m told → PutsBehind {E = E} front p m before now (Err e)
 front-cut front p m before now e cut rest = (rest.0, rest.1, cut-more front (lines p rest.0) before now cut)
 
 -- no run of the program of a design stops
-design-runs-out : (x : designs.Design) (a : Arrivals) (told : List Event) → IsProperDesign (within_limits is_design_name) x → MeetsRules x → Meaning (program (in_ticks x)) a told → RunsOut told
+design-runs-out : (x : designs.Design) (a : Arrivals) (told : List Event) → IsProperDesign (within_limits is_design_name) x → MeetsRules x
+    → Meaning (program (in_ticks x)) a told → RunsOut told
 design-runs-out x a told proper meets means =
     let p : Program = program (in_ticks x) in
     let t = sound-tabled (in_ticks x) (flat-sound x (in_ticks x) meets) in
     rest-goes-on (system p a) (is-ceiled p a (program-readable x proper meets).1 t.tabled.ceilings t.tabled.inner_ceilings) a.items told means
 
-pub made-runs-out : (design made : List ℕ) (p : Program) (a : Arrivals) (told : List Event) → IsTextFor design made → SaysProgram made p → Meaning p a told → RunsOut told
+pub made-runs-out : (design made : List ℕ) (p : Program) (a : Arrivals) (told : List Event) → IsTextFor design made → SaysProgram made p
+    → Meaning p a told → RunsOut told
 made-runs-out design made p a told w says means =
     let M : Program → Type 0 = λ q. Meaning q a told in
-    design-runs-out w.design a told w.reads.proper w.meets (subst M (sym (says.alone (program (in_ticks w.design)) (accepted_text design made w))) means)
+    design-runs-out w.design a told w.reads.proper w.meets
+    (subst M (sym (says.alone (program (in_ticks w.design)) (accepted_text design made w))) means)
 
 -- the text and the trace
-abbrev pub verified : (design arrivals made : List ℕ) (p : Program) (a : Arrivals) (told : List Event) → IsTextFor design made → SaysProgram made p → SaysArrivals arrivals p a → Meaning p a told
+abbrev pub verified : (design arrivals made : List ℕ) (p : Program) (a : Arrivals) (told : List Event) → IsTextFor design made → SaysProgram made p
+    → SaysArrivals arrivals p a → Meaning p a told
     → IsVerified design arrivals ((made ++ trace_mark) ++ lines p told)
 verified design arrivals made p a told w says arriving means =
-    let replays : Replays made arrivals (lines p told) = record { told = told; traces = traced made arrivals p a told says arriving means; runs_out = made-runs-out design made p a told w says means } in
+    let replays : Replays made arrivals (lines p told) = record {
+      told = told;
+      traces = traced made arrivals p a told says arriving means;
+      runs_out = made-runs-out design made p a told w says means;
+    } in
     record {
       text = made;
       made = w;
@@ -116,18 +133,30 @@ verified design arrivals made p a told w says arriving means =
     }
 
 -- the text, and the lines of a run from its opening on, are put
-pub streams-verified : {E : Type 0} (x y : List ℕ) (texts : Texts) (made : List ℕ) (p : Program) (a : Arrivals) (m : Running) (ran : Result Ending E) (ended : Status) (out out' : Option (List ℕ)) (faults faults' : ℕ) (err err' : Option (List ℕ)) (told told' : ℕ)
-    → IsTextFor (texts kind.Design) made → SaysProgram made p → SaysArrivals (texts kind.Arrivals) p a → m ≡ begun p a → PutsBehind (made ++ trace_mark) p m out out' ran → HasCause faults faults' ran
+pub streams-verified : {E : Type 0} (x y : List ℕ) (texts : Texts) (made : List ℕ) (p : Program) (a : Arrivals) (m : Running) (ran : Result Ending E)
+    (ended : Status) (out out' : Option (List ℕ)) (faults faults' : ℕ) (err err' : Option (List ℕ)) (told told' : ℕ)
+    → IsTextFor (texts kind.Design) made → SaysProgram made p → SaysArrivals (texts kind.Arrivals) p a → m ≡ begun p a
+    → PutsBehind (made ++ trace_mark) p m out out' ran → HasCause faults faults' ran
     → TellsEnding ran ended err err' told told' → Streams (verifies x y) texts ended out out' faults faults' err err' told told'
 streams-verified x y texts made p a m (Ok Horizon) ended out out' faults faults' err err' told told' w says arriving opens puts cause t =
     let S : Status → Type 0 = λ z. Streams (verifies x y) texts z out out' faults faults' err err' told told' in
     let means = subst (λ (r : Running). Tells r puts.0) opens puts.1 in
-    subst S (sym t.0) ((made ++ trace_mark) ++ lines p puts.0, verified (texts kind.Design) (texts kind.Arrivals) made p a puts.0 w says arriving means, puts.3, t.1)
+    subst S (sym t.0) (
+      (made ++ trace_mark) ++ lines p puts.0,
+      verified (texts kind.Design) (texts
+          kind.Arrivals) made p a puts.0 w says arriving means,
+      puts.3,
+      t.1,
+    )
 streams-verified x y texts made p a m (Ok (Stopped v)) ended out out' faults faults' err err' told told' w says arriving opens puts cause t =
     let means = subst (λ (r : Running). Tells r puts.0) opens puts.1 in
     absurd (runs-out-unstopped p puts.0 (violation_of v) (made-runs-out (texts kind.Design) made p a puts.0 w says means) puts.2)
 streams-verified x y texts made p a m (Err e) ended out out' faults faults' err err' told told' w says arriving opens puts cause t =
     let S : Status → Type 0 = λ z. Streams (verifies x y) texts z out out' faults faults' err err' told told' in
     let means = subst (λ (r : Running). Tells r puts.0) opens puts.1 in
-    subst S (sym t.0)
-    ((made ++ trace_mark) ++ lines p puts.0, inl (verified (texts kind.Design) (texts kind.Arrivals) made p a puts.0 w says arriving means), (puts.2.0, puts.2.1, puts.2.2, cause.failed, t.1))
+    subst S (sym t.0) (
+      (made ++ trace_mark) ++ lines p puts.0,
+      inl (verified (texts kind.Design) (texts kind.Arrivals) made p a puts.0 w says arriving
+          means),
+      (puts.2.0, puts.2.1, puts.2.2, cause.failed, t.1),
+    )

@@ -38,7 +38,8 @@ can_or_refuses design arrivals w (Arrivals found) h =
     let A : designs.Design → Type 0 = λ x. Accepts h.text (program (in_ticks x)) in
     let own : Accepts h.text (program (in_ticks w.can.design)) = subst A one (accepted_text design h.text h.made) in
     let R : Program → Type 0 = λ p. arriving.Refuses arrivals p found in
-    refused-nothing arrivals (program (in_ticks w.can.design)) found (subst R (sym (h.alone.says.alone (program (in_ticks w.can.design)) own)) h.alone.none) w.under w.arrives
+    refused-nothing arrivals (program (in_ticks w.can.design)) found
+    (subst R (sym (h.alone.says.alone (program (in_ticks w.can.design)) own)) h.alone.none) w.under w.arrives
 
 can_make : (design arrivals written : List ℕ) → IsVerified design arrivals written → CanVerify design arrivals
 can_make design arrivals written w =
@@ -52,8 +53,10 @@ can_make design arrivals written w =
 
 one_refusal : (design arrivals : List ℕ) (r q : VerifyRefusal) → RefusesVerify design arrivals r → RefusesVerify design arrivals q → r ≡ q
 one_refusal design arrivals (Design a) (Design b) h k = ap Design (generating.one_refusal design a b h k)
-one_refusal design arrivals (Design a) (Arrivals f) h k = absurd (generating.can_or_refuses design design refl (generating.can_make design k.text k.made) a h)
-one_refusal design arrivals (Arrivals f) (Design b) h k = absurd (generating.can_or_refuses design design refl (generating.can_make design h.text h.made) b k)
+one_refusal design arrivals (Design a) (Arrivals f) h k
+    = absurd (generating.can_or_refuses design design refl (generating.can_make design k.text k.made) a h)
+one_refusal design arrivals (Arrivals f) (Design b) h k
+    = absurd (generating.can_or_refuses design design refl (generating.can_make design h.text h.made) b k)
 one_refusal design arrivals (Arrivals f) (Arrivals g) h k =
     let T : List ℕ → Type 0 = λ t. IsAdaAlone t arrivals f in
     ap Arrivals (one_arrivals k.text arrivals f g (subst T (one-made design h.text k.text h.made k.made) h.alone) k.alone)

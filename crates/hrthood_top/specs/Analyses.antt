@@ -31,7 +31,8 @@ demands b = labelled (codes " priority ") b.priority ++ (labelled (codes " perio
 -- what is found of it: its jitter, cost, blocking and response time
 abbrev pub findings : NamedBound → List ℕ
 findings b =
-    labelled (codes " jitter ") b.jitter ++ (labelled (codes " cost ") b.cost ++ (labelled (codes " blocking ") b.block ++ labelled (codes " response ") b.response))
+    labelled (codes " jitter ") b.jitter ++ (labelled (codes " cost ") b.cost
+    ++ (labelled (codes " blocking ") b.block ++ labelled (codes " response ") b.response))
 
 -- the line of a bound
 abbrev pub bound_line : NamedBound → List ℕ

@@ -75,7 +75,8 @@ pub record CanVerify (design arrivals : List ℕ) : Type 0 where
 
 -- what stands before the lines of a run, and all of these, are written, and how the run ended; or after a failure a proper front of them
 abbrev pub PutsBehind : {E : Type 0} → List ℕ → Program → Running → Option (List ℕ) → Option (List ℕ) → Result Ending E → Type 0
-PutsBehind front p run before now (Ok ending) = (told : List Event) × Tells run told × EndsSo p ending told × Appends before now (front ++ lines p told)
+PutsBehind front p run before now (Ok ending) = (told : List Event) × Tells run told × EndsSo p ending told
+    × Appends before now (front ++ lines p told)
 PutsBehind front p run before now (Err e) = (told : List Event) × Tells run told × IsCut (front ++ lines p told) before now
 
 -- the verb; it never stops

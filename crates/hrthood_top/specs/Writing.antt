@@ -44,7 +44,8 @@ TellsHalt line halt.NoMemory ended err err' told told' = TellsMemory ended err e
 -- what was made is written, or why nothing was made is told
 abbrev pub Finishes : {X E : Type 0} → (X → List ℕ) → (E → Status → Option (List ℕ) → Option (List ℕ) → ℕ → ℕ → Type 0) → Result X E → Status
     → Option (List ℕ) → Option (List ℕ) → ℕ → ℕ → Option (List ℕ) → Option (List ℕ) → ℕ → ℕ → Type 0
-Finishes view TellsWhy (Ok x) ended out out' faults faults' err err' told told' = WritesText ended (view x) out out' faults faults' err err' told told'
+Finishes view TellsWhy (Ok x) ended out out' faults faults' err err' told told'
+    = WritesText ended (view x) out out' faults faults' err err' told told'
 Finishes view TellsWhy (Err why) ended out out' faults faults' err err' told told' = (out' ≡ out) × TellsWhy why ended err err' told told'
 
 -- whether a text was written whole is told; the text is no matter

@@ -31,7 +31,8 @@ fn fetch_text<'a, F: Shelf>(
     file: File<'a>,
 ) -> Result<Vec<u8>, Stop<'a>>
     ensures later { F.faults shelf.old ≤ F.faults shelf.new }
-    ensures fetches { Fetches (λ v. v.items) result (file_tree file.entry) (F.told shelf.old) (F.told shelf.new) (F.faults shelf.old) (F.faults shelf.new) }
+    ensures fetches { Fetches (λ v. v.items) result (file_tree file.entry) (F.told shelf.old) (F.told shelf.new) (F.faults shelf.old)
+        (F.faults shelf.new) }
 {
     let mut text = Vec::new(alloc);
     match shelf.fetch(alloc, file.name, limit_of(file.kind), &mut text) {

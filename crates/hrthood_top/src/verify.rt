@@ -102,7 +102,8 @@ fn put_verified<'a, O: Sink>(
     requires whole { IsWhole machine }
     requires goes_on { (running_of machine).state.stopped ≡ false }
     ensures cause { HasCause (O.faults out.old) (O.faults out.new) result }
-    ensures puts { PutsBehind (text.now ++ trace_mark) (program_of program.now) (running_of machine.entry) (O.written out.old) (O.written out.new) result }
+    ensures puts { PutsBehind (text.now ++ trace_mark) (program_of program.now) (running_of machine.entry) (O.written out.old)
+        (O.written out.new) result }
 {
     put_each(out, &[text, b"-- trace\n".as_slice()])?;
     put_trace(program, machine, out)

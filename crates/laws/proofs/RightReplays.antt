@@ -30,14 +30,18 @@ use Rattle.laws.proofs.OneProgram.{one_program}
 abbrev IsRight : Design → List Bound → Program → Arrivals → List Event → Type 0
 IsRight x v p r told = Allows (in_ticks x) (named_arrivals p r) (named p told) × IsBounded (responses (flat (in_ticks x)) v) r.until (named p told)
 
-pub right-replay : (limit : ℕ) (x : Design) (written : List ℕ) (v : List Bound) (p : Program) (r : Arrivals) (told : List Event) → IsProperDesign (within_limits is_design_name) x
-    → MeetsRules x → Fits (table (flat (in_ticks x))).rows v → Accepts written (program (in_ticks x)) → Accepts written p → IsAccepted limit p r → Meaning p r told → IsRight x v p r told
+pub right-replay : (limit : ℕ) (x : Design) (written : List ℕ) (v : List Bound) (p : Program) (r : Arrivals) (told : List Event)
+    → IsProperDesign (within_limits is_design_name) x
+    → MeetsRules x → Fits (table (flat (in_ticks x))).rows v → Accepts written (program (in_ticks x)) → Accepts written p → IsAccepted limit p r
+    → Meaning p r told → IsRight x v p r told
 right-replay limit x written v p r told proper meets fits own accepts =
     let same : program (in_ticks x) ≡ p = one_program written (program (in_ticks x)) p own accepts in
     let P : Program → Type 0 = λ q. IsAccepted limit q r → Meaning q r told → IsRight x v q r told in
     subst P same (replays-are-right limit x v r told proper meets fits)
 
-pub right-generated : (limit : ℕ) (x : Design) (bytes : List ℕ) (v : List Bound) (p : Program) (r : Arrivals) (told : List Event) → Reads bytes x → MeetsRules x
-    → Fits (table (flat (in_ticks x))).rows v → length (text (in_ticks x) v) ≤ 16777216 → Accepts (text (in_ticks x) v) p → IsAccepted limit p r → Meaning p r told → IsRight x v p r told
+pub right-generated : (limit : ℕ) (x : Design) (bytes : List ℕ) (v : List Bound) (p : Program) (r : Arrivals) (told : List Event) → Reads bytes x
+    → MeetsRules x
+    → Fits (table (flat (in_ticks x))).rows v → length (text (in_ticks x) v) ≤ 16777216 → Accepts (text (in_ticks x) v) p → IsAccepted limit p r
+    → Meaning p r told → IsRight x v p r told
 right-generated limit x bytes v p r told reads meets fits short =
     right-replay limit x (text (in_ticks x) v) v p r told reads.proper meets fits (text-accepted x bytes reads meets v fits short)

@@ -27,7 +27,8 @@ served-same x object look seen (p ∷ ps) same = rw (same p.sig.name, served-sam
 pub served-first : (x : Design) (object : Name) (look : Name → Option Statements) (p : Provided) (ps : List Provided)
     → served_ops x object look (p ∷ ps) ≡ served_ops x object look (p ∷ []) ++ served_ops x object look ps
 served-first x object look p ps =
-    let given : Provided → Option Costed = λ q. option_map (λ b. record { name = record { object = object; op = q.sig.name }; block = Some (resolved x b) }) (look q.sig.name) in
+    let given : Provided → Option Costed
+    = λ q. option_map (λ b. record { name = record { object = object; op = q.sig.name }; block = Some (resolved x b) }) (look q.sig.name) in
     given_first given p ps
 
 pub served-inner : (x : Design) (p : Part) (s : Standing) → is_terminal s ≡ false → served_part x p s ≡ []

@@ -14,7 +14,8 @@ use Rattle.ods_tree.specs.Links.{renamed, renamed_statement, renamed_branches}
 use Rattle.ods_flat.specs.Renaming.{renamed_arm}
 
 -- statement by statement
-pub renamed-list : (means : OpName → OpName) (ss : List Statement) → statements_of (map (renamed_statement means) ss) ≡ renamed means (statements_of ss)
+pub renamed-list : (means : OpName → OpName) (ss : List Statement) → statements_of (map (renamed_statement means) ss)
+    ≡ renamed means (statements_of ss)
 renamed-list means [] = refl
 renamed-list means (s ∷ ss) = ap (Then (renamed_statement means s)) (renamed-list means ss)
 
@@ -29,8 +30,10 @@ renamed-arms means [] o = renamed-else means o
 renamed-arms means (a ∷ arms) o = ap (When a.0 (renamed means a.1)) (renamed-arms means arms o)
 
 -- an `if` of such arms and such an `else`
-pub if-renamed : (means : OpName → OpName) (arms : Box (Vec Arm Global) Global) (other : Option Block) (old : List (Expression × Statements)) (o : Option Statements) (s : Statement)
-    → map arm_of arms.value.items ≡ map (renamed_arm means) old → option_map block_of other ≡ option_map (renamed means) o → s ≡ If (branches_of old (otherwise o))
+pub if-renamed : (means : OpName → OpName) (arms : Box (Vec Arm Global) Global) (other : Option Block) (old : List (Expression × Statements))
+    (o : Option Statements) (s : Statement)
+    → map arm_of arms.value.items ≡ map (renamed_arm means) old → option_map block_of other ≡ option_map (renamed means) o
+    → s ≡ If (branches_of old (otherwise o))
     → statement_of (stmt.If arms other) ≡ renamed_statement means s
 if-renamed means arms other old o s armed elsed is =
     if-tree arms other

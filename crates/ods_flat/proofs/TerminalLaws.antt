@@ -26,7 +26,8 @@ pub threads-are : (x : Design) → threads_among x (map own (terminals x)) ≡ t
 threads-are x = by-part own (thread_by x) (terminals x)
 
 -- the same operations, where bodies are found that are the same
-pub operations-same : (x : Design) (look seen : Name → Option Body) (ps : List Provided) → ((op : Name) → look op ≡ seen op) → operations_among x look ps ≡ operations_among x seen ps
+pub operations-same : (x : Design) (look seen : Name → Option Body) (ps : List Provided) → ((op : Name) → look op ≡ seen op)
+    → operations_among x look ps ≡ operations_among x seen ps
 operations-same x look seen [] same = refl
 operations-same x look seen (p ∷ ps) same =
     ap (λ b. cons_option (option_map (operation_by x p.sig) b) (operations_among x look ps)) (same p.sig.name)

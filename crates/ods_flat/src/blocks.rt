@@ -27,7 +27,9 @@ fn resolved_call<'a>(
     op: &'a Name,
     actuals: &[Expr],
 ) -> Result<Stmt, NoMemory>
-    ensures { IfOk result (λ s. statement_of s ≡ call_by (resolve (design_of links.now.design.now) (record { object = object.entry.now; op = op.entry.now })) (map expression_of actuals.entry.now)) }
+    ensures { IfOk result (λ s. statement_of s
+        ≡ call_by (resolve (design_of links.now.design.now) (record { object = object.entry.now; op = op.entry.now }))
+        (map expression_of actuals.entry.now)) }
 {
     let meant = links.resolve(OpView { object, op });
     Ok(Stmt::Call {
@@ -114,7 +116,8 @@ fn resolved_other<'a>(
     links: &Links<'a>,
     other: &'a Option<Block>,
 ) -> Result<Option<Block>, NoMemory>
-    ensures { IfOk result (λ o. option_map block_of o ≡ option_map (renamed (resolve (design_of links.now.design.now))) (option_map block_of other.entry.now)) }
+    ensures { IfOk result (λ o. option_map block_of o ≡ option_map (renamed (resolve (design_of links.now.design.now)))
+        (option_map block_of other.entry.now)) }
 {
     match other {
         None => Ok(None),

@@ -32,7 +32,8 @@ fn bodies_of<'a>(
     object: &'a Name,
     bodies: &'a [OpBody],
 ) -> Result<OpTable<'a, &'a OpBody>, NoMemory>
-    ensures { IfOk result (λ t. (op : NameTree) → option_map (λ b. body_of b.now) (at t (record { object = object.entry.now; op = op })) ≡ body_named op (map body_of bodies.entry.now)) }
+    ensures { IfOk result (λ t. (op : NameTree) → option_map (λ b. body_of b.now) (at t (record { object = object.entry.now; op = op }))
+        ≡ body_named op (map body_of bodies.entry.now)) }
 {
     let mut found = OpTable::new(alloc);
     'bodies: for body in bodies {
@@ -50,7 +51,8 @@ fn operation<'a>(
     sig: &OpSig,
     body: &'a OpBody,
 ) -> Result<OpText, NoMemory>
-    ensures { IfOk result (λ o. operation_of o ≡ operation_by (design_of links.now.design.now) (signature_of sig.entry.now) (body_of body.entry.now)) }
+    ensures { IfOk result (λ o. operation_of o ≡ operation_by (design_of links.now.design.now) (signature_of sig.entry.now)
+        (body_of body.entry.now)) }
 {
     Ok(OpText {
         sig: sig.copy(alloc)?,
@@ -68,7 +70,9 @@ fn add_operation<'a>(
     provided: &'a Provided,
     into: &mut Vec<OpText>,
 ) -> Result<(), NoMemory>
-    ensures { OnOk result (map operation_of into.new.items ≡ map operation_of into.old.items ++ operations_among (design_of links.now.design.now) (λ op. option_map (λ b. body_of b.now) (at bodies.now (record { object = object.entry.now; op = op }))) (provided_of provided.entry.now ∷ [])) }
+    ensures { OnOk result (map operation_of into.new.items ≡ map operation_of into.old.items
+        ++ operations_among (design_of links.now.design.now) (λ op. option_map (λ b. body_of b.now)
+        (at bodies.now (record { object = object.entry.now; op = op }))) (provided_of provided.entry.now ∷ [])) }
 {
     match bodies.get(object, &provided.sig.name) {
         None => Ok(()),
@@ -87,7 +91,9 @@ fn operations_by<'a>(
     bodies: &OpTable<'a, &'a OpBody>,
     provides: &'a [Provided],
 ) -> Result<Vec<OpText>, NoMemory>
-    ensures { IfOk result (λ v. map operation_of v.items ≡ operations_among (design_of links.now.design.now) (λ op. option_map (λ b. body_of b.now) (at bodies.now (record { object = object.entry.now; op = op }))) (map provided_of provides.entry.now)) }
+    ensures { IfOk result (λ v. map operation_of v.items ≡ operations_among (design_of links.now.design.now)
+        (λ op. option_map (λ b. body_of b.now) (at bodies.now (record { object = object.entry.now; op = op })))
+        (map provided_of provides.entry.now)) }
 {
     let mut found = Vec::new(alloc);
     'provides: for provided in provides {
@@ -159,7 +165,8 @@ fn add_library<'a>(
     node: &'a Node,
     into: &mut Vec<FlatPassive>,
 ) -> Result<(), NoMemory>
-    ensures { OnOk result (map library_of into.new.items ≡ map library_of into.old.items ++ libraries_among (design_of links.now.design.now) (node_object node.entry ∷ [])) }
+    ensures { OnOk result (map library_of into.new.items ≡ map library_of into.old.items
+        ++ libraries_among (design_of links.now.design.now) (node_object node.entry ∷ [])) }
 {
     match node.kind {
         Kind::Passive => {
@@ -181,7 +188,8 @@ fn add_guarded<'a>(
     node: &'a Node,
     into: &mut Vec<FlatShared>,
 ) -> Result<(), NoMemory>
-    ensures { OnOk result (map guarded_of into.new.items ≡ map guarded_of into.old.items ++ guarded_among (design_of links.now.design.now) (node_object node.entry ∷ [])) }
+    ensures { OnOk result (map guarded_of into.new.items ≡ map guarded_of into.old.items
+        ++ guarded_among (design_of links.now.design.now) (node_object node.entry ∷ [])) }
 {
     match node.kind {
         Kind::Protected => {
@@ -202,7 +210,8 @@ fn add_thread<'a>(
     node: &'a Node,
     into: &mut Vec<FlatThread>,
 ) -> Result<(), NoMemory>
-    ensures { OnOk result (map thread_of into.new.items ≡ map thread_of into.old.items ++ threads_among (design_of links.now.design.now) (node_object node.entry ∷ [])) }
+    ensures { OnOk result (map thread_of into.new.items ≡ map thread_of into.old.items
+        ++ threads_among (design_of links.now.design.now) (node_object node.entry ∷ [])) }
 {
     match thread(alloc, links, node)? {
         None => Ok(()),

@@ -11,7 +11,8 @@ use std::alloc::Global;
 
 /// Adds an object, where it has no children.
 fn add_terminal<'a>(into: &mut Vec<&'a Node>, standing: &Standing<'a>) -> Result<(), NoMemory>
-    ensures { OnOk result (map node_object into.new.items ≡ map node_object into.old.items ++ map (λ s. s.own) (filter is_terminal (standing_of standing.entry.now ∷ []))) }
+    ensures { OnOk result (map node_object into.new.items ≡ map node_object into.old.items
+        ++ map (λ s. s.own) (filter is_terminal (standing_of standing.entry.now ∷ []))) }
 {
     if is_terminal(standing.node) {
         into.push(standing.node)?;

@@ -7,10 +7,13 @@ use Rattle.ods_tree.specs.Walk.{objects, standings, inner_standings, own_of, roo
 use Rattle.ods_tree.specs.declared.design.VersionTwo.{VersionTwo}
 
 mutual
-  tree-count : (tick : ℕ) (p q : Option Object) (s r : List Object) (t : Tree) → length (standings p s (tree_in_ticks tick t)) ≡ length (standings q r t)
-  tree-count tick p q s r (Node own children) = ap suc (trees-count tick (Some (object_in_ticks tick own)) (Some own) (roots (trees_in_ticks tick children)) (roots children) children)
+  tree-count : (tick : ℕ) (p q : Option Object) (s r : List Object) (t : Tree)
+      → length (standings p s (tree_in_ticks tick t)) ≡ length (standings q r t)
+  tree-count tick p q s r (Node own children)
+      = ap suc (trees-count tick (Some (object_in_ticks tick own)) (Some own) (roots (trees_in_ticks tick children)) (roots children) children)
 
-  trees-count : (tick : ℕ) (p q : Option Object) (s r : List Object) (ts : Trees) → length (inner_standings p s (trees_in_ticks tick ts)) ≡ length (inner_standings q r ts)
+  trees-count : (tick : ℕ) (p q : Option Object) (s r : List Object) (ts : Trees)
+      → length (inner_standings p s (trees_in_ticks tick ts)) ≡ length (inner_standings q r ts)
   trees-count tick p q s r Empty = refl
   trees-count tick p q s r (With first rest) =
       length-append (standings p s (tree_in_ticks tick first)) (inner_standings p s (trees_in_ticks tick rest))

@@ -3,7 +3,8 @@
 use Rattle.std.specs.Prelude.{ℕ, ◌<◌, Bool, true, false, Option, Some, None, Result, Ok, Err, ⊤}
 use Rattle.ods_tree.specs.Designs.{Design}
 use Rattle.design_rules.specs.Broken.{Broken}
-use Rattle.design_rules.specs.Rules.{Rule, Clash, KeptName, Include, Operation, Fitting, Stranger, Absence, Use, CallRing, ObjectRing, StartRing, Source, Number, IdleActive, BodyFault, Budget, Size, Spacing, number_of, AreMet, IsFirst}
+use Rattle.design_rules.specs.Rules.{Rule, Clash, KeptName, Include, Operation, Fitting, Stranger, Absence, Use, CallRing, ObjectRing, StartRing}
+use Rattle.design_rules.specs.Rules.{Source, Number, IdleActive, BodyFault, Budget, Size, Spacing, number_of, AreMet, IsFirst}
 use Rattle.ods_index.specs.Judging.{Passes}
 use Rattle.ods_index.specs.Told.{told_of, is_memory}
 use Rattle.ods_index.specs.declared.broken.Broken as codes

@@ -11,7 +11,8 @@ use std::alloc::Global;
 
 /// How many objects a design has, and how many of them are terminal and have threads.
 pub fn count(alloc: Global, checked: &Checked) -> Result<(usize, usize), NoMemory>
-    ensures { IfOk result (λ r. (r.0 ≡ length (objects (checked_design checked.now))) × (r.1 ≡ length (thread_objects (checked_design checked.now)))) }
+    ensures { IfOk result (λ r. (r.0 ≡ length (objects (checked_design checked.now)))
+        × (r.1 ≡ length (thread_objects (checked_design checked.now)))) }
 {
     let objects = objects_of(alloc, checked.design())?;
     let threads = threads_of(alloc, objects.as_slice())?;

@@ -7,4 +7,5 @@ use Rattle.hrthood_top.proofs.command_words.found_command.Goals as goal
 pub returns-clause-command : goal.returns-clause-command
 returns-clause-command c =
     let M : Option words.Command → Type 0 = λ z. MatchOption c.given_command.result (z ≡ None) (λ k. z ≡ Some (command_tree k)) in
-    subst M (sym (found-is c.args.matches.now c.in_ok-verb.words.now c.in_ok-verb.verb.now (sym c.in_ok-verb.ensures.name) (sym c.in_ok-verb.ensures.rows))) c.given_command.ensures.command
+    subst M (sym (found-is c.args.matches.now c.in_ok-verb.words.now c.in_ok-verb.verb.now (sym c.in_ok-verb.ensures.name)
+    (sym c.in_ok-verb.ensures.rows))) c.given_command.ensures.command

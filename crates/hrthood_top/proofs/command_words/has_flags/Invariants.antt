@@ -5,4 +5,5 @@ use Rattle.hrthood_top.proofs.command_words.has_flags.Given as goal
 
 -- it is up to those that are left
 abbrev pub invariant-words : goal.invariant-words
-invariant-words l = list_any (λ word. not (is_file_name word)) (map string_bytes (drop l.word-index l.words)) ≡ list_any (λ word. not (is_file_name word)) (map string_bytes l.words)
+invariant-words l = list_any (λ word. not (is_file_name word)) (map string_bytes (drop l.word-index l.words))
+    ≡ list_any (λ word. not (is_file_name word)) (map string_bytes l.words)

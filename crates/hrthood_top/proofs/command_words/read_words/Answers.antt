@@ -15,5 +15,7 @@ why_unread-requires-clause-cause c =
 pub returns-in-Ok-clause-command : goal.returns-in-Ok-clause-command
 returns-in-Ok-clause-command c =
     let plain : are_plain (map string_bytes c.args.words.now) ≡ true = search rules in
-    read-found (command_of (map string_bytes c.args.words.now)) (found_command (subcommand_rows_of c.in-Ok.matches)) c.found_command.result c.ok_or.result c.ok_or.ensures.value
-    (ap found_command c.in-Ok.ensures.ok ∙ (plain-reads (map string_bytes c.args.words.now) plain).0 c.in-Ok.ensures.kinds) c.found_command.ensures.command
+    read-found (command_of (map string_bytes c.args.words.now)) (found_command (subcommand_rows_of c.in-Ok.matches)) c.found_command.result
+    c.ok_or.result c.ok_or.ensures.value
+    (ap found_command c.in-Ok.ensures.ok ∙ (plain-reads (map string_bytes c.args.words.now) plain).0 c.in-Ok.ensures.kinds)
+    c.found_command.ensures.command

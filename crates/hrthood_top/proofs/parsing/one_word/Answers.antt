@@ -9,4 +9,5 @@ pub returns : goal.returns
 returns c =
     let fresh : IsVerb (new_shape c.args.verb.now) c.new.result = (ap (λ (x : App). x.top) c.new.ensures.app, c.new.ensures.local) in
     IfOk-weaker c.arg.result _ (IsVerb (one_word c.args.verb.now))
-    (λ r h. word-added c.new.result c.needed.result r (new_shape c.args.verb.now) (needed (codes "first")) h fresh c.needed.ensures.rule c.needed.ensures.local) c.arg.ensures
+    (λ r h. word-added c.new.result c.needed.result r (new_shape c.args.verb.now) (needed (codes "first")) h fresh c.needed.ensures.rule
+    c.needed.ensures.local) c.arg.ensures

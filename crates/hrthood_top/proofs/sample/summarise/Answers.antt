@@ -8,7 +8,8 @@ note_events-requires c = (
   length (program_of c.args.program.now).units,
   c.turns.invariant.so_far.told,
   c.turns.invariant.so_far.is,
-  rw c.events.ensures (each-below (program_of c.args.program.now) _ (c.advance-turn.ensures.placed _ c.requires.runs.0 (c.turns.invariant.system ∙ c.requires.runs.1))),
+  rw c.events.ensures (each-below (program_of c.args.program.now) _
+      (c.advance-turn.ensures.placed _ c.requires.runs.0 (c.turns.invariant.system ∙ c.requires.runs.1))),
 )
 
 pub turns-preserved : goal.turns-preserved
@@ -22,8 +23,10 @@ turns-preserved c = record {
 
 pub returns-in-Horizon : goal.returns-in-Horizon
 returns-in-Horizon c =
-    all-counted _ _ _ _ (one-counted _ _ _ _ _ _ _ c.turns.invariant.so_far (rw c.events.ensures at c.note_events.ensures) c.in-Horizon.ensures.rest) c.in-Horizon.ensures.turned.1
+    all-counted _ _ _ _ (one-counted _ _ _ _ _ _ _ c.turns.invariant.so_far (rw c.events.ensures at c.note_events.ensures) c.in-Horizon.ensures.rest)
+    c.in-Horizon.ensures.turned.1
 
 pub returns-in-CeilingViolation : goal.returns-in-CeilingViolation
 returns-in-CeilingViolation c =
-    all-counted _ _ _ _ (one-counted _ _ _ _ _ _ _ c.turns.invariant.so_far (rw c.events.ensures at c.note_events.ensures) c.in-CeilingViolation.ensures.rest) c.in-CeilingViolation.ensures.turned.1
+    all-counted _ _ _ _ (one-counted _ _ _ _ _ _ _ c.turns.invariant.so_far (rw c.events.ensures at c.note_events.ensures)
+    c.in-CeilingViolation.ensures.rest) c.in-CeilingViolation.ensures.turned.1

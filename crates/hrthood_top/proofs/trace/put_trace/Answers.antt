@@ -26,14 +26,17 @@ turns-preserved g c = record {
   whole = c.in-More.ensures.whole c.in-More.ensures.turned.2;
   system = c.in-More.ensures.system ∙ c.turns.invariant.system;
   empty = c.clear.ensures;
-  so_far = one_turn _ _ _ _ _ _ _ _ _ _ c.turns.invariant.so_far (rw c.events.ensures at c.in_ok-put_lines.ensures.gathers) c.in-More.ensures.turned.1 c.in-More.ensures.rest;
+  so_far = one_turn _ _ _ _ _ _ _ _ _ _ c.turns.invariant.so_far (rw c.events.ensures at c.in_ok-put_lines.ensures.gathers) c.in-More.ensures.turned.1
+      c.in-More.ensures.rest;
 }
 
 pub returns-in_err-put_lines-clause-puts : goal.returns-in_err-put_lines-clause-puts
 returns-in_err-put_lines-clause-puts g c =
     let p = err_from_is_err_and c.from_residual.result c.from_residual.ensures.1 in
-    let rest = goes_on (program_of c.args.program.now) c.requires.runs.0 c.advance-turn.new.self c.requires.meets (c.advance-turn.ensures.system ∙ c.turns.invariant.system ∙ c.requires.runs.1) c.advance-turn.ensures.whole in
-    rw p.1 (turn_failed _ _ _ _ _ _ _ _ _ c.turns.invariant.so_far (rw c.events.ensures at c.in_err-put_lines.ensures.gathers) c.advance-turn.ensures.rest rest)
+    let rest = goes_on (program_of c.args.program.now) c.requires.runs.0 c.advance-turn.new.self c.requires.meets
+    (c.advance-turn.ensures.system ∙ c.turns.invariant.system ∙ c.requires.runs.1) c.advance-turn.ensures.whole in
+    rw p.1 (turn_failed _ _ _ _ _ _ _ _ _ c.turns.invariant.so_far (rw c.events.ensures at c.in_err-put_lines.ensures.gathers)
+    c.advance-turn.ensures.rest rest)
 
 pub returns-in-Horizon-clause-cause : goal.returns-in-Horizon-clause-cause
 returns-in-Horizon-clause-cause g c =
@@ -41,8 +44,10 @@ returns-in-Horizon-clause-cause g c =
 
 pub returns-in-Horizon-clause-puts : goal.returns-in-Horizon-clause-puts
 returns-in-Horizon-clause-puts g c =
-    all_told (program_of c.args.program.now) _ _ _ _ _ _ _ _ _ _ _ _ c.turns.invariant.so_far (rw c.events.ensures at c.in_ok-put_lines.ensures.gathers)
-    (ends-out (program_of c.args.program.now) _ _ c.in-Horizon.ensures.turned.0) c.in-Horizon.ensures.turned.1 c.in-Horizon.ensures.rest c.close.ensures.closes
+    all_told (program_of c.args.program.now) _ _ _ _ _ _ _ _ _ _ _ _ c.turns.invariant.so_far
+    (rw c.events.ensures at c.in_ok-put_lines.ensures.gathers)
+    (ends-out (program_of c.args.program.now) _ _ c.in-Horizon.ensures.turned.0) c.in-Horizon.ensures.turned.1 c.in-Horizon.ensures.rest
+    c.close.ensures.closes
 
 pub violation_at-at-requires-clause-task : goal.violation_at-at-requires-clause-task
 violation_at-at-requires-clause-task g c =
@@ -60,6 +65,8 @@ returns-in-CeilingViolation-clause-cause g c =
 
 pub returns-in-CeilingViolation-clause-puts : goal.returns-in-CeilingViolation-clause-puts
 returns-in-CeilingViolation-clause-puts g c =
-    all_told (program_of c.args.program.now) _ _ _ _ _ _ _ _ _ _ _ _ c.turns.invariant.so_far (rw c.events.ensures at c.in_ok-put_lines.ensures.gathers)
-    (ends-stopped (program_of c.args.program.now) _ _ _ _ _ c.violation_at-at.result _ c.in-CeilingViolation.ensures.turned.0 c.violation_at-at.ensures)
+    all_told (program_of c.args.program.now) _ _ _ _ _ _ _ _ _ _ _ _ c.turns.invariant.so_far
+    (rw c.events.ensures at c.in_ok-put_lines.ensures.gathers)
+    (ends-stopped (program_of c.args.program.now) _ _ _ _ _ c.violation_at-at.result _ c.in-CeilingViolation.ensures.turned.0
+    c.violation_at-at.ensures)
     c.in-CeilingViolation.ensures.turned.1 c.in-CeilingViolation.ensures.rest c.close-in-CeilingViolation.ensures.closes

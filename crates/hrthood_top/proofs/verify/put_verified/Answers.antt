@@ -9,8 +9,11 @@ use Rattle.hrthood_top.proofs.verify.put_verified.Goals as goal
 pub returns-in_err-put_each-clause-puts : goal.returns-in_err-put_each-clause-puts
 returns-in_err-put_each-clause-puts g c =
     let p = err_from_is_err_and c.from_residual.result c.from_residual.ensures.1 in
-    let rest = goes_on (program_of c.args.program.now) c.requires.runs.0 c.args.machine c.requires.meets c.requires.runs.1 (λ going. c.requires.whole) in
-    rw p.1 (front-cut (c.args.text.now ++ trace_mark) (program_of c.args.program.now) _ _ _ p.0 (rw c.as_slice.ensures at c.in_err-put_each.ensures.puts) rest)
+    let rest = goes_on (program_of c.args.program.now) c.requires.runs.0 c.args.machine c.requires.meets c.requires.runs.1
+    (λ going. c.requires.whole) in
+    rw p.1 (front-cut (c.args.text.now ++ trace_mark) (program_of c.args.program.now) _ _ _ p.0
+    (rw c.as_slice.ensures at c.in_err-put_each.ensures.puts) rest)
 
 pub returns-clause-puts : goal.returns-clause-puts
-returns-clause-puts g c = behind-run (c.args.text.now ++ trace_mark) (program_of c.args.program.now) _ _ _ _ _ (rw c.as_slice.ensures at c.in_ok-put_each.ensures.puts) c.put_trace.ensures.puts
+returns-clause-puts g c = behind-run (c.args.text.now ++ trace_mark) (program_of c.args.program.now) _ _ _ _ _
+    (rw c.as_slice.ensures at c.in_ok-put_each.ensures.puts) c.put_trace.ensures.puts

@@ -18,7 +18,8 @@ pub returns-in-Err : goal.returns-in-Err
 returns-in-Err g c = λ design arrivals.
     let d = c.args.texts.now.design.items in
     let M : List ℕ → Type 0 = λ z. IsMade (λ (v : Vec ℕ Global). v.items) (IsTextFor z) (RefusesDesign z) (Err c.in-Err.why) in
-    let reason = made-halted (λ (v : Vec ℕ Global). v.items) (IsTextFor d) (RefusesDesign d) c.in-Err.why (subst M c.deref.ensures.value c.in-Err.ensures) in
+    let reason = made-halted (λ (v : Vec ℕ Global). v.items) (IsTextFor d) (RefusesDesign d) c.in-Err.why
+    (subst M c.deref.ensures.value c.in-Err.ensures) in
     streams-halted (verifies design arrivals) (texts_of c.args.texts.now) c.design_halt.result _ _ _ _ _ _ _ _ _
     (rw c.design_halt.ensures (design-halted d c.args.texts.now.arrivals.items c.in-Err.why reason)) refl c.tell_halt.ensures
 
@@ -36,18 +37,24 @@ pub returns-in-Err-read_arrivals : goal.returns-in-Err-read_arrivals
 returns-in-Err-read_arrivals g c = λ design arrivals.
     let S : List ℕ → Type 0 = λ z. Says z (program_of c.in-Ok-read_made.program) (Err c.in-Err-read_arrivals.fault) in
     streams-halted (verifies design arrivals) (texts_of c.args.texts.now) c.arrivals_halt.result _ _ _ _ _ _ _ _ _
-    (rw c.arrivals_halt.ensures (arrivals-unsaid c.args.texts.now.design.items c.args.texts.now.arrivals.items c.in-Ok.text.items (program_of c.in-Ok-read_made.program) c.in-Err-read_arrivals.fault
-    (rw c.deref.ensures.value at c.in-Ok.ensures) (rw c.deref-2.ensures.value at c.in-Ok-read_made.ensures.says) (subst S c.deref-3.ensures.value c.in-Err-read_arrivals.ensures.says)))
+    (rw c.arrivals_halt.ensures (arrivals-unsaid c.args.texts.now.design.items c.args.texts.now.arrivals.items c.in-Ok.text.items
+    (program_of c.in-Ok-read_made.program) c.in-Err-read_arrivals.fault
+    (rw c.deref.ensures.value at c.in-Ok.ensures) (rw c.deref-2.ensures.value at c.in-Ok-read_made.ensures.says)
+    (subst S c.deref-3.ensures.value c.in-Err-read_arrivals.ensures.says)))
     refl c.tell_halt-in-Err-read_arrivals.ensures
 
 pub new-requires : goal.new-requires
 new-requires g c =
-    texts-replayable c.in-Ok.text.items c.args.texts.now.arrivals.items (program_of c.in-Ok-read_made.program) _ (rw c.deref-2.ensures.value at c.in-Ok-read_made.ensures.says)
-    (said-arrivals c.args.texts.now.arrivals.items (program_of c.in-Ok-read_made.program) _ (rw c.deref-3.ensures.value at c.in-Ok-read_arrivals.ensures.says) (rw c.deref-3.ensures.value at c.in-Ok-read_arrivals.ensures.only))
+    texts-replayable c.in-Ok.text.items c.args.texts.now.arrivals.items (program_of c.in-Ok-read_made.program) _
+    (rw c.deref-2.ensures.value at c.in-Ok-read_made.ensures.says)
+    (said-arrivals c.args.texts.now.arrivals.items (program_of c.in-Ok-read_made.program) _
+    (rw c.deref-3.ensures.value at c.in-Ok-read_arrivals.ensures.says) (rw c.deref-3.ensures.value at c.in-Ok-read_arrivals.ensures.only))
 
 pub returns-in-Ok-new : goal.returns-in-Ok-new
 returns-in-Ok-new g c = λ design arrivals.
-    streams-verified design arrivals (texts_of c.args.texts.now) c.in-Ok.text.items (program_of c.in-Ok-read_made.program) _ (running_of c.in-Ok-new.machine) c.put_verified.result _ _ _ _ _ _ _ _ _
+    streams-verified design arrivals (texts_of c.args.texts.now) c.in-Ok.text.items (program_of c.in-Ok-read_made.program) _
+    (running_of c.in-Ok-new.machine) c.put_verified.result _ _ _ _ _ _ _ _ _
     (rw c.deref.ensures.value at c.in-Ok.ensures) (rw c.deref-2.ensures.value at c.in-Ok-read_made.ensures.says)
-    (said-arrivals c.args.texts.now.arrivals.items (program_of c.in-Ok-read_made.program) _ (rw c.deref-3.ensures.value at c.in-Ok-read_arrivals.ensures.says) (rw c.deref-3.ensures.value at c.in-Ok-read_arrivals.ensures.only))
+    (said-arrivals c.args.texts.now.arrivals.items (program_of c.in-Ok-read_made.program) _
+    (rw c.deref-3.ensures.value at c.in-Ok-read_arrivals.ensures.says) (rw c.deref-3.ensures.value at c.in-Ok-read_arrivals.ensures.only))
     c.in-Ok-new.ensures.opens (rw c.deref-in-Ok-new.ensures.value at c.put_verified.ensures.puts) c.put_verified.ensures.cause c.tell_ending.ensures

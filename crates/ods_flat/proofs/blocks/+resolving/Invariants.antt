@@ -13,4 +13,5 @@ invariant-resolved_arms-arms l =
 -- the statements so far
 abbrev pub invariant-resolved_block-stmts : goal.invariant-resolved_block-stmts
 invariant-resolved_block-stmts l =
-    map statement_of l.stmts.items ≡ map (renamed_statement (resolve (design_of l.links.design.now))) (map statement_of (take l.stmt-index l.stmt-items))
+    map statement_of l.stmts.items ≡ map (renamed_statement (resolve (design_of l.links.design.now)))
+    (map statement_of (take l.stmt-index l.stmt-items))

@@ -10,4 +10,5 @@ use Rattle.ods_flat.proofs.entries.bodies_of.Given as goal
 -- the bodies so far, and those that are left
 abbrev pub invariant-bodies : goal.invariant-bodies
 invariant-bodies l =
-    (op : Name) → option_or (option_map (λ b. body_of b.now) (at l.found (record { object = l.object; op = op }))) (body_named op (map body_of (drop l.body-index l.bodies))) ≡ body_named op (map body_of l.bodies)
+    (op : Name) → option_or (option_map (λ b. body_of b.now) (at l.found (record { object = l.object; op = op })))
+    (body_named op (map body_of (drop l.body-index l.bodies))) ≡ body_named op (map body_of l.bodies)

@@ -9,5 +9,7 @@ use Rattle.ods_flat.proofs.entries.operations_by.Given as goal
 -- the operations so far, and those that are left
 abbrev pub invariant-provides : goal.invariant-provides
 invariant-provides l =
-    map operation_of l.found.items ++ operations_among (design_of l.links.design.now) (λ op. option_map (λ b. body_of b.now) (at l.bodies (record { object = l.object; op = op }))) (map provided_of (drop l.provided-index l.provides))
-    ≡ operations_among (design_of l.links.design.now) (λ op. option_map (λ b. body_of b.now) (at l.bodies (record { object = l.object; op = op }))) (map provided_of l.provides)
+    map operation_of l.found.items ++ operations_among (design_of l.links.design.now)
+    (λ op. option_map (λ b. body_of b.now) (at l.bodies (record { object = l.object; op = op }))) (map provided_of (drop l.provided-index l.provides))
+    ≡ operations_among (design_of l.links.design.now) (λ op. option_map (λ b. body_of b.now) (at l.bodies (record { object = l.object; op = op })))
+    (map provided_of l.provides)

@@ -1,21 +1,21 @@
 -- The priorities and ceilings of a design that meets the rules are at most 60 as they are written.
-use Rattle.std.proofs.Common.{◌≡◌, ℕ, suc, ◌+◌, ◌-◌, ◌≤◌, ◌<◌, Bool, true, false, not, ◌&&◌, List, [], ◌∷◌, length, max, nat_le, Option, Some}
-use Rattle.std.proofs.Common.{None, option_and_then, option_to_list, refl, sym, ap, subst, ◌∙◌, arith}
+use Rattle.std.proofs.Common.{◌≡◌, ℕ, ◌+◌, ◌-◌, ◌≤◌, Bool, true, false, not, ◌&&◌, List, [], ◌∷◌, length, max, nat_le, Option, Some}
+use Rattle.std.proofs.Common.{None, option_to_list, refl, sym, ap, ◌∙◌, arith}
 use Rattle.std.proofs.lemmas.Bool.{and_parts, leb-true}
 use Rattle.ods_tree.specs.Designs.{Design}
 use Rattle.ods_tree.specs.Walk.{only_if}
 use Rattle.ods_tree.specs.Ticks.{first_priority, least_of, stated_priorities}
 use Rattle.ods_tree.specs.Flats.{Timing, Cyclic, Sporadic, Thread, Guarded}
 use Rattle.ods_tree.specs.Flattening.{threads, flat}
-use Rattle.analysis.specs.Ceilings.{ceiling, control_ceiling, ranks}
+use Rattle.analysis.specs.Ceilings.{ceiling, control_ceiling}
 use Rattle.analysis.specs.Priorities.{priorities_of}
-use Rattle.design_rules.specs.Broken.{Broken, V17Priorities}
+use Rattle.design_rules.specs.Broken.{V17Priorities}
 use Rattle.design_rules.specs.Versions.{is_range, bad_priorities}
 use Rattle.design_rules.specs.Rules.{AreMet}
 use Rattle.design_bounds.proofs.RankLaws.{each-made}
 use Rattle.design_programs.proofs.RankRanges.{priority-range, ceiling-range, priorities-stated, room}
 use Rattle.program_calls.proofs.Lists.{each-in}
-use Rattle.bridge.specs.Makes.{AreInRange, HasRoom}
+use Rattle.bridge.specs.Makes.{HasRoom}
 
 -- priorities that are stated as they must begin at 1 at least
 range-first : (r : Option (ℕ × ℕ)) → bad_priorities r ≡ [] → 1 ≤ least_of r

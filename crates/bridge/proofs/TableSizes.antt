@@ -1,5 +1,5 @@
 -- Rankings and tables of a flat design have an entry for each of its threads and objects, and the places of a table are those of threads.
-use Rattle.std.proofs.Common.{◌≡◌, ℕ, zero, suc, ◌+◌, ◌<◌, List, [], ◌∷◌, length, map, get_or, sym, ap, subst, ◌∙◌, arith}
+use Rattle.std.proofs.Common.{◌≡◌, ℕ, zero, suc, ◌<◌, List, [], ◌∷◌, length, sym, ap, subst, ◌∙◌, arith}
 use Rattle.std.specs.Prelude.{slice_index, EachIndex}
 use Rattle.std.proofs.lemmas.List.{length-map}
 use Rattle.seq_tree.specs.Lists.{Each}

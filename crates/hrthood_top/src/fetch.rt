@@ -1,4 +1,4 @@
-ghost use Rattle.std.specs.Prelude.{◌≡◌, ◌≤◌, List, ℕ, map};
+ghost use Rattle.std.specs.Prelude.{◌≤◌, map};
 ghost use Rattle.hrthood_top.specs.Fetches.{Fetches, FetchesAll, AreApart, file_tree, texts_of};
 
 use crate::file_kind::{FileKind, limit_of};

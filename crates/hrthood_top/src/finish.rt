@@ -1,4 +1,4 @@
-ghost use Rattle.std.specs.Prelude.{◌≡◌, List, ℕ};
+ghost use Rattle.std.specs.Prelude.{◌≡◌};
 ghost use Rattle.hrthood_top.specs.Messages.{message_line};
 ghost use Rattle.hrthood_top.specs.Tells.{Tells};
 ghost use Rattle.hrthood_top.specs.Writing.{Finishes, TellsEnding, TellsHalt, TellsStop, TellsWritten};

@@ -1,6 +1,5 @@
-ghost use Rattle.std.specs.Prelude.{◌≡◌, ◌↔◌, None, Some, map, string_bytes, ℕ, List};
+ghost use Rattle.std.specs.Prelude.{◌≡◌, ◌↔◌, None, map, string_bytes};
 ghost use Rattle.hrthood_top.specs.Words.{command_of};
-ghost use Rattle.hrthood_top.specs.Commands.{command_tree};
 ghost use Rattle.hrthood_top.specs.Ends.{Ends, Completes, outside};
 ghost use Rattle.hrthood_top.specs.Samples.{EndsSample};
 

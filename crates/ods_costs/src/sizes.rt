@@ -1,4 +1,4 @@
-ghost use Rattle.std.specs.Prelude.{◌≡◌, ◌<◌, ◌≤◌, ◌*◌, ◌&&◌, flat_map, length, map};
+ghost use Rattle.std.specs.Prelude.{◌≡◌, ◌<◌, ◌≤◌, ◌&&◌, flat_map, length, map};
 ghost use Rattle.seq_tree.specs.Trees.{block_of};
 ghost use Rattle.ods_tree.specs.Ticks.{stated_priorities};
 ghost use Rattle.ods_tree.specs.Trees.{body_of, design_of};

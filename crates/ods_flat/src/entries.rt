@@ -2,7 +2,7 @@ ghost use Rattle.std.specs.Prelude.{◌≡◌, ◌∷◌, ◌++◌, [], IfOk, On
 ghost use Rattle.seq_tree.specs.Names.{Name as NameTree};
 ghost use Rattle.seq_tree.specs.Trees.{operation_of, signature_of};
 ghost use Rattle.seq_cost.specs.Tables.{at};
-ghost use Rattle.ods_tree.specs.Flattening.{body_named, is_passive, is_protected, operation_by, operations, thread_by};
+ghost use Rattle.ods_tree.specs.Flattening.{body_named, operation_by, operations, thread_by};
 ghost use Rattle.ods_tree.specs.Trees.{body_of, design_of, guarded_of, library_of, provided_of, thread_of};
 ghost use Rattle.ods_index.specs.Nodes.{node_object};
 ghost use Rattle.ods_flat.specs.Terminals.{guarded_among, guarded_by, libraries_among, library_by, operations_among, threads_among};

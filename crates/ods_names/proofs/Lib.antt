@@ -1,8 +1,10 @@
 mod RuleExamples
 mod NeedExamples
 mod ClashExamples
+pub mod ChildSteps
 pub mod CountSteps
 pub mod KeySteps
+pub mod LoopSteps
 pub mod MentionSteps
 pub mod NameSteps
 pub mod NeedSteps

@@ -1,7 +1,7 @@
 -- What is known in a body, step by step, and what is told of its fault.
-use Rattle.std.proofs.Common.{◌≡◌, ℕ, ◌+◌, ◌<◌, ◌≤◌, Bool, true, false, List, [], ◌∷◌, ◌++◌, length, drop, map, filter, filter_map, flat_map, Option, Some, None, option_map, option_and_then, option_to_list, cond, Err, refl, ap, sym, subst, ◌∙◌, append_assoc}
-use Rattle.std.proofs.Math.ListN.{get_or, drop_of_length-le}
-use Rattle.std.proofs.lemmas.List.{append-nil}
+use Rattle.std.proofs.Common.{◌≡◌, ℕ, ◌+◌, ◌<◌, List, ◌∷◌, ◌++◌, length, drop, map, filter_map, flat_map, Option, Some}
+use Rattle.std.proofs.Common.{None, option_map, option_and_then, option_to_list, Err, refl, ap, sym, subst, ◌∙◌, append_assoc}
+use Rattle.std.proofs.Math.ListN.{get_or}
 use Rattle.std.specs.List.{cons_option}
 use Rattle.seq_tree.specs.Names.{Name}
 use Rattle.seq_tree.specs.Operations.{Offer}

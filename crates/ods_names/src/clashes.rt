@@ -1,4 +1,4 @@
-ghost use Rattle.std.specs.Prelude.{◌≡◌, ◌||◌, ℕ, List, [], ◌∷◌, Some, OnOk};
+ghost use Rattle.std.specs.Prelude.{◌≡◌, ◌||◌, ℕ, List, [], ◌∷◌, Some, OnOk, map};
 ghost use Rattle.seq_tree.specs.Names.{Name as NameTree, is_named};
 ghost use Rattle.ods_tree.specs.Trees.{design_of};
 ghost use Rattle.ods_tree.specs.Walk.{only_if};
@@ -58,15 +58,27 @@ fn judge_one<'a>(alloc: Global, taken: &mut Taken<'a>, mention: &Mention<'a>) ->
     }
 }
 
+/// Tells the first of names that an earlier thing has, and adds those before it.
+fn judge_each<'a>(
+    alloc: Global,
+    taken: &mut Taken<'a>,
+    mentions: &[Mention<'a>],
+) -> Result<(), Broken>
+    ensures { (requests : ℕ → List NameTree) → Holds requests taken.old []
+        → Tells result (head_of (clashes_after [] (map (mention_of requests) mentions.entry.now))) }
+{
+    'mentions: for mention in mentions {
+        judge_one(alloc, taken, mention)?;
+    }
+    Ok(())
+}
+
 /// Tells the first of names that an earlier thing has.
 fn judge_all<'a>(alloc: Global, index: &Index<'a>, mentions: &[Mention<'a>]) -> Result<(), Broken>
     ensures { Tells result (head_of (clashes_after [] (gathered index.entry.now mentions.entry.now))) }
 {
     let mut taken = Taken::new(alloc, index)?;
-    'mentions: for mention in mentions {
-        judge_one(alloc, &mut taken, mention)?;
-    }
-    Ok(())
+    judge_each(alloc, &mut taken, mentions)
 }
 
 /// Tells the first name that an earlier thing has, where the two may not share it.

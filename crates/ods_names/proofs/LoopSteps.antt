@@ -10,16 +10,7 @@ use Rattle.ods_index.specs.Judging.{head_of}
 use Rattle.ods_index.proofs.TellSteps.{head_later}
 use Rattle.ods_names.proofs.NeedSteps.{drop_step}
 
--- what an item gives is added, and what is left is that of the items behind it
-pub added_step : {A B : Type 0} (G : List A → List B) (mine : List B) (xs : List A) (i : ℕ) (x : A) (before new all : List B)
-    → ((ys : List A) → G (x ∷ ys) ≡ mine ++ G ys) → i < length xs → x ≡ get_or xs i x → new ≡ before ++ mine → before ++ G (drop i xs) ≡ all
-    → new ++ G (drop (i + 1) xs) ≡ all
-added_step G mine xs i x before new all split inside at made was =
-    let rest = drop (i + 1) xs in
-    ap (λ ys. ys ++ G rest) made ∙ append_assoc before mine (G rest) ∙ ap (λ ys. before ++ ys) (sym (split rest))
-    ∙ ap (λ ys. before ++ G ys) (sym (drop_step xs i x inside at)) ∙ was
-
--- the same, where what an item gives depends on its place
+-- what an item gives, which depends on its place, is added, and what is left is that of the items behind it
 pub counted_step : {A B C : Type 0} (g : ℕ × B → List C) (v : A → B) (xs : List A) (i : ℕ) (x : A) (before new all : List C)
     → i < length xs → x ≡ get_or xs i x → new ≡ before ++ g (i, v x) → before ++ flat_map g (enumerate_from i (map v (drop i xs))) ≡ all
     → new ++ flat_map g (enumerate_from (i + 1) (map v (drop (i + 1) xs))) ≡ all

@@ -5,7 +5,6 @@ mod StartExamples
 mod StartingExamples
 pub mod CallRings
 pub mod NamePlaces
-pub mod NamedRings
 pub mod ObjectRings
 pub mod LoopSteps
 pub mod KeptCalls

@@ -1,5 +1,6 @@
 -- A loop that adds what each item gives, or that tells what is told of the first: one step of it.
-use Rattle.std.proofs.Common.{◌≡◌, ℕ, ◌+◌, ◌<◌, Bool, true, false, cond, List, [], ◌∷◌, ◌++◌, length, drop, map, filter, flat_map, Option, Some, None, Err, get_or, refl, ap, sym, subst, ◌∙◌, append_assoc}
+use Rattle.std.proofs.Common.{◌≡◌, ℕ, ◌+◌, ◌<◌, Bool, true, false, cond, List, [], ◌∷◌, ◌++◌, length, drop, map, filter, flat_map, Option, Some}
+use Rattle.std.proofs.Common.{None, Err, get_or, refl, ap, sym, subst, ◌∙◌}
 use Rattle.std.specs.Prelude.{filter_map}
 use Rattle.std.specs.List.{cons_option}
 use Rattle.seq_cost.proofs.Steps.{drop_step}
@@ -7,15 +8,7 @@ use Rattle.design_rules.specs.Broken.{Broken}
 use Rattle.ods_index.specs.Judging.{IsTold, Tells, head_of}
 use Rattle.ods_index.specs.Told.{told_of, is_memory}
 use Rattle.ods_index.specs.declared.broken.Broken as code
-
--- what an item gives is added, and what is left is that of the items behind it
-pub added_step : {A B : Type 0} (G : List A → List B) (mine : List B) (xs : List A) (i : ℕ) (x : A) (before new all : List B)
-    → ((ys : List A) → G (x ∷ ys) ≡ mine ++ G ys) → i < length xs → x ≡ get_or xs i x → new ≡ before ++ mine → before ++ G (drop i xs) ≡ all
-    → new ++ G (drop (i + 1) xs) ≡ all
-added_step G mine xs i x before new all split inside at made was =
-    let rest = drop (i + 1) xs in
-    ap (λ ys. ys ++ G rest) made ∙ append_assoc before mine (G rest) ∙ ap (λ ys. before ++ ys) (sym (split rest))
-    ∙ ap (λ ys. before ++ G ys) (sym (drop_step xs i x inside at)) ∙ was
+use Rattle.ods_index.proofs.LoopSteps.{flat_filter_first}
 
 -- what passes a test, and what it leads to, item by item
 pub filter_first : {A : Type 0} (p : A → Bool) (x : A) (ys : List A) → filter p (x ∷ ys) ≡ filter p (x ∷ []) ++ filter p ys
@@ -25,26 +18,20 @@ filter_first {A} p x ys = by (p x)
     by true = refl
     by false = refl
 
-pub map_filter_first : {A B : Type 0} (f : A → B) (p : A → Bool) (x : A) (ys : List A) → map f (filter p (x ∷ ys)) ≡ map f (filter p (x ∷ [])) ++ map f (filter p ys)
+pub map_filter_first : {A B : Type 0} (f : A → B) (p : A → Bool) (x : A) (ys : List A)
+    → map f (filter p (x ∷ ys)) ≡ map f (filter p (x ∷ [])) ++ map f (filter p ys)
 map_filter_first {A} f p x ys = by (p x)
   where
     by : (b : Bool) → map f (cond b (x ∷ filter p ys) (filter p ys)) ≡ map f (cond b (x ∷ []) []) ++ map f (filter p ys)
     by true = refl
     by false = refl
 
-pub flat_filter_first : {A B : Type 0} (f : A → List B) (p : A → Bool) (x : A) (ys : List A)
-    → flat_map f (filter p (x ∷ ys)) ≡ flat_map f (filter p (x ∷ [])) ++ flat_map f (filter p ys)
-flat_filter_first {A} f p x ys = by (p x)
-  where
-    by : (b : Bool) → flat_map f (cond b (x ∷ filter p ys) (filter p ys)) ≡ flat_map f (cond b (x ∷ []) []) ++ flat_map f (filter p ys)
-    by true = sym (append_assoc (f x) [] (flat_map f (filter p ys)))
-    by false = refl
-
 pub map_filters_first : {A B : Type 0} (f : A → B) (p q : A → Bool) (x : A) (ys : List A)
     → map f (filter p (filter q (x ∷ ys))) ≡ map f (filter p (filter q (x ∷ []))) ++ map f (filter p (filter q ys))
 map_filters_first {A} f p q x ys = by (q x)
   where
-    by : (b : Bool) → map f (filter p (cond b (x ∷ filter q ys) (filter q ys))) ≡ map f (filter p (cond b (x ∷ []) [])) ++ map f (filter p (filter q ys))
+    by : (b : Bool) → map f (filter p (cond b (x ∷ filter q ys) (filter q ys)))
+        ≡ map f (filter p (cond b (x ∷ []) [])) ++ map f (filter p (filter q ys))
     by true = map_filter_first f p x (filter q ys)
     by false = refl
 
@@ -52,7 +39,8 @@ pub flat_filters_first : {A B : Type 0} (f : A → List B) (p q : A → Bool) (x
     → flat_map f (filter p (filter q (x ∷ ys))) ≡ flat_map f (filter p (filter q (x ∷ []))) ++ flat_map f (filter p (filter q ys))
 flat_filters_first {A} f p q x ys = by (q x)
   where
-    by : (b : Bool) → flat_map f (filter p (cond b (x ∷ filter q ys) (filter q ys))) ≡ flat_map f (filter p (cond b (x ∷ []) [])) ++ flat_map f (filter p (filter q ys))
+    by : (b : Bool) → flat_map f (filter p (cond b (x ∷ filter q ys) (filter q ys)))
+        ≡ flat_map f (filter p (cond b (x ∷ []) [])) ++ flat_map f (filter p (filter q ys))
     by true = flat_filter_first f p x (filter q ys)
     by false = refl
 
@@ -65,7 +53,8 @@ placed_one {B} {C} {D} pair place x ys = by (place x) (filter_map place ys)
     by (Some d) ds = refl
 
 pub placed_first : {A B C D : Type 0} (pair : D → C) (place : B → Option D) (f : A → B) (p : A → Bool) (x : A) (ys : List A)
-    → map pair (filter_map place (map f (filter p (x ∷ ys)))) ≡ map pair (filter_map place (map f (filter p (x ∷ [])))) ++ map pair (filter_map place (map f (filter p ys)))
+    → map pair (filter_map place (map f (filter p (x ∷ ys)))) ≡ map pair (filter_map place (map f (filter p (x ∷ []))))
+    ++ map pair (filter_map place (map f (filter p ys)))
 placed_first {A} pair place f p x ys = by (p x)
   where
     by : (b : Bool) → map pair (filter_map place (map f (cond b (x ∷ filter p ys) (filter p ys))))
@@ -74,7 +63,8 @@ placed_first {A} pair place f p x ys = by (p x)
     by false = refl
 
 -- nothing is told of an item, so that it is up to those behind it
-pub passed_step : {A O : Type 0} (f : O → Option Broken) (g : A → O) (xs : List A) (i : ℕ) (x : A) (all : Option Broken) → i < length xs → x ≡ get_or xs i x → f (g x) ≡ None
+pub passed_step : {A O : Type 0} (f : O → Option Broken) (g : A → O) (xs : List A) (i : ℕ) (x : A) (all : Option Broken) → i < length xs
+    → x ≡ get_or xs i x → f (g x) ≡ None
     → head_of (filter_map f (map g (drop i xs))) ≡ all → head_of (filter_map f (map g (drop (i + 1) xs))) ≡ all
 passed_step f g xs i x all inside at none was =
     ap (λ o. head_of (cons_option o (filter_map f (map g (drop (i + 1) xs))))) (sym none)
@@ -86,7 +76,8 @@ told_of_none false None wanted h = h
 told_of_none false (Some b) wanted h = absurd (cc)
 
 -- what is told of an item is told of all
-pub told_step : {A O : Type 0} (f : O → Option Broken) (g : A → O) (xs : List A) (i : ℕ) (x : A) (all : Option Broken) (e : code.Broken) → i < length xs → x ≡ get_or xs i x
+pub told_step : {A O : Type 0} (f : O → Option Broken) (g : A → O) (xs : List A) (i : ℕ) (x : A) (all : Option Broken) (e : code.Broken)
+    → i < length xs → x ≡ get_or xs i x
     → head_of (filter_map f (map g (drop i xs))) ≡ all → Tells (Err e) (f (g x)) → Tells (Err e) all
 told_step f g xs i x all e inside at was h =
     let rest = filter_map f (map g (drop (i + 1) xs)) in

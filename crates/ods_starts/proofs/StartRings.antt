@@ -24,7 +24,7 @@ use Rattle.ods_index.specs.Tables.{place_from, place_in}
 use Rattle.ods_starts.specs.declared.start_rings.ThreadPlaces.{ThreadPlaces}
 use Rattle.ods_starts.proofs.CallRings.{In, any-in, same-is, same-self, some-in}
 use Rattle.ods_starts.proofs.NamePlaces.{has-place, name-at, names-of, names-same, none-later, object-at, place-of}
-use Rattle.ods_starts.proofs.NamedRings.{ring_of_names, ring_of_places}
+use Rattle.rings.proofs.NamedRings.{ring_of_names, ring_of_places}
 use Rattle.rings.specs.Graphs.{is_step}
 use Rattle.rings.specs.Reached.{Goes, IsFirstOnRing}
 use Rattle.rings.proofs.Reaching.{and-from, both}

@@ -3,7 +3,8 @@ use Rattle.ods_tree.specs.Walk.{is_terminal}
 use Rattle.design_rules.specs.Lookups.{has_thread}
 use Rattle.ods_index.specs.Walking.{object_of, standing_of}
 use Rattle.ods_index.specs.declared.walk.Standing.{Standing}
-use Rattle.ods_starts.proofs.LoopSteps.{added_step, map_filters_first}
+use Rattle.ods_index.proofs.LoopSteps.{added_step}
+use Rattle.ods_starts.proofs.LoopSteps.{map_filters_first}
 use Rattle.ods_starts.proofs.starts.threads_of.Goals as goal
 
 pub objects-preserved : goal.objects-preserved

@@ -137,11 +137,10 @@ const UNTAKEN: &[&str] = &[
 
 #[test]
 fn designs_are_analysed(rt: HostRuntime) -> Result<(), Fail> {
-    for table in [BOUNDS, STARTS, DESIGNS] {
-        run_table(&rt, &rt, KEPT, table)?;
-    }
-    for table in [MISSES, UNTAKEN] {
-        run_table(&rt, &rt, REFUSED, table)?;
-    }
-    Ok(())
+    let alloc = rt.alloc();
+    run_table(&rt, alloc, KEPT, BOUNDS)?;
+    run_table(&rt, alloc, KEPT, STARTS)?;
+    run_table(&rt, alloc, KEPT, DESIGNS)?;
+    run_table(&rt, alloc, REFUSED, MISSES)?;
+    run_table(&rt, alloc, REFUSED, UNTAKEN)
 }

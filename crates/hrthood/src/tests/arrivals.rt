@@ -1,7 +1,7 @@
 //! Replays under arrivals: requests from outside, durations and horizons, and what is refused.
 
 use super::replays::{REFUSED, REPLAYED};
-use super::rows::{Outcome, lines, replay_under, row_text, run_table};
+use super::rows::{check_replay, lines, row_text, run_table};
 use super::texts::ada_text;
 use std::test::Fail;
 
@@ -278,24 +278,26 @@ const UNREAD: &[&str] = &[
 
 #[test]
 fn arrivals_are_kept(rt: HostRuntime) -> Result<(), Fail> {
-    run_table(&rt, &rt, REPLAYED, REQUESTS)?;
-    run_table(&rt, &rt, REPLAYED, DURATIONS)
+    let alloc = rt.alloc();
+    run_table(&rt, alloc, REPLAYED, REQUESTS)?;
+    run_table(&rt, alloc, REPLAYED, DURATIONS)
 }
 
 #[test]
 fn arrivals_are_refused(rt: HostRuntime) -> Result<(), Fail> {
-    run_table(&rt, &rt, REFUSED, REFUSED_ITEMS)?;
-    run_table(&rt, &rt, REFUSED, UNREAD)
+    let alloc = rt.alloc();
+    run_table(&rt, alloc, REFUSED, REFUSED_ITEMS)?;
+    run_table(&rt, alloc, REFUSED, UNREAD)
 }
 
 /// A processor that counts each tick does not end this in time: it is 1,000,000,000,000 of them.
 #[test]
 fn idle_ticks_take_no_time(rt: HostRuntime) -> Result<(), Fail> {
-    let ada = ada_text(&rt, &row_text(&rt, LONGEST, REPLAYED)?)?;
-    let wanted = lines(&rt, LONGEST, "out")?;
+    let alloc = rt.alloc();
+    let ada = ada_text(alloc, &row_text(alloc, LONGEST, REPLAYED)?)?;
+    let wanted = lines(alloc, LONGEST, "out")?;
     for _ in 0..1000_u32 {
-        let Outcome { out, .. } = replay_under(&rt, &ada, b"UNTIL 1000000000;")?;
-        assert_eq!(rt; out.bytes(), wanted.as_slice());
+        check_replay(&rt, alloc, &ada, b"UNTIL 1000000000;", &wanted, LONGEST)?;
     }
     Ok(())
 }

@@ -1,8 +1,14 @@
 //! Each token of an Ada text, of a design and of an arrivals file, cut, doubled and replaced.
+//!
+//! A row says what is done to each: the `kind` of the text, as `run_file` has them; the `file` that its refusals name; its tokens by the
+//! name of the text in `tokens`; the places, from 0, of the `first` token that is changed and of the `end`; and `out`, which is written
+//! where it is taken. Then it has the exceptions, each a line: what is done, the place of the token, and `taken`, or the line that
+//! refuses the text, or the number of the line of the fault, where that isn't told at the first token that differs.
 
-use super::rows::{Outcome, number, replay_under, row_text, run_design};
-use super::texts::ada_text;
-use hrthood_top::Status;
+use super::rows::{check_told, lines, number, run_file, text};
+use super::units::cut;
+use std::alloc::Global;
+use std::process::Abort;
 use std::test::Fail;
 
 /// The tokens of a text with a passive unit and a task, a space behind each.
@@ -21,13 +27,37 @@ pub const ADA: &str =
     ; for i in word range 1 .. 4 loop exit when i = 4 ; put ( sum + i ) ; end loop ; activation_end ; end loop ; \
     end hrt_thread ; end a ; end d ; with d ; procedure hrt_main is begin null ; end hrt_main ; ";
 
-/// What a replay of that text tells up to tick 20: three turns, each with an output, and a fourth that leaves the loop.
-/// A turn, a test, an output and the end take a tick each.
-const ADA_TRACE: &str =
-    "0 release a\n3 put a 1\n6 put a 2\n9 put a 3\n12 end a used 12\n20 horizon\n";
+/// That text. A replay has three turns up to tick 20, each with an output, and a fourth that leaves the loop: a turn, a test, an output
+/// and the end take a tick each. It is a program still without the `else`, where two assignments follow each other.
+const ADA_ROW: &str = "kind: ada
+    file: ada
+    tokens: @changed ada
+    first: 0
+    end: 331
+    out: 0 release a
+    out: 3 put a 1
+    out: 6 put a 2
+    out: 9 put a 3
+    out: 12 end a used 12
+    out: 20 horizon
+    cut 218 taken
+    cut 144 146
+    replaced 134 136
+    replaced 144 146
+    cut 198 200
+    cut 201 205
+    cut 205 208
+    doubled 201 210
+    replaced 206 208
+    cut 209 211
+    cut 223 225
+    cut 226 228
+    cut 280 282
+    replaced 292 294
+    doubled 296 303";
 
 /// The tokens of a text with units of every kind, a space behind each.
-const UNITS: &str =
+pub const UNITS: &str =
     "pragma task_dispatching_policy ( fifo_within_priorities ) ; pragma locking_policy ( ceiling_locking ) ; with ada \
     . real_time ; package hrt is type word is mod 2 ** 32 ; subtype moment is ada . real_time . time ; assign_cost : \
     constant := 1 ; test_cost : constant := 1 ; turn_cost : constant := 1 ; call_cost : constant := 2 ; null_cost : \
@@ -61,94 +91,22 @@ const UNITS: &str =
     hrt_thread ; end a ; package body p is procedure f ( v : in word ) is begin put ( v ) ; end f ; end p ; end d ; \
     with d ; procedure hrt_main is begin null ; end hrt_main ; ";
 
-/// What a replay of that text tells up to tick 20. The call and the request of `a` take four ticks; then `s` puts in 4 and ends with 5, and
-/// `a` calls in 6 and 7, puts in 8 and ends with 9. Nothing requests `t`.
-const UNITS_TRACE: &str =
-    "0 release a\n4 request a s 7\n4 release s 7\n5 put s 7\n6 end s used 2\n9 put a 1\n10 end a used 8\n20 horizon\n";
-
-/// The tokens of a design with an object of each kind, links, units of time and a range of priorities, a space behind each.
-pub const DESIGN: &str =
-    "design d version 2 is tick = 1 ms ; priorities 5 .. 9 ; costs assign = 1 ; test = 1 ; turn = 1 ; call = 2 ; \
-    null = 1 ; put = 1 ; finish = 1 ; end costs ; object r is active provides set ( v : in word ) paer ; \
-    objects object c is cyclic attributes period = 100 ms ; deadline = 50 ; thread_budget = 1000 ; requires p . \
-    get ; s . start ; data x : word := 0 ; thread p . get ( 1 , x ) ; if x = 4 then s . start ( x ) ; elsif x > \
-    2 then put ( x ) ; else null ; end if ; for i in word range 1 .. 3 loop exit when i = 2 ; work ( 2 ) ; end \
-    loop ; x := ( x + 1 ) * 2 ; end thread ; end c ; object q is protected provides set ( v : in word ) paer ; \
-    data level : word := 0 ; operation set is begin level := v ; end set ; end q ; object p is passive provides \
-    get ( v : in word ; w : out word ) ; operation get is n : word := 1 ; begin w := v + n ; end get ; end p ; \
-    object s is sporadic attributes separation = 100 ; deadline = 60 ; thread_budget = 500 ; provides start ( v \
-    : in word ) aser ; thread put ( v ) ; end thread ; end s ; implements set by q . set ; end r ; end d ; ";
-
-/// What `check` tells of that design.
-const DESIGN_TAKEN: &str = "ok d objects 5 threads 2\n";
-
-/// The tokens of an arrivals file, a space behind each.
-const ARRIVALS: &str = "UNTIL 20 ; WORK a 1 , 2 ; AT 6 s 7 ; ";
-
-/// What a replay of a task with a sporadic unit tells under them. The first activation of `a` takes one tick of its statement and that of
-/// its end, the second two and one; that of `s`, which goes before it, takes four and one.
-const ARRIVALS_TRACE: &str =
-    "0 release a\n2 end a used 2\n6 arrive s 7\n6 release s 7\n10 release a\n11 end s used 5\n14 end a used 3\n\
-    20 release a\n20 horizon\n";
-
-/// What is done to one token.
-#[derive(Clone, Copy, Debug, PartialEq, Eq)]
-pub enum Change {
-    Cut,
-    Doubled,
-    /// A semicolon stands in its place.
-    Replaced,
-}
-
-/// The text of tokens, one a line, with the token at a place changed.
-fn changed_text(
-    rt: &HostRuntime,
-    tokens: &str,
-    change: Change,
-    place: usize,
-) -> Result<Vec<u8>, Fail> {
-    let mut text = Vec::new(rt.alloc());
-    let mut token = Vec::new(rt.alloc());
-    let mut index = 0_usize;
-    for byte in tokens.as_bytes() {
-        if *byte != b' ' {
-            token.push(*byte)?;
-            continue;
-        }
-        token.push(b'\n')?;
-        if index != place {
-            text.extend_from_slice(&token)?;
-        } else if change == Change::Doubled {
-            text.extend_from_slice(&token)?;
-            text.extend_from_slice(&token)?;
-        } else if change == Change::Replaced {
-            text.extend_from_slice(b";\n")?;
-        }
-        token.clear();
-        index = index.saturating_add(1);
-    }
-    Ok(text)
-}
-
-/// The exceptions of the Ada text, where the fault isn't told at the first token that differs: what is done, the place of the token
-/// from 0, and the line of the fault.
-const ADA_LATE: &str = "cut 144 146
-    replaced 134 136
-    replaced 144 146
-    cut 198 200
-    cut 201 205
-    cut 205 208
-    doubled 201 210
-    replaced 206 208
-    cut 209 211
-    cut 223 225
-    cut 226 228
-    cut 280 282
-    replaced 292 294
-    doubled 296 303";
-
-/// The exceptions of the text with units of every kind.
-const UNITS_LATE: &str = "cut 148 150
+/// That text, whose tokens before the program are those of the Ada text above. In a replay up to tick 20 the call and the request of `a`
+/// take four ticks; then `s` puts in 4 and ends with 5, and `a` calls in 6 and 7, puts in 8 and ends with 9. Nothing requests `t`.
+const UNITS_ROW: &str = "kind: ada
+    file: ada
+    tokens: @changed units
+    first: 127
+    end: 774
+    out: 0 release a
+    out: 4 request a s 7
+    out: 4 release s 7
+    out: 5 put s 7
+    out: 6 end s used 2
+    out: 9 put a 1
+    out: 10 end a used 8
+    out: 20 horizon
+    cut 148 150
     cut 162 164
     cut 410 412
     cut 439 441
@@ -173,8 +131,33 @@ const UNITS_LATE: &str = "cut 148 150
     replaced 712 714
     replaced 719 721";
 
-/// The exceptions of the design. A word that is kept nowhere, as `version`, is a name where one may stand.
-const DESIGN_LATE: &str = "cut 1 3
+/// The tokens of a design with an object of each kind, links, units of time and a range of priorities, a space behind each.
+pub const DESIGN: &str =
+    "design d version 2 is tick = 1 ms ; priorities 5 .. 9 ; costs assign = 1 ; test = 1 ; turn = 1 ; call = 2 ; \
+    null = 1 ; put = 1 ; finish = 1 ; end costs ; object r is active provides set ( v : in word ) paer ; \
+    objects object c is cyclic attributes period = 100 ms ; deadline = 50 ; thread_budget = 1000 ; requires p . \
+    get ; s . start ; data x : word := 0 ; thread p . get ( 1 , x ) ; if x = 4 then s . start ( x ) ; elsif x > \
+    2 then put ( x ) ; else null ; end if ; for i in word range 1 .. 3 loop exit when i = 2 ; work ( 2 ) ; end \
+    loop ; x := ( x + 1 ) * 2 ; end thread ; end c ; object q is protected provides set ( v : in word ) paer ; \
+    data level : word := 0 ; operation set is begin level := v ; end set ; end q ; object p is passive provides \
+    get ( v : in word ; w : out word ) ; operation get is n : word := 1 ; begin w := v + n ; end get ; end p ; \
+    object s is sporadic attributes separation = 100 ; deadline = 60 ; thread_budget = 500 ; provides start ( v \
+    : in word ) aser ; thread put ( v ) ; end thread ; end s ; implements set by q . set ; end r ; end d ; ";
+
+/// That design. A word that is kept nowhere, as `version`, is a name where one may stand. It is a design still without a unit of time, which
+/// counts ticks, without the `else`, and without a constraint, where a rule is broken.
+const DESIGN_ROW: &str = "kind: check d
+    file: design
+    tokens: @changed design
+    first: 0
+    end: 300
+    out: ok d objects 5 threads 2
+    cut 70 taken
+    cut 128 taken
+    cut 59 refused V05 r
+    cut 185 refused V04 q
+    cut 273 refused V04 s
+    cut 1 3
     cut 61 63
     cut 89 91
     cut 96 98
@@ -224,207 +207,174 @@ const DESIGN_LATE: &str = "cut 1 3
     replaced 272 275
     replaced 273 275";
 
-/// The exceptions of the arrivals file. A second `work` is the name of a task, and a semicolon may end an item early.
-const ARRIVALS_LATE: &str = "doubled 3 6
+/// The tokens of an arrivals file, a space behind each.
+pub const ARRIVALS: &str = "UNTIL 20 ; WORK a 1 , 2 ; AT 6 s 7 ; ";
+
+/// That file, for a task with a sporadic unit. The first activation of `a` takes one tick of its statement and that of its end, the
+/// second two and one; that of `s`, which goes before it, takes four and one. A second `work` is the name of a task, a semicolon may end an
+/// item early, and without its value the request is one still, which its task does not take.
+const ARRIVALS_ROW: &str = "kind: arrivals
+    file: arrivals
+    tokens: @changed arrivals
+    first: 0
+    end: 14
+    out: 0 release a
+    out: 2 end a used 2
+    out: 6 arrive s 7
+    out: 6 release s 7
+    out: 10 release a
+    out: 11 end s used 5
+    out: 14 end a used 3
+    out: 20 release a
+    out: 20 horizon
+    cut 12 refused Q5 line 10
+    doubled 3 6
     replaced 6 8
     replaced 12 14";
 
-/// The word for a change in a list of exceptions.
-fn word_of(change: Change) -> &'static str {
+/// What is done to a token; replaced, a semicolon stands in its place.
+pub const CHANGES: [&str; 3] = ["cut", "doubled", "replaced"];
+
+/// Adds a token, to which this is done, or nothing.
+fn push_changed(text: &mut Vec<u8>, token: &[u8], change: &str) -> Result<(), Fail> {
     match change {
-        Change::Cut => "cut",
-        Change::Doubled => "doubled",
-        Change::Replaced => "replaced",
+        "cut" => {}
+        "doubled" => {
+            text.extend_from_slice(token)?;
+            text.extend_from_slice(token)?;
+        }
+        "replaced" => text.extend_from_slice(b";\n")?,
+        _ => text.extend_from_slice(token)?,
     }
+    Ok(())
 }
 
-/// The line of the fault of a changed token in a list of exceptions, where it has one.
-pub fn exception(late: &str, change: Change, place: usize) -> Option<usize> {
-    for row in late.lines() {
-        let mut words = row.split_whitespace();
-        if words.next() == Some(word_of(change)) && words.next().map(number) == Some(place) {
-            return words.next().map(number);
+/// The text of tokens, which have a space behind each, one a line, with this done to the token at a place.
+fn changed_text(alloc: Global, tokens: &str, change: &str, place: usize) -> Result<Vec<u8>, Fail> {
+    let mut text = Vec::new(alloc);
+    let mut token = Vec::new(alloc);
+    let mut index = 0_usize;
+    for byte in tokens.as_bytes() {
+        if *byte != b' ' {
+            token.push(*byte)?;
+            continue;
+        }
+        token.push(b'\n')?;
+        let here = if index == place { change } else { "" };
+        push_changed(&mut text, &token, here)?;
+        token.clear();
+        index = index.saturating_add(1);
+    }
+    Ok(text)
+}
+
+/// What a row's exceptions say of this done to the token at a place; empty where it is none of them.
+pub fn exception<'x>(row: &'x str, change: &str, place: usize) -> &'x str {
+    for line in row.lines() {
+        let (done, rest) = cut(line.trim_start(), " ");
+        let (at, told) = cut(rest, " ");
+        if done == change && number(at) == place {
+            return told;
         }
     }
-    None
+    ""
 }
 
-/// The line of the fault of a changed token, where a text has these exceptions.
-fn line_of_fault(late: &str, change: Change, place: usize) -> usize {
-    if let Some(line) = exception(late, change, place) {
-        return line;
+/// The line of the fault of a token to which this is done, by what the exceptions say of it.
+fn line_of_fault(exception: &str, change: &str, place: usize) -> usize {
+    if !exception.is_empty() {
+        return number(exception);
     }
-    match change {
-        Change::Cut | Change::Replaced => place.saturating_add(1),
-        Change::Doubled => place.saturating_add(2),
-    }
+    let same = if change == "doubled" { 2 } else { 1 };
+    place.saturating_add(same)
 }
 
 /// The line of the fault of a changed token of the design, where it is a design no more.
-pub fn line_of_design_fault(change: Change, place: usize) -> usize {
-    line_of_fault(DESIGN_LATE, change, place)
+pub fn line_of_design_fault(change: &str, place: usize) -> usize {
+    line_of_fault(exception(DESIGN_ROW, change, place), change, place)
 }
 
-/// What is told of a text: the status, standard output and standard error.
-#[derive(Drop)]
-struct Told {
-    status: Status,
-    out: &'static str,
-    err: String,
-}
-
-/// That a text is taken, with what is written then.
-fn taken(rt: &HostRuntime, out: &'static str) -> Told {
-    Told {
-        status: Status::Done,
-        out,
-        err: String::new(rt.alloc()),
+/// The line that refuses a row's text with this done to the token at a place; empty where it is taken.
+fn refusal(alloc: Global, row: &str, change: &str, place: usize) -> Result<String, Fail> {
+    let said = exception(row, change, place);
+    if said == "taken" {
+        return Ok(String::new(alloc));
     }
-}
-
-/// That a text is refused, with this line.
-fn refused(err: String) -> Told {
-    Told {
-        status: Status::Refused,
-        out: "",
-        err,
+    if said.starts_with("refused") {
+        return Ok(format!(in alloc; "{said}\n")?);
     }
+    let file = text(row, "file");
+    let line = line_of_fault(said, change, place);
+    Ok(format!(in alloc; "refused S1 {file} line {line} column 1\n")?)
 }
 
-/// What is told of the Ada text with a token changed. It is a program still where a semicolon stands in place of one, and without the
-/// `else`, where two assignments follow each other.
-fn told_of_ada(
-    rt: &HostRuntime,
-    change: Change,
+/// Looks at what is told of a changed text of a row, which is refused with this line, or taken where it is empty.
+fn check_changed(
+    rt: &impl Abort,
+    alloc: Global,
+    row: &str,
+    changed: &[u8],
+    refusal: &str,
+) -> Result<(), Fail> {
+    let taken = lines(alloc, row, "out")?;
+    let told = run_file(alloc, text(row, "kind"), changed)?;
+    if refusal.is_empty() {
+        check_told(rt, &told, "done", &taken, b"", row);
+    } else {
+        check_told(rt, &told, "refused", b"", refusal.as_bytes(), refusal);
+    }
+    Ok(())
+}
+
+/// Looks at what is told of a row's text with this done to the token at a place. It is taken where a semicolon stands in place of one.
+fn check_token(
+    rt: &impl Abort,
+    alloc: Global,
+    row: &str,
+    change: &str,
     place: usize,
-    is_same: bool,
-) -> Result<Told, Fail> {
-    if is_same || change == Change::Cut && place == 218 {
-        return Ok(taken(rt, ADA_TRACE));
+) -> Result<(), Fail> {
+    let tokens = text(row, "tokens");
+    let whole = changed_text(alloc, tokens, "", place)?;
+    let changed = changed_text(alloc, tokens, change, place)?;
+    if changed == whole {
+        return check_changed(rt, alloc, row, &changed, "");
     }
-    let line = line_of_fault(ADA_LATE, change, place);
-    let err = format!(in rt.alloc(); "refused S1 ada line {line} column 1\n")?;
-    Ok(refused(err))
+    check_changed(
+        rt,
+        alloc,
+        row,
+        &changed,
+        &refusal(alloc, row, change, place)?,
+    )
 }
 
-/// What is told of the text with units of every kind with a token changed. It is a program still where a semicolon stands in place of one.
-fn told_of_units(
-    rt: &HostRuntime,
-    change: Change,
-    place: usize,
-    is_same: bool,
-) -> Result<Told, Fail> {
-    if is_same {
-        return Ok(taken(rt, UNITS_TRACE));
+/// Looks at what is told of a row's text with each of its tokens changed.
+fn check_tokens(rt: &impl Abort, alloc: Global, row: &str) -> Result<(), Fail> {
+    for change in CHANGES {
+        for place in number(text(row, "first"))..number(text(row, "end")) {
+            check_token(rt, alloc, row, change, place)?;
+        }
     }
-    let line = line_of_fault(UNITS_LATE, change, place);
-    let err = format!(in rt.alloc(); "refused S1 ada line {line} column 1\n")?;
-    Ok(refused(err))
-}
-
-/// What is told of the design with a token changed. It is a design still without a unit of time, which counts ticks, without the `else`,
-/// and without a constraint, where a rule is broken.
-fn told_of_design(
-    rt: &HostRuntime,
-    change: Change,
-    place: usize,
-    is_same: bool,
-) -> Result<Told, Fail> {
-    if is_same {
-        return Ok(taken(rt, DESIGN_TAKEN));
-    }
-    match (change, place) {
-        (Change::Cut, 70 | 128) => return Ok(taken(rt, DESIGN_TAKEN)),
-        (Change::Cut, 59) => return Ok(refused(String::from_str(rt.alloc(), "refused V05 r\n")?)),
-        (Change::Cut, 185) => return Ok(refused(String::from_str(rt.alloc(), "refused V04 q\n")?)),
-        (Change::Cut, 273) => return Ok(refused(String::from_str(rt.alloc(), "refused V04 s\n")?)),
-        _ => {}
-    }
-    let line = line_of_design_fault(change, place);
-    let err = format!(in rt.alloc(); "refused S1 design line {line} column 1\n")?;
-    Ok(refused(err))
-}
-
-/// What is told of the arrivals file with a token changed. Without its value the request is one still, which its task does not take.
-fn told_of_arrivals(
-    rt: &HostRuntime,
-    change: Change,
-    place: usize,
-    is_same: bool,
-) -> Result<Told, Fail> {
-    if is_same {
-        return Ok(taken(rt, ARRIVALS_TRACE));
-    }
-    if change == Change::Cut && place == 12 {
-        return Ok(refused(String::from_str(rt.alloc(), "refused Q5 line 10\n")?));
-    }
-    let line = line_of_fault(ARRIVALS_LATE, change, place);
-    let err = format!(in rt.alloc(); "refused S1 arrivals line {line} column 1\n")?;
-    Ok(refused(err))
+    Ok(())
 }
 
 #[test]
 fn each_token_of_an_ada_text_changed(rt: HostRuntime) -> Result<(), Fail> {
-    let whole = changed_text(&rt, ADA, Change::Cut, 331)?;
-    for change in [Change::Cut, Change::Doubled, Change::Replaced] {
-        for place in 0_usize..331 {
-            let text = changed_text(&rt, ADA, change, place)?;
-            let told = told_of_ada(&rt, change, place, text == whole)?;
-            let Outcome { status, out, err } = replay_under(&rt, &text, b"UNTIL 20;")?;
-            assert_eq!(rt; status, told.status, "{place}");
-            assert_eq!(rt; out.bytes(), told.out.as_bytes(), "{place}");
-            assert_eq!(rt; err.bytes(), told.err.as_bytes(), "{place}");
-        }
-    }
-    Ok(())
+    check_tokens(&rt, rt.alloc(), ADA_ROW)
 }
 
-/// The tokens before the program are those of the Ada text above.
 #[test]
 fn each_token_of_units_of_every_kind_changed(rt: HostRuntime) -> Result<(), Fail> {
-    let whole = changed_text(&rt, UNITS, Change::Cut, 774)?;
-    for change in [Change::Cut, Change::Doubled, Change::Replaced] {
-        for place in 127_usize..774 {
-            let text = changed_text(&rt, UNITS, change, place)?;
-            let told = told_of_units(&rt, change, place, text == whole)?;
-            let Outcome { status, out, err } = replay_under(&rt, &text, b"UNTIL 20;")?;
-            assert_eq!(rt; status, told.status, "{place}");
-            assert_eq!(rt; out.bytes(), told.out.as_bytes(), "{place}");
-            assert_eq!(rt; err.bytes(), told.err.as_bytes(), "{place}");
-        }
-    }
-    Ok(())
+    check_tokens(&rt, rt.alloc(), UNITS_ROW)
 }
 
 #[test]
 fn each_token_of_a_design_changed(rt: HostRuntime) -> Result<(), Fail> {
-    let whole = changed_text(&rt, DESIGN, Change::Cut, 300)?;
-    for change in [Change::Cut, Change::Doubled, Change::Replaced] {
-        for place in 0_usize..300 {
-            let text = changed_text(&rt, DESIGN, change, place)?;
-            let told = told_of_design(&rt, change, place, text == whole)?;
-            let Outcome { status, out, err } = run_design(&rt, "check", &text)?;
-            assert_eq!(rt; status, told.status, "{place}");
-            assert_eq!(rt; out.bytes(), told.out.as_bytes(), "{place}");
-            assert_eq!(rt; err.bytes(), told.err.as_bytes(), "{place}");
-        }
-    }
-    Ok(())
+    check_tokens(&rt, rt.alloc(), DESIGN_ROW)
 }
 
 #[test]
 fn each_token_of_arrivals_changed(rt: HostRuntime) -> Result<(), Fail> {
-    let ada = ada_text(&rt, &row_text(&rt, "like: requested", "")?)?;
-    let whole = changed_text(&rt, ARRIVALS, Change::Cut, 14)?;
-    for change in [Change::Cut, Change::Doubled, Change::Replaced] {
-        for place in 0_usize..14 {
-            let text = changed_text(&rt, ARRIVALS, change, place)?;
-            let told = told_of_arrivals(&rt, change, place, text == whole)?;
-            let Outcome { status, out, err } = replay_under(&rt, &ada, &text)?;
-            assert_eq!(rt; status, told.status, "{place}");
-            assert_eq!(rt; out.bytes(), told.out.as_bytes(), "{place}");
-            assert_eq!(rt; err.bytes(), told.err.as_bytes(), "{place}");
-        }
-    }
-    Ok(())
+    check_tokens(&rt, rt.alloc(), ARRIVALS_ROW)
 }

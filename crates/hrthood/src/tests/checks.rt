@@ -189,14 +189,10 @@ const BROKEN_ALL_OVER: &[&str] = &[
 
 #[test]
 fn designs_are_checked(rt: HostRuntime) -> Result<(), Fail> {
-    run_table(&rt, &rt, TAKEN, ACCEPTED)?;
-    for table in [
-        BROKEN_STRUCTURES,
-        BROKEN_CALLS,
-        BROKEN_VERSIONS,
-        BROKEN_ALL_OVER,
-    ] {
-        run_table(&rt, &rt, REFUSED, table)?;
-    }
-    Ok(())
+    let alloc = rt.alloc();
+    run_table(&rt, alloc, TAKEN, ACCEPTED)?;
+    run_table(&rt, alloc, REFUSED, BROKEN_STRUCTURES)?;
+    run_table(&rt, alloc, REFUSED, BROKEN_CALLS)?;
+    run_table(&rt, alloc, REFUSED, BROKEN_VERSIONS)?;
+    run_table(&rt, alloc, REFUSED, BROKEN_ALL_OVER)
 }

@@ -1,28 +1,24 @@
 //! Texts that break off before one of their tokens, and texts with a byte of value 0 in the place of the first byte of one. What reads
 //! them tells the place behind all that stands before that token: of the end of the text, or of the byte.
 
-use super::changed_tokens::{ADA, DESIGN};
-use super::formats::FORMATTED;
-use super::generates::{EVERY_KIND, EVERY_KIND_TEXT};
-use super::rows::{Outcome, replay_under, row_text, run_design};
-use super::texts::{TRACE, ada_text};
-use hrthood_top::Status;
+use super::rows::{check_replay, check_that, check_told, requested_text, row_text, run_file};
+use super::texts::{TRACE, ada_text, beside, named};
+use std::alloc::Global;
 use std::process::Abort;
 use std::test::Fail;
 
-/// Designs, and how many tokens each has: of one object, of an object of every kind, and of version 2 with links and every statement.
-const DESIGNS: &[(&str, usize)] = &[(FORMATTED, 67), (EVERY_KIND, 230), (DESIGN, 300)];
-
-/// Ada texts, and how many tokens each has: with units of every kind, and with every statement.
-const TEXTS: &[(&str, usize)] = &[(EVERY_KIND_TEXT, 571), (ADA, 331)];
-
-/// Arrivals files, and how many tokens each has.
-const ARRIVALS: &[(&str, usize)] = &[
-    ("UNTIL 20; WORK a 1;", 7),
-    ("UNTIL 20;\nWORK a 1, 2;\nAT 6 s 7;\n", 14),
+/// Designs by their names, and how many tokens each has: of one object, of an object of every kind, and of version 2 with links and every
+/// statement.
+const DESIGNS: &[(&str, usize)] = &[
+    ("formatted", 67),
+    ("every kind", 230),
+    ("changed design", 300),
 ];
 
-/// What stands before an item of these files is a whole file. What a replay tells under it: `a` takes one tick more than its work.
+/// Ada texts by their names, and how many tokens each has: with units of every kind, and with every statement.
+const TEXTS: &[(&str, usize)] = &[("every kind text", 571), ("changed ada", 331)];
+
+/// What stands before an item of the arrivals files below is a whole file. What a replay tells under it: `a` takes one tick more than its work.
 const WHOLE: &[(&str, &str)] = &[
     ("UNTIL 20; ", TRACE),
     ("UNTIL 20;\n", TRACE),
@@ -55,8 +51,8 @@ fn begins_token(before: u8, byte: u8) -> bool {
 }
 
 /// What stands before each token of a text.
-fn fronts<'x>(rt: &HostRuntime, text: &'x [u8]) -> Result<Vec<&'x [u8]>, Fail> {
-    let mut fronts = Vec::new(rt.alloc());
+fn fronts<'x>(alloc: Global, text: &'x [u8]) -> Result<Vec<&'x [u8]>, Fail> {
+    let mut fronts = Vec::new(alloc);
     let mut before = b'\n';
     let mut is_comment = false;
     for place in 0..text.len() {
@@ -72,8 +68,8 @@ fn fronts<'x>(rt: &HostRuntime, text: &'x [u8]) -> Result<Vec<&'x [u8]>, Fail> {
 }
 
 /// The text with a byte of value 0 at this place.
-fn zeroed(rt: &HostRuntime, text: &[u8], place: usize) -> Result<Vec<u8>, Fail> {
-    let mut bytes = Vec::new(rt.alloc());
+fn zeroed(alloc: Global, text: &[u8], place: usize) -> Result<Vec<u8>, Fail> {
+    let mut bytes = Vec::new(alloc);
     for byte in text {
         let is_place = bytes.len() == place;
         bytes.push(if is_place { 0 } else { *byte })?;
@@ -81,8 +77,16 @@ fn zeroed(rt: &HostRuntime, text: &[u8], place: usize) -> Result<Vec<u8>, Fail> 
     Ok(bytes)
 }
 
-/// The line that refuses a file at the place behind these bytes: lines and columns count from 1, and a line ends with a line feed.
-fn refusal(rt: &HostRuntime, code: &str, file: &str, front: &[u8]) -> Result<String, Fail> {
+/// The name of a file of this kind in a refusal: a command line reads a design.
+fn file_of<'x>(kind: &'x str) -> &'x str {
+    match kind {
+        "ada" | "arrivals" => kind,
+        _ => "design",
+    }
+}
+
+/// The line that refuses a file of this kind at the place behind these bytes: lines and columns count from 1, and a line ends with a line feed.
+fn refusal(alloc: Global, code: &str, kind: &str, front: &[u8]) -> Result<String, Fail> {
     let mut line = 1_usize;
     let mut column = 1_usize;
     for byte in front {
@@ -92,28 +96,78 @@ fn refusal(rt: &HostRuntime, code: &str, file: &str, front: &[u8]) -> Result<Str
             column = 1;
         }
     }
-    Ok(format!(in rt.alloc(); "refused {code} {file} line {line} column {column}\n")?)
+    let file = file_of(kind);
+    Ok(format!(in alloc; "refused {code} {file} line {line} column {column}\n")?)
 }
 
-/// Looks at what is told of a text that is refused with this line.
-fn check_refused(rt: &impl Abort, told: &Outcome, refusal: &str) {
-    assert_eq!(rt; told.status, Status::Refused, "{refusal}");
-    assert_eq!(rt; told.out.bytes(), b"".as_slice(), "{refusal}");
-    assert_eq!(rt; told.err.bytes(), refusal.as_bytes(), "{refusal}");
-}
-
-/// Looks at what a verb tells of each damaged design.
-fn check_design(
+/// Looks at what is told of a file of this kind that is refused with this code behind a front.
+fn check_refused(
     rt: &impl Abort,
-    host: &HostRuntime,
-    verb: &str,
-    design: &[u8],
+    alloc: Global,
+    kind: &str,
+    code: &str,
+    bytes: &[u8],
+    front: &[u8],
 ) -> Result<(), Fail> {
-    for front in &fronts(host, design)? {
-        let told = run_design(host, verb, front)?;
-        check_refused(rt, &told, &refusal(host, "S1", "design", front)?);
-        let told = run_design(host, verb, &zeroed(host, design, front.len())?)?;
-        check_refused(rt, &told, &refusal(host, "L1", "design", front)?);
+    let refusal = refusal(alloc, code, kind, front)?;
+    let told = run_file(alloc, kind, bytes)?;
+    check_told(rt, &told, "refused", b"", refusal.as_bytes(), &refusal);
+    Ok(())
+}
+
+/// What a replay tells under a front of the arrivals that is a whole file; empty where it is none.
+fn whole(front: &[u8]) -> &'static str {
+    beside(WHOLE, str::from_utf8(front).unwrap_or(""))
+}
+
+/// Looks at what is told of a file that is cut off behind a front.
+fn check_front(rt: &impl Abort, alloc: Global, kind: &str, front: &[u8]) -> Result<(), Fail> {
+    let trace = whole(front);
+    if trace.is_empty() {
+        return check_refused(rt, alloc, kind, "S1", front, front);
+    }
+    let ada = requested_text(alloc)?;
+    check_replay(rt, alloc, &ada, front, trace.as_bytes(), trace)
+}
+
+/// Looks at what is told of a file that has a byte of value 0 behind a front.
+fn check_zeroed(
+    rt: &impl Abort,
+    alloc: Global,
+    kind: &str,
+    bytes: &[u8],
+    front: &[u8],
+) -> Result<(), Fail> {
+    let zeroed = zeroed(alloc, bytes, front.len())?;
+    check_refused(rt, alloc, kind, "L1", &zeroed, front)
+}
+
+/// Looks at what is told of a file, of which so many tokens are found, damaged at each of them.
+fn check_damaged(
+    rt: &impl Abort,
+    alloc: Global,
+    kind: &str,
+    bytes: &[u8],
+    tokens: usize,
+) -> Result<(), Fail> {
+    let fronts = fronts(alloc, bytes)?;
+    check_that(rt, fronts.len() == tokens, kind);
+    for front in &fronts {
+        check_front(rt, alloc, kind, front)?;
+        check_zeroed(rt, alloc, kind, bytes, front)?;
+    }
+    Ok(())
+}
+
+/// Looks at what is told of each text of a table, which has their names, damaged at each of its tokens.
+fn check_table(
+    rt: &impl Abort,
+    alloc: Global,
+    kind: &str,
+    table: &[(&str, usize)],
+) -> Result<(), Fail> {
+    for (name, tokens) in table {
+        check_damaged(rt, alloc, kind, named(name).as_bytes(), *tokens)?;
     }
     Ok(())
 }
@@ -123,25 +177,8 @@ fn check_design(
 /// they tell L1 at that byte.
 #[test]
 fn designs_damaged_at_each_token(rt: HostRuntime) -> Result<(), Fail> {
-    for (design, tokens) in DESIGNS {
-        let design = design.as_bytes();
-        assert_eq!(rt; fronts(&rt, design)?.len(), *tokens);
-        for verb in ["check", "format", "analyse"] {
-            check_design(&rt, &rt, verb, design)?;
-        }
-    }
-    Ok(())
-}
-
-/// Looks at what `replay` tells of each damaged Ada text, of which so many tokens are found.
-fn check_ada(rt: &impl Abort, host: &HostRuntime, ada: &[u8], tokens: usize) -> Result<(), Fail> {
-    let fronts = fronts(host, ada)?;
-    assert_eq!(rt; fronts.len(), tokens);
-    for front in &fronts {
-        let told = replay_under(host, front, b"UNTIL 20;")?;
-        check_refused(rt, &told, &refusal(host, "S1", "ada", front)?);
-        let told = replay_under(host, &zeroed(host, ada, front.len())?, b"UNTIL 20;")?;
-        check_refused(rt, &told, &refusal(host, "L1", "ada", front)?);
+    for line in ["check d", "format d", "analyse d"] {
+        check_table(&rt, rt.alloc(), line, DESIGNS)?;
     }
     Ok(())
 }
@@ -151,34 +188,15 @@ fn check_ada(rt: &impl Abort, host: &HostRuntime, ada: &[u8], tokens: usize) -> 
 /// byte. The last text is that of one cyclic task.
 #[test]
 fn ada_texts_damaged_at_each_token(rt: HostRuntime) -> Result<(), Fail> {
-    for (ada, tokens) in TEXTS {
-        check_ada(&rt, &rt, ada.as_bytes(), *tokens)?;
-    }
-    check_ada(&rt, &rt, &ada_text(&rt, &row_text(&rt, "", "")?)?, 227)
-}
-
-/// What a replay tells under a front of the arrivals that is a whole file.
-fn whole(front: &[u8]) -> Option<&'static str> {
-    for (text, trace) in WHOLE {
-        if text.as_bytes() == front {
-            return Some(trace);
-        }
-    }
-    None
-}
-
-/// Looks at what `replay` tells under a front of an arrivals file.
-fn check_front(rt: &impl Abort, host: &HostRuntime, ada: &[u8], front: &[u8]) -> Result<(), Fail> {
-    let told = replay_under(host, ada, front)?;
-    match whole(front) {
-        None => check_refused(rt, &told, &refusal(host, "S1", "arrivals", front)?),
-        Some(trace) => {
-            assert_eq!(rt; told.status, Status::Done, "{trace}");
-            assert_eq!(rt; told.out.bytes(), trace.as_bytes(), "{trace}");
-            assert_eq!(rt; told.err.bytes(), b"".as_slice(), "{trace}");
-        }
-    }
-    Ok(())
+    let alloc = rt.alloc();
+    check_table(&rt, alloc, "ada", TEXTS)?;
+    check_damaged(
+        &rt,
+        alloc,
+        "ada",
+        &ada_text(alloc, &row_text(alloc, "", "")?)?,
+        227,
+    )
 }
 
 /// For each token of each arrivals file, of which all are found: with the file cut off before it, `replay` ends with the status of a
@@ -186,16 +204,8 @@ fn check_front(rt: &impl Abort, host: &HostRuntime, ada: &[u8], front: &[u8]) ->
 /// byte of value 0 in its place it tells L1 at that byte.
 #[test]
 fn arrivals_damaged_at_each_token(rt: HostRuntime) -> Result<(), Fail> {
-    let ada = ada_text(&rt, &row_text(&rt, "like: requested", "")?)?;
-    for (arrivals, tokens) in ARRIVALS {
-        let arrivals = arrivals.as_bytes();
-        let fronts = fronts(&rt, arrivals)?;
-        assert_eq!(rt; fronts.len(), *tokens);
-        for front in &fronts {
-            check_front(&rt, &rt, &ada, front)?;
-            let told = replay_under(&rt, &ada, &zeroed(&rt, arrivals, front.len())?)?;
-            check_refused(&rt, &told, &refusal(&rt, "L1", "arrivals", front)?);
-        }
-    }
-    Ok(())
+    let alloc = rt.alloc();
+    check_damaged(&rt, alloc, "arrivals", b"UNTIL 20; WORK a 1;", 7)?;
+    let requested = b"UNTIL 20;\nWORK a 1, 2;\nAT 6 s 7;\n";
+    check_damaged(&rt, alloc, "arrivals", requested, 14)
 }

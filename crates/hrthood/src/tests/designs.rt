@@ -114,7 +114,8 @@ const REFUSED_OBJECTS: &[&str] = &[
 
 #[test]
 fn designs_are_written_or_refused(rt: HostRuntime) -> Result<(), Fail> {
-    run_table(&rt, &rt, MADE, TEXTS)?;
-    run_table(&rt, &rt, REFUSED, REFUSED_SOURCES)?;
-    run_table(&rt, &rt, REFUSED, REFUSED_OBJECTS)
+    let alloc = rt.alloc();
+    run_table(&rt, alloc, MADE, TEXTS)?;
+    run_table(&rt, alloc, REFUSED, REFUSED_SOURCES)?;
+    run_table(&rt, alloc, REFUSED, REFUSED_OBJECTS)
 }

@@ -1,9 +1,9 @@
 //! Designs that are printed again, and texts that are no design.
 
-use super::rows::{Outcome, row_text, run_design, run_table};
+use super::rows::{check_end, check_told, row_text, run_design, run_table};
 use super::shapes::design_bytes;
-use hood_io::MemSink;
-use hrthood_top::Status;
+use std::alloc::Global;
+use std::process::Abort;
 use std::test::Fail;
 
 /// What rows of designs that are printed have.
@@ -140,30 +140,26 @@ const STEADY: &[&str] = &[
 
 #[test]
 fn designs_are_printed_or_refused(rt: HostRuntime) -> Result<(), Fail> {
-    run_table(&rt, &rt, REFUSED, NO_DESIGNS)?;
-    run_table(&rt, &rt, WRITTEN, PRINTED)
+    let alloc = rt.alloc();
+    run_table(&rt, alloc, REFUSED, NO_DESIGNS)?;
+    run_table(&rt, alloc, WRITTEN, PRINTED)
 }
 
-/// What is printed of a design.
-fn printed(rt: &HostRuntime, design: &[u8]) -> Result<(Status, MemSink), Fail> {
-    let Outcome {
-        status,
-        out,
-        err: _err,
-    } = run_design(rt, "format", design)?;
-    Ok((status, out))
+/// Looks whether what is printed of a row's design is printed the same once more.
+fn check_steady(rt: &impl Abort, alloc: Global, given: &str) -> Result<(), Fail> {
+    let design = design_bytes(alloc, &row_text(alloc, given, "")?)?;
+    let once = run_design(alloc, "format d", &design)?;
+    let text = once.out.bytes();
+    check_end(rt, &once, "done", b"", given);
+    let twice = run_design(alloc, "format d", text)?;
+    check_told(rt, &twice, "done", text, b"", given);
+    Ok(())
 }
 
 #[test]
 fn what_is_printed_is_printed_the_same(rt: HostRuntime) -> Result<(), Fail> {
-    for row in STEADY {
-        let row = row_text(&rt, row, "")?;
-        let design = design_bytes(&rt, &row)?;
-        let (first, once) = printed(&rt, &design)?;
-        let (second, twice) = printed(&rt, once.bytes())?;
-        assert_eq!(rt; first, Status::Done);
-        assert_eq!(rt; second, Status::Done);
-        assert_eq!(rt; twice.bytes(), once.bytes());
+    for given in STEADY {
+        check_steady(&rt, rt.alloc(), given)?;
     }
     Ok(())
 }

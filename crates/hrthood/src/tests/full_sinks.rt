@@ -1,8 +1,10 @@
 //! Runs whose standard output or standard error has no room for all that is written.
 
-use super::rows::{Outcome, check_row, lines, number, row_text, run_row, value};
-use super::texts::joined;
-use hrthood_top::Status;
+use super::rows::{
+    Outcome, check_end, check_row, check_that, check_told, lines, number, row_text, run_row, value,
+    word_of,
+};
+use std::alloc::Global;
 use std::process::Abort;
 use std::test::Fail;
 
@@ -30,54 +32,51 @@ const WRITTEN: &[&str] = &[
 /// Looks at what a row writes into a room that is too small for it, of whose whole text these are the bytes.
 fn check_room(
     rt: &impl Abort,
-    host: &HostRuntime,
+    alloc: Global,
     row: &str,
     whole: &[u8],
     room: usize,
 ) -> Result<(), Fail> {
-    let row = joined(host, &[&format!(in host.alloc(); "room: {room}\n")?, row])?;
-    let Outcome { status, out, err } = run_row(host, &row)?;
-    assert_eq!(rt; status, Status::WriteFault, "{row}");
-    assert_eq!(rt; out.bytes().len(), room, "{row}");
-    assert!(rt; whole.starts_with(out.bytes()), "{row}");
-    assert_eq!(rt; err.bytes(), b"fault writing\n".as_slice(), "{row}");
+    let row = format!(in alloc; "room: {room}\n{row}")?;
+    let told = run_row(alloc, &row)?;
+    let out = told.out.bytes();
+    check_end(rt, &told, "write fault", b"fault writing\n", &row);
+    check_that(rt, out.len() == room && whole.starts_with(out), &row);
     Ok(())
 }
 
-/// Looks at what a row writes into a room that is just enough.
-fn check_enough(
-    rt: &impl Abort,
-    host: &HostRuntime,
-    row: &str,
-    whole: &Outcome,
-) -> Result<(), Fail> {
-    let room = whole.out.bytes().len();
-    let row = joined(host, &[&format!(in host.alloc(); "room: {room}\n")?, row])?;
-    let Outcome { status, out, err } = run_row(host, &row)?;
-    assert_eq!(rt; status, whole.status, "{row}");
-    assert_eq!(rt; out.bytes(), whole.out.bytes(), "{row}");
-    assert_eq!(rt; err.bytes(), whole.err.bytes(), "{row}");
+/// Looks whether a row is told so.
+fn check_same(rt: &impl Abort, alloc: Global, row: &str, whole: &Outcome) -> Result<(), Fail> {
+    let told = run_row(alloc, row)?;
+    let status = word_of(whole.status);
+    check_told(rt, &told, status, whole.out.bytes(), whole.err.bytes(), row);
     Ok(())
 }
 
-/// Looks at what a row writes into the rooms that it names, or else into each that is too small for it, and into one that is just enough.
-fn check_rooms(rt: &impl Abort, host: &HostRuntime, row: &str) -> Result<(), Fail> {
-    let whole = run_row(host, row)?;
-    let bytes = whole.out.bytes();
-    assert!(rt; !bytes.is_empty(), "{row}");
-    match value(row, "rooms") {
-        Some(rooms) => {
-            for room in rooms.split_whitespace() {
-                check_room(rt, host, row, bytes, number(room))?;
-            }
+/// Looks at what a row writes into the rooms that it names, or else into each that is too small for it.
+fn check_small(rt: &impl Abort, alloc: Global, row: &str, whole: &[u8]) -> Result<(), Fail> {
+    if let Some(rooms) = value(row, "rooms") {
+        for room in rooms.split_whitespace() {
+            check_room(rt, alloc, row, whole, number(room))?;
         }
-        None => {
-            for room in 0..bytes.len() {
-                check_room(rt, host, row, bytes, room)?;
-            }
-        }
+        return Ok(());
     }
-    check_enough(rt, host, row, &whole)
+    for room in 0..whole.len() {
+        check_room(rt, alloc, row, whole, room)?;
+    }
+    Ok(())
+}
+
+/// Looks at what a row writes into rooms that are too small for it, and into one that is just enough.
+fn check_rooms(rt: &impl Abort, alloc: Global, given: &str) -> Result<(), Fail> {
+    let row = row_text(alloc, given, USUAL)?;
+    let whole = run_row(alloc, &row)?;
+    let bytes = whole.out.bytes();
+    check_that(rt, !bytes.is_empty(), &row);
+    check_small(rt, alloc, &row, bytes)?;
+    let room = bytes.len();
+    let row = format!(in alloc; "room: {room}\n{row}")?;
+    check_same(rt, alloc, &row, &whole)
 }
 
 /// Of each verb, in each room of standard output from 0 bytes to one less than it writes, or in those that its row names: just so many bytes
@@ -86,21 +85,24 @@ fn check_rooms(rt: &impl Abort, host: &HostRuntime, row: &str) -> Result<(), Fai
 #[test]
 fn each_room_of_standard_output(rt: HostRuntime) -> Result<(), Fail> {
     for given in WRITTEN {
-        check_rooms(&rt, &rt, &row_text(&rt, given, USUAL)?)?;
+        check_rooms(&rt, rt.alloc(), given)?;
     }
     Ok(())
+}
+
+/// Looks whether a row is told a byte at a time as at once.
+fn check_pieces(rt: &impl Abort, alloc: Global, given: &str) -> Result<(), Fail> {
+    let row = row_text(alloc, given, USUAL)?;
+    let whole = run_row(alloc, &row)?;
+    let row = format!(in alloc; "most: 1\n{row}")?;
+    check_same(rt, alloc, &row, &whole)
 }
 
 /// Of each verb, and of a replay that stops: a byte at a time, all is written as at once.
 #[test]
 fn a_byte_at_a_time(rt: HostRuntime) -> Result<(), Fail> {
     for given in WRITTEN {
-        let row = row_text(&rt, given, USUAL)?;
-        let whole = run_row(&rt, &row)?;
-        let Outcome { status, out, err } = run_row(&rt, &joined(&rt, &["most: 1\n", &row])?)?;
-        assert_eq!(rt; status, whole.status, "{row}");
-        assert_eq!(rt; out.bytes(), whole.out.bytes(), "{row}");
-        assert_eq!(rt; err.bytes(), whole.err.bytes(), "{row}");
+        check_pieces(&rt, rt.alloc(), given)?;
     }
     Ok(())
 }
@@ -124,16 +126,23 @@ const TOLD: &[&str] = &[
     err: fault writing",
 ];
 
+/// Looks at what a row tells in each room of standard error.
+fn check_err_rooms(rt: &impl Abort, alloc: Global, given: &str) -> Result<(), Fail> {
+    let row = row_text(alloc, given, USUAL)?;
+    let line = lines(alloc, &row, "err")?;
+    for room in 0..line.len().saturating_add(1) {
+        let row = format!(in alloc; "err_room: {room}\n{row}")?;
+        check_row(rt, alloc, &row)?;
+    }
+    Ok(())
+}
+
 /// Of a run of each status but that of no memory, in each room of standard error from 0 bytes to the length of its line: the beginning of just
 /// that length is told, and the status and standard output are as with ample room.
 #[test]
 fn each_room_of_standard_error(rt: HostRuntime) -> Result<(), Fail> {
     for given in TOLD {
-        let row = row_text(&rt, given, USUAL)?;
-        for room in 0..lines(&rt, &row, "err")?.len().saturating_add(1) {
-            let room = format!(in rt.alloc(); "err_room: {room}\n")?;
-            check_row(&rt, &rt, &joined(&rt, &[&room, &row])?)?;
-        }
+        check_err_rooms(&rt, rt.alloc(), given)?;
     }
     Ok(())
 }

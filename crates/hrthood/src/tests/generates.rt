@@ -1,8 +1,11 @@
 //! Designs of every kind of object, and the Ada texts that are made of them.
 
-use super::rows::{Outcome, arrivals_bytes, lines, replay_under, row_text, run_row, run_table};
-use super::verifies::TRACES;
-use hrthood_top::Status;
+use super::rows::{
+    arrivals_bytes, check_end, check_replay, check_that, lines, row_text, run_row, run_table,
+};
+use super::verifies::traces;
+use std::alloc::Global;
+use std::process::Abort;
 use std::test::Fail;
 
 /// A passive, a protected, a cyclic and a sporadic object.
@@ -268,20 +271,30 @@ const HEADS: &[&str] = &[
 
 #[test]
 fn texts_of_designs(rt: HostRuntime) -> Result<(), Fail> {
-    run_table(&rt, &rt, MADE, GENERATED)
+    run_table(&rt, rt.alloc(), MADE, GENERATED)
+}
+
+/// Looks at the head of the text of a row's design.
+fn check_head(rt: &impl Abort, alloc: Global, given: &str) -> Result<(), Fail> {
+    let row = row_text(alloc, given, MADE)?;
+    let head = lines(alloc, &row, "out")?;
+    let told = run_row(alloc, &row)?;
+    let text = told.out.bytes();
+    check_end(rt, &told, "done", b"", given);
+    check_that(rt, text.starts_with(&head), given);
+    Ok(())
+}
+
+fn check_heads(rt: &impl Abort, alloc: Global, table: &[&str]) -> Result<(), Fail> {
+    for given in table {
+        check_head(rt, alloc, given)?;
+    }
+    Ok(())
 }
 
 #[test]
 fn heads_of_texts_of_designs(rt: HostRuntime) -> Result<(), Fail> {
-    for given in HEADS {
-        let row = row_text(&rt, given, MADE)?;
-        let Outcome { status, out, err } = run_row(&rt, &row)?;
-        let head = lines(&rt, &row, "out")?;
-        assert_eq!(rt; status, Status::Done, "{given}");
-        assert!(rt; out.bytes().starts_with(&head), "{given}");
-        assert_eq!(rt; err.bytes(), b"".as_slice(), "{given}");
-    }
-    Ok(())
+    check_heads(&rt, rt.alloc(), HEADS)
 }
 
 /// A design whose text is replayed.
@@ -299,23 +312,28 @@ const REPLAYED: &[&str] = &[
     out: 20 horizon",
 ];
 
+/// Makes the text of a row's design, and looks at its replay.
+fn check_made(rt: &impl Abort, alloc: Global, given: &str) -> Result<(), Fail> {
+    let row = row_text(alloc, given, "words: generate d\narrivals: UNTIL 20;")?;
+    let arrivals = arrivals_bytes(alloc, &row)?;
+    let trace = lines(alloc, &row, "out")?;
+    let made = run_row(alloc, &row)?;
+    let text = made.out.bytes();
+    check_end(rt, &made, "done", b"", given);
+    check_replay(rt, alloc, text, &arrivals, &trace, given)
+}
+
+fn check_texts(rt: &impl Abort, alloc: Global, table: &[&str]) -> Result<(), Fail> {
+    for given in table {
+        check_made(rt, alloc, given)?;
+    }
+    Ok(())
+}
+
 /// The text of a design that one command writes another replays. Traces of other designs are those that `verify` has of them.
 #[test]
 fn texts_of_designs_are_replayed(rt: HostRuntime) -> Result<(), Fail> {
-    for table in [REPLAYED, TRACES] {
-        for given in table {
-            let row = row_text(&rt, given, "words: generate d\narrivals: UNTIL 20;")?;
-            let made = run_row(&rt, &row)?;
-            assert_eq!(rt; made.status, Status::Done, "{given}");
-            let Outcome { status, out, err } = replay_under(
-                &rt,
-                made.out.bytes(),
-                &arrivals_bytes(&rt, &row)?,
-            )?;
-            assert_eq!(rt; status, Status::Done, "{given}");
-            assert_eq!(rt; out.bytes(), lines(&rt, &row, "out")?.as_slice(), "{given}");
-            assert_eq!(rt; err.bytes(), b"".as_slice(), "{given}");
-        }
-    }
-    Ok(())
+    let alloc = rt.alloc();
+    check_texts(&rt, alloc, REPLAYED)?;
+    check_texts(&rt, alloc, traces())
 }

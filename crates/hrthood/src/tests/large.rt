@@ -3,18 +3,20 @@
 use super::replays::REPLAYED;
 use super::rows::run_table;
 use super::texts::joined;
+use std::alloc::Global;
+use std::process::Abort;
 use std::test::Fail;
 
 /// 400 passive units, of which each calls the next one twice.
-fn doubled(rt: &HostRuntime) -> Result<String, Fail> {
-    let mut units = String::new(rt.alloc());
+fn doubled(alloc: Global) -> Result<String, Fail> {
+    let mut units = String::new(alloc);
     for k in 1..400_u32 {
         let next = k.saturating_add(1);
-        let unit = format!(in rt.alloc(); "passive: p{k} f is begin p{next}.f; p{next}.f;\n")?;
+        let unit = format!(in alloc; "passive: p{k} f is begin p{next}.f; p{next}.f;\n")?;
         units.push_str(&unit)?;
     }
     joined(
-        rt,
+        alloc,
         &[
             "name: calls of more ticks than any horizon\n",
             &units,
@@ -28,43 +30,43 @@ fn doubled(rt: &HostRuntime) -> Result<String, Fail> {
 }
 
 /// 400 protected units, of which each calls the next one.
-fn chain(rt: &HostRuntime) -> Result<String, Fail> {
-    let mut units = String::new(rt.alloc());
+fn chain(alloc: Global) -> Result<String, Fail> {
+    let mut units = String::new(alloc);
     for k in 1..400_u32 {
         let next = k.saturating_add(1);
-        let unit = format!(in rt.alloc(); "protected: p{k} 1 f is begin p{next}.f;\n")?;
+        let unit = format!(in alloc; "protected: p{k} 1 f is begin p{next}.f;\n")?;
         units.push_str(&unit)?;
     }
     Ok(units)
 }
 
 /// The lines of a task that goes down this chain: each call takes two ticks.
-fn enters(rt: &HostRuntime) -> Result<String, Fail> {
-    let mut lines = String::new(rt.alloc());
+fn enters(alloc: Global) -> Result<String, Fail> {
+    let mut lines = String::new(alloc);
     for k in 1..401_u32 {
         let time = k.saturating_mul(2);
-        lines.push_str(&format!(in rt.alloc(); "out: {time} enter a p{k}.f\n")?)?;
+        lines.push_str(&format!(in alloc; "out: {time} enter a p{k}.f\n")?)?;
     }
     Ok(lines)
 }
 
 /// Its lines as it comes up again, which takes no tick.
-fn leaves(rt: &HostRuntime) -> Result<String, Fail> {
-    let mut lines = String::new(rt.alloc());
+fn leaves(alloc: Global) -> Result<String, Fail> {
+    let mut lines = String::new(alloc);
     for k in 1..401_u32 {
         let place = 401_u32.saturating_sub(k);
-        lines.push_str(&format!(in rt.alloc(); "out: 801 leave a p{place}.f\n")?)?;
+        lines.push_str(&format!(in alloc; "out: 801 leave a p{place}.f\n")?)?;
     }
     Ok(lines)
 }
 
 /// A task that holds 400 objects at once.
-fn held(rt: &HostRuntime) -> Result<String, Fail> {
-    let units = chain(rt)?;
-    let enters = enters(rt)?;
-    let leaves = leaves(rt)?;
+fn held(alloc: Global) -> Result<String, Fail> {
+    let units = chain(alloc)?;
+    let enters = enters(alloc)?;
+    let leaves = leaves(alloc)?;
     joined(
-        rt,
+        alloc,
         &[
             "name: sections inside 399 others\n",
             &units,
@@ -81,22 +83,22 @@ fn held(rt: &HostRuntime) -> Result<String, Fail> {
 }
 
 /// 200 activations of three ticks each: an assignment, a test and the end.
-fn activations(rt: &HostRuntime) -> Result<String, Fail> {
-    let mut lines = String::new(rt.alloc());
+fn activations(alloc: Global) -> Result<String, Fail> {
+    let mut lines = String::new(alloc);
     for k in 0..200_u32 {
         let time = k.saturating_mul(10);
         let end = time.saturating_add(3);
-        let both = format!(in rt.alloc(); "out: {time} release a\nout: {end} end a used 3\n")?;
+        let both = format!(in alloc; "out: {time} release a\nout: {end} end a used 3\n")?;
         lines.push_str(&both)?;
     }
     Ok(lines)
 }
 
 /// A task that calls above a ceiling in its activation behind these, whose lines have more than 5,000 bytes.
-fn stopped(rt: &HostRuntime) -> Result<String, Fail> {
-    let activations = activations(rt)?;
+fn stopped(alloc: Global) -> Result<String, Fail> {
+    let activations = activations(alloc)?;
     joined(
-        rt,
+        alloc,
         &[
             "name: a stop behind 200 activations
             protected: q 1 set is begin null;
@@ -111,10 +113,14 @@ fn stopped(rt: &HostRuntime) -> Result<String, Fail> {
     )
 }
 
+fn check_large(rt: &impl Abort, alloc: Global, row: &str) -> Result<(), Fail> {
+    run_table(rt, alloc, REPLAYED, &[row])
+}
+
 #[test]
 fn large_programs_are_run(rt: HostRuntime) -> Result<(), Fail> {
-    for row in [doubled(&rt)?, held(&rt)?, stopped(&rt)?] {
-        run_table(&rt, &rt, REPLAYED, &[row.as_str()])?;
-    }
-    Ok(())
+    let alloc = rt.alloc();
+    check_large(&rt, alloc, &doubled(alloc)?)?;
+    check_large(&rt, alloc, &held(alloc)?)?;
+    check_large(&rt, alloc, &stopped(alloc)?)
 }

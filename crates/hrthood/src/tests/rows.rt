@@ -1,7 +1,7 @@
 //! Tables of worked examples: what `run` is given, and what it must answer and write.
 //!
 //! A table is a list of rows, and a row is a text: lines of a key, a colon, a space and a value. So a table is one constant of bytes for
-//! the prover, whatever its rows say, and costs it next to nothing; rows that were structs took a second and more each.
+//! the prover, whatever its rows say, and costs it some half a second a KB; rows that were structs took a second and more each.
 //!
 //! | Key | What it says | Where a row has none |
 //! |---|---|---|
@@ -27,6 +27,7 @@ use super::shapes::design_bytes;
 use super::texts::{USUAL, ada_bytes, ada_text, joined, named, padded};
 use hood_io::{MemShelf, MemSink};
 use hrthood_top::{Status, run};
+use std::alloc::Global;
 use std::process::Abort;
 use std::test::Fail;
 
@@ -62,14 +63,14 @@ pub fn number(digits: &str) -> usize {
 }
 
 /// The text with spaces behind it, up to the length that the key has, if it is longer.
-pub fn lengthened(rt: &HostRuntime, text: &[u8], row: &str, key: &str) -> Result<Vec<u8>, Fail> {
+pub fn lengthened(alloc: Global, text: &[u8], row: &str, key: &str) -> Result<Vec<u8>, Fail> {
     let len = number(value(row, key).unwrap_or(""));
-    padded(rt, text, len.max(text.len()))
+    padded(alloc, text, len.max(text.len()))
 }
 
 /// The lines of a key, each with a line feed behind it.
-pub fn lines(rt: &HostRuntime, row: &str, key: &str) -> Result<Vec<u8>, Fail> {
-    let mut all = Vec::new(rt.alloc());
+pub fn lines(alloc: Global, row: &str, key: &str) -> Result<Vec<u8>, Fail> {
+    let mut all = Vec::new(alloc);
     for line in row.lines() {
         if let Some((name, text)) = line.split_once(':') {
             if name.trim_start() == key {
@@ -83,13 +84,13 @@ pub fn lines(rt: &HostRuntime, row: &str, key: &str) -> Result<Vec<u8>, Fail> {
 }
 
 /// The bytes of a row's file `r`.
-pub fn arrivals_bytes(rt: &HostRuntime, row: &str) -> Result<Vec<u8>, Fail> {
-    let mut arrivals = lines(rt, row, "r")?;
+pub fn arrivals_bytes(alloc: Global, row: &str) -> Result<Vec<u8>, Fail> {
+    let mut arrivals = lines(alloc, row, "r")?;
     let _ = arrivals.pop();
     if arrivals.is_empty() {
         arrivals.extend_from_slice(text(row, "arrivals").as_bytes())?;
     }
-    lengthened(rt, &arrivals, row, "arrivals_len")
+    lengthened(alloc, &arrivals, row, "arrivals_len")
 }
 
 /// The part of rows that a row is like.
@@ -101,24 +102,16 @@ fn part<'x>(given: &'x str) -> &'x str {
 }
 
 /// A row of a table whose rows have these keys too, where they don't say otherwise.
-pub fn row_text<'x>(rt: &HostRuntime, given: &'x str, usual: &'x str) -> Result<String, Fail> {
-    joined(rt, &[given, "\n", part(given), "\n", usual, "\n", USUAL])
-}
-
-pub fn words(rt: &HostRuntime, words: &[&str]) -> Result<Vec<String>, Fail> {
-    let mut all = Vec::new(rt.alloc());
-    for word in words {
-        all.push(String::from_str(rt.alloc(), word)?)?;
-    }
-    Ok(all)
+pub fn row_text<'x>(alloc: Global, given: &'x str, usual: &'x str) -> Result<String, Fail> {
+    joined(alloc, &[given, "\n", part(given), "\n", usual, "\n", USUAL])
 }
 
 /// The words of a command line, apart from each other by spaces.
-fn line_words(rt: &HostRuntime, line: &str) -> Result<Vec<String>, Fail> {
-    let mut all = Vec::new(rt.alloc());
+pub fn words(alloc: Global, line: &str) -> Result<Vec<String>, Fail> {
+    let mut all = Vec::new(alloc);
     for word in line.split_whitespace() {
         let word = if word == "''" { "" } else { word };
-        all.push(String::from_str(rt.alloc(), word)?)?;
+        all.push(String::from_str(alloc, word)?)?;
     }
     Ok(all)
 }
@@ -131,9 +124,14 @@ pub struct Outcome {
     pub err: MemSink,
 }
 
+/// What a run wrote to standard output; empty where that is no text.
+pub fn text_of<'x>(told: &'x Outcome) -> &'x str {
+    str::from_utf8(told.out.bytes()).unwrap_or("")
+}
+
 /// Runs words over a shelf and two sinks.
 fn run_over(
-    rt: &HostRuntime,
+    alloc: Global,
     words: &[String],
     shelf: &mut MemShelf,
     out: MemSink,
@@ -141,61 +139,91 @@ fn run_over(
 ) -> Outcome {
     let mut out = out;
     let mut err = err;
-    let status = run(rt.alloc(), words, shelf, &mut out, &mut err);
+    let status = run(alloc, words, shelf, &mut out, &mut err);
     Outcome { status, out, err }
 }
 
-/// Runs these words over a shelf, with so much room in standard output.
-pub fn run_words(
-    rt: &HostRuntime,
-    line: &[&str],
-    shelf: &mut MemShelf,
-    room: usize,
-) -> Result<Outcome, Fail> {
-    let words = words(rt, line)?;
-    let out = MemSink::new(rt.alloc(), room)?;
-    let err = MemSink::new(rt.alloc(), 1000)?;
-    Ok(run_over(rt, &words, shelf, out, err))
+/// Runs a command line over a shelf, with ample room.
+fn run_line(alloc: Global, line: &str, shelf: &mut MemShelf) -> Result<Outcome, Fail> {
+    let words = words(alloc, line)?;
+    let out = MemSink::new(alloc, 100_000)?;
+    let err = MemSink::new(alloc, 1000)?;
+    Ok(run_over(alloc, &words, shelf, out, err))
 }
 
-/// What a verb does with the bytes of a design.
-pub fn run_design(rt: &HostRuntime, verb: &str, design: &[u8]) -> Result<Outcome, Fail> {
-    let mut shelf = MemShelf::new(rt.alloc(), &[])?;
+/// What a command line does with the bytes of the design `d`.
+pub fn run_design(alloc: Global, line: &str, design: &[u8]) -> Result<Outcome, Fail> {
+    let mut shelf = MemShelf::new(alloc, &[])?;
     shelf.put("d", design)?;
-    run_words(rt, &[verb, "d"], &mut shelf, 100_000)
+    run_line(alloc, line, &mut shelf)
 }
 
 /// Replays an Ada text under an arrivals file.
-pub fn replay_under(rt: &HostRuntime, ada: &[u8], arrivals: &[u8]) -> Result<Outcome, Fail> {
-    let mut shelf = MemShelf::new(rt.alloc(), &[])?;
+pub fn replay_under(alloc: Global, ada: &[u8], arrivals: &[u8]) -> Result<Outcome, Fail> {
+    let mut shelf = MemShelf::new(alloc, &[])?;
     shelf.put("a.ada", ada)?;
     shelf.put("r", arrivals)?;
-    run_words(rt, &["replay", "a.ada", "r"], &mut shelf, 10_000)
+    run_line(alloc, "replay a.ada r", &mut shelf)
+}
+
+/// The Ada text that arrivals are given to: of a task with a sporadic unit.
+pub fn requested_text(alloc: Global) -> Result<Vec<u8>, Fail> {
+    ada_text(alloc, &row_text(alloc, "like: requested", "")?)
+}
+
+/// What is told of the bytes of a file of this kind: of `ada` and `arrivals` by a replay, and else of a design by the command line that
+/// its kind is.
+pub fn run_file(alloc: Global, kind: &str, bytes: &[u8]) -> Result<Outcome, Fail> {
+    match kind {
+        "ada" => replay_under(alloc, bytes, b"UNTIL 20;"),
+        "arrivals" => replay_under(alloc, &requested_text(alloc)?, bytes),
+        line => run_design(alloc, line, bytes),
+    }
 }
 
 /// An empty shelf, on which the fetch that a row names fails.
-fn shelf_of(rt: &HostRuntime, row: &str) -> Result<MemShelf, Fail> {
+fn empty_shelf(alloc: Global, row: &str) -> Result<MemShelf, Fail> {
     Ok(match value(row, "fails") {
-        Some(place) => MemShelf::new(rt.alloc(), &[number(place) as u64])?,
-        None => MemShelf::new(rt.alloc(), &[])?,
+        Some(place) => MemShelf::new(alloc, &[number(place) as u64])?,
+        None => MemShelf::new(alloc, &[])?,
     })
 }
 
-/// Runs a row.
-pub fn run_row(rt: &HostRuntime, row: &str) -> Result<Outcome, Fail> {
-    let mut shelf = shelf_of(rt, row)?;
-    shelf.put("d", &design_bytes(rt, row)?)?;
-    shelf.put("a.ada", &ada_bytes(rt, row)?)?;
-    shelf.put("r", &arrivals_bytes(rt, row)?)?;
-    let words = line_words(rt, text(row, "words"))?;
+/// The bytes of a row's file of this name.
+fn file_bytes(alloc: Global, row: &str, name: &str) -> Result<Vec<u8>, Fail> {
+    match name {
+        "d" => design_bytes(alloc, row),
+        "a.ada" => ada_bytes(alloc, row),
+        _ => arrivals_bytes(alloc, row),
+    }
+}
+
+/// The shelf with a row's files.
+fn shelf_of(alloc: Global, row: &str) -> Result<MemShelf, Fail> {
+    let mut shelf = empty_shelf(alloc, row)?;
+    for name in ["d", "a.ada", "r"] {
+        shelf.put(name, &file_bytes(alloc, row, name)?)?;
+    }
+    Ok(shelf)
+}
+
+/// A stream of a row, with the room of this key.
+fn sink_of(alloc: Global, row: &str, room: &str) -> Result<MemSink, Fail> {
     let most = number(text(row, "most")).max(1);
-    let out = MemSink::piecewise(rt.alloc(), number(text(row, "room")), most)?;
-    let err = MemSink::piecewise(rt.alloc(), number(text(row, "err_room")), most)?;
-    Ok(run_over(rt, &words, &mut shelf, out, err))
+    Ok(MemSink::piecewise(alloc, number(text(row, room)), most)?)
+}
+
+/// Runs a row.
+pub fn run_row(alloc: Global, row: &str) -> Result<Outcome, Fail> {
+    let words = words(alloc, text(row, "words"))?;
+    let mut shelf = shelf_of(alloc, row)?;
+    let out = sink_of(alloc, row, "room")?;
+    let err = sink_of(alloc, row, "err_room")?;
+    Ok(run_over(alloc, &words, &mut shelf, out, err))
 }
 
 /// The word for a status in a row.
-fn word_of(status: Status) -> &'static str {
+pub fn word_of(status: Status) -> &'static str {
     match status {
         Status::Done => "done",
         Status::Refused => "refused",
@@ -207,52 +235,91 @@ fn word_of(status: Status) -> &'static str {
 }
 
 /// What a row wants in standard output.
-fn wanted_out(rt: &HostRuntime, row: &str) -> Result<Vec<u8>, Fail> {
+fn wanted_out(alloc: Global, row: &str) -> Result<Vec<u8>, Fail> {
     let mut out = match value(row, "told") {
-        None => lines(rt, row, "out")?,
-        Some("ada") => ada_text(rt, row)?,
-        Some(name) => named(name).as_bytes().to_vec(rt.alloc())?,
+        None => lines(alloc, row, "out")?,
+        Some("ada") => ada_text(alloc, row)?,
+        Some(name) => named(name).as_bytes().to_vec(alloc)?,
     };
     out.truncate(number(text(row, "room")));
     Ok(out)
 }
 
-/// Looks at what a run wrote to standard output for a row.
-fn check_out(rt: &impl Abort, host: &HostRuntime, row: &str, out: &[u8]) -> Result<(), Fail> {
-    let wanted = wanted_out(host, row)?;
-    assert_eq!(rt; out, wanted.as_slice(), "{row}");
-    Ok(())
+/// What a row wants in standard error.
+fn wanted_err(alloc: Global, row: &str) -> Result<Vec<u8>, Fail> {
+    let mut err = lines(alloc, row, "err")?;
+    err.truncate(number(text(row, "err_room")));
+    Ok(err)
 }
 
-/// Looks at what a run wrote to standard error for a row.
-fn check_err(rt: &impl Abort, host: &HostRuntime, row: &str, err: &[u8]) -> Result<(), Fail> {
-    let mut wanted = lines(host, row, "err")?;
-    wanted.truncate(number(text(row, "err_room")));
-    assert_eq!(rt; err, wanted.as_slice(), "{row}");
+/// Looks whether something is so in a row. An assertion in a function beside values that are dropped is dear to prove, so this and the next
+/// have nearly all of them.
+pub fn check_that(rt: &impl Abort, is_so: bool, row: &str) {
+    assert!(rt; is_so, "{row}");
+}
+
+/// Looks whether these are the bytes that a row wants.
+pub fn check_bytes(rt: &impl Abort, found: &[u8], wanted: &[u8], row: &str) {
+    assert_eq!(rt; found, wanted, "{row}");
+}
+
+/// Looks at what a run answered, by the word for its status, and at all that it wrote to standard error.
+pub fn check_end(rt: &impl Abort, told: &Outcome, status: &str, err: &[u8], row: &str) {
+    check_bytes(rt, word_of(told.status).as_bytes(), status.as_bytes(), row);
+    check_bytes(rt, told.err.bytes(), err, row);
+}
+
+/// Looks at what a run answered, and at all that it wrote to standard output and standard error.
+pub fn check_told(
+    rt: &impl Abort,
+    told: &Outcome,
+    status: &str,
+    out: &[u8],
+    err: &[u8],
+    row: &str,
+) {
+    check_end(rt, told, status, err, row);
+    check_bytes(rt, told.out.bytes(), out, row);
+}
+
+/// Replays an Ada text under an arrivals file, which is done and gives this trace.
+pub fn check_replay(
+    rt: &impl Abort,
+    alloc: Global,
+    ada: &[u8],
+    arrivals: &[u8],
+    trace: &[u8],
+    row: &str,
+) -> Result<(), Fail> {
+    let told = replay_under(alloc, ada, arrivals)?;
+    check_told(rt, &told, "done", trace, b"", row);
     Ok(())
 }
 
 /// Runs a row, and looks at all that is told of it.
-pub fn check_row(rt: &impl Abort, host: &HostRuntime, row: &str) -> Result<(), Fail> {
-    let Outcome { status, out, err } = run_row(host, row)?;
-    assert_eq!(rt; word_of(status), text(row, "status"), "{row}");
-    check_out(rt, host, row, out.bytes())?;
-    check_err(rt, host, row, err.bytes())
+pub fn check_row(rt: &impl Abort, alloc: Global, row: &str) -> Result<(), Fail> {
+    let out = wanted_out(alloc, row)?;
+    let err = wanted_err(alloc, row)?;
+    let told = run_row(alloc, row)?;
+    check_told(rt, &told, text(row, "status"), &out, &err, row);
+    Ok(())
 }
 
-/// Runs each row of a table, whose rows have these keys too, and looks at all that is told of it, with room in standard error and without.
-pub fn run_table(
-    rt: &impl Abort,
-    host: &HostRuntime,
-    usual: &str,
-    table: &[&str],
-) -> Result<(), Fail> {
+/// Runs a row that has these keys too, and looks at all that is told of it, with room in standard error and without.
+fn check_given(rt: &impl Abort, alloc: Global, usual: &str, given: &str) -> Result<(), Fail> {
+    let row = row_text(alloc, given, usual)?;
+    check_row(rt, alloc, &row)?;
+    if value(given, "err_room").is_none() && text(&row, "status") != "done" {
+        let row = format!(in alloc; "err_room: 0\n{row}")?;
+        return check_row(rt, alloc, &row);
+    }
+    Ok(())
+}
+
+/// Runs each row of a table, whose rows have these keys too, and looks at all that is told of it.
+pub fn run_table(rt: &impl Abort, alloc: Global, usual: &str, table: &[&str]) -> Result<(), Fail> {
     for given in table {
-        let row = row_text(host, given, usual)?;
-        check_row(rt, host, &row)?;
-        if value(given, "err_room").is_none() && text(&row, "status") != "done" {
-            check_row(rt, host, &joined(host, &["err_room: 0\n", &row])?)?;
-        }
+        check_given(rt, alloc, usual, given)?;
     }
     Ok(())
 }

@@ -3,9 +3,9 @@
 //! The numbers are those of a simulation in ticks that knows nothing of the toolset: of the ready threads the one with the shortest
 //! deadline runs, but a thread on the board is not preempted. An activation uses 10 ticks, one more on the board, and one to end.
 
-use super::rows::{number, run_table, run_words};
-use hood_io::MemShelf;
-use hrthood_top::Status;
+use super::rows::{check_end, check_that, number, row_text, run_row, run_table, text_of};
+use super::units::cut;
+use std::alloc::Global;
 use std::process::Abort;
 use std::test::Fail;
 
@@ -128,59 +128,75 @@ const NO_SAMPLES: &[&str] = &[
     words: samples 1",
 ];
 
-/// The number behind a word of a line.
+/// The number behind a word of a line, which has a space before it and behind it.
 fn behind(line: &str, word: &str) -> usize {
-    let mut words = line.split_whitespace();
-    for here in &mut words {
-        if here == word {
-            break;
-        }
+    number(cut(cut(line, word).1, " ").0)
+}
+
+/// Looks at the line of a thread in the summary of a sample of so many: it is within its bound.
+fn check_line(
+    rt: &impl Abort,
+    alloc: Global,
+    line: &str,
+    thread: usize,
+    threads: usize,
+) -> Result<(), Fail> {
+    let start = format!(in alloc; "thread t{thread} releases ")?;
+    check_that(rt, line.starts_with(start.as_str()), line);
+    let last = usize::from(thread == threads);
+    let bound = thread
+        .saturating_mul(12)
+        .saturating_add(1)
+        .saturating_sub(last);
+    check_that(rt, behind(line, " bound ") == bound, line);
+    let greatest = behind(line, " greatest ");
+    check_that(rt, 0 < greatest && greatest <= bound, line);
+    Ok(())
+}
+
+/// Looks at the summary of a sample: there is a line for each of so many threads, in order, and one with the number of lines.
+fn check_summary(
+    rt: &impl Abort,
+    alloc: Global,
+    summary: &str,
+    threads: usize,
+) -> Result<(), Fail> {
+    let mut lines = summary.lines();
+    for thread in 1..threads.saturating_add(1) {
+        check_line(rt, alloc, lines.next().unwrap_or(""), thread, threads)?;
     }
-    number(words.next().unwrap_or(""))
+    let last = lines.next().unwrap_or("");
+    check_that(rt, last.starts_with("lines "), summary);
+    check_that(rt, lines.next().is_none(), summary);
+    Ok(())
 }
 
 /// Looks at the summary of the sample of so many threads: there is a line for each of them, in order, with its bound, and no time is
 /// over it.
-fn check_sample(rt: &impl Abort, host: &HostRuntime, threads: usize) -> Result<(), Fail> {
-    let count = format!(in host.alloc(); "{threads}")?;
-    let mut shelf = MemShelf::new(host.alloc(), &[])?;
-    let run = run_words(host, &["sample", &count], &mut shelf, 10_000)?;
-    assert!(rt; run.status == Status::Done, "{threads}");
-    let summary = str::from_utf8(run.out.bytes()).unwrap_or("");
-    let mut lines = summary.lines();
-    for k in 1..threads.saturating_add(1) {
-        let line = lines.next().unwrap_or("");
-        let start = format!(in host.alloc(); "thread t{k} releases ")?;
-        assert!(rt; line.starts_with(start.as_str()), "{summary}");
-        let last = usize::from(k == threads);
-        let bound = k.saturating_mul(12).saturating_add(1).saturating_sub(last);
-        assert_eq!(rt; behind(line, "bound"), bound, "{summary}");
-        let greatest = behind(line, "greatest");
-        assert!(rt; 0 < greatest && greatest <= bound, "{summary}");
-    }
-    assert!(rt;
-        lines.next().unwrap_or("").starts_with("lines "),
-        "{summary}"
-    );
-    assert!(rt; lines.next().is_none(), "{summary}");
-    Ok(())
+fn check_sample(rt: &impl Abort, alloc: Global, threads: usize) -> Result<(), Fail> {
+    let row = format!(in alloc; "words: sample {threads}\n")?;
+    let row = row_text(alloc, &row, "")?;
+    let told = run_row(alloc, &row)?;
+    check_end(rt, &told, "done", b"", &row);
+    check_summary(rt, alloc, text_of(&told), threads)
 }
 
 #[test]
 fn each_sample_keeps_its_bounds(rt: HostRuntime) -> Result<(), Fail> {
     for threads in 1..31_usize {
-        check_sample(&rt, &rt, threads)?;
+        check_sample(&rt, rt.alloc(), threads)?;
     }
     Ok(())
 }
 
 #[test]
 fn samples_are_summed_up(rt: HostRuntime) -> Result<(), Fail> {
-    run_table(&rt, &rt, SUMMED, SUMMARIES)?;
-    run_table(&rt, &rt, SUMMED, FULL)
+    let alloc = rt.alloc();
+    run_table(&rt, alloc, SUMMED, SUMMARIES)?;
+    run_table(&rt, alloc, SUMMED, FULL)
 }
 
 #[test]
 fn other_words_are_no_samples(rt: HostRuntime) -> Result<(), Fail> {
-    run_table(&rt, &rt, "", NO_SAMPLES)
+    run_table(&rt, rt.alloc(), "", NO_SAMPLES)
 }

@@ -2,10 +2,11 @@
 //! how, where the trace is not that of a schedule that was worked out before the program was there.
 
 use super::replays::{REFUSED, REPLAYED};
-use super::rows::{Outcome, row_text, run_design, run_table};
+use super::rows::{check_bytes, check_end, row_text, run_design, run_table};
 use super::shapes::design_bytes;
 use super::texts::ada_bytes;
-use hrthood_top::Status;
+use std::alloc::Global;
+use std::process::Abort;
 use std::test::Fail;
 
 /// Two threads and an object, of which each activation of the first meets a section of the second.
@@ -24,7 +25,11 @@ pub const TWO_OBJECTS: &str =
      END set; END q2;";
 
 /// Worked schedules: each with a design, the units of its Ada text, and the trace. Their designs are analysed in `analyses.rt`.
-pub const WORKED: &[&str] = &[
+pub fn worked() -> &'static [&'static str] {
+    WORKED
+}
+
+const WORKED: &[&str] = &[
     "name: a task waits for the section of one of lower priority, the second time at the end of its activation
     children: @section at the end
     protected: q 2 set is begin work (3);
@@ -480,15 +485,18 @@ const UNTAKEN: &[&str] = &[
 
 #[test]
 fn sections_are_run(rt: HostRuntime) -> Result<(), Fail> {
-    for table in [WORKED, SECTIONS, VALUES, NESTED, ENDS] {
-        run_table(&rt, &rt, REPLAYED, table)?;
-    }
-    run_table(&rt, &rt, REFUSED, UNTAKEN)
+    let alloc = rt.alloc();
+    run_table(&rt, alloc, REPLAYED, worked())?;
+    run_table(&rt, alloc, REPLAYED, SECTIONS)?;
+    run_table(&rt, alloc, REPLAYED, VALUES)?;
+    run_table(&rt, alloc, REPLAYED, NESTED)?;
+    run_table(&rt, alloc, REPLAYED, ENDS)?;
+    run_table(&rt, alloc, REFUSED, UNTAKEN)
 }
 
 /// What a text says, without white space and the comments before it.
-fn said(rt: &HostRuntime, text: &[u8]) -> Result<Vec<u8>, Fail> {
-    let mut all = Vec::new(rt.alloc());
+fn said(alloc: Global, text: &[u8]) -> Result<Vec<u8>, Fail> {
+    let mut all = Vec::new(alloc);
     let mut in_comment = false;
     for byte in text {
         match *byte {
@@ -502,19 +510,22 @@ fn said(rt: &HostRuntime, text: &[u8]) -> Result<Vec<u8>, Fail> {
     Ok(all)
 }
 
+/// Looks whether the text of a row's design says what the text of its units does.
+fn check_text(rt: &impl Abort, alloc: Global, given: &str) -> Result<(), Fail> {
+    let row = row_text(alloc, given, REPLAYED)?;
+    let units = said(alloc, &ada_bytes(alloc, &row)?)?;
+    let told = run_design(alloc, "generate d", &design_bytes(alloc, &row)?)?;
+    let text = told.out.bytes();
+    check_end(rt, &told, "done", b"", given);
+    check_bytes(rt, &said(alloc, text)?, &units, given);
+    Ok(())
+}
+
 /// The designs of the worked schedules have the Ada texts of their units.
 #[test]
 fn designs_have_the_texts_of_their_units(rt: HostRuntime) -> Result<(), Fail> {
-    for given in WORKED {
-        let row = row_text(&rt, given, REPLAYED)?;
-        let Outcome { status, out, err } = run_design(&rt, "generate", &design_bytes(&rt, &row)?)?;
-        assert_eq!(rt; status, Status::Done, "{given}");
-        assert_eq!(rt;
-            said(&rt, out.bytes())?,
-            said(&rt, &ada_bytes(&rt, &row)?)?,
-            "{given}"
-        );
-        assert_eq!(rt; err.bytes(), b"".as_slice(), "{given}");
+    for given in worked() {
+        check_text(&rt, rt.alloc(), given)?;
     }
     Ok(())
 }

@@ -14,185 +14,112 @@
 //! | none of these | of one cyclic object, with `object`, `attributes`, `thread` and the cost of `null;` in `null` |
 //! | `design_len` | beside any: with spaces behind it, up to so many bytes |
 
-use super::rows::{lengthened, number, text, value};
-use super::texts::joined;
+use super::rows::{lengthened, number, value};
+use super::texts::filled;
+use std::alloc::Global;
 use std::test::Fail;
 
-const COSTS: &str =
-    "COSTS ASSIGN = 1; TEST = 1; TURN = 1; CALL = 2; NULL = 1; PUT = 1; FINISH = 1; END COSTS;";
+/// The designs of the keys, the first that a row has; each row has an object.
+const SHAPES: &[(&str, &str)] = &[
+    ("whole", "{whole}"),
+    (
+        "children",
+        "DESIGN d IS {costs}\nOBJECT r IS ACTIVE OBJECTS {children} END r;\nEND d;\n",
+    ),
+    (
+        "head",
+        "DESIGN d VERSION 2 IS {head} {costs}\n{root}\nEND d;\n",
+    ),
+    ("root", "DESIGN d IS {costs}\n{root}\nEND d;\n"),
+    (
+        "parenthesised",
+        "DESIGN d IS {costs}\nOBJECT a IS CYCLIC ATTRIBUTES PERIOD = 10; DEADLINE = 10; THREAD_BUDGET = 1000;\n\
+        DATA x : word := 0; THREAD\nx := {(*parenthesised}1{)*parenthesised};\nEND THREAD; END a;\nEND d;\n",
+    ),
+    (
+        "sum",
+        "DESIGN d IS {costs}\nOBJECT a IS CYCLIC ATTRIBUTES PERIOD = 10; DEADLINE = 10; THREAD_BUDGET = 1000;\n\
+        DATA x : word := 0; THREAD\nx := 1{ + 1*sum};\nEND THREAD; END a;\nEND d;\n",
+    ),
+    (
+        "linked",
+        "DESIGN d IS {costs}\nOBJECT r IS ACTIVE OBJECTS OBJECT a IS ACTIVE PROVIDES f PAER; OBJECTS \
+        OBJECT nnnnnnnnnnnnnnnnnnnnnnnnnnnnnnnnnnnnnnnnnnnnnnnnnnnnnnnnnnnnnnnn IS PROTECTED \
+        PROVIDES mmmmmmmmmmmmmmmmmmmmmmmmmmmmmmmmmmmmmmmmmmmmmmmmmmmmmmmmmmmmmmmm PAER; \
+        OPERATION mmmmmmmmmmmmmmmmmmmmmmmmmmmmmmmmmmmmmmmmmmmmmmmmmmmmmmmmmmmmmmmm IS BEGIN null; \
+        END mmmmmmmmmmmmmmmmmmmmmmmmmmmmmmmmmmmmmmmmmmmmmmmmmmmmmmmmmmmmmmmm; \
+        END nnnnnnnnnnnnnnnnnnnnnnnnnnnnnnnnnnnnnnnnnnnnnnnnnnnnnnnnnnnnnnnn; IMPLEMENTS f BY \
+        nnnnnnnnnnnnnnnnnnnnnnnnnnnnnnnnnnnnnnnnnnnnnnnnnnnnnnnnnnnnnnnn.mmmmmmmmmmmmmmmmmmmmmmmmmmmmmmmmmmmmmmmmmmmmmmmmmmmmmmmmmmmmmmmm; \
+        END a; OBJECT c IS CYCLIC ATTRIBUTES PERIOD = 1000000; DEADLINE = 1000000; THREAD_BUDGET = 1000000; \
+        REQUIRES a.f; THREAD {a.f; *linked}END THREAD; END c; END r;\nEND d;\n",
+    ),
+    (
+        "object",
+        "DESIGN d IS\nCOSTS ASSIGN = 1; TEST = 1; TURN = 1; CALL = 2; NULL = {null}; PUT = 1; FINISH = 1; END COSTS;\n\
+        OBJECT {object} IS CYCLIC\nATTRIBUTES {attributes}\nTHREAD {thread} END THREAD;\nEND {object};\nEND d;\n",
+    ),
+];
 
-/// The text of the design `d` with this between its name and its costs, and this root.
-fn design<'x>(rt: &HostRuntime, head: &'x str, root: &'x str) -> Result<String, Fail> {
-    joined(
-        rt,
-        &["DESIGN d ", head, " ", COSTS, "\n", root, "\nEND d;\n"],
-    )
-}
-
-/// The text of a design whose thread has one assignment, on line 4.
-fn assigning(rt: &HostRuntime, value: &str) -> Result<String, Fail> {
-    joined(
-        rt,
-        &[
-            "DESIGN d IS ",
-            COSTS,
-            "\nOBJECT a IS CYCLIC ATTRIBUTES PERIOD = 10; DEADLINE = 10; THREAD_BUDGET = 1000;\n\
-            DATA x : word := 0; THREAD\nx := ",
-            value,
-            ";\nEND THREAD; END a;\nEND d;\n",
-        ],
-    )
-}
-
-/// The piece so many times, behind what stands there.
-fn repeated(into: &mut String, piece: &str, times: usize) -> Result<(), Fail> {
-    for _ in 0..times {
-        into.push_str(piece)?;
+/// The template of a row's design, where it isn't made by counting.
+fn shape(row: &str) -> &'static str {
+    for (key, template) in SHAPES {
+        if value(row, key).is_some() {
+            return template;
+        }
     }
-    Ok(())
+    ""
 }
 
-fn parenthesised(rt: &HostRuntime, times: usize) -> Result<String, Fail> {
-    let mut value = String::new(rt.alloc());
-    repeated(&mut value, "(", times)?;
-    value.push_str("1")?;
-    repeated(&mut value, ")", times)?;
-    assigning(rt, &value)
-}
-
-fn sum(rt: &HostRuntime, operators: usize) -> Result<String, Fail> {
-    let mut value = String::from_str(rt.alloc(), "1")?;
-    repeated(&mut value, " + 1", operators)?;
-    assigning(rt, &value)
-}
-
-fn nested(rt: &HostRuntime, count: usize) -> Result<String, Fail> {
-    let mut root = String::new(rt.alloc());
+/// Objects, each in the one before it.
+fn nested(alloc: Global, count: usize) -> Result<String, Fail> {
+    let mut root = String::new(alloc);
     for k in 0..count {
-        root.push_str(&format!(in rt.alloc(); "OBJECT o{k} IS ACTIVE OBJECTS\n")?)?;
+        root.push_str(&format!(in alloc; "OBJECT o{k} IS ACTIVE OBJECTS\n")?)?;
     }
-    design(rt, "IS", &root)
+    Ok(root)
 }
 
-fn doubling(rt: &HostRuntime, count: usize) -> Result<String, Fail> {
-    let mut root = String::from_str(rt.alloc(), "OBJECT r IS ACTIVE OBJECTS ")?;
+/// Passive objects, each of which calls the next one twice, but for the last.
+fn doubling(alloc: Global, count: usize) -> Result<String, Fail> {
+    let mut root = String::from_str(alloc, "OBJECT r IS ACTIVE OBJECTS ")?;
     for k in 1..count {
-        let this = format!(in rt.alloc(); "{k}")?;
         let next = k.saturating_add(1);
-        let next = format!(in rt.alloc(); "{next}")?;
-        root.push_str(&joined(
-            rt,
-            &[
-                "OBJECT p",
-                &this,
-                " IS PASSIVE PROVIDES f; REQUIRES p",
-                &next,
-                ".f; OPERATION f IS BEGIN p",
-                &next,
-                ".f; p",
-                &next,
-                ".f; END f; END p",
-                &this,
-                "; ",
-            ],
-        )?)?;
+        let object = format!(in alloc;
+            "OBJECT p{k} IS PASSIVE PROVIDES f; REQUIRES p{next}.f; OPERATION f IS BEGIN p{next}.f; p{next}.f; END f; END p{k}; "
+        )?;
+        root.push_str(&object)?;
     }
-    let last = format!(in rt.alloc(); "{count}")?;
-    root.push_str(&joined(
-        rt,
-        &[
-            "OBJECT p",
-            &last,
-            " IS PASSIVE PROVIDES f; OPERATION f IS BEGIN null; END f; END p",
-            &last,
-            "; END r;",
-        ],
-    )?)?;
-    design(rt, "IS", &root)
+    let last = format!(in alloc;
+        "OBJECT p{count} IS PASSIVE PROVIDES f; OPERATION f IS BEGIN null; END f; END p{count}; END r;"
+    )?;
+    root.push_str(&last)?;
+    Ok(root)
 }
 
-const LINKED: &str = "OBJECT r IS ACTIVE OBJECTS OBJECT a IS ACTIVE PROVIDES f PAER; OBJECTS \
-     OBJECT nnnnnnnnnnnnnnnnnnnnnnnnnnnnnnnnnnnnnnnnnnnnnnnnnnnnnnnnnnnnnnnn IS PROTECTED \
-     PROVIDES mmmmmmmmmmmmmmmmmmmmmmmmmmmmmmmmmmmmmmmmmmmmmmmmmmmmmmmmmmmmmmmm PAER; \
-     OPERATION mmmmmmmmmmmmmmmmmmmmmmmmmmmmmmmmmmmmmmmmmmmmmmmmmmmmmmmmmmmmmmmm IS BEGIN null; \
-     END mmmmmmmmmmmmmmmmmmmmmmmmmmmmmmmmmmmmmmmmmmmmmmmmmmmmmmmmmmmmmmmm; \
-     END nnnnnnnnnnnnnnnnnnnnnnnnnnnnnnnnnnnnnnnnnnnnnnnnnnnnnnnnnnnnnnnn; IMPLEMENTS f BY \
-     nnnnnnnnnnnnnnnnnnnnnnnnnnnnnnnnnnnnnnnnnnnnnnnnnnnnnnnnnnnnnnnn.mmmmmmmmmmmmmmmmmmmmmmmmmmmmmmmmmmmmmmmmmmmmmmmmmmmmmmmmmmmmmmmm; \
-     END a; OBJECT c IS CYCLIC ATTRIBUTES PERIOD = 1000000; DEADLINE = 1000000; THREAD_BUDGET = 1000000; \
-     REQUIRES a.f; THREAD ";
-
-fn linked(rt: &HostRuntime, calls: usize) -> Result<String, Fail> {
-    let mut root = String::from_str(rt.alloc(), LINKED)?;
-    repeated(&mut root, "a.f; ", calls)?;
-    root.push_str("END THREAD; END c; END r;")?;
-    design(rt, "IS", &root)
-}
-
-/// The text of a design of one cyclic object.
-fn one_object(rt: &HostRuntime, row: &str) -> Result<String, Fail> {
-    let name = text(row, "object");
-    joined(
-        rt,
-        &[
-            "DESIGN d IS\nCOSTS ASSIGN = 1; TEST = 1; TURN = 1; CALL = 2; NULL = ",
-            text(row, "null"),
-            "; PUT = 1; FINISH = 1; END COSTS;\nOBJECT ",
-            name,
-            " IS CYCLIC\nATTRIBUTES ",
-            text(row, "attributes"),
-            "\nTHREAD ",
-            text(row, "thread"),
-            " END THREAD;\nEND ",
-            name,
-            ";\nEND d;\n",
-        ],
-    )
-}
-
-/// The text of a design that is made by a count, or else of one object.
-fn counted(rt: &HostRuntime, row: &str) -> Result<String, Fail> {
-    if let Some(times) = value(row, "parenthesised") {
-        return parenthesised(rt, number(times));
-    }
-    if let Some(operators) = value(row, "sum") {
-        return sum(rt, number(operators));
-    }
+/// The root of a row's design that is made by counting; empty where none is.
+fn counted(alloc: Global, row: &str) -> Result<String, Fail> {
     if let Some(count) = value(row, "nested") {
-        return nested(rt, number(count));
+        return nested(alloc, number(count));
     }
-    if let Some(count) = value(row, "doubling") {
-        return doubling(rt, number(count));
-    }
-    match value(row, "linked") {
-        Some(calls) => linked(rt, number(calls)),
-        None => one_object(rt, row),
+    match value(row, "doubling") {
+        Some(count) => doubling(alloc, number(count)),
+        None => Ok(String::new(alloc)),
     }
 }
 
 /// The text of a row's design, without spaces behind it.
-fn shape_text(rt: &HostRuntime, row: &str) -> Result<String, Fail> {
-    if value(row, "whole").is_some() {
-        return Ok(String::from_str(rt.alloc(), text(row, "whole"))?);
+fn shape_text(alloc: Global, row: &str) -> Result<Vec<u8>, Fail> {
+    let root = counted(alloc, row)?;
+    if root.is_empty() {
+        return filled(alloc, &[shape(row)], row);
     }
-    if value(row, "children").is_some() {
-        let objects = text(row, "children");
-        let root = joined(rt, &["OBJECT r IS ACTIVE OBJECTS ", objects, " END r;"])?;
-        return design(rt, "IS", &root);
-    }
-    if value(row, "root").is_none() {
-        return counted(rt, row);
-    }
-    match value(row, "head") {
-        Some(head) => {
-            let head = joined(rt, &["VERSION 2 IS ", head])?;
-            design(rt, &head, text(row, "root"))
-        }
-        None => design(rt, "IS", text(row, "root")),
-    }
+    let mut all = filled(alloc, &["DESIGN d IS {costs}\n"], row)?;
+    all.extend_from_slice(root.as_bytes())?;
+    all.extend_from_slice(b"\nEND d;\n")?;
+    Ok(all)
 }
 
 /// The bytes of a row's design.
-pub fn design_bytes(rt: &HostRuntime, row: &str) -> Result<Vec<u8>, Fail> {
-    let text = shape_text(rt, row)?;
-    lengthened(rt, text.as_bytes(), row, "design_len")
+pub fn design_bytes(alloc: Global, row: &str) -> Result<Vec<u8>, Fail> {
+    lengthened(alloc, &shape_text(alloc, row)?, row, "design_len")
 }

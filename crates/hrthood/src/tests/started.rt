@@ -271,8 +271,8 @@ const OUTSIDE: &[&str] = &[
 
 #[test]
 fn tasks_are_started(rt: HostRuntime) -> Result<(), Fail> {
-    for table in [STARTS, CEILINGS, OUTSIDE] {
-        run_table(&rt, &rt, REPLAYED, table)?;
-    }
-    Ok(())
+    let alloc = rt.alloc();
+    run_table(&rt, alloc, REPLAYED, STARTS)?;
+    run_table(&rt, alloc, REPLAYED, CEILINGS)?;
+    run_table(&rt, alloc, REPLAYED, OUTSIDE)
 }

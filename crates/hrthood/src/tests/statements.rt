@@ -216,8 +216,8 @@ const CALLS: &[&str] = &[
 
 #[test]
 fn statements_are_run(rt: HostRuntime) -> Result<(), Fail> {
-    for table in [BLOCKS, STATEMENTS, CALLS] {
-        run_table(&rt, &rt, REPLAYED, table)?;
-    }
-    Ok(())
+    let alloc = rt.alloc();
+    run_table(&rt, alloc, REPLAYED, BLOCKS)?;
+    run_table(&rt, alloc, REPLAYED, STATEMENTS)?;
+    run_table(&rt, alloc, REPLAYED, CALLS)
 }

@@ -130,8 +130,7 @@ const ENDS: &[&str] = &[
 
 #[test]
 fn calls_above_a_ceiling_stop(rt: HostRuntime) -> Result<(), Fail> {
-    for table in [CALLS, ENDS] {
-        run_table(&rt, &rt, STOPPED, table)?;
-    }
-    Ok(())
+    let alloc = rt.alloc();
+    run_table(&rt, alloc, STOPPED, CALLS)?;
+    run_table(&rt, alloc, STOPPED, ENDS)
 }

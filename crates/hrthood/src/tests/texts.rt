@@ -7,18 +7,20 @@
 //! | `null` | the cost of `null;` |
 //! | `heads`, `bodies` | the specifications and the bodies of the units before it |
 //! | `vars`, `block` | the variables of its unit, and its block |
-//! | `separation`, `jitter` | where a row has them, the program has one task `s` in place of the cyclic one, which is requested from outside with a word `v` |
+//! | `separation`, `jitter` | with them the program has, in place of the cyclic task, one `s` that is requested from outside with a word `v` |
 //! | the keys of `units.rt` | where a row has one of them, the program has these units alone |
 //! | `ada_cut` | so many bytes are missing at its end |
 //! | `ada_len` | with spaces behind it, up to so many bytes |
 
+use super::changed_tokens::{ADA, ARRIVALS, DESIGN, UNITS};
 use super::checks::{WRONG, WRONG_WITHOUT_CLASHES};
 use super::formats::{COMMENTED, FORMATTED, TOO_GREAT};
 use super::generates::{EVERY_KIND, EVERY_KIND_TEXT, IN_MILLISECONDS_TEXT};
 use super::replays::NO_UNITS;
 use super::rows::{lengthened, number, text, value};
 use super::sections::{SECTION_AT_THE_END, TWO_OBJECTS};
-use super::units::{bodies, specs};
+use super::units::{BODIES, SPECS, push_units};
+use std::alloc::Global;
 use std::test::Fail;
 
 /// What rows of every table have: a cyclic task of period 10 whose activations take 4 ticks.
@@ -32,13 +34,14 @@ pub const USUAL: &str = "unit: a
     object: a
     attributes: PERIOD = 10; DEADLINE = 10; THREAD_BUDGET = 1000;
     thread: work (3);
+    costs: COSTS ASSIGN = 1; TEST = 1; TURN = 1; CALL = 2; NULL = 1; PUT = 1; FINISH = 1; END COSTS;
     room: 100000
     err_room: 1000
     most: 100000";
 
 /// The text of these pieces.
-pub fn joined(rt: &HostRuntime, pieces: &[&str]) -> Result<String, Fail> {
-    let mut all = String::new(rt.alloc());
+pub fn joined(alloc: Global, pieces: &[&str]) -> Result<String, Fail> {
+    let mut all = String::new(alloc);
     for piece in pieces {
         all.push_str(piece)?;
     }
@@ -46,23 +49,50 @@ pub fn joined(rt: &HostRuntime, pieces: &[&str]) -> Result<String, Fail> {
 }
 
 /// The text with spaces behind it, up to this length.
-pub fn padded(rt: &HostRuntime, text: &[u8], len: usize) -> Result<Vec<u8>, Fail> {
-    let mut bytes = text.to_vec(rt.alloc())?;
+pub fn padded(alloc: Global, text: &[u8], len: usize) -> Result<Vec<u8>, Fail> {
+    let mut bytes = text.to_vec(alloc)?;
     bytes.resize(len, b' ')?;
     Ok(bytes)
 }
 
-/// What stands before a text that may be empty.
-fn gap<'x>(text: &'x str) -> &'x str {
-    if text.is_empty() { "" } else { " " }
+/// Adds what a key in a template stands for, by a row.
+fn push_value(all: &mut Vec<u8>, row: &str, key: &str) -> Result<(), Fail> {
+    if let Some((piece, count)) = key.split_once('*') {
+        for _ in 0..number(text(row, count)) {
+            all.extend_from_slice(piece.as_bytes())?;
+        }
+        return Ok(());
+    }
+    let found = text(row, key.trim_start());
+    if key.starts_with(' ') && !found.is_empty() {
+        all.push(b' ')?;
+    }
+    all.extend_from_slice(found.as_bytes())?;
+    Ok(())
 }
 
+/// The text of these templates, in which `{key}` stands for the value of that key in the row, `{ key}` for a space and the value where
+/// it isn't empty, and `{PIECE*key}` for the piece so many times. One function fills all templates, since many pieces in a function
+/// are dear to prove.
+pub fn filled(alloc: Global, templates: &[&str], row: &str) -> Result<Vec<u8>, Fail> {
+    let mut all = Vec::new(alloc);
+    for template in templates {
+        for piece in template.split('{') {
+            let (key, behind) = piece.split_once('}').unwrap_or(("", piece));
+            push_value(&mut all, row, key)?;
+            all.extend_from_slice(behind.as_bytes())?;
+        }
+    }
+    Ok(all)
+}
+
+/// The comments before the text of the cyclic task.
+const COMMENTS: &str = "-- design d
+-- thread {unit} priority 1 jitter 0 response {response} deadline {deadline}
+";
+
 /// The clauses on the processor and the unit `hrt`.
-fn unit_hrt(rt: &HostRuntime, row: &str) -> Result<String, Fail> {
-    joined(
-        rt,
-        &[
-            "pragma task_dispatching_policy (fifo_within_priorities);
+const HRT: &str = "pragma task_dispatching_policy (fifo_within_priorities);
 pragma locking_policy (ceiling_locking);
 with ada.real_time;
 package hrt is
@@ -72,9 +102,7 @@ package hrt is
    test_cost : constant := 1;
    turn_cost : constant := 1;
    call_cost : constant := 2;
-   null_cost : constant := ",
-            text(row, "null"),
-            ";
+   null_cost : constant := {null};
    put_cost : constant := 1;
    finish_cost : constant := 1;
    function epoch return moment;
@@ -85,109 +113,39 @@ package hrt is
 end hrt;
 with hrt;
 use hrt;
-",
-        ],
-    )
-}
+";
 
-/// The specification of the program `d` with its task.
-fn unit_head(rt: &HostRuntime, row: &str) -> Result<String, Fail> {
-    let unit = text(row, "unit");
-    let heads = text(row, "heads");
-    joined(
-        rt,
-        &[
-            "package d is",
-            gap(heads),
-            heads,
-            "\n   package ",
-            unit,
-            " is
+/// The specification and the body of the program `d` with the cyclic task.
+const TASK: &str = "package d is{ heads}
+   package {unit} is
       task hrt_thread is
-         pragma priority (",
-            text(row, "priority"),
-            ");
+         pragma priority ({priority});
       end hrt_thread;
-   end ",
-            unit,
-            ";
+   end {unit};
 end d;
-",
-        ],
-    )
-}
-
-/// The body of the program `d` with its task.
-fn unit_body(rt: &HostRuntime, row: &str) -> Result<String, Fail> {
-    let unit = text(row, "unit");
-    let bodies = text(row, "bodies");
-    let vars = text(row, "vars");
-    joined(
-        rt,
-        &[
-            "package body d is",
-            gap(bodies),
-            bodies,
-            "\n   package body ",
-            unit,
-            " is",
-            gap(vars),
-            vars,
-            "
+package body d is{ bodies}
+   package body {unit} is{ vars}
       task body hrt_thread is
          hrt_next : hrt.moment := hrt.after (hrt.epoch, 0);
       begin
          loop
             delay until hrt_next;
-            hrt_next := hrt.after (hrt_next, ",
-            text(row, "period"),
-            ");
-            ",
-            text(row, "block"),
-            "
+            hrt_next := hrt.after (hrt_next, {period});
+            {block}
             activation_end;
          end loop;
       end hrt_thread;
-   end ",
-            unit,
-            ";
+   end {unit};
 end d;
 with d;
 procedure hrt_main is
 begin
    null;
 end hrt_main;
-",
-        ],
-    )
-}
+";
 
-/// The Ada text of the program `d` with a row's task.
-pub fn ada_text(rt: &HostRuntime, row: &str) -> Result<Vec<u8>, Fail> {
-    let text = joined(
-        rt,
-        &[
-            "-- design d\n-- thread ",
-            text(row, "unit"),
-            " priority 1 jitter 0 response ",
-            text(row, "response"),
-            " deadline ",
-            text(row, "deadline"),
-            "\n",
-            &unit_hrt(rt, row)?,
-            &unit_head(rt, row)?,
-            &unit_body(rt, row)?,
-        ],
-    )?;
-    Ok(text.as_bytes().to_vec(rt.alloc())?)
-}
-
-/// The specification of the program `d` with its sporadic task.
-fn asked_head(rt: &HostRuntime, row: &str) -> Result<String, Fail> {
-    joined(
-        rt,
-        &[
-            "package d is
+/// The specification and the body of the program `d` with the sporadic task.
+const ASKED_TASK: &str = "package d is
    package s is
       protected hrt_obcs is
          pragma priority (1);
@@ -201,26 +159,12 @@ fn asked_head(rt: &HostRuntime, row: &str) -> Result<String, Fail> {
       task hrt_thread is
          pragma priority (1);
       end hrt_thread;
-      hrt_separation : constant := ",
-            text(row, "separation"),
-            ";
-      hrt_jitter : constant := ",
-            text(row, "jitter"),
-            ";
+      hrt_separation : constant := {separation};
+      hrt_jitter : constant := {jitter};
       hrt_external : constant boolean := true;
    end s;
 end d;
-",
-        ],
-    )
-}
-
-/// The body of the program `d` with its sporadic task.
-fn asked_body(rt: &HostRuntime, row: &str) -> Result<String, Fail> {
-    joined(
-        rt,
-        &[
-            "package body d is
+package body d is
    package body s is
       protected body hrt_obcs is
          procedure start (v : in word) is
@@ -239,9 +183,7 @@ fn asked_body(rt: &HostRuntime, row: &str) -> Result<String, Fail> {
       begin
          loop
             hrt_obcs.hrt_wait (v);
-            ",
-            text(row, "block"),
-            "
+            {block}
             activation_end;
          end loop;
       end hrt_thread;
@@ -252,66 +194,55 @@ procedure hrt_main is
 begin
    null;
 end hrt_main;
-",
-        ],
-    )
+";
+
+/// The text of the unit `hrt` with these templates before it and behind it.
+fn with_hrt(alloc: Global, row: &str, before: &str, behind: &str) -> Result<Vec<u8>, Fail> {
+    filled(alloc, &[before, HRT, behind], row)
 }
 
-/// The Ada text of the program `d` with a row's sporadic task alone.
-fn asked_text(rt: &HostRuntime, row: &str) -> Result<Vec<u8>, Fail> {
-    let text = joined(
-        rt,
-        &[
-            &unit_hrt(rt, row)?,
-            &asked_head(rt, row)?,
-            &asked_body(rt, row)?,
-        ],
-    )?;
-    Ok(text.as_bytes().to_vec(rt.alloc())?)
+/// The Ada text of the program `d` with a row's task: of the sporadic one where the row has a separation, and else of the cyclic one.
+pub fn ada_text(alloc: Global, row: &str) -> Result<Vec<u8>, Fail> {
+    match value(row, "separation") {
+        Some(_) => with_hrt(alloc, row, "", ASKED_TASK),
+        None => with_hrt(alloc, row, COMMENTS, TASK),
+    }
 }
 
 /// The Ada text of the program `d` with these specifications of units, and their bodies.
-fn units_text(rt: &HostRuntime, row: &str, specs: &str) -> Result<Vec<u8>, Fail> {
-    let text = joined(
-        rt,
-        &[
-            &unit_hrt(rt, row)?,
-            "package d is\n",
-            specs,
-            "end d;\npackage body d is\n",
-            &bodies(rt, row)?,
-            "end d;\nwith d;\nprocedure hrt_main is begin null; end hrt_main;\n",
-        ],
-    )?;
-    Ok(text.as_bytes().to_vec(rt.alloc())?)
+fn units_text(alloc: Global, row: &str, specs: &[u8]) -> Result<Vec<u8>, Fail> {
+    let mut all = with_hrt(alloc, row, "", "package d is\n")?;
+    all.extend_from_slice(specs)?;
+    all.extend_from_slice(b"end d;\npackage body d is\n")?;
+    push_units(alloc, &mut all, row, BODIES)?;
+    all.extend_from_slice(b"end d;\nwith d;\nprocedure hrt_main is begin null; end hrt_main;\n")?;
+    Ok(all)
 }
 
 /// The text of a row's program.
-fn program_text(rt: &HostRuntime, row: &str) -> Result<Vec<u8>, Fail> {
-    let specs = specs(rt, row)?;
-    if !specs.is_empty() {
-        return units_text(rt, row, &specs);
+fn program_text(alloc: Global, row: &str) -> Result<Vec<u8>, Fail> {
+    let mut specs = Vec::new(alloc);
+    push_units(alloc, &mut specs, row, SPECS)?;
+    if specs.is_empty() {
+        return ada_text(alloc, row);
     }
-    match value(row, "separation") {
-        Some(_) => asked_text(rt, row),
-        None => ada_text(rt, row),
-    }
+    units_text(alloc, row, &specs)
 }
 
 /// The bytes of a row's Ada text.
-pub fn ada_bytes(rt: &HostRuntime, row: &str) -> Result<Vec<u8>, Fail> {
+pub fn ada_bytes(alloc: Global, row: &str) -> Result<Vec<u8>, Fail> {
     let mut bytes = match value(row, "ada") {
-        Some(_) => text(row, "ada").as_bytes().to_vec(rt.alloc())?,
-        None => program_text(rt, row)?,
+        Some(_) => text(row, "ada").as_bytes().to_vec(alloc)?,
+        None => program_text(alloc, row)?,
     };
     let cut = number(value(row, "ada_cut").unwrap_or(""));
     bytes.truncate(bytes.len().saturating_sub(cut));
-    lengthened(rt, &bytes, row, "ada_len")
+    lengthened(alloc, &bytes, row, "ada_len")
 }
 
-/// The text that rows know by this name; the empty one where there is none.
-pub fn named(name: &str) -> &'static str {
-    for (known, text) in NAMED {
+/// The text that stands beside this in a list; the empty one where there is none.
+pub fn beside(list: &[(&str, &'static str)], name: &str) -> &'static str {
+    for (known, text) in list {
         if *known == name {
             return text;
         }
@@ -319,35 +250,105 @@ pub fn named(name: &str) -> &'static str {
     ""
 }
 
-/// The texts that rows know by a name.
-const NAMED: &[(&str, &str)] = &[
-    ("asked", ASKED),
-    ("asked without a value", ASKED_BARE),
+/// The text that is known by this name; the empty one where there is none. A function is the dearer to prove the more bytes of text it
+/// names, and can't be proved from some 30,000 bytes on: so each long text is named in one function alone, which names a few.
+pub fn named(name: &str) -> &'static str {
+    let found = small_design(name);
+    if !found.is_empty() {
+        return found;
+    }
+    let found = part_of_rows(name);
+    if !found.is_empty() {
+        return found;
+    }
+    let found = large_design(name);
+    if !found.is_empty() {
+        return found;
+    }
+    let found = large_text(name);
+    if !found.is_empty() {
+        return found;
+    }
+    let found = tokens(name);
+    if !found.is_empty() {
+        return found;
+    }
+    tokens_of_units(name)
+}
+
+/// Small designs and objects.
+const SMALL_DESIGNS: &[(&str, &str)] = &[
     ("commented", COMMENTED),
     ("cyclic", CYCLIC),
-    ("every kind", EVERY_KIND),
-    ("every kind text", EVERY_KIND_TEXT),
     ("formatted", FORMATTED),
-    ("gives nothing", GIVES_NOTHING),
     ("inner calls", INNER_CALLS),
     ("inner start", INNER_START),
     ("milliseconds", IN_MILLISECONDS),
-    ("milliseconds text", IN_MILLISECONDS_TEXT),
-    ("mine", MINE),
-    ("no command", NO_COMMAND),
-    ("no units", NO_UNITS),
-    ("protected", PROTECTED),
-    ("requested", REQUESTED),
     ("section at the end", SECTION_AT_THE_END),
     ("started", STARTED),
-    ("starting", STARTING),
-    ("three tasks", THREE_TASKS),
     ("too great", TOO_GREAT),
-    ("trace", TRACE),
     ("two objects", TWO_OBJECTS),
     ("wrong", WRONG),
     ("wrong without clashes", WRONG_WITHOUT_CLASHES),
 ];
+
+fn small_design(name: &str) -> &'static str {
+    beside(SMALL_DESIGNS, name)
+}
+
+/// Parts of rows, and small texts of programs and traces.
+const PARTS: &[(&str, &str)] = &[
+    ("asked", ASKED),
+    ("asked without a value", ASKED_BARE),
+    ("gives nothing", GIVES_NOTHING),
+    ("no command", NO_COMMAND),
+    ("no units", NO_UNITS),
+    ("protected", PROTECTED),
+    ("requested", REQUESTED),
+    ("starting", STARTING),
+    ("three tasks", THREE_TASKS),
+    ("trace", TRACE),
+];
+
+fn part_of_rows(name: &str) -> &'static str {
+    beside(PARTS, name)
+}
+
+/// Large designs, and a text of one.
+const LARGE_DESIGNS: &[(&str, &str)] = &[
+    ("every kind", EVERY_KIND),
+    ("milliseconds text", IN_MILLISECONDS_TEXT),
+    ("mine", MINE),
+];
+
+fn large_design(name: &str) -> &'static str {
+    beside(LARGE_DESIGNS, name)
+}
+
+/// A large text of a design.
+const LARGE_TEXTS: &[(&str, &str)] = &[("every kind text", EVERY_KIND_TEXT)];
+
+fn large_text(name: &str) -> &'static str {
+    beside(LARGE_TEXTS, name)
+}
+
+/// Tokens of texts.
+const TOKENS: &[(&str, &str)] = &[
+    ("changed ada", ADA),
+    ("changed arrivals", ARRIVALS),
+    ("changed design", DESIGN),
+];
+
+fn tokens(name: &str) -> &'static str {
+    beside(TOKENS, name)
+}
+
+/// Tokens of a large text.
+const TOKENS_OF_UNITS: &[(&str, &str)] = &[("changed units", UNITS)];
+
+fn tokens_of_units(name: &str) -> &'static str {
+    beside(TOKENS_OF_UNITS, name)
+}
 
 /// One cyclic object that works for 3 ticks.
 const CYCLIC: &str =
@@ -385,7 +386,7 @@ const IN_MILLISECONDS: &str =
      THREAD work (3); END THREAD; END a;";
 
 /// The mine pump: twelve objects on three levels, six threads.
-pub const MINE: &str = "DESIGN mine IS
+const MINE: &str = "DESIGN mine IS
 COSTS ASSIGN = 1; TEST = 1; TURN = 1; CALL = 2; NULL = 1; PUT = 1; FINISH = 1; END COSTS;
 OBJECT mine_control IS ACTIVE
 OBJECTS

@@ -10,292 +10,157 @@
 //!
 //! A profile is a name and the parameters, as `set (v : in word)`; the parameter of a request is `v`.
 
-use super::texts::joined;
+use super::texts::{beside, filled, joined};
+use std::alloc::Global;
 use std::test::Fail;
 
+/// The keys of the words in the line of a unit of each kind, in order, before its profile.
+const HEADS: &[(&str, &str)] = &[
+    ("passive", "name"),
+    ("protected", "name ceiling"),
+    ("cyclic", "name priority offset period"),
+    ("started", "name priority ceiling separation jitter"),
+    ("external", "name priority ceiling separation jitter"),
+];
+
+/// The specification of a sporadic unit.
+const SPORADIC_SPEC: &str =
+    "package {name} is protected hrt_obcs is pragma priority ({ceiling}); procedure {profile}; entry hrt_wait (hrt_request : out word); \
+    private hrt_value : word := 0; hrt_open : boolean := false; end hrt_obcs; procedure {profile} renames hrt_obcs.{operation}; \
+    task hrt_thread is pragma priority ({priority}); end hrt_thread; hrt_separation : constant := {separation}; \
+    hrt_jitter : constant := {jitter}; hrt_external : constant boolean := {external}; end {name};\n";
+
+/// The specification of a unit of each kind.
+pub const SPECS: &[(&str, &str)] = &[
+    (
+        "passive",
+        "package {name} is procedure {profile}; end {name};\n",
+    ),
+    (
+        "protected",
+        "package {name} is protected hrt_object is pragma priority ({ceiling}); procedure {profile}; private {data} end hrt_object; \
+        procedure {profile} renames hrt_object.{operation}; end {name};\n",
+    ),
+    (
+        "cyclic",
+        "package {name} is task hrt_thread is pragma priority ({priority}); end hrt_thread; end {name};\n",
+    ),
+    ("started", SPORADIC_SPEC),
+    ("external", SPORADIC_SPEC),
+];
+
+/// The body of a sporadic unit.
+const SPORADIC_BODY: &str =
+    "package body {name} is {data} protected body hrt_obcs is procedure {profile} is begin hrt_value := {handed}; hrt_open := true; \
+    end {operation}; entry hrt_wait (hrt_request : out word) when hrt_open is begin hrt_request := hrt_value; hrt_open := false; \
+    end hrt_wait; end hrt_obcs; task body hrt_thread is {released} : word := 0; begin loop hrt_obcs.hrt_wait ({released}); \
+    {statements} activation_end; end loop; end hrt_thread; end {name};\n";
+
+/// The body of a unit of each kind.
+pub const BODIES: &[(&str, &str)] = &[
+    (
+        "passive",
+        "package body {name} is procedure {profile} is {data} begin {statements} end {operation}; end {name};\n",
+    ),
+    (
+        "protected",
+        "package body {name} is protected body hrt_object is procedure {profile} is begin {statements} end {operation}; end hrt_object; \
+        end {name};\n",
+    ),
+    (
+        "cyclic",
+        "package body {name} is {data} task body hrt_thread is hrt_next : hrt.moment := hrt.after (hrt.epoch, {offset}); begin loop \
+        delay until hrt_next; hrt_next := hrt.after (hrt_next, {period}); {statements} activation_end; end loop; end hrt_thread; \
+        end {name};\n",
+    ),
+    ("started", SPORADIC_BODY),
+    ("external", SPORADIC_BODY),
+];
+
 /// What stands before a separator and behind it; all stands before one that is missing.
-fn cut<'x>(text: &'x str, separator: &'x str) -> (&'x str, &'x str) {
+pub fn cut<'x>(text: &'x str, separator: &'x str) -> (&'x str, &'x str) {
     match text.split_once(separator) {
         Some(parts) => parts,
         None => (text, ""),
     }
 }
 
-/// The first word of a profile: the name of its operation.
-fn name_of<'x>(profile: &'x str) -> &'x str {
-    cut(profile, " ").0
+/// The first words of a unit by their keys, one a line.
+fn head_row(alloc: Global, keys: &str, head: &str) -> Result<String, Fail> {
+    let mut row = String::new(alloc);
+    let mut words = head.split_whitespace();
+    for key in keys.split_whitespace() {
+        let word = words.next().unwrap_or("");
+        row.push_str(&format!(in alloc; "{key}: {word}\n")?)?;
+    }
+    Ok(row)
 }
 
-/// The data or locals of a unit, and its statements.
-fn parts_of<'x>(text: &'x str) -> (&'x str, &'x str) {
-    cut(text, "begin ")
+/// What stands behind the first word.
+fn rest<'x>(text: &'x str) -> &'x str {
+    cut(text, " ").1
 }
 
-/// The specification of a passive unit.
-fn passive_spec(rt: &HostRuntime, unit: &str) -> Result<String, Fail> {
-    let (name, profile) = cut(cut(unit, " is ").0, " ");
+/// The profile of a unit of this kind, behind its first words; a cyclic unit has none.
+fn profile_of<'x>(kind: &'x str, head: &'x str) -> &'x str {
+    match kind {
+        "passive" => rest(head),
+        "protected" => rest(rest(head)),
+        "cyclic" => "",
+        _ => rest(rest(rest(rest(rest(head))))),
+    }
+}
+
+/// What a control structure keeps at a request of this profile, and how its task names what it gets.
+fn request<'x>(profile: &'x str) -> &'x str {
+    if cut(profile, "(").1.is_empty() {
+        "handed: 0\nreleased: hrt_request\n"
+    } else {
+        "handed: v\nreleased: v\n"
+    }
+}
+
+/// The values of the unit of a line by their keys, one a line.
+fn unit_row<'x>(alloc: Global, kind: &'x str, unit: &'x str) -> Result<String, Fail> {
+    let (head, behind) = cut(unit, " is ");
+    let (data, statements) = cut(behind, "begin ");
+    let words = head_row(alloc, beside(HEADS, kind), head)?;
+    let profile = profile_of(kind, head);
+    let external = if kind == "external" { "true" } else { "false" };
     joined(
-        rt,
+        alloc,
         &[
-            "package ",
-            name,
-            " is procedure ",
+            &words,
+            request(profile),
+            "profile: ",
             profile,
-            "; end ",
-            name,
-            ";\n",
-        ],
-    )
-}
-
-/// The body of a passive unit.
-fn passive_body(rt: &HostRuntime, unit: &str) -> Result<String, Fail> {
-    let (head, rest) = cut(unit, " is ");
-    let (name, profile) = cut(head, " ");
-    let (locals, statements) = parts_of(rest);
-    joined(
-        rt,
-        &[
-            "package body ",
-            name,
-            " is procedure ",
-            profile,
-            " is ",
-            locals,
-            " begin ",
-            statements,
-            " end ",
-            name_of(profile),
-            "; end ",
-            name,
-            ";\n",
-        ],
-    )
-}
-
-/// The specification of a protected unit.
-fn protected_spec(rt: &HostRuntime, unit: &str) -> Result<String, Fail> {
-    let (head, rest) = cut(unit, " is ");
-    let (name, head) = cut(head, " ");
-    let (ceiling, profile) = cut(head, " ");
-    joined(
-        rt,
-        &[
-            "package ",
-            name,
-            " is protected hrt_object is pragma priority (",
-            ceiling,
-            "); procedure ",
-            profile,
-            "; private ",
-            parts_of(rest).0,
-            " end hrt_object; procedure ",
-            profile,
-            " renames hrt_object.",
-            name_of(profile),
-            "; end ",
-            name,
-            ";\n",
-        ],
-    )
-}
-
-/// The body of a protected unit.
-fn protected_body(rt: &HostRuntime, unit: &str) -> Result<String, Fail> {
-    let (head, rest) = cut(unit, " is ");
-    let (name, head) = cut(head, " ");
-    let profile = cut(head, " ").1;
-    joined(
-        rt,
-        &[
-            "package body ",
-            name,
-            " is protected body hrt_object is procedure ",
-            profile,
-            " is begin ",
-            parts_of(rest).1,
-            " end ",
-            name_of(profile),
-            "; end hrt_object; end ",
-            name,
-            ";\n",
-        ],
-    )
-}
-
-/// The specification of a cyclic unit.
-fn cyclic_spec(rt: &HostRuntime, unit: &str) -> Result<String, Fail> {
-    let (name, numbers) = cut(unit, " ");
-    joined(
-        rt,
-        &[
-            "package ",
-            name,
-            " is task hrt_thread is pragma priority (",
-            cut(numbers, " ").0,
-            "); end hrt_thread; end ",
-            name,
-            ";\n",
-        ],
-    )
-}
-
-/// The body of a cyclic unit.
-fn cyclic_body(rt: &HostRuntime, unit: &str) -> Result<String, Fail> {
-    let (head, rest) = cut(unit, " is ");
-    let (name, numbers) = cut(head, " ");
-    let (offset, period) = cut(cut(numbers, " ").1, " ");
-    let (data, statements) = parts_of(rest);
-    joined(
-        rt,
-        &[
-            "package body ",
-            name,
-            " is ",
-            data,
-            " task body hrt_thread is hrt_next : hrt.moment := hrt.after (hrt.epoch, ",
-            offset,
-            "); begin loop delay until hrt_next; hrt_next := hrt.after (hrt_next, ",
-            period,
-            "); ",
-            statements,
-            " activation_end; end loop; end hrt_thread; end ",
-            name,
-            ";\n",
-        ],
-    )
-}
-
-/// The specification of a sporadic unit, with this word for whether its requests come from outside.
-fn sporadic_spec(rt: &HostRuntime, unit: &str, external: &str) -> Result<String, Fail> {
-    let (name, head) = cut(cut(unit, " is ").0, " ");
-    let (priority, head) = cut(head, " ");
-    let (ceiling, head) = cut(head, " ");
-    let (separation, head) = cut(head, " ");
-    let (jitter, profile) = cut(head, " ");
-    joined(
-        rt,
-        &[
-            "package ",
-            name,
-            " is protected hrt_obcs is pragma priority (",
-            ceiling,
-            "); procedure ",
-            profile,
-            "; entry hrt_wait (hrt_request : out word); private hrt_value : word := 0; hrt_open : boolean := false; \
-            end hrt_obcs; procedure ",
-            profile,
-            " renames hrt_obcs.",
-            name_of(profile),
-            "; task hrt_thread is pragma priority (",
-            priority,
-            "); end hrt_thread; hrt_separation : constant := ",
-            separation,
-            "; hrt_jitter : constant := ",
-            jitter,
-            "; hrt_external : constant boolean := ",
+            "\noperation: ",
+            cut(profile, " ").0,
+            "\nexternal: ",
             external,
-            "; end ",
-            name,
-            ";\n",
-        ],
-    )
-}
-
-/// The body of the control structure of a sporadic unit with a request of this profile.
-fn structure_body(rt: &HostRuntime, profile: &str) -> Result<String, Fail> {
-    let value = if cut(profile, "(").1.is_empty() {
-        "0"
-    } else {
-        "v"
-    };
-    joined(
-        rt,
-        &[
-            "protected body hrt_obcs is procedure ",
-            profile,
-            " is begin hrt_value := ",
-            value,
-            "; hrt_open := true; end ",
-            name_of(profile),
-            "; entry hrt_wait (hrt_request : out word) when hrt_open is begin hrt_request := hrt_value; hrt_open := false; \
-            end hrt_wait; end hrt_obcs;",
-        ],
-    )
-}
-
-/// The body of a sporadic unit.
-fn sporadic_body(rt: &HostRuntime, unit: &str) -> Result<String, Fail> {
-    let (head, rest) = cut(unit, " is ");
-    let (name, numbers) = cut(head, " ");
-    let profile = cut(cut(cut(cut(numbers, " ").1, " ").1, " ").1, " ").1;
-    let (data, statements) = parts_of(rest);
-    let released = if cut(profile, "(").1.is_empty() {
-        "hrt_request"
-    } else {
-        "v"
-    };
-    joined(
-        rt,
-        &[
-            "package body ",
-            name,
-            " is ",
+            "\ndata: ",
             data,
-            " ",
-            &structure_body(rt, profile)?,
-            " task body hrt_thread is ",
-            released,
-            " : word := 0; begin loop hrt_obcs.hrt_wait (",
-            released,
-            "); ",
+            "\nstatements: ",
             statements,
-            " activation_end; end loop; end hrt_thread; end ",
-            name,
-            ";\n",
         ],
     )
 }
 
-/// The specification of the unit of a line of a row; empty where the key is none of a unit.
-fn spec(rt: &HostRuntime, key: &str, unit: &str) -> Result<String, Fail> {
-    match key {
-        "passive" => passive_spec(rt, unit),
-        "protected" => protected_spec(rt, unit),
-        "cyclic" => cyclic_spec(rt, unit),
-        "started" => sporadic_spec(rt, unit, "false"),
-        "external" => sporadic_spec(rt, unit, "true"),
-        _ => Ok(String::new(rt.alloc())),
-    }
-}
-
-/// The body of the unit of a line of a row; empty where the key is none of a unit.
-fn body(rt: &HostRuntime, key: &str, unit: &str) -> Result<String, Fail> {
-    match key {
-        "passive" => passive_body(rt, unit),
-        "protected" => protected_body(rt, unit),
-        "cyclic" => cyclic_body(rt, unit),
-        "started" | "external" => sporadic_body(rt, unit),
-        _ => Ok(String::new(rt.alloc())),
-    }
-}
-
-/// The specifications of a row's units; empty where it has none in the short form.
-pub fn specs(rt: &HostRuntime, row: &str) -> Result<String, Fail> {
-    let mut all = String::new(rt.alloc());
+/// Adds the units of a row in the short form, each by the template of its kind.
+pub fn push_units(
+    alloc: Global,
+    all: &mut Vec<u8>,
+    row: &str,
+    templates: &[(&str, &'static str)],
+) -> Result<(), Fail> {
     for line in row.lines() {
         let (key, unit) = cut(line, ": ");
-        all.push_str(&spec(rt, key.trim_start(), unit)?)?;
+        let kind = key.trim_start();
+        let template = beside(templates, kind);
+        if !template.is_empty() {
+            let text = filled(alloc, &[template], &unit_row(alloc, kind, unit)?)?;
+            all.extend_from_slice(&text)?;
+        }
     }
-    Ok(all)
-}
-
-/// The bodies of a row's units.
-pub fn bodies(rt: &HostRuntime, row: &str) -> Result<String, Fail> {
-    let mut all = String::new(rt.alloc());
-    for line in row.lines() {
-        let (key, unit) = cut(line, ": ");
-        all.push_str(&body(rt, key.trim_start(), unit)?)?;
-    }
-    Ok(all)
+    Ok(())
 }

@@ -1,8 +1,9 @@
 //! Designs that are verified: the text of each, and the trace of that text.
 
-use super::rows::{Outcome, lines, row_text, run_design, run_row, run_table};
+use super::rows::{check_told, lines, row_text, run_design, run_row, run_table};
 use super::shapes::design_bytes;
-use hrthood_top::Status;
+use std::alloc::Global;
+use std::process::Abort;
 use std::test::Fail;
 
 /// What rows of designs that are verified have. `out` is the trace.
@@ -14,7 +15,7 @@ const VERIFIED: &str = "words: verify d r
 const MARK: &[u8] = b"-- trace\n";
 
 /// Designs with their traces.
-pub const TRACES: &[&str] = &[
+const TRACES: &[&str] = &[
     "name: one cyclic task
     out: 0 release a
     out: 4 end a used 4
@@ -135,36 +136,37 @@ const REFUSED: &[&str] = &[
     err: fault writing",
 ];
 
-/// What stands before the line between, and what stands behind it.
-fn parts<'x>(written: &'x [u8]) -> Option<(&'x [u8], &'x [u8])> {
-    for place in 0..written.len() {
-        let (text, back) = written.split_at(place);
-        if let Some(trace) = back.strip_prefix(MARK) {
-            return Some((text, trace));
-        }
-    }
-    None
+pub fn traces() -> &'static [&'static str] {
+    TRACES
+}
+
+/// What a row wants to be written: the text that `generate` makes of its design, the line between, and the trace.
+fn wanted(alloc: Global, row: &str) -> Result<Vec<u8>, Fail> {
+    let made = run_design(alloc, "generate d", &design_bytes(alloc, row)?)?;
+    let mut all = made.out.bytes().to_vec(alloc)?;
+    all.extend_from_slice(MARK)?;
+    all.extend_from_slice(&lines(alloc, row, "out")?)?;
+    Ok(all)
+}
+
+/// Looks at what is told of a row's design.
+fn check_verified(rt: &impl Abort, alloc: Global, given: &str) -> Result<(), Fail> {
+    let row = row_text(alloc, given, VERIFIED)?;
+    let wanted = wanted(alloc, &row)?;
+    let told = run_row(alloc, &row)?;
+    check_told(rt, &told, "done", &wanted, b"", given);
+    Ok(())
 }
 
 #[test]
 fn traces_of_designs(rt: HostRuntime) -> Result<(), Fail> {
-    for given in TRACES {
-        let row = row_text(&rt, given, VERIFIED)?;
-        let Outcome { status, out, err } = run_row(&rt, &row)?;
-        assert_eq!(rt; status, Status::Done, "{given}");
-        assert_eq!(rt; err.bytes(), b"".as_slice(), "{given}");
-        let made = run_design(&rt, "generate", &design_bytes(&rt, &row)?)?;
-        let wanted = lines(&rt, &row, "out")?;
-        assert_eq!(rt;
-            parts(out.bytes()),
-            Some((made.out.bytes(), wanted.as_slice())),
-            "{given}"
-        );
+    for given in traces() {
+        check_verified(&rt, rt.alloc(), given)?;
     }
     Ok(())
 }
 
 #[test]
 fn designs_that_are_not_verified(rt: HostRuntime) -> Result<(), Fail> {
-    run_table(&rt, &rt, VERIFIED, REFUSED)
+    run_table(&rt, rt.alloc(), VERIFIED, REFUSED)
 }

@@ -1,10 +1,11 @@
 //! Responses in traces beside the bounds that `analyse` tells of the design.
 
 use super::replays::REPLAYED;
-use super::rows::{number, replay_under, row_text, run_design};
-use super::sections::WORKED;
+use super::rows::{check_that, number, replay_under, row_text, run_design, text_of};
+use super::sections::worked;
 use super::shapes::design_bytes;
-use super::texts::MINE;
+use super::texts::named;
+use std::alloc::Global;
 use std::process::Abort;
 use std::test::Fail;
 
@@ -35,39 +36,45 @@ fn bound_of<'x>(line: &'x str) -> Option<(&'x str, usize)> {
     Some((name, number(bound)))
 }
 
-/// Replays the text of a design, and looks whether each thread has ends, all of them within its bound.
-fn check_bounds(
-    rt: &impl Abort,
-    host: &HostRuntime,
-    design: &[u8],
-    arrivals: &[u8],
-) -> Result<(), Fail> {
-    let bounds = run_design(host, "analyse", design)?;
-    let text = run_design(host, "generate", design)?;
-    let replay = replay_under(host, text.out.bytes(), arrivals)?;
-    let trace = str::from_utf8(replay.out.bytes()).unwrap_or("");
+/// Looks whether each thread of these bounds has ends in a trace, all of them within its bound.
+fn check_ends(rt: &impl Abort, bounds: &str, trace: &str) {
     let mut threads = 0_usize;
-    for line in str::from_utf8(bounds.out.bytes()).unwrap_or("").lines() {
+    for line in bounds.lines() {
         if let Some((name, bound)) = bound_of(line) {
             let greatest = greatest(trace, name);
-            assert!(rt; 0 < greatest && greatest <= bound, "{line}");
+            check_that(rt, 0 < greatest && greatest <= bound, line);
             threads = threads.saturating_add(1);
         }
     }
-    assert!(rt; 0 < threads, "{trace}");
+    check_that(rt, 0 < threads, trace);
+}
+
+/// Replays the text of a design, and looks whether each thread has ends, all of them within its bound.
+fn check_bounds(
+    rt: &impl Abort,
+    alloc: Global,
+    design: &[u8],
+    arrivals: &[u8],
+) -> Result<(), Fail> {
+    let bounds = run_design(alloc, "analyse d", design)?;
+    let text = run_design(alloc, "generate d", design)?;
+    let replay = replay_under(alloc, text.out.bytes(), arrivals)?;
+    check_ends(rt, text_of(&bounds), text_of(&replay));
     Ok(())
+}
+
+/// Looks at the bounds of the design of a worked schedule.
+fn check_worked(rt: &impl Abort, alloc: Global, given: &str) -> Result<(), Fail> {
+    let row = row_text(alloc, given, REPLAYED)?;
+    check_bounds(rt, alloc, &design_bytes(alloc, &row)?, b"UNTIL 40;")
 }
 
 #[test]
 fn activations_end_within_their_bounds(rt: HostRuntime) -> Result<(), Fail> {
-    for given in WORKED {
-        let row = row_text(&rt, given, REPLAYED)?;
-        check_bounds(&rt, &rt, &design_bytes(&rt, &row)?, b"UNTIL 40;")?;
+    let alloc = rt.alloc();
+    for given in worked() {
+        check_worked(&rt, alloc, given)?;
     }
-    check_bounds(
-        &rt,
-        &rt,
-        MINE.as_bytes(),
-        b"UNTIL 1000; AT 30 water_handler 1;",
-    )
+    let mine = named("mine").as_bytes();
+    check_bounds(&rt, alloc, mine, b"UNTIL 1000; AT 30 water_handler 1;")
 }

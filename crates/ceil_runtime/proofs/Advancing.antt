@@ -1,6 +1,6 @@
 -- Runs that follow each other, one after another.
-use Rattle.std.specs.Prelude.{◌≡◌, ℕ, true, false, List, [], ◌∷◌, ◌++◌, refl}
-use Rattle.std.proofs.Common.{sym, ◌∙◌, ap, subst}
+use Rattle.std.specs.Prelude.{◌≡◌, ℕ, ◌+◌, ◌≤◌, true, false, List, [], ◌∷◌, ◌++◌, refl}
+use Rattle.std.proofs.Common.{sym, ◌∙◌, ap, subst, arith}
 use Rattle.trace_tree.specs.declared.event.Event.{Event}
 use Rattle.trace_tree.specs.declared.event.Event.TheVariants as event
 use Rattle.machine.specs.Systems.{System}
@@ -60,3 +60,10 @@ last-falls (event.Leave time task unit op values) old new = tt
 last-falls (event.Request time task target v) old new = tt
 last-falls (event.Print time task v) old new = tt
 last-falls (event.End time task used) old new = tt
+
+-- what is left falls with steps that told nothing
+pub same-left : (n : ℕ) → n ≤ n
+same-left n = omega arith
+
+pub less-left : (a b c : ℕ) → a + 0 ≤ b → b ≤ c → a ≤ c
+less-left a b c h k = omega arith

@@ -26,6 +26,7 @@ pub mod Processed
 pub mod Released
 pub mod Effected
 pub mod Arrived
+pub mod Heads
 pub mod Idles
 pub mod Nearing
 pub mod Advancing

@@ -260,3 +260,51 @@ returns-in-Finish c =
       inside = c.in-Finish.ensures.inside;
       tasks = refl;
     }))
+
+pub act-act-requires-clause-piece : goal.act-act-requires-clause-piece
+act-act-requires-clause-piece c =
+    let m = c.args.self.now in
+    let i = c.args.task in
+    let t = c.index_mut-active.result.now in
+    let sound = running-sound m i c.requires.whole c.requires.phase c.requires.goes_on in
+    let here = slice_get_read m.tasks.items (length m.tasks.items) i t refl sound.here.1 c.index_mut-active.ensures.value in
+    (c.requires.piece t here).0
+
+pub act-act-requires-clause-ready : goal.act-act-requires-clause-ready
+act-act-requires-clause-ready c =
+    let m = c.args.self.now in
+    let i = c.args.task in
+    let t = c.index_mut-active.result.now in
+    let sound = running-sound m i c.requires.whole c.requires.phase c.requires.goes_on in
+    let here = slice_get_read m.tasks.items (length m.tasks.items) i t refl sound.here.1 c.index_mut-active.ensures.value in
+    (c.requires.piece t here).1
+
+pub act-act-requires-clause-used : goal.act-act-requires-clause-used
+act-act-requires-clause-used c =
+    let m = c.args.self.now in
+    let i = c.args.task in
+    let t = c.index_mut-active.result.now in
+    let sound = running-sound m i c.requires.whole c.requires.phase c.requires.goes_on in
+    let here = slice_get_read m.tasks.items (length m.tasks.items) i t refl sound.here.1 c.index_mut-active.ensures.value in
+    (c.requires.piece t here).2
+
+pub act-act-requires-clause-ticking : goal.act-act-requires-clause-ticking
+act-act-requires-clause-ticking c = c.args.self.now.ticking
+
+pub index_mut-active-requires : goal.index_mut-active-requires
+index_mut-active-requires c =
+    let m = c.args.self.now in
+    let sound = running-sound m c.args.task c.requires.whole c.requires.phase c.requires.goes_on in
+    omega (arith, sound.here.1, m.tasks.ok.0)
+
+pub invariant_of-self : goal.invariant_of-self
+invariant_of-self c = record { ticking = c.args.self.now.ticking; known = c.args.self.now.known }
+
+pub invariant_of-self-in-Finish : goal.invariant_of-self-in-Finish
+invariant_of-self-in-Finish c = record { ticking = c.args.self.now.ticking; known = c.args.self.now.known }
+
+pub invariant_of-self-in-Keep : goal.invariant_of-self-in-Keep
+invariant_of-self-in-Keep c = record { ticking = c.args.self.now.ticking; known = c.args.self.now.known }
+
+pub invariant_of-self-in-Open : goal.invariant_of-self-in-Open
+invariant_of-self-in-Open c = record { ticking = c.args.self.now.ticking; known = c.args.self.now.known }

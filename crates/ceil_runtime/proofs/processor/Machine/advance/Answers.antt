@@ -3,7 +3,7 @@ use Rattle.ceil_runtime.specs.Left.{left}
 use Rattle.ceil_runtime.specs.Shown.{running_of}
 use Rattle.ceil_runtime.specs.Turns.{FallsAt, Turned}
 use Rattle.ceil_runtime.specs.declared.processor.Turn.{Turn}
-use Rattle.ceil_runtime.proofs.Advancing.{last-falls, one-pushed, stop-turned, tells-told, two-pushed}
+use Rattle.ceil_runtime.proofs.Advancing.{follows-none, follows-then, last-falls, less-left, one-pushed, same-left, stop-turned, tells-told, two-pushed}
 use Rattle.ceil_runtime.proofs.Placed.{both-placed, of-units, pushed-placed}
 use Rattle.ceil_runtime.proofs.processor.Machine.advance.Goals as goal
 
@@ -59,3 +59,48 @@ returns-then-self-clause-falls c =
     let was = left (running_of c.args.self.now) in
     let now = left (running_of c.step.new.self) in
     subst (λ (t : Turn). FallsAt t was now) (sym c.turn_of-last.ensures) (last-falls c.in-One.event was now)
+
+pub steps-init : goal.steps-init
+steps-init c = record {
+  running = c.requires.goes_on;
+  whole = record { sound = c.requires.whole.sound; callees = c.requires.whole.callees };
+  empty = c.requires.empty;
+  within = same-left (left (running_of c.args.self.now));
+  follows = follows-none (running_of c.args.self.now);
+}
+
+pub steps-preserved : goal.steps-preserved
+steps-preserved c =
+    let on = c.in-Nothing.ensures.ends in
+    let whole = c.in-Nothing.ensures.whole on in
+    record {
+      running = on;
+      whole = record { sound = whole.sound; callees = whole.callees };
+      empty = c.steps.invariant.empty;
+      within = less-left (left (running_of c.step.new.self)) _ _ (c.in-Nothing.ensures.falls on) c.steps.invariant.within;
+      follows = follows-then _ _ (running_of c.step.new.self) [] c.steps.invariant.follows c.in-Nothing.ensures.follows;
+    }
+
+pub steps-smaller : goal.steps-smaller
+steps-smaller c = c.in-Nothing.ensures.nears
+
+pub step-requires-clause-whole : goal.step-requires-clause-whole
+step-requires-clause-whole c = record { sound = c.steps.invariant.whole.sound; callees = c.steps.invariant.whole.callees }
+
+pub step-requires-clause-goes_on : goal.step-requires-clause-goes_on
+step-requires-clause-goes_on c = c.steps.invariant.running
+
+pub returns-then-self-clause-whole : goal.returns-then-self-clause-whole
+returns-then-self-clause-whole c = λ on.
+    let whole = c.in-One.ensures.whole on in
+    record { sound = whole.sound; callees = whole.callees }
+
+pub returns-else-self-clause-whole : goal.returns-else-self-clause-whole
+returns-else-self-clause-whole c = λ on.
+    let whole = c.in-One.ensures.whole on in
+    record { sound = whole.sound; callees = whole.callees }
+
+pub returns-in-Two-clause-whole : goal.returns-in-Two-clause-whole
+returns-in-Two-clause-whole c = λ on.
+    let whole = c.in-Two.ensures.whole on in
+    record { sound = whole.sound; callees = whole.callees }

@@ -119,3 +119,54 @@ returns c =
     let low = ap (λ v. nat_lt c.ceiling_of-ceiling.result v.active) (sym same) ∙ sym c.is_above.ensures ∙ c.if-is_above.false in
     ask-step m i c.requires.whole c.requires.phase c.requires.goes_on t here p.2 t' c.go_inside.new.self c.act.ensures.thread c.go_inside.ensures.progress c.act.ensures.works c.act.ensures.falls _
     (record { until = refl; costs = refl; units = refl; callees = refl; arrivals = refl; time = refl; ran = refl; stopped = refl; phase = c.requires.phase }) refl refl k refl a more c.ceiling_of-ceiling.result ceiling_is c.go_inside.ensures.task low
+
+pub act-requires-clause-piece : goal.act-requires-clause-piece
+act-requires-clause-piece c =
+    let m = c.args.self.now in
+    let i = c.args.task in
+    let t = c.index_mut-caller.result.now in
+    let sound = running-sound m i c.requires.whole c.requires.phase c.requires.goes_on in
+    let here = slice_get_read m.tasks.items (length m.tasks.items) i t refl sound.here.1 c.index_mut-caller.ensures.value in
+    (c.requires.piece t here).0
+
+pub act-requires-clause-ready : goal.act-requires-clause-ready
+act-requires-clause-ready c =
+    let m = c.args.self.now in
+    let i = c.args.task in
+    let t = c.index_mut-caller.result.now in
+    let sound = running-sound m i c.requires.whole c.requires.phase c.requires.goes_on in
+    let here = slice_get_read m.tasks.items (length m.tasks.items) i t refl sound.here.1 c.index_mut-caller.ensures.value in
+    (c.requires.piece t here).1
+
+pub act-requires-clause-used : goal.act-requires-clause-used
+act-requires-clause-used c =
+    let m = c.args.self.now in
+    let i = c.args.task in
+    let t = c.index_mut-caller.result.now in
+    let sound = running-sound m i c.requires.whole c.requires.phase c.requires.goes_on in
+    let here = slice_get_read m.tasks.items (length m.tasks.items) i t refl sound.here.1 c.index_mut-caller.ensures.value in
+    (c.requires.piece t here).2
+
+pub act-requires-clause-ticking : goal.act-requires-clause-ticking
+act-requires-clause-ticking c = c.args.self.now.ticking
+
+pub index_mut-caller-requires : goal.index_mut-caller-requires
+index_mut-caller-requires c =
+    let m = c.args.self.now in
+    let sound = running-sound m c.args.task c.requires.whole c.requires.phase c.requires.goes_on in
+    omega (arith, sound.here.1, m.tasks.ok.0)
+
+pub index-requires : goal.index-requires
+index-requires c =
+    let m = c.args.self.now in
+    let sound = running-sound m c.args.task c.requires.whole c.requires.phase c.requires.goes_on in
+    omega (arith, sound.here.1, m.tasks.ok.0)
+
+pub stop-requires : goal.stop-requires
+stop-requires c = record { known = (running-sound c.args.self.now c.args.task c.requires.whole c.requires.phase c.requires.goes_on).here.1 }
+
+pub invariant_of-self : goal.invariant_of-self
+invariant_of-self c = record { ticking = c.args.self.now.ticking; known = c.args.self.now.known }
+
+pub invariant_of-self-2 : goal.invariant_of-self-2
+invariant_of-self-2 c = record { ticking = c.args.self.now.ticking; known = c.args.self.now.known }

@@ -1,0 +1,12 @@
+use Rattle.std.proofs.Common.{List, flat_map, map, refl}
+use Rattle.ada_tree.specs.Trees.{unit_of}
+use Rattle.ada_tree.specs.declared.program.Unit.{Unit}
+use Rattle.ada_rules.specs.Edges.{edge_of, shared_edges}
+use Rattle.ada_rules.proofs.LoopSteps.{added_step}
+use Rattle.ada_rules.proofs.requests.shared_edges_of.Goals as goal
+
+pub units-preserved : goal.units-preserved
+units-preserved c =
+    added_step (λ (us : List Unit). flat_map shared_edges (map unit_of us)) (shared_edges (unit_of c.unit-item.result))
+    c.args.units.now c.units.unit-index c.unit-item.result (map edge_of c.units.edges.items) _ _
+    (λ ys. refl) c.units-test.true c.unit-item.is c.in_ok-add_unit.ensures c.units.invariant

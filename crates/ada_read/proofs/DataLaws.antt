@@ -26,12 +26,30 @@ reads-datum = reads-same _ (IsSpelled IsDatum datum_tokens) Any (datum_at is_ada
     (λ d text g1.
     let g2 = g1.after in let g3 = g2.after in let g4 = g3.after in let g5 = g4.after in let g6 = g5.after in
     let P : Datum → Type 0 = λ q. IsSpelled IsDatum datum_tokens q text in
-    subst P (sym g6.after.0)
-    (g1.before.0, rw (g1.whole, g1.before.1, g2.whole, g2.before, g3.whole, g3.before, g4.whole, g4.before, g5.whole, g5.before, g6.whole, g6.before, g6.after.1) refl))
+    subst P (sym g6.after.0) (
+      g1.before.0,
+      rw (
+        g1.whole,
+        g1.before.1,
+        g2.whole,
+        g2.before,
+        g3.whole,
+        g3.before,
+        g4.whole,
+        g4.before,
+        g5.whole,
+        g5.before,
+        g6.whole,
+        g6.before,
+        g6.after.1,
+      ) refl,
+    ))
     (λ d text h.
-    rw h.1 (joins-name is_ada_name _ d.name d _ h.0 (joins-fixed _ (Sign Colon) d _ (joins-fixed _ (Word (codes "word")) d _ (joins-fixed _ (Sign Becomes) d _
+    rw h.1 (joins-name is_ada_name _ d.name d _ h.0
+    (joins-fixed _ (Sign Colon) d _ (joins-fixed _ (Word (codes "word")) d _ (joins-fixed _ (Sign Becomes) d _
     (joins-number _ d.value d _ (joins-fixed _ (Sign Semicolon) d [] (refl, refl))))))))
-    (andthen reads-ada_name (λ name. andthen (reads-fixed (Sign Colon)) (λ _. andthen (reads-fixed (Word (codes "word"))) (λ _. andthen (reads-fixed (Sign Becomes)) (λ _.
+    (andthen reads-ada_name (λ name. andthen (reads-fixed (Sign Colon))
+    (λ _. andthen (reads-fixed (Word (codes "word"))) (λ _. andthen (reads-fixed (Sign Becomes)) (λ _.
     andthen reads-number (λ n. andthen (reads-fixed (Sign Semicolon)) (λ _. reads-pure Any (record { name = name; value = n }) (λ _. tt))))))))
 
 -- whether no variable follows

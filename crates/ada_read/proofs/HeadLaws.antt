@@ -19,16 +19,20 @@ use Rattle.seq_read.specs.Statements.{next_is_name}
 use Rattle.ada_read.specs.declared.fixed_text.FixedText.TheVariants as fixed
 use Rattle.ada_read.specs.FixedTexts.{fixed_tokens}
 use Rattle.ada_read.specs.Heads.{Head, PassiveHead, SharedHead, CyclicHead, SporadicHead, head_name}
-use Rattle.ada_read.specs.Readers.{constants_at, cyclic_head_at, head_at, heads_at, inner_at, object_head_at, passive_head_at, shared_head_at, sporadic_head_at}
-use Rattle.ada_read.proofs.ParamLaws.{and_until, IsNamedHead, IsSpelled, declaration_tokens, reads-text, joins-text, joins-part, reads-ada_name, reads-declarations, reads-spelled}
+use Rattle.ada_read.specs.Readers.{constants_at, cyclic_head_at, head_at, heads_at, inner_at, object_head_at, passive_head_at, shared_head_at}
+use Rattle.ada_read.specs.Readers.{sporadic_head_at}
+use Rattle.ada_read.proofs.ParamLaws.{and_until, IsNamedHead, IsSpelled, declaration_tokens, reads-text, joins-text, joins-part, reads-ada_name}
+use Rattle.ada_read.proofs.ParamLaws.{reads-declarations, reads-spelled}
 use Rattle.ada_read.proofs.DataLaws.{IsDatum, datum_tokens, EndsData, reads-data}
-use Rattle.ada_read.proofs.RequestLaws.{IsNamedRequest, renaming_tokens, request_renaming_tokens, reads-renamings, reads-request, reads-request_renaming, reads-truth}
+use Rattle.ada_read.proofs.RequestLaws.{IsNamedRequest, renaming_tokens, request_renaming_tokens, reads-renamings, reads-request}
+use Rattle.ada_read.proofs.RequestLaws.{reads-request_renaming, reads-truth}
 
 -- WHAT STANDS IN A SPECIFICATION
 -- a protected one, behind `protected`
 abbrev shared_text : Name → ℕ → List Signature → List Datum → List Token
 shared_text name ceiling sigs vars =
-    fixed_tokens fixed.ObjectHead ++ Number ceiling ∷ (fixed_tokens fixed.Close ++ (flat_map declaration_tokens sigs ++ Word (codes "private") ∷ (flat_map datum_tokens vars
+    fixed_tokens fixed.ObjectHead ++ Number ceiling
+    ∷ (fixed_tokens fixed.Close ++ (flat_map declaration_tokens sigs ++ Word (codes "private") ∷ (flat_map datum_tokens vars
     ++ (fixed_tokens fixed.ObjectEnd ++ (flat_map renaming_tokens sigs ++ end_tokens name)))))
 
 -- the constants of a sporadic one, from its priority on
@@ -48,7 +52,8 @@ abbrev pub inner_tokens : Head → List Token
 inner_tokens (PassiveHead name sigs) = flat_map declaration_tokens sigs ++ end_tokens name
 inner_tokens (SharedHead name ceiling sigs vars) = Word (codes "protected") ∷ shared_text name ceiling sigs vars
 inner_tokens (CyclicHead name priority) = fixed_tokens fixed.TaskHead ++ Number priority ∷ (fixed_tokens fixed.TaskEnd ++ end_tokens name)
-inner_tokens (SporadicHead name priority ceiling op separation jitter external) = Word (codes "protected") ∷ sporadic_text name priority ceiling op separation jitter external
+inner_tokens (SporadicHead name priority ceiling op separation jitter external)
+    = Word (codes "protected") ∷ sporadic_text name priority ceiling op separation jitter external
 
 -- the names in a specification may stand where they stand
 abbrev pub AreNamedHeads : Head → Type 0
@@ -71,26 +76,31 @@ reads-cyclic_head name = reads-same _ (IsCyclicHead name) Any (cyclic_head_at na
     (λ h text g1.
     let g2 = g1.after in let g3 = g2.after in let g4 = g3.after in
     (g2.a, g4.after.0, rw (g1.whole, g1.before, g2.whole, g2.before, g3.whole, g3.before, g4.whole, g4.before, g4.after.1) refl))
-    (λ h text k. rw k.2 (joins-text _ fixed.TaskHead h _ (joins-number _ k.0 h _ (joins-text _ fixed.TaskEnd h _ (joins-phrase _ (end_tokens name) h [] (k.1, refl))))))
-    (andthen (reads-text fixed.TaskHead) (λ _. andthen reads-number (λ priority. andthen (reads-text fixed.TaskEnd) (λ _. andthen (reads-phrase (end_tokens name)) (λ _.
+    (λ h text k. rw k.2 (joins-text _ fixed.TaskHead h _
+    (joins-number _ k.0 h _ (joins-text _ fixed.TaskEnd h _ (joins-phrase _ (end_tokens name) h [] (k.1, refl))))))
+    (andthen (reads-text fixed.TaskHead)
+    (λ _. andthen reads-number (λ priority. andthen (reads-text fixed.TaskEnd) (λ _. andthen (reads-phrase (end_tokens name)) (λ _.
     reads-pure Any (CyclicHead name priority) (λ _. tt))))))
 
 -- with operations alone
 abbrev IsPassiveHead : Name → Head → List Token → Type 0
-IsPassiveHead name h text = (sigs : List Signature) × (h ≡ PassiveHead name sigs) × Each IsNamedHead sigs × (text ≡ inner_tokens (PassiveHead name sigs))
+IsPassiveHead name h text = (sigs : List Signature) × (h ≡ PassiveHead name sigs) × Each IsNamedHead sigs
+    × (text ≡ inner_tokens (PassiveHead name sigs))
 
 reads-passive_head : (name : Name) → Reads (IsPassiveHead name) Any (passive_head_at name)
 unfolding passive_head_at
 reads-passive_head name = reads-same _ (IsPassiveHead name) Any (passive_head_at name)
     (λ h text g1. let g2 = g1.after in (g1.a, g2.after.0, g1.before.0, rw (g1.whole, g1.before.1, g2.whole, g2.before, g2.after.1) refl))
     (λ h text k. rw k.3 (joins-part _ k.0 (flat_map declaration_tokens k.0) h _ (k.2, refl) (joins-phrase _ (end_tokens name) h [] (k.1, refl))))
-    (and_until (λ o. next_is (Word (codes "procedure")) o ≡ false) (end_tokens name) (λ rest. refl) reads-declarations (λ sigs. andthen (reads-phrase (end_tokens name)) (λ _.
+    (and_until (λ o. next_is (Word (codes "procedure")) o ≡ false) (end_tokens name) (λ rest. refl) reads-declarations
+    (λ sigs. andthen (reads-phrase (end_tokens name)) (λ _.
     reads-pure Any (PassiveHead name sigs) (λ _. tt))))
 
 -- with a protected object
 abbrev IsSharedHead : Name → Head → List Token → Type 0
 IsSharedHead name h text =
-    (ceiling : ℕ) × (sigs : List Signature) × (vars : List Datum) × (h ≡ SharedHead name ceiling sigs vars) × Each IsNamedHead sigs × Each IsDatum vars × (text ≡ shared_text name ceiling sigs vars)
+    (ceiling : ℕ) × (sigs : List Signature) × (vars : List Datum) × (h ≡ SharedHead name ceiling sigs vars) × Each IsNamedHead sigs
+    × Each IsDatum vars × (text ≡ shared_text name ceiling sigs vars)
 
 object_ends_data : (rest : List Token) → EndsData (first (fixed_tokens fixed.ObjectEnd ++ rest))
 unfolding fixed_tokens next_is_name is_ada_name
@@ -100,53 +110,106 @@ reads-shared_head : (name : Name) → Reads (IsSharedHead name) Any (shared_head
 unfolding shared_head_at
 reads-shared_head name = reads-same _ (IsSharedHead name) Any (shared_head_at name)
     (λ h text g1.
-    let g2 = g1.after in let g3 = g2.after in let g4 = g3.after in let g5 = g4.after in let g6 = g5.after in let g7 = g6.after in let g8 = g7.after in let g9 = g8.after in (
+    let g2 = g1.after in let g3 = g2.after in let g4 = g3.after in let g5 = g4.after in let g6 = g5.after in let g7 = g6.after in let g8 = g7.after
+    in let g9 = g8.after in (
       g2.a,
       g4.a,
       g6.a,
       g9.after.0,
       g4.before.0,
       g6.before.0,
-      rw (g1.whole, g1.before, g2.whole, g2.before, g3.whole, g3.before, g4.whole, g4.before.1, g5.whole, g5.before, g6.whole, g6.before.1, g7.whole, g7.before, g8.whole, g8.before, g9.whole, g9.before, g9.after.1) refl,
+      rw (
+        g1.whole,
+        g1.before,
+        g2.whole,
+        g2.before,
+        g3.whole,
+        g3.before,
+        g4.whole,
+        g4.before.1,
+        g5.whole,
+        g5.before,
+        g6.whole,
+        g6.before.1,
+        g7.whole,
+        g7.before,
+        g8.whole,
+        g8.before,
+        g9.whole,
+        g9.before,
+        g9.after.1,
+      ) refl,
     ))
     (λ h text k.
-    rw k.6 (joins-text _ fixed.ObjectHead h _ (joins-number _ k.0 h _ (joins-text _ fixed.Close h _ (joins-part _ k.1 (flat_map declaration_tokens k.1) h _ (k.4, refl)
+    rw k.6 (joins-text _ fixed.ObjectHead h _
+    (joins-number _ k.0 h _ (joins-text _ fixed.Close h _ (joins-part _ k.1 (flat_map declaration_tokens k.1) h _ (k.4, refl)
     (joins-fixed _ (Word (codes "private")) h _ (joins-part _ k.2 (flat_map datum_tokens k.2) h _ (k.5, refl) (joins-text _ fixed.ObjectEnd h _
     (joins-part _ tt (flat_map renaming_tokens k.1) h _ refl (joins-phrase _ (end_tokens name) h [] (k.3, refl)))))))))))
     (andthen (reads-text fixed.ObjectHead) (λ _. andthen reads-number (λ ceiling. andthen (reads-text fixed.Close) (λ _.
-    and_until (λ o. next_is (Word (codes "procedure")) o ≡ false) (Word (codes "private") ∷ []) (λ rest. refl) reads-declarations (λ sigs. andthen (reads-fixed (Word (codes "private"))) (λ _.
-    and_until EndsData (fixed_tokens fixed.ObjectEnd) object_ends_data reads-data (λ vars. andthen (reads-text fixed.ObjectEnd) (λ _. andthen (reads-renamings sigs) (λ _. andthen (reads-phrase (end_tokens name)) (λ _.
+    and_until (λ o. next_is (Word (codes "procedure")) o ≡ false) (Word (codes "private") ∷ []) (λ rest. refl) reads-declarations
+    (λ sigs. andthen (reads-fixed (Word (codes "private"))) (λ _.
+    and_until EndsData (fixed_tokens fixed.ObjectEnd) object_ends_data reads-data
+    (λ vars. andthen (reads-text fixed.ObjectEnd) (λ _. andthen (reads-renamings sigs) (λ _. andthen (reads-phrase (end_tokens name)) (λ _.
     reads-pure Any (SharedHead name ceiling sigs vars) (λ _. tt)))))))))))
 
 -- the constants of a sporadic unit
 abbrev IsConstants : Name → ℕ → Signature → Head → List Token → Type 0
 IsConstants name ceiling op h text =
-    (priority : ℕ) × (separation : ℕ) × (jitter : ℕ) × (external : Bool) × (h ≡ SporadicHead name priority ceiling op separation jitter external) × (text ≡ constants_text name priority separation jitter external)
+    (priority : ℕ) × (separation : ℕ) × (jitter : ℕ) × (external : Bool) × (h ≡ SporadicHead name priority ceiling op separation jitter external)
+    × (text ≡ constants_text name priority separation jitter external)
 
 reads-constants : (name : Name) (ceiling : ℕ) (op : Signature) → Reads (IsConstants name ceiling op) Any (constants_at name ceiling op)
 unfolding constants_at
 reads-constants name ceiling op = reads-same _ (IsConstants name ceiling op) Any (constants_at name ceiling op)
     (λ h text g1.
-    let g2 = g1.after in let g3 = g2.after in let g4 = g3.after in let g5 = g4.after in let g6 = g5.after in let g7 = g6.after in let g8 = g7.after in let g9 = g8.after in let g10 = g9.after in (
+    let g2 = g1.after in let g3 = g2.after in let g4 = g3.after in let g5 = g4.after in let g6 = g5.after in let g7 = g6.after in let g8 = g7.after
+    in let g9 = g8.after in let g10 = g9.after in (
       g2.a,
       g4.a,
       g6.a,
       g8.a,
       g10.after.0,
-      rw (g1.whole, g1.before, g2.whole, g2.before, g3.whole, g3.before, g4.whole, g4.before, g5.whole, g5.before, g6.whole, g6.before, g7.whole, g7.before, g8.whole, g8.before, g9.whole, g9.before, g10.whole, g10.before, g10.after.1) refl,
+      rw (
+        g1.whole,
+        g1.before,
+        g2.whole,
+        g2.before,
+        g3.whole,
+        g3.before,
+        g4.whole,
+        g4.before,
+        g5.whole,
+        g5.before,
+        g6.whole,
+        g6.before,
+        g7.whole,
+        g7.before,
+        g8.whole,
+        g8.before,
+        g9.whole,
+        g9.before,
+        g10.whole,
+        g10.before,
+        g10.after.1,
+      ) refl,
     ))
     (λ h text k.
-    rw k.5 (joins-text _ fixed.TaskHead h _ (joins-number _ k.0 h _ (joins-text _ fixed.Separation h _ (joins-number _ k.1 h _ (joins-text _ fixed.Jitter h _ (joins-number _ k.2 h _
-    (joins-text _ fixed.External h _ (joins-part _ k.3 (truth_token k.3 ∷ []) h _ refl (joins-fixed _ (Sign Semicolon) h _ (joins-phrase _ (end_tokens name) h [] (k.4, refl))))))))))))
-    (andthen (reads-text fixed.TaskHead) (λ _. andthen reads-number (λ priority. andthen (reads-text fixed.Separation) (λ _. andthen reads-number (λ separation.
+    rw k.5 (joins-text _ fixed.TaskHead h _
+    (joins-number _ k.0 h _ (joins-text _ fixed.Separation h _ (joins-number _ k.1 h _ (joins-text _ fixed.Jitter h _ (joins-number _ k.2 h _
+    (joins-text _ fixed.External h _ (joins-part _ k.3 (truth_token k.3 ∷ []) h _ refl
+    (joins-fixed _ (Sign Semicolon) h _ (joins-phrase _ (end_tokens name) h [] (k.4, refl))))))))))))
+    (andthen (reads-text fixed.TaskHead)
+    (λ _. andthen reads-number (λ priority. andthen (reads-text fixed.Separation) (λ _. andthen reads-number (λ separation.
     andthen (reads-text fixed.Jitter) (λ _. andthen reads-number (λ jitter. andthen (reads-text fixed.External) (λ _. andthen reads-truth (λ external.
-    andthen (reads-fixed (Sign Semicolon)) (λ _. andthen (reads-phrase (end_tokens name)) (λ _. reads-pure Any (SporadicHead name priority ceiling op separation jitter external) (λ _. tt))))))))))))
+    andthen (reads-fixed (Sign Semicolon)) (λ _. andthen (reads-phrase (end_tokens name))
+    (λ _. reads-pure Any (SporadicHead name priority ceiling op separation jitter external) (λ _. tt))))))))))))
 
 -- with a task that waits for requests
 abbrev IsSporadicHead : Name → Head → List Token → Type 0
 IsSporadicHead name h text =
     (ceiling : ℕ) × (op : Signature) × (inner : List Token) × IsNamedRequest op × IsConstants name ceiling op h inner
-    × (text ≡ fixed_tokens fixed.RequestHead ++ Number ceiling ∷ (fixed_tokens fixed.Close ++ (declaration_tokens op ++ (fixed_tokens fixed.Entry ++ (request_renaming_tokens op ++ inner)))))
+    × (text ≡ fixed_tokens fixed.RequestHead ++ Number ceiling
+    ∷ (fixed_tokens fixed.Close ++ (declaration_tokens op ++ (fixed_tokens fixed.Entry ++ (request_renaming_tokens op ++ inner)))))
 
 reads-sporadic_head : (name : Name) → Reads (IsSporadicHead name) Any (sporadic_head_at name)
 unfolding sporadic_head_at
@@ -161,7 +224,8 @@ reads-sporadic_head name = reads-same _ (IsSporadicHead name) Any (sporadic_head
       rw (g1.whole, g1.before, g2.whole, g2.before, g3.whole, g3.before, g4.whole, g4.before.1, g5.whole, g5.before, g6.whole, g6.before) refl,
     ))
     (λ h text k.
-    rw k.5 (joins-text _ fixed.RequestHead h _ (joins-number _ k.0 h _ (joins-text _ fixed.Close h _ (joins-part _ k.1 (declaration_tokens k.1) h _ (k.3, refl)
+    rw k.5 (joins-text _ fixed.RequestHead h _
+    (joins-number _ k.0 h _ (joins-text _ fixed.Close h _ (joins-part _ k.1 (declaration_tokens k.1) h _ (k.3, refl)
     (joins-text _ fixed.Entry h _ (joins-part _ tt (request_renaming_tokens k.1) h _ refl k.4)))))))
     (andthen (reads-text fixed.RequestHead) (λ _. andthen reads-number (λ ceiling. andthen (reads-text fixed.Close) (λ _. andthen reads-request (λ op.
     andthen (reads-text fixed.Entry) (λ _. andthen (reads-request_renaming op) (λ _. reads-constants name ceiling op)))))))
@@ -170,11 +234,13 @@ reads-sporadic_head name = reads-same _ (IsSporadicHead name) Any (sporadic_head
 abbrev IsObjectHead : Name → Head → List Token → Type 0
 IsObjectHead name h text = (back : List Token) × (IsSharedHead name h back ⊎ IsSporadicHead name h back) × (text ≡ Word (codes "protected") ∷ back)
 
-shared_first : (name : Name) (h : Head) (text rest : List Token) → IsSharedHead name h text → next_is (Word (codes "hrt_object")) (first (text ++ rest)) ≡ true
+shared_first : (name : Name) (h : Head) (text rest : List Token) → IsSharedHead name h text
+    → next_is (Word (codes "hrt_object")) (first (text ++ rest)) ≡ true
 unfolding fixed_tokens
 shared_first name h text rest k = rw k.6 refl
 
-sporadic_first : (name : Name) (h : Head) (text rest : List Token) → IsSporadicHead name h text → next_is (Word (codes "hrt_object")) (first (text ++ rest)) ≡ false
+sporadic_first : (name : Name) (h : Head) (text rest : List Token) → IsSporadicHead name h text
+    → next_is (Word (codes "hrt_object")) (first (text ++ rest)) ≡ false
 unfolding fixed_tokens
 sporadic_first name h text rest k = rw k.5 refl
 
@@ -184,7 +250,8 @@ reads-object_head name = reads-same _ (IsObjectHead name) Any (object_head_at na
     (λ h text g. (g.back, g.after, rw (g.whole, g.before) refl))
     (λ h text k. rw k.2 (joins-fixed _ (Word (codes "protected")) h _ k.1))
     (andthen (reads-fixed (Word (codes "protected"))) (λ _.
-    reads-choose (next_is (Word (codes "hrt_object"))) (IsSharedHead name) (IsSporadicHead name) Any (shared_head_at name) (sporadic_head_at name) (reads-shared_head name) (reads-sporadic_head name)
+    reads-choose (next_is (Word (codes "hrt_object"))) (IsSharedHead name) (IsSporadicHead name) Any (shared_head_at name) (sporadic_head_at name)
+    (reads-shared_head name) (reads-sporadic_head name)
     (λ h text rest k stop. shared_first name h text rest k) (λ h text rest k stop. sporadic_first name h text rest k)))
 
 -- ALL SPECIFICATIONS
@@ -194,10 +261,12 @@ cyclic_inner name h text k = let P : Head → Type 0 = λ q. IsInner name q text
 passive_inner : (name : Name) (h : Head) (text : List Token) → IsPassiveHead name h text → IsInner name h text
 passive_inner name h text k = let P : Head → Type 0 = λ q. IsInner name q text in subst P (sym k.1) (refl, k.2, k.3)
 
-shared_inner : (name : Name) (h : Head) (back text : List Token) → IsSharedHead name h back → text ≡ Word (codes "protected") ∷ back → IsInner name h text
+shared_inner : (name : Name) (h : Head) (back text : List Token) → IsSharedHead name h back → text ≡ Word (codes "protected") ∷ back
+    → IsInner name h text
 shared_inner name h back text k e = let P : Head → Type 0 = λ q. IsInner name q text in subst P (sym k.3) (refl, (k.4, k.5), rw (e, k.6) refl)
 
-sporadic_inner : (name : Name) (h : Head) (back text : List Token) → IsSporadicHead name h back → text ≡ Word (codes "protected") ∷ back → IsInner name h text
+sporadic_inner : (name : Name) (h : Head) (back text : List Token) → IsSporadicHead name h back → text ≡ Word (codes "protected") ∷ back
+    → IsInner name h text
 sporadic_inner name h back text k e =
     let c = k.4 in
     let P : Head → Type 0 = λ q. IsInner name q text in
@@ -211,7 +280,11 @@ abbrev IsChosen : Name → Head → List Token → Type 0
 IsChosen name h text = IsCyclicHead name h text ⊎ (IsObjectHead name h text ⊎ IsPassiveHead name h text)
 
 inner_to : (name : Name) (h : Head) (text : List Token) → IsChosen name h text → IsInner name h text
-inner_to name h text e = elim e [ inl k ↦ cyclic_inner name h text k | inr f ↦ elim f [ inl k ↦ object_inner name h text k | inr k ↦ passive_inner name h text k ] ]
+inner_to name h text e = elim e [
+  | inl k ↦ cyclic_inner name h text k
+  | inr f ↦ elim f
+      [ inl k ↦ object_inner name h text k | inr k ↦ passive_inner name h text k ]
+]
 
 inner_back : (name : Name) (h : Head) (text : List Token) → IsInner name h text → IsChosen name h text
 inner_back name (PassiveHead own sigs) text k =
@@ -229,27 +302,33 @@ inner_back name (SporadicHead own priority ceiling op separation jitter external
       k.2,
     )))
 
-passive_first : (sigs : List Signature) (name : Name) (rest : List Token) → next_is (Word (codes "task")) (first ((flat_map declaration_tokens sigs ++ end_tokens name) ++ rest)) ≡ false
+passive_first : (sigs : List Signature) (name : Name) (rest : List Token)
+    → next_is (Word (codes "task")) (first ((flat_map declaration_tokens sigs ++ end_tokens name) ++ rest)) ≡ false
 passive_first [] name rest = refl
 passive_first (s ∷ ss) name rest = refl
 
-passive_next : (sigs : List Signature) (name : Name) (rest : List Token) → next_is (Word (codes "protected")) (first ((flat_map declaration_tokens sigs ++ end_tokens name) ++ rest)) ≡ false
+passive_next : (sigs : List Signature) (name : Name) (rest : List Token)
+    → next_is (Word (codes "protected")) (first ((flat_map declaration_tokens sigs ++ end_tokens name) ++ rest)) ≡ false
 passive_next [] name rest = refl
 passive_next (s ∷ ss) name rest = refl
 
-cyclic_first : (name : Name) (priority : ℕ) (rest : List Token) → next_is (Word (codes "task")) (first (inner_tokens (CyclicHead name priority) ++ rest)) ≡ true
+cyclic_first : (name : Name) (priority : ℕ) (rest : List Token)
+    → next_is (Word (codes "task")) (first (inner_tokens (CyclicHead name priority) ++ rest)) ≡ true
 unfolding fixed_tokens
 cyclic_first name priority rest = refl
 
-other_first : (name : Name) (h : Head) (text rest : List Token) → IsObjectHead name h text ⊎ IsPassiveHead name h text → next_is (Word (codes "task")) (first (text ++ rest)) ≡ false
+other_first : (name : Name) (h : Head) (text rest : List Token) → IsObjectHead name h text ⊎ IsPassiveHead name h text
+    → next_is (Word (codes "task")) (first (text ++ rest)) ≡ false
 other_first name h text rest e = elim e [ inl k ↦ rw k.2 refl | inr k ↦ rw k.3 (passive_first k.0 name rest) ]
 
 reads-inner : (name : Name) → Reads (IsInner name) Any (inner_at name)
 unfolding inner_at
 reads-inner name = reads-same _ (IsInner name) Any (inner_at name) (inner_to name) (inner_back name)
-    (reads-choose (next_is (Word (codes "task"))) (IsCyclicHead name) (λ h text. IsObjectHead name h text ⊎ IsPassiveHead name h text) Any (cyclic_head_at name)
+    (reads-choose (next_is (Word (codes "task"))) (IsCyclicHead name) (λ h text. IsObjectHead name h text
+    ⊎ IsPassiveHead name h text) Any (cyclic_head_at name)
     (choose_at (next_is (Word (codes "protected"))) (object_head_at name) (passive_head_at name)) (reads-cyclic_head name)
-    (reads-choose (next_is (Word (codes "protected"))) (IsObjectHead name) (IsPassiveHead name) Any (object_head_at name) (passive_head_at name) (reads-object_head name) (reads-passive_head name)
+    (reads-choose (next_is (Word (codes "protected"))) (IsObjectHead name) (IsPassiveHead name) Any (object_head_at name) (passive_head_at name)
+    (reads-object_head name) (reads-passive_head name)
     (λ h text rest k stop. rw k.2 refl) (λ h text rest k stop. rw k.3 (passive_next k.0 name rest)))
     (λ h text rest k stop. rw k.2 (cyclic_first name k.0 rest)) (λ h text rest k stop. other_first name h text rest k))
 
@@ -260,7 +339,8 @@ head_text h = Word (codes "package") ∷ Word (head_name h) ∷ Word (codes "is"
 abbrev pub IsGoodHead : Head → Type 0
 IsGoodHead h = (is_ada_name (head_name h) ≡ true) × AreNamedHeads h
 
-head_to : (name : Name) (h : Head) (text inner : List Token) → is_ada_name name ≡ true → IsInner name h inner → text ≡ Word (codes "package") ∷ Word name ∷ Word (codes "is") ∷ inner → IsSpelled IsGoodHead head_text h text
+head_to : (name : Name) (h : Head) (text inner : List Token) → is_ada_name name ≡ true → IsInner name h inner
+    → text ≡ Word (codes "package") ∷ Word name ∷ Word (codes "is") ∷ inner → IsSpelled IsGoodHead head_text h text
 head_to name h text inner named k e =
     let P : Name → Type 0 = λ n. (is_ada_name n ≡ true) × (text ≡ Word (codes "package") ∷ Word n ∷ Word (codes "is") ∷ inner) in
     let q : P (head_name h) = subst P (sym k.0) (named, e) in
@@ -273,8 +353,10 @@ reads-head = reads-same _ (IsSpelled IsGoodHead head_text) Any head_at
     let g2 = g1.after in let g3 = g2.after in
     head_to g2.a h text g3.back g2.before.0 g3.after (rw (g1.whole, g1.before, g2.whole, g2.before.1, g3.whole, g3.before) refl))
     (λ h text k.
-    rw k.1 (joins-fixed _ (Word (codes "package")) h _ (joins-name is_ada_name _ (head_name h) h _ k.0.0 (joins-fixed _ (Word (codes "is")) h _ (refl, k.0.1, refl)))))
-    (andthen (reads-fixed (Word (codes "package"))) (λ _. andthen reads-ada_name (λ name. andthen (reads-fixed (Word (codes "is"))) (λ _. reads-inner name))))
+    rw k.1 (joins-fixed _ (Word (codes "package")) h _ (joins-name is_ada_name _ (head_name h) h _ k.0.0
+    (joins-fixed _ (Word (codes "is")) h _ (refl, k.0.1, refl)))))
+    (andthen (reads-fixed (Word (codes "package")))
+    (λ _. andthen reads-ada_name (λ name. andthen (reads-fixed (Word (codes "is"))) (λ _. reads-inner name))))
 
 -- the specifications of all units
 abbrev pub AreHeads : List Head → List Token → Type 0

@@ -38,9 +38,11 @@ module _ (n : ℕ) where
   bound_form (Passive ops) h p = bound_ops ops h p
   bound_form (Shared ceiling vars ops) h p = (p.0, bound_ops ops h p.1)
   bound_form (Cyclic priority offset period vars block) h p = (p.0, bound-block is_ada_name n 0 block (omega (arith, h)) p.1)
-  bound_form (Sporadic priority ceiling op separation jitter external vars block) h p = (p.0, p.1, p.2, p.3, bound-block is_ada_name n 0 block (omega (arith, h)) p.4)
+  bound_form (Sporadic priority ceiling op separation jitter external vars block) h p
+      = (p.0, p.1, p.2, p.3, bound-block is_ada_name n 0 block (omega (arith, h)) p.4)
 
-  bound_units : (us : List Unit) → extent_units us ≤ n → Each (λ u. (is_ada_name u.name ≡ true) × IsProperForm wide u.form) us → Each (λ u. (is_ada_name u.name ≡ true) × IsProperForm narrow u.form) us
+  bound_units : (us : List Unit) → extent_units us ≤ n → Each (λ u. (is_ada_name u.name ≡ true) × IsProperForm wide u.form) us
+      → Each (λ u. (is_ada_name u.name ≡ true) × IsProperForm narrow u.form) us
   bound_units [] h p = tt
   bound_units (u ∷ us) h p = ((p.0.0, bound_form u.form (omega (arith, h)) p.0.1), bound_units us (omega (arith, h)) p.1)
 
@@ -59,9 +61,11 @@ module _ (nests most : ℕ) where
   free_form (Passive ops) p = free_ops ops p
   free_form (Shared ceiling vars ops) p = (p.0, free_ops ops p.1)
   free_form (Cyclic priority offset period vars block) p = (p.0, free-block is_ada_name nests most 0 block p.1)
-  free_form (Sporadic priority ceiling op separation jitter external vars block) p = (p.0, p.1, p.2, p.3, free-block is_ada_name nests most 0 block p.4)
+  free_form (Sporadic priority ceiling op separation jitter external vars block) p
+      = (p.0, p.1, p.2, p.3, free-block is_ada_name nests most 0 block p.4)
 
-  free_units : (us : List Unit) → Each (λ u. (is_ada_name u.name ≡ true) × IsProperForm kept u.form) us → Each (λ u. (is_ada_name u.name ≡ true) × IsProperForm wide u.form) us
+  free_units : (us : List Unit) → Each (λ u. (is_ada_name u.name ≡ true) × IsProperForm kept u.form) us
+      → Each (λ u. (is_ada_name u.name ≡ true) × IsProperForm wide u.form) us
   free_units [] p = tt
   free_units (u ∷ us) p = ((p.0.0, free_form u.form p.0.1), free_units us p.1)
 

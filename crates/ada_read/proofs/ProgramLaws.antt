@@ -33,9 +33,11 @@ services_text c = fixed_tokens fixed.Opening ++ (costs_text c ++ (fixed_tokens f
 reads-services : Reads (λ c text. text ≡ services_text c) Any services_at
 unfolding services_at
 reads-services = reads-same _ (λ c text. text ≡ services_text c) Any services_at
-    (λ c text g1. let g2 = g1.after in let g3 = g2.after in rw (g3.after.0, g1.whole, g1.before, g2.whole, g2.before, g3.whole, g3.before, g3.after.1) refl)
+    (λ c text g1. let g2 = g1.after in let g3 = g2.after
+    in rw (g3.after.0, g1.whole, g1.before, g2.whole, g2.before, g3.whole, g3.before, g3.after.1) refl)
     (λ c text h. rw h (joins-text _ fixed.Opening c _ (joins-part _ c (costs_text c) c _ refl (joins-text _ fixed.Services c [] (refl, refl)))))
-    (andthen (reads-text fixed.Opening) (λ _. andthen reads-costs (λ costs. andthen (reads-text fixed.Services) (λ _. reads-pure Any costs (λ _. tt)))))
+    (andthen (reads-text fixed.Opening)
+    (λ _. andthen reads-costs (λ costs. andthen (reads-text fixed.Services) (λ _. reads-pure Any costs (λ _. tt)))))
 
 -- the main procedure
 abbrev main_text : Name → List Token
@@ -64,7 +66,8 @@ units_before name one two rest =
     append_assoc one (end_tokens name ++ (body_head_tokens name ++ (two ++ end_tokens name))) rest
     ∙ ap (λ us. one ++ (end_tokens name ++ (body_head_tokens name ++ us))) (append_assoc two (end_tokens name) rest)
 
-program_joined : (p : Program) → program_text p.name p.costs (joined (flat_map specification_lines p.units)) (joined (flat_map unit_body_lines p.units)) ≡ program_tokens p
+program_joined : (p : Program) → program_text p.name p.costs (joined (flat_map specification_lines p.units))
+    (joined (flat_map unit_body_lines p.units)) ≡ program_tokens p
 unfolding fixed_tokens cost_name
 program_joined p =
     ap (λ us. services_text p.costs ++ Word p.name ∷ Word (codes "is") ∷ us)
@@ -78,7 +81,8 @@ IsProgram nests chains p text = IsProperProgram (limits nests chains) p × (text
 module _ (nests chains : ℕ → Bool) (block : BlockReader) (blocks : Reads (IsBlock nests chains) (λ b o. EndsBlock o) block) where
   -- units by their specifications and their bodies
   abbrev AreUnits : Name → List programs.Unit → List Token → Type 0
-  AreUnits name us text = (hs : List Head) × (one : List Token) × (two : List Token) × AreHeads hs one × AreEach (IsBody nests chains) hs us two × (text ≡ units_text name one two)
+  AreUnits name us text = (hs : List Head) × (one : List Token) × (two : List Token) × AreHeads hs one × AreEach (IsBody nests chains) hs us two
+      × (text ≡ units_text name one two)
 
   end_after_heads : (name : Name) (rest : List Token) → next_is (Word (codes "package")) (first (end_tokens name ++ rest)) ≡ false
   end_after_heads name rest = refl
@@ -89,16 +93,28 @@ module _ (nests chains : ℕ → Bool) (block : BlockReader) (blocks : Reads (Is
       (λ us text g1.
       let g2 = g1.after in let g3 = g2.after in let g4 = g3.after in let g5 = g4.after in
       let P : List programs.Unit → Type 0 = λ vs. AreUnits name vs text in
-      subst P (sym g5.after.0) (g1.a, g1.front, g4.front, g1.before, g4.before, rw (g1.whole, g2.whole, g2.before, g3.whole, g3.before, g4.whole, g5.whole, g5.before, g5.after.1) refl))
+      subst P (sym g5.after.0) (
+        g1.a,
+        g1.front,
+        g4.front,
+        g1.before,
+        g4.before,
+        rw
+            (g1.whole, g2.whole, g2.before, g3.whole, g3.before, g4.whole, g5.whole, g5.before, g5.after.1) refl,
+      ))
       (λ us text h.
-      rw h.5 (joins-part _ h.0 h.1 us _ h.3 (joins-phrase _ (end_tokens name) us _ (joins-part _ tt (body_head_tokens name) us _ refl (joins-part _ us h.2 us _ h.4
+      rw h.5 (joins-part _ h.0 h.1 us _ h.3 (joins-phrase _ (end_tokens name) us _
+      (joins-part _ tt (body_head_tokens name) us _ refl (joins-part _ us h.2 us _ h.4
       (joins-phrase _ (end_tokens name) us [] (refl, refl)))))))
-      (and_until (λ o. next_is (Word (codes "package")) o ≡ false) (end_tokens name) (end_after_heads name) reads-heads (λ hs. andthen (reads-phrase (end_tokens name)) (λ _.
-      andthen (reads-body_head name) (λ _. andthen (reads-bodies nests chains block blocks hs) (λ us. andthen (reads-phrase (end_tokens name)) (λ _. reads-pure Any us (λ _. tt)))))))
+      (and_until (λ o. next_is (Word (codes "package")) o ≡ false) (end_tokens name) (end_after_heads name) reads-heads
+      (λ hs. andthen (reads-phrase (end_tokens name)) (λ _.
+      andthen (reads-body_head name) (λ _. andthen (reads-bodies nests chains block blocks hs)
+      (λ us. andthen (reads-phrase (end_tokens name)) (λ _. reads-pure Any us (λ _. tt)))))))
 
   -- a program by its parts
   abbrev IsWritten : Program → List Token → Type 0
-  IsWritten p text = (is_ada_name p.name ≡ true) × (us : List Token) × AreUnits p.name p.units us × (text ≡ services_text p.costs ++ Word p.name ∷ Word (codes "is") ∷ (us ++ (main_text p.name ++ [])))
+  IsWritten p text = (is_ada_name p.name ≡ true) × (us : List Token) × AreUnits p.name p.units us
+      × (text ≡ services_text p.costs ++ Word p.name ∷ Word (codes "is") ∷ (us ++ (main_text p.name ++ [])))
 
   reads-written : Reads IsWritten Any (program_at block)
   unfolding program_at
@@ -106,11 +122,18 @@ module _ (nests chains : ℕ → Bool) (block : BlockReader) (blocks : Reads (Is
       (λ p text g1.
       let g2 = g1.after in let g3 = g2.after in let g4 = g3.after in let g5 = g4.after in
       let P : Program → Type 0 = λ q. IsWritten q text in
-      subst P (sym g5.after.0) (g2.before.0, g4.front, g4.before, rw (g1.whole, g1.before, g2.whole, g2.before.1, g3.whole, g3.before, g4.whole, g5.whole, g5.before, g5.after.1) refl))
+      subst P (sym g5.after.0) (
+        g2.before.0,
+        g4.front,
+        g4.before,
+        rw
+            (g1.whole, g1.before, g2.whole, g2.before.1, g3.whole, g3.before, g4.whole, g5.whole, g5.before, g5.after.1) refl,
+      ))
       (λ p text h.
       rw h.3 (joins-part _ p.costs (services_text p.costs) p _ refl (joins-name is_ada_name _ p.name p _ h.0 (joins-fixed _ (Word (codes "is")) p _
       (joins-part _ p.units h.1 p _ h.2 (joins-part _ tt (main_text p.name) p [] refl (refl, refl)))))))
-      (andthen reads-services (λ costs. andthen reads-ada_name (λ name. andthen (reads-fixed (Word (codes "is"))) (λ _. andthen (reads-units name) (λ us. andthen (reads-main name) (λ _.
+      (andthen reads-services (λ costs. andthen reads-ada_name (λ name. andthen (reads-fixed (Word (codes "is")))
+      (λ _. andthen (reads-units name) (λ us. andthen (reads-main name) (λ _.
       reads-pure Any (record { name = name; costs = costs; units = us }) (λ _. tt)))))))
 
   program_to : (p : Program) (text : List Token) → IsWritten p text → IsProgram nests chains p text
@@ -119,7 +142,8 @@ module _ (nests chains : ℕ → Bool) (block : BlockReader) (blocks : Reads (Is
       let k = units_to nests chains u.0 p.units u.2 u.3.0 u.4 in (
         (w.0, k.0),
         w.3 ∙ ap (λ us. services_text p.costs ++ Word p.name ∷ Word (codes "is") ∷ (us ++ (main_text p.name ++ [])))
-            (u.5 ∙ ap (λ one. units_text p.name one u.2) (u.3.1 ∙ k.1) ∙ ap (λ two. units_text p.name (joined (flat_map specification_lines p.units)) two) k.2)
+            (u.5 ∙ ap (λ one. units_text p.name one u.2) (u.3.1 ∙ k.1) ∙ ap
+            (λ two. units_text p.name (joined (flat_map specification_lines p.units)) two) k.2)
             ∙ program_joined p,
       )
 
@@ -129,7 +153,15 @@ module _ (nests chains : ℕ → Bool) (block : BlockReader) (blocks : Reads (Is
       let two = joined (flat_map unit_body_lines p.units) in (
         h.0.0,
         units_text p.name one two,
-        (heads_from nests chains p.units, one, two, (heads_good nests chains p.units h.0.1, heads_joined nests chains p.units), bodies_back nests chains p.units h.0.1, refl),
+        (
+          heads_from nests chains p.units,
+          one,
+          two,
+          (heads_good nests chains p.units h.0.1, heads_joined nests chains p.units),
+          bodies_back nests
+              chains p.units h.0.1,
+          refl,
+        ),
         h.1 ∙ sym (program_joined p),
       )
 

@@ -1,5 +1,6 @@
 -- The readers of requests, truth values and renamings read their grammar.
-use Rattle.std.proofs.Common.{◌≡◌, Bool, true, false, cond, List, [], ◌∷◌, ◌++◌, None, Some, codes, flat_map, refl, sym, ap, subst, ◌∙◌, append-nil, ◌⊎◌, inl, inr, length, arith}
+use Rattle.std.proofs.Common.{◌≡◌, Bool, true, false, cond, List, [], ◌∷◌, ◌++◌, None, Some, codes, flat_map, refl, sym, ap, subst, ◌∙◌}
+use Rattle.std.proofs.Common.{append-nil, ◌⊎◌, inl, inr, length, arith}
 use Rattle.seq_tree.specs.Lists.{Each}
 use Rattle.grammar.specs.Reading.{choose_at, token_at, Reads}
 use Rattle.grammar.proofs.Laws.{reads-same, reads-pure, reads-token, reads-choose, IsToken}
@@ -20,7 +21,8 @@ use Rattle.seq_read.specs.Parts.{sees_by, named_at}
 use Rattle.ada_read.specs.declared.fixed_text.FixedText.TheVariants as fixed
 use Rattle.ada_read.specs.FixedTexts.{fixed_tokens}
 use Rattle.ada_read.specs.Readers.{renaming_at, renamings_at, request_renaming_at, request_param_at, request_at, unlisted_at, truth_named}
-use Rattle.ada_read.proofs.ParamLaws.{AreUnlisted, IsNamed, IsNamedHead, IsSpelled, declaration_tokens, reads-text, joins-text, joins-part, reads-ada_name, reads-unlisted}
+use Rattle.ada_read.proofs.ParamLaws.{AreUnlisted, IsNamed, IsNamedHead, IsSpelled, declaration_tokens, reads-text, joins-text, joins-part}
+use Rattle.ada_read.proofs.ParamLaws.{reads-ada_name, reads-unlisted}
 
 -- RENAMINGS
 -- the name by which an operation of a protected unit is called
@@ -50,19 +52,25 @@ unfolding request_renaming_at
 reads-request_renaming sig = reads-same _ (λ _ text. text ≡ request_renaming_tokens sig) Any (request_renaming_at sig)
     (λ u text g1. let g2 = g1.after in rw (g1.whole, g1.before, g2.whole, g2.before, g2.after) refl)
     (λ u text h. rw h (joins-phrase _ (head_tokens sig) tt _ (joins-text _ fixed.RequestRenames tt _ refl)))
-    (andthen (reads-phrase (head_tokens sig)) (λ _. andthen (reads-text fixed.RequestRenames) (λ _. reads-phrase (Word sig.name ∷ Sign Semicolon ∷ []))))
+    (andthen (reads-phrase (head_tokens sig)) (λ _. andthen (reads-text fixed.RequestRenames)
+    (λ _. reads-phrase (Word sig.name ∷ Sign Semicolon ∷ []))))
 
 -- REQUESTS
 -- one parameter, which hands a value in
 abbrev IsOneParam : List Param → List Token → Type 0
-IsOneParam ps text = (name : Name) × (ps ≡ record { name = name; mode = In } ∷ []) × (is_ada_name name ≡ true) × (text ≡ Sign LeftParen ∷ Word name ∷ fixed_tokens fixed.RequestParam)
+IsOneParam ps text = (name : Name) × (ps ≡ record { name = name; mode = In } ∷ []) × (is_ada_name name ≡ true)
+    × (text ≡ Sign LeftParen ∷ Word name ∷ fixed_tokens fixed.RequestParam)
 
 reads-request_param : Reads IsOneParam Any request_param_at
 unfolding request_param_at fixed_tokens
 reads-request_param = reads-same _ IsOneParam Any request_param_at
-    (λ ps text g1. let g2 = g1.after in let g3 = g2.after in (g2.a, g3.after.0, g2.before.0, rw (g1.whole, g1.before, g2.whole, g2.before.1, g3.whole, g3.before, g3.after.1) refl))
-    (λ ps text h. rw h.3 (joins-fixed _ (Sign LeftParen) ps _ (joins-name is_ada_name _ h.0 ps _ h.2 (joins-text _ fixed.RequestParam ps [] (h.1, refl)))))
-    (andthen (reads-fixed (Sign LeftParen)) (λ _. andthen reads-ada_name (λ name. andthen (reads-text fixed.RequestParam) (λ _. reads-pure Any (record { name = name; mode = In } ∷ []) (λ _. tt)))))
+    (λ ps text g1. let g2 = g1.after in let g3 = g2.after
+    in (g2.a, g3.after.0, g2.before.0, rw (g1.whole, g1.before, g2.whole, g2.before.1, g3.whole, g3.before, g3.after.1) refl))
+    (λ ps text h. rw h.3 (joins-fixed _ (Sign LeftParen) ps _ (joins-name is_ada_name _ h.0 ps _ h.2
+    (joins-text _ fixed.RequestParam ps [] (h.1, refl)))))
+    (andthen (reads-fixed (Sign LeftParen))
+    (λ _. andthen reads-ada_name (λ name. andthen (reads-text fixed.RequestParam)
+    (λ _. reads-pure Any (record { name = name; mode = In } ∷ []) (λ _. tt)))))
 
 -- the parameters of a request, and the end of its declaration
 abbrev AreRequested : List Param → List Token → Type 0
@@ -78,7 +86,9 @@ requested_none ps text h = let P : List Param → Type 0 = λ qs. AreRequested q
 requested_to : (ps : List Param) (text : List Token) → IsOneParam ps text ⊎ AreUnlisted ps text → AreRequested ps text
 requested_to ps text e = elim e [ inl h ↦ requested_one ps text h | inr h ↦ requested_none ps text h ]
 
-one_back : (name : Name) (mode : Mode) (text : List Token) → is_ada_name name ≡ true → mode ≡ In → text ≡ params_tokens (record { name = name; mode = mode } ∷ []) ++ Sign Semicolon ∷ [] → IsOneParam (record { name = name; mode = mode } ∷ []) text
+one_back : (name : Name) (mode : Mode) (text : List Token) → is_ada_name name ≡ true → mode ≡ In
+    → text ≡ params_tokens (record { name = name; mode = mode } ∷ []) ++ Sign Semicolon ∷ []
+    → IsOneParam (record { name = name; mode = mode } ∷ []) text
 unfolding fixed_tokens
 one_back name mode text named is e =
     let P : Mode → Type 0 = λ m. text ≡ params_tokens (record { name = name; mode = m } ∷ []) ++ Sign Semicolon ∷ [] in
@@ -91,7 +101,8 @@ requested_back (p ∷ q ∷ ps) text h = absurd h.1
 
 reads-requested : Reads AreRequested Any (choose_at (next_is (Sign LeftParen)) request_param_at unlisted_at)
 reads-requested = reads-same _ AreRequested Any (choose_at (next_is (Sign LeftParen)) request_param_at unlisted_at) requested_to requested_back
-    (reads-choose (next_is (Sign LeftParen)) IsOneParam AreUnlisted Any request_param_at unlisted_at reads-request_param reads-unlisted (λ ps text rest h stop. rw h.3 refl) (λ ps text rest h stop. rw h.1 refl))
+    (reads-choose (next_is (Sign LeftParen)) IsOneParam AreUnlisted Any request_param_at unlisted_at reads-request_param reads-unlisted
+    (λ ps text rest h stop. rw h.3 refl) (λ ps text rest h stop. rw h.1 refl))
 
 -- the declaration of a request
 abbrev pub IsNamedRequest : Signature → Type 0
@@ -103,11 +114,17 @@ reads-request = reads-same _ (IsSpelled IsNamedRequest declaration_tokens) Any r
     (λ s text g1.
     let g2 = g1.after in let g3 = g2.after in
     let P : Signature → Type 0 = λ q. IsSpelled IsNamedRequest declaration_tokens q text in
-    subst P (sym g3.after.0) (((g2.before.0, g3.before.0), g3.before.1), rw (g1.whole, g1.before, g2.whole, g2.before.1, g3.whole, g3.before.2, g3.after.1, append-nil) refl))
+    subst P (sym g3.after.0) (
+      ((g2.before.0, g3.before.0), g3.before.1),
+      rw
+          (g1.whole, g1.before, g2.whole, g2.before.1, g3.whole, g3.before.2, g3.after.1, append-nil) refl,
+    ))
     (λ s text h.
-    rw (h.1, sym (append-nil (params_tokens s.params ++ Sign Semicolon ∷ []))) (joins-fixed _ (Word (codes "procedure")) s _ (joins-name is_ada_name _ s.name s _ h.0.0.0
+    rw (h.1, sym (append-nil (params_tokens s.params ++ Sign Semicolon ∷ [])))
+    (joins-fixed _ (Word (codes "procedure")) s _ (joins-name is_ada_name _ s.name s _ h.0.0.0
     (joins-part _ s.params (params_tokens s.params ++ Sign Semicolon ∷ []) s [] (h.0.0.1, h.0.1, refl) (refl, refl)))))
-    (andthen (reads-fixed (Word (codes "procedure"))) (λ _. andthen reads-ada_name (λ name. andthen reads-requested (λ params. reads-pure Any (record { name = name; params = params }) (λ _. tt)))))
+    (andthen (reads-fixed (Word (codes "procedure")))
+    (λ _. andthen reads-ada_name (λ name. andthen reads-requested (λ params. reads-pure Any (record { name = name; params = params }) (λ _. tt)))))
 
 -- TRUTH VALUES
 abbrev pub IsTruth : Bool → List Token → Type 0
@@ -116,9 +133,12 @@ IsTruth b text = text ≡ truth_token b ∷ []
 truth_named_by : (name : Name) (v : Bool) → truth_named name ≡ Some v → Word name ≡ truth_token v
 unfolding truth_named
 truth_named_by name v e = by (same_name name (codes "true")) (same_name name (codes "false")) refl refl e where
-  by : (b c : Bool) → same_name name (codes "true") ≡ b → same_name name (codes "false") ≡ c → cond b (Some true) (cond c (Some false) None) ≡ Some v → Word name ≡ truth_token v
-  by true c p q e = let same : true ≡ v = cc in let P : Bool → Type 0 = λ k. Word name ≡ truth_token k in subst P same (same_is (Word name) (Word (codes "true")) p)
-  by false true p q e = let same : false ≡ v = cc in let P : Bool → Type 0 = λ k. Word name ≡ truth_token k in subst P same (same_is (Word name) (Word (codes "false")) q)
+  by : (b c : Bool) → same_name name (codes "true") ≡ b → same_name name (codes "false") ≡ c → cond b (Some true) (cond c (Some false) None) ≡ Some v
+      → Word name ≡ truth_token v
+  by true c p q e = let same : true ≡ v = cc in let P : Bool → Type 0 = λ k. Word name ≡ truth_token k
+      in subst P same (same_is (Word name) (Word (codes "true")) p)
+  by false true p q e = let same : false ≡ v = cc in let P : Bool → Type 0 = λ k. Word name ≡ truth_token k
+      in subst P same (same_is (Word name) (Word (codes "false")) q)
   by false false p q e = absurd (cc)
 
 truth_seen : (t : Token) (v : Bool) → sees_by truth_named t ≡ Some v → t ≡ truth_token v

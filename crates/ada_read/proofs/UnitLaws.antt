@@ -12,7 +12,8 @@ use Rattle.seq_tree.specs.declared.token.Mark.TheVariants.{Becomes}
 use Rattle.ada_tree.specs.Programs.{Form, Passive, Shared, Cyclic, Sporadic}
 use Rattle.ada_tree.specs.Programs as programs
 use Rattle.ada_tree.specs.Proper.{IsProperForm, IsProperOperation}
-use Rattle.ada_tree.specs.Spelling.{head_tokens, params_tokens, kept_token, request_token, datum_line, declaration_line, body_lines, end_line, renaming_line, inner_body, specification_lines, unit_body_lines}
+use Rattle.ada_tree.specs.Spelling.{head_tokens, params_tokens, kept_token, request_token, datum_line, declaration_line, body_lines, end_line}
+use Rattle.ada_tree.specs.Spelling.{renaming_line, inner_body, specification_lines, unit_body_lines}
 use Rattle.ada_tree.specs.Words.{is_ada_name}
 use Rattle.seq_read.specs.Parts.{end_tokens}
 use Rattle.ada_read.specs.declared.fixed_text.FixedText.TheVariants as fixed
@@ -36,44 +37,65 @@ unfolding fixed_tokens
 data_joined level [] = refl
 data_joined level (d ∷ ds) = ap (λ us. datum_tokens d ++ us) (data_joined level ds)
 
-declarations_joined : (level : ℕ) (ops : List Operation) → joined (map (λ o. declaration_line level o.sig) ops) ≡ flat_map declaration_tokens (map (λ o. o.sig) ops)
+declarations_joined : (level : ℕ) (ops : List Operation) → joined (map (λ o. declaration_line level o.sig) ops)
+    ≡ flat_map declaration_tokens (map (λ o. o.sig) ops)
 declarations_joined level [] = refl
 declarations_joined level (o ∷ ops) = ap (λ us. declaration_tokens o.sig ++ us) (declarations_joined level ops)
 
 operation_joined : (level : ℕ) (o : Operation) → joined (body_lines level o) ≡ operation_tokens o
 operation_joined level o =
     append_assoc (head_tokens o.sig) (Word (codes "is") ∷ []) _
-    ∙ rw (joined-append (map (datum_line (suc level)) o.locals) _, data_joined (suc level) o.locals, joined-append (block_lines (suc level) o.block) _, block-level (suc level) 0 o.block) refl
+    ∙ rw (
+      joined-append (map (datum_line (suc level)) o.locals) _,
+      data_joined (suc level) o.locals,
+      joined-append (block_lines
+          (suc level) o.block) _,
+      block-level (suc level) 0 o.block,
+    ) refl
 
 operations_joined : (level : ℕ) (ops : List Operation) → joined (flat_map (body_lines level) ops) ≡ flat_map operation_tokens ops
 operations_joined level [] = refl
-operations_joined level (o ∷ ops) = sym (glued (body_lines level o) (flat_map (body_lines level) ops) (operation_tokens o) (flat_map operation_tokens ops) (sym (operation_joined level o)) (sym (operations_joined level ops)))
+operations_joined level (o ∷ ops)
+    = sym (glued (body_lines level o) (flat_map (body_lines level) ops) (operation_tokens o) (flat_map operation_tokens ops)
+    (sym (operation_joined level o)) (sym (operations_joined level ops)))
 
-renamings_joined : (ops : List Operation) → joined (map (λ o. renaming_line 2 (codes "hrt_object") o.sig) ops) ≡ flat_map renaming_tokens (map (λ o. o.sig) ops)
+renamings_joined : (ops : List Operation) → joined (map (λ o. renaming_line 2 (codes "hrt_object") o.sig) ops)
+    ≡ flat_map renaming_tokens (map (λ o. o.sig) ops)
 unfolding fixed_tokens
 renamings_joined [] = refl
 renamings_joined (o ∷ ops) = ap (λ us. renaming_tokens o.sig ++ us) (renamings_joined ops)
 
 -- the parts of a protected specification in another grouping
 shared_grouped : (name : Name) (ceiling : ℕ) (declared stored renamed : List Token) →
-    Word (codes "package") ∷ Word name ∷ Word (codes "is") ∷ Word (codes "protected") ∷ (fixed_tokens fixed.ObjectHead ++ Number ceiling ∷ (fixed_tokens fixed.Close
+    Word (codes "package") ∷ Word name ∷ Word (codes "is") ∷ Word (codes "protected")
+    ∷ (fixed_tokens fixed.ObjectHead ++ Number ceiling ∷ (fixed_tokens fixed.Close
     ++ (declared ++ Word (codes "private") ∷ (stored ++ (fixed_tokens fixed.ObjectEnd ++ (renamed ++ end_tokens name))))))
-    ≡ Word (codes "package") ∷ Word name ∷ Word (codes "is") ∷ ((Word (codes "protected") ∷ (fixed_tokens fixed.ObjectHead ++ Number ceiling ∷ (fixed_tokens fixed.Close
+    ≡ Word (codes "package") ∷ Word name ∷ Word (codes "is")
+    ∷ ((Word (codes "protected") ∷ (fixed_tokens fixed.ObjectHead ++ Number ceiling ∷ (fixed_tokens fixed.Close
     ++ (declared ++ Word (codes "private") ∷ (stored ++ (fixed_tokens fixed.ObjectEnd ++ renamed)))))) ++ end_tokens name)
 unfolding fixed_tokens
 shared_grouped name ceiling declared stored renamed = simp append_assoc
 
 -- the parts of a sporadic body in another grouping
 sporadic_grouped : (name request : Name) (kept variable : Token) (params stored block : List Token) →
-    body_head_tokens name ++ ((stored ++ ((fixed_tokens fixed.RequestBody ++ ((Word (codes "procedure") ∷ Word request ∷ params) ++ (fixed_tokens fixed.Keep ++ kept ∷ (fixed_tokens fixed.Opened
-    ++ Word request ∷ fixed_tokens fixed.Wait)))) ++ ((variable ∷ (fixed_tokens fixed.Waiting ++ variable ∷ fixed_tokens fixed.Close)) ++ (block ++ (fixed_tokens fixed.TaskLoop ++ []))))) ++ end_tokens name)
-    ≡ body_head_tokens name ++ ((stored ++ (fixed_tokens fixed.RequestBody ++ (((Word (codes "procedure") ∷ Word request ∷ params) ++ Word (codes "is") ∷ []) ++ (Word (codes "begin") ∷ Word (codes "hrt_value") ∷ Sign Becomes ∷ kept
-    ∷ (fixed_tokens fixed.Opened ++ Word request ∷ (fixed_tokens fixed.Wait ++ variable ∷ (fixed_tokens fixed.Waiting ++ variable ∷ (fixed_tokens fixed.Close ++ (block ++ (fixed_tokens fixed.TaskLoop ++ [])))))))))) ++ end_tokens name)
+    body_head_tokens name ++ ((stored
+    ++ ((fixed_tokens fixed.RequestBody ++ ((Word (codes "procedure") ∷ Word request ∷ params)
+    ++ (fixed_tokens fixed.Keep ++ kept ∷ (fixed_tokens fixed.Opened
+    ++ Word request ∷ fixed_tokens fixed.Wait)))) ++ ((variable ∷ (fixed_tokens fixed.Waiting ++ variable ∷ fixed_tokens fixed.Close))
+    ++ (block ++ (fixed_tokens fixed.TaskLoop ++ []))))) ++ end_tokens name)
+    ≡ body_head_tokens name ++ ((stored
+    ++ (fixed_tokens fixed.RequestBody ++ (((Word (codes "procedure") ∷ Word request ∷ params) ++ Word (codes "is") ∷ [])
+    ++ (Word (codes "begin") ∷ Word (codes "hrt_value") ∷ Sign Becomes ∷ kept
+    ∷ (fixed_tokens fixed.Opened ++ Word request ∷ (fixed_tokens fixed.Wait ++ variable
+    ∷ (fixed_tokens fixed.Waiting ++ variable ∷ (fixed_tokens fixed.Close ++ (block ++ (fixed_tokens fixed.TaskLoop ++ []))))))))))
+    ++ end_tokens name)
 unfolding fixed_tokens
 sporadic_grouped name request kept variable params stored block =
     let keeps : List Token = fixed_tokens fixed.Keep ++ kept ∷ (fixed_tokens fixed.Opened ++ Word request ∷ fixed_tokens fixed.Wait) in
-    let waits : List Token = (variable ∷ (fixed_tokens fixed.Waiting ++ variable ∷ fixed_tokens fixed.Close)) ++ (block ++ (fixed_tokens fixed.TaskLoop ++ [])) in
-    ap (λ us. body_head_tokens name ++ ((stored ++ (fixed_tokens fixed.RequestBody ++ Word (codes "procedure") ∷ Word request ∷ us)) ++ end_tokens name))
+    let waits : List Token = (variable ∷ (fixed_tokens fixed.Waiting ++ variable ∷ fixed_tokens fixed.Close))
+    ++ (block ++ (fixed_tokens fixed.TaskLoop ++ [])) in
+    ap (λ us. body_head_tokens name ++ ((stored ++ (fixed_tokens fixed.RequestBody ++ Word (codes "procedure") ∷ Word request ∷ us))
+    ++ end_tokens name))
     (append_assoc params keeps waits ∙ sym (append_assoc params (Word (codes "is") ∷ []) _))
 
 -- A UNIT
@@ -95,29 +117,52 @@ specification_joined name (Shared ceiling vars ops) =
       data_joined 3 vars,
       renamings_joined ops,
     )
-    (shared_grouped name ceiling (flat_map declaration_tokens (map (λ o. o.sig) ops)) (flat_map datum_tokens vars) (flat_map renaming_tokens (map (λ o. o.sig) ops)))
+    (shared_grouped name ceiling (flat_map declaration_tokens (map (λ o. o.sig) ops)) (flat_map datum_tokens vars)
+    (flat_map renaming_tokens (map (λ o. o.sig) ops)))
 specification_joined name (Cyclic priority offset period vars b) = refl
 specification_joined name (Sporadic priority ceiling op separation jitter external vars b) = refl
 
 -- its body
-body_joined : (name : Name) (f : Form) → body_head_tokens name ++ (form_tokens f ++ end_tokens name) ≡ joined (unit_body_lines (record { name = name; form = f }))
+body_joined : (name : Name) (f : Form) → body_head_tokens name ++ (form_tokens f ++ end_tokens name)
+    ≡ joined (unit_body_lines (record { name = name; form = f }))
 unfolding fixed_tokens
 body_joined name (Passive ops) = rw (joined-append (flat_map (body_lines 2) ops) _, operations_joined 2 ops) refl
 body_joined name (Shared ceiling vars ops) =
     let last : Line = end_line 2 (codes "hrt_object") in
-    rw (joined-append (flat_map (body_lines 3) ops ++ last ∷ []) (end_line 1 name ∷ []), joined-append (flat_map (body_lines 3) ops) (last ∷ []), operations_joined 3 ops) refl
+    rw (
+      joined-append (flat_map (body_lines 3) ops ++ last ∷ []) (end_line 1 name ∷ []),
+      joined-append (flat_map (body_lines 3) ops) (last
+          ∷ []),
+      operations_joined 3 ops,
+    ) refl
 body_joined name (Cyclic priority offset period vars b) =
-    rw (joined-append (inner_body (Cyclic priority offset period vars b)) _, joined-append (map (datum_line 2) vars) _, data_joined 2 vars, joined-append (block_lines 4 b) _, block-level 4 0 b) refl
+    rw (
+      joined-append (inner_body (Cyclic priority offset period vars b)) _,
+      joined-append (map
+          (datum_line 2) vars) _,
+      data_joined 2 vars,
+      joined-append (block_lines 4 b) _,
+      block-level 4 0 b,
+    ) refl
 body_joined name (Sporadic priority ceiling op separation jitter external vars b) =
-    rw (joined-append (inner_body (Sporadic priority ceiling op separation jitter external vars b)) _, joined-append (map (datum_line 2) vars) _, data_joined 2 vars, joined-append (block_lines 4 b) _, block-level 4 0 b)
-    (sporadic_grouped name op.name (kept_token op.params) (request_token op.params) (params_tokens op.params) (flat_map datum_tokens vars) (block_tokens b))
+    rw (
+      joined-append (inner_body (Sporadic priority ceiling op separation jitter external vars b)) _,
+      joined-append (map
+          (datum_line 2) vars) _,
+      data_joined 2 vars,
+      joined-append (block_lines 4 b) _,
+      block-level 4 0 b,
+    )
+    (sporadic_grouped name op.name (kept_token op.params) (request_token op.params) (params_tokens op.params) (flat_map datum_tokens vars)
+    (block_tokens b))
 
 module _ (nests chains : ℕ → Bool) where
   -- a unit that may be written and read
   abbrev pub IsGood : programs.Unit → Type 0
   IsGood u = (is_ada_name u.name ≡ true) × IsProperForm (limits nests chains) u.form
 
-  operations_proper : (ops : List Operation) → Each IsNamedHead (map (λ o. o.sig) ops) → Each (HasBody nests chains) ops → Each (IsProperOperation (limits nests chains)) ops
+  operations_proper : (ops : List Operation) → Each IsNamedHead (map (λ o. o.sig) ops) → Each (HasBody nests chains) ops
+      → Each (IsProperOperation (limits nests chains)) ops
   operations_proper [] h k = tt
   operations_proper (o ∷ ops) h k = ((h.0.0, h.0.1, k.0.0, k.0.1), operations_proper ops h.1 k.1)
 
@@ -175,7 +220,8 @@ module _ (nests chains : ℕ → Bool) where
   abbrev pub AreUnits : List programs.Unit → List Token → List Token → Type 0
   AreUnits us one two = Each IsGood us × (one ≡ joined (flat_map specification_lines us)) × (two ≡ joined (flat_map unit_body_lines us))
 
-  pub units_to : (hs : List Head) (us : List programs.Unit) (two : List Token) → Each IsGoodHead hs → AreEach (IsBody nests chains) hs us two → AreUnits us (flat_map head_text hs) two
+  pub units_to : (hs : List Head) (us : List programs.Unit) (two : List Token) → Each IsGoodHead hs → AreEach (IsBody nests chains) hs us two
+      → AreUnits us (flat_map head_text hs) two
   units_to [] [] two g b = (tt, refl, b)
   units_to [] (u ∷ us) two g b = absurd b
   units_to (h ∷ hs) [] two g b = absurd b
@@ -183,7 +229,8 @@ module _ (nests chains : ℕ → Bool) where
       let r = was_read h u b.0 b.2 in
       let k = units_to hs us b.1 g.1 b.3 in (
         (good_to u.name u.form (subst IsGoodHead r.same g.0) r.form, k.0),
-        glued (specification_lines u) (flat_map specification_lines us) (head_text h) (flat_map head_text hs) (ap head_text r.same ∙ specification_joined u.name u.form) k.1,
+        glued (specification_lines u) (flat_map specification_lines us) (head_text h) (flat_map head_text hs) (ap head_text r.same ∙
+            specification_joined u.name u.form) k.1,
         b.4 ∙ glued (unit_body_lines u) (flat_map unit_body_lines us) b.0 b.1 r.whole k.2,
       )
 
@@ -197,16 +244,25 @@ module _ (nests chains : ℕ → Bool) where
 
   pub heads_joined : (us : List programs.Unit) → joined (flat_map specification_lines us) ≡ flat_map head_text (heads_from us)
   heads_joined [] = refl
-  heads_joined (u ∷ us) = sym (glued (specification_lines u) (flat_map specification_lines us) _ _ (specification_joined u.name u.form) (sym (heads_joined us)))
+  heads_joined (u ∷ us) = sym (glued (specification_lines u) (flat_map specification_lines us) _ _ (specification_joined u.name u.form)
+      (sym (heads_joined us)))
 
   body_back : (u : programs.Unit) → IsGood u → IsBody nests chains (head_from u.name u.form) u (joined (unit_body_lines u))
   body_back u g =
       let named = from_name u.name u.form in
-      let P : Name → Type 0 = λ n. (u.name ≡ n) × (inner : List Token) × ((head_from u.name u.form ≡ head_from n u.form) × HasForm nests chains u.form × (inner ≡ form_tokens u.form))
+      let P : Name → Type 0 = λ n. (u.name ≡ n) × (inner : List Token)
+      × ((head_from u.name u.form ≡ head_from n u.form) × HasForm nests chains u.form × (inner ≡ form_tokens u.form))
       × (joined (unit_body_lines u) ≡ body_head_tokens n ++ (inner ++ end_tokens n)) in
       subst P (sym named) (refl, form_tokens u.form, (refl, good_form u.name u.form g, refl), sym (body_joined u.name u.form))
 
-  pub bodies_back : (us : List programs.Unit) → Each IsGood us → AreEach (IsBody nests chains) (heads_from us) us (joined (flat_map unit_body_lines us))
+  pub bodies_back : (us : List programs.Unit) → Each IsGood us
+      → AreEach (IsBody nests chains) (heads_from us) us (joined (flat_map unit_body_lines us))
   bodies_back [] g = refl
-  bodies_back (u ∷ us) g =
-      (joined (unit_body_lines u), joined (flat_map unit_body_lines us), body_back u g.0, bodies_back us g.1, joined-append (unit_body_lines u) (flat_map unit_body_lines us))
+  bodies_back (u ∷ us) g = (
+    joined (unit_body_lines u),
+    joined (flat_map unit_body_lines us),
+    body_back u g.0,
+    bodies_back us g.1,
+    joined-append (unit_body_lines
+        u) (flat_map unit_body_lines us),
+  )

@@ -69,7 +69,8 @@ fixed_tokens fixed.Separation =
     Sign RightParen ∷ Sign Semicolon ∷ Word (codes "end") ∷ Word (codes "hrt_thread") ∷ Sign Semicolon ∷
     Word (codes "hrt_separation") ∷ Sign Colon ∷ Word (codes "constant") ∷ Sign Becomes ∷ []
 fixed_tokens fixed.Jitter = Sign Semicolon ∷ Word (codes "hrt_jitter") ∷ Sign Colon ∷ Word (codes "constant") ∷ Sign Becomes ∷ []
-fixed_tokens fixed.External = Sign Semicolon ∷ Word (codes "hrt_external") ∷ Sign Colon ∷ Word (codes "constant") ∷ Word (codes "boolean") ∷ Sign Becomes ∷ []
+fixed_tokens fixed.External = Sign Semicolon ∷ Word (codes "hrt_external") ∷ Sign Colon ∷ Word (codes "constant") ∷ Word (codes "boolean")
+    ∷ Sign Becomes ∷ []
 fixed_tokens fixed.RequestBody = Word (codes "protected") ∷ Word (codes "body") ∷ Word (codes "hrt_obcs") ∷ Word (codes "is") ∷ []
 fixed_tokens fixed.Keep = Word (codes "is") ∷ Word (codes "begin") ∷ Word (codes "hrt_value") ∷ Sign Becomes ∷ []
 fixed_tokens fixed.Zero = Number 0 ∷ []

@@ -27,4 +27,5 @@ abbrev pub head_of : UnitHead → Head
 head_of (head.Passive name sigs) = PassiveHead name (map signature_of sigs.items)
 head_of (head.Shared name ceiling sigs vars) = SharedHead name ceiling (map signature_of sigs.items) vars.items
 head_of (head.Cyclic name priority) = CyclicHead name priority
-head_of (head.Sporadic name priority ceiling op separation jitter external) = SporadicHead name priority ceiling (signature_of op) separation jitter external
+head_of (head.Sporadic name priority ceiling op separation jitter external)
+    = SporadicHead name priority ceiling (signature_of op) separation jitter external

@@ -55,7 +55,8 @@ costs_at =
 -- parameters, one at least, and the end of their declaration
 unfoldable pub listed_at : List Token → Read Token (List Param)
 listed_at =
-    then_at (fixed_at (Sign LeftParen)) (λ _. then_at (param_at is_ada_name) (λ p. then_at (params_from_at is_ada_name p) (λ ps. then_at (text_at fixed.Close) (λ _. pure_at ps))))
+    then_at (fixed_at (Sign LeftParen)) (λ _. then_at (param_at is_ada_name)
+    (λ p. then_at (params_from_at is_ada_name p) (λ ps. then_at (text_at fixed.Close) (λ _. pure_at ps))))
 
 -- no parameters, and the end of their declaration
 unfoldable pub unlisted_at : List Token → Read Token (List Param)
@@ -68,7 +69,8 @@ params_at = choose_at (next_is (Sign LeftParen)) listed_at unlisted_at
 -- the declaration of an operation
 unfoldable pub declaration_at : List Token → Read Token Signature
 declaration_at =
-    then_at (word_at (codes "procedure")) (λ _. then_at (name_at is_ada_name) (λ name. then_at params_at (λ params. pure_at (record { name = name; params = params }))))
+    then_at (word_at (codes "procedure")) (λ _. then_at (name_at is_ada_name)
+    (λ name. then_at params_at (λ params. pure_at (record { name = name; params = params }))))
 
 -- declarations of operations
 unfoldable pub declarations_at : List Token → Read Token (List Signature)
@@ -91,12 +93,14 @@ renamings_at (sig ∷ sigs) = then_at (renaming_at sig) (λ _. renamings_at sigs
 -- the parameter of a request, and the end of its declaration
 unfoldable pub request_param_at : List Token → Read Token (List Param)
 request_param_at =
-    then_at (fixed_at (Sign LeftParen)) (λ _. then_at (name_at is_ada_name) (λ name. then_at (text_at fixed.RequestParam) (λ _. pure_at (record { name = name; mode = In } ∷ []))))
+    then_at (fixed_at (Sign LeftParen))
+    (λ _. then_at (name_at is_ada_name) (λ name. then_at (text_at fixed.RequestParam) (λ _. pure_at (record { name = name; mode = In } ∷ []))))
 
 -- the declaration of a request
 unfoldable pub request_at : List Token → Read Token Signature
 request_at =
-    then_at (word_at (codes "procedure")) (λ _. then_at (name_at is_ada_name) (λ name. then_at (choose_at (next_is (Sign LeftParen)) request_param_at unlisted_at) (λ params.
+    then_at (word_at (codes "procedure")) (λ _. then_at (name_at is_ada_name)
+    (λ name. then_at (choose_at (next_is (Sign LeftParen)) request_param_at unlisted_at) (λ params.
     pure_at (record { name = name; params = params }))))
 
 -- a truth value
@@ -106,7 +110,8 @@ truth_named name = if same_name name (codes "true") then Some true else (if same
 -- a specification with a cyclic task, behind its name
 unfoldable pub cyclic_head_at : Name → List Token → Read Token Head
 cyclic_head_at name =
-    then_at (text_at fixed.TaskHead) (λ _. then_at number_at (λ priority. then_at (text_at fixed.TaskEnd) (λ _. then_at (phrase_at (end_tokens name)) (λ _.
+    then_at (text_at fixed.TaskHead)
+    (λ _. then_at number_at (λ priority. then_at (text_at fixed.TaskEnd) (λ _. then_at (phrase_at (end_tokens name)) (λ _.
     pure_at (CyclicHead name priority)))))
 
 -- a passive specification, behind its name
@@ -117,15 +122,18 @@ passive_head_at name = then_at declarations_at (λ sigs. then_at (phrase_at (end
 unfoldable pub shared_head_at : Name → List Token → Read Token Head
 shared_head_at name =
     then_at (text_at fixed.ObjectHead) (λ _. then_at number_at (λ ceiling. then_at (text_at fixed.Close) (λ _. then_at declarations_at (λ sigs.
-    then_at (word_at (codes "private")) (λ _. then_at (data_at is_ada_name) (λ vars. then_at (text_at fixed.ObjectEnd) (λ _. then_at (renamings_at sigs) (λ _.
+    then_at (word_at (codes "private"))
+    (λ _. then_at (data_at is_ada_name) (λ vars. then_at (text_at fixed.ObjectEnd) (λ _. then_at (renamings_at sigs) (λ _.
     then_at (phrase_at (end_tokens name)) (λ _. pure_at (SharedHead name ceiling sigs vars))))))))))
 
 -- the constants of a sporadic specification, from its priority on, and its end
 unfoldable pub constants_at : Name → ℕ → Signature → List Token → Read Token Head
 constants_at name ceiling op =
     then_at (text_at fixed.TaskHead) (λ _. then_at number_at (λ priority. then_at (text_at fixed.Separation) (λ _. then_at number_at (λ separation.
-    then_at (text_at fixed.Jitter) (λ _. then_at number_at (λ jitter. then_at (text_at fixed.External) (λ _. then_at (named_at truth_named) (λ external.
-    then_at (fixed_at (Sign Semicolon)) (λ _. then_at (phrase_at (end_tokens name)) (λ _. pure_at (SporadicHead name priority ceiling op separation jitter external)))))))))))
+    then_at (text_at fixed.Jitter)
+    (λ _. then_at number_at (λ jitter. then_at (text_at fixed.External) (λ _. then_at (named_at truth_named) (λ external.
+    then_at (fixed_at (Sign Semicolon)) (λ _. then_at (phrase_at (end_tokens name))
+    (λ _. pure_at (SporadicHead name priority ceiling op separation jitter external)))))))))))
 
 -- a sporadic specification, behind `protected`
 unfoldable pub sporadic_head_at : Name → List Token → Read Token Head
@@ -141,7 +149,8 @@ object_head_at name =
 -- a specification, behind its name
 unfoldable pub inner_at : Name → List Token → Read Token Head
 inner_at name =
-    choose_at (next_is (Word (codes "task"))) (cyclic_head_at name) (choose_at (next_is (Word (codes "protected"))) (object_head_at name) (passive_head_at name))
+    choose_at (next_is (Word (codes "task"))) (cyclic_head_at name)
+    (choose_at (next_is (Word (codes "protected"))) (object_head_at name) (passive_head_at name))
 
 -- a specification
 unfoldable pub head_at : List Token → Read Token Head
@@ -154,7 +163,8 @@ heads_at = many_at (next_is (Word (codes "package"))) head_at
 -- the body of an operation with this head
 unfoldable pub operation_at : BlockReader → Signature → List Token → Read Token Operation
 operation_at block sig =
-    then_at (phrase_at (head_tokens sig)) (λ _. then_at (word_at (codes "is")) (λ _. then_at (data_at is_ada_name) (λ locals. then_at (word_at (codes "begin")) (λ _.
+    then_at (phrase_at (head_tokens sig)) (λ _. then_at (word_at (codes "is"))
+    (λ _. then_at (data_at is_ada_name) (λ locals. then_at (word_at (codes "begin")) (λ _.
     then_at block (λ b. then_at (phrase_at (end_tokens sig.name)) (λ _. pure_at (record { sig = sig; locals = locals; block = b })))))))
 
 -- the bodies of operations with these heads
@@ -175,18 +185,21 @@ passive_at block sigs = then_at (operations_at block sigs) (λ ops. pure_at (Pas
 -- what stands in the body of a protected unit with operations of these heads
 unfoldable pub shared_at : BlockReader → ℕ → List Signature → List Datum → List Token → Read Token Form
 shared_at block ceiling sigs vars =
-    then_at (text_at fixed.ObjectBody) (λ _. then_at (operations_at block sigs) (λ ops. then_at (text_at fixed.ObjectEnd) (λ _. pure_at (Shared ceiling vars ops))))
+    then_at (text_at fixed.ObjectBody) (λ _. then_at (operations_at block sigs)
+    (λ ops. then_at (text_at fixed.ObjectEnd) (λ _. pure_at (Shared ceiling vars ops))))
 
 -- the body of a request
 unfoldable pub keeping_at : Signature → List Token → Read Token (Unit {0})
 keeping_at op =
     then_at (text_at fixed.RequestBody) (λ _. then_at (phrase_at (head_tokens op)) (λ _. then_at (text_at fixed.Keep) (λ _.
-    then_at (phrase_at (kept_token op.params ∷ [])) (λ _. then_at (text_at fixed.Opened) (λ _. then_at (word_at op.name) (λ _. text_at fixed.Wait))))))
+    then_at (phrase_at (kept_token op.params ∷ [])) (λ _. then_at (text_at fixed.Opened)
+    (λ _. then_at (word_at op.name) (λ _. text_at fixed.Wait))))))
 
 -- how a task waits for a request
 unfoldable pub waiting_at : List Param → List Token → Read Token (Unit {0})
 waiting_at params =
-    then_at (fixed_at (request_token params)) (λ _. then_at (text_at fixed.Waiting) (λ _. then_at (fixed_at (request_token params)) (λ _. text_at fixed.Close)))
+    then_at (fixed_at (request_token params)) (λ _. then_at (text_at fixed.Waiting)
+    (λ _. then_at (fixed_at (request_token params)) (λ _. text_at fixed.Close)))
 
 -- what stands in the body of a sporadic unit with this request, behind its data
 unfoldable pub serving_at : BlockReader → Signature → List Token → Read Token Statements
@@ -199,7 +212,8 @@ form_at block (PassiveHead name sigs) = passive_at block sigs
 form_at block (SharedHead name ceiling sigs vars) = shared_at block ceiling sigs vars
 form_at block (CyclicHead name priority) = cyclic_at block priority
 form_at block (SporadicHead name priority ceiling op separation jitter external) =
-    then_at (data_at is_ada_name) (λ vars. then_at (serving_at block op) (λ b. pure_at (Sporadic priority ceiling op separation jitter external vars b)))
+    then_at (data_at is_ada_name) (λ vars. then_at (serving_at block op)
+    (λ b. pure_at (Sporadic priority ceiling op separation jitter external vars b)))
 
 -- the beginning of a body, to what stands in it
 unfoldable pub body_head_at : Name → List Token → Read Token (Unit {0})

@@ -4,7 +4,8 @@ ghost use Rattle.ada_tree.specs.Trees.{form_of, unit_of};
 ghost use Rattle.token_read.specs.Ahead.{ahead};
 ghost use Rattle.seq_read.specs.Halts.{Gives};
 ghost use Rattle.ada_read.specs.Heads.{head_of};
-ghost use Rattle.ada_read.specs.Readers.{ada_block_at, operation_at, operations_at, cyclic_at, passive_at, shared_at, serving_at, form_at, body_head_at, body_at, bodies_at};
+ghost use Rattle.ada_read.specs.Readers.{ada_block_at, operation_at, operations_at, cyclic_at, passive_at, shared_at, serving_at, form_at};
+ghost use Rattle.ada_read.specs.Readers.{body_head_at, body_at, bodies_at};
 
 use crate::copying::copy_data;
 use crate::fixed_text::{FixedText, fixed};
@@ -52,7 +53,8 @@ fn operations<'a>(
     tokens: Tokens<'a>,
     sigs: &[OpSig],
 ) -> Result<(Vec<OpText>, Tokens<'a>), Halt>
-    ensures { Gives (λ r. (map operation_of r.0.items, ahead r.1)) result (operations_at ada_block_at (map signature_of sigs.now) (ahead tokens.entry)) }
+    ensures { Gives (λ r. (map operation_of r.0.items, ahead r.1)) result
+        (operations_at ada_block_at (map signature_of sigs.now) (ahead tokens.entry)) }
 {
     let mut ops = Vec::new(alloc);
     let mut rest = tokens;
@@ -110,7 +112,8 @@ fn shared<'a>(
     sigs: &[OpSig],
     vars: &[Datum],
 ) -> Result<(Form, Tokens<'a>), Halt>
-    ensures { Gives (λ r. (form_of r.0, ahead r.1)) result (shared_at ada_block_at ceiling (map signature_of sigs.now) vars.now (ahead tokens.entry)) }
+    ensures { Gives (λ r. (form_of r.0, ahead r.1)) result (shared_at ada_block_at ceiling (map signature_of sigs.now) vars.now
+        (ahead tokens.entry)) }
 {
     let tokens = fixed(tokens, FixedText::ObjectBody)?;
     let (ops, tokens) = operations(alloc, tokens, sigs)?;

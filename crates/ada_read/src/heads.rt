@@ -4,7 +4,8 @@ ghost use Rattle.token_read.specs.Ahead.{ahead};
 ghost use Rattle.seq_read.specs.Halts.{Gives};
 ghost use Rattle.seq_read.specs.Parts.{named_at};
 ghost use Rattle.ada_read.specs.Heads.{head_of, head_name};
-ghost use Rattle.ada_read.specs.Readers.{constants_at, cyclic_head_at, head_at, heads_at, inner_at, object_head_at, passive_head_at, renamings_at, shared_head_at, sporadic_head_at, truth_named};
+ghost use Rattle.ada_read.specs.Readers.{constants_at, cyclic_head_at, head_at, heads_at, inner_at, object_head_at, passive_head_at};
+ghost use Rattle.ada_read.specs.Readers.{renamings_at, shared_head_at, sporadic_head_at, truth_named};
 
 use crate::fixed_text::{FixedText, fixed};
 use crate::names::{data, name};

@@ -1,10 +1,12 @@
 -- Clashes told with tests are those told with lists of names.
-use Rattle.std.proofs.Common.{◌≡◌, ℕ, Bool, true, false, not, ◌&&◌, ◌||◌, List, [], ◌∷◌, ◌++◌, nat_eq, bytes_eq, refl, sym, ap, ◌∙◌, append_assoc, append-nil}
+use Rattle.std.proofs.Common.{◌≡◌, ℕ, Bool, true, false, not, ◌&&◌, ◌||◌, List, [], ◌∷◌, ◌++◌, nat_eq, bytes_eq, refl, sym, ap, ◌∙◌}
+use Rattle.std.proofs.Common.{append_assoc, append-nil}
 use Rattle.std.proofs.Math.Bool.{and_assoc, or_assoc, or_comm}
 use Rattle.std.specs.Cmp.{nat_eq_equiv}
 use Rattle.std.proofs.lemmas.List.Folds.{list_any-append}
 use Rattle.seq_tree.specs.Names.{Name, same_name, is_named, are_distinct}
-use Rattle.seq_tree.specs.Statements.{Statement, Statements, Branches, Null, Assign, If, For, ExitWhen, Call, Work, Put, End, Then, Nothing, Else, When}
+use Rattle.seq_tree.specs.Statements.{Statement, Statements, Branches, Null, Assign, If, For, ExitWhen, Call, Work, Put, End, Then, Nothing}
+use Rattle.seq_tree.specs.Statements.{Else, When}
 use Rattle.ada_tree.specs.Programs.{Form}
 use Rattle.ada_tree.specs.Bodies.{Body}
 use Rattle.ada_tree.specs.Naming.{own_names, body_names, statement_clashes, block_clashes, branch_clashes, body_clashes}
@@ -37,11 +39,13 @@ and_true true = refl
 and_true false = refl
 
 -- names differ with those before them where those differ, and they are new
-pub distinct-append : (ns xs : List Name) (taken : Name → Bool) → ((n : Name) → taken n ≡ is_named xs n) → are_distinct (xs ++ ns) ≡ (are_distinct xs && are_new taken ns)
+pub distinct-append : (ns xs : List Name) (taken : Name → Bool) → ((n : Name) → taken n ≡ is_named xs n)
+    → are_distinct (xs ++ ns) ≡ (are_distinct xs && are_new taken ns)
 distinct-append [] xs taken h = ap are_distinct (append-nil xs) ∙ and_true (are_distinct xs)
 distinct-append (n ∷ ns) xs taken h =
     ap are_distinct (sym (append_assoc xs (n ∷ []) ns))
-    ∙ distinct-append ns (xs ++ n ∷ []) (λ m. same_name n m || taken m) (λ m. or_comm (same_name n m) (taken m) ∙ ap (λ b. b || same_name n m) (h m) ∙ sym (named-push xs n m))
+    ∙ distinct-append ns (xs ++ n ∷ []) (λ m. same_name n m || taken m)
+    (λ m. or_comm (same_name n m) (taken m) ∙ ap (λ b. b || same_name n m) (h m) ∙ sym (named-push xs n m))
     ∙ ap (λ b. b && are_new (λ m. same_name n m || taken m) ns) (distinct-push xs n ∙ ap (λ b. are_distinct xs && not b) (sym (h n)))
     ∙ and_assoc (are_distinct xs) (not (taken n)) (are_new (λ m. same_name n m || taken m) ns)
 
@@ -49,10 +53,12 @@ distinct-append (n ∷ ns) xs taken h =
 within : (test : Name → Bool) (taken inside : List Name) (name : Name) → ((n : Name) → is_named taken n ≡ (is_named inside n || test n)) →
     (n : Name) → is_named (name ∷ taken) n ≡ (is_named (inside ++ name ∷ []) n || test n)
 within test taken inside name h n =
-    ap (λ b. same_name name n || b) (h n) ∙ or_turn (same_name name n) (is_named inside n) (test n) ∙ ap (λ b. b || test n) (sym (named-push inside name n))
+    ap (λ b. same_name name n || b) (h n) ∙ or_turn (same_name name n) (is_named inside n) (test n) ∙ ap (λ b. b || test n)
+    (sym (named-push inside name n))
 
 mutual
-  statement_clashes_in : (s : Statement) (test : Name → Bool) (taken inside : List Name) → ((n : Name) → is_named taken n ≡ (is_named inside n || test n)) → (rest : List Part) →
+  statement_clashes_in : (s : Statement) (test : Name → Bool) (taken inside : List Name)
+      → ((n : Name) → is_named taken n ≡ (is_named inside n || test n)) → (rest : List Part) →
       clashes_in test inside (statement_parts s ++ rest) ≡ (statement_clashes taken s || clashes_in test inside rest)
   statement_clashes_in Null test taken inside h rest = refl
   statement_clashes_in (Assign target value) test taken inside h rest = refl
@@ -69,7 +75,8 @@ mutual
   statement_clashes_in (Work ticks) test taken inside h rest = refl
   statement_clashes_in (Put value) test taken inside h rest = refl
 
-  pub block_clashes_in : (b : Statements) (test : Name → Bool) (taken inside : List Name) → ((n : Name) → is_named taken n ≡ (is_named inside n || test n)) → (rest : List Part) →
+  pub block_clashes_in : (b : Statements) (test : Name → Bool) (taken inside : List Name)
+      → ((n : Name) → is_named taken n ≡ (is_named inside n || test n)) → (rest : List Part) →
       clashes_in test inside (block_parts b ++ rest) ≡ (block_clashes taken b || clashes_in test inside rest)
   block_clashes_in End test taken inside h rest = refl
   block_clashes_in (Then first others) test taken inside h rest =
@@ -78,7 +85,8 @@ mutual
       ∙ ap (λ b. statement_clashes taken first || b) (block_clashes_in others test taken inside h rest)
       ∙ sym (or_assoc (statement_clashes taken first) (block_clashes taken others) (clashes_in test inside rest))
 
-  branch_clashes_in : (b : Branches) (test : Name → Bool) (taken inside : List Name) → ((n : Name) → is_named taken n ≡ (is_named inside n || test n)) → (rest : List Part) →
+  branch_clashes_in : (b : Branches) (test : Name → Bool) (taken inside : List Name) → ((n : Name) → is_named taken n ≡ (is_named inside n || test n))
+      → (rest : List Part) →
       clashes_in test inside (branch_parts b ++ rest) ≡ (branch_clashes taken b || clashes_in test inside rest)
   branch_clashes_in Nothing test taken inside h rest = refl
   branch_clashes_in (Else block) test taken inside h rest = block_clashes_in block test taken inside h rest
@@ -89,13 +97,16 @@ mutual
       ∙ sym (or_assoc (block_clashes taken block) (branch_clashes taken others) (clashes_in test inside rest))
 
 -- clashes inside a body, where the names of the unit differ
-pub inside_is : (form : Form) (taken : Name → Bool) (b : Body) → ((n : Name) → taken n ≡ is_named (own_names form) n) → are_distinct (own_names form) ≡ true → clashes_inside taken b ≡ body_clashes form b
+pub inside_is : (form : Form) (taken : Name → Bool) (b : Body) → ((n : Name) → taken n ≡ is_named (own_names form) n)
+    → are_distinct (own_names form) ≡ true → clashes_inside taken b ≡ body_clashes form b
 inside_is form taken b h apart =
     let names : are_distinct (own_names form ++ body_names b) ≡ are_new taken (body_names b) =
     distinct-append (body_names b) (own_names form) taken h ∙ ap (λ d. d && are_new taken (body_names b)) apart in
     let tests : (n : Name) → is_named (own_names form ++ body_names b) n ≡ (is_named (body_names b) n || taken n) =
-    λ n. list_any-append (λ m. same_name m n) (own_names form) (body_names b) ∙ or_comm (is_named (own_names form) n) (is_named (body_names b) n) ∙ ap (λ t. is_named (body_names b) n || t) (sym (h n)) in
-    let loops : clashes_in (λ n. is_named (body_names b) n || taken n) [] (block_parts b.block) ≡ block_clashes (own_names form ++ body_names b) b.block =
+    λ n. list_any-append (λ m. same_name m n) (own_names form) (body_names b) ∙ or_comm (is_named (own_names form) n) (is_named (body_names b) n) ∙ ap
+    (λ t. is_named (body_names b) n || t) (sym (h n)) in
+    let loops : clashes_in (λ n. is_named (body_names b) n || taken n) [] (block_parts b.block)
+    ≡ block_clashes (own_names form ++ body_names b) b.block =
     ap (clashes_in (λ n. is_named (body_names b) n || taken n) []) (sym (append-nil (block_parts b.block)))
     ∙ block_clashes_in b.block (λ n. is_named (body_names b) n || taken n) (own_names form ++ body_names b) [] tests []
     ∙ or_false (block_clashes (own_names form ++ body_names b) b.block) in

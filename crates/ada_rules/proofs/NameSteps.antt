@@ -1,5 +1,6 @@
 -- Lists of names, one name at a time.
-use Rattle.std.proofs.Common.{◌≡◌, ℕ, ◌+◌, ◌<◌, suc, Bool, true, false, not, ◌&&◌, ◌||◌, List, [], ◌∷◌, ◌++◌, length, take, drop, Option, Some, None, option_to_list, IsSome, refl, sym, ap, ◌∙◌, arith, add-one, append_assoc, append-nil}
+use Rattle.std.proofs.Common.{◌≡◌, ℕ, ◌+◌, ◌<◌, suc, Bool, true, false, not, ◌&&◌, ◌||◌, List, [], ◌∷◌, ◌++◌, length, take, drop, Option, Some}
+use Rattle.std.proofs.Common.{None, option_to_list, IsSome, refl, sym, ap, ◌∙◌, arith, add-one, append_assoc, append-nil}
 use Rattle.std.proofs.Math.ListN.{get_or}
 use Rattle.std.proofs.Math.Path.{fun_ext}
 use Rattle.std.proofs.Math.Seq.{drop-cons}
@@ -27,7 +28,8 @@ or_false false = refl
 pub named-push : (ns : List Name) (n m : Name) → is_named (ns ++ n ∷ []) m ≡ (is_named ns m || same_name n m)
 named-push ns n m = list_any-append (λ k. same_name k m) ns (n ∷ []) ∙ ap (λ b. is_named ns m || b) (or_false (same_name n m))
 
-pub named_step : (xs : List (Bor Name)) (i : ℕ) (x : Bor Name) (m : Name) → i < length xs → x ≡ get_or xs i x → is_named (names_of (take (i + 1) xs)) m ≡ (is_named (names_of (take i xs)) m || same_name x.now m)
+pub named_step : (xs : List (Bor Name)) (i : ℕ) (x : Bor Name) (m : Name) → i < length xs → x ≡ get_or xs i x
+    → is_named (names_of (take (i + 1) xs)) m ≡ (is_named (names_of (take i xs)) m || same_name x.now m)
 named_step xs i x m inside at =
     ap (λ ys. is_named (names_of ys) m) (take_step xs i x inside at) ∙ ap (λ ns. is_named ns m) (map-append (λ n. n.now) (take i xs) (x ∷ []))
     ∙ named-push (names_of (take i xs)) x.now m
@@ -54,7 +56,8 @@ front-push (m ∷ []) n = refl
 front-push (m ∷ k ∷ ns) n = ap (λ ms. m ∷ ms) (front-push (k ∷ ns) n)
 
 -- a list that lost its last element, if it had one
-pub left_one : (old new : List (Bor Name)) (last : Option (Bor Name)) → old ≡ new ++ option_to_list last → (0 < length old → IsSome last) → names_of new ≡ front (names_of old)
+pub left_one : (old new : List (Bor Name)) (last : Option (Bor Name)) → old ≡ new ++ option_to_list last → (0 < length old → IsSome last)
+    → names_of new ≡ front (names_of old)
 left_one [] new None joined some = ap names_of (sym (append-nil new) ∙ sym joined)
 left_one (x ∷ xs) new None joined some = let h : false ≡ true = some (omega arith) in cc
 left_one old new (Some x) joined some =

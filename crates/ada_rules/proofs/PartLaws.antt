@@ -3,7 +3,8 @@ use Rattle.std.proofs.Common.{◌≡◌, ℕ, Bool, false, ◌||◌, List, [], �
 use Rattle.std.proofs.Math.Bool.{or_assoc}
 use Rattle.std.specs.List.{list_any}
 use Rattle.std.proofs.lemmas.List.Folds.{list_any-append}
-use Rattle.seq_tree.specs.Statements.{Statement, Statements, Branches, Null, Assign, If, For, ExitWhen, Call, Work, Put, End, Then, Nothing, Else, When}
+use Rattle.seq_tree.specs.Statements.{Statement, Statements, Branches, Null, Assign, If, For, ExitWhen, Call, Work, Put, End, Then, Nothing}
+use Rattle.seq_tree.specs.Statements.{Else, When}
 use Rattle.seq_tree.specs.Calls.{statement_calls, block_calls, branch_calls, statement_works, block_works, branch_works}
 use Rattle.ada_tree.specs.Naming.{statement_loops, block_loops, branch_loops}
 use Rattle.ada_rules.specs.Parts.{Part, LoopStart, LoopEnd, Called, Worked, loops_in, calls_in, works_in, statement_parts, block_parts, branch_parts}
@@ -50,7 +51,8 @@ mutual
   statement_loops_in Null = refl
   statement_loops_in (Assign target value) = refl
   statement_loops_in (If branches) = branch_loops_in branches
-  statement_loops_in (For name low high body) = ap (λ ns. name ∷ ns) (loops-append (block_parts body) (LoopEnd ∷ []) ∙ append-nil (loops_in (block_parts body)) ∙ block_loops_in body)
+  statement_loops_in (For name low high body)
+      = ap (λ ns. name ∷ ns) (loops-append (block_parts body) (LoopEnd ∷ []) ∙ append-nil (loops_in (block_parts body)) ∙ block_loops_in body)
   statement_loops_in (ExitWhen condition) = refl
   statement_loops_in (Call object op actuals) = refl
   statement_loops_in (Work ticks) = refl
@@ -60,21 +62,24 @@ mutual
   block_loops_in End = refl
   block_loops_in (Then first rest) =
       loops-append (statement_parts first) (block_parts rest)
-      ∙ joined (loops_in (statement_parts first)) (statement_loops first) (loops_in (block_parts rest)) (block_loops rest) (statement_loops_in first) (block_loops_in rest)
+      ∙ joined (loops_in (statement_parts first)) (statement_loops first) (loops_in (block_parts rest)) (block_loops rest) (statement_loops_in first)
+      (block_loops_in rest)
 
   pub branch_loops_in : (b : Branches) → loops_in (branch_parts b) ≡ branch_loops b
   branch_loops_in Nothing = refl
   branch_loops_in (Else block) = block_loops_in block
   branch_loops_in (When condition block others) =
       loops-append (block_parts block) (branch_parts others)
-      ∙ joined (loops_in (block_parts block)) (block_loops block) (loops_in (branch_parts others)) (branch_loops others) (block_loops_in block) (branch_loops_in others)
+      ∙ joined (loops_in (block_parts block)) (block_loops block) (loops_in (branch_parts others)) (branch_loops others) (block_loops_in block)
+      (branch_loops_in others)
 
 mutual
   pub statement_calls_in : (s : Statement) → calls_in (statement_parts s) ≡ statement_calls s
   statement_calls_in Null = refl
   statement_calls_in (Assign target value) = refl
   statement_calls_in (If branches) = branch_calls_in branches
-  statement_calls_in (For name low high body) = calls-append (block_parts body) (LoopEnd ∷ []) ∙ append-nil (calls_in (block_parts body)) ∙ block_calls_in body
+  statement_calls_in (For name low high body) = calls-append (block_parts body) (LoopEnd ∷ []) ∙ append-nil
+      (calls_in (block_parts body)) ∙ block_calls_in body
   statement_calls_in (ExitWhen condition) = refl
   statement_calls_in (Call object op actuals) = refl
   statement_calls_in (Work ticks) = refl
@@ -84,21 +89,24 @@ mutual
   block_calls_in End = refl
   block_calls_in (Then first rest) =
       calls-append (statement_parts first) (block_parts rest)
-      ∙ joined (calls_in (statement_parts first)) (statement_calls first) (calls_in (block_parts rest)) (block_calls rest) (statement_calls_in first) (block_calls_in rest)
+      ∙ joined (calls_in (statement_parts first)) (statement_calls first) (calls_in (block_parts rest)) (block_calls rest) (statement_calls_in first)
+      (block_calls_in rest)
 
   pub branch_calls_in : (b : Branches) → calls_in (branch_parts b) ≡ branch_calls b
   branch_calls_in Nothing = refl
   branch_calls_in (Else block) = block_calls_in block
   branch_calls_in (When condition block others) =
       calls-append (block_parts block) (branch_parts others)
-      ∙ joined (calls_in (block_parts block)) (block_calls block) (calls_in (branch_parts others)) (branch_calls others) (block_calls_in block) (branch_calls_in others)
+      ∙ joined (calls_in (block_parts block)) (block_calls block) (calls_in (branch_parts others)) (branch_calls others) (block_calls_in block)
+      (branch_calls_in others)
 
 mutual
   pub statement_works_in : (s : Statement) → works_in (statement_parts s) ≡ statement_works s
   statement_works_in Null = refl
   statement_works_in (Assign target value) = refl
   statement_works_in (If branches) = branch_works_in branches
-  statement_works_in (For name low high body) = works-append (block_parts body) (LoopEnd ∷ []) ∙ append-nil (works_in (block_parts body)) ∙ block_works_in body
+  statement_works_in (For name low high body) = works-append (block_parts body) (LoopEnd ∷ []) ∙ append-nil
+      (works_in (block_parts body)) ∙ block_works_in body
   statement_works_in (ExitWhen condition) = refl
   statement_works_in (Call object op actuals) = refl
   statement_works_in (Work ticks) = refl
@@ -108,19 +116,22 @@ mutual
   block_works_in End = refl
   block_works_in (Then first rest) =
       works-append (statement_parts first) (block_parts rest)
-      ∙ joined (works_in (statement_parts first)) (statement_works first) (works_in (block_parts rest)) (block_works rest) (statement_works_in first) (block_works_in rest)
+      ∙ joined (works_in (statement_parts first)) (statement_works first) (works_in (block_parts rest)) (block_works rest) (statement_works_in first)
+      (block_works_in rest)
 
   pub branch_works_in : (b : Branches) → works_in (branch_parts b) ≡ branch_works b
   branch_works_in Nothing = refl
   branch_works_in (Else block) = block_works_in block
   branch_works_in (When condition block others) =
       works-append (block_parts block) (branch_parts others)
-      ∙ joined (works_in (block_parts block)) (block_works block) (works_in (branch_parts others)) (branch_works others) (block_works_in block) (branch_works_in others)
+      ∙ joined (works_in (block_parts block)) (block_works block) (works_in (branch_parts others)) (branch_works others) (block_works_in block)
+      (branch_works_in others)
 
 pub ruleset part_laws = (loops-cons, calls-cons, block_loops_in, block_calls_in, block_works_in)
 
 -- tests of the works of parts and of bodies
-pub works-any-cons : (f : ℕ → Bool) (p : Part) (ps : List Part) → list_any f (works_in (p ∷ ps)) ≡ (list_any f (works_in (p ∷ [])) || list_any f (works_in ps))
+pub works-any-cons : (f : ℕ → Bool) (p : Part) (ps : List Part) → list_any f (works_in (p ∷ ps))
+    ≡ (list_any f (works_in (p ∷ [])) || list_any f (works_in ps))
 works-any-cons f (LoopStart name) ps = refl
 works-any-cons f LoopEnd ps = refl
 works-any-cons f (Called name) ps = refl

@@ -1,5 +1,6 @@
 -- Edges between operations are steps between the places of these, and so are rings of them and what they lead to.
-use Rattle.std.proofs.Common.{◌≡◌, ℕ, zero, suc, ◌+◌, ◌<◌, ◌≤◌, ◌==◌, Bool, true, false, ◌&&◌, ◌||◌, List, [], ◌∷◌, filter_map, get_or, if◌then◌else◌, length, map, nat_lt, slice_get, Option, Some, None, inl, inr, refl, sym, ap, subst, ◌∙◌, arith}
+use Rattle.std.proofs.Common.{◌≡◌, ℕ, zero, suc, ◌+◌, ◌<◌, ◌≤◌, ◌==◌, Bool, true, false, ◌&&◌, ◌||◌, List, [], ◌∷◌, filter_map, get_or}
+use Rattle.std.proofs.Common.{if◌then◌else◌, length, map, nat_lt, slice_get, Option, Some, None, inl, inr, refl, sym, ap, subst, ◌∙◌, arith}
 use Rattle.std.specs.List.{cons_option, list_any}
 use Rattle.std.proofs.lemmas.Bool.{eqb-true, eq-eqb}
 use Rattle.std.proofs.lemmas.Option.{slice_get_within}
@@ -23,17 +24,21 @@ any-taken : {A B : Type 0} (f : B → Bool) (g : A → Option B) (xs : List A) �
 any-taken f g [] = refl
 any-taken f g (x ∷ xs) = by (g x) (any-taken f g xs)
   where
-    by : (o : Option _) → list_any f (filter_map g xs) ≡ list_any (λ y. on f (g y)) xs → list_any f (cons_option o (filter_map g xs)) ≡ (on f o || list_any (λ y. on f (g y)) xs)
+    by : (o : Option _) → list_any f (filter_map g xs) ≡ list_any (λ y. on f (g y)) xs
+        → list_any f (cons_option o (filter_map g xs)) ≡ (on f o || list_any (λ y. on f (g y)) xs)
     by None h = h
     by (Some b) h = ap (λ c. f b || c) h
 
 -- an operation at its place
-pub place-at : (k : ℕ) (es : List Edge) (n : OpName) (p : ℕ) → place_from k es n ≡ Some p → (i : ℕ) × (p ≡ k + i) × (e : Edge) × (slice_get es i ≡ Some e) × (e.from ≡ n)
+pub place-at : (k : ℕ) (es : List Edge) (n : OpName) (p : ℕ) → place_from k es n ≡ Some p
+    → (i : ℕ) × (p ≡ k + i) × (e : Edge) × (slice_get es i ≡ Some e) × (e.from ≡ n)
 place-at k [] n p h = cc
 place-at k (e ∷ es) n p h = by (place-at (k + 1) es n p) (same_op e.from n) refl h
   where
-    by : (place_from (k + 1) es n ≡ Some p → (i : ℕ) × (p ≡ k + 1 + i) × (f : Edge) × (slice_get es i ≡ Some f) × (f.from ≡ n)) → (t : Bool) → same_op e.from n ≡ t
-        → (if t then Some k else place_from (k + 1) es n) ≡ Some p → (i : ℕ) × (p ≡ k + i) × (f : Edge) × (slice_get (e ∷ es) i ≡ Some f) × (f.from ≡ n)
+    by : (place_from (k + 1) es n ≡ Some p → (i : ℕ) × (p ≡ k + 1 + i) × (f : Edge) × (slice_get es i ≡ Some f) × (f.from ≡ n)) → (t : Bool)
+        → same_op e.from n ≡ t
+        → (if t then Some k else place_from (k + 1) es n) ≡ Some p → (i : ℕ) × (p ≡ k + i) × (f : Edge) × (slice_get (e ∷ es) i ≡ Some f)
+        × (f.from ≡ n)
     by rest true s at = (let y : k ≡ p = cc in (0, omega (arith, y), e, refl, same_op-eq e.from n s))
     by rest false s at = (let r = rest at in let y = r.1 in (suc r.0, omega (arith, y), r.2, r.3, r.4))
 
@@ -42,10 +47,12 @@ pub none-later : (k : ℕ) (es : List Edge) (i : ℕ) (e : Edge) → slice_get e
 none-later k [] i e h = cc
 none-later k (f ∷ es) i e h = by (same_op f.from e.from) refl i h (λ j. none-later (k + 1) es j e)
   where
-    by : (t : Bool) → same_op f.from e.from ≡ t → (j : ℕ) → slice_get (f ∷ es) j ≡ Some e → ((l : ℕ) → slice_get es l ≡ Some e → (p : ℕ) × (place_from (k + 1) es e.from ≡ Some p) × (p ≤ k + 1 + l))
+    by : (t : Bool) → same_op f.from e.from ≡ t → (j : ℕ) → slice_get (f ∷ es) j ≡ Some e
+        → ((l : ℕ) → slice_get es l ≡ Some e → (p : ℕ) × (place_from (k + 1) es e.from ≡ Some p) × (p ≤ k + 1 + l))
         → (p : ℕ) × ((if t then Some k else place_from (k + 1) es e.from) ≡ Some p) × (p ≤ k + j)
     by true s j at rest = (k, refl, omega arith)
-    by false s zero at rest = (let y : f ≡ e = cc in let z : false ≡ true = sym s ∙ ap (λ (g : Edge). same_op g.from e.from) y ∙ same_op-refl e.from in cc)
+    by false s zero at rest = (let y : f ≡ e = cc in let z : false ≡ true
+        = sym s ∙ ap (λ (g : Edge). same_op g.from e.from) y ∙ same_op-refl e.from in cc)
     by false s (suc j) at rest = (let r = rest j at in let y = r.2 in (r.0, r.1, omega (arith, y)))
 
 from-at : (es : List Edge) (i : ℕ) (e : Edge) → slice_get es i ≡ Some e → slice_get (map (λ (f : Edge). f.from) es) i ≡ Some e.from
@@ -61,7 +68,8 @@ and_true : (a b : Bool) → a ≡ true → b ≡ true → (a && b) ≡ true
 and_true a b h k = ap (λ c. c && b) h ∙ k
 
 is-between : (from to : Option ℕ) (p q : ℕ) → from ≡ Some p → to ≡ Some q → on (is_between p q) (step_between from to) ≡ true
-is-between from to p q h k = ap (λ o. on (is_between p q) (step_between o to)) h ∙ ap (λ o. on (is_between p q) (step_between (Some p) o)) k ∙ and_true (p == p) (q == q) (eq-eqb p p refl) (eq-eqb q q refl)
+is-between from to p q h k = ap (λ o. on (is_between p q) (step_between o to)) h ∙ ap (λ o. on (is_between p q) (step_between (Some p) o)) k ∙
+    and_true (p == p) (q == q) (eq-eqb p p refl) (eq-eqb q q refl)
 
 between : (from to : Option ℕ) (p q : ℕ) → on (is_between p q) (step_between from to) ≡ true → (from ≡ Some p) × (to ≡ Some q)
 between None to p q h = cc
@@ -94,15 +102,23 @@ module _ (es : List Edge) (place : OpName → Option ℕ) (placed : (n : OpName)
       let within : q < length es = slice_get_within es q e.0 e.1 in
       stepped p q ∙ and_true (nat_lt q (length es)) _ (grind (arith, within))
       (any-taken (is_between p q) (λ (f : Edge). step_between (place f.from) (place f.to)) es
-      ∙ r.2 (λ (f : Edge). on (is_between p q) (step_between (place f.from) (place f.to))) (is-between (place r.0.from) (place r.0.to) p q from target))
+      ∙ r.2 (λ (f : Edge). on (is_between p q) (step_between (place f.from) (place f.to)))
+      (is-between (place r.0.from) (place r.0.to) p q from target))
 
   -- a step is an edge
   back : (p q : ℕ) → step p q ≡ true → (a c : OpName) × (place a ≡ Some p) × (place c ≡ Some q) × Joins es a c
   back p q h =
       let k = both (nat_lt q (length es)) (list_any (is_between p q) (steps_of place es)) (sym (stepped p q) ∙ h) in
-      let r = any-some (λ (f : Edge). on (is_between p q) (step_between (place f.from) (place f.to))) es (sym (any-taken (is_between p q) (λ (f : Edge). step_between (place f.from) (place f.to)) es) ∙ k.1) in
-      let ends = between (place r.0.from) (place r.0.to) p q r.1 in
-      (r.0.from, r.0.to, ends.0, ends.1, r.2 (joins r.0.from r.0.to) (and_true (same_op r.0.from r.0.from) (same_op r.0.to r.0.to) (same_op-refl r.0.from) (same_op-refl r.0.to)))
+      let r = any-some (λ (f : Edge). on (is_between p q) (step_between (place f.from) (place f.to))) es
+      (sym (any-taken (is_between p q) (λ (f : Edge). step_between (place f.from) (place f.to)) es) ∙ k.1) in
+      let ends = between (place r.0.from) (place r.0.to) p q r.1 in (
+        r.0.from,
+        r.0.to,
+        ends.0,
+        ends.1,
+        r.2 (joins r.0.from r.0.to) (and_true (same_op r.0.from r.0.from) (same_op r.0.to r.0.to)
+            (same_op-refl r.0.from) (same_op-refl r.0.to)),
+      )
 
   -- what an edge leaves has a place
   source : (a c : OpName) → Joins es a c → (p : ℕ) × (place a ≡ Some p)
@@ -127,7 +143,8 @@ module _ (es : List Edge) (place : OpName → Option ℕ) (placed : (n : OpName)
         λ k below f found round.
             let l = none-later 0 es k f found in
             let y = l.2 in
-            earlier l.0 (omega (arith, y, below)) (ring_of_places names place (Joins es) step stands forth back source f.from l.0 (placed f.from ∙ l.1) round),
+            earlier l.0 (omega (arith, y, below)) (ring_of_places names place (Joins es) step stands forth back source f.from l.0
+            (placed f.from ∙ l.1) round),
       )
 
   module _ (called : OpName → Bool) (starts : List ℕ) (started : starts ≡ starts_of place called es) (count : ℕ) (counted : count ≡ length es) where
@@ -136,15 +153,18 @@ module _ (es : List Edge) (place : OpName → Option ℕ) (placed : (n : OpName)
 
     start-of : (s : ℕ) → is_start s ≡ true → (m : OpName) × (called m ≡ true) × (place m ≡ Some s)
     start-of s h =
-        let k : list_any (λ t. t == s) (starts_of place called es) ≡ true = ap (λ ns. has_number ns s) (sym started) ∙ (both (has_number starts s) (nat_lt s count) h).0 in
-        let r = any-some (λ (e : Edge). on (λ t. t == s) (if called e.from then place e.from else None)) es (sym (any-taken (λ t. t == s) (λ (e : Edge). if called e.from then place e.from else None) es) ∙ k) in
+        let k : list_any (λ t. t == s) (starts_of place called es) ≡ true
+        = ap (λ ns. has_number ns s) (sym started) ∙ (both (has_number starts s) (nat_lt s count) h).0 in
+        let r = any-some (λ (e : Edge). on (λ t. t == s) (if called e.from then place e.from else None)) es
+        (sym (any-taken (λ t. t == s) (λ (e : Edge). if called e.from then place e.from else None) es) ∙ k) in
         by r.0.from (called r.0.from) refl r.1
       where
         at : (n : OpName) (o : Option ℕ) → place n ≡ o → on (λ t. t == s) o ≡ true → place n ≡ Some s
         at n None e l = cc
         at n (Some t) e l = e ∙ ap Some (eqb-true t s l)
 
-        by : (n : OpName) (t : Bool) → called n ≡ t → on (λ t. t == s) (if t then place n else None) ≡ true → (m : OpName) × (called m ≡ true) × (place m ≡ Some s)
+        by : (n : OpName) (t : Bool) → called n ≡ t → on (λ t. t == s) (if t then place n else None) ≡ true
+            → (m : OpName) × (called m ≡ true) × (place m ≡ Some s)
         by n true e l = (n, e, at n (place n) refl l)
         by n false e l = cc
 
@@ -183,7 +203,8 @@ module _ (es : List Edge) (place : OpName → Option ℕ) (placed : (n : OpName)
         let P : OpName → Type 0 = λ z. Leads es z r.4.0 r.1 in
         let Q : OpName → Type 0 = λ z. Leads es m.0 r.4.0 z in (m.0, m.1, inr (r.4.0, subst Q to (subst P from r.4.1)))
 
-    module _ (marks : List Bool) (sound : (p : ℕ) → get_or marks p false ≡ true → IsReachedBy step is_start p) (complete : (p : ℕ) → IsReachedBy step is_start p → get_or marks p false ≡ true) where
+    module _ (marks : List Bool) (sound : (p : ℕ) → get_or marks p false ≡ true → IsReachedBy step is_start p) (complete : (p : ℕ)
+        → IsReachedBy step is_start p → get_or marks p false ≡ true) where
       edge-on : (n m : OpName) → IsFound es called m → Joins es m n → IsFound es called n
       edge-on n m (s, start, inl same) edge = let P : OpName → Type 0 = λ z. Joins es z n in (s, start, inr ([], subst P (same_op-eq m s same) edge))
       edge-on n m (s, start, inr (path, leads)) edge = let r = snoc es path s m n leads edge in (s, start, inr (r.0, r.1))
@@ -194,7 +215,9 @@ module _ (es : List Edge) (place : OpName → Option ℕ) (placed : (n : OpName)
           let k = both (is_marked marks (place r.0.from)) (same_op r.0.to n) r.1 in
           let to : r.0.to ≡ n = same_op-eq r.0.to n k.1 in
           let P : OpName → Type 0 = λ z. Joins es r.0.from z in
-          let edge : Joins es r.0.from r.0.to = r.2 (joins r.0.from r.0.to) (and_true (same_op r.0.from r.0.from) (same_op r.0.to r.0.to) (same_op-refl r.0.from) (same_op-refl r.0.to)) in
+          let edge : Joins es r.0.from r.0.to
+          = r.2 (joins r.0.from r.0.to) (and_true (same_op r.0.from r.0.from) (same_op r.0.to r.0.to) (same_op-refl r.0.from)
+          (same_op-refl r.0.to)) in
           edge-on n r.0.from (by r.0.from (place r.0.from) refl k.0) (subst P to edge)
         where
           by : (m : OpName) (o : Option ℕ) → place m ≡ o → is_marked marks o ≡ true → IsFound es called m
@@ -202,7 +225,8 @@ module _ (es : List Edge) (place : OpName → Option ℕ) (placed : (n : OpName)
           by m (Some q) e l = reached-found m q e (sound q l)
 
       -- what is called or is led to from a place that is marked is what calls lead to
-      pub follow_sound : (after : OpName → Bool) → ((n : OpName) → after n ≡ (is_led_to place marks es n || called n)) → (n : OpName) → after n ≡ true → IsFound es called n
+      pub follow_sound : (after : OpName → Bool) → ((n : OpName) → after n ≡ (is_led_to place marks es n || called n)) → (n : OpName) → after n ≡ true
+          → IsFound es called n
       follow_sound after added n h = by (is_led_to place marks es n) refl (sym (added n) ∙ h)
         where
           by : (t : Bool) → is_led_to place marks es n ≡ t → (t || called n) ≡ true → IsFound es called n
@@ -215,18 +239,24 @@ module _ (es : List Edge) (place : OpName → Option ℕ) (placed : (n : OpName)
           let ends = both (same_op r.0.from m) (same_op n r.0.to) r.1 in
           let from : place r.0.from ≡ Some q = ap place (same_op-eq r.0.from m ends.0) ∙ at in
           let to : same_op r.0.to n ≡ true = ap (λ z. same_op z n) (sym (same_op-eq n r.0.to ends.1)) ∙ same_op-refl n in
-          r.2 (λ (e : Edge). is_marked marks (place e.from) && same_op e.to n) (and_true (is_marked marks (place r.0.from)) (same_op r.0.to n) (ap (is_marked marks) from ∙ complete q reached) to)
+          r.2 (λ (e : Edge). is_marked marks (place e.from) && same_op e.to n)
+          (and_true (is_marked marks (place r.0.from)) (same_op r.0.to n) (ap (is_marked marks) from ∙ complete q reached) to)
 
       -- the last edge of a path, and what leads to it
-      led-by : (path : List OpName) (from n : OpName) (s : ℕ) → place from ≡ Some s → IsReachedBy step is_start s → Leads es from path n → is_led_to place marks es n ≡ true
+      led-by : (path : List OpName) (from n : OpName) (s : ℕ) → place from ≡ Some s → IsReachedBy step is_start s → Leads es from path n
+          → is_led_to place marks es n ≡ true
       led-by [] from n s at reached edge = edge-led n from s at reached edge
       led-by (via ∷ []) from n s at reached leads =
-          let v = source via n leads.1 in edge-led n via v.0 v.1 (reached-more step is_start s v.0 reached (forth from via s v.0 leads.0 at v.1)) leads.1
+          let v = source via n leads.1 in edge-led n via v.0 v.1 (reached-more step is_start s v.0 reached
+          (forth from via s v.0 leads.0 at v.1)) leads.1
       led-by (via ∷ (next ∷ path)) from n s at reached leads =
-          let v = source via next leads.1.0 in led-by (next ∷ path) via n v.0 v.1 (reached-more step is_start s v.0 reached (forth from via s v.0 leads.0 at v.1)) leads.1
+          let v = source via next leads.1.0
+          in led-by (next ∷ path) via n v.0 v.1 (reached-more step is_start s v.0 reached (forth from via s v.0 leads.0 at v.1)) leads.1
 
-      pub follow_complete : (after : OpName → Bool) → ((n : OpName) → after n ≡ (is_led_to place marks es n || called n)) → (n : OpName) → IsFound es called n → after n ≡ true
-      follow_complete after added n (m, start, inl same) = added n ∙ or_right (is_led_to place marks es n) (called n) (ap called (same_op-eq n m same) ∙ start)
+      pub follow_complete : (after : OpName → Bool) → ((n : OpName) → after n ≡ (is_led_to place marks es n || called n)) → (n : OpName)
+          → IsFound es called n → after n ≡ true
+      follow_complete after added n (m, start, inl same)
+          = added n ∙ or_right (is_led_to place marks es n) (called n) (ap called (same_op-eq n m same) ∙ start)
         where
           or_right : (a b : Bool) → b ≡ true → (a || b) ≡ true
           or_right true b k = refl

@@ -1,5 +1,6 @@
 -- The first unit on a ring is the one of which the first edge on a ring is, where names of units differ.
-use Rattle.std.proofs.Common.{◌≡◌, ℕ, zero, suc, ◌+◌, ◌<◌, ◌≤◌, Bool, true, false, ◌||◌, List, [], ◌∷◌, ◌++◌, flat_map, length, map, take, slice_get, Option, Some, None, inl, inr, ◌⊎◌, refl, sym, ap, subst, ◌∙◌, arith}
+use Rattle.std.proofs.Common.{◌≡◌, ℕ, zero, suc, ◌+◌, ◌<◌, ◌≤◌, Bool, true, false, ◌||◌, List, [], ◌∷◌, ◌++◌, flat_map, length, map, take}
+use Rattle.std.proofs.Common.{slice_get, Option, Some, None, inl, inr, ◌⊎◌, refl, sym, ap, subst, ◌∙◌, arith}
 use Rattle.std.proofs.lemmas.Slice.Eq.{bytes_eq-Decides}
 use Rattle.std.proofs.lemmas.Option.{slice_get_within}
 use Rattle.seq_tree.specs.Names.{Name, is_named, same_name}
@@ -41,17 +42,20 @@ zero-and : (i : ℕ) → i ≡ 0 + i
 zero-and i = omega arith
 
 -- what stands in two lists, one behind the other
-beside : {A : Type 0} (xs ys : List A) (i : ℕ) (a : A) → slice_get (xs ++ ys) i ≡ Some a → (slice_get xs i ≡ Some a) ⊎ ((j : ℕ) × (i ≡ length xs + j) × (slice_get ys j ≡ Some a))
+beside : {A : Type 0} (xs ys : List A) (i : ℕ) (a : A) → slice_get (xs ++ ys) i ≡ Some a → (slice_get xs i ≡ Some a)
+    ⊎ ((j : ℕ) × (i ≡ length xs + j) × (slice_get ys j ≡ Some a))
 beside [] ys i a h = inr (i, zero-and i, h)
 beside (x ∷ xs) ys zero a h = inl h
 beside (x ∷ xs) ys (suc i) a h = by (beside xs ys i a h)
   where
-    by : (slice_get xs i ≡ Some a) ⊎ ((j : ℕ) × (i ≡ length xs + j) × (slice_get ys j ≡ Some a)) → (slice_get xs i ≡ Some a) ⊎ ((j : ℕ) × (suc i ≡ suc (length xs) + j) × (slice_get ys j ≡ Some a))
+    by : (slice_get xs i ≡ Some a) ⊎ ((j : ℕ) × (i ≡ length xs + j) × (slice_get ys j ≡ Some a))
+        → (slice_get xs i ≡ Some a) ⊎ ((j : ℕ) × (suc i ≡ suc (length xs) + j) × (slice_get ys j ≡ Some a))
     by (inl k) = inl k
     by (inr k) = let y = k.1 in inr (k.0, omega (arith, y), k.2)
 
 -- what stands in lists one behind the other stands in one of them
-flat-at : {A B : Type 0} (f : A → List B) (xs : List A) (i : ℕ) (b : B) → slice_get (flat_map f xs) i ≡ Some b → (k : ℕ) × (a : A) × (slice_get xs k ≡ Some a) × ((j : ℕ) × (slice_get (f a) j ≡ Some b))
+flat-at : {A B : Type 0} (f : A → List B) (xs : List A) (i : ℕ) (b : B) → slice_get (flat_map f xs) i ≡ Some b
+    → (k : ℕ) × (a : A) × (slice_get xs k ≡ Some a) × ((j : ℕ) × (slice_get (f a) j ≡ Some b))
 flat-at f [] i b h = cc
 flat-at f (x ∷ xs) i b h = by (beside (f x) (flat_map f xs) i b h) (λ j. flat-at f xs j b)
   where
@@ -71,14 +75,16 @@ abbrev Stands : {A B : Type 0} → (A → List B) → List A → ℕ → B → T
 Stands {A} f xs n b = (a : A) × (slice_get xs n ≡ Some a) × ((i : ℕ) × (slice_get (f a) i ≡ Some b))
 
 -- of two things the first is of a thing that isn't later
-in-order : {A B : Type 0} (f : A → List B) (xs : List A) (p q : ℕ) (b c : B) → p ≤ q → slice_get (flat_map f xs) p ≡ Some b → slice_get (flat_map f xs) q ≡ Some c
+in-order : {A B : Type 0} (f : A → List B) (xs : List A) (p q : ℕ) (b c : B) → p ≤ q → slice_get (flat_map f xs) p ≡ Some b
+    → slice_get (flat_map f xs) q ≡ Some c
     → (k m : ℕ) × (k ≤ m) × Stands f xs k b × Stands f xs m c
 in-order f [] p q b c h k l = cc
 in-order f (x ∷ xs) p q b c h k l = by (beside (f x) (flat_map f xs) p b k) (beside (f x) (flat_map f xs) q c l) (λ i j. in-order f xs i j b c)
   where
     by : (slice_get (f x) p ≡ Some b) ⊎ ((j : ℕ) × (p ≡ length (f x) + j) × (slice_get (flat_map f xs) j ≡ Some b))
         → (slice_get (f x) q ≡ Some c) ⊎ ((j : ℕ) × (q ≡ length (f x) + j) × (slice_get (flat_map f xs) j ≡ Some c))
-        → ((i j : ℕ) → i ≤ j → slice_get (flat_map f xs) i ≡ Some b → slice_get (flat_map f xs) j ≡ Some c → (n m : ℕ) × (n ≤ m) × Stands f xs n b × Stands f xs m c)
+        → ((i j : ℕ) → i ≤ j → slice_get (flat_map f xs) i ≡ Some b → slice_get (flat_map f xs) j ≡ Some c
+        → (n m : ℕ) × (n ≤ m) × Stands f xs n b × Stands f xs m c)
         → (n m : ℕ) × (n ≤ m) × Stands f (x ∷ xs) n b × Stands f (x ∷ xs) m c
     by (inl s) (inl t) rest = (0, 0, omega arith, (x, refl, (p, s)), (x, refl, (q, t)))
     by (inl s) (inr t) rest = let r = flat-at f xs t.0 c t.2 in (0, suc r.0, omega arith, (x, refl, (p, s)), (r.1, r.2, r.3))
@@ -101,14 +107,17 @@ of-object shared u i e h =
     let c = map-at _ _ o.3.0 e o.3.1 in sym (ap (λ (d : Edge). d.from.object) c.1)
 
 module _ (p : Program) (naming : IsFirst (λ place u. breaks_naming p place u ≡ true) p.units None) where
-  taken-name : (us : List Unit) (rest : List Name) (k j : ℕ) (u : Unit) (n : Name) → slice_get us k ≡ Some u → k < j → u.name ≡ n → is_named (map (λ (v : Unit). v.name) (take j us) ++ rest) n ≡ true
+  taken-name : (us : List Unit) (rest : List Name) (k j : ℕ) (u : Unit) (n : Name) → slice_get us k ≡ Some u → k < j → u.name ≡ n
+      → is_named (map (λ (v : Unit). v.name) (take j us) ++ rest) n ≡ true
   taken-name [] rest k j u n at below same = cc
   taken-name (v ∷ us) rest zero zero u n at below same = absurd (omega (arith, below))
   taken-name (v ∷ us) rest zero (suc j) u n at below same =
       let here : v ≡ u = cc in
-      ap (λ b. b || is_named (map (λ (w : Unit). w.name) (take j us) ++ rest) n) (ap (λ (w : Unit). same_name w.name n) here ∙ ap (λ m. same_name m n) same ∙ same-self n)
+      ap (λ b. b || is_named (map (λ (w : Unit). w.name) (take j us) ++ rest) n)
+      (ap (λ (w : Unit). same_name w.name n) here ∙ ap (λ m. same_name m n) same ∙ same-self n)
   taken-name (v ∷ us) rest (suc k) zero u n at below same = absurd (omega (arith, below))
-  taken-name (v ∷ us) rest (suc k) (suc j) u n at below same = or_true (same_name v.name n) _ (taken-name us rest k j u n at (omega (arith, below)) same)
+  taken-name (v ∷ us) rest (suc k) (suc j) u n at below same
+      = or_true (same_name v.name n) _ (taken-name us rest k j u n at (omega (arith, below)) same)
     where
       or_true : (a b : Bool) → b ≡ true → (a || b) ≡ true
       or_true true b h = refl
@@ -120,11 +129,16 @@ module _ (p : Program) (naming : IsFirst (λ place u. breaks_naming p place u �
     where
       by : (m ≤ j) ⊎ (j < m) → m ≤ j
       by (inl h) = h
-      by (inr h) = absurd (naming m v there (or-left _ _ (or-left _ _ (or-left _ _ (or-left _ _ (or-left _ _ (taken-name p.units (flat_map (λ (w : Unit). inner_names w.form) (take m p.units)) j m u v.name at h (sym same))))))))
+      by (inr h) = absurd (naming m v there
+          (or-left _ _ (or-left _ _ (or-left _ _
+          (or-left _ _ (or-left _ _ (taken-name p.units (flat_map (λ (w : Unit). inner_names w.form) (take m p.units)) j m u v.name at h
+          (sym same))))))))
 
   -- where an operation of a unit is on a ring, the first edge on one is of a unit that isn't later
-  module _ (f : Unit → List Edge) (own : (u : Unit) (i : ℕ) (e : Edge) → slice_get (f u) i ≡ Some e → e.from.object ≡ u.name) (es : List Edge) (made : es ≡ flat_map f p.units) where
-    earlier-told : (first : Option ℕ) → IsFirstRound es first → (j : ℕ) (u : Unit) → slice_get p.units j ≡ Some u → (op : OpName) → op.object ≡ u.name → IsRound es op
+  module _ (f : Unit → List Edge) (own : (u : Unit) (i : ℕ) (e : Edge) → slice_get (f u) i ≡ Some e
+      → e.from.object ≡ u.name) (es : List Edge) (made : es ≡ flat_map f p.units) where
+    earlier-told : (first : Option ℕ) → IsFirstRound es first → (j : ℕ) (u : Unit) → slice_get p.units j ≡ Some u → (op : OpName) → op.object ≡ u.name
+        → IsRound es op
         → (k : ℕ) × (k ≤ j) × (v : Unit) × (slice_get p.units k ≡ Some v) × (leaves_at es first v.name ≡ true)
     earlier-told None none j u at op same round = absurd (none op round)
     earlier-told (Some first) is j u at op same round =
@@ -154,7 +168,8 @@ module _ (p : AdaProgram) (us : List code.Unit) (es os : List Edge) (same : us �
   told u = is_ringed es op os object u.name
 
   -- a unit that is told breaks the rule
-  leaves : (fs : List Edge) (first : Option ℕ) (n : Name) → leaves_at fs first n ≡ true → IsFirstRound fs first → (e : Edge) × (e.from.object ≡ n) × IsRound fs e.from
+  leaves : (fs : List Edge) (first : Option ℕ) (n : Name) → leaves_at fs first n ≡ true → IsFirstRound fs first
+      → (e : Edge) × (e.from.object ≡ n) × IsRound fs e.from
   leaves fs None n h is = cc
   leaves fs (Some first) n h is = (is.0, (bytes_eq-Decides is.0.from.object n).0 (sym (ap (is_from n) is.1) ∙ h), is.2)
 
@@ -179,17 +194,20 @@ module _ (p : AdaProgram) (us : List code.Unit) (es os : List Edge) (same : us �
       → (k : ℕ) × (k ≤ j) × (v : Unit) × (slice_get (map unit_of p.units.items) k ≡ Some v) × (told v ≡ true)
   complete j u at (inl (name, ring)) =
       let P : List Edge → Type 0 = λ fs. IsRound fs (record { object = u.name; op = name }) in
-      let r = earlier-told (program_of p) naming unit_edges of-unit es (edges_are p us es same made) op first_op j u at (record { object = u.name; op = name }) refl
+      let r = earlier-told (program_of p) naming unit_edges of-unit es (edges_are p us es same made) op first_op j u at
+      (record { object = u.name; op = name }) refl
       (subst P (sym (edges_are p us es same made)) (round_of (program_of p) (record { object = u.name; op = name }) ring)) in
       (r.0, r.1, r.2, r.3, ap (λ b. b || leaves_at os object r.2.name) r.4)
   complete j u at (inr ring) =
       let P : List Edge → Type 0 = λ fs. IsRound fs (node u.name) in
-      let r = earlier-told (program_of p) naming (object_edges (is_shared_name (program_of p))) (of-object (is_shared_name (program_of p))) os by_objects object first_object j u at (node u.name) refl
+      let r = earlier-told (program_of p) naming (object_edges (is_shared_name (program_of p)))
+      (of-object (is_shared_name (program_of p))) os by_objects object first_object j u at (node u.name) refl
       (subst P (sym by_objects) (round_of_units (program_of p) u.name ring)) in
       (r.0, r.1, r.2, r.3, or-right (leaves_at es op r.2.name) (leaves_at os object r.2.name) r.4)
 
   -- the first unit that is told is the first that breaks the rule
-  pub rings_first : (r : Option ℕ) → IsFirst (λ k u. told u ≡ true) (map unit_of p.units.items) r → IsFirst (λ k u. BreaksRings (program_of p) u) (map unit_of p.units.items) r
+  pub rings_first : (r : Option ℕ) → IsFirst (λ k u. told u ≡ true) (map unit_of p.units.items) r
+      → IsFirst (λ k u. BreaksRings (program_of p) u) (map unit_of p.units.items) r
   rings_first None none = λ j u at broken. let r = complete j u at broken in none r.0 r.2 r.3 r.4
   rings_first (Some place) (u, at, holds, before) = (
     u,

@@ -3,7 +3,8 @@ use Rattle.std.proofs.Common.{◌≡◌, ℕ, zero, suc, ◌+◌, ◌<◌, Optio
 use Rattle.seq_tree.specs.Faults.{BodyFault}
 use Rattle.ada_tree.specs.Programs.{Program}
 use Rattle.ada_tree.specs.Bodies.{unit_fault}
-use Rattle.ada_tree.specs.Rules.{Rule, Naming, Uses, Rings, Bodies, Ranges, Externals, number_of, UnitBreaks, Site, Whole, At, WholeBreaks, Breaks, IsBefore, MeetsRules, IsFirstBroken}
+use Rattle.ada_tree.specs.Rules.{Rule, Naming, Uses, Rings, Bodies, Ranges, Externals, number_of, UnitBreaks, Site, Whole, At, WholeBreaks}
+use Rattle.ada_tree.specs.Rules.{Breaks, IsBefore, MeetsRules, IsFirstBroken}
 use Rattle.seq_check.specs.declared.fault.BodyFault as codes
 use Rattle.seq_check.specs.declared.fault.BodyFault.TheVariants as fault
 use Rattle.seq_tree.specs.Faults as faults
@@ -62,7 +63,8 @@ pub one_more : (p : Program) (n : ℕ) (rule : Rule) → number_of rule ≡ n �
 one_more p n rule e clear before = below_more (λ k. (other : Rule) → number_of other ≡ k → IsClear p other) n before (apart p n rule e clear)
 
 -- the first rule that is broken, where the lower ones are broken nowhere
-pub first_broken : (p : Program) (rule : Rule) (place : ℕ) → AreClear p (number_of rule) → (WholeBreaks p rule → ⊥) → IsFirst (UnitBreaks p rule) p.units (Some place) → IsFirstBroken p rule (At place)
+pub first_broken : (p : Program) (rule : Rule) (place : ℕ) → AreClear p (number_of rule) → (WholeBreaks p rule → ⊥)
+    → IsFirst (UnitBreaks p rule) p.units (Some place) → IsFirstBroken p rule (At place)
 first_broken p rule place lower whole (u, at, broken, before) = record {
   broken = (u, at, broken);
   none_lower = λ other site below. lower (number_of other) below other refl site;
@@ -109,5 +111,6 @@ pub fault_first : (p : Program) (at : FaultAt) → IsFirstFault p (Some at) → 
 fault_first p at (u, found, told, before) = (u, found, told_has at.fault (unit_fault p u) told, before)
 
 -- one rule more that no unit breaks
-pub next : (p : Program) (rule : Rule) → (WholeBreaks p rule → ⊥) → IsFirst (UnitBreaks p rule) p.units None → AreClear p (number_of rule) → AreClear p (number_of rule + 1)
+pub next : (p : Program) (rule : Rule) → (WholeBreaks p rule → ⊥) → IsFirst (UnitBreaks p rule) p.units None → AreClear p (number_of rule)
+    → AreClear p (number_of rule + 1)
 next p rule whole none before = one_more p (number_of rule) rule refl (rule_clear p rule whole none) before

@@ -53,4 +53,5 @@ HasFault p u = (fault' : faults.BodyFault) × (unit_fault p u ≡ Some fault')
 -- the first unit with a fault, and its first fault; or that there is none
 abbrev pub IsFirstFault : Program → Option FaultAt → Type 0
 IsFirstFault p None = (place : ℕ) (u : Unit) → slice_get p.units place ≡ Some u → HasFault p u → ⊥
-IsFirstFault p (Some at) = (u : Unit) × (slice_get p.units at.place ≡ Some u) × IsToldAs at.fault (unit_fault p u) × NoneBefore (λ place v. HasFault p v) p.units at.place
+IsFirstFault p (Some at) = (u : Unit) × (slice_get p.units at.place ≡ Some u) × IsToldAs at.fault (unit_fault p u)
+    × NoneBefore (λ place v. HasFault p v) p.units at.place

@@ -1,6 +1,7 @@
 -- Edges by places: an operation has the place of the first edge that leaves it, and a step leads from place to place.
 -- An operation that no edge leaves has no place, and is on no ring. Places count from 0.
-use Rattle.std.specs.Prelude.{◌≡◌, ℕ, ◌+◌, ◌<◌, Bool, false, ◌&&◌, ◌||◌, List, [], ◌∷◌, filter_map, get_or, Option, Some, None, if◌then◌else◌, slice_get}
+use Rattle.std.specs.Prelude.{◌≡◌, ℕ, ◌+◌, ◌<◌, Bool, false, ◌&&◌, ◌||◌, List, [], ◌∷◌, filter_map, get_or, Option, Some, None, if◌then◌else◌}
+use Rattle.std.specs.Prelude.{slice_get}
 use Rattle.std.specs.List.{list_any}
 use Rattle.seq_tree.specs.Calls.{same_op}
 use Rattle.seq_tree.specs.Names.{Name, same_name}
@@ -39,7 +40,8 @@ is_led_to place marks es n = list_any (λ e. is_marked marks (place e.from) && s
 abbrev pub IsFirstRound : List Edge → Option ℕ → Type 0
 IsFirstRound es None = (op : OpName) → IsRound es op → ⊥
 IsFirstRound es (Some first) =
-    (e : Edge) × (slice_get es first ≡ Some e) × IsRound es e.from × ((k : ℕ) → k < first → (f : Edge) → slice_get es k ≡ Some f → IsRound es f.from → ⊥)
+    (e : Edge) × (slice_get es first ≡ Some e) × IsRound es e.from × ((k : ℕ) → k < first → (f : Edge) → slice_get es k ≡ Some f
+    → IsRound es f.from → ⊥)
 
 -- whether an edge, where there is one, leaves an operation of this object
 abbrev pub is_from : Name → Option Edge → Bool

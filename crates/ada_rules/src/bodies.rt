@@ -23,7 +23,8 @@ fn add_offers<'a>(
     object: &'a Name,
     heads: &[&'a OpSig],
 ) -> Result<(), NoMemory>
-    ensures { OnOk result (map offer_view offers.new.items ≡ map offer_view offers.old.items ++ map (λ h. record { object = object.entry.now; sig = h }) (map head_of heads.entry.now)) }
+    ensures { OnOk result (map offer_view offers.new.items ≡ map offer_view offers.old.items
+        ++ map (λ h. record { object = object.entry.now; sig = h }) (map head_of heads.entry.now)) }
 {
     'heads: for head in heads {
         offers.push(Offer { object, sig: *head })?;
@@ -78,7 +79,8 @@ fn body_fault<'k, 'a>(
     shared: &'k Data<'a>,
     body: &BodyView<'a>,
 ) -> Result<Option<BodyFault>, NoMemory>
-    ensures { IfOk result (λ o. IsFault o (block_fault (body_scope (offers_of calls.entry.now) shared.entry.now.vars.now (body_of body.entry.now)) (body_of body.entry.now).block)) }
+    ensures { IfOk result (λ o. IsFault o (block_fault (body_scope (offers_of calls.entry.now) shared.entry.now.vars.now (body_of body.entry.now))
+        (body_of body.entry.now).block)) }
 {
     let known = Known::new(alloc, shared, calls, body.params, body.locals)?;
     fault_told(check_known(&known, body.block))
@@ -107,7 +109,8 @@ fn unit_fault<'a>(
     calls: &Calls<'a>,
     form: &'a Form,
 ) -> Result<Option<BodyFault>, NoMemory>
-    ensures { IfOk result (λ o. IsFault o (bodies_fault_at (offers_of calls.entry.now) (data_of (form_of form.entry.now)) (bodies (form_of form.entry.now)))) }
+    ensures { IfOk result (λ o. IsFault o (bodies_fault_at (offers_of calls.entry.now) (data_of (form_of form.entry.now))
+        (bodies (form_of form.entry.now)))) }
 {
     let shared = Data::new(alloc, data_of(form))?;
     let bodies = bodies_of(alloc, form)?;

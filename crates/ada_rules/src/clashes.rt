@@ -64,7 +64,8 @@ fn enter<'a>(
     inside: &mut Vec<&'a Name>,
     part: &Part<'a>,
 ) -> Result<bool, NoMemory>
-    ensures clash { IfOk result (λ b. b ≡ clashes_at (λ n. has params.now n || has taken.now n) (names_of inside.old.items) (part_of part.entry.now)) }
+    ensures clash { IfOk result (λ b. b ≡ clashes_at (λ n. has params.now n || has taken.now n) (names_of inside.old.items)
+        (part_of part.entry.now)) }
     ensures after { OnOk result (names_of inside.new.items ≡ inside_after (names_of inside.old.items) (part_of part.entry.now)) }
 {
     match part {

@@ -24,7 +24,8 @@ fn add_calls<'a>(
     from: CallView<'a>,
     calls: &[CallView<'a>],
 ) -> Result<(), NoMemory>
-    ensures { OnOk result (map edge_of edges.new.items ≡ map edge_of edges.old.items ++ map (λ c. record { from = call_of from.entry; to = c }) (map call_of calls.entry.now)) }
+    ensures { OnOk result (map edge_of edges.new.items ≡ map edge_of edges.old.items
+        ++ map (λ c. record { from = call_of from.entry; to = c }) (map call_of calls.entry.now)) }
 {
     'calls: for to in calls {
         edges.push(EdgeView { from, to: *to })?;
@@ -56,7 +57,8 @@ pub(crate) fn add_ops<'a>(
     object: &'a Name,
     ops: &'a [OpText],
 ) -> Result<(), NoMemory>
-    ensures { OnOk result (map edge_of edges.new.items ≡ map edge_of edges.old.items ++ flat_map (op_edges object.entry.now) (map operation_of ops.entry.now)) }
+    ensures { OnOk result (map edge_of edges.new.items ≡ map edge_of edges.old.items
+        ++ flat_map (op_edges object.entry.now) (map operation_of ops.entry.now)) }
 {
     'ops: for op in ops {
         add_op(alloc, edges, object, op)?;

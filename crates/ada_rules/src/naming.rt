@@ -105,7 +105,8 @@ pub(crate) fn first_by_names<'a>(
     alloc: Global,
     program: &'a AdaProgram,
 ) -> Result<Option<usize>, NoMemory>
-    ensures { IfOk result (IsFirst (λ place u. breaks_naming (program_of program.entry.now) place u ≡ true) (map unit_of program.entry.now.units.items)) }
+    ensures { IfOk result (IsFirst (λ place u. breaks_naming (program_of program.entry.now) place u
+        ≡ true) (map unit_of program.entry.now.units.items)) }
 {
     let list = program.units.as_slice();
     let offered = ops_of(alloc, Offered::All, list)?;

@@ -63,7 +63,8 @@ fn add_arms<'a>(parts: &mut Vec<Part<'a>>, arms: &'a [Arm]) -> Result<(), NoMemo
 /// Adds the parts of an `else`, where there is one.
 #[cycle(parts)]
 fn add_other<'a>(parts: &mut Vec<Part<'a>>, other: &'a Option<Block>) -> Result<(), NoMemory>
-    ensures { OnOk result (map part_of parts.new.items ≡ map part_of parts.old.items ++ branch_parts (otherwise (option_map block_of other.entry.now))) }
+    ensures { OnOk result (map part_of parts.new.items ≡ map part_of parts.old.items
+        ++ branch_parts (otherwise (option_map block_of other.entry.now))) }
 {
     match other {
         None => Ok(()),

@@ -21,7 +21,8 @@ fn add_place<'a>(
     op: &CallView<'a>,
     place: usize,
 ) -> Result<(), NoMemory>
-    ensures { OnOk result ((n : OpName) → at places.new n ≡ or_else (at places.old n) (if same_op (call_of op.entry.now) n then Some place else None)) }
+    ensures { OnOk result ((n : OpName)
+        → at places.new n ≡ or_else (at places.old n) (if same_op (call_of op.entry.now) n then Some place else None)) }
 {
     match places.get(op.object, op.op) {
         Some(_) => Ok(()),

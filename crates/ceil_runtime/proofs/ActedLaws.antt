@@ -34,7 +34,8 @@ module _ (ts : Vec Task Global) (m : Machine) (i : ℕ) (act : Act) (t t' : Task
 
   -- it is the one that stands at its place
   pub acted-found : (x : Task) → x ≡ get_or m.tasks.items i x → HasActed ts m i act t x
-  acted-found x read = subst (HasActed ts m i act t) (same_Some t' x (sym acted_there ∙ slice_get_read m.tasks.items (length m.tasks.items) i x refl acted-within read)) h
+  acted-found x read = subst (HasActed ts m i act t)
+      (same_Some t' x (sym acted_there ∙ slice_get_read m.tasks.items (length m.tasks.items) i x refl acted-within read)) h
 
   -- after a further change of it
   pub acted-set : (t'' : Task) → set m.tasks.items i t'' ≡ set ts.items i t''
@@ -48,7 +49,8 @@ module _ (ts : Vec Task Global) (m : Machine) (i k : ℕ) (value : Option ℕ) (
       omega (arith, below, long, length-set ts.items i t')
 
   -- once it has left the control structure of the one that it requested
-  module _ (x : Task) (read : x ≡ get_or m.tasks.items i x) (t'' : Task) (progress : t''.progress ≡ x.progress) (outside : task_of t'' ≡ outside_now (task_of x)) (u : Task) (asked : u ≡ get_or (set m.tasks.items i t'') k u) where
+  module _ (x : Task) (read : x ≡ get_or m.tasks.items i x) (t'' : Task) (progress : t''.progress ≡ x.progress) (outside : task_of t''
+      ≡ outside_now (task_of x)) (u : Task) (asked : u ≡ get_or (set m.tasks.items i t'') k u) where
     asked_found : HasActed ts m i (Ended k value) t x
     asked_found = acted-found ts m i (Ended k value) t t' h x read
 
@@ -57,7 +59,8 @@ module _ (ts : Vec Task Global) (m : Machine) (i k : ℕ) (value : Option ℕ) (
 
     pub asked-there : slice_get (set m.tasks.items i t'') k ≡ Some u
     asked-there =
-        slice_get_read (set m.tasks.items i t'') (length (set m.tasks.items i t'')) k u refl (omega (arith, asked-within, length-set m.tasks.items i t'')) asked
+        slice_get_read (set m.tasks.items i t'') (length (set m.tasks.items i t'')) k u refl
+        (omega (arith, asked-within, length-set m.tasks.items i t'')) asked
 
     pub asked-at : slice_get (set ts.items i t'') k ≡ Some u
     asked-at = ap (λ xs. slice_get xs k) (sym asked-same) ∙ asked-there
@@ -70,10 +73,12 @@ module _ (ts : Vec Task Global) (m : Machine) (i k : ℕ) (value : Option ℕ) (
     pub asked-free : u.readiness ≡ readies.Waiting → IsFree m.links k
     asked-free waits =
         waiting-free m.until m.time m.units.now (Effects (Some i)) (Some i) (set ts.items i t'') m.links asked-sound
-        (ready-each m.until m.time m.units.now i (Some i) (set ts.items i t'') m.links asked-sound t'' (get-put ts.items i t'' (get_within i ts.items t h.here))) k u asked-at waits
+        (ready-each m.until m.time m.units.now i (Some i) (set ts.items i t'') m.links asked-sound t''
+        (get-put ts.items i t'' (get_within i ts.items t h.here))) k u asked-at waits
 
 -- a step is one of every machine that stands for the same
-pub same-step : (m n m' : Machine) (told : Told) → running_of m ≡ running_of n → steps_left m ≡ steps_left n → m.tasks.items ≡ n.tasks.items → IsStep m told m' → IsStep n told m'
+pub same-step : (m n m' : Machine) (told : Told) → running_of m ≡ running_of n → steps_left m ≡ steps_left n → m.tasks.items ≡ n.tasks.items
+    → IsStep m told m' → IsStep n told m'
 same-step m n m' told running steps tasks s = record {
   whole = s.whole;
   follows = subst (λ r. Follows r (told_of told) (running_of m')) running s.follows;

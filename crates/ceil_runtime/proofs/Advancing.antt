@@ -18,11 +18,13 @@ follows-none r = record { system = refl; tells = λ rest h. h }
 pub follows-then : (r r' r'' : Running) (told : List Event) → Follows r [] r' → Follows r' told r'' → Follows r told r''
 follows-then r r' r'' told a b = record {
   system = b.system ∙ a.system;
-  tells = λ rest h. a.tells (told ++ rest) (subst (λ (y : System). Rest y r'.state (told ++ rest)) a.system (b.tells rest (subst (λ (y : System). Rest y r''.state rest) (sym a.system) h)));
+  tells = λ rest h. a.tells (told ++ rest) (subst (λ (y : System). Rest y r'.state (told ++ rest)) a.system
+      (b.tells rest (subst (λ (y : System). Rest y r''.state rest) (sym a.system) h)));
 }
 
 -- what is told from here is the events in the buffer, and what is told after them
-pub tells-told : (r r' r'' : Running) (told now : List Event) → Follows r [] r' → Follows r' told r'' → now ≡ told → (r''.system ≡ r.system) × ((rest : List Event) → Tells r'' rest → Tells r (now ++ rest))
+pub tells-told : (r r' r'' : Running) (told now : List Event) → Follows r [] r' → Follows r' told r'' → now ≡ told
+    → (r''.system ≡ r.system) × ((rest : List Event) → Tells r'' rest → Tells r (now ++ rest))
 tells-told r r' r'' told now a b is =
     let f : Follows r now r'' = subst (λ (es : List Event). Follows r es r'') (sym is) (follows-then r r' r'' told a b) in
     (f.system, λ rest t. f.tells rest (subst (λ (y : System). Rest y r''.state rest) f.system t))
@@ -39,7 +41,8 @@ no_both : false ≡ true → ⊥
 no_both h = cc
 
 -- the answer to the last event says what the run has come to
-pub stop-turned : (e : Event) (m : Machine) (told : List Event) → told ≡ e ∷ [] → EndsAt e m → m.stopped ≡ true → Turned (last_turn e) told (running_of m)
+pub stop-turned : (e : Event) (m : Machine) (told : List Event) → told ≡ e ∷ [] → EndsAt e m → m.stopped ≡ true
+    → Turned (last_turn e) told (running_of m)
 stop-turned (event.Horizon time) m told is ends stopped = (([], is ∙ ap (λ n. event.Horizon n ∷ []) ends.0, refl), stopped)
 stop-turned (event.Stop time task unit priority ceiling) m told is ends stopped = (([], is, refl), stopped)
 stop-turned (event.Release time task v) m told is ends stopped = absurd (no_both (sym ends.1 ∙ stopped))

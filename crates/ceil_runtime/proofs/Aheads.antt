@@ -1,5 +1,6 @@
 -- How many ticks stand before the next release, and what is left of the first ready task's piece.
-use Rattle.std.specs.Prelude.{◌≡◌, ◌⊎◌, ℕ, suc, ◌+◌, ◌-◌, ◌<◌, ◌≤◌, ◌==◌, Bool, true, false, nat_lt, List, [], ◌∷◌, length, get_or, Option, Some, None, option_map, slice_get, refl}
+use Rattle.std.specs.Prelude.{◌≡◌, ◌⊎◌, ℕ, suc, ◌+◌, ◌-◌, ◌<◌, ◌≤◌, ◌==◌, Bool, true, false, nat_lt, List, [], ◌∷◌, length, get_or, Option, Some}
+use Rattle.std.specs.Prelude.{None, option_map, slice_get, refl}
 use Rattle.std.proofs.Common.{sym, ◌∙◌, ap, subst, arith, inl, inr}
 use Rattle.std.proofs.lemmas.Bool.Decides.{nat_tests}
 use Rattle.arrivals_tree.specs.declared.arrivals.Arrival.{Arrival}
@@ -11,7 +12,8 @@ use Rattle.ceil_runtime.specs.Processing.{IsWithin}
 use Rattle.ceil_runtime.specs.declared.task.Task.{Task}
 
 -- all wake after the first one
-pub wake-most : (time n : ℕ) (es : List Entry) (wake : ℕ) → IsOrdered WakesBefore es → Some wake ≡ option_map (λ e. e.1) (slice_get es 0) → time + n ≤ wake → Each (λ e. time + n ≤ e.1) es
+pub wake-most : (time n : ℕ) (es : List Entry) (wake : ℕ) → IsOrdered WakesBefore es → Some wake ≡ option_map (λ e. e.1) (slice_get es 0)
+    → time + n ≤ wake → Each (λ e. time + n ≤ e.1) es
 wake-most time n [] wake ordered first le = tt
 wake-most time n (e ∷ es) wake ordered first le =
     (here, each-map (WakesBefore e) (λ x. time + n ≤ x.1) es (λ x w. more x w) ordered.0)
@@ -29,7 +31,8 @@ wake-most time n (e ∷ es) wake ordered first le =
     more x (inl p) = omega (arith, here)
     more x (inr p) = omega (arith, here, p.0)
 
-pub wake-first : (time : ℕ) (es : List Entry) (wake : ℕ) → Each (λ e. time < e.1) es → Some wake ≡ option_map (λ e. e.1) (slice_get es 0) → time < wake
+pub wake-first : (time : ℕ) (es : List Entry) (wake : ℕ) → Each (λ e. time < e.1) es → Some wake ≡ option_map (λ e. e.1) (slice_get es 0)
+    → time < wake
 wake-first time [] wake later first = absurd (none first)
   where
     none : Some wake ≡ None → ⊥
@@ -58,14 +61,16 @@ first_task task level e first =
     some_same : (p : Entry) → Some p ≡ Some e → p ≡ e
     some_same p k = cc
 
-pub head-known : (tasks : List Task) (es : List Entry) (task level : ℕ) → Each (λ e. e.0 < length tasks) es → ◌≡◌ {A = Option Entry} (Some (task, level)) (slice_get es 0) → task < length tasks
+pub head-known : (tasks : List Task) (es : List Entry) (task level : ℕ) → Each (λ e. e.0 < length tasks) es
+    → ◌≡◌ {A = Option Entry} (Some (task, level)) (slice_get es 0) → task < length tasks
 head-known tasks [] task level all first = absurd (none first)
   where
     none : ◌≡◌ {A = Option Entry} (Some (task, level)) None → ⊥
     none k = cc
 head-known tasks (e ∷ es) task level all first = let same : task ≡ e.0 = first_task task level e first in omega (arith, all.0)
 
-pub within-head : (tasks : List Task) (es : List Entry) (task level n : ℕ) (t : Task) → Each (λ e. e.0 < length tasks) es → ◌≡◌ {A = Option Entry} (Some (task, level)) (slice_get es 0) → t ≡ get_or tasks task t → (n ≡ 1) ⊎ (n ≤ t.left) → IsWithin tasks es n
+pub within-head : (tasks : List Task) (es : List Entry) (task level n : ℕ) (t : Task) → Each (λ e. e.0 < length tasks) es
+    → ◌≡◌ {A = Option Entry} (Some (task, level)) (slice_get es 0) → t ≡ get_or tasks task t → (n ≡ 1) ⊎ (n ≤ t.left) → IsWithin tasks es n
 within-head tasks [] task level n t all first read le = tt
 within-head tasks (e ∷ es) task level n t all first read le =
     λ u at. by_left u (some_same u t (sym at ∙ ap (slice_get tasks) (sym same) ∙ found)) le
@@ -91,14 +96,16 @@ within-none tasks (e ∷ es) n none = absurd (some none)
     some k = cc
 
 -- no arrival before the first one that is still to come
-pub before-arrival : (arrivals : List Arrival) (a : Arrival) (others : List Arrival) (time n : ℕ) → arrivals ≡ a ∷ others → (time < a.time → time + n ≤ a.time) → (j : ℕ) → j < n - 1 → NoArrival (time + suc j) arrivals
+pub before-arrival : (arrivals : List Arrival) (a : Arrival) (others : List Arrival) (time n : ℕ) → arrivals ≡ a ∷ others
+    → (time < a.time → time + n ≤ a.time) → (j : ℕ) → j < n - 1 → NoArrival (time + suc j) arrivals
 before-arrival arrivals a others time n is within j h = subst (NoArrival (time + suc j)) (sym is) (by_time (nat_lt time a.time) refl)
   where
     not_then : (m k : ℕ) → (m ≡ k → ⊥) → (m == k) ≡ false
     not_then m k other = grind (arith, nat_tests)
 
     by_time : (b : Bool) → nat_lt time a.time ≡ b → (a.time == time + suc j) ≡ false
-    by_time true e = let later : time < a.time = lt time a.time e in let room : time + n ≤ a.time = within later in not_then a.time (time + suc j) (λ same. omega (arith, room, same, h))
+    by_time true e = let later : time < a.time = lt time a.time e in let room : time + n ≤ a.time = within later
+        in not_then a.time (time + suc j) (λ same. omega (arith, room, same, h))
       where
         lt : (m k : ℕ) → nat_lt m k ≡ true → m < k
         lt m k t = grind (arith, nat_tests)
@@ -107,5 +114,6 @@ before-arrival arrivals a others time n is within j h = subst (NoArrival (time +
         le : (m k : ℕ) → nat_lt m k ≡ false → k ≤ m
         le m k t = grind (arith, nat_tests)
 
-pub fewer-arrival : (arrivals : List Arrival) (time n m : ℕ) → n ≤ m → ((j : ℕ) → j < m - 1 → NoArrival (time + suc j) arrivals) → (j : ℕ) → j < n - 1 → NoArrival (time + suc j) arrivals
+pub fewer-arrival : (arrivals : List Arrival) (time n m : ℕ) → n ≤ m → ((j : ℕ) → j < m - 1 → NoArrival (time + suc j) arrivals) → (j : ℕ) → j < n - 1
+    → NoArrival (time + suc j) arrivals
 fewer-arrival arrivals time n m le none j h = none j (omega (arith, le, h))

@@ -2,7 +2,8 @@
 use Rattle.std.proofs.Common.{◌≡◌, ℕ, Bool, true, false, List, map, refl, ap, ◌∙◌}
 use Rattle.std.specs.Prelude.{nat_le}
 use Rattle.seq_tree.specs.Names.{Name}
-use Rattle.seq_tree.specs.Statements.{Statement, Statements, Branches, Null, Assign, If, For, ExitWhen, Call, Work, Put, End, Then, Nothing, Else, When}
+use Rattle.seq_tree.specs.Statements.{Statement, Statements, Branches, Null, Assign, If, For, ExitWhen, Call, Work, Put, End, Then, Nothing}
+use Rattle.seq_tree.specs.Statements.{Else, When}
 use Rattle.machine.specs.Pieces.{Piece, pieces, pieces_of, branch_pieces, turns, after_loop}
 use Rattle.seq_tree.specs.Expressions.{Expression}
 use Rattle.seq_tree.specs.Trees.{statement_of, statements_of, block_of, arm_of, expression_of, statement_layer, arm_layer, block_layer}
@@ -15,13 +16,16 @@ block-tree b = fold-roll-Block Statement (Expression × Statements) Statements s
 
 -- an arm and its parts
 pub arm-block : (a : Arm) → (arm_of a).1 ≡ block_of a.block
-arm-block a = ap (λ x. x.1) (fold-roll-Arm Statement (Expression × Statements) Statements statement_layer arm_layer block_layer (record { cond = a.cond; block = a.block }))
+arm-block a = ap (λ x. x.1) (fold-roll-Arm Statement (Expression × Statements) Statements statement_layer arm_layer block_layer
+    (record { cond = a.cond; block = a.block }))
 
 pub arm-condition : (a : Arm) → (arm_of a).0 ≡ expression_of a.cond
-arm-condition a = ap (λ x. x.0) (fold-roll-Arm Statement (Expression × Statements) Statements statement_layer arm_layer block_layer (record { cond = a.cond; block = a.block }))
+arm-condition a = ap (λ x. x.0) (fold-roll-Arm Statement (Expression × Statements) Statements statement_layer arm_layer block_layer
+    (record { cond = a.cond; block = a.block }))
 
 -- no end of a turn is among the pieces of statements
-after_turns : (b : Bool) (name : Name) (at last : ℕ) (body : Statements) (rest : List Piece) → nat_le at last ≡ b → after_loop (turns name at last body rest) ≡ after_loop rest
+after_turns : (b : Bool) (name : Name) (at last : ℕ) (body : Statements) (rest : List Piece) → nat_le at last ≡ b
+    → after_loop (turns name at last body rest) ≡ after_loop rest
 after_turns true name at last body rest e = rw e refl
 after_turns false name at last body rest e = rw e refl
 

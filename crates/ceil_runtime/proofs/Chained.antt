@@ -1,5 +1,6 @@
 -- Laws of the table by which a variable is found by its name.
-use Rattle.std.proofs.Common.{◌≡◌, ℕ, zero, suc, ◌-◌, ◌≤◌, ◌<◌, List, [], ◌∷◌, ◌++◌, length, take, set, get_or, fold, refl, ap, sym, subst, ◌∙◌, Bool, true, false, Option, Some, None, eqb, ltb, ◌==◌, replicate, arith}
+use Rattle.std.proofs.Common.{◌≡◌, ℕ, zero, suc, ◌-◌, ◌≤◌, ◌<◌, List, [], ◌∷◌, ◌++◌, length, take, set, get_or, fold, refl, ap, sym, subst, ◌∙◌}
+use Rattle.std.proofs.Common.{Bool, true, false, Option, Some, None, eqb, ltb, ◌==◌, replicate, arith}
 use Rattle.std.specs.Prelude.{slice_get}
 use Rattle.std.proofs.lemmas.Bool.{eq-eqb, eqb-true, lt-ltb, ltb-true}
 use Rattle.std.proofs.lemmas.List.{length-append, length-map, length-set, length-replicate, length-take-le, map-append, take-append-le, take-take}
@@ -29,10 +30,12 @@ last-within p (x ∷ xs) = first_within (up_to_last p xs) (length xs) (p x) (las
 narrow_first : (p q : Name → Bool) (x : Name) (xs : List Name) → (p x ≡ true → q x ≡ true) → (m : ℕ) (b : Bool) → q x ≡ b
     → up_to_last p xs ≡ up_to_last p (take m xs) → with_first (up_to_last p xs) (p x) ≡ up_to_last p (take (with_first m b) (x ∷ xs))
 narrow_first p q x xs weaker zero true e others = ap (λ n. with_first n (p x)) others
-narrow_first p q x xs weaker zero false e others = ap (λ n. with_first n (p x)) others ∙ ap (with_first 0) (not_true (p x) (λ t. absurd (cc (weaker t, e))))
+narrow_first p q x xs weaker zero false e others
+    = ap (λ n. with_first n (p x)) others ∙ ap (with_first 0) (not_true (p x) (λ t. absurd (cc (weaker t, e))))
 narrow_first p q x xs weaker (suc m) b e others = ap (λ n. with_first n (p x)) others
 
-pub last-narrow : (p q : Name → Bool) → ((x : Name) → p x ≡ true → q x ≡ true) → (xs : List Name) → up_to_last p xs ≡ up_to_last p (take (up_to_last q xs) xs)
+pub last-narrow : (p q : Name → Bool) → ((x : Name) → p x ≡ true → q x ≡ true) → (xs : List Name)
+    → up_to_last p xs ≡ up_to_last p (take (up_to_last q xs) xs)
 last-narrow p q weaker [] = refl
 last-narrow p q weaker (x ∷ xs) = narrow_first p q x xs (weaker x) (up_to_last q xs) (q x) refl (last-narrow p q weaker xs)
 
@@ -69,14 +72,16 @@ first_none zero false e = (refl, refl)
 first_none (suc m) b e = absurd (omega (arith, e))
 
 -- what is found on some variables, where none of those inside them has the name
-pub found-none : (name : Name) (vs : List Var) (base : Variables) → up_to_last (same_name name) (names_in vs) ≡ 0 → found name (fold with_var base vs) ≡ found name base
+pub found-none : (name : Name) (vs : List Var) (base : Variables) → up_to_last (same_name name) (names_in vs) ≡ 0
+    → found name (fold with_var base vs) ≡ found name base
 found-none name [] base e = refl
 found-none name (v ∷ vs) base e =
     let h = first_none (up_to_last (same_name name) (names_in vs)) (same_name name v.name.now) e in
     found-none name vs (with_var base v) h.0 ∙ rw h.1 refl
 
 -- and where one has it
-found_first : (name : Name) (v : Var) (vs : List Var) (base : Variables) (d : Var) (m : ℕ) → up_to_last (same_name name) (names_in vs) ≡ m → (b : Bool) → same_name name v.name.now ≡ b
+found_first : (name : Name) (v : Var) (vs : List Var) (base : Variables) (d : Var) (m : ℕ) → up_to_last (same_name name) (names_in vs) ≡ m
+    → (b : Bool) → same_name name v.name.now ≡ b
     → ((k : ℕ) → up_to_last (same_name name) (names_in vs) ≡ suc k → found name (fold with_var (with_var base v) vs) ≡ Some (get_or vs k d).value)
     → (k : ℕ) → with_first m b ≡ suc k → found name (fold with_var (with_var base v) vs) ≡ Some (get_or (v ∷ vs) k d).value
 found_first name v vs base d zero l true t others zero e = found-none name vs (with_var base v) l ∙ rw t refl
@@ -89,7 +94,8 @@ pub found-last : (name : Name) (vs : List Var) (base : Variables) (d : Var) (k :
     → found name (fold with_var base vs) ≡ Some (get_or vs k d).value
 found-last name [] base d k e = cc
 found-last name (v ∷ vs) base d k e =
-    found_first name v vs base d (up_to_last (same_name name) (names_in vs)) refl (same_name name v.name.now) refl (found-last name vs (with_var base v) d) k e
+    found_first name v vs base d (up_to_last (same_name name) (names_in vs)) refl (same_name name v.name.now) refl
+    (found-last name vs (with_var base v) d) k e
 
 -- a write where none of the variables inside has the name
 pub write-none : (name : Name) (value : ℕ) (vs : List Var) (base : Variables) → up_to_last (same_name name) (names_in vs) ≡ 0
@@ -101,7 +107,8 @@ write-none name value (v ∷ vs) base e =
     write-none name value vs (with_var base v) h.0 ∙ ap (λ x. fold with_var x vs) past
 
 -- and where one has it
-write_first : (name : Name) (value : ℕ) (v : Var) (vs : List Var) (base : Variables) (d w : Var) (m : ℕ) → up_to_last (same_name name) (names_in vs) ≡ m
+write_first : (name : Name) (value : ℕ) (v : Var) (vs : List Var) (base : Variables) (d w : Var) (m : ℕ)
+    → up_to_last (same_name name) (names_in vs) ≡ m
     → (b : Bool) → same_name name v.name.now ≡ b
     → ((k : ℕ) → up_to_last (same_name name) (names_in vs) ≡ suc k → w.name.now ≡ (get_or vs k d).name.now
     → write name value (fold with_var (with_var base v) vs) ≡ fold with_var (with_var base v) (set vs k w))
@@ -114,7 +121,8 @@ write_first name value v vs base d w zero l true t others valued zero e named =
 write_first name value v vs base d w zero l true t others valued (suc k) e named = absurd (omega (arith, e))
 write_first name value v vs base d w zero l false t others valued k e named = absurd (omega (arith, e))
 write_first name value v vs base d w (suc m) l b t others valued zero e named = absurd (omega (arith, e))
-write_first name value v vs base d w (suc m) l b t others valued (suc k) e named = others k (let up : suc m ≡ suc k = omega (arith, e) in l ∙ up) named
+write_first name value v vs base d w (suc m) l b t others valued (suc k) e named = others k (let up : suc m ≡ suc k = omega (arith, e)
+    in l ∙ up) named
 
 pub write-last : (name : Name) (value : ℕ) (vs : List Var) (base : Variables) (d w : Var) → w.value ≡ value
     → (k : ℕ) → up_to_last (same_name name) (names_in vs) ≡ suc k → w.name.now ≡ (get_or vs k d).name.now
@@ -181,12 +189,14 @@ module _ (n : ℕ) (names : List Name) (below heads : List ℕ) (table : IsTable
       let most = last-within (is_in n (bucket_of n name)) names in
       record {
         within = subst (λ m. m ≤ length names) last most;
-        same = ap (λ m. up_to_last (same_name name) (take m names)) (sym last) ∙ sym (last-narrow (same_name name) (is_in n (bucket_of n name)) (same_bucket n name) names);
+        same = ap (λ m. up_to_last (same_name name) (take m names)) (sym last) ∙ sym (last-narrow (same_name name) (is_in n (bucket_of n name))
+            (same_bucket n name) names);
         of = λ k e x here. last-passes (is_in n (bucket_of n name)) names k (last ∙ e) x here;
       }
 
   -- a name further outwards, past one that is another
-  pub chain-next : (at k next : ℕ) (x : Name) → IsOnChain n names name at → at ≡ suc k → slice_get names k ≡ Some x → (x ≡ name → ⊥) → slice_get below k ≡ Some next
+  pub chain-next : (at k next : ℕ) (x : Name) → IsOnChain n names name at → at ≡ suc k → slice_get names k ≡ Some x → (x ≡ name → ⊥)
+      → slice_get below k ≡ Some next
       → IsOnChain n names name next × (next < at)
   chain-next at k next x on e here other is =
       let bucket : bucket_of n x ≡ bucket_of n name = eqb-true (bucket_of n x) (bucket_of n name) (on.of k e x here) in
@@ -210,16 +220,20 @@ module _ (n : ℕ) (names : List Name) (below heads : List ℕ) (table : IsTable
       )
 
   -- the name itself
-  pub chain-found : (at k : ℕ) (x : Name) → IsOnChain n names name at → at ≡ suc k → slice_get names k ≡ Some x → x ≡ name → at ≡ up_to_last (same_name name) names
+  pub chain-found : (at k : ℕ) (x : Name) → IsOnChain n names name at → at ≡ suc k → slice_get names k ≡ Some x → x ≡ name
+      → at ≡ up_to_last (same_name name) names
   chain-found at k x on e here is =
       let less : k < length names = slice_get_within names k x here in
       let count : length (take k names) ≡ k = length-take-le k names (omega (arith, less)) in
-      e ∙ ap suc (sym count) ∙ sym (last-here (same_name name) (take k names) x ((bytes_eq-Decides name x).1 (sym is))) ∙ ap (up_to_last (same_name name)) (sym (take-more k names x here))
+      e ∙ ap suc (sym count) ∙ sym (last-here (same_name name) (take k names) x ((bytes_eq-Decides name x).1 (sym is))) ∙ ap
+      (up_to_last (same_name name)) (sym (take-more k names x here))
       ∙ ap (λ m. up_to_last (same_name name) (take m names)) (sym e) ∙ on.same
 
 -- a bucket's last name after one more
-last_with : (n bucket : ℕ) (names : List Name) (name : Name) → (bucket ≡ bucket_of n name → ⊥) → up_to_last (is_in n bucket) (names ++ name ∷ []) ≡ up_to_last (is_in n bucket) names
-last_with n bucket names name other = last-past (is_in n bucket) names name (not_true (bucket_of n name == bucket) (λ h. other (sym (eqb-true (bucket_of n name) bucket h))))
+last_with : (n bucket : ℕ) (names : List Name) (name : Name) → (bucket ≡ bucket_of n name → ⊥)
+    → up_to_last (is_in n bucket) (names ++ name ∷ []) ≡ up_to_last (is_in n bucket) names
+last_with n bucket names name other
+    = last-past (is_in n bucket) names name (not_true (bucket_of n name == bucket) (λ h. other (sym (eqb-true (bucket_of n name) bucket h))))
 
 last_of : (n : ℕ) (names : List Name) (name : Name) → up_to_last (is_in n (bucket_of n name)) (names ++ name ∷ []) ≡ suc (length names)
 last_of n names name = last-here (is_in n (bucket_of n name)) names name (eq-eqb (bucket_of n name) (bucket_of n name) refl)
@@ -241,7 +255,8 @@ table-empty n some = record {
 
 -- one more name
 pub table-pushed : (n : ℕ) (names : List Name) (name : Name) (below heads : List ℕ) (h : ℕ) → IsTable n names below heads → bucket_of n name < n
-    → slice_get heads (bucket_of n name) ≡ Some h → IsTable n (names ++ name ∷ []) (below ++ h ∷ []) (set heads (bucket_of n name) (suc (length names)))
+    → slice_get heads (bucket_of n name) ≡ Some h
+    → IsTable n (names ++ name ∷ []) (below ++ h ∷ []) (set heads (bucket_of n name) (suc (length names)))
 table-pushed n names name below heads h table less is = record {
   some = table.some;
   size = length-set heads (bucket_of n name) (suc (length names)) ∙ table.size;
@@ -254,11 +269,13 @@ table-pushed n names name below heads h table less is = record {
         → slice_get (set heads (bucket_of n name) (suc (length names))) bucket ≡ Some (up_to_last (is_in n bucket) (names ++ name ∷ []))
     last_by bucket few true e =
         let same : bucket ≡ bucket_of n name = eqb-true bucket (bucket_of n name) e in
-        ap (slice_get (set heads (bucket_of n name) (suc (length names)))) same ∙ get-same heads (bucket_of n name) (suc (length names)) (omega (arith, less, table.size))
+        ap (slice_get (set heads (bucket_of n name) (suc (length names)))) same ∙ get-same heads (bucket_of n name) (suc (length names))
+        (omega (arith, less, table.size))
         ∙ ap Some (sym (last_of n names name)) ∙ ap (λ b. Some (up_to_last (is_in n b) (names ++ name ∷ []))) (sym same)
     last_by bucket few false e =
         let other : bucket ≡ bucket_of n name → ⊥ = λ s. absurd (cc (eq-eqb bucket (bucket_of n name) s, e)) in
-        get-other heads (bucket_of n name) bucket (suc (length names)) other ∙ table.last bucket few ∙ ap Some (sym (last_with n bucket names name other))
+        get-other heads (bucket_of n name) bucket (suc (length names)) other ∙ table.last bucket few ∙ ap Some
+        (sym (last_with n bucket names name other))
 
     before_by : (place : ℕ) (x : Name) → slice_get (names ++ name ∷ []) place ≡ Some x → (b : Bool) → ltb place (length names) ≡ b
         → slice_get (below ++ h ∷ []) place ≡ Some (up_to_last (is_in n (bucket_of n x)) (take place (names ++ name ∷ [])))
@@ -274,10 +291,12 @@ table-pushed n names name below heads h table less is = record {
         let it : x ≡ name = same_some _ _ (sym here ∙ ap (slice_get (names ++ name ∷ [])) at ∙ get-seam names name []) in
         ap (slice_get (below ++ h ∷ [])) (at ∙ sym table.each) ∙ get-seam below h [] ∙ sym is ∙ table.last (bucket_of n name) less
         ∙ ap (λ y. Some (up_to_last (is_in n (bucket_of n y)) names)) (sym it)
-        ∙ ap (λ xs. Some (up_to_last (is_in n (bucket_of n x)) xs)) (sym (ap (λ p. take p (names ++ name ∷ [])) at ∙ take-append_seam names (name ∷ [])))
+        ∙ ap (λ xs. Some (up_to_last (is_in n (bucket_of n x)) xs))
+        (sym (ap (λ p. take p (names ++ name ∷ [])) at ∙ take-append_seam names (name ∷ [])))
 
 -- one name fewer
-pub table-popped : (n : ℕ) (names : List Name) (name : Name) (bs : List ℕ) (h : ℕ) (heads : List ℕ) → IsTable n (names ++ name ∷ []) (bs ++ h ∷ []) heads → bucket_of n name < n
+pub table-popped : (n : ℕ) (names : List Name) (name : Name) (bs : List ℕ) (h : ℕ) (heads : List ℕ)
+    → IsTable n (names ++ name ∷ []) (bs ++ h ∷ []) heads → bucket_of n name < n
     → IsTable n names bs (set heads (bucket_of n name) h)
 table-popped n names name bs h heads table less = record {
   some = table.some;
@@ -309,9 +328,11 @@ table-popped n names name bs h heads table less = record {
 
 -- what is read from a table
 pub name-at : (vs : List Var) (n k : ℕ) (v : Var) → n ≡ length vs → k < n → v ≡ get_or vs k v → slice_get (names_in vs) k ≡ Some v.name.now
-name-at vs n k v count less is = slice_get-map (λ (x : Var). x.name.now) vs k ∙ ap (option_map (λ (x : Var). x.name.now)) (slice_get_read vs n k v count less is)
+name-at vs n k v count less is = slice_get-map (λ (x : Var). x.name.now) vs k ∙ ap (option_map (λ (x : Var). x.name.now))
+    (slice_get_read vs n k v count less is)
 
-pub bucket-within : (m b : ℕ) (name : Name) (heads : List ℕ) → m ≡ length heads → b ≡ bucket_of m name → b < m → bucket_of (length heads) name < length heads
+pub bucket-within : (m b : ℕ) (name : Name) (heads : List ℕ) → m ≡ length heads → b ≡ bucket_of m name → b < m
+    → bucket_of (length heads) name < length heads
 bucket-within m b name heads count is less = subst (λ n. bucket_of n name < n) count (subst (λ x. x < m) is less)
 
 pub head-at : (m b : ℕ) (name : Name) (heads : List ℕ) (h : ℕ) → m ≡ length heads → b ≡ bucket_of m name → b < m → h ≡ get_or heads b h
@@ -320,7 +341,8 @@ head-at m b name heads h count is less at =
     ap (λ n. slice_get heads (bucket_of n name)) (sym count) ∙ ap (slice_get heads) (sym is) ∙ slice_get_read heads m b h count less at
 
 -- a step of a search, from the variable below a place
-module _ (vs : List Var) (below heads : List ℕ) (name : Name) (at : ℕ) (v : Var) (on : IsOnChain (length heads) (names_in vs) name at) (some : 0 < at) (is : v ≡ get_or vs (at - 1) v) where
+module _ (vs : List Var) (below heads : List ℕ) (name : Name) (at : ℕ) (v : Var) (on : IsOnChain (length heads) (names_in vs) name at) (some : 0 < at)
+    (is : v ≡ get_or vs (at - 1) v) where
   up : at ≡ suc (at - 1)
   up = omega (arith, some)
 
@@ -331,11 +353,13 @@ module _ (vs : List Var) (below heads : List ℕ) (name : Name) (at : ℕ) (v : 
       → IsOnChain (length heads) (names_in vs) name next × (next < at)
   step-on next table other follows =
       let count = length-map vs (λ (x : Var). x.name.now) in
-      chain-next (length heads) (names_in vs) below heads table name at (at - 1) next v.name.now on up (name-at vs (length vs) (at - 1) v refl there is) other
+      chain-next (length heads) (names_in vs) below heads table name at (at - 1) next v.name.now on up
+      (name-at vs (length vs) (at - 1) v refl there is) other
       (slice_get_read below (length vs) (at - 1) next (sym (table.each ∙ count)) there follows)
 
   pub step-found : IsTable (length heads) (names_in vs) below heads → v.name.now ≡ name → at ≡ up_to_last (same_name name) (names_in vs)
-  step-found table same = chain-found (length heads) (names_in vs) below heads table name at (at - 1) v.name.now on up (name-at vs (length vs) (at - 1) v refl there is) same
+  step-found table same = chain-found (length heads) (names_in vs) below heads table name at (at - 1) v.name.now on up
+      (name-at vs (length vs) (at - 1) v refl there is) same
 
 -- a table after a push, as the code makes it: a place further in, the head of its bucket before it below, and itself the head
 pub table-push : (vs now : List Var) (v : Var) (below below' heads : List ℕ) (m b h len : ℕ) → IsTable (length heads) (names_in vs) below heads
@@ -346,9 +370,11 @@ table-push vs now v below below' heads m b h len table count is less at pushed l
     let bucket : bucket_of n v.name.now ≡ b = ap (λ k. bucket_of k v.name.now) (sym count) ∙ sym is in
     let names : names_in vs ++ v.name.now ∷ [] ≡ names_in now = sym (map-append (λ (x : Var). x.name.now) vs (v ∷ [])) ∙ ap names_in (sym pushed) in
     let more = length-append vs (v ∷ []) in
-    let far : suc (length (names_in vs)) ≡ len = let all = length-map vs (λ (x : Var). x.name.now) in let last = ap length pushed in omega (arith, all, last, more, long) in
+    let far : suc (length (names_in vs)) ≡ len = let all = length-map vs (λ (x : Var). x.name.now) in let last = ap length pushed
+    in omega (arith, all, last, more, long) in
     let one : IsTable n (names_in vs ++ v.name.now ∷ []) (below ++ h ∷ []) (set heads (bucket_of n v.name.now) (suc (length (names_in vs)))) =
-    table-pushed n (names_in vs) v.name.now below heads h table (bucket-within m b v.name.now heads count is less) (head-at m b v.name.now heads h count is less at) in
+    table-pushed n (names_in vs) v.name.now below heads h table (bucket-within m b v.name.now heads count is less)
+    (head-at m b v.name.now heads h count is less at) in
     let two : IsTable n (names_in now) below' (set heads b len) =
     subst (λ hs. IsTable n (names_in now) below' hs) (ap (λ k. set heads k (suc (length (names_in vs)))) bucket ∙ ap (set heads b) far)
     (subst (λ bs. IsTable n (names_in now) bs (set heads (bucket_of n v.name.now) (suc (length (names_in vs))))) (sym longer)
@@ -356,8 +382,10 @@ table-push vs now v below below' heads m b h len table count is less at pushed l
     subst (λ k. IsTable k (names_in now) below' (set heads b len)) (sym (length-set heads b len)) two
 
 -- a table after a pop: what was below the innermost variable is the head of its bucket
-pub table-pop : (vs now : List Var) (v : Var) (below below' heads : List ℕ) (m b h : ℕ) (o : Option ℕ) → IsTable (length heads) (names_in vs) below heads
-    → m ≡ length heads → b ≡ bucket_of m v.name.now → b < m → vs ≡ now ++ v ∷ [] → below ≡ below' ++ option_to_list o → (0 < length below → IsSome o) → h ≡ unwrap_or o 0
+pub table-pop : (vs now : List Var) (v : Var) (below below' heads : List ℕ) (m b h : ℕ) (o : Option ℕ)
+    → IsTable (length heads) (names_in vs) below heads
+    → m ≡ length heads → b ≡ bucket_of m v.name.now → b < m → vs ≡ now ++ v ∷ [] → below ≡ below' ++ option_to_list o → (0 < length below → IsSome o)
+    → h ≡ unwrap_or o 0
     → IsTable (length (set heads b h)) (names_in now) below' (set heads b h)
 table-pop vs now v below below' heads m b h None table count is less popped shorter some at =
     let more = length-append now (v ∷ []) in
@@ -377,9 +405,11 @@ table-pop vs now v below below' heads m b h (Some k) table count is less popped 
     subst (λ x. IsTable x (names_in now) below' (set heads b h)) (sym (length-set heads b h)) two
 
 -- a table of no variables
-pub table-opened : (vs : List Var) (below heads : List ℕ) (n : ℕ) → vs ≡ [] → below ≡ [] → heads ≡ replicate n 0 → 0 < n → IsTable (length heads) (names_in vs) below heads
+pub table-opened : (vs : List Var) (below heads : List ℕ) (n : ℕ) → vs ≡ [] → below ≡ [] → heads ≡ replicate n 0 → 0 < n
+    → IsTable (length heads) (names_in vs) below heads
 table-opened vs below heads n none nothing zeros some =
     let count : n ≡ length heads = sym (ap length zeros ∙ length-replicate n 0) in
     subst (λ k. IsTable k (names_in vs) below heads) count
     (subst (λ hs. IsTable n (names_in vs) below hs) (sym zeros)
-    (subst (λ bs. IsTable n (names_in vs) bs (replicate n 0)) (sym nothing) (subst (λ xs. IsTable n (names_in xs) [] (replicate n 0)) (sym none) (table-empty n some))))
+    (subst (λ bs. IsTable n (names_in vs) bs (replicate n 0)) (sym nothing)
+    (subst (λ xs. IsTable n (names_in xs) [] (replicate n 0)) (sym none) (table-empty n some))))

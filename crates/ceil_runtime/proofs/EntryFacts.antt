@@ -32,13 +32,16 @@ pub record IsFound (us : List units.Unit) (os : List Object) (t : Task) (e : Ent
   pub at : slice_get (objects_from 0 (map unit_of us)) e.object ≡ Some entered.entered
   pub is : IsAt os e.object entered.entered
 
-pub found-object : (us : List units.Unit) (tasks : List Task) (os : List Object) → AreAlike us tasks → AreObjectsOf us os → (i : ℕ) (t : Task) → slice_get tasks i ≡ Some t → (e : Entry) → IsOfObject (system_of t.progress.stack.thread) e → IsFound us os t e
+pub found-object : (us : List units.Unit) (tasks : List Task) (os : List Object) → AreAlike us tasks → AreObjectsOf us os → (i : ℕ) (t : Task)
+    → slice_get tasks i ≡ Some t → (e : Entry) → IsOfObject (system_of t.progress.stack.thread) e → IsFound us os t e
 found-object us tasks os alike known i t here e of =
     let en = entered-by (system_of t.progress.stack.thread) e of in
-    let at : slice_get (objects_from 0 (map unit_of us)) e.object ≡ Some en.entered = ap (λ y. slice_get y.objects e.object) (sym (alike i t here)) ∙ en.at in
+    let at : slice_get (objects_from 0 (map unit_of us)) e.object ≡ Some en.entered
+    = ap (λ y. slice_get y.objects e.object) (sym (alike i t here)) ∙ en.at in
     record { entered = en; at = at; is = object-at us os known e.object en.entered at }
 
-module _ (us : List units.Unit) (tasks : List Task) (os : List Object) (i : ℕ) (t : Task) (here : slice_get tasks i ≡ Some t) (e : Entry) (o : Object) (there : slice_get os e.object ≡ Some o) (f : IsFound us os t e) where
+module _ (us : List units.Unit) (tasks : List Task) (os : List Object) (i : ℕ) (t : Task) (here : slice_get tasks i
+    ≡ Some t) (e : Entry) (o : Object) (there : slice_get os e.object ≡ Some o) (f : IsFound us os t e) where
   same_object : f.is.object ≡ o
   same_object = one (sym f.is.here ∙ there)
     where
@@ -49,10 +52,27 @@ module _ (us : List units.Unit) (tasks : List Task) (os : List Object) (i : ℕ)
   found-shows = ap (λ x. lasting (shown x)) (sym same_object) ∙ f.is.shows
 
   pub found-op : HasOp tasks o.unit e.place
-  found-op = record { place = i; task = t; here = here; object = e.object; entered = f.entered.entered; at = f.entered.at; is_unit = ap (λ x. x.unit) found-shows; is_op = f.entered.is_op }
+  found-op = record {
+    place = i;
+    task = t;
+    here = here;
+    object = e.object;
+    entered = f.entered.entered;
+    at = f.entered.at;
+    is_unit = ap (λ x. x.unit) found-shows;
+    is_op = f.entered.is_op;
+  }
 
   pub found-unit : HasObject tasks o.unit
-  found-unit = record { place = i; task = t; here = here; object = e.object; entered = f.entered.entered; at = f.entered.at; is_unit = ap (λ x. x.unit) found-shows }
+  found-unit = record {
+    place = i;
+    task = t;
+    here = here;
+    object = e.object;
+    entered = f.entered.entered;
+    at = f.entered.at;
+    is_unit = ap (λ x. x.unit) found-shows;
+  }
 
   pub place-few : e.place < 2 ^ 32
   place-few = let ops = ap (λ x. x.ops) found-shows in omega (arith, f.entered.is_op, ops, o.few)

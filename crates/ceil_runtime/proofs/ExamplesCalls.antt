@@ -25,7 +25,13 @@ abbrev body : Name → Statements → Operation
 body name block = record { sig = record { name = name; params = [] }; locals = []; block = block }
 
 abbrev pub object : ProtectedUnit
-object = record { unit = 1; name = 2 ∷ []; ceiling = 5; vars = record { name = 9 ∷ []; value = 0 } ∷ []; ops = body (21 ∷ []) (Then (Call (1 ∷ []) (11 ∷ []) []) End) ∷ [] }
+object = record {
+  unit = 1;
+  name = 2 ∷ [];
+  ceiling = 5;
+  vars = record { name = 9 ∷ []; value = 0 } ∷ [];
+  ops = body (21 ∷ []) (Then (Call (1 ∷ []) (11 ∷ []) []) End) ∷ [];
+}
 
 abbrev pub task : TaskUnit
 task = record {

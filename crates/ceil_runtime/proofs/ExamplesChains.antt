@@ -79,7 +79,8 @@ table = record { some = omega arith; size = refl; each = refl; last = last; befo
         → slice_get {X = ℕ} (0 ∷ 0 ∷ 1 ∷ []) place ≡ Some (up_to_last (is_in 2 (bucket_of 2 name)) (take place three))
     before zero name at = refl
     before (suc zero) name at = subst (λ x. Some 0 ≡ Some (up_to_last (is_in 2 (bucket_of 2 x)) (codes "a" ∷ []))) (same (codes "b") name at) refl
-    before (suc (suc zero)) name at = subst (λ x. Some 1 ≡ Some (up_to_last (is_in 2 (bucket_of 2 x)) (codes "a" ∷ codes "b" ∷ []))) (same (codes "c") name at) refl
+    before (suc (suc zero)) name at = subst (λ x. Some 1 ≡ Some (up_to_last (is_in 2 (bucket_of 2 x)) (codes "a" ∷ codes "b" ∷ [])))
+        (same (codes "c") name at) refl
     before (suc (suc (suc place))) name at = absurd (cc at)
 
 -- a bucket that does not know of its last name

@@ -41,7 +41,8 @@ closing-not : (e : Entry) → StaysOutside three (is.Closing e) → ⊥
 closing-not e h = h
 
 -- the call of an operation of the object, which is the first one
-entry : (e : Entry) → callee three e.call.object.now e.call.name.now ≡ Protected e.object e.place object (operation_of e.call.op.now) → e.object ≡ 0 → object.vars ≡ e.«data».now → IsEntry three e
+entry : (e : Entry) → callee three e.call.object.now e.call.name.now ≡ Protected e.object e.place object (operation_of e.call.op.now) → e.object ≡ 0
+    → object.vars ≡ e.«data».now → IsEntry three e
 entry e calls first vars = record { object = object; calls = calls; at = ap (slice_get three.objects) first; vars = vars }
 
 entry-not : (e : Entry) → e.object ≡ 1 → IsEntry three e → ⊥
@@ -72,7 +73,8 @@ lasts-not h = differ (ap (λ o. o.ceiling) h)
     differ k = cc
 
 -- the objects of units, in their order
-objects-of : (u : units.Unit) (o : objects.Object) → objects_from 0 (unit_of u ∷ []) ≡ object ∷ [] → lasting (shown o) ≡ lasting (first_object object) → AreObjectsOf (u ∷ []) (o ∷ [])
+objects-of : (u : units.Unit) (o : objects.Object) → objects_from 0 (unit_of u ∷ []) ≡ object ∷ [] → lasting (shown o) ≡ lasting (first_object object)
+    → AreObjectsOf (u ∷ []) (o ∷ [])
 objects-of u o found same = ap (λ x. x ∷ []) same ∙ sym (ap (map (λ g. lasting (first_object g))) found)
 
 objects-of-not : (o : objects.Object) → AreObjectsOf [] (o ∷ []) → ⊥
@@ -84,7 +86,20 @@ objects-of-not o h = some h
 -- a machine that has stopped is else as it was
 has-stopped : (m : Machine) → HasStopped m (record m { stopped = true })
 has-stopped m =
-    record { tasks = refl; objects = refl; links = refl; arrivals = refl; units = refl; callees = refl; costs = refl; until = refl; time = refl; phase = refl; ran = refl; stopped = refl }
+    record {
+      tasks = refl;
+      objects = refl;
+      links = refl;
+      arrivals = refl;
+      units = refl;
+      callees = refl;
+      costs = refl;
+      until = refl;
+      time = refl;
+      phase = refl;
+      ran = refl;
+      stopped = refl;
+    }
 
 has-stopped-not : (m : Machine) → HasStopped m (record m { stopped = false }) → ⊥
 has-stopped-not m h = runs h.stopped
@@ -157,7 +172,16 @@ nested-not h = let one : 1 ≤ 0 = h in omega (arith, one)
 
 -- an operation of the object, which has one
 has-op : (t : Task) → system_of t.progress.stack.thread ≡ three → HasOp (t ∷ []) 1 0
-has-op t same = record { place = 0; task = t; here = refl; object = 0; entered = object; at = ap (λ y. slice_get y.objects 0) same; is_unit = refl; is_op = omega arith }
+has-op t same = record {
+  place = 0;
+  task = t;
+  here = refl;
+  object = 0;
+  entered = object;
+  at = ap (λ y. slice_get y.objects 0) same;
+  is_unit = refl;
+  is_op = omega arith;
+}
 
 has-op-not : HasOp [] 1 0 → ⊥
 has-op-not h = none h.here

@@ -1,5 +1,6 @@
 -- Operations and units by their names: those of other names are passed over.
-use Rattle.std.proofs.Common.{◌≡◌, ℕ, suc, ◌+◌, ◌<◌, Bool, true, false, List, [], ◌∷◌, length, map, drop, get_or, refl, ap, sym, ◌∙◌, add-one, add-zero, Option}
+use Rattle.std.proofs.Common.{◌≡◌, ℕ, suc, ◌+◌, ◌<◌, Bool, true, false, List, [], ◌∷◌, length, map, drop, get_or, refl, ap, sym, ◌∙◌, add-one}
+use Rattle.std.proofs.Common.{add-zero, Option}
 use Rattle.std.specs.Prelude.{option_map}
 use Rattle.std.proofs.lemmas.Slice.Eq.{bytes_eq-Decides}
 use Rattle.seq_tree.specs.Names.{Name, same_name}
@@ -21,7 +22,8 @@ pub found-anywhere : {A B : Type 0} (n m : ℕ) (test : A → Bool) (f : A → B
     → option_map (λ (x : ℕ × A). f x.1) (first_from n test xs) ≡ option_map (λ (x : ℕ × A). f x.1) (first_from m test xs)
 found-anywhere n m test f [] = refl
 found-anywhere {A} {B} n m test f (x ∷ xs) = by_test (test x) refl (found-anywhere (suc n) (suc m) test f xs) where
-  by_test : (b : Bool) → test x ≡ b → option_map (λ (y : ℕ × A). f y.1) (first_from (suc n) test xs) ≡ option_map (λ (y : ℕ × A). f y.1) (first_from (suc m) test xs)
+  by_test : (b : Bool) → test x ≡ b → option_map (λ (y : ℕ × A). f y.1) (first_from (suc n) test xs)
+      ≡ option_map (λ (y : ℕ × A). f y.1) (first_from (suc m) test xs)
       → option_map (λ (y : ℕ × A). f y.1) (first_from n test (x ∷ xs)) ≡ option_map (λ (y : ℕ × A). f y.1) (first_from m test (x ∷ xs))
   by_test true e more = rw e refl
   by_test false e more = rw e more
@@ -35,7 +37,8 @@ abbrev pub named : Name → Operation → Bool
 named name o = same_name o.sig.name name
 
 -- the unit at a place is first of those from there on
-at_place : (us : List units.Unit) (i : ℕ) (u : units.Unit) → i < length us → u ≡ get_or us i u → map unit_of (drop i us) ≡ record { name = u.name; form = form_of u.form } ∷ map unit_of (drop (i + 1) us)
+at_place : (us : List units.Unit) (i : ℕ) (u : units.Unit) → i < length us → u ≡ get_or us i u
+    → map unit_of (drop i us) ≡ record { name = u.name; form = form_of u.form } ∷ map unit_of (drop (i + 1) us)
 at_place us i u h is = units-at us i u h ∙ ap (λ v. unit_of v ∷ map unit_of (drop (i + 1) us)) (sym is)
 
 -- passive units
@@ -45,14 +48,17 @@ library_named name l = same_name l.name name
 abbrev pub library_ops : Name → ℕ → List Unit → Option (List Operation)
 library_ops name n us = option_map (λ (l : ℕ × PassiveUnit). l.1.ops) (first_from 0 (library_named name) (libraries_from n us))
 
-past_library : (n : ℕ) (name : Name) (f : forms.Form) (us : List Unit) (wanted : Name) → ((ops : _) → f ≡ form.Passive ops → same_name name wanted ≡ false)
+past_library : (n : ℕ) (name : Name) (f : forms.Form) (us : List Unit) (wanted : Name)
+    → ((ops : _) → f ≡ form.Passive ops → same_name name wanted ≡ false)
     → library_ops wanted (n + 1) us ≡ library_ops wanted n (record { name = name; form = form_of f } ∷ us)
-past_library n name (form.Passive ops) us wanted other = rw (other ops refl) (found-anywhere 0 1 (library_named wanted) (λ l. l.ops) (libraries_from (n + 1) us))
+past_library n name (form.Passive ops) us wanted other
+    = rw (other ops refl) (found-anywhere 0 1 (library_named wanted) (λ l. l.ops) (libraries_from (n + 1) us))
 past_library n name (form.Shared ceiling vars ops) us wanted other = refl
 past_library n name (form.Cyclic priority offset period vars block) us wanted other = refl
 past_library n name (form.Sporadic priority ceiling op separation jitter external vars block) us wanted other = refl
 
-pub past-library : (us : List units.Unit) (i : ℕ) (u : units.Unit) (wanted : Name) → i < length us → u ≡ get_or us i u → ((ops : _) → u.form ≡ form.Passive ops → same_name u.name wanted ≡ false)
+pub past-library : (us : List units.Unit) (i : ℕ) (u : units.Unit) (wanted : Name) → i < length us → u ≡ get_or us i u
+    → ((ops : _) → u.form ≡ form.Passive ops → same_name u.name wanted ≡ false)
     → library_ops wanted (i + 1) (map unit_of (drop (i + 1) us)) ≡ library_ops wanted i (map unit_of (drop i us))
 past-library us i u wanted h is other =
     past_library i u.name u.form (map unit_of (drop (i + 1) us)) wanted other ∙ sym (ap (λ vs. library_ops wanted i vs) (at_place us i u h is))
@@ -82,12 +88,16 @@ past_object : (n place : ℕ) (name : Name) (f : forms.Form) (us : List Unit) (w
 past_object n place name (form.Passive ops) us wanted other = ap (λ k. object_at wanted k (n + 1) us) (add-zero place)
 past_object n place name (form.Shared ceiling vars ops) us wanted other = rw (other refl, add-one) refl
 past_object n place name (form.Cyclic priority offset period vars block) us wanted other = ap (λ k. object_at wanted k (n + 1) us) (add-zero place)
-past_object n place name (form.Sporadic priority ceiling op separation jitter external vars block) us wanted other = ap (λ k. object_at wanted k (n + 1) us) (add-zero place)
+past_object n place name (form.Sporadic priority ceiling op separation jitter external vars block) us wanted other
+    = ap (λ k. object_at wanted k (n + 1) us) (add-zero place)
 
-pub past-object : (us : List units.Unit) (i place place' : ℕ) (u : units.Unit) (wanted : Name) → i < length us → u ≡ get_or us i u → (objects_in u.form ≡ 1 → same_name u.name wanted ≡ false)
-    → place' ≡ place + objects_in u.form → object_at wanted place' (i + 1) (map unit_of (drop (i + 1) us)) ≡ object_at wanted place i (map unit_of (drop i us))
+pub past-object : (us : List units.Unit) (i place place' : ℕ) (u : units.Unit) (wanted : Name) → i < length us → u ≡ get_or us i u
+    → (objects_in u.form ≡ 1 → same_name u.name wanted ≡ false)
+    → place' ≡ place + objects_in u.form → object_at wanted place' (i + 1) (map unit_of (drop (i + 1) us))
+    ≡ object_at wanted place i (map unit_of (drop i us))
 past-object us i place place' u wanted h is other counted =
-    ap (λ k. object_at wanted k (i + 1) (map unit_of (drop (i + 1) us))) counted ∙ past_object i place u.name u.form (map unit_of (drop (i + 1) us)) wanted other
+    ap (λ k. object_at wanted k (i + 1) (map unit_of (drop (i + 1) us))) counted ∙ past_object i place u.name u.form
+    (map unit_of (drop (i + 1) us)) wanted other
     ∙ sym (ap (λ vs. object_at wanted place i vs) (at_place us i u h is))
 
 -- tasks
@@ -97,15 +107,20 @@ task_named name t = same_name t.name name
 abbrev pub task_at : List WorkList → Name → ℕ → ℕ → List Unit → Option (ℕ × TaskUnit)
 task_at work name place n us = first_from place (task_named name) (threads_from work n us)
 
-past_thread : (work : List WorkList) (n place : ℕ) (name : Name) (f : forms.Form) (us : List Unit) (wanted : Name) → (tasks_in f ≡ 1 → same_name name wanted ≡ false)
+past_thread : (work : List WorkList) (n place : ℕ) (name : Name) (f : forms.Form) (us : List Unit) (wanted : Name)
+    → (tasks_in f ≡ 1 → same_name name wanted ≡ false)
     → task_at work wanted (place + tasks_in f) (n + 1) us ≡ task_at work wanted place n (record { name = name; form = form_of f } ∷ us)
 past_thread work n place name (form.Passive ops) us wanted other = ap (λ k. task_at work wanted k (n + 1) us) (add-zero place)
 past_thread work n place name (form.Shared ceiling vars ops) us wanted other = ap (λ k. task_at work wanted k (n + 1) us) (add-zero place)
 past_thread work n place name (form.Cyclic priority offset period vars block) us wanted other = rw (other refl, add-one) refl
-past_thread work n place name (form.Sporadic priority ceiling op separation jitter external vars block) us wanted other = rw (other refl, add-one) refl
+past_thread work n place name (form.Sporadic priority ceiling op separation jitter external vars block) us wanted other
+    = rw (other refl, add-one) refl
 
-pub past-thread : (work : List WorkList) (us : List units.Unit) (i place place' : ℕ) (u : units.Unit) (wanted : Name) → i < length us → u ≡ get_or us i u → (tasks_in u.form ≡ 1 → same_name u.name wanted ≡ false)
-    → place' ≡ place + tasks_in u.form → task_at work wanted place' (i + 1) (map unit_of (drop (i + 1) us)) ≡ task_at work wanted place i (map unit_of (drop i us))
+pub past-thread : (work : List WorkList) (us : List units.Unit) (i place place' : ℕ) (u : units.Unit) (wanted : Name) → i < length us
+    → u ≡ get_or us i u → (tasks_in u.form ≡ 1 → same_name u.name wanted ≡ false)
+    → place' ≡ place + tasks_in u.form → task_at work wanted place' (i + 1) (map unit_of (drop (i + 1) us))
+    ≡ task_at work wanted place i (map unit_of (drop i us))
 past-thread work us i place place' u wanted h is other counted =
-    ap (λ k. task_at work wanted k (i + 1) (map unit_of (drop (i + 1) us))) counted ∙ past_thread work i place u.name u.form (map unit_of (drop (i + 1) us)) wanted other
+    ap (λ k. task_at work wanted k (i + 1) (map unit_of (drop (i + 1) us))) counted ∙ past_thread work i place u.name u.form
+    (map unit_of (drop (i + 1) us)) wanted other
     ∙ sym (ap (λ vs. task_at work wanted place i vs) (at_place us i u h is))

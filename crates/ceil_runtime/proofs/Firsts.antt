@@ -1,5 +1,6 @@
 -- What is known of a piece that becomes first.
-use Rattle.std.proofs.Common.{◌≡◌, ℕ, ◌+◌, ◌-◌, List, [], ◌∷◌, ◌++◌, length, take, drop, refl, ap, sym, subst, ◌∙◌, true, false, Option, Some, None, arith, length-append}
+use Rattle.std.proofs.Common.{◌≡◌, ℕ, ◌+◌, ◌-◌, List, [], ◌∷◌, ◌++◌, length, take, drop, refl, ap, sym, subst, ◌∙◌, true, false, Option, Some}
+use Rattle.std.proofs.Common.{None, arith, length-append}
 use Rattle.std.proofs.lemmas.List.{length-map}
 use Rattle.std.specs.Borrow.{Bor}
 use Rattle.seq_tree.specs.Names.{Name, are_distinct, same_name}
@@ -9,7 +10,8 @@ use Rattle.ceil_runtime.specs.Stacked.{vars_of}
 use Rattle.machine.specs.Pieces as pieces
 use Rattle.ceil_runtime.specs.Progresses.{put_away, started, with_parts}
 use Rattle.ceil_runtime.specs.Progresses.{kept as kept_frames}
-use Rattle.ceil_runtime.specs.Fitting.{FitsFirst, FitsList, FitsPiece, IsOfStatement, IsPopped, IsPushed, Named, Place, PutsAway, Spot, names_of, next, place_of}
+use Rattle.ceil_runtime.specs.Fitting.{FitsFirst, FitsList, FitsPiece, IsOfStatement, IsPopped, IsPushed, Named, Place, PutsAway, Spot, names_of}
+use Rattle.ceil_runtime.specs.Fitting.{next, place_of}
 use Rattle.ceil_runtime.specs.Doing.{IsFirst}
 use Rattle.ceil_runtime.specs.Written.{first_place, data_names, param_names}
 use Rattle.ceil_runtime.specs.declared.thread.Thread.{Thread}
@@ -112,24 +114,29 @@ first-behind t q ss rest f fs gs hs vs popped is pushed fits of names away =
     }
 
 -- outside of all loops there is no end of an activation, of a turn or of a call
-pub no-finish : (t : Thread) (fs gs : List Frame) (f : Frame) → IsPopped (first_place t) fs gs f → f ≡ frame.Finish → (place_of (first_place t) fs).spot.inside ≡ true → ⊥
+pub no-finish : (t : Thread) (fs gs : List Frame) (f : Frame) → IsPopped (first_place t) fs gs f → f ≡ frame.Finish
+    → (place_of (first_place t) fs).spot.inside ≡ true → ⊥
 no-finish t fs gs f popped is inside =
     let was = popped-at (first_place t) fs gs f frame.Finish popped is in
     let none : gs ≡ [] = first-frame t gs was.here.2 in
-    let outside : (place_of (first_place t) fs).spot.inside ≡ false = ap (λ p. p.spot.inside) was.place ∙ ap (λ xs. (place_of (first_place t) xs).spot.inside) none in
+    let outside : (place_of (first_place t) fs).spot.inside ≡ false
+    = ap (λ p. p.spot.inside) was.place ∙ ap (λ xs. (place_of (first_place t) xs).spot.inside) none in
     absurd (cc (inside, outside))
 
 -- an activation has ended: the parameters go, and the data are kept
-module _ (t : Thread) (vars : List Var) (fs gs : List Frame) (h : IsFirst t (Some piece.Finishing) (vars_of vars) fs) (none : gs ≡ []) (distinct : are_distinct (data_names t ++ param_names t) ≡ true) where
+module _ (t : Thread) (vars : List Var) (fs gs : List Frame) (h : IsFirst t (Some piece.Finishing) (vars_of vars) fs) (none : gs
+    ≡ []) (distinct : are_distinct (data_names t ++ param_names t) ≡ true) where
   names-ended : names_of (vars_of vars) ≡ param_names t ++ data_names t
   names-ended = h.named ∙ ap (λ xs. (place_of (first_place t) xs).params ++ (place_of (first_place t) xs).names) (first-frame t fs h.fits)
 
   pub kept-ended : vars_of (take (length t.«data».now) vars) ≡ kept t.«data».now (vars_of vars)
   kept-ended =
       let count : length vars ≡ length (param_names t) + length t.«data».now =
-      sym (vars-length vars) ∙ sym (length-map (vars_of vars) (λ v. v.0)) ∙ ap length names-ended ∙ length-append (param_names t) (data_names t) ∙ ap (λ n. length (param_names t) + n) (length-map t.«data».now (λ d. d.name)) in
+      sym (vars-length vars) ∙ sym (length-map (vars_of vars) (λ v. v.0)) ∙ ap length names-ended ∙ length-append (param_names t) (data_names t) ∙ ap
+      (λ n. length (param_names t) + n) (length-map t.«data».now (λ d. d.name)) in
       let over : length vars - length t.«data».now ≡ length (param_names t) = omega arith in
-      vars-front vars (length t.«data».now) (omega arith) ∙ ap (λ n. drop n (vars_of vars)) over ∙ sym (kept-behind t.«data».now (param_names t) (vars_of vars) names-ended distinct)
+      vars-front vars (length t.«data».now) (omega arith) ∙ ap (λ n. drop n (vars_of vars)) over ∙ sym
+      (kept-behind t.«data».now (param_names t) (vars_of vars) names-ended distinct)
 
   pub first-ended : (vs : Variables) → vs ≡ kept t.«data».now (vars_of vars) → IsFirst t None vs gs
   first-ended vs same =
@@ -164,11 +171,13 @@ all-back p fs gs f popped other = by_form f popped other where
   by_form (frame.Close e lent) h no_other = ap (λ k. k.away) h.kept
 
 -- a task that has nothing left has its data alone
-pub names-idle : (t : Thread) (first : Option Piece) (vs : Variables) (fs : List Frame) → IsFirst t first vs fs → started first (kept_frames fs) ≡ [] → names_of vs ≡ data_names t
+pub names-idle : (t : Thread) (first : Option Piece) (vs : Variables) (fs : List Frame) → IsFirst t first vs fs → started first (kept_frames fs) ≡ []
+    → names_of vs ≡ data_names t
 names-idle t None vs fs h none = h.named ∙ ap (λ xs. (place_of (first_place t) xs).names) (first-frame t fs h.fits)
 names-idle t (Some q) vs fs h none = absurd (cc)
 
 -- and no frames
-pub frames-idle : (t : Thread) (first : Option Piece) (vs : Variables) (fs : List Frame) → IsFirst t first vs fs → started first (kept_frames fs) ≡ [] → fs ≡ []
+pub frames-idle : (t : Thread) (first : Option Piece) (vs : Variables) (fs : List Frame) → IsFirst t first vs fs
+    → started first (kept_frames fs) ≡ [] → fs ≡ []
 frames-idle t None vs fs h none = first-frame t fs h.fits
 frames-idle t (Some q) vs fs h none = absurd (cc)

@@ -14,7 +14,12 @@ use Rattle.ceil_runtime.specs.declared.effects.Act.{Act}
 use Rattle.ceil_runtime.specs.declared.effects.Act.TheVariants.{Silent, Print, Ask, Keep, Open, Ended, Finish}
 
 pub going-starts : (costs : Costs) (vars : Variables) (ps : List Piece) (t : Task)
-    → going costs vars ps t ≡ record t { vars = vars; pieces = ps; left = first_ticks costs (slice_get t.thread.durations t.works) ps; works = t.works + first_works ps }
+    → going costs vars ps t ≡ record t {
+      vars = vars;
+      pieces = ps;
+      left = first_ticks costs (slice_get t.thread.durations t.works) ps;
+      works = t.works + first_works ps;
+    }
 going-starts costs vars [] t = ap (λ w. record t { vars = vars; pieces = []; left = 0; works = w }) (sym (add-zero t.works))
 going-starts costs vars (p ∷ ps) t = refl
 
@@ -33,7 +38,8 @@ goes-given (Open task) vs now other = refl
 goes-given (Ended task v) vs now other = refl
 goes-given Finish vs now other = absurd (other refl)
 
-pub goes-done : (act : Act) (costs : Costs) (vs : Variables) (ps : List Piece) (t : Task) → (act ≡ Finish → ⊥) → done_by act costs vs ps t ≡ going costs vs ps t
+pub goes-done : (act : Act) (costs : Costs) (vs : Variables) (ps : List Piece) (t : Task) → (act ≡ Finish → ⊥)
+    → done_by act costs vs ps t ≡ going costs vs ps t
 goes-done Silent costs vs ps t other = refl
 goes-done (Print v) costs vs ps t other = refl
 goes-done (Ask task) costs vs ps t other = refl

@@ -61,7 +61,8 @@ module _ (tasks : List Task) (i : ℕ) (t : Task) (here : slice_get tasks i ≡ 
       by_piece : (o : Option piece.Piece) → t.progress.piece ≡ o → IsDue tasks i o
       by_piece None is = λ u there. inl (ap (λ (v : Task). v.progress.piece) (sym (same_task u there)) ∙ is)
       by_piece (Some p) is =
-          λ u there. subst (λ (v : Task). (v.progress.piece ≡ Some p) × (is_ready v.readiness ≡ true) × (v.left ≡ 0)) (same_task u there) (is, piece-ready t p is, used)
+          λ u there. subst (λ (v : Task). (v.progress.piece ≡ Some p) × (is_ready v.readiness ≡ true)
+          × (v.left ≡ 0)) (same_task u there) (is, piece-ready t p is, used)
 
   pub due-else : (t.left ≡ 0 → ⊥) → IsDue tasks i None
   due-else some = λ u there. inr (λ none. some (ap (λ (v : Task). v.left) (same_task u there) ∙ none))

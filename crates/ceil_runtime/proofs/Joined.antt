@@ -1,5 +1,6 @@
 -- Durations of a task, joined from the lists that are handed in for it.
-use Rattle.std.specs.Prelude.{◌≡◌, ℕ, zero, suc, ◌+◌, ◌<◌, ◌≤◌, Bool, true, false, ◌||◌, ◌==◌, ◌++◌, List, [], ◌∷◌, length, drop, get_or, Some, slice_get, refl}
+use Rattle.std.specs.Prelude.{◌≡◌, ℕ, zero, suc, ◌+◌, ◌<◌, ◌≤◌, Bool, true, false, ◌||◌, ◌==◌, ◌++◌, List, [], ◌∷◌, length, drop, get_or, Some}
+use Rattle.std.specs.Prelude.{slice_get, refl}
 use Rattle.std.proofs.Common.{sym, ◌∙◌, ap, subst, arith, drop-cons, add-one, append_assoc, append-nil}
 use Rattle.std.proofs.Math.ListN.{drop_of_length-le}
 use Rattle.std.proofs.lemmas.Bool.Decides.{nat_tests}
@@ -26,18 +27,21 @@ other-list w n other = rw other refl
 pub own-list : (w : WorkList) (n : ℕ) → (w.task == n) ≡ true → durations (handed (w ∷ [])) n ≡ w.ticks.items
 own-list w n own = rw own (append-nil w.ticks.items)
 
-durations-cons : (w : WorkList) (ws : List WorkList) (n : ℕ) → durations (handed (w ∷ ws)) n ≡ durations (handed (w ∷ [])) n ++ durations (handed ws) n
+durations-cons : (w : WorkList) (ws : List WorkList) (n : ℕ) → durations (handed (w ∷ ws)) n
+    ≡ durations (handed (w ∷ [])) n ++ durations (handed ws) n
 durations-cons w ws n = by_test (w.task == n) refl
   where
     by_test : (b : Bool) → (w.task == n) ≡ b → durations (handed (w ∷ ws)) n ≡ durations (handed (w ∷ [])) n ++ durations (handed ws) n
     by_test true e = rw e (ap (λ xs. xs ++ durations (handed ws) n) (sym (append-nil w.ticks.items)))
     by_test false e = rw e refl
 
-pub joined-more : (ws : List WorkList) (i n : ℕ) (w : WorkList) (ts ts' all : List ℕ) → i < length ws → w ≡ get_or ws i w → ts' ≡ ts ++ durations (handed (w ∷ [])) n
+pub joined-more : (ws : List WorkList) (i n : ℕ) (w : WorkList) (ts ts' all : List ℕ) → i < length ws → w ≡ get_or ws i w
+    → ts' ≡ ts ++ durations (handed (w ∷ [])) n
     → ts ++ durations (handed (drop i ws)) n ≡ all → ts' ++ durations (handed (drop (i + 1) ws)) n ≡ all
 joined-more ws i n w ts ts' all h is more so_far =
     let here : drop i ws ≡ w ∷ drop (i + 1) ws = rw (drop-cons ws i w h, add-one) (ap (λ v. v ∷ drop (suc i) ws) (sym is)) in
-    ap (λ xs. xs ++ durations (handed (drop (i + 1) ws)) n) more ∙ append_assoc ts (durations (handed (w ∷ [])) n) (durations (handed (drop (i + 1) ws)) n)
+    ap (λ xs. xs ++ durations (handed (drop (i + 1) ws)) n) more ∙ append_assoc ts (durations (handed (w ∷ [])) n)
+    (durations (handed (drop (i + 1) ws)) n)
     ∙ ap (λ xs. ts ++ xs) (sym (durations-cons w (drop (i + 1) ws) n) ∙ ap (λ vs. durations (handed vs) n) (sym here)) ∙ so_far
 
 pub joined-all : (ws : List WorkList) (i n : ℕ) (ts all : List ℕ) → length ws ≤ i → ts ++ durations (handed (drop i ws)) n ≡ all → ts ≡ all

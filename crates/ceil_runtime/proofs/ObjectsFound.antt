@@ -1,5 +1,6 @@
 -- The protected objects that are found among units, one unit after another.
-use Rattle.std.specs.Prelude.{◌≡◌, ℕ, ◌+◌, ◌<◌, ◌≤◌, ◌++◌, List, [], ◌∷◌, drop, length, map, take, Some, None, option_map, option_to_list, get_or, refl}
+use Rattle.std.specs.Prelude.{◌≡◌, ℕ, ◌+◌, ◌<◌, ◌≤◌, ◌++◌, List, [], ◌∷◌, drop, length, map, take, Some, None, option_map, option_to_list}
+use Rattle.std.specs.Prelude.{get_or, refl}
 use Rattle.std.proofs.Common.{sym, ◌∙◌, ap, arith, append_assoc, append-nil}
 use Rattle.std.proofs.lemmas.List.{length_push, map-append}
 use Rattle.std.proofs.Math.ListN.{drop_of_length-le}
@@ -22,22 +23,28 @@ data-names [] = refl
 data-names (w ∷ ws) = ap (λ ns. w.name ∷ ns) (data-names ws)
 
 -- what a unit of this form adds
-pub adds-object : (place : ℕ) (u : units.Unit) (f : forms.Form) (os os' : List Object) (o : Object) → u.form ≡ f → Some (shown o) ≡ option_map first_object (object_by place u.name (form_of f)) → os' ≡ os ++ o ∷ [] → AddsObject place u os os'
+pub adds-object : (place : ℕ) (u : units.Unit) (f : forms.Form) (os os' : List Object) (o : Object) → u.form ≡ f
+    → Some (shown o) ≡ option_map first_object (object_by place u.name (form_of f)) → os' ≡ os ++ o ∷ [] → AddsObject place u os os'
 adds-object place u f os os' o is adds pushed = record {
-  shows = ap (map shown) pushed ∙ map-append shown os (o ∷ []) ∙ ap (λ x. map shown os ++ option_to_list x) (adds ∙ ap (λ g. option_map first_object (object_by place u.name (form_of g))) (sym is));
+  shows = ap (map shown) pushed ∙ map-append shown os (o ∷ []) ∙ ap (λ x. map shown os
+      ++ option_to_list x) (adds ∙ ap (λ g. option_map first_object (object_by place u.name (form_of g))) (sym is));
   few = let longer = ap length pushed ∙ length_push os o in omega (arith, longer);
 }
 
-pub adds-nothing : (place : ℕ) (u : units.Unit) (f : forms.Form) (os : List Object) → u.form ≡ f → object_by place u.name (form_of f) ≡ None → AddsObject place u os os
+pub adds-nothing : (place : ℕ) (u : units.Unit) (f : forms.Form) (os : List Object) → u.form ≡ f → object_by place u.name (form_of f) ≡ None
+    → AddsObject place u os os
 adds-nothing place u f os is none = record {
-  shows = sym (append-nil (map shown os)) ∙ ap (λ x. map shown os ++ option_to_list (option_map first_object x)) (sym none ∙ ap (λ g. object_by place u.name (form_of g)) (sym is));
+  shows = sym (append-nil (map shown os)) ∙ ap (λ x. map shown os ++ option_to_list (option_map first_object x)) (sym none ∙ ap
+      (λ g. object_by place u.name (form_of g)) (sym is));
   few = omega arith;
 }
 
-objects-cons : (n : ℕ) (u : Unit) (us : List Unit) → map first_object (objects_from n (u ∷ us)) ≡ option_to_list (option_map first_object (object_by n u.name u.form)) ++ map first_object (objects_from (n + 1) us)
+objects-cons : (n : ℕ) (u : Unit) (us : List Unit) → map first_object (objects_from n (u ∷ us))
+    ≡ option_to_list (option_map first_object (object_by n u.name u.form)) ++ map first_object (objects_from (n + 1) us)
 objects-cons n u us = by_form u.form
   where
-    by_form : (f : Form) → map first_object (objects_from n (record { name = u.name; form = f } ∷ us)) ≡ option_to_list (option_map first_object (object_by n u.name f)) ++ map first_object (objects_from (n + 1) us)
+    by_form : (f : Form) → map first_object (objects_from n (record { name = u.name; form = f } ∷ us))
+        ≡ option_to_list (option_map first_object (object_by n u.name f)) ++ map first_object (objects_from (n + 1) us)
     by_form (Passive ops) = refl
     by_form (Shared ceiling vars ops) = refl
     by_form (Cyclic priority offset period vars block) = refl
@@ -47,16 +54,22 @@ objects-cons n u us = by_form u.form
 abbrev pub AreFound : List units.Unit → ℕ → List Object → Type 0
 AreFound us n os = map shown os ++ map first_object (objects_from n (map unit_of (drop n us))) ≡ map first_object (objects_from 0 (map unit_of us))
 
-pub found-more : (us : List units.Unit) (n : ℕ) (u : units.Unit) → n < length us → u ≡ get_or us n u → (os os' : List Object) → AddsObject n u os os' → AreFound us n os → AreFound us (n + 1) os'
+pub found-more : (us : List units.Unit) (n : ℕ) (u : units.Unit) → n < length us → u ≡ get_or us n u → (os os' : List Object) → AddsObject n u os os'
+    → AreFound us n os → AreFound us (n + 1) os'
 found-more us n u h is os os' a so_far =
     let rest : List ObjectShown = map first_object (objects_from (n + 1) (map unit_of (drop (n + 1) us))) in
-    let here : map unit_of (drop n us) ≡ unit_of u ∷ map unit_of (drop (n + 1) us) = units-at us n u h ∙ ap (λ v. unit_of v ∷ map unit_of (drop (n + 1) us)) (sym is) in
-    ap (λ xs. xs ++ rest) a.shows ∙ append_assoc (map shown os) (option_to_list (option_map first_object (object_by n (unit_of u).name (unit_of u).form))) rest
-    ∙ ap (λ xs. map shown os ++ xs) (sym (objects-cons n (unit_of u) (map unit_of (drop (n + 1) us))) ∙ ap (λ xs. map first_object (objects_from n xs)) (sym here)) ∙ so_far
+    let here : map unit_of (drop n us) ≡ unit_of u ∷ map unit_of (drop (n + 1) us)
+    = units-at us n u h ∙ ap (λ v. unit_of v ∷ map unit_of (drop (n + 1) us)) (sym is) in
+    ap (λ xs. xs ++ rest) a.shows ∙ append_assoc (map shown os)
+    (option_to_list (option_map first_object (object_by n (unit_of u).name (unit_of u).form))) rest
+    ∙ ap (λ xs. map shown os ++ xs) (sym (objects-cons n (unit_of u) (map unit_of (drop (n + 1) us))) ∙ ap
+    (λ xs. map first_object (objects_from n xs)) (sym here)) ∙ so_far
 
-pub found-all : (us : List units.Unit) (n : ℕ) (os : List Object) → length us ≤ n → AreFound us n os → map shown os ≡ map first_object (objects_from 0 (map unit_of us))
+pub found-all : (us : List units.Unit) (n : ℕ) (os : List Object) → length us ≤ n → AreFound us n os
+    → map shown os ≡ map first_object (objects_from 0 (map unit_of us))
 found-all us n os past so_far =
-    sym (append-nil (map shown os)) ∙ ap (λ xs. map shown os ++ map first_object (objects_from n (map unit_of xs))) (sym (drop_of_length-le us past)) ∙ so_far
+    sym (append-nil (map shown os)) ∙ ap (λ xs. map shown os ++ map first_object (objects_from n (map unit_of xs)))
+    (sym (drop_of_length-le us past)) ∙ so_far
 
 -- the data of objects that are found are those that are written
 pub found-stores : (os : List Object) (gs : List ProtectedUnit) → map shown os ≡ map first_object gs → map store_of os ≡ map (λ g. written g.vars) gs

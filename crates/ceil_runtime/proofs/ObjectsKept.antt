@@ -22,10 +22,12 @@ twice g f [] = refl
 twice g f (x ∷ xs) = ap (λ ys. g (f x) ∷ ys) (twice g f xs)
 
 -- at the opening
-pub opened-objects : (us : List units.Unit) (os : List Object) → map shown os ≡ map first_object (objects_from 0 (map unit_of us)) → AreObjectsOf us os
+pub opened-objects : (us : List units.Unit) (os : List Object) → map shown os ≡ map first_object (objects_from 0 (map unit_of us))
+    → AreObjectsOf us os
 opened-objects us os same = sym (twice lasting shown os) ∙ ap (map lasting) same ∙ twice lasting first_object (objects_from 0 (map unit_of us))
 
-same_set : {B : Type 0} (f : Object → B) (os : List Object) (k : ℕ) (o o' : Object) → slice_get os k ≡ Some o → f o' ≡ f o → map f (set os k o') ≡ map f os
+same_set : {B : Type 0} (f : Object → B) (os : List Object) (k : ℕ) (o o' : Object) → slice_get os k ≡ Some o → f o' ≡ f o
+    → map f (set os k o') ≡ map f os
 same_set f [] k o o' here same = refl
 same_set f (x ∷ xs) zero o o' here same = ap (λ y. y ∷ map f xs) (same ∙ ap f (sym (one here)))
   where
@@ -34,7 +36,8 @@ same_set f (x ∷ xs) zero o o' here same = ap (λ y. y ∷ map f xs) (same ∙ 
 same_set f (x ∷ xs) (suc k) o o' here same = ap (λ ys. f x ∷ ys) (same_set f xs k o o' here same)
 
 -- with other data of one of them
-pub changed-objects : (us : List units.Unit) (os : List Object) (k : ℕ) (o o' : Object) → slice_get os k ≡ Some o → lasting (shown o') ≡ lasting (shown o) → AreObjectsOf us os → AreObjectsOf us (set os k o')
+pub changed-objects : (us : List units.Unit) (os : List Object) (k : ℕ) (o o' : Object) → slice_get os k ≡ Some o
+    → lasting (shown o') ≡ lasting (shown o) → AreObjectsOf us os → AreObjectsOf us (set os k o')
 changed-objects us os k o o' here same known = same_set (λ x. lasting (shown x)) os k o o' here same ∙ known
 
 -- their data are kept beside
@@ -49,7 +52,8 @@ pub record IsAt (os : List Object) (k : ℕ) (g : ProtectedUnit) : Type 0 where
   pub here : slice_get os k ≡ Some object
   pub shows : lasting (shown object) ≡ lasting (first_object g)
 
-pub object-at : (us : List units.Unit) (os : List Object) → AreObjectsOf us os → (k : ℕ) (g : ProtectedUnit) → slice_get (objects_from 0 (map unit_of us)) k ≡ Some g → IsAt os k g
+pub object-at : (us : List units.Unit) (os : List Object) → AreObjectsOf us os → (k : ℕ) (g : ProtectedUnit)
+    → slice_get (objects_from 0 (map unit_of us)) k ≡ Some g → IsAt os k g
 object-at us os known k g at = by_place (slice_get os k) refl
   where
     both : option_map (λ o. lasting (shown o)) (slice_get os k) ≡ Some (lasting (first_object g))
@@ -93,7 +97,8 @@ entered-by y e of = by_place (slice_get y.objects e.object) refl
         one k = cc
 
 -- its unit and its ceiling
-module _ (until : ℕ) (costs : Costs) (us : List units.Unit) (tasks : List Task) (k : ℕ) (g : ProtectedUnit) (at : slice_get (objects_from 0 (map unit_of us)) k ≡ Some g) (o : Object) (shows : lasting (shown o) ≡ lasting (first_object g)) where
+module _ (until : ℕ) (costs : Costs) (us : List units.Unit) (tasks : List Task) (k : ℕ) (g : ProtectedUnit)
+    (at : slice_get (objects_from 0 (map unit_of us)) k ≡ Some g) (o : Object) (shows : lasting (shown o) ≡ lasting (first_object g)) where
   pub entered-unit : object_unit (system_by until costs us tasks) k ≡ o.unit
   entered-unit = ap (λ x. unwrap_or (option_map (λ h. h.unit) x) 0) at ∙ ap (λ x. x.unit) (sym shows)
 

@@ -1,5 +1,6 @@
 -- A processor after one of its tasks has changed, and after ticks were used.
-use Rattle.std.specs.Prelude.{◌≡◌, ◌⊎◌, ℕ, zero, suc, ◌+◌, ◌-◌, ◌*◌, ◌<◌, ◌≤◌, Bool, true, false, ◌==◌, ◌++◌, if◌then◌else◌, List, [], ◌∷◌, drop, length, map, set, Option, Some, None, option_map, slice_get, refl}
+use Rattle.std.specs.Prelude.{◌≡◌, ◌⊎◌, ℕ, zero, suc, ◌+◌, ◌-◌, ◌*◌, ◌<◌, ◌≤◌, Bool, true, false, ◌==◌, ◌++◌, if◌then◌else◌, List, [], ◌∷◌, drop}
+use Rattle.std.specs.Prelude.{length, map, set, Option, Some, None, option_map, slice_get, refl}
 use Rattle.std.proofs.Common.{sym, ◌∙◌, ap, subst, arith, inl, inr, length-set, append-nil}
 use Rattle.std.proofs.lemmas.Option.{same_Some, slice_get-map, slice_get_within}
 use Rattle.std.proofs.lemmas.Bool.Decides.{nat_tests}
@@ -48,7 +49,8 @@ pub get_within : (i : ℕ) (tasks : List Task) (t : Task) → slice_get tasks i 
 get_within i tasks t at = slice_get_within tasks i t at
 
 -- some steps lead from here to there
-pub follows-run : (y : System) (n : ℕ) (s s' : states.State) (told : List Event) → run y n s ≡ (s', told) → (rest : List Event) → Rest y s' rest → Rest y s (told ++ rest)
+pub follows-run : (y : System) (n : ℕ) (s s' : states.State) (told : List Event) → run y n s ≡ (s', told) → (rest : List Event) → Rest y s' rest
+    → Rest y s (told ++ rest)
 follows-run y n s s' told runs rest r =
     let P : Next → Type 0 = λ z. Rest y z.0 rest → Rest y s (z.1 ++ rest) in
     subst P runs (Rest-after y n s rest) r
@@ -58,7 +60,8 @@ pub follows-of : (y y' : System) (n : ℕ) (s s' s'' t : states.State) (told : L
     → Follows (record { system = y; state = s }) told (record { system = y'; state = t })
 follows-of y y' n s s' s'' t told before runs after same = record {
   system = same;
-  tells = λ rest r. subst (λ (z : states.State). Rest y z (told ++ rest)) (sym before) (follows-run y n s' s'' told runs rest (subst (λ (z : states.State). Rest y z rest) (sym after) r));
+  tells = λ rest r. subst (λ (z : states.State). Rest y z (told ++ rest)) (sym before) (follows-run y n s' s'' told runs rest
+      (subst (λ (z : states.State). Rest y z rest) (sym after) r));
 }
 
 -- one task has changed
@@ -68,7 +71,8 @@ pub record Changed (tasks tasks' : List Task) (i : ℕ) (t t' : Task) (f : state
   pub does : task_of t' ≡ f (task_of t)
   pub thread : t'.progress.stack.thread ≡ t.progress.stack.thread
 
-map-set : (tasks : List Task) (i : ℕ) (t t' : Task) (f : states.Task → states.Task) → slice_get tasks i ≡ Some t → task_of t' ≡ f (task_of t) → map task_of (set tasks i t') ≡ change i f (map task_of tasks)
+map-set : (tasks : List Task) (i : ℕ) (t t' : Task) (f : states.Task → states.Task) → slice_get tasks i ≡ Some t → task_of t' ≡ f (task_of t)
+    → map task_of (set tasks i t') ≡ change i f (map task_of tasks)
 map-set [] i t t' f here does = refl
 map-set (u ∷ us) zero t t' f here does = ap (λ v. v ∷ map task_of us) (does ∙ ap (λ w. f (task_of w)) (sym (some_same here)))
   where
@@ -79,13 +83,15 @@ map-set (u ∷ us) (suc i) t t' f here does = ap (λ vs. task_of u ∷ vs) (map-
 threads-set : (tasks : List Task) (i : ℕ) (t t' : Task) → slice_get tasks i ≡ Some t → t'.progress.stack.thread ≡ t.progress.stack.thread
     → map (λ u. thread_of u.progress.stack.thread) (set tasks i t') ≡ map (λ u. thread_of u.progress.stack.thread) tasks
 threads-set [] i t t' here same = refl
-threads-set (u ∷ us) zero t t' here same = ap (λ v. v ∷ map (λ u. thread_of u.progress.stack.thread) us) (ap thread_of same ∙ ap (λ w. thread_of w.progress.stack.thread) (sym (some_same here)))
+threads-set (u ∷ us) zero t t' here same = ap (λ v. v ∷ map (λ u. thread_of u.progress.stack.thread) us)
+    (ap thread_of same ∙ ap (λ w. thread_of w.progress.stack.thread) (sym (some_same here)))
   where
     some_same : Some u ≡ Some t → u ≡ t
     some_same k = cc
 threads-set (u ∷ us) (suc i) t t' here same = ap (λ vs. thread_of u.progress.stack.thread ∷ vs) (threads-set us i t t' here same)
 
-all-set : (P Q : Task → Type 0) (tasks : List Task) (i : ℕ) (t' : Task) → AllTasks P tasks → ((u : Task) → P u → Q u) → Q t' → AllTasks Q (set tasks i t')
+all-set : (P Q : Task → Type 0) (tasks : List Task) (i : ℕ) (t' : Task) → AllTasks P tasks → ((u : Task) → P u → Q u) → Q t'
+    → AllTasks Q (set tasks i t')
 all-set P Q [] i t' all f q = λ j u at. absurd (none at)
   where
     none : {u : Task} → None ≡ Some u → ⊥
@@ -135,12 +141,20 @@ module _ (tasks tasks' : List Task) (i : ℕ) (t t' : Task) (f : states.Task →
   here-of = slice_get-map task_of tasks i ∙ ap (option_map task_of) c.here
 
 -- the calls of each task lead to the same in what runs
-pub runs-alike : (until : ℕ) (costs : Costs) (us : List units.Unit) (tasks : List Task) → AreAlike us tasks → AllTasks (λ t. CallsAlike (system_by until costs us tasks) (system_of t.progress.stack.thread)) tasks
+pub runs-alike : (until : ℕ) (costs : Costs) (us : List units.Unit) (tasks : List Task) → AreAlike us tasks
+    → AllTasks (λ t. CallsAlike (system_by until costs us tasks) (system_of t.progress.stack.thread)) tasks
 runs-alike until costs us tasks alike = λ i t at. subst (CallsAlike (system_by until costs us tasks)) (sym (alike i t at)) (λ unit op. refl)
 
 -- what is kept goes on as time passes
 pub kept-later : (until time later : ℕ) (us : List units.Unit) (t : Task) → time ≤ later → IsKept until time us t → IsKept until later us t
-kept-later until time later us t le k = record { used = omega (arith, k.used); works = omega (arith, k.works); next = k.next; units = k.units; idle = k.idle; nested = k.nested }
+kept-later until time later us t le k = record {
+  used = omega (arith, k.used);
+  works = omega (arith, k.works);
+  next = k.next;
+  units = k.units;
+  idle = k.idle;
+  nested = k.nested;
+}
 
 -- what was put at a place
 pub get-put : (tasks : List Task) (i : ℕ) (t : Task) → i < length tasks → slice_get (set tasks i t) i ≡ Some t
@@ -152,9 +166,12 @@ get-put (v ∷ vs) zero t h = refl
 get-put (v ∷ vs) (suc i) t h = get-put vs i t (omega arith)
 
 -- the ticks ahead are quiet
-module _ (stores : List Variables) (arrivals : List Arrival) (until time : ℕ) (costs : Costs) (us : List units.Unit) (ran : Option ℕ) (tasks : List Task) (q : Queues) (sound : IsSound until time Use ran us tasks q) (ticks : ℕ)
-    (some : 0 < ticks) (horizon : time + ticks ≤ until) (wake : Each (λ e. time + ticks ≤ e.1) q.asleep) (none_arrives : (j : ℕ) → j < ticks - 1 → NoArrival (time + suc j) arrivals) where
-  quiet : (j : ℕ) → j < ticks - 1 → IsQuiet (system_by until costs us tasks) (state_by stores arrivals time Use ran false tasks q.ready) (time + suc j)
+module _ (stores : List Variables) (arrivals : List Arrival) (until time : ℕ) (costs : Costs) (us : List units.Unit) (ran : Option ℕ)
+    (tasks : List Task) (q : Queues) (sound : IsSound until time Use ran us tasks q) (ticks : ℕ)
+    (some : 0 < ticks) (horizon : time + ticks ≤ until) (wake : Each (λ e. time + ticks ≤ e.1) q.asleep) (none_arrives : (j : ℕ) → j < ticks - 1
+    → NoArrival (time + suc j) arrivals) where
+  quiet : (j : ℕ) → j < ticks - 1 → IsQuiet (system_by until costs us tasks) (state_by stores arrivals time Use ran false tasks q.ready)
+      (time + suc j)
   quiet j h = record {
     no_sleeper = none-due (map task_of tasks) time q.asleep sound.sleeping (time + suc j) (omega arith) (λ e at. first q.asleep wake e at);
     no_arrival = none_arrives j h;
@@ -166,7 +183,8 @@ module _ (stores : List Variables) (arrivals : List Arrival) (until time : ℕ) 
         where
           none : None ≡ Some e → ⊥
           none k = cc
-      first (x ∷ xs) all e at = let same : x ≡ e = some_same at in let later : time + ticks ≤ e.1 = subst (λ (z : Entry). time + ticks ≤ z.1) same all.0 in omega arith
+      first (x ∷ xs) all e at = let same : x ≡ e = some_same at in let later : time + ticks ≤ e.1
+          = subst (λ (z : Entry). time + ticks ≤ z.1) same all.0 in omega arith
         where
           some_same : Some x ≡ Some e → x ≡ e
           some_same k = cc
@@ -175,23 +193,30 @@ module _ (stores : List Variables) (arrivals : List Arrival) (until time : ℕ) 
       not_yet a b k = grind (arith, nat_tests)
 
   -- what the ticks come to
-  pub ticks-run : (o : Option ℕ) → dispatched (map task_of tasks) (places (length tasks) q.ready) ≡ o → (ticks ≡ 1) ⊎ HasTicks (map task_of tasks) ticks o
-      → run (system_by until costs us tasks) (4 * (ticks - 1) + 1) (state_by stores arrivals time Use ran false tasks q.ready) ≡ (ticks_later o ticks (state_by stores arrivals time Use ran false tasks q.ready), [])
+  pub ticks-run : (o : Option ℕ) → dispatched (map task_of tasks) (places (length tasks) q.ready) ≡ o
+      → (ticks ≡ 1) ⊎ HasTicks (map task_of tasks) ticks o
+      → run (system_by until costs us tasks) (4 * (ticks - 1) + 1) (state_by stores arrivals time Use ran false tasks q.ready)
+      ≡ (ticks_later o ticks (state_by stores arrivals time Use ran false tasks q.ready), [])
   ticks-run o first has =
       let s : states.State = state_by stores arrivals time Use ran false tasks q.ready in
       let n_is : suc (ticks - 1) ≡ ticks = omega arith in
       let runs : run (system_by until costs us tasks) (4 * (ticks - 1) + 1) s ≡ (ticks_later (dispatched s.tasks s.orders) (suc (ticks - 1)) s, []) =
       ticks_or_one (system_by until costs us tasks) (ticks - 1) s refl refl (by_ticks has) quiet in
-      runs ∙ ap (λ n. let next : Next = (ticks_later (dispatched s.tasks s.orders) n s, []) in next) n_is ∙ ap (λ d. let next : Next = (ticks_later d ticks s, []) in next) first
+      runs ∙ ap (λ n. let next : Next = (ticks_later (dispatched s.tasks s.orders) n s, [])
+      in next) n_is ∙ ap (λ d. let next : Next = (ticks_later d ticks s, []) in next) first
     where
-      by_ticks : (ticks ≡ 1) ⊎ HasTicks (map task_of tasks) ticks o → (ticks - 1 ≡ 0) ⊎ HasTicks (map task_of tasks) (suc (ticks - 1)) (dispatched (map task_of tasks) (places (length tasks) q.ready))
+      by_ticks : (ticks ≡ 1) ⊎ HasTicks (map task_of tasks) ticks o → (ticks - 1 ≡ 0)
+          ⊎ HasTicks (map task_of tasks) (suc (ticks - 1)) (dispatched (map task_of tasks) (places (length tasks) q.ready))
       by_ticks (inl one) = inl (omega arith)
-      by_ticks (inr h) = inr (subst (λ (n : ℕ). HasTicks (map task_of tasks) n (dispatched (map task_of tasks) (places (length tasks) q.ready))) (omega arith) (subst (HasTicks (map task_of tasks) ticks) (sym first) h))
+      by_ticks (inr h) = inr (subst (λ (n : ℕ). HasTicks (map task_of tasks) n (dispatched (map task_of tasks) (places (length tasks) q.ready)))
+          (omega arith) (subst (HasTicks (map task_of tasks) ticks) (sym first) h))
 
   -- without a ready task
   pub idle-run : slice_get q.ready 0 ≡ None
-      → run (system_by until costs us tasks) (4 * (ticks - 1) + 1) (state_by stores arrivals time Use ran false tasks q.ready) ≡ (state_by stores arrivals (time + ticks) (Effects None) None false tasks q.ready, [])
-  idle-run none = ticks-run None (dispatched-head (map task_of tasks) (places (length tasks) q.ready) q.ready sound.queued ∙ ap (option_map (λ e. e.0)) none) (inr tt)
+      → run (system_by until costs us tasks) (4 * (ticks - 1) + 1) (state_by stores arrivals time Use ran false tasks q.ready)
+      ≡ (state_by stores arrivals (time + ticks) (Effects None) None false tasks q.ready, [])
+  idle-run none = ticks-run None (dispatched-head (map task_of tasks) (places (length tasks) q.ready) q.ready sound.queued ∙ ap
+      (option_map (λ e. e.0)) none) (inr tt)
 
   pub idle-sound : IsSound until (time + ticks) (Effects None) None us tasks q
   idle-sound = record {
@@ -207,12 +232,15 @@ module _ (stores : List Variables) (arrivals : List Arrival) (until time : ℕ) 
   }
 
   -- the first ready task
-  module _ (task level : ℕ) (tasks' : List Task) (t t' : Task) (c : Changed tasks tasks' task t t' (used_ticks ticks)) (first : ◌≡◌ {A = Option Entry} (slice_get q.ready 0) (Some (task, level))) (within : IsWithin tasks q.ready ticks)
-      (left : t'.left ≡ t.left - ticks) (used : t'.used ≡ t.used + ticks) (works : t'.works ≡ t.works) (next : t'.next ≡ t.next) (ready : t'.readiness ≡ t.readiness) where
+  module _ (task level : ℕ) (tasks' : List Task) (t t' : Task) (c : Changed tasks tasks' task t t' (used_ticks ticks))
+      (first : ◌≡◌ {A = Option Entry} (slice_get q.ready 0) (Some (task, level))) (within : IsWithin tasks q.ready ticks)
+      (left : t'.left ≡ t.left - ticks) (used : t'.used ≡ t.used + ticks) (works : t'.works ≡ t.works) (next : t'.next ≡ t.next) (ready : t'.readiness
+      ≡ t.readiness) where
     has : (ticks ≡ 1) ⊎ HasTicks (map task_of tasks) ticks (Some task)
     has = by_ready q.ready first within
       where
-        by_ready : (ready : List Entry) → ◌≡◌ {A = Option Entry} (slice_get ready 0) (Some (task, level)) → IsWithin tasks ready ticks → (ticks ≡ 1) ⊎ HasTicks (map task_of tasks) ticks (Some task)
+        by_ready : (ready : List Entry) → ◌≡◌ {A = Option Entry} (slice_get ready 0) (Some (task, level)) → IsWithin tasks ready ticks
+            → (ticks ≡ 1) ⊎ HasTicks (map task_of tasks) ticks (Some task)
         by_ready [] none w = absurd (no_head none)
           where
             no_head : ◌≡◌ {A = Option Entry} None (Some (task, level)) → ⊥
@@ -238,28 +266,40 @@ module _ (stores : List Variables) (arrivals : List Arrival) (until time : ℕ) 
         ap (λ o. with_task task o (drop 1 q.ready)) (ap (λ ts. slice_get ts task) c.set_is ∙ get-put tasks task t' (get_within task tasks t c.here))
         ∙ by_ready q.ready first sound.queued
       where
-        by_ready : (ready : List Entry) → ◌≡◌ {A = Option Entry} (slice_get ready 0) (Some (task, level)) → AreQueued (map task_of tasks) (places (length tasks) q.ready) ready → at_head (task, (task_of t').active) (drop 1 ready) ≡ ready
+        by_ready : (ready : List Entry) → ◌≡◌ {A = Option Entry} (slice_get ready 0) (Some (task, level))
+            → AreQueued (map task_of tasks) (places (length tasks) q.ready) ready → at_head (task, (task_of t').active) (drop 1 ready) ≡ ready
         by_ready [] none w = absurd (no_head none)
           where
             no_head : ◌≡◌ {A = Option Entry} None (Some (task, level)) → ⊥
             no_head k = cc
         by_ready (e ∷ es) is w =
             let same : e.0 ≡ task = ap (first_or task) is in
-            let here : task_of t ≡ w.each.0.0 = same_Some (task_of t) w.each.0.0 (sym (here-of tasks tasks' task t t' (used_ticks ticks) c) ∙ ap (slice_get (map task_of tasks)) (sym same) ∙ w.each.0.1) in
+            let here : task_of t ≡ w.each.0.0
+            = same_Some (task_of t) w.each.0.0 (sym (here-of tasks tasks' task t t' (used_ticks ticks) c) ∙ ap (slice_get (map task_of tasks))
+            (sym same) ∙ w.each.0.1) in
             let active : (task_of t').active ≡ e.1 = ap (λ u. u.active) c.does ∙ ap (λ u. u.active) here ∙ w.each.0.3 in
-            ap (λ n. at_head (n, (task_of t').active) es) (sym same) ∙ ap (λ n. at_head (e.0, n) es) active ∙ running-taken (places (length tasks) q.ready) e es w.ordered
+            ap (λ n. at_head (n, (task_of t').active) es) (sym same) ∙ ap (λ n. at_head (e.0, n) es) active ∙ running-taken
+            (places (length tasks) q.ready) e es w.ordered
 
     pub use-run : run (system_by until costs us tasks) (4 * (ticks - 1) + 1) (state_by stores arrivals time Use ran false tasks q.ready)
         ≡ (state_by stores arrivals (time + ticks) (Effects (Some task)) (Some task) false tasks' (drop 1 q.ready), [])
     use-run =
         let view : List states.Task → ℕ → List Entry → Next =
-        λ ts n es. (record (state_by stores arrivals (time + ticks) (Effects None) (Some task) false tasks q.ready) { tasks = ts; orders = places n es }, []) in
-        ticks-run (Some task) (dispatched-head (map task_of tasks) (places (length tasks) q.ready) q.ready sound.queued ∙ ap (option_map (λ e. e.0)) first) has
+        λ ts n es. (
+          record (state_by stores arrivals (time + ticks) (Effects None) (Some task) false tasks q.ready) {
+            tasks = ts;
+            orders = places n es;
+          },
+          [],
+        ) in
+        ticks-run (Some task) (dispatched-head (map task_of tasks) (places (length tasks) q.ready) q.ready sound.queued ∙ ap
+        (option_map (λ e. e.0)) first) has
         ∙ ap (λ ts. view ts (length tasks) q.ready) (sym (changed-tasks tasks tasks' task t t' (used_ticks ticks) c))
         ∙ ap (λ n. view (map task_of tasks') n q.ready) (sym (changed-length tasks tasks' task t t' (used_ticks ticks) c))
         ∙ ap (view (map task_of tasks') (length tasks')) (sym use-order)
 
-    pub use-sound : (q' : Queues) → q' ≡ record q { ready = drop 1 q.ready } → IsSound until (time + ticks) (Effects (Some task)) (Some task) us tasks' q'
+    pub use-sound : (q' : Queues) → q' ≡ record q { ready = drop 1 q.ready }
+        → IsSound until (time + ticks) (Effects (Some task)) (Some task) us tasks' q'
     use-sound q' is = subst (IsSound until (time + ticks) (Effects (Some task)) (Some task) us tasks') (sym is) (record {
       size = sound.size ∙ sym len;
       queued = subst (λ (es : List Entry). AreQueued (map task_of tasks') (places (length tasks') es) es) (sym use-order)
@@ -298,7 +338,8 @@ module _ (stores : List Variables) (arrivals : List Arrival) (until time : ℕ) 
         }
 
 -- the first entry of a list, by its task
-pub first-entry : (ready : List Entry) (task : ℕ) → Some task ≡ option_map (λ (e : Entry). e.0) (slice_get ready 0) → (level : ℕ) × ◌≡◌ {A = Option Entry} (slice_get ready 0) (Some (task, level))
+pub first-entry : (ready : List Entry) (task : ℕ) → Some task ≡ option_map (λ (e : Entry). e.0) (slice_get ready 0)
+    → (level : ℕ) × ◌≡◌ {A = Option Entry} (slice_get ready 0) (Some (task, level))
 first-entry [] task is = absurd (none is)
   where
     none : Some task ≡ None → ⊥
@@ -316,7 +357,8 @@ no-entry (e ∷ es) is = absurd (none is)
     none k = cc
 
 -- a task of the ready list is one of the tasks
-pub ready-known : (tasks : List Task) (ready : List Entry) (task level : ℕ) → AreQueued (map task_of tasks) (places (length tasks) ready) ready → ◌≡◌ {A = Option Entry} (slice_get ready 0) (Some (task, level)) → task < length tasks
+pub ready-known : (tasks : List Task) (ready : List Entry) (task level : ℕ) → AreQueued (map task_of tasks) (places (length tasks) ready) ready
+    → ◌≡◌ {A = Option Entry} (slice_get ready 0) (Some (task, level)) → task < length tasks
 ready-known tasks [] task level q is = absurd (no_head is)
   where
     no_head : ◌≡◌ {A = Option Entry} None (Some (task, level)) → ⊥
@@ -331,11 +373,13 @@ pub step-run : (y : System) (s s' : states.State) (told : List Event) → step y
 step-run y s s' told e = ap (and_then (run y 0)) e ∙ ap (λ es. let next : Next = (s', es) in next) (append-nil told)
 
 -- runs that follow each other but for order numbers
-pub follows-renumbered : (y y' : System) (n : ℕ) (s s' s'' t : states.State) (told : List Event) → s ≡ s' → run y n s' ≡ (s'', told) → DifferInOrders s'' t → y' ≡ y
+pub follows-renumbered : (y y' : System) (n : ℕ) (s s' s'' t : states.State) (told : List Event) → s ≡ s' → run y n s' ≡ (s'', told)
+    → DifferInOrders s'' t → y' ≡ y
     → Follows (record { system = y; state = s }) told (record { system = y'; state = t })
 follows-renumbered y y' n s s' s'' t told before runs differ same = record {
   system = same;
-  tells = λ rest r. subst (λ (z : states.State). Rest y z (told ++ rest)) (sym before) (follows-run y n s' s'' told runs rest ((renumbered_tells y s'' t rest differ).1 r));
+  tells = λ rest r. subst (λ (z : states.State). Rest y z (told ++ rest)) (sym before) (follows-run y n s' s'' told runs rest
+      ((renumbered_tells y s'' t rest differ).1 r));
 }
 
 -- where none arrives now, the arrivals are over
@@ -344,12 +388,14 @@ none-arrives y [] s none = refl
 none-arrives y (a ∷ others) s none =
     ap (λ b. if b then arrive_at y a (first_where (λ t. t.thread.unit == a.task) s.tasks) (record s { arrivals = others }) else horizon_step y s) none
 
-pub arriving-goes : (y : System) (stores : List Variables) (arrivals : List Arrival) (time : ℕ) (ran : Option ℕ) (tasks : List Task) (ready : List Entry) → NoArrival time arrivals → (time ≡ y.until → ⊥)
+pub arriving-goes : (y : System) (stores : List Variables) (arrivals : List Arrival) (time : ℕ) (ran : Option ℕ) (tasks : List Task)
+    (ready : List Entry) → NoArrival time arrivals → (time ≡ y.until → ⊥)
     → run y 1 (state_by stores arrivals time Arriving ran false tasks ready) ≡ (state_by stores arrivals time Use ran false tasks ready, [])
 arriving-goes y stores arrivals time ran tasks ready none before =
     step-run y (state_by stores arrivals time Arriving ran false tasks ready) (state_by stores arrivals time Use ran false tasks ready) []
     (none-arrives y arrivals (state_by stores arrivals time Arriving ran false tasks ready) none
-    ∙ ap (λ b. if b then (record (state_by stores arrivals time Arriving ran false tasks ready) { stopped = true }, event.Horizon time ∷ []) else (state_by stores arrivals time Use ran false tasks ready, [])) (not_yet (time == y.until) refl))
+    ∙ ap (λ b. if b then (record (state_by stores arrivals time Arriving ran false tasks ready) { stopped = true }, event.Horizon time ∷ [])
+    else (state_by stores arrivals time Use ran false tasks ready, [])) (not_yet (time == y.until) refl))
   where
     not_yet : (b : Bool) → (time == y.until) ≡ b → b ≡ false
     not_yet true e = absurd (before (same time y.until e))
@@ -358,12 +404,16 @@ arriving-goes y stores arrivals time ran tasks ready none before =
         same m n h = grind (arith, nat_tests)
     not_yet false e = refl
 
-pub arriving-ends : (y : System) (stores : List Variables) (arrivals : List Arrival) (time : ℕ) (ran : Option ℕ) (tasks : List Task) (ready : List Entry) → NoArrival time arrivals → time ≡ y.until
-    → run y 1 (state_by stores arrivals time Arriving ran false tasks ready) ≡ (state_by stores arrivals time Arriving ran true tasks ready, event.Horizon time ∷ [])
+pub arriving-ends : (y : System) (stores : List Variables) (arrivals : List Arrival) (time : ℕ) (ran : Option ℕ) (tasks : List Task)
+    (ready : List Entry) → NoArrival time arrivals → time ≡ y.until
+    → run y 1 (state_by stores arrivals time Arriving ran false tasks ready)
+    ≡ (state_by stores arrivals time Arriving ran true tasks ready, event.Horizon time ∷ [])
 arriving-ends y stores arrivals time ran tasks ready none now =
-    step-run y (state_by stores arrivals time Arriving ran false tasks ready) (state_by stores arrivals time Arriving ran true tasks ready) (event.Horizon time ∷ [])
+    step-run y (state_by stores arrivals time Arriving ran false tasks ready) (state_by stores arrivals time Arriving ran true tasks ready)
+    (event.Horizon time ∷ [])
     (none-arrives y arrivals (state_by stores arrivals time Arriving ran false tasks ready) none
-    ∙ ap (λ b. if b then (record (state_by stores arrivals time Arriving ran false tasks ready) { stopped = true }, event.Horizon time ∷ []) else (state_by stores arrivals time Use ran false tasks ready, [])) (same time y.until now))
+    ∙ ap (λ b. if b then (record (state_by stores arrivals time Arriving ran false tasks ready) { stopped = true }, event.Horizon time ∷ [])
+    else (state_by stores arrivals time Use ran false tasks ready, [])) (same time y.until now))
   where
     same : (m n : ℕ) → m ≡ n → (m == n) ≡ true
     same m n h = grind (arith, nat_tests)

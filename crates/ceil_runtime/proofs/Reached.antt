@@ -1,5 +1,6 @@
 -- What a piece reaches, before its effect and in it.
-use Rattle.std.specs.Prelude.{◌≡◌, ℕ, suc, ◌+◌, ◌-◌, ◌<◌, ◌≤◌, min, vec_capacity, fold, List, [], ◌∷◌, length, map, Option, Some, None, option_map, slice_get, unwrap_or, refl}
+use Rattle.std.specs.Prelude.{◌≡◌, ℕ, suc, ◌+◌, ◌-◌, ◌<◌, ◌≤◌, min, vec_capacity, fold, List, [], ◌∷◌, length, map, Option, Some, None}
+use Rattle.std.specs.Prelude.{option_map, slice_get, unwrap_or, refl}
 use Rattle.std.proofs.Common.{ap, subst, ◌∙◌, sym, arith}
 use Rattle.std.proofs.lemmas.List.{length-map}
 use Rattle.std.proofs.lemmas.Option.{slice_get-map}
@@ -77,15 +78,19 @@ stays-asking y (is.Requested r) task h = absurd h
 stays-asking y is.Finishing task h = absurd h
 
 -- the act of a piece is as it reaches
-pub reached-act : (z : System) (costs : Costs) (t t' : states.Task) (d : Deed) (act : Act) → ActsAs z t d → Acts z costs t act t' → IsActOf d (act_of act)
-reached-act z costs t t' d act reaches a = subst (λ o. IsActOf d o.act) (a.does z (λ unit op. refl)) (reaches a.piece a.rest a.first z (λ unit op. refl))
+pub reached-act : (z : System) (costs : Costs) (t t' : states.Task) (d : Deed) (act : Act) → ActsAs z t d → Acts z costs t act t'
+    → IsActOf d (act_of act)
+reached-act z costs t t' d act reaches a = subst (λ o. IsActOf d o.act) (a.does z (λ unit op. refl))
+    (reaches a.piece a.rest a.first z (λ unit op. refl))
 
 -- a task that goes on, and then enters a section or leaves one
-pub inside-going : (section : Resource) (ceiling : ℕ) (costs : Costs) (vars : Variables) (ps : List pieces.Piece) (t : states.Task) → inside_now section ceiling (going costs vars ps t) ≡ going costs vars ps (inside_now section ceiling t)
+pub inside-going : (section : Resource) (ceiling : ℕ) (costs : Costs) (vars : Variables) (ps : List pieces.Piece) (t : states.Task)
+    → inside_now section ceiling (going costs vars ps t) ≡ going costs vars ps (inside_now section ceiling t)
 inside-going section ceiling costs vars [] t = refl
 inside-going section ceiling costs vars (p ∷ ps) t = refl
 
-pub outside-going : (costs : Costs) (vars : Variables) (ps : List pieces.Piece) (t : states.Task) → outside_now (going costs vars ps t) ≡ going costs vars ps (outside_now t)
+pub outside-going : (costs : Costs) (vars : Variables) (ps : List pieces.Piece) (t : states.Task)
+    → outside_now (going costs vars ps t) ≡ going costs vars ps (outside_now t)
 outside-going costs vars ps t = by_pieces ps
   where
     by_inside : (hs : List states.Held) (qs : List pieces.Piece) → outside_by hs (going costs vars qs t) ≡ going costs vars qs (outside_by hs t)
@@ -109,13 +114,15 @@ module _ (until : ℕ) (costs : Costs) (us : List units.Unit) (tasks : List Task
   asked-ceiling = ap (λ o. unwrap_or (option_map (λ t. ceiling_by t.timing) o) 0) thread_here
 
 -- a task that a piece concerns is one of the machine's
-pub among-tasks : (us : List units.Unit) (tasks : List Task) → AreAlike us tasks → (i : ℕ) (t : Task) → slice_get tasks i ≡ Some t → (k : ℕ) → k < length (system_of t.progress.stack.thread).threads → k < length tasks
+pub among-tasks : (us : List units.Unit) (tasks : List Task) → AreAlike us tasks → (i : ℕ) (t : Task) → slice_get tasks i ≡ Some t → (k : ℕ)
+    → k < length (system_of t.progress.stack.thread).threads → k < length tasks
 among-tasks us tasks alike i t at k h =
     let same = ap (λ y. length y.threads) (alike i t at) in
     omega (arith, h, same, length-map tasks (λ u. thread_of u.progress.stack.thread))
 
 -- a unit of a task is one of a task before, where the tasks are written the same
-pub unit-before : (tasks tasks' : List Task) → map (λ u. thread_of u.progress.stack.thread) tasks' ≡ map (λ u. thread_of u.progress.stack.thread) tasks → (k : ℕ) (u : Task) → slice_get tasks' k ≡ Some u
+pub unit-before : (tasks tasks' : List Task) → map (λ u. thread_of u.progress.stack.thread) tasks'
+    ≡ map (λ u. thread_of u.progress.stack.thread) tasks → (k : ℕ) (u : Task) → slice_get tasks' k ≡ Some u
     → HasUnit tasks u.progress.stack.thread.unit
 unit-before tasks tasks' same k u at = by_place (slice_get tasks k) refl
   where
@@ -129,9 +136,15 @@ unit-before tasks tasks' same k u at = by_place (slice_get tasks k) refl
       where
         none : None ≡ Some (thread_of u.progress.stack.thread) → ⊥
         none e = cc
-    by_place (Some w) is = record { place = k; task = w; here = is; is_unit = ap (λ h. h.unit) (sym (one (ap (option_map (λ v. thread_of v.progress.stack.thread)) (sym is) ∙ both))) }
+    by_place (Some w) is = record {
+      place = k;
+      task = w;
+      here = is;
+      is_unit = ap (λ h. h.unit) (sym (one (ap (option_map (λ v. thread_of v.progress.stack.thread)) (sym is) ∙ both)));
+    }
       where
-        one : Some (thread_of w.progress.stack.thread) ≡ Some (thread_of u.progress.stack.thread) → thread_of w.progress.stack.thread ≡ thread_of u.progress.stack.thread
+        one : Some (thread_of w.progress.stack.thread) ≡ Some (thread_of u.progress.stack.thread)
+            → thread_of w.progress.stack.thread ≡ thread_of u.progress.stack.thread
         one e = cc
 
 -- a task that leaves a section goes on with the same
@@ -159,18 +172,21 @@ module _ (t : Task) (t' t'' : Task) (section : Resource) (ceiling : ℕ) (does :
   inside-falls thread h = subst (EffortFalls thread (task_of t)) (sym does) h
 
 -- a task that goes on leaves as many sections still as it is inside
-pub nests-going : (t t' : Task) (costs : Costs) (vars : Variables) (ps : List pieces.Piece) → task_of t' ≡ going costs vars ps (task_of t) → sections_among (task_of t').pieces ≡ sections_among (task_of t).pieces
+pub nests-going : (t t' : Task) (costs : Costs) (vars : Variables) (ps : List pieces.Piece) → task_of t' ≡ going costs vars ps (task_of t)
+    → sections_among (task_of t').pieces ≡ sections_among (task_of t).pieces
     → IsNested (task_of t) → IsNested (task_of t')
 nests-going t t' costs vars ps does same h =
     let inside = ap (λ v. length v.inside) does ∙ ap length (going-inside costs vars ps (task_of t)) in
     omega (arith, h, inside, same)
 
-pub nests-ended : (t t' : Task) (vars : Variables) → task_of t' ≡ ended vars (task_of t) → sections_among (task_of t').pieces ≡ sections_among (task_of t).pieces → IsNested (task_of t) → IsNested (task_of t')
+pub nests-ended : (t t' : Task) (vars : Variables) → task_of t' ≡ ended vars (task_of t)
+    → sections_among (task_of t').pieces ≡ sections_among (task_of t).pieces → IsNested (task_of t) → IsNested (task_of t')
 nests-ended t t' vars does same h =
     let inside = ap (λ v. length v.inside) does in
     omega (arith, h, inside, same)
 
-pub nests-inside : (t t' t'' : Task) (costs : Costs) (vars : Variables) (ps : List pieces.Piece) → task_of t' ≡ going costs vars ps (task_of t) → sections_among (task_of t').pieces ≡ suc (sections_among (task_of t).pieces)
+pub nests-inside : (t t' t'' : Task) (costs : Costs) (vars : Variables) (ps : List pieces.Piece) → task_of t' ≡ going costs vars ps (task_of t)
+    → sections_among (task_of t').pieces ≡ suc (sections_among (task_of t).pieces)
     → (section : Resource) (ceiling : ℕ) → task_of t'' ≡ inside_now section ceiling (task_of t') → IsNested (task_of t) → IsNested (task_of t'')
 nests-inside t t' t'' costs vars ps does more section ceiling is h =
     let inside = ap (λ v. length v.inside) does ∙ ap length (going-inside costs vars ps (task_of t)) in
@@ -178,7 +194,8 @@ nests-inside t t' t'' costs vars ps does more section ceiling is h =
     let two = ap (λ v. sections_among v.pieces) is in
     omega (arith, h, inside, more, one, two)
 
-pub nests-outside : (t t' t'' : Task) (costs : Costs) (vars : Variables) (ps : List pieces.Piece) → task_of t' ≡ going costs vars ps (task_of t) → sections_among (task_of t).pieces ≡ suc (sections_among (task_of t').pieces)
+pub nests-outside : (t t' t'' : Task) (costs : Costs) (vars : Variables) (ps : List pieces.Piece) → task_of t' ≡ going costs vars ps (task_of t)
+    → sections_among (task_of t).pieces ≡ suc (sections_among (task_of t').pieces)
     → task_of t'' ≡ outside_now (task_of t') → IsNested (task_of t) → IsNested (task_of t'')
 nests-outside t t' t'' costs vars ps does fewer is h =
     let inside = ap (λ v. length v.inside) does ∙ ap length (going-inside costs vars ps (task_of t)) in
@@ -201,7 +218,8 @@ length-inside : (rest : List states.Held) (hs : List Held) → length (fold with
 length-inside rest [] = omega arith
 length-inside rest (h ∷ hs) = let more = length-inside (with_held rest h) hs in omega (arith, more)
 
-pub has-room : (t t' : Task) (costs : Costs) (vars : Variables) (ps : List pieces.Piece) → task_of t' ≡ going costs vars ps (task_of t) → sections_among (task_of t').pieces ≡ suc (sections_among (task_of t).pieces) → IsNested (task_of t)
+pub has-room : (t t' : Task) (costs : Costs) (vars : Variables) (ps : List pieces.Piece) → task_of t' ≡ going costs vars ps (task_of t)
+    → sections_among (task_of t').pieces ≡ suc (sections_among (task_of t).pieces) → IsNested (task_of t)
     → length t'.inside.items < vec_capacity t'.inside
 has-room t t' costs vars ps does more h =
     let inside = ap (λ v. length v.inside) does ∙ ap length (going-inside costs vars ps (task_of t)) in

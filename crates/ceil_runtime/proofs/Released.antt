@@ -1,5 +1,6 @@
 -- The release of a task: at its time, or where it waits; and the end of the delays of an instant.
-use Rattle.std.specs.Prelude.{◌≡◌, ℕ, ◌+◌, ◌<◌, ◌≤◌, ◌^◌, min, Bool, true, false, ◌&&◌, ◌||◌, ◌++◌, nat_le, if◌then◌else◌, List, [], ◌∷◌, length, map, Option, Some, None, option_map, slice_get, ℤ, refl}
+use Rattle.std.specs.Prelude.{◌≡◌, ℕ, ◌+◌, ◌<◌, ◌≤◌, ◌^◌, min, Bool, true, false, ◌&&◌, ◌||◌, ◌++◌, nat_le, if◌then◌else◌, List, [], ◌∷◌, length}
+use Rattle.std.specs.Prelude.{map, Option, Some, None, option_map, slice_get, ℤ, refl}
 use Rattle.std.proofs.Common.{sym, ◌∙◌, ap, subst, arith, inl, inr}
 use Rattle.std.proofs.lemmas.Bool.Decides.{nat_tests}
 use Rattle.std.proofs.lemmas.List.{length-map}
@@ -68,10 +69,12 @@ going-inside costs vars (p ∷ ps) t = refl
 
 pub released-nested : (costs : Costs) (t : Task) → is_ready t.readiness ≡ false → IsNested (task_of t) → IsNested (released costs (task_of t))
 released-nested costs t rests h =
-    let idle : pieces_left t.progress ≡ [] = by_pieces (pieces_left t.progress) (or_right (is_ready t.readiness) (is_idle (pieces_left t.progress)) rests t.asleep) in
+    let idle : pieces_left t.progress ≡ []
+    = by_pieces (pieces_left t.progress) (or_right (is_ready t.readiness) (is_idle (pieces_left t.progress)) rests t.asleep) in
     let none : length (task_of t).inside ≤ 0 = subst (λ ps. length (task_of t).inside ≤ sections_among ps) idle h in
     let same : (released costs (task_of t)).inside ≡ (task_of t).inside =
-    going-inside costs (parameter (task_of t).thread.timing (task_of t).gate.value ++ (task_of t).vars) (pieces (task_of t).thread.block (Finishing ∷ []))
+    going-inside costs (parameter (task_of t).thread.timing (task_of t).gate.value ++ (task_of t).vars)
+    (pieces (task_of t).thread.block (Finishing ∷ []))
     (record (task_of t) { readiness = Ready; next = next_time (task_of t).thread.timing t.next; used = 0; gate = shut }) in
     let many : length (released costs (task_of t)).inside ≡ length (task_of t).inside = ap length same in
     omega (arith, none, many)
@@ -131,7 +134,13 @@ woken time task (e ∷ es) h = by_test (nat_le e.1 time) refl h
     by_test : (b : Bool) → nat_le e.1 time ≡ b → Some task ≡ (if b then Some e.0 else None) → Woken time task (e ∷ es)
     by_test true test k =
         let same : task ≡ e.0 = some_task k in
-        record { key = e.1; others = es; whole = ap (λ i. (i, e.1) ∷ es) (sym same); now = le e.1 time test; rest = ap (λ b. if b then es else e ∷ es) test }
+        record {
+          key = e.1;
+          others = es;
+          whole = ap (λ i. (i, e.1) ∷ es) (sym same);
+          now = le e.1 time test;
+          rest = ap (λ b. if b then es else e ∷ es) test;
+        }
       where
         some_task : Some task ≡ Some e.0 → task ≡ e.0
         some_task l = cc
@@ -144,14 +153,16 @@ woken time task (e ∷ es) h = by_test (nat_le e.1 time) refl h
         none l = cc
 
 -- none is due
-pub none_woken : (time : ℕ) (asleep : List Entry) → None ≡ due time asleep → ((e : Entry) → slice_get asleep 0 ≡ Some e → time < e.1) × (after_due time asleep ≡ asleep)
+pub none_woken : (time : ℕ) (asleep : List Entry) → None ≡ due time asleep → ((e : Entry) → slice_get asleep 0 ≡ Some e → time < e.1)
+    × (after_due time asleep ≡ asleep)
 none_woken time [] h = (λ e at. absurd (none e at), refl)
   where
     none : (e : Entry) → None ≡ Some e → ⊥
     none e k = cc
 none_woken time (e ∷ es) h = by_test (nat_le e.1 time) refl h
   where
-    by_test : (b : Bool) → nat_le e.1 time ≡ b → None ≡ (if b then Some e.0 else None) → ((x : Entry) → slice_get (e ∷ es) 0 ≡ Some x → time < x.1) × (after_due time (e ∷ es) ≡ e ∷ es)
+    by_test : (b : Bool) → nat_le e.1 time ≡ b → None ≡ (if b then Some e.0 else None) → ((x : Entry) → slice_get (e ∷ es) 0 ≡ Some x → time < x.1)
+        × (after_due time (e ∷ es) ≡ e ∷ es)
     by_test true test k = absurd (none k)
       where
         none : None ≡ Some e.0 → ⊥
@@ -174,7 +185,8 @@ abbrev pub changed_at : ℕ → (states.Task → states.Task) → states.State �
 changed_at i f s = record s { tasks = change i f s.tasks }
 
 -- a task is released, and stands behind the ready ones of its priority
-module _ (costs : Costs) (tasks tasks' : List Task) (os : List ℤ) (ready : List Entry) (i : ℕ) (t t' : Task) (c : Changed tasks tasks' i t t' (released costs)) (queued : AreQueued (map task_of tasks) os ready)
+module _ (costs : Costs) (tasks tasks' : List Task) (os : List ℤ) (ready : List Entry) (i : ℕ) (t t' : Task)
+    (c : Changed tasks tasks' i t t' (released costs)) (queued : AreQueued (map task_of tasks) os ready)
     (rests : is_ready t.readiness ≡ false) where
   f_active : (released costs (task_of t)).active ≡ (task_of t').active
   f_active = ap (λ u. u.active) (sym c.does)
@@ -188,24 +200,32 @@ module _ (costs : Costs) (tasks tasks' : List Task) (os : List ℤ) (ready : Lis
   pub tail-queued : AreQueued (change i (released costs) (map task_of tasks)) (put_last i os) (at_tail (i, (task_of t').active) ready)
   tail-queued =
       subst (λ (l : ℕ). AreQueued (change i (released costs) (map task_of tasks)) (put_last i os) (at_tail (i, l) ready)) f_active
-      (queued-released (map task_of tasks) os ready i (task_of t) (released costs) queued (here-of tasks tasks' i t t' (released costs) c) (rests-apart t.readiness t.next rests) released_ready)
+      (queued-released (map task_of tasks) os ready i (task_of t) (released costs) queued (here-of tasks tasks' i t t' (released costs) c)
+      (rests-apart t.readiness t.next rests) released_ready)
 
   now_queued : AreQueued (map task_of tasks') (put_last i os) (at_tail (i, (task_of t').active) ready)
   now_queued =
-      subst (λ (ts : List states.Task). AreQueued ts (put_last i os) (at_tail (i, (task_of t').active) ready)) (sym (changed-tasks tasks tasks' i t t' (released costs) c)) tail-queued
+      subst (λ (ts : List states.Task). AreQueued ts (put_last i os) (at_tail (i, (task_of t').active) ready))
+      (sym (changed-tasks tasks tasks' i t t' (released costs) c)) tail-queued
 
-  pub tail-placed : AreQueued (map task_of tasks') (places (length tasks') (at_tail (i, (task_of t').active) ready)) (at_tail (i, (task_of t').active) ready)
+  pub tail-placed : AreQueued (map task_of tasks') (places (length tasks') (at_tail (i, (task_of t').active) ready))
+      (at_tail (i, (task_of t').active) ready)
   tail-placed =
-      subst (λ (n : ℕ). AreQueued (map task_of tasks') (places n (at_tail (i, (task_of t').active) ready)) (at_tail (i, (task_of t').active) ready)) (length-map tasks' task_of)
+      subst (λ (n : ℕ). AreQueued (map task_of tasks') (places n (at_tail (i, (task_of t').active) ready)) (at_tail (i, (task_of t').active) ready))
+      (length-map tasks' task_of)
       (queued-places (map task_of tasks') (put_last i os) (at_tail (i, (task_of t').active) ready) now_queued)
 
-  pub tail-ranks : RankAlike (change i (released costs) (map task_of tasks)) (put_last i os) (places (length tasks') (at_tail (i, (task_of t').active) ready))
+  pub tail-ranks : RankAlike (change i (released costs) (map task_of tasks)) (put_last i os)
+      (places (length tasks') (at_tail (i, (task_of t').active) ready))
   tail-ranks =
-      ranks-alike (change i (released costs) (map task_of tasks)) (put_last i os) (places (length tasks') (at_tail (i, (task_of t').active) ready)) (at_tail (i, (task_of t').active) ready) tail-queued
-      (subst (λ (ts : List states.Task). AreQueued ts (places (length tasks') (at_tail (i, (task_of t').active) ready)) (at_tail (i, (task_of t').active) ready))
+      ranks-alike (change i (released costs) (map task_of tasks)) (put_last i os) (places (length tasks') (at_tail (i, (task_of t').active) ready))
+      (at_tail (i, (task_of t').active) ready) tail-queued
+      (subst (λ (ts : List states.Task). AreQueued ts (places (length tasks') (at_tail (i, (task_of t').active) ready))
+      (at_tail (i, (task_of t').active) ready))
       (changed-tasks tasks tasks' i t t' (released costs) c) tail-placed)
 
-  pub tail-kept : (until time : ℕ) (us : List units.Unit) → IsKept until time us t → t'.works ≤ t.works + min t'.left 1 → t'.next ≤ until + 2 ^ 33 → IsKept until time us t'
+  pub tail-kept : (until time : ℕ) (us : List units.Unit) → IsKept until time us t → t'.works ≤ t.works + min t'.left 1 → t'.next ≤ until + 2 ^ 33
+      → IsKept until time us t'
   tail-kept until time us k works next =
       let none : t.left ≡ 0 = k.idle rests in
       let used_none : t'.used ≡ 0 = ap (λ u. u.used) c.does ∙ released-used costs (task_of t) in
@@ -233,22 +253,28 @@ waits-next r (timing.Periodic offset period) next h e = absurd (clash (sym (ap (
 waits-next r (timing.Requested op ceiling separation jitter external) next h e = refl
 
 -- a task that waits is released
-pub waiting-released : (until time : ℕ) (costs : Costs) (us : List units.Unit) (p : Phase) (ran : Option ℕ) (tasks tasks' : List Task) (q q' : Queues) (i : ℕ) (t t' : Task) → ((ts : List Task) (es : List Entry) → order_of p ts es ≡ es)
-    → IsSound until time p ran us tasks q → Changed tasks tasks' i t t' (released costs) → t.readiness ≡ readies.Waiting → t'.works ≤ t.works + min t'.left 1 → q' ≡ record q { ready = at_tail (i, (task_of t').active) q.ready } → HoldsIn p until time ran tasks' q'
+pub waiting-released : (until time : ℕ) (costs : Costs) (us : List units.Unit) (p : Phase) (ran : Option ℕ) (tasks tasks' : List Task) (q q' : Queues)
+    (i : ℕ) (t t' : Task) → ((ts : List Task) (es : List Entry) → order_of p ts es ≡ es)
+    → IsSound until time p ran us tasks q → Changed tasks tasks' i t t' (released costs) → t.readiness ≡ readies.Waiting
+    → t'.works ≤ t.works + min t'.left 1 → q' ≡ record q { ready = at_tail (i, (task_of t').active) q.ready } → HoldsIn p until time ran tasks' q'
     → IsSound until time p ran us tasks' q'
 waiting-released until time costs us p ran tasks tasks' q q' i t t' plain sound c waits works is here =
-    let queued : AreQueued (map task_of tasks) (places (length tasks) q.ready) q.ready = subst (λ (es : List Entry). AreQueued (map task_of tasks) (places (length tasks) es) es) (plain tasks q.ready) sound.queued in
+    let queued : AreQueued (map task_of tasks) (places (length tasks) q.ready) q.ready
+    = subst (λ (es : List Entry). AreQueued (map task_of tasks) (places (length tasks) es) es) (plain tasks q.ready) sound.queued in
     let rests : is_ready t.readiness ≡ false = ap is_ready waits in
     let os : List ℤ = places (length tasks) q.ready in
     let len : length tasks' ≡ length tasks = changed-length tasks tasks' i t t' (released costs) c in
     let k : IsKept until time us t = sound.kept i t c.here in
-    let next : t'.next ≡ t.next = tail-next costs tasks tasks' os q.ready i t t' c queued rests ∙ waits-next t.readiness t.progress.stack.thread.timing t.next t.rests waits in
+    let next : t'.next ≡ t.next = tail-next costs tasks tasks' os q.ready i t t' c queued rests ∙ waits-next t.readiness
+    t.progress.stack.thread.timing t.next t.rests waits in
     record {
       size = ap (λ x. x.size) is ∙ sound.size ∙ sym len;
-      queued = subst (λ (x : List Entry). AreQueued (map task_of tasks') (places (length tasks') x) x) (sym (plain tasks' q'.ready ∙ ap (λ x. x.ready) is)) (tail-placed costs tasks tasks' os q.ready i t t' c queued rests);
+      queued = subst (λ (x : List Entry). AreQueued (map task_of tasks') (places (length tasks') x) x) (sym
+          (plain tasks' q'.ready ∙ ap (λ x. x.ready) is)) (tail-placed costs tasks tasks' os q.ready i t t' c queued rests);
       sleeping = subst (AreSleeping (map task_of tasks') time) (sym (ap (λ x. x.asleep) is))
           (subst (λ (ts : List states.Task). AreSleeping ts time q.asleep) (sym (changed-tasks tasks tasks' i t t' (released costs) c))
-          (sleeping-awake (map task_of tasks) time q.asleep i (task_of t) (released costs) sound.sleeping (here-of tasks tasks' i t t' (released costs) c)
+          (sleeping-awake (map task_of tasks) time q.asleep i (task_of t) (released costs) sound.sleeping
+          (here-of tasks tasks' i t t' (released costs) c)
           (λ n h. asleep-apart t.readiness t.next n (λ e. wrong (sym e ∙ waits)) h) (λ n h. not_asleep n (sym (going-readiness costs _ _ _) ∙ h))));
       kept = changed-all tasks tasks' i t t' (released costs) c (IsKept until time us) (IsKept until time us) sound.kept (λ u h. h)
           (tail-kept costs tasks tasks' os q.ready i t t' c queued rests until time us k works (omega (arith, next, k.next)));
@@ -263,33 +289,46 @@ waiting-released until time costs us p ran tasks tasks' q q' i t t' plain sound 
     wrong k = cc
 
 -- a task that waits is in neither list
-pub waiting-free : (until time : ℕ) (us : List units.Unit) (p : Phase) (ran : Option ℕ) (tasks : List Task) (q : Queues) → IsSound until time p ran us tasks q → Each (IsReadyAt (map task_of tasks)) q.ready
+pub waiting-free : (until time : ℕ) (us : List units.Unit) (p : Phase) (ran : Option ℕ) (tasks : List Task) (q : Queues)
+    → IsSound until time p ran us tasks q → Each (IsReadyAt (map task_of tasks)) q.ready
     → (i : ℕ) (t : Task) → slice_get tasks i ≡ Some t → t.readiness ≡ readies.Waiting → IsFree q i
 waiting-free until time us p ran tasks q sound each i t here waits =
     let at : slice_get (map task_of tasks) i ≡ Some (task_of t) = slice_get-map task_of tasks i ∙ ap (option_map task_of) here in
     record {
       known = omega (arith, sound.size, slice_get_within tasks i t here);
       not_ready = apart-ready (map task_of tasks) i (task_of t) q.ready at (rests-apart t.readiness t.next (ap is_ready waits)) each;
-      not_asleep = apart-awake (map task_of tasks) time i (task_of t) q.asleep at (λ k h. asleep-apart t.readiness t.next k (λ e. wrong (sym e ∙ waits)) h) sound.sleeping.each;
+      not_asleep = apart-awake (map task_of tasks) time i (task_of t) q.asleep at (λ k h. asleep-apart t.readiness t.next k
+          (λ e. wrong (sym e ∙ waits)) h) sound.sleeping.each;
     }
   where
     wrong : readies.Asleep ≡ readies.Waiting → ⊥
     wrong k = cc
 
 -- where a task waits with an open control structure, it is released
-pub serve-run : (y : System) (i : ℕ) (u : states.Task) (s : states.State) → slice_get s.tasks i ≡ Some u → (is_waiting u.readiness && u.gate.open') ≡ true
-    → serve y i s ≡ (record s { tasks = change i (released y.costs) s.tasks; orders = put_last i s.orders }, event.Release s.time u.thread.unit u.gate.value ∷ [])
+pub serve-run : (y : System) (i : ℕ) (u : states.Task) (s : states.State) → slice_get s.tasks i ≡ Some u
+    → (is_waiting u.readiness && u.gate.open') ≡ true
+    → serve y i s ≡ (
+      record s {
+        tasks = change i (released y.costs) s.tasks;
+        orders = put_last i s.orders;
+      },
+      event.Release s.time u.thread.unit u.gate.value ∷ [],
+    )
 serve-run y i u s at test = ap (λ o. serve_task y i o s) at ∙ ap (λ b. if b then release y i s else (s, [])) test ∙ ap (λ o. release_task y i o s) at
 
 -- and otherwise nothing happens
-pub serve-none : (y : System) (i : ℕ) (u : states.Task) (s : states.State) → slice_get s.tasks i ≡ Some u → (is_waiting u.readiness && u.gate.open') ≡ false → serve y i s ≡ (s, [])
+pub serve-none : (y : System) (i : ℕ) (u : states.Task) (s : states.State) → slice_get s.tasks i ≡ Some u
+    → (is_waiting u.readiness && u.gate.open') ≡ false → serve y i s ≡ (s, [])
 serve-none y i u s at test = ap (λ o. serve_task y i o s) at ∙ ap (λ b. if b then release y i s else (s, [])) test
 
-module _ (stores : List Variables) (arrivals : List Arrival) (until time : ℕ) (costs : Costs) (us : List units.Unit) (ran : Option ℕ) (tasks : List Task) (q : Queues) (sound : IsSound until time Delays ran us tasks q) where
+module _ (stores : List Variables) (arrivals : List Arrival) (until time : ℕ) (costs : Costs) (us : List units.Unit) (ran : Option ℕ)
+    (tasks : List Task) (q : Queues) (sound : IsSound until time Delays ran us tasks q) where
   -- the delays are over
-  pub delays-over : None ≡ due time q.asleep → run (system_by until costs us tasks) 1 (state_by stores arrivals time Delays ran false tasks q.ready) ≡ (state_by stores arrivals time Arriving ran false tasks q.ready, [])
+  pub delays-over : None ≡ due time q.asleep → run (system_by until costs us tasks) 1 (state_by stores arrivals time Delays ran false tasks q.ready)
+      ≡ (state_by stores arrivals time Arriving ran false tasks q.ready, [])
   delays-over none =
-      step-run (system_by until costs us tasks) (state_by stores arrivals time Delays ran false tasks q.ready) (state_by stores arrivals time Arriving ran false tasks q.ready) []
+      step-run (system_by until costs us tasks) (state_by stores arrivals time Delays ran false tasks q.ready)
+      (state_by stores arrivals time Arriving ran false tasks q.ready) []
       (ap (λ o. delay_step (system_by until costs us tasks) o (state_by stores arrivals time Delays ran false tasks q.ready))
       (none-due (map task_of tasks) time q.asleep sound.sleeping time (omega arith) (none_woken time q.asleep none).0))
 
@@ -301,7 +340,8 @@ module _ (stores : List Variables) (arrivals : List Arrival) (until time : ℕ) 
       more x (inl p) k = omega arith
       more x (inr p) k = omega arith
 
-  pub over-sound : (q' : Queues) → None ≡ due time q.asleep → q' ≡ record q { asleep = after_due time q.asleep } → IsSound until time Arriving ran us tasks q'
+  pub over-sound : (q' : Queues) → None ≡ due time q.asleep → q' ≡ record q { asleep = after_due time q.asleep }
+      → IsSound until time Arriving ran us tasks q'
   over-sound q' none is =
       let same : q' ≡ q = is ∙ ap (λ es. record q { asleep = es }) (none_woken time q.asleep none).1 in
       subst (IsSound until time Arriving ran us tasks) (sym same) (record {
@@ -325,15 +365,18 @@ module _ (stores : List Variables) (arrivals : List Arrival) (until time : ℕ) 
     sleepers = subst (AreSleeping (map task_of tasks) time) entry.whole sound.sleeping
 
     pub woken-known : task < length tasks
-    woken-known = let s : SleepsUntil (map task_of tasks) time (task, entry.key) = sleepers.each.0 in omega (arith, get-within task (map task_of tasks) s.0 s.2, length-map tasks task_of)
+    woken-known = let s : SleepsUntil (map task_of tasks) time (task, entry.key) = sleepers.each.0
+        in omega (arith, get-within task (map task_of tasks) s.0 s.2, length-map tasks task_of)
 
     sleeper : SleepsUntil (map task_of tasks) time (task, entry.key)
     sleeper = sleepers.each.0
 
     pub woken-asleep : (t : Task) → slice_get tasks task ≡ Some t → (t.readiness ≡ readies.Asleep) × (t.next ≤ time)
     woken-asleep t here =
-        let same : task_of t ≡ sleeper.0 = same_Some (task_of t) sleeper.0 (sym (slice_get-map task_of tasks task ∙ ap (option_map task_of) here) ∙ sleeper.2) in
-        let a : (t.readiness ≡ readies.Asleep) × (t.next ≡ sleeper.1) = asleep-is t.readiness t.next sleeper.1 (ap (λ u. u.readiness) same ∙ sleeper.3) in
+        let same : task_of t ≡ sleeper.0
+        = same_Some (task_of t) sleeper.0 (sym (slice_get-map task_of tasks task ∙ ap (option_map task_of) here) ∙ sleeper.2) in
+        let a : (t.readiness ≡ readies.Asleep) × (t.next ≡ sleeper.1)
+        = asleep-is t.readiness t.next sleeper.1 (ap (λ u. u.readiness) same ∙ sleeper.3) in
         (a.0, omega (arith, a.1, sleeper.4, entry.now))
 
     module _ (tasks' : List Task) (t t' : Task) (c : Changed tasks tasks' task t t' (released costs)) where
@@ -342,25 +385,36 @@ module _ (stores : List Variables) (arrivals : List Arrival) (until time : ℕ) 
 
       pub release-run : run (system_by until costs us tasks) 1 (state_by stores arrivals time Delays ran false tasks q.ready)
           ≡ (
-            record (state_by stores arrivals time Delays ran false tasks q.ready) { tasks = change task (released costs) (map task_of tasks); orders = put_last task (places (length tasks) q.ready) },
+            record (state_by stores arrivals time Delays ran false tasks q.ready) {
+              tasks = change task (released costs) (map task_of tasks);
+              orders = put_last task (places (length tasks) q.ready);
+            },
             event.Release time t.progress.stack.thread.unit t.gate.value ∷ [],
           )
       release-run =
           let s : states.State = state_by stores arrivals time Delays ran false tasks q.ready in
           let y : System = system_by until costs us tasks in
           step-run y s _ _
-          (ap (λ o. delay_step y o s) (first-due (map task_of tasks) time (task, entry.key) entry.others (task_of t) sleepers entry.now (here-of tasks tasks' task t t' (released costs) c))
+          (ap (λ o. delay_step y o s) (first-due (map task_of tasks) time (task, entry.key) entry.others (task_of t) sleepers entry.now
+          (here-of tasks tasks' task t t' (released costs) c))
           ∙ ap (λ o. release_task y task o s) (here-of tasks tasks' task t t' (released costs) c))
 
       pub release-differs : DifferInOrders
-          (record (state_by stores arrivals time Delays ran false tasks q.ready) { tasks = change task (released costs) (map task_of tasks); orders = put_last task (places (length tasks) q.ready) })
+          (record (state_by stores arrivals time Delays ran false tasks q.ready) {
+            tasks = change task (released costs) (map task_of tasks);
+            orders = put_last task (places (length tasks) q.ready);
+          })
           (state_by stores arrivals time Delays ran false tasks' (at_tail (task, (task_of t').active) q.ready))
       release-differs = record {
-        same = ap (λ ts. record (state_by stores arrivals time Delays ran false tasks' (at_tail (task, (task_of t').active) q.ready)) { tasks = ts }) (changed-tasks tasks tasks' task t t' (released costs) c);
+        same = ap (λ ts. record (state_by stores arrivals time Delays ran false tasks' (at_tail (task, (task_of t').active) q.ready)) {
+          tasks
+              = ts;
+        }) (changed-tasks tasks tasks' task t t' (released costs) c);
         ranks = tail-ranks costs tasks tasks' (places (length tasks) q.ready) q.ready task t t' c sound.queued rests;
       }
 
-      pub release-sound : (q' : Queues) → q' ≡ record q { ready = at_tail (task, (task_of t').active) q.ready; asleep = after_due time q.asleep } → t'.works ≤ t.works + min t'.left 1 → t'.next < t.next + 2 ^ 32
+      pub release-sound : (q' : Queues) → q' ≡ record q { ready = at_tail (task, (task_of t').active) q.ready; asleep = after_due time q.asleep }
+          → t'.works ≤ t.works + min t'.left 1 → t'.next < t.next + 2 ^ 32
           → IsSound until time Delays ran us tasks' q'
       release-sound q' is works near =
           let len : length tasks' ≡ length tasks = changed-length tasks tasks' task t t' (released costs) c in
@@ -371,9 +425,11 @@ module _ (stores : List Variables) (arrivals : List Arrival) (until time : ℕ) 
             queued = tail-placed costs tasks tasks' os q.ready task t t' c sound.queued rests;
             sleeping = subst (AreSleeping (map task_of tasks') time) (sym entry.rest)
                 (subst (λ (ts : List states.Task). AreSleeping ts time entry.others) (sym (changed-tasks tasks tasks' task t t' (released costs) c))
-                (sleeping-fewer (map task_of tasks) time (task, entry.key) entry.others (released costs) sleepers (λ u k h. not_asleep k (sym (going-readiness costs _ _ _) ∙ h))));
+                (sleeping-fewer (map task_of tasks) time (task, entry.key) entry.others (released costs) sleepers
+                (λ u k h. not_asleep k (sym (going-readiness costs _ _ _) ∙ h))));
             kept = changed-all tasks tasks' task t t' (released costs) c (IsKept until time us) (IsKept until time us) sound.kept (λ u k. k)
-                (tail-kept costs tasks tasks' os q.ready task t t' c sound.queued rests until time us (sound.kept task t c.here) works (omega (arith, near, was.1, sound.in_time)));
+                (tail-kept costs tasks tasks' os q.ready task t t' c sound.queued rests until time us (sound.kept task t c.here) works
+                (omega (arith, near, was.1, sound.in_time)));
             here = tt;
             near = sound.near;
             few = omega (arith, len, sound.few);

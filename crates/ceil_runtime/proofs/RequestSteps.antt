@@ -1,5 +1,6 @@
 -- The steps of a machine in which a task does the parts of a request, or is stopped at a ceiling, from what the task level says of the piece.
-use Rattle.std.specs.Prelude.{◌≡◌, ◌≢◌, ◌⊎◌, ℕ, ◌+◌, ◌<◌, ◌≤◌, min, true, false, ◌&&◌, List, [], ◌∷◌, length, map, set, Option, Some, option_map, slice_get, ℤ, refl}
+use Rattle.std.specs.Prelude.{◌≡◌, ◌≢◌, ◌⊎◌, ℕ, ◌+◌, ◌<◌, ◌≤◌, min, true, false, ◌&&◌, List, [], ◌∷◌, length, map, set, Option, Some, option_map}
+use Rattle.std.specs.Prelude.{slice_get, ℤ, refl}
 use Rattle.std.proofs.Common.{sym, ◌∙◌, ap, subst, arith, inl, inr}
 use Rattle.std.proofs.lemmas.Bool.{cases_eq}
 use Rattle.std.proofs.lemmas.Option.{slice_get-map}
@@ -43,10 +44,12 @@ use Rattle.ceil_runtime.proofs.Requests.{gate-sound, order-by, release-sound, se
 use Rattle.ceil_runtime.proofs.Sectioned.{deed-step, left-queued, left-sound}
 use Rattle.ceil_runtime.proofs.Stepped.{IsBeside, effect-step, effect_state, running-sound, system-after}
 
-module _ (m : Machine) (i : ℕ) (whole : IsWhole m) (phase : m.phase ≡ Effects (Some i)) (on : m.stopped ≡ false) (t t' : Task) (here : slice_get m.tasks.items i ≡ Some t) (due : t.left ≡ 0)
+module _ (m : Machine) (i : ℕ) (whole : IsWhole m) (phase : m.phase ≡ Effects (Some i)) (on : m.stopped
+    ≡ false) (t t' : Task) (here : slice_get m.tasks.items i ≡ Some t) (due : t.left ≡ 0)
     (piece : Piece) (rest pieces : List Piece) (vars : Variables) (act : deeds.Act) (first : (task_of t).pieces ≡ piece ∷ rest)
     (does : done (system_by m.until m.costs m.units.now m.tasks.items) piece (task_of t).vars rest ≡ deed act vars pieces)
-    (thread : t'.progress.stack.thread ≡ t.progress.stack.thread) (works : t'.works ≤ t.works + min t'.left 1) (falls : EffortFalls t.progress.stack.thread (task_of t) (task_of t'))
+    (thread : t'.progress.stack.thread ≡ t.progress.stack.thread) (works : t'.works ≤ t.works + min t'.left 1)
+    (falls : EffortFalls t.progress.stack.thread (task_of t) (task_of t'))
     (nests : IsNested (task_of t) → IsNested (task_of t')) (tasks' : List Task) (items : tasks' ≡ set m.tasks.items i t') where
   requests_whole : IsSound m.until m.time (Effects (Some i)) (Some i) m.units.now m.tasks.items m.links
   requests_whole = running-sound m i whole phase on
@@ -67,10 +70,13 @@ module _ (m : Machine) (i : ℕ) (whole : IsWhole m) (phase : m.phase ≡ Effect
   requests_queued = order-queued m.until m.time m.units.now i (Some i) m.tasks.items m.links requests_whole t here
 
   -- a part that another task's control structure takes
-  module _ (task : task_of t' ≡ going m.costs vars pieces (task_of t)) (k : ℕ) (f : states.Task → states.Task) (same : (v : states.Task) → ((f v).readiness ≡ v.readiness) × ((f v).active ≡ v.active))
+  module _ (task : task_of t' ≡ going m.costs vars pieces (task_of t)) (k : ℕ) (f : states.Task → states.Task) (same : (v : states.Task)
+      → ((f v).readiness ≡ v.readiness) × ((f v).active ≡ v.active))
       (rests : (v : states.Task) → ((f v).pieces ≡ v.pieces) × ((f v).left ≡ v.left)) (held : (v : states.Task) → (f v).inside ≡ v.inside)
-      (gates : acted requests_in i (task_of t) act vars pieces (effect_state m i) ≡ (record (effect_state m i) { tasks = change k f (change i (going m.costs vars pieces) (map task_of m.tasks.items)) }, []))
-      (u u' : Task) (m' : Machine) (b : IsBeside m m' (Effects (Some i))) (c : Changed tasks' m'.tasks.items k u u' f) (ready : u'.readiness ≡ u.readiness) (left : u'.left ≡ u.left) (used : u'.used ≡ u.used)
+      (gates : acted requests_in i (task_of t) act vars pieces (effect_state m i)
+      ≡ (record (effect_state m i) { tasks = change k f (change i (going m.costs vars pieces) (map task_of m.tasks.items)) }, []))
+      (u u' : Task) (m' : Machine) (b : IsBeside m m' (Effects (Some i))) (c : Changed tasks' m'.tasks.items k u u' f) (ready : u'.readiness
+      ≡ u.readiness) (left : u'.left ≡ u.left) (used : u'.used ≡ u.used)
       (works' : u'.works ≡ u.works) (next : u'.next ≡ u.next) (links : m'.links ≡ m.links) (stores : stores_of m' ≡ stores_of m) where
     gate_changed : Changed m.tasks.items tasks' i t t' (going m.costs vars pieces)
     gate_changed = record { here = here; set_is = items; does = task; thread = thread }
@@ -78,16 +84,20 @@ module _ (m : Machine) (i : ℕ) (whole : IsWhole m) (phase : m.phase ≡ Effect
     gate_active : (task_of t').active ≡ (task_of t).active
     gate_active = ap (λ v. v.active) task ∙ goes-active m.costs vars pieces (task_of t)
 
-    gate_first : AreQueued (change i (going m.costs vars pieces) (map task_of m.tasks.items)) requests_orders (at_head (i, (task_of t').active) m.links.ready)
+    gate_first : AreQueued (change i (going m.costs vars pieces) (map task_of m.tasks.items)) requests_orders
+        (at_head (i, (task_of t').active) m.links.ready)
     gate_first =
-        subst (λ (n : ℕ). AreQueued (change i (going m.costs vars pieces) (map task_of m.tasks.items)) requests_orders (at_head (i, n) m.links.ready)) (sym gate_active)
+        subst (λ (n : ℕ). AreQueued (change i (going m.costs vars pieces) (map task_of m.tasks.items)) requests_orders (at_head (i, n) m.links.ready))
+        (sym gate_active)
         (go-queued requests_in (map task_of m.tasks.items) requests_orders i (task_of t) m.links.ready requests_at requests_queued vars pieces)
 
     gate_whole : IsSound m.until m.time (Effects (Some i)) (Some i) m.units.now tasks' m.links
     gate_whole =
         let h : IsKept m.until m.time m.units.now t = requests_whole.kept i t here in
-        moved-sound m.until m.time m.units.now i (Some i) m.tasks.items m.links requests_whole tasks' t t' (going m.costs vars pieces) gate_changed requests_orders gate_first
-        (λ v. goes-readiness m.costs vars pieces v) (ap (λ v. v.used) task ∙ same_used pieces) (ap (λ v. v.next) task ∙ same_next pieces) (omega (arith, works, h.works, due)) nests
+        moved-sound m.until m.time m.units.now i (Some i) m.tasks.items m.links requests_whole tasks' t t'
+        (going m.costs vars pieces) gate_changed requests_orders gate_first
+        (λ v. goes-readiness m.costs vars pieces v) (ap (λ v. v.used) task ∙ same_used pieces) (ap (λ v. v.next) task ∙ same_next pieces)
+        (omega (arith, works, h.works, due)) nests
       where
         same_used : (ps : List Piece) → (going m.costs vars ps (task_of t)).used ≡ t.used
         same_used [] = refl
@@ -98,24 +108,35 @@ module _ (m : Machine) (i : ℕ) (whole : IsWhole m) (phase : m.phase ≡ Effect
         same_next (p ∷ ps) = refl
 
     -- the task that has effects, behind both changes
-    gate_here : (a : states.Task) × (slice_get (map task_of m'.tasks.items) i ≡ Some a) × (a.active ≡ (task_of t').active) × (a.pieces ≡ (task_of t').pieces) × (a.left ≡ t'.left)
+    gate_here : (a : states.Task) × (slice_get (map task_of m'.tasks.items) i ≡ Some a) × (a.active ≡ (task_of t').active)
+        × (a.pieces ≡ (task_of t').pieces) × (a.left ≡ t'.left)
     gate_here = by_task (slice_get (map task_of m'.tasks.items) i) refl
       where
         before : slice_get (map task_of tasks') i ≡ Some (task_of t')
         before = slice_get-map task_of tasks' i ∙ ap (option_map task_of) requests_now
 
-        by_place : (i ≡ k) ⊎ (i ≢ k) → (a : states.Task) × (slice_get (map task_of m'.tasks.items) i ≡ Some a) × (a.active ≡ (task_of t').active) × (a.pieces ≡ (task_of t').pieces) × (a.left ≡ t'.left)
+        by_place : (i ≡ k) ⊎ (i ≢ k) → (a : states.Task) × (slice_get (map task_of m'.tasks.items) i ≡ Some a) × (a.active ≡ (task_of t').active)
+            × (a.pieces ≡ (task_of t').pieces) × (a.left ≡ t'.left)
         by_place (inl e) = (
           f (task_of t'),
-          ap (λ ts. slice_get ts i) (changed-tasks tasks' m'.tasks.items k u u' f c) ∙ ap (λ j. slice_get (change j f (map task_of tasks')) i) (sym e) ∙ get-changed i f (map task_of tasks') (task_of t') before,
+          ap (λ ts. slice_get ts i) (changed-tasks tasks' m'.tasks.items k u u' f c) ∙ ap (λ j.
+              slice_get (change j f (map task_of tasks')) i) (sym e) ∙ get-changed i f (map task_of tasks') (task_of t') before,
           (same (task_of t')).1,
           (rests (task_of t')).0,
           (rests (task_of t')).1,
         )
-        by_place (inr d) =
-            (task_of t', ap (λ ts. slice_get ts i) (changed-tasks tasks' m'.tasks.items k u u' f c) ∙ get-other k i f (map task_of tasks') d ∙ before, refl, refl, refl)
+        by_place (inr d) = (
+          task_of t',
+          ap (λ ts. slice_get ts i) (changed-tasks tasks' m'.tasks.items k u u' f c) ∙ get-other k i f (map task_of
+              tasks') d ∙ before,
+          refl,
+          refl,
+          refl,
+        )
 
-        by_task : (o : Option states.Task) → slice_get (map task_of m'.tasks.items) i ≡ o → (a : states.Task) × (slice_get (map task_of m'.tasks.items) i ≡ Some a) × (a.active ≡ (task_of t').active) × (a.pieces ≡ (task_of t').pieces) × (a.left ≡ t'.left)
+        by_task : (o : Option states.Task) → slice_get (map task_of m'.tasks.items) i ≡ o
+            → (a : states.Task) × (slice_get (map task_of m'.tasks.items) i ≡ Some a) × (a.active ≡ (task_of t').active)
+            × (a.pieces ≡ (task_of t').pieces) × (a.left ≡ t'.left)
         by_task o e = by_place (cases_eq i k)
 
     gate_order : order_of (Effects (Some i)) m'.tasks.items m.links.ready ≡ at_head (i, (task_of t').active) m.links.ready
@@ -124,10 +145,12 @@ module _ (m : Machine) (i : ℕ) (whole : IsWhole m) (phase : m.phase ≡ Effect
     gate_tasks : map task_of m'.tasks.items ≡ change k f (change i (going m.costs vars pieces) (map task_of m.tasks.items))
     gate_tasks = changed-tasks tasks' m'.tasks.items k u u' f c ∙ ap (change k f) (changed-tasks m.tasks.items tasks' i t t' _ gate_changed)
 
-    gate_queued : AreQueued (change k f (change i (going m.costs vars pieces) (map task_of m.tasks.items))) requests_orders (order_of (Effects (Some i)) m'.tasks.items m.links.ready)
+    gate_queued : AreQueued (change k f (change i (going m.costs vars pieces) (map task_of m.tasks.items))) requests_orders
+        (order_of (Effects (Some i)) m'.tasks.items m.links.ready)
     gate_queued =
         subst (AreQueued (change k f (change i (going m.costs vars pieces) (map task_of m.tasks.items))) requests_orders) (sym gate_order)
-        (queued-kept (change i (going m.costs vars pieces) (map task_of m.tasks.items)) requests_orders (at_head (i, (task_of t').active) m.links.ready) k f gate_first same)
+        (queued-kept (change i (going m.costs vars pieces) (map task_of m.tasks.items)) requests_orders
+        (at_head (i, (task_of t').active) m.links.ready) k f gate_first same)
 
     gate_nests : IsNested (task_of u) → IsNested (task_of u')
     gate_nests h =
@@ -142,20 +165,29 @@ module _ (m : Machine) (i : ℕ) (whole : IsWhole m) (phase : m.phase ≡ Effect
     gate-step =
         let system_is = changed-system tasks' m'.tasks.items k u u' f c m.until m.costs m.units.now ∙ system-after m tasks' i t t' _ gate_changed in
         let most : ℕ = most_ends requests_in in
-        let enough : reserve t.progress.stack.thread ≤ most = reserve-most m.until m.time m.costs m.units.now m.tasks.items i t here (whole.sound.kept i t here).units in
+        let enough : reserve t.progress.stack.thread ≤ most
+        = reserve-most m.until m.time m.costs m.units.now m.tasks.items i t here (whole.sound.kept i t here).units in
         let fall = falls most enough in
-        let less = fewer-effects most _ (map task_of m.tasks.items) (map task_of m'.tasks.items) i (task_of t) gate_here.0 (ap most_ends system_is) requests_at gate_here.1 due
+        let less = fewer-effects most _ (map task_of m.tasks.items) (map task_of m'.tasks.items) i (task_of t) gate_here.0
+        (ap most_ends system_is) requests_at gate_here.1 due
         (fall.0, λ none. subst (λ ps. effort most ps < effort most (task_of t).pieces) (sym gate_here.3) (fall.1 (sym gate_here.4 ∙ none))) in
         let sleep = sleepers-sum m.tasks.items tasks' i t t' _ gate_changed m.until m.costs m.units.now in
         let sleep' = sleepers-sum tasks' m'.tasks.items k u u' f c m.until m.costs m.units.now in
-        let one : sleeper (task_of t').readiness ≡ sleeper (task_of t).readiness = ap (λ v. sleeper v.readiness) task ∙ ap sleeper (goes-readiness m.costs vars pieces (task_of t)) in
-        let two : sleeper (task_of u').readiness ≡ sleeper (task_of u).readiness = ap (λ v. sleeper v.readiness) c.does ∙ ap sleeper (same (task_of u)).0 in
+        let one : sleeper (task_of t').readiness ≡ sleeper (task_of t).readiness
+        = ap (λ v. sleeper v.readiness) task ∙ ap sleeper (goes-readiness m.costs vars pieces (task_of t)) in
+        let two : sleeper (task_of u').readiness ≡ sleeper (task_of u).readiness
+        = ap (λ v. sleeper v.readiness) c.does ∙ ap sleeper (same (task_of u)).0 in
         effect-step m i whole phase on m' (Some i) b Nothing gate_state
         (step-run requests_in (effect_state m i) gate_state []
-        (deed-step (stores_of m) m.arrivals.now m.until m.time m.costs m.units.now i m.tasks.items m.links requests_whole t here due piece rest pieces vars act first does ∙ gates))
-        (subst (λ σ. DifferInOrders gate_state (state_by σ m.arrivals.now m.time (Effects (Some i)) (Some i) false m'.tasks.items m'.links.ready)) (sym stores)
-        (subst (λ (q : Queues). DifferInOrders gate_state (state_by (stores_of m) m.arrivals.now m.time (Effects (Some i)) (Some i) false m'.tasks.items q.ready)) (sym links)
-        (settled-differs (stores_of m) m.arrivals.now m.time i m'.tasks.items (change k f (change i (going m.costs vars pieces) (map task_of m.tasks.items))) requests_orders m.links.ready gate_tasks gate_queued gate_state refl refl refl)))
+        (deed-step (stores_of m) m.arrivals.now m.until m.time m.costs m.units.now i m.tasks.items m.links requests_whole t here due piece rest pieces
+        vars act first does ∙ gates))
+        (subst (λ σ. DifferInOrders gate_state (state_by σ m.arrivals.now m.time (Effects (Some i)) (Some i) false m'.tasks.items m'.links.ready))
+        (sym stores)
+        (subst (λ (q : Queues). DifferInOrders gate_state (state_by (stores_of m) m.arrivals.now m.time (Effects (Some i))
+        (Some i) false m'.tasks.items q.ready)) (sym links)
+        (settled-differs (stores_of m) m.arrivals.now m.time i m'.tasks.items
+        (change k f (change i (going m.costs vars pieces) (map task_of m.tasks.items))) requests_orders m.links.ready gate_tasks gate_queued
+        gate_state refl refl refl)))
         system_is
         (subst (IsSound m.until m.time (Effects (Some i)) (Some i) m.units.now m'.tasks.items) (sym links)
         (gate-sound m.until m.time m.units.now i tasks' m.links gate_whole k m'.tasks.items u u' f c same ready left used works' next gate_nests))
@@ -163,47 +195,64 @@ module _ (m : Machine) (i : ℕ) (whole : IsWhole m) (phase : m.phase ≡ Effect
 
   -- the end of a request, by which the task that is requested is released, since it waits and its control structure is open
   module _ (task : task_of t' ≡ going m.costs vars pieces (outside_now (task_of t))) (k : ℕ) (asks : Event)
-      (answers : acted requests_in i (task_of t) act vars pieces (effect_state m i) ≡ after (asks ∷ []) (serve requests_in k (exit requests_in i vars pieces (effect_state m i))))
-      (u u' : Task) (m' : Machine) (b : IsBeside m m' (Effects (Some i))) (c : Changed tasks' m'.tasks.items k u u' (released m.costs)) (waits : u.readiness ≡ readies.Waiting) (is_open : u.gate.«open» ≡ true)
-      (works' : u'.works ≤ u.works + min u'.left 1) (links : m'.links ≡ record m.links { ready = at_tail (k, (task_of u').active) m.links.ready }) (stores : stores_of m' ≡ stores_of m)
-      (ends : Ends (Two asks (event.Release m.time u.progress.stack.thread.unit (task_of u).gate.value)) m') (of : AreOfTask m.tasks.items (Two asks (event.Release m.time u.progress.stack.thread.unit (task_of u).gate.value))) where
+      (answers : acted requests_in i (task_of t) act vars pieces (effect_state m i)
+      ≡ after (asks ∷ []) (serve requests_in k (exit requests_in i vars pieces (effect_state m i))))
+      (u u' : Task) (m' : Machine) (b : IsBeside m m' (Effects (Some i))) (c : Changed tasks' m'.tasks.items k u u' (released m.costs))
+      (waits : u.readiness ≡ readies.Waiting) (is_open : u.gate.«open» ≡ true)
+      (works' : u'.works ≤ u.works + min u'.left 1) (links : m'.links ≡ record m.links { ready = at_tail (k, (task_of u').active) m.links.ready })
+      (stores : stores_of m' ≡ stores_of m)
+      (ends : Ends (Two asks (event.Release m.time u.progress.stack.thread.unit (task_of u).gate.value)) m')
+      (of : AreOfTask m.tasks.items (Two asks (event.Release m.time u.progress.stack.thread.unit (task_of u).gate.value))) where
     answer_changed : Changed m.tasks.items tasks' i t t' (λ v. going m.costs vars pieces (outside_now v))
     answer_changed = record { here = here; set_is = items; does = task; thread = thread }
 
-    answer_first : AreQueued (change i (λ v. going m.costs vars pieces (outside_now v)) (map task_of m.tasks.items)) (put_first i requests_orders) (at_head (i, (task_of t').active) m.links.ready)
-    answer_first = left-queued (stores_of m) m.arrivals.now m.until m.time m.costs m.units.now i m.tasks.items m.links requests_whole t here due vars pieces tasks' t' answer_changed
+    answer_first : AreQueued (change i (λ v. going m.costs vars pieces (outside_now v)) (map task_of m.tasks.items)) (put_first i requests_orders)
+        (at_head (i, (task_of t').active) m.links.ready)
+    answer_first = left-queued (stores_of m) m.arrivals.now m.until m.time m.costs m.units.now i m.tasks.items m.links requests_whole t here due vars
+        pieces tasks' t' answer_changed
 
     answer_whole : IsSound m.until m.time (Effects (Some i)) (Some i) m.units.now tasks' m.links
-    answer_whole = left-sound (stores_of m) m.arrivals.now m.until m.time m.costs m.units.now i m.tasks.items m.links requests_whole t here due vars pieces tasks' t' answer_changed works nests
+    answer_whole = left-sound (stores_of m) m.arrivals.now m.until m.time m.costs m.units.now i m.tasks.items m.links requests_whole t here due vars
+        pieces tasks' t' answer_changed works nests
 
     answer_there : slice_get (change i (λ v. going m.costs vars pieces (outside_now v)) (map task_of m.tasks.items)) k ≡ Some (task_of u)
-    answer_there = ap (λ ts. slice_get ts k) (sym (changed-tasks m.tasks.items tasks' i t t' _ answer_changed)) ∙ here-of tasks' m'.tasks.items k u u' _ c
+    answer_there = ap (λ ts. slice_get ts k) (sym (changed-tasks m.tasks.items tasks' i t t' _ answer_changed)) ∙ here-of tasks'
+        m'.tasks.items k u u' _ c
 
     answer_waits : (task_of u).readiness ≡ states.Waiting
     answer_waits = ap (λ r. readiness_of r u.next) waits
 
     answer_at : slice_get (change i (λ v. going m.costs vars pieces (outside_now v)) (map task_of m.tasks.items)) i ≡ Some (task_of t')
-    answer_at = get-changed i (λ v. going m.costs vars pieces (outside_now v)) (map task_of m.tasks.items) (task_of t) requests_at ∙ ap Some (sym task)
+    answer_at = get-changed i (λ v. going m.costs vars pieces (outside_now v)) (map task_of m.tasks.items)
+        (task_of t) requests_at ∙ ap Some (sym task)
 
     answer_other : k ≢ i
-    answer_other = other-waits requests_in (change i (λ v. going m.costs vars pieces (outside_now v)) (map task_of m.tasks.items)) (put_first i requests_orders) i (task_of t') m.links.ready answer_at answer_first k (task_of u) answer_there answer_waits
+    answer_other = other-waits requests_in (change i (λ v. going m.costs vars pieces (outside_now v)) (map task_of m.tasks.items))
+        (put_first i requests_orders) i (task_of t') m.links.ready answer_at answer_first k (task_of u) answer_there answer_waits
 
-    answer_tasks : map task_of m'.tasks.items ≡ change k (released m.costs) (change i (λ v. going m.costs vars pieces (outside_now v)) (map task_of m.tasks.items))
-    answer_tasks = changed-tasks tasks' m'.tasks.items k u u' _ c ∙ ap (change k (released m.costs)) (changed-tasks m.tasks.items tasks' i t t' _ answer_changed)
+    answer_tasks : map task_of m'.tasks.items
+        ≡ change k (released m.costs) (change i (λ v. going m.costs vars pieces (outside_now v)) (map task_of m.tasks.items))
+    answer_tasks = changed-tasks tasks' m'.tasks.items k u u' _ c ∙ ap (change k (released m.costs))
+        (changed-tasks m.tasks.items tasks' i t t' _ answer_changed)
 
     answer_here : slice_get (map task_of m'.tasks.items) i ≡ Some (task_of t')
     answer_here =
         ap (λ ts. slice_get ts i) answer_tasks
-        ∙ get-other k i (released m.costs) (change i (λ v. going m.costs vars pieces (outside_now v)) (map task_of m.tasks.items)) (λ e. answer_other (sym e)) ∙ answer_at
+        ∙ get-other k i (released m.costs) (change i (λ v. going m.costs vars pieces (outside_now v)) (map task_of m.tasks.items))
+        (λ e. answer_other (sym e)) ∙ answer_at
 
-    answer_queued : AreQueued (change k (released m.costs) (change i (λ v. going m.costs vars pieces (outside_now v)) (map task_of m.tasks.items))) (put_last k (put_first i requests_orders))
+    answer_queued : AreQueued (change k (released m.costs) (change i (λ v. going m.costs vars pieces (outside_now v)) (map task_of m.tasks.items)))
+        (put_last k (put_first i requests_orders))
         (order_of (Effects (Some i)) m'.tasks.items (at_tail (k, (task_of u').active) m.links.ready))
     answer_queued =
-        subst (AreQueued (change k (released m.costs) (change i (λ v. going m.costs vars pieces (outside_now v)) (map task_of m.tasks.items))) (put_last k (put_first i requests_orders)))
+        subst (AreQueued (change k (released m.costs) (change i (λ v. going m.costs vars pieces (outside_now v)) (map task_of m.tasks.items)))
+        (put_last k (put_first i requests_orders)))
         (sym (order-by i m'.tasks.items (task_of t') (at_tail (k, (task_of u').active) m.links.ready) answer_here))
-        (subst (λ (n : ℕ). AreQueued (change k (released m.costs) (change i (λ v. going m.costs vars pieces (outside_now v)) (map task_of m.tasks.items))) (put_last k (put_first i requests_orders))
+        (subst (λ (n : ℕ). AreQueued (change k (released m.costs)
+        (change i (λ v. going m.costs vars pieces (outside_now v)) (map task_of m.tasks.items))) (put_last k (put_first i requests_orders))
         (at_head (i, (task_of t').active) (at_tail (k, n) m.links.ready))) (ap (λ v. v.active) (sym c.does))
-        (release-queued requests_in (change i (λ v. going m.costs vars pieces (outside_now v)) (map task_of m.tasks.items)) (put_first i requests_orders) i (task_of t') m.links.ready answer_at answer_first k (task_of u) answer_there answer_waits))
+        (release-queued requests_in (change i (λ v. going m.costs vars pieces (outside_now v)) (map task_of m.tasks.items))
+        (put_first i requests_orders) i (task_of t') m.links.ready answer_at answer_first k (task_of u) answer_there answer_waits))
 
     abbrev answer_state : states.State
     answer_state = record (effect_state m i) {
@@ -215,22 +264,33 @@ module _ (m : Machine) (i : ℕ) (whole : IsWhole m) (phase : m.phase ≡ Effect
     answer-step =
         let system_is = changed-system tasks' m'.tasks.items k u u' _ c m.until m.costs m.units.now ∙ system-after m tasks' i t t' _ answer_changed in
         let most : ℕ = most_ends requests_in in
-        let enough : reserve t.progress.stack.thread ≤ most = reserve-most m.until m.time m.costs m.units.now m.tasks.items i t here (whole.sound.kept i t here).units in
-        let less = fewer-effects most _ (map task_of m.tasks.items) (map task_of m'.tasks.items) i (task_of t) (task_of t') (ap most_ends system_is) requests_at answer_here due (falls most enough) in
+        let enough : reserve t.progress.stack.thread ≤ most
+        = reserve-most m.until m.time m.costs m.units.now m.tasks.items i t here (whole.sound.kept i t here).units in
+        let less = fewer-effects most _ (map task_of m.tasks.items) (map task_of m'.tasks.items) i (task_of t) (task_of t')
+        (ap most_ends system_is) requests_at answer_here due (falls most enough) in
         let sleep = sleepers-sum m.tasks.items tasks' i t t' _ answer_changed m.until m.costs m.units.now in
         let sleep' = sleepers-sum tasks' m'.tasks.items k u u' _ c m.until m.costs m.units.now in
-        let one : sleeper (task_of t').readiness ≡ sleeper (task_of t).readiness = ap (λ v. sleeper v.readiness) task ∙ ap sleeper (goes-readiness m.costs vars pieces (outside_now (task_of t)) ∙ outside-readiness (task_of t)) in
+        let one : sleeper (task_of t').readiness ≡ sleeper (task_of t).readiness
+        = ap (λ v. sleeper v.readiness) task ∙ ap sleeper (goes-readiness m.costs vars pieces (outside_now (task_of t)) ∙ outside-readiness
+        (task_of t)) in
         let two : sleeper (task_of u').readiness ≡ 0 = ap (λ v. sleeper v.readiness) c.does ∙ ap sleeper (released-readiness m.costs (task_of u)) in
-        let test : (is_waiting (task_of u).readiness && (task_of u).gate.open') ≡ true = ap (λ r. is_waiting r && (task_of u).gate.open') answer_waits ∙ is_open in
+        let test : (is_waiting (task_of u).readiness && (task_of u).gate.open') ≡ true
+        = ap (λ r. is_waiting r && (task_of u).gate.open') answer_waits ∙ is_open in
         let release : Event = event.Release m.time u.progress.stack.thread.unit (task_of u).gate.value in
         effect-step m i whole phase on m' (Some i) b (Two asks release) answer_state
         (step-run requests_in (effect_state m i) answer_state (asks ∷ release ∷ [])
-        (deed-step (stores_of m) m.arrivals.now m.until m.time m.costs m.units.now i m.tasks.items m.links requests_whole t here due piece rest pieces vars act first does ∙ answers
+        (deed-step (stores_of m) m.arrivals.now m.until m.time m.costs m.units.now i m.tasks.items m.links requests_whole t here due piece rest pieces
+        vars act first does ∙ answers
         ∙ ap (after (asks ∷ [])) (served requests_in k (task_of u) (exit requests_in i vars pieces (effect_state m i)) answer_there test)))
-        (subst (λ σ. DifferInOrders answer_state (state_by σ m.arrivals.now m.time (Effects (Some i)) (Some i) false m'.tasks.items m'.links.ready)) (sym stores)
-        (subst (λ (q : Queues). DifferInOrders answer_state (state_by (stores_of m) m.arrivals.now m.time (Effects (Some i)) (Some i) false m'.tasks.items q.ready)) (sym links)
-        (settled-differs (stores_of m) m.arrivals.now m.time i m'.tasks.items (change k (released m.costs) (change i (λ v. going m.costs vars pieces (outside_now v)) (map task_of m.tasks.items))) (put_last k (put_first i requests_orders))
+        (subst (λ σ. DifferInOrders answer_state (state_by σ m.arrivals.now m.time (Effects (Some i)) (Some i) false m'.tasks.items m'.links.ready))
+        (sym stores)
+        (subst (λ (q : Queues). DifferInOrders answer_state (state_by (stores_of m) m.arrivals.now m.time (Effects (Some i))
+        (Some i) false m'.tasks.items q.ready)) (sym links)
+        (settled-differs (stores_of m) m.arrivals.now m.time i m'.tasks.items
+        (change k (released m.costs) (change i (λ v. going m.costs vars pieces (outside_now v)) (map task_of m.tasks.items)))
+        (put_last k (put_first i requests_orders))
         (at_tail (k, (task_of u').active) m.links.ready) answer_tasks answer_queued answer_state refl refl refl)))
         system_is
-        (release-sound m.until m.time m.costs m.units.now i tasks' m.links answer_whole t' requests_now k m'.tasks.items u u' c waits m'.links links works')
+        (release-sound m.until m.time m.costs m.units.now i tasks' m.links answer_whole t' requests_now k m'.tasks.items u u' c waits m'.links
+        links works')
         ends of less (omega (arith, less, sleep, sleep', one, two))

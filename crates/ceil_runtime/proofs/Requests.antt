@@ -1,5 +1,6 @@
 -- The parts of a request: a value is kept, the control structure opens, and the task that is requested is released where it waits.
-use Rattle.std.specs.Prelude.{◌≡◌, ◌≢◌, ◌⊎◌, ℕ, zero, suc, ◌+◌, ◌<◌, ◌≤◌, min, true, false, List, [], ◌∷◌, length, map, Option, Some, None, option_map, slice_get, ℤ, refl}
+use Rattle.std.specs.Prelude.{◌≡◌, ◌≢◌, ◌⊎◌, ℕ, zero, suc, ◌+◌, ◌<◌, ◌≤◌, min, true, false, List, [], ◌∷◌, length, map, Option, Some, None}
+use Rattle.std.specs.Prelude.{option_map, slice_get, ℤ, refl}
 use Rattle.std.proofs.Common.{sym, ◌∙◌, ap, subst, arith, inl, inr}
 use Rattle.std.proofs.lemmas.List.{length-map}
 use Rattle.std.proofs.lemmas.Option.{same_Some, slice_get-map}
@@ -26,10 +27,12 @@ use Rattle.ceil_runtime.specs.declared.task.Task.{Task}
 use Rattle.ceil_runtime.specs.declared.task.Readiness.TheVariants as readies
 use Rattle.ceil_runtime.specs.declared.processor.Phase.TheVariants.{Effects}
 use Rattle.ceil_runtime.proofs.Processed.{changed-alike, Changed, changed-all, changed-length, changed-tasks, here-of}
-use Rattle.ceil_runtime.proofs.Released.{asleep-apart, going-next, going-readiness, ready-is, released-nested, released-readiness, released-used, waits-next}
+use Rattle.ceil_runtime.proofs.Released.{asleep-apart, going-next, going-readiness, ready-is, released-nested, released-readiness, released-used}
+use Rattle.ceil_runtime.proofs.Released.{waits-next}
 
 -- the order of dispatch by the state of the task that has effects
-pub order-by : (i : ℕ) (tasks : List Task) (a : states.Task) (es : List Entry) → slice_get (map task_of tasks) i ≡ Some a → order_of (Effects (Some i)) tasks es ≡ at_head (i, a.active) es
+pub order-by : (i : ℕ) (tasks : List Task) (a : states.Task) (es : List Entry) → slice_get (map task_of tasks) i ≡ Some a
+    → order_of (Effects (Some i)) tasks es ≡ at_head (i, a.active) es
 order-by i tasks a es at = by_task (slice_get tasks i) refl
   where
     by_task : (o : Option Task) → slice_get tasks i ≡ o → with_task i (slice_get tasks i) es ≡ at_head (i, a.active) es
@@ -42,18 +45,24 @@ order-by i tasks a es at = by_task (slice_get tasks i) refl
         ap (λ o. with_task i o es) e ∙ ap (λ u. at_head (i, u.active) es) same
 
 -- tasks of which some have changed, in the order of dispatch by these numbers: the machine's numbers say the same
-module _ (stores : List Variables) (arrivals : List Arrival) (time i : ℕ) (tasks : List Task) (ts : List states.Task) (os : List ℤ) (ready : List Entry) (are : map task_of tasks ≡ ts) (queued : AreQueued ts os (order_of (Effects (Some i)) tasks ready)) where
-  pub settled-queued : AreQueued (map task_of tasks) (places (length tasks) (order_of (Effects (Some i)) tasks ready)) (order_of (Effects (Some i)) tasks ready)
+module _ (stores : List Variables) (arrivals : List Arrival) (time i : ℕ) (tasks : List Task) (ts : List states.Task) (os : List ℤ)
+    (ready : List Entry) (are : map task_of tasks ≡ ts) (queued : AreQueued ts os (order_of (Effects (Some i)) tasks ready)) where
+  pub settled-queued : AreQueued (map task_of tasks) (places (length tasks) (order_of (Effects (Some i)) tasks ready))
+      (order_of (Effects (Some i)) tasks ready)
   settled-queued =
-      subst (λ (n : ℕ). AreQueued (map task_of tasks) (places n (order_of (Effects (Some i)) tasks ready)) (order_of (Effects (Some i)) tasks ready)) (length-map tasks task_of)
-      (queued-places (map task_of tasks) os (order_of (Effects (Some i)) tasks ready) (subst (λ (us : List states.Task). AreQueued us os (order_of (Effects (Some i)) tasks ready)) (sym are) queued))
+      subst (λ (n : ℕ). AreQueued (map task_of tasks) (places n (order_of (Effects (Some i)) tasks ready)) (order_of (Effects (Some i)) tasks ready))
+      (length-map tasks task_of)
+      (queued-places (map task_of tasks) os (order_of (Effects (Some i)) tasks ready)
+      (subst (λ (us : List states.Task). AreQueued us os (order_of (Effects (Some i)) tasks ready)) (sym are) queued))
 
   settled_ranks : RankAlike ts os (places (length tasks) (order_of (Effects (Some i)) tasks ready))
   settled_ranks =
       ranks-alike ts os (places (length tasks) (order_of (Effects (Some i)) tasks ready)) (order_of (Effects (Some i)) tasks ready) queued
-      (subst (λ (us : List states.Task). AreQueued us (places (length tasks) (order_of (Effects (Some i)) tasks ready)) (order_of (Effects (Some i)) tasks ready)) are settled-queued)
+      (subst (λ (us : List states.Task). AreQueued us (places (length tasks) (order_of (Effects (Some i)) tasks ready))
+      (order_of (Effects (Some i)) tasks ready)) are settled-queued)
 
-  pub settled-differs : (s : states.State) → state_by stores arrivals time (Effects (Some i)) (Some i) false tasks ready ≡ record s { tasks = map task_of tasks; orders = places (length tasks) (order_of (Effects (Some i)) tasks ready) }
+  pub settled-differs : (s : states.State) → state_by stores arrivals time (Effects (Some i)) (Some i) false tasks ready
+      ≡ record s { tasks = map task_of tasks; orders = places (length tasks) (order_of (Effects (Some i)) tasks ready) }
       → s.tasks ≡ ts → s.orders ≡ os → DifferInOrders s (state_by stores arrivals time (Effects (Some i)) (Some i) false tasks ready)
   settled-differs s like tasks_are orders_are = record {
     same = like ∙ ap (λ us. record s { tasks = us; orders = places (length tasks) (order_of (Effects (Some i)) tasks ready) }) (are ∙ sym tasks_are);
@@ -62,7 +71,8 @@ module _ (stores : List Variables) (arrivals : List Arrival) (time i : ℕ) (tas
   }
 
 -- a change of a task's control structure
-module _ (until time : ℕ) (us : List units.Unit) (i : ℕ) (tasks : List Task) (q : Queues) (sound : IsSound until time (Effects (Some i)) (Some i) us tasks q) (k : ℕ) (tasks' : List Task) (u u' : Task) (f : states.Task → states.Task)
+module _ (until time : ℕ) (us : List units.Unit) (i : ℕ) (tasks : List Task) (q : Queues)
+    (sound : IsSound until time (Effects (Some i)) (Some i) us tasks q) (k : ℕ) (tasks' : List Task) (u u' : Task) (f : states.Task → states.Task)
     (c : Changed tasks tasks' k u u' f) (same : (v : states.Task) → ((f v).readiness ≡ v.readiness) × ((f v).active ≡ v.active)) where
   gate_order : order_of (Effects (Some i)) tasks' q.ready ≡ order_of (Effects (Some i)) tasks q.ready
   gate_order = by_task (slice_get (map task_of tasks') i) refl
@@ -72,33 +82,46 @@ module _ (until time : ℕ) (us : List units.Unit) (i : ℕ) (tasks : List Task)
       outside (v ∷ vs) zero h e = cc
       outside (v ∷ vs) (suc j) h e = outside vs j (omega arith) e
 
-      by_task : (o : Option states.Task) → slice_get (map task_of tasks') i ≡ o → order_of (Effects (Some i)) tasks' q.ready ≡ order_of (Effects (Some i)) tasks q.ready
-      by_task None e = absurd (outside (map task_of tasks') i (omega (arith, length-map tasks' task_of, changed-length tasks tasks' k u u' f c, sound.here.1)) e)
+      by_task : (o : Option states.Task) → slice_get (map task_of tasks') i ≡ o
+          → order_of (Effects (Some i)) tasks' q.ready ≡ order_of (Effects (Some i)) tasks q.ready
+      by_task None e = absurd (outside (map task_of tasks') i
+          (omega (arith, length-map tasks' task_of, changed-length tasks tasks' k u u' f c, sound.here.1)) e)
       by_task (Some a) e =
-          let b : Before k f (map task_of tasks) i a = before-change k f (map task_of tasks) i a (ap (λ ts. slice_get ts i) (sym (changed-tasks tasks tasks' k u u' f c)) ∙ e) in
+          let b : Before k f (map task_of tasks) i a
+          = before-change k f (map task_of tasks) i a (ap (λ ts. slice_get ts i) (sym (changed-tasks tasks tasks' k u u' f c)) ∙ e) in
           order-by i tasks' a q.ready e ∙ ap (λ n. at_head (i, n) q.ready) (active b.task b.is) ∙ sym (order-by i tasks b.task q.ready b.at)
         where
           active : (v : states.Task) → (a ≡ v) ⊎ (a ≡ f v) → a.active ≡ v.active
           active v (inl h) = ap (λ w. w.active) h
           active v (inr h) = ap (λ w. w.active) h ∙ (same v).1
 
-  gate_queued : AreQueued (change k f (map task_of tasks)) (places (length tasks) (order_of (Effects (Some i)) tasks q.ready)) (order_of (Effects (Some i)) tasks' q.ready)
+  gate_queued : AreQueued (change k f (map task_of tasks)) (places (length tasks) (order_of (Effects (Some i)) tasks q.ready))
+      (order_of (Effects (Some i)) tasks' q.ready)
   gate_queued =
       subst (AreQueued (change k f (map task_of tasks)) (places (length tasks) (order_of (Effects (Some i)) tasks q.ready))) (sym gate_order)
-      (queued-kept (map task_of tasks) (places (length tasks) (order_of (Effects (Some i)) tasks q.ready)) (order_of (Effects (Some i)) tasks q.ready) k f sound.queued same)
+      (queued-kept (map task_of tasks) (places (length tasks) (order_of (Effects (Some i)) tasks q.ready))
+      (order_of (Effects (Some i)) tasks q.ready) k f sound.queued same)
 
   pub gate-differs : (stores : List Variables) (arrivals : List Arrival)
-      → DifferInOrders (record (state_by stores arrivals time (Effects (Some i)) (Some i) false tasks q.ready) { tasks = change k f (map task_of tasks) }) (state_by stores arrivals time (Effects (Some i)) (Some i) false tasks' q.ready)
+      → DifferInOrders (record (state_by stores arrivals time (Effects (Some i)) (Some i) false tasks q.ready) {
+        tasks
+            = change k f (map task_of tasks);
+      }) (state_by stores arrivals time (Effects (Some i)) (Some i) false tasks' q.ready)
   gate-differs stores arrivals =
-      settled-differs stores arrivals time i tasks' (change k f (map task_of tasks)) (places (length tasks) (order_of (Effects (Some i)) tasks q.ready)) q.ready (changed-tasks tasks tasks' k u u' f c) gate_queued
-      (record (state_by stores arrivals time (Effects (Some i)) (Some i) false tasks q.ready) { tasks = change k f (map task_of tasks) }) refl refl refl
+      settled-differs stores arrivals time i tasks' (change k f (map task_of tasks))
+      (places (length tasks) (order_of (Effects (Some i)) tasks q.ready)) q.ready (changed-tasks tasks tasks' k u u' f c) gate_queued
+      (record (state_by stores arrivals time (Effects (Some i)) (Some i) false tasks q.ready) { tasks = change k f (map task_of tasks) })
+      refl refl refl
 
-  pub gate-sound : u'.readiness ≡ u.readiness → u'.left ≡ u.left → u'.used ≡ u.used → u'.works ≡ u.works → u'.next ≡ u.next → (IsNested (task_of u) → IsNested (task_of u'))
+  pub gate-sound : u'.readiness ≡ u.readiness → u'.left ≡ u.left → u'.used ≡ u.used → u'.works ≡ u.works → u'.next ≡ u.next
+      → (IsNested (task_of u) → IsNested (task_of u'))
       → IsSound until time (Effects (Some i)) (Some i) us tasks' q
   gate-sound ready left used works next nests = record {
     size = sound.size ∙ sym len;
-    queued = settled-queued [] [] time i tasks' (change k f (map task_of tasks)) (places (length tasks) (order_of (Effects (Some i)) tasks q.ready)) q.ready (changed-tasks tasks tasks' k u u' f c) gate_queued;
-    sleeping = subst (λ (ts : List states.Task). AreSleeping ts time q.asleep) (sym (changed-tasks tasks tasks' k u u' f c)) (sleeping-kept (map task_of tasks) time q.asleep k f sound.sleeping (λ v. (same v).0));
+    queued = settled-queued [] [] time i tasks' (change k f (map task_of tasks)) (places (length tasks)
+        (order_of (Effects (Some i)) tasks q.ready)) q.ready (changed-tasks tasks tasks' k u u' f c) gate_queued;
+    sleeping = subst (λ (ts : List states.Task). AreSleeping ts time q.asleep) (sym (changed-tasks tasks tasks' k u u' f c)) (sleeping-kept
+        (map task_of tasks) time q.asleep k f sound.sleeping (λ v. (same v).0));
     kept = changed-all tasks tasks' k u u' f c (IsKept until time us) (IsKept until time us) sound.kept (λ v h. h) (keeps (sound.kept k u c.here));
     here = (sound.here.0, omega (arith, len, sound.here.1));
     near = sound.near;
@@ -121,7 +144,8 @@ module _ (until time : ℕ) (us : List units.Unit) (i : ℕ) (tasks : List Task)
       }
 
 -- the release of another task, which waits
-module _ (until time : ℕ) (costs : Costs) (us : List units.Unit) (i : ℕ) (tasks : List Task) (q : Queues) (sound : IsSound until time (Effects (Some i)) (Some i) us tasks q) (t : Task) (here : slice_get tasks i ≡ Some t)
+module _ (until time : ℕ) (costs : Costs) (us : List units.Unit) (i : ℕ) (tasks : List Task) (q : Queues)
+    (sound : IsSound until time (Effects (Some i)) (Some i) us tasks q) (t : Task) (here : slice_get tasks i ≡ Some t)
     (k : ℕ) (tasks' : List Task) (u u' : Task) (c : Changed tasks tasks' k u u' (released costs)) (waits : u.readiness ≡ readies.Waiting) where
   abbrev release_orders : List ℤ
   release_orders = places (length tasks) (order_of (Effects (Some i)) tasks q.ready)
@@ -136,33 +160,49 @@ module _ (until time : ℕ) (costs : Costs) (us : List units.Unit) (i : ℕ) (ta
   release_waits = ap (λ r. readiness_of r u.next) waits
 
   release_other : k ≢ i
-  release_other = other-waits (system_by until costs us tasks) (map task_of tasks) release_orders i (task_of t) q.ready release_here release_before k (task_of u) (here-of tasks tasks' k u u' _ c) release_waits
+  release_other = other-waits (system_by until costs us tasks) (map task_of tasks) release_orders i (task_of t) q.ready release_here release_before k
+      (task_of u) (here-of tasks tasks' k u u' _ c) release_waits
 
   release_active : (released costs (task_of u)).active ≡ (task_of u').active
   release_active = ap (λ v. v.active) (sym c.does)
 
-  release_order : order_of (Effects (Some i)) tasks' (at_tail (k, (task_of u').active) q.ready) ≡ at_head (i, (task_of t).active) (at_tail (k, (task_of u').active) q.ready)
+  release_order : order_of (Effects (Some i)) tasks' (at_tail (k, (task_of u').active) q.ready)
+      ≡ at_head (i, (task_of t).active) (at_tail (k, (task_of u').active) q.ready)
   release_order =
       order-by i tasks' (task_of t) (at_tail (k, (task_of u').active) q.ready)
-      (ap (λ ts. slice_get ts i) (changed-tasks tasks tasks' k u u' _ c) ∙ get-other k i (released costs) (map task_of tasks) (λ e. release_other (sym e)) ∙ release_here)
+      (ap (λ ts. slice_get ts i) (changed-tasks tasks tasks' k u u' _ c) ∙ get-other k i (released costs) (map task_of tasks)
+      (λ e. release_other (sym e)) ∙ release_here)
 
-  release_queued : AreQueued (change k (released costs) (map task_of tasks)) (put_last k release_orders) (order_of (Effects (Some i)) tasks' (at_tail (k, (task_of u').active) q.ready))
+  release_queued : AreQueued (change k (released costs) (map task_of tasks)) (put_last k release_orders)
+      (order_of (Effects (Some i)) tasks' (at_tail (k, (task_of u').active) q.ready))
   release_queued =
       subst (AreQueued (change k (released costs) (map task_of tasks)) (put_last k release_orders)) (sym release_order)
-      (subst (λ (n : ℕ). AreQueued (change k (released costs) (map task_of tasks)) (put_last k release_orders) (at_head (i, (task_of t).active) (at_tail (k, n) q.ready))) release_active
-      (release-queued (system_by until costs us tasks) (map task_of tasks) release_orders i (task_of t) q.ready release_here release_before k (task_of u) (here-of tasks tasks' k u u' _ c) release_waits))
+      (subst (λ (n : ℕ). AreQueued (change k (released costs) (map task_of tasks)) (put_last k release_orders)
+      (at_head (i, (task_of t).active) (at_tail (k, n) q.ready))) release_active
+      (release-queued (system_by until costs us tasks) (map task_of tasks) release_orders i (task_of t) q.ready release_here release_before k
+      (task_of u) (here-of tasks tasks' k u u' _ c) release_waits))
 
   pub release-differs : (stores : List Variables) (arrivals : List Arrival)
-      → DifferInOrders (record (state_by stores arrivals time (Effects (Some i)) (Some i) false tasks q.ready) { tasks = change k (released costs) (map task_of tasks); orders = put_last k release_orders })
+      → DifferInOrders (record (state_by stores arrivals time (Effects (Some i)) (Some i) false tasks q.ready) {
+        tasks
+            = change k (released costs) (map task_of tasks);
+        orders = put_last k release_orders;
+      })
       (state_by stores arrivals time (Effects (Some i)) (Some i) false tasks' (at_tail (k, (task_of u').active) q.ready))
   release-differs stores arrivals =
-      settled-differs stores arrivals time i tasks' (change k (released costs) (map task_of tasks)) (put_last k release_orders) (at_tail (k, (task_of u').active) q.ready) (changed-tasks tasks tasks' k u u' _ c) release_queued
-      (record (state_by stores arrivals time (Effects (Some i)) (Some i) false tasks q.ready) { tasks = change k (released costs) (map task_of tasks); orders = put_last k release_orders }) refl refl refl
+      settled-differs stores arrivals time i tasks' (change k (released costs) (map task_of tasks)) (put_last k release_orders)
+      (at_tail (k, (task_of u').active) q.ready) (changed-tasks tasks tasks' k u u' _ c) release_queued
+      (record (state_by stores arrivals time (Effects (Some i)) (Some i) false tasks q.ready) {
+        tasks = change k (released costs) (map task_of tasks);
+        orders = put_last k release_orders;
+      }) refl refl refl
 
-  pub release-sound : (q' : Queues) → q' ≡ record q { ready = at_tail (k, (task_of u').active) q.ready } → u'.works ≤ u.works + min u'.left 1 → IsSound until time (Effects (Some i)) (Some i) us tasks' q'
+  pub release-sound : (q' : Queues) → q' ≡ record q { ready = at_tail (k, (task_of u').active) q.ready } → u'.works ≤ u.works + min u'.left 1
+      → IsSound until time (Effects (Some i)) (Some i) us tasks' q'
   release-sound q' is works = subst (IsSound until time (Effects (Some i)) (Some i) us tasks') (sym is) (record {
     size = sound.size ∙ sym len;
-    queued = settled-queued [] [] time i tasks' (change k (released costs) (map task_of tasks)) (put_last k release_orders) (at_tail (k, (task_of u').active) q.ready) (changed-tasks tasks tasks' k u u' _ c) release_queued;
+    queued = settled-queued [] [] time i tasks' (change k (released costs) (map task_of tasks)) (put_last k release_orders) (at_tail
+        (k, (task_of u').active) q.ready) (changed-tasks tasks tasks' k u u' _ c) release_queued;
     sleeping = subst (λ (ts : List states.Task). AreSleeping ts time q.asleep) (sym (changed-tasks tasks tasks' k u u' _ c))
         (sleeping-awake (map task_of tasks) time q.asleep k (task_of u) (released costs) sound.sleeping (here-of tasks tasks' k u u' _ c)
         (λ n h. asleep-apart u.readiness u.next n (λ e. wrong (sym e ∙ waits)) h) (λ n h. ready_apart n (sym (going-readiness costs _ _ _) ∙ h)));

@@ -1,5 +1,6 @@
 -- Variables from a place on: what is found among them, and what a write makes of them.
-use Rattle.std.proofs.Common.{◌≡◌, ℕ, zero, suc, ◌+◌, ◌-◌, ◌≤◌, ◌<◌, Bool, true, false, List, [], ◌∷◌, length, take, drop, set, get_or, refl, ap, sym, ◌∙◌, arith, Some, None}
+use Rattle.std.proofs.Common.{◌≡◌, ℕ, zero, suc, ◌+◌, ◌-◌, ◌≤◌, ◌<◌, Bool, true, false, List, [], ◌∷◌, length, take, drop, set, get_or, refl, ap}
+use Rattle.std.proofs.Common.{sym, ◌∙◌, arith, Some, None}
 use Rattle.std.proofs.lemmas.List.{drop-set-add, get_or-drop, length-drop, take-set-le, take_all}
 use Rattle.seq_tree.specs.Names.{Name, same_name}
 use Rattle.seq_tree.specs.Variables.{write}
@@ -57,13 +58,15 @@ module _ (name : Name) (vs : List Var) (floor at : ℕ) (is : at ≡ up_to_last 
       → vars_of (drop floor (set vs (at - 1) w)) ≡ write name value (vars_of (drop floor vs))
   write-from value d w some valued named =
       ap (λ k. vars_of (drop floor (set vs k w))) (sym (place some)) ∙ ap vars_of (drop-set-add floor vs (at - 1 - floor) w)
-      ∙ sym (write-last name value (drop floor vs) [] d w valued (at - 1 - floor) (one some) (named ∙ ap (λ (x : Var). x.name.now) (sym (there d some))))
+      ∙ sym (write-last name value (drop floor vs) [] d w valued (at - 1 - floor) (one some)
+      (named ∙ ap (λ (x : Var). x.name.now) (sym (there d some))))
 
   pub front-from : (w : Var) → floor < at → take floor (set vs (at - 1) w) ≡ take floor vs
   front-from w some = take-set-le floor vs (at - 1) w (omega (arith, some))
 
 -- variables that come back, where the body that ended has none left
-pub back-items : (vs : List Var) (floor count : ℕ) → drop floor vs ≡ [] → floor ≤ length vs → drop (floor - count) vs ≡ drop (length (take floor vs) - count) (take floor vs)
+pub back-items : (vs : List Var) (floor count : ℕ) → drop floor vs ≡ [] → floor ≤ length vs
+    → drop (floor - count) vs ≡ drop (length (take floor vs) - count) (take floor vs)
 back-items vs floor count nothing within =
     let left = length-drop floor vs in
     let size = ap length nothing in

@@ -1,14 +1,17 @@
 -- How many sections a task is inside: each has its end among the pieces left.
-use Rattle.std.proofs.Common.{◌≡◌, ℕ, suc, ◌+◌, ◌≤◌, ◌<◌, length, Bool, true, false, List, [], ◌∷◌, drop, fold, map, refl, ap, sym, subst, ◌∙◌, arith, Some}
+use Rattle.std.proofs.Common.{◌≡◌, ℕ, suc, ◌+◌, ◌≤◌, ◌<◌, length, Bool, true, false, List, [], ◌∷◌, drop, fold, map, refl, ap, sym, subst, ◌∙◌}
+use Rattle.std.proofs.Common.{arith, Some}
 use Rattle.std.specs.Prelude.{if◌then◌else◌, nat_le}
 use Rattle.seq_tree.specs.Names.{Name}
 use Rattle.seq_tree.specs.Expressions.{Expression}
-use Rattle.seq_tree.specs.Statements.{Statement, Statements, Branches, Null, Assign, If, For, ExitWhen, Call, Work, Put, End, Then, Nothing, Else, When}
+use Rattle.seq_tree.specs.Statements.{Statement, Statements, Branches, Null, Assign, If, For, ExitWhen, Call, Work, Put, End, Then, Nothing}
+use Rattle.seq_tree.specs.Statements.{Else, When}
 use Rattle.seq_tree.specs.Trees.{expression_of, statement_of, statements_of}
 use Rattle.seq_tree.specs.Values.{holds}
 use Rattle.seq_tree.specs.Variables.{Variables}
 use Rattle.machine.specs.Systems.{System, CallTarget, Plain, Protected, Request, Unknown, callee}
-use Rattle.machine.specs.Pieces.{Piece, Idle, Store, Leaving, Calling, Working, Printing, Testing, Turning, Turned, Returning, Closing, Keeping, Opening, Requested, Finishing, after_loop, branch_pieces, pieces, pieces_of, turns}
+use Rattle.machine.specs.Pieces.{Piece, Idle, Store, Leaving, Calling, Working, Printing, Testing, Turning, Turned, Returning, Closing, Keeping}
+use Rattle.machine.specs.Pieces.{Opening, Requested, Finishing, after_loop, branch_pieces, pieces, pieces_of, turns}
 use Rattle.machine.specs.Deeds as deeds
 use Rattle.machine.specs.Deeds.{called, done}
 use Rattle.ceil_runtime.specs.Framed.{frames_of}
@@ -32,7 +35,8 @@ use Rattle.ceil_runtime.proofs.Doings.{request-at}
 use Rattle.ceil_runtime.proofs.Starting.{few-ends}
 
 -- no ends of sections are among the pieces of statements
-sections_turns : (b : Bool) (name : Name) (at last : ℕ) (body : Statements) (rest : List Piece) → nat_le at last ≡ b → sections_among (turns name at last body rest) ≡ sections_among rest
+sections_turns : (b : Bool) (name : Name) (at last : ℕ) (body : Statements) (rest : List Piece) → nat_le at last ≡ b
+    → sections_among (turns name at last body rest) ≡ sections_among rest
 sections_turns true name at last body rest e = rw e refl
 sections_turns false name at last body rest e = rw e refl
 
@@ -102,7 +106,8 @@ frames_inside : (p : Place) (k : Kept) (fs : List Frame) → LoopsInside p k →
 frames_inside p k [] h = h
 frames_inside p k (f ∷ fs) h = frames_inside (next p f) (with_frame k f) fs (frame_inside p k f h)
 
-sections_loop : (t : Thread) (fs : List Frame) → (place_of (first_place t) fs).spot.inside ≡ true → sections_among (after_loop (behind fs)) ≡ sections_among (behind fs)
+sections_loop : (t : Thread) (fs : List Frame) → (place_of (first_place t) fs).spot.inside ≡ true
+    → sections_among (after_loop (behind fs)) ≡ sections_among (behind fs)
 sections_loop t fs inside = frames_inside (first_place t) nothing_kept fs (λ h. absurd (no_true h)) inside
 
 -- what a piece does to the sections
@@ -114,19 +119,24 @@ called_inside (Request task) unit op actuals vs rest = refl
 called_inside Unknown unit op actuals vs rest = refl
 
 leaving_inside : (b : Bool) (vs : Variables) (rest : List Piece) → sections_among (after_loop rest) ≡ sections_among rest
-    → (d : deeds.PieceOutcome) → d ≡ (if b then deeds.deed deeds.Silent (drop 1 vs) (after_loop rest) else deeds.deed deeds.Silent vs rest) → StaysInside d.act (sections_among rest) (sections_among d.pieces)
+    → (d : deeds.PieceOutcome) → d ≡ (if b then deeds.deed deeds.Silent (drop 1 vs) (after_loop rest) else deeds.deed deeds.Silent vs rest)
+    → StaysInside d.act (sections_among rest) (sections_among d.pieces)
 leaving_inside true vs rest h d e = subst (λ x. StaysInside x.act (sections_among rest) (sections_among x.pieces)) (sym e) h
 leaving_inside false vs rest h d e = subst (λ x. StaysInside x.act (sections_among rest) (sections_among x.pieces)) (sym e) refl
 
-testing_inside : (b : Bool) (block : Statements) (others : Branches) (rest : List Piece) → sections_among (if b then pieces block rest else branch_pieces others rest) ≡ sections_among rest
+testing_inside : (b : Bool) (block : Statements) (others : Branches) (rest : List Piece)
+    → sections_among (if b then pieces block rest else branch_pieces others rest) ≡ sections_among rest
 testing_inside true block others rest = sections-pieces block rest
 testing_inside false block others rest = sections-branches others rest
 
-done_inside : (z : System) (p : Piece) (vs : Variables) (rest : List Piece) → ((condition : Expression) → p ≡ Leaving condition → sections_among (after_loop rest) ≡ sections_among rest)
-    → (p ≡ Finishing → sections_among rest ≡ 0) → StaysInside (done z p vs rest).act (sections_among (p ∷ rest)) (sections_among (done z p vs rest).pieces)
+done_inside : (z : System) (p : Piece) (vs : Variables) (rest : List Piece)
+    → ((condition : Expression) → p ≡ Leaving condition → sections_among (after_loop rest) ≡ sections_among rest)
+    → (p ≡ Finishing → sections_among rest ≡ 0)
+    → StaysInside (done z p vs rest).act (sections_among (p ∷ rest)) (sections_among (done z p vs rest).pieces)
 done_inside z Idle vs rest loop over = refl
 done_inside z (Store target e) vs rest loop over = refl
-done_inside z (Leaving condition) vs rest loop over = leaving_inside (holds condition vs) vs rest (loop condition refl) (done z (Leaving condition) vs rest) refl
+done_inside z (Leaving condition) vs rest loop over
+    = leaving_inside (holds condition vs) vs rest (loop condition refl) (done z (Leaving condition) vs rest) refl
 done_inside z (Calling unit op actuals) vs rest loop over = called_inside (callee z unit op) unit op actuals vs rest
 done_inside z (Working ticks) vs rest loop over = refl
 done_inside z (Printing e) vs rest loop over = refl
@@ -152,7 +162,8 @@ is_end _ = false
 never : (f : Piece → Bool) (p q : Piece) → p ≡ q → f p ≡ false → f q ≡ true → ⊥
 never f p q e a b = no_true (sym a ∙ ap f e ∙ b)
 
-loop_of : (t : Thread) (fs : List Frame) (q : rust.Piece) (rest : List Piece) → with_parts q (behind fs) ≡ rest → FitsFirst (place_of (first_place t) fs) (Some q) → (condition : Expression) → piece_of q (put_away fs) ≡ Leaving condition
+loop_of : (t : Thread) (fs : List Frame) (q : rust.Piece) (rest : List Piece) → with_parts q (behind fs) ≡ rest
+    → FitsFirst (place_of (first_place t) fs) (Some q) → (condition : Expression) → piece_of q (put_away fs) ≡ Leaving condition
     → sections_among (after_loop rest) ≡ sections_among rest
 loop_of t fs (is.Leaving e) rest same fits c is = subst (λ ps. sections_among (after_loop ps) ≡ sections_among ps) same (sections_loop t fs fits)
 loop_of t fs is.Idle rest same fits c is = absurd (never condition_in Idle (Leaving c) is refl refl)
@@ -170,7 +181,8 @@ loop_of t fs (is.Opening r) rest same fits c is = absurd (never condition_in _ (
 loop_of t fs (is.Requested r) rest same fits c is = absurd (never condition_in _ (Leaving c) is refl refl)
 loop_of t fs is.Finishing rest same fits c is = absurd (never condition_in _ (Leaving c) is refl refl)
 
-end_of : (t : Thread) (fs : List Frame) (q : rust.Piece) (rest : List Piece) → with_parts q (behind fs) ≡ rest → FitsFirst (place_of (first_place t) fs) (Some q) → piece_of q (put_away fs) ≡ Finishing → sections_among rest ≡ 0
+end_of : (t : Thread) (fs : List Frame) (q : rust.Piece) (rest : List Piece) → with_parts q (behind fs) ≡ rest
+    → FitsFirst (place_of (first_place t) fs) (Some q) → piece_of q (put_away fs) ≡ Finishing → sections_among rest ≡ 0
 end_of t fs is.Finishing rest same fits is = ap sections_among (sym same ∙ ap behind (first-frame t fs fits))
 end_of t fs is.Idle rest same fits is = absurd (never is_end Idle Finishing is refl refl)
 end_of t fs (is.Store target e) rest same fits is = absurd (never is_end _ Finishing is refl refl)
@@ -187,26 +199,32 @@ end_of t fs (is.Keeping r) rest same fits is = absurd (never is_end _ Finishing 
 end_of t fs (is.Opening r) rest same fits is = absurd (never is_end _ Finishing is refl refl)
 end_of t fs (is.Requested r) rest same fits is = absurd (never is_end _ Finishing is refl refl)
 
-pub stays-inside : (z : System) (t : Thread) (q : rust.Piece) (fs : List Frame) (was : List Piece) (vs now : Variables) (ps : List Piece) (act : deeds.Act) → FitsFirst (place_of (first_place t) fs) (Some q)
-    → was ≡ piece_of q (put_away fs) ∷ with_parts q (behind fs) → Does z (piece_of q (put_away fs)) vs (with_parts q (behind fs)) act now ps → StaysInside act (sections_among was) (sections_among ps)
+pub stays-inside : (z : System) (t : Thread) (q : rust.Piece) (fs : List Frame) (was : List Piece) (vs now : Variables) (ps : List Piece)
+    (act : deeds.Act) → FitsFirst (place_of (first_place t) fs) (Some q)
+    → was ≡ piece_of q (put_away fs) ∷ with_parts q (behind fs) → Does z (piece_of q (put_away fs)) vs (with_parts q (behind fs)) act now ps
+    → StaysInside act (sections_among was) (sections_among ps)
 stays-inside z t q fs was vs now ps act fits is does =
     let p = piece_of q (put_away fs) in
     let rest = with_parts q (behind fs) in
     subst (λ xs. StaysInside act (sections_among xs) (sections_among ps)) (sym is)
-    (subst (λ d. StaysInside d.act (sections_among (p ∷ rest)) (sections_among d.pieces)) (does z (λ unit op. refl)) (done_inside z p vs rest (loop_of t fs q rest refl fits) (end_of t fs q rest refl fits)))
+    (subst (λ d. StaysInside d.act (sections_among (p ∷ rest)) (sections_among d.pieces)) (does z (λ unit op. refl))
+    (done_inside z p vs rest (loop_of t fs q rest refl fits) (end_of t fs q rest refl fits)))
 
 -- the task that an act concerns is one of the tasks
-called_among : (z : System) (unit op : Name) (k : CallTarget) (actuals : List Expression) (vs : Variables) (rest : List Piece) → callee z unit op ≡ k → IsAmong z (called k actuals vs rest).act
+called_among : (z : System) (unit op : Name) (k : CallTarget) (actuals : List Expression) (vs : Variables) (rest : List Piece) → callee z unit op ≡ k
+    → IsAmong z (called k actuals vs rest).act
 called_among z unit op (Plain o) actuals vs rest is = tt
 called_among z unit op (Protected object place g o) actuals vs rest is = tt
 called_among z unit op (Request task) actuals vs rest is = request-at z (op_name unit op) task is
 called_among z unit op Unknown actuals vs rest is = tt
 
-silent_among : (z : System) (condition : Expression) (vs : Variables) (rest : List Piece) (b : Bool) → holds condition vs ≡ b → IsAmong z (done z (Leaving condition) vs rest).act
+silent_among : (z : System) (condition : Expression) (vs : Variables) (rest : List Piece) (b : Bool) → holds condition vs ≡ b
+    → IsAmong z (done z (Leaving condition) vs rest).act
 silent_among z condition vs rest true e = rw e tt
 silent_among z condition vs rest false e = rw e tt
 
-first_among : (z : System) (q : rust.Piece) (away : Variables) (vs : Variables) (rest : List Piece) (p : Place) → p.spot.system ≡ z → FitsFirst p (Some q) → IsAmong z (done z (piece_of q away) vs rest).act
+first_among : (z : System) (q : rust.Piece) (away : Variables) (vs : Variables) (rest : List Piece) (p : Place) → p.spot.system ≡ z
+    → FitsFirst p (Some q) → IsAmong z (done z (piece_of q away) vs rest).act
 first_among z is.Idle away vs rest p same fits = tt
 first_among z (is.Store target e) away vs rest p same fits = tt
 first_among z (is.Leaving e) away vs rest p same fits = silent_among z (expression_of e.now) vs rest (holds (expression_of e.now) vs) refl
@@ -223,7 +241,9 @@ first_among z (is.Opening r) away vs rest p same fits = subst (λ y. r.task < le
 first_among z (is.Requested r) away vs rest p same fits = subst (λ y. r.task < length y.threads) same fits
 first_among z is.Finishing away vs rest p same fits = tt
 
-pub is-among : (t : Thread) (q : rust.Piece) (fs : List Frame) (vs now : Variables) (ps : List Piece) (act : deeds.Act) → FitsFirst (place_of (first_place t) fs) (Some q)
+pub is-among : (t : Thread) (q : rust.Piece) (fs : List Frame) (vs now : Variables) (ps : List Piece) (act : deeds.Act)
+    → FitsFirst (place_of (first_place t) fs) (Some q)
     → Does (system_of t) (piece_of q (put_away fs)) vs (with_parts q (behind fs)) act now ps → IsAmong (system_of t) act
 is-among t q fs vs now ps act fits does =
-    subst (λ d. IsAmong (system_of t) d.act) (does (system_of t) (λ unit op. refl)) (first_among (system_of t) q (put_away fs) vs (with_parts q (behind fs)) (place_of (first_place t) fs) (system-kept (first_place t) fs) fits)
+    subst (λ d. IsAmong (system_of t) d.act) (does (system_of t) (λ unit op. refl))
+    (first_among (system_of t) q (put_away fs) vs (with_parts q (behind fs)) (place_of (first_place t) fs) (system-kept (first_place t) fs) fits)

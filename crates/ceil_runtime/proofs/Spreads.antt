@@ -1,6 +1,8 @@
 -- Frames of slots: what a push, a pop, and variables that are put away or come back make of them.
-use Rattle.std.proofs.Common.{◌≡◌, ℕ, ◌+◌, ◌-◌, ◌≤◌, ◌<◌, None, Bool, true, false, ◌&&◌, List, [], ◌∷◌, ◌++◌, length, take, drop, fold, refl, ap, sym, subst, ◌∙◌, arith, append-nil}
-use Rattle.std.proofs.lemmas.List.{append_assoc, drop-append-le, drop_all, length-append, length-drop, map-append, take-append-drop, take-append-le, take_all}
+use Rattle.std.proofs.Common.{◌≡◌, ℕ, ◌+◌, ◌-◌, ◌≤◌, ◌<◌, None, Bool, true, false, ◌&&◌, List, [], ◌∷◌, ◌++◌, length, take, drop, fold, refl, ap}
+use Rattle.std.proofs.Common.{sym, subst, ◌∙◌, arith, append-nil}
+use Rattle.std.proofs.lemmas.List.{append_assoc, drop-append-le, drop_all, length-append, length-drop, map-append, take-append-drop}
+use Rattle.std.proofs.lemmas.List.{take-append-le, take_all}
 use Rattle.std.specs.Prelude.{IsSome}
 use Rattle.std.proofs.lemmas.Bool.{false≢true}
 use Rattle.std.proofs.lemmas.List.Sums.{fold-append}
@@ -31,10 +33,12 @@ spread-length vs (s ∷ ss) =
     omega (arith, two, front, rest, parts)
 
 -- one slot more, which takes what is put away above all
-pub spread-push : (vs : List Var) (ss : List Slot) (s : Slot) → length vs ≡ counted ss + s.away → spread vs (ss ++ s ∷ []) ≡ spread vs ss ++ s.frame ∷ []
+pub spread-push : (vs : List Var) (ss : List Slot) (s : Slot) → length vs ≡ counted ss + s.away
+    → spread vs (ss ++ s ∷ []) ≡ spread vs ss ++ s.frame ∷ []
 spread-push vs [] s e =
     let few : length vs ≤ s.away = omega (arith, e) in
-    ap (λ xs. saved xs ++ s.frame ∷ saved (drop s.away vs)) (take_all s.away vs few) ∙ ap (λ xs. saved vs ++ s.frame ∷ saved xs) (drop_all s.away vs few)
+    ap (λ xs. saved xs ++ s.frame ∷ saved (drop s.away vs)) (take_all s.away vs few) ∙ ap (λ xs. saved vs ++ s.frame ∷ saved xs)
+    (drop_all s.away vs few)
 spread-push vs (t ∷ ss) s e =
     let left : length (drop t.away vs) ≡ counted ss + s.away = let count = length-drop t.away vs in omega (arith, count, e) in
     ap (λ xs. saved (take t.away vs) ++ t.frame ∷ xs) (spread-push (drop t.away vs) ss s left)
@@ -112,7 +116,8 @@ names-cons v vs rest =
 fold-names : (p : Place) (vs : List Var) (rest : _) → p.names ≡ names_of (vars_of vs) ++ rest → (place_of p (saved vs)).names ≡ rest
 fold-names p [] rest e = e
 fold-names p (v ∷ vs) rest e =
-    ap (λ q. q.names) (fold-append next p (saved vs) (frame.Saved v ∷ [])) ∙ ap (drop 1) (fold-names p vs (v.name.now ∷ rest) (e ∙ names-cons v vs rest))
+    ap (λ q. q.names) (fold-append next p (saved vs) (frame.Saved v ∷ [])) ∙ ap (drop 1)
+    (fold-names p vs (v.name.now ∷ rest) (e ∙ names-cons v vs rest))
 
 fold-spot : (p : Place) (vs : List Var) → (place_of p (saved vs)).spot ≡ p.spot
 fold-spot p [] = refl
@@ -167,7 +172,8 @@ bare_away p k (frame.Return c) h b = refl
 bare_away p k (frame.Close e lent) h b = refl
 
 -- nothing is put away above all where the slots count all variables
-spread-bare : (p : Place) (k : Kept) (vs : List Var) (ss : List Slot) → Fit p k (spread vs ss) → k.away ≡ [] → are_bare ss ≡ true → length vs ≡ counted ss
+spread-bare : (p : Place) (k : Kept) (vs : List Var) (ss : List Slot) → Fit p k (spread vs ss) → k.away ≡ [] → are_bare ss ≡ true
+    → length vs ≡ counted ss
     → (fold with_frame k (spread vs ss)).away ≡ []
 spread-bare p k [] [] h none bare e = none
 spread-bare p k (v ∷ vs) [] h none bare e = absurd (omega (arith, e))
@@ -182,7 +188,8 @@ spread-bare p k vs (s ∷ ss) h none bare e =
     ∙ spread-bare (next (place_of p front) s.frame) (with_frame (fold with_frame k front) s.frame) (drop s.away vs) ss parts.1.1 here ones.1 left
 
 -- the variables of a caller come back: those that the slots do not count
-module _ (p : Place) (vs : List Var) (ss : List Slot) (away : ℕ) (count : length vs ≡ counted ss + away) (h : Fit p nothing_kept (spread vs ss)) (bare : are_bare ss ≡ true) where
+module _ (p : Place) (vs : List Var) (ss : List Slot) (away : ℕ) (count : length vs ≡ counted ss + away) (h : Fit p nothing_kept (spread vs ss))
+    (bare : are_bare ss ≡ true) where
   abbrev pub front : List Var
   front = take (length vs - away) vs
 
@@ -216,10 +223,12 @@ module _ (p : Place) (vs : List Var) (ss : List Slot) (away : ℕ) (count : leng
   pub back-names : (place_of p (spread vs ss)).names ≡ [] → names_of (vars_of back) ≡ (place_of p (spread front ss)).names
   back-names none =
       let there = ap (λ q. q.names) (sym (fold-append next p (spread front ss) (saved back)) ∙ ap (place_of p) (sym taken)) ∙ none in
-      sym (fold-had (place_of p (spread front ss)) (kept (spread front ss)) back parts.1 ∙ ap (λ ns. names_of (vars_of back) ++ ns) there ∙ append-nil (names_of (vars_of back)))
+      sym (fold-had (place_of p (spread front ss)) (kept (spread front ss)) back parts.1 ∙ ap (λ ns. names_of (vars_of back) ++ ns) there ∙ append-nil
+      (names_of (vars_of back)))
 
 -- where nothing is put away above all, the slots count all variables
-pub all-counted : (p : Place) (vs : List Var) (ss : List Slot) (away : ℕ) → length vs ≡ counted ss + away → Fit p nothing_kept (spread vs ss) → are_bare ss ≡ true → put_away (spread vs ss) ≡ []
+pub all-counted : (p : Place) (vs : List Var) (ss : List Slot) (away : ℕ) → length vs ≡ counted ss + away → Fit p nothing_kept (spread vs ss)
+    → are_bare ss ≡ true → put_away (spread vs ss) ≡ []
     → length vs ≡ counted ss
 all-counted p vs ss away count h bare none =
     let back : vars_of (drop (length vs - away) vs) ≡ [] = back-vars p vs ss away count h bare ∙ none in
@@ -251,7 +260,8 @@ none_of [] e = refl
 none_of (v ∷ vs) e = absurd (omega (arith, e))
 
 -- no slot
-pub pop-none : (p : Place) (vs : List Var) (ss : List Slot) (away : ℕ) → length vs ≡ counted ss + away → Fit p nothing_kept (spread vs ss) → are_bare ss ≡ true → put_away (spread vs ss) ≡ []
+pub pop-none : (p : Place) (vs : List Var) (ss : List Slot) (away : ℕ) → length vs ≡ counted ss + away → Fit p nothing_kept (spread vs ss)
+    → are_bare ss ≡ true → put_away (spread vs ss) ≡ []
     → ss ≡ [] → spread vs ss ≡ []
 pop-none p vs ss away count h bare none e =
     let all = all-counted p vs ss away count h bare none ∙ ap counted e in
@@ -268,14 +278,16 @@ module _ (p : Place) (vs : List Var) (ss now : List Slot) (s : Slot) (is : now �
   pub push-slot : IsPushed p s.frame (spread vs ss) (spread vs now)
   push-slot = pushed p s.frame (spread vs ss) (spread vs now) push-items
 
-  pub push-fits : Fit p nothing_kept (spread vs ss) → FitsFrame (place_of p (spread vs ss)) (put_away (spread vs ss)) s.frame → Fit p nothing_kept (spread vs now)
+  pub push-fits : Fit p nothing_kept (spread vs ss) → FitsFrame (place_of p (spread vs ss)) (put_away (spread vs ss)) s.frame
+      → Fit p nothing_kept (spread vs now)
   push-fits h here = pushed-fit p s.frame (spread vs ss) (spread vs now) push-items h here
 
   pub push-bare : are_bare ss ≡ true → is_bare s.frame ≡ true → are_bare now ≡ true
   push-bare all one = ap are_bare is ∙ bare-push ss s all one
 
 -- the variables of a body put away
-module _ (p : Place) (vs ws now : List Var) (ss : List Slot) (away : ℕ) (is : now ≡ vs ++ ws) (count : length vs ≡ counted ss + away) (h : Fit p nothing_kept (spread vs ss))
+module _ (p : Place) (vs ws now : List Var) (ss : List Slot) (away : ℕ) (is : now ≡ vs ++ ws) (count : length vs
+    ≡ counted ss + away) (h : Fit p nothing_kept (spread vs ss))
     (bare : are_bare ss ≡ true) (none : put_away (spread vs ss) ≡ []) where
   put-items : spread now ss ≡ spread vs ss ++ saved ws
   put-items = ap (λ xs. spread xs ss) is ∙ spread-away vs ws ss (all-counted p vs ss away count h bare none)

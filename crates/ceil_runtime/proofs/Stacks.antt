@@ -1,5 +1,6 @@
 -- Stacks: what is pushed stands first.
-use Rattle.std.proofs.Common.{◌≡◌, ℕ, suc, true, false, ◌+◌, ◌-◌, ◌≤◌, ◌<◌, List, [], ◌∷◌, ◌++◌, length, take, get_or, fold, refl, ap, sym, ◌∙◌, Bool, arith, drop, set, zero, Some}
+use Rattle.std.proofs.Common.{◌≡◌, ℕ, suc, true, false, ◌+◌, ◌-◌, ◌≤◌, ◌<◌, List, [], ◌∷◌, ◌++◌, length, take, get_or, fold, refl, ap, sym, ◌∙◌}
+use Rattle.std.proofs.Common.{Bool, arith, drop, set, zero, Some}
 use Rattle.std.proofs.lemmas.List.{length-drop, take-append-drop}
 use Rattle.std.proofs.lemmas.List.Sums.{fold-append}
 use Rattle.std.proofs.lemmas.Slice.Eq.{bytes_eq-Decides}
@@ -30,25 +31,30 @@ pub vars-take : (vs : List Var) (i : ℕ) (d : Var) → i < length vs → vars_o
 vars-take vs i d h = rw (take-suc vs i d h) (vars-push (take i vs) (get_or vs i d))
 
 -- the same, counted from behind
-pub vars-last : (vs : List Var) (at : ℕ) (v : Var) → 0 < at → at ≤ length vs → v ≡ get_or vs (at - 1) v → with_var (vars_of (take (at - 1) vs)) v ≡ vars_of (take at vs)
+pub vars-last : (vs : List Var) (at : ℕ) (v : Var) → 0 < at → at ≤ length vs → v ≡ get_or vs (at - 1) v
+    → with_var (vars_of (take (at - 1) vs)) v ≡ vars_of (take at vs)
 vars-last vs at v some within is =
     let less : at - 1 < length vs = omega arith in
     let up : suc (at - 1) ≡ at = omega arith in
     ap (with_var (vars_of (take (at - 1) vs))) is ∙ sym (vars-take vs (at - 1) v less) ∙ ap (λ i. vars_of (take i vs)) up
 
 -- the variable of a name gets a value, or the write goes on to those behind it
-pub write-here : (name : Name) (value : ℕ) (v : Var) (vs : Variables) → v.name.now ≡ name → write name value (with_var vs v) ≡ (v.name.now, value) ∷ vs
+pub write-here : (name : Name) (value : ℕ) (v : Var) (vs : Variables) → v.name.now ≡ name
+    → write name value (with_var vs v) ≡ (v.name.now, value) ∷ vs
 write-here name value v vs e = rw ((bytes_eq-Decides name v.name.now).1 (sym e)) refl
 
-pub write-past : (name : Name) (value : ℕ) (v : Var) (vs : Variables) → (v.name.now ≡ name → ⊥) → write name value (with_var vs v) ≡ with_var (write name value vs) v
+pub write-past : (name : Name) (value : ℕ) (v : Var) (vs : Variables) → (v.name.now ≡ name → ⊥)
+    → write name value (with_var vs v) ≡ with_var (write name value vs) v
 write-past name value v vs e = rw (not_true (same_name name v.name.now) (λ h. e (sym ((bytes_eq-Decides name v.name.now).0 h)))) refl
 
 -- the variables on others, from one place on
-vars-drop : (vs : List Var) (base : Variables) (i : ℕ) (d : Var) → i < length vs → fold with_var base (drop i vs) ≡ fold with_var (with_var base (get_or vs i d)) (drop (suc i) vs)
+vars-drop : (vs : List Var) (base : Variables) (i : ℕ) (d : Var) → i < length vs
+    → fold with_var base (drop i vs) ≡ fold with_var (with_var base (get_or vs i d)) (drop (suc i) vs)
 vars-drop vs base i d h = rw (drop-cons vs i d h) refl
 
 -- one variable changed
-vars-set : (vs : List Var) (base : Variables) (i : ℕ) (w : Var) → i < length vs → fold with_var base (set vs i w) ≡ fold with_var (with_var (fold with_var base (take i vs)) w) (drop (suc i) vs)
+vars-set : (vs : List Var) (base : Variables) (i : ℕ) (w : Var) → i < length vs
+    → fold with_var base (set vs i w) ≡ fold with_var (with_var (fold with_var base (take i vs)) w) (drop (suc i) vs)
 vars-set [] base i w h = absurd (omega arith)
 vars-set (v ∷ vs) base zero w h = refl
 vars-set (v ∷ vs) base (suc i) w h = let less : i < length vs = omega arith in vars-set vs (with_var base v) i w less
@@ -72,8 +78,10 @@ module _ (name : Name) (value : ℕ) (vs : List Var) (at : ℕ) (v : Var) (some 
   write-found now w kept named valued here e =
       let less : at - 1 < length vs = omega arith in
       let up : suc (at - 1) ≡ at = omega arith in
-      ap (λ x. vars_of (set x (at - 1) w)) kept ∙ vars-set vs [] (at - 1) w less ∙ ap (λ i. fold with_var (with_var (vars_of (take (at - 1) vs)) w) (drop i vs)) up
-      ∙ ap (λ x. fold with_var x (drop at vs)) (ap (λ n. (n, w.value) ∷ vars_of (take (at - 1) vs)) named ∙ ap (λ n. (v.name.now, n) ∷ vars_of (take (at - 1) vs)) valued
+      ap (λ x. vars_of (set x (at - 1) w)) kept ∙ vars-set vs [] (at - 1) w less ∙ ap
+      (λ i. fold with_var (with_var (vars_of (take (at - 1) vs)) w) (drop i vs)) up
+      ∙ ap (λ x. fold with_var x (drop at vs)) (ap (λ n. (n, w.value) ∷ vars_of (take (at - 1) vs)) named ∙ ap
+      (λ n. (v.name.now, n) ∷ vars_of (take (at - 1) vs)) valued
       ∙ sym (write-here name value v (vars_of (take (at - 1) vs)) here) ∙ ap (write name value) (vars-last vs at v some within is)) ∙ sym e
 
 length_onto : (vs : List Var) (base : Variables) → length (fold with_var base vs) ≡ length base + length vs
@@ -98,5 +106,6 @@ drop-onto (v ∷ vs) base = drop-one-more (length vs) (fold with_var (with_var b
 pub vars-front : (vs : List Var) (n : ℕ) → n ≤ length vs → vars_of (take n vs) ≡ drop (length vs - n) (vars_of vs)
 vars-front vs n h =
     let count : length (drop n vs) ≡ length vs - n = length-drop n vs in
-    let whole : vars_of vs ≡ fold with_var (vars_of (take n vs)) (drop n vs) = ap vars_of (sym (take-append-drop n vs)) ∙ fold-append with_var [] (take n vs) (drop n vs) in
+    let whole : vars_of vs ≡ fold with_var (vars_of (take n vs)) (drop n vs)
+    = ap vars_of (sym (take-append-drop n vs)) ∙ fold-append with_var [] (take n vs) (drop n vs) in
     sym (ap (λ m. drop m (vars_of vs)) (sym count) ∙ ap (drop (length (drop n vs))) whole ∙ drop-onto (drop n vs) (vars_of (take n vs)))

@@ -12,7 +12,8 @@ use Rattle.ceil_runtime.specs.Shown.{IsWhole, running_of}
 pub within-horizon : (m : Machine) → IsWhole m → (running_of m).state.time ≤ (running_of m).system.until
 within-horizon m whole = whole.sound.in_time
 
-ahead_in : (phase : Phase) (until time : ℕ) (ran : Option ℕ) (tasks : List Task) (q : Queues) → HoldsIn phase until time ran tasks q → phase_of phase ≡ states.Use → time + 1 ≤ until
+ahead_in : (phase : Phase) (until time : ℕ) (ran : Option ℕ) (tasks : List Task) (q : Queues) → HoldsIn phase until time ran tasks q
+    → phase_of phase ≡ states.Use → time + 1 ≤ until
 ahead_in (Effects running) until time ran tasks q h e = absurd (cc)
 ahead_in Delays until time ran tasks q h e = absurd (cc)
 ahead_in Arriving until time ran tasks q h e = absurd (cc)

@@ -1,5 +1,6 @@
 -- The opening of a processor, task by task.
-use Rattle.std.specs.Prelude.{◌≡◌, ◌≢◌, ◌⊎◌, ℕ, zero, suc, ◌<◌, ◌^◌, max, false, List, [], ◌∷◌, ◌++◌, length, map, replicate, Some, None, option_map, slice_get, ℤ, pos, refl}
+use Rattle.std.specs.Prelude.{◌≡◌, ◌≢◌, ◌⊎◌, ℕ, zero, suc, ◌<◌, ◌^◌, max, false, List, [], ◌∷◌, ◌++◌, length, map, replicate, Some, None}
+use Rattle.std.specs.Prelude.{option_map, slice_get, ℤ, pos, refl}
 use Rattle.std.proofs.Common.{sym, ◌∙◌, ap, subst, arith, inl, inr}
 use Rattle.std.proofs.lemmas.List.{length-map, map-append}
 use Rattle.seq_tree.specs.Variables.{written}
@@ -64,23 +65,28 @@ module _ {A : Type 0} where
       turn (inr h) = inr (ap suc h.0, h.1)
 
 -- one task more sleeps
-sleeping-push : (ts : List states.Task) (time : ℕ) (asleep : List Entry) (t : states.Task) (until : ℕ) → AreSleeping ts time asleep → t.readiness ≡ Asleep until → AreSleeping (ts ++ t ∷ []) time (in_time (length ts, max until time) asleep)
+sleeping-push : (ts : List states.Task) (time : ℕ) (asleep : List Entry) (t : states.Task) (until : ℕ) → AreSleeping ts time asleep
+    → t.readiness ≡ Asleep until → AreSleeping (ts ++ t ∷ []) time (in_time (length ts, max until time) asleep)
 sleeping-push ts time asleep t until a is = record {
-  each = each-put (SleepsUntil (ts ++ t ∷ []) time) (wakes_before (length ts, max until time)) (length ts, max until time) asleep (t, until, get-push-new ts t, is, refl)
+  each = each-put (SleepsUntil (ts ++ t ∷ []) time) (wakes_before (length ts, max until time)) (length ts, max until time) asleep
+      (t, until, get-push-new ts t, is, refl)
       (each-map (SleepsUntil ts time) (SleepsUntil (ts ++ t ∷ []) time) asleep (λ e s. (s.0, s.1, get-push-old ts t s.0 e.0 s.2, s.3, s.4)) a.each);
   all = λ j k u here sleeps. by_place j k u sleeps (get-push ts t u j here);
-  ordered = in_order-time (length ts, max until time) asleep (each-map (SleepsUntil ts time) (λ e. length ts ≢ e.0) asleep (λ e s. λ same. past e s same) a.each) a.ordered;
+  ordered = in_order-time (length ts, max until time) asleep (each-map (SleepsUntil ts time) (λ e. length ts ≢ e.0) asleep
+      (λ e s. λ same. past e s same) a.each) a.ordered;
 }
   where
     past : (e : Entry) → SleepsUntil ts time e → length ts ≡ e.0 → ⊥
     past e s same = let h : e.0 < length ts = get-within e.0 ts s.0 s.2 in omega arith
 
-    by_place : (j k : ℕ) (u : states.Task) → u.readiness ≡ Asleep k → (slice_get ts j ≡ Some u) ⊎ ((j ≡ length ts) × (t ≡ u)) → IsIn j (in_time (length ts, max until time) asleep)
+    by_place : (j k : ℕ) (u : states.Task) → u.readiness ≡ Asleep k → (slice_get ts j ≡ Some u) ⊎ ((j ≡ length ts) × (t ≡ u))
+        → IsIn j (in_time (length ts, max until time) asleep)
     by_place j k u sleeps (inl h) = in-put j (wakes_before (length ts, max until time)) (length ts, max until time) asleep (a.all j k u h sleeps)
     by_place j k u sleeps (inr h) = in-new j (wakes_before (length ts, max until time)) (length ts, max until time) asleep h.0
 
 -- one task more, which doesn't sleep
-waiting-push : (ts : List states.Task) (time : ℕ) (asleep : List Entry) (t : states.Task) → AreSleeping ts time asleep → ((k : ℕ) → t.readiness ≡ Asleep k → ⊥) → AreSleeping (ts ++ t ∷ []) time asleep
+waiting-push : (ts : List states.Task) (time : ℕ) (asleep : List Entry) (t : states.Task) → AreSleeping ts time asleep
+    → ((k : ℕ) → t.readiness ≡ Asleep k → ⊥) → AreSleeping (ts ++ t ∷ []) time asleep
 waiting-push ts time asleep t a awake = record {
   each = each-map (SleepsUntil ts time) (SleepsUntil (ts ++ t ∷ []) time) asleep (λ e s. (s.0, s.1, get-push-old ts t s.0 e.0 s.2, s.3, s.4)) a.each;
   all = λ j k u here sleeps. by_place j k u sleeps (get-push ts t u j here);
@@ -106,16 +112,29 @@ open-none until us q ready asleep = record {
     none' : {u : Task} → None ≡ Some u → ⊥
     none' k = cc
 
-module _ (until : ℕ) (us : List units.Unit) (threads : List Thread) (tasks : List Task) (q : Queues) (o : AreOpen until us threads tasks q) (t : Task) (th : Thread) (fresh : IsFresh t th) (can : CanStart us th) where
+module _ (until : ℕ) (us : List units.Unit) (threads : List Thread) (tasks : List Task) (q : Queues) (o : AreOpen until us threads tasks q) (t : Task)
+    (th : Thread) (fresh : IsFresh t th) (can : CanStart us th) where
   first : task_of t ≡ first_task (thread_of th)
   first =
-      let view : Thread → _ → _ → ℕ → ℕ → ℕ → ℕ → states.Readiness → states.Gate → states.Task = λ h vs ps n l u w r g. record (first_task (thread_of h)) { vars = vs; pieces = ps; next = n; left = l; used = u; works = w; readiness = r; gate = g } in
+      let view : Thread → _ → _ → ℕ → ℕ → ℕ → ℕ → states.Readiness → states.Gate → states.Task
+      = λ h vs ps n l u w r g. record (first_task (thread_of h)) {
+        vars = vs;
+        pieces = ps;
+        next = n;
+        left = l;
+        used = u;
+        works = w;
+        readiness = r;
+        gate = g;
+      } in
       let n0 : ℕ = first_time (timing_of th.timing) in
       ap (λ (a : ℕ). record (task_of t) { active = a }) (fresh.active ∙ ap (λ h. h.priority) (sym fresh.thread))
       ∙ ap (λ hs. record (task_of t) { active = t.progress.stack.thread.priority; inside = inside_of hs }) fresh.inside
-      ∙ ap (λ n. view t.progress.stack.thread (vars_left t.progress) (pieces_left t.progress) n t.left t.used t.works (readiness_of t.readiness n) (gate_of t.gate)) fresh.next
+      ∙ ap (λ n. view t.progress.stack.thread (vars_left t.progress) (pieces_left t.progress) n t.left t.used t.works (readiness_of t.readiness n)
+      (gate_of t.gate)) fresh.next
       ∙ ap (λ r. view t.progress.stack.thread (vars_left t.progress) (pieces_left t.progress) n0 t.left t.used t.works r (gate_of t.gate)) fresh.rests
-      ∙ ap (λ h. view h (vars_left t.progress) (pieces_left t.progress) n0 t.left t.used t.works (first_wait (timing_of th.timing)) (gate_of t.gate)) fresh.thread
+      ∙ ap (λ h. view h (vars_left t.progress) (pieces_left t.progress) n0 t.left t.used t.works (first_wait (timing_of th.timing)) (gate_of t.gate))
+      fresh.thread
       ∙ ap (λ vs. view th vs (pieces_left t.progress) n0 t.left t.used t.works (first_wait (timing_of th.timing)) (gate_of t.gate)) fresh.vars
       ∙ ap (λ ps. view th (written th.«data».now) ps n0 t.left t.used t.works (first_wait (timing_of th.timing)) (gate_of t.gate)) fresh.pieces
       ∙ ap (λ l. view th (written th.«data».now) [] n0 l t.used t.works (first_wait (timing_of th.timing)) (gate_of t.gate)) fresh.left
@@ -124,13 +143,15 @@ module _ (until : ℕ) (us : List units.Unit) (threads : List Thread) (tasks : L
       ∙ ap (λ g. view th (written th.«data».now) [] n0 0 0 0 (first_wait (timing_of th.timing)) g) fresh.gate
 
   -- with one task more, and the lists that stand for it
-  open-pushed : (q' : Queues) → q'.ready ≡ q.ready → AreSleeping (map task_of tasks ++ task_of t ∷ []) 0 q'.asleep → AreOpen until us (threads ++ th ∷ []) (tasks ++ t ∷ []) q'
+  open-pushed : (q' : Queues) → q'.ready ≡ q.ready → AreSleeping (map task_of tasks ++ task_of t ∷ []) 0 q'.asleep
+      → AreOpen until us (threads ++ th ∷ []) (tasks ++ t ∷ []) q'
   open-pushed q' ready slept =
       let ts_is : map task_of (tasks ++ t ∷ []) ≡ map task_of tasks ++ task_of t ∷ [] = map-append task_of tasks (t ∷ []) in
       record {
         tasks_are = ts_is ∙ ap (λ xs. xs ++ task_of t ∷ []) o.tasks_are ∙ ap (λ u. map first_task (map thread_of threads) ++ u ∷ []) first
             ∙ sym (ap (map first_task) (map-append thread_of threads (th ∷ [])) ∙ map-append first_task (map thread_of threads) (thread_of th ∷ []));
-        threads_are = map-append (λ u. u.progress.stack.thread) tasks (t ∷ []) ∙ ap (λ xs. xs ++ t.progress.stack.thread ∷ []) o.threads_are ∙ ap (λ h. threads ++ h ∷ []) fresh.thread;
+        threads_are = map-append (λ u. u.progress.stack.thread) tasks (t ∷ []) ∙ ap (λ xs. xs ++ t.progress.stack.thread
+            ∷ []) o.threads_are ∙ ap (λ h. threads ++ h ∷ []) fresh.thread;
         ready = ready ∙ o.ready;
         sleeping = subst (λ (ts : List states.Task). AreSleeping ts 0 q'.asleep) (sym ts_is) slept;
         kept = λ i u at. by_place i u (get-push tasks t u i at);
@@ -151,10 +172,12 @@ module _ (until : ℕ) (us : List units.Unit) (threads : List Thread) (tasks : L
       by_place i u (inr h) = subst (IsKept until 0 us) h.1 keeps
 
   -- it sleeps until its offset
-  pub open-more : (offset period : ℕ) (q' : Queues) → th.timing ≡ timing.Periodic offset period → q' ≡ record q { asleep = in_time (length tasks, offset) q.asleep } → AreOpen until us (threads ++ th ∷ []) (tasks ++ t ∷ []) q'
+  pub open-more : (offset period : ℕ) (q' : Queues) → th.timing ≡ timing.Periodic offset period
+      → q' ≡ record q { asleep = in_time (length tasks, offset) q.asleep } → AreOpen until us (threads ++ th ∷ []) (tasks ++ t ∷ []) q'
   open-more offset period q' timed is =
       let slept : AreSleeping (map task_of tasks ++ task_of t ∷ []) 0 (in_time (length (map task_of tasks), max offset 0) q.asleep) =
-      sleeping-push (map task_of tasks) 0 q.asleep (task_of t) offset o.sleeping (ap (λ u. u.readiness) first ∙ ap (λ w. first_wait (timing_of w)) timed) in
+      sleeping-push (map task_of tasks) 0 q.asleep (task_of t) offset o.sleeping
+      (ap (λ u. u.readiness) first ∙ ap (λ w. first_wait (timing_of w)) timed) in
       let most : max offset 0 ≡ offset = omega arith in
       open-pushed q' (ap (λ x. x.ready) is)
       (subst (AreSleeping (map task_of tasks ++ task_of t ∷ []) 0) (sym (ap (λ x. x.asleep) is))
@@ -164,7 +187,8 @@ module _ (until : ℕ) (us : List units.Unit) (threads : List Thread) (tasks : L
   -- it waits
   pub open-waiting : ((offset period : ℕ) → th.timing ≡ timing.Periodic offset period → ⊥) → AreOpen until us (threads ++ th ∷ []) (tasks ++ t ∷ []) q
   open-waiting other =
-      open-pushed q refl (waiting-push (map task_of tasks) 0 q.asleep (task_of t) o.sleeping (λ k h. by_timing th.timing refl k (sym (ap (λ u. u.readiness) first) ∙ h)))
+      open-pushed q refl (waiting-push (map task_of tasks) 0 q.asleep (task_of t) o.sleeping
+      (λ k h. by_timing th.timing refl k (sym (ap (λ u. u.readiness) first) ∙ h)))
     where
       by_timing : (w : Timing) → th.timing ≡ w → (k : ℕ) → first_wait (timing_of th.timing) ≡ Asleep k → ⊥
       by_timing (timing.Periodic offset period) e k h = other offset period e
@@ -174,12 +198,14 @@ module _ (until : ℕ) (us : List units.Unit) (threads : List Thread) (tasks : L
           wrong x = cc
 
 -- it sleeps or waits
-pub open-next : (until : ℕ) (us : List units.Unit) (threads : List Thread) (tasks : List Task) (q : Queues) (o : AreOpen until us threads tasks q) (t : Task) (th : Thread) → IsFresh t th → CanStart us th
+pub open-next : (until : ℕ) (us : List units.Unit) (threads : List Thread) (tasks : List Task) (q : Queues) (o : AreOpen until us threads tasks q)
+    (t : Task) (th : Thread) → IsFresh t th → CanStart us th
     → (q' : Queues) → q' ≡ first_slept th.timing (length tasks) q → AreOpen until us (threads ++ th ∷ []) (tasks ++ t ∷ []) q'
 open-next until us threads tasks q o t th fresh can q' is = by_timing th.timing refl
   where
     by_timing : (w : Timing) → th.timing ≡ w → AreOpen until us (threads ++ th ∷ []) (tasks ++ t ∷ []) q'
-    by_timing (timing.Periodic offset period) e = open-more until us threads tasks q o t th fresh can offset period q' e (is ∙ ap (λ w. first_slept w (length tasks) q) e)
+    by_timing (timing.Periodic offset period) e
+        = open-more until us threads tasks q o t th fresh can offset period q' e (is ∙ ap (λ w. first_slept w (length tasks) q) e)
     by_timing (timing.Requested op ceiling separation jitter external) e =
         subst (AreOpen until us (threads ++ th ∷ []) (tasks ++ t ∷ [])) (sym (is ∙ ap (λ w. first_slept w (length tasks) q) e))
         (open-waiting until us threads tasks q o t th fresh can (λ offset period other. wrong offset period (sym e ∙ other)))
@@ -188,7 +214,8 @@ open-next until us threads tasks q o t th fresh can q' is = by_timing th.timing 
         wrong offset period k = cc
 
 -- the next task is in neither list
-pub open-free : (until : ℕ) (us : List units.Unit) (threads : List Thread) (tasks : List Task) (q : Queues) → AreOpen until us threads tasks q → length tasks < q.size → IsFree q (length tasks)
+pub open-free : (until : ℕ) (us : List units.Unit) (threads : List Thread) (tasks : List Task) (q : Queues) → AreOpen until us threads tasks q
+    → length tasks < q.size → IsFree q (length tasks)
 open-free until us threads tasks q o known = record {
   known = known;
   not_ready = subst (IsApart (length tasks)) (sym o.ready) tt;
@@ -196,7 +223,8 @@ open-free until us threads tasks q o known = record {
 }
   where
     past : (e : Entry) → SleepsUntil (map task_of tasks) 0 e → length tasks ≡ e.0 → ⊥
-    past e s same = let h : e.0 < length (map task_of tasks) = get-within e.0 (map task_of tasks) s.0 s.2 in omega (arith, h, length-map tasks task_of)
+    past e s same = let h : e.0 < length (map task_of tasks) = get-within e.0 (map task_of tasks) s.0 s.2
+        in omega (arith, h, length-map tasks task_of)
 
 -- without ready tasks all numbers are 0
 places-none : (k n : ℕ) → places_from k n [] ≡ replicate n (pos 0)
@@ -212,12 +240,14 @@ pub open-alike : (us : List units.Unit) (threads : List Thread) (tasks : List Ta
     → AllThreads (λ th. system_of th ≡ system_for 0 no_costs us threads) threads → AreAlike us tasks
 open-alike us threads tasks same all = λ i t at.
     let here : slice_get threads i ≡ Some t.progress.stack.thread =
-    ap (λ ths. slice_get ths i) (sym same) ∙ slice_get-map (λ u. u.progress.stack.thread) tasks i ∙ ap (option_map (λ u. u.progress.stack.thread)) at in
+    ap (λ ths. slice_get ths i) (sym same) ∙ slice_get-map (λ u. u.progress.stack.thread) tasks i ∙ ap
+    (option_map (λ u. u.progress.stack.thread)) at in
     let system : system_for 0 no_costs us threads ≡ system_by 0 no_costs us tasks =
     ap (λ ths. record (system_for 0 no_costs us threads) { threads = ths }) (ap (map thread_of) (sym same) ∙ sym (threads-of tasks)) in
     all i t.progress.stack.thread here ∙ system
 
-pub start-alike : (work : List WorkList) (us : List units.Unit) (ts : List Thread) → map thread_of ts ≡ threads_from work 0 (map unit_of us) → AllThreads (IsThreadOf work us) ts
+pub start-alike : (work : List WorkList) (us : List units.Unit) (ts : List Thread) → map thread_of ts ≡ threads_from work 0 (map unit_of us)
+    → AllThreads (IsThreadOf work us) ts
     → AllThreads (λ t. system_of t ≡ system_for 0 no_costs us ts) ts
 start-alike work us ts are each = λ i t at.
     let is : IsThreadOf work us t = each i t at in
@@ -225,7 +255,9 @@ start-alike work us ts are each = λ i t at.
     ∙ ap (λ ths. record (system_for 0 no_costs us ts) { threads = ths }) (sym are)
 
 -- all tasks are open
-module _ (until : ℕ) (costs : Costs) (us : List units.Unit) (threads : List Thread) (tasks : List Task) (q : Queues) (o : AreOpen until us threads tasks q) (near : until < 2 ^ 32) (few : length tasks < 2 ^ 32) (size : q.size ≡ length tasks) (alike : AreAlike us tasks) where
+module _ (until : ℕ) (costs : Costs) (us : List units.Unit) (threads : List Thread) (tasks : List Task) (q : Queues)
+    (o : AreOpen until us threads tasks q) (near : until < 2 ^ 32) (few : length tasks < 2 ^ 32) (size : q.size
+    ≡ length tasks) (alike : AreAlike us tasks) where
   pub open-sound : IsSound until 0 (Effects None) None us tasks q
   open-sound = record {
     size = size;
@@ -268,19 +300,29 @@ module _ (until : ℕ) (costs : Costs) (us : List units.Unit) (threads : List Th
                   wrong x = cc
           by_list (h ∷ hs) (suc i) at' = by_list hs i at'
 
-  open-state : (arrivals : List Arrival) → state_by (map (λ g. written g.vars) (objects_from 0 (map unit_of us))) arrivals 0 (Effects None) None false tasks q.ready ≡ opening (system_by until costs us tasks) arrivals
+  open-state : (arrivals : List Arrival)
+      → state_by (map (λ g. written g.vars) (objects_from 0 (map unit_of us))) arrivals 0 (Effects None) None false tasks q.ready
+      ≡ opening (system_by until costs us tasks) arrivals
   open-state arrivals =
-      let threads_is : map (λ t. thread_of t.progress.stack.thread) tasks ≡ map thread_of threads = threads-of tasks ∙ ap (map thread_of) o.threads_are in
-      let view : List states.Task → List ℤ → states.State = λ ts os. record (state_by (map (λ g. written g.vars) (objects_from 0 (map unit_of us))) arrivals 0 (Effects None) None false tasks q.ready) { tasks = ts; orders = os } in
+      let threads_is : map (λ t. thread_of t.progress.stack.thread) tasks ≡ map thread_of threads
+      = threads-of tasks ∙ ap (map thread_of) o.threads_are in
+      let view : List states.Task → List ℤ → states.State
+      = λ ts os. record (state_by (map (λ g. written g.vars) (objects_from 0 (map unit_of us))) arrivals 0
+      (Effects None) None false tasks q.ready) { tasks = ts; orders = os } in
       ap (λ es. view (map task_of tasks) (places (length tasks) es)) o.ready ∙ ap (view (map task_of tasks)) (places-none 0 (length tasks))
       ∙ ap (λ ts. view ts (replicate (length tasks) (pos 0))) (o.tasks_are ∙ ap (map first_task) (sym threads_is))
-      ∙ ap (λ n. view (map first_task (map (λ t. thread_of t.progress.stack.thread) tasks)) (replicate n (pos 0))) (sym (length-map tasks (λ t. thread_of t.progress.stack.thread)))
+      ∙ ap (λ n. view (map first_task (map (λ t. thread_of t.progress.stack.thread) tasks)) (replicate n (pos 0)))
+      (sym (length-map tasks (λ t. thread_of t.progress.stack.thread)))
 
-  pub open-running : (arrivals : List Arrival) → record { system = system_by until costs us tasks; state = state_by (map (λ g. written g.vars) (objects_from 0 (map unit_of us))) arrivals 0 (Effects None) None false tasks q.ready } ≡ opened until costs us arrivals threads
+  pub open-running : (arrivals : List Arrival) → record {
+    system = system_by until costs us tasks;
+    state = state_by (map (λ g. written g.vars) (objects_from 0 (map unit_of us))) arrivals 0 (Effects None) None false tasks q.ready;
+  } ≡ opened until costs us arrivals threads
   open-running arrivals =
       let view : System → states.State → Running = λ y s. record { system = y; state = s } in
       ap (view (system_by until costs us tasks)) (open-state arrivals)
-      ∙ ap (λ ts. view (record (system_for until costs us threads) { threads = ts }) (opening (record (system_for until costs us threads) { threads = ts }) arrivals))
+      ∙ ap (λ ts. view (record (system_for until costs us threads) { threads = ts })
+      (opening (record (system_for until costs us threads) { threads = ts }) arrivals))
       (threads-of tasks ∙ ap (map thread_of) o.threads_are)
 
 pub slept-size : (w : Timing) (task : ℕ) (q : Queues) → (first_slept w task q).size ≡ q.size

@@ -1,14 +1,17 @@
 -- What starts after an effect: how many ticks, and how many effects and events may follow.
-use Rattle.std.proofs.Common.{◌≡◌, ℕ, suc, ◌+◌, ◌≤◌, ◌<◌, Bool, true, false, ◌||◌, List, [], ◌∷◌, min, length, fold, map, refl, ap, sym, ◌∙◌, arith, nat_lt, Option, Some, None}
+use Rattle.std.proofs.Common.{◌≡◌, ℕ, suc, ◌+◌, ◌≤◌, ◌<◌, Bool, true, false, ◌||◌, List, [], ◌∷◌, min, length, fold, map, refl, ap, sym, ◌∙◌}
+use Rattle.std.proofs.Common.{arith, nat_lt, Option, Some, None}
 use Rattle.std.specs.Prelude.{nat_le}
 use Rattle.seq_tree.specs.Names.{Name}
-use Rattle.seq_tree.specs.Statements.{Statement, Statements, Branches, Null, Assign, If, For, ExitWhen, Call, Work, Put, End, Then, Nothing, Else, When}
+use Rattle.seq_tree.specs.Statements.{Statement, Statements, Branches, Null, Assign, If, For, ExitWhen, Call, Work, Put, End, Then, Nothing}
+use Rattle.seq_tree.specs.Statements.{Else, When}
 use Rattle.seq_tree.specs.Trees.{statement_of, statements_of}
 use Rattle.seq_tree.specs.Variables.{Variables}
 use Rattle.seq_tree.specs.declared.tree.Costs.{Costs}
 use Rattle.ada_tree.specs.Ranges.{costs_break, is_outside}
 use Rattle.machine.specs.Systems.{System}
-use Rattle.machine.specs.Pieces.{Piece, Idle, Store, Leaving, Calling, Working, Printing, Testing, Turning, Turned, Returning, Closing, Keeping, Opening, Requested, Finishing, pieces, pieces_of, branch_pieces, turns, work_ticks}
+use Rattle.machine.specs.Pieces.{Piece, Idle, Store, Leaving, Calling, Working, Printing, Testing, Turning, Turned, Returning, Closing, Keeping}
+use Rattle.machine.specs.Pieces.{Opening, Requested, Finishing, pieces, pieces_of, branch_pieces, turns, work_ticks}
 use Rattle.machine.specs.Deeds as deeds
 use Rattle.ceil_runtime.specs.Effort.{IsLong, ends_among, effort, first_ticks, first_works}
 use Rattle.ceil_runtime.specs.Fitting.{FitsBlock, FitsFirst, FitsStatement, Spot, place_of}
@@ -63,7 +66,8 @@ ticking c h =
     }
 
 -- no ends are among the pieces of statements
-ends_turns : (b : Bool) (name : Name) (at last : ℕ) (body : Statements) (rest : List Piece) → nat_le at last ≡ b → ends_among (turns name at last body rest) ≡ ends_among rest
+ends_turns : (b : Bool) (name : Name) (at last : ℕ) (body : Statements) (rest : List Piece) → nat_le at last ≡ b
+    → ends_among (turns name at last body rest) ≡ ends_among rest
 ends_turns true name at last body rest e = rw e refl
 ends_turns false name at last body rest e = rw e refl
 
@@ -147,7 +151,8 @@ work-long n None h long = h
 work-long n (Some k) h long = omega (arith, h, long)
 
 -- a piece without ticks is the end of a turn, of a body or of a request
-quiet : (c : Costs) (d : Option ℕ) (most : ℕ) (t : Thread) (first : Option rust.Piece) (fs : List Frame) → AreTicking c → IsLong d → FitsFirst (place_of (first_place t) fs) first
+quiet : (c : Costs) (d : Option ℕ) (most : ℕ) (t : Thread) (first : Option rust.Piece) (fs : List Frame) → AreTicking c → IsLong d
+    → FitsFirst (place_of (first_place t) fs) first
     → first_ticks c d (started first (kept fs)) ≡ 0 → effort most (started first (kept fs)) ≤ ends_among (started first (kept fs))
 quiet c d most t None fs ticks long h none = rw (none-left t fs h) (omega arith)
 quiet c d most t (Some is.Idle) fs ticks long h none = absurd (omega (arith, none, ticks.«nothing»))
@@ -167,7 +172,8 @@ quiet c d most t (Some (is.Requested r)) fs ticks long h none = omega arith
 quiet c d most t (Some is.Finishing) fs ticks long h none = absurd (omega (arith, none, ticks.finish))
 
 -- what starts with a piece does not depend on what stands behind it
-pub same-ticks : (c : Costs) (d : Option ℕ) (q : rust.Piece) (away : Variables) (ps : List Piece) → first_ticks c d (piece_of q [] ∷ []) ≡ first_ticks c d (piece_of q away ∷ ps)
+pub same-ticks : (c : Costs) (d : Option ℕ) (q : rust.Piece) (away : Variables) (ps : List Piece)
+    → first_ticks c d (piece_of q [] ∷ []) ≡ first_ticks c d (piece_of q away ∷ ps)
 same-ticks c d is.Idle away ps = refl
 same-ticks c d (is.Store target e) away ps = refl
 same-ticks c d (is.Leaving condition) away ps = refl
@@ -202,7 +208,8 @@ same-works (is.Requested r) away ps = refl
 same-works is.Finishing away ps = refl
 
 -- a `work` statement that starts takes a tick
-pub works-tick : (c : Costs) (d : Option ℕ) (t : Thread) (first : Option rust.Piece) (fs : List Frame) → IsLong d → FitsFirst (place_of (first_place t) fs) first
+pub works-tick : (c : Costs) (d : Option ℕ) (t : Thread) (first : Option rust.Piece) (fs : List Frame) → IsLong d
+    → FitsFirst (place_of (first_place t) fs) first
     → first_works (started first (kept fs)) ≤ min (first_ticks c d (started first (kept fs))) 1
 works-tick c d t None fs long h = rw (none-left t fs h) (omega arith)
 works-tick c d t (Some is.Idle) fs long h = omega arith
@@ -222,8 +229,10 @@ works-tick c d t (Some (is.Requested r)) fs long h = omega arith
 works-tick c d t (Some is.Finishing) fs long h = omega arith
 
 -- effects without ticks between them come to an end
-module _ (c : Costs) (d : Option ℕ) (most : ℕ) (z : System) (t : Thread) (first : Option rust.Piece) (fs : List Frame) (ticking' : costs_break c ≡ false) (long : IsLong d)
-    (fits : FitsFirst (place_of (first_place t) fs) first) (few : ends_among (started first (kept fs)) < most) (none : first_ticks c d (started first (kept fs)) ≡ 0) where
+module _ (c : Costs) (d : Option ℕ) (most : ℕ) (z : System) (t : Thread) (first : Option rust.Piece) (fs : List Frame) (ticking' : costs_break c
+    ≡ false) (long : IsLong d)
+    (fits : FitsFirst (place_of (first_place t) fs) first) (few : ends_among (started first (kept fs)) < most)
+    (none : first_ticks c d (started first (kept fs)) ≡ 0) where
   calm : effort most (started first (kept fs)) ≤ ends_among (started first (kept fs))
   calm = quiet c d most t first fs (ticking c ticking') long fits none
 
@@ -238,7 +247,8 @@ module _ (c : Costs) (d : Option ℕ) (most : ℕ) (z : System) (t : Thread) (fi
   effort-falls (Testing condition block others) vs vs' ps act does = omega (arith, calm, few)
   effort-falls (Turning name at last body) vs vs' ps act does = omega (arith, calm, few)
   effort-falls (Turned name at last body) vs vs' ps act does =
-      let same : ends_among (started first (kept fs)) ≡ ends_among ps = sym (ap (λ d. ends_among d.pieces) (does z (λ unit op. refl))) ∙ ends_turns (nat_le (suc at) last) name (suc at) last body ps refl in
+      let same : ends_among (started first (kept fs)) ≡ ends_among ps
+      = sym (ap (λ d. ends_among d.pieces) (does z (λ unit op. refl))) ∙ ends_turns (nat_le (suc at) last) name (suc at) last body ps refl in
       omega (arith, calm, same)
   effort-falls (Returning outs stores caller) vs vs' ps act does =
       let same : ends_among (started first (kept fs)) ≡ ends_among ps = sym (ap (λ d. ends_among d.pieces) (does z (λ unit op. refl))) in
@@ -273,11 +283,13 @@ some-effort most Finishing ps h = omega (arith, h)
 
 -- the first piece of an activation takes ticks
 module _ (c : Costs) (d : Option ℕ) (ticks : AreTicking c) (long : IsLong d) where
-  turns_ticks : (b : Bool) (name : Name) (at last : ℕ) (body : Statements) (rest : List Piece) → nat_le at last ≡ b → 0 < first_ticks c d rest → 0 < first_ticks c d (turns name at last body rest)
+  turns_ticks : (b : Bool) (name : Name) (at last : ℕ) (body : Statements) (rest : List Piece) → nat_le at last ≡ b → 0 < first_ticks c d rest
+      → 0 < first_ticks c d (turns name at last body rest)
   turns_ticks true name at last body rest e h = rw e ticks.turn
   turns_ticks false name at last body rest e h = rw e h
 
-  statement_ticks : (s : Spot) (t : Statement) (rest : List Piece) → FitsStatement s t → 0 < first_ticks c d rest → 0 < first_ticks c d (pieces_of t rest)
+  statement_ticks : (s : Spot) (t : Statement) (rest : List Piece) → FitsStatement s t → 0 < first_ticks c d rest
+      → 0 < first_ticks c d (pieces_of t rest)
   statement_ticks s Null rest f h = ticks.«nothing»
   statement_ticks s (Assign target e) rest f h = ticks.assign
   statement_ticks s (If Nothing) rest f h = absurd f
@@ -293,5 +305,6 @@ module _ (c : Costs) (d : Option ℕ) (ticks : AreTicking c) (long : IsLong d) w
   block_ticks s End rest f h = h
   block_ticks s (Then first others) rest f h = statement_ticks s first (pieces others rest) f.0 (block_ticks s others rest f.1 h)
 
-pub activation-ticks : (c : Costs) (d : Option ℕ) (s : Spot) (ss : Statements) → costs_break c ≡ false → IsLong d → FitsBlock s ss → 0 < first_ticks c d (pieces ss (Finishing ∷ []))
+pub activation-ticks : (c : Costs) (d : Option ℕ) (s : Spot) (ss : Statements) → costs_break c ≡ false → IsLong d → FitsBlock s ss
+    → 0 < first_ticks c d (pieces ss (Finishing ∷ []))
 activation-ticks c d s ss ticks long f = block_ticks c d (ticking c ticks) long s ss (Finishing ∷ []) f (ticking c ticks).finish

@@ -98,7 +98,8 @@ calls_room chain y = libraries_room chain y.libraries + objects_room chain y.obj
 abbrev pub IsCallee : Option Callee → CallTarget → Type 0
 IsCallee None k = k ≡ Unknown
 IsCallee (Some (found.Plain o)) k = k ≡ Plain (operation_of o.now)
-IsCallee (Some (found.Protected object place data' o)) k = (g : ProtectedUnit) × (k ≡ Protected object place g (operation_of o.now)) × (g.vars ≡ data'.now)
+IsCallee (Some (found.Protected object place data' o)) k = (g : ProtectedUnit) × (k ≡ Protected object place g (operation_of o.now))
+    × (g.vars ≡ data'.now)
 IsCallee (Some (found.Request task)) k = k ≡ Request task
 
 -- the request of a task by this operation, where a task was found that is requested by one

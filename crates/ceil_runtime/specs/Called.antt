@@ -46,5 +46,6 @@ IsOpOf Passive (Some (found.Plain op)) r = (place : ℕ) × (r ≡ Some (place, 
 IsOpOf Passive (Some (found.Protected object place data' op)) r = ⊥
 IsOpOf Passive (Some (found.Request task)) r = ⊥
 IsOpOf (Shared at data') (Some (found.Plain op)) r = ⊥
-IsOpOf (Shared at data') (Some (found.Protected object place vars op)) r = (object ≡ at) × (vars.now ≡ data'.now) × (r ≡ Some (place, operation_of op.now))
+IsOpOf (Shared at data') (Some (found.Protected object place vars op)) r = (object ≡ at) × (vars.now ≡ data'.now)
+    × (r ≡ Some (place, operation_of op.now))
 IsOpOf (Shared at data') (Some (found.Request task)) r = ⊥

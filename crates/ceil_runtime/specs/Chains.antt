@@ -1,6 +1,7 @@
 -- The table by which a variable is found by its name: each name is of one of some buckets, and a bucket has a chain of the variables whose
 -- names are of it, the innermost first. Places count from the outermost variable, which has place 0.
-use Rattle.std.specs.Prelude.{◌≡◌, ℕ, zero, suc, ◌+◌, ◌*◌, ◌%◌, ◌^◌, ◌<◌, ◌==◌, Bool, true, false, List, [], ◌∷◌, fold, length, map, take, Some, slice_get}
+use Rattle.std.specs.Prelude.{◌≡◌, ℕ, zero, suc, ◌+◌, ◌*◌, ◌%◌, ◌^◌, ◌<◌, ◌==◌, Bool, true, false, List, [], ◌∷◌, fold, length, map, take, Some}
+use Rattle.std.specs.Prelude.{slice_get}
 use Rattle.seq_tree.specs.Names.{Name}
 use Rattle.ceil_runtime.specs.declared.values.Var.{Var}
 

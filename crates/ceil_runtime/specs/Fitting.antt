@@ -1,11 +1,13 @@
 -- What is known of statements, pieces and frames: where they stand, and how far the frames may grow.
 -- An `if` adds one frame to those of its block; a loop adds two, and a variable that a call would put away.
-use Rattle.std.specs.Prelude.{◌≡◌, ℕ, suc, ◌+◌, ◌-◌, ◌≤◌, ◌<◌, Bool, true, false, List, [], ◌∷◌, ◌++◌, map, drop, take, fold, length, Option, Some, None, option_map, slice_get, unwrap_or, ⊤}
+use Rattle.std.specs.Prelude.{◌≡◌, ℕ, suc, ◌+◌, ◌-◌, ◌≤◌, ◌<◌, Bool, true, false, List, [], ◌∷◌, ◌++◌, map, drop, take, fold, length, Option}
+use Rattle.std.specs.Prelude.{Some, None, option_map, slice_get, unwrap_or, ⊤}
 use Rattle.seq_tree.specs.Names.{Name}
 use Rattle.seq_tree.specs.Trees.{statement_of, statements_of, block_of, arm_of, operation_of}
 use Rattle.seq_tree.specs.Operations.{Operation}
 use Rattle.seq_tree.specs.Variables.{Variables, written}
-use Rattle.seq_tree.specs.Statements.{Statement, Statements, Branches, Null, Assign, If, For, ExitWhen, Call, Work, Put, End, Then, Nothing, Else, When}
+use Rattle.seq_tree.specs.Statements.{Statement, Statements, Branches, Null, Assign, If, For, ExitWhen, Call, Work, Put, End, Then, Nothing}
+use Rattle.seq_tree.specs.Statements.{Else, When}
 use Rattle.seq_tree.specs.declared.tree.OpName.{OpName}
 use Rattle.seq_tree.specs.declared.tree.Stmt.{Stmt}
 use Rattle.machine.specs.Systems.{System}
@@ -139,7 +141,11 @@ IsOfObject y e = (option_map (λ g. written g.vars) (slice_get y.objects e.objec
 abbrev pub next : Place → Frame → Place
 next p frame.Finish = record p { spot = beside p.params p.spot; names = p.params ++ p.names; height = suc p.height }
 next p (frame.Stmts ss) = record p { spot = above p.spot; height = suc p.height }
-next p (frame.Turned r) = record p { spot = record p.spot { inside = true; room = p.spot.room - 2 }; names = r.name.now ∷ p.names; height = suc p.height }
+next p (frame.Turned r) = record p {
+  spot = record p.spot { inside = true; room = p.spot.room - 2 };
+  names = r.name.now ∷ p.names;
+  height = suc p.height;
+}
 next p (frame.Saved v) = record p { names = drop 1 p.names; height = suc p.height }
 next p (frame.Return c) = record p { spot = in_call p.spot (call_name c); names = body_names (operation_of c.op.now); height = suc p.height }
 next p (frame.Close e lent) = record p {

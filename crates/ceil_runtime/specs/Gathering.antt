@@ -22,6 +22,7 @@ pub record IsThreadOf (lists : List WorkList) (us : List units.Unit) (t : Thread
 
 -- tasks to which the one of this unit was added, where it is one
 pub record Adds (work : List WorkList) (us : List units.Unit) (place : ℕ) (u : units.Unit) (before now : List Thread) : Type 0 where
-  pub threads : map thread_of now ≡ map thread_of before ++ option_to_list (thread_by (durations (handed work) place) place (unit_of u).name (unit_of u).form)
+  pub threads : map thread_of now
+      ≡ map thread_of before ++ option_to_list (thread_by (durations (handed work) place) place (unit_of u).name (unit_of u).form)
   pub each : slice_get (map unit_of us) place ≡ Some (unit_of u) → AllThreads (IsThreadOf work us) before → AllThreads (IsThreadOf work us) now
   pub few : length now ≤ suc (length before)

@@ -3,7 +3,8 @@
 use Rattle.std.specs.Prelude.{◌≡◌, ℕ, Bool, true, List, [], ◌∷◌, Option, Some, None, map}
 use Rattle.std.specs.Coded.{×_prop, Unit-prop, le_prop, Coded-set, coded_ℕ, coded_bool, coded_list, coded_option, coded×}
 use Rattle.seq_tree.specs.Names.{Name}
-use Rattle.seq_tree.specs.Statements.{Statement, Statements, Branches, Null, Assign, If, For, ExitWhen, Call, Work, Put, End, Then, Nothing, Else, When}
+use Rattle.seq_tree.specs.Statements.{Statement, Statements, Branches, Null, Assign, If, For, ExitWhen, Call, Work, Put, End, Then, Nothing}
+use Rattle.seq_tree.specs.Statements.{Else, When}
 use Rattle.seq_tree.specs.Trees.{arm_of, block_of, statement_of, statements_of}
 use Rattle.seq_tree.specs.Variables.{Variables}
 use Rattle.seq_tree.specs.declared.tree.OpName.{OpName}
@@ -11,7 +12,8 @@ use Rattle.machine.specs.Systems.{System}
 use Rattle.ceil_runtime.specs.Callable.{IsClear, op_name}
 use Rattle.ceil_runtime.specs.Progresses.{Kept, branches_left, with_frame}
 use Rattle.ceil_runtime.specs.Written.{CanCall}
-use Rattle.ceil_runtime.specs.Fitting.{FitsStatement, FitsBlock, FitsIf, FitsBranches, FitsPiece, FitsFrame, Fit, FitsFirst, Named, PutsAway, Spot, Place, above, in_loop, next}
+use Rattle.ceil_runtime.specs.Fitting.{FitsStatement, FitsBlock, FitsIf, FitsBranches, FitsPiece, FitsFrame, Fit, FitsFirst, Named, PutsAway}
+use Rattle.ceil_runtime.specs.Fitting.{Spot, Place, above, in_loop, next}
 use Rattle.ceil_runtime.specs.declared.piece.Piece as piece
 use Rattle.ceil_runtime.specs.declared.piece.Piece.TheVariants as is
 use Rattle.ceil_runtime.specs.declared.piece.Frame.{Frame}

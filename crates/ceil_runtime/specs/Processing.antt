@@ -1,6 +1,7 @@
 -- The processor over many tasks: what it stands for, and what always holds of it.
 -- Order numbers are not kept: a ready task's number is its place in the order of dispatch, from 1, and that of any other task is 0.
-use Rattle.std.specs.Prelude.{◌≡◌, ◌⊎◌, ℕ, ◌+◌, ◌<◌, ◌≤◌, ◌^◌, Bool, true, false, ◌++◌, List, [], ◌∷◌, map, length, min, Option, Some, None, slice_get, ⊤}
+use Rattle.std.specs.Prelude.{◌≡◌, ◌⊎◌, ℕ, ◌+◌, ◌<◌, ◌≤◌, ◌^◌, Bool, true, false, ◌++◌, List, [], ◌∷◌, map, length, min, Option, Some, None}
+use Rattle.std.specs.Prelude.{slice_get, ⊤}
 use Rattle.seq_tree.specs.Variables.{Variables}
 use Rattle.seq_tree.specs.declared.tree.Costs.{Costs}
 use Rattle.ada_tree.specs.Trees.{unit_of}
@@ -136,4 +137,5 @@ IsDue tasks i (Some p) = HasPiece tasks i p
 
 -- the task at this place has a piece that reaches this
 abbrev pub IsReaching : List Task → ℕ → Piece → Deed → Type 0
-IsReaching tasks i p d = (t : Task) → slice_get tasks i ≡ Some t → IsDeed (system_of t.progress.stack.thread) p d × ActsAs (system_of t.progress.stack.thread) (task_of t) d
+IsReaching tasks i p d = (t : Task) → slice_get tasks i ≡ Some t → IsDeed (system_of t.progress.stack.thread) p d
+    × ActsAs (system_of t.progress.stack.thread) (task_of t) d

@@ -15,7 +15,8 @@ use Rattle.machine.specs.Pieces as pieces
 use Rattle.ceil_runtime.specs.declared.piece.Call.{Call}
 use Rattle.ceil_runtime.specs.declared.piece.Entry.{Entry}
 use Rattle.ceil_runtime.specs.declared.piece.Piece.{Piece}
-use Rattle.ceil_runtime.specs.declared.piece.Piece.TheVariants.{Idle, Store, Leaving, Calling, Working, Printing, Testing, Turning, Turned, Returning, Closing, Keeping, Opening, Requested, Finishing}
+use Rattle.ceil_runtime.specs.declared.piece.Piece.TheVariants.{Idle, Store, Leaving, Calling, Working, Printing, Testing, Turning, Turned}
+use Rattle.ceil_runtime.specs.declared.piece.Piece.TheVariants.{Returning, Closing, Keeping, Opening, Requested, Finishing}
 use Rattle.ceil_runtime.specs.declared.piece.Frame.{Frame}
 use Rattle.ceil_runtime.specs.declared.piece.Frame.TheVariants as frame
 

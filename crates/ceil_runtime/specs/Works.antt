@@ -91,7 +91,8 @@ pub record Leaves (z : System) (costs : Costs) (object op : ℕ) (values : List 
 
 -- the act of a task's first piece, by what the piece reaches
 abbrev pub ActsAs : System → states.Task → Deed → Type 0
-ActsAs z t reached = (p : Piece) (rest : List Piece) → t.pieces ≡ p ∷ rest → (y : System) → CallsAlike y z → IsActOf reached (done y p t.vars rest).act
+ActsAs z t reached = (p : Piece) (rest : List Piece) → t.pieces ≡ p ∷ rest → (y : System) → CallsAlike y z
+    → IsActOf reached (done y p t.vars rest).act
 
 -- how many sections a task is inside after an act, by how many it was before
 abbrev pub StaysInside : deeds.Act → ℕ → ℕ → Type 0
@@ -107,4 +108,5 @@ IsNested t = length t.inside ≤ sections_among t.pieces
 
 -- the effect of a piece leaves fewer effects for this instant
 abbrev pub EffortFalls : Thread → states.Task → states.Task → Type 0
-EffortFalls thread t t' = (most : ℕ) → reserve thread ≤ most → (0 < effort most t.pieces) × (t'.left ≡ 0 → effort most t'.pieces < effort most t.pieces)
+EffortFalls thread t t' = (most : ℕ) → reserve thread ≤ most → (0 < effort most t.pieces)
+    × (t'.left ≡ 0 → effort most t'.pieces < effort most t.pieces)

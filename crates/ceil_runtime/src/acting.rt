@@ -65,7 +65,8 @@ impl<'a> Task<'a> {
         requires names { names_of (vars_of «data».old.items) ≡ take (vec_len «data».old) (entry_names entry) }
         requires few { self.old.works < 2 ^ 63 }
         requires ticking { costs_break costs.now ≡ false }
-        ensures enters { Enters (system_of self.old.progress.stack.thread) costs.now entry.entry.object entry.entry.place result (vars_of «data».old.items) (task_of self.old) (task_of self.new) }
+        ensures enters { Enters (system_of self.old.progress.stack.thread) costs.now entry.entry.object entry.entry.place result
+            (vars_of «data».old.items) (task_of self.old) (task_of self.new) }
         ensures thread { self.new.progress.stack.thread ≡ self.old.progress.stack.thread }
         ensures works { self.new.works ≤ self.old.works + min self.new.left 1 }
         ensures falls { EffortFalls self.old.progress.stack.thread (task_of self.old) (task_of self.new) }
@@ -88,7 +89,8 @@ impl<'a> Task<'a> {
         requires room { length entry.«data».now ≤ vec_capacity «data».old }
         requires few { self.old.works < 2 ^ 63 }
         requires ticking { costs_break costs.now ≡ false }
-        ensures leaves { Leaves (system_of self.old.progress.stack.thread) costs.now entry.entry.object entry.entry.place result (vars_of «data».new.items) (task_of self.old) (task_of self.new) }
+        ensures leaves { Leaves (system_of self.old.progress.stack.thread) costs.now entry.entry.object entry.entry.place result
+            (vars_of «data».new.items) (task_of self.old) (task_of self.new) }
         ensures thread { self.new.progress.stack.thread ≡ self.old.progress.stack.thread }
         ensures works { self.new.works ≤ self.old.works + min self.new.left 1 }
         ensures falls { EffortFalls self.old.progress.stack.thread (task_of self.old) (task_of self.new) }

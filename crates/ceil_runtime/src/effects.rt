@@ -81,7 +81,8 @@ impl<'a> Stack<'a> {
         requires away { put_away (frames_of self.old) ≡ [] }
         requires names { names_of (vars_of self.old.vars.items) ≡ (place_of (first_place self.old.thread) (frames_of self.old)).names }
         requires branches { FitsBranches (place_of (first_place self.old.thread) (frames_of self.old)).spot (branches_left arms.now other.now) }
-        ensures pieces { started result (kept (frames_of self.new)) ≡ branch_pieces (branches_left arms.entry.now other.entry.now) (behind (frames_of self.old)) }
+        ensures pieces { started result (kept (frames_of self.new))
+            ≡ branch_pieces (branches_left arms.entry.now other.entry.now) (behind (frames_of self.old)) }
         ensures first { IsFirst self.new.thread result (vars_of self.new.vars.items) (frames_of self.new) }
         ensures vars { vars_of self.new.vars.items ≡ vars_of self.old.vars.items }
         ensures thread { self.new.thread ≡ self.old.thread }
@@ -101,7 +102,8 @@ impl<'a> Stack<'a> {
         requires names { names_of (vars_of self.old.vars.items) ≡ (place_of (first_place self.old.thread) (frames_of self.old)).names }
         ensures pieces { started result (kept (frames_of self.new)) ≡ behind (frames_of self.old) }
         ensures first { IsFirst self.new.thread result (vars_of self.new.vars.items) (frames_of self.new) }
-        ensures vars { vars_of self.new.vars.items ≡ write target.now (value_by (expression_of value.now) (vars_of self.old.vars.items)) (vars_of self.old.vars.items) }
+        ensures vars { vars_of self.new.vars.items ≡ write target.now (value_by (expression_of value.now) (vars_of self.old.vars.items))
+            (vars_of self.old.vars.items) }
         ensures thread { self.new.thread ≡ self.old.thread }
     {
         let value = value_of(value, &self.vars);
@@ -141,7 +143,8 @@ impl<'a> Stack<'a> {
     fn test(&mut self, arm: &'a Arm, arms: &'a [Arm], other: &'a Option<Block>) -> Option<Piece<'a>>
         requires away { put_away (frames_of self.old) ≡ [] }
         requires names { names_of (vars_of self.old.vars.items) ≡ (place_of (first_place self.old.thread) (frames_of self.old)).names }
-        requires arms { FitsIf (place_of (first_place self.old.thread) (frames_of self.old)).spot (When (arm_of arm.now).0 (arm_of arm.now).1 (branches_left arms.now other.now)) }
+        requires arms { FitsIf (place_of (first_place self.old.thread) (frames_of self.old)).spot
+            (When (arm_of arm.now).0 (arm_of arm.now).1 (branches_left arms.now other.now)) }
         ensures pieces { started result (kept (frames_of self.new))
             ≡ (if holds (arm_of arm.entry.now).0 (vars_of self.old.vars.items) then pieces (arm_of arm.entry.now).1 (behind (frames_of self.old))
             else branch_pieces (branches_left arms.entry.now other.entry.now) (behind (frames_of self.old))) }
@@ -162,7 +165,8 @@ impl<'a> Stack<'a> {
         requires names { names_of (vars_of self.old.vars.items) ≡ (place_of (first_place self.old.thread) (frames_of self.old)).names }
         requires round { FitsPiece (place_of (first_place self.old.thread) (frames_of self.old)).spot (PieceIs.Turning round) }
         ensures pieces { started result (kept (frames_of self.new))
-            ≡ pieces (block_of round.entry.body.now) (DoneTurned round.entry.name.now round.entry.at round.entry.last (block_of round.entry.body.now) ∷ behind (frames_of self.old)) }
+            ≡ pieces (block_of round.entry.body.now) (DoneTurned round.entry.name.now round.entry.at round.entry.last (block_of round.entry.body.now)
+            ∷ behind (frames_of self.old)) }
         ensures first { IsFirst self.new.thread result (vars_of self.new.vars.items) (frames_of self.new) }
         ensures vars { vars_of self.new.vars.items ≡ (round.entry.name.now, round.entry.at) ∷ vars_of self.old.vars.items }
         ensures thread { self.new.thread ≡ self.old.thread }
@@ -178,7 +182,8 @@ impl<'a> Stack<'a> {
     /// The end of a turn, whose variable goes.
     fn turned(&mut self, round: Round<'a>) -> Option<Piece<'a>>
         requires { IsFirst self.old.thread (Some (PieceIs.Turned round)) (vars_of self.old.vars.items) (frames_of self.old) }
-        ensures pieces { started result (kept (frames_of self.new)) ≡ turns round.entry.name.now (suc round.entry.at) round.entry.last (block_of round.entry.body.now) (behind (frames_of self.old)) }
+        ensures pieces { started result (kept (frames_of self.new))
+            ≡ turns round.entry.name.now (suc round.entry.at) round.entry.last (block_of round.entry.body.now) (behind (frames_of self.old)) }
         ensures first { IsFirst self.new.thread result (vars_of self.new.vars.items) (frames_of self.new) }
         ensures vars { vars_of self.new.vars.items ≡ drop 1 (vars_of self.old.vars.items) }
         ensures thread { self.new.thread ≡ self.old.thread }
@@ -202,9 +207,12 @@ impl<'a> Stack<'a> {
         requires names { names_of (vars_of self.old.vars.items) ≡ (place_of (first_place self.old.thread) (frames_of self.old)).names }
         requires inside { (place_of (first_place self.old.thread) (frames_of self.old)).spot.inside ≡ true }
         ensures pieces { started result (kept (frames_of self.new))
-            ≡ (if holds (expression_of condition.now) (vars_of self.old.vars.items) then after_loop (behind (frames_of self.old)) else behind (frames_of self.old)) }
+            ≡ (if holds (expression_of condition.now) (vars_of self.old.vars.items) then after_loop (behind (frames_of self.old)) else behind
+            (frames_of self.old)) }
         ensures first { IsFirst self.new.thread result (vars_of self.new.vars.items) (frames_of self.new) }
-        ensures vars { vars_of self.new.vars.items ≡ (if holds (expression_of condition.now) (vars_of self.old.vars.items) then drop 1 (vars_of self.old.vars.items) else vars_of self.old.vars.items) }
+        ensures vars { vars_of self.new.vars.items
+            ≡ (if holds (expression_of condition.now) (vars_of self.old.vars.items) then drop 1
+            (vars_of self.old.vars.items) else vars_of self.old.vars.items) }
         ensures thread { self.new.thread ≡ self.old.thread }
     {
         if value_of(condition, &self.vars) == 1 {
@@ -223,7 +231,8 @@ impl<'a> Stack<'a> {
         ensures away { put_away (frames_of self.new) ≡ vars_of self.old.vars.items }
         ensures vars { self.new.vars.items ≡ [] }
         ensures names { (place_of (first_place self.new.thread) (frames_of self.new)).names ≡ [] }
-        ensures spot { (place_of (first_place self.new.thread) (frames_of self.new)).spot ≡ (place_of (first_place self.old.thread) (frames_of self.old)).spot }
+        ensures spot { (place_of (first_place self.new.thread) (frames_of self.new)).spot
+            ≡ (place_of (first_place self.old.thread) (frames_of self.old)).spot }
         ensures thread { self.new.thread ≡ self.old.thread }
     {
         self.away = self.vars.len();
@@ -247,7 +256,8 @@ impl<'a> Stack<'a> {
     /// The body of an operation begins with these values. What an object lends stands among the variables already.
     pub fn begin_body(&mut self, op: &'a OpText, values: &[u32]) -> Option<Piece<'a>>
         requires away { put_away (frames_of self.old) ≡ [] }
-        requires names { (place_of (first_place self.old.thread) (frames_of self.old)).names ≡ body_names (operation_of op.now) ++ names_of (vars_of self.old.vars.items) }
+        requires names { (place_of (first_place self.old.thread) (frames_of self.old)).names
+            ≡ body_names (operation_of op.now) ++ names_of (vars_of self.old.vars.items) }
         requires room { 1 ≤ (place_of (first_place self.old.thread) (frames_of self.old)).spot.room }
         requires block { FitsBlock (above (place_of (first_place self.old.thread) (frames_of self.old)).spot) (operation_of op.now).block }
         ensures pieces { started result (kept (frames_of self.new)) ≡ pieces (operation_of op.entry.now).block (behind (frames_of self.old)) }
@@ -262,12 +272,15 @@ impl<'a> Stack<'a> {
 
     /// A call of a passive operation: the values are handed in, and the body begins.
     fn call(&mut self, call: Call<'a>) -> Option<Piece<'a>>
-        requires first { IsFirst self.old.thread (Some (PieceIs.Calling call.object call.name call.actuals)) (vars_of self.old.vars.items) (frames_of self.old) }
+        requires first { IsFirst self.old.thread (Some (PieceIs.Calling call.object call.name call.actuals)) (vars_of self.old.vars.items)
+            (frames_of self.old) }
         requires calls { callee (system_of self.old.thread) call.object.now call.name.now ≡ PlainCall (operation_of call.op.now) }
-        ensures pieces { started result (kept (frames_of self.new)) ≡ pieces (operation_of call.entry.op.now).block (returning call.entry (vars_of self.old.vars.items) ∷ behind (frames_of self.old)) }
+        ensures pieces { started result (kept (frames_of self.new))
+            ≡ pieces (operation_of call.entry.op.now).block (returning call.entry (vars_of self.old.vars.items) ∷ behind (frames_of self.old)) }
         ensures first { IsFirst self.new.thread result (vars_of self.new.vars.items) (frames_of self.new) }
         ensures vars { vars_of self.new.vars.items
-            ≡ opened (operation_of call.entry.op.now) (handed call.entry.op.now.sig.params.items (map expression_of call.entry.actuals.now) (vars_of self.old.vars.items)) }
+            ≡ opened (operation_of call.entry.op.now) (handed call.entry.op.now.sig.params.items (map expression_of call.entry.actuals.now)
+            (vars_of self.old.vars.items)) }
         ensures thread { self.new.thread ≡ self.old.thread }
     {
         let mut values = Values::new();
@@ -293,7 +306,8 @@ impl<'a> Stack<'a> {
         requires callees { AreCallees callees.now (system_of self.old.thread) }
         requires first { IsFirst self.old.thread (Some (PieceIs.Calling object name actuals)) (vars_of self.old.vars.items) (frames_of self.old) }
         requires outside { IsOutside (callee (system_of self.old.thread) object.now name.now) }
-        ensures deed { Does (system_of self.old.thread) (piece_of (PieceIs.Calling object.entry name.entry actuals.entry) []) (vars_of self.old.vars.items) (behind (frames_of self.old))
+        ensures deed { Does (system_of self.old.thread) (piece_of (PieceIs.Calling object.entry name.entry actuals.entry) [])
+            (vars_of self.old.vars.items) (behind (frames_of self.old))
             (act_of result.act) (vars_of self.new.vars.items) (started result.next (kept (frames_of self.new))) }
         ensures goes_on { is_finish result.act ≡ false }
         ensures first { IsFirst self.new.thread result.next (vars_of self.new.vars.items) (frames_of self.new) }
@@ -323,7 +337,8 @@ impl<'a> Stack<'a> {
         requires { (place_of (first_place self.old.thread) (frames_of self.old)).names ≡ [] }
         ensures pieces { started result (kept (frames_of self.new)) ≡ behind (frames_of self.old) }
         ensures first { IsFirst self.new.thread result (vars_of self.new.vars.items) (frames_of self.new) }
-        ensures vars { vars_of self.new.vars.items ≡ stored (targets call.entry.op.now.sig.params.items (map expression_of call.entry.actuals.now)) values.now (put_away (frames_of self.old)) }
+        ensures vars { vars_of self.new.vars.items ≡ stored (targets call.entry.op.now.sig.params.items (map expression_of call.entry.actuals.now))
+            values.now (put_away (frames_of self.old)) }
         ensures thread { self.new.thread ≡ self.old.thread }
     {
         self.vars.clear();
@@ -343,7 +358,8 @@ impl<'a> Stack<'a> {
         ensures pieces { started result (kept (frames_of self.new)) ≡ behind (frames_of self.old) }
         ensures first { IsFirst self.new.thread result (vars_of self.new.vars.items) (frames_of self.new) }
         ensures vars { vars_of self.new.vars.items
-            ≡ stored (targets call.entry.op.now.sig.params.items (map expression_of call.entry.actuals.now)) (reads (out_names call.entry.op.now.sig.params.items) (vars_of self.old.vars.items)) (put_away (frames_of self.old)) }
+            ≡ stored (targets call.entry.op.now.sig.params.items (map expression_of call.entry.actuals.now))
+            (reads (out_names call.entry.op.now.sig.params.items) (vars_of self.old.vars.items)) (put_away (frames_of self.old)) }
         ensures thread { self.new.thread ≡ self.old.thread }
     {
         let mut values = Values::new();
@@ -356,8 +372,10 @@ impl<'a> Stack<'a> {
         requires callees { AreCallees callees.now (system_of self.old.thread) }
         requires first { IsFirst self.old.thread (Some piece) (vars_of self.old.vars.items) (frames_of self.old) }
         requires outside { StaysOutside (system_of self.old.thread) piece }
-        ensures deed { Does (system_of self.old.thread) (piece_of piece.entry (put_away (frames_of self.old))) (vars_of self.old.vars.items) (with_parts piece.entry (behind (frames_of self.old)))
-            (act_of result.act) (given result.act (vars_of self.old.vars.items) (vars_of self.new.vars.items)) (started result.next (kept (frames_of self.new))) }
+        ensures deed { Does (system_of self.old.thread) (piece_of piece.entry (put_away (frames_of self.old))) (vars_of self.old.vars.items)
+            (with_parts piece.entry (behind (frames_of self.old)))
+            (act_of result.act) (given result.act (vars_of self.old.vars.items) (vars_of self.new.vars.items))
+            (started result.next (kept (frames_of self.new))) }
         ensures keeps { KeepsData result.act self.old.thread.data.now (vars_of self.old.vars.items) (vars_of self.new.vars.items) }
         ensures ends { EndsAt result.act (started result.next (kept (frames_of self.new))) }
         ensures first { IsFirst self.new.thread result.next (vars_of self.new.vars.items) (frames_of self.new) }

@@ -97,12 +97,15 @@ impl<'a> Stack<'a> {
     /// The entry into an operation of a protected object: the values are handed in, the data of the object come to the
     /// variables, and the body begins.
     pub fn enter_object(&mut self, entry: Entry<'a>, data: &mut Vec<Var<'a>>) -> Crossed<'a>
-        requires first { IsFirst self.old.thread (Some (PieceIs.Calling entry.call.object entry.call.name entry.call.actuals)) (vars_of self.old.vars.items) (frames_of self.old) }
+        requires first { IsFirst self.old.thread (Some (PieceIs.Calling entry.call.object entry.call.name entry.call.actuals))
+            (vars_of self.old.vars.items) (frames_of self.old) }
         requires entry { IsEntry (system_of self.old.thread) entry }
         requires names { names_of (vars_of «data».old.items) ≡ take (vec_len «data».old) (entry_names entry) }
-        ensures deed { DoesEnter (system_of self.old.thread) (piece_of (PieceIs.Calling entry.entry.call.object entry.entry.call.name entry.entry.call.actuals) [])
+        ensures deed { DoesEnter (system_of self.old.thread)
+            (piece_of (PieceIs.Calling entry.entry.call.object entry.entry.call.name entry.entry.call.actuals) [])
             (vars_of self.old.vars.items) (behind (frames_of self.old))
-            entry.entry.object entry.entry.place result.values (vars_of «data».old.items) (vars_of self.new.vars.items) (started result.next (kept (frames_of self.new))) }
+            entry.entry.object entry.entry.place result.values (vars_of «data».old.items) (vars_of self.new.vars.items)
+            (started result.next (kept (frames_of self.new))) }
         ensures first { IsFirst self.new.thread result.next (vars_of self.new.vars.items) (frames_of self.new) }
         ensures lent { «data».new.items ≡ [] }
         ensures room { vec_capacity «data».new ≡ vec_capacity «data».old }
@@ -128,8 +131,10 @@ impl<'a> Stack<'a> {
     pub fn leave_object(&mut self, entry: Entry<'a>, data: &mut Vec<Var<'a>>) -> Crossed<'a>
         requires first { IsFirst self.old.thread (Some (PieceIs.Closing entry)) (vars_of self.old.vars.items) (frames_of self.old) }
         requires room { length entry.«data».now ≤ vec_capacity «data».old }
-        ensures deed { Does (system_of self.old.thread) (piece_of (PieceIs.Closing entry.entry) (put_away (frames_of self.old))) (vars_of self.old.vars.items) (behind (frames_of self.old))
-            (deeds.Leave entry.entry.object entry.entry.place result.values (vars_of «data».new.items)) (vars_of self.new.vars.items) (started result.next (kept (frames_of self.new))) }
+        ensures deed { Does (system_of self.old.thread) (piece_of (PieceIs.Closing entry.entry) (put_away (frames_of self.old)))
+            (vars_of self.old.vars.items) (behind (frames_of self.old))
+            (deeds.Leave entry.entry.object entry.entry.place result.values (vars_of «data».new.items)) (vars_of self.new.vars.items)
+            (started result.next (kept (frames_of self.new))) }
         ensures first { IsFirst self.new.thread result.next (vars_of self.new.vars.items) (frames_of self.new) }
         ensures names { names_of (vars_of «data».new.items) ≡ entry_names entry.entry }
         ensures room { vec_capacity «data».new ≡ vec_capacity «data».old }

@@ -55,7 +55,8 @@ pub fn hand_out(values: &mut Values, params: &[Param], vars: &Scopes)
 
 /// The variable that an actual is, where it is handed out.
 fn target<'a>(param: &Param, actual: &'a Expr) -> Option<&'a Name>
-    ensures { (others : List NameBytes) → target_by param.now.mode (expression_of actual.entry.now) others ≡ option_to_list (option_map (λ n. n.now) result) ++ others }
+    ensures { (others : List NameBytes) → target_by param.now.mode (expression_of actual.entry.now) others
+        ≡ option_to_list (option_map (λ n. n.now) result) ++ others }
 {
     match param.mode {
         Mode::In => None,

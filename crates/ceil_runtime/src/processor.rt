@@ -505,7 +505,8 @@ impl<'a> Machine<'a> {
     fn stop(&mut self, task: u32, unit: u32, ceiling: u32) -> Told
         requires known { task < length self.old.tasks.items }
         ensures machine { HasStopped self.old self.new }
-        ensures told { (t : Task) → slice_get self.old.tasks.items task ≡ Some t → result ≡ Told.One (event.Stop self.old.time t.progress.stack.thread.unit unit t.active ceiling) }
+        ensures told { (t : Task) → slice_get self.old.tasks.items task ≡ Some t
+            → result ≡ Told.One (event.Stop self.old.time t.progress.stack.thread.unit unit t.active ceiling) }
     {
         let caller = &self.tasks[task as usize];
         let stop = Event::Stop {
@@ -633,7 +634,8 @@ impl<'a> Machine<'a> {
     /// its control structure is open.
     fn answer(&mut self, task: u32, target: usize, value: Option<u32>) -> Told
         requires acted { (ts : Vec Task Global) × (t : Task) × (t' : Task) × HasActed ts self.old task (Act.Ended target value) t t' }
-        ensures { (ts : Vec Task Global) (t t' : Task) → HasActed ts self.old task (Act.Ended target value) t t' → IsStep (with_tasks ts self.old) result self.new }
+        ensures { (ts : Vec Task Global) (t t' : Task) → HasActed ts self.old task (Act.Ended target value) t t'
+            → IsStep (with_tasks ts self.old) result self.new }
     {
         let active = &mut self.tasks[task as usize];
         let unit = active.progress.stack.thread.unit;
@@ -747,7 +749,8 @@ impl<'a> Machine<'a> {
     /// an instant but the effects of a task, the ready list is the ready tasks in order of dispatch; the sleeping tasks are so always.
     pub fn queues(&self) -> &Links
         requires whole { IsWhole self.now }
-        ensures ready { IsSettled (running_of self.now).state → AreQueued (running_of self.now).state.tasks (running_of self.now).state.orders result.now.ready }
+        ensures ready { IsSettled (running_of self.now).state
+            → AreQueued (running_of self.now).state.tasks (running_of self.now).state.orders result.now.ready }
         ensures asleep { AreSleeping (running_of self.now).state.tasks (running_of self.now).state.time result.now.asleep }
     {
         &self.links

@@ -71,8 +71,10 @@ fn start_of(costs: &Costs, duration: Option<u32>, piece: Piece) -> Start
 pub struct Progress<'a> {
     pub stack: Stack<'a>,
     pub piece: Option<Piece<'a>>,
-    ghost fits: { FitsFirst (place_of (first_place stack.thread) (frames_of stack)) piece } by { fits-first-prop (place_of (first_place stack.thread) (frames_of stack)) piece },
-    ghost named: { Named (place_of (first_place stack.thread) (frames_of stack)) piece (names_of (vars_of stack.vars.items)) } by { named-prop (place_of (first_place stack.thread) (frames_of stack)) piece (names_of (vars_of stack.vars.items)) },
+    ghost fits: { FitsFirst (place_of (first_place stack.thread) (frames_of stack)) piece } by { fits-first-prop
+        (place_of (first_place stack.thread) (frames_of stack)) piece },
+    ghost named: { Named (place_of (first_place stack.thread) (frames_of stack)) piece (names_of (vars_of stack.vars.items)) } by { named-prop
+        (place_of (first_place stack.thread) (frames_of stack)) piece (names_of (vars_of stack.vars.items)) },
     ghost away: { PutsAway piece (put_away (frames_of stack)) } by { puts-away-prop piece (put_away (frames_of stack)) },
 }
 
@@ -115,7 +117,9 @@ impl<'a> Progress<'a> {
         requires piece { self.old.piece ≡ Some piece }
         requires outside { StaysOutside (system_of self.old.stack.thread) piece }
         ensures thread { self.new.stack.thread ≡ self.old.stack.thread }
-        ensures deed { Does (system_of self.old.stack.thread) (piece_of piece.entry (put_away (frames_of self.old.stack))) (vars_left self.old) (with_parts piece.entry (behind (frames_of self.old.stack))) (act_of result) (given result (vars_left self.old) (vars_left self.new)) (pieces_left self.new) }
+        ensures deed { Does (system_of self.old.stack.thread) (piece_of piece.entry (put_away (frames_of self.old.stack))) (vars_left self.old)
+            (with_parts piece.entry (behind (frames_of self.old.stack))) (act_of result) (given result (vars_left self.old) (vars_left self.new))
+            (pieces_left self.new) }
         ensures keeps { KeepsData result self.old.stack.thread.data.now (vars_left self.old) (vars_left self.new) }
         ensures ends { EndsAt result (pieces_left self.new) }
     {
@@ -130,7 +134,9 @@ impl<'a> Progress<'a> {
         requires entry { IsEntry (system_of self.old.stack.thread) entry }
         requires names { names_of (vars_of «data».old.items) ≡ take (vec_len «data».old) (entry_names entry) }
         ensures thread { self.new.stack.thread ≡ self.old.stack.thread }
-        ensures deed { DoesEnter (system_of self.old.stack.thread) (piece_of (PieceIs.Calling entry.entry.call.object entry.entry.call.name entry.entry.call.actuals) []) (vars_left self.old) (behind (frames_of self.old.stack))
+        ensures deed { DoesEnter (system_of self.old.stack.thread)
+            (piece_of (PieceIs.Calling entry.entry.call.object entry.entry.call.name entry.entry.call.actuals) []) (vars_left self.old)
+            (behind (frames_of self.old.stack))
             entry.entry.object entry.entry.place result (vars_of «data».old.items) (vars_left self.new) (pieces_left self.new) }
         ensures lent { «data».new.items ≡ [] }
         ensures room { vec_capacity «data».new ≡ vec_capacity «data».old }
@@ -145,7 +151,8 @@ impl<'a> Progress<'a> {
         requires piece { self.old.piece ≡ Some (PieceIs.Closing entry) }
         requires room { length entry.«data».now ≤ vec_capacity «data».old }
         ensures thread { self.new.stack.thread ≡ self.old.stack.thread }
-        ensures deed { Does (system_of self.old.stack.thread) (piece_of (PieceIs.Closing entry.entry) (put_away (frames_of self.old.stack))) (vars_left self.old) (behind (frames_of self.old.stack))
+        ensures deed { Does (system_of self.old.stack.thread) (piece_of (PieceIs.Closing entry.entry) (put_away (frames_of self.old.stack)))
+            (vars_left self.old) (behind (frames_of self.old.stack))
             (deeds.Leave entry.entry.object entry.entry.place result (vars_of «data».new.items)) (vars_left self.new) (pieces_left self.new) }
         ensures names { names_of (vars_of «data».new.items) ≡ entry_names entry.entry }
         ensures room { vec_capacity «data».new ≡ vec_capacity «data».old }

@@ -8,8 +8,10 @@ ghost use Rattle.seq_tree.specs.Names.{are_distinct};
 ghost use Rattle.ceil_runtime.specs.Stacked.{vars_of};
 ghost use Rattle.ceil_runtime.specs.Slots.{are_bare, counted, is_bare, spread};
 ghost use Rattle.ceil_runtime.specs.Progresses.{began, behind, kept, nothing_kept, put_away, started};
-ghost use Rattle.ceil_runtime.specs.Fitting.{Fit, FitSomewhere, FitsBlock, FitsFrame, FitsList, FitsPiece, IsOfStatement, IsPushed, Pops, Spot, above, names_of, place_of};
-ghost use Rattle.ceil_runtime.specs.Written.{CanCall, CanRun, block_of_thread, block_place, data_names, first_place, system_of, param_names, reserve, timing_of};
+ghost use Rattle.ceil_runtime.specs.Fitting.{Fit, FitSomewhere, FitsBlock, FitsFrame, FitsList, FitsPiece, IsOfStatement, IsPushed, Pops, Spot};
+ghost use Rattle.ceil_runtime.specs.Fitting.{above, names_of, place_of};
+ghost use Rattle.ceil_runtime.specs.Written.{CanCall, CanRun, block_of_thread, block_place, data_names, first_place, system_of, param_names};
+ghost use Rattle.ceil_runtime.specs.Written.{reserve, timing_of};
 ghost use Rattle.machine.specs.Releases.{parameter};
 ghost use Rattle.ceil_runtime.specs.OneProof.{can-call-prop, fit-prop, fits-block-prop};
 ghost use Rattle.ceil_runtime.specs.Doing.{IsFirst};
@@ -32,10 +34,13 @@ pub struct Stack<'a> {
     pub vars: Scopes<'a>,
     pub frames: SmallVec<Slot<'a>, 16>,
     pub away: usize,
-    ghost block: { FitsBlock (above (block_place thread).spot) (block_of_thread thread) } by { fits-block-prop (above (block_place thread).spot) (block_of_thread thread) },
+    ghost block: { FitsBlock (above (block_place thread).spot) (block_of_thread thread) } by { fits-block-prop (above (block_place thread).spot)
+        (block_of_thread thread) },
     ghost calls: { CanCall (system_of thread) } by { can-call-prop (system_of thread) },
-    ghost distinct: { are_distinct (data_names thread ++ param_names thread) ≡ true } by { Coded-set coded_bool (are_distinct (data_names thread ++ param_names thread)) true },
-    ghost fit: { Fit (first_place thread) nothing_kept (spread vars.away frames.items) } by { fit-prop (first_place thread) nothing_kept (spread vars.away frames.items) },
+    ghost distinct: { are_distinct (data_names thread ++ param_names thread)
+        ≡ true } by { Coded-set coded_bool (are_distinct (data_names thread ++ param_names thread)) true },
+    ghost fit: { Fit (first_place thread) nothing_kept (spread vars.away frames.items) } by { fit-prop (first_place thread) nothing_kept
+        (spread vars.away frames.items) },
     ghost bare: { are_bare frames.items ≡ true },
     ghost counted: { length vars.away ≡ counted frames.items + away },
     ghost frames_room: { reserve thread ≤ frames.capacity },
@@ -172,7 +177,8 @@ impl<'a> Stack<'a> {
         requires names { names_of (vars_of self.old.vars.items) ≡ (place_of (first_place self.old.thread) (frames_of self.old)).names }
         requires room { 1 ≤ (place_of (first_place self.old.thread) (frames_of self.old)).spot.room }
         requires block { FitsList (above (place_of (first_place self.old.thread) (frames_of self.old)).spot) stmts.now }
-        ensures pieces { started result (kept (frames_of self.new)) ≡ pieces (statements_of (map statement_of stmts.entry.now)) (behind (frames_of self.old)) }
+        ensures pieces { started result (kept (frames_of self.new))
+            ≡ pieces (statements_of (map statement_of stmts.entry.now)) (behind (frames_of self.old)) }
         ensures first { IsFirst self.new.thread result (vars_of self.new.vars.items) (frames_of self.new) }
         ensures vars { vars_of self.new.vars.items ≡ vars_of self.old.vars.items }
         ensures thread { self.new.thread ≡ self.old.thread }

@@ -1,4 +1,5 @@
-ghost use Rattle.std.specs.Prelude.{◌≡◌, ◌+◌, ◌-◌, ◌<◌, ◌≤◌, ◌↔◌, [], ◌∷◌, ◌++◌, drop, length, take, vec_len, vec_capacity, IfOk, IsSome, option_to_list};
+ghost use Rattle.std.specs.Prelude.{◌≡◌, ◌+◌, ◌-◌, ◌<◌, ◌≤◌, ◌↔◌, [], ◌∷◌, ◌++◌, drop, length, take, vec_len, vec_capacity, IfOk, IsSome};
+ghost use Rattle.std.specs.Prelude.{option_to_list};
 ghost use Rattle.seq_tree.specs.Names.{same_name};
 ghost use Rattle.seq_tree.specs.Variables.{write};
 ghost use Rattle.seq_eval.specs.Lookups.{found};
@@ -31,7 +32,8 @@ impl<'a> Model for Vars<'a> {
 
     ghost view = { λ v. v.vars };
 
-    ghost invariant = { λ v. IsTable (length v.heads.items) (names_in v.vars.items) v.below.items v.heads.items × (vec_capacity v.vars ≤ vec_capacity v.below) };
+    ghost invariant = { λ v. IsTable (length v.heads.items) (names_in v.vars.items) v.below.items v.heads.items
+        × (vec_capacity v.vars ≤ vec_capacity v.below) };
 }
 
 /// Of so many buckets, the one of a name.

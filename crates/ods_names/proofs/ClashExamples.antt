@@ -6,7 +6,8 @@ use Rattle.design_rules.specs.Clashes.{Whole, Single, Member, Parameter, Local, 
 use Rattle.name_sets.specs.Sets.{has}
 use Rattle.ods_names.specs.Keys.{has_key}
 use Rattle.ods_names.specs.Mentions.{requests_of, role_of}
-use Rattle.ods_names.specs.Taken.{Holds, is_single, is_member, is_bodied, is_parameter, is_asked, is_bodied_parameter, is_local, names_where, has_request, taken_in}
+use Rattle.ods_names.specs.Taken.{Holds, is_single, is_member, is_bodied, is_parameter, is_asked, is_bodied_parameter, is_local, names_where}
+use Rattle.ods_names.specs.Taken.{has_request, taken_in}
 use Rattle.ods_index.specs.Walking.{object_of}
 use Rattle.ods_names.specs.declared.mentions.Role.TheVariants as role
 use Rattle.ods_names.specs.declared.taken.Taken.{Taken}
@@ -83,7 +84,8 @@ none_behind : (s : Standing) (n : Name) → has_request 0 (s ∷ []) 1 n ≡ fal
 none_behind s n = refl
 
 -- sets without names are those of no names, and one with a name is not
-no_names_hold : (t : Taken) → ((n : Name) → has t.all n ≡ false) → ((n : Name) → has t.objects n ≡ false) → ((p k : ℕ) (o n : Name) → has_key t.requests p k o n ≡ false) →
+no_names_hold : (t : Taken) → ((n : Name) → has t.all n ≡ false) → ((n : Name) → has t.objects n ≡ false)
+    → ((p k : ℕ) (o n : Name) → has_key t.requests p k o n ≡ false) →
     ((p k : ℕ) (o n : Name) → has_key t.members p k o n ≡ false) → ((p k : ℕ) (o n : Name) → has_key t.bodied p k o n ≡ false) →
     ((p k : ℕ) (o n : Name) → has_key t.parameters p k o n ≡ false) → ((p k : ℕ) (o n : Name) → has_key t.bodied_parameters p k o n ≡ false) →
     ((p k : ℕ) (o n : Name) → has_key t.asked p k o n ≡ false) → ((p k : ℕ) (o n : Name) → has_key t.locals p k o n ≡ false) → Holds (λ p. []) t []
@@ -124,14 +126,16 @@ bare_shares : clashes_after [] (mention (Parameter 0 (98 ∷ []) false) (97 ∷ 
 bare_shares = refl
 
 -- a loop inside another may not have its name, and one behind it may
-nested_loops : clashes_after [] (mention (Loop 0 0 []) (97 ∷ []) ∷ record { name = 97 ∷ []; role = Loop 0 0 []; open' = (97 ∷ []) ∷ [] } ∷ []) ≡ V01 (97 ∷ []) ∷ []
+nested_loops : clashes_after [] (mention (Loop 0 0 []) (97 ∷ []) ∷ record { name = 97 ∷ []; role = Loop 0 0 []; open' = (97 ∷ []) ∷ [] } ∷ [])
+    ≡ V01 (97 ∷ []) ∷ []
 nested_loops = refl
 
 loops_in_turn : clashes_after [] (mention (Loop 0 0 []) (97 ∷ []) ∷ mention (Loop 0 0 []) (97 ∷ []) ∷ []) ≡ []
 loops_in_turn = refl
 
 -- a loop of a thread may not have the name of a parameter of a request, and may have that of another operation
-thread_clash : clashes_after [] (mention (Parameter 0 (98 ∷ []) true) (97 ∷ []) ∷ mention (Loop 0 0 ((98 ∷ []) ∷ [])) (97 ∷ []) ∷ []) ≡ V01 (97 ∷ []) ∷ []
+thread_clash : clashes_after [] (mention (Parameter 0 (98 ∷ []) true) (97 ∷ []) ∷ mention (Loop 0 0 ((98 ∷ []) ∷ [])) (97 ∷ []) ∷ [])
+    ≡ V01 (97 ∷ []) ∷ []
 thread_clash = refl
 
 thread_shares : clashes_after [] (mention (Parameter 0 (98 ∷ []) true) (97 ∷ []) ∷ mention (Loop 0 0 ((99 ∷ []) ∷ [])) (97 ∷ []) ∷ []) ≡ []

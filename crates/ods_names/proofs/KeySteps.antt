@@ -13,7 +13,8 @@ either false b = refl
 
 -- a name that was added, or one that was there
 pub added_key : (place number p q : ℕ) (op name o n : List ℕ) (old : Bool) →
-    cond (is_eq (ordering_then (ordering_then (nat_cmp place p) (nat_cmp number q)) (ordering_then (slice_cmp nat_cmp op o) (slice_cmp nat_cmp name n)))) true old
+    cond (is_eq (ordering_then (ordering_then (nat_cmp place p) (nat_cmp number q))
+    (ordering_then (slice_cmp nat_cmp op o) (slice_cmp nat_cmp name n)))) true old
     ≡ (((place == p && number == q) && (same_name op o && same_name name n)) || old)
 added_key place number p q op name o n old =
     let numbers = ordering_then (nat_cmp place p) (nat_cmp number q) in

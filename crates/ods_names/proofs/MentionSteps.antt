@@ -18,21 +18,26 @@ loops_join f open' (arm ∷ arms) others =
     ∙ sym (append_assoc (block_loops f open' arm.1) (branch_loops f open' (branches_of arms Nothing)) (branch_loops f open' others))
 
 -- the loops of branches that were added, and then those of an `else`
-pub added_loops : (f : Name → List Name → Mention) (open' : List Name) (old mid : List Mention) (arms : List (Expression × Statements)) (others : Branches) →
-    mid ≡ old ++ branch_loops f open' (branches_of arms Nothing) → mid ++ branch_loops f open' others ≡ old ++ branch_loops f open' (branches_of arms others)
+pub added_loops : (f : Name → List Name → Mention) (open' : List Name) (old mid : List Mention) (arms : List (Expression × Statements))
+    (others : Branches) →
+    mid ≡ old ++ branch_loops f open' (branches_of arms Nothing) → mid ++ branch_loops f open' others
+    ≡ old ++ branch_loops f open' (branches_of arms others)
 added_loops f open' old mid arms others first =
-    ap (λ z. z ++ branch_loops f open' others) first ∙ append_assoc old (branch_loops f open' (branches_of arms Nothing)) (branch_loops f open' others)
+    ap (λ z. z ++ branch_loops f open' others) first ∙ append_assoc old (branch_loops f open' (branches_of arms Nothing))
+    (branch_loops f open' others)
     ∙ ap (λ z. old ++ z) (sym (loops_join f open' arms others))
 
 -- five lists one after another, as they were added
-pub object_joined : (old one two three four m ops data' bodies thread : List Mention) → one ≡ old ++ m → two ≡ one ++ ops → three ≡ two ++ data' → four ≡ three ++ bodies →
+pub object_joined : (old one two three four m ops data' bodies thread : List Mention) → one ≡ old ++ m → two ≡ one ++ ops → three ≡ two ++ data'
+    → four ≡ three ++ bodies →
     four ++ thread ≡ old ++ (m ++ (ops ++ (data' ++ (bodies ++ thread))))
 object_joined old one two three four m ops data' bodies thread a b c d =
     ap (λ z. z ++ thread) (d ∙ ap (λ z. z ++ bodies) (c ∙ ap (λ z. z ++ data') (b ∙ ap (λ z. z ++ ops) a)))
     ∙ append_assoc (((old ++ m) ++ ops) ++ data') bodies thread ∙ append_assoc ((old ++ m) ++ ops) data' (bodies ++ thread)
     ∙ append_assoc (old ++ m) ops (data' ++ (bodies ++ thread)) ∙ append_assoc old m (ops ++ (data' ++ (bodies ++ thread)))
 
-there_step : (test : Body → Bool) (b : Body) (bs : List Body) (now : Bool) → is_there (find test bs) ≡ list_any test bs → is_there (cond now (Some b) (find test bs)) ≡ (now || list_any test bs)
+there_step : (test : Body → Bool) (b : Body) (bs : List Body) (now : Bool) → is_there (find test bs) ≡ list_any test bs
+    → is_there (cond now (Some b) (find test bs)) ≡ (now || list_any test bs)
 there_step test b bs true h = refl
 there_step test b bs false h = h
 

@@ -13,7 +13,8 @@ use Rattle.ods_names.specs.NameLists.{names_of}
 use Rattle.ods_names.proofs.NeedSteps.{head_filter}
 
 -- the names of branches: those with conditions, then an `else`
-branch_join : (arms : List (Expression × Statements)) (others : Branches) → branch_names (branches_of arms others) ≡ branch_names (branches_of arms Nothing) ++ branch_names others
+branch_join : (arms : List (Expression × Statements)) (others : Branches) → branch_names (branches_of arms others)
+    ≡ branch_names (branches_of arms Nothing) ++ branch_names others
 branch_join [] others = refl
 branch_join (arm ∷ arms) others =
     ap (λ ns. expression_names arm.0 ++ (block_names arm.1 ++ ns)) (branch_join arms others)
@@ -28,7 +29,8 @@ added_branches old mid arms others first =
     ∙ ap (λ z. old ++ z) (sym (branch_join arms others))
 
 -- what is told first, where this is the first name that can't stand in an Ada text
-pub first_told : (names : List (Bor Name)) (all : List Name) (first : Option Name) → names_of names ≡ all → first ≡ find (λ n. not (is_ada_name n)) (names_of names) →
+pub first_told : (names : List (Bor Name)) (all : List Name) (first : Option Name) → names_of names ≡ all
+    → first ≡ find (λ n. not (is_ada_name n)) (names_of names) →
     head_of (map V02 (filter (λ n. not (is_ada_name n)) all)) ≡ option_map V02 first
 first_told names all first same found =
     head_filter V02 (λ n. not (is_ada_name n)) all ∙ ap (option_map V02) (sym (found ∙ ap (find (λ n. not (is_ada_name n))) same))

@@ -1,5 +1,6 @@
 -- What is told first of the operations that objects require: of one object, then of those inside it, one child at a time.
-use Rattle.std.proofs.Common.{◌≡◌, ℕ, ◌+◌, ◌<◌, suc, Bool, true, false, cond, List, [], ◌∷◌, ◌++◌, map, filter, find, drop, length, flat_map, Option, Some, None, option_map, Err, refl, ap, sym, subst, ◌∙◌, add-one}
+use Rattle.std.proofs.Common.{◌≡◌, ℕ, ◌+◌, ◌<◌, suc, Bool, true, false, cond, List, [], ◌∷◌, ◌++◌, map, filter, find, drop, length, flat_map}
+use Rattle.std.proofs.Common.{Option, Some, None, option_map, Err, refl, ap, sym, subst, ◌∙◌, add-one}
 use Rattle.std.proofs.Math.ListN.{get_or}
 use Rattle.std.proofs.Math.Seq.{drop-cons}
 use Rattle.std.proofs.lemmas.Grind.{flat_map-append}
@@ -15,7 +16,8 @@ use Rattle.ods_index.specs.declared.broken.Broken as code
 use Rattle.ods_index.proofs.TellSteps.{head_later, tells_front}
 use Rattle.ods_index.proofs.WalkSteps.{standings_of_node}
 
-head_step : {A B : Type 0} (f : A → B) (test : A → Bool) (x : A) (xs : List A) (b : Bool) → head_of (map f (filter test xs)) ≡ option_map f (find test xs) →
+head_step : {A B : Type 0} (f : A → B) (test : A → Bool) (x : A) (xs : List A) (b : Bool)
+    → head_of (map f (filter test xs)) ≡ option_map f (find test xs) →
     head_of (map f (cond b (x ∷ filter test xs) (filter test xs))) ≡ option_map f (cond b (Some x) (find test xs))
 head_step f test x xs true h = refl
 head_step f test x xs false h = h
@@ -34,35 +36,44 @@ pub drop_step : {A : Type 0} (xs : List A) (i : ℕ) (x : A) → i < length xs �
 drop_step xs i x inside at = drop-cons xs i x inside ∙ ap (λ y. y ∷ drop (suc i) xs) (sym at) ∙ ap (λ k. x ∷ drop k xs) (sym (add-one i))
 
 -- what is told of a front is told of an equal of the whole
-pub told_of_all : (e : code.Broken) (xs ys : List Broken) (all : Option Broken) → head_of (xs ++ ys) ≡ all → Tells (Err e) (head_of xs) → Tells (Err e) all
+pub told_of_all : (e : code.Broken) (xs ys : List Broken) (all : Option Broken) → head_of (xs ++ ys) ≡ all → Tells (Err e) (head_of xs)
+    → Tells (Err e) all
 told_of_all e xs ys all same h = let P : Option Broken → Type 0 = λ w. Tells (Err e) w in subst P same (tells_front e xs ys h)
 
 -- what is told of an object and of those inside it
 within : (f : Standing → List Broken) (n : nodes.Node) (p : Option Object) (s : List Object) →
     flat_map f (standings p s (tree_of n)) ≡ f (record { own = object_of n; parent = p; siblings = s; children = inside (tree_of n) })
-    ++ flat_map f (inner_standings (Some (object_of n)) (map object_of (out-Node n).children.items) (trees_of (map tree_of (out-Node n).children.items)))
+    ++ flat_map f (inner_standings (Some (object_of n)) (map object_of (out-Node n).children.items)
+    (trees_of (map tree_of (out-Node n).children.items)))
 within f n p s = ap (flat_map f) (standings_of_node n p s)
 
 -- nothing is told of the object itself
-pub own_passes : (f : Standing → List Broken) (n : nodes.Node) (p : Option Object) (s : List Object) (kids : List nodes.Node) → kids ≡ (out-Node n).children.items →
+pub own_passes : (f : Standing → List Broken) (n : nodes.Node) (p : Option Object) (s : List Object) (kids : List nodes.Node)
+    → kids ≡ (out-Node n).children.items →
     head_of (f (record { own = object_of n; parent = p; siblings = s; children = inside (tree_of n) })) ≡ None →
-    head_of (flat_map f (inner_standings (Some (object_of n)) (map object_of kids) (trees_of (map tree_of kids)))) ≡ head_of (flat_map f (standings p s (tree_of n)))
+    head_of (flat_map f (inner_standings (Some (object_of n)) (map object_of kids) (trees_of (map tree_of kids))))
+    ≡ head_of (flat_map f (standings p s (tree_of n)))
 own_passes f n p s kids same none =
     ap (λ ks. head_of (flat_map f (inner_standings (Some (object_of n)) (map object_of ks) (trees_of (map tree_of ks))))) same
-    ∙ sym (ap head_of (within f n p s) ∙ head_later (f (record { own = object_of n; parent = p; siblings = s; children = inside (tree_of n) })) _ none)
+    ∙ sym (ap head_of (within f n p s) ∙ head_later
+    (f (record { own = object_of n; parent = p; siblings = s; children = inside (tree_of n) })) _ none)
 
 -- what is told of the object itself is told of all
 pub own_told : (f : Standing → List Broken) (n : nodes.Node) (p : Option Object) (s : List Object) (e : code.Broken) →
-    Tells (Err e) (head_of (f (record { own = object_of n; parent = p; siblings = s; children = inside (tree_of n) }))) → Tells (Err e) (head_of (flat_map f (standings p s (tree_of n))))
+    Tells (Err e) (head_of (f (record { own = object_of n; parent = p; siblings = s; children = inside (tree_of n) })))
+    → Tells (Err e) (head_of (flat_map f (standings p s (tree_of n))))
 own_told f n p s e h =
     told_of_all e (f (record { own = object_of n; parent = p; siblings = s; children = inside (tree_of n) }))
-    (flat_map f (inner_standings (Some (object_of n)) (map object_of (out-Node n).children.items) (trees_of (map tree_of (out-Node n).children.items))))
+    (flat_map f (inner_standings (Some (object_of n)) (map object_of (out-Node n).children.items)
+    (trees_of (map tree_of (out-Node n).children.items))))
     (head_of (flat_map f (standings p s (tree_of n)))) (sym (ap head_of (within f n p s))) h
 
 -- what is told of a child is told of all
-pub child_told : (f : Standing → List Broken) (p : Option Object) (s : List Object) (kids : List nodes.Node) (i : ℕ) (kid : nodes.Node) (all : Option Broken) (e : code.Broken) →
+pub child_told : (f : Standing → List Broken) (p : Option Object) (s : List Object) (kids : List nodes.Node) (i : ℕ) (kid : nodes.Node)
+    (all : Option Broken) (e : code.Broken) →
     i < length kids → kid ≡ get_or kids i kid →
-    head_of (flat_map f (inner_standings p s (trees_of (map tree_of (drop i kids))))) ≡ all → Tells (Err e) (head_of (flat_map f (standings p s (tree_of kid)))) → Tells (Err e) all
+    head_of (flat_map f (inner_standings p s (trees_of (map tree_of (drop i kids))))) ≡ all
+    → Tells (Err e) (head_of (flat_map f (standings p s (tree_of kid)))) → Tells (Err e) all
 child_told f p s kids i kid all e inside at before h =
     told_of_all e (flat_map f (standings p s (tree_of kid))) (flat_map f (inner_standings p s (trees_of (map tree_of (drop (i + 1) kids))))) all
     (sym (ap (λ ks. head_of (flat_map f (inner_standings p s (trees_of (map tree_of ks))))) (drop_step kids i kid inside at)

@@ -95,7 +95,8 @@ most_cut = refl
 set_attribute : attribute_set 1000 (record { key = Period; value = 3; unit = Some Ms }) ≡ attr Period 3
 set_attribute = refl
 
-set_tree : tree_set 1000 (cyc_with (codes "t") (record { key = Deadline; value = 3; unit = Some Ms } ∷ []) [] []) ≡ cyc_with (codes "t") (attr Deadline 3 ∷ []) [] []
+set_tree : tree_set 1000 (cyc_with (codes "t") (record { key = Deadline; value = 3; unit = Some Ms } ∷ []) [] [])
+    ≡ cyc_with (codes "t") (attr Deadline 3 ∷ []) [] []
 set_tree = refl
 
 -- a passive object may provide what has no constraint, and not what waits under exclusion; a cyclic one may with children alone
@@ -113,7 +114,17 @@ provides_not = refl
 
 -- 3 ms are whole in ticks of 1,000 microseconds, and not in ticks of 2,000, also where they stand inside
 abbrev with_attrs : List Attr → Object
-with_attrs as' = record { name = 97 ∷ []; kind = kind.Cyclic; attrs = as'; provides = []; needs = []; vars = []; bodies = []; thread = None; links = [] }
+with_attrs as' = record {
+  name = 97 ∷ [];
+  kind = kind.Cyclic;
+  attrs = as';
+  provides = [];
+  needs = [];
+  vars = [];
+  bodies = [];
+  thread = None;
+  links = [];
+}
 
 abbrev three : List Attr
 three = record { key = Period; value = 3; unit = Some Ms } ∷ []

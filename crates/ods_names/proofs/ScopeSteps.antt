@@ -31,7 +31,8 @@ pub given_added : {A B : Type 0} (f : A → Option B) (xs : List A) (i : ℕ) (x
     new ≡ before ++ option_to_list (f x) → before ++ filter_map f (drop i xs) ≡ all → new ++ filter_map f (drop (i + 1) xs) ≡ all
 given_added f xs i x before new all inside at made was =
     let rest = drop (i + 1) xs in
-    ap (λ ys. ys ++ filter_map f rest) made ∙ append_assoc before (option_to_list (f x)) (filter_map f rest) ∙ ap (λ ys. before ++ ys) (sym (given_cons f x rest))
+    ap (λ ys. ys ++ filter_map f rest) made ∙ append_assoc before (option_to_list (f x)) (filter_map f rest) ∙ ap (λ ys. before ++ ys)
+    (sym (given_cons f x rest))
     ∙ ap (λ ys. before ++ filter_map f ys) (sym (drop_step xs i x inside at)) ∙ was
 
 -- the first that is given, where there is one
@@ -40,7 +41,8 @@ head_given None = refl
 head_given (Some a) = refl
 
 -- what is told of one item is told of those from it on, in all of which it is the same
-pub given_told : {A X : Type 0} (f : A → Option Broken) (v : X → A) (xs : List X) (i : ℕ) (x : X) (all wanted : Option Broken) (e : code.Broken) → i < length xs → x ≡ get_or xs i x →
+pub given_told : {A X : Type 0} (f : A → Option Broken) (v : X → A) (xs : List X) (i : ℕ) (x : X) (all wanted : Option Broken) (e : code.Broken)
+    → i < length xs → x ≡ get_or xs i x →
     head_of (filter_map f (map v (drop i xs))) ≡ all → f (v x) ≡ wanted → Tells (Err e) wanted → Tells (Err e) all
 given_told f v xs i x all wanted e inside at before here h =
     let rest = map v (drop (i + 1) xs) in
@@ -49,18 +51,22 @@ given_told f v xs i x all wanted e inside at before here h =
     (ap head_of (sym (given_cons f (v x) rest) ∙ ap (λ ys. filter_map f (map v ys)) (sym (drop_step xs i x inside at))) ∙ before)
     (subst Told (sym (head_given (f (v x)) ∙ here)) h)
 
-pub listed_told : {A X : Type 0} (f : A → List Broken) (v : X → A) (xs : List X) (i : ℕ) (x : X) (all : Option Broken) (e : code.Broken) → i < length xs → x ≡ get_or xs i x →
+pub listed_told : {A X : Type 0} (f : A → List Broken) (v : X → A) (xs : List X) (i : ℕ) (x : X) (all : Option Broken) (e : code.Broken)
+    → i < length xs → x ≡ get_or xs i x →
     head_of (flat_map f (map v (drop i xs))) ≡ all → Tells (Err e) (head_of (f (v x))) → Tells (Err e) all
 listed_told f v xs i x all e inside at before h =
-    told_of_all e (f (v x)) (flat_map f (map v (drop (i + 1) xs))) all (ap (λ ys. head_of (flat_map f (map v ys))) (sym (drop_step xs i x inside at)) ∙ before) h
+    told_of_all e (f (v x)) (flat_map f (map v (drop (i + 1) xs))) all
+    (ap (λ ys. head_of (flat_map f (map v ys))) (sym (drop_step xs i x inside at)) ∙ before) h
 
 -- the operation of a name of the object that stands here
-pub provided_here : (s : Option Standing) (o : Object) (n : Name) → option_map (λ t. t.own) s ≡ Some o → option_and_then (λ t. provided_named n t.own.provides) s ≡ provided_named n o.provides
+pub provided_here : (s : Option Standing) (o : Object) (n : Name) → option_map (λ t. t.own) s ≡ Some o
+    → option_and_then (λ t. provided_named n t.own.provides) s ≡ provided_named n o.provides
 provided_here None o n e = absurd (cc)
 provided_here (Some t) o n e = cc
 
 -- the fault of a body, by what is known in it
-pub body_fault_by : (x : Design) (o : Object) (b : Body) (name : Name) (vars : List Datum) (calls : List Offer) (params : List Param) (locals : List Datum) →
+pub body_fault_by : (x : Design) (o : Object) (b : Body) (name : Name) (vars : List Datum) (calls : List Offer) (params : List Param)
+    (locals : List Datum) →
     o.name ≡ name → vars ≡ o.vars → calls ≡ offers x o → params ≡ params_by (provided_named b.name o.provides) → locals ≡ b.locals →
     body_fault x o b ≡ part_fault name (Some b.name) (scope_with vars calls params locals) b.block
 body_fault_by x o b name vars calls params locals n v c p l =

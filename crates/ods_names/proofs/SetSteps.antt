@@ -1,5 +1,6 @@
 -- A list that is changed item by item, and an object whose attributes and children are.
-use Rattle.std.proofs.Common.{◌≡◌, ℕ, zero, suc, ◌+◌, ◌<◌, List, [], ◌∷◌, ◌++◌, map, take, drop, length, option_map, Vec, refl, sym, ap, subst, ◌∙◌, arith}
+use Rattle.std.proofs.Common.{◌≡◌, ℕ, zero, suc, ◌+◌, ◌<◌, List, [], ◌∷◌, ◌++◌, map, take, drop, length, option_map, Vec, refl, sym, ap, subst}
+use Rattle.std.proofs.Common.{◌∙◌, arith}
 use Rattle.std.specs.declared.alloc.Global.{Global}
 use Rattle.std.proofs.Math.ListN.{get_or, set}
 use Rattle.std.proofs.lemmas.List.{map-set, length-map, with_items_is}
@@ -63,7 +64,8 @@ same_length g f xs ys e = sym (length-map xs g) ∙ ap length e ∙ length-map (
 -- the tree of an object whose attributes and children are set
 pub set_tree : (n : nodes.Node) (bs : List Attr) (ks : List nodes.Node) (tick : ℕ) →
     bs ≡ map (attribute_set tick) (out-Node n).attrs.items → map tree_of ks ≡ map (tree_set tick) (map tree_of (out-Node n).children.items) →
-    tree_of (roll-Node (record (out-Node n) { attrs = with_items (out-Node n).attrs bs; children = with_items (out-Node n).children ks })) ≡ tree_set tick (tree_of n)
+    tree_of (roll-Node (record (out-Node n) { attrs = with_items (out-Node n).attrs bs; children = with_items (out-Node n).children ks }))
+    ≡ tree_set tick (tree_of n)
 set_tree n bs ks tick attrs kids =
     let with_attrs : List Attr → Object = λ cs. record {
       name = (out-Node n).name;

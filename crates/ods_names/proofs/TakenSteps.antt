@@ -1,5 +1,6 @@
 -- The sets of names that are taken: what a further name changes, and when a later one is taken.
-use Rattle.std.proofs.Common.{◌≡◌, ℕ, zero, suc, ◌+◌, ◌<◌, ◌≤◌, Bool, true, false, cond, ◌&&◌, ◌||◌, ◌==◌, List, [], ◌∷◌, map, filter, drop, length, slice_get, refl, ap, sym, ◌∙◌, arith, add-one}
+use Rattle.std.proofs.Common.{◌≡◌, ℕ, zero, suc, ◌+◌, ◌<◌, ◌≤◌, Bool, true, false, cond, ◌&&◌, ◌||◌, ◌==◌, List, [], ◌∷◌, map, filter, drop}
+use Rattle.std.proofs.Common.{length, slice_get, refl, ap, sym, ◌∙◌, arith, add-one}
 use Rattle.std.specs.Cmp.Lexicographic.{nat_list_eq_equiv}
 use Rattle.std.proofs.Math.ListN.{get_or, drop_of_length-le}
 use Rattle.std.proofs.lemmas.Bool.{eqb-true, ne_eqb}
@@ -18,7 +19,8 @@ use Rattle.ods_index.specs.Walking.{object_of}
 use Rattle.ods_names.specs.declared.keys.Keys.{Keys}
 use Rattle.ods_names.specs.declared.taken.Taken.{Taken}
 use Rattle.ods_index.specs.declared.walk.Standing.{Standing}
-use Rattle.ods_names.specs.Taken.{Holds, is_single, is_member, is_bodied, is_parameter, is_asked, is_bodied_parameter, is_local, has_request, names_where}
+use Rattle.ods_names.specs.Taken.{Holds, is_single, is_member, is_bodied, is_parameter, is_asked, is_bodied_parameter, is_local, has_request}
+use Rattle.ods_names.specs.Taken.{names_where}
 use Rattle.ods_names.proofs.NeedSteps.{drop_step}
 
 -- a set that a name of another sort doesn't change
@@ -79,7 +81,8 @@ comes_where_of true k f s e h = comes_bodied_of k f s e h
 comes_where_of false k f s e h = stays_bare_of s k f (e ∙ h)
 
 -- a set to which a name comes where it is that of a request
-pub comes_asked : (a k s m : Bool) → (k ≡ true → a ≡ m) → {new o w : Bool} → new ≡ ((a && ((k && true) && (true && s))) || o) → o ≡ w → new ≡ ((s && (k && m)) || w)
+pub comes_asked : (a k s m : Bool) → (k ≡ true → a ≡ m) → {new o w : Bool} → new ≡ ((a && ((k && true) && (true && s))) || o) → o ≡ w
+    → new ≡ ((s && (k && m)) || w)
 comes_asked a true s m same {new} {o} {w} e h = comes_where a true s e h ∙ ap (λ z. (s && z) || w) (same refl)
 comes_asked a false s m same e h = comes_where a false s e h
 
@@ -92,7 +95,8 @@ comes_in false false e h = e ∙ h
 -- sorts of roles that are one
 pub same_sort : (f g : Role → Bool) → ((r : Role) → f r ≡ g r) → (es : List Mention) (n : Name) → names_where f es n ≡ names_where g es n
 same_sort f g same [] n = refl
-same_sort f g same (e ∷ es) n = ap (λ b. (same_name e.name n && b) || names_where f es n) (same e.role) ∙ ap (λ b. (same_name e.name n && g e.role) || b) (same_sort f g same es n)
+same_sort f g same (e ∷ es) n = ap (λ b. (same_name e.name n && b) || names_where f es n) (same e.role) ∙ ap
+    (λ b. (same_name e.name n && g e.role) || b) (same_sort f g same es n)
 
 mixed : (s a b x y : Bool) → ((s && (a || b)) || (x || y)) ≡ (((s && a) || x) || ((s && b) || y))
 mixed false a b x y = refl
@@ -159,7 +163,8 @@ member_by true false = refl
 member_by false true = refl
 member_by false false = refl
 
-pub before_parameter : (p : ℕ) (op : Name) (b : Bool) (r : Role) → ((is_single r || (b && is_member p r)) || is_bodied_parameter p op r) ≡ excludes r (Parameter p op b)
+pub before_parameter : (p : ℕ) (op : Name) (b : Bool) (r : Role) → ((is_single r || (b && is_member p r)) || is_bodied_parameter p op r)
+    ≡ excludes r (Parameter p op b)
 before_parameter p op b Whole = idle_by b false
 before_parameter p op b Single = refl
 before_parameter p op b (Member q) = member_by b (q == p)
@@ -167,7 +172,8 @@ before_parameter p op b (Parameter q f c) = idle_by b (q == p && c && same_name 
 before_parameter p op b (Local q c f) = idle_by b false
 before_parameter p op b (Loop q c fs) = idle_by b false
 
-pub before_loop : (p c : ℕ) (ops : List Name) (r : Role) → (((is_single r || is_member p r) || is_asked ops p r) || is_local p c r) ≡ excludes r (Loop p c ops)
+pub before_loop : (p c : ℕ) (ops : List Name) (r : Role) → (((is_single r || is_member p r) || is_asked ops p r) || is_local p c r)
+    ≡ excludes r (Loop p c ops)
 before_loop p c ops Whole = refl
 before_loop p c ops Single = refl
 before_loop p c ops (Member q) = sym (or_false (q == p || false)) ∙ sym (or_false (q == p))
@@ -175,7 +181,8 @@ before_loop p c ops (Parameter q f b) = sym (or_false (q == p && is_named ops f)
 before_loop p c ops (Local q d f) = refl
 before_loop p c ops (Loop q d fs) = refl
 
-pub before_body : (p c : ℕ) (op : Name) (r : Role) → (((is_single r || is_member p r) || is_parameter p op r) || is_local p c r) ≡ excludes r (Loop p c (op ∷ []))
+pub before_body : (p c : ℕ) (op : Name) (r : Role) → (((is_single r || is_member p r) || is_parameter p op r) || is_local p c r)
+    ≡ excludes r (Loop p c (op ∷ []))
 before_body p c op Whole = refl
 before_body p c op Single = refl
 before_body p c op (Member q) = sym (or_false (q == p || false)) ∙ sym (or_false (q == p))
@@ -184,7 +191,8 @@ before_body p c op (Parameter q f b) =
 before_body p c op (Local q d f) = refl
 before_body p c op (Loop q d fs) = refl
 
-pub before_local : (p c : ℕ) (op : Name) (r : Role) → (((is_single r || is_member p r) || is_parameter p op r) || is_local p c r) ≡ excludes r (Local p c op)
+pub before_local : (p c : ℕ) (op : Name) (r : Role) → (((is_single r || is_member p r) || is_parameter p op r) || is_local p c r)
+    ≡ excludes r (Local p c op)
 before_local p c op Whole = refl
 before_local p c op Single = refl
 before_local p c op (Member q) = sym (or_false (q == p || false)) ∙ sym (or_false (q == p))
@@ -208,7 +216,8 @@ whole_added r t all es name open' all_has h = record {
   locals_in = λ p c n. stays (same_name name n) (h.locals_in p c n);
 }
 
-pub loop_added : (r : ℕ → List Name) (t : Taken) (all : Names) (es : List Mention) (place body : ℕ) (ops : List Name) (name : Name) (open' : List Name) →
+pub loop_added : (r : ℕ → List Name) (t : Taken) (all : Names) (es : List Mention) (place body : ℕ) (ops : List Name) (name : Name)
+    (open' : List Name) →
     ((n : Name) → has all n ≡ (same_name name n || has t.all n)) →
     Holds r t es → Holds r (record t { all = all }) (record { name = name; role = Loop place body ops; open' = open' } ∷ es)
 loop_added r t all es place body ops name open' all_has h = record {
@@ -241,7 +250,8 @@ single_added r t all objects es name open' all_has objects_has h = record {
 
 pub member_added : (r : ℕ → List Name) (t : Taken) (all : Names) (members : Keys) (es : List Mention) (place : ℕ) (name : Name) (open' : List Name) →
     ((n : Name) → has all n ≡ (same_name name n || has t.all n)) →
-    ((p q : ℕ) (o n : Name) → has_key members p q o n ≡ (((place == p && 0 == q) && (same_name [] o && same_name name n)) || has_key t.members p q o n)) →
+    ((p q : ℕ) (o n : Name) → has_key members p q o n
+    ≡ (((place == p && 0 == q) && (same_name [] o && same_name name n)) || has_key t.members p q o n)) →
     Holds r t es → Holds r (record t { all = all; members = members }) (record { name = name; role = Member place; open' = open' } ∷ es)
 member_added r t all members es place name open' all_has members_has h = record {
   requested_in = h.requested_in;
@@ -255,9 +265,11 @@ member_added r t all members es place name open' all_has members_has h = record 
   locals_in = λ p c n. stays (same_name name n) (h.locals_in p c n);
 }
 
-pub local_added : (r : ℕ → List Name) (t : Taken) (all : Names) (locals : Keys) (es : List Mention) (place body : ℕ) (op : Name) (name : Name) (open' : List Name) →
+pub local_added : (r : ℕ → List Name) (t : Taken) (all : Names) (locals : Keys) (es : List Mention) (place body : ℕ) (op : Name) (name : Name)
+    (open' : List Name) →
     ((n : Name) → has all n ≡ (same_name name n || has t.all n)) →
-    ((p q : ℕ) (o n : Name) → has_key locals p q o n ≡ (((place == p && body == q) && (same_name [] o && same_name name n)) || has_key t.locals p q o n)) →
+    ((p q : ℕ) (o n : Name) → has_key locals p q o n ≡ (((place == p && body == q) && (same_name [] o && same_name name n))
+    || has_key t.locals p q o n)) →
     Holds r t es → Holds r (record t { all = all; locals = locals }) (record { name = name; role = Local place body op; open' = open' } ∷ es)
 local_added r t all locals es place body op name open' all_has locals_has h = record {
   requested_in = h.requested_in;
@@ -274,26 +286,34 @@ local_added r t all locals es place body op name open' all_has locals_has h = re
 asked_at : (r : ℕ → List Name) (place p : ℕ) (op : Name) → (place == p) ≡ true → is_named (r place) op ≡ is_named (r p) op
 asked_at r place p op e = ap (λ q. is_named (r q) op) (eqb-true place p e)
 
-pub parameter_added : (r : ℕ → List Name) (t : Taken) (all : Names) (parameters bodied bodied_parameters asked : Keys) (es : List Mention) (place : ℕ) (op : Name) (has_body is_request : Bool) (name : Name) (open' : List Name) →
+pub parameter_added : (r : ℕ → List Name) (t : Taken) (all : Names) (parameters bodied bodied_parameters asked : Keys) (es : List Mention) (place : ℕ)
+    (op : Name) (has_body is_request : Bool) (name : Name) (open' : List Name) →
     is_request ≡ has_key t.requests place 0 [] op →
     ((n : Name) → has all n ≡ (same_name name n || has t.all n)) →
-    ((p q : ℕ) (o n : Name) → has_key parameters p q o n ≡ (((place == p && 0 == q) && (same_name op o && same_name name n)) || has_key t.parameters p q o n)) →
-    ((p q : ℕ) (o n : Name) → has_key bodied p q o n ≡ ((has_body && ((place == p && 0 == q) && (same_name [] o && same_name name n))) || has_key t.bodied p q o n)) →
-    ((p q : ℕ) (o n : Name) → has_key bodied_parameters p q o n ≡ ((has_body && ((place == p && 0 == q) && (same_name op o && same_name name n))) || has_key t.bodied_parameters p q o n)) →
-    ((p q : ℕ) (o n : Name) → has_key asked p q o n ≡ ((is_request && ((place == p && 0 == q) && (same_name [] o && same_name name n))) || has_key t.asked p q o n)) →
+    ((p q : ℕ) (o n : Name) → has_key parameters p q o n
+    ≡ (((place == p && 0 == q) && (same_name op o && same_name name n)) || has_key t.parameters p q o n)) →
+    ((p q : ℕ) (o n : Name) → has_key bodied p q o n ≡ ((has_body && ((place == p && 0 == q) && (same_name [] o && same_name name n)))
+    || has_key t.bodied p q o n)) →
+    ((p q : ℕ) (o n : Name) → has_key bodied_parameters p q o n
+    ≡ ((has_body && ((place == p && 0 == q) && (same_name op o && same_name name n))) || has_key t.bodied_parameters p q o n)) →
+    ((p q : ℕ) (o n : Name) → has_key asked p q o n ≡ ((is_request && ((place == p && 0 == q) && (same_name [] o && same_name name n)))
+    || has_key t.asked p q o n)) →
     Holds r t es → Holds r (record t { all = all; parameters = parameters; bodied = bodied; bodied_parameters = bodied_parameters; asked = asked })
     (record { name = name; role = Parameter place op has_body; open' = open' } ∷ es)
-parameter_added r t all parameters bodied bodied_parameters asked es place op has_body is_request name open' requested all_has parameters_has bodied_has bodied_parameters_has asked_has h = record {
-  requested_in = h.requested_in;
-  all_in = λ n. comes (same_name name n) (all_has n) (h.all_in n);
-  objects_in = λ n. stays (same_name name n) (h.objects_in n);
-  members_in = λ p n. stays (same_name name n) (h.members_in p n);
-  bodied_in = λ p n. comes_where has_body (place == p) (same_name name n) (bodied_has p 0 [] n) (h.bodied_in p n);
-  parameters_in = λ p o n. comes_of (place == p) (same_name op o) (same_name name n) (parameters_has p 0 o n) (h.parameters_in p o n);
-  bodied_parameters_in = λ p o n. comes_where_of has_body (place == p) (same_name op o) (same_name name n) (bodied_parameters_has p 0 o n) (h.bodied_parameters_in p o n);
-  asked_in = λ p n. comes_asked is_request (place == p) (same_name name n) (is_named (r p) op) (λ e. requested ∙ h.requested_in place op ∙ asked_at r place p op e) (asked_has p 0 [] n) (h.asked_in p n);
-  locals_in = λ p c n. stays (same_name name n) (h.locals_in p c n);
-}
+parameter_added r t all parameters bodied bodied_parameters asked es place op has_body is_request name open' requested all_has parameters_has
+    bodied_has bodied_parameters_has asked_has h = record {
+      requested_in = h.requested_in;
+      all_in = λ n. comes (same_name name n) (all_has n) (h.all_in n);
+      objects_in = λ n. stays (same_name name n) (h.objects_in n);
+      members_in = λ p n. stays (same_name name n) (h.members_in p n);
+      bodied_in = λ p n. comes_where has_body (place == p) (same_name name n) (bodied_has p 0 [] n) (h.bodied_in p n);
+      parameters_in = λ p o n. comes_of (place == p) (same_name op o) (same_name name n) (parameters_has p 0 o n) (h.parameters_in p o n);
+      bodied_parameters_in = λ p o n. comes_where_of has_body (place == p) (same_name op o) (same_name name n) (bodied_parameters_has p 0 o
+          n) (h.bodied_parameters_in p o n);
+      asked_in = λ p n. comes_asked is_request (place == p) (same_name name n) (is_named (r p) op) (λ e.
+          requested ∙ h.requested_in place op ∙ asked_at r place p op e) (asked_has p 0 [] n) (h.asked_in p n);
+      locals_in = λ p c n. stays (same_name name n) (h.locals_in p c n);
+    }
 
 -- what is added of the requests of an object, operation by operation
 mix : (w k s old r : Bool) → (((w && ((k && true) && (true && s))) || old) || (k && r)) ≡ (old || (k && ((w && s) || r)))
@@ -306,11 +326,13 @@ mix true false s false r = refl
 mix false k s true r = refl
 mix false k s false r = refl
 
-named_by : (w : Bool) (q : Provided) (qs : List Provided) (n : Name) → is_named (map (λ p. p.sig.name) (cond w (q ∷ qs) qs)) n ≡ ((w && same_name q.sig.name n) || is_named (map (λ p. p.sig.name) qs) n)
+named_by : (w : Bool) (q : Provided) (qs : List Provided) (n : Name) → is_named (map (λ p. p.sig.name) (cond w (q ∷ qs) qs)) n
+    ≡ ((w && same_name q.sig.name n) || is_named (map (λ p. p.sig.name) qs) n)
 named_by true q qs n = refl
 named_by false q qs n = refl
 
-pub request_step : (o : Object) (xs : List code.Provided) (i : ℕ) (x : code.Provided) (place p : ℕ) (n : Name) (wanted new old all : Bool) → i < length xs → x ≡ get_or xs i x → wanted ≡ is_request o (provided_of x) →
+pub request_step : (o : Object) (xs : List code.Provided) (i : ℕ) (x : code.Provided) (place p : ℕ) (n : Name) (wanted new old all : Bool)
+    → i < length xs → x ≡ get_or xs i x → wanted ≡ is_request o (provided_of x) →
     new ≡ ((wanted && ((place == p && true) && (true && same_name (provided_of x).sig.name n))) || old) →
     (old || (place == p && is_named (map (λ q. q.sig.name) (filter (is_request o) (map provided_of (drop i xs)))) n)) ≡ all →
     (new || (place == p && is_named (map (λ q. q.sig.name) (filter (is_request o) (map provided_of (drop (i + 1) xs)))) n)) ≡ all
@@ -320,7 +342,8 @@ request_step o xs i x place p n wanted new old all inside at w e before =
     ap (λ b. b || (place == p && rest)) e
     ∙ ap (λ b. ((b && ((place == p && true) && (true && same_name (provided_of x).sig.name n))) || old) || (place == p && rest)) w
     ∙ mix (is_request o (provided_of x)) (place == p) (same_name (provided_of x).sig.name n) old rest
-    ∙ ap (λ b. old || (place == p && b)) (sym (named_by (is_request o (provided_of x)) (provided_of x) (filter (is_request o) (map provided_of (drop (i + 1) xs))) n))
+    ∙ ap (λ b. old || (place == p && b))
+    (sym (named_by (is_request o (provided_of x)) (provided_of x) (filter (is_request o) (map provided_of (drop (i + 1) xs))) n))
     ∙ ap (λ ys. old || (place == p && is_named (names ys) n)) (sym (drop_step xs i x inside at)) ∙ before
 
 or_assoc : (a b c : Bool) → ((a || b) || c) ≡ (a || (b || c))
@@ -335,7 +358,8 @@ pub requests_end : (o : Object) (xs : List code.Provided) (i place p : ℕ) (n :
     (b || (place == p && is_named (map (λ q. q.sig.name) (filter (is_request o) (map provided_of (drop i xs)))) n)) ≡ all → b ≡ all
 requests_end o xs i place p n {b} {all} done before =
     let names : List code.Provided → List Name = λ ys. map (λ q. q.sig.name) (filter (is_request o) (map provided_of ys)) in
-    or_false b ∙ ap (λ z. b || z) (sym (idle (place == p))) ∙ ap (λ ys. b || (place == p && is_named (names ys) n)) (sym (drop_of_length-le xs done)) ∙ before
+    or_false b ∙ ap (λ z. b || z) (sym (idle (place == p))) ∙ ap (λ ys. b || (place == p && is_named (names ys) n))
+    (sym (drop_of_length-le xs done)) ∙ before
 
 -- what is added of the requests of objects, one by one
 pub standing_step : (xs : List Standing) (i : ℕ) (s : Standing) (p : ℕ) (n : Name) (new old all : Bool) → i < length xs → s ≡ get_or xs i s →
@@ -363,7 +387,8 @@ same_place i = nat_eq_equiv.refl i
 none_before : (i : ℕ) (ss : List Standing) (p : ℕ) (n : Name) → p < i → has_request i ss p n ≡ false
 none_before i [] p n low = refl
 none_before i (s ∷ ss) p n low =
-    ap (λ b. b || has_request (suc i) ss p n) (apart (i == p) (is_named (request_names (object_of s.node.now)) n) (other_place i p (λ e. omega (arith, low, e))))
+    ap (λ b. b || has_request (suc i) ss p n) (apart (i == p) (is_named (request_names (object_of s.node.now)) n)
+    (other_place i p (λ e. omega (arith, low, e))))
     ∙ none_before (suc i) ss p n (omega (arith, low))
 
 nothing : (n : Name) (k : ℕ) → false ≡ is_named (requests_of (slice_get [] k)) n
@@ -380,12 +405,14 @@ request_at i zero (s ∷ ss) p n e =
     ∙ ap (λ b. is_named (request_names (object_of s.node.now)) n || b) (none_before (suc i) ss p n (omega (arith, e)))
     ∙ sym (or_false (is_named (request_names (object_of s.node.now)) n))
 request_at i (suc k) (s ∷ ss) p n e =
-    ap (λ b. b || has_request (suc i) ss p n) (apart (i == p) (is_named (request_names (object_of s.node.now)) n) (other_place i p (λ q. omega (arith, e, q))))
+    ap (λ b. b || has_request (suc i) ss p n) (apart (i == p) (is_named (request_names (object_of s.node.now)) n)
+    (other_place i p (λ q. omega (arith, e, q))))
     ∙ request_at (suc i) k ss p n (omega (arith, e))
 
 pub request_in : (ss : List Standing) (p : ℕ) (n : Name) → has_request 0 ss p n ≡ is_named (requests_of (slice_get ss p)) n
 request_in ss p n = request_at 0 p ss p n (omega arith)
 
 -- the requests of the object that stands here
-pub requests_here : (xs : List Standing) (i : ℕ) (s : Standing) → i < length xs → s ≡ get_or xs i s → request_names (object_of s.node.now) ≡ requests_of (slice_get xs i)
+pub requests_here : (xs : List Standing) (i : ℕ) (s : Standing) → i < length xs → s ≡ get_or xs i s
+    → request_names (object_of s.node.now) ≡ requests_of (slice_get xs i)
 requests_here xs i s inside at = ap requests_of (sym (slice_get_read xs (length xs) i s refl inside at))

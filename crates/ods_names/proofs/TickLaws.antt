@@ -1,9 +1,11 @@
 -- Designs in ticks: nothing is wrong with their version, and their ticks are their own.
-use Rattle.std.proofs.Common.{◌≡◌, ℕ, ◌*◌, ◌/◌, ◌%◌, ◌==◌, ◌<◌, Bool, true, false, not, ◌&&◌, ◌||◌, cond, List, [], ◌∷◌, ◌++◌, map, filter_map, nat_le, nat_lt, Option, Some, None, option_to_list, refl, sym, ap, subst, ◌∙◌, arith}
+use Rattle.std.proofs.Common.{◌≡◌, ℕ, ◌*◌, ◌/◌, ◌%◌, ◌==◌, ◌<◌, Bool, true, false, not, ◌&&◌, ◌||◌, cond, List, [], ◌∷◌, ◌++◌, map, filter_map}
+use Rattle.std.proofs.Common.{nat_le, nat_lt, Option, Some, None, option_to_list, refl, sym, ap, subst, ◌∙◌, arith}
 use Rattle.std.specs.List.{list_any, cons_option}
 use Rattle.std.proofs.lemmas.List.Elements.{filter_map-append}
 use Rattle.ods_tree.specs.Designs.{Object, Tree, Trees, Node, Empty, With, Design}
-use Rattle.ods_tree.specs.Ticks.{microseconds, tick_time, count_in_ticks, attribute_in_ticks, object_in_ticks, tree_in_ticks, trees_in_ticks, ticked, in_ticks}
+use Rattle.ods_tree.specs.Ticks.{microseconds, tick_time, count_in_ticks, attribute_in_ticks, object_in_ticks, tree_in_ticks, trees_in_ticks}
+use Rattle.ods_tree.specs.Ticks.{ticked, in_ticks}
 use Rattle.ods_tree.specs.Walk.{Standing, objects, standings, inner_standings, own_of, roots, only_if}
 use Rattle.ods_tree.specs.declared.design.Attr.{Attr}
 use Rattle.ods_tree.specs.declared.design.TickUnit.{TickUnit}
@@ -29,14 +31,18 @@ both_empty xs ys e f = ap (λ zs. zs ++ ys) e ∙ f
 mutual
   whole_tree : (tick : ℕ) (p : Option Object) (s : List Object) (t : Tree) → filter_map (told_ticks tick) (standings p s (tree_in_ticks tick t)) ≡ []
   whole_tree tick p s (Node own children) =
-      ap (λ b. cons_option (only_if b (V17 own.name)) (filter_map (told_ticks tick) (inner_standings (Some (object_in_ticks tick own)) (roots (trees_in_ticks tick children)) (trees_in_ticks tick children))))
+      ap (λ b. cons_option (only_if b (V17 own.name))
+      (filter_map (told_ticks tick) (inner_standings (Some (object_in_ticks tick own)) (roots (trees_in_ticks tick children))
+      (trees_in_ticks tick children))))
       (whole_attrs tick own.attrs) ∙ whole_trees tick (Some (object_in_ticks tick own)) (roots (trees_in_ticks tick children)) children
 
-  whole_trees : (tick : ℕ) (p : Option Object) (s : List Object) (ts : Trees) → filter_map (told_ticks tick) (inner_standings p s (trees_in_ticks tick ts)) ≡ []
+  whole_trees : (tick : ℕ) (p : Option Object) (s : List Object) (ts : Trees)
+      → filter_map (told_ticks tick) (inner_standings p s (trees_in_ticks tick ts)) ≡ []
   whole_trees tick p s Empty = refl
   whole_trees tick p s (With first rest) =
       filter_map-append (told_ticks tick) (standings p s (tree_in_ticks tick first)) (inner_standings p s (trees_in_ticks tick rest))
-      ∙ both_empty (filter_map (told_ticks tick) (standings p s (tree_in_ticks tick first))) (filter_map (told_ticks tick) (inner_standings p s (trees_in_ticks tick rest)))
+      ∙ both_empty (filter_map (told_ticks tick) (standings p s (tree_in_ticks tick first)))
+      (filter_map (told_ticks tick) (inner_standings p s (trees_in_ticks tick rest)))
       (whole_tree tick p s first) (whole_trees tick p s rest)
 
 -- where the first of a whole is none, the first of a front is none
@@ -83,7 +89,8 @@ mutual
   trees_again : (tick : ℕ) (ts : Trees) → trees_in_ticks tick (trees_in_ticks tick ts) ≡ trees_in_ticks tick ts
   trees_again tick Empty = refl
   trees_again tick (With first rest) =
-      ap (λ t. With t (trees_in_ticks tick (trees_in_ticks tick rest))) (tree_again tick first) ∙ ap (λ ts. With (tree_in_ticks tick first) ts) (trees_again tick rest)
+      ap (λ t. With t (trees_in_ticks tick (trees_in_ticks tick rest))) (tree_again tick first) ∙ ap (λ ts. With (tree_in_ticks tick first) ts)
+      (trees_again tick rest)
 
 again_by : (v : Option VersionTwo) (x : Design) → ticked v (ticked v x) ≡ ticked v x
 again_by None x = refl
@@ -113,9 +120,11 @@ few_by false n e low = grind (arith, e, low)
 set_count : (tick n : ℕ) (unit : Option TickUnit) → misses_ticks tick n unit ≡ false → count_set tick n unit ≡ count_in_ticks tick n unit
 set_count tick n None e = refl
 set_count tick n (Some unit) e =
-    let count = (n * microseconds unit) / tick in few_by (nat_le count 4294967295) count refl (neither (not ((n * microseconds unit) % tick == 0)) (nat_lt 4294967295 count) e).1
+    let count = (n * microseconds unit) / tick
+    in few_by (nat_le count 4294967295) count refl (neither (not ((n * microseconds unit) % tick == 0)) (nat_lt 4294967295 count) e).1
 
-set_attrs_whole : (tick : ℕ) (as' : List Attr) → list_any (λ a. misses_ticks tick a.value a.unit) as' ≡ false → map (attribute_set tick) as' ≡ map (attribute_in_ticks tick) as'
+set_attrs_whole : (tick : ℕ) (as' : List Attr) → list_any (λ a. misses_ticks tick a.value a.unit) as' ≡ false
+    → map (attribute_set tick) as' ≡ map (attribute_in_ticks tick) as'
 set_attrs_whole tick [] e = refl
 set_attrs_whole tick (a ∷ as') e =
     let parts = neither (misses_ticks tick a.value a.unit) (list_any (λ b. misses_ticks tick b.value b.unit) as') e in
@@ -126,14 +135,16 @@ mutual
   set_whole : (tick : ℕ) (t : Tree) → is_whole tick t ≡ true → tree_set tick t ≡ tree_in_ticks tick t
   set_whole tick (Node own children) e =
       let parts = both_true (not (breaks_ticks tick own)) (are_whole tick children) e in
-      ap (λ as'. Node (record own { attrs = as' }) (trees_set tick children)) (set_attrs_whole tick own.attrs (not_true (breaks_ticks tick own) parts.0))
+      ap (λ as'. Node (record own { attrs = as' }) (trees_set tick children))
+      (set_attrs_whole tick own.attrs (not_true (breaks_ticks tick own) parts.0))
       ∙ ap (λ ts. Node (object_in_ticks tick own) ts) (set_all_whole tick children parts.1)
 
   set_all_whole : (tick : ℕ) (ts : Trees) → are_whole tick ts ≡ true → trees_set tick ts ≡ trees_in_ticks tick ts
   set_all_whole tick Empty e = refl
   set_all_whole tick (With first rest) e =
       let parts = both_true (is_whole tick first) (are_whole tick rest) e in
-      ap (λ t. With t (trees_set tick rest)) (set_whole tick first parts.0) ∙ ap (λ ts. With (tree_in_ticks tick first) ts) (set_all_whole tick rest parts.1)
+      ap (λ t. With t (trees_set tick rest)) (set_whole tick first parts.0) ∙ ap (λ ts. With (tree_in_ticks tick first) ts)
+      (set_all_whole tick rest parts.1)
 
 -- a tree is whole where nothing is told of its objects
 none_told : (b : Bool) (told : Broken) (rest : List Broken) → cons_option (only_if b told) rest ≡ [] → (not b ≡ true) × (rest ≡ [])
@@ -148,12 +159,15 @@ fronts_empty [] ys e = (refl, e)
 fronts_empty (x ∷ xs) ys e = absurd (cc)
 
 mutual
-  told_none : (tick : ℕ) (p : Option Object) (s : List Object) (t : Tree) → filter_map (told_ticks tick) (standings p s t) ≡ [] → is_whole tick t ≡ true
+  told_none : (tick : ℕ) (p : Option Object) (s : List Object) (t : Tree) → filter_map (told_ticks tick) (standings p s t) ≡ []
+      → is_whole tick t ≡ true
   told_none tick p s (Node own children) e =
-      let parts = none_told (breaks_ticks tick own) (V17 own.name) (filter_map (told_ticks tick) (inner_standings (Some own) (roots children) children)) e in
+      let parts = none_told (breaks_ticks tick own) (V17 own.name)
+      (filter_map (told_ticks tick) (inner_standings (Some own) (roots children) children)) e in
       joined_true (not (breaks_ticks tick own)) (are_whole tick children) parts.0 (all_told_none tick (Some own) (roots children) children parts.1)
 
-  all_told_none : (tick : ℕ) (p : Option Object) (s : List Object) (ts : Trees) → filter_map (told_ticks tick) (inner_standings p s ts) ≡ [] → are_whole tick ts ≡ true
+  all_told_none : (tick : ℕ) (p : Option Object) (s : List Object) (ts : Trees) → filter_map (told_ticks tick) (inner_standings p s ts) ≡ []
+      → are_whole tick ts ≡ true
   all_told_none tick p s Empty e = refl
   all_told_none tick p s (With first rest) e =
       let parts = fronts_empty (filter_map (told_ticks tick) (standings p s first)) (filter_map (told_ticks tick) (inner_standings p s rest))
@@ -181,7 +195,8 @@ tick_some x v same e =
     (front_none (bad_tick v) _ (subst (λ w. head_of (bad_version w x) ≡ None) same e))
 
 -- a design whose root is set is that in ticks
-pub set_root : (x : Design) (v : VersionTwo) (t : Tree) → x.version ≡ Some v → head_of (version_faults x) ≡ None → t ≡ tree_set (tick_time v) x.root → record x { root = t } ≡ in_ticks x
+pub set_root : (x : Design) (v : VersionTwo) (t : Tree) → x.version ≡ Some v → head_of (version_faults x) ≡ None → t ≡ tree_set (tick_time v) x.root
+    → record x { root = t } ≡ in_ticks x
 set_root x v t same e h =
     ap (λ u. record x { root = u }) (h ∙ set_whole (tick_time v) x.root (whole_root v x (subst (λ w. head_of (bad_version w x) ≡ None) same e)))
     ∙ sym (ap (λ w. ticked w x) same)

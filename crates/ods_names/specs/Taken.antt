@@ -64,7 +64,8 @@ pub record Holds (requests : ℕ → List Name) (t : Taken) (earlier : List Ment
   pub members_in : (place : ℕ) (n : Name) → has_key t.members place 0 [] n ≡ names_where (is_member place) earlier n
   pub bodied_in : (place : ℕ) (n : Name) → has_key t.bodied place 0 [] n ≡ names_where (is_bodied place) earlier n
   pub parameters_in : (place : ℕ) (op n : Name) → has_key t.parameters place 0 op n ≡ names_where (is_parameter place op) earlier n
-  pub bodied_parameters_in : (place : ℕ) (op n : Name) → has_key t.bodied_parameters place 0 op n ≡ names_where (is_bodied_parameter place op) earlier n
+  pub bodied_parameters_in : (place : ℕ) (op n : Name) → has_key t.bodied_parameters place 0 op n
+      ≡ names_where (is_bodied_parameter place op) earlier n
   pub asked_in : (place : ℕ) (n : Name) → has_key t.asked place 0 [] n ≡ names_where (is_asked (requests place) place) earlier n
   pub locals_in : (place body : ℕ) (n : Name) → has_key t.locals place body [] n ≡ names_where (is_local place body) earlier n
 

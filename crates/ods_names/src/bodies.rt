@@ -27,7 +27,8 @@ fn add_offer<'a>(
     need: &'a OpName,
 ) -> Result<(), NoMemory>
     requires { IsIndex index.now }
-    ensures { OnOk result (map offer_view calls.new.items ≡ map offer_view calls.old.items ++ option_to_list (offer_by (design_of index.entry.now.design.now) need.entry.now)) }
+    ensures { OnOk result (map offer_view calls.new.items ≡ map offer_view calls.old.items
+        ++ option_to_list (offer_by (design_of index.entry.now.design.now) need.entry.now)) }
 {
     match index.operation(need) {
         None => Ok(()),
@@ -71,7 +72,8 @@ fn tell(
     part: Option<&Name>,
     answer: Result<(), BodyFault>,
 ) -> Result<(), Broken>
-    ensures { (first : Option faults.BodyFault) → Says answer first → Tells result (option_map (V13 object.now (option_map (λ n. n.now) part.entry)) first) }
+    ensures { (first : Option faults.BodyFault) → Says answer first
+        → Tells result (option_map (V13 object.now (option_map (λ n. n.now) part.entry)) first) }
 {
     match answer {
         Ok(()) => Ok(()),
@@ -99,7 +101,8 @@ fn judge_part<'k, 'a>(
     locals: &'a [Datum],
     block: &Block,
 ) -> Result<(), Broken>
-    ensures { Tells result (part_fault object.now (option_map (λ n. n.now) part.entry) (scope_with shared.entry.now.vars.now (offers_of calls.entry.now) params.entry.now locals.entry.now) (block_of block.now)) }
+    ensures { Tells result (part_fault object.now (option_map (λ n. n.now) part.entry)
+        (scope_with shared.entry.now.vars.now (offers_of calls.entry.now) params.entry.now locals.entry.now) (block_of block.now)) }
 {
     let known = Known::new(alloc, shared, calls, params, locals)?;
     tell(alloc, object, part, check_known(&known, block))
@@ -139,7 +142,8 @@ fn judge_bodies<'k, 'a>(
     requires stands { option_map (λ s. s.own) (slice_get (walk.objects (design_of index.now.design.now)) place) ≡ Some (object_of node.now) }
     requires vars { shared.now.vars.now ≡ (object_of node.now).vars }
     requires calls { offers_of calls.now ≡ offers (design_of index.now.design.now) (object_of node.now) }
-    ensures { Tells result (head_of (filter_map (body_fault (design_of index.entry.now.design.now) (object_of node.entry.now)) (object_of node.entry.now).bodies)) }
+    ensures { Tells result (head_of (filter_map (body_fault (design_of index.entry.now.design.now) (object_of node.entry.now))
+        (object_of node.entry.now).bodies)) }
 {
     'bodies: for body in &node.bodies {
         let params = params_by(index.provided(place, &body.name));
@@ -168,7 +172,8 @@ fn judge_thread<'k, 'a>(
     requires indexed { IsIndex index.now }
     requires vars { shared.now.vars.now ≡ (object_of node.now).vars }
     requires calls { offers_of calls.now ≡ offers (design_of index.now.design.now) (object_of node.now) }
-    ensures { Tells result (head_of (filter_map (thread_fault (design_of index.entry.now.design.now) (object_of node.entry.now)) (option_to_list (object_of node.entry.now).thread))) }
+    ensures { Tells result (head_of (filter_map (thread_fault (design_of index.entry.now.design.now) (object_of node.entry.now))
+        (option_to_list (object_of node.entry.now).thread))) }
 {
     match &node.thread {
         None => Ok(()),

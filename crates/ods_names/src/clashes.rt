@@ -30,7 +30,8 @@ fn is_among(names: &[&Name], name: &Name) -> bool
 
 /// Whether one of the sets of its role has a name, or a loop that is open.
 fn is_clash<'a>(taken: &Taken<'a>, mention: &Mention<'a>) -> bool
-    ensures { result ≡ (taken_in taken.entry.now mention.entry.now.role mention.entry.now.name.now || is_named (names_of mention.entry.now.open.items) mention.entry.now.name.now) }
+    ensures { result ≡ (taken_in taken.entry.now mention.entry.now.role mention.entry.now.name.now
+        || is_named (names_of mention.entry.now.open.items) mention.entry.now.name.now) }
 {
     taken.has(mention.role, mention.name) || is_among(mention.open.as_slice(), mention.name)
 }
@@ -46,8 +47,10 @@ fn tell(alloc: Global, name: &Name) -> Result<(), Broken>
 
 /// Tells a name where an earlier thing has it, and else adds it.
 fn judge_one<'a>(alloc: Global, taken: &mut Taken<'a>, mention: &Mention<'a>) -> Result<(), Broken>
-    ensures told { (requests : ℕ → List NameTree) (earlier : List Named) → Holds requests taken.old earlier → Tells result (only_if (is_taken earlier (mention_of requests mention.entry.now)) (V01 mention.entry.now.name.now)) }
-    ensures added { OnOk result ((requests : ℕ → List NameTree) (earlier : List Named) → Holds requests taken.old earlier → Holds requests taken.new (mention_of requests mention.entry.now ∷ earlier)) }
+    ensures told { (requests : ℕ → List NameTree) (earlier : List Named) → Holds requests taken.old earlier
+        → Tells result (only_if (is_taken earlier (mention_of requests mention.entry.now)) (V01 mention.entry.now.name.now)) }
+    ensures added { OnOk result ((requests : ℕ → List NameTree) (earlier : List Named) → Holds requests taken.old earlier
+        → Holds requests taken.new (mention_of requests mention.entry.now ∷ earlier)) }
 {
     match is_clash(taken, mention) {
         true => tell(alloc, mention.name),

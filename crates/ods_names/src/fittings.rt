@@ -7,7 +7,8 @@ ghost use Rattle.ods_tree.specs.Trees.{body_of, design_of, provided_of};
 ghost use Rattle.ods_tree.specs.Flattening.{is_passive};
 ghost use Rattle.ods_tree.specs.Walk.{is_empty, is_terminal};
 ghost use Rattle.design_rules.specs.Clashes.{has_block, is_aser, is_request};
-ghost use Rattle.design_rules.specs.Fittings.{agrees, bad_fittings, body_count, child_operation, constraint_place, is_link, is_provided, link_count, misfits, misfits_parent, misfits_terminal, same_mode, same_params, wanted_bodies};
+ghost use Rattle.design_rules.specs.Fittings.{agrees, bad_fittings, body_count, child_operation, constraint_place, is_link, is_provided};
+ghost use Rattle.design_rules.specs.Fittings.{link_count, misfits, misfits_parent, misfits_terminal, same_mode, same_params, wanted_bodies};
 ghost use Rattle.design_rules.specs.Lookups.{has_thread, provided_named};
 ghost use Rattle.ods_names.specs.Counts.{count_in};
 ghost use Rattle.ods_names.specs.Families.{IsFamily};
@@ -50,7 +51,8 @@ fn wanted_bodies(node: &Node, provided: &Provided) -> usize
 /// Whether some operation has not as many bodies as it must.
 fn any_unbodied(node: &Node, provides: &[Provided], counts: &Counts<'_>) -> bool
     requires { (n : NameTree) → count_in counts.now n ≡ body_count (object_of node.now) n }
-    ensures { result ≡ list_any (λ p. not (body_count (object_of node.now) p.sig.name == wanted_bodies (object_of node.now) p)) (map provided_of provides.now) }
+    ensures { result ≡ list_any (λ p. not (body_count (object_of node.now) p.sig.name == wanted_bodies (object_of node.now) p))
+        (map provided_of provides.now) }
 {
     'ops: for provided in provides {
         if counts.get(&provided.sig.name) != wanted_bodies(node, provided) {
@@ -62,7 +64,8 @@ fn any_unbodied(node: &Node, provides: &[Provided], counts: &Counts<'_>) -> bool
 
 /// Whether some body is that of no operation.
 fn any_stray(bodies: &[OpBody], table: &OpTable<'_>) -> bool
-    ensures { result ≡ list_any (λ b. not (is_provided (provided_named b.name (map provided_of table.entry.now.provides.now)))) (map body_of bodies.now) }
+    ensures { result ≡ list_any (λ b. not (is_provided (provided_named b.name (map provided_of table.entry.now.provides.now))))
+        (map body_of bodies.now) }
 {
     'bodies: for body in bodies {
         match table.find(&body.name) {
@@ -229,7 +232,8 @@ impl<'a> Family<'a> {
     /// The place of the first child of a name, where there is one.
     fn place(&self, name: &Name) -> Option<usize>
         requires { IsFamily self.now }
-        ensures { option_and_then (slice_get (map object_of self.now.children.now)) result ≡ find (λ c. same_name c.name name.now) (map object_of self.now.children.now) }
+        ensures { option_and_then (slice_get (map object_of self.now.children.now)) result
+            ≡ find (λ c. same_name c.name name.now) (map object_of self.now.children.now) }
     {
         self.places.get(name)
     }
@@ -237,7 +241,8 @@ impl<'a> Family<'a> {
     /// The first operation of a name that the child at a place provides, where there is one.
     fn provided(&self, place: usize, op: &Name) -> Option<&'a Provided>
         requires { IsFamily self.now }
-        ensures { option_map (λ p. provided_of p.now) result ≡ option_and_then (λ c. provided_named op.now c.provides) (slice_get (map object_of self.now.children.now) place) }
+        ensures { option_map (λ p. provided_of p.now) result
+            ≡ option_and_then (λ c. provided_named op.now c.provides) (slice_get (map object_of self.now.children.now) place) }
     {
         match self.ops.get(place) {
             None => None,
@@ -273,7 +278,8 @@ fn any_unlinked(provides: &[Provided], node: &Node, counts: &Counts<'_>) -> bool
 /// Whether some link stands for no operation of the object, or for one by none of a child that agrees.
 fn any_unfit_link(links: &[Link], table: &OpTable<'_>, family: &Family<'_>) -> bool
     requires { IsFamily family.now }
-    ensures { result ≡ list_any (λ l. not (agrees (provided_named l.op (map provided_of table.entry.now.provides.now)) (child_operation (map object_of family.entry.now.children.now) l.to))) links.now }
+    ensures { result ≡ list_any (λ l. not (agrees (provided_named l.op (map provided_of table.entry.now.provides.now))
+        (child_operation (map object_of family.entry.now.children.now) l.to))) links.now }
 {
     'links: for link in links {
         if !agrees(table.find(&link.op), family.operation(&link.to)) {

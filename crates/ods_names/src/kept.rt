@@ -4,7 +4,8 @@ ghost use Rattle.seq_tree.specs.Trees.{arm_of, block_of, branches_of, expression
 ghost use Rattle.ods_tree.specs.Trees.{body_of, design_of, provided_of};
 ghost use Rattle.ada_tree.specs.Words.{is_ada_name};
 ghost use Rattle.design_rules.specs.Broken.{V02};
-ghost use Rattle.design_rules.specs.Words.{block_names, body_names, branch_names, expression_names, kept_names, link_names, object_names, op_names, provided_names, statement_names, thread_names};
+ghost use Rattle.design_rules.specs.Words.{block_names, body_names, branch_names, expression_names, kept_names, link_names, object_names};
+ghost use Rattle.design_rules.specs.Words.{op_names, provided_names, statement_names, thread_names};
 ghost use Rattle.ods_index.specs.Indexing.{IsIndex};
 ghost use Rattle.ods_index.specs.Judging.{Tells, head_of};
 ghost use Rattle.ods_names.specs.NameLists.{all_names, names_of};
@@ -51,7 +52,8 @@ fn add_call<'a>(
     op: &'a Name,
     actuals: &'a [Expr],
 ) -> Result<(), NoMemory>
-    ensures { OnOk result (names_of names.new.items ≡ names_of names.old.items ++ object.entry.now ∷ op.entry.now ∷ flat_map expression_names (map expression_of actuals.entry.now)) }
+    ensures { OnOk result (names_of names.new.items ≡ names_of names.old.items ++ object.entry.now ∷ op.entry.now
+        ∷ flat_map expression_names (map expression_of actuals.entry.now)) }
 {
     names.push(object)?;
     names.push(op)?;
@@ -72,7 +74,8 @@ fn add_arms<'a>(names: &mut Vec<&'a Name>, arms: &'a [Arm]) -> Result<(), NoMemo
 /// Adds the names in a block that a condition guards, and in the condition.
 #[cycle(kept)]
 fn add_arm<'a>(names: &mut Vec<&'a Name>, arm: &'a Arm) -> Result<(), NoMemory>
-    ensures { OnOk result (names_of names.new.items ≡ names_of names.old.items ++ (expression_names (arm_of arm.entry.now).0 ++ block_names (arm_of arm.entry.now).1)) }
+    ensures { OnOk result (names_of names.new.items ≡ names_of names.old.items
+        ++ (expression_names (arm_of arm.entry.now).0 ++ block_names (arm_of arm.entry.now).1)) }
 {
     add_expression(names, &arm.cond)?;
     add_block(names, &arm.block)

@@ -40,7 +40,8 @@ impl<'a> Keys<'a> {
         op: &'a [u8],
         name: &'a [u8],
     ) -> Result<(), NoMemory>
-        ensures { OnOk result ((p q : ℕ) (o n : NameTree) → has_key self.new p q o n ≡ (((place == p && number == q) && (same_name op.entry.now o && same_name name.entry.now n)) || has_key self.old p q o n)) }
+        ensures { OnOk result ((p q : ℕ) (o n : NameTree) → has_key self.new p q o n
+            ≡ (((place == p && number == q) && (same_name op.entry.now o && same_name name.entry.now n)) || has_key self.old p q o n)) }
     {
         self.set.insert(((place, number), (op, name)))?;
         Ok(())
@@ -55,7 +56,8 @@ impl<'a> Keys<'a> {
         op: &'a [u8],
         name: &'a [u8],
     ) -> Result<(), NoMemory>
-        ensures { OnOk result ((p q : ℕ) (o n : NameTree) → has_key self.new p q o n ≡ ((wanted && ((place == p && number == q) && (same_name op.entry.now o && same_name name.entry.now n))) || has_key self.old p q o n)) }
+        ensures { OnOk result ((p q : ℕ) (o n : NameTree) → has_key self.new p q o n
+            ≡ ((wanted && ((place == p && number == q) && (same_name op.entry.now o && same_name name.entry.now n))) || has_key self.old p q o n)) }
     {
         match wanted {
             true => self.add(place, number, op, name),

@@ -6,7 +6,8 @@ ghost use Rattle.seq_tree.specs.Trees.{arm_of, block_of, branches_of, otherwise,
 ghost use Rattle.name_sets.specs.Sets.{has};
 ghost use Rattle.ods_tree.specs.Trees.{body_of, design_of, provided_of};
 ghost use Rattle.design_rules.specs.Clashes as clashes;
-ghost use Rattle.design_rules.specs.Clashes.{block_loops, body_mentions, branch_loops, is_bodied, is_request, mention, mentions, object_mentions, operation_mentions, request_names, statement_loops, thread_mentions};
+ghost use Rattle.design_rules.specs.Clashes.{block_loops, body_mentions, branch_loops, is_bodied, is_request, mention, mentions};
+ghost use Rattle.design_rules.specs.Clashes.{object_mentions, operation_mentions, request_names, statement_loops, thread_mentions};
 ghost use Rattle.ods_index.specs.Indexing.{IsIndex};
 ghost use Rattle.ods_names.specs.Mentions.{gathered, mention_by, requests_in, role_of};
 ghost use Rattle.ods_names.specs.NameLists.{names_of};
@@ -98,7 +99,8 @@ fn add_inside<'a>(
     name: &'a Name,
     outer: &[&'a Name],
 ) -> Result<(), NoMemory>
-    ensures { OnOk result (gathered source.entry.index.now into.new.items ≡ gathered source.entry.index.now into.old.items ++ mention_by (requests_in source.entry.index.now) role.entry name.entry.now (names_of outer.entry.now) ∷ []) }
+    ensures { OnOk result (gathered source.entry.index.now into.new.items ≡ gathered source.entry.index.now into.old.items
+        ++ mention_by (requests_in source.entry.index.now) role.entry name.entry.now (names_of outer.entry.now) ∷ []) }
 {
     let mut open = Vec::new(source.alloc);
     add_names(&mut open, outer)?;
@@ -113,7 +115,8 @@ fn add<'a>(
     role: Role<'a>,
     name: &'a Name,
 ) -> Result<(), NoMemory>
-    ensures { OnOk result (gathered source.entry.index.now into.new.items ≡ gathered source.entry.index.now into.old.items ++ mention (role_of (requests_in source.entry.index.now) role.entry) name.entry.now ∷ []) }
+    ensures { OnOk result (gathered source.entry.index.now into.new.items ≡ gathered source.entry.index.now into.old.items
+        ++ mention (role_of (requests_in source.entry.index.now) role.entry) name.entry.now ∷ []) }
 {
     into.push(Mention {
         name,
@@ -132,7 +135,9 @@ fn add_arms<'a>(
     loops: &[&'a Name],
     arms: &'a [Arm],
 ) -> Result<(), NoMemory>
-    ensures { OnOk result (gathered source.entry.index.now into.new.items ≡ gathered source.entry.index.now into.old.items ++ branch_loops (mention_by (requests_in source.entry.index.now) role.entry) (names_of loops.entry.now) (branches_of (map arm_of arms.entry.now) Nothing)) }
+    ensures { OnOk result (gathered source.entry.index.now into.new.items ≡ gathered source.entry.index.now into.old.items
+        ++ branch_loops (mention_by (requests_in source.entry.index.now) role.entry) (names_of loops.entry.now)
+        (branches_of (map arm_of arms.entry.now) Nothing)) }
 {
     'arms: for arm in arms {
         add_block(source, into, role, loops, &arm.block)?;
@@ -149,7 +154,9 @@ fn add_other<'a>(
     loops: &[&'a Name],
     other: &'a Option<Block>,
 ) -> Result<(), NoMemory>
-    ensures { OnOk result (gathered source.entry.index.now into.new.items ≡ gathered source.entry.index.now into.old.items ++ branch_loops (mention_by (requests_in source.entry.index.now) role.entry) (names_of loops.entry.now) (otherwise (option_map block_of other.entry.now))) }
+    ensures { OnOk result (gathered source.entry.index.now into.new.items ≡ gathered source.entry.index.now into.old.items
+        ++ branch_loops (mention_by (requests_in source.entry.index.now) role.entry) (names_of loops.entry.now)
+        (otherwise (option_map block_of other.entry.now))) }
 {
     match other {
         None => Ok(()),
@@ -167,7 +174,10 @@ fn add_loop<'a>(
     name: &'a Name,
     body: &'a Block,
 ) -> Result<(), NoMemory>
-    ensures { OnOk result (gathered source.entry.index.now into.new.items ≡ gathered source.entry.index.now into.old.items ++ mention_by (requests_in source.entry.index.now) role.entry name.entry.now (names_of loops.entry.now) ∷ block_loops (mention_by (requests_in source.entry.index.now) role.entry) (name.entry.now ∷ names_of loops.entry.now) (block_of body.entry.now)) }
+    ensures { OnOk result (gathered source.entry.index.now into.new.items ≡ gathered source.entry.index.now into.old.items
+        ++ mention_by (requests_in source.entry.index.now) role.entry name.entry.now (names_of loops.entry.now)
+        ∷ block_loops (mention_by (requests_in source.entry.index.now) role.entry) (name.entry.now ∷ names_of loops.entry.now)
+        (block_of body.entry.now)) }
 {
     add_inside(source, into, role, name, loops)?;
     let inner = within(source.alloc, name, loops)?;
@@ -183,7 +193,8 @@ fn add_statement<'a>(
     loops: &[&'a Name],
     stmt: &'a Stmt,
 ) -> Result<(), NoMemory>
-    ensures { OnOk result (gathered source.entry.index.now into.new.items ≡ gathered source.entry.index.now into.old.items ++ statement_loops (mention_by (requests_in source.entry.index.now) role.entry) (names_of loops.entry.now) (statement_of stmt.entry.now)) }
+    ensures { OnOk result (gathered source.entry.index.now into.new.items ≡ gathered source.entry.index.now into.old.items
+        ++ statement_loops (mention_by (requests_in source.entry.index.now) role.entry) (names_of loops.entry.now) (statement_of stmt.entry.now)) }
 {
     match stmt {
         Stmt::If { arms, other } => {
@@ -209,7 +220,8 @@ fn add_block<'a>(
     loops: &[&'a Name],
     block: &'a Block,
 ) -> Result<(), NoMemory>
-    ensures { OnOk result (gathered source.entry.index.now into.new.items ≡ gathered source.entry.index.now into.old.items ++ block_loops (mention_by (requests_in source.entry.index.now) role.entry) (names_of loops.entry.now) (block_of block.entry.now)) }
+    ensures { OnOk result (gathered source.entry.index.now into.new.items ≡ gathered source.entry.index.now into.old.items
+        ++ block_loops (mention_by (requests_in source.entry.index.now) role.entry) (names_of loops.entry.now) (block_of block.entry.now)) }
 {
     'stmts: for stmt in &block.stmts {
         add_statement(source, into, role, loops, stmt)?;
@@ -254,7 +266,8 @@ fn add_params<'a>(
     bodied: bool,
     params: &'a [Param],
 ) -> Result<(), NoMemory>
-    ensures { OnOk result (gathered source.entry.index.now into.new.items ≡ gathered source.entry.index.now into.old.items ++ map (λ q. mention (clashes.Parameter place op.entry.now bodied) q.name) params.entry.now) }
+    ensures { OnOk result (gathered source.entry.index.now into.new.items ≡ gathered source.entry.index.now into.old.items
+        ++ map (λ q. mention (clashes.Parameter place op.entry.now bodied) q.name) params.entry.now) }
 {
     'params: for param in params {
         add(
@@ -277,7 +290,8 @@ fn add_operation<'a>(
     provided: &'a Provided,
 ) -> Result<(), NoMemory>
     requires { (n : NameTree) → has bodies.now n ≡ list_any (λ b. same_name b.name n) (object_of node.now).bodies }
-    ensures { OnOk result (gathered source.entry.index.now into.new.items ≡ gathered source.entry.index.now into.old.items ++ operation_mentions place (object_of node.entry.now) (provided_of provided.entry.now)) }
+    ensures { OnOk result (gathered source.entry.index.now into.new.items ≡ gathered source.entry.index.now into.old.items
+        ++ operation_mentions place (object_of node.entry.now) (provided_of provided.entry.now)) }
 {
     let op = &provided.sig.name;
     let bodied = is_bodied(node, bodies, provided);
@@ -295,7 +309,8 @@ fn add_operations<'a>(
     provides: &'a [Provided],
 ) -> Result<(), NoMemory>
     requires { (n : NameTree) → has bodies.now n ≡ list_any (λ b. same_name b.name n) (object_of node.now).bodies }
-    ensures { OnOk result (gathered source.entry.index.now into.new.items ≡ gathered source.entry.index.now into.old.items ++ flat_map (operation_mentions place (object_of node.entry.now)) (map provided_of provides.entry.now)) }
+    ensures { OnOk result (gathered source.entry.index.now into.new.items ≡ gathered source.entry.index.now into.old.items
+        ++ flat_map (operation_mentions place (object_of node.entry.now)) (map provided_of provides.entry.now)) }
 {
     'provides: for provided in provides {
         add_operation(source, into, place, node, bodies, provided)?;
@@ -310,7 +325,8 @@ fn add_data<'a>(
     place: usize,
     vars: &'a [Datum],
 ) -> Result<(), NoMemory>
-    ensures { OnOk result (gathered source.entry.index.now into.new.items ≡ gathered source.entry.index.now into.old.items ++ map (λ d. mention (clashes.Member place) d.name) vars.entry.now) }
+    ensures { OnOk result (gathered source.entry.index.now into.new.items ≡ gathered source.entry.index.now into.old.items
+        ++ map (λ d. mention (clashes.Member place) d.name) vars.entry.now) }
 {
     'vars: for datum in vars {
         add(source, into, Role::Member { place }, &datum.name)?;
@@ -327,7 +343,8 @@ fn add_locals<'a>(
     op: &'a Name,
     locals: &'a [Datum],
 ) -> Result<(), NoMemory>
-    ensures { OnOk result (gathered source.entry.index.now into.new.items ≡ gathered source.entry.index.now into.old.items ++ map (λ d. mention (clashes.Local place body op.entry.now) d.name) locals.entry.now) }
+    ensures { OnOk result (gathered source.entry.index.now into.new.items ≡ gathered source.entry.index.now into.old.items
+        ++ map (λ d. mention (clashes.Local place body op.entry.now) d.name) locals.entry.now) }
 {
     'locals: for datum in locals {
         add(source, into, Role::Local { place, body, op }, &datum.name)?;
@@ -343,7 +360,8 @@ fn add_body<'a>(
     number: usize,
     body: &'a OpBody,
 ) -> Result<(), NoMemory>
-    ensures { OnOk result (gathered source.entry.index.now into.new.items ≡ gathered source.entry.index.now into.old.items ++ body_mentions place (number, body_of body.entry.now)) }
+    ensures { OnOk result (gathered source.entry.index.now into.new.items ≡ gathered source.entry.index.now into.old.items
+        ++ body_mentions place (number, body_of body.entry.now)) }
 {
     let op = &body.name;
     add_locals(source, into, place, number, op, &body.locals)?;
@@ -362,7 +380,8 @@ fn add_bodies<'a>(
     place: usize,
     bodies: &'a [OpBody],
 ) -> Result<(), NoMemory>
-    ensures { OnOk result (gathered source.entry.index.now into.new.items ≡ gathered source.entry.index.now into.old.items ++ flat_map (body_mentions place) (enumerate_from 0 (map body_of bodies.entry.now))) }
+    ensures { OnOk result (gathered source.entry.index.now into.new.items ≡ gathered source.entry.index.now into.old.items
+        ++ flat_map (body_mentions place) (enumerate_from 0 (map body_of bodies.entry.now))) }
 {
     'bodies: for (number, body) in bodies.iter().enumerate() {
         add_body(source, into, place, number, body)?;
@@ -379,7 +398,8 @@ fn add_thread<'a>(
     node: &'a Node,
 ) -> Result<(), NoMemory>
     requires { request_names (object_of node.now) ≡ requests_in source.index.now place }
-    ensures { OnOk result (gathered source.entry.index.now into.new.items ≡ gathered source.entry.index.now into.old.items ++ thread_mentions place (object_of node.entry.now) (object_of node.entry.now).thread) }
+    ensures { OnOk result (gathered source.entry.index.now into.new.items ≡ gathered source.entry.index.now into.old.items
+        ++ thread_mentions place (object_of node.entry.now) (object_of node.entry.now).thread) }
 {
     match &node.thread {
         None => Ok(()),
@@ -402,7 +422,8 @@ fn add_object<'a>(
     standing: &Standing<'a>,
 ) -> Result<(), NoMemory>
     requires { request_names (object_of standing.now.node.now) ≡ requests_in source.index.now place }
-    ensures { OnOk result (gathered source.entry.index.now into.new.items ≡ gathered source.entry.index.now into.old.items ++ object_mentions (place, standing_of standing.entry.now)) }
+    ensures { OnOk result (gathered source.entry.index.now into.new.items ≡ gathered source.entry.index.now into.old.items
+        ++ object_mentions (place, standing_of standing.entry.now)) }
 {
     let node = standing.node;
     let bodies = body_names(source.alloc, node.bodies.as_slice())?;
@@ -420,7 +441,8 @@ fn add_objects<'a>(
     objects: &[Standing<'a>],
 ) -> Result<(), NoMemory>
     requires { source.index.now.objects.items ≡ objects.now }
-    ensures { OnOk result (gathered source.entry.index.now into.new.items ≡ gathered source.entry.index.now into.old.items ++ flat_map object_mentions (enumerate_from 0 (map standing_of objects.entry.now))) }
+    ensures { OnOk result (gathered source.entry.index.now into.new.items ≡ gathered source.entry.index.now into.old.items
+        ++ flat_map object_mentions (enumerate_from 0 (map standing_of objects.entry.now))) }
 {
     'objects: for (place, standing) in objects.iter().enumerate() {
         add_object(source, into, place, standing)?;

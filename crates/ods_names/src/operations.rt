@@ -2,7 +2,8 @@ ghost use Rattle.std.specs.Prelude.{◌≡◌, length, map, nat_le, nat_lt, not}
 ghost use Rattle.std.specs.List.{list_any};
 ghost use Rattle.seq_tree.specs.Operations.{is_out};
 ghost use Rattle.ods_tree.specs.Trees.{design_of, provided_of};
-ghost use Rattle.design_rules.specs.Operations.{bad_operations, breaks_operations, breaks_table, hands_out, has_request, is_one_way, may_pass_on, may_provide};
+ghost use Rattle.design_rules.specs.Operations.{bad_operations, breaks_operations, breaks_table, hands_out, has_request, is_one_way};
+ghost use Rattle.design_rules.specs.Operations.{may_pass_on, may_provide};
 ghost use Rattle.ods_index.specs.Indexing.{IsIndex};
 ghost use Rattle.ods_index.specs.Judging.{Tells, head_of};
 ghost use Rattle.ods_names.specs.ObjectFaults.{may_have};

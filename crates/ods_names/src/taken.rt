@@ -23,7 +23,9 @@ fn add_requests<'a>(
     node: &'a Node,
     provides: &'a [Provided],
 ) -> Result<(), NoMemory>
-    ensures { OnOk result ((p : ℕ) (n : NameTree) → has_key table.new p 0 [] n ≡ (has_key table.old p 0 [] n || (place == p && is_named (map (λ q. q.sig.name) (filter (is_request (object_of node.entry.now)) (map provided_of provides.entry.now))) n))) }
+    ensures { OnOk result ((p : ℕ) (n : NameTree) → has_key table.new p 0 [] n
+        ≡ (has_key table.old p 0 [] n || (place == p
+        && is_named (map (λ q. q.sig.name) (filter (is_request (object_of node.entry.now)) (map provided_of provides.entry.now))) n))) }
 {
     'provides: for provided in provides {
         let wanted = is_request(node, provided);
@@ -39,7 +41,8 @@ fn add_standing<'a>(
     place: usize,
     standing: &Standing<'a>,
 ) -> Result<(), NoMemory>
-    ensures { OnOk result ((p : ℕ) (n : NameTree) → has_key table.new p 0 [] n ≡ (has_key table.old p 0 [] n || (place == p && is_named (request_names (object_of standing.entry.now.node.now)) n))) }
+    ensures { OnOk result ((p : ℕ) (n : NameTree) → has_key table.new p 0 [] n
+        ≡ (has_key table.old p 0 [] n || (place == p && is_named (request_names (object_of standing.entry.now.node.now)) n))) }
 {
     let node = standing.node;
     add_requests(table, place, node, node.provides.as_slice())
@@ -128,7 +131,8 @@ impl<'a> Taken<'a> {
 
     /// Adds the name of the design.
     fn add_whole(&mut self, name: &'a Name) -> Result<(), NoMemory>
-        ensures { OnOk result ((requests : ℕ → List NameTree) (earlier : List Mention) (open' : List NameTree) → Holds requests self.old earlier → Holds requests self.new (record { name = name.entry.now; role = clashes.Whole; open' = open' } ∷ earlier)) }
+        ensures { OnOk result ((requests : ℕ → List NameTree) (earlier : List Mention) (open' : List NameTree) → Holds requests self.old earlier
+            → Holds requests self.new (record { name = name.entry.now; role = clashes.Whole; open' = open' } ∷ earlier)) }
     {
         self.all.add(name)?;
         Ok(())
@@ -136,7 +140,9 @@ impl<'a> Taken<'a> {
 
     /// Adds the name of a loop, which only an object that comes later may not have.
     fn add_loop(&mut self, name: &'a Name) -> Result<(), NoMemory>
-        ensures { OnOk result ((requests : ℕ → List NameTree) (earlier : List Mention) (open' : List NameTree) (place body : ℕ) (ops : List NameTree) → Holds requests self.old earlier → Holds requests self.new (record { name = name.entry.now; role = clashes.Loop place body ops; open' = open' } ∷ earlier)) }
+        ensures { OnOk result ((requests : ℕ → List NameTree) (earlier : List Mention) (open' : List NameTree) (place body : ℕ) (ops : List NameTree)
+            → Holds requests self.old earlier
+            → Holds requests self.new (record { name = name.entry.now; role = clashes.Loop place body ops; open' = open' } ∷ earlier)) }
     {
         self.all.add(name)?;
         Ok(())
@@ -144,7 +150,8 @@ impl<'a> Taken<'a> {
 
     /// Adds the name of an object.
     fn add_single(&mut self, name: &'a Name) -> Result<(), NoMemory>
-        ensures { OnOk result ((requests : ℕ → List NameTree) (earlier : List Mention) (open' : List NameTree) → Holds requests self.old earlier → Holds requests self.new (record { name = name.entry.now; role = clashes.Single; open' = open' } ∷ earlier)) }
+        ensures { OnOk result ((requests : ℕ → List NameTree) (earlier : List Mention) (open' : List NameTree) → Holds requests self.old earlier
+            → Holds requests self.new (record { name = name.entry.now; role = clashes.Single; open' = open' } ∷ earlier)) }
     {
         self.all.add(name)?;
         self.objects.add(name)?;
@@ -153,7 +160,8 @@ impl<'a> Taken<'a> {
 
     /// Adds the name of an operation or datum of the object at a place.
     fn add_member(&mut self, place: usize, name: &'a Name) -> Result<(), NoMemory>
-        ensures { OnOk result ((requests : ℕ → List NameTree) (earlier : List Mention) (open' : List NameTree) → Holds requests self.old earlier → Holds requests self.new (record { name = name.entry.now; role = clashes.Member place; open' = open' } ∷ earlier)) }
+        ensures { OnOk result ((requests : ℕ → List NameTree) (earlier : List Mention) (open' : List NameTree) → Holds requests self.old earlier
+            → Holds requests self.new (record { name = name.entry.now; role = clashes.Member place; open' = open' } ∷ earlier)) }
     {
         self.all.add(name)?;
         self.members.add(place, 0, &[], name.bytes())?;
@@ -168,7 +176,8 @@ impl<'a> Taken<'a> {
         op: &'a Name,
         name: &'a Name,
     ) -> Result<(), NoMemory>
-        ensures { OnOk result ((requests : ℕ → List NameTree) (earlier : List Mention) (open' : List NameTree) → Holds requests self.old earlier → Holds requests self.new (record { name = name.entry.now; role = clashes.Local place body op.entry.now; open' = open' } ∷ earlier)) }
+        ensures { OnOk result ((requests : ℕ → List NameTree) (earlier : List Mention) (open' : List NameTree) → Holds requests self.old earlier
+            → Holds requests self.new (record { name = name.entry.now; role = clashes.Local place body op.entry.now; open' = open' } ∷ earlier)) }
     {
         self.all.add(name)?;
         self.locals.add(place, body, &[], name.bytes())?;
@@ -183,7 +192,9 @@ impl<'a> Taken<'a> {
         bodied: bool,
         name: &'a Name,
     ) -> Result<(), NoMemory>
-        ensures { OnOk result ((requests : ℕ → List NameTree) (earlier : List Mention) (open' : List NameTree) → Holds requests self.old earlier → Holds requests self.new (record { name = name.entry.now; role = clashes.Parameter place op.entry.now bodied; open' = open' } ∷ earlier)) }
+        ensures { OnOk result ((requests : ℕ → List NameTree) (earlier : List Mention) (open' : List NameTree) → Holds requests self.old earlier
+            → Holds requests self.new (record { name = name.entry.now; role = clashes.Parameter place op.entry.now bodied; open' = open' }
+            ∷ earlier)) }
     {
         let op = op.bytes();
         let bytes = name.bytes();
@@ -199,7 +210,8 @@ impl<'a> Taken<'a> {
 
     /// Adds a name to the sets of its role.
     pub(crate) fn add(&mut self, role: Role<'a>, name: &'a Name) -> Result<(), NoMemory>
-        ensures { OnOk result ((requests : ℕ → List NameTree) (earlier : List Mention) (open' : List NameTree) → Holds requests self.old earlier → Holds requests self.new (mention_by requests role.entry name.entry.now open' ∷ earlier)) }
+        ensures { OnOk result ((requests : ℕ → List NameTree) (earlier : List Mention) (open' : List NameTree) → Holds requests self.old earlier
+            → Holds requests self.new (mention_by requests role.entry name.entry.now open' ∷ earlier)) }
     {
         match role {
             Role::Whole => self.add_whole(name),

@@ -159,7 +159,8 @@ fn first_breaking<'a>(
 ) -> Option<&'a OpName>
     requires indexed { IsIndex index.now }
     requires near { IsNear near.now (standing_of standing.now).parent (standing_of standing.now).siblings }
-    ensures { option_map (λ n. n.now) result ≡ find (breaks rule (design_of index.entry.now.design.now) (standing_of standing.entry.now)) (standing_of standing.entry.now).own.needs }
+    ensures { option_map (λ n. n.now) result ≡ find (breaks rule (design_of index.entry.now.design.now) (standing_of standing.entry.now))
+        (standing_of standing.entry.now).own.needs }
 {
     'needs: for need in &standing.node.needs {
         if breaks(index, rule, standing, near, need) {
@@ -226,7 +227,8 @@ fn judge_tree<'a>(
 ) -> Result<(), Broken>
     requires indexed { IsIndex index.now }
     requires near { IsNear near.now (parent_of parent) (siblings_of (object_of node.now) siblings) }
-    ensures { Tells result (head_of (flat_map (bad_needs rule (design_of index.entry.now.design.now)) (standings (parent_of parent.entry) (siblings_of (object_of node.entry.now) siblings.entry) (tree_of node.entry.now)))) }
+    ensures { Tells result (head_of (flat_map (bad_needs rule (design_of index.entry.now.design.now))
+        (standings (parent_of parent.entry) (siblings_of (object_of node.entry.now) siblings.entry) (tree_of node.entry.now)))) }
 {
     let standing = Standing {
         node,
@@ -252,7 +254,8 @@ fn judge_tree<'a>(
 /// Tells the first operation that breaks a rule where some object requires it.
 fn judge(alloc: Global, index: &Index<'_>, rule: Rule) -> Result<(), Broken>
     requires { IsIndex index.now }
-    ensures { Tells result (head_of (flat_map (bad_needs rule (design_of index.entry.now.design.now)) (standings None (siblings_of (object_of index.entry.now.design.now.root) None) (tree_of index.entry.now.design.now.root)))) }
+    ensures { Tells result (head_of (flat_map (bad_needs rule (design_of index.entry.now.design.now))
+        (standings None (siblings_of (object_of index.entry.now.design.now.root) None) (tree_of index.entry.now.design.now.root)))) }
 {
     let root = &index.design.root;
     let near = near_root(alloc, root)?;

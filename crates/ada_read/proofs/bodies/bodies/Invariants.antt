@@ -8,4 +8,5 @@ use Rattle.ada_read.proofs.bodies.bodies.Given as goal
 
 -- the units so far, and then those of the specifications that are left
 abbrev pub invariant-heads : goal.invariant-heads
-invariant-heads l = with_front (map unit_of l.units.items) (bodies_at ada_block_at (map head_of (drop l.head-index l.heads)) (ahead l.rest)) ≡ bodies_at ada_block_at (map head_of l.heads) (ahead l.fn.tokens)
+invariant-heads l = with_front (map unit_of l.units.items) (bodies_at ada_block_at (map head_of (drop l.head-index l.heads)) (ahead l.rest))
+    ≡ bodies_at ada_block_at (map head_of l.heads) (ahead l.fn.tokens)

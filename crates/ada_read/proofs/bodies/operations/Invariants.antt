@@ -7,4 +7,5 @@ use Rattle.ada_read.proofs.bodies.operations.Given as goal
 
 -- the operations so far, and then those of the heads that are left
 abbrev pub invariant-sigs : goal.invariant-sigs
-invariant-sigs l = with_front (map operation_of l.ops.items) (operations_at ada_block_at (map signature_of (drop l.sig-index l.sigs)) (ahead l.rest)) ≡ operations_at ada_block_at (map signature_of l.sigs) (ahead l.fn.tokens)
+invariant-sigs l = with_front (map operation_of l.ops.items) (operations_at ada_block_at (map signature_of (drop l.sig-index l.sigs)) (ahead l.rest))
+    ≡ operations_at ada_block_at (map signature_of l.sigs) (ahead l.fn.tokens)

@@ -12,4 +12,5 @@ heads-smaller c =
 pub heads-preserved : goal.heads-preserved
 heads-preserved c =
     rw (c.in_ok-push.ensures.items, map-append)
-    (head-turn (map head_of c.heads.heads.items) (ahead c.heads.rest) (head_of c.in_ok-next.next) (ahead c.in_ok-next.after) (sym c.heads-test.ensures) c.in_ok-next.ensures ∙ c.heads.invariant)
+    (head-turn (map head_of c.heads.heads.items) (ahead c.heads.rest) (head_of c.in_ok-next.next) (ahead c.in_ok-next.after)
+    (sym c.heads-test.ensures) c.in_ok-next.ensures ∙ c.heads.invariant)

@@ -12,4 +12,5 @@ sigs-smaller c =
 pub sigs-preserved : goal.sigs-preserved
 sigs-preserved c =
     rw (c.in_ok-push.ensures.items, map-append)
-    (declaration-turn (map signature_of c.sigs.sigs.items) (ahead c.sigs.rest) (signature_of c.in_ok-next.next) (ahead c.in_ok-next.after) (sym c.sigs-test.ensures) c.in_ok-next.ensures ∙ c.sigs.invariant)
+    (declaration-turn (map signature_of c.sigs.sigs.items) (ahead c.sigs.rest) (signature_of c.in_ok-next.next) (ahead c.in_ok-next.after)
+    (sym c.sigs-test.ensures) c.in_ok-next.ensures ∙ c.sigs.invariant)

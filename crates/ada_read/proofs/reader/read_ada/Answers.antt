@@ -17,12 +17,14 @@ read_as ts = whole_at (program_at ada_block_at) ts
 pub returns-in-Ok-whole-clause-says : goal.returns-in-Ok-whole-clause-says
 returns-in-Ok-whole-clause-says c =
     let ts = found-list (tokens c.args.bytes.now) (ahead c.in-Ok.found) c.in-Ok.ensures.gives in
-    judged-says c.args.bytes.now ts.0 (program_of c.in-Ok-whole.program) c.judged.result (omega arith) ts.1 (ap read_as ts.2 ∙ c.in-Ok-whole.ensures) c.judged.ensures
+    judged-says c.args.bytes.now ts.0 (program_of c.in-Ok-whole.program) c.judged.result (omega arith) ts.1
+    (ap read_as ts.2 ∙ c.in-Ok-whole.ensures) c.judged.ensures
 
 pub returns-in-Ok-whole-clause-only : goal.returns-in-Ok-whole-clause-only
 returns-in-Ok-whole-clause-only c p a =
     let ts = found-list (tokens c.args.bytes.now) (ahead c.in-Ok.found) c.in-Ok.ensures.gives in
-    judged-only c.args.bytes.now ts.0 (program_of c.in-Ok-whole.program) c.judged.result ts.1 (ap read_as ts.2 ∙ c.in-Ok-whole.ensures) c.judged.ensures p a
+    judged-only c.args.bytes.now ts.0 (program_of c.in-Ok-whole.program) c.judged.result ts.1 (ap read_as ts.2 ∙ c.in-Ok-whole.ensures)
+    c.judged.ensures p a
 
 pub returns-in-Err-Syntax-clause-says : goal.returns-in-Err-Syntax-clause-says
 returns-in-Err-Syntax-clause-says c =

@@ -7,4 +7,5 @@ use Rattle.ada_rules.proofs.clashes.loops_clash.Given as goal
 
 -- it is up to the parts that are left
 abbrev pub invariant-parts : goal.invariant-parts
-invariant-parts l = clashes_in (λ n. has l.params n || has l.taken n) (names_of l.inside.items) (map part_of (drop l.part-index l.parts)) ≡ clashes_in (λ n. has l.params n || has l.taken n) [] (map part_of l.parts)
+invariant-parts l = clashes_in (λ n. has l.params n || has l.taken n) (names_of l.inside.items) (map part_of (drop l.part-index l.parts))
+    ≡ clashes_in (λ n. has l.params n || has l.taken n) [] (map part_of l.parts)

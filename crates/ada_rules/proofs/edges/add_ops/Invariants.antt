@@ -5,4 +5,5 @@ use Rattle.ada_rules.proofs.edges.add_ops.Given as goal
 
 -- the edges so far, and those of the operations that are left
 abbrev pub invariant-ops : goal.invariant-ops
-invariant-ops l = map edge_of l.edges.items ++ flat_map (op_edges l.object) (map operation_of (drop l.op-index l.ops)) ≡ map edge_of l.initial.edges.items ++ flat_map (op_edges l.object) (map operation_of l.ops)
+invariant-ops l = map edge_of l.edges.items ++ flat_map (op_edges l.object) (map operation_of (drop l.op-index l.ops))
+    ≡ map edge_of l.initial.edges.items ++ flat_map (op_edges l.object) (map operation_of l.ops)

@@ -5,4 +5,5 @@ use Rattle.ada_rules.proofs.edges.edges_of.Given as goal
 
 -- the edges so far, and those of the units that are left
 abbrev pub invariant-units : goal.invariant-units
-invariant-units l = map edge_of l.edges.items ++ flat_map unit_edges (map unit_of (drop l.unit-index l.units)) ≡ flat_map unit_edges (map unit_of l.units)
+invariant-units l = map edge_of l.edges.items ++ flat_map unit_edges (map unit_of (drop l.unit-index l.units))
+    ≡ flat_map unit_edges (map unit_of l.units)

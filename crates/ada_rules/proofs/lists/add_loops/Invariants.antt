@@ -5,4 +5,5 @@ use Rattle.ada_rules.proofs.lists.add_loops.Given as goal
 
 -- the names so far, and those of the parts that are left
 abbrev pub invariant-parts : goal.invariant-parts
-invariant-parts l = names_of l.names.items ++ loops_in (map part_of (drop l.part-index l.parts)) ≡ names_of l.initial.names.items ++ loops_in (map part_of l.parts)
+invariant-parts l = names_of l.names.items ++ loops_in (map part_of (drop l.part-index l.parts))
+    ≡ names_of l.initial.names.items ++ loops_in (map part_of l.parts)

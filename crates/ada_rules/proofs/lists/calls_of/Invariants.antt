@@ -6,4 +6,5 @@ use Rattle.ada_rules.proofs.lists.calls_of.Given as goal
 
 -- the calls so far, and those of the bodies that are left
 abbrev pub invariant-bodies : goal.invariant-bodies
-invariant-bodies l = map call_of l.calls.items ++ flat_map (λ b. block_calls b.block) (map body_of (drop l.body-index l.body-items)) ≡ flat_map (λ b. block_calls b.block) (map body_of l.body-items)
+invariant-bodies l = map call_of l.calls.items ++ flat_map (λ b. block_calls b.block) (map body_of (drop l.body-index l.body-items))
+    ≡ flat_map (λ b. block_calls b.block) (map body_of l.body-items)

@@ -7,4 +7,5 @@ use Rattle.ada_rules.proofs.naming.bodies_clash.Given as goal
 
 -- it is up to the bodies that are left
 abbrev pub invariant-bodies : goal.invariant-bodies
-invariant-bodies l = list_any (clashes_inside (has l.taken)) (map body_of (drop l.body-index l.bodies)) ≡ list_any (clashes_inside (has l.taken)) (map body_of l.bodies)
+invariant-bodies l = list_any (clashes_inside (has l.taken)) (map body_of (drop l.body-index l.bodies))
+    ≡ list_any (clashes_inside (has l.taken)) (map body_of l.bodies)

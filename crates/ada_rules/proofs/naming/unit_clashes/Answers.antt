@@ -17,14 +17,16 @@ returns-then-not-branch c =
     let names : names_of c.as_slice.result.now ≡ own_names (form_of c.args.form.now) = ap names_of c.as_slice.ensures.value ∙ c.in_ok-own.ensures in
     ap (λ d. not d || list_any (body_clashes (form_of c.args.form.now)) (bodies (form_of c.args.form.now)))
     (sym c.if-not-branch.true ∙ c.in_ok-add_new.ensures.new
-    ∙ own_clash (form_of c.args.form.now) (names_of c.as_slice.result.now) (has c.new-taken.result) (has c.new-nothing.result) names c.new-taken.ensures c.new-nothing.ensures)
+    ∙ own_clash (form_of c.args.form.now) (names_of c.as_slice.result.now) (has c.new-taken.result)
+    (has c.new-nothing.result) names c.new-taken.ensures c.new-nothing.ensures)
 
 pub returns : goal.returns
 returns c =
     let names : names_of c.as_slice.result.now ≡ own_names (form_of c.args.form.now) = ap names_of c.as_slice.ensures.value ∙ c.in_ok-own.ensures in
     let apart : are_distinct (own_names (form_of c.args.form.now)) ≡ true =
     sym (sym c.if-not-branch.false ∙ c.in_ok-add_new.ensures.new
-    ∙ own_clash (form_of c.args.form.now) (names_of c.as_slice.result.now) (has c.new-taken.result) (has c.new-nothing.result) names c.new-taken.ensures c.new-nothing.ensures) in
+    ∙ own_clash (form_of c.args.form.now) (names_of c.as_slice.result.now) (has c.new-taken.result)
+    (has c.new-nothing.result) names c.new-taken.ensures c.new-nothing.ensures) in
     let taken : (n : Name) → has c.add_new.new.inside n ≡ is_named (own_names (form_of c.args.form.now)) n =
     λ n. c.in_ok-add_new.ensures.added n ∙ ap (λ b. is_named (names_of c.as_slice.result.now) n || b) (c.new-taken.ensures n)
     ∙ or_nothing (is_named (names_of c.as_slice.result.now) n) ∙ ap (λ ns. is_named ns n) names in

@@ -8,4 +8,5 @@ use Rattle.ada_rules.proofs.ops.add_heads.Given as goal
 
 -- the operations so far
 abbrev pub invariant-heads : goal.invariant-heads
-invariant-heads l = (n : OpName) → has_op l.ops n ≡ (list_any (is_head l.object n) (map head_of (take l.head-index l.heads)) || has_op l.initial.ops n)
+invariant-heads l = (n : OpName)
+    → has_op l.ops n ≡ (list_any (is_head l.object n) (map head_of (take l.head-index l.heads)) || has_op l.initial.ops n)

@@ -8,4 +8,5 @@ use Rattle.ada_rules.proofs.places.places_of.Given as goal
 
 -- the places so far, or those by the edges that are left
 abbrev pub invariant-edges : goal.invariant-edges
-invariant-edges l = (n : OpName) → or_else (at l.places n) (place_from l.place (map edge_of (drop l.place l.edges)) n) ≡ place_from 0 (map edge_of l.edges) n
+invariant-edges l = (n : OpName) → or_else (at l.places n) (place_from l.place (map edge_of (drop l.place l.edges)) n)
+    ≡ place_from 0 (map edge_of l.edges) n

@@ -6,4 +6,5 @@ use Rattle.ada_rules.proofs.ranges.any_wrong_work.Given as goal
 
 -- it is up to the parts that are left
 abbrev pub invariant-parts : goal.invariant-parts
-invariant-parts l = list_any (is_outside 1 1000000000) (works_in (map part_of (drop l.part-index l.parts))) ≡ list_any (is_outside 1 1000000000) (works_in (map part_of l.parts))
+invariant-parts l = list_any (is_outside 1 1000000000) (works_in (map part_of (drop l.part-index l.parts)))
+    ≡ list_any (is_outside 1 1000000000) (works_in (map part_of l.parts))

@@ -7,4 +7,5 @@ use Rattle.ada_rules.proofs.ranges.bodies_break.Given as goal
 
 -- it is up to the bodies that are left
 abbrev pub invariant-bodies : goal.invariant-bodies
-invariant-bodies l = list_any (is_outside 1 1000000000) (flat_map (λ b. block_works b.block) (map body_of (drop l.body-index l.bodies))) ≡ list_any (is_outside 1 1000000000) (flat_map (λ b. block_works b.block) (map body_of l.bodies))
+invariant-bodies l = list_any (is_outside 1 1000000000) (flat_map (λ b. block_works b.block) (map body_of (drop l.body-index l.bodies)))
+    ≡ list_any (is_outside 1 1000000000) (flat_map (λ b. block_works b.block) (map body_of l.bodies))

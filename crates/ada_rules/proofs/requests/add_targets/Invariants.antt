@@ -8,4 +8,5 @@ use Rattle.ada_rules.proofs.requests.add_targets.Given as goal
 
 -- what the edges so far lead to is added
 abbrev pub invariant-edges : goal.invariant-edges
-invariant-edges l = (n : OpName) → has_op l.called n ≡ (is_led_to (at l.places) l.marks (map edge_of (take l.edge-index l.edges)) n || has_op l.initial.called n)
+invariant-edges l = (n : OpName)
+    → has_op l.called n ≡ (is_led_to (at l.places) l.marks (map edge_of (take l.edge-index l.edges)) n || has_op l.initial.called n)

@@ -8,4 +8,5 @@ use Rattle.ada_rules.proofs.requests.starts_of.Given as goal
 -- the places so far, and those by the edges that are left
 abbrev pub invariant-edges : goal.invariant-edges
 invariant-edges l =
-    l.starts.items ++ starts_of (at l.places) (has_op l.called) (map edge_of (drop l.edge-index l.edges)) ≡ starts_of (at l.places) (has_op l.called) (map edge_of l.edges)
+    l.starts.items ++ starts_of (at l.places) (has_op l.called) (map edge_of (drop l.edge-index l.edges))
+    ≡ starts_of (at l.places) (has_op l.called) (map edge_of l.edges)

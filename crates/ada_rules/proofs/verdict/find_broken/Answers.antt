@@ -75,7 +75,8 @@ returns-in-Some-5 c =
           (next (program_of c.args.program.now) Uses (λ h. h) (rw c.in-None-2.is at c.in_ok-first_by_uses.ensures)
           (next (program_of c.args.program.now) Naming (λ h. h) (rw c.in-None.is at c.in_ok-first_by_names.ensures)
           (none_clear (program_of c.args.program.now))))))
-          (λ h. let z : false ≡ true = sym c.if-whole_breaks.false ∙ c.whole_breaks.ensures ∙ h in cc) (rw c.in-Some-5.is at c.in_ok-first_by_ranges.ensures),
+          (λ h. let z : false ≡ true = sym c.if-whole_breaks.false ∙ c.whole_breaks.ensures ∙ h
+          in cc) (rw c.in-Some-5.is at c.in_ok-first_by_ranges.ensures),
       tt,
     )
 
@@ -84,7 +85,8 @@ returns-in-Some-6 c =
     let Says : Option Found → Type 0 = FirstSays (program_of c.args.program.now) in
     subst Says (sym c.broken_at-in-Some-6.ensures) (
       first_broken (program_of c.args.program.now) Externals c.in-Some-6.place
-          (next (program_of c.args.program.now) Ranges (λ h. let z : false ≡ true = sym c.if-whole_breaks.false ∙ c.whole_breaks.ensures ∙ h in cc) (rw c.in-None-5.is at c.in_ok-first_by_ranges.ensures)
+          (next (program_of c.args.program.now) Ranges (λ h. let z : false ≡ true = sym c.if-whole_breaks.false ∙ c.whole_breaks.ensures ∙ h
+          in cc) (rw c.in-None-5.is at c.in_ok-first_by_ranges.ensures)
           (next (program_of c.args.program.now) Bodies (λ h. h) (rw c.in-None-4.is at c.in_ok-first_by_bodies.ensures)
           (next (program_of c.args.program.now) Rings (λ h. h) (rw c.in-None-3.is at c.in_ok-first_by_rings.ensures)
           (next (program_of c.args.program.now) Uses (λ h. h) (rw c.in-None-2.is at c.in_ok-first_by_uses.ensures)
@@ -98,7 +100,8 @@ pub returns : goal.returns
 returns c =
     meets (program_of c.args.program.now)
     (next (program_of c.args.program.now) Externals (λ h. h) (rw c.in-None-6.is at c.in_ok-first_by_externals.ensures)
-    (next (program_of c.args.program.now) Ranges (λ h. let z : false ≡ true = sym c.if-whole_breaks.false ∙ c.whole_breaks.ensures ∙ h in cc) (rw c.in-None-5.is at c.in_ok-first_by_ranges.ensures)
+    (next (program_of c.args.program.now) Ranges (λ h. let z : false ≡ true = sym c.if-whole_breaks.false ∙ c.whole_breaks.ensures ∙ h
+    in cc) (rw c.in-None-5.is at c.in_ok-first_by_ranges.ensures)
     (next (program_of c.args.program.now) Bodies (λ h. h) (rw c.in-None-4.is at c.in_ok-first_by_bodies.ensures)
     (next (program_of c.args.program.now) Rings (λ h. h) (rw c.in-None-3.is at c.in_ok-first_by_rings.ensures)
     (next (program_of c.args.program.now) Uses (λ h. h) (rw c.in-None-2.is at c.in_ok-first_by_uses.ensures)

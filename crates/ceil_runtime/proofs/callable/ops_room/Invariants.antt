@@ -7,4 +7,5 @@ use Rattle.ceil_runtime.proofs.callable.ops_room.Given as goal
 -- the room for the operations so far, and for those from here on
 abbrev pub invariant-ops : goal.invariant-ops
 invariant-ops l =
-    (object : Name) → ops_room [] object l.«data» (map operation_of l.ops) ≡ l.room + ops_room [] object l.«data» (map operation_of (drop l.op-index l.ops))
+    (object : Name) → ops_room [] object l.«data» (map operation_of l.ops)
+    ≡ l.room + ops_room [] object l.«data» (map operation_of (drop l.op-index l.ops))

@@ -8,5 +8,6 @@ use Rattle.ceil_runtime.proofs.callable.task_named.Given as goal
 abbrev pub invariant-units : goal.invariant-units
 invariant-units l = record {
   few : l.place ≤ l.unit-index;
-  others : (work : List WorkList) → task_at work l.name l.place l.unit-index (map unit_of (drop l.unit-index l.units)) ≡ task_at work l.name 0 0 (map unit_of l.units);
+  others : (work : List WorkList) → task_at work l.name l.place l.unit-index (map unit_of (drop l.unit-index l.units))
+      ≡ task_at work l.name 0 0 (map unit_of l.units);
 }

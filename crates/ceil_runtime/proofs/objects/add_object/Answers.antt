@@ -19,7 +19,9 @@ pub invariant_of-push_reserved-clause-names : goal.invariant_of-push_reserved-cl
 invariant_of-push_reserved-clause-names c =
     let ws = c.as_slice-written.result.now in
     let len : vec_len c.fill_data.new.vars ≡ length ws = omega (arith, c.fill_data.ensures.len, c.in_ok-data-in-Shared.ensures.len) in
-    ap names_of (c.fill_data.ensures.vars ∙ ap (λ (vs : List Var). written ws ++ vars_of vs) c.in_ok-data-in-Shared.ensures.items) ∙ data-names ws ∙ ap (λ n. take n (map (λ d. d.name) ws)) (sym len)
+    ap names_of (c.fill_data.ensures.vars ∙ ap (λ (vs : List Var). written ws ++ vars_of vs) c.in_ok-data-in-Shared.ensures.items) ∙ data-names ws ∙
+    ap (λ n. take n (map (λ d. d.name) ws)) (sym len)
 
 pub invariant_of-push_reserved-clause-room : goal.invariant_of-push_reserved-clause-room
-invariant_of-push_reserved-clause-room c = omega (arith, c.fill_data.ensures.room, c.in_ok-data-in-Shared.ensures.capacity, c.as_slice-written.ensures.len)
+invariant_of-push_reserved-clause-room c
+    = omega (arith, c.fill_data.ensures.room, c.in_ok-data-in-Shared.ensures.capacity, c.as_slice-written.ensures.len)

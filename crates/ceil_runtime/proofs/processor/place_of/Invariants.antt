@@ -8,5 +8,6 @@ use Rattle.ceil_runtime.proofs.processor.place_of.Given as goal
 abbrev pub invariant-tasks : goal.invariant-tasks
 invariant-tasks l = record {
   place : l.place ≡ l.task-index;
-  others : option_map (λ t. t.0) (first_from l.task-index (λ t. t.thread.unit == l.unit) (map task_of (drop l.task-index l.tasks))) ≡ option_map (λ t. t.0) (first_where (λ t. t.thread.unit == l.unit) (map task_of l.tasks));
+  others : option_map (λ t. t.0) (first_from l.task-index (λ t. t.thread.unit == l.unit) (map task_of (drop l.task-index l.tasks)))
+      ≡ option_map (λ t. t.0) (first_where (λ t. t.thread.unit == l.unit) (map task_of l.tasks));
 }

@@ -31,11 +31,13 @@ units-preserved c =
     subst (λ (n : ℕ). Adds c.args.work.now us n u c.units.threads.items c.add_thread.new.threads.items) i.place c.add_thread.ensures.adds in
     record {
       place = ap (λ n. n + 1) i.place;
-      gathered = gathered-more c.args.work.now us c.units.unit-index u c.units-test.true c.unit-item.is c.units.threads.items c.add_thread.new.threads.items adds i.gathered;
+      gathered = gathered-more c.args.work.now us c.units.unit-index u c.units-test.true c.unit-item.is c.units.threads.items
+          c.add_thread.new.threads.items adds i.gathered;
       each = adds.each (is-here c.args.work.now us c.units.unit-index u c.units-test.true c.unit-item.is) i.each;
       few = omega (arith, adds.few, i.few);
       room = omega (arith, i.room, c.add_thread.ensures.capacity);
     }
 
 pub returns-clause-all : goal.returns-clause-all
-returns-clause-all c = gathered-all c.args.work.now c.args.units.now c.units.unit-index c.units.threads.items (omega (arith, c.units-test.false)) c.units.invariant.gathered
+returns-clause-all c = gathered-all c.args.work.now c.args.units.now c.units.unit-index c.units.threads.items
+    (omega (arith, c.units-test.false)) c.units.invariant.gathered

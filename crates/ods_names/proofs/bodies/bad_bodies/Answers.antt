@@ -10,7 +10,8 @@ pub returns-in_err-judge_object : goal.returns-in_err-judge_object
 returns-in_err-judge_object c =
     let e = c.in_err-judge_object.field-0.0 in
     let result : c.from_residual.result ≡ Err e = search rules in
-    rw result (listed_told (λ s. faults_in (design_of c.args.index.now.design.now) s.own) standing_of c.as_slice-objects.result.now c.objects.place c.index-objects-place.result _ e
+    rw result (listed_told (λ s. faults_in (design_of c.args.index.now.design.now) s.own) standing_of c.as_slice-objects.result.now c.objects.place
+    c.index-objects-place.result _ e
     c.objects-test.true c.index-objects-place.is c.objects.invariant c.in_err-judge_object.ensures)
 
 pub objects-preserved : goal.objects-preserved

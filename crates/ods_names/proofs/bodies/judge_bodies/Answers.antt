@@ -21,9 +21,12 @@ returns-in_err-judge_part c =
     let vars = c.args.shared.now.vars.now in
     let calls = offers_of c.args.calls.now in
     let params = c.params_by-params.result.now in
-    let wanted = part_fault name (Some c.body-item.result.name) (scope_with vars calls params c.deref.result.now) (block_of c.body-item.result.block) in
+    let wanted = part_fault name (Some c.body-item.result.name) (scope_with vars calls params c.deref.result.now)
+    (block_of c.body-item.result.block) in
     let result : c.from_residual.result ≡ Err e = search rules in
-    let here = body_fault_by x o (body_of c.body-item.result) name vars calls params c.deref.result.now (own_name c.args.node.now) c.requires.vars c.requires.calls
-    (c.params_by-params.ensures ∙ ap params_by (c.provided.ensures ∙ provided_here (slice_get (objects x) c.args.place) o c.body-item.result.name c.requires.stands)) c.deref.ensures.value in
+    let here = body_fault_by x o (body_of c.body-item.result) name vars calls params c.deref.result.now
+    (own_name c.args.node.now) c.requires.vars c.requires.calls
+    (c.params_by-params.ensures ∙ ap params_by (c.provided.ensures ∙ provided_here (slice_get (objects x) c.args.place) o c.body-item.result.name
+    c.requires.stands)) c.deref.ensures.value in
     rw result (given_told (body_fault x o) body_of c.deref-body-items.result.now c.bodies.body-index c.body-item.result _ wanted e
     c.bodies-test.true c.body-item.is c.bodies.invariant here c.in_err-judge_part.ensures)

@@ -8,4 +8,5 @@ use Rattle.ods_names.proofs.bodies.offers.Given as goal
 
 -- the operations so far, and those of the needs that are left
 abbrev pub invariant-needs : goal.invariant-needs
-invariant-needs l = map offer_view l.calls.items ++ filter_map (offer_by (design_of l.index.design.now)) (drop l.need-index l.need-items) ≡ offers (design_of l.index.design.now) (object_of l.node)
+invariant-needs l = map offer_view l.calls.items ++ filter_map (offer_by (design_of l.index.design.now)) (drop l.need-index l.need-items)
+    ≡ offers (design_of l.index.design.now) (object_of l.node)

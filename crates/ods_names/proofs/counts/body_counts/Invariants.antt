@@ -7,6 +7,7 @@ use Rattle.ods_names.proofs.counts.body_counts.Given as goal
 -- of each name those so far, and those that are left
 abbrev pub invariant-bodies : goal.invariant-bodies
 invariant-bodies l = record {
-  counted : (n : Name) → count_in l.counts n + length (filter (λ b. same_name b.name n) (map body_of (drop l.body-index l.bodies))) ≡ length (filter (λ b. same_name b.name n) (map body_of l.bodies));
+  counted : (n : Name) → count_in l.counts n + length (filter (λ b. same_name b.name n) (map body_of (drop l.body-index l.bodies)))
+      ≡ length (filter (λ b. same_name b.name n) (map body_of l.bodies));
   few : (n : Name) → count_in l.counts n ≤ l.body-index;
 }

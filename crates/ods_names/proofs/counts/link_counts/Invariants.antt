@@ -6,6 +6,7 @@ use Rattle.ods_names.proofs.counts.link_counts.Given as goal
 -- of each name those so far, and those that are left
 abbrev pub invariant-links : goal.invariant-links
 invariant-links l = record {
-  counted : (n : Name) → count_in l.counts n + length (filter (λ k. same_name k.op n) (drop l.link-index l.links)) ≡ length (filter (λ k. same_name k.op n) l.links);
+  counted : (n : Name) → count_in l.counts n + length (filter (λ k. same_name k.op n) (drop l.link-index l.links))
+      ≡ length (filter (λ k. same_name k.op n) l.links);
   few : (n : Name) → count_in l.counts n ≤ l.link-index;
 }

@@ -8,5 +8,6 @@ use Rattle.ods_names.proofs.fittings.any_unbodied.Given as goal
 -- it is up to those that are left
 abbrev pub invariant-ops : goal.invariant-ops
 invariant-ops l =
-    list_any (λ p. not (body_count (object_of l.node) p.sig.name == wanted_bodies (object_of l.node) p)) (map provided_of (drop l.provided-index l.provides))
+    list_any (λ p. not (body_count (object_of l.node) p.sig.name == wanted_bodies (object_of l.node) p))
+    (map provided_of (drop l.provided-index l.provides))
     ≡ list_any (λ p. not (body_count (object_of l.node) p.sig.name == wanted_bodies (object_of l.node) p)) (map provided_of l.provides)

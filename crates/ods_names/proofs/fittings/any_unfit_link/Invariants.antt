@@ -9,5 +9,7 @@ use Rattle.ods_names.proofs.fittings.any_unfit_link.Given as goal
 -- it is up to those that are left
 abbrev pub invariant-links : goal.invariant-links
 invariant-links l =
-    list_any (λ k. not (agrees (provided_named k.op (map provided_of l.table.provides.now)) (child_operation (map object_of l.family.children.now) k.to))) (drop l.link-index l.links)
-    ≡ list_any (λ k. not (agrees (provided_named k.op (map provided_of l.table.provides.now)) (child_operation (map object_of l.family.children.now) k.to))) l.links
+    list_any (λ k. not (agrees (provided_named k.op (map provided_of l.table.provides.now))
+    (child_operation (map object_of l.family.children.now) k.to))) (drop l.link-index l.links)
+    ≡ list_any (λ k. not (agrees (provided_named k.op (map provided_of l.table.provides.now))
+    (child_operation (map object_of l.family.children.now) k.to))) l.links

@@ -16,9 +16,11 @@ add_statement-returns-in_ok-add_arms-in-If t c =
     let arms = map arm_of c.in-If.arms.value.items in
     let other = otherwise (option_map block_of c.in-If.other) in
     let opened : statement_of c.args.stmt.now ≡ If (branches_of arms other) = search (rules, the_lemmas) in
-    let first : names_of c.add_arms.new.names.items ≡ old ++ branch_names (branches_of arms Nothing) = rw (sym c.deref.ensures, sym c.deref-in-If.ensures.value) c.in_ok-add_arms-in-If.ensures in
+    let first : names_of c.add_arms.new.names.items ≡ old ++ branch_names (branches_of arms Nothing)
+    = rw (sym c.deref.ensures, sym c.deref-in-If.ensures.value) c.in_ok-add_arms-in-If.ensures in
     let P : List Name → Type 0 = λ ns. OnOk c.add_other.result (names_of c.add_other.new.names.items ≡ ns) in
-    subst P (added_branches old (names_of c.add_arms.new.names.items) arms other first ∙ ap (λ s. old ++ statement_names s) (sym opened)) c.add_other.ensures
+    subst P (added_branches old (names_of c.add_arms.new.names.items) arms other first ∙ ap (λ s. old ++ statement_names s) (sym opened))
+    c.add_other.ensures
 
 pub add_block-stmts-preserved : goal.add_block-stmts-preserved
 add_block-stmts-preserved t c =

@@ -8,7 +8,8 @@ use Rattle.ods_names.proofs.kept.+kept.Given as goal
 -- the names so far, and those of the statements that are left
 abbrev pub invariant-add_block-stmts : goal.invariant-add_block-stmts
 invariant-add_block-stmts l =
-    names_of l.names.items ++ block_names (statements_of (map statement_of (drop l.stmt-index l.stmt-items))) ≡ names_of l.initial.names.items ++ block_names (block_of l.block)
+    names_of l.names.items ++ block_names (statements_of (map statement_of (drop l.stmt-index l.stmt-items)))
+    ≡ names_of l.initial.names.items ++ block_names (block_of l.block)
 
 -- the names so far, and those of the arms that are left
 abbrev pub invariant-add_arms-arms : goal.invariant-add_arms-arms

@@ -6,4 +6,5 @@ use Rattle.ods_names.proofs.kept.add_expressions.Given as goal
 
 -- the names so far, and those of the expressions that are left
 abbrev pub invariant-exprs : goal.invariant-exprs
-invariant-exprs l = names_of l.names.items ++ flat_map expression_names (map expression_of (drop l.expr-index l.exprs)) ≡ names_of l.initial.names.items ++ flat_map expression_names (map expression_of l.exprs)
+invariant-exprs l = names_of l.names.items ++ flat_map expression_names (map expression_of (drop l.expr-index l.exprs))
+    ≡ names_of l.initial.names.items ++ flat_map expression_names (map expression_of l.exprs)

@@ -9,11 +9,15 @@ use Rattle.ods_names.proofs.mentions.+mentions.Given as goal
 -- the loops so far, and those of the statements that are left
 abbrev pub invariant-add_block-stmts : goal.invariant-add_block-stmts
 invariant-add_block-stmts l =
-    gathered l.source.index.now l.into.items ++ block_loops (mention_by (requests_in l.source.index.now) l.role) (names_of l.loops) (statements_of (map statement_of (drop l.stmt-index l.stmt-items)))
-    ≡ gathered l.source.index.now l.initial.into.items ++ block_loops (mention_by (requests_in l.source.index.now) l.role) (names_of l.loops) (block_of l.block)
+    gathered l.source.index.now l.into.items ++ block_loops (mention_by (requests_in l.source.index.now) l.role) (names_of l.loops)
+    (statements_of (map statement_of (drop l.stmt-index l.stmt-items)))
+    ≡ gathered l.source.index.now l.initial.into.items ++ block_loops (mention_by (requests_in l.source.index.now) l.role) (names_of l.loops)
+    (block_of l.block)
 
 -- the loops so far, and those of the arms that are left
 abbrev pub invariant-add_arms-arms : goal.invariant-add_arms-arms
 invariant-add_arms-arms l =
-    gathered l.source.index.now l.into.items ++ branch_loops (mention_by (requests_in l.source.index.now) l.role) (names_of l.loops) (branches_of (map arm_of (drop l.arm-index l.arms)) Nothing)
-    ≡ gathered l.source.index.now l.initial.into.items ++ branch_loops (mention_by (requests_in l.source.index.now) l.role) (names_of l.loops) (branches_of (map arm_of l.arms) Nothing)
+    gathered l.source.index.now l.into.items ++ branch_loops (mention_by (requests_in l.source.index.now) l.role) (names_of l.loops)
+    (branches_of (map arm_of (drop l.arm-index l.arms)) Nothing)
+    ≡ gathered l.source.index.now l.initial.into.items ++ branch_loops (mention_by (requests_in l.source.index.now) l.role) (names_of l.loops)
+    (branches_of (map arm_of l.arms) Nothing)

@@ -6,4 +6,5 @@ use Rattle.ods_names.proofs.mentions.add_data.Given as goal
 
 -- the names so far
 abbrev pub invariant-vars : goal.invariant-vars
-invariant-vars l = gathered l.source.index.now l.into.items ≡ gathered l.source.index.now l.initial.into.items ++ map (λ d. mention (clashes.Member l.place) d.name) (take l.datum-index l.vars)
+invariant-vars l = gathered l.source.index.now l.into.items ≡ gathered l.source.index.now l.initial.into.items
+    ++ map (λ d. mention (clashes.Member l.place) d.name) (take l.datum-index l.vars)

@@ -6,4 +6,5 @@ use Rattle.ods_names.proofs.mentions.add_locals.Given as goal
 
 -- the names so far
 abbrev pub invariant-locals : goal.invariant-locals
-invariant-locals l = gathered l.source.index.now l.into.items ≡ gathered l.source.index.now l.initial.into.items ++ map (λ d. mention (clashes.Local l.place l.body l.op) d.name) (take l.datum-index l.locals)
+invariant-locals l = gathered l.source.index.now l.into.items ≡ gathered l.source.index.now l.initial.into.items
+    ++ map (λ d. mention (clashes.Local l.place l.body l.op) d.name) (take l.datum-index l.locals)

@@ -6,4 +6,5 @@ use Rattle.ods_names.proofs.mentions.add_params.Given as goal
 
 -- the names so far
 abbrev pub invariant-params : goal.invariant-params
-invariant-params l = gathered l.source.index.now l.into.items ≡ gathered l.source.index.now l.initial.into.items ++ map (λ q. mention (clashes.Parameter l.place l.op l.bodied) q.name) (take l.param-index l.params)
+invariant-params l = gathered l.source.index.now l.into.items ≡ gathered l.source.index.now l.initial.into.items
+    ++ map (λ q. mention (clashes.Parameter l.place l.op l.bodied) q.name) (take l.param-index l.params)

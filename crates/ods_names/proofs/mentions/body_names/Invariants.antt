@@ -7,4 +7,5 @@ use Rattle.ods_names.proofs.mentions.body_names.Given as goal
 
 -- the names so far, and those of the bodies that are left
 abbrev pub invariant-bodies : goal.invariant-bodies
-invariant-bodies l = (n : Name) → (has l.names n || list_any (λ b. same_name b.name n) (map body_of (drop l.body-index l.bodies))) ≡ list_any (λ b. same_name b.name n) (map body_of l.bodies)
+invariant-bodies l = (n : Name) → (has l.names n || list_any (λ b. same_name b.name n) (map body_of (drop l.body-index l.bodies)))
+    ≡ list_any (λ b. same_name b.name n) (map body_of l.bodies)

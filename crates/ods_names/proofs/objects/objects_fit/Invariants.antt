@@ -6,4 +6,5 @@ use Rattle.ods_names.proofs.objects.objects_fit.Given as goal
 
 -- the first is among those that are left
 abbrev pub invariant-objects : goal.invariant-objects
-invariant-objects l = head_of (bad_objects l.rule (map standing_of (drop l.standing-index l.objects))) ≡ head_of (bad_objects l.rule (map standing_of l.objects))
+invariant-objects l = head_of (bad_objects l.rule (map standing_of (drop l.standing-index l.objects)))
+    ≡ head_of (bad_objects l.rule (map standing_of l.objects))

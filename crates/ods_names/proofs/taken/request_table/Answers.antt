@@ -8,7 +8,8 @@ objects-init c = λ p n. ap (λ b. b || has_request 0 c.args.objects.now p n) (c
 
 pub objects-preserved : goal.objects-preserved
 objects-preserved c = λ p n.
-    standing_step c.args.objects.now c.objects.place c.index-objects-place.result p n _ _ _ c.objects-test.true c.index-objects-place.is (c.in_ok-add_standing.ensures p n) (c.objects.invariant p n)
+    standing_step c.args.objects.now c.objects.place c.index-objects-place.result p n _ _ _ c.objects-test.true c.index-objects-place.is
+    (c.in_ok-add_standing.ensures p n) (c.objects.invariant p n)
 
 pub returns : goal.returns
 returns c = λ p n. table_end c.args.objects.now c.objects.place p n c.objects-test.false (c.objects.invariant p n)

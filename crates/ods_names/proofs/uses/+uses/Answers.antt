@@ -13,12 +13,14 @@ pub returns-in_err-judge_object : goal.returns-in_err-judge_object
 returns-in_err-judge_object t c =
     let e = c.in_err-judge_object.field-0.0 in
     let result : c.from_residual.result ≡ Err e = search rules in
-    rw result (own_told (bad_needs c.args.rule (design_of c.args.index.now.design.now)) c.args.node.now (parent_of c.args.parent) (siblings_of (object_of c.args.node.now) c.args.siblings)
+    rw result (own_told (bad_needs c.args.rule (design_of c.args.index.now.design.now)) c.args.node.now (parent_of c.args.parent)
+    (siblings_of (object_of c.args.node.now) c.args.siblings)
     e c.in_err-judge_object.ensures)
 
 pub children-init : goal.children-init
 children-init t c =
-    own_passes (bad_needs c.args.rule (design_of c.args.index.now.design.now)) c.args.node.now (parent_of c.args.parent) (siblings_of (object_of c.args.node.now) c.args.siblings)
+    own_passes (bad_needs c.args.rule (design_of c.args.index.now.design.now)) c.args.node.now (parent_of c.args.parent)
+    (siblings_of (object_of c.args.node.now) c.args.siblings)
     c.deref-child-items.result.now c.deref-child-items.ensures.value c.in_ok-judge_object.ensures
 
 pub returns-in_err-judge_tree : goal.returns-in_err-judge_tree
@@ -26,7 +28,8 @@ returns-in_err-judge_tree t c =
     let e = c.in_err-judge_tree.field-0.0 in
     let f = bad_needs c.args.rule (design_of c.args.index.now.design.now) in
     let kids = c.deref-child-items.result.now in
-    let Told : List Node → Type 0 = λ ks. Tells (Err e) (head_of (flat_map f (standings (Some (object_of c.args.node.now)) (map object_of ks) (tree_of c.child-item.result)))) in
+    let Told : List Node → Type 0 = λ ks. Tells (Err e)
+    (head_of (flat_map f (standings (Some (object_of c.args.node.now)) (map object_of ks) (tree_of c.child-item.result)))) in
     let told = subst Told (c.as_slice.ensures.value ∙ sym c.deref-child-items.ensures.value) c.in_err-judge_tree.ensures in
     let result : c.from_residual-in_err-judge_tree.result ≡ Err e = search rules in
     rw result (child_told f (Some (object_of c.args.node.now)) (map object_of kids) kids c.children.child-index c.child-item.result _ e

@@ -13,5 +13,7 @@ returns c =
     let told = told_by c.args.rule s.own.name in
     let P : Option Broken → Type 0 = λ w. Tells c.tell.result w in
     subst P
-    (ap (λ name. option_map (told_by c.args.rule name) (option_map (λ n. n.now) c.first_breaking-target.result)) (sym (own_name c.args.standing.now.node.now))
-    ∙ ap (option_map told) c.first_breaking-target.ensures ∙ sym (head_filter told (breaks c.args.rule (design_of c.args.index.now.design.now) s) s.own.needs)) c.tell.ensures
+    (ap (λ name. option_map (told_by c.args.rule name) (option_map (λ n. n.now) c.first_breaking-target.result))
+    (sym (own_name c.args.standing.now.node.now))
+    ∙ ap (option_map told) c.first_breaking-target.ensures ∙ sym
+    (head_filter told (breaks c.args.rule (design_of c.args.index.now.design.now) s) s.own.needs)) c.tell.ensures

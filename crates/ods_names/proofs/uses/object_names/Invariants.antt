@@ -7,4 +7,5 @@ use Rattle.ods_names.proofs.uses.object_names.Given as goal
 
 -- the names so far, and those of the objects that are left
 abbrev pub invariant-nodes : goal.invariant-nodes
-invariant-nodes l = (n : Name) → (has l.names n || list_any (λ o. same_name o.name n) (map object_of (drop l.node-index l.nodes))) ≡ list_any (λ o. same_name o.name n) (map object_of l.nodes)
+invariant-nodes l = (n : Name) → (has l.names n || list_any (λ o. same_name o.name n) (map object_of (drop l.node-index l.nodes)))
+    ≡ list_any (λ o. same_name o.name n) (map object_of l.nodes)

@@ -6,4 +6,5 @@ use Rattle.ods_names.proofs.uses.target_names.Given as goal
 
 -- the names so far, and those of the operations that are left
 abbrev pub invariant-needs : goal.invariant-needs
-invariant-needs l = (n : Name) → (has l.names n || list_any (λ m. same_name m.object n) (drop l.need-index l.needs)) ≡ list_any (λ m. same_name m.object n) l.needs
+invariant-needs l = (n : Name) → (has l.names n || list_any (λ m. same_name m.object n) (drop l.need-index l.needs))
+    ≡ list_any (λ m. same_name m.object n) l.needs

@@ -35,8 +35,12 @@ returns c =
     let v = c.args.version in
     let x = design_of c.args.design.now in
     let old = bad_objects (rule.Whole (tick_time v)) (objects x) in
-    let walked : map standing_of c.as_slice.result.now ≡ objects x = ap (λ (ss : List Standing). map standing_of ss) c.as_slice.ensures.value ∙ c.in_ok-objects.ensures in
-    let same : head_of (bad_objects (rule.Whole c.tick_time-tick.result) (map standing_of c.as_slice.result.now)) ≡ head_of (bad_tick v ++ (bad_priorities v.priorities ++ old)) =
-    ap (λ t. head_of (bad_objects (rule.Whole t) (map standing_of c.as_slice.result.now))) c.tick_time-tick.ensures ∙ ap (λ ss. head_of (bad_objects (rule.Whole (tick_time v)) ss)) walked
-    ∙ sym (head_later (bad_tick v) (bad_priorities v.priorities ++ old) c.in_ok-tick_fits.ensures ∙ head_later (bad_priorities v.priorities) old c.in_ok-priorities_fit.ensures) in
+    let walked : map standing_of c.as_slice.result.now ≡ objects x
+    = ap (λ (ss : List Standing). map standing_of ss) c.as_slice.ensures.value ∙ c.in_ok-objects.ensures in
+    let same : head_of (bad_objects (rule.Whole c.tick_time-tick.result) (map standing_of c.as_slice.result.now))
+    ≡ head_of (bad_tick v ++ (bad_priorities v.priorities ++ old)) =
+    ap (λ t. head_of (bad_objects (rule.Whole t) (map standing_of c.as_slice.result.now))) c.tick_time-tick.ensures ∙ ap
+    (λ ss. head_of (bad_objects (rule.Whole (tick_time v)) ss)) walked
+    ∙ sym (head_later (bad_tick v) (bad_priorities v.priorities ++ old) c.in_ok-tick_fits.ensures ∙ head_later
+    (bad_priorities v.priorities) old c.in_ok-priorities_fit.ensures) in
     subst (λ w. Tells c.objects_fit.result w) same c.objects_fit.ensures

@@ -15,7 +15,8 @@ does_statement_fit-returns-then-do_arms_fit t c =
     let arms = map arm_of c.in-If.arms.value.items in
     let other = otherwise (option_map block_of c.in-If.other) in
     let opened : statement_of c.args.stmt.now ≡ If (branches_of arms other) = search (rules, the_lemmas) in
-    rw opened (arms_fit (is_within 1 1000000000) arms other c.do_arms_fit.result c.does_other_fit.result (rw (c.as_slice.ensures.value, c.deref.ensures) at c.do_arms_fit.ensures)
+    rw opened (arms_fit (is_within 1 1000000000) arms other c.do_arms_fit.result c.does_other_fit.result
+    (rw (c.as_slice.ensures.value, c.deref.ensures) at c.do_arms_fit.ensures)
     c.if-do_arms_fit.true c.does_other_fit.ensures)
 
 pub does_statement_fit-returns-else-do_arms_fit : goal.does_statement_fit-returns-else-do_arms_fit
@@ -23,7 +24,8 @@ does_statement_fit-returns-else-do_arms_fit t c =
     let arms = map arm_of c.in-If.arms.value.items in
     let other = otherwise (option_map block_of c.in-If.other) in
     let opened : statement_of c.args.stmt.now ≡ If (branches_of arms other) = search (rules, the_lemmas) in
-    rw opened (arms_misfit (is_within 1 1000000000) arms other c.do_arms_fit.result (rw (c.as_slice.ensures.value, c.deref.ensures) at c.do_arms_fit.ensures) c.if-do_arms_fit.false)
+    rw opened (arms_misfit (is_within 1 1000000000) arms other c.do_arms_fit.result
+    (rw (c.as_slice.ensures.value, c.deref.ensures) at c.do_arms_fit.ensures) c.if-do_arms_fit.false)
 
 pub do_arms_fit-arms-preserved : goal.do_arms_fit-arms-preserved
 do_arms_fit-arms-preserved t c =

@@ -29,7 +29,8 @@ returns c =
     let x = design_of c.args.index.now.design.now in
     let place = c.in-Some.place in
     let seen : map standing_of c.as_slice.result.now ≡ objects x = ap (map standing_of) c.as_slice.ensures.value ∙ c.requires.indexed.walked in
-    let views : map op_of c.in_ok-ops.ops.items ≡ terminal_ops x = ops-same x c.in_ok-ops.ops.items (map standing_of c.as_slice.result.now) c.in_ok-ops.ensures seen in
+    let views : map op_of c.in_ok-ops.ops.items ≡ terminal_ops x
+    = ops-same x c.in_ok-ops.ops.items (map standing_of c.as_slice.result.now) c.in_ok-ops.ensures seen in
     let named : map op_of c.as_slice-2.result.now ≡ terminal_ops x = ap (map op_of) c.as_slice-2.ensures.value ∙ views in
     let fit : Passes x Fitting = c.requires.before Fitting (omega arith) in
     let f = first-ringed x (op_place_from 0 (terminal_ops x)) (λ n. refl) fit place

@@ -15,5 +15,6 @@ bodies-preserved c =
     let b = body_of c.body-item.result in
     added_step (λ (bs : List OpBody). bodies_edges place x needs c.args.from (map body_of bs)) (bodies_edges place x needs c.args.from (b ∷ []))
     c.args.bodies.now c.bodies.body-index c.body-item.result c.bodies.edges.items _ _
-    (λ ys. sym (append_assoc (meant_edges place x needs c.args.from (block_calls b.block)) [] (bodies_edges place x needs c.args.from (map body_of ys))))
+    (λ ys. sym (append_assoc (meant_edges place x needs c.args.from (block_calls b.block)) []
+    (bodies_edges place x needs c.args.from (map body_of ys))))
     c.bodies-test.true c.body-item.is c.in_ok-add_body.ensures c.bodies.invariant

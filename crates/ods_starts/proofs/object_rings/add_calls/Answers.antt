@@ -17,5 +17,6 @@ calls-preserved c =
     let needs = c.args.needs.now.ops.now in
     added_step (λ (cs : List Call). meant_edges (place_in c.args.places.now) x needs c.args.from (map call_of cs)) _
     c.args.calls.now c.calls.call-index c.call-item.result c.calls.edges.items _ _
-    (λ ys. placed_first (λ t. (c.args.from, t)) (λ o. place_in c.args.places.now o.object) (resolve x) (λ o. list_any (same_op o) needs) (call_of c.call-item.result) (map call_of ys))
+    (λ ys. placed_first (λ t. (c.args.from, t)) (λ o. place_in c.args.places.now o.object) (resolve x) (λ o. list_any (same_op o) needs)
+    (call_of c.call-item.result) (map call_of ys))
     c.calls-test.true c.call-item.is c.in_ok-add_call.ensures c.calls.invariant

@@ -19,6 +19,7 @@ ops-preserved c =
       added = λ c' e.
           op-added c.args.owner ops place op unit c' (found_in c.ops.self c') _ c.callee_of.result
           (omega (arith, i.within, c.ops-test.true)) c.index-ops-place.is e (c.in_ok-put.ensures c') c.callee_of.ensures
-          (subst (λ n. IsOpOf c.args.owner (found_in c.ops.self c') (first_from n (named c'.op) (map operation_of (drop n ops)))) again (i.added c' e));
+          (subst (λ n. IsOpOf c.args.owner (found_in c.ops.self c') (first_from n (named c'.op) (map operation_of (drop n ops)))) again
+          (i.added c' e));
       others = λ c' e. op-kept unit op.sig.name c' (found_in c.ops.self c') _ c.callee_of.result e (c.in_ok-put.ensures c') ∙ i.others c' e;
     }

@@ -49,8 +49,19 @@ returns-in-Silent c =
     let here = slice_get_read m.tasks.items (length m.tasks.items) i t refl sound.here.1 c.index_mut-active.ensures.value in
     let p = c.requires.piece t here in
     let a = c.in-Silent.ensures.acts in
-    going-step m i c.requires.whole c.requires.phase c.requires.goes_on t t' here p.2 Silent a c.in-Silent.ensures.thread c.in-Silent.ensures.works c.in-Silent.ensures.falls (nests-going t t' m.costs a.vars a.pieces a.after c.in-Silent.ensures.inside) _
-    (record { until = refl; costs = refl; units = refl; callees = refl; arrivals = refl; time = refl; ran = refl; stopped = refl; phase = c.requires.phase }) refl refl refl a.after Nothing refl c.requires.goes_on tt (omega arith)
+    going-step m i c.requires.whole c.requires.phase c.requires.goes_on t t' here p.2 Silent a c.in-Silent.ensures.thread c.in-Silent.ensures.works
+    c.in-Silent.ensures.falls (nests-going t t' m.costs a.vars a.pieces a.after c.in-Silent.ensures.inside) _
+    (record {
+      until = refl;
+      costs = refl;
+      units = refl;
+      callees = refl;
+      arrivals = refl;
+      time = refl;
+      ran = refl;
+      stopped = refl;
+      phase = c.requires.phase;
+    }) refl refl refl a.after Nothing refl c.requires.goes_on tt (omega arith)
 
 pub returns-in-Print : goal.returns-in-Print
 returns-in-Print c =
@@ -62,9 +73,26 @@ returns-in-Print c =
     let here = slice_get_read m.tasks.items (length m.tasks.items) i t refl sound.here.1 c.index_mut-active.ensures.value in
     let p = c.requires.piece t here in
     let a = c.in-Print.ensures.acts in
-    going-step m i c.requires.whole c.requires.phase c.requires.goes_on t t' here p.2 (Print c.in-Print.value) a c.in-Print.ensures.thread c.in-Print.ensures.works c.in-Print.ensures.falls (nests-going t t' m.costs a.vars a.pieces a.after c.in-Print.ensures.inside) _
-    (record { until = refl; costs = refl; units = refl; callees = refl; arrivals = refl; time = refl; ran = refl; stopped = refl; phase = c.requires.phase }) refl refl refl a.after (One (event.Print m.time t'.progress.stack.thread.unit c.in-Print.value))
-    (ap (λ th. let next : Next = (record (effect_state m i) { tasks = change i (going m.costs a.vars a.pieces) (map task_of m.tasks.items) }, event.Print m.time th.unit c.in-Print.value ∷ []) in next) (sym c.in-Print.ensures.thread)) (tt, c.requires.goes_on)
+    going-step m i c.requires.whole c.requires.phase c.requires.goes_on t t' here p.2 (Print c.in-Print.value) a c.in-Print.ensures.thread
+    c.in-Print.ensures.works c.in-Print.ensures.falls (nests-going t t' m.costs a.vars a.pieces a.after c.in-Print.ensures.inside) _
+    (record {
+      until = refl;
+      costs = refl;
+      units = refl;
+      callees = refl;
+      arrivals = refl;
+      time = refl;
+      ran = refl;
+      stopped = refl;
+      phase = c.requires.phase;
+    }) refl refl refl a.after (One (event.Print m.time t'.progress.stack.thread.unit c.in-Print.value))
+    (ap (λ th. let next : Next = (
+      record (effect_state m i) {
+        tasks
+            = change i (going m.costs a.vars a.pieces) (map task_of m.tasks.items);
+      },
+      event.Print m.time th.unit c.in-Print.value ∷ [],
+    ) in next) (sym c.in-Print.ensures.thread)) (tt, c.requires.goes_on)
     (record { place = i; task = t; here = here; is_unit = ap (λ th. th.unit) c.in-Print.ensures.thread }) (omega arith)
 
 pub act-act-requires-clause-outside : goal.act-act-requires-clause-outside
@@ -83,7 +111,8 @@ unreachable-requires c =
     let t = c.index_mut-active.result.now in
     let sound = running-sound m i c.requires.whole c.requires.phase c.requires.goes_on in
     let here = slice_get_read m.tasks.items (length m.tasks.items) i t refl sound.here.1 c.index_mut-active.ensures.value in
-    let own : false ≡ true = reached-act (system_of t.progress.stack.thread) m.costs (task_of t) _ Own _ (c.requires.reaches t here).1 c.in-Ask.ensures.acts in
+    let own : false ≡ true = reached-act (system_of t.progress.stack.thread) m.costs (task_of t) _ Own _
+    (c.requires.reaches t here).1 c.in-Ask.ensures.acts in
     clash own
   where
     clash : false ≡ true → ⊥
@@ -123,14 +152,28 @@ returns-in-Keep c =
     let tasks' = set m.tasks.items i t' in
     let u = c.index_mut.result.now in
     let below = among-tasks m.units.now m.tasks.items sound.calls i t here k c.in-Keep.ensures.among in
-    let there : slice_get tasks' k ≡ Some u = slice_get_read tasks' (length tasks') k u refl (omega (arith, below, length-set m.tasks.items i t')) c.index_mut.ensures.value in
-    gate-step m i c.requires.whole c.requires.phase c.requires.goes_on t t' here p.2 a.piece a.rest a.pieces a.vars (deeds.Keep c.in-Keep.target c.in-Keep.value) a.first
+    let there : slice_get tasks' k ≡ Some u
+    = slice_get_read tasks' (length tasks') k u refl (omega (arith, below, length-set m.tasks.items i t')) c.index_mut.ensures.value in
+    gate-step m i c.requires.whole c.requires.phase c.requires.goes_on t t' here p.2 a.piece a.rest a.pieces a.vars
+    (deeds.Keep c.in-Keep.target c.in-Keep.value) a.first
     (a.does (system_by m.until m.costs m.units.now m.tasks.items) (runs-alike m.until m.costs m.units.now m.tasks.items sound.calls i t here))
-    c.in-Keep.ensures.thread c.in-Keep.ensures.works c.in-Keep.ensures.falls (nests-going t t' m.costs a.vars a.pieces a.after c.in-Keep.ensures.inside) tasks' refl
+    c.in-Keep.ensures.thread c.in-Keep.ensures.works c.in-Keep.ensures.falls
+    (nests-going t t' m.costs a.vars a.pieces a.after c.in-Keep.ensures.inside) tasks' refl
     a.after k (kept_value c.in-Keep.value) (λ v. (refl, refl)) (λ v. (refl, refl)) (λ v. refl) refl u c.keep.new.self _
-    (record { until = refl; costs = refl; units = refl; callees = refl; arrivals = refl; time = refl; ran = refl; stopped = refl; phase = c.requires.phase })
+    (record {
+      until = refl;
+      costs = refl;
+      units = refl;
+      callees = refl;
+      arrivals = refl;
+      time = refl;
+      ran = refl;
+      stopped = refl;
+      phase = c.requires.phase;
+    })
     (record { here = there; set_is = refl; does = c.keep.ensures.task; thread = ap (λ g. g.stack.thread) c.keep.ensures.progress })
-    c.keep.ensures.same (ap (λ v. v.left) c.keep.ensures.task) (ap (λ v. v.used) c.keep.ensures.task) (ap (λ v. v.works) c.keep.ensures.task) (ap (λ v. v.next) c.keep.ensures.task) refl refl
+    c.keep.ensures.same (ap (λ v. v.left) c.keep.ensures.task) (ap (λ v. v.used) c.keep.ensures.task) (ap (λ v. v.works) c.keep.ensures.task)
+    (ap (λ v. v.next) c.keep.ensures.task) refl refl
 
 pub returns-in-Open : goal.returns-in-Open
 returns-in-Open c =
@@ -146,14 +189,28 @@ returns-in-Open c =
     let tasks' = set m.tasks.items i t' in
     let u = c.index_mut-in-Open.result.now in
     let below = among-tasks m.units.now m.tasks.items sound.calls i t here k c.in-Open.ensures.among in
-    let there : slice_get tasks' k ≡ Some u = slice_get_read tasks' (length tasks') k u refl (omega (arith, below, length-set m.tasks.items i t')) c.index_mut-in-Open.ensures.value in
-    gate-step m i c.requires.whole c.requires.phase c.requires.goes_on t t' here p.2 a.piece a.rest a.pieces a.vars (deeds.Open c.in-Open.target) a.first
+    let there : slice_get tasks' k ≡ Some u
+    = slice_get_read tasks' (length tasks') k u refl (omega (arith, below, length-set m.tasks.items i t')) c.index_mut-in-Open.ensures.value in
+    gate-step m i c.requires.whole c.requires.phase c.requires.goes_on t t' here p.2 a.piece a.rest a.pieces a.vars
+    (deeds.Open c.in-Open.target) a.first
     (a.does (system_by m.until m.costs m.units.now m.tasks.items) (runs-alike m.until m.costs m.units.now m.tasks.items sound.calls i t here))
-    c.in-Open.ensures.thread c.in-Open.ensures.works c.in-Open.ensures.falls (nests-going t t' m.costs a.vars a.pieces a.after c.in-Open.ensures.inside) tasks' refl
+    c.in-Open.ensures.thread c.in-Open.ensures.works c.in-Open.ensures.falls
+    (nests-going t t' m.costs a.vars a.pieces a.after c.in-Open.ensures.inside) tasks' refl
     a.after k opened_now (λ v. (refl, refl)) (λ v. (refl, refl)) (λ v. refl) refl u c.open_gate.new.self _
-    (record { until = refl; costs = refl; units = refl; callees = refl; arrivals = refl; time = refl; ran = refl; stopped = refl; phase = c.requires.phase })
+    (record {
+      until = refl;
+      costs = refl;
+      units = refl;
+      callees = refl;
+      arrivals = refl;
+      time = refl;
+      ran = refl;
+      stopped = refl;
+      phase = c.requires.phase;
+    })
     (record { here = there; set_is = refl; does = c.open_gate.ensures.task; thread = ap (λ g. g.stack.thread) c.open_gate.ensures.progress })
-    c.open_gate.ensures.same (ap (λ v. v.left) c.open_gate.ensures.task) (ap (λ v. v.used) c.open_gate.ensures.task) (ap (λ v. v.works) c.open_gate.ensures.task) (ap (λ v. v.next) c.open_gate.ensures.task) refl refl
+    c.open_gate.ensures.same (ap (λ v. v.left) c.open_gate.ensures.task) (ap (λ v. v.used) c.open_gate.ensures.task)
+    (ap (λ v. v.works) c.open_gate.ensures.task) (ap (λ v. v.next) c.open_gate.ensures.task) refl refl
 
 pub answer-requires : goal.answer-requires
 answer-requires c =

@@ -22,7 +22,8 @@ index-asked-requires c =
     let sound = running-sound m i c.requires.whole c.requires.phase c.requires.goes_on in
     let w = task-at m.tasks.items i sound.here.1 in
     let r = (c.requires.reaches w.0 w.1).0 in
-    let below = among-tasks m.units.now m.tasks.items sound.calls i w.0 w.1 k (stays-asking (system_of w.0.progress.stack.thread) c.args.piece k r).1 in
+    let below = among-tasks m.units.now m.tasks.items sound.calls i w.0 w.1 k
+    (stays-asking (system_of w.0.progress.stack.thread) c.args.piece k r).1 in
     omega (arith, below, m.tasks.ok.0)
 
 pub act-requires-clause-callees : goal.act-requires-clause-callees
@@ -88,12 +89,29 @@ returns-then-is_above c =
     let p = c.requires.piece t here in
     let r = c.requires.reaches t here in
     let u = c.index-asked.result.now in
-    let below = among-tasks m.units.now m.tasks.items sound.calls i t here k (stays-asking (system_of t.progress.stack.thread) c.args.piece k r.0).1 in
+    let below = among-tasks m.units.now m.tasks.items sound.calls i t here k
+    (stays-asking (system_of t.progress.stack.thread) c.args.piece k r.0).1 in
     let there = slice_get_read m.tasks.items (length m.tasks.items) k u refl below c.index-asked.ensures in
     let ceiling_is = asked-ceiling m.until m.costs m.units.now m.tasks.items k u there ∙ sym c.ceiling_of-ceiling.ensures in
-    stop-before m i c.requires.whole c.requires.phase c.requires.goes_on t here p.2 c.args.piece p.0 (Control k) u.progress.stack.thread.unit c.ceiling_of-ceiling.result [] (deeds.Ask k)
-    (reached-at m i c.requires.whole c.requires.phase c.requires.goes_on t here p.2 c.args.piece (Ask k) p.0 r.1) (λ vars ps. refl) (asked-unit m.until m.costs m.units.now m.tasks.items k u there) ceiling_is
-    (sym c.is_above.ensures ∙ c.if-is_above.true) (inr (record { place = k; task = u; here = there; is_unit = refl })) c.stop.new.self (record { tasks = s.tasks; objects = s.objects; links = s.links; arrivals = s.arrivals; units = s.units; callees = s.callees; costs = s.costs; until = s.until; time = s.time; phase = s.phase; ran = s.ran; stopped = s.stopped }) c.stop.result (c.stop.ensures.told t here)
+    stop-before m i c.requires.whole c.requires.phase c.requires.goes_on t here p.2 c.args.piece p.0
+    (Control k) u.progress.stack.thread.unit c.ceiling_of-ceiling.result [] (deeds.Ask k)
+    (reached-at m i c.requires.whole c.requires.phase c.requires.goes_on t here p.2 c.args.piece (Ask k) p.0 r.1) (λ vars ps. refl)
+    (asked-unit m.until m.costs m.units.now m.tasks.items k u there) ceiling_is
+    (sym c.is_above.ensures ∙ c.if-is_above.true) (inr (record { place = k; task = u; here = there; is_unit = refl })) c.stop.new.self
+    (record {
+      tasks = s.tasks;
+      objects = s.objects;
+      links = s.links;
+      arrivals = s.arrivals;
+      units = s.units;
+      callees = s.callees;
+      costs = s.costs;
+      until = s.until;
+      time = s.time;
+      phase = s.phase;
+      ran = s.ran;
+      stopped = s.stopped;
+    }) c.stop.result (c.stop.ensures.told t here)
 
 pub returns : goal.returns
 returns c =
@@ -106,7 +124,8 @@ returns c =
     let p = c.requires.piece t here in
     let r = c.requires.reaches t here in
     let u = c.index-asked.result.now in
-    let below = among-tasks m.units.now m.tasks.items sound.calls i t here k (stays-asking (system_of t.progress.stack.thread) c.args.piece k r.0).1 in
+    let below = among-tasks m.units.now m.tasks.items sound.calls i t here k
+    (stays-asking (system_of t.progress.stack.thread) c.args.piece k r.0).1 in
     let there = slice_get_read m.tasks.items (length m.tasks.items) k u refl below c.index-asked.ensures in
     let ceiling_is = asked-ceiling m.until m.costs m.units.now m.tasks.items k u there ∙ sym c.ceiling_of-ceiling.ensures in
     let t' = c.act.new.self in
@@ -117,8 +136,19 @@ returns c =
     let t0 = c.index.result.now in
     let same = same_Some t0 t (sym (slice_get_read m.tasks.items (length m.tasks.items) i t0 refl sound.here.1 c.index.ensures) ∙ here) in
     let low = ap (λ v. nat_lt c.ceiling_of-ceiling.result v.active) (sym same) ∙ sym c.is_above.ensures ∙ c.if-is_above.false in
-    ask-step m i c.requires.whole c.requires.phase c.requires.goes_on t here p.2 t' c.go_inside.new.self c.act.ensures.thread c.go_inside.ensures.progress c.act.ensures.works c.act.ensures.falls _
-    (record { until = refl; costs = refl; units = refl; callees = refl; arrivals = refl; time = refl; ran = refl; stopped = refl; phase = c.requires.phase }) refl refl k refl a more c.ceiling_of-ceiling.result ceiling_is c.go_inside.ensures.task low
+    ask-step m i c.requires.whole c.requires.phase c.requires.goes_on t here p.2 t' c.go_inside.new.self c.act.ensures.thread
+    c.go_inside.ensures.progress c.act.ensures.works c.act.ensures.falls _
+    (record {
+      until = refl;
+      costs = refl;
+      units = refl;
+      callees = refl;
+      arrivals = refl;
+      time = refl;
+      ran = refl;
+      stopped = refl;
+      phase = c.requires.phase;
+    }) refl refl k refl a more c.ceiling_of-ceiling.result ceiling_is c.go_inside.ensures.task low
 
 pub act-requires-clause-piece : goal.act-requires-clause-piece
 act-requires-clause-piece c =

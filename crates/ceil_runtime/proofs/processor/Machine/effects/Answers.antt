@@ -8,4 +8,5 @@ pub returns-in_default : goal.returns-in_default
 returns-in_default c =
     let m = c.args.self.now in
     nobody-step m c.requires.whole (c.requires.phase ∙ ap (λ (r : Option ℕ). Effects r) c.in_default.is) c.requires.goes_on _
-    (record { until = refl; costs = refl; units = refl; callees = refl; arrivals = refl; time = refl; ran = refl; stopped = refl; phase = refl }) refl refl refl
+    (record { until = refl; costs = refl; units = refl; callees = refl; arrivals = refl; time = refl; ran = refl; stopped = refl; phase = refl })
+    refl refl refl

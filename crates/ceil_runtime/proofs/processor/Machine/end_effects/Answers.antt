@@ -19,4 +19,5 @@ returns c =
     let sound = running-sound m c.args.task c.requires.whole c.requires.phase c.requires.goes_on in
     let here = slice_get_read m.tasks.items (length m.tasks.items) c.args.task t refl sound.here.1 c.index.ensures in
     end-step m c.args.task c.requires.whole c.requires.phase c.requires.goes_on t here (nothing-due t (c.requires.none t here)) _
-    (record { until = refl; costs = refl; units = refl; callees = refl; arrivals = refl; time = refl; ran = refl; stopped = refl; phase = refl }) refl c.push_head.ensures refl
+    (record { until = refl; costs = refl; units = refl; callees = refl; arrivals = refl; time = refl; ran = refl; stopped = refl; phase = refl }) refl
+    c.push_head.ensures refl

@@ -53,7 +53,8 @@ leave-values-requires-clause-room c =
     let r = c.requires.reaches t here in
     let f = found-object m.units.now m.tasks.items m.objects.items sound.calls m.known i t here e r.0.1 in
     let o = c.index_mut-object.result.now in
-    let there = slice_get_read m.objects.items (length m.objects.items) e.object o refl (slice_get_within m.objects.items e.object f.is.object f.is.here) c.index_mut-object.ensures.value in
+    let there = slice_get_read m.objects.items (length m.objects.items) e.object o refl
+    (slice_get_within m.objects.items e.object f.is.object f.is.here) c.index_mut-object.ensures.value in
     omega (arith, o.room, same-count m.units.now m.tasks.items m.objects.items i t here e o there f)
 
 pub leave-values-requires-clause-few : goal.leave-values-requires-clause-few
@@ -81,10 +82,12 @@ invariant_of-object c =
     let r = c.requires.reaches t here in
     let f = found-object m.units.now m.tasks.items m.objects.items sound.calls m.known i t here e r.0.1 in
     let o = c.index_mut-object.result.now in
-    let there = slice_get_read m.objects.items (length m.objects.items) e.object o refl (slice_get_within m.objects.items e.object f.is.object f.is.here) c.index_mut-object.ensures.value in
+    let there = slice_get_read m.objects.items (length m.objects.items) e.object o refl
+    (slice_get_within m.objects.items e.object f.is.object f.is.here) c.index_mut-object.ensures.value in
     let vs = c.leave-values.new.«data» in
     record {
-      names = all-names vs.items (entry_names e) c.leave-values.ensures.names ∙ ap (take (length vs.items)) (sym (same-names m.units.now m.tasks.items m.objects.items i t here e o there f))
+      names = all-names vs.items (entry_names e) c.leave-values.ensures.names ∙ ap (take (length vs.items))
+          (sym (same-names m.units.now m.tasks.items m.objects.items i t here e o there f))
           ∙ ap (λ n. take n (map (λ d. d.name) o.written.now)) (sym vs.ok.0);
       few = o.few;
       room = omega (arith, o.room, c.leave-values.ensures.room);
@@ -102,7 +105,8 @@ invariant_of-self-clause-known c =
     let r = c.requires.reaches t here in
     let f = found-object m.units.now m.tasks.items m.objects.items sound.calls m.known i t here e r.0.1 in
     let o = c.index_mut-object.result.now in
-    let there = slice_get_read m.objects.items (length m.objects.items) e.object o refl (slice_get_within m.objects.items e.object f.is.object f.is.here) c.index_mut-object.ensures.value in
+    let there = slice_get_read m.objects.items (length m.objects.items) e.object o refl
+    (slice_get_within m.objects.items e.object f.is.object f.is.here) c.index_mut-object.ensures.value in
     changed-objects m.units.now m.objects.items e.object o _ there refl m.known
 
 pub overflow_cast-result : goal.overflow_cast-result
@@ -117,7 +121,8 @@ overflow_cast-result c =
     let r = c.requires.reaches t here in
     let f = found-object m.units.now m.tasks.items m.objects.items sound.calls m.known i t here e r.0.1 in
     let o = c.index_mut-object.result.now in
-    let there = slice_get_read m.objects.items (length m.objects.items) e.object o refl (slice_get_within m.objects.items e.object f.is.object f.is.here) c.index_mut-object.ensures.value in
+    let there = slice_get_read m.objects.items (length m.objects.items) e.object o refl
+    (slice_get_within m.objects.items e.object f.is.object f.is.here) c.index_mut-object.ensures.value in
     let small = place-few m.units.now m.tasks.items m.objects.items i t here e o there f in
     omega (arith, small)
 
@@ -133,7 +138,20 @@ returns c =
     let r = c.requires.reaches t here in
     let f = found-object m.units.now m.tasks.items m.objects.items sound.calls m.known i t here e r.0.1 in
     let o = c.index_mut-object.result.now in
-    let there = slice_get_read m.objects.items (length m.objects.items) e.object o refl (slice_get_within m.objects.items e.object f.is.object f.is.here) c.index_mut-object.ensures.value in
-    leave-step m i c.requires.whole c.requires.phase c.requires.goes_on t here p.2 c.leave-values.new.self c.go_outside.new.self c.leave-values.ensures.thread c.go_outside.ensures.progress c.leave-values.ensures.works c.leave-values.ensures.falls _
-    (record { until = refl; costs = refl; units = refl; callees = refl; arrivals = refl; time = refl; ran = refl; stopped = refl; phase = c.requires.phase }) refl refl e.object e.place _ f.entered.entered f.at o _ there (found-shows m.units.now m.tasks.items m.objects.items i t here e o there f) refl (found-op m.units.now m.tasks.items m.objects.items i t here e o there f)
+    let there = slice_get_read m.objects.items (length m.objects.items) e.object o refl
+    (slice_get_within m.objects.items e.object f.is.object f.is.here) c.index_mut-object.ensures.value in
+    leave-step m i c.requires.whole c.requires.phase c.requires.goes_on t here p.2 c.leave-values.new.self c.go_outside.new.self
+    c.leave-values.ensures.thread c.go_outside.ensures.progress c.leave-values.ensures.works c.leave-values.ensures.falls _
+    (record {
+      until = refl;
+      costs = refl;
+      units = refl;
+      callees = refl;
+      arrivals = refl;
+      time = refl;
+      ran = refl;
+      stopped = refl;
+      phase = c.requires.phase;
+    }) refl refl e.object e.place _ f.entered.entered f.at o _ there (found-shows m.units.now m.tasks.items m.objects.items i t here e o there f) refl
+    (found-op m.units.now m.tasks.items m.objects.items i t here e o there f)
     c.leave-values.ensures.leaves c.leave-values.ensures.inside c.go_outside.ensures.task

@@ -18,7 +18,15 @@ threads_in-requires c =
 pub open-requires-clause-few : goal.open-requires-clause-few
 open-requires-clause-few c =
     let few = (whole (program_of c.args.program.now) (arrivals_of c.args.arrivals.now) c.requires).1 in
-    omega (arith, few, length-map c.args.program.now.units.items unit_of, ap length c.as_slice-units.ensures.value, ap length c.as_slice.ensures.value, c.in_ok-threads.ensures.few)
+    omega (
+      arith,
+      few,
+      length-map c.args.program.now.units.items unit_of,
+      ap length c.as_slice-units.ensures.value,
+      ap length
+          c.as_slice.ensures.value,
+      c.in_ok-threads.ensures.few,
+    )
 
 pub open-requires-clause-known : goal.open-requires-clause-known
 open-requires-clause-known c =
@@ -26,7 +34,8 @@ open-requires-clause-known c =
     omega (arith, few, length-map c.args.program.now.units.items unit_of, ap length c.as_slice-units.ensures.value)
 
 pub open-requires-clause-near : goal.open-requires-clause-near
-open-requires-clause-near c = let near = near-horizon (program_of c.args.program.now) (arrivals_of c.args.arrivals.now) c.requires in omega (arith, near)
+open-requires-clause-near c = let near = near-horizon (program_of c.args.program.now) (arrivals_of c.args.arrivals.now) c.requires
+    in omega (arith, near)
 
 pub open-requires-clause-ticking : goal.open-requires-clause-ticking
 open-requires-clause-ticking c = (whole (program_of c.args.program.now) (arrivals_of c.args.arrivals.now) c.requires).0
@@ -34,14 +43,18 @@ open-requires-clause-ticking c = (whole (program_of c.args.program.now) (arrival
 pub open-requires-clause-start : goal.open-requires-clause-start
 open-requires-clause-start c =
     subst (AllThreads (CanStart _)) (sym c.as_slice.ensures.value)
-    (can-start (program_of c.args.program.now) (arrivals_of c.args.arrivals.now) c.requires _ _ (ap (λ ws. (handed ws).work) c.as_slice-work.ensures.value) (ap (map unit_of) c.as_slice-units.ensures.value) _ c.in_ok-threads.ensures.each)
+    (can-start (program_of c.args.program.now) (arrivals_of c.args.arrivals.now) c.requires _ _
+    (ap (λ ws. (handed ws).work) c.as_slice-work.ensures.value) (ap (map unit_of) c.as_slice-units.ensures.value) _ c.in_ok-threads.ensures.each)
 
 pub returns-clause-opens : goal.returns-clause-opens
 returns-clause-opens c =
     c.in_ok-machine.ensures.opens
-    ∙ ap (λ xs. opened c.args.arrivals.now.until c.args.program.now.costs c.as_slice-units.result.now xs c.as_slice.result.now) c.as_slice-2.ensures.value
+    ∙ ap (λ xs. opened c.args.arrivals.now.until c.args.program.now.costs c.as_slice-units.result.now xs c.as_slice.result.now)
+    c.as_slice-2.ensures.value
     ∙ opened-all (program_of c.args.program.now) (arrivals_of c.args.arrivals.now) c.requires _ _ (ap (map unit_of) c.as_slice-units.ensures.value)
-    (ap (map thread_of) c.as_slice.ensures.value ∙ c.in_ok-threads.ensures.all ∙ ap (λ ws. threads_from ws 0 (map unit_of c.as_slice-units.result.now)) c.as_slice-work.ensures.value ∙ ap (λ us. threads_from c.args.arrivals.now.work.items 0 (map unit_of us)) c.as_slice-units.ensures.value)
+    (ap (map thread_of) c.as_slice.ensures.value ∙ c.in_ok-threads.ensures.all ∙ ap
+    (λ ws. threads_from ws 0 (map unit_of c.as_slice-units.result.now)) c.as_slice-work.ensures.value ∙ ap
+    (λ us. threads_from c.args.arrivals.now.work.items 0 (map unit_of us)) c.as_slice-units.ensures.value)
 
 pub open-requires-clause-alike : goal.open-requires-clause-alike
 open-requires-clause-alike c =

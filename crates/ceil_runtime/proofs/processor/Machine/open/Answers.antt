@@ -22,7 +22,8 @@ threads-init c =
     let none = c.in_ok-tasks.ensures.items in
     let empty = c.in-Ok.ensures in
     record {
-      opened = subst (λ (ts : List Task). AreOpen c.args.until c.args.units.now [] ts c.in-Ok.links) (sym none) (open-none c.args.until c.args.units.now c.in-Ok.links (ap (λ q. q.ready) empty) (ap (λ q. q.asleep) empty));
+      opened = subst (λ (ts : List Task). AreOpen c.args.until c.args.units.now [] ts c.in-Ok.links) (sym none) (open-none c.args.until
+          c.args.units.now c.in-Ok.links (ap (λ q. q.ready) empty) (ap (λ q. q.asleep) empty));
       size = ap (λ q. q.size) empty;
       place = sym (ap length none);
       count = ap length none;
@@ -31,30 +32,41 @@ threads-init c =
 
 pub new-requires-in-threads-clause-runs : goal.new-requires-in-threads-clause-runs
 new-requires-in-threads-clause-runs c =
-    (c.requires.start c.threads.thread-index c.thread-item.result (slice_get_read c.args.threads.now (length c.args.threads.now) c.threads.thread-index c.thread-item.result refl c.threads-test.true c.thread-item.is)).runs
+    (c.requires.start c.threads.thread-index c.thread-item.result
+    (slice_get_read c.args.threads.now (length c.args.threads.now) c.threads.thread-index c.thread-item.result refl c.threads-test.true
+    c.thread-item.is)).runs
 
 pub new-requires-in-threads-clause-long : goal.new-requires-in-threads-clause-long
 new-requires-in-threads-clause-long c =
-    (c.requires.start c.threads.thread-index c.thread-item.result (slice_get_read c.args.threads.now (length c.args.threads.now) c.threads.thread-index c.thread-item.result refl c.threads-test.true c.thread-item.is)).long
+    (c.requires.start c.threads.thread-index c.thread-item.result
+    (slice_get_read c.args.threads.now (length c.args.threads.now) c.threads.thread-index c.thread-item.result refl c.threads-test.true
+    c.thread-item.is)).long
 
 pub sleep_first-requires : goal.sleep_first-requires
 sleep_first-requires c =
     let i = c.threads.invariant in
     let known : length c.threads.tasks.items < c.threads.links.size = omega (arith, i.count, i.size, c.threads-test.true) in
-    subst (λ (n : ℕ). IsFree c.threads.links n) (sym i.place) (open-free c.args.until c.args.units.now (take c.threads.thread-index c.args.threads.now) c.threads.tasks.items c.threads.links i.opened known)
+    subst (λ (n : ℕ). IsFree c.threads.links n) (sym i.place) (open-free c.args.until c.args.units.now
+    (take c.threads.thread-index c.args.threads.now) c.threads.tasks.items c.threads.links i.opened known)
 
 pub threads-preserved : goal.threads-preserved
 threads-preserved c =
     let th = c.thread-item.result in
     let i = c.threads.invariant in
-    let start = c.requires.start c.threads.thread-index th (slice_get_read c.args.threads.now (length c.args.threads.now) c.threads.thread-index th refl c.threads-test.true c.thread-item.is) in
-    let taken = take_more c.args.threads.now c.threads.thread-index th c.threads-test.true ∙ ap (λ h. take c.threads.thread-index c.args.threads.now ++ h ∷ []) (sym c.thread-item.is) in
-    let is : c.sleep_first.new.links ≡ first_slept th.timing (length c.threads.tasks.items) c.threads.links = c.sleep_first.ensures ∙ ap (λ n. first_slept th.timing n c.threads.links) i.place in
+    let start = c.requires.start c.threads.thread-index th (slice_get_read c.args.threads.now (length c.args.threads.now) c.threads.thread-index th
+    refl c.threads-test.true c.thread-item.is) in
+    let taken = take_more c.args.threads.now c.threads.thread-index th c.threads-test.true ∙ ap
+    (λ h. take c.threads.thread-index c.args.threads.now ++ h ∷ []) (sym c.thread-item.is) in
+    let is : c.sleep_first.new.links ≡ first_slept th.timing (length c.threads.tasks.items) c.threads.links
+    = c.sleep_first.ensures ∙ ap (λ n. first_slept th.timing n c.threads.links) i.place in
     let longer = ap length c.push_reserved.ensures.items ∙ length_push c.threads.tasks.items _ in
     record {
-      opened = subst (λ (ths : List Thread). AreOpen c.args.until c.args.units.now ths c.push_reserved.new.self.items c.sleep_first.new.links) (sym taken)
-          (subst (λ (ts : List Task). AreOpen c.args.until c.args.units.now (take c.threads.thread-index c.args.threads.now ++ th ∷ []) ts c.sleep_first.new.links) (sym c.push_reserved.ensures.items)
-          (open-next c.args.until c.args.units.now (take c.threads.thread-index c.args.threads.now) c.threads.tasks.items c.threads.links i.opened _ th
+      opened = subst (λ (ths : List Thread). AreOpen c.args.until c.args.units.now ths c.push_reserved.new.self.items c.sleep_first.new.links)
+          (sym taken)
+          (subst (λ (ts : List Task). AreOpen c.args.until c.args.units.now (take c.threads.thread-index c.args.threads.now ++ th ∷ []) ts
+          c.sleep_first.new.links) (sym c.push_reserved.ensures.items)
+          (open-next c.args.until c.args.units.now (take c.threads.thread-index c.args.threads.now) c.threads.tasks.items c.threads.links
+          i.opened _ th
           c.in_ok-fresh.ensures
           start c.sleep_first.new.links is));
       size = ap (λ q. q.size) is ∙ slept-size th.timing (length c.threads.tasks.items) c.threads.links ∙ i.size;
@@ -71,9 +83,11 @@ returns-clause-whole c =
     let i = c.threads.invariant in
     record {
       sound =
-          open-sound c.args.until c.args.costs c.args.units.now (take c.threads.thread-index c.args.threads.now) c.threads.tasks.items c.threads.links i.opened c.requires.near (omega (arith, i.count, c.requires.few, c.threads-test.false, c.threads.auto.thread-index-end))
+          open-sound c.args.until c.args.costs c.args.units.now (take c.threads.thread-index c.args.threads.now) c.threads.tasks.items c.threads.links
+          i.opened c.requires.near (omega (arith, i.count, c.requires.few, c.threads-test.false, c.threads.auto.thread-index-end))
           (omega (arith, i.size, i.count, c.threads-test.false, c.threads.auto.thread-index-end))
-          (open-alike c.args.units.now c.args.threads.now c.threads.tasks.items (i.opened.threads_are ∙ take_all c.threads.thread-index c.args.threads.now (omega (arith, c.threads-test.false))) c.requires.alike);
+          (open-alike c.args.units.now c.args.threads.now c.threads.tasks.items
+          (i.opened.threads_are ∙ take_all c.threads.thread-index c.args.threads.now (omega (arith, c.threads-test.false))) c.requires.alike);
       callees = c.in_ok-callees.ensures;
     }
 
@@ -84,8 +98,15 @@ returns-clause-opens c =
     let ts = c.threads.tasks.items in
     let stores = found-stores c.in_ok-objects.objects.items (objects_from 0 (map unit_of us)) c.in_ok-objects.ensures in
     let view : List Variables → Running = λ kept.
-    record { system = system_by c.args.until c.args.costs us ts; state = state_by kept c.args.arrivals.now 0 (Effects None) None false ts c.threads.links.ready } in
+    record {
+      system = system_by c.args.until c.args.costs us ts;
+      state = state_by kept c.args.arrivals.now 0 (Effects None) None false ts c.threads.links.ready;
+    } in
     ap view stores
-    ∙ open-running c.args.until c.args.costs us (take c.threads.thread-index c.args.threads.now) ts c.threads.links i.opened c.requires.near (omega (arith, i.count, c.requires.few, c.threads-test.false, c.threads.auto.thread-index-end))
-    (omega (arith, i.size, i.count, c.threads-test.false, c.threads.auto.thread-index-end)) (open-alike c.args.units.now c.args.threads.now ts (i.opened.threads_are ∙ take_all c.threads.thread-index c.args.threads.now (omega (arith, c.threads-test.false))) c.requires.alike) c.args.arrivals.now
-    ∙ ap (opened c.args.until c.args.costs us c.args.arrivals.now) (take_all c.threads.thread-index c.args.threads.now (omega (arith, c.threads-test.false)))
+    ∙ open-running c.args.until c.args.costs us (take c.threads.thread-index c.args.threads.now) ts c.threads.links i.opened c.requires.near
+    (omega (arith, i.count, c.requires.few, c.threads-test.false, c.threads.auto.thread-index-end))
+    (omega (arith, i.size, i.count, c.threads-test.false, c.threads.auto.thread-index-end))
+    (open-alike c.args.units.now c.args.threads.now ts (i.opened.threads_are ∙ take_all c.threads.thread-index c.args.threads.now
+    (omega (arith, c.threads-test.false))) c.requires.alike) c.args.arrivals.now
+    ∙ ap (opened c.args.until c.args.costs us c.args.arrivals.now)
+    (take_all c.threads.thread-index c.args.threads.now (omega (arith, c.threads-test.false)))

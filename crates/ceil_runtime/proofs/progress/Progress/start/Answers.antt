@@ -12,7 +12,8 @@ pub returns-in-None : goal.returns-in-None
 returns-in-None c =
     let p = c.args.self.now in
     let fs = (frames_of p.stack) in
-    let none : pieces_left p ≡ [] = ap (λ o. started o (kept fs)) c.in-None.is ∙ none-left p.stack.thread fs (subst (FitsFirst (place_of (first_place p.stack.thread) fs)) c.in-None.is p.fits) in
+    let none : pieces_left p ≡ [] = ap (λ o. started o (kept fs)) c.in-None.is ∙ none-left p.stack.thread fs
+    (subst (FitsFirst (place_of (first_place p.stack.thread) fs)) c.in-None.is p.fits) in
     record { ticks = sym (ap (first_ticks c.args.costs.now c.args.duration) none); works = sym (ap first_works none); some = omega arith }
 
 pub returns-in-Some : goal.returns-in-Some
@@ -21,7 +22,8 @@ returns-in-Some c =
     let q = c.in-Some.piece in
     let fs = (frames_of p.stack) in
     let same : started (Some q) (kept fs) ≡ pieces_left p = sym (ap (λ o. started o (kept fs)) c.in-Some.is) in
-    let ticks = c.start_of.ensures.ticks ∙ same-ticks c.args.costs.now c.args.duration q (put_away fs) (behind fs) ∙ ap (first_ticks c.args.costs.now c.args.duration) same in
+    let ticks = c.start_of.ensures.ticks ∙ same-ticks c.args.costs.now c.args.duration q (put_away fs) (behind fs) ∙ ap
+    (first_ticks c.args.costs.now c.args.duration) same in
     let works = c.start_of.ensures.works ∙ same-works q (put_away fs) (behind fs) ∙ ap first_works same in
     let some = works-tick c.args.costs.now c.args.duration p.stack.thread p.piece fs c.requires p.fits in
     record { ticks = ticks; works = works; some = omega (arith, ticks, works, some) }

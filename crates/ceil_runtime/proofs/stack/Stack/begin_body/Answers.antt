@@ -48,5 +48,7 @@ pub enter-requires-clause-block : goal.enter-requires-clause-block
 enter-requires-clause-block c =
     let s = c.args.self.now in
     let at = above (place_of (first_place s.thread) (frames_of s)).spot in
-    let fits = subst (λ xs. FitsList at xs) (sym c.as_slice-3.ensures.value) (subst (FitsBlock at) (block-tree c.args.op.now.block) c.requires.block) in
-    subst (λ xs. FitsList (above (place_of (first_place s.thread) (spread xs s.frames.items)).spot) c.as_slice-3.result.now) (sym (c.open_params.ensures.away ∙ c.open_data.ensures.away)) fits
+    let fits = subst (λ xs. FitsList at xs) (sym c.as_slice-3.ensures.value)
+    (subst (FitsBlock at) (block-tree c.args.op.now.block) c.requires.block) in
+    subst (λ xs. FitsList (above (place_of (first_place s.thread) (spread xs s.frames.items)).spot) c.as_slice-3.result.now)
+    (sym (c.open_params.ensures.away ∙ c.open_data.ensures.away)) fits

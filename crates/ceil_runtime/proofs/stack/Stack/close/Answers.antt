@@ -10,7 +10,8 @@ use Rattle.ceil_runtime.proofs.stack.Stack.close.Goals as goal
 pub returns-clause-keeps : goal.returns-clause-keeps
 returns-clause-keeps c =
     let s = c.args.self.now in
-    ap vars_of c.truncate.ensures.items ∙ kept-ended s.thread s.vars.items (frames_of s) (frames_of s) c.requires (first-frame s.thread (frames_of s) c.requires.fits) s.distinct
+    ap vars_of c.truncate.ensures.items ∙ kept-ended s.thread s.vars.items (frames_of s) (frames_of s) c.requires
+    (first-frame s.thread (frames_of s) c.requires.fits) s.distinct
 
 pub returns-clause-first : goal.returns-clause-first
 returns-clause-first c =

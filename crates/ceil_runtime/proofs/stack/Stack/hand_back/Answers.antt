@@ -10,6 +10,8 @@ use Rattle.ceil_runtime.proofs.stack.Stack.hand_back.Goals as goal
 
 pub next_piece-requires-clause-names : goal.next_piece-requires-clause-names
 next_piece-requires-clause-names c =
-    ap names_of c.store.ensures.vars ∙ names-stored (targets c.as_slice.result.now (map expression_of c.args.call.actuals.now)) c.args.values.now (vars_of c.take_vars_back.new.self.vars.items)
+    ap names_of c.store.ensures.vars ∙ names-stored (targets c.as_slice.result.now (map expression_of c.args.call.actuals.now)) c.args.values.now
+    (vars_of c.take_vars_back.new.self.vars.items)
     ∙ c.take_vars_back.ensures.names
-    ∙ ap (λ xs. (place_of (first_place c.take_vars_back.new.self.thread) (spread xs c.take_vars_back.new.self.frames.items)).names) (sym c.store.ensures.away)
+    ∙ ap (λ xs. (place_of (first_place c.take_vars_back.new.self.thread) (spread xs c.take_vars_back.new.self.frames.items)).names)
+    (sym c.store.ensures.away)

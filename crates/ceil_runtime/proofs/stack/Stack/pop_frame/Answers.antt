@@ -7,22 +7,26 @@ use Rattle.ceil_runtime.proofs.stack.Stack.pop_frame.Goals as goal
 pub invariant_of-self-clause-fit : goal.invariant_of-self-clause-fit
 invariant_of-self-clause-fit c =
     let s = c.args.self.now in
-    pop-fit (first_place s.thread) s.vars.away s.frames.items c.pop.new.self.items c.in-Some.slot s.away c.in-Some.ensures.items s.counted s.fit s.bare c.requires
+    pop-fit (first_place s.thread) s.vars.away s.frames.items c.pop.new.self.items c.in-Some.slot s.away c.in-Some.ensures.items s.counted s.fit
+    s.bare c.requires
 
 pub invariant_of-self-clause-bare : goal.invariant_of-self-clause-bare
 invariant_of-self-clause-bare c =
     let s = c.args.self.now in
-    pop-bare (first_place s.thread) s.vars.away s.frames.items c.pop.new.self.items c.in-Some.slot s.away c.in-Some.ensures.items s.counted s.fit s.bare c.requires
+    pop-bare (first_place s.thread) s.vars.away s.frames.items c.pop.new.self.items c.in-Some.slot s.away c.in-Some.ensures.items s.counted s.fit
+    s.bare c.requires
 
 pub invariant_of-self-clause-counted : goal.invariant_of-self-clause-counted
 invariant_of-self-clause-counted c =
     let s = c.args.self.now in
-    pop-counted (first_place s.thread) s.vars.away s.frames.items c.pop.new.self.items c.in-Some.slot s.away c.in-Some.ensures.items s.counted s.fit s.bare c.requires
+    pop-counted (first_place s.thread) s.vars.away s.frames.items c.pop.new.self.items c.in-Some.slot s.away c.in-Some.ensures.items s.counted s.fit
+    s.bare c.requires
 
 pub returns-in-Some-clause-frames : goal.returns-in-Some-clause-frames
 returns-in-Some-clause-frames c =
     let s = c.args.self.now in
-    pop-slot (first_place s.thread) s.vars.away s.frames.items c.pop.new.self.items c.in-Some.slot s.away c.in-Some.ensures.items s.counted s.fit s.bare c.requires
+    pop-slot (first_place s.thread) s.vars.away s.frames.items c.pop.new.self.items c.in-Some.slot s.away c.in-Some.ensures.items s.counted s.fit
+    s.bare c.requires
 
 pub returns-in-None-clause-frames : goal.returns-in-None-clause-frames
 returns-in-None-clause-frames c =

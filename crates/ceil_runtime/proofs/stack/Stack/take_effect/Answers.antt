@@ -18,7 +18,10 @@ returns-in-Finishing-clause-deed c =
     let s = c.args.self.now in
     let vs = vars_of s.vars.items in
     let ends : (q : Piece) → c.args.piece ≡ q → q ≡ is.Finishing
-    → Does (system_of s.thread) (piece_of c.args.piece (put_away (frames_of s))) vs (with_parts c.args.piece (behind (frames_of s))) deeds.Finish vs [] =
-    λ q same finish. subst (λ p. Does (system_of s.thread) (piece_of p (put_away (frames_of s))) vs (with_parts p (behind (frames_of s))) deeds.Finish vs []) (sym (same ∙ finish)) (λ y alike. refl) in
-    subst (λ rest. Does (system_of s.thread) (piece_of c.args.piece (put_away (frames_of s))) vs (with_parts c.args.piece (behind (frames_of s))) deeds.Finish vs rest)
+    → Does (system_of s.thread) (piece_of c.args.piece (put_away (frames_of s))) vs (with_parts c.args.piece (behind (frames_of s)))
+    deeds.Finish vs [] =
+    λ q same finish. subst (λ p. Does (system_of s.thread) (piece_of p (put_away (frames_of s))) vs
+    (with_parts p (behind (frames_of s))) deeds.Finish vs []) (sym (same ∙ finish)) (λ y alike. refl) in
+    subst (λ rest. Does (system_of s.thread) (piece_of c.args.piece (put_away (frames_of s))) vs
+    (with_parts c.args.piece (behind (frames_of s))) deeds.Finish vs rest)
     (sym c.close.ensures.pieces) (ends is.Finishing c.in-Finishing.is refl)

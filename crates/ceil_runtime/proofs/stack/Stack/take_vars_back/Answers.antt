@@ -25,12 +25,14 @@ invariant_of-self-clause-counted c =
 pub returns-clause-pieces : goal.returns-clause-pieces
 returns-clause-pieces c =
     let s = c.args.self.now in
-    ap (λ vs. behind (spread vs s.frames.items)) c.take_back.ensures.away ∙ back-behind (first_place s.thread) s.vars.away s.frames.items s.away s.counted s.fit s.bare
+    ap (λ vs. behind (spread vs s.frames.items)) c.take_back.ensures.away ∙ back-behind (first_place s.thread) s.vars.away s.frames.items s.away
+    s.counted s.fit s.bare
 
 pub returns-clause-away : goal.returns-clause-away
 returns-clause-away c =
     let s = c.args.self.now in
-    ap (λ vs. put_away (spread vs s.frames.items)) c.take_back.ensures.away ∙ back-away (first_place s.thread) s.vars.away s.frames.items s.away s.counted s.fit s.bare
+    ap (λ vs. put_away (spread vs s.frames.items)) c.take_back.ensures.away ∙ back-away (first_place s.thread) s.vars.away s.frames.items s.away
+    s.counted s.fit s.bare
 
 pub returns-clause-names : goal.returns-clause-names
 returns-clause-names c =

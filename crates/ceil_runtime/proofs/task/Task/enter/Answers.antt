@@ -25,7 +25,8 @@ returns-clause-enters c =
       pieces = pieces_left q;
       first = ap (λ x. started x (kept (frames_of s))) c.requires.piece;
       does = deed.1;
-      after = goes-on m q c.args.costs.now c.duration-duration.result (deed.0 ++ vars_of c.args.«data».now.items) c.start-start.result.ticks c.start-start.result.works c.enter-values.ensures.thread
+      after = goes-on m q c.args.costs.now c.duration-duration.result (deed.0 ++ vars_of c.args.«data».now.items) c.start-start.result.ticks
+          c.start-start.result.works c.enter-values.ensures.thread
           c.duration-duration.ensures.next deed.2 c.start-start.ensures.ticks c.start-start.ensures.works;
     }
 
@@ -36,8 +37,10 @@ returns-clause-falls c =
     let q = c.enter-values.new.self in
     let e = c.args.entry in
     let deed = c.enter-values.ensures.deed in
-    falls-on m q c.args.costs.now c.duration-duration.result (system_of s.thread) (piece_of (is.Calling e.call.object e.call.name e.call.actuals) []) (vars_left m.progress) deed.0 (behind (frames_of s)) _ c.start-start.result.ticks
-    c.enter-values.ensures.thread (ap (λ x. started x (kept (frames_of s))) c.requires.piece) c.requires.ticking c.duration-duration.ensures.long deed.1 c.start-start.ensures.ticks
+    falls-on m q c.args.costs.now c.duration-duration.result (system_of s.thread) (piece_of (is.Calling e.call.object e.call.name e.call.actuals) [])
+    (vars_left m.progress) deed.0 (behind (frames_of s)) _ c.start-start.result.ticks
+    c.enter-values.ensures.thread (ap (λ x. started x (kept (frames_of s))) c.requires.piece) c.requires.ticking c.duration-duration.ensures.long
+    deed.1 c.start-start.ensures.ticks
 
 pub returns-clause-inside : goal.returns-clause-inside
 returns-clause-inside c =
@@ -49,4 +52,5 @@ returns-clause-inside c =
     let first = is.Calling e.call.object e.call.name e.call.actuals in
     let act = deeds.Enter e.object e.place c.enter-values.result in
     stays-inside (system_of s.thread) s.thread first (frames_of s) (pieces_left m.progress) (vars_left m.progress) deed.0 (pieces_left q) act
-    (subst (FitsFirst (place_of (first_place s.thread) (frames_of s))) c.requires.piece m.progress.fits) (ap (λ x. started x (kept (frames_of s))) c.requires.piece) deed.1
+    (subst (FitsFirst (place_of (first_place s.thread) (frames_of s))) c.requires.piece m.progress.fits)
+    (ap (λ x. started x (kept (frames_of s))) c.requires.piece) deed.1

@@ -23,7 +23,8 @@ returns-clause-leaves c =
       pieces = pieces_left q;
       first = ap (λ x. started x (kept (frames_of s))) c.requires.piece;
       does = c.leave-values.ensures.deed;
-      after = goes-on m q c.args.costs.now c.duration-duration.result (vars_left q) c.start-start.result.ticks c.start-start.result.works c.leave-values.ensures.thread
+      after = goes-on m q c.args.costs.now c.duration-duration.result (vars_left q) c.start-start.result.ticks c.start-start.result.works
+          c.leave-values.ensures.thread
           c.duration-duration.ensures.next refl c.start-start.ensures.ticks c.start-start.ensures.works;
     }
 
@@ -32,8 +33,10 @@ returns-clause-falls c =
     let m = c.args.self.now in
     let s = m.progress.stack in
     let q = c.leave-values.new.self in
-    falls-on m q c.args.costs.now c.duration-duration.result (system_of s.thread) (piece_of (is.Closing c.args.entry) (put_away (frames_of s))) (vars_left m.progress) (vars_left q) (behind (frames_of s)) _ c.start-start.result.ticks
-    c.leave-values.ensures.thread (ap (λ x. started x (kept (frames_of s))) c.requires.piece) c.requires.ticking c.duration-duration.ensures.long c.leave-values.ensures.deed c.start-start.ensures.ticks
+    falls-on m q c.args.costs.now c.duration-duration.result (system_of s.thread) (piece_of (is.Closing c.args.entry) (put_away (frames_of s)))
+    (vars_left m.progress) (vars_left q) (behind (frames_of s)) _ c.start-start.result.ticks
+    c.leave-values.ensures.thread (ap (λ x. started x (kept (frames_of s))) c.requires.piece) c.requires.ticking c.duration-duration.ensures.long
+    c.leave-values.ensures.deed c.start-start.ensures.ticks
 
 pub returns-clause-inside : goal.returns-clause-inside
 returns-clause-inside c =
@@ -42,5 +45,7 @@ returns-clause-inside c =
     let q = c.leave-values.new.self in
     let e = c.args.entry in
     let act = deeds.Leave e.object e.place c.leave-values.result (vars_of c.leave-values.new.«data».items) in
-    stays-inside (system_of s.thread) s.thread (is.Closing e) (frames_of s) (pieces_left m.progress) (vars_left m.progress) (vars_left q) (pieces_left q) act
-    (subst (FitsFirst (place_of (first_place s.thread) (frames_of s))) c.requires.piece m.progress.fits) (ap (λ x. started x (kept (frames_of s))) c.requires.piece) c.leave-values.ensures.deed
+    stays-inside (system_of s.thread) s.thread (is.Closing e) (frames_of s) (pieces_left m.progress) (vars_left m.progress) (vars_left q)
+    (pieces_left q) act
+    (subst (FitsFirst (place_of (first_place s.thread) (frames_of s))) c.requires.piece m.progress.fits)
+    (ap (λ x. started x (kept (frames_of s))) c.requires.piece) c.leave-values.ensures.deed

@@ -12,7 +12,8 @@ pub invariant_of-result-clause-long : goal.invariant_of-result-clause-long
 invariant_of-result-clause-long c = ap has_nothing c.in_ok-durations.ensures ∙ c.requires.long
 
 pub invariant_of-result-clause-rests : goal.invariant_of-result-clause-rests
-invariant_of-result-clause-rests c = ap (λ (h : Thread). rests_as c.opening_rest.result h.timing) c.in_ok-progress.ensures.thread ∙ c.opening_rest.ensures.fits
+invariant_of-result-clause-rests c = ap (λ (h : Thread). rests_as c.opening_rest.result h.timing) c.in_ok-progress.ensures.thread ∙
+    c.opening_rest.ensures.fits
 
 pub returns : goal.returns
 returns c = record {

@@ -14,12 +14,14 @@ chain-init c =
     let count = c.len.ensures ∙ t.heads.ok.0 in
     chain-first (length heads) (names_in t.vars.items) t.below.items heads c.self.invariant.0 name c.index-at.result.now
     (bucket-within c.len.result c.bucket_of.result name heads count c.bucket_of.ensures.value c.bucket_of.ensures.within)
-    (head-at c.len.result c.bucket_of.result name heads c.index-at.result.now count c.bucket_of.ensures.value c.bucket_of.ensures.within c.index-at.ensures)
+    (head-at c.len.result c.bucket_of.result name heads c.index-at.result.now count c.bucket_of.ensures.value c.bucket_of.ensures.within
+    c.index-at.ensures)
 
 pub returns-then-same-clause-place : goal.returns-then-same-clause-place
 returns-then-same-clause-place c =
     let t = c.self.inside in
-    step-found t.vars.items t.below.items t.heads.items c.args.name.now c.chain.at c.index.result.now c.chain.invariant c.chain-test.true c.index.ensures c.self.invariant.0 (c.same.ensures.0 c.if-same.true)
+    step-found t.vars.items t.below.items t.heads.items c.args.name.now c.chain.at c.index.result.now c.chain.invariant c.chain-test.true
+    c.index.ensures c.self.invariant.0 (c.same.ensures.0 c.if-same.true)
     ∙ ap (λ v. up_to_last (same_name c.args.name.now) (names_in v.items)) c.self.view_is
 
 pub returns-then-same-clause-within : goal.returns-then-same-clause-within
@@ -32,11 +34,13 @@ returns-then-same-clause-within c =
 pub chain-smaller : goal.chain-smaller
 chain-smaller c =
     let t = c.self.inside in
-    (step-on t.vars.items t.below.items t.heads.items c.args.name.now c.chain.at c.index.result.now c.chain.invariant c.chain-test.true c.index.ensures c.index-at-in-chain.result.now c.self.invariant.0
+    (step-on t.vars.items t.below.items t.heads.items c.args.name.now c.chain.at c.index.result.now c.chain.invariant c.chain-test.true
+    c.index.ensures c.index-at-in-chain.result.now c.self.invariant.0
     (λ e. absurd (cc (c.same.ensures.1 e, c.if-same.false))) c.index-at-in-chain.ensures).1
 
 pub chain-preserved : goal.chain-preserved
 chain-preserved c =
     let t = c.self.inside in
-    (step-on t.vars.items t.below.items t.heads.items c.args.name.now c.chain.at c.index.result.now c.chain.invariant c.chain-test.true c.index.ensures c.index-at-in-chain.result.now c.self.invariant.0
+    (step-on t.vars.items t.below.items t.heads.items c.args.name.now c.chain.at c.index.result.now c.chain.invariant c.chain-test.true
+    c.index.ensures c.index-at-in-chain.result.now c.self.invariant.0
     (λ e. absurd (cc (c.same.ensures.1 e, c.if-same.false))) c.index-at-in-chain.ensures).0

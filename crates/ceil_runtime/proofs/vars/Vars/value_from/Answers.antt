@@ -17,4 +17,5 @@ returns-then-at-floor c =
     ∙ ap (λ v. found c.args.name.now (vars_of (drop c.args.floor v.items))) c.self.view_is
 
 pub returns-else-at-floor : goal.returns-else-at-floor
-returns-else-at-floor c = sym (found-out c.args.name.now c.args.self.now.items c.args.floor c.find-at.result c.find-at.ensures.place (omega (arith, c.if-at-floor.false)))
+returns-else-at-floor c = sym (found-out c.args.name.now c.args.self.now.items c.args.floor c.find-at.result c.find-at.ensures.place
+    (omega (arith, c.if-at-floor.false)))

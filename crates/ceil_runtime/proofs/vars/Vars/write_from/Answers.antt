@@ -17,7 +17,8 @@ invariant_of-self c =
     let was = c.index_mut.result.now in
     let w : Var = record { name = was.name; value = c.args.value } in (
       subst (λ ns. IsTable (length t.heads.items) ns t.below.items t.heads.items)
-          (sym (map-set_same (λ (x : Var). x.name.now) t.vars.items (c.find-at.result - 1) w was (ap (λ (x : Var). x.name.now) c.index_mut.ensures.value))) c.self.invariant.0,
+          (sym (map-set_same (λ (x : Var). x.name.now) t.vars.items (c.find-at.result - 1) w was
+          (ap (λ (x : Var). x.name.now) c.index_mut.ensures.value))) c.self.invariant.0,
       c.self.invariant.1,
     )
 
@@ -28,9 +29,11 @@ returns-then-at-floor-clause-vars c =
     let was = c.index_mut.result.now in
     let w : Var = record { name = was.name; value = c.args.value } in
     let is = c.find-at.ensures.place ∙ sym (ap (λ v. up_to_last (same_name name) (names_in v.items)) c.self.view_is) in
-    write-from name t.vars.items c.args.floor c.find-at.result is c.args.value was w c.if-at-floor.true refl (ap (λ (x : Var). x.name.now) c.index_mut.ensures.value)
+    write-from name t.vars.items c.args.floor c.find-at.result is c.args.value was w c.if-at-floor.true refl
+    (ap (λ (x : Var). x.name.now) c.index_mut.ensures.value)
     ∙ ap (λ v. write name c.args.value (vars_of (drop c.args.floor v.items))) c.self.view_is
 
 pub returns-else-at-floor-clause-vars : goal.returns-else-at-floor-clause-vars
 returns-else-at-floor-clause-vars c =
-    sym (write-out c.args.name.now c.args.self.now.items c.args.floor c.find-at.result c.find-at.ensures.place c.args.value (omega (arith, c.if-at-floor.false)))
+    sym (write-out c.args.name.now c.args.self.now.items c.args.floor c.find-at.result c.find-at.ensures.place c.args.value
+    (omega (arith, c.if-at-floor.false)))

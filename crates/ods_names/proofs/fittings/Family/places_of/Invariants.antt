@@ -6,7 +6,8 @@ use Rattle.ods_names.proofs.fittings.Family.places_of.Given as goal
 
 -- the places of the children from this one on
 abbrev pub invariant-children : goal.invariant-children
-invariant-children l = (l.place ≤ length l.children) × ((n : Name) → place_in l.places n ≡ place_from l.place n (map (λ c. (object_of c).name) (drop l.place l.children)))
+invariant-children l = (l.place ≤ length l.children)
+    × ((n : Name) → place_in l.places n ≡ place_from l.place n (map (λ c. (object_of c).name) (drop l.place l.children)))
 
 -- the children that are left
 abbrev pub decreases-children : goal.decreases-children

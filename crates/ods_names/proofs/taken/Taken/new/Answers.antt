@@ -7,7 +7,8 @@ use Rattle.ods_names.proofs.taken.Taken.new.Goals as goal
 pub returns : goal.returns
 unfolding requests_in
 returns c = record {
-  requested_in = λ p n. c.in_ok-requests.ensures p n ∙ ap (λ xs. has_request 0 xs p n) c.as_slice.ensures.value ∙ request_in c.args.index.now.objects.items p n;
+  requested_in = λ p n. c.in_ok-requests.ensures p n ∙ ap (λ xs. has_request 0 xs p n) c.as_slice.ensures.value ∙ request_in
+      c.args.index.now.objects.items p n;
   all_in = λ n. c.new.ensures n;
   objects_in = λ n. c.new-2.ensures n;
   members_in = λ p n. c.new-3.ensures p 0 [] n;

@@ -1,8 +1,7 @@
 -- The reader of programs within its limits: what it reads is a text, and where it stops is the fault of the tokens.
 use Rattle.std.specs.Prelude.{IfOk}
-use Rattle.std.proofs.Common.{◌≡◌, ℕ, ◌-◌, ◌<◌, ◌≤◌, nat_le, true, codes, List, [], ◌++◌, length, take, Option, Result, Ok, Err, subst}
-use Rattle.std.proofs.Common.{append-nil, refl, sym, ap, ◌∙◌, arith, length-append}
-use Rattle.std.proofs.Math.Seq.{take-length}
+use Rattle.std.proofs.Common.{◌≡◌, ℕ, ◌-◌, ◌<◌, ◌≤◌, nat_le, true, codes, List, length, Option, Result, Ok, Err, subst}
+use Rattle.std.proofs.Common.{refl, sym, ap, ◌∙◌, arith, length-append}
 use Rattle.std.proofs.lemmas.List.{length-map}
 use Rattle.grammar.specs.Reading.{Halt, Syntax, TooDeep, left_of, Reads, Widens, whole_at}
 use Rattle.grammar.proofs.Laws.{reads-same}
@@ -10,10 +9,8 @@ use Rattle.grammar.proofs.Whole.{whole-found, whole-only, whole-fault}
 use Rattle.seq_tree.specs.Reach.{IsSyntaxFault, IsDepthFault}
 use Rattle.seq_tree.specs.Reach as reach
 use Rattle.seq_tree.specs.Names.{Name}
-use Rattle.seq_tree.specs.Lexis.{tokens, plain, Misread, Stray, Great}
-use Rattle.seq_tree.specs.Lexis as lexis
+use Rattle.seq_tree.specs.Lexis.{tokens, plain}
 use Rattle.seq_tree.specs.declared.text_fault.TextFault.{TextFault}
-use Rattle.seq_tree.specs.declared.text_fault.TextFault.TheVariants as text
 use Rattle.seq_tree.specs.declared.token.Token.{Token}
 use Rattle.seq_tree.specs.declared.token.Spanned.{Spanned}
 use Rattle.seq_tree.specs.declared.token.Place.{Place}

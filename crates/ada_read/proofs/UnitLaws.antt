@@ -3,7 +3,7 @@ use Rattle.std.proofs.Common.{◌≡◌, ℕ, suc, Bool, true, List, [], ◌∷�
 use Rattle.seq_tree.specs.Lists.{Each}
 use Rattle.grammar.specs.Reading.{AreEach}
 use Rattle.seq_tree.specs.Names.{Name}
-use Rattle.seq_tree.specs.Operations.{Signature, Operation}
+use Rattle.seq_tree.specs.Operations.{Operation}
 use Rattle.seq_tree.specs.Spelling.{Line, line, joined, block_lines, block_tokens}
 use Rattle.seq_tree.specs.declared.tree.Datum.{Datum}
 use Rattle.seq_tree.specs.declared.token.Token.{Token}

@@ -1,15 +1,11 @@
 -- What the reader of an Ada text answers, by cases. A place is the line and the column of a token, or of the end of the text.
 -- Lexical faults come before those of syntax and depth, and these before the rules of a program.
-use Rattle.std.specs.Prelude.{◌≡◌, ℕ, ◌-◌, ◌<◌, ◌≤◌, List, length, Option, Result, Ok, Err, ⊤}
+use Rattle.std.specs.Prelude.{◌≡◌, ℕ, List, Option, Result, Ok, Err, ⊤}
 use Rattle.seq_tree.specs.Names.{Name}
-use Rattle.seq_tree.specs.Reach.{Fault, IsFault}
-use Rattle.seq_tree.specs.Reach as reach
+use Rattle.seq_tree.specs.Reach.{Fault}
 use Rattle.seq_tree.specs.Proper.{within_limits, without_limits}
-use Rattle.seq_tree.specs.Lexis.{tokens, Misread, Stray, Great}
-use Rattle.seq_tree.specs.Lexis as lexis
 use Rattle.seq_tree.specs.declared.token.Token.{Token}
 use Rattle.seq_tree.specs.declared.token.Place.{Place}
-use Rattle.seq_tree.specs.declared.token.Spanned.{Spanned}
 use Rattle.seq_tree.specs.declared.text_fault.TextFault.{TextFault}
 use Rattle.seq_tree.specs.declared.text_fault.TextFault.TheVariants as fault
 use Rattle.ada_tree.specs.Programs.{Program}
@@ -22,7 +18,6 @@ use Rattle.ada_tree.specs.declared.program.AdaProgram.{AdaProgram}
 use Rattle.ada_rules.specs.Verdicts as verdicts
 use Rattle.ada_rules.specs.declared.verdict.AdaRule.{AdaRule}
 use Rattle.ada_rules.specs.declared.verdict.RuleBreak.TheVariants as told
-use Rattle.token_read.specs.Words.{bare}
 use Rattle.token_read.specs.declared.fault.LexFault.{LexFault}
 use Rattle.token_read.specs.declared.fault.LexFault.TheVariants as lex
 use Rattle.seq_read.specs.TextFaults as texts

@@ -1,4 +1,4 @@
-ghost use Rattle.std.specs.Prelude.{◌≡◌, map};
+ghost use Rattle.std.specs.Prelude.{map};
 ghost use Rattle.seq_tree.specs.Trees.{block_of, operation_of, signature_of};
 ghost use Rattle.ada_tree.specs.Trees.{form_of, unit_of};
 ghost use Rattle.token_read.specs.Ahead.{ahead};

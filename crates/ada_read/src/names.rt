@@ -1,4 +1,3 @@
-ghost use Rattle.std.specs.Prelude.{◌≡◌};
 ghost use Rattle.ada_tree.specs.Words.{is_ada_name};
 ghost use Rattle.token_read.specs.Ahead.{ahead};
 ghost use Rattle.token_read.specs.Readers.{name_at};

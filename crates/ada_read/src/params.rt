@@ -1,4 +1,4 @@
-ghost use Rattle.std.specs.Prelude.{◌≡◌, map};
+ghost use Rattle.std.specs.Prelude.{map};
 ghost use Rattle.seq_tree.specs.Trees.{signature_of};
 ghost use Rattle.ada_tree.specs.Words.{is_ada_name};
 ghost use Rattle.token_read.specs.Ahead.{ahead};

@@ -1,4 +1,4 @@
-ghost use Rattle.std.specs.Prelude.{◌≡◌, map};
+ghost use Rattle.std.specs.Prelude.{map};
 ghost use Rattle.grammar.specs.Reading.{whole_at};
 ghost use Rattle.ada_tree.specs.Trees.{program_of, unit_of};
 ghost use Rattle.token_read.specs.Ahead.{ahead};

@@ -1,4 +1,4 @@
-ghost use Rattle.std.specs.Prelude.{◌≡◌, ◌∷◌, [], map};
+ghost use Rattle.std.specs.Prelude.{◌∷◌, []};
 ghost use Rattle.seq_tree.specs.Trees.{signature_of};
 ghost use Rattle.seq_tree.specs.declared.token.Token.TheVariants.{Word, Sign};
 ghost use Rattle.seq_tree.specs.declared.token.Mark.TheVariants.{Semicolon};

@@ -1,4 +1,4 @@
-ghost use Rattle.std.specs.Prelude.{◌≡◌, ◌∷◌, []};
+ghost use Rattle.std.specs.Prelude.{◌∷◌, []};
 ghost use Rattle.grammar.specs.Reading.{choose_at};
 ghost use Rattle.seq_tree.specs.Trees.{signature_of};
 ghost use Rattle.seq_tree.specs.declared.token.Token.TheVariants.{Sign};

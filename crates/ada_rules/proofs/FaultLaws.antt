@@ -1,13 +1,9 @@
 -- The faults of bodies, in the scopes that the code makes.
-use Rattle.std.proofs.Common.{◌≡◌, ℕ, ◌<◌, ◌≤◌, true, false, if◌then◌else◌, Bool, List, [], ◌∷◌, ◌++◌, map, filter, flat_map, length, Option}
-use Rattle.std.proofs.Common.{Some, None, slice_get, refl, sym, ap, subst, ◌+◌, ◌∙◌, append_assoc}
+use Rattle.std.proofs.Common.{◌≡◌, ℕ, ◌<◌, List, [], ◌∷◌, map, flat_map, length, Option, Some, None, slice_get, refl, sym, ap, subst, ◌+◌, ◌∙◌}
 use Rattle.std.proofs.Math.ListN.{get_or}
-use Rattle.seq_tree.specs.Operations.{Offer, out_names}
+use Rattle.seq_tree.specs.Operations.{Offer}
 use Rattle.seq_tree.specs.Faults as faults
 use Rattle.seq_tree.specs.Faults.{or_else, block_fault}
-use Rattle.seq_tree.specs.declared.tree.Param.{Param}
-use Rattle.seq_tree.specs.declared.tree.Mode.{Mode}
-use Rattle.seq_tree.specs.declared.tree.Mode.TheVariants.{In, Out}
 use Rattle.ada_tree.specs.Programs.{Form, Unit, Program}
 use Rattle.ada_tree.specs.Bodies.{Body, bodies, data_of, offers, scope, bodies_fault, unit_fault}
 use Rattle.ada_tree.specs.Trees.{form_of, program_of, unit_of}

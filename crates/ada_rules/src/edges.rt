@@ -1,6 +1,6 @@
 ghost use Rattle.std.specs.Prelude.{◌≡◌, ◌++◌, IfOk, OnOk, flat_map, map};
 ghost use Rattle.seq_tree.specs.Calls.{block_calls};
-ghost use Rattle.seq_tree.specs.Trees.{block_of, operation_of};
+ghost use Rattle.seq_tree.specs.Trees.{operation_of};
 ghost use Rattle.ada_tree.specs.Trees.{form_of, unit_of};
 ghost use Rattle.ada_tree.specs.Uses.{passive_ops};
 ghost use Rattle.ada_rules.specs.Edges.{edge_of, op_edges, unit_edges};

@@ -1,4 +1,4 @@
-ghost use Rattle.std.specs.Prelude.{◌≡◌, ◌||◌, true, None, IfOk, map};
+ghost use Rattle.std.specs.Prelude.{◌≡◌, true, None, IfOk, map};
 ghost use Rattle.ada_tree.specs.Naming.{breaks_naming};
 ghost use Rattle.ada_tree.specs.Trees.{program_of, unit_of};
 ghost use Rattle.ada_tree.specs.Uses.{BreaksRings};

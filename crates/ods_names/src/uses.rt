@@ -5,7 +5,6 @@ ghost use Rattle.name_sets.specs.Sets.{has};
 ghost use Rattle.ods_tree.specs.Trees.{design_of, provided_of, tree_of};
 ghost use Rattle.ods_tree.specs.Walk.{standings};
 ghost use Rattle.ods_tree.specs.declared.design.Node.{out-Node};
-ghost use Rattle.design_rules.specs.Lookups.{operation_named};
 ghost use Rattle.design_rules.specs.Uses.{absent, forbidden, is_forbidden, is_there, may_call, strangers};
 ghost use Rattle.ods_index.specs.Indexing.{IsIndex};
 ghost use Rattle.ods_index.specs.Judging.{Tells, head_of};

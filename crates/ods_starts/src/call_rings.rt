@@ -1,4 +1,4 @@
-ghost use Rattle.std.specs.Prelude.{◌≡◌, ◌<◌, IfOk, map, option_map, slice_get};
+ghost use Rattle.std.specs.Prelude.{◌<◌, IfOk, map, option_map, slice_get};
 ghost use Rattle.ods_tree.specs.Trees.{design_of};
 ghost use Rattle.design_rules.specs.Broken.{V09Calls};
 ghost use Rattle.design_rules.specs.Rules.{CallRing, RingedOp};

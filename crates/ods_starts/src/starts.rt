@@ -1,4 +1,4 @@
-ghost use Rattle.std.specs.Prelude.{◌≡◌, ◌≤◌, ◌∷◌, ◌++◌, [], ℕ, Bool, IfOk, OnOk, drop, filter, flat_map, if◌then◌else◌, length, map};
+ghost use Rattle.std.specs.Prelude.{◌≡◌, ◌≤◌, ◌∷◌, ◌++◌, [], Bool, IfOk, OnOk, drop, filter, flat_map, if◌then◌else◌, length, map};
 ghost use Rattle.std.specs.Prelude.{option_map, option_to_list, unwrap_or};
 ghost use Rattle.std.specs.List.{list_any};
 ghost use Rattle.seq_tree.specs.Calls.{block_calls, same_op};

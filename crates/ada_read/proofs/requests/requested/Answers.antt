@@ -1,4 +1,4 @@
-use Rattle.std.proofs.Common.{◌≡◌, List, subst}
+use Rattle.std.proofs.Common.{List, subst}
 use Rattle.seq_tree.specs.declared.tree.Param.{Param}
 use Rattle.ada_tree.specs.Spelling.{request_token}
 use Rattle.token_read.specs.Ahead.{ahead}

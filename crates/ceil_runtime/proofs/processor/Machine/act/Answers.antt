@@ -9,7 +9,6 @@ use Rattle.ceil_runtime.specs.Processing.{system_by}
 use Rattle.ceil_runtime.specs.Works.{kept_value, opened_now, task_of}
 use Rattle.ceil_runtime.specs.Written.{system_of}
 use Rattle.ceil_runtime.specs.declared.effects.Deed.TheVariants.{Own}
-use Rattle.ceil_runtime.specs.declared.processor.Phase.TheVariants.{Effects}
 use Rattle.ceil_runtime.specs.declared.effects.Act.TheVariants.{Silent, Print}
 use Rattle.ceil_runtime.specs.declared.processor.Told.TheVariants.{Nothing, One}
 use Rattle.trace_tree.specs.declared.event.Event.TheVariants as event

@@ -7,7 +7,6 @@ use Rattle.ceil_runtime.specs.Acted.{with_tasks}
 use Rattle.ceil_runtime.specs.Readies.{readiness_of}
 use Rattle.ceil_runtime.specs.Shown.{stores_of}
 use Rattle.ceil_runtime.specs.declared.effects.Act.TheVariants.{Finish}
-use Rattle.ceil_runtime.specs.declared.processor.Machine.{Machine}
 use Rattle.ceil_runtime.proofs.ActedLaws.{acted-found, acted-set, acted-within}
 use Rattle.ceil_runtime.proofs.Effected.{ended-rests, finish-sound, running-free, wait-sound, waits-now}
 use Rattle.ceil_runtime.proofs.Processed.{Changed}

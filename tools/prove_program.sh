@@ -34,7 +34,7 @@ begun=$top/out/proof.begun
 : >"$begun" && : >"$log" || exit 125
 cd "$crate" || exit 125
 echo "proving and building the program, from $(date)" >>"$log"
-rt run -- replay data/countdown.ada data/until_60.arrivals </dev/null >"$top/out/proof.example" 2>>"$log"
+rt run -- sample 1 </dev/null >"$top/out/proof.example" 2>>"$log"
 status=$?
 # The example ends with status 0 and this text, and rt with another status where it proves or builds nothing.
 if [ "$status" -eq 0 ] && cmp -s "$top/out/proof.example" stdout; then

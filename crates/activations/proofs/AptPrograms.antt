@@ -44,7 +44,8 @@ module _ (p : Program) (a : Arrivals) (meets : MeetsRules p) where
   leads_by unit op k r (One_request i u task th at named stands unit_at asked) = refl
 
   -- a call that is offered leads somewhere
-  known_by : (unit op : Name) (k : CallTarget) (r : runs.Callee) → Resolved p y unit op k r → (o : Offer) → find (is_offer unit op) (offers p) ≡ Some o → IsKnown k
+  known_by : (unit op : Name) (k : CallTarget) (r : runs.Callee) → Resolved p y unit op k r → (o : Offer)
+      → find (is_offer unit op) (offers p) ≡ Some o → IsKnown k
   known_by unit op k r (No_one none) o e = absurd (none-some o (sym none ∙ e))
   known_by unit op k r (One_plain i u ops j q at form op_at' named op_named) o e = tt
   known_by unit op k r (One_protected i u ceiling vars ops object j g q at form op_at' named op_named stands unit_at) o e = tt
@@ -54,28 +55,35 @@ module _ (p : Program) (a : Arrivals) (meets : MeetsRules p) where
   known unit op o e = known_by unit op (callee y unit op) (leads_to (program_software p) unit op) (resolved unit op) o e
 
   -- the bodies of operations
-  op_fits : (i : ℕ) (u : Unit) (f : Form) (ops : List Operation) (j : ℕ) (o : Operation) → slice_get p.units i ≡ Some u → u.form ≡ f → bodies f ≡ map op_body ops → slice_get ops j ≡ Some o
+  op_fits : (i : ℕ) (u : Unit) (f : Form) (ops : List Operation) (j : ℕ) (o : Operation) → slice_get p.units i ≡ Some u → u.form ≡ f
+      → bodies f ≡ map op_body ops → slice_get ops j ≡ Some o
       → FitBlock (Leads y) false o.block
   op_fits i u f ops j o at form are op_at' =
-      body_fits p meets (Leads y) known i u j (op_body o) at (ap (λ f. slice_get (bodies f) j) form ∙ ap (λ bs. slice_get bs j) are ∙ slice_get-map op_body ops j ∙ ap (option_map op_body) op_at')
+      body_fits p meets (Leads y) known i u j (op_body o) at (ap (λ f. slice_get (bodies f) j) form ∙ ap
+      (λ bs. slice_get bs j) are ∙ slice_get-map op_body ops j ∙ ap (option_map op_body) op_at')
 
   closed_by : (unit op : Name) (k : CallTarget) (r : runs.Callee) → Resolved p y unit op k r → IsKnown k → IsFitCallee (Leads y) k
   closed_by unit op k r (No_one none) e = e
   closed_by unit op k r (One_plain i u ops j o at form op_at' named op_named) e = op_fits i u (Passive ops) ops j o at form refl op_at'
-  closed_by unit op k r (One_protected i u ceiling vars ops object j g o at form op_at' named op_named stands unit_at) e = op_fits i u (Shared ceiling vars ops) ops j o at form refl op_at'
+  closed_by unit op k r (One_protected i u ceiling vars ops object j g o at form op_at' named op_named stands unit_at) e
+      = op_fits i u (Shared ceiling vars ops) ops j o at form refl op_at'
   closed_by unit op k r (One_request i u task th at named stands unit_at asked) e = tt
 
   -- names
-  op_name_at : (i : ℕ) (u : Unit) (ceiling : ℕ) (vars : List Datum) (ops : List Operation) (j : ℕ) (o : Operation) → slice_get p.units i ≡ Some u → u.form ≡ Shared ceiling vars ops → slice_get ops j ≡ Some o
+  op_name_at : (i : ℕ) (u : Unit) (ceiling : ℕ) (vars : List Datum) (ops : List Operation) (j : ℕ) (o : Operation) → slice_get p.units i ≡ Some u
+      → u.form ≡ Shared ceiling vars ops → slice_get ops j ≡ Some o
       → unwrap_or (option_map (λ s. s.name) (slice_get (unit_ops p i) j)) [] ≡ o.sig.name
   op_name_at i u ceiling vars ops j o at form op_at' =
       ap (λ hs. unwrap_or (option_map (λ (s : Signature). s.name) (slice_get hs j)) []) (unit_ops-at p i u at ∙ ap heads form)
       ∙ ap (λ s. unwrap_or (option_map (λ (s : Signature). s.name) s) []) (slice_get-map (λ o. o.sig) ops j ∙ ap (option_map (λ o. o.sig)) op_at')
 
-  same_names : (object object' op op' : Name) → object ≡ object' → op ≡ op' → (let n : OpName = record { object = object; op = op } in n) ≡ record { object = object'; op = op' }
-  same_names object object' op op' e f = ap (λ x. let n : OpName = record { object = x; op = op } in n) e ∙ ap (λ x. record { object = object'; op = x }) f
+  same_names : (object object' op op' : Name) → object ≡ object' → op ≡ op' → (let n : OpName = record { object = object; op = op } in n)
+      ≡ record { object = object'; op = op' }
+  same_names object object' op op' e f = ap (λ x. let n : OpName = record { object = x; op = op }
+      in n) e ∙ ap (λ x. record { object = object'; op = x }) f
 
-  entries_by : (unit op : Name) (k : CallTarget) (r : runs.Callee) → Resolved p y unit op k r → (object j : ℕ) (g : ProtectedUnit) (o : Operation) → k ≡ Protected object j g o
+  entries_by : (unit op : Name) (k : CallTarget) (r : runs.Callee) → Resolved p y unit op k r → (object j : ℕ) (g : ProtectedUnit) (o : Operation)
+      → k ≡ Protected object j g o
       → entry_name p y object j ≡ record { object = unit; op = op }
   entries_by unit op k r (No_one none) object j g o e = absurd cc
   entries_by unit op k r (One_plain i u ops j' o' at form op_at' named op_named) object j g o e = absurd cc
@@ -88,7 +96,8 @@ module _ (p : Program) (a : Arrivals) (meets : MeetsRules p) where
       ∙ ap (λ n. op_at p n j') unit_is
       ∙ same_names (unit_name p i) unit _ op (name-at p i u at ∙ named) (op_name_at i u ceiling vars ops j' o' at form op_at' ∙ op_named)
 
-  requests_by : (unit op : Name) (k : CallTarget) (r : runs.Callee) → Resolved p y unit op k r → (task : ℕ) → k ≡ Request task → request_name p y task ≡ record { object = unit; op = op }
+  requests_by : (unit op : Name) (k : CallTarget) (r : runs.Callee) → Resolved p y unit op k r → (task : ℕ) → k ≡ Request task
+      → request_name p y task ≡ record { object = unit; op = op }
   requests_by unit op k r (No_one none) task e = absurd cc
   requests_by unit op k r (One_plain i u ops j' o' at form op_at' named op_named) task e = absurd cc
   requests_by unit op k r (One_protected i u ceiling vars ops object j g o at form op_at' named op_named stands unit_at) task e = absurd cc
@@ -96,18 +105,21 @@ module _ (p : Program) (a : Arrivals) (meets : MeetsRules p) where
       let same : task' ≡ task = cc in
       let unit_is : task_unit y task' ≡ i = ap (λ x. unwrap_or (option_map (λ (t : TaskUnit). t.unit) x) 0) stands ∙ unit_at in
       let op_is : asked_op y task' ≡ op = ap (λ x. unwrap_or (option_map (λ (t : TaskUnit). asked_by t.timing) x) []) stands ∙ asked in
-      ap (request_name p y) (sym same) ∙ same_names (unit_name p (task_unit y task')) unit (asked_op y task') op (ap (unit_name p) unit_is ∙ name-at p i u at ∙ named) op_is
+      ap (request_name p y) (sym same) ∙ same_names (unit_name p (task_unit y task')) unit (asked_op y task') op
+      (ap (unit_name p) unit_is ∙ name-at p i u at ∙ named) op_is
 
   -- the setting is apt
   pub apt : IsApt (course p a)
   apt = record {
     leads = λ unit op. leads_by unit op (callee y unit op) (leads_to (program_software p) unit op) (resolved unit op);
-    entries = λ unit op object k g o e. entries_by unit op (callee y unit op) (leads_to (program_software p) unit op) (resolved unit op) object k g o e;
+    entries = λ unit op object k g o e. entries_by unit op (callee y unit op) (leads_to (program_software p) unit op) (resolved unit
+        op) object k g o e;
     requests = λ unit op task e. requests_by unit op (callee y unit op) (leads_to (program_software p) unit op) (resolved unit op) task e;
     closed = λ unit op good. closed_by unit op (callee y unit op) (leads_to (program_software p) unit op) (resolved unit op) good;
     depth = λ unit op good. (_, passive-deep p a meets (record { object = unit; op = op }));
   }
 
   -- the bodies of its units are fit
-  pub fit_body : (i : ℕ) (u : Unit) (j : ℕ) (b : Body) → slice_get p.units i ≡ Some u → slice_get (bodies u.form) j ≡ Some b → FitBlock (Leads y) false b.block
+  pub fit_body : (i : ℕ) (u : Unit) (j : ℕ) (b : Body) → slice_get p.units i ≡ Some u → slice_get (bodies u.form) j ≡ Some b
+      → FitBlock (Leads y) false b.block
   fit_body i u j b at at_body = body_fits p meets (Leads y) known i u j b at at_body

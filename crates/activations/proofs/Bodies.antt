@@ -3,12 +3,14 @@ use Rattle.std.specs.Prelude.{◌≡◌, ℕ, zero, suc, ◌≤◌, max, Bool, t
 use Rattle.std.proofs.Common.{arith}
 use Rattle.seq_tree.specs.Names.{Name}
 use Rattle.seq_tree.specs.Expressions.{Expression}
-use Rattle.seq_tree.specs.Statements.{Statement, Statements, Branches, Null, Assign, If, For, ExitWhen, Call, Work, Put, End, Then, Nothing, Else, When}
+use Rattle.seq_tree.specs.Statements.{Statement, Statements, Branches, Null, Assign, If, For, ExitWhen, Call, Work, Put, End, Then, Nothing}
+use Rattle.seq_tree.specs.Statements.{Else, When}
 use Rattle.seq_tree.specs.Operations.{Operation}
 use Rattle.seq_tree.specs.Variables.{Variables}
 use Rattle.seq_tree.specs.Values.{holds}
 use Rattle.seq_tree.specs.Dearest.{turn_count}
-use Rattle.seq_tree.specs.Runs.{Path, Setting, Callee, Plain, Protected, Asked, Unknown, turned, Followed, Turns, Called, Chosen, RunStatement, RunBlock, RunBranch, RunBody, Run}
+use Rattle.seq_tree.specs.Runs.{Path, Setting, Callee, Plain, Protected, Asked, Unknown, turned, Followed, Turns, Called, Chosen, RunStatement}
+use Rattle.seq_tree.specs.Runs.{RunBlock, RunBranch, RunBody, Run}
 use Rattle.seq_tree.specs.declared.tree.Costs.{Costs}
 use Rattle.seq_tree.specs.declared.tree.OpName.{OpName}
 use Rattle.activations.proofs.Courses.{AnyBody}
@@ -20,7 +22,8 @@ Bodies = Operation → Variables → Path → Type 0
 abbrev pub with_bodies : Costs → (Name → Name → Callee) → Bodies → Setting
 with_bodies costs calls Body = record { costs = costs; callee = calls; Body = Body }
 
-followed-map : (b : Bool) (first : Path) (Next Next' : Path → Type 0) (p : Path) → ((q : Path) → Next q → Next' q) → Followed b first Next p → Followed b first Next' p
+followed-map : (b : Bool) (first : Path) (Next Next' : Path → Type 0) (p : Path) → ((q : Path) → Next q → Next' q) → Followed b first Next p
+    → Followed b first Next' p
 followed-map true first Next Next' p f h = h
 followed-map false first Next Next' p f h = (h.0, f h.0 h.1, h.2)
 
@@ -30,13 +33,15 @@ turns-map zero at turn name Body Body' vars p f h = h
 turns-map (suc n) at turn name Body Body' vars p f h =
     (h.0, f _ h.0 h.1, followed-map h.0.left (turned turn h.0) _ _ p (λ q. turns-map n (suc at) turn name Body Body' (drop 1 h.0.vars) q f) h.2)
 
-chosen-map : (b : Bool) (First First' Second Second' : Path → Type 0) (p : Path) → ((q : Path) → First q → First' q) → ((q : Path) → Second q → Second' q)
+chosen-map : (b : Bool) (First First' Second Second' : Path → Type 0) (p : Path) → ((q : Path) → First q → First' q)
+    → ((q : Path) → Second q → Second' q)
     → Chosen b First Second p → Chosen b First' Second' p
 chosen-map true First First' Second Second' p f g h = f p h
 chosen-map false First First' Second Second' p f g h = g p h
 
 -- more ways through bodies, more ways
-module _ (costs : Costs) (calls : Name → Name → Callee) (Fewer More : Bodies) (grows : (o : Operation) (vars : Variables) (p : Path) → Fewer o vars p → More o vars p) where
+module _ (costs : Costs) (calls : Name → Name → Callee) (Fewer More : Bodies) (grows : (o : Operation) (vars : Variables) (p : Path) → Fewer o vars p
+    → More o vars p) where
   grow_call : (name : OpName) (c : Callee) (actuals : List Expression) (vars : Variables) (p : Path)
       → Called (with_bodies costs calls Fewer) name c actuals vars p → Called (with_bodies costs calls More) name c actuals vars p
   grow_call name (Plain o) actuals vars p h = (h.0, grows o _ h.0 h.1, h.2)
@@ -45,7 +50,8 @@ module _ (costs : Costs) (calls : Name → Name → Callee) (Fewer More : Bodies
   grow_call name Unknown actuals vars p h = h
 
   mutual
-    grow_statement : (s : Statement) (vars : Variables) (p : Path) → RunStatement (with_bodies costs calls Fewer) s vars p → RunStatement (with_bodies costs calls More) s vars p
+    grow_statement : (s : Statement) (vars : Variables) (p : Path) → RunStatement (with_bodies costs calls Fewer) s vars p
+        → RunStatement (with_bodies costs calls More) s vars p
     grow_statement Null vars p h = h
     grow_statement (Assign target e) vars p h = h
     grow_statement (If branches) vars p h = grow_branches branches vars p h
@@ -56,19 +62,22 @@ module _ (costs : Costs) (calls : Name → Name → Callee) (Fewer More : Bodies
     grow_statement (Work ticks) vars p h = h
     grow_statement (Put e) vars p h = h
 
-    pub grow_block : (b : Statements) (vars : Variables) (p : Path) → RunBlock (with_bodies costs calls Fewer) b vars p → RunBlock (with_bodies costs calls More) b vars p
+    pub grow_block : (b : Statements) (vars : Variables) (p : Path) → RunBlock (with_bodies costs calls Fewer) b vars p
+        → RunBlock (with_bodies costs calls More) b vars p
     grow_block End vars p h = h
     grow_block (Then first rest) vars p h =
         (h.0, grow_statement first vars h.0 h.1, followed-map h.0.left h.0 _ _ p (λ q. grow_block rest h.0.vars q) h.2)
 
-    grow_branches : (b : Branches) (vars : Variables) (p : Path) → RunBranch (with_bodies costs calls Fewer) b vars p → RunBranch (with_bodies costs calls More) b vars p
+    grow_branches : (b : Branches) (vars : Variables) (p : Path) → RunBranch (with_bodies costs calls Fewer) b vars p
+        → RunBranch (with_bodies costs calls More) b vars p
     grow_branches Nothing vars p h = h
     grow_branches (Else block) vars p h = grow_block block vars p h
     grow_branches (When condition block others) vars p h =
         (h.0, chosen-map (holds condition vars) _ _ _ _ h.0 (λ q. grow_block block vars q) (λ q. grow_branches others vars q) h.1, h.2)
 
 -- deeper calls
-pub body_deeper : (costs : Costs) (calls : Name → Name → Callee) (n m : ℕ) → n ≤ m → (o : Operation) (vars : Variables) (p : Path) → RunBody costs calls n o vars p → RunBody costs calls m o vars p
+pub body_deeper : (costs : Costs) (calls : Name → Name → Callee) (n m : ℕ) → n ≤ m → (o : Operation) (vars : Variables) (p : Path)
+    → RunBody costs calls n o vars p → RunBody costs calls m o vars p
 body_deeper costs calls zero m le o vars p h = absurd h
 body_deeper costs calls (suc n) zero le o vars p h = absurd (omega (arith, le))
 body_deeper costs calls (suc n) (suc m) le o vars p h =
@@ -95,7 +104,8 @@ some_followed true first Next At p f h = (0, h)
 some_followed false first Next At p f h = let more = f h.0 h.1 in (more.0, (h.0, more.1, h.2))
 
 some_chosen : (b : Bool) (First : Path → Type 0) (First' : ℕ → Path → Type 0) (Second : Path → Type 0) (Second' : ℕ → Path → Type 0) (p : Path)
-    → ((q : Path) → First q → (n : ℕ) × First' n q) → ((q : Path) → Second q → (n : ℕ) × Second' n q) → Chosen b First Second p → (n : ℕ) × Chosen b (First' n) (Second' n) p
+    → ((q : Path) → First q → (n : ℕ) × First' n q) → ((q : Path) → Second q → (n : ℕ) × Second' n q) → Chosen b First Second p
+    → (n : ℕ) × Chosen b (First' n) (Second' n) p
 some_chosen true First First' Second Second' p f g h = f p h
 some_chosen false First First' Second Second' p f g h = g p h
 
@@ -128,7 +138,8 @@ join_depths costs calls first rest vars p q f more =
       n,
       (
         q,
-        grow_statement costs calls (RunBody costs calls f.0) (RunBody costs calls n) (body_deeper costs calls f.0 n (left_max f.0 more.0)) first vars q f.1,
+        grow_statement costs calls (RunBody costs calls f.0) (RunBody costs calls n) (body_deeper costs calls f.0 n
+            (left_max f.0 more.0)) first vars q f.1,
         followed-map q.left q _ _ p (λ r. block_deeper costs calls more.0 n (right_max f.0 more.0) rest q.vars r) more.1,
       ),
     )
@@ -168,7 +179,8 @@ module _ (costs : Costs) (calls : Name → Name → Callee) where
     some_branches Nothing vars p h = (0, h)
     some_branches (Else block) vars p h = some_block block vars p h
     some_branches (When condition block others) vars p h =
-        let found = some_chosen (holds condition vars) _ (λ n. RunBlock (deep costs calls n) block vars) _ (λ n. RunBranch (deep costs calls n) others vars) h.0
+        let found = some_chosen (holds condition vars) _ (λ n. RunBlock (deep costs calls n) block vars) _
+        (λ n. RunBranch (deep costs calls n) others vars) h.0
         (λ q i. some_block block vars q i) (λ q i. some_branches others vars q i) h.1 in
         (found.0, (h.0, found.1, h.2))
 

@@ -2,7 +2,8 @@
 -- Nothing here depends on other tasks; a protected object only lends its data.
 use Rattle.std.specs.Prelude.{◌≡◌, ℕ, ◌≤◌, Bool, true, false, List, [], ◌∷◌, None, ⊤}
 use Rattle.seq_tree.specs.Names.{Name}
-use Rattle.seq_tree.specs.Statements.{Statement, Statements, Branches, Null, Assign, If, For, ExitWhen, Call, Work, Put, End, Then, Nothing, Else, When}
+use Rattle.seq_tree.specs.Statements.{Statement, Statements, Branches, Null, Assign, If, For, ExitWhen, Call, Work, Put, End, Then, Nothing}
+use Rattle.seq_tree.specs.Statements.{Else, When}
 use Rattle.seq_tree.specs.Operations.{Operation}
 use Rattle.seq_tree.specs.Variables.{Variables}
 use Rattle.seq_tree.specs.Runs.{Path, Setting, RunBody}
@@ -32,7 +33,8 @@ seen (Protected object op g o) = runs.Protected o.sig.params
 seen (Request task) = runs.Asked
 seen Unknown = runs.Unknown
 
--- statements whose calls are good, whose exits stand in loops, and whose `work`s take a tick at least; the truth value says whether a loop is around them.
+-- statements whose calls are good, whose exits stand in loops, and whose `work`s take a tick at least; the truth value says whether a loop
+-- is around them.
 -- Exclusion asks less of a block: nothing of `work`s, nor of calls in loops of no turn.
 abbrev mutual
   pub FitStatement : (Name → Name → Type 0) → Bool → Statement → Type 0

@@ -20,29 +20,36 @@ abbrev pub told_at : Bool → Deed → List Deed → List Deed
 told_at true d ds = d ∷ ds
 told_at false d ds = ds
 
-pub outer-cons : (depth : ℕ) (s : Step) (ss : List Step) → outer depth (s ∷ ss) ≡ told_at (depth_of depth s.deed == 0) s.deed (outer (depth_after depth s.deed) ss)
+pub outer-cons : (depth : ℕ) (s : Step) (ss : List Step)
+    → outer depth (s ∷ ss) ≡ told_at (depth_of depth s.deed == 0) s.deed (outer (depth_after depth s.deed) ss)
 outer-cons depth s ss = by (depth_of depth s.deed == 0)
   where
     here : Placed
     here = record { depth = depth_of depth s.deed; step = s }
 
-    by : (b : Bool) → map (λ x. x.deed) (map (λ p. p.step) (cond b (here ∷ filter (λ p. p.depth == 0) (placed (depth_after depth s.deed) ss)) (filter (λ p. p.depth == 0) (placed (depth_after depth s.deed) ss))))
+    by : (b : Bool) → map (λ x. x.deed)
+        (map (λ p. p.step) (cond b (here ∷ filter (λ p. p.depth == 0) (placed (depth_after depth s.deed) ss))
+        (filter (λ p. p.depth == 0) (placed (depth_after depth s.deed) ss))))
         ≡ told_at b s.deed (outer (depth_after depth s.deed) ss)
     by true = refl
     by false = refl
 
 -- depths, and the steps outside all operations, in two parts
-pub placed-append : (from middle : ℕ) (ss others : List Step) → Within from middle ss → placed from (ss ++ others) ≡ placed from ss ++ placed middle others
+pub placed-append : (from middle : ℕ) (ss others : List Step) → Within from middle ss
+    → placed from (ss ++ others) ≡ placed from ss ++ placed middle others
 placed-append from middle [] others e = ap (λ n. placed n others) e
 placed-append from middle (s ∷ ss) others e =
     ap (λ ps. record { depth = depth_of from s.deed; step = s } ∷ ps) (placed-append (depth_after from s.deed) middle ss others e.1)
 
 pub outermost-append : (ps qs : List Placed) → outermost (ps ++ qs) ≡ outermost ps ++ outermost qs
-outermost-append ps qs = ap (map (λ p. p.step)) (filter-append (λ p. p.depth == 0) ps qs) ∙ map-append (λ p. p.step) (filter (λ p. p.depth == 0) ps) (filter (λ p. p.depth == 0) qs)
+outermost-append ps qs = ap (map (λ p. p.step)) (filter-append (λ p. p.depth == 0) ps qs) ∙ map-append (λ p. p.step) (filter (λ p. p.depth == 0) ps)
+    (filter (λ p. p.depth == 0) qs)
 
-pub outer-append : (from middle : ℕ) (ss others : List Step) → Within from middle ss → outer from (ss ++ others) ≡ outer from ss ++ outer middle others
+pub outer-append : (from middle : ℕ) (ss others : List Step) → Within from middle ss
+    → outer from (ss ++ others) ≡ outer from ss ++ outer middle others
 outer-append from middle ss others e =
-    ap (λ ps. map (λ s. s.deed) (outermost ps)) (placed-append from middle ss others e) ∙ ap (map (λ s. s.deed)) (outermost-append (placed from ss) (placed middle others))
+    ap (λ ps. map (λ s. s.deed) (outermost ps)) (placed-append from middle ss others e) ∙ ap (map (λ s. s.deed))
+    (outermost-append (placed from ss) (placed middle others))
     ∙ map-append (λ s. s.deed) (outermost (placed from ss)) (outermost (placed middle others))
 
 -- one operation further inside
@@ -61,8 +68,11 @@ raise_of depth _ e = grind arith
 
 pub within-raise : (from to : ℕ) (ss : List Step) → Within from to ss → Within (suc from) (suc to) ss
 within-raise from to [] e = ap suc e
-within-raise from to (s ∷ ss) e =
-    (raise_closes from s.deed, subst (λ n. Within n (suc to) ss) (sym (raise_after from s.deed e.0)) (within-raise (depth_after from s.deed) to ss e.1))
+within-raise from to (s ∷ ss) e = (
+  raise_closes from s.deed,
+  subst (λ n. Within n (suc to) ss) (sym (raise_after from s.deed e.0)) (within-raise
+      (depth_after from s.deed) to ss e.1),
+)
 
 pub outer-raise : (from to : ℕ) (ss : List Step) → Within from to ss → outer (suc from) ss ≡ []
 outer-raise from to [] e = refl
@@ -74,9 +84,11 @@ outer-raise from to (s ∷ ss) e =
 pub before-open : (from to : ℕ) (ss : List Step) → Within from to ss → before_leave from ss ≡ ss
 before-open from to [] e = refl
 before-open from to (s ∷ ss) e =
-    ap (λ b. if b then [] else s ∷ before_leave (depth_after from s.deed) ss) e.0 ∙ ap (λ xs. s ∷ xs) (before-open (depth_after from s.deed) to ss e.1)
+    ap (λ b. if b then [] else s ∷ before_leave (depth_after from s.deed) ss) e.0 ∙ ap (λ xs. s ∷ xs)
+    (before-open (depth_after from s.deed) to ss e.1)
 
-pub before-closed : (from : ℕ) (ss : List Step) (s : Step) (others : List Step) → Within from 0 ss → closes 0 s.deed ≡ true → before_leave from (ss ++ s ∷ others) ≡ ss
+pub before-closed : (from : ℕ) (ss : List Step) (s : Step) (others : List Step) → Within from 0 ss → closes 0 s.deed ≡ true
+    → before_leave from (ss ++ s ∷ others) ≡ ss
 before-closed from [] s others e leaves =
     ap (λ n. before_leave n (s ∷ others)) e ∙ ap (λ b. if b then [] else s ∷ before_leave (depth_after 0 s.deed) others) leaves
 before-closed from (t ∷ ss) s others e leaves =

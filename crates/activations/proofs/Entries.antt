@@ -17,7 +17,8 @@ use Rattle.guarantee.specs.Events.{Deed, Enter, Leave}
 use Rattle.guarantee.specs.Steps.{Step, closes, depth_after, shown, before_leave}
 use Rattle.activations.proofs.Courses.{Course, IsApt, FitPieces, seen, setting}
 use Rattle.guarantee.specs.Scripts.{least_by, most_by}
-use Rattle.activations.proofs.Ways.{Ways, Passing, Onwards, is_last, Within, outer, least, most, Claim, Closes, Cut, Either, Beneath, Ahead, Passed, Entered, Passes}
+use Rattle.activations.proofs.Ways.{Ways, Passing, Onwards, is_last, Within, outer, least, most, Claim, Closes, Cut, Either, Beneath, Ahead}
+use Rattle.activations.proofs.Ways.{Passed, Entered, Passes}
 use Rattle.activations.proofs.Joins.{joined-end}
 use Rattle.activations.proofs.Splits.{Split, split_block}
 use Rattle.activations.proofs.Depths.{within-append, outer-append, within-raise, outer-raise, before-open, before-closed, least-append, most-append}
@@ -31,10 +32,12 @@ pub whole_body : (c : Course) (b : Statements) (x : Piece) (rest : List Piece) (
     → Ways c false (pieces b (x ∷ rest)) vars w → RunBlock (setting c) b vars w × (w.left ≡ false)
 whole_body c b x rest vars w last end' h = found (split_block c b (x ∷ rest) vars w h)
   where
-    by_left : (q r : Path) (l : Bool) → q.left ≡ l → RunBlock (setting c) b vars q → Ways c l (x ∷ rest) q.vars r → w ≡ joined q r → RunBlock (setting c) b vars w × (w.left ≡ false)
+    by_left : (q r : Path) (l : Bool) → q.left ≡ l → RunBlock (setting c) b vars q → Ways c l (x ∷ rest) q.vars r → w ≡ joined q r
+        → RunBlock (setting c) b vars w × (w.left ≡ false)
     by_left q r true e goes more whole = absurd (subst (λ k. Passing k (Ways c false rest) (Ways c true rest) q.vars r) end' more)
     by_left q r false e goes more whole =
-        let ends : r ≡ silent 0 q.vars = subst (λ b. Chosen b (λ r. r ≡ silent 0 q.vars) (λ r. Onwards c x (λ b w. Ways c b rest w) q.vars r) r) last more in
+        let ends : r ≡ silent 0 q.vars = subst (λ b. Chosen b (λ r. r ≡ silent 0 q.vars) (λ r. Onwards c x (λ b w. Ways c b rest w) q.vars r) r)
+        last more in
         let same : w ≡ q = whole ∙ ap (joined q) ends ∙ joined-end q e in
         (subst (RunBlock (setting c) b vars) (sym same) goes, ap (λ p. p.left) same ∙ e)
 
@@ -67,7 +70,8 @@ call_way c name o actuals vars results = record {
 abbrev pub enters : ℕ → OpName → List ℕ → Path → Step
 enters time name values body = record { time = time; deed = Enter name values; body = body }
 
-module _ (c : Course) (apt : IsApt c) (Over : Claim) (unit op : Name) (actuals : List Expression) (rest : List Piece) (vars : Variables) (object k : ℕ) (g : ProtectedUnit) (o : Operation)
+module _ (c : Course) (apt : IsApt c) (Over : Claim) (unit op : Name) (actuals : List Expression) (rest : List Piece) (vars : Variables)
+    (object k : ℕ) (g : ProtectedUnit) (o : Operation)
     (leads : callee c.system unit op ≡ Protected object k g o) (data' : Variables) where
   abbrev name : OpName
   name = c.op_name object k
@@ -82,10 +86,12 @@ module _ (c : Course) (apt : IsApt c) (Over : Claim) (unit op : Name) (actuals :
   start = opened o values ++ data'
 
   -- what the caller goes on with
-  calls_on : (results : List ℕ) → length results ≡ length (out_names o.sig.params) → (w : Path) → Ways c false rest (stored (targets o.sig.params actuals) results vars) w
+  calls_on : (results : List ℕ) → length results ≡ length (out_names o.sig.params) → (w : Path)
+      → Ways c false rest (stored (targets o.sig.params actuals) results vars) w
       → Ways c false (Calling unit op actuals ∷ rest) vars (joined (call_way c name o actuals vars results) w)
   calls_on results many w h =
-      let Goes : runs.Callee → Type 0 = λ t. Called (setting c) (record { object = unit; op = op }) t actuals vars (call_way c name o actuals vars results) in
+      let Goes : runs.Callee → Type 0 = λ t. Called (setting c) (record { object = unit; op = op }) t actuals vars
+      (call_way c name o actuals vars results) in
       let same : call_way c (record { object = unit; op = op }) o actuals vars results ≡ call_way c name o actuals vars results =
       ap (λ n. call_way c n o actuals vars results) (sym (apt.entries unit op object k g o leads)) in
       (call_way c name o actuals vars results, subst Goes (sym (apt.leads unit op ∙ ap seen leads)) (results, many, sym same), w, h, refl)
@@ -94,10 +100,12 @@ module _ (c : Course) (apt : IsApt c) (Over : Claim) (unit op : Name) (actuals :
   count w = length-map (out_names o.sig.params) (λ n. read n w)
 
   -- an operation that is left
-  entry_closed : (time ticks : ℕ) (ss : List Step) → (h : Closes c (Beneath c Over (pieces o.block (closing ∷ rest))) start (pieces o.block (closing ∷ rest)) ss ticks)
+  entry_closed : (time ticks : ℕ) (ss : List Step)
+      → (h : Closes c (Beneath c Over (pieces o.block (closing ∷ rest))) start (pieces o.block (closing ∷ rest)) ss ticks)
       → Beneath c Over (closing ∷ rest) h.way.vars h.later h.rest
       → RunBlock (setting c) o.block start h.way × (h.way.left ≡ false)
-      → ((n : ℕ) → n ≡ c.system.costs.call → Ahead c Over vars (Calling unit op actuals ∷ rest) (enters time name values h.way ∷ ss) (n + ticks)) × Passed c o data' values name ss h.way
+      → ((n : ℕ) → n ≡ c.system.costs.call → Ahead c Over vars (Calling unit op actuals ∷ rest) (enters time name values h.way ∷ ss) (n + ticks))
+      × Passed c o data' values name ss h.way
   entry_closed time ticks ss h (s, later, parts, told, kept', more) body =
       let results : List ℕ = reads (out_names o.sig.params) h.way.vars in
       let call : Path = call_way c name o actuals vars results in
@@ -108,12 +116,14 @@ module _ (c : Course) (apt : IsApt c) (Over : Claim) (unit op : Name) (actuals :
       let high_in : most (h.inner ++ s ∷ []) ≡ most h.inner + most (s ∷ []) = most-append h.inner (s ∷ []) in
       let none : least (s ∷ []) ≡ 0 = ap (λ d. least_by d s.body + 0) told in
       let none' : most (s ∷ []) ≡ 0 = ap (λ d. most_by d s.body + 0) told in
-      let inner_in : Within 0 0 front = (refl, within-append 1 1 0 h.inner (s ∷ []) (within-raise 0 0 h.inner h.within) (within-leave s name results told)) in
+      let inner_in : Within 0 0 front
+      = (refl, within-append 1 1 0 h.inner (s ∷ []) (within-raise 0 0 h.inner h.within) (within-leave s name results told)) in
       let shows : outer 0 front ≡ map shown call.script =
       ap (λ ds. Enter name values ∷ ds) (outer-append 1 1 h.inner (s ∷ []) (within-raise 0 0 h.inner h.within)
       ∙ ap (λ ds. ds ++ outer 1 (s ∷ [])) (outer-raise 0 0 h.inner h.within) ∙ outer-leave s name results told) in
       let t : ℕ = ticks - h.rest in
-      let on : (n : ℕ) → n ≡ c.system.costs.call → Either c (Beneath c Over rest) vars (Calling unit op actuals ∷ rest) (front ++ later) (n + t + h.rest) = λ n e.
+      let on : (n : ℕ) → n ≡ c.system.costs.call
+      → Either c (Beneath c Over rest) vars (Calling unit op actuals ∷ rest) (front ++ later) (n + t + h.rest) = λ n e.
       expand c (Beneath c Over rest) (Beneath c Over rest) vars call.vars (Calling unit op actuals ∷ rest) rest call front later (n + t) h.rest
       (calls_on results (count h.way.vars)) inner_in shows
       (omega (arith, e, low_in, none, h.at_least)) (omega (arith, e, high_in, none', h.at_most, h.at_least)) refl more in
@@ -124,7 +134,8 @@ module _ (c : Course) (apt : IsApt c) (Over : Claim) (unit op : Name) (actuals :
         λ n e. subst (Ahead c Over vars (Calling unit op actuals ∷ rest) (enter ∷ ss)) (ticks_are n) (on' n e),
         record {
           run = run_of c.system.costs c.calls o.block start h.way body.0 body.1;
-          shows = sym h.shows ∙ sym (ap (outer 0) (ap (before_leave 0) whole ∙ before-closed 0 h.inner s later h.within (closes-leave s name results told)));
+          shows = sym h.shows ∙ sym (ap (outer 0) (ap (before_leave 0) whole ∙ before-closed 0 h.inner s later h.within
+              (closes-leave s name results told)));
           inner = h.inner;
           leave = s;
           later = later;
@@ -166,7 +177,8 @@ module _ (c : Course) (apt : IsApt c) (Over : Claim) (unit op : Name) (actuals :
 
   pub ahead_enter : (time ticks : ℕ) (ss : List Step) → FitPieces c.Good (Calling unit op actuals ∷ rest)
       → Ahead c Over start (pieces o.block (closing ∷ rest)) ss ticks
-      → (body : Path) × ((n : ℕ) → n ≡ c.system.costs.call → Ahead c Over vars (Calling unit op actuals ∷ rest) (enters time name values body ∷ ss) (n + ticks))
+      → (body : Path) × ((n : ℕ) → n ≡ c.system.costs.call
+      → Ahead c Over vars (Calling unit op actuals ∷ rest) (enters time name values body ∷ ss) (n + ticks))
       × Passes c o data' values name ss body
   ahead_enter time ticks ss f (inl h) =
       let found = entry_closed time ticks ss h (subst (λ P. P h.way.vars h.later h.rest) (under_block c Over o.block (closing ∷ rest)) h.under)
@@ -197,7 +209,8 @@ pub record Begun (c : Course) (block : Statements) (vars : Variables) (ss : List
   pub within : Within 0 depth ss
   pub shows : outer 0 ss ≡ map shown script
 
-pub activation : (c : Course) (Over : Claim) (block : Statements) (vars : Variables) (ss : List Step) (ticks : ℕ) → Ahead c Over vars (pieces block (Finishing ∷ [])) ss ticks
+pub activation : (c : Course) (Over : Claim) (block : Statements) (vars : Variables) (ss : List Step) (ticks : ℕ)
+    → Ahead c Over vars (pieces block (Finishing ∷ [])) ss ticks
     → ((p : Path) × Whole c Over block vars ss ticks p) ⊎ Begun c block vars ss
 activation c Over block vars ss ticks (inl h) =
     let body : RunBlock (setting c) block vars h.way × (h.way.left ≡ false) = whole_body c block Finishing [] vars h.way refl refl h.goes in

@@ -4,21 +4,24 @@ use Rattle.std.proofs.Common.{sym, subst, arith}
 use Rattle.seq_tree.specs.Lists.{Each}
 use Rattle.seq_tree.specs.Names.{Name}
 use Rattle.seq_tree.specs.Expressions.{Expression}
-use Rattle.seq_tree.specs.Statements.{Statement, Statements, Branches, Null, Assign, If, For, ExitWhen, Call, Work, Put, End, Then, Nothing, Else, When}
+use Rattle.seq_tree.specs.Statements.{Statement, Statements, Branches, Null, Assign, If, For, ExitWhen, Call, Work, Put, End, Then, Nothing}
+use Rattle.seq_tree.specs.Statements.{Else, When}
 use Rattle.seq_tree.specs.Variables.{Variables}
 use Rattle.seq_tree.specs.Values.{holds}
 use Rattle.seq_tree.specs.Calls.{statement_calls, block_calls, branch_calls}
 use Rattle.seq_tree.specs.declared.tree.Costs.{Costs}
 use Rattle.seq_tree.specs.declared.tree.OpName.{OpName}
 use Rattle.machine.specs.Systems.{CallTarget, Plain, Protected, Request, Unknown, callee}
-use Rattle.machine.specs.Pieces.{Piece, Idle, Store, Leaving, Calling, Working, Printing, Testing, Turning, Turned, Returning, Closing, Keeping, Opening, Requested, Finishing, pieces_of, pieces, branch_pieces, after_loop, ticks_of, work_ticks}
+use Rattle.machine.specs.Pieces.{Piece, Idle, Store, Leaving, Calling, Working, Printing, Testing, Turning, Turned, Returning, Closing, Keeping}
+use Rattle.machine.specs.Pieces.{Opening, Requested, Finishing, pieces_of, pieces, branch_pieces, after_loop, ticks_of, work_ticks}
 use Rattle.machine.specs.Deeds.{PieceOutcome, done, called}
 use Rattle.activations.proofs.Courses.{Course, IsApt, IsFitCallee, FitStatement, FitBlock, FitBranches, FitPieces, IsTicks}
 use Rattle.program_calls.proofs.Pieces.{in_loop-block, in_loop}
 
 -- the pieces of what is fit are fit
 mutual
-  pub fit_statement : (Good : Name → Name → Type 0) (s : Statement) (rest : List Piece) → FitStatement Good (in_loop rest) s → FitPieces Good rest → FitPieces Good (pieces_of s rest)
+  pub fit_statement : (Good : Name → Name → Type 0) (s : Statement) (rest : List Piece) → FitStatement Good (in_loop rest) s → FitPieces Good rest
+      → FitPieces Good (pieces_of s rest)
   fit_statement Good Null rest f more = (tt, more)
   fit_statement Good (Assign target e) rest f more = (tt, more)
   fit_statement Good (If branches) rest f more = fit_branches Good branches rest f more
@@ -32,12 +35,15 @@ mutual
   fit_statement Good (Work ticks) rest f more = (f, more)
   fit_statement Good (Put e) rest f more = (tt, more)
 
-  pub fit_block : (Good : Name → Name → Type 0) (b : Statements) (rest : List Piece) → FitBlock Good (in_loop rest) b → FitPieces Good rest → FitPieces Good (pieces b rest)
+  pub fit_block : (Good : Name → Name → Type 0) (b : Statements) (rest : List Piece) → FitBlock Good (in_loop rest) b → FitPieces Good rest
+      → FitPieces Good (pieces b rest)
   fit_block Good End rest f more = more
   fit_block Good (Then first others) rest f more =
-      fit_statement Good first (pieces others rest) (subst (λ b. FitStatement Good b first) (sym (in_loop-block others rest)) f.0) (fit_block Good others rest f.1 more)
+      fit_statement Good first (pieces others rest) (subst (λ b. FitStatement Good b first) (sym (in_loop-block others rest)) f.0)
+      (fit_block Good others rest f.1 more)
 
-  pub fit_branches : (Good : Name → Name → Type 0) (b : Branches) (rest : List Piece) → FitBranches Good (in_loop rest) b → FitPieces Good rest → FitPieces Good (branch_pieces b rest)
+  pub fit_branches : (Good : Name → Name → Type 0) (b : Branches) (rest : List Piece) → FitBranches Good (in_loop rest) b → FitPieces Good rest
+      → FitPieces Good (branch_pieces b rest)
   fit_branches Good Nothing rest f more = more
   fit_branches Good (Else block) rest f more = fit_block Good block rest f more
   fit_branches Good (When condition block others) rest f more = (f, more)
@@ -60,11 +66,13 @@ fit_if : (Good : Name → Name → Type 0) (b : Bool) (ps qs : List Piece) → F
 fit_if Good true ps qs f g = f
 fit_if Good false ps qs f g = g
 
-fit_left : (Good : Name → Name → Type 0) (b : Bool) (d e : PieceOutcome) → FitPieces Good d.pieces → FitPieces Good e.pieces → FitPieces Good ((if b then d else e).pieces)
+fit_left : (Good : Name → Name → Type 0) (b : Bool) (d e : PieceOutcome) → FitPieces Good d.pieces → FitPieces Good e.pieces
+    → FitPieces Good ((if b then d else e).pieces)
 fit_left Good true d e f g = f
 fit_left Good false d e f g = g
 
-pub fit_done : (c : Course) → IsApt c → (x : Piece) (vars : Variables) (rest : List Piece) → FitPieces c.Good (x ∷ rest) → FitPieces c.Good ((done c.system x vars rest).pieces)
+pub fit_done : (c : Course) → IsApt c → (x : Piece) (vars : Variables) (rest : List Piece) → FitPieces c.Good (x ∷ rest)
+    → FitPieces c.Good ((done c.system x vars rest).pieces)
 fit_done c apt Idle vars rest f = f.1
 fit_done c apt (Store target e) vars rest f = f.1
 fit_done c apt (Leaving condition) vars rest f = fit_left c.Good (holds condition vars) _ _ (fit_after c.Good rest f.1) f.1
@@ -105,7 +113,8 @@ each_parts Fact (x ∷ xs) ys all = let more = each_parts Fact xs ys all.1 in ((
 
 -- two facts of each call
 mutual
-  both_statement : (Good Fact : Name → Name → Type 0) (within : Bool) (s : Statement) → FitStatement Good within s → Each (λ c. Fact c.object c.op) (statement_calls s)
+  both_statement : (Good Fact : Name → Name → Type 0) (within : Bool) (s : Statement) → FitStatement Good within s
+      → Each (λ c. Fact c.object c.op) (statement_calls s)
       → FitStatement (λ unit op. Good unit op × Fact unit op) within s
   both_statement Good Fact within Null f all = tt
   both_statement Good Fact within (Assign target e) f all = tt
@@ -116,14 +125,16 @@ mutual
   both_statement Good Fact within (Work ticks) f all = f
   both_statement Good Fact within (Put e) f all = tt
 
-  pub both_block : (Good Fact : Name → Name → Type 0) (within : Bool) (b : Statements) → FitBlock Good within b → Each (λ c. Fact c.object c.op) (block_calls b)
+  pub both_block : (Good Fact : Name → Name → Type 0) (within : Bool) (b : Statements) → FitBlock Good within b
+      → Each (λ c. Fact c.object c.op) (block_calls b)
       → FitBlock (λ unit op. Good unit op × Fact unit op) within b
   both_block Good Fact within End f all = tt
   both_block Good Fact within (Then first rest) f all =
       let parts = each_parts (λ c. Fact c.object c.op) (statement_calls first) (block_calls rest) all in
       (both_statement Good Fact within first f.0 parts.0, both_block Good Fact within rest f.1 parts.1)
 
-  both_branches : (Good Fact : Name → Name → Type 0) (within : Bool) (b : Branches) → FitBranches Good within b → Each (λ c. Fact c.object c.op) (branch_calls b)
+  both_branches : (Good Fact : Name → Name → Type 0) (within : Bool) (b : Branches) → FitBranches Good within b
+      → Each (λ c. Fact c.object c.op) (branch_calls b)
       → FitBranches (λ unit op. Good unit op × Fact unit op) within b
   both_branches Good Fact within Nothing f all = tt
   both_branches Good Fact within (Else block) f all = both_block Good Fact within block f all

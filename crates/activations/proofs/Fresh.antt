@@ -1,12 +1,14 @@
 -- A task whose first piece has just started: where that piece takes ticks, some are left. What effects keep of such tasks.
-use Rattle.std.specs.Prelude.{◌≡◌, ◌⊎◌, ℕ, suc, ◌≤◌, Bool, true, false, ◌&&◌, List, [], ◌∷◌, nat_lt, slice_get, Option, Some, None, if◌then◌else◌, ⊤, refl}
+use Rattle.std.specs.Prelude.{◌≡◌, ◌⊎◌, ℕ, suc, ◌≤◌, Bool, true, false, ◌&&◌, List, [], ◌∷◌, nat_lt, slice_get, Option, Some, None}
+use Rattle.std.specs.Prelude.{if◌then◌else◌, ⊤, refl}
 use Rattle.std.proofs.Common.{sym, ap, subst, inl, inr}
 use Rattle.seq_tree.specs.Lists.{change}
 use Rattle.seq_tree.specs.Variables.{Variables}
 use Rattle.seq_tree.specs.declared.tree.Costs.{Costs}
 use Rattle.trace_tree.specs.declared.event.Event.{Event}
 use Rattle.machine.specs.Systems.{System}
-use Rattle.machine.specs.Pieces.{Piece, Idle, Store, Leaving, Calling, Working, Printing, Testing, Turning, Turned, Returning, Closing, Keeping, Opening, Requested, Finishing, ticks_of}
+use Rattle.machine.specs.Pieces.{Piece, Idle, Store, Leaving, Calling, Working, Printing, Testing, Turning, Turned, Returning, Closing, Keeping}
+use Rattle.machine.specs.Pieces.{Opening, Requested, Finishing, ticks_of}
 use Rattle.machine.specs.Deeds.{Act, Silent, Print, Enter, Leave, Ask, Keep, Open, Ended, Finish}
 use Rattle.machine.specs.States.{State, Task, Resource, Object, Control}
 use Rattle.machine.specs.Releases.{going, released, release, release_task, serve, serve_task, is_waiting}
@@ -107,7 +109,8 @@ module _ (y : System) (some : AreSome y.costs) where
       → ((entry y i t c told vars ps s).0.stopped ≡ true) ⊎ FreshAt (entry y i t c told vars ps s).0.tasks i
   entry-fresh i t c told vars ps s = by c (nat_lt (ceiling_of y c) t.active)
     where
-      by : (z : Resource) (b : Bool) → ((if b then stopped_at y t z s else entered_at y i z told vars ps s).0.stopped ≡ true) ⊎ FreshAt (if b then stopped_at y t z s else entered_at y i z told vars ps s).0.tasks i
+      by : (z : Resource) (b : Bool) → ((if b then stopped_at y t z s else entered_at y i z told vars ps s).0.stopped ≡ true)
+          ⊎ FreshAt (if b then stopped_at y t z s else entered_at y i z told vars ps s).0.tasks i
       by z true = inl refl
       by (Object k) false = inr (fresh-own i _ s.tasks (λ u. going-fresh y.costs some _ _ _))
       by (Control k) false = inr (fresh-own i _ s.tasks (λ u. going-fresh y.costs some _ _ _))
@@ -120,7 +123,10 @@ module _ (y : System) (some : AreSome y.costs) where
   acted-fresh i t (Enter object op values) vars ps s = entry-fresh i t (Object object) _ vars ps s
   acted-fresh i t (Leave object op values data') vars ps s = inr (fresh-own i _ s.tasks (λ u. going-fresh y.costs some _ _ _))
   acted-fresh i t (Ask task) vars ps s = entry-fresh i t (Control task) [] vars ps s
-  acted-fresh i t (Keep task v) vars ps s = inr (fresh-any task i _ (go y i vars ps s).tasks (λ u h. h) (fresh-own i _ s.tasks (λ u. going-fresh y.costs some _ _ _)))
-  acted-fresh i t (Open task) vars ps s = inr (fresh-any task i _ (go y i vars ps s).tasks (λ u h. h) (fresh-own i _ s.tasks (λ u. going-fresh y.costs some _ _ _)))
-  acted-fresh i t (Ended task v) vars ps s = inr (serve-fresh task i (exit y i vars ps s) (fresh-own i _ s.tasks (λ u. going-fresh y.costs some _ _ _)))
+  acted-fresh i t (Keep task v) vars ps s
+      = inr (fresh-any task i _ (go y i vars ps s).tasks (λ u h. h) (fresh-own i _ s.tasks (λ u. going-fresh y.costs some _ _ _)))
+  acted-fresh i t (Open task) vars ps s
+      = inr (fresh-any task i _ (go y i vars ps s).tasks (λ u h. h) (fresh-own i _ s.tasks (λ u. going-fresh y.costs some _ _ _)))
+  acted-fresh i t (Ended task v) vars ps s
+      = inr (serve-fresh task i (exit y i vars ps s) (fresh-own i _ s.tasks (λ u. going-fresh y.costs some _ _ _)))
   acted-fresh i t Finish vars ps s = inr (serve-fresh i i (record s { tasks = change i (ended vars) s.tasks }) (fresh-own i _ s.tasks (λ u. tt)))

@@ -12,7 +12,8 @@ use Rattle.seq_tree.specs.Runs.{Action, Path, silent, joined, turned, Followed, 
 use Rattle.seq_tree.specs.Runs as runs
 use Rattle.seq_tree.specs.declared.tree.OpName.{OpName}
 use Rattle.machine.specs.Systems.{Plain, Request, callee}
-use Rattle.machine.specs.Pieces.{Piece, Idle, Store, Leaving, Calling, Working, Printing, Testing, Turning, Turned, Returning, Closing, Keeping, Opening, Requested, Finishing, turns, pieces, branch_pieces, after_loop}
+use Rattle.machine.specs.Pieces.{Piece, Idle, Store, Leaving, Calling, Working, Printing, Testing, Turning, Turned, Returning, Closing, Keeping}
+use Rattle.machine.specs.Pieces.{Opening, Requested, Finishing, turns, pieces, branch_pieces, after_loop}
 use Rattle.activations.proofs.Courses.{Course, IsApt, seen, setting}
 use Rattle.activations.proofs.Ways.{WayPiece, Ways, Onwards}
 use Rattle.activations.proofs.Joins.{same_way, joined-silent, joined-assoc, joined-turned, no_turns, some_turns}
@@ -25,7 +26,8 @@ abbrev pub Extends : Course → Path → Variables → List Piece → Variables 
 Extends c q vars ps vars' ps' = (w : Path) → Ways c false ps' vars' w → Ways c false ps vars (joined q w)
 
 -- a way behind a loop is one that leaves it
-pub leave_loop : (c : Course) (rest : List Piece) (vars : Variables) (w : Path) → in_loop rest ≡ true → Ways c false (after_loop rest) (drop 1 vars) w → Ways c true rest vars w
+pub leave_loop : (c : Course) (rest : List Piece) (vars : Variables) (w : Path) → in_loop rest ≡ true → Ways c false (after_loop rest) (drop 1 vars) w
+    → Ways c true rest vars w
 leave_loop c [] vars w e h = absurd (grind (arith, e))
 leave_loop c (Turned name at last body ∷ rest) vars w e h = h
 leave_loop c (Returning outs stores caller ∷ rest) vars w e h = absurd (grind (arith, e))
@@ -59,10 +61,12 @@ move_staying c condition rest vars e w h =
 
 -- a condition of an `if`
 pub move_testing : (c : Course) (condition : Expression) (block : Statements) (others : Branches) (rest : List Piece) (vars : Variables)
-    → Extends c (silent c.system.costs.test vars) vars (Testing condition block others ∷ rest) vars (if holds condition vars then pieces block rest else branch_pieces others rest)
+    → Extends c (silent c.system.costs.test vars) vars (Testing condition block others ∷ rest) vars
+    (if holds condition vars then pieces block rest else branch_pieces others rest)
 move_testing c condition block others rest vars w h = found (by (holds condition vars) h)
   where
-    by : (b : Bool) → Ways c false (if b then pieces block rest else branch_pieces others rest) vars w → Split c (Chosen b (RunBlock (setting c) block vars) (RunBranch (setting c) others vars)) rest w
+    by : (b : Bool) → Ways c false (if b then pieces block rest else branch_pieces others rest) vars w
+        → Split c (Chosen b (RunBlock (setting c) block vars) (RunBranch (setting c) others vars)) rest w
     by true i = split_block c block rest vars w i
     by false i = split_branches c others rest vars w i
 
@@ -74,7 +78,8 @@ move_testing c condition block others rest vars w h = found (by (holds condition
 
 -- a turn of a loop
 pub move_turning : (c : Course) (name : Name) (at last : ℕ) (body : Statements) (rest : List Piece) (vars : Variables)
-    → Extends c (silent c.system.costs.turn vars) vars (Turning name at last body ∷ rest) ((name, at) ∷ vars) (pieces body (Turned name at last body ∷ rest))
+    → Extends c (silent c.system.costs.turn vars) vars (Turning name at last body ∷ rest) ((name, at) ∷ vars)
+    (pieces body (Turned name at last body ∷ rest))
 move_turning c name at last body rest vars w h = found (split_block c body (Turned name at last body ∷ rest) ((name, at) ∷ vars) w h)
   where
     turn : ℕ
@@ -101,26 +106,38 @@ move_turning c name at last body rest vars w h = found (split_block c body (Turn
           (b, goes, subst (λ l. Followed l (turned turn b) (Later b) p) (sym e) (more.0, more.1, refl)),
           more.2,
           more.3,
-          ap (joined (silent turn vars)) (whole ∙ ap (joined b) more.4) ∙ sym (joined-turned turn vars b (joined more.0 more.2)) ∙ joined-assoc (turned turn b) more.0 more.2,
+          ap (joined (silent turn vars)) (whole ∙ ap (joined b) more.4) ∙ sym (joined-turned turn vars b
+              (joined more.0 more.2)) ∙ joined-assoc (turned turn b) more.0 more.2,
         )
 
-    found : Split c (Body ((name, at) ∷ vars)) (Turned name at last body ∷ rest) w → Ways c false (Turning name at last body ∷ rest) vars (joined (silent turn vars) w)
+    found : Split c (Body ((name, at) ∷ vars)) (Turned name at last body ∷ rest) w
+        → Ways c false (Turning name at last body ∷ rest) vars (joined (silent turn vars) w)
     found s = by_left s.0 s.2 s.0.left refl s.1 s.3 s.4
 
 -- the end of a turn
 pub move_turned : (c : Course) (name : Name) (at last : ℕ) (body : Statements) (rest : List Piece) (vars : Variables)
     → Extends c (silent 0 vars) vars (Turned name at last body ∷ rest) (drop 1 vars) (turns name (suc at) last body rest)
-move_turned c name at last body rest vars w h = subst (Ways c false (Turned name at last body ∷ rest) vars) (joined-silent vars w) (by (nat_le (suc at) last) refl h)
+move_turned c name at last body rest vars w h = subst (Ways c false (Turned name at last body ∷ rest) vars) (joined-silent vars w)
+    (by (nat_le (suc at) last) refl h)
   where
     Goes : ℕ → Path → Type 0
     Goes n q = Turns n (suc at) c.system.costs.turn name (RunBlock (setting c) body) (drop 1 vars) q
 
-    by : (b : Bool) → nat_le (suc at) last ≡ b → Ways c false (if b then Turning name (suc at) last body ∷ rest else rest) (drop 1 vars) w → Ways c false (Turned name at last body ∷ rest) vars w
+    by : (b : Bool) → nat_le (suc at) last ≡ b → Ways c false (if b then Turning name (suc at) last body ∷ rest else rest) (drop 1 vars) w
+        → Ways c false (Turned name at last body ∷ rest) vars w
     by true e i = (i.0, subst (λ n. Goes n i.0) (sym (some_turns (suc at) last e)) i.1, i.2, i.3, i.4)
-    by false e i = (silent 0 (drop 1 vars), subst (λ n. Goes n (silent 0 (drop 1 vars))) (sym (no_turns (suc at) last e)) refl, w, i, joined-silent (drop 1 vars) w)
+    by false e i = (
+      silent 0 (drop 1 vars),
+      subst (λ n. Goes n (silent 0 (drop 1 vars))) (sym
+          (no_turns (suc at) last e)) refl,
+      w,
+      i,
+      joined-silent (drop 1 vars) w,
+    )
 
 -- a call of a passive operation
-pub move_plain : (c : Course) → IsApt c → (unit op : Name) (actuals : List Expression) (rest : List Piece) (vars : Variables) (o : Operation) → callee c.system unit op ≡ Plain o
+pub move_plain : (c : Course) → IsApt c → (unit op : Name) (actuals : List Expression) (rest : List Piece) (vars : Variables) (o : Operation)
+    → callee c.system unit op ≡ Plain o
     → Extends c (silent c.system.costs.call vars) vars (Calling unit op actuals ∷ rest) (opened o (handed o.sig.params actuals vars))
     (pieces o.block (Returning (out_names o.sig.params) (targets o.sig.params actuals) vars ∷ rest))
 move_plain c apt unit op actuals rest vars o leads w h = found (split_block c o.block (back ∷ rest) start w h)
@@ -143,7 +160,8 @@ move_plain c apt unit op actuals rest vars o leads w h = found (split_block c o.
       high = c.system.costs.call + b.high;
     }
 
-    goes : (b : Path) → RunBlock (setting c) o.block start b → Called (setting c) (record { object = unit; op = op }) (c.calls unit op) actuals vars (whole_call b)
+    goes : (b : Path) → RunBlock (setting c) o.block start b
+        → Called (setting c) (record { object = unit; op = op }) (c.calls unit op) actuals vars (whole_call b)
     goes b i =
         let Goes : runs.Callee → Type 0 = λ k. Called (setting c) (record { object = unit; op = op }) k actuals vars (whole_call b) in
         subst Goes (sym (apt.leads unit op ∙ ap seen leads)) (b, body_of c.system.costs c.calls o start b i, refl)
@@ -174,7 +192,8 @@ peel c x xs vars w s only h =
     (h.2, subst (λ q. Ways c q.left xs q.vars h.2) e h.3, h.4 ∙ ap (λ q. joined q h.2) e)
 
 -- a request
-pub move_asking : (c : Course) → IsApt c → (unit op : Name) (actuals : List Expression) (rest : List Piece) (vars : Variables) (task : ℕ) → callee c.system unit op ≡ Request task
+pub move_asking : (c : Course) → IsApt c → (unit op : Name) (actuals : List Expression) (rest : List Piece) (vars : Variables) (task : ℕ)
+    → callee c.system unit op ≡ Request task
     → Extends c (silent c.system.costs.call vars) vars (Calling unit op actuals ∷ rest) vars
     (Keeping task (request_value actuals vars) ∷ Opening task ∷ Requested task (request_value actuals vars) ∷ rest)
 move_asking c apt unit op actuals rest vars task leads w h =

@@ -38,14 +38,17 @@ costs_some_by c e =
     }
 
 pub costs_some : (p : Program) → MeetsRules p → AreSome p.costs
-costs_some p meets = costs_some_by p.costs (or_parts _ _ (or_parts _ _ (false_from_ne_true (whole_breaks p) (λ breaks. meets Ranges Whole breaks))).0).0
+costs_some p meets = costs_some_by p.costs
+    (or_parts _ _ (or_parts _ _ (false_from_ne_true (whole_breaks p) (λ breaks. meets Ranges Whole breaks))).0).0
 
 -- the block of a task is one of its unit's bodies
-block_at : (th : TaskUnit) (timing : ReleasePattern) (f : Form) → thread_form th timing f → (b : Body) × (slice_get (bodies f) 0 ≡ Some b) × (b.block ≡ th.block)
+block_at : (th : TaskUnit) (timing : ReleasePattern) (f : Form) → thread_form th timing f
+    → (b : Body) × (slice_get (bodies f) 0 ≡ Some b) × (b.block ≡ th.block)
 block_at th (Periodic offset period) f e = (_, ap (λ g. slice_get (bodies g) 0) e, refl)
 block_at th (Requested op ceiling separation jitter external) f e = (_, ap (λ g. slice_get (bodies g) 0) e, refl)
 
-pub fit_thread : (p : Program) (a : Arrivals) → MeetsRules p → (k : ℕ) (th : TaskUnit) → slice_get (system p a).threads k ≡ Some th → FitBlock (Leads (system p a)) false th.block
+pub fit_thread : (p : Program) (a : Arrivals) → MeetsRules p → (k : ℕ) (th : TaskUnit) → slice_get (system p a).threads k ≡ Some th
+    → FitBlock (Leads (system p a)) false th.block
 fit_thread p a meets k th at =
     let found = thread-at p a k th at in
     let b = block_at th th.timing found.1.form (found.2).form in

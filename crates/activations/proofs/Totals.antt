@@ -6,7 +6,8 @@ use Rattle.std.proofs.lemmas.Option.{none-some}
 use Rattle.seq_tree.specs.Lists.{Each}
 use Rattle.seq_tree.specs.Names.{Name}
 use Rattle.seq_tree.specs.Expressions.{Expression}
-use Rattle.seq_tree.specs.Statements.{Statement, Statements, Branches, Null, Assign, If, For, ExitWhen, Call, Work, Put, End, Then, Nothing, Else, When}
+use Rattle.seq_tree.specs.Statements.{Statement, Statements, Branches, Null, Assign, If, For, ExitWhen, Call, Work, Put, End, Then, Nothing}
+use Rattle.seq_tree.specs.Statements.{Else, When}
 use Rattle.seq_tree.specs.Operations.{Operation, out_names}
 use Rattle.seq_tree.specs.Variables.{Variables, read, write, reads, stored, opened, targets}
 use Rattle.seq_tree.specs.Values.{value, holds, handed}
@@ -16,7 +17,8 @@ use Rattle.seq_tree.specs.Runs.{Path, silent, joined, turned, Followed, Turns, C
 use Rattle.seq_tree.specs.Runs as runs
 use Rattle.seq_tree.specs.declared.tree.OpName.{OpName}
 use Rattle.machine.specs.Systems.{CallTarget, Plain, Protected, Request, Unknown, callee}
-use Rattle.machine.specs.Pieces.{Piece, Idle, Store, Leaving, Calling, Working, Printing, Testing, Turning, Turned, Returning, Closing, Keeping, Opening, Requested, Finishing}
+use Rattle.machine.specs.Pieces.{Piece, Idle, Store, Leaving, Calling, Working, Printing, Testing, Turning, Turned, Returning, Closing, Keeping}
+use Rattle.machine.specs.Pieces.{Opening, Requested, Finishing}
 use Rattle.activations.proofs.Courses.{Course, IsApt, IsFitCallee, seen, setting, FitStatement, FitBlock, FitBranches, FitPiece, FitPieces}
 use Rattle.program_calls.proofs.Depths.{IsDeep}
 use Rattle.program_calls.proofs.Passives.{passive_by, passive_calls}
@@ -27,7 +29,8 @@ use Rattle.program_calls.proofs.Pieces.{Kind, Step, TurnEnd, BodyEnd, kind, in_l
 
 -- a call that has a way
 abbrev HasWay : Course → Name → Name → Type 0
-HasWay c unit op = (actuals : List Expression) (vars : Variables) → (p : Path) × Called (setting c) (record { object = unit; op = op }) (c.calls unit op) actuals vars p × (p.left ≡ false)
+HasWay c unit op = (actuals : List Expression) (vars : Variables) → (p : Path)
+    × Called (setting c) (record { object = unit; op = op }) (c.calls unit op) actuals vars p × (p.left ≡ false)
 
 -- a way that leaves a loop only where there is one
 abbrev pub SomeWay : Bool → (Path → Type 0) → Type 0
@@ -45,12 +48,28 @@ some_loop (suc n) at turn name Body vars some = by (some ((name, at) ∷ vars)) 
     by_left : (body : Path) (b : Bool) → body.left ≡ b → Body ((name, at) ∷ vars) body
         → ((w : Variables) → (p : Path) × Turns n (suc at) turn name Body w p × (p.left ≡ false))
         → (p : Path) × Turns (suc n) at turn name Body vars p × (p.left ≡ false)
-    by_left body true e goes more =
-        (turned turn body, (body, goes, subst (λ b. Followed b (turned turn body) (Turns n (suc at) turn name Body (drop 1 body.vars)) (turned turn body)) (sym e) refl), refl)
+    by_left body true e goes more = (
+      turned turn body,
+      (
+        body,
+        goes,
+        subst (λ b. Followed b (turned turn body) (Turns n (suc at) turn name Body (drop 1 body.vars))
+            (turned turn body)) (sym e) refl,
+      ),
+      refl,
+    )
     by_left body false e goes more =
         let later = more (drop 1 body.vars) in
-        let p : Path = joined (turned turn body) later.0 in
-        (p, (body, goes, subst (λ b. Followed b (turned turn body) (Turns n (suc at) turn name Body (drop 1 body.vars)) p) (sym e) (later.0, later.1, refl)), later.2)
+        let p : Path = joined (turned turn body) later.0 in (
+          p,
+          (
+            body,
+            goes,
+            subst (λ b. Followed b (turned turn body) (Turns n (suc at) turn name Body (drop 1 body.vars)) p) (sym
+                e) (later.0, later.1, refl),
+          ),
+          later.2,
+        )
 
     by : SomeWay true (Body ((name, at) ∷ vars)) → ((w : Variables) → (p : Path) × Turns n (suc at) turn name Body w p × (p.left ≡ false))
         → (p : Path) × Turns (suc n) at turn name Body vars p × (p.left ≡ false)
@@ -58,7 +77,8 @@ some_loop (suc n) at turn name Body vars some = by (some ((name, at) ∷ vars)) 
 
 -- one way and then another
 then_way : (within : Bool) (Next : Variables → Path → Type 0) (First : Path → Type 0)
-    → SomeWay within First → ((w : Variables) → SomeWay within (Next w)) → SomeWay within (λ p. (q : Path) × First q × Followed q.left q (Next q.vars) p)
+    → SomeWay within First → ((w : Variables) → SomeWay within (Next w))
+    → SomeWay within (λ p. (q : Path) × First q × Followed q.left q (Next q.vars) p)
 then_way within Next First first more = by first.0.left refl
   where
     by : (b : Bool) → first.0.left ≡ b → SomeWay within (λ p. (q : Path) × First q × Followed q.left q (Next q.vars) p)
@@ -68,12 +88,14 @@ then_way within Next First first more = by first.0.left refl
         let p : Path = joined first.0 later.0 in
         (p, (first.0, first.1, subst (λ b. Followed b first.0 (Next first.0.vars) p) (sym e) (later.0, later.1, refl)), later.2)
 
-chosen_way : (within b : Bool) (First Second : Path → Type 0) → (⊤ → SomeWay within First) → (⊤ → SomeWay within Second) → SomeWay within (Chosen b First Second)
+chosen_way : (within b : Bool) (First Second : Path → Type 0) → (⊤ → SomeWay within First) → (⊤ → SomeWay within Second)
+    → SomeWay within (Chosen b First Second)
 chosen_way within true First Second f g = f tt
 chosen_way within false First Second f g = g tt
 
 mutual
-  way_statement : (c : Course) (within : Bool) (s : Statement) → FitStatement (HasWay c) within s → (vars : Variables) → SomeWay within (RunStatement (setting c) s vars)
+  way_statement : (c : Course) (within : Bool) (s : Statement) → FitStatement (HasWay c) within s → (vars : Variables)
+      → SomeWay within (RunStatement (setting c) s vars)
   way_statement c within Null f vars = (silent c.system.costs.nothing vars, refl, never _ _ refl)
   way_statement c within (Assign target e) f vars = (silent c.system.costs.assign (write target (value e vars) vars), refl, never _ _ refl)
   way_statement c within (If branches) f vars = way_branches c within branches f vars
@@ -85,21 +107,26 @@ mutual
   way_statement c within (Work ticks) f vars = (record (silent 1 vars) { high = ticks }, refl, never _ _ refl)
   way_statement c within (Put e) f vars = (record (silent c.system.costs.put vars) { script = runs.Print (value e vars) ∷ [] }, refl, never _ _ refl)
 
-  way_block : (c : Course) (within : Bool) (b : Statements) → FitBlock (HasWay c) within b → (vars : Variables) → SomeWay within (RunBlock (setting c) b vars)
+  way_block : (c : Course) (within : Bool) (b : Statements) → FitBlock (HasWay c) within b → (vars : Variables)
+      → SomeWay within (RunBlock (setting c) b vars)
   way_block c within End f vars = (silent 0 vars, refl, never _ _ refl)
   way_block c within (Then first rest) f vars =
-      then_way within (λ w. RunBlock (setting c) rest w) (RunStatement (setting c) first vars) (way_statement c within first f.0 vars) (λ w. way_block c within rest f.1 w)
+      then_way within (λ w. RunBlock (setting c) rest w) (RunStatement (setting c) first vars) (way_statement c within first f.0 vars)
+      (λ w. way_block c within rest f.1 w)
 
-  way_branches : (c : Course) (within : Bool) (b : Branches) → FitBranches (HasWay c) within b → (vars : Variables) → SomeWay within (RunBranch (setting c) b vars)
+  way_branches : (c : Course) (within : Bool) (b : Branches) → FitBranches (HasWay c) within b → (vars : Variables)
+      → SomeWay within (RunBranch (setting c) b vars)
   way_branches c within Nothing f vars = (silent 0 vars, refl, never _ _ refl)
   way_branches c within (Else block) f vars = way_block c within block f vars
   way_branches c within (When condition block others) f vars =
-      let found = chosen_way within (holds condition vars) _ _ (λ t. way_block c within block f.0 vars) (λ t. way_branches c within others f.1 vars) in
+      let found = chosen_way within (holds condition vars) _ _ (λ t. way_block c within block f.0 vars)
+      (λ t. way_branches c within others f.1 vars) in
       (joined (silent c.system.costs.test vars) found.0, (found.0, found.1, refl), found.2)
 
 -- what is fit for good calls is fit for calls with a weaker fact
 mutual
-  map_statement : (Good Weak : Name → Name → Type 0) → ((unit op : Name) → Good unit op → Weak unit op) → (within : Bool) (s : Statement) → FitStatement Good within s → FitStatement Weak within s
+  map_statement : (Good Weak : Name → Name → Type 0) → ((unit op : Name) → Good unit op → Weak unit op) → (within : Bool) (s : Statement)
+      → FitStatement Good within s → FitStatement Weak within s
   map_statement Good Weak to within Null f = tt
   map_statement Good Weak to within (Assign target e) f = tt
   map_statement Good Weak to within (If branches) f = map_branches Good Weak to within branches f
@@ -109,14 +136,17 @@ mutual
   map_statement Good Weak to within (Work ticks) f = f
   map_statement Good Weak to within (Put e) f = tt
 
-  pub map_block : (Good Weak : Name → Name → Type 0) → ((unit op : Name) → Good unit op → Weak unit op) → (within : Bool) (b : Statements) → FitBlock Good within b → FitBlock Weak within b
+  pub map_block : (Good Weak : Name → Name → Type 0) → ((unit op : Name) → Good unit op → Weak unit op) → (within : Bool) (b : Statements)
+      → FitBlock Good within b → FitBlock Weak within b
   map_block Good Weak to within End f = tt
   map_block Good Weak to within (Then first rest) f = (map_statement Good Weak to within first f.0, map_block Good Weak to within rest f.1)
 
-  pub map_branches : (Good Weak : Name → Name → Type 0) → ((unit op : Name) → Good unit op → Weak unit op) → (within : Bool) (b : Branches) → FitBranches Good within b → FitBranches Weak within b
+  pub map_branches : (Good Weak : Name → Name → Type 0) → ((unit op : Name) → Good unit op → Weak unit op) → (within : Bool) (b : Branches)
+      → FitBranches Good within b → FitBranches Weak within b
   map_branches Good Weak to within Nothing f = tt
   map_branches Good Weak to within (Else block) f = map_block Good Weak to within block f
-  map_branches Good Weak to within (When condition block others) f = (map_block Good Weak to within block f.0, map_branches Good Weak to within others f.1)
+  map_branches Good Weak to within (When condition block others) f
+      = (map_block Good Weak to within block f.0, map_branches Good Weak to within others f.1)
 
 -- a fact of the passive operation that a call leads to
 abbrev OfPlain : (Operation → Type 0) → CallTarget → Type 0
@@ -124,7 +154,8 @@ OfPlain Fact (Plain o) = Fact o
 OfPlain Fact _ = ⊤
 
 -- a call whose body has ways has one
-way_callee : (c : Course) (name : OpName) (k : CallTarget) → IsFitCallee c.Good k → OfPlain (λ o. (vars : Variables) → SomeWay false (RunBlock (setting c) o.block vars)) k
+way_callee : (c : Course) (name : OpName) (k : CallTarget) → IsFitCallee c.Good k
+    → OfPlain (λ o. (vars : Variables) → SomeWay false (RunBlock (setting c) o.block vars)) k
     → (actuals : List Expression) (vars : Variables) → (p : Path) × Called (setting c) name (seen k) actuals vars p × (p.left ≡ false)
 way_callee c name (Plain o) f bodies actuals vars =
     let body = bodies (opened o (handed o.sig.params actuals vars)) in
@@ -183,7 +214,8 @@ shallow_way : (c : Course) → IsApt c → (n : ℕ) (unit op : Name) → c.Good
 shallow_way c apt zero unit op good shallow actuals vars =
     let k : CallTarget = callee c.system unit op in
     let Goes : runs.Callee → Type 0 = λ k. (p : Path) × Called (setting c) (record { object = unit; op = op }) k actuals vars p × (p.left ≡ false) in
-    subst Goes (sym (apt.leads unit op)) (way_callee c (record { object = unit; op = op }) k (apt.closed unit op good) (no_body _ k shallow) actuals vars)
+    subst Goes (sym (apt.leads unit op)) (way_callee c (record { object = unit; op = op }) k (apt.closed unit op good)
+    (no_body _ k shallow) actuals vars)
 shallow_way c apt (suc n) unit op good shallow actuals vars =
     let k : CallTarget = callee c.system unit op in
     let Goes : runs.Callee → Type 0 = λ k. (p : Path) × Called (setting c) (record { object = unit; op = op }) k actuals vars p × (p.left ≡ false) in
@@ -194,11 +226,13 @@ pub good_way : (c : Course) → IsApt c → (unit op : Name) → c.Good unit op 
 good_way c apt unit op good = let d = apt.depth unit op good in shallow_way c apt d.0 unit op good d.1
 
 -- from any variables there is a way through a fit block
-pub some_way : (c : Course) → IsApt c → (within : Bool) (b : Statements) → FitBlock c.Good within b → (vars : Variables) → SomeWay within (RunBlock (setting c) b vars)
+pub some_way : (c : Course) → IsApt c → (within : Bool) (b : Statements) → FitBlock c.Good within b → (vars : Variables)
+    → SomeWay within (RunBlock (setting c) b vars)
 some_way c apt within b f = way_block c within b (map_block c.Good (HasWay c) (good_way c apt) within b f)
 
 -- a piece
-way_piece : (c : Course) → IsApt c → (within : Bool) (x : Piece) → FitPiece c.Good within x → is_last x ≡ false → (vars : Variables) → SomeWay within (WayPiece c x vars)
+way_piece : (c : Course) → IsApt c → (within : Bool) (x : Piece) → FitPiece c.Good within x → is_last x ≡ false → (vars : Variables)
+    → SomeWay within (WayPiece c x vars)
 way_piece c apt within Idle f e vars = way_statement c within Null tt vars
 way_piece c apt within (Store target v) f e vars = way_statement c within (Assign target v) tt vars
 way_piece c apt within (Leaving condition) f e vars = way_statement c within (ExitWhen condition) f vars
@@ -208,15 +242,18 @@ way_piece c apt within (Printing v) f e vars = way_statement c within (Put v) tt
 way_piece c apt within (Testing condition block others) f e vars =
     way_branches c within (When condition block others) (map_branches c.Good (HasWay c) (good_way c apt) within (When condition block others) f) vars
 way_piece c apt within (Turning name at last body) f e vars =
-    let found = some_loop (suc (turn_count (suc at) last)) at c.system.costs.turn name (RunBlock (setting c) body) vars (some_way c apt true body f) in
+    let found = some_loop (suc (turn_count (suc at) last)) at c.system.costs.turn name (RunBlock (setting c) body) vars
+    (some_way c apt true body f) in
     (found.0, found.1, never _ _ found.2)
 way_piece c apt within (Turned name at last body) f e vars =
-    let found = some_loop (turn_count (suc at) last) (suc at) c.system.costs.turn name (RunBlock (setting c) body) (drop 1 vars) (some_way c apt true body f) in
+    let found = some_loop (turn_count (suc at) last) (suc at) c.system.costs.turn name (RunBlock (setting c) body) (drop 1 vars)
+    (some_way c apt true body f) in
     (found.0, found.1, never _ _ found.2)
 way_piece c apt within (Returning outs stores caller) f e vars = (silent 0 (stored stores (reads outs vars) caller), refl, never _ _ refl)
 way_piece c apt within (Keeping task v) f e vars = (silent c.system.costs.assign vars, refl, never _ _ refl)
 way_piece c apt within (Opening task) f e vars = (silent c.system.costs.assign vars, refl, never _ _ refl)
-way_piece c apt within (Requested task v) f e vars = (record (silent 0 vars) { script = runs.Request (c.request_name task) v ∷ [] }, refl, never _ _ refl)
+way_piece c apt within (Requested task v) f e vars
+    = (record (silent 0 vars) { script = runs.Request (c.request_name task) v ∷ [] }, refl, never _ _ refl)
 way_piece c apt within (Closing object op data' outs stores caller) f e vars = absurd (grind (arith, e))
 way_piece c apt within Finishing f e vars = absurd (grind (arith, e))
 
@@ -228,7 +265,8 @@ passing_way TurnEnd b On Over vars e on over = on (drop 1 vars)
 passing_way BodyEnd b On Over vars e on over = absurd (grind (arith, e))
 
 -- pieces
-pub some_ways : (c : Course) → IsApt c → (leaves : Bool) (ps : List Piece) → FitPieces c.Good ps → (leaves ≡ true → in_loop ps ≡ true) → (vars : Variables) → (p : Path) × Ways c leaves ps vars p
+pub some_ways : (c : Course) → IsApt c → (leaves : Bool) (ps : List Piece) → FitPieces c.Good ps → (leaves ≡ true → in_loop ps ≡ true)
+    → (vars : Variables) → (p : Path) × Ways c leaves ps vars p
 some_ways c apt false [] f e vars = (silent 0 vars, refl)
 some_ways c apt true [] f e vars = absurd (grind (arith, e refl))
 some_ways c apt true (x ∷ xs) f e vars =

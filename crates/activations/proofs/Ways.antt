@@ -8,7 +8,8 @@ use Rattle.seq_tree.specs.Dearest.{turn_count}
 use Rattle.seq_tree.specs.Runs.{Action, Path, silent, joined, Turns, RunStatement, RunBlock, RunBranch, Chosen, Run, BeginsScript}
 use Rattle.seq_tree.specs.Runs as runs
 use Rattle.seq_tree.specs.declared.tree.OpName.{OpName}
-use Rattle.machine.specs.Pieces.{Piece, Idle, Store, Leaving, Calling, Working, Printing, Testing, Turning, Turned, Returning, Closing, Keeping, Opening, Requested, Finishing}
+use Rattle.machine.specs.Pieces.{Piece, Idle, Store, Leaving, Calling, Working, Printing, Testing, Turning, Turned, Returning, Closing, Keeping}
+use Rattle.machine.specs.Pieces.{Opening, Requested, Finishing}
 use Rattle.guarantee.specs.Events.{Deed, Leave}
 use Rattle.guarantee.specs.Steps.{Step, closes, depth_after, placed, outermost, inside, shown}
 use Rattle.guarantee.specs.Scripts.{least_by, most_by}
@@ -26,7 +27,8 @@ WayPiece c (Working ticks) vars p = RunStatement (setting c) (Work ticks) vars p
 WayPiece c (Printing e) vars p = RunStatement (setting c) (Put e) vars p
 WayPiece c (Testing condition block others) vars p = RunBranch (setting c) (When condition block others) vars p
 WayPiece c (Turning name at last body) vars p = Turns (suc (turn_count (suc at) last)) at c.system.costs.turn name (RunBlock (setting c) body) vars p
-WayPiece c (Turned name at last body) vars p = Turns (turn_count (suc at) last) (suc at) c.system.costs.turn name (RunBlock (setting c) body) (drop 1 vars) p
+WayPiece c (Turned name at last body) vars p = Turns (turn_count (suc at) last) (suc at) c.system.costs.turn name (RunBlock (setting c) body)
+    (drop 1 vars) p
 WayPiece c (Returning outs stores caller) vars p = p ≡ silent 0 (stored stores (reads outs vars) caller)
 WayPiece c (Keeping task v) vars p = p ≡ silent c.system.costs.assign vars
 WayPiece c (Opening task) vars p = p ≡ silent c.system.costs.assign vars

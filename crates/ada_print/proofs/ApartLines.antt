@@ -4,10 +4,12 @@ use Rattle.std.specs.List.{list_all}
 use Rattle.std.proofs.lemmas.Bool.{and_from, and_parts}
 use Rattle.std.proofs.lemmas.List.Folds.{list_all-append}
 use Rattle.seq_tree.specs.Expressions.{Expression, Number, Variable, Paren, Not, Binary}
-use Rattle.seq_tree.specs.Statements.{Statement, Statements, Branches, Null, Assign, If, For, ExitWhen, Call, Work, Put, End, Then, Nothing, Else, When}
+use Rattle.seq_tree.specs.Statements.{Statement, Statements, Branches, Null, Assign, If, For, ExitWhen, Call, Work, Put, End, Then, Nothing}
+use Rattle.seq_tree.specs.Statements.{Else, When}
 use Rattle.seq_tree.specs.Operations.{Signature, Operation}
 use Rattle.seq_tree.specs.Names.{Name}
-use Rattle.seq_tree.specs.Spelling.{Line, joined, block_lines, branch_lines, statement_lines, expression_tokens, actual_tokens, more_actuals, op_token}
+use Rattle.seq_tree.specs.Spelling.{Line, joined, block_lines, branch_lines, statement_lines, expression_tokens, actual_tokens, more_actuals}
+use Rattle.seq_tree.specs.Spelling.{op_token}
 use Rattle.seq_tree.specs.declared.token.Token.{Token}
 use Rattle.seq_tree.specs.declared.token.Token.TheVariants as token
 use Rattle.seq_tree.specs.declared.token.Token.TheVariants.{Word, Sign}
@@ -20,7 +22,9 @@ use Rattle.seq_tree.specs.declared.tree.Param.{Param}
 use Rattle.seq_tree.specs.declared.tree.Datum.{Datum}
 use Rattle.seq_print.specs.Readable.{are_apart, are_readable, is_readable, is_readable_line}
 use Rattle.ada_tree.specs.Programs.{Form, Unit, Program, Passive, Shared, Cyclic, Sporadic}
-use Rattle.ada_tree.specs.Spelling.{body_lines, datum_line, declaration_line, end_line, head_tokens, inner_body, inner_specification, kept_token, mode_token, param_tokens, params_tokens, program_lines, renaming_line, request_token, specification_lines, truth_token, unit_body_lines}
+use Rattle.ada_tree.specs.Spelling.{body_lines, datum_line, declaration_line, end_line, head_tokens, inner_body, inner_specification, kept_token}
+use Rattle.ada_tree.specs.Spelling.{mode_token, param_tokens, params_tokens, program_lines, renaming_line, request_token, specification_lines}
+use Rattle.ada_tree.specs.Spelling.{truth_token, unit_body_lines}
 use Rattle.ada_print.specs.Writable.{is_writable}
 
 -- whether tokens don't begin with a dot or two
@@ -99,7 +103,8 @@ expression-apart (Paren e) rest ok =
 expression-apart (Not e) rest ok = expression-apart e rest ok
 expression-apart (Binary op left right) rest ok =
     ap is_apart (append_assoc (expression_tokens left) (op_token op ∷ expression_tokens right) rest)
-    ∙ expression-apart left (op_token op ∷ (expression_tokens right ++ rest)) (and_from _ _ (op-leaves op (expression_tokens right ++ rest)) (expression-apart right rest ok))
+    ∙ expression-apart left (op_token op ∷ (expression_tokens right ++ rest))
+    (and_from _ _ (op-leaves op (expression_tokens right ++ rest)) (expression-apart right rest ok))
 
 more-apart : (es : List Expression) (rest : List Token) → is_apart rest ≡ true → is_apart (more_actuals es ++ rest) ≡ true
 more-apart [] rest ok = ok
@@ -111,7 +116,8 @@ actuals-apart [] = refl
 actuals-apart (e ∷ es) =
     ap is_apart (append_assoc (expression_tokens e) (more_actuals es ++ Sign RightParen ∷ []) (Sign Semicolon ∷ []))
     ∙ expression-apart e ((more_actuals es ++ Sign RightParen ∷ []) ++ Sign Semicolon ∷ [])
-    (ap is_apart (append_assoc (more_actuals es) (Sign RightParen ∷ []) (Sign Semicolon ∷ [])) ∙ more-apart es (Sign RightParen ∷ Sign Semicolon ∷ []) refl)
+    (ap is_apart (append_assoc (more_actuals es) (Sign RightParen ∷ []) (Sign Semicolon ∷ [])) ∙ more-apart es
+    (Sign RightParen ∷ Sign Semicolon ∷ []) refl)
 
 -- BLOCKS
 mutual
@@ -127,23 +133,28 @@ mutual
 
   block-apart : (level : ℕ) (b : Statements) → are_apart_lines (block_lines level b) ≡ true
   block-apart level End = refl
-  block-apart level (Then first rest) = apart-append (statement_lines level first) (block_lines level rest) (statement-apart level first) (block-apart level rest)
+  block-apart level (Then first rest) = apart-append (statement_lines level first) (block_lines level rest) (statement-apart level first)
+      (block-apart level rest)
 
   branches-apart : (word : List ℕ) (level : ℕ) (b : Branches) → are_apart_lines (branch_lines word level b) ≡ true
   branches-apart word level Nothing = refl
   branches-apart word level (Else block) = block-apart (suc level) block
   branches-apart word level (When condition block others) =
       and_from _ _ (expression-apart condition (Word (codes "then") ∷ []) refl)
-      (apart-append (block_lines (suc level) block) (branch_lines (codes "elsif") level others) (block-apart (suc level) block) (branches-apart (codes "elsif") level others))
+      (apart-append (block_lines (suc level) block) (branch_lines (codes "elsif") level others) (block-apart (suc level) block)
+      (branches-apart (codes "elsif") level others))
 
 -- OPERATIONS
-param-apart : (n : Name) (m : Mode) (rest : List Token) → is_apart rest ≡ true → is_apart ((Word n ∷ Sign Colon ∷ mode_token m ∷ Word (codes "word") ∷ []) ++ rest) ≡ true
+param-apart : (n : Name) (m : Mode) (rest : List Token) → is_apart rest ≡ true
+    → is_apart ((Word n ∷ Sign Colon ∷ mode_token m ∷ Word (codes "word") ∷ []) ++ rest) ≡ true
 param-apart n In rest ok = ok
 param-apart n Out rest ok = ok
 
-more_params-apart : (ps : List Param) (rest : List Token) → is_apart rest ≡ true → is_apart (flat_map (λ q. Sign Semicolon ∷ param_tokens q) ps ++ rest) ≡ true
+more_params-apart : (ps : List Param) (rest : List Token) → is_apart rest ≡ true
+    → is_apart (flat_map (λ q. Sign Semicolon ∷ param_tokens q) ps ++ rest) ≡ true
 more_params-apart [] rest ok = ok
-more_params-apart (p ∷ ps) rest ok = param-apart p.name p.mode (flat_map (λ q. Sign Semicolon ∷ param_tokens q) ps ++ rest) (more_params-apart ps rest ok)
+more_params-apart (p ∷ ps) rest ok = param-apart p.name p.mode (flat_map (λ q. Sign Semicolon ∷ param_tokens q) ps ++ rest)
+    (more_params-apart ps rest ok)
 
 head-apart : (sig : Signature) (rest : List Token) → is_apart rest ≡ true → is_apart (head_tokens sig ++ rest) ≡ true
 head-apart sig rest ok = by sig.params where
@@ -172,7 +183,8 @@ renamings-apart object (o ∷ os) = and_from _ _ (renaming-apart object o.sig) (
 body-apart : (level : ℕ) (o : Operation) → are_apart_lines (body_lines level o) ≡ true
 body-apart level o =
     and_from _ _ (head-apart o.sig (Word (codes "is") ∷ []) refl)
-    (apart-append (map (datum_line (suc level)) o.locals) _ (data-apart (suc level) o.locals) (apart-append (block_lines (suc level) o.block) _ (block-apart (suc level) o.block) refl))
+    (apart-append (map (datum_line (suc level)) o.locals) _ (data-apart (suc level) o.locals)
+    (apart-append (block_lines (suc level) o.block) _ (block-apart (suc level) o.block) refl))
 
 bodies-apart : (level : ℕ) (os : List Operation) → are_apart_lines (flat_map (body_lines level) os) ≡ true
 bodies-apart level [] = refl
@@ -190,13 +202,15 @@ specification-apart (Shared ceiling vars ops) =
     (apart-append (map (datum_line 3) vars) _ (data-apart 3 vars) (renamings-apart (codes "hrt_object") ops))
 specification-apart (Cyclic priority offset period vars block) = refl
 specification-apart (Sporadic priority ceiling op separation jitter external vars block) =
-    and_from _ _ (head-apart op (Sign Semicolon ∷ []) refl) (and_from _ _ (renaming-apart (codes "hrt_obcs") op) (and_from _ _ (truth-apart external) refl))
+    and_from _ _ (head-apart op (Sign Semicolon ∷ []) refl) (and_from _ _ (renaming-apart (codes "hrt_obcs") op)
+    (and_from _ _ (truth-apart external) refl))
 
 kept-apart : (ps : List Param) → is_apart (kept_token ps ∷ Sign Semicolon ∷ []) ≡ true
 kept-apart [] = refl
 kept-apart (p ∷ ps) = refl
 
-variable-apart : (ps : List Param) → is_apart (request_token ps ∷ Sign Colon ∷ Word (codes "word") ∷ Sign Becomes ∷ token.Number 0 ∷ Sign Semicolon ∷ []) ≡ true
+variable-apart : (ps : List Param)
+    → is_apart (request_token ps ∷ Sign Colon ∷ Word (codes "word") ∷ Sign Becomes ∷ token.Number 0 ∷ Sign Semicolon ∷ []) ≡ true
 variable-apart [] = refl
 variable-apart (p ∷ ps) = refl
 
@@ -207,11 +221,13 @@ waiting-apart (p ∷ ps) = refl
 inner_body-apart : (f : Form) → are_apart_lines (inner_body f) ≡ true
 inner_body-apart (Passive ops) = bodies-apart 2 ops
 inner_body-apart (Shared ceiling vars ops) = apart-append (flat_map (body_lines 3) ops) _ (bodies-apart 3 ops) refl
-inner_body-apart (Cyclic priority offset period vars block) = apart-append (map (datum_line 2) vars) _ (data-apart 2 vars) (apart-append (block_lines 4 block) _ (block-apart 4 block) refl)
+inner_body-apart (Cyclic priority offset period vars block)
+    = apart-append (map (datum_line 2) vars) _ (data-apart 2 vars) (apart-append (block_lines 4 block) _ (block-apart 4 block) refl)
 inner_body-apart (Sporadic priority ceiling op separation jitter external vars block) =
     apart-append (map (datum_line 2) vars) _ (data-apart 2 vars)
     (and_from _ _ (head-apart op (Word (codes "is") ∷ []) refl) (and_from _ _ (kept-apart op.params)
-    (and_from _ _ (variable-apart op.params) (and_from _ _ (waiting-apart op.params) (apart-append (block_lines 4 block) _ (block-apart 4 block) refl)))))
+    (and_from _ _ (variable-apart op.params) (and_from _ _ (waiting-apart op.params)
+    (apart-append (block_lines 4 block) _ (block-apart 4 block) refl)))))
 
 units-apart : (f : Unit → List Line) → ((u : Unit) → are_apart_lines (f u) ≡ true) → (us : List Unit) → are_apart_lines (flat_map f us) ≡ true
 units-apart f each [] = refl

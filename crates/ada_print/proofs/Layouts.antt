@@ -12,50 +12,61 @@ use Rattle.seq_tree.specs.Names.{Name}
 use Rattle.seq_tree.specs.declared.token.Token.TheVariants.{Word, Number, Sign}
 use Rattle.seq_tree.specs.declared.token.Mark.TheVariants.{LeftParen, RightParen, Semicolon, Colon, Comma, Becomes, Dot, StarStar}
 use Rattle.ada_tree.specs.Programs.{Unit, Program, Shared, Cyclic, Sporadic}
-use Rattle.ada_tree.specs.Spelling.{body_lines, constant_line, datum_line, declaration_line, end_line, head_tokens, hrt_lines, inner_body, inner_specification, kept_token, priority_line, program_lines, renaming_line, request_token, specification_lines, task_lines, unit_body_lines}
+use Rattle.ada_tree.specs.Spelling.{body_lines, constant_line, datum_line, declaration_line, end_line, head_tokens, hrt_lines, inner_body}
+use Rattle.ada_tree.specs.Spelling.{inner_specification, kept_token, priority_line, program_lines, renaming_line, request_token}
+use Rattle.ada_tree.specs.Spelling.{specification_lines, task_lines, unit_body_lines}
 use Rattle.ada_print.specs.Parts.{closing_lines, head_text, opening_lines, package_lines}
 use Rattle.ada_print.specs.Parts as parts
 use Rattle.ada_print.specs.Requests.{constant_lines, external_line, object_lines, waiting_lines}
 use Rattle.ada_print.proofs.HeadTexts.{is-text, end-text, joined-two, layout-append, one-line}
 
 -- a cost
-pub cost-text : (name : List ℕ) (n : ℕ) → codes "   " ++ (name ++ (codes " : constant := " ++ (decimal n ++ codes ";\n"))) ≡ line_text (constant_line 1 name n)
+pub cost-text : (name : List ℕ) (n : ℕ) → codes "   " ++ (name ++ (codes " : constant := " ++ (decimal n ++ codes ";\n")))
+    ≡ line_text (constant_line 1 name n)
 cost-text name n = simp append_assoc
 
 -- what package `hrt` says of words
 type_line : Line
-type_line = line 1 (Word (codes "type") ∷ Word (codes "word") ∷ Word (codes "is") ∷ Word (codes "mod") ∷ Number 2 ∷ Sign StarStar ∷ Number 32 ∷ Sign Semicolon ∷ [])
+type_line = line 1 (Word (codes "type") ∷ Word (codes "word") ∷ Word (codes "is") ∷ Word (codes "mod") ∷ Number 2 ∷ Sign StarStar ∷ Number 32
+    ∷ Sign Semicolon ∷ [])
 
 type-text : codes "   type word is mod 2 ** 32;\n" ≡ line_text type_line
 unfolding digits type_line
 type-text = refl
 
 -- package `hrt`
-pub hrt-text : (c : Costs) → codes "package hrt is\n   type word is mod 2 ** 32;\n   subtype moment is ada.real_time.time;\n" ++ layout (drop 3 (hrt_lines c)) ≡ layout (hrt_lines c)
+pub hrt-text : (c : Costs) → codes "package hrt is\n   type word is mod 2 ** 32;\n   subtype moment is ada.real_time.time;\n"
+    ++ layout (drop 3 (hrt_lines c)) ≡ layout (hrt_lines c)
 unfolding type_line
-hrt-text c = ap (λ t. codes "package hrt is\n" ++ (t ++ (codes "   subtype moment is ada.real_time.time;\n" ++ layout (drop 3 (hrt_lines c))))) type-text
+hrt-text c = ap (λ t. codes "package hrt is\n"
+    ++ (t ++ (codes "   subtype moment is ada.real_time.time;\n" ++ layout (drop 3 (hrt_lines c))))) type-text
 
 -- TASKS
 -- the declaration of a task
-pub task-text : (n : ℕ) → codes "      task hrt_thread is\n         pragma priority (" ++ (decimal n ++ codes ");\n      end hrt_thread;\n") ≡ layout (task_lines n)
+pub task-text : (n : ℕ) → codes "      task hrt_thread is\n         pragma priority (" ++ (decimal n ++ codes ");\n      end hrt_thread;\n")
+    ≡ layout (task_lines n)
 task-text n = simp append_assoc
 
 -- the body of a cyclic task up to its first statement
 cyclic_first : ℕ → List Line
 cyclic_first offset =
     line 2 (Word (codes "task") ∷ Word (codes "body") ∷ Word (codes "hrt_thread") ∷ Word (codes "is") ∷ [])
-    ∷ line 3 (Word (codes "hrt_next") ∷ Sign Colon ∷ Word (codes "hrt") ∷ Sign Dot ∷ Word (codes "moment") ∷ Sign Becomes ∷ Word (codes "hrt") ∷ Sign Dot ∷ Word (codes "after") ∷ Sign LeftParen
+    ∷ line 3 (Word (codes "hrt_next") ∷ Sign Colon ∷ Word (codes "hrt") ∷ Sign Dot ∷ Word (codes "moment") ∷ Sign Becomes ∷ Word (codes "hrt")
+    ∷ Sign Dot ∷ Word (codes "after") ∷ Sign LeftParen
     ∷ Word (codes "hrt") ∷ Sign Dot ∷ Word (codes "epoch") ∷ Sign Comma ∷ Number offset ∷ Sign RightParen ∷ Sign Semicolon ∷ [])
-    ∷ line 2 (Word (codes "begin") ∷ []) ∷ line 3 (Word (codes "loop") ∷ []) ∷ line 4 (Word (codes "delay") ∷ Word (codes "until") ∷ Word (codes "hrt_next") ∷ Sign Semicolon ∷ []) ∷ []
+    ∷ line 2 (Word (codes "begin") ∷ []) ∷ line 3 (Word (codes "loop") ∷ [])
+    ∷ line 4 (Word (codes "delay") ∷ Word (codes "until") ∷ Word (codes "hrt_next") ∷ Sign Semicolon ∷ []) ∷ []
 
-first-text : (offset : ℕ) → codes "      task body hrt_thread is\n         hrt_next : hrt.moment := hrt.after (hrt.epoch, " ++ (decimal offset ++ codes ");\n      begin\n         loop\n            delay until hrt_next;\n") ≡ layout (cyclic_first offset)
+first-text : (offset : ℕ) → codes "      task body hrt_thread is\n         hrt_next : hrt.moment := hrt.after (hrt.epoch, "
+    ++ (decimal offset ++ codes ");\n      begin\n         loop\n            delay until hrt_next;\n") ≡ layout (cyclic_first offset)
 unfolding cyclic_first
 first-text offset = simp append_assoc
 
 -- the line with its period
 cyclic_next : ℕ → List Line
 cyclic_next period =
-    line 4 (Word (codes "hrt_next") ∷ Sign Becomes ∷ Word (codes "hrt") ∷ Sign Dot ∷ Word (codes "after") ∷ Sign LeftParen ∷ Word (codes "hrt_next") ∷ Sign Comma ∷ Number period ∷ Sign RightParen ∷ Sign Semicolon ∷ []) ∷ []
+    line 4 (Word (codes "hrt_next") ∷ Sign Becomes ∷ Word (codes "hrt") ∷ Sign Dot ∷ Word (codes "after") ∷ Sign LeftParen ∷ Word (codes "hrt_next")
+    ∷ Sign Comma ∷ Number period ∷ Sign RightParen ∷ Sign Semicolon ∷ []) ∷ []
 
 next-text : (period : ℕ) → codes "            hrt_next := hrt.after (hrt_next, " ++ (decimal period ++ codes ");\n") ≡ layout (cyclic_next period)
 unfolding cyclic_next
@@ -63,7 +74,8 @@ next-text period = simp append_assoc
 
 -- and what is behind the last statement of a task
 loop_last : List Line
-loop_last = line 4 (Word (codes "activation_end") ∷ Sign Semicolon ∷ []) ∷ line 3 (Word (codes "end") ∷ Word (codes "loop") ∷ Sign Semicolon ∷ []) ∷ end_line 2 (codes "hrt_thread") ∷ []
+loop_last = line 4 (Word (codes "activation_end") ∷ Sign Semicolon ∷ []) ∷ line 3 (Word (codes "end") ∷ Word (codes "loop") ∷ Sign Semicolon ∷ [])
+    ∷ end_line 2 (codes "hrt_thread") ∷ []
 
 last-text : codes "            activation_end;\n         end loop;\n      end hrt_thread;\n" ≡ layout loop_last
 unfolding loop_last
@@ -72,7 +84,8 @@ last-text = refl
 -- the body of a cyclic unit
 pub cyclic-text : (offset period : ℕ) (vars : List Datum) (block : Statements)
     → layout (map (datum_line 2) vars)
-    ++ ((codes "      task body hrt_thread is\n         hrt_next : hrt.moment := hrt.after (hrt.epoch, " ++ (decimal offset ++ codes ");\n      begin\n         loop\n            delay until hrt_next;\n"))
+    ++ ((codes "      task body hrt_thread is\n         hrt_next : hrt.moment := hrt.after (hrt.epoch, "
+    ++ (decimal offset ++ codes ");\n      begin\n         loop\n            delay until hrt_next;\n"))
     ++ ((codes "            hrt_next := hrt.after (hrt_next, " ++ (decimal period ++ codes ");\n"))
     ++ (layout (block_lines 4 block) ++ codes "            activation_end;\n         end loop;\n      end hrt_thread;\n")))
     ≡ layout (inner_body (Cyclic 0 offset period vars block))
@@ -87,7 +100,8 @@ cyclic-text offset period vars block =
 ceiling_lines : List ℕ → ℕ → List Line
 ceiling_lines object n = line 2 (Word (codes "protected") ∷ Word object ∷ Word (codes "is") ∷ []) ∷ priority_line 3 n ∷ []
 
-shared-ceiling : (n : ℕ) → codes "      protected hrt_object is\n         pragma priority (" ++ (decimal n ++ codes ");\n") ≡ layout (ceiling_lines (codes "hrt_object") n)
+shared-ceiling : (n : ℕ) → codes "      protected hrt_object is\n         pragma priority (" ++ (decimal n ++ codes ");\n")
+    ≡ layout (ceiling_lines (codes "hrt_object") n)
 unfolding ceiling_lines
 shared-ceiling n = simp append_assoc
 
@@ -109,7 +123,8 @@ shared-head ceiling vars ops =
     (joined-two kept (last ∷ renamed) _ _ refl refl)))
 
 pub shared-body : (ops : List Operation)
-    → codes "      protected body hrt_object is\n" ++ (layout (flat_map (body_lines 3) ops) ++ codes "      end hrt_object;\n") ≡ layout (inner_body (Shared 0 [] ops))
+    → codes "      protected body hrt_object is\n" ++ (layout (flat_map (body_lines 3) ops) ++ codes "      end hrt_object;\n")
+    ≡ layout (inner_body (Shared 0 [] ops))
 shared-body ops =
     let first : Line = line 2 (Word (codes "protected") ∷ Word (codes "body") ∷ Word (codes "hrt_object") ∷ Word (codes "is") ∷ []) in
     let last : Line = end_line 2 (codes "hrt_object") in
@@ -117,7 +132,8 @@ shared-body ops =
 
 -- SPORADIC UNITS
 pub constants-text : (separation jitter : ℕ) (external : Bool)
-    → (codes "      hrt_separation : constant := " ++ (decimal separation ++ codes ";\n")) ++ ((codes "      hrt_jitter : constant := " ++ (decimal jitter ++ codes ";\n")) ++ line_text (external_line external))
+    → (codes "      hrt_separation : constant := " ++ (decimal separation ++ codes ";\n"))
+    ++ ((codes "      hrt_jitter : constant := " ++ (decimal jitter ++ codes ";\n")) ++ line_text (external_line external))
     ≡ layout (constant_lines separation jitter external)
 constants-text separation jitter external =
     let one : Line = constant_line 2 (codes "hrt_separation") separation in
@@ -127,14 +143,16 @@ constants-text separation jitter external =
     joined-two (one ∷ []) (two ∷ external_line external ∷ []) _ _ (one-line one _ first)
     (joined-two (two ∷ []) (external_line external ∷ []) _ _ (one-line two _ second) (one-line (external_line external) _ refl))
 
-object-ceiling : (n : ℕ) → codes "      protected hrt_obcs is\n         pragma priority (" ++ (decimal n ++ codes ");\n") ≡ layout (ceiling_lines (codes "hrt_obcs") n)
+object-ceiling : (n : ℕ) → codes "      protected hrt_obcs is\n         pragma priority (" ++ (decimal n ++ codes ");\n")
+    ≡ layout (ceiling_lines (codes "hrt_obcs") n)
 unfolding ceiling_lines
 object-ceiling n = simp append_assoc
 
 -- what its protected object declares behind the request
 entry_lines : List Line
 entry_lines =
-    line 3 (Word (codes "entry") ∷ Word (codes "hrt_wait") ∷ Sign LeftParen ∷ Word (codes "hrt_request") ∷ Sign Colon ∷ Word (codes "out") ∷ Word (codes "word") ∷ Sign RightParen ∷ Sign Semicolon ∷ [])
+    line 3 (Word (codes "entry") ∷ Word (codes "hrt_wait") ∷ Sign LeftParen ∷ Word (codes "hrt_request") ∷ Sign Colon ∷ Word (codes "out")
+    ∷ Word (codes "word") ∷ Sign RightParen ∷ Sign Semicolon ∷ [])
     ∷ line 2 (Word (codes "private") ∷ [])
     ∷ line 3 (Word (codes "hrt_value") ∷ Sign Colon ∷ Word (codes "word") ∷ Sign Becomes ∷ Number 0 ∷ Sign Semicolon ∷ [])
     ∷ line 3 (Word (codes "hrt_open") ∷ Sign Colon ∷ Word (codes "boolean") ∷ Sign Becomes ∷ Word (codes "false") ∷ Sign Semicolon ∷ [])
@@ -162,14 +180,16 @@ sporadic-head priority ceiling op separation jitter external =
     (joined-two (renamed ∷ []) (tasks ++ constants) _ _ (one-line renamed _ refl) (joined-two tasks constants _ _ refl refl))))
 
 -- the line that keeps the value of a request
-kept-text : (ps : List Param) → codes "            hrt_value := " ++ (token_text (kept_token ps) ++ codes ";\n") ≡ line_text (line 4 (Word (codes "hrt_value") ∷ Sign Becomes ∷ kept_token ps ∷ Sign Semicolon ∷ []))
+kept-text : (ps : List Param) → codes "            hrt_value := " ++ (token_text (kept_token ps) ++ codes ";\n")
+    ≡ line_text (line 4 (Word (codes "hrt_value") ∷ Sign Becomes ∷ kept_token ps ∷ Sign Semicolon ∷ []))
 kept-text [] = simp append_assoc
 kept-text (p ∷ ps) = simp append_assoc
 
 -- what the body of the protected object has behind the request
 wait_lines : List Line
 wait_lines =
-    line 3 (Word (codes "entry") ∷ Word (codes "hrt_wait") ∷ Sign LeftParen ∷ Word (codes "hrt_request") ∷ Sign Colon ∷ Word (codes "out") ∷ Word (codes "word") ∷ Sign RightParen ∷ Word (codes "when") ∷ Word (codes "hrt_open") ∷ Word (codes "is") ∷ [])
+    line 3 (Word (codes "entry") ∷ Word (codes "hrt_wait") ∷ Sign LeftParen ∷ Word (codes "hrt_request") ∷ Sign Colon ∷ Word (codes "out")
+    ∷ Word (codes "word") ∷ Sign RightParen ∷ Word (codes "when") ∷ Word (codes "hrt_open") ∷ Word (codes "is") ∷ [])
     ∷ line 3 (Word (codes "begin") ∷ [])
     ∷ line 4 (Word (codes "hrt_request") ∷ Sign Becomes ∷ Word (codes "hrt_value") ∷ Sign Semicolon ∷ [])
     ∷ line 4 (Word (codes "hrt_open") ∷ Sign Becomes ∷ Word (codes "false") ∷ Sign Semicolon ∷ [])
@@ -181,13 +201,19 @@ wait-text = refl
 
 -- the bytes of the request's body in another grouping
 object-grouped : (head kept end wait : List ℕ)
-    → codes "      protected body hrt_obcs is\n         " ++ (head ++ (codes " is\n         begin\n            hrt_value := " ++ (kept ++ (codes ";\n            hrt_open := true;\n" ++ (end ++ wait)))))
-    ≡ codes "      protected body hrt_obcs is\n" ++ ((codes "         " ++ (head ++ codes " is\n")) ++ (codes "         begin\n" ++ ((codes "            hrt_value := " ++ (kept ++ codes ";\n")) ++ (codes "            hrt_open := true;\n" ++ (end ++ wait)))))
+    → codes "      protected body hrt_obcs is\n         "
+    ++ (head ++ (codes " is\n         begin\n            hrt_value := " ++ (kept ++ (codes ";\n            hrt_open := true;\n" ++ (end ++ wait)))))
+    ≡ codes "      protected body hrt_obcs is\n" ++ ((codes "         " ++ (head ++ codes " is\n"))
+    ++ (codes "         begin\n" ++ ((codes "            hrt_value := " ++ (kept ++ codes ";\n"))
+    ++ (codes "            hrt_open := true;\n" ++ (end ++ wait)))))
 object-grouped head kept end wait = simp append_assoc
 
 pub object-text : (op : Signature)
-    → codes "      protected body hrt_obcs is\n         " ++ (head_text op ++ (codes " is\n         begin\n            hrt_value := " ++ (token_text (kept_token op.params) ++ (codes ";\n            hrt_open := true;\n"
-    ++ ((codes "         end " ++ (op.name ++ codes ";\n")) ++ codes "         entry hrt_wait (hrt_request : out word) when hrt_open is\n         begin\n            hrt_request := hrt_value;\n            hrt_open := false;\n         end hrt_wait;\n      end hrt_obcs;\n")))))
+    → codes "      protected body hrt_obcs is\n         "
+    ++ (head_text op ++ (codes " is\n         begin\n            hrt_value := "
+    ++ (token_text (kept_token op.params) ++ (codes ";\n            hrt_open := true;\n"
+    ++ ((codes "         end " ++ (op.name ++ codes ";\n"))
+    ++ codes "         entry hrt_wait (hrt_request : out word) when hrt_open is\n         begin\n            hrt_request := hrt_value;\n            hrt_open := false;\n         end hrt_wait;\n      end hrt_obcs;\n")))))
     ≡ layout (object_lines op)
 unfolding wait_lines
 object-text op =
@@ -203,7 +229,8 @@ object-text op =
     (joined-two (head ∷ []) (begin ∷ kept ∷ opened ∷ last ∷ wait_lines) _ _ (one-line head _ (is-text 3 op))
     (joined-two (begin ∷ []) (kept ∷ opened ∷ last ∷ wait_lines) _ _ refl
     (joined-two (kept ∷ []) (opened ∷ last ∷ wait_lines) _ _ (one-line kept _ (kept-text op.params))
-    (joined-two (opened ∷ []) (last ∷ wait_lines) _ _ refl (joined-two (last ∷ []) wait_lines _ _ (one-line last _ (end-text 3 op.name)) wait-text)))))
+    (joined-two (opened ∷ []) (last ∷ wait_lines) _ _ refl (joined-two (last ∷ []) wait_lines _ _
+    (one-line last _ (end-text 3 op.name)) wait-text)))))
 
 -- the front of the body of its task: the variable in which it gets a request, and how it waits
 variable_line : List ℕ → Line
@@ -214,20 +241,26 @@ unfolding variable_line
 variable-text name = simp append_assoc
 
 waits_line : List ℕ → Line
-waits_line name = line 4 (Word (codes "hrt_obcs") ∷ Sign Dot ∷ Word (codes "hrt_wait") ∷ Sign LeftParen ∷ Word name ∷ Sign RightParen ∷ Sign Semicolon ∷ [])
+waits_line name = line 4 (Word (codes "hrt_obcs") ∷ Sign Dot ∷ Word (codes "hrt_wait") ∷ Sign LeftParen ∷ Word name ∷ Sign RightParen
+    ∷ Sign Semicolon ∷ [])
 
 waits-text : (name : List ℕ) → codes "            hrt_obcs.hrt_wait (" ++ (name ++ codes ");\n") ≡ line_text (waits_line name)
 unfolding waits_line
 waits-text name = simp append_assoc
 
 waiting-grouped : (name zero : List ℕ)
-    → codes "      task body hrt_thread is\n         " ++ (name ++ ((codes " : word := " ++ (zero ++ codes ";\n      begin\n         loop\n            hrt_obcs.hrt_wait (")) ++ (name ++ codes ");\n")))
-    ≡ codes "      task body hrt_thread is\n" ++ ((codes "         " ++ (name ++ (codes " : word := " ++ (zero ++ codes ";\n")))) ++ (codes "      begin\n         loop\n" ++ (codes "            hrt_obcs.hrt_wait (" ++ (name ++ codes ");\n"))))
+    → codes "      task body hrt_thread is\n         "
+    ++ (name ++ ((codes " : word := " ++ (zero ++ codes ";\n      begin\n         loop\n            hrt_obcs.hrt_wait (")) ++ (name ++ codes ");\n")))
+    ≡ codes "      task body hrt_thread is\n" ++ ((codes "         " ++ (name ++ (codes " : word := " ++ (zero ++ codes ";\n"))))
+    ++ (codes "      begin\n         loop\n" ++ (codes "            hrt_obcs.hrt_wait (" ++ (name ++ codes ");\n"))))
 waiting-grouped name zero = simp append_assoc
 
 waiting-name : (name : List ℕ)
-    → codes "      task body hrt_thread is\n         " ++ (name ++ ((codes " : word := " ++ (decimal 0 ++ codes ";\n      begin\n         loop\n            hrt_obcs.hrt_wait (")) ++ (name ++ codes ");\n")))
-    ≡ layout (line 2 (Word (codes "task") ∷ Word (codes "body") ∷ Word (codes "hrt_thread") ∷ Word (codes "is") ∷ []) ∷ variable_line name ∷ line 2 (Word (codes "begin") ∷ []) ∷ line 3 (Word (codes "loop") ∷ []) ∷ waits_line name ∷ [])
+    → codes "      task body hrt_thread is\n         "
+    ++ (name ++ ((codes " : word := " ++ (decimal 0 ++ codes ";\n      begin\n         loop\n            hrt_obcs.hrt_wait ("))
+    ++ (name ++ codes ");\n")))
+    ≡ layout (line 2 (Word (codes "task") ∷ Word (codes "body") ∷ Word (codes "hrt_thread") ∷ Word (codes "is") ∷ []) ∷ variable_line name
+    ∷ line 2 (Word (codes "begin") ∷ []) ∷ line 3 (Word (codes "loop") ∷ []) ∷ waits_line name ∷ [])
 waiting-name name =
     let first : Line = line 2 (Word (codes "task") ∷ Word (codes "body") ∷ Word (codes "hrt_thread") ∷ Word (codes "is") ∷ []) in
     let begins : List Line = line 2 (Word (codes "begin") ∷ []) ∷ line 3 (Word (codes "loop") ∷ []) ∷ [] in
@@ -237,7 +270,10 @@ waiting-name name =
     (joined-two begins (waits_line name ∷ []) _ _ refl (one-line (waits_line name) _ (waits-text name))))
 
 pub waiting-text : (ps : List Param)
-    → codes "      task body hrt_thread is\n         " ++ (token_text (request_token ps) ++ ((codes " : word := " ++ (decimal 0 ++ codes ";\n      begin\n         loop\n            hrt_obcs.hrt_wait (")) ++ (token_text (request_token ps) ++ codes ");\n")))
+    → codes "      task body hrt_thread is\n         "
+    ++ (token_text (request_token ps)
+    ++ ((codes " : word := " ++ (decimal 0 ++ codes ";\n      begin\n         loop\n            hrt_obcs.hrt_wait ("))
+    ++ (token_text (request_token ps) ++ codes ");\n")))
     ≡ layout (waiting_lines ps)
 unfolding variable_line waits_line
 waiting-text [] = waiting-name (codes "hrt_request")
@@ -245,29 +281,40 @@ waiting-text (p ∷ ps) = waiting-name p.name
 
 -- the body of a sporadic unit
 pub sporadic-text : (op : Signature) (vars : List Datum) (block : Statements)
-    → layout (map (datum_line 2) vars) ++ (layout (object_lines op) ++ (layout (waiting_lines op.params) ++ (layout (block_lines 4 block) ++ codes "            activation_end;\n         end loop;\n      end hrt_thread;\n")))
+    → layout (map (datum_line 2) vars)
+    ++ (layout (object_lines op) ++ (layout (waiting_lines op.params)
+    ++ (layout (block_lines 4 block) ++ codes "            activation_end;\n         end loop;\n      end hrt_thread;\n")))
     ≡ layout (inner_body (Sporadic 0 0 op 0 0 false vars block))
 unfolding loop_last
 sporadic-text op vars block =
     joined-two (map (datum_line 2) vars) (object_lines op ++ (waiting_lines op.params ++ (block_lines 4 block ++ loop_last))) _ _ refl
     (joined-two (object_lines op) (waiting_lines op.params ++ (block_lines 4 block ++ loop_last)) _ _ refl
-    (joined-two (waiting_lines op.params) (block_lines 4 block ++ loop_last) _ _ refl (joined-two (block_lines 4 block) loop_last _ _ refl last-text)))
+    (joined-two (waiting_lines op.params) (block_lines 4 block ++ loop_last) _ _ refl
+    (joined-two (block_lines 4 block) loop_last _ _ refl last-text)))
 
 -- UNITS
-specification-first : (name : Name) → codes "   package " ++ (name ++ codes " is\n") ≡ line_text (line 1 (Word (codes "package") ∷ Word name ∷ Word (codes "is") ∷ []))
+specification-first : (name : Name) → codes "   package " ++ (name ++ codes " is\n")
+    ≡ line_text (line 1 (Word (codes "package") ∷ Word name ∷ Word (codes "is") ∷ []))
 specification-first name = simp append_assoc
 
-body-first : (name : Name) → codes "   package body " ++ (name ++ codes " is\n") ≡ line_text (line 1 (Word (codes "package") ∷ Word (codes "body") ∷ Word name ∷ Word (codes "is") ∷ []))
+body-first : (name : Name) → codes "   package body " ++ (name ++ codes " is\n")
+    ≡ line_text (line 1 (Word (codes "package") ∷ Word (codes "body") ∷ Word name ∷ Word (codes "is") ∷ []))
 body-first name = simp append_assoc
 
-unit-text : (first last : Line) (x y : List ℕ) (inner : List Line) → x ≡ line_text first → y ≡ line_text last → x ++ (layout inner ++ y) ≡ layout (first ∷ (inner ++ last ∷ []))
-unit-text first last x y inner e f = joined-two (first ∷ []) (inner ++ last ∷ []) _ _ (one-line first _ e) (joined-two inner (last ∷ []) _ _ refl (one-line last _ f))
+unit-text : (first last : Line) (x y : List ℕ) (inner : List Line) → x ≡ line_text first → y ≡ line_text last
+    → x ++ (layout inner ++ y) ≡ layout (first ∷ (inner ++ last ∷ []))
+unit-text first last x y inner e f = joined-two (first ∷ []) (inner ++ last ∷ []) _ _ (one-line first _ e)
+    (joined-two inner (last ∷ []) _ _ refl (one-line last _ f))
 
-pub specification-text : (u : Unit) → (codes "   package " ++ (u.name ++ codes " is\n")) ++ (layout (inner_specification u.form) ++ (codes "   end " ++ (u.name ++ codes ";\n"))) ≡ layout (specification_lines u)
-specification-text u = unit-text (line 1 (Word (codes "package") ∷ Word u.name ∷ Word (codes "is") ∷ [])) (end_line 1 u.name) _ _ (inner_specification u.form) (specification-first u.name) (end-text 1 u.name)
+pub specification-text : (u : Unit) → (codes "   package " ++ (u.name ++ codes " is\n"))
+    ++ (layout (inner_specification u.form) ++ (codes "   end " ++ (u.name ++ codes ";\n"))) ≡ layout (specification_lines u)
+specification-text u = unit-text (line 1 (Word (codes "package") ∷ Word u.name ∷ Word (codes "is") ∷ [])) (end_line 1 u.name) _ _
+    (inner_specification u.form) (specification-first u.name) (end-text 1 u.name)
 
-pub unit_body-text : (u : Unit) → (codes "   package body " ++ (u.name ++ codes " is\n")) ++ (layout (inner_body u.form) ++ (codes "   end " ++ (u.name ++ codes ";\n"))) ≡ layout (unit_body_lines u)
-unit_body-text u = unit-text (line 1 (Word (codes "package") ∷ Word (codes "body") ∷ Word u.name ∷ Word (codes "is") ∷ [])) (end_line 1 u.name) _ _ (inner_body u.form) (body-first u.name) (end-text 1 u.name)
+pub unit_body-text : (u : Unit) → (codes "   package body " ++ (u.name ++ codes " is\n"))
+    ++ (layout (inner_body u.form) ++ (codes "   end " ++ (u.name ++ codes ";\n"))) ≡ layout (unit_body_lines u)
+unit_body-text u = unit-text (line 1 (Word (codes "package") ∷ Word (codes "body") ∷ Word u.name ∷ Word (codes "is") ∷ [])) (end_line 1 u.name) _ _
+    (inner_body u.form) (body-first u.name) (end-text 1 u.name)
 
 -- THE PROGRAM
 -- what stands before the specifications
@@ -275,11 +322,14 @@ pub package-text : (name : Name) → codes "with hrt;\nuse hrt;\npackage " ++ (n
 package-text name = simp append_assoc
 
 -- what stands between the specifications and the bodies
-pub between-text : (name : Name) → (codes "end " ++ (name ++ codes ";\n")) ++ (codes "package body " ++ (name ++ codes " is\n")) ≡ layout (parts.body_lines name)
+pub between-text : (name : Name) → (codes "end " ++ (name ++ codes ";\n")) ++ (codes "package body " ++ (name ++ codes " is\n"))
+    ≡ layout (parts.body_lines name)
 between-text name = simp append_assoc
 
 -- what stands behind the bodies
-pub closing-text : (name : Name) → (codes "end " ++ (name ++ codes ";\n")) ++ (codes "with " ++ (name ++ codes ";\nprocedure hrt_main is\nbegin\n   null;\nend hrt_main;\n")) ≡ layout (closing_lines name)
+pub closing-text : (name : Name)
+    → (codes "end " ++ (name ++ codes ";\n")) ++ (codes "with " ++ (name ++ codes ";\nprocedure hrt_main is\nbegin\n   null;\nend hrt_main;\n"))
+    ≡ layout (closing_lines name)
 closing-text name = simp append_assoc
 
 -- a program by its parts
@@ -292,4 +342,5 @@ pub program-text : (p : Program)
     ++ (layout (parts.body_lines p.name) ++ (layout (flat_map unit_body_lines p.units) ++ layout (closing_lines p.name))))))
     ≡ layout (program_lines p)
 program-text p =
-    parts-text opening_lines (hrt_lines p.costs) (package_lines p.name) (flat_map specification_lines p.units) (parts.body_lines p.name) (flat_map unit_body_lines p.units) (closing_lines p.name)
+    parts-text opening_lines (hrt_lines p.costs) (package_lines p.name) (flat_map specification_lines p.units) (parts.body_lines p.name)
+    (flat_map unit_body_lines p.units) (closing_lines p.name)

@@ -1,5 +1,6 @@
 -- Loops over items that add the lines of each: what one turn adds.
-use Rattle.std.proofs.Common.{◌≡◌, ◌<◌, ℕ, suc, ◌+◌, List, ◌∷◌, ◌++◌, map, flat_map, length, drop, get_or, add-one, drop-cons, sym, ap, ◌∙◌, append_assoc}
+use Rattle.std.proofs.Common.{◌≡◌, ◌<◌, ℕ, suc, ◌+◌, List, ◌∷◌, ◌++◌, map, flat_map, length, drop, get_or, add-one, drop-cons, sym, ap, ◌∙◌}
+use Rattle.std.proofs.Common.{append_assoc}
 use Rattle.seq_tree.specs.Layout.{layout, line_text}
 use Rattle.seq_tree.specs.Spelling.{Line}
 use Rattle.ada_print.proofs.HeadTexts.{layout-append}
@@ -24,5 +25,6 @@ groups-next g view xs i x h e =
     ap (λ ys. layout (flat_map g (map view ys))) (items-next xs i x h e) ∙ layout-append (g (view x)) (flat_map g (map view (drop (i + 1) xs)))
 
 -- a text more, where a whole is it and a rest
-pub one-more : (before after first rest whole text : List ℕ) → after ≡ before ++ first → whole ≡ first ++ rest → before ++ whole ≡ text → after ++ rest ≡ text
+pub one-more : (before after first rest whole text : List ℕ) → after ≡ before ++ first → whole ≡ first ++ rest → before ++ whole ≡ text
+    → after ++ rest ≡ text
 one-more before after first rest whole text e w all = ap (λ t. t ++ rest) e ∙ append_assoc before first rest ∙ ap (λ t. before ++ t) (sym w) ∙ all

@@ -16,7 +16,8 @@ w s = Word (codes s)
 
 -- the constant that says whether requests come from outside
 abbrev pub external_line : Bool → Line
-external_line external = line 2 (w "hrt_external" ∷ Sign Colon ∷ w "constant" ∷ w "boolean" ∷ Sign Becomes ∷ truth_token external ∷ Sign Semicolon ∷ [])
+external_line external = line 2 (w "hrt_external" ∷ Sign Colon ∷ w "constant" ∷ w "boolean" ∷ Sign Becomes ∷ truth_token external
+    ∷ Sign Semicolon ∷ [])
 
 -- the constants that its specification ends with
 abbrev pub constant_lines : ℕ → ℕ → Bool → List Line
@@ -31,7 +32,8 @@ object_lines op =
     ∷ line 4 (w "hrt_value" ∷ Sign Becomes ∷ kept_token op.params ∷ Sign Semicolon ∷ [])
     ∷ line 4 (w "hrt_open" ∷ Sign Becomes ∷ w "true" ∷ Sign Semicolon ∷ [])
     ∷ end_line 3 op.name
-    ∷ line 3 (w "entry" ∷ w "hrt_wait" ∷ Sign LeftParen ∷ w "hrt_request" ∷ Sign Colon ∷ w "out" ∷ w "word" ∷ Sign RightParen ∷ w "when" ∷ w "hrt_open" ∷ w "is" ∷ [])
+    ∷ line 3 (w "entry" ∷ w "hrt_wait" ∷ Sign LeftParen ∷ w "hrt_request" ∷ Sign Colon ∷ w "out" ∷ w "word" ∷ Sign RightParen ∷ w "when"
+    ∷ w "hrt_open" ∷ w "is" ∷ [])
     ∷ line 3 (w "begin" ∷ [])
     ∷ line 4 (w "hrt_request" ∷ Sign Becomes ∷ w "hrt_value" ∷ Sign Semicolon ∷ [])
     ∷ line 4 (w "hrt_open" ∷ Sign Becomes ∷ w "false" ∷ Sign Semicolon ∷ [])

@@ -89,7 +89,8 @@ pub(crate) fn add_renaming(sig: &OpSig, object: &[u8], into: &mut Vec<u8>) -> Re
 
 /// Adds the names by which the procedures of a protected unit are called.
 pub(crate) fn add_renamings(ops: &[OpText], into: &mut Vec<u8>) -> Result<(), NoMemory>
-    ensures { Writes result into.old.items into.new.items (layout (map (λ o. renaming_line 2 (codes "hrt_object") o.sig) (map operation_of ops.now))) }
+    ensures { Writes result into.old.items into.new.items
+        (layout (map (λ o. renaming_line 2 (codes "hrt_object") o.sig) (map operation_of ops.now))) }
 {
     'ops: for op in ops {
         add_renaming(&op.sig, b"hrt_object", into)?;

@@ -141,7 +141,8 @@ pub(crate) fn add_sporadic(
     block: &Block,
     into: &mut Vec<u8>,
 ) -> Result<(), NoMemory>
-    ensures { Writes result into.old.items into.new.items (layout (inner_body (Sporadic 0 0 (signature_of op.now) 0 0 false vars.now (block_of block.now)))) }
+    ensures { Writes result into.old.items into.new.items
+        (layout (inner_body (Sporadic 0 0 (signature_of op.now) 0 0 false vars.now (block_of block.now)))) }
 {
     add_data(vars, 2, into)?;
     add_object(op, into)?;

@@ -16,7 +16,8 @@ use Rattle.ada_tree.specs.Programs.{Program, Sporadic}
 use Rattle.arrivals_tree.specs.Acceptance.{Early}
 use Rattle.arrivals_tree.specs.Arrived.{Arrives, horizon_limit}
 use Rattle.arrivals_tree.specs.ArrivalTexts.{ArrivalText, arrival_tokens}
-use Rattle.arrivals_read.specs.Readers.{other_at, others_at, work_at, works_at, some_at, none_at, value_at, request_at, requests_at, until_at, end_at, arrivals_at}
+use Rattle.arrivals_read.specs.Readers.{other_at, others_at, work_at, works_at, some_at, none_at, value_at, request_at, requests_at, until_at}
+use Rattle.arrivals_read.specs.Readers.{end_at, arrivals_at}
 use Rattle.arrivals_read.specs.Answers.{AnyArrivals, IsText, IsWrong}
 use Rattle.std.specs.Prelude.{Option, false}
 use Rattle.seq_tree.specs.Operations.{Signature}
@@ -100,14 +101,19 @@ unfolding end_at
 end_stuck = refl
 
 abbrev small : ArrivalText
-small = record { until = 9; works = record { name = codes "a"; first = 1; others = [] } ∷ []; requests = record { time = 5; name = codes "s"; value = None } ∷ [] }
+small = record {
+  until = 9;
+  works = record { name = codes "a"; first = 1; others = [] } ∷ [];
+  requests = record { time = 5; name = codes "s"; value = None } ∷ [];
+}
 
 whole_taken : whole_at arrivals_at (arrival_tokens small) ≡ Ok small
 unfolding arrivals_at until_at works_at work_at others_at other_at requests_at request_at value_at some_at none_at end_at fixed_at number_at word_at
 whole_taken = refl
 
 -- durations behind a request
-whole_stuck : whole_at arrivals_at (w "until" ∷ n 9 ∷ semicolon ∷ w "at" ∷ n 5 ∷ w "s" ∷ semicolon ∷ w "work" ∷ w "a" ∷ n 1 ∷ semicolon ∷ []) ≡ Err (Syntax 4)
+whole_stuck : whole_at arrivals_at (w "until" ∷ n 9 ∷ semicolon ∷ w "at" ∷ n 5 ∷ w "s" ∷ semicolon ∷ w "work" ∷ w "a" ∷ n 1 ∷ semicolon ∷ [])
+    ≡ Err (Syntax 4)
 unfolding arrivals_at until_at works_at work_at others_at other_at requests_at request_at value_at some_at none_at end_at fixed_at number_at word_at
 whole_stuck = refl
 
@@ -128,7 +134,10 @@ abbrev program : ℕ → Program
 program jitter = record {
   name = codes "d";
   costs = record { assign = 1; test = 1; turn = 1; call = 2; nothing = 1; put = 1; finish = 1 };
-  units = record { name = codes "s"; form = Sporadic 1 1 (record { name = codes "start"; params = record { name = codes "v"; mode = In } ∷ [] }) 500 jitter true [] End } ∷ [];
+  units = record {
+    name = codes "s";
+    form = Sporadic 1 1 (record { name = codes "start"; params = record { name = codes "v"; mode = In } ∷ [] }) 500 jitter true [] End;
+  } ∷ [];
 }
 
 abbrev requests : List ℕ → ArrivalText
@@ -199,7 +208,13 @@ alone until = record { until = until; works = []; requests = [] }
 
 far_told : IsFar far_bytes 1000000001
 unfolding far_bytes far_found
-far_told = record { found = far_found; tree = alone 1000000001; text = record { within = omega arith; read = far_tokens; spelled = refl }; until = refl; far = omega arith }
+far_told = record {
+  found = far_found;
+  tree = alone 1000000001;
+  text = record { within = omega arith; read = far_tokens; spelled = refl };
+  until = refl;
+  far = omega arith;
+}
 
 at_limit : first_fault horizon_limit (program 0) (said (program 0) (alone horizon_limit)) ≡ None
 at_limit = refl
@@ -230,15 +245,18 @@ abbrev start : Signature
 start = record { name = codes "start"; params = record { name = codes "v"; mode = In } ∷ [] }
 
 -- in the order of what is told: who isn't requested from outside, a value, a separation
-moved_by_tests : moved false start 500 5 (Some 0) (request 494 None) ∷ moved true start 500 5 (Some 0) (request 494 None) ∷ moved true start 500 5 (Some 0) (request 494 (Some 1))
-    ∷ moved true start 500 5 (Some 0) (request 495 (Some 1)) ∷ moved true start 500 5 (Some 0) (request 700 (Some 1)) ∷ moved true start 500 5 None (request 494 (Some 1)) ∷ [] ≡
+moved_by_tests : moved false start 500 5 (Some 0) (request 494 None) ∷ moved true start 500 5 (Some 0) (request 494 None)
+    ∷ moved true start 500 5 (Some 0) (request 494 (Some 1))
+    ∷ moved true start 500 5 (Some 0) (request 495 (Some 1)) ∷ moved true start 500 5 (Some 0) (request 700 (Some 1))
+    ∷ moved true start 500 5 None (request 494 (Some 1)) ∷ [] ≡
     Err Unknown ∷ Err Unfit ∷ Err Early ∷ Ok 500 ∷ Ok 700 ∷ Ok 494 ∷ []
 moved_by_tests = refl
 
 cyclic_not_moved : moved_by (Cyclic 1 0 10 [] End) None (request 5 None) ≡ Err Unknown
 cyclic_not_moved = refl
 
-place_of_first : map (λ name. first_place 3 name ((record { name = codes "s"; form = Passive [] }) ∷ (record { name = codes "s"; form = Passive [] }) ∷ [])) (codes "s" ∷ codes "x" ∷ []) ≡ Some 3 ∷ None ∷ []
+place_of_first : map (λ name. first_place 3 name ((record { name = codes "s"; form = Passive [] }) ∷ (record { name = codes "s"; form = Passive [] })
+    ∷ [])) (codes "s" ∷ codes "x" ∷ []) ≡ Some 3 ∷ None ∷ []
 place_of_first = refl
 
 early_is_told : Tells cause.Early 3 (codes "s") (told.Q3 3 (codes "s"))

@@ -1,5 +1,6 @@
 -- Checking items, one at a time.
-use Rattle.std.proofs.Common.{◌≡◌, ℕ, suc, ◌+◌, ◌*◌, ◌<◌, List, [], ◌∷◌, ◌++◌, length, map, drop, get_or, Some, None, refl, sym, ap, ◌∙◌, arith, length-append}
+use Rattle.std.proofs.Common.{◌≡◌, ℕ, suc, ◌+◌, ◌*◌, ◌<◌, List, [], ◌∷◌, ◌++◌, length, map, drop, get_or, Some, None, refl, sym, ap, ◌∙◌, arith}
+use Rattle.std.proofs.Common.{length-append}
 use Rattle.std.proofs.Math.Seq.{drop-cons}
 use Rattle.seq_tree.specs.declared.token.Token.TheVariants.{Sign}
 use Rattle.seq_tree.specs.declared.token.Mark.TheVariants.{Semicolon}
@@ -17,7 +18,8 @@ pub work-length : (w : WorkText) → length (work_tokens w) ≡ 4 + 2 * length w
 work-length w = omega (arith, length-append (other_tokens w.others) (Sign Semicolon ∷ []), other_length w.others)
 
 -- what is left of a list, by its next item
-pub item-next : {X B : Type 0} (view : X → B) (xs : List X) (i : ℕ) (x : X) → i < length xs → x ≡ get_or xs i x → map view (drop i xs) ≡ view x ∷ map view (drop (i + 1) xs)
+pub item-next : {X B : Type 0} (view : X → B) (xs : List X) (i : ℕ) (x : X) → i < length xs → x ≡ get_or xs i x
+    → map view (drop i xs) ≡ view x ∷ map view (drop (i + 1) xs)
 item-next view xs i x h e =
     let one_on : suc i ≡ i + 1 = omega arith in
     ap (map view) (drop-cons xs i x h ∙ ap (λ y. y ∷ drop (suc i) xs) (sym e)) ∙ ap (λ k. view x ∷ map view (drop k xs)) one_on
@@ -32,10 +34,12 @@ pub work-right : (p : Program) (w : WorkText) (ws : List WorkText) (before : ℕ
 work-right p w ws before e = rw e refl
 
 -- REQUESTS
-pub request-wrong : (p : Program) (earlier : List Arrival) (r : AtText) (rs : List AtText) (before : ℕ) (fault : ArrivalFault) → item_fault p earlier (request_of p r) ≡ Some fault →
+pub request-wrong : (p : Program) (earlier : List Arrival) (r : AtText) (rs : List AtText) (before : ℕ) (fault : ArrivalFault)
+    → item_fault p earlier (request_of p r) ≡ Some fault →
     wrong_request p earlier before (r ∷ rs) ≡ Some (record { fault = fault; name = r.name; before = before })
 request-wrong p earlier r rs before fault e = rw e refl
 
-pub request-right : (p : Program) (earlier : List Arrival) (r : AtText) (rs : List AtText) (before : ℕ) → item_fault p earlier (request_of p r) ≡ None →
+pub request-right : (p : Program) (earlier : List Arrival) (r : AtText) (rs : List AtText) (before : ℕ)
+    → item_fault p earlier (request_of p r) ≡ None →
     wrong_request p earlier before (r ∷ rs) ≡ wrong_request p (earlier ++ request_of p r ∷ []) (before + length (request_tokens r)) rs
 request-right p earlier r rs before e = rw e refl

@@ -1,5 +1,6 @@
 -- The place at which the reader of arrivals stops is the first with which no text of arrivals goes on.
-use Rattle.std.proofs.Common.{◌≡◌, ℕ, zero, suc, ◌-◌, ◌<◌, ◌≤◌, Bool, true, false, nat_le, List, [], ◌∷◌, ◌++◌, length, take, Ok, Err, refl, sym, ap, ◌∙◌, arith, append_assoc, length-append}
+use Rattle.std.proofs.Common.{◌≡◌, ℕ, zero, suc, ◌-◌, ◌<◌, ◌≤◌, Bool, true, false, nat_le, List, [], ◌∷◌, ◌++◌, length, take, Ok, Err, refl, sym}
+use Rattle.std.proofs.Common.{ap, ◌∙◌, arith, append_assoc, length-append}
 use Rattle.std.proofs.lemmas.Bool.{leb-true, leb-false}
 use Rattle.std.proofs.lemmas.List.{length-map}
 use Rattle.grammar.specs.Reading.{Syntax, IsFirstFault, whole_at}
@@ -58,9 +59,11 @@ not_over m n h = by (nat_le m n) refl where
   by false e = absurd (h (leb-false m n e))
 
 -- what is taken, with more behind it
-joined : (ts front back : List Token) (n : ℕ) (t : Token) (after more whole : List Token) → ts ≡ front ++ back → take n (front ++ back) ≡ front ++ t ∷ after → take n ts ++ more ≡ whole →
+joined : (ts front back : List Token) (n : ℕ) (t : Token) (after more whole : List Token) → ts ≡ front ++ back
+    → take n (front ++ back) ≡ front ++ t ∷ after → take n ts ++ more ≡ whole →
     front ++ t ∷ (after ++ more) ≡ whole
-joined ts front back n t after more whole split taken h = sym (ap (λ vs. vs ++ more) (ap (take n) split ∙ taken) ∙ append_assoc front (t ∷ after) more) ∙ h
+joined ts front back n t after more whole split taken h
+    = sym (ap (λ vs. vs ++ more) (ap (take n) split ∙ taken) ∙ append_assoc front (t ∷ after) more) ∙ h
 
 reach_of : (ts : List Token) (left : ℕ) → IsFirstFault IsArrivals ts left → IsReach AnyArrivals ts (length ts - left)
 reach_of ts left f =
@@ -72,17 +75,28 @@ reach_of ts left f =
       greatest = λ n within b.
           not_over n (length ts - left) (λ over.
           let p = past f.front f.back n (omega (arith, here, over)) (omega (arith, ap length f.split, within)) in
-          f.ends p.token p.more (p.after ++ b.0) b.1.0 p.at (joined ts f.front f.back n p.token p.after b.0 (arrival_tokens b.1.0) f.split p.taken b.1.1));
+          f.ends p.token p.more (p.after ++ b.0) b.1.0 p.at (joined ts f.front f.back n p.token p.after b.0
+          (arrival_tokens b.1.0) f.split p.taken b.1.1));
     }
 
-fault_of_tokens : (ts : List Token) (left : ℕ) → whole_at arrivals_at ts ≡ Err (Syntax left) → IsSyntaxFault AnyArrivals AnyArrivals ts (length ts - left)
+fault_of_tokens : (ts : List Token) (left : ℕ) → whole_at arrivals_at ts ≡ Err (Syntax left)
+    → IsSyntaxFault AnyArrivals AnyArrivals ts (length ts - left)
 fault_of_tokens ts left e =
     let f = whole-fault IsArrivals AtEnd arrivals_at reads-arrivals (λ _. refl) ts (Syntax left) e in
     record { reach = reach_of ts left f; limited = reach_of ts left f; none = λ t. f.no_text t.0 t.1 }
 
-pub arrivals-faulty : (bytes : List ℕ) (ts : List Spanned) (left : ℕ) (place : Place) → length bytes ≤ 1048576 → tokens bytes ≡ Ok ts → whole_at arrivals_at (bare ts) ≡ Err (Syntax left) → place ≡ place_at bytes ts left →
+pub arrivals-faulty : (bytes : List ℕ) (ts : List Spanned) (left : ℕ) (place : Place) → length bytes ≤ 1048576 → tokens bytes ≡ Ok ts
+    → whole_at arrivals_at (bare ts) ≡ Err (Syntax left) → place ≡ place_at bytes ts left →
     IsFaultyAt AnyArrivals AnyArrivals 1048576 bytes place reach.Syntax
 arrivals-faulty bytes ts left place short read e here =
     let f = whole-fault IsArrivals AtEnd arrivals_at reads-arrivals (λ _. refl) (bare ts) (Syntax left) e in
-    let same : left ≡ length ts - (length (bare ts) - left) = omega (arith, ap length f.split, length-append f.front f.back, f.place, length-map ts (λ (s : Spanned). s.token)) in
-    record { short = short; found = ts; read = read; index = length (bare ts) - left; fault = fault_of_tokens (bare ts) left e; here = here ∙ ap (place_at bytes ts) same }
+    let same : left ≡ length ts - (length (bare ts) - left)
+    = omega (arith, ap length f.split, length-append f.front f.back, f.place, length-map ts (λ (s : Spanned). s.token)) in
+    record {
+      short = short;
+      found = ts;
+      read = read;
+      index = length (bare ts) - left;
+      fault = fault_of_tokens (bare ts) left e;
+      here = here ∙ ap (place_at bytes ts) same;
+    }

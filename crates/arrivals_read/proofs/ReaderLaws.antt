@@ -1,5 +1,6 @@
 -- The readers of arrivals read their grammar.
-use Rattle.std.proofs.Common.{◌≡◌, ℕ, ◌<◌, Bool, true, false, List, [], ◌∷◌, ◌++◌, length, Option, Some, None, Ok, Err, suc, codes, flat_map, refl, sym, ap, subst, ◌∙◌, arith, append-nil, ◌⊎◌, inl, inr}
+use Rattle.std.proofs.Common.{◌≡◌, ℕ, ◌<◌, Bool, true, false, List, [], ◌∷◌, ◌++◌, length, Option, Some, None, Ok, Err, suc, codes, flat_map}
+use Rattle.std.proofs.Common.{refl, sym, ap, subst, ◌∙◌, arith, append-nil, ◌⊎◌, inl, inr}
 use Rattle.grammar.specs.Reading.{Halt, Syntax, left_of, Read, first, token_at, then_at, pure_at, many_at, Found, Stuck, Reads, Joined, AreMany}
 use Rattle.grammar.proofs.Laws.{reads-same, reads-then, reads-pure, reads-token, reads-choose, reads-map, ok_parts, IsToken}
 use Rattle.grammar.proofs.Many.{reads-items}
@@ -10,7 +11,8 @@ use Rattle.seq_tree.specs.declared.token.Mark.TheVariants.{Comma, Semicolon}
 use Rattle.token_read.specs.Readers.{sees_word, word_at, next_is, next_is_number}
 use Rattle.token_read.proofs.TokenLaws.{Any, andthen, reads-fixed, reads-number, joins-fixed, joins-number}
 use Rattle.arrivals_tree.specs.ArrivalTexts.{ArrivalText, WorkText, AtText, other_tokens, work_tokens, value_tokens, request_tokens, arrival_tokens}
-use Rattle.arrivals_read.specs.Readers.{other_at, others_at, work_at, works_at, some_at, none_at, value_at, request_at, requests_at, until_at, end_at, arrivals_at}
+use Rattle.arrivals_read.specs.Readers.{other_at, others_at, work_at, works_at, some_at, none_at, value_at, request_at, requests_at, until_at}
+use Rattle.arrivals_read.specs.Readers.{end_at, arrivals_at}
 
 -- a word
 abbrev pub IsWord : Name → List Token → Type 0
@@ -32,7 +34,8 @@ joins-word : {B : Type 0} (H : Name → B → List Token → Type 0) (n : Name) 
 joins-word H n b rest h = record { a = n; front = Word n ∷ []; back = rest; before = refl; after = h; whole = refl }
 
 -- a part of a text with its own law, in front of the rest
-joins-part : {A B : Type 0} {G : A → List Token → Type 0} (H : A → B → List Token → Type 0) (a : A) (text : List Token) (b : B) (rest : List Token) → G a text → H a b rest → Joined G H b (text ++ rest)
+joins-part : {A B : Type 0} {G : A → List Token → Type 0} (H : A → B → List Token → Type 0) (a : A) (text : List Token) (b : B) (rest : List Token)
+    → G a text → H a b rest → Joined G H b (text ++ rest)
 joins-part H a text b rest g h = record { a = a; front = text; back = rest; before = g; after = h; whole = refl }
 
 -- what is spelled in one way
@@ -41,7 +44,8 @@ IsSpelled spell a text = text ≡ spell a
 
 -- as many as there are, each spelled in one way
 module _ {A : Type 0} (spell : A → List Token) (test : Option Token → Bool) (r : List Token → Read Token A) (one : Reads (IsSpelled spell) Any r)
-    (starts : (a : A) (rest : List Token) → test (first (spell a ++ rest)) ≡ true) (grows : (a : A) → 0 < length (spell a)) (ends : test None ≡ false) where
+    (starts : (a : A) (rest : List Token) → test (first (spell a ++ rest)) ≡ true) (grows : (a : A)
+    → 0 < length (spell a)) (ends : test None ≡ false) where
   each_to : (xs : List A) (text : List Token) → AreMany (IsSpelled spell) xs text → text ≡ flat_map spell xs
   each_to [] text g = g
   each_to (x ∷ xs) text g = let h = each_to xs g.1 g.3 in rw (g.4, g.2, h) refl
@@ -79,8 +83,10 @@ reads-others = reads-spelled other_text (next_is (Sign Comma)) other_at reads-ot
 abbrev pub IsEnd : Unit {0} → List Token → Type 0
 IsEnd a text = text ≡ Sign Semicolon ∷ []
 
-behind : {A B : Type 0} {G : A → List Token → Type 0} {H : A → B → List Token → Type 0} {r : List Token → Read Token A} {f : A → List Token → Read Token B} (stop : Option Token → Bool) →
-    stop (Some (Sign Semicolon)) ≡ false → Reads G (λ a o. stop o ≡ false) r → ((a : A) → Reads (Joined IsEnd (λ _. H a)) Any (f a)) → Reads (Joined G (λ a. Joined IsEnd (λ _. H a))) Any (then_at r f)
+behind : {A B : Type 0} {G : A → List Token → Type 0} {H : A → B → List Token → Type 0} {r : List Token → Read Token A} {f : A → List Token
+    → Read Token B} (stop : Option Token → Bool) →
+    stop (Some (Sign Semicolon)) ≡ false → Reads G (λ a o. stop o ≡ false) r → ((a : A) → Reads (Joined IsEnd (λ _. H a)) Any (f a))
+    → Reads (Joined G (λ a. Joined IsEnd (λ _. H a))) Any (then_at r f)
 behind {A} {B} {G} {H} {r} {f} stop halts one two =
     reads-then G (λ a. Joined IsEnd (λ _. H a)) (λ a o. stop o ≡ false) Any r f one two (λ a b back rest h end. rw (h.whole, h.before) halts)
 
@@ -90,9 +96,24 @@ reads-work = reads-same _ (IsSpelled work_tokens) Any work_at
     (λ w text g1.
     let g2 = g1.after in let g3 = g2.after in let g4 = g3.after in let g5 = g4.after in
     let P : WorkText → Type 0 = λ v. text ≡ work_tokens v in
-    subst P (sym g5.after.0) (rw (g1.whole, g1.before, g2.whole, g2.before, g3.whole, g3.before, g4.whole, g4.before, g5.whole, g5.before, g5.after.1) refl))
-    (λ w text h. rw h (joins-fixed _ (Word (codes "work")) w _ (joins-word _ w.name w _ (joins-number _ w.first w _ (joins-part _ w.others (other_tokens w.others) w _ refl (joins-fixed _ (Sign Semicolon) w [] (refl, refl)))))))
-    (andthen (reads-fixed (Word (codes "work"))) (λ _. andthen reads-word (λ name. andthen reads-number (λ n. behind (next_is (Sign Comma)) refl reads-others (λ ns.
+    subst P (sym g5.after.0) (rw (
+      g1.whole,
+      g1.before,
+      g2.whole,
+      g2.before,
+      g3.whole,
+      g3.before,
+      g4.whole,
+      g4.before,
+      g5.whole,
+      g5.before,
+      g5.after.1,
+    ) refl))
+    (λ w text h. rw h (joins-fixed _ (Word (codes "work")) w _
+    (joins-word _ w.name w _ (joins-number _ w.first w _ (joins-part _ w.others (other_tokens w.others) w _ refl
+    (joins-fixed _ (Sign Semicolon) w [] (refl, refl)))))))
+    (andthen (reads-fixed (Word (codes "work")))
+    (λ _. andthen reads-word (λ name. andthen reads-number (λ n. behind (next_is (Sign Comma)) refl reads-others (λ ns.
     andthen (reads-fixed (Sign Semicolon)) (λ _. reads-pure Any (record { name = name; first = n; others = ns }) (λ _. tt)))))))
 
 pub reads-works : Reads (IsSpelled (flat_map work_tokens)) (λ ws o. next_is (Word (codes "work")) o ≡ false) works_at
@@ -134,7 +155,8 @@ value_back None text h = inr (refl, h)
 reads-value : Reads (IsSpelled value_text) Any value_at
 unfolding value_at
 reads-value = reads-same _ (IsSpelled value_text) Any value_at value_to value_back
-    (reads-choose next_is_number IsSomeValue IsNoValue Any some_at none_at reads-some reads-none (λ v text rest h stop. rw h.2 refl) (λ v text rest h stop. rw h.1 refl))
+    (reads-choose next_is_number IsSomeValue IsNoValue Any some_at none_at reads-some reads-none (λ v text rest h stop. rw h.2 refl)
+    (λ v text rest h stop. rw h.1 refl))
 
 -- requests
 pub reads-request : Reads (IsSpelled request_tokens) Any request_at
@@ -144,7 +166,8 @@ reads-request = reads-same _ (IsSpelled request_tokens) Any request_at
     let g2 = g1.after in let g3 = g2.after in let g4 = g3.after in
     let P : AtText → Type 0 = λ q. text ≡ request_tokens q in
     subst P (sym g4.after.0) (rw (g1.whole, g1.before, g2.whole, g2.before, g3.whole, g3.before, g4.whole, g4.before, g4.after.1, append-nil) refl))
-    (λ r text h. rw (h, ← append-nil (value_text r.value)) (joins-fixed _ (Word (codes "at")) r _ (joins-number _ r.time r _ (joins-word _ r.name r _ (joins-part _ r.value (value_text r.value) r [] refl (refl, refl))))))
+    (λ r text h. rw (h, ← append-nil (value_text r.value)) (joins-fixed _ (Word (codes "at")) r _
+    (joins-number _ r.time r _ (joins-word _ r.name r _ (joins-part _ r.value (value_text r.value) r [] refl (refl, refl))))))
     (andthen (reads-fixed (Word (codes "at"))) (λ _. andthen reads-number (λ time. andthen reads-word (λ name. andthen reads-value (λ value.
     reads-pure Any (record { time = time; name = name; value = value }) (λ _. tt))))))
 
@@ -164,7 +187,8 @@ reads-until = reads-same _ (IsSpelled until_text) Any until_at
     let P : ℕ → Type 0 = λ m. text ≡ until_text m in
     subst P (sym g3.after.0) (rw (g1.whole, g1.before, g2.whole, g2.before, g3.whole, g3.before, g3.after.1) refl))
     (λ n text h. rw h (joins-fixed _ (Word (codes "until")) n _ (joins-number _ n n _ (joins-fixed _ (Sign Semicolon) n [] (refl, refl)))))
-    (andthen (reads-fixed (Word (codes "until"))) (λ _. andthen reads-number (λ n. andthen (reads-fixed (Sign Semicolon)) (λ _. reads-pure Any n (λ _. tt)))))
+    (andthen (reads-fixed (Word (codes "until")))
+    (λ _. andthen reads-number (λ n. andthen (reads-fixed (Sign Semicolon)) (λ _. reads-pure Any n (λ _. tt)))))
 
 -- the end of a text
 abbrev IsNothing : Unit {0} → List Token → Type 0
@@ -190,7 +214,8 @@ reads-end = record { sound = sound; complete = complete; fault = fault; some = t
   fault : (ts : List Token) (halt : Halt) → end_at ts ≡ Err halt → Stuck IsNothing end_at ts halt
   fault [] halt e = absurd (cc)
   fault (t ∷ ts) halt e =
-      let same : Syntax (suc (length ts)) ≡ halt = (let h : Err (Syntax (suc (length ts))) ≡ (let q : Read Token (Unit {0}) = Err halt in q) = e in cc) in
+      let same : Syntax (suc (length ts)) ≡ halt = (let h : Err (Syntax (suc (length ts))) ≡ (let q : Read Token (Unit {0}) = Err halt in q)
+      = e in cc) in
       record {
         front = [];
         back = t ∷ ts;
@@ -217,32 +242,54 @@ IsRequested : ℕ → List WorkText → ArrivalText → List Token → Type 0
 IsRequested until works t text = (rs : List AtText) × (t ≡ text_with until works rs) × (text ≡ flat_map request_tokens rs)
 
 IsWorked : ℕ → ArrivalText → List Token → Type 0
-IsWorked until t text = (ws : List WorkText) × (rs : List AtText) × (t ≡ text_with until ws rs) × (text ≡ flat_map work_tokens ws ++ flat_map request_tokens rs)
+IsWorked until t text = (ws : List WorkText) × (rs : List AtText) × (t ≡ text_with until ws rs)
+    × (text ≡ flat_map work_tokens ws ++ flat_map request_tokens rs)
 
-reads-whole : (until : ℕ) (works : List WorkText) (requests : List AtText) → Reads (IsWhole until works requests) AtEnd (then_at end_at (λ _. pure_at (text_with until works requests)))
+reads-whole : (until : ℕ) (works : List WorkText) (requests : List AtText)
+    → Reads (IsWhole until works requests) AtEnd (then_at end_at (λ _. pure_at (text_with until works requests)))
 unfolding IsWhole
-reads-whole until works requests = reads-map IsNothing (IsWhole until works requests) AtEnd AtEnd end_at (λ _. text_with until works requests) reads-end
+reads-whole until works requests = reads-map IsNothing (IsWhole until works requests) AtEnd AtEnd end_at
+    (λ _. text_with until works requests) reads-end
     (λ a text g. (refl, g)) (λ t text h. (tt, h.1, sym h.0)) (λ a o h. h) (λ a o h. h)
 
-reads-requested : (until : ℕ) (works : List WorkText) → Reads (IsRequested until works) AtEnd (then_at requests_at (λ requests. then_at end_at (λ _. pure_at (text_with until works requests))))
+reads-requested : (until : ℕ) (works : List WorkText)
+    → Reads (IsRequested until works) AtEnd (then_at requests_at (λ requests. then_at end_at (λ _. pure_at (text_with until works requests))))
 unfolding IsWhole IsRequested
 reads-requested until works = reads-same _ (IsRequested until works) AtEnd _
     (λ t text g. (g.a, g.after.0, rw (g.whole, g.before, g.after.1, append-nil) refl))
-    (λ t text h. record { a = h.0; front = flat_map request_tokens h.0; back = []; before = refl; after = (h.1, refl); whole = h.2 ∙ sym (append-nil (flat_map request_tokens h.0)) })
-    (reads-then (IsSpelled (flat_map request_tokens)) (λ rs. IsWhole until works rs) (λ rs o. next_is (Word (codes "at")) o ≡ false) AtEnd requests_at _ reads-requests (reads-whole until works)
+    (λ t text h. record {
+      a = h.0;
+      front = flat_map request_tokens h.0;
+      back = [];
+      before = refl;
+      after = (h.1, refl);
+      whole = h.2 ∙ sym (append-nil (flat_map request_tokens h.0));
+    })
+    (reads-then (IsSpelled (flat_map request_tokens)) (λ rs. IsWhole until works rs) (λ rs o. next_is (Word (codes "at")) o
+    ≡ false) AtEnd requests_at _ reads-requests (reads-whole until works)
     (λ rs t back rest h end. rw (h.1, end) refl))
 
 -- what follows durations begins no further ones
-apart_from : (rs : List AtText) (rest : List Token) → first rest ≡ None → next_is (Word (codes "work")) (first (flat_map request_tokens rs ++ rest)) ≡ false
+apart_from : (rs : List AtText) (rest : List Token) → first rest ≡ None
+    → next_is (Word (codes "work")) (first (flat_map request_tokens rs ++ rest)) ≡ false
 apart_from [] rest e = rw e refl
 apart_from (r ∷ rs) rest e = refl
 
-reads-worked : (until : ℕ) → Reads (IsWorked until) AtEnd (then_at works_at (λ works. then_at requests_at (λ requests. then_at end_at (λ _. pure_at (text_with until works requests)))))
+reads-worked : (until : ℕ) → Reads (IsWorked until) AtEnd
+    (then_at works_at (λ works. then_at requests_at (λ requests. then_at end_at (λ _. pure_at (text_with until works requests)))))
 unfolding IsRequested IsWorked
 reads-worked until = reads-same _ (IsWorked until) AtEnd _
     (λ t text g. (g.a, g.after.0, g.after.1, rw (g.whole, g.before, g.after.2) refl))
-    (λ t text h. record { a = h.0; front = flat_map work_tokens h.0; back = flat_map request_tokens h.1; before = refl; after = (h.1, h.2, refl); whole = h.3 })
-    (reads-then (IsSpelled (flat_map work_tokens)) (λ ws. IsRequested until ws) (λ ws o. next_is (Word (codes "work")) o ≡ false) AtEnd works_at _ reads-works (reads-requested until)
+    (λ t text h. record {
+      a = h.0;
+      front = flat_map work_tokens h.0;
+      back = flat_map request_tokens h.1;
+      before = refl;
+      after = (h.1, h.2, refl);
+      whole = h.3;
+    })
+    (reads-then (IsSpelled (flat_map work_tokens)) (λ ws. IsRequested until ws) (λ ws o. next_is (Word (codes "work")) o
+    ≡ false) AtEnd works_at _ reads-works (reads-requested until)
     (λ ws t back rest h end. rw h.2 (apart_from h.0 rest end)))
 
 pub reads-arrivals : Reads IsArrivals AtEnd arrivals_at

@@ -1,6 +1,7 @@
 -- A text is refused for one reason, and none is that says arrivals.
 use Rattle.std.specs.Prelude.{IfOk}
-use Rattle.std.proofs.Common.{◌≡◌, ℕ, ◌+◌, ◌<◌, ◌≤◌, nat_lt, List, [], ◌∷◌, ◌++◌, length, map, flat_map, slice_get, if◌then◌else◌, Option, Some, None, option_map, Result, Ok, Err, refl, sym, ap, subst, ◌∙◌}
+use Rattle.std.proofs.Common.{◌≡◌, ℕ, ◌+◌, ◌<◌, ◌≤◌, nat_lt, List, [], ◌∷◌, ◌++◌, length, map, flat_map, slice_get, if◌then◌else◌, Option, Some}
+use Rattle.std.proofs.Common.{None, option_map, Result, Ok, Err, refl, sym, ap, subst, ◌∙◌}
 use Rattle.std.proofs.lemmas.Bool.{lt-ltb, le-ltb}
 use Rattle.seq_tree.specs.Faults.{or_else}
 use Rattle.seq_tree.specs.Names.{Name}
@@ -28,7 +29,8 @@ use Rattle.arrivals_read.proofs.Reaching.{one-tree}
 abbrev pub cause : Option Wrong → Option acceptance.ArrivalFault
 cause o = option_map (λ w. w.fault) o
 
-cause_or : (name : Name) (before : ℕ) (here : Option acceptance.ArrivalFault) (rest : Option Wrong) → or_else here (cause rest) ≡ cause (or_else (wrong_at name before here) rest)
+cause_or : (name : Name) (before : ℕ) (here : Option acceptance.ArrivalFault) (rest : Option Wrong)
+    → or_else here (cause rest) ≡ cause (or_else (wrong_at name before here) rest)
 cause_or name before None rest = refl
 cause_or name before (Some f) rest = refl
 
@@ -40,17 +42,21 @@ works_cause : (p : Program) (before : ℕ) (ws : List WorkText) → works_fault 
 works_cause p before [] = refl
 works_cause p before (w ∷ ws) =
     let here = work_fault p (work_of p w) in
-    ap (or_else here) (works_cause p (before + length (work_tokens w)) ws) ∙ cause_or w.name before here (wrong_work p (before + length (work_tokens w)) ws)
+    ap (or_else here) (works_cause p (before + length (work_tokens w)) ws) ∙ cause_or w.name before here
+    (wrong_work p (before + length (work_tokens w)) ws)
 
-requests_cause : (p : Program) (earlier : List Arrival) (before : ℕ) (rs : List AtText) → requests_fault p earlier (map (request_of p) rs) ≡ cause (wrong_request p earlier before rs)
+requests_cause : (p : Program) (earlier : List Arrival) (before : ℕ) (rs : List AtText)
+    → requests_fault p earlier (map (request_of p) rs) ≡ cause (wrong_request p earlier before rs)
 requests_cause p earlier before [] = refl
 requests_cause p earlier before (r ∷ rs) =
     let here = item_fault p earlier (request_of p r) in
     let next = earlier ++ request_of p r ∷ [] in
-    ap (or_else here) (requests_cause p next (before + length (request_tokens r)) rs) ∙ cause_or r.name before here (wrong_request p next (before + length (request_tokens r)) rs)
+    ap (or_else here) (requests_cause p next (before + length (request_tokens r)) rs) ∙ cause_or r.name before here
+    (wrong_request p next (before + length (request_tokens r)) rs)
 
 -- the faults of items, those of durations first
-items_cause : (p : Program) (t : ArrivalText) → or_else (works_fault p (map (work_of p) t.works)) (requests_fault p [] (map (request_of p) t.requests)) ≡ cause (first_wrong p t)
+items_cause : (p : Program) (t : ArrivalText)
+    → or_else (works_fault p (map (work_of p) t.works)) (requests_fault p [] (map (request_of p) t.requests)) ≡ cause (first_wrong p t)
 items_cause p t =
     ap (λ o. or_else o (requests_fault p [] (map (request_of p) t.requests))) (works_cause p 3 t.works)
     ∙ ap (or_else (cause (wrong_work p 3 t.works))) (requests_cause p [] (3 + length (flat_map work_tokens t.works)) t.requests)
@@ -73,23 +79,27 @@ spelled_as bytes found ts e h = let same : Ok (bare found) ≡ Ok ts = ap plain 
 tree_same : (bytes : List ℕ) (found : List Spanned) (t u : ArrivalText) → IsText bytes found t → plain (tokens bytes) ≡ Ok (arrival_tokens u) → t ≡ u
 tree_same bytes found t u x h = one-tree (bare found) t u x.spelled (spelled_as bytes found (arrival_tokens u) x.read h)
 
-wrong_refused : (bytes : List ℕ) (p : Program) (fault : acceptance.ArrivalFault) (line : ℕ) (name : Name) → IsWrong bytes p fault line name → (a : Arrivals) → Arrives horizon_limit bytes p a → ⊥
+wrong_refused : (bytes : List ℕ) (p : Program) (fault : acceptance.ArrivalFault) (line : ℕ) (name : Name) → IsWrong bytes p fault line name
+    → (a : Arrivals) → Arrives horizon_limit bytes p a → ⊥
 wrong_refused bytes p fault line name h a r =
     let same : h.tree ≡ r.tree = tree_same bytes h.found h.tree r.tree h.text r.spelled in
-    let fine : first_fault horizon_limit p (said p h.tree) ≡ None = ap (λ t. first_fault horizon_limit p (said p t)) same ∙ ap (first_fault horizon_limit p) (sym r.says) ∙ r.accepted in
+    let fine : first_fault horizon_limit p (said p h.tree) ≡ None
+    = ap (λ t. first_fault horizon_limit p (said p t)) same ∙ ap (first_fault horizon_limit p) (sym r.says) ∙ r.accepted in
     let both : None ≡ Some fault = sym fine ∙ fault-near p h.tree h.near ∙ ap cause h.wrong in
     cc
 
 far_refused : (bytes : List ℕ) (p : Program) (value : ℕ) → IsFar bytes value → (a : Arrivals) → Arrives horizon_limit bytes p a → ⊥
 far_refused bytes p value h a r =
     let same : h.tree ≡ r.tree = tree_same bytes h.found h.tree r.tree h.text r.spelled in
-    let fine : first_fault horizon_limit p (said p h.tree) ≡ None = ap (λ t. first_fault horizon_limit p (said p t)) same ∙ ap (first_fault horizon_limit p) (sym r.says) ∙ r.accepted in
+    let fine : first_fault horizon_limit p (said p h.tree) ≡ None
+    = ap (λ t. first_fault horizon_limit p (said p t)) same ∙ ap (first_fault horizon_limit p) (sym r.says) ∙ r.accepted in
     let P : ℕ → Type 0 = λ n. horizon_limit < n in
     let both : None ≡ Some Far = sym fine ∙ fault-far p h.tree (subst P h.until h.far) in
     cc
 
 pub refused-nothing : (bytes : List ℕ) (p : Program) (f : ArrivalFault) → Refuses bytes p f → (a : Arrivals) → Arrives horizon_limit bytes p a → ⊥
-refused-nothing bytes p (told.Text f) h a r = no-text-fault AnyArrivals AnyArrivals 1048576 bytes (arrival_tokens r.tree) f r.within r.spelled (r.tree, refl) (r.tree, refl) h
+refused-nothing bytes p (told.Text f) h a r = no-text-fault AnyArrivals AnyArrivals 1048576 bytes (arrival_tokens r.tree) f r.within r.spelled
+    (r.tree, refl) (r.tree, refl) h
 refused-nothing bytes p (told.Q1 line) h a r = wrong_refused bytes p Falling line h.0 h.1 a r
 refused-nothing bytes p (told.Q2 line name) h a r = wrong_refused bytes p Unknown line name h a r
 refused-nothing bytes p (told.Q3 line name) h a r = wrong_refused bytes p Early line name h a r
@@ -104,7 +114,8 @@ one-arrivals bytes p a b r q =
     r.says ∙ ap (said p) (one-tree (arrival_tokens r.tree) r.tree q.tree refl spelled) ∙ sym q.says
 
 -- what an answer says leaves no other arrivals
-pub says-only : (bytes : List ℕ) (p : Program) (result : Result values.Arrivals ArrivalFault) → Says bytes p result → (a : Arrivals) → Arrives horizon_limit bytes p a → IfOk result (λ b. arrivals_of b ≡ a)
+pub says-only : (bytes : List ℕ) (p : Program) (result : Result values.Arrivals ArrivalFault) → Says bytes p result → (a : Arrivals)
+    → Arrives horizon_limit bytes p a → IfOk result (λ b. arrivals_of b ≡ a)
 says-only bytes p (Ok b) h a r = one-arrivals bytes p (arrivals_of b) a h r
 says-only bytes p (Err f) h a r = tt
 
@@ -136,7 +147,8 @@ record IsTold (bytes : List ℕ) (p : Program) (f : ArrivalFault) : Type 0 where
   pub text : IsText bytes found tree
   pub is : f ≡ told_of p found tree
 
-told_of_wrong : (bytes : List ℕ) (p : Program) (fault : acceptance.ArrivalFault) (line : ℕ) (name : Name) (f : ArrivalFault) → IsWrong bytes p fault line name → f ≡ told_by fault line name → IsTold bytes p f
+told_of_wrong : (bytes : List ℕ) (p : Program) (fault : acceptance.ArrivalFault) (line : ℕ) (name : Name) (f : ArrivalFault)
+    → IsWrong bytes p fault line name → f ≡ told_by fault line name → IsTold bytes p f
 told_of_wrong bytes p fault line name f h e = record {
   found = h.found;
   tree = h.tree;
@@ -151,7 +163,8 @@ told_of_far bytes p value limit h e =
       found = h.found;
       tree = h.tree;
       text = h.text;
-      is = ap (λ v. told.Q4 v limit) h.until ∙ ap (told.Q4 h.tree.until) e ∙ sym (rw (lt-ltb horizon_limit h.tree.until (subst P h.until h.far)) refl);
+      is = ap (λ v. told.Q4 v limit) h.until ∙ ap (told.Q4 h.tree.until) e ∙ sym (rw
+          (lt-ltb horizon_limit h.tree.until (subst P h.until h.far)) refl);
     }
 
 one_told : (bytes : List ℕ) (p : Program) (f g : ArrivalFault) → IsTold bytes p f → IsTold bytes p g → f ≡ g
@@ -162,7 +175,8 @@ one_told bytes p f g h k =
 
 text_or_told : (bytes : List ℕ) (p : Program) (f : TextFault) (g : ArrivalFault) → Faults bytes f → IsTold bytes p g → ⊥
 text_or_told bytes p f g h k =
-    no-text-fault AnyArrivals AnyArrivals 1048576 bytes (arrival_tokens k.tree) f k.text.within (ap plain k.text.read ∙ ap Ok k.text.spelled) (k.tree, refl) (k.tree, refl) h
+    no-text-fault AnyArrivals AnyArrivals 1048576 bytes (arrival_tokens k.tree) f k.text.within (ap plain k.text.read ∙ ap Ok k.text.spelled)
+    (k.tree, refl) (k.tree, refl) h
 
 -- a refusal is one of the text, or is told
 data IsOneOf (bytes : List ℕ) (p : Program) (f : ArrivalFault) : Type 0 where

@@ -21,7 +21,8 @@ durations_of w = record { task = w.task; ticks = w.ticks.items }
 -- what was found: the value, by a view, where nothing is wrong, or else what is
 abbrev pub Finds : {X V : Type 0} → (X → V) → Result X Refusal → Option Wrong → V → Type 0
 Finds view (Ok x) wrong value = (wrong ≡ None) × (view x ≡ value)
-Finds view (Err (refusal.Wrong cause name before)) wrong value = wrong ≡ Some (record { fault = fault_named cause; name = word_bytes name; before = before })
+Finds view (Err (refusal.Wrong cause name before)) wrong value
+    = wrong ≡ Some (record { fault = fault_named cause; name = word_bytes name; before = before })
 Finds view (Err refusal.NoMemory) wrong value = ⊤
 
 -- what is told of an item of this name in this line; want of memory tells nothing

@@ -11,13 +11,20 @@ use Rattle.arrivals_tree.specs.Acceptance.{ArrivalFault, Falling, Unknown, Unfit
 
 -- a thread that is requested from outside, one that isn't, and a cyclic one
 abbrev sporadic : Bool → Unit
-sporadic external = record { name = codes "s"; form = Sporadic 1 1 (record { name = codes "start"; params = record { name = codes "v"; mode = In } ∷ [] }) 500 (if external then 5 else 0) external [] End }
+sporadic external = record {
+  name = codes "s";
+  form = Sporadic 1 1 (record { name = codes "start"; params = record { name = codes "v"; mode = In } ∷ [] }) 500 (if external then 5
+      else 0) external [] End;
+}
 
 abbrev program : Program
 program = record {
   name = codes "d";
   costs = record { assign = 1; test = 1; turn = 1; call = 2; nothing = 1; put = 1; finish = 1 };
-  units = sporadic true ∷ sporadic false ∷ record { name = codes "c"; form = Cyclic 1 0 10 [] End } ∷ record { name = codes "q"; form = Shared 1 [] [] } ∷ [];
+  units = sporadic true ∷ sporadic false ∷ record { name = codes "c"; form = Cyclic 1 0 10 [] End } ∷ record {
+    name = codes "q";
+    form = Shared 1 [] [];
+  } ∷ [];
 }
 
 abbrev fault_of : ℕ → List Durations → List Arrival → Option ArrivalFault
@@ -45,11 +52,13 @@ falling : fault_of 1000 [] (at 600 0 (Some 1) ∷ at 10 0 (Some 1) ∷ []) ≡ S
 falling = refl
 
 -- who isn't requested from outside is unknown, whatever the value
-not_external : map (λ task. fault_of 1000 [] (at 0 task None ∷ [])) (0 ∷ 1 ∷ 2 ∷ 3 ∷ 4 ∷ []) ≡ Some Unfit ∷ Some Unknown ∷ Some Unknown ∷ Some Unknown ∷ Some Unknown ∷ []
+not_external : map (λ task. fault_of 1000 [] (at 0 task None ∷ [])) (0 ∷ 1 ∷ 2 ∷ 3 ∷ 4 ∷ [])
+    ≡ Some Unfit ∷ Some Unknown ∷ Some Unknown ∷ Some Unknown ∷ Some Unknown ∷ []
 not_external = refl
 
 -- durations are of tasks, and of a tick at least
-of_tasks : map (λ task. fault_of 1000 (record { task = task; ticks = 1 ∷ [] } ∷ []) []) (0 ∷ 2 ∷ 3 ∷ 4 ∷ []) ≡ None ∷ None ∷ Some Unknown ∷ Some Unknown ∷ []
+of_tasks : map (λ task. fault_of 1000 (record { task = task; ticks = 1 ∷ [] } ∷ []) []) (0 ∷ 2 ∷ 3 ∷ 4 ∷ [])
+    ≡ None ∷ None ∷ Some Unknown ∷ Some Unknown ∷ []
 of_tasks = refl
 
 no_tick : fault_of 1000 (record { task = 2; ticks = 1 ∷ 0 ∷ [] } ∷ []) [] ≡ Some Unfit
@@ -59,14 +68,22 @@ far : map (λ until. fault_of until [] []) (1000 ∷ 1001 ∷ []) ≡ None ∷ S
 far = refl
 
 -- a task's lists are one after another, and no other's
-lists_joined : durations (record { until = 9; work = record { task = 1; ticks = 3 ∷ [] } ∷ record { task = 0; ticks = 5 ∷ [] } ∷ record { task = 1; ticks = 4 ∷ [] } ∷ []; items = [] }) 1 ≡ 3 ∷ 4 ∷ []
+lists_joined : durations (record {
+  until = 9;
+  work = record { task = 1; ticks = 3 ∷ [] } ∷ record { task = 0; ticks = 5 ∷ [] } ∷ record {
+    task = 1;
+    ticks = 4 ∷ [];
+  } ∷ [];
+  items = [];
+}) 1 ≡ 3 ∷ 4 ∷ []
 lists_joined = refl
 
 -- what the program holds is what is handed to a run
 seen_until : (a : values.Arrivals) → (arrivals_of a).until ≡ a.until
 seen_until a = refl
 
-seen_work : (a : values.Arrivals) → (arrivals_of a).work ≡ map (λ w. let d : Durations = record { task = w.task; ticks = w.ticks.items } in d) a.work.items
+seen_work : (a : values.Arrivals) → (arrivals_of a).work ≡ map (λ w. let d : Durations = record { task = w.task; ticks = w.ticks.items }
+    in d) a.work.items
 seen_work a = refl
 
 seen_items : (a : values.Arrivals) → (arrivals_of a).items ≡ a.items.items

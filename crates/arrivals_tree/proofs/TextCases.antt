@@ -12,7 +12,8 @@ use Rattle.arrivals_tree.specs.declared.arrivals.Arrival.{Arrival}
 use Rattle.arrivals_tree.specs.Arriving.{Durations}
 use Rattle.arrivals_tree.specs.Acceptance.{ArrivalFault, Falling, Unknown, Unfit, Early, first_fault}
 use Rattle.arrivals_tree.specs.Arrived.{horizon_limit}
-use Rattle.arrivals_tree.specs.ArrivalTexts.{ArrivalText, WorkText, AtText, arrival_tokens, work_tokens, request_tokens, unit_place, work_of, request_of, said}
+use Rattle.arrivals_tree.specs.ArrivalTexts.{ArrivalText, WorkText, AtText, arrival_tokens, work_tokens, request_tokens, unit_place, work_of}
+use Rattle.arrivals_tree.specs.ArrivalTexts.{request_of, said}
 use Rattle.arrivals_tree.specs.FirstWrong.{Wrong, wrong_at, work_fault, wrong_work, wrong_request, first_wrong}
 
 -- a thread that is requested from outside with this jitter, a cyclic thread and a protected object
@@ -21,7 +22,13 @@ program jitter = record {
   name = codes "d";
   costs = record { assign = 1; test = 1; turn = 1; call = 2; nothing = 1; put = 1; finish = 1 };
   units =
-      record { name = codes "s"; form = Sporadic 1 1 (record { name = codes "start"; params = record { name = codes "v"; mode = In } ∷ [] }) 500 jitter true [] End }
+      record {
+        name = codes "s";
+        form = Sporadic 1 1 (record {
+          name = codes "start";
+          params = record { name = codes "v"; mode = In } ∷ [];
+        }) 500 jitter true [] End;
+      }
       ∷ record { name = codes "c"; form = Cyclic 1 0 10 [] End } ∷ record { name = codes "q"; form = Shared 1 [] [] } ∷ [];
 }
 
@@ -70,7 +77,8 @@ work_of_nothing : wrong_work (program 0) 3 (work "s" 1 [] ∷ work "c" 2 (0 ∷ 
 work_of_nothing = refl
 
 -- of two faults of an item the unknown name is told
-work_of_object : map (λ name. wrong_work (program 0) 3 (work name 0 [] ∷ [])) ("q" ∷ "x" ∷ "s" ∷ []) ≡ wrong Unknown "q" 3 ∷ wrong Unknown "x" 3 ∷ wrong Unfit "s" 3 ∷ []
+work_of_object : map (λ name. wrong_work (program 0) 3 (work name 0 [] ∷ [])) ("q" ∷ "x" ∷ "s" ∷ [])
+    ≡ wrong Unknown "q" 3 ∷ wrong Unknown "x" 3 ∷ wrong Unfit "s" 3 ∷ []
 work_of_object = refl
 
 request_fine : wrong_request (program 0) [] 3 (at 0 "s" (Some 1) ∷ at 500 "s" (Some 1) ∷ []) ≡ None
@@ -80,7 +88,8 @@ request_early : wrong_request (program 0) [] 3 (at 0 "s" (Some 1) ∷ at 499 "s"
 request_early = refl
 
 -- within an item: a falling time, then the name, then the value, then the separation
-order_within : map (λ r. wrong_request (program 0) [] 3 (at 5 "s" (Some 1) ∷ r ∷ [])) (at 4 "x" None ∷ at 5 "x" None ∷ at 5 "s" None ∷ at 5 "s" (Some 1) ∷ []) ≡
+order_within : map (λ r. wrong_request (program 0) [] 3 (at 5 "s" (Some 1) ∷ r ∷ []))
+    (at 4 "x" None ∷ at 5 "x" None ∷ at 5 "s" None ∷ at 5 "s" (Some 1) ∷ []) ≡
     wrong Falling "x" 8 ∷ wrong Unknown "x" 8 ∷ wrong Unfit "s" 8 ∷ wrong Early "s" 8 ∷ []
 order_within = refl
 
@@ -109,7 +118,8 @@ third_in_time : first_wrong (program 5) (text [] (at 0 "s" (Some 1) ∷ at 495 "
 third_in_time = refl
 
 -- what is told is the first fault of what is said
-same_fault : first_fault horizon_limit (program 5) (said (program 5) (text [] (at 0 "s" (Some 1) ∷ at 495 "s" (Some 1) ∷ at 990 "s" (Some 1) ∷ []))) ≡ Some Early
+same_fault : first_fault horizon_limit (program 5) (said (program 5) (text [] (at 0 "s" (Some 1) ∷ at 495 "s" (Some 1) ∷ at 990 "s" (Some 1) ∷ [])))
+    ≡ Some Early
 same_fault = refl
 
 fine_as_said : first_fault horizon_limit (program 5) (said (program 5) (text (work "c" 3 [] ∷ []) (at 0 "s" (Some 1) ∷ []))) ≡ None

@@ -1,5 +1,6 @@
 -- Blocking: while a level is pending, others use at most the ticks of one section of one lower task.
-use Rattle.std.specs.Prelude.{◌≡◌, ◌≢◌, ◌≤◌, ◌<◌, ◌+◌, ◌-◌, ℕ, zero, suc, Bool, true, false, nat_le, List, [], ◌∷◌, map, slice_get, Option, Some, None, option_map, ℤ, ◌<ℤ◌, ◌≤ℤ◌, ◌==◌, ◌⊎◌, if◌then◌else◌, refl}
+use Rattle.std.specs.Prelude.{◌≡◌, ◌≢◌, ◌≤◌, ◌<◌, ◌+◌, ◌-◌, ℕ, zero, suc, Bool, true, false, nat_le, List, [], ◌∷◌, map, slice_get, Option, Some}
+use Rattle.std.specs.Prelude.{None, option_map, ℤ, ◌<ℤ◌, ◌≤ℤ◌, ◌==◌, ◌⊎◌, if◌then◌else◌, refl}
 use Rattle.std.proofs.Common.{sym, ◌∙◌, ap, subst, arith, le_trans, inl, inr}
 use Rattle.std.proofs.lemmas.Int.{ints}
 use Rattle.std.proofs.lemmas.Option.{none-some, same_Some, slice_get_within, slice_get-map}
@@ -7,13 +8,15 @@ use Rattle.seq_tree.specs.Lists.{change, first_where}
 use Rattle.arrivals_tree.specs.declared.arrivals.Arrival.{Arrival}
 use Rattle.trace_tree.specs.declared.event.Event.TheVariants as event
 use Rattle.machine.specs.Systems.{System, TaskUnit, CallTarget, Plain, Protected, Request, Unknown, callee}
-use Rattle.machine.specs.Pieces.{Piece, Idle, Store, Leaving, Calling, Working, Printing, Testing, Turning, Turned, Returning, Closing, Keeping, Opening, Requested, Finishing}
+use Rattle.machine.specs.Pieces.{Piece, Idle, Store, Leaving, Calling, Working, Printing, Testing, Turning, Turned, Returning, Closing, Keeping}
+use Rattle.machine.specs.Pieces.{Opening, Requested, Finishing}
 use Rattle.machine.specs.Deeds.{done}
 use Rattle.machine.specs.States.{State, Task, Phase, Effects, Delays, Arriving, Use, Ready, Resource, Held, opening, first_task}
 use Rattle.machine.specs.Effects.{ceiling_of, acted}
 use Rattle.machine.specs.Dispatch.{dispatched}
 use Rattle.machine.specs.Releases.{Next, release, serve}
-use Rattle.machine.specs.Steps.{goes_to, effect_of, effect_at, effect_step, is_due, delay_step, horizon_step, arrive_at, arrival_step, use_step, step_in, step}
+use Rattle.machine.specs.Steps.{goes_to, effect_of, effect_at, effect_step, is_due, delay_step, horizon_step, arrive_at, arrival_step, use_step}
+use Rattle.machine.specs.Steps.{step_in, step}
 use Rattle.machine.specs.Meanings.{run}
 use Rattle.ceiling_locking.proofs.Pieces.{closers, AreFit}
 use Rattle.ceiling_locking.specs.Sections.{Stands, sections}
@@ -27,20 +30,23 @@ use Rattle.ceiling_locking.proofs.Dispatching.{IsFirst, dispatched-first, dispat
 use Rattle.ceiling_locking.proofs.Keeping.{tick, busy-ready, opening-keeps, step-keeps, acted-goes, release-goes, serve-goes, gate-keeps, due-rests}
 use Rattle.ceiling_locking.proofs.Stopping.{priority-at}
 use Rattle.ceiling_locking.proofs.Owing.{Owes, Owing, owes-mono, owes-tick, owes-first, IsCallPaid, IsPaidPiece, done-owes, later, weights}
-use Rattle.ceiling_locking.proofs.Paying.{limits-text, IsShort, IsCalm, IsPaid, ArePaid, closers-rest, high-inside, gate-paid, release-paid, serve-paid, entry-calls, acted-paid}
+use Rattle.ceiling_locking.proofs.Paying.{limits-text, IsShort, IsCalm, IsPaid, ArePaid, closers-rest, high-inside, gate-paid, release-paid}
+use Rattle.ceiling_locking.proofs.Paying.{serve-paid, entry-calls, acted-paid}
 use Rattle.program_calls.proofs.Facts.{first-where}
 use Rattle.program_calls.proofs.Places.{changed}
 use Rattle.std.proofs.lemmas.Bool.{false≢true}
 
 module _ (y : System) (lev bound : ℕ) (l : IsLimited y lev bound) where
   -- a call of a task below the level is paid
-  paid-piece : (i : ℕ) (p : Piece) (ps : List Piece) → priority_at y i < lev → AreFit (AllLimited y lev l.costing i) (p ∷ ps) → IsPaidPiece y lev l.costing.cost bound p
+  paid-piece : (i : ℕ) (p : Piece) (ps : List Piece) → priority_at y i < lev → AreFit (AllLimited y lev l.costing i) (p ∷ ps)
+      → IsPaidPiece y lev l.costing.cost bound p
   paid-piece i Idle ps low fits = tt
   paid-piece i (Store target value) ps low fits = tt
   paid-piece i (Leaving condition) ps low fits = tt
   paid-piece i (Calling unit op actuals) ps low fits = by (callee y unit op) (l.calls unit op (fits.0 low))
     where
-      by : (c : CallTarget) → CostsAtMost y lev bound l.costing (l.costing.cost unit op) c → IsCallPaid y lev l.costing.cost bound (l.costing.cost unit op) c
+      by : (c : CallTarget) → CostsAtMost y lev bound l.costing (l.costing.cost unit op) c
+          → IsCallPaid y lev l.costing.cost bound (l.costing.cost unit op) c
       by (Plain o) h = h.1
       by (Protected object j g o) h = (h.1, h.2)
       by (Request task) h = h
@@ -58,8 +64,10 @@ module _ (y : System) (lev bound : ℕ) (l : IsLimited y lev bound) where
   paid-piece i Finishing ps low fits = tt
 
   -- inside a section whose ceiling reaches the level a call costs at most what is owed
-  paid-again : (owed : ℕ) (p : Piece) (ps : List Piece) (section : Resource) (ss : List Resource) → closers (p ∷ ps) ≡ section ∷ ss → lev ≤ ceiling_of y section
-      → IsPaidPiece y lev l.costing.cost bound p → Owes y lev l.costing.cost owed (later (weights y l.costing.cost) p) ps → IsPaidPiece y lev l.costing.cost owed p
+  paid-again : (owed : ℕ) (p : Piece) (ps : List Piece) (section : Resource) (ss : List Resource) → closers (p ∷ ps) ≡ section ∷ ss
+      → lev ≤ ceiling_of y section
+      → IsPaidPiece y lev l.costing.cost bound p → Owes y lev l.costing.cost owed (later (weights y l.costing.cost) p) ps
+      → IsPaidPiece y lev l.costing.cost owed p
   paid-again owed Idle ps section ss e high paid h = tt
   paid-again owed (Store target value) ps section ss e high paid h = tt
   paid-again owed (Leaving condition) ps section ss e high paid h = tt
@@ -68,7 +76,8 @@ module _ (y : System) (lev bound : ℕ) (l : IsLimited y lev bound) where
       most : l.costing.cost unit op ≤ owed
       most = owes-first y lev l.costing.cost owed (l.costing.cost unit op) ps section ss e high h
 
-      by : (c : CallTarget) → IsCallPaid y lev l.costing.cost bound (l.costing.cost unit op) c → IsCallPaid y lev l.costing.cost owed (l.costing.cost unit op) c
+      by : (c : CallTarget) → IsCallPaid y lev l.costing.cost bound (l.costing.cost unit op) c
+          → IsCallPaid y lev l.costing.cost owed (l.costing.cost unit op) c
       by (Plain o) k = k
       by (Protected object j g o) k = (k.0, λ reach. most)
       by (Request task) k = (k.0, λ reach. most)
@@ -86,7 +95,8 @@ module _ (y : System) (lev bound : ℕ) (l : IsLimited y lev bound) where
   paid-again owed Finishing ps section ss e high paid h = tt
 
   -- what is owed of the pieces behind the first one, once that has no ticks left
-  owing-rest : (b n : ℕ) (ts : List Piece) (p : Piece) (ps : List Piece) → ts ≡ p ∷ ps → Owing y lev l.costing.cost b n ts → Owes y lev l.costing.cost b (later (weights y l.costing.cost) p) ps
+  owing-rest : (b n : ℕ) (ts : List Piece) (p : Piece) (ps : List Piece) → ts ≡ p ∷ ps → Owing y lev l.costing.cost b n ts
+      → Owes y lev l.costing.cost b (later (weights y l.costing.cost) p) ps
   owing-rest b n ts p ps e h =
       let now : Owing y lev l.costing.cost b n (p ∷ ps) = subst (Owing y lev l.costing.cost b n) e h in
       owes-mono y lev l.costing.cost b (n + later (weights y l.costing.cost) p) (later (weights y l.costing.cost) p) ps (omega arith) now
@@ -97,16 +107,21 @@ module _ (y : System) (lev bound : ℕ) (l : IsLimited y lev bound) where
     Pays s = ArePaid y lev bound l window owed (runner s.phase s.ran) s.tasks
 
     -- the effect of the first piece of the runner
-    effect-paid : (i : ℕ) (t : Task) (p : Piece) (ps : List Piece) (s : State) → Stands s.tasks i t → t.readiness ≡ Ready → IsSound y (AllLimited y lev l.costing i) i t
+    effect-paid : (i : ℕ) (t : Task) (p : Piece) (ps : List Piece) (s : State) → Stands s.tasks i t → t.readiness ≡ Ready
+        → IsSound y (AllLimited y lev l.costing i) i t
         → ArePaid y lev bound l window owed (Some i) s.tasks → t.pieces ≡ p ∷ ps → t.left ≡ 0
-        → ArePaid y lev bound l window owed (Some i) (acted y i t (done y p t.vars ps).act (done y p t.vars ps).vars (done y p t.vars ps).pieces s).0.tasks
+        → ArePaid y lev bound l window owed (Some i) (acted y i t (done y p t.vars ps).act (done y p t.vars ps).vars
+        (done y p t.vars ps).pieces s).0.tasks
     effect-paid i t p ps s stands ready sound paid e none =
-        let d = done-fits y (AllLimited y lev l.costing i) ((limits-text y lev bound l).closed i) p t.vars ps (subst (AreFit (AllLimited y lev l.costing i)) e sound.fits) in
-        acted-paid y lev bound l window owed i t s stands ready sound paid (done y p t.vars ps).act (done y p t.vars ps).vars (done y p t.vars ps).pieces
+        let d = done-fits y (AllLimited y lev l.costing i) ((limits-text y lev bound l).closed i) p t.vars ps
+        (subst (AreFit (AllLimited y lev l.costing i)) e sound.fits) in
+        acted-paid y lev bound l window owed i t s stands ready sound paid (done y p t.vars ps).act (done y p t.vars ps).vars
+        (done y p t.vars ps).pieces
         (subst (λ xs. ActFits y (AllLimited y lev l.costing i) (closers xs) (done y p t.vars ps).act (done y p t.vars ps).pieces) (sym e) d.1)
         (λ is on low below. entry-calls y lev bound l window owed p t.vars ps (calm on low below) is)
         (λ low. done-owes y lev l.costing.cost bound p t.vars ps (pays low) (owing-rest bound t.left t.pieces p ps e ((paid i t stands).owes low)))
-        (λ on low high. done-owes y lev l.costing.cost owed p t.vars ps (again on low high) (owing-rest owed t.left t.pieces p ps e ((paid i t stands).debts on low high)))
+        (λ on low high. done-owes y lev l.costing.cost owed p t.vars ps (again on low high)
+        (owing-rest owed t.left t.pieces p ps e ((paid i t stands).debts on low high)))
       where
         base : priority_at y i ≡ t.thread.priority
         base = priority-at y i t.thread sound.written
@@ -118,7 +133,8 @@ module _ (y : System) (lev bound : ℕ) (l : IsLimited y lev bound) where
         pays low = paid-piece i p ps (let below : priority_at y i < lev = omega (arith, base) in below) fits
 
         calm : window ≡ true → t.thread.priority < lev → t.active < lev → IsCalm y lev bound l 0 (p ∷ ps)
-        calm on low below = subst (λ n. IsCalm y lev bound l n (p ∷ ps)) none (subst (IsCalm y lev bound l t.left) e ((paid i t stands).calm on low below refl))
+        calm on low below = subst (λ n. IsCalm y lev bound l n (p ∷ ps)) none
+            (subst (IsCalm y lev bound l t.left) e ((paid i t stands).calm on low below refl))
 
         again : window ≡ true → t.thread.priority < lev → lev ≤ t.active → IsPaidPiece y lev l.costing.cost owed p
         again on low high =
@@ -192,15 +208,18 @@ module _ (y : System) (lev bound : ℕ) (l : IsLimited y lev bound) where
                   piece (p ∷ ps) g = now (t.left == 0) refl
                     where
                       now : (b : Bool) → (t.left == 0) ≡ b
-                          → Pays (if b then acted y i t (done y p t.vars ps).act (done y p t.vars ps).vars (done y p t.vars ps).pieces s else goes_to Delays s).0
+                          → Pays (if b then acted y i t (done y p t.vars ps).act (done y p t.vars ps).vars
+                          (done y p t.vars ps).pieces s else goes_to Delays s).0
                       now true k =
                           let none : t.left ≡ 0 = grind arith in
                           let ready = busy-ready t p ps sound.rests g in
                           let n : Next = acted y i t (done y p t.vars ps).act (done y p t.vars ps).vars (done y p t.vars ps).pieces s in
-                          let d = done-fits y (AllLimited y lev l.costing i) ((limits-text y lev bound l).closed i) p t.vars ps (subst (AreFit (AllLimited y lev l.costing i)) g sound.fits) in
+                          let d = done-fits y (AllLimited y lev l.costing i) ((limits-text y lev bound l).closed i) p t.vars ps
+                          (subst (AreFit (AllLimited y lev l.costing i)) g sound.fits) in
                           let goes = acted-goes y (AllLimited y lev l.costing) (limits-text y lev bound l) i t s effects e f ready kept
                           (done y p t.vars ps).act (done y p t.vars ps).vars (done y p t.vars ps).pieces d.0
-                          (subst (λ xs. ActFits y (AllLimited y lev l.costing i) (closers xs) (done y p t.vars ps).act (done y p t.vars ps).pieces) (sym g) d.1) in
+                          (subst (λ xs. ActFits y (AllLimited y lev l.costing i) (closers xs) (done y p t.vars ps).act (done y p t.vars ps).pieces)
+                          (sym g) d.1) in
                           subst (λ r. ArePaid y lev bound l window owed r n.0.tasks) (sym (ap (λ ph. runner ph n.0.ran) goes.0 ∙ goes.1))
                           (effect-paid i t p ps s f ready sound paid g none)
                       now false k = halts i s.tasks paid (λ u h hs stands inside. some u (mine u stands))
@@ -226,11 +245,13 @@ module _ (y : System) (lev bound : ℕ) (l : IsLimited y lev bound) where
           by (Some sleeper) e =
               let found = first-where (λ t. is_due s.time t.readiness) s.tasks sleeper.0 sleeper.1 e in
               let inside : sleeper.1.inside ≡ [] = due-rests s.time sleeper.1 (kept-none.sound sleeper.0 sleeper.1 found.0).rests found.1 in
-              let goes = release-goes y (AllLimited y lev l.costing) (limits-text y lev bound l) Delays s.ran None sleeper.0 sleeper.1 s delays refl kept-none found.0 inside in
+              let goes = release-goes y (AllLimited y lev l.costing) (limits-text y lev bound l) Delays s.ran None sleeper.0 sleeper.1 s delays refl
+              kept-none found.0 inside in
               let n : Next = release y sleeper.0 s in
               subst (λ r. ArePaid y lev bound l window owed r n.0.tasks) (sym (ap (λ ph. runner ph n.0.ran) goes.0))
               (release-paid y lev bound l window owed None sleeper.0 s
-              (λ u at. let same : u ≡ sleeper.1 = same_Some u sleeper.1 (sym at ∙ found.0) in ap (λ x. x.inside) same ∙ inside) (still None none refl))
+              (λ u at. let same : u ≡ sleeper.1 = same_Some u sleeper.1 (sym at ∙ found.0)
+              in ap (λ x. x.inside) same ∙ inside) (still None none refl))
 
       arrivals-pay : s.phase ≡ Arriving → Pays (arrival_step y s.arrivals s).0
       arrivals-pay arriving = by s.arrivals
@@ -249,7 +270,8 @@ module _ (y : System) (lev bound : ℕ) (l : IsLimited y lev bound) where
               let s' : State = record s { arrivals = others'; tasks = opened } in
               let n : Next = serve y t.0 s' in
               let goes = serve-goes y (AllLimited y lev l.costing) (limits-text y lev bound l) Arriving s.ran None t.0 s' arriving refl
-              (gate-keeps y (AllLimited y lev l.costing) (limits-text y lev bound l) None s.tasks s.orders t.0 (λ u. record { value = a.value; open' = true }) kept-none) in
+              (gate-keeps y (AllLimited y lev l.costing) (limits-text y lev bound l) None s.tasks s.orders t.0
+              (λ u. record { value = a.value; open' = true }) kept-none) in
               subst (λ r. ArePaid y lev bound l window owed r n.0.tasks) (sym (ap (λ ph. runner ph n.0.ran) goes.0))
               (serve-paid y lev bound l window owed None t.0 s'
               (gate-paid y lev bound l window owed None s.tasks t.0 (λ u. record { value = a.value; open' = true }) (still None none refl)))
@@ -258,7 +280,8 @@ module _ (y : System) (lev bound : ℕ) (l : IsLimited y lev bound) where
           by [] = horizon (s.time == y.until)
           by (a ∷ others') = now (a.time == s.time)
             where
-              now : (b : Bool) → Pays (if b then arrive_at y a (first_where (λ t. t.thread.unit == a.task) s.tasks) (record s { arrivals = others' }) else horizon_step y s).0
+              now : (b : Bool) → Pays (if b then arrive_at y a (first_where (λ t. t.thread.unit == a.task) s.tasks)
+                  (record s { arrivals = others' }) else horizon_step y s).0
               now true = arrive a others' (first_where (λ t. t.thread.unit == a.task) s.tasks)
               now false = horizon (s.time == y.until)
 
@@ -281,13 +304,15 @@ module _ (y : System) (lev bound : ℕ) (l : IsLimited y lev bound) where
   use-paid : (window : Bool) (owed owed' : ℕ) (s : State) (i : ℕ) (f : IsFirst s.tasks s.orders i) → ArePaid y lev bound l window owed None s.tasks
       → (window ≡ true → f.task.thread.priority < lev → f.task.active < lev → ⊥)
       → (window ≡ true → f.task.thread.priority < lev → lev ≤ f.task.active → Owing y lev l.costing.cost owed' (f.task.left - 1) f.task.pieces)
-      → ((j : ℕ) (u : Task) → j ≢ i → Stands s.tasks j u → window ≡ true → u.thread.priority < lev → lev ≤ u.active → Owing y lev l.costing.cost owed' u.left u.pieces)
+      → ((j : ℕ) (u : Task) → j ≢ i → Stands s.tasks j u → window ≡ true → u.thread.priority < lev → lev ≤ u.active
+      → Owing y lev l.costing.cost owed' u.left u.pieces)
       → ArePaid y lev bound l window owed' (Some i) (change i tick s.tasks)
   use-paid window owed owed' s i f paid calm mine theirs j u at =
       changed i j tick s.tasks u at
       (λ x is at' same.
       let is-first : x ≡ f.task = same_Some x f.task (sym at' ∙ f.stands) in
-      subst (λ k. IsPaid y lev bound l window owed' (Some i) k u) (sym is) (subst (IsPaid y lev bound l window owed' (Some i) i) (sym (same ∙ ap tick is-first)) runs))
+      subst (λ k. IsPaid y lev bound l window owed' (Some i) k u) (sym is)
+      (subst (IsPaid y lev bound l window owed' (Some i) i) (sym (same ∙ ap tick is-first)) runs))
       (λ not at'.
       let p = paid j u at' in
       record {
@@ -310,7 +335,8 @@ module _ (y : System) (lev bound : ℕ) (l : IsLimited y lev bound) where
       }
 
   -- one task alone below the level has an active priority that reaches it
-  only-one : (r : Option ℕ) (ts : List Task) (os : List ℤ) → IsKept y (AllLimited y lev l.costing) r ts os → (i j : ℕ) (t u : Task) → Stands ts i t → Stands ts j u → i ≢ j
+  only-one : (r : Option ℕ) (ts : List Task) (os : List ℤ) → IsKept y (AllLimited y lev l.costing) r ts os → (i j : ℕ) (t u : Task) → Stands ts i t
+      → Stands ts j u → i ≢ j
       → t.thread.priority < lev → lev ≤ t.active → u.thread.priority < lev → lev ≤ u.active → ⊥
   only-one r ts os kept i j t u at bt other low high low' high' =
       let sound = kept.sound i t at in
@@ -320,16 +346,19 @@ module _ (y : System) (lev bound : ℕ) (l : IsLimited y lev bound) where
       let o = numbered-at os i (subst (λ n. i < n) (sym kept.numbered) (slice_get_within ts i t at)) in
       let o' = numbered-at os j (subst (λ n. j < n) (sym kept.numbered) (slice_get_within ts j u bt)) in
       let first : GoesBefore u.active o'.0 t.active o.0 =
-      kept.leads i j t u o.0 o'.0 h'.0 h'.1 at bt o.1 o'.1 other (holder-ready t h.0 h.1 sound.rests h.2) h'.2 (let less : t.thread.priority ≤ u.active = omega arith in less) in
+      kept.leads i j t u o.0 o'.0 h'.0 h'.1 at bt o.1 o'.1 other (holder-ready t h.0 h.1 sound.rests h.2) h'.2
+      (let less : t.thread.priority ≤ u.active = omega arith in less) in
       let second : GoesBefore t.active o.0 u.active o'.0 =
-      kept.leads j i u t o'.0 o.0 h.0 h.1 bt at o'.1 o.1 (λ e. other (sym e)) (holder-ready u h'.0 h'.1 sound'.rests h'.2) h.2 (let less : u.thread.priority ≤ t.active = omega arith in less) in
+      kept.leads j i u t o'.0 o.0 h.0 h.1 bt at o'.1 o.1 (λ e. other (sym e)) (holder-ready u h'.0 h'.1 sound'.rests h'.2) h.2
+      (let less : u.thread.priority ≤ t.active = omega arith in less) in
       let same : t.active ≡ u.active = let a : t.active ≤ u.active = first.0 in let b : u.active ≤ t.active = second.0 in omega arith in
       let before : o'.0 <ℤ o.0 = first.1 same in
       let after : o.0 <ℤ o'.0 = second.1 (sym same) in
       omega (arith, ints)
 
   -- what runs below a pending level has an active priority that reaches it
-  pending-high : (s : State) → Keeps y (AllLimited y lev l.costing) s → IsPending y lev s.tasks → (i : ℕ) (f : IsFirst s.tasks s.orders i) → lev ≤ f.task.active
+  pending-high : (s : State) → Keeps y (AllLimited y lev l.costing) s → IsPending y lev s.tasks → (i : ℕ) (f : IsFirst s.tasks s.orders i)
+      → lev ≤ f.task.active
   pending-high s keeps pending i f =
       by (f.first pending.0 pending.1 o.0 pending.2 o.1 pending.3)
     where
@@ -337,7 +366,8 @@ module _ (y : System) (lev bound : ℕ) (l : IsLimited y lev bound) where
       o = numbered-at s.orders pending.0 (subst (λ n. pending.0 < n) (sym keeps.numbered) (slice_get_within s.tasks pending.0 pending.1 pending.2))
 
       base : lev ≤ pending.1.active
-      base = le_trans pending.4 (stacked-base y pending.1.thread.priority pending.1.active pending.1.inside (keeps.sound pending.0 pending.1 pending.2).stacked)
+      base = le_trans pending.4 (stacked-base y pending.1.thread.priority pending.1.active pending.1.inside
+          (keeps.sound pending.0 pending.1 pending.2).stacked)
 
       by : (pending.1.active < f.task.active) ⊎ ((pending.1.active ≡ f.task.active) × (f.order ≤ℤ o.0)) → lev ≤ f.task.active
       by (inl less) = let high : lev ≤ pending.1.active = base in omega arith
@@ -362,7 +392,8 @@ module _ (y : System) (lev bound : ℕ) (l : IsLimited y lev bound) where
       by (p ∷ ps) e =
           let behind = closers-rest y lev bound l t.left p ps (subst (IsShort y lev bound l t.left) e short) some in
           let owing' : Owing y lev l.costing.cost owed t.left (p ∷ ps) = subst (Owing y lev l.costing.cost owed t.left) e owing in
-          let most = owes-first y lev l.costing.cost owed (t.left + later (weights y l.costing.cost) p) ps inside.0.section (map (λ x. x.section) inside.1)
+          let most = owes-first y lev l.costing.cost owed (t.left + later (weights y l.costing.cost) p) ps inside.0.section
+          (map (λ x. x.section) inside.1)
           (sym behind ∙ ap closers (sym e) ∙ sections') inside.3 owing' in
           omega (arith, most)
 
@@ -370,7 +401,8 @@ module _ (y : System) (lev bound : ℕ) (l : IsLimited y lev bound) where
   KeepsL s = Keeps y (AllLimited y lev l.costing) s
 
   -- each step pays where no tick is used
-  other-steps : (window : Bool) (owed : ℕ) (s : State) (phase : Phase) → s.phase ≡ phase → (phase ≡ Use → ⊥) → KeepsL s → Pays window owed s → Pays window owed (step_in phase y s).0
+  other-steps : (window : Bool) (owed : ℕ) (s : State) (phase : Phase) → s.phase ≡ phase → (phase ≡ Use → ⊥) → KeepsL s → Pays window owed s
+      → Pays window owed (step_in phase y s).0
   other-steps window owed s Effects e not keeps pays = effects-pay window owed s keeps pays e
   other-steps window owed s Delays e not keeps pays = delays-pay window owed s keeps pays e
   other-steps window owed s Arriving e not keeps pays = arrivals-pay window owed s keeps pays e
@@ -386,7 +418,8 @@ module _ (y : System) (lev bound : ℕ) (l : IsLimited y lev bound) where
       by s.stopped refl pending.1 (step-keeps y (AllLimited y lev l.costing) (limits-text y lev bound l) s keeps)
       (λ s' owed' k p q. window-others n s' owed' k p q)
     where
-      used : s.phase ≡ Use → IsPending y lev s.tasks → (o : Option ℕ) → dispatched s.tasks s.orders ≡ o → IsPendingThrough y lev n (use_step y o s).0 → KeepsL (use_step y o s).0
+      used : s.phase ≡ Use → IsPending y lev s.tasks → (o : Option ℕ) → dispatched s.tasks s.orders ≡ o → IsPendingThrough y lev n (use_step y o s).0
+          → KeepsL (use_step y o s).0
           → ((s' : State) (owed' : ℕ) → KeepsL s' → Pays true owed' s' → IsPendingThrough y lev n s' → others y lev n s' ≤ owed')
           → (if is_of_level y lev o then 0 else 1) + others y lev n (use_step y o s).0 ≤ owed
       used e now None is pending' keeps' more =
@@ -410,7 +443,8 @@ module _ (y : System) (lev bound : ℕ) (l : IsLimited y lev bound) where
           split true k =
               let level' : lev ≤ f.task.thread.priority = let z : lev ≤ priority_at y i = grind arith in omega (arith, base) in
               let later' = more (use_step y (Some i) s).0 owed keeps'
-              (use-paid true owed owed s i f paid (λ on low below. omega arith) (λ on low reach. absurd (omega arith)) (λ j u not at on low reach. (paid j u at).debts on low reach)) pending' in
+              (use-paid true owed owed s i f paid (λ on low below. omega arith) (λ on low reach. absurd (omega arith))
+              (λ j u not at on low reach. (paid j u at).debts on low reach)) pending' in
               omega (arith, later')
           split false k =
               let low : f.task.thread.priority < lev = let z : priority_at y i < lev = grind arith in omega (arith, base) in
@@ -421,20 +455,27 @@ module _ (y : System) (lev bound : ℕ) (l : IsLimited y lev bound) where
               let owing = p.debts refl low high in
               let least = owed-some owed i f.task sound low high some p.short owing in
               let later' = more (use_step y (Some i) s).0 (owed - 1) keeps'
-              (use-paid true owed (owed - 1) s i f paid (λ on low' below. let z : lev ≤ f.task.active = high in omega arith) (λ on low' reach. owing-tick owed f.task.left f.task.pieces some owing)
+              (use-paid true owed (owed - 1) s i f paid (λ on low' below. let z : lev ≤ f.task.active = high
+              in omega arith) (λ on low' reach. owing-tick owed f.task.left f.task.pieces some owing)
               (λ j u not at on low' reach.
-              absurd (only-one (runner s.phase s.ran) s.tasks s.orders keeps i j f.task u f.stands at (λ h. not (sym h)) low high low' reach))) pending' in
+              absurd (only-one (runner s.phase s.ran) s.tasks s.orders keeps i j f.task u f.stands at (λ h. not (sym h)) low high low' reach)))
+              pending' in
               omega (arith, later', least)
 
-      at : (phase : Phase) → s.phase ≡ phase → IsPendingIn y lev phase s → IsPendingThrough y lev n (step_in phase y s).0 → KeepsL (step_in phase y s).0
+      at : (phase : Phase) → s.phase ≡ phase → IsPendingIn y lev phase s → IsPendingThrough y lev n (step_in phase y s).0
+          → KeepsL (step_in phase y s).0
           → ((s' : State) (owed' : ℕ) → KeepsL s' → Pays true owed' s' → IsPendingThrough y lev n s' → others y lev n s' ≤ owed')
           → others_in y lev phase s + others y lev n (step_in phase y s).0 ≤ owed
-      at Effects e now pending' keeps' more = let k = more (step_in Effects y s).0 owed keeps' (effects-pay true owed s keeps pays e) pending' in omega (arith, k)
-      at Delays e now pending' keeps' more = let k = more (step_in Delays y s).0 owed keeps' (delays-pay true owed s keeps pays e) pending' in omega (arith, k)
-      at Arriving e now pending' keeps' more = let k = more (step_in Arriving y s).0 owed keeps' (arrivals-pay true owed s keeps pays e) pending' in omega (arith, k)
+      at Effects e now pending' keeps' more = let k = more (step_in Effects y s).0 owed keeps' (effects-pay true owed s keeps pays e) pending'
+          in omega (arith, k)
+      at Delays e now pending' keeps' more = let k = more (step_in Delays y s).0 owed keeps' (delays-pay true owed s keeps pays e) pending'
+          in omega (arith, k)
+      at Arriving e now pending' keeps' more = let k = more (step_in Arriving y s).0 owed keeps' (arrivals-pay true owed s keeps pays e) pending'
+          in omega (arith, k)
       at Use e now pending' keeps' more = used e now (dispatched s.tasks s.orders) refl pending' keeps' more
 
-      by : (b : Bool) → s.stopped ≡ b → IsPendingThrough y lev n (if b then (s, []) else step_in s.phase y s).0 → KeepsL (if b then (s, []) else step_in s.phase y s).0
+      by : (b : Bool) → s.stopped ≡ b → IsPendingThrough y lev n (if b then (s, []) else step_in s.phase y s).0
+          → KeepsL (if b then (s, []) else step_in s.phase y s).0
           → ((s' : State) (owed' : ℕ) → KeepsL s' → Pays true owed' s' → IsPendingThrough y lev n s' → others y lev n s' ≤ owed')
           → (if b then 0 else others_in y lev s.phase s) + others y lev n (if b then (s, []) else step_in s.phase y s).0 ≤ owed
       by true e pending' keeps' more = let k = more s owed keeps' pays pending' in omega (arith, k)
@@ -464,7 +505,8 @@ module _ (y : System) (lev bound : ℕ) (l : IsLimited y lev bound) where
       used : s.phase ≡ Use → (o : Option ℕ) → dispatched s.tasks s.orders ≡ o → Pays false 0 (use_step y o s).0
       used e None is = subst (λ r. ArePaid y lev bound l false 0 r s.tasks) (none-running s e) pays
       used e (Some i) is =
-          use-paid false 0 0 s i (dispatched-first s.tasks s.orders i is) (subst (λ r. ArePaid y lev bound l false 0 r s.tasks) (none-running s e) pays)
+          use-paid false 0 0 s i (dispatched-first s.tasks s.orders i is)
+          (subst (λ r. ArePaid y lev bound l false 0 r s.tasks) (none-running s e) pays)
           (λ on low below. absurd (false≢true on)) (λ on low high. absurd (false≢true on)) (λ j u not at on low high. absurd (false≢true on))
 
       at : (phase : Phase) → s.phase ≡ phase → Pays false 0 (step_in phase y s).0

@@ -1,5 +1,6 @@
 -- The task that is dispatched is ready, and no other ready task goes before it.
-use Rattle.std.specs.Prelude.{◌≡◌, ◌⊎◌, ◌<◌, ◌+◌, ℕ, zero, suc, Bool, true, false, ◌||◌, ◌&&◌, ◌==◌, nat_lt, int_lt, List, [], ◌∷◌, Some, None, ℤ, ◌<ℤ◌, ◌≤ℤ◌, if◌then◌else◌, refl}
+use Rattle.std.specs.Prelude.{◌≡◌, ◌⊎◌, ◌<◌, ◌+◌, ℕ, zero, suc, Bool, true, false, ◌||◌, ◌&&◌, ◌==◌, nat_lt, int_lt, List, [], ◌∷◌, Some, None}
+use Rattle.std.specs.Prelude.{ℤ, ◌<ℤ◌, ◌≤ℤ◌, if◌then◌else◌, refl}
 use Rattle.std.proofs.Common.{sym, ◌∙◌, ap, subst, arith, inl, inr}
 use Rattle.std.proofs.lemmas.Int.{ints}
 use Rattle.std.proofs.lemmas.Option.{none-some, same_Some}
@@ -25,7 +26,8 @@ before-true c d e = by (nat_lt d.active c.active) (c.active == d.active) (int_lt
 before-false : (c d : Candidate) → goes_before c d ≡ false → IsBehind c d
 before-false c d e = by (nat_lt d.active c.active) (c.active == d.active) (int_lt c.order d.order) refl refl refl e
   where
-    by : (x y z : Bool) → nat_lt d.active c.active ≡ x → (c.active == d.active) ≡ y → int_lt c.order d.order ≡ z → (x || (y && z)) ≡ false → IsBehind c d
+    by : (x y z : Bool) → nat_lt d.active c.active ≡ x → (c.active == d.active) ≡ y → int_lt c.order d.order ≡ z → (x || (y && z)) ≡ false
+        → IsBehind c d
     by true y z hx hy hz h = cc
     by false true true hx hy hz h = cc
     by false true false hx hy hz h = inr (grind arith, omega (arith, ints))
@@ -120,7 +122,8 @@ in-candidates n (t ∷ ts) (o ∷ os) x h = by t.readiness refl h (in-candidates
     by (Asleep until) e k rest = later (rest k)
 
 each-candidates : (P : Candidate → Type 0) (n : ℕ) (ts : List Task) (os : List ℤ) → Each P (candidates n ts os)
-    → (j k : ℕ) (u : Task) (p : ℤ) → k ≡ n + j → Stands ts j u → IsNumbered os j p → u.readiness ≡ Ready → P (record { task = k; active = u.active; order = p })
+    → (j k : ℕ) (u : Task) (p : ℤ) → k ≡ n + j → Stands ts j u → IsNumbered os j p → u.readiness ≡ Ready
+    → P (record { task = k; active = u.active; order = p })
 each-candidates P n [] os each j k u p at stands numbered ready = absurd (none-some u stands)
 each-candidates P n (t ∷ ts) [] each j k u p at stands numbered ready = absurd (none-some p numbered)
 each-candidates P n (t ∷ ts) (o ∷ os) each zero k u p at stands numbered ready =
@@ -128,9 +131,11 @@ each-candidates P n (t ∷ ts) (o ∷ os) each zero k u p at stands numbered rea
     let order : o ≡ p = same_Some o p numbered in
     let here : n ≡ k = omega arith in
     let first : P (record { task = n; active = t.active; order = o }) = by t.readiness (ap (λ x. x.readiness) same ∙ ready) each in
-    subst P (ap (λ m. record { task = m; active = t.active; order = o }) here ∙ ap (λ x. record { task = k; active = x.active; order = o }) same ∙ ap (λ x. record { task = k; active = u.active; order = x }) order) first
+    subst P (ap (λ m. record { task = m; active = t.active; order = o }) here ∙ ap (λ x. record { task = k; active = x.active; order = o }) same ∙ ap
+    (λ x. record { task = k; active = u.active; order = x }) order) first
   where
-    by : (r : Readiness) → r ≡ Ready → Each P (candidate_if r (record { task = n; active = t.active; order = o }) (candidates (suc n) ts os)) → P (record { task = n; active = t.active; order = o })
+    by : (r : Readiness) → r ≡ Ready → Each P (candidate_if r (record { task = n; active = t.active; order = o }) (candidates (suc n) ts os))
+        → P (record { task = n; active = t.active; order = o })
     by Ready e h = h.0
     by Waiting e h = absurd (no e)
       where
@@ -143,7 +148,8 @@ each-candidates P n (t ∷ ts) (o ∷ os) each zero k u p at stands numbered rea
 each-candidates P n (t ∷ ts) (o ∷ os) each (suc j) k u p at stands numbered ready =
     each-candidates P (suc n) ts os (rest t.readiness each) j k u p (omega arith) stands numbered ready
   where
-    rest : (r : Readiness) → Each P (candidate_if r (record { task = n; active = t.active; order = o }) (candidates (suc n) ts os)) → Each P (candidates (suc n) ts os)
+    rest : (r : Readiness) → Each P (candidate_if r (record { task = n; active = t.active; order = o }) (candidates (suc n) ts os))
+        → Each P (candidates (suc n) ts os)
     rest Ready h = h.1
     rest Waiting h = h
     rest (Asleep until) h = h
@@ -175,12 +181,14 @@ dispatched-first ts os i e = by (candidates 0 ts os) refl e
           ready = found.ready;
           numbered = subst (λ k. IsNumbered os k x.order) is found.numbered;
           first = λ j u p stands numbered ready.
-              let behind : IsBehind (record { task = j; active = u.active; order = p }) x = each-candidates (λ z. IsBehind z x) 0 ts os each j j u p (omega arith) stands numbered ready in
+              let behind : IsBehind (record { task = j; active = u.active; order = p }) x
+              = each-candidates (λ z. IsBehind z x) 0 ts os each j j u p (omega arith) stands numbered ready in
               subst (λ a. (u.active < a) ⊎ ((u.active ≡ a) × (x.order ≤ℤ p))) found.active behind;
         }
 
 -- where a task is ready one is dispatched
-pub dispatched-some : (ts : List Task) (os : List ℤ) (k : ℕ) (t : Task) (o : ℤ) → Stands ts k t → IsNumbered os k o → t.readiness ≡ Ready → dispatched ts os ≡ None → ⊥
+pub dispatched-some : (ts : List Task) (os : List ℤ) (k : ℕ) (t : Task) (o : ℤ) → Stands ts k t → IsNumbered os k o → t.readiness ≡ Ready
+    → dispatched ts os ≡ None → ⊥
 dispatched-some ts os k t o stands numbered ready e = by (candidates 0 ts os) refl e
   where
     by : (cs : List Candidate) → candidates 0 ts os ≡ cs → dispatched_of cs ≡ None → ⊥

@@ -1,12 +1,15 @@
 -- No section is entered while it is held: the ranks of calls keep a task from its own sections, and ceilings keep others from them.
-use Rattle.std.specs.Prelude.{◌≡◌, ◌⊎◌, ◌≤◌, ◌<◌, ◌+◌, ℕ, zero, suc, Bool, true, false, List, [], ◌∷◌, map, drop, slice_get, Option, Some, None, option_map, ◌==◌, if◌then◌else◌, refl}
+use Rattle.std.specs.Prelude.{◌≡◌, ◌⊎◌, ◌≤◌, ◌<◌, ◌+◌, ℕ, zero, suc, Bool, true, false, List, [], ◌∷◌, map, drop, slice_get, Option, Some, None}
+use Rattle.std.specs.Prelude.{option_map, ◌==◌, if◌then◌else◌, refl}
 use Rattle.std.proofs.Common.{sym, ◌∙◌, ap, subst, arith, inl, inr, drop-drop}
 use Rattle.std.proofs.lemmas.Option.{none-some, same_Some, slice_get-map}
 use Rattle.seq_tree.specs.Names.{Name, same_name}
 use Rattle.seq_tree.specs.Operations.{Operation}
 use Rattle.seq_tree.specs.Lists.{first_where}
 use Rattle.arrivals_tree.specs.declared.arrivals.Arrival.{Arrival}
-use Rattle.machine.specs.Systems.{System, TaskUnit, ProtectedUnit, PassiveUnit, ReleasePattern, Periodic, Requested, CallTarget, Plain, Protected, Request, Unknown, op_named, plain_by, protected_by, request_if, request_by, object_or, library_or, callee}
+use Rattle.machine.specs.Systems.{System, TaskUnit, ProtectedUnit, PassiveUnit, ReleasePattern, Periodic, Requested, CallTarget, Plain}
+use Rattle.machine.specs.Systems.{Protected, Request, Unknown, op_named, plain_by, protected_by, request_if, request_by, object_or, library_or}
+use Rattle.machine.specs.Systems.{callee}
 use Rattle.machine.specs.States.{State, Task, Resource, Object, Control, opening, first_task}
 use Rattle.machine.specs.Effects.{ceiling_of}
 use Rattle.machine.specs.Releases.{Next}
@@ -52,9 +55,11 @@ below-control rank n task (Object other ∷ ss) h (inr a) = below-control rank n
 below-control rank n task (Control other ∷ ss) h a = h
 
 -- what a call of an object or of a task leads to is there
-pub callee-object : (y : System) (unit op : Name) (object j : ℕ) (g : ProtectedUnit) (o : Operation) → callee y unit op ≡ Protected object j g o → slice_get y.objects object ≡ Some g
+pub callee-object : (y : System) (unit op : Name) (object j : ℕ) (g : ProtectedUnit) (o : Operation) → callee y unit op ≡ Protected object j g o
+    → slice_get y.objects object ≡ Some g
 callee-object y unit op object j g o e =
-    by (first_where (λ l. same_name l.name unit) y.libraries) (first_where (λ x. same_name x.name unit) y.objects) refl (first_where (λ t. same_name t.name unit) y.threads) e
+    by (first_where (λ l. same_name l.name unit) y.libraries) (first_where (λ x. same_name x.name unit) y.objects) refl
+    (first_where (λ t. same_name t.name unit) y.threads) e
   where
     plain : (x : Option (ℕ × Operation)) → plain_by x ≡ Protected object j g o → ⊥
     plain None e' = cc
@@ -72,7 +77,8 @@ callee-object y unit op object j g o e =
             chosen true k = cc
             chosen false k = cc
 
-    guarded : (x : ℕ × ProtectedUnit) → slice_get y.objects x.0 ≡ Some x.1 → (q : Option (ℕ × Operation)) → protected_by x q ≡ Protected object j g o → slice_get y.objects object ≡ Some g
+    guarded : (x : ℕ × ProtectedUnit) → slice_get y.objects x.0 ≡ Some x.1 → (q : Option (ℕ × Operation)) → protected_by x q ≡ Protected object j g o
+        → slice_get y.objects object ≡ Some g
     guarded x at None e' = absurd (no e')
       where
         no : Unknown ≡ Protected object j g o → ⊥
@@ -82,15 +88,18 @@ callee-object y unit op object j g o e =
         let same : x.1 ≡ g = cc in
         subst (λ k. slice_get y.objects k ≡ Some g) place (at ∙ ap Some same)
 
-    by : (l : Option (ℕ × PassiveUnit)) (x : Option (ℕ × ProtectedUnit)) → first_where (λ z. same_name z.name unit) y.objects ≡ x → (t : Option (ℕ × TaskUnit))
+    by : (l : Option (ℕ × PassiveUnit)) (x : Option (ℕ × ProtectedUnit)) → first_where (λ z. same_name z.name unit) y.objects ≡ x
+        → (t : Option (ℕ × TaskUnit))
         → library_or op l (object_or op x (request_by op t)) ≡ Protected object j g o → slice_get y.objects object ≡ Some g
     by (Some l) x f t e' = absurd (plain (op_named op l.1.ops) e')
     by None None f t e' = absurd (asked t e')
     by None (Some x) f t e' = guarded x (first-where (λ z. same_name z.name unit) y.objects x.0 x.1 f).0 (op_named op x.1.ops) e'
 
-pub callee-task : (y : System) (unit op : Name) (task : ℕ) → callee y unit op ≡ Request task → (t : TaskUnit) × (slice_get y.threads task ≡ Some t) × IsRequested t.timing
+pub callee-task : (y : System) (unit op : Name) (task : ℕ) → callee y unit op ≡ Request task
+    → (t : TaskUnit) × (slice_get y.threads task ≡ Some t) × IsRequested t.timing
 callee-task y unit op task e =
-    by (first_where (λ l. same_name l.name unit) y.libraries) (first_where (λ x. same_name x.name unit) y.objects) (first_where (λ t. same_name t.name unit) y.threads) refl e
+    by (first_where (λ l. same_name l.name unit) y.libraries) (first_where (λ x. same_name x.name unit) y.objects)
+    (first_where (λ t. same_name t.name unit) y.threads) refl e
   where
     plain : (x : Option (ℕ × Operation)) → plain_by x ≡ Request task → ⊥
     plain None e' = cc
@@ -108,7 +117,8 @@ callee-task y unit op task e =
         no k = cc
     timed t at (Requested sig ceiling separation jitter external) is f = chosen (same_name sig.name op) f
       where
-        chosen : (b : Bool) → (if b then Request t.0 else Unknown) ≡ Request task → (u : TaskUnit) × (slice_get y.threads task ≡ Some u) × IsRequested u.timing
+        chosen : (b : Bool) → (if b then Request t.0 else Unknown) ≡ Request task → (u : TaskUnit) × (slice_get y.threads task ≡ Some u)
+            × IsRequested u.timing
         chosen true k =
             let place : t.0 ≡ task = cc in
             (t.1, subst (λ n. slice_get y.threads n ≡ Some t.1) place at, subst IsRequested (sym is) tt)
@@ -117,8 +127,10 @@ callee-task y unit op task e =
             no : Unknown ≡ Request task → ⊥
             no k' = cc
 
-    by : (l : Option (ℕ × PassiveUnit)) (x : Option (ℕ × ProtectedUnit)) (t : Option (ℕ × TaskUnit)) → first_where (λ z. same_name z.name unit) y.threads ≡ t
-        → library_or op l (object_or op x (request_by op t)) ≡ Request task → (u : TaskUnit) × (slice_get y.threads task ≡ Some u) × IsRequested u.timing
+    by : (l : Option (ℕ × PassiveUnit)) (x : Option (ℕ × ProtectedUnit)) (t : Option (ℕ × TaskUnit))
+        → first_where (λ z. same_name z.name unit) y.threads ≡ t
+        → library_or op l (object_or op x (request_by op t)) ≡ Request task → (u : TaskUnit) × (slice_get y.threads task ≡ Some u)
+        × IsRequested u.timing
     by (Some l) x t f e' = absurd (plain (op_named op l.1.ops) e')
     by None (Some x) t f e' = absurd (guarded x (op_named op x.1.ops) e')
     by None None None f e' = absurd (no e')
@@ -143,12 +155,15 @@ module _ (y : System) (as' : List Arrival) (ex : MayExclude y as') where
   pub falls-text : AreWritten y (AllFall ex.ranking)
   falls-text = record {
     closed = λ i unit op ss may. by ss (ex.ranking.rank unit op) may.1 (callee y unit op) (ex.calls unit op may.0);
-    tasks = λ i t at. block-weaken (λ unit op. ex.ranking.made unit op ≡ true) (Inside (Falls ex.ranking) []) (λ unit op made. (made, tt)) false t.block (ex.tasks i t at);
+    tasks = λ i t at. block-weaken (λ unit op. ex.ranking.made unit op
+        ≡ true) (Inside (Falls ex.ranking) []) (λ unit op made. (made, tt)) false t.block (ex.tasks i t at);
   }
     where
-      by : (ss : List Resource) (n : ℕ) → IsBelow ex.ranking.object_rank n ss → (c : CallTarget) → FallsTo y as' ex.ranking n c → LeadsWithin (Falls ex.ranking) c ss
+      by : (ss : List Resource) (n : ℕ) → IsBelow ex.ranking.object_rank n ss → (c : CallTarget) → FallsTo y as' ex.ranking n c
+          → LeadsWithin (Falls ex.ranking) c ss
       by ss n below (Plain o) falls =
-          block-weaken (IsMadeWithin ex.ranking n) (Inside (Falls ex.ranking) ss) (λ unit op h. (h.0, below-mono ex.ranking.object_rank n (ex.ranking.rank unit op) ss h.1 below)) false o.block falls
+          block-weaken (IsMadeWithin ex.ranking n) (Inside (Falls ex.ranking) ss)
+          (λ unit op h. (h.0, below-mono ex.ranking.object_rank n (ex.ranking.rank unit op) ss h.1 below)) false o.block falls
       by ss n below (Protected object j g o) falls =
           block-weaken (IsMadeBelow ex.ranking (ex.ranking.object_rank object)) (Inside (Falls ex.ranking) (Object object ∷ ss))
           (λ unit op h. (
@@ -156,22 +171,27 @@ module _ (y : System) (as' : List Arrival) (ex : MayExclude y as') where
             (
               h.1,
               below-mono ex.ranking.object_rank n (ex.ranking.rank unit op) ss
-                  (let less : ex.ranking.rank unit op < ex.ranking.object_rank object = h.1 in let most : ex.ranking.object_rank object ≤ n = falls.0 in omega arith) below,
+                  (let less : ex.ranking.rank unit op < ex.ranking.object_rank object = h.1 in let most : ex.ranking.object_rank object ≤ n = falls.0
+                  in omega arith) below,
             ),
           )) false o.block falls.1
       by ss n below (Request task) falls = tt
       by ss n below Unknown falls = tt
 
   -- a section that is entered is there, and the task is not inside it
-  pub falls-bars : (section : Resource) (ss : List Resource) → IsEntered y (Falls ex.ranking) section ss → (IsAmong section ss → ⊥) × IsThere y as' section
+  pub falls-bars : (section : Resource) (ss : List Resource) → IsEntered y (Falls ex.ranking) section ss
+      → (IsAmong section ss → ⊥) × IsThere y as' section
   falls-bars section ss e = by (callee y e.unit e.op) refl (ex.calls e.unit e.op e.may.0) e.enters
     where
       by : (c : CallTarget) → callee y e.unit e.op ≡ c → FallsTo y as' ex.ranking (ex.ranking.rank e.unit e.op) c → entered_by c ≡ Some section
           → (IsAmong section ss → ⊥) × IsThere y as' section
       by (Plain o) is falls enters = absurd (none-some section enters)
       by (Protected object j g o) is falls enters =
-          subst (λ x. (IsAmong x ss → ⊥) × IsThere y as' x) (same_Some (Object object) section enters)
-          (below-object ex.ranking.object_rank (ex.ranking.rank e.unit e.op) object ss falls.0 e.may.1, (g, callee-object y e.unit e.op object j g o is))
+          subst (λ x. (IsAmong x ss → ⊥) × IsThere y as' x) (same_Some (Object object) section enters) (
+            below-object ex.ranking.object_rank (ex.ranking.rank e.unit
+                e.op) object ss falls.0 e.may.1,
+            (g, callee-object y e.unit e.op object j g o is),
+          )
       by (Request task) is falls enters =
           let there = callee-task y e.unit e.op task is in
           subst (λ x. (IsAmong x ss → ⊥) × IsThere y as' x) (same_Some (Control task) section enters)
@@ -179,7 +199,8 @@ module _ (y : System) (as' : List Arrival) (ex : MayExclude y as') where
       by Unknown is falls enters = absurd (none-some section enters)
 
   -- a section is free where a task enters it
-  pub entry-free : (s : State) → Excludes y as' ex.ranking s → (i : ℕ) (t : Task) (section : Resource) → IsEntering y (AllFall ex.ranking) s i t section → IsFree s.tasks section
+  pub entry-free : (s : State) → Excludes y as' ex.ranking s → (i : ℕ) (t : Task) (section : Resource)
+      → IsEntering y (AllFall ex.ranking) s i t section → IsFree s.tasks section
   entry-free s x i t section e (j, u, su, among) = by (j == i) refl
     where
       kept : IsKept y (AllFall ex.ranking) (Some i) s.tasks s.orders
@@ -194,7 +215,8 @@ module _ (y : System) (as' : List Arrival) (ex : MayExclude y as') where
           let other : i ≡ j → ⊥ = λ h. grind arith in
           let inside = among-inside section u.inside among in
           let below : u.active < t.thread.priority = kept.runs i j t u inside.0 inside.1 refl e.stands su other inside.2 in
-          let held : ceiling_of y section ≤ u.active = stacked-ceiling y u.thread.priority u.active u.inside section (kept.sound j u su).stacked among in
+          let held : ceiling_of y section ≤ u.active
+          = stacked-ceiling y u.thread.priority u.active u.inside section (kept.sound j u su).stacked among in
           let base : t.thread.priority ≤ t.active = stacked-base y t.thread.priority t.active t.inside (kept.sound i t e.stands).stacked in
           let low : t.active ≤ ceiling_of y section = e.low in
           omega arith
@@ -271,7 +293,8 @@ module _ (y : System) (as' : List Arrival) (ex : MayExclude y as') where
       by (Enters k v other e changes tells) =
           changed k i (into other) (faces s.tasks) (face u) (ap (λ fs. slice_get fs i) (sym changes) ∙ at-face (step y s).0.tasks i u after')
           (λ f is there same.
-          let mine : face t ≡ f = same_Some (face t) f (sym (at-face s.tasks i t at) ∙ subst (λ n. slice_get (faces s.tasks) n ≡ Some f) (sym is) there) in
+          let mine : face t ≡ f = same_Some (face t) f (sym (at-face s.tasks i t at) ∙ subst (λ n. slice_get (faces s.tasks) n
+          ≡ Some f) (sym is) there) in
           new (subst (λ g. IsAmong section g.1) (same ∙ ap (into other) (sym mine)) among))
           (λ not there. absurd (out (subst (λ f. IsAmong section f.1) (sym (same-face s.tasks i t u at there)) among)))
         where
@@ -281,7 +304,8 @@ module _ (y : System) (as' : List Arrival) (ex : MayExclude y as') where
       by (Leaves k v other l changes tells) =
           changed k i out_of (faces s.tasks) (face u) (ap (λ fs. slice_get fs i) (sym changes) ∙ at-face (step y s).0.tasks i u after')
           (λ f is there same.
-          let mine : face t ≡ f = same_Some (face t) f (sym (at-face s.tasks i t at) ∙ subst (λ n. slice_get (faces s.tasks) n ≡ Some f) (sym is) there) in
+          let mine : face t ≡ f = same_Some (face t) f (sym (at-face s.tasks i t at) ∙ subst (λ n. slice_get (faces s.tasks) n
+          ≡ Some f) (sym is) there) in
           absurd (out (more (sections t) (subst (λ g. IsAmong section g.1) (same ∙ ap out_of (sym mine)) among))))
           (λ not there. absurd (out (subst (λ f. IsAmong section f.1) (sym (same-face s.tasks i t u at there)) among)))
         where

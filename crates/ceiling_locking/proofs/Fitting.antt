@@ -2,12 +2,14 @@
 use Rattle.std.specs.Prelude.{◌≡◌, ℕ, suc, Bool, true, false, List, [], ◌∷◌, drop, nat_le, Some, if◌then◌else◌, refl}
 use Rattle.std.proofs.Common.{sym, ◌∙◌, ap, subst}
 use Rattle.seq_tree.specs.Names.{Name}
-use Rattle.seq_tree.specs.Statements.{Statement, Statements, Branches, Null, Assign, If, For, ExitWhen, Call, Work, Put, End, Then, Nothing, Else, When}
+use Rattle.seq_tree.specs.Statements.{Statement, Statements, Branches, Null, Assign, If, For, ExitWhen, Call, Work, Put, End, Then, Nothing}
+use Rattle.seq_tree.specs.Statements.{Else, When}
 use Rattle.seq_tree.specs.Expressions.{Expression}
 use Rattle.seq_tree.specs.Values.{holds}
 use Rattle.seq_tree.specs.Variables.{Variables}
 use Rattle.machine.specs.Systems.{System, CallTarget, Plain, Protected, Request, Unknown, callee}
-use Rattle.machine.specs.Pieces.{Piece, Idle, Store, Leaving, Calling, Working, Printing, Testing, Turning, Turned, Returning, Closing, Keeping, Opening, Requested, Finishing, turns, pieces_of, pieces, branch_pieces, after_loop}
+use Rattle.machine.specs.Pieces.{Piece, Idle, Store, Leaving, Calling, Working, Printing, Testing, Turning, Turned, Returning, Closing, Keeping}
+use Rattle.machine.specs.Pieces.{Opening, Requested, Finishing, turns, pieces_of, pieces, branch_pieces, after_loop}
 use Rattle.machine.specs.Deeds.{Act, Silent, Print, Enter, Leave, Ask, Keep, Open, Ended, Finish, PieceOutcome, deed, called, done}
 use Rattle.machine.specs.States.{Resource, Object, Control}
 use Rattle.ceiling_locking.proofs.Pieces.{closers, is_in_loop, Permission, Inside, AreFit, entered_by, LeadsWithin, IsClosed}
@@ -24,7 +26,8 @@ turns-closers : (name : Name) (at last : ℕ) (body : Statements) (rest : List P
 turns-closers name at last body rest = either-way (λ ps. closers ps ≡ closers rest) (nat_le at last) (Turning name at last body ∷ rest) rest refl refl
 
 turns-loop : (name : Name) (at last : ℕ) (body : Statements) (rest : List Piece) → is_in_loop (turns name at last body rest) ≡ is_in_loop rest
-turns-loop name at last body rest = either-way (λ ps. is_in_loop ps ≡ is_in_loop rest) (nat_le at last) (Turning name at last body ∷ rest) rest refl refl
+turns-loop name at last body rest = either-way (λ ps. is_in_loop ps ≡ is_in_loop rest) (nat_le at last)
+    (Turning name at last body ∷ rest) rest refl refl
 
 mutual
   statement-closers : (s : Statement) (rest : List Piece) → closers (pieces_of s rest) ≡ closers rest
@@ -68,7 +71,8 @@ mutual
 
 -- calls that may be made, under a weaker permission
 mutual
-  statement-weaken : (P Q : Name → Name → Type 0) → ((unit op : Name) → P unit op → Q unit op) → (b : Bool) (s : Statement) → StatementFits P b s → StatementFits Q b s
+  statement-weaken : (P Q : Name → Name → Type 0) → ((unit op : Name) → P unit op → Q unit op) → (b : Bool) (s : Statement) → StatementFits P b s
+      → StatementFits Q b s
   statement-weaken P Q f b Null h = tt
   statement-weaken P Q f b (Assign target e) h = tt
   statement-weaken P Q f b (If branches) h = branches-weaken P Q f b branches h
@@ -82,18 +86,21 @@ mutual
   statement-weaken P Q f b (Work ticks) h = tt
   statement-weaken P Q f b (Put e) h = tt
 
-  pub block-weaken : (P Q : Name → Name → Type 0) → ((unit op : Name) → P unit op → Q unit op) → (b : Bool) (s : Statements) → BlockFits P b s → BlockFits Q b s
+  pub block-weaken : (P Q : Name → Name → Type 0) → ((unit op : Name) → P unit op → Q unit op) → (b : Bool) (s : Statements) → BlockFits P b s
+      → BlockFits Q b s
   block-weaken P Q f b End h = tt
   block-weaken P Q f b (Then first rest) h = (statement-weaken P Q f b first h.0, block-weaken P Q f b rest h.1)
 
-  branches-weaken : (P Q : Name → Name → Type 0) → ((unit op : Name) → P unit op → Q unit op) → (b : Bool) (s : Branches) → BranchesFit P b s → BranchesFit Q b s
+  branches-weaken : (P Q : Name → Name → Type 0) → ((unit op : Name) → P unit op → Q unit op) → (b : Bool) (s : Branches) → BranchesFit P b s
+      → BranchesFit Q b s
   branches-weaken P Q f b Nothing h = tt
   branches-weaken P Q f b (Else block) h = block-weaken P Q f b block h
   branches-weaken P Q f b (When condition block others) h = (block-weaken P Q f b block h.0, branches-weaken P Q f b others h.1)
 
 module _ (May : Permission) where
   -- what fits before pieces fits before others with the same ends
-  statement-moved : (s : Statement) (ss ss' : List Resource) (b b' : Bool) → ss ≡ ss' → b ≡ b' → StatementFits (Inside May ss) b s → StatementFits (Inside May ss') b' s
+  statement-moved : (s : Statement) (ss ss' : List Resource) (b b' : Bool) → ss ≡ ss' → b ≡ b' → StatementFits (Inside May ss) b s
+      → StatementFits (Inside May ss') b' s
   statement-moved s ss ss' b b' e f h = subst (λ c. StatementFits (Inside May ss') c s) f (subst (λ xs. StatementFits (Inside May xs) b s) e h)
 
   turns-fit : (name : Name) (at last : ℕ) (body : Statements) (rest : List Piece)
@@ -105,7 +112,8 @@ module _ (May : Permission) where
       go false k = fits
 
   mutual
-    statement-fit : (s : Statement) (rest : List Piece) → StatementFits (Inside May (closers rest)) (is_in_loop rest) s → AreFit May rest → AreFit May (pieces_of s rest)
+    statement-fit : (s : Statement) (rest : List Piece) → StatementFits (Inside May (closers rest)) (is_in_loop rest) s → AreFit May rest
+        → AreFit May (pieces_of s rest)
     statement-fit Null rest h fits = (tt, fits)
     statement-fit (Assign target e) rest h fits = (tt, fits)
     statement-fit (If branches) rest h fits = branches-fit branches rest h fits
@@ -115,14 +123,17 @@ module _ (May : Permission) where
     statement-fit (Work ticks) rest h fits = (tt, fits)
     statement-fit (Put e) rest h fits = (tt, fits)
 
-    pub block-fit : (b : Statements) (rest : List Piece) → BlockFits (Inside May (closers rest)) (is_in_loop rest) b → AreFit May rest → AreFit May (pieces b rest)
+    pub block-fit : (b : Statements) (rest : List Piece) → BlockFits (Inside May (closers rest)) (is_in_loop rest) b → AreFit May rest
+        → AreFit May (pieces b rest)
     block-fit End rest h fits = fits
     block-fit (Then first others) rest h fits =
         statement-fit first (pieces others rest)
-        (statement-moved first (closers rest) (closers (pieces others rest)) (is_in_loop rest) (is_in_loop (pieces others rest)) (sym (block-closers others rest)) (sym (block-loop others rest)) h.0)
+        (statement-moved first (closers rest) (closers (pieces others rest)) (is_in_loop rest) (is_in_loop (pieces others rest))
+        (sym (block-closers others rest)) (sym (block-loop others rest)) h.0)
         (block-fit others rest h.1 fits)
 
-    pub branches-fit : (b : Branches) (rest : List Piece) → BranchesFit (Inside May (closers rest)) (is_in_loop rest) b → AreFit May rest → AreFit May (branch_pieces b rest)
+    pub branches-fit : (b : Branches) (rest : List Piece) → BranchesFit (Inside May (closers rest)) (is_in_loop rest) b → AreFit May rest
+        → AreFit May (branch_pieces b rest)
     branches-fit Nothing rest h fits = fits
     branches-fit (Else block) rest h fits = block-fit block rest h fits
     branches-fit (When condition block others) rest h fits = (h, fits)
@@ -188,7 +199,8 @@ abbrev pub DeedFits : System → Permission → List Resource → PieceOutcome �
 DeedFits y May ss d = AreFit May d.pieces × ActFits y May ss d.act d.pieces
 
 called-fits : (y : System) (May : Permission) (unit op : Name) (actuals : List Expression) (vars : Variables) (ps : List Piece) (c : CallTarget)
-    → callee y unit op ≡ c → May unit op (closers ps) → LeadsWithin May c (closers ps) → AreFit May ps → DeedFits y May (closers ps) (called c actuals vars ps)
+    → callee y unit op ≡ c → May unit op (closers ps) → LeadsWithin May c (closers ps) → AreFit May ps
+    → DeedFits y May (closers ps) (called c actuals vars ps)
 called-fits y May unit op actuals vars ps (Plain o) e may within fits = (block-fit May o.block _ within (tt, fits), block-closers o.block _)
 called-fits y May unit op actuals vars ps (Protected object j g o) e may within fits =
     (block-fit May o.block _ within (tt, fits), (record { unit = unit; op = op; enters = ap entered_by e; may = may }, block-closers o.block _))

@@ -31,7 +31,8 @@ at-rest t rests not = by t.readiness refl rests
 module _ (y : System) (as' : List Arrival) (ex : MayExclude y as') where
   safe : (s : State) → Excludes y as' ex.ranking s → Differ s.tasks s.orders → AreSafe y s
   safe s x differ = record {
-    before = λ i j t u o p h hs at bt an bn ready inside first. by i j t u o p h hs at bt an bn ready inside first (i == j) refl (nat_lt u.active t.thread.priority) refl;
+    before = λ i j t u o p h hs at bt an bn ready inside first.
+        by i j t u o p h hs at bt an bn ready inside first (i == j) refl (nat_lt u.active t.thread.priority) refl;
     each = λ i t at.
         let sound = x.keeps.sound i t at in
         record {
@@ -45,7 +46,8 @@ module _ (y : System) (as' : List Arrival) (ex : MayExclude y as') where
     differ = differ;
   }
     where
-      by : (i j : ℕ) (t u : Task) (o p : ℤ) (h : Held) (hs : List Held) → Stands s.tasks i t → Stands s.tasks j u → IsNumbered s.orders i o → IsNumbered s.orders j p
+      by : (i j : ℕ) (t u : Task) (o p : ℤ) (h : Held) (hs : List Held) → Stands s.tasks i t → Stands s.tasks j u → IsNumbered s.orders i o
+          → IsNumbered s.orders j p
           → t.readiness ≡ Ready → u.inside ≡ h ∷ hs → StandsBefore t.active o u.active p
           → (b : Bool) → (i == j) ≡ b → (c : Bool) → nat_lt u.active t.thread.priority ≡ c → u.active < t.thread.priority
       by i j t u o p h hs at bt an bn ready inside first b e true f = grind arith
@@ -62,7 +64,8 @@ module _ (y : System) (as' : List Arrival) (ex : MayExclude y as') where
 
           itself : StandsBefore t.active o u.active p → ⊥
           itself (inl less) = let is : u.active ≡ t.active = ap (λ z. z.active) same in omega arith
-          itself (inr level) = let is : o ≡ p = number in let less : o <ℤ p = level.1 in let never : p <ℤ p = subst (λ z. z <ℤ p) is less in omega (arith, ints)
+          itself (inr level) = let is : o ≡ p = number in let less : o <ℤ p = level.1 in let never : p <ℤ p = subst (λ z. z <ℤ p) is less
+              in omega (arith, ints)
       by i j t u o p h hs at bt an bn ready inside first false e false f = absurd (clash first)
         where
           other : i ≡ j → ⊥

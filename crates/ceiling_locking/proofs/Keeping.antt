@@ -1,5 +1,6 @@
 -- The opening has what the processor keeps, and each step keeps it.
-use Rattle.std.specs.Prelude.{◌≡◌, ◌⊎◌, ◌≤◌, ◌<◌, ◌≤ℤ◌, ◌<ℤ◌, ◌+◌, ◌-◌, ◌&&◌, ◌++◌, ℕ, Bool, true, false, nat_lt, List, [], ◌∷◌, map, slice_get, Option, Some, None, option_map, ℤ, ◌==◌, if◌then◌else◌, refl}
+use Rattle.std.specs.Prelude.{◌≡◌, ◌⊎◌, ◌≤◌, ◌<◌, ◌≤ℤ◌, ◌<ℤ◌, ◌+◌, ◌-◌, ◌&&◌, ◌++◌, ℕ, Bool, true, false, nat_lt, List, [], ◌∷◌, map, slice_get}
+use Rattle.std.specs.Prelude.{Option, Some, None, option_map, ℤ, ◌==◌, if◌then◌else◌, refl}
 use Rattle.std.proofs.Common.{sym, ◌∙◌, ap, subst, arith, inl, inr}
 use Rattle.std.proofs.lemmas.List.{length-replicate, length-map}
 use Rattle.std.proofs.lemmas.Option.{none-some, same_Some, slice_get-map}
@@ -13,11 +14,14 @@ use Rattle.trace_tree.specs.declared.event.Event.TheVariants as event
 use Rattle.machine.specs.Systems.{System, TaskUnit, ReleasePattern, Periodic, Requested}
 use Rattle.machine.specs.Pieces.{Piece, Finishing, pieces, ticks_of, works_of}
 use Rattle.machine.specs.Deeds.{Act, Silent, Print, Enter, Leave, Ask, Keep, Open, Ended, Finish, done}
-use Rattle.machine.specs.States.{State, Task, Phase, Effects, Delays, Arriving, Use, Readiness, Asleep, Waiting, Ready, Resource, Object, Control, Held, Gate, first_wait, first_task, opening}
-use Rattle.machine.specs.Effects.{ceiling_of, inside_now, outside_by, outside_now, lent, stopped_at, entered_at, entry, exit, resting, ended, acted, object_unit}
+use Rattle.machine.specs.States.{State, Task, Phase, Effects, Delays, Arriving, Use, Readiness, Asleep, Waiting, Ready, Resource, Object}
+use Rattle.machine.specs.States.{Control, Held, Gate, first_wait, first_task, opening}
+use Rattle.machine.specs.Effects.{ceiling_of, inside_now, outside_by, outside_now, lent, stopped_at, entered_at, entry, exit, resting, ended}
+use Rattle.machine.specs.Effects.{acted, object_unit}
 use Rattle.machine.specs.Dispatch.{put_last, put_first, dispatched}
 use Rattle.machine.specs.Releases.{Next, going, released, release_task, release, is_waiting, serve_task, serve, parameter, next_time}
-use Rattle.machine.specs.Steps.{goes_to, effect_of, effect_at, effect_step, is_due, delay_step, horizon_step, arrive_at, arrival_step, use_step, step_in, step}
+use Rattle.machine.specs.Steps.{goes_to, effect_of, effect_at, effect_step, is_due, delay_step, horizon_step, arrive_at, arrival_step, use_step}
+use Rattle.machine.specs.Steps.{step_in, step}
 use Rattle.ceiling_locking.proofs.Pieces.{Permission, Inside, closers, AreFit, IsClosed}
 use Rattle.ceiling_locking.specs.Bodies.{BlockFits}
 use Rattle.ceiling_locking.specs.Sections.{Stands, IsNumbered, sections, IsAmong}
@@ -119,7 +123,8 @@ opening-keeps y May as' = record {
     at : (i : ℕ) (t : Task) → Stands (map first_task y.threads) i t → (th : TaskUnit) × (slice_get y.threads i ≡ Some th) × (t ≡ first_task th)
     at i t stands = by (slice_get y.threads i) refl (sym (slice_get-map first_task y.threads i) ∙ stands)
       where
-        by : (o : Option TaskUnit) → slice_get y.threads i ≡ o → option_map first_task o ≡ Some t → (th : TaskUnit) × (slice_get y.threads i ≡ Some th) × (t ≡ first_task th)
+        by : (o : Option TaskUnit) → slice_get y.threads i ≡ o → option_map first_task o ≡ Some t
+            → (th : TaskUnit) × (slice_get y.threads i ≡ Some th) × (t ≡ first_task th)
         by None e f = absurd (none-some t f)
         by (Some th) e f = (th, e, sym (same_Some (first_task th) t f))
 
@@ -141,7 +146,12 @@ module _ (y : System) (May : ℕ → Permission) (text : AreWritten y May) where
   pub released-keeps : (r : Option ℕ) (ts : List Task) (os : List ℤ) (i : ℕ) (t : Task) → IsKept y May r ts os → Stands ts i t → t.inside ≡ []
       → IsKept y May r (change i (released y.costs) ts) (put_last i os)
   released-keeps r ts os i t kept stands inside =
-      let first : Task = record t { readiness = Ready; next = next_time t.thread.timing t.next; used = 0; gate = record { value = None; open' = false } } in
+      let first : Task = record t {
+        readiness = Ready;
+        next = next_time t.thread.timing t.next;
+        used = 0;
+        gate = record { value = None; open' = false };
+      } in
       let ps = pieces t.thread.block (Finishing ∷ []) in
       let vars' = parameter t.thread.timing t.gate.value ++ t.vars in
       let t' : Task = record first { vars = vars'; pieces = ps; left = first_left y.costs ps first; works = first_works ps first } in
@@ -163,7 +173,8 @@ module _ (y : System) (May : ℕ → Permission) (text : AreWritten y May) where
       by (Some t) e = served (is_waiting t.readiness && t.gate.open') refl
         where
           served : (b : Bool) → (is_waiting t.readiness && t.gate.open') ≡ b → Goes phase ran r (if b then release y i s else (s, []))
-          served true f = release-goes phase ran r i t s p q kept e (waits t (kept.sound i t e).rests (and_parts (is_waiting t.readiness) t.gate.open' f).0)
+          served true f = release-goes phase ran r i t s p q kept e
+              (waits t (kept.sound i t e).rests (and_parts (is_waiting t.readiness) t.gate.open' f).0)
           served false f = (p, q, kept)
 
   -- a change of one task's control structure
@@ -176,15 +187,27 @@ module _ (y : System) (May : ℕ → Permission) (text : AreWritten y May) where
       by (Some t) e =
           let sound = kept.sound k t e in
           let t' : Task = record t { gate = f t } in
-          gone_on y May r ts os k (λ u. record u { gate = f u }) t t' kept e refl (record { thread = refl; readiness = refl; active = refl; inside = refl })
-          (record { written = sound.written; rests = rests t.readiness t sound.rests; stacked = sound.stacked; closes = sound.closes; fits = sound.fits })
+          gone_on y May r ts os k (λ u. record u { gate = f u }) t t' kept e refl (record {
+            thread = refl;
+            readiness = refl;
+            active = refl;
+            inside = refl;
+          })
+          (record {
+            written = sound.written;
+            rests = rests t.readiness t sound.rests;
+            stacked = sound.stacked;
+            closes = sound.closes;
+            fits = sound.fits;
+          })
         where
           rests : (x : Readiness) (u : Task) → IsAtRest x u → IsAtRest x (record u { gate = f u })
           rests Ready u h = tt
           rests Waiting u h = h
           rests (Asleep until) u h = h
 
-  module _ (i : ℕ) (t : Task) (s : State) (effects : s.phase ≡ Effects) (ran : s.ran ≡ Some i) (stands : Stands s.tasks i t) (ready : t.readiness ≡ Ready)
+  module _ (i : ℕ) (t : Task) (s : State) (effects : s.phase ≡ Effects) (ran : s.ran ≡ Some i) (stands : Stands s.tasks i t)
+      (ready : t.readiness ≡ Ready)
       (kept : IsKept y May (Some i) s.tasks s.orders) where
     go-keeps : (vars' : Variables) (ps : List Piece) → closers ps ≡ closers t.pieces → AreFit (May i) ps
         → IsKept y May (Some i) (change i (going y.costs vars' ps) s.tasks) s.orders
@@ -206,14 +229,16 @@ module _ (y : System) (May : ℕ → Permission) (text : AreWritten y May) where
         → IsKept y May (Some i) (change i (λ u. going y.costs vars' ps (inside_now section (ceiling_of y section) u)) s.tasks) (put_first i s.orders)
     enter-keeps section vars' ps low closes fits =
         let within : Task = inside_now section (ceiling_of y section) t in
-        entered y May (Some i) s.tasks s.orders i t kept refl stands section (λ u. going y.costs vars' ps (inside_now section (ceiling_of y section) u))
+        entered y May (Some i) s.tasks s.orders i t kept refl stands section
+        (λ u. going y.costs vars' ps (inside_now section (ceiling_of y section) u))
         vars' ps (first_left y.costs ps within) (first_works ps within) (going-is y.costs vars' ps within) ready low closes fits
 
     entry-goes : (section : Resource) (told : List Event) (vars' : Variables) (ps : List Piece)
         → closers ps ≡ section ∷ closers t.pieces → AreFit (May i) ps → Goes Effects (Some i) (Some i) (entry y i t section told vars' ps s)
     entry-goes section told vars' ps closes fits = by (nat_lt (ceiling_of y section) t.active) refl
       where
-        into : (x : Resource) → closers ps ≡ x ∷ closers t.pieces → t.active ≤ ceiling_of y x → Goes Effects (Some i) (Some i) (entered_at y i x told vars' ps s)
+        into : (x : Resource) → closers ps ≡ x ∷ closers t.pieces → t.active ≤ ceiling_of y x
+            → Goes Effects (Some i) (Some i) (entered_at y i x told vars' ps s)
         into (Object object) closes' low = (effects, ran, enter-keeps (Object object) (lent (Object object) s vars') ps low closes' fits)
         into (Control task) closes' low = (effects, ran, enter-keeps (Control task) (lent (Control task) s vars') ps low closes' fits)
 
@@ -229,7 +254,8 @@ module _ (y : System) (May : ℕ → Permission) (text : AreWritten y May) where
         sections : map (λ h. h.section) t.inside ≡ section ∷ closers ps
         sections = sym (kept.sound i t stands).closes ∙ closes
 
-        by : (hs : List Held) → t.inside ≡ hs → IsKept y May (Some i) (change i (λ u. going y.costs vars' ps (outside_now u)) s.tasks) (put_first i s.orders)
+        by : (hs : List Held) → t.inside ≡ hs
+            → IsKept y May (Some i) (change i (λ u. going y.costs vars' ps (outside_now u)) s.tasks) (put_first i s.orders)
         by [] inside = absurd (empty section (closers ps) (ap (map (λ h. h.section)) (sym inside) ∙ sections))
         by (h ∷ hs) inside =
             let outside : Task = record t { active = h.before; inside = hs } in
@@ -249,10 +275,22 @@ module _ (y : System) (May : ℕ → Permission) (text : AreWritten y May) where
         entry-goes (Object object) (event.Enter s.time t.thread.unit (object_unit y object) op values ∷ []) vars' ps act.1 fits
     acted-goes (Leave object op values data') vars' ps fits act = (effects, ran, exit-keeps (Object object) vars' ps act fits)
     acted-goes (Ask task) vars' ps fits act = entry-goes (Control task) [] vars' ps act.1 fits
-    acted-goes (Keep task v) vars' ps fits act =
-        (effects, ran, gate-keeps (Some i) (change i (going y.costs vars' ps) s.tasks) s.orders task (λ u. record u.gate { value = v }) (go-keeps vars' ps act fits))
-    acted-goes (Open task) vars' ps fits act =
-        (effects, ran, gate-keeps (Some i) (change i (going y.costs vars' ps) s.tasks) s.orders task (λ u. record u.gate { open' = true }) (go-keeps vars' ps act fits))
+    acted-goes (Keep task v) vars' ps fits act = (
+      effects,
+      ran,
+      gate-keeps (Some i) (change i (going y.costs vars' ps) s.tasks) s.orders task (λ u. record u.gate {
+        value
+            = v;
+      }) (go-keeps vars' ps act fits),
+    )
+    acted-goes (Open task) vars' ps fits act = (
+      effects,
+      ran,
+      gate-keeps (Some i) (change i (going y.costs vars' ps) s.tasks) s.orders task (λ u. record u.gate {
+        open'
+            = true;
+      }) (go-keeps vars' ps act fits),
+    )
     acted-goes (Ended task v) vars' ps fits act =
         serve-goes Effects (Some i) (Some i) task (exit y i vars' ps s) effects ran (exit-keeps (Control task) vars' ps act fits)
     acted-goes Finish vars' ps fits act =
@@ -295,12 +333,14 @@ module _ (y : System) (May : ℕ → Permission) (text : AreWritten y May) where
               piece [] g = rests Delays refl
               piece (p ∷ ps) g = now (t.left == 0)
                 where
-                  now : (b : Bool) → NextKeeps (if b then acted y i t (done y p t.vars ps).act (done y p t.vars ps).vars (done y p t.vars ps).pieces s else goes_to Delays s)
+                  now : (b : Bool) → NextKeeps (if b then acted y i t (done y p t.vars ps).act (done y p t.vars ps).vars
+                      (done y p t.vars ps).pieces s else goes_to Delays s)
                   now true =
                       let sound = kept.sound i t f in
                       let d = done-fits y (May i) (text.closed i) p t.vars ps (subst (AreFit (May i)) g sound.fits) in
                       goes-keeps i (acted y i t (done y p t.vars ps).act (done y p t.vars ps).vars (done y p t.vars ps).pieces s)
-                      (acted-goes i t s effects e f (busy-ready t p ps sound.rests g) kept (done y p t.vars ps).act (done y p t.vars ps).vars (done y p t.vars ps).pieces d.0
+                      (acted-goes i t s effects e f (busy-ready t p ps sound.rests g) kept (done y p t.vars ps).act (done y p t.vars ps).vars
+                      (done y p t.vars ps).pieces d.0
                       (subst (λ xs. ActFits y (May i) (closers xs) (done y p t.vars ps).act (done y p t.vars ps).pieces) (sym g) d.1))
                   now false = rests Delays refl
 
@@ -340,7 +380,8 @@ module _ (y : System) (May : ℕ → Permission) (text : AreWritten y May) where
       by [] = horizon (s.time == y.until)
       by (a ∷ others) = now (a.time == s.time)
         where
-          now : (b : Bool) → NextKeeps (if b then arrive_at y a (first_where (λ t. t.thread.unit == a.task) s.tasks) (record s { arrivals = others }) else horizon_step y s)
+          now : (b : Bool) → NextKeeps (if b then arrive_at y a (first_where (λ t. t.thread.unit == a.task) s.tasks)
+              (record s { arrivals = others }) else horizon_step y s)
           now true = arrive a others (first_where (λ t. t.thread.unit == a.task) s.tasks)
           now false = horizon (s.time == y.until)
 
@@ -355,13 +396,21 @@ module _ (y : System) (May : ℕ → Permission) (text : AreWritten y May) where
       by (Some i) e =
           let f = dispatched-first s.tasks s.orders i e in
           let begins : IsKept y May (Some i) s.tasks s.orders =
-          begun y May s.tasks s.orders i f.task kept f.stands f.ready (λ j u o p not su ready no nu before. goes-behind i j f u o p su ready no nu before) in
+          begun y May s.tasks s.orders i f.task kept f.stands f.ready (λ j u o p not su ready no nu before.
+          goes-behind i j f u o p su ready no nu before) in
           let sound = begins.sound i f.task f.stands in
           gone_on y May (Some i) s.tasks s.orders i tick f.task (tick f.task) begins f.stands refl
           (record { thread = refl; readiness = refl; active = refl; inside = refl })
-          (record { written = sound.written; rests = subst (λ x. IsAtRest x (tick f.task)) (sym f.ready) tt; stacked = sound.stacked; closes = sound.closes; fits = sound.fits })
+          (record {
+            written = sound.written;
+            rests = subst (λ x. IsAtRest x (tick f.task)) (sym f.ready) tt;
+            stacked = sound.stacked;
+            closes = sound.closes;
+            fits = sound.fits;
+          })
         where
-          goes-behind : (i j : ℕ) (f : IsFirst s.tasks s.orders i) (u : Task) (o p : ℤ) → Stands s.tasks j u → u.readiness ≡ Ready → IsNumbered s.orders i o → IsNumbered s.orders j p
+          goes-behind : (i j : ℕ) (f : IsFirst s.tasks s.orders i) (u : Task) (o p : ℤ) → Stands s.tasks j u → u.readiness ≡ Ready
+              → IsNumbered s.orders i o → IsNumbered s.orders j p
               → GoesBefore u.active p f.task.active o → ⊥
           goes-behind i j f u o p su ready mine theirs before = which (f.first j u p su theirs ready)
             where

@@ -99,7 +99,8 @@ module _ (y : System) (as' : List Arrival) (l : IsLayered y as') where
   nothing-rank Unknown h = refl
 
   -- an object that another calls has a lower rank
-  inner-rank : (unit op : Name) (object : ℕ) → object < length y.objects → (c : CallTarget) → LeadsTo y unit op c → LeadsOn l.leads object c → rank_by c < object_rank object
+  inner-rank : (unit op : Name) (object : ℕ) → object < length y.objects → (c : CallTarget) → LeadsTo y unit op c → LeadsOn l.leads object c
+      → rank_by c < object_rank object
   inner-rank unit op object below (Plain o) there on = omega arith
   inner-rank unit op object below (Protected other j g o) there on =
       let falls = rank-falls l.leads (length y.objects) l.no_ring object other below (slice_get_within y.objects other g there.stands) on in
@@ -120,11 +121,16 @@ module _ (y : System) (as' : List Arrival) (l : IsLayered y as') where
       by : (unit op : Name) (c : CallTarget) → LeadsTo y unit op c → StaysInLayers y as' l.made l.leads c → FallsTo y as' ranking (rank_by c) c
       by unit op (Plain o) there stays =
           block-weaken (IsPassiveCall y l.made) (IsMadeWithin ranking 0)
-          (λ unit' op' h. (h.0, (let none : rank_by (callee y unit' op') ≡ 0 = nothing-rank (callee y unit' op') h.1 in omega (arith, none)))) false o.block stays
+          (λ unit' op' h. (h.0, (let none : rank_by (callee y unit' op') ≡ 0 = nothing-rank (callee y unit' op') h.1 in omega (arith, none)))) false
+          o.block stays
       by unit op (Protected object j g o) there stays = (
         (let same : object_rank object ≤ object_rank object = omega arith in same),
         block-weaken (IsInnerCall y l.made l.leads object) (IsMadeBelow ranking (object_rank object))
-            (λ unit' op' h. (h.0, inner-rank unit' op' object (slice_get_within y.objects object g there.stands) (callee y unit' op') (leads-to y unit' op') h.1)) false o.block stays,
+            (λ unit' op' h. (
+              h.0,
+              inner-rank unit' op' object (slice_get_within y.objects object g there.stands) (callee y unit' op') (leads-to y
+                  unit' op') h.1,
+            )) false o.block stays,
       )
       by unit op (Request task) there stays = stays
       by unit op Unknown there stays = tt
@@ -158,7 +164,8 @@ module _ (y : System) (k : KeepsCeilings y) where
   nothing-low Unknown h = omega arith
 
   calls-above : (n : ℕ) → n ≤ k.top → (b : Statements) → BlockFits (IsCallAbove y k.made n) false b → BlockFits (IsMadeFrom reach n) false b
-  calls-above n small b fits = block-weaken (IsCallAbove y k.made n) (IsMadeFrom reach n) (λ unit op h. (h.0, above-low n small (callee y unit op) h.1)) false b fits
+  calls-above n small b fits = block-weaken (IsCallAbove y k.made n) (IsMadeFrom reach n)
+      (λ unit op h. (h.0, above-low n small (callee y unit op) h.1)) false b fits
 
   pub layered-ceiled : IsCeiled y
   layered-ceiled = record {
@@ -169,7 +176,8 @@ module _ (y : System) (k : KeepsCeilings y) where
     where
       by : (unit op : Name) (c : CallTarget) → LeadsTo y unit op c → StaysAbove y k.made c → RisesTo y reach (low_by c) c
       by unit op (Plain o) there stays =
-          block-weaken (IsPassiveCall y k.made) (IsMadeFrom reach k.top) (λ unit' op' h. (h.0, nothing-low (callee y unit' op') h.1)) false o.block stays
+          block-weaken (IsPassiveCall y k.made) (IsMadeFrom reach k.top) (λ unit' op' h. (h.0, nothing-low (callee y unit' op') h.1)) false
+          o.block stays
       by unit op (Protected object j g o) there stays = (
         (let same : ceiling_of y (Object object) ≤ ceiling_of y (Object object) = omega arith in same),
         calls-above (ceiling_of y (Object object)) (k.ceilings object g there.stands) o.block stays,

@@ -101,17 +101,22 @@ module _ (p : Program) (a : Arrivals) (rules : MeetsRules p) (lev bound : ℕ) (
   low-next : (c e : OpName) → IsLow c → IsIn e (live_of ss c) → is_low_call e ≡ true
   low-next c e l h =
       let found = in-some (live_within ss) (live_calls l.task.block) c l.leads in
-      low-is e l.place l.task l.stands l.below (in-flat (live_within ss) found.0 e (live_calls l.task.block) found.1 (live-closed ss found.0 c e found.2 h))
+      low-is e l.place l.task l.stands l.below (in-flat (live_within ss) found.0 e (live_calls l.task.block) found.1
+      (live-closed ss found.0 c e found.2 h))
 
   -- its section costs at most the bound
-  low-cost : (c : OpName) → IsLow c → Enters (service_named ss c.object c.op) → lev ≤ ceiling_named p c.object → called_cost p.costs ss c.object c.op ≤ bound
+  low-cost : (c : OpName) → IsLow c → Enters (service_named ss c.object c.op) → lev ≤ ceiling_named p c.object
+      → called_cost p.costs ss c.object c.op ≤ bound
   low-cost c l enters reach =
-      let r = ranked-at p a (λ u. u.priority < lev → Each (λ z. lev ≤ ceiling_named p z.object → z.cost ≤ bound) (task_sections p u.task)) bounded l.place l.task l.stands in
+      let r = ranked-at p a (λ u. u.priority < lev → Each (λ z. lev ≤ ceiling_named p z.object → z.cost ≤ bound) (task_sections p u.task)) bounded
+      l.place l.task l.stands in
       let below : r.ranked.priority < lev = let h : l.task.priority < lev = l.below in omega (arith, h, r.priority) in
       let found = in-some (live_within ss) (live_calls l.task.block) c l.leads in
       let mine : IsIn (section p.costs ss c) (sections p.costs ss l.task.block) =
-      in-flat (sections_within (length ss) p.costs ss) found.0 (section p.costs ss c) (live_calls l.task.block) found.1 (section-in ss (no-ring p rules) p.costs found.0 c found.2 enters) in
-      each-is (λ (z : parts.Section). lev ≤ ceiling_named p z.object → z.cost ≤ bound) (task_sections p r.ranked.task) (section p.costs ss c) (r.holds below)
+      in-flat (sections_within (length ss) p.costs ss) found.0 (section p.costs ss c) (live_calls l.task.block) found.1
+      (section-in ss (no-ring p rules) p.costs found.0 c found.2 enters) in
+      each-is (λ (z : parts.Section). lev ≤ ceiling_named p z.object → z.cost ≤ bound) (task_sections p r.ranked.task) (section p.costs ss c)
+      (r.holds below)
       (subst (λ b. IsIn (section p.costs ss c) (sections p.costs ss b)) (sym r.block) mine) reach
 
   -- the service of a call
@@ -133,47 +138,60 @@ module _ (p : Program) (a : Arrivals) (rules : MeetsRules p) (lev bound : ℕ) (
     costing = costing;
     exits = λ unit op. exits unit op (callee y unit op) (leads-to y unit op);
     tasks = λ i t at. task-made i t at;
-    calls = λ unit op is-made. calls unit op (callee y unit op) refl (leads-to y unit op) (served (record { object = unit; op = op })) (pays-call p a (units_apart p rules) (no-ring p rules) (record { object = unit; op = op })) is-made;
+    calls = λ unit op is-made. calls unit op (callee y unit op) refl (leads-to y unit op) (served (record { object = unit; op = op })) (pays-call p a
+        (units_apart p rules) (no-ring p rules) (record { object = unit; op = op })) is-made;
     call = call-costs p rules;
   }
     where
       exits : (unit op : Name) (c : CallTarget) → LeadsTo y unit op c → HasExitsInLoops c
       exits unit op (Plain o) l =
           let found = library-at p a l.place l.library l.stands in
-          body-fits p rules found.0 found.1 (found.2).stands (op_body o) (op-body-in found.1.form l.library.ops l.at o (ap bodies (found.2).form) l.holds) (λ unit' op'. ⊤) (λ x h. tt)
+          body-fits p rules found.0 found.1 (found.2).stands (op_body o)
+          (op-body-in found.1.form l.library.ops l.at o (ap bodies (found.2).form) l.holds) (λ unit' op'. ⊤) (λ x h. tt)
       exits unit op (Protected object j g o) l =
           let found = object-at p a object g l.stands in
-          body-fits p rules found.0 found.1 (found.2).stands (op_body o) (op-body-in found.1.form g.ops j o (ap bodies (found.2).form) l.holds) (λ unit' op'. ⊤) (λ x h. tt)
+          body-fits p rules found.0 found.1 (found.2).stands (op_body o) (op-body-in found.1.form g.ops j o (ap bodies (found.2).form) l.holds)
+          (λ unit' op'. ⊤) (λ x h. tt)
       exits unit op (Request task) l = tt
       exits unit op Unknown l = tt
 
-      task-made : (i : ℕ) (t : TaskUnit) → slice_get y.threads i ≡ Some t → BlockFits (λ unit op. t.priority < lev → IsMade costing unit op) false t.block
+      task-made : (i : ℕ) (t : TaskUnit) → slice_get y.threads i ≡ Some t
+          → BlockFits (λ unit op. t.priority < lev → IsMade costing unit op) false t.block
       task-made i t at =
           let body = task-body p a i t at in
           subst (λ b. BlockFits (λ unit op. t.priority < lev → IsMade costing unit op) false b) body.5
-          (live-fits (λ unit op. t.priority < lev → IsMade costing unit op) (scope p body.1.form body.2) body.2.block (body-kept p rules body.0 body.1 body.3 body.2 body.4)
+          (live-fits (λ unit op. t.priority < lev → IsMade costing unit op) (scope p body.1.form body.2) body.2.block
+          (body-kept p rules body.0 body.1 body.3 body.2 body.4)
           (λ x h low. or_right (is_free (callee y x.object x.op)) (is_low_call x)
-          ((low-is x i t at low (in-flat (live_within ss) x x (live_calls t.block) (subst (λ b. IsIn x (live_calls b)) body.5 h) (live-itself ss x))))))
+          ((low-is x i t at low (in-flat (live_within ss) x x (live_calls t.block) (subst (λ b. IsIn x (live_calls b)) body.5 h)
+          (live-itself ss x))))))
 
-      calls : (unit op : Name) (c : CallTarget) → callee y unit op ≡ c → LeadsTo y unit op c → ServedAs p y unit op c → PaysCall p (record { object = unit; op = op }) c → made unit op ≡ true
+      calls : (unit op : Name) (c : CallTarget) → callee y unit op ≡ c → LeadsTo y unit op c → ServedAs p y unit op c
+          → PaysCall p (record { object = unit; op = op }) c → made unit op ≡ true
           → CostsAtMost y lev bound costing (called_cost p.costs ss unit op) c
       calls unit op (Plain o) e l s pays is-made =
           let found = library-at p a l.place l.library l.stands in (
-            body-fits p rules found.0 found.1 (found.2).stands (op_body o) (op-body-in found.1.form l.library.ops l.at o (ap bodies (found.2).form) l.holds) (IsMade costing)
+            body-fits p rules found.0 found.1 (found.2).stands (op_body o)
+                (op-body-in found.1.form l.library.ops l.at o (ap bodies (found.2).form) l.holds) (IsMade costing)
                 (λ x h. or_left (is_free (callee y x.object x.op)) (is_low_call x) ((free-is (callee y x.object x.op) (passive-call p a x
-                (call-passive p rules found.0 found.1 (found.2).stands (op_body o) (op-body-in found.1.form l.library.ops l.at o (ap bodies (found.2).form) l.holds) (ap is_confined (found.2).form) x h))))),
+                (call-passive p rules found.0 found.1 (found.2).stands (op_body o)
+                (op-body-in found.1.form l.library.ops l.at o (ap bodies (found.2).form) l.holds) (ap is_confined (found.2).form) x h))))),
             pays,
           )
       calls unit op (Protected object j g o) e l s pays is-made =
           let found = object-at p a object g l.stands in
           let among' = op-body-in found.1.form g.ops j o (ap bodies (found.2).form) l.holds in
           let low = low-made (record { object = unit; op = op }) is-made (ap is_free e) in (
-            live-fits (IsMade costing) (scope p found.1.form (op_body o)) o.block (body-kept p rules found.0 found.1 (found.2).stands (op_body o) among')
-                (λ x h. or_right (is_free (callee y x.object x.op)) (is_low_call x) ((low-next (record { object = unit; op = op }) x low (subst (IsIn x) (sym (protected-live (record { object = unit; op = op }) o s.0)) h)))),
+            live-fits (IsMade costing) (scope p found.1.form (op_body o)) o.block
+                (body-kept p rules found.0 found.1 (found.2).stands (op_body o) among')
+                (λ x h. or_right (is_free (callee y x.object x.op)) (is_low_call x)
+                ((low-next (record { object = unit; op = op }) x low
+                (subst (IsIn x) (sym (protected-live (record { object = unit; op = op }) o s.0)) h)))),
             pays,
             λ reach.
                 let top : ceiling_of y (Object object) ≡ g.ceiling = object-ceiling y object g l.stands in
-                low-cost (record { object = unit; op = op }) low (protected-enters (record { object = unit; op = op }) o s.0) (omega (arith, top, s.1, reach)),
+                low-cost (record { object = unit; op = op }) low (protected-enters (record { object = unit; op = op }) o s.0) (omega
+                (arith, top, s.1, reach)),
           )
       calls unit op (Request task) e l s pays is-made =
           let low = low-made (record { object = unit; op = op }) is-made (ap is_free e) in (
@@ -181,6 +199,7 @@ module _ (p : Program) (a : Arrivals) (rules : MeetsRules p) (lev bound : ℕ) (
             λ reach.
                 let top : ceiling_of y (Control task) ≡ ceiling_by l.thread.timing = control-ceiling y task l.thread l.stands in
                 let named = s.1 l.thread l.stands in
-                low-cost (record { object = unit; op = op }) low (request-enters (record { object = unit; op = op }) s.0) (omega (arith, top, named, reach)),
+                low-cost (record { object = unit; op = op }) low (request-enters (record { object = unit; op = op }) s.0) (omega
+                (arith, top, named, reach)),
           )
       calls unit op Unknown e l s pays is-made = tt

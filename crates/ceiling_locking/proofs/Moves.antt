@@ -1,5 +1,6 @@
 -- What is kept by each thing that happens to one task: it goes on, enters a section, leaves one, ends, is released, or begins to run.
-use Rattle.std.specs.Prelude.{◌≡◌, ◌≢◌, ◌⊎◌, ◌≤◌, ◌<◌, ℕ, zero, suc, Bool, true, false, nat_lt, List, [], ◌∷◌, map, length, slice_get, Option, Some, None, ℤ, refl}
+use Rattle.std.specs.Prelude.{◌≡◌, ◌≢◌, ◌⊎◌, ◌≤◌, ◌<◌, ℕ, zero, suc, Bool, true, false, nat_lt, List, [], ◌∷◌, map, length, slice_get, Option}
+use Rattle.std.specs.Prelude.{Some, None, ℤ, refl}
 use Rattle.std.proofs.Common.{sym, ◌∙◌, ap, subst, arith, le_trans, inl, inr}
 use Rattle.std.proofs.lemmas.Option.{none-some, same_Some, slice_get_within}
 use Rattle.seq_tree.specs.Lists.{change}
@@ -21,12 +22,15 @@ stacked-base y base active [] s = omega arith
 stacked-base y base active (h ∷ hs) s = le_trans (stacked-base y base h.before hs s.2) s.1
 
 -- the ceiling of a section that a task is inside is at most its active priority
-pub stacked-ceiling : (y : System) (base active : ℕ) (hs : List Held) (section : Resource) → AreStacked y base active hs → IsAmong section (map (λ h. h.section) hs) → ceiling_of y section ≤ active
+pub stacked-ceiling : (y : System) (base active : ℕ) (hs : List Held) (section : Resource) → AreStacked y base active hs
+    → IsAmong section (map (λ h. h.section) hs) → ceiling_of y section ≤ active
 stacked-ceiling y base active [] section s a = absurd a
 stacked-ceiling y base active (h ∷ hs) section s a = by (λ later. stacked-ceiling y base h.before hs section s.2 later) a
   where
-    by : (IsAmong section (map (λ x. x.section) hs) → ceiling_of y section ≤ h.before) → (h.section ≡ section) ⊎ IsAmong section (map (λ x. x.section) hs) → ceiling_of y section ≤ active
-    by inner (inl is) = let same : ceiling_of y h.section ≡ ceiling_of y section = ap (ceiling_of y) is in let top : active ≡ ceiling_of y h.section = s.0 in omega arith
+    by : (IsAmong section (map (λ x. x.section) hs) → ceiling_of y section ≤ h.before) → (h.section ≡ section)
+        ⊎ IsAmong section (map (λ x. x.section) hs) → ceiling_of y section ≤ active
+    by inner (inl is) = let same : ceiling_of y h.section ≡ ceiling_of y section = ap (ceiling_of y) is
+        in let top : active ≡ ceiling_of y h.section = s.0 in omega arith
     by inner (inr later) = le_trans (inner later) s.1
 
 -- the active priority is the base one, or the task is inside something
@@ -67,7 +71,8 @@ module _ (y : System) (May : ℕ → Permission) where
         → t.readiness ≡ Ready → u.inside ≡ h ∷ hs → t.thread.priority ≤ u.active → GoesBefore u.active p t.active o
     pub behind : (j : ℕ) (u : Task) (o p : ℤ) (h : Held) (hs : List Held) → j ≢ i → Stands ts j u → IsNumbered os' i o → IsNumbered os j p
         → u.readiness ≡ Ready → t.inside ≡ h ∷ hs → u.thread.priority ≤ t.active → GoesBefore t.active o u.active p
-    pub chased : (k : ℕ) (v : Task) (h : Held) (hs : List Held) → r ≡ Some k → k ≢ i → Stands ts k v → t.inside ≡ h ∷ hs → t.active < v.thread.priority
+    pub chased : (k : ℕ) (v : Task) (h : Held) (hs : List Held) → r ≡ Some k → k ≢ i → Stands ts k v → t.inside ≡ h ∷ hs
+        → t.active < v.thread.priority
     pub apart : (j : ℕ) (u : Task) (section : Resource) → j ≢ i → Stands ts j u → IsAmong section (sections u) → IsAmong section (sections t) → ⊥
 
   pub replaced : (r : Option ℕ) (ts : List Task) (os os' : List ℤ) (i : ℕ) (f : Task → Task) (t t' : Task)
@@ -76,15 +81,18 @@ module _ (y : System) (May : ℕ → Permission) where
       → IsSound y (May i) i t' → IsApart r ts os os' i t' → IsKept y May r (change i f ts) os'
   replaced r ts os os' i f t t' kept stands gives written lengths others sound m = record {
     numbered = lengths ∙ kept.numbered ∙ sym (length-change i f ts);
-    sound = λ a ta sa. at a ta sa (λ is same. subst (λ k. IsSound y (May k) k ta) (sym is) (subst (IsSound y (May i) i) (sym same) sound)) (λ not sa'. kept.sound a ta sa');
+    sound = λ a ta sa. at a ta sa (λ is same. subst (λ k. IsSound y (May k) k ta) (sym is) (subst (IsSound y (May i) i) (sym same) sound)) (λ not sa'.
+        kept.sound a ta sa');
     leads = λ a b ta tb oa pb h hs sa sb na nb other ready inside low.
         at a ta sa
         (λ is same. at b tb sb (λ is' same'. absurd (other (is ∙ sym is')))
         (λ not sb'. subst (λ x. x.readiness ≡ Ready → x.thread.priority ≤ tb.active → GoesBefore tb.active pb x.active oa) (sym same)
-        (λ ready' low'. m.ahead b tb oa pb h hs not sb' (subst (λ k. IsNumbered os' k oa) is na) (sym (others b not) ∙ nb) ready' inside low') ready low))
+        (λ ready' low'. m.ahead b tb oa pb h hs not sb' (subst (λ k. IsNumbered os' k oa) is na) (sym (others b not) ∙ nb) ready' inside low')
+        ready low))
         (λ not sa'. at b tb sb
         (λ is' same'. subst (λ x. x.inside ≡ h ∷ hs → ta.thread.priority ≤ x.active → GoesBefore x.active pb ta.active oa) (sym same')
-        (λ inside' low'. m.behind a ta pb oa h hs not sa' (subst (λ k. IsNumbered os' k pb) is' nb) (sym (others a not) ∙ na) ready inside' low') inside low)
+        (λ inside' low'. m.behind a ta pb oa h hs not sa' (subst (λ k. IsNumbered os' k pb) is' nb) (sym (others a not) ∙ na) ready inside' low')
+        inside low)
         (λ not' sb'. kept.leads a b ta tb oa pb h hs sa' sb' (sym (others a not) ∙ na) (sym (others b not') ∙ nb) other ready inside low));
     runs = λ a b ta tb h hs run sa sb other inside.
         at a ta sa
@@ -93,7 +101,8 @@ module _ (y : System) (May : ℕ → Permission) where
         let low : tb.active < t.thread.priority = kept.runs i b t tb h hs (run ∙ ap Some is) stands sb' (λ e. not (sym e)) inside in
         subst (λ th. tb.active < th.priority) (sym (ap (λ x. x.thread) same ∙ written)) low))
         (λ not sa'. at b tb sb
-        (λ is' same'. subst (λ x. x.inside ≡ h ∷ hs → x.active < ta.thread.priority) (sym same') (λ inside'. m.chased a ta h hs run not sa' inside') inside)
+        (λ is' same'. subst (λ x. x.inside ≡ h ∷ hs → x.active < ta.thread.priority) (sym same')
+        (λ inside'. m.chased a ta h hs run not sa' inside') inside)
         (λ not' sb'. kept.runs a b ta tb h hs run sa' sb' other inside));
     alone = λ a b ta tb section sa sb among among'.
         at a ta sa
@@ -118,7 +127,8 @@ module _ (y : System) (May : ℕ → Permission) where
   gone_on r ts os i f t t' kept stands gives q sound = replaced r ts os os i f t t' kept stands gives q.thread refl (λ j not. refl) sound (record {
     ahead = λ j u o p h hs not su no nu ready inside low.
         let before : GoesBefore u.active p t.active o =
-        kept.leads i j t u o p h hs stands su no nu (λ e. not (sym e)) (sym q.readiness ∙ ready) inside (subst (λ th. th.priority ≤ u.active) q.thread low) in
+        kept.leads i j t u o p h hs stands su no nu (λ e. not (sym e)) (sym q.readiness ∙ ready) inside
+        (subst (λ th. th.priority ≤ u.active) q.thread low) in
         subst (λ a. GoesBefore u.active p a o) (sym q.active) before;
     behind = λ j u o p h hs not su no nu ready inside low.
         let before : GoesBefore t.active o u.active p =
@@ -126,10 +136,12 @@ module _ (y : System) (May : ℕ → Permission) where
         subst (λ a. GoesBefore a o u.active p) (sym q.active) before;
     chased = λ k v h hs run not sv inside.
         subst (λ a. a < v.thread.priority) (sym q.active) (kept.runs k i v t h hs run sv stands not (sym q.inside ∙ inside));
-    apart = λ j u section not su among among'. not (kept.alone j i u t section su stands among (subst (λ hs. IsAmong section (map (λ x. x.section) hs)) q.inside among'));
+    apart = λ j u section not su among among'. not (kept.alone j i u t section su stands among
+        (subst (λ hs. IsAmong section (map (λ x. x.section) hs)) q.inside among'));
   })
 
-  module _ (r : Option ℕ) (ts : List Task) (os : List ℤ) (i : ℕ) (t : Task) (kept : IsKept y May r ts os) (run : r ≡ Some i) (stands : Stands ts i t) where
+  module _ (r : Option ℕ) (ts : List Task) (os : List ℤ) (i : ℕ) (t : Task) (kept : IsKept y May r ts os) (run : r
+      ≡ Some i) (stands : Stands ts i t) where
     -- a task whose base priority is at most a number at least the runner's base priority has its active priority at most that number
     low-others : (j : ℕ) (u : Task) (c : ℕ) → j ≢ i → Stands ts j u → t.thread.priority ≤ c → u.thread.priority ≤ c → u.active ≤ c
     low-others j u c not su high low = by (active-or-inside y u.thread.priority u.active u.inside (kept.sound j u su).stacked)
@@ -156,7 +168,14 @@ module _ (y : System) (May : ℕ → Permission) where
 
     -- it enters a section
     pub entered : (section : Resource) (f : Task → Task) (vars' : Variables) (ps : List Piece) (left' works' : ℕ)
-        → f t ≡ record t { active = ceiling_of y section; inside = record { section = section; before = t.active } ∷ t.inside; vars = vars'; pieces = ps; left = left'; works = works' }
+        → f t ≡ record t {
+          active = ceiling_of y section;
+          inside = record { section = section; before = t.active } ∷ t.inside;
+          vars = vars';
+          pieces = ps;
+          left = left';
+          works = works';
+        }
         → t.readiness ≡ Ready → t.active ≤ ceiling_of y section → closers ps ≡ section ∷ closers t.pieces → AreFit (May i) ps
         → IsKept y May r (change i f ts) (put_first i os)
     entered section f vars' ps left' works' gives ready low closes fits =
@@ -179,7 +198,8 @@ module _ (y : System) (May : ℕ → Permission) where
         apart' j u other not su among (inl is) =
             let inside = among-inside other u.inside among in
             let below : u.active < t.thread.priority = kept.runs i j t u inside.0 inside.1 run stands su (λ e. not (sym e)) inside.2 in
-            let held : ceiling_of y other ≤ u.active = stacked-ceiling y u.thread.priority u.active u.inside other (kept.sound j u su).stacked among in
+            let held : ceiling_of y other ≤ u.active
+            = stacked-ceiling y u.thread.priority u.active u.inside other (kept.sound j u su).stacked among in
             let same : ceiling_of y section ≡ ceiling_of y other = ap (ceiling_of y) is in
             let base : t.thread.priority ≤ t.active = stacked-base y t.thread.priority t.active t.inside (kept.sound i t stands).stacked in
             omega arith
@@ -203,7 +223,8 @@ module _ (y : System) (May : ℕ → Permission) where
           fits = fits;
         })
         (runner-apart t' refl (stacked-base y t.thread.priority h.before hs stacked.2)
-        (λ j u other not su among among'. not (kept.alone j i u t other su stands among (subst (λ xs. IsAmong other (map (λ x. x.section) xs)) (sym inside) (inr among')))))
+        (λ j u other not su among among'. not (kept.alone j i u t other su stands among
+        (subst (λ xs. IsAmong other (map (λ x. x.section) xs)) (sym inside) (inr among')))))
 
   -- a task that ends its activation
   pub ended-one : (r : Option ℕ) (ts : List Task) (os : List ℤ) (i : ℕ) (f : Task → Task) (t t' : Task)
@@ -246,7 +267,11 @@ module _ (y : System) (May : ℕ → Permission) where
         fits = fits;
       })
       (record {
-        ahead = λ j u o p h hs not su no nu ready' inside' low. ((let high : t'.thread.priority ≤ u.active = low in omega arith), λ e. last-above i j os p o nu no);
+        ahead = λ j u o p h hs not su no nu ready' inside' low. (
+          (let high : t'.thread.priority ≤ u.active = low
+              in omega arith),
+          λ e. last-above i j os p o nu no,
+        );
         behind = λ j u o p h hs not su no nu ready' inside' low. absurd (empty h hs (sym inside ∙ inside'));
         chased = λ k v h hs run not sv inside'. absurd (empty h hs (sym inside ∙ inside'));
         apart = λ j u section not su among among'. subst (λ hs. IsAmong section (map (λ x. x.section) hs)) inside among';
@@ -264,7 +289,8 @@ module _ (y : System) (May : ℕ → Permission) where
 
   -- a task that no holder goes before begins to run
   pub begun : (ts : List Task) (os : List ℤ) (i : ℕ) (t : Task) → IsKept y May None ts os → Stands ts i t → t.readiness ≡ Ready
-      → ((j : ℕ) (u : Task) (o p : ℤ) → j ≢ i → Stands ts j u → u.readiness ≡ Ready → IsNumbered os i o → IsNumbered os j p → GoesBefore u.active p t.active o → ⊥)
+      → ((j : ℕ) (u : Task) (o p : ℤ) → j ≢ i → Stands ts j u → u.readiness ≡ Ready → IsNumbered os i o → IsNumbered os j p
+      → GoesBefore u.active p t.active o → ⊥)
       → IsKept y May (Some i) ts os
   begun ts os i t kept stands ready first = record {
     numbered = kept.numbered;

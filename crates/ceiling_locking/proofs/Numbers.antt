@@ -1,5 +1,6 @@
 -- Order numbers of different ready tasks differ: a task that is released gets one above all others, one that enters or leaves a section one below.
-use Rattle.std.specs.Prelude.{◌≡◌, ◌≢◌, ◌&&◌, ℕ, zero, suc, Bool, true, false, nat_lt, List, [], ◌∷◌, slice_get, Option, Some, None, option_map, ℤ, ◌<ℤ◌, ◌==◌, if◌then◌else◌}
+use Rattle.std.specs.Prelude.{◌≡◌, ◌≢◌, ◌&&◌, ℕ, zero, suc, Bool, true, false, nat_lt, List, [], ◌∷◌, slice_get, Option, Some, None, option_map}
+use Rattle.std.specs.Prelude.{ℤ, ◌<ℤ◌, ◌==◌, if◌then◌else◌}
 use Rattle.std.proofs.Common.{sym, ◌∙◌, ap, subst, arith}
 use Rattle.std.proofs.lemmas.Int.{ints}
 use Rattle.std.proofs.lemmas.Option.{none-some, same_Some, slice_get-map}
@@ -11,11 +12,13 @@ use Rattle.trace_tree.specs.declared.event.Event.TheVariants as event
 use Rattle.machine.specs.Systems.{System, TaskUnit, ReleasePattern, Periodic, Requested}
 use Rattle.machine.specs.Pieces.{Piece}
 use Rattle.machine.specs.Deeds.{Act, Silent, Print, Enter, Leave, Ask, Keep, Open, Ended, Finish, done}
-use Rattle.machine.specs.States.{State, Task, Phase, Effects, Delays, Arriving, Use, Ready, Resource, Object, Control, opening, first_task, first_wait}
+use Rattle.machine.specs.States.{State, Task, Phase, Effects, Delays, Arriving, Use, Ready, Resource, Object, Control, opening, first_task}
+use Rattle.machine.specs.States.{first_wait}
 use Rattle.machine.specs.Effects.{ceiling_of, stopped_at, entered_at, entry, exit, ended, resting, acted, object_unit, inside_now, outside_now, lent}
 use Rattle.machine.specs.Dispatch.{put_last, put_first, dispatched}
 use Rattle.machine.specs.Releases.{Next, going, released, release_task, release, is_waiting, serve_task, serve}
-use Rattle.machine.specs.Steps.{goes_to, effect_of, effect_at, effect_step, is_due, delay_step, horizon_step, arrive_at, arrival_step, use_step, step_in, step}
+use Rattle.machine.specs.Steps.{goes_to, effect_of, effect_at, effect_step, is_due, delay_step, horizon_step, arrive_at, arrival_step, use_step}
+use Rattle.machine.specs.Steps.{step_in, step}
 use Rattle.machine.specs.Meanings.{run}
 use Rattle.ceiling_locking.specs.Sections.{Stands, IsNumbered}
 use Rattle.ceiling_locking.proofs.OrderNumbers.{last-above, last-else, first-below, first-else}
@@ -25,16 +28,19 @@ use Rattle.program_calls.proofs.Places.{changed}
 -- ready tasks of one number are one
 abbrev pub Differ : List Task → List ℤ → Type 0
 Differ ts os =
-    (i j : ℕ) (t u : Task) (o : ℤ) → Stands ts i t → Stands ts j u → t.readiness ≡ Ready → u.readiness ≡ Ready → IsNumbered os i o → IsNumbered os j o → i ≡ j
+    (i j : ℕ) (t u : Task) (o : ℤ) → Stands ts i t → Stands ts j u → t.readiness ≡ Ready → u.readiness ≡ Ready → IsNumbered os i o
+    → IsNumbered os j o → i ≡ j
 
 -- a task that is not made ready
-differ-change : (ts : List Task) (os : List ℤ) (i : ℕ) (f : Task → Task) → ((t : Task) → (f t).readiness ≡ Ready → t.readiness ≡ Ready) → Differ ts os → Differ (change i f ts) os
+differ-change : (ts : List Task) (os : List ℤ) (i : ℕ) (f : Task → Task) → ((t : Task) → (f t).readiness ≡ Ready → t.readiness ≡ Ready) → Differ ts os
+    → Differ (change i f ts) os
 differ-change ts os i f same differ a b t u o at bt ready ready' an bn =
     changed i a f ts t at
     (λ x is at' e. changed i b f ts u bt (λ x' is' bt' e'. is ∙ sym is')
     (λ not bt'. differ a b x u o (subst (λ k. Stands ts k x) (sym is) at') bt' (same x (sym (ap (λ z. z.readiness) e) ∙ ready)) ready' an bn))
     (λ not at'. changed i b f ts u bt
-    (λ x' is' bt' e'. differ a b t x' o at' (subst (λ k. Stands ts k x') (sym is') bt') ready (same x' (sym (ap (λ z. z.readiness) e') ∙ ready')) an bn)
+    (λ x' is' bt' e'. differ a b t x' o at' (subst (λ k. Stands ts k x') (sym is') bt') ready
+    (same x' (sym (ap (λ z. z.readiness) e') ∙ ready')) an bn)
     (λ not' bt'. differ a b t u o at' bt' ready ready' an bn))
 
 -- one that gets a number unlike all others
@@ -50,11 +56,13 @@ differ-set ts os os' i f unlike others differ a b t u o at bt ready ready' an bn
 
 differ-last : (ts : List Task) (os : List ℤ) (i : ℕ) (f : Task → Task) → Differ ts os → Differ (change i f ts) (put_last i os)
 differ-last ts os i f differ =
-    differ-set ts os (put_last i os) i f (λ j p not mine theirs. let above : p <ℤ p = last-above i j os p p theirs mine in omega (arith, ints)) (λ j not. last-else i j os not) differ
+    differ-set ts os (put_last i os) i f (λ j p not mine theirs. let above : p <ℤ p = last-above i j os p p theirs mine
+    in omega (arith, ints)) (λ j not. last-else i j os not) differ
 
 differ-first : (ts : List Task) (os : List ℤ) (i : ℕ) (f : Task → Task) → Differ ts os → Differ (change i f ts) (put_first i os)
 differ-first ts os i f differ =
-    differ-set ts os (put_first i os) i f (λ j p not mine theirs. let below : p <ℤ p = first-below i j os p p theirs mine in omega (arith, ints)) (λ j not. first-else i j os not) differ
+    differ-set ts os (put_first i os) i f (λ j p not mine theirs. let below : p <ℤ p = first-below i j os p p theirs mine
+    in omega (arith, ints)) (λ j not. first-else i j os not) differ
 
 module _ (y : System) where
   going-ready : (vars' : Variables) (ps : List Piece) (t : Task) → (going y.costs vars' ps t).readiness ≡ Ready → t.readiness ≡ Ready
@@ -85,19 +93,23 @@ module _ (y : System) where
     go-differs : (i : ℕ) (vars' : Variables) (ps : List Piece) → Differ (change i (going y.costs vars' ps) s.tasks) s.orders
     go-differs i vars' ps = differ-change s.tasks s.orders i (going y.costs vars' ps) (going-ready vars' ps) differ
 
-    entry-differs : (i : ℕ) (t : Task) (section : Resource) (told : List Event) (vars' : Variables) (ps : List Piece) → After (entry y i t section told vars' ps s)
+    entry-differs : (i : ℕ) (t : Task) (section : Resource) (told : List Event) (vars' : Variables) (ps : List Piece)
+        → After (entry y i t section told vars' ps s)
     entry-differs i t section told vars' ps = by (nat_lt (ceiling_of y section) t.active)
       where
         into : (x : Resource) → After (entered_at y i x told vars' ps s)
         into (Object object) =
-            differ-first s.tasks s.orders i (λ u. going y.costs (lent (Object object) s vars') ps (inside_now (Object object) (ceiling_of y (Object object)) u)) differ
-        into (Control task) = differ-first s.tasks s.orders i (λ u. going y.costs vars' ps (inside_now (Control task) (ceiling_of y (Control task)) u)) differ
+            differ-first s.tasks s.orders i (λ u. going y.costs (lent (Object object) s vars') ps
+            (inside_now (Object object) (ceiling_of y (Object object)) u)) differ
+        into (Control task) = differ-first s.tasks s.orders i
+            (λ u. going y.costs vars' ps (inside_now (Control task) (ceiling_of y (Control task)) u)) differ
 
         by : (b : Bool) → After (if b then stopped_at y t section s else entered_at y i section told vars' ps s)
         by true = differ
         by false = into section
 
-    exit-differs : (i : ℕ) (vars' : Variables) (ps : List Piece) → Differ (change i (λ u. going y.costs vars' ps (outside_now u)) s.tasks) (put_first i s.orders)
+    exit-differs : (i : ℕ) (vars' : Variables) (ps : List Piece)
+        → Differ (change i (λ u. going y.costs vars' ps (outside_now u)) s.tasks) (put_first i s.orders)
     exit-differs i vars' ps = differ-first s.tasks s.orders i (λ u. going y.costs vars' ps (outside_now u)) differ
 
     never-ready : (vars' : Variables) (t : Task) → (ended vars' t).readiness ≡ Ready → t.readiness ≡ Ready
@@ -115,12 +127,15 @@ module _ (y : System) where
     acted-differs i t (Leave object op values data') vars' ps = exit-differs i vars' ps
     acted-differs i t (Ask task) vars' ps = entry-differs i t (Control task) [] vars' ps
     acted-differs i t (Keep task v) vars' ps =
-        differ-change (change i (going y.costs vars' ps) s.tasks) s.orders task (λ u. record u { gate = record u.gate { value = v } }) (λ u e. e) (go-differs i vars' ps)
+        differ-change (change i (going y.costs vars' ps) s.tasks) s.orders task (λ u. record u { gate = record u.gate { value = v } }) (λ u e. e)
+        (go-differs i vars' ps)
     acted-differs i t (Open task) vars' ps =
-        differ-change (change i (going y.costs vars' ps) s.tasks) s.orders task (λ u. record u { gate = record u.gate { open' = true } }) (λ u e. e) (go-differs i vars' ps)
+        differ-change (change i (going y.costs vars' ps) s.tasks) s.orders task (λ u. record u { gate = record u.gate { open' = true } }) (λ u e. e)
+        (go-differs i vars' ps)
     acted-differs i t (Ended task v) vars' ps = serve-differs task (exit y i vars' ps s) (exit-differs i vars' ps)
     acted-differs i t Finish vars' ps =
-        serve-differs i (record s { tasks = change i (ended vars') s.tasks }) (differ-change s.tasks s.orders i (ended vars') (never-ready vars') differ)
+        serve-differs i (record s { tasks = change i (ended vars') s.tasks })
+        (differ-change s.tasks s.orders i (ended vars') (never-ready vars') differ)
 
     effect-differs : (ran : Option ℕ) → After (effect_step y ran s)
     effect-differs None = differ
@@ -134,7 +149,8 @@ module _ (y : System) where
             piece [] = differ
             piece (p ∷ ps) = now (t.left == 0)
               where
-                now : (b : Bool) → After (if b then acted y i t (done y p t.vars ps).act (done y p t.vars ps).vars (done y p t.vars ps).pieces s else goes_to Delays s)
+                now : (b : Bool) → After (if b then acted y i t (done y p t.vars ps).act (done y p t.vars ps).vars
+                    (done y p t.vars ps).pieces s else goes_to Delays s)
                 now true = acted-differs i t (done y p t.vars ps).act (done y p t.vars ps).vars (done y p t.vars ps).pieces
                 now false = differ
 
@@ -153,13 +169,15 @@ module _ (y : System) where
         arrive a others None = differ
         arrive a others (Some t) =
             let opened : Task → Task = λ u. record u { gate = record { value = a.value; open' = true } } in
-            serve-differs t.0 (record s { arrivals = others; tasks = change t.0 opened s.tasks }) (differ-change s.tasks s.orders t.0 opened (λ u e. e) differ)
+            serve-differs t.0 (record s { arrivals = others; tasks = change t.0 opened s.tasks })
+            (differ-change s.tasks s.orders t.0 opened (λ u e. e) differ)
 
         by : (zs : List Arrival) → After (arrival_step y zs s)
         by [] = horizon (s.time == y.until)
         by (a ∷ others) = now (a.time == s.time)
           where
-            now : (b : Bool) → After (if b then arrive_at y a (first_where (λ t. t.thread.unit == a.task) s.tasks) (record s { arrivals = others }) else horizon_step y s)
+            now : (b : Bool) → After (if b then arrive_at y a (first_where (λ t. t.thread.unit == a.task) s.tasks)
+                (record s { arrivals = others }) else horizon_step y s)
             now true = arrive a others (first_where (λ t. t.thread.unit == a.task) s.tasks)
             now false = horizon (s.time == y.until)
 

@@ -3,12 +3,14 @@ use Rattle.std.specs.Prelude.{◌≡◌, ◌≤◌, ◌+◌, ◌-◌, ◌*◌, �
 use Rattle.std.proofs.Common.{sym, ◌∙◌, ap, subst, arith, le_trans, suc-mul}
 use Rattle.seq_tree.specs.Names.{Name}
 use Rattle.seq_tree.specs.Expressions.{Expression}
-use Rattle.seq_tree.specs.Statements.{Statement, Statements, Branches, Null, Assign, If, For, ExitWhen, Call, Work, Put, End, Then, Nothing, Else, When}
+use Rattle.seq_tree.specs.Statements.{Statement, Statements, Branches, Null, Assign, If, For, ExitWhen, Call, Work, Put, End, Then, Nothing}
+use Rattle.seq_tree.specs.Statements.{Else, When}
 use Rattle.seq_tree.specs.Values.{holds}
 use Rattle.seq_tree.specs.Variables.{Variables}
 use Rattle.seq_tree.specs.Dearest.{Weights, turn_count, dearest_statement, dearest, dearest_branch}
 use Rattle.machine.specs.Systems.{System, CallTarget, Plain, Protected, Request, Unknown, callee}
-use Rattle.machine.specs.Pieces.{Piece, Idle, Store, Leaving, Calling, Working, Printing, Testing, Turning, Turned, Returning, Closing, Keeping, Opening, Requested, Finishing, turns, pieces_of, pieces, branch_pieces, after_loop, ticks_of}
+use Rattle.machine.specs.Pieces.{Piece, Idle, Store, Leaving, Calling, Working, Printing, Testing, Turning, Turned, Returning, Closing, Keeping}
+use Rattle.machine.specs.Pieces.{Opening, Requested, Finishing, turns, pieces_of, pieces, branch_pieces, after_loop, ticks_of}
 use Rattle.machine.specs.Deeds.{Silent, PieceOutcome, deed, called, done}
 use Rattle.machine.specs.States.{Resource, Object, Control}
 use Rattle.machine.specs.Effects.{ceiling_of}
@@ -110,8 +112,11 @@ module _ (y : System) (level : ℕ) (called' : Name → Name → ℕ) where
       by : (b : Bool) → nat_le at last ≡ b → Owes bound n (if b then Turning name at last body ∷ rest else rest)
       by true e =
           let more : at ≤ last = grind arith in
-          let is = turns-weight at last (y.costs.turn + dearest w body) more in
-          (tt, owes-mono bound (n + turn_count at last * (y.costs.turn + dearest w body)) (n + weight w (Turning name at last body)) rest (omega (arith, is)) h)
+          let is = turns-weight at last (y.costs.turn + dearest w body) more in (
+            tt,
+            owes-mono bound (n + turn_count at last * (y.costs.turn + dearest w body)) (n + weight w (Turning name at last body)) rest (omega
+                (arith, is)) h,
+          )
       by false e = owes-mono bound (n + turn_count at last * (y.costs.turn + dearest w body)) n rest (omega arith) h
 
   -- the pieces of statements cost at most their dearest path
@@ -131,9 +136,11 @@ module _ (y : System) (level : ℕ) (called' : Name → Name → ℕ) where
     block-owes (Then first others) bound n rest h =
         statement-owes first bound n (pieces others rest)
         (block-owes others bound (n + dearest_statement w first) rest
-        (owes-mono bound (n + (dearest_statement w first + dearest w others)) (n + dearest_statement w first + dearest w others) rest (omega arith) h))
+        (owes-mono bound (n + (dearest_statement w first + dearest w others)) (n + dearest_statement w first + dearest w others) rest
+        (omega arith) h))
 
-    pub branches-owes : (b : Branches) (bound n : ℕ) (rest : List Piece) → Owes bound (n + dearest_branch w b) rest → Owes bound n (branch_pieces b rest)
+    pub branches-owes : (b : Branches) (bound n : ℕ) (rest : List Piece) → Owes bound (n + dearest_branch w b) rest
+        → Owes bound n (branch_pieces b rest)
     branches-owes Nothing bound n rest h = owes-mono bound (n + 0) n rest (omega arith) h
     branches-owes (Else block) bound n rest h = block-owes block bound n rest h
     branches-owes (When condition block others) bound n rest h = (tt, h)
@@ -150,14 +157,16 @@ module _ (y : System) (level : ℕ) (called' : Name → Name → ℕ) where
   after-owes bound n (Turning name at last body ∷ ps) h = after-owes bound n ps (skip bound n (Turning name at last body) ps h)
   after-owes bound n (Turned name at last body ∷ ps) h = skip bound n (Turned name at last body) ps h
   after-owes bound n (Returning outs stores caller ∷ ps) h = after-owes bound n ps (skip bound n (Returning outs stores caller) ps h)
-  after-owes bound n (Closing object op vars outs stores caller ∷ ps) h = after-owes bound n ps (skip bound n (Closing object op vars outs stores caller) ps h)
+  after-owes bound n (Closing object op vars outs stores caller ∷ ps) h
+      = after-owes bound n ps (skip bound n (Closing object op vars outs stores caller) ps h)
   after-owes bound n (Keeping task value ∷ ps) h = after-owes bound n ps (skip bound n (Keeping task value) ps h)
   after-owes bound n (Opening task ∷ ps) h = after-owes bound n ps (skip bound n (Opening task) ps h)
   after-owes bound n (Requested task value ∷ ps) h = after-owes bound n ps (skip bound n (Requested task value) ps h)
   after-owes bound n (Finishing ∷ ps) h = after-owes bound n ps (skip bound n Finishing ps h)
 
   -- the first end of a section comes after at most the bound, where its ceiling reaches the level
-  pub owes-first : (bound n : ℕ) (ps : List Piece) (section : Resource) (ss : List Resource) → closers ps ≡ section ∷ ss → level ≤ ceiling_of y section → Owes bound n ps → n ≤ bound
+  pub owes-first : (bound n : ℕ) (ps : List Piece) (section : Resource) (ss : List Resource) → closers ps ≡ section ∷ ss
+      → level ≤ ceiling_of y section → Owes bound n ps → n ≤ bound
   owes-first bound n [] section ss e high h = absurd (no e)
     where
       no : [] ≡ section ∷ ss → ⊥
@@ -165,13 +174,18 @@ module _ (y : System) (level : ℕ) (called' : Name → Name → ℕ) where
   owes-first bound n (Idle ∷ ps) section ss e high h = owes-first bound n ps section ss e high (skip bound n Idle ps h)
   owes-first bound n (Store target value ∷ ps) section ss e high h = owes-first bound n ps section ss e high (skip bound n (Store target value) ps h)
   owes-first bound n (Leaving condition ∷ ps) section ss e high h = owes-first bound n ps section ss e high (skip bound n (Leaving condition) ps h)
-  owes-first bound n (Calling unit op actuals ∷ ps) section ss e high h = owes-first bound n ps section ss e high (skip bound n (Calling unit op actuals) ps h)
+  owes-first bound n (Calling unit op actuals ∷ ps) section ss e high h
+      = owes-first bound n ps section ss e high (skip bound n (Calling unit op actuals) ps h)
   owes-first bound n (Working ticks ∷ ps) section ss e high h = owes-first bound n ps section ss e high (skip bound n (Working ticks) ps h)
   owes-first bound n (Printing value ∷ ps) section ss e high h = owes-first bound n ps section ss e high (skip bound n (Printing value) ps h)
-  owes-first bound n (Testing condition block others ∷ ps) section ss e high h = owes-first bound n ps section ss e high (skip bound n (Testing condition block others) ps h)
-  owes-first bound n (Turning name at last body ∷ ps) section ss e high h = owes-first bound n ps section ss e high (skip bound n (Turning name at last body) ps h)
-  owes-first bound n (Turned name at last body ∷ ps) section ss e high h = owes-first bound n ps section ss e high (skip bound n (Turned name at last body) ps h)
-  owes-first bound n (Returning outs stores caller ∷ ps) section ss e high h = owes-first bound n ps section ss e high (skip bound n (Returning outs stores caller) ps h)
+  owes-first bound n (Testing condition block others ∷ ps) section ss e high h
+      = owes-first bound n ps section ss e high (skip bound n (Testing condition block others) ps h)
+  owes-first bound n (Turning name at last body ∷ ps) section ss e high h
+      = owes-first bound n ps section ss e high (skip bound n (Turning name at last body) ps h)
+  owes-first bound n (Turned name at last body ∷ ps) section ss e high h
+      = owes-first bound n ps section ss e high (skip bound n (Turned name at last body) ps h)
+  owes-first bound n (Returning outs stores caller ∷ ps) section ss e high h
+      = owes-first bound n ps section ss e high (skip bound n (Returning outs stores caller) ps h)
   owes-first bound n (Closing object op vars outs stores caller ∷ ps) section ss e high h =
       let is : Object object ≡ section = cc in h.0 (subst (λ x. level ≤ ceiling_of y x) (sym is) high)
   owes-first bound n (Keeping task value ∷ ps) section ss e high h = owes-first bound n ps section ss e high (skip bound n (Keeping task value) ps h)
@@ -192,7 +206,8 @@ module _ (y : System) (level : ℕ) (called' : Name → Name → ℕ) where
   IsPaidPiece bound (Calling unit op actuals) = IsCallPaid bound (called' unit op) (callee y unit op)
   IsPaidPiece bound _ = ⊤
 
-  called-owes : (bound n : ℕ) (actuals : List Expression) (vars : Variables) (ps : List Piece) (c : CallTarget) → IsCallPaid bound n c → Owes bound n ps → Owes bound 0 (called c actuals vars ps).pieces
+  called-owes : (bound n : ℕ) (actuals : List Expression) (vars : Variables) (ps : List Piece) (c : CallTarget) → IsCallPaid bound n c
+      → Owes bound n ps → Owes bound 0 (called c actuals vars ps).pieces
   called-owes bound n actuals vars ps (Plain o) paid h =
       block-owes o.block bound 0 _ (tt, owes-mono bound n (0 + dearest w o.block + 0) ps (omega arith) h)
   called-owes bound n actuals vars ps (Protected object j g o) paid h =
@@ -214,11 +229,13 @@ module _ (y : System) (level : ℕ) (called' : Name → Name → ℕ) where
   called-owes bound n actuals vars ps Unknown paid h = owes-mono bound n 0 ps (omega arith) h
 
   -- what a deed leaves owed
-  pub done-owes : (bound : ℕ) (p : Piece) (vars : Variables) (ps : List Piece) → IsPaidPiece bound p → Owes bound (later w p) ps → Owes bound 0 (done y p vars ps).pieces
+  pub done-owes : (bound : ℕ) (p : Piece) (vars : Variables) (ps : List Piece) → IsPaidPiece bound p → Owes bound (later w p) ps
+      → Owes bound 0 (done y p vars ps).pieces
   done-owes bound Idle vars ps paid h = h
   done-owes bound (Store target e) vars ps paid h = h
   done-owes bound (Leaving condition) vars ps paid h =
-      either-way (λ (d : PieceOutcome). Owes bound 0 d.pieces) (holds condition vars) (deed Silent (drop 1 vars) (after_loop ps)) (deed Silent vars ps) (after-owes bound 0 ps h) h
+      either-way (λ (d : PieceOutcome). Owes bound 0 d.pieces) (holds condition vars) (deed Silent (drop 1 vars) (after_loop ps))
+      (deed Silent vars ps) (after-owes bound 0 ps h) h
   done-owes bound (Calling unit op actuals) vars ps paid h = called-owes bound (called' unit op) actuals vars ps (callee y unit op) paid h
   done-owes bound (Working ticks) vars ps paid h = h
   done-owes bound (Printing e) vars ps paid h = h

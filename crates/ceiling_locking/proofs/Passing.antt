@@ -1,5 +1,6 @@
 -- What a step is to sections: it leaves them as they are, a task enters one, or a task leaves its innermost one; and what passages it tells.
-use Rattle.std.specs.Prelude.{◌≡◌, ◌≤◌, ◌&&◌, ◌++◌, ℕ, zero, suc, Bool, true, false, nat_lt, List, [], ◌∷◌, map, drop, slice_get, Option, Some, None, ◌==◌, if◌then◌else◌, refl}
+use Rattle.std.specs.Prelude.{◌≡◌, ◌≤◌, ◌&&◌, ◌++◌, ℕ, zero, suc, Bool, true, false, nat_lt, List, [], ◌∷◌, map, drop, slice_get, Option, Some}
+use Rattle.std.specs.Prelude.{None, ◌==◌, if◌then◌else◌, refl}
 use Rattle.std.proofs.Common.{sym, ◌∙◌, ap, subst, arith}
 use Rattle.seq_tree.specs.Lists.{change, first_where}
 use Rattle.seq_tree.specs.Variables.{Variables}
@@ -12,10 +13,12 @@ use Rattle.machine.specs.Systems.{System}
 use Rattle.machine.specs.Pieces.{Piece, Finishing, pieces}
 use Rattle.machine.specs.Deeds.{Act, Silent, Print, Enter, Leave, Ask, Keep, Open, Ended, Finish, done}
 use Rattle.machine.specs.States.{State, Task, Phase, Effects, Delays, Arriving, Use, Ready, Resource, Object, Control, Held, shut}
-use Rattle.machine.specs.Effects.{ceiling_of, inside_now, outside_by, outside_now, lent, stopped_at, entered_at, entry, exit, ended, acted, object_unit}
+use Rattle.machine.specs.Effects.{ceiling_of, inside_now, outside_by, outside_now, lent, stopped_at, entered_at, entry, exit, ended, acted}
+use Rattle.machine.specs.Effects.{object_unit}
 use Rattle.machine.specs.Dispatch.{dispatched}
 use Rattle.machine.specs.Releases.{Next, going, released, release_task, release, is_waiting, serve_task, serve, parameter, next_time}
-use Rattle.machine.specs.Steps.{goes_to, effect_of, effect_at, effect_step, is_due, delay_step, horizon_step, arrive_at, arrival_step, use_step, step_in, step}
+use Rattle.machine.specs.Steps.{goes_to, effect_of, effect_at, effect_step, is_due, delay_step, horizon_step, arrive_at, arrival_step, use_step}
+use Rattle.machine.specs.Steps.{step_in, step}
 use Rattle.ceiling_locking.proofs.Pieces.{Permission, closers, AreFit}
 use Rattle.ceiling_locking.specs.Sections.{Stands, sections}
 use Rattle.ceiling_locking.proofs.Kept.{Keeps}
@@ -37,7 +40,8 @@ faces-same i f [] e = refl
 faces-same zero f (t ∷ ts) e = ap (λ x. x ∷ faces ts) (e t)
 faces-same (suc i) f (t ∷ ts) e = ap (λ xs. face t ∷ xs) (faces-same i f ts e)
 
-pub faces-change : (i : ℕ) (f : Task → Task) (g : Face → Face) (ts : List Task) → ((t : Task) → face (f t) ≡ g (face t)) → faces (change i f ts) ≡ change i g (faces ts)
+pub faces-change : (i : ℕ) (f : Task → Task) (g : Face → Face) (ts : List Task) → ((t : Task) → face (f t) ≡ g (face t))
+    → faces (change i f ts) ≡ change i g (faces ts)
 faces-change i f g [] e = refl
 faces-change zero f g (t ∷ ts) e = ap (λ x. x ∷ faces ts) (e t)
 faces-change (suc i) f g (t ∷ ts) e = ap (λ xs. face t ∷ xs) (faces-change i f g ts e)
@@ -100,10 +104,12 @@ pub data Passing (y : System) (May : ℕ → Permission) (s : State) (n : Next) 
   Stays : (same : faces n.0.tasks ≡ faces s.tasks) (unheard : IsUnheard n.1) → Passing y May s n
   Enters : (i : ℕ) (t : Task) (section : Resource) (entering : IsEntering y May s i t section)
       (changes : faces n.0.tasks ≡ change i (into section) (faces s.tasks))
-      (tells : (u : ℕ) (more : List Event) → passages u (n.1 ++ more) ≡ passage_if y section u (Into t.thread.unit) (passages u more)) → Passing y May s n
+      (tells : (u : ℕ) (more : List Event) → passages u (n.1 ++ more) ≡ passage_if y section u (Into t.thread.unit) (passages u more))
+      → Passing y May s n
   Leaves : (i : ℕ) (t : Task) (section : Resource) (leaving : IsLeaving s i t section)
       (changes : faces n.0.tasks ≡ change i out_of (faces s.tasks))
-      (tells : (u : ℕ) (more : List Event) → passages u (n.1 ++ more) ≡ passage_if y section u (Out t.thread.unit) (passages u more)) → Passing y May s n
+      (tells : (u : ℕ) (more : List Event) → passages u (n.1 ++ more) ≡ passage_if y section u (Out t.thread.unit) (passages u more))
+      → Passing y May s n
 
 module _ (y : System) where
   -- a release leaves sections as they are
@@ -138,7 +144,8 @@ module _ (y : System) (May : ℕ → Permission) (text : AreWritten y May) where
       where
         changes : (x : Resource) → faces (entered_at y i x told vars' ps s).0.tasks ≡ change i (into x) (faces s.tasks)
         changes (Object object) =
-            faces-change i (λ u. going y.costs (lent (Object object) s vars') ps (inside_now (Object object) (ceiling_of y (Object object)) u)) (into (Object object)) s.tasks
+            faces-change i (λ u. going y.costs (lent (Object object) s vars') ps (inside_now (Object object) (ceiling_of y (Object object)) u))
+            (into (Object object)) s.tasks
             (λ u. going-face y.costs (lent (Object object) s vars') ps (inside_now (Object object) (ceiling_of y (Object object)) u))
         changes (Control task) =
             faces-change i (λ u. going y.costs vars' ps (inside_now (Control task) (ceiling_of y (Control task)) u)) (into (Control task)) s.tasks
@@ -149,13 +156,20 @@ module _ (y : System) (May : ℕ → Permission) (text : AreWritten y May) where
         by true e = Stays refl (λ u more. refl)
         by false e =
             Enters i t section
-            (record { effects = effects; ran = ran; stands = stands; low = (let low : t.active ≤ ceiling_of y section = grind arith in low); entered = subst (IsEntered y (May i) section) closes enters })
+            (record {
+              effects = effects;
+              ran = ran;
+              stands = stands;
+              low = (let low : t.active ≤ ceiling_of y section = grind arith in low);
+              entered = subst (IsEntered y (May i) section) closes enters;
+            })
             (changes section) tells
 
     leaving : (section : Resource) (ps : List Piece) → closers t.pieces ≡ section ∷ closers ps → IsLeaving s i t section
     leaving section ps e = record { stands = stands; others = closers ps; inside = sym closes ∙ e }
 
-    acted-passing : (act : Act) (vars' : Variables) (ps : List Piece) → ActFits y (May i) (closers t.pieces) act ps → Passing y May s (acted y i t act vars' ps s)
+    acted-passing : (act : Act) (vars' : Variables) (ps : List Piece) → ActFits y (May i) (closers t.pieces) act ps
+        → Passing y May s (acted y i t act vars' ps s)
     acted-passing Silent vars' ps act = Stays (go-faces y i vars' ps s.tasks) (λ u more. refl)
     acted-passing (Print v) vars' ps act = Stays (go-faces y i vars' ps s.tasks) (λ u more. refl)
     acted-passing (Enter object op values) vars' ps act =
@@ -164,9 +178,11 @@ module _ (y : System) (May : ℕ → Permission) (text : AreWritten y May) where
         Leaves i t (Object object) (leaving (Object object) ps act) (exit-faces y i vars' ps s.tasks) (λ u more. refl)
     acted-passing (Ask task) vars' ps act = entry-passing (Control task) [] vars' ps act.0 (λ u more. refl)
     acted-passing (Keep task v) vars' ps act =
-        Stays (faces-same task (λ u. record u { gate = record u.gate { value = v } }) (change i (going y.costs vars' ps) s.tasks) (λ u. refl) ∙ go-faces y i vars' ps s.tasks) (λ u more. refl)
+        Stays (faces-same task (λ u. record u { gate = record u.gate { value = v } }) (change i (going y.costs vars' ps) s.tasks)
+        (λ u. refl) ∙ go-faces y i vars' ps s.tasks) (λ u more. refl)
     acted-passing (Open task) vars' ps act =
-        Stays (faces-same task (λ u. record u { gate = record u.gate { open' = true } }) (change i (going y.costs vars' ps) s.tasks) (λ u. refl) ∙ go-faces y i vars' ps s.tasks) (λ u more. refl)
+        Stays (faces-same task (λ u. record u { gate = record u.gate { open' = true } }) (change i (going y.costs vars' ps) s.tasks)
+        (λ u. refl) ∙ go-faces y i vars' ps s.tasks) (λ u more. refl)
     acted-passing (Ended task v) vars' ps act =
         let still = serve-still y task (exit y i vars' ps s) in
         Leaves i t (Control task) (leaving (Control task) ps act) (still.0 ∙ exit-faces y i vars' ps s.tasks) (λ u more. still.1 u more)
@@ -189,7 +205,8 @@ module _ (y : System) (May : ℕ → Permission) (text : AreWritten y May) where
               piece [] g = Stays refl (λ u more. refl)
               piece (p ∷ ps) g = now (t.left == 0)
                 where
-                  now : (b : Bool) → Passing y May s (if b then acted y i t (done y p t.vars ps).act (done y p t.vars ps).vars (done y p t.vars ps).pieces s else goes_to Delays s)
+                  now : (b : Bool) → Passing y May s (if b then acted y i t (done y p t.vars ps).act (done y p t.vars ps).vars
+                      (done y p t.vars ps).pieces s else goes_to Delays s)
                   now true =
                       let sound = keeps.sound i t f in
                       let d = done-fits y (May i) (text.closed i) p t.vars ps (subst (AreFit (May i)) g sound.fits) in
@@ -225,7 +242,8 @@ module _ (y : System) (May : ℕ → Permission) (text : AreWritten y May) where
       by [] = horizon (s.time == y.until)
       by (a ∷ others) = now (a.time == s.time)
         where
-          now : (b : Bool) → Passing y May s (if b then arrive_at y a (first_where (λ t. t.thread.unit == a.task) s.tasks) (record s { arrivals = others }) else horizon_step y s)
+          now : (b : Bool) → Passing y May s (if b then arrive_at y a (first_where (λ t. t.thread.unit == a.task) s.tasks)
+              (record s { arrivals = others }) else horizon_step y s)
           now true = arrive a others (first_where (λ t. t.thread.unit == a.task) s.tasks)
           now false = horizon (s.time == y.until)
 

@@ -1,5 +1,6 @@
 -- What is kept of the ticks that tasks owe: below a level, and in a window in which the level is pending.
-use Rattle.std.specs.Prelude.{◌≡◌, ◌≤◌, ◌<◌, ◌+◌, ◌++◌, ◌&&◌, ℕ, Bool, true, false, not, nat_lt, List, [], ◌∷◌, drop, slice_get, Option, Some, None, if◌then◌else◌, ⊤, refl}
+use Rattle.std.specs.Prelude.{◌≡◌, ◌≤◌, ◌<◌, ◌+◌, ◌++◌, ◌&&◌, ℕ, Bool, true, false, not, nat_lt, List, [], ◌∷◌, drop, slice_get, Option, Some}
+use Rattle.std.specs.Prelude.{None, if◌then◌else◌, ⊤, refl}
 use Rattle.std.proofs.Common.{sym, ◌∙◌, ap, subst, arith}
 use Rattle.std.proofs.lemmas.Option.{same_Some}
 use Rattle.seq_tree.specs.Values.{holds}
@@ -8,10 +9,12 @@ use Rattle.seq_tree.specs.Variables.{Variables}
 use Rattle.trace_tree.specs.declared.event.Event.{Event}
 use Rattle.trace_tree.specs.declared.event.Event.TheVariants as event
 use Rattle.machine.specs.Systems.{System, CallTarget, Plain, Protected, Request, Unknown, callee}
-use Rattle.machine.specs.Pieces.{Piece, Idle, Store, Leaving, Calling, Working, Printing, Testing, Turning, Turned, Returning, Closing, Keeping, Opening, Requested, Finishing, pieces, after_loop, ticks_of, work_ticks}
+use Rattle.machine.specs.Pieces.{Piece, Idle, Store, Leaving, Calling, Working, Printing, Testing, Turning, Turned, Returning, Closing, Keeping}
+use Rattle.machine.specs.Pieces.{Opening, Requested, Finishing, pieces, after_loop, ticks_of, work_ticks}
 use Rattle.machine.specs.Deeds.{Act, Silent, Print, Enter, Leave, Ask, Keep, Open, Ended, Finish, deed, done}
 use Rattle.machine.specs.States.{State, Task, Readiness, Ready, Resource, Object, Control, Held, Gate, shut}
-use Rattle.machine.specs.Effects.{ceiling_of, inside_now, outside_by, outside_now, lent, stopped_at, entered_at, entry, exit, ended, acted, object_unit}
+use Rattle.machine.specs.Effects.{ceiling_of, inside_now, outside_by, outside_now, lent, stopped_at, entered_at, entry, exit, ended, acted}
+use Rattle.machine.specs.Effects.{object_unit}
 use Rattle.machine.specs.Releases.{going, released, release_task, release, is_waiting, serve_task, serve, parameter, next_time}
 use Rattle.ceiling_locking.proofs.Pieces.{Permission, Inside, closers, LeadsWithin}
 use Rattle.ceiling_locking.specs.Sections.{Stands, AreStacked}
@@ -31,7 +34,8 @@ use Rattle.std.proofs.lemmas.Bool.{true≢false}
 -- the text of a system with limits
 pub limits-text : (y : System) (lev bound : ℕ) (l : IsLimited y lev bound) → AreWritten y (AllLimited y lev l.costing)
 limits-text y lev bound l = record {
-  closed = λ i unit op ss may. by i ss (nat_lt (priority_at y i) lev) refl (l.costing.cost unit op) (callee y unit op) (l.exits unit op) (λ low. l.calls unit op (may low));
+  closed = λ i unit op ss may. by i ss (nat_lt (priority_at y i) lev) refl (l.costing.cost unit op) (callee y unit op) (l.exits unit op) (λ low.
+      l.calls unit op (may low));
   tasks = λ i t at. block-weaken (λ unit op. t.priority < lev → IsMade l.costing unit op) (Inside (AllLimited y lev l.costing i) [])
       (λ unit op h low. h (let same : priority_at y i ≡ t.priority = priority-at y i t at in omega arith)) false t.block (l.tasks i t at);
 }
@@ -41,9 +45,11 @@ limits-text y lev bound l = record {
     by i ss true e n (Plain o) exits costs =
         block-weaken (IsMade l.costing) (Inside (AllLimited y lev l.costing i) ss) (λ unit op h low. h) false o.block (costs (grind arith)).0
     by i ss true e n (Protected object j g o) exits costs =
-        block-weaken (IsMade l.costing) (Inside (AllLimited y lev l.costing i) (Object object ∷ ss)) (λ unit op h low. h) false o.block (costs (grind arith)).0
+        block-weaken (IsMade l.costing) (Inside (AllLimited y lev l.costing i) (Object object ∷ ss)) (λ unit op h low. h) false o.block
+        (costs (grind arith)).0
     by i ss false e n (Plain o) exits costs =
-        block-weaken (λ unit op. ⊤) (Inside (AllLimited y lev l.costing i) ss) (λ unit op h low. absurd (let not : lev ≤ priority_at y i = grind arith in omega arith)) false o.block exits
+        block-weaken (λ unit op. ⊤) (Inside (AllLimited y lev l.costing i) ss) (λ unit op h low. absurd (let not : lev ≤ priority_at y i = grind arith
+        in omega arith)) false o.block exits
     by i ss false e n (Protected object j g o) exits costs =
         block-weaken (λ unit op. ⊤) (Inside (AllLimited y lev l.costing i) (Object object ∷ ss))
         (λ unit op h low. absurd (let not : lev ≤ priority_at y i = grind arith in omega arith)) false o.block exits
@@ -102,7 +108,8 @@ module _ (y : System) (lev bound : ℕ) (l : IsLimited y lev bound) where
   first-owing b [] t h = tt
   first-owing b (p ∷ ps) t h =
       let most = ticks-most (slice_get t.thread.durations t.works) p in
-      owes-mono y lev l.costing.cost b (0 + weight (weights y l.costing.cost) p) (first_left y.costs (p ∷ ps) t + later (weights y l.costing.cost) p) ps (omega (arith, most)) h.1
+      owes-mono y lev l.costing.cost b (0 + weight (weights y l.costing.cost) p) (first_left y.costs (p ∷ ps) t + later (weights y l.costing.cost) p)
+      ps (omega (arith, most)) h.1
 
   first-calm : (ps : List Piece) (t : Task) → IsCalm (first_left y.costs ps t) ps
   first-calm [] t = tt
@@ -145,12 +152,14 @@ module _ (y : System) (lev bound : ℕ) (l : IsLimited y lev bound) where
       → (h : Held) × (hs : List Held) × (t.inside ≡ h ∷ hs) × (lev ≤ ceiling_of y h.section)
   high-inside i t May sound low high = by t.inside refl sound.stacked
     where
-      by : (hs : List Held) → t.inside ≡ hs → AreStacked y t.thread.priority t.active hs → (h : Held) × (hs' : List Held) × (t.inside ≡ h ∷ hs') × (lev ≤ ceiling_of y h.section)
+      by : (hs : List Held) → t.inside ≡ hs → AreStacked y t.thread.priority t.active hs → (h : Held) × (hs' : List Held) × (t.inside ≡ h ∷ hs')
+          × (lev ≤ ceiling_of y h.section)
       by [] e s = absurd (omega arith)
       by (h ∷ hs) e s = (h, hs, e, (let top : t.active ≡ ceiling_of y h.section = s.0 in omega arith))
 
   module _ (window : Bool) (owed : ℕ) where
-    pub paid-change : (r : Option ℕ) (ts : List Task) (i : ℕ) (f : Task → Task) (t : Task) → ArePaid window owed r ts → Stands ts i t → IsPaid window owed r i (f t)
+    pub paid-change : (r : Option ℕ) (ts : List Task) (i : ℕ) (f : Task → Task) (t : Task) → ArePaid window owed r ts → Stands ts i t
+        → IsPaid window owed r i (f t)
         → ArePaid window owed r (change i f ts)
     paid-change r ts i f t paid stands new j u at =
         changed i j f ts u at
@@ -174,7 +183,8 @@ module _ (y : System) (lev bound : ℕ) (l : IsLimited y lev bound) where
       calm = λ on low below run. first-calm ps t;
     })
 
-    pub gate-paid : (r : Option ℕ) (ts : List Task) (k : ℕ) (f : Task → Gate) → ArePaid window owed r ts → ArePaid window owed r (change k (λ u. record u { gate = f u }) ts)
+    pub gate-paid : (r : Option ℕ) (ts : List Task) (k : ℕ) (f : Task → Gate) → ArePaid window owed r ts
+        → ArePaid window owed r (change k (λ u. record u { gate = f u }) ts)
     gate-paid r ts k f paid j u at =
         changed k j (λ v. record v { gate = f v }) ts u at
         (λ x is at' same. subst (λ n. IsPaid window owed r n u) (sym is) (subst (IsPaid window owed r k) (sym same) (gated x (paid k x at'))))
@@ -191,7 +201,8 @@ module _ (y : System) (lev bound : ℕ) (l : IsLimited y lev bound) where
         (λ low. block-owes y lev l.costing.cost t.thread.block bound 0 (Finishing ∷ []) (tt, tt))
         (λ on low high. block-owes y lev l.costing.cost t.thread.block owed 0 (Finishing ∷ []) (tt, tt))
 
-    pub release-paid : (r : Option ℕ) (k : ℕ) (s : State) → ((t : Task) → Stands s.tasks k t → t.inside ≡ []) → ArePaid window owed r s.tasks → ArePaid window owed r (release y k s).0.tasks
+    pub release-paid : (r : Option ℕ) (k : ℕ) (s : State) → ((t : Task) → Stands s.tasks k t → t.inside ≡ []) → ArePaid window owed r s.tasks
+        → ArePaid window owed r (release y k s).0.tasks
     release-paid r k s inside paid = by (slice_get s.tasks k) refl
       where
         by : (o : Option Task) → slice_get s.tasks k ≡ o → ArePaid window owed r (release_task y k o s).0.tasks
@@ -210,7 +221,8 @@ module _ (y : System) (lev bound : ℕ) (l : IsLimited y lev bound) where
 
             served : (a b : Bool) → is_waiting t.readiness ≡ a → ArePaid window owed r (if a && b then release y k s else (s, [])).0.tasks
             served true true f =
-                release-paid r k s (λ u at. let same : u ≡ t = same_Some u t (sym at ∙ e) in ap (λ x. x.inside) same ∙ (paid k t e).rests (waits t.readiness f)) paid
+                release-paid r k s (λ u at. let same : u ≡ t = same_Some u t (sym at ∙ e)
+                in ap (λ x. x.inside) same ∙ (paid k t e).rests (waits t.readiness f)) paid
             served true false f = paid
             served false b f = paid
 
@@ -241,7 +253,8 @@ module _ (y : System) (lev bound : ℕ) (l : IsLimited y lev bound) where
     entry-calls (Requested task value) vars' ps calm e = cc
     entry-calls Finishing vars' ps calm e = cc
 
-    module _ (i : ℕ) (t : Task) (s : State) (stands : Stands s.tasks i t) (ready : t.readiness ≡ Ready) (sound : IsSound y (AllLimited y lev l.costing i) i t)
+    module _ (i : ℕ) (t : Task) (s : State) (stands : Stands s.tasks i t) (ready : t.readiness ≡ Ready)
+        (sound : IsSound y (AllLimited y lev l.costing i) i t)
         (paid : ArePaid window owed (Some i) s.tasks) where
       busy : (f : Task) → f.readiness ≡ t.readiness → (f.readiness ≡ Ready → ⊥) → f.inside ≡ []
       busy f same not = absurd (not (same ∙ ready))
@@ -252,7 +265,8 @@ module _ (y : System) (lev bound : ℕ) (l : IsLimited y lev bound) where
       module _ (vars' : Variables) (ps : List Piece) (owes : t.thread.priority < lev → Owes y lev l.costing.cost bound 0 ps)
           (debts : window ≡ true → t.thread.priority < lev → lev ≤ t.active → Owes y lev l.costing.cost owed 0 ps) where
         go-paid : ArePaid window owed (Some i) (change i (going y.costs vars' ps) s.tasks)
-        go-paid = paid-change (Some i) s.tasks i (going y.costs vars' ps) t paid stands (going-paid (Some i) i t vars' ps (λ not. busy t refl not) (λ h hs e not. not refl) owes debts)
+        go-paid = paid-change (Some i) s.tasks i (going y.costs vars' ps) t paid stands
+            (going-paid (Some i) i t vars' ps (λ not. busy t refl not) (λ h hs e not. not refl) owes debts)
 
         exit-paid : ArePaid window owed (Some i) (change i (λ u. going y.costs vars' ps (outside_now u)) s.tasks)
         exit-paid = paid-change (Some i) s.tasks i (λ u. going y.costs vars' ps (outside_now u)) t paid stands (by t.inside refl)
@@ -262,7 +276,8 @@ module _ (y : System) (lev bound : ℕ) (l : IsLimited y lev bound) where
             by (h ∷ hs) e =
                 let stacked : AreStacked y t.thread.priority t.active (h ∷ hs) = subst (AreStacked y t.thread.priority t.active) e sound.stacked in
                 let below : h.before ≤ t.active = stacked.1 in
-                going-paid (Some i) i (record t { active = h.before; inside = hs }) vars' ps (λ not. absurd (not ready)) (λ h' hs' e' not. not refl) owes
+                going-paid (Some i) i (record t { active = h.before; inside = hs }) vars' ps (λ not. absurd (not ready))
+                (λ h' hs' e' not. not refl) owes
                 (λ on low high. debts on low (let more : lev ≤ h.before = high in omega arith))
 
         entry-paid : (section : Resource) (told : List Event) → (window ≡ true → t.thread.priority < lev → t.active < lev → ⊥)
@@ -280,10 +295,12 @@ module _ (y : System) (lev bound : ℕ) (l : IsLimited y lev bound) where
 
             into : (x : Resource) → ArePaid window owed (Some i) (entered_at y i x told vars' ps s).0.tasks
             into (Object object) =
-                paid-change (Some i) s.tasks i (λ u. going y.costs (lent (Object object) s vars') ps (inside_now (Object object) (ceiling_of y (Object object)) u)) t paid stands
+                paid-change (Some i) s.tasks i (λ u. going y.costs (lent (Object object) s vars') ps
+                (inside_now (Object object) (ceiling_of y (Object object)) u)) t paid stands
                 (inner (Object object) (lent (Object object) s vars'))
             into (Control task) =
-                paid-change (Some i) s.tasks i (λ u. going y.costs vars' ps (inside_now (Control task) (ceiling_of y (Control task)) u)) t paid stands (inner (Control task) vars')
+                paid-change (Some i) s.tasks i (λ u. going y.costs vars' ps (inside_now (Control task) (ceiling_of y (Control task)) u)) t paid stands
+                (inner (Control task) vars')
 
             by : (b : Bool) → ArePaid window owed (Some i) (if b then stopped_at y t section s else entered_at y i section told vars' ps s).0.tasks
             by true = paid

@@ -1,5 +1,6 @@
 -- Every program that meets the rules, under every accepted arrivals, has what exclusion needs.
-use Rattle.std.specs.Prelude.{◌≡◌, ℕ, Bool, true, false, ◌&&◌, ◌||◌, List, [], ◌∷◌, map, filter, flat_map, slice_get, Option, Some, None, option_map, unwrap_or, refl}
+use Rattle.std.specs.Prelude.{◌≡◌, ℕ, Bool, true, false, ◌&&◌, ◌||◌, List, [], ◌∷◌, map, filter, flat_map, slice_get, Option, Some, None}
+use Rattle.std.specs.Prelude.{option_map, unwrap_or, refl}
 use Rattle.std.specs.List.{list_any}
 use Rattle.std.proofs.Common.{sym, ◌∙◌, ap, subst, inr}
 use Rattle.std.proofs.lemmas.Bool.{false≢true, or_right}
@@ -10,12 +11,14 @@ use Rattle.seq_tree.specs.Rings.{LeadsTo as RingLeads, IsOnRing}
 use Rattle.seq_tree.specs.declared.tree.OpName.{OpName}
 use Rattle.ada_tree.specs.Programs.{Unit, Program}
 use Rattle.ada_tree.specs.Bodies.{Body, op_body, bodies, scope}
-use Rattle.ada_tree.specs.Uses.{shared_ops, ops_of_shared, is_confined, is_shared, is_shared_name, called_units, CallsUnit, shared_named, is_requested}
+use Rattle.ada_tree.specs.Uses.{shared_ops, ops_of_shared, is_confined, is_shared, is_shared_name, called_units, CallsUnit, shared_named}
+use Rattle.ada_tree.specs.Uses.{is_requested}
 use Rattle.ada_tree.specs.Rules.{Rings, At, MeetsRules}
 use Rattle.arrivals_tree.specs.declared.arrivals.Arrival.{Arrival}
 use Rattle.arrivals_tree.specs.Arriving.{Arrivals}
 use Rattle.arrivals_tree.specs.Acceptance.{IsAccepted}
-use Rattle.machine.specs.Systems.{System, TaskUnit, ProtectedUnit, ReleasePattern, Periodic, Requested, CallTarget, Plain, Protected, Request, system, callee}
+use Rattle.machine.specs.Systems.{System, TaskUnit, ProtectedUnit, ReleasePattern, Periodic, Requested, CallTarget, Plain, Protected, Request}
+use Rattle.machine.specs.Systems.{system, callee}
 use Rattle.machine.specs.Systems as machine
 use Rattle.machine.specs.States.{opening}
 use Rattle.machine.specs.Meanings.{Meaning, run, start}
@@ -67,11 +70,18 @@ module _ (p : Program) (rules : MeetsRules p) where
     leads-unit : (x z : ℕ) → leads x z ≡ true → (g : ProtectedUnit) × (slice_get y.objects x ≡ Some g) × CallsUnit p (name_at x) (name_at z)
     leads-unit x z e = by (slice_get y.objects x) refl e
       where
-        by : (o : Option ProtectedUnit) → slice_get y.objects x ≡ o → leads_by o z ≡ true → (g : ProtectedUnit) × (slice_get y.objects x ≡ Some g) × CallsUnit p (name_at x) (name_at z)
+        by : (o : Option ProtectedUnit) → slice_get y.objects x ≡ o → leads_by o z ≡ true
+            → (g : ProtectedUnit) × (slice_get y.objects x ≡ Some g) × CallsUnit p (name_at x) (name_at z)
         by None is h = absurd (false≢true h)
-        by (Some g) is h = (g, is, subst (λ n. CallsUnit p n (name_at z)) (sym (ap (λ o. unwrap_or (option_map (λ (w : ProtectedUnit). w.name) o) []) is)) h)
+        by (Some g) is h = (
+          g,
+          is,
+          subst (λ n. CallsUnit p n (name_at z)) (sym
+              (ap (λ o. unwrap_or (option_map (λ (w : ProtectedUnit). w.name) o) []) is)) h,
+        )
 
-    units-way : (path : List ℕ) (x z : ℕ) → RingLeads (λ v w. leads v w ≡ true) x path z → RingLeads (CallsUnit p) (name_at x) (map name_at path) (name_at z)
+    units-way : (path : List ℕ) (x z : ℕ) → RingLeads (λ v w. leads v w ≡ true) x path z
+        → RingLeads (CallsUnit p) (name_at x) (map name_at path) (name_at z)
     units-way [] x z way = (leads-unit x z way).2
     units-way (via ∷ path) x z way = ((leads-unit x via way.0).2, units-way path via z way.1)
 
@@ -85,10 +95,19 @@ module _ (p : Program) (rules : MeetsRules p) where
         let found = object-at p a x g.0 g.1 in
         let is = found.2 in
         let named : name_at x ≡ found.1.name = ap (λ o. unwrap_or (option_map (λ (w : ProtectedUnit). w.name) o) []) g.1 ∙ sym is.name in
-        rules Rings (At found.0) (found.1, is.stands, inr (map name_at ring.0, subst (λ n. RingLeads (CallsUnit p) n (map name_at ring.0) n) named (units-way ring.0 x x ring.1)))
+        rules Rings (At found.0) (
+          found.1,
+          is.stands,
+          inr (
+            map name_at ring.0,
+            subst (λ n. RingLeads (CallsUnit p) n
+                (map name_at ring.0) n) named (units-way ring.0 x x ring.1),
+          ),
+        )
 
     -- an object that a body enters is one that the body's object calls
-    on : (object : ℕ) (g : ProtectedUnit) → slice_get y.objects object ≡ Some g → (unit : Name) → g.name ≡ unit → (o : Operation) → IsIn o (ops_of_shared p unit)
+    on : (object : ℕ) (g : ProtectedUnit) → slice_get y.objects object ≡ Some g → (unit : Name) → g.name ≡ unit → (o : Operation)
+        → IsIn o (ops_of_shared p unit)
         → (x : OpName) → IsIn x (block_calls o.block) → (k : CallTarget) → LeadsTo y x.object x.op k → LeadsOn leads object k
     on object g at unit named o among x called (Plain q) l = tt
     on object g at unit named o among x called (Protected other j h q) l =
@@ -98,11 +117,14 @@ module _ (p : Program) (rules : MeetsRules p) where
         any-in (λ (u : Unit). is_shared u.form && same_name u.name x.object) found.1 p.units (at-in p.units found.0 found.1 is.stands)
         (ap (λ f. is_shared f && same_name found.1.name x.object) is.form ∙ ap (λ n. same_name n x.object) is.name ∙ l.named) in
         let inner : IsIn x.object (called_units p unit) =
-        filter-in (is_shared_name p) x.object (map (λ (z : OpName). z.object) (flat_map (λ (w : Operation). block_calls w.block) (ops_of_shared p unit)))
-        (in-map (λ (z : OpName). z.object) x (flat_map (λ (w : Operation). block_calls w.block) (ops_of_shared p unit)) (in-flat (λ (w : Operation). block_calls w.block) o x (ops_of_shared p unit) among called)) shared in
+        filter-in (is_shared_name p) x.object
+        (map (λ (z : OpName). z.object) (flat_map (λ (w : Operation). block_calls w.block) (ops_of_shared p unit)))
+        (in-map (λ (z : OpName). z.object) x (flat_map (λ (w : Operation). block_calls w.block) (ops_of_shared p unit))
+        (in-flat (λ (w : Operation). block_calls w.block) o x (ops_of_shared p unit) among called)) shared in
         let mine : name_at other ≡ h.name = ap (λ z. unwrap_or (option_map (λ (w : ProtectedUnit). w.name) z) []) l.stands in
         ap (λ z. leads_by z other) at
-        ∙ any-in (same_name (name_at other)) x.object (called_units p g.name) (subst (λ n. IsIn x.object (called_units p n)) (sym named) inner) (ap (λ n. same_name n x.object) mine ∙ l.named)
+        ∙ any-in (same_name (name_at other)) x.object (called_units p g.name) (subst (λ n. IsIn x.object (called_units p n)) (sym named) inner)
+        (ap (λ n. same_name n x.object) mine ∙ l.named)
     on object g at unit named o among x called (Request task) l = tt
     on object g at unit named o among x called machine.Unknown l = tt
 
@@ -140,14 +162,17 @@ module _ (p : Program) (rules : MeetsRules p) where
             in-flat (λ (u : Unit). shared_ops u.form) found.1 o (filter (λ u. same_name u.name unit) p.units)
             (filter-in (λ (u : Unit). same_name u.name unit) found.1 p.units (at-in p.units found.0 found.1 is.stands) unit-named)
             (subst (λ f. IsIn o (shared_ops f)) (sym is.form) (at-in g.ops j o l.holds)) in
-            let among : IsIn o (shared_named p c) = filter-in (λ (q : Operation). same_name q.sig.name op) o (ops_of_shared p unit) among-ops l.called in
+            let among : IsIn o (shared_named p c)
+            = filter-in (λ (q : Operation). same_name q.sig.name op) o (ops_of_shared p unit) among-ops l.called in
             body-fits found.0 found.1 is.stands (op_body o) within (IsInnerCall y made leads object)
             (λ x h.
-            let next = requested-on p c x (asked (ap is_free e)) (in-flat (λ (q : Operation). block_calls q.block) o x (shared_named p c) among h) in (
+            let next = requested-on p c x (asked (ap is_free e)) (in-flat (λ (q : Operation). block_calls q.block) o x
+            (shared_named p c) among h) in (
               or_right (is_free (callee y x.object x.op)) (is_requested p x) next,
               on object g l.stands unit (same-is g.name unit l.named) o among-ops x h (callee y x.object x.op) (leads-to y x.object x.op),
             ))
-        by (Request task) e l = each-to (IsFor p) (IsElsewhere y task) a.items (requested-elsewhere p a rules unit op task l (asked (ap is_free e))) (all-for limit p a accepted)
+        by (Request task) e l = each-to (IsFor p) (IsElsewhere y task) a.items (requested-elsewhere p a rules unit op task l (asked (ap is_free e)))
+            (all-for limit p a accepted)
         by machine.Unknown e l = tt
 
   -- a program that meets the rules, under accepted arrivals
@@ -161,7 +186,8 @@ module _ (p : Program) (rules : MeetsRules p) where
         subst (λ b. BlockFits (λ unit op. made a unit op ≡ true) false b) body'.5
         (body-fits body'.0 body'.1 body'.3 body'.2 body'.4 (λ unit op. made a unit op ≡ true)
         (λ x h. or_right (is_free (callee (system p a) x.object x.op)) (is_requested p x)
-        ((written-requested p body'.1 (at-in p.units body'.0 body'.1 body'.3) body'.6 x (call-in p rules body'.0 body'.1 body'.3 body'.2 body'.4 x h)))));
+        ((written-requested p body'.1 (at-in p.units body'.0 body'.1 body'.3) body'.6 x
+        (call-in p rules body'.0 body'.1 body'.3 body'.2 body'.4 x h)))));
     calls = stays a limit accepted;
     covered = covered a;
     objects = objects-differ p a;
@@ -171,12 +197,14 @@ module _ (p : Program) (rules : MeetsRules p) where
   pub may-exclude : (limit : ℕ) (a : Arrivals) → IsAccepted limit p a → MayExclude (system p a) a.items
   may-exclude limit a accepted = layered-excludes (system p a) a.items (layers-of limit a accepted)
 
-  layers-made : (limit : ℕ) (a : Arrivals) (accepted : IsAccepted limit p a) (unit op : Name) → (layers-of limit a accepted).made unit op ≡ made a unit op
+  layers-made : (limit : ℕ) (a : Arrivals) (accepted : IsAccepted limit p a) (unit op : Name)
+      → (layers-of limit a accepted).made unit op ≡ made a unit op
   unfolding layers-of
   layers-made limit a accepted unit op = refl
 
   -- a request that is made is one that some task can make
-  pub made-requested : (limit : ℕ) (a : Arrivals) (accepted : IsAccepted limit p a) (unit op : Name) (j : ℕ) → (may-exclude limit a accepted).ranking.made unit op ≡ true
+  pub made-requested : (limit : ℕ) (a : Arrivals) (accepted : IsAccepted limit p a) (unit op : Name) (j : ℕ)
+      → (may-exclude limit a accepted).ranking.made unit op ≡ true
       → callee (system p a) unit op ≡ Request j → is_requested p (record { object = unit; op = op }) ≡ true
   unfolding may-exclude
   made-requested limit a accepted unit op j made' e =
@@ -195,9 +223,11 @@ free-step y as' ex n =
     (step-enters-free y as' ex (run y n (opening y as')).0 kept, step-takes-free y as' ex (run y n (opening y as')).0 kept)
 
 -- no request finds a control structure held, and no task takes a value from a held one
-pub controls : (limit : ℕ) (p : Program) (a : Arrivals) (n : ℕ) → MeetsRules p → IsAccepted limit p a → IsFreeStep (system p a) (run (system p a) n (start p a)).0
+pub controls : (limit : ℕ) (p : Program) (a : Arrivals) (n : ℕ) → MeetsRules p → IsAccepted limit p a
+    → IsFreeStep (system p a) (run (system p a) n (start p a)).0
 controls limit p a n rules accepted = free-step (system p a) a.items (may-exclude p rules limit a accepted) n
 
 -- in every state that a program's run reaches the holders are safe
-pub holders : (limit : ℕ) (p : Program) (a : Arrivals) (n : ℕ) → MeetsRules p → IsAccepted limit p a → AreSafe (system p a) (run (system p a) n (start p a)).0
+pub holders : (limit : ℕ) (p : Program) (a : Arrivals) (n : ℕ) → MeetsRules p → IsAccepted limit p a
+    → AreSafe (system p a) (run (system p a) n (start p a)).0
 holders limit p a n rules accepted = run-safe (system p a) a.items (may-exclude p rules limit a accepted) n

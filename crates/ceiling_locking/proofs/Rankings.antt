@@ -1,5 +1,6 @@
 -- Where nodes lead to each other in no ring they have ranks that fall along each step: the lengths of their longest ways.
-use Rattle.std.specs.Prelude.{◌≡◌, ◌<◌, ◌==◌, ◌||◌, nat_lt, ℕ, zero, suc, Bool, true, false, max, List, [], ◌∷◌, filter, length, Option, Some, None, refl}
+use Rattle.std.specs.Prelude.{◌≡◌, ◌<◌, ◌==◌, ◌||◌, nat_lt, ℕ, zero, suc, Bool, true, false, max, List, [], ◌∷◌, filter, length, Option, Some}
+use Rattle.std.specs.Prelude.{None, refl}
 use Rattle.std.specs.List.{list_any}
 use Rattle.std.proofs.Common.{sym, ap, ap₂, subst, arith, inl, inr}
 use Rattle.std.proofs.lemmas.Option.{none-some, same_Some}
@@ -81,7 +82,8 @@ module _ (leads : ℕ → ℕ → Bool) (n : ℕ) where
   module _ (no_ring : (x : ℕ) → IsOnRing (λ v w. leads v w ≡ true) x → ⊥) where
     deep : (x : ℕ) → IsDeep next n x
     deep x = subst (λ m. IsDeep next m x) (length-below n)
-        (deep-all next (λ v w. v == w) (λ v w e. (let same : v ≡ w = grind arith in same)) (λ v. (let same : (v == v) ≡ true = grind arith in same)) (below n) there
+        (deep-all next (λ v w. v == w) (λ v w e. (let same : v ≡ w = grind arith in same)) (λ v. (let same : (v == v) ≡ true = grind arith
+        in same)) (below n) there
         (λ v ring. no_ring v (ring.0, way-leads ring.0 v v ring.1)) x)
       where
         there : (v : ℕ) (cs : List ℕ) → next v ≡ Some cs → list_any (λ w. v == w) (below n) ≡ true
@@ -93,8 +95,10 @@ module _ (leads : ℕ → ℕ → Bool) (n : ℕ) where
 
     pub rank-falls : (x z : ℕ) → x < n → z < n → leads x z ≡ true → rank z < rank x
     rank-falls x z less less' e =
-        let is : rank x ≡ height_by rank (next x) = settles next (λ f v. height_by f (next v)) height (λ k v. refl) local (λ f v h. ap (height_by f) h) n x (deep x) in
-        let here : height_by rank (next x) ≡ highest rank (filter (leads x) (below n)) = ap (λ b. height_by rank (next_by b x)) (let h : nat_lt x n ≡ true = grind arith in h) in
+        let is : rank x ≡ height_by rank (next x)
+        = settles next (λ f v. height_by f (next v)) height (λ k v. refl) local (λ f v h. ap (height_by f) h) n x (deep x) in
+        let here : height_by rank (next x) ≡ highest rank (filter (leads x) (below n))
+        = ap (λ b. height_by rank (next_by b x)) (let h : nat_lt x n ≡ true = grind arith in h) in
         let up = highest-at rank z (filter (leads x) (below n)) (filter-in (leads x) z (below n) (in-below n z less') e) in
         omega (arith, is, here, up)
       where

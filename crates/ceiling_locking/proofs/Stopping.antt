@@ -1,5 +1,6 @@
 -- Where tasks call at ceilings of at least their active priority, no step tells a stop at a ceiling.
-use Rattle.std.specs.Prelude.{◌≡◌, ◌≤◌, ◌<◌, ◌&&◌, ℕ, zero, suc, Bool, true, false, nat_lt, List, [], ◌∷◌, map, slice_get, Option, Some, None, option_map, unwrap_or, ◌==◌, if◌then◌else◌, refl}
+use Rattle.std.specs.Prelude.{◌≡◌, ◌≤◌, ◌<◌, ◌&&◌, ℕ, zero, suc, Bool, true, false, nat_lt, List, [], ◌∷◌, map, slice_get, Option, Some, None}
+use Rattle.std.specs.Prelude.{option_map, unwrap_or, ◌==◌, if◌then◌else◌, refl}
 use Rattle.std.proofs.Common.{sym, ◌∙◌, ap, subst, arith, le_trans}
 use Rattle.std.proofs.lemmas.Option.{none-some, same_Some}
 use Rattle.seq_tree.specs.Lists.{Each, change, first_where}
@@ -14,7 +15,8 @@ use Rattle.machine.specs.States.{State, Task, Phase, Effects, Delays, Arriving, 
 use Rattle.machine.specs.Effects.{ceiling_of, stopped_at, entered_at, entry, exit, ended, acted, object_unit}
 use Rattle.machine.specs.Dispatch.{dispatched}
 use Rattle.machine.specs.Releases.{release_task, release, is_waiting, serve_task, serve}
-use Rattle.machine.specs.Steps.{goes_to, effect_of, effect_at, effect_step, is_due, delay_step, horizon_step, arrive_at, arrival_step, use_step, step_in, step}
+use Rattle.machine.specs.Steps.{goes_to, effect_of, effect_at, effect_step, is_due, delay_step, horizon_step, arrive_at, arrival_step, use_step}
+use Rattle.machine.specs.Steps.{step_in, step}
 use Rattle.machine.specs.Meanings.{run, Rest}
 use Rattle.ceiling_locking.proofs.Pieces.{Inside, closers, AreFit, entered_by, LeadsWithin}
 use Rattle.ceiling_locking.specs.Sections.{Stands, sections, AreStacked}
@@ -38,17 +40,24 @@ module _ (y : System) (c : IsCeiled y) where
   rises-text = record {
     closed = λ i unit op ss may. by (priority_at y i) ss (c.reach.low unit op) may.1 (callee y unit op) (c.calls unit op may.0);
     tasks = λ i t at. block-weaken (IsMadeFrom c.reach t.priority) (Inside (AllRise y c.reach i) [])
-        (λ unit op h. (h.0, (let same : priority_at y i ≡ t.priority = priority-at y i t at in let low : t.priority ≤ c.reach.low unit op = h.1 in omega arith))) false t.block (c.tasks i t at);
+        (λ unit op h. (
+          h.0,
+          (let same : priority_at y i ≡ t.priority = priority-at y i t at in let low : t.priority ≤ c.reach.low unit op = h.1
+              in omega arith),
+        )) false t.block (c.tasks i t at);
   }
     where
-      by : (base : ℕ) (ss : List Resource) (n : ℕ) → level y base ss ≤ n → (x : CallTarget) → RisesTo y c.reach n x → LeadsWithin (Rises y c.reach base) x ss
-      by base ss n low (Plain o) rises = block-weaken (IsMadeFrom c.reach n) (Inside (Rises y c.reach base) ss) (λ unit op h. (h.0, le_trans low h.1)) false o.block rises
+      by : (base : ℕ) (ss : List Resource) (n : ℕ) → level y base ss ≤ n → (x : CallTarget) → RisesTo y c.reach n x
+          → LeadsWithin (Rises y c.reach base) x ss
+      by base ss n low (Plain o) rises = block-weaken (IsMadeFrom c.reach n) (Inside (Rises y c.reach base) ss)
+          (λ unit op h. (h.0, le_trans low h.1)) false o.block rises
       by base ss n low (Protected object j g o) rises = rises.1
       by base ss n low (Request task) rises = tt
       by base ss n low Unknown rises = tt
 
   -- a section that is entered has a ceiling of at least the active priority
-  pub entry-low : (i : ℕ) (t : Task) (section : Resource) → IsSound y (AllRise y c.reach i) i t → IsEntered y (AllRise y c.reach i) section (sections t) → t.active ≤ ceiling_of y section
+  pub entry-low : (i : ℕ) (t : Task) (section : Resource) → IsSound y (AllRise y c.reach i) i t
+      → IsEntered y (AllRise y c.reach i) section (sections t) → t.active ≤ ceiling_of y section
   entry-low i t section sound e =
       let base : priority_at y i ≡ t.thread.priority = priority-at y i t.thread sound.written in
       let active : t.active ≡ level y t.thread.priority (sections t) = stacked-level y t.thread.priority t.active t.inside sound.stacked in
@@ -57,9 +66,11 @@ module _ (y : System) (c : IsCeiled y) where
       let high = by (callee y e.unit e.op) (c.calls e.unit e.op e.may.0) e.enters in
       omega (arith, now, low, high)
     where
-      by : (x : CallTarget) → RisesTo y c.reach (c.reach.low e.unit e.op) x → entered_by x ≡ Some section → c.reach.low e.unit e.op ≤ ceiling_of y section
+      by : (x : CallTarget) → RisesTo y c.reach (c.reach.low e.unit e.op) x → entered_by x ≡ Some section
+          → c.reach.low e.unit e.op ≤ ceiling_of y section
       by (Plain o) rises enters = absurd (none-some section enters)
-      by (Protected object j g o) rises enters = subst (λ z. c.reach.low e.unit e.op ≤ ceiling_of y z) (same_Some (Object object) section enters) rises.0
+      by (Protected object j g o) rises enters = subst (λ z. c.reach.low e.unit e.op ≤ ceiling_of y z)
+          (same_Some (Object object) section enters) rises.0
       by (Request task) rises enters = subst (λ z. c.reach.low e.unit e.op ≤ ceiling_of y z) (same_Some (Control task) section enters) rises
       by Unknown rises enters = absurd (none-some section enters)
 
@@ -85,15 +96,18 @@ module _ (y : System) (c : IsCeiled y) where
           served false = tt
 
   module _ (s : State) (keeps : Keeps y (AllRise y c.reach) s) where
-    entry-goes-on : (i : ℕ) (t : Task) (section : Resource) (told : List Event) (vars' : Variables) (ps : List Piece) → t.active ≤ ceiling_of y section → GoOn told
+    entry-goes-on : (i : ℕ) (t : Task) (section : Resource) (told : List Event) (vars' : Variables) (ps : List Piece)
+        → t.active ≤ ceiling_of y section → GoOn told
         → GoOn (entry y i t section told vars' ps s).1
     entry-goes-on i t section told vars' ps low goes = by (nat_lt (ceiling_of y section) t.active) refl
       where
-        by : (b : Bool) → nat_lt (ceiling_of y section) t.active ≡ b → GoOn (if b then stopped_at y t section s else entered_at y i section told vars' ps s).1
+        by : (b : Bool) → nat_lt (ceiling_of y section) t.active ≡ b
+            → GoOn (if b then stopped_at y t section s else entered_at y i section told vars' ps s).1
         by true e = absurd (let above : ceiling_of y section < t.active = grind arith in omega arith)
         by false e = goes
 
-    acted-goes-on : (i : ℕ) (t : Task) → Stands s.tasks i t → (act : Act) (vars' : Variables) (ps : List Piece) → ActFits y (AllRise y c.reach i) (closers t.pieces) act ps
+    acted-goes-on : (i : ℕ) (t : Task) → Stands s.tasks i t → (act : Act) (vars' : Variables) (ps : List Piece)
+        → ActFits y (AllRise y c.reach i) (closers t.pieces) act ps
         → GoOn (acted y i t act vars' ps s).1
     acted-goes-on i t stands Silent vars' ps act = tt
     acted-goes-on i t stands (Print v) vars' ps act = (tt, tt)
@@ -123,7 +137,8 @@ module _ (y : System) (c : IsCeiled y) where
             piece [] g = tt
             piece (p ∷ ps) g = now (t.left == 0)
               where
-                now : (b : Bool) → GoOn (if b then acted y i t (done y p t.vars ps).act (done y p t.vars ps).vars (done y p t.vars ps).pieces s else goes_to Delays s).1
+                now : (b : Bool) → GoOn (if b then acted y i t (done y p t.vars ps).act (done y p t.vars ps).vars
+                    (done y p t.vars ps).pieces s else goes_to Delays s).1
                 now true =
                     let sound = keeps.sound i t f in
                     let d = done-fits y (AllRise y c.reach i) (rises-text.closed i) p t.vars ps (subst (AreFit (AllRise y c.reach i)) g sound.fits) in
@@ -144,14 +159,20 @@ module _ (y : System) (c : IsCeiled y) where
 
         arrive : (a : Arrival) (others : List Arrival) (o : Option (ℕ × Task)) → GoOn (arrive_at y a o (record s { arrivals = others })).1
         arrive a others None = tt
-        arrive a others (Some t) =
-            (tt, serve-goes-on t.0 (record s { arrivals = others; tasks = change t.0 (λ u. record u { gate = record { value = a.value; open' = true } }) s.tasks }))
+        arrive a others (Some t) = (
+          tt,
+          serve-goes-on t.0 (record s {
+            arrivals = others;
+            tasks = change t.0 (λ u. record u { gate = record { value = a.value; open' = true } }) s.tasks;
+          }),
+        )
 
         by : (zs : List Arrival) → GoOn (arrival_step y zs s).1
         by [] = horizon (s.time == y.until)
         by (a ∷ others) = now (a.time == s.time)
           where
-            now : (b : Bool) → GoOn (if b then arrive_at y a (first_where (λ t. t.thread.unit == a.task) s.tasks) (record s { arrivals = others }) else horizon_step y s).1
+            now : (b : Bool) → GoOn (if b then arrive_at y a (first_where (λ t. t.thread.unit == a.task) s.tasks)
+                (record s { arrivals = others }) else horizon_step y s).1
             now true = arrive a others (first_where (λ t. t.thread.unit == a.task) s.tasks)
             now false = horizon (s.time == y.until)
 
@@ -176,7 +197,8 @@ module _ (y : System) (c : IsCeiled y) where
   run-goes-on : (n : ℕ) (s : State) → Keeps y (AllRise y c.reach) s → GoOn (run y n s).1
   run-goes-on zero s keeps = tt
   run-goes-on (suc n) s keeps =
-      each-append GoesOn (step y s).1 (run y n (step y s).0).1 (step-goes-on s keeps) (run-goes-on n (step y s).0 (step-keeps y (AllRise y c.reach) rises-text s keeps))
+      each-append GoesOn (step y s).1 (run y n (step y s).0).1 (step-goes-on s keeps)
+      (run-goes-on n (step y s).0 (step-keeps y (AllRise y c.reach) rises-text s keeps))
 
   -- no run stops at a ceiling
   pub rest-goes-on : (as' : List Arrival) (told : List Event) → Rest y (opening y as') told → Each GoesOn told

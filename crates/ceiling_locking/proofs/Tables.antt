@@ -24,7 +24,8 @@ use Rattle.ceiling_locking.proofs.Limited.{AreBounded, is-limited}
 use Rattle.ceiling_locking.proofs.Ceiled.{is-ceiled}
 
 -- items of two lists at one place
-pub zipped-at : {A B : Type 0} (R : A → B → Type 0) (xs : List A) (ys : List B) (i : ℕ) (x : A) (y : B) → AllZip R xs ys → slice_get xs i ≡ Some x → slice_get ys i ≡ Some y → R x y
+pub zipped-at : {A B : Type 0} (R : A → B → Type 0) (xs : List A) (ys : List B) (i : ℕ) (x : A) (y : B) → AllZip R xs ys → slice_get xs i ≡ Some x
+    → slice_get ys i ≡ Some y → R x y
 zipped-at R [] ys i x y h e f = absurd (none-some x e)
 zipped-at R (z ∷ xs) [] i x y h e f = absurd (none-some y f)
 zipped-at R (z ∷ xs) (w ∷ ys) zero x y h e f = subst₂ R (same_Some z x e) (same_Some w y f) h.0
@@ -46,7 +47,8 @@ never-stops p (event.Horizon time ∷ trace) h = never-stops p trace h.1
 -- no run of a program with a table has a stop
 pub tabled-goes-on : (p : Program) (ts : List Ranked) (rows : List ThreadRow) (a : Arrivals) (trace : List Event)
     → MeetsRules p → AreTabled p ts rows → Meaning p a trace → NeverStops (named p trace)
-tabled-goes-on p ts rows a trace rules tabled meaning = never-stops p trace (rest-goes-on (system p a) (is-ceiled p a rules tabled.ceilings tabled.inner_ceilings) a.items trace meaning)
+tabled-goes-on p ts rows a trace rules tabled meaning
+    = never-stops p trace (rest-goes-on (system p a) (is-ceiled p a rules tabled.ceilings tabled.inner_ceilings) a.items trace meaning)
 
 -- the blocking of a row bounds the sections of lower tasks
 pub row-bounds : (p : Program) (ts : List Ranked) (rows : List ThreadRow) (i : ℕ) (t : Ranked) (row : ThreadRow)
@@ -59,4 +61,5 @@ pub tabled-blocks : (p : Program) (ts : List Ranked) (rows : List ThreadRow) (a 
     → (run (system p a) m (start p a)).0.phase ≡ Use → IsPendingThrough (system p a) t.priority n (run (system p a) m (start p a)).0
     → others (system p a) t.priority n (run (system p a) m (start p a)).0 ≤ row.block
 tabled-blocks p ts rows a i t row m n rules tabled at at' phase pending =
-    run-blocked (system p a) t.priority row.block (is-limited p a rules t.priority row.block (row-bounds p ts rows i t row tabled at at')) a.items m n phase pending
+    run-blocked (system p a) t.priority row.block (is-limited p a rules t.priority row.block (row-bounds p ts rows i t row tabled at at')) a.items m n
+    phase pending

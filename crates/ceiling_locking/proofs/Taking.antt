@@ -1,5 +1,6 @@
 -- A task takes a request from its control structure only while nobody is inside that.
-use Rattle.std.specs.Prelude.{◌≡◌, ◌≤◌, ◌<◌, ◌&&◌, ℕ, Bool, true, false, nat_lt, List, [], ◌∷◌, drop, slice_get, Option, Some, None, option_map, unwrap_or, ◌==◌, if◌then◌else◌, refl}
+use Rattle.std.specs.Prelude.{◌≡◌, ◌≤◌, ◌<◌, ◌&&◌, ℕ, Bool, true, false, nat_lt, List, [], ◌∷◌, drop, slice_get, Option, Some, None, option_map}
+use Rattle.std.specs.Prelude.{unwrap_or, ◌==◌, if◌then◌else◌, refl}
 use Rattle.std.proofs.Common.{sym, ◌∙◌, ap, subst, arith, inl}
 use Rattle.std.proofs.lemmas.Option.{same_Some}
 use Rattle.seq_tree.specs.Lists.{Each, change, first_where}
@@ -9,11 +10,13 @@ use Rattle.trace_tree.specs.declared.event.Event.TheVariants as event
 use Rattle.machine.specs.Systems.{System, ReleasePattern, Periodic, Requested}
 use Rattle.machine.specs.Pieces.{Piece}
 use Rattle.machine.specs.Deeds.{Act, Silent, Print, Enter, Leave, Ask, Keep, Open, Ended, Finish, done}
-use Rattle.machine.specs.States.{State, Task, Phase, Effects, Delays, Arriving, Use, Readiness, Asleep, Waiting, Ready, Resource, Object, Control, Held}
+use Rattle.machine.specs.States.{State, Task, Phase, Effects, Delays, Arriving, Use, Readiness, Asleep, Waiting, Ready, Resource, Object}
+use Rattle.machine.specs.States.{Control, Held}
 use Rattle.machine.specs.Effects.{ceiling_of, ceiling_by, stopped_at, entered_at, exit, ended, acted, object_unit, outside_now, outside_by}
 use Rattle.machine.specs.Dispatch.{dispatched}
 use Rattle.machine.specs.Releases.{Next, going, released, release_task, release, is_waiting, serve_task, serve}
-use Rattle.machine.specs.Steps.{goes_to, effect_of, effect_at, effect_step, is_due, delay_step, horizon_step, arrive_at, arrival_step, use_step, step_in, step}
+use Rattle.machine.specs.Steps.{goes_to, effect_of, effect_at, effect_step, is_due, delay_step, horizon_step, arrive_at, arrival_step, use_step}
+use Rattle.machine.specs.Steps.{step_in, step}
 use Rattle.ceiling_locking.proofs.Pieces.{closers, AreFit}
 use Rattle.ceiling_locking.specs.Sections.{Stands, sections, IsAmong, IsFree, TakesFree}
 use Rattle.ceiling_locking.proofs.Kept.{IsPeriodic, IsRequested, IsAtRest, IsKept, runner}
@@ -53,7 +56,8 @@ module _ (y : System) (as' : List Arrival) (ex : MayExclude y as') where
   there-same : (ts us : List Task) (i : ℕ) (f : Task → Task) → us ≡ change i f ts → ((t : Task) → (f t).thread ≡ t.thread) → AreThere ts → AreThere us
   there-same ts us i f is same there j u at =
       changed i j f ts u (subst (λ xs. slice_get xs j ≡ Some u) is at)
-      (λ t place at' e. subst (λ k. slice_get y.threads k ≡ Some u.thread) (sym place) (there i t at' ∙ ap Some (sym (ap (λ x. x.thread) e ∙ same t))))
+      (λ t place at' e. subst (λ k. slice_get y.threads k ≡ Some u.thread) (sym place)
+      (there i t at' ∙ ap Some (sym (ap (λ x. x.thread) e ∙ same t))))
       (λ not at'. there j u at')
 
   exit-thread : (vars' : Variables) (ps : List Piece) (t : Task) → (going y.costs vars' ps (outside_now t)).thread ≡ t.thread
@@ -73,7 +77,8 @@ module _ (y : System) (as' : List Arrival) (ex : MayExclude y as') where
           same : faces (change k (released y.costs) s.tasks) ≡ faces s.tasks
           same = faces-same k (released y.costs) s.tasks (released-face y.costs)
 
-          takes : (j : ℕ) (u : Task) → Stands (change k (released y.costs) s.tasks) j u → u.thread.unit ≡ t.thread.unit → IsFree (change k (released y.costs) s.tasks) (Control j)
+          takes : (j : ℕ) (u : Task) → Stands (change k (released y.costs) s.tasks) j u → u.thread.unit ≡ t.thread.unit
+              → IsFree (change k (released y.costs) s.tasks) (Control j)
           takes j u at unit =
               let found = face-at s.tasks j (face u) (ap (λ fs. slice_get fs j) (sym same) ∙ at-face (change k (released y.costs) s.tasks) j u at) in
               let one : j ≡ k = ex.units j k found.0.thread t.thread (there j found.0 found.1) (there k t e) (ap (λ f. f.0) found.2 ∙ unit) in
@@ -103,13 +108,16 @@ module _ (y : System) (as' : List Arrival) (ex : MayExclude y as') where
         let same : t.thread ≡ is.0 = same_Some t.thread is.0 (sym (there k t at) ∙ is.1) in
         (subst (λ th. IsRequested th.timing) (sym same) is.2, is.3)
 
-    module _ (i : ℕ) (t : Task) (stands : Stands s.tasks i t) (kept : IsKept y (AllFall ex.ranking) (Some i) s.tasks s.orders) (closes : closers t.pieces ≡ sections t) where
-      left-free : (k : ℕ) (vars' : Variables) (ps : List Piece) → closers t.pieces ≡ Control k ∷ closers ps → IsFree (exit y i vars' ps s).tasks (Control k)
+    module _ (i : ℕ) (t : Task) (stands : Stands s.tasks i t) (kept : IsKept y (AllFall ex.ranking) (Some i) s.tasks s.orders)
+        (closes : closers t.pieces ≡ sections t) where
+      left-free : (k : ℕ) (vars' : Variables) (ps : List Piece) → closers t.pieces ≡ Control k ∷ closers ps
+          → IsFree (exit y i vars' ps s).tasks (Control k)
       left-free k vars' ps act (j, u, at, among) =
           changed i j out_of (faces s.tasks) (face u)
           (ap (λ fs. slice_get fs j) (sym (exit-faces y i vars' ps s.tasks)) ∙ at-face (exit y i vars' ps s).tasks j u at)
           (λ f is at' e. mine f at' (subst (λ g. IsAmong (Control k) g.1) e among))
-          (λ not at'. let found = face-at s.tasks j (face u) at' in not (x.keeps.alone j i found.0 t (Control k) found.1 stands (subst (λ g. IsAmong (Control k) g.1) (sym found.2) among) inside))
+          (λ not at'. let found = face-at s.tasks j (face u) at'
+          in not (x.keeps.alone j i found.0 t (Control k) found.1 stands (subst (λ g. IsAmong (Control k) g.1) (sym found.2) among) inside))
         where
           inside : IsAmong (Control k) (sections t)
           inside = subst (IsAmong (Control k)) (sym (sym closes ∙ act)) (inl refl)
@@ -133,21 +141,26 @@ module _ (y : System) (as' : List Arrival) (ex : MayExclude y as') where
               let other : i ≡ j → ⊥ = λ h. grind arith in
               let inside = among-inside (Control i) u.inside among in
               let below : u.active < t.thread.priority = kept.runs i j t u inside.0 inside.1 refl stands at other inside.2 in
-              let held : ceiling_of y (Control i) ≤ u.active = stacked-ceiling y u.thread.priority u.active u.inside (Control i) (kept.sound j u at).stacked among in
+              let held : ceiling_of y (Control i) ≤ u.active
+              = stacked-ceiling y u.thread.priority u.active u.inside (Control i) (kept.sound j u at).stacked among in
               let written : slice_get y.threads i ≡ Some t.thread = there i t stands in
-              let ceiling : ceiling_of y (Control i) ≡ ceiling_by t.thread.timing = ap (λ o. unwrap_or (option_map (λ th. ceiling_by th.timing) o) 0) written in
-              covers t.thread.timing (inside-there i j t u stands at among).0 (ex.covered i t.thread written) (let top : ceiling_by t.thread.timing < t.thread.priority = omega arith in top)
+              let ceiling : ceiling_of y (Control i) ≡ ceiling_by t.thread.timing
+              = ap (λ o. unwrap_or (option_map (λ th. ceiling_by th.timing) o) 0) written in
+              covers t.thread.timing (inside-there i j t u stands at among).0 (ex.covered i t.thread written)
+              (let top : ceiling_by t.thread.timing < t.thread.priority = omega arith in top)
             where
               covers : (timing : ReleasePattern) → IsRequested timing → IsCovered t.thread.priority timing → ceiling_by timing < t.thread.priority → ⊥
               covers (Periodic offset period) asked covered low = asked
               covers (Requested op ceiling separation jitter external) asked covered low = omega arith
 
-      acted-takes : (act : Act) (vars' : Variables) (ps : List Piece) → ActFits y (Falls ex.ranking) (closers t.pieces) act ps → Takes (acted y i t act vars' ps s)
+      acted-takes : (act : Act) (vars' : Variables) (ps : List Piece) → ActFits y (Falls ex.ranking) (closers t.pieces) act ps
+          → Takes (acted y i t act vars' ps s)
       acted-takes Silent vars' ps act = tt
       acted-takes (Print v) vars' ps act = (tt, tt)
       acted-takes (Enter object op values) vars' ps act = by (nat_lt (ceiling_of y (Object object)) t.active)
         where
-          by : (b : Bool) → Takes (if b then stopped_at y t (Object object) s else entered_at y i (Object object) (event.Enter s.time t.thread.unit (object_unit y object) op values ∷ []) vars' ps s)
+          by : (b : Bool) → Takes (if b then stopped_at y t (Object object) s else entered_at y i (Object object)
+              (event.Enter s.time t.thread.unit (object_unit y object) op values ∷ []) vars' ps s)
           by true = (tt, tt)
           by false = (tt, tt)
       acted-takes (Leave object op values data') vars' ps act = (tt, tt)
@@ -160,13 +173,16 @@ module _ (y : System) (as' : List Arrival) (ex : MayExclude y as') where
       acted-takes (Open task) vars' ps act = tt
       acted-takes (Ended task v) vars' ps act = (
         tt,
-        serve-takes task (exit y i vars' ps s) (there-same s.tasks (exit y i vars' ps s).tasks i (λ u. going y.costs vars' ps (outside_now u)) refl (λ u. exit-thread vars' ps u) there)
+        serve-takes task (exit y i vars' ps s) (there-same s.tasks (exit y i vars' ps s).tasks i (λ u. going y.costs vars' ps (outside_now u)) refl
+            (λ u. exit-thread vars' ps u) there)
             (left-free task vars' ps act),
       )
       acted-takes Finish vars' ps act = (
         tt,
-        serve-takes i (record s { tasks = change i (ended vars') s.tasks }) (there-same s.tasks (change i (ended vars') s.tasks) i (ended vars') refl (λ u. refl) there)
-            (free-same s.tasks (change i (ended vars') s.tasks) (Control i) (faces-same i (ended vars') s.tasks (λ u. refl)) (own-free (sym closes ∙ act.0))),
+        serve-takes i (record s { tasks = change i (ended vars') s.tasks })
+            (there-same s.tasks (change i (ended vars') s.tasks) i (ended vars') refl (λ u. refl) there)
+            (free-same s.tasks (change i (ended vars') s.tasks) (Control i) (faces-same i (ended vars') s.tasks (λ u. refl))
+            (own-free (sym closes ∙ act.0))),
       )
 
     effect-takes : s.phase ≡ Effects → Takes (effect_step y s.ran s)
@@ -187,10 +203,12 @@ module _ (y : System) (as' : List Arrival) (ex : MayExclude y as') where
                 piece [] g = tt
                 piece (p ∷ ps) g = now (t.left == 0)
                   where
-                    now : (b : Bool) → Takes (if b then acted y i t (done y p t.vars ps).act (done y p t.vars ps).vars (done y p t.vars ps).pieces s else goes_to Delays s)
+                    now : (b : Bool) → Takes (if b then acted y i t (done y p t.vars ps).act (done y p t.vars ps).vars
+                        (done y p t.vars ps).pieces s else goes_to Delays s)
                     now true =
                         let sound = x.keeps.sound i t f in
-                        let d = done-fits y (Falls ex.ranking) ((falls-text y as' ex).closed i) p t.vars ps (subst (AreFit (Falls ex.ranking)) g sound.fits) in
+                        let d = done-fits y (Falls ex.ranking) ((falls-text y as' ex).closed i) p t.vars ps
+                        (subst (AreFit (Falls ex.ranking)) g sound.fits) in
                         acted-takes i t f kept sound.closes (done y p t.vars ps).act (done y p t.vars ps).vars (done y p t.vars ps).pieces
                         (subst (λ xs. ActFits y (Falls ex.ranking) (closers xs) (done y p t.vars ps).act (done y p t.vars ps).pieces) (sym g) d.1)
                     now false = tt
@@ -226,9 +244,11 @@ module _ (y : System) (as' : List Arrival) (ex : MayExclude y as') where
         by (a ∷ others) e = now (a.time == s.time)
           where
             elsewhere : (k : ℕ) → Each (IsElsewhere y k) as' → IsElsewhere y k a
-            elsewhere k each = let each' : Each (IsElsewhere y k) (a ∷ others) = subst (Each (IsElsewhere y k)) (sym x.left ∙ e) (each-drop (IsElsewhere y k) x.past as' each) in each'.0
+            elsewhere k each = let each' : Each (IsElsewhere y k) (a ∷ others)
+                = subst (Each (IsElsewhere y k)) (sym x.left ∙ e) (each-drop (IsElsewhere y k) x.past as' each) in each'.0
 
-            arrive : (o : Option (ℕ × Task)) → first_where (λ t. t.thread.unit == a.task) s.tasks ≡ o → Takes (arrive_at y a o (record s { arrivals = others }))
+            arrive : (o : Option (ℕ × Task)) → first_where (λ t. t.thread.unit == a.task) s.tasks ≡ o
+                → Takes (arrive_at y a o (record s { arrivals = others }))
             arrive None f = tt
             arrive (Some t) f =
                 let found = first-where (λ z. z.thread.unit == a.task) s.tasks t.0 t.1 f in
@@ -244,7 +264,8 @@ module _ (y : System) (as' : List Arrival) (ex : MayExclude y as') where
                 same-unit : (m n : ℕ) → (m == n) ≡ true → m ≡ n
                 same-unit m n h = grind arith
 
-            now : (b : Bool) → Takes (if b then arrive_at y a (first_where (λ t. t.thread.unit == a.task) s.tasks) (record s { arrivals = others }) else horizon_step y s)
+            now : (b : Bool) → Takes (if b then arrive_at y a (first_where (λ t. t.thread.unit == a.task) s.tasks)
+                (record s { arrivals = others }) else horizon_step y s)
             now true = arrive (first_where (λ t. t.thread.unit == a.task) s.tasks) refl
             now false = horizon (s.time == y.until)
 

@@ -1,5 +1,6 @@
 -- Mutual exclusion: in every run the passages of an object are an enter and a leave of the same task, again and again.
-use Rattle.std.specs.Prelude.{◌≡◌, ◌≢◌, ◌⊎◌, ◌++◌, ℕ, zero, suc, Bool, true, false, List, [], ◌∷◌, map, drop, slice_get, Option, Some, None, option_map, unwrap_or, ◌==◌, if◌then◌else◌, refl}
+use Rattle.std.specs.Prelude.{◌≡◌, ◌≢◌, ◌⊎◌, ◌++◌, ℕ, zero, suc, Bool, true, false, List, [], ◌∷◌, map, drop, slice_get, Option, Some, None}
+use Rattle.std.specs.Prelude.{option_map, unwrap_or, ◌==◌, if◌then◌else◌, refl}
 use Rattle.std.proofs.Common.{sym, ◌∙◌, ap, subst, arith, inl, inr}
 use Rattle.std.proofs.lemmas.Option.{none-some, same_Some, slice_get-map}
 use Rattle.seq_tree.specs.Lists.{change}
@@ -31,7 +32,8 @@ IsHeldBy y fs u None = (i object : ℕ) (f : Face) → slice_get fs i ≡ Some f
 IsHeldBy y fs u (Some task) =
     (i : ℕ) × (object : ℕ) × (f : Face) × (slice_get fs i ≡ Some f) × IsAmong (Object object) f.1 × (object_unit y object ≡ u) × (f.0 ≡ task)
 
-pub among-there : (y : System) (as' : List Arrival) (section : Resource) (ss : List Resource) → AreHeld y as' ss → IsAmong section ss → IsThere y as' section
+pub among-there : (y : System) (as' : List Arrival) (section : Resource) (ss : List Resource) → AreHeld y as' ss → IsAmong section ss
+    → IsThere y as' section
 among-there y as' section [] h a = absurd a
 among-there y as' section (z ∷ ss) h (inl is) = subst (IsThere y as') is h.1
 among-there y as' section (z ∷ ss) h (inr a) = among-there y as' section ss h.2 a
@@ -78,12 +80,14 @@ module _ (y : System) (as' : List Arrival) (ex : MayExclude y as') (s : State) (
   same-holder i j a f g af ag among among' =
       let p = face-at s.tasks i f af in
       let q = face-at s.tasks j g ag in
-      x.keeps.alone i j p.0 q.0 (Object a) p.1 q.1 (subst (λ z. IsAmong (Object a) z.1) (sym p.2) among) (subst (λ z. IsAmong (Object a) z.1) (sym q.2) among')
+      x.keeps.alone i j p.0 q.0 (Object a) p.1 q.1 (subst (λ z. IsAmong (Object a) z.1) (sym p.2) among)
+      (subst (λ z. IsAmong (Object a) z.1) (sym q.2) among')
 
   module _ (n : Next) (i : ℕ) (t : Task) (section : Resource) where
     -- the entry of a section that isn't the object of this unit
     enters-other : (e : Stands s.tasks i t) → faces n.0.tasks ≡ change i (into section) (faces s.tasks)
-        → ((a : ℕ) → section ≡ Object a → object_unit y a ≡ u → ⊥) → (o : Option ℕ) → IsHeldBy y (faces s.tasks) u o → IsHeldBy y (faces n.0.tasks) u o
+        → ((a : ℕ) → section ≡ Object a → object_unit y a ≡ u → ⊥) → (o : Option ℕ) → IsHeldBy y (faces s.tasks) u o
+        → IsHeldBy y (faces n.0.tasks) u o
     enters-other e changes other None held = λ j a f at among is.
         changed i j (into section) (faces s.tasks) f (ap (λ fs. slice_get fs j) (sym changes) ∙ at)
         (λ g here there same. by j a f g is there (subst (λ z. IsAmong (Object a) z.1) same among))
@@ -107,7 +111,8 @@ module _ (y : System) (as' : List Arrival) (ex : MayExclude y as') (s : State) (
             (held.0, held.1, held.2, now held.0 ∙ change-else i held.0 (into section) (faces s.tasks) not ∙ held.3, held.4, held.5, held.6)
 
     leaves-other : (others : List Resource) → Stands s.tasks i t → sections t ≡ section ∷ others → faces n.0.tasks ≡ change i out_of (faces s.tasks)
-        → ((a : ℕ) → section ≡ Object a → object_unit y a ≡ u → ⊥) → (o : Option ℕ) → IsHeldBy y (faces s.tasks) u o → IsHeldBy y (faces n.0.tasks) u o
+        → ((a : ℕ) → section ≡ Object a → object_unit y a ≡ u → ⊥) → (o : Option ℕ) → IsHeldBy y (faces s.tasks) u o
+        → IsHeldBy y (faces n.0.tasks) u o
     leaves-other others stands inside changes other None held = λ j a f at among is.
         changed i j out_of (faces s.tasks) f (ap (λ fs. slice_get fs j) (sym changes) ∙ at)
         (λ g here there same. held i a g there (fewer-among (Object a) g.1 (subst (λ z. IsAmong (Object a) z.1) same among)) is)
@@ -169,7 +174,8 @@ module _ (y : System) (as' : List Arrival) (ex : MayExclude y as') (s : State) (
       first unit tells' (Some w) held' =
           let found = face-at s.tasks held'.0 held'.2 held'.3 in
           let there = (falls-bars y as' ex (Object object) (sections t) e.entered).1 in
-          let there' = among-there y as' (Object held'.1) (held'.2).1 (subst (λ z. AreHeld y as' z.1) found.2 (x.held held'.0 found.0 found.1)) held'.4 in
+          let there' = among-there y as' (Object held'.1) (held'.2).1
+          (subst (λ z. AreHeld y as' z.1) found.2 (x.held held'.0 found.0 found.1)) held'.4 in
           let one : held'.1 ≡ object = ex.objects held'.1 object there'.0 there.0 there'.1 there.1
           (sym (unit-of y held'.1 there'.0 there'.1) ∙ held'.5 ∙ sym unit ∙ unit-of y object there.0 there.1) in
           absurd (entry-free y as' ex s x i t (Object object) e (
@@ -210,9 +216,12 @@ module _ (y : System) (as' : List Arrival) (ex : MayExclude y as') (s : State) (
           → (p : Option ℕ) → IsHeldBy y (faces s.tasks) u p → Turn y u n p
       last unit tells' None held' = absurd (held' i object (face t) (at-face s.tasks i t l.stands) inside unit)
       last unit tells' (Some w) held' =
-          let one : held'.1 ≡ object = same-object held'.0 i held'.1 object held'.2 (face t) held'.3 (at-face s.tasks i t l.stands) held'.4 inside (held'.5 ∙ sym unit) in
-          let place : held'.0 ≡ i = same-holder held'.0 i object held'.2 (face t) held'.3 (at-face s.tasks i t l.stands) (subst (λ k. IsAmong (Object k) (held'.2).1) one held'.4) inside in
-          let mine : face t ≡ held'.2 = same_Some (face t) held'.2 (sym (at-face s.tasks i t l.stands) ∙ subst (λ k. slice_get (faces s.tasks) k ≡ Some held'.2) place held'.3) in
+          let one : held'.1 ≡ object = same-object held'.0 i held'.1 object held'.2 (face t) held'.3 (at-face s.tasks i t l.stands) held'.4 inside
+          (held'.5 ∙ sym unit) in
+          let place : held'.0 ≡ i = same-holder held'.0 i object held'.2 (face t) held'.3 (at-face s.tasks i t l.stands)
+          (subst (λ k. IsAmong (Object k) (held'.2).1) one held'.4) inside in
+          let mine : face t ≡ held'.2 = same_Some (face t) held'.2 (sym (at-face s.tasks i t l.stands) ∙ subst (λ k. slice_get (faces s.tasks) k
+          ≡ Some held'.2) place held'.3) in
           record {
             next = None;
             held = λ j a f at among is.
@@ -228,7 +237,8 @@ module _ (y : System) (as' : List Arrival) (ex : MayExclude y as') (s : State) (
           gone a g is there among =
               let same : face t ≡ g = same_Some (face t) g (sym (at-face s.tasks i t l.stands) ∙ there) in
               let among' : IsAmong (Object a) (drop 1 (sections t)) = subst (λ z. IsAmong (Object a) (drop 1 z.1)) (sym same) among in
-              let one' : a ≡ object = same-object i i a object (face t) (face t) (at-face s.tasks i t l.stands) (at-face s.tasks i t l.stands) (fewer-among (Object a) (sections t) among') inside (is ∙ sym unit) in
+              let one' : a ≡ object = same-object i i a object (face t) (face t) (at-face s.tasks i t l.stands) (at-face s.tasks i t l.stands)
+              (fewer-among (Object a) (sections t) among') inside (is ∙ sym unit) in
               let once : AreHeld y as' (Object object ∷ l.others) = subst (AreHeld y as') l.inside (x.held i t l.stands) in
               once.0 (subst (λ k. IsAmong (Object k) l.others) one' (subst (λ ss. IsAmong (Object a) (drop 1 ss)) l.inside among'))
 
@@ -248,7 +258,8 @@ module _ (y : System) (as' : List Arrival) (ex : MayExclude y as') (s : State) (
 
 module _ (y : System) (as' : List Arrival) (ex : MayExclude y as') where
   -- the turns of a unit from a state on
-  run-turns : (u n : ℕ) (s : State) → Excludes y as' ex.ranking s → (o : Option ℕ) → IsHeldBy y (faces s.tasks) u o → TakesTurnsFrom o (passages u (run y n s).1)
+  run-turns : (u n : ℕ) (s : State) → Excludes y as' ex.ranking s → (o : Option ℕ) → IsHeldBy y (faces s.tasks) u o
+      → TakesTurnsFrom o (passages u (run y n s).1)
   run-turns u zero s x None held = tt
   run-turns u zero s x (Some w) held = tt
   run-turns u (suc n) s x o held =
@@ -259,7 +270,8 @@ module _ (y : System) (as' : List Arrival) (ex : MayExclude y as') where
   nobody : (u : ℕ) → IsHeldBy y (faces (map first_task y.threads)) u None
   nobody u i object f at among is =
       let found = face-at (map first_task y.threads) i f at in
-      by (slice_get y.threads i) found.0 (sym (slice_get-map first_task y.threads i) ∙ found.1) (subst (λ z. IsAmong (Object object) z.1) (sym found.2) among)
+      by (slice_get y.threads i) found.0 (sym (slice_get-map first_task y.threads i) ∙ found.1)
+      (subst (λ z. IsAmong (Object object) z.1) (sym found.2) among)
     where
       by : (o : Option TaskUnit) (t : Task) → option_map first_task o ≡ Some t → IsAmong (Object object) (sections t) → ⊥
       by None t e a = absurd (none-some t e)

@@ -1,6 +1,8 @@
--- A worked program: two protected objects, one inside the other, and a task that waits for a lower one inside both. It meets the premises of each law of
+-- A worked program: two protected objects, one inside the other, and a task that waits for a lower one inside both. It meets the premises
+-- of each law of
 -- this room, and the lower task uses four ticks of the five that its outer section costs.
-use Rattle.std.specs.Prelude.{◌≡◌, ◌≤◌, ◌&&◌, ◌||◌, ℕ, zero, suc, Bool, true, false, nat_le, List, [], ◌∷◌, filter, flat_map, slice_get, Some, None, codes, refl}
+use Rattle.std.specs.Prelude.{◌≡◌, ◌≤◌, ◌&&◌, ◌||◌, ℕ, zero, suc, Bool, true, false, nat_le, List, [], ◌∷◌, filter, flat_map, slice_get, Some}
+use Rattle.std.specs.Prelude.{None, codes, refl}
 use Rattle.std.specs.List.{list_any}
 use Rattle.std.proofs.Common.{sym, ◌∙◌, subst, arith, inl, inr}
 use Rattle.std.proofs.lemmas.Bool.{false≢true, true≢false, and_parts}
@@ -75,7 +77,8 @@ abbrev p : Program
 p = record { name = codes "worked"; costs = one; units = outer_unit ∷ inner_unit ∷ low_unit ∷ high_unit ∷ [] }
 
 -- the rules, one by one
-at-each : (P : ℕ → Unit → Type 0) → P 0 outer_unit → P 1 inner_unit → P 2 low_unit → P 3 high_unit → (k : ℕ) (u : Unit) → slice_get p.units k ≡ Some u → P k u
+at-each : (P : ℕ → Unit → Type 0) → P 0 outer_unit → P 1 inner_unit → P 2 low_unit → P 3 high_unit → (k : ℕ) (u : Unit)
+    → slice_get p.units k ≡ Some u → P k u
 at-each P a b c d zero u e = subst (P 0) (same_Some outer_unit u e) a
 at-each P a b c d (suc zero) u e = subst (P 1) (same_Some inner_unit u e) b
 at-each P a b c d (suc (suc zero)) u e = subst (P 2) (same_Some low_unit u e) c
@@ -105,8 +108,10 @@ task-ends name none ring = by ring.0 ring.1
 -- there is no passive operation
 plain-calls : (c to : OpName) → Calls p c to → ⊥
 plain-calls c to e =
-    let op = in-some (λ (o : Operation). block_calls o.block) (passive_named p c) to (among-is (flat_map (λ (o : Operation). block_calls o.block) (passive_named p c)) to e) in
-    let found = in-filter (λ (o : Operation). same_name o.sig.name c.op) op.0 (flat_map (λ (u : Unit). passive_ops u.form) (filter (λ (u : Unit). same_name u.name c.object) p.units)) op.1 in
+    let op = in-some (λ (o : Operation). block_calls o.block) (passive_named p c) to
+    (among-is (flat_map (λ (o : Operation). block_calls o.block) (passive_named p c)) to e) in
+    let found = in-filter (λ (o : Operation). same_name o.sig.name c.op) op.0
+    (flat_map (λ (u : Unit). passive_ops u.form) (filter (λ (u : Unit). same_name u.name c.object) p.units)) op.1 in
     let unit = in-some (λ (u : Unit). passive_ops u.form) (filter (λ (u : Unit). same_name u.name c.object) p.units) op.0 found.0 in
     let at = place-of unit.0 p.units (in-filter (λ (u : Unit). same_name u.name c.object) unit.0 p.units unit.1).0 in
     subst (IsIn op.0) (at-each (λ k u. passive_ops u.form ≡ []) refl refl refl refl at.0 unit.0 at.1) unit.2
@@ -165,8 +170,29 @@ tabled = record {
   table = record {
     count = omega arith;
     each = (
-      record { asks = omega arith; before_next = omega arith; period = omega arith; works = omega arith; cost = omega arith; block = omega arith; jitter = omega arith; starter = tt },
-      (record { asks = omega arith; before_next = omega arith; period = omega arith; works = omega arith; cost = omega arith; block = omega arith; jitter = omega arith; starter = tt }, tt),
+      record {
+        asks = omega arith;
+        before_next = omega arith;
+        period = omega arith;
+        works = omega arith;
+        cost = omega arith;
+        block = omega arith;
+        jitter = omega arith;
+        starter = tt;
+      },
+      (
+        record {
+          asks = omega arith;
+          before_next = omega arith;
+          period = omega arith;
+          works = omega arith;
+          cost = omega arith;
+          block = omega arith;
+          jitter = omega arith;
+          starter = tt;
+        },
+        tt,
+      ),
     );
   };
   tasks = ((1, refl), ((0, refl), tt));
@@ -175,7 +201,10 @@ tabled = record {
   numbers = ((refl, omega arith), ((refl, omega arith), tt));
   ceilings = ((omega arith, tt), (tt, tt));
   inner_ceilings = (((omega arith, tt), tt), ((tt, tt), tt));
-  blocks = ((λ less. (λ up. omega arith, (λ up. omega arith, tt)), (λ less. tt, tt)), ((λ less. (λ up. omega (arith, less), (λ up. omega (arith, less), tt)), (λ less. tt, tt)), tt));
+  blocks = (
+    (λ less. (λ up. omega arith, (λ up. omega arith, tt)), (λ less. tt, tt)),
+    ((λ less. (λ up. omega (arith, less), (λ up. omega (arith, less), tt)), (λ less. tt, tt)), tt),
+  );
   started = (tt, (tt, tt));
 }
 

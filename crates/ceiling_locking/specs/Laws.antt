@@ -21,7 +21,8 @@ use Rattle.ceiling_locking.specs.Holders.{AreSafe}
 
 -- in every state that a program's run reaches the holders are safe
 abbrev pub HoldersAreSafe : ℕ → Type 0
-HoldersAreSafe limit = (p : Program) (a : Arrivals) (n : ℕ) → MeetsRules p → IsAccepted limit p a → AreSafe (system p a) (run (system p a) n (start p a)).0
+HoldersAreSafe limit = (p : Program) (a : Arrivals) (n : ℕ) → MeetsRules p → IsAccepted limit p a
+    → AreSafe (system p a) (run (system p a) n (start p a)).0
 
 -- no protected object of any program is ever inside two operations
 abbrev pub ObjectsExclude : ℕ → Type 0
@@ -40,7 +41,8 @@ SystemsExclude =
 
 -- no request finds a control structure held, and no task takes a value from a held one
 abbrev pub ControlsExclude : ℕ → Type 0
-ControlsExclude limit = (p : Program) (a : Arrivals) (n : ℕ) → MeetsRules p → IsAccepted limit p a → IsFreeStep (system p a) (run (system p a) n (start p a)).0
+ControlsExclude limit = (p : Program) (a : Arrivals) (n : ℕ) → MeetsRules p → IsAccepted limit p a
+    → IsFreeStep (system p a) (run (system p a) n (start p a)).0
 
 -- where all calls are made at ceilings of at least the active priority no run stops at a ceiling
 abbrev pub CeilingsHold : Type 0

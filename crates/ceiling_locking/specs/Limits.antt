@@ -33,7 +33,8 @@ CostsAtMost y level bound c n Unknown = ⊤
 pub record IsLimited (y : System) (level bound : ℕ) : Type 0 where
   pub costing : Costing
   pub exits : (unit op : Name) → HasExitsInLoops (callee y unit op)
-  pub tasks : (i : ℕ) (t : TaskUnit) → slice_get y.threads i ≡ Some t → BlockFits (λ unit op. t.priority < level → IsMade costing unit op) false t.block
+  pub tasks : (i : ℕ) (t : TaskUnit) → slice_get y.threads i ≡ Some t
+      → BlockFits (λ unit op. t.priority < level → IsMade costing unit op) false t.block
   pub calls : (unit op : Name) → IsMade costing unit op → CostsAtMost y level bound costing (costing.cost unit op) (callee y unit op)
   pub call : 0 < y.costs.call
 

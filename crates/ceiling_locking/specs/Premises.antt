@@ -4,7 +4,8 @@ use Rattle.std.specs.Prelude.{◌≡◌, ◌≤◌, ◌<◌, ℕ, Bool, true, fa
 use Rattle.seq_tree.specs.Names.{Name}
 use Rattle.seq_tree.specs.Lists.{Each}
 use Rattle.arrivals_tree.specs.declared.arrivals.Arrival.{Arrival}
-use Rattle.machine.specs.Systems.{System, TaskUnit, ProtectedUnit, ReleasePattern, Periodic, Requested, CallTarget, Plain, Protected, Request, Unknown, callee}
+use Rattle.machine.specs.Systems.{System, TaskUnit, ProtectedUnit, ReleasePattern, Periodic, Requested, CallTarget, Plain, Protected, Request}
+use Rattle.machine.specs.Systems.{Unknown, callee}
 use Rattle.ceiling_locking.specs.Bodies.{BlockFits}
 
 -- calls that are made somewhere, with ranks: a call of a protected object has at least the rank of the object

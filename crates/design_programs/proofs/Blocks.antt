@@ -50,16 +50,21 @@ needed-offer x o name off e =
     let r = in-made (λ n. option_map (λ p. record { object = n.object; sig = p.sig }) (operation_named x n)) o.needs off at.0 in
     by r.0 r.1 (and_parts (same_name off.object name.object) (same_name off.sig.name name.op) at.1) (operation_named x r.0) refl r.2
   where
-    by : (n : OpName) → IsIn n o.needs → (same_name off.object name.object ≡ true) × (same_name off.sig.name name.op ≡ true) → (p : Option Provided) → operation_named x n ≡ p
+    by : (n : OpName) → IsIn n o.needs → (same_name off.object name.object ≡ true) × (same_name off.sig.name name.op ≡ true) → (p : Option Provided)
+        → operation_named x n ≡ p
         → option_map (λ q. record { object = n.object; sig = q.sig }) p ≡ Some off → NeededOffer x o name off
     by n h both None k f = (let z : None ≡ Some off = f in cc)
     by n h both (Some p) k f =
-        let off-is : record { object = n.object; sig = p.sig } ≡ off = (let z : Some (record { object = n.object; sig = p.sig }) ≡ Some off = f in cc) in
+        let off-is : record { object = n.object; sig = p.sig } ≡ off
+        = (let z : Some (record { object = n.object; sig = p.sig }) ≡ Some off = f in cc) in
         let object : n.object ≡ name.object = ap (λ (z : Offer). z.object) off-is ∙ same-is off.object name.object both.0 in
         let op : n.op ≡ name.op = sym (provided-name x n p k) ∙ ap (λ (z : Offer). z.sig.name) off-is ∙ same-is off.sig.name name.op both.1 in
         let same : n ≡ name = ap (λ z. record { object = z; op = n.op }) object ∙ ap (λ z. record { object = name.object; op = z }) op in
         let P : OpName → Type 0 = λ z. IsIn z o.needs in
-        record { needed = record { provided = p; needs = subst P same h; there = ap (operation_named x) (sym same) ∙ k }; sig = ap (λ (z : Offer). z.sig) (sym off-is) }
+        record {
+          needed = record { provided = p; needs = subst P same h; there = ap (operation_named x) (sym same) ∙ k };
+          sig = ap (λ (z : Offer). z.sig) (sym off-is);
+        }
 
 -- a counted call of what an object requires
 pub record NeededCall (x : Design) (o : Object) (k : Counted) : Type 0 where
@@ -85,7 +90,12 @@ needed-call x o b h name j =
 
 module _ (written x : Design) (met : AreMet written x) where
   pub kept : Kept x
-  kept = record { apart = no-clash written x met; fit = parts-fit written x met; right = operations-right written x met; idle = not-active written x met }
+  kept = record {
+    apart = no-clash written x met;
+    fit = parts-fit written x met;
+    right = operations-right written x met;
+    idle = not-active written x met;
+  }
 
   pub body-needed : (s : Standing) (b : Body) → IsIn s (objects x) → IsIn b s.own.bodies → AreNeeded x s.own b.block
   body-needed s b h j = needed-calls x s.own _ b.block refl (body-right written x met s b h j)
@@ -115,4 +125,10 @@ module _ (written x : Design) (met : AreMet written x) where
   pub thread-written : (t : Thread) → IsIn t (threads x) → Written t.block
   thread-written t h =
       let r = thread-from x t h in
-      record { standing = r.standing; stands = r.stands; block = r.block; means = ap (λ (u : Thread). u.block) r.made; needed = thread-needed r.standing r.block (terminal-object x r.standing r.stands).0 r.runs }
+      record {
+        standing = r.standing;
+        stands = r.stands;
+        block = r.block;
+        means = ap (λ (u : Thread). u.block) r.made;
+        needed = thread-needed r.standing r.block (terminal-object x r.standing r.stands).0 r.runs;
+      }

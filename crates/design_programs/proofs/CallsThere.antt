@@ -22,14 +22,18 @@ use Rattle.program_calls.proofs.Facts.{or_else-none}
 use Rattle.program_calls.proofs.Lists.{any-in, IsIn, in-some, found-in}
 
 -- each body of those without a fault has none
-each-faultless : (p : Program) (form : Form) (bs : List Body) → bodies_fault p form bs ≡ None → (b : Body) → IsIn b bs → block_fault (scope p form b) b.block ≡ None
+each-faultless : (p : Program) (form : Form) (bs : List Body) → bodies_fault p form bs ≡ None → (b : Body) → IsIn b bs
+    → block_fault (scope p form b) b.block ≡ None
 each-faultless p form [] h b k = absurd k
 each-faultless p form (c ∷ bs) h b (inl e) =
-    ap (λ (z : Body). block_fault (scope p form z) z.block) (sym e) ∙ (or_else-none (block_fault (scope p form c) c.block) (bodies_fault p form bs) h).0
-each-faultless p form (c ∷ bs) h b (inr k) = each-faultless p form bs (or_else-none (block_fault (scope p form c) c.block) (bodies_fault p form bs) h).1 b k
+    ap (λ (z : Body). block_fault (scope p form z) z.block) (sym e) ∙
+    (or_else-none (block_fault (scope p form c) c.block) (bodies_fault p form bs) h).0
+each-faultless p form (c ∷ bs) h b (inr k)
+    = each-faultless p form bs (or_else-none (block_fault (scope p form c) c.block) (bodies_fault p form bs) h).1 b k
 
 pub calls-there : (p : Program) (u : Unit) → unit_fault p u ≡ None → list_any (λ c. not (is_there (offers p) c)) (calls_of u.form) ≡ false
-calls-there p u h = none-from (λ c. not (is_there (offers p) c)) (calls_of u.form) (λ c k. at c (in-some (λ (b : Body). block_calls b.block) (bodies u.form) c k))
+calls-there p u h = none-from (λ c. not (is_there (offers p) c)) (calls_of u.form)
+    (λ c k. at c (in-some (λ (b : Body). block_calls b.block) (bodies u.form) c k))
   where
     at : (c : OpName) → (b : Body) × IsIn b (bodies u.form) × IsIn c (block_calls b.block) → not (is_there (offers p) c) ≡ false
     at c (b, j, k) =
@@ -40,6 +44,7 @@ calls-there p u h = none-from (λ c. not (is_there (offers p) c)) (calls_of u.fo
         let there : is_there (offers p) (counted_name q.0) ≡ true = any-in (offers_it (counted_name q.0)) right.offer (offers p) at.0 at.1 in
         ap not (ap (is_there (offers p)) q.2 ∙ there)
 
-pub program-calls-there : (written x : Design) → AreMet written x → (r : Ranks) → Fitting (flat x) r → (u : Unit) → IsIn u (program_for (flat x) r).units
+pub program-calls-there : (written x : Design) → AreMet written x → (r : Ranks) → Fitting (flat x) r → (u : Unit)
+    → IsIn u (program_for (flat x) r).units
     → list_any (λ c. not (is_there (offers (program_for (flat x) r)) c)) (calls_of u.form) ≡ false
 program-calls-there written x met r fit u h = calls-there (program_for (flat x) r) u (bodies-right written x met r fit u h)

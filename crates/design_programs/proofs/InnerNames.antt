@@ -25,7 +25,8 @@ local-inner p b op = (refl, refl, λ e. cc)
 pub loop-inner : (p b : ℕ) (ops : List Name) → IsInner (Loop p b ops)
 loop-inner p b ops = (refl, refl, λ e. cc)
 
-pub inner-apart : (x : Design) → clashes x ≡ [] → (k : ℕ) (s : Standing) → IsIn (k, s) (enumerate_from 0 (objects x)) → (m : Mention) → IsIn m (inner_mentions (k, s)) → IsInner m.role
+pub inner-apart : (x : Design) → clashes x ≡ [] → (k : ℕ) (s : Standing) → IsIn (k, s) (enumerate_from 0 (objects x)) → (m : Mention)
+    → IsIn m (inner_mentions (k, s)) → IsInner m.role
     → (t : Standing) → IsIn t (objects x) → m.name ≡ t.own.name → ⊥
 inner-apart x clash k s h m j inner t i same =
     let p = placed 0 (objects x) t i in

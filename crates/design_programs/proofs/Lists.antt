@@ -1,5 +1,6 @@
 -- What stands in a list that is made of others, what tests and first finds say of it, and names that differ.
-use Rattle.std.proofs.Common.{◌≡◌, ℕ, zero, suc, ◌+◌, take, slice_get, Bool, true, false, not, ◌&&◌, List, [], ◌∷◌, ◌++◌, map, filter_map, find, Option, Some, None, refl, sym, ap, subst, ◌∙◌, inl, inr, ◌⊎◌, if◌then◌else◌}
+use Rattle.std.proofs.Common.{◌≡◌, ℕ, zero, suc, ◌+◌, take, slice_get, Bool, true, false, not, ◌&&◌, List, [], ◌∷◌, ◌++◌, map, filter_map, find}
+use Rattle.std.proofs.Common.{Option, Some, None, refl, sym, ap, subst, ◌∙◌, inl, inr, ◌⊎◌, if◌then◌else◌}
 use Rattle.std.specs.List.{list_any, list_all, cons_option, enumerate_from}
 use Rattle.std.proofs.lemmas.Bool.{and_parts, false_from_ne_true, not-true}
 use Rattle.seq_tree.specs.Names.{Name, same_name, is_named, are_distinct}
@@ -42,8 +43,11 @@ pub in-none : {A : Type 0} (xs : List A) (a : A) → xs ≡ [] → IsIn a xs →
 in-none {A} xs a e h = let P : List A → Type 0 = λ ys. IsIn a ys in subst P e h
 
 -- where nothing is told of the things that fail a test, each passes it
-pub none-told : {A B : Type 0} (test : A → Bool) (told : A → B) (xs : List A) → filter_map (λ a. only_if (test a) (told a)) xs ≡ [] → (a : A) → IsIn a xs → test a ≡ false
-none-told {A} {B} test told xs e a h = false_from_ne_true (test a) (λ t. in-none _ (told a) e (in-filter_map (λ z. only_if (test z) (told z)) xs a (told a) h (ap (λ b. only_if b (told a)) t)))
+pub none-told : {A B : Type 0} (test : A → Bool) (told : A → B) (xs : List A) → filter_map (λ a. only_if (test a) (told a)) xs ≡ [] → (a : A)
+    → IsIn a xs → test a ≡ false
+none-told {A} {B} test told xs e a h
+    = false_from_ne_true (test a) (λ t. in-none _ (told a) e (in-filter_map (λ z. only_if (test z) (told z)) xs a (told a) h
+    (ap (λ b. only_if b (told a)) t)))
 
 -- tests of all and of any
 pub all-from : {A : Type 0} (p : A → Bool) (xs : List A) → ((a : A) → IsIn a xs → p a ≡ true) → list_all p xs ≡ true
@@ -66,13 +70,15 @@ pub found-some : {A : Type 0} (p : A → Bool) (xs : List A) (a : A) → IsIn a 
 found-some p [] a h e = absurd h
 found-some {A} p (x ∷ xs) a h e = by (λ s. found-some p xs a s e) (p x) refl h
   where
-    by : (IsIn a xs → (b : A) × (find p xs ≡ Some b)) → (t : Bool) → p x ≡ t → IsIn a (x ∷ xs) → (b : A) × ((if t then Some x else find p xs) ≡ Some b)
+    by : (IsIn a xs → (b : A) × (find p xs ≡ Some b)) → (t : Bool) → p x ≡ t → IsIn a (x ∷ xs)
+        → (b : A) × ((if t then Some x else find p xs) ≡ Some b)
     by rest true k s = (x, refl)
     by rest false k (inl s) = let z : true ≡ false = sym e ∙ ap p (sym s) ∙ k in cc
     by rest false k (inr s) = rest s
 
 -- the only one that passes is the one that is found
-pub found-only : {A : Type 0} (p : A → Bool) (xs : List A) (a : A) → IsIn a xs → p a ≡ true → ((b : A) → IsIn b xs → p b ≡ true → b ≡ a) → find p xs ≡ Some a
+pub found-only : {A : Type 0} (p : A → Bool) (xs : List A) (a : A) → IsIn a xs → p a ≡ true → ((b : A) → IsIn b xs → p b ≡ true → b ≡ a)
+    → find p xs ≡ Some a
 found-only p xs a h e only = let r = found-some p xs a h e in let k = found-in p xs r.0 r.1 in r.1 ∙ ap Some (only r.0 k.0 k.1)
 
 pub differ-if : (a b : Name) → (a ≡ b → ⊥) → same_name a b ≡ false
@@ -94,7 +100,8 @@ pub unnamed-at : (ns : List Name) (n : Name) → is_named ns n ≡ false → IsI
 unnamed-at ns n h k = let z : true ≡ false = sym (named-from ns n k) ∙ h in cc
 
 -- names that differ, in two lists one after another
-pub distinct-append : (ms ns : List Name) → are_distinct ms ≡ true → are_distinct ns ≡ true → ((n : Name) → IsIn n ms → IsIn n ns → ⊥) → are_distinct (ms ++ ns) ≡ true
+pub distinct-append : (ms ns : List Name) → are_distinct ms ≡ true → are_distinct ns ≡ true → ((n : Name) → IsIn n ms → IsIn n ns → ⊥)
+    → are_distinct (ms ++ ns) ≡ true
 distinct-append [] ns h k apart = k
 distinct-append (m ∷ ms) ns h k apart =
     let parts = and_parts (not (is_named ms m)) (are_distinct ms) h in
@@ -106,12 +113,15 @@ distinct-append (m ∷ ms) ns h k apart =
     by (inr a) = apart m (inl refl) a
 
 -- in a list whose keys differ, things of one key are one
-pub key-eq : {A : Type 0} (key : A → Name) (xs : List A) → are_distinct (map key xs) ≡ true → (a b : A) → IsIn a xs → IsIn b xs → key a ≡ key b → a ≡ b
+pub key-eq : {A : Type 0} (key : A → Name) (xs : List A) → are_distinct (map key xs) ≡ true → (a b : A) → IsIn a xs → IsIn b xs
+    → key a ≡ key b → a ≡ b
 key-eq key [] h a b j k e = absurd j
-key-eq {A} key (x ∷ xs) h a b j k e = by (λ s t. key-eq key xs (and_parts (not (is_named (map key xs) (key x))) (are_distinct (map key xs)) h).1 a b s t e) j k
+key-eq {A} key (x ∷ xs) h a b j k e
+    = by (λ s t. key-eq key xs (and_parts (not (is_named (map key xs) (key x))) (are_distinct (map key xs)) h).1 a b s t e) j k
   where
     fresh : IsIn (key x) (map key xs) → ⊥
-    fresh = unnamed-at (map key xs) (key x) (not-true (is_named (map key xs) (key x)) (and_parts (not (is_named (map key xs) (key x))) (are_distinct (map key xs)) h).0)
+    fresh = unnamed-at (map key xs) (key x) (not-true (is_named (map key xs) (key x))
+        (and_parts (not (is_named (map key xs) (key x))) (are_distinct (map key xs)) h).0)
 
     by : (IsIn a xs → IsIn b xs → a ≡ b) → IsIn a (x ∷ xs) → IsIn b (x ∷ xs) → a ≡ b
     by rest (inl s) (inl t) = sym s ∙ t
@@ -122,7 +132,8 @@ key-eq {A} key (x ∷ xs) h a b j k e = by (λ s t. key-eq key xs (and_parts (no
     by rest (inr s) (inr t) = rest s t
 
 -- what a filter_map takes of a list whose keys differ has keys that differ
-pub distinct-taken : {A B : Type 0} (key : A → Name) (other : B → Name) (f : A → Option B) (xs : List A) → ((a : A) (b : B) → f a ≡ Some b → other b ≡ key a)
+pub distinct-taken : {A B : Type 0} (key : A → Name) (other : B → Name) (f : A → Option B) (xs : List A)
+    → ((a : A) (b : B) → f a ≡ Some b → other b ≡ key a)
     → are_distinct (map key xs) ≡ true → are_distinct (map other (filter_map f xs)) ≡ true
 distinct-taken key other f [] keeps h = refl
 distinct-taken {A} {B} key other f (x ∷ xs) keeps h =
@@ -138,9 +149,11 @@ distinct-taken {A} {B} key other f (x ∷ xs) keeps h =
         let P : Name → Type 0 = λ n. IsIn n (map key xs) in
         unnamed-at (map key xs) (key x) (not-true _ parts.0) (subst P (sym (keeps s.0 r.0 s.2) ∙ sym r.2 ∙ keeps x b e) (in-map key s.0 xs s.1))
 
-    by : are_distinct (map other (filter_map f xs)) ≡ true → (o : Option B) → f x ≡ o → are_distinct (map other (cons_option o (filter_map f xs))) ≡ true
+    by : are_distinct (map other (filter_map f xs)) ≡ true → (o : Option B) → f x ≡ o
+        → are_distinct (map other (cons_option o (filter_map f xs))) ≡ true
     by rest None e = rest
-    by rest (Some b) e = ap (λ t. not t && are_distinct (map other (filter_map f xs))) (unnamed-from (map other (filter_map f xs)) (other b) (fresh b e)) ∙ rest
+    by rest (Some b) e = ap (λ t. not t && are_distinct (map other (filter_map f xs)))
+        (unnamed-from (map other (filter_map f xs)) (other b) (fresh b e)) ∙ rest
 
 pub in-take : {A : Type 0} (xs : List A) (k : ℕ) (a : A) → IsIn a (take k xs) → IsIn a xs
 in-take [] zero a h = absurd h
@@ -150,7 +163,8 @@ in-take (x ∷ xs) (suc k) a (inl e) = inl e
 in-take (x ∷ xs) (suc k) a (inr h) = inr (in-take xs k a h)
 
 -- where keys differ, what stands at a place has no key of what stands before it
-pub key-fresh : {A : Type 0} (key : A → Name) (xs : List A) (place : ℕ) (a : A) → are_distinct (map key xs) ≡ true → slice_get xs place ≡ Some a → IsIn (key a) (map key (take place xs)) → ⊥
+pub key-fresh : {A : Type 0} (key : A → Name) (xs : List A) (place : ℕ) (a : A) → are_distinct (map key xs) ≡ true → slice_get xs place ≡ Some a
+    → IsIn (key a) (map key (take place xs)) → ⊥
 key-fresh key [] zero a d e h = h
 key-fresh key [] (suc place) a d e h = h
 key-fresh key (x ∷ xs) zero a d e h = h
@@ -158,4 +172,5 @@ key-fresh key (x ∷ xs) (suc place) a d e (inl s) =
     let P : Name → Type 0 = λ n. IsIn n (map key xs) in
     unnamed-at (map key xs) (key x) (not-true _ (and_parts (not (is_named (map key xs) (key x))) (are_distinct (map key xs)) d).0)
     (subst P (sym s) (in-map key a xs (at-in xs place a e)))
-key-fresh key (x ∷ xs) (suc place) a d e (inr h) = key-fresh key xs place a (and_parts (not (is_named (map key xs) (key x))) (are_distinct (map key xs)) d).1 e h
+key-fresh key (x ∷ xs) (suc place) a d e (inr h)
+    = key-fresh key xs place a (and_parts (not (is_named (map key xs) (key x))) (are_distinct (map key xs)) d).1 e h

@@ -3,7 +3,8 @@ use Rattle.std.proofs.Common.{◌≡◌, true, false, ◌&&◌, List, [], ◌∷
 use Rattle.std.specs.List.{list_any}
 use Rattle.std.proofs.lemmas.Bool.{or_parts, or_from}
 use Rattle.seq_tree.specs.Names.{Name, same_name, is_named}
-use Rattle.seq_tree.specs.Statements.{Statement, Statements, Branches, Null, Assign, If, For, ExitWhen, Call, Work, Put, End, Then, Nothing, Else, When}
+use Rattle.seq_tree.specs.Statements.{Statement, Statements, Branches, Null, Assign, If, For, ExitWhen, Call, Work, Put, End, Then, Nothing}
+use Rattle.seq_tree.specs.Statements.{Else, When}
 use Rattle.ada_tree.specs.Naming.{statement_clashes, block_clashes, branch_clashes}
 use Rattle.design_rules.specs.Broken.{V01}
 use Rattle.design_rules.specs.Clashes.{Role, Mention, excludes, statement_loops, block_loops, branch_loops, is_taken, clashes_after}
@@ -20,25 +21,32 @@ module _ (role : Role) where
 
   -- each taken name is that of an open loop or of an earlier thing that excludes a loop
   abbrev pub Covered : List Name → List Name → List Mention → Type 0
-  Covered taken open' earlier = (n : Name) → IsIn n taken → IsIn n open' ⊎ ((e : Mention) × IsIn e earlier × (e.name ≡ n) × (excludes e.role role ≡ true))
+  Covered taken open' earlier = (n : Name) → IsIn n taken → IsIn n open'
+      ⊎ ((e : Mention) × IsIn e earlier × (e.name ≡ n) × (excludes e.role role ≡ true))
 
-  later : (taken open' : List Name) (earlier before : List Mention) → ((a : Mention) → IsIn a earlier → IsIn a before) → Covered taken open' earlier → Covered taken open' before
+  later : (taken open' : List Name) (earlier before : List Mention) → ((a : Mention) → IsIn a earlier → IsIn a before) → Covered taken open' earlier
+      → Covered taken open' before
   later taken open' earlier before more cover n h = by (cover n h)
     where
-      by : IsIn n open' ⊎ ((e : Mention) × IsIn e earlier × (e.name ≡ n) × (excludes e.role role ≡ true)) → IsIn n open' ⊎ ((e : Mention) × IsIn e before × (e.name ≡ n) × (excludes e.role role ≡ true))
+      by : IsIn n open' ⊎ ((e : Mention) × IsIn e earlier × (e.name ≡ n) × (excludes e.role role ≡ true))
+          → IsIn n open' ⊎ ((e : Mention) × IsIn e before × (e.name ≡ n) × (excludes e.role role ≡ true))
       by (inl k) = inl k
       by (inr (e, k, s, x)) = inr (e, more e k, s, x)
 
-  free-name : (taken open' : List Name) (earlier : List Mention) (name : Name) → Covered taken open' earlier → is_taken earlier (loop name open') ≡ false → is_named taken name ≡ false
+  free-name : (taken open' : List Name) (earlier : List Mention) (name : Name) → Covered taken open' earlier
+      → is_taken earlier (loop name open') ≡ false → is_named taken name ≡ false
   free-name taken open' earlier name cover h = unnamed-from taken name (λ k. by (cover name k))
     where
       by : IsIn name open' ⊎ ((e : Mention) × IsIn e earlier × (e.name ≡ name) × (excludes e.role role ≡ true)) → ⊥
-      by (inl k) = unnamed-at open' name (or_parts (list_any (λ e. same_name e.name name && excludes e.role role) earlier) (is_named open' name) h).1 k
+      by (inl k) = unnamed-at open' name (or_parts (list_any (λ e. same_name e.name name && excludes e.role role) earlier)
+          (is_named open' name) h).1 k
       by (inr (e, k, s, x)) =
-          let none = none-in (λ z. same_name z.name name && excludes z.role role) e earlier (or_parts (list_any (λ e. same_name e.name name && excludes e.role role) earlier) (is_named open' name) h).0 k in
+          let none = none-in (λ z. same_name z.name name && excludes z.role role) e earlier
+          (or_parts (list_any (λ e. same_name e.name name && excludes e.role role) earlier) (is_named open' name) h).0 k in
           let z : true ≡ false = sym (ap (λ b. b && excludes e.role role) (is-same e.name name s) ∙ x) ∙ none in cc
 
-  inner : (taken open' : List Name) (earlier : List Mention) (name : Name) → Covered taken open' earlier → Covered (name ∷ taken) (name ∷ open') (loop name open' ∷ earlier)
+  inner : (taken open' : List Name) (earlier : List Mention) (name : Name) → Covered taken open' earlier
+      → Covered (name ∷ taken) (name ∷ open') (loop name open' ∷ earlier)
   inner taken open' earlier name cover n (inl s) = inl (inl s)
   inner taken open' earlier name cover n (inr h) = by (cover n h)
     where
@@ -48,12 +56,14 @@ module _ (role : Role) where
       by (inr (e, k, s, x)) = inr (e, inr k, s, x)
 
   mutual
-    statement-free : (s : Statement) (taken open' : List Name) (earlier : List Mention) → Covered taken open' earlier → clashes_after earlier (statement_loops loop open' s) ≡ [] → statement_clashes taken s ≡ false
+    statement-free : (s : Statement) (taken open' : List Name) (earlier : List Mention) → Covered taken open' earlier
+        → clashes_after earlier (statement_loops loop open' s) ≡ [] → statement_clashes taken s ≡ false
     statement-free Null taken open' earlier cover h = refl
     statement-free (Assign target value) taken open' earlier cover h = refl
     statement-free (If branches) taken open' earlier cover h = branches-free branches taken open' earlier cover h
     statement-free (For name low high body) taken open' earlier cover h =
-        let p = free-head (is_taken earlier (loop name open')) (V01 name) (clashes_after (loop name open' ∷ earlier) (block_loops loop (name ∷ open') body)) h in
+        let p = free-head (is_taken earlier (loop name open')) (V01 name)
+        (clashes_after (loop name open' ∷ earlier) (block_loops loop (name ∷ open') body)) h in
         or_from (is_named taken name) (block_clashes (name ∷ taken) body) (free-name taken open' earlier name cover p.0)
         (loops-free body (name ∷ taken) (name ∷ open') (loop name open' ∷ earlier) (inner taken open' earlier name cover) p.1)
     statement-free (ExitWhen e) taken open' earlier cover h = refl
@@ -61,7 +71,8 @@ module _ (role : Role) where
     statement-free (Work n) taken open' earlier cover h = refl
     statement-free (Put e) taken open' earlier cover h = refl
 
-    pub loops-free : (b : Statements) (taken open' : List Name) (earlier : List Mention) → Covered taken open' earlier → clashes_after earlier (block_loops loop open' b) ≡ [] → block_clashes taken b ≡ false
+    pub loops-free : (b : Statements) (taken open' : List Name) (earlier : List Mention) → Covered taken open' earlier
+        → clashes_after earlier (block_loops loop open' b) ≡ [] → block_clashes taken b ≡ false
     loops-free End taken open' earlier cover h = refl
     loops-free (Then first rest) taken open' earlier cover h =
         let r = rest-free (statement_loops loop open' first) (block_loops loop open' rest) earlier h in
@@ -69,7 +80,8 @@ module _ (role : Role) where
         (statement-free first taken open' earlier cover (first-free (statement_loops loop open' first) (block_loops loop open' rest) earlier h))
         (loops-free rest taken open' r.0 (later taken open' earlier r.0 (λ a k. r.2 a (inr k)) cover) r.1)
 
-    branches-free : (bs : Branches) (taken open' : List Name) (earlier : List Mention) → Covered taken open' earlier → clashes_after earlier (branch_loops loop open' bs) ≡ [] → branch_clashes taken bs ≡ false
+    branches-free : (bs : Branches) (taken open' : List Name) (earlier : List Mention) → Covered taken open' earlier
+        → clashes_after earlier (branch_loops loop open' bs) ≡ [] → branch_clashes taken bs ≡ false
     branches-free Nothing taken open' earlier cover h = refl
     branches-free (Else b) taken open' earlier cover h = loops-free b taken open' earlier cover h
     branches-free (When e b others) taken open' earlier cover h =
@@ -92,7 +104,8 @@ module _ (role : Role) where
   mentioned-right xs ys n m = record { mention = m.mention; among = in-right m.mention xs ys m.among; name = m.name; sort = m.sort }
 
   mutual
-    statement-mentioned : (s : Statement) (open' : List Name) (n : Name) → IsIn n (naming.statement_loops s) → Mentioned (statement_loops loop open' s) n
+    statement-mentioned : (s : Statement) (open' : List Name) (n : Name) → IsIn n (naming.statement_loops s)
+        → Mentioned (statement_loops loop open' s) n
     statement-mentioned Null open' n h = absurd h
     statement-mentioned (Assign target value) open' n h = absurd h
     statement-mentioned (If branches) open' n h = branches-mentioned branches open' n h
@@ -109,8 +122,10 @@ module _ (role : Role) where
     loops-mentioned (Then first rest) open' n h =
         by (statement-mentioned first open' n) (loops-mentioned rest open' n) (in-cases (naming.statement_loops first) (naming.block_loops rest) n h)
       where
-        by : (IsIn n (naming.statement_loops first) → Mentioned (statement_loops loop open' first) n) → (IsIn n (naming.block_loops rest) → Mentioned (block_loops loop open' rest) n)
-            → IsIn n (naming.statement_loops first) ⊎ IsIn n (naming.block_loops rest) → Mentioned (statement_loops loop open' first ++ block_loops loop open' rest) n
+        by : (IsIn n (naming.statement_loops first) → Mentioned (statement_loops loop open' first) n)
+            → (IsIn n (naming.block_loops rest) → Mentioned (block_loops loop open' rest) n)
+            → IsIn n (naming.statement_loops first) ⊎ IsIn n (naming.block_loops rest)
+            → Mentioned (statement_loops loop open' first ++ block_loops loop open' rest) n
         by f g (inl k) = mentioned-left (statement_loops loop open' first) (block_loops loop open' rest) n (f k)
         by f g (inr k) = mentioned-right (statement_loops loop open' first) (block_loops loop open' rest) n (g k)
 
@@ -120,7 +135,9 @@ module _ (role : Role) where
     branches-mentioned (When e b others) open' n h =
         by (loops-mentioned b open' n) (branches-mentioned others open' n) (in-cases (naming.block_loops b) (naming.branch_loops others) n h)
       where
-        by : (IsIn n (naming.block_loops b) → Mentioned (block_loops loop open' b) n) → (IsIn n (naming.branch_loops others) → Mentioned (branch_loops loop open' others) n)
-            → IsIn n (naming.block_loops b) ⊎ IsIn n (naming.branch_loops others) → Mentioned (block_loops loop open' b ++ branch_loops loop open' others) n
+        by : (IsIn n (naming.block_loops b) → Mentioned (block_loops loop open' b) n)
+            → (IsIn n (naming.branch_loops others) → Mentioned (branch_loops loop open' others) n)
+            → IsIn n (naming.block_loops b) ⊎ IsIn n (naming.branch_loops others)
+            → Mentioned (block_loops loop open' b ++ branch_loops loop open' others) n
         by f g (inl k) = mentioned-left (block_loops loop open' b) (branch_loops loop open' others) n (f k)
         by f g (inr k) = mentioned-right (block_loops loop open' b) (branch_loops loop open' others) n (g k)

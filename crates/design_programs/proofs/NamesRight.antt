@@ -1,5 +1,6 @@
 -- No unit of the program breaks the rule of names.
-use Rattle.std.proofs.Common.{◌≡◌, ℕ, suc, true, false, not, List, [], ◌∷◌, ◌++◌, map, flat_map, zip, take, length, slice_get, Some, refl, sym, ap, subst, ◌∙◌, arith, inl, inr, ◌⊎◌}
+use Rattle.std.proofs.Common.{◌≡◌, ℕ, suc, true, false, not, List, [], ◌∷◌, ◌++◌, map, flat_map, zip, take, length, slice_get, Some, refl, sym}
+use Rattle.std.proofs.Common.{ap, subst, ◌∙◌, arith, inl, inr, ◌⊎◌}
 use Rattle.std.proofs.lemmas.Simd.{map-map}
 use Rattle.std.specs.List.{list_any}
 use Rattle.std.proofs.lemmas.Bool.{or_from, and_from}
@@ -31,18 +32,21 @@ use Rattle.design_programs.proofs.InnerNames.{IsInner, member-inner, parameter-i
 use Rattle.design_programs.proofs.LoopNames.{Covered, loops-free, loops-mentioned}
 use Rattle.design_programs.proofs.Offers.{Fitting}
 use Rattle.design_programs.proofs.CallsThere.{program-calls-there}
-use Rattle.design_programs.proofs.ObjectMentions.{BodyFrom, IsMember, OfOp, OfVar, op-member, var-member, member-inside, BodyNames, vars-differ, op-var-apart, body-names, member-param-apart, member-local-apart, param-local-apart}
+use Rattle.design_programs.proofs.ObjectMentions.{BodyFrom, IsMember, OfOp, OfVar, op-member, var-member, member-inside, BodyNames, vars-differ}
+use Rattle.design_programs.proofs.ObjectMentions.{op-var-apart, body-names, member-param-apart, member-local-apart, param-local-apart}
 use Rattle.design_programs.proofs.ObjectMentions as part
 use Rattle.design_programs.proofs.UnitObjects.{UnitObject, unit-object}
 use Rattle.program_calls.proofs.Lists.{in-left, in-right, at-in, IsIn, in-some}
 
 -- the names of units are those of the entries
-guarded-names : (gs : List Guarded) (cs : List ℕ) → length cs ≡ length gs → map (λ (u : Unit). u.name) (map shared_unit (zip gs cs)) ≡ map (λ (g : Guarded). g.name) gs
+guarded-names : (gs : List Guarded) (cs : List ℕ) → length cs ≡ length gs → map (λ (u : Unit). u.name) (map shared_unit (zip gs cs))
+    ≡ map (λ (g : Guarded). g.name) gs
 guarded-names [] cs h = refl
 guarded-names (g ∷ gs) [] h = absurd (omega (arith, h))
 guarded-names (g ∷ gs) (c ∷ cs) h = (let rest : length cs ≡ length gs = omega (arith, h) in ap (λ z. g.name ∷ z) (guarded-names gs cs rest))
 
-thread-names : (ts : List Thread) (ps cs : List ℕ) → length ps ≡ length ts → length cs ≡ length ts → map (λ (u : Unit). u.name) (map thread_unit (zip ts (zip ps cs))) ≡ map (λ (t : Thread). t.name) ts
+thread-names : (ts : List Thread) (ps cs : List ℕ) → length ps ≡ length ts → length cs ≡ length ts
+    → map (λ (u : Unit). u.name) (map thread_unit (zip ts (zip ps cs))) ≡ map (λ (t : Thread). t.name) ts
 thread-names [] ps cs h k = refl
 thread-names (t ∷ ts) [] cs h k = absurd (omega (arith, h))
 thread-names (t ∷ ts) (p ∷ ps) [] h k = absurd (omega (arith, k))
@@ -56,7 +60,8 @@ unit-names f r fit =
     let us : List Unit = map passive_unit f.passive in
     let vs : List Unit = map shared_unit (zip f.shared r.shared) in
     let ws : List Unit = map thread_unit (zip f.threads (zip r.threads r.obcs)) in
-    map-append (λ (u : Unit). u.name) us (vs ++ ws) ∙ ap (λ z. z ++ map (λ (u : Unit). u.name) (vs ++ ws)) (map-map (λ (u : Unit). u.name) passive_unit f.passive)
+    map-append (λ (u : Unit). u.name) us (vs ++ ws) ∙ ap (λ z. z ++ map (λ (u : Unit). u.name) (vs ++ ws))
+    (map-map (λ (u : Unit). u.name) passive_unit f.passive)
     ∙ ap (λ z. map (λ (l : Library). l.name) f.passive ++ z)
     (map-append (λ (u : Unit). u.name) vs ws ∙ ap (λ z. z ++ map (λ (u : Unit). u.name) ws) (guarded-names f.shared r.shared fit.shared)
     ∙ ap (λ z. map (λ (g : Guarded). g.name) f.shared ++ z) (thread-names f.threads r.threads r.obcs fit.threads fit.obcs))
@@ -112,7 +117,8 @@ module _ (x : Design) (u : Unit) (q : UnitObject x u) (i : FreeInside x q.standi
   names-of : (b : Body) → IsIn b (bodies u.form) → BodyNames x s k b
   names-of b h = body-names x s k i.before i.free b (q.bodies b h)
 
-  param-of : (b : Body) (m : BodyNames x s k b) (n : Name) → IsIn n (map (λ (z : Param). z.name) b.params) → IsIn (mention (Parameter k m.op true) n) (part.op-part x s k)
+  param-of : (b : Body) (m : BodyNames x s k b) (n : Name) → IsIn n (map (λ (z : Param). z.name) b.params)
+      → IsIn (mention (Parameter k m.op true) n) (part.op-part x s k)
   param-of b m n h =
       let a = from-map (λ (z : Param). z.name) b.params n h in
       let P : Name → Type 0 = λ z. IsIn (mention (Parameter k m.op true) z) (part.op-part x s k) in subst P (sym a.2) (m.param a.0 a.1)
@@ -131,7 +137,8 @@ module _ (x : Design) (u : Unit) (q : UnitObject x u) (i : FreeInside x q.standi
       let params : List Name = map (λ (z : Param). z.name) b.params in
       let locals : List Name = map (λ (z : Datum). z.name) b.locals in
       distinct-append own (naming.body_names b) own-differ
-      (distinct-append params locals m.params_differ m.locals_differ (λ n h j. param-local-apart x s k i.before i.free m.index m.op n (param-of b m n h) (local-of b m n j).0))
+      (distinct-append params locals m.params_differ m.locals_differ
+      (λ n h j. param-local-apart x s k i.before i.free m.index m.op n (param-of b m n h) (local-of b m n j).0))
       (λ n h j. by n (own-member n h) (in-cases params locals n j))
     where
       by : (n : Name) → IsMember x s k n → IsIn n (map (λ (z : Param). z.name) b.params) ⊎ IsIn n (map (λ (z : Datum). z.name) b.locals) → ⊥
@@ -149,11 +156,18 @@ module _ (x : Design) (u : Unit) (q : UnitObject x u) (i : FreeInside x q.standi
       inner : IsIn n (map (λ (z : Param). z.name) b.params) ⊎ IsIn n (map (λ (z : Datum). z.name) b.locals)
           → IsIn n [] ⊎ ((e : Mention) × IsIn e m.before × (e.name ≡ n) × (excludes e.role (Loop k m.index m.ops) ≡ true))
       inner (inl j) =
-          inr (mention (Parameter k m.op true) n, m.op_before (mention (Parameter k m.op true) n) (param-of b m n j), refl, and_from _ _ (same-place k) (let q = from-map (λ (z : Param). z.name) b.params n j in m.named q.0 q.1))
+          inr (
+            mention (Parameter k m.op true) n,
+            m.op_before (mention (Parameter k m.op true) n) (param-of b m n j),
+            refl,
+            and_from _ _ (same-place
+                k) (let q = from-map (λ (z : Param). z.name) b.params n j in m.named q.0 q.1),
+          )
       inner (inr j) =
           inr (mention (Local k m.index m.op) n, (local-of b m n j).1, refl, and_from _ _ (same-place k) (same-place m.index))
 
-      by : IsIn n own ⊎ IsIn n (naming.body_names b) → IsIn n [] ⊎ ((e : Mention) × IsIn e m.before × (e.name ≡ n) × (excludes e.role (Loop k m.index m.ops) ≡ true))
+      by : IsIn n own ⊎ IsIn n (naming.body_names b) → IsIn n [] ⊎ ((e : Mention) × IsIn e m.before × (e.name ≡ n)
+          × (excludes e.role (Loop k m.index m.ops) ≡ true))
       by (inl j) = inr (mention (Member k) n, member (own-member n j), refl, same-place k)
       by (inr j) = inner (in-cases (map (λ (z : Param). z.name) b.params) (map (λ (z : Datum). z.name) b.locals) n j)
 
@@ -163,7 +177,8 @@ module _ (x : Design) (u : Unit) (q : UnitObject x u) (i : FreeInside x q.standi
       let m = names-of b h in
       let taken : List Name = own ++ naming.body_names b in
       or_from (not (are_distinct taken)) (block_clashes taken b.block) (ap not (taken-differ b m))
-      (ap (block_clashes taken) m.made ∙ block_clashes-renamed (resolve x) taken m.block ∙ loops-free (Loop k m.index m.ops) m.block taken [] m.before (covered b m) m.free)
+      (ap (block_clashes taken) m.made ∙ block_clashes-renamed (resolve x) taken m.block ∙ loops-free (Loop k m.index m.ops) m.block taken [] m.before
+      (covered b m) m.free)
 
   -- each inner name is mentioned inside the object
   pub record Said (n : Name) : Type 0 where
@@ -176,18 +191,21 @@ module _ (x : Design) (u : Unit) (q : UnitObject x u) (i : FreeInside x q.standi
   body-said b n m h = by (in-cases (naming.body_names b) (block_loops b.block) n h)
     where
       later : (a : Mention) → IsIn a (part.body-part x s k ++ part.thread-part x s k) → IsIn a (inner_mentions (k, s))
-      later a j = in-right a (part.op-part x s k) (part.var-part x s k ++ (part.body-part x s k ++ part.thread-part x s k)) (in-right a (part.var-part x s k) (part.body-part x s k ++ part.thread-part x s k) j)
+      later a j = in-right a (part.op-part x s k) (part.var-part x s k ++ (part.body-part x s k ++ part.thread-part x s k))
+          (in-right a (part.var-part x s k) (part.body-part x s k ++ part.thread-part x s k) j)
 
       names : IsIn n (map (λ (z : Param). z.name) b.params) ⊎ IsIn n (map (λ (z : Datum). z.name) b.locals) → Said n
       names (inl j) = record {
         said = mention (Parameter k m.op true) n;
-        among = in-left (mention (Parameter k m.op true) n) (part.op-part x s k) (part.var-part x s k ++ (part.body-part x s k ++ part.thread-part x s k)) (param-of b m n j);
+        among = in-left (mention (Parameter k m.op true) n) (part.op-part x s k) (part.var-part x s k
+            ++ (part.body-part x s k ++ part.thread-part x s k)) (param-of b m n j);
         inner = parameter-inner k m.op true;
         name = refl;
       }
       names (inr j) = record {
         said = mention (Local k m.index m.op) n;
-        among = later (mention (Local k m.index m.op) n) (in-left (mention (Local k m.index m.op) n) (part.body-part x s k) (part.thread-part x s k) (local-of b m n j).0);
+        among = later (mention (Local k m.index m.op) n) (in-left (mention (Local k m.index m.op) n) (part.body-part x s k) (part.thread-part x s k)
+            (local-of b m n j).0);
         inner = local-inner k m.index m.op;
         name = refl;
       }
@@ -198,14 +216,20 @@ module _ (x : Design) (u : Unit) (q : UnitObject x u) (i : FreeInside x q.standi
           let P : List Name → Type 0 = λ z. IsIn n z in
           let l = loops-mentioned (Loop k m.index m.ops) m.block [] n (subst P (ap block_loops m.made ∙ block_loops-renamed (resolve x) m.block) j) in
           let Q : Role → Type 0 = IsInner in
-          record { said = l.mention; among = later l.mention (m.loops l.mention l.among); inner = subst Q (sym l.sort) (loop-inner k m.index m.ops); name = l.name }
+          record {
+            said = l.mention;
+            among = later l.mention (m.loops l.mention l.among);
+            inner = subst Q (sym l.sort) (loop-inner k m.index m.ops);
+            name = l.name;
+          }
 
   pub inner-said : (n : Name) → IsIn n (inner_names u.form) → Said n
   inner-said n h = by (in-cases own (flat_map (λ (b : Body). naming.body_names b ++ block_loops b.block) (bodies u.form)) n h)
     where
       by : IsIn n own ⊎ IsIn n (flat_map (λ (b : Body). naming.body_names b ++ block_loops b.block) (bodies u.form)) → Said n
       by (inl j) = record { said = mention (Member k) n; among = member-inside x s k n (own-member n j); inner = member-inner k; name = refl }
-      by (inr j) = (let a = in-some (λ (b : Body). naming.body_names b ++ block_loops b.block) (bodies u.form) n j in body-said a.0 n (names-of a.0 a.1) a.2)
+      by (inr j) = (let a = in-some (λ (b : Body). naming.body_names b ++ block_loops b.block) (bodies u.form) n j
+          in body-said a.0 n (names-of a.0 a.1) a.2)
 
 module _ (written x : Design) (met : AreMet written x) (r : Ranks) (fit : Fitting (flat x) r) where
   abbrev p : Program
@@ -221,12 +245,14 @@ module _ (written x : Design) (met : AreMet written x) (r : Ranks) (fit : Fittin
       let i = inside-of u q in
       let m = inner-said x u q i v.name k in
       let t = unit-object written x met r fit v j in
-      inner-apart x (no-clash written x met) i.place q.standing i.stands m.said m.among m.inner t.standing (terminal-object x t.standing t.stands).0 (m.name ∙ t.name)
+      inner-apart x (no-clash written x met) i.place q.standing i.stands m.said m.among m.inner t.standing (terminal-object x t.standing t.stands).0
+      (m.name ∙ t.name)
 
   -- no unit breaks the rule of names
   pub names-right : (place : ℕ) (u : Unit) → slice_get p.units place ≡ Some u → breaks_naming p place u ≡ false
   names-right place u e =
-      or_from _ _ (or_from _ _ (or_from _ _ (or_from _ _ (or_from _ _ first program-name) no-inner) (ap not (own-differ x u q i))) bodies-free) (program-calls-there written x met r fit u h)
+      or_from _ _ (or_from _ _ (or_from _ _ (or_from _ _ (or_from _ _ first program-name) no-inner) (ap not (own-differ x u q i))) bodies-free)
+      (program-calls-there written x met r fit u h)
     where
       h : IsIn u p.units
       h = at-in p.units place u e
@@ -240,10 +266,13 @@ module _ (written x : Design) (met : AreMet written x) (r : Ranks) (fit : Fittin
       differ : are_distinct (map (λ (v : Unit). v.name) p.units) ≡ true
       differ = ap are_distinct (unit-names (flat x) r fit) ∙ flat-names x (no-clash written x met)
 
-      first : is_named (map (λ (v : Unit). v.name) (take place p.units) ++ flat_map (λ (v : Unit). inner_names v.form) (take place p.units)) u.name ≡ false
-      first = unnamed-from _ u.name (λ j. by (in-cases (map (λ (v : Unit). v.name) (take place p.units)) (flat_map (λ (v : Unit). inner_names v.form) (take place p.units)) u.name j))
+      first : is_named (map (λ (v : Unit). v.name) (take place p.units) ++ flat_map (λ (v : Unit). inner_names v.form) (take place p.units))
+          u.name ≡ false
+      first = unnamed-from _ u.name (λ j.
+          by (in-cases (map (λ (v : Unit). v.name) (take place p.units)) (flat_map (λ (v : Unit). inner_names v.form) (take place p.units)) u.name j))
         where
-          by : IsIn u.name (map (λ (v : Unit). v.name) (take place p.units)) ⊎ IsIn u.name (flat_map (λ (v : Unit). inner_names v.form) (take place p.units)) → ⊥
+          by : IsIn u.name (map (λ (v : Unit). v.name) (take place p.units))
+              ⊎ IsIn u.name (flat_map (λ (v : Unit). inner_names v.form) (take place p.units)) → ⊥
           by (inl j) = key-fresh (λ (v : Unit). v.name) p.units place u differ e j
           by (inr j) =
               let a = in-some (λ (v : Unit). inner_names v.form) (take place p.units) u.name j in

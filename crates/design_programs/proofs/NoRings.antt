@@ -21,7 +21,8 @@ use Rattle.analysis.specs.Sound.{name_of}
 use Rattle.analysis.specs.Sound as sound
 use Rattle.design_rules.specs.Broken.{V09Calls, V09Objects}
 use Rattle.design_rules.specs.Lookups.{requires, required_calls}
-use Rattle.design_rules.specs.Rings.{terminal_ops, meant_calls, operation_calls, calls_from, CallsOp, protected_objects, calls_object, CallsObject, IsOnObjectRing}
+use Rattle.design_rules.specs.Rings.{terminal_ops, meant_calls, operation_calls, calls_from, CallsOp, protected_objects, calls_object}
+use Rattle.design_rules.specs.Rings.{CallsObject, IsOnObjectRing}
 use Rattle.design_rules.specs.Rules.{AreMet, CallRing, ObjectRing}
 use Rattle.design_programs.proofs.Lists.{from-map, some-in, key-eq}
 use Rattle.design_programs.proofs.Renaming.{block_calls-renamed}
@@ -35,7 +36,8 @@ use Rattle.program_calls.proofs.Facts.{same-is, is-same}
 use Rattle.program_calls.proofs.Lists.{in-map, in-flat, filter-in, any-in, IsIn, place-of, found-in}
 
 -- a ring of one relation is one of another that has its steps
-pub leads-map : {A : Type 0} (R S : A → A → Type 0) → ((a b : A) → R a b → S a b) → (a : A) (path : List A) (b : A) → LeadsTo R a path b → LeadsTo S a path b
+pub leads-map : {A : Type 0} (R S : A → A → Type 0) → ((a b : A) → R a b → S a b) → (a : A) (path : List A) (b : A) → LeadsTo R a path b
+    → LeadsTo S a path b
 leads-map R S f a [] b h = f a b h
 leads-map R S f a (via ∷ path) b h = (f a via h.0, leads-map R S f via path b h.1)
 
@@ -67,7 +69,8 @@ module _ (written x : Design) (met : AreMet written x) where
       let Q : OpName → Type 0 = λ z. IsIn z (meant_calls x o b) in
       subst Q (sym r.2) (in-map (resolve x) r.0 (required_calls o b) (filter-in (requires o) r.0 (block_calls b) r.1 (any-op o.needs r.0 n.needs)))
 
-  operation-called : (s : Standing) (v : Service) (c : OpName) → IsIn s (terminals x) → IsIn v.op (operations x s.own) → IsIn c (block_calls v.op.block) → CalledFrom x s.own v c
+  operation-called : (s : Standing) (v : Service) (c : OpName) → IsIn s (terminals x) → IsIn v.op (operations x s.own)
+      → IsIn c (block_calls v.op.block) → CalledFrom x s.own v c
   operation-called s v c h j i =
       let r = operation-from x s.own v.op j in
       let at = found-in (λ b. same_name b.name r.provided.sig.name) s.own.bodies r.body r.named in
@@ -85,13 +88,15 @@ module _ (written x : Design) (met : AreMet written x) where
         written = w;
       }
 
-  request-silent : (name : Name) (r : Option Signature) (v : Service) (c : OpName) → IsIn v (request_services name r) → IsIn c (block_calls v.op.block) → ⊥
+  request-silent : (name : Name) (r : Option Signature) (v : Service) (c : OpName) → IsIn v (request_services name r)
+      → IsIn c (block_calls v.op.block) → ⊥
   request-silent name None v c h i = h
   request-silent name (Some sig) v c (inr h) i = h
   request-silent name (Some sig) v c (inl e) i = (let P : Service → Type 0 = λ z. IsIn c (block_calls z.op.block) in subst P (sym e) i)
 
   -- a service that calls comes from a body, and its object is passive or protected
-  pub service-called : (s : Standing) (v : Service) (c : OpName) → IsIn s (terminals x) → (k : Kind) → IsIn v (services_at x s.own k) → IsIn c (block_calls v.op.block)
+  pub service-called : (s : Standing) (v : Service) (c : OpName) → IsIn s (terminals x) → (k : Kind) → IsIn v (services_at x s.own k)
+      → IsIn c (block_calls v.op.block)
       → CalledFrom x s.own v c × ((is_passive k ≡ true) ⊎ (is_protected k ≡ true))
   service-called s v c h kind.Passive j i =
       let r = from-map (λ z. record { object = s.own.name; sort = Plain; op = z }) (operations x s.own) v j in
@@ -123,15 +128,19 @@ module _ (written x : Design) (met : AreMet written x) where
       let object : s.0.own.name ≡ a.object = sym (service-object x s.0.own s.0.own.kind r.0 s.2) ∙ ap (λ (n : OpName). n.object) name in
       let op : f.body.name ≡ a.op = f.name ∙ ap (λ (n : OpName). n.op) name in
       let own : IsIn b (operation_calls x s.0.own a.op) =
-      in-flat (λ d. meant_calls x s.0.own d.block) f.body b (filter (λ d. same_name d.name a.op) s.0.own.bodies) (filter-in (λ d. same_name d.name a.op) f.body s.0.own.bodies f.stands (is-same f.body.name a.op op)) f.meant in
+      in-flat (λ d. meant_calls x s.0.own d.block) f.body b (filter (λ d. same_name d.name a.op) s.0.own.bodies)
+      (filter-in (λ d. same_name d.name a.op) f.body s.0.own.bodies f.stands (is-same f.body.name a.op op)) f.meant in
       let all : IsIn b (calls_from x a) =
-      in-flat (λ t. operation_calls x t.own a.op) s.0 b (filter (λ t. same_name t.own.name a.object) (terminals x)) (filter-in (λ t. same_name t.own.name a.object) s.0 (terminals x) s.1 (is-same s.0.own.name a.object object)) own in
+      in-flat (λ t. operation_calls x t.own a.op) s.0 b (filter (λ t. same_name t.own.name a.object) (terminals x))
+      (filter-in (λ t. same_name t.own.name a.object) s.0 (terminals x) s.1 (is-same s.0.own.name a.object object)) own in
       let there : record { object = s.0.own.name; op = f.provided.sig.name } ≡ a =
-      ap (λ z. record { object = z; op = f.provided.sig.name }) object ∙ ap (λ z. record { object = a.object; op = z }) (f.head ∙ ap (λ (n : OpName). n.op) name) in
+      ap (λ z. record { object = z; op = f.provided.sig.name }) object ∙ ap (λ z. record { object = a.object; op = z })
+      (f.head ∙ ap (λ (n : OpName). n.op) name) in
       let Q : OpName → Type 0 = λ z. IsIn z (terminal_ops x) in
       record {
         calls = any-op (calls_from x a) b all;
-        stands = subst Q there (in-flat (λ t. map (λ (p : Provided). record { object = t.own.name; op = p.sig.name }) t.own.provides) s.0 _ (terminals x) s.1
+        stands = subst Q there (in-flat (λ t. map (λ (p : Provided). record { object = t.own.name; op = p.sig.name }) t.own.provides) s.0 _
+            (terminals x) s.1
             (in-map (λ (p : Provided). record { object = s.0.own.name; op = p.sig.name }) f.provided s.0.own.provides f.provides));
       }
 
@@ -154,7 +163,8 @@ module _ (written x : Design) (met : AreMet written x) where
     pub named : standing.own.name ≡ name
 
   sort-of : (k : Kind) (o : Object) (v : Service) → is_protected k ≡ true → IsIn v (services_at x o k) → v.sort ≡ Protected
-  sort-of kind.Protected o v e h = (let r = from-map (λ z. record { object = o.name; sort = Protected; op = z }) (operations x o) v h in ap (λ (w : Service). w.sort) r.2)
+  sort-of kind.Protected o v e h = (let r = from-map (λ z. record { object = o.name; sort = Protected; op = z }) (operations x o) v h
+      in ap (λ (w : Service). w.sort) r.2)
   sort-of kind.Passive o v e h = cc
   sort-of kind.Active o v e h = cc
   sort-of kind.Sporadic o v e h = cc
@@ -164,7 +174,8 @@ module _ (written x : Design) (met : AreMet written x) where
   not-plain e = cc
 
   among-protected : {n : Name} (p : IsProtected n) → IsIn p.standing.own (protected_objects x)
-  among-protected p = in-map (λ (s : Standing). s.own) p.standing (filter (λ s. is_protected s.own.kind) (terminals x)) (filter-in (λ s. is_protected s.own.kind) p.standing (terminals x) p.stands p.sort)
+  among-protected p = in-map (λ (s : Standing). s.own) p.standing (filter (λ s. is_protected s.own.kind) (terminals x))
+      (filter-in (λ s. is_protected s.own.kind) p.standing (terminals x) p.stands p.sort)
 
   object-step : (a b : Name) → sound.CallsObject (flat_services (flat x)) a b → IsProtected b → IsProtected a × CallsObject x a b
   object-step a b h p =
@@ -176,16 +187,19 @@ module _ (written x : Design) (met : AreMet written x) where
       let name : s.0.own.name ≡ a = sym (service-object x s.0.own s.0.own.kind r.0 s.2) ∙ same-is r.0.object a both.0 in
       by s.0 s.1 name r.0 c.0 (same-is c.0.object b c.2) f.0 f.1
     where
-      by : (s : Standing) → IsIn s (terminals x) → s.own.name ≡ a → (v : Service) (c : OpName) → c.object ≡ b → CalledFrom x s.own v c → (is_passive s.own.kind ≡ true) ⊎ (is_protected s.own.kind ≡ true)
+      by : (s : Standing) → IsIn s (terminals x) → s.own.name ≡ a → (v : Service) (c : OpName) → c.object ≡ b → CalledFrom x s.own v c
+          → (is_passive s.own.kind ≡ true) ⊎ (is_protected s.own.kind ≡ true)
           → IsProtected a × CallsObject x a b
       by s t name v c object f (inr sort) =
           let from : IsProtected a = record { standing = s; stands = t; sort = sort; named = name } in
           let call : calls_object x s.own p.standing.own ≡ true =
           any-in (λ d. same_name d.object p.standing.own.name) c (flat_map (λ d. meant_calls x s.own d.block) s.own.bodies)
-          (in-flat (λ d. meant_calls x s.own d.block) f.body c s.own.bodies f.stands f.meant) (is-same c.object p.standing.own.name (object ∙ sym p.named)) in (
+          (in-flat (λ d. meant_calls x s.own d.block) f.body c s.own.bodies f.stands f.meant)
+          (is-same c.object p.standing.own.name (object ∙ sym p.named)) in (
             from,
             any-in _ s.own (protected_objects x) (among-protected from)
-                (and_from _ _ (is-same s.own.name a name) (any-in _ p.standing.own (protected_objects x) (among-protected p) (and_from _ _ (is-same p.standing.own.name b p.named) call))),
+                (and_from _ _ (is-same s.own.name a name) (any-in _ p.standing.own (protected_objects x) (among-protected p)
+                (and_from _ _ (is-same p.standing.own.name b p.named) call))),
           )
       by s t name v c object f (inl passive) =
           let o = (terminal-object x s t).0 in
@@ -193,17 +207,21 @@ module _ (written x : Design) (met : AreMet written x) where
           let at = found-in (is_service c.object c.op) (flat_services (flat x)) w.0 w.1 in
           let u = service-from x w.0 at.0 in
           let names : u.0.own.name ≡ p.standing.own.name =
-          sym (service-object x u.0.own u.0.own.kind w.0 u.2) ∙ same-is w.0.object c.object (and_parts (same_name w.0.object c.object) (same_name w.0.op.sig.name c.op) at.1).0 ∙ object ∙ sym p.named in
-          let same : u.0 ≡ p.standing = key-eq (λ (z : Standing). z.own.name) (terminals x) (terminal-names x (no-clash written x met)) u.0 p.standing u.1 p.stands names in
+          sym (service-object x u.0.own u.0.own.kind w.0 u.2) ∙ same-is w.0.object c.object
+          (and_parts (same_name w.0.object c.object) (same_name w.0.op.sig.name c.op) at.1).0 ∙ object ∙ sym p.named in
+          let same : u.0 ≡ p.standing = key-eq (λ (z : Standing). z.own.name) (terminals x) (terminal-names x (no-clash written x met)) u.0 p.standing
+          u.1 p.stands names in
           absurd (not-plain (sym w.2 ∙ sort-of u.0.own.kind u.0.own w.0 (ap (λ (z : Standing). is_protected z.own.kind) same ∙ p.sort) u.2))
 
-  object-leads : (a : Name) (path : List Name) (b : Name) → LeadsTo (sound.CallsObject (flat_services (flat x))) a path b → IsProtected b → IsProtected a × LeadsTo (CallsObject x) a path b
+  object-leads : (a : Name) (path : List Name) (b : Name) → LeadsTo (sound.CallsObject (flat_services (flat x))) a path b → IsProtected b
+      → IsProtected a × LeadsTo (CallsObject x) a path b
   object-leads a [] b h p = object-step a b h p
   object-leads a (via ∷ path) b h p =
       let r = object-leads via path b h.1 p in
       let s = object-step a via h.0 r.0 in (s.0, (s.1, r.1))
 
-  pub no-object-ring : (name : Name) → list_any (λ (g : Guarded). same_name g.name name) (guarded x) ≡ true → IsOnRing (sound.CallsObject (flat_services (flat x))) name → ⊥
+  pub no-object-ring : (name : Name) → list_any (λ (g : Guarded). same_name g.name name) (guarded x) ≡ true
+      → IsOnRing (sound.CallsObject (flat_services (flat x))) name → ⊥
   no-object-ring name h (path, leads) =
       let g = some-in (λ (g : Guarded). same_name g.name name) (guarded x) h in
       let s = guarded-from x g.0 g.1 in

@@ -1,5 +1,6 @@
 -- The numbers of threads are in their ranges, and there are no more threads and entries than the rules allow.
-use Rattle.std.proofs.Common.{◌≡◌, ℕ, suc, ◌-◌, ◌≤◌, Bool, true, false, not, ◌&&◌, ◌||◌, ◌==◌, List, [], ◌∷◌, filter, filter_map, find, length, nat_lt, nat_le, Option, Some, None, option_map, unwrap_or, refl, sym, ap, subst, ◌∙◌, arith, if◌then◌else◌}
+use Rattle.std.proofs.Common.{◌≡◌, ℕ, suc, ◌-◌, ◌≤◌, Bool, true, false, not, ◌&&◌, ◌||◌, ◌==◌, List, [], ◌∷◌, filter, filter_map, find, length}
+use Rattle.std.proofs.Common.{nat_lt, nat_le, Option, Some, None, option_map, unwrap_or, refl, sym, ap, subst, ◌∙◌, arith, if◌then◌else◌}
 use Rattle.std.specs.List.{list_any, list_all, cons_option}
 use Rattle.std.proofs.lemmas.Bool.{or_parts, and_parts, and_from, not-false}
 use Rattle.ods_tree.specs.Designs.{Object, Design}
@@ -46,7 +47,8 @@ tests_of a b c d e h =
     let first = and_parts a b (and_parts (a && b) c (and_parts (a && b && c) d last.0).0).0 in
     (first.0, first.1, last.1)
 
-jitter-below : (o : Object) (j : Option ℕ) → attribute ArrivalJitter o ≡ j → nat_le (attribute_or 0 ArrivalJitter o) (attribute_or 0 Separation o - 1) ≡ true → nat_le 1 (attribute_or 0 Separation o) ≡ true
+jitter-below : (o : Object) (j : Option ℕ) → attribute ArrivalJitter o ≡ j → nat_le (attribute_or 0 ArrivalJitter o) (attribute_or 0 Separation o - 1)
+    ≡ true → nat_le 1 (attribute_or 0 Separation o) ≡ true
     → is_below j (attribute_or 0 Separation o) ≡ true
 jitter-below o None e h k = refl
 jitter-below o (Some j) e h k =
@@ -57,7 +59,8 @@ jitter-below o (Some j) e h k =
     below : (a s : ℕ) → nat_le a (s - 1) ≡ true → nat_le 1 s ≡ true → nat_lt a s ≡ true
     below a s h k = grind arith
 
-pub attributes-timed : (o : Object) (t : Timing) → are_attributes_right o.kind o ≡ true → timing_by o.kind o ≡ Some t → (is_timed t && is_within 1 (period_of t) (attribute_or 0 Deadline o)) ≡ true
+pub attributes-timed : (o : Object) (t : Timing) → are_attributes_right o.kind o ≡ true → timing_by o.kind o ≡ Some t
+    → (is_timed t && is_within 1 (period_of t) (attribute_or 0 Deadline o)) ≡ true
 attributes-timed o t h e = by (timing-of o t e)
   where
     P : Timing → Type 0
@@ -66,22 +69,27 @@ attributes-timed o t h e = by (timing-of o t e)
     by : TimingOf o t → P t
     by (OfCyclic g s) =
         let right : are_attributes_right kind.Cyclic o ≡ true = ap (λ k. are_attributes_right k o) (sym g) ∙ h in
-        let a = tests_of (is_required 1 1000000000 Period o) (is_optional 0 1000000000 Offset o) (is_foreign Separation o) (is_foreign ArrivalJitter o) (are_common_right (attribute_or 0 Period o) o) right in
+        let a = tests_of (is_required 1 1000000000 Period o) (is_optional 0 1000000000 Offset o) (is_foreign Separation o)
+        (is_foreign ArrivalJitter o) (are_common_right (attribute_or 0 Period o) o) right in
         let deadline : is_within 1 (attribute_or 0 Period o) (attribute_or 0 Deadline o) ≡ true = (and_parts _ _ (and_parts _ _ a.2).0).1 in
         subst P (sym s) (and_from _ _ (and_from _ _ (and_parts _ _ a.0).1 (optional_below 1000000000 Offset o a.1)) deadline)
     by (OfSporadic sig g q s) =
         let right : are_attributes_right kind.Sporadic o ≡ true = ap (λ k. are_attributes_right k o) (sym g) ∙ h in
-        let a = tests_of (is_required 1 1000000000 Separation o) (is_optional 0 (attribute_or 0 Separation o - 1) ArrivalJitter o) (is_foreign Period o) (is_foreign Offset o) (are_common_right (attribute_or 0 Separation o) o) right in
+        let a = tests_of (is_required 1 1000000000 Separation o) (is_optional 0 (attribute_or 0 Separation o - 1) ArrivalJitter o)
+        (is_foreign Period o) (is_foreign Offset o) (are_common_right (attribute_or 0 Separation o) o) right in
         let deadline : is_within 1 (attribute_or 0 Separation o) (attribute_or 0 Deadline o) ≡ true = (and_parts _ _ (and_parts _ _ a.2).0).1 in
         let separation : is_within 1 1000000000 (attribute_or 0 Separation o) ≡ true = (and_parts _ _ a.0).1 in
-        subst P (sym s) (and_from _ _ (and_from _ _ separation (jitter-below o (attribute ArrivalJitter o) refl (optional_below (attribute_or 0 Separation o - 1) ArrivalJitter o a.1) (and_parts _ _ separation).0)) deadline)
+        subst P (sym s) (and_from _ _ (and_from _ _ separation (jitter-below o (attribute ArrivalJitter o) refl
+        (optional_below (attribute_or 0 Separation o - 1) ArrivalJitter o a.1) (and_parts _ _ separation).0)) deadline)
 
 -- how many things are taken of a list
-pub at-most-filter : {A B : Type 0} (f : A → Option B) (p : A → Bool) (xs : List A) → ((a : A) (b : B) → f a ≡ Some b → p a ≡ true) → length (filter_map f xs) ≤ length (filter p xs)
+pub at-most-filter : {A B : Type 0} (f : A → Option B) (p : A → Bool) (xs : List A) → ((a : A) (b : B) → f a ≡ Some b → p a ≡ true)
+    → length (filter_map f xs) ≤ length (filter p xs)
 at-most-filter f p [] h = omega arith
 at-most-filter {A} {B} f p (x ∷ xs) h = by (at-most-filter f p xs h) (f x) refl (p x) refl
   where
-    by : length (filter_map f xs) ≤ length (filter p xs) → (o : Option B) → f x ≡ o → (b : Bool) → p x ≡ b → length (cons_option o (filter_map f xs)) ≤ length (if b then x ∷ filter p xs else filter p xs)
+    by : length (filter_map f xs) ≤ length (filter p xs) → (o : Option B) → f x ≡ o → (b : Bool) → p x ≡ b
+        → length (cons_option o (filter_map f xs)) ≤ length (if b then x ∷ filter p xs else filter p xs)
     by rest None e true k = omega (arith, rest)
     by rest None e false k = rest
     by rest (Some c) e true k = omega (arith, rest)
@@ -100,9 +108,11 @@ terminals-at-most x = filter-at-most is_terminal (objects x)
 
 -- the works of an object and its threads are in range
 module _ (written x : Design) (met : AreMet written x) where
-  numbers : (s : Standing) → IsIn s (objects x) → (are_right (is_terminal s) s.own ≡ true) × (list_all (is_within 1 1000000000) (works s.own) ≡ true) × (list_any (λ p. nat_lt 8 (length p.sig.params)) s.own.provides ≡ false)
+  numbers : (s : Standing) → IsIn s (objects x) → (are_right (is_terminal s) s.own ≡ true) × (list_all (is_within 1 1000000000) (works s.own) ≡ true)
+      × (list_any (λ p. nat_lt 8 (length p.sig.params)) s.own.provides ≡ false)
   numbers s h =
-      let a = or_parts (not (are_right (is_terminal s) s.own) || not (list_all (is_within 1 1000000000) (works s.own))) (list_any (λ p. nat_lt 8 (length p.sig.params)) s.own.provides) (numbers-right written x met s h) in
+      let a = or_parts (not (are_right (is_terminal s) s.own) || not (list_all (is_within 1 1000000000) (works s.own)))
+      (list_any (λ p. nat_lt 8 (length p.sig.params)) s.own.provides) (numbers-right written x met s h) in
       let b = or_parts (not (are_right (is_terminal s) s.own)) (not (list_all (is_within 1 1000000000) (works s.own))) a.0 in
       (not-false _ b.0, not-false _ b.1, a.1)
 

@@ -1,5 +1,6 @@
 -- What a program of a flat design offers is what the flat design has, so a body without a fault in the design has none in the program.
-use Rattle.std.proofs.Common.{◌≡◌, ℕ, Bool, true, false, ◌&&◌, List, [], ◌∷◌, ◌++◌, map, flat_map, zip, find, length, Some, None, option_map, refl, sym, ap, ◌∙◌, arith, if◌then◌else◌}
+use Rattle.std.proofs.Common.{◌≡◌, ℕ, Bool, true, false, ◌&&◌, List, [], ◌∷◌, ◌++◌, map, flat_map, zip, find, length, Some, None, option_map}
+use Rattle.std.proofs.Common.{refl, sym, ap, ◌∙◌, arith, if◌then◌else◌}
 use Rattle.std.proofs.lemmas.Grind.{flat_map-append}
 use Rattle.std.proofs.lemmas.List.{map-append}
 use Rattle.std.specs.List.{cons_option}
@@ -13,7 +14,8 @@ use Rattle.ods_tree.specs.Links.{resolve}
 use Rattle.ods_tree.specs.Flats.{Library, Guarded, Timing, Thread, Flat}
 use Rattle.ods_tree.specs.Flats as timing
 use Rattle.ods_tree.specs.Flattening.{operations, request_op, flat}
-use Rattle.ods_tree.specs.Services.{Sort, Plain, Protected, Service, plain_services, protected_services, request_of, requested, requests, flat_services, service_named}
+use Rattle.ods_tree.specs.Services.{Sort, Plain, Protected, Service, plain_services, protected_services, request_of, requested, requests}
+use Rattle.ods_tree.specs.Services.{flat_services, service_named}
 use Rattle.ada_tree.specs.Programs.{Unit}
 use Rattle.ada_tree.specs.Bodies.{heads}
 use Rattle.ada_tree.specs.Bodies as ada
@@ -41,25 +43,30 @@ abbrev pub unit_offers : Unit → List Offer
 unit_offers u = map (λ h. record { object = u.name; sig = h }) (heads u.form)
 
 ops-offered : (name : Name) (sort : Sort) (ops : List Operation)
-    → map (λ (h : Signature). record { object = name; sig = h }) (map (λ (o : Operation). o.sig) ops) ≡ map offer_by (map (λ (o : Operation). record { object = name; sort = sort; op = o }) ops)
+    → map (λ (h : Signature). record { object = name; sig = h }) (map (λ (o : Operation). o.sig) ops)
+    ≡ map offer_by (map (λ (o : Operation). record { object = name; sort = sort; op = o }) ops)
 ops-offered name sort [] = refl
 ops-offered name sort (o ∷ ops) = ap (λ z. record { object = name; sig = o.sig } ∷ z) (ops-offered name sort ops)
 
 passive-offers : (ls : List Library) → flat_map unit_offers (map passive_unit ls) ≡ map offer_by (flat_map plain_services ls)
 passive-offers [] = refl
 passive-offers (l ∷ ls) =
-    ap (λ z. z ++ flat_map unit_offers (map passive_unit ls)) (ops-offered l.name Plain l.ops) ∙ ap (λ z. map offer_by (plain_services l) ++ z) (passive-offers ls)
+    ap (λ z. z ++ flat_map unit_offers (map passive_unit ls)) (ops-offered l.name Plain l.ops) ∙ ap (λ z. map offer_by (plain_services l) ++ z)
+    (passive-offers ls)
     ∙ sym (map-append offer_by (plain_services l) (flat_map plain_services ls))
 
-shared-offers : (gs : List Guarded) (cs : List ℕ) → length cs ≡ length gs → flat_map unit_offers (map shared_unit (zip gs cs)) ≡ map offer_by (flat_map protected_services gs)
+shared-offers : (gs : List Guarded) (cs : List ℕ) → length cs ≡ length gs → flat_map unit_offers (map shared_unit (zip gs cs))
+    ≡ map offer_by (flat_map protected_services gs)
 shared-offers [] cs h = refl
 shared-offers (g ∷ gs) [] h = absurd (omega (arith, h))
 shared-offers (g ∷ gs) (c ∷ cs) h =
     let rest : length cs ≡ length gs = omega (arith, h) in
-    ap (λ z. z ++ flat_map unit_offers (map shared_unit (zip gs cs))) (ops-offered g.name Protected g.ops) ∙ ap (λ z. map offer_by (protected_services g) ++ z) (shared-offers gs cs rest)
+    ap (λ z. z ++ flat_map unit_offers (map shared_unit (zip gs cs))) (ops-offered g.name Protected g.ops) ∙ ap
+    (λ z. map offer_by (protected_services g) ++ z) (shared-offers gs cs rest)
     ∙ sym (map-append offer_by (protected_services g) (flat_map protected_services gs))
 
-thread-offers : (ts : List Thread) (ps cs : List ℕ) → length ps ≡ length ts → length cs ≡ length ts → flat_map unit_offers (map thread_unit (zip ts (zip ps cs))) ≡ map offer_by (requests ts)
+thread-offers : (ts : List Thread) (ps cs : List ℕ) → length ps ≡ length ts → length cs ≡ length ts
+    → flat_map unit_offers (map thread_unit (zip ts (zip ps cs))) ≡ map offer_by (requests ts)
 thread-offers [] ps cs h k = refl
 thread-offers (t ∷ ts) [] cs h k = absurd (omega (arith, h))
 thread-offers (t ∷ ts) (p ∷ ps) [] h k = absurd (omega (arith, k))
@@ -69,7 +76,8 @@ thread-offers (t ∷ ts) (p ∷ ps) (c ∷ cs) h k =
     by (thread-offers ts ps cs h' k') t.timing
   where
     by : flat_map unit_offers (map thread_unit (zip ts (zip ps cs))) ≡ map offer_by (requests ts) → (u : Timing)
-        → map (λ (h : Signature). record { object = t.name; sig = h }) (heads (thread_form p c u t)) ++ flat_map unit_offers (map thread_unit (zip ts (zip ps cs)))
+        → map (λ (h : Signature). record { object = t.name; sig = h }) (heads (thread_form p c u t))
+        ++ flat_map unit_offers (map thread_unit (zip ts (zip ps cs)))
         ≡ map offer_by (cons_option (requested t.name (request_of u)) (requests ts))
     by rest (timing.Cyclic period offset) = rest
     by rest (timing.Sporadic op separation jitter) = ap (λ z. record { object = t.name; sig = op } ∷ z) rest
@@ -94,12 +102,14 @@ offers-are f r fit =
     ∙ sym (map-append offer_by (flat_map plain_services f.passive) (flat_map protected_services f.shared ++ requests f.threads))
 
 -- an offer is found where the service is
-pub offer-found : (ss : List Service) (name : OpName) → find (offers_it name) (map offer_by ss) ≡ option_map offer_by (service_named ss name.object name.op)
+pub offer-found : (ss : List Service) (name : OpName) → find (offers_it name) (map offer_by ss)
+    ≡ option_map offer_by (service_named ss name.object name.op)
 offer-found [] name = refl
 offer-found (v ∷ ss) name = by (offer-found ss name) (same_name v.object name.object && same_name v.op.sig.name name.op)
   where
     by : find (offers_it name) (map offer_by ss) ≡ option_map offer_by (service_named ss name.object name.op) → (t : Bool)
-        → (if t then Some (offer_by v) else find (offers_it name) (map offer_by ss)) ≡ option_map offer_by (if t then Some v else service_named ss name.object name.op)
+        → (if t then Some (offer_by v) else find (offers_it name) (map offer_by ss))
+        ≡ option_map offer_by (if t then Some v else service_named ss name.object name.op)
     by rest true = refl
     by rest false = rest
 
@@ -110,7 +120,8 @@ module _ (written x : Design) (met : AreMet written x) (r : Ranks) (fit : Fittin
       let n : NeededOffer x o name off = needed-offer x o name off e in
       let m : Meant x name n.needed.provided = meant x (kept written x met) name n.needed.provided n.needed.there in (
         offer_by m.service,
-        ap (find (offers_it (resolve x name))) (offers-are (flat x) r fit) ∙ offer-found (flat_services (flat x)) (resolve x name) ∙ ap (option_map offer_by) m.found,
+        ap (find (offers_it (resolve x name))) (offers-are (flat x) r fit) ∙ offer-found (flat_services
+            (flat x)) (resolve x name) ∙ ap (option_map offer_by) m.found,
         ap (λ (g : Signature). same_params g.params m.service.op.sig.params) n.sig ∙ m.params,
       )
 
@@ -124,16 +135,20 @@ module _ (written x : Design) (met : AreMet written x) (r : Ranks) (fit : Fittin
       let name : f.body.name ≡ f.provided.sig.name = same-is f.body.name f.provided.sig.name at.1 in
       let found : provided_named f.body.name s.own.provides ≡ Some f.provided =
       found-only (λ p. same_name p.sig.name f.body.name) s.own.provides f.provided f.provides (is-same f.provided.sig.name f.body.name (sym name))
-      (λ q i t. key-eq (λ (p : Provided). p.sig.name) s.own.provides (op-names x s (no-clash written x met) o) q f.provided i f.provides (same-is q.sig.name f.body.name t ∙ name)) in
+      (λ q i t. key-eq (λ (p : Provided). p.sig.name) s.own.provides (op-names x s (no-clash written x met) o) q f.provided i f.provides
+      (same-is q.sig.name f.body.name t ∙ name)) in
       let right : block_fault (scope x s.own f.provided.sig.params f.body.locals) f.body.block ≡ None =
       ap (λ p. block_fault (scope x s.own (params_by p) f.body.locals) f.body.block) (sym found) ∙ body-right written x met s f.body o at.0 in
       ap (λ (g : Operation). block_fault (with_calls (ada.offers (program_for (flat x) r)) (scope x s.own g.sig.params g.locals)) g.block) f.made
-      ∙ block_fault-renamed (resolve x) (offers x s.own) (ada.offers (program_for (flat x) r)) (leads s.own) (scope x s.own f.provided.sig.params f.body.locals) refl f.body.block right
+      ∙ block_fault-renamed (resolve x) (offers x s.own) (ada.offers (program_for (flat x) r)) (leads s.own)
+      (scope x s.own f.provided.sig.params f.body.locals) refl f.body.block right
 
   pub thread-faultless : (t : Thread) (f : ThreadFrom x t)
-      → block_fault (with_calls (ada.offers (program_for (flat x) r)) (scope x f.standing.own (request_params f.standing.own.kind (request_op f.standing.own.provides)) [])) t.block ≡ None
+      → block_fault (with_calls (ada.offers (program_for (flat x) r))
+      (scope x f.standing.own (request_params f.standing.own.kind (request_op f.standing.own.provides)) [])) t.block ≡ None
   thread-faultless t f =
-      ap (λ (u : Thread). block_fault (with_calls (ada.offers (program_for (flat x) r)) (scope x f.standing.own (request_params f.standing.own.kind (request_op f.standing.own.provides)) [])) u.block) f.made
+      ap (λ (u : Thread). block_fault (with_calls (ada.offers (program_for (flat x) r))
+      (scope x f.standing.own (request_params f.standing.own.kind (request_op f.standing.own.provides)) [])) u.block) f.made
       ∙ block_fault-renamed (resolve x) (offers x f.standing.own) (ada.offers (program_for (flat x) r)) (leads f.standing.own)
       (scope x f.standing.own (request_params f.standing.own.kind (request_op f.standing.own.provides)) []) refl f.block
       (thread-right written x met f.standing f.block (terminal-object x f.standing f.stands).0 f.runs)

@@ -1,11 +1,13 @@
 -- Deadline-monotonic priorities: no two threads have the same, and they are 1 to the number of threads.
-use Rattle.std.specs.Prelude.{◌≡◌, ◌⊎◌, ℕ, zero, suc, ◌+◌, ◌≤◌, ◌<◌, ◌==◌, ◌&&◌, nat_lt, Bool, true, false, cond, List, [], ◌∷◌, map, length, count_by, slice_get, Some, refl}
+use Rattle.std.specs.Prelude.{◌≡◌, ◌⊎◌, ℕ, zero, suc, ◌+◌, ◌≤◌, ◌<◌, ◌==◌, ◌&&◌, nat_lt, Bool, true, false, cond, List, [], ◌∷◌, map, length}
+use Rattle.std.specs.Prelude.{count_by, slice_get, Some, refl}
 use Rattle.std.specs.List.{enumerate_from}
 use Rattle.std.proofs.Common.{sym, ◌∙◌, ap, arith, inl, inr}
 use Rattle.std.proofs.lemmas.List.Sums.{sum_by-cons}
 use Rattle.analysis.specs.Priorities.{comes_after, priorities}
 use Rattle.std.proofs.lemmas.List.FromFn.{length-enumerate_from}
-use Rattle.std.proofs.lemmas.Bool.{or_cases, and_parts, and_from, ltb-true, lt-ltb, eqb-true, eq-eqb, or_left, or_right, both_ways, false_from_ne_true}
+use Rattle.std.proofs.lemmas.Bool.{or_cases, and_parts, and_from, ltb-true, lt-ltb, eqb-true, eq-eqb, or_left, or_right, both_ways}
+use Rattle.std.proofs.lemmas.Bool.{false_from_ne_true}
 
 -- a thread by its place and deadline
 abbrev pub Placed : Type 0
@@ -23,7 +25,8 @@ after-true a b e = elim (or_cases (nat_lt b.1 a.1) (a.1 == b.1 && nat_lt b.0 a.0
 
 true-after : (a b : Placed) → After a b → comes_after a b ≡ true
 true-after a b (inl less) = or_left (nat_lt b.1 a.1) (a.1 == b.1 && nat_lt b.0 a.0) (lt-ltb b.1 a.1 less)
-true-after a b (inr same) = or_right (nat_lt b.1 a.1) (a.1 == b.1 && nat_lt b.0 a.0) (and_from (a.1 == b.1) (nat_lt b.0 a.0) (eq-eqb a.1 b.1 same.0) (lt-ltb b.0 a.0 same.1))
+true-after a b (inr same) = or_right (nat_lt b.1 a.1) (a.1 == b.1 && nat_lt b.0 a.0)
+    (and_from (a.1 == b.1) (nat_lt b.0 a.0) (eq-eqb a.1 b.1 same.0) (lt-ltb b.0 a.0 same.1))
 
 after-through : (a b c : Placed) → After a b → After c a → After c b
 after-through a b c (inl y) (inl x) = inl (omega (arith, x, y))
@@ -32,7 +35,8 @@ after-through a b c (inl y) (inr x) = inl (omega (arith, x.0, y))
 after-through a b c (inr y) (inr x) = inr (omega (arith, x.0, y.0), omega (arith, x.1, y.1))
 
 not-itself : (a : Placed) → comes_after a a ≡ false
-not-itself a = false_from_ne_true (comes_after a a) (λ g. elim (after-true a a g) [ inl less ↦ omega (arith, less) | inr less ↦ omega (arith, less.1) ])
+not-itself a = false_from_ne_true (comes_after a a)
+    (λ g. elim (after-true a a g) [ inl less ↦ omega (arith, less) | inr less ↦ omega (arith, less.1) ])
 
 -- the number of threads that come after
 abbrev pub behind : Placed → List Placed → ℕ
@@ -53,7 +57,8 @@ behind-cons a c cs = sum_by-cons (λ b. cond (comes_after b a) 1 0) c cs ∙ ap 
 -- a thread that comes after another has fewer behind it
 behind-less : (a b : Placed) (cs : List Placed) → After a b → behind a cs ≤ behind b cs
 behind-less a b [] h = omega arith
-behind-less a b (c ∷ cs) h = omega (arith, behind-cons a c cs, behind-cons b c cs, by (comes_after c a) (comes_after c b) refl refl (behind-less a b cs h))
+behind-less a b (c ∷ cs) h = omega
+    (arith, behind-cons a c cs, behind-cons b c cs, by (comes_after c a) (comes_after c b) refl refl (behind-less a b cs h))
   where
     by : (x y : Bool) → comes_after c a ≡ x → comes_after c b ≡ y → behind a cs ≤ behind b cs → one x + behind a cs ≤ one y + behind b cs
     by true true e g rest = omega (arith, rest)
@@ -69,7 +74,8 @@ behind-fewer a b (c ∷ cs) zero h e =
     let first : one (comes_after c a) ≡ 0 = ap one (ap (λ z. comes_after z a) is ∙ not-itself a) in
     let second : one (comes_after c b) ≡ 1 = ap one (ap (λ z. comes_after z b) is ∙ true-after a b h) in
     omega (arith, behind-cons a c cs, behind-cons b c cs, first, second, behind-less a b cs h)
-behind-fewer a b (c ∷ cs) (suc k) h e = omega (arith, behind-cons a c cs, behind-cons b c cs, by (comes_after c a) (comes_after c b) refl refl (behind-fewer a b cs k h e))
+behind-fewer a b (c ∷ cs) (suc k) h e
+    = omega (arith, behind-cons a c cs, behind-cons b c cs, by (comes_after c a) (comes_after c b) refl refl (behind-fewer a b cs k h e))
   where
     by : (x y : Bool) → comes_after c a ≡ x → comes_after c b ≡ y → behind a cs < behind b cs → one x + behind a cs < one y + behind b cs
     by true true g i rest = omega (arith, rest)
@@ -109,7 +115,8 @@ get-placed n (d ∷ ds) zero a e =
 get-placed n (d ∷ ds) (suc k) a e = let rest : a.0 ≡ n + 1 + k = get-placed (n + 1) ds k a e in omega (arith, rest)
 
 -- a priority is one more than the number of threads behind
-get-priority : (cs es : List Placed) (k p : ℕ) → slice_get (map (λ a. suc (behind a cs)) es) k ≡ Some p → (a : Placed) × (slice_get es k ≡ Some a) × (suc (behind a cs) ≡ p)
+get-priority : (cs es : List Placed) (k p : ℕ) → slice_get (map (λ a. suc (behind a cs)) es) k ≡ Some p
+    → (a : Placed) × (slice_get es k ≡ Some a) × (suc (behind a cs) ≡ p)
 get-priority cs [] k p e = cc
 get-priority cs (a ∷ es) zero p e = let is : suc (behind a cs) ≡ p = cc in (a, refl, is)
 get-priority cs (a ∷ es) (suc k) p e = get-priority cs es k p e
@@ -144,7 +151,8 @@ priorities-differ ds i j p e g =
         deadlines false true h k = inr (inl (inl (let less : b.1 < a.1 = grind arith in less)))
         deadlines false false h k = places (let same : a.1 ≡ b.1 = grind arith in same) (nat_lt a.0 b.0) (nat_lt b.0 a.0) refl refl
 
-    by : {a b : Placed} → slice_get (enumerate_from 0 ds) i ≡ Some a → slice_get (enumerate_from 0 ds) j ≡ Some b → behind a (enumerate_from 0 ds) ≡ behind b (enumerate_from 0 ds)
+    by : {a b : Placed} → slice_get (enumerate_from 0 ds) i ≡ Some a → slice_get (enumerate_from 0 ds) j ≡ Some b
+        → behind a (enumerate_from 0 ds) ≡ behind b (enumerate_from 0 ds)
         → a.0 ≡ 0 + i → b.0 ≡ 0 + j → (a.0 ≡ b.0) ⊎ (After a b ⊎ After b a) → i ≡ j
     by at at' same p q (inl equal) = omega (arith, equal, p, q)
     by {a} {b} at at' same p q (inr (inl after)) = absurd (omega (arith, same, behind-fewer a b (enumerate_from 0 ds) i after at))

@@ -1,5 +1,7 @@
 -- The tasks of a flat design's program are its threads with their priorities, and its ceilings are at most those of the design.
-use Rattle.std.specs.Prelude.{◌≡◌, ℕ, zero, suc, ◌≤◌, ◌<◌, nat_le, nat_lt, max, fold, Bool, true, false, cond, List, [], ◌∷◌, ◌++◌, map, zip, filter, flat_map, filter_map, find, length, slice_get, Option, Some, None, option_map, unwrap_or, if◌then◌else◌, refl, ◌+◌, ◌-◌}
+use Rattle.std.specs.Prelude.{◌≡◌, ℕ, zero, suc, ◌≤◌, ◌<◌, nat_le, nat_lt, max, fold, Bool, true, false, cond, List, [], ◌∷◌, ◌++◌, map, zip}
+use Rattle.std.specs.Prelude.{filter, flat_map, filter_map, find, length, slice_get, Option, Some, None, option_map, unwrap_or, if◌then◌else◌}
+use Rattle.std.specs.Prelude.{refl, ◌+◌, ◌-◌}
 use Rattle.std.specs.List.{cons_option}
 use Rattle.std.proofs.Common.{◌∙◌, ap, arith, zero-le}
 use Rattle.std.proofs.lemmas.List.Elements.{filter_map-append}
@@ -41,32 +43,40 @@ ranked-form t q c (timing.Cyclic period offset) = refl
 ranked-form t q c (timing.Sporadic op separation None) = refl
 ranked-form t q c (timing.Sporadic op separation (Some jitter)) = refl
 
-ranked-threads : (first : ℕ) (ts : List Thread) (ps cs : List ℕ) → length cs ≡ length ts → filter_map ranked_by (map thread_unit (zip ts (zip (numbered first ps) cs))) ≡ map (ranked_entry first) (zip ts ps)
+ranked-threads : (first : ℕ) (ts : List Thread) (ps cs : List ℕ) → length cs ≡ length ts
+    → filter_map ranked_by (map thread_unit (zip ts (zip (numbered first ps) cs))) ≡ map (ranked_entry first) (zip ts ps)
 ranked-threads first [] ps cs h = refl
 ranked-threads first (t ∷ ts) [] cs h = refl
 ranked-threads first (t ∷ ts) (q ∷ ps) [] h = absurd (omega (arith, h))
 ranked-threads first (t ∷ ts) (q ∷ ps) (c ∷ cs) h =
     let rest : length cs ≡ length ts = omega (arith, h) in
     let e : Entry = (t, q) in
-    ap (λ o. cons_option o (filter_map ranked_by (map thread_unit (zip ts (zip (numbered first ps) cs))))) (ranked-form t (q + (first - 1)) c t.timing) ∙ ap (λ us. ranked_entry first e ∷ us) (ranked-threads first ts ps cs rest)
+    ap (λ o. cons_option o (filter_map ranked_by (map thread_unit (zip ts (zip (numbered first ps) cs)))))
+    (ranked-form t (q + (first - 1)) c t.timing) ∙ ap (λ us. ranked_entry first e ∷ us) (ranked-threads first ts ps cs rest)
 
-pub ranked-listing : (first : ℕ) (f : Flat) (r : Ranks) → length (numbered first r.obcs) ≡ length f.threads → ranked (program_for f (written_ranks first r)) ≡ map (ranked_entry first) (zip f.threads r.threads)
+pub ranked-listing : (first : ℕ) (f : Flat) (r : Ranks) → length (numbered first r.obcs) ≡ length f.threads
+    → ranked (program_for f (written_ranks first r)) ≡ map (ranked_entry first) (zip f.threads r.threads)
 ranked-listing first f r long =
     let us : List Unit = map passive_unit f.passive in
     let vs : List Unit = map shared_unit (zip f.shared (numbered first r.shared)) in
     let ws : List Unit = map thread_unit (zip f.threads (zip (numbered first r.threads) (numbered first r.obcs))) in
     filter_map-append ranked_by us (vs ++ ws) ∙ ap (λ xs. xs ++ filter_map ranked_by (vs ++ ws)) (ranked-passive f.passive)
-    ∙ filter_map-append ranked_by vs ws ∙ ap (λ xs. xs ++ filter_map ranked_by ws) (ranked-shared (zip f.shared (numbered first r.shared))) ∙ ranked-threads first f.threads r.threads (numbered first r.obcs) long
+    ∙ filter_map-append ranked_by vs ws ∙ ap (λ xs. xs ++ filter_map ranked_by ws) (ranked-shared (zip f.shared (numbered first r.shared))) ∙
+    ranked-threads first f.threads r.threads (numbered first r.obcs) long
 
 -- what may be called is the same
-requests-same : (ts : List Thread) → filter_map (λ (t : Task). requested t.name (request_of t.timing)) (map task_of ts) ≡ filter_map (λ (t : Thread). requested t.name (request_of t.timing)) ts
+requests-same : (ts : List Thread) → filter_map (λ (t : Task). requested t.name (request_of t.timing)) (map task_of ts)
+    ≡ filter_map (λ (t : Thread). requested t.name (request_of t.timing)) ts
 requests-same [] = refl
 requests-same (t ∷ ts) = ap (cons_option (requested t.name (request_of t.timing))) (requests-same ts)
 
-pub services-same : (f : Flat) (r : Ranks) → length r.shared ≡ length f.shared → length r.threads ≡ length f.threads → length r.obcs ≡ length f.threads → program_services (program_for f r) ≡ flat_services f
-services-same f r shared threads obcs = ap all_services (program_for-software f r shared threads obcs) ∙ ap (services f.passive f.shared) (requests-same f.threads)
+pub services-same : (f : Flat) (r : Ranks) → length r.shared ≡ length f.shared → length r.threads ≡ length f.threads
+    → length r.obcs ≡ length f.threads → program_services (program_for f r) ≡ flat_services f
+services-same f r shared threads obcs = ap all_services (program_for-software f r shared threads obcs) ∙ ap (services f.passive f.shared)
+    (requests-same f.threads)
 
-pub zipped-at : {A B : Type 0} (xs : List A) (ys : List B) (k : ℕ) (p : A × B) → slice_get (zip xs ys) k ≡ Some p → (slice_get xs k ≡ Some p.0) × (slice_get ys k ≡ Some p.1)
+pub zipped-at : {A B : Type 0} (xs : List A) (ys : List B) (k : ℕ) (p : A × B) → slice_get (zip xs ys) k ≡ Some p
+    → (slice_get xs k ≡ Some p.0) × (slice_get ys k ≡ Some p.1)
 zipped-at [] ys k p e = cc
 zipped-at (z ∷ xs) [] k p e = cc
 zipped-at {A} {B} (z ∷ xs) (w ∷ ys) zero p e =
@@ -79,7 +89,8 @@ zipped-at (z ∷ xs) (w ∷ ys) (suc k) p e = zipped-at xs ys k p e
 abbrev IsLow : Name → ℕ → Unit → Type 0
 IsLow name bound u = same_name u.name name ≡ true → ceiling_of u.form ≤ bound
 
-find-low : (name : Name) (bound : ℕ) (us : List Unit) → Each (IsLow name bound) us → unwrap_or (option_map (λ u. ceiling_of u.form) (find (λ u. same_name u.name name) us)) 0 ≤ bound
+find-low : (name : Name) (bound : ℕ) (us : List Unit) → Each (IsLow name bound) us
+    → unwrap_or (option_map (λ u. ceiling_of u.form) (find (λ u. same_name u.name name) us)) 0 ≤ bound
 find-low name bound [] h = zero-le
 find-low name bound (u ∷ us) h = by (same_name u.name name) refl (find-low name bound us h.1)
   where
@@ -93,15 +104,19 @@ module _ (first : ℕ) (f : Flat) (ps : List ℕ) (name : Name) where
   low-passive [] = tt
   low-passive (l ∷ ls) = (λ e. zero-le, low-passive ls)
 
-  low-shared : (gs : List Guarded) → Each (IsLow name (ceiling f ps name + (first - 1))) (map shared_unit (zip gs (numbered first (map (λ g. ceiling f ps g.name) gs))))
+  low-shared : (gs : List Guarded)
+      → Each (IsLow name (ceiling f ps name + (first - 1))) (map shared_unit (zip gs (numbered first (map (λ g. ceiling f ps g.name) gs))))
   low-shared [] = tt
   low-shared (g ∷ gs) = (λ e. let same = ap (ceiling f ps) (same-is g.name name e) in omega (arith, same), low-shared gs)
 
-  low-form : (t : Thread) (q : ℕ) (k : timing.Timing) → t.name ≡ name → ceiling_of (thread_form q (control_ceiling f ps t.name k + (first - 1)) k t) ≤ ceiling f ps name + (first - 1)
+  low-form : (t : Thread) (q : ℕ) (k : timing.Timing) → t.name ≡ name
+      → ceiling_of (thread_form q (control_ceiling f ps t.name k + (first - 1)) k t) ≤ ceiling f ps name + (first - 1)
   low-form t q (timing.Cyclic period offset) e = zero-le
   low-form t q (timing.Sporadic op separation jitter) e = let same = ap (ceiling f ps) e in omega (arith, same)
 
-  low-threads : (ts : List Thread) (qs : List ℕ) → Each (IsLow name (ceiling f ps name + (first - 1))) (map thread_unit (zip ts (zip qs (numbered first (map (λ t. control_ceiling f ps t.name t.timing) ts)))))
+  low-threads : (ts : List Thread) (qs : List ℕ)
+      → Each (IsLow name (ceiling f ps name + (first - 1)))
+      (map thread_unit (zip ts (zip qs (numbered first (map (λ t. control_ceiling f ps t.name t.timing) ts)))))
   low-threads [] qs = tt
   low-threads (t ∷ ts) [] = tt
   low-threads (t ∷ ts) (q ∷ qs) = (λ e. low-form t q t.timing (same-is t.name name e), low-threads ts qs)
@@ -110,7 +125,9 @@ module _ (first : ℕ) (f : Flat) (ps : List ℕ) (name : Name) where
   ceiling-low =
       find-low name (ceiling f ps name + (first - 1)) (program_for f (written_ranks first (ranks_for f ps))).units
       (each-append (IsLow name (ceiling f ps name + (first - 1))) (map passive_unit f.passive) _ (low-passive f.passive)
-      (each-append (IsLow name (ceiling f ps name + (first - 1))) (map shared_unit (zip f.shared (numbered first (map (λ g. ceiling f ps g.name) f.shared)))) _ (low-shared f.shared) (low-threads f.threads (numbered first ps))))
+      (each-append (IsLow name (ceiling f ps name + (first - 1)))
+      (map shared_unit (zip f.shared (numbered first (map (λ g. ceiling f ps g.name) f.shared)))) _ (low-shared f.shared)
+      (low-threads f.threads (numbered first ps))))
 
 fold-each : (n : ℕ) (ns : List ℕ) → Each (λ m. m ≤ fold max n ns) ns
 fold-each n ns = each-in (λ m. m ≤ fold max n ns) ns (at-most n ns)
@@ -124,7 +141,8 @@ each-of-filter : {A : Type 0} (P : A → Type 0) (test : A → Bool) (xs : List 
 each-of-filter P test [] h = tt
 each-of-filter {A} P test (x ∷ xs) h = by (test x) refl h (λ k. each-of-filter P test xs k)
   where
-    by : (b : Bool) → test x ≡ b → Each P (if b then x ∷ filter test xs else filter test xs) → (Each P (filter test xs) → Each (λ y. test y ≡ true → P y) xs)
+    by : (b : Bool) → test x ≡ b → Each P (if b then x ∷ filter test xs else filter test xs)
+        → (Each P (filter test xs) → Each (λ y. test y ≡ true → P y) xs)
         → (test x ≡ true → P x) × Each (λ y. test y ≡ true → P y) xs
     by true e k rest = (λ g. k.0, rest k.1)
     by false e k rest = (λ g. absurd (both_ways (test x) e g), rest k)
@@ -142,10 +160,13 @@ each-of-flat P g (x ∷ xs) h = (front (g x) (flat_map g xs) h, each-of-flat P g
     back (y ∷ ys) zs k = back ys zs k.1
 
 pub lower-bounded : (f : Flat) (ps : List ℕ) (level : ℕ)
-    → Each (λ u. u.1 < level → Each (λ s. level ≤ ceiling f ps s.object → s.cost ≤ blocking f ps level) (sections f.costs (flat_services f) u.0.block)) (zip f.threads ps)
+    → Each (λ u. u.1 < level → Each (λ s. level ≤ ceiling f ps s.object
+    → s.cost ≤ blocking f ps level) (sections f.costs (flat_services f) u.0.block)) (zip f.threads ps)
 lower-bounded f ps level =
-    each-to _ _ (zip f.threads ps) (λ u h low. each-to _ _ (sections f.costs (flat_services f) u.0.block) (λ s k reach. k (reaches s reach)) (lower u h low))
-    (each-of-flat (λ s. nat_le level (ceiling f ps s.object) ≡ true → s.cost ≤ blocking f ps level) (λ u. if nat_lt u.1 level then sections f.costs (flat_services f) u.0.block else []) (zip f.threads ps)
+    each-to _ _ (zip f.threads ps) (λ u h low. each-to _ _ (sections f.costs (flat_services f) u.0.block) (λ s k reach. k (reaches s reach))
+    (lower u h low))
+    (each-of-flat (λ s. nat_le level (ceiling f ps s.object) ≡ true → s.cost ≤ blocking f ps level)
+    (λ u. if nat_lt u.1 level then sections f.costs (flat_services f) u.0.block else []) (zip f.threads ps)
     (each-of-filter (λ s. s.cost ≤ blocking f ps level) (λ s. nat_le level (ceiling f ps s.object)) (lower_sections f ps level)
     (each-of-map (λ n. n ≤ blocking f ps level) (λ s. s.cost) (filter (λ s. nat_le level (ceiling f ps s.object)) (lower_sections f ps level))
     (fold-each 0 (map (λ s. s.cost) (filter (λ s. nat_le level (ceiling f ps s.object)) (lower_sections f ps level)))))))
@@ -163,12 +184,15 @@ lower-bounded f ps level =
     Bounded : Section → Type 0
     Bounded s = nat_le level (ceiling f ps s.object) ≡ true → s.cost ≤ blocking f ps level
 
-    lower : (u : Thread × ℕ) → Each (λ s. nat_le level (ceiling f ps s.object) ≡ true → s.cost ≤ blocking f ps level) (if nat_lt u.1 level then sections f.costs (flat_services f) u.0.block else [])
-        → u.1 < level → Each (λ s. nat_le level (ceiling f ps s.object) ≡ true → s.cost ≤ blocking f ps level) (sections f.costs (flat_services f) u.0.block)
+    lower : (u : Thread × ℕ) → Each (λ s. nat_le level (ceiling f ps s.object) ≡ true
+        → s.cost ≤ blocking f ps level) (if nat_lt u.1 level then sections f.costs (flat_services f) u.0.block else [])
+        → u.1 < level → Each (λ s. nat_le level (ceiling f ps s.object) ≡ true
+        → s.cost ≤ blocking f ps level) (sections f.costs (flat_services f) u.0.block)
     lower u h low = by (nat_lt u.1 level) refl h
       where
         by : (b : Bool) → nat_lt u.1 level ≡ b
-            → Each (λ s. nat_le level (ceiling f ps s.object) ≡ true → s.cost ≤ blocking f ps level) (if b then sections f.costs (flat_services f) u.0.block else [])
+            → Each (λ s. nat_le level (ceiling f ps s.object) ≡ true → s.cost ≤ blocking f ps level)
+            (if b then sections f.costs (flat_services f) u.0.block else [])
             → Each (λ s. nat_le level (ceiling f ps s.object) ≡ true → s.cost ≤ blocking f ps level) (sections f.costs (flat_services f) u.0.block)
         by true e k = k
         by false e k = absurd (clash e)
@@ -177,12 +201,14 @@ lower-bounded f ps level =
             clash e = grind (arith, low)
 
 -- items of lists of numbers as they are written
-pub raised-at : {A : Type 0} (first : ℕ) (h : A → ℕ) (xs : List A) (k : ℕ) (x : A) → slice_get xs k ≡ Some x → slice_get (numbered first (map h xs)) k ≡ Some (h x + (first - 1))
+pub raised-at : {A : Type 0} (first : ℕ) (h : A → ℕ) (xs : List A) (k : ℕ) (x : A) → slice_get xs k ≡ Some x
+    → slice_get (numbered first (map h xs)) k ≡ Some (h x + (first - 1))
 raised-at first h [] k x e = cc
 raised-at first h (y ∷ xs) zero x e = let is : y ≡ x = cc in ap (λ z. Some (h z + (first - 1))) is
 raised-at first h (y ∷ xs) (suc k) x e = raised-at first h xs k x e
 
-pub from-raised : {A : Type 0} (first : ℕ) (h : A → ℕ) (xs : List A) (k n : ℕ) → slice_get (numbered first (map h xs)) k ≡ Some n → (x : A) × (slice_get xs k ≡ Some x) × (h x + (first - 1) ≡ n)
+pub from-raised : {A : Type 0} (first : ℕ) (h : A → ℕ) (xs : List A) (k n : ℕ) → slice_get (numbered first (map h xs)) k ≡ Some n
+    → (x : A) × (slice_get xs k ≡ Some x) × (h x + (first - 1) ≡ n)
 from-raised first h [] k n e = cc
 from-raised first h (y ∷ xs) zero n e = let is : h y + (first - 1) ≡ n = cc in (y, refl, is)
 from-raised first h (y ∷ xs) (suc k) n e = from-raised first h xs k n e

@@ -15,7 +15,8 @@ attributes : (tick : ℕ) (as' : List Attr) → Each (IsProperAttribute None) (m
 attributes tick [] = tt
 attributes tick (a ∷ as') = (refl, attributes tick as')
 
-object-ticked : (v : Option VersionTwo) (tick d : ℕ) (o : Object) → IsProperObject (within_limits is_design_name) v d o → IsProperObject (within_limits is_design_name) None d (object_in_ticks tick o)
+object-ticked : (v : Option VersionTwo) (tick d : ℕ) (o : Object) → IsProperObject (within_limits is_design_name) v d o
+    → IsProperObject (within_limits is_design_name) None d (object_in_ticks tick o)
 object-ticked v tick d o p = record {
   nests = p.nests;
   name = p.name;
@@ -29,16 +30,19 @@ object-ticked v tick d o p = record {
 }
 
 mutual
-  tree-ticked : (v : Option VersionTwo) (tick d : ℕ) (t : Tree) → IsProperTree (within_limits is_design_name) v d t → IsProperTree (within_limits is_design_name) None d (tree_in_ticks tick t)
+  tree-ticked : (v : Option VersionTwo) (tick d : ℕ) (t : Tree) → IsProperTree (within_limits is_design_name) v d t
+      → IsProperTree (within_limits is_design_name) None d (tree_in_ticks tick t)
   tree-ticked v tick d (Node own children) p = (object-ticked v tick (suc d) own p.0, trees-ticked v tick (suc d) children p.1)
 
-  trees-ticked : (v : Option VersionTwo) (tick d : ℕ) (ts : Trees) → AreProperTrees (within_limits is_design_name) v d ts → AreProperTrees (within_limits is_design_name) None d (trees_in_ticks tick ts)
+  trees-ticked : (v : Option VersionTwo) (tick d : ℕ) (ts : Trees) → AreProperTrees (within_limits is_design_name) v d ts
+      → AreProperTrees (within_limits is_design_name) None d (trees_in_ticks tick ts)
   trees-ticked v tick d Empty p = tt
   trees-ticked v tick d (With first rest) p = (tree-ticked v tick d first p.0, trees-ticked v tick d rest p.1)
 
 ticked-proper : (x : Design) (v : Option VersionTwo) → IsProperTree (within_limits is_design_name) x.version 0 x.root → AreProper (ticked v x)
 ticked-proper x None p = proper-objects x p
-ticked-proper x (Some v) p = λ s h. proper-tree None 0 None (own_of (tree_in_ticks (tick_time v) x.root) ∷ []) (tree_in_ticks (tick_time v) x.root) (tree-ticked x.version (tick_time v) 0 x.root p) s h
+ticked-proper x (Some v) p = λ s h. proper-tree None 0 None (own_of (tree_in_ticks (tick_time v) x.root) ∷ []) (tree_in_ticks (tick_time v) x.root)
+    (tree-ticked x.version (tick_time v) 0 x.root p) s h
 
 pub proper-in-ticks : (x : Design) → IsProperDesign (within_limits is_design_name) x → AreProper (in_ticks x)
 proper-in-ticks x p = ticked-proper x x.version p.1

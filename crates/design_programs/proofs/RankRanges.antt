@@ -1,5 +1,7 @@
 -- The priorities and ceilings of a design, as they are written, are 1 to 60, and no thread is above its control structure's ceiling.
-use Rattle.std.proofs.Common.{◌≡◌, ℕ, zero, suc, ◌+◌, ◌-◌, ◌≤◌, Bool, true, false, not, ◌&&◌, ◌||◌, List, [], ◌∷◌, map, filter, zip, length, max, min, nat_lt, nat_le, Option, Some, None, option_to_list, option_and_then, refl, sym, ap, subst, ◌∙◌, arith, le_trans, inl, inr}
+use Rattle.std.proofs.Common.{◌≡◌, ℕ, zero, suc, ◌+◌, ◌-◌, ◌≤◌, Bool, true, false, not, ◌&&◌, ◌||◌, List, [], ◌∷◌, map, filter, zip, length, max}
+use Rattle.std.proofs.Common.{min, nat_lt, nat_le, Option, Some, None, option_to_list, option_and_then, refl, sym, ap, subst, ◌∙◌, arith}
+use Rattle.std.proofs.Common.{le_trans, inl, inr}
 use Rattle.analysis.specs.Starts.{calls_object}
 use Rattle.std.proofs.lemmas.List.{length-map}
 use Rattle.std.proofs.lemmas.Bool.{and_parts}
@@ -49,7 +51,8 @@ module _ (f : Flat) where
     at-least 1 (map (λ (u : Thread × ℕ). u.1) (filter (λ (u : Thread × ℕ). uses_object name u.0) (zip f.threads ps))),
     fold-most 1 most (map (λ (u : Thread × ℕ). u.1) (filter (λ (u : Thread × ℕ). uses_object name u.0) (zip f.threads ps))) (omega arith) (λ n h.
         let r = from-map (λ (u : Thread × ℕ). u.1) (filter (λ (u : Thread × ℕ). uses_object name u.0) (zip f.threads ps)) n h in
-        let q = priority-range f r.0.1 (from-zip f.threads ps r.0 (in-filter (λ (u : Thread × ℕ). uses_object name u.0) r.0 (zip f.threads ps) r.1).0).1 in
+        let q = priority-range f r.0.1
+        (from-zip f.threads ps r.0 (in-filter (λ (u : Thread × ℕ). uses_object name u.0) r.0 (zip f.threads ps) r.1).0).1 in
         let e = r.2 in
         omega (arith, q.1, e)),
   )
@@ -57,7 +60,8 @@ module _ (f : Flat) where
   within-range : (d : ℕ) (name : Name) → ceiling_within d f ps name ≤ most
   within-range zero name = (user-range name).1
   within-range (suc d) name =
-      fold-most (greatest_user f.threads ps name) most (map (λ g. ceiling_within d f ps g.name) (filter (calls_from_inside name) f.shared)) (user-range name).1 (λ n h.
+      fold-most (greatest_user f.threads ps name) most (map (λ g. ceiling_within d f ps g.name) (filter (calls_from_inside name) f.shared))
+      (user-range name).1 (λ n h.
       let r = from-map (λ (g : Guarded). ceiling_within d f ps g.name) (filter (calls_from_inside name) f.shared) n h in
       let q = within-range d r.0.name in
       let e = r.2 in omega (arith, q, e))
@@ -69,7 +73,8 @@ module _ (f : Flat) where
   own-priority t q h =
       let mine : uses_object t.name t ≡ true = ap (λ b. b || calls_object t.name t.block) (same-self t.name) in
       let a = at-most 1 (map (λ (u : Thread × ℕ). u.1) (filter (λ (u : Thread × ℕ). uses_object t.name u.0) (zip f.threads ps))) q
-      (in-map (λ (u : Thread × ℕ). u.1) (t, q) (filter (λ (u : Thread × ℕ). uses_object t.name u.0) (zip f.threads ps)) (filter-in (λ (u : Thread × ℕ). uses_object t.name u.0) (t, q) (zip f.threads ps) h mine)) in
+      (in-map (λ (u : Thread × ℕ). u.1) (t, q) (filter (λ (u : Thread × ℕ). uses_object t.name u.0) (zip f.threads ps))
+      (filter-in (λ (u : Thread × ℕ). uses_object t.name u.0) (t, q) (zip f.threads ps) h mine)) in
       le_trans a (ceiling-user f ps t.name)
 
 -- pairs with what is computed of the first
@@ -78,7 +83,8 @@ zip-computed k up [] a n h = absurd h
 zip-computed k up (x ∷ xs) a n (inl e) = ap (λ p. p.1) (sym e) ∙ ap (λ p. up (k p.0)) e
 zip-computed k up (x ∷ xs) a n (inr h) = zip-computed k up xs a n h
 
-zip-both : {A : Type 0} (k : A → ℕ) (up : ℕ → ℕ) (xs : List A) (qs : List ℕ) (a : A) (n : ℕ × ℕ) → IsIn (a, n) (zip xs (zip (map up qs) (map up (map k xs))))
+zip-both : {A : Type 0} (k : A → ℕ) (up : ℕ → ℕ) (xs : List A) (qs : List ℕ) (a : A) (n : ℕ × ℕ)
+    → IsIn (a, n) (zip xs (zip (map up qs) (map up (map k xs))))
     → (q : ℕ) × IsIn (a, q) (zip xs qs) × (n.0 ≡ up q) × (n.1 ≡ up (k a))
 zip-both k up [] qs a n h = absurd h
 zip-both k up (x ∷ xs) [] a n h = absurd h
@@ -132,23 +138,27 @@ module _ (written x : Design) (met : AreMet written x) (same : written.version �
   pub stated-ranked : AreRanked (flat x) (stated_ranks x)
   stated-ranked = record {
     shared = λ g c h.
-        let e = zip-computed (λ (g : Guarded). ceiling (flat x) (priorities_of (flat x)) g.name) (λ n. n + (first_priority x - 1)) (flat x).shared g c h in
+        let e = zip-computed (λ (g : Guarded). ceiling (flat x) (priorities_of (flat x)) g.name) (λ n. n + (first_priority x - 1))
+        (flat x).shared g c h in
         let q = ceiling-range (flat x) g.name in
         let k = room in
         ap (is_outside 1 60) e ∙ written-range _ (first_priority x - 1) q.0 (omega (arith, q.1, k));
     threads = λ t n h.
-        let z = zip-both (λ (t : Thread). control_ceiling (flat x) (priorities_of (flat x)) t.name t.timing) (λ n. n + (first_priority x - 1)) (threads x) (priorities_of (flat x)) t n h in
+        let z = zip-both (λ (t : Thread). control_ceiling (flat x) (priorities_of (flat x)) t.name t.timing) (λ n. n + (first_priority x - 1))
+        (threads x) (priorities_of (flat x)) t n h in
         let q = priority-range (flat x) z.0 (from-zip (threads x) (priorities_of (flat x)) (t, z.0) z.1).1 in
         let k = room in
         ap (is_outside 1 60) z.2 ∙ written-range z.0 (first_priority x - 1) q.0 (omega (arith, q.1, k));
     obcs = λ t n op separation jitter h e.
-        let z = zip-both (λ (t : Thread). control_ceiling (flat x) (priorities_of (flat x)) t.name t.timing) (λ n. n + (first_priority x - 1)) (threads x) (priorities_of (flat x)) t n h in
+        let z = zip-both (λ (t : Thread). control_ceiling (flat x) (priorities_of (flat x)) t.name t.timing) (λ n. n + (first_priority x - 1))
+        (threads x) (priorities_of (flat x)) t n h in
         let c : n.1 ≡ ceiling (flat x) (priorities_of (flat x)) t.name + (first_priority x - 1) =
         z.3 ∙ ap (λ u. control_ceiling (flat x) (priorities_of (flat x)) t.name u + (first_priority x - 1)) e in
         let q = ceiling-range (flat x) t.name in
         let o = own-priority (flat x) t z.0 z.1 in
         let k = room in (
           ap (is_outside 1 60) c ∙ written-range _ (first_priority x - 1) q.0 (omega (arith, q.1, k)),
-          ap (λ m. nat_lt m n.0) c ∙ ap (λ m. nat_lt (ceiling (flat x) (priorities_of (flat x)) t.name + (first_priority x - 1)) m) z.2 ∙ not-below (ceiling (flat x) (priorities_of (flat x)) t.name) z.0 (first_priority x - 1) o,
+          ap (λ m. nat_lt m n.0) c ∙ ap (λ m. nat_lt (ceiling (flat x) (priorities_of (flat x)) t.name + (first_priority x - 1))
+              m) z.2 ∙ not-below (ceiling (flat x) (priorities_of (flat x)) t.name) z.0 (first_priority x - 1) o,
         );
   }

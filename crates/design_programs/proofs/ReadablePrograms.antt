@@ -53,8 +53,11 @@ module _ (written x : Design) (met : ods.AreMet written x) (r : Ranks) where
   few-tasks : length (filter (λ (u : Unit). is_task u.form) p.units) ≤ 30
   few-tasks =
       let task : Unit → Bool = λ u. is_task u.form in
-      let none-us : filter (λ (u : Unit). is_task u.form) us ≡ [] = filter-none (λ (u : Unit). is_task u.form) us (λ u h. ap (λ (w : Unit). is_task w.form) (from-map passive_unit (libraries x) u h).2) in
-      let none-vs : filter (λ (u : Unit). is_task u.form) vs ≡ [] = filter-none (λ (u : Unit). is_task u.form) vs (λ u h. ap (λ (w : Unit). is_task w.form) (from-map shared_unit (zip (guarded x) r.shared) u h).2) in
+      let none-us : filter (λ (u : Unit). is_task u.form) us ≡ []
+      = filter-none (λ (u : Unit). is_task u.form) us (λ u h. ap (λ (w : Unit). is_task w.form) (from-map passive_unit (libraries x) u h).2) in
+      let none-vs : filter (λ (u : Unit). is_task u.form) vs ≡ []
+      = filter-none (λ (u : Unit). is_task u.form) vs (λ u h. ap (λ (w : Unit). is_task w.form)
+      (from-map shared_unit (zip (guarded x) r.shared) u h).2) in
       let split : filter (λ (u : Unit). is_task u.form) p.units ≡ filter (λ (u : Unit). is_task u.form) ws =
       filter-append (λ (u : Unit). is_task u.form) us (vs ++ ws) ∙ ap (λ z. z ++ filter (λ (u : Unit). is_task u.form) (vs ++ ws)) none-us
       ∙ filter-append (λ (u : Unit). is_task u.form) vs ws ∙ ap (λ z. z ++ filter (λ (u : Unit). is_task u.form) ws) none-vs in
@@ -75,7 +78,8 @@ module _ (written x : Design) (met : ods.AreMet written x) (r : Ranks) where
       let f = zip-most (guarded x) r.shared in
       let g = zip-most (threads x) (zip r.threads r.obcs) in
       let h = few-entries written x met in
-      let i = length-append (map (λ (l : Library). l.name) (libraries x)) (map (λ (g : Guarded). g.name) (guarded x) ++ map (λ (t : Thread). t.name) (threads x)) in
+      let i = length-append (map (λ (l : Library). l.name) (libraries x)) (map (λ (g : Guarded). g.name) (guarded x)
+      ++ map (λ (t : Thread). t.name) (threads x)) in
       let j = length-append (map (λ (g : Guarded). g.name) (guarded x)) (map (λ (t : Thread). t.name) (threads x)) in
       let k = length-map (libraries x) (λ (l : Library). l.name) in
       let l = length-map (guarded x) (λ (g : Guarded). g.name) in

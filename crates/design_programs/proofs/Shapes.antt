@@ -1,13 +1,16 @@
 -- A block without a fault calls what is offered, with as many actuals as there are parameters.
-use Rattle.std.proofs.Common.{◌≡◌, Bool, true, false, not, ◌||◌, ◌==◌, List, ◌++◌, map, find, length, Option, Some, None, refl, sym, ap, subst, ◌∙◌, inl, inr, ◌⊎◌}
+use Rattle.std.proofs.Common.{◌≡◌, Bool, true, false, not, ◌||◌, ◌==◌, List, ◌++◌, map, find, length, Option, Some, None, refl, sym, ap, subst}
+use Rattle.std.proofs.Common.{◌∙◌, inl, inr, ◌⊎◌}
 use Rattle.std.proofs.lemmas.List.{map-append}
 use Rattle.std.specs.List.{list_any}
 use Rattle.seq_tree.specs.Names.{Name}
 use Rattle.seq_tree.specs.Expressions.{Expression}
-use Rattle.seq_tree.specs.Statements.{Statement, Statements, Branches, Null, Assign, If, For, ExitWhen, Call, Work, Put, End, Then, Nothing, Else, When}
+use Rattle.seq_tree.specs.Statements.{Statement, Statements, Branches, Null, Assign, If, For, ExitWhen, Call, Work, Put, End, Then, Nothing}
+use Rattle.seq_tree.specs.Statements.{Else, When}
 use Rattle.seq_tree.specs.Operations.{Offer}
 use Rattle.seq_tree.specs.Calls.{statement_calls, block_calls, branch_calls}
-use Rattle.seq_tree.specs.Faults.{Scope, BodyFault, words, conditions, within_loop, or_else, fault_if, expressions_fault, out_actuals, actuals_fault, is_fixed_actual, call_fault, statement_fault, block_fault, branches_fault}
+use Rattle.seq_tree.specs.Faults.{Scope, BodyFault, words, conditions, within_loop, or_else, fault_if, expressions_fault, out_actuals}
+use Rattle.seq_tree.specs.Faults.{actuals_fault, is_fixed_actual, call_fault, statement_fault, block_fault, branches_fault}
 use Rattle.seq_tree.specs.Faults as fault
 use Rattle.seq_tree.specs.declared.tree.OpName.{OpName}
 use Rattle.ods_tree.specs.Links.{renamed_statement, renamed, renamed_branches}
@@ -39,12 +42,14 @@ mutual
 
   pub calls-counted : (b : Statements) → block_calls b ≡ map counted_name (counted_calls b)
   calls-counted End = refl
-  calls-counted (Then first rest) = two-parts counted_name (counted_statement first) (counted_calls rest) _ _ (statement-counted first) (calls-counted rest)
+  calls-counted (Then first rest) = two-parts counted_name (counted_statement first) (counted_calls rest) _ _ (statement-counted first)
+      (calls-counted rest)
 
   branches-counted : (bs : Branches) → branch_calls bs ≡ map counted_name (counted_branches bs)
   branches-counted Nothing = refl
   branches-counted (Else b) = calls-counted b
-  branches-counted (When e b others) = two-parts counted_name (counted_calls b) (counted_branches others) _ _ (calls-counted b) (branches-counted others)
+  branches-counted (When e b others) = two-parts counted_name (counted_calls b) (counted_branches others) _ _ (calls-counted b)
+      (branches-counted others)
 
 module _ (means : OpName → OpName) where
   -- a counted call by what it means
@@ -64,12 +69,14 @@ module _ (means : OpName → OpName) where
 
     pub counted-renamed : (b : Statements) → counted_calls (renamed means b) ≡ map counted_as (counted_calls b)
     counted-renamed End = refl
-    counted-renamed (Then first rest) = two-parts counted_as (counted_statement first) (counted_calls rest) _ _ (statement-renamed first) (counted-renamed rest)
+    counted-renamed (Then first rest) = two-parts counted_as (counted_statement first) (counted_calls rest) _ _ (statement-renamed first)
+        (counted-renamed rest)
 
     branches-renamed : (bs : Branches) → counted_branches (renamed_branches means bs) ≡ map counted_as (counted_branches bs)
     branches-renamed Nothing = refl
     branches-renamed (Else b) = counted-renamed b
-    branches-renamed (When e b others) = two-parts counted_as (counted_calls b) (counted_branches others) _ _ (counted-renamed b) (branches-renamed others)
+    branches-renamed (When e b others) = two-parts counted_as (counted_calls b) (counted_branches others) _ _ (counted-renamed b)
+        (branches-renamed others)
 
 -- a call that is offered, with its number of actuals
 pub record Right (calls : List Offer) (k : Counted) : Type 0 where
@@ -81,21 +88,26 @@ if-none : (b : Bool) (f : BodyFault) → fault_if (not b) f ≡ None → b ≡ t
 if-none true f e = refl
 if-none false f e = (let z : Some f ≡ None = e in cc)
 
-call-right : (c : Scope) (object op : Name) (actuals : List Expression) (o : Option Offer) → find (offers_it (record { object = object; op = op })) c.calls ≡ o → call_fault c o actuals ≡ None
+call-right : (c : Scope) (object op : Name) (actuals : List Expression) (o : Option Offer)
+    → find (offers_it (record { object = object; op = op })) c.calls ≡ o → call_fault c o actuals ≡ None
     → Right c.calls (record { object = object; op = op; count = length actuals })
 call-right c object op actuals None e h = (let z : Some fault.Unknown ≡ None = h in cc)
 call-right c object op actuals (Some o) e h =
     let outs : List Expression = out_actuals o.sig.params actuals in
     let a = (or_else-none (expressions_fault c (words actuals)) (actuals_fault c outs o.sig.params actuals) h).1 in
-    let b = (or_else-none (fault_if (list_any (is_fixed_actual c) outs) fault.Assigned) (or_else (fault_if (list_any fault.is_no_variable outs || fault.repeats outs) fault.Actual) (fault_if (not (length o.sig.params == length actuals)) fault.Count)) a).1 in
-    let d = (or_else-none (fault_if (list_any fault.is_no_variable outs || fault.repeats outs) fault.Actual) (fault_if (not (length o.sig.params == length actuals)) fault.Count) b).1 in
+    let b = (or_else-none (fault_if (list_any (is_fixed_actual c) outs) fault.Assigned)
+    (or_else (fault_if (list_any fault.is_no_variable outs || fault.repeats outs) fault.Actual)
+    (fault_if (not (length o.sig.params == length actuals)) fault.Count)) a).1 in
+    let d = (or_else-none (fault_if (list_any fault.is_no_variable outs || fault.repeats outs) fault.Actual)
+    (fault_if (not (length o.sig.params == length actuals)) fault.Count) b).1 in
     record { offer = o; found = e; count = eqb-true _ _ (if-none _ fault.Count d) }
 
 mutual
   statement-right : (c : Scope) (s : Statement) → statement_fault c s ≡ None → (k : Counted) → IsIn k (counted_statement s) → Right c.calls k
   statement-right c Null h k j = absurd j
   statement-right c (Assign target value) h k j = absurd j
-  statement-right c (If branches) h k j = branches-right c branches (or_else-none (expressions_fault c (conditions branches)) (branches_fault c branches) h).1 k j
+  statement-right c (If branches) h k j
+      = branches-right c branches (or_else-none (expressions_fault c (conditions branches)) (branches_fault c branches) h).1 k j
   statement-right c (For name low high body) h k j = calls-right (within_loop c name) body h k j
   statement-right c (ExitWhen e) h k j = absurd j
   statement-right c (Call object op actuals) h k (inl e) =
@@ -111,7 +123,8 @@ mutual
       let parts = or_else-none (statement_fault c first) (block_fault c rest) h in
       by (statement-right c first parts.0 k) (calls-right c rest parts.1 k) (in-cases (counted_statement first) (counted_calls rest) k j)
     where
-      by : (IsIn k (counted_statement first) → Right c.calls k) → (IsIn k (counted_calls rest) → Right c.calls k) → IsIn k (counted_statement first) ⊎ IsIn k (counted_calls rest) → Right c.calls k
+      by : (IsIn k (counted_statement first) → Right c.calls k) → (IsIn k (counted_calls rest) → Right c.calls k)
+          → IsIn k (counted_statement first) ⊎ IsIn k (counted_calls rest) → Right c.calls k
       by f g (inl i) = f i
       by f g (inr i) = g i
 
@@ -122,6 +135,7 @@ mutual
       let parts = or_else-none (block_fault c b) (branches_fault c others) h in
       by (calls-right c b parts.0 k) (branches-right c others parts.1 k) (in-cases (counted_calls b) (counted_branches others) k j)
     where
-      by : (IsIn k (counted_calls b) → Right c.calls k) → (IsIn k (counted_branches others) → Right c.calls k) → IsIn k (counted_calls b) ⊎ IsIn k (counted_branches others) → Right c.calls k
+      by : (IsIn k (counted_calls b) → Right c.calls k) → (IsIn k (counted_branches others) → Right c.calls k)
+          → IsIn k (counted_calls b) ⊎ IsIn k (counted_branches others) → Right c.calls k
       by f g (inl i) = f i
       by f g (inr i) = g i

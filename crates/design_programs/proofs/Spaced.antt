@@ -37,15 +37,19 @@ module _ (written x : Design) (met : AreMet written x) where
   thread-object : (t : Thread) → (r : ThreadFrom x t) → IsIn r.standing.own (thread_objects x)
   thread-object t r =
       in-map (λ (s : Standing). s.own) r.standing (filter (λ s. has_thread s.own.kind) (terminals x))
-      (filter-in (λ s. has_thread s.own.kind) r.standing (terminals x) r.stands (timed-kind has_thread true r.standing.own r.timing refl refl r.timed))
+      (filter-in (λ s. has_thread s.own.kind) r.standing (terminals x) r.stands
+      (timed-kind has_thread true r.standing.own r.timing refl refl r.timed))
 
   -- a starter of a sporadic object has a period of at least its separation
-  starter-spaced : (to : Object) → IsIn to (thread_objects x) → is_sporadic to.kind ≡ true → (u : Thread) → ThreadFrom x u → can_request (flat_services (flat x)) to.name u.block ≡ true
+  starter-spaced : (to : Object) → IsIn to (thread_objects x) → is_sporadic to.kind ≡ true → (u : Thread) → ThreadFrom x u
+      → can_request (flat_services (flat x)) to.name u.block ≡ true
       → nat_le (attribute_or 0 Separation to) (period_of u.timing) ≡ true
   starter-spaced to stands sort u r asks =
       let o = (terminal-object x r.standing r.stands).0 in
-      let same = can-same written x met r.standing r.block to (service-count written x met) o r.runs (thread-needed written x met r.standing r.block o r.runs) sort in
-      let starts : can_start x r.standing.own to ≡ true = sym same ∙ ap (λ (v : Thread). can_request (flat_services (flat x)) to.name v.block) (sym r.made) ∙ asks in
+      let same = can-same written x met r.standing r.block to (service-count written x met) o r.runs
+      (thread-needed written x met r.standing r.block o r.runs) sort in
+      let starts : can_start x r.standing.own to ≡ true
+      = sym same ∙ ap (λ (v : Thread). can_request (flat_services (flat x)) to.name v.block) (sym r.made) ∙ asks in
       let few = separations-right written x met r.standing.own to (thread-object u r) stands starts in
       let period : period_of u.timing ≡ spacing r.standing.own =
       ap (λ (v : Thread). period_of v.timing) r.made ∙ period-spacing r.standing.own r.timing r.timed in
@@ -61,7 +65,8 @@ module _ (written x : Design) (met : AreMet written x) where
       by (OfCyclic e s) = ap (is_spaced (flat x) own.name) s
       by (OfSporadic sig e q s) =
           ap (is_spaced (flat x) own.name) s
-          ∙ all-from (λ u. nat_le (attribute_or 0 Separation own) (period_of u.timing)) (starters (flat_services (flat x)) own.name (threads x)) (λ u h.
+          ∙ all-from (λ u. nat_le (attribute_or 0 Separation own) (period_of u.timing))
+          (starters (flat_services (flat x)) own.name (threads x)) (λ u h.
           let i = in-filter (λ (v : Thread). can_request (flat_services (flat x)) own.name v.block) u (threads x) h in
           starter-spaced own (thread-object t r) (ap is_sporadic e) u (thread-from x u i.0) i.1)
 

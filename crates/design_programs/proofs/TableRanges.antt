@@ -1,5 +1,6 @@
 -- The table of a sound flat design is in its ranges.
-use Rattle.std.specs.Prelude.{◌≡◌, ℕ, zero, suc, ◌-◌, ◌≤◌, ◌<◌, nat_le, nat_lt, true, List, [], ◌∷◌, map, filter_map, length, position, slice_get, Option, Some, None, option_map, option_and_then, refl}
+use Rattle.std.specs.Prelude.{◌≡◌, ℕ, zero, suc, ◌-◌, ◌≤◌, ◌<◌, nat_le, nat_lt, true, List, [], ◌∷◌, map, filter_map, length, position}
+use Rattle.std.specs.Prelude.{slice_get, Option, Some, None, option_map, option_and_then, refl}
 use Rattle.std.specs.List.{cons_option}
 use Rattle.std.proofs.Common.{sym, ◌∙◌, ap, subst, arith}
 use Rattle.std.proofs.lemmas.Option.{slice_get_within}
@@ -54,7 +55,8 @@ module _ (f : Flat) (sound : IsSound f) where
       let inside : at < length ps = slice_get_within ps at q e in
       let thread = has-at f.threads at (omega (arith, inside, long f 1)) in
       let entry : entry_by f ps q ≡ Some (thread.0, q) =
-      ap (option_and_then (λ x. option_map (λ t. let z : Entry = (t, q) in z) (slice_get f.threads x))) (position-is ps q at (alone f 1) e) ∙ ap (option_map (λ t. let z : Entry = (t, q) in z)) thread.1 in
+      ap (option_and_then (λ x. option_map (λ t. let z : Entry = (t, q) in z) (slice_get f.threads x))) (position-is ps q at (alone f 1) e) ∙ ap
+      (option_map (λ t. let z : Entry = (t, q) in z)) thread.1 in
       slice_get_within es (length ps - q) (thread.0, q) (entry-at f ps (length ps) (all-entries f 1) q (thread.0, q) range.0 range.1 entry)
 
   row-in : (o : Option ℕ) → tables.IsStarter (length es) (option_and_then (λ at. option_map (λ p. length ps - p) (slice_get ps at)) o)
@@ -88,7 +90,8 @@ module _ (f : Flat) (sound : IsSound f) where
       let parts = and_parts (is_timed e.0.timing) (is_within 1 (period_of e.0.timing) e.0.deadline) ranges in
       let deadline = within-true 1 (period_of e.0.timing) e.0.deadline parts.1 in
       let times = timed e.0.timing parts.0 in
-      let cheap = all-at (λ t. nat_le (activation_cost f t) 1000000000 ≡ true) f.threads s.0 e.0 (all-each (λ t. nat_le (activation_cost f t) 1000000000) f.threads sound.thread_costs) s.1 in
+      let cheap = all-at (λ t. nat_le (activation_cost f t) 1000000000 ≡ true) f.threads s.0 e.0
+      (all-each (λ t. nat_le (activation_cost f t) 1000000000) f.threads sound.thread_costs) s.1 in
       record {
         asks = deadline.0;
         before_next = deadline.1;
@@ -100,7 +103,8 @@ module _ (f : Flat) (sound : IsSound f) where
         starter = starter-in e.0 e.0.timing;
       }
 
-  rows-each : (n : ℕ) (xs : List Entry) → ((e : Entry) → Stands f ps e → IsRow n (row_entry f ps e)) → Each (Stands f ps) xs → tables.Each (IsRow n) (map (row_entry f ps) xs)
+  rows-each : (n : ℕ) (xs : List Entry) → ((e : Entry) → Stands f ps e → IsRow n (row_entry f ps e)) → Each (Stands f ps) xs
+      → tables.Each (IsRow n) (map (row_entry f ps) xs)
   rows-each n [] h all = tt
   rows-each n (x ∷ xs) h all = (h x all.0, rows-each n xs h all.1)
 
@@ -109,7 +113,8 @@ module _ (f : Flat) (sound : IsSound f) where
       let same : length (map (row_entry f ps) es) ≡ length es = length-map es (row_entry f ps) in
       record {
         count = (let most = count in omega (arith, same, most));
-        each = subst (λ n. tables.Each (IsRow n) (map (row_entry f ps) es)) (sym same) (rows-each (length es) es is-row (entries-stand f ps (downwards (length ps))));
+        each = subst (λ n. tables.Each (IsRow n) (map (row_entry f ps) es)) (sym same) (rows-each (length es) es is-row
+            (entries-stand f ps (downwards (length ps))));
       }
 
   -- the table of a sound flat design is one

@@ -1,5 +1,7 @@
 -- The table of a flat design is one of its program's tasks, taken by priority.
-use Rattle.std.specs.Prelude.{◌≡◌, ℕ, zero, suc, ◌+◌, ◌-◌, ◌≤◌, ◌<◌, ◌==◌, nat_le, nat_lt, Bool, true, false, cond, List, [], ◌∷◌, map, zip, filter, filter_map, length, position, get_or, slice_get, Option, Some, None, option_map, option_and_then, if◌then◌else◌, refl}
+use Rattle.std.specs.Prelude.{◌≡◌, ℕ, zero, suc, ◌+◌, ◌-◌, ◌≤◌, ◌<◌, ◌==◌, nat_le, nat_lt, Bool, true, false, cond, List, [], ◌∷◌, map, zip}
+use Rattle.std.specs.Prelude.{filter, filter_map, length, position, get_or, slice_get, Option, Some, None, option_map, option_and_then}
+use Rattle.std.specs.Prelude.{if◌then◌else◌, refl}
 use Rattle.std.specs.List.{list_all, cons_option, AllZip, position_or_len}
 use Rattle.std.proofs.Common.{sym, ◌∙◌, ap, subst, arith}
 use Rattle.std.proofs.lemmas.List.Sums.{position_or_len_is}
@@ -23,9 +25,11 @@ use Rattle.analysis.specs.Ceilings.{ceiling, ranks, numbered, written_ranks}
 use Rattle.analysis.specs.Blocking.{blocking}
 use Rattle.analysis.specs.Tables.{downwards, starter_row, starter_of, jitter_of, table}
 use Rattle.guarantee.specs.Programs.{program_for}
-use Rattle.guarantee.specs.ResponseLaw.{Ranked, ranked, ceiling_named, program_services, task_sections, is_among, IsBelowCeiling, CallsUpwards, IsStarter, IsStarted, AreTabled}
+use Rattle.guarantee.specs.ResponseLaw.{Ranked, ranked, ceiling_named, program_services, task_sections, is_among, IsBelowCeiling, CallsUpwards}
+use Rattle.guarantee.specs.ResponseLaw.{IsStarter, IsStarted, AreTabled}
 use Rattle.design_programs.proofs.PriorityOrders.{priority-at, priorities-differ}
-use Rattle.design_programs.proofs.PriorityLists.{Entry, entry_by, entries, ranked_entry, row_entry, in_order, Stands, entries-stand, rows-are, zip-entries, falls-entries, among-entries, position-is}
+use Rattle.design_programs.proofs.PriorityLists.{Entry, entry_by, entries, ranked_entry, row_entry, in_order, Stands, entries-stand, rows-are}
+use Rattle.design_programs.proofs.PriorityLists.{zip-entries, falls-entries, among-entries, position-is}
 use Rattle.design_programs.proofs.ProgramTasks.{ranked-listing, services-same, zipped-at, ceiling-low, lower-bounded}
 use Rattle.seq_tree.specs.Names.{are_distinct}
 use Rattle.ods_tree.specs.Sound.{entry_names}
@@ -59,7 +63,8 @@ record IsAlone {A : Type 0} (test : A → Bool) (xs : List A) : Type 0 where
   are : filter test xs ≡ item ∷ []
   pub alone : (j : ℕ) (y : A) → slice_get xs j ≡ Some y → test y ≡ true → j ≡ place
 
-none-passes : {A : Type 0} (test : A → Bool) (xs : List A) → length (filter test xs) ≡ 0 → (filter test xs ≡ []) × ((j : ℕ) (y : A) → slice_get xs j ≡ Some y → test y ≡ true → ⊥)
+none-passes : {A : Type 0} (test : A → Bool) (xs : List A) → length (filter test xs) ≡ 0 → (filter test xs ≡ [])
+    × ((j : ℕ) (y : A) → slice_get xs j ≡ Some y → test y ≡ true → ⊥)
 none-passes {A} test [] h = (refl, λ j y e g. no j y e)
   where
     no : (j : ℕ) (y : A) → slice_get [] j ≡ Some y → ⊥
@@ -80,7 +85,8 @@ one-passes : {A : Type 0} (test : A → Bool) (xs : List A) → length (filter t
 one-passes test [] h = absurd (omega (arith, h))
 one-passes {A} test (x ∷ xs) h = by (test x) refl h (one-passes test xs)
   where
-    by : (b : Bool) → test x ≡ b → length (if b then x ∷ filter test xs else filter test xs) ≡ 1 → (length (filter test xs) ≡ 1 → IsAlone test xs) → IsAlone test (x ∷ xs)
+    by : (b : Bool) → test x ≡ b → length (if b then x ∷ filter test xs else filter test xs) ≡ 1 → (length (filter test xs) ≡ 1 → IsAlone test xs)
+        → IsAlone test (x ∷ xs)
     by true e g rest =
         let none = none-passes test xs (omega (arith, g)) in
         record {
@@ -92,7 +98,8 @@ one-passes {A} test (x ∷ xs) h = by (test x) refl h (one-passes test xs)
           alone = λ j y at passes. at_place j y at passes none.1;
         }
       where
-        at_place : (j : ℕ) (y : A) → slice_get (x ∷ xs) j ≡ Some y → test y ≡ true → ((k : ℕ) (z : A) → slice_get xs k ≡ Some z → test z ≡ true → ⊥) → j ≡ 0
+        at_place : (j : ℕ) (y : A) → slice_get (x ∷ xs) j ≡ Some y → test y ≡ true
+            → ((k : ℕ) (z : A) → slice_get xs k ≡ Some z → test z ≡ true → ⊥) → j ≡ 0
         at_place zero y at passes none = refl
         at_place (suc j) y at passes none = absurd (none j y at passes)
     by false e g rest =
@@ -113,7 +120,8 @@ one-passes {A} test (x ∷ xs) h = by (test x) refl h (one-passes test xs)
 alone-position : {A : Type 0} (test : A → Bool) (xs : List A) (one : IsAlone test xs) → position test xs ≡ Some one.place
 alone-position test xs one =
     let inside : one.place < length xs = slice_get_within xs one.place one.item one.stands in
-    let first : position_or_len test xs ≡ one.place = position_or_len_is test xs one.place one.item (omega (arith, inside)) (λ k less. before k less inside)
+    let first : position_or_len test xs ≡ one.place
+    = position_or_len_is test xs one.place one.item (omega (arith, inside)) (λ k less. before k less inside)
     (λ less. ap test (get_or_from_slice_get xs one.place one.item one.item one.stands) ∙ one.passes) in
     ap (λ n. cond (nat_lt n (length xs)) (Some n) None) first ∙ found inside
   where
@@ -136,16 +144,22 @@ alone-position test xs one =
 
 -- a thread that starts another keeps within the other's separation
 spaced-at : (f : Flat) (i j : ℕ) (t u : Thread) (op : Signature) (separation : ℕ) → list_all (λ t. is_spaced f t.name t.timing) f.threads ≡ true
-    → slice_get f.threads i ≡ Some t → slice_get f.threads j ≡ Some u → t.timing ≡ timing.Sporadic op separation None → can_request (flat_services f) t.name u.block ≡ true → separation ≤ period_of u.timing
+    → slice_get f.threads i ≡ Some t → slice_get f.threads j ≡ Some u → t.timing ≡ timing.Sporadic op separation None
+    → can_request (flat_services f) t.name u.block ≡ true → separation ≤ period_of u.timing
 spaced-at f i j t u op separation spaced at there is passes =
-    leb-true separation (period_of u.timing) (passed (λ w. nat_le separation (period_of w.timing)) (λ w. can_request (flat_services f) t.name w.block) f.threads j u
-    (subst (λ k. is_spaced f t.name k ≡ true) is (all-in (λ w. is_spaced f w.name w.timing) f.threads t spaced (at-in f.threads i t at))) there passes)
+    leb-true separation (period_of u.timing) (passed (λ w. nat_le separation (period_of w.timing))
+    (λ w. can_request (flat_services f) t.name w.block) f.threads j u
+    (subst (λ k. is_spaced f t.name k ≡ true) is (all-in (λ w. is_spaced f w.name w.timing) f.threads t spaced (at-in f.threads i t at)))
+    there passes)
   where
-    kept : (test pick : Thread → Bool) (x y : Thread) (xs : List Thread) → x ≡ y → pick y ≡ true → list_all test (filter pick (x ∷ xs)) ≡ true → test y ≡ true
+    kept : (test pick : Thread → Bool) (x y : Thread) (xs : List Thread) → x ≡ y → pick y ≡ true → list_all test (filter pick (x ∷ xs)) ≡ true
+        → test y ≡ true
     kept test pick x y xs same picked h =
-        subst (λ z. test z ≡ true) same (and_parts (test x) (list_all test (filter pick xs)) (subst (λ b. list_all test (cond b (x ∷ filter pick xs) (filter pick xs)) ≡ true) (ap pick same ∙ picked) h)).0
+        subst (λ z. test z ≡ true) same (and_parts (test x) (list_all test (filter pick xs))
+        (subst (λ b. list_all test (cond b (x ∷ filter pick xs) (filter pick xs)) ≡ true) (ap pick same ∙ picked) h)).0
 
-    passed : (test pick : Thread → Bool) (xs : List Thread) (k : ℕ) (y : Thread) → list_all test (filter pick xs) ≡ true → slice_get xs k ≡ Some y → pick y ≡ true → test y ≡ true
+    passed : (test pick : Thread → Bool) (xs : List Thread) (k : ℕ) (y : Thread) → list_all test (filter pick xs) ≡ true → slice_get xs k ≡ Some y
+        → pick y ≡ true → test y ≡ true
     passed test pick [] k y h e picked = cc
     passed test pick (x ∷ xs) zero y h e picked = kept test pick x y xs (same_Some x y e) picked h
     passed test pick (x ∷ xs) (suc k) y h e picked = passed test pick xs k y (others (pick x) h) e picked
@@ -169,8 +183,11 @@ module _ (f : Flat) (first : ℕ) where
 
   pub in-range : (k q : ℕ) → slice_get ps k ≡ Some q → (1 ≤ q) × (q ≤ length ps)
   in-range k q e =
-      let found = priority-at (map (λ t. t.deadline) f.threads) k q e in
-      (found.0, (let same : length ps ≡ length (map (λ t. t.deadline) f.threads) = length-priorities (map (λ (t : Thread). t.deadline) f.threads) in omega (arith, found.1, same)))
+      let found = priority-at (map (λ t. t.deadline) f.threads) k q e in (
+        found.0,
+        (let same : length ps ≡ length (map (λ t. t.deadline) f.threads) = length-priorities (map (λ (t : Thread). t.deadline) f.threads)
+            in omega (arith, found.1, same)),
+      )
 
   pub alone : (i j q : ℕ) → slice_get ps i ≡ Some q → slice_get ps j ≡ Some q → i ≡ j
   alone i j q e g = priorities-differ (map (λ t. t.deadline) f.threads) i j q e g
@@ -196,10 +213,12 @@ module _ (f : Flat) (first : ℕ) where
   same-services : program_services p ≡ flat_services f
   same-services = services-same f (written_ranks first (ranks f)) twice-shared long-numbers twice-threads
 
-  listed-at : (k : ℕ) (t : Thread) (q : ℕ) → slice_get f.threads k ≡ Some t → slice_get ps k ≡ Some q → slice_get (ranked p) k ≡ Some (ranked_entry first (t, q))
+  listed-at : (k : ℕ) (t : Thread) (q : ℕ) → slice_get f.threads k ≡ Some t → slice_get ps k ≡ Some q
+      → slice_get (ranked p) k ≡ Some (ranked_entry first (t, q))
   listed-at k t q e g = ap (λ us. slice_get us k) are-listed ∙ map-at (ranked_entry first) (zip f.threads ps) k (t, q) (zip-at f.threads ps k t q e g)
 
-  at-listed : (k : ℕ) (u : Ranked) → slice_get (ranked p) k ≡ Some u → (x : Entry) × (slice_get f.threads k ≡ Some x.0) × (slice_get ps k ≡ Some x.1) × (ranked_entry first x ≡ u)
+  at-listed : (k : ℕ) (u : Ranked) → slice_get (ranked p) k ≡ Some u → (x : Entry) × (slice_get f.threads k ≡ Some x.0) × (slice_get ps k ≡ Some x.1)
+      × (ranked_entry first x ≡ u)
   at-listed k u e =
       let found = mapped-at (ranked_entry first) (zip f.threads ps) k u (ap (λ us. slice_get us k) (sym are-listed) ∙ e) in
       let parts = zipped-at f.threads ps k found.0 found.1 in
@@ -222,57 +241,81 @@ module _ (f : Flat) (first : ℕ) where
           both_ways (is_among ts x.0.0.name) (ap (λ w. is_among ts w.task.name) x.3 ∙ out) among
 
   -- tasks and rows side by side
-  by-entries : (R : Ranked → ThreadRow → Type 0) → ((e : Entry) → Stands f ps e → R (ranked_entry first e) (row_entry f ps e)) → AllZip R ts (table f).rows
+  by-entries : (R : Ranked → ThreadRow → Type 0) → ((e : Entry) → Stands f ps e → R (ranked_entry first e) (row_entry f ps e))
+      → AllZip R ts (table f).rows
   by-entries R h =
       subst (AllZip R ts) (sym (rows-are f ps))
       (zip-entries R first f ps (entries f ps (downwards (length ps)))
-      (each-to (Stands f ps) (λ e. R (ranked_entry first e) (row_entry f ps e)) (entries f ps (downwards (length ps))) h (entries-stand f ps (downwards (length ps)))))
+      (each-to (Stands f ps) (λ e. R (ranked_entry first e) (row_entry f ps e)) (entries f ps (downwards (length ps))) h
+      (entries-stand f ps (downwards (length ps)))))
 
-  numbers : AllZip (λ t row. (row.period ≡ period_of t.task.timing) × (block_cost p.costs (program_services p) t.task.block + p.costs.finish ≤ row.cost)) ts (table f).rows
+  numbers : AllZip (λ t row. (row.period ≡ period_of t.task.timing)
+      × (block_cost p.costs (program_services p) t.task.block + p.costs.finish ≤ row.cost)) ts (table f).rows
   numbers =
-      by-entries (λ t row. (row.period ≡ period_of t.task.timing) × (block_cost p.costs (program_services p) t.task.block + p.costs.finish ≤ row.cost))
+      by-entries (λ t row. (row.period ≡ period_of t.task.timing)
+      × (block_cost p.costs (program_services p) t.task.block + p.costs.finish ≤ row.cost))
       (λ e s. (refl, (let same = ap (λ ss. block_cost f.costs ss e.0.block + f.costs.finish) same-services in omega (arith, same))))
 
-  blocks : AllZip (λ t row. Each (λ u. u.priority < t.priority → Each (λ s. t.priority ≤ ceiling_named p s.object → s.cost ≤ row.block) (task_sections p u.task)) (ranked p)) ts (table f).rows
+  blocks : AllZip (λ t row. Each (λ u. u.priority < t.priority → Each (λ s. t.priority ≤ ceiling_named p s.object
+      → s.cost ≤ row.block) (task_sections p u.task)) (ranked p)) ts (table f).rows
   blocks =
-      by-entries (λ t row. Each (λ u. u.priority < t.priority → Each (λ s. t.priority ≤ ceiling_named p s.object → s.cost ≤ row.block) (task_sections p u.task)) (ranked p))
+      by-entries (λ t row. Each (λ u. u.priority < t.priority → Each (λ s. t.priority ≤ ceiling_named p s.object
+      → s.cost ≤ row.block) (task_sections p u.task)) (ranked p))
       (λ e s.
-      subst (Each (λ u. u.priority < e.1 + (first - 1) → Each (λ x. e.1 + (first - 1) ≤ ceiling_named p x.object → x.cost ≤ blocking f ps e.1) (task_sections p u.task))) (sym are-listed)
-      (each-map (ranked_entry first) (λ u. u.priority < e.1 + (first - 1) → Each (λ x. e.1 + (first - 1) ≤ ceiling_named p x.object → x.cost ≤ blocking f ps e.1) (task_sections p u.task)) (zip f.threads ps)
-      (each-to _ (λ u. u.1 + (first - 1) < e.1 + (first - 1) → Each (λ x. e.1 + (first - 1) ≤ ceiling_named p x.object → x.cost ≤ blocking f ps e.1) (sections f.costs (program_services p) u.0.block)) (zip f.threads ps)
+      subst (Each (λ u. u.priority < e.1 + (first - 1) → Each (λ x. e.1 + (first - 1) ≤ ceiling_named p x.object
+      → x.cost ≤ blocking f ps e.1) (task_sections p u.task))) (sym are-listed)
+      (each-map (ranked_entry first) (λ u. u.priority < e.1 + (first - 1)
+      → Each (λ x. e.1 + (first - 1) ≤ ceiling_named p x.object → x.cost ≤ blocking f ps e.1) (task_sections p u.task)) (zip f.threads ps)
+      (each-to _ (λ u. u.1 + (first - 1) < e.1 + (first - 1) → Each (λ x. e.1 + (first - 1) ≤ ceiling_named p x.object
+      → x.cost ≤ blocking f ps e.1) (sections f.costs (program_services p) u.0.block)) (zip f.threads ps)
       (λ u h low. lower e.1 u (h (let less : u.1 < e.1 = omega (arith, low) in less))) (lower-bounded f ps e.1))))
     where
-      lower : (level : ℕ) (u : Entry) → Each (λ s. level ≤ ceiling f ps s.object → s.cost ≤ blocking f ps level) (sections f.costs (flat_services f) u.0.block)
-          → Each (λ x. level + (first - 1) ≤ ceiling_named p x.object → x.cost ≤ blocking f ps level) (sections f.costs (program_services p) u.0.block)
+      lower : (level : ℕ) (u : Entry) → Each (λ s. level ≤ ceiling f ps s.object
+          → s.cost ≤ blocking f ps level) (sections f.costs (flat_services f) u.0.block)
+          → Each (λ x. level + (first - 1) ≤ ceiling_named p x.object → x.cost ≤ blocking f ps level)
+          (sections f.costs (program_services p) u.0.block)
       lower level u h =
-          subst (λ ss. Each (λ x. level + (first - 1) ≤ ceiling_named p x.object → x.cost ≤ blocking f ps level) (sections f.costs ss u.0.block)) (sym same-services)
-          (each-to (λ s. level ≤ ceiling f ps s.object → s.cost ≤ blocking f ps level) (λ x. level + (first - 1) ≤ ceiling_named p x.object → x.cost ≤ blocking f ps level) (sections f.costs (flat_services f) u.0.block)
+          subst (λ ss. Each (λ x. level + (first - 1) ≤ ceiling_named p x.object → x.cost ≤ blocking f ps level) (sections f.costs ss u.0.block))
+          (sym same-services)
+          (each-to (λ s. level ≤ ceiling f ps s.object → s.cost ≤ blocking f ps level) (λ x. level + (first - 1) ≤ ceiling_named p x.object
+          → x.cost ≤ blocking f ps level) (sections f.costs (flat_services f) u.0.block)
           (λ s k reach. k (omega (arith, reach, ceiling-low first f ps s.object))) h)
 
   -- each priority has its entry
   pub all-entries : (q : ℕ) → 1 ≤ q → q ≤ length ps → (e : Entry) × (entry_by f ps q ≡ Some e)
   all-entries q some most =
-      let found = priority-found (map (λ t. t.deadline) f.threads) q some (let same : length ps ≡ length (map (λ t. t.deadline) f.threads) = length-priorities (map (λ (t : Thread). t.deadline) f.threads) in omega (arith, most, same)) in
+      let found = priority-found (map (λ t. t.deadline) f.threads) q some (let same : length ps ≡ length (map (λ t. t.deadline) f.threads)
+      = length-priorities (map (λ (t : Thread). t.deadline) f.threads) in omega (arith, most, same)) in
       let inside : found.0 < length ps = slice_get_within ps found.0 q found.1 in
-      let thread = has-at f.threads found.0 (omega (arith, inside, long)) in
-      ((thread.0, q), ap (option_and_then (λ at. option_map (λ t. let z : Entry = (t, q) in z) (slice_get f.threads at))) (position-is ps q found.0 alone found.1) ∙ ap (option_map (λ t. let z : Entry = (t, q) in z)) thread.1)
+      let thread = has-at f.threads found.0 (omega (arith, inside, long)) in (
+        (thread.0, q),
+        ap (option_and_then (λ at. option_map (λ t. let z : Entry = (t, q) in z) (slice_get f.threads at))) (position-is ps q found.0
+            alone found.1) ∙ ap (option_map (λ t. let z : Entry = (t, q) in z)) thread.1,
+      )
 
   -- where a thread's task stands by priority
-  pub task-stands : (at q : ℕ) (u : Thread) → slice_get f.threads at ≡ Some u → slice_get ps at ≡ Some q → slice_get ts (length ps - q) ≡ Some (ranked_entry first (u, q))
+  pub task-stands : (at q : ℕ) (u : Thread) → slice_get f.threads at ≡ Some u → slice_get ps at ≡ Some q
+      → slice_get ts (length ps - q) ≡ Some (ranked_entry first (u, q))
   task-stands at q u e g =
       let range = in-range at q g in
       let entry : entry_by f ps q ≡ Some (u, q) =
-      ap (option_and_then (λ x. option_map (λ t. let z : Entry = (t, q) in z) (slice_get f.threads x))) (position-is ps q at alone g) ∙ ap (option_map (λ t. let z : Entry = (t, q) in z)) e in
-      map-at (ranked_entry first) (entries f ps (downwards (length ps))) (length ps - q) (u, q) (entry-at f ps (length ps) all-entries q (u, q) range.0 range.1 entry)
+      ap (option_and_then (λ x. option_map (λ t. let z : Entry = (t, q) in z) (slice_get f.threads x))) (position-is ps q at alone g) ∙ ap
+      (option_map (λ t. let z : Entry = (t, q) in z)) e in
+      map-at (ranked_entry first) (entries f ps (downwards (length ps))) (length ps - q) (u, q)
+      (entry-at f ps (length ps) all-entries q (u, q) range.0 range.1 entry)
 
-  module _ (started : list_all (λ t. is_started f t.name t.timing) f.threads ≡ true) (spaced : list_all (λ t. is_spaced f t.name t.timing) f.threads ≡ true) where
-    is-requested : (e : Entry) → Stands f ps e → (k : timing.Timing) → e.0.timing ≡ k → is_started f e.0.name k ≡ true → IsStarted p ts (row_entry f ps e) e.0.name k
+  module _ (started : list_all (λ t. is_started f t.name t.timing) f.threads ≡ true) (spaced : list_all (λ t. is_spaced f t.name t.timing) f.threads
+      ≡ true) where
+    is-requested : (e : Entry) → Stands f ps e → (k : timing.Timing) → e.0.timing ≡ k → is_started f e.0.name k ≡ true
+        → IsStarted p ts (row_entry f ps e) e.0.name k
     is-requested e s (timing.Cyclic period offset) is h = tt
     is-requested e s (timing.Sporadic op separation (Some jitter)) is h =
         (ap (starter_of f ps e.0.name) is, (let same : jitter_of e.0.timing ≡ jitter = ap jitter_of is in omega (arith, same)))
     is-requested e s (timing.Sporadic op separation None) is h =
-        let parts = and_parts (length (starters (flat_services f) e.0.name f.threads) == 1) (list_all (λ t. nat_le (start_count (flat_services f) e.0.name op t) 1) (starters (flat_services f) e.0.name f.threads)) h in
-        inside (one-passes (λ t. can_request (flat_services f) e.0.name t.block) f.threads (is-one (length (starters (flat_services f) e.0.name f.threads)) parts.0)) parts.1
+        let parts = and_parts (length (starters (flat_services f) e.0.name f.threads) == 1)
+        (list_all (λ t. nat_le (start_count (flat_services f) e.0.name op t) 1) (starters (flat_services f) e.0.name f.threads)) h in
+        inside (one-passes (λ t. can_request (flat_services f) e.0.name t.block) f.threads
+        (is-one (length (starters (flat_services f) e.0.name f.threads)) parts.0)) parts.1
       where
         is-one : (n : ℕ) → (n == 1) ≡ true → n ≡ 1
         is-one n g = grind arith
@@ -280,32 +323,39 @@ module _ (f : Flat) (first : ℕ) where
         least : (n : ℕ) → nat_le n 1 ≡ true → n ≤ 1
         least n g = grind arith
 
-        inside : IsAlone (λ t. can_request (flat_services f) e.0.name t.block) f.threads → list_all (λ t. nat_le (start_count (flat_services f) e.0.name op t) 1) (starters (flat_services f) e.0.name f.threads) ≡ true
+        inside : IsAlone (λ t. can_request (flat_services f) e.0.name t.block) f.threads
+            → list_all (λ t. nat_le (start_count (flat_services f) e.0.name op t) 1) (starters (flat_services f) e.0.name f.threads) ≡ true
             → IsStarter p ts (row_entry f ps e) e.0.name op separation
         inside one counts =
             let within : one.place < length f.threads = slice_get_within f.threads one.place one.item one.stands in
             let priority = has-at ps one.place (omega (arith, within, long)) in
             let told : starter_row f ps e.0.name ≡ Some (length ps - priority.0) =
-            ap (option_and_then (λ at. option_map (λ q. length ps - q) (slice_get ps at))) (alone-position (λ t. can_request (flat_services f) e.0.name t.block) f.threads one) ∙ ap (option_map (λ q. length ps - q)) priority.1 in
+            ap (option_and_then (λ at. option_map (λ q. length ps - q) (slice_get ps at)))
+            (alone-position (λ t. can_request (flat_services f) e.0.name t.block) f.threads one) ∙ ap (option_map (λ q. length ps - q)) priority.1 in
             record {
               place = length ps - priority.0;
               starter = ranked_entry first (one.item, priority.0);
               stands = task-stands one.place priority.0 one.item one.stands priority.1;
               told = ap (starter_of f ps e.0.name) is ∙ told;
               requests = ap (λ ss. can_request ss e.0.name one.item.block) same-services ∙ one.passes;
-              alone = each-by (λ u. can_request (program_services p) e.0.name u.task.block ≡ true → same_name u.task.name one.item.name ≡ true) (ranked p)
+              alone = each-by (λ u. can_request (program_services p) e.0.name u.task.block ≡ true
+                  → same_name u.task.name one.item.name ≡ true) (ranked p)
                   (λ k u at calls. lone one k u at (ap (λ ss. can_request ss e.0.name u.task.block) (sym same-services) ∙ calls));
               period = spaced-at f s.0 one.place e.0 one.item op separation spaced s.1 one.stands is one.passes;
-              once = subst (λ ss. block_starts ss (record { object = e.0.name; op = op.name }) one.item.block ≤ 1) (sym same-services) (least (start_count (flat_services f) e.0.name op one.item)
-                  (and_parts (nat_le (start_count (flat_services f) e.0.name op one.item) 1) true (subst (λ xs. list_all (λ t. nat_le (start_count (flat_services f) e.0.name op t) 1) xs ≡ true) one.are counts)).0);
+              once = subst (λ ss. block_starts ss (record { object = e.0.name; op = op.name }) one.item.block ≤ 1) (sym same-services)
+                  (least (start_count (flat_services f) e.0.name op one.item)
+                  (and_parts (nat_le (start_count (flat_services f) e.0.name op one.item) 1) true
+                  (subst (λ xs. list_all (λ t. nat_le (start_count (flat_services f) e.0.name op t) 1) xs ≡ true) one.are counts)).0);
             }
           where
-            lone : (one : IsAlone (λ t. can_request (flat_services f) e.0.name t.block) f.threads) (k : ℕ) (u : Ranked) → slice_get (ranked p) k ≡ Some u → can_request (flat_services f) e.0.name u.task.block ≡ true
+            lone : (one : IsAlone (λ t. can_request (flat_services f) e.0.name t.block) f.threads) (k : ℕ) (u : Ranked)
+                → slice_get (ranked p) k ≡ Some u → can_request (flat_services f) e.0.name u.task.block ≡ true
                 → same_name u.task.name one.item.name ≡ true
             lone one k u at calls =
                 let x = at-listed k u at in
                 let place : k ≡ one.place = one.alone k x.0.0 x.1 (ap (λ w. can_request (flat_services f) e.0.name w.task.block) x.3 ∙ calls) in
-                let same : x.0.0 ≡ one.item = same_Some x.0.0 one.item (sym (subst (λ j. slice_get f.threads j ≡ Some x.0.0) place x.1) ∙ one.stands) in
+                let same : x.0.0 ≡ one.item = same_Some x.0.0 one.item
+                (sym (subst (λ j. slice_get f.threads j ≡ Some x.0.0) place x.1) ∙ one.stands) in
                 ap (λ w. same_name w.task.name one.item.name) (sym x.3) ∙ ap (λ w. same_name w.name one.item.name) same ∙ same-self one.item.name
 
     requested : AllZip (λ t row. IsStarted p ts row t.task.name t.task.timing) ts (table f).rows
@@ -315,8 +365,12 @@ module _ (f : Flat) (first : ℕ) where
 
     -- the table is one of the program's tasks
     pub design-tabled : IsTable (table f).rows
-        → Each (λ u. Each (λ c. IsBelowCeiling u.priority (ceiling_named (program_for f (written_ranks first (ranks f))) c.object) (service_named (program_services (program_for f (written_ranks first (ranks f)))) c.object c.op)) (block_calls u.task.block)) (ranked (program_for f (written_ranks first (ranks f))))
-        → Each (λ g. Each (λ o. CallsUpwards (program_for f (written_ranks first (ranks f))) (ceiling_named (program_for f (written_ranks first (ranks f))) g.name) o.block) g.ops) (program_software (program_for f (written_ranks first (ranks f)))).shared
+        → Each (λ u. Each (λ c. IsBelowCeiling u.priority (ceiling_named (program_for f (written_ranks first (ranks f))) c.object)
+        (service_named (program_services (program_for f (written_ranks first (ranks f)))) c.object c.op)) (block_calls u.task.block))
+        (ranked (program_for f (written_ranks first (ranks f))))
+        → Each (λ g. Each (λ o. CallsUpwards (program_for f (written_ranks first (ranks f)))
+        (ceiling_named (program_for f (written_ranks first (ranks f))) g.name) o.block) g.ops)
+        (program_software (program_for f (written_ranks first (ranks f)))).shared
         → AreTabled (program_for f (written_ranks first (ranks f))) (in_order first f (priorities_of f)) (table f).rows
     design-tabled is-table ceilings inner = record {
       table = is-table;
@@ -331,19 +385,26 @@ module _ (f : Flat) (first : ℕ) where
     }
 
     -- the same where names differ
-    pub flat-tabled : are_distinct (entry_names f) ≡ true → IsTable (table f).rows → AreTabled (program_for f (written_ranks first (ranks f))) (in_order first f (priorities_of f)) (table f).rows
+    pub flat-tabled : are_distinct (entry_names f) ≡ true → IsTable (table f).rows
+        → AreTabled (program_for f (written_ranks first (ranks f))) (in_order first f (priorities_of f)) (table f).rows
     flat-tabled names is-table =
         design-tabled is-table (each-by _ (ranked p) (λ k u e. at k u (at-listed k u e)))
-        (subst (λ gs. Each (λ g. Each (λ o. CallsUpwards p (ceiling_named p g.name) o.block) g.ops) gs) (sym (ap (λ (w : Software). w.shared) same-software))
-        (each-by (λ g. Each (λ o. CallsUpwards p (ceiling_named p g.name) o.block) g.ops) f.shared (λ k g e. each-by (λ o. CallsUpwards p (ceiling_named p g.name) o.block) g.ops (λ i o in'.
-        subst (λ ss. Each (λ c. IsBelowCeiling (ceiling_named p g.name) (ceiling_named p c.object) (service_named ss c.object c.op)) (block_calls o.block)) (sym same-services)
+        (subst (λ gs. Each (λ g. Each (λ o. CallsUpwards p (ceiling_named p g.name) o.block) g.ops) gs)
+        (sym (ap (λ (w : Software). w.shared) same-software))
+        (each-by (λ g. Each (λ o. CallsUpwards p (ceiling_named p g.name) o.block) g.ops) f.shared
+        (λ k g e. each-by (λ o. CallsUpwards p (ceiling_named p g.name) o.block) g.ops (λ i o in'.
+        subst (λ ss. Each (λ c. IsBelowCeiling (ceiling_named p g.name) (ceiling_named p c.object) (service_named ss c.object c.op))
+        (block_calls o.block)) (sym same-services)
         (inner-below f first names ps long k i g o e in')))))
       where
         at : (k : ℕ) (u : Ranked) → (x : Entry) × (slice_get f.threads k ≡ Some x.0) × (slice_get ps k ≡ Some x.1) × (ranked_entry first x ≡ u)
-            → Each (λ c. IsBelowCeiling u.priority (ceiling_named (program_for f (written_ranks first (ranks f))) c.object) (service_named (program_services (program_for f (written_ranks first (ranks f)))) c.object c.op)) (block_calls u.task.block)
+            → Each (λ c. IsBelowCeiling u.priority (ceiling_named (program_for f (written_ranks first (ranks f))) c.object)
+            (service_named (program_services (program_for f (written_ranks first (ranks f)))) c.object c.op)) (block_calls u.task.block)
         at k u x =
-            subst (λ w. Each (λ c. IsBelowCeiling w.priority (ceiling_named (program_for f (written_ranks first (ranks f))) c.object) (service_named (program_services (program_for f (written_ranks first (ranks f)))) c.object c.op)) (block_calls w.task.block)) x.3
-            (subst (λ ss. Each (λ c. IsBelowCeiling (x.0.1 + (first - 1)) (ceiling_named (program_for f (written_ranks first (ranks f))) c.object) (service_named ss c.object c.op)) (block_calls x.0.0.block)) (sym same-services)
+            subst (λ w. Each (λ c. IsBelowCeiling w.priority (ceiling_named (program_for f (written_ranks first (ranks f))) c.object)
+            (service_named (program_services (program_for f (written_ranks first (ranks f)))) c.object c.op)) (block_calls w.task.block)) x.3
+            (subst (λ ss. Each (λ c. IsBelowCeiling (x.0.1 + (first - 1)) (ceiling_named (program_for f (written_ranks first (ranks f))) c.object)
+            (service_named ss c.object c.op)) (block_calls x.0.0.block)) (sym same-services)
             (calls-below f first names ps long k x.0.1 x.0.0 x.1 x.2))
 
   -- the response times of the design are those of its tasks
@@ -351,30 +412,39 @@ module _ (f : Flat) (first : ℕ) where
   response_of c = option_map (λ t. let r : Response = record { thread = t.name; ticks = c.1.response } in r) (slice_get f.threads c.0)
 
   same-responses : (qs : List ℕ) (v : List Bound)
-      → filter_map (λ c. option_map (λ t. let r : Response = record { thread = t.name; ticks = c.1.response } in r) (slice_get f.threads c.0)) (zip (filter_map (λ q. position (λ x. x == q) ps) qs) v)
+      → filter_map (λ c. option_map (λ t. let r : Response = record { thread = t.name; ticks = c.1.response }
+      in r) (slice_get f.threads c.0)) (zip (filter_map (λ q. position (λ x. x == q) ps) qs) v)
       ≡ times_of (map (ranked_entry first) (entries f ps qs)) v
   same-responses [] v = refl
   same-responses (q ∷ qs) v = by (position (λ x. x == q) ps) refl v (λ w. same-responses qs w)
     where
       Goal : List Bound → Option ℕ → Type 0
       Goal w o =
-          filter_map (λ c. option_map (λ t. let r : Response = record { thread = t.name; ticks = c.1.response } in r) (slice_get f.threads c.0)) (zip (cons_option o (filter_map (λ q'. position (λ x. x == q') ps) qs)) w)
-          ≡ times_of (map (ranked_entry first) (cons_option (option_and_then (λ at. option_map (λ t. let e : Entry = (t, q) in e) (slice_get f.threads at)) o) (entries f ps qs))) w
+          filter_map (λ c. option_map (λ t. let r : Response = record { thread = t.name; ticks = c.1.response }
+          in r) (slice_get f.threads c.0)) (zip (cons_option o (filter_map (λ q'. position (λ x. x == q') ps) qs)) w)
+          ≡ times_of (map (ranked_entry first)
+          (cons_option (option_and_then (λ at. option_map (λ t. let e : Entry = (t, q) in e) (slice_get f.threads at)) o) (entries f ps qs))) w
 
-      thread : (at : ℕ) (b : Bound) (w : List Bound) → (o : Option Thread) → slice_get f.threads at ≡ o → (t : Thread) × (slice_get f.threads at ≡ Some t)
-          → filter_map (λ c. option_map (λ t. let r : Response = record { thread = t.name; ticks = c.1.response } in r) (slice_get f.threads c.0)) (zip (filter_map (λ q'. position (λ x. x == q') ps) qs) w)
+      thread : (at : ℕ) (b : Bound) (w : List Bound) → (o : Option Thread) → slice_get f.threads at ≡ o
+          → (t : Thread) × (slice_get f.threads at ≡ Some t)
+          → filter_map (λ c. option_map (λ t. let r : Response = record { thread = t.name; ticks = c.1.response }
+          in r) (slice_get f.threads c.0)) (zip (filter_map (λ q'. position (λ x. x == q') ps) qs) w)
           ≡ times_of (map (ranked_entry first) (entries f ps qs)) w
           → cons_option (option_map (λ t. let r : Response = record { thread = t.name; ticks = b.response } in r) o)
-          (filter_map (λ c. option_map (λ t. let r : Response = record { thread = t.name; ticks = c.1.response } in r) (slice_get f.threads c.0)) (zip (filter_map (λ q'. position (λ x. x == q') ps) qs) w))
+          (filter_map (λ c. option_map (λ t. let r : Response = record { thread = t.name; ticks = c.1.response }
+          in r) (slice_get f.threads c.0)) (zip (filter_map (λ q'. position (λ x. x == q') ps) qs) w))
           ≡ times_of (map (ranked_entry first) (cons_option (option_map (λ t. let e : Entry = (t, q) in e) o) (entries f ps qs))) (b ∷ w)
       thread at b w None e there rest = absurd (none-some there.0 (sym e ∙ there.1))
       thread at b w (Some t) e there rest = ap (λ rs. let r : Response = record { thread = t.name; ticks = b.response } in r ∷ rs) rest
 
       by : (o : Option ℕ) → position (λ x. x == q) ps ≡ o → (w : List Bound)
-          → ((z : List Bound) → filter_map (λ c. option_map (λ t. let r : Response = record { thread = t.name; ticks = c.1.response } in r) (slice_get f.threads c.0)) (zip (filter_map (λ q'. position (λ x. x == q') ps) qs) z)
+          → ((z : List Bound) → filter_map (λ c. option_map (λ t. let r : Response = record { thread = t.name; ticks = c.1.response }
+          in r) (slice_get f.threads c.0)) (zip (filter_map (λ q'. position (λ x. x == q') ps) qs) z)
           ≡ times_of (map (ranked_entry first) (entries f ps qs)) z)
-          → filter_map (λ c. option_map (λ t. let r : Response = record { thread = t.name; ticks = c.1.response } in r) (slice_get f.threads c.0)) (zip (cons_option o (filter_map (λ q'. position (λ x. x == q') ps) qs)) w)
-          ≡ times_of (map (ranked_entry first) (cons_option (option_and_then (λ at. option_map (λ t. let e : Entry = (t, q) in e) (slice_get f.threads at)) o) (entries f ps qs))) w
+          → filter_map (λ c. option_map (λ t. let r : Response = record { thread = t.name; ticks = c.1.response }
+          in r) (slice_get f.threads c.0)) (zip (cons_option o (filter_map (λ q'. position (λ x. x == q') ps) qs)) w)
+          ≡ times_of (map (ranked_entry first)
+          (cons_option (option_and_then (λ at. option_map (λ t. let e : Entry = (t, q) in e) (slice_get f.threads at)) o) (entries f ps qs))) w
       by None e w rest = rest w
       by (Some at) e [] rest = nothing (option_map (λ t. let x : Entry = (t, q) in x) (slice_get f.threads at))
         where
@@ -386,7 +456,8 @@ module _ (f : Flat) (first : ℕ) where
               none (u ∷ us) = refl
           nothing (Some x) = refl
       by (Some at) e (b ∷ w) rest =
-          thread at b w (slice_get f.threads at) refl (has-at f.threads at (omega (arith, slice_get_within ps at q (position-stands ps q at e), long))) (rest w)
+          thread at b w (slice_get f.threads at) refl
+          (has-at f.threads at (omega (arith, slice_get_within ps at q (position-stands ps q at e), long))) (rest w)
 
   pub responses-are : (v : List Bound) → responses f v ≡ times_of (in_order first f (priorities_of f)) v
   responses-are v = same-responses (downwards (length ps)) v

@@ -30,7 +30,8 @@ module _ (f : Flat) (first : ℕ) where
   all-listed =
       subst (Each (IsListed f first)) (sym (ranked-listing first f (ranks f) (twice-threads f first)))
       (each-map (ranked_entry first) (IsListed f first) (zip f.threads (priorities_of f))
-      (each-by (λ e. IsListed f first (ranked_entry first e)) (zip f.threads (priorities_of f)) (λ k e h. let parts = zipped-at f.threads (priorities_of f) k e h in place k e parts.0 parts.1)))
+      (each-by (λ e. IsListed f first (ranked_entry first e)) (zip f.threads (priorities_of f)) (λ k e h. let parts
+      = zipped-at f.threads (priorities_of f) k e h in place k e parts.0 parts.1)))
 
 -- the tasks of a design's program stand in its table
 pub sound-tabled : (x : Design) → IsSound (flat x) → IsTabledDesign x

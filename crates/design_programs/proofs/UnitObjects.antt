@@ -63,7 +63,8 @@ request-only None e = cc
 
 module _ (written x : Design) (met : AreMet written x) (r : Ranks) (fit : Fitting (flat x) r) where
   -- the operations of an object with a body each
-  ops-of : (s : Standing) (h : Signature) → IsIn h (map (λ (e : Operation). e.sig) (operations x s.own)) → (p : Provided) × IsIn p s.own.provides × (h ≡ p.sig)
+  ops-of : (s : Standing) (h : Signature) → IsIn h (map (λ (e : Operation). e.sig) (operations x s.own))
+      → (p : Provided) × IsIn p s.own.provides × (h ≡ p.sig)
   ops-of s h j =
       let q = from-map (λ (e : Operation). e.sig) (operations x s.own) h j in
       let f = operation-from x s.own q.0 q.1 in (f.provided, f.provides, q.2 ∙ ap (λ (e : Operation). e.sig) f.made)
@@ -74,10 +75,12 @@ module _ (written x : Design) (met : AreMet written x) (r : Ranks) (fit : Fittin
       let z : Some (operation_by x p.sig c) ≡ Some e = k in
       let same : operation_by x p.sig c ≡ e = cc in ap (λ (o : Operation). o.sig.name) (sym same)
 
-  names-differ : (s : Standing) → IsIn s (terminals x) → are_distinct (map (λ (h : Signature). h.name) (map (λ (e : Operation). e.sig) (operations x s.own))) ≡ true
+  names-differ : (s : Standing) → IsIn s (terminals x)
+      → are_distinct (map (λ (h : Signature). h.name) (map (λ (e : Operation). e.sig) (operations x s.own))) ≡ true
   names-differ s h =
       ap are_distinct (map-map (λ (g : Signature). g.name) (λ (e : Operation). e.sig) (operations x s.own))
-      ∙ distinct-taken (λ (p : Provided). p.sig.name) (λ (e : Operation). e.sig.name) (λ p. option_map (operation_by x p.sig) (body_named p.sig.name s.own.bodies)) s.own.provides
+      ∙ distinct-taken (λ (p : Provided). p.sig.name) (λ (e : Operation). e.sig.name)
+      (λ p. option_map (operation_by x p.sig) (body_named p.sig.name s.own.bodies)) s.own.provides
       (λ p e k. made-name s p e (body_named p.sig.name s.own.bodies) k) (op-names x s (no-clash written x met) (terminal-object x s h).0)
 
   bodies-of : (s : Standing) (b : ada.Body) → IsIn b (map op_body (operations x s.own)) → BodyFrom x s b
@@ -85,7 +88,8 @@ module _ (written x : Design) (met : AreMet written x) (r : Ranks) (fit : Fittin
       let q = from-map op_body (operations x s.own) b j in
       let f = operation-from x s.own q.0 q.1 in body.OfOperation f.provided f.body f.provides f.named (q.2 ∙ ap op_body f.made)
 
-  thread-object : (t : Thread) (f : ThreadFrom x t) (n : ℕ × ℕ) (u : Timing) → f.timing ≡ u → UnitObject x (thread_unit (thread_at x f.standing.own u f.block, n))
+  thread-object : (t : Thread) (f : ThreadFrom x t) (n : ℕ × ℕ) (u : Timing) → f.timing ≡ u
+      → UnitObject x (thread_unit (thread_at x f.standing.own u f.block, n))
   thread-object t f n (timing.Cyclic period offset) e = record {
     standing = f.standing;
     stands = f.stands;
@@ -122,11 +126,13 @@ module _ (written x : Design) (met : AreMet written x) (r : Ranks) (fit : Fittin
       request : is_request f.standing.own first.0 ≡ true
       request =
           let P : Kind → Type 0 = λ z. may_provide z first.0.constraint ≡ true in
-          and_from _ _ (ap is_sporadic k.sporadic) (request-only first.0.constraint (subst P k.sporadic (may-provide x (kept written x met) f.standing first.0 f.stands first.1)))
+          and_from _ _ (ap is_sporadic k.sporadic)
+          (request-only first.0.constraint (subst P k.sporadic (may-provide x (kept written x met) f.standing first.0 f.stands first.1)))
 
       bodied : is_bodied f.standing.own first.0 ≡ true
       bodied =
-          or_right (is_there (body_named first.0.sig.name f.standing.own.bodies)) (is_request f.standing.own first.0 && has_block f.standing.own.thread)
+          or_right (is_there (body_named first.0.sig.name f.standing.own.bodies)) (is_request f.standing.own first.0
+          && has_block f.standing.own.thread)
           (ap (λ z. z && has_block f.standing.own.thread) request ∙ ap has_block f.runs)
 
       only : (b : ada.Body) → IsIn b (record { params = op.params; locals = []; block = resolved x f.block } ∷ []) → BodyFrom x f.standing b

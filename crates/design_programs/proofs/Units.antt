@@ -22,7 +22,8 @@ use Rattle.design_rules.specs.Bodies as ods
 use Rattle.design_rules.specs.Rules.{AreMet}
 use Rattle.design_programs.proofs.Lists.{in-cases, from-map}
 use Rattle.design_programs.proofs.Renaming.{or_else-from, with_calls}
-use Rattle.design_programs.proofs.Flattened.{library_by, guarded_by, library-from, guarded-from, ThreadFrom, thread-from, TimingOf, OfCyclic, OfSporadic, timing-of}
+use Rattle.design_programs.proofs.Flattened.{library_by, guarded_by, library-from, guarded-from, ThreadFrom, thread-from, TimingOf, OfCyclic}
+use Rattle.design_programs.proofs.Flattened.{OfSporadic, timing-of}
 use Rattle.design_programs.proofs.Served.{fitted}
 use Rattle.design_programs.proofs.Blocks.{kept}
 use Rattle.design_programs.proofs.Offers.{Fitting, body-faultless, thread-faultless}
@@ -34,7 +35,8 @@ ranks-fit x =
     let f : Flat = flat x in
     record {
       shared = length-map (ranks f).shared _ ∙ length-map f.shared _;
-      threads = length-map (priorities_of f) _ ∙ (length-map (enumerate_from 0 (map (λ t. t.deadline) f.threads)) _ ∙ length-enumerate_from 0 (map (λ t. t.deadline) f.threads) ∙ length-map f.threads _);
+      threads = length-map (priorities_of f) _ ∙ (length-map (enumerate_from 0 (map (λ t. t.deadline) f.threads)) _ ∙ length-enumerate_from 0
+          (map (λ t. t.deadline) f.threads) ∙ length-map f.threads _);
       obcs = length-map (ranks f).obcs _ ∙ length-map f.threads _;
     }
 
@@ -52,18 +54,21 @@ pub data UnitFrom (f : Flat) (r : Ranks) (u : Unit) : Type 0 where
   OfThread : (t : Thread) (n : ℕ × ℕ) → IsIn (t, n) (zip f.threads (zip r.threads r.obcs)) → u ≡ thread_unit (t, n) → UnitFrom f r u
 
 pub unit-from : (f : Flat) (r : Ranks) (u : Unit) → IsIn u (program_for f r).units → UnitFrom f r u
-unit-from f r u h = by (in-cases (map passive_unit f.passive) (map shared_unit (zip f.shared r.shared) ++ map thread_unit (zip f.threads (zip r.threads r.obcs))) u h)
+unit-from f r u h = by (in-cases (map passive_unit f.passive) (map shared_unit (zip f.shared r.shared)
+    ++ map thread_unit (zip f.threads (zip r.threads r.obcs))) u h)
   where
     later : IsIn u (map shared_unit (zip f.shared r.shared)) ⊎ IsIn u (map thread_unit (zip f.threads (zip r.threads r.obcs))) → UnitFrom f r u
     later (inl k) = let q = from-map shared_unit (zip f.shared r.shared) u k in OfGuarded q.0.0 q.0.1 q.1 q.2
     later (inr k) = let q = from-map thread_unit (zip f.threads (zip r.threads r.obcs)) u k in OfThread q.0.0 q.0.1 q.1 q.2
 
-    by : IsIn u (map passive_unit f.passive) ⊎ IsIn u (map shared_unit (zip f.shared r.shared) ++ map thread_unit (zip f.threads (zip r.threads r.obcs))) → UnitFrom f r u
+    by : IsIn u (map passive_unit f.passive)
+        ⊎ IsIn u (map shared_unit (zip f.shared r.shared) ++ map thread_unit (zip f.threads (zip r.threads r.obcs))) → UnitFrom f r u
     by (inl k) = let q = from-map passive_unit f.passive u k in OfLibrary q.0 q.1 q.2
     by (inr k) = later (in-cases (map shared_unit (zip f.shared r.shared)) (map thread_unit (zip f.threads (zip r.threads r.obcs))) u k)
 
 -- bodies without a fault
-no-faults : (p : Program) (form : Form) (bs : List Body) → ((b : Body) → IsIn b bs → block_fault (scope p form b) b.block ≡ None) → bodies_fault p form bs ≡ None
+no-faults : (p : Program) (form : Form) (bs : List Body) → ((b : Body) → IsIn b bs → block_fault (scope p form b) b.block ≡ None)
+    → bodies_fault p form bs ≡ None
 no-faults p form [] h = refl
 no-faults p form (b ∷ bs) h = or_else-from _ _ (h b (inl refl)) (no-faults p form bs (λ c k. h c (inr k)))
 
@@ -90,7 +95,8 @@ module _ (written x : Design) (met : AreMet written x) (r : Ranks) (fit : Fittin
   pub library-faultless : (l : Library) → IsIn l (libraries x) → unit_fault p (passive_unit l) ≡ None
   library-faultless l h = no-faults p (Passive l.ops) (map op_body l.ops) (λ b j. at b (library-from x l h) (from-map op_body l.ops b j))
     where
-      at : (b : Body) → (s : Standing) × IsIn s (terminals x) × (is_passive s.own.kind ≡ true) × (l ≡ library_by x s.own) → (e : Operation) × IsIn e l.ops × (b ≡ op_body e)
+      at : (b : Body) → (s : Standing) × IsIn s (terminals x) × (is_passive s.own.kind ≡ true) × (l ≡ library_by x s.own)
+          → (e : Operation) × IsIn e l.ops × (b ≡ op_body e)
           → block_fault (scope p (Passive l.ops) b) b.block ≡ None
       at b (s, t, sort, made) (e, j, same) =
           let P : List Operation → Type 0 = λ z. IsIn e z in
@@ -99,9 +105,11 @@ module _ (written x : Design) (met : AreMet written x) (r : Ranks) (fit : Fittin
           ∙ ap (λ z. block_fault (scope-with z e) e.block) (sym (no-vars s t sort)) ∙ right
 
   pub guarded-faultless : (g : Guarded) (ceiling : ℕ) → IsIn g (guarded x) → unit_fault p (shared_unit (g, ceiling)) ≡ None
-  guarded-faultless g ceiling h = no-faults p (Shared ceiling g.vars g.ops) (map op_body g.ops) (λ b j. at b (guarded-from x g h) (from-map op_body g.ops b j))
+  guarded-faultless g ceiling h = no-faults p (Shared ceiling g.vars g.ops) (map op_body g.ops)
+      (λ b j. at b (guarded-from x g h) (from-map op_body g.ops b j))
     where
-      at : (b : Body) → (s : Standing) × IsIn s (terminals x) × (is_protected s.own.kind ≡ true) × (g ≡ guarded_by x s.own) → (e : Operation) × IsIn e g.ops × (b ≡ op_body e)
+      at : (b : Body) → (s : Standing) × IsIn s (terminals x) × (is_protected s.own.kind ≡ true) × (g ≡ guarded_by x s.own)
+          → (e : Operation) × IsIn e g.ops × (b ≡ op_body e)
           → block_fault (scope p (Shared ceiling g.vars g.ops) b) b.block ≡ None
       at b (s, t, sort, made) (e, j, same) =
           let P : List Operation → Type 0 = λ z. IsIn e z in
@@ -110,16 +118,23 @@ module _ (written x : Design) (met : AreMet written x) (r : Ranks) (fit : Fittin
           ∙ ap (λ (k : Guarded). block_fault (scope-with k.vars e) e.block) made ∙ right
 
   abbrev thread-scope : List Datum → List Param → Scope
-  thread-scope vars params = record { reads = map (λ d. d.name) vars ++ (map (λ q. q.name) params ++ []); writes = map (λ d. d.name) vars ++ (out_names params ++ []); calls = offers p; in_loop = false }
+  thread-scope vars params = record {
+    reads = map (λ d. d.name) vars ++ (map (λ q. q.name) params ++ []);
+    writes = map (λ d. d.name) vars ++ (out_names params ++ []);
+    calls = offers p;
+    in_loop = false;
+  }
 
   pub thread-unit-faultless : (t : Thread) (n : ℕ × ℕ) → IsIn t (threads x) → unit_fault p (thread_unit (t, n)) ≡ None
   thread-unit-faultless t n h = by (thread-from x t h) (thread-faultless written x met r fit t (thread-from x t h))
     where
       by : (f : ThreadFrom x t)
-          → block_fault (with_calls (offers p) (ods.scope x f.standing.own (request_params f.standing.own.kind (request_op f.standing.own.provides)) [])) t.block ≡ None → unit_fault p (thread_unit (t, n)) ≡ None
+          → block_fault (with_calls (offers p) (ods.scope x f.standing.own (request_params f.standing.own.kind (request_op f.standing.own.provides))
+          [])) t.block ≡ None → unit_fault p (thread_unit (t, n)) ≡ None
       by f right = kinds (timing-of f.standing.own f.timing f.timed)
         where
-          right-of : (params : List Param) → request_params f.standing.own.kind (request_op f.standing.own.provides) ≡ params → block_fault (thread-scope t.vars params) t.block ≡ None
+          right-of : (params : List Param) → request_params f.standing.own.kind (request_op f.standing.own.provides) ≡ params
+              → block_fault (thread-scope t.vars params) t.block ≡ None
           right-of params e =
               ap (λ (u : Thread). block_fault (thread-scope u.vars params) t.block) f.made
               ∙ ap (λ z. block_fault (thread-scope f.standing.own.vars z) t.block) (sym e) ∙ right
@@ -130,7 +145,8 @@ module _ (written x : Design) (met : AreMet written x) (r : Ranks) (fit : Fittin
               ∙ or_else-from _ _ (right-of [] (ap (λ z. request_params z (request_op f.standing.own.provides)) e)) refl
           kinds (OfSporadic sig e g s) =
               ap (λ u. unit_fault p (record { name = t.name; form = thread_form n.0 n.1 u t })) (ap (λ (v : Thread). v.timing) f.made ∙ s)
-              ∙ or_else-from _ _ (right-of sig.params (ap (λ z. request_params z (request_op f.standing.own.provides)) e ∙ ap (request_params kind.Sporadic) g)) refl
+              ∙ or_else-from _ _ (right-of sig.params (ap (λ z. request_params z (request_op f.standing.own.provides)) e ∙ ap
+              (request_params kind.Sporadic) g)) refl
 
   -- no body of a unit has a fault
   pub bodies-right : (u : Unit) → IsIn u p.units → unit_fault p u ≡ None

@@ -32,7 +32,8 @@ use Rattle.design_rules.specs.Sources.{bad_sources}
 use Rattle.design_rules.specs.Numbers.{bad_numbers}
 use Rattle.design_rules.specs.Bodies.{bad_bodies}
 use Rattle.design_rules.specs.Budgets.{bad_sizes, body_cost, is_over}
-use Rattle.design_rules.specs.Rules.{number_of, Version, Clash, KeptName, Include, Operation, Fitting, Stranger, Absence, Use, CallRing, ObjectRing, StartRing, Source, IdleActive, BodyFault, Budget, Size, Spacing}
+use Rattle.design_rules.specs.Rules.{number_of, Version, Clash, KeptName, Include, Operation, Fitting, Stranger, Absence, Use, CallRing}
+use Rattle.design_rules.specs.Rules.{ObjectRing, StartRing, Source, IdleActive, BodyFault, Budget, Size, Spacing}
 use Rattle.design_rules.specs.Rules as rules
 use Rattle.design_rules.specs.Separations.{bad_separations}
 
@@ -81,7 +82,8 @@ no_sporadic_child : bad_includes (with_child (object "m" Sporadic [] []) (pas (c
 no_sporadic_child = refl
 
 -- operations
-two_parameters_requested : bad_operations (alone (object "s" Sporadic (provided_with "go" (param "a" In ∷ param "b" In ∷ []) (Some Aser) ∷ []) [])) ≡ V04 (codes "s") ∷ []
+two_parameters_requested : bad_operations (alone (object "s" Sporadic (provided_with "go" (param "a" In ∷ param "b" In ∷ []) (Some Aser) ∷ []) []))
+    ≡ V04 (codes "s") ∷ []
 two_parameters_requested = refl
 
 nothing_requested : bad_operations (alone (object "s" Sporadic [] [])) ≡ V04 (codes "s") ∷ []
@@ -121,7 +123,8 @@ parent p links = record (object "m" Active (p ∷ []) []) { links = links }
 one_link : bad_fittings (with_child (parent (provided "f" "v" In (Some Paer)) (link "f" "q" "f" ∷ [])) guard) ≡ []
 one_link = refl
 
-two_links : bad_fittings (with_child (parent (provided "f" "v" In (Some Paer)) (link "f" "q" "f" ∷ link "f" "q" "f" ∷ [])) guard) ≡ V05 (codes "m") ∷ []
+two_links : bad_fittings (with_child (parent (provided "f" "v" In (Some Paer)) (link "f" "q" "f" ∷ link "f" "q" "f" ∷ [])) guard)
+    ≡ V05 (codes "m") ∷ []
 two_links = refl
 
 other_constraint : bad_fittings (with_child (parent (provided "f" "v" In (Some Pser)) (link "f" "q" "f" ∷ [])) guard) ≡ V05 (codes "m") ∷ []
@@ -134,28 +137,35 @@ links_of_terminal : bad_fittings (alone (record (object "p" Passive [] []) { lin
 links_of_terminal = refl
 
 -- required operations
-not_by_the_parent : strangers (several (Node (object "g" Active [] []) (trees (cyc (codes "a") 10 10 (call (codes "q") (codes "set") ∷ []) ∷ [])) ∷ pro (codes "q") (codes "set") (Null ∷ []) ∷ []))
+not_by_the_parent : strangers (several (Node (object "g" Active [] []) (trees (cyc (codes "a") 10 10 (call (codes "q") (codes "set") ∷ []) ∷ []))
+    ∷ pro (codes "q") (codes "set") (Null ∷ []) ∷ []))
     ≡ V06 (codes "a") (op "q" "set") ∷ []
 not_by_the_parent = refl
 
-of_itself : strangers (alone (record (object "p" Passive (provided "f" "v" In None ∷ []) (body "f" ∷ [])) { needs = op "p" "f" ∷ [] })) ≡ V06 (codes "p") (op "p" "f") ∷ []
+of_itself : strangers (alone (record (object "p" Passive (provided "f" "v" In None ∷ []) (body "f" ∷ [])) { needs = op "p" "f" ∷ [] }))
+    ≡ V06 (codes "p") (op "p" "f") ∷ []
 of_itself = refl
 
 -- calls are followed through links
 abbrev caller : String → String → OpName → Tree
-caller name op' target = Node (record (object name Passive (provided_with op' [] None ∷ []) (body_with op' [] (call target.object target.op ∷ []) ∷ [])) { needs = target ∷ [] }) Empty
+caller name op' target = Node (record (object name Passive (provided_with op' [] None ∷ [])
+    (body_with op' [] (call target.object target.op ∷ []) ∷ [])) { needs = target ∷ [] }) Empty
 
 abbrev group_of : String → String → OpName → OpName → Tree → Tree
-group_of name op' to target child = Node (record (object name Active (provided_with op' [] None ∷ []) []) { needs = target ∷ []; links = record { op = codes op'; to = to } ∷ [] }) (trees (child ∷ []))
+group_of name op' to target child
+    = Node (record (object name Active (provided_with op' [] None ∷ []) []) { needs = target ∷ []; links = record { op = codes op'; to = to } ∷ [] })
+    (trees (child ∷ []))
 
 abbrev round : Design
-round = several (group_of "g1" "f" (op "p1" "f") (op "g2" "g") (caller "p1" "f" (op "g2" "g")) ∷ group_of "g2" "g" (op "p2" "g") (op "g1" "f") (caller "p2" "g" (op "g1" "f")) ∷ [])
+round = several (group_of "g1" "f" (op "p1" "f") (op "g2" "g") (caller "p1" "f" (op "g2" "g"))
+    ∷ group_of "g2" "g" (op "p2" "g") (op "g1" "f") (caller "p2" "g" (op "g1" "f")) ∷ [])
 
 linked_calls : calls_from round (op "p1" "f") ≡ op "p2" "g" ∷ []
 linked_calls = refl
 
 -- three starts are told as two
-three_starts : bad_sources (several (cyc (codes "p") 50 50 (start "s" ∷ start "s" ∷ start "s" ∷ []) ∷ spo (codes "s") 50 20 (Work 4 ∷ []) ∷ [])) ≡ V10 (codes "s") 1 2 ∷ []
+three_starts : bad_sources (several (cyc (codes "p") 50 50 (start "s" ∷ start "s" ∷ start "s" ∷ []) ∷ spo (codes "s") 50 20 (Work 4 ∷ []) ∷ []))
+    ≡ V10 (codes "s") 1 2 ∷ []
 three_starts = refl
 
 -- numbers
@@ -175,31 +185,42 @@ eight_parameters = refl
 no_work_in_a_body : bad_numbers (design (pro (codes "q") (codes "set") (Work 0 ∷ []))) ≡ V11 (Some (codes "q")) ∷ []
 no_work_in_a_body = refl
 
-parent_with_attributes : bad_numbers (with_child (record (object "m" Active [] []) { attrs = attr Period 10 ∷ [] }) (pas (codes "p") (codes "f") (Null ∷ []))) ≡ V11 (Some (codes "m")) ∷ []
+parent_with_attributes : bad_numbers (with_child (record (object "m" Active [] []) { attrs = attr Period 10 ∷ [] })
+    (pas (codes "p") (codes "f") (Null ∷ []))) ≡ V11 (Some (codes "m")) ∷ []
 parent_with_attributes = refl
 
 -- a parameter that is handed in can't be assigned
-in_assigned : bad_bodies (alone (object "p" Passive (provided "f" "v" In None ∷ []) (body_with "f" [] (Assign (codes "v") (Number 1) ∷ []) ∷ []))) ≡ V13 (codes "p") (Some (codes "f")) fault.Assigned ∷ []
+in_assigned : bad_bodies (alone (object "p" Passive (provided "f" "v" In None ∷ []) (body_with "f" [] (Assign (codes "v") (Number 1) ∷ []) ∷ [])))
+    ≡ V13 (codes "p") (Some (codes "f")) fault.Assigned ∷ []
 in_assigned = refl
 
 -- a sporadic starter has its separation
-sporadic_starter : bad_separations (several (spo_external (codes "t") 40 40 0 (start "s" ∷ []) ∷ spo (codes "s") 50 20 (Work 4 ∷ []) ∷ [])) ≡ V16 (codes "t") 40 (codes "s") 50 ∷ []
+sporadic_starter : bad_separations (several (spo_external (codes "t") 40 40 0 (start "s" ∷ []) ∷ spo (codes "s") 50 20 (Work 4 ∷ []) ∷ []))
+    ≡ V16 (codes "t") 40 (codes "s") 50 ∷ []
 sporadic_starter = refl
 
 -- clashes
-local_and_datum : clashes (alone (record (object "q" Protected (provided "f" "v" In (Some Paer) ∷ []) (body_with "f" (datum "x" ∷ []) (Null ∷ []) ∷ [])) { vars = datum "x" ∷ [] })) ≡ V01 (codes "x") ∷ []
+local_and_datum : clashes (alone
+    (record (object "q" Protected (provided "f" "v" In (Some Paer) ∷ []) (body_with "f" (datum "x" ∷ []) (Null ∷ []) ∷ [])) {
+      vars
+          = datum "x" ∷ [];
+    })) ≡ V01 (codes "x") ∷ []
 local_and_datum = refl
 
-two_locals : clashes (alone (object "p" Passive (provided "f" "v" In None ∷ []) (body_with "f" (datum "x" ∷ datum "x" ∷ []) (Null ∷ []) ∷ []))) ≡ V01 (codes "x") ∷ []
+two_locals : clashes (alone (object "p" Passive (provided "f" "v" In None ∷ []) (body_with "f" (datum "x" ∷ datum "x" ∷ []) (Null ∷ []) ∷ [])))
+    ≡ V01 (codes "x") ∷ []
 two_locals = refl
 
-two_parameters : clashes (alone (object "p" Passive (provided_with "f" (param "v" In ∷ param "v" In ∷ []) None ∷ []) (body "f" ∷ []))) ≡ V01 (codes "v") ∷ []
+two_parameters : clashes (alone (object "p" Passive (provided_with "f" (param "v" In ∷ param "v" In ∷ []) None ∷ []) (body "f" ∷ [])))
+    ≡ V01 (codes "v") ∷ []
 two_parameters = refl
 
-parameter_and_local : clashes (alone (object "p" Passive (provided "f" "v" In None ∷ []) (body_with "f" (datum "v" ∷ []) (Null ∷ []) ∷ []))) ≡ V01 (codes "v") ∷ []
+parameter_and_local : clashes (alone (object "p" Passive (provided "f" "v" In None ∷ []) (body_with "f" (datum "v" ∷ []) (Null ∷ []) ∷ [])))
+    ≡ V01 (codes "v") ∷ []
 parameter_and_local = refl
 
-operation_and_later_object : clashes (several (pas (codes "p") (codes "q") (Null ∷ []) ∷ pro (codes "q") (codes "set") (Null ∷ []) ∷ [])) ≡ V01 (codes "q") ∷ []
+operation_and_later_object : clashes (several (pas (codes "p") (codes "q") (Null ∷ []) ∷ pro (codes "q") (codes "set") (Null ∷ []) ∷ []))
+    ≡ V01 (codes "q") ∷ []
 operation_and_later_object = refl
 
 -- a cyclic object with children doesn't wait for its callers
@@ -216,25 +237,32 @@ passive_calls = refl
 active_calls : calls_of Active ≡ true ∷ true ∷ true ∷ true ∷ true ∷ []
 active_calls = refl
 
-other_calls : map calls_of (Protected ∷ Cyclic ∷ Sporadic ∷ []) ≡ (true ∷ true ∷ true ∷ true ∷ false ∷ []) ∷ (true ∷ true ∷ true ∷ true ∷ false ∷ []) ∷ (true ∷ true ∷ true ∷ true ∷ false ∷ []) ∷ []
+other_calls : map calls_of (Protected ∷ Cyclic ∷ Sporadic ∷ []) ≡ (true ∷ true ∷ true ∷ true ∷ false ∷ []) ∷ (true ∷ true ∷ true ∷ true ∷ false ∷ [])
+    ∷ (true ∷ true ∷ true ∷ true ∷ false ∷ []) ∷ []
 other_calls = refl
 
 -- a call that its object doesn't require is on no ring
-unrequired_call : calls_from (alone (object "p" Passive (provided "f" "v" In None ∷ []) (body_with "f" [] (call (codes "p") (codes "f") ∷ []) ∷ []))) (op "p" "f") ≡ []
+unrequired_call : calls_from (alone (object "p" Passive (provided "f" "v" In None ∷ []) (body_with "f" [] (call (codes "p") (codes "f") ∷ []) ∷ [])))
+    (op "p" "f") ≡ []
 unrequired_call = refl
 
 -- attributes
-offset_twice : bad_numbers (design (cyc_with (codes "a") (attr Period 10 ∷ attr Offset 1 ∷ attr Offset 1 ∷ attr Deadline 10 ∷ attr ThreadBudget 10 ∷ []) [] (Null ∷ []))) ≡ V11 (Some (codes "a")) ∷ []
+offset_twice : bad_numbers (design (cyc_with (codes "a") (attr Period 10 ∷ attr Offset 1 ∷ attr Offset 1 ∷ attr Deadline 10 ∷ attr ThreadBudget 10
+    ∷ []) [] (Null ∷ []))) ≡ V11 (Some (codes "a")) ∷ []
 offset_twice = refl
 
 abbrev is_right_period : ℕ → Bool
-is_right_period n = is_empty (bad_numbers (design (cyc_with (codes "a") (attr Period n ∷ attr Deadline 1 ∷ attr ThreadBudget 10 ∷ []) [] (Null ∷ []))))
+is_right_period n = is_empty (bad_numbers
+    (design (cyc_with (codes "a") (attr Period n ∷ attr Deadline 1 ∷ attr ThreadBudget 10 ∷ []) [] (Null ∷ []))))
 
 period_in_range : map is_right_period (0 ∷ 1 ∷ 1000000000 ∷ 1000000001 ∷ []) ≡ false ∷ true ∷ true ∷ false ∷ []
 period_in_range = refl
 
 -- bodies before the thread
-two_bad_blocks : bad_bodies (alone (record (object "s" Sporadic [] (body_with "f" [] (Put (Variable (codes "x")) ∷ []) ∷ [])) { thread = Some (block (Put (Variable (codes "y")) ∷ [])) }))
+two_bad_blocks : bad_bodies (alone (record (object "s" Sporadic [] (body_with "f" [] (Put (Variable (codes "x")) ∷ []) ∷ [])) {
+  thread
+      = Some (block (Put (Variable (codes "y")) ∷ []));
+}))
     ≡ V13 (codes "s") (Some (codes "f")) fault.Unknown ∷ V13 (codes "s") None fault.Unknown ∷ []
 two_bad_blocks = refl
 
@@ -243,7 +271,8 @@ over_budgets : map (is_over 10) (10 ∷ 11 ∷ 1000000000 ∷ 1000000001 ∷ [])
 over_budgets = refl
 
 -- a cost through a link is that of what is linked
-linked_cost : body_cost (several (group_of "g1" "f" (op "p1" "f") (op "g2" "g") (caller "p1" "f" (op "g2" "g")) ∷ group_of "g2" "g" (op "p2" "g") (op "p2" "g") (pas (codes "p2") (codes "g") (Work 5 ∷ [])) ∷ []))
+linked_cost : body_cost (several (group_of "g1" "f" (op "p1" "f") (op "g2" "g") (caller "p1" "f" (op "g2" "g"))
+    ∷ group_of "g2" "g" (op "p2" "g") (op "p2" "g") (pas (codes "p2") (codes "g") (Work 5 ∷ [])) ∷ []))
     (block (call (codes "g1") (codes "f") ∷ [])) ≡ 9
 linked_cost = refl
 
@@ -261,7 +290,8 @@ unfolding is_ada_name
 kept_in_a_thread = refl
 
 -- the rules in order
-in_order : map number_of (Version ∷ Clash ∷ KeptName ∷ Include ∷ Operation ∷ Fitting ∷ Stranger ∷ Absence ∷ Use ∷ CallRing ∷ ObjectRing ∷ StartRing ∷ Source ∷ rules.Number ∷ IdleActive ∷ BodyFault ∷ Budget ∷ Size ∷ Spacing ∷ [])
+in_order : map number_of (Version ∷ Clash ∷ KeptName ∷ Include ∷ Operation ∷ Fitting ∷ Stranger ∷ Absence ∷ Use ∷ CallRing ∷ ObjectRing ∷ StartRing
+    ∷ Source ∷ rules.Number ∷ IdleActive ∷ BodyFault ∷ Budget ∷ Size ∷ Spacing ∷ [])
     ≡ 0 ∷ 1 ∷ 2 ∷ 3 ∷ 4 ∷ 5 ∷ 6 ∷ 7 ∷ 8 ∷ 9 ∷ 10 ∷ 11 ∷ 12 ∷ 13 ∷ 14 ∷ 15 ∷ 16 ∷ 17 ∷ 18 ∷ []
 in_order = refl
 
@@ -269,14 +299,16 @@ in_order = refl
 active_includes_all : bad_includes (with_child (object "m" Active [] []) (cyc (codes "a") 10 10 (Null ∷ []))) ≡ []
 active_includes_all = refl
 
-by_the_parent : strangers (several (Node (record (object "g" Active [] []) { needs = op "q" "set" ∷ [] }) (trees (cyc (codes "a") 10 10 (call (codes "q") (codes "set") ∷ []) ∷ [])) ∷ pro (codes "q") (codes "set") (Null ∷ []) ∷ []))
+by_the_parent : strangers (several (Node (record (object "g" Active [] []) { needs = op "q" "set" ∷ [] })
+    (trees (cyc (codes "a") 10 10 (call (codes "q") (codes "set") ∷ []) ∷ [])) ∷ pro (codes "q") (codes "set") (Null ∷ []) ∷ []))
     ≡ []
 by_the_parent = refl
 
 external_source : bad_sources (design (spo_external (codes "s") 50 20 0 (Null ∷ []))) ≡ []
 external_source = refl
 
-required_call : bad_bodies (several (cyc (codes "a") 10 10 (call (codes "q") (codes "set") ∷ []) ∷ pro (codes "q") (codes "set") (Null ∷ []) ∷ [])) ≡ []
+required_call : bad_bodies (several (cyc (codes "a") 10 10 (call (codes "q") (codes "set") ∷ []) ∷ pro (codes "q") (codes "set") (Null ∷ [])
+    ∷ [])) ≡ []
 required_call = refl
 
 equal_separation : bad_separations (several (cyc (codes "p") 50 50 (start "s" ∷ []) ∷ spo (codes "s") 50 20 (Work 4 ∷ []) ∷ [])) ≡ []

@@ -60,28 +60,41 @@ object name kind provides bodies =
     record { name = codes name; kind = kind; attrs = []; provides = provides; needs = []; vars = []; bodies = bodies; thread = None; links = [] }
 
 abbrev provided : String → String → Mode → Option Constraint → Provided
-provided name param mode constraint = record { sig = record { name = codes name; params = record { name = codes param; mode = mode } ∷ [] }; constraint = constraint }
+provided name param mode constraint = record {
+  sig = record { name = codes name; params = record { name = codes param; mode = mode } ∷ [] };
+  constraint = constraint;
+}
 
 abbrev body : String → Body
 body name = record { name = codes name; locals = []; block = block (Null ∷ []) }
 
 -- a parameter like an operation clashes where there is a body
-parameter_and_operation : clashes (design (Node (object "p" Passive (provided "f" "g" In None ∷ provided "g" "w" In None ∷ []) (body "f" ∷ body "g" ∷ [])) Empty)) ≡ V01 (codes "g") ∷ []
+parameter_and_operation : clashes
+    (design (Node (object "p" Passive (provided "f" "g" In None ∷ provided "g" "w" In None ∷ []) (body "f" ∷ body "g" ∷ [])) Empty))
+    ≡ V01 (codes "g") ∷ []
 parameter_and_operation = refl
 
-parameter_without_body : clashes (design (Node (object "p" Passive (provided "f" "g" In None ∷ provided "g" "w" In None ∷ []) (body "g" ∷ [])) Empty)) ≡ []
+parameter_without_body : clashes
+    (design (Node (object "p" Passive (provided "f" "g" In None ∷ provided "g" "w" In None ∷ []) (body "g" ∷ [])) Empty)) ≡ []
 parameter_without_body = refl
 
 -- the thread of a sporadic object is the body of its request
-parameter_of_request : clashes (design (Node (record (object "s" Sporadic (provided "b" "a" In (Some Aser) ∷ provided "a" "w" In (Some Aser) ∷ []) []) { thread = Some (block (Null ∷ [])) }) Empty)) ≡ V01 (codes "a") ∷ []
+parameter_of_request : clashes
+    (design (Node (record (object "s" Sporadic (provided "b" "a" In (Some Aser) ∷ provided "a" "w" In (Some Aser) ∷ []) []) {
+      thread
+          = Some (block (Null ∷ []));
+    }) Empty)) ≡ V01 (codes "a") ∷ []
 parameter_of_request = refl
 
 -- includes
-cyclic_inside_sporadic : bad_includes (design (Node (object "m" Sporadic [] []) (trees (cyc (codes "a") 10 10 (Null ∷ []) ∷ spo (codes "s") 10 10 (Null ∷ []) ∷ [])))) ≡ V03 (codes "m") ∷ []
+cyclic_inside_sporadic : bad_includes
+    (design (Node (object "m" Sporadic [] []) (trees (cyc (codes "a") 10 10 (Null ∷ []) ∷ spo (codes "s") 10 10 (Null ∷ []) ∷ []))))
+    ≡ V03 (codes "m") ∷ []
 cyclic_inside_sporadic = refl
 
 -- operations
-out_of_paer : bad_operations (design (Node (object "q" Protected (provided "f" "v" Out (Some Paer) ∷ []) (body "f" ∷ [])) Empty)) ≡ V04 (codes "q") ∷ []
+out_of_paer : bad_operations (design (Node (object "q" Protected (provided "f" "v" Out (Some Paer) ∷ []) (body "f" ∷ [])) Empty))
+    ≡ V04 (codes "q") ∷ []
 out_of_paer = refl
 
 cyclic_provides : bad_operations (design (Node (object "a" Cyclic (provided "f" "v" In (Some Aser) ∷ []) []) Empty)) ≡ V04 (codes "a") ∷ []
@@ -91,14 +104,16 @@ cyclic_provides = refl
 no_body : bad_fittings (design (Node (object "q" Protected (provided "f" "v" In (Some Paer) ∷ []) []) Empty)) ≡ V05 (codes "q") ∷ []
 no_body = refl
 
-no_link : bad_fittings (several (Node (object "m" Active (provided "f" "v" In (Some Paer) ∷ []) []) (trees (pro (codes "q") (codes "set") (Null ∷ []) ∷ [])) ∷ [])) ≡ V05 (codes "m") ∷ []
+no_link : bad_fittings (several (Node (object "m" Active (provided "f" "v" In (Some Paer) ∷ []) [])
+    (trees (pro (codes "q") (codes "set") (Null ∷ []) ∷ [])) ∷ [])) ≡ V05 (codes "m") ∷ []
 no_link = refl
 
 -- required operations
 stranger : strangers (design (cyc (codes "a") 10 10 (call (codes "q") (codes "set") ∷ []))) ≡ V06 (codes "a") (op "q" "set") ∷ []
 stranger = refl
 
-not_there : absent (several (cyc (codes "a") 10 10 (call (codes "q") (codes "get") ∷ []) ∷ pro (codes "q") (codes "set") (Null ∷ []) ∷ [])) ≡ V07 (codes "a") (op "q" "get") ∷ []
+not_there : absent (several (cyc (codes "a") 10 10 (call (codes "q") (codes "get") ∷ []) ∷ pro (codes "q") (codes "set") (Null ∷ []) ∷ []))
+    ≡ V07 (codes "a") (op "q" "get") ∷ []
 not_there = refl
 
 -- threads that start each other
@@ -112,16 +127,23 @@ starts_in_a_ring = record { thread = _; stands = refl; ring = (codes "t" ∷ [],
 no_deadline : bad_numbers (design (cyc_with (codes "a") (attr Period 10 ∷ attr ThreadBudget 10 ∷ []) [] (Null ∷ []))) ≡ V11 (Some (codes "a")) ∷ []
 no_deadline = refl
 
-period_twice : bad_numbers (design (cyc_with (codes "a") (attr Period 10 ∷ attr Deadline 10 ∷ attr Period 10 ∷ attr ThreadBudget 10 ∷ []) [] (Null ∷ []))) ≡ V11 (Some (codes "a")) ∷ []
+period_twice : bad_numbers (design (cyc_with (codes "a") (attr Period 10 ∷ attr Deadline 10 ∷ attr Period 10 ∷ attr ThreadBudget 10 ∷ []) []
+    (Null ∷ []))) ≡ V11 (Some (codes "a")) ∷ []
 period_twice = refl
 
-foreign_jitter : bad_numbers (design (cyc_with (codes "a") (attr Period 10 ∷ attr Deadline 10 ∷ attr ThreadBudget 10 ∷ attr ArrivalJitter 0 ∷ []) [] (Null ∷ []))) ≡ V11 (Some (codes "a")) ∷ []
+foreign_jitter : bad_numbers (design (cyc_with (codes "a") (attr Period 10 ∷ attr Deadline 10 ∷ attr ThreadBudget 10 ∷ attr ArrivalJitter 0 ∷ []) []
+    (Null ∷ []))) ≡ V11 (Some (codes "a")) ∷ []
 foreign_jitter = refl
 
 no_work : bad_numbers (design (cyc (codes "a") 10 10 (Work 0 ∷ []))) ≡ V11 (Some (codes "a")) ∷ []
 no_work = refl
 
-no_cost : bad_numbers (record { name = codes "d"; version = None; costs = record { assign = 1; test = 1; turn = 1; call = 0; nothing = 1; put = 1; finish = 1 }; root = cyc (codes "a") 10 11 (Null ∷ []) }) ≡ V11 None ∷ V11 (Some (codes "a")) ∷ []
+no_cost : bad_numbers (record {
+  name = codes "d";
+  version = None;
+  costs = record { assign = 1; test = 1; turn = 1; call = 0; nothing = 1; put = 1; finish = 1 };
+  root = cyc (codes "a") 10 11 (Null ∷ []);
+}) ≡ V11 None ∷ V11 (Some (codes "a")) ∷ []
 no_cost = refl
 
 -- an active object without children
@@ -137,7 +159,8 @@ too_many : bad_sizes (several (copies 31)) ≡ V15Threads 31 ∷ []
 too_many = refl
 
 -- a starter that is too quick
-too_quick : bad_separations (several (cyc (codes "p") 40 40 (start "s" ∷ []) ∷ spo (codes "s") 50 20 (Work 4 ∷ []) ∷ [])) ≡ V16 (codes "p") 40 (codes "s") 50 ∷ []
+too_quick : bad_separations (several (cyc (codes "p") 40 40 (start "s" ∷ []) ∷ spo (codes "s") 50 20 (Work 4 ∷ []) ∷ []))
+    ≡ V16 (codes "p") 40 (codes "s") 50 ∷ []
 too_quick = refl
 
 -- no source at all

@@ -18,7 +18,8 @@ use Rattle.design_rules.specs.Broken.{V08, V09Calls, V09Objects, V09Starts, V10,
 use Rattle.design_rules.specs.Uses.{may_call, forbidden}
 use Rattle.design_rules.specs.Sources.{bad_sources, requests_by}
 use Rattle.design_rules.specs.Separations.{bad_separations}
-use Rattle.design_rules.specs.Rings.{meant_calls, operation_calls, calls_from, CallsOp, IsOnCallRing, protected_objects, calls_object, CallsObject, IsOnObjectRing, thread_objects, can_start, StartsThread, IsOnStartRing}
+use Rattle.design_rules.specs.Rings.{meant_calls, operation_calls, calls_from, CallsOp, IsOnCallRing, protected_objects, calls_object}
+use Rattle.design_rules.specs.Rings.{CallsObject, IsOnObjectRing, thread_objects, can_start, StartsThread, IsOnStartRing}
 use Rattle.design_rules.specs.Rules.{Offends, CallRing, ObjectRing, StartRing, IsFirstBroken}
 use Rattle.design_rules.proofs.Rows.{before_rings, after_rings, none_before}
 use Rattle.seq_tree.proofs.Rounds.{ring-both, OneOf, one-both, from-chosen}
@@ -32,13 +33,15 @@ abbrev start : Statement
 start = Call (codes "s") (codes "start") (Number 7 ∷ [])
 
 -- the row of the use table
-protected_row : map (may_call Protected) (None ∷ Some Pser ∷ Some Paer ∷ Some Aser ∷ Some Hser ∷ []) ≡ map (may_call Cyclic) (None ∷ Some Pser ∷ Some Paer ∷ Some Aser ∷ Some Hser ∷ [])
+protected_row : map (may_call Protected) (None ∷ Some Pser ∷ Some Paer ∷ Some Aser ∷ Some Hser ∷ [])
+    ≡ map (may_call Cyclic) (None ∷ Some Pser ∷ Some Paer ∷ Some Aser ∷ Some Hser ∷ [])
 protected_row = refl
 
 -- a protected object may call another and request a sporadic one, a passive one may not
 abbrev accepted : Design
 accepted = several (cyc (codes "l") 40 40 (call (codes "q") (codes "set") ∷ [])
-    ∷ pro (codes "q") (codes "set") (call (codes "e") (codes "set") ∷ start ∷ []) ∷ pro (codes "e") (codes "set") (Work 2 ∷ []) ∷ spo (codes "s") 20 20 (Work 1 ∷ []) ∷ [])
+    ∷ pro (codes "q") (codes "set") (call (codes "e") (codes "set") ∷ start ∷ []) ∷ pro (codes "e") (codes "set") (Work 2 ∷ [])
+    ∷ spo (codes "s") 20 20 (Work 1 ∷ []) ∷ [])
 
 accepted_by_lists : before_rings accepted ++ after_rings accepted ≡ []
 unfolding is_ada_name
@@ -61,9 +64,11 @@ names-differ a b c e h k =
 
 -- of its protected objects q alone calls another, e, which calls none
 no_ring_of_objects : (name : Name) → IsOnObjectRing accepted name → ⊥
-no_ring_of_objects name r = (let b = ring-both (CallsObject accepted) (λ n. same_name (codes "q") n ≡ true) (λ n. same_name (codes "e") n ≡ true) step name r in names-differ (codes "q") (codes "e") name refl b.0 b.1)
+no_ring_of_objects name r = (let b = ring-both (CallsObject accepted) (λ n. same_name (codes "q") n ≡ true) (λ n. same_name (codes "e") n
+    ≡ true) step name r in names-differ (codes "q") (codes "e") name refl b.0 b.1)
   where
-    by : (from to : Name) → Steps (λ o. o.name) (calls_object accepted) (protected_objects accepted) from to → (same_name (codes "q") from ≡ true) × (same_name (codes "e") to ≡ true)
+    by : (from to : Name) → Steps (λ o. o.name) (calls_object accepted) (protected_objects accepted) from to
+        → (same_name (codes "q") from ≡ true) × (same_name (codes "e") to ≡ true)
     by from to (inl (f, inl (g, l))) = (let z : false ≡ true = l in cc)
     by from to (inl (f, inr (inl (g, l)))) = (f, g)
     by from to (inl (f, inr (inr k))) = absurd k
@@ -77,9 +82,11 @@ no_ring_of_objects name r = (let b = ring-both (CallsObject accepted) (λ n. sam
 
 -- of its threads l alone can start another, s, which can start none
 no_ring_of_starts : (name : Name) → IsOnStartRing accepted name → ⊥
-no_ring_of_starts name r = (let b = ring-both (StartsThread accepted) (λ n. same_name (codes "l") n ≡ true) (λ n. same_name (codes "s") n ≡ true) step name r in names-differ (codes "l") (codes "s") name refl b.0 b.1)
+no_ring_of_starts name r = (let b = ring-both (StartsThread accepted) (λ n. same_name (codes "l") n ≡ true) (λ n. same_name (codes "s") n
+    ≡ true) step name r in names-differ (codes "l") (codes "s") name refl b.0 b.1)
   where
-    by : (from to : Name) → Steps (λ o. o.name) (can_start accepted) (thread_objects accepted) from to → (same_name (codes "l") from ≡ true) × (same_name (codes "s") to ≡ true)
+    by : (from to : Name) → Steps (λ o. o.name) (can_start accepted) (thread_objects accepted) from to
+        → (same_name (codes "l") from ≡ true) × (same_name (codes "s") to ≡ true)
     by from to (inl (f, inl (g, l))) = (let z : false ≡ true = l in cc)
     by from to (inl (f, inr (inl (g, l)))) = (f, g)
     by from to (inl (f, inr (inr k))) = absurd k
@@ -91,12 +98,14 @@ no_ring_of_starts name r = (let b = ring-both (StartsThread accepted) (λ n. sam
     step : (from to : Name) → StartsThread accepted from to → (same_name (codes "l") from ≡ true) × (same_name (codes "s") to ≡ true)
     step from to h = by from to (step-between (λ o. o.name) (can_start accepted) (thread_objects accepted) from to h)
 
-passive_may_not : forbidden (several (pas (codes "p") (codes "f") (call (codes "e") (codes "set") ∷ []) ∷ pro (codes "e") (codes "set") (Work 2 ∷ []) ∷ [])) ≡ V08 (codes "p") (op "e" "set") ∷ []
+passive_may_not : forbidden (several (pas (codes "p") (codes "f") (call (codes "e") (codes "set") ∷ []) ∷ pro (codes "e") (codes "set") (Work 2 ∷ [])
+    ∷ [])) ≡ V08 (codes "p") (op "e" "set") ∷ []
 passive_may_not = refl
 
 -- a ring of protected operations
 abbrev ring : Design
-ring = several (pro (codes "q") (codes "f") (call (codes "e") (codes "g") ∷ []) ∷ pro (codes "e") (codes "g") (call (codes "q") (codes "f") ∷ []) ∷ [])
+ring = several (pro (codes "q") (codes "f") (call (codes "e") (codes "g") ∷ []) ∷ pro (codes "e") (codes "g")
+    (call (codes "q") (codes "f") ∷ []) ∷ [])
 
 ring_of_operations : Offends ring ring CallRing 0 (V09Calls (op "q" "f"))
 ring_of_operations = record { op = _; stands = refl; ring = (op "e" "g" ∷ [], (refl, refl)); tells = refl }
@@ -107,7 +116,8 @@ ring_of_operations_first = record {
   rule = CallRing;
   place = 0;
   offends = ring_of_operations;
-  none_lower = none_before 9 ring ring (lit≤ tt) refl refl (λ op' h r. omega (arith, h)) (λ name h r. omega (arith, h)) (λ name h r. omega (arith, h)) (λ h. refl);
+  none_lower = none_before 9 ring ring (lit≤ tt) refl refl (λ op' h r. omega (arith, h)) (λ name h r. omega (arith, h)) (λ name h r.
+      omega (arith, h)) (λ h. refl);
   none_earlier = λ earlier others h o. absurd (not-suc-le-zero h);
 }
 
@@ -132,13 +142,15 @@ two_ops name f fs g gs = Node (record {
 }) Empty
 
 abbrev objects_ring : Design
-objects_ring = several (two_ops "q" "a" (call (codes "e") (codes "x") ∷ []) "b" (Null ∷ []) ∷ two_ops "e" "x" (Null ∷ []) "y" (call (codes "q") (codes "b") ∷ []) ∷ [])
+objects_ring = several (two_ops "q" "a" (call (codes "e") (codes "x") ∷ []) "b" (Null ∷ [])
+    ∷ two_ops "e" "x" (Null ∷ []) "y" (call (codes "q") (codes "b") ∷ []) ∷ [])
 
 ring_of_objects : Offends objects_ring objects_ring ObjectRing 0 (V09Objects (codes "q"))
 ring_of_objects = record { object = _; stands = refl; ring = (codes "e" ∷ [], (refl, refl)); tells = refl }
 
 -- the operations that call, and those that are called
-calls_of_operations : map (calls_from objects_ring) (op "q" "a" ∷ op "q" "b" ∷ op "e" "x" ∷ op "e" "y" ∷ []) ≡ (op "e" "x" ∷ []) ∷ [] ∷ [] ∷ (op "q" "b" ∷ []) ∷ []
+calls_of_operations : map (calls_from objects_ring) (op "q" "a" ∷ op "q" "b" ∷ op "e" "x" ∷ op "e" "y" ∷ [])
+    ≡ (op "e" "x" ∷ []) ∷ [] ∷ [] ∷ (op "q" "b" ∷ []) ∷ []
 calls_of_operations = refl
 
 -- an operation that calls is q.a or e.y, one that is called e.x or q.b, and so none is on a ring
@@ -155,23 +167,27 @@ abbrev of_e : Object
 of_e = own_of (two_ops "e" "x" (Null ∷ []) "y" (call (codes "q") (codes "b") ∷ []))
 
 a_call : (from to : OpName) → CallsOp objects_ring from to → Caller from × Called to
-a_call from to h = by (from-chosen (same_op to) (λ s. operation_calls objects_ring s.own from.op) (λ s. same_name s.own.name from.object) (terminals objects_ring) h)
+a_call from to h = by (from-chosen (same_op to) (λ s. operation_calls objects_ring s.own from.op) (λ s. same_name s.own.name from.object)
+    (terminals objects_ring) h)
   where
     alone : (b : Bool) → (b || false) ≡ true → b ≡ true
     alone true h = refl
     alone false h = cc
 
-    in_q : OneOf (λ b. (same_name b.name from.op ≡ true) × (list_any (same_op to) (meant_calls objects_ring of_q b.block) ≡ true)) of_q.bodies → Caller from × Called to
+    in_q : OneOf (λ b. (same_name b.name from.op ≡ true) × (list_any (same_op to) (meant_calls objects_ring of_q b.block) ≡ true)) of_q.bodies
+        → Caller from × Called to
     in_q (inl k) = (inl k.0, inl (alone _ k.1))
     in_q (inr (inl k)) = (let z : false ≡ true = k.1 in cc)
     in_q (inr (inr k)) = absurd k
 
-    in_e : OneOf (λ b. (same_name b.name from.op ≡ true) × (list_any (same_op to) (meant_calls objects_ring of_e b.block) ≡ true)) of_e.bodies → Caller from × Called to
+    in_e : OneOf (λ b. (same_name b.name from.op ≡ true) × (list_any (same_op to) (meant_calls objects_ring of_e b.block) ≡ true)) of_e.bodies
+        → Caller from × Called to
     in_e (inl k) = (let z : false ≡ true = k.1 in cc)
     in_e (inr (inl k)) = (inr k.0, inr (alone _ k.1))
     in_e (inr (inr k)) = absurd k
 
-    by : OneOf (λ s. (same_name s.own.name from.object ≡ true) × (list_any (same_op to) (operation_calls objects_ring s.own from.op) ≡ true)) (terminals objects_ring) → Caller from × Called to
+    by : OneOf (λ s. (same_name s.own.name from.object ≡ true) × (list_any (same_op to) (operation_calls objects_ring s.own from.op) ≡ true))
+        (terminals objects_ring) → Caller from × Called to
     by (inl k) = in_q (from-chosen (same_op to) (λ b. meant_calls objects_ring of_q b.block) (λ b. same_name b.name from.op) of_q.bodies k.1)
     by (inr (inl k)) = in_e (from-chosen (same_op to) (λ b. meant_calls objects_ring of_e b.block) (λ b. same_name b.name from.op) of_e.bodies k.1)
     by (inr (inr k)) = absurd k
@@ -191,7 +207,8 @@ first_of_objects = record {
   rule = ObjectRing;
   place = 0;
   offends = ring_of_objects;
-  none_lower = none_before 10 objects_ring objects_ring (lit≤ tt) refl refl (λ op' h r. no_ring_of_operations op' r) (λ name h r. omega (arith, h)) (λ name h r. omega (arith, h)) (λ h. refl);
+  none_lower = none_before 10 objects_ring objects_ring (lit≤ tt) refl refl (λ op' h r. no_ring_of_operations op' r) (λ name h r.
+      omega (arith, h)) (λ name h r. omega (arith, h)) (λ h. refl);
   none_earlier = λ earlier others h o. absurd (not-suc-le-zero h);
 }
 
@@ -219,7 +236,8 @@ ring_by_links = record { object = _; stands = refl; ring = (codes "e" ∷ [], (r
 
 -- a thread starts another through a protected operation
 abbrev through : Design
-through = several (cyc (codes "p") 50 50 (call (codes "q") (codes "set") ∷ []) ∷ pro (codes "q") (codes "set") (start ∷ []) ∷ spo (codes "s") 50 20 (Work 4 ∷ []) ∷ [])
+through = several (cyc (codes "p") 50 50 (call (codes "q") (codes "set") ∷ []) ∷ pro (codes "q") (codes "set") (start ∷ [])
+    ∷ spo (codes "s") 50 20 (Work 4 ∷ []) ∷ [])
 
 meets : before_rings through ++ after_rings through ≡ []
 unfolding is_ada_name
@@ -233,22 +251,27 @@ ring_through : Offends starts_itself starts_itself StartRing 0 (V09Starts (codes
 ring_through = record { thread = _; stands = refl; ring = ([], refl); tells = refl }
 
 -- two requests on a path, one of them through a protected operation
-twice : bad_sources (several (cyc (codes "p") 50 50 (call (codes "q") (codes "set") ∷ start ∷ []) ∷ pro (codes "q") (codes "set") (start ∷ []) ∷ spo (codes "s") 50 20 (Work 4 ∷ []) ∷ []))
+twice : bad_sources (several (cyc (codes "p") 50 50 (call (codes "q") (codes "set") ∷ start ∷ []) ∷ pro (codes "q") (codes "set") (start ∷ [])
+    ∷ spo (codes "s") 50 20 (Work 4 ∷ []) ∷ []))
     ≡ V10 (codes "s") 1 2 ∷ []
 twice = refl
 
 -- two threads, each through it
-two_sources : bad_sources (several (cyc (codes "p") 50 50 (call (codes "q") (codes "set") ∷ []) ∷ cyc (codes "o") 50 50 (call (codes "q") (codes "set") ∷ []) ∷ pro (codes "q") (codes "set") (start ∷ []) ∷ spo (codes "s") 50 20 (Work 4 ∷ []) ∷ []))
+two_sources : bad_sources (several (cyc (codes "p") 50 50 (call (codes "q") (codes "set") ∷ [])
+    ∷ cyc (codes "o") 50 50 (call (codes "q") (codes "set") ∷ []) ∷ pro (codes "q") (codes "set") (start ∷ [])
+    ∷ spo (codes "s") 50 20 (Work 4 ∷ []) ∷ []))
     ≡ V10 (codes "s") 2 1 ∷ []
 two_sources = refl
 
 -- two requests on a path, two protected operations deep
-twice_deep : bad_sources (several (cyc (codes "p") 50 50 (call (codes "q") (codes "set") ∷ []) ∷ pro (codes "q") (codes "set") (call (codes "e") (codes "set") ∷ [])
+twice_deep : bad_sources (several (cyc (codes "p") 50 50 (call (codes "q") (codes "set") ∷ [])
+    ∷ pro (codes "q") (codes "set") (call (codes "e") (codes "set") ∷ [])
     ∷ pro (codes "e") (codes "set") (start ∷ start ∷ []) ∷ spo (codes "s") 50 20 (Work 4 ∷ []) ∷ [])) ≡ V10 (codes "s") 1 2 ∷ []
 twice_deep = refl
 
 -- calls that aren't required are passed over
-unrequired : bad_sources (several (cyc (codes "p") 50 50 (start ∷ []) ∷ Node (record (own_of (cyc (codes "o") 50 50 (start ∷ start ∷ []))) { needs = [] }) Empty ∷ spo (codes "s") 50 20 (Work 4 ∷ []) ∷ [])) ≡ []
+unrequired : bad_sources (several (cyc (codes "p") 50 50 (start ∷ [])
+    ∷ Node (record (own_of (cyc (codes "o") 50 50 (start ∷ start ∷ []))) { needs = [] }) Empty ∷ spo (codes "s") 50 20 (Work 4 ∷ []) ∷ [])) ≡ []
 unrequired = refl
 
 -- requests inside nested loops, through two operations
@@ -257,6 +280,7 @@ counted : map (requests_by (several (pro (codes "q") (codes "set") (start ∷ st
 counted = refl
 
 -- a starter that is too quick, through it
-too_quick : bad_separations (several (cyc (codes "p") 40 40 (call (codes "q") (codes "set") ∷ []) ∷ pro (codes "q") (codes "set") (start ∷ []) ∷ spo (codes "s") 50 20 (Work 4 ∷ []) ∷ []))
+too_quick : bad_separations (several (cyc (codes "p") 40 40 (call (codes "q") (codes "set") ∷ []) ∷ pro (codes "q") (codes "set") (start ∷ [])
+    ∷ spo (codes "s") 50 20 (Work 4 ∷ []) ∷ []))
     ≡ V16 (codes "p") 40 (codes "s") 50 ∷ []
 too_quick = refl

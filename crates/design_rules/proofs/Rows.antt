@@ -28,7 +28,8 @@ use Rattle.design_rules.specs.Numbers.{bad_numbers}
 use Rattle.design_rules.specs.Bodies.{idle_actives, bad_bodies}
 use Rattle.design_rules.specs.Budgets.{bad_budgets, bad_sizes}
 use Rattle.design_rules.specs.Separations.{bad_separations}
-use Rattle.design_rules.specs.Rules.{Rule, Version, Clash, KeptName, Include, Operation, Fitting, Stranger, Absence, Use, CallRing, ObjectRing, StartRing, Source, Number, IdleActive, BodyFault, Budget, Size, Spacing, Offends, IsFirstBroken, number_of}
+use Rattle.design_rules.specs.Rules.{Rule, Version, Clash, KeptName, Include, Operation, Fitting, Stranger, Absence, Use, CallRing, ObjectRing}
+use Rattle.design_rules.specs.Rules.{StartRing, Source, Number, IdleActive, BodyFault, Budget, Size, Spacing, Offends, IsFirstBroken, number_of}
 
 -- what is broken of the rules before rings, and of those after them
 abbrev pub before_rings : Design → List Broken
@@ -82,7 +83,8 @@ loop_and_second_parameter : clashes (requested_by (request a (codes "v" ∷ []) 
 loop_and_second_parameter = refl
 
 -- as parameters of two bodies theirs may have one name, and then there is one request too many
-one_request_too_many : before_rings (requested_by (request a (codes "v" ∷ []) ∷ request (codes "b") (codes "v" ∷ []) ∷ []) nothing) ≡ V04 (codes "s") ∷ []
+one_request_too_many : before_rings (requested_by (request a (codes "v" ∷ []) ∷ request (codes "b") (codes "v" ∷ []) ∷ []) nothing)
+    ≡ V04 (codes "s") ∷ []
 unfolding is_ada_name
 one_request_too_many = refl
 
@@ -108,14 +110,26 @@ server = Node (record {
   links = [];
 }) Empty
 
-cyclic_calls_server : before_rings (several (server ∷ cyc_with a (attr Period 10 ∷ attr Deadline 10 ∷ attr ThreadBudget 1000 ∷ []) (codes "x" ∷ []) (Call (codes "srv") (codes "get") (Variable (codes "x") ∷ []) ∷ []) ∷ []))
+cyclic_calls_server : before_rings
+    (several (server ∷ cyc_with a (attr Period 10 ∷ attr Deadline 10 ∷ attr ThreadBudget 1000 ∷ []) (codes "x" ∷ [])
+    (Call (codes "srv") (codes "get") (Variable (codes "x") ∷ []) ∷ []) ∷ []))
     ≡ V08 a (record { object = codes "srv"; op = codes "get" }) ∷ []
 unfolding is_ada_name
 cyclic_calls_server = refl
 
 -- a protected object with two protected children
 abbrev twins : Design
-twins = several (Node (record { name = codes "m"; kind = Protected; attrs = []; provides = []; needs = []; vars = []; bodies = []; thread = None; links = [] })
+twins = several (Node (record {
+  name = codes "m";
+  kind = Protected;
+  attrs = [];
+  provides = [];
+  needs = [];
+  vars = [];
+  bodies = [];
+  thread = None;
+  links = [];
+})
     (trees (pro (codes "q1") (codes "set") (Work 1 ∷ []) ∷ pro (codes "q2") (codes "set") (Work 1 ∷ []) ∷ [])) ∷ [])
 
 two_protected_children : first (before_rings twins) ≡ Some (V03 (codes "m"))
@@ -124,7 +138,8 @@ two_protected_children = refl
 
 -- a ring of two calls
 abbrev ring : Design
-ring = several (pas (codes "p") (codes "f") (call (codes "q") (codes "g") ∷ []) ∷ pas (codes "q") (codes "g") (call (codes "p") (codes "f") ∷ []) ∷ [])
+ring = several (pas (codes "p") (codes "f") (call (codes "q") (codes "g") ∷ []) ∷ pas (codes "q") (codes "g")
+    (call (codes "p") (codes "f") ∷ []) ∷ [])
 
 abbrev p_f : OpName
 p_f = record { object = codes "p"; op = codes "f" }
@@ -147,7 +162,8 @@ none_before limit written x m v e no_calls no_objects no_starts sources = lower
     no_front [] ys h = (refl, h)
     no_front (x ∷ xs) ys h = cc
 
-    c : (clashes x ≡ []) × (kept_names x ++ (bad_includes x ++ (bad_operations x ++ (bad_fittings x ++ (strangers x ++ (absent x ++ forbidden x))))) ≡ [])
+    c : (clashes x ≡ []) × (kept_names x
+        ++ (bad_includes x ++ (bad_operations x ++ (bad_fittings x ++ (strangers x ++ (absent x ++ forbidden x))))) ≡ [])
     c = no_front (clashes x) _ e
 
     k : (kept_names x ≡ []) × (bad_includes x ++ (bad_operations x ++ (bad_fittings x ++ (strangers x ++ (absent x ++ forbidden x)))) ≡ [])
@@ -195,13 +211,15 @@ ring_of_calls = record {
   rule = CallRing;
   place = 0;
   offends = record { op = p_f; stands = refl; ring = (q_g ∷ [], (refl, refl)); tells = refl };
-  none_lower = none_before 9 ring ring (lit≤ tt) refl refl (λ op h r. omega (arith, h)) (λ name h r. omega (arith, h)) (λ name h r. omega (arith, h)) (λ h. refl);
+  none_lower = none_before 9 ring ring (lit≤ tt) refl refl (λ op h r. omega (arith, h)) (λ name h r. omega (arith, h)) (λ name h r.
+      omega (arith, h)) (λ h. refl);
   none_earlier = λ earlier others h o. absurd (not-suc-le-zero h);
 }
 
 -- a thread that starts another twice
 abbrev twice : Design
-twice = several (cyc (codes "p") 50 50 (Call (codes "s") (codes "start") (Number 7 ∷ []) ∷ Call (codes "s") (codes "start") (Number 8 ∷ []) ∷ []) ∷ spo (codes "s") 50 20 (Work 4 ∷ []) ∷ [])
+twice = several (cyc (codes "p") 50 50 (Call (codes "s") (codes "start") (Number 7 ∷ []) ∷ Call (codes "s") (codes "start") (Number 8 ∷ []) ∷ [])
+    ∷ spo (codes "s") 50 20 (Work 4 ∷ []) ∷ [])
 
 started_twice : before_rings twice ++ after_rings twice ≡ V10 (codes "s") 1 2 ∷ []
 unfolding is_ada_name
@@ -220,7 +238,8 @@ unfolding is_ada_name
 budget_kept = refl
 
 -- an unknown variable
-unknown_variable : before_rings (design (cyc a 10 10 (Assign (codes "y") (Number 1) ∷ []))) ++ after_rings (design (cyc a 10 10 (Assign (codes "y") (Number 1) ∷ [])))
+unknown_variable : before_rings (design (cyc a 10 10 (Assign (codes "y") (Number 1) ∷ [])))
+    ++ after_rings (design (cyc a 10 10 (Assign (codes "y") (Number 1) ∷ [])))
     ≡ V13 a None fault.Unknown ∷ []
 unfolding is_ada_name
 unknown_variable = refl

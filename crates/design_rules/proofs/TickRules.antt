@@ -10,7 +10,8 @@ use Rattle.ods_tree.specs.declared.design.VersionTwo.{VersionTwo}
 use Rattle.ods_tree.proofs.TickLaws.{ticks-version, ticks-again}
 use Rattle.design_rules.specs.Broken.{Broken, V17}
 use Rattle.design_rules.specs.Versions.{bad_tick, bad_priorities, misses_ticks, breaks_ticks, bad_version, version_faults}
-use Rattle.design_rules.specs.Rules.{Version, Clash, KeptName, Include, Operation, Fitting, Stranger, Absence, Use, CallRing, ObjectRing, StartRing, Source, Number, IdleActive, BodyFault, Budget, Size, Spacing, AreMet, MeetsRules}
+use Rattle.design_rules.specs.Rules.{Version, Clash, KeptName, Include, Operation, Fitting, Stranger, Absence, Use, CallRing, ObjectRing}
+use Rattle.design_rules.specs.Rules.{StartRing, Source, Number, IdleActive, BodyFault, Budget, Size, Spacing, AreMet, MeetsRules}
 
 -- no attribute in ticks stands between ticks
 none_between : (tick other : ℕ) (as' : List Attr) → list_any (λ a. misses_ticks other a.value a.unit) (map (attribute_in_ticks tick) as') ≡ false
@@ -31,14 +32,17 @@ filter_map-append {A} {B} f (x ∷ xs) ys = by (f x) (filter_map-append f xs ys)
 
 -- nor does an object of a tree in ticks
 mutual
-  tree-fits : (tick : ℕ) (parent : Option Object) (siblings : List Object) (t : Tree) → filter_map (between tick) (standings parent siblings (tree_in_ticks tick t)) ≡ []
+  tree-fits : (tick : ℕ) (parent : Option Object) (siblings : List Object) (t : Tree)
+      → filter_map (between tick) (standings parent siblings (tree_in_ticks tick t)) ≡ []
   tree-fits tick parent siblings (Node own children) =
       rw (none_between tick tick own.attrs) (trees-fit tick (Some (object_in_ticks tick own)) (roots (trees_in_ticks tick children)) children)
 
-  trees-fit : (tick : ℕ) (parent : Option Object) (siblings : List Object) (ts : Trees) → filter_map (between tick) (inner_standings parent siblings (trees_in_ticks tick ts)) ≡ []
+  trees-fit : (tick : ℕ) (parent : Option Object) (siblings : List Object) (ts : Trees)
+      → filter_map (between tick) (inner_standings parent siblings (trees_in_ticks tick ts)) ≡ []
   trees-fit tick parent siblings Empty = refl
   trees-fit tick parent siblings (With first rest) =
-      filter_map-append (between tick) (standings parent siblings (tree_in_ticks tick first)) (inner_standings parent siblings (trees_in_ticks tick rest))
+      filter_map-append (between tick) (standings parent siblings (tree_in_ticks tick first))
+      (inner_standings parent siblings (trees_in_ticks tick rest))
       ∙ rw (tree-fits tick parent siblings first) (trees-fit tick parent siblings rest)
 
 nil-left : {A : Type 0} (xs ys : List A) → xs ++ ys ≡ [] → xs ≡ []

@@ -21,13 +21,15 @@ use Rattle.design_rules.specs.Includes.{bad_includes}
 use Rattle.design_rules.specs.Operations.{bad_operations}
 use Rattle.design_rules.specs.Fittings.{bad_fittings}
 use Rattle.design_rules.specs.Uses.{strangers, absent, forbidden}
-use Rattle.design_rules.specs.Rings.{terminal_ops, calls_from, CallsOp, protected_objects, calls_object, CallsObject, thread_objects, can_start, StartsThread}
+use Rattle.design_rules.specs.Rings.{terminal_ops, calls_from, CallsOp, protected_objects, calls_object, CallsObject, thread_objects, can_start}
+use Rattle.design_rules.specs.Rings.{StartsThread}
 use Rattle.design_rules.specs.Sources.{bad_sources}
 use Rattle.design_rules.specs.Numbers.{bad_numbers}
 use Rattle.design_rules.specs.Bodies.{idle_actives, bad_bodies}
 use Rattle.design_rules.specs.Budgets.{bad_budgets, bad_sizes}
 use Rattle.design_rules.specs.Separations.{bad_separations}
-use Rattle.design_rules.specs.Rules.{Version, Clash, KeptName, Include, Operation, Fitting, Stranger, Absence, Use, CallRing, ObjectRing, StartRing, Source, Number, IdleActive, BodyFault, Budget, Size, Spacing, IsListed, AreMet, MeetsRules}
+use Rattle.design_rules.specs.Rules.{Version, Clash, KeptName, Include, Operation, Fitting, Stranger, Absence, Use, CallRing, ObjectRing}
+use Rattle.design_rules.specs.Rules.{StartRing, Source, Number, IdleActive, BodyFault, Budget, Size, Spacing, IsListed, AreMet, MeetsRules}
 use Rattle.design_rules.proofs.Rows.{before_rings, after_rings}
 
 -- an item that passes both of two tests, where all pass one and some the other
@@ -40,7 +42,8 @@ pub meeting : {A : Type 0} (p q : A → Bool) (xs : List A) → list_all p xs �
 meeting p q [] all some = cc
 meeting p q (x ∷ xs) all some = by (p x) (q x) refl refl all some (meeting p q xs)
   where
-    by : (a b : Bool) → p x ≡ a → q x ≡ b → (a && list_all p xs) ≡ true → (b || list_any q xs) ≡ true → (list_all p xs ≡ true → list_any q xs ≡ true → Meeting p q) → Meeting p q
+    by : (a b : Bool) → p x ≡ a → q x ≡ b → (a && list_all p xs) ≡ true → (b || list_any q xs) ≡ true
+        → (list_all p xs ≡ true → list_any q xs ≡ true → Meeting p q) → Meeting p q
     by true true e f all some rest = record { item = x; one = e; other = f }
     by true false e f all some rest = rest all some
     by false b e f all some rest = cc
@@ -57,7 +60,8 @@ placed {A = A} p (x ∷ xs) place a all e = by (p x) refl all place e (placed p 
     by false h all place e rest = cc
 
 -- where every way has fewer steps than some number, nothing stands on a ring: what a way comes to has ways of fewer steps still
-module _ {A : Type 0} (Step : A → A → Type 0) (ends : ℕ → A → Bool) (some_step : (a : A) → ends 0 a ≡ true → ⊥) (further : (n : ℕ) (a b : A) → ends (suc n) a ≡ true → Step a b → ends n b ≡ true) where
+module _ {A : Type 0} (Step : A → A → Type 0) (ends : ℕ → A → Bool) (some_step : (a : A) → ends 0 a ≡ true → ⊥) (further : (n : ℕ) (a b : A)
+    → ends (suc n) a ≡ true → Step a b → ends n b ≡ true) where
   later : (n : ℕ) (a : A) (path : List A) (b : A) → ends (suc n) a ≡ true → LeadsTo Step a path b → (m : ℕ) × (m ≤ n) × (ends m b ≡ true)
   later n a [] b h leads = (n, omega arith, further n a b h leads)
   later zero a (via ∷ path) b h leads = absurd (some_step via (further zero a via h leads.0))
@@ -113,10 +117,12 @@ named_implied false b true h k = cc
 named_implied false b false h k = cc
 
 object_further : (leads : Object → Object → Bool) (objects : List Object) (n : ℕ) (from to : Name) → objects_end leads objects (suc n) from ≡ true
-    → list_any (λ f. same_name f.name from && list_any (λ t. same_name t.name to && leads f t) objects) objects ≡ true → objects_end leads objects n to ≡ true
+    → list_any (λ f. same_name f.name from && list_any (λ t. same_name t.name to && leads f t) objects) objects ≡ true
+    → objects_end leads objects n to ≡ true
 object_further leads objects n from to h step = outer (meeting _ _ objects h step)
   where
-    inner : (f : Object) → Meeting (λ t. not (leads f t) || objects_end leads objects n t.name) (λ t. same_name t.name to && leads f t) → objects_end leads objects n to ≡ true
+    inner : (f : Object) → Meeting (λ t. not (leads f t) || objects_end leads objects n t.name) (λ t. same_name t.name to && leads f t)
+        → objects_end leads objects n to ≡ true
     inner f m =
         let parts = named_implied (leads f m.item) (objects_end leads objects n m.item.name) (same_name m.item.name to) m.one m.other in
         subst (λ name. objects_end leads objects n name ≡ true) ((bytes_eq-Decides m.item.name to).0 parts.1) parts.0
@@ -175,10 +181,12 @@ are-met written x h Use place told listed = none-listed (forbidden x) place told
 are-met written x h CallRing place told r =
     no-ring (CallsOp x) (calls_end x) (no_call x) (call_further x) h.steps r.op (placed _ (terminal_ops x) place r.op h.calls r.stands) r.ring
 are-met written x h ObjectRing place told r =
-    no-ring (CallsObject x) (objects_end (calls_object x) (protected_objects x)) (no_object (calls_object x) (protected_objects x)) (object_further (calls_object x) (protected_objects x)) h.steps r.object.name
+    no-ring (CallsObject x) (objects_end (calls_object x) (protected_objects x)) (no_object (calls_object x) (protected_objects x))
+    (object_further (calls_object x) (protected_objects x)) h.steps r.object.name
     (placed _ (protected_objects x) place r.object h.objects r.stands) r.ring
 are-met written x h StartRing place told r =
-    no-ring (StartsThread x) (objects_end (can_start x) (thread_objects x)) (no_object (can_start x) (thread_objects x)) (object_further (can_start x) (thread_objects x)) h.steps r.thread.name
+    no-ring (StartsThread x) (objects_end (can_start x) (thread_objects x)) (no_object (can_start x) (thread_objects x))
+    (object_further (can_start x) (thread_objects x)) h.steps r.thread.name
     (placed _ (thread_objects x) place r.thread h.starts r.stands) r.ring
 are-met written x h Source place told listed = none-listed (bad_sources x) place told (none-joined (lists_after x) h.after).0 listed
 are-met written x h Number place told listed = none-listed (bad_numbers x) place told (none-joined (lists_after x) h.after).1.0 listed

@@ -1,6 +1,7 @@
 -- Costs against budgets, and sizes: activations over their budgets, too many threads or objects, bodies that are too dear.
 -- Budgets are those of HRT-HOOD (Burns and Wellings 1995); the limits are this project's own.
-use Rattle.std.specs.Prelude.{ℕ, suc, ◌+◌, ◌-◌, min, Bool, ◌&&◌, List, ◌++◌, filter_map, flat_map, length, nat_lt, nat_le, Option, Some, None, option_to_list}
+use Rattle.std.specs.Prelude.{ℕ, suc, ◌+◌, ◌-◌, min, Bool, ◌&&◌, List, ◌++◌, filter_map, flat_map, length, nat_lt, nat_le, Option, Some, None}
+use Rattle.std.specs.Prelude.{option_to_list}
 use Rattle.seq_tree.specs.Statements.{Statements}
 use Rattle.ods_tree.specs.Designs.{Body, Object, Design}
 use Rattle.ods_tree.specs.Walk.{objects, terminals}

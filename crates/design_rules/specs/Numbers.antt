@@ -37,7 +37,8 @@ are_attributes_right kind.Cyclic o =
     is_required 1 1000000000 Period o && is_optional 0 1000000000 Offset o && is_foreign Separation o && is_foreign ArrivalJitter o
     && are_common_right (attribute_or 0 Period o) o
 are_attributes_right kind.Sporadic o =
-    is_required 1 1000000000 Separation o && is_optional 0 (attribute_or 0 Separation o - 1) ArrivalJitter o && is_foreign Period o && is_foreign Offset o
+    is_required 1 1000000000 Separation o && is_optional 0 (attribute_or 0 Separation o - 1) ArrivalJitter o && is_foreign Period o
+    && is_foreign Offset o
     && are_common_right (attribute_or 0 Separation o) o
 are_attributes_right _ o = is_empty o.attrs
 

@@ -48,7 +48,8 @@ calls_object x from to = list_any (λ c. same_name c.object to.name) (flat_map (
 -- a protected object, by name, that calls another
 abbrev pub CallsObject : Design → Name → Name → Type 0
 CallsObject x from to =
-    list_any (λ f. same_name f.name from && list_any (λ t. same_name t.name to && calls_object x f t) (protected_objects x)) (protected_objects x) ≡ true
+    list_any (λ f. same_name f.name from && list_any (λ t. same_name t.name to && calls_object x f t) (protected_objects x))
+    (protected_objects x) ≡ true
 
 -- a protected object on a ring of calls
 abbrev pub IsOnObjectRing : Design → Name → Type 0

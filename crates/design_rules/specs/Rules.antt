@@ -21,7 +21,8 @@ use Rattle.design_rules.specs.Separations.{bad_separations}
 
 -- a rule
 pub data Rule : Type 0 where
-  Version Clash KeptName Include Operation Fitting Stranger Absence Use CallRing ObjectRing StartRing Source Number IdleActive BodyFault Budget Size Spacing : Rule
+  Version Clash KeptName Include Operation Fitting Stranger Absence Use CallRing ObjectRing StartRing Source Number IdleActive BodyFault Budget Size
+      Spacing : Rule
 
 -- the rules in order
 abbrev pub number_of : Rule → ℕ

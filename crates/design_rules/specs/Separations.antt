@@ -26,4 +26,5 @@ is_too_often x from to = can_start x from to && nat_lt (spacing from) (attribute
 -- the starters that start too often, each with what it starts, both in flattened order
 abbrev pub bad_separations : Design → List Broken
 bad_separations x =
-    flat_map (λ f. filter_map (λ t. only_if (is_too_often x f t) (V16 f.name (spacing f) t.name (attribute_or 0 Separation t))) (thread_objects x)) (thread_objects x)
+    flat_map (λ f. filter_map (λ t. only_if (is_too_often x f t) (V16 f.name (spacing f) t.name (attribute_or 0 Separation t))) (thread_objects x))
+    (thread_objects x)

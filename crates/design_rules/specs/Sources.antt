@@ -1,6 +1,7 @@
 -- The sources of a sporadic thread: it is requested from outside or by one thread, at most once on a path of an activation.
 -- So the separation of its requests is that of its source.
-use Rattle.std.specs.Prelude.{ℕ, zero, suc, ◌+◌, Bool, not, ◌&&◌, ◌||◌, ◌==◌, List, map, filter, filter_map, length, fold, max, min, nat_le, option_to_list, if◌then◌else◌}
+use Rattle.std.specs.Prelude.{ℕ, zero, suc, ◌+◌, Bool, not, ◌&&◌, ◌||◌, ◌==◌, List, map, filter, filter_map, length, fold, max, min, nat_le}
+use Rattle.std.specs.Prelude.{option_to_list, if◌then◌else◌}
 use Rattle.seq_tree.specs.Names.{Name, same_name}
 use Rattle.seq_tree.specs.Dearest.{counted}
 use Rattle.seq_tree.specs.declared.tree.OpName.{OpName}

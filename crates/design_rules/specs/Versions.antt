@@ -1,6 +1,7 @@
 -- What is wrong with the version of a design: the time of a tick, the range of priorities, and times that are no whole number of ticks.
 -- The ranges are this project's own.
-use Rattle.std.specs.Prelude.{ℕ, ◌*◌, ◌/◌, ◌%◌, Bool, false, not, ◌&&◌, ◌||◌, ◌==◌, List, [], ◌++◌, filter_map, nat_lt, nat_le, Option, Some, None, option_to_list}
+use Rattle.std.specs.Prelude.{ℕ, ◌*◌, ◌/◌, ◌%◌, Bool, false, not, ◌&&◌, ◌||◌, ◌==◌, List, [], ◌++◌, filter_map, nat_lt, nat_le, Option, Some}
+use Rattle.std.specs.Prelude.{None, option_to_list}
 use Rattle.std.specs.List.{list_any}
 use Rattle.ods_tree.specs.Designs.{Object, Design}
 use Rattle.ods_tree.specs.Walk.{objects, only_if}

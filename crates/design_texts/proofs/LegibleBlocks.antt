@@ -4,7 +4,8 @@ use Rattle.std.proofs.Common.{◌≡◌, ℕ, suc, Bool, true, ◌&&◌, List, [
 use Rattle.std.specs.List.{list_all}
 use Rattle.std.proofs.lemmas.Bool.{and_parts, and_from}
 use Rattle.seq_tree.specs.Names.{Name}
-use Rattle.seq_tree.specs.Statements.{Statement, Statements, Branches, Null, Assign, If, For, ExitWhen, Call, Work, Put, End, Then, Nothing, Else, When}
+use Rattle.seq_tree.specs.Statements.{Statement, Statements, Branches, Null, Assign, If, For, ExitWhen, Call, Work, Put, End, Then, Nothing}
+use Rattle.seq_tree.specs.Statements.{Else, When}
 use Rattle.seq_tree.specs.Calls.{statement_calls, block_calls, branch_calls}
 use Rattle.seq_tree.specs.Spelling.{Line, line, expression_tokens, statement_lines, block_lines, branch_lines}
 use Rattle.seq_tree.specs.declared.token.Token.TheVariants.{Word, Number, Sign}
@@ -34,7 +35,8 @@ module _ (means : OpName → OpName) where
   right xs ys h c k = h c (in-right c xs ys k)
 
   mutual
-    legible-statement : (l m : ℕ) (s : Statement) → Meant (statement_calls s) → HasLegible (statement_lines l s) → HasLegible (statement_lines m (renamed_statement means s))
+    legible-statement : (l m : ℕ) (s : Statement) → Meant (statement_calls s) → HasLegible (statement_lines l s)
+        → HasLegible (statement_lines m (renamed_statement means s))
     legible-statement l m Null k h = h
     legible-statement l m (Assign target value) k h = h
     legible-statement l m (If branches) k h =
@@ -56,7 +58,8 @@ module _ (means : OpName → OpName) where
     legible-statement l m (Work ticks) k h = h
     legible-statement l m (Put value) k h = h
 
-    pub legible-block : (l m : ℕ) (b : Statements) → Meant (block_calls b) → HasLegible (block_lines l b) → HasLegible (block_lines m (renamed means b))
+    pub legible-block : (l m : ℕ) (b : Statements) → Meant (block_calls b) → HasLegible (block_lines l b)
+        → HasLegible (block_lines m (renamed means b))
     legible-block l m End k h = refl
     legible-block l m (Then first rest) k h =
         let p = lines-parts (statement_lines l first) (block_lines l rest) h in
@@ -64,14 +67,16 @@ module _ (means : OpName → OpName) where
         (legible-statement l m first (left (statement_calls first) (block_calls rest) k) p.0)
         (legible-block l m rest (right (statement_calls first) (block_calls rest) k) p.1)
 
-    legible-branches : (word : List ℕ) (l m : ℕ) (b : Branches) → Meant (branch_calls b) → HasLegible (branch_lines word l b) → HasLegible (branch_lines word m (renamed_branches means b))
+    legible-branches : (word : List ℕ) (l m : ℕ) (b : Branches) → Meant (branch_calls b) → HasLegible (branch_lines word l b)
+        → HasLegible (branch_lines word m (renamed_branches means b))
     legible-branches word l m Nothing k h = refl
     legible-branches word l m (Else block) k h = legible-block (suc l) (suc m) block k h
     legible-branches word l m (When condition block others) k h =
         let head : Line = line l (Word word ∷ (expression_tokens condition ++ Word (codes "then") ∷ [])) in
         let a = parts head.tokens _ h in
         let b = lines-parts (block_lines (suc l) block) (branch_lines (codes "elsif") l others) a.1 in
-        line-first (line m head.tokens) (block_lines (suc m) (renamed means block) ++ branch_lines (codes "elsif") m (renamed_branches means others)) a.0
+        line-first (line m head.tokens) (block_lines (suc m) (renamed means block) ++ branch_lines (codes "elsif") m
+        (renamed_branches means others)) a.0
         (lines-both (block_lines (suc m) (renamed means block)) (branch_lines (codes "elsif") m (renamed_branches means others))
         (legible-block (suc l) (suc m) block (left (block_calls block) (branch_calls others) k) b.0)
         (legible-branches (codes "elsif") l m others (right (block_calls block) (branch_calls others) k) b.1))

@@ -1,5 +1,6 @@
 -- The program of a design that meets the rules can stand in a text where the names and numbers of its objects can.
-use Rattle.std.proofs.Common.{◌≡◌, ℕ, ◌+◌, ◌≤◌, ◌<◌, Bool, true, false, ◌&&◌, List, [], ◌∷◌, map, zip, length, nat_lt, nat_le, Option, Some, None, unwrap_or, is_some, refl, sym, ap, subst, ◌∙◌, inl, inr, arith}
+use Rattle.std.proofs.Common.{◌≡◌, ℕ, ◌+◌, ◌≤◌, ◌<◌, Bool, true, false, ◌&&◌, List, [], ◌∷◌, map, zip, length, nat_lt, nat_le, Option, Some}
+use Rattle.std.proofs.Common.{None, unwrap_or, is_some, refl, sym, ap, subst, ◌∙◌, inl, inr, arith}
 use Rattle.std.specs.List.{list_all}
 use Rattle.std.proofs.lemmas.Bool.{and_parts, and_from, leb-true}
 use Rattle.seq_tree.specs.Names.{same_name}
@@ -24,7 +25,8 @@ use Rattle.guarantee.specs.Programs.{thread_unit, thread_form, program_for}
 use Rattle.design_rules.specs.Rules.{AreMet}
 use Rattle.design_programs.proofs.Lists.{all-in}
 use Rattle.design_programs.proofs.CostRanges.{within-true}
-use Rattle.design_programs.proofs.Flattened.{library-from, guarded-from, operation-from, ThreadFrom, thread-from, terminal-object, TimingOf, OfCyclic, OfSporadic, timing-of}
+use Rattle.design_programs.proofs.Flattened.{library-from, guarded-from, operation-from, ThreadFrom, thread-from, terminal-object, TimingOf}
+use Rattle.design_programs.proofs.Flattened.{OfCyclic, OfSporadic, timing-of}
 use Rattle.design_programs.proofs.Served.{Meant, meant}
 use Rattle.design_programs.proofs.Blocks.{Needed, AreNeeded, needed-call, body-needed, thread-needed, kept}
 use Rattle.design_programs.proofs.ProgramRanges.{AreRanked}
@@ -34,7 +36,8 @@ use Rattle.program_calls.proofs.Lists.{IsIn, found-in}
 use Rattle.design_texts.proofs.Tokens.{HasLegible}
 use Rattle.design_texts.proofs.LegibleBlocks.{legible-block}
 use Rattle.design_texts.proofs.LegibleObjects.{IsLegibleObject}
-use Rattle.design_texts.proofs.LegibleUnits.{AreLegibleParams, AreLegibleData, IsLegibleBlock, IsLegibleOperation, AreLegibleOperations, IsLegibleForm, IsLegibleUnit, AreLegibleCosts, program-legible}
+use Rattle.design_texts.proofs.LegibleUnits.{AreLegibleParams, AreLegibleData, IsLegibleBlock, IsLegibleOperation, AreLegibleOperations}
+use Rattle.design_texts.proofs.LegibleUnits.{IsLegibleForm, IsLegibleUnit, AreLegibleCosts, program-legible}
 
 -- numbers in a range can be read
 pub number_below : (n : ℕ) → n ≤ 1000000000 → is_number n ≡ true
@@ -43,7 +46,8 @@ number_below n h = grind arith
 number_inside : (n : ℕ) → is_outside 1 60 n ≡ false → is_number n ≡ true
 number_inside n h = grind arith
 
-jitter_below : (jitter : Option ℕ) (separation : ℕ) → separation ≤ 1000000000 → is_below jitter separation ≡ true → is_number (unwrap_or jitter 0) ≡ true
+jitter_below : (jitter : Option ℕ) (separation : ℕ) → separation ≤ 1000000000 → is_below jitter separation ≡ true
+    → is_number (unwrap_or jitter 0) ≡ true
 jitter_below None separation h e = refl
 jitter_below (Some jitter) separation h e = grind arith
 
@@ -68,7 +72,8 @@ request-in (p ∷ ps) sig e = (p, inl refl, (let z : Some p.sig ≡ Some sig = e
 
 module _ (written x : Design) (met : AreMet written x) (legible : (s : Standing) → IsIn s (objects x) → IsLegibleObject s.own) where
   -- the names of what is called
-  meant-names : (o : Object) (b : Statements) → AreNeeded x o b → (c : OpName) → IsIn c (block_calls b) → (is_word (resolve x c).object ≡ true) × (is_word (resolve x c).op ≡ true)
+  meant-names : (o : Object) (b : Statements) → AreNeeded x o b → (c : OpName) → IsIn c (block_calls b)
+      → (is_word (resolve x c).object ≡ true) × (is_word (resolve x c).op ≡ true)
   meant-names o b needed c h =
       let n : Needed x o c = needed-call x o b needed c h in
       let m : Meant x c n.provided = meant x (kept written x met) c n.provided n.there in
@@ -110,7 +115,8 @@ module _ (written x : Design) (met : AreMet written x) (legible : (s : Standing)
       let l = (legible s o).thread b e in
       block-read s.own b (thread-needed written x met s b o e) l.0 l.1
 
-  request-read : (s : Standing) (sig : Signature) → IsIn s (terminals x) → request_op s.own.provides ≡ Some sig → (is_word sig.name ≡ true) × AreLegibleParams sig.params
+  request-read : (s : Standing) (sig : Signature) → IsIn s (terminals x) → request_op s.own.provides ≡ Some sig
+      → (is_word sig.name ≡ true) × AreLegibleParams sig.params
   request-read s sig h e =
       let r = request-in s.own.provides sig e in
       let l : IsLegibleObject s.own = legible s (terminal-object x s h).0 in
@@ -134,11 +140,19 @@ module _ (written x : Design) (met : AreMet written x) (legible : (s : Standing)
     cyclic-read : (n : ℕ × ℕ) (t : Thread) (period offset : ℕ) → is_outside 1 60 n.0 ≡ false → is_timed (Cyclic period offset) ≡ true
         → AreLegibleData t.vars → IsLegibleBlock t.block → Reads n t (Cyclic period offset)
     cyclic-read n t period offset p timed vars block =
-        let a = and_parts (is_within 1 1000000000 period) (nat_le offset 1000000000) timed in
-        (number_inside n.0 p, number_below offset (leb-true offset 1000000000 a.1), number_below period (within-true 1 1000000000 period a.0).1, vars, block)
+        let a = and_parts (is_within 1 1000000000 period) (nat_le offset 1000000000) timed in (
+          number_inside n.0 p,
+          number_below offset (leb-true offset 1000000000 a.1),
+          number_below period (within-true 1 1000000000 period
+              a.0).1,
+          vars,
+          block,
+        )
 
-    sporadic-read : (n : ℕ × ℕ) (t : Thread) (op : Signature) (separation : ℕ) (jitter : Option ℕ) → is_outside 1 60 n.0 ≡ false → is_outside 1 60 n.1 ≡ false
-        → is_timed (Sporadic op separation jitter) ≡ true → is_word op.name ≡ true → AreLegibleParams op.params → AreLegibleData t.vars → IsLegibleBlock t.block
+    sporadic-read : (n : ℕ × ℕ) (t : Thread) (op : Signature) (separation : ℕ) (jitter : Option ℕ) → is_outside 1 60 n.0 ≡ false
+        → is_outside 1 60 n.1 ≡ false
+        → is_timed (Sporadic op separation jitter) ≡ true → is_word op.name ≡ true → AreLegibleParams op.params → AreLegibleData t.vars
+        → IsLegibleBlock t.block
         → Reads n t (Sporadic op separation jitter)
     sporadic-read n t op separation jitter p c timed name params vars block =
         let a = and_parts (is_within 1 1000000000 separation) (is_below jitter separation) timed in
@@ -174,7 +188,8 @@ module _ (written x : Design) (met : AreMet written x) (legible : (s : Standing)
             kinds (OfSporadic sig e g s) =
                 let q = request-read f.standing sig f.stands g in
                 subst P (sym (timing _ s))
-                (sporadic-read n t sig _ _ (ranked.threads t n i) (ranked.obcs t n sig _ _ i (timing _ s)).0 (timed _ (timing _ s)) q.0 q.1 vars block)
+                (sporadic-read n t sig _ _ (ranked.threads t n i) (ranked.obcs t n sig _ _ i (timing _ s)).0
+                (timed _ (timing _ s)) q.0 q.1 vars block)
 
     unit-read : (u : Unit) → UnitFrom (flat x) r u → IsLegibleUnit u
     unit-read u (OfLibrary l j e) =
@@ -188,7 +203,10 @@ module _ (written x : Design) (met : AreMet written x) (legible : (s : Standing)
         let q : P g = subst P (sym s.3) (name-read s.0 s.1, vars-read s.0 s.1, operations-read s.0 s.1) in
         subst IsLegibleUnit (sym e) (record { name = q.0; form = (number_inside ceiling (ranked.shared g ceiling j), q.1, q.2) })
     unit-read u (OfThread t n j e) =
-        subst IsLegibleUnit (sym e) (record { name = thread-named t (from-zip (threads x) (zip r.threads r.obcs) (t, n) j).0; form = thread-form n t j })
+        subst IsLegibleUnit (sym e) (record {
+          name = thread-named t (from-zip (threads x) (zip r.threads r.obcs) (t, n) j).0;
+          form = thread-form n t j;
+        })
 
     -- the program, whatever the ranks
     pub program-written : is_word x.name ≡ true → is_writable (program_for (flat x) r) ≡ true

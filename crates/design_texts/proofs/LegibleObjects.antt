@@ -1,6 +1,7 @@
 -- Where a text can hold each token of a design, it can hold the names and numbers of each of its objects.
 -- A line of an object is one of the design's, and a part of a line gives a token.
-use Rattle.std.proofs.Common.{◌≡◌, ℕ, suc, Bool, true, List, [], ◌∷◌, ◌++◌, map, flat_map, codes, Option, Some, None, refl, sym, ap, subst, ◌∙◌, inl, inr, ◌⊎◌}
+use Rattle.std.proofs.Common.{◌≡◌, ℕ, suc, Bool, true, List, [], ◌∷◌, ◌++◌, map, flat_map, codes, Option, Some, None, refl, sym, ap, subst, ◌∙◌}
+use Rattle.std.proofs.Common.{inl, inr, ◌⊎◌}
 use Rattle.std.specs.List.{list_all}
 use Prim.Native.String.{String}
 use Rattle.seq_tree.specs.Statements.{Statements}
@@ -12,7 +13,9 @@ use Rattle.seq_tree.specs.declared.tree.Param.{Param}
 use Rattle.seq_tree.specs.declared.tree.Datum.{Datum}
 use Rattle.ods_tree.specs.Designs.{Provided, Body, Object, Tree, Trees, Node, Empty, With, Design}
 use Rattle.ods_tree.specs.Walk.{Standing, own_of, roots, standings, inner_standings, objects}
-use Rattle.ods_tree.specs.Spelling.{Part, Capital, Plain, DesignLine, line, part_token, section, param_parts, params_parts, provided_line, datum_line, block_parts, body_lines, thread_lines, front_lines, back_lines, tree_lines, trees_lines, head_lines, cost_lines, design_lines, design_tokens, attribute_line, needed_line}
+use Rattle.ods_tree.specs.Spelling.{Part, Capital, Plain, DesignLine, line, part_token, section, param_parts, params_parts, provided_line}
+use Rattle.ods_tree.specs.Spelling.{datum_line, block_parts, body_lines, thread_lines, front_lines, back_lines, tree_lines, trees_lines}
+use Rattle.ods_tree.specs.Spelling.{head_lines, cost_lines, design_lines, design_tokens, attribute_line, needed_line}
 use Rattle.seq_print.specs.Readable.{is_readable}
 use Rattle.ada_print.specs.Writable.{is_word, is_number}
 use Rattle.program_calls.proofs.Lists.{IsIn, in-left, in-right, in-map, in-flat, in-some}
@@ -31,24 +34,31 @@ in-section level word (i ∷ is') l h = inr h
 mutual
   tree-front : (level : ℕ) (parent : Option Object) (siblings : List Object) (t : Tree) (s : Standing) → IsIn s (standings parent siblings t)
       → (k : ℕ) × Within (front_lines k s.own) (tree_lines level t)
-  tree-front level parent siblings (Node own children) s (inl e) =
-      (level, (let P : Standing → Type 0 = λ z. Within (front_lines level z.own) (tree_lines level (Node own children)) in subst P e (λ l h. in-left l (front_lines level own) _ h)))
+  tree-front level parent siblings (Node own children) s (inl e) = (
+    level,
+    (let P : Standing → Type 0 = λ z. Within (front_lines level z.own) (tree_lines level (Node own children))
+        in subst P e (λ l h. in-left l (front_lines level own) _ h)),
+  )
   tree-front level parent siblings (Node own children) s (inr h) =
       let r = trees-front (suc (suc level)) (Some own) (roots children) children s h in (
         r.0,
-        λ l k. in-right l (front_lines level own) _ (in-left l (section (suc level) "objects" (trees_lines (suc (suc level)) children)) (back_lines level own)
+        λ l k. in-right l (front_lines level own) _ (in-left l (section (suc level) "objects" (trees_lines (suc (suc level)) children))
+            (back_lines level own)
             (in-section (suc level) "objects" (trees_lines (suc (suc level)) children) l (r.1 l k))),
       )
 
-  trees-front : (level : ℕ) (parent : Option Object) (siblings : List Object) (ts : Trees) (s : Standing) → IsIn s (inner_standings parent siblings ts)
+  trees-front : (level : ℕ) (parent : Option Object) (siblings : List Object) (ts : Trees) (s : Standing)
+      → IsIn s (inner_standings parent siblings ts)
       → (k : ℕ) × Within (front_lines k s.own) (trees_lines level ts)
   trees-front level parent siblings Empty s h = absurd h
   trees-front level parent siblings (With first rest) s h =
-      by (tree-front level parent siblings first s) (trees-front level parent siblings rest s) (in-cases (standings parent siblings first) (inner_standings parent siblings rest) s h)
+      by (tree-front level parent siblings first s) (trees-front level parent siblings rest s)
+      (in-cases (standings parent siblings first) (inner_standings parent siblings rest) s h)
     where
       by : (IsIn s (standings parent siblings first) → (k : ℕ) × Within (front_lines k s.own) (tree_lines level first))
           → (IsIn s (inner_standings parent siblings rest) → (k : ℕ) × Within (front_lines k s.own) (trees_lines level rest))
-          → IsIn s (standings parent siblings first) ⊎ IsIn s (inner_standings parent siblings rest) → (k : ℕ) × Within (front_lines k s.own) (trees_lines level (With first rest))
+          → IsIn s (standings parent siblings first) ⊎ IsIn s (inner_standings parent siblings rest)
+          → (k : ℕ) × Within (front_lines k s.own) (trees_lines level (With first rest))
       by f g (inl a) = let r = f a in (r.0, λ l k. in-left l (tree_lines level first) (trees_lines level rest) (r.1 l k))
       by f g (inr a) = let r = g a in (r.0, λ l k. in-right l (tree_lines level first) (trees_lines level rest) (r.1 l k))
 
@@ -86,7 +96,8 @@ AllLegible ls = (l : DesignLine) (p : Part) → IsIn l ls → IsIn p l.parts →
 
 pub lines-legible : (x : Design) → AreLegible (design_tokens x) → AllLegible (design_lines x)
 lines-legible x h l p i j =
-    all-in is_readable (design_tokens x) (part_token p) h (in-flat (λ (m : DesignLine). map part_token m.parts) l (part_token p) (design_lines x) i (in-map part_token p l.parts j))
+    all-in is_readable (design_tokens x) (part_token p) h (in-flat (λ (m : DesignLine). map part_token m.parts) l (part_token p) (design_lines x) i
+    (in-map part_token p l.parts j))
 
 -- what a text can hold of an object
 pub record IsLegibleObject (o : Object) : Type 0 where
@@ -132,11 +143,15 @@ module _ (ls : List DesignLine) (all : AllLegible ls) (o : Object) (k : ℕ) (sh
       (in-left l bodies (thread_lines (suc k) o.thread) (in-flat (body_lines (suc k)) b l o.bodies h j)))))))
 
   thread-in : Within (thread_lines (suc k) o.thread) ls
-  thread-in l j = shown l (inr (in-right l attributes _ (in-right l provides _ (in-right l needs _ (in-right l vars _ (in-right l bodies (thread_lines (suc k) o.thread) j))))))
+  thread-in l j = shown l (inr (in-right l attributes _
+      (in-right l provides _ (in-right l needs _ (in-right l vars _ (in-right l bodies (thread_lines (suc k) o.thread) j))))))
 
   datum-legible : (level : ℕ) (d : Datum) → IsIn (datum_line level d) ls → (is_word d.name ≡ true) × (is_number d.value ≡ true)
-  datum-legible level d h =
-      (all (datum_line level d) (Plain (Word d.name)) h (inl refl), all (datum_line level d) (Plain (Number d.value)) h (inr (inr (inr (inr (inl refl))))))
+  datum-legible level d h = (
+    all (datum_line level d) (Plain (Word d.name)) h (inl refl),
+    all (datum_line level d) (Plain (Number d.value)) h (inr
+        (inr (inr (inr (inl refl))))),
+  )
 
   block-legible : (level : ℕ) (b : Statements) → Within (block_parts level b) ls → AreLegible (joined (block_lines level b))
   block-legible level b within = all-from is_readable (joined (block_lines level b)) (λ t h.
@@ -148,7 +163,8 @@ module _ (ls : List DesignLine) (all : AllLegible ls) (o : Object) (k : ℕ) (sh
       body-in b h l (inr (in-left l (map (datum_line (suc (suc k))) b.locals) _ (in-map (datum_line (suc (suc k))) d b.locals j)))
 
   block-in : (b : Body) → IsIn b o.bodies → Within (block_parts (suc (suc k)) b.block) ls
-  block-in b h l j = body-in b h l (inr (in-right l (map (datum_line (suc (suc k))) b.locals) _ (inr (in-left l (block_parts (suc (suc k)) b.block) _ j))))
+  block-in b h l j = body-in b h l
+      (inr (in-right l (map (datum_line (suc (suc k))) b.locals) _ (inr (in-left l (block_parts (suc (suc k)) b.block) _ j))))
 
   run-in : (t : Option Statements) (b : Statements) → t ≡ Some b → Within (thread_lines (suc k) t) ls → Within (block_parts (suc (suc k)) b) ls
   run-in None b e within = absurd (let z : None ≡ Some b = e in cc)
@@ -162,7 +178,8 @@ module _ (ls : List DesignLine) (all : AllLegible ls) (o : Object) (k : ℕ) (sh
   object-legible = record {
     name = all _ (Plain (Word o.name)) (shown _ (inl refl)) (inr (inl refl));
     ops = λ p h. all (provided_line (suc (suc k)) p) (Plain (Word p.sig.name)) (provided-in p h) (inl refl);
-    params = λ p q h j. all (provided_line (suc (suc k)) p) (named_part q) (provided-in p h) (inr (in-left (named_part q) (params_parts p.sig.params) _ (param-in q p.sig.params j)));
+    params = λ p q h j. all (provided_line (suc (suc k)) p) (named_part q) (provided-in p h) (inr
+        (in-left (named_part q) (params_parts p.sig.params) _ (param-in q p.sig.params j)));
     vars = λ d h. datum-legible (suc (suc k)) d (var-in d h);
     locals = λ b d h j. datum-legible (suc (suc k)) d (local-in b d h j);
     blocks = λ b h. (suc (suc k), block-legible (suc (suc k)) b.block (block-in b h));
@@ -177,4 +194,5 @@ objects-legible x h s i = let r = object-shown x s i in object-legible (design_l
 pub name-legible : (x : Design) → AreLegible (design_tokens x) → is_word x.name ≡ true
 name-legible x h =
     let l : DesignLine = line 0 (Capital (codes "end") ∷ Plain (Word x.name) ∷ Plain (Sign Semicolon) ∷ []) in
-    lines-legible x h l (Plain (Word x.name)) (in-right l (head_lines x.name x.version) _ (in-right l (cost_lines x.costs) _ (in-right l (tree_lines 1 x.root) _ (inl refl)))) (inr (inl refl))
+    lines-legible x h l (Plain (Word x.name)) (in-right l (head_lines x.name x.version) _
+    (in-right l (cost_lines x.costs) _ (in-right l (tree_lines 1 x.root) _ (inl refl)))) (inr (inl refl))

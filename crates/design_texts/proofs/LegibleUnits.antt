@@ -16,7 +16,10 @@ use Rattle.seq_tree.specs.declared.tree.Datum.{Datum}
 use Rattle.seq_tree.specs.declared.tree.Costs.{Costs}
 use Rattle.seq_print.specs.Readable.{is_readable}
 use Rattle.ada_tree.specs.Programs.{Form, Unit, Program, Passive, Shared, Cyclic, Sporadic}
-use Rattle.ada_tree.specs.Spelling.{mode_token, param_tokens, params_tokens, head_tokens, datum_line, declaration_line, body_lines, renaming_line, priority_line, constant_line, end_line, truth_token, task_lines, inner_specification, kept_token, request_token, loop_lines, inner_body, specification_lines, unit_body_lines, hrt_lines, program_lines}
+use Rattle.ada_tree.specs.Spelling.{mode_token, param_tokens, params_tokens, head_tokens, datum_line, declaration_line, body_lines}
+use Rattle.ada_tree.specs.Spelling.{renaming_line, priority_line, constant_line, end_line, truth_token, task_lines, inner_specification}
+use Rattle.ada_tree.specs.Spelling.{kept_token, request_token, loop_lines, inner_body, specification_lines, unit_body_lines, hrt_lines}
+use Rattle.ada_tree.specs.Spelling.{program_lines}
 use Rattle.ada_print.specs.Parts as whole
 use Rattle.ada_print.specs.Writable.{is_word, is_number, is_writable}
 use Rattle.program_calls.proofs.Lists.{IsIn}
@@ -61,7 +64,8 @@ param-legible q h = and_from _ _ h (mode-legible q.mode)
 more-params : (ps : List Param) → AreLegibleParams ps → AreLegible (flat_map (λ q. Sign Semicolon ∷ param_tokens q) ps)
 more-params [] h = refl
 more-params (p ∷ ps) h =
-    both (param_tokens p) (flat_map (λ (q : Param). Sign Semicolon ∷ param_tokens q) ps) (param-legible p (h p (inl refl))) (more-params ps (λ q k. h q (inr k)))
+    both (param_tokens p) (flat_map (λ (q : Param). Sign Semicolon ∷ param_tokens q) ps) (param-legible p (h p (inl refl)))
+    (more-params ps (λ q k. h q (inr k)))
 
 params-legible : (ps : List Param) → AreLegibleParams ps → AreLegible (params_tokens ps)
 params-legible [] h = refl
@@ -80,13 +84,15 @@ data-legible : (level : ℕ) (ds : List Datum) → AreLegibleData ds → HasLegi
 data-legible level ds h = lines-map (datum_line level) ds (λ d k. datum-legible level d (h d k))
 
 -- operations
-declaration-legible : (level : ℕ) (sig : Signature) → is_word sig.name ≡ true → AreLegibleParams sig.params → AreLegible (declaration_line level sig).tokens
+declaration-legible : (level : ℕ) (sig : Signature) → is_word sig.name ≡ true → AreLegibleParams sig.params
+    → AreLegible (declaration_line level sig).tokens
 declaration-legible level sig n h = both (head_tokens sig) (Sign Semicolon ∷ []) (head-legible sig n h) refl
 
 renaming-legible : (level : ℕ) (inner : Name) (sig : Signature) → is_word inner ≡ true → is_word sig.name ≡ true → AreLegibleParams sig.params
     → AreLegible (renaming_line level inner sig).tokens
 renaming-legible level inner sig i n h =
-    both (head_tokens sig) (Word (codes "renames") ∷ Word inner ∷ Sign Dot ∷ Word sig.name ∷ Sign Semicolon ∷ []) (head-legible sig n h) (and_from _ _ i (and_from _ _ n refl))
+    both (head_tokens sig) (Word (codes "renames") ∷ Word inner ∷ Sign Dot ∷ Word sig.name ∷ Sign Semicolon ∷ []) (head-legible sig n h)
+    (and_from _ _ i (and_from _ _ n refl))
 
 body-legible : (level : ℕ) (o : Operation) → IsLegibleOperation o → HasLegible (body_lines level o)
 body-legible level o h =
@@ -111,15 +117,18 @@ specified (Shared ceiling vars ops) h =
     (lines-both (map (λ o. declaration_line 3 o.sig) ops) (line 2 (Word (codes "private") ∷ []) ∷ (map (datum_line 3) vars ++ behind))
     (lines-map (λ o. declaration_line 3 o.sig) ops (λ o k. let r = h.2 o k in declaration-legible 3 o.sig r.name r.params))
     (lines-both (map (datum_line 3) vars) behind (data-legible 3 vars h.1)
-    (lines-map (λ o. renaming_line 2 (codes "hrt_object") o.sig) ops (λ o k. let r = h.2 o k in renaming-legible 2 (codes "hrt_object") o.sig refl r.name r.params))))
+    (lines-map (λ o. renaming_line 2 (codes "hrt_object") o.sig) ops (λ o k. let r = h.2 o k
+    in renaming-legible 2 (codes "hrt_object") o.sig refl r.name r.params))))
 specified (Cyclic priority offset period vars block) h = and_from _ _ h.0 refl
 specified (Sporadic priority ceiling op separation jitter external vars block) h =
     let constants : List Line =
     constant_line 2 (codes "hrt_separation") separation ∷ constant_line 2 (codes "hrt_jitter") jitter
-    ∷ line 2 (Word (codes "hrt_external") ∷ Sign Colon ∷ Word (codes "constant") ∷ Word (codes "boolean") ∷ Sign Becomes ∷ truth_token external ∷ Sign Semicolon ∷ []) ∷ [] in
+    ∷ line 2 (Word (codes "hrt_external") ∷ Sign Colon ∷ Word (codes "constant") ∷ Word (codes "boolean") ∷ Sign Becomes ∷ truth_token external
+    ∷ Sign Semicolon ∷ []) ∷ [] in
     let behind : List Line = renaming_line 2 (codes "hrt_obcs") op ∷ (task_lines priority ++ constants) in
     let inside : List Line =
-    line 3 (Word (codes "entry") ∷ Word (codes "hrt_wait") ∷ Sign LeftParen ∷ Word (codes "hrt_request") ∷ Sign Colon ∷ Word (codes "out") ∷ Word (codes "word") ∷ Sign RightParen ∷ Sign Semicolon ∷ [])
+    line 3 (Word (codes "entry") ∷ Word (codes "hrt_wait") ∷ Sign LeftParen ∷ Word (codes "hrt_request") ∷ Sign Colon ∷ Word (codes "out")
+    ∷ Word (codes "word") ∷ Sign RightParen ∷ Sign Semicolon ∷ [])
     ∷ line 2 (Word (codes "private") ∷ [])
     ∷ line 3 (Word (codes "hrt_value") ∷ Sign Colon ∷ Word (codes "word") ∷ Sign Becomes ∷ Number 0 ∷ Sign Semicolon ∷ [])
     ∷ line 3 (Word (codes "hrt_open") ∷ Sign Colon ∷ Word (codes "boolean") ∷ Sign Becomes ∷ Word (codes "false") ∷ Sign Semicolon ∷ [])
@@ -134,8 +143,10 @@ loop-legible : (variable : List Token) (first : List Line) (block : Statements) 
     → HasLegible (loop_lines variable first block)
 loop-legible variable first block v f b =
     let close : List Line =
-    line 4 (Word (codes "activation_end") ∷ Sign Semicolon ∷ []) ∷ line 3 (Word (codes "end") ∷ Word (codes "loop") ∷ Sign Semicolon ∷ []) ∷ end_line 2 (codes "hrt_thread") ∷ [] in
-    line-first (line 3 variable) (line 2 (Word (codes "begin") ∷ []) ∷ line 3 (Word (codes "loop") ∷ []) ∷ ((first ++ block_lines 4 block) ++ close)) v
+    line 4 (Word (codes "activation_end") ∷ Sign Semicolon ∷ []) ∷ line 3 (Word (codes "end") ∷ Word (codes "loop") ∷ Sign Semicolon ∷ [])
+    ∷ end_line 2 (codes "hrt_thread") ∷ [] in
+    line-first (line 3 variable) (line 2 (Word (codes "begin") ∷ []) ∷ line 3 (Word (codes "loop") ∷ [])
+    ∷ ((first ++ block_lines 4 block) ++ close)) v
     (lines-both (first ++ block_lines 4 block) close (lines-both first (block_lines 4 block) f (b 4)) refl)
 
 kept-legible : (ps : List Param) → AreLegibleParams ps → is_readable (kept_token ps) ≡ true
@@ -149,13 +160,15 @@ request-legible (p ∷ ps) h = h p (inl refl)
 -- what the tasks declare, and what they do before their statements
 abbrev next_variable : ℕ → List Token
 next_variable offset =
-    Word (codes "hrt_next") ∷ Sign Colon ∷ Word (codes "hrt") ∷ Sign Dot ∷ Word (codes "moment") ∷ Sign Becomes ∷ Word (codes "hrt") ∷ Sign Dot ∷ Word (codes "after")
+    Word (codes "hrt_next") ∷ Sign Colon ∷ Word (codes "hrt") ∷ Sign Dot ∷ Word (codes "moment") ∷ Sign Becomes ∷ Word (codes "hrt") ∷ Sign Dot
+    ∷ Word (codes "after")
     ∷ Sign LeftParen ∷ Word (codes "hrt") ∷ Sign Dot ∷ Word (codes "epoch") ∷ Sign Comma ∷ Number offset ∷ Sign RightParen ∷ Sign Semicolon ∷ []
 
 abbrev delay_lines : ℕ → List Line
 delay_lines period =
     line 4 (Word (codes "delay") ∷ Word (codes "until") ∷ Word (codes "hrt_next") ∷ Sign Semicolon ∷ [])
-    ∷ line 4 (Word (codes "hrt_next") ∷ Sign Becomes ∷ Word (codes "hrt") ∷ Sign Dot ∷ Word (codes "after") ∷ Sign LeftParen ∷ Word (codes "hrt_next") ∷ Sign Comma ∷ Number period
+    ∷ line 4 (Word (codes "hrt_next") ∷ Sign Becomes ∷ Word (codes "hrt") ∷ Sign Dot ∷ Word (codes "after") ∷ Sign LeftParen ∷ Word (codes "hrt_next")
+    ∷ Sign Comma ∷ Number period
     ∷ Sign RightParen ∷ Sign Semicolon ∷ []) ∷ []
 
 abbrev request_variable : List Param → List Token
@@ -163,20 +176,24 @@ request_variable ps = request_token ps ∷ Sign Colon ∷ Word (codes "word") �
 
 abbrev wait_lines : List Param → List Line
 wait_lines ps =
-    line 4 (Word (codes "hrt_obcs") ∷ Sign Dot ∷ Word (codes "hrt_wait") ∷ Sign LeftParen ∷ request_token ps ∷ Sign RightParen ∷ Sign Semicolon ∷ []) ∷ []
+    line 4 (Word (codes "hrt_obcs") ∷ Sign Dot ∷ Word (codes "hrt_wait") ∷ Sign LeftParen ∷ request_token ps ∷ Sign RightParen
+    ∷ Sign Semicolon ∷ []) ∷ []
 
 embodied : (form : Form) → IsLegibleForm form → HasLegible (inner_body form)
 embodied (Passive ops) h = lines-flat (body_lines 2) ops (λ o k. body-legible 2 o (h o k))
 embodied (Shared ceiling vars ops) h =
-    lines-both (flat_map (body_lines 3) ops) (end_line 2 (codes "hrt_object") ∷ []) (lines-flat (body_lines 3) ops (λ o k. body-legible 3 o (h.2 o k))) refl
+    lines-both (flat_map (body_lines 3) ops) (end_line 2 (codes "hrt_object") ∷ [])
+    (lines-flat (body_lines 3) ops (λ o k. body-legible 3 o (h.2 o k))) refl
 embodied (Cyclic priority offset period vars block) h =
-    lines-both (map (datum_line 2) vars) _ (data-legible 2 vars h.3) (loop-legible (next_variable offset) (delay_lines period) block (and_from _ _ h.1 refl) (and_from _ _ h.2 refl) h.4)
+    lines-both (map (datum_line 2) vars) _ (data-legible 2 vars h.3)
+    (loop-legible (next_variable offset) (delay_lines period) block (and_from _ _ h.1 refl) (and_from _ _ h.2 refl) h.4)
 embodied (Sporadic priority ceiling op separation jitter external vars block) h =
     let k : is_readable (kept_token op.params) ≡ true = kept-legible op.params h.5 in
     let r : is_readable (request_token op.params) ≡ true = request-legible op.params h.5 in
     lines-both (map (datum_line 2) vars) _ (data-legible 2 vars h.6)
     (both (head_tokens op ++ Word (codes "is") ∷ []) _ (both (head_tokens op) (Word (codes "is") ∷ []) (head-legible op h.4 h.5) refl)
-    (and_from _ _ k (and_from _ _ h.4 (loop-legible (request_variable op.params) (wait_lines op.params) block (and_from _ _ r refl) (and_from _ _ r refl) h.7))))
+    (and_from _ _ k (and_from _ _ h.4 (loop-legible (request_variable op.params) (wait_lines op.params) block (and_from _ _ r refl)
+    (and_from _ _ r refl) h.7))))
 
 -- a unit with its name
 pub record IsLegibleUnit (u : Unit) : Type 0 where
@@ -206,10 +223,12 @@ pub record AreLegibleCosts (c : Costs) : Type 0 where
 
 hrt-legible : (c : Costs) → AreLegibleCosts c → HasLegible (hrt_lines c)
 hrt-legible c h =
-    and_from _ _ h.assign (and_from _ _ h.test (and_from _ _ h.turn (and_from _ _ h.call (and_from _ _ h.nothing (and_from _ _ h.put (and_from _ _ h.finish refl))))))
+    and_from _ _ h.assign (and_from _ _ h.test
+    (and_from _ _ h.turn (and_from _ _ h.call (and_from _ _ h.nothing (and_from _ _ h.put (and_from _ _ h.finish refl))))))
 
 -- a program
-pub program-legible : (p : Program) → is_word p.name ≡ true → AreLegibleCosts p.costs → ((u : Unit) → IsIn u p.units → IsLegibleUnit u) → is_writable p ≡ true
+pub program-legible : (p : Program) → is_word p.name ≡ true → AreLegibleCosts p.costs → ((u : Unit) → IsIn u p.units → IsLegibleUnit u)
+    → is_writable p ≡ true
 program-legible p n c us =
     let closing : List Line = whole.closing_lines p.name in
     let bodies : List Line = flat_map unit_body_lines p.units ++ closing in
@@ -220,4 +239,5 @@ program-legible p n c us =
     (lines-both (whole.package_lines p.name) units (and_from _ _ n refl)
     (lines-both (flat_map specification_lines p.units) middle (lines-flat specification_lines p.units (λ u k. specification-legible u (us u k)))
     (lines-both (whole.body_lines p.name) bodies (and_from _ _ n (and_from _ _ n refl))
-    (lines-both (flat_map unit_body_lines p.units) closing (lines-flat unit_body_lines p.units (λ u k. unit_body-legible u (us u k))) (and_from _ _ n (and_from _ _ n refl))))))
+    (lines-both (flat_map unit_body_lines p.units) closing (lines-flat unit_body_lines p.units (λ u k. unit_body-legible u (us u k)))
+    (and_from _ _ n (and_from _ _ n refl))))))

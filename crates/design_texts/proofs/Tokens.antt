@@ -46,5 +46,6 @@ lines-flat f [] h = refl
 lines-flat f (x ∷ xs) h = lines-both (f x) (flat_map f xs) (h x (inl refl)) (lines-flat f xs (λ y k. h y (inr k)))
 
 -- what stands among tokens that a text can hold
-pub among : {A : Type 0} (test : Token → Bool) (f : A → List Token) (xs : List A) (x : A) → list_all test (flat_map f xs) ≡ true → IsIn x xs → list_all test (f x) ≡ true
+pub among : {A : Type 0} (test : Token → Bool) (f : A → List Token) (xs : List A) (x : A) → list_all test (flat_map f xs) ≡ true → IsIn x xs
+    → list_all test (f x) ≡ true
 among test f xs x h k = all-from test (f x) (λ t i. all-in test (flat_map f xs) t h (in-flat f x t xs k i))

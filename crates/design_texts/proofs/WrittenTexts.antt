@@ -1,5 +1,6 @@
 -- The text of a design that was read from a text: its tokens are those of the design's program, and so it is guaranteed for the design.
-use Rattle.std.proofs.Common.{◌≡◌, ℕ, zero, suc, ◌+◌, ◌-◌, ◌≤◌, Bool, true, false, ◌&&◌, List, [], ◌∷◌, map, zip, length, Option, Some, None, Ok, refl, sym, ap, subst, ◌∙◌, inl, inr, arith, le_trans}
+use Rattle.std.proofs.Common.{◌≡◌, ℕ, zero, suc, ◌+◌, ◌-◌, ◌≤◌, Bool, true, false, ◌&&◌, List, [], ◌∷◌, map, zip, length, Option, Some, None, Ok}
+use Rattle.std.proofs.Common.{refl, sym, ap, subst, ◌∙◌, inl, inr, arith, le_trans}
 use Rattle.std.specs.List.{list_all, AllZip}
 use Rattle.std.proofs.lemmas.Bool.{and_parts, and_from}
 use Rattle.seq_tree.specs.Lexis.{tokens, plain}
@@ -49,12 +50,14 @@ use Rattle.design_texts.proofs.LegibleTicks.{legible-in-ticks}
 use Rattle.design_texts.proofs.LegibleDesigns.{number_below, thread-named, program-written}
 
 -- a pair stands among triples of lists that are as long
-third : {A : Type 0} (xs : List A) (ys zs : List ℕ) (x : A) (y : ℕ) → length zs ≡ length ys → IsIn (x, y) (zip xs ys) → (z : ℕ) × IsIn (x, (y, z)) (zip xs (zip ys zs))
+third : {A : Type 0} (xs : List A) (ys zs : List ℕ) (x : A) (y : ℕ) → length zs ≡ length ys → IsIn (x, y) (zip xs ys)
+    → (z : ℕ) × IsIn (x, (y, z)) (zip xs (zip ys zs))
 third [] ys zs x y e h = absurd h
 third (a ∷ xs) [] zs x y e h = absurd h
 third (a ∷ xs) (b ∷ ys) [] x y e h = absurd (let z : 0 ≡ suc (length ys) = e in cc)
 third (a ∷ xs) (b ∷ ys) (c ∷ zs) x y e (inl h) = (c, inl (ap (λ p. (p.0, (p.1, c))) h))
-third (a ∷ xs) (b ∷ ys) (c ∷ zs) x y e (inr h) = (let r = third xs ys zs x y (let z : suc (length zs) ≡ suc (length ys) = e in cc) h in (r.0, inr r.1))
+third (a ∷ xs) (b ∷ ys) (c ∷ zs) x y e (inr h) = (let r = third xs ys zs x y (let z : suc (length zs) ≡ suc (length ys) = e in cc) h
+    in (r.0, inr r.1))
 
 number_inside : (n : ℕ) → is_outside 1 60 n ≡ false → is_number n ≡ true
 number_inside n h = grind arith
@@ -66,14 +69,16 @@ period-in (Sporadic op separation jitter) e = (within-true 1 1000000000 separati
 
 -- bounds that fit can be read
 bounds-read : (n : ℕ) (rs : List ThreadRow) (v : List Bound) → rows.Each (rows.IsRow n) rs
-    → AllZip (λ (row : ThreadRow) (b : Bound). (b.response ≤ row.deadline) × (b.jitter + b.response ≤ row.period)) rs v → list_all is_bound_writable v ≡ true
+    → AllZip (λ (row : ThreadRow) (b : Bound). (b.response ≤ row.deadline) × (b.jitter + b.response ≤ row.period)) rs v
+    → list_all is_bound_writable v ≡ true
 bounds-read n [] [] h k = refl
 bounds-read n [] (b ∷ v) h k = absurd k
 bounds-read n (r ∷ rs) [] h k = absurd k
 bounds-read n (r ∷ rs) (b ∷ v) h k =
     let period : r.period ≤ 1000000000 = h.0.period in
     let sum : b.jitter + b.response ≤ r.period = k.0.1 in
-    and_from _ _ (and_from _ _ (number_below b.jitter (omega (arith, period, sum))) (number_below b.response (omega (arith, period, sum)))) (bounds-read n rs v h.1 k.1)
+    and_from _ _ (and_from _ _ (number_below b.jitter (omega (arith, period, sum))) (number_below b.response (omega (arith, period, sum))))
+    (bounds-read n rs v h.1 k.1)
 
 ticked-name : (v : Option VersionTwo) (x : Design) → (ticked v x).name ≡ x.name
 ticked-name None x = refl
@@ -107,7 +112,8 @@ module _ (x : Design) (bytes : List ℕ) (reads : Reads bytes x) (met : MeetsRul
       let m = third (threads y) (stated_ranks y).threads (stated_ranks y).obcs t n (fit.obcs ∙ sym fit.threads) h in
       let a = and_parts (is_timed t.timing) _ (all-in is_in_range (threads y) t sound.formed.ranges i) in
       let b = within-true 1 (period_of t.timing) t.deadline a.1 in
-      and_from _ _ (thread-named x y met legible t i) (and_from _ _ (number_below t.deadline (le_trans b.1 (period-in t.timing a.0))) (number_inside n (ranked.threads t (n, m.0) m.1)))
+      and_from _ _ (thread-named x y met legible t i) (and_from _ _ (number_below t.deadline (le_trans b.1 (period-in t.timing a.0)))
+      (number_inside n (ranked.threads t (n, m.0) m.1)))
 
   module _ (v : List Bound) (fits : Fits (table (flat y)).rows v) where
     head-read : is_head_writable (flat y) (stated_ranks y) v ≡ true
@@ -117,7 +123,8 @@ module _ (x : Design) (bytes : List ℕ) (reads : Reads bytes x) (met : MeetsRul
         (bounds-read _ (table (flat y)).rows v (sound-table (flat y) sound).each fits.1))
 
     pub text-spelled : plain (tokens (text y v)) ≡ Ok (program_tokens (program y))
-    text-spelled = text-back (flat y) (stated_ranks y) (table (flat y)).places v (program-written x y met legible sound (stated_ranks y) ranked named) head-read
+    text-spelled = text-back (flat y) (stated_ranks y) (table (flat y)).places v
+        (program-written x y met legible sound (stated_ranks y) ranked named) head-read
 
     pub text-guaranteed : (limit : ℕ) → length (text y v) ≤ 16777216 → Guaranteed limit y (text y v) v
     text-guaranteed limit short = texts-are-guaranteed limit x (text y v) v reads.proper met fits short text-spelled

@@ -1,6 +1,7 @@
 -- Examples for the laws: two states that differ in order numbers alone, a state at which ticks can be used at once, and the two lists
 -- of a state. Three tasks: the first and the last are ready at priority 2, the other one sleeps.
-use Rattle.std.specs.Prelude.{◌≡◌, ℕ, zero, suc, ◌⊎◌, ◌+◌, ◌<◌, ◌≤◌, false, true, List, [], ◌∷◌, codes, Some, None, ℤ, pos, negsuc, int_lt, slice_get, option_map, refl}
+use Rattle.std.specs.Prelude.{◌≡◌, ℕ, zero, suc, ◌⊎◌, ◌+◌, ◌<◌, ◌≤◌, false, true, List, [], ◌∷◌, codes, Some, None, ℤ, pos, negsuc, int_lt}
+use Rattle.std.specs.Prelude.{slice_get, option_map, refl}
 use Rattle.std.proofs.Common.{arith, inl, inr, subst}
 use Rattle.std.proofs.lemmas.Option.{none-some, same_Some}
 use Rattle.seq_tree.specs.Lists.{first_where}

@@ -1,5 +1,6 @@
 -- The first task of the ready list is the one that is dispatched.
-use Rattle.std.specs.Prelude.{◌≡◌, ◌⊎◌, ℕ, zero, suc, ◌+◌, Bool, true, false, ◌||◌, ◌&&◌, ◌==◌, nat_lt, List, [], ◌∷◌, length, Some, option_map, slice_get, ℤ, int_lt, if◌then◌else◌, ⊤, refl}
+use Rattle.std.specs.Prelude.{◌≡◌, ◌⊎◌, ℕ, zero, suc, ◌+◌, Bool, true, false, ◌||◌, ◌&&◌, ◌==◌, nat_lt, List, [], ◌∷◌, length, Some, option_map}
+use Rattle.std.specs.Prelude.{slice_get, ℤ, int_lt, if◌then◌else◌, ⊤, refl}
 use Rattle.std.proofs.Common.{sym, ◌∙◌, ap, subst, arith, inl, inr}
 use Rattle.std.proofs.lemmas.Option.{none-some, same_Some}
 use Rattle.std.proofs.lemmas.Bool.Decides.{nat_tests}
@@ -32,7 +33,8 @@ first-best b c [] best all (inr h) = absurd h
 first-best b c (d ∷ ds) best all among =
     by_first (goes_before d c) refl (first-best b c ds best all.1) (first-best b d ds all.0 all.1) among
   where
-    by_first : (t : Bool) → goes_before d c ≡ t → ((c ≡ b) ⊎ IsAmong b ds → first_of c ds ≡ b) → ((d ≡ b) ⊎ IsAmong b ds → first_of d ds ≡ b) → (c ≡ b) ⊎ ((d ≡ b) ⊎ IsAmong b ds) → first_of (if t then d else c) ds ≡ b
+    by_first : (t : Bool) → goes_before d c ≡ t → ((c ≡ b) ⊎ IsAmong b ds → first_of c ds ≡ b) → ((d ≡ b) ⊎ IsAmong b ds → first_of d ds ≡ b)
+        → (c ≡ b) ⊎ ((d ≡ b) ⊎ IsAmong b ds) → first_of (if t then d else c) ds ≡ b
     by_first true e keep take (inl is_c) = take (inl (is_best all.0))
       where
         is_best : Best b d → d ≡ b
@@ -49,13 +51,16 @@ first-best b c (d ∷ ds) best all among =
 
 -- facts of all candidates from facts of all ready tasks
 candidates-all : (b : Candidate) (n : ℕ) (ts : List Task) (os : List ℤ) → length os ≡ length ts
-    → ((j : ℕ) (t : Task) → slice_get ts j ≡ Some t → t.readiness ≡ Ready → Best b (cand (n + j) t.active (number os j))) → AllBest b (candidates n ts os)
+    → ((j : ℕ) (t : Task) → slice_get ts j ≡ Some t → t.readiness ≡ Ready → Best b (cand (n + j) t.active (number os j)))
+    → AllBest b (candidates n ts os)
 candidates-all b n [] os len h = tt
 candidates-all b n (t ∷ ts) [] len h = tt
 candidates-all b n (t ∷ ts) (o ∷ os) len h =
-    by_ready t.readiness refl (candidates-all b (suc n) ts os (omega arith) (λ j u at is. subst (λ (k : ℕ). Best b (cand k u.active (number os j))) (omega arith) (h (suc j) u at is)))
+    by_ready t.readiness refl (candidates-all b (suc n) ts os (omega arith)
+    (λ j u at is. subst (λ (k : ℕ). Best b (cand k u.active (number os j))) (omega arith) (h (suc j) u at is)))
   where
-    by_ready : (r : Readiness) → t.readiness ≡ r → AllBest b (candidates (suc n) ts os) → AllBest b (candidate_if r (cand n t.active o) (candidates (suc n) ts os))
+    by_ready : (r : Readiness) → t.readiness ≡ r → AllBest b (candidates (suc n) ts os)
+        → AllBest b (candidate_if r (cand n t.active o) (candidates (suc n) ts os))
     by_ready Ready e others = (subst (λ (k : ℕ). Best b (cand k t.active o)) (omega arith) (h 0 t refl e), others)
     by_ready Waiting e others = others
     by_ready (Asleep until) e others = others
@@ -68,7 +73,8 @@ candidates-among n (u ∷ ts) [] i t len at is = absurd (none (length ts) (sym l
     none : (k : ℕ) → suc k ≡ 0 → ⊥
     none k e = omega arith
 candidates-among n (u ∷ ts) (o ∷ os) zero t len at is =
-    subst (λ (r : Readiness). IsAmong (cand (n + 0) t.active o) (candidate_if r (cand n u.active o) (candidates (suc n) ts os))) (sym (ap (λ v. v.readiness) same ∙ is))
+    subst (λ (r : Readiness). IsAmong (cand (n + 0) t.active o) (candidate_if r (cand n u.active o) (candidates (suc n) ts os)))
+    (sym (ap (λ v. v.readiness) same ∙ is))
     (inl (ap (λ k. cand k u.active o) here ∙ ap (λ v. cand (n + 0) v.active o) same))
   where
     same : u ≡ t
@@ -77,7 +83,8 @@ candidates-among n (u ∷ ts) (o ∷ os) zero t len at is =
     here : n ≡ n + 0
     here = omega arith
 candidates-among n (u ∷ ts) (o ∷ os) (suc i) t len at is =
-    by_ready u.readiness (subst (λ (k : ℕ). IsAmong (cand k t.active (number os i)) (candidates (suc n) ts os)) there (candidates-among (suc n) ts os i t (omega arith) at is))
+    by_ready u.readiness (subst (λ (k : ℕ). IsAmong (cand k t.active (number os i)) (candidates (suc n) ts os)) there
+    (candidates-among (suc n) ts os i t (omega arith) at is))
   where
     there : suc n + i ≡ n + suc i
     there = omega arith
@@ -95,7 +102,8 @@ dispatched-best b (c ∷ cs) all among = ap (λ d. Some d.task) (first-best b c 
 
 -- one that precedes goes before, and not the other way round
 precedes-before : (os : List ℤ) (x y : Entry) → Precedes os x y
-    → (goes_before (cand x.0 x.1 (number os x.0)) (cand y.0 y.1 (number os y.0)) ≡ true) × (goes_before (cand y.0 y.1 (number os y.0)) (cand x.0 x.1 (number os x.0)) ≡ false)
+    → (goes_before (cand x.0 x.1 (number os x.0)) (cand y.0 y.1 (number os y.0)) ≡ true)
+    × (goes_before (cand y.0 y.1 (number os y.0)) (cand x.0 x.1 (number os x.0)) ≡ false)
 precedes-before os x y (inl a) =
     let up : nat_lt y.1 x.1 ≡ true = grind (arith, nat_tests) in
     let down : nat_lt x.1 y.1 ≡ false = grind (arith, nat_tests) in
@@ -109,7 +117,8 @@ precedes-before os x y (inr a) =
     let same : (x.1 == y.1) ≡ true = same_test x.1 y.1 a.0 in
     let same' : (y.1 == x.1) ≡ true = same_test y.1 x.1 (sym a.0) in (
       ap (λ p. p || (x.1 == y.1 && int_lt (number os x.0) (number os y.0))) up ∙ ap (λ p. p && int_lt (number os x.0) (number os y.0)) same ∙ a.1,
-      ap (λ p. p || (y.1 == x.1 && int_lt (number os y.0) (number os x.0))) down ∙ ap (λ p. p && int_lt (number os y.0) (number os x.0)) same' ∙ int-turn (number os x.0) (number os y.0) a.1,
+      ap (λ p. p || (y.1 == x.1 && int_lt (number os y.0) (number os x.0))) down ∙ ap (λ p. p
+          && int_lt (number os y.0) (number os x.0)) same' ∙ int-turn (number os x.0) (number os y.0) a.1,
     )
   where
     equal : (m n : ℕ) → m ≡ n → nat_lt m n ≡ false
@@ -119,7 +128,8 @@ precedes-before os x y (inr a) =
     same_test m n e = grind (arith, nat_tests)
 
 -- no task is ready where the list has none
-none-ready : (ts : List Task) (n : ℕ) (os : List ℤ) → ((i : ℕ) (t : Task) → slice_get ts i ≡ Some t → t.readiness ≡ Ready → ⊥) → candidates n ts os ≡ []
+none-ready : (ts : List Task) (n : ℕ) (os : List ℤ) → ((i : ℕ) (t : Task) → slice_get ts i ≡ Some t → t.readiness ≡ Ready → ⊥)
+    → candidates n ts os ≡ []
 none-ready [] n os none = refl
 none-ready (t ∷ ts) n [] none = refl
 none-ready (t ∷ ts) n (o ∷ os) none = by_ready t.readiness refl (none-ready ts (suc n) os (λ i u at is. none (suc i) u at is))
@@ -129,23 +139,29 @@ none-ready (t ∷ ts) n (o ∷ os) none = by_ready t.readiness refl (none-ready 
     by_ready Waiting e others = others
     by_ready (Asleep until) e others = others
 
-pub dispatched-head : (ts : List Task) (os : List ℤ) (ready : List Entry) → AreQueued ts os ready → dispatched ts os ≡ option_map (λ e. e.0) (slice_get ready 0)
+pub dispatched-head : (ts : List Task) (os : List ℤ) (ready : List Entry) → AreQueued ts os ready
+    → dispatched ts os ≡ option_map (λ e. e.0) (slice_get ready 0)
 dispatched-head ts os [] q = ap dispatched_of (none-ready ts 0 os (λ i t at is. q.all i t at is))
 dispatched-head ts os (e ∷ es) q =
     let b : Candidate = cand e.0 e.1 (number os e.0) in
     let all : AllBest b (candidates 0 ts os) =
-    candidates-all b 0 ts os q.numbered (λ j t at is. subst (λ (k : ℕ). Best b (cand k t.active (number os j))) (omega arith) (best j t at (q.all j t at is))) in
+    candidates-all b 0 ts os q.numbered (λ j t at is. subst (λ (k : ℕ). Best b (cand k t.active (number os j))) (omega arith)
+    (best j t at (q.all j t at is))) in
     let among : IsAmong b (candidates 0 ts os) =
     subst (λ (c : Candidate). IsAmong c (candidates 0 ts os)) (ap (λ l. cand e.0 l (number os e.0)) q.each.0.3)
-    (subst (λ (k : ℕ). IsAmong (cand k q.each.0.0.active (number os e.0)) (candidates 0 ts os)) (omega arith) (candidates-among 0 ts os e.0 q.each.0.0 q.numbered q.each.0.1 q.each.0.2)) in
+    (subst (λ (k : ℕ). IsAmong (cand k q.each.0.0.active (number os e.0)) (candidates 0 ts os)) (omega arith)
+    (candidates-among 0 ts os e.0 q.each.0.0 q.numbered q.each.0.1 q.each.0.2)) in
     dispatched-best b (candidates 0 ts os) all among
   where
-    level : (x : Entry) (j : ℕ) (t : Task) → slice_get ts j ≡ Some t → j ≡ x.0 → IsReadyAt ts x → cand x.0 x.1 (number os x.0) ≡ cand j t.active (number os j)
+    level : (x : Entry) (j : ℕ) (t : Task) → slice_get ts j ≡ Some t → j ≡ x.0 → IsReadyAt ts x
+        → cand x.0 x.1 (number os x.0) ≡ cand j t.active (number os j)
     level x j t at same h =
-        ap (λ k. cand k x.1 (number os k)) (sym same) ∙ ap (λ l. cand j l (number os j)) (sym h.3 ∙ ap (λ u. u.active) (same_Some h.0 t (sym h.1 ∙ ap (slice_get ts) (sym same) ∙ at)))
+        ap (λ k. cand k x.1 (number os k)) (sym same) ∙ ap (λ l. cand j l (number os j))
+        (sym h.3 ∙ ap (λ u. u.active) (same_Some h.0 t (sym h.1 ∙ ap (slice_get ts) (sym same) ∙ at)))
 
     best : (j : ℕ) (t : Task) → slice_get ts j ≡ Some t → IsIn j (e ∷ es) → Best (cand e.0 e.1 (number os e.0)) (cand j t.active (number os j))
     best j t at (inl same) = inl (sym (level e j t at same q.each.0))
     best j t at (inr later) =
-        let x : (x : Entry) × (j ≡ x.0) × (Precedes os e x × IsReadyAt ts x) = in-each (λ x. Precedes os e x × IsReadyAt ts x) j es later (each-both (Precedes os e) (IsReadyAt ts) es q.ordered.0 q.each.1) in
+        let x : (x : Entry) × (j ≡ x.0) × (Precedes os e x × IsReadyAt ts x)
+        = in-each (λ x. Precedes os e x × IsReadyAt ts x) j es later (each-both (Precedes os e) (IsReadyAt ts) es q.ordered.0 q.each.1) in
         subst (λ (c : Candidate). Best (cand e.0 e.1 (number os e.0)) c) (level x.0 j t at x.1 x.2.1) (inr (precedes-before os e x.0 x.2.0))

@@ -1,5 +1,6 @@
 -- The law of jumps: where nothing is due before so many ticks have passed, they can be used at once.
-use Rattle.std.specs.Prelude.{◌≡◌, ◌⊎◌, ℕ, zero, suc, ◌+◌, ◌*◌, ◌-◌, ◌<◌, ◌≤◌, Bool, true, false, List, [], ◌∷◌, ◌==◌, if◌then◌else◌, Option, Some, None, ℤ, slice_get, option_map, refl}
+use Rattle.std.specs.Prelude.{◌≡◌, ◌⊎◌, ℕ, zero, suc, ◌+◌, ◌*◌, ◌-◌, ◌<◌, ◌≤◌, Bool, true, false, List, [], ◌∷◌, ◌==◌, if◌then◌else◌, Option}
+use Rattle.std.specs.Prelude.{Some, None, ℤ, slice_get, option_map, refl}
 use Rattle.std.proofs.Common.{sym, ◌∙◌, ap, subst, arith, inl, inr}
 use Rattle.std.proofs.lemmas.Option.{none-some, same_Some}
 use Rattle.std.proofs.lemmas.Bool.Decides.{nat_tests}
@@ -45,7 +46,8 @@ none_due-change : (n time m i : ℕ) (ts : List Task) → first_from n (due time
 none_due-change n time m i [] e = refl
 none_due-change n time m zero (t ∷ ts) e = by_due (due time t) e
   where
-    by_due : (b : Bool) → (if b then Some (n, t) else first_from (suc n) (due time) ts) ≡ None → (if b then Some (n, ticks m t) else first_from (suc n) (due time) ts) ≡ None
+    by_due : (b : Bool) → (if b then Some (n, t) else first_from (suc n) (due time) ts) ≡ None
+        → (if b then Some (n, ticks m t) else first_from (suc n) (due time) ts) ≡ None
     by_due true e' = absurd (none-some (n, t) (sym e'))
     by_due false e' = e'
 none_due-change n time m (suc i) (t ∷ ts) e = by_due (due time t) e (none_due-change (suc n) time m i ts)
@@ -85,23 +87,28 @@ no_arrival : (y : System) (time : ℕ) (ran : Option ℕ) (arrivals : List Arriv
     → NoArrival time arrivals → (time == y.until) ≡ false
     → arrival_step y arrivals (state time Arriving ran arrivals tasks orders stores) ≡ (state time Use ran arrivals tasks orders stores, [])
 no_arrival y time ran [] tasks orders stores none before =
-    ap (λ b. if b then (record (state time Arriving ran [] tasks orders stores) { stopped = true }, event.Horizon time ∷ []) else (state time Use ran [] tasks orders stores, [])) before
+    ap (λ b. if b then (record (state time Arriving ran [] tasks orders stores) { stopped = true }, event.Horizon time ∷ [])
+    else (state time Use ran [] tasks orders stores, [])) before
 no_arrival y time ran (a ∷ others) tasks orders stores none before =
     let s : State = state time Arriving ran (a ∷ others) tasks orders stores in
     ap (λ b. if b then arrive_at y a (first_where (λ t. t.thread.unit == a.task) tasks) (record s { arrivals = others }) else horizon_step y s) none
     ∙ ap (λ b. if b then (record s { stopped = true }, event.Horizon time ∷ []) else (record s { phase = Use }, [])) before
 
 -- no effect, where ticks are left
-no_effect : (y : System) (i : ℕ) (t : Task) (pieces : List Piece) (s : State) → (t.left == 0) ≡ false → effect_of y i t pieces s ≡ (record s { phase = Delays }, [])
+no_effect : (y : System) (i : ℕ) (t : Task) (pieces : List Piece) (s : State) → (t.left == 0) ≡ false
+    → effect_of y i t pieces s ≡ (record s { phase = Delays }, [])
 no_effect y i t [] s some = refl
 no_effect y i t (p ∷ ps) s some = ap (λ b. if b then takes_effect y i t (done y p t.vars ps) s else (record s { phase = Delays }, [])) some
 
-no_effect-used : (y : System) (o : Option ℕ) (tasks : List Task) (s : State) → HasTicks tasks 2 o → s.tasks ≡ used_by o 1 tasks → effect_step y o s ≡ (record s { phase = Delays }, [])
+no_effect-used : (y : System) (o : Option ℕ) (tasks : List Task) (s : State) → HasTicks tasks 2 o → s.tasks ≡ used_by o 1 tasks
+    → effect_step y o s ≡ (record s { phase = Delays }, [])
 no_effect-used y None tasks s has e = refl
 no_effect-used y (Some i) tasks s has e =
-    ap (λ ts. effect_at y i (slice_get ts i) s) e ∙ ap (λ o. effect_at y i o s) (get-change i (ticks 1) tasks) ∙ by_task (slice_get tasks i) (λ t h. has t h)
+    ap (λ ts. effect_at y i (slice_get ts i) s) e ∙ ap (λ o. effect_at y i o s) (get-change i (ticks 1) tasks) ∙ by_task (slice_get tasks i)
+    (λ t h. has t h)
   where
-    by_task : (o : Option Task) → ((t : Task) → o ≡ Some t → 2 ≤ t.left) → effect_at y i (option_map (ticks 1) o) s ≡ (record s { phase = Delays }, [])
+    by_task : (o : Option Task) → ((t : Task) → o ≡ Some t → 2 ≤ t.left) → effect_at y i (option_map (ticks 1) o) s
+        ≡ (record s { phase = Delays }, [])
     by_task None has' = refl
     by_task (Some t) has' = no_effect y i (ticks 1 t) t.pieces s (more t.left (has' t refl))
       where
@@ -123,19 +130,22 @@ one_tick y time o ran arrivals tasks orders stores first has none_due none_arriv
     ap (and_then (run y 3)) used ∙ ap (λ n. after [] (and_then (run y 2) n)) effects
     ∙ ap (λ n. after [] (after [] (and_then (run y 1) n))) delays ∙ ap (λ n. after [] (after [] (after [] (and_then (run y 0) n)))) arriving
   where
-    uses : (d : Option ℕ) → use_step y d (state time Use ran arrivals tasks orders stores) ≡ (state (time + 1) Effects d arrivals (used_by d 1 tasks) orders stores, [])
+    uses : (d : Option ℕ) → use_step y d (state time Use ran arrivals tasks orders stores)
+        ≡ (state (time + 1) Effects d arrivals (used_by d 1 tasks) orders stores, [])
     uses None = refl
     uses (Some i) = refl
 
 -- the use of one tick
 last_tick : (y : System) (time : ℕ) (o ran : Option ℕ) (arrivals : List Arrival) (tasks : List Task) (orders : List ℤ) (stores : List Variables)
-    → dispatched tasks orders ≡ o → run y 1 (state time Use ran arrivals tasks orders stores) ≡ (state (time + 1) Effects o arrivals (used_by o 1 tasks) orders stores, [])
+    → dispatched tasks orders ≡ o → run y 1 (state time Use ran arrivals tasks orders stores)
+    ≡ (state (time + 1) Effects o arrivals (used_by o 1 tasks) orders stores, [])
 last_tick y time o ran arrivals tasks orders stores first =
     let s : State = state time Use ran arrivals tasks orders stores in
     let used : step y s ≡ (state (time + 1) Effects o arrivals (used_by o 1 tasks) orders stores, []) = ap (λ d. use_step y d s) first ∙ uses o in
     ap (and_then (run y 0)) used
   where
-    uses : (d : Option ℕ) → use_step y d (state time Use ran arrivals tasks orders stores) ≡ (state (time + 1) Effects d arrivals (used_by d 1 tasks) orders stores, [])
+    uses : (d : Option ℕ) → use_step y d (state time Use ran arrivals tasks orders stores)
+        ≡ (state (time + 1) Effects d arrivals (used_by d 1 tasks) orders stores, [])
     uses None = refl
     uses (Some i) = refl
 
@@ -159,24 +169,32 @@ has-fewer (Some i) m n tasks le has = λ t h. let k : n ≤ t.left = has t h in 
 abbrev Calm : System → List Arrival → List Task → ℕ → Type 0
 Calm y arrivals tasks time = IsQuiet y (state 0 Use None arrivals tasks [] []) time
 
-calm-used : (y : System) (arrivals : List Arrival) (o : Option ℕ) (tasks : List Task) (time : ℕ) → Calm y arrivals tasks time → Calm y arrivals (used_by o 1 tasks) time
-calm-used y arrivals o tasks time c = record { no_sleeper = none_due-used time 1 o tasks c.no_sleeper; no_arrival = c.no_arrival; no_horizon = c.no_horizon }
+calm-used : (y : System) (arrivals : List Arrival) (o : Option ℕ) (tasks : List Task) (time : ℕ) → Calm y arrivals tasks time
+    → Calm y arrivals (used_by o 1 tasks) time
+calm-used y arrivals o tasks time c = record {
+  no_sleeper = none_due-used time 1 o tasks c.no_sleeper;
+  no_arrival = c.no_arrival;
+  no_horizon = c.no_horizon;
+}
 
 many_ticks : (y : System) (n time : ℕ) (o ran : Option ℕ) (arrivals : List Arrival) (tasks : List Task) (orders : List ℤ) (stores : List Variables)
     → dispatched tasks orders ≡ o → HasTicks tasks (suc n) o → ((j : ℕ) → j < n → Calm y arrivals tasks (time + suc j))
-    → run y (4 * n + 1) (state time Use ran arrivals tasks orders stores) ≡ (state (time + suc n) Effects o arrivals (used_by o (suc n) tasks) orders stores, [])
+    → run y (4 * n + 1) (state time Use ran arrivals tasks orders stores)
+    ≡ (state (time + suc n) Effects o arrivals (used_by o (suc n) tasks) orders stores, [])
 many_ticks y zero time o ran arrivals tasks orders stores first has calm = last_tick y time o ran arrivals tasks orders stores first
 many_ticks y (suc n) time o ran arrivals tasks orders stores first has calm =
     let s : State = state time Use ran arrivals tasks orders stores in
     let s' : State = state (time + 1) Use o arrivals (used_by o 1 tasks) orders stores in
     let now : Calm y arrivals tasks (time + 1) = calm 0 (omega arith) in
     let count : 4 * suc n + 1 ≡ 4 + (4 * n + 1) = omega arith in
-    let one : run y 4 s ≡ (s', []) = one_tick y time o ran arrivals tasks orders stores first (has-fewer o 2 (suc (suc n)) tasks (omega arith) has) now.no_sleeper now.no_arrival now.no_horizon in
+    let one : run y 4 s ≡ (s', []) = one_tick y time o ran arrivals tasks orders stores first (has-fewer o 2 (suc (suc n)) tasks (omega arith) has)
+    now.no_sleeper now.no_arrival now.no_horizon in
     let shift : (j : ℕ) → time + suc (suc j) ≡ time + 1 + suc j = λ j. omega arith in
     let later : (j : ℕ) → j < n → Calm y arrivals (used_by o 1 tasks) (time + 1 + suc j) =
     λ j h. subst (Calm y arrivals (used_by o 1 tasks)) (shift j) (calm-used y arrivals o tasks (time + suc (suc j)) (calm (suc j) (omega arith))) in
     let more : run y (4 * n + 1) s' ≡ (state (time + 1 + suc n) Effects o arrivals (used_by o (suc n) (used_by o 1 tasks)) orders stores, []) =
-    many_ticks y n (time + 1) o o arrivals (used_by o 1 tasks) orders stores (dispatched-ticks o 1 tasks orders ∙ first) (has-used o (suc n) tasks has) later in
+    many_ticks y n (time + 1) o o arrivals (used_by o 1 tasks) orders stores (dispatched-ticks o 1 tasks orders ∙ first)
+    (has-used o (suc n) tasks has) later in
     ap (λ k. run y k s) count ∙ run_add y 4 (4 * n + 1) s ∙ ap (and_then (run y (4 * n + 1))) one ∙ ap (after []) more
     ∙ ap (λ k. let next : Next = (state k Effects o arrivals (used_by o (suc n) (used_by o 1 tasks)) orders stores, []) in next) (sym (shift n))
     ∙ ap (λ ts. let next : Next = (state (time + suc (suc n)) Effects o arrivals ts orders stores, []) in next) (used-add o (suc n) tasks)
@@ -196,14 +214,16 @@ ticks_at_once y n s phase goes_on has quiet =
     ∙ ap (λ z. let next : Next = (z, []) in next) back
 
 -- one tick asks for no ticks left
-pub ticks_or_one : (y : System) (n : ℕ) (s : State) → s.phase ≡ Use → s.stopped ≡ false → (n ≡ 0) ⊎ HasTicks s.tasks (suc n) (dispatched s.tasks s.orders)
+pub ticks_or_one : (y : System) (n : ℕ) (s : State) → s.phase ≡ Use → s.stopped ≡ false
+    → (n ≡ 0) ⊎ HasTicks s.tasks (suc n) (dispatched s.tasks s.orders)
     → ((j : ℕ) → j < n → IsQuiet y s (s.time + suc j)) → run y (4 * n + 1) s ≡ (ticks_later (dispatched s.tasks s.orders) (suc n) s, [])
 ticks_or_one y n s phase goes_on (inr has) quiet = ticks_at_once y n s phase goes_on has quiet
 ticks_or_one y n s phase goes_on (inl none) quiet =
     let o : Option ℕ = dispatched s.tasks s.orders in
     let is : s ≡ state s.time Use s.ran s.arrivals s.tasks s.orders s.stores =
     ap (λ p. record s { phase = p }) phase ∙ ap (λ b. record s { phase = Use; stopped = b }) goes_on in
-    let back : state (s.time + 1) Effects o s.arrivals (used_by o 1 s.tasks) s.orders s.stores ≡ ticks_later o 1 s = ap (λ b. record (ticks_later o 1 s) { stopped = b }) (sym goes_on) in
+    let back : state (s.time + 1) Effects o s.arrivals (used_by o 1 s.tasks) s.orders s.stores ≡ ticks_later o 1 s
+    = ap (λ b. record (ticks_later o 1 s) { stopped = b }) (sym goes_on) in
     let once : run y 1 s ≡ (ticks_later o 1 s, []) =
     ap (run y 1) is ∙ last_tick y s.time o s.ran s.arrivals s.tasks s.orders s.stores refl ∙ ap (λ z. let next : Next = (z, []) in next) back in
     let P : ℕ → Type 0 = λ k. run y (4 * k + 1) s ≡ (ticks_later o (suc k) s, []) in

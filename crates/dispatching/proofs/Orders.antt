@@ -1,6 +1,7 @@
 -- Order numbers matter only by the order of those of ready tasks of one active priority.
 -- Two lists of numbers that rank these alike dispatch the same task, and go on doing so after each release, entry and exit.
-use Rattle.std.specs.Prelude.{◌≡◌, ℕ, zero, suc, Bool, true, false, ◌||◌, ◌&&◌, List, [], ◌∷◌, set, nat_lt, ◌==◌, if◌then◌else◌, Some, ℤ, int_lt, ⊤, refl}
+use Rattle.std.specs.Prelude.{◌≡◌, ℕ, zero, suc, Bool, true, false, ◌||◌, ◌&&◌, List, [], ◌∷◌, set, nat_lt, ◌==◌, if◌then◌else◌, Some, ℤ, int_lt}
+use Rattle.std.specs.Prelude.{⊤, refl}
 use Rattle.std.proofs.Common.{ap, arith}
 use Rattle.seq_tree.specs.Lists.{change}
 use Rattle.machine.specs.States.{Task, Readiness, Asleep, Waiting, Ready}
@@ -34,12 +35,14 @@ Twins (c ∷ cs) (d ∷ ds) = (c.task ≡ d.task) × Ranked c d cs ds × Twins c
 Twins _ _ = ⊥
 
 -- they have the same first task
-first-twins : (c d : Candidate) (cs ds : List Candidate) → c.task ≡ d.task → Ranked c d cs ds → Twins cs ds → (first_of c cs).task ≡ (first_of d ds).task
+first-twins : (c d : Candidate) (cs ds : List Candidate) → c.task ≡ d.task → Ranked c d cs ds → Twins cs ds
+    → (first_of c cs).task ≡ (first_of d ds).task
 first-twins c d [] [] same ranked twins = same
 first-twins c d [] (y ∷ ys) same ranked twins = absurd ranked
 first-twins c d (x ∷ xs) [] same ranked twins = absurd ranked
 first-twins c d (x ∷ xs) (y ∷ ys) same ranked twins =
-    by_first (goes_before x c) (goes_before y d) ranked.0 (first-twins x y xs ys twins.0 twins.1 twins.2) (first-twins c d xs ys same ranked.1 twins.2)
+    by_first (goes_before x c) (goes_before y d) ranked.0 (first-twins x y xs ys twins.0 twins.1 twins.2)
+    (first-twins c d xs ys same ranked.1 twins.2)
   where
     by_first : (a b : Bool) → a ≡ b → (first_of x xs).task ≡ (first_of y ys).task → (first_of c xs).task ≡ (first_of d ys).task
         → (first_of (if a then x else c) xs).task ≡ (first_of (if b then y else d) ys).task
@@ -63,12 +66,14 @@ before-rivals : (n m : ℕ) (t u : Task) (o x p y : ℤ) → (t.active ≡ u.act
     ≡ goes_before (record { task = m; active = u.active; order = y }) (record { task = n; active = t.active; order = p })
 before-rivals n m t u o x p y same = by_active (u.active == t.active) refl
   where
-    by_active : (b : Bool) → (u.active == t.active) ≡ b → (nat_lt t.active u.active || (b && int_lt x o)) ≡ (nat_lt t.active u.active || (b && int_lt y p))
+    by_active : (b : Bool) → (u.active == t.active) ≡ b → (nat_lt t.active u.active || (b && int_lt x o))
+        ≡ (nat_lt t.active u.active || (b && int_lt y p))
     by_active true e = let rivals : t.active ≡ u.active = grind arith in ap (λ k. nat_lt t.active u.active || k) ((same rivals).0)
     by_active false e = refl
 
 ranked-candidates : (n m : ℕ) (t : Task) (o p : ℤ) (ts : List Task) (os ps : List ℤ) → t.readiness ≡ Ready → Beside t o p ts os ps
-    → Ranked (record { task = n; active = t.active; order = o }) (record { task = n; active = t.active; order = p }) (candidates m ts os) (candidates m ts ps)
+    → Ranked (record { task = n; active = t.active; order = o }) (record { task = n; active = t.active; order = p }) (candidates m ts os)
+    (candidates m ts ps)
 ranked-candidates n m t o p [] [] [] ready beside = tt
 ranked-candidates n m t o p [] [] (y ∷ ys) ready beside = absurd beside
 ranked-candidates n m t o p [] (x ∷ xs) ps ready beside = absurd beside
@@ -78,7 +83,8 @@ ranked-candidates n m t o p (u ∷ us) (x ∷ xs) (y ∷ ys) ready beside =
     by_ready u.readiness refl (ranked-candidates n (suc m) t o p us xs ys ready beside.1)
   where
     by_ready : (r : Readiness) → u.readiness ≡ r
-        → Ranked (record { task = n; active = t.active; order = o }) (record { task = n; active = t.active; order = p }) (candidates (suc m) us xs) (candidates (suc m) us ys)
+        → Ranked (record { task = n; active = t.active; order = o }) (record { task = n; active = t.active; order = p }) (candidates (suc m) us xs)
+        (candidates (suc m) us ys)
         → Ranked (record { task = n; active = t.active; order = o }) (record { task = n; active = t.active; order = p })
         (candidate_if r (record { task = m; active = u.active; order = x }) (candidates (suc m) us xs))
         (candidate_if r (record { task = m; active = u.active; order = y }) (candidates (suc m) us ys))
@@ -130,7 +136,8 @@ beside-set zero f t o p v w (a ∷ us) (x ∷ xs) (y ∷ ys) beside same = (λ r
 beside-set (suc i) f t o p v w (a ∷ us) (x ∷ xs) (y ∷ ys) beside same = (beside.0, beside-set i f t o p v w us xs ys beside.1 same)
 
 -- a task that goes behind all others or before them, changed as it may be, leaves the numbers ranked alike
-pub alike-set : (i : ℕ) (f : Task → Task) (v w : ℤ) (ts : List Task) (os ps : List ℤ) → Alike ts os ps → SameAll v w os ps → Alike (change i f ts) (set os i v) (set ps i w)
+pub alike-set : (i : ℕ) (f : Task → Task) (v w : ℤ) (ts : List Task) (os ps : List ℤ) → Alike ts os ps → SameAll v w os ps
+    → Alike (change i f ts) (set os i v) (set ps i w)
 alike-set i f v w [] [] [] alike same = tt
 alike-set i f v w [] [] (p ∷ ps) alike same = absurd alike
 alike-set i f v w [] (o ∷ os) ps alike same = absurd alike

@@ -1,5 +1,6 @@
 -- Tasks and numbers by their places, and what a change of one leaves of the others.
-use Rattle.std.specs.Prelude.{◌≡◌, ◌≢◌, ◌⊎◌, ℕ, zero, suc, ◌<◌, true, List, [], ◌∷◌, fold, length, set, Option, Some, None, option_map, slice_get, ℤ, pos, int_lt, ◌+ℤ◌, ◌-ℤ◌, refl}
+use Rattle.std.specs.Prelude.{◌≡◌, ◌≢◌, ◌⊎◌, ℕ, zero, suc, ◌<◌, true, List, [], ◌∷◌, fold, length, set, Option, Some, None, option_map}
+use Rattle.std.specs.Prelude.{slice_get, ℤ, pos, int_lt, ◌+ℤ◌, ◌-ℤ◌, refl}
 use Rattle.std.specs.Int.{int_max, int_min}
 use Rattle.std.proofs.Common.{sym, ◌∙◌, ap, arith, inl, inr, length-set}
 use Rattle.std.proofs.lemmas.Option.{none-some, same_Some}
@@ -43,7 +44,8 @@ before-change i f ts j u here = by_place (cases_eq j i)
     by_task (Some t) at e = record { task = t; at = at; is = inr (sym (same_Some (f t) u e)) }
 
     by_place : (j ≡ i) ⊎ (j ≢ i) → Before i f ts j u
-    by_place (inl same) = by_task (slice_get ts j) refl (ap (λ k. option_map f (slice_get ts k)) same ∙ sym (get-change i f ts) ∙ ap (slice_get (change i f ts)) (sym same) ∙ here)
+    by_place (inl same) = by_task (slice_get ts j) refl (ap (λ k. option_map f (slice_get ts k)) same ∙ sym (get-change i f ts) ∙ ap
+        (slice_get (change i f ts)) (sym same) ∙ here)
     by_place (inr d) = record { task = u; at = sym (get-other i j f ts d) ∙ here; is = inl refl }
 
 pub length-change : (i : ℕ) (f : Task → Task) (ts : List Task) → length (change i f ts) ≡ length ts

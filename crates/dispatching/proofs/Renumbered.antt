@@ -1,5 +1,6 @@
 -- The law of renumbering: two states that differ in order numbers alone, ranked alike, tell the same from there on.
-use Rattle.std.specs.Prelude.{◌≡◌, ◌↔◌, ℕ, zero, suc, ◌+◌, ◌-◌, Bool, true, false, ◌&&◌, List, [], ◌∷◌, ◌++◌, fold, length, nat_lt, ◌==◌, if◌then◌else◌, Option, Some, None, ℤ, pos, int_lt, ◌+ℤ◌, ◌-ℤ◌, ◌≤ℤ◌, slice_get, ⊤, refl}
+use Rattle.std.specs.Prelude.{◌≡◌, ◌↔◌, ℕ, zero, suc, ◌+◌, ◌-◌, Bool, true, false, ◌&&◌, List, [], ◌∷◌, ◌++◌, fold, length, nat_lt, ◌==◌}
+use Rattle.std.specs.Prelude.{if◌then◌else◌, Option, Some, None, ℤ, pos, int_lt, ◌+ℤ◌, ◌-ℤ◌, ◌≤ℤ◌, slice_get, ⊤, refl}
 use Rattle.std.specs.Int.{int_max, int_min}
 use Rattle.std.proofs.Common.{sym, ◌∙◌, ap, subst, arith}
 use Rattle.std.proofs.lemmas.Int.{ints, int_max_is, int_min_is}
@@ -14,8 +15,10 @@ use Rattle.machine.specs.Deeds.{PieceOutcome, Act, Silent, Print, Enter, Leave, 
 use Rattle.machine.specs.States.{State, Task, Resource, Object, Control, Phase, Effects, Delays, Arriving, Use, Ready}
 use Rattle.machine.specs.Dispatch.{dispatched, put_last, put_first}
 use Rattle.machine.specs.Releases.{Next, after, going, release, release_task, released, serve, serve_task, is_waiting}
-use Rattle.machine.specs.Effects.{acted, ceiling_of, ended, entered_at, entry, exit, go, inside_now, lent, object_unit, outside_now, resting, stopped_at, takes_effect, task_unit}
-use Rattle.machine.specs.Steps.{step, step_in, goes_to, effect_step, effect_at, effect_of, delay_step, arrival_step, arrive_at, horizon_step, use_step, is_due}
+use Rattle.machine.specs.Effects.{acted, ceiling_of, ended, entered_at, entry, exit, go, inside_now, lent, object_unit, outside_now, resting}
+use Rattle.machine.specs.Effects.{stopped_at, takes_effect, task_unit}
+use Rattle.machine.specs.Steps.{step, step_in, goes_to, effect_step, effect_at, effect_of, delay_step, arrival_step, arrive_at, horizon_step}
+use Rattle.machine.specs.Steps.{use_step, is_due}
 use Rattle.machine.specs.Meanings.{run, Rest}
 use Rattle.dispatching.specs.Renumbering.{AreRivals, HasNumber, RankAlike, DifferInOrders}
 use Rattle.dispatching.proofs.Orders.{SameOrder, Beside, Alike, SameAll, dispatched-alike, alike-set}
@@ -62,7 +65,8 @@ beside-first f t o p (u ∷ us) [] ps tames h = absurd h
 beside-first f t o p (u ∷ us) (x ∷ xs) [] tames h = absurd h
 beside-first f t o p (u ∷ us) (x ∷ xs) (y ∷ ys) tames h = (λ r. h.0 (tames t u r), beside-first f t o p us xs ys tames h.1)
 
-beside-change : (i : ℕ) (f : Task → Task) (t : Task) (o p : ℤ) (ts : List Task) (os ps : List ℤ) → Tames f → Beside t o p ts os ps → Beside t o p (change i f ts) os ps
+beside-change : (i : ℕ) (f : Task → Task) (t : Task) (o p : ℤ) (ts : List Task) (os ps : List ℤ) → Tames f → Beside t o p ts os ps
+    → Beside t o p (change i f ts) os ps
 beside-change i f t o p [] [] [] tames h = tt
 beside-change i f t o p [] [] (y ∷ ys) tames h = absurd h
 beside-change i f t o p [] (x ∷ xs) ps tames h = absurd h
@@ -163,7 +167,8 @@ alike-last i f (t ∷ ts) (o ∷ os) (p ∷ ps) h =
     let v : ℤ = fold int_max o os +ℤ pos 1 in
     let w : ℤ = fold int_max p ps +ℤ pos 1 in
     alike-set i f v w (t ∷ ts) (o ∷ os) (p ∷ ps) h
-    (same-below v w (t ∷ ts) (o ∷ os) (p ∷ ps) h (above_all o (fold int_max o os) (greatest o os).0, (greatest o os).1) (above_all p (fold int_max p ps) (greatest p ps).0, (greatest p ps).1))
+    (same-below v w (t ∷ ts) (o ∷ os) (p ∷ ps) h (above_all o (fold int_max o os) (greatest o os).0, (greatest o os).1)
+    (above_all p (fold int_max p ps) (greatest p ps).0, (greatest p ps).1))
 
 alike-first : (i : ℕ) (f : Task → Task) (ts : List Task) (os ps : List ℤ) → Alike ts os ps → Alike (change i f ts) (put_first i os) (put_first i ps)
 alike-first i f [] [] [] h = tt
@@ -175,7 +180,8 @@ alike-first i f (t ∷ ts) (o ∷ os) (p ∷ ps) h =
     let v : ℤ = fold int_min o os -ℤ pos 1 in
     let w : ℤ = fold int_min p ps -ℤ pos 1 in
     alike-set i f v w (t ∷ ts) (o ∷ os) (p ∷ ps) h
-    (same-above v w (t ∷ ts) (o ∷ os) (p ∷ ps) h (below_all o (fold int_min o os) (least o os).0, (least o os).1) (below_all p (fold int_min p ps) (least p ps).0, (least p ps).1))
+    (same-above v w (t ∷ ts) (o ∷ os) (p ∷ ps) h (below_all o (fold int_min o os) (least o os).0, (least o os).1)
+    (below_all p (fold int_min p ps) (least p ps).0, (least p ps).1))
 
 -- changes that leave what a task is dispatched by
 going-tames : (y : System) (vars : Variables) (ps : List Piece) → Tames (going y.costs vars ps)
@@ -211,7 +217,8 @@ serve-twin y i s ps h = by_task (slice_get s.tasks i)
     by_task None = record { state = refl; alike = h; told = refl }
     by_task (Some t) = by_test (is_waiting t.readiness && t.gate.open')
 
-entry-twin : (y : System) (i : ℕ) (t : Task) (section : Resource) (told : List Event) (vars : Variables) (pieces : List Piece) (s : State) (ps : List ℤ)
+entry-twin : (y : System) (i : ℕ) (t : Task) (section : Resource) (told : List Event) (vars : Variables) (pieces : List Piece) (s : State)
+    (ps : List ℤ)
     → Alike s.tasks s.orders ps → Twin (entry y i t section told vars pieces s) (entry y i t section told vars pieces (renumber ps s))
 entry-twin y i t (Object object) told vars pieces s ps h = by_test (nat_lt (ceiling_of y (Object object)) t.active)
   where
@@ -220,7 +227,8 @@ entry-twin y i t (Object object) told vars pieces s ps h = by_test (nat_lt (ceil
     by_test true = record { state = refl; alike = h; told = refl }
     by_test false = record {
       state = refl;
-      alike = alike-first i (λ u. going y.costs (lent (Object object) s vars) pieces (inside_now (Object object) (ceiling_of y (Object object)) u)) s.tasks s.orders ps h;
+      alike = alike-first i (λ u. going y.costs (lent (Object object) s vars) pieces
+          (inside_now (Object object) (ceiling_of y (Object object)) u)) s.tasks s.orders ps h;
       told = refl;
     }
 entry-twin y i t (Control task) told vars pieces s ps h = by_test (nat_lt (ceiling_of y (Control task)) t.active)
@@ -238,10 +246,12 @@ exit-alike : (y : System) (i : ℕ) (vars : Variables) (pieces : List Piece) (s 
     → Alike (exit y i vars pieces s).tasks (exit y i vars pieces s).orders (put_first i ps)
 exit-alike y i vars pieces s ps h = alike-first i (λ u. going y.costs vars pieces (outside_now u)) s.tasks s.orders ps h
 
-go-alike : (y : System) (i : ℕ) (vars : Variables) (pieces : List Piece) (s : State) (ps : List ℤ) → Alike s.tasks s.orders ps → Alike (go y i vars pieces s).tasks s.orders ps
+go-alike : (y : System) (i : ℕ) (vars : Variables) (pieces : List Piece) (s : State) (ps : List ℤ) → Alike s.tasks s.orders ps
+    → Alike (go y i vars pieces s).tasks s.orders ps
 go-alike y i vars pieces s ps h = alike-change i (going y.costs vars pieces) s.tasks s.orders ps (going-tames y vars pieces) h
 
-acted-twin : (y : System) (i : ℕ) (t : Task) (act : Act) (vars : Variables) (pieces : List Piece) (s : State) (ps : List ℤ) → Alike s.tasks s.orders ps
+acted-twin : (y : System) (i : ℕ) (t : Task) (act : Act) (vars : Variables) (pieces : List Piece) (s : State) (ps : List ℤ)
+    → Alike s.tasks s.orders ps
     → Twin (acted y i t act vars pieces s) (acted y i t act vars pieces (renumber ps s))
 acted-twin y i t Silent vars pieces s ps h = record { state = refl; alike = go-alike y i vars pieces s ps h; told = refl }
 acted-twin y i t (Print v) vars pieces s ps h = record { state = refl; alike = go-alike y i vars pieces s ps h; told = refl }
@@ -251,16 +261,19 @@ acted-twin y i t (Leave object op values data') vars pieces s ps h = record { st
 acted-twin y i t (Ask task) vars pieces s ps h = entry-twin y i t (Control task) [] vars pieces s ps h
 acted-twin y i t (Keep task v) vars pieces s ps h = record {
   state = refl;
-  alike = alike-change task (λ u. record u { gate = record u.gate { value = v } }) (go y i vars pieces s).tasks s.orders ps (λ a b r. r) (go-alike y i vars pieces s ps h);
+  alike = alike-change task (λ u. record u { gate = record u.gate { value = v } }) (go y i vars pieces s).tasks s.orders ps (λ a b r.
+      r) (go-alike y i vars pieces s ps h);
   told = refl;
 }
 acted-twin y i t (Open task) vars pieces s ps h = record {
   state = refl;
-  alike = alike-change task (λ u. record u { gate = record u.gate { open' = true } }) (go y i vars pieces s).tasks s.orders ps (λ a b r. r) (go-alike y i vars pieces s ps h);
+  alike = alike-change task (λ u. record u { gate = record u.gate { open' = true } }) (go y i vars pieces s).tasks s.orders ps (λ a b r.
+      r) (go-alike y i vars pieces s ps h);
   told = refl;
 }
 acted-twin y i t (Ended task v) vars pieces s ps h =
-    after-twin (event.Request s.time t.thread.unit (task_unit y task) v ∷ []) (serve y task (exit y i vars pieces s)) (serve y task (exit y i vars pieces (renumber ps s)))
+    after-twin (event.Request s.time t.thread.unit (task_unit y task) v ∷ []) (serve y task (exit y i vars pieces s))
+    (serve y task (exit y i vars pieces (renumber ps s)))
     (serve-twin y task (exit y i vars pieces s) (put_first i ps) (exit-alike y i vars pieces s ps h))
 acted-twin y i t Finish vars pieces s ps h =
     let s' : State = record s { tasks = change i (ended vars) s.tasks } in
@@ -270,7 +283,8 @@ acted-twin y i t Finish vars pieces s ps h =
 goes-twin : (phase : Phase) (s : State) (ps : List ℤ) → Alike s.tasks s.orders ps → Twin (goes_to phase s) (goes_to phase (renumber ps s))
 goes-twin phase s ps h = record { state = refl; alike = h; told = refl }
 
-effect-twin : (y : System) (ran : Option ℕ) (s : State) (ps : List ℤ) → Alike s.tasks s.orders ps → Twin (effect_step y ran s) (effect_step y ran (renumber ps s))
+effect-twin : (y : System) (ran : Option ℕ) (s : State) (ps : List ℤ) → Alike s.tasks s.orders ps
+    → Twin (effect_step y ran s) (effect_step y ran (renumber ps s))
 effect-twin y None s ps h = goes-twin Delays s ps h
 effect-twin y (Some i) s ps h = by_task (slice_get s.tasks i)
   where
@@ -295,14 +309,16 @@ horizon-twin y s ps h = by_time (s.time == y.until)
     by_time true = record { state = refl; alike = h; told = refl }
     by_time false = goes-twin Use s ps h
 
-arrival-twin : (y : System) (arrivals : List Arrival) (s : State) (ps : List ℤ) → Alike s.tasks s.orders ps → Twin (arrival_step y arrivals s) (arrival_step y arrivals (renumber ps s))
+arrival-twin : (y : System) (arrivals : List Arrival) (s : State) (ps : List ℤ) → Alike s.tasks s.orders ps
+    → Twin (arrival_step y arrivals s) (arrival_step y arrivals (renumber ps s))
 arrival-twin y [] s ps h = horizon-twin y s ps h
 arrival-twin y (a ∷ others) s ps h = by_time (a.time == s.time)
   where
     s' : State
     s' = record s { arrivals = others }
 
-    by_task : (o : Option (ℕ × Task)) → Twin (arrive_at y a o (record s { arrivals = others })) (arrive_at y a o (record (renumber ps s) { arrivals = others }))
+    by_task : (o : Option (ℕ × Task))
+        → Twin (arrive_at y a o (record s { arrivals = others })) (arrive_at y a o (record (renumber ps s) { arrivals = others }))
     by_task None = record { state = refl; alike = h; told = refl }
     by_task (Some t) =
         let f : Task → Task = λ u. record u { gate = record { value = a.value; open' = true } } in
@@ -310,17 +326,24 @@ arrival-twin y (a ∷ others) s ps h = by_time (a.time == s.time)
         after-twin (event.Arrive s.time a.task a.value ∷ []) (serve y t.0 s'') (serve y t.0 (renumber ps s''))
         (serve-twin y t.0 s'' ps (alike-change t.0 f s.tasks s.orders ps (λ b c r. r) h))
 
-    by_time : (b : Bool) → Twin (if b then arrive_at y a (first_where (λ t. t.thread.unit == a.task) s.tasks) (record s { arrivals = others }) else horizon_step y s)
-        (if b then arrive_at y a (first_where (λ t. t.thread.unit == a.task) s.tasks) (record (renumber ps s) { arrivals = others }) else horizon_step y (renumber ps s))
+    by_time : (b : Bool) → Twin (if b then arrive_at y a (first_where (λ t. t.thread.unit == a.task) s.tasks)
+        (record s { arrivals = others }) else horizon_step y s)
+        (if b then arrive_at y a (first_where (λ t. t.thread.unit == a.task) s.tasks) (record (renumber ps s) { arrivals = others }) else horizon_step
+        y (renumber ps s))
     by_time true = by_task (first_where (λ t. t.thread.unit == a.task) s.tasks)
     by_time false = horizon-twin y s ps h
 
 use-twin : (y : System) (o : Option ℕ) (s : State) (ps : List ℤ) → Alike s.tasks s.orders ps → Twin (use_step y o s) (use_step y o (renumber ps s))
 use-twin y None s ps h = record { state = refl; alike = h; told = refl }
 use-twin y (Some i) s ps h =
-    record { state = refl; alike = alike-change i (λ t. record t { left = t.left - 1; used = t.used + 1 }) s.tasks s.orders ps (λ a b r. r) h; told = refl }
+    record {
+      state = refl;
+      alike = alike-change i (λ t. record t { left = t.left - 1; used = t.used + 1 }) s.tasks s.orders ps (λ a b r. r) h;
+      told = refl;
+    }
 
-phase-twin : (y : System) (phase : Phase) (s : State) (ps : List ℤ) → Alike s.tasks s.orders ps → Twin (step_in phase y s) (step_in phase y (renumber ps s))
+phase-twin : (y : System) (phase : Phase) (s : State) (ps : List ℤ) → Alike s.tasks s.orders ps
+    → Twin (step_in phase y s) (step_in phase y (renumber ps s))
 phase-twin y Effects s ps h = effect-twin y s.ran s ps h
 phase-twin y Delays s ps h = by_sleeper (first_where (λ t. is_due s.time t.readiness) s.tasks)
   where
@@ -329,7 +352,8 @@ phase-twin y Delays s ps h = by_sleeper (first_where (λ t. is_due s.time t.read
     by_sleeper (Some t) = release-twin y t.0 s ps h
 phase-twin y Arriving s ps h = arrival-twin y s.arrivals s ps h
 phase-twin y Use s ps h =
-    subst (λ (o : Option ℕ). Twin (use_step y (dispatched s.tasks s.orders) s) (use_step y o (renumber ps s))) (dispatched-alike s.tasks s.orders ps h)
+    subst (λ (o : Option ℕ). Twin (use_step y (dispatched s.tasks s.orders) s) (use_step y o (renumber ps s)))
+    (dispatched-alike s.tasks s.orders ps h)
     (use-twin y (dispatched s.tasks s.orders) s ps h)
 
 step-twin : (y : System) (s : State) (ps : List ℤ) → Alike s.tasks s.orders ps → Twin (step y s) (step y (renumber ps s))
@@ -383,7 +407,11 @@ alike-of (t ∷ ts) (o ∷ os) (p ∷ ps) h =
     let a : length os ≡ length ts = less (length os) (length ts) h.numbered in
     let b : length ps ≡ length ts = less (length ps) (length ts) h.renumbered in (
       beside-of t o p ts os ps a b
-          (λ j u x y at r hx hy. (h.alike (suc j) 0 u t x o y p at refl (r.1, r.0, sym r.2) hx refl hy refl, h.alike 0 (suc j) t u o x p y refl at r refl hx refl hy)),
+          (λ j u x y at r hx hy. (
+            h.alike (suc j) 0 u t x o y p at refl (r.1, r.0, sym r.2) hx refl hy refl,
+            h.alike 0 (suc
+                j) t u o x p y refl at r refl hx refl hy,
+          )),
       alike-of ts os ps (record {
         numbered = a;
         renumbered = b;
@@ -400,7 +428,8 @@ renumbered_tells y s t told d =
     let h : Alike s.tasks s.orders t.orders = alike-of s.tasks s.orders t.orders d.ranks in
     let there : renumber t.orders s ≡ t = sym d.same in
     let back : renumber s.orders t ≡ s = ap (renumber s.orders) d.same in
-    let h' : Alike t.tasks t.orders s.orders = subst (λ (ts : List Task). Alike ts t.orders s.orders) (ap (λ z. z.tasks) there) (alike-sym s.tasks s.orders t.orders h) in (
+    let h' : Alike t.tasks t.orders s.orders = subst (λ (ts : List Task). Alike ts t.orders s.orders) (ap (λ z. z.tasks) there)
+    (alike-sym s.tasks s.orders t.orders h) in (
       λ r. subst (λ (z : State). Rest y z told) there (rest-renumbered y s t.orders told h r),
       λ r. subst (λ (z : State). Rest y z told) back (rest-renumbered y t s.orders told h' r),
     )

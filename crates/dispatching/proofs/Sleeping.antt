@@ -1,5 +1,6 @@
 -- The delay list stands for the sleeping tasks: its first task is the one that is released next.
-use Rattle.std.specs.Prelude.{◌≡◌, ◌≢◌, ◌⊎◌, ℕ, zero, suc, ◌+◌, ◌<◌, ◌≤◌, max, Bool, true, false, nat_le, List, [], ◌∷◌, Some, None, option_map, slice_get, if◌then◌else◌, refl}
+use Rattle.std.specs.Prelude.{◌≡◌, ◌≢◌, ◌⊎◌, ℕ, zero, suc, ◌+◌, ◌<◌, ◌≤◌, max, Bool, true, false, nat_le, List, [], ◌∷◌, Some, None, option_map}
+use Rattle.std.specs.Prelude.{slice_get, if◌then◌else◌, refl}
 use Rattle.std.proofs.Common.{sym, ◌∙◌, ap, subst, arith, inl, inr}
 use Rattle.std.proofs.lemmas.Option.{none-some, same_Some}
 use Rattle.std.proofs.lemmas.Bool.{cases_eq}
@@ -18,19 +19,22 @@ abbrev is_now : ℕ → Task → Bool
 is_now time t = is_due time t.readiness
 
 -- the first task that passes a test
-pub first-found : (n : ℕ) (test : Task → Bool) (ts : List Task) (i : ℕ) (t : Task) → slice_get ts i ≡ Some t → test t ≡ true → ((j : ℕ) (u : Task) → j < i → slice_get ts j ≡ Some u → test u ≡ false)
+pub first-found : (n : ℕ) (test : Task → Bool) (ts : List Task) (i : ℕ) (t : Task) → slice_get ts i ≡ Some t → test t ≡ true
+    → ((j : ℕ) (u : Task) → j < i → slice_get ts j ≡ Some u → test u ≡ false)
     → first_from n test ts ≡ Some (n + i, t)
 first-found n test [] i t at passes before = absurd (none-some t at)
 first-found n test (u ∷ ts) zero t at passes before =
     let same : u ≡ t = same_Some u t at in
     let here : n ≡ n + 0 = omega arith in
-    ap (λ b. if b then Some (n, u) else first_from (suc n) test ts) (ap test same ∙ passes) ∙ ap (λ k. Some (k, u)) here ∙ ap (λ v. Some (n + 0, v)) same
+    ap (λ b. if b then Some (n, u) else first_from (suc n) test ts) (ap test same ∙ passes) ∙ ap (λ k. Some (k, u)) here ∙ ap
+    (λ v. Some (n + 0, v)) same
 first-found n test (u ∷ ts) (suc i) t at passes before =
     let there : suc n + i ≡ n + suc i = omega arith in
     ap (λ b. if b then Some (n, u) else first_from (suc n) test ts) (before 0 u (omega arith) refl)
     ∙ first-found (suc n) test ts i t at passes (λ j v h k. before (suc j) v (omega arith) k) ∙ ap (λ k. Some (k, t)) there
 
-pub first-none : (n : ℕ) (test : Task → Bool) (ts : List Task) → ((j : ℕ) (u : Task) → slice_get ts j ≡ Some u → test u ≡ false) → first_from n test ts ≡ None
+pub first-none : (n : ℕ) (test : Task → Bool) (ts : List Task) → ((j : ℕ) (u : Task) → slice_get ts j ≡ Some u → test u ≡ false)
+    → first_from n test ts ≡ None
 first-none n test [] none = refl
 first-none n test (u ∷ ts) none =
     ap (λ b. if b then Some (n, u) else first_from (suc n) test ts) (none 0 u refl) ∙ first-none (suc n) test ts (λ j v k. none (suc j) v k)
@@ -39,7 +43,8 @@ asleep-same : (a b : ℕ) → Asleep a ≡ Asleep b → a ≡ b
 asleep-same a b h = cc
 
 -- how long a task sleeps that is in the list
-sleeps : (ts : List Task) (time : ℕ) (e : Entry) (i until : ℕ) (t : Task) → SleepsUntil ts time e → i ≡ e.0 → slice_get ts i ≡ Some t → t.readiness ≡ Asleep until → e.1 ≡ max until time
+sleeps : (ts : List Task) (time : ℕ) (e : Entry) (i until : ℕ) (t : Task) → SleepsUntil ts time e → i ≡ e.0 → slice_get ts i ≡ Some t
+    → t.readiness ≡ Asleep until → e.1 ≡ max until time
 sleeps ts time e i until t s same at is =
     let u : s.0 ≡ t = same_Some s.0 t (sym s.2 ∙ ap (slice_get ts) (sym same) ∙ at) in
     s.4 ∙ ap (λ k. max k time) (asleep-same s.1 until (sym s.3 ∙ ap (λ v. v.readiness) u ∙ is))
@@ -62,18 +67,21 @@ module _ (ts : List Task) (time : ℕ) (asleep : List Entry) (a : AreSleeping ts
       by_readiness j u at Waiting e = ap (is_due later) e
       by_readiness j u at (Asleep until) e =
           let x : (x : Entry) × (j ≡ x.0) × ((later < x.1) × SleepsUntil ts time x) =
-          in-each (λ x. (later < x.1) × SleepsUntil ts time x) j asleep (a.all j until u at e) (each-both (λ x. later < x.1) (SleepsUntil ts time) asleep (most asleep a.ordered first) a.each) in
+          in-each (λ x. (later < x.1) × SleepsUntil ts time x) j asleep (a.all j until u at e)
+          (each-both (λ x. later < x.1) (SleepsUntil ts time) asleep (most asleep a.ordered first) a.each) in
           ap (is_due later) e ∙ not_yet x.0.1 until (sleeps ts time x.0 j until u x.2.1 x.1 at e) x.2.0
         where
           not_yet : (k until : ℕ) → k ≡ max until time → later < k → nat_le until later ≡ false
           not_yet k until h l = let m : later < until = omega arith in grind (arith, nat_tests)
 
 -- the first entry is due: its task is the first in order of units that is due
-pub first-due : (ts : List Task) (time : ℕ) (e : Entry) (es : List Entry) (t : Task) → AreSleeping ts time (e ∷ es) → e.1 ≤ time → slice_get ts e.0 ≡ Some t → first_where (is_now time) ts ≡ Some (e.0, t)
+pub first-due : (ts : List Task) (time : ℕ) (e : Entry) (es : List Entry) (t : Task) → AreSleeping ts time (e ∷ es) → e.1 ≤ time
+    → slice_get ts e.0 ≡ Some t → first_where (is_now time) ts ≡ Some (e.0, t)
 first-due ts time e es t a le at =
     let same : a.each.0.0 ≡ t = same_Some a.each.0.0 t (sym a.each.0.2 ∙ at) in
     let found : first_where (is_now time) ts ≡ Some (0 + e.0, t) =
-    first-found 0 (is_now time) ts e.0 t at (ap (is_due time) (sym (ap (λ u. u.readiness) same) ∙ a.each.0.3) ∙ now a.each.0.1 e.1 a.each.0.4 le) (λ j u less here. by_readiness j u less here u.readiness refl) in
+    first-found 0 (is_now time) ts e.0 t at (ap (is_due time) (sym (ap (λ u. u.readiness) same) ∙ a.each.0.3) ∙ now a.each.0.1 e.1 a.each.0.4 le)
+    (λ j u less here. by_readiness j u less here u.readiness refl) in
     found ∙ (let zero_add : 0 + e.0 ≡ e.0 = omega arith in ap (λ k. Some (k, t)) zero_add)
   where
     now : (until k : ℕ) → k ≡ max until time → k ≤ time → nat_le until time ≡ true
@@ -108,7 +116,8 @@ first-due ts time e es t a le at =
         by_place (inr h) = ap (is_due time) k ∙ later h
 
 -- the list says which task is released next
-pub due-sleeper : (ts : List Task) (time : ℕ) (asleep : List Entry) → AreSleeping ts time asleep → option_map (λ t. t.0) (first_where (is_now time) ts) ≡ due time asleep
+pub due-sleeper : (ts : List Task) (time : ℕ) (asleep : List Entry) → AreSleeping ts time asleep
+    → option_map (λ t. t.0) (first_where (is_now time) ts) ≡ due time asleep
 due-sleeper ts time [] a = ap (option_map (λ t. t.0)) (none-due ts time [] a time (omega arith) (λ e h. absurd (none-some e h)))
 due-sleeper ts time (e ∷ es) a = by_time (nat_le e.1 time) refl
   where
@@ -126,38 +135,54 @@ due-sleeper ts time (e ∷ es) a = by_time (nat_le e.1 time) refl
         first_later x k = let later : time < e.1 = more e.1 time h in subst (λ (z : Entry). time < z.1) (same_Some e x k) later
 
 -- a change of one task leaves the entries of others
-sleeps-other : (i : ℕ) (f : Task → Task) (ts : List Task) (time : ℕ) (e : Entry) → i ≢ e.0 → SleepsUntil ts time e → SleepsUntil (change i f ts) time e
+sleeps-other : (i : ℕ) (f : Task → Task) (ts : List Task) (time : ℕ) (e : Entry) → i ≢ e.0 → SleepsUntil ts time e
+    → SleepsUntil (change i f ts) time e
 sleeps-other i f ts time e d s = (s.0, s.1, get-other i e.0 f ts (λ k. d (sym k)) ∙ s.2, s.3, s.4)
 
-each-other : (i : ℕ) (f : Task → Task) (ts : List Task) (time : ℕ) (es : List Entry) → IsApart i es → Each (SleepsUntil ts time) es → Each (SleepsUntil (change i f ts) time) es
+each-other : (i : ℕ) (f : Task → Task) (ts : List Task) (time : ℕ) (es : List Entry) → IsApart i es → Each (SleepsUntil ts time) es
+    → Each (SleepsUntil (change i f ts) time) es
 each-other i f ts time es apart all =
-    each-map (λ e. (i ≢ e.0) × SleepsUntil ts time e) (SleepsUntil (change i f ts) time) es (λ e h. sleeps-other i f ts time e h.0 h.1) (each-both (λ e. i ≢ e.0) (SleepsUntil ts time) es apart all)
+    each-map (λ e. (i ≢ e.0) × SleepsUntil ts time e) (SleepsUntil (change i f ts) time) es (λ e h. sleeps-other i f ts time e h.0 h.1)
+    (each-both (λ e. i ≢ e.0) (SleepsUntil ts time) es apart all)
 
 -- a task that does not sleep is in no entry
-pub apart-awake : (ts : List Task) (time i : ℕ) (t : Task) (es : List Entry) → slice_get ts i ≡ Some t → ((until : ℕ) → t.readiness ≡ Asleep until → ⊥) → Each (SleepsUntil ts time) es → IsApart i es
+pub apart-awake : (ts : List Task) (time i : ℕ) (t : Task) (es : List Entry) → slice_get ts i ≡ Some t
+    → ((until : ℕ) → t.readiness ≡ Asleep until → ⊥) → Each (SleepsUntil ts time) es → IsApart i es
 apart-awake ts time i t [] at not all = tt
-apart-awake ts time i t (e ∷ es) at not all =
-    (λ same. not all.0.1 (ap (λ u. u.readiness) (same_Some t all.0.0 (sym at ∙ ap (slice_get ts) same ∙ all.0.2)) ∙ all.0.3), apart-awake ts time i t es at not all.1)
+apart-awake ts time i t (e ∷ es) at not all = (
+  λ same. not all.0.1 (ap (λ u. u.readiness) (same_Some t all.0.0 (sym at ∙ ap (slice_get ts) same ∙ all.0.2)) ∙
+      all.0.3),
+  apart-awake ts time i t es at not all.1,
+)
 
 -- a task goes to sleep
-pub sleeping-more : (ts : List Task) (time : ℕ) (asleep : List Entry) (i until : ℕ) (t : Task) (f : Task → Task) → AreSleeping ts time asleep → slice_get ts i ≡ Some t → ((k : ℕ) → t.readiness ≡ Asleep k → ⊥)
+pub sleeping-more : (ts : List Task) (time : ℕ) (asleep : List Entry) (i until : ℕ) (t : Task) (f : Task → Task) → AreSleeping ts time asleep
+    → slice_get ts i ≡ Some t → ((k : ℕ) → t.readiness ≡ Asleep k → ⊥)
     → (f t).readiness ≡ Asleep until → AreSleeping (change i f ts) time (in_time (i, max until time) asleep)
 sleeping-more ts time asleep i until t f a at not is =
     let apart : IsApart i asleep = apart-awake ts time i t asleep at not a.each in
     record {
-      each = each-put (SleepsUntil (change i f ts) time) (wakes_before (i, max until time)) (i, max until time) asleep (f t, until, get-changed i f ts t at, is, refl) (each-other i f ts time asleep apart a.each);
+      each = each-put (SleepsUntil (change i f ts) time) (wakes_before (i, max until time)) (i, max until time) asleep
+          (f t, until, get-changed i f ts t at, is, refl) (each-other i f ts time asleep apart a.each);
       all = λ j k u here sleeps'. by_place j k u here sleeps' (cases_eq j i);
       ordered = in_order-time (i, max until time) asleep apart a.ordered;
     }
   where
-    by_place : (j k : ℕ) (u : Task) → slice_get (change i f ts) j ≡ Some u → u.readiness ≡ Asleep k → (j ≡ i) ⊎ (j ≢ i) → IsIn j (in_time (i, max until time) asleep)
+    by_place : (j k : ℕ) (u : Task) → slice_get (change i f ts) j ≡ Some u → u.readiness ≡ Asleep k → (j ≡ i) ⊎ (j ≢ i)
+        → IsIn j (in_time (i, max until time) asleep)
     by_place j k u here sleeps' (inl same) = in-new j (wakes_before (i, max until time)) (i, max until time) asleep same
-    by_place j k u here sleeps' (inr d) = in-put j (wakes_before (i, max until time)) (i, max until time) asleep (a.all j k u (all-others i f ts j u here d) sleeps')
+    by_place j k u here sleeps' (inr d) = in-put j (wakes_before (i, max until time)) (i, max until time) asleep
+        (a.all j k u (all-others i f ts j u here d) sleeps')
 
 -- the first one wakes
-pub sleeping-fewer : (ts : List Task) (time : ℕ) (e : Entry) (es : List Entry) (f : Task → Task) → AreSleeping ts time (e ∷ es) → ((t : Task) (k : ℕ) → (f t).readiness ≡ Asleep k → ⊥) → AreSleeping (change e.0 f ts) time es
+pub sleeping-fewer : (ts : List Task) (time : ℕ) (e : Entry) (es : List Entry) (f : Task → Task) → AreSleeping ts time (e ∷ es)
+    → ((t : Task) (k : ℕ) → (f t).readiness ≡ Asleep k → ⊥) → AreSleeping (change e.0 f ts) time es
 sleeping-fewer ts time e es f a awake =
-    record { each = each-other e.0 f ts time es (apart es a.ordered.0 a.each.1) a.each.1; all = λ j k u here sleeps'. by_place j k u here sleeps' (cases_eq j e.0); ordered = a.ordered.1 }
+    record {
+      each = each-other e.0 f ts time es (apart es a.ordered.0 a.each.1) a.each.1;
+      all = λ j k u here sleeps'. by_place j k u here sleeps' (cases_eq j e.0);
+      ordered = a.ordered.1;
+    }
   where
     apart : (xs : List Entry) → Each (WakesBefore e) xs → Each (SleepsUntil ts time) xs → IsApart e.0 xs
     apart [] w s = tt
@@ -175,13 +200,17 @@ sleeping-fewer ts time e es f a awake =
 
     by_place : (j k : ℕ) (u : Task) → slice_get (change e.0 f ts) j ≡ Some u → u.readiness ≡ Asleep k → (j ≡ e.0) ⊎ (j ≢ e.0) → IsIn j es
     by_place j k u here sleeps' (inl same) =
-        absurd (awake a.each.0.0 k (ap (λ v. v.readiness) (same_Some (f a.each.0.0) u (sym (get-changed e.0 f ts a.each.0.0 a.each.0.2) ∙ ap (slice_get (change e.0 f ts)) (sym same) ∙ here)) ∙ sleeps'))
+        absurd (awake a.each.0.0 k (ap (λ v. v.readiness)
+        (same_Some (f a.each.0.0) u (sym (get-changed e.0 f ts a.each.0.0 a.each.0.2) ∙ ap (slice_get (change e.0 f ts)) (sym same) ∙ here))
+        ∙ sleeps'))
     by_place j k u here sleeps' (inr d) = in-rest j e es d (a.all j k u (all-others e.0 f ts j u here d) sleeps')
 
 -- time passes, up to the first time
-pub sleeping-later : (ts : List Task) (time later : ℕ) (asleep : List Entry) → AreSleeping ts time asleep → time ≤ later → Each (λ e. later ≤ e.1) asleep → AreSleeping ts later asleep
+pub sleeping-later : (ts : List Task) (time later : ℕ) (asleep : List Entry) → AreSleeping ts time asleep → time ≤ later
+    → Each (λ e. later ≤ e.1) asleep → AreSleeping ts later asleep
 sleeping-later ts time later asleep a le most = record {
-  each = each-map (λ e. SleepsUntil ts time e × (later ≤ e.1)) (SleepsUntil ts later) asleep (λ e h. (h.0.0, h.0.1, h.0.2, h.0.3, same e.1 h.0.1 h.0.4 h.1))
+  each = each-map (λ e. SleepsUntil ts time e × (later ≤ e.1)) (SleepsUntil ts later) asleep
+      (λ e h. (h.0.0, h.0.1, h.0.2, h.0.3, same e.1 h.0.1 h.0.4 h.1))
       (each-both (SleepsUntil ts time) (λ e. later ≤ e.1) asleep a.each most);
   all = a.all;
   ordered = a.ordered;
@@ -201,7 +230,8 @@ sleeping-later ts time later asleep a le most = record {
             lt_of p q x = grind (arith, nat_tests)
 
 -- a change of what sleeping does not read
-pub sleeping-kept : (ts : List Task) (time : ℕ) (asleep : List Entry) (i : ℕ) (f : Task → Task) → AreSleeping ts time asleep → ((t : Task) → (f t).readiness ≡ t.readiness) → AreSleeping (change i f ts) time asleep
+pub sleeping-kept : (ts : List Task) (time : ℕ) (asleep : List Entry) (i : ℕ) (f : Task → Task) → AreSleeping ts time asleep
+    → ((t : Task) → (f t).readiness ≡ t.readiness) → AreSleeping (change i f ts) time asleep
 sleeping-kept ts time asleep i f a same = record {
   each = each-map (SleepsUntil ts time) (SleepsUntil (change i f ts) time) asleep (λ e s. at e s (cases_eq i e.0)) a.each;
   all = all';
@@ -220,7 +250,8 @@ sleeping-kept ts time asleep i f a same = record {
         was v (inr e) = sym (same v) ∙ ap (λ w. w.readiness) (sym e) ∙ sleeps'
 
 -- a change of a task that sleeps neither before nor after it
-pub sleeping-awake : (ts : List Task) (time : ℕ) (asleep : List Entry) (i : ℕ) (t : Task) (f : Task → Task) → AreSleeping ts time asleep → slice_get ts i ≡ Some t → ((k : ℕ) → t.readiness ≡ Asleep k → ⊥)
+pub sleeping-awake : (ts : List Task) (time : ℕ) (asleep : List Entry) (i : ℕ) (t : Task) (f : Task → Task) → AreSleeping ts time asleep
+    → slice_get ts i ≡ Some t → ((k : ℕ) → t.readiness ≡ Asleep k → ⊥)
     → ((k : ℕ) → (f t).readiness ≡ Asleep k → ⊥) → AreSleeping (change i f ts) time asleep
 sleeping-awake ts time asleep i t f a at before after = record {
   each = each-other i f ts time asleep (apart-awake ts time i t asleep at before a.each) a.each;
@@ -230,5 +261,6 @@ sleeping-awake ts time asleep i t f a at before after = record {
   where
     by_place : (j k : ℕ) (u : Task) → slice_get (change i f ts) j ≡ Some u → u.readiness ≡ Asleep k → (j ≡ i) ⊎ (j ≢ i) → IsIn j asleep
     by_place j k u here sleeps' (inl same) =
-        absurd (after k (ap (λ v. v.readiness) (same_Some (f t) u (sym (get-changed i f ts t at) ∙ ap (slice_get (change i f ts)) (sym same) ∙ here)) ∙ sleeps'))
+        absurd (after k (ap (λ v. v.readiness) (same_Some (f t) u (sym (get-changed i f ts t at) ∙ ap (slice_get (change i f ts)) (sym same) ∙ here))
+        ∙ sleeps'))
     by_place j k u here sleeps' (inr d) = a.all j k u (all-others i f ts j u here d) sleeps'

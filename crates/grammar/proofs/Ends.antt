@@ -1,5 +1,6 @@
 -- The laws of readers whose ends depend on more than their last part: a choice, one after another, and a limit that is reached.
-use Rattle.std.proofs.Common.{◌≡◌, Bool, true, false, cond, List, [], ◌∷◌, ◌++◌, length, Option, None, Ok, Err, ◌⊎◌, inl, inr, refl, sym, ap, subst, ◌∙◌, append_assoc}
+use Rattle.std.proofs.Common.{◌≡◌, Bool, true, false, cond, List, [], ◌∷◌, ◌++◌, length, Option, None, Ok, Err, ◌⊎◌, inl, inr, refl, sym, ap}
+use Rattle.std.proofs.Common.{subst, ◌∙◌, append_assoc}
 use Rattle.grammar.specs.Reading.{Halt, TooDeep, left_of, Read, first, then_at, choose_at, deep_at, Stuck, Found, Reads, Joined}
 use Rattle.grammar.proofs.Laws.{bind_ok, bind_err, first-cut, test_cut}
 
@@ -13,9 +14,22 @@ module _ {T A : Type 0} (test : Option T → Bool) (G H : A → List T → Type 
   abbrev pub Either : A → List T → Type 0
   Either a text = G a text ⊎ H a text
 
-  branch-sound : (ts : List T) (a : A) (rest : List T) (b : Bool) → test (first ts) ≡ b → cond b (r ts) (s ts) ≡ Ok (a, rest) → Found Either Stops ts a rest
-  branch-sound ts a rest true t e = let f = one.sound ts a rest e in record { text = f.text; spelled = inl f.spelled; split = f.split; stops = stops_yes a f.text rest f.spelled (ap (λ us. test (first us)) (sym f.split) ∙ t) f.stops }
-  branch-sound ts a rest false t e = let f = two.sound ts a rest e in record { text = f.text; spelled = inr f.spelled; split = f.split; stops = stops_no a f.text rest f.spelled (ap (λ us. test (first us)) (sym f.split) ∙ t) f.stops }
+  branch-sound : (ts : List T) (a : A) (rest : List T) (b : Bool) → test (first ts) ≡ b → cond b (r ts) (s ts) ≡ Ok (a, rest)
+      → Found Either Stops ts a rest
+  branch-sound ts a rest true t e = let f = one.sound ts a rest e
+      in record {
+        text = f.text;
+        spelled = inl f.spelled;
+        split = f.split;
+        stops = stops_yes a f.text rest f.spelled (ap (λ us. test (first us)) (sym f.split) ∙ t) f.stops;
+      }
+  branch-sound ts a rest false t e = let f = two.sound ts a rest e
+      in record {
+        text = f.text;
+        spelled = inr f.spelled;
+        split = f.split;
+        stops = stops_no a f.text rest f.spelled (ap (λ us. test (first us)) (sym f.split) ∙ t) f.stops;
+      }
 
   branch-complete : (a : A) (text rest : List T) → Either a text → Stops a (first rest) → choose_at test r s (text ++ rest) ≡ Ok (a, rest)
   branch-complete a text rest e stop =
@@ -24,7 +38,8 @@ module _ {T A : Type 0} (test : Option T → Bool) (G H : A → List T → Type 
         | inr h ↦ let n = no a text rest h stop in rw n.0 (two.complete a text rest h n.1)
       ]
 
-  branch-fault : (ts : List T) (halt : Halt) (b : Bool) → test (first ts) ≡ b → cond b (r ts) (s ts) ≡ Err halt → Stuck Either (choose_at test r s) ts halt
+  branch-fault : (ts : List T) (halt : Halt) (b : Bool) → test (first ts) ≡ b → cond b (r ts) (s ts) ≡ Err halt
+      → Stuck Either (choose_at test r s) ts halt
   branch-fault ts halt true t e =
       let f = one.fault ts halt e in
       record {
@@ -65,14 +80,22 @@ module _ {T A : Type 0} (test : Option T → Bool) (H : A → List T → Type 0)
     (s : List T → Read T A) (two : Reads H StopsH s) (never : test None ≡ false)
     (no : (a : A) (text rest : List T) → H a text → Stops a (first rest) → (test (first (text ++ rest)) ≡ false) × StopsH a (first rest))
     (stops_no : (a : A) (text rest : List T) → H a text → test (first (text ++ rest)) ≡ false → StopsH a (first rest) → Stops a (first rest)) where
-  limit-sound : (ts : List T) (a : A) (rest : List T) (b : Bool) → test (first ts) ≡ b → cond b (deep_at ts) (s ts) ≡ Ok (a, rest) → Found H Stops ts a rest
+  limit-sound : (ts : List T) (a : A) (rest : List T) (b : Bool) → test (first ts) ≡ b → cond b (deep_at ts) (s ts) ≡ Ok (a, rest)
+      → Found H Stops ts a rest
   limit-sound ts a rest true t e = absurd (cc)
-  limit-sound ts a rest false t e = let f = two.sound ts a rest e in record { text = f.text; spelled = f.spelled; split = f.split; stops = stops_no a f.text rest f.spelled (ap (λ us. test (first us)) (sym f.split) ∙ t) f.stops }
+  limit-sound ts a rest false t e = let f = two.sound ts a rest e
+      in record {
+        text = f.text;
+        spelled = f.spelled;
+        split = f.split;
+        stops = stops_no a f.text rest f.spelled (ap (λ us. test (first us)) (sym f.split) ∙ t) f.stops;
+      }
 
   limit-complete : (a : A) (text rest : List T) → H a text → Stops a (first rest) → choose_at test deep_at s (text ++ rest) ≡ Ok (a, rest)
   limit-complete a text rest h stop = let n = no a text rest h stop in rw n.0 (two.complete a text rest h n.1)
 
-  limit-fault : (ts : List T) (halt : Halt) (b : Bool) → test (first ts) ≡ b → cond b (deep_at ts) (s ts) ≡ Err halt → Stuck H (choose_at test deep_at s) ts halt
+  limit-fault : (ts : List T) (halt : Halt) (b : Bool) → test (first ts) ≡ b → cond b (deep_at ts) (s ts) ≡ Err halt
+      → Stuck H (choose_at test deep_at s) ts halt
   limit-fault ts halt true t e =
       let same : TooDeep (length ts) ≡ halt = (let h : Err (TooDeep (length ts)) ≡ (let q : Read T A = Err halt in q) = e in cc) in
       record {
@@ -113,8 +136,10 @@ module _ {T A B : Type 0} (G : A → List T → Type 0) (H : A → B → List T 
     (StopsG : A → Option T → Type 0) (StopsH : A → B → Option T → Type 0) (Stops : B → Option T → Type 0)
     (r : List T → Read T A) (f : A → List T → Read T B)
     (one : Reads G StopsG r) (two : (a : A) → Reads (H a) (StopsH a) (f a))
-    (follow : (a : A) (b : B) (text back rest : List T) → G a text → H a b back → Stops b (first rest) → StopsG a (first (back ++ rest)) × StopsH a b (first rest))
-    (stops_both : (a : A) (b : B) (text back rest : List T) → G a text → H a b back → StopsG a (first (back ++ rest)) → StopsH a b (first rest) → Stops b (first rest)) where
+    (follow : (a : A) (b : B) (text back rest : List T) → G a text → H a b back → Stops b (first rest)
+    → StopsG a (first (back ++ rest)) × StopsH a b (first rest))
+    (stops_both : (a : A) (b : B) (text back rest : List T) → G a text → H a b back → StopsG a (first (back ++ rest)) → StopsH a b (first rest)
+    → Stops b (first rest)) where
   joint-sound : (ts : List T) (b : B) (rest : List T) → then_at r f ts ≡ Ok (b, rest) → Found (Joined G H) Stops ts b rest
   joint-sound ts b rest e =
       let both = bind_ok (r ts) (λ x. f x.0 x.1) (b, rest) e in
@@ -147,7 +172,14 @@ module _ {T A B : Type 0} (G : A → List T → Type 0) (H : A → B → List T 
               place = s.place;
               last = next.some;
               tail = s.tail ++ next.some_text;
-              viable = record { a = s.last; front = s.front ++ s.tail; back = next.some_text; before = s.viable; after = next.some_spelled; whole = sym (append_assoc s.front s.tail next.some_text) };
+              viable = record {
+                a = s.last;
+                front = s.front ++ s.tail;
+                back = next.some_text;
+                before = s.viable;
+                after = next.some_spelled;
+                whole = sym (append_assoc s.front s.tail next.some_text);
+              };
               dead = λ t more after at. rw (s.dead t more after at) refl;
             }
         | inr q ↦
@@ -160,7 +192,14 @@ module _ {T A B : Type 0} (G : A → List T → Type 0) (H : A → B → List T 
               place = s.place;
               last = s.last;
               tail = s.tail;
-              viable = record { a = q.x.0; front = g.text; back = s.front ++ s.tail; before = g.spelled; after = s.viable; whole = append_assoc g.text s.front s.tail };
+              viable = record {
+                a = q.x.0;
+                front = g.text;
+                back = s.front ++ s.tail;
+                before = g.spelled;
+                after = s.viable;
+                whole = append_assoc g.text s.front s.tail;
+              };
               dead = λ t more after at.
                   let here : StopsG q.x.0 (first (s.front ++ t ∷ after)) =
                   let P : Option T → Type 0 = λ o. StopsG q.x.0 o in
@@ -176,5 +215,12 @@ module _ {T A B : Type 0} (G : A → List T → Type 0) (H : A → B → List T 
     fault = joint-fault;
     some = (two one.some).some;
     some_text = one.some_text ++ (two one.some).some_text;
-    some_spelled = record { a = one.some; front = one.some_text; back = (two one.some).some_text; before = one.some_spelled; after = (two one.some).some_spelled; whole = refl };
+    some_spelled = record {
+      a = one.some;
+      front = one.some_text;
+      back = (two one.some).some_text;
+      before = one.some_spelled;
+      after = (two one.some).some_spelled;
+      whole = refl;
+    };
   }

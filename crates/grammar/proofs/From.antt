@@ -1,5 +1,6 @@
 -- The law of lists whose items depend on those before them.
-use Rattle.std.proofs.Common.{◌≡◌, ℕ, zero, suc, ◌<◌, ◌≤◌, Bool, true, false, cond, List, [], ◌∷◌, ◌++◌, length, Option, None, Ok, Err, inl, inr, refl, sym, ap, subst, ◌∙◌, arith, append_assoc, length-append}
+use Rattle.std.proofs.Common.{◌≡◌, ℕ, zero, suc, ◌<◌, ◌≤◌, Bool, true, false, cond, List, [], ◌∷◌, ◌++◌, length, Option, None, Ok, Err, inl, inr}
+use Rattle.std.proofs.Common.{refl, sym, ap, subst, ◌∙◌, arith, append_assoc, length-append}
 use Rattle.std.specs.Prelude.{⊤}
 use Rattle.grammar.specs.Reading.{Halt, left_of, with_left, Read, first, ◌>>=◌, from_at, all_from, AreFrom, Found, Reads}
 use Rattle.grammar.proofs.Laws.{ok_parts, bind_ok, bind_err, test_cut}
@@ -37,14 +38,17 @@ module _ {S T A : Type 0} (test : S → Option T → Bool) (next : S → A → S
 
   -- what a repetition with enough turns finds
   abbrev pub Finds : ℕ → Type 0
-  Finds n = (s : S) (ts : List T) (xs : List A) (rest : List T) → length ts < n → from_at test next r n s ts ≡ Ok (xs, rest) → Found (AreFrom test next G s) (Stops s) ts xs rest
+  Finds n = (s : S) (ts : List T) (xs : List A) (rest : List T) → length ts < n → from_at test next r n s ts ≡ Ok (xs, rest)
+      → Found (AreFrom test next G s) (Stops s) ts xs rest
 
-  gap_after : (x : A) (xs : List A) (text rest ts : List T) (s : S) → AreFrom test next G s xs text → ts ≡ text ++ rest → Gap x (first ts) → Last Gap xs (first rest) → Last Gap (x ∷ xs) (first rest)
+  gap_after : (x : A) (xs : List A) (text rest ts : List T) (s : S) → AreFrom test next G s xs text → ts ≡ text ++ rest → Gap x (first ts)
+      → Last Gap xs (first rest) → Last Gap (x ∷ xs) (first rest)
   gap_after x [] text rest ts s g split gap last = let same : ts ≡ rest = split ∙ ap (λ us. us ++ rest) g.0 in rw (← same) gap
   gap_after x (y ∷ ys) text rest ts s g split gap last = last
 
   sound_step : (n : ℕ) → Finds n → (s : S) (ts : List T) (xs : List A) (rest : List T) → length ts < suc n → (b : Bool) → test s (first ts) ≡ b →
-      cond b (r s ts >>= λ x. from_at test next r n (next s x.0) x.1 >>= λ y. Ok (x.0 ∷ y.0, y.1)) (Ok ([], ts)) ≡ Ok (xs, rest) → Found (AreFrom test next G s) (Stops s) ts xs rest
+      cond b (r s ts >>= λ x. from_at test next r n (next s x.0) x.1 >>= λ y. Ok (x.0 ∷ y.0, y.1)) (Ok ([], ts)) ≡ Ok (xs, rest)
+      → Found (AreFrom test next G s) (Stops s) ts xs rest
   sound_step n more s ts xs rest h true t e =
       let x = bind_ok (r s ts) (λ x. from_at test next r n (next s x.0) x.1 >>= λ y. Ok (x.0 ∷ y.0, y.1)) (xs, rest) e in
       let f = (one s).sound ts x.x.0 x.x.1 x.one in
@@ -53,7 +57,14 @@ module _ {S T A : Type 0} (test : S → Option T → Bool) (next : S → A → S
       let g = more (next s x.x.0) x.x.1 y.x.0 y.x.1 shorter y.one in
       let p = ok_parts y.two in
       let Q : List A → Type 0 = λ bs. AreFrom test next G s bs (f.text ++ g.text) × Stops s bs (first y.x.1) in
-      let q : Q xs = subst Q p.0 ((f.text, g.text, f.spelled, g.spelled, refl), (g.stops.0, gap_after x.x.0 y.x.0 g.text y.x.1 x.x.1 (next s x.x.0) g.spelled g.split f.stops g.stops.1)) in
+      let q : Q xs = subst Q p.0 (
+        (f.text, g.text, f.spelled, g.spelled, refl),
+        (
+          g.stops.0,
+          gap_after x.x.0 y.x.0 g.text y.x.1 x.x.1 (next s
+              x.x.0) g.spelled g.split f.stops g.stops.1,
+        ),
+      ) in
       record {
         text = f.text ++ g.text;
         spelled = q.0;
@@ -70,7 +81,8 @@ module _ {S T A : Type 0} (test : S → Option T → Bool) (next : S → A → S
   from-sound zero s ts xs rest h e = absurd (omega arith)
   from-sound (suc n) s ts xs rest h e = sound_step n (from-sound n) s ts xs rest h (test s (first ts)) refl e
 
-  gap_before : (x : A) (xs : List A) (text rest : List T) (s : S) → AreFrom test next G s xs text → Last Gap (x ∷ xs) (first rest) → Gap x (first (text ++ rest))
+  gap_before : (x : A) (xs : List A) (text rest : List T) (s : S) → AreFrom test next G s xs text → Last Gap (x ∷ xs) (first rest)
+      → Gap x (first (text ++ rest))
   gap_before x [] text rest s g last = rw g.0 last
   gap_before x (y ∷ ys) text rest s g last = rw (g.4, append_assoc) (apart x s (first (g.0 ++ (g.1 ++ rest))) (starts s y g.0 (g.1 ++ rest) g.2))
 
@@ -78,14 +90,21 @@ module _ {S T A : Type 0} (test : S → Option T → Bool) (next : S → A → S
   last_rest x [] o last = tt
   last_rest x (y ∷ ys) o last = last
 
-  from-complete : (xs : List A) (n : ℕ) (s : S) (text rest : List T) → length (text ++ rest) < n → AreFrom test next G s xs text → Stops s xs (first rest) → from_at test next r n s (text ++ rest) ≡ Ok (xs, rest)
+  from-complete : (xs : List A) (n : ℕ) (s : S) (text rest : List T) → length (text ++ rest) < n → AreFrom test next G s xs text
+      → Stops s xs (first rest) → from_at test next r n s (text ++ rest) ≡ Ok (xs, rest)
   from-complete xs zero s text rest h g stop = absurd (omega arith)
   from-complete [] (suc n) s text rest h g stop = rw (g.0, stop.0) refl
   from-complete (x ∷ xs) (suc n) s text rest h g stop =
       let whole : text ++ rest ≡ g.0 ++ (g.1 ++ rest) = ap (λ us. us ++ rest) g.4 ∙ append_assoc g.0 g.1 rest in
       let shorter : length (g.1 ++ rest) < n = omega (arith, ap length whole, length-append g.0 (g.1 ++ rest), grows s x g.0 g.2) in
       let after : Stops (next s x) xs (first rest) = (stop.0, last_rest x xs (first rest) stop.1) in
-      rw (whole, starts s x g.0 (g.1 ++ rest) g.2, (one s).complete x g.0 (g.1 ++ rest) g.2 (gap_before x xs g.1 rest (next s x) g.3 stop.1), from-complete xs n (next s x) g.1 rest shorter g.3 after) refl
+      rw (
+        whole,
+        starts s x g.0 (g.1 ++ rest) g.2,
+        (one s).complete x g.0 (g.1 ++ rest) g.2 (gap_before x xs g.1 rest
+            (next s x) g.3 stop.1),
+        from-complete xs n (next s x) g.1 rest shorter g.3 after,
+      ) refl
 
   -- where a repetition stops, for any number of turns that is enough
   pub record Halts (s : S) (ts : List T) (halt : Halt) : Type 0 where
@@ -96,23 +115,29 @@ module _ {S T A : Type 0} (test : S → Option T → Bool) (next : S → A → S
     pub last : List A
     pub tail : List T
     pub viable : AreFrom test next G s last (front ++ tail)
-    pub dead : (n : ℕ) (t : T) (more after : List T) → length (front ++ t ∷ after) < n → back ≡ t ∷ more → from_at test next r n s (front ++ t ∷ after) ≡ Err (with_left halt (suc (length after)))
+    pub dead : (n : ℕ) (t : T) (more after : List T) → length (front ++ t ∷ after) < n → back ≡ t ∷ more
+        → from_at test next r n s (front ++ t ∷ after) ≡ Err (with_left halt (suc (length after)))
 
   abbrev pub HaltsFrom : ℕ → Type 0
   HaltsFrom n = (s : S) (ts : List T) (halt : Halt) → length ts < n → from_at test next r n s ts ≡ Err halt → Halts s ts halt
 
-  dead_first : (s : S) (us : List T) (p : Halt) → test s (first us) ≡ true → r s us ≡ Err p → (n : ℕ) → length us < n → from_at test next r n s us ≡ Err p
+  dead_first : (s : S) (us : List T) (p : Halt) → test s (first us) ≡ true → r s us ≡ Err p → (n : ℕ) → length us < n
+      → from_at test next r n s us ≡ Err p
   dead_first s us p t fails zero h = absurd (omega arith)
   dead_first s us p t fails (suc n) h = rw (t, fails) refl
 
-  dead_next : (s : S) (x : A) (text us : List T) (p : Halt) → G s x text → Gap x (first us) → ((n : ℕ) → length us < n → from_at test next r n (next s x) us ≡ Err p) → (n : ℕ) → length (text ++ us) < n → from_at test next r n s (text ++ us) ≡ Err p
+  dead_next : (s : S) (x : A) (text us : List T) (p : Halt) → G s x text → Gap x (first us)
+      → ((n : ℕ) → length us < n → from_at test next r n (next s x) us ≡ Err p) → (n : ℕ) → length (text ++ us) < n
+      → from_at test next r n s (text ++ us) ≡ Err p
   dead_next s x text us p g gap fails zero h = absurd (omega arith)
   dead_next s x text us p g gap fails (suc n) h =
       let shorter : length us < n = omega (arith, length-append text us, grows s x text g) in
       rw (starts s x text us g, (one s).complete x text us g gap, fails n shorter) refl
 
-  gap_cut : (x : A) (ts front back : List T) (t : T) (more after : List T) → ts ≡ front ++ back → back ≡ t ∷ more → Gap x (first ts) → Gap x (first (front ++ t ∷ after))
-  gap_cut x ts [] back t more after split at gap = let same : ts ≡ t ∷ more = split ∙ at in let P : Option T → Type 0 = Gap x in subst P (ap first same) gap
+  gap_cut : (x : A) (ts front back : List T) (t : T) (more after : List T) → ts ≡ front ++ back → back ≡ t ∷ more → Gap x (first ts)
+      → Gap x (first (front ++ t ∷ after))
+  gap_cut x ts [] back t more after split at gap = let same : ts ≡ t ∷ more = split ∙ at in let P : Option T → Type 0 = Gap x
+      in subst P (ap first same) gap
   gap_cut x ts (u ∷ us) back t more after split at gap = let P : Option T → Type 0 = Gap x in subst P (ap first split) gap
 
   fault_step : (n : ℕ) → HaltsFrom n → (s : S) (ts : List T) (halt : Halt) → length ts < suc n → (b : Bool) → test s (first ts) ≡ b →
@@ -132,7 +157,8 @@ module _ {S T A : Type 0} (test : S → Option T → Bool) (next : S → A → S
               tail = f.tail ++ c.text;
               viable = (f.front ++ f.tail, c.text, f.viable, c.spelled, sym (append_assoc f.front f.tail c.text));
               dead = λ m u others after long at.
-                  dead_first s (f.front ++ u ∷ after) (with_left halt (suc (length after))) (test_cut (test s) ts f.front f.back u others after f.split at ∙ t) (f.dead u others after at) m long;
+                  dead_first s (f.front ++ u ∷ after) (with_left halt (suc (length after))) (test_cut
+                  (test s) ts f.front f.back u others after f.split at ∙ t) (f.dead u others after at) m long;
             }
         | inr q ↦
             let f = (one s).sound ts q.x.0 q.x.1 q.one in
@@ -182,11 +208,18 @@ module _ {S T A : Type 0} (test : S → Option T → Bool) (next : S → A → S
   }
 
   -- enough turns are as good as more
-  same_step : (n m : ℕ) → ((s : S) (us : List T) → length us < n → length us < m → from_at test next r n s us ≡ from_at test next r m s us) → (s : S) (ts : List T) → length ts < suc n → length ts < suc m → (q : Read T A) → r s ts ≡ q →
-      (q >>= λ x. from_at test next r n (next s x.0) x.1 >>= λ y. Ok (x.0 ∷ y.0, y.1)) ≡ (q >>= λ x. from_at test next r m (next s x.0) x.1 >>= λ y. Ok (x.0 ∷ y.0, y.1))
+  same_step : (n m : ℕ) → ((s : S) (us : List T) → length us < n → length us < m → from_at test next r n s us ≡ from_at test next r m s us)
+      → (s : S) (ts : List T) → length ts < suc n → length ts < suc m → (q : Read T A) → r s ts ≡ q →
+      (q >>= λ x. from_at test next r n (next s x.0) x.1 >>= λ y. Ok (x.0 ∷ y.0, y.1))
+      ≡ (q >>= λ x. from_at test next r m (next s x.0) x.1 >>= λ y. Ok (x.0 ∷ y.0, y.1))
   same_step n m more s ts h k (Ok x) e =
       let f = (one s).sound ts x.0 x.1 e in
-      let shorter : (length x.1 < n) × (length x.1 < m) = (omega (arith, ap length f.split, length-append f.text x.1, grows s x.0 f.text f.spelled), omega (arith, ap length f.split, length-append f.text x.1, grows s x.0 f.text f.spelled)) in
+      let shorter : (length x.1 < n) × (length x.1 < m)
+      = (
+        omega (arith, ap length f.split, length-append f.text x.1, grows s x.0 f.text f.spelled),
+        omega
+            (arith, ap length f.split, length-append f.text x.1, grows s x.0 f.text f.spelled),
+      ) in
       rw (more (next s x.0) x.1 shorter.0 shorter.1) refl
   same_step n m more s ts h k (Err halt) e = refl
 

@@ -1,6 +1,8 @@
 -- The laws of the readers, one form after another.
-use Rattle.std.proofs.Common.{◌≡◌, suc, Bool, true, false, cond, List, [], ◌∷◌, ◌++◌, length, Option, Some, None, Ok, Err, ◌⊎◌, inl, inr, refl, sym, ap, subst, ◌∙◌, append_assoc}
-use Rattle.grammar.specs.Reading.{Halt, Syntax, left_of, with_left, Read, first, ◌>>=◌, then_at, pure_at, choose_at, token_at, taken, Stuck, Found, Reads, Joined}
+use Rattle.std.proofs.Common.{◌≡◌, suc, Bool, true, false, cond, List, [], ◌∷◌, ◌++◌, length, Option, Some, None, Ok, Err, ◌⊎◌, inl, inr, refl}
+use Rattle.std.proofs.Common.{sym, ap, subst, ◌∙◌, append_assoc}
+use Rattle.grammar.specs.Reading.{Halt, Syntax, left_of, with_left, Read, first, ◌>>=◌, then_at, pure_at, choose_at, token_at, taken, Stuck}
+use Rattle.grammar.specs.Reading.{Found, Reads, Joined}
 
 -- the parts of a run of two readers
 pub record Both {T A B : Type 0} (r : Read T A) (f : A × List T → Read T B) (y : B × List T) : Type 0 where
@@ -62,7 +64,14 @@ module _ {T A B : Type 0} (G : A → List T → Type 0) (H : A → B → List T 
               place = s.place;
               last = next.some;
               tail = s.tail ++ next.some_text;
-              viable = record { a = s.last; front = s.front ++ s.tail; back = next.some_text; before = s.viable; after = next.some_spelled; whole = sym (append_assoc s.front s.tail next.some_text) };
+              viable = record {
+                a = s.last;
+                front = s.front ++ s.tail;
+                back = next.some_text;
+                before = s.viable;
+                after = next.some_spelled;
+                whole = sym (append_assoc s.front s.tail next.some_text);
+              };
               dead = λ t more after at. rw (s.dead t more after at) refl;
             }
         | inr q ↦
@@ -75,7 +84,14 @@ module _ {T A B : Type 0} (G : A → List T → Type 0) (H : A → B → List T 
               place = s.place;
               last = s.last;
               tail = s.tail;
-              viable = record { a = q.x.0; front = g.text; back = s.front ++ s.tail; before = g.spelled; after = s.viable; whole = append_assoc g.text s.front s.tail };
+              viable = record {
+                a = q.x.0;
+                front = g.text;
+                back = s.front ++ s.tail;
+                before = g.spelled;
+                after = s.viable;
+                whole = append_assoc g.text s.front s.tail;
+              };
               dead = λ t more after at.
                   let here : StopsG q.x.0 (first (s.front ++ t ∷ after)) =
                   let P : Option T → Type 0 = λ o. StopsG q.x.0 o in
@@ -91,7 +107,14 @@ module _ {T A B : Type 0} (G : A → List T → Type 0) (H : A → B → List T 
     fault = fault;
     some = (two one.some).some;
     some_text = one.some_text ++ (two one.some).some_text;
-    some_spelled = record { a = one.some; front = one.some_text; back = (two one.some).some_text; before = one.some_spelled; after = (two one.some).some_spelled; whole = refl };
+    some_spelled = record {
+      a = one.some;
+      front = one.some_text;
+      back = (two one.some).some_text;
+      before = one.some_spelled;
+      after = (two one.some).some_spelled;
+      whole = refl;
+    };
   }
 
 -- what two equal results have in common; cc takes no pair apart
@@ -102,7 +125,8 @@ ok_parts {T} {A} {a} {b} {us} {vs} e = let pair : (a, us) ≡ (b, vs) = cc in (a
 abbrev pub IsOnly : {T A : Type 0} → A → A → List T → Type 0
 IsOnly only a text = (a ≡ only) × (text ≡ [])
 
-pub reads-pure : {T A : Type 0} (Stops : A → Option T → Type 0) (only : A) → ((o : Option T) → Stops only o) → Reads (IsOnly {T = T} only) Stops (pure_at only)
+pub reads-pure : {T A : Type 0} (Stops : A → Option T → Type 0) (only : A) → ((o : Option T) → Stops only o)
+    → Reads (IsOnly {T = T} only) Stops (pure_at only)
 reads-pure {T} {A} Stops only any = record {
   sound = λ ts a rest e.
       let same : only ≡ a = (ok_parts e).0 in
@@ -127,7 +151,8 @@ pub record Took {T A : Type 0} (sees : T → Option A) (ts : List T) (a : A) (re
   pub seen : sees token ≡ Some a
   pub whole : ts ≡ token ∷ rest
 
-took_of : {T A : Type 0} (sees : T → Option A) (t : T) (us : List T) (o : Option A) (a : A) (rest : List T) → sees t ≡ o → taken o us ≡ Ok (a, rest) → Took sees (t ∷ us) a rest
+took_of : {T A : Type 0} (sees : T → Option A) (t : T) (us : List T) (o : Option A) (a : A) (rest : List T) → sees t ≡ o → taken o us ≡ Ok (a, rest)
+    → Took sees (t ∷ us) a rest
 took_of sees t us None a rest e h = absurd (cc)
 took_of sees t us (Some b) a rest e h = record { token = t; seen = e ∙ ap Some (ok_parts h).0; whole = ap (λ vs. t ∷ vs) (ok_parts h).1 }
 
@@ -135,13 +160,20 @@ took : {T A : Type 0} (sees : T → Option A) (ts : List T) (a : A) (rest : List
 took sees [] a rest e = absurd (cc)
 took sees (t ∷ us) a rest e = took_of sees t us (sees t) a rest refl e
 
-none_of : {T A : Type 0} (sees : T → Option A) (t : T) (us : List T) (o : Option A) (left : Halt) → sees t ≡ o → taken o us ≡ Err left → (sees t ≡ None) × (Syntax (suc (length us)) ≡ left)
+none_of : {T A : Type 0} (sees : T → Option A) (t : T) (us : List T) (o : Option A) (left : Halt) → sees t ≡ o → taken o us ≡ Err left
+    → (sees t ≡ None) × (Syntax (suc (length us)) ≡ left)
 none_of sees t us None left e h = (e, cc)
 none_of sees t us (Some b) left e h = absurd (cc)
 
-pub reads-token : {T A : Type 0} (sees : T → Option A) (some : A) (spelling : T) → sees spelling ≡ Some some → Reads (IsToken sees) (λ a o. Unit {0}) (token_at sees)
+pub reads-token : {T A : Type 0} (sees : T → Option A) (some : A) (spelling : T) → sees spelling ≡ Some some
+    → Reads (IsToken sees) (λ a o. Unit {0}) (token_at sees)
 reads-token {T} {A} sees some spelling seen = record {
-  sound = λ ts a rest e. let t = took sees ts a rest e in record { text = t.token ∷ []; spelled = record { token = t.token; seen = t.seen; whole = refl }; split = t.whole; stops = tt };
+  sound = λ ts a rest e. let t = took sees ts a rest e in record {
+    text = t.token ∷ [];
+    spelled = record { token = t.token; seen = t.seen; whole = refl };
+    split = t.whole;
+    stops = tt;
+  };
   complete = λ a text rest g stop. rw (g.whole, g.seen) refl;
   fault = stuck;
   some = some;
@@ -149,7 +181,16 @@ reads-token {T} {A} sees some spelling seen = record {
   some_spelled = record { token = spelling; seen = seen; whole = refl };
 } where
   stuck : (ts : List T) (left : Halt) → token_at sees ts ≡ Err left → Stuck (IsToken sees) (token_at sees) ts left
-  stuck [] left e = record { front = []; back = []; split = refl; place = cc; last = some; tail = spelling ∷ []; viable = record { token = spelling; seen = seen; whole = refl }; dead = λ t more after at. absurd (cc) }
+  stuck [] left e = record {
+    front = [];
+    back = [];
+    split = refl;
+    place = cc;
+    last = some;
+    tail = spelling ∷ [];
+    viable = record { token = spelling; seen = seen; whole = refl };
+    dead = λ t more after at. absurd (cc);
+  }
   stuck (u ∷ us) left e =
       let h = none_of sees u us (sees u) left refl e in
       record {
@@ -160,12 +201,15 @@ reads-token {T} {A} sees some spelling seen = record {
         last = some;
         tail = spelling ∷ [];
         viable = record { token = spelling; seen = seen; whole = refl };
-        dead = λ t more after at. let same : u ≡ t = cc in let no : sees t ≡ None = ap sees (sym same) ∙ h.0 in rw no (ap Err (ap (λ g. with_left g (suc (length after))) h.1));
+        dead = λ t more after at. let same : u ≡ t = cc in let no : sees t ≡ None = ap sees (sym same) ∙ h.0
+            in rw no (ap Err (ap (λ g. with_left g (suc (length after))) h.1));
       }
 
 -- ONE OF TWO, by the next token
-pub test_cut : {T : Type 0} (test : Option T → Bool) (ts front back : List T) (t : T) (more after : List T) → ts ≡ front ++ back → back ≡ t ∷ more → test (first (front ++ t ∷ after)) ≡ test (first ts)
-test_cut test ts front back t more after split at = sym (ap (λ us. test (first us)) split ∙ ap (λ us. test (first (front ++ us))) at ∙ ap test (first-cut front t more after))
+pub test_cut : {T : Type 0} (test : Option T → Bool) (ts front back : List T) (t : T) (more after : List T) → ts ≡ front ++ back → back ≡ t ∷ more
+    → test (first (front ++ t ∷ after)) ≡ test (first ts)
+test_cut test ts front back t more after split at
+    = sym (ap (λ us. test (first us)) split ∙ ap (λ us. test (first (front ++ us))) at ∙ ap test (first-cut front t more after))
 
 module _ {T A : Type 0} (test : Option T → Bool) (G H : A → List T → Type 0) (Stops : A → Option T → Type 0)
     (r s : List T → Read T A) (one : Reads G Stops r) (two : Reads H Stops s)
@@ -176,13 +220,19 @@ module _ {T A : Type 0} (test : Option T → Bool) (G H : A → List T → Type 
 
   choose-sound : (ts : List T) (a : A) (rest : List T) (b : Bool) → cond b (r ts) (s ts) ≡ Ok (a, rest) → Found Either Stops ts a rest
   choose-sound ts a rest true e = let f = one.sound ts a rest e in record { text = f.text; spelled = inl f.spelled; split = f.split; stops = f.stops }
-  choose-sound ts a rest false e = let f = two.sound ts a rest e in record { text = f.text; spelled = inr f.spelled; split = f.split; stops = f.stops }
+  choose-sound ts a rest false e = let f = two.sound ts a rest e
+      in record { text = f.text; spelled = inr f.spelled; split = f.split; stops = f.stops }
 
   choose-complete : (a : A) (text rest : List T) → Either a text → Stops a (first rest) → choose_at test r s (text ++ rest) ≡ Ok (a, rest)
   choose-complete a text rest e stop =
-      elim e [ inl g ↦ rw (yes a text rest g stop) (one.complete a text rest g stop) | inr h ↦ rw (no a text rest h stop) (two.complete a text rest h stop) ]
+      elim e [
+        | inl g ↦ rw (yes a text rest g stop) (one.complete a text rest g stop)
+        | inr h ↦ rw (no a text rest h stop)
+            (two.complete a text rest h stop)
+      ]
 
-  choose-fault : (ts : List T) (left : Halt) (b : Bool) → test (first ts) ≡ b → cond b (r ts) (s ts) ≡ Err left → Stuck Either (choose_at test r s) ts left
+  choose-fault : (ts : List T) (left : Halt) (b : Bool) → test (first ts) ≡ b → cond b (r ts) (s ts) ≡ Err left
+      → Stuck Either (choose_at test r s) ts left
   choose-fault ts left true t e =
       let f = one.fault ts left e in
       record {
@@ -224,7 +274,16 @@ pub reads-same : {T A : Type 0} (G H : A → List T → Type 0) (Stops : A → O
 reads-same G H Stops r to back one = record {
   sound = λ ts a rest e. let f = one.sound ts a rest e in record { text = f.text; spelled = to a f.text f.spelled; split = f.split; stops = f.stops };
   complete = λ a text rest h stop. one.complete a text rest (back a text h) stop;
-  fault = λ ts left e. let f = one.fault ts left e in record { front = f.front; back = f.back; split = f.split; place = f.place; last = f.last; tail = f.tail; viable = to f.last (f.front ++ f.tail) f.viable; dead = f.dead };
+  fault = λ ts left e. let f = one.fault ts left e in record {
+    front = f.front;
+    back = f.back;
+    split = f.split;
+    place = f.place;
+    last = f.last;
+    tail = f.tail;
+    viable = to f.last (f.front ++ f.tail) f.viable;
+    dead = f.dead;
+  };
   some = one.some;
   some_text = one.some_text;
   some_spelled = to one.some one.some_text one.some_spelled;
@@ -276,4 +335,11 @@ module _ {T A B : Type 0} (G : A → List T → Type 0) (H : B → List T → Ty
       ]
 
   pub reads-map : Reads H StopsH (then_at r (λ a. pure_at (f a)))
-  reads-map = record { sound = map_sound; complete = map_complete; fault = map_fault; some = f one.some; some_text = one.some_text; some_spelled = to one.some one.some_text one.some_spelled }
+  reads-map = record {
+    sound = map_sound;
+    complete = map_complete;
+    fault = map_fault;
+    some = f one.some;
+    some_text = one.some_text;
+    some_spelled = to one.some one.some_text one.some_spelled;
+  }

@@ -28,12 +28,15 @@ module _ {T A : Type 0} (test : Option T → Bool) (G : A → List T → Type 0)
       (λ s. record { items = []; text = []; spelled = (refl, ends) }) tt)
 
   -- the repetition as an equation
-  pub many-turn : (ts : List T) (x : A) (rest : List T) → test (first ts) ≡ true → r ts ≡ Ok (x, rest) → many_at test r ts ≡ (many_at test r rest >>= λ y. Ok (x ∷ y.0, y.1))
-  many-turn = from-turn (λ (s : Unit {0}). test) (λ s a. s) (λ s. G) Gap (λ s. r) (λ s. one) (λ s. starts) (λ s. grows) (λ a s. apart a) (λ s o h. ends)
+  pub many-turn : (ts : List T) (x : A) (rest : List T) → test (first ts) ≡ true → r ts ≡ Ok (x, rest)
+      → many_at test r ts ≡ (many_at test r rest >>= λ y. Ok (x ∷ y.0, y.1))
+  many-turn = from-turn (λ (s : Unit {0}). test) (λ s a. s) (λ s. G) Gap (λ s. r) (λ s. one) (λ s. starts) (λ s. grows) (λ a s. apart a)
+      (λ s o h. ends)
       (λ s. record { items = []; text = []; spelled = (refl, ends) }) tt
 
   pub many-fails : (ts : List T) (halt : Halt) → test (first ts) ≡ true → r ts ≡ Err halt → many_at test r ts ≡ Err halt
-  many-fails = from-fails (λ (s : Unit {0}). test) (λ s a. s) (λ s. G) Gap (λ s. r) (λ s. one) (λ s. starts) (λ s. grows) (λ a s. apart a) (λ s o h. ends)
+  many-fails = from-fails (λ (s : Unit {0}). test) (λ s a. s) (λ s. G) Gap (λ s. r) (λ s. one) (λ s. starts) (λ s. grows) (λ a s. apart a)
+      (λ s o h. ends)
       (λ s. record { items = []; text = []; spelled = (refl, ends) }) tt
 
   pub many-ends : (ts : List T) → test (first ts) ≡ false → many_at test r ts ≡ Ok ([], ts)
@@ -46,7 +49,8 @@ last_free (x ∷ []) o = tt
 last_free (x ∷ (y ∷ ys)) o = last_free (y ∷ ys) o
 
 pub reads-items : {T A : Type 0} (test : Option T → Bool) (G : A → List T → Type 0) (r : List T → Read T A) → Reads G (λ a o. Unit {0}) r →
-    ((a : A) (text rest : List T) → G a text → test (first (text ++ rest)) ≡ true) → ((a : A) (text : List T) → G a text → 0 < length text) → test None ≡ false →
+    ((a : A) (text rest : List T) → G a text → test (first (text ++ rest)) ≡ true) → ((a : A) (text : List T) → G a text → 0 < length text)
+    → test None ≡ false →
     Reads (AreMany G) (λ xs o. test o ≡ false) (many_at test r)
 reads-items test G r one starts grows ends =
     let m = reads-many test G (λ a o. Unit {0}) r one starts grows (λ a o t. tt) ends in

@@ -3,13 +3,15 @@ use Rattle.std.proofs.Common.{◌≡◌, suc, List, [], ◌∷◌, ◌++◌, len
 use Rattle.grammar.specs.Reading.{Halt, Syntax, left_of, Read, first, Reads, Found, IsFirstFault, all_taken, all_of, whole_at}
 use Rattle.grammar.proofs.Laws.{ok_parts}
 
-module _ {T A : Type 0} (G : A → List T → Type 0) (Stops : A → Option T → Type 0) (r : List T → Read T A) (one : Reads G Stops r) (ends : (a : A) → Stops a None) where
+module _ {T A : Type 0} (G : A → List T → Type 0) (Stops : A → Option T → Type 0) (r : List T → Read T A) (one : Reads G Stops r) (ends : (a : A)
+    → Stops a None) where
   taken_ok : (a b : A) (ts : List T) → all_taken a ts ≡ Ok b → (a ≡ b) × (ts ≡ [])
   taken_ok a b [] e = (let h : Ok a ≡ Ok b = e in cc, refl)
   taken_ok a b (t ∷ ts) e = absurd (cc)
 
   taken_found : (ts : List T) (a : A) (rest : List T) → Found G Stops ts a rest → rest ≡ [] → G a ts
-  taken_found ts a rest f e = let P : List T → Type 0 = λ us. G a us in subst P (sym (f.split ∙ ap (λ us. f.text ++ us) e ∙ append-nil f.text)) f.spelled
+  taken_found ts a rest f e = let P : List T → Type 0 = λ us. G a us
+      in subst P (sym (f.split ∙ ap (λ us. f.text ++ us) e ∙ append-nil f.text)) f.spelled
 
   whole_sound : (ts : List T) (a : A) (q : Read T A) → r ts ≡ q → all_of q ≡ Ok a → G a ts
   whole_sound ts a (Err left) e h = absurd (cc)
@@ -27,7 +29,8 @@ module _ {T A : Type 0} (G : A → List T → Type 0) (Stops : A → Option T �
   none : (ts : List T) (left : Halt) → whole_at r ts ≡ Err left → (a : A) → G a ts → ⊥
   none ts left e a g = let h = whole-only ts a g in cc
 
-  whole_fault : (ts : List T) (left : Halt) (q : Read T A) → r ts ≡ q → all_of q ≡ Err left → ((a : A) → G a ts → ⊥) → IsFirstFault G ts (left_of left)
+  whole_fault : (ts : List T) (left : Halt) (q : Read T A) → r ts ≡ q → all_of q ≡ Err left → ((a : A) → G a ts → ⊥)
+      → IsFirstFault G ts (left_of left)
   whole_fault ts left (Err n) e h refuses =
       let f = one.fault ts n e in
       let same : n ≡ left = (let k : Err n ≡ Err left = h in cc) in

@@ -1,6 +1,7 @@
 -- Readers over lists of tokens, and what makes a reader right for a grammar.
 -- A reader takes the longest front that is a text of its grammar, or stops at the first token with which no text goes on.
-use Rattle.std.specs.Prelude.{◌≡◌, ℕ, zero, suc, ◌<◌, ◌≤◌, Bool, false, List, [], ◌∷◌, ◌++◌, length, Option, Some, None, Result, Ok, Err, if◌then◌else◌}
+use Rattle.std.specs.Prelude.{◌≡◌, ℕ, zero, suc, ◌<◌, ◌≤◌, Bool, false, List, [], ◌∷◌, ◌++◌, length, Option, Some, None, Result, Ok, Err}
+use Rattle.std.specs.Prelude.{if◌then◌else◌}
 
 -- Why a reader stopped, and how many tokens were left there.
 pub data Halt : Type 0 where
@@ -110,7 +111,8 @@ from_at test next r (suc n) s ts =
 -- texts of the items, joined, and an end where there may be one
 abbrev pub AreFrom : {S T A : Type 0} → (S → Option T → Bool) → (S → A → S) → (S → A → List T → Type 0) → S → List A → List T → Type 0
 AreFrom test next G s [] text = (text ≡ []) × (test s None ≡ false)
-AreFrom {T = T} test next G s (a ∷ xs) text = (front : List T) × (back : List T) × G s a front × AreFrom test next G (next s a) xs back × (text ≡ front ++ back)
+AreFrom {T = T} test next G s (a ∷ xs) text = (front : List T) × (back : List T) × G s a front × AreFrom test next G (next s a) xs back
+    × (text ≡ front ++ back)
 
 -- as many as there are from a state on
 abbrev pub all_from : {S T A : Type 0} → (S → Option T → Bool) → (S → A → S) → (S → List T → Read T A) → S → List T → Read T (List A)

@@ -1,5 +1,6 @@
 -- Appending one piece after another: what a chain of writes appends, and where it stopped.
-use Rattle.std.proofs.Common.{◌≡◌, ℕ, ◌+◌, List, [], ◌++◌, length, take, drop, Option, Some, None, Result, Ok, Err, refl, sym, ap, subst, ◌∙◌, arith, append_assoc, append-nil, length-append}
+use Rattle.std.proofs.Common.{◌≡◌, ℕ, ◌+◌, List, [], ◌++◌, length, take, drop, Option, Some, None, Result, Ok, Err, refl, sym, ap, subst, ◌∙◌}
+use Rattle.std.proofs.Common.{arith, append_assoc, append-nil, length-append}
 use Rattle.std.proofs.Math.Seq.{take-add, take-append-add}
 use Rattle.std.proofs.lemmas.List.{take-append-le}
 use Rattle.hood_io.specs.Sinks.{Appends, Puts}
@@ -15,9 +16,11 @@ appends-twice (Some xs) b c x y p q =
     let r : c ≡ Some ((xs ++ x) ++ y) = subst P p q in
     r ∙ ap Some (append_assoc xs x y)
 
-pub appends-more : (a b c : Option (List ℕ)) (bytes : List ℕ) (n k : ℕ) → Appends a b (take n bytes) → Appends b c (take k (drop n bytes)) → Appends a c (take (n + k) bytes)
+pub appends-more : (a b c : Option (List ℕ)) (bytes : List ℕ) (n k : ℕ) → Appends a b (take n bytes) → Appends b c (take k (drop n bytes))
+    → Appends a c (take (n + k) bytes)
 appends-more a b c bytes n k p q =
-    let P : List ℕ → Type 0 = λ z. Appends a c z in subst P (sym (take-add n k bytes)) (appends-twice a b c (take n bytes) (take k (drop n bytes)) p q)
+    let P : List ℕ → Type 0 = λ z. Appends a c z
+    in subst P (sym (take-add n k bytes)) (appends-twice a b c (take n bytes) (take k (drop n bytes)) p q)
 
 -- a text that is put behind one that was appended
 pub puts-behind : {E : Type 0} (a b c : Option (List ℕ)) (x y : List ℕ) (r : Result (Unit {0}) E) → Appends a b x → Puts b c y r → Puts a c (x ++ y) r

@@ -39,7 +39,8 @@ IsFront bytes (Some file) = bytes ≡ take (length bytes) file
 -- what an answer says of the file, of the bytes read, and of the count of faults
 abbrev pub Says : Fetched → Option Told → List ℕ → ℕ → List ℕ → ℕ → ℕ → Type 0
 Says Done told name limit into before now = (length into ≤ limit) × IfSome told (λ t. t.files name ≡ Some into)
-Says TooLong told name limit into before now = (limit < length into) × IfSome told (λ t. (file : List ℕ) × (t.files name ≡ Some file) × (limit < length file))
+Says TooLong told name limit into before now = (limit < length into)
+    × IfSome told (λ t. (file : List ℕ) × (t.files name ≡ Some file) × (limit < length file))
 Says Failed told name limit into before now = Rose before now
 Says NoMemory told name limit into before now = Unit {0}
 

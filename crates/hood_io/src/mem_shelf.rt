@@ -1,4 +1,5 @@
-ghost use Rattle.std.specs.Prelude.{◌≡◌, ◌≤◌, ◌++◌, ◌∷◌, [], Some, None, List, ℕ, IfOk, IfSome, MatchOption, if◌then◌else◌, is_ok, ◌&&◌, true, false, position};
+ghost use Rattle.std.specs.Prelude.{◌≡◌, ◌≤◌, ◌++◌, ◌∷◌, [], Some, None, List, ℕ, IfOk, IfSome, MatchOption, if◌then◌else◌, is_ok, ◌&&◌, true};
+ghost use Rattle.std.specs.Prelude.{false, position};
 ghost use Rattle.std.specs.Str.{bytes_eq};
 ghost use Rattle.hood_io.specs.Causes.{raised};
 ghost use Rattle.hood_io.specs.Shelves.{after_fetch, counted, IsFront, Says};
@@ -98,7 +99,8 @@ impl MemShelf {
 
     /// The bytes of the file, where the next fetch of it is not to fail.
     fn next_file(&self, name: &str) -> Option<&[u8]>
-        ensures { MatchOption result (fails_next self.now name.now ≡ true) (λ b. (fails_next self.now name.now ≡ false) × (files_of self.now name.now ≡ Some b.now)) }
+        ensures { MatchOption result (fails_next self.now name.now ≡ true) (λ b. (fails_next self.now name.now ≡ false)
+            × (files_of self.now name.now ≡ Some b.now)) }
     {
         if self.fails.contains(&(self.log.len() as u64)) {
             return None;
@@ -112,7 +114,8 @@ impl MemShelf {
     /// Adds a fetch to the log, and counts it where it failed. After `NoMemory` all is as before.
     fn note(&mut self, name: &str, failed: bool) -> Result<(), NoMemory>
         ensures files { files_of self.new ≡ files_of self.old }
-        ensures log { log_of self.new ≡ (if is_ok result then log_of self.old ++ record { name = name.now; failed = failed } ∷ [] else log_of self.old) }
+        ensures log { log_of self.new ≡ (if is_ok result then log_of self.old ++ record { name = name.now; failed = failed }
+            ∷ [] else log_of self.old) }
         ensures fails { fails_of self.new ≡ fails_of self.old }
         ensures later { faults_of self.old ≤ faults_of self.new }
         ensures faults { faults_of self.new ≡ (if is_ok result && failed then raised (faults_of self.old) else faults_of self.old) }

@@ -1,5 +1,6 @@
 ghost use Rattle.std.specs.Prelude.{◌≡◌, IfOk, IfSome, option_map, slice_get, drop};
-ghost use Rattle.link_queue.specs.Queues.{AreQueues, HeadIsAtLeast, HeadIsAtMost, IsFree, after_due, at_head, at_tail, due, empty_queues, in_time, lowered, with_level};
+ghost use Rattle.link_queue.specs.Queues.{AreQueues, HeadIsAtLeast, HeadIsAtMost, IsFree, after_due, at_head, at_tail, due, empty_queues};
+ghost use Rattle.link_queue.specs.Queues.{in_time, lowered, with_level};
 
 use crate::memory::NoMemory;
 use crate::table::{Place, Rank, Slot, link, unlink};

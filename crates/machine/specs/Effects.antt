@@ -75,7 +75,8 @@ entered_at y i section told vars ps s = (
 
 -- the entry of a task into a section, unless its active priority is above the ceiling
 abbrev pub entry : System → ℕ → Task → Resource → List Event → Variables → List Piece → State → Next
-entry y i t section told vars ps s = if nat_lt (ceiling_of y section) t.active then stopped_at y t section s else entered_at y i section told vars ps s
+entry y i t section told vars ps s = if nat_lt (ceiling_of y section) t.active then stopped_at y t section s else entered_at y i section
+    told vars ps s
 
 -- the exit from the innermost section
 abbrev pub exit : System → ℕ → Variables → List Piece → State → State

@@ -62,8 +62,15 @@ arrival_step y (a ∷ others) s =
 -- use: the task that is dispatched uses one tick
 abbrev pub use_step : System → Option ℕ → State → Next
 use_step y None s = (record s { time = s.time + 1; phase = Effects; ran = None }, [])
-use_step y (Some i) s =
-    (record s { time = s.time + 1; phase = Effects; ran = Some i; tasks = change i (λ t. record t { left = t.left - 1; used = t.used + 1 }) s.tasks }, [])
+use_step y (Some i) s = (
+  record s {
+    time = s.time + 1;
+    phase = Effects;
+    ran = Some i;
+    tasks = change i (λ t. record t { left = t.left - 1; used = t.used + 1 }) s.tasks;
+  },
+  [],
+)
 
 -- a step, by the part of the instant
 abbrev pub step_in : Phase → System → State → Next

@@ -71,7 +71,8 @@ impl<'a> Ops<'a> {
     /// Adds an operation.
     #[tactic(auto, unfolding(crate::specs::Sets::has_op))]
     pub fn add(&mut self, object: &'a Name, op: &'a Name) -> Result<(), NoMemory>
-        ensures { OnOk result ((n : OpName) → has_op self.new n ≡ (same_op (record { object = object.entry.now; op = op.entry.now }) n || has_op self.old n)) }
+        ensures { OnOk result ((n : OpName)
+            → has_op self.new n ≡ (same_op (record { object = object.entry.now; op = op.entry.now }) n || has_op self.old n)) }
     {
         self.set.insert((object.bytes(), op.bytes()))?;
         Ok(())

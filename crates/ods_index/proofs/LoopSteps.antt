@@ -1,5 +1,6 @@
 -- A loop that adds what each item gives: one step of it.
-use Rattle.std.proofs.Common.{◌≡◌, ℕ, ◌+◌, ◌<◌, Bool, true, false, cond, List, [], ◌∷◌, ◌++◌, length, drop, filter, flat_map, get_or, refl, ap, sym, ◌∙◌, append_assoc}
+use Rattle.std.proofs.Common.{◌≡◌, ℕ, ◌+◌, ◌<◌, Bool, true, false, cond, List, [], ◌∷◌, ◌++◌, length, drop, filter, flat_map, get_or, refl, ap}
+use Rattle.std.proofs.Common.{sym, ◌∙◌, append_assoc}
 use Rattle.seq_cost.proofs.Steps.{drop_step}
 
 -- what an item gives is added, and what is left is that of the items behind it

@@ -13,5 +13,6 @@ pub reads-again : (text : List ℕ) (x : Design) → Reads text x → length (de
 reads-again text x r within = record {
   within = within;
   proper = r.proper;
-  spelled = read-whole _ _ (gives-lines (design_lines x) (ready-lines (design_lines x) (design-sound x) (tokens-readable text (design_tokens x) r.spelled)));
+  spelled = read-whole _ _ (gives-lines (design_lines x) (ready-lines (design_lines x) (design-sound x)
+      (tokens-readable text (design_tokens x) r.spelled)));
 }

@@ -17,7 +17,12 @@ use Rattle.ods_print.specs.Parts.{behind, heading, lines_text, object_line, para
 
 -- one cyclic object, in a design of version 1
 abbrev one : Design
-one = record { name = codes "d"; version = None; costs = row_costs; root = cyc_with (codes "a") (attr Period 10 ∷ attr Deadline 10 ∷ attr ThreadBudget 1000 ∷ []) [] (Work 3 ∷ []) }
+one = record {
+  name = codes "d";
+  version = None;
+  costs = row_costs;
+  root = cyc_with (codes "a") (attr Period 10 ∷ attr Deadline 10 ∷ attr ThreadBudget 1000 ∷ []) [] (Work 3 ∷ []);
+}
 
 -- and in one of version 2, with a unit
 abbrev two : Design
@@ -66,11 +71,13 @@ begun : lines_text (object_line 1 (codes "a") Cyclic ∷ []) ≡ codes "   OBJEC
 begun = refl
 
 -- the whole texts
-whole_one : design_text one ≡ codes "DESIGN d IS\n   COSTS\n      ASSIGN = 1;\n      TEST = 1;\n      TURN = 1;\n      CALL = 2;\n      NULL = 1;\n      PUT = 1;\n      FINISH = 1;\n   END COSTS;\n   OBJECT a IS CYCLIC\n      ATTRIBUTES\n         PERIOD = 10;\n         DEADLINE = 10;\n         THREAD_BUDGET = 1000;\n      THREAD\n         work (3);\n      END THREAD;\n   END a;\nEND d;\n"
+whole_one : design_text one ≡ codes
+    "DESIGN d IS\n   COSTS\n      ASSIGN = 1;\n      TEST = 1;\n      TURN = 1;\n      CALL = 2;\n      NULL = 1;\n      PUT = 1;\n      FINISH = 1;\n   END COSTS;\n   OBJECT a IS CYCLIC\n      ATTRIBUTES\n         PERIOD = 10;\n         DEADLINE = 10;\n         THREAD_BUDGET = 1000;\n      THREAD\n         work (3);\n      END THREAD;\n   END a;\nEND d;\n"
 unfolding digits
 whole_one = refl
 
-whole_two : design_text two ≡ codes "DESIGN d VERSION 2 IS\n   TICK = 500 us;\n   PRIORITIES 31 .. 60;\n   COSTS\n      ASSIGN = 1;\n      TEST = 1;\n      TURN = 1;\n      CALL = 2;\n      NULL = 1;\n      PUT = 1;\n      FINISH = 1;\n   END COSTS;\n   OBJECT a IS CYCLIC\n      ATTRIBUTES\n         PERIOD = 5 ms;\n         THREAD_BUDGET = 1000;\n      THREAD\n         work (3);\n      END THREAD;\n   END a;\nEND d;\n"
+whole_two : design_text two ≡ codes
+    "DESIGN d VERSION 2 IS\n   TICK = 500 us;\n   PRIORITIES 31 .. 60;\n   COSTS\n      ASSIGN = 1;\n      TEST = 1;\n      TURN = 1;\n      CALL = 2;\n      NULL = 1;\n      PUT = 1;\n      FINISH = 1;\n   END COSTS;\n   OBJECT a IS CYCLIC\n      ATTRIBUTES\n         PERIOD = 5 ms;\n         THREAD_BUDGET = 1000;\n      THREAD\n         work (3);\n      END THREAD;\n   END a;\nEND d;\n"
 unfolding digits
 whole_two = refl
 

@@ -1,5 +1,6 @@
 -- Printed lines of parts read back as the tokens of the parts.
-use Rattle.std.proofs.Common.{◌≡◌, ℕ, Bool, true, false, ◌&&◌, ◌||◌, ◌*◌, List, [], ◌∷◌, ◌++◌, length, map, min, codes, flat_map, refl, sym, ap, ◌∙◌, subst, append_assoc}
+use Rattle.std.proofs.Common.{◌≡◌, ℕ, Bool, true, false, ◌&&◌, ◌||◌, ◌*◌, List, [], ◌∷◌, ◌++◌, length, map, min, codes, flat_map, refl, sym, ap}
+use Rattle.std.proofs.Common.{◌∙◌, subst, append_assoc}
 use Rattle.std.specs.Prelude.{bytes_eq, nat_le}
 use Rattle.std.specs.List.{list_all}
 use Rattle.std.specs.Str.{str_to_ascii_lowercase}
@@ -35,13 +36,16 @@ is_ready_line [] = true
 is_ready_line (p ∷ []) = is_ready p
 is_ready_line (p ∷ q ∷ ps) = is_ready p && (are_apart (part_token p) (part_token q) && is_ready_line (q ∷ ps))
 
-gives-capital : (word rest : List ℕ) (ts : List Token) → is_capital word ≡ true → parts (Word word) rest ≡ true → Gives rest ts → Gives (map capital word ++ rest) (Word word ∷ ts)
+gives-capital : (word rest : List ℕ) (ts : List Token) → is_capital word ≡ true → parts (Word word) rest ≡ true → Gives rest ts
+    → Gives (map capital word ++ rest) (Word word ∷ ts)
 gives-capital word rest ts ok follow g =
     let n = and_parts (is_name (map capital word)) _ ok in
     let m = and_parts (bytes_eq (str_to_ascii_lowercase (map capital word)) word) _ n.1 in
-    gives-spelled (map capital word) word rest ts n.0 ((bytes_eq-Decides (str_to_ascii_lowercase (map capital word)) word).0 m.0) (leb-true _ _ m.1) follow g
+    gives-spelled (map capital word) word rest ts n.0 ((bytes_eq-Decides (str_to_ascii_lowercase (map capital word)) word).0 m.0)
+    (leb-true _ _ m.1) follow g
 
-gives-part : (p : Part) (rest : List ℕ) (ts : List Token) → is_ready p ≡ true → parts (part_token p) rest ≡ true → Gives rest ts → Gives (part_text p ++ rest) (part_token p ∷ ts)
+gives-part : (p : Part) (rest : List ℕ) (ts : List Token) → is_ready p ≡ true → parts (part_token p) rest ≡ true → Gives rest ts
+    → Gives (part_text p ++ rest) (part_token p ∷ ts)
 gives-part (Capital word) rest ts ok follow g = gives-capital word rest ts ok follow g
 gives-part (Plain t) rest ts ok follow g = gives-one t rest ts ok follow g
 
@@ -51,7 +55,8 @@ capital-next (Word name) word rest ok = refl
 capital-next (Number n) word rest ok = refl
 capital-next (Sign m) word rest ok = sign-name m (map capital word) rest (and_parts (is_name (map capital word)) _ ok).0
 
-part-next : (t : Token) (q : Part) (rest : List ℕ) → is_ready q ≡ true → are_apart t (part_token q) ≡ true → parts t (gap t (part_token q) ++ (part_text q ++ rest)) ≡ true
+part-next : (t : Token) (q : Part) (rest : List ℕ) → is_ready q ≡ true → are_apart t (part_token q) ≡ true
+    → parts t (gap t (part_token q) ++ (part_text q ++ rest)) ≡ true
 part-next t (Capital word) rest ok apart = capital-next t word rest ok
 part-next t (Plain u) rest ok apart = parts-next t u rest written ok apart
 
@@ -64,14 +69,16 @@ parts_text-head : (q : Part) (qs : List Part) (rest : List ℕ) → parts_text (
 unfolding tail
 parts_text-head q [] rest = refl
 parts_text-head q (p ∷ ps) rest =
-    append_assoc (part_text q) (gap (part_token q) (part_token p) ++ parts_text (p ∷ ps)) rest ∙ ap (λ t. part_text q ++ t) (append_assoc (gap (part_token q) (part_token p)) (parts_text (p ∷ ps)) rest)
+    append_assoc (part_text q) (gap (part_token q) (part_token p) ++ parts_text (p ∷ ps)) rest ∙ ap (λ t. part_text q ++ t)
+    (append_assoc (gap (part_token q) (part_token p)) (parts_text (p ∷ ps)) rest)
 
 ready-head : (q : Part) (qs : List Part) → is_ready_line (q ∷ qs) ≡ true → is_ready q ≡ true
 ready-head q [] e = e
 ready-head q (p ∷ ps) e = (and_parts _ _ e).0
 
 -- the parts of a line, before a line feed
-gives-parts : (ps : List Part) (rest : List ℕ) (more : List Token) → is_ready_line ps ≡ true → Gives (10 ∷ rest) more → Gives (parts_text ps ++ (10 ∷ rest)) (map part_token ps ++ more)
+gives-parts : (ps : List Part) (rest : List ℕ) (more : List Token) → is_ready_line ps ≡ true → Gives (10 ∷ rest) more
+    → Gives (parts_text ps ++ (10 ∷ rest)) (map part_token ps ++ more)
 unfolding tail
 gives-parts [] rest more ok g = g
 gives-parts (p ∷ []) rest more ok g = gives-part p (10 ∷ rest) more ok (parts-line_feed (part_token p) rest) g
@@ -87,11 +94,13 @@ gives-parts (p ∷ q ∷ qs) rest more ok g =
     (gives-between (clings_on (part_token p) || clings_back (part_token q)) _ _ (gives-parts (q ∷ qs) rest more b.1 g)))
 
 -- a line
-gives-line : (l : DesignLine) (rest : List ℕ) (more : List Token) → is_ready_line l.parts ≡ true → Gives rest more → Gives (design_line_text l ++ rest) (map part_token l.parts ++ more)
+gives-line : (l : DesignLine) (rest : List ℕ) (more : List Token) → is_ready_line l.parts ≡ true → Gives rest more
+    → Gives (design_line_text l ++ rest) (map part_token l.parts ++ more)
 gives-line l rest more ok g =
     let P : List ℕ → Type 0 = λ x. Gives x (map part_token l.parts ++ more) in
     let e : design_line_text l ++ rest ≡ indent l.level ++ (parts_text l.parts ++ (10 ∷ rest)) =
-    append_assoc (indent l.level) (parts_text l.parts ++ codes "\n") rest ∙ ap (λ x. indent l.level ++ x) (append_assoc (parts_text l.parts) (codes "\n") rest) in
+    append_assoc (indent l.level) (parts_text l.parts ++ codes "\n") rest ∙ ap (λ x. indent l.level ++ x)
+    (append_assoc (parts_text l.parts) (codes "\n") rest) in
     subst P (sym e) (gives-spaces (min 30 (3 * l.level)) _ _ (gives-parts l.parts rest more ok (gives-space 10 rest more refl g)))
 
 -- the tokens of lines
@@ -154,9 +163,11 @@ ready-line (Plain t ∷ q ∷ ps) sound ok =
 abbrev pub are_sound : List DesignLine → Bool
 are_sound ls = list_all (λ l. is_sound l.parts) ls
 
-pub ready-lines : (ls : List DesignLine) → are_sound ls ≡ true → list_all is_readable (line_tokens ls) ≡ true → list_all (λ l. is_ready_line l.parts) ls ≡ true
+pub ready-lines : (ls : List DesignLine) → are_sound ls ≡ true → list_all is_readable (line_tokens ls) ≡ true
+    → list_all (λ l. is_ready_line l.parts) ls ≡ true
 ready-lines [] sound ok = refl
 ready-lines (l ∷ ls) sound ok =
     let s = and_parts (is_sound l.parts) _ sound in
-    let o = and_parts (list_all is_readable (map part_token l.parts)) _ (sym (list_all-append is_readable (map part_token l.parts) (line_tokens ls)) ∙ ok) in
+    let o = and_parts (list_all is_readable (map part_token l.parts)) _
+    (sym (list_all-append is_readable (map part_token l.parts) (line_tokens ls)) ∙ ok) in
     and_from _ _ (ready-line l.parts s.0 o.0) (ready-lines ls s.1 o.1)

@@ -1,5 +1,6 @@
 -- The parts of a line, one after another, with the spaces between them.
-use Rattle.std.proofs.Common.{◌≡◌, ℕ, ◌*◌, min, replicate, Bool, true, false, ◌||◌, cond, Option, Some, None, List, [], ◌∷◌, ◌++◌, map, flat_map, codes, decimal, refl, sym, ap, ◌∙◌, append_assoc, append-nil}
+use Rattle.std.proofs.Common.{◌≡◌, ℕ, ◌*◌, min, replicate, Bool, true, false, ◌||◌, cond, Option, Some, None, List, [], ◌∷◌, ◌++◌, map, flat_map}
+use Rattle.std.proofs.Common.{codes, decimal, refl, sym, ap, ◌∙◌, append_assoc, append-nil}
 use Rattle.seq_tree.specs.Layout.{clings_back, clings_on, gap}
 use Rattle.seq_tree.specs.Names.{Name}
 use Rattle.seq_tree.specs.declared.token.Token.TheVariants.{Word, Number, Sign}
@@ -10,7 +11,8 @@ use Rattle.seq_tree.specs.declared.tree.Param.{Param}
 use Rattle.seq_tree.specs.declared.tree.OpName.{OpName}
 use Rattle.seq_tree.specs.declared.tree.Datum.{Datum}
 use Rattle.ods_tree.specs.Layout.{capital, part_text, parts_text, design_line_text}
-use Rattle.ods_tree.specs.Spelling.{Part, Capital, Plain, part_token, line, attribute_line, attribute_part, constraint_parts, datum_line, kind_part, link_line, mode_part, needed_line, param_parts, params_parts, unit_parts, tick_line}
+use Rattle.ods_tree.specs.Spelling.{Part, Capital, Plain, part_token, line, attribute_line, attribute_part, constraint_parts, datum_line}
+use Rattle.ods_tree.specs.Spelling.{kind_part, link_line, mode_part, needed_line, param_parts, params_parts, unit_parts, tick_line}
 use Rattle.ods_tree.specs.declared.design.Kind.{Kind}
 use Rattle.ods_tree.specs.declared.design.Kind.TheVariants.{Passive, Active, Protected, Cyclic, Sporadic}
 use Rattle.ods_tree.specs.declared.design.Constraint.{Constraint}
@@ -61,7 +63,8 @@ constraint-spaced (Some Paer) = refl
 param-text : (p : Param) → parts_text (param_parts p) ≡ p.name ++ (codes " : " ++ (part_text (mode_part p.mode) ++ codes " word"))
 param-text p = by p.name p.mode
   where
-    by : (n : Name) (m : Mode) → parts_text (Plain (Word n) ∷ Plain (Sign Colon) ∷ mode_part m ∷ Plain (Word (codes "word")) ∷ []) ≡ n ++ (codes " : " ++ (part_text (mode_part m) ++ codes " word"))
+    by : (n : Name) (m : Mode) → parts_text (Plain (Word n) ∷ Plain (Sign Colon) ∷ mode_part m ∷ Plain (Word (codes "word")) ∷ [])
+        ≡ n ++ (codes " : " ++ (part_text (mode_part m) ++ codes " word"))
     by n In = refl
     by n Out = refl
 
@@ -72,7 +75,8 @@ param-spaced : (n : Name) (m : Mode) (clings : Bool) (rest : List Part)
 param-spaced n In clings rest = sym (append_assoc n (codes " : in word") (spaced false rest))
 param-spaced n Out clings rest = sym (append_assoc n (codes " : out word") (spaced false rest))
 
-more-spaced : (ps : List Param) (rest : List Part) → spaced false (flat_map (λ q. Plain (Sign Semicolon) ∷ param_parts q) ps ++ rest) ≡ params_more ps ++ spaced false rest
+more-spaced : (ps : List Param) (rest : List Part) → spaced false (flat_map (λ q. Plain (Sign Semicolon) ∷ param_parts q) ps ++ rest)
+    ≡ params_more ps ++ spaced false rest
 more-spaced [] rest = refl
 more-spaced (p ∷ ps) rest =
     ap (λ x. codes "; " ++ x) (param-spaced p.name p.mode true (flat_map (λ q. Plain (Sign Semicolon) ∷ param_parts q) ps ++ rest))
@@ -86,7 +90,8 @@ params-spaced (p ∷ ps) rest =
     let more = flat_map (λ q. Plain (Sign Semicolon) ∷ param_parts q) ps in
     ap (λ x. codes " (" ++ x) (param-spaced p.name p.mode true ((more ++ Plain (Sign RightParen) ∷ []) ++ rest))
     ∙ ap (λ ts. codes " (" ++ (parts_text (param_parts p) ++ spaced false ts)) (append_assoc more (Plain (Sign RightParen) ∷ []) rest)
-    ∙ ap (λ x. codes " (" ++ (parts_text (param_parts p) ++ x)) (more-spaced ps (Plain (Sign RightParen) ∷ rest) ∙ sym (append_assoc (params_more ps) (codes ")") (spaced false rest)))
+    ∙ ap (λ x. codes " (" ++ (parts_text (param_parts p) ++ x)) (more-spaced ps (Plain (Sign RightParen) ∷ rest) ∙ sym
+    (append_assoc (params_more ps) (codes ")") (spaced false rest)))
     ∙ ap (λ x. codes " (" ++ x) (sym (append_assoc (parts_text (param_parts p)) (params_more ps ++ codes ")") (spaced false rest)))
 
 -- the line of a provided operation
@@ -130,9 +135,12 @@ attribute-by : (level n : ℕ) (p : Part) (u : Option TickUnit) → IsCapital p
 attribute-by level n p u is =
     let key = map capital is.word in
     let tail = behind (unit_parts u) in
-    let text : parts_text (Capital is.word ∷ Plain (Sign Equal) ∷ Plain (Number n) ∷ (unit_parts u ++ end)) ≡ key ++ (codes " = " ++ (decimal n ++ (tail ++ codes ";"))) =
-    parts-spaced (Capital is.word ∷ Plain (Sign Equal) ∷ Plain (Number n) ∷ (unit_parts u ++ end)) ∙ ap (λ x. key ++ (codes " = " ++ (decimal n ++ x))) (unit-spaced u) in
-    let line' : key ++ ((codes " = " ++ (decimal n ++ [])) ++ (tail ++ codes ";\n")) ≡ (key ++ (codes " = " ++ (decimal n ++ (tail ++ codes ";")))) ++ codes "\n" =
+    let text : parts_text (Capital is.word ∷ Plain (Sign Equal) ∷ Plain (Number n) ∷ (unit_parts u ++ end))
+    ≡ key ++ (codes " = " ++ (decimal n ++ (tail ++ codes ";"))) =
+    parts-spaced (Capital is.word ∷ Plain (Sign Equal) ∷ Plain (Number n) ∷ (unit_parts u ++ end)) ∙ ap
+    (λ x. key ++ (codes " = " ++ (decimal n ++ x))) (unit-spaced u) in
+    let line' : key ++ ((codes " = " ++ (decimal n ++ [])) ++ (tail ++ codes ";\n"))
+    ≡ (key ++ (codes " = " ++ (decimal n ++ (tail ++ codes ";")))) ++ codes "\n" =
     ap (λ x. key ++ (codes " = " ++ (x ++ (tail ++ codes ";\n")))) (append-nil (decimal n))
     ∙ ap (λ x. key ++ (codes " = " ++ (decimal n ++ x))) (sym (append_assoc tail (codes ";") (codes "\n")))
     ∙ ap (λ x. key ++ (codes " = " ++ x)) (sym (append_assoc (decimal n) (tail ++ codes ";") (codes "\n")))
@@ -141,11 +149,13 @@ attribute-by level n p u is =
 
 -- the line of an attribute
 pub attribute-text : (level : ℕ) (a : Attr)
-    → indent level ++ (part_text (attribute_part a.key) ++ ((codes " = " ++ (decimal a.value ++ [])) ++ (behind (unit_parts a.unit) ++ codes ";\n"))) ≡ design_line_text (attribute_line level a)
+    → indent level ++ (part_text (attribute_part a.key) ++ ((codes " = " ++ (decimal a.value ++ [])) ++ (behind (unit_parts a.unit) ++ codes ";\n")))
+    ≡ design_line_text (attribute_line level a)
 attribute-text level a = attribute-by level a.value (attribute_part a.key) a.unit (key-capital a.key)
 
 -- the line of the time of a tick
-pub tick-text : (n : ℕ) (u : TickUnit) → (codes "   TICK = " ++ (decimal n ++ [])) ++ (behind (unit_parts (Some u)) ++ codes ";\n") ≡ design_line_text (tick_line n u)
+pub tick-text : (n : ℕ) (u : TickUnit) → (codes "   TICK = " ++ (decimal n ++ [])) ++ (behind (unit_parts (Some u)) ++ codes ";\n")
+    ≡ design_line_text (tick_line n u)
 tick-text n u = attribute-by 1 n (Capital (codes "tick")) (Some u) (record { word = codes "tick"; same = refl })
 
 -- the line that an object begins with
@@ -167,14 +177,17 @@ pub object-text : (level : ℕ) (name : Name) (k : Kind)
     ≡ design_line_text (line level (Capital (codes "object") ∷ Plain (Word name) ∷ Capital (codes "is") ∷ kind_part k ∷ []))
 object-text level name k = object-by level name (kind_part k) (kind-capital k)
 
-pub needed-text : (level : ℕ) (o : OpName) → indent level ++ (([] ++ (o.object ++ codes ".")) ++ ([] ++ (o.op ++ codes ";\n"))) ≡ design_line_text (needed_line level o)
+pub needed-text : (level : ℕ) (o : OpName) → indent level ++ (([] ++ (o.object ++ codes ".")) ++ ([] ++ (o.op ++ codes ";\n")))
+    ≡ design_line_text (needed_line level o)
 needed-text level o = simp append_assoc
 
-pub datum-text : (level : ℕ) (d : Datum) → indent level ++ (([] ++ (d.name ++ codes " : word := ")) ++ ([] ++ (decimal d.value ++ codes ";\n"))) ≡ design_line_text (datum_line level d)
+pub datum-text : (level : ℕ) (d : Datum) → indent level ++ (([] ++ (d.name ++ codes " : word := ")) ++ ([] ++ (decimal d.value ++ codes ";\n")))
+    ≡ design_line_text (datum_line level d)
 datum-text level d = simp append_assoc
 
 pub link-text : (level : ℕ) (l : Link)
-    → indent level ++ (([] ++ (l.op ++ codes " BY ")) ++ (([] ++ (l.to.object ++ codes ".")) ++ ([] ++ (l.to.op ++ codes ";\n")))) ≡ design_line_text (link_line level l)
+    → indent level ++ (([] ++ (l.op ++ codes " BY ")) ++ (([] ++ (l.to.object ++ codes ".")) ++ ([] ++ (l.to.op ++ codes ";\n"))))
+    ≡ design_line_text (link_line level l)
 link-text level l = simp append_assoc
 
 -- the line of a cost

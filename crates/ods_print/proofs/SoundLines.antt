@@ -4,7 +4,8 @@ use Rattle.std.proofs.lemmas.Bool.{and_from, and_parts}
 use Rattle.std.proofs.lemmas.List.Folds.{list_all-append}
 use Rattle.seq_tree.specs.Expressions.{Expression, Number, Variable, Paren, Not, Binary}
 use Rattle.seq_tree.specs.Names.{Name}
-use Rattle.seq_tree.specs.Statements.{Statement, Statements, Branches, Null, Assign, If, For, ExitWhen, Call, Work, Put, End, Then, Nothing, Else, When}
+use Rattle.seq_tree.specs.Statements.{Statement, Statements, Branches, Null, Assign, If, For, ExitWhen, Call, Work, Put, End, Then, Nothing}
+use Rattle.seq_tree.specs.Statements.{Else, When}
 use Rattle.seq_tree.specs.Spelling.{Line, block_lines, branch_lines, statement_lines, expression_tokens, actual_tokens, more_actuals, op_token}
 use Rattle.seq_tree.specs.declared.token.Token.{Token}
 use Rattle.seq_tree.specs.declared.token.Token.TheVariants.{Word, Sign}
@@ -17,7 +18,10 @@ use Rattle.seq_tree.specs.declared.tree.Param.{Param}
 use Rattle.seq_tree.specs.declared.tree.Datum.{Datum}
 use Rattle.seq_tree.specs.declared.tree.OpName.{OpName}
 use Rattle.ods_tree.specs.Designs.{Body, Design, Object, Provided, Tree, Trees, Node, Empty, With}
-use Rattle.ods_tree.specs.Spelling.{Part, Capital, Plain, DesignLine, line, attribute_line, attribute_part, back_lines, block_parts, body_lines, constraint_parts, cost_lines, datum_line, design_lines, front_lines, head_lines, kind_part, link_line, needed_line, param_parts, params_parts, priority_lines, provided_line, section, thread_lines, tree_lines, trees_lines, unit_parts}
+use Rattle.ods_tree.specs.Spelling.{Part, Capital, Plain, DesignLine, line, attribute_line, attribute_part, back_lines, block_parts, body_lines}
+use Rattle.ods_tree.specs.Spelling.{constraint_parts, cost_lines, datum_line, design_lines, front_lines, head_lines, kind_part, link_line}
+use Rattle.ods_tree.specs.Spelling.{needed_line, param_parts, params_parts, priority_lines, provided_line, section, thread_lines, tree_lines}
+use Rattle.ods_tree.specs.Spelling.{trees_lines, unit_parts}
 use Rattle.ods_tree.specs.declared.design.Kind.{Kind}
 use Rattle.ods_tree.specs.declared.design.Kind.TheVariants.{Passive, Active, Protected, Cyclic, Sporadic}
 use Rattle.ods_tree.specs.declared.design.Constraint.{Constraint}
@@ -66,7 +70,8 @@ expression-sound (Paren e) rest ok =
 expression-sound (Not e) rest ok = expression-sound e rest ok
 expression-sound (Binary op left right) rest ok =
     ap sound_tokens (append_assoc (expression_tokens left) (op_token op ∷ expression_tokens right) rest)
-    ∙ expression-sound left (op_token op ∷ (expression_tokens right ++ rest)) (and_from _ _ (op-leaves op (map Plain (expression_tokens right ++ rest))) (expression-sound right rest ok))
+    ∙ expression-sound left (op_token op ∷ (expression_tokens right ++ rest))
+    (and_from _ _ (op-leaves op (map Plain (expression_tokens right ++ rest))) (expression-sound right rest ok))
 
 more-sound : (es : List Expression) (rest : List Token) → sound_tokens rest ≡ true → sound_tokens (more_actuals es ++ rest) ≡ true
 more-sound [] rest ok = ok
@@ -78,7 +83,8 @@ actuals-sound [] = refl
 actuals-sound (e ∷ es) =
     ap sound_tokens (append_assoc (expression_tokens e) (more_actuals es ++ Sign RightParen ∷ []) (Sign Semicolon ∷ []))
     ∙ expression-sound e ((more_actuals es ++ Sign RightParen ∷ []) ++ Sign Semicolon ∷ [])
-    (ap sound_tokens (append_assoc (more_actuals es) (Sign RightParen ∷ []) (Sign Semicolon ∷ [])) ∙ more-sound es (Sign RightParen ∷ Sign Semicolon ∷ []) refl)
+    (ap sound_tokens (append_assoc (more_actuals es) (Sign RightParen ∷ []) (Sign Semicolon ∷ [])) ∙ more-sound es
+    (Sign RightParen ∷ Sign Semicolon ∷ []) refl)
 
 -- lines of tokens
 abbrev plain_lines : List Line → List DesignLine
@@ -101,21 +107,25 @@ mutual
 
   block-sound : (level : ℕ) (b : Statements) → are_sound (plain_lines (block_lines level b)) ≡ true
   block-sound level End = refl
-  block-sound level (Then first rest) = plain-append (statement_lines level first) (block_lines level rest) (statement-sound level first) (block-sound level rest)
+  block-sound level (Then first rest) = plain-append (statement_lines level first) (block_lines level rest) (statement-sound level first)
+      (block-sound level rest)
 
   branches-sound : (word : List ℕ) (level : ℕ) (b : Branches) → are_sound (plain_lines (branch_lines word level b)) ≡ true
   branches-sound word level Nothing = refl
   branches-sound word level (Else block) = block-sound (suc level) block
   branches-sound word level (When condition block others) =
       and_from _ _ (expression-sound condition (Word (codes "then") ∷ []) refl)
-      (plain-append (block_lines (suc level) block) (branch_lines (codes "elsif") level others) (block-sound (suc level) block) (branches-sound (codes "elsif") level others))
+      (plain-append (block_lines (suc level) block) (branch_lines (codes "elsif") level others) (block-sound (suc level) block)
+      (branches-sound (codes "elsif") level others))
 
 -- items, and a section of them
-items-sound : {A : Type 0} (p : A → List Part) → ((x : A) → is_sound (p x) ≡ true) → (level : ℕ) (xs : List A) → are_sound (item_lines level p xs) ≡ true
+items-sound : {A : Type 0} (p : A → List Part) → ((x : A) → is_sound (p x) ≡ true) → (level : ℕ) (xs : List A)
+    → are_sound (item_lines level p xs) ≡ true
 items-sound p each level [] = refl
 items-sound p each level (x ∷ xs) = and_from _ _ (each x) (items-sound p each level xs)
 
-section-sound : (level : ℕ) (word : String) (ls : List DesignLine) → is_capital (codes word) ≡ true → are_sound ls ≡ true → are_sound (section level word ls) ≡ true
+section-sound : (level : ℕ) (word : String) (ls : List DesignLine) → is_capital (codes word) ≡ true → are_sound ls ≡ true
+    → are_sound (section level word ls) ≡ true
 section-sound level word [] ok sound = refl
 section-sound level word (l ∷ ls) ok sound = and_from _ _ (and_from _ _ ok refl) sound
 
@@ -151,9 +161,11 @@ param-sound : (n : Name) (m : Mode) (rest : List Part) → is_sound rest ≡ tru
 param-sound n In rest ok = ok
 param-sound n Out rest ok = ok
 
-more_params-sound : (ps : List Param) (rest : List Part) → is_sound rest ≡ true → is_sound (flat_map (λ q. Plain (Sign Semicolon) ∷ param_parts q) ps ++ rest) ≡ true
+more_params-sound : (ps : List Param) (rest : List Part) → is_sound rest ≡ true
+    → is_sound (flat_map (λ q. Plain (Sign Semicolon) ∷ param_parts q) ps ++ rest) ≡ true
 more_params-sound [] rest ok = ok
-more_params-sound (p ∷ ps) rest ok = param-sound p.name p.mode (flat_map (λ q. Plain (Sign Semicolon) ∷ param_parts q) ps ++ rest) (more_params-sound ps rest ok)
+more_params-sound (p ∷ ps) rest ok = param-sound p.name p.mode (flat_map (λ q. Plain (Sign Semicolon) ∷ param_parts q) ps ++ rest)
+    (more_params-sound ps rest ok)
 
 params-sound : (ps : List Param) (rest : List Part) → is_sound rest ≡ true → is_sound (params_parts ps ++ rest) ≡ true
 params-sound [] rest ok = ok
@@ -194,26 +206,33 @@ front-sound : (level : ℕ) (o : Object) → are_sound (front_lines level o) ≡
 front-sound level o =
     and_from _ _ (kind-sound o.kind)
     (sound-append (section (suc level) "attributes" (map (attribute_line (suc (suc level))) o.attrs)) _
-    (section-sound (suc level) "attributes" (map (attribute_line (suc (suc level))) o.attrs) refl (items-sound (λ a. (attribute_line 0 a).parts) attribute-sound (suc (suc level)) o.attrs))
+    (section-sound (suc level) "attributes" (map (attribute_line (suc (suc level))) o.attrs) refl
+    (items-sound (λ a. (attribute_line 0 a).parts) attribute-sound (suc (suc level)) o.attrs))
     (sound-append (section (suc level) "provides" (map (provided_line (suc (suc level))) o.provides)) _
-    (section-sound (suc level) "provides" (map (provided_line (suc (suc level))) o.provides) refl (items-sound (λ q. (provided_line 0 q).parts) provided-sound (suc (suc level)) o.provides))
+    (section-sound (suc level) "provides" (map (provided_line (suc (suc level))) o.provides) refl
+    (items-sound (λ q. (provided_line 0 q).parts) provided-sound (suc (suc level)) o.provides))
     (sound-append (section (suc level) "requires" (map (needed_line (suc (suc level))) o.needs)) _
-    (section-sound (suc level) "requires" (map (needed_line (suc (suc level))) o.needs) refl (items-sound (λ q. (needed_line 0 q).parts) needed-sound (suc (suc level)) o.needs))
+    (section-sound (suc level) "requires" (map (needed_line (suc (suc level))) o.needs) refl
+    (items-sound (λ q. (needed_line 0 q).parts) needed-sound (suc (suc level)) o.needs))
     (sound-append (section (suc level) "data" (map (datum_line (suc (suc level))) o.vars)) _
-    (section-sound (suc level) "data" (map (datum_line (suc (suc level))) o.vars) refl (items-sound (λ d. (datum_line 0 d).parts) datum-sound (suc (suc level)) o.vars))
-    (sound-append (flat_map (body_lines (suc level)) o.bodies) (thread_lines (suc level) o.thread) (bodies-sound (suc level) o.bodies) (thread-sound (suc level) o.thread))))))
+    (section-sound (suc level) "data" (map (datum_line (suc (suc level))) o.vars) refl
+    (items-sound (λ d. (datum_line 0 d).parts) datum-sound (suc (suc level)) o.vars))
+    (sound-append (flat_map (body_lines (suc level)) o.bodies) (thread_lines (suc level) o.thread) (bodies-sound (suc level) o.bodies)
+    (thread-sound (suc level) o.thread))))))
 
 back-sound : (level : ℕ) (o : Object) → are_sound (back_lines level o) ≡ true
 back-sound level o =
     sound-append (section (suc level) "implements" (map (link_line (suc (suc level))) o.links)) _
-    (section-sound (suc level) "implements" (map (link_line (suc (suc level))) o.links) refl (items-sound (λ l. (link_line 0 l).parts) link-sound (suc (suc level)) o.links)) refl
+    (section-sound (suc level) "implements" (map (link_line (suc (suc level))) o.links) refl
+    (items-sound (λ l. (link_line 0 l).parts) link-sound (suc (suc level)) o.links)) refl
 
 mutual
   tree-sound : (level : ℕ) (t : Tree) → are_sound (tree_lines level t) ≡ true
   tree-sound level (Node own children) =
       sound-append (front_lines level own) _ (front-sound level own)
       (sound-append (section (suc level) "objects" (trees_lines (suc (suc level)) children)) (back_lines level own)
-      (section-sound (suc level) "objects" (trees_lines (suc (suc level)) children) refl (trees-sound (suc (suc level)) children)) (back-sound level own))
+      (section-sound (suc level) "objects" (trees_lines (suc (suc level)) children) refl (trees-sound (suc (suc level)) children))
+      (back-sound level own))
 
   trees-sound : (level : ℕ) (ts : Trees) → are_sound (trees_lines level ts) ≡ true
   trees-sound level Empty = refl

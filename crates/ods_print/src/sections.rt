@@ -49,7 +49,8 @@ pub(crate) fn add_section<T: Item>(
     level: u32,
     into: &mut Vec<u8>,
 ) -> Result<(), NoMemory>
-    ensures { Writes result into.old.items into.new.items (heading level word.now items.now ++ lines_text (item_lines (min level 10 + 1) T.parts items.now)) }
+    ensures { Writes result into.old.items into.new.items (heading level word.now items.now
+        ++ lines_text (item_lines (min level 10 + 1) T.parts items.now)) }
 {
     add_heading(word, items, level, into)?;
     add_items(items, deeper(level), into)

@@ -1,5 +1,6 @@
 -- A text has no more tokens than bytes, and a design no more objects than tokens: so few that each can be counted.
-use Rattle.std.proofs.Common.{◌≡◌, ℕ, zero, suc, ◌+◌, ◌-◌, ◌≤◌, ◌<◌, List, [], ◌∷◌, ◌++◌, map, length, Option, Some, None, Result, Ok, Err, refl, ap, arith, length-append}
+use Rattle.std.proofs.Common.{◌≡◌, ℕ, zero, suc, ◌+◌, ◌-◌, ◌≤◌, ◌<◌, List, [], ◌∷◌, ◌++◌, map, length, Option, Some, None, Result, Ok, Err, refl}
+use Rattle.std.proofs.Common.{ap, arith, length-append}
 use Rattle.std.proofs.lemmas.List.{length-map}
 use Rattle.std.specs.Prelude.{codes, flat_map}
 use Prim.Native.String.{String}
@@ -11,7 +12,8 @@ use Rattle.seq_tree.specs.declared.token.Place.{Place}
 use Rattle.seq_tree.specs.declared.token.Spanned.{Spanned}
 use Rattle.ods_tree.specs.Designs.{Object, Tree, Node, Trees, Empty, With, Design}
 use Rattle.ods_tree.specs.Reading.{Reads}
-use Rattle.ods_tree.specs.Spelling.{Capital, Plain, DesignLine, line, part_token, section, front_lines, back_lines, tree_lines, trees_lines, head_lines, cost_lines, design_tokens}
+use Rattle.ods_tree.specs.Spelling.{Capital, Plain, DesignLine, line, part_token, section, front_lines, back_lines, tree_lines, trees_lines}
+use Rattle.ods_tree.specs.Spelling.{head_lines, cost_lines, design_tokens}
 use Rattle.ods_tree.specs.Walk.{own_of, roots, standings, inner_standings, objects}
 
 -- TOKENS
@@ -19,7 +21,8 @@ with_few : (token : Option Token) (place : Place) (others : List Spanned) → le
 with_few None place others = omega arith
 with_few (Some token) place others = omega arith
 
-then_few : (place : Place) (others : Result (List Spanned) Misread) (token : Option Token) (n : ℕ) → ((ts : List Spanned) → others ≡ Ok ts → length ts ≤ n) →
+then_few : (place : Place) (others : Result (List Spanned) Misread) (token : Option Token) (n : ℕ)
+    → ((ts : List Spanned) → others ≡ Ok ts → length ts ≤ n) →
     (ts : List Spanned) → then_others place others token ≡ Ok ts → length ts ≤ suc n
 then_few place (Err fault) token n few ts e = absurd cc
 then_few place (Ok others) token n few ts e =
@@ -27,7 +30,8 @@ then_few place (Ok others) token n few ts e =
     let within = few others refl in
     omega (arith, ap length same, with_few token place others, within)
 
-behind_few : (place : Place) (others : ℕ → Result (List Spanned) Misread) (front : Result Front Misread) (n : ℕ) → ((skip : ℕ) (ts : List Spanned) → others skip ≡ Ok ts → length ts ≤ n) →
+behind_few : (place : Place) (others : ℕ → Result (List Spanned) Misread) (front : Result Front Misread) (n : ℕ)
+    → ((skip : ℕ) (ts : List Spanned) → others skip ≡ Ok ts → length ts ≤ n) →
     (ts : List Spanned) → behind place others front ≡ Ok ts → length ts ≤ suc n
 behind_few place others (Err fault) n few ts e = absurd cc
 behind_few place others (Ok front) n few ts e = then_few place (others (front.len - 1)) front.token n (few (front.len - 1)) ts e
@@ -40,7 +44,8 @@ after_few zero place (c ∷ cs) ts e =
     behind_few place (λ skip. tokens_after skip (place_after place c) cs) (front_by (start_of c cs) place (c ∷ cs)) (length cs)
     (λ skip others h. after_few skip (place_after place c) cs others h) ts e
 
-plain_few : (bytes : List ℕ) (found : Result (List Spanned) Misread) (text : List Token) → ((ts : List Spanned) → found ≡ Ok ts → length ts ≤ length bytes) → plain found ≡ Ok text → length text ≤ length bytes
+plain_few : (bytes : List ℕ) (found : Result (List Spanned) Misread) (text : List Token)
+    → ((ts : List Spanned) → found ≡ Ok ts → length ts ≤ length bytes) → plain found ≡ Ok text → length text ≤ length bytes
 plain_few bytes (Err fault) text few e = absurd cc
 plain_few bytes (Ok ts) text few e =
     let same : map (λ (s : Spanned). s.token) ts ≡ text = cc in
@@ -78,7 +83,8 @@ front_counts : (level : ℕ) (own : Object) → 1 ≤ count (front_lines level o
 front_counts level own = omega arith
 
 mutual
-  tree_counts : (level : ℕ) (parent : Option Object) (siblings : List Object) (t : Tree) → length (standings parent siblings t) ≤ count (tree_lines level t)
+  tree_counts : (level : ℕ) (parent : Option Object) (siblings : List Object) (t : Tree)
+      → length (standings parent siblings t) ≤ count (tree_lines level t)
   tree_counts level parent siblings (Node own children) =
       let inner = trees_count (suc (suc level)) (Some own) (roots children) children in
       let section' = section (suc level) "objects" (trees_lines (suc (suc level)) children) in
@@ -91,12 +97,20 @@ mutual
         count_append section' (back_lines level own),
       )
 
-  trees_count : (level : ℕ) (parent : Option Object) (siblings : List Object) (ts : Trees) → length (inner_standings parent siblings ts) ≤ count (trees_lines level ts)
+  trees_count : (level : ℕ) (parent : Option Object) (siblings : List Object) (ts : Trees)
+      → length (inner_standings parent siblings ts) ≤ count (trees_lines level ts)
   trees_count level parent siblings Empty = omega arith
   trees_count level parent siblings (With first rest) =
       let one = tree_counts level parent siblings first in
       let more = trees_count level parent siblings rest in
-      omega (arith, one, more, length-append (standings parent siblings first) (inner_standings parent siblings rest), count_append (tree_lines level first) (trees_lines level rest))
+      omega (
+        arith,
+        one,
+        more,
+        length-append (standings parent siblings first) (inner_standings parent siblings rest),
+        count_append (tree_lines level
+            first) (trees_lines level rest),
+      )
 
 count_within : (a b c d : List DesignLine) → count c ≤ count (a ++ (b ++ (c ++ d)))
 count_within a b c d = omega (arith, count_append a (b ++ (c ++ d)), count_append b (c ++ d), count_append c d)

@@ -37,13 +37,18 @@ module _ (n : ℕ) (v : Option VersionTwo) where
 
   bound_bodies : (d : ℕ) (bs : List Body) → d + extent_bodies bs ≤ n → Each (IsProperBody wide d) bs → Each (IsProperBody narrow d) bs
   bound_bodies d [] h p = tt
-  bound_bodies d (b ∷ bs) h p = ((p.0.0, p.0.1, bound-block is_design_name n d b.block (omega (arith, h)) p.0.2), bound_bodies d bs (omega (arith, h)) p.1)
+  bound_bodies d (b ∷ bs) h p = (
+    (p.0.0, p.0.1, bound-block is_design_name n d b.block (omega (arith, h)) p.0.2),
+    bound_bodies d bs (omega
+        (arith, h)) p.1,
+  )
 
   bound_thread : (d : ℕ) (t : Option Statements) → d + extent_thread t ≤ n → IsProperThread wide d t → IsProperThread narrow d t
   bound_thread d None h p = tt
   bound_thread d (Some b) h p = bound-block is_design_name n d b h p
 
-  bound_object : (d : ℕ) (o : Object) → d ≤ n → d + extent_bodies o.bodies ≤ n → d + extent_thread o.thread ≤ n → IsProperObject wide v d o → IsProperObject narrow v d o
+  bound_object : (d : ℕ) (o : Object) → d ≤ n → d + extent_bodies o.bodies ≤ n → d + extent_thread o.thread ≤ n → IsProperObject wide v d o
+      → IsProperObject narrow v d o
   bound_object d o h k m p = record {
     nests = le-leb d n h;
     name = p.name;
@@ -58,13 +63,15 @@ module _ (n : ℕ) (v : Option VersionTwo) where
 
   mutual
     bound_tree : (d : ℕ) (t : Tree) → d + extent_tree t ≤ n → IsProperTree wide v d t → IsProperTree narrow v d t
-    bound_tree d (Node o kids) h p = (bound_object (suc d) o (omega (arith, h)) (omega (arith, h)) (omega (arith, h)) p.0, bound_trees (suc d) kids (omega (arith, h)) p.1)
+    bound_tree d (Node o kids) h p
+        = (bound_object (suc d) o (omega (arith, h)) (omega (arith, h)) (omega (arith, h)) p.0, bound_trees (suc d) kids (omega (arith, h)) p.1)
 
     bound_trees : (d : ℕ) (ts : Trees) → d + extent_trees ts ≤ n → AreProperTrees wide v d ts → AreProperTrees narrow v d ts
     bound_trees d Empty h p = tt
     bound_trees d (With t ts) h p = (bound_tree d t (omega (arith, h)) p.0, bound_trees d ts (omega (arith, h)) p.1)
 
-pub bound-design : (n : ℕ) (x : Design) → extent_tree x.root ≤ n → IsProperDesign (without_limits is_design_name) x → IsProperDesign (bounds is_design_name n n) x
+pub bound-design : (n : ℕ) (x : Design) → extent_tree x.root ≤ n → IsProperDesign (without_limits is_design_name) x
+    → IsProperDesign (bounds is_design_name n n) x
 bound-design n x h p = (p.0, bound_tree n x.version 0 x.root (omega (arith, h)) p.1)
 
 -- wider limits are kept too
@@ -101,5 +108,6 @@ module _ (nests most : ℕ) (v : Option VersionTwo) where
     free_trees d Empty p = tt
     free_trees d (With t ts) p = (free_tree d t p.0, free_trees d ts p.1)
 
-pub free-design : (nests most : ℕ) (x : Design) → IsProperDesign (bounds is_design_name nests most) x → IsProperDesign (without_limits is_design_name) x
+pub free-design : (nests most : ℕ) (x : Design) → IsProperDesign (bounds is_design_name nests most) x
+    → IsProperDesign (without_limits is_design_name) x
 free-design nests most x p = (p.0, free_tree nests most x.version 0 x.root p.1)

@@ -19,7 +19,10 @@ use Rattle.ods_tree.proofs.Short.{group, design}
 use Rattle.token_read.specs.Readers.{fixed_at, number_at, name_at}
 use Rattle.seq_read.specs.Statements.{next_is_name}
 use Rattle.seq_read.specs.Parts.{named_at}
-use Rattle.ods_read.specs.Readers.{kind_named, constraint_named, key_named, unit_named, cost_at, cost_list_at, costs_at, unit_at, attribute_at, attribute_list_at, attributes_at, constraint_at, op_name_at, needed_at, needed_list_at, requires_at, provides_at, provided_list_at, data_at, datum_list_at, bodies_at, thread_at, link_at, link_list_at, implements_at}
+use Rattle.ods_read.specs.Readers.{kind_named, constraint_named, key_named, unit_named, cost_at, cost_list_at, costs_at, unit_at, attribute_at}
+use Rattle.ods_read.specs.Readers.{attribute_list_at, attributes_at, constraint_at, op_name_at, needed_at, needed_list_at, requires_at}
+use Rattle.ods_read.specs.Readers.{provides_at, provided_list_at, data_at, datum_list_at, bodies_at, thread_at, link_at, link_list_at}
+use Rattle.ods_read.specs.Readers.{implements_at}
 use Rattle.ods_read.specs.ObjectReaders.{over_at, children_at, object_at, tree_with}
 use Rattle.ods_read.specs.DesignReaders.{version_at, two_at, tick_at, priorities_at, design_with, design_at}
 use Rattle.ods_read.specs.Answers.{SomeDesign, AnyDesign, Keeps}
@@ -95,7 +98,8 @@ unfolding constraint_at named_at constraint_named
 constraint_out = refl
 
 -- a section ends at the first token that begins no item, and is left out where its word is not next
-requires_read : requires_at (w "requires" ∷ w "a" ∷ Sign Dot ∷ w "attributes" ∷ semicolon ∷ w "data" ∷ []) ≡ Ok (record { object = codes "a"; op = codes "attributes" } ∷ [], w "data" ∷ [])
+requires_read : requires_at (w "requires" ∷ w "a" ∷ Sign Dot ∷ w "attributes" ∷ semicolon ∷ w "data" ∷ [])
+    ≡ Ok (record { object = codes "a"; op = codes "attributes" } ∷ [], w "data" ∷ [])
 unfolding requires_at needed_list_at needed_at op_name_at fixed_at name_at next_is_name is_design_name
 requires_read = refl
 
@@ -109,7 +113,8 @@ unfolding requires_at needed_list_at needed_at op_name_at fixed_at name_at next_
 requires_empty = refl
 
 -- a word of the grammar that is a name
-link_read : link_at (w "aser" ∷ w "by" ∷ w "object" ∷ Sign Dot ∷ w "costs" ∷ semicolon ∷ []) ≡ Ok (record { op = codes "aser"; to = record { object = codes "object"; op = codes "costs" } }, [])
+link_read : link_at (w "aser" ∷ w "by" ∷ w "object" ∷ Sign Dot ∷ w "costs" ∷ semicolon ∷ [])
+    ≡ Ok (record { op = codes "aser"; to = record { object = codes "object"; op = codes "costs" } }, [])
 unfolding link_at op_name_at fixed_at name_at is_design_name
 link_read = refl
 
@@ -127,21 +132,28 @@ unfolding over_at
 over_syntax = refl
 
 -- the name at the end of an object is that at its head
-object_read : tree_with (children_at over_at) false 32 0 (w "object" ∷ w "a" ∷ w "is" ∷ w "active" ∷ w "end" ∷ w "a" ∷ semicolon ∷ []) ≡ Ok (group (codes "a") [], [])
-unfolding tree_with object_at children_at named_at kind_named attributes_at attribute_list_at provides_at provided_list_at requires_at needed_list_at data_at datum_list_at bodies_at thread_at implements_at link_list_at fixed_at name_at is_design_name
+object_read : tree_with (children_at over_at) false 32 0 (w "object" ∷ w "a" ∷ w "is" ∷ w "active" ∷ w "end" ∷ w "a" ∷ semicolon ∷ [])
+    ≡ Ok (group (codes "a") [], [])
+unfolding tree_with object_at children_at named_at kind_named attributes_at attribute_list_at provides_at provided_list_at requires_at needed_list_at
+    data_at datum_list_at bodies_at thread_at implements_at link_list_at fixed_at name_at is_design_name
 object_read = refl
 
-object_other : tree_with (children_at over_at) false 32 0 (w "object" ∷ w "a" ∷ w "is" ∷ w "active" ∷ w "end" ∷ w "b" ∷ semicolon ∷ []) ≡ Err (Syntax 2)
-unfolding tree_with object_at children_at named_at kind_named attributes_at attribute_list_at provides_at provided_list_at requires_at needed_list_at data_at datum_list_at bodies_at thread_at implements_at link_list_at fixed_at name_at is_design_name
+object_other : tree_with (children_at over_at) false 32 0 (w "object" ∷ w "a" ∷ w "is" ∷ w "active" ∷ w "end" ∷ w "b" ∷ semicolon ∷ [])
+    ≡ Err (Syntax 2)
+unfolding tree_with object_at children_at named_at kind_named attributes_at attribute_list_at provides_at provided_list_at requires_at needed_list_at
+    data_at datum_list_at bodies_at thread_at implements_at link_list_at fixed_at name_at is_design_name
 object_other = refl
 
 -- an object inside the last one that may nest
-object_deep : tree_with (children_at over_at) false 32 0 (w "object" ∷ w "a" ∷ w "is" ∷ w "active" ∷ w "objects" ∷ w "object" ∷ w "b" ∷ []) ≡ Err (TooDeep 2)
-unfolding tree_with object_at children_at over_at named_at kind_named attributes_at attribute_list_at provides_at provided_list_at requires_at needed_list_at data_at datum_list_at bodies_at thread_at fixed_at name_at is_design_name
+object_deep : tree_with (children_at over_at) false 32 0 (w "object" ∷ w "a" ∷ w "is" ∷ w "active" ∷ w "objects" ∷ w "object" ∷ w "b" ∷ [])
+    ≡ Err (TooDeep 2)
+unfolding tree_with object_at children_at over_at named_at kind_named attributes_at attribute_list_at provides_at provided_list_at requires_at
+    needed_list_at data_at datum_list_at bodies_at thread_at fixed_at name_at is_design_name
 object_deep = refl
 
 -- DESIGNS
-version_read : version_at (w "version" ∷ Number 2 ∷ w "is" ∷ w "tick" ∷ Sign Equal ∷ Number 1 ∷ w "ms" ∷ semicolon ∷ w "costs" ∷ []) ≡ Ok (Some (record { tick = 1; unit = Ms; priorities = None }), w "costs" ∷ [])
+version_read : version_at (w "version" ∷ Number 2 ∷ w "is" ∷ w "tick" ∷ Sign Equal ∷ Number 1 ∷ w "ms" ∷ semicolon ∷ w "costs" ∷ [])
+    ≡ Ok (Some (record { tick = 1; unit = Ms; priorities = None }), w "costs" ∷ [])
 unfolding version_at two_at tick_at priorities_at named_at unit_named fixed_at number_at
 version_read = refl
 
@@ -155,19 +167,55 @@ small = design (group (codes "r") [])
 
 small_proper : IsProperDesign (within_limits is_design_name) small
 unfolding is_design_name
-small_proper = (refl, (record { nests = refl; name = refl; attrs = tt; provides = tt; needs = tt; vars = tt; bodies = tt; thread = tt; links = tt }, tt))
+small_proper = (
+  refl,
+  (
+    record {
+      nests = refl;
+      name = refl;
+      attrs = tt;
+      provides = tt;
+      needs = tt;
+      vars = tt;
+      bodies = tt;
+      thread = tt;
+      links = tt;
+    },
+    tt,
+  ),
+)
 
 small_free : IsProperDesign (without_limits is_design_name) small
 unfolding is_design_name
-small_free = (refl, (record { nests = refl; name = refl; attrs = tt; provides = tt; needs = tt; vars = tt; bodies = tt; thread = tt; links = tt }, tt))
+small_free = (
+  refl,
+  (
+    record {
+      nests = refl;
+      name = refl;
+      attrs = tt;
+      provides = tt;
+      needs = tt;
+      vars = tt;
+      bodies = tt;
+      thread = tt;
+      links = tt;
+    },
+    tt,
+  ),
+)
 
 small_read : whole_at design_at (design_tokens small) ≡ Ok small
-unfolding design_with version_at costs_at cost_list_at cost_at tree_with object_at children_at named_at kind_named attributes_at attribute_list_at provides_at provided_list_at requires_at needed_list_at data_at datum_list_at bodies_at thread_at implements_at link_list_at fixed_at number_at name_at is_design_name
+unfolding design_with version_at costs_at cost_list_at cost_at tree_with object_at children_at named_at kind_named attributes_at attribute_list_at
+    provides_at provided_list_at requires_at needed_list_at data_at datum_list_at bodies_at thread_at implements_at link_list_at fixed_at number_at
+    name_at is_design_name
 small_read = refl
 
 -- something behind the end
 small_other : whole_at design_at (design_tokens small ++ semicolon ∷ []) ≡ Err (Syntax 1)
-unfolding design_with version_at costs_at cost_list_at cost_at tree_with object_at children_at named_at kind_named attributes_at attribute_list_at provides_at provided_list_at requires_at needed_list_at data_at datum_list_at bodies_at thread_at implements_at link_list_at fixed_at number_at name_at is_design_name
+unfolding design_with version_at costs_at cost_list_at cost_at tree_with object_at children_at named_at kind_named attributes_at attribute_list_at
+    provides_at provided_list_at requires_at needed_list_at data_at datum_list_at bodies_at thread_at implements_at link_list_at fixed_at number_at
+    name_at is_design_name
 small_other = refl
 
 -- TOKENS THAT KEEP THE LIMITS

@@ -10,26 +10,31 @@ use Rattle.ods_tree.specs.declared.design.Link.{Link}
 use Rattle.token_read.specs.Readers.{next_is}
 use Rattle.seq_read.specs.Statements.{BlockReader}
 use Rattle.seq_read.proofs.Turns.{onward, onward-fails, onward-ends}
-use Rattle.ods_read.specs.Readers.{next_by, key_named, next_is_design_name, some_at, attribute_at, attribute_list_at, provided_at, provided_list_at, needed_at, needed_list_at, link_at, link_list_at, body_at, bodies_at}
+use Rattle.ods_read.specs.Readers.{next_by, key_named, next_is_design_name, some_at, attribute_at, attribute_list_at, provided_at}
+use Rattle.ods_read.specs.Readers.{provided_list_at, needed_at, needed_list_at, link_at, link_list_at, body_at, bodies_at}
 
 -- the items so far, and those that are left
 abbrev pub gathered : {A : Type 0} → (Option Token → Bool) → (List Token → Read Token A) → List A → List Token → Read Token (List A)
 gathered test r = onward test r pure_at
 
 -- behind the first item
-some-start : {A : Type 0} (test : Option Token → Bool) (r : List Token → Read Token A) (ts rest : List Token) (a : A) → r ts ≡ Ok (a, rest) → gathered test r (a ∷ []) rest ≡ some_at test r ts
+some-start : {A : Type 0} (test : Option Token → Bool) (r : List Token → Read Token A) (ts rest : List Token) (a : A) → r ts ≡ Ok (a, rest)
+    → gathered test r (a ∷ []) rest ≡ some_at test r ts
 unfolding onward
 some-start test r ts rest a e = rw e refl
 
-pub attribute-start : (units : Bool) (ts rest : List Token) (a : Attr) → attribute_at units ts ≡ Ok (a, rest) → gathered (next_by key_named) (attribute_at units) (a ∷ []) rest ≡ attribute_list_at units ts
+pub attribute-start : (units : Bool) (ts rest : List Token) (a : Attr) → attribute_at units ts ≡ Ok (a, rest)
+    → gathered (next_by key_named) (attribute_at units) (a ∷ []) rest ≡ attribute_list_at units ts
 unfolding attribute_list_at
 attribute-start units = some-start (next_by key_named) (attribute_at units)
 
-pub provided-start : (ts rest : List Token) (p : Provided) → provided_at ts ≡ Ok (p, rest) → gathered next_is_design_name provided_at (p ∷ []) rest ≡ provided_list_at ts
+pub provided-start : (ts rest : List Token) (p : Provided) → provided_at ts ≡ Ok (p, rest)
+    → gathered next_is_design_name provided_at (p ∷ []) rest ≡ provided_list_at ts
 unfolding provided_list_at
 provided-start = some-start next_is_design_name provided_at
 
-pub needed-start : (ts rest : List Token) (o : OpName) → needed_at ts ≡ Ok (o, rest) → gathered next_is_design_name needed_at (o ∷ []) rest ≡ needed_list_at ts
+pub needed-start : (ts rest : List Token) (o : OpName) → needed_at ts ≡ Ok (o, rest)
+    → gathered next_is_design_name needed_at (o ∷ []) rest ≡ needed_list_at ts
 unfolding needed_list_at
 needed-start = some-start next_is_design_name needed_at
 

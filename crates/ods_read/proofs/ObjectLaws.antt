@@ -23,8 +23,12 @@ use Rattle.seq_read.specs.Statements.{BlockReader, next_is_name}
 use Rattle.seq_read.specs.Parts.{end_tokens}
 use Rattle.ods_read.specs.Readers.{key_named, next_by, next_is_design_name}
 use Rattle.ods_read.specs.ObjectReaders.{TreesReader, next_is_object, object_at}
-use Rattle.ods_read.proofs.SpelledLaws.{joins-part, IsSpelled, section_tokens, EndsSection, IsHeadedBy, on-then, on-end, section_headed, section_stops}
-use Rattle.ods_read.proofs.PartLaws.{kind_word, reads-kind, reads-design_name, attribute_tokens, reads-attributes, IsProvided, provided_tokens, reads-provides, IsOpName, needed_tokens, reads-requires, IsDatum, datum_tokens, reads-data, IsLink, link_tokens, reads-implements, EndsBlock, IsBlock, IsBody, body_tokens, reads-bodies, thread_tokens, EndsThread, reads-thread}
+use Rattle.ods_read.proofs.SpelledLaws.{joins-part, IsSpelled, section_tokens, EndsSection, IsHeadedBy, on-then, on-end, section_headed}
+use Rattle.ods_read.proofs.SpelledLaws.{section_stops}
+use Rattle.ods_read.proofs.PartLaws.{kind_word, reads-kind, reads-design_name, attribute_tokens, reads-attributes, IsProvided, provided_tokens}
+use Rattle.ods_read.proofs.PartLaws.{reads-provides, IsOpName, needed_tokens, reads-requires, IsDatum, datum_tokens, reads-data, IsLink}
+use Rattle.ods_read.proofs.PartLaws.{link_tokens, reads-implements, EndsBlock, IsBlock, IsBody, body_tokens, reads-bodies, thread_tokens}
+use Rattle.ods_read.proofs.PartLaws.{EndsThread, reads-thread}
 
 -- the tokens of an object, by those of the objects inside it
 abbrev pub object_tokens : Object → List Token → List Token
@@ -109,7 +113,8 @@ no_names = (refl, (refl, (refl, (refl, (refl, (refl, (refl, tt)))))))
 
 attributes_stop : (xs : List Attr) → Each (λ u. EndsSection (codes "attributes") (next_by key_named) xs (Some (Word u))) behind_attributes
 unfolding key_named
-attributes_stop xs = section_stops (codes "attributes") (next_by key_named) behind_attributes xs (refl, (refl, (refl, (refl, (refl, (refl, (refl, (refl, tt)))))))) (refl, (refl, (refl, (refl, (refl, (refl, (refl, (refl, tt))))))))
+attributes_stop xs = section_stops (codes "attributes") (next_by key_named) behind_attributes xs
+    (refl, (refl, (refl, (refl, (refl, (refl, (refl, (refl, tt)))))))) (refl, (refl, (refl, (refl, (refl, (refl, (refl, (refl, tt))))))))
 
 thread_stops : (t : Option Statements) → Each (λ u. EndsThread t (Some (Word u))) behind_thread
 thread_stops None = (refl, (refl, (refl, tt)))
@@ -120,7 +125,8 @@ children_stop Empty = (refl, (refl, tt))
 children_stop (With t ts) = (refl, (refl, tt))
 
 provides_stop : (xs : List Provided) → Each (λ u. EndsSection (codes "provides") next_is_design_name xs (Some (Word u))) behind_provides
-provides_stop xs = section_stops (codes "provides") next_is_design_name behind_provides xs (refl, (refl, (refl, (refl, (refl, (refl, (refl, tt))))))) no_names
+provides_stop xs = section_stops (codes "provides") next_is_design_name behind_provides xs
+    (refl, (refl, (refl, (refl, (refl, (refl, (refl, tt))))))) no_names
 
 requires_stop : (xs : List OpName) → Each (λ u. EndsSection (codes "requires") next_is_design_name xs (Some (Word u))) behind_needs
 requires_stop xs = section_stops (codes "requires") next_is_design_name behind_needs xs (refl, (refl, (refl, (refl, (refl, (refl, tt)))))) no_names.1
@@ -167,7 +173,8 @@ module _ (l : Limits) (v : Option VersionTwo) (d : ℕ) (block : BlockReader) (b
   unfolding object_at
   reads-object = reads-same _ (IsSpelled (IsWhole l v d Kids) tree_tokens) Any (object_at (is_some v) block children)
       (λ t text g1.
-      let g2 = g1.after in let g3 = g2.after in let g4 = g3.after in let g5 = g4.after in let g6 = g5.after in let g7 = g6.after in let g8 = g7.after in
+      let g2 = g1.after in let g3 = g2.after in let g4 = g3.after in let g5 = g4.after in let g6 = g5.after in let g7 = g6.after
+      in let g8 = g7.after in
       let g9 = g8.after in let g10 = g9.after in let g11 = g10.after in let g12 = g11.after in let g13 = g12.after in
       let P : Tree → Type 0 = λ u. IsSpelled (IsWhole l v d Kids) tree_tokens u text in
       subst P (sym g13.after.0) (
@@ -217,7 +224,8 @@ module _ (l : Limits) (v : Option VersionTwo) (d : ℕ) (block : BlockReader) (b
       (λ t text h.
       let o = own t in
       let p = h.0.0 in
-      rw (h.1 ∙ spelled_of t) (joins-fixed _ (Word (codes "object")) t _ (joins-name is_design_name _ o.name t _ p.name (joins-fixed _ (Word (codes "is")) t _
+      rw (h.1 ∙ spelled_of t) (joins-fixed _ (Word (codes "object")) t _
+      (joins-name is_design_name _ o.name t _ p.name (joins-fixed _ (Word (codes "is")) t _
       (joins-part _ o.kind (Word (kind_word o.kind) ∷ []) t _ refl
       (joins-part _ o.attrs (section_tokens (codes "attributes") attribute_tokens o.attrs) t _ (p.attrs, refl)
       (joins-part _ o.provides (section_tokens (codes "provides") provided_tokens o.provides) t _ (p.provides, refl)
@@ -228,13 +236,19 @@ module _ (l : Limits) (v : Option VersionTwo) (d : ℕ) (block : BlockReader) (b
       (joins-part _ (inner t) (children_tokens (inner t)) t _ (h.0.1, refl)
       (joins-part _ o.links (section_tokens (codes "implements") link_tokens o.links) t _ (p.links, refl)
       (joins-phrase _ (end_tokens o.name) t [] (whole_of t, refl)))))))))))))))
-      (andthen (reads-fixed (Word (codes "object"))) (λ _. andthen reads-design_name (λ name. andthen (reads-fixed (Word (codes "is"))) (λ _. andthen reads-kind (λ kind.
-      (on-then (codes "attributes") behind_attributes (reads-attributes v) (λ xs text g. section_headed (codes "attributes") attribute_tokens xs text g.1) attributes_stop (λ attrs.
-      on-then (codes "provides") behind_provides reads-provides (λ xs text g. section_headed (codes "provides") provided_tokens xs text g.1) provides_stop (λ provides.
-      on-then (codes "requires") behind_needs reads-requires (λ xs text g. section_headed (codes "requires") needed_tokens xs text g.1) requires_stop (λ needs.
+      (andthen (reads-fixed (Word (codes "object")))
+      (λ _. andthen reads-design_name (λ name. andthen (reads-fixed (Word (codes "is"))) (λ _. andthen reads-kind (λ kind.
+      (on-then (codes "attributes") behind_attributes (reads-attributes v)
+      (λ xs text g. section_headed (codes "attributes") attribute_tokens xs text g.1) attributes_stop (λ attrs.
+      on-then (codes "provides") behind_provides reads-provides (λ xs text g. section_headed (codes "provides") provided_tokens xs text g.1)
+      provides_stop (λ provides.
+      on-then (codes "requires") behind_needs reads-requires (λ xs text g. section_headed (codes "requires") needed_tokens xs text g.1)
+      requires_stop (λ needs.
       on-then (codes "data") behind_data reads-data (λ xs text g. section_headed (codes "data") datum_tokens xs text g.1) data_stop (λ vars.
-      on-then (codes "operation") behind_bodies (reads-bodies l d block block_law) (λ xs text g. bodies_headed xs text g.1) (λ bs. (refl, (refl, (refl, (refl, tt))))) (λ bodies.
+      on-then (codes "operation") behind_bodies (reads-bodies l d block block_law) (λ xs text g. bodies_headed xs text g.1)
+      (λ bs. (refl, (refl, (refl, (refl, tt))))) (λ bodies.
       on-then (codes "thread") behind_thread (reads-thread l d block block_law) (λ t text g. thread_headed t text g.1) thread_stops (λ thread.
       on-then (codes "objects") behind_objects kid_law (λ ts text g. children_headed ts text g.1) children_stop (λ kids.
-      on-then (codes "implements") ends reads-implements (λ xs text g. section_headed (codes "implements") link_tokens xs text g.1) links_stop (λ links.
+      on-then (codes "implements") ends reads-implements (λ xs text g. section_headed (codes "implements") link_tokens xs text g.1)
+      links_stop (λ links.
       on-end name (made name kind attrs provides needs vars bodies thread kids links)))))))))).reads)))))

@@ -20,10 +20,12 @@ close_list ts = pure_at (trees_of ts)
 abbrev pub trees_after : TreeReader → List Tree → TreesReader
 trees_after tree = onward next_is_object tree close_list
 
-pub trees-start : (tree : TreeReader) (ts rest : List Token) (t : Tree) → tree ts ≡ Ok (t, rest) → trees_after tree (t ∷ []) rest ≡ tree_list_at tree ts
+pub trees-start : (tree : TreeReader) (ts rest : List Token) (t : Tree) → tree ts ≡ Ok (t, rest)
+    → trees_after tree (t ∷ []) rest ≡ tree_list_at tree ts
 unfolding tree_list_at onward
 trees-start tree ts rest t e = rw e (same (many_at next_is_object tree rest)) where
-  same : (q : Read Token (List Tree)) → (q >>= λ y. pure_at (trees_of (t ∷ y.0)) y.1) ≡ ((q >>= λ y. pure_at (t ∷ y.0) y.1) >>= λ z. pure_at (trees_of z.0) z.1)
+  same : (q : Read Token (List Tree)) → (q >>= λ y. pure_at (trees_of (t ∷ y.0)) y.1)
+      ≡ ((q >>= λ y. pure_at (t ∷ y.0) y.1) >>= λ z. pure_at (trees_of z.0) z.1)
   same (Ok y) = refl
   same (Err halt) = refl
 
@@ -31,7 +33,8 @@ pub trees-fail : (tree : TreeReader) (ts : List Token) (halt : _) → tree ts �
 unfolding tree_list_at
 trees-fail tree ts halt e = rw e refl
 
-pub object_whole : (units : Bool) (deeper : ℕ) (ts : List Token) → tree_at units 32 deeper ts ≡ object_at units (block_at is_design_name 32 deeper) (children_at (inside_at units deeper)) ts
+pub object_whole : (units : Bool) (deeper : ℕ) (ts : List Token) → tree_at units 32 deeper ts
+    ≡ object_at units (block_at is_design_name 32 deeper) (children_at (inside_at units deeper)) ts
 unfolding tree_with
 object_whole units zero ts = refl
 object_whole units (suc deeper) ts = refl

@@ -1,5 +1,6 @@
 -- The readers of costs and of the parts of an object read their grammar, where the reader of blocks reads exactly blocks.
-use Rattle.std.proofs.Common.{◌≡◌, ℕ, Bool, true, false, List, [], ◌∷◌, ◌++◌, Option, None, Some, is_some, codes, flat_map, refl, sym, ap, subst, ◌∙◌, arith, ◌⊎◌, inl, inr, append_assoc}
+use Rattle.std.proofs.Common.{◌≡◌, ℕ, Bool, true, false, List, [], ◌∷◌, ◌++◌, Option, None, Some, is_some, codes, flat_map, refl, sym, ap, subst}
+use Rattle.std.proofs.Common.{◌∙◌, arith, ◌⊎◌, inl, inr, append_assoc}
 use Rattle.grammar.specs.Reading.{first, then_at, pure_at, many_at, Reads, Joined}
 use Rattle.grammar.proofs.Laws.{IsOnly, reads-same, reads-then, reads-pure, reads-map}
 use Rattle.seq_tree.specs.Lists.{Each}
@@ -30,13 +31,19 @@ use Rattle.ods_tree.specs.declared.design.VersionTwo.{VersionTwo}
 use Rattle.ods_tree.specs.declared.design.Attr.{Attr}
 use Rattle.ods_tree.specs.declared.design.Link.{Link}
 use Rattle.token_read.specs.Readers.{next_is}
-use Rattle.token_read.proofs.TokenLaws.{Any, IsPhrase, IsName, andthen, reads-fixed, reads-phrase, reads-number, reads-name, joins-fixed, joins-phrase, joins-number, joins-name}
+use Rattle.token_read.proofs.TokenLaws.{Any, IsPhrase, IsName, andthen, reads-fixed, reads-phrase, reads-number, reads-name, joins-fixed}
+use Rattle.token_read.proofs.TokenLaws.{joins-phrase, joins-number, joins-name}
 use Rattle.seq_read.specs.Statements.{BlockReader, begins_statement, kind_of, next_is_name}
 use Rattle.seq_read.proofs.StatementLaws.{before-token}
 use Rattle.seq_read.proofs.StatementTokens.{block_toks}
 use Rattle.seq_read.specs.Parts.{named_at, mode_named, end_tokens}
-use Rattle.ods_read.specs.Readers.{next_by, kind_named, constraint_named, key_named, unit_named, design_name_at, next_is_design_name, end_at, op_name_at, cost_at, cost_list_at, costs_at, next_is_unit, unit_at, attribute_at, attribute_list_at, attributes_at, param_at, more_param_at, param_list_at, enclosed_at, params_at, constraint_at, provided_at, provided_list_at, provides_at, needed_at, needed_list_at, requires_at, datum_at, locals_at, datum_list_at, data_at, body_at, bodies_at, activation_at, thread_at, link_at, link_list_at, implements_at}
-use Rattle.ods_read.proofs.SpelledLaws.{joins-part, reads-equal, tried, IsWordOf, reads-named, reads-optional, IsSpelled, section_tokens, EndsSection, reads-spelled, reads-some, reads-section}
+use Rattle.ods_read.specs.Readers.{next_by, kind_named, constraint_named, key_named, unit_named, design_name_at, next_is_design_name, end_at}
+use Rattle.ods_read.specs.Readers.{op_name_at, cost_at, cost_list_at, costs_at, next_is_unit, unit_at, attribute_at, attribute_list_at}
+use Rattle.ods_read.specs.Readers.{attributes_at, param_at, more_param_at, param_list_at, enclosed_at, params_at, constraint_at, provided_at}
+use Rattle.ods_read.specs.Readers.{provided_list_at, provides_at, needed_at, needed_list_at, requires_at, datum_at, locals_at, datum_list_at}
+use Rattle.ods_read.specs.Readers.{data_at, body_at, bodies_at, activation_at, thread_at, link_at, link_list_at, implements_at}
+use Rattle.ods_read.proofs.SpelledLaws.{joins-part, reads-equal, tried, IsWordOf, reads-named, reads-optional, IsSpelled, section_tokens}
+use Rattle.ods_read.proofs.SpelledLaws.{EndsSection, reads-spelled, reads-some, reads-section}
 
 -- WORDS
 abbrev pub kind_word : Kind → List ℕ
@@ -173,19 +180,24 @@ reads-cost statement = reads-same _ (λ n text. text ≡ cost_tokens statement n
     (λ n text g.
     let a = g.after in let b = a.after in let d = b.after in
     rw (d.after.0, g.whole, g.before, a.whole, a.before, b.whole, b.before, d.whole, d.before, d.after.1) refl)
-    (λ n text h. rw h (joins-fixed _ (Word statement) n _ (joins-fixed _ (Sign Equal) n _ (joins-number _ n n _ (joins-fixed _ (Sign Semicolon) n [] (refl, refl))))))
-    (andthen (reads-fixed (Word statement)) (λ _. andthen (reads-fixed (Sign Equal)) (λ _. andthen reads-number (λ n. andthen (reads-fixed (Sign Semicolon)) (λ _. reads-pure Any n (λ _. tt))))))
+    (λ n text h. rw h (joins-fixed _ (Word statement) n _
+    (joins-fixed _ (Sign Equal) n _ (joins-number _ n n _ (joins-fixed _ (Sign Semicolon) n [] (refl, refl))))))
+    (andthen (reads-fixed (Word statement)) (λ _. andthen (reads-fixed (Sign Equal))
+    (λ _. andthen reads-number (λ n. andthen (reads-fixed (Sign Semicolon)) (λ _. reads-pure Any n (λ _. tt))))))
 
 abbrev pub cost_list_tokens : Costs → List Token
 cost_list_tokens c =
-    cost_tokens (codes "assign") c.assign ++ (cost_tokens (codes "test") c.test ++ (cost_tokens (codes "turn") c.turn ++ (cost_tokens (codes "call") c.call
+    cost_tokens (codes "assign") c.assign ++ (cost_tokens (codes "test") c.test
+    ++ (cost_tokens (codes "turn") c.turn ++ (cost_tokens (codes "call") c.call
     ++ (cost_tokens (codes "null") c.nothing ++ (cost_tokens (codes "put") c.put ++ (cost_tokens (codes "finish") c.finish ++ []))))))
 
 abbrev AreCosts : Costs → List Token → Type 0
 AreCosts c text = text ≡ cost_list_tokens c
 
-costs_to : (assign test turn call nothing put finish : ℕ) (c : Costs) → c ≡ record { assign = assign; test = test; turn = turn; call = call; nothing = nothing; put = put; finish = finish } →
-    (text : List Token) → AreCosts (record { assign = assign; test = test; turn = turn; call = call; nothing = nothing; put = put; finish = finish }) text → AreCosts c text
+costs_to : (assign test turn call nothing put finish : ℕ) (c : Costs)
+    → c ≡ record { assign = assign; test = test; turn = turn; call = call; nothing = nothing; put = put; finish = finish } →
+    (text : List Token) → AreCosts (record { assign = assign; test = test; turn = turn; call = call; nothing = nothing; put = put; finish = finish })
+    text → AreCosts c text
 costs_to assign test turn call nothing put finish c e text h = let P : Costs → Type 0 = λ d. AreCosts d text in subst P (sym e) h
 
 reads-cost_list : Reads AreCosts Any cost_list_at
@@ -194,15 +206,33 @@ reads-cost_list = reads-same _ AreCosts Any cost_list_at
     (λ c text g1.
     let g2 = g1.after in let g3 = g2.after in let g4 = g3.after in let g5 = g4.after in let g6 = g5.after in let g7 = g6.after in
     costs_to g1.a g2.a g3.a g4.a g5.a g6.a g7.a c g7.after.0 text
-    (rw (g1.whole, g1.before, g2.whole, g2.before, g3.whole, g3.before, g4.whole, g4.before, g5.whole, g5.before, g6.whole, g6.before, g7.whole, g7.before, g7.after.1) (refl {a = cost_list_tokens (record { assign = g1.a; test = g2.a; turn = g3.a; call = g4.a; nothing = g5.a; put = g6.a; finish = g7.a })})))
+    (rw (
+      g1.whole,
+      g1.before,
+      g2.whole,
+      g2.before,
+      g3.whole,
+      g3.before,
+      g4.whole,
+      g4.before,
+      g5.whole,
+      g5.before,
+      g6.whole,
+      g6.before,
+      g7.whole,
+      g7.before,
+      g7.after.1,
+    ) (refl {a = cost_list_tokens (record { assign = g1.a; test = g2.a; turn = g3.a; call = g4.a; nothing = g5.a; put = g6.a; finish = g7.a })})))
     (λ c text h.
     rw h (joins-part _ c.assign (cost_tokens (codes "assign") c.assign) c _ refl (joins-part _ c.test (cost_tokens (codes "test") c.test) c _ refl
     (joins-part _ c.turn (cost_tokens (codes "turn") c.turn) c _ refl (joins-part _ c.call (cost_tokens (codes "call") c.call) c _ refl
     (joins-part _ c.nothing (cost_tokens (codes "null") c.nothing) c _ refl (joins-part _ c.put (cost_tokens (codes "put") c.put) c _ refl
     (joins-part _ c.finish (cost_tokens (codes "finish") c.finish) c [] refl (refl, refl)))))))))
-    (andthen (reads-cost (codes "assign")) (λ assign. andthen (reads-cost (codes "test")) (λ test. andthen (reads-cost (codes "turn")) (λ turn. andthen (reads-cost (codes "call")) (λ call.
+    (andthen (reads-cost (codes "assign")) (λ assign. andthen (reads-cost (codes "test"))
+    (λ test. andthen (reads-cost (codes "turn")) (λ turn. andthen (reads-cost (codes "call")) (λ call.
     andthen (reads-cost (codes "null")) (λ nothing. andthen (reads-cost (codes "put")) (λ put. andthen (reads-cost (codes "finish")) (λ finish.
-    reads-pure Any (record { assign = assign; test = test; turn = turn; call = call; nothing = nothing; put = put; finish = finish }) (λ _. tt)))))))))
+    reads-pure Any (record { assign = assign; test = test; turn = turn; call = call; nothing = nothing; put = put; finish = finish })
+    (λ _. tt)))))))))
 
 abbrev pub costs_tokens : Costs → List Token
 costs_tokens c = Word (codes "costs") ∷ (cost_list_tokens c ++ (end_tokens (codes "costs") ++ []))
@@ -211,8 +241,10 @@ pub reads-costs : Reads (λ c text. text ≡ costs_tokens c) Any costs_at
 unfolding costs_at
 reads-costs = reads-same _ (λ c text. text ≡ costs_tokens c) Any costs_at
     (λ c text g. let a = g.after in let b = a.after in rw (b.after.0, g.whole, g.before, a.whole, a.before, b.whole, b.before, b.after.1) refl)
-    (λ c text h. rw h (joins-fixed _ (Word (codes "costs")) c _ (joins-part _ c (cost_list_tokens c) c _ refl (joins-phrase _ (end_tokens (codes "costs")) c [] (refl, refl)))))
-    (andthen (reads-fixed (Word (codes "costs"))) (λ _. andthen reads-cost_list (λ c. andthen (reads-phrase (end_tokens (codes "costs"))) (λ _. reads-pure Any c (λ _. tt)))))
+    (λ c text h. rw h (joins-fixed _ (Word (codes "costs")) c _ (joins-part _ c (cost_list_tokens c) c _ refl
+    (joins-phrase _ (end_tokens (codes "costs")) c [] (refl, refl)))))
+    (andthen (reads-fixed (Word (codes "costs")))
+    (λ _. andthen reads-cost_list (λ c. andthen (reads-phrase (end_tokens (codes "costs"))) (λ _. reads-pure Any c (λ _. tt)))))
 
 -- ATTRIBUTES
 abbrev pub unit_tokens : Option TickUnit → List Token
@@ -285,18 +317,24 @@ reads-attribute v = reads-same _ (IsSpelled (IsProperAttribute v) attribute_toke
     ))
     (λ a text h.
     rw h.1 (joins-part _ a.key (Word (key_word a.key) ∷ []) a _ refl (joins-fixed _ (Sign Equal) a _ (joins-number _ a.value a _
-    (joins-part _ a.unit (unit_tokens a.unit) a _ (unit_alone v a (with_unit a.unit) refl h.0, refl) (joins-fixed _ (Sign Semicolon) a [] (refl, refl)))))))
-    (andthen reads-key (λ key. andthen (reads-fixed (Sign Equal)) (λ _. andthen reads-number (λ n. before-token (Sign Semicolon) (unit_ends v) (reads-unit v) (λ u.
+    (joins-part _ a.unit (unit_tokens a.unit) a _ (unit_alone v a (with_unit a.unit) refl h.0, refl)
+    (joins-fixed _ (Sign Semicolon) a [] (refl, refl)))))))
+    (andthen reads-key (λ key. andthen (reads-fixed (Sign Equal))
+    (λ _. andthen reads-number (λ n. before-token (Sign Semicolon) (unit_ends v) (reads-unit v) (λ u.
     reads-pure Any (record { key = key; value = n; unit = u }) (λ _. tt))))))
 
 starts_attribute : (a : Attr) (rest : List Token) → next_by key_named (first (attribute_tokens a ++ rest)) ≡ true
 starts_attribute a rest = rw (key_sees a.key) refl
 
-pub reads-attributes : (v : Option VersionTwo) → Reads (λ xs text. Each (IsProperAttribute v) xs × (text ≡ section_tokens (codes "attributes") attribute_tokens xs)) (EndsSection (codes "attributes") (next_by key_named)) (attributes_at (is_some v))
+pub reads-attributes : (v : Option VersionTwo) → Reads (λ xs text. Each (IsProperAttribute v) xs
+    × (text ≡ section_tokens (codes "attributes") attribute_tokens xs)) (EndsSection (codes "attributes") (next_by key_named))
+    (attributes_at (is_some v))
 unfolding attributes_at attribute_list_at
 reads-attributes v =
-    reads-section (IsProperAttribute v) attribute_tokens (next_by key_named) (attribute_at (is_some v)) (reads-attribute v) (λ a rest h. starts_attribute a rest) (λ a. omega arith) refl
-    (codes "attributes") (attribute_list_at (is_some v)) (reads-some (IsProperAttribute v) attribute_tokens (next_by key_named) (attribute_at (is_some v)) (reads-attribute v) (λ a rest h. starts_attribute a rest) (λ a. omega arith) refl)
+    reads-section (IsProperAttribute v) attribute_tokens (next_by key_named) (attribute_at (is_some v)) (reads-attribute v)
+    (λ a rest h. starts_attribute a rest) (λ a. omega arith) refl
+    (codes "attributes") (attribute_list_at (is_some v)) (reads-some (IsProperAttribute v) attribute_tokens (next_by key_named)
+    (attribute_at (is_some v)) (reads-attribute v) (λ a rest h. starts_attribute a rest) (λ a. omega arith) refl)
 
 -- PARAMETERS AND PROVIDED OPERATIONS
 abbrev pub param_tokens : Param → List Token
@@ -318,9 +356,17 @@ reads-param = reads-same _ (IsSpelled IsNamedParam param_tokens) Any param_at
     (λ p text g1.
     let g2 = g1.after in let g3 = g2.after in let g4 = g3.after in
     let P : Param → Type 0 = λ q. IsSpelled IsNamedParam param_tokens q text in
-    subst P (sym g4.after.0) (g1.before.0, rw (g1.whole, g1.before.1, g2.whole, g2.before, g3.whole, g3.before, g4.whole, g4.before, g4.after.1) refl))
-    (λ p text h. rw h.1 (joins-name is_design_name _ p.name p _ h.0 (joins-fixed _ (Sign Colon) p _ (joins-part _ p.mode (Word (mode_word p.mode) ∷ []) p _ refl (joins-fixed _ (Word (codes "word")) p [] (refl, refl))))))
-    (andthen reads-design_name (λ name. andthen (reads-fixed (Sign Colon)) (λ _. andthen reads-mode (λ mode. andthen (reads-fixed (Word (codes "word"))) (λ _. reads-pure Any (record { name = name; mode = mode }) (λ _. tt))))))
+    subst P (sym g4.after.0) (
+      g1.before.0,
+      rw
+          (g1.whole, g1.before.1, g2.whole, g2.before, g3.whole, g3.before, g4.whole, g4.before, g4.after.1) refl,
+    ))
+    (λ p text h. rw h.1 (joins-name is_design_name _ p.name p _ h.0
+    (joins-fixed _ (Sign Colon) p _ (joins-part _ p.mode (Word (mode_word p.mode) ∷ []) p _ refl
+    (joins-fixed _ (Word (codes "word")) p [] (refl, refl))))))
+    (andthen reads-design_name (λ name. andthen (reads-fixed (Sign Colon))
+    (λ _. andthen reads-mode (λ mode. andthen (reads-fixed (Word (codes "word")))
+    (λ _. reads-pure Any (record { name = name; mode = mode }) (λ _. tt))))))
 
 pub reads-more_param : Reads (IsSpelled IsNamedParam more_tokens) Any more_param_at
 unfolding more_param_at
@@ -333,31 +379,44 @@ reads-more_param = reads-same _ (IsSpelled IsNamedParam more_tokens) Any more_pa
 abbrev EndsParams : List Param → Option Token → Type 0
 EndsParams ps o = next_is (Sign Semicolon) o ≡ false
 
-pub reads-more_params : Reads (λ ps text. Each IsNamedParam ps × (text ≡ flat_map more_tokens ps)) EndsParams (many_at (next_is (Sign Semicolon)) more_param_at)
-reads-more_params = reads-spelled IsNamedParam more_tokens (next_is (Sign Semicolon)) more_param_at reads-more_param (λ p rest h. refl) (λ p. omega arith) refl
+pub reads-more_params : Reads (λ ps text. Each IsNamedParam ps × (text ≡ flat_map more_tokens ps)) EndsParams
+    (many_at (next_is (Sign Semicolon)) more_param_at)
+reads-more_params = reads-spelled IsNamedParam more_tokens (next_is (Sign Semicolon)) more_param_at reads-more_param (λ p rest h. refl)
+    (λ p. omega arith) refl
 
 -- parameters, one at least
 abbrev AreListed : List Param → List Token → Type 0
-AreListed xs text = (p : Param) × (ps : List Param) × (xs ≡ p ∷ ps) × IsNamedParam p × Each IsNamedParam ps × (text ≡ param_tokens p ++ flat_map more_tokens ps)
+AreListed xs text = (p : Param) × (ps : List Param) × (xs ≡ p ∷ ps) × IsNamedParam p × Each IsNamedParam ps
+    × (text ≡ param_tokens p ++ flat_map more_tokens ps)
 
 -- parameters that begin with this one
 abbrev AreBehind : Param → List Param → List Token → Type 0
 AreBehind p xs text = (ps : List Param) × (xs ≡ p ∷ ps) × Each IsNamedParam ps × (text ≡ flat_map more_tokens ps)
 
-reads-params_behind : (p : Param) → Reads (AreBehind p) EndsParams (then_at (many_at (next_is (Sign Semicolon)) more_param_at) (λ ps. pure_at (p ∷ ps)))
-reads-params_behind p = reads-map (λ ps text. Each IsNamedParam ps × (text ≡ flat_map more_tokens ps)) (AreBehind p) EndsParams EndsParams (many_at (next_is (Sign Semicolon)) more_param_at) (λ ps. p ∷ ps) reads-more_params
+reads-params_behind : (p : Param)
+    → Reads (AreBehind p) EndsParams (then_at (many_at (next_is (Sign Semicolon)) more_param_at) (λ ps. pure_at (p ∷ ps)))
+reads-params_behind p = reads-map (λ ps text. Each IsNamedParam ps × (text ≡ flat_map more_tokens ps)) (AreBehind p) EndsParams EndsParams
+    (many_at (next_is (Sign Semicolon)) more_param_at) (λ ps. p ∷ ps) reads-more_params
     (λ ps text g. (ps, refl, g.0, g.1)) (λ xs text h. (h.0, (h.2, h.3), sym h.1)) (λ ps o h. h) (λ ps o h. h)
 
 reads-param_list : Reads AreListed EndsParams param_list_at
 unfolding param_list_at
 reads-param_list = reads-same _ AreListed EndsParams param_list_at
     (λ xs text g. let b = g.after in (g.a, b.0, b.1, g.before.0, b.2, rw (g.whole, g.before.1, b.3) refl))
-    (λ xs text h. record { a = h.0; front = param_tokens h.0; back = flat_map more_tokens h.1; before = (h.3, refl); after = (h.1, h.2, h.4, refl); whole = h.5 })
+    (λ xs text h. record {
+      a = h.0;
+      front = param_tokens h.0;
+      back = flat_map more_tokens h.1;
+      before = (h.3, refl);
+      after = (h.1, h.2, h.4, refl);
+      whole = h.5;
+    })
     (andthen reads-param reads-params_behind)
 
 -- parameters in parentheses
 abbrev AreEnclosed : List Param → List Token → Type 0
-AreEnclosed xs text = (p : Param) × (ps : List Param) × (xs ≡ p ∷ ps) × IsNamedParam p × Each IsNamedParam ps × (text ≡ Sign LeftParen ∷ (param_tokens p ++ (flat_map more_tokens ps ++ Sign RightParen ∷ [])))
+AreEnclosed xs text = (p : Param) × (ps : List Param) × (xs ≡ p ∷ ps) × IsNamedParam p × Each IsNamedParam ps
+    × (text ≡ Sign LeftParen ∷ (param_tokens p ++ (flat_map more_tokens ps ++ Sign RightParen ∷ [])))
 
 reads-enclosed : Reads AreEnclosed Any enclosed_at
 unfolding enclosed_at
@@ -366,7 +425,8 @@ reads-enclosed = reads-same _ AreEnclosed Any enclosed_at
     let g2 = g1.after in let g3 = g2.after in let b = g2.before in
     (b.0, b.1, g3.after.0 ∙ b.2, b.3, b.4, rw (g1.whole, g1.before, g2.whole, b.5, g3.whole, g3.before, g3.after.1) refl))
     (λ xs text h.
-    rw h.5 (joins-fixed _ (Sign LeftParen) xs _ (joins-part _ xs (param_tokens h.0 ++ flat_map more_tokens h.1) xs _ (h.0, h.1, h.2, h.3, h.4, refl) (joins-fixed _ (Sign RightParen) xs [] (refl, refl)))))
+    rw h.5 (joins-fixed _ (Sign LeftParen) xs _ (joins-part _ xs (param_tokens h.0 ++ flat_map more_tokens h.1) xs _ (h.0, h.1, h.2, h.3, h.4, refl)
+    (joins-fixed _ (Sign RightParen) xs [] (refl, refl)))))
     (andthen (reads-fixed (Sign LeftParen)) (λ _. before-token (Sign RightParen) (λ ps. refl) reads-param_list (λ ps. reads-pure Any ps (λ _. tt))))
 
 abbrev pub AreParams : List Param → List Token → Type 0
@@ -393,7 +453,8 @@ params_back (p ∷ ps) text h = inl (p, ps, refl, h.0.0, h.0.1, h.1)
 pub reads-params : Reads AreParams EndsOpening params_at
 unfolding params_at
 reads-params = reads-same _ AreParams EndsOpening params_at params_to params_back
-    (reads-optional (next_is (Sign LeftParen)) AreEnclosed Any EndsOpening enclosed_at reads-enclosed [] (λ xs text rest h. rw h.5 refl) (λ xs text o h s. opening_ends xs text o h) (λ xs text o h s. tt) (λ o t. t) (λ o t. t))
+    (reads-optional (next_is (Sign LeftParen)) AreEnclosed Any EndsOpening enclosed_at reads-enclosed [] (λ xs text rest h. rw h.5 refl)
+    (λ xs text o h s. opening_ends xs text o h) (λ xs text o h s. tt) (λ o t. t) (λ o t. t))
 
 abbrev pub constraint_tokens : Option Constraint → List Token
 constraint_tokens None = []
@@ -429,7 +490,8 @@ constraint_back (Some c) text h = inl (c, refl, h)
 pub reads-constraint : Reads IsConstraint EndsConstraint constraint_at
 unfolding constraint_at
 reads-constraint = reads-same _ IsConstraint EndsConstraint constraint_at constraint_to constraint_back
-    (reads-optional (next_by constraint_named) IsConstrained Any EndsConstraint (then_at (named_at constraint_named) (λ c. pure_at (Some c))) reads-constrained None
+    (reads-optional (next_by constraint_named) IsConstrained Any EndsConstraint (then_at (named_at constraint_named) (λ c. pure_at (Some c)))
+    reads-constrained None
     (λ c text rest h. rw (h.2, constraint_sees h.0) refl) (λ c text o h s. constraint_ends c text o h) (λ c text o h s. tt) (λ o t. t) (λ o t. t))
 
 -- a provided operation
@@ -454,19 +516,26 @@ reads-provided = reads-same _ (IsSpelled IsProvided provided_tokens) Any provide
     (λ p text g1.
     let g2 = g1.after in let g3 = g2.after in let g4 = g3.after in
     let P : Provided → Type 0 = λ q. IsSpelled IsProvided provided_tokens q text in
-    subst P (sym g4.after.0) ((g1.before.0, g2.before.0), rw (g1.whole, g1.before.1, g2.whole, g2.before.1, g3.whole, g3.before, g4.whole, g4.before, g4.after.1) refl))
+    subst P (sym g4.after.0) (
+      (g1.before.0, g2.before.0),
+      rw
+          (g1.whole, g1.before.1, g2.whole, g2.before.1, g3.whole, g3.before, g4.whole, g4.before, g4.after.1) refl,
+    ))
     (λ p text h.
     rw h.1 (joins-name is_design_name _ p.sig.name p _ h.0.0 (joins-part _ p.sig.params (params_tokens p.sig.params) p _ (h.0.1, refl)
     (joins-part _ p.constraint (constraint_tokens p.constraint) p _ refl (joins-fixed _ (Sign Semicolon) p [] (refl, refl))))))
     (andthen reads-design_name (λ name. reads-then AreParams _ EndsOpening Any params_at _ reads-params
-    (λ params. before-token (Sign Semicolon) constraint_stops reads-constraint (λ c. reads-pure Any (record { sig = record { name = name; params = params }; constraint = c }) (λ _. tt)))
+    (λ params. before-token (Sign Semicolon) constraint_stops reads-constraint
+    (λ c. reads-pure Any (record { sig = record { name = name; params = params }; constraint = c }) (λ _. tt)))
     (λ ps p back rest h stop. rw (h.whole, h.before, h.after.whole, h.after.before, append_assoc) (opening_stops ps h.a (h.after.back ++ rest)))))
 
-pub reads-provides : Reads (λ xs text. Each IsProvided xs × (text ≡ section_tokens (codes "provides") provided_tokens xs)) (EndsSection (codes "provides") next_is_design_name) provides_at
+pub reads-provides : Reads (λ xs text. Each IsProvided xs × (text ≡ section_tokens (codes "provides") provided_tokens xs))
+    (EndsSection (codes "provides") next_is_design_name) provides_at
 unfolding provides_at provided_list_at next_is_name
 reads-provides =
     reads-section IsProvided provided_tokens next_is_design_name provided_at reads-provided (λ p rest h. h.0) (λ p. omega arith) refl
-    (codes "provides") provided_list_at (reads-some IsProvided provided_tokens next_is_design_name provided_at reads-provided (λ p rest h. h.0) (λ p. omega arith) refl)
+    (codes "provides") provided_list_at (reads-some IsProvided provided_tokens next_is_design_name provided_at reads-provided (λ p rest h. h.0)
+    (λ p. omega arith) refl)
 
 -- REQUIRED OPERATIONS
 abbrev pub IsOpName : OpName → Type 0
@@ -482,8 +551,10 @@ reads-op_name = reads-same _ (IsSpelled IsOpName op_name_tokens) Any op_name_at
     let g2 = g1.after in let g3 = g2.after in
     let P : OpName → Type 0 = λ q. IsSpelled IsOpName op_name_tokens q text in
     subst P (sym g3.after.0) ((g1.before.0, g3.before.0), rw (g1.whole, g1.before.1, g2.whole, g2.before, g3.whole, g3.before.1, g3.after.1) refl))
-    (λ o text h. rw h.1 (joins-name is_design_name _ o.object o _ h.0.0 (joins-fixed _ (Sign Dot) o _ (joins-name is_design_name _ o.op o [] h.0.1 (refl, refl)))))
-    (andthen reads-design_name (λ object. andthen (reads-fixed (Sign Dot)) (λ _. andthen reads-design_name (λ op. reads-pure Any (record { object = object; op = op }) (λ _. tt)))))
+    (λ o text h. rw h.1 (joins-name is_design_name _ o.object o _ h.0.0
+    (joins-fixed _ (Sign Dot) o _ (joins-name is_design_name _ o.op o [] h.0.1 (refl, refl)))))
+    (andthen reads-design_name (λ object. andthen (reads-fixed (Sign Dot))
+    (λ _. andthen reads-design_name (λ op. reads-pure Any (record { object = object; op = op }) (λ _. tt)))))
 
 abbrev pub needed_tokens : OpName → List Token
 needed_tokens o = op_name_tokens o ++ Sign Semicolon ∷ []
@@ -498,11 +569,13 @@ reads-needed = reads-same _ (IsSpelled IsOpName needed_tokens) Any needed_at
     (λ o text h. rw h.1 (joins-part _ o (op_name_tokens o) o _ (h.0, refl) (joins-fixed _ (Sign Semicolon) o [] (refl, refl))))
     (andthen reads-op_name (λ o. andthen (reads-fixed (Sign Semicolon)) (λ _. reads-pure Any o (λ _. tt))))
 
-pub reads-requires : Reads (λ xs text. Each IsOpName xs × (text ≡ section_tokens (codes "requires") needed_tokens xs)) (EndsSection (codes "requires") next_is_design_name) requires_at
+pub reads-requires : Reads (λ xs text. Each IsOpName xs × (text ≡ section_tokens (codes "requires") needed_tokens xs))
+    (EndsSection (codes "requires") next_is_design_name) requires_at
 unfolding requires_at needed_list_at next_is_name
 reads-requires =
     reads-section IsOpName needed_tokens next_is_design_name needed_at reads-needed (λ o rest h. h.0) (λ o. omega arith) refl
-    (codes "requires") needed_list_at (reads-some IsOpName needed_tokens next_is_design_name needed_at reads-needed (λ o rest h. h.0) (λ o. omega arith) refl)
+    (codes "requires") needed_list_at (reads-some IsOpName needed_tokens next_is_design_name needed_at reads-needed (λ o rest h. h.0)
+    (λ o. omega arith) refl)
 
 -- DATA
 abbrev pub IsDatum : Datum → Type 0
@@ -519,12 +592,28 @@ reads-datum = reads-same _ (IsSpelled IsDatum datum_tokens) Any datum_at
     let P : Datum → Type 0 = λ q. IsSpelled IsDatum datum_tokens q text in
     subst P (sym g6.after.0) (
       g1.before.0,
-      rw (g1.whole, g1.before.1, g2.whole, g2.before, g3.whole, g3.before, g4.whole, g4.before, g5.whole, g5.before, g6.whole, g6.before, g6.after.1) refl,
+      rw (
+        g1.whole,
+        g1.before.1,
+        g2.whole,
+        g2.before,
+        g3.whole,
+        g3.before,
+        g4.whole,
+        g4.before,
+        g5.whole,
+        g5.before,
+        g6.whole,
+        g6.before,
+        g6.after.1,
+      ) refl,
     ))
     (λ d text h.
-    rw h.1 (joins-name is_design_name _ d.name d _ h.0 (joins-fixed _ (Sign Colon) d _ (joins-fixed _ (Word (codes "word")) d _ (joins-fixed _ (Sign Becomes) d _
+    rw h.1 (joins-name is_design_name _ d.name d _ h.0
+    (joins-fixed _ (Sign Colon) d _ (joins-fixed _ (Word (codes "word")) d _ (joins-fixed _ (Sign Becomes) d _
     (joins-number _ d.value d _ (joins-fixed _ (Sign Semicolon) d [] (refl, refl))))))))
-    (andthen reads-design_name (λ name. andthen (reads-fixed (Sign Colon)) (λ _. andthen (reads-fixed (Word (codes "word"))) (λ _. andthen (reads-fixed (Sign Becomes)) (λ _.
+    (andthen reads-design_name (λ name. andthen (reads-fixed (Sign Colon))
+    (λ _. andthen (reads-fixed (Word (codes "word"))) (λ _. andthen (reads-fixed (Sign Becomes)) (λ _.
     andthen reads-number (λ n. andthen (reads-fixed (Sign Semicolon)) (λ _. reads-pure Any (record { name = name; value = n }) (λ _. tt))))))))
 
 -- whether no name follows
@@ -535,7 +624,8 @@ pub reads-locals : Reads (λ ds text. Each IsDatum ds × (text ≡ flat_map datu
 unfolding locals_at next_is_name
 reads-locals = reads-spelled IsDatum datum_tokens next_is_design_name datum_at reads-datum (λ d rest h. h) (λ d. omega arith) refl
 
-pub reads-data : Reads (λ xs text. Each IsDatum xs × (text ≡ section_tokens (codes "data") datum_tokens xs)) (EndsSection (codes "data") next_is_design_name) data_at
+pub reads-data : Reads (λ xs text. Each IsDatum xs × (text ≡ section_tokens (codes "data") datum_tokens xs))
+    (EndsSection (codes "data") next_is_design_name) data_at
 unfolding data_at datum_list_at next_is_name
 reads-data =
     reads-section IsDatum datum_tokens next_is_design_name datum_at reads-datum (λ d rest h. h) (λ d. omega arith) refl
@@ -558,13 +648,20 @@ reads-link = reads-same _ (IsSpelled IsLink link_tokens) Any link_at
     (λ k text g1.
     let g2 = g1.after in let g3 = g2.after in let g4 = g3.after in
     let P : Link → Type 0 = λ q. IsSpelled IsLink link_tokens q text in
-    subst P (sym g4.after.0) ((g1.before.0, g3.before.0), rw (g1.whole, g1.before.1, g2.whole, g2.before, g3.whole, g3.before.1, g4.whole, g4.before, g4.after.1) refl))
+    subst P (sym g4.after.0) (
+      (g1.before.0, g3.before.0),
+      rw
+          (g1.whole, g1.before.1, g2.whole, g2.before, g3.whole, g3.before.1, g4.whole, g4.before, g4.after.1) refl,
+    ))
     (λ k text h.
-    rw h.1 (joins-name is_design_name _ k.op k _ h.0.0 (joins-fixed _ (Word (codes "by")) k _ (joins-part _ k.to (op_name_tokens k.to) k _ (h.0.1, refl) (joins-fixed _ (Sign Semicolon) k [] (refl, refl))))))
-    (andthen reads-design_name (λ op. andthen (reads-fixed (Word (codes "by"))) (λ _. andthen reads-op_name (λ to. andthen (reads-fixed (Sign Semicolon)) (λ _.
+    rw h.1 (joins-name is_design_name _ k.op k _ h.0.0 (joins-fixed _ (Word (codes "by")) k _
+    (joins-part _ k.to (op_name_tokens k.to) k _ (h.0.1, refl) (joins-fixed _ (Sign Semicolon) k [] (refl, refl))))))
+    (andthen reads-design_name (λ op. andthen (reads-fixed (Word (codes "by")))
+    (λ _. andthen reads-op_name (λ to. andthen (reads-fixed (Sign Semicolon)) (λ _.
     reads-pure Any (record { op = op; to = to }) (λ _. tt))))))
 
-pub reads-implements : Reads (λ xs text. Each IsLink xs × (text ≡ section_tokens (codes "implements") link_tokens xs)) (EndsSection (codes "implements") next_is_design_name) implements_at
+pub reads-implements : Reads (λ xs text. Each IsLink xs × (text ≡ section_tokens (codes "implements") link_tokens xs))
+    (EndsSection (codes "implements") next_is_design_name) implements_at
 unfolding implements_at link_list_at next_is_name
 reads-implements =
     reads-section IsLink link_tokens next_is_design_name link_at reads-link (λ k rest h. h.0) (λ k. omega arith) refl
@@ -584,7 +681,8 @@ IsBlock l d b text = IsProperBlock l d b × (text ≡ block_toks b)
 
 abbrev pub body_tokens : Body → List Token
 body_tokens b =
-    Word (codes "operation") ∷ Word b.name ∷ Word (codes "is") ∷ (flat_map datum_tokens b.locals ++ Word (codes "begin") ∷ (block_toks b.block ++ end_tokens b.name))
+    Word (codes "operation") ∷ Word b.name ∷ Word (codes "is") ∷ (flat_map datum_tokens b.locals ++ Word (codes "begin")
+    ∷ (block_toks b.block ++ end_tokens b.name))
 
 abbrev pub IsBody : Limits → ℕ → Body → Type 0
 IsBody l d b = (is_design_name b.name ≡ true) × Each IsDatum b.locals × IsProperBlock l d b.block
@@ -600,8 +698,11 @@ EndsThread (Some b) o = Unit {0}
 
 module _ (l : Limits) (d : ℕ) (block : BlockReader) (blocks : Reads (IsBlock l d) EndsBlock block) where
   -- a block and the end behind it
-  reads-ended : {B : Type 0} (name : Name) (f : Statements → B) → Reads (Joined (IsBlock l d) (λ b. Joined (IsPhrase (end_tokens name)) (λ _. IsOnly (f b)))) Any (then_at block (λ b. then_at (end_at name) (λ _. pure_at (f b))))
-  reads-ended name f = reads-then (IsBlock l d) (λ b. Joined (IsPhrase (end_tokens name)) (λ _. IsOnly (f b))) EndsBlock Any block (λ b. then_at (end_at name) (λ _. pure_at (f b))) blocks
+  reads-ended : {B : Type 0} (name : Name) (f : Statements → B)
+      → Reads (Joined (IsBlock l d) (λ b. Joined (IsPhrase (end_tokens name)) (λ _. IsOnly (f b)))) Any
+      (then_at block (λ b. then_at (end_at name) (λ _. pure_at (f b))))
+  reads-ended name f = reads-then (IsBlock l d) (λ b. Joined (IsPhrase (end_tokens name)) (λ _. IsOnly (f b))) EndsBlock Any block
+      (λ b. then_at (end_at name) (λ _. pure_at (f b))) blocks
       (λ b. andthen (reads-phrase (end_tokens name)) (λ _. reads-pure Any (f b) (λ _. tt)))
       (λ b c back rest h stop. rw (h.whole, h.before) (end_ends_block b name (h.back ++ rest)))
 
@@ -613,28 +714,50 @@ module _ (l : Limits) (d : ℕ) (block : BlockReader) (blocks : Reads (IsBlock l
       let P : Body → Type 0 = λ q. IsSpelled (IsBody l d) body_tokens q text in
       subst P (sym g7.after.0) (
         (g2.before.0, g4.before.0, g6.before.0),
-        rw (g1.whole, g1.before, g2.whole, g2.before.1, g3.whole, g3.before, g4.whole, g4.before.1, g5.whole, g5.before, g6.whole, g6.before.1, g7.whole, g7.before, g7.after.1) refl,
+        rw (
+          g1.whole,
+          g1.before,
+          g2.whole,
+          g2.before.1,
+          g3.whole,
+          g3.before,
+          g4.whole,
+          g4.before.1,
+          g5.whole,
+          g5.before,
+          g6.whole,
+          g6.before.1,
+          g7.whole,
+          g7.before,
+          g7.after.1,
+        ) refl,
       ))
       (λ b text h.
       rw h.1 (joins-fixed _ (Word (codes "operation")) b _ (joins-name is_design_name _ b.name b _ h.0.0 (joins-fixed _ (Word (codes "is")) b _
       (joins-part _ b.locals (flat_map datum_tokens b.locals) b _ (h.0.1, refl) (joins-fixed _ (Word (codes "begin")) b _
       (joins-part _ b.block (block_toks b.block) b _ (h.0.2, refl) (joins-phrase _ (end_tokens b.name) b [] (refl, refl)))))))))
       (andthen (reads-fixed (Word (codes "operation"))) (λ _. andthen reads-design_name (λ name. andthen (reads-fixed (Word (codes "is"))) (λ _.
-      before-token (Word (codes "begin")) begin_ends_data reads-locals (λ locals. reads-ended name (λ b. record { name = name; locals = locals; block = b }))))))
+      before-token (Word (codes "begin")) begin_ends_data reads-locals
+      (λ locals. reads-ended name (λ b. record { name = name; locals = locals; block = b }))))))
 
-  pub reads-bodies : Reads (λ bs text. Each (IsBody l d) bs × (text ≡ flat_map body_tokens bs)) (λ bs o. next_is (Word (codes "operation")) o ≡ false) (bodies_at block)
+  pub reads-bodies : Reads (λ bs text. Each (IsBody l d) bs × (text ≡ flat_map body_tokens bs)) (λ bs o. next_is (Word (codes "operation")) o
+      ≡ false) (bodies_at block)
   unfolding bodies_at
-  reads-bodies = reads-spelled (IsBody l d) body_tokens (next_is (Word (codes "operation"))) (body_at block) reads-body (λ b rest h. refl) (λ b. omega arith) refl
+  reads-bodies = reads-spelled (IsBody l d) body_tokens (next_is (Word (codes "operation"))) (body_at block) reads-body (λ b rest h. refl)
+      (λ b. omega arith) refl
 
   abbrev IsActivation : Option Statements → List Token → Type 0
-  IsActivation t text = (b : Statements) × (t ≡ Some b) × IsProperBlock l d b × (text ≡ Word (codes "thread") ∷ (block_toks b ++ end_tokens (codes "thread")))
+  IsActivation t text = (b : Statements) × (t ≡ Some b) × IsProperBlock l d b
+      × (text ≡ Word (codes "thread") ∷ (block_toks b ++ end_tokens (codes "thread")))
 
   reads-activation : Reads IsActivation Any (activation_at block)
   unfolding activation_at
   reads-activation = reads-same _ IsActivation Any (activation_at block)
-      (λ t text g1. let g2 = g1.after in let g3 = g2.after in (g2.a, g3.after.0, g2.before.0, rw (g1.whole, g1.before, g2.whole, g2.before.1, g3.whole, g3.before, g3.after.1) refl))
+      (λ t text g1. let g2 = g1.after in let g3 = g2.after
+      in (g2.a, g3.after.0, g2.before.0, rw (g1.whole, g1.before, g2.whole, g2.before.1, g3.whole, g3.before, g3.after.1) refl))
       (λ t text h.
-      rw h.3 (joins-fixed _ (Word (codes "thread")) t _ (joins-part _ h.0 (block_toks h.0) t _ (h.2, refl) (joins-phrase _ (end_tokens (codes "thread")) t [] (h.1, refl)))))
+      rw h.3 (joins-fixed _ (Word (codes "thread")) t _ (joins-part _ h.0 (block_toks h.0) t _ (h.2, refl)
+      (joins-phrase _ (end_tokens (codes "thread")) t [] (h.1, refl)))))
       (andthen (reads-fixed (Word (codes "thread"))) (λ _. reads-ended (codes "thread") Some))
 
   thread_ends : (t : Option Statements) (text : List Token) (o : Option Token) → IsActivation t text → EndsThread t o
@@ -646,7 +769,8 @@ module _ (l : Limits) (d : ℕ) (block : BlockReader) (blocks : Reads (IsBlock l
       let P : Option Statements → Type 0 = λ u. IsProperThread l d u × (text ≡ thread_tokens u) in
       elim e [ inl h ↦ subst P (sym h.1) (h.2, h.3) | inr h ↦ subst P (sym h.0) (tt, h.1) ]
 
-  thread_back : (t : Option Statements) (text : List Token) → IsProperThread l d t × (text ≡ thread_tokens t) → IsActivation t text ⊎ IsOnly None t text
+  thread_back : (t : Option Statements) (text : List Token) → IsProperThread l d t × (text ≡ thread_tokens t)
+      → IsActivation t text ⊎ IsOnly None t text
   thread_back None text h = inr (refl, h.1)
   thread_back (Some b) text h = inl (b, refl, h.0, h.1)
 

@@ -1,5 +1,6 @@
 -- The reader of designs within its limits: what it reads is a text, and where it stops is the fault of the tokens.
-use Rattle.std.proofs.Common.{◌≡◌, ℕ, zero, suc, ◌+◌, ◌-◌, ◌<◌, ◌≤◌, nat_le, Bool, true, false, cond, codes, List, [], ◌∷◌, ◌++◌, length, take, Result, Ok, Err, ◌⊎◌, inl, inr, subst, append-nil, append_assoc, refl, sym, ap, ◌∙◌, arith, length-append}
+use Rattle.std.proofs.Common.{◌≡◌, ℕ, zero, suc, ◌+◌, ◌-◌, ◌<◌, ◌≤◌, nat_le, Bool, true, false, cond, codes, List, [], ◌∷◌, ◌++◌, length, take}
+use Rattle.std.proofs.Common.{Result, Ok, Err, ◌⊎◌, inl, inr, subst, append-nil, append_assoc, refl, sym, ap, ◌∙◌, arith, length-append}
 use Rattle.std.proofs.Math.Seq.{take-length}
 use Rattle.std.proofs.lemmas.List.{length-map}
 use Rattle.std.proofs.lemmas.Bool.Decides.{leb_tells}
@@ -54,24 +55,30 @@ pub record IsTextOf (x : Design) (ts : List Token) : Type 0 where
   pub proper : IsProperDesign (within_limits is_design_name) x
   pub spelled : ts ≡ design_tokens x
 
-reads_in : (nests deeper most : ℕ) → nests ≡ suc deeper → 0 < most → Reads (λ x ts. IsProperDesign (bounds is_design_name (suc deeper) most) x × (ts ≡ design_tokens x)) Any (design_with closed_at most deeper)
-reads_in nests deeper most e room = reads-same (IsDesign (suc deeper) most) (λ x ts. IsProperDesign (bounds is_design_name (suc deeper) most) x × (ts ≡ design_tokens x)) Any (design_with closed_at most deeper)
+reads_in : (nests deeper most : ℕ) → nests ≡ suc deeper → 0 < most
+    → Reads (λ x ts. IsProperDesign (bounds is_design_name (suc deeper) most) x × (ts ≡ design_tokens x)) Any (design_with closed_at most deeper)
+reads_in nests deeper most e room = reads-same (IsDesign (suc deeper) most) (λ x ts. IsProperDesign (bounds is_design_name (suc deeper) most) x
+    × (ts ≡ design_tokens x)) Any (design_with closed_at most deeper)
     (λ x ts g. (g.0, g.1 ∙ design_joined x)) (λ x ts g. (g.0, g.1 ∙ sym (design_joined x))) (reads-design most deeper room)
 
 reads_strict : Reads IsTextOf Any strict_at
-reads_strict = reads-same _ IsTextOf Any strict_at (λ x ts g. record { proper = g.0; spelled = g.1 }) (λ x ts g. (g.proper, g.spelled)) (reads_in 64 63 32 refl (omega arith))
+reads_strict = reads-same _ IsTextOf Any strict_at (λ x ts g. record { proper = g.0; spelled = g.1 }) (λ x ts g. (g.proper, g.spelled))
+    (reads_in 64 63 32 refl (omega arith))
 
 reads_wide : (n : ℕ) → 64 < n → Reads (IsIn n) Any (wide_at n)
 reads_wide n h = reads_in (suc n) n (suc n) refl (omega arith)
 
 widens_strict : (n : ℕ) → 64 < n → Widens (n - 64) strict_at (wide_at n)
-widens_strict n h = widens-design closed_at 32 (suc n) (omega (arith, h)) (omega arith) (λ units. closed-last (suc n) (omega arith) units) 63 n (n - 64) (omega (arith, h)) (omega arith) (omega arith)
+widens_strict n h = widens-design closed_at 32 (suc n) (omega (arith, h)) (omega arith) (λ units. closed-last (suc n) (omega arith) units) 63 n
+    (n - 64) (omega (arith, h)) (omega arith) (omega arith)
 
 widens_design : (n : ℕ) → 64 < n → Widens (n - 64) design_at (wide_at n)
-widens_design n h = widens-design (children_at over_at) 32 (suc n) (omega (arith, h)) (omega arith) (λ units. over-last (suc n) (omega arith) units) 63 n (n - 64) (omega (arith, h)) (omega arith) (omega arith)
+widens_design n h = widens-design (children_at over_at) 32 (suc n) (omega (arith, h)) (omega arith)
+    (λ units. over-last (suc n) (omega arith) units) 63 n (n - 64) (omega (arith, h)) (omega arith) (omega arith)
 
 widens_wide : (n m : ℕ) → 64 < n → n < m → Widens (m - 64) (wide_at n) (wide_at m)
-widens_wide n m h k = widens-design closed_at (suc n) (suc m) (omega (arith, k)) (omega arith) (λ units. closed-last (suc m) (omega arith) units) n m (m - 64) k (omega arith) (omega arith)
+widens_wide n m h k = widens-design closed_at (suc n) (suc m) (omega (arith, k)) (omega arith) (λ units. closed-last (suc m) (omega arith) units) n m
+    (m - 64) k (omega arith) (omega arith)
 
 design_in : (ts : List Token) → AnyDesign ts → (n : ℕ) × ((m : ℕ) → n ≤ m → (x : Design) × IsIn m x ts)
 design_in ts d = (extent_tree d.0.root, λ m h. (d.0, (bound-design (suc m) d.0 (omega (arith, h)) d.1, d.2)))
@@ -80,11 +87,13 @@ design_out : (n : ℕ) (x : Design) (ts : List Token) → 64 < n → IsIn n x ts
 design_out n x ts h g = (x, free-design (suc n) (suc n) x g.0, g.1)
 
 strict-faulty : (ts : List Token) (left : ℕ) → whole_at strict_at ts ≡ Err (Syntax left) → IsSyntaxFault AnyDesign SomeDesign ts (length ts - left)
-strict-faulty = reaches.syntax-fault Any (λ x. tt) IsTextOf strict_at reads_strict IsIn wide_at 64 reads_wide widens_strict widens_wide AnyDesign SomeDesign
+strict-faulty = reaches.syntax-fault Any (λ x. tt) IsTextOf strict_at reads_strict IsIn wide_at 64 reads_wide widens_strict widens_wide
+    AnyDesign SomeDesign
     (λ ts d. (d.0, record { proper = d.1; spelled = d.2 })) (λ x ts g. (x, g.proper, g.spelled)) design_in design_out
 
 strict-deep : (ts : List Token) (left : ℕ) → whole_at strict_at ts ≡ Err (TooDeep left) → IsDepthFault AnyDesign SomeDesign ts (length ts - left)
-strict-deep = reaches.whole-too-deep Any (λ x. tt) IsTextOf strict_at reads_strict IsIn wide_at 64 reads_wide widens_strict widens_wide AnyDesign SomeDesign
+strict-deep = reaches.whole-too-deep Any (λ x. tt) IsTextOf strict_at reads_strict IsIn wide_at 64 reads_wide widens_strict widens_wide
+    AnyDesign SomeDesign
     (λ ts d. (d.0, record { proper = d.1; spelled = d.2 })) (λ x ts g. (x, g.proper, g.spelled)) design_in design_out
 
 -- TOKENS THAT KEEP THE LIMITS
@@ -101,7 +110,8 @@ begins_keeps_any : (ts : List Token) → Begins Keeps ts → Begins AnyDesign ts
 begins_keeps_any ts b = begins_less AnyDesign ts b.0 (keeps_any (ts ++ b.0) b.1)
 
 -- the beginning of a list that ends with a token: of what stands before it, or the whole list
-prefix_of : (ts more front : List Token) (u : Token) → ts ++ more ≡ front ++ u ∷ [] → ((rest : List Token) × (front ≡ ts ++ rest)) ⊎ (ts ≡ front ++ u ∷ [])
+prefix_of : (ts more front : List Token) (u : Token) → ts ++ more ≡ front ++ u ∷ [] → ((rest : List Token) × (front ≡ ts ++ rest))
+    ⊎ (ts ≡ front ++ u ∷ [])
 prefix_of [] more front u e = inl (front, refl)
 prefix_of (t ∷ ts) more [] u e = inr (nil_tail t ts more u e) where
   nil_tail : (v : Token) (vs rest : List Token) (w : Token) → v ∷ (vs ++ rest) ≡ w ∷ [] → v ∷ vs ≡ w ∷ []
@@ -149,18 +159,23 @@ keeps_past ts place n reach within b =
     elim b.1 [
       | inl d ↦ inl (reach.greatest n within (b.0, d))
       | inr w ↦ elim (prefix_of (take n ts) b.0 w.0 (Word (codes "objects")) w.1) [
-        | inl r ↦ inl (reach.greatest n within (begins_less SomeDesign (take n ts) r.0 (let P : List Token → Type 0 = Begins SomeDesign in subst P r.1 w.2)))
+        | inl r ↦ inl (reach.greatest n within (begins_less SomeDesign (take n ts) r.0 (let P : List Token → Type 0 = Begins SomeDesign
+            in subst P r.1 w.2)))
         | inr whole ↦ past w.0 whole w.2
       ]
     ] where
-      by_least : (front : List Token) → take n ts ≡ front ++ Word (codes "objects") ∷ [] → n ≡ suc (length front) → length front ≤ place → ((nat_le n place ≡ true) × (n ≤ place)) ⊎ ((nat_le n place ≡ false) × (place < n)) → (n ≤ place) ⊎ Past ts place n
-      by_least front whole count shorter t = elim t [ inl y ↦ inl y.1 | inr g ↦ inr (record { front = front; here = whole; count = omega (arith, count, shorter, g.1) }) ]
+      by_least : (front : List Token) → take n ts ≡ front ++ Word (codes "objects") ∷ [] → n ≡ suc (length front) → length front ≤ place
+          → ((nat_le n place ≡ true) × (n ≤ place)) ⊎ ((nat_le n place ≡ false) × (place < n)) → (n ≤ place) ⊎ Past ts place n
+      by_least front whole count shorter t
+          = elim t [ inl y ↦ inl y.1 | inr g ↦ inr (record { front = front; here = whole; count = omega (arith, count, shorter, g.1) }) ]
 
       past : (front : List Token) → take n ts ≡ front ++ Word (codes "objects") ∷ [] → Begins SomeDesign front → (n ≤ place) ⊎ Past ts place n
       past front whole begins =
-          let count : n ≡ suc (length front) = omega (arith, length_taken n ts within, ap length whole, length-append front (Word (codes "objects") ∷ [])) in
+          let count : n ≡ suc (length front)
+          = omega (arith, length_taken n ts within, ap length whole, length-append front (Word (codes "objects") ∷ [])) in
           let shorter : length front ≤ place =
-          reach.greatest (length front) (omega (arith, within, count)) (let P : List Token → Type 0 = Begins SomeDesign in subst P (sym (take_less n ts front (Word (codes "objects")) whole)) begins) in
+          reach.greatest (length front) (omega (arith, within, count)) (let P : List Token → Type 0 = Begins SomeDesign
+          in subst P (sym (take_less n ts front (Word (codes "objects")) whole)) begins) in
           by_least front whole count shorter (leb_tells n place)
 
 some_keeps : (ts : List Token) → Begins SomeDesign ts → Begins Keeps ts
@@ -170,12 +185,17 @@ some_keeps ts b = (b.0, inl b.1)
 syntax_keeps : (ts : List Token) (place : ℕ) → IsSyntaxFault AnyDesign SomeDesign ts place → IsSyntaxFault AnyDesign Keeps ts place
 syntax_keeps ts place f = record {
   reach = f.reach;
-  limited = record { within = f.reach.within; begins = some_keeps (take place ts) f.limited.begins; greatest = λ n h b. f.reach.greatest n h (begins_keeps_any (take n ts) b) };
+  limited = record {
+    within = f.reach.within;
+    begins = some_keeps (take place ts) f.limited.begins;
+    greatest = λ n h b. f.reach.greatest n h (begins_keeps_any (take n ts) b);
+  };
   none = f.none;
 }
 
 -- a fault of depth at another token than the word of a section
-deep_keeps : (ts : List Token) (place : ℕ) → IsDepthFault AnyDesign SomeDesign ts place → ((n : ℕ) → n ≤ length ts → Past ts place n → ⊥) → IsDepthFault AnyDesign Keeps ts place
+deep_keeps : (ts : List Token) (place : ℕ) → IsDepthFault AnyDesign SomeDesign ts place → ((n : ℕ) → n ≤ length ts → Past ts place n → ⊥)
+    → IsDepthFault AnyDesign Keeps ts place
 deep_keeps ts place f never = record {
   reach = record {
     within = f.reach.within;
@@ -193,16 +213,22 @@ pub record WideText (k : ℕ) (ts : List Token) : Type 0 where
 module _ (k : ℕ) (h : 64 < k) where
   stuck_reach : (ts : List Token) (left : ℕ) → wide_at k ts ≡ Err (Syntax left) → IsReach AnyDesign ts (length ts - left)
   stuck_reach = reaches.stuck-reach Any (λ x. tt) (IsIn k) (wide_at k) (reads_wide k h) IsIn wide_at k (λ n g. reads_wide n (omega (arith, h, g)))
-      (λ n g. widens-fewer (n - 64) (n - k) (omega (arith, h)) (widens_wide k n h g)) (λ n m g j. widens-fewer (m - 64) (m - k) (omega (arith, h)) (widens_wide n m (omega (arith, h, g)) j))
-      AnyDesign (WideText k) (λ ts w. (w.tree, w.text)) (λ x ts g. record { tree = x; text = g }) design_in (λ n x ts g i. design_out n x ts (omega (arith, h, g)) i)
+      (λ n g. widens-fewer (n - 64) (n - k) (omega (arith, h)) (widens_wide k n h g))
+      (λ n m g j. widens-fewer (m - 64) (m - k) (omega (arith, h)) (widens_wide n m (omega (arith, h, g)) j))
+      AnyDesign (WideText k) (λ ts w. (w.tree, w.text)) (λ x ts g. record { tree = x; text = g }) design_in
+      (λ n x ts g i. design_out n x ts (omega (arith, h, g)) i)
 
   found_reach : (ts : List Token) (x : Design) (rest : List Token) → wide_at k ts ≡ Ok (x, rest) → IsReach AnyDesign ts (length ts - length rest)
-  found_reach ts x rest e = (reaches.longest Any (λ x. tt) (IsIn k) (wide_at k) (reads_wide k h) IsIn wide_at k (λ n g. reads_wide n (omega (arith, h, g)))
-      (λ n g. widens-fewer (n - 64) (n - k) (omega (arith, h)) (widens_wide k n h g)) (λ n m g j. widens-fewer (m - 64) (m - k) (omega (arith, h)) (widens_wide n m (omega (arith, h, g)) j))
-      AnyDesign (WideText k) (λ ts w. (w.tree, w.text)) (λ x ts g. record { tree = x; text = g }) design_in (λ n x ts g i. design_out n x ts (omega (arith, h, g)) i) ts x rest e).reach
+  found_reach ts x rest e = (reaches.longest Any (λ x. tt) (IsIn k) (wide_at k) (reads_wide k h) IsIn wide_at k
+      (λ n g. reads_wide n (omega (arith, h, g)))
+      (λ n g. widens-fewer (n - 64) (n - k) (omega (arith, h)) (widens_wide k n h g))
+      (λ n m g j. widens-fewer (m - 64) (m - k) (omega (arith, h)) (widens_wide n m (omega (arith, h, g)) j))
+      AnyDesign (WideText k) (λ ts w. (w.tree, w.text)) (λ x ts g. record { tree = x; text = g }) design_in
+      (λ n x ts g i. design_out n x ts (omega (arith, h, g)) i) ts x rest e).reach
 
 -- how far some design goes, past a limit
-goes_past : (ts : List Token) (left : ℕ) → left ≤ length ts → design_at ts ≡ Err (TooDeep left) → (further : ℕ) × IsReach AnyDesign ts further × (length ts - left < further)
+goes_past : (ts : List Token) (left : ℕ) → left ≤ length ts → design_at ts ≡ Err (TooDeep left)
+    → (further : ℕ) × IsReach AnyDesign ts further × (length ts - left < further)
 goes_past ts left within e = of (wide_at k ts) refl where
   k : ℕ
   k = suc (64 + length ts)
@@ -276,13 +302,26 @@ module _ (ts : List Token) (l : Later ts (strict_at ts) (design_at ts)) where
       begins_less AnyDesign (take last_place ts) more.0 (let P : List Token → Type 0 = Begins AnyDesign in subst P more.1 g.1.begins)
 
   keeps_here : Begins Keeps (take last_place ts)
-  keeps_here = ([], inr (l.front, append-nil (take last_place ts) ∙ cut_here, some_front, (let P : List Token → Type 0 = Begins AnyDesign in subst P (sym (append-nil (take last_place ts))) any_here)))
+  keeps_here = (
+    [],
+    inr (
+      l.front,
+      append-nil (take last_place ts) ∙ cut_here,
+      some_front,
+      (let P : List Token → Type 0 = Begins AnyDesign
+          in subst P (sym (append-nil (take last_place ts))) any_here),
+    ),
+  )
 
   limited : IsReach Keeps ts last_place
   limited = record {
     within = omega (arith, counted);
     begins = keeps_here;
-    greatest = λ n h b. elim (keeps_past ts (length ts - suc (length l.back)) n deep.reach h b) [ inl y ↦ omega (arith, y, before) | inr past ↦ omega (arith, past.count, before) ];
+    greatest = λ n h b. elim (keeps_past ts (length ts - suc (length l.back)) n deep.reach h b) [
+      | inl y ↦ omega (arith, y, before)
+      | inr past ↦ omega
+          (arith, past.count, before)
+    ];
   }
 
   at_place : (left : ℕ) → length l.back ≡ left → last_place ≡ length ts - left
@@ -291,7 +330,11 @@ module _ (ts : List Token) (l : Later ts (strict_at ts) (design_at ts)) where
   later_syntax : (left : ℕ) → design_at ts ≡ Err (Syntax left) → length l.back ≡ left → IsSyntaxFault AnyDesign Keeps ts (length ts - left)
   later_syntax left e same =
       let P : ℕ → Type 0 = IsReach Keeps ts in
-      record { reach = stuck_reach 65 (omega arith) ts left ((widens_design 65 (omega arith) ts).syntax left e); limited = subst P (at_place left same) limited; none = no_design ts left e }
+      record {
+        reach = stuck_reach 65 (omega arith) ts left ((widens_design 65 (omega arith) ts).syntax left e);
+        limited = subst P (at_place left same) limited;
+        none = no_design ts left e;
+      }
 
   later_deep : (left : ℕ) → design_at ts ≡ Err (TooDeep left) → length l.back ≡ left → IsDepthFault AnyDesign Keeps ts (length ts - left)
   later_deep left e same =
@@ -315,7 +358,8 @@ whole_deep (Err halt) left e = ap Err (let h : (let q : Result Design Halt = Err
 whole_deep (Ok x) left e = absurd (taken x.0 x.1 e) where
   taken : (y : Design) (rest : List Token) → all_taken y rest ≡ Err (TooDeep left) → ⊥
   taken y [] k = cc
-  taken y (u ∷ us) k = let p : (let q : Result Design Halt = Err (Syntax (suc (length us))) in q) ≡ Err (TooDeep left) = k in let s : Syntax (suc (length us)) ≡ TooDeep left = cc in cc
+  taken y (u ∷ us) k = let p : (let q : Result Design Halt = Err (Syntax (suc (length us))) in q) ≡ Err (TooDeep left) = k
+      in let s : Syntax (suc (length us)) ≡ TooDeep left = cc in cc
 
 last_same : (one two : List Token) (u v : Token) → one ++ u ∷ [] ≡ two ++ v ∷ [] → u ≡ v
 last_same [] [] u v e = cc
@@ -347,7 +391,8 @@ tokens-deep ts left e =
     elim (told-design 32 63 (omega arith) ts) [
       | inl s ↦
           let fails : whole_at strict_at ts ≡ Err (TooDeep left) = sym (ap all_of s.0) ∙ e in
-          deep_keeps ts (length ts - left) (strict-deep ts left fails) (λ n h past. never_past ts left n (s.1 left (whole_deep (strict_at ts) left fails)) past)
+          deep_keeps ts (length ts - left) (strict-deep ts left fails)
+          (λ n h past. never_past ts left n (s.1 left (whole_deep (strict_at ts) left fails)) past)
       | inr l ↦
           let halt = told_halt ts l (TooDeep left) e in
           later_deep ts l left (l.told ∙ ap Err halt) (told_deep ts l left (next_is_object (first l.back)) halt)
@@ -376,7 +421,8 @@ pub only-design : (ts : List Token) (x : Design) → IsTextOf x ts → whole_at 
 only-design ts x g = told_back ts x (whole-only IsTextOf Any strict_at reads_strict (λ y. tt) ts x g)
 
 -- FROM TOKENS TO THEIR TEXT
-pub reads-as : (bytes : List ℕ) (ts : List Spanned) (x : Design) → length bytes ≤ 1048576 → tokens bytes ≡ Ok ts → whole_at design_at (bare ts) ≡ Ok x → reading.Reads bytes x
+pub reads-as : (bytes : List ℕ) (ts : List Spanned) (x : Design) → length bytes ≤ 1048576 → tokens bytes ≡ Ok ts → whole_at design_at (bare ts) ≡ Ok x
+    → reading.Reads bytes x
 reads-as bytes ts x short e h =
     let a = whole-design (bare ts) x h in
     record { within = short; proper = a.proper; spelled = ap plain e ∙ ap Ok a.spelled }
@@ -384,11 +430,13 @@ reads-as bytes ts x short e h =
 bare_spelled : (bytes : List ℕ) (ts : List Spanned) (x : Design) → tokens bytes ≡ Ok ts → reading.Reads bytes x → bare ts ≡ design_tokens x
 bare_spelled bytes ts x e r = let same : Ok (bare ts) ≡ Ok (design_tokens x) = sym (ap plain e) ∙ r.spelled in cc
 
-pub reads-only : (bytes : List ℕ) (ts : List Spanned) (x : Design) → tokens bytes ≡ Ok ts → reading.Reads bytes x → whole_at design_at (bare ts) ≡ Ok x
+pub reads-only : (bytes : List ℕ) (ts : List Spanned) (x : Design) → tokens bytes ≡ Ok ts → reading.Reads bytes x
+    → whole_at design_at (bare ts) ≡ Ok x
 reads-only bytes ts x e r = only-design (bare ts) x (record { proper = r.proper; spelled = bare_spelled bytes ts x e r })
 
 -- what is answered of tokens with a fault
-place_from : (bytes : List ℕ) (ts : List Spanned) (left : ℕ) (place : Place) → left ≤ length (bare ts) → place ≡ place_at bytes ts left → place ≡ place_at bytes ts (length ts - (length (bare ts) - left))
+place_from : (bytes : List ℕ) (ts : List Spanned) (left : ℕ) (place : Place) → left ≤ length (bare ts) → place ≡ place_at bytes ts left
+    → place ≡ place_at bytes ts (length ts - (length (bare ts) - left))
 place_from bytes ts left place within here =
     let same : left ≡ length ts - (length (bare ts) - left) = omega (arith, within, length-map ts (λ (s : Spanned). s.token)) in
     here ∙ ap (place_at bytes ts) same
@@ -403,13 +451,20 @@ left_within ts halt e =
       | inr l ↦ told_within ts l halt (told_halt ts l halt e)
     ] where
       told_within : (us : List Token) (l : Later us (strict_at us) (design_at us)) (k : Halt) → told_of l.back ≡ k → left_of k ≤ length us
-      told_within us l k h = omega (arith, sym (ap left_of h) ∙ told_left (next_is_object (first l.back)) l.back, ap length l.split, length-append l.front (Word (codes "objects") ∷ l.back))
+      told_within us l k h = omega (
+        arith,
+        sym (ap left_of h) ∙ told_left (next_is_object
+            (first l.back)) l.back,
+        ap length l.split,
+        length-append l.front (Word (codes "objects") ∷ l.back),
+      )
         where
           told_left : (b : Bool) (back : List Token) → left_of (cond b (TooDeep (length back)) (Syntax (length back))) ≡ length back
           told_left true back = refl
           told_left false back = refl
 
-pub faulty-at : (bytes : List ℕ) (ts : List Spanned) (left : ℕ) (place : Place) → length bytes ≤ 1048576 → tokens bytes ≡ Ok ts → whole_at design_at (bare ts) ≡ Err (Syntax left) → place ≡ place_at bytes ts left → IsFaultyAt bytes place reach.Syntax
+pub faulty-at : (bytes : List ℕ) (ts : List Spanned) (left : ℕ) (place : Place) → length bytes ≤ 1048576 → tokens bytes ≡ Ok ts
+    → whole_at design_at (bare ts) ≡ Err (Syntax left) → place ≡ place_at bytes ts left → IsFaultyAt bytes place reach.Syntax
 faulty-at bytes ts left place short e h here = record {
   short = short;
   found = ts;
@@ -419,7 +474,8 @@ faulty-at bytes ts left place short e h here = record {
   here = place_from bytes ts left place (left_within (bare ts) (Syntax left) h) here;
 }
 
-pub deep-at : (bytes : List ℕ) (ts : List Spanned) (left : ℕ) (place : Place) → length bytes ≤ 1048576 → tokens bytes ≡ Ok ts → whole_at design_at (bare ts) ≡ Err (TooDeep left) → place ≡ place_at bytes ts left → IsFaultyAt bytes place reach.TooDeep
+pub deep-at : (bytes : List ℕ) (ts : List Spanned) (left : ℕ) (place : Place) → length bytes ≤ 1048576 → tokens bytes ≡ Ok ts
+    → whole_at design_at (bare ts) ≡ Err (TooDeep left) → place ≡ place_at bytes ts left → IsFaultyAt bytes place reach.TooDeep
 deep-at bytes ts left place short e h here = record {
   short = short;
   found = ts;
@@ -440,7 +496,8 @@ not_deep : (bytes : List ℕ) (x : Design) (place : Place) → reading.Reads byt
 not_deep bytes x place r h =
     let ts = bare h.found in
     let P : List Token → Type 0 = SomeDesign in
-    let whole : SomeDesign (take (length ts) ts ++ []) = subst P (sym (append-nil (take (length ts) ts) ∙ take-length ts)) (x, r.proper, bare_spelled bytes h.found x h.read r) in
+    let whole : SomeDesign (take (length ts) ts ++ [])
+    = subst P (sym (append-nil (take (length ts) ts) ∙ take-length ts)) (x, r.proper, bare_spelled bytes h.found x h.read r) in
     let most = h.fault.reach.greatest (length ts) (omega arith) ([], inl whole) in
     let within = h.fault.goes_on.1.within in
     let less = h.fault.goes_on.2 in

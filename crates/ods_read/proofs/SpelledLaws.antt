@@ -1,5 +1,6 @@
 -- The laws of lists and sections whose items are each spelled in one way, of what may be left out, and of words that stand for a value.
-use Rattle.std.proofs.Common.{◌≡◌, ℕ, ◌<◌, Bool, true, false, cond, List, [], ◌∷◌, ◌++◌, length, Option, None, Some, codes, flat_map, refl, sym, ap, subst, ◌∙◌, ◌⊎◌, inl, inr}
+use Rattle.std.proofs.Common.{◌≡◌, ℕ, ◌<◌, Bool, true, false, cond, List, [], ◌∷◌, ◌++◌, length, Option, None, Some, codes, flat_map, refl, sym}
+use Rattle.std.proofs.Common.{ap, subst, ◌∙◌, ◌⊎◌, inl, inr}
 use Rattle.std.specs.Prelude.{⊤}
 use Rattle.std.proofs.lemmas.Slice.Eq.{bytes_eq-Decides}
 use Rattle.grammar.specs.Reading.{Read, first, then_at, pure_at, choose_at, token_at, many_at, Reads, Joined, AreMany}
@@ -18,11 +19,13 @@ use Rattle.seq_read.specs.Parts.{sees_by, named_at, end_tokens}
 use Rattle.ods_read.specs.Readers.{end_at, some_at, section_at}
 
 -- a part of a text with its own law, in front of the rest
-pub joins-part : {A B : Type 0} {G : A → List Token → Type 0} (H : A → B → List Token → Type 0) (a : A) (text : List Token) (b : B) (rest : List Token) → G a text → H a b rest → Joined G H b (text ++ rest)
+pub joins-part : {A B : Type 0} {G : A → List Token → Type 0} (H : A → B → List Token
+    → Type 0) (a : A) (text : List Token) (b : B) (rest : List Token) → G a text → H a b rest → Joined G H b (text ++ rest)
 joins-part H a text b rest g h = record { a = a; front = text; back = rest; before = g; after = h; whole = refl }
 
 -- a reader that answers the same
-pub reads-equal : {A : Type 0} {G : A → List Token → Type 0} {Stops : A → Option Token → Type 0} {r : List Token → Read Token A} (s : List Token → Read Token A) → ((ts : List Token) → s ts ≡ r ts) → Reads G Stops r → Reads G Stops s
+pub reads-equal : {A : Type 0} {G : A → List Token → Type 0} {Stops : A → Option Token → Type 0} {r : List Token → Read Token A} (s : List Token
+    → Read Token A) → ((ts : List Token) → s ts ≡ r ts) → Reads G Stops r → Reads G Stops s
 reads-equal s same one = record {
   sound = λ ts a rest e. one.sound ts a rest (sym (same ts) ∙ e);
   complete = λ a text rest g stop. same (text ++ rest) ∙ one.complete a text rest g stop;
@@ -44,16 +47,19 @@ reads-equal s same one = record {
 
 -- WORDS THAT STAND FOR A VALUE
 -- one word of those that are tried in turn
-pub tried : {A : Type 0} (word_of : A → List ℕ) (name own_word : Name) (own : A) (others : Option A) (a : A) → own_word ≡ word_of own → (others ≡ Some a → name ≡ word_of a) →
+pub tried : {A : Type 0} (word_of : A → List ℕ) (name own_word : Name) (own : A) (others : Option A) (a : A) → own_word ≡ word_of own
+    → (others ≡ Some a → name ≡ word_of a) →
     (b : Bool) → same_name name own_word ≡ b → cond b (Some own) others ≡ Some a → name ≡ word_of a
-tried word_of name own_word own others a spelled rest true e h = (bytes_eq-Decides name own_word).0 e ∙ spelled ∙ ap word_of (let k : Some own ≡ Some a = h in cc)
+tried word_of name own_word own others a spelled rest true e h
+    = (bytes_eq-Decides name own_word).0 e ∙ spelled ∙ ap word_of (let k : Some own ≡ Some a = h in cc)
 tried word_of name own_word own others a spelled rest false e h = rest h
 
 -- a word that stands for this
 abbrev pub IsWordOf : {A : Type 0} → (A → List ℕ) → A → List Token → Type 0
 IsWordOf word_of a text = text ≡ Word (word_of a) ∷ []
 
-module _ {A : Type 0} (named : Name → Option A) (word_of : A → List ℕ) (only : (name : Name) (a : A) → named name ≡ Some a → name ≡ word_of a) (sees : (a : A) → named (word_of a) ≡ Some a) (some : A) where
+module _ {A : Type 0} (named : Name → Option A) (word_of : A → List ℕ) (only : (name : Name) (a : A) → named name ≡ Some a
+    → name ≡ word_of a) (sees : (a : A) → named (word_of a) ≡ Some a) (some : A) where
   word_seen : (t : Token) (a : A) → sees_by named t ≡ Some a → t ≡ Word (word_of a)
   word_seen (Word name) a e = ap Word (only name a e)
   word_seen (Number n) a e = absurd (cc)
@@ -67,7 +73,8 @@ module _ {A : Type 0} (named : Name → Option A) (word_of : A → List ℕ) (on
       (reads-token (sees_by named) some (Word (word_of some)) (sees some))
 
 -- WHAT MAY BE LEFT OUT
-module _ {A : Type 0} (test : Option Token → Bool) (G : A → List Token → Type 0) (StopsG Stops : A → Option Token → Type 0) (r : List Token → Read Token A) (one : Reads G StopsG r) (none : A)
+module _ {A : Type 0} (test : Option Token → Bool) (G : A → List Token → Type 0) (StopsG Stops : A → Option Token → Type 0) (r : List Token
+    → Read Token A) (one : Reads G StopsG r) (none : A)
     (begins : (a : A) (text rest : List Token) → G a text → test (first (text ++ rest)) ≡ true)
     (to : (a : A) (text : List Token) (o : Option Token) → G a text → StopsG a o → Stops a o)
     (back : (a : A) (text : List Token) (o : Option Token) → G a text → Stops a o → StopsG a o)
@@ -106,8 +113,10 @@ abbrev pub EndsSection : {A : Type 0} → List ℕ → (Option Token → Bool) �
 EndsSection head test [] o = next_is (Word head) o ≡ false
 EndsSection head test (x ∷ xs) o = test o ≡ false
 
-module _ {A : Type 0} (P : A → Type 0) (spell : A → List Token) (test : Option Token → Bool) (r : List Token → Read Token A) (one : Reads (IsSpelled P spell) Any r)
-    (starts : (a : A) (rest : List Token) → P a → test (first (spell a ++ rest)) ≡ true) (grows : (a : A) → 0 < length (spell a)) (ends : test None ≡ false) where
+module _ {A : Type 0} (P : A → Type 0) (spell : A → List Token) (test : Option Token → Bool) (r : List Token
+    → Read Token A) (one : Reads (IsSpelled P spell) Any r)
+    (starts : (a : A) (rest : List Token) → P a → test (first (spell a ++ rest)) ≡ true) (grows : (a : A)
+    → 0 < length (spell a)) (ends : test None ≡ false) where
   abbrev pub AreSpelled : List A → List Token → Type 0
   AreSpelled xs text = Each P xs × (text ≡ flat_map spell xs)
 
@@ -145,7 +154,14 @@ module _ {A : Type 0} (P : A → Type 0) (spell : A → List Token) (test : Opti
 
   some_back : (xs : List A) (text : List Token) → AreSome xs text → Joined (IsSpelled P spell) AreFirst xs text
   some_back [] text h = absurd h.0
-  some_back (x ∷ xs) text h = record { a = x; front = spell x; back = flat_map spell xs; before = (h.1.0, refl); after = (xs, refl, h.1.1, refl); whole = h.2 }
+  some_back (x ∷ xs) text h = record {
+    a = x;
+    front = spell x;
+    back = flat_map spell xs;
+    before = (h.1.0, refl);
+    after = (xs, refl, h.1.1, refl);
+    whole = h.2;
+  }
 
   pub reads-some : Reads AreSome Ends (some_at test r)
   reads-some = reads-same (Joined (IsSpelled P spell) AreFirst) AreSome Ends (some_at test r) some_to some_back (andthen one reads-more)
@@ -183,7 +199,8 @@ module _ {A : Type 0} (P : A → Type 0) (spell : A → List Token) (test : Opti
     pub reads-section : Reads AreSection (EndsSection head test) (section_at head list)
     reads-section = reads-same _ AreSection (EndsSection head test) (section_at head list) section_to section_back
         (reads-optional (next_is (Word head)) IsHeaded Ends (EndsSection head test) (then_at (word head) (λ _. list)) reads-headed []
-        (λ xs text rest h. rw h.2 (same_self (Word head))) (λ xs text o h t. ends_to xs o h.0 t) (λ xs text o h t. ends_back xs o h.0 t) (λ o t. t) (λ o t. t))
+        (λ xs text rest h. rw h.2 (same_self (Word head))) (λ xs text o h t. ends_to xs o h.0 t) (λ xs text o h t. ends_back xs o h.0 t) (λ o t. t)
+        (λ o t. t))
 
 -- PARTS THAT BEGIN WITH A WORD, one after another
 abbrev pub Among : List ℕ → List (List ℕ) → Type 0
@@ -210,8 +227,10 @@ pub record On {A : Type 0} (ws : List (List ℕ)) (G : A → List Token → Type
   pub reads : Reads G Any r
   pub leads : (a : A) (text : List Token) → G a text → Leads ws text
 
-pub on-then : {A B : Type 0} {G : A → List Token → Type 0} {H : A → B → List Token → Type 0} {StopsG : A → Option Token → Type 0} {r : List Token → Read Token A} {f : A → List Token → Read Token B} (head : List ℕ) (ws : List (List ℕ)) →
-    Reads G StopsG r → ((a : A) (text : List Token) → G a text → IsHeadedBy head text) → ((a : A) → Each (λ u. StopsG a (Some (Word u))) ws) → ((a : A) → On ws (H a) (f a)) → On (head ∷ ws) (Joined G H) (then_at r f)
+pub on-then : {A B : Type 0} {G : A → List Token → Type 0} {H : A → B → List Token → Type 0} {StopsG : A → Option Token → Type 0} {r : List Token
+    → Read Token A} {f : A → List Token → Read Token B} (head : List ℕ) (ws : List (List ℕ)) →
+    Reads G StopsG r → ((a : A) (text : List Token) → G a text → IsHeadedBy head text) → ((a : A) → Each (λ u. StopsG a (Some (Word u))) ws)
+    → ((a : A) → On ws (H a) (f a)) → On (head ∷ ws) (Joined G H) (then_at r f)
 on-then {A} {B} {G} {H} {StopsG} {r} {f} head ws one headed stops two = record {
   reads = reads-then G H StopsG Any r f one (λ a. (two a).reads)
       (λ a b back rest h stop. let l = (two a).leads b back h in rw l.whole (among_each (λ u. StopsG a (Some (Word u))) l.head ws (stops a) l.among));
@@ -224,17 +243,25 @@ on-then {A} {B} {G} {H} {StopsG} {r} {f} head ws one headed stops two = record {
       ];
 }
 
-pub on-end : {B : Type 0} (name : Name) (b : B) → On (codes "end" ∷ []) (Joined (IsPhrase (end_tokens name)) (λ _. IsOnly b)) (then_at (end_at name) (λ _. pure_at b))
+pub on-end : {B : Type 0} (name : Name) (b : B)
+    → On (codes "end" ∷ []) (Joined (IsPhrase (end_tokens name)) (λ _. IsOnly b)) (then_at (end_at name) (λ _. pure_at b))
 on-end name b = record {
   reads = andthen (reads-phrase (end_tokens name)) (λ _. reads-pure Any b (λ _. tt));
-  leads = λ c text j. record { head = codes "end"; more = Word name ∷ Sign Semicolon ∷ j.back; among = inl refl; whole = j.whole ∙ ap (λ us. us ++ j.back) j.before };
+  leads = λ c text j. record {
+    head = codes "end";
+    more = Word name ∷ Sign Semicolon ∷ j.back;
+    among = inl refl;
+    whole = j.whole ∙ ap (λ us. us ++ j.back) j.before;
+  };
 }
 
-pub section_headed : {A : Type 0} (head : List ℕ) (spell : A → List Token) (xs : List A) (text : List Token) → text ≡ section_tokens head spell xs → IsHeadedBy head text
+pub section_headed : {A : Type 0} (head : List ℕ) (spell : A → List Token) (xs : List A) (text : List Token) → text ≡ section_tokens head spell xs
+    → IsHeadedBy head text
 section_headed head spell [] text h = inl h
 section_headed head spell (x ∷ xs) text h = inr (flat_map spell (x ∷ xs), h)
 
-pub section_stops : {A : Type 0} (head : List ℕ) (test : Option Token → Bool) (ws : List (List ℕ)) (xs : List A) → Each (λ u. next_is (Word head) (Some (Word u)) ≡ false) ws → Each (λ u. test (Some (Word u)) ≡ false) ws →
+pub section_stops : {A : Type 0} (head : List ℕ) (test : Option Token → Bool) (ws : List (List ℕ)) (xs : List A)
+    → Each (λ u. next_is (Word head) (Some (Word u)) ≡ false) ws → Each (λ u. test (Some (Word u)) ≡ false) ws →
     Each (λ u. EndsSection head test xs (Some (Word u))) ws
 section_stops head test ws [] a b = a
 section_stops head test ws (x ∷ xs) a b = b

@@ -10,7 +10,8 @@ use Rattle.ods_tree.specs.Words.{is_design_name}
 use Rattle.token_read.specs.Readers.{next_is}
 use Rattle.seq_read.specs.Parts.{named_at}
 use Rattle.seq_read.specs.Statements.{BlockReader, word, block_at}
-use Rattle.ods_read.specs.Readers.{kind_named, design_name_at, end_at, some_at, attributes_at, provides_at, requires_at, data_at, bodies_at, thread_at, implements_at}
+use Rattle.ods_read.specs.Readers.{kind_named, design_name_at, end_at, some_at, attributes_at, provides_at, requires_at, data_at, bodies_at}
+use Rattle.ods_read.specs.Readers.{thread_at, implements_at}
 
 abbrev pub TreeReader : Type 0
 TreeReader = List Token → Read Token Tree

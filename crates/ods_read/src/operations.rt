@@ -3,7 +3,8 @@ ghost use Rattle.ods_tree.specs.Trees.{provided_of};
 ghost use Rattle.token_read.specs.Ahead.{ahead};
 ghost use Rattle.seq_read.specs.Halts.{Gives};
 ghost use Rattle.ods_read.specs.Heads.{params_from_at};
-ghost use Rattle.ods_read.specs.Readers.{param_at, param_list_at, enclosed_at, params_at, provided_at, provided_list_at, provides_at, needed_at, needed_list_at, requires_at};
+ghost use Rattle.ods_read.specs.Readers.{param_at, param_list_at, enclosed_at, params_at, provided_at, provided_list_at, provides_at, needed_at};
+ghost use Rattle.ods_read.specs.Readers.{needed_list_at, requires_at};
 
 use crate::names::{name, next_is_name, op_name};
 use crate::values::constraint;

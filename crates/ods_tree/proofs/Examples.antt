@@ -27,34 +27,41 @@ abbrev tokens_of : Tree → List Token
 tokens_of t = tokens_of_lines (tree_lines 1 t)
 
 -- the tokens of a tree are those of its text
-water_handler_spelled : Ok (tokens_of water_handler) ≡ plain (tokens (codes "OBJECT water_handler IS SPORADIC ATTRIBUTES SEPARATION = 6000; DEADLINE = 200; THREAD_BUDGET = 20; ARRIVAL_JITTER = 5; PROVIDES water (high : in Word) ASER; REQUIRES motor.set_pump; data_logger.log; THREAD motor.set_pump (high); data_logger.log (high); END THREAD; END water_handler;"))
+water_handler_spelled : Ok (tokens_of water_handler)
+    ≡ plain (tokens (codes "OBJECT water_handler IS SPORADIC ATTRIBUTES SEPARATION = 6000; DEADLINE = 200; THREAD_BUDGET = 20; ARRIVAL_JITTER = 5; PROVIDES water (high : in Word) ASER; REQUIRES motor.set_pump; data_logger.log; THREAD motor.set_pump (high); data_logger.log (high); END THREAD; END water_handler;"))
 unfolding tokens tokens_after front_by start_of name_front number_front longest mark_of
 water_handler_spelled = refl
 
-data_logger_spelled : Ok (tokens_of data_logger) ≡ plain (tokens (codes "OBJECT data_logger IS PROTECTED PROVIDES log (v : in Word) PAER; DATA count : Word := 0; last : Word := 0; OPERATION log IS BEGIN count := count + 1; last := v; Work (2); END log; END data_logger;"))
+data_logger_spelled : Ok (tokens_of data_logger)
+    ≡ plain (tokens (codes "OBJECT data_logger IS PROTECTED PROVIDES log (v : in Word) PAER; DATA count : Word := 0; last : Word := 0; OPERATION log IS BEGIN count := count + 1; last := v; Work (2); END log; END data_logger;"))
 unfolding tokens tokens_after front_by start_of name_front number_front longest mark_of
 data_logger_spelled = refl
 
-alarm_console_spelled : Ok (tokens_of alarm_console) ≡ plain (tokens (codes "OBJECT alarm_console IS SPORADIC ATTRIBUTES SEPARATION = 80; DEADLINE = 50; THREAD_BUDGET = 10; PROVIDES alert (v : in Word) ASER; THREAD Put (v); Work (4); END THREAD; END alarm_console;"))
+alarm_console_spelled : Ok (tokens_of alarm_console)
+    ≡ plain (tokens (codes "OBJECT alarm_console IS SPORADIC ATTRIBUTES SEPARATION = 80; DEADLINE = 50; THREAD_BUDGET = 10; PROVIDES alert (v : in Word) ASER; THREAD Put (v); Work (4); END THREAD; END alarm_console;"))
 unfolding tokens tokens_after front_by start_of name_front number_front longest mark_of
 alarm_console_spelled = refl
 
-end_spelled : Ok (tokens_of_lines (back_lines 1 (own_of pump_controller))) ≡ plain (tokens (codes "IMPLEMENTS set_safety BY motor.set_safety; END pump_controller;"))
+end_spelled : Ok (tokens_of_lines (back_lines 1 (own_of pump_controller)))
+    ≡ plain (tokens (codes "IMPLEMENTS set_safety BY motor.set_safety; END pump_controller;"))
 unfolding tokens tokens_after front_by start_of name_front number_front longest mark_of
 end_spelled = refl
 
-costs_spelled : Ok (tokens_of_lines (cost_lines mine.costs)) ≡ plain (tokens (codes "COSTS ASSIGN = 1; TEST = 1; TURN = 1; CALL = 2; NULL = 1; PUT = 1; FINISH = 1; END COSTS;"))
+costs_spelled : Ok (tokens_of_lines (cost_lines mine.costs))
+    ≡ plain (tokens (codes "COSTS ASSIGN = 1; TEST = 1; TURN = 1; CALL = 2; NULL = 1; PUT = 1; FINISH = 1; END COSTS;"))
 unfolding tokens tokens_after front_by start_of name_front number_front longest mark_of
 costs_spelled = refl
 
 -- flattened order
 in_order : map (λ s. s.own.name) (objects mine)
     ≡ codes "mine_control" ∷ codes "pump_controller" ∷ codes "motor" ∷ codes "water_handler" ∷ codes "flow_sensor"
-    ∷ codes "environment_monitor" ∷ codes "ch4_status" ∷ codes "ch4_sensor" ∷ codes "co_sensor" ∷ codes "air_flow" ∷ codes "data_logger" ∷ codes "alarm_console" ∷ []
+    ∷ codes "environment_monitor" ∷ codes "ch4_status" ∷ codes "ch4_sensor" ∷ codes "co_sensor" ∷ codes "air_flow" ∷ codes "data_logger"
+    ∷ codes "alarm_console" ∷ []
 in_order = refl
 
 -- a call of an object with children means the operation of a child
-linked : resolve mine (record { object = codes "pump_controller"; op = codes "set_safety" }) ≡ record { object = codes "motor"; op = codes "set_safety" }
+linked : resolve mine (record { object = codes "pump_controller"; op = codes "set_safety" })
+    ≡ record { object = codes "motor"; op = codes "set_safety" }
 linked = refl
 
 -- the threads, and the calls of the first
@@ -67,5 +74,6 @@ shared_names = refl
 
 called_objects : map (λ t. map (λ c. c.object) (block_calls t.block)) (flat mine).threads
     ≡ (codes "motor" ∷ codes "data_logger" ∷ []) ∷ (codes "motor" ∷ codes "data_logger" ∷ [])
-    ∷ (codes "ch4_status" ∷ codes "motor" ∷ codes "alarm_console" ∷ codes "motor" ∷ []) ∷ (codes "data_logger" ∷ []) ∷ (codes "ch4_status" ∷ []) ∷ [] ∷ []
+    ∷ (codes "ch4_status" ∷ codes "motor" ∷ codes "alarm_console" ∷ codes "motor" ∷ []) ∷ (codes "data_logger" ∷ [])
+    ∷ (codes "ch4_status" ∷ []) ∷ [] ∷ []
 called_objects = refl

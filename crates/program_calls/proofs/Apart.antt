@@ -16,7 +16,9 @@ module _ (p : Program) (rules : MeetsRules p) where
   naming i u at = false_from_ne_true (breaks_naming p i u) (λ breaks. rules Naming (At i) (u, at, breaks))
 
   pub units_apart : AreApart p.units
-  units_apart = apart p.units (λ i u at. (or_parts _ _ (sym (list_any-append (λ n. same_name n u.name) (map (λ v. v.name) (take i p.units)) (flat_map (λ v. inner_names v.form) (take i p.units)))
+  units_apart = apart p.units (λ i u at.
+      (or_parts _ _ (sym (list_any-append (λ n. same_name n u.name) (map (λ v. v.name) (take i p.units))
+      (flat_map (λ v. inner_names v.form) (take i p.units)))
       ∙ (or_parts _ _ (or_parts _ _ (or_parts _ _ (or_parts _ _ (or_parts _ _ (naming i u at)).0).0).0).0).0)).0)
 
 -- units of one name are one

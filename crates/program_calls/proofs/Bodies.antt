@@ -1,6 +1,7 @@
 -- What calls lead to by the bodies of operations: without rings no deeper than there are operations, so that what is worked out
 -- through so many bodies holds for every call.
-use Rattle.std.specs.Prelude.{◌≡◌, ◌<◌, ◌&&◌, ℕ, suc, Bool, true, false, List, [], ◌∷◌, map, flat_map, filter, length, Option, Some, None, if◌then◌else◌, refl}
+use Rattle.std.specs.Prelude.{◌≡◌, ◌<◌, ◌&&◌, ℕ, suc, Bool, true, false, List, [], ◌∷◌, map, flat_map, filter, length, Option, Some, None}
+use Rattle.std.specs.Prelude.{if◌then◌else◌, refl}
 use Rattle.std.specs.List.{list_any}
 use Rattle.std.proofs.Common.{sym, ◌∙◌, ap, subst}
 use Rattle.std.proofs.lemmas.List.{length-map}
@@ -66,12 +67,14 @@ module _ (ss : List Service) where
       let both = and_parts (same_op (name_of found.1) c) (list_any (same_op d) (block_calls found.1.op.block)) found.3 in
       let call = any-at (same_op d) (block_calls found.1.op.block) both.1 in
       service-step c d found.1 (at-in ss found.0 found.1 found.2) (same_op-eq (name_of found.1) c both.0)
-      (subst (λ x. IsIn x (block_calls found.1.op.block)) (sym (same_op-eq d call.1 call.3)) (at-in (block_calls found.1.op.block) call.0 call.1 call.2))
+      (subst (λ x. IsIn x (block_calls found.1.op.block)) (sym (same_op-eq d call.1 call.3))
+      (at-in (block_calls found.1.op.block) call.0 call.1 call.2))
 
   pub service-calls : (c d : OpName) (s : Service) → IsIn s ss → name_of s ≡ c → IsIn d (block_calls s.op.block) → Calls ss c d
   service-calls c d s h is called =
       any-in (λ (x : Service). same_op (name_of x) c && list_any (same_op d) (block_calls x.op.block)) s ss h
-      (ap (λ b. b && list_any (same_op d) (block_calls s.op.block)) (ap (λ x. same_op x c) is ∙ same_op-refl c) ∙ any-in (same_op d) d (block_calls s.op.block) called (same_op-refl d))
+      (ap (λ b. b && list_any (same_op d) (block_calls s.op.block)) (ap (λ x. same_op x c) is ∙ same_op-refl c) ∙ any-in (same_op d) d
+      (block_calls s.op.block) called (same_op-refl d))
 
   step-calls : (c d : OpName) → Step next c d → Calls ss c d
   step-calls c d step =
@@ -105,8 +108,10 @@ module _ (ss : List Service) where
     module _ {X : Type 0} (of : (OpName → X) → OpName → Option Service → X) (within : ℕ → OpName → X)
         (steps : (n : ℕ) (c : OpName) → within (suc n) c ≡ of (within n) c (service_named ss c.object c.op))
         (none : (f : OpName → X) (c : OpName) → of f c None ≡ within 0 c)
-        (some : (f g : OpName → X) (c : OpName) (s : Service) → ((d : OpName) → IsIn d (block_calls s.op.block) → f d ≡ g d) → of f c (Some s) ≡ of g c (Some s)) where
-      local : (f g : OpName → X) (c : OpName) → ((d : OpName) → Step next c d → f d ≡ g d) → of f c (service_named ss c.object c.op) ≡ of g c (service_named ss c.object c.op)
+        (some : (f g : OpName → X) (c : OpName) (s : Service) → ((d : OpName) → IsIn d (block_calls s.op.block) → f d ≡ g d)
+        → of f c (Some s) ≡ of g c (Some s)) where
+      local : (f g : OpName → X) (c : OpName) → ((d : OpName) → Step next c d → f d ≡ g d)
+          → of f c (service_named ss c.object c.op) ≡ of g c (service_named ss c.object c.op)
       local f g c same = by (service_named ss c.object c.op) refl
         where
           by : (o : Option Service) → service_named ss c.object c.op ≡ o → of f c o ≡ of g c o
@@ -126,45 +131,57 @@ module _ (ss : List Service) where
       covers c = settles next (λ f d. of f d (service_named ss d.object d.op)) within steps local last (length ss) c (deep c)
 
     -- costs
-    pub costs-cover : (costs : Costs) (object op : Name) → called_cost costs ss object op ≡ service_cost costs (called_cost costs ss) (service_named ss object op)
+    pub costs-cover : (costs : Costs) (object op : Name) → called_cost costs ss object op
+        ≡ service_cost costs (called_cost costs ss) (service_named ss object op)
     costs-cover costs object op =
-        covers (λ f c o. service_cost costs (λ object' op'. f (record { object = object'; op = op' })) o) (λ n c. cost_within n costs ss c.object c.op)
+        covers (λ f c o. service_cost costs (λ object' op'. f (record { object = object'; op = op' })) o)
+        (λ n c. cost_within n costs ss c.object c.op)
         (λ n c. refl) (λ f c. refl) (λ f g c s same. by f g s s.sort same) (record { object = object; op = op })
       where
         by : (f g : OpName → ℕ) (s : Service) (x : Sort) → ((d : OpName) → IsIn d (block_calls s.op.block) → f d ≡ g d)
-            → body_cost_by costs (λ object' op'. f (record { object = object'; op = op' })) x s.op ≡ body_cost_by costs (λ object' op'. g (record { object = object'; op = op' })) x s.op
+            → body_cost_by costs (λ object' op'. f (record { object = object'; op = op' })) x s.op
+            ≡ body_cost_by costs (λ object' op'. g (record { object = object'; op = op' })) x s.op
         by f g s sort.Plain same = block-same costs (λ ticks. ticks) _ _ s.op.block same
         by f g s sort.Protected same = block-same costs (λ ticks. ticks) _ _ s.op.block same
         by f g s sort.Request same = refl
 
     -- what calls lead to
     pub calls-cover : (c : OpName) → calls_within (length ss) ss c ≡ c ∷ service_calls (calls_within (length ss) ss) (service_named ss c.object c.op)
-    calls-cover c = covers (λ f d o. d ∷ service_calls f o) (λ n d. calls_within n ss d) (λ n d. refl) (λ f d. refl) (λ f g d s same. ap (λ cs. d ∷ cs) (by f g s s.sort same)) c
+    calls-cover c = covers (λ f d o. d ∷ service_calls f o) (λ n d. calls_within n ss d) (λ n d. refl) (λ f d. refl)
+        (λ f g d s same. ap (λ cs. d ∷ cs) (by f g s s.sort same)) c
       where
-        by : (f g : OpName → List OpName) (s : Service) (x : Sort) → ((d : OpName) → IsIn d (block_calls s.op.block) → f d ≡ g d) → calls_by f x s.op ≡ calls_by g x s.op
+        by : (f g : OpName → List OpName) (s : Service) (x : Sort) → ((d : OpName) → IsIn d (block_calls s.op.block) → f d ≡ g d)
+            → calls_by f x s.op ≡ calls_by g x s.op
         by f g s sort.Plain same = refl
         by f g s sort.Protected same = flat-same f g (block_calls s.op.block) same
         by f g s sort.Request same = refl
 
     -- requests
-    pub starts-cover : (target : OpName) (object op : Name) → starts_within (length ss) ss target object op ≡ service_starts (block_starts ss target) (service_named ss object op)
+    pub starts-cover : (target : OpName) (object op : Name) → starts_within (length ss) ss target object op
+        ≡ service_starts (block_starts ss target) (service_named ss object op)
     starts-cover target object op =
-        covers (λ f c o. service_starts (starts_through target (λ object' op'. f (record { object = object'; op = op' }))) o) (λ n c. starts_within n ss target c.object c.op)
+        covers (λ f c o. service_starts (starts_through target (λ object' op'. f (record { object = object'; op = op' }))) o)
+        (λ n c. starts_within n ss target c.object c.op)
         (λ n c. refl) (λ f c. refl) (λ f g c s same. by f g s s.sort same) (record { object = object; op = op })
       where
         by : (f g : OpName → ℕ) (s : Service) (x : Sort) → ((d : OpName) → IsIn d (block_calls s.op.block) → f d ≡ g d)
-            → starts_by (starts_through target (λ object' op'. f (record { object = object'; op = op' }))) x s.op ≡ starts_by (starts_through target (λ object' op'. g (record { object = object'; op = op' }))) x s.op
+            → starts_by (starts_through target (λ object' op'. f (record { object = object'; op = op' }))) x s.op
+            ≡ starts_by (starts_through target (λ object' op'. g (record { object = object'; op = op' }))) x s.op
         by f g s sort.Plain same = refl
-        by f g s sort.Protected same = block-same free (λ ticks. 0) _ _ s.op.block (λ d h. ap (λ m. let k : ℕ = if is_call_of target d.object d.op then 1 else m in k) (same d h))
+        by f g s sort.Protected same = block-same free (λ ticks. 0) _ _ s.op.block (λ d h. ap (λ m. let k : ℕ
+            = if is_call_of target d.object d.op then 1 else m in k) (same d h))
         by f g s sort.Request same = refl
 
     -- sections
-    pub sections-cover : (costs : Costs) (c : OpName) → sections_within (length ss) costs ss c ≡ service_sections (section costs ss c) (sections_within (length ss) costs ss) (service_named ss c.object c.op)
+    pub sections-cover : (costs : Costs) (c : OpName) → sections_within (length ss) costs ss c
+        ≡ service_sections (section costs ss c) (sections_within (length ss) costs ss) (service_named ss c.object c.op)
     sections-cover costs c =
-        covers (λ f d o. service_sections (section costs ss d) f o) (λ n d. sections_within n costs ss d) (λ n d. refl) (λ f d. refl) (λ f g d s same. by f g d s s.sort same) c
+        covers (λ f d o. service_sections (section costs ss d) f o) (λ n d. sections_within n costs ss d) (λ n d. refl) (λ f d. refl) (λ f g d s same.
+        by f g d s s.sort same) c
       where
         by : (f g : OpName → List Section) (d : OpName) (s : Service) (x : Sort) → ((e : OpName) → IsIn e (block_calls s.op.block) → f e ≡ g e)
             → sections_by (section costs ss d) f x s.op ≡ sections_by (section costs ss d) g x s.op
         by f g d s sort.Plain same = refl
-        by f g d s sort.Protected same = ap (λ ts. section costs ss d ∷ ts) (flat-same f g (live_calls s.op.block) (λ e h. same e (live-in s.op.block e h)))
+        by f g d s sort.Protected same
+            = ap (λ ts. section costs ss d ∷ ts) (flat-same f g (live_calls s.op.block) (λ e h. same e (live-in s.op.block e h)))
         by f g d s sort.Request same = refl

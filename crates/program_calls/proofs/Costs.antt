@@ -1,4 +1,5 @@
--- On the processor what a call costs covers what it leads to, also where protected bodies call further: it is enough that no operation leads to itself.
+-- On the processor what a call costs covers what it leads to, also where protected bodies call further: it is enough that no operation
+-- leads to itself.
 use Rattle.std.specs.Prelude.{◌≡◌, ◌≤◌, ◌*◌, List, ⊤}
 use Rattle.std.proofs.Common.{◌∙◌, ap, arith}
 use Rattle.seq_tree.specs.Operations.{Operation}
@@ -19,7 +20,8 @@ use Rattle.program_calls.proofs.Bodies.{costs-cover}
 -- what a call costs covers what it leads to
 abbrev pub PaysCall : Program → OpName → CallTarget → Type 0
 PaysCall p c (Plain o) = cost p.costs (called_cost p.costs (program_services p)) o.block ≤ called_cost p.costs (program_services p) c.object c.op
-PaysCall p c (Protected object j g o) = cost p.costs (called_cost p.costs (program_services p)) o.block ≤ called_cost p.costs (program_services p) c.object c.op
+PaysCall p c (Protected object j g o) = cost p.costs (called_cost p.costs (program_services p)) o.block
+    ≤ called_cost p.costs (program_services p) c.object c.op
 PaysCall p c (Request task) = 2 * p.costs.assign ≤ called_cost p.costs (program_services p) c.object c.op
 PaysCall p c Unknown = ⊤
 
@@ -30,10 +32,12 @@ module _ (p : Program) (a : Arrivals) (apart : AreApart p.units) (no_ring : Have
   pub pays-call : (c : OpName) → PaysCall p c (callee (system p a) c.object c.op)
   pays-call c = by (callee (system p a) c.object c.op) (served-as p a apart c.object c.op)
     where
-      body : (x : Sort) (o : Operation) → IsServed p c.object c.op x o → called_cost p.costs ss c.object c.op ≡ body_cost_by p.costs (called_cost p.costs ss) x o
+      body : (x : Sort) (o : Operation) → IsServed p c.object c.op x o → called_cost p.costs ss c.object c.op
+          ≡ body_cost_by p.costs (called_cost p.costs ss) x o
       body x o s =
           costs-cover ss no_ring p.costs c.object c.op ∙ ap (service_cost p.costs (called_cost p.costs ss)) s.found
-          ∙ ap (λ z. body_cost_by p.costs (called_cost p.costs ss) z s.service.op) s.sorts ∙ ap (body_cost_by p.costs (called_cost p.costs ss) x) s.does
+          ∙ ap (λ z. body_cost_by p.costs (called_cost p.costs ss) z s.service.op) s.sorts ∙ ap
+          (body_cost_by p.costs (called_cost p.costs ss) x) s.does
 
       by : (k : CallTarget) → ServedAs p (system p a) c.object c.op k → PaysCall p c k
       by (Plain o) s = let is = body sort.Plain o s in omega (arith, is)

@@ -1,5 +1,6 @@
 -- Where nodes lead to each other in no ring, they go no deeper than there are nodes.
-use Rattle.std.specs.Prelude.{◌≡◌, ◌≤◌, ◌<◌, ◌+◌, ◌||◌, ℕ, zero, suc, Bool, true, false, List, [], ◌∷◌, length, Option, Some, None, if◌then◌else◌, refl}
+use Rattle.std.specs.Prelude.{◌≡◌, ◌≤◌, ◌<◌, ◌+◌, ◌||◌, ℕ, zero, suc, Bool, true, false, List, [], ◌∷◌, length, Option, Some, None}
+use Rattle.std.specs.Prelude.{if◌then◌else◌, refl}
 use Rattle.std.specs.List.{list_any}
 use Rattle.std.proofs.Common.{sym, ◌∙◌, ap, subst, arith}
 use Rattle.std.proofs.lemmas.Bool.{false≢true}
@@ -58,17 +59,20 @@ module _ {A : Type 0} (next : A → Option (List A)) where
     all-less chain c (d ∷ nodes) = let one = one-less chain c d in let more = all-less chain c nodes in omega (arith, one, more)
 
     -- one fewer is left once a node is on the way
-    taken : (chain : List A) (c : A) (nodes : List A) → is_among chain c ≡ false → is_among nodes c ≡ true → left_over (c ∷ chain) nodes + 1 ≤ left_over chain nodes
+    taken : (chain : List A) (c : A) (nodes : List A) → is_among chain c ≡ false → is_among nodes c ≡ true
+        → left_over (c ∷ chain) nodes + 1 ≤ left_over chain nodes
     taken chain c [] out there = absurd (false≢true there)
     taken chain c (d ∷ nodes) out there = by (same c d) refl there (taken chain c nodes out)
       where
-        by : (b : Bool) → same c d ≡ b → (b || is_among nodes c) ≡ true → (is_among nodes c ≡ true → left_over (c ∷ chain) nodes + 1 ≤ left_over chain nodes)
+        by : (b : Bool) → same c d ≡ b → (b || is_among nodes c) ≡ true
+            → (is_among nodes c ≡ true → left_over (c ∷ chain) nodes + 1 ≤ left_over chain nodes)
             → left_over (c ∷ chain) (d ∷ nodes) + 1 ≤ left_over chain (d ∷ nodes)
         by true e h more =
             let one : c ≡ d = is c d e in
             let mine : same d c ≡ true = ap (λ x. same d x) one ∙ self d in
             let now : (if is_among (c ∷ chain) d then 0 else 1) ≡ 0 = ap (λ a. let k : ℕ = if a || is_among chain d then 0 else 1 in k) mine in
-            let before : (if is_among chain d then 0 else 1) ≡ 1 = ap (λ a. let k : ℕ = if a then 0 else 1 in k) (ap (is_among chain) (sym one) ∙ out) in
+            let before : (if is_among chain d then 0 else 1) ≡ 1 = ap (λ a. let k : ℕ = if a then 0 else 1
+            in k) (ap (is_among chain) (sym one) ∙ out) in
             let rest = all-less chain c nodes in
             omega (arith, now, before, rest)
         by false e h more = let one = one-less chain c d in let rest = more h in omega (arith, one, rest)
@@ -99,7 +103,8 @@ module _ {A : Type 0} (next : A → Option (List A)) where
           by None e = e
           by (Some cs) e = let less = taken chain c nodes clear.0 (there c cs e) in absurd (omega (arith, less, few))
       deep-from (suc n) chain c clear few = λ cs has. each-in (IsDeep n) cs (λ d among.
-          deep-from n (c ∷ chain) d (clear-next chain c d clear (cs, has, among)) (let less = taken chain c nodes clear.0 (there c cs has) in omega (arith, less, few)))
+          deep-from n (c ∷ chain) d (clear-next chain c d clear (cs, has, among)) (let less = taken chain c nodes clear.0 (there c cs has)
+          in omega (arith, less, few)))
 
       -- no node is deeper than there are nodes
       pub deep-all : (c : A) → IsDeep (length nodes) c
@@ -115,7 +120,8 @@ module _ {A : Type 0} (next : A → Option (List A)) where
     settled zero (suc k) c less deep = steps k c ∙ last (within k) c deep
     settled (suc n) zero c less deep = absurd (omega (arith, less))
     settled (suc n) (suc k) c less deep =
-        steps k c ∙ local (within k) (within n) c (λ d step. settled n k d (omega (arith, less)) (each-is (IsDeep n) step.0 d (deep step.0 step.1) step.2)) ∙ sym (steps n c)
+        steps k c ∙ local (within k) (within n) c (λ d step. settled n k d (omega (arith, less))
+        (each-is (IsDeep n) step.0 d (deep step.0 step.1) step.2)) ∙ sym (steps n c)
 
     -- and is what comes from the nodes that it leads to
     pub settles : (n : ℕ) (c : A) → IsDeep n c → within n c ≡ value (within n) c

@@ -58,7 +58,8 @@ first-where test xs k x e =
     (subst (λ m. slice_get xs m ≡ Some x) is found.2, found.3)
 
 -- where none is found, none passes it
-pub first-none : {A : Type 0} (n : ℕ) (test : A → Bool) (xs : List A) → first_from n test xs ≡ None → (k : ℕ) (x : A) → slice_get xs k ≡ Some x → test x ≡ false
+pub first-none : {A : Type 0} (n : ℕ) (test : A → Bool) (xs : List A) → first_from n test xs ≡ None → (k : ℕ) (x : A) → slice_get xs k ≡ Some x
+    → test x ≡ false
 first-none n test [] e k x at = absurd (none-some x at)
 first-none {A} n test (a ∷ xs) e k x at = by (test a) refl k at e (λ later j g. first-none (suc n) test xs later j x g)
   where

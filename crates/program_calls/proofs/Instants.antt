@@ -38,7 +38,8 @@ serve_task-same y i (Some t) s = by (is_waiting t.readiness && t.gate.open')
 pub serve-same : (y : System) (i : ℕ) (s : State) → IsSame s (serve y i s).0
 serve-same y i s = serve_task-same y i (slice_get s.tasks i) s
 
-entry-same : (y : System) (i : ℕ) (t : Task) (c : Resource) (told : List Event) (vars : Variables) (ps : List Piece) (s : State) → IsSame s (entry y i t c told vars ps s).0
+entry-same : (y : System) (i : ℕ) (t : Task) (c : Resource) (told : List Event) (vars : Variables) (ps : List Piece) (s : State)
+    → IsSame s (entry y i t c told vars ps s).0
 entry-same y i t c told vars ps s = by c (nat_lt (ceiling_of y c) t.active)
   where
     by : (z : Resource) (b : Bool) → IsSame s (if b then stopped_at y t z s else entered_at y i z told vars ps s).0

@@ -1,5 +1,6 @@
 -- Items of lists: those that are made of numbered items, those that a test finds, and those of lists in lists.
-use Rattle.std.specs.Prelude.{◌≡◌, ◌⊎◌, ◌≤◌, ◌+◌, ℕ, zero, suc, Bool, true, false, ◌||◌, List, [], ◌∷◌, ◌++◌, map, flat_map, filter_map, slice_get, Option, Some, None, ⊤, refl}
+use Rattle.std.specs.Prelude.{◌≡◌, ◌⊎◌, ◌≤◌, ◌+◌, ℕ, zero, suc, Bool, true, false, ◌||◌, List, [], ◌∷◌, ◌++◌, map, flat_map, filter_map}
+use Rattle.std.specs.Prelude.{slice_get, Option, Some, None, ⊤, refl}
 use Rattle.std.specs.List.{enumerate_from, cons_option, list_any, AllZip}
 use Rattle.std.specs.Prelude.{filter, cond, drop, find}
 use Rattle.std.proofs.Common.{ap₂}
@@ -54,7 +55,8 @@ pub any-at : {A : Type 0} (test : A → Bool) (xs : List A) → list_any test xs
 any-at test [] e = absurd (false≢true e)
 any-at {A} test (x ∷ xs) e = by (test x) refl e (any-at test xs)
   where
-    by : (b : Bool) → test x ≡ b → (b || list_any test xs) ≡ true → (list_any test xs ≡ true → (k : ℕ) × (z : A) × (slice_get xs k ≡ Some z) × (test z ≡ true))
+    by : (b : Bool) → test x ≡ b → (b || list_any test xs) ≡ true
+        → (list_any test xs ≡ true → (k : ℕ) × (z : A) × (slice_get xs k ≡ Some z) × (test z ≡ true))
         → (k : ℕ) × (z : A) × (slice_get (x ∷ xs) k ≡ Some z) × (test z ≡ true)
     by true h e' more = (0, x, refl, h)
     by false h e' more = let found = more e' in (suc found.0, found.1, found.2, found.3)
@@ -68,29 +70,34 @@ made-at {A} {B} f n (x ∷ xs) i b e = by (f (n, x)) refl i e (λ j. made-at f (
     here : f (n, x) ≡ f (n + 0, x)
     here = let is : n ≡ n + 0 = omega arith in ap (λ k. f (k, x)) is
 
-    more : ((m : ℕ) × (a : A) × (slice_get xs m ≡ Some a) × (f (n + 1 + m, a) ≡ Some b)) → (m : ℕ) × (a : A) × (slice_get (x ∷ xs) m ≡ Some a) × (f (n + m, a) ≡ Some b)
+    more : ((m : ℕ) × (a : A) × (slice_get xs m ≡ Some a) × (f (n + 1 + m, a) ≡ Some b)) → (m : ℕ) × (a : A) × (slice_get (x ∷ xs) m ≡ Some a)
+        × (f (n + m, a) ≡ Some b)
     more found = (suc found.0, found.1, found.2, (let is : n + suc found.0 ≡ n + 1 + found.0 = omega arith in ap (λ k. f (k, found.1)) is ∙ found.3))
 
     by : (o : Option B) → f (n, x) ≡ o → (j : ℕ) → slice_get (cons_option o (filter_map f (enumerate_from (n + 1) xs))) j ≡ Some b
-        → ((j : ℕ) → slice_get (filter_map f (enumerate_from (n + 1) xs)) j ≡ Some b → (m : ℕ) × (a : A) × (slice_get xs m ≡ Some a) × (f (n + 1 + m, a) ≡ Some b))
+        → ((j : ℕ) → slice_get (filter_map f (enumerate_from (n + 1) xs)) j ≡ Some b → (m : ℕ) × (a : A) × (slice_get xs m ≡ Some a)
+        × (f (n + 1 + m, a) ≡ Some b))
         → (m : ℕ) × (a : A) × (slice_get (x ∷ xs) m ≡ Some a) × (f (n + m, a) ≡ Some b)
     by None h j e' later = more (later j e')
     by (Some c) h zero e' later = (0, x, refl, sym here ∙ h ∙ e')
     by (Some c) h (suc j) e' later = more (later j e')
 
 pub places-differ : {A B : Type 0} (f : ℕ × A → Option B) (place : B → ℕ) → ((k : ℕ) (a : A) (b : B) → f (k, a) ≡ Some b → place b ≡ k)
-    → (n : ℕ) (xs : List A) (i j : ℕ) (b c : B) → slice_get (filter_map f (enumerate_from n xs)) i ≡ Some b → slice_get (filter_map f (enumerate_from n xs)) j ≡ Some c
+    → (n : ℕ) (xs : List A) (i j : ℕ) (b c : B) → slice_get (filter_map f (enumerate_from n xs)) i ≡ Some b
+    → slice_get (filter_map f (enumerate_from n xs)) j ≡ Some c
     → place b ≡ place c → i ≡ j
 places-differ f place says n [] i j b c e g same = absurd (none-some b e)
 places-differ {A} {B} f place says n (x ∷ xs) i j b c e g same =
     by (f (n, x)) refl i j e g (λ i' j' e' g'. places-differ f place says (n + 1) xs i' j' b c e' g' same)
   where
     above : (k : ℕ) (d : B) → slice_get (filter_map f (enumerate_from (n + 1) xs)) k ≡ Some d → n + 1 ≤ place d
-    above k d h = let found = made-at f (n + 1) xs k d h in let is : place d ≡ n + 1 + found.0 = says (n + 1 + found.0) found.1 d found.3 in omega arith
+    above k d h = let found = made-at f (n + 1) xs k d h in let is : place d ≡ n + 1 + found.0 = says (n + 1 + found.0) found.1 d found.3
+        in omega arith
 
     by : (o : Option B) → f (n, x) ≡ o → (i' j' : ℕ) → slice_get (cons_option o (filter_map f (enumerate_from (n + 1) xs))) i' ≡ Some b
         → slice_get (cons_option o (filter_map f (enumerate_from (n + 1) xs))) j' ≡ Some c
-        → ((i'' j'' : ℕ) → slice_get (filter_map f (enumerate_from (n + 1) xs)) i'' ≡ Some b → slice_get (filter_map f (enumerate_from (n + 1) xs)) j'' ≡ Some c → i'' ≡ j'')
+        → ((i'' j'' : ℕ) → slice_get (filter_map f (enumerate_from (n + 1) xs)) i'' ≡ Some b
+        → slice_get (filter_map f (enumerate_from (n + 1) xs)) j'' ≡ Some c → i'' ≡ j'')
         → i' ≡ j'
     by None h i' j' e' g' later = later i' j' e' g'
     by (Some d) h zero zero e' g' later = refl
@@ -111,7 +118,8 @@ pub in-filter : {A : Type 0} (test : A → Bool) (x : A) (xs : List A) → IsIn 
 in-filter test x [] h = absurd h
 in-filter {A} test x (z ∷ xs) h = by (test z) refl h (in-filter test x xs)
   where
-    by : (b : Bool) → test z ≡ b → IsIn x (cond b (z ∷ filter test xs) (filter test xs)) → (IsIn x (filter test xs) → IsIn x xs × (test x ≡ true)) → ((z ≡ x) ⊎ IsIn x xs) × (test x ≡ true)
+    by : (b : Bool) → test z ≡ b → IsIn x (cond b (z ∷ filter test xs) (filter test xs)) → (IsIn x (filter test xs) → IsIn x xs × (test x ≡ true))
+        → ((z ≡ x) ⊎ IsIn x xs) × (test x ≡ true)
     by true e (inl same) more = (inl same, ap test (sym same) ∙ e)
     by true e (inr k) more = let found = more k in (inr found.0, found.1)
     by false e k more = let found = more k in (inr found.0, found.1)
@@ -155,7 +163,8 @@ each-map f P [] all = tt
 each-map f P (x ∷ xs) all = (all.0, each-map f P xs all.1)
 
 -- of two lists whose items belong together, the item that belongs to one
-pub zip-first : {A B : Type 0} (R : A → B → Type 0) (xs : List A) (ys : List B) (k : ℕ) (x : A) → AllZip R xs ys → slice_get xs k ≡ Some x → (y : B) × (slice_get ys k ≡ Some y) × R x y
+pub zip-first : {A B : Type 0} (R : A → B → Type 0) (xs : List A) (ys : List B) (k : ℕ) (x : A) → AllZip R xs ys → slice_get xs k ≡ Some x
+    → (y : B) × (slice_get ys k ≡ Some y) × R x y
 zip-first R [] [] k x h e = cc
 zip-first R [] (y ∷ ys) k x h e = absurd h
 zip-first R (z ∷ xs) [] k x h e = absurd h
@@ -176,7 +185,8 @@ pub in-some : {A B : Type 0} (f : A → List B) (xs : List A) (b : B) → IsIn b
 in-some f [] b h = absurd h
 in-some {A} {B} f (x ∷ xs) b h = by (in-parts b (f x) (flat_map f xs) h) (in-some f xs b)
   where
-    by : IsIn b (f x) ⊎ IsIn b (flat_map f xs) → (IsIn b (flat_map f xs) → (z : A) × IsIn z xs × IsIn b (f z)) → (z : A) × IsIn z (x ∷ xs) × IsIn b (f z)
+    by : IsIn b (f x) ⊎ IsIn b (flat_map f xs) → (IsIn b (flat_map f xs) → (z : A) × IsIn z xs × IsIn b (f z))
+        → (z : A) × IsIn z (x ∷ xs) × IsIn b (f z)
     by (inl k) more = (x, inl refl, k)
     by (inr k) more = let found = more k in (found.0, inr found.1, found.2)
 
@@ -185,7 +195,8 @@ pub in-made : {A B : Type 0} (f : A → Option B) (xs : List A) (b : B) → IsIn
 in-made f [] b h = absurd h
 in-made {A} {B} f (x ∷ xs) b h = by (f x) refl h (in-made f xs b)
   where
-    by : (o : Option B) → f x ≡ o → IsIn b (cons_option o (filter_map f xs)) → (IsIn b (filter_map f xs) → (z : A) × IsIn z xs × (f z ≡ Some b)) → (z : A) × IsIn z (x ∷ xs) × (f z ≡ Some b)
+    by : (o : Option B) → f x ≡ o → IsIn b (cons_option o (filter_map f xs)) → (IsIn b (filter_map f xs) → (z : A) × IsIn z xs × (f z ≡ Some b))
+        → (z : A) × IsIn z (x ∷ xs) × (f z ≡ Some b)
     by None e k more = let found = more k in (found.0, inr found.1, found.2)
     by (Some c) e (inl is) more = (x, inl refl, e ∙ ap Some is)
     by (Some c) e (inr k) more = let found = more k in (found.0, inr found.1, found.2)
@@ -195,7 +206,8 @@ flat-same f g [] same = refl
 flat-same f g (x ∷ xs) same = ap₂ (λ a b. a ++ b) (same x (inl refl)) (flat-same f g xs (λ z h. same z (inr h)))
 
 -- the same from the second list
-pub zip-second : {A B : Type 0} (R : A → B → Type 0) (xs : List A) (ys : List B) (k : ℕ) (y : B) → AllZip R xs ys → slice_get ys k ≡ Some y → (x : A) × (slice_get xs k ≡ Some x) × R x y
+pub zip-second : {A B : Type 0} (R : A → B → Type 0) (xs : List A) (ys : List B) (k : ℕ) (y : B) → AllZip R xs ys → slice_get ys k ≡ Some y
+    → (x : A) × (slice_get xs k ≡ Some x) × R x y
 zip-second R [] [] k y h e = absurd (none-some y e)
 zip-second R [] (z ∷ ys) k y h e = absurd h
 zip-second R (x ∷ xs) [] k y h e = absurd h
@@ -209,7 +221,8 @@ BothMake R None (Some c) = ⊥
 BothMake R (Some b) None = ⊥
 BothMake R (Some b) (Some c) = R b c
 
-pub made-both : {A B C : Type 0} (R : B → C → Type 0) (f : ℕ × A → Option B) (g : A → Option C) → ((k : ℕ) (a : A) → BothMake R (f (k, a)) (g a)) → (n : ℕ) (xs : List A)
+pub made-both : {A B C : Type 0} (R : B → C → Type 0) (f : ℕ × A → Option B) (g : A → Option C) → ((k : ℕ) (a : A) → BothMake R (f (k, a)) (g a))
+    → (n : ℕ) (xs : List A)
     → AllZip R (filter_map f (enumerate_from n xs)) (filter_map g xs)
 made-both R f g both n [] = tt
 made-both {A} {B} {C} R f g both n (a ∷ xs) = by (f (n, a)) (g a) (both n a) (made-both R f g both (n + 1) xs)
@@ -226,12 +239,14 @@ pub found-in : {A : Type 0} (test : A → Bool) (xs : List A) (x : A) → find t
 found-in test [] x e = absurd (none-some x e)
 found-in {A} test (z ∷ xs) x e = by (test z) refl e (found-in test xs x)
   where
-    by : (b : Bool) → test z ≡ b → cond b (Some z) (find test xs) ≡ Some x → (find test xs ≡ Some x → IsIn x xs × (test x ≡ true)) → ((z ≡ x) ⊎ IsIn x xs) × (test x ≡ true)
+    by : (b : Bool) → test z ≡ b → cond b (Some z) (find test xs) ≡ Some x → (find test xs ≡ Some x → IsIn x xs × (test x ≡ true))
+        → ((z ≡ x) ⊎ IsIn x xs) × (test x ≡ true)
     by true h e' more = let same : z ≡ x = same_Some z x e' in (inl same, ap test (sym same) ∙ h)
     by false h e' more = let found = more e' in (inr found.0, found.1)
 
 -- what holds of each that is made of the items holds of what is made of one
-pub each-made : {A B : Type 0} (P : B → Type 0) (f : A → Option B) (xs : List A) (k : ℕ) (a : A) (b : B) → Each P (filter_map f xs) → slice_get xs k ≡ Some a → f a ≡ Some b → P b
+pub each-made : {A B : Type 0} (P : B → Type 0) (f : A → Option B) (xs : List A) (k : ℕ) (a : A) (b : B) → Each P (filter_map f xs)
+    → slice_get xs k ≡ Some a → f a ≡ Some b → P b
 each-made P f [] k a b each at e = absurd (none-some a at)
 each-made {A} {B} P f (x ∷ xs) k a b each at e = by (f x) refl each k at (λ h j g. each-made P f xs j a b h g e)
   where

@@ -1,7 +1,8 @@
 -- The calls of a block that are made at all, outside loops of no turn, are among its calls.
 use Rattle.std.specs.Prelude.{◌==◌, Bool, true, false, List, [], ◌∷◌, ◌++◌, if◌then◌else◌}
 use Rattle.std.proofs.Common.{inl, inr}
-use Rattle.seq_tree.specs.Statements.{Statement, Statements, Branches, Null, Assign, If, For, ExitWhen, Call, Work, Put, End, Then, Nothing, Else, When}
+use Rattle.seq_tree.specs.Statements.{Statement, Statements, Branches, Null, Assign, If, For, ExitWhen, Call, Work, Put, End, Then, Nothing}
+use Rattle.seq_tree.specs.Statements.{Else, When}
 use Rattle.seq_tree.specs.Dearest.{turn_count}
 use Rattle.seq_tree.specs.Calls.{statement_calls, block_calls, branch_calls}
 use Rattle.seq_tree.specs.declared.tree.OpName.{OpName}
@@ -15,7 +16,8 @@ mutual
   statement-live-in (If branches) x h = branches-live-in branches x h
   statement-live-in (For name low high body) x h = by (turn_count low high == 0) h (λ k. live-in body x k)
     where
-      by : (b : Bool) → IsIn x (if b then [] else live_calls body) → (IsIn x (live_calls body) → IsIn x (block_calls body)) → IsIn x (block_calls body)
+      by : (b : Bool) → IsIn x (if b then [] else live_calls body) → (IsIn x (live_calls body) → IsIn x (block_calls body))
+          → IsIn x (block_calls body)
       by true k more = absurd k
       by false k more = more k
   statement-live-in (ExitWhen v) x h = h
@@ -27,7 +29,8 @@ mutual
   live-in End x h = h
   live-in (Then first rest) x h = split (live_statement first) (λ k. statement-live-in first x k) (λ k. live-in rest x k) h
     where
-      split : (ys : List OpName) → (IsIn x ys → IsIn x (statement_calls first)) → (IsIn x (live_calls rest) → IsIn x (block_calls rest)) → IsIn x (ys ++ live_calls rest) → IsIn x (statement_calls first ++ block_calls rest)
+      split : (ys : List OpName) → (IsIn x ys → IsIn x (statement_calls first)) → (IsIn x (live_calls rest) → IsIn x (block_calls rest))
+          → IsIn x (ys ++ live_calls rest) → IsIn x (statement_calls first ++ block_calls rest)
       split [] f g k = in-right x (statement_calls first) (block_calls rest) (g k)
       split (y' ∷ ys) f g (inl e) = in-left x (statement_calls first) (block_calls rest) (f (inl e))
       split (y' ∷ ys) f g (inr k) = split ys (λ q. f (inr q)) g k
@@ -37,7 +40,8 @@ mutual
   branches-live-in (Else block) x h = live-in block x h
   branches-live-in (When v block others) x h = split (live_calls block) (λ k. live-in block x k) (λ k. branches-live-in others x k) h
     where
-      split : (ys : List OpName) → (IsIn x ys → IsIn x (block_calls block)) → (IsIn x (live_branches others) → IsIn x (branch_calls others)) → IsIn x (ys ++ live_branches others) → IsIn x (block_calls block ++ branch_calls others)
+      split : (ys : List OpName) → (IsIn x ys → IsIn x (block_calls block)) → (IsIn x (live_branches others) → IsIn x (branch_calls others))
+          → IsIn x (ys ++ live_branches others) → IsIn x (block_calls block ++ branch_calls others)
       split [] f g k = in-right x (block_calls block) (branch_calls others) (g k)
       split (y' ∷ ys) f g (inl e) = in-left x (block_calls block) (branch_calls others) (f (inl e))
       split (y' ∷ ys) f g (inr k) = split ys (λ q. f (inr q)) g k

@@ -11,7 +11,8 @@ use Rattle.ods_tree.specs.Services.{Service, Sort, is_service, service_named, ca
 use Rattle.ods_tree.specs.Services as sort
 use Rattle.guarantee.specs.Software.{program_software, leads_to}
 use Rattle.guarantee.specs.ResponseLaw.{ceiling_of, ceiling_named, program_services}
-use Rattle.machine.specs.Systems.{System, TaskUnit, ReleasePattern, Periodic, Requested, CallTarget, Plain, Protected, Request, Unknown, system, callee}
+use Rattle.machine.specs.Systems.{System, TaskUnit, ReleasePattern, Periodic, Requested, CallTarget, Plain, Protected, Request, Unknown, system}
+use Rattle.machine.specs.Systems.{callee}
 use Rattle.machine.specs.Effects.{ceiling_by}
 use Rattle.program_calls.proofs.UnitNames.{AreOthers, AreApart, IsUnit, only-unit, unit-there}
 use Rattle.program_calls.proofs.Callees.{or_find, under, plain_of, protected_of, requests_of, own_ops, service_unit}
@@ -19,7 +20,8 @@ use Rattle.program_calls.proofs.Resolved.{Resolved, No_one, One_plain, One_prote
 use Rattle.program_calls.proofs.Systems.{thread_form, object-at, thread-at, LeadsTo, leads-to}
 use Rattle.program_calls.proofs.Facts.{is-same}
 
-found-unit : (name : Name) (front back : List Unit) (v : Unit) → AreOthers name front → same_name v.name name ≡ true → find (λ u. same_name u.name name) (front ++ v ∷ back) ≡ Some v
+found-unit : (name : Name) (front back : List Unit) (v : Unit) → AreOthers name front → same_name v.name name ≡ true
+    → find (λ u. same_name u.name name) (front ++ v ∷ back) ≡ Some v
 found-unit name [] back v before named = ap (λ b. cond b (Some v) (find (λ u. same_name u.name name) back)) named
 found-unit name (w ∷ front) back v before named =
     ap (λ b. cond b (Some w) (find (λ u. same_name u.name name) (front ++ v ∷ back))) before.0 ∙ found-unit name front back v before.1 named
@@ -27,7 +29,8 @@ found-unit name (w ∷ front) back v before named =
 pub ceiling-is : (p : Program) (name : Name) (h : IsUnit p.units name) → ceiling_named p name ≡ ceiling_of h.unit.form
 ceiling-is p name h =
     ap (λ us. unwrap_or (option_map (λ u. ceiling_of u.form) (find (λ u. same_name u.name name) us)) 0) h.parts
-    ∙ ap (λ o. unwrap_or (option_map (λ (u : Unit). ceiling_of u.form) o) 0) (found-unit name h.front h.back h.unit h.before (is-same h.unit.name name h.named))
+    ∙ ap (λ o. unwrap_or (option_map (λ (u : Unit). ceiling_of u.form) o) 0)
+    (found-unit name h.front h.back h.unit h.before (is-same h.unit.name name h.named))
 
 -- what the operation of a call is by its names
 pub record IsServed (p : Program) (unit op : Name) (s : Sort) (o : Operation) : Type 0 where
@@ -44,14 +47,16 @@ pub record IsRequestServed (p : Program) (unit op : Name) : Type 0 where
 abbrev pub ServedAs : Program → System → Name → Name → CallTarget → Type 0
 ServedAs p y unit op (Plain o) = IsServed p unit op sort.Plain o
 ServedAs p y unit op (Protected object j g o) = IsServed p unit op sort.Protected o × (ceiling_named p unit ≡ g.ceiling)
-ServedAs p y unit op (Request task) = IsRequestServed p unit op × ((t : TaskUnit) → slice_get y.threads task ≡ Some t → ceiling_named p unit ≡ ceiling_by t.timing)
+ServedAs p y unit op (Request task) = IsRequestServed p unit op × ((t : TaskUnit) → slice_get y.threads task ≡ Some t
+    → ceiling_named p unit ≡ ceiling_by t.timing)
 ServedAs p y unit op Unknown = service_named (program_services p) unit op ≡ None
 
 -- a plain operation
 plain-served : (p : Program) (unit op : Name) (o : Operation) → leads_to (program_software p) unit op ≡ runs.Plain o → IsServed p unit op sort.Plain o
 plain-served p unit op o e = by (service_named (program_services p) unit op) refl e
   where
-    sorted : (s : Service) → service_named (program_services p) unit op ≡ Some s → (x : Sort) → s.sort ≡ x → callee_by x s.op ≡ runs.Plain o → IsServed p unit op sort.Plain o
+    sorted : (s : Service) → service_named (program_services p) unit op ≡ Some s → (x : Sort) → s.sort ≡ x → callee_by x s.op ≡ runs.Plain o
+        → IsServed p unit op sort.Plain o
     sorted s found sort.Plain is f = let does : s.op ≡ o = cc in record { service = s; found = found; sorts = is; does = does }
     sorted s found sort.Protected is f = absurd (no f)
       where
@@ -72,7 +77,8 @@ plain-served p unit op o e = by (service_named (program_services p) unit op) ref
 asked-served : (p : Program) (unit op : Name) → leads_to (program_software p) unit op ≡ runs.Asked → IsRequestServed p unit op
 asked-served p unit op e = by (service_named (program_services p) unit op) refl e
   where
-    sorted : (s : Service) → service_named (program_services p) unit op ≡ Some s → (x : Sort) → s.sort ≡ x → callee_by x s.op ≡ runs.Asked → IsRequestServed p unit op
+    sorted : (s : Service) → service_named (program_services p) unit op ≡ Some s → (x : Sort) → s.sort ≡ x → callee_by x s.op ≡ runs.Asked
+        → IsRequestServed p unit op
     sorted s found sort.Plain is f = absurd (no f)
       where
         no : runs.Plain s.op ≡ runs.Asked → ⊥
@@ -90,7 +96,8 @@ asked-served p unit op e = by (service_named (program_services p) unit op) refl 
         no z = cc
     by (Some s) found f = sorted s found s.sort refl f
 
-none-served : (p : Program) (unit op : Name) → leads_to (program_software p) unit op ≡ runs.Unknown → service_named (program_services p) unit op ≡ None
+none-served : (p : Program) (unit op : Name) → leads_to (program_software p) unit op ≡ runs.Unknown
+    → service_named (program_services p) unit op ≡ None
 none-served p unit op e = by (service_named (program_services p) unit op) refl e
   where
     sorted : (s : Service) (x : Sort) → callee_by x s.op ≡ runs.Unknown → ⊥
@@ -98,7 +105,8 @@ none-served p unit op e = by (service_named (program_services p) unit op) refl e
     sorted s sort.Protected f = cc
     sorted s sort.Request f = cc
 
-    by : (x : Option Service) → service_named (program_services p) unit op ≡ x → callee_of x ≡ runs.Unknown → service_named (program_services p) unit op ≡ None
+    by : (x : Option Service) → service_named (program_services p) unit op ≡ x → callee_of x ≡ runs.Unknown
+        → service_named (program_services p) unit op ≡ None
     by None found f = found
     by (Some s) found f = absurd (sorted s s.sort f)
 
@@ -117,7 +125,8 @@ text-of p y unit op c r (One_request i u task th at named stands unit-is asked) 
 
 pub served-as : (p : Program) (a : Arrivals) → AreApart p.units → (unit op : Name) → ServedAs p (system p a) unit op (callee (system p a) unit op)
 served-as p a apart unit op =
-    by (callee (system p a) unit op) (leads-to (system p a) unit op) (text-of p (system p a) unit op (callee (system p a) unit op) (leads_to (program_software p) unit op) (resolve p a unit op apart))
+    by (callee (system p a) unit op) (leads-to (system p a) unit op)
+    (text-of p (system p a) unit op (callee (system p a) unit op) (leads_to (program_software p) unit op) (resolve p a unit op apart))
   where
     by : (c : CallTarget) → LeadsTo (system p a) unit op c → Text c (leads_to (program_software p) unit op) → ServedAs p (system p a) unit op c
     by (Plain o) l text = plain-served p unit op o text
@@ -130,9 +139,11 @@ served-as p a apart unit op =
         let one : found.1 ≡ h.unit = only-unit p.units unit h found.0 found.1 is.stands named in
         let form : h.unit.form ≡ Shared g.ceiling g.vars g.ops = ap (λ u. u.form) (sym one) ∙ is.form in
         let own = own_ops unit op h.unit.name sort.Protected 0 g.ops (is-same h.unit.name unit h.named) in
-        let parts : or_find (find (is_service unit op) (plain_of h.unit.name h.unit.form)) (or_find (find (is_service unit op) (protected_of h.unit.name h.unit.form)) (find (is_service unit op) (requests_of h.unit.name h.unit.form)))
+        let parts : or_find (find (is_service unit op) (plain_of h.unit.name h.unit.form))
+        (or_find (find (is_service unit op) (protected_of h.unit.name h.unit.form)) (find (is_service unit op) (requests_of h.unit.name h.unit.form)))
         ≡ Some (under h.unit.name sort.Protected o) =
-        subst (λ f. or_find (find (is_service unit op) (plain_of h.unit.name f)) (or_find (find (is_service unit op) (protected_of h.unit.name f)) (find (is_service unit op) (requests_of h.unit.name f)))
+        subst (λ f. or_find (find (is_service unit op) (plain_of h.unit.name f))
+        (or_find (find (is_service unit op) (protected_of h.unit.name f)) (find (is_service unit op) (requests_of h.unit.name f)))
         ≡ Some (under h.unit.name sort.Protected o)) (sym form)
         (ap (λ x. or_find x None) (own ∙ ap (option_map (λ (x : ℕ × Operation). under h.unit.name sort.Protected x.1)) l.first)) in (
           record { service = under h.unit.name sort.Protected o; found = service_unit p unit op h ∙ parts; sorts = refl; does = refl },

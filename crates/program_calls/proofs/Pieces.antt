@@ -3,8 +3,10 @@ use Rattle.std.specs.Prelude.{◌≡◌, ℕ, Bool, true, false, List, [], ◌�
 use Rattle.std.proofs.Common.{sym, ◌∙◌, ap}
 use Rattle.std.proofs.lemmas.Bool.{false≢true}
 use Rattle.seq_tree.specs.Names.{Name}
-use Rattle.seq_tree.specs.Statements.{Statement, Statements, Branches, Null, Assign, If, For, ExitWhen, Call, Work, Put, End, Then, Nothing, Else, When}
-use Rattle.machine.specs.Pieces.{Piece, Turning, Turned, Returning, Closing, Requested, Finishing, turns, pieces_of, pieces, branch_pieces, after_loop}
+use Rattle.seq_tree.specs.Statements.{Statement, Statements, Branches, Null, Assign, If, For, ExitWhen, Call, Work, Put, End, Then, Nothing}
+use Rattle.seq_tree.specs.Statements.{Else, When}
+use Rattle.machine.specs.Pieces.{Piece, Turning, Turned, Returning, Closing, Requested, Finishing, turns, pieces_of, pieces, branch_pieces}
+use Rattle.machine.specs.Pieces.{after_loop}
 
 -- what a piece is to a loop that is left: passed over, the end of a turn, or the end of a body or of a request
 pub data Kind : Type 0 where

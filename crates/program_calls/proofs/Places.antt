@@ -112,12 +112,14 @@ map-at g [] k x e = cc
 map-at g (z ∷ xs) zero x e = let is : z ≡ x = cc in ap (λ w. Some (g w)) is
 map-at g (z ∷ xs) (suc k) x e = map-at g xs k x e
 
-pub mapped-at : {A B : Type 0} (g : A → B) (xs : List A) (k : ℕ) (y : B) → slice_get (map g xs) k ≡ Some y → (x : A) × (slice_get xs k ≡ Some x) × (g x ≡ y)
+pub mapped-at : {A B : Type 0} (g : A → B) (xs : List A) (k : ℕ) (y : B) → slice_get (map g xs) k ≡ Some y
+    → (x : A) × (slice_get xs k ≡ Some x) × (g x ≡ y)
 mapped-at g [] k y e = cc
 mapped-at g (z ∷ xs) zero y e = (z, refl, (let is : g z ≡ y = cc in is))
 mapped-at g (z ∷ xs) (suc k) y e = mapped-at g xs k y e
 
-pub zip-at : {A B : Type 0} (xs : List A) (ys : List B) (k : ℕ) (x : A) (y : B) → slice_get xs k ≡ Some x → slice_get ys k ≡ Some y → slice_get (zip xs ys) k ≡ Some (x, y)
+pub zip-at : {A B : Type 0} (xs : List A) (ys : List B) (k : ℕ) (x : A) (y : B) → slice_get xs k ≡ Some x → slice_get ys k ≡ Some y
+    → slice_get (zip xs ys) k ≡ Some (x, y)
 zip-at [] ys k x y e g = cc
 zip-at (z ∷ xs) [] k x y e g = cc
 zip-at {A} {B} (z ∷ xs) (w ∷ ys) zero x y e g =
@@ -127,19 +129,22 @@ zip-at {A} {B} (z ∷ xs) (w ∷ ys) zero x y e g =
 zip-at (z ∷ xs) (w ∷ ys) (suc k) x y e g = zip-at xs ys k x y e g
 
 -- an item after a change, and what it was before
-pub changed-at : {A : Type 0} (i : ℕ) (f : A → A) (xs : List A) (y : A) → slice_get (change i f xs) i ≡ Some y → (x : A) × (slice_get xs i ≡ Some x) × (y ≡ f x)
+pub changed-at : {A : Type 0} (i : ℕ) (f : A → A) (xs : List A) (y : A) → slice_get (change i f xs) i ≡ Some y
+    → (x : A) × (slice_get xs i ≡ Some x) × (y ≡ f x)
 changed-at i f [] y e = absurd (none-some y e)
 changed-at zero f (x ∷ xs) y e = (x, refl, sym (same_Some (f x) y e))
 changed-at (suc i) f (x ∷ xs) y e = changed-at i f xs y e
 
-pub change-any : {A : Type 0} (k i : ℕ) (f : A → A) (xs : List A) (y : A) → slice_get (change k f xs) i ≡ Some y → (x : A) × (slice_get xs i ≡ Some x) × ((y ≡ x) ⊎ ((y ≡ f x) × (k ≡ i)))
+pub change-any : {A : Type 0} (k i : ℕ) (f : A → A) (xs : List A) (y : A) → slice_get (change k f xs) i ≡ Some y
+    → (x : A) × (slice_get xs i ≡ Some x) × ((y ≡ x) ⊎ ((y ≡ f x) × (k ≡ i)))
 change-any k i f [] y e = absurd (none-some y e)
 change-any zero zero f (x ∷ xs) y e = (x, refl, inr (sym (same_Some (f x) y e), refl))
 change-any zero (suc i) f (x ∷ xs) y e = (y, e, inl refl)
 change-any (suc k) zero f (x ∷ xs) y e = (y, e, inl refl)
 change-any (suc k) (suc i) f (x ∷ xs) y e = by (change-any k i f xs y e)
   where
-    by : (x : _) × (slice_get xs i ≡ Some x) × ((y ≡ x) ⊎ ((y ≡ f x) × (k ≡ i))) → (x : _) × (slice_get xs i ≡ Some x) × ((y ≡ x) ⊎ ((y ≡ f x) × (suc k ≡ suc i)))
+    by : (x : _) × (slice_get xs i ≡ Some x) × ((y ≡ x) ⊎ ((y ≡ f x) × (k ≡ i))) → (x : _) × (slice_get xs i ≡ Some x)
+        × ((y ≡ x) ⊎ ((y ≡ f x) × (suc k ≡ suc i)))
     by (x, at, inl same) = (x, at, inl same)
     by (x, at, inr changed) = (x, at, inr (changed.0, ap suc changed.1))
 
@@ -150,7 +155,8 @@ each-changed {A} Q i g xs others own j y e = by (get-changed i g xs j y e)
   where
     by : ((j ≢ i) × (slice_get xs j ≡ Some y)) ⊎ ((j ≡ i) × (x : A) × (slice_get xs j ≡ Some x) × (g x ≡ y)) → Q j y
     by (inl other) = others j y other.0 other.1
-    by (inr mine) = subst (Q j) mine.3 (subst (λ k. Q k (g mine.1)) (sym mine.0) (own mine.1 (subst (λ k. slice_get xs k ≡ Some mine.1) mine.0 mine.2)))
+    by (inr mine) = subst (Q j) mine.3 (subst (λ k. Q k (g mine.1)) (sym mine.0)
+        (own mine.1 (subst (λ k. slice_get xs k ≡ Some mine.1) mine.0 mine.2)))
 
 -- the same where the item that changed is known
 pub each-changed-one : {A : Type 0} (Q : ℕ → A → Type 0) (i : ℕ) (g : A → A) (xs : List A) (x : A) → slice_get xs i ≡ Some x
@@ -167,7 +173,8 @@ each-grown Q xs x before new k y e = by (get-grown xs x k y e)
     by (inr mine) = subst (Q k) mine.1 (subst (λ i. Q i x) (sym mine.0) new)
 
 -- what is made of the items, as one of them changes
-pub map-changed : {A B : Type 0} (h : A → B) (i : ℕ) (f : A → A) (g : B → B) (xs : List A) → ((x : A) → h (f x) ≡ g (h x)) → map h (change i f xs) ≡ change i g (map h xs)
+pub map-changed : {A B : Type 0} (h : A → B) (i : ℕ) (f : A → A) (g : B → B) (xs : List A) → ((x : A) → h (f x) ≡ g (h x))
+    → map h (change i f xs) ≡ change i g (map h xs)
 map-changed h i f g [] e = refl
 map-changed h zero f g (x ∷ xs) e = ap (λ b. b ∷ map h xs) (e x)
 map-changed h (suc i) f g (x ∷ xs) e = ap (λ bs. h x ∷ bs) (map-changed h i f g xs e)

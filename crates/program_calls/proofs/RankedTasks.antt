@@ -20,7 +20,8 @@ pub record IsRanked (P : Ranked → Type 0) (t : TaskUnit) : Type 0 where
   pub block : ranked.task.block ≡ t.block
   pub holds : P ranked
 
-pub ranked-at : (p : Program) (a : Arrivals) (P : Ranked → Type 0) → Each P (ranked p) → (i : ℕ) (t : TaskUnit) → slice_get (system p a).threads i ≡ Some t → IsRanked P t
+pub ranked-at : (p : Program) (a : Arrivals) (P : Ranked → Type 0) → Each P (ranked p) → (i : ℕ) (t : TaskUnit)
+    → slice_get (system p a).threads i ≡ Some t → IsRanked P t
 ranked-at p a P each i t at =
     let found = thread-at p a i t at in by found.0 found.1 (found.2).stands t.timing (found.2).form
   where
@@ -35,7 +36,8 @@ ranked-at p a P each i t at =
           ranked = r;
           priority = refl;
           block = refl;
-          holds = each-made P (λ v. option_map (λ z. record { task = z; priority = priority_of v.form }) (task_by v.name v.form)) p.units k u r each stands
+          holds = each-made P (λ v. option_map (λ z. record { task = z; priority = priority_of v.form }) (task_by v.name v.form)) p.units k u r
+              each stands
               (ap (λ f. option_map (λ (z : Task). let q : Ranked = record { task = z; priority = priority_of f } in q) (task_by u.name f)) form);
         }
     by k u stands (Requested op ceiling separation jitter external) form =
@@ -45,6 +47,7 @@ ranked-at p a P each i t at =
           ranked = r;
           priority = refl;
           block = refl;
-          holds = each-made P (λ v. option_map (λ z. record { task = z; priority = priority_of v.form }) (task_by v.name v.form)) p.units k u r each stands
+          holds = each-made P (λ v. option_map (λ z. record { task = z; priority = priority_of v.form }) (task_by v.name v.form)) p.units k u r
+              each stands
               (ap (λ f. option_map (λ (z : Task). let q : Ranked = record { task = z; priority = priority_of f } in q) (task_by u.name f)) form);
         }

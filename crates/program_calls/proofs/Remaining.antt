@@ -3,14 +3,16 @@
 use Rattle.std.specs.Prelude.{◌≡◌, ℕ, suc, ◌+◌, ◌*◌, ◌≤◌, ◌<◌, Bool, true, false, List, [], ◌∷◌, drop, nat_le, max, if◌then◌else◌, ⊤, refl}
 use Rattle.std.proofs.Common.{◌∙◌, ap, arith, zero-le}
 use Rattle.seq_tree.specs.Names.{Name}
-use Rattle.seq_tree.specs.Statements.{Statement, Statements, Branches, Null, Assign, If, For, ExitWhen, Call, Work, Put, End, Then, Nothing, Else, When}
+use Rattle.seq_tree.specs.Statements.{Statement, Statements, Branches, Null, Assign, If, For, ExitWhen, Call, Work, Put, End, Then, Nothing}
+use Rattle.seq_tree.specs.Statements.{Else, When}
 use Rattle.seq_tree.specs.Variables.{Variables, targets}
 use Rattle.seq_tree.specs.Operations.{out_names}
 use Rattle.seq_tree.specs.Values.{holds}
 use Rattle.seq_tree.specs.Expressions.{Expression}
 use Rattle.seq_tree.specs.Dearest.{Weights, turn_count, dearest_statement, dearest, dearest_branch}
 use Rattle.machine.specs.Systems.{System, CallTarget, Plain, Protected, Request, Unknown, callee}
-use Rattle.machine.specs.Pieces.{Piece, Idle, Store, Leaving, Calling, Working, Printing, Testing, Turning, Turned, Returning, Closing, Keeping, Opening, Requested, Finishing, turns, pieces_of, pieces, branch_pieces, after_loop}
+use Rattle.machine.specs.Pieces.{Piece, Idle, Store, Leaving, Calling, Working, Printing, Testing, Turning, Turned, Returning, Closing, Keeping}
+use Rattle.machine.specs.Pieces.{Opening, Requested, Finishing, turns, pieces_of, pieces, branch_pieces, after_loop}
 use Rattle.machine.specs.Deeds.{done, called, deed, Silent}
 
 -- what is weighed along pieces: the parts of statements, calls by what they lead to, and the parts of a request, the last being its end
@@ -76,12 +78,15 @@ rest-turns g name at last body ps = by (nat_le at last) refl
     x : ℕ
     x = g.weights.costs.turn + dearest g.weights body
 
-    by : (b : Bool) → nat_le at last ≡ b → rest g (if b then Turning name at last body ∷ ps else ps) ≡ turn_count at last * (g.weights.costs.turn + dearest g.weights body) + rest g ps
+    by : (b : Bool) → nat_le at last ≡ b → rest g (if b then Turning name at last body ∷ ps else ps)
+        ≡ turn_count at last * (g.weights.costs.turn + dearest g.weights body) + rest g ps
     by true e =
         let low : at ≤ last = grind arith in
         let count : turn_count at last ≡ suc (turn_count (suc at) last) = omega arith in
-        let product : turn_count at last * (g.weights.costs.turn + dearest g.weights body) ≡ (g.weights.costs.turn + dearest g.weights body) + turn_count (suc at) last * (g.weights.costs.turn + dearest g.weights body) =
-        ap (λ n. n * (g.weights.costs.turn + dearest g.weights body)) count ∙ times-suc (turn_count (suc at) last) (g.weights.costs.turn + dearest g.weights body) in
+        let product : turn_count at last * (g.weights.costs.turn + dearest g.weights body)
+        ≡ (g.weights.costs.turn + dearest g.weights body) + turn_count (suc at) last * (g.weights.costs.turn + dearest g.weights body) =
+        ap (λ n. n * (g.weights.costs.turn + dearest g.weights body)) count ∙ times-suc (turn_count (suc at) last)
+        (g.weights.costs.turn + dearest g.weights body) in
         omega (arith, product)
     by false e =
         let high : last < at = grind arith in
@@ -132,13 +137,16 @@ rest-after_loop g (Finishing ∷ ps) = omega (arith, rest-after_loop g ps)
 
 rest-called : (g : Measure) (c : CallTarget) (actuals : List Expression) (vars : Variables) (ps : List Piece) (n : ℕ) → Covers g c n
     → rest g ((called c actuals vars ps).pieces) ≤ n + rest g ps
-rest-called g (Plain o) actuals vars ps n deep = omega (arith, deep, rest-block g o.block (Returning (out_names o.sig.params) (targets o.sig.params actuals) vars ∷ ps))
-rest-called g (Protected object op guarded o) actuals vars ps n deep = omega (arith, deep, rest-block g o.block (Closing object op guarded.vars (out_names o.sig.params) (targets o.sig.params actuals) vars ∷ ps))
+rest-called g (Plain o) actuals vars ps n deep
+    = omega (arith, deep, rest-block g o.block (Returning (out_names o.sig.params) (targets o.sig.params actuals) vars ∷ ps))
+rest-called g (Protected object op guarded o) actuals vars ps n deep
+    = omega (arith, deep, rest-block g o.block (Closing object op guarded.vars (out_names o.sig.params) (targets o.sig.params actuals) vars ∷ ps))
 rest-called g (Request task) actuals vars ps n deep = omega (arith, deep)
 rest-called g Unknown actuals vars ps n deep = omega arith
 
 -- after the effect of a piece at most what it put there and what was behind it is left
-pub rest-done : (y : System) (g : Measure) → CoversCalls y g → (p : Piece) (vars : Variables) (ps : List Piece) → rest g ((done y p vars ps).pieces) ≤ behind g p + rest g ps
+pub rest-done : (y : System) (g : Measure) → CoversCalls y g → (p : Piece) (vars : Variables) (ps : List Piece)
+    → rest g ((done y p vars ps).pieces) ≤ behind g p + rest g ps
 rest-done y g deep Idle vars ps = omega arith
 rest-done y g deep (Store target value) vars ps = omega arith
 rest-done y g deep (Leaving condition) vars ps = by (holds condition vars)
@@ -151,7 +159,8 @@ rest-done y g deep (Working ticks) vars ps = omega arith
 rest-done y g deep (Printing value) vars ps = omega arith
 rest-done y g deep (Testing condition block others) vars ps = by (holds condition vars)
   where
-    by : (b : Bool) → rest g (if b then pieces block ps else branch_pieces others ps) ≤ max (dearest g.weights block) (dearest_branch g.weights others) + rest g ps
+    by : (b : Bool) → rest g (if b then pieces block ps else branch_pieces others ps)
+        ≤ max (dearest g.weights block) (dearest_branch g.weights others) + rest g ps
     by true = omega (arith, rest-block g block ps)
     by false = omega (arith, rest-branches g others ps)
 rest-done y g deep (Turning name at last body) vars ps = omega (arith, rest-block g body (Turned name at last body ∷ ps))

@@ -54,8 +54,10 @@ module _ (p : Program) where
       let offer : Offer = record { object = s.unit.name; sig = found.0.sig } in
       let among : IsIn offer (offers p) =
       in-flat (λ (u : Unit). map (λ h. let x : Offer = record { object = u.name; sig = h } in x) (heads u.form)) s.unit offer p.units s.among
-      (in-map (λ h. let x : Offer = record { object = s.unit.name; sig = h } in x) found.0.sig (heads s.unit.form) (offered s.unit.form found.0 s.holds)) in
-      let is : name_of offer ≡ a = ap (λ n. let x : OpName = record { object = n; op = found.0.sig.name } in x) s.named ∙ ap (λ n. record { object = a.object; op = n }) s.called in
+      (in-map (λ h. let x : Offer = record { object = s.unit.name; sig = h }
+      in x) found.0.sig (heads s.unit.form) (offered s.unit.form found.0 s.holds)) in
+      let is : name_of offer ≡ a = ap (λ n. let x : OpName = record { object = n; op = found.0.sig.name }
+      in x) s.named ∙ ap (λ n. record { object = a.object; op = n }) s.called in
       any-in (same_op a) (name_of offer) (map name_of (offers p)) (in-map name_of offer (offers p) among) (ap (same_op a) is ∙ same_op-refl a)
 
   flat-within : (n : ℕ) (cs : List OpName) → flat_map (calls_within n p) cs ≡ flat_map (within n inner) cs
@@ -82,7 +84,8 @@ module _ (p : Program) where
   requested-on c e h called =
       let task = any-at (λ (u : Unit). is_task u.form && list_any (same_op c) (task_calls p u.form)) p.units h in
       let parts = and_parts (is_task task.1.form) (list_any (same_op c) (task_calls p task.1.form)) task.3 in
-      requested-by task.1 (at-in p.units task.0 task.1 task.2) parts.0 e (calls-on task.1.form c e (among-is (task_calls p task.1.form) c parts.1) called)
+      requested-by task.1 (at-in p.units task.0 task.1 task.2) parts.0 e
+      (calls-on task.1.form c e (among-is (task_calls p task.1.form) c parts.1) called)
 
   pub written-requested : (u : Unit) → IsIn u p.units → is_task u.form ≡ true → (c : OpName) → IsIn c (calls_of u.form) → is_requested p c ≡ true
   written-requested u among task c called =

@@ -1,5 +1,6 @@
 -- What a call of a program leads to, with the unit that it names: one answer for the processor and for the texts.
-use Rattle.std.specs.Prelude.{◌≡◌, ◌⊎◌, ℕ, suc, ◌+◌, Bool, true, false, ◌&&◌, cond, List, [], ◌∷◌, ◌++◌, map, length, find, flat_map, filter_map, slice_get, option_map, Option, Some, None, if◌then◌else◌, refl}
+use Rattle.std.specs.Prelude.{◌≡◌, ◌⊎◌, ℕ, suc, ◌+◌, Bool, true, false, ◌&&◌, cond, List, [], ◌∷◌, ◌++◌, map, length, find, flat_map, filter_map}
+use Rattle.std.specs.Prelude.{slice_get, option_map, Option, Some, None, if◌then◌else◌, refl}
 use Rattle.std.specs.List.{enumerate_from}
 use Rattle.std.proofs.Common.{sym, ◌∙◌, ap, subst, arith, inl, inr}
 use Rattle.seq_tree.specs.Lists.{first_from, first_where}
@@ -14,9 +15,12 @@ use Rattle.arrivals_tree.specs.Arriving.{Arrivals, durations}
 use Rattle.ods_tree.specs.Services.{Service, is_service, callee_of, service_named}
 use Rattle.ods_tree.specs.Services as services
 use Rattle.guarantee.specs.Software.{program_software, leads_to}
-use Rattle.machine.specs.Systems.{System, system, PassiveUnit, ProtectedUnit, TaskUnit, Periodic, Requested, library_by, object_by, thread_by, CallTarget, Plain, Protected, Request, Unknown, callee, library_or, object_or, request_by, request_if, op_named, plain_by, protected_by}
+use Rattle.machine.specs.Systems.{System, system, PassiveUnit, ProtectedUnit, TaskUnit, Periodic, Requested, library_by, object_by, thread_by}
+use Rattle.machine.specs.Systems.{CallTarget, Plain, Protected, Request, Unknown, callee, library_or, object_or, request_by, request_if}
+use Rattle.machine.specs.Systems.{op_named, plain_by, protected_by}
 use Rattle.machine.specs.Systems.{ReleasePattern}
-use Rattle.program_calls.proofs.UnitNames.{AreOthers, AreApart, IsUnit, unit_of_name, none_made, nothing_made, one_made, IsMade, find_others, find_unit}
+use Rattle.program_calls.proofs.UnitNames.{AreOthers, AreApart, IsUnit, unit_of_name, none_made, nothing_made, one_made, IsMade, find_others}
+use Rattle.program_calls.proofs.UnitNames.{find_unit}
 use Rattle.program_calls.proofs.Callees.{is_op, or_find, under, plain_of, protected_of, requests_of, own_ops, service_others, service_unit}
 use Rattle.std.proofs.lemmas.Option.{none-some, same_Some}
 use Rattle.program_calls.proofs.Facts.{same-is, is-same, first-where}
@@ -33,12 +37,14 @@ is_offer unit op o = same_name o.object unit && same_name o.sig.name op
 -- what a call leads to, with the unit that it names
 pub data Resolved (p : Program) (y : System) (unit op : Name) : CallTarget → runs.Callee → Type 0 where
   No_one : find (is_offer unit op) (offers p) ≡ None → Resolved p y unit op Unknown runs.Unknown
-  One_plain : (i : ℕ) (u : Unit) (ops : List Operation) (j : ℕ) (o : Operation) → slice_get p.units i ≡ Some u → u.form ≡ Passive ops → slice_get ops j ≡ Some o
+  One_plain : (i : ℕ) (u : Unit) (ops : List Operation) (j : ℕ) (o : Operation) → slice_get p.units i ≡ Some u → u.form ≡ Passive ops
+      → slice_get ops j ≡ Some o
       → u.name ≡ unit → o.sig.name ≡ op → Resolved p y unit op (Plain o) (runs.Plain o)
   One_protected : (i : ℕ) (u : Unit) (ceiling : ℕ) (vars : List Datum) (ops : List Operation) (object k : ℕ) (g : ProtectedUnit) (o : Operation)
       → slice_get p.units i ≡ Some u → u.form ≡ Shared ceiling vars ops → slice_get ops k ≡ Some o → u.name ≡ unit → o.sig.name ≡ op
       → slice_get y.objects object ≡ Some g → g.unit ≡ i → Resolved p y unit op (Protected object k g o) (runs.Protected o.sig.params)
-  One_request : (i : ℕ) (u : Unit) (task : ℕ) (th : TaskUnit) → slice_get p.units i ≡ Some u → u.name ≡ unit → slice_get y.threads task ≡ Some th → th.unit ≡ i
+  One_request : (i : ℕ) (u : Unit) (task : ℕ) (th : TaskUnit) → slice_get p.units i ≡ Some u → u.name ≡ unit → slice_get y.threads task ≡ Some th
+      → th.unit ≡ i
       → asked_by th.timing ≡ op → Resolved p y unit op (Request task) runs.Asked
 
 at_front : (front : List Unit) (u : Unit) (back : List Unit) → slice_get (front ++ u ∷ back) (length front) ≡ Some u
@@ -92,9 +98,11 @@ offers_other unit op u e = by (heads u.form)
   where
     by : (hs : List Signature) → find (is_offer unit op) (map (λ h. let o : Offer = record { object = u.name; sig = h } in o) hs) ≡ None
     by [] = refl
-    by (h ∷ hs) = ap (λ b. cond (b && same_name h.name op) (Some (let o : Offer = record { object = u.name; sig = h } in o)) (find (is_offer unit op) (map (λ h. record { object = u.name; sig = h }) hs))) e ∙ by hs
+    by (h ∷ hs) = ap (λ b. cond (b && same_name h.name op) (Some (let o : Offer = record { object = u.name; sig = h }
+        in o)) (find (is_offer unit op) (map (λ h. record { object = u.name; sig = h }) hs))) e ∙ by hs
 
-offers_ops : (unit op name : Name) (k : ℕ) (ops : List Operation) → first_from k (is_op op) ops ≡ None → find (is_offer unit op) (map (λ h. let o : Offer = record { object = name; sig = h } in o) (map (λ o. o.sig) ops)) ≡ None
+offers_ops : (unit op name : Name) (k : ℕ) (ops : List Operation) → first_from k (is_op op) ops ≡ None
+    → find (is_offer unit op) (map (λ h. let o : Offer = record { object = name; sig = h } in o) (map (λ o. o.sig) ops)) ≡ None
 offers_ops unit op name k [] e = refl
 offers_ops unit op name k (o ∷ ops) e = by (same_name o.sig.name op) refl e (offers_ops unit op name (suc k) ops)
   where
@@ -105,10 +113,12 @@ offers_ops unit op name k (o ∷ ops) e = by (same_name o.sig.name op) refl e (o
     none true = refl
     none false = refl
 
-    by : (b : Bool) → same_name o.sig.name op ≡ b → (if b then Some (k, o) else first_from (suc k) (is_op op) ops) ≡ None → (first_from (suc k) (is_op op) ops ≡ None → rest ≡ None)
+    by : (b : Bool) → same_name o.sig.name op ≡ b → (if b then Some (k, o) else first_from (suc k) (is_op op) ops) ≡ None
+        → (first_from (suc k) (is_op op) ops ≡ None → rest ≡ None)
         → cond (same_name name unit && same_name o.sig.name op) (Some (let x : Offer = record { object = name; sig = o.sig } in x)) rest ≡ None
     by true t h more = absurd (none-some (k, o) (sym h))
-    by false t h more = ap (λ b. cond (same_name name unit && b) (Some (let x : Offer = record { object = name; sig = o.sig } in x)) rest) t ∙ none (same_name name unit) ∙ more h
+    by false t h more = ap (λ b. cond (same_name name unit && b) (Some (let x : Offer = record { object = name; sig = o.sig } in x)) rest) t ∙ none
+        (same_name name unit) ∙ more h
 
 module _ (p : Program) (a : Arrivals) (unit op : Name) where
   abbrev y : System
@@ -119,17 +129,20 @@ module _ (p : Program) (a : Arrivals) (unit op : Name) where
   by_both k r e f h = subst (λ r. Resolved p y unit op (callee y unit op) r) (sym f) (subst (λ k. Resolved p y unit op k r) (sym e) h)
 
   -- what is found among the passive units, the objects and the tasks
-  found : (l : Option (ℕ × PassiveUnit)) (o : Option (ℕ × ProtectedUnit)) (t : Option (ℕ × TaskUnit)) → first_where (λ l. same_name l.name unit) y.libraries ≡ l
+  found : (l : Option (ℕ × PassiveUnit)) (o : Option (ℕ × ProtectedUnit)) (t : Option (ℕ × TaskUnit))
+      → first_where (λ l. same_name l.name unit) y.libraries ≡ l
       → first_where (λ l. same_name l.name unit) y.objects ≡ o → first_where (λ l. same_name l.name unit) y.threads ≡ t
       → callee y unit op ≡ library_or op l (object_or op o (request_by op t))
   found l o t e f g =
-      ap (λ x. library_or op x (object_or op (first_where (λ l. same_name l.name unit) y.objects) (request_by op (first_where (λ l. same_name l.name unit) y.threads)))) e
+      ap (λ x. library_or op x (object_or op (first_where (λ l. same_name l.name unit) y.objects)
+      (request_by op (first_where (λ l. same_name l.name unit) y.threads)))) e
       ∙ ap (λ x. library_or op l (object_or op x (request_by op (first_where (λ l. same_name l.name unit) y.threads)))) f
       ∙ ap (λ x. library_or op l (object_or op o (request_by op x))) g
 
   no_one : AreOthers unit p.units → Resolved p y unit op (callee y unit op) (leads_to (program_software p) unit op)
   no_one others = by_both Unknown runs.Unknown
-      (found None None None (none_made lib_of (λ l. l.name) lib_keeps unit 0 0 p.units others) (none_made obj_of (λ l. l.name) obj_keeps unit 0 0 p.units others)
+      (found None None None (none_made lib_of (λ l. l.name) lib_keeps unit 0 0 p.units others)
+      (none_made obj_of (λ l. l.name) obj_keeps unit 0 0 p.units others)
       (none_made (task_of a) (λ l. l.name) (task_keeps a) unit 0 0 p.units others))
       (ap callee_of (service_others p unit op others))
       (No_one (find_others offers_of (is_offer unit op) unit (offers_other unit op) p.units others))
@@ -152,13 +165,16 @@ module _ (p : Program) (a : Arrivals) (unit op : Name) where
 
     no_offer : (hs : List Offer) → offers_of h.unit ≡ hs → find (is_offer unit op) hs ≡ None → find (is_offer unit op) (offers p) ≡ None
     no_offer hs e none =
-        ap (λ xs. find (is_offer unit op) (flat_map offers_of xs)) h.parts ∙ find_unit offers_of (is_offer unit op) unit (offers_other unit op) h.front h.unit h.back h.before h.behind
+        ap (λ xs. find (is_offer unit op) (flat_map offers_of xs)) h.parts ∙ find_unit offers_of (is_offer unit op) unit
+        (offers_other unit op) h.front h.unit h.back h.before h.behind
         ∙ ap (find (is_offer unit op)) e ∙ none
 
     leads_by : (f : Form) → h.unit.form ≡ f → leads_to (program_software p) unit op
-        ≡ callee_of (or_find (find (is_service unit op) (plain_of h.unit.name f)) (or_find (find (is_service unit op) (protected_of h.unit.name f)) (find (is_service unit op) (requests_of h.unit.name f))))
+        ≡ callee_of (or_find (find (is_service unit op) (plain_of h.unit.name f))
+        (or_find (find (is_service unit op) (protected_of h.unit.name f)) (find (is_service unit op) (requests_of h.unit.name f))))
     leads_by f e = ap callee_of (service_unit p unit op h
-        ∙ ap (λ f. or_find (find (is_service unit op) (plain_of h.unit.name f)) (or_find (find (is_service unit op) (protected_of h.unit.name f)) (find (is_service unit op) (requests_of h.unit.name f)))) e)
+        ∙ ap (λ f. or_find (find (is_service unit op) (plain_of h.unit.name f))
+        (or_find (find (is_service unit op) (protected_of h.unit.name f)) (find (is_service unit op) (requests_of h.unit.name f)))) e)
 
     no_lib : lib_of at h.unit ≡ None → first_where (λ l. same_name l.name unit) y.libraries ≡ None
     no_lib e = ap (λ xs. first_where (λ l. same_name l.name unit) (filter_map (λ u. library_by u.0 u.1.name u.1.form) (enumerate_from 0 xs))) h.parts
@@ -176,33 +192,41 @@ module _ (p : Program) (a : Arrivals) (unit op : Name) where
         lib = record { unit = at; name = h.unit.name; ops = ops }
 
         is_made : IsMade lib_of (λ l. l.name) lib_keeps unit 0 0 us lib
-        is_made = one_made lib_of (λ l. l.name) lib_keeps unit 0 0 at h.front h.unit h.back lib h.before h.named zero_at (ap (library_by at h.unit.name) e)
+        is_made = one_made lib_of (λ l. l.name) lib_keeps unit 0 0 at h.front h.unit h.back lib h.before h.named zero_at
+            (ap (library_by at h.unit.name) e)
 
         leads : callee y unit op ≡ plain_by (op_named op ops)
         leads = found (Some (0 + is_made.place, lib)) _ _
-            (ap (λ xs. first_where (λ l. same_name l.name unit) (filter_map (λ u. library_by u.0 u.1.name u.1.form) (enumerate_from 0 xs))) h.parts ∙ is_made.found) refl refl
+            (ap (λ xs. first_where (λ l. same_name l.name unit) (filter_map (λ u. library_by u.0 u.1.name u.1.form) (enumerate_from 0 xs))) h.parts ∙
+            is_made.found) refl refl
 
-        texts : leads_to (program_software p) unit op ≡ callee_of (or_find (option_map (λ x. under h.unit.name services.Plain x.1) (op_named op ops)) None)
+        texts : leads_to (program_software p) unit op
+            ≡ callee_of (or_find (option_map (λ x. under h.unit.name services.Plain x.1) (op_named op ops)) None)
         texts = leads_by (Passive ops) e ∙ ap (λ o. callee_of (or_find o None)) (own_ops unit op h.unit.name services.Plain 0 ops own)
 
         by : (o : Option (ℕ × Operation)) → op_named op ops ≡ o → Resolved p y unit op (callee y unit op) (leads_to (program_software p) unit op)
-        by None g = by_both Unknown runs.Unknown (leads ∙ ap plain_by g) (texts ∙ ap (λ o. callee_of (or_find (option_map (λ x. under h.unit.name services.Plain x.1) o) None)) g)
-            (No_one (no_offer (map (λ s. record { object = h.unit.name; sig = s }) (map (λ o. o.sig) ops)) (ap (λ f. map (λ s. let o : Offer = record { object = h.unit.name; sig = s } in o) (heads f)) e)
+        by None g = by_both Unknown runs.Unknown (leads ∙ ap plain_by g)
+            (texts ∙ ap (λ o. callee_of (or_find (option_map (λ x. under h.unit.name services.Plain x.1) o) None)) g)
+            (No_one (no_offer (map (λ s. record { object = h.unit.name; sig = s }) (map (λ o. o.sig) ops))
+            (ap (λ f. map (λ s. let o : Offer = record { object = h.unit.name; sig = s } in o) (heads f)) e)
             (offers_ops unit op h.unit.name 0 ops g)))
         by (Some (j, o)) g =
             let is = first-where (is_op op) ops j o g in
-            by_both (Plain o) (runs.Plain o) (leads ∙ ap plain_by g) (texts ∙ ap (λ o. callee_of (or_find (option_map (λ x. under h.unit.name services.Plain x.1) o) None)) g)
+            by_both (Plain o) (runs.Plain o) (leads ∙ ap plain_by g)
+            (texts ∙ ap (λ o. callee_of (or_find (option_map (λ x. under h.unit.name services.Plain x.1) o) None)) g)
             (One_plain at h.unit ops j o here e is.0 h.named (same-is o.sig.name op is.1))
 
     -- a protected object
-    protected_unit : (ceiling : ℕ) (vars : List Datum) (ops : List Operation) → h.unit.form ≡ Shared ceiling vars ops → Resolved p y unit op (callee y unit op) (leads_to (program_software p) unit op)
+    protected_unit : (ceiling : ℕ) (vars : List Datum) (ops : List Operation) → h.unit.form ≡ Shared ceiling vars ops
+        → Resolved p y unit op (callee y unit op) (leads_to (program_software p) unit op)
     protected_unit ceiling vars ops e = by (op_named op ops) refl
       where
         obj : ProtectedUnit
         obj = record { unit = at; name = h.unit.name; ceiling = ceiling; vars = vars; ops = ops }
 
         is_made : IsMade obj_of (λ l. l.name) obj_keeps unit 0 0 us obj
-        is_made = one_made obj_of (λ l. l.name) obj_keeps unit 0 0 at h.front h.unit h.back obj h.before h.named zero_at (ap (object_by at h.unit.name) e)
+        is_made = one_made obj_of (λ l. l.name) obj_keeps unit 0 0 at h.front h.unit h.back obj h.before h.named zero_at
+            (ap (object_by at h.unit.name) e)
 
         stands : slice_get y.objects (0 + is_made.place) ≡ Some obj
         stands =
@@ -211,14 +235,18 @@ module _ (p : Program) (a : Arrivals) (unit op : Name) where
 
         leads : callee y unit op ≡ protected_by (0 + is_made.place, obj) (op_named op ops)
         leads = found None (Some (0 + is_made.place, obj)) _ (no_lib (ap (library_by at h.unit.name) e))
-            (ap (λ xs. first_where (λ l. same_name l.name unit) (filter_map (λ u. object_by u.0 u.1.name u.1.form) (enumerate_from 0 xs))) h.parts ∙ is_made.found) refl
+            (ap (λ xs. first_where (λ l. same_name l.name unit) (filter_map (λ u. object_by u.0 u.1.name u.1.form) (enumerate_from 0 xs))) h.parts ∙
+            is_made.found) refl
 
-        texts : leads_to (program_software p) unit op ≡ callee_of (or_find (option_map (λ x. under h.unit.name services.Protected x.1) (op_named op ops)) None)
+        texts : leads_to (program_software p) unit op
+            ≡ callee_of (or_find (option_map (λ x. under h.unit.name services.Protected x.1) (op_named op ops)) None)
         texts = leads_by (Shared ceiling vars ops) e ∙ ap (λ o. callee_of (or_find o None)) (own_ops unit op h.unit.name services.Protected 0 ops own)
 
         by : (o : Option (ℕ × Operation)) → op_named op ops ≡ o → Resolved p y unit op (callee y unit op) (leads_to (program_software p) unit op)
-        by None g = by_both Unknown runs.Unknown (leads ∙ ap (protected_by (0 + is_made.place, obj)) g) (texts ∙ ap (λ o. callee_of (or_find (option_map (λ x. under h.unit.name services.Protected x.1) o) None)) g)
-            (No_one (no_offer (map (λ s. record { object = h.unit.name; sig = s }) (map (λ o. o.sig) ops)) (ap (λ f. map (λ s. let o : Offer = record { object = h.unit.name; sig = s } in o) (heads f)) e)
+        by None g = by_both Unknown runs.Unknown (leads ∙ ap (protected_by (0 + is_made.place, obj)) g)
+            (texts ∙ ap (λ o. callee_of (or_find (option_map (λ x. under h.unit.name services.Protected x.1) o) None)) g)
+            (No_one (no_offer (map (λ s. record { object = h.unit.name; sig = s }) (map (λ o. o.sig) ops))
+            (ap (λ f. map (λ s. let o : Offer = record { object = h.unit.name; sig = s } in o) (heads f)) e)
             (offers_ops unit op h.unit.name 0 ops g)))
         by (Some (j, o)) g =
             let is = first-where (is_op op) ops j o g in
@@ -234,9 +262,11 @@ module _ (p : Program) (a : Arrivals) (unit op : Name) where
         one_made (task_of a) (λ l. l.name) (task_keeps a) unit 0 0 at h.front h.unit h.back th h.before h.named zero_at e in (
           0 + is_made.place,
           found None None (Some (0 + is_made.place, th)) (no_lib no_l) (no_obj no_o)
-              (ap (λ xs. first_where (λ l. same_name l.name unit) (filter_map (λ u. thread_by (durations a u.0) u.0 u.1.name u.1.form) (enumerate_from 0 xs))) h.parts ∙ is_made.found),
+              (ap (λ xs. first_where (λ l. same_name l.name unit)
+              (filter_map (λ u. thread_by (durations a u.0) u.0 u.1.name u.1.form) (enumerate_from 0 xs))) h.parts ∙ is_made.found),
           ap (slice_get y.threads) (let g : 0 + is_made.place ≡ is_made.place = omega arith in g)
-              ∙ ap (λ xs. slice_get (filter_map (λ u. thread_by (durations a u.0) u.0 u.1.name u.1.form) (enumerate_from 0 xs)) is_made.place) h.parts ∙ is_made.at,
+              ∙ ap (λ xs. slice_get (filter_map (λ u. thread_by (durations a u.0) u.0 u.1.name u.1.form) (enumerate_from 0 xs))
+              is_made.place) h.parts ∙ is_made.at,
         )
 
     cyclic_unit : (priority offset period : ℕ) (vars : List Datum) (block : Statements) → h.unit.form ≡ Cyclic priority offset period vars block
@@ -255,7 +285,8 @@ module _ (p : Program) (a : Arrivals) (unit op : Name) where
         (No_one (no_offer [] (ap (λ f. map (λ s. let o : Offer = record { object = h.unit.name; sig = s } in o) (heads f)) e) refl))
 
     sporadic_unit : (priority ceiling : ℕ) (sig : Signature) (separation jitter : ℕ) (external : Bool) (vars : List Datum) (block : Statements)
-        → h.unit.form ≡ Sporadic priority ceiling sig separation jitter external vars block → Resolved p y unit op (callee y unit op) (leads_to (program_software p) unit op)
+        → h.unit.form ≡ Sporadic priority ceiling sig separation jitter external vars block
+        → Resolved p y unit op (callee y unit op) (leads_to (program_software p) unit op)
     sporadic_unit priority ceiling sig separation jitter external vars block e = by (same_name sig.name op) refl
       where
         th : TaskUnit
@@ -272,10 +303,12 @@ module _ (p : Program) (a : Arrivals) (unit op : Name) where
         t : (place : ℕ) × (callee y unit op ≡ request_if op place th.timing) × (slice_get y.threads place ≡ Some th)
         t = task_unit th (ap (thread_by (durations a at) at h.unit.name) e) (ap (library_by at h.unit.name) e) (ap (object_by at h.unit.name) e)
 
-        texts : leads_to (program_software p) unit op ≡ callee_of (cond (same_name h.unit.name unit && same_name sig.name op) (Some (services.request_service h.unit.name sig)) None)
+        texts : leads_to (program_software p) unit op
+            ≡ callee_of (cond (same_name h.unit.name unit && same_name sig.name op) (Some (services.request_service h.unit.name sig)) None)
         texts = leads_by (Sporadic priority ceiling sig separation jitter external vars block) e
 
-        texts_by : (b : Bool) → same_name sig.name op ≡ b → leads_to (program_software p) unit op ≡ callee_of (cond b (Some (services.request_service h.unit.name sig)) None)
+        texts_by : (b : Bool) → same_name sig.name op ≡ b → leads_to (program_software p) unit op
+            ≡ callee_of (cond b (Some (services.request_service h.unit.name sig)) None)
         texts_by b g = texts ∙ ap (λ c. callee_of (cond (c && same_name sig.name op) (Some (services.request_service h.unit.name sig)) None)) own
             ∙ ap (λ c. callee_of (cond c (Some (services.request_service h.unit.name sig)) None)) g
 
@@ -297,7 +330,8 @@ module _ (p : Program) (a : Arrivals) (unit op : Name) where
     by_form (Passive ops) e = plain_unit ops e
     by_form (Shared ceiling vars ops) e = protected_unit ceiling vars ops e
     by_form (Cyclic priority offset period vars block) e = cyclic_unit priority offset period vars block e
-    by_form (Sporadic priority ceiling sig separation jitter external vars block) e = sporadic_unit priority ceiling sig separation jitter external vars block e
+    by_form (Sporadic priority ceiling sig separation jitter external vars block) e
+        = sporadic_unit priority ceiling sig separation jitter external vars block e
 
   pub resolve : AreApart p.units → Resolved p y unit op (callee y unit op) (leads_to (program_software p) unit op)
   resolve far = by (unit_of_name p.units unit far)

@@ -10,7 +10,8 @@ use Rattle.seq_tree.specs.Calls.{same_op, block_calls}
 use Rattle.seq_tree.specs.Rings.{LeadsTo}
 use Rattle.seq_tree.specs.declared.tree.OpName.{OpName}
 use Rattle.ada_tree.specs.Programs.{Form, Unit, Program, Passive, Shared, Cyclic, Sporadic}
-use Rattle.ada_tree.specs.Uses.{passive_ops, shared_ops, is_confined, passive_named, is_empty, is_shared, is_shared_name, ops_of_shared, called_units, CallsUnit}
+use Rattle.ada_tree.specs.Uses.{passive_ops, shared_ops, is_confined, passive_named, is_empty, is_shared, is_shared_name, ops_of_shared}
+use Rattle.ada_tree.specs.Uses.{called_units, CallsUnit}
 use Rattle.ada_tree.specs.Uses as uses
 use Rattle.ada_tree.specs.Rules.{Rings, At, MeetsRules}
 use Rattle.ods_tree.specs.Services.{Service, Sort}
@@ -43,7 +44,8 @@ named-passive p c some = by (passive_named p c) some (λ o h. h)
     by : (os : List Operation) → is_empty os ≡ false → ((o : Operation) → IsIn o os → IsIn o (passive_named p c)) → IsPassive p c.object
     by [] e inside = absurd (true≢false e)
     by (o ∷ os) e inside =
-        let one = in-filter (λ (q : Operation). same_name q.sig.name c.op) o (flat_map (λ (u : Unit). passive_ops u.form) (filter (λ (u : Unit). same_name u.name c.object) p.units)) (inside o (inl refl)) in
+        let one = in-filter (λ (q : Operation). same_name q.sig.name c.op) o
+        (flat_map (λ (u : Unit). passive_ops u.form) (filter (λ (u : Unit). same_name u.name c.object) p.units)) (inside o (inl refl)) in
         let two = in-some (λ (u : Unit). passive_ops u.form) (filter (λ (u : Unit). same_name u.name c.object) p.units) o one.0 in
         let three = in-filter (λ (u : Unit). same_name u.name c.object) two.0 p.units two.1 in
         record { unit = two.0; among = three.0; named = same-is two.0.name c.object three.1; confined = passive-confined two.0.form o two.2 }
@@ -93,14 +95,19 @@ module _ (p : Program) (rules : MeetsRules p) where
   plain-calls c d s plain =
       let in-ops : IsIn s.service.op (passive_ops s.offered.unit.form) = subst (λ x. IsOf x s.offered.unit.form s.service.op) plain s.offered.does in
       let named : IsIn s.service.op (passive_named p c) =
-      filter-in (λ (q : Operation). same_name q.sig.name c.op) s.service.op (flat_map (λ u. passive_ops u.form) (filter (λ u. same_name u.name c.object) p.units))
+      filter-in (λ (q : Operation). same_name q.sig.name c.op) s.service.op
+      (flat_map (λ u. passive_ops u.form) (filter (λ u. same_name u.name c.object) p.units))
       (in-flat (λ (u : Unit). passive_ops u.form) s.offered.unit s.service.op (filter (λ u. same_name u.name c.object) p.units)
-      (filter-in (λ (u : Unit). same_name u.name c.object) s.offered.unit p.units s.offered.among (is-same s.offered.unit.name c.object (unit-named c d s))) in-ops)
+      (filter-in (λ (u : Unit). same_name u.name c.object) s.offered.unit p.units s.offered.among
+      (is-same s.offered.unit.name c.object (unit-named c d s))) in-ops)
       (is-same s.service.op.sig.name c.op (op-named c d s)) in
-      any-in (same_op d) d (flat_map (λ (q : Operation). block_calls q.block) (passive_named p c)) (in-flat (λ (q : Operation). block_calls q.block) s.service.op d (passive_named p c) named s.called) (same_op-refl d)
+      any-in (same_op d) d (flat_map (λ (q : Operation). block_calls q.block) (passive_named p c))
+      (in-flat (λ (q : Operation). block_calls q.block) s.service.op d (passive_named p c) named s.called) (same_op-refl d)
 
-  plain-way : (path : List OpName) (c to : OpName) → IsPassive p c.object → LeadsTo (Calls ss) c path to → LeadsTo (uses.Calls p) c path to × IsPassive p to.object
-  plain-way [] c to passive way = let s = stepped c to way in let plain = plain-of c to passive s in (plain-calls c to s plain, plain-next c to s plain)
+  plain-way : (path : List OpName) (c to : OpName) → IsPassive p c.object → LeadsTo (Calls ss) c path to
+      → LeadsTo (uses.Calls p) c path to × IsPassive p to.object
+  plain-way [] c to passive way = let s = stepped c to way in let plain = plain-of c to passive s
+      in (plain-calls c to s plain, plain-next c to s plain)
   plain-way (via ∷ path) c to passive way =
       let s = stepped c via way.0 in
       let plain = plain-of c via passive s in
@@ -114,7 +121,8 @@ module _ (p : Program) (rules : MeetsRules p) where
   shared-form (Cyclic priority offset period vars block) o h = absurd h
   shared-form (Sporadic priority ceiling op separation jitter external vars block) o h = absurd h
 
-  shared-name : (u : Unit) (o : Operation) → IsIn u p.units → IsIn o (shared_ops u.form) → (name : Name) → u.name ≡ name → is_shared_name p name ≡ true
+  shared-name : (u : Unit) (o : Operation) → IsIn u p.units → IsIn o (shared_ops u.form) → (name : Name) → u.name ≡ name
+      → is_shared_name p name ≡ true
   shared-name u o among holds name named =
       any-in (λ (v : Unit). is_shared v.form && same_name v.name name) u p.units among
       (ap (λ t. t && same_name u.name name) (shared-form u.form o holds) ∙ is-same u.name name named)
@@ -124,34 +132,48 @@ module _ (p : Program) (rules : MeetsRules p) where
   protected-of c d active s = by s.service.sort s.offered.does
     where
       by : (x : Sort) → IsOf x s.offered.unit.form s.service.op → IsIn s.service.op (shared_ops s.offered.unit.form)
-      by sort.Plain h = absurd (active (record { unit = s.offered.unit; among = s.offered.among; named = unit-named c d s; confined = passive-confined s.offered.unit.form s.service.op h }))
+      by sort.Plain h = absurd (active (record {
+        unit = s.offered.unit;
+        among = s.offered.among;
+        named = unit-named c d s;
+        confined = passive-confined s.offered.unit.form s.service.op h;
+      }))
       by sort.Protected h = h
       by sort.Request h = absurd (subst (IsIn d) h.1 s.called)
 
-  unit-step : (c d : OpName) (s : Stepped c d) → IsIn s.service.op (shared_ops s.offered.unit.form) → is_shared_name p d.object ≡ true → CallsUnit p c.object d.object
+  unit-step : (c d : OpName) (s : Stepped c d) → IsIn s.service.op (shared_ops s.offered.unit.form) → is_shared_name p d.object ≡ true
+      → CallsUnit p c.object d.object
   unit-step c d s holds shared =
       let ops : IsIn s.service.op (ops_of_shared p c.object) =
       in-flat (λ (u : Unit). shared_ops u.form) s.offered.unit s.service.op (filter (λ u. same_name u.name c.object) p.units)
-      (filter-in (λ (u : Unit). same_name u.name c.object) s.offered.unit p.units s.offered.among (is-same s.offered.unit.name c.object (unit-named c d s))) holds in
-      let calls : IsIn d (flat_map (λ (q : Operation). block_calls q.block) (ops_of_shared p c.object)) = in-flat (λ (q : Operation). block_calls q.block) s.service.op d (ops_of_shared p c.object) ops s.called in
+      (filter-in (λ (u : Unit). same_name u.name c.object) s.offered.unit p.units s.offered.among
+      (is-same s.offered.unit.name c.object (unit-named c d s))) holds in
+      let calls : IsIn d (flat_map (λ (q : Operation). block_calls q.block) (ops_of_shared p c.object))
+      = in-flat (λ (q : Operation). block_calls q.block) s.service.op d (ops_of_shared p c.object) ops s.called in
       any-in (same_name d.object) d.object (called_units p c.object)
-      (filter-in (is_shared_name p) d.object (map (λ (z : OpName). z.object) (flat_map (λ (q : Operation). block_calls q.block) (ops_of_shared p c.object)))
-      (in-map (λ (z : OpName). z.object) d (flat_map (λ (q : Operation). block_calls q.block) (ops_of_shared p c.object)) calls) shared) (same-self d.object)
+      (filter-in (is_shared_name p) d.object
+      (map (λ (z : OpName). z.object) (flat_map (λ (q : Operation). block_calls q.block) (ops_of_shared p c.object)))
+      (in-map (λ (z : OpName). z.object) d (flat_map (λ (q : Operation). block_calls q.block) (ops_of_shared p c.object)) calls) shared)
+      (same-self d.object)
 
   first-shared : (path : List OpName) (c to : OpName) → (IsPassive p c.object → ⊥) → LeadsTo (Calls ss) c path to → is_shared_name p c.object ≡ true
-  first-shared [] c to active way = let s = stepped c to way in shared-name s.offered.unit s.service.op s.offered.among (protected-of c to active s) c.object (unit-named c to s)
+  first-shared [] c to active way = let s = stepped c to way
+      in shared-name s.offered.unit s.service.op s.offered.among (protected-of c to active s) c.object (unit-named c to s)
   first-shared (via ∷ path) c to active way =
-      let s = stepped c via way.0 in shared-name s.offered.unit s.service.op s.offered.among (protected-of c via active s) c.object (unit-named c via s)
+      let s = stepped c via way.0 in shared-name s.offered.unit s.service.op s.offered.among (protected-of c via active s) c.object
+      (unit-named c via s)
 
   -- a way that ends in a protected unit stays among these
-  protected-way : (path : List OpName) (c to : OpName) → (IsPassive p to.object → ⊥) → is_shared_name p to.object ≡ true → LeadsTo (Calls ss) c path to
+  protected-way : (path : List OpName) (c to : OpName) → (IsPassive p to.object → ⊥) → is_shared_name p to.object ≡ true
+      → LeadsTo (Calls ss) c path to
       → LeadsTo (CallsUnit p) c.object (map (λ z. z.object) path) to.object
   protected-way [] c to active shared way =
       let s = stepped c to way in unit-step c to s (protected-of c to (λ passive. active ((plain-way [] c to passive way).1)) s) shared
   protected-way (via ∷ path) c to active shared way =
       let s = stepped c via way.0 in
       let on : IsPassive p via.object → ⊥ = λ passive. active ((plain-way path via to passive way.1).1) in (
-        unit-step c via s (protected-of c via (λ passive. active ((plain-way (via ∷ path) c to passive way).1)) s) (first-shared path via to on way.1),
+        unit-step c via s (protected-of c via (λ passive. active ((plain-way (via ∷ path) c to passive way).1)) s) (first-shared path via
+            to on way.1),
         protected-way path via to active shared way.1,
       )
 
@@ -177,5 +199,17 @@ module _ (p : Program) (rules : MeetsRules p) where
       active : IsPassive p c.object → ⊥
       active passive =
           let at = place-of passive.unit p.units passive.among in
-          let name : record { object = passive.unit.name; op = c.op } ≡ c = ap (λ n. let z : OpName = record { object = n; op = c.op } in z) passive.named in
-          rules Rings (At at.0) (passive.unit, at.1, inl (c.op, (ring.0, subst (λ z. LeadsTo (uses.Calls p) z ring.0 z) (sym name) (plain-way ring.0 c c passive ring.1).0)))
+          let name : record { object = passive.unit.name; op = c.op } ≡ c = ap (λ n. let z : OpName = record { object = n; op = c.op }
+          in z) passive.named in
+          rules Rings (At at.0) (
+            passive.unit,
+            at.1,
+            inl (
+              c.op,
+              (
+                ring.0,
+                subst (λ z. LeadsTo (uses.Calls p) z ring.0 z) (sym name) (plain-way ring.0 c
+                    c passive ring.1).0,
+              ),
+            ),
+          )

@@ -47,7 +47,8 @@ module _ (ss : List Service) where
     where
       by : (o : Option Service) → service_named ss a.object a.op ≡ o → IsIn b (live_in o) → walks.IsIn (map name_of ss) a
       by None is h = absurd h
-      by (Some s) is h = let named = named-is ss a s is in any-in (same_op a) (name_of s) (map name_of ss) (in-map name_of s ss named.0) (ap (same_op a) named.1 ∙ same_op-refl a)
+      by (Some s) is h = let named = named-is ss a s is
+          in any-in (same_op a) (name_of s) (map name_of ss) (in-map name_of s ss named.0) (ap (same_op a) named.1 ∙ same_op-refl a)
 
   -- what a call leads to inside sections
   abbrev pub live_within : OpName → List OpName
@@ -91,9 +92,11 @@ module _ (ss : List Service) where
         by None h = absurd h
         by (Some z) h = sorted z z.sort h
 
-    section-along : (path : List OpName) (c d : OpName) → LeadsTo (Step (live_of ss)) c path d → Enters (service_named ss d.object d.op) → IsIn (section costs ss d) (sections_of c)
+    section-along : (path : List OpName) (c d : OpName) → LeadsTo (Step (live_of ss)) c path d → Enters (service_named ss d.object d.op)
+        → IsIn (section costs ss d) (sections_of c)
     section-along [] c d way enters = inner-section c d (section costs ss d) (among-is (live_of ss c) d way) (own-section d enters)
-    section-along (via ∷ path) c d way enters = inner-section c via (section costs ss d) (among-is (live_of ss c) via way.0) (section-along path via d way.1 enters)
+    section-along (via ∷ path) c d way enters = inner-section c via (section costs ss d) (among-is (live_of ss c) via way.0)
+        (section-along path via d way.1 enters)
 
     pub section-in : (c d : OpName) → IsIn d (live_within c) → Enters (service_named ss d.object d.op) → IsIn (section costs ss d) (sections_of c)
     section-in c d h enters = by (within-leads (length (map name_of ss)) (live_of ss) c d (is-among (live_within c) d h))

@@ -40,7 +40,8 @@ pub record IsOffered (p : Program) (s : Service) : Type 0 where
   pub does : IsOf s.sort unit.form s.op
 
 -- the operations of objects, each under its sort
-op-in : (u : Unit) (ops : List Operation) (x : Sort) (s : Service) → IsIn s (map (λ o. let z : Service = record { object = u.name; sort = x; op = o } in z) ops)
+op-in : (u : Unit) (ops : List Operation) (x : Sort) (s : Service)
+    → IsIn s (map (λ o. let z : Service = record { object = u.name; sort = x; op = o } in z) ops)
     → (o : Operation) × IsIn o ops × (s ≡ (let z : Service = record { object = u.name; sort = x; op = o } in z))
 op-in u [] x s h = absurd h
 op-in u (o ∷ ops) x s (inl e) = (o, inl refl, sym e)
@@ -54,7 +55,8 @@ service-of p s h = let found = in-services p s h in by found.0 found.1 found.0.f
     offer u among x ops does k =
         let o = op-in u ops x s k in subst (IsOffered p) (sym o.2) (record { unit = u; among = among; named = refl; does = does o.0 o.1 })
 
-    by : (u : Unit) → IsIn u p.units → (f : Form) → u.form ≡ f → IsIn s (plain_of u.name f) ⊎ (IsIn s (protected_of u.name f) ⊎ IsIn s (requests_of u.name f)) → IsOffered p s
+    by : (u : Unit) → IsIn u p.units → (f : Form) → u.form ≡ f → IsIn s (plain_of u.name f)
+        ⊎ (IsIn s (protected_of u.name f) ⊎ IsIn s (requests_of u.name f)) → IsOffered p s
     by u among (Passive ops) is (inl k) = offer u among sort.Plain ops (λ o h. subst (λ z. IsIn o (passive_ops z)) (sym is) h) k
     by u among (Shared ceiling vars ops) is (inr (inl k)) = offer u among sort.Protected ops (λ o h. subst (λ z. IsIn o (shared_ops z)) (sym is) h) k
     by u among (Sporadic priority ceiling op separation jitter external vars block) is (inr (inr (inl same))) =

@@ -1,5 +1,6 @@
 -- What runs of a program: each library, object and task is that of a unit, and what a call leads to is one of their operations.
-use Rattle.std.specs.Prelude.{◌≡◌, ◌+◌, ℕ, suc, Bool, true, false, List, [], ◌∷◌, ◌++◌, filter, flat_map, filter_map, slice_get, Option, Some, None, cond, if◌then◌else◌, ⊤, refl}
+use Rattle.std.specs.Prelude.{◌≡◌, ◌+◌, ℕ, suc, Bool, true, false, List, [], ◌∷◌, ◌++◌, filter, flat_map, filter_map, slice_get, Option, Some}
+use Rattle.std.specs.Prelude.{None, cond, if◌then◌else◌, ⊤, refl}
 use Rattle.std.specs.List.{enumerate_from, cons_option}
 use Rattle.std.proofs.Common.{sym, ◌∙◌, ap, subst, arith}
 use Rattle.std.proofs.lemmas.Option.{none-some, same_Some}
@@ -10,7 +11,9 @@ use Rattle.ada_tree.specs.Programs.{Form, Unit, Program, Passive, Shared, Cyclic
 use Rattle.ada_tree.specs.Uses.{passive_ops, passive_named, is_empty}
 use Rattle.seq_tree.specs.declared.tree.OpName.{OpName}
 use Rattle.arrivals_tree.specs.Arriving.{Arrivals, durations}
-use Rattle.machine.specs.Systems.{System, TaskUnit, ProtectedUnit, PassiveUnit, ReleasePattern, Periodic, Requested, CallTarget, Plain, Protected, Request, Unknown, library_by, object_by, thread_by, system, op_named, plain_by, protected_by, request_if, request_by, object_or, library_or, callee}
+use Rattle.machine.specs.Systems.{System, TaskUnit, ProtectedUnit, PassiveUnit, ReleasePattern, Periodic, Requested, CallTarget, Plain}
+use Rattle.machine.specs.Systems.{Protected, Request, Unknown, library_by, object_by, thread_by, system, op_named, plain_by, protected_by}
+use Rattle.machine.specs.Systems.{request_if, request_by, object_or, library_or, callee}
 use Rattle.program_calls.proofs.Lists.{made-at, places-differ}
 use Rattle.program_calls.proofs.Facts.{first-where}
 use Rattle.std.proofs.lemmas.Bool.{true≢false}
@@ -45,7 +48,8 @@ library-is k name (Shared ceiling vars ops) l e = absurd (none-some l e)
 library-is k name (Cyclic priority offset period vars block) l e = absurd (none-some l e)
 library-is k name (Sporadic priority ceiling op separation jitter external vars block) l e = absurd (none-some l e)
 
-object-is : (k : ℕ) (name : Name) (form : Form) (g : ProtectedUnit) → object_by k name form ≡ Some g → (name ≡ g.name) × (g.unit ≡ k) × (form ≡ Shared g.ceiling g.vars g.ops)
+object-is : (k : ℕ) (name : Name) (form : Form) (g : ProtectedUnit) → object_by k name form ≡ Some g
+    → (name ≡ g.name) × (g.unit ≡ k) × (form ≡ Shared g.ceiling g.vars g.ops)
 object-is k name (Passive ops) g e = absurd (none-some g e)
 object-is k name (Shared ceiling vars ops) g e =
     let same = same_Some (record { unit = k; name = name; ceiling = ceiling; vars = vars; ops = ops }) g e in
@@ -53,15 +57,36 @@ object-is k name (Shared ceiling vars ops) g e =
 object-is k name (Cyclic priority offset period vars block) g e = absurd (none-some g e)
 object-is k name (Sporadic priority ceiling op separation jitter external vars block) g e = absurd (none-some g e)
 
-pub thread-is : (ds : List ℕ) (k : ℕ) (name : Name) (form : Form) (t : TaskUnit) → thread_by ds k name form ≡ Some t → (name ≡ t.name) × (t.unit ≡ k) × thread_form t t.timing form
+pub thread-is : (ds : List ℕ) (k : ℕ) (name : Name) (form : Form) (t : TaskUnit) → thread_by ds k name form ≡ Some t
+    → (name ≡ t.name) × (t.unit ≡ k) × thread_form t t.timing form
 thread-is ds k name (Passive ops) t e = absurd (none-some t e)
 thread-is ds k name (Shared ceiling vars ops) t e = absurd (none-some t e)
 thread-is ds k name (Cyclic priority offset period vars block) t e =
-    let same = same_Some (record { unit = k; name = name; priority = priority; timing = Periodic offset period; vars = vars; block = block; durations = ds }) t e in
+    let same = same_Some (record {
+      unit = k;
+      name = name;
+      priority = priority;
+      timing = Periodic offset period;
+      vars = vars;
+      block = block;
+      durations = ds;
+    }) t e in
     (ap (λ x. x.name) same, sym (ap (λ x. x.unit) same), subst (λ x. thread_form x x.timing (Cyclic priority offset period vars block)) same refl)
 thread-is ds k name (Sporadic priority ceiling op separation jitter external vars block) t e =
-    let same = same_Some (record { unit = k; name = name; priority = priority; timing = Requested op ceiling separation jitter external; vars = vars; block = block; durations = ds }) t e in
-    (ap (λ x. x.name) same, sym (ap (λ x. x.unit) same), subst (λ x. thread_form x x.timing (Sporadic priority ceiling op separation jitter external vars block)) same refl)
+    let same = same_Some (record {
+      unit = k;
+      name = name;
+      priority = priority;
+      timing = Requested op ceiling separation jitter external;
+      vars = vars;
+      block = block;
+      durations = ds;
+    }) t e in (
+      ap (λ x. x.name) same,
+      sym (ap (λ x. x.unit) same),
+      subst (λ x. thread_form x x.timing
+          (Sporadic priority ceiling op separation jitter external vars block)) same refl,
+    )
 
 module _ (p : Program) (a : Arrivals) where
   pub library-at : (i : ℕ) (l : PassiveUnit) → slice_get (system p a).libraries i ≡ Some l → (k : ℕ) × (u : Unit) × IsLibraryOf p k u l
@@ -73,23 +98,43 @@ module _ (p : Program) (a : Arrivals) where
   pub object-at : (i : ℕ) (g : ProtectedUnit) → slice_get (system p a).objects i ≡ Some g → (k : ℕ) × (u : Unit) × IsObjectOf p k u g
   object-at i g e =
       let found = made-at (λ (u : ℕ × Unit). object_by u.0 u.1.name u.1.form) 0 p.units i g e in
-      let is = object-is (0 + found.0) found.1.name found.1.form g found.3 in
-      (found.0, found.1, record { stands = found.2; name = is.0; unit = is.1 ∙ (let none : 0 + found.0 ≡ found.0 = omega arith in none); form = is.2 })
+      let is = object-is (0 + found.0) found.1.name found.1.form g found.3 in (
+        found.0,
+        found.1,
+        record {
+          stands = found.2;
+          name = is.0;
+          unit = is.1 ∙ (let none : 0 + found.0 ≡ found.0 = omega arith in none);
+          form = is.2;
+        },
+      )
 
   pub thread-at : (i : ℕ) (t : TaskUnit) → slice_get (system p a).threads i ≡ Some t → (k : ℕ) × (u : Unit) × IsTaskOf p k u t
   thread-at i t e =
       let found = made-at (λ (u : ℕ × Unit). thread_by (durations a u.0) u.0 u.1.name u.1.form) 0 p.units i t e in
-      let is = thread-is (durations a (0 + found.0)) (0 + found.0) found.1.name found.1.form t found.3 in
-      (found.0, found.1, record { stands = found.2; name = is.0; unit = is.1 ∙ (let none : 0 + found.0 ≡ found.0 = omega arith in none); form = is.2 })
+      let is = thread-is (durations a (0 + found.0)) (0 + found.0) found.1.name found.1.form t found.3 in (
+        found.0,
+        found.1,
+        record {
+          stands = found.2;
+          name = is.0;
+          unit = is.1 ∙ (let none : 0 + found.0 ≡ found.0 = omega arith in none);
+          form = is.2;
+        },
+      )
 
   -- objects and tasks of different places have different units
-  pub objects-differ : (i j : ℕ) (g h : ProtectedUnit) → slice_get (system p a).objects i ≡ Some g → slice_get (system p a).objects j ≡ Some h → g.unit ≡ h.unit → i ≡ j
+  pub objects-differ : (i j : ℕ) (g h : ProtectedUnit) → slice_get (system p a).objects i ≡ Some g → slice_get (system p a).objects j ≡ Some h
+      → g.unit ≡ h.unit → i ≡ j
   objects-differ i j g h at at' same =
-      places-differ (λ (u : ℕ × Unit). object_by u.0 u.1.name u.1.form) (λ x. x.unit) (λ k u x e. (object-is k u.name u.form x e).1) 0 p.units i j g h at at' same
+      places-differ (λ (u : ℕ × Unit). object_by u.0 u.1.name u.1.form) (λ x. x.unit) (λ k u x e. (object-is k u.name u.form x e).1) 0 p.units i j g h
+      at at' same
 
-  pub threads-differ : (i j : ℕ) (t u : TaskUnit) → slice_get (system p a).threads i ≡ Some t → slice_get (system p a).threads j ≡ Some u → t.unit ≡ u.unit → i ≡ j
+  pub threads-differ : (i j : ℕ) (t u : TaskUnit) → slice_get (system p a).threads i ≡ Some t → slice_get (system p a).threads j ≡ Some u
+      → t.unit ≡ u.unit → i ≡ j
   threads-differ i j t u at at' same =
-      places-differ (λ (x : ℕ × Unit). thread_by (durations a x.0) x.0 x.1.name x.1.form) (λ x. x.unit) (λ k x z e. (thread-is (durations a k) k x.name x.form z e).1) 0 p.units i j t u at at' same
+      places-differ (λ (x : ℕ × Unit). thread_by (durations a x.0) x.0 x.1.name x.1.form) (λ x. x.unit)
+      (λ k x z e. (thread-is (durations a k) k x.name x.form z e).1) 0 p.units i j t u at at' same
 
 -- what a call leads to
 pub record LeadsToPlain (y : System) (unit op : Name) (o : Operation) : Type 0 where
@@ -128,9 +173,11 @@ LeadsTo y unit op Unknown = ⊤
 
 pub leads-to : (y : System) (unit op : Name) → LeadsTo y unit op (callee y unit op)
 leads-to y unit op =
-    by (first_where (λ l. same_name l.name unit) y.libraries) refl (first_where (λ x. same_name x.name unit) y.objects) refl (first_where (λ t. same_name t.name unit) y.threads) refl
+    by (first_where (λ l. same_name l.name unit) y.libraries) refl (first_where (λ x. same_name x.name unit) y.objects) refl
+    (first_where (λ t. same_name t.name unit) y.threads) refl
   where
-    asked : (t : ℕ × TaskUnit) → slice_get y.threads t.0 ≡ Some t.1 → same_name t.1.name unit ≡ true → (x : ReleasePattern) → t.1.timing ≡ x → LeadsTo y unit op (request_if op t.0 x)
+    asked : (t : ℕ × TaskUnit) → slice_get y.threads t.0 ≡ Some t.1 → same_name t.1.name unit ≡ true → (x : ReleasePattern) → t.1.timing ≡ x
+        → LeadsTo y unit op (request_if op t.0 x)
     asked t stands named (Periodic offset period) e = tt
     asked t stands named (Requested sig ceiling separation jitter external) e = chosen (same_name sig.name op) refl
       where
@@ -156,8 +203,10 @@ leads-to y unit op =
         → (x : Option (ℕ × ProtectedUnit)) → first_where (λ z. same_name z.name unit) y.objects ≡ x
         → (t : Option (ℕ × TaskUnit)) → first_where (λ z. same_name z.name unit) y.threads ≡ t
         → LeadsTo y unit op (library_or op l (object_or op x (request_by op t)))
-    by (Some l) e x f t g = let found = first-where (λ z. same_name z.name unit) y.libraries l.0 l.1 e in plain l found.0 found.1 (op_named op l.1.ops) refl
-    by None e (Some x) f t g = let found = first-where (λ z. same_name z.name unit) y.objects x.0 x.1 f in guarded x found.0 found.1 (op_named op x.1.ops) refl
+    by (Some l) e x f t g = let found = first-where (λ z. same_name z.name unit) y.libraries l.0 l.1 e
+        in plain l found.0 found.1 (op_named op l.1.ops) refl
+    by None e (Some x) f t g = let found = first-where (λ z. same_name z.name unit) y.objects x.0 x.1 f
+        in guarded x found.0 found.1 (op_named op x.1.ops) refl
     by None e None f None g = tt
     by None e None f (Some t) g = let found = first-where (λ z. same_name z.name unit) y.threads t.0 t.1 g in asked t found.0 found.1 t.1.timing refl
 
@@ -175,11 +224,14 @@ module _ (name : Name) where
       skip false none rest = rest
 
       by : (form : Form) → u.form ≡ form → (b : Bool) → same_name u.name name ≡ b
-          → ((k : ℕ) → first_from k (λ l. same_name l.name name) (filter_map (λ (v : ℕ × Unit). library_by v.0 v.1.name v.1.form) (enumerate_from (n + 1) us)) ≡ None
+          → ((k : ℕ) → first_from k (λ l. same_name l.name name) (filter_map (λ (v : ℕ × Unit). library_by v.0 v.1.name v.1.form)
+          (enumerate_from (n + 1) us)) ≡ None
           → flat_map (λ v. passive_ops v.form) (filter (λ v. same_name v.name name) us) ≡ [])
-          → first_from m (λ l. same_name l.name name) (cons_option (library_by n u.name form) (filter_map (λ (v : ℕ × Unit). library_by v.0 v.1.name v.1.form) (enumerate_from (n + 1) us))) ≡ None
+          → first_from m (λ l. same_name l.name name) (cons_option (library_by n u.name form)
+          (filter_map (λ (v : ℕ × Unit). library_by v.0 v.1.name v.1.form) (enumerate_from (n + 1) us))) ≡ None
           → flat_map (λ v. passive_ops v.form) (cond b (u ∷ filter (λ v. same_name v.name name) us) (filter (λ v. same_name v.name name) us)) ≡ []
-      by (Passive ops) f b g rest e' = named b (subst (λ c. (if c then Some (m, l) else first_from (suc m) (λ x. same_name x.name name) others) ≡ None) g e')
+      by (Passive ops) f b g rest e'
+          = named b (subst (λ c. (if c then Some (m, l) else first_from (suc m) (λ x. same_name x.name name) others) ≡ None) g e')
         where
           l : PassiveUnit
           l = record { unit = n; name = u.name; ops = ops }
@@ -202,7 +254,8 @@ IsUnprotected (Protected object j g o) = ⊥
 IsUnprotected (Request task) = ⊥
 IsUnprotected Unknown = ⊤
 
-pub passive-call : (p : Program) (a : Arrivals) (c : OpName) → is_empty (passive_named p c) ≡ false → IsUnprotected (callee (system p a) c.object c.op)
+pub passive-call : (p : Program) (a : Arrivals) (c : OpName) → is_empty (passive_named p c) ≡ false
+    → IsUnprotected (callee (system p a) c.object c.op)
 passive-call p a c some = by (first_where (λ l. same_name l.name c.object) (system p a).libraries) refl
   where
     plain : (q : Option (ℕ × Operation)) → IsUnprotected (plain_by q)

@@ -22,11 +22,13 @@ unfolding unit_ops
 unit_ops-at p i u at = ap (λ o. unwrap_or (option_map (λ v. heads v.form) o) []) at
 
 -- units of one name stand at one place
-pub one-place : (us : List Unit) (i j : ℕ) (u v : Unit) → AreApart us → slice_get us i ≡ Some u → slice_get us j ≡ Some v → same_name u.name v.name ≡ true → i ≡ j
+pub one-place : (us : List Unit) (i j : ℕ) (u v : Unit) → AreApart us → slice_get us i ≡ Some u → slice_get us j ≡ Some v
+    → same_name u.name v.name ≡ true → i ≡ j
 one-place [] i j u v far at there same = absurd (none-some u at)
 one-place (w ∷ us) zero zero u v far at there same = refl
 one-place (w ∷ us) zero (suc j) u v far at there same =
-    absurd (true≢false (sym same ∙ ap (λ z. same_name z.name v.name) (sym (same_Some w u at)) ∙ all-at (λ z. same_name w.name z.name ≡ false) us j v far.0 there))
+    absurd (true≢false (sym same ∙ ap (λ z. same_name z.name v.name) (sym (same_Some w u at)) ∙ all-at (λ z. same_name w.name z.name
+    ≡ false) us j v far.0 there))
 one-place (w ∷ us) (suc i) zero u v far at there same =
     let turned : same_name w.name u.name ≡ true = is-same w.name u.name (ap (λ z. z.name) (same_Some w v there) ∙ sym (same-is u.name v.name same)) in
     absurd (true≢false (sym turned ∙ all-at (λ z. same_name w.name z.name ≡ false) us i u far.0 at))
@@ -60,21 +62,29 @@ module _ (p : Program) (a : Arrivals) where
 
   -- tasks and objects by the names of their units
   pub thread_name : (k : ℕ) (t : TaskUnit) → slice_get (system p a).threads k ≡ Some t → unit_name p t.unit ≡ t.name
-  thread_name k t at = let found = thread-at p a k t at in ap (unit_name p) (found.2).unit ∙ name-at p found.0 found.1 (found.2).stands ∙ (found.2).name
+  thread_name k t at = let found = thread-at p a k t at
+      in ap (unit_name p) (found.2).unit ∙ name-at p found.0 found.1 (found.2).stands ∙ (found.2).name
 
   pub object_name : (k : ℕ) (g : ProtectedUnit) → slice_get (system p a).objects k ≡ Some g → unit_name p g.unit ≡ g.name
-  object_name k g at = let found = object-at p a k g at in ap (unit_name p) (found.2).unit ∙ name-at p found.0 found.1 (found.2).stands ∙ (found.2).name
+  object_name k g at = let found = object-at p a k g at
+      in ap (unit_name p) (found.2).unit ∙ name-at p found.0 found.1 (found.2).stands ∙ (found.2).name
 
-  pub threads_apart : MeetsRules p → (j k : ℕ) (t u : TaskUnit) → slice_get (system p a).threads j ≡ Some t → slice_get (system p a).threads k ≡ Some u → same_name t.name u.name ≡ true → j ≡ k
+  pub threads_apart : MeetsRules p → (j k : ℕ) (t u : TaskUnit) → slice_get (system p a).threads j ≡ Some t
+      → slice_get (system p a).threads k ≡ Some u → same_name t.name u.name ≡ true → j ≡ k
   threads_apart meets j k t u at there same =
       let one = thread-at p a j t at in
       let two = thread-at p a k u there in
-      let names : same_name one.1.name two.1.name ≡ true = ap (λ n. same_name n two.1.name) (one.2).name ∙ ap (same_name t.name) (two.2).name ∙ same in
-      threads-differ p a j k t u at there ((one.2).unit ∙ one-place p.units one.0 two.0 one.1 two.1 (units_apart p meets) (one.2).stands (two.2).stands names ∙ sym (two.2).unit)
+      let names : same_name one.1.name two.1.name ≡ true
+      = ap (λ n. same_name n two.1.name) (one.2).name ∙ ap (same_name t.name) (two.2).name ∙ same in
+      threads-differ p a j k t u at there ((one.2).unit ∙ one-place p.units one.0 two.0 one.1 two.1 (units_apart p meets) (one.2).stands
+      (two.2).stands names ∙ sym (two.2).unit)
 
-  pub objects_apart : MeetsRules p → (j k : ℕ) (g h : ProtectedUnit) → slice_get (system p a).objects j ≡ Some g → slice_get (system p a).objects k ≡ Some h → same_name g.name h.name ≡ true → j ≡ k
+  pub objects_apart : MeetsRules p → (j k : ℕ) (g h : ProtectedUnit) → slice_get (system p a).objects j ≡ Some g
+      → slice_get (system p a).objects k ≡ Some h → same_name g.name h.name ≡ true → j ≡ k
   objects_apart meets j k g h at there same =
       let one = object-at p a j g at in
       let two = object-at p a k h there in
-      let names : same_name one.1.name two.1.name ≡ true = ap (λ n. same_name n two.1.name) (one.2).name ∙ ap (same_name g.name) (two.2).name ∙ same in
-      objects-differ p a j k g h at there ((one.2).unit ∙ one-place p.units one.0 two.0 one.1 two.1 (units_apart p meets) (one.2).stands (two.2).stands names ∙ sym (two.2).unit)
+      let names : same_name one.1.name two.1.name ≡ true
+      = ap (λ n. same_name n two.1.name) (one.2).name ∙ ap (same_name g.name) (two.2).name ∙ same in
+      objects-differ p a j k g h at there ((one.2).unit ∙ one-place p.units one.0 two.0 one.1 two.1 (units_apart p meets) (one.2).stands
+      (two.2).stands names ∙ sym (two.2).unit)

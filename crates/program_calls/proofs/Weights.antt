@@ -2,7 +2,8 @@
 use Rattle.std.specs.Prelude.{◌≡◌, ℕ, ◌+◌, ◌*◌, ◌≤◌, refl}
 use Rattle.std.proofs.Common.{arith, inl, le_refl}
 use Rattle.seq_tree.specs.Names.{Name}
-use Rattle.seq_tree.specs.Statements.{Statement, Statements, Branches, Null, Assign, If, For, ExitWhen, Call, Work, Put, End, Then, Nothing, Else, When}
+use Rattle.seq_tree.specs.Statements.{Statement, Statements, Branches, Null, Assign, If, For, ExitWhen, Call, Work, Put, End, Then, Nothing}
+use Rattle.seq_tree.specs.Statements.{Else, When}
 use Rattle.seq_tree.specs.Calls.{statement_calls, block_calls, branch_calls}
 use Rattle.seq_tree.specs.Dearest.{Weights, turn_count, dearest_statement, dearest, dearest_branch, free, counted}
 use Rattle.seq_tree.specs.declared.tree.Costs.{Costs}
@@ -29,13 +30,16 @@ module _ (costs : Costs) (work : ℕ → ℕ) (f g : Name → Name → ℕ) wher
   w = weights costs work g
 
   mutual
-    statement-less : (s : Statement) → ((c : OpName) → IsIn c (statement_calls s) → f c.object c.op ≤ g c.object c.op) → dearest_statement v s ≤ dearest_statement w s
+    statement-less : (s : Statement) → ((c : OpName) → IsIn c (statement_calls s) → f c.object c.op ≤ g c.object c.op)
+        → dearest_statement v s ≤ dearest_statement w s
     statement-less Null less = le_refl costs.nothing
     statement-less (Assign target e) less = le_refl costs.assign
     statement-less (If branches) less = branches-less branches less
-    statement-less (For name low high body) less = times-more (turn_count low high) costs.turn (dearest v body) (dearest w body) (block-less body less)
+    statement-less (For name low high body) less
+        = times-more (turn_count low high) costs.turn (dearest v body) (dearest w body) (block-less body less)
     statement-less (ExitWhen condition) less = le_refl costs.test
-    statement-less (Call object op actuals) less = let one : f object op ≤ g object op = less (record { object = object; op = op }) (inl refl) in omega (arith, one)
+    statement-less (Call object op actuals) less = let one : f object op ≤ g object op = less (record { object = object; op = op }) (inl refl)
+        in omega (arith, one)
     statement-less (Work ticks) less = le_refl (work ticks)
     statement-less (Put e) less = le_refl costs.put
 
@@ -48,7 +52,8 @@ module _ (costs : Costs) (work : ℕ → ℕ) (f g : Name → Name → ℕ) wher
           block-less rest (λ c h. less c (in-right c (statement_calls first) (block_calls rest) h)),
         )
 
-    branches-less : (b : Branches) → ((c : OpName) → IsIn c (branch_calls b) → f c.object c.op ≤ g c.object c.op) → dearest_branch v b ≤ dearest_branch w b
+    branches-less : (b : Branches) → ((c : OpName) → IsIn c (branch_calls b) → f c.object c.op ≤ g c.object c.op)
+        → dearest_branch v b ≤ dearest_branch w b
     branches-less Nothing less = le_refl 0
     branches-less (Else block) less = block-less block less
     branches-less (When condition block others) less =
@@ -59,7 +64,8 @@ module _ (costs : Costs) (work : ℕ → ℕ) (f g : Name → Name → ℕ) wher
         )
 
 -- where each call counts as much, so does the block
-pub block-same : (costs : Costs) (work : ℕ → ℕ) (f g : Name → Name → ℕ) (b : Statements) → ((c : OpName) → IsIn c (block_calls b) → f c.object c.op ≡ g c.object c.op)
+pub block-same : (costs : Costs) (work : ℕ → ℕ) (f g : Name → Name → ℕ) (b : Statements)
+    → ((c : OpName) → IsIn c (block_calls b) → f c.object c.op ≡ g c.object c.op)
     → dearest (weights costs work f) b ≡ dearest (weights costs work g) b
 block-same costs work f g b same =
     let up = block-less costs work f g b (λ c h. let e : f c.object c.op ≡ g c.object c.op = same c h in omega (arith, e)) in
@@ -78,7 +84,8 @@ module _ (f : Name → Name → ℕ) where
     statement-none (If branches) none = branches-none branches none
     statement-none (For name low high body) none = times-none (turn_count low high) (counted f body) (count-none body none)
     statement-none (ExitWhen condition) none = refl
-    statement-none (Call object op actuals) none = let zero : f object op ≡ 0 = none (record { object = object; op = op }) (inl refl) in omega (arith, zero)
+    statement-none (Call object op actuals) none = let zero : f object op ≡ 0 = none (record { object = object; op = op }) (inl refl)
+        in omega (arith, zero)
     statement-none (Work ticks) none = refl
     statement-none (Put e) none = refl
 

@@ -20,7 +20,8 @@ HaveNoRing ss = (c : OpName) → IsOnRing (Calls ss) c → ⊥
 
 -- no way of calls is longer than there are operations
 abbrev pub CallsEnd : Type 0
-CallsEnd = (ss : List Service) (from : OpName) (path : List OpName) (to : OpName) → HaveNoRing ss → LeadsTo (Calls ss) from path to → length path < length ss
+CallsEnd = (ss : List Service) (from : OpName) (path : List OpName) (to : OpName) → HaveNoRing ss → LeadsTo (Calls ss) from path to
+    → length path < length ss
 
 -- a call costs what its body costs, the calls of the body among it
 abbrev pub CostsCoverCalls : Type 0
@@ -40,7 +41,8 @@ StartsCoverCalls = (ss : List Service) (target : OpName) (object op : Name) → 
 -- the sections of a call are its own and those of the calls of its body
 abbrev pub SectionsCoverCalls : Type 0
 SectionsCoverCalls = (costs : Costs) (ss : List Service) (c : OpName) → HaveNoRing ss
-    → sections_within (length ss) costs ss c ≡ service_sections (section costs ss c) (sections_within (length ss) costs ss) (service_named ss c.object c.op)
+    → sections_within (length ss) costs ss c ≡ service_sections (section costs ss c) (sections_within (length ss) costs ss)
+    (service_named ss c.object c.op)
 
 -- no operation of a program that meets the rules leads to itself
 abbrev pub ProgramsHaveNoRing : Type 0

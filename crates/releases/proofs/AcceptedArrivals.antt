@@ -8,7 +8,8 @@ use Rattle.seq_tree.specs.Faults.{or_else, fault_if}
 use Rattle.ada_tree.specs.Programs.{Form, Unit, Program, Passive, Shared, Cyclic, Sporadic, is_task}
 use Rattle.arrivals_tree.specs.declared.arrivals.Arrival.{Arrival}
 use Rattle.arrivals_tree.specs.Arriving.{Arrivals, durations}
-use Rattle.arrivals_tree.specs.Acceptance.{Unknown, Falling, Far, request_fault_by, request_fault_at, item_fault, requests_fault, works_fault, last_time, IsAccepted}
+use Rattle.arrivals_tree.specs.Acceptance.{Unknown, Falling, Far, request_fault_by, request_fault_at, item_fault, requests_fault, works_fault}
+use Rattle.arrivals_tree.specs.Acceptance.{last_time, IsAccepted}
 use Rattle.trace_tree.specs.Lines.{unit_name}
 use Rattle.machine.specs.Systems.{TaskUnit, system, thread_by}
 use Rattle.guarantee.specs.Arrivals.{named_arrivals, DontFall}
@@ -44,14 +45,17 @@ last-behind (b ∷ c ∷ more) a = last-behind (c ∷ more) a
 pub items_later : (p : Program) (before items : List Arrival) → requests_fault p before items ≡ None → Later (last_time before) items
 items_later p before [] e = tt
 items_later p before (a ∷ more) e =
-    let parts : (item_fault p before a ≡ None) × (requests_fault p (before ++ a ∷ []) more ≡ None) = or_else-none (item_fault p before a) (requests_fault p (before ++ a ∷ []) more) e in
+    let parts : (item_fault p before a ≡ None) × (requests_fault p (before ++ a ∷ []) more ≡ None)
+    = or_else-none (item_fault p before a) (requests_fault p (before ++ a ∷ []) more) e in
     let low : nat_lt a.time (last_time before) ≡ false =
-    no-fault (nat_lt a.time (last_time before)) Falling (or_else-none (fault_if (nat_lt a.time (last_time before)) Falling) (request_fault_at (slice_get p.units a.task) before a) parts.0).0 in
+    no-fault (nat_lt a.time (last_time before)) Falling (or_else-none (fault_if (nat_lt a.time (last_time before)) Falling)
+    (request_fault_at (slice_get p.units a.task) before a) parts.0).0 in
     let L : ℕ → Type 0 = λ n. Later n more in
     (grind arith, subst L (last-behind before a) (items_later p (before ++ a ∷ []) more parts.1))
 
 -- a unit with a task has a thread
-pub unit_thread : (ds : ℕ → List ℕ) (n : ℕ) (us : List Unit) (m : ℕ) (u : Unit) → slice_get us m ≡ Some u → is_task u.form ≡ true → HasUnit (ths_of ds n us) (n + m)
+pub unit_thread : (ds : ℕ → List ℕ) (n : ℕ) (us : List Unit) (m : ℕ) (u : Unit) → slice_get us m ≡ Some u → is_task u.form ≡ true
+    → HasUnit (ths_of ds n us) (n + m)
 unit_thread ds n [] m u at task = absurd (none-some u at)
 unit_thread ds n (v ∷ us) zero u at task = by v.form (ap (λ z. is_task z.form) (same_Some v u at) ∙ task)
   where
@@ -66,7 +70,8 @@ unit_thread ds n (v ∷ us) (suc m) u at task = by (thread_by (ds n) n v.name v.
     by None h = (h.0, h.1, h.2, omega (arith, h.3))
     by (Some th) h = (suc h.0, h.1, h.2, omega (arith, h.3))
 
-pub unit_at_thread : (p : Program) (r : Arrivals) (m : ℕ) (u : Unit) → slice_get p.units m ≡ Some u → is_task u.form ≡ true → HasUnit (system p r).threads m
+pub unit_at_thread : (p : Program) (r : Arrivals) (m : ℕ) (u : Unit) → slice_get p.units m ≡ Some u → is_task u.form ≡ true
+    → HasUnit (system p r).threads m
 unit_at_thread p r m u at task =
     let h : HasUnit (system p r).threads (0 + m) = unit_thread (durations r) 0 p.units m u at task in
     (h.0, h.1, h.2, omega (arith, h.3))
@@ -78,18 +83,23 @@ asked_task (Shared ceiling vars ops) before a fine = absurd (none-some Unknown (
 asked_task (Cyclic priority offset period vars block) before a fine = refl
 asked_task (Sporadic priority ceiling op separation jitter external vars block) before a fine = refl
 
-unit_for : (p : Program) (r : Arrivals) (o : Option Unit) (before : List Arrival) (a : Arrival) → slice_get p.units a.task ≡ o → request_fault_at o before a ≡ None → HasUnit (system p r).threads a.task
+unit_for : (p : Program) (r : Arrivals) (o : Option Unit) (before : List Arrival) (a : Arrival) → slice_get p.units a.task ≡ o
+    → request_fault_at o before a ≡ None → HasUnit (system p r).threads a.task
 unit_for p r None before a at e = absurd (none-some Unknown (sym e))
 unit_for p r (Some u) before a at e = unit_at_thread p r a.task u at (asked_task u.form before a e)
 
-pub items_units : (p : Program) (r : Arrivals) (before items : List Arrival) → requests_fault p before items ≡ None → Each (λ a. HasUnit (system p r).threads a.task) items
+pub items_units : (p : Program) (r : Arrivals) (before items : List Arrival) → requests_fault p before items ≡ None
+    → Each (λ a. HasUnit (system p r).threads a.task) items
 items_units p r before [] e = tt
 items_units p r before (a ∷ more) e =
-    let parts : (item_fault p before a ≡ None) × (requests_fault p (before ++ a ∷ []) more ≡ None) = or_else-none (item_fault p before a) (requests_fault p (before ++ a ∷ []) more) e in (
-      unit_for p r (slice_get p.units a.task) before a refl (or_else-none (fault_if (nat_lt a.time (last_time before)) Falling) (request_fault_at (slice_get p.units a.task) before a) parts.0).1,
+    let parts : (item_fault p before a ≡ None) × (requests_fault p (before ++ a ∷ []) more ≡ None)
+    = or_else-none (item_fault p before a) (requests_fault p (before ++ a ∷ []) more) e in (
+      unit_for p r (slice_get p.units a.task) before a refl (or_else-none (fault_if (nat_lt a.time (last_time before)) Falling)
+          (request_fault_at (slice_get p.units a.task) before a) parts.0).1,
       items_units p r (before ++ a ∷ []) more parts.1,
     )
 
 pub no_item_fault : (limit : ℕ) (p : Program) (r : Arrivals) → IsAccepted limit p r → requests_fault p [] r.items ≡ None
 no_item_fault limit p r e =
-    (or_else-none (works_fault p r.work) (requests_fault p [] r.items) (or_else-none (fault_if (nat_lt limit r.until) Far) (or_else (works_fault p r.work) (requests_fault p [] r.items)) e).1).1
+    (or_else-none (works_fault p r.work) (requests_fault p [] r.items)
+    (or_else-none (fault_if (nat_lt limit r.until) Far) (or_else (works_fault p r.work) (requests_fault p [] r.items)) e).1).1

@@ -14,13 +14,15 @@ is_pending None = false
 is_pending (Some first) = true
 
 -- so all are served
-pub served_all : (pending : Option Pending) (idle : Option ℕ) (ns : List Notice) → NeverOverruns (is_pending pending) ns → ServedWhile pending idle ns → AreServed (queue_of pending) idle ns
+pub served_all : (pending : Option Pending) (idle : Option ℕ) (ns : List Notice) → NeverOverruns (is_pending pending) ns → ServedWhile pending idle ns
+    → AreServed (queue_of pending) idle ns
 served_all None None [] never served = tt
 served_all None (Some since) [] never served = tt
 served_all (Some first) None [] never served = tt
 served_all (Some first) (Some since) [] never served = absurd served
 served_all None None (Asked time value ∷ more) never served = served_all (Some (record { time = time; value = value })) None more never.1 served
-served_all None (Some since) (Asked time value ∷ more) never served = served_all (Some (record { time = time; value = value })) (Some since) more never.1 served
+served_all None (Some since) (Asked time value ∷ more) never served
+    = served_all (Some (record { time = time; value = value })) (Some since) more never.1 served
 served_all (Some first) idle (Asked time value ∷ more) never served = absurd (true≢false never.0)
 served_all None (Some since) (Done time ∷ more) never served = served_all None (Some since) more never served
 served_all None None (Done time ∷ more) never served = served_all None (Some time) more never served

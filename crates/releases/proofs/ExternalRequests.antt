@@ -1,5 +1,6 @@
 -- The requests of a thread that is requested from outside are its arrivals, so they keep its separation where those do.
-use Rattle.std.specs.Prelude.{◌≡◌, ℕ, ◌+◌, ◌≤◌, ◌<◌, Bool, true, false, cond, List, [], ◌∷◌, map, filter, filter_map, nat_le, max, Some, slice_get, ⊤, refl}
+use Rattle.std.specs.Prelude.{◌≡◌, ℕ, ◌+◌, ◌≤◌, ◌<◌, Bool, true, false, cond, List, [], ◌∷◌, map, filter, filter_map, nat_le, max, Some}
+use Rattle.std.specs.Prelude.{slice_get, ⊤, refl}
 use Rattle.std.specs.List.{cons_option}
 use Rattle.std.proofs.Common.{sym, ◌∙◌, ap, subst, arith}
 use Rattle.seq_tree.specs.Lists.{Each}
@@ -39,7 +40,8 @@ NotAsking p name (event.Request time task target value) = same_name (unit_name p
 NotAsking p name _ = ⊤
 
 -- so its requests are those from outside
-asked-arrived : (p : Program) (name : Name) (es : List machine.Event) → Each (NotAsking p name) es → asked (notices name (named p es)) ≡ times_of name (filter_map arrival_by (named p es))
+asked-arrived : (p : Program) (name : Name) (es : List machine.Event) → Each (NotAsking p name) es
+    → asked (notices name (named p es)) ≡ times_of name (filter_map arrival_by (named p es))
 asked-arrived p name [] all = refl
 asked-arrived p name (event.Release time task value ∷ es) all = by (same_name (unit_name p task) name) ∙ asked-arrived p name es all.1
   where
@@ -50,7 +52,9 @@ asked-arrived p name (event.Arrive time task value ∷ es) all = by (same_name (
   where
     by : (b : Bool) → asked (notices name (named p es)) ≡ times_of name (filter_map arrival_by (named p es))
         → asked (cons_option (only_if b (Asked time value)) (notices name (named p es)))
-        ≡ map (λ a. a.time) (cond b (record { time = time; task = unit_name p task; value = value } ∷ filter (λ a. same_name a.task name) (filter_map arrival_by (named p es))) (filter (λ a. same_name a.task name) (filter_map arrival_by (named p es))))
+        ≡ map (λ a. a.time) (cond b (record { time = time; task = unit_name p task; value = value }
+        ∷ filter (λ a. same_name a.task name) (filter_map arrival_by (named p es)))
+        (filter (λ a. same_name a.task name) (filter_map arrival_by (named p es))))
     by true h = ap (λ ts. time ∷ ts) h
     by false h = h
 asked-arrived p name (event.Enter time task unit op values ∷ es) all = asked-arrived p name es all.1
@@ -71,29 +75,39 @@ late_none : (until now : ℕ) (items : List Arrival) → until < now → DontFal
 late_none until now [] h falls = refl
 late_none until now (a ∷ items) h falls = by (nat_le a.time until) refl (late_none until a.time items (omega (arith, h, falls.0)) falls.1)
   where
-    by : (b : Bool) → nat_le a.time until ≡ b → filter (λ z. nat_le z.time until) items ≡ [] → cond b (a ∷ filter (λ z. nat_le z.time until) items) (filter (λ z. nat_le z.time until) items) ≡ []
+    by : (b : Bool) → nat_le a.time until ≡ b → filter (λ z. nat_le z.time until) items ≡ []
+        → cond b (a ∷ filter (λ z. nat_le z.time until) items) (filter (λ z. nat_le z.time until) items) ≡ []
     by true e rest = absurd (late e)
       where
         late : nat_le a.time until ≡ true → ⊥
         late q = let early : a.time ≤ until = grind arith in omega (arith, early, h, falls.0)
     by false e rest = rest
 
-kept_within : (separation jitter until least now : ℕ) (name : Name) (items : List Arrival) → DontFall now items → KeepTime separation jitter least (times_of name items)
+kept_within : (separation jitter until least now : ℕ) (name : Name) (items : List Arrival) → DontFall now items
+    → KeepTime separation jitter least (times_of name items)
     → KeepTime separation jitter least (times_of name (filter (λ a. nat_le a.time until) items))
 kept_within separation jitter until least now name [] falls keeps = tt
 kept_within separation jitter until least now name (a ∷ items) falls keeps =
     by (nat_le a.time until) refl (same_name a.task name) keeps (λ l k. kept_within separation jitter until l a.time name items falls.1 k)
   where
     -- the item itself, of this name or not
-    first : (b' : Bool) → KeepTime separation jitter least (map (λ z. z.time) (cond b' (a ∷ filter (λ z. same_name z.task name) items) (filter (λ z. same_name z.task name) items)))
-        → ((l : ℕ) → KeepTime separation jitter l (times_of name items) → KeepTime separation jitter l (times_of name (filter (λ z. nat_le z.time until) items)))
-        → KeepTime separation jitter least (map (λ z. z.time) (cond b' (a ∷ filter (λ z. same_name z.task name) (filter (λ z. nat_le z.time until) items)) (filter (λ z. same_name z.task name) (filter (λ z. nat_le z.time until) items))))
+    first : (b' : Bool) → KeepTime separation jitter least
+        (map (λ z. z.time) (cond b' (a ∷ filter (λ z. same_name z.task name) items) (filter (λ z. same_name z.task name) items)))
+        → ((l : ℕ) → KeepTime separation jitter l (times_of name items)
+        → KeepTime separation jitter l (times_of name (filter (λ z. nat_le z.time until) items)))
+        → KeepTime separation jitter least
+        (map (λ z. z.time) (cond b' (a ∷ filter (λ z. same_name z.task name) (filter (λ z. nat_le z.time until) items))
+        (filter (λ z. same_name z.task name) (filter (λ z. nat_le z.time until) items))))
     first true k later = (k.0, later (max a.time least + separation) k.1)
     first false k later = later least k
 
-    by : (b : Bool) → nat_le a.time until ≡ b → (b' : Bool) → KeepTime separation jitter least (map (λ z. z.time) (cond (same_name a.task name) (a ∷ filter (λ z. same_name z.task name) items) (filter (λ z. same_name z.task name) items)))
-        → ((l : ℕ) → KeepTime separation jitter l (times_of name items) → KeepTime separation jitter l (times_of name (filter (λ z. nat_le z.time until) items)))
-        → KeepTime separation jitter least (times_of name (cond b (a ∷ filter (λ z. nat_le z.time until) items) (filter (λ z. nat_le z.time until) items)))
+    by : (b : Bool) → nat_le a.time until ≡ b → (b' : Bool)
+        → KeepTime separation jitter least
+        (map (λ z. z.time) (cond (same_name a.task name) (a ∷ filter (λ z. same_name z.task name) items) (filter (λ z. same_name z.task name) items)))
+        → ((l : ℕ) → KeepTime separation jitter l (times_of name items)
+        → KeepTime separation jitter l (times_of name (filter (λ z. nat_le z.time until) items)))
+        → KeepTime separation jitter least
+        (times_of name (cond b (a ∷ filter (λ z. nat_le z.time until) items) (filter (λ z. nat_le z.time until) items)))
     by true e b' k later = first (same_name a.task name) k later
     by false e b' k later =
         let past : until < a.time = grind arith in
@@ -106,7 +120,8 @@ abbrev MayAsk : System → ℕ → Type 0
 MayAsk y j = (th : TaskUnit) × (slice_get y.threads j ≡ Some th) × IsInside th.timing
 
 -- no request is told of a thread that is requested from outside
-none_asks : (limit : ℕ) (p : Program) (r : places.Arrivals) (trace : List machine.Event) (k : ℕ) (th : TaskUnit) → MeetsRules p → IsAccepted limit p r → Meaning p r trace → slice_get (system p r).threads k ≡ Some th → (IsInside th.timing → ⊥)
+none_asks : (limit : ℕ) (p : Program) (r : places.Arrivals) (trace : List machine.Event) (k : ℕ) (th : TaskUnit) → MeetsRules p → IsAccepted limit p r
+    → Meaning p r trace → slice_get (system p r).threads k ≡ Some th → (IsInside th.timing → ⊥)
     → Each (NotAsking p th.name) trace
 none_asks limit p r trace k th meets accepted m at outside =
     let y : System = system p r in
@@ -139,8 +154,10 @@ none_asks limit p r trace k th meets accepted m at outside =
     by (event.Horizon time) s = tt
 
 -- its requests keep the separation
-pub external_asked : (limit : ℕ) (p : Program) (r : places.Arrivals) (trace : List machine.Event) (k : ℕ) (th : TaskUnit) (op : Signature) (ceiling separation jitter : ℕ)
-    → MeetsRules p → IsAccepted limit p r → Meaning p r trace → NeverStops (named p trace) → slice_get (system p r).threads k ≡ Some th → th.timing ≡ Requested op ceiling separation jitter true
+pub external_asked : (limit : ℕ) (p : Program) (r : places.Arrivals) (trace : List machine.Event) (k : ℕ) (th : TaskUnit) (op : Signature)
+    (ceiling separation jitter : ℕ)
+    → MeetsRules p → IsAccepted limit p r → Meaning p r trace → NeverStops (named p trace) → slice_get (system p r).threads k ≡ Some th
+    → th.timing ≡ Requested op ceiling separation jitter true
     → DontFall 0 (named_arrivals p r).items → KeepTime separation jitter 0 (times_of th.name (named_arrivals p r).items)
     → KeepTime separation jitter 0 (asked (notices th.name (named p trace)))
 external_asked limit p r trace k th op ceiling separation jitter meets accepted m quiet at timing falls keeps =

@@ -12,7 +12,9 @@ use Rattle.program_calls.proofs.Lists.{each-to}
 use Rattle.program_calls.proofs.Accepted.{IsInside, elsewhere}
 
 -- no arrival is at the place of such a task
-pub all_elsewhere : (limit : ℕ) (p : Program) (r : Arrivals) (k : ℕ) (th : TaskUnit) → IsAccepted limit p r → slice_get (system p r).threads k ≡ Some th → IsInside th.timing → Each (IsElsewhere (system p r) k) r.items
+pub all_elsewhere : (limit : ℕ) (p : Program) (r : Arrivals) (k : ℕ) (th : TaskUnit) → IsAccepted limit p r
+    → slice_get (system p r).threads k ≡ Some th → IsInside th.timing → Each (IsElsewhere (system p r) k) r.items
 all_elsewhere limit p r k th accepted at inside =
-    each-to (λ a. th.unit ≡ a.task → ⊥) (IsElsewhere (system p r) k) r.items (λ a none t stands same. none (ap (λ z. z.unit) (same_Some th t (sym at ∙ stands)) ∙ same))
+    each-to (λ a. th.unit ≡ a.task → ⊥) (IsElsewhere (system p r) k) r.items
+    (λ a none t stands same. none (ap (λ z. z.unit) (same_Some th t (sym at ∙ stands)) ∙ same))
     (elsewhere limit p r accepted k th at inside)

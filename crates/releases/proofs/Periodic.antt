@@ -49,7 +49,8 @@ module _ (name : Name) (period until : ℕ) (ticks : ℕ) where
   IsAhead phase now Ready next told = next ≤ until → EndsBy name next told
 
   abbrev pub OnTime : Phase → ℕ → Task → List Event → Type 0
-  OnTime phase now t told = t.gate.value ≡ None → Responds until told r → IsAhead phase now t.readiness t.next told → AreOnTime period until t.next (releases name told)
+  OnTime phase now t told = t.gate.value ≡ None → Responds until told r → IsAhead phase now t.readiness t.next told
+      → AreOnTime period until t.next (releases name told)
 
   abbrev pub Claim : ℕ → Phase → ℕ → List Task → List Event → Type 0
   Claim k phase now ts told = (t : Task) → slice_get ts k ≡ Some t → OnTime phase now t told
@@ -60,18 +61,21 @@ module _ (name : Name) (period until : ℕ) (ticks : ℕ) where
     pub responds : (told : List Event) → Responds until (e ∷ told) r → Responds until told r
     pub ends : (told : List Event) (latest : ℕ) → EndsBy name latest (e ∷ told) → EndsBy name latest told
 
-  ahead_later : (phase : Phase) (now : ℕ) (e : Event) (rd : Readiness) (next : ℕ) (told : List Event) → IsUnheard e → IsAhead phase now rd next (e ∷ told) → IsAhead phase now rd next told
+  ahead_later : (phase : Phase) (now : ℕ) (e : Event) (rd : Readiness) (next : ℕ) (told : List Event) → IsUnheard e
+      → IsAhead phase now rd next (e ∷ told) → IsAhead phase now rd next told
   ahead_later phase now e (Asleep m) next told u h = h
   ahead_later phase now e Waiting next told u h = h
   ahead_later phase now e Ready next told u h = λ early. u.ends told next (h early)
 
-  pub unheard_back : (k : ℕ) (phase : Phase) (now : ℕ) (ts : List Task) (e : Event) (told : List Event) → IsUnheard e → Claim k phase now ts told → Claim k phase now ts (e ∷ told)
+  pub unheard_back : (k : ℕ) (phase : Phase) (now : ℕ) (ts : List Task) (e : Event) (told : List Event) → IsUnheard e → Claim k phase now ts told
+      → Claim k phase now ts (e ∷ told)
   unheard_back k phase now ts e told u c t at none responds ahead =
       let P : List Released → Type 0 = λ rs. AreOnTime period until t.next rs in
       subst P (sym (u.releases' told)) (c t at none (u.responds told responds) (ahead_later phase now e t.readiness t.next told u ahead))
 
   -- a change that keeps faces
-  pub face_back : (k i : ℕ) (f : Task → Task) (phase : Phase) (now : ℕ) (ts : List Task) (told : List Event) → ((t : Task) → SameFace t (f t)) → Claim k phase now (change i f ts) told → Claim k phase now ts told
+  pub face_back : (k i : ℕ) (f : Task → Task) (phase : Phase) (now : ℕ) (ts : List Task) (told : List Event) → ((t : Task) → SameFace t (f t))
+      → Claim k phase now (change i f ts) told → Claim k phase now ts told
   face_back k i f phase now ts told same c t at none responds ahead = places k i
       (λ e.
       let s : SameFace t (f t) = same t in
@@ -83,7 +87,8 @@ module _ (name : Name) (period until : ℕ) (ticks : ℕ) where
       (λ apart. c t (change-else i k f ts apart ∙ at) none responds ahead)
 
   -- a change of another task
-  pub other_back : (k i : ℕ) (f : Task → Task) (phase : Phase) (now : ℕ) (ts : List Task) (told : List Event) → (k ≡ i → ⊥) → Claim k phase now (change i f ts) told → Claim k phase now ts told
+  pub other_back : (k i : ℕ) (f : Task → Task) (phase : Phase) (now : ℕ) (ts : List Task) (told : List Event) → (k ≡ i → ⊥)
+      → Claim k phase now (change i f ts) told → Claim k phase now ts told
   other_back k i f phase now ts told apart c t at none responds ahead = c t (change-else i k f ts apart ∙ at) none responds ahead
 
   -- events by other tasks, and events that are neither a release nor an end
@@ -102,7 +107,8 @@ module _ (name : Name) (period until : ℕ) (ticks : ℕ) where
   }
 
   -- the end of the task
-  pub end_back : (k : ℕ) (th : TaskUnit) (offset : ℕ) (vars : Variables) (ts : List Task) (now used : ℕ) (t : Task) (told : List Event) → th.timing ≡ Periodic offset period → slice_get ts k ≡ Some t → t.thread ≡ th → now ≤ until
+  pub end_back : (k : ℕ) (th : TaskUnit) (offset : ℕ) (vars : Variables) (ts : List Task) (now used : ℕ) (t : Task) (told : List Event)
+      → th.timing ≡ Periodic offset period → slice_get ts k ≡ Some t → t.thread ≡ th → now ≤ until
       → (t.readiness ≡ Ready) → Claim k Effects now (change k (ended vars) ts) told → Claim k Effects now ts (By now name (End used) ∷ told)
   end_back k th offset vars ts now used t told timing here thread early ready c u at none responds ahead =
       let is : t ≡ u = same_Some t u (sym here ∙ at) in
@@ -115,7 +121,8 @@ module _ (name : Name) (period until : ℕ) (ticks : ℕ) where
       let V : Task → Type 0 = λ z. z.gate.value ≡ None in
       let T : Task → Type 0 = λ z. now ≤ z.next in
       let B : Readiness → Type 0 = λ rd. IsAhead Effects now rd t.next told in
-      subst N is (c (ended vars t) (change-at k (ended vars) ts t here) (subst V (sym is) none) responds (subst B (sym rests) (refl, subst T (sym is) sleeps)))
+      subst N is (c (ended vars t) (change-at k (ended vars) ts t here) (subst V (sym is) none) responds
+      (subst B (sym rests) (refl, subst T (sym is) sleeps)))
     where
       before : (b : Bool) → nat_le u.next until ≡ b → (u.next ≤ until → now ≤ u.next) → now ≤ u.next
       before true e h = h (grind arith)
@@ -126,7 +133,8 @@ module _ (name : Name) (period until : ℕ) (ticks : ℕ) where
   ends_mono m n [] h e = e
   ends_mono m n (By time task (End used) ∷ told) h e = by (same_name task name) e (ends_mono m n told h)
     where
-      by : (b : Bool) → Either b (time ≤ m) (EndsBy name m told) → (EndsBy name m told → EndsBy name n told) → Either b (time ≤ n) (EndsBy name n told)
+      by : (b : Bool) → Either b (time ≤ m) (EndsBy name m told) → (EndsBy name m told → EndsBy name n told)
+          → Either b (time ≤ n) (EndsBy name n told)
       by true z later = omega (arith, z, h)
       by false z later = later z
   ends_mono m n (By time task (Release value) ∷ told) h e = ends_mono m n told h e
@@ -139,9 +147,11 @@ module _ (name : Name) (period until : ℕ) (ticks : ℕ) where
   ends_mono m n (Horizon time ∷ told) h e = ends_mono m n told h e
 
   -- the release of the task at its time
-  pub release_back : (k : ℕ) (costs : System) (th : TaskUnit) (offset : ℕ) (ts : List Task) (now m : ℕ) (t : Task) (told : List Event) → th.timing ≡ Periodic offset period → slice_get ts k ≡ Some t → t.thread ≡ th
+  pub release_back : (k : ℕ) (costs : System) (th : TaskUnit) (offset : ℕ) (ts : List Task) (now m : ℕ) (t : Task) (told : List Event)
+      → th.timing ≡ Periodic offset period → slice_get ts k ≡ Some t → t.thread ≡ th
       → now ≤ until → ticks ≤ period → t.readiness ≡ Asleep m → m ≤ now
-      → ((released costs.costs t).readiness ≡ Ready) × ((released costs.costs t).next ≡ t.next + period) × ((released costs.costs t).gate.value ≡ None)
+      → ((released costs.costs t).readiness ≡ Ready) × ((released costs.costs t).next ≡ t.next + period)
+      × ((released costs.costs t).gate.value ≡ None)
       → Claim k Delays now (change k (released costs.costs) ts) told → Claim k Delays now ts (By now name (Release t.gate.value) ∷ told)
   release_back k costs th offset ts now m t told timing here thread early short asleep due new c u at none responds ahead =
       let is : t ≡ u = same_Some t u (sym here ∙ at) in
@@ -152,7 +162,8 @@ module _ (name : Name) (period until : ℕ) (ticks : ℕ) where
       let soon : now + ticks ≤ until → EndsBy name (now + ticks) told = subst by (same-self name) responds.0 in
       let B : Readiness → Type 0 = λ rd. IsAhead Delays now rd (released costs.costs t).next told in
       let ends : (released costs.costs t).next ≤ until → EndsBy name (released costs.costs t).next told =
-      λ h. ends_mono (now + ticks) (released costs.costs t).next told (omega (arith, new.1, nexts, sleeps.0, sleeps.1, due, short)) (soon (omega (arith, new.1, nexts, sleeps.0, sleeps.1, due, short, h))) in
+      λ h. ends_mono (now + ticks) (released costs.costs t).next told (omega (arith, new.1, nexts, sleeps.0, sleeps.1, due, short))
+      (soon (omega (arith, new.1, nexts, sleeps.0, sleeps.1, due, short, h))) in
       let rest : AreOnTime period until (released costs.costs t).next (releases name told) =
       c (released costs.costs t) (change-at k (released costs.costs) ts t here) new.2 responds.1 (subst B (sym new.0) ends) in
       let N : ℕ → Type 0 = λ n. AreOnTime period until n (releases name told) in
@@ -167,8 +178,10 @@ module _ (name : Name) (period until : ℕ) (ticks : ℕ) where
       )
 
   -- events that are neither
-  pub plain_unheard : (time : ℕ) (task : Name) (deed : names.Deed) → ((told : List Event) → releases name (By time task deed ∷ told) ≡ releases name told)
-      → ((told : List Event) → Responds until (By time task deed ∷ told) r ≡ Responds until told r) → ((told : List Event) (latest : ℕ) → EndsBy name latest (By time task deed ∷ told) ≡ EndsBy name latest told)
+  pub plain_unheard : (time : ℕ) (task : Name) (deed : names.Deed)
+      → ((told : List Event) → releases name (By time task deed ∷ told) ≡ releases name told)
+      → ((told : List Event) → Responds until (By time task deed ∷ told) r ≡ Responds until told r)
+      → ((told : List Event) (latest : ℕ) → EndsBy name latest (By time task deed ∷ told) ≡ EndsBy name latest told)
       → IsUnheard (By time task deed)
   plain_unheard time task deed a b c = record {
     releases' = a;
@@ -183,7 +196,8 @@ module _ (name : Name) (period until : ℕ) (ticks : ℕ) where
   phase_back k phase phase' now now' ts told on c t at none responds ahead = c t at none responds (on t at ahead)
 
   -- sleepers from one part to another
-  pub on_by : (phase phase' : Phase) (now now' : ℕ) (rd : Readiness) (next : ℕ) (told : List Event) → ((m : ℕ) → rd ≡ Asleep m → Sleeps phase now m → Sleeps phase' now' m) → IsAhead phase now rd next told → IsAhead phase' now' rd next told
+  pub on_by : (phase phase' : Phase) (now now' : ℕ) (rd : Readiness) (next : ℕ) (told : List Event)
+      → ((m : ℕ) → rd ≡ Asleep m → Sleeps phase now m → Sleeps phase' now' m) → IsAhead phase now rd next told → IsAhead phase' now' rd next told
   on_by phase phase' now now' (Asleep m) next told f h = (h.0, f m refl h.1)
   on_by phase phase' now now' Waiting next told f h = h
   on_by phase phase' now now' Ready next told f h = h

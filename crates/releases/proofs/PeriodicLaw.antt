@@ -12,8 +12,10 @@ use Rattle.arrivals_tree.specs.declared.arrivals.Arrival.{Arrival}
 use Rattle.arrivals_tree.specs.Arriving.{Arrivals}
 use Rattle.arrivals_tree.specs.Acceptance.{IsAccepted}
 use Rattle.trace_tree.specs.declared.event.Event as machine
-use Rattle.machine.specs.Systems.{System, TaskUnit, ReleasePattern, Periodic, Requested, CallTarget, Plain, Protected, Request, Unknown, callee, system}
-use Rattle.machine.specs.Pieces.{Piece, Idle, Store, Leaving, Calling, Working, Printing, Testing, Turning, Turned, Returning, Closing, Keeping, Opening, Requested as RequestEnd, Finishing, after_loop}
+use Rattle.machine.specs.Systems.{System, TaskUnit, ReleasePattern, Periodic, Requested, CallTarget, Plain, Protected, Request, Unknown, callee}
+use Rattle.machine.specs.Systems.{system}
+use Rattle.machine.specs.Pieces.{Piece, Idle, Store, Leaving, Calling, Working, Printing, Testing, Turning, Turned, Returning, Closing, Keeping}
+use Rattle.machine.specs.Pieces.{Opening, Requested as RequestEnd, Finishing, after_loop}
 use Rattle.machine.specs.Deeds.{Silent, Keep, deed, done, called}
 use Rattle.machine.specs.States.{State, Resource, Control, Effects, Asleep, Readiness, first_task, first_wait, first_time, opening}
 use Rattle.machine.specs.Steps.{step}
@@ -57,7 +59,8 @@ silent_keep : (j : ℕ) (v : Option ℕ) → Silent ≡ Keep j v → ⊥
 silent_keep j v e = cc
 
 -- a value is kept inside the control structure for which it is
-keep_parts : (y : System) (May : Permission) (x : Piece) (vars : Variables) (rest : List Piece) (j : ℕ) (v : Option ℕ) → (done y x vars rest).act ≡ Keep j v → AreFit May (x ∷ rest)
+keep_parts : (y : System) (May : Permission) (x : Piece) (vars : Variables) (rest : List Piece) (j : ℕ) (v : Option ℕ)
+    → (done y x vars rest).act ≡ Keep j v → AreFit May (x ∷ rest)
     → (cs : List Resource) × (closers (x ∷ rest) ≡ Control j ∷ cs)
 keep_parts y May (Keeping task value) vars rest j v e fit =
     let same : task ≡ j = keep_same task j value v e in
@@ -68,12 +71,14 @@ keep_parts y May (Keeping task value) vars rest j v e fit =
     keep_same m n a b q = cc
 keep_parts y May (Leaving condition) vars rest j v e fit = by (holds condition vars) e
   where
-    by : (b : Bool) → (if b then deed Silent (drop 1 vars) (after_loop rest) else deed Silent vars rest).act ≡ Keep j v → (cs : List Resource) × (closers (Leaving condition ∷ rest) ≡ Control j ∷ cs)
+    by : (b : Bool) → (if b then deed Silent (drop 1 vars) (after_loop rest) else deed Silent vars rest).act ≡ Keep j v
+        → (cs : List Resource) × (closers (Leaving condition ∷ rest) ≡ Control j ∷ cs)
     by true q = absurd (silent_keep j v q)
     by false q = absurd (silent_keep j v q)
 keep_parts y May (Calling unit op actuals) vars rest j v e fit = by (callee y unit op) e
   where
-    by : (c : CallTarget) → (called c actuals vars rest).act ≡ Keep j v → (cs : List Resource) × (closers (Calling unit op actuals ∷ rest) ≡ Control j ∷ cs)
+    by : (c : CallTarget) → (called c actuals vars rest).act ≡ Keep j v → (cs : List Resource)
+        × (closers (Calling unit op actuals ∷ rest) ≡ Control j ∷ cs)
     by (Plain o) q = absurd cc
     by (Protected object at g o) q = absurd cc
     by (Request task) q = absurd cc
@@ -92,8 +97,10 @@ keep_parts y May (RequestEnd task value) vars rest j v e fit = absurd cc
 keep_parts y May Finishing vars rest j v e fit = absurd cc
 
 -- nobody keeps a value in the control structure of a cyclic task
-keeps_away : (p : Program) (y : System) (w : software.Software) (names' : claims.Naming p y w) (k : ℕ) (th : TaskUnit) (stands : slice_get y.threads k ≡ Some th) (offset period ticks : ℕ) (timing : th.timing ≡ Periodic offset period) (short : ticks ≤ period)
-    → (as' : List Arrival) (r : Ranking) (s : State) → Excludes y as' r s → KeepsAway p y w names' k th stands offset period ticks timing short s.tasks
+keeps_away : (p : Program) (y : System) (w : software.Software) (names' : claims.Naming p y w) (k : ℕ) (th : TaskUnit) (stands : slice_get y.threads k
+    ≡ Some th) (offset period ticks : ℕ) (timing : th.timing ≡ Periodic offset period) (short : ticks ≤ period)
+    → (as' : List Arrival) (r : Ranking) (s : State) → Excludes y as' r s
+    → KeepsAway p y w names' k th stands offset period ticks timing short s.tasks
 keeps_away p y w names' k th stands offset period ticks timing short as' r s x i t piece rest j v at has act same =
     let F : List Piece → Type 0 = λ ps. AreFit (AllFall r i) ps in
     let fit : AreFit (AllFall r i) (piece ∷ rest) = subst F has (x.keeps.sound i t at).fits in
@@ -113,8 +120,10 @@ run_elsewhere y P (suc m) s all =
     run_elsewhere y P m (step y s).0 (subst E (sym d.1) (each-drop P d.0 s.arrivals all))
 
 -- the releases of a cyclic thread
-pub on_time : (limit : ℕ) (p : Program) (r : Arrivals) (trace : List machine.Event) (k : ℕ) (th : TaskUnit) (offset period ticks : ℕ) → MeetsRules p → IsAccepted limit p r → Meaning p r trace → NeverStops (named p trace)
-    → slice_get (system p r).threads k ≡ Some th → th.timing ≡ Periodic offset period → ticks ≤ period → Responds r.until (named p trace) (record { thread = th.name; ticks = ticks })
+pub on_time : (limit : ℕ) (p : Program) (r : Arrivals) (trace : List machine.Event) (k : ℕ) (th : TaskUnit) (offset period ticks : ℕ) → MeetsRules p
+    → IsAccepted limit p r → Meaning p r trace → NeverStops (named p trace)
+    → slice_get (system p r).threads k ≡ Some th → th.timing ≡ Periodic offset period → ticks ≤ period
+    → Responds r.until (named p trace) (record { thread = th.name; ticks = ticks })
     → AreOnTime period r.until offset (releases th.name (named p trace))
 on_time limit p r trace k th offset period ticks meets accepted m quiet at timing short responds =
     let y : System = system p r in
@@ -126,11 +135,14 @@ on_time limit p r trace k th offset period ticks meets accepted m quiet at timin
     let N : ℕ → Type 0 = λ n. AreOnTime period r.until n (releases th.name (named p (run y m.steps (start p r)).1)) in
     let waits : first_wait th.timing ≡ Asleep offset = ap first_wait timing in
     let first : first_time th.timing ≡ offset = ap first_time timing in
-    let A : Readiness → Type 0 = λ rd. periodic.IsAhead th.name period r.until ticks Effects 0 rd (first_time th.timing) (named p (run y m.steps (start p r)).1) in
+    let A : Readiness → Type 0 = λ rd. periodic.IsAhead th.name period r.until ticks Effects 0 rd (first_time th.timing)
+    (named p (run y m.steps (start p r)).1) in
     let c : AreOnTime period r.until (first_time th.timing) (releases th.name (named p (run y m.steps (start p r)).1)) =
-    periodic_from p y (program_software p) (naming p r meets) k th at offset period ticks timing short m.steps (start p r) (first_threads y.threads) (omega arith) refl
+    periodic_from p y (program_software p) (naming p r meets) k th at offset period ticks timing short m.steps (start p r) (first_threads y.threads)
+    (omega arith) refl
     (λ n. run_kept y r.items ex n)
-    (λ n. keeps_away p y (program_software p) (naming p r meets) k th at offset period ticks timing short r.items ex.ranking (run y n (start p r)).0 (run-excludes y r.items ex n (opening y r.items) (opening-excludes y r.items ex)))
+    (λ n. keeps_away p y (program_software p) (naming p r meets) k th at offset period ticks timing short r.items ex.ranking (run y n (start p r)).0
+    (run-excludes y r.items ex n (opening y r.items) (opening-excludes y r.items ex)))
     (λ n. run_elsewhere y (λ a. th.unit ≡ a.task → ⊥) n (start p r) (elsewhere limit p r accepted k th at (subst IsInside (sym timing) tt)))
     m.stops silent (first_task th) there refl (subst E (sym m.tells) responds) (subst A (sym waits) (sym first, omega arith)) in
     subst F m.tells (subst N first c)
@@ -138,7 +150,8 @@ on_time limit p r trace k th offset period ticks meets accepted m quiet at timin
 -- all cyclic tasks
 pub are_periodic : (limit : ℕ) → CyclicTasksAreOnTime limit
 are_periodic limit p r trace meets accepted m quiet =
-    each_task p r (λ t. EndsWithinPeriod r.until (named p trace) t.name t.timing → IsPeriodic r.until (named p trace) t.name t.timing) (λ k th at. by k th at th.timing refl)
+    each_task p r (λ t. EndsWithinPeriod r.until (named p trace) t.name t.timing → IsPeriodic r.until (named p trace) t.name t.timing) (λ k th at.
+    by k th at th.timing refl)
   where
     by : (k : ℕ) (th : TaskUnit) → slice_get (system p r).threads k ≡ Some th → (timing : ReleasePattern) → th.timing ≡ timing
         → EndsWithinPeriod r.until (named p trace) th.name (timing_at timing) → IsPeriodic r.until (named p trace) th.name (timing_at timing)

@@ -3,12 +3,14 @@ use Rattle.std.specs.Prelude.{◌≡◌, ℕ, suc, Bool, true, false, ◌==◌, 
 use Rattle.std.proofs.Common.{sym, ◌∙◌, ap, subst}
 use Rattle.seq_tree.specs.Names.{Name}
 use Rattle.seq_tree.specs.Expressions.{Expression}
-use Rattle.seq_tree.specs.Statements.{Statement, Statements, Branches, Null, Assign, If, For, ExitWhen, Call, Work, Put, End, Then, Nothing, Else, When}
+use Rattle.seq_tree.specs.Statements.{Statement, Statements, Branches, Null, Assign, If, For, ExitWhen, Call, Work, Put, End, Then, Nothing}
+use Rattle.seq_tree.specs.Statements.{Else, When}
 use Rattle.seq_tree.specs.Variables.{Variables}
 use Rattle.seq_tree.specs.Values.{holds}
 use Rattle.seq_tree.specs.Runs.{request_value}
 use Rattle.machine.specs.Systems.{System, CallTarget, Plain, Protected, Request, Unknown, callee}
-use Rattle.machine.specs.Pieces.{Piece, Idle, Store, Leaving, Calling, Working, Printing, Testing, Turning, Turned, Returning, Closing, Keeping, Opening, Requested, Finishing, pieces_of, pieces, branch_pieces, after_loop}
+use Rattle.machine.specs.Pieces.{Piece, Idle, Store, Leaving, Calling, Working, Printing, Testing, Turning, Turned, Returning, Closing, Keeping}
+use Rattle.machine.specs.Pieces.{Opening, Requested, Finishing, pieces_of, pieces, branch_pieces, after_loop}
 use Rattle.machine.specs.Deeds.{Act, Silent, Ask, Keep, Open, Ended, deed, done, called}
 use Rattle.machine.specs.States.{Gate}
 use Rattle.std.proofs.lemmas.Bool.{true≢false, eqb-true, eqb-false, eq-eqb}
@@ -149,10 +151,12 @@ is_plain _ = true
 
 -- a piece, its deed and the pieces after it, as parts of a request or not
 pub data Part : Piece → List Piece → Act → List Piece → Type 0 where
-  Plainly : {x : Piece} {rest ps : List Piece} {a : Act} → is_plain a ≡ true → ((j : ℕ) → keeps j (x ∷ rest) ≡ false) → is_free ps ≡ true → Part x rest a ps
+  Plainly : {x : Piece} {rest ps : List Piece} {a : Act} → is_plain a ≡ true → ((j : ℕ) → keeps j (x ∷ rest) ≡ false) → is_free ps ≡ true
+      → Part x rest a ps
   Asking : {x : Piece} {rest ps : List Piece} (k : ℕ) (v : Option ℕ) → ((j : ℕ) → keeps j (x ∷ rest) ≡ false) → is_free ps ≡ true
       → Part x rest (Ask k) (Keeping k v ∷ Opening k ∷ Requested k v ∷ ps)
-  Kept : (k : ℕ) (v : Option ℕ) (ps : List Piece) → is_free ps ≡ true → Part (Keeping k v) (Opening k ∷ Requested k v ∷ ps) (Keep k v) (Opening k ∷ Requested k v ∷ ps)
+  Kept : (k : ℕ) (v : Option ℕ) (ps : List Piece) → is_free ps ≡ true
+      → Part (Keeping k v) (Opening k ∷ Requested k v ∷ ps) (Keep k v) (Opening k ∷ Requested k v ∷ ps)
   Opens : (k : ℕ) (v : Option ℕ) (ps : List Piece) → is_free ps ≡ true → Part (Opening k) (Requested k v ∷ ps) (Open k) (Requested k v ∷ ps)
   Ends : (k : ℕ) (v : Option ℕ) (ps : List Piece) → is_free ps ≡ true → Part (Requested k v) ps (Ended k v) ps
 
@@ -178,7 +182,8 @@ part_open k (Requested other v ∷ ps) h = subst (λ a. Part (Opening k) (Reques
 part_open k (_ ∷ ps) h = absurd h
 
 part_leaving : (b : Bool) (condition : Expression) (vars : Variables) (rest : List Piece) → is_free rest ≡ true
-    → Part (Leaving condition) rest ((if b then deed Silent (drop 1 vars) (after_loop rest) else deed Silent vars rest).act) ((if b then deed Silent (drop 1 vars) (after_loop rest) else deed Silent vars rest).pieces)
+    → Part (Leaving condition) rest ((if b then deed Silent (drop 1 vars) (after_loop rest) else deed Silent vars rest).act)
+    ((if b then deed Silent (drop 1 vars) (after_loop rest) else deed Silent vars rest).pieces)
 part_leaving true condition vars rest free = Plainly refl (λ j. refl) (free_after rest free)
 part_leaving false condition vars rest free = Plainly refl (λ j. refl) free
 
@@ -186,14 +191,16 @@ free_if : (b : Bool) (ps qs : List Piece) → is_free ps ≡ true → is_free qs
 free_if true ps qs e f = e
 free_if false ps qs e f = f
 
-pub part : (y : System) (x : Piece) (vars : Variables) (rest : List Piece) → HeadOf x rest → Part x rest ((done y x vars rest).act) ((done y x vars rest).pieces)
+pub part : (y : System) (x : Piece) (vars : Variables) (rest : List Piece) → HeadOf x rest
+    → Part x rest ((done y x vars rest).act) ((done y x vars rest).pieces)
 part y Idle vars rest h = Plainly refl (λ j. refl) h
 part y (Store target e) vars rest h = Plainly refl (λ j. refl) h
 part y (Leaving condition) vars rest h = part_leaving (holds condition vars) condition vars rest h
 part y (Calling unit op actuals) vars rest h = part_call (callee y unit op) unit op actuals vars rest h
 part y (Working ticks) vars rest h = Plainly refl (λ j. refl) h
 part y (Printing e) vars rest h = Plainly refl (λ j. refl) h
-part y (Testing condition block others) vars rest h = Plainly refl (λ j. refl) (free_if (holds condition vars) _ _ (free_block block rest ∙ h) (free_branches others rest ∙ h))
+part y (Testing condition block others) vars rest h
+    = Plainly refl (λ j. refl) (free_if (holds condition vars) _ _ (free_block block rest ∙ h) (free_branches others rest ∙ h))
 part y (Turning name at last body) vars rest h = Plainly refl (λ j. refl) (free_block body _ ∙ h)
 part y (Turned name at last body) vars rest h = Plainly refl (λ j. refl) (free_if (nat_le (suc at) last) _ _ h h)
 part y (Returning outs stores caller) vars rest h = Plainly refl (λ j. refl) h

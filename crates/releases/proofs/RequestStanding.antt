@@ -47,9 +47,11 @@ idles_later Ready now later idle le h = h
 
 -- tasks of which all stay who have kept a value
 abbrev pub Stay : ℕ → List Task → List Task → Type 0
-Stay j ts ts' = (i : ℕ) (u : Task) → slice_get ts i ≡ Some u → keeps j u.pieces ≡ true → (u' : Task) × (slice_get ts' i ≡ Some u') × (u'.pieces ≡ u.pieces)
+Stay j ts ts' = (i : ℕ) (u : Task) → slice_get ts i ≡ Some u → keeps j u.pieces ≡ true → (u' : Task) × (slice_get ts' i ≡ Some u')
+    × (u'.pieces ≡ u.pieces)
 
-queue_on : (j now later : ℕ) (ts ts' : List Task) (r : Readiness) (g : Gate) (q : List Pending) → now ≤ later → Stay j ts ts' → Queue j now ts r g q → Queue j later ts' r g q
+queue_on : (j now later : ℕ) (ts ts' : List Task) (r : Readiness) (g : Gate) (q : List Pending) → now ≤ later → Stay j ts ts' → Queue j now ts r g q
+    → Queue j later ts' r g q
 queue_on j now later ts ts' r g [] le stay h = λ e.
     let s : Someone (opened j) ts = h e in
     let u = stay s.0 s.1 s.2 (opened_keeps j s.1.pieces s.3) in
@@ -62,9 +64,11 @@ queue_on j now later ts ts' r g (p ∷ []) le stay h = (h.0, h.1, omega (arith, 
 queue_on j now later ts ts' r g (p ∷ p' ∷ q) le stay h = h
 
 -- the task itself stays as it is to requests
-pub transfer : (th : TaskUnit) (j now later : ℕ) (ts ts' : List Task) (q : List Pending) (idle : Option ℕ) (h : Stands th j now ts q idle) → now ≤ later
+pub transfer : (th : TaskUnit) (j now later : ℕ) (ts ts' : List Task) (q : List Pending) (idle : Option ℕ) (h : Stands th j now ts q idle)
+    → now ≤ later
     → (t' : Task) → slice_get ts' j ≡ Some t' → t'.thread ≡ h.t.thread → t'.gate ≡ h.t.gate → t'.readiness ≡ h.t.readiness
-    → ((i : ℕ) (u : Task) → slice_get ts' i ≡ Some u → Heads u.pieces) → ((i : ℕ) (u : Task) → slice_get ts' i ≡ Some u → KeptBy j h.t.gate u.pieces) → Stay j ts ts'
+    → ((i : ℕ) (u : Task) → slice_get ts' i ≡ Some u → Heads u.pieces) → ((i : ℕ) (u : Task) → slice_get ts' i ≡ Some u → KeptBy j h.t.gate u.pieces)
+    → Stay j ts ts'
     → Stands th j later ts' q idle
 transfer th j now later ts ts' q idle h le t' at' thread gate readiness heads' kept' stay = record {
   t = t';
@@ -73,18 +77,21 @@ transfer th j now later ts ts' q idle h le t' at' thread gate readiness heads' k
   idles = subst (λ r. Idles r later idle) (sym readiness) (idles_later h.t.readiness now later idle le h.idles);
   heads = heads';
   kept = λ i u at. subst (λ g. KeptBy j g u.pieces) (sym gate) (kept' i u at);
-  queue = subst (λ r. Queue j later ts' r t'.gate q) (sym readiness) (subst (λ g. Queue j later ts' h.t.readiness g q) (sym gate) (queue_on j now later ts ts' h.t.readiness h.t.gate q le stay h.queue));
+  queue = subst (λ r. Queue j later ts' r t'.gate q) (sym readiness) (subst (λ g. Queue j later ts' h.t.readiness g q) (sym gate)
+      (queue_on j now later ts ts' h.t.readiness h.t.gate q le stay h.queue));
 }
 
 -- later, with the same tasks
-pub later_on : (th : TaskUnit) (j now later : ℕ) (ts : List Task) (q : List Pending) (idle : Option ℕ) → Stands th j now ts q idle → now ≤ later → Stands th j later ts q idle
+pub later_on : (th : TaskUnit) (j now later : ℕ) (ts : List Task) (q : List Pending) (idle : Option ℕ) → Stands th j now ts q idle → now ≤ later
+    → Stands th j later ts q idle
 later_on th j now later ts q idle h le = transfer th j now later ts ts q idle h le h.t h.at refl refl refl h.heads h.kept (λ i u at e. (u, at, refl))
 
 -- a change of one task that has kept no value before and after it, or keeps its pieces; if it is the task itself, it stays as it is to requests
 abbrev pub IsStill : ℕ → (Task → Task) → Task → Type 0
 IsStill j f u = ((keeps j u.pieces ≡ false) × Heads (f u).pieces × (keeps j (f u).pieces ≡ false)) ⊎ ((f u).pieces ≡ u.pieces)
 
-pub moved : (th : TaskUnit) (j now : ℕ) (ts : List Task) (q : List Pending) (idle : Option ℕ) (i : ℕ) (f : Task → Task) (h : Stands th j now ts q idle)
+pub moved : (th : TaskUnit) (j now : ℕ) (ts : List Task) (q : List Pending) (idle : Option ℕ) (i : ℕ) (f : Task
+    → Task) (h : Stands th j now ts q idle)
     → ((u : Task) → slice_get ts i ≡ Some u → IsStill j f u)
     → (i ≡ j → IsAsBefore h.t (f h.t)) → Stands th j now (change i f ts) q idle
 moved th j now ts q idle i f h still own = places j i here elsewhere
@@ -93,14 +100,16 @@ moved th j now ts q idle i f h still own = places j i here elsewhere
     ts' = change i f ts
 
     heads' : (k : ℕ) (u : Task) → slice_get ts' k ≡ Some u → Heads u.pieces
-    heads' k u at = changed i k f ts u at (λ x e there same. subst (λ z. Heads z.pieces) (sym same) (of_still x there (still x there))) (λ apart there. h.heads k u there)
+    heads' k u at = changed i k f ts u at (λ x e there same. subst (λ z. Heads z.pieces) (sym same) (of_still x there (still x there)))
+        (λ apart there. h.heads k u there)
       where
         of_still : (x : Task) → slice_get ts i ≡ Some x → IsStill j f x → Heads (f x).pieces
         of_still x there (inl s) = s.1
         of_still x there (inr same) = subst Heads (sym same) (h.heads i x there)
 
     kept' : (k : ℕ) (u : Task) → slice_get ts' k ≡ Some u → KeptBy j h.t.gate u.pieces
-    kept' k u at = changed i k f ts u at (λ x e there same. subst (λ z. KeptBy j h.t.gate z.pieces) (sym same) (of_still x there (still x there))) (λ apart there. h.kept k u there)
+    kept' k u at = changed i k f ts u at (λ x e there same. subst (λ z. KeptBy j h.t.gate z.pieces) (sym same) (of_still x there (still x there)))
+        (λ apart there. h.kept k u there)
       where
         of_still : (x : Task) → slice_get ts i ≡ Some x → IsStill j f x → KeptBy j h.t.gate (f x).pieces
         of_still x there (inl s) = not_kept j h.t.gate (f x).pieces s.2
@@ -119,7 +128,8 @@ moved th j now ts q idle i f h still own = places j i here elsewhere
     here : j ≡ i → Stands th j now ts' q idle
     here e =
         let o = own (sym e) in
-        transfer th j now now ts ts' q idle h (omega arith) (f h.t) (ap (slice_get (change i f ts)) e ∙ change-at i f ts h.t (ap (slice_get ts) (sym e) ∙ h.at)) o.0 o.1 o.2 heads' kept' stay
+        transfer th j now now ts ts' q idle h (omega arith) (f h.t)
+        (ap (slice_get (change i f ts)) e ∙ change-at i f ts h.t (ap (slice_get ts) (sym e) ∙ h.at)) o.0 o.1 o.2 heads' kept' stay
 
     elsewhere : (j ≡ i → ⊥) → Stands th j now ts' q idle
     elsewhere apart = transfer th j now now ts ts' q idle h (omega arith) h.t (change-else i j f ts apart ∙ h.at) refl refl refl heads' kept' stay

@@ -1,6 +1,8 @@
--- Every run of a program that meets the rules, under arrivals that are accepted, serves the requests of each sporadic task in order and each once, up to
+-- Every run of a program that meets the rules, under arrivals that are accepted, serves the requests of each sporadic task in order and
+-- each once, up to
 -- the first that comes while another is not yet served.
-use Rattle.std.specs.Prelude.{◌≡◌, ◌⊎◌, ℕ, zero, suc, ◌≤◌, ◌<◌, Bool, true, false, ◌||◌, ◌==◌, List, [], ◌∷◌, drop, slice_get, option_map, unwrap_or, Some, None, refl}
+use Rattle.std.specs.Prelude.{◌≡◌, ◌⊎◌, ℕ, zero, suc, ◌≤◌, ◌<◌, Bool, true, false, ◌||◌, ◌==◌, List, [], ◌∷◌, drop, slice_get, option_map}
+use Rattle.std.specs.Prelude.{unwrap_or, Some, None, refl}
 use Rattle.std.proofs.Common.{sym, ◌∙◌, ap, subst, arith, inl, inr}
 use Rattle.std.proofs.lemmas.Slice.Eq.{bytes_eq-Decides}
 use Rattle.seq_tree.specs.Lists.{Each}
@@ -53,7 +55,8 @@ pub asks_ends : (j : ℕ) (ps : List Piece) → asks j ps ≡ true → IsAmong (
 asks_ends j [] e = absurd (true≢false (sym e))
 asks_ends j (parts.Requested k v ∷ ps) e = by (k == j) refl e (asks_ends j ps)
   where
-    by : (b : Bool) → (k == j) ≡ b → (b || asks j ps) ≡ true → (asks j ps ≡ true → IsAmong (Control j) (closers ps)) → (Control k ≡ Control j) ⊎ IsAmong (Control j) (closers ps)
+    by : (b : Bool) → (k == j) ≡ b → (b || asks j ps) ≡ true → (asks j ps ≡ true → IsAmong (Control j) (closers ps))
+        → (Control k ≡ Control j) ⊎ IsAmong (Control j) (closers ps)
     by true same h more = inl (ap Control (eqb-true k j same))
     by false same h more = inr (more h)
 asks_ends j (Closing object op vars outs stores caller ∷ ps) e = inr (asks_ends j ps e)
@@ -69,7 +72,8 @@ each_left P n [] a others all e = absurd (empty n e)
 each_left P zero (x ∷ as') a others all e = let same : a ≡ x = cc in subst P (sym same) all.0
 each_left P (suc n) (x ∷ as') a others all e = each_left P n as' a others all.1 e
 
-module _ (limit : ℕ) (p : Program) (r : Arrivals) (meets : MeetsRules p) (accepted : IsAccepted limit p r) (j : ℕ) (th : TaskUnit) (at : slice_get (system p r).threads j ≡ Some th)
+module _ (limit : ℕ) (p : Program) (r : Arrivals) (meets : MeetsRules p) (accepted : IsAccepted limit p r) (j : ℕ) (th : TaskUnit)
+    (at : slice_get (system p r).threads j ≡ Some th)
     (sig : Signature) (ceiling separation jitter : ℕ) (external : Bool) (timing : th.timing ≡ Requested sig ceiling separation jitter external) where
   abbrev y : System
   y = system p r
@@ -91,9 +95,11 @@ module _ (limit : ℕ) (p : Program) (r : Arrivals) (meets : MeetsRules p) (acce
   may_serve : (n : ℕ) → MayServe p y j th is_named sig ceiling separation jitter external timing (run y n (opening y r.items)).0
   may_serve n = record {
     good = record { written = λ k u stands. (x.keeps.sound k u stands).written; rests = (run_kept y r.items ex n).idles };
-    asking = λ i u stands asking k w there other. x.keeps.alone k i w u (Control j) there stands (among k w j there other) (among i u j stands asking);
+    asking = λ i u stands asking k w there other. x.keeps.alone k i w u (Control j) there stands (among k w j there other) (among i u j
+        stands asking);
     finishing = λ t stands phase ran k w there other. places k j (λ e. e) (λ apart. absurd (excluded t stands phase ran k w there other apart));
-    valid = λ i u k stands asking. let z = among-there y r.items (Control k) (sections u) (x.held i u stands) (among i u k stands asking) in (z.0, z.1);
+    valid = λ i u k stands asking. let z = among-there y r.items (Control k) (sections u) (x.held i u stands) (among i u k stands asking)
+        in (z.0, z.1);
     arriving = λ a others left for_task i u stands asking.
         let z = among-there y r.items (Control j) (sections u) (x.held i u stands) (among i u j stands asking) in
         each_left (IsElsewhere y j) x.past r.items a others z.3 (sym left ∙ x.left) th at (sym for_task);
@@ -114,13 +120,15 @@ module _ (limit : ℕ) (p : Program) (r : Arrivals) (meets : MeetsRules p) (acce
       covered : th.priority ≤ ceiling
       covered = subst (IsCovered th.priority) timing (ex.covered j th at)
 
-      excluded : (t : Task) → slice_get s.tasks j ≡ Some t → s.phase ≡ Effects → s.ran ≡ Some j → (k : ℕ) (w : Task) → slice_get s.tasks k ≡ Some w → asks j w.pieces ≡ true → (k ≡ j → ⊥) → ⊥
+      excluded : (t : Task) → slice_get s.tasks j ≡ Some t → s.phase ≡ Effects → s.ran ≡ Some j → (k : ℕ) (w : Task) → slice_get s.tasks k ≡ Some w
+          → asks j w.pieces ≡ true → (k ≡ j → ⊥) → ⊥
       excluded t stands phase ran k w there other apart =
           let inside' : IsAmong (Control j) (sections w) = among k w j there other in
           let some = among-inside (Control j) w.inside inside' in
           let runs : runner s.phase s.ran ≡ Some j = ap (λ f. runner f s.ran) phase ∙ ran in
           let below : w.active < t.thread.priority = x.keeps.runs j k t w some.0 some.1 runs stands there (λ e. apart (sym e)) some.2 in
-          let above : ceiling_of y (Control j) ≤ w.active = stacked-ceiling y w.thread.priority w.active w.inside (Control j) (x.keeps.sound k w there).stacked inside' in
+          let above : ceiling_of y (Control j) ≤ w.active
+          = stacked-ceiling y w.thread.priority w.active w.inside (Control j) (x.keeps.sound k w there).stacked inside' in
           let own : t.thread ≡ th = same_Some t.thread th (sym (x.keeps.sound j t stands).written ∙ at) in
           let priority : t.thread.priority ≡ th.priority = ap (λ z. z.priority) own in
           omega (arith, below, above, ceiling_is, covered, priority)
@@ -134,18 +142,23 @@ module _ (limit : ℕ) (p : Program) (r : Arrivals) (meets : MeetsRules p) (acce
 
 -- the requests of every sporadic task
 pub all_served : (limit : ℕ) → RequestsAreServed limit
-all_served limit p r trace meets accepted m = each_task p r (λ t. IsServedWhile (named p trace) t.name t.timing) (λ k th at. by k th at th.timing refl)
+all_served limit p r trace meets accepted m = each_task p r (λ t. IsServedWhile (named p trace) t.name t.timing) (λ k th at.
+    by k th at th.timing refl)
   where
-    by : (k : ℕ) (th : TaskUnit) → slice_get (system p r).threads k ≡ Some th → (timing : ReleasePattern) → th.timing ≡ timing → IsServedWhile (named p trace) th.name (timing_at timing)
+    by : (k : ℕ) (th : TaskUnit) → slice_get (system p r).threads k ≡ Some th → (timing : ReleasePattern) → th.timing ≡ timing
+        → IsServedWhile (named p trace) th.name (timing_at timing)
     by k th at (Periodic offset period) e = tt
-    by k th at (Requested sig ceiling separation jitter external) e = served_while limit p r meets accepted k th at sig ceiling separation jitter external e trace m
+    by k th at (Requested sig ceiling separation jitter external) e
+        = served_while limit p r meets accepted k th at sig ceiling separation jitter external e trace m
 
 -- so all are served where none overruns another
 pub all_requests_served : (limit : ℕ) → AllRequestsAreServed limit
 all_requests_served limit p r trace meets accepted m =
-    each-to (λ t. IsServedWhile (named p trace) t.name t.timing) (λ t. HasNoOverrun (named p trace) t.name t.timing → IsRequested (named p trace) t.name t.timing) (program_software p).tasks
+    each-to (λ t. IsServedWhile (named p trace) t.name t.timing) (λ t. HasNoOverrun (named p trace) t.name t.timing
+    → IsRequested (named p trace) t.name t.timing) (program_software p).tasks
     (λ t served none. by t.name t.timing served none) (all_served limit p r trace meets accepted m)
   where
-    by : (name : Name) (timing : flats.Timing) → IsServedWhile (named p trace) name timing → HasNoOverrun (named p trace) name timing → IsRequested (named p trace) name timing
+    by : (name : Name) (timing : flats.Timing) → IsServedWhile (named p trace) name timing → HasNoOverrun (named p trace) name timing
+        → IsRequested (named p trace) name timing
     by name (flats.Cyclic period offset) served none = tt
     by name (flats.Sporadic op separation jitter) served none = served_all None (Some 0) (notices name (named p trace)) none served

@@ -27,7 +27,8 @@ quiet_makes_none j (Ended k v) e = absurd (true≢false (sym e))
 quiet_makes_none j _ e = refl
 
 -- a piece makes what it counts by itself at most
-made_own : (y : System) (through : Name → Name → ℕ) (j : ℕ) (vars : Variables) (x : Piece) (a : Act) → Source y vars x a → made j a ≤ own (requests_of through j) x
+made_own : (y : System) (through : Name → Name → ℕ) (j : ℕ) (vars : Variables) (x : Piece) (a : Act) → Source y vars x a
+    → made j a ≤ own (requests_of through j) x
 made_own y through j vars x a (From_quiet quiet) = omega (arith, quiet_makes_none j a quiet)
 made_own y through j vars x a (From_put d) = omega arith
 made_own y through j vars x a (From_entry unit name actuals o m g q leads) = omega arith
@@ -36,7 +37,8 @@ made_own y through j vars x a (From_ended task w) = omega arith
 made_own y through j vars x a From_finish = omega arith
 
 -- a deed
-pub count-done : (y : System) (through : Name → Name → ℕ) (j : ℕ) → CoversCalls y (requests_of through j) → (x : Piece) (vars : Variables) (ps : List Piece)
+pub count-done : (y : System) (through : Name → Name → ℕ) (j : ℕ) → CoversCalls y (requests_of through j)
+    → (x : Piece) (vars : Variables) (ps : List Piece)
     → rest (requests_of through j) ((done y x vars ps).pieces) + made j ((done y x vars ps).act) ≤ rest (requests_of through j) (x ∷ ps)
 count-done y through j covers x vars ps =
     omega (arith, rest-done y (requests_of through j) covers x vars ps, made_own y through j vars x ((done y x vars ps).act) (source y x vars ps))

@@ -1,6 +1,8 @@
--- In every run of a program that meets the rules, a sporadic task that one task alone requests, once on each way at most, is requested by it at most once
+-- In every run of a program that meets the rules, a sporadic task that one task alone requests, once on each way at most, is requested by
+-- it at most once
 -- from each of its releases to the end of that activation.
-use Rattle.std.specs.Prelude.{◌≡◌, ℕ, ◌≤◌, Bool, true, false, ◌&&◌, ◌==◌, List, [], length, slice_get, option_map, unwrap_or, Some, if◌then◌else◌, refl, None, ◌+◌}
+use Rattle.std.specs.Prelude.{◌≡◌, ℕ, ◌≤◌, Bool, true, false, ◌&&◌, ◌==◌, List, [], length, slice_get, option_map, unwrap_or, Some}
+use Rattle.std.specs.Prelude.{if◌then◌else◌, refl, None, ◌+◌}
 use Rattle.std.proofs.Common.{sym, ◌∙◌, ap, subst, arith}
 use Rattle.seq_tree.specs.Lists.{Each}
 use Rattle.seq_tree.specs.Names.{Name, same_name}
@@ -51,7 +53,8 @@ use Rattle.program_calls.proofs.Weights.{counting}
 use Rattle.program_calls.proofs.Threads.{threads_apart}
 use Rattle.written_runs.proofs.Namings.{naming}
 
-module _ (limit : ℕ) (p : Program) (r : Arrivals) (meets : MeetsRules p) (accepted : IsAccepted limit p r) (j : ℕ) (th : TaskUnit) (at : slice_get (system p r).threads j ≡ Some th)
+module _ (limit : ℕ) (p : Program) (r : Arrivals) (meets : MeetsRules p) (accepted : IsAccepted limit p r) (j : ℕ) (th : TaskUnit)
+    (at : slice_get (system p r).threads j ≡ Some th)
     (sig : Signature) (ceiling separation jitter : ℕ) (external : Bool) (timing : th.timing ≡ Requested sig ceiling separation jitter external)
     (first : ℕ) (sth : TaskUnit) (at_first : slice_get (system p r).threads first ≡ Some sth) where
   abbrev y : System
@@ -81,15 +84,18 @@ module _ (limit : ℕ) (p : Program) (r : Arrivals) (meets : MeetsRules p) (acce
     where
       asks : callee y unit op ≡ Request j → count_of unit op ≡ 1
       asks e =
-          let names : record { object = unit_name p (task_unit y j); op = asked_op y j } ≡ record { object = unit; op = op } = (apt p r meets).requests unit op j e in
+          let names : record { object = unit_name p (task_unit y j); op = asked_op y j } ≡ record { object = unit; op = op }
+          = (apt p r meets).requests unit op j e in
           let unit_is : task_unit y j ≡ th.unit = unit-at y j th at in
           let object : th.name ≡ unit = sym (names'.thread_name j th at) ∙ ap (unit_name p) (sym unit_is) ∙ ap (λ n. n.object) names in
           let asked : asked_op y j ≡ sig.name = ap (λ o. unwrap_or (option_map (λ (t : TaskUnit). asked_by t.timing) o) []) at ∙ ap asked_by timing in
           let op_is : sig.name ≡ op = sym asked ∙ ap (λ n. n.op) names in
-          let call : is_call_of target unit op ≡ true = ap (λ b. b && same_name sig.name op) (is-same th.name unit object) ∙ is-same sig.name op op_is in
+          let call : is_call_of target unit op ≡ true
+          = ap (λ b. b && same_name sig.name op) (is-same th.name unit object) ∙ is-same sig.name op op_is in
           ap (λ b. let m : ℕ = if b then 1 else starts_within (length (program_services p)) (program_services p) target unit op in m) call
 
-      by : (k : CallTarget) → callee y unit op ≡ k → CoversBody p target (record { object = unit; op = op }) k → Covers (requests_of count_of j) k (count_of unit op)
+      by : (k : CallTarget) → callee y unit op ≡ k → CoversBody p target (record { object = unit; op = op }) k
+          → Covers (requests_of count_of j) k (count_of unit op)
       by (Plain o) e h = h
       by (Protected object k g o) e h = h
       by (Request task) e h = own (task == j) refl
@@ -99,7 +105,8 @@ module _ (limit : ℕ) (p : Program) (r : Arrivals) (meets : MeetsRules p) (acce
           own false same = omega arith
       by Unknown e h = tt
 
-  module _ (once : block_starts (program_services p) target sth.block ≤ 1) (alone : (k : ℕ) (z : TaskUnit) → slice_get y.threads k ≡ Some z → (k ≡ first → ⊥) → can_request (program_services p) th.name z.block ≡ false)
+  module _ (once : block_starts (program_services p) target sth.block ≤ 1) (alone : (k : ℕ) (z : TaskUnit) → slice_get y.threads k ≡ Some z
+      → (k ≡ first → ⊥) → can_request (program_services p) th.name z.block ≡ false)
       (elsewhere : Each (IsElsewhere y j) r.items) where
     blocks : (k : ℕ) (z : TaskUnit) → slice_get y.threads k ≡ Some z → dearest (counting count_of) z.block ≤ (if k == first then 1 else 0)
     blocks k z stands = by (k == first) refl
@@ -117,11 +124,13 @@ module _ (limit : ℕ) (p : Program) (r : Arrivals) (meets : MeetsRules p) (acce
     ex : MayExclude y r.items
     ex = may-exclude p meets limit r accepted
 
-    may_ask : (s : State) → Excludes y r.items ex.ranking s → MayAsk p y count_of j th (named_by j th at) first sth (named_by first sth at_first) covers blocks s
+    may_ask : (s : State) → Excludes y r.items ex.ranking s
+        → MayAsk p y count_of j th (named_by j th at) first sth (named_by first sth at_first) covers blocks s
     may_ask s x = record {
       written = λ k u stands. (x.keeps.sound k u stands).written;
       valid = λ i u k stands asking.
-          let among : IsAmong (Control k) (sections u) = subst (IsAmong (Control k)) (x.keeps.sound i u stands).closes (asks_ends k u.pieces asking) in
+          let among : IsAmong (Control k) (sections u)
+          = subst (IsAmong (Control k)) (x.keeps.sound i u stands).closes (asks_ends k u.pieces asking) in
           let z = among-there y r.items (Control k) (sections u) (x.held i u stands) among in
           (z.0, z.1);
       arriving = λ a others left for_task. each_left (IsElsewhere y j) x.past r.items a others elsewhere (sym left ∙ x.left) th at (sym for_task);
@@ -144,13 +153,16 @@ starters_ask_once limit p r trace t s op separation meets accepted m is_t is_s t
   where
     Holds : Task → Task → Type 0
     Holds a b =
-        a.timing ≡ Sporadic op separation None → Each (λ u. can_request (program_services p) a.name u.block ≡ true → same_name u.name b.name ≡ true) (program_software p).tasks
+        a.timing ≡ Sporadic op separation None → Each (λ u. can_request (program_services p) a.name u.block ≡ true
+        → same_name u.name b.name ≡ true) (program_software p).tasks
         → block_starts (program_services p) (record { object = a.name; op = op.name }) b.block ≤ 1 → AsksOnce b.name a.name false (named p trace)
 
-    of_threads : (j : ℕ) (th : TaskUnit) → slice_get (system p r).threads j ≡ Some th → (first : ℕ) (sth : TaskUnit) → slice_get (system p r).threads first ≡ Some sth → Holds (task_at th) (task_at sth)
+    of_threads : (j : ℕ) (th : TaskUnit) → slice_get (system p r).threads j ≡ Some th → (first : ℕ) (sth : TaskUnit)
+        → slice_get (system p r).threads first ≡ Some sth → Holds (task_at th) (task_at sth)
     of_threads j th at first sth at_first timing' alone' once' =
         let i : IsInternal th.timing op separation = internal th.timing op separation timing' in
         asks_once limit p r meets accepted j th at op i.ceiling separation i.jitter false i.is first sth at_first once'
         (λ k z stands apart. false_from_ne_true _ (λ calls.
-        apart (threads_apart p r meets k first z sth stands at_first (all-at _ (program_software p).tasks k (task_at z) alone' (task_of p r k z stands) calls))))
+        apart (threads_apart p r meets k first z sth stands at_first
+        (all-at _ (program_software p).tasks k (task_at z) alone' (task_of p r k z stands) calls))))
         (all_elsewhere limit p r j th accepted at (subst IsInside (sym i.is) refl)) trace m

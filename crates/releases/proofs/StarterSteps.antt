@@ -1,5 +1,6 @@
 -- What a step does to the requests that the tasks may still make of one of them: none but by its starter, and at most one from each release of it.
-use Rattle.std.specs.Prelude.{◌≡◌, ℕ, zero, suc, ◌+◌, ◌-◌, ◌≤◌, Bool, true, false, ◌&&◌, ◌||◌, ◌==◌, List, [], ◌∷◌, ◌++◌, nat_lt, slice_get, Option, Some, None, if◌then◌else◌, refl}
+use Rattle.std.specs.Prelude.{◌≡◌, ℕ, zero, suc, ◌+◌, ◌-◌, ◌≤◌, Bool, true, false, ◌&&◌, ◌||◌, ◌==◌, List, [], ◌∷◌, ◌++◌, nat_lt, slice_get}
+use Rattle.std.specs.Prelude.{Option, Some, None, if◌then◌else◌, refl}
 use Rattle.std.proofs.Common.{sym, ◌∙◌, ap, subst, arith}
 use Rattle.std.proofs.lemmas.List.{map-append}
 use Rattle.seq_tree.specs.Lists.{change, first_where}
@@ -17,8 +18,10 @@ use Rattle.machine.specs.Deeds.{Act, Silent, Print, Enter, Leave, Ask, Keep, Ope
 use Rattle.machine.specs.States.{State, Task, Phase, Effects, Delays, Arriving, Use, Resource, Object, Control, Held, opening}
 use Rattle.machine.specs.Dispatch.{dispatched}
 use Rattle.machine.specs.Releases.{Next, after, going, released, release, release_task, serve, serve_task, is_waiting}
-use Rattle.machine.specs.Effects.{acted, takes_effect, entry, entered_at, stopped_at, exit, ended, inside_now, outside_now, outside_by, ceiling_of, lent, task_unit}
-use Rattle.machine.specs.Steps.{step, step_in, goes_to, effect_of, effect_at, effect_step, delay_step, horizon_step, arrive_at, arrival_step, use_step, is_due}
+use Rattle.machine.specs.Effects.{acted, takes_effect, entry, entered_at, stopped_at, exit, ended, inside_now, outside_now, outside_by}
+use Rattle.machine.specs.Effects.{ceiling_of, lent, task_unit}
+use Rattle.machine.specs.Steps.{step, step_in, goes_to, effect_of, effect_at, effect_step, delay_step, horizon_step, arrive_at, arrival_step}
+use Rattle.machine.specs.Steps.{use_step, is_due}
 use Rattle.machine.specs.Meanings.{run}
 use Rattle.guarantee.specs.Events.{Event, named, named_event}
 use Rattle.releases.proofs.RequestPieces.{asks}
@@ -37,7 +40,8 @@ use Rattle.program_calls.proofs.Facts.{first-where}
 use Rattle.program_calls.proofs.Weights.{counting}
 use Rattle.program_calls.proofs.Tasks.{going-pieces, going-thread, released-pieces}
 
-module _ (p : Program) (y : System) (through : Name → Name → ℕ) (j : ℕ) (th : TaskUnit) (is : IsNamed p y j th) (first : ℕ) (sth : TaskUnit) (starts' : IsNamed p y first sth) (c : CoversCalls y (requests_of through j))
+module _ (p : Program) (y : System) (through : Name → Name → ℕ) (j : ℕ) (th : TaskUnit) (is : IsNamed p y j th) (first : ℕ) (sth : TaskUnit)
+    (starts' : IsNamed p y first sth) (c : CoversCalls y (requests_of through j))
     (blocks : (k : ℕ) (z : TaskUnit) → slice_get y.threads k ≡ Some z → dearest (counting through) z.block ≤ (if k == first then 1 else 0)) where
   abbrev n : List Piece → ℕ
   n = rest (requests_of through j)
@@ -59,21 +63,26 @@ module _ (p : Program) (y : System) (through : Name → Name → ℕ) (j : ℕ) 
   AreWritten ts = (k : ℕ) (u : Task) → slice_get ts k ≡ Some u → slice_get y.threads k ≡ Some u.thread
 
   -- a change of one task
-  bound_change : (i : ℕ) (f : Task → Task) (ts : List Task) (may : Bool) → Bound ts may → ((u : Task) → slice_get ts i ≡ Some u → n (f u).pieces ≤ allow i may) → Bound (change i f ts) may
+  bound_change : (i : ℕ) (f : Task → Task) (ts : List Task) (may : Bool) → Bound ts may
+      → ((u : Task) → slice_get ts i ≡ Some u → n (f u).pieces ≤ allow i may) → Bound (change i f ts) may
   bound_change i f ts may bound new k u at = changed i k f ts u at
-      (λ x e there same. subst (λ z. n z.pieces ≤ allow k may) (sym same) (subst (λ m. n (f x).pieces ≤ allow m may) (sym e) (new x there))) (λ apart there. bound k u there)
+      (λ x e there same. subst (λ z. n z.pieces ≤ allow k may) (sym same) (subst (λ m. n (f x).pieces ≤ allow m may) (sym e) (new x there)))
+      (λ apart there. bound k u there)
 
-  bound_same : (i : ℕ) (f : Task → Task) (ts : List Task) (may : Bool) → Bound ts may → ((u : Task) → (f u).pieces ≡ u.pieces) → Bound (change i f ts) may
+  bound_same : (i : ℕ) (f : Task → Task) (ts : List Task) (may : Bool) → Bound ts may → ((u : Task) → (f u).pieces ≡ u.pieces)
+      → Bound (change i f ts) may
   bound_same i f ts may bound same = bound_change i f ts may bound (λ u at. subst (λ ps. n ps ≤ allow i may) (sym (same u)) (bound i u at))
 
   -- a change of the starter
-  bound_first : (i : ℕ) (f : Task → Task) (ts : List Task) (may may' : Bool) → i ≡ first → Bound ts may → ((u : Task) → slice_get ts i ≡ Some u → n (f u).pieces ≤ (if may' then 1 else 0)) → Bound (change i f ts) may'
+  bound_first : (i : ℕ) (f : Task → Task) (ts : List Task) (may may' : Bool) → i ≡ first → Bound ts may
+      → ((u : Task) → slice_get ts i ≡ Some u → n (f u).pieces ≤ (if may' then 1 else 0)) → Bound (change i f ts) may'
   bound_first i f ts may may' e bound new k u at = changed i k f ts u at own other
     where
       own : (x : Task) → k ≡ i → slice_get ts i ≡ Some x → u ≡ f x → n u.pieces ≤ allow k may'
       own x is there same =
           let yes' : (k == first) ≡ true = eq-eqb k first (is ∙ e) in
-          subst (λ b. n u.pieces ≤ (if b then (if may' then 1 else 0) else 0)) (sym yes') (subst (λ z. n z.pieces ≤ (if may' then 1 else 0)) (sym same) (new x there))
+          subst (λ b. n u.pieces ≤ (if b then (if may' then 1 else 0) else 0)) (sym yes')
+          (subst (λ z. n z.pieces ≤ (if may' then 1 else 0)) (sym same) (new x there))
 
       other : (k ≡ i → ⊥) → slice_get ts k ≡ Some u → n u.pieces ≤ allow k may'
       other apart there =
@@ -83,7 +92,8 @@ module _ (p : Program) (y : System) (through : Name → Name → ℕ) (j : ℕ) 
 
   written_change : (i : ℕ) (f : Task → Task) (ts : List Task) → AreWritten ts → ((u : Task) → (f u).thread ≡ u.thread) → AreWritten (change i f ts)
   written_change i f ts written same k u at = changed i k f ts u at
-      (λ x e there is. ap (slice_get y.threads) e ∙ written i x there ∙ ap Some (sym (ap (λ z. z.thread) is ∙ same x))) (λ apart there. written k u there)
+      (λ x e there is. ap (slice_get y.threads) e ∙ written i x there ∙ ap Some (sym (ap (λ z. z.thread) is ∙ same x)))
+      (λ apart there. written k u there)
 
   -- whether a name is the starter's, and the task's
   name_first : (k : ℕ) (z : TaskUnit) → slice_get y.threads k ≡ Some z → k ≡ first → same_name (unit_name p z.unit) sth.name ≡ true
@@ -108,19 +118,22 @@ module _ (p : Program) (y : System) (through : Name → Name → ℕ) (j : ℕ) 
   -- the pieces of an activation
   released_count : (u : Task) (k : ℕ) → slice_get y.threads k ≡ Some u.thread → n (released y.costs u).pieces ≤ (if k == first then 1 else 0)
   released_count u k at =
-      let h : n (pieces u.thread.block (Finishing ∷ [])) ≡ dearest (counting through) u.thread.block + 0 = rest-block (requests_of through j) u.thread.block (Finishing ∷ []) in
+      let h : n (pieces u.thread.block (Finishing ∷ [])) ≡ dearest (counting through) u.thread.block + 0
+      = rest-block (requests_of through j) u.thread.block (Finishing ∷ []) in
       let b : dearest (counting through) u.thread.block ≤ (if k == first then 1 else 0) = blocks k u.thread at in
       subst (λ ps. n ps ≤ (if k == first then 1 else 0)) (sym (released-pieces y.costs u)) (omega (arith, h, b))
 
   -- a release
-  release_goes : (may : Bool) (k : ℕ) (o : Option Task) (s : State) → AreWritten s.tasks → Bound s.tasks may → slice_get s.tasks k ≡ o → Outcome may (release_task y k o s)
+  release_goes : (may : Bool) (k : ℕ) (o : Option Task) (s : State) → AreWritten s.tasks → Bound s.tasks may → slice_get s.tasks k ≡ o
+      → Outcome may (release_task y k o s)
   release_goes may k None s written bound at = (may, bound, λ more a. a)
   release_goes may k (Some u) s written bound at = places k first own other
     where
       own : k ≡ first → Outcome may (release_task y k (Some u) s)
       own e = (
         true,
-        bound_first k (released y.costs) s.tasks may true e bound (λ v there. subst (λ b. n (released y.costs v).pieces ≤ (if b then 1 else 0)) (eq-eqb k first e) (released_count v k (written k v there))),
+        bound_first k (released y.costs) s.tasks may true e bound (λ v there. subst (λ b. n (released y.costs v).pieces ≤ (if b then 1 else 0))
+            (eq-eqb k first e) (released_count v k (written k v there))),
         λ more a. where_true (same_name (unit_name p u.thread.unit) sth.name) _ _ (name_first k u.thread (written k u at) e) a,
       )
 
@@ -129,7 +142,8 @@ module _ (p : Program) (y : System) (through : Name → Name → ℕ) (j : ℕ) 
           let no : (k == first) ≡ false = ne_eqb k first apart in (
             may,
             bound_change k (released y.costs) s.tasks may bound (λ v there.
-                let h : n (released y.costs v).pieces ≤ 0 = subst (λ b. n (released y.costs v).pieces ≤ (if b then 1 else 0)) no (released_count v k (written k v there)) in
+                let h : n (released y.costs v).pieces ≤ 0
+                = subst (λ b. n (released y.costs v).pieces ≤ (if b then 1 else 0)) no (released_count v k (written k v there)) in
                 subst (λ b. n (released y.costs v).pieces ≤ (if b then (if may then 1 else 0) else 0)) (sym no) h),
             λ more a. where_false (same_name (unit_name p u.thread.unit) sth.name) _ _ (starts'.others k u.thread (written k u at) apart) a,
           )
@@ -146,22 +160,35 @@ module _ (p : Program) (y : System) (through : Name → Name → ℕ) (j : ℕ) 
       by_task (Some u) = by_test (is_waiting u.readiness && u.gate.open')
 
   -- an event, and then others
-  one_first : (may may1 : Bool) (e : machine.Event) (next : Next) → ((more : List Event) → AsksOnce sth.name th.name may1 more → AsksOnce sth.name th.name may (named_event p e ∷ more)) → Outcome may1 next
+  one_first : (may may1 : Bool) (e : machine.Event) (next : Next)
+      → ((more : List Event) → AsksOnce sth.name th.name may1 more → AsksOnce sth.name th.name may (named_event p e ∷ more)) → Outcome may1 next
       → Outcome may (after (e ∷ []) next)
   one_first may may1 e next first' o = (o.0, o.1, λ more a. first' (named p next.1 ++ more) (o.2 more a))
 
   -- a deed
-  module _ (may : Bool) (s : State) (written : AreWritten s.tasks) (bound : Bound s.tasks may) (i : ℕ) (u : Task) (at : slice_get s.tasks i ≡ Some u) where
+  module _ (may : Bool) (s : State) (written : AreWritten s.tasks) (bound : Bound s.tasks may) (i : ℕ) (u : Task) (at : slice_get s.tasks i
+      ≡ Some u) where
     change_goes : (f : Task → Task) (ps : List Piece) → ((z : Task) → (f z).pieces ≡ ps) → n ps ≤ allow i may → Bound (change i f s.tasks) may
     change_goes f ps same few = bound_change i f s.tasks may bound (λ z there. subst (λ qs. n qs ≤ allow i may) (sym (same z)) few)
 
-    entry_goes : (z : Resource) (e : List machine.Event) (vars : Variables) (ps : List Piece) → Onward may (named p e) may → n ps ≤ allow i may → Outcome may (entry y i u z e vars ps s)
+    entry_goes : (z : Resource) (e : List machine.Event) (vars : Variables) (ps : List Piece) → Onward may (named p e) may → n ps ≤ allow i may
+        → Outcome may (entry y i u z e vars ps s)
     entry_goes z e vars ps on few = by z (nat_lt (ceiling_of y z) u.active)
       where
         by : (z : Resource) (b : Bool) → Outcome may (if b then stopped_at y u z s else entered_at y i z e vars ps s)
         by z true = (may, bound, λ more a. a)
-        by (Object k) false = (may, change_goes (λ w. going y.costs (lent (Object k) s vars) ps (inside_now (Object k) (ceiling_of y (Object k)) w)) ps (λ w. going-pieces y.costs _ ps _) few, on)
-        by (Control k) false = (may, change_goes (λ w. going y.costs vars ps (inside_now (Control k) (ceiling_of y (Control k)) w)) ps (λ w. going-pieces y.costs vars ps _) few, on)
+        by (Object k) false = (
+          may,
+          change_goes (λ w. going y.costs (lent (Object k) s vars) ps
+              (inside_now (Object k) (ceiling_of y (Object k)) w)) ps (λ w. going-pieces y.costs _ ps _) few,
+          on,
+        )
+        by (Control k) false = (
+          may,
+          change_goes (λ w. going y.costs vars ps (inside_now (Control k) (ceiling_of y (Control k)) w)) ps (λ w.
+              going-pieces y.costs vars ps _) few,
+          on,
+        )
 
     -- the end of an activation
     finish_goes : (vars : Variables) (ps : List Piece) → Outcome may (acted y i u Finish vars ps s)
@@ -186,7 +213,8 @@ module _ (p : Program) (y : System) (through : Name → Name → ℕ) (j : ℕ) 
             (serve_goes may i s' written' (bound_change i (ended vars) s.tasks may bound (λ z there. omega arith)))
 
     -- a request that has been made
-    ended_goes : (k : ℕ) (v : Option ℕ) (vars : Variables) (ps : List Piece) → (z : TaskUnit) × (slice_get y.threads k ≡ Some z) → n ps + (if k == j then 1 else 0) ≤ allow i may → Outcome may (acted y i u (Ended k v) vars ps s)
+    ended_goes : (k : ℕ) (v : Option ℕ) (vars : Variables) (ps : List Piece) → (z : TaskUnit) × (slice_get y.threads k ≡ Some z)
+        → n ps + (if k == j then 1 else 0) ≤ allow i may → Outcome may (acted y i u (Ended k v) vars ps s)
     ended_goes k v vars ps valid few = places k j own other
       where
         f : Task → Task
@@ -215,26 +243,43 @@ module _ (p : Program) (y : System) (through : Name → Name → ℕ) (j : ℕ) 
             let one : (if k == j then 1 else 0) ≡ 1 = ap (λ b. let m : ℕ = if b then 1 else 0 in m) (eq-eqb k j e) in
             let h = only_first (i == first) may (omega (arith, few, one)) in
             one_first may false (event.Request s.time u.thread.unit (task_unit y k) v) (serve y k s')
-            (λ more a. where_true (same_name (unit_name p (task_unit y k)) th.name) _ _ (ap (λ m. same_name (unit_name p m) th.name) (unit-at y k valid.0 valid.1) ∙ name_own k valid.0 valid.1 e) (h.1, a))
-            (serve_goes false k s' written' (bound_first i f s.tasks may false (eqb-true i first h.0) bound (λ w there. subst (λ qs. n qs ≤ 0) (sym (going-pieces y.costs vars ps (outside_now w))) h.2)))
+            (λ more a. where_true (same_name (unit_name p (task_unit y k)) th.name) _ _
+            (ap (λ m. same_name (unit_name p m) th.name) (unit-at y k valid.0 valid.1) ∙ name_own k valid.0 valid.1 e) (h.1, a))
+            (serve_goes false k s' written' (bound_first i f s.tasks may false (eqb-true i first h.0) bound
+            (λ w there. subst (λ qs. n qs ≤ 0) (sym (going-pieces y.costs vars ps (outside_now w))) h.2)))
 
         other : (k ≡ j → ⊥) → Outcome may (acted y i u (Ended k v) vars ps s)
         other apart =
             one_first may may (event.Request s.time u.thread.unit (task_unit y k) v) (serve y k s')
-            (λ more a. where_false (same_name (unit_name p (task_unit y k)) th.name) _ _ (ap (λ m. same_name (unit_name p m) th.name) (unit-at y k valid.0 valid.1) ∙ is.others k valid.0 valid.1 apart) a)
+            (λ more a. where_false (same_name (unit_name p (task_unit y k)) th.name) _ _
+            (ap (λ m. same_name (unit_name p m) th.name) (unit-at y k valid.0 valid.1) ∙ is.others k valid.0 valid.1 apart) a)
             (serve_goes may k s' written' (change_goes f ps (λ w. going-pieces y.costs vars ps (outside_now w)) (omega (arith, few))))
 
-    act_goes : (a : Act) (vars : Variables) (ps : List Piece) → ((k : ℕ) (v : Option ℕ) → a ≡ Ended k v → (z : TaskUnit) × (slice_get y.threads k ≡ Some z)) → n ps + made j a ≤ allow i may → Outcome may (acted y i u a vars ps s)
+    act_goes : (a : Act) (vars : Variables) (ps : List Piece) → ((k : ℕ) (v : Option ℕ) → a ≡ Ended k v
+        → (z : TaskUnit) × (slice_get y.threads k ≡ Some z)) → n ps + made j a ≤ allow i may → Outcome may (acted y i u a vars ps s)
     act_goes Silent vars ps valid few = (may, change_goes (going y.costs vars ps) ps (going-pieces y.costs vars ps) (omega (arith, few)), λ more a. a)
-    act_goes (Print v) vars ps valid few = (may, change_goes (going y.costs vars ps) ps (going-pieces y.costs vars ps) (omega (arith, few)), λ more a. a)
+    act_goes (Print v) vars ps valid few
+        = (may, change_goes (going y.costs vars ps) ps (going-pieces y.costs vars ps) (omega (arith, few)), λ more a. a)
     act_goes (Enter object op values) vars ps valid few = entry_goes (Object object) _ vars ps (λ more a. a) (omega (arith, few))
-    act_goes (Leave object op values data') vars ps valid few =
-        (may, change_goes (λ w. going y.costs vars ps (outside_now w)) ps (λ w. going-pieces y.costs vars ps (outside_now w)) (omega (arith, few)), λ more a. a)
+    act_goes (Leave object op values data') vars ps valid few = (
+      may,
+      change_goes (λ w. going y.costs vars ps (outside_now w)) ps (λ w. going-pieces y.costs vars ps (outside_now w)) (omega
+          (arith, few)),
+      λ more a. a,
+    )
     act_goes (Ask task) vars ps valid few = entry_goes (Control task) [] vars ps (λ more a. a) (omega (arith, few))
-    act_goes (Keep task v) vars ps valid few =
-        (may, bound_same task _ (change i (going y.costs vars ps) s.tasks) may (change_goes (going y.costs vars ps) ps (going-pieces y.costs vars ps) (omega (arith, few))) (λ w. refl), λ more a. a)
-    act_goes (Open task) vars ps valid few =
-        (may, bound_same task _ (change i (going y.costs vars ps) s.tasks) may (change_goes (going y.costs vars ps) ps (going-pieces y.costs vars ps) (omega (arith, few))) (λ w. refl), λ more a. a)
+    act_goes (Keep task v) vars ps valid few = (
+      may,
+      bound_same task _ (change i (going y.costs vars ps) s.tasks) may (change_goes (going y.costs vars ps) ps (going-pieces y.costs vars ps)
+          (omega (arith, few))) (λ w. refl),
+      λ more a. a,
+    )
+    act_goes (Open task) vars ps valid few = (
+      may,
+      bound_same task _ (change i (going y.costs vars ps) s.tasks) may (change_goes (going y.costs vars ps) ps (going-pieces y.costs vars ps)
+          (omega (arith, few))) (λ w. refl),
+      λ more a. a,
+    )
     act_goes (Ended task v) vars ps valid few = ended_goes task v vars ps (valid task v refl) few
     act_goes Finish vars ps valid few = finish_goes vars ps
 
@@ -244,7 +289,8 @@ module _ (p : Program) (y : System) (through : Name → Name → ℕ) (j : ℕ) 
     pub valid : (i : ℕ) (u : Task) (k : ℕ) → slice_get s.tasks i ≡ Some u → asks k u.pieces ≡ true → (z : TaskUnit) × (slice_get y.threads k ≡ Some z)
     pub arriving : (a : Arrival) (others : List Arrival) → s.arrivals ≡ a ∷ others → a.task ≡ th.unit → ⊥
 
-  ended_asks : (k : ℕ) (v : Option ℕ) (x : Piece) (a : Act) (vars : Variables) (rest : List Piece) → Source y vars x a → a ≡ Ended k v → asks k (x ∷ rest) ≡ true
+  ended_asks : (k : ℕ) (v : Option ℕ) (x : Piece) (a : Act) (vars : Variables) (rest : List Piece) → Source y vars x a → a ≡ Ended k v
+      → asks k (x ∷ rest) ≡ true
   ended_asks k v x a vars rest (From_quiet quiet) e = absurd (true≢false (sym quiet ∙ ap is_quiet e))
   ended_asks k v x a vars rest (From_put d) e = absurd cc
   ended_asks k v x a vars rest (From_entry unit name actuals o m g q leads) e = absurd cc
@@ -253,7 +299,8 @@ module _ (p : Program) (y : System) (through : Name → Name → ℕ) (j : ℕ) 
   ended_asks k v x a vars rest From_finish e = absurd cc
 
   module _ (may : Bool) (s : State) (bound : Bound s.tasks may) (fits : MayAsk s) where
-    still : (next : Next) → next.0.tasks ≡ s.tasks → ((more : List Event) → AsksOnce sth.name th.name may more → AsksOnce sth.name th.name may (named p next.1 ++ more)) → Outcome may next
+    still : (next : Next) → next.0.tasks ≡ s.tasks → ((more : List Event) → AsksOnce sth.name th.name may more
+        → AsksOnce sth.name th.name may (named p next.1 ++ more)) → Outcome may next
     still next tasks on = (may, subst (λ ts. Bound ts may) (sym tasks) bound, on)
 
     effects_step : Outcome may (effect_step y s.ran s)
@@ -262,14 +309,16 @@ module _ (p : Program) (y : System) (through : Name → Name → ℕ) (j : ℕ) 
         away : Outcome may (goes_to Delays s)
         away = still (goes_to Delays s) refl (λ more a. a)
 
-        by_left : (i : ℕ) (u : Task) (x : Piece) (rest : List Piece) (b : Bool) → slice_get s.tasks i ≡ Some u → u.pieces ≡ x ∷ rest → Outcome may (if b then takes_effect y i u (done y x u.vars rest) s else goes_to Delays s)
+        by_left : (i : ℕ) (u : Task) (x : Piece) (rest : List Piece) (b : Bool) → slice_get s.tasks i ≡ Some u → u.pieces ≡ x ∷ rest
+            → Outcome may (if b then takes_effect y i u (done y x u.vars rest) s else goes_to Delays s)
         by_left i u x rest false at has = away
         by_left i u x rest true at has =
             let d : PieceOutcome = done y x u.vars rest in
             let few : n (x ∷ rest) ≤ allow i may = subst (λ ps. n ps ≤ allow i may) has (bound i u at) in
             let falls : n d.pieces + made j d.act ≤ n (x ∷ rest) = count-done y through j c x u.vars rest in
             act_goes may s fits.written bound i u at d.act d.vars d.pieces
-            (λ k v e. fits.valid i u k at (ap (asks k) has ∙ ended_asks k v x d.act u.vars rest (source y x u.vars rest) e)) (omega (arith, falls, few))
+            (λ k v e. fits.valid i u k at (ap (asks k) has ∙ ended_asks k v x d.act u.vars rest (source y x u.vars rest) e))
+            (omega (arith, falls, few))
 
         by_pieces : (i : ℕ) (u : Task) (ps : List Piece) → slice_get s.tasks i ≡ Some u → u.pieces ≡ ps → Outcome may (effect_of y i u ps s)
         by_pieces i u [] at has = away
@@ -297,7 +346,8 @@ module _ (p : Program) (y : System) (through : Name → Name → ℕ) (j : ℕ) 
     arrivals_step : Outcome may (arrival_step y s.arrivals s)
     arrivals_step = by_items s.arrivals refl
       where
-        by_found : (a : Arrival) (others : List Arrival) (o : Option (ℕ × Task)) → s.arrivals ≡ a ∷ others → first_where (λ t. t.thread.unit == a.task) s.tasks ≡ o
+        by_found : (a : Arrival) (others : List Arrival) (o : Option (ℕ × Task)) → s.arrivals ≡ a ∷ others
+            → first_where (λ t. t.thread.unit == a.task) s.tasks ≡ o
             → Outcome may (arrive_at y a o (record s { arrivals = others }))
         by_found a others None left e = still (record s { arrivals = others }, []) refl (λ more h. h)
         by_found a others (Some (k, u)) left e =
@@ -307,14 +357,17 @@ module _ (p : Program) (y : System) (through : Name → Name → ℕ) (j : ℕ) 
             let apart : k ≡ j → ⊥ = λ same.
             let own : u.thread ≡ th = same_Some u.thread th (sym (fits.written k u at) ∙ ap (slice_get y.threads) same ∙ is.at) in
             fits.arriving a others left (sym unit ∙ ap (λ z. z.unit) own) in
-            let other : same_name (unit_name p a.task) th.name ≡ false = ap (λ m. same_name (unit_name p m) th.name) (sym unit) ∙ is.others k u.thread (fits.written k u at) apart in
+            let other : same_name (unit_name p a.task) th.name ≡ false
+            = ap (λ m. same_name (unit_name p m) th.name) (sym unit) ∙ is.others k u.thread (fits.written k u at) apart in
             let g : Task → Task = λ w. record w { gate = record { value = a.value; open' = true } } in
             let z : State = record s { arrivals = others; tasks = change k g s.tasks } in
-            one_first may may (event.Arrive s.time a.task a.value) (serve y k z) (λ more h. where_false (same_name (unit_name p a.task) th.name) _ _ other h)
+            one_first may may (event.Arrive s.time a.task a.value) (serve y k z)
+            (λ more h. where_false (same_name (unit_name p a.task) th.name) _ _ other h)
             (serve_goes may k z (written_change k g s.tasks fits.written (λ w. refl)) (bound_same k g s.tasks may bound (λ w. refl)))
 
         by_time : (a : Arrival) (others : List Arrival) (b : Bool) → s.arrivals ≡ a ∷ others
-            → Outcome may (if b then arrive_at y a (first_where (λ t. t.thread.unit == a.task) s.tasks) (record s { arrivals = others }) else horizon_step y s)
+            → Outcome may (if b then arrive_at y a (first_where (λ t. t.thread.unit == a.task) s.tasks)
+            (record s { arrivals = others }) else horizon_step y s)
         by_time a others true left = by_found a others (first_where (λ t. t.thread.unit == a.task) s.tasks) left refl
         by_time a others false left = horizon_goes
 
@@ -339,7 +392,8 @@ module _ (p : Program) (y : System) (through : Name → Name → ℕ) (j : ℕ) 
         by_stopped true = still (s, []) refl (λ more a. a)
         by_stopped false = by_phase s.phase
 
-  once_from : (steps : ℕ) (s : State) (may : Bool) → Bound s.tasks may → ((m : ℕ) → MayAsk (run y m s).0) → AsksOnce sth.name th.name may (named p (run y steps s).1)
+  once_from : (steps : ℕ) (s : State) (may : Bool) → Bound s.tasks may → ((m : ℕ) → MayAsk (run y m s).0)
+      → AsksOnce sth.name th.name may (named p (run y steps s).1)
   once_from zero s may bound fits = tt
   once_from (suc k) s may bound fits =
       let o : Outcome may (step y s) = any_step may s bound (fits 0) in
@@ -347,5 +401,7 @@ module _ (p : Program) (y : System) (through : Name → Name → ℕ) (j : ℕ) 
       let parts : named p ((step y s).1 ++ rest) ≡ named p (step y s).1 ++ named p rest = map-append (named_event p) (step y s).1 rest in
       subst (AsksOnce sth.name th.name may) (sym parts) (o.2 (named p rest) (once_from k (step y s).0 o.0 o.1 (λ m. fits (suc m))))
 
-  pub once_opening : (items : List Arrival) (steps : ℕ) → ((m : ℕ) → MayAsk (run y m (opening y items)).0) → AsksOnce sth.name th.name false (named p (run y steps (opening y items)).1)
-  once_opening items steps fits = once_from steps (opening y items) false (λ k u at. subst (λ ps. n ps ≤ allow k false) (sym (no_first_pieces y k u at)) (omega arith)) fits
+  pub once_opening : (items : List Arrival) (steps : ℕ) → ((m : ℕ) → MayAsk (run y m (opening y items)).0)
+      → AsksOnce sth.name th.name false (named p (run y steps (opening y items)).1)
+  once_opening items steps fits = once_from steps (opening y items) false
+      (λ k u at. subst (λ ps. n ps ≤ allow k false) (sym (no_first_pieces y k u at)) (omega arith)) fits

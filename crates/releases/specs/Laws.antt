@@ -52,14 +52,17 @@ StartersAskOnce limit =
 
 -- a task whose activations end within its period, if it is cyclic
 abbrev pub EndsWithinPeriod : ℕ → List Event → Name → Timing → Type 0
-EndsWithinPeriod until trace name (Cyclic period offset) = (ticks : ℕ) × (ticks ≤ period) × Responds until trace (record { thread = name; ticks = ticks })
+EndsWithinPeriod until trace name (Cyclic period offset) = (ticks : ℕ) × (ticks ≤ period)
+    × Responds until trace (record { thread = name; ticks = ticks })
 EndsWithinPeriod until trace name (Sporadic op separation jitter) = ⊤
 
 -- every cyclic task whose activations end within its period is released at its offset and at each period after it
 abbrev pub CyclicTasksAreOnTime : ℕ → Type 0
 CyclicTasksAreOnTime limit =
-    (p : Program) (r : places.Arrivals) (trace : List machine.Event) → MeetsRules p → IsAccepted limit p r → Meaning p r trace → NeverStops (named p trace)
-    → Each (λ t. EndsWithinPeriod r.until (named p trace) t.name t.timing → IsPeriodic r.until (named p trace) t.name t.timing) (program_software p).tasks
+    (p : Program) (r : places.Arrivals) (trace : List machine.Event) → MeetsRules p → IsAccepted limit p r → Meaning p r trace
+    → NeverStops (named p trace)
+    → Each (λ t. EndsWithinPeriod r.until (named p trace) t.name t.timing
+    → IsPeriodic r.until (named p trace) t.name t.timing) (program_software p).tasks
 
 -- requests from outside are told as they arrive, in order, up to the horizon
 abbrev pub ArrivalsAreTold : ℕ → Type 0
@@ -71,7 +74,8 @@ ArrivalsAreTold limit =
 -- program's texts permit
 abbrev pub RunsArePermitted : ℕ → Type 0
 RunsArePermitted limit =
-    (p : Program) (r : places.Arrivals) (trace : List machine.Event) → IsReadable p → IsAccepted limit p r → Meaning p r trace → NeverStops (named p trace)
+    (p : Program) (r : places.Arrivals) (trace : List machine.Event) → IsReadable p → IsAccepted limit p r → Meaning p r trace
+    → NeverStops (named p trace)
     → Each (λ t. EndsWithinPeriod r.until (named p trace) t.name t.timing) (program_software p).tasks
     → Each (λ t. HasNoOverrun (named p trace) t.name t.timing) (program_software p).tasks
     → Permits (program_software p) (named_arrivals p r) (named p trace)

@@ -7,7 +7,8 @@
 //! jitter. The statements are in `specs/Laws.antt`.
 #![tactic(auto)]
 
-ghost use Rattle.releases.specs.Laws.{RequestsAreServed, AllRequestsAreServed, StartersAskOnce, CyclicTasksAreOnTime, ArrivalsAreTold, RunsArePermitted, SeparateRequestsDontOverrun, StartersHandOnJitter};
+ghost use Rattle.releases.specs.Laws.{RequestsAreServed, AllRequestsAreServed, StartersAskOnce, CyclicTasksAreOnTime, ArrivalsAreTold};
+ghost use Rattle.releases.specs.Laws.{RunsArePermitted, SeparateRequestsDontOverrun, StartersHandOnJitter};
 ghost use Rattle.std.specs.Prelude.{ℕ};
 
 /// In every run of a program, the requests of each sporadic task are served in order and each once, as long as none comes while another is

@@ -31,30 +31,40 @@ over-is (Some end) time e = (end, refl, (let past : end ≤ time = grind arith i
 
 -- all activations of a row that are on time
 answered-from : (until ticks r n : ℕ) (ms : List Made)
-    → ((k : ℕ) (m : Made) → slice_get ms k ≡ Some m → m.row ≡ r → m.release + ticks ≤ until → is_over m.over (m.release + ticks) ≡ true) → Each (IsAnswered until ticks) (ends_of r ms)
+    → ((k : ℕ) (m : Made) → slice_get ms k ≡ Some m → m.row ≡ r → m.release + ticks ≤ until → is_over m.over (m.release + ticks) ≡ true)
+    → Each (IsAnswered until ticks) (ends_of r ms)
 answered-from until ticks r n [] h = tt
 answered-from until ticks r n (m ∷ ms) h = by (m.row == r) refl (answered-from until ticks r n ms (λ k x e same. h (suc k) x e same))
   where
-    by : (b : Bool) → (m.row == r) ≡ b → Each (IsAnswered until ticks) (ends_of r ms) → Each (IsAnswered until ticks) (if b then (m.release, m.over) ∷ ends_of r ms else ends_of r ms)
+    by : (b : Bool) → (m.row == r) ≡ b → Each (IsAnswered until ticks) (ends_of r ms)
+        → Each (IsAnswered until ticks) (if b then (m.release, m.over) ∷ ends_of r ms else ends_of r ms)
     by true e rest = (λ near. over-is m.over (m.release + ticks) (h 0 m refl (let same : m.row ≡ r = grind arith in same) near), rest)
     by false e rest = rest
 
-pub all-answered : (rows : List ThreadRow) (v : List Bound) (shift : ℕ) (l : Log) (until r : ℕ) (row : ThreadRow) (b : Bound) → AllOnTime rows v (schedule_of rows shift l) until
+pub all-answered : (rows : List ThreadRow) (v : List Bound) (shift : ℕ) (l : Log) (until r : ℕ) (row : ThreadRow) (b : Bound)
+    → AllOnTime rows v (schedule_of rows shift l) until
     → slice_get rows r ≡ Some row → slice_get v r ≡ Some b → Each (IsAnswered until b.response) (ends_of r l.acts)
 all-answered rows v shift l until r row b on_time asks gets =
     answered-from until b.response r 0 l.acts (λ k m e same near.
     on_time k (activation rows shift l.ticks (0 + k) m) row b
-    (record { stands = stands-activation rows shift l.ticks 0 l.acts k m e; asks = ap (slice_get rows) same ∙ asks; gets = ap (slice_get v) same ∙ gets }) near)
+    (record {
+      stands = stands-activation rows shift l.ticks 0 l.acts k m e;
+      asks = ap (slice_get rows) same ∙ asks;
+      gets = ap (slice_get v) same ∙ gets;
+    }) near)
 
 -- a name that is that of one unit alone, among those of tasks
 abbrev pub Names : Frame → Program → Name → ℕ → Type 0
 Names f p name u = (x : ℕ) → IsOfUnit f x → same_name (unit_name p x) name ≡ (x == u)
 
-ends-named : (f : Frame) (p : Program) (name : Name) (u latest end : ℕ) (es : List machine.Event) → Names f p name u → lists.Each (HasUnit f) es → next_end u es ≡ Some end → end ≤ latest → EndsBy name latest (named p es)
+ends-named : (f : Frame) (p : Program) (name : Name) (u latest end : ℕ) (es : List machine.Event) → Names f p name u → lists.Each (HasUnit f) es
+    → next_end u es ≡ Some end → end ≤ latest → EndsBy name latest (named p es)
 ends-named f p name u latest end [] names units e near = absurd (none-some end e)
-ends-named f p name u latest end (event.End time task used ∷ es) names units e near = by (task == u) (names task units.0) e (λ g. ends-named f p name u latest end es names units.1 g near)
+ends-named f p name u latest end (event.End time task used ∷ es) names units e near
+    = by (task == u) (names task units.0) e (λ g. ends-named f p name u latest end es names units.1 g near)
   where
-    by : (b : Bool) → same_name (unit_name p task) name ≡ b → (if b then Some time else next_end u es) ≡ Some end → (next_end u es ≡ Some end → EndsBy name latest (named p es))
+    by : (b : Bool) → same_name (unit_name p task) name ≡ b → (if b then Some time else next_end u es) ≡ Some end
+        → (next_end u es ≡ Some end → EndsBy name latest (named p es))
         → Either (same_name (unit_name p task) name) (time ≤ latest) (EndsBy name latest (named p es))
     by true same g rest =
         let is : time ≡ end = cc in
@@ -62,32 +72,49 @@ ends-named f p name u latest end (event.End time task used ∷ es) names units e
     by false same g rest = subst (λ b. Either b (time ≤ latest) (EndsBy name latest (named p es))) (sym same) (rest g)
 ends-named f p name u latest end (event.Release time task value ∷ es) names units e near = ends-named f p name u latest end es names units.1 e near
 ends-named f p name u latest end (event.Arrive time task value ∷ es) names units e near = ends-named f p name u latest end es names units.1 e near
-ends-named f p name u latest end (event.Enter time task unit op values ∷ es) names units e near = ends-named f p name u latest end es names units.1 e near
-ends-named f p name u latest end (event.Leave time task unit op values ∷ es) names units e near = ends-named f p name u latest end es names units.1 e near
-ends-named f p name u latest end (event.Request time task target value ∷ es) names units e near = ends-named f p name u latest end es names units.1 e near
+ends-named f p name u latest end (event.Enter time task unit op values ∷ es) names units e near
+    = ends-named f p name u latest end es names units.1 e near
+ends-named f p name u latest end (event.Leave time task unit op values ∷ es) names units e near
+    = ends-named f p name u latest end es names units.1 e near
+ends-named f p name u latest end (event.Request time task target value ∷ es) names units e near
+    = ends-named f p name u latest end es names units.1 e near
 ends-named f p name u latest end (event.Print time task value ∷ es) names units e near = ends-named f p name u latest end es names units.1 e near
-ends-named f p name u latest end (event.Stop time task unit priority ceiling ∷ es) names units e near = ends-named f p name u latest end es names units.1 e near
+ends-named f p name u latest end (event.Stop time task unit priority ceiling ∷ es) names units e near
+    = ends-named f p name u latest end es names units.1 e near
 ends-named f p name u latest end (event.Horizon time ∷ es) names units e near = ends-named f p name u latest end es names units.1 e near
 
-pub responds-named : (f : Frame) (p : Program) (name : Name) (u ticks until : ℕ) (es : List machine.Event) → Names f p name u → lists.Each (HasUnit f) es → Each (IsAnswered until ticks) (answers u es)
+pub responds-named : (f : Frame) (p : Program) (name : Name) (u ticks until : ℕ) (es : List machine.Event) → Names f p name u
+    → lists.Each (HasUnit f) es → Each (IsAnswered until ticks) (answers u es)
     → Responds until (named p es) (record { thread = name; ticks = ticks })
 responds-named f p name u ticks until [] names units all = tt
-responds-named f p name u ticks until (event.Release time task value ∷ es) names units all = by (task == u) (names task units.0) all (λ rest. responds-named f p name u ticks until es names units.1 rest)
+responds-named f p name u ticks until (event.Release time task value ∷ es) names units all
+    = by (task == u) (names task units.0) all (λ rest. responds-named f p name u ticks until es names units.1 rest)
   where
     Told : Bool → Type 0
-    Told b = Either b (time + ticks ≤ until → EndsBy name (time + ticks) (named p es)) ⊤ × Responds until (named p es) (record { thread = name; ticks = ticks })
+    Told b = Either b (time + ticks ≤ until → EndsBy name (time + ticks) (named p es)) ⊤
+        × Responds until (named p es) (record { thread = name; ticks = ticks })
 
-    by : (b : Bool) → same_name (unit_name p task) name ≡ b → Each (IsAnswered until ticks) (if b then (time, next_end u es) ∷ answers u es else answers u es)
+    by : (b : Bool) → same_name (unit_name p task) name ≡ b
+        → Each (IsAnswered until ticks) (if b then (time, next_end u es) ∷ answers u es else answers u es)
         → (Each (IsAnswered until ticks) (answers u es) → Responds until (named p es) (record { thread = name; ticks = ticks }))
-        → Either (same_name (unit_name p task) name) (time + ticks ≤ until → EndsBy name (time + ticks) (named p es)) ⊤ × Responds until (named p es) (record { thread = name; ticks = ticks })
+        → Either (same_name (unit_name p task) name) (time + ticks ≤ until → EndsBy name (time + ticks) (named p es)) ⊤
+        × Responds until (named p es) (record { thread = name; ticks = ticks })
     by true same h rest =
-        subst Told (sym same) (λ near. let found = h.0 near in ends-named f p name u (time + ticks) found.0 es names units.1 found.1 found.2, rest h.1)
+        subst Told (sym same) (
+          λ near. let found = h.0 near in ends-named f p name u (time
+              + ticks) found.0 es names units.1 found.1 found.2,
+          rest h.1,
+        )
     by false same h rest = subst Told (sym same) (tt, rest h)
 responds-named f p name u ticks until (event.End time task used ∷ es) names units all = responds-named f p name u ticks until es names units.1 all
 responds-named f p name u ticks until (event.Arrive time task value ∷ es) names units all = responds-named f p name u ticks until es names units.1 all
-responds-named f p name u ticks until (event.Enter time task unit op values ∷ es) names units all = responds-named f p name u ticks until es names units.1 all
-responds-named f p name u ticks until (event.Leave time task unit op values ∷ es) names units all = responds-named f p name u ticks until es names units.1 all
-responds-named f p name u ticks until (event.Request time task target value ∷ es) names units all = responds-named f p name u ticks until es names units.1 all
+responds-named f p name u ticks until (event.Enter time task unit op values ∷ es) names units all
+    = responds-named f p name u ticks until es names units.1 all
+responds-named f p name u ticks until (event.Leave time task unit op values ∷ es) names units all
+    = responds-named f p name u ticks until es names units.1 all
+responds-named f p name u ticks until (event.Request time task target value ∷ es) names units all
+    = responds-named f p name u ticks until es names units.1 all
 responds-named f p name u ticks until (event.Print time task value ∷ es) names units all = responds-named f p name u ticks until es names units.1 all
-responds-named f p name u ticks until (event.Stop time task unit priority ceiling ∷ es) names units all = responds-named f p name u ticks until es names units.1 all
+responds-named f p name u ticks until (event.Stop time task unit priority ceiling ∷ es) names units all
+    = responds-named f p name u ticks until es names units.1 all
 responds-named f p name u ticks until (event.Horizon time ∷ es) names units all = responds-named f p name u ticks until es names units.1 all

@@ -79,7 +79,8 @@ wait_of c = record { next = c.next; readiness = c.readiness; open' = c.open'; un
 
 -- what is known of a task with a row by its timing
 abbrev pub Asked : Frame → Phase → ℕ → List Made → List Arrival → Option Kept → ℕ → Wait → ThreadRow → ReleasePattern → Type 0
-Asked f phase time acts taken kept r w row (Periodic offset period) = OfRow acts r (λ m. m.nominal + row.period ≤ f.shift + w.next) × Sleeps phase time acts r w.next w.readiness
+Asked f phase time acts taken kept r w row (Periodic offset period) = OfRow acts r (λ m. m.nominal + row.period ≤ f.shift + w.next)
+    × Sleeps phase time acts r w.next w.readiness
 Asked f phase time acts taken kept r w row (Requested op ceiling separation jitter external) =
     Awaits f time acts r w.open' row kept × Came f acts taken row w.unit external separation jitter kept × IsAwake w.readiness
 
@@ -98,7 +99,8 @@ IsFresh f k ps target q nominal = (rest (requests_measure f k) ps ≡ 0) ⊎ (q.
 
 abbrev pub AreFresh : Frame → List Made → Notes → ℕ → List Piece → Type 0
 AreFresh f acts n j ps =
-    (k s : ℕ) (target : ThreadRow) (q : Kept) (m : Made) → HasRow f k s → slice_get f.rows s ≡ Some target → n.kept k ≡ Some q → slice_get acts (n.current j) ≡ Some m → IsFresh f k ps target q m.nominal
+    (k s : ℕ) (target : ThreadRow) (q : Kept) (m : Made) → HasRow f k s → slice_get f.rows s ≡ Some target → n.kept k ≡ Some q
+    → slice_get acts (n.current j) ≡ Some m → IsFresh f k ps target q m.nominal
 
 -- what is known of the requests that a task makes, and of those that it is released by
 pub record Asks (f : Frame) (now : Now) (acts : List Made) (n : Notes) (j : ℕ) (c : Core) : Type 0 where
@@ -106,7 +108,8 @@ pub record Asks (f : Frame) (now : Now) (acts : List Made) (n : Notes) (j : ℕ)
   pub few : (k s : ℕ) → HasRow f k s → rest (requests_measure f k) c.pieces ≤ quota f k j
   pub mid : (k s : ℕ) → HasRow f k s → EndsRequest k c.pieces → IsMid now (n.kept k) j c.left
   pub fresh : (r : ℕ) → HasRow f j r → c.readiness ≡ Ready → AreFresh f acts n j c.pieces
-  pub asked : (r : ℕ) (row : ThreadRow) → HasRow f j r → slice_get f.rows r ≡ Some row → Asked f now.phase now.time acts n.taken (n.kept j) r (wait_of c) row c.thread.timing
+  pub asked : (r : ℕ) (row : ThreadRow) → HasRow f j r → slice_get f.rows r ≡ Some row
+      → Asked f now.phase now.time acts n.taken (n.kept j) r (wait_of c) row c.thread.timing
 
 -- what is known of requests
 pub record Asking (f : Frame) (v : View) (l : Log) (n : Notes) : Type 0 where

@@ -12,7 +12,8 @@ use Rattle.machine.specs.States.{Phase, Effects, Ready}
 use Rattle.response_law.proofs.Logs.{Made, Log, OfRow, IsOpenAt, IsTimed, IsTimely}
 use Rattle.program_calls.proofs.Remaining.{rest}
 use Rattle.response_law.proofs.Views.{Core, View, Now, now_of, on_with, first_ticks, opened_core, changed}
-use Rattle.response_law.proofs.Frames.{Frame, requests_measure, HasRow, one_at, one-here, quota_by, quota, other-of, IsAsked, IsTabled, IsFramed, AreKeptApart, Kept, Notes, EndsRequest}
+use Rattle.response_law.proofs.Frames.{Frame, requests_measure, HasRow, one_at, one-here, quota_by, quota, other-of, IsAsked, IsTabled, IsFramed}
+use Rattle.response_law.proofs.Frames.{AreKeptApart, Kept, Notes, EndsRequest}
 use Rattle.response_law.proofs.Tidy.{Tidy, EndsOf, barrier-tidy, barrier-ends}
 use Rattle.response_law.proofs.Base.{Busy, Base, written-at, put, put-here, put-other}
 use Rattle.response_law.proofs.Asking.{Awaits, Wait, wait_of, Asked, IsMid, IsFresh, AreFresh, Asks, Asking}
@@ -28,7 +29,8 @@ pub record IsReady (f : Frame) (now : Now) (acts : List Made) (n : Notes) (k : �
   pub fresh : (r : ℕ) → HasRow f j r → c.readiness ≡ Ready → AreFresh f acts n j c.pieces
 
 -- the request is noted
-pub asking-noted : (f : Frame) (v : View) (l : Log) (n : Notes) (k : ℕ) (q : Kept) (taken : List Arrival) → IsTimed f.rows f.shift l → AreKeptApart f.system.threads taken v.arrivals
+pub asking-noted : (f : Frame) (v : View) (l : Log) (n : Notes) (k : ℕ) (q : Kept) (taken : List Arrival) → IsTimed f.rows f.shift l
+    → AreKeptApart f.system.threads taken v.arrivals
     → ((j : ℕ) (c : Core) → slice_get v.cores j ≡ Some c → IsReady f (now_of v) l.acts n k q j c)
     → ((j r : ℕ) (c : Core) (row : ThreadRow) → j ≢ k → HasRow f j r → slice_get v.cores j ≡ Some c → slice_get f.rows r ≡ Some row
     → Asked f v.phase v.time l.acts taken (n.kept j) r (wait_of c) row c.thread.timing)
@@ -39,9 +41,11 @@ asking-noted f v l n k q taken timed apart ready others own = record {
   timed = timed;
   of = each-changed (Asks f (now_of v) l.acts n') k opened_core v.cores
       (λ j d other e. note j d d.open' (ready j d e) (λ r row has asks.
-      subst (λ o. Asked f v.phase v.time l.acts taken o r (wait_of d) row d.thread.timing) (sym (put-other k j (Some q) n.kept other)) (others j r d row other has e asks)))
+      subst (λ o. Asked f v.phase v.time l.acts taken o r (wait_of d) row d.thread.timing) (sym (put-other k j (Some q) n.kept other))
+      (others j r d row other has e asks)))
       (λ x e. note k x true (ready k x e) (λ r row has asks.
-      subst (λ o. Asked f v.phase v.time l.acts taken o r (wait_of (opened_core x)) row x.thread.timing) (sym (put-here k k (Some q) n.kept refl)) (own r x row has e asks)));
+      subst (λ o. Asked f v.phase v.time l.acts taken o r (wait_of (opened_core x)) row x.thread.timing) (sym
+      (put-here k k (Some q) n.kept refl)) (own r x row has e asks)));
   apart = apart;
 }
   where
@@ -62,13 +66,17 @@ asking-noted f v l n k q taken timed apart ready others own = record {
       asked = asked;
     }
       where
-        fresh : (r : ℕ) → HasRow f j r → c.readiness ≡ Ready → (z s : ℕ) (target : ThreadRow) (p : Kept) (m : Made) → HasRow f z s → slice_get f.rows s ≡ Some target
+        fresh : (r : ℕ) → HasRow f j r → c.readiness ≡ Ready → (z s : ℕ) (target : ThreadRow) (p : Kept) (m : Made) → HasRow f z s
+            → slice_get f.rows s ≡ Some target
             → put k (Some q) n.kept z ≡ Some p → slice_get l.acts (n.current j) ≡ Some m → (z ≡ k) ⊎ (z ≢ k) → IsFresh f z c.pieces target p m.nominal
-        fresh r has rdy z s target p m also asks was_kept at (inl same) = inl (subst (λ x. rest (requests_measure f x) c.pieces ≡ 0) (sym same) before.spent)
-        fresh r has rdy z s target p m also asks was_kept at (inr differ) = before.fresh r has rdy z s target p m also asks (sym (put-other k z (Some q) n.kept differ) ∙ was_kept) at
+        fresh r has rdy z s target p m also asks was_kept at (inl same)
+            = inl (subst (λ x. rest (requests_measure f x) c.pieces ≡ 0) (sym same) before.spent)
+        fresh r has rdy z s target p m also asks was_kept at (inr differ)
+            = before.fresh r has rdy z s target p m also asks (sym (put-other k z (Some q) n.kept differ) ∙ was_kept) at
 
 -- activations of the target are for requests before the one that comes now
-earlier-than : (f : Frame) (time : ℕ) (acts : List Made) (s : ℕ) (open' : Bool) (target : ThreadRow) (kept : Option Kept) (m : Made) → Awaits f time acts s open' target kept
+earlier-than : (f : Frame) (time : ℕ) (acts : List Made) (s : ℕ) (open' : Bool) (target : ThreadRow) (kept : Option Kept) (m : Made)
+    → Awaits f time acts s open' target kept
     → ((q : Kept) → kept ≡ Some q → q.nominal + target.period ≤ m.nominal) → OfRow acts s (λ x. x.nominal + target.period ≤ m.nominal)
 earlier-than f time acts s open' target None m awaits fresh k x e same = absurd (awaits.0 k x e same)
 earlier-than f time acts s open' target (Some q) m awaits fresh k x e same =
@@ -80,13 +88,19 @@ abbrev pub request_now : ℕ → ℕ → Made → Kept
 request_now time place m = record { nominal = m.nominal; asked = time; source = Some place }
 
 -- what is known of the target by its timing after the request
-asked-now : (f : Frame) (phase : Phase) (time : ℕ) (acts : List Made) (taken : List Arrival) (kept : Option Kept) (k i s r place : ℕ) (w : Wait) (target : ThreadRow) (m : Made) (t : ReleasePattern)
-    → f.starter_of k ≡ Some i → HasRow f i r → slice_get acts place ≡ Some m → m.row ≡ r → m.over ≡ None → m.nominal ≤ f.shift + time → m.release ≤ time
+asked-now : (f : Frame) (phase : Phase) (time : ℕ) (acts : List Made) (taken : List Arrival) (kept : Option Kept) (k i s r place : ℕ) (w : Wait)
+    (target : ThreadRow) (m : Made) (t : ReleasePattern)
+    → f.starter_of k ≡ Some i → HasRow f i r → slice_get acts place ≡ Some m → m.row ≡ r → m.over ≡ None → m.nominal ≤ f.shift + time
+    → m.release ≤ time
     → ((q : Kept) → kept ≡ Some q → q.nominal + target.period ≤ m.nominal)
-    → IsAsked f k target t → Asked f phase time acts taken kept s w target t → Asked f phase time acts taken (Some (request_now time place m)) s (record w { open' = true }) target t
-asked-now f phase time acts taken kept k i s r place w target m (Periodic offset period) starts has stands of_row unended near past fresh asks asked = absurd (none-some i (sym asks.1 ∙ starts))
-asked-now f phase time acts taken kept k i s r place w target m (Requested op ceiling separation jitter true) starts has stands of_row unended near past fresh asks asked = absurd (none-some i (sym asks.4 ∙ starts))
-asked-now f phase time acts taken kept k i s r place w target m (Requested op ceiling separation jitter false) starts has stands of_row unended near past fresh asks asked =
+    → IsAsked f k target t → Asked f phase time acts taken kept s w target t
+    → Asked f phase time acts taken (Some (request_now time place m)) s (record w { open' = true }) target t
+asked-now f phase time acts taken kept k i s r place w target m (Periodic offset period) starts has stands of_row unended near past fresh asks asked
+    = absurd (none-some i (sym asks.1 ∙ starts))
+asked-now f phase time acts taken kept k i s r place w target m (Requested op ceiling separation jitter true) starts has stands of_row unended near
+    past fresh asks asked = absurd (none-some i (sym asks.4 ∙ starts))
+asked-now f phase time acts taken kept k i s r place w target m (Requested op ceiling separation jitter false) starts has stands of_row unended near
+    past fresh asks asked =
     let earlier : OfRow acts s (λ y. y.nominal + target.period ≤ m.nominal) = earlier-than f time acts s w.open' target kept m asked.0 fresh in
     let from : asks.1 ≡ i = same-item (f.starter_of k) asks.1 i asks.7 starts in
     let row_is : asks.0 ≡ r = same-item (f.row_of i) asks.0 r (subst (λ z. f.row_of z ≡ Some asks.0) from asks.3) has in (
@@ -115,18 +129,24 @@ none-left f k works durations (piece.Requested other value ∷ ps) h = refl
 none-left f k works durations (_ ∷ ps) h = absurd h
 
 -- the starter opens the control structure of the task that it requests
-pub asking-opens : (f : Frame) (v : View) (l : Log) (n : Notes) (i r k s : ℕ) (c : Core) (m : Made) (qs : List Piece) → IsFramed f → Base f v l n.current → Asking f v l n
-    → HasRow f i r → HasRow f k s → f.starter_of k ≡ Some i → slice_get v.cores i ≡ Some c → c.readiness ≡ Ready → c.pieces ≡ Opening k ∷ qs → EndsOf k qs
+pub asking-opens : (f : Frame) (v : View) (l : Log) (n : Notes) (i r k s : ℕ) (c : Core) (m : Made) (qs : List Piece) → IsFramed f
+    → Base f v l n.current → Asking f v l n
+    → HasRow f i r → HasRow f k s → f.starter_of k ≡ Some i → slice_get v.cores i ≡ Some c → c.readiness ≡ Ready → c.pieces ≡ Opening k ∷ qs
+    → EndsOf k qs
     → v.phase ≡ Effects → v.ran ≡ Some i → slice_get l.acts (n.current i) ≡ Some m
-    → Asking f (changed k opened_core (changed i (on_with f.system.costs qs) v)) l (record n { kept = put k (Some (request_now v.time (n.current i) m)) n.kept })
+    → Asking f (changed k opened_core (changed i (on_with f.system.costs qs) v)) l
+    (record n { kept = put k (Some (request_now v.time (n.current i) m)) n.kept })
 asking-opens f v l n i r k s c m qs framed base asking has has_k starts here ready is ends effects ran at =
     asking-noted f (changed i (on_with f.system.costs qs) v) l n k q n.taken asking.timed asking.apart
-    (each-changed-one (IsReady f (now_of v) l.acts n k q) i (on_with f.system.costs qs) v.cores c here (λ j d other e. elsewhere j d other (asking.of j d e)) own)
+    (each-changed-one (IsReady f (now_of v) l.acts n k q) i (on_with f.system.costs qs) v.cores c here
+    (λ j d other e. elsewhere j d other (asking.of j d e)) own)
     (λ j u d line other has' e asks.
-    each-changed-one (λ j x. (u : ℕ) (line : ThreadRow) → HasRow f j u → slice_get f.rows u ≡ Some line → Asked f v.phase v.time l.acts n.taken (n.kept j) u (wait_of x) line x.thread.timing)
+    each-changed-one (λ j x. (u : ℕ) (line : ThreadRow) → HasRow f j u → slice_get f.rows u ≡ Some line
+    → Asked f v.phase v.time l.acts n.taken (n.kept j) u (wait_of x) line x.thread.timing)
     i (on_with f.system.costs qs) v.cores c here (λ j' x far g. (asking.of j' x g).asked) a.asked j d e u line has' asks)
     (λ u d line has' e asks.
-    each-changed-one (λ j x. j ≡ k → (u : ℕ) (line : ThreadRow) → HasRow f k u → slice_get f.rows u ≡ Some line → Asked f v.phase v.time l.acts n.taken (Some q) u (wait_of (opened_core x)) line x.thread.timing)
+    each-changed-one (λ j x. j ≡ k → (u : ℕ) (line : ThreadRow) → HasRow f k u → slice_get f.rows u ≡ Some line
+    → Asked f v.phase v.time l.acts n.taken (Some q) u (wait_of (opened_core x)) line x.thread.timing)
     i (on_with f.system.costs qs) v.cores c here (λ j x far g same. target x (subst (λ z. slice_get v.cores z ≡ Some x) same g))
     (λ same. target c (subst (λ z. slice_get v.cores z ≡ Some c) same here)) k d e refl u line has' asks)
   where
@@ -138,7 +158,8 @@ asking-opens f v l n i r k s c m qs framed base asking has has_k starts here rea
 
     -- what the starter may still request
     before_rest : (z : ℕ) → rest (requests_measure f z) c.pieces ≡ one_at z k + rest (requests_measure f z) qs
-    before_rest z = ap (rest (requests_measure f z)) is ∙ (let same : rest (requests_measure f z) (Opening k ∷ qs) ≡ one_at z k + rest (requests_measure f z) qs = omega arith in same)
+    before_rest z = ap (rest (requests_measure f z)) is ∙ (let same : rest (requests_measure f z) (Opening k ∷ qs)
+        ≡ one_at z k + rest (requests_measure f z) qs = omega arith in same)
 
     elsewhere : (j : ℕ) (d : Core) → j ≢ i → Asks f (now_of v) l.acts n j d → IsReady f (now_of v) l.acts n k (request_now v.time (n.current i) m) j d
     elsewhere j d other b = record {
@@ -157,13 +178,21 @@ asking-opens f v l n i r k s c m qs framed base asking has has_k starts here rea
       few = λ z y has'. let few : rest (requests_measure f z) c.pieces ≤ quota f z i = a.few z y has' in omega (arith, few, before_rest z);
       mid = λ z y has' begins. (
         barrier-ends k z qs ends begins,
-        record { none = none-left f k c.works c.thread.durations qs ends; phase = effects; ran = ran; request = request_now v.time (n.current i) m; is = refl; at = refl },
+        record {
+          none = none-left f k c.works c.thread.durations qs ends;
+          phase = effects;
+          ran = ran;
+          request = request_now v.time (n.current i) m;
+          is = refl;
+          at = refl;
+        },
       );
       spent =
           let few : rest (requests_measure f k) c.pieces ≤ quota f k i = a.few k s has_k in
           let most : quota f k i ≡ 1 = ap (λ w. quota_by w i) starts ∙ one-here i in
           omega (arith, few, before_rest k, one-here k, most);
-      fresh = λ u has' rdy z y line p x also asks was_kept stands. fresh-less f z c.pieces qs line p x.nominal (omega (arith, before_rest z)) (a.fresh u has' rdy z y line p x also asks was_kept stands);
+      fresh = λ u has' rdy z y line p x also asks was_kept stands. fresh-less f z c.pieces qs line p x.nominal (omega
+          (arith, before_rest z)) (a.fresh u has' rdy z y line p x also asks was_kept stands);
     }
 
     -- the request before the one that comes now
@@ -188,6 +217,8 @@ asking-opens f v l n i r k s c m qs framed base asking has has_k starts here rea
         let waited : m.asked ≤ m.release = timely.waited in
         let released : m.release ≤ length l.ticks = (base.logged.each (n.current i) m at).released in
         let clock : length l.ticks ≡ v.time = base.clock in
-        asked-now f v.phase v.time l.acts n.taken (n.kept k) k i u r (n.current i) (wait_of x) line m x.thread.timing starts has at (ap (λ z. z.row) (sym made_is) ∙ busy.own.of_row)
-        (ap (λ z. z.over) (sym made_is) ∙ busy.own.unended) (omega (arith, first, waited, released, clock)) (omega (arith, released, clock)) (before_now line asks_k)
+        asked-now f v.phase v.time l.acts n.taken (n.kept k) k i u r (n.current i) (wait_of x) line m x.thread.timing starts has at
+        (ap (λ z. z.row) (sym made_is) ∙ busy.own.of_row)
+        (ap (λ z. z.over) (sym made_is) ∙ busy.own.unended) (omega (arith, first, waited, released, clock)) (omega (arith, released, clock))
+        (before_now line asks_k)
         (subst (λ z. IsAsked f k z x.thread.timing) line_is tabled.asked) ((asking.of k x at_k).asked u line has' asks)

@@ -25,7 +25,8 @@ pub record IsCurrent (acts : List Made) (place j r : ℕ) : Type 0 where
   pub of_row : made.row ≡ r
   pub unended : made.over ≡ None
 
--- a ready task with a row: its activation, the ticks that it used and those that it may still take; ticks are left of its first piece but where an effect comes
+-- a ready task with a row: its activation, the ticks that it used and those that it may still take; ticks are left of its first piece but
+-- where an effect comes
 pub record Busy (f : Frame) (now : Now) (l : Log) (place j r : ℕ) (c : Core) : Type 0 where
   pub own : IsCurrent l.acts place j r
   pub count : length (ticks_of place l.ticks) ≡ c.used
@@ -59,14 +60,17 @@ abbrev pub SomeLeft : Frame → View → Type 0
 SomeLeft f v = (j r : ℕ) (c : Core) → HasRow f j r → slice_get v.cores j ≡ Some c → c.readiness ≡ Ready → c.left ≢ 0
 
 -- the thread of a task, and the task of a thread
-pub written-at : {cores : List Core} {threads : List TaskUnit} → AreThreads cores threads → (j : ℕ) (c : Core) → slice_get cores j ≡ Some c → slice_get threads j ≡ Some c.thread
+pub written-at : {cores : List Core} {threads : List TaskUnit} → AreThreads cores threads → (j : ℕ) (c : Core) → slice_get cores j ≡ Some c
+    → slice_get threads j ≡ Some c.thread
 written-at {cores} {threads} written j c e = ap (λ ts. slice_get ts j) (sym written.same) ∙ map-at (λ x. x.thread) cores j c e
 
-pub core-at : {cores : List Core} {threads : List TaskUnit} → AreThreads cores threads → (j : ℕ) (t : TaskUnit) → slice_get threads j ≡ Some t → (c : Core) × (slice_get cores j ≡ Some c) × (c.thread ≡ t)
+pub core-at : {cores : List Core} {threads : List TaskUnit} → AreThreads cores threads → (j : ℕ) (t : TaskUnit) → slice_get threads j ≡ Some t
+    → (c : Core) × (slice_get cores j ≡ Some c) × (c.thread ≡ t)
 core-at {cores} {threads} written j t e = mapped-at (λ x. x.thread) cores j t (ap (λ ts. slice_get ts j) written.same ∙ e)
 
 -- a change of what a task does leaves it as it is written
-pub threads-kept : (i : ℕ) (g : Core → Core) (cores : List Core) (threads : List TaskUnit) → ((c : Core) → (g c).thread ≡ c.thread) → AreThreads cores threads → AreThreads (change i g cores) threads
+pub threads-kept : (i : ℕ) (g : Core → Core) (cores : List Core) (threads : List TaskUnit) → ((c : Core) → (g c).thread ≡ c.thread)
+    → AreThreads cores threads → AreThreads (change i g cores) threads
 threads-kept i g cores threads same written = record { same = map-kept (λ x. x.thread) i g cores same ∙ written.same }
 
 -- a function with another value at one place
@@ -80,7 +84,8 @@ pub put-other : {A : Type 0} (j k : ℕ) (a : A) (g : ℕ → A) → k ≢ j →
 put-other j k a g differ = ap (λ b. if b then a else g k) (ne_eqb k j differ)
 
 -- activations stay those of ready tasks, where a change leaves a ready task ready
-pub made-kept : (f : Frame) (i : ℕ) (g : Core → Core) (cores : List Core) (current : ℕ → ℕ) (k : ℕ) (m : Made) → ((c : Core) → c.readiness ≡ Ready → (g c).readiness ≡ Ready)
+pub made-kept : (f : Frame) (i : ℕ) (g : Core → Core) (cores : List Core) (current : ℕ → ℕ) (k : ℕ) (m : Made)
+    → ((c : Core) → c.readiness ≡ Ready → (g c).readiness ≡ Ready)
     → IsOf f cores current k m → IsOf f (change i g cores) current k m
 made-kept f i g cores current k m stays is = record {
   row = is.row;
@@ -98,7 +103,8 @@ made-kept f i g cores current k m stays is = record {
         (g c, subst (λ j. slice_get (change i g cores) j ≡ Some (g c)) (sym same) (change-at i g cores c here), stays c ready)
 
 -- on to a part of the instant: no effect comes
-pub base-phase : (f : Frame) (v : View) (l : Log) (current : ℕ → ℕ) (phase : Phase) → Base f v l current → SomeLeft f v → Base f (record v { phase = phase }) l current
+pub base-phase : (f : Frame) (v : View) (l : Log) (current : ℕ → ℕ) (phase : Phase) → Base f v l current → SomeLeft f v
+    → Base f (record v { phase = phase }) l current
 base-phase f v l current phase base some = record {
   clock = base.clock;
   logged = base.logged;
@@ -117,7 +123,8 @@ base-phase f v l current phase base some = record {
 
 -- a task that goes on with other pieces
 busy-goes : (f : Frame) (now : Now) (l : Log) (place j r : ℕ) (c : Core) (p : Piece) (ps qs : List Piece)
-    → Busy f now l place j r c → c.pieces ≡ p ∷ ps → c.left ≡ 0 → rest (ticks_measure f) qs ≤ behind (ticks_measure f) p + rest (ticks_measure f) ps → HasEnd qs
+    → Busy f now l place j r c → c.pieces ≡ p ∷ ps → c.left ≡ 0 → rest (ticks_measure f) qs ≤ behind (ticks_measure f) p + rest (ticks_measure f) ps
+    → HasEnd qs
     → Busy f now l place j r (on_with f.system.costs qs c)
 busy-goes f now l place j r c p ps [] busy is none less ends = absurd ends
 busy-goes f now l place j r c p ps (q ∷ qs) busy is none less ends = record {
@@ -125,21 +132,25 @@ busy-goes f now l place j r c p ps (q ∷ qs) busy is none less ends = record {
   count = busy.count;
   cost = λ row asks.
       let before : c.used + remaining (ticks_measure f) c.left c.pieces ≤ row.cost = busy.cost row asks in
-      let named : c.used + remaining (ticks_measure f) c.left (p ∷ ps) ≤ row.cost = subst (λ xs. c.used + remaining (ticks_measure f) c.left xs ≤ row.cost) is before in
+      let named : c.used + remaining (ticks_measure f) c.left (p ∷ ps) ≤ row.cost
+      = subst (λ xs. c.used + remaining (ticks_measure f) c.left xs ≤ row.cost) is before in
       omega (arith, named, none, less, remaining-own f (slice_get c.thread.durations c.works) q qs);
   ends = ends;
   left = λ still. busy.left none;
 }
 
 -- a task goes on: at its place the pieces are new, and nothing else is
-pub base-goes : (f : Frame) (v : View) (l : Log) (current : ℕ → ℕ) (i : ℕ) (c : Core) (p : Piece) (ps qs : List Piece) → Base f v l current → slice_get v.cores i ≡ Some c
-    → c.pieces ≡ p ∷ ps → c.left ≡ 0 → rest (ticks_measure f) qs ≤ behind (ticks_measure f) p + rest (ticks_measure f) ps → (HasEnd c.pieces → HasEnd qs)
+pub base-goes : (f : Frame) (v : View) (l : Log) (current : ℕ → ℕ) (i : ℕ) (c : Core) (p : Piece) (ps qs : List Piece) → Base f v l current
+    → slice_get v.cores i ≡ Some c
+    → c.pieces ≡ p ∷ ps → c.left ≡ 0 → rest (ticks_measure f) qs ≤ behind (ticks_measure f) p + rest (ticks_measure f) ps
+    → (HasEnd c.pieces → HasEnd qs)
     → Base f (changed i (on_with f.system.costs qs) v) l current
 base-goes f v l current i c p ps qs base here is none less ends = record {
   clock = base.clock;
   logged = base.logged;
   written = threads-kept i (on_with f.system.costs qs) v.cores f.system.threads (λ x. refl) base.written;
-  runs = each-changed-one (IsBusy f (now_of v) l current) i (on_with f.system.costs qs) v.cores c here (λ j d other e. base.runs j d e) (λ r has ready.
+  runs = each-changed-one (IsBusy f (now_of v) l current) i (on_with f.system.costs qs) v.cores c here (λ j d other e. base.runs j d e)
+      (λ r has ready.
       let busy = base.runs i c here r has ready in busy-goes f (now_of v) l (current i) i r c p ps qs busy is none less (ends busy.ends));
   made = λ k m e. made-kept f i (on_with f.system.costs qs) v.cores current k m (λ x ready. ready) (base.made k m e);
 }
@@ -156,17 +167,26 @@ base-opens f v l current i base = record {
   made = λ k m e. made-kept f i opened_core v.cores current k m (λ x ready. ready) (base.made k m e);
 }
 
-pub base-arrivals : (f : Frame) (v : View) (l : Log) (current : ℕ → ℕ) (more : List Arrival) → Base f v l current → Base f (record v { arrivals = more }) l current
-base-arrivals f v l current more base = record { clock = base.clock; logged = base.logged; written = base.written; runs = base.runs; made = base.made }
+pub base-arrivals : (f : Frame) (v : View) (l : Log) (current : ℕ → ℕ) (more : List Arrival) → Base f v l current
+    → Base f (record v { arrivals = more }) l current
+base-arrivals f v l current more base = record {
+  clock = base.clock;
+  logged = base.logged;
+  written = base.written;
+  runs = base.runs;
+  made = base.made;
+}
 
 -- a task without a row changes
-pub base-outside : (f : Frame) (v : View) (l : Log) (current : ℕ → ℕ) (i : ℕ) (g : Core → Core) → f.row_of i ≡ None → ((c : Core) → (g c).thread ≡ c.thread)
+pub base-outside : (f : Frame) (v : View) (l : Log) (current : ℕ → ℕ) (i : ℕ) (g : Core → Core) → f.row_of i ≡ None
+    → ((c : Core) → (g c).thread ≡ c.thread)
     → Base f v l current → Base f (changed i g v) l current
 base-outside f v l current i g none thread base = record {
   clock = base.clock;
   logged = base.logged;
   written = threads-kept i g v.cores f.system.threads thread base.written;
-  runs = each-changed (IsBusy f (now_of v) l current) i g v.cores (λ j d other e. base.runs j d e) (λ x e r has ready. absurd (no-row f i r none has));
+  runs = each-changed (IsBusy f (now_of v) l current) i g v.cores (λ j d other e. base.runs j d e) (λ x e r has ready.
+      absurd (no-row f i r none has));
   made = λ k m e.
       let is = base.made k m e in
       record {

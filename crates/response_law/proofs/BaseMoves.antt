@@ -19,10 +19,12 @@ use Rattle.response_law.proofs.Views.{Core, View, Now, now_of, on_with, waking_c
 use Rattle.response_law.proofs.Frames.{Frame, ticks_measure, HasRow, IsTabled, IsFramed, StartsSome, HasEnd, remaining}
 use Rattle.response_law.proofs.Endings.{block-end, remaining-own}
 use Rattle.response_law.proofs.Base.{Busy, IsBusy, IsOf, Base, SomeLeft, written-at, threads-kept, put, put-here, put-other, made-kept}
-use Rattle.program_calls.proofs.Places.{change-at, get-front, get-last, get-other, length-grown, same-item, each-changed, each-changed-one, each-grown}
+use Rattle.program_calls.proofs.Places.{change-at, get-front, get-last, get-other, length-grown, same-item, each-changed, each-changed-one}
+use Rattle.program_calls.proofs.Places.{each-grown}
 
 -- a released task is ready, and has the pieces of its block before it
-busy-released : (f : Frame) (now : Now) (l : Log) (place i r : ℕ) (m : Made) (qs : List Piece) (c : Core) → slice_get l.acts place ≡ Some m → m.task ≡ i → m.row ≡ r → m.over ≡ None
+busy-released : (f : Frame) (now : Now) (l : Log) (place i r : ℕ) (m : Made) (qs : List Piece) (c : Core) → slice_get l.acts place ≡ Some m
+    → m.task ≡ i → m.row ≡ r → m.over ≡ None
     → schedule.ticks_of place l.ticks ≡ [] → c.used ≡ 0 → ((row : ThreadRow) → slice_get f.rows r ≡ Some row → rest (ticks_measure f) qs ≤ row.cost)
     → HasEnd qs → StartsSome f.system.costs c.thread.durations qs → Busy f now l place i r (on_with f.system.costs qs c)
 busy-released f now l place i r m [] c stands task of_row unended none unused cost ends starts = absurd ends
@@ -37,7 +39,8 @@ busy-released f now l place i r m (q ∷ qs) c stands task of_row unended none u
 }
 
 -- a release of a task with a row
-pub base-released : (f : Frame) (v : View) (l : Log) (current : ℕ → ℕ) (i r : ℕ) (c : Core) (m : Made) → IsFramed f → Base f v l current → HasRow f i r → slice_get v.cores i ≡ Some c
+pub base-released : (f : Frame) (v : View) (l : Log) (current : ℕ → ℕ) (i r : ℕ) (c : Core) (m : Made) → IsFramed f → Base f v l current
+    → HasRow f i r → slice_get v.cores i ≡ Some c
     → (c.readiness ≡ Ready → ⊥) → m.task ≡ i → m.row ≡ r → m.over ≡ None → m.release ≡ v.time
     → Base f (changed i (released_core f.system.costs) v) (started m l) (put i (length l.acts) current)
 base-released f v l current i r c m framed base has here idle task of_row unended now = record {
@@ -46,9 +49,11 @@ base-released f v l current i r c m framed base has here idle task of_row unende
   written = threads-kept i (released_core f.system.costs) v.cores f.system.threads (λ x. refl) base.written;
   runs = each-changed-one (IsBusy f (now_of v) (started m l) (put i (length l.acts) current)) i (released_core f.system.costs) v.cores c here
       (λ j d other e s has' ready.
-      subst (λ place. Busy f (now_of v) (started m l) place j s d) (sym (put-other i j (length l.acts) current other)) (grown j s d (base.runs j d e s has' ready)))
+      subst (λ place. Busy f (now_of v) (started m l) place j s d) (sym (put-other i j (length l.acts) current other))
+      (grown j s d (base.runs j d e s has' ready)))
       own;
-  made = each-grown (IsOf f (change i (released_core f.system.costs) v.cores) (put i (length l.acts) current)) l.acts m (λ k n e. before k n (base.made k n e)) new;
+  made = each-grown (IsOf f (change i (released_core f.system.costs) v.cores) (put i (length l.acts) current)) l.acts m (λ k n e.
+      before k n (base.made k n e)) new;
 }
   where
     tabled : IsTabled f i r c.thread
@@ -56,7 +61,13 @@ base-released f v l current i r c m framed base has here idle task of_row unende
 
     grown : (j s : ℕ) (d : Core) → Busy f (now_of v) l (current j) j s d → Busy f (now_of v) (started m l) (current j) j s d
     grown j s d b = record {
-      own = record { made = b.own.made; stands = get-front l.acts (m ∷ []) (current j) b.own.made b.own.stands; task = b.own.task; of_row = b.own.of_row; unended = b.own.unended };
+      own = record {
+        made = b.own.made;
+        stands = get-front l.acts (m ∷ []) (current j) b.own.made b.own.stands;
+        task = b.own.task;
+        of_row = b.own.of_row;
+        unended = b.own.unended;
+      };
       count = b.count;
       cost = b.cost;
       ends = b.ends;
@@ -75,10 +86,13 @@ base-released f v l current i r c m framed base has here idle task of_row unende
         let rows_same : r ≡ s = same-item (f.row_of i) r s has has' in
         subst (λ place. Busy f (now_of v) (started m l) place i s (released_core f.system.costs c)) (sym (put-here i i (length l.acts) current refl))
         (subst (λ z. Busy f (now_of v) (started m l) (length l.acts) i z (released_core f.system.costs c)) rows_same
-        (busy-released f (now_of v) (started m l) (length l.acts) i r m (pieces c.thread.block (Finishing ∷ [])) (waking_core c) (get-last l.acts m) task of_row unended
-        (base.logged.fresh (length l.acts) (omega arith)) refl own_cost (block-end c.thread.block (Finishing ∷ []) tt) (framed.positive i c.thread (written-at base.written i c here))))
+        (busy-released f (now_of v) (started m l) (length l.acts) i r m (pieces c.thread.block (Finishing ∷ [])) (waking_core c)
+        (get-last l.acts m) task of_row unended
+        (base.logged.fresh (length l.acts) (omega arith)) refl own_cost (block-end c.thread.block (Finishing ∷ []) tt)
+        (framed.positive i c.thread (written-at base.written i c here))))
 
-    before : (k : ℕ) (n : Made) → IsOf f v.cores current k n → IsOf f (change i (released_core f.system.costs) v.cores) (put i (length l.acts) current) k n
+    before : (k : ℕ) (n : Made) → IsOf f v.cores current k n
+        → IsOf f (change i (released_core f.system.costs) v.cores) (put i (length l.acts) current) k n
     before k n is = record {
       row = is.row;
       runs = λ going.
@@ -86,8 +100,13 @@ base-released f v l current i r c m framed base has here idle task of_row unende
           let apart : n.task ≢ i = λ same.
           let at_i : slice_get v.cores i ≡ Some found.0 = subst (λ j. slice_get v.cores j ≡ Some found.0) same found.1 in
           let both : found.0 ≡ c = same-item (slice_get v.cores i) found.0 c at_i here in
-          idle (subst (λ x. x.readiness ≡ Ready) both found.2) in
-          (found.0, get-other i n.task (released_core f.system.costs) v.cores found.0 apart found.1, found.2, put-other i n.task (length l.acts) current apart ∙ found.3);
+          idle (subst (λ x. x.readiness ≡ Ready) both found.2) in (
+            found.0,
+            get-other i n.task (released_core f.system.costs) v.cores found.0 apart found.1,
+            found.2,
+            put-other i n.task (length
+                l.acts) current apart ∙ found.3,
+          );
     }
 
     new : IsOf f (change i (released_core f.system.costs) v.cores) (put i (length l.acts) current) (length l.acts) m
@@ -95,7 +114,8 @@ base-released f v l current i r c m framed base has here idle task of_row unende
       row = subst (λ j. f.row_of j ≡ Some m.row) (sym task) (subst (λ s. f.row_of i ≡ Some s) (sym of_row) has);
       runs = λ going. (
         released_core f.system.costs c,
-        subst (λ j. slice_get (change i (released_core f.system.costs) v.cores) j ≡ Some (released_core f.system.costs c)) (sym task) (change-at i (released_core f.system.costs) v.cores c here),
+        subst (λ j. slice_get (change i (released_core f.system.costs) v.cores) j
+            ≡ Some (released_core f.system.costs c)) (sym task) (change-at i (released_core f.system.costs) v.cores c here),
         refl,
         put-here i m.task (length l.acts) current task,
       );
@@ -107,27 +127,41 @@ rest-not-ready (Periodic offset period) next e = cc
 rest-not-ready (Requested op ceiling separation jitter external) next e = cc
 
 -- ready tasks with rows that differ have different current activations
-current-apart : (f : Frame) (now : Now) (l : Log) (current : ℕ → ℕ) (i j r s : ℕ) (c d : Core) → j ≢ i → Busy f now l (current j) j s d → Busy f now l (current i) i r c → current j ≢ current i
+current-apart : (f : Frame) (now : Now) (l : Log) (current : ℕ → ℕ) (i j r s : ℕ) (c d : Core) → j ≢ i → Busy f now l (current j) j s d
+    → Busy f now l (current i) i r c → current j ≢ current i
 current-apart f now l current i j r s c d differ b busy same =
-    let both : b.own.made ≡ busy.own.made = same-item (slice_get l.acts (current i)) b.own.made busy.own.made (subst (λ k. slice_get l.acts k ≡ Some b.own.made) same b.own.stands) busy.own.stands in
+    let both : b.own.made ≡ busy.own.made = same-item (slice_get l.acts (current i)) b.own.made busy.own.made
+    (subst (λ k. slice_get l.acts k ≡ Some b.own.made) same b.own.stands) busy.own.stands in
     differ (sym b.own.task ∙ ap (λ m. m.task) both ∙ busy.own.task)
 
 -- the end of an activation of a task with a row
-pub base-ended : (f : Frame) (v : View) (l : Log) (current : ℕ → ℕ) (i r : ℕ) (c : Core) → Base f v l current → HasRow f i r → slice_get v.cores i ≡ Some c
-    → c.readiness ≡ Ready → EndsAfter (schedule.ticks_of (current i) l.ticks) (Some v.time) → Base f (changed i ended_core v) (finished (current i) l) current
+pub base-ended : (f : Frame) (v : View) (l : Log) (current : ℕ → ℕ) (i r : ℕ) (c : Core) → Base f v l current → HasRow f i r
+    → slice_get v.cores i ≡ Some c
+    → c.readiness ≡ Ready → EndsAfter (schedule.ticks_of (current i) l.ticks) (Some v.time)
+    → Base f (changed i ended_core v) (finished (current i) l) current
 base-ended f v l current i r c base has here ready ends = record {
   clock = base.clock;
-  logged = finished-logged f.rows l (current i) base.logged (subst (λ n. EndsAfter (schedule.ticks_of (current i) l.ticks) (Some n)) (sym base.clock) ends);
+  logged = finished-logged f.rows l (current i) base.logged (subst (λ n. EndsAfter (schedule.ticks_of (current i) l.ticks) (Some n))
+      (sym base.clock) ends);
   written = threads-kept i ended_core v.cores f.system.threads (λ x. refl) base.written;
-  runs = each-changed (IsBusy f (now_of v) (finished (current i) l) current) i ended_core v.cores (λ j d other e s has' rdy. stays j s d other (base.runs j d e s has' rdy))
+  runs = each-changed (IsBusy f (now_of v) (finished (current i) l) current) i ended_core v.cores
+      (λ j d other e s has' rdy. stays j s d other (base.runs j d e s has' rdy))
       (λ x e s has' rdy. absurd (rest-not-ready x.thread.timing x.next rdy));
-  made = each-changed (IsOf f (change i ended_core v.cores) current) (current i) (over_at (length l.ticks)) l.acts (λ k n other e. before k n other (base.made k n e)) (λ m e.
+  made = each-changed (IsOf f (change i ended_core v.cores) current) (current i) (over_at (length l.ticks)) l.acts
+      (λ k n other e. before k n other (base.made k n e)) (λ m e.
       let is = base.made (current i) m e in record { row = is.row; runs = λ going. absurd (none-some (length l.ticks) (sym going)) });
 }
   where
     stays : (j s : ℕ) (d : Core) → j ≢ i → Busy f (now_of v) l (current j) j s d → Busy f (now_of v) (finished (current i) l) (current j) j s d
     stays j s d differ b = record {
-      own = record { made = b.own.made; stands = get-other (current i) (current j) (over_at (length l.ticks)) l.acts b.own.made (current-apart f (now_of v) l current i j r s c d differ b (base.runs i c here r has ready)) b.own.stands; task = b.own.task; of_row = b.own.of_row; unended = b.own.unended };
+      own = record {
+        made = b.own.made;
+        stands = get-other (current i) (current j) (over_at (length l.ticks)) l.acts b.own.made (current-apart f
+            (now_of v) l current i j r s c d differ b (base.runs i c here r has ready)) b.own.stands;
+        task = b.own.task;
+        of_row = b.own.of_row;
+        unended = b.own.unended;
+      };
       count = b.count;
       cost = b.cost;
       ends = b.ends;
@@ -168,7 +202,8 @@ busy-less : (f : Frame) (now : Now) (l : Log) (place j r : ℕ) (c : Core) → B
     → (row : ThreadRow) → slice_get f.rows r ≡ Some row → length (schedule.ticks_of place l.ticks) < row.cost
 busy-less f now l place j r c busy some row asks =
     let left : 1 ≤ c.left = some-left c.left some in
-    let more : suc (remaining (ticks_measure f) (c.left - 1) c.pieces) ≡ remaining (ticks_measure f) c.left c.pieces = remaining-tick (ticks_measure f) c.left c.pieces busy.ends left in
+    let more : suc (remaining (ticks_measure f) (c.left - 1) c.pieces) ≡ remaining (ticks_measure f) c.left c.pieces
+    = remaining-tick (ticks_measure f) c.left c.pieces busy.ends left in
     let cost : c.used + remaining (ticks_measure f) c.left c.pieces ≤ row.cost = busy.cost row asks in
     let count : length (schedule.ticks_of place l.ticks) ≡ c.used = busy.count in
     omega (arith, more, cost, count)
@@ -193,7 +228,8 @@ busy-ticks f now l place j r c b some clock =
     let count : length (schedule.ticks_of place l.ticks) ≡ c.used = b.count in
     record {
       own = b.own;
-      count = ap length own ∙ length-grown (schedule.ticks_of place l.ticks) (length l.ticks) ∙ (let same : suc (length (schedule.ticks_of place l.ticks)) ≡ c.used + 1 = omega (arith, count) in same);
+      count = ap length own ∙ length-grown (schedule.ticks_of place l.ticks) (length l.ticks) ∙ (let same : suc
+          (length (schedule.ticks_of place l.ticks)) ≡ c.used + 1 = omega (arith, count) in same);
       cost = λ row asks.
           let before : c.used + remaining (ticks_measure f) c.left c.pieces ≤ row.cost = b.cost row asks in
           omega (arith, before, remaining-tick (ticks_measure f) c.left c.pieces b.ends left);
@@ -205,27 +241,32 @@ clock-ticked : (v : View) (l : Log) (o : Option ℕ) → length l.ticks ≡ v.ti
 clock-ticked v l o clock = length-grown l.ticks o ∙ (let same : suc (length l.ticks) ≡ v.time + 1 = omega (arith, clock) in same)
 
 -- a tick that no task with a row uses
-pub base-idle : (f : Frame) (v : View) (l : Log) (current : ℕ → ℕ) (ran : Option ℕ) → Base f v l current → SomeLeft f v → Base f (after_tick ran v.cores v) (ticked None l) current
+pub base-idle : (f : Frame) (v : View) (l : Log) (current : ℕ → ℕ) (ran : Option ℕ) → Base f v l current → SomeLeft f v
+    → Base f (after_tick ran v.cores v) (ticked None l) current
 base-idle f v l current ran base some = record {
   clock = clock-ticked v l None base.clock;
   logged = idle-logged f.rows l base.logged;
   written = base.written;
-  runs = λ j c e r has ready. busy-passes f (now_of v) (now_of (after_tick ran v.cores v)) l None (current j) j r c (base.runs j c e r has ready) (some j r c has e ready) refl;
+  runs = λ j c e r has ready. busy-passes f (now_of v) (now_of (after_tick ran v.cores v)) l None (current j) j r c (base.runs j c e r has
+      ready) (some j r c has e ready) refl;
   made = base.made;
 }
 
 -- a tick that a task with a row uses
-pub base-ticked : (f : Frame) (v : View) (l : Log) (current : ℕ → ℕ) (i r : ℕ) (c : Core) → Base f v l current → SomeLeft f v → HasRow f i r → slice_get v.cores i ≡ Some c → c.readiness ≡ Ready
+pub base-ticked : (f : Frame) (v : View) (l : Log) (current : ℕ → ℕ) (i r : ℕ) (c : Core) → Base f v l current → SomeLeft f v → HasRow f i r
+    → slice_get v.cores i ≡ Some c → c.readiness ≡ Ready
     → Base f (after_tick (Some i) (change i ticked_core v.cores) v) (ticked (Some (current i)) l) current
 base-ticked f v l current i r c base some has here ready = record {
   clock = clock-ticked v l (Some (current i)) base.clock;
   logged = ticked-logged f.rows l (current i) busy.own.made base.logged busy.own.stands busy.own.unended
-      (λ row asks. busy-less f (now_of v) l (current i) i r c busy (some i r c has here ready) row (ap (slice_get f.rows) (sym busy.own.of_row) ∙ asks));
+      (λ row asks. busy-less f (now_of v) l (current i) i r c busy (some i r c has here ready) row
+      (ap (slice_get f.rows) (sym busy.own.of_row) ∙ asks));
   written = threads-kept i ticked_core v.cores f.system.threads (λ x. refl) base.written;
   runs = each-changed-one (IsBusy f after (ticked (Some (current i)) l) current) i ticked_core v.cores c here
       (λ j d other e s has' rdy.
       let b = base.runs j d e s has' rdy in
-      busy-passes f (now_of v) after l (Some (current i)) (current j) j s d b (some j s d has' e rdy) (by-other (current j) (current i) (current-apart f (now_of v) l current i j r s c d other b busy)))
+      busy-passes f (now_of v) after l (Some (current i)) (current j) j s d b (some j s d has' e rdy)
+      (by-other (current j) (current i) (current-apart f (now_of v) l current i j r s c d other b busy)))
       (λ s has' rdy. busy-ticks f (now_of v) l (current i) i s c (base.runs i c here s has' rdy) (some i s c has' here rdy) base.clock);
   made = λ k m e. made-kept f i ticked_core v.cores current k m (λ x rdy. rdy) (base.made k m e);
 }
@@ -238,7 +279,8 @@ base-ticked f v l current i r c base some has here ready = record {
 
 -- at a part of the instant where no effect comes activations that are not over have used less than their row's cost
 pub base-unended : (f : Frame) (v : View) (l : Log) (current : ℕ → ℕ) → Base f v l current → SomeLeft f v
-    → (k : ℕ) (m : Made) (row : ThreadRow) → slice_get l.acts k ≡ Some m → m.over ≡ None → slice_get f.rows m.row ≡ Some row → length (schedule.ticks_of k l.ticks) < row.cost
+    → (k : ℕ) (m : Made) (row : ThreadRow) → slice_get l.acts k ≡ Some m → m.over ≡ None → slice_get f.rows m.row ≡ Some row
+    → length (schedule.ticks_of k l.ticks) < row.cost
 base-unended f v l current base some k m row stands unended asks =
     let is = base.made k m stands in
     let found = is.runs unended in

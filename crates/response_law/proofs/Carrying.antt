@@ -1,13 +1,15 @@
 -- What holds of the pieces behind a block holds with its own before them, and so it goes on to hold as the first piece takes effect.
 use Rattle.std.specs.Prelude.{ℕ, suc, Bool, true, false, List, ◌∷◌, drop, nat_le, Option, if◌then◌else◌, ⊤}
 use Rattle.seq_tree.specs.Names.{Name}
-use Rattle.seq_tree.specs.Statements.{Statement, Statements, Branches, Null, Assign, If, For, ExitWhen, Call, Work, Put, End, Then, Nothing, Else, When}
+use Rattle.seq_tree.specs.Statements.{Statement, Statements, Branches, Null, Assign, If, For, ExitWhen, Call, Work, Put, End, Then, Nothing}
+use Rattle.seq_tree.specs.Statements.{Else, When}
 use Rattle.seq_tree.specs.Variables.{Variables, targets}
 use Rattle.seq_tree.specs.Operations.{out_names}
 use Rattle.seq_tree.specs.Values.{holds}
 use Rattle.seq_tree.specs.Expressions.{Expression}
 use Rattle.machine.specs.Systems.{System, CallTarget, Plain, Protected, Request, Unknown, callee}
-use Rattle.machine.specs.Pieces.{Piece, Idle, Store, Leaving, Calling, Working, Printing, Testing, Turning, Turned, Returning, Closing, Keeping, Opening, Requested, Finishing, turns, pieces_of, pieces, branch_pieces, after_loop}
+use Rattle.machine.specs.Pieces.{Piece, Idle, Store, Leaving, Calling, Working, Printing, Testing, Turning, Turned, Returning, Closing, Keeping}
+use Rattle.machine.specs.Pieces.{Opening, Requested, Finishing, turns, pieces_of, pieces, branch_pieces, after_loop}
 use Rattle.machine.specs.Deeds.{done, called, deed, Silent}
 
 -- a piece that is no part of a request, and no end of an activation
@@ -60,7 +62,8 @@ module _ (P : List Piece → Type 0) (plain : (p : Piece) (ps : List Piece) → 
 
   called-carries : (c : CallTarget) (actuals : List Expression) (vars : Variables) (ps : List Piece) → P ps → P ((called c actuals vars ps).pieces)
   called-carries (Plain o) actuals vars ps h =
-      block-carries o.block (Returning (out_names o.sig.params) (targets o.sig.params actuals) vars ∷ ps) (plain (Returning (out_names o.sig.params) (targets o.sig.params actuals) vars) ps tt h)
+      block-carries o.block (Returning (out_names o.sig.params) (targets o.sig.params actuals) vars ∷ ps)
+      (plain (Returning (out_names o.sig.params) (targets o.sig.params actuals) vars) ps tt h)
   called-carries (Protected object op g o) actuals vars ps h =
       block-carries o.block (Closing object op g.vars (out_names o.sig.params) (targets o.sig.params actuals) vars ∷ ps)
       (plain (Closing object op g.vars (out_names o.sig.params) (targets o.sig.params actuals) vars) ps tt h)
@@ -83,7 +86,8 @@ module _ (P : List Piece → Type 0) (plain : (p : Piece) (ps : List Piece) → 
       by : (b : Bool) → P (if b then pieces block ps else branch_pieces others ps)
       by true = block-carries block ps h
       by false = branches-carry others ps h
-  done-carries y (Turning name at last body) vars ps more h = block-carries body (Turned name at last body ∷ ps) (plain (Turned name at last body) ps tt h)
+  done-carries y (Turning name at last body) vars ps more h
+      = block-carries body (Turned name at last body ∷ ps) (plain (Turned name at last body) ps tt h)
   done-carries y (Turned name at last body) vars ps more h = turns-carry name (suc at) last body ps h
   done-carries y (Returning outs stores caller) vars ps more h = h
   done-carries y (Closing object op data' outs stores caller) vars ps more h = h

@@ -4,7 +4,8 @@ use Rattle.std.proofs.Common.{arith}
 use Rattle.seq_tree.specs.Statements.{Statements}
 use Rattle.seq_tree.specs.Variables.{Variables}
 use Rattle.machine.specs.Systems.{System}
-use Rattle.machine.specs.Pieces.{Piece, Leaving, Working, Turned, Returning, Closing, Keeping, Opening, Requested, Finishing, pieces, ticks_of, after_loop}
+use Rattle.machine.specs.Pieces.{Piece, Leaving, Working, Turned, Returning, Closing, Keeping, Opening, Requested, Finishing, pieces, ticks_of}
+use Rattle.machine.specs.Pieces.{after_loop}
 use Rattle.machine.specs.Deeds.{done}
 use Rattle.program_calls.proofs.Remaining.{own, rest}
 use Rattle.response_law.proofs.Frames.{Frame, ticks_measure, HasEnd, remaining}
@@ -39,7 +40,8 @@ FirstFits (Leaving condition) ps = is_in_loop ps ≡ true
 FirstFits _ ps = ⊤
 
 -- after an effect but that of the end itself it is still to come
-pub done-end : (y : System) (p : Piece) (vars : Variables) (ps : List Piece) → FirstFits p ps → IsNotEnd p → HasEnd (p ∷ ps) → HasEnd ((done y p vars ps).pieces)
+pub done-end : (y : System) (p : Piece) (vars : Variables) (ps : List Piece) → FirstFits p ps → IsNotEnd p → HasEnd (p ∷ ps)
+    → HasEnd ((done y p vars ps).pieces)
 done-end y Finishing vars ps fit more h = absurd more
 done-end y (Leaving condition) vars ps fit more h = done-carries HasEnd end-plain end-request y (Leaving condition) vars ps tt (loop-end ps fit h, h)
 done-end y p vars ps fit more h = done-carries HasEnd end-plain end-request y p vars ps more h

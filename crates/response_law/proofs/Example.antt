@@ -54,17 +54,45 @@ fits = (
   ((lit≤ tt, lit≤ tt), ((lit≤ tt, lit≤ tt), ((lit≤ tt, lit≤ tt), tt))),
 )
 
--- the table is that of the program: a section of a lower task that reaches a task's priority costs at most its blocking, and the sampler alone requests the alarm, once
+-- the table is that of the program: a section of a lower task that reaches a task's priority costs at most its blocking, and the sampler
+-- alone requests the alarm, once
 tabled : AreTabled plant tasks rows
 tabled = record {
   table = record {
     count = lit≤ tt;
     each = (
-      record { asks = lit≤ tt; before_next = lit≤ tt; period = lit≤ tt; works = lit≤ tt; cost = lit≤ tt; block = lit≤ tt; jitter = lit≤ tt; starter = lit< tt },
+      record {
+        asks = lit≤ tt;
+        before_next = lit≤ tt;
+        period = lit≤ tt;
+        works = lit≤ tt;
+        cost = lit≤ tt;
+        block = lit≤ tt;
+        jitter = lit≤ tt;
+        starter = lit< tt;
+      },
       (
-        record { asks = lit≤ tt; before_next = lit≤ tt; period = lit≤ tt; works = lit≤ tt; cost = lit≤ tt; block = lit≤ tt; jitter = lit≤ tt; starter = tt },
+        record {
+          asks = lit≤ tt;
+          before_next = lit≤ tt;
+          period = lit≤ tt;
+          works = lit≤ tt;
+          cost = lit≤ tt;
+          block = lit≤ tt;
+          jitter = lit≤ tt;
+          starter = tt;
+        },
         (
-          record { asks = lit≤ tt; before_next = lit≤ tt; period = lit≤ tt; works = lit≤ tt; cost = lit≤ tt; block = lit≤ tt; jitter = lit≤ tt; starter = tt },
+          record {
+            asks = lit≤ tt;
+            before_next = lit≤ tt;
+            period = lit≤ tt;
+            works = lit≤ tt;
+            cost = lit≤ tt;
+            block = lit≤ tt;
+            jitter = lit≤ tt;
+            starter = tt;
+          },
           tt,
         ),
       ),
@@ -103,7 +131,8 @@ responds : (limit : ℕ) (r : Arrivals) (trace : List Event) → IsAccepted limi
     → NeverStops (named plant trace) × IsBounded (times_of tasks bounds) r.until (named plant trace)
 responds limit r trace accepted meaning = processor-responds limit plant tasks rows bounds r trace readable tabled fits accepted meaning
 
--- one of them, with the longest durations: in ticks, the alarm responds within 5 of its 7, the sampler within 17 of its 19, the watcher within 32 of its 37
+-- one of them, with the longest durations: in ticks, the alarm responds within 5 of its 7, the sampler within 17 of its 19, the watcher
+-- within 32 of its 37
 abbrev alone : Arrivals
 alone = record { until = 40; work = []; items = [] }
 
@@ -112,8 +141,10 @@ accepted = refl
 
 abbrev trace : List Event
 trace =
-    event.Release 0 2 None ∷ event.Release 0 4 None ∷ event.Enter 2 2 1 0 [] ∷ event.Enter 5 2 0 0 [] ∷ event.Leave 7 2 0 0 [] ∷ event.Request 11 2 3 (Some 7) ∷ event.Release 11 3 (Some 7)
-    ∷ event.Leave 11 2 1 0 [] ∷ event.End 16 3 5 ∷ event.End 17 2 12 ∷ event.Enter 19 4 0 0 [] ∷ event.Leave 21 4 0 0 [] ∷ event.End 32 4 15 ∷ event.Horizon 40 ∷ []
+    event.Release 0 2 None ∷ event.Release 0 4 None ∷ event.Enter 2 2 1 0 [] ∷ event.Enter 5 2 0 0 [] ∷ event.Leave 7 2 0 0 []
+    ∷ event.Request 11 2 3 (Some 7) ∷ event.Release 11 3 (Some 7)
+    ∷ event.Leave 11 2 1 0 [] ∷ event.End 16 3 5 ∷ event.End 17 2 12 ∷ event.Enter 19 4 0 0 [] ∷ event.Leave 21 4 0 0 [] ∷ event.End 32 4 15
+    ∷ event.Horizon 40 ∷ []
 
 meaning : Meaning plant alone trace
 meaning = record { steps = 220; tells = refl; stops = refl }

@@ -47,7 +47,8 @@ abbrev log : Unit
 log = unit (codes "log") (Shared 2 [] (operation (codes "note") (Work 2 ∷ []) ∷ []))
 
 abbrev store : Unit
-store = unit (codes "store") (Shared 2 [] (operation (codes "set") (Work 1 ∷ call (codes "log") (codes "note") ∷ Call (codes "alarm") (codes "start") (Number 7 ∷ []) ∷ []) ∷ []))
+store = unit (codes "store") (Shared 2 [] (operation (codes "set") (Work 1 ∷ call (codes "log") (codes "note")
+    ∷ Call (codes "alarm") (codes "start") (Number 7 ∷ []) ∷ []) ∷ []))
 
 abbrev sampling : Unit
 sampling = unit (codes "sampler") (Cyclic 2 0 50 [] (block of_sampler))
@@ -62,7 +63,8 @@ abbrev pub plant : Program
 plant = record { name = codes "plant"; costs = row_costs; units = log ∷ store ∷ sampling ∷ alarming ∷ watching ∷ [] }
 
 -- what holds of each of the units, by its place
-places : (Q : ℕ → Unit → Type 0) → Q 0 log → Q 1 store → Q 2 sampling → Q 3 alarming → Q 4 watching → (k : ℕ) (u : Unit) → slice_get plant.units k ≡ Some u → Q k u
+places : (Q : ℕ → Unit → Type 0) → Q 0 log → Q 1 store → Q 2 sampling → Q 3 alarming → Q 4 watching → (k : ℕ) (u : Unit)
+    → slice_get plant.units k ≡ Some u → Q k u
 places Q a b c d e zero u at = subst (Q 0) (same_Some log u at) a
 places Q a b c d e (suc zero) u at = subst (Q 1) (same_Some store u at) b
 places Q a b c d e (suc (suc zero)) u at = subst (Q 2) (same_Some sampling u at) c
@@ -77,18 +79,22 @@ calls-none name none (via ∷ path) to h = none via h.0
 
 store-calls : (path : List Name) → LeadsTo (CallsUnit plant) (codes "store") path (codes "store") → ⊥
 store-calls [] h = false≢true h
-store-calls (via ∷ path) h = calls-none via (λ to e. false≢true (subst (λ n. CallsUnit plant n to) (same-is via (codes "log") (first (same_name via (codes "log")) h.0)) e)) path (codes "store") h.1
+store-calls (via ∷ path) h = calls-none via
+    (λ to e. false≢true (subst (λ n. CallsUnit plant n to) (same-is via (codes "log") (first (same_name via (codes "log")) h.0)) e)) path
+    (codes "store") h.1
   where
     first : (b : Bool) → (b || false) ≡ true → b ≡ true
     first true e = refl
     first false e = absurd (false≢true e)
 
-plain-none : (name : Name) → ((op : Name) (to : OpName) → Calls plant (record { object = name; op = op }) to → ⊥) → (op : Name) (path : List OpName) (to : OpName)
+plain-none : (name : Name) → ((op : Name) (to : OpName) → Calls plant (record { object = name; op = op }) to → ⊥)
+    → (op : Name) (path : List OpName) (to : OpName)
     → LeadsTo (Calls plant) (record { object = name; op = op }) path to → ⊥
 plain-none name none op [] to h = none op to h
 plain-none name none op (via ∷ path) to h = none op via h.0
 
-rings : (u : Unit) → ((op : Name) (to : OpName) → Calls plant (record { object = u.name; op = op }) to → ⊥) → ((path : List Name) → LeadsTo (CallsUnit plant) u.name path u.name → ⊥) → BreaksRings plant u → ⊥
+rings : (u : Unit) → ((op : Name) (to : OpName) → Calls plant (record { object = u.name; op = op }) to → ⊥)
+    → ((path : List Name) → LeadsTo (CallsUnit plant) u.name path u.name → ⊥) → BreaksRings plant u → ⊥
 rings u plain calls (inl (op, (path, h))) = plain-none u.name plain op path _ h
 rings u plain calls (inr (path, h)) = calls path h
 
@@ -99,17 +105,22 @@ meets Rings Whole broken = broken
 meets Bodies Whole broken = broken
 meets Ranges Whole broken = false≢true broken
 meets Externals Whole broken = broken
-meets Naming (At k) (u, at, broken) = places (λ k u. breaks_naming plant k u ≡ true → ⊥) false≢true false≢true false≢true false≢true false≢true k u at broken
-meets Uses (At k) (u, at, broken) = places (λ k u. breaks_uses plant u ≡ true → ⊥) false≢true false≢true false≢true false≢true false≢true k u at broken
+meets Naming (At k) (u, at, broken) = places (λ k u. breaks_naming plant k u ≡ true
+    → ⊥) false≢true false≢true false≢true false≢true false≢true k u at broken
+meets Uses (At k) (u, at, broken) = places (λ k u. breaks_uses plant u ≡ true
+    → ⊥) false≢true false≢true false≢true false≢true false≢true k u at broken
 meets Rings (At k) (u, at, broken) =
-    places (λ k u. BreaksRings plant u → ⊥) (rings log (λ op to. false≢true) (λ path. calls-none (codes "log") (λ to. false≢true) path (codes "log"))) (rings store (λ op to. false≢true) store-calls)
+    places (λ k u. BreaksRings plant u → ⊥) (rings log (λ op to. false≢true) (λ path. calls-none (codes "log") (λ to. false≢true) path (codes "log")))
+    (rings store (λ op to. false≢true) store-calls)
     (rings sampling (λ op to. false≢true) (λ path. calls-none (codes "sampler") (λ to. false≢true) path (codes "sampler")))
     (rings alarming (λ op to. false≢true) (λ path. calls-none (codes "alarm") (λ to. false≢true) path (codes "alarm")))
     (rings watching (λ op to. false≢true) (λ path. calls-none (codes "watcher") (λ to. false≢true) path (codes "watcher"))) k u at broken
 meets Bodies (At k) (u, at, broken) =
-    places (λ k u. (fault : BodyFault) → unit_fault plant u ≡ Some fault → ⊥) none-some none-some none-some none-some none-some k u at broken.0 broken.1
+    places (λ k u. (fault : BodyFault) → unit_fault plant u ≡ Some fault
+    → ⊥) none-some none-some none-some none-some none-some k u at broken.0 broken.1
 meets Ranges (At k) (u, at, broken) = places (λ k u. breaks_ranges u ≡ true → ⊥) false≢true false≢true false≢true false≢true false≢true k u at broken
-meets Externals (At k) (u, at, broken) = places (λ k u. breaks_external plant u.name u.form ≡ true → ⊥) false≢true false≢true false≢true false≢true false≢true k u at broken
+meets Externals (At k) (u, at, broken) = places (λ k u. breaks_external plant u.name u.form ≡ true
+    → ⊥) false≢true false≢true false≢true false≢true false≢true k u at broken
 
 proper : IsProperProgram (within_limits is_ada_name) plant
 unfolding is_ada_name

@@ -121,9 +121,11 @@ pub record IsFramed (f : Frame) : Type 0 where
   pub units : (i j : ℕ) (t u : TaskUnit) → slice_get f.system.threads i ≡ Some t → slice_get f.system.threads j ≡ Some u → t.unit ≡ u.unit → i ≡ j
   pub ticks : CoversCalls f.system (ticks_measure f)
   pub starts : (j : ℕ) → CoversCalls f.system (requests_measure f j)
-  pub few : (k s i : ℕ) (t : TaskUnit) → HasRow f k s → slice_get f.system.threads i ≡ Some t → dearest (requests_measure f k).weights t.block ≤ quota f k i
+  pub few : (k s i : ℕ) (t : TaskUnit) → HasRow f k s → slice_get f.system.threads i ≡ Some t
+      → dearest (requests_measure f k).weights t.block ≤ quota f k i
   pub starters : (k s i : ℕ) → HasRow f k s → f.starter_of k ≡ Some i → (r : ℕ) × HasRow f i r
-  pub positive : (i : ℕ) (t : TaskUnit) → slice_get f.system.threads i ≡ Some t → StartsSome f.system.costs t.durations (pieces t.block (Finishing ∷ []))
+  pub positive : (i : ℕ) (t : TaskUnit) → slice_get f.system.threads i ≡ Some t
+      → StartsSome f.system.costs t.durations (pieces t.block (Finishing ∷ []))
 
 -- a request as it is kept: the nominal time of the activation that it is for, when it came, and the activation of the starter that it came from
 pub record Kept : Type 0 where

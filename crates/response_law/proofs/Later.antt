@@ -61,20 +61,28 @@ pub still-ended : (acts : List Made) (place now : ℕ) (made : Made) → slice_g
 still-ended acts place now made stands unended k m e = by (cases_eq k place)
   where
     by : (k ≡ place) ⊎ (k ≢ place) → IsStill (change place (over_at now) acts) now k m
-    by (inr differ) = record { made = m; stands = get-other place k (over_at now) acts m differ e; alike = alike-self m; during = λ time near h. h; over = λ time h. h }
+    by (inr differ) = record {
+      made = m;
+      stands = get-other place k (over_at now) acts m differ e;
+      alike = alike-self m;
+      during = λ time near h. h;
+      over = λ time h. h;
+    }
     by (inl same) =
         let here : slice_get acts place ≡ Some m = subst (λ j. slice_get acts j ≡ Some m) same e in
         let is : made ≡ m = same-item (slice_get acts place) made m stands here in
         record {
           made = over_at now m;
-          stands = subst (λ j. slice_get (change place (over_at now) acts) j ≡ Some (over_at now m)) (sym same) (change-at place (over_at now) acts m here);
+          stands = subst (λ j. slice_get (change place (over_at now) acts) j
+              ≡ Some (over_at now m)) (sym same) (change-at place (over_at now) acts m here);
           alike = alike-over now m;
           during = λ time near h. near;
           over = λ time h. absurd (none-some time (sym unended ∙ ap (λ x. x.over) is ∙ h));
         }
 
 -- activations stay timely
-pub timely-later : (rows : List ThreadRow) (shift : ℕ) (acts acts' : List Made) (now k : ℕ) (x m : Made) → ((j : ℕ) (y : Made) → slice_get acts j ≡ Some y → IsStill acts' now j y)
+pub timely-later : (rows : List ThreadRow) (shift : ℕ) (acts acts' : List Made) (now k : ℕ) (x m : Made)
+    → ((j : ℕ) (y : Made) → slice_get acts j ≡ Some y → IsStill acts' now j y)
     → AreAlike x m → x.release ≤ now → IsTimely rows shift acts k x → IsTimely rows shift acts' k m
 timely-later rows shift acts acts' now k x m still alike near h =
     let first : x.nominal ≤ shift + x.asked = h.asked in
@@ -119,8 +127,10 @@ timely-later rows shift acts acts' now k x m still alike near h =
         }))
 
 -- a log with one activation more
-pub timed-started : (rows : List ThreadRow) (shift : ℕ) (l : Log) (m : Made) (row : ThreadRow) → IsTimed rows shift l → slice_get rows m.row ≡ Some row
-    → IsTimely rows shift l.acts (length l.acts) m → ((k : ℕ) (n : Made) → slice_get l.acts k ≡ Some n → n.row ≡ m.row → n.nominal + row.period ≤ m.nominal) → IsTimed rows shift (started m l)
+pub timed-started : (rows : List ThreadRow) (shift : ℕ) (l : Log) (m : Made) (row : ThreadRow) → IsTimed rows shift l
+    → slice_get rows m.row ≡ Some row
+    → IsTimely rows shift l.acts (length l.acts) m → ((k : ℕ) (n : Made) → slice_get l.acts k ≡ Some n → n.row ≡ m.row
+    → n.nominal + row.period ≤ m.nominal) → IsTimed rows shift (started m l)
 timed-started rows shift l m row timed asks timely apart = record {
   each = each-grown (IsTimely rows shift (l.acts ++ m ∷ [])) l.acts m (λ k n e. stays k n (timed.each k n e)) (stays (length l.acts) m timely);
   apart = λ j k x y line less e g same asks'. both j k x y line less same asks' (get-grown l.acts m j x e) (get-grown l.acts m k y g);
@@ -130,7 +140,8 @@ timed-started rows shift l m row timed asks timely apart = record {
     stays k n = timely-later rows shift l.acts (l.acts ++ m ∷ []) n.release k n n (still-grown l.acts m n.release) (alike-self n) (le_refl n.release)
 
     both : (j k : ℕ) (x y : Made) (line : ThreadRow) → j < k → x.row ≡ y.row → slice_get rows y.row ≡ Some line
-        → (slice_get l.acts j ≡ Some x) ⊎ ((j ≡ length l.acts) × (m ≡ x)) → (slice_get l.acts k ≡ Some y) ⊎ ((k ≡ length l.acts) × (m ≡ y)) → x.nominal + line.period ≤ y.nominal
+        → (slice_get l.acts j ≡ Some x) ⊎ ((j ≡ length l.acts) × (m ≡ x)) → (slice_get l.acts k ≡ Some y) ⊎ ((k ≡ length l.acts) × (m ≡ y))
+        → x.nominal + line.period ≤ y.nominal
     both j k x y line less same asks' (inl e) (inl g) = timed.apart j k x y line less e g same asks'
     both j k x y line less same asks' (inl e) (inr new) =
         let is : row ≡ line = same-item (slice_get rows m.row) row line asks (subst (λ z. slice_get rows z.row ≡ Some line) (sym new.1) asks') in
@@ -145,7 +156,8 @@ pub timed-finished : (rows : List ThreadRow) (shift : ℕ) (l : Log) (place : �
 timed-finished rows shift l place made stands unended released timed = record {
   each = λ k m e.
       let w = was k m e in
-      timely-later rows shift l.acts (change place (over_at (length l.ticks)) l.acts) (length l.ticks) k w.made m (still-ended l.acts place (length l.ticks) made stands unended) w.alike
+      timely-later rows shift l.acts (change place (over_at (length l.ticks)) l.acts) (length l.ticks) k w.made m
+      (still-ended l.acts place (length l.ticks) made stands unended) w.alike
       (released k w.made w.stands) (timed.each k w.made w.stands);
   apart = λ j k x y line less e g same asks.
       let a = was j x e in

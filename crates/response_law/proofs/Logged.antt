@@ -1,5 +1,6 @@
 -- A log stays well as an activation starts or ends, and with a tick more.
-use Rattle.std.specs.Prelude.{◌≡◌, ◌≢◌, ◌⊎◌, ℕ, suc, ◌-◌, ◌≤◌, ◌<◌, Bool, true, false, List, [], ◌∷◌, ◌++◌, length, slice_get, Option, Some, None, refl}
+use Rattle.std.specs.Prelude.{◌≡◌, ◌≢◌, ◌⊎◌, ℕ, suc, ◌-◌, ◌≤◌, ◌<◌, Bool, true, false, List, [], ◌∷◌, ◌++◌, length, slice_get, Option, Some}
+use Rattle.std.specs.Prelude.{None, refl}
 use Rattle.std.proofs.Common.{sym, ◌∙◌, ap, subst, arith, inl, inr, zero-le}
 use Rattle.std.proofs.lemmas.Option.{slice_get_within}
 use Rattle.rt_response.specs.declared.rows.ThreadRow.{ThreadRow}
@@ -10,7 +11,8 @@ use Rattle.response_law.proofs.Logs.{Made, Log, started, over_at, finished, tick
 use Rattle.program_calls.proofs.Places.{length-change, get-last, get-grown, get-changed, length-grown, same-item}
 use Rattle.program_calls.proofs.Lists.{each-append}
 
-well-new : (rows : List ThreadRow) (ticks : List (Option ℕ)) (k : ℕ) (m : Made) (row : ThreadRow) → ticks_of k ticks ≡ [] → m.over ≡ None → m.release ≡ length ticks
+well-new : (rows : List ThreadRow) (ticks : List (Option ℕ)) (k : ℕ) (m : Made) (row : ThreadRow) → ticks_of k ticks ≡ [] → m.over ≡ None
+    → m.release ≡ length ticks
     → slice_get rows m.row ≡ Some row → IsWell rows ticks k m
 well-new rows ticks k m row none live now asks = record {
   row = row;
@@ -35,13 +37,15 @@ started-logged rows l m row logged live now asks = record {
         subst (IsWell rows l.ticks k) new.1 (well-new rows l.ticks k m row (logged.fresh k (omega (arith, new.0))) live now asks)
 
 -- an activation that ends now, after the last tick that it used
-pub finished-logged : (rows : List ThreadRow) (l : Log) (k : ℕ) → IsLogged rows l → EndsAfter (ticks_of k l.ticks) (Some (length l.ticks)) → IsLogged rows (finished k l)
+pub finished-logged : (rows : List ThreadRow) (l : Log) (k : ℕ) → IsLogged rows l → EndsAfter (ticks_of k l.ticks) (Some (length l.ticks))
+    → IsLogged rows (finished k l)
 finished-logged rows l k logged ends = record {
   each = λ j n e. go j n (get-changed k (over_at (length l.ticks)) l.acts j n e);
   fresh = λ j far. logged.fresh j (omega (arith, far, length-change k (over_at (length l.ticks)) l.acts));
 }
   where
-    go : (j : ℕ) (n : Made) → ((j ≢ k) × (slice_get l.acts j ≡ Some n)) ⊎ ((j ≡ k) × (m : Made) × (slice_get l.acts j ≡ Some m) × (over_at (length l.ticks) m ≡ n)) → IsWell rows l.ticks j n
+    go : (j : ℕ) (n : Made) → ((j ≢ k) × (slice_get l.acts j ≡ Some n))
+        ⊎ ((j ≡ k) × (m : Made) × (slice_get l.acts j ≡ Some m) × (over_at (length l.ticks) m ≡ n)) → IsWell rows l.ticks j n
     go j n (inl other) = logged.each j n other.1
     go j n (inr here) =
         let well = logged.each j here.1 here.2 in
@@ -55,7 +59,8 @@ finished-logged rows l k logged ends = record {
         } in
         subst (IsWell rows l.ticks j) here.3 now
 
-well-other : (rows : List ThreadRow) (ticks : List (Option ℕ)) (o : Option ℕ) (k : ℕ) (m : Made) → is_by k o ≡ false → IsWell rows ticks k m → IsWell rows (ticks ++ o ∷ []) k m
+well-other : (rows : List ThreadRow) (ticks : List (Option ℕ)) (o : Option ℕ) (k : ℕ) (m : Made) → is_by k o ≡ false → IsWell rows ticks k m
+    → IsWell rows (ticks ++ o ∷ []) k m
 well-other rows ticks o k m e well =
     let same = marks-other k o ticks e in
     let row : ThreadRow = well.row in
@@ -70,7 +75,8 @@ well-other rows ticks o k m e well =
     }
 
 well-own : (rows : List ThreadRow) (ticks : List (Option ℕ)) (k : ℕ) (m : Made) → m.over ≡ None
-    → ((row : ThreadRow) → slice_get rows m.row ≡ Some row → length (ticks_of k ticks) < row.cost) → IsWell rows ticks k m → IsWell rows (ticks ++ Some k ∷ []) k m
+    → ((row : ThreadRow) → slice_get rows m.row ≡ Some row → length (ticks_of k ticks) < row.cost) → IsWell rows ticks k m
+    → IsWell rows (ticks ++ Some k ∷ []) k m
 well-own rows ticks k m live less well =
     let same = marks-own k (Some k) ticks (by-own k) in
     let row : ThreadRow = well.row in
@@ -81,7 +87,8 @@ well-own rows ticks k m live less well =
       row = well.row;
       asks = well.asks;
       released = omega (arith, earlier, length-grown ticks (Some k));
-      after = subst (Each (λ t. m.release ≤ t)) (sym same) (each-append (λ t. m.release ≤ t) (ticks_of k ticks) (length ticks ∷ []) well.after (earlier, tt));
+      after = subst (Each (λ t. m.release ≤ t)) (sym same) (each-append (λ t. m.release ≤ t) (ticks_of k ticks) (length ticks ∷ []) well.after
+          (earlier, tt));
       cost = subst (λ xs. length xs ≤ row.cost) (sym same) more;
       ends = subst (EndsAfter (ticks_of k (ticks ++ Some k ∷ []))) (sym live) tt;
     }

@@ -86,7 +86,8 @@ pub record IsLogged (rows : List ThreadRow) (l : Log) : Type 0 where
 
 -- activations that are not over have used less than their row's cost
 abbrev pub AreUnended : List ThreadRow → Log → Type 0
-AreUnended rows l = (k : ℕ) (m : Made) (row : ThreadRow) → slice_get l.acts k ≡ Some m → m.over ≡ None → slice_get rows m.row ≡ Some row → length (ticks_of k l.ticks) < row.cost
+AreUnended rows l = (k : ℕ) (m : Made) (row : ThreadRow) → slice_get l.acts k ≡ Some m → m.over ≡ None → slice_get rows m.row ≡ Some row
+    → length (ticks_of k l.ticks) < row.cost
 
 -- what holds of each activation of a row
 abbrev pub OfRow : List Made → ℕ → (Made → Type 0) → Type 0

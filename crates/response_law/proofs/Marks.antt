@@ -20,7 +20,8 @@ cons-append : (x : Option ℕ) (xs ys : List ℕ) → cons_option x (xs ++ ys) �
 cons-append None xs ys = refl
 cons-append (Some x) xs ys = refl
 
-pub marks-grown : (m k : ℕ) (o : Option ℕ) (ticks : List (Option ℕ)) → ticks_from m k (ticks ++ o ∷ []) ≡ ticks_from m k ticks ++ mark (m + length ticks) k o
+pub marks-grown : (m k : ℕ) (o : Option ℕ) (ticks : List (Option ℕ)) → ticks_from m k (ticks ++ o ∷ [])
+    ≡ ticks_from m k ticks ++ mark (m + length ticks) k o
 marks-grown m k o [] = let e : m ≡ m + 0 = omega arith in ap (λ n. mark n k o) e
 marks-grown m k o (x ∷ xs) =
     let e : m + 1 + length xs ≡ m + length (x ∷ xs) = omega arith in
@@ -34,7 +35,8 @@ marks-other k o ticks e =
     marks-grown 0 k o ticks ∙ ap (λ b. ticks_of k ticks ++ cons_option (only_if b (0 + length ticks)) []) e ∙ append-nil (ticks_of k ticks)
 
 -- a tick that it uses
-pub marks-own : (k : ℕ) (o : Option ℕ) (ticks : List (Option ℕ)) → is_by k o ≡ true → ticks_of k (ticks ++ o ∷ []) ≡ ticks_of k ticks ++ length ticks ∷ []
+pub marks-own : (k : ℕ) (o : Option ℕ) (ticks : List (Option ℕ)) → is_by k o ≡ true
+    → ticks_of k (ticks ++ o ∷ []) ≡ ticks_of k ticks ++ length ticks ∷ []
 marks-own k o ticks e =
     let n : 0 + length ticks ≡ length ticks = omega arith in
     marks-grown 0 k o ticks ∙ ap (λ b. ticks_of k ticks ++ cons_option (only_if b (0 + length ticks)) []) e ∙ ap (λ i. ticks_of k ticks ++ i ∷ []) n

@@ -14,7 +14,8 @@ use Rattle.response_law.proofs.Views.{Core, View, now_of}
 use Rattle.response_law.proofs.Frames.{Frame, HasRow, no-row, IsFramed, Notes}
 use Rattle.response_law.proofs.Base.{Busy, Base, written-at}
 use Rattle.response_law.proofs.Asking.{Asking}
-use Rattle.response_law.proofs.Told.{answers, with_end, IsOther, answers-other, answers-release, other-release, answers-end, other-end, ends_of, ends-own, ends-else, ends-far, ends-end}
+use Rattle.response_law.proofs.Told.{answers, with_end, IsOther, answers-other, answers-release, other-release, answers-end, other-end, ends_of}
+use Rattle.response_law.proofs.Told.{ends-own, ends-else, ends-far, ends-end}
 use Rattle.program_calls.proofs.Places.{get-grown, length-grown, same-item, each-grown}
 use Rattle.program_calls.proofs.Lists.{each-append}
 
@@ -76,7 +77,8 @@ pub record Moved (f : Frame) (v v' : View) (l : Log) (es : List Event) (users : 
 
 -- events that are not of tasks with rows, or are no releases and ends
 pub record AreQuiet (f : Frame) (es : List Event) : Type 0 where
-  pub same : (j r : ℕ) (t : TaskUnit) (before : List Event) → HasRow f j r → slice_get f.system.threads j ≡ Some t → answers t.unit (before ++ es) ≡ answers t.unit before
+  pub same : (j r : ℕ) (t : TaskUnit) (before : List Event) → HasRow f j r → slice_get f.system.threads j ≡ Some t
+      → answers t.unit (before ++ es) ≡ answers t.unit before
   pub units : Each (HasUnit f) es
 
 pub quiet-none : (f : Frame) → AreQuiet f []
@@ -89,7 +91,8 @@ pub quiet-far : (f : Frame) (i : ℕ) (c : TaskUnit) (e : Event) → IsFramed f 
     → ((u : ℕ) → c.unit ≢ u → IsOther u e) → HasUnit f e → AreQuiet f (e ∷ [])
 quiet-far f i c e framed none at other unit = record {
   same = λ j r t before has stands.
-      answers-other t.unit before e (other t.unit (λ same. no-row f i r none (subst (λ k. f.row_of k ≡ Some r) (sym (framed.units i j c t at stands same)) has)));
+      answers-other t.unit before e (other t.unit
+      (λ same. no-row f i r none (subst (λ k. f.row_of k ≡ Some r) (sym (framed.units i j c t at stands same)) has)));
   units = (unit, tt);
 }
 
@@ -103,11 +106,13 @@ grown-still f v v' l es time quiet = record {
   units = quiet.units;
 }
 
-pub moved-still : (f : Frame) (v v' : View) (l : Log) (n : Notes) (es : List Event) → Along f v' l n → since v ≤ since v' → AreQuiet f es → Moved f v v' l es []
+pub moved-still : (f : Frame) (v v' : View) (l : Log) (n : Notes) (es : List Event) → Along f v' l n → since v ≤ since v' → AreQuiet f es
+    → Moved f v v' l es []
 moved-still f v v' l n es along time quiet = record { log = l; notes = n; along = along; grown = grown-still f v v' l es time quiet }
 
 -- one part after another
-pub grown-then : (f : Frame) (v v' v'' : View) (l l' l'' : Log) (es es' : List Event) (users users' : List (Option ℕ)) → Grown f v v' l l' es users → Grown f v' v'' l' l'' es' users'
+pub grown-then : (f : Frame) (v v' v'' : View) (l l' l'' : Log) (es es' : List Event) (users users' : List (Option ℕ)) → Grown f v v' l l' es users
+    → Grown f v' v'' l' l'' es' users'
     → Grown f v v'' l l'' (es ++ es') (users ++ users')
 grown-then f v v' v'' l l' l'' es es' users users' first second =
     let t1 : since v ≤ since v' = first.time in
@@ -120,7 +125,8 @@ grown-then f v v' v'' l l' l'' es es' users users' first second =
       units = each-append (HasUnit f) es es' first.units second.units;
     }
   where
-    chain : (k : ℕ) (m : Made) (w : WasThere l'.acts k m) → (since v ≤ w.made.release) ⊎ WasThere l.acts k w.made → (since v ≤ m.release) ⊎ WasThere l.acts k m
+    chain : (k : ℕ) (m : Made) (w : WasThere l'.acts k m) → (since v ≤ w.made.release) ⊎ WasThere l.acts k w.made
+        → (since v ≤ m.release) ⊎ WasThere l.acts k m
     chain k m w (inl late) = let same : w.made.release ≡ m.release = w.alike.release in inl (omega (arith, late, same))
     chain k m w (inr u) = inr (record {
       made = u.made;
@@ -135,7 +141,8 @@ grown-then f v v' v'' l l' l'' es es' users users' first second =
       over = over u.over w.over;
     })
       where
-        over : (u.made.over ≡ None) ⊎ (u.made.over ≡ w.made.over) → (w.made.over ≡ None) ⊎ (w.made.over ≡ m.over) → (u.made.over ≡ None) ⊎ (u.made.over ≡ m.over)
+        over : (u.made.over ≡ None) ⊎ (u.made.over ≡ w.made.over) → (w.made.over ≡ None) ⊎ (w.made.over ≡ m.over)
+            → (u.made.over ≡ None) ⊎ (u.made.over ≡ m.over)
         over (inl none) b = inl none
         over (inr same) (inl none) = inl (same ∙ none)
         over (inr same) (inr also) = inr (same ∙ also)
@@ -144,7 +151,8 @@ grown-then f v v' v'' l l' l'' es es' users users' first second =
     grows k m (inl late) = let t1 : since v ≤ since v' = first.time in inl (omega (arith, late, t1))
     grows k m (inr was) = chain k m was (first.grows k was.made was.stands)
 
-pub moved-then : (f : Frame) (v v' v'' : View) (l l' : Log) (es es' : List Event) (users users' : List (Option ℕ)) → Grown f v v' l l' es users → Moved f v' v'' l' es' users'
+pub moved-then : (f : Frame) (v v' v'' : View) (l l' : Log) (es es' : List Event) (users users' : List (Option ℕ)) → Grown f v v' l l' es users
+    → Moved f v' v'' l' es' users'
     → Moved f v v'' l (es ++ es') (users ++ users')
 moved-then f v v' v'' l l' es es' users users' first second = record {
   log = second.log;
@@ -154,16 +162,19 @@ moved-then f v v' v'' l l' es es' users users' first second = record {
 }
 
 -- the users of ticks stay those of their activations
-user-later : (f : Frame) (acts acts' : List Made) (now : ℕ) → ((k : ℕ) (m : Made) → slice_get acts k ≡ Some m → IsStill acts' now k m) → (o user : Option ℕ) → IsUser f acts o user → IsUser f acts' o user
+user-later : (f : Frame) (acts acts' : List Made) (now : ℕ) → ((k : ℕ) (m : Made) → slice_get acts k ≡ Some m → IsStill acts' now k m)
+    → (o user : Option ℕ) → IsUser f acts o user → IsUser f acts' o user
 user-later f acts acts' now all None user h = h
 user-later f acts acts' now all (Some k) user h = let still = all k h.0 h.1 in (still.made, still.stands, h.2 ∙ ap Some still.alike.task)
 
 -- a release of a task with a row
 pub grown-started : (f : Frame) (v v' : View) (l : Log) (i r : ℕ) (c : TaskUnit) (m : Made) (value : Option ℕ) → IsFramed f → since v ≤ since v'
-    → HasRow f i r → slice_get f.system.threads i ≡ Some c → m.row ≡ r → m.over ≡ None → m.release ≡ v.time → since v ≤ v.time → Grown f v v' l (started m l) (event.Release v.time c.unit value ∷ []) []
+    → HasRow f i r → slice_get f.system.threads i ≡ Some c → m.row ≡ r → m.over ≡ None → m.release ≡ v.time → since v ≤ v.time
+    → Grown f v v' l (started m l) (event.Release v.time c.unit value ∷ []) []
 grown-started f v v' l i r c m value framed time has at of_row unended now begun = record {
   time = time;
-  grows = each-grown (λ k x. (since v ≤ x.release) ⊎ WasThere l.acts k x) l.acts m (λ k x e. inr (was-self l.acts k x e)) (inl (omega (arith, now, begun)));
+  grows = each-grown (λ k x. (since v ≤ x.release)
+      ⊎ WasThere l.acts k x) l.acts m (λ k x e. inr (was-self l.acts k x e)) (inl (omega (arith, now, begun)));
   told = λ before known j s t has' at'. told before known j s t has' at' (cases_eq j i);
   used = λ before known. subst (AreUsers f (started m l)) (sym (append-nil before)) (record {
     count = known.count;
@@ -172,7 +183,8 @@ grown-started f v v' l i r c m value framed time has at of_row unended now begun
   units = ((i, c, at, refl), tt);
 }
   where
-    told : (before : List Event) → AreTold f before l.acts → (j s : ℕ) (t : TaskUnit) → HasRow f j s → slice_get f.system.threads j ≡ Some t → (j ≡ i) ⊎ (j ≢ i)
+    told : (before : List Event) → AreTold f before l.acts → (j s : ℕ) (t : TaskUnit) → HasRow f j s → slice_get f.system.threads j ≡ Some t
+        → (j ≡ i) ⊎ (j ≢ i)
         → answers t.unit (before ++ event.Release v.time c.unit value ∷ []) ≡ ends_of s (l.acts ++ m ∷ [])
     told before known j s t has' at' (inl same) =
         let thread_same : c ≡ t = same-item (slice_get f.system.threads i) c t at (subst (λ k. slice_get f.system.threads k ≡ Some t) same at') in
@@ -181,12 +193,16 @@ grown-started f v v' l i r c m value framed time has at of_row unended now begun
         ∙ ap (λ x. ends_of s l.acts ++ (x, None) ∷ []) (sym now) ∙ ap (λ o. ends_of s l.acts ++ (m.release, o) ∷ []) (sym unended)
         ∙ sym (ends-own s l.acts m (of_row ∙ rows_same))
     told before known j s t has' at' (inr differ) =
-        answers-other t.unit before (event.Release v.time c.unit value) (other-release t.unit v.time c.unit value (λ same. differ (framed.units j i t c at' at (sym same))))
-        ∙ known j s t has' at' ∙ sym (ends-else s l.acts m (λ same. differ (framed.one j i s has' (subst (λ x. f.row_of i ≡ Some x) (sym of_row ∙ same) has))))
+        answers-other t.unit before (event.Release v.time c.unit value)
+        (other-release t.unit v.time c.unit value (λ same. differ (framed.units j i t c at' at (sym same))))
+        ∙ known j s t has' at' ∙ sym (ends-else s l.acts m
+        (λ same. differ (framed.one j i s has' (subst (λ x. f.row_of i ≡ Some x) (sym of_row ∙ same) has))))
 
 -- the end of an activation of a task with a row
-pub grown-finished : (f : Frame) (v v' : View) (l : Log) (n : Notes) (i r : ℕ) (c : Core) (used : ℕ) → IsFramed f → Base f v l n.current → since v ≤ since v'
-    → HasRow f i r → slice_get v.cores i ≡ Some c → c.readiness ≡ Ready → Grown f v v' l (finished (n.current i) l) (event.End v.time c.thread.unit used ∷ []) []
+pub grown-finished : (f : Frame) (v v' : View) (l : Log) (n : Notes) (i r : ℕ) (c : Core) (used : ℕ) → IsFramed f → Base f v l n.current
+    → since v ≤ since v'
+    → HasRow f i r → slice_get v.cores i ≡ Some c → c.readiness ≡ Ready
+    → Grown f v v' l (finished (n.current i) l) (event.End v.time c.thread.unit used ∷ []) []
 grown-finished f v v' l n i r c used framed base time has here ready = record {
   time = time;
   grows = λ k x e. inr (was-ended l.acts (n.current i) (length l.ticks) busy.own.made busy.own.stands busy.own.unended k x e);
@@ -194,7 +210,8 @@ grown-finished f v v' l n i r c used framed base time has here ready = record {
   used = λ before known. subst (AreUsers f (finished (n.current i) l)) (sym (append-nil before)) (record {
     count = known.count;
     each = λ k o user e g.
-        user-later f l.acts (change (n.current i) (over_at (length l.ticks)) l.acts) (length l.ticks) (still-ended l.acts (n.current i) (length l.ticks) busy.own.made busy.own.stands busy.own.unended) o user (known.each k o user e g);
+        user-later f l.acts (change (n.current i) (over_at (length l.ticks)) l.acts) (length l.ticks) (still-ended l.acts (n.current i)
+        (length l.ticks) busy.own.made busy.own.stands busy.own.unended) o user (known.each k o user e g);
   });
   units = ((i, c.thread, written-at base.written i c here, refl), tt);
 }
@@ -212,18 +229,22 @@ grown-finished f v v' l n i r c used framed base time has here ready = record {
         let task_is : x.task ≡ i = framed.one x.task i r (subst (λ z. f.row_of x.task ≡ Some z) same is.row) has in
         sym found.3 ∙ ap n.current task_is
 
-    told : (before : List Event) → AreTold f before l.acts → (j s : ℕ) (t : TaskUnit) → HasRow f j s → slice_get f.system.threads j ≡ Some t → (j ≡ i) ⊎ (j ≢ i)
+    told : (before : List Event) → AreTold f before l.acts → (j s : ℕ) (t : TaskUnit) → HasRow f j s → slice_get f.system.threads j ≡ Some t
+        → (j ≡ i) ⊎ (j ≢ i)
         → answers t.unit (before ++ event.End v.time c.thread.unit used ∷ []) ≡ ends_of s (change (n.current i) (over_at (length l.ticks)) l.acts)
     told before known j s t has' at' (inl same) =
-        let thread_same : c.thread ≡ t = same-item (slice_get f.system.threads i) c.thread t at (subst (λ k. slice_get f.system.threads k ≡ Some t) same at') in
+        let thread_same : c.thread ≡ t = same-item (slice_get f.system.threads i) c.thread t at
+        (subst (λ k. slice_get f.system.threads k ≡ Some t) same at') in
         let rows_same : r ≡ s = same-item (f.row_of i) r s has (subst (λ k. f.row_of k ≡ Some s) same has') in
         let ends : ends_of r (change (n.current i) (over_at (length l.ticks)) l.acts) ≡ map (with_end (Some (length l.ticks))) (ends_of r l.acts) =
         ends-end r (n.current i) (length l.ticks) l.acts busy.own.made busy.own.stands busy.own.of_row busy.own.unended alone in
         answers-end t.unit before v.time c.thread.unit used (ap (λ x. x.unit) thread_same) ∙ ap (map (with_end (Some v.time))) (known j s t has' at')
-        ∙ ap (λ z. map (with_end (Some z)) (ends_of s l.acts)) (sym base.clock) ∙ ap (λ z. map (with_end (Some (length l.ticks))) (ends_of z l.acts)) (sym rows_same)
+        ∙ ap (λ z. map (with_end (Some z)) (ends_of s l.acts)) (sym base.clock) ∙ ap (λ z. map (with_end (Some (length l.ticks))) (ends_of z l.acts))
+        (sym rows_same)
         ∙ sym ends ∙ ap (λ z. ends_of z (change (n.current i) (over_at (length l.ticks)) l.acts)) rows_same
     told before known j s t has' at' (inr differ) =
-        answers-other t.unit before (event.End v.time c.thread.unit used) (other-end t.unit v.time c.thread.unit used (λ same. differ (framed.units j i t c.thread at' at (sym same))))
+        answers-other t.unit before (event.End v.time c.thread.unit used)
+        (other-end t.unit v.time c.thread.unit used (λ same. differ (framed.units j i t c.thread at' at (sym same))))
         ∙ known j s t has' at'
         ∙ sym (ends-far s (n.current i) (length l.ticks) l.acts (λ m e same. differ (framed.one j i s has' (has_s m e same))))
       where
@@ -233,7 +254,8 @@ grown-finished f v v' l n i r c used framed base time has here ready = record {
             subst (λ z. f.row_of i ≡ Some z) (sym busy.own.of_row ∙ ap (λ y. y.row) is ∙ same) has
 
 -- a tick
-pub grown-ticked : (f : Frame) (v v' : View) (l : Log) (o user : Option ℕ) → since v ≤ since v' → IsUser f l.acts o user → Grown f v v' l (ticked o l) [] (user ∷ [])
+pub grown-ticked : (f : Frame) (v v' : View) (l : Log) (o user : Option ℕ) → since v ≤ since v' → IsUser f l.acts o user
+    → Grown f v v' l (ticked o l) [] (user ∷ [])
 grown-ticked f v v' l o user time is = record {
   time = time;
   grows = λ k m e. inr (was-self l.acts k m e);
@@ -245,7 +267,8 @@ grown-ticked f v v' l o user time is = record {
   units = tt;
 }
   where
-    each : (before : List (Option ℕ)) → AreUsers f l before → (t : ℕ) (x y : Option ℕ) → (slice_get l.ticks t ≡ Some x) ⊎ ((t ≡ length l.ticks) × (o ≡ x))
+    each : (before : List (Option ℕ)) → AreUsers f l before → (t : ℕ) (x y : Option ℕ) → (slice_get l.ticks t ≡ Some x)
+        ⊎ ((t ≡ length l.ticks) × (o ≡ x))
         → (slice_get before t ≡ Some y) ⊎ ((t ≡ length before) × (user ≡ y)) → IsUser f l.acts x y
     each before known t x y (inl e) (inl g) = known.each t x y e g
     each before known t x y (inl e) (inr new) = absurd (omega (arith, new.0, known.count, slice_get_within l.ticks t x e))

@@ -1,5 +1,6 @@
 -- From a log to a schedule: what it uses and needs, and how far its activations are apart.
-use Rattle.std.specs.Prelude.{◌≡◌, ◌≢◌, ◌⊎◌, ℕ, zero, suc, ◌+◌, ◌-◌, ◌≤◌, ◌<◌, List, [], ◌∷◌, length, slice_get, Option, Some, None, option_map, pos, ◌+ℤ◌, ◌-ℤ◌, ◌≤ℤ◌, refl}
+use Rattle.std.specs.Prelude.{◌≡◌, ◌≢◌, ◌⊎◌, ℕ, zero, suc, ◌+◌, ◌-◌, ◌≤◌, ◌<◌, List, [], ◌∷◌, length, slice_get, Option, Some, None, option_map}
+use Rattle.std.specs.Prelude.{pos, ◌+ℤ◌, ◌-ℤ◌, ◌≤ℤ◌, refl}
 use Rattle.std.proofs.Common.{sym, ◌∙◌, ap, subst, arith, inl, inr, le_refl}
 use Rattle.std.proofs.lemmas.Option.{slice_get_within, slice_get_past}
 use Rattle.std.proofs.lemmas.Bool.{cases_lt}
@@ -8,7 +9,8 @@ use Rattle.rt_response.specs.declared.rows.ThreadRow.{ThreadRow}
 use Rattle.rt_response.specs.declared.rows.Bound.{Bound}
 use Rattle.rt_response.specs.Tables.{Each}
 use Rattle.schedules.specs.Schedules.{Activation, ticks_of, IsAt}
-use Rattle.response_law.proofs.Logs.{Made, Log, EndsAfter, IsWell, IsLogged, AreUnended, IsTimed, need_by, cost_by, activation, activations, schedule_of}
+use Rattle.response_law.proofs.Logs.{Made, Log, EndsAfter, IsWell, IsLogged, AreUnended, IsTimed, need_by, cost_by, activation, activations}
+use Rattle.response_law.proofs.Logs.{schedule_of}
 
 -- an activation of the schedule of a log
 pub get-activation : (rows : List ThreadRow) (shift : ℕ) (ticks : List (Option ℕ)) (n : ℕ) (ms : List Made) (k : ℕ) (a : Activation)
@@ -56,7 +58,8 @@ pub record IsMade (rows : List ThreadRow) (shift : ℕ) (l : Log) (k : ℕ) (a :
   pub stands : slice_get l.acts k ≡ Some made
   pub is : activation rows shift l.ticks k made ≡ a
 
-pub made-of : (rows : List ThreadRow) (shift : ℕ) (l : Log) (k : ℕ) (a : Activation) → slice_get (activations rows shift l.ticks 0 l.acts) k ≡ Some a → IsMade rows shift l k a
+pub made-of : (rows : List ThreadRow) (shift : ℕ) (l : Log) (k : ℕ) (a : Activation) → slice_get (activations rows shift l.ticks 0 l.acts) k ≡ Some a
+    → IsMade rows shift l k a
 made-of rows shift l k a e =
     let found = get-activation rows shift l.ticks 0 l.acts k a e in
     let count : 0 + k ≡ k = omega arith in
@@ -92,28 +95,33 @@ needs-of rows v shift l logged unended k a row b at =
 -- an activation uses at most what it needs, from its release on, and ends after the last of it
 pub uses-of : (rows : List ThreadRow) (shift : ℕ) (l : Log) → IsLogged rows l → AreUnended rows l
     → (k : ℕ) (a : Activation) → slice_get (activations rows shift l.ticks 0 l.acts) k ≡ Some a
-    → (length (ticks_of k l.ticks) ≤ a.need) × Each (λ t. a.release ≤ t) (ticks_of k l.ticks) × (a.end ≡ option_map suc (slice_get (ticks_of k l.ticks) (a.need - 1)))
+    → (length (ticks_of k l.ticks) ≤ a.need) × Each (λ t. a.release ≤ t) (ticks_of k l.ticks)
+    × (a.end ≡ option_map suc (slice_get (ticks_of k l.ticks) (a.need - 1)))
 uses-of rows shift l logged unended k a e =
     let found = made-of rows shift l k a e in
     let m : Made = found.made in
     let well : IsWell rows l.ticks k m = logged.each k m found.stands in
     let row : ThreadRow = well.row in
     let xs : List ℕ = ticks_of k l.ticks in
-    let P : ℕ → Type 0 = λ cost. (length xs ≤ need_by cost (length xs) m.over) × (m.over ≡ option_map suc (slice_get xs (need_by cost (length xs) m.over - 1))) in
+    let P : ℕ → Type 0 = λ cost. (length xs ≤ need_by cost (length xs) m.over)
+    × (m.over ≡ option_map suc (slice_get xs (need_by cost (length xs) m.over - 1))) in
     let by : P row.cost = uses-by row.cost xs m.over well.cost well.ends (λ live. unended k m row found.stands live well.asks) in
     let mine = subst P (sym (ap cost_by well.asks)) by in
-    subst (λ c. (length xs ≤ c.need) × Each (λ t. c.release ≤ t) xs × (c.end ≡ option_map suc (slice_get xs (c.need - 1)))) found.is (mine.0, well.after, mine.1)
+    subst (λ c. (length xs ≤ c.need) × Each (λ t. c.release ≤ t) xs × (c.end ≡ option_map suc (slice_get xs (c.need - 1)))) found.is
+    (mine.0, well.after, mine.1)
 
 shifted-apart : (n m shift period : ℕ) → n + period ≤ m → ((pos n -ℤ pos shift) +ℤ pos period) ≤ℤ (pos m -ℤ pos shift)
 shifted-apart n m shift period h = omega (arith, ints)
 
 -- nominal times of one row differ by at least its period
 pub separate-of : (rows : List ThreadRow) (v : List Bound) (shift : ℕ) (l : Log) → IsTimed rows shift l
-    → (k j : ℕ) (a c : Activation) (row : ThreadRow) (b : Bound) → IsAt rows v (schedule_of rows shift l) k a row b → IsAt rows v (schedule_of rows shift l) j c row b → k ≢ j → a.row ≡ c.row
+    → (k j : ℕ) (a c : Activation) (row : ThreadRow) (b : Bound) → IsAt rows v (schedule_of rows shift l) k a row b
+    → IsAt rows v (schedule_of rows shift l) j c row b → k ≢ j → a.row ≡ c.row
     → ((a.nominal +ℤ pos row.period) ≤ℤ c.nominal) ⊎ ((c.nominal +ℤ pos row.period) ≤ℤ a.nominal)
 separate-of rows v shift l timed k j a c row b at_a at_c differ same = go (cases_lt k j)
   where
-    one : (k j : ℕ) (a c : Activation) → k < j → slice_get (activations rows shift l.ticks 0 l.acts) k ≡ Some a → slice_get (activations rows shift l.ticks 0 l.acts) j ≡ Some c
+    one : (k j : ℕ) (a c : Activation) → k < j → slice_get (activations rows shift l.ticks 0 l.acts) k ≡ Some a
+        → slice_get (activations rows shift l.ticks 0 l.acts) j ≡ Some c
         → a.row ≡ c.row → slice_get rows c.row ≡ Some row → (a.nominal +ℤ pos row.period) ≤ℤ c.nominal
     one k j a c less e f same asks =
         let first = made-of rows shift l k a e in
@@ -122,8 +130,10 @@ separate-of rows v shift l timed k j a c row b at_a at_c differ same = go (cases
         let n : Made = second.made in
         let rows_same : m.row ≡ n.row = ap (λ x. x.row) first.is ∙ same ∙ sym (ap (λ x. x.row) second.is) in
         let apart = timed.apart k j m n row less first.stands second.stands rows_same (ap (λ x. slice_get rows x.row) second.is ∙ asks) in
-        let mine : ((pos m.nominal -ℤ pos shift) +ℤ pos row.period) ≤ℤ (pos n.nominal -ℤ pos shift) = shifted-apart m.nominal n.nominal shift row.period apart in
-        subst (λ x. (x.nominal +ℤ pos row.period) ≤ℤ c.nominal) first.is (subst (λ x. ((pos m.nominal -ℤ pos shift) +ℤ pos row.period) ≤ℤ x.nominal) second.is mine)
+        let mine : ((pos m.nominal -ℤ pos shift) +ℤ pos row.period) ≤ℤ (pos n.nominal -ℤ pos shift)
+        = shifted-apart m.nominal n.nominal shift row.period apart in
+        subst (λ x. (x.nominal +ℤ pos row.period) ≤ℤ c.nominal) first.is
+        (subst (λ x. ((pos m.nominal -ℤ pos shift) +ℤ pos row.period) ≤ℤ x.nominal) second.is mine)
 
     go : (k < j) ⊎ (j ≤ k) → ((a.nominal +ℤ pos row.period) ≤ℤ c.nominal) ⊎ ((c.nominal +ℤ pos row.period) ≤ℤ a.nominal)
     go (inl h) = inl (one k j a c h at_a.stands at_c.stands same at_c.asks)

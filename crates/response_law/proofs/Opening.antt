@@ -18,7 +18,8 @@ abbrev pub nothing_noted : Notes
 nothing_noted = record { current = λ j. 0; kept = λ j. None; taken = [] }
 
 -- a task at the opening
-first-core : (ts : List TaskUnit) (j : ℕ) (c : Core) → slice_get (map core (map first_task ts)) j ≡ Some c → (t : TaskUnit) × (slice_get ts j ≡ Some t) × (core (first_task t) ≡ c)
+first-core : (ts : List TaskUnit) (j : ℕ) (c : Core) → slice_get (map core (map first_task ts)) j ≡ Some c
+    → (t : TaskUnit) × (slice_get ts j ≡ Some t) × (core (first_task t) ≡ c)
 first-core [] j c e = cc
 first-core (t ∷ ts) zero c e = let is : core (first_task t) ≡ c = cc in (t, refl, is)
 first-core (t ∷ ts) (suc j) c e = first-core ts j c e
@@ -46,7 +47,8 @@ first-asked f r row t (Requested op ceiling separation jitter external) = ((λ k
     came true = refl
     came false = tt
 
-pub opening-along : (f : Frame) (as' : List Arrival) → AreKeptApart f.system.threads [] as' → Along f (view (opening f.system as')) empty nothing_noted
+pub opening-along : (f : Frame) (as' : List Arrival) → AreKeptApart f.system.threads [] as'
+    → Along f (view (opening f.system as')) empty nothing_noted
 opening-along f as' apart = record {
   base = record {
     clock = refl;
@@ -57,7 +59,8 @@ opening-along f as' apart = record {
   };
   asking = record {
     timed = record { each = λ k m e. absurd (no_item k m e); apart = λ j k m n row less e g same asks. absurd (no_item j m e) };
-    of = λ j c e. let t = first-core f.system.threads j c e in subst (Asks f (now_of (view (opening f.system as'))) [] nothing_noted j) t.2 (first j t.0);
+    of = λ j c e. let t = first-core f.system.threads j c e
+        in subst (Asks f (now_of (view (opening f.system as'))) [] nothing_noted j) t.2 (first j t.0);
     apart = apart;
   };
 }

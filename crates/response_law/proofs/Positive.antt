@@ -1,10 +1,12 @@
 -- Every activation begins with a piece that takes a tick at least, since all costs, works and durations do.
-use Rattle.std.specs.Prelude.{◌≡◌, ◌⊎◌, ℕ, ◌+◌, ◌≤◌, ◌==◌, ◌||◌, nat_lt, nat_le, Bool, true, false, not, List, [], ◌∷◌, ◌++◌, filter, flat_map, length, slice_get, Option, Some, None, if◌then◌else◌, refl}
+use Rattle.std.specs.Prelude.{◌≡◌, ◌⊎◌, ℕ, ◌+◌, ◌≤◌, ◌==◌, ◌||◌, nat_lt, nat_le, Bool, true, false, not, List, [], ◌∷◌, ◌++◌, filter, flat_map}
+use Rattle.std.specs.Prelude.{length, slice_get, Option, Some, None, if◌then◌else◌, refl}
 use Rattle.std.specs.List.{list_any}
 use Rattle.std.proofs.Common.{sym, ◌∙◌, subst, arith, inl, inr}
 use Rattle.std.proofs.lemmas.Option.{none-some}
 use Rattle.seq_tree.specs.Names.{Name}
-use Rattle.seq_tree.specs.Statements.{Statement, Statements, Branches, Null, Assign, If, For, ExitWhen, Call, Work, Put, End, Then, Nothing, Else, When}
+use Rattle.seq_tree.specs.Statements.{Statement, Statements, Branches, Null, Assign, If, For, ExitWhen, Call, Work, Put, End, Then, Nothing}
+use Rattle.seq_tree.specs.Statements.{Else, When}
 use Rattle.seq_tree.specs.Calls.{statement_works, block_works, branch_works}
 use Rattle.seq_tree.specs.Faults.{or_else, fault_if}
 use Rattle.seq_tree.specs.declared.tree.Costs.{Costs}
@@ -36,7 +38,8 @@ at-least : (high n : ℕ) → is_outside 1 high n ≡ false → 1 ≤ n
 at-least high n e = let low : nat_lt n 1 ≡ false = (or_parts (nat_lt n 1) (nat_lt high n) e).0 in grind arith
 
 pub positive-costs : (p : Program) → MeetsRules p → ArePositive p.costs
-positive-costs p rules = go p.costs (or_parts (costs_break p.costs) (nat_lt 30 (length (filter (λ u. is_task u.form) p.units))) (or_parts (costs_break p.costs || nat_lt 30 (length (filter (λ u. is_task u.form) p.units))) (nat_lt 500 (length p.units)) kept).0).0
+positive-costs p rules = go p.costs (or_parts (costs_break p.costs) (nat_lt 30 (length (filter (λ u. is_task u.form) p.units)))
+    (or_parts (costs_break p.costs || nat_lt 30 (length (filter (λ u. is_task u.form) p.units))) (nat_lt 500 (length p.units)) kept).0).0
   where
     kept : whole_breaks p ≡ false
     kept = by (whole_breaks p) refl
@@ -112,7 +115,9 @@ has-some ns e n i = let not : (n == 0) ≡ false = none-in (λ m. m == 0) n ns e
 
 durations-fit : (p : Program) (ws : List Durations) → works_fault p ws ≡ None → (w : Durations) → IsIn w ws → AreWorks w.ticks
 durations-fit p [] e w i = absurd i
-durations-fit p (x ∷ ws) e w (inl is) = subst (λ z. AreWorks z.ticks) is (fit (slice_get p.units x.task) (or_else-none (durations_fault (slice_get p.units x.task) x.ticks) (works_fault p ws) e).0)
+durations-fit p (x ∷ ws) e w (inl is)
+    = subst (λ z. AreWorks z.ticks) is
+    (fit (slice_get p.units x.task) (or_else-none (durations_fault (slice_get p.units x.task) x.ticks) (works_fault p ws) e).0)
   where
     fit : (o : Option Unit) → durations_fault o x.ticks ≡ None → AreWorks x.ticks
     fit None h = absurd (none-some Unknown (sym h))
@@ -121,9 +126,11 @@ durations-fit p (x ∷ ws) e w (inl is) = subst (λ z. AreWorks z.ticks) is (fit
         by : (b : Bool) → has_nothing x.ticks ≡ b → fault_if b Unfit ≡ None → AreWorks x.ticks
         by false g k = has-some x.ticks g
         by true g k = absurd (none-some Unfit (sym k))
-durations-fit p (x ∷ ws) e w (inr i) = durations-fit p ws (or_else-none (durations_fault (slice_get p.units x.task) x.ticks) (works_fault p ws) e).1 w i
+durations-fit p (x ∷ ws) e w (inr i)
+    = durations-fit p ws (or_else-none (durations_fault (slice_get p.units x.task) x.ticks) (works_fault p ws) e).1 w i
 
-flat-in : (ws : List Durations) (task n : ℕ) → IsIn n (flat_map (λ w. w.ticks) (filter (λ w. w.task == task) ws)) → (w : Durations) × IsIn w ws × IsIn n w.ticks
+flat-in : (ws : List Durations) (task n : ℕ) → IsIn n (flat_map (λ w. w.ticks) (filter (λ w. w.task == task) ws))
+    → (w : Durations) × IsIn w ws × IsIn n w.ticks
 flat-in [] task n i = absurd i
 flat-in (x ∷ ws) task n i = by (x.task == task) i (λ j. flat-in ws task n j)
   where
@@ -136,16 +143,20 @@ flat-in (x ∷ ws) task n i = by (x.task == task) i (λ j. flat-in ws task n j)
     Rest = IsIn n (flat_map (λ w. w.ticks) (filter (λ w. w.task == task) ws))
 
     by : (b : Bool) → IsIn n (flat_map (λ w. w.ticks) (if b then x ∷ filter (λ w. w.task == task) ws else filter (λ w. w.task == task) ws))
-        → (IsIn n (flat_map (λ w. w.ticks) (filter (λ w. w.task == task) ws)) → (w : Durations) × IsIn w ws × IsIn n w.ticks) → (w : Durations) × IsIn w (x ∷ ws) × IsIn n w.ticks
-    by true j later = elim (split x.ticks (flat_map (λ w. w.ticks) (filter (λ w. w.task == task) ws)) j) [ inl here ↦ (x, inl refl, here) | inr far ↦ (let found = later far in (found.0, inr found.1, found.2)) ]
+        → (IsIn n (flat_map (λ w. w.ticks) (filter (λ w. w.task == task) ws)) → (w : Durations) × IsIn w ws × IsIn n w.ticks)
+        → (w : Durations) × IsIn w (x ∷ ws) × IsIn n w.ticks
+    by true j later = elim (split x.ticks (flat_map (λ w. w.ticks) (filter (λ w. w.task == task) ws)) j)
+        [ inl here ↦ (x, inl refl, here) | inr far ↦ (let found = later far in (found.0, inr found.1, found.2)) ]
     by false j later = let found = later j in (found.0, inr found.1, found.2)
 
-thread-durations : (p : Program) (a : Arrivals) (i : ℕ) (t : TaskUnit) → slice_get (system p a).threads i ≡ Some t → (k : ℕ) × (t.durations ≡ durations a k)
+thread-durations : (p : Program) (a : Arrivals) (i : ℕ) (t : TaskUnit) → slice_get (system p a).threads i ≡ Some t
+    → (k : ℕ) × (t.durations ≡ durations a k)
 thread-durations p a i t e =
     let found = made-at (λ (u : ℕ × Unit). thread_by (durations a u.0) u.0 u.1.name u.1.form) 0 p.units i t e in
     by (durations a (0 + found.0)) (0 + found.0) found.1.form found.1.name found.3 refl
   where
-    by : (ds : List ℕ) (k : ℕ) (form : Form) (name : Name) → thread_by ds k name form ≡ Some t → ds ≡ durations a k → (j : ℕ) × (t.durations ≡ durations a j)
+    by : (ds : List ℕ) (k : ℕ) (form : Form) (name : Name) → thread_by ds k name form ≡ Some t → ds ≡ durations a k
+        → (j : ℕ) × (t.durations ≡ durations a j)
     by ds k (Passive ops) name h same = absurd (none-some t h)
     by ds k (Shared ceiling vars ops) name h same = absurd (none-some t h)
     by ds k (Cyclic priority offset period vars block) name h same = (k, sym (durations_is h) ∙ same)
@@ -157,7 +168,8 @@ thread-durations p a i t e =
         durations_is : thread_by ds k name (Sporadic priority ceiling op separation jitter external vars block) ≡ Some t → ds ≡ t.durations
         durations_is g = cc
 
-pub starts-some : (p : Program) (a : Arrivals) (limit : ℕ) → MeetsRules p → IsAccepted limit p a → (i : ℕ) (t : TaskUnit) → slice_get (system p a).threads i ≡ Some t
+pub starts-some : (p : Program) (a : Arrivals) (limit : ℕ) → MeetsRules p → IsAccepted limit p a → (i : ℕ) (t : TaskUnit)
+    → slice_get (system p a).threads i ≡ Some t
     → StartsSome p.costs t.durations (pieces t.block (Finishing ∷ []))
 starts-some p a limit rules accepted i t at = block-start p.costs positive t.durations all t.block (Finishing ∷ []) works (λ w. positive.finish)
   where
@@ -175,6 +187,7 @@ starts-some p a limit rules accepted i t at = block-start p.costs positive t.dur
     works n e =
         let body = task-body p a i t at in
         let outside = none-in (is_outside 1 1000000000) n (flat_map (λ b. block_works b.block) (bodies body.1.form))
-        (or_parts (numbers_break body.1.form || list_any (λ h. nat_lt 8 (length h.params)) (heads body.1.form)) (list_any (is_outside 1 1000000000) (flat_map (λ b. block_works b.block) (bodies body.1.form))) (ranges-kept p rules body.0 body.1 body.3)).1
+        (or_parts (numbers_break body.1.form || list_any (λ h. nat_lt 8 (length h.params)) (heads body.1.form))
+        (list_any (is_outside 1 1000000000) (flat_map (λ b. block_works b.block) (bodies body.1.form))) (ranges-kept p rules body.0 body.1 body.3)).1
         (in-flat (λ b. block_works b.block) body.2 n (bodies body.1.form) body.4 (subst (λ b. IsIn n (block_works b)) (sym body.5) e)) in
         at-least 1000000000 n outside

@@ -1,5 +1,6 @@
 -- The response law of the processor: in every run of a program whose table fits, no stop is told and each tabled task responds within its bound.
-use Rattle.std.specs.Prelude.{◌≡◌, ◌⊎◌, ℕ, suc, ◌+◌, ◌≤◌, ◌<◌, ◌==◌, ◌||◌, nat_lt, not, Bool, true, false, List, [], ◌∷◌, ◌++◌, slice_get, unwrap_or, option_map, Option, Some, None, refl}
+use Rattle.std.specs.Prelude.{◌≡◌, ◌⊎◌, ℕ, suc, ◌+◌, ◌≤◌, ◌<◌, ◌==◌, ◌||◌, nat_lt, not, Bool, true, false, List, [], ◌∷◌, ◌++◌, slice_get}
+use Rattle.std.specs.Prelude.{unwrap_or, option_map, Option, Some, None, refl}
 use Rattle.std.proofs.Common.{sym, ◌∙◌, ap, subst, arith, inl, inr}
 use Rattle.std.proofs.lemmas.Bool.{cases_lt, or_parts}
 use Rattle.std.proofs.lemmas.Option.{none-some}
@@ -12,7 +13,9 @@ use Rattle.ada_tree.specs.Ranges.{is_outside, jitter_breaks, numbers_break}
 use Rattle.ada_tree.specs.Rules.{MeetsRules}
 use Rattle.arrivals_tree.specs.declared.arrivals.Arrival.{Arrival}
 use Rattle.arrivals_tree.specs.Arriving.{Arrivals}
-use Rattle.arrivals_tree.specs.Acceptance.{Unknown, Unfit, Early, Falling, Far, fits, next_nominal, nominal, earlier_times, last_time, request_fault, request_fault_by, request_fault_at, item_fault, requests_fault, works_fault, IsAccepted}
+use Rattle.arrivals_tree.specs.Acceptance.{Unknown, Unfit, Early, Falling, Far, fits, next_nominal, nominal, earlier_times, last_time}
+use Rattle.arrivals_tree.specs.Acceptance.{request_fault, request_fault_by, request_fault_at, item_fault, requests_fault, works_fault}
+use Rattle.arrivals_tree.specs.Acceptance.{IsAccepted}
 use Rattle.rt_response.specs.declared.rows.ThreadRow.{ThreadRow}
 use Rattle.rt_response.specs.declared.rows.Bound.{Bound}
 use Rattle.rt_response.specs.Response.{Fits}
@@ -69,23 +72,33 @@ priority-some p a rules j t at =
         let one = or_parts (is_outside 1 60 t.priority || is_outside 1 1000000000 period) (nat_lt 1000000000 offset) now in
         least t.priority (or_parts (is_outside 1 60 t.priority) (is_outside 1 1000000000 period) one.0).0
     by form e (Requested op ceiling separation jitter external) is =
-        let now : numbers_break (Sporadic t.priority ceiling op separation jitter external t.vars t.block) ≡ false = subst (λ g. numbers_break g ≡ false) is e in
-        let one = or_parts (is_outside 1 60 t.priority || is_outside 1 60 ceiling || is_outside 1 1000000000 separation || jitter_breaks external separation jitter) (nat_lt ceiling t.priority) now in
-        let two = or_parts (is_outside 1 60 t.priority || is_outside 1 60 ceiling || is_outside 1 1000000000 separation) (jitter_breaks external separation jitter) one.0 in
+        let now : numbers_break (Sporadic t.priority ceiling op separation jitter external t.vars t.block) ≡ false
+        = subst (λ g. numbers_break g ≡ false) is e in
+        let one = or_parts (is_outside 1 60 t.priority || is_outside 1 60 ceiling || is_outside 1 1000000000 separation
+        || jitter_breaks external separation jitter) (nat_lt ceiling t.priority) now in
+        let two = or_parts (is_outside 1 60 t.priority || is_outside 1 60 ceiling || is_outside 1 1000000000 separation)
+        (jitter_breaks external separation jitter) one.0 in
         let three = or_parts (is_outside 1 60 t.priority || is_outside 1 60 ceiling) (is_outside 1 1000000000 separation) two.0 in
         least t.priority (or_parts (is_outside 1 60 t.priority) (is_outside 1 60 ceiling) three.0).0
 
 -- arrivals that are accepted keep their separations
 module _ (p : Program) (a : Arrivals) where
-  kept-by : (t : TaskUnit) (form : Form) (before : List Arrival) (x : Arrival) (timing : ReleasePattern) → thread_form t timing form → request_fault_by form before x ≡ None → KeepsApart timing before x
+  kept-by : (t : TaskUnit) (form : Form) (before : List Arrival) (x : Arrival) (timing : ReleasePattern) → thread_form t timing form
+      → request_fault_by form before x ≡ None → KeepsApart timing before x
   kept-by t form before x (Periodic offset period) is e = none-some Unknown (sym (subst (λ g. request_fault_by g before x ≡ None) is e))
   kept-by t form before x (Requested op ceiling separation jitter external) is e =
       let now : request_fault external op separation jitter before x ≡ None = subst (λ g. request_fault_by g before x ≡ None) is e in
-      let one = or_else-none (fault_if (not external) Unknown) (or_else (fault_if (not (fits op x.value)) Unfit) (fault_if (nat_lt (x.time + jitter) (next_nominal separation (nominal separation None (earlier_times x.task before)) x.time)) Early)) now in
-      let two = or_else-none (fault_if (not (fits op x.value)) Unfit) (fault_if (nat_lt (x.time + jitter) (next_nominal separation (nominal separation None (earlier_times x.task before)) x.time)) Early) one.1 in
-      (not-fault external Unknown one.0, late (nat_lt (x.time + jitter) (next_nominal separation (nominal separation None (earlier_times x.task before)) x.time)) refl two.1)
+      let one = or_else-none (fault_if (not external) Unknown) (or_else (fault_if (not (fits op x.value)) Unfit)
+      (fault_if (nat_lt (x.time + jitter) (next_nominal separation (nominal separation None (earlier_times x.task before)) x.time)) Early)) now in
+      let two = or_else-none (fault_if (not (fits op x.value)) Unfit)
+      (fault_if (nat_lt (x.time + jitter) (next_nominal separation (nominal separation None (earlier_times x.task before)) x.time)) Early) one.1 in (
+        not-fault external Unknown one.0,
+        late (nat_lt (x.time + jitter)
+            (next_nominal separation (nominal separation None (earlier_times x.task before)) x.time)) refl two.1,
+      )
     where
-      late : (b : Bool) → nat_lt (x.time + jitter) (next_nominal separation (nominal separation None (earlier_times x.task before)) x.time) ≡ b → fault_if b Early ≡ None
+      late : (b : Bool) → nat_lt (x.time + jitter) (next_nominal separation (nominal separation None (earlier_times x.task before)) x.time) ≡ b
+          → fault_if b Early ≡ None
           → next_nominal separation (nominal separation None (earlier_times x.task before)) x.time ≤ x.time + jitter
       late true g h = absurd (none-some Early (sym h))
       late false g h = grind arith
@@ -97,7 +110,8 @@ module _ (p : Program) (a : Arrivals) where
       let own = or_else-none (fault_if (nat_lt x.time (last_time before)) Falling) (request_fault_at (slice_get p.units x.task) before x) parts.0 in
       (λ j t at unit. one j t at unit own.1, kept-apart (before ++ x ∷ []) items parts.1)
     where
-      one : (j : ℕ) (t : TaskUnit) → slice_get (system p a).threads j ≡ Some t → t.unit ≡ x.task → request_fault_at (slice_get p.units x.task) before x ≡ None → KeepsApart t.timing before x
+      one : (j : ℕ) (t : TaskUnit) → slice_get (system p a).threads j ≡ Some t → t.unit ≡ x.task
+          → request_fault_at (slice_get p.units x.task) before x ≡ None → KeepsApart t.timing before x
       one j t at unit fault =
           let found = thread-at p a j t at in
           let place : x.task ≡ found.0 = sym unit ∙ (found.2).unit in
@@ -111,13 +125,15 @@ module _ (p : Program) (a : Arrivals) (rules : MeetsRules p) where
     closed = λ i unit op ss may. by unit op ss (callee (system p a) unit op) (leads-to (system p a) unit op);
     tasks = λ i t at.
         let body = task-body p a i t at in
-        subst (λ b. BlockFits (Inside Anything []) false b) body.5 (body-fits p rules body.0 body.1 body.3 body.2 body.4 (Inside Anything []) (λ x h. tt));
+        subst (λ b. BlockFits (Inside Anything []) false b) body.5 (body-fits p rules body.0 body.1 body.3 body.2 body.4 (Inside Anything [])
+        (λ x h. tt));
   }
     where
       by : (unit op : Name) (ss : List Resource) (c : CallTarget) → LeadsTo (system p a) unit op c → LeadsWithin Anything c ss
       by unit op ss (Plain o) l =
           let found = library-at p a l.place l.library l.stands in
-          body-fits p rules found.0 found.1 (found.2).stands (op_body o) (op-body-in found.1.form l.library.ops l.at o (ap bodies (found.2).form) l.holds) (Inside Anything ss) (λ x h. tt)
+          body-fits p rules found.0 found.1 (found.2).stands (op_body o)
+          (op-body-in found.1.form l.library.ops l.at o (ap bodies (found.2).form) l.holds) (Inside Anything ss) (λ x h. tt)
       by unit op ss (Protected object j g o) l =
           let found = object-at p a object g l.stands in
           body-fits p rules found.0 found.1 (found.2).stands (op_body o) (op-body-in found.1.form g.ops j o (ap bodies (found.2).form) l.holds)
@@ -127,16 +143,19 @@ module _ (p : Program) (a : Arrivals) (rules : MeetsRules p) where
 
   -- what a call costs covers its body
   costs-deep : (ts : List Ranked) (rows : List ThreadRow) → CoversCalls (system p a) (ticks_measure (frame p ts rows a))
-  costs-deep ts rows unit op = by (callee (system p a) unit op) (pays-call p a (units_apart p rules) (no-ring p rules) (record { object = unit; op = op }))
+  costs-deep ts rows unit op = by (callee (system p a) unit op) (pays-call p a (units_apart p rules) (no-ring p rules)
+      (record { object = unit; op = op }))
     where
-      by : (c : CallTarget) → PaysCall p (record { object = unit; op = op }) c → Covers (ticks_measure (frame p ts rows a)) c ((frame p ts rows a).called unit op)
+      by : (c : CallTarget) → PaysCall p (record { object = unit; op = op }) c
+          → Covers (ticks_measure (frame p ts rows a)) c ((frame p ts rows a).called unit op)
       by (Plain o) h = h
       by (Protected object j g o) h = h
       by (Request task) h = omega (arith, h)
       by systems.Unknown h = tt
 
   -- a task's name is that of its unit alone
-  task-names : (ts : List Ranked) (rows : List ThreadRow) (j : ℕ) (t : TaskUnit) → slice_get (system p a).threads j ≡ Some t → Names (frame p ts rows a) p t.name t.unit
+  task-names : (ts : List Ranked) (rows : List ThreadRow) (j : ℕ) (t : TaskUnit) → slice_get (system p a).threads j ≡ Some t
+      → Names (frame p ts rows a) p t.name t.unit
   task-names ts rows j t at x is = by (thread-at p a j t at) (thread-at p a is.0 is.1 is.2)
     where
       by : (k : ℕ) × (u : Unit) × IsTaskOf p k u t → (k : ℕ) × (u : Unit) × IsTaskOf p k u is.1 → same_name (unit_name p x) t.name ≡ (x == t.unit)
@@ -152,7 +171,8 @@ module _ (p : Program) (a : Arrivals) (rules : MeetsRules p) where
           which true e =
               let same : x ≡ t.unit = grind arith in
               let units : other.0 ≡ own.0 = place ∙ same ∙ (own.2).unit in
-              let one : other.1 ≡ own.1 = same-item (slice_get p.units own.0) other.1 own.1 (subst (λ k. slice_get p.units k ≡ Some other.1) units (other.2).stands) (own.2).stands in
+              let one : other.1 ≡ own.1 = same-item (slice_get p.units own.0) other.1 own.1
+              (subst (λ k. slice_get p.units k ≡ Some other.1) units (other.2).stands) (own.2).stands in
               ap (λ n. same_name n t.name) (name ∙ ap (λ u. u.name) one ∙ (own.2).name) ∙ same-self t.name
           which false e = by_name (same_name (unit_name p x) t.name) refl
             where
@@ -205,7 +225,8 @@ module _ (p : Program) (a : Arrivals) (rules : MeetsRules p) where
             u : Ranked
             u = found.0
 
-            above : (j r : ℕ) → r ≤ i → (w : Ranked) × (slice_get (ranked p) j ≡ Some w) × (slice_get ts r ≡ Some w) → found.0.priority ≤ priority_at (system p a) j
+            above : (j r : ℕ) → r ≤ i → (w : Ranked) × (slice_get (ranked p) j ≡ Some w) × (slice_get ts r ≡ Some w)
+                → found.0.priority ≤ priority_at (system p a) j
             above j r low w = by (cases_lt r i)
               where
                 same : priority_at (system p a) j ≡ w.0.priority
@@ -218,10 +239,12 @@ module _ (p : Program) (a : Arrivals) (rules : MeetsRules p) where
                     let one : w.0 ≡ found.0 = same-item (slice_get ts i) w.0 found.0 (subst (λ k. slice_get ts k ≡ Some w.0) place w.2) found.1 in
                     omega (arith, ap (λ x. x.priority) one, same)
 
-            below : (j r : ℕ) → i < r → (w : Ranked) × (slice_get (ranked p) j ≡ Some w) × (slice_get ts r ≡ Some w) → priority_at (system p a) j < found.0.priority
+            below : (j r : ℕ) → i < r → (w : Ranked) × (slice_get (ranked p) j ≡ Some w) × (slice_get ts r ≡ Some w)
+                → priority_at (system p a) j < found.0.priority
             below j r high w = omega (arith, falls-at ts i r found.0 w.0 tabled.falls high found.1 w.2, priority-is j r w.0 w.1)
 
-            outside : (j : ℕ) → (frame p ts rows a).row_of j ≡ None → (o : Option TaskUnit) → slice_get (system p a).threads j ≡ o → priority_at (system p a) j < found.0.priority
+            outside : (j : ℕ) → (frame p ts rows a).row_of j ≡ None → (o : Option TaskUnit) → slice_get (system p a).threads j ≡ o
+                → priority_at (system p a) j < found.0.priority
             outside j none None e =
                 let zero_priority : priority_at (system p a) j ≡ 0 = ap (λ o. unwrap_or (option_map (λ (t : TaskUnit). t.priority) o) 0) e in
                 let place = place-of p a rules ts rows tabled i found.0 found.1 in
@@ -230,7 +253,8 @@ module _ (p : Program) (a : Arrivals) (rules : MeetsRules p) where
             outside j none (Some t) e =
                 let w = twin-of p a j t e in
                 let out = no-row-out p a rules ts rows tabled j w.0 none w.1 in
-                let all = all-at (λ x. is_among ts x.task.name ≡ false → Each (λ y. x.priority < y.priority) ts) (ranked p) j w.0 tabled.outside w.1 out in
+                let all = all-at (λ x. is_among ts x.task.name ≡ false → Each (λ y. x.priority < y.priority) ts)
+                (ranked p) j w.0 tabled.outside w.1 out in
                 let less : w.0.priority < found.0.priority = all-at (λ y. w.0.priority < y.priority) ts i found.0 all found.1 in
                 omega (arith, less, priority-is j 0 w.0 w.1)
 
@@ -248,7 +272,8 @@ module _ (p : Program) (a : Arrivals) (rules : MeetsRules p) where
         }
 
     -- each task of the list responds
-    task-responds : (v : List Bound) (trace : List machine.Event) → Fits rows v → Meaning p a trace → (k : ℕ) (u : Ranked) (b : Bound) → slice_get ts k ≡ Some u → slice_get v k ≡ Some b
+    task-responds : (v : List Bound) (trace : List machine.Event) → Fits rows v → Meaning p a trace → (k : ℕ) (u : Ranked) (b : Bound)
+        → slice_get ts k ≡ Some u → slice_get v k ≡ Some b
         → Responds a.until (named p trace) (record { thread = u.task.name; ticks = b.response })
     task-responds v trace fit meaning k u b at gets =
         let law = system-responds (frame p ts rows a) v a.items trace (responsive v fit) meaning in
@@ -261,7 +286,8 @@ module _ (p : Program) (a : Arrivals) (rules : MeetsRules p) where
 
 -- what holds of each task with its bound holds of all response times
 each-time : (P : Response → Type 0) (ts : List Ranked) (v : List Bound)
-    → ((k : ℕ) (u : Ranked) (b : Bound) → slice_get ts k ≡ Some u → slice_get v k ≡ Some b → P (record { thread = u.task.name; ticks = b.response })) → Each P (times_of ts v)
+    → ((k : ℕ) (u : Ranked) (b : Bound) → slice_get ts k ≡ Some u → slice_get v k ≡ Some b → P (record { thread = u.task.name; ticks = b.response }))
+    → Each P (times_of ts v)
 each-time P [] v h = tt
 each-time P (t ∷ ts) [] h = tt
 each-time P (t ∷ ts) (b ∷ v) h = (h 0 t b refl refl, each-time P ts v (λ k u c e g. h (suc k) u c e g))
@@ -270,5 +296,6 @@ each-time P (t ∷ ts) (b ∷ v) h = (h 0 t b refl refl, each-time P ts v (λ k 
 pub processor-responds : (limit : ℕ) → ProcessorResponds limit
 processor-responds limit p ts rows v r trace readable tabled fit accepted meaning = (
   tabled-goes-on p ts rows r trace readable.1 tabled meaning,
-  each-time (Responds r.until (named p trace)) ts v (λ k u b at gets. task-responds p r readable.1 ts rows tabled limit accepted v trace fit meaning k u b at gets),
+  each-time (Responds r.until (named p trace)) ts v (λ k u b at gets. task-responds p r readable.1 ts rows tabled limit accepted v trace fit meaning k
+      u b at gets),
 )

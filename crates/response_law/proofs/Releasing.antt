@@ -55,7 +55,8 @@ asked_made i r q time = record { task = i; row = r; nominal = q.nominal; asked =
 released-along : (f : Frame) (v : View) (l : Log) (n : Notes) (i r : ℕ) (c : Core) (m : Made) (row : ThreadRow) → IsFramed f → Along f v l n
     → HasRow f i r → slice_get v.cores i ≡ Some c → (c.readiness ≡ Ready → ⊥) → slice_get f.rows r ≡ Some row
     → m.task ≡ i → m.row ≡ r → m.over ≡ None → m.release ≡ v.time → Wakes f v l n i r c row m
-    → since v ≤ v.time → (value : Option ℕ) → Moved f v (changed i (released_core f.system.costs) v) l (event.Release v.time c.thread.unit value ∷ []) []
+    → since v ≤ v.time → (value : Option ℕ)
+    → Moved f v (changed i (released_core f.system.costs) v) l (event.Release v.time c.thread.unit value ∷ []) []
 released-along f v l n i r c m row framed along has here idle line task of_row unended now woken begun value =
     let after : Along f (changed i (released_core f.system.costs) v) (started m l) (record n { current = put i (length l.acts) n.current }) = record {
       base = base-released f v l n.current i r c m framed along.base has here idle task of_row unended now;
@@ -65,15 +66,18 @@ released-along f v l n i r c m row framed along has here idle line task of_row u
       log = started m l;
       notes = record n { current = put i (length l.acts) n.current };
       along = after;
-      grown = grown-started f v (changed i (released_core f.system.costs) v) l i r c.thread m value framed (le_refl (since v)) has (written-at along.base.written i c here) of_row unended now begun;
+      grown = grown-started f v (changed i (released_core f.system.costs) v) l i r c.thread m value framed (le_refl
+          (since v)) has (written-at along.base.written i c here) of_row unended now begun;
     }
 
 -- a cyclic task is due: it sleeps until its next nominal time, which is now, or its activation ended now
 wakes-cyclic : (f : Frame) (v : View) (l : Log) (n : Notes) (i r until : ℕ) (w : Wait) (row : ThreadRow) (offset period : ℕ)
     → v.phase ≡ Delays → w.readiness ≡ Asleep until → until ≤ v.time → row.period ≤ period
     → Asked f v.phase v.time l.acts n.taken (n.kept i) r w row (Periodic offset period)
-    → IsTimely f.rows f.shift l.acts (length l.acts) (cyclic_made f.shift i r w.next v.time) × OfRow l.acts r (λ x. x.nominal + row.period ≤ f.shift + w.next)
-    × Asked f v.phase v.time (l.acts ++ cyclic_made f.shift i r w.next v.time ∷ []) n.taken (n.kept i) r (wakes (Periodic offset period) w) row (Periodic offset period)
+    → IsTimely f.rows f.shift l.acts (length l.acts) (cyclic_made f.shift i r w.next v.time)
+    × OfRow l.acts r (λ x. x.nominal + row.period ≤ f.shift + w.next)
+    × Asked f v.phase v.time (l.acts ++ cyclic_made f.shift i r w.next v.time ∷ []) n.taken (n.kept i) r (wakes (Periodic offset period) w) row
+    (Periodic offset period)
 wakes-cyclic f v l n i r until w row offset period phase asleep due less asked = (
   record {
     asked = le_refl (f.shift + w.next);
@@ -97,7 +101,8 @@ wakes-cyclic f v l n i r until w row offset period phase asleep due less asked =
     late (inr ended) = inr (follows-of l.acts r v.time (cyclic_made f.shift i r w.next v.time) refl refl ended)
 
 -- a task that is requested is released for the request that is kept, as it comes or as the activation before ends
-cause-of : (f : Frame) (l : Log) (n : Notes) (i r : ℕ) (row : ThreadRow) (unit : ℕ) (op : Signature) (ceiling separation jitter : ℕ) (external : Bool) (q : Kept) (time : ℕ)
+cause-of : (f : Frame) (l : Log) (n : Notes) (i r : ℕ) (row : ThreadRow) (unit : ℕ) (op : Signature) (ceiling separation jitter : ℕ) (external : Bool)
+    (q : Kept) (time : ℕ)
     → IsAsked f i row (Requested op ceiling separation jitter external) → Came f l.acts n.taken row unit external separation jitter (Some q)
     → Cause f.shift l.acts row (length l.acts) (asked_made i r q time)
 cause-of f l n i r row unit op ceiling separation jitter true q time asks came =
@@ -114,11 +119,14 @@ cause-of f l n i r row unit op ceiling separation jitter false q time asks came 
   during = came.during;
 }))
 
-wakes-requested : (f : Frame) (v : View) (l : Log) (n : Notes) (i r : ℕ) (w : Wait) (row : ThreadRow) (op : Signature) (ceiling separation jitter : ℕ) (external : Bool) (q : Kept)
-    → slice_get f.rows r ≡ Some row → IsAsked f i row (Requested op ceiling separation jitter external) → w.open' ≡ true → (v.time ≡ q.asked) ⊎ EndedAt l.acts r v.time
+wakes-requested : (f : Frame) (v : View) (l : Log) (n : Notes) (i r : ℕ) (w : Wait) (row : ThreadRow) (op : Signature) (ceiling separation jitter : ℕ)
+    (external : Bool) (q : Kept)
+    → slice_get f.rows r ≡ Some row → IsAsked f i row (Requested op ceiling separation jitter external) → w.open' ≡ true
+    → (v.time ≡ q.asked) ⊎ EndedAt l.acts r v.time
     → Asked f v.phase v.time l.acts n.taken (Some q) r w row (Requested op ceiling separation jitter external)
     → IsTimely f.rows f.shift l.acts (length l.acts) (asked_made i r q v.time) × OfRow l.acts r (λ x. x.nominal + row.period ≤ q.nominal)
-    × Asked f v.phase v.time (l.acts ++ asked_made i r q v.time ∷ []) n.taken (Some q) r (wakes (Requested op ceiling separation jitter external) w) row (Requested op ceiling separation jitter external)
+    × Asked f v.phase v.time (l.acts ++ asked_made i r q v.time ∷ []) n.taken (Some q) r (wakes (Requested op ceiling separation jitter external) w)
+    row (Requested op ceiling separation jitter external)
 wakes-requested f v l n i r w row op ceiling separation jitter external q line asks opens late asked =
     let awaits : AwaitsAfter f v.time l.acts r w.open' row q = asked.0 in (
       record {
@@ -137,13 +145,15 @@ wakes-requested f v l n i r w row op ceiling separation jitter external q line a
           before = of-row-with l.acts (asked_made i r q v.time) r (λ m. m.nominal ≤ q.nominal) awaits.before (le_refl q.nominal);
           apart = λ e. absurd (false≢true e);
         },
-        came-later f l.acts (l.acts ++ asked_made i r q v.time ∷ []) v.time n.taken row w.unit external separation jitter q (still-grown l.acts (asked_made i r q v.time) v.time) awaits.past asked.1,
+        came-later f l.acts (l.acts ++ asked_made i r q v.time ∷ []) v.time n.taken row w.unit external separation jitter q (still-grown l.acts
+            (asked_made i r q v.time) v.time) awaits.past asked.1,
         tt,
       ),
     )
 
 -- a cyclic task is released
-pub release-cyclic : (f : Frame) (v : View) (l : Log) (n : Notes) (i r until : ℕ) (c : Core) → IsFramed f → Along f v l n → HasRow f i r → slice_get v.cores i ≡ Some c
+pub release-cyclic : (f : Frame) (v : View) (l : Log) (n : Notes) (i r until : ℕ) (c : Core) → IsFramed f → Along f v l n → HasRow f i r
+    → slice_get v.cores i ≡ Some c
     → v.phase ≡ Delays → c.readiness ≡ Asleep until → until ≤ v.time → since v ≤ v.time → (value : Option ℕ)
     → Moved f v (changed i (released_core f.system.costs) v) l (event.Release v.time c.thread.unit value ∷ []) []
 release-cyclic f v l n i r until c framed along has here phase asleep due begun value =
@@ -158,19 +168,26 @@ release-cyclic f v l n i r until c framed along has here phase asleep due begun 
         clash : (x : Readiness) → x ≡ Asleep until → x ≡ Ready → ⊥
         clash x a b = cc
 
-    go : (t : ReleasePattern) → c.thread.timing ≡ t → IsAsked f i tabled.row t → Asked f v.phase v.time l.acts n.taken (n.kept i) r (wait_of c) tabled.row t
+    go : (t : ReleasePattern) → c.thread.timing ≡ t → IsAsked f i tabled.row t
+        → Asked f v.phase v.time l.acts n.taken (n.kept i) r (wait_of c) tabled.row t
         → Moved f v (changed i (released_core f.system.costs) v) l (event.Release v.time c.thread.unit value ∷ []) []
     go (Periodic offset period) is asks asked =
         let m : Made = cyclic_made f.shift i r c.next v.time in
         let woken = wakes-cyclic f v l n i r until (wait_of c) tabled.row offset period phase asleep due asks.0 asked in
-        released-along f v l n i r c m tabled.row framed along has here idle tabled.asks refl refl refl refl
-        (woken.0, woken.1, subst (λ t. Asked f v.phase v.time (l.acts ++ m ∷ []) n.taken (n.kept i) r (wakes t (wait_of c)) tabled.row t) (sym is) woken.2) begun value
+        released-along f v l n i r c m tabled.row framed along has here idle tabled.asks refl refl refl refl (
+          woken.0,
+          woken.1,
+          subst (λ t. Asked f v.phase v.time (l.acts ++ m ∷ []) n.taken (n.kept i) r
+              (wakes t (wait_of c)) tabled.row t) (sym is) woken.2,
+        ) begun value
     go (Requested op ceiling separation jitter external) is asks asked = absurd (subst IsAwake asleep asked.2)
 
 -- a task that is requested and waits is released
-pub release-requested : (f : Frame) (v : View) (l : Log) (n : Notes) (i r : ℕ) (c : Core) → IsFramed f → Along f v l n → HasRow f i r → slice_get v.cores i ≡ Some c
+pub release-requested : (f : Frame) (v : View) (l : Log) (n : Notes) (i r : ℕ) (c : Core) → IsFramed f → Along f v l n → HasRow f i r
+    → slice_get v.cores i ≡ Some c
     → c.readiness ≡ Waiting → c.open' ≡ true → ((q : Kept) → n.kept i ≡ Some q → (v.time ≡ q.asked) ⊎ EndedAt l.acts r v.time)
-    → since v ≤ v.time → (value : Option ℕ) → Moved f v (changed i (released_core f.system.costs) v) l (event.Release v.time c.thread.unit value ∷ []) []
+    → since v ≤ v.time → (value : Option ℕ)
+    → Moved f v (changed i (released_core f.system.costs) v) l (event.Release v.time c.thread.unit value ∷ []) []
 release-requested f v l n i r c framed along has here waits opens late begun value =
     go c.thread.timing refl tabled.asked (n.kept i) refl ((along.asking.of i c here).asked r tabled.row has tabled.asks)
   where
@@ -183,13 +200,15 @@ release-requested f v l n i r c framed along has here waits opens late begun val
         clash : (x : Readiness) → x ≡ Waiting → x ≡ Ready → ⊥
         clash x a b = cc
 
-    go : (t : ReleasePattern) → c.thread.timing ≡ t → IsAsked f i tabled.row t → (o : Option Kept) → n.kept i ≡ o → Asked f v.phase v.time l.acts n.taken o r (wait_of c) tabled.row t
+    go : (t : ReleasePattern) → c.thread.timing ≡ t → IsAsked f i tabled.row t → (o : Option Kept) → n.kept i ≡ o
+        → Asked f v.phase v.time l.acts n.taken o r (wait_of c) tabled.row t
         → Moved f v (changed i (released_core f.system.costs) v) l (event.Release v.time c.thread.unit value ∷ []) []
     go (Periodic offset period) is asks o kept asked = absurd (subst (Sleeps v.phase v.time l.acts r c.next) waits asked.1)
     go (Requested op ceiling separation jitter external) is asks None kept asked = absurd (both_ways c.open' asked.0.1 opens)
     go (Requested op ceiling separation jitter external) is asks (Some q) kept asked =
         let m : Made = asked_made i r q v.time in
-        let woken = wakes-requested f v l n i r (wait_of c) tabled.row op ceiling separation jitter external q tabled.asks asks opens (late q kept) asked in
+        let woken = wakes-requested f v l n i r (wait_of c) tabled.row op ceiling separation jitter external q tabled.asks asks opens
+        (late q kept) asked in
         released-along f v l n i r c m tabled.row framed along has here idle tabled.asks refl refl refl refl (
           woken.0,
           woken.1,

@@ -1,5 +1,6 @@
 -- Each step of the machine moves a log that belongs to its state, and so does a run.
-use Rattle.std.specs.Prelude.{◌≡◌, ◌≢◌, ℕ, zero, suc, ◌+◌, ◌-◌, ◌≤◌, ◌<◌, ◌==◌, Bool, true, false, List, [], ◌∷◌, ◌++◌, map, slice_get, Option, Some, None, ℤ, ⊤, if◌then◌else◌, refl}
+use Rattle.std.specs.Prelude.{◌≡◌, ◌≢◌, ℕ, zero, suc, ◌+◌, ◌-◌, ◌≤◌, ◌<◌, ◌==◌, Bool, true, false, List, [], ◌∷◌, ◌++◌, map, slice_get, Option}
+use Rattle.std.specs.Prelude.{Some, None, ℤ, ⊤, if◌then◌else◌, refl}
 use Rattle.std.proofs.Common.{sym, ◌∙◌, ap, subst, arith, inl, le_refl}
 use Rattle.std.proofs.lemmas.Option.{none-some, same_Some}
 use Rattle.seq_tree.specs.Lists.{change, first_where}
@@ -13,7 +14,8 @@ use Rattle.machine.specs.States.{State, Task, Phase, Effects, Delays, Arriving, 
 use Rattle.machine.specs.Releases.{release_task, serve}
 use Rattle.machine.specs.Dispatch.{Candidate, candidate_if, candidates, first_of, goes_before, dispatched_of, dispatched}
 use Rattle.machine.specs.Effects.{takes_effect}
-use Rattle.machine.specs.Steps.{goes_to, effect_of, effect_at, effect_step, is_due, delay_step, horizon_step, arrive_at, arrival_step, use_step, step_in, step}
+use Rattle.machine.specs.Steps.{goes_to, effect_of, effect_at, effect_step, is_due, delay_step, horizon_step, arrive_at, arrival_step, use_step}
+use Rattle.machine.specs.Steps.{step_in, step}
 use Rattle.machine.specs.Meanings.{run}
 use Rattle.response_law.proofs.Logs.{Log, ticked}
 use Rattle.response_law.proofs.Views.{Core, View, now_of, core, view, released_core, ticked_core, opened_core, changed, after_tick}
@@ -21,7 +23,8 @@ use Rattle.response_law.proofs.Frames.{Frame, HasRow, no-row, IsFramed, Kept, No
 use Rattle.response_law.proofs.Base.{Busy, Base, SomeLeft, written-at, base-phase, base-opens, base-arrivals, base-outside, put, put-here}
 use Rattle.response_law.proofs.BaseMoves.{base-idle, base-ticked}
 use Rattle.response_law.proofs.Asking.{Sleeps}
-use Rattle.response_law.proofs.AskingMoves.{NoMid, asking-open-else, asking-phase, sleeps-delays, sleeps-arriving, sleeps-use, asking-idle, asking-ticked}
+use Rattle.response_law.proofs.AskingMoves.{NoMid, asking-open-else, asking-phase, sleeps-delays, sleeps-arriving, sleeps-use, asking-idle}
+use Rattle.response_law.proofs.AskingMoves.{asking-ticked}
 use Rattle.response_law.proofs.AskingArrives.{asking-arrives, asking-arrives-else}
 use Rattle.response_law.proofs.Moves.{Along, Moved, since_by, since, quiet-none, quiet-one, grown-still, moved-still, moved-then, grown-ticked}
 use Rattle.response_law.proofs.Releasing.{release-cyclic}
@@ -57,7 +60,8 @@ first-each P c (d ∷ ds) h hs = first-each P (if goes_before d c then d else c)
     pick true = hs.0
     pick false = h
 
-pub dispatched-ready : (ts : List Task) (os : List ℤ) (i : ℕ) → dispatched ts os ≡ Some i → (t : Task) × (slice_get ts i ≡ Some t) × (t.readiness ≡ Ready)
+pub dispatched-ready : (ts : List Task) (os : List ℤ) (i : ℕ) → dispatched ts os ≡ Some i
+    → (t : Task) × (slice_get ts i ≡ Some t) × (t.readiness ≡ Ready)
 dispatched-ready ts os i e = by (candidates 0 ts os) (ready-each 0 ts os) e
   where
     by : (cs : List Candidate) → Each (IsReadyAt 0 ts) cs → dispatched_of cs ≡ Some i → (t : Task) × (slice_get ts i ≡ Some t) × (t.readiness ≡ Ready)
@@ -90,9 +94,11 @@ no-mid : (f : Frame) (v : View) (l : Log) (n : Notes) → Along f v l n → (v.p
 no-mid f v l n along other j k s c here has ends = other ((along.asking.of j c here).mid k s has ends).phase
 
 -- effects come to their end
-to-delays : (f : Frame) (s : State) (l : Log) (n : Notes) → Along f (view s) l n → s.phase ≡ Effects → ((j : ℕ) (t : Task) → slice_get s.tasks j ≡ Some t → s.ran ≡ Some j → t.left ≡ 0 → t.pieces ≡ [])
+to-delays : (f : Frame) (s : State) (l : Log) (n : Notes) → Along f (view s) l n → s.phase ≡ Effects
+    → ((j : ℕ) (t : Task) → slice_get s.tasks j ≡ Some t → s.ran ≡ Some j → t.left ≡ 0 → t.pieces ≡ [])
     → Moved f (view s) (view ((goes_to Delays s).0)) l [] []
-to-delays f s l n along effects over = moved-still f (view s) (record (view s) { phase = Delays }) l n [] on (subst (λ q. since_by q s.time ≤ s.time) (sym effects) (le_refl s.time)) (quiet-none f)
+to-delays f s l n along effects over = moved-still f (view s) (record (view s) { phase = Delays }) l n [] on
+    (subst (λ q. since_by q s.time ≤ s.time) (sym effects) (le_refl s.time)) (quiet-none f)
   where
     over' : (j : ℕ) (c : Core) → slice_get (map core s.tasks) j ≡ Some c → s.ran ≡ Some j → c.left ≡ 0 → c.pieces ≡ []
     over' j c e ran none =
@@ -102,10 +108,13 @@ to-delays f s l n along effects over = moved-still f (view s) (record (view s) {
     on : Along f (record (view s) { phase = Delays }) l n
     on = record {
       base = base-phase f (view s) l n.current Delays along.base
-          (λ j r c has here ready none. let busy = along.base.runs j c here r has ready in subst HasEnd (over' j c here (busy.left none).1 none) busy.ends);
+          (λ j r c has here ready none. let busy = along.base.runs j c here r has ready
+          in subst HasEnd (over' j c here (busy.left none).1 none) busy.ends);
       asking = asking-phase f (view s) l n Delays along.asking
-          (λ j k z c here has ends. let mid = (along.asking.of j c here).mid k z has ends in subst (EndsRequest k) (over' j c here mid.ran mid.none) ends)
-          (λ j r c has here sleeps. sleeps-delays s.time l.acts r c.next c.readiness (subst (λ p. Sleeps p s.time l.acts r c.next c.readiness) effects sleeps));
+          (λ j k z c here has ends. let mid = (along.asking.of j c here).mid k z has ends
+          in subst (EndsRequest k) (over' j c here mid.ran mid.none) ends)
+          (λ j r c has here sleeps. sleeps-delays s.time l.acts r c.next c.readiness
+          (subst (λ p. Sleeps p s.time l.acts r c.next c.readiness) effects sleeps));
     }
 
 -- before the use of a tick activations may be released now
@@ -135,14 +144,17 @@ effects-move f s l n framed along fit effects = by_ran s.ran refl
         task_is : (j : ℕ) → s.ran ≡ Some j → i ≡ j
         task_is j is = same-item s.ran i j ran is
 
-        by_task : (o : Option Task) → slice_get s.tasks i ≡ o → Moved f (view s) (view ((effect_at f.system i o s).0)) l ((effect_at f.system i o s).1) []
-        by_task None e = to-delays f s l n along effects (λ j t here is none. absurd (none-some t (sym e ∙ subst (λ k. slice_get s.tasks k ≡ Some t) (sym (task_is j is)) here)))
+        by_task : (o : Option Task) → slice_get s.tasks i ≡ o
+            → Moved f (view s) (view ((effect_at f.system i o s).0)) l ((effect_at f.system i o s).1) []
+        by_task None e = to-delays f s l n along effects
+            (λ j t here is none. absurd (none-some t (sym e ∙ subst (λ k. slice_get s.tasks k ≡ Some t) (sym (task_is j is)) here)))
         by_task (Some t) e = by_pieces t.pieces refl
           where
             own : (j : ℕ) (x : Task) → slice_get s.tasks j ≡ Some x → s.ran ≡ Some j → t ≡ x
             own j x here is = same-item (slice_get s.tasks i) t x e (subst (λ k. slice_get s.tasks k ≡ Some x) (sym (task_is j is)) here)
 
-            by_pieces : (ps : List Piece) → t.pieces ≡ ps → Moved f (view s) (view ((effect_of f.system i t ps s).0)) l ((effect_of f.system i t ps s).1) []
+            by_pieces : (ps : List Piece) → t.pieces ≡ ps
+                → Moved f (view s) (view ((effect_of f.system i t ps s).0)) l ((effect_of f.system i t ps s).1) []
             by_pieces [] is = to-delays f s l n along effects (λ j x here ran' none. sym (ap (λ z. z.pieces) (own j x here ran')) ∙ is)
             by_pieces (p ∷ ps) is = by_left (t.left == 0) refl
               where
@@ -150,14 +162,16 @@ effects-move f s l n framed along fit effects = by_ran s.ran refl
                     → Moved f (view s) (view ((if b then takes_effect f.system i t (done f.system p t.vars ps) s else goes_to Delays s).0)) l
                     ((if b then takes_effect f.system i t (done f.system p t.vars ps) s else goes_to Delays s).1) []
                 by_left true h = let none : t.left ≡ 0 = grind arith in effect-moves f s l n i t p ps framed along fit e is none effects ran
-                by_left false h = to-delays f s l n along effects (λ j x here ran' none. absurd (differs (ap (λ z. z.left) (own j x here ran') ∙ none)))
+                by_left false h = to-delays f s l n along effects
+                    (λ j x here ran' none. absurd (differs (ap (λ z. z.left) (own j x here ran') ∙ none)))
                   where
                     differs : t.left ≡ 0 → ⊥
                     differs none = grind (arith, h)
 
 -- the part of delays
 delays-move : (f : Frame) (s : State) (l : Log) (n : Notes) → IsFramed f → Along f (view s) l n → s.phase ≡ Delays
-    → Moved f (view s) (view ((delay_step f.system (first_where (λ t. is_due s.time t.readiness) s.tasks) s).0)) l ((delay_step f.system (first_where (λ t. is_due s.time t.readiness) s.tasks) s).1) []
+    → Moved f (view s) (view ((delay_step f.system (first_where (λ t. is_due s.time t.readiness) s.tasks) s).0)) l
+    ((delay_step f.system (first_where (λ t. is_due s.time t.readiness) s.tasks) s).1) []
 delays-move f s l n framed along delays = by (first_where (λ t. is_due s.time t.readiness) s.tasks) refl
   where
     asleep : (r : Readiness) → is_due s.time r ≡ true → (until : ℕ) × (r ≡ Asleep until) × (until ≤ s.time)
@@ -165,7 +179,8 @@ delays-move f s l n framed along delays = by (first_where (λ t. is_due s.time t
     asleep Waiting e = cc
     asleep Ready e = cc
 
-    by : (o : Option (ℕ × Task)) → first_where (λ t. is_due s.time t.readiness) s.tasks ≡ o → Moved f (view s) (view ((delay_step f.system o s).0)) l ((delay_step f.system o s).1) []
+    by : (o : Option (ℕ × Task)) → first_where (λ t. is_due s.time t.readiness) s.tasks ≡ o
+        → Moved f (view s) (view ((delay_step f.system o s).0)) l ((delay_step f.system o s).1) []
     by None e = moved-still f (view s) (record (view s) { phase = Arriving }) l n [] on (begun-at s Delays delays (le_refl s.time)) (quiet-none f)
       where
         on : Along f (record (view s) { phase = Arriving }) l n
@@ -180,7 +195,8 @@ delays-move f s l n framed along delays = by (first_where (λ t. is_due s.time t
         }
     by (Some sleeper) e =
         subst (λ o. Moved f (view s) (view ((release_task f.system sleeper.0 o s).0)) l ((release_task f.system sleeper.0 o s).1) []) (sym here)
-        (subst (λ v. Moved f (view s) v l (event.Release s.time sleeper.1.thread.unit sleeper.1.gate.value ∷ []) []) (sym (view-released f.system sleeper.0 s)) (row (f.row_of sleeper.0) refl))
+        (subst (λ v. Moved f (view s) v l (event.Release s.time sleeper.1.thread.unit sleeper.1.gate.value ∷ []) [])
+        (sym (view-released f.system sleeper.0 s)) (row (f.row_of sleeper.0) refl))
       where
         found : (slice_get s.tasks sleeper.0 ≡ Some sleeper.1) × (is_due s.time sleeper.1.readiness ≡ true)
         found = first-where (λ t. is_due s.time t.readiness) s.tasks sleeper.0 sleeper.1 e
@@ -189,11 +205,14 @@ delays-move f s l n framed along delays = by (first_where (λ t. is_due s.time t
         here = found.0
 
         row : (o : Option ℕ) → f.row_of sleeper.0 ≡ o
-            → Moved f (view s) (changed sleeper.0 (released_core f.system.costs) (view s)) l (event.Release s.time sleeper.1.thread.unit sleeper.1.gate.value ∷ []) []
-        row None none = release-outside f (view s) l n sleeper.0 (core sleeper.1) sleeper.1.gate.value framed along none (see s.tasks sleeper.0 sleeper.1 here)
+            → Moved f (view s) (changed sleeper.0 (released_core f.system.costs) (view s)) l
+            (event.Release s.time sleeper.1.thread.unit sleeper.1.gate.value ∷ []) []
+        row None none = release-outside f (view s) l n sleeper.0 (core sleeper.1) sleeper.1.gate.value framed along none
+            (see s.tasks sleeper.0 sleeper.1 here)
         row (Some r) has =
             let due = asleep sleeper.1.readiness found.1 in
-            release-cyclic f (view s) l n sleeper.0 r due.0 (core sleeper.1) framed along has (see s.tasks sleeper.0 sleeper.1 here) delays due.1 due.2 (begun-at s Delays delays (le_refl s.time)) sleeper.1.gate.value
+            release-cyclic f (view s) l n sleeper.0 r due.0 (core sleeper.1) framed along has (see s.tasks sleeper.0 sleeper.1 here) delays due.1
+            due.2 (begun-at s Delays delays (le_refl s.time)) sleeper.1.gate.value
 
 -- the horizon
 horizon-move : (f : Frame) (s : State) (l : Log) (n : Notes) → Along f (view s) l n → s.phase ≡ Arriving
@@ -204,16 +223,20 @@ horizon-move f s l n along arriving = by (s.time == f.system.until)
     on = record {
       base = base-phase f (view s) l n.current Use along.base (some-left f (view s) l n along (not-effects s.phase Arriving arriving tt));
       asking = asking-phase f (view s) l n Use along.asking (no-mid f (view s) l n along (not-effects s.phase Arriving arriving tt))
-          (λ j r c has here sleeps. sleeps-use s.time l.acts r c.next c.readiness (subst (λ p. Sleeps p s.time l.acts r c.next c.readiness) arriving sleeps));
+          (λ j r c has here sleeps. sleeps-use s.time l.acts r c.next c.readiness
+          (subst (λ p. Sleeps p s.time l.acts r c.next c.readiness) arriving sleeps));
     }
 
     by : (b : Bool) → Moved f (view s) (view ((if b then (record s { stopped = true }, event.Horizon s.time ∷ []) else goes_to Use s).0)) l
         ((if b then (record s { stopped = true }, event.Horizon s.time ∷ []) else goes_to Use s).1) []
-    by true = moved-still f (view s) (view s) l n (event.Horizon s.time ∷ []) along (le_refl (since (view s))) (quiet-one f (event.Horizon s.time) (λ u. (refl, refl)) tt)
-    by false = moved-still f (view s) (record (view s) { phase = Use }) l n [] on (begun-to s Arriving (s.time + 1) arriving (omega arith)) (quiet-none f)
+    by true = moved-still f (view s) (view s) l n (event.Horizon s.time ∷ []) along (le_refl (since (view s)))
+        (quiet-one f (event.Horizon s.time) (λ u. (refl, refl)) tt)
+    by false = moved-still f (view s) (record (view s) { phase = Use }) l n [] on (begun-to s Arriving (s.time + 1) arriving (omega arith))
+        (quiet-none f)
 
 -- an arrival
-arrive-move : (f : Frame) (s : State) (l : Log) (n : Notes) (a : Arrival) (others : List Arrival) → IsFramed f → Along f (view s) l n → s.phase ≡ Arriving → s.arrivals ≡ a ∷ others → a.time ≡ s.time
+arrive-move : (f : Frame) (s : State) (l : Log) (n : Notes) (a : Arrival) (others : List Arrival) → IsFramed f → Along f (view s) l n
+    → s.phase ≡ Arriving → s.arrivals ≡ a ∷ others → a.time ≡ s.time
     → Moved f (view s) (view ((arrive_at f.system a (first_where (λ t. t.thread.unit == a.task) s.tasks) (record s { arrivals = others })).0)) l
     ((arrive_at f.system a (first_where (λ t. t.thread.unit == a.task) s.tasks) (record s { arrivals = others })).1) []
 arrive-move f s l n a others framed along arriving is now = by (first_where (λ t. t.thread.unit == a.task) s.tasks) refl
@@ -222,7 +245,8 @@ arrive-move f s l n a others framed along arriving is now = by (first_where (λ 
     s0 = record s { arrivals = others }
 
     by : (o : Option (ℕ × Task)) → first_where (λ t. t.thread.unit == a.task) s.tasks ≡ o
-        → Moved f (view s) (view ((arrive_at f.system a o (record s { arrivals = others })).0)) l ((arrive_at f.system a o (record s { arrivals = others })).1) []
+        → Moved f (view s) (view ((arrive_at f.system a o (record s { arrivals = others })).0)) l
+        ((arrive_at f.system a o (record s { arrivals = others })).1) []
     by None e =
         moved-still f (view s) (record (view s) { arrivals = others }) l (record n { taken = n.taken ++ a ∷ [] }) []
         (record {
@@ -237,11 +261,15 @@ arrive-move f s l n a others framed along arriving is now = by (first_where (λ 
         differs u e h = grind arith
     by (Some x) e =
         moved-then f (view s) (view s1) _ l l _ _ [] []
-        (grown-still f (view s) (view s1) l (event.Arrive s.time a.task a.value ∷ []) (le_refl (since (view s))) (quiet-one f (event.Arrive s.time a.task a.value) (λ u. (refl, refl)) tt))
+        (grown-still f (view s) (view s1) l (event.Arrive s.time a.task a.value ∷ []) (le_refl (since (view s)))
+        (quiet-one f (event.Arrive s.time a.task a.value) (λ u. (refl, refl)) tt))
         (row (f.row_of x.0) refl)
       where
         s1 : State
-        s1 = record (record s { arrivals = others }) { tasks = change x.0 (λ u. record u { gate = record { value = a.value; open' = true } }) s.tasks }
+        s1 = record (record s { arrivals = others }) {
+          tasks
+              = change x.0 (λ u. record u { gate = record { value = a.value; open' = true } }) s.tasks;
+        }
 
         found : (slice_get s.tasks x.0 ≡ Some x.1) × ((x.1.thread.unit == a.task) ≡ true)
         found = first-where (λ t. t.thread.unit == a.task) s.tasks x.0 x.1 e
@@ -255,7 +283,10 @@ arrive-move f s l n a others framed along arriving is now = by (first_where (λ 
             unit_is : (x.1.thread.unit == a.task) ≡ true → x.1.thread.unit ≡ a.task
             unit_is h = grind arith
 
-        seen_as : view (record (record s { arrivals = others }) { tasks = change x.0 (λ u. record u { gate = record { value = a.value; open' = true } }) s.tasks })
+        seen_as : view (record (record s { arrivals = others }) {
+          tasks
+              = change x.0 (λ u. record u { gate = record { value = a.value; open' = true } }) s.tasks;
+        })
             ≡ record (changed x.0 opened_core (view s)) { arrivals = others }
         seen_as =
             ap (λ cs. let v : View = record { time = s.time; phase = s.phase; ran = s.ran; arrivals = others; cores = cs } in v)
@@ -265,19 +296,31 @@ arrive-move f s l n a others framed along arriving is now = by (first_where (λ 
         base = base-arrivals f (changed x.0 opened_core (view s)) l n.current others (base-opens f (view s) l n.current x.0 along.base)
 
         row : (o : Option ℕ) → f.row_of x.0 ≡ o
-            → Moved f (view (record (record s { arrivals = others }) { tasks = change x.0 (λ u. record u { gate = record { value = a.value; open' = true } }) s.tasks }))
-            (view ((serve f.system x.0 (record (record s { arrivals = others }) { tasks = change x.0 (λ u. record u { gate = record { value = a.value; open' = true } }) s.tasks })).0)) l
-            ((serve f.system x.0 (record (record s { arrivals = others }) { tasks = change x.0 (λ u. record u { gate = record { value = a.value; open' = true } }) s.tasks })).1) []
+            → Moved f (view (record (record s { arrivals = others }) {
+              tasks
+                  = change x.0 (λ u. record u { gate = record { value = a.value; open' = true } }) s.tasks;
+            }))
+            (view ((serve f.system x.0 (record (record s { arrivals = others }) {
+              tasks
+                  = change x.0 (λ u. record u { gate = record { value = a.value; open' = true } }) s.tasks;
+            })).0)) l
+            ((serve f.system x.0 (record (record s { arrivals = others }) {
+              tasks
+                  = change x.0 (λ u. record u { gate = record { value = a.value; open' = true } }) s.tasks;
+            })).1) []
         row None none =
             let n' : Notes = record n { taken = n.taken ++ a ∷ [] } in
             let on : Along f (record (changed x.0 opened_core (view s)) { arrivals = others }) l n' = record {
               base = base;
-              asking = asking-arrives-else f (changed x.0 opened_core (view s)) l n a others (asking-open-else f (view s) l n x.0 none along.asking) is
+              asking = asking-arrives-else f (changed x.0 opened_core (view s)) l n a others
+                  (asking-open-else f (view s) l n x.0 none along.asking) is
                   (λ j r c has at. each-changed (λ j d. HasRow f j r → a.task ≢ d.thread.unit) x.0 opened_core (map core s.tasks)
-                  (λ k d other e' has' same. other (framed.units k x.0 d.thread x.1.thread (written-at along.base.written k d e') (written-at along.base.written x.0 (core x.1) here) (sym same ∙ sym unit)))
+                  (λ k d other e' has' same. other (framed.units k x.0 d.thread x.1.thread (written-at along.base.written k d e')
+                  (written-at along.base.written x.0 (core x.1) here) (sym same ∙ sym unit)))
                   (λ d e' has'. absurd (no-row f x.0 r none has')) j c at has);
             } in
-            serve-moves f s1 l n' x.0 framed (subst (λ v. Along f v l n') (sym seen_as) on) (λ r q has kept. absurd (no-row f x.0 r none has)) (begun-at s Arriving arriving (le_refl s.time))
+            serve-moves f s1 l n' x.0 framed (subst (λ v. Along f v l n') (sym seen_as) on) (λ r q has kept. absurd (no-row f x.0 r none has))
+            (begun-at s Arriving arriving (le_refl s.time))
         row (Some r) has =
             let arrived = asking-arrives f (view s) l n a others x.0 r (core x.1) framed along.base along.asking
             (no-mid f (view s) l n along (not-effects s.phase Arriving arriving tt)) is (sym now) has here unit in
@@ -285,7 +328,9 @@ arrive-move f s l n a others framed along arriving is now = by (first_where (λ 
             let n' : Notes = record n { kept = put x.0 (Some q) n.kept; taken = n.taken ++ a ∷ [] } in
             let on : Along f (record (changed x.0 opened_core (view s)) { arrivals = others }) l n' = record { base = base; asking = arrived.1 } in
             serve-moves f s1 l n' x.0 framed (subst (λ v. Along f v l n') (sym seen_as) on)
-            (λ z p has' kept. inl (sym arrived.2 ∙ ap (λ y. y.asked) (same-item (put x.0 (Some q) n.kept x.0) q p (put-here x.0 x.0 (Some q) n.kept refl) kept))) (begun-at s Arriving arriving (le_refl s.time))
+            (λ z p has' kept. inl (sym arrived.2 ∙ ap (λ y. y.asked)
+            (same-item (put x.0 (Some q) n.kept x.0) q p (put-here x.0 x.0 (Some q) n.kept refl) kept)))
+            (begun-at s Arriving arriving (le_refl s.time))
 
 -- the part of arrivals
 arrivals-move : (f : Frame) (s : State) (l : Log) (n : Notes) → IsFramed f → Along f (view s) l n → s.phase ≡ Arriving
@@ -298,14 +343,17 @@ arrivals-move f s l n framed along arriving = by s.arrivals refl
       where
         by_time : (b : Bool) → (a.time == s.time) ≡ b
             → Moved f (view s)
-            (view ((if b then arrive_at f.system a (first_where (λ t. t.thread.unit == a.task) s.tasks) (record s { arrivals = others }) else horizon_step f.system s).0)) l
-            ((if b then arrive_at f.system a (first_where (λ t. t.thread.unit == a.task) s.tasks) (record s { arrivals = others }) else horizon_step f.system s).1) []
+            (view ((if b then arrive_at f.system a (first_where (λ t. t.thread.unit == a.task) s.tasks)
+            (record s { arrivals = others }) else horizon_step f.system s).0)) l
+            ((if b then arrive_at f.system a (first_where (λ t. t.thread.unit == a.task) s.tasks)
+            (record s { arrivals = others }) else horizon_step f.system s).1) []
         by_time true h = arrive-move f s l n a others framed along arriving is (let same : a.time ≡ s.time = grind arith in same)
         by_time false h = horizon-move f s l n along arriving
 
 -- the use of a tick
 use-move : (f : Frame) (s : State) (l : Log) (n : Notes) → IsFramed f → Along f (view s) l n → s.phase ≡ Use
-    → Moved f (view s) (view ((use_step f.system (dispatched s.tasks s.orders) s).0)) l ((use_step f.system (dispatched s.tasks s.orders) s).1) (dispatched s.tasks s.orders ∷ [])
+    → Moved f (view s) (view ((use_step f.system (dispatched s.tasks s.orders) s).0)) l ((use_step f.system (dispatched s.tasks s.orders) s).1)
+    (dispatched s.tasks s.orders ∷ [])
 use-move f s l n framed along using = by (dispatched s.tasks s.orders) refl
   where
     some : SomeLeft f (view s)
@@ -321,7 +369,10 @@ use-move f s l n framed along using = by (dispatched s.tasks s.orders) refl
     by None e = record {
       log = ticked None l;
       notes = n;
-      along = record { base = base-idle f (view s) l n.current None along.base some; asking = asking-idle f (view s) l n None None using along.asking none_mid };
+      along = record {
+        base = base-idle f (view s) l n.current None along.base some;
+        asking = asking-idle f (view s) l n None None using along.asking none_mid;
+      };
       grown = grown-ticked f (view s) (after_tick None (map core s.tasks) (view s)) l None None later (λ j r is has. none-some j is);
     }
     by (Some i) e = subst (λ v. Moved f (view s) v l [] (Some i ∷ [])) (sym seen_as) (row (f.row_of i) refl)
@@ -333,12 +384,14 @@ use-move f s l n framed along using = by (dispatched s.tasks s.orders) refl
         seen_as = ap (λ cs. let v : View = record { time = s.time + 1; phase = Effects; ran = Some i; arrivals = s.arrivals; cores = cs } in v)
             (map-changed core i (λ t. record t { left = t.left - 1; used = t.used + 1 }) ticked_core s.tasks (λ t. refl))
 
-        row : (o : Option ℕ) → f.row_of i ≡ o → Moved f (view s) (after_tick (Some i) (change i ticked_core (map core s.tasks)) (view s)) l [] (Some i ∷ [])
+        row : (o : Option ℕ) → f.row_of i ≡ o
+            → Moved f (view s) (after_tick (Some i) (change i ticked_core (map core s.tasks)) (view s)) l [] (Some i ∷ [])
         row None none = record {
           log = ticked None l;
           notes = n;
           along = record {
-            base = base-idle f (changed i ticked_core (view s)) l n.current (Some i) (base-outside f (view s) l n.current i ticked_core none (λ x. refl) along.base)
+            base = base-idle f (changed i ticked_core (view s)) l n.current (Some i)
+                (base-outside f (view s) l n.current i ticked_core none (λ x. refl) along.base)
                 (λ j r c has here. each-changed (λ j d. HasRow f j r → d.readiness ≡ Ready → d.left ≢ 0) i ticked_core (map core s.tasks)
                 (λ k d other e' has'. some k r d has' e') (λ d e' has'. absurd (no-row f i r none has')) j c here has);
             asking = asking-ticked f (view s) l n i None using along.asking none_mid;
@@ -356,7 +409,8 @@ use-move f s l n framed along using = by (dispatched s.tasks s.orders) refl
                 base = base-ticked f (view s) l n.current i r (core found.0) along.base some has here found.2;
                 asking = asking-ticked f (view s) l n i (Some (n.current i)) using along.asking none_mid;
               };
-              grown = grown-ticked f (view s) (after_tick (Some i) (change i ticked_core (map core s.tasks)) (view s)) l (Some (n.current i)) (Some i) later
+              grown = grown-ticked f (view s) (after_tick (Some i) (change i ticked_core (map core s.tasks)) (view s)) l (Some (n.current i))
+                  (Some i) later
                   (busy.own.made, busy.own.stands, ap Some (sym busy.own.task));
             }
 
@@ -371,16 +425,19 @@ step-moves f s l n framed along fit = by s.stopped
     by_phase Arriving e = arrivals-move f s l n framed along e
     by_phase Use e = use-move f s l n framed along e
 
-    by : (b : Bool) → Moved f (view s) (view ((if b then (s, []) else step_in s.phase f.system s).0)) l ((if b then (s, []) else step_in s.phase f.system s).1) (if b then [] else users_in s.phase s)
+    by : (b : Bool) → Moved f (view s) (view ((if b then (s, []) else step_in s.phase f.system s).0)) l
+        ((if b then (s, []) else step_in s.phase f.system s).1) (if b then [] else users_in s.phase s)
     by true = moved-still f (view s) (view s) l n [] along (le_refl (since (view s))) (quiet-none f)
     by false = by_phase s.phase refl
 
 -- a run
-pub run-moves : (f : Frame) (m : ℕ) (s : State) (l : Log) (n : Notes) → IsFramed f → Along f (view s) l n → ((k : ℕ) → k < m → IsFit (run f.system k s).0)
+pub run-moves : (f : Frame) (m : ℕ) (s : State) (l : Log) (n : Notes) → IsFramed f → Along f (view s) l n
+    → ((k : ℕ) → k < m → IsFit (run f.system k s).0)
     → Moved f (view s) (view ((run f.system m s).0)) l ((run f.system m s).1) (run_users f.system m s)
 run-moves f zero s l n framed along fit = moved-still f (view s) (view s) l n [] along (le_refl (since (view s))) (quiet-none f)
 run-moves f (suc m) s l n framed along fit =
     let first = step-moves f s l n framed along (fit 0 (omega arith)) in
-    moved-then f (view s) (view ((step f.system s).0)) (view ((run f.system m (step f.system s).0).0)) l first.log ((step f.system s).1) ((run f.system m (step f.system s).0).1)
+    moved-then f (view s) (view ((step f.system s).0)) (view ((run f.system m (step f.system s).0).0)) l first.log ((step f.system s).1)
+    ((run f.system m (step f.system s).0).1)
     (step_users s) (run_users f.system m (step f.system s).0) first.grown
     (run-moves f m (step f.system s).0 first.log first.notes framed first.along (λ k less. fit (suc k) (omega arith)))

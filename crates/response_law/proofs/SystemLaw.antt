@@ -1,4 +1,5 @@
--- The response law of a system: no run stops at a ceiling, and each activation of a task with a row ends within what a vector that fits gives the row.
+-- The response law of a system: no run stops at a ceiling, and each activation of a task with a row ends within what a vector that fits
+-- gives the row.
 use Rattle.std.specs.Prelude.{◌≡◌, ℕ, zero, suc, List, [], ◌++◌, slice_get, Some}
 use Rattle.std.proofs.Common.{sym, ◌∙◌, ap, subst}
 use Rattle.std.proofs.lemmas.Bool.{false≢true}
@@ -70,12 +71,15 @@ pub record IsResponsive (f : Frame) (v : List Bound) (as' : List Arrival) : Type
 -- each task with a row responds
 abbrev pub AllRespond : Frame → List Bound → List Event → Type 0
 AllRespond f v told =
-    (j r : ℕ) (t : TaskUnit) (row : ThreadRow) (b : Bound) → HasRow f j r → slice_get f.system.threads j ≡ Some t → slice_get f.rows r ≡ Some row → slice_get v r ≡ Some b
+    (j r : ℕ) (t : TaskUnit) (row : ThreadRow) (b : Bound) → HasRow f j r → slice_get f.system.threads j ≡ Some t → slice_get f.rows r ≡ Some row
+    → slice_get v r ≡ Some b
     → tables.Each (IsAnswered f.system.until b.response) (answers t.unit told)
 
-pub system-responds : (f : Frame) (v : List Bound) (as' : List Arrival) (told : List Event) → IsResponsive f v as' → Rest f.system (opening f.system as') told
+pub system-responds : (f : Frame) (v : List Bound) (as' : List Arrival) (told : List Event) → IsResponsive f v as'
+    → Rest f.system (opening f.system as') told
     → Each GoesOn told × Each (HasUnit f) told × AllRespond f v told
-system-responds f v as' told responsive rest = (goes_on, subst (Each (HasUnit f)) rest.tells whole.grown.units, λ j r t row b has at asks gets. responds j r t row b has at asks gets)
+system-responds f v as' told responsive rest
+    = (goes_on, subst (Each (HasUnit f)) rest.tells whole.grown.units, λ j r t row b has at asks gets. responds j r t row b has at asks gets)
   where
     goes_on : Each GoesOn told
     goes_on = rest-goes-on f.system responsive.ceiled as' told rest
@@ -83,10 +87,13 @@ system-responds f v as' told responsive rest = (goes_on, subst (Each (HasUnit f)
     whole : History f rest.steps (opening f.system as') empty
     whole =
         history f rest.steps (opening f.system as') empty nothing_noted responsive.framed (opening-along f as' responsive.apart)
-        (λ k less. keeps-fit f.system (run f.system k (opening f.system as')).0 (run-keeps f.system responsive.text k (opening f.system as') (opening-keeps f.system (λ i. Anything) as')))
+        (λ k less. keeps-fit f.system (run f.system k (opening f.system as')).0
+        (run-keeps f.system responsive.text k (opening f.system as') (opening-keeps f.system (λ i. Anything) as')))
 
-    ends : ((run f.system rest.steps (opening f.system as')).0.phase ≡ Arriving) × ((run f.system rest.steps (opening f.system as')).0.time ≡ f.system.until)
-    ends = run-ends f.system rest.steps (opening f.system as') (subst (Each GoesOn) (sym rest.tells) goes_on) (λ stops. absurd (false≢true stops)) rest.stops
+    ends : ((run f.system rest.steps (opening f.system as')).0.phase ≡ Arriving)
+        × ((run f.system rest.steps (opening f.system as')).0.time ≡ f.system.until)
+    ends = run-ends f.system rest.steps (opening f.system as') (subst (Each GoesOn) (sym rest.tells) goes_on)
+        (λ stops. absurd (false≢true stops)) rest.stops
 
     calm : (run f.system rest.steps (opening f.system as')).0.phase ≡ Effects → ⊥
     calm = not-effects (run f.system rest.steps (opening f.system as')).0.phase Arriving ends.0 tt
@@ -96,9 +103,12 @@ system-responds f v as' told responsive rest = (goes_on, subst (Each (HasUnit f)
         subst (AllOnTime f.rows v (schedule_of f.rows f.shift whole.log)) ends.1
         (all-on-time f v as' rest.steps responsive.table responsive.fits responsive.levels whole calm)
 
-    responds : (j r : ℕ) (t : TaskUnit) (row : ThreadRow) (b : Bound) → HasRow f j r → slice_get f.system.threads j ≡ Some t → slice_get f.rows r ≡ Some row → slice_get v r ≡ Some b
+    responds : (j r : ℕ) (t : TaskUnit) (row : ThreadRow) (b : Bound) → HasRow f j r → slice_get f.system.threads j ≡ Some t
+        → slice_get f.rows r ≡ Some row → slice_get v r ≡ Some b
         → tables.Each (IsAnswered f.system.until b.response) (answers t.unit told)
     responds j r t row b has at asks gets =
-        let says : answers t.unit ([] ++ (run f.system rest.steps (opening f.system as')).1) ≡ ends_of r whole.log.acts = whole.grown.told [] (none-told f) j r t has at in
+        let says : answers t.unit ([] ++ (run f.system rest.steps (opening f.system as')).1) ≡ ends_of r whole.log.acts
+        = whole.grown.told [] (none-told f) j r t has at in
         let told_is : answers t.unit told ≡ ends_of r whole.log.acts = ap (answers t.unit) (sym rest.tells) ∙ says in
-        subst (tables.Each (IsAnswered f.system.until b.response)) (sym told_is) (all-answered f.rows v f.shift whole.log f.system.until r row b on_time asks gets)
+        subst (tables.Each (IsAnswered f.system.until b.response)) (sym told_is)
+        (all-answered f.rows v f.shift whole.log f.system.until r row b on_time asks gets)

@@ -22,7 +22,8 @@ use Rattle.program_calls.proofs.Lists.{zip-first}
 use Rattle.program_calls.proofs.UnitRules.{numbers-kept}
 
 -- numbers of a task that is requested
-small-jitter : (separation jitter : ℕ) → is_outside 1 1000000000 separation ≡ false → jitter_breaks true separation jitter ≡ false → jitter ≤ 1000000000
+small-jitter : (separation jitter : ℕ) → is_outside 1 1000000000 separation ≡ false → jitter_breaks true separation jitter ≡ false
+    → jitter ≤ 1000000000
 small-jitter separation jitter e g =
     let most : nat_lt 1000000000 separation ≡ false = (or_parts (nat_lt separation 1) (nat_lt 1000000000 separation) e).1 in
     let less : nat_le separation jitter ≡ false = g in
@@ -44,8 +45,10 @@ module _ (p : Program) (a : Arrivals) (rules : MeetsRules p) (ts : List Ranked) 
       ∙ ap (λ o. starter_if u.task.timing (starter_by (ranked p) ts o)) line
 
   -- how a task with a row is requested
-  asked-is : (j r : ℕ) (t : TaskUnit) (u : Ranked) (row : ThreadRow) → HasRow f j r → slice_get (system p a).threads j ≡ Some t → slice_get (ranked p) j ≡ Some u → slice_get ts r ≡ Some u → AreTwins t u
-      → slice_get rows r ≡ Some row → row.period ≡ flats.period_of u.task.timing → IsStarted p ts row u.task.name u.task.timing → (x : ReleasePattern) → t.timing ≡ x → IsAsked f j row x
+  asked-is : (j r : ℕ) (t : TaskUnit) (u : Ranked) (row : ThreadRow) → HasRow f j r → slice_get (system p a).threads j ≡ Some t
+      → slice_get (ranked p) j ≡ Some u → slice_get ts r ≡ Some u → AreTwins t u
+      → slice_get rows r ≡ Some row → row.period ≡ flats.period_of u.task.timing → IsStarted p ts row u.task.name u.task.timing → (x : ReleasePattern)
+      → t.timing ≡ x → IsAsked f j row x
   asked-is j r t u row has at among listed twins line period started (Periodic offset every) e =
       let timing : u.task.timing ≡ flats.Cyclic every offset = subst (λ x. SameTiming x u.task.timing) e twins.timing in
       let is : row.period ≡ every = period ∙ ap flats.period_of timing in
@@ -53,16 +56,26 @@ module _ (p : Program) (a : Arrivals) (rules : MeetsRules p) (ts : List Ranked) 
   asked-is j r t u row has at among listed twins line period started (Requested op ceiling separation jitter true) e =
       let timing : u.task.timing ≡ flats.Sporadic op separation (Some jitter) = subst (λ x. SameTiming x u.task.timing) e twins.timing in
       let is : row.period ≡ separation = period ∙ ap flats.period_of timing in
-      let outer : (row.starter ≡ None) × (jitter ≤ row.jitter) = subst (IsStarted p ts row u.task.name) timing started in
-      (outer.0, omega (arith, is), outer.1, small, starter-is j r u row among has line ∙ ap (λ x. starter_if x (place_in (ranked p) (item_at ts row.starter))) timing)
+      let outer : (row.starter ≡ None) × (jitter ≤ row.jitter) = subst (IsStarted p ts row u.task.name) timing started in (
+        outer.0,
+        omega (arith, is),
+        outer.1,
+        small,
+        starter-is j r u row among has line ∙ ap (λ x.
+            starter_if x (place_in (ranked p) (item_at ts row.starter))) timing,
+      )
     where
       small : jitter ≤ 1000000000
       small =
           let found = thread-at p a j t at in
-          let form : found.1.form ≡ Sporadic t.priority ceiling op separation jitter true t.vars t.block = subst (λ x. thread_form t x found.1.form) e (found.2).form in
-          let now : numbers_break (Sporadic t.priority ceiling op separation jitter true t.vars t.block) ≡ false = subst (λ x. numbers_break x ≡ false) form (numbers-kept p rules found.0 found.1 (found.2).stands) in
-          let one = or_parts (is_outside 1 60 t.priority || is_outside 1 60 ceiling || is_outside 1 1000000000 separation || jitter_breaks true separation jitter) (nat_lt ceiling t.priority) now in
-          let two = or_parts (is_outside 1 60 t.priority || is_outside 1 60 ceiling || is_outside 1 1000000000 separation) (jitter_breaks true separation jitter) one.0 in
+          let form : found.1.form ≡ Sporadic t.priority ceiling op separation jitter true t.vars t.block
+          = subst (λ x. thread_form t x found.1.form) e (found.2).form in
+          let now : numbers_break (Sporadic t.priority ceiling op separation jitter true t.vars t.block) ≡ false
+          = subst (λ x. numbers_break x ≡ false) form (numbers-kept p rules found.0 found.1 (found.2).stands) in
+          let one = or_parts (is_outside 1 60 t.priority || is_outside 1 60 ceiling || is_outside 1 1000000000 separation
+          || jitter_breaks true separation jitter) (nat_lt ceiling t.priority) now in
+          let two = or_parts (is_outside 1 60 t.priority || is_outside 1 60 ceiling || is_outside 1 1000000000 separation)
+          (jitter_breaks true separation jitter) one.0 in
           let three = or_parts (is_outside 1 60 t.priority || is_outside 1 60 ceiling) (is_outside 1 1000000000 separation) two.0 in
           small-jitter separation jitter three.1 two.1
   asked-is j r t u row has at among listed twins line period started (Requested op ceiling separation jitter false) e =
@@ -70,7 +83,9 @@ module _ (p : Program) (a : Arrivals) (rules : MeetsRules p) (ts : List Ranked) 
       let is : row.period ≡ separation = period ∙ ap flats.period_of timing in
       let inner : IsStarter p ts row u.task.name op separation = subst (IsStarted p ts row u.task.name) timing started in
       let place = place-of p a rules ts rows tabled inner.place inner.starter inner.stands in
-      let numbers = zip-first (λ x line'. (line'.period ≡ flats.period_of x.task.timing) × (block_cost p.costs (program_services p) x.task.block + p.costs.finish ≤ line'.cost)) ts rows inner.place inner.starter tabled.numbers inner.stands in
+      let numbers = zip-first (λ x line'. (line'.period ≡ flats.period_of x.task.timing)
+      × (block_cost p.costs (program_services p) x.task.block + p.costs.finish ≤ line'.cost)) ts rows inner.place inner.starter tabled.numbers
+      inner.stands in
       let least : separation ≤ flats.period_of inner.starter.task.timing = inner.period in
       let own : numbers.0.period ≡ flats.period_of inner.starter.task.timing = numbers.2.0 in (
         inner.place,
@@ -92,14 +107,16 @@ module _ (p : Program) (a : Arrivals) (rules : MeetsRules p) (ts : List Ranked) 
           let u : Ranked = row.0 in
           let same : twin.0 ≡ u = same-item (slice_get (ranked p) j) twin.0 u twin.1 row.1 in
           let twins : AreTwins t u = subst (AreTwins t) same twin.2 in
-          let numbers = zip-first (λ x line. (line.period ≡ flats.period_of x.task.timing) × (block_cost p.costs (program_services p) x.task.block + p.costs.finish ≤ line.cost)) ts rows r u tabled.numbers row.2 in
+          let numbers = zip-first (λ x line. (line.period ≡ flats.period_of x.task.timing)
+          × (block_cost p.costs (program_services p) x.task.block + p.costs.finish ≤ line.cost)) ts rows r u tabled.numbers row.2 in
           let started = zip-first (λ x line. IsStarted p ts line x.task.name x.task.timing) ts rows r u tabled.started row.2 in
           let lines : started.0 ≡ numbers.0 = same-item (slice_get rows r) started.0 numbers.0 started.1 numbers.1 in
           record {
             row = numbers.0;
             asks = numbers.1;
             cost = subst (λ b. block_cost p.costs (program_services p) b + p.costs.finish ≤ numbers.0.cost) twins.block numbers.2.1;
-            asked = asked-is j r t u numbers.0 has at row.1 row.2 twins numbers.1 numbers.2.0 (subst (λ x. IsStarted p ts x u.task.name u.task.timing) lines started.2) t.timing refl;
+            asked = asked-is j r t u numbers.0 has at row.1 row.2 twins numbers.1 numbers.2.0 (subst
+                (λ x. IsStarted p ts x u.task.name u.task.timing) lines started.2) t.timing refl;
           }
 
   -- starters have rows

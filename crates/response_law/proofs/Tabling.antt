@@ -1,5 +1,6 @@
 -- The frame of a program with a table: which row each task has, and which task is its starter.
-use Rattle.std.specs.Prelude.{◌≡◌, ◌⊎◌, ℕ, zero, suc, ◌≤◌, ◌<◌, ◌||◌, Bool, true, false, List, [], ◌∷◌, length, slice_get, Option, Some, None, option_map, if◌then◌else◌, refl}
+use Rattle.std.specs.Prelude.{◌≡◌, ◌⊎◌, ℕ, zero, suc, ◌≤◌, ◌<◌, ◌||◌, Bool, true, false, List, [], ◌∷◌, length, slice_get, Option, Some, None}
+use Rattle.std.specs.Prelude.{option_map, if◌then◌else◌, refl}
 use Rattle.std.specs.List.{list_any}
 use Rattle.std.proofs.Common.{sym, ◌∙◌, ap, subst, arith, inl, inr}
 use Rattle.std.proofs.lemmas.Bool.{cases_lt, both_ways}
@@ -55,7 +56,8 @@ starter_in (Some u) o = starter_if u.task.timing o
 abbrev pub counted_in : Program → Name → ReleasePattern → Name → Name → ℕ
 counted_in p name (Periodic offset period) unit op = 0
 counted_in p name (Requested sig ceiling separation jitter external) unit op =
-    if is_call_of (record { object = name; op = sig.name }) unit op then 1 else starts_within (length (program_services p)) (program_services p) (record { object = name; op = sig.name }) unit op
+    if is_call_of (record { object = name; op = sig.name }) unit op then 1 else starts_within (length (program_services p)) (program_services p)
+    (record { object = name; op = sig.name }) unit op
 
 abbrev pub counted_by : Program → Option TaskUnit → Name → Name → ℕ
 counted_by p None unit op = 0
@@ -74,10 +76,12 @@ frame p ts rows a = record {
 }
 
 -- priorities fall along the list
-pub falls-at : (ts : List Ranked) (i j : ℕ) (t u : Ranked) → Falls ts → i < j → slice_get ts i ≡ Some t → slice_get ts j ≡ Some u → u.priority < t.priority
+pub falls-at : (ts : List Ranked) (i j : ℕ) (t u : Ranked) → Falls ts → i < j → slice_get ts i ≡ Some t → slice_get ts j ≡ Some u
+    → u.priority < t.priority
 falls-at [] i j t u falls less e g = cc
 falls-at (x ∷ ts) zero zero t u falls less e g = absurd (omega (arith, less))
-falls-at (x ∷ ts) zero (suc j) t u falls less e g = let is : x ≡ t = cc in subst (λ w. u.priority < w.priority) is (all-at (λ w. w.priority < x.priority) ts j u falls.0 g)
+falls-at (x ∷ ts) zero (suc j) t u falls less e g = let is : x ≡ t = cc
+    in subst (λ w. u.priority < w.priority) is (all-at (λ w. w.priority < x.priority) ts j u falls.0 g)
 falls-at (x ∷ ts) (suc i) zero t u falls less e g = absurd (omega (arith, less))
 falls-at (x ∷ ts) (suc i) (suc j) t u falls less e g = falls-at ts i j t u falls.1 (omega (arith, less)) e g
 
@@ -86,15 +90,18 @@ none-any : (test : Ranked → Bool) (n : ℕ) (xs : List Ranked) → option_map 
 none-any test n [] e = refl
 none-any test n (x ∷ xs) e = by (test x) e (λ g. none-any test (suc n) xs g)
   where
-    by : (b : Bool) → option_map (λ y. y.0) (if b then Some (n, x) else first_from (suc n) test xs) ≡ None → (option_map (λ y. y.0) (first_from (suc n) test xs) ≡ None → list_any test xs ≡ false)
+    by : (b : Bool) → option_map (λ y. y.0) (if b then Some (n, x) else first_from (suc n) test xs) ≡ None
+        → (option_map (λ y. y.0) (first_from (suc n) test xs) ≡ None → list_any test xs ≡ false)
         → (b || list_any test xs) ≡ false
     by true g later = absurd (none-some n (sym g))
     by false g later = later g
 
-pub found-place : (test : Ranked → Bool) (xs : List Ranked) (k : ℕ) → option_map (λ x. x.0) (first_where test xs) ≡ Some k → (x : Ranked) × (slice_get xs k ≡ Some x) × (test x ≡ true)
+pub found-place : (test : Ranked → Bool) (xs : List Ranked) (k : ℕ) → option_map (λ x. x.0) (first_where test xs) ≡ Some k
+    → (x : Ranked) × (slice_get xs k ≡ Some x) × (test x ≡ true)
 found-place test xs k e = by (first_where test xs) refl e
   where
-    by : (o : Option (ℕ × Ranked)) → first_where test xs ≡ o → option_map (λ x. x.0) o ≡ Some k → (x : Ranked) × (slice_get xs k ≡ Some x) × (test x ≡ true)
+    by : (o : Option (ℕ × Ranked)) → first_where test xs ≡ o → option_map (λ x. x.0) o ≡ Some k
+        → (x : Ranked) × (slice_get xs k ≡ Some x) × (test x ≡ true)
     by None g h = cc
     by (Some r) g h =
         let found = first-where test xs r.0 r.1 g in
@@ -117,7 +124,8 @@ module _ (p : Program) (a : Arrivals) (rules : MeetsRules p) where
       let first = thread-at p a i t.0 t.1 in
       let second = thread-at p a j w.0 w.1 in
       let names : t.0.name ≡ w.0.name = sym (t.2).name ∙ same ∙ (w.2).name in
-      let units : first.0 ≡ second.0 = units-apart p rules first.0 second.0 first.1 second.1 (first.2).stands (second.2).stands ((first.2).name ∙ names ∙ sym (second.2).name) in
+      let units : first.0 ≡ second.0 = units-apart p rules first.0 second.0 first.1 second.1 (first.2).stands (second.2).stands
+      ((first.2).name ∙ names ∙ sym (second.2).name) in
       threads-differ p a i j t.0 w.0 t.1 w.1 ((first.2).unit ∙ units ∙ sym (second.2).unit)
 
   module _ (ts : List Ranked) (rows : List ThreadRow) (tabled : AreTabled p ts rows) where
@@ -145,7 +153,8 @@ module _ (p : Program) (a : Arrivals) (rules : MeetsRules p) where
     pub row-is : (j r : ℕ) → HasRow (frame p ts rows a) j r → (u : Ranked) × (slice_get (ranked p) j ≡ Some u) × (slice_get ts r ≡ Some u)
     row-is j r has = by (slice_get (ranked p) j) refl has
       where
-        by : (o : Option Ranked) → slice_get (ranked p) j ≡ o → place_in ts o ≡ Some r → (u : Ranked) × (slice_get (ranked p) j ≡ Some u) × (slice_get ts r ≡ Some u)
+        by : (o : Option Ranked) → slice_get (ranked p) j ≡ o → place_in ts o ≡ Some r → (u : Ranked) × (slice_get (ranked p) j ≡ Some u)
+            × (slice_get ts r ≡ Some u)
         by None e h = absurd (none-some r h)
         by (Some u) e h =
             let found = found-place (same_task u) ts r h in
@@ -160,7 +169,8 @@ module _ (p : Program) (a : Arrivals) (rules : MeetsRules p) where
     pub has-row : (j r : ℕ) (u : Ranked) → slice_get (ranked p) j ≡ Some u → slice_get ts r ≡ Some u → HasRow (frame p ts rows a) j r
     has-row j r u e g =
         ap (place_in ts) e
-        ∙ place-found (same_task u) ts r u g (same-self u.task.name) (λ i v at passes. listed-once i r v u at g (same-is v.task.name u.task.name passes))
+        ∙ place-found (same_task u) ts r u g (same-self u.task.name)
+        (λ i v at passes. listed-once i r v u at g (same-is v.task.name u.task.name passes))
 
     -- a task without a row is none of the list
     pub no-row-out : (j : ℕ) (u : Ranked) → (frame p ts rows a).row_of j ≡ None → slice_get (ranked p) j ≡ Some u → is_among ts u.task.name ≡ false
@@ -175,7 +185,12 @@ module _ (p : Program) (a : Arrivals) (rules : MeetsRules p) where
         ranked-once i j first.0 second.0 first.1 second.1 (ap (λ w. w.task.name) same)
 
     -- the place of a task of the list among all tasks
-    pub place-of : (r : ℕ) (u : Ranked) → slice_get ts r ≡ Some u → (k : ℕ) × (slice_get (ranked p) k ≡ Some u) × (place_in (ranked p) (Some u) ≡ Some k)
+    pub place-of : (r : ℕ) (u : Ranked) → slice_get ts r ≡ Some u → (k : ℕ) × (slice_get (ranked p) k ≡ Some u)
+        × (place_in (ranked p) (Some u) ≡ Some k)
     place-of r u e =
-        let among = stands-among r u e in
-        (among.0, among.1, place-found (same_task u) (ranked p) among.0 u among.1 (same-self u.task.name) (λ i v at passes. ranked-once i among.0 v u at among.1 (same-is v.task.name u.task.name passes)))
+        let among = stands-among r u e in (
+          among.0,
+          among.1,
+          place-found (same_task u) (ranked p) among.0 u among.1 (same-self u.task.name) (λ i v at passes.
+              ranked-once i among.0 v u at among.1 (same-is v.task.name u.task.name passes)),
+        )

@@ -42,7 +42,8 @@ IsTwin ts j u = (t : TaskUnit) × (slice_get ts j ≡ Some t) × AreTwins t u
 unit-twins : (a : Arrivals) (k : ℕ) (u : Unit) → BothMake AreTwins (thread_of a (k, u)) (ranked_by u)
 unit-twins a k u = by u.form
   where
-    by : (form : Form) → BothMake AreTwins (thread_by (durations a k) k u.name form) (option_map (λ t. let r : Ranked = record { task = t; priority = priority_of form } in r) (task_by u.name form))
+    by : (form : Form) → BothMake AreTwins (thread_by (durations a k) k u.name form)
+        (option_map (λ t. let r : Ranked = record { task = t; priority = priority_of form } in r) (task_by u.name form))
     by (Passive ops) = tt
     by (Shared ceiling vars ops) = tt
     by (Cyclic priority offset period vars block) = record { name = refl; block = refl; priority = refl; timing = refl }
@@ -58,5 +59,6 @@ pub thread-of : (p : Program) (a : Arrivals) (j : ℕ) (u : Ranked) → slice_ge
 thread-of p a j u e = zip-second AreTwins (system p a).threads (ranked p) j u (twins p a) e
 
 -- units of different places have different names
-pub units-apart : (p : Program) → MeetsRules p → (j k : ℕ) (u v : Unit) → slice_get p.units j ≡ Some u → slice_get p.units k ≡ Some v → u.name ≡ v.name → j ≡ k
+pub units-apart : (p : Program) → MeetsRules p → (j k : ℕ) (u v : Unit) → slice_get p.units j ≡ Some u → slice_get p.units k ≡ Some v
+    → u.name ≡ v.name → j ≡ k
 units-apart p rules = places-apart p.units (units_apart p rules)

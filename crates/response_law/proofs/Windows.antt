@@ -1,5 +1,6 @@
 -- Each tick is used at one step of the run, and the steps of a window of ticks have no other users than the window.
-use Rattle.std.specs.Prelude.{◌≡◌, ◌⊎◌, ℕ, zero, suc, ◌+◌, ◌<◌, Bool, true, false, not, List, [], ◌∷◌, ◌++◌, length, filter, take, drop, slice_get, Option, Some, if◌then◌else◌, refl}
+use Rattle.std.specs.Prelude.{◌≡◌, ◌⊎◌, ℕ, zero, suc, ◌+◌, ◌<◌, Bool, true, false, not, List, [], ◌∷◌, ◌++◌, length, filter, take, drop}
+use Rattle.std.specs.Prelude.{slice_get, Option, Some, if◌then◌else◌, refl}
 use Rattle.std.proofs.Common.{sym, ◌∙◌, ap, arith, inl, inr, append_assoc}
 use Rattle.std.proofs.lemmas.Bool.{true≢false, false≢true}
 use Rattle.std.proofs.lemmas.List.{length-append}
@@ -36,7 +37,8 @@ one-user s = by s.stopped refl
     by_phase Arriving e = inl refl
     by_phase Use e = inr (e, refl)
 
-    by : (b : Bool) → s.stopped ≡ b → (length (if b then [] else users_in s.phase s) ≡ 0) ⊎ ((s.stopped ≡ false) × (s.phase ≡ Use) × (length (if b then [] else users_in s.phase s) ≡ 1))
+    by : (b : Bool) → s.stopped ≡ b → (length (if b then [] else users_in s.phase s) ≡ 0)
+        ⊎ ((s.stopped ≡ false) × (s.phase ≡ Use) × (length (if b then [] else users_in s.phase s) ≡ 1))
     by true e = inl refl
     by false e = elim (by_phase s.phase refl) [ inl none ↦ inl none | inr some ↦ inr (e, some.0, some.1) ]
 
@@ -53,7 +55,8 @@ use-at y (suc m) s t inside = by (one-user s) (length-append (step_users s) (run
           within = omega (arith, w);
           goes_on = is.goes_on;
           phase = is.phase;
-          before = length-append (step_users s) (run_users y is.steps (step y s).0) ∙ (let e : length (step_users s) + length (run_users y is.steps (step y s).0) ≡ t = omega (arith, b, sum) in e);
+          before = length-append (step_users s) (run_users y is.steps (step y s).0) ∙ (let e : length (step_users s)
+              + length (run_users y is.steps (step y s).0) ≡ t = omega (arith, b, sum) in e);
         }
 
     by : (length (step_users s) ≡ 0) ⊎ ((s.stopped ≡ false) × (s.phase ≡ Use) × (length (step_users s) ≡ 1))
@@ -74,13 +77,15 @@ others-users y level (suc n) s = by s.stopped (others-users y level n (step y s)
     test : Option ℕ → Bool
     test u = not (is_of_level y level u)
 
-    by_user : (b : Bool) → (rest : List (Option ℕ)) (u : Option ℕ) → is_of_level y level u ≡ b → (if b then 0 else 1) + length (filter (λ x. not (is_of_level y level x)) rest)
+    by_user : (b : Bool) → (rest : List (Option ℕ)) (u : Option ℕ) → is_of_level y level u ≡ b
+        → (if b then 0 else 1) + length (filter (λ x. not (is_of_level y level x)) rest)
         ≡ length (if not b then u ∷ filter (λ x. not (is_of_level y level x)) rest else filter (λ x. not (is_of_level y level x)) rest)
     by_user true rest u e = omega arith
     by_user false rest u e = omega arith
 
     by_phase : (p : Phase) → others y level n (step y s).0 ≡ length (filter (λ u. not (is_of_level y level u)) (run_users y n (step y s).0))
-        → others_in y level p s + others y level n (step y s).0 ≡ length (filter (λ u. not (is_of_level y level u)) (users_in p s ++ run_users y n (step y s).0))
+        → others_in y level p s + others y level n (step y s).0
+        ≡ length (filter (λ u. not (is_of_level y level u)) (users_in p s ++ run_users y n (step y s).0))
     by_phase Effects h = omega (arith, h)
     by_phase Delays h = omega (arith, h)
     by_phase Arriving h = omega (arith, h)
@@ -113,15 +118,18 @@ pub count-alike : {A B : Type 0} (p : A → Bool) (q : B → Bool) (xs : List A)
 count-alike p q [] [] e same = refl
 count-alike p q [] (y ∷ ys) e same = absurd (omega (arith, e))
 count-alike p q (x ∷ xs) [] e same = absurd (omega (arith, e))
-count-alike p q (x ∷ xs) (y ∷ ys) e same = by (p x) (q y) (same 0 x y refl refl) (count-alike p q xs ys (omega (arith, e)) (λ k a b g h. same (suc k) a b g h))
+count-alike p q (x ∷ xs) (y ∷ ys) e same
+    = by (p x) (q y) (same 0 x y refl refl) (count-alike p q xs ys (omega (arith, e)) (λ k a b g h. same (suc k) a b g h))
   where
-    by : (a b : Bool) → a ≡ b → length (filter p xs) ≡ length (filter q ys) → length (if a then x ∷ filter p xs else filter p xs) ≡ length (if b then y ∷ filter q ys else filter q ys)
+    by : (a b : Bool) → a ≡ b → length (filter p xs) ≡ length (filter q ys) → length (if a then x ∷ filter p xs else filter p xs)
+        ≡ length (if b then y ∷ filter q ys else filter q ys)
     by true true g h = omega (arith, h)
     by false false g h = h
     by true false g h = absurd (true≢false g)
     by false true g h = absurd (false≢true g)
 
-pub length-window : {A B : Type 0} (n m : ℕ) (xs : List A) (ys : List B) → length xs ≡ length ys → length (take m (drop n xs)) ≡ length (take m (drop n ys))
+pub length-window : {A B : Type 0} (n m : ℕ) (xs : List A) (ys : List B) → length xs ≡ length ys
+    → length (take m (drop n xs)) ≡ length (take m (drop n ys))
 length-window zero zero [] [] e = refl
 length-window zero (suc m) [] [] e = refl
 length-window (suc n) zero [] [] e = refl

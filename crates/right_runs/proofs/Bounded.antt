@@ -27,17 +27,24 @@ use Rattle.program_calls.proofs.Places.{all-at}
 use Rattle.program_calls.proofs.Lists.{each-map}
 
 -- requests inside a program are asked once
-program_starts : (limit : ℕ) (p : Program) (ts : List Ranked) (rows : List ThreadRow) (r : places.Arrivals) (trace : List machine.Event) → IsReadable p → AreTabled p ts rows → IsAccepted limit p r → Meaning p r trace
+program_starts : (limit : ℕ) (p : Program) (ts : List Ranked) (rows : List ThreadRow) (r : places.Arrivals) (trace : List machine.Event)
+    → IsReadable p → AreTabled p ts rows → IsAccepted limit p r → Meaning p r trace
     → Starts p ts (named p trace)
 program_starts limit p ts rows r trace readable tabled accepted m t k row op separation e here timing =
-    let E : List Task → Type 0 = λ us. Each (λ u. can_request (program_services p) t.task.name u.block ≡ true → same_name u.name e.starter.task.name ≡ true) us in
+    let E : List Task → Type 0 = λ us. Each (λ u. can_request (program_services p) t.task.name u.block ≡ true
+    → same_name u.name e.starter.task.name ≡ true) us in
     let place = all-at _ ts e.place e.starter tabled.tasks e.stands in
-    starters_ask_once limit p r trace t.task e.starter.task op separation readable.1 accepted m (k, ranked_at p k t here) (place.0, ranked_at p place.0 e.starter place.1) timing
-    (subst E (ranked_tasks p.units) (each-map (λ u. u.task) (λ u. can_request (program_services p) t.task.name u.block ≡ true → same_name u.name e.starter.task.name ≡ true) (ranked p) e.alone)) e.once
+    starters_ask_once limit p r trace t.task e.starter.task op separation readable.1 accepted m (k, ranked_at p k t here)
+    (place.0, ranked_at p place.0 e.starter place.1) timing
+    (subst E (ranked_tasks p.units) (each-map (λ u. u.task) (λ u. can_request (program_services p) t.task.name u.block ≡ true
+    → same_name u.name e.starter.task.name ≡ true) (ranked p) e.alone)) e.once
 
 -- every run is permitted and within its bounds
-pub bounded_runs : (limit : ℕ) → ProcessorResponds limit → (p : Program) (ts : List Ranked) (rows : List ThreadRow) (v : List Bound) (r : places.Arrivals) (trace : List machine.Event)
-    → IsReadable p → AreTabled p ts rows → Each (λ u. (i : ℕ) × (slice_get ts i ≡ Some u)) (ranked p) → Fits rows v → IsAccepted limit p r → Meaning p r trace
+pub bounded_runs : (limit : ℕ) → ProcessorResponds limit
+    → (p : Program) (ts : List Ranked) (rows : List ThreadRow) (v : List Bound) (r : places.Arrivals) (trace : List machine.Event)
+    → IsReadable p → AreTabled p ts rows → Each (λ u. (i : ℕ) × (slice_get ts i ≡ Some u)) (ranked p) → Fits rows v → IsAccepted limit p r
+    → Meaning p r trace
     → Permits (program_software p) (named_arrivals p r) (named p trace) × IsBounded (times_of ts v) r.until (named p trace)
 bounded_runs limit law p ts rows v r trace readable tabled all fits accepted m =
-    tabled_runs limit law p ts rows v r trace readable tabled all fits accepted (kept_software limit p r readable.1 accepted) m (program_starts limit p ts rows r trace readable tabled accepted m)
+    tabled_runs limit law p ts rows v r trace readable tabled all fits accepted (kept_software limit p r readable.1 accepted) m
+    (program_starts limit p ts rows r trace readable tabled accepted m)

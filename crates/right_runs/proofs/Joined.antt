@@ -1,5 +1,6 @@
 -- Where every task of a program stands in a table whose rows fit, a run within the bounds is one that the program's texts permit.
-use Rattle.std.specs.Prelude.{◌≡◌, ℕ, zero, suc, ◌+◌, ◌≤◌, ◌<◌, Bool, true, false, List, [], ◌∷◌, ◌++◌, map, filter_map, zip, max, Option, Some, None, slice_get, option_map, refl}
+use Rattle.std.specs.Prelude.{◌≡◌, ℕ, zero, suc, ◌+◌, ◌≤◌, ◌<◌, Bool, true, false, List, [], ◌∷◌, ◌++◌, map, filter_map, zip, max, Option, Some}
+use Rattle.std.specs.Prelude.{None, slice_get, option_map, refl}
 use Rattle.std.specs.List.{cons_option}
 use Rattle.std.proofs.Common.{sym, ◌∙◌, ap, subst, arith}
 use Rattle.std.proofs.lemmas.Option.{slice_get-map, none-some, same_Some}
@@ -59,7 +60,8 @@ release_times name [] = refl
 release_times name (By time task (names.Release value) ∷ told) = by (same_name task name) (release_times name told)
   where
     by : (b : Bool) → map (λ z. z.time) (releases name told) ≡ taken (notices name told)
-        → map (λ z. z.time) (cons_option (only_if b (record { time = time; value = value })) (releases name told)) ≡ taken (cons_option (only_if b (Taken time value)) (notices name told))
+        → map (λ z. z.time) (cons_option (only_if b (record { time = time; value = value })) (releases name told))
+        ≡ taken (cons_option (only_if b (Taken time value)) (notices name told))
     by true h = ap (λ ts. time ∷ ts) h
     by false h = h
 release_times name (By time task (names.Arrive value) ∷ told) = release_times name told ∙ skip (same_name task name)
@@ -83,7 +85,8 @@ release_times name (By time task (names.Print value) ∷ told) = release_times n
 release_times name (By time task (names.Stop object priority ceiling) ∷ told) = release_times name told
 release_times name (names.Horizon time ∷ told) = release_times name told
 
-on_time_keeps : (period until jitter next least : ℕ) (rs : List Released) → least ≤ next → AreOnTime period until next rs → KeepTime period jitter least (map (λ z. z.time) rs)
+on_time_keeps : (period until jitter next least : ℕ) (rs : List Released) → least ≤ next → AreOnTime period until next rs
+    → KeepTime period jitter least (map (λ z. z.time) rs)
 on_time_keeps period until jitter next least [] h on = tt
 on_time_keeps period until jitter next least (z ∷ rs) h on =
     (omega (arith, h, on.1), on_time_keeps period until jitter (next + period) (max z.time least + period) rs (omega (arith, h, on.1)) on.3)
@@ -95,10 +98,14 @@ rows_at P (a ∷ xs) (suc i) x all e = rows_at P xs i x all.1 e
 
 -- the right side of an equation
 side_at : (v : List Bound) (before es : List Entry) (i : ℕ) (e : Entry) → slice_get es i ≡ Some e
-    → (front : List Entry) × (slice_get (sides_after v before es) i ≡ Some (record { jitter = jitter_by v e.0 e.0.starter; response = response_after front e }))
+    → (front : List Entry) × (slice_get (sides_after v before es) i
+    ≡ Some (record { jitter = jitter_by v e.0 e.0.starter; response = response_after front e }))
 side_at v before [] i e h = absurd (none-some e h)
-side_at v before (x ∷ es) zero e h =
-    (before, ap (λ z. Some (let b : Bound = record { jitter = jitter_by v z.0 z.0.starter; response = response_after before z } in b)) (same_Some x e h))
+side_at v before (x ∷ es) zero e h = (
+  before,
+  ap (λ z. Some (let b : Bound = record { jitter = jitter_by v z.0 z.0.starter; response = response_after before z }
+      in b)) (same_Some x e h),
+)
 side_at v before (x ∷ es) (suc i) e h = side_at v (before ++ x ∷ []) es i e h
 
 -- a task in a table, with its row and its bound
@@ -113,7 +120,8 @@ pub record IsTabled (ts : List Ranked) (rows : List ThreadRow) (v : List Bound) 
   pub jitter : jitter_by v row row.starter ≤ bound.jitter
   pub some : 1 ≤ bound.response
 
-tabled_at : (p : Program) (ts : List Ranked) (rows : List ThreadRow) (v : List Bound) → AreTabled p ts rows → Fits rows v → (i : ℕ) (t : Ranked) → slice_get ts i ≡ Some t → IsTabled ts rows v i t
+tabled_at : (p : Program) (ts : List Ranked) (rows : List ThreadRow) (v : List Bound) → AreTabled p ts rows → Fits rows v → (i : ℕ) (t : Ranked)
+    → slice_get ts i ≡ Some t → IsTabled ts rows v i t
 tabled_at p ts rows v tabled fits i t here =
     let n = zip-first _ ts rows i t tabled.numbers here in
     let l = zip-first _ rows v i n.0 fits.1 n.1 in
@@ -122,8 +130,10 @@ tabled_at p ts rows v tabled fits i t here =
     let m = zip-first _ (right_sides rows v) v i _ fits.0.1 side.1 in
     let same : m.0 ≡ l.0 = same_Some m.0 l.0 (sym m.1 ∙ l.1) in
     let row : IsRow _ n.0 = rows_at _ rows i n.0 tabled.table.each n.1 in
-    let response : response_after side.0 (n.0, l.0) ≤ l.0.response = (let P : Bound → Type 0 = λ z. response_after side.0 (n.0, l.0) ≤ z.response in subst P same m.2.1) in
-    let jitter : jitter_by v n.0 n.0.starter ≤ l.0.jitter = (let P : Bound → Type 0 = λ z. jitter_by v n.0 n.0.starter ≤ z.jitter in subst P same m.2.0) in
+    let response : response_after side.0 (n.0, l.0) ≤ l.0.response = (let P : Bound → Type 0 = λ z. response_after side.0 (n.0, l.0) ≤ z.response
+    in subst P same m.2.1) in
+    let jitter : jitter_by v n.0 n.0.starter ≤ l.0.jitter = (let P : Bound → Type 0 = λ z. jitter_by v n.0 n.0.starter ≤ z.jitter
+    in subst P same m.2.0) in
     record {
       here = here;
       row = n.0;
@@ -143,12 +153,17 @@ pub record HasThread (p : Program) (r : places.Arrivals) (t : Ranked) : Type 0 w
   pub at : slice_get (system p r).threads place ≡ Some thread
   pub same : task_at thread ≡ t.task
 
-pub ranked_tasks : (us : List Unit) → map (λ u. u.task) (filter_map (λ u. option_map (λ t. let z : Ranked = record { task = t; priority = priority_of u.form } in z) (task_by u.name u.form)) us) ≡ filter_map (λ u. task_by u.name u.form) us
+pub ranked_tasks : (us : List Unit)
+    → map (λ u. u.task) (filter_map (λ u. option_map (λ t. let z : Ranked = record { task = t; priority = priority_of u.form }
+    in z) (task_by u.name u.form)) us) ≡ filter_map (λ u. task_by u.name u.form) us
 ranked_tasks [] = refl
 ranked_tasks (u ∷ us) = by (task_by u.name u.form) (ranked_tasks us)
   where
-    by : (o : Option Task) → map (λ z. z.task) (filter_map (λ z. option_map (λ t. let q : Ranked = record { task = t; priority = priority_of z.form } in q) (task_by z.name z.form)) us) ≡ filter_map (λ z. task_by z.name z.form) us
-        → map (λ z. z.task) (cons_option (option_map (λ t. let q : Ranked = record { task = t; priority = priority_of u.form } in q) o) (filter_map (λ z. option_map (λ t. let q : Ranked = record { task = t; priority = priority_of z.form } in q) (task_by z.name z.form)) us))
+    by : (o : Option Task) → map (λ z. z.task) (filter_map (λ z. option_map (λ t. let q : Ranked = record { task = t; priority = priority_of z.form }
+        in q) (task_by z.name z.form)) us) ≡ filter_map (λ z. task_by z.name z.form) us
+        → map (λ z. z.task) (cons_option (option_map (λ t. let q : Ranked = record { task = t; priority = priority_of u.form }
+        in q) o) (filter_map (λ z. option_map (λ t. let q : Ranked = record { task = t; priority = priority_of z.form }
+        in q) (task_by z.name z.form)) us))
         ≡ cons_option o (filter_map (λ z. task_by z.name z.form) us)
     by None h = h
     by (Some t) h = ap (λ ts. t ∷ ts) h
@@ -159,7 +174,8 @@ ranked_at p k t e = ap (λ ts. slice_get ts k) (sym (ranked_tasks p.units)) ∙ 
 
 pub thread_of : (p : Program) (r : places.Arrivals) (k : ℕ) (t : Ranked) → slice_get (ranked p) k ≡ Some t → HasThread p r t
 thread_of p r k t e =
-    let m : (th : TaskUnit) × (slice_get (system p r).threads k ≡ Some th) × (task_at th ≡ t.task) = tasks.thread_of p r k t.task (ranked_at p k t e) in
+    let m : (th : TaskUnit) × (slice_get (system p r).threads k ≡ Some th) × (task_at th ≡ t.task)
+    = tasks.thread_of p r k t.task (ranked_at p k t e) in
     record { place = k; thread = m.0; at = m.1; same = m.2 }
 
 -- what is asked of a task that another requests, of its starter
@@ -168,8 +184,10 @@ Starts p ts trace =
     (t : Ranked) (k : ℕ) (row : ThreadRow) (op : Signature) (separation : ℕ) (e : IsStarter p ts row t.task.name op separation)
     → slice_get (ranked p) k ≡ Some t → t.task.timing ≡ flats.Sporadic op separation None → AsksOnce e.starter.task.name t.task.name false trace
 
-module _ (limit : ℕ) (p : Program) (ts : List Ranked) (rows : List ThreadRow) (v : List Bound) (r : places.Arrivals) (trace : List machine.Event) (readable : IsReadable p) (tabled : AreTabled p ts rows) (fits : Fits rows v)
-    (accepted : IsAccepted limit p r) (kept : AreKept limit (program_software p) (named_arrivals p r)) (m : Meaning p r trace) (quiet : NeverStops (named p trace)) (bounded : IsBounded (times_of ts v) r.until (named p trace)) where
+module _ (limit : ℕ) (p : Program) (ts : List Ranked) (rows : List ThreadRow) (v : List Bound) (r : places.Arrivals) (trace : List machine.Event)
+    (readable : IsReadable p) (tabled : AreTabled p ts rows) (fits : Fits rows v)
+    (accepted : IsAccepted limit p r) (kept : AreKept limit (program_software p) (named_arrivals p r)) (m : Meaning p r trace)
+    (quiet : NeverStops (named p trace)) (bounded : IsBounded (times_of ts v) r.until (named p trace)) where
   abbrev T : List Event
   T = named p trace
 
@@ -195,14 +213,16 @@ module _ (limit : ℕ) (p : Program) (ts : List Ranked) (rows : List ThreadRow) 
   timed_so : (t : Ranked) (h : HasThread p r t) → timing_at h.thread.timing ≡ t.task.timing
   timed_so t h = ap (λ z. z.timing) h.same
 
-  serves : (t : Ranked) (h : HasThread p r t) (op : Signature) (ceiling separation jitter : ℕ) (external : Bool) → h.thread.timing ≡ Requested op ceiling separation jitter external → ServedWhile None (Some 0) (notices t.task.name T)
+  serves : (t : Ranked) (h : HasThread p r t) (op : Signature) (ceiling separation jitter : ℕ) (external : Bool)
+      → h.thread.timing ≡ Requested op ceiling separation jitter external → ServedWhile None (Some 0) (notices t.task.name T)
   serves t h op ceiling separation jitter external timing =
       let P : Name → Type 0 = λ n. ServedWhile None (Some 0) (notices n T) in
       subst P (named_so t h) (served_while limit p r readable.1 accepted h.place h.thread h.at op ceiling separation jitter external timing trace m)
 
   module _ (starts : Starts p ts (named p trace)) where
     -- the requests of a sporadic task
-    asked_keeps : (i : ℕ) (t : Ranked) (d : IsTabled ts rows v i t) (h : HasThread p r t) (op : Signature) (ceiling separation jitter : ℕ) (external : Bool) → h.thread.timing ≡ Requested op ceiling separation jitter external
+    asked_keeps : (i : ℕ) (t : Ranked) (d : IsTabled ts rows v i t) (h : HasThread p r t) (op : Signature) (ceiling separation jitter : ℕ)
+        (external : Bool) → h.thread.timing ≡ Requested op ceiling separation jitter external
         → ((s : ℕ) (u : Ranked) (e : IsTabled ts rows v s u) → e.bound.jitter < d.bound.jitter → Keeps u e.bound)
         → KeepTime separation d.bound.jitter 0 (asked (notices t.task.name T))
     asked_keeps i t d h op ceiling separation jitter true timing before =
@@ -218,11 +238,14 @@ module _ (limit : ℕ) (p : Program) (ts : List Ranked) (rows : List ThreadRow) 
         let A : Name → Type 0 = λ z. KeepTime separation jitter 0 (asked (notices z T)) in
         let Q : flats.Timing → Type 0 = λ z. KeepsSeparation (named_arrivals p r).items h.thread.name z in
         let own : KeepTime separation jitter 0 (arrivals_of h.thread.name) =
-        subst Q (ap timing_at timing) (all-at (λ z. KeepsSeparation (named_arrivals p r).items z.name z.timing) (map task_at (system p r).threads) h.place (task_at h.thread)
-        (let E : List Task → Type 0 = λ zs. Each (λ z. KeepsSeparation (named_arrivals p r).items z.name z.timing) zs in subst E (tasks_of p r) kept.separations)
+        subst Q (ap timing_at timing) (all-at (λ z. KeepsSeparation (named_arrivals p r).items z.name z.timing)
+        (map task_at (system p r).threads) h.place (task_at h.thread)
+        (let E : List Task → Type 0 = λ zs. Each (λ z. KeepsSeparation (named_arrivals p r).items z.name z.timing) zs
+        in subst E (tasks_of p r) kept.separations)
         (slice_get-map task_at (system p r).threads h.place ∙ ap (option_map task_at) h.at)) in
         keep_more separation jitter d.bound.jitter 0 (asked (notices t.task.name T)) (omega (arith, started.1, low))
-        (subst A (named_so t h) (external_asked limit p r trace h.place h.thread op ceiling separation jitter readable.1 accepted m quiet h.at timing kept.times own))
+        (subst A (named_so t h) (external_asked limit p r trace h.place h.thread op ceiling separation jitter readable.1 accepted m quiet h.at timing
+        kept.times own))
       where
         arrivals_of : Name → List ℕ
         arrivals_of n = arrivals.times_of n (named_arrivals p r).items
@@ -240,11 +263,14 @@ module _ (limit : ℕ) (p : Program) (ts : List Ranked) (rows : List ThreadRow) 
         subst L e.bound_here (subst K started.told (subst J (sym row) d.jitter))) in
         let keeps : Keeps started.starter e.bound = before started.place started.starter e (omega (arith, low, e.some)) in
         keep_more separation (e.bound.jitter + e.bound.response) d.bound.jitter 0 (asked (notices t.task.name T)) low
-        (keeps_time (program_software p).tasks r.until started.starter.task.name t.task.name (period_of started.starter.task.timing) e.bound.jitter e.bound.response separation started.period T ordered
-        (responds started.place started.starter e) keeps (let place = all-at _ ts i t tabled.tasks d.here in starts t place.0 n.0 op separation started place.1 task_timing))
+        (keeps_time (program_software p).tasks r.until started.starter.task.name t.task.name (period_of started.starter.task.timing) e.bound.jitter
+        e.bound.response separation started.period T ordered
+        (responds started.place started.starter e) keeps (let place = all-at _ ts i t tabled.tasks d.here
+        in starts t place.0 n.0 op separation started place.1 task_timing))
 
     -- a separation is the period of the row
-    within_so : (i : ℕ) (t : Ranked) (d : IsTabled ts rows v i t) (h : HasThread p r t) (op : Signature) (ceiling separation jitter : ℕ) (external : Bool) → h.thread.timing ≡ Requested op ceiling separation jitter external
+    within_so : (i : ℕ) (t : Ranked) (d : IsTabled ts rows v i t) (h : HasThread p r t) (op : Signature) (ceiling separation jitter : ℕ)
+        (external : Bool) → h.thread.timing ≡ Requested op ceiling separation jitter external
         → d.bound.response + d.bound.jitter ≤ separation
     within_so i t d h op ceiling separation jitter external timing =
         let s : period_of t.task.timing ≡ separation = ap period_of (sym (timed_so t h)) ∙ ap (λ z. period_of (timing_at z)) timing in
@@ -258,39 +284,48 @@ module _ (limit : ℕ) (p : Program) (ts : List Ranked) (rows : List ThreadRow) 
         h : HasThread p r t
         h = thread_at i t d.here
 
-        by : (timing : ReleasePattern) → h.thread.timing ≡ timing → ((s : ℕ) (u : Ranked) (e : IsTabled ts rows v s u) → e.bound.jitter < d.bound.jitter → Keeps u e.bound) → Keeps t d.bound
+        by : (timing : ReleasePattern) → h.thread.timing ≡ timing
+            → ((s : ℕ) (u : Ranked) (e : IsTabled ts rows v s u) → e.bound.jitter < d.bound.jitter → Keeps u e.bound) → Keeps t d.bound
         by (Periodic offset period) is before =
             let s : period_of t.task.timing ≡ period = ap period_of (sym (timed_so t h)) ∙ ap (λ z. period_of (timing_at z)) is in
             let N : Name → Type 0 = λ z. Responds r.until T (record { thread = z; ticks = d.bound.response }) in
             let on : AreOnTime period r.until offset (releases h.thread.name T) =
-            on_time limit p r trace h.place h.thread offset period d.bound.response readable.1 accepted m quiet h.at is (omega (arith, d.within, d.period, s)) (subst N (sym (named_so t h)) (responds i t d)) in
+            on_time limit p r trace h.place h.thread offset period d.bound.response readable.1 accepted m quiet h.at is
+            (omega (arith, d.within, d.period, s)) (subst N (sym (named_so t h)) (responds i t d)) in
             let K : List ℕ → Type 0 = λ zs. KeepTime period d.bound.jitter 0 zs in
             let M : Name → Type 0 = λ z. KeepTime period d.bound.jitter 0 (taken (notices z T)) in
             let P : ℕ → Type 0 = λ z. KeepTime z d.bound.jitter 0 (taken (notices t.task.name T)) in
-            subst P (sym s) (subst M (named_so t h) (subst K (release_times h.thread.name T) (on_time_keeps period r.until d.bound.jitter offset 0 (releases h.thread.name T) (omega arith) on)))
+            subst P (sym s) (subst M (named_so t h) (subst K (release_times h.thread.name T)
+            (on_time_keeps period r.until d.bound.jitter offset 0 (releases h.thread.name T) (omega arith) on)))
         by (Requested op ceiling separation jitter external) is before =
             let s : period_of t.task.timing ≡ separation = ap period_of (sym (timed_so t h)) ∙ ap (λ z. period_of (timing_at z)) is in
             let P : ℕ → Type 0 = λ z. KeepTime z d.bound.jitter 0 (taken (notices t.task.name T)) in
-            subst P (sym s) (releases_keep (program_software p).tasks r.until t.task.name d.bound.response separation d.bound.jitter d.some (within_so i t d h op ceiling separation jitter external is) T ordered (responds i t d)
+            subst P (sym s) (releases_keep (program_software p).tasks r.until t.task.name d.bound.response separation d.bound.jitter d.some
+            (within_so i t d h op ceiling separation jitter external is) T ordered (responds i t d)
             (asked_keeps i t d h op ceiling separation jitter external is before) (serves t h op ceiling separation jitter external is))
 
     -- no request of a sporadic task overruns another
-    never_so : (i : ℕ) (t : Ranked) (d : IsTabled ts rows v i t) (h : HasThread p r t) (op : Signature) (ceiling separation jitter : ℕ) (external : Bool) → h.thread.timing ≡ Requested op ceiling separation jitter external
+    never_so : (i : ℕ) (t : Ranked) (d : IsTabled ts rows v i t) (h : HasThread p r t) (op : Signature) (ceiling separation jitter : ℕ)
+        (external : Bool) → h.thread.timing ≡ Requested op ceiling separation jitter external
         → NeverOverruns false (notices t.task.name T)
     never_so i t d h op ceiling separation jitter external is =
-        never_overruns (program_software p).tasks r.until t.task.name d.bound.response separation d.bound.jitter d.some (within_so i t d h op ceiling separation jitter external is) T ordered (responds i t d)
-        (asked_keeps i t d h op ceiling separation jitter external is (λ s u e less. keeps_by (suc e.bound.jitter) s u e (omega arith))) (serves t h op ceiling separation jitter external is)
+        never_overruns (program_software p).tasks r.until t.task.name d.bound.response separation d.bound.jitter d.some
+        (within_so i t d h op ceiling separation jitter external is) T ordered (responds i t d)
+        (asked_keeps i t d h op ceiling separation jitter external is (λ s u e less. keeps_by (suc e.bound.jitter) s u e (omega arith)))
+        (serves t h op ceiling separation jitter external is)
 
     -- each task of the program, where all stand in the table
     tasks_by : (P : Task → Type 0) → ((k : ℕ) (t : Ranked) → slice_get (ranked p) k ≡ Some t → P t.task) → Each P (program_software p).tasks
-    tasks_by P all = let E : List Task → Type 0 = λ zs. Each P zs in subst E (ranked_tasks p.units) (each-map (λ u. u.task) P (ranked p) (each-by (λ u. P u.task) (ranked p) all))
+    tasks_by P all = let E : List Task → Type 0 = λ zs. Each P zs
+        in subst E (ranked_tasks p.units) (each-map (λ u. u.task) P (ranked p) (each-by (λ u. P u.task) (ranked p) all))
 
     module _ (all : Each (λ u. (i : ℕ) × (slice_get ts i ≡ Some u)) (ranked p)) where
       quick : (k : ℕ) (t : Ranked) → slice_get (ranked p) k ≡ Some t → EndsWithinPeriod r.until T t.task.name t.task.timing
       quick k t e = by t.task.timing refl
         where
           d : (i : ℕ) × IsTabled ts rows v i t
-          d = let place = all-at (λ u. (i : ℕ) × (slice_get ts i ≡ Some u)) (ranked p) k t all e in (place.0, tabled_at p ts rows v tabled fits place.0 t place.1)
+          d = let place = all-at (λ u. (i : ℕ) × (slice_get ts i ≡ Some u)) (ranked p) k t all e
+              in (place.0, tabled_at p ts rows v tabled fits place.0 t place.1)
 
           by : (timing : flats.Timing) → t.task.timing ≡ timing → EndsWithinPeriod r.until T t.task.name timing
           by (flats.Cyclic period offset) is =
@@ -305,7 +340,8 @@ module _ (limit : ℕ) (p : Program) (ts : List Ranked) (rows : List ThreadRow) 
           h = thread_of p r k t e
 
           d : (i : ℕ) × IsTabled ts rows v i t
-          d = let place = all-at (λ u. (i : ℕ) × (slice_get ts i ≡ Some u)) (ranked p) k t all e in (place.0, tabled_at p ts rows v tabled fits place.0 t place.1)
+          d = let place = all-at (λ u. (i : ℕ) × (slice_get ts i ≡ Some u)) (ranked p) k t all e
+              in (place.0, tabled_at p ts rows v tabled fits place.0 t place.1)
 
           by : (timing : ReleasePattern) → h.thread.timing ≡ timing → HasNoOverrun T t.task.name (timing_at timing)
           by (Periodic offset period) is = tt
@@ -314,13 +350,17 @@ module _ (limit : ℕ) (p : Program) (ts : List Ranked) (rows : List ThreadRow) 
       -- the run is permitted
       pub bounded_permits : Permits (program_software p) (named_arrivals p r) T
       bounded_permits =
-          permits limit p r trace readable accepted m quiet (tasks_by (λ t. EndsWithinPeriod r.until T t.name t.timing) quick) (tasks_by (λ t. HasNoOverrun T t.name t.timing) without_overrun)
+          permits limit p r trace readable accepted m quiet (tasks_by (λ t. EndsWithinPeriod r.until T t.name t.timing) quick)
+          (tasks_by (λ t. HasNoOverrun T t.name t.timing) without_overrun)
 
 -- with the law of responses: every run of a tabled program is permitted and within its bounds
-pub tabled_runs : (limit : ℕ) → ProcessorResponds limit → (p : Program) (ts : List Ranked) (rows : List ThreadRow) (v : List Bound) (r : places.Arrivals) (trace : List machine.Event)
-    → IsReadable p → AreTabled p ts rows → Each (λ u. (i : ℕ) × (slice_get ts i ≡ Some u)) (ranked p) → Fits rows v → IsAccepted limit p r → AreKept limit (program_software p) (named_arrivals p r) → Meaning p r trace
+pub tabled_runs : (limit : ℕ) → ProcessorResponds limit
+    → (p : Program) (ts : List Ranked) (rows : List ThreadRow) (v : List Bound) (r : places.Arrivals) (trace : List machine.Event)
+    → IsReadable p → AreTabled p ts rows → Each (λ u. (i : ℕ) × (slice_get ts i ≡ Some u)) (ranked p) → Fits rows v → IsAccepted limit p r
+    → AreKept limit (program_software p) (named_arrivals p r) → Meaning p r trace
     → Starts p ts (named p trace)
     → Permits (program_software p) (named_arrivals p r) (named p trace) × IsBounded (times_of ts v) r.until (named p trace)
 tabled_runs limit law p ts rows v r trace readable tabled all fits accepted kept m starts =
-    let b : NeverStops (named p trace) × IsBounded (times_of ts v) r.until (named p trace) = law p ts rows v r trace readable tabled fits accepted m in
+    let b : NeverStops (named p trace) × IsBounded (times_of ts v) r.until (named p trace)
+    = law p ts rows v r trace readable tabled fits accepted m in
     (bounded_permits limit p ts rows v r trace readable tabled fits accepted kept m b.0 b.1 starts all, b.1)

@@ -35,7 +35,8 @@ use Rattle.guarantee.specs.ResponseLaw.{Ranked, ranked, AreTabled, times_of}
 abbrev pub TabledRunsAreRight : ℕ → Type 0
 TabledRunsAreRight limit =
     (p : Program) (ts : List Ranked) (rows : List ThreadRow) (v : List Bound) (r : Arrivals) (trace : List Event)
-    → IsReadable p → AreTabled p ts rows → Each (λ u. (i : ℕ) × (slice_get ts i ≡ Some u)) (ranked p) → Fits rows v → IsAccepted limit p r → Meaning p r trace
+    → IsReadable p → AreTabled p ts rows → Each (λ u. (i : ℕ) × (slice_get ts i ≡ Some u)) (ranked p) → Fits rows v → IsAccepted limit p r
+    → Meaning p r trace
     → Permits (program_software p) (named_arrivals p r) (named p trace) × IsBounded (times_of ts v) r.until (named p trace)
 
 -- arrivals are accepted for a program exactly where they keep the separations of its software
@@ -57,13 +58,15 @@ DesignsAreRight limit =
 -- a text with the tokens of such a program is guaranteed for the design and those bounds
 abbrev pub TextsAreGuaranteed : ℕ → Type 0
 TextsAreGuaranteed limit =
-    (x : Design) (text : List ℕ) (v : List Bound) → IsProperDesign (within_limits is_design_name) x → MeetsRules x → Fits (table (flat (in_ticks x))).rows v
+    (x : Design) (text : List ℕ) (v : List Bound) → IsProperDesign (within_limits is_design_name) x → MeetsRules x
+    → Fits (table (flat (in_ticks x))).rows v
     → length text ≤ 16777216 → plain (tokens text) ≡ Ok (program_tokens (program (in_ticks x))) → Guaranteed limit (in_ticks x) text v
 
 -- what is told of such a program under accepted arrivals is allowed by the design and within the bounds
 abbrev pub ReplaysAreRight : ℕ → Type 0
 ReplaysAreRight limit =
-    (x : Design) (v : List Bound) (r : Arrivals) (told : List Event) → IsProperDesign (within_limits is_design_name) x → MeetsRules x → Fits (table (flat (in_ticks x))).rows v
+    (x : Design) (v : List Bound) (r : Arrivals) (told : List Event) → IsProperDesign (within_limits is_design_name) x → MeetsRules x
+    → Fits (table (flat (in_ticks x))).rows v
     → IsAccepted limit (program (in_ticks x)) r → Meaning (program (in_ticks x)) r told
     → Allows (in_ticks x) (named_arrivals (program (in_ticks x)) r) (named (program (in_ticks x)) told)
     × IsBounded (responses (flat (in_ticks x)) v) r.until (named (program (in_ticks x)) told)

@@ -7,7 +7,8 @@
 #![tactic(auto)]
 
 ghost use Rattle.std.specs.Prelude.{ℕ};
-ghost use Rattle.right_runs.specs.Laws.{TabledRunsAreRight, AcceptedWhereKept, SoundDesignsAreRight, DesignsAreRight, TextsAreGuaranteed, ReplaysAreRight};
+ghost use Rattle.right_runs.specs.Laws.{TabledRunsAreRight, AcceptedWhereKept, SoundDesignsAreRight, DesignsAreRight, TextsAreGuaranteed};
+ghost use Rattle.right_runs.specs.Laws.{ReplaysAreRight};
 
 /// Every run of a program whose tasks all stand in a table that fits is permitted by the program's texts and within its bounds.
 ///

@@ -10,7 +10,8 @@ module _ {A : Type 0} (names : List A) (place : A → Option ℕ) (Step : A → 
     (source : (a c : A) → Step a c → (p : ℕ) × (place a ≡ Some p))
   where
     -- along a path of names their places lead along a path
-    pub places_lead : (path : List A) (a c : A) (p q : ℕ) → place a ≡ Some p → place c ≡ Some q → LeadsTo Step a path c → (steps : List ℕ) × LeadsTo (Goes step) p steps q
+    pub places_lead : (path : List A) (a c : A) (p q : ℕ) → place a ≡ Some p → place c ≡ Some q → LeadsTo Step a path c
+        → (steps : List ℕ) × LeadsTo (Goes step) p steps q
     places_lead [] a c p q e f h = ([], forth a c p q h e f)
     places_lead (via ∷ []) a c p q e f h =
         let v = source via c h.1 in (v.0 ∷ [], (forth a via p v.0 h.0 e v.1, forth via c v.0 q h.1 v.1 f))
@@ -27,7 +28,8 @@ module _ {A : Type 0} (names : List A) (place : A → Option ℕ) (Step : A → 
     one_name a b p e f = let z : Some a ≡ Some b = sym (stands a p e) ∙ stands b p f in cc
 
     -- along a path of places their names lead along a path
-    pub names_lead : (steps : List ℕ) (p q : ℕ) → LeadsTo (Goes step) p steps q → (a c : A) × (place a ≡ Some p) × (place c ≡ Some q) × ((path : List A) × LeadsTo Step a path c)
+    pub names_lead : (steps : List ℕ) (p q : ℕ) → LeadsTo (Goes step) p steps q → (a c : A) × (place a ≡ Some p) × (place c ≡ Some q)
+        × ((path : List A) × LeadsTo Step a path c)
     names_lead [] p q h = let r = back p q h in (r.0, r.1, r.2, r.3, ([], r.4))
     names_lead (v ∷ steps) p q h =
         let r = back p v h.0 in

@@ -1,5 +1,6 @@
 -- Marks of what is reached: they are sound and, where no node is left to be taken up, complete.
-use Rattle.std.proofs.Common.{◌≡◌, ℕ, ◌<◌, ◌==◌, Bool, true, false, not, ◌&&◌, ◌||◌, List, [], ◌∷◌, ◌++◌, get_or, nat_lt, length, refl, sym, ap, subst, ◌∙◌, arith, inl, inr, ◌⊎◌}
+use Rattle.std.proofs.Common.{◌≡◌, ℕ, ◌<◌, ◌==◌, Bool, true, false, not, ◌&&◌, ◌||◌, List, [], ◌∷◌, ◌++◌, get_or, nat_lt, length, refl, sym, ap}
+use Rattle.std.proofs.Common.{subst, ◌∙◌, arith, inl, inr, ◌⊎◌}
 use Rattle.std.proofs.lemmas.Bool.{eqb-true, eq-eqb}
 use Rattle.std.proofs.lemmas.List.Folds.{list_any-append}
 use Rattle.seq_tree.specs.Rings.{LeadsTo}
@@ -28,7 +29,8 @@ pub and-from : (a b : Bool) → a ≡ true → b ≡ true → (a && b) ≡ true
 and-from a b h k = ap (λ c. c && b) h ∙ k
 
 -- one edge more at the end
-pub further : (step : ℕ → ℕ → Bool) (path : List ℕ) (from mid to : ℕ) → LeadsTo (Goes step) from path mid → step mid to ≡ true → (longer : List ℕ) × LeadsTo (Goes step) from longer to
+pub further : (step : ℕ → ℕ → Bool) (path : List ℕ) (from mid to : ℕ) → LeadsTo (Goes step) from path mid → step mid to ≡ true
+    → (longer : List ℕ) × LeadsTo (Goes step) from longer to
 further step [] from mid to h last = (mid ∷ [], (h, last))
 further step (via ∷ path) from mid to h last = let r = further step path via mid to h.1 last in (via ∷ r.0, (h.0, r.1))
 
@@ -45,7 +47,8 @@ pub record Marked (step : ℕ → ℕ → Bool) (starts marks todo : ℕ → Boo
 
 -- a node is taken up, and what it leads to is marked
 pub taken : (step : ℕ → ℕ → Bool) (starts marks todo more rest after : ℕ → Bool) (node : ℕ) → Marked step starts marks todo
-    → ((n : ℕ) → todo n ≡ (rest n || node == n)) → ((n : ℕ) → more n ≡ (marks n || step node n)) → ((n : ℕ) → after n ≡ (rest n || (more n && not (marks n))))
+    → ((n : ℕ) → todo n ≡ (rest n || node == n)) → ((n : ℕ) → more n ≡ (marks n || step node n))
+    → ((n : ℕ) → after n ≡ (rest n || (more n && not (marks n))))
     → Marked step starts more after
 taken step starts marks todo more rest after node m split grown left =
     record { started = λ n h. old n (m.started n h); sound = sound; listed = listed; closed = closed }
@@ -75,7 +78,8 @@ taken step starts marks todo more rest after node m split grown left =
       where
         go : (todo a ≡ true) → (rest a ≡ true) ⊎ ((node == a) ≡ true) → (more b || after a) ≡ true
         go t (inl k) = or-right (more b) (after a) (left a ∙ or-left (rest a) (more a && not (marks a)) k)
-        go t (inr k) = let P : ℕ → Type 0 = λ z. step z b ≡ true in or-left (more b) (after a) (grown b ∙ or-right (marks b) (step node b) (subst P (sym (eqb-true node a k)) edge))
+        go t (inr k) = let P : ℕ → Type 0 = λ z. step z b ≡ true
+            in or-left (more b) (after a) (grown b ∙ or-right (marks b) (step node b) (subst P (sym (eqb-true node a k)) edge))
 
         cases : (marks b ≡ true) ⊎ (todo a ≡ true) → (more b || after a) ≡ true
         cases (inl k) = or-left (more b) (after a) (old b k)
@@ -83,10 +87,12 @@ taken step starts marks todo more rest after node m split grown left =
 
         by : (t : Bool) → marks a ≡ t → (more b || after a) ≡ true
         by true e = cases (or-cases (marks b) (todo a) (m.closed a b e edge))
-        by false e = or-right (more b) (after a) (left a ∙ or-right (rest a) (more a && not (marks a)) (and-from (more a) (not (marks a)) h (ap not e)))
+        by false e = or-right (more b) (after a) (left a ∙ or-right (rest a) (more a && not (marks a))
+            (and-from (more a) (not (marks a)) h (ap not e)))
 
 -- where nothing is left to be taken up, all that is reached is marked
-pub complete : (step : ℕ → ℕ → Bool) (starts marks todo : ℕ → Bool) → Marked step starts marks todo → ((n : ℕ) → todo n ≡ false) → (n : ℕ) → IsReachedBy step starts n → marks n ≡ true
+pub complete : (step : ℕ → ℕ → Bool) (starts marks todo : ℕ → Bool) → Marked step starts marks todo → ((n : ℕ) → todo n ≡ false) → (n : ℕ)
+    → IsReachedBy step starts n → marks n ≡ true
 complete step starts marks todo m none n (s, is, inl here) = let P : ℕ → Type 0 = λ z. marks z ≡ true in subst P here (m.started s is)
 complete step starts marks todo m none n (s, is, inr (path, leads)) = along path s (m.started s is) leads
   where
@@ -122,5 +128,6 @@ pub marks-grow : (g : Graph) (node : ℕ) (targets : List ℕ) (old more : List 
     → ((n : ℕ) → get_or more n false ≡ (get_or old n false || (has_number targets n && nat_lt n (length old))))
     → (n : ℕ) → get_or more n false ≡ (get_or old n false || leads g node n)
 marks-grow g node targets old more at len made n =
-    made n ∙ ap (λ ts. get_or old n false || (has_number ts n && nat_lt n (length old))) at ∙ ap (λ k. get_or old n false || (leads g node n && nat_lt n k)) len
+    made n ∙ ap (λ ts. get_or old n false || (has_number ts n && nat_lt n (length old))) at ∙ ap
+    (λ k. get_or old n false || (leads g node n && nat_lt n k)) len
     ∙ ap (λ b. get_or old n false || b) (inside-and (leads g node n) n g.count (g.inside node n))

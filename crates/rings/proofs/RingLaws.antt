@@ -1,5 +1,6 @@
 -- Rings by what is reached, by ranks that fall, and by another graph of the same edges.
-use Rattle.std.proofs.Common.{◌≡◌, ℕ, ◌+◌, ◌<◌, ◌≤◌, Option, ◌==◌, Bool, true, false, not, ◌&&◌, ◌||◌, List, [], ◌∷◌, get_or, length, nat_le, nat_lt, refl, sym, ap, subst, ◌∙◌, arith, inl, inr}
+use Rattle.std.proofs.Common.{◌≡◌, ℕ, ◌+◌, ◌<◌, ◌≤◌, Option, ◌==◌, Bool, true, false, not, ◌&&◌, ◌||◌, List, [], ◌∷◌, get_or, length, nat_le}
+use Rattle.std.proofs.Common.{nat_lt, refl, sym, ap, subst, ◌∙◌, arith, inl, inr}
 use Rattle.std.specs.List.{list_any}
 use Rattle.std.proofs.lemmas.Bool.{eqb-true, eq-eqb}
 use Rattle.seq_tree.specs.Rings.{LeadsTo, IsOnRing}
@@ -10,7 +11,8 @@ use Rattle.rings.specs.declared.graph.Graph.{Graph}
 use Rattle.rings.proofs.Reaching.{both, and-from}
 
 -- paths of edges that are the same
-pub same-paths : (f g : ℕ → ℕ → Bool) → ((a b : ℕ) → f a b ≡ g a b) → (a : ℕ) (path : List ℕ) (b : ℕ) → LeadsTo (Goes f) a path b → LeadsTo (Goes g) a path b
+pub same-paths : (f g : ℕ → ℕ → Bool) → ((a b : ℕ) → f a b ≡ g a b) → (a : ℕ) (path : List ℕ) (b : ℕ) → LeadsTo (Goes f) a path b
+    → LeadsTo (Goes g) a path b
 same-paths f g same a [] b h = sym (same a b) ∙ h
 same-paths f g same a (via ∷ path) b h = (sym (same a via) ∙ h.0, same-paths f g same via path b h.1)
 
@@ -18,7 +20,8 @@ pub same-ring : (f g : ℕ → ℕ → Bool) → ((a b : ℕ) → f a b ≡ g a 
 same-ring f g same n (path, h) = (path, same-paths f g same n path n h)
 
 -- a node is on a ring where it is reached from its targets
-pub tells-ring : (g : Graph) (node : ℕ) (targets : List ℕ) → ((b : ℕ) → has_number targets b ≡ leads g node b) → (t : Bool) → (t ≡ true → IsReached g targets node) → (IsReached g targets node → t ≡ true)
+pub tells-ring : (g : Graph) (node : ℕ) (targets : List ℕ) → ((b : ℕ) → has_number targets b ≡ leads g node b) → (t : Bool)
+    → (t ≡ true → IsReached g targets node) → (IsReached g targets node → t ≡ true)
     → TellsRing (leads g) node t
 tells-ring g node targets at true sound complete = by (sound refl)
   where
@@ -36,18 +39,22 @@ tells-ring g node targets at false sound complete = λ ring. let z : false ≡ t
     go (via ∷ path, l) = (via, start via l.0, inr (path, l.1))
 
 -- an edge that a test doesn't take
-none-taken : (test : ℕ × ℕ → Bool) (hit : ℕ × ℕ → Bool) (es : List (ℕ × ℕ)) → list_any test es ≡ false → list_any hit es ≡ true → (e : ℕ × ℕ) × (hit e ≡ true) × (test e ≡ false)
+none-taken : (test : ℕ × ℕ → Bool) (hit : ℕ × ℕ → Bool) (es : List (ℕ × ℕ)) → list_any test es ≡ false → list_any hit es ≡ true
+    → (e : ℕ × ℕ) × (hit e ≡ true) × (test e ≡ false)
 none-taken test hit [] n h = (let z : false ≡ true = h in cc)
 none-taken test hit (e ∷ es) n h = by (none-taken test hit es) (test e) refl (hit e) refl n h
   where
-    by : (list_any test es ≡ false → list_any hit es ≡ true → (d : ℕ × ℕ) × (hit d ≡ true) × (test d ≡ false)) → (t : Bool) → test e ≡ t → (k : Bool) → hit e ≡ k → (t || list_any test es) ≡ false → (k || list_any hit es) ≡ true → (d : ℕ × ℕ) × (hit d ≡ true) × (test d ≡ false)
+    by : (list_any test es ≡ false → list_any hit es ≡ true → (d : ℕ × ℕ) × (hit d ≡ true) × (test d ≡ false)) → (t : Bool) → test e ≡ t → (k : Bool)
+        → hit e ≡ k → (t || list_any test es) ≡ false → (k || list_any hit es) ≡ true → (d : ℕ × ℕ) × (hit d ≡ true) × (test d ≡ false)
     by rest true p k q a b = (let z : true ≡ false = a in cc)
     by rest false p true q a b = (e, q, p)
     by rest false p false q a b = rest a b
 
-step-untaken : (test : ℕ → ℕ → Bool) (count : ℕ) (es : List (ℕ × ℕ)) → list_any (λ e. test e.0 e.1) es ≡ false → (a b : ℕ) → is_step count es a b ≡ true → test a b ≡ false
+step-untaken : (test : ℕ → ℕ → Bool) (count : ℕ) (es : List (ℕ × ℕ)) → list_any (λ e. test e.0 e.1) es ≡ false → (a b : ℕ)
+    → is_step count es a b ≡ true → test a b ≡ false
 step-untaken test count es none a b h =
-    let r = none-taken (λ e. test e.0 e.1) (λ e. e.0 == a && e.1 == b) es none (both (nat_lt b count) (list_any (λ e. e.0 == a && e.1 == b) es) h).1 in
+    let r = none-taken (λ e. test e.0 e.1) (λ e. e.0 == a && e.1 == b) es none
+    (both (nat_lt b count) (list_any (λ e. e.0 == a && e.1 == b) es) h).1 in
     let ends = both (r.0.0 == a) (r.0.1 == b) r.1 in
     ap (λ z. test z b) (sym (eqb-true r.0.0 a ends.0)) ∙ ap (λ z. test r.0.0 z) (sym (eqb-true r.0.1 b ends.1)) ∙ r.2
 
@@ -60,7 +67,8 @@ module _ (count : ℕ) (ranks : List ℕ) (es : List (ℕ × ℕ)) (none : list_
   step-keeps a b h =
       let low : (nat_lt b count && nat_lt (get_or ranks b 0) (get_or ranks a 0)) ≡ false =
       step-untaken (λ p q. nat_lt q count && nat_lt (get_or ranks q 0) (get_or ranks p 0)) count es none a b h in
-      let k : nat_lt (get_or ranks b 0) (get_or ranks a 0) ≡ false = sym (ap (λ t. t && nat_lt (get_or ranks b 0) (get_or ranks a 0)) (step-inside count es a b h)) ∙ low in
+      let k : nat_lt (get_or ranks b 0) (get_or ranks a 0) ≡ false
+      = sym (ap (λ t. t && nat_lt (get_or ranks b 0) (get_or ranks a 0)) (step-inside count es a b h)) ∙ low in
       grind (arith, k)
 
   path-keeps : (path : List ℕ) (a b : ℕ) → LeadsTo (Goes (is_step count es)) a path b → get_or ranks a 0 ≤ get_or ranks b 0
@@ -80,12 +88,14 @@ module _ (count : ℕ) (ranks : List ℕ) (es : List (ℕ × ℕ)) (none : list_
           let r = ring-level n ring in
           let no : ((nat_lt r.0 count && get_or ranks n 0 == get_or ranks r.0 0) && nat_le n n) ≡ false =
           step-untaken (λ p q. (nat_lt q count && get_or ranks p 0 == get_or ranks q 0) && nat_le p n) count es e n r.0 r.1 in
-          let level = and-from (nat_lt r.0 count) (get_or ranks n 0 == get_or ranks r.0 0) (step-inside count es n r.0 r.1) (eq-eqb (get_or ranks n 0) (get_or ranks r.0 0) r.2) in
+          let level = and-from (nat_lt r.0 count) (get_or ranks n 0 == get_or ranks r.0 0) (step-inside count es n r.0 r.1)
+          (eq-eqb (get_or ranks n 0) (get_or ranks r.0 0) r.2) in
           let yes = and-from (nat_lt r.0 count && get_or ranks n 0 == get_or ranks r.0 0) (nat_le n n) level (grind arith) in
           let z : true ≡ false = sym yes ∙ no in cc
 
   -- no node before the first that such an edge leaves is on a ring
-  pub none-before : (first : Option ℕ) → ((n : ℕ) → is_before n first ≡ not (list_any (stays count ranks n) es)) → (n : ℕ) → is_before n first ≡ true → IsOnRing (Goes (is_step count es)) n → ⊥
+  pub none-before : (first : Option ℕ) → ((n : ℕ) → is_before n first ≡ not (list_any (stays count ranks n) es)) → (n : ℕ) → is_before n first ≡ true
+      → IsOnRing (Goes (is_step count es)) n → ⊥
   none-before first is n before ring = let z : true ≡ false = sym before ∙ is n ∙ ap not (ring-stays n ring) in cc
 
 -- a node on a ring is one of the nodes
@@ -113,7 +123,8 @@ no-items [] h = refl
 no-items (x ∷ xs) h = cc
 
 -- one node more that is on no ring
-pub no-more : (step : ℕ → ℕ → Bool) (m : ℕ) → ((n : ℕ) → n < m → IsOnRing (Goes step) n → ⊥) → (IsOnRing (Goes step) m → ⊥) → (n : ℕ) → n < m + 1 → IsOnRing (Goes step) n → ⊥
+pub no-more : (step : ℕ → ℕ → Bool) (m : ℕ) → ((n : ℕ) → n < m → IsOnRing (Goes step) n → ⊥) → (IsOnRing (Goes step) m → ⊥) → (n : ℕ) → n < m + 1
+    → IsOnRing (Goes step) n → ⊥
 no-more step m before none n below ring = by (n == m) refl
   where
     by : (t : Bool) → (n == m) ≡ t → ⊥

@@ -1,4 +1,5 @@
-ghost use Rattle.std.specs.Prelude.{◌≡◌, ◌<◌, ◌+◌, ◌==◌, ◌&&◌, ◌||◌, ◌++◌, ◌∷◌, ℕ, [], true, false, not, IfOk, OnOk, get_or, if◌then◌else◌, length, nat_lt};
+ghost use Rattle.std.specs.Prelude.{◌≡◌, ◌<◌, ◌+◌, ◌==◌, ◌&&◌, ◌||◌, ◌++◌, ◌∷◌, ℕ, [], true, false, not, IfOk, OnOk, get_or, if◌then◌else◌};
+ghost use Rattle.std.specs.Prelude.{length, nat_lt};
 ghost use Rattle.std.specs.List.{count_by};
 ghost use Rattle.rings.specs.Graphs.{has_number, is_step, targets_at};
 
@@ -56,7 +57,8 @@ fn add_inside(
     count: usize,
     edge: &(usize, usize),
 ) -> Result<(), NoMemory>
-    ensures { OnOk result ((a b : ℕ) → has_number (targets_at targets.new a) b ≡ (has_number (targets_at targets.old a) b || is_step count (edge.now ∷ []) a b)) }
+    ensures { OnOk result ((a b : ℕ) → has_number (targets_at targets.new a) b
+        ≡ (has_number (targets_at targets.old a) b || is_step count (edge.now ∷ []) a b)) }
 {
     if edge.1 < count {
         targets.add(alloc, edge.0, edge.1)?;
@@ -82,8 +84,10 @@ pub(crate) fn targets_of(
 /// Marks a node, where it is one, and takes it up where it wasn't marked.
 fn mark(node: usize, marks: &mut Vec<bool>, todo: &mut Vec<usize>) -> Result<(), NoMemory>
     ensures len { OnOk result (length marks.new.items ≡ length marks.old.items) }
-    ensures marks { OnOk result ((n : ℕ) → get_or marks.new.items n false ≡ (get_or marks.old.items n false || (node == n && nat_lt n (length marks.old.items)))) }
-    ensures todo { OnOk result ((n : ℕ) → has_number todo.new.items n ≡ (has_number todo.old.items n || (get_or marks.new.items n false && not (get_or marks.old.items n false)))) }
+    ensures marks { OnOk result ((n : ℕ) → get_or marks.new.items n false
+        ≡ (get_or marks.old.items n false || (node == n && nat_lt n (length marks.old.items)))) }
+    ensures todo { OnOk result ((n : ℕ) → has_number todo.new.items n
+        ≡ (has_number todo.old.items n || (get_or marks.new.items n false && not (get_or marks.old.items n false)))) }
     ensures fewer { OnOk result (count_by not marks.new.items + length todo.new.items ≡ count_by not marks.old.items + length todo.old.items) }
 {
     if node < marks.len() && !marks[node] {
@@ -100,8 +104,10 @@ pub(crate) fn mark_all(
     todo: &mut Vec<usize>,
 ) -> Result<(), NoMemory>
     ensures len { OnOk result (length marks.new.items ≡ length marks.old.items) }
-    ensures marks { OnOk result ((n : ℕ) → get_or marks.new.items n false ≡ (get_or marks.old.items n false || (has_number nodes.now n && nat_lt n (length marks.old.items)))) }
-    ensures todo { OnOk result ((n : ℕ) → has_number todo.new.items n ≡ (has_number todo.old.items n || (get_or marks.new.items n false && not (get_or marks.old.items n false)))) }
+    ensures marks { OnOk result ((n : ℕ) → get_or marks.new.items n false
+        ≡ (get_or marks.old.items n false || (has_number nodes.now n && nat_lt n (length marks.old.items)))) }
+    ensures todo { OnOk result ((n : ℕ) → has_number todo.new.items n
+        ≡ (has_number todo.old.items n || (get_or marks.new.items n false && not (get_or marks.old.items n false)))) }
     ensures fewer { OnOk result (count_by not marks.new.items + length todo.new.items ≡ count_by not marks.old.items + length todo.old.items) }
 {
     'nodes: for node in nodes {

@@ -43,7 +43,8 @@ fn control_ceilings(
 ) -> Result<Vec<u32>, NoMemory>
     requires long { length priorities.now ≡ length flat.now.threads.items }
     requires below { below.now ≡ ceilings_below (flat_of flat.now) priorities.now }
-    ensures { IfOk result (λ v. v.items ≡ map (λ t. control_ceiling (flat_of flat.now) priorities.now t.name t.timing) (map thread_of flat.now.threads.items)) }
+    ensures { IfOk result (λ v. v.items ≡ map (λ t. control_ceiling (flat_of flat.now) priorities.now t.name t.timing)
+        (map thread_of flat.now.threads.items)) }
 {
     let mut ceilings = Vec::new(alloc);
     'threads: for thread in &flat.threads {

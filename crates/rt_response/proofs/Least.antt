@@ -1,5 +1,6 @@
 -- The rounds stay below every vector that meets the equations, so where one goes over a limit no vector fits.
-use Rattle.std.specs.Prelude.{nat_lt, false, ◌≡◌, ℕ, zero, suc, ◌+◌, ◌*◌, ◌≤◌, ◌<◌, List, [], ◌∷◌, ◌++◌, map, length, zip, fold, sum_by, slice_get, Option, Some, None, refl}
+use Rattle.std.specs.Prelude.{nat_lt, false, ◌≡◌, ℕ, zero, suc, ◌+◌, ◌*◌, ◌≤◌, ◌<◌, List, [], ◌∷◌, ◌++◌, map, length, zip, fold, sum_by}
+use Rattle.std.specs.Prelude.{slice_get, Option, Some, None, refl}
 use Rattle.std.specs.List.{AllZip}
 use Rattle.std.specs.Int.{div_ceil}
 use Rattle.std.proofs.Common.{le_trans, le_refl, sym, ◌∙◌, ap, subst, arith, zero-le, add-le-add, mul-le-mul_right}
@@ -7,7 +8,8 @@ use Rattle.std.proofs.lemmas.Grind.{div_ceil_times}
 use Rattle.std.proofs.Math.Nat.{div-zero, mod-zero, lt_of_mul-lt-mul_right}
 use Rattle.rt_response.specs.declared.rows.ThreadRow.{ThreadRow}
 use Rattle.rt_response.specs.declared.rows.Bound.{Bound}
-use Rattle.rt_response.specs.Response.{Entry, interference, response_after, inherited, jitter_by, sides_after, right_sides, IsAtMost, Meets, IsWithinLimits, Fits}
+use Rattle.rt_response.specs.Response.{Entry, interference, response_after, inherited, jitter_by, sides_after, right_sides, IsAtMost, Meets}
+use Rattle.rt_response.specs.Response.{IsWithinLimits, Fits}
 use Rattle.rt_response.specs.declared.rows.Miss.{Miss}
 use Rattle.rt_response.specs.declared.excess.Excess.{Excess}
 use Rattle.rt_response.specs.Rounds.{first_jitter, round, first_excess, IsMiss}
@@ -24,14 +26,16 @@ pub div_ceil-mono : (a c b : ℕ) → a ≤ c → div_ceil a b ≤ div_ceil c b
 div_ceil-mono a c zero h = simp (div-zero, mod-zero) (grind arith)
 div_ceil-mono a c (suc b) h =
     let positive : 0 < suc b = omega arith in
-    let low : div_ceil a (suc b) * suc b < (div_ceil c (suc b) + 1) * suc b = omega (arith, (div_ceil_times a (suc b) positive).1, (div_ceil_times c (suc b) positive).0) in
+    let low : div_ceil a (suc b) * suc b < (div_ceil c (suc b) + 1) * suc b
+    = omega (arith, (div_ceil_times a (suc b) positive).1, (div_ceil_times c (suc b) positive).0) in
     let less : div_ceil a (suc b) < div_ceil c (suc b) + 1 = lt_of_mul-lt-mul_right (suc b) low in
     omega arith
 
 interference_mono : (w u : ℕ) (e f : Entry) → w ≤ u → EntryAtMost e f → interference w e ≤ interference u f
 interference_mono w u e f h k =
     let sum : w + e.1.jitter ≤ u + f.1.jitter = let j : e.1.jitter ≤ f.1.jitter = k.1 in omega arith in
-    let part : interference w e ≤ interference u (e.0, f.1) = mul-le-mul_right (e.0.cost) (div_ceil-mono (w + e.1.jitter) (u + f.1.jitter) e.0.period sum) in
+    let part : interference w e ≤ interference u (e.0, f.1)
+    = mul-le-mul_right (e.0.cost) (div_ceil-mono (w + e.1.jitter) (u + f.1.jitter) e.0.period sum) in
     subst (λ r. interference w e ≤ interference u (r, f.1)) k.0 part
 
 sum_mono : (w u a c : ℕ) (es fs : List Entry) → w ≤ u → a ≤ c → EntriesAtMost es fs
@@ -44,7 +48,8 @@ sum_mono w u a c (e ∷ es) (f ∷ fs) h k t =
 
 response_mono : (bs cs : List Entry) (e f : Entry) → EntriesAtMost bs cs → EntryAtMost e f → response_after bs e ≤ response_after cs f
 response_mono bs cs e f h k =
-    let sums : sum_by (interference e.1.response) bs ≤ sum_by (interference f.1.response) cs = sum_mono e.1.response f.1.response 0 0 bs cs k.2 (le_refl 0) h in
+    let sums : sum_by (interference e.1.response) bs ≤ sum_by (interference f.1.response) cs
+    = sum_mono e.1.response f.1.response 0 0 bs cs k.2 (le_refl 0) h in
     let same : e.0.block + e.0.cost ≡ f.0.block + f.0.cost = ap (λ r. r.block + r.cost) k.0 in
     add-le-add (subst (λ n. e.0.block + e.0.cost ≤ n) same (le_refl (e.0.block + e.0.cost))) sums
 
@@ -103,7 +108,8 @@ first_below v row None = le_refl row.jitter
 first_below v row (Some k) = zero-le
 
 start_below : (rows : List ThreadRow) (v u : List Bound) (bs : List Entry) → length u ≡ length rows
-    → IsAtMost (map (λ row. record { jitter = first_jitter row.jitter row.starter; response = row.block + row.cost }) rows) (sides_after v bs (zip rows u))
+    → IsAtMost (map (λ row. record { jitter = first_jitter row.jitter row.starter; response = row.block + row.cost }) rows)
+    (sides_after v bs (zip rows u))
 start_below [] u [] bs h = tt
 start_below [] v (b ∷ u) bs h = tt
 start_below (row ∷ rows) v [] bs h = absurd (omega arith)
@@ -135,7 +141,8 @@ below-no_excess i (row ∷ rows) (b ∷ v) (c ∷ u) h k =
 -- where a round has a value over its limit, no vector fits
 pub miss-none_fits : (rows : List ThreadRow) (m : Miss) (u : List Bound) → IsMiss rows m → Fits rows u → ⊥
 miss-none_fits rows m u miss fits =
-    let none : first_excess 0 rows (round rows m.round) ≡ None = below-no_excess 0 rows (round rows m.round) u (round-below rows u m.round fits.0) fits.1 in
+    let none : first_excess 0 rows (round rows m.round) ≡ None
+    = below-no_excess 0 rows (round rows m.round) u (round-below rows u m.round fits.0) fits.1 in
     some_none (sym miss.over ∙ none)
   where
     some_none : {x : Excess} → Some x ≡ None → ⊥

@@ -1,5 +1,6 @@
 -- The right sides of the equations by their places, and the ranges that keep products and sums small.
-use Rattle.std.specs.Prelude.{◌≡◌, ℕ, zero, suc, ◌+◌, ◌≤◌, ◌<◌, List, [], ◌∷◌, ◌++◌, length, zip, take, drop, set, get_or, slice_get, Option, Some, None, Result, Ok, Err, IfOk, IfErr, refl}
+use Rattle.std.specs.Prelude.{◌≡◌, ℕ, zero, suc, ◌+◌, ◌≤◌, ◌<◌, List, [], ◌∷◌, ◌++◌, length, zip, take, drop, set, get_or, slice_get, Option}
+use Rattle.std.specs.Prelude.{Some, None, Result, Ok, Err, IfOk, IfErr, refl}
 use Rattle.std.specs.List.{AllZip}
 use Rattle.std.proofs.Common.{sym, ◌∙◌, ap, arith, append_assoc, append-nil, add-one, take_all}
 use Rattle.std.proofs.Math.Seq.{take-suc, take-suc-set, drop-cons}
@@ -48,7 +49,8 @@ entries-reach (row ∷ rows) [] h = absurd h
 entries-reach (row ∷ rows) (b ∷ v) h = (h.0.reach, entries-reach rows v h.1)
 
 -- a response within its limits is small
-pub response-small : (n : ℕ) (rows : List ThreadRow) (v : List Bound) (i : ℕ) (e : Bound) → Each (IsRow n) rows → IsWithinLimits rows v → i < length rows
+pub response-small : (n : ℕ) (rows : List ThreadRow) (v : List Bound) (i : ℕ) (e : Bound) → Each (IsRow n) rows → IsWithinLimits rows v
+    → i < length rows
     → (get_or v i e).response ≤ 1000000000
 response-small n rows v i e h k inside =
     let long : length v ≡ length rows = AllZip-long _ rows v k in
@@ -56,9 +58,13 @@ response-small n rows v i e h k inside =
     let reach = each-at (λ b. b.jitter + b.response ≤ 1000000000) v i e (entries-reach rows v (entries-within n rows v h k)) within in
     omega (arith, reach)
 
-sides_after-at : (v u : List Bound) (bs : List Entry) (rows : List ThreadRow) (i : ℕ) (d : ThreadRow) (e : Bound) → i < length rows → length u ≡ length rows
+sides_after-at : (v u : List Bound) (bs : List Entry) (rows : List ThreadRow) (i : ℕ) (d : ThreadRow) (e : Bound) → i < length rows
+    → length u ≡ length rows
     → slice_get (sides_after v bs (zip rows u)) i
-    ≡ Some (record { jitter = jitter_by v (get_or rows i d) (get_or rows i d).starter; response = response_after (bs ++ zip (take i rows) (take i u)) (get_or rows i d, get_or u i e) })
+    ≡ Some (record {
+      jitter = jitter_by v (get_or rows i d) (get_or rows i d).starter;
+      response = response_after (bs ++ zip (take i rows) (take i u)) (get_or rows i d, get_or u i e);
+    })
 sides_after-at v u bs [] i d e h k = absurd (omega arith)
 sides_after-at v [] bs (row ∷ rows) i d e h k = absurd (omega arith)
 sides_after-at v (b ∷ u) bs (row ∷ rows) zero d e h k = rw append-nil refl
@@ -71,7 +77,10 @@ sides_after-at v (b ∷ u) bs (row ∷ rows) (suc i) d e h k =
 -- the right side of a row
 pub right_sides-at : (rows : List ThreadRow) (v : List Bound) (i : ℕ) (d : ThreadRow) (e : Bound) → i < length rows → length v ≡ length rows
     → slice_get (right_sides rows v) i
-    ≡ Some (record { jitter = jitter_by v (get_or rows i d) (get_or rows i d).starter; response = response_after (zip (take i rows) (take i v)) (get_or rows i d, get_or v i e) })
+    ≡ Some (record {
+      jitter = jitter_by v (get_or rows i d) (get_or rows i d).starter;
+      response = response_after (zip (take i rows) (take i v)) (get_or rows i d, get_or v i e);
+    })
 right_sides-at rows v i d e h k = sides_after-at v v [] rows i d e h k
 
 -- a list from a place on, where an element stands
@@ -79,16 +88,19 @@ pub drop-at : {A : Type 0} (xs : List A) (i : ℕ) (x : A) → slice_get xs i �
 drop-at xs i x h = drop-cons xs i x (slice_get_within xs i x h) ∙ ap (λ y. y ∷ drop (suc i) xs) (get_or_from_slice_get xs i x x h)
 
 -- the excesses from a row on are that of this row or those of later ones
-pub excess_from-at : (rows : List ThreadRow) (v : List Bound) (i : ℕ) (d : ThreadRow) (w : Bound) → i < length rows → slice_get (right_sides rows v) i ≡ Some w
+pub excess_from-at : (rows : List ThreadRow) (v : List Bound) (i : ℕ) (d : ThreadRow) (w : Bound) → i < length rows
+    → slice_get (right_sides rows v) i ≡ Some w
     → excess_from rows v i ≡ excess_or i (get_or rows i d) w (excess_from rows v (suc i))
 excess_from-at rows v i d w h k =
     let front : drop i rows ≡ get_or rows i d ∷ drop (suc i) rows = drop-cons rows i d h in
-    ap (λ xs. first_excess i xs (drop i (right_sides rows v))) front ∙ ap (λ ys. first_excess i (get_or rows i d ∷ drop (suc i) rows) ys) (drop-at (right_sides rows v) i w k)
+    ap (λ xs. first_excess i xs (drop i (right_sides rows v))) front ∙ ap (λ ys. first_excess i (get_or rows i d ∷ drop (suc i) rows) ys)
+    (drop-at (right_sides rows v) i w k)
 
 -- a row whose right side is within its limits
 pub side-found : (rows : List ThreadRow) (v : List Bound) (i : ℕ) (d : ThreadRow) (e : Bound) (j r : ℕ) → i < length rows → length v ≡ length rows
     → j ≡ jitter_by v (get_or rows i d) (get_or rows i d).starter → r ≡ response_after (zip (take i rows) (take i v)) (get_or rows i d, get_or v i e)
-    → (found : Result Bound Excess) → IfOk found (λ b. (b ≡ record { jitter = j; response = r }) × ((others : Option Excess) → excess_or i (get_or rows i d) b others ≡ others))
+    → (found : Result Bound Excess) → IfOk found (λ b. (b ≡ record { jitter = j; response = r })
+    × ((others : Option Excess) → excess_or i (get_or rows i d) b others ≡ others))
     → IfOk found (λ b. (slice_get (right_sides rows v) i ≡ Some b) × (excess_from rows v i ≡ excess_from rows v (i + 1)))
 side-found rows v i d e j r h k same_j same_r (Err x) within = tt
 side-found rows v i d e j r h k same_j same_r (Ok b) within =
@@ -99,7 +111,8 @@ side-found rows v i d e j r h k same_j same_r (Ok b) within =
 -- a row whose right side is over a limit
 pub side-over : (rows : List ThreadRow) (v : List Bound) (i : ℕ) (d : ThreadRow) (e : Bound) (j r : ℕ) → i < length rows → length v ≡ length rows
     → j ≡ jitter_by v (get_or rows i d) (get_or rows i d).starter → r ≡ response_after (zip (take i rows) (take i v)) (get_or rows i d, get_or v i e)
-    → (found : Result Bound Excess) → IfErr found (λ x. (others : Option Excess) → excess_or i (get_or rows i d) (record { jitter = j; response = r }) others ≡ Some x)
+    → (found : Result Bound Excess) → IfErr found (λ x. (others : Option Excess)
+    → excess_or i (get_or rows i d) (record { jitter = j; response = r }) others ≡ Some x)
     → IfErr found (λ x. excess_from rows v i ≡ Some x)
 side-over rows v i d e j r h k same_j same_r (Ok b) over = tt
 side-over rows v i d e j r h k same_j same_r (Err x) over =
@@ -108,7 +121,8 @@ side-over rows v i d e j r h k same_j same_r (Err x) over =
     let is : slice_get (right_sides rows v) i ≡ Some w = cc in
     excess_from-at rows v i d w h is ∙ over (excess_from rows v (suc i))
 
-sides_after-long : (v u : List Bound) (bs : List Entry) (rows : List ThreadRow) → length u ≡ length rows → length (sides_after v bs (zip rows u)) ≡ length rows
+sides_after-long : (v u : List Bound) (bs : List Entry) (rows : List ThreadRow) → length u ≡ length rows
+    → length (sides_after v bs (zip rows u)) ≡ length rows
 sides_after-long v u bs [] h = refl
 sides_after-long v [] bs (row ∷ rows) h = absurd (omega arith)
 sides_after-long v (b ∷ u) bs (row ∷ rows) h =
@@ -120,7 +134,8 @@ pub right_sides-long : (rows : List ThreadRow) (v : List Bound) → length v ≡
 right_sides-long rows v h = sides_after-long v v [] rows h
 
 -- a store of the next element
-pub store-next : {A : Type 0} (xs ys : List A) (i : ℕ) (y : A) → i < length xs → take i xs ≡ take i ys → slice_get ys i ≡ Some y → take (i + 1) (set xs i y) ≡ take (i + 1) ys
+pub store-next : {A : Type 0} (xs ys : List A) (i : ℕ) (y : A) → i < length xs → take i xs ≡ take i ys → slice_get ys i ≡ Some y
+    → take (i + 1) (set xs i y) ≡ take (i + 1) ys
 store-next xs ys i y h k is =
     let inside = slice_get_within ys i y is in
     rw (add-one, take-suc-set xs i y h, take-suc ys i y inside, get_or_from_slice_get ys i y y is, k) refl

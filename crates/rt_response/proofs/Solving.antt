@@ -1,5 +1,6 @@
 -- The rounds rise from zeros within their limits, so they come to rest at the least vector or go over a limit.
-use Rattle.std.specs.Prelude.{◌≡◌, ℕ, zero, suc, ◌+◌, ◌*◌, ◌≤◌, ◌<◌, List, [], ◌∷◌, ◌++◌, map, length, zip, replicate, sum_by, slice_get, nat_lt, Bool, true, false, Option, Some, None, if◌then◌else◌, refl}
+use Rattle.std.specs.Prelude.{◌≡◌, ℕ, zero, suc, ◌+◌, ◌*◌, ◌≤◌, ◌<◌, List, [], ◌∷◌, ◌++◌, map, length, zip, replicate, sum_by, slice_get, nat_lt}
+use Rattle.std.specs.Prelude.{Bool, true, false, Option, Some, None, if◌then◌else◌, refl}
 use Rattle.std.proofs.Common.{le_refl, sym, ◌∙◌, ap, subst, arith, zero-le, add-one, add-zero}
 use Rattle.std.proofs.lemmas.Slice.Eq.{slice_eq-Decides}
 use Rattle.std.specs.Bool.{Decides}
@@ -13,7 +14,8 @@ use Rattle.rt_response.specs.declared.rows.Bound.{Bound}
 use Rattle.rt_response.specs.declared.rows.Limit.TheVariants.{Deadline, Separation}
 use Rattle.rt_response.specs.declared.excess.Excess.{Excess}
 use Rattle.rt_response.specs.Tables.{Each, IsRow, IsTable}
-use Rattle.rt_response.specs.Response.{Entry, interference, inherited, jitter_by, sides_after, right_sides, IsAtMost, Meets, IsWithinLimits, IsLeastVector}
+use Rattle.rt_response.specs.Response.{Entry, interference, inherited, jitter_by, sides_after, right_sides, IsAtMost, Meets, IsWithinLimits}
+use Rattle.rt_response.specs.Response.{IsLeastVector}
 use Rattle.rt_response.specs.Rounds.{first_jitter, round, before_round, excess_or, first_excess, IsMiss}
 use Rattle.rt_response.proofs.Least.{right_sides-mono, at_most-refl, round-below}
 use Rattle.rt_response.proofs.Places.{right_sides-long}
@@ -46,7 +48,8 @@ jitter_at_first n row None = refl
 jitter_at_first n row (Some k) = inherits_nothing n k
 
 from_zeros : (n m : ℕ) (bs : List Entry) (rows : List ThreadRow) → Each (IsRow m) rows → Each TakesNothing bs
-    → sides_after (replicate n nothing) bs (zip rows (zeros rows)) ≡ map (λ row. record { jitter = first_jitter row.jitter row.starter; response = row.block + row.cost }) rows
+    → sides_after (replicate n nothing) bs (zip rows (zeros rows))
+    ≡ map (λ row. record { jitter = first_jitter row.jitter row.starter; response = row.block + row.cost }) rows
 from_zeros n m bs [] h k = refl
 from_zeros n m bs (row ∷ rows) h k =
     let entry : Entry = (row, nothing) in
@@ -119,8 +122,10 @@ total-same (b ∷ v) (c ∷ u) h k =
     cc
 
 -- a vector that rises rises by at least a tick
-pub total-rises : (rows : List ThreadRow) (k : ℕ) → Each (IsRow (length rows)) rows → (round rows k ≡ before_round rows k → ⊥) → total (before_round rows k) < total (round rows k)
-total-rises rows k h differs = rises (total (before_round rows k)) (total (round rows k)) (λ less. differs (sym (total-same (before_round rows k) (round rows k) (before-rises rows k h) less)))
+pub total-rises : (rows : List ThreadRow) (k : ℕ) → Each (IsRow (length rows)) rows → (round rows k ≡ before_round rows k → ⊥)
+    → total (before_round rows k) < total (round rows k)
+total-rises rows k h differs = rises (total (before_round rows k)) (total (round rows k))
+    (λ less. differs (sym (total-same (before_round rows k) (round rows k) (before-rises rows k h) less)))
   where
     rises : (a b : ℕ) → (b ≤ a → ⊥) → a < b
     rises a b h = grind arith
@@ -141,14 +146,16 @@ not_over : (i : ℕ) (row : ThreadRow) (b : Bound) (others : Option Excess) → 
 not_over i row b others h = go (nat_lt row.deadline b.response) (nat_lt row.period (b.jitter + b.response)) refl refl h
   where
     go : (p q : Bool) → nat_lt row.deadline b.response ≡ p → nat_lt row.period (b.jitter + b.response) ≡ q
-        → (if p then Some (record { index = i; which = Deadline; value = b.response; limit = row.deadline }) else if q then Some (record { index = i; which = Separation; value = b.jitter + b.response; limit = row.period }) else others) ≡ None
+        → (if p then Some (record { index = i; which = Deadline; value = b.response; limit = row.deadline }) else if q then Some
+        (record { index = i; which = Separation; value = b.jitter + b.response; limit = row.period }) else others) ≡ None
         → (b.response ≤ row.deadline) × (b.jitter + b.response ≤ row.period) × (others ≡ None)
     go true q hp hq e = cc
     go false true hp hq e = cc
     go false false hp hq e = (grind arith, grind arith, e)
 
 -- a vector without an excess is within its limits
-pub no_excess-within : (i : ℕ) (rows : List ThreadRow) (v : List Bound) → length v ≡ length rows → first_excess i rows v ≡ None → IsWithinLimits rows v
+pub no_excess-within : (i : ℕ) (rows : List ThreadRow) (v : List Bound) → length v ≡ length rows → first_excess i rows v ≡ None
+    → IsWithinLimits rows v
 no_excess-within i [] [] h k = tt
 no_excess-within i [] (b ∷ v) h k = absurd (omega arith)
 no_excess-within i (row ∷ rows) [] h k = absurd (omega arith)
@@ -184,7 +191,8 @@ reached-few rows k v t h =
     omega arith
 
 -- a round within its limits that differs is reached, and it has risen
-pub reached-next : (rows : List ThreadRow) (k : ℕ) (v u : List Bound) → IsTable rows → IsReached rows k v → u ≡ right_sides rows v → first_excess 0 rows u ≡ None → (u ≡ v → ⊥)
+pub reached-next : (rows : List ThreadRow) (k : ℕ) (v u : List Bound) → IsTable rows → IsReached rows k v → u ≡ right_sides rows v
+    → first_excess 0 rows u ≡ None → (u ≡ v → ⊥)
     → IsReached rows (k + 1) u × (total v < total u)
 reached-next rows k v u t h next none differs =
     let is : u ≡ round rows k = next ∙ reached-round rows k v t h in
@@ -202,14 +210,23 @@ reached-next rows k v u t h next none differs =
     )
 
 -- a vector that the next round doesn't change is the least
-pub reached-least : (rows : List ThreadRow) (k : ℕ) (v u : List Bound) → IsTable rows → IsReached rows k v → u ≡ right_sides rows v → u ≡ v → IsLeastVector rows v
+pub reached-least : (rows : List ThreadRow) (k : ℕ) (v u : List Bound) → IsTable rows → IsReached rows k v → u ≡ right_sides rows v → u ≡ v
+    → IsLeastVector rows v
 reached-least rows k v u t h next same = record {
-  fits = ((ap length h.is ∙ before-long rows k t.each, (let P : List Bound → Type 0 = λ w. IsAtMost w v in subst P (sym same ∙ next) (at_most-refl v))), h.within);
+  fits = (
+    (
+      ap length h.is ∙ before-long rows k t.each,
+      (let P : List Bound → Type 0 = λ w. IsAtMost w v
+          in subst P (sym same ∙ next) (at_most-refl v)),
+    ),
+    h.within,
+  );
   least = λ w fits. (let P : List Bound → Type 0 = λ z. IsAtMost z w in subst P (sym h.is) (before-below rows k w fits.0));
 }
 
 -- a round that goes over a limit is the first
-pub reached-miss : (rows : List ThreadRow) (k : ℕ) (v : List Bound) (x : Excess) → IsTable rows → IsReached rows k v → first_excess 0 rows (right_sides rows v) ≡ Some x
+pub reached-miss : (rows : List ThreadRow) (k : ℕ) (v : List Bound) (x : Excess) → IsTable rows → IsReached rows k v
+    → first_excess 0 rows (right_sides rows v) ≡ Some x
     → IsMiss rows (record { index = x.index; which = x.which; value = x.value; limit = x.limit; round = k })
 reached-miss rows k v x t h over = record {
   earlier = h.earlier;

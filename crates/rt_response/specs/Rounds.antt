@@ -22,7 +22,12 @@ round rows (suc k) = right_sides rows (round rows k)
 abbrev pub excess_or : ℕ → ThreadRow → Bound → Option Excess → Option Excess
 excess_or i row b others =
     if nat_lt row.deadline b.response then Some (record { index = i; which = Deadline; value = b.response; limit = row.deadline })
-    else if nat_lt row.period (b.jitter + b.response) then Some (record { index = i; which = Separation; value = b.jitter + b.response; limit = row.period })
+    else if nat_lt row.period (b.jitter + b.response) then Some (record {
+      index = i;
+      which = Separation;
+      value = b.jitter + b.response;
+      limit = row.period;
+    })
     else others
 
 -- the first excess of a vector, by rows counted from this number

@@ -34,8 +34,10 @@ pub fn within_limits(
     jitter: u32,
     response: u128,
 ) -> Result<Bound, Excess>
-    ensures within { IfOk result (λ b. (b ≡ record { jitter = jitter; response = response }) × ((others : Option Excess) → excess_or index row.now b others ≡ others)) }
-    ensures over { IfErr result (λ x. (others : Option Excess) → excess_or index row.now (record { jitter = jitter; response = response }) others ≡ Some x) }
+    ensures within { IfOk result (λ b. (b ≡ record { jitter = jitter; response = response })
+        × ((others : Option Excess) → excess_or index row.now b others ≡ others)) }
+    ensures over { IfErr result (λ x. (others : Option Excess) → excess_or index row.now (record { jitter = jitter; response = response }) others
+        ≡ Some x) }
 {
     if response > u128::from(row.deadline) {
         return Err(Excess {

@@ -60,7 +60,8 @@ fn side(table: &[ThreadRow], from: &[Bound], index: usize) -> Result<Bound, Exce
     requires table { IsTable table.now }
     requires within { IsWithinLimits table.now from.now }
     requires index { index < length table.now }
-    ensures within { IfOk result (λ b. (slice_get (right_sides table.now from.now) index ≡ Some b) × (excess_from table.now from.now index ≡ excess_from table.now from.now (index + 1))) }
+    ensures within { IfOk result (λ b. (slice_get (right_sides table.now from.now) index ≡ Some b)
+        × (excess_from table.now from.now index ≡ excess_from table.now from.now (index + 1))) }
     ensures over { IfErr result (λ x. excess_from table.now from.now index ≡ Some x) }
 {
     let (rows_before, _) = table.split_at(index);

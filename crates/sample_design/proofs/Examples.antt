@@ -37,11 +37,13 @@ two_threads = refl
 
 -- the objects of six threads in flattened order, and the times of the threads of thirty
 six_threads : map (λ s. s.own.name) (objects (sample_design 6))
-    ≡ codes "plant" ∷ codes "board" ∷ codes "step" ∷ codes "g1" ∷ codes "t1" ∷ codes "t2" ∷ codes "t3" ∷ codes "t4" ∷ codes "t5" ∷ codes "g2" ∷ codes "t6" ∷ []
+    ≡ codes "plant" ∷ codes "board" ∷ codes "step" ∷ codes "g1" ∷ codes "t1" ∷ codes "t2" ∷ codes "t3" ∷ codes "t4" ∷ codes "t5" ∷ codes "g2"
+    ∷ codes "t6" ∷ []
 unfolding from_to
 six_threads = refl
 
-times_of_thirty : map (thread_time 30) (from_on 1 30) ≡ 610 ∷ 620 ∷ 630 ∷ 640 ∷ 650 ∷ 660 ∷ 670 ∷ 680 ∷ 690 ∷ 700 ∷ 710 ∷ 720 ∷ 730 ∷ 740 ∷ 750 ∷ 760 ∷ 770 ∷ 780 ∷ 790 ∷ 800 ∷ 810 ∷ 820 ∷ 830 ∷ 840 ∷ 850 ∷ 860 ∷ 870 ∷ 880 ∷ 890 ∷ 900 ∷ []
+times_of_thirty : map (thread_time 30) (from_on 1 30) ≡ 610 ∷ 620 ∷ 630 ∷ 640 ∷ 650 ∷ 660 ∷ 670 ∷ 680 ∷ 690 ∷ 700 ∷ 710 ∷ 720 ∷ 730 ∷ 740 ∷ 750 ∷ 760
+    ∷ 770 ∷ 780 ∷ 790 ∷ 800 ∷ 810 ∷ 820 ∷ 830 ∷ 840 ∷ 850 ∷ 860 ∷ 870 ∷ 880 ∷ 890 ∷ 900 ∷ []
 times_of_thirty = refl
 
 -- one cyclic thread is never requested; the one sporadic thread of two is at each multiple of 60
@@ -58,6 +60,7 @@ unfolding digits from_to
 last_requests = refl
 
 -- at one time the threads go by their numbers
-by_number : request_lines (flat_map (requests_at 6) (from_on 0 181)) ≡ codes "AT 0 t2 0;\nAT 0 t4 0;\nAT 0 t6 0;\nAT 140 t2 1;\nAT 160 t4 1;\nAT 180 t6 1;\n"
+by_number : request_lines (flat_map (requests_at 6) (from_on 0 181))
+    ≡ codes "AT 0 t2 0;\nAT 0 t4 0;\nAT 0 t6 0;\nAT 140 t2 1;\nAT 160 t4 1;\nAT 180 t6 1;\n"
 unfolding digits from_to
 by_number = refl

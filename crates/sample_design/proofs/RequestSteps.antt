@@ -1,5 +1,6 @@
 -- Requests as they are written, one after another.
-use Rattle.std.proofs.Common.{◌≡◌, ℕ, ◌+◌, ◌<◌, ◌≤◌, Bool, true, false, List, [], ◌∷◌, ◌++◌, map, filter, flat_map, refl, sym, ap, ◌∙◌, append_assoc, append-nil}
+use Rattle.std.proofs.Common.{◌≡◌, ℕ, ◌+◌, ◌<◌, ◌≤◌, Bool, true, false, List, [], ◌∷◌, ◌++◌, map, filter, flat_map, refl, sym, ap, ◌∙◌}
+use Rattle.std.proofs.Common.{append_assoc, append-nil}
 use Rattle.std.specs.Prelude.{if◌then◌else◌}
 use Rattle.std.proofs.lemmas.Grind.{flat_map-append}
 use Rattle.sample_design.specs.Samples.{from_to}
@@ -10,7 +11,8 @@ use Rattle.sample_design.proofs.NumberSteps.{from_to-step, from_to-none}
 abbrev pub due_line : ℕ → ℕ → ℕ → List ℕ
 due_line n time k = if is_due n time k then request_line (request_at n time k) else []
 
-among-cons : (n time k : ℕ) (ks : List ℕ) → request_lines (requests_among n time (k ∷ ks)) ≡ due_line n time k ++ request_lines (requests_among n time ks)
+among-cons : (n time k : ℕ) (ks : List ℕ) → request_lines (requests_among n time (k ∷ ks))
+    ≡ due_line n time k ++ request_lines (requests_among n time ks)
 among-cons n time k ks = by (is_due n time k)
   where
     by : (due : Bool) → request_lines (map (request_at n time) (if due then k ∷ filter (is_due n time) ks else filter (is_due n time) ks))
@@ -29,7 +31,8 @@ among-none n time k end h = ap (λ ks. request_lines (requests_among n time ks))
 
 -- the times from one on: first that one
 pub times-step : (n time end : ℕ) → time < end
-    → request_lines (flat_map (requests_at n) (from_to time end)) ≡ request_lines (requests_at n time) ++ request_lines (flat_map (requests_at n) (from_to (time + 1) end))
+    → request_lines (flat_map (requests_at n) (from_to time end)) ≡ request_lines (requests_at n time)
+    ++ request_lines (flat_map (requests_at n) (from_to (time + 1) end))
 times-step n time end h =
     ap (λ ts. request_lines (flat_map (requests_at n) ts)) (from_to-step time end h)
     ∙ flat_map-append request_line (requests_at n time) (flat_map (requests_at n) (from_to (time + 1) end))

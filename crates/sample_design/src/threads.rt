@@ -16,7 +16,8 @@ use std::alloc::Global;
 fn call(alloc: Global, object: &[u8], op: &[u8], actuals: Vec<Expr>) -> Result<Stmt, NoMemory>
     requires object_short { (0 < length object.now) × (length object.now ≤ 64) }
     requires op_short { (0 < length op.now) × (length op.now ≤ 64) }
-    ensures { IfOk result (λ s. statement_of s ≡ Call (str_to_ascii_lowercase object.now) (str_to_ascii_lowercase op.now) (map expression_of actuals.items)) }
+    ensures { IfOk result (λ s. statement_of s ≡ Call (str_to_ascii_lowercase object.now) (str_to_ascii_lowercase op.now)
+        (map expression_of actuals.items)) }
 {
     Ok(Stmt::Call {
         object: Name::folded(alloc, object)?,

@@ -1,5 +1,6 @@
 -- The arrivals of a sample are accepted: each request stands behind the earlier ones, and a separation after the last of its thread.
-use Rattle.std.proofs.Common.{◌≡◌, ℕ, zero, suc, ◌+◌, ◌%◌, ◌<◌, ◌≤◌, Bool, true, false, ◌&&◌, eqb, ◌⊎◌, inl, inr, List, [], ◌∷◌, ◌++◌, map, length, filter, flat_map, refl, sym, ap, subst, ◌∙◌, arith, eq-eqb, ne_eqb, eqb-true, le-ltb, le_refl, append-nil}
+use Rattle.std.proofs.Common.{◌≡◌, ℕ, zero, suc, ◌+◌, ◌%◌, ◌<◌, ◌≤◌, Bool, true, false, ◌&&◌, eqb, ◌⊎◌, inl, inr, List, [], ◌∷◌, ◌++◌, map}
+use Rattle.std.proofs.Common.{length, filter, flat_map, refl, sym, ap, subst, ◌∙◌, arith, eq-eqb, ne_eqb, eqb-true, le-ltb, le_refl, append-nil}
 use Rattle.std.specs.Prelude.{◌==◌, nat_lt, Option, Some, None, slice_get, if◌then◌else◌, ⊤}
 use Rattle.std.proofs.lemmas.Bool.{and_parts, cases_eq}
 use Rattle.std.proofs.lemmas.List.{map-append}
@@ -7,7 +8,8 @@ use Rattle.std.proofs.lemmas.List.Elements.{filter-append}
 use Rattle.ada_tree.specs.Programs.{Form, Unit, Program, Passive, Shared, Cyclic, Sporadic}
 use Rattle.arrivals_tree.specs.declared.arrivals.Arrival.{Arrival}
 use Rattle.arrivals_tree.specs.ArrivalTexts.{unit_place, request_of, said}
-use Rattle.arrivals_tree.specs.Acceptance.{next_nominal, nominal, earlier_times, last_time, request_fault_by, request_fault_at, item_fault, requests_fault, IsAccepted}
+use Rattle.arrivals_tree.specs.Acceptance.{next_nominal, nominal, earlier_times, last_time, request_fault_by, request_fault_at, item_fault}
+use Rattle.arrivals_tree.specs.Acceptance.{requests_fault, IsAccepted}
 use Rattle.sample_design.specs.Requests.{Request, is_due, request_at, requests_among, requests_at, requests}
 use Rattle.sample_design.specs.Samples.{from_on, from_to, is_sporadic, thread_name, thread_time}
 use Rattle.sample_laws.proofs.Multiples.{next_multiple}
@@ -56,7 +58,8 @@ next-kept separation time k (Some last) whole h =
     let far : last + separation ≤ time = next_multiple time last separation whole h.0 (h.2 (le_refl k)) in
     omega (arith, far)
 
-behind-later : (separation time next later k : ℕ) (o : Option ℕ) → next ≤ later → IsBehind separation time next k o → IsBehind separation time later k o
+behind-later : (separation time next later k : ℕ) (o : Option ℕ) → next ≤ later → IsBehind separation time next k o
+    → IsBehind separation time later k o
 behind-later separation time next later k None le h = tt
 behind-later separation time next later k (Some last) le h = (h.0, h.1, λ more. h.2 (omega (arith, le, more)))
 
@@ -75,17 +78,21 @@ last-snoc (b ∷ []) a = refl
 last-snoc (b ∷ c ∷ before) a = last-snoc (c ∷ before) a
 
 -- those of a task, with one more
-earlier-own : (task : ℕ) (before : List Arrival) (a : Arrival) → a.task ≡ task → earlier_times task (before ++ a ∷ []) ≡ earlier_times task before ++ a.time ∷ []
+earlier-own : (task : ℕ) (before : List Arrival) (a : Arrival) → a.task ≡ task
+    → earlier_times task (before ++ a ∷ []) ≡ earlier_times task before ++ a.time ∷ []
 earlier-own task before a same =
     let own : eqb a.task task ≡ true = eq-eqb a.task task same in
     let one : map (λ b. b.time) (filter (λ b. b.task == task) (a ∷ [])) ≡ a.time ∷ [] = rw own refl in
-    ap (map (λ b. b.time)) (filter-append (λ b. b.task == task) before (a ∷ [])) ∙ map-append (λ b. b.time) (filter (λ b. b.task == task) before) _ ∙ ap (λ ts. earlier_times task before ++ ts) one
+    ap (map (λ b. b.time)) (filter-append (λ b. b.task == task) before (a ∷ [])) ∙ map-append (λ b. b.time)
+    (filter (λ b. b.task == task) before) _ ∙ ap (λ ts. earlier_times task before ++ ts) one
 
-earlier-other : (task : ℕ) (before : List Arrival) (a : Arrival) → (a.task ≡ task → ⊥) → earlier_times task (before ++ a ∷ []) ≡ earlier_times task before
+earlier-other : (task : ℕ) (before : List Arrival) (a : Arrival) → (a.task ≡ task → ⊥)
+    → earlier_times task (before ++ a ∷ []) ≡ earlier_times task before
 earlier-other task before a other =
     let none : eqb a.task task ≡ false = ne_eqb a.task task other in
     let empty : filter (λ b. b.task == task) (a ∷ []) ≡ [] = rw none refl in
-    ap (map (λ b. b.time)) (filter-append (λ b. b.task == task) before (a ∷ []) ∙ ap (λ as'. filter (λ b. b.task == task) before ++ as') empty ∙ append-nil _)
+    ap (map (λ b. b.time)) (filter-append (λ b. b.task == task) before (a ∷ []) ∙ ap (λ as'. filter (λ b. b.task == task) before ++ as') empty ∙
+    append-nil _)
 
 -- what a request says of a program
 abbrev pub arrival_of : Program → Request → Arrival
@@ -130,7 +137,8 @@ module _ (p : Program) (n : ℕ) (some : 1 ≤ n) (has : HasThreads p n) where
       let sporadic : is_sporadic k ≡ true = (and_parts (is_sporadic k) _ due).0 in
       let late : nat_lt time (last_time before) ≡ false = le-ltb time (last_time before) told.last in
       let place : unit_place p (thread_name k) ≡ suc k = has.place k low high sporadic in
-      rw (late, place) (fine (thread_time n k) (slice_get p.units (suc k)) before time (suc k) (request_at n time k).value (has.asked k low high sporadic) (told-kept time k before due told))
+      rw (late, place) (fine (thread_time n k) (slice_get p.units (suc k)) before time (suc k) (request_at n time k).value
+      (has.asked k low high sporadic) (told-kept time k before due told))
 
   -- and the next ones stand behind it
   told-more : (time k : ℕ) (before : List Arrival) → 1 ≤ k → k ≤ n → is_due n time k ≡ true → Told time k before
@@ -148,18 +156,22 @@ module _ (p : Program) (n : ℕ) (some : 1 ≤ n) (has : HasThreads p n) where
       place : unit_place p (thread_name k) ≡ suc k
       place = has.place k low high sporadic
 
-      by : (j : ℕ) → (k ≡ j) ⊎ (k ≡ j → ⊥) → IsBehind (thread_time n j) time (suc k) j (nominal (thread_time n j) None (earlier_times (suc j) (before ++ arrival_of p (request_at n time k) ∷ [])))
+      by : (j : ℕ) → (k ≡ j) ⊎ (k ≡ j → ⊥)
+          → IsBehind (thread_time n j) time (suc k) j
+          (nominal (thread_time n j) None (earlier_times (suc j) (before ++ arrival_of p (request_at n time k) ∷ [])))
       by j (inl same) =
           let own : unit_place p (thread_name k) ≡ suc j = place ∙ ap suc same in
           let times = earlier-own (suc j) before (arrival_of p (request_at n time k)) own in
           subst (λ ts. IsBehind (thread_time n j) time (suc k) j (nominal (thread_time n j) None ts)) (sym times)
           (subst (λ o. IsBehind (thread_time n j) time (suc k) j o) (sym (nominal-snoc (thread_time n j) None (earlier_times (suc j) before) time))
-          (subst (λ i. IsBehind (thread_time n i) time (suc k) i (Some (next_nominal (thread_time n i) (nominal (thread_time n i) None (earlier_times (suc i) before)) time))) same
+          (subst (λ i. IsBehind (thread_time n i) time (suc k) i
+          (Some (next_nominal (thread_time n i) (nominal (thread_time n i) None (earlier_times (suc i) before)) time))) same
           (subst (λ t. IsBehind (thread_time n k) time (suc k) k (Some t)) (sym (told-kept time k before due told))
           (due-whole time k due, le_refl time, λ more. absurd (omega (arith, more))))))
       by j (inr other) =
           let apart : unit_place p (thread_name k) ≡ suc j → ⊥ = λ e. other (let e' : suc k ≡ suc j = sym place ∙ e in omega (arith, e')) in
-          subst (λ ts. IsBehind (thread_time n j) time (suc k) j (nominal (thread_time n j) None ts)) (sym (earlier-other (suc j) before (arrival_of p (request_at n time k)) apart))
+          subst (λ ts. IsBehind (thread_time n j) time (suc k) j (nominal (thread_time n j) None ts))
+          (sym (earlier-other (suc j) before (arrival_of p (request_at n time k)) apart))
           (behind-later (thread_time n j) time k (suc k) j _ (omega arith) (told.behind j))
 
   -- ALL REQUESTS
@@ -175,7 +187,8 @@ module _ (p : Program) (n : ℕ) (some : 1 ≤ n) (has : HasThreads p n) where
       others = filter (is_due n time) (from_on (suc first) count)
 
       by : (due : Bool) → is_due n time first ≡ due
-          → ((after : List Arrival) → Told time (suc first) after → requests_fault p after (map (arrival_of p) (map (request_at n time) others) ++ rest) ≡ None)
+          → ((after : List Arrival) → Told time (suc first) after
+          → requests_fault p after (map (arrival_of p) (map (request_at n time) others) ++ rest) ≡ None)
           → requests_fault p before (map (arrival_of p) (map (request_at n time) (if due then first ∷ others else others)) ++ rest) ≡ None
       by true due more =
           let right = told-fine time first before low (omega (arith, high)) due told in
@@ -189,8 +202,10 @@ module _ (p : Program) (n : ℕ) (some : 1 ≤ n) (has : HasThreads p n) where
   times-fine first (suc count) before told =
       let rest : List Arrival = map (arrival_of p) (flat_map (requests_at n) (from_on (suc first) count)) in
       let fine' : requests_fault p before (map (arrival_of p) (requests_among n first (from_on 1 n)) ++ rest) ≡ None =
-      threads-fine first 1 n before rest (le_refl 1) (omega arith) told (λ after next more. times-fine (suc first) count after (told-tomorrow first next after more)) in
-      subst (λ as'. requests_fault p before as' ≡ None) (sym (map-append (arrival_of p) (requests_at n first) (flat_map (requests_at n) (from_on (suc first) count))))
+      threads-fine first 1 n before rest (le_refl 1) (omega arith) told
+      (λ after next more. times-fine (suc first) count after (told-tomorrow first next after more)) in
+      subst (λ as'. requests_fault p before as' ≡ None)
+      (sym (map-append (arrival_of p) (requests_at n first) (flat_map (requests_at n) (from_on (suc first) count))))
       (subst (λ ks. requests_fault p before (map (arrival_of p) (requests_among n first ks) ++ rest) ≡ None) (sym (all_threads n)) fine')
 
   pub requests-fine : (until : ℕ) → requests_fault p [] (map (arrival_of p) (flat_map (requests_at n) (from_to 0 (suc until)))) ≡ None

@@ -38,7 +38,8 @@ pub all_calls : list_all (λ n. list_all (calls_end (sample_design n) 1) (termin
 unfolding from_to
 all_calls = refl
 
-pub all_objects : list_all (λ n. list_all (λ o. objects_end (calls_object (sample_design n)) (protected_objects (sample_design n)) 1 o.name) (protected_objects (sample_design n))) (from_on 1 30) ≡ true
+pub all_objects : list_all (λ n. list_all (λ o. objects_end (calls_object (sample_design n)) (protected_objects (sample_design n)) 1 o.name)
+    (protected_objects (sample_design n))) (from_on 1 30) ≡ true
 unfolding from_to
 all_objects = refl
 

@@ -1,5 +1,6 @@
 -- Multiples of a number: the next one is that number away, and among numbers one after another there are few.
-use Rattle.std.proofs.Common.{◌≡◌, ℕ, zero, suc, ◌+◌, ◌*◌, ◌/◌, ◌%◌, ◌<◌, ◌≤◌, true, false, cond, eqb, ◌⊎◌, inl, inr, List, ◌∷◌, length, refl, subst, arith, mul-le-mul_right, eq-eqb, ne_eqb}
+use Rattle.std.proofs.Common.{◌≡◌, ℕ, zero, suc, ◌+◌, ◌*◌, ◌/◌, ◌%◌, ◌<◌, ◌≤◌, true, false, cond, eqb, ◌⊎◌, inl, inr, List, ◌∷◌, length, refl}
+use Rattle.std.proofs.Common.{subst, arith, mul-le-mul_right, eq-eqb, ne_eqb}
 use Rattle.std.specs.Prelude.{filter, ◌==◌}
 use Rattle.std.proofs.lemmas.Bool.{cases_lt}
 use Rattle.std.proofs.lemmas.Nat.{div-add-mod', mod_below, mod-mul-add}
@@ -43,7 +44,8 @@ few m last (suc count) positive = by (turn last m positive) (few m (suc last) co
     rest : List ℕ
     rest = multiples m (from_on (suc (suc last)) count)
 
-    by : ((suc last % m ≡ suc (last % m)) × (suc (last % m) < m)) ⊎ ((suc last % m ≡ 0) × (suc (last % m) ≡ m)) → m * length rest ≤ count + suc last % m
+    by : ((suc last % m ≡ suc (last % m)) × (suc (last % m) < m)) ⊎ ((suc last % m ≡ 0) × (suc (last % m) ≡ m))
+        → m * length rest ≤ count + suc last % m
         → m * length (cond (eqb (suc last % m) 0) (suc last ∷ rest) rest) ≤ suc count + last % m
     by (inl h) less =
         let step : suc last % m ≡ suc (last % m) = h.0 in
@@ -61,5 +63,6 @@ few_from_none m count positive =
     let less : m * length (multiples m (from_on 1 count)) ≤ count + 0 % m = few m 0 count positive in
     let none : 0 % m ≡ 0 = rw zero-mod refl in
     let one : eqb (0 % m) 0 ≡ true = eq-eqb (0 % m) 0 none in
-    let whole : m * suc (length (multiples m (from_on 1 count))) ≡ m * length (multiples m (from_on 1 count)) + m = mul-suc m (length (multiples m (from_on 1 count))) in
+    let whole : m * suc (length (multiples m (from_on 1 count))) ≡ m * length (multiples m (from_on 1 count)) + m
+    = mul-suc m (length (multiples m (from_on 1 count))) in
     rw (one, whole) (omega (arith, less, none))

@@ -7,7 +7,8 @@ use Rattle.sample_design.specs.Samples.{from_on, from_to}
 
 pub checked : (test : ℕ → Bool) (first count n : ℕ) → list_all test (from_on first count) ≡ true → first ≤ n → n < first + count → test n ≡ true
 checked test first zero n all low high = absurd (omega (arith, low, high))
-checked test first (suc count) n all low high = by (cases_lt first n) (λ more less. checked test (suc first) count n (and_parts (test first) _ all).1 more less)
+checked test first (suc count) n all low high
+    = by (cases_lt first n) (λ more less. checked test (suc first) count n (and_parts (test first) _ all).1 more less)
   where
     by : (first < n) ⊎ (n ≤ first) → (suc first ≤ n → n < suc first + count → test n ≡ true) → test n ≡ true
     by (inl less) rest = rest less (omega (arith, high))

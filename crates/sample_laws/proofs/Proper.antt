@@ -8,7 +8,9 @@ use Rattle.ods_tree.specs.Designs.{Tree}
 use Rattle.ods_tree.specs.Proper.{IsProperAttribute, IsProperProvided, IsProperOpName, IsProperThread, IsProperTree, AreProperTrees, IsProperDesign}
 use Rattle.ods_tree.specs.Trees.{trees_of}
 use Rattle.ods_tree.specs.Words.{is_design_name}
-use Rattle.sample_design.specs.Samples.{from_on, board, step, needed, block, is_sporadic, sporadic_attrs, cyclic_attrs, thread_time, thread_attrs, go, thread_provides, thread, thread_name, group, group_name, groups, members, sample_design}
+use Rattle.sample_design.specs.Samples.{from_on, board, step, needed, block, is_sporadic, sporadic_attrs, cyclic_attrs, thread_time}
+use Rattle.sample_design.specs.Samples.{thread_attrs, go, thread_provides, thread, thread_name, group, group_name, groups, members}
+use Rattle.sample_design.specs.Samples.{sample_design}
 use Rattle.sample_laws.proofs.Numbers.{checked, each-between}
 
 abbrev limits : Limits
@@ -84,7 +86,8 @@ thread-proper n k low high = (
   tt,
 )
 
-each_tree : (tree : ℕ → Tree) (d : ℕ) (ks : List ℕ) → Each (λ k. IsProperTree limits None d (tree k)) ks → AreProperTrees limits None d (trees_of (map tree ks))
+each_tree : (tree : ℕ → Tree) (d : ℕ) (ks : List ℕ) → Each (λ k. IsProperTree limits None d (tree k)) ks
+    → AreProperTrees limits None d (trees_of (map tree ks))
 each_tree tree d [] h = tt
 each_tree tree d (k ∷ ks) h = (h.0, each_tree tree d ks h.1)
 
@@ -102,7 +105,8 @@ group-proper n g within low high = (
     links = tt;
   },
   each_tree (thread n) 2 (members n g)
-      (each-between (λ k. IsProperTree limits None 2 (thread n k)) (5 * (g - 1) + 1) (min (5 * g + 1) (n + 1)) (λ k first last. thread-proper n k (omega (arith, first)) (omega (arith, last, within)))),
+      (each-between (λ k. IsProperTree limits None 2 (thread n k)) (5 * (g - 1) + 1) (min (5 * g + 1) (n + 1))
+      (λ k first last. thread-proper n k (omega (arith, first)) (omega (arith, last, within)))),
 )
 
 pub sample-proper : (n : ℕ) → n ≤ 30 → IsProperDesign limits (sample_design n)
@@ -125,7 +129,8 @@ sample-proper n within = (
       (
         step-proper,
         each_tree (group n) 1 (groups n)
-            (each-between (λ g. IsProperTree limits None 1 (group n g)) 1 ((n + 4) / 5 + 1) (λ g first last. group-proper n g within first (omega (arith, last, within)))),
+            (each-between (λ g. IsProperTree limits None 1 (group n g)) 1 ((n + 4) / 5 + 1)
+            (λ g first last. group-proper n g within first (omega (arith, last, within)))),
       ),
     ),
   ),

@@ -1,5 +1,6 @@
 -- The requests of a sample: each is at a time within the horizon, of one of the threads, and there are few.
-use Rattle.std.proofs.Common.{◌≡◌, ℕ, zero, suc, ◌+◌, ◌*◌, ◌/◌, ◌%◌, ◌≤◌, Bool, true, false, ◌&&◌, List, [], ◌∷◌, ◌++◌, map, length, filter, flat_map, refl, sym, ap, subst, ◌∙◌, arith, le_refl, length-append}
+use Rattle.std.proofs.Common.{◌≡◌, ℕ, zero, suc, ◌+◌, ◌*◌, ◌/◌, ◌%◌, ◌≤◌, Bool, true, false, ◌&&◌, List, [], ◌∷◌, ◌++◌, map, length, filter}
+use Rattle.std.proofs.Common.{flat_map, refl, sym, ap, subst, ◌∙◌, arith, le_refl, length-append}
 use Rattle.std.specs.Prelude.{◌==◌, nat_lt, decimal, codes, if◌then◌else◌}
 use Rattle.std.proofs.lemmas.Fmt.{length-decimal-le}
 use Rattle.std.proofs.Math.Nat.{div-le_self, mul-le-mul_right}
@@ -27,7 +28,8 @@ pub record IsRight (until n : ℕ) (r : Request) : Type 0 where
   pub last : r.thread ≤ n
   pub value : r.value ≤ r.time
 
-pub among-right : (until n time first count : ℕ) → time ≤ until → 1 ≤ first → first + count ≤ suc n → Each (IsRight until n) (requests_among n time (from_on first count))
+pub among-right : (until n time first count : ℕ) → time ≤ until → 1 ≤ first → first + count ≤ suc n
+    → Each (IsRight until n) (requests_among n time (from_on first count))
 among-right until n time first zero h low high = tt
 among-right until n time first (suc count) h low high =
     by (is_due n time first) (among-right until n time (suc first) count h (omega arith) (omega (arith, high)))
@@ -36,7 +38,8 @@ among-right until n time first (suc count) h low high =
     right = record { time = h; first = low; last = omega (arith, high); value = div-le_self time (thread_time n first) }
 
     by : (due : Bool) → Each (IsRight until n) (requests_among n time (from_on (suc first) count))
-        → Each (IsRight until n) (map (request_at n time) (if due then first ∷ filter (is_due n time) (from_on (suc first) count) else filter (is_due n time) (from_on (suc first) count)))
+        → Each (IsRight until n) (map (request_at n time) (if due then first ∷ filter (is_due n time) (from_on (suc first) count) else filter
+        (is_due n time) (from_on (suc first) count)))
     by true rest = (right, rest)
     by false rest = rest
 
@@ -47,7 +50,8 @@ at-right until n time h =
 times-right : (until n first count : ℕ) → first + count ≤ suc until → Each (IsRight until n) (flat_map (requests_at n) (from_on first count))
 times-right until n first zero h = tt
 times-right until n first (suc count) h =
-    each-append (IsRight until n) (requests_at n first) _ (at-right until n first (omega (arith, h))) (times-right until n (suc first) count (omega (arith, h)))
+    each-append (IsRight until n) (requests_at n first) _ (at-right until n first (omega (arith, h)))
+    (times-right until n (suc first) count (omega (arith, h)))
 
 pub requests-right : (until n : ℕ) → Each (IsRight until n) (flat_map (requests_at n) (from_to 0 (suc until)))
 requests-right until n =
@@ -90,7 +94,8 @@ due-multiples n k ts = by (is_sporadic k) ts
     by false (t ∷ ts) = skip (t % thread_time n k == 0) (by false ts)
       where
         skip : (b : Bool) → length (filter (λ u. false && (u % thread_time n k == 0)) ts) ≤ length (multiples (thread_time n k) ts)
-            → length (filter (λ u. false && (u % thread_time n k == 0)) ts) ≤ length (if b then t ∷ multiples (thread_time n k) ts else multiples (thread_time n k) ts)
+            → length (filter (λ u. false && (u % thread_time n k == 0)) ts)
+            ≤ length (if b then t ∷ multiples (thread_time n k) ts else multiples (thread_time n k) ts)
         skip true less = omega (arith, less)
         skip false less = less
 
@@ -110,12 +115,19 @@ few_each n k count some low within =
 few_counted : (n first ks count : ℕ) → 1 ≤ n → 1 ≤ first → count ≤ 10000 → count_of n (from_on first ks) (from_on 0 (suc count)) ≤ 334 * ks
 few_counted n first zero count some low within = omega (arith, none-counted n (from_on 0 (suc count)))
 few_counted n first (suc ks) count some low within =
-    omega (arith, counted n first (from_on (suc first) ks) (from_on 0 (suc count)), few_each n first count some low within, few_counted n (suc first) ks count some (omega arith) within)
+    omega (
+      arith,
+      counted n first (from_on (suc first) ks) (from_on 0 (suc count)),
+      few_each n first count some low within,
+      few_counted n (suc
+          first) ks count some (omega arith) within,
+    )
 
 pub few_requests : (n until : ℕ) → 1 ≤ n → until ≤ 10000 → length (flat_map (requests_at n) (from_to 0 (suc until))) ≤ 334 * n
 few_requests n until some within =
     subst (λ ts. length (flat_map (requests_at n) ts) ≤ 334 * n) (sym (all_times until))
-    (subst (λ ks. length (flat_map (λ t. requests_among n t ks) (from_on 0 (suc until))) ≤ 334 * n) (sym (all_threads n)) (few_counted n 1 n until some (le_refl 1) within))
+    (subst (λ ks. length (flat_map (λ t. requests_among n t ks) (from_on 0 (suc until))) ≤ 334 * n) (sym (all_threads n))
+    (few_counted n 1 n until some (le_refl 1) within))
 
 -- THE LENGTH OF THE LINES
 short_digits : (k : ℕ) → length (two_digits k) ≤ 2
@@ -127,11 +139,14 @@ short_digits k = by (nat_lt k 10)
 
 line-short : (until n : ℕ) (r : Request) → until ≤ 10000 → IsRight until n r → length (request_line r) ≤ 20
 line-short until n r within h =
-    let time : length (decimal r.time) ≤ 5 = length-decimal-le 5 r.time (omega arith) (omega (arith, h.time, within)) (omega (arith, h.time, within)) in
-    let value : length (decimal r.value) ≤ 5 = length-decimal-le 5 r.value (omega arith) (omega (arith, h.value, h.time, within)) (omega (arith, h.value, h.time, within)) in
+    let time : length (decimal r.time) ≤ 5 = length-decimal-le 5 r.time (omega arith) (omega (arith, h.time, within))
+    (omega (arith, h.time, within)) in
+    let value : length (decimal r.value) ≤ 5 = length-decimal-le 5 r.value (omega arith) (omega (arith, h.value, h.time, within))
+    (omega (arith, h.value, h.time, within)) in
     let name : length (two_digits r.thread) ≤ 2 = short_digits r.thread in
     let last : length (decimal r.value ++ codes ";\n") ≡ length (decimal r.value) + 2 = length-append (decimal r.value) (codes ";\n") in
-    let middle : length (two_digits r.thread ++ (codes " " ++ (decimal r.value ++ codes ";\n"))) ≡ length (two_digits r.thread) + suc (length (decimal r.value ++ codes ";\n"))
+    let middle : length (two_digits r.thread ++ (codes " " ++ (decimal r.value ++ codes ";\n")))
+    ≡ length (two_digits r.thread) + suc (length (decimal r.value ++ codes ";\n"))
     = length-append (two_digits r.thread) (codes " " ++ (decimal r.value ++ codes ";\n")) in
     let first : length (decimal r.time ++ (codes " " ++ (116 ∷ (two_digits r.thread ++ (codes " " ++ (decimal r.value ++ codes ";\n"))))))
     ≡ length (decimal r.time) + suc (suc (length (two_digits r.thread ++ (codes " " ++ (decimal r.value ++ codes ";\n")))))

@@ -33,7 +33,8 @@ abbrev until_line : DesignLine
 until_line = line 0 (Capital (codes "until") ∷ Plain (Number 10000) ∷ Plain (Sign Semicolon) ∷ [])
 
 abbrev at_line : Request → DesignLine
-at_line r = line 0 (Capital (codes "at") ∷ Plain (Number r.time) ∷ Plain (Word (thread_name r.thread)) ∷ Plain (Number r.value) ∷ Plain (Sign Semicolon) ∷ [])
+at_line r = line 0 (Capital (codes "at") ∷ Plain (Number r.time) ∷ Plain (Word (thread_name r.thread)) ∷ Plain (Number r.value)
+    ∷ Plain (Sign Semicolon) ∷ [])
 
 until-text : design_line_text until_line ≡ codes "UNTIL 10000;\n"
 unfolding digits
@@ -64,7 +65,8 @@ unfolding longest
 at-ready n r within h =
     let time : nat_lt r.time 4294967296 ≡ true = lt-ltb r.time 4294967296 (omega (arith, h.time)) in
     let value : nat_lt r.value 4294967296 ≡ true = lt-ltb r.value 4294967296 (omega (arith, h.time, h.value)) in
-    let name : is_readable (Word (thread_name r.thread)) ≡ true = checked (λ k. is_readable (Word (thread_name k))) 1 30 r.thread all_named h.first (omega (arith, h.last, within)) in
+    let name : is_readable (Word (thread_name r.thread)) ≡ true
+    = checked (λ k. is_readable (Word (thread_name k))) 1 30 r.thread all_named h.first (omega (arith, h.last, within)) in
     and_from _ _ refl (and_from _ _ refl (and_from _ _ time (and_from _ _ refl (and_from _ _ name (and_from _ _ refl (and_from _ _ value refl))))))
 
 all_ready : (n : ℕ) (rs : List Request) → n ≤ 30 → Each (IsRight 10000 n) rs → list_all (λ l. is_ready_line l.parts) (map at_line rs) ≡ true
@@ -74,8 +76,10 @@ all_ready n (r ∷ rs) within h = and_from _ _ (at-ready n r within h.0) (all_re
 pub arrivals-spelled : (n : ℕ) → n ≤ 30 → plain (tokens (sample_arrivals n)) ≡ Ok (arrival_tokens (arrival_tree n))
 arrivals-spelled n within =
     let lines : List DesignLine = until_line ∷ map at_line (requests n) in
-    let ready : list_all (λ l. is_ready_line l.parts) lines ≡ true = and_from _ _ until-ready (all_ready n (requests n) within (requests-right 10000 n)) in
-    let same : lines_text lines ≡ sample_arrivals n = ap (λ t. t ++ lines_text (map at_line (requests n))) until-text ∙ ap (λ t. codes "UNTIL 10000;\n" ++ t) (at_texts (requests n)) in
+    let ready : list_all (λ l. is_ready_line l.parts) lines ≡ true
+    = and_from _ _ until-ready (all_ready n (requests n) within (requests-right 10000 n)) in
+    let same : lines_text lines ≡ sample_arrivals n
+    = ap (λ t. t ++ lines_text (map at_line (requests n))) until-text ∙ ap (λ t. codes "UNTIL 10000;\n" ++ t) (at_texts (requests n)) in
     let told : line_tokens lines ≡ arrival_tokens (arrival_tree n) = ap (λ ts. map part_token until_line.parts ++ ts) (at-tokens (requests n)) in
     subst (λ t. plain (tokens t) ≡ Ok (arrival_tokens (arrival_tree n))) same
     (subst (λ ts. plain (tokens (lines_text lines)) ≡ Ok ts) told (read-whole (lines_text lines) (line_tokens lines) (gives-lines lines ready)))

@@ -1,5 +1,6 @@
 -- The objects of a sample in flattened order, and those of them that run: the board, the step and the threads, group by group.
-use Rattle.std.proofs.Common.{◌≡◌, ℕ, ◌+◌, ◌-◌, ◌*◌, ◌/◌, ◌<◌, ◌≤◌, false, List, [], ◌∷◌, ◌++◌, map, filter, flat_map, min, refl, sym, ap, ◌∙◌, subst, arith}
+use Rattle.std.proofs.Common.{◌≡◌, ℕ, ◌+◌, ◌-◌, ◌*◌, ◌/◌, ◌<◌, ◌≤◌, false, List, [], ◌∷◌, ◌++◌, map, filter, flat_map, min, refl, sym, ap, ◌∙◌}
+use Rattle.std.proofs.Common.{subst, arith}
 use Rattle.std.specs.Prelude.{Some, None}
 use Rattle.seq_tree.specs.Lists.{Each}
 use Rattle.ods_tree.specs.Designs.{Object, Tree, Node}
@@ -40,10 +41,12 @@ threads-stand : (n : ℕ) (parent : Object) (siblings : List Object) (ks : List 
 threads-stand n parent siblings [] = refl
 threads-stand n parent siblings (k ∷ ks) = ap (λ ss. standing parent siblings (thread n k) ∷ ss) (threads-stand n parent siblings ks)
 
-groups-stand : (n : ℕ) (gs : List ℕ) → inner_standings (Some (plant_object n)) (plant_children n) (trees_of (map (group n) gs)) ≡ flat_map (group_standings n) gs
+groups-stand : (n : ℕ) (gs : List ℕ) → inner_standings (Some (plant_object n)) (plant_children n) (trees_of (map (group n) gs))
+    ≡ flat_map (group_standings n) gs
 groups-stand n [] = refl
 groups-stand n (g ∷ gs) =
-    ap (λ ss. (standing (plant_object n) (plant_children n) (group n g) ∷ ss) ++ inner_standings (Some (plant_object n)) (plant_children n) (trees_of (map (group n) gs)))
+    ap (λ ss. (standing (plant_object n) (plant_children n) (group n g) ∷ ss) ++ inner_standings (Some (plant_object n)) (plant_children n)
+    (trees_of (map (group n) gs)))
     (threads-stand n (group_object n g) (group_children n g) (members n g))
     ∙ ap (λ ss. group_standings n g ++ ss) (groups-stand n gs)
 
@@ -72,7 +75,8 @@ has_members n g low high =
 group-runs : (n g : ℕ) → is_empty (group_children n g) ≡ false → filter is_terminal (group_standings n g) ≡ thread_standings n g
 group-runs n g some = rw some (threads-run n (group_object n g) (group_children n g) (members n g))
 
-groups-run : (n : ℕ) (gs : List ℕ) → Each (λ g. is_empty (group_children n g) ≡ false) gs → filter is_terminal (flat_map (group_standings n) gs) ≡ flat_map (thread_standings n) gs
+groups-run : (n : ℕ) (gs : List ℕ) → Each (λ g. is_empty (group_children n g) ≡ false) gs
+    → filter is_terminal (flat_map (group_standings n) gs) ≡ flat_map (thread_standings n) gs
 groups-run n [] some = refl
 groups-run n (g ∷ gs) some =
     filter-append is_terminal (group_standings n g) (flat_map (group_standings n) gs)
@@ -82,7 +86,8 @@ groups-run n (g ∷ gs) some =
 pub terminals-stand : (n : ℕ) → terminals (sample_design n) ≡ fixed_standings n ++ flat_map (thread_standings n) (groups n)
 terminals-stand n =
     ap (filter is_terminal) (objects-stand n)
-    ∙ ap (λ ss. fixed_standings n ++ ss) (groups-run n (groups n) (each-between (λ g. is_empty (group_children n g) ≡ false) 1 ((n + 4) / 5 + 1) (has_members n)))
+    ∙ ap (λ ss. fixed_standings n ++ ss)
+    (groups-run n (groups n) (each-between (λ g. is_empty (group_children n g) ≡ false) 1 ((n + 4) / 5 + 1) (has_members n)))
 
 -- a fact of each
 each-map : {A B : Type 0} (P : B → Type 0) (f : A → B) (xs : List A) → ((x : A) → P (f x)) → Each P (map f xs)
@@ -93,11 +98,15 @@ each-flat : {A B : Type 0} (P : B → Type 0) (f : A → List B) (xs : List A) �
 each-flat P f [] h = tt
 each-flat P f (x ∷ xs) h = each-append P (f x) (flat_map f xs) (h x) (each-flat P f xs h)
 
-pub each-thread : (P : Standing → Type 0) (n : ℕ) → ((g k : ℕ) → P (standing (group_object n g) (group_children n g) (thread n k))) → Each P (flat_map (thread_standings n) (groups n))
+pub each-thread : (P : Standing → Type 0) (n : ℕ) → ((g k : ℕ) → P (standing (group_object n g) (group_children n g) (thread n k)))
+    → Each P (flat_map (thread_standings n) (groups n))
 each-thread P n threads =
-    each-flat P (thread_standings n) (groups n) (λ g. each-map P (λ k. standing (group_object n g) (group_children n g) (thread n k)) (members n g) (threads g))
+    each-flat P (thread_standings n) (groups n) (λ g. each-map P (λ k. standing (group_object n g) (group_children n g) (thread n k)) (members n g)
+    (threads g))
 
-pub each-terminal : (P : Standing → Type 0) (n : ℕ) → Each P (fixed_standings n) → ((g k : ℕ) → P (standing (group_object n g) (group_children n g) (thread n k)))
+pub each-terminal : (P : Standing → Type 0) (n : ℕ) → Each P (fixed_standings n)
+    → ((g k : ℕ) → P (standing (group_object n g) (group_children n g) (thread n k)))
     → Each P (terminals (sample_design n))
 each-terminal P n fixed threads =
-    subst (Each P) (sym (terminals-stand n)) (each-append P (fixed_standings n) (flat_map (thread_standings n) (groups n)) fixed (each-thread P n threads))
+    subst (Each P) (sym (terminals-stand n)) (each-append P (fixed_standings n) (flat_map (thread_standings n) (groups n)) fixed
+    (each-thread P n threads))

@@ -99,4 +99,5 @@ threads-there p n h = record {
   where
     both : (k : ℕ) → 1 ≤ k → k ≤ n → is_sporadic k ≡ true
         → ((unit_place p (thread_name k) == suc k) ≡ true) × (is_asked_at (thread_time n k) (slice_get p.units (suc k)) ≡ true)
-    both k low high sporadic = and_parts (unit_place p (thread_name k) == suc k) _ (behind-not (is_sporadic k) _ (checked (is_in_place p n) 1 n k h low (omega (arith, high))) sporadic)
+    both k low high sporadic = and_parts (unit_place p (thread_name k) == suc k) _
+        (behind-not (is_sporadic k) _ (checked (is_in_place p n) 1 n k h low (omega (arith, high))) sporadic)

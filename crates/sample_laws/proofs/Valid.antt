@@ -27,7 +27,8 @@ use Rattle.sample_design.specs.Requests.{requests, request_lines, sample_arrival
 use Rattle.sample_design.specs.Samples.{from_on, sample_design}
 use Rattle.sample_laws.specs.Laws.{IsValid, sample_bounds}
 use Rattle.sample_laws.proofs.Accepted.{arrivals-accepted}
-use Rattle.sample_laws.proofs.Checked.{all_short, all_writable, all_before, all_calls, all_objects, all_numbers, all_actives, all_bodies, all_budgets, all_sizes, all_bounded, all_threads_there, all_texts_short}
+use Rattle.sample_laws.proofs.Checked.{all_short, all_writable, all_before, all_calls, all_objects, all_numbers, all_actives, all_bodies}
+use Rattle.sample_laws.proofs.Checked.{all_budgets, all_sizes, all_bounded, all_threads_there, all_texts_short}
 use Rattle.sample_laws.proofs.Numbers.{checked}
 use Rattle.sample_laws.proofs.Proper.{sample-proper}
 use Rattle.sample_laws.proofs.Requests.{few_requests, lines-short, requests-right}
@@ -45,7 +46,8 @@ sample-reads n low high =
     record {
       within = leb-true (length (design_text x)) 1048576 (shown (λ m. nat_le (length (design_text (sample_design m))) 1048576) n all_short low high);
       proper = sample-proper n high;
-      spelled = read-whole _ _ (gives-lines (design_lines x) (ready-lines (design_lines x) (design-sound x) (shown (λ m. is_writable (sample_design m)) n all_writable low high)));
+      spelled = read-whole _ _ (gives-lines (design_lines x) (ready-lines (design_lines x) (design-sound x)
+          (shown (λ m. is_writable (sample_design m)) n all_writable low high)));
     }
 
 nothing_after : (n : ℕ) → 1 ≤ n → n ≤ 30 → after_rings (sample_design n) ≡ []
@@ -65,20 +67,24 @@ nothing_told n low high = record {
   after = nothing_after n low high;
   steps = 1;
   calls = shown (λ m. list_all (calls_end (sample_design m) 1) (terminal_ops (sample_design m))) n all_calls low high;
-  objects = shown (λ m. list_all (λ o. objects_end (calls_object (sample_design m)) (protected_objects (sample_design m)) 1 o.name) (protected_objects (sample_design m))) n all_objects low high;
+  objects = shown (λ m. list_all (λ o. objects_end (calls_object (sample_design m)) (protected_objects (sample_design m)) 1 o.name)
+      (protected_objects (sample_design m))) n all_objects low high;
   starts = starts-end n;
 }
 
 arrivals_short : (n : ℕ) → 1 ≤ n → n ≤ 30 → length (sample_arrivals n) ≤ 1048576
 arrivals_short n low high =
-    let lines : length (request_lines (requests n)) ≤ 20 * length (requests n) = lines-short 10000 n (requests n) (omega arith) (requests-right 10000 n) in
+    let lines : length (request_lines (requests n)) ≤ 20 * length (requests n)
+    = lines-short 10000 n (requests n) (omega arith) (requests-right 10000 n) in
     let few : length (requests n) ≤ 334 * n = few_requests n 10000 low (omega arith) in
-    let whole : length (sample_arrivals n) ≡ 13 + length (request_lines (requests n)) = length-append (codes "UNTIL 10000;\n") (request_lines (requests n)) in
+    let whole : length (sample_arrivals n) ≡ 13 + length (request_lines (requests n))
+    = length-append (codes "UNTIL 10000;\n") (request_lines (requests n)) in
     omega (arith, lines, few, whole, high)
 
 sample-bounded : (n : ℕ) → 1 ≤ n → n ≤ 30 → IsLeastVector (table (flat (sample_design n))).rows (sample_bounds n)
 sample-bounded n low high =
-    bounds-least (table (flat (sample_design n))).rows (sample_bounds n) (shown (λ m. is_bounded (table (flat (sample_design m))).rows (sample_bounds m)) n all_bounded low high)
+    bounds-least (table (flat (sample_design n))).rows (sample_bounds n)
+    (shown (λ m. is_bounded (table (flat (sample_design m))).rows (sample_bounds m)) n all_bounded low high)
 
 pub sample-valid : (n : ℕ) → 1 ≤ n → n ≤ 30 → IsValid n
 sample-valid n low high = record {

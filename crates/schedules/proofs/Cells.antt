@@ -1,5 +1,6 @@
 -- Numbers that differ pairwise by at least a length: at most one stands in a cell of this length, and so at most m in m cells.
-use Rattle.std.specs.Prelude.{◌≡◌, ◌⊎◌, ℕ, zero, suc, ◌+◌, ◌*◌, ◌≤◌, ◌<◌, ◌&&◌, Bool, true, false, List, [], ◌∷◌, Option, Some, None, nat_le, nat_lt, refl}
+use Rattle.std.specs.Prelude.{◌≡◌, ◌⊎◌, ℕ, zero, suc, ◌+◌, ◌*◌, ◌≤◌, ◌<◌, ◌&&◌, Bool, true, false, List, [], ◌∷◌, Option, Some, None, nat_le}
+use Rattle.std.specs.Prelude.{nat_lt, refl}
 use Rattle.std.proofs.Common.{arith, zero-le, inl, inr, le_trans}
 use Rattle.rt_response.specs.Tables.{Each}
 use Rattle.schedules.proofs.Ticks.{one}
@@ -36,7 +37,8 @@ outside low len p q h k apart = elim apart [ inl a ↦ above a | inr b ↦ below
     below b = let e : nat_le low q ≡ false = grind arith in rw e refl
 
 -- beside one in a cell no other stands
-cell-none : {A : Type 0} (place : A → Option ℕ) (low len : ℕ) (x : A) (p : ℕ) (xs : List A) → place x ≡ Some p → low ≤ p → p < low + len → Each (PlacedApart place len x) xs
+cell-none : {A : Type 0} (place : A → Option ℕ) (low len : ℕ) (x : A) (p : ℕ) (xs : List A) → place x ≡ Some p → low ≤ p → p < low + len
+    → Each (PlacedApart place len x) xs
     → sum_of (λ y. inside low len (place y)) xs ≡ 0
 cell-none place low len x p [] is h k apart = refl
 cell-none place low len x p (y ∷ xs) is h k apart =
@@ -49,7 +51,8 @@ cell-none place low len x p (y ∷ xs) is h k apart =
     go (Some q) e = outside low len p q h k (apart.0 p q is e)
 
 -- in a cell at most one stands
-cell-one : {A : Type 0} (place : A → Option ℕ) (low len : ℕ) (xs : List A) → Pairs (PlacedApart place len) xs → sum_of (λ y. inside low len (place y)) xs ≤ 1
+cell-one : {A : Type 0} (place : A → Option ℕ) (low len : ℕ) (xs : List A) → Pairs (PlacedApart place len) xs
+    → sum_of (λ y. inside low len (place y)) xs ≤ 1
 cell-one place low len [] apart = zero-le
 cell-one place low len (x ∷ xs) apart =
     go (place x) refl (cell-one place low len xs apart.1)
@@ -64,16 +67,19 @@ cell-one place low len (x ∷ xs) apart =
     at_place p e true false ha hb rest = omega arith
     at_place p e false b ha hb rest = omega arith
 
-    go : (o : Option ℕ) → place x ≡ o → sum_of (λ z. inside low len (place z)) xs ≤ 1 → inside low len o + sum_of (λ z. inside low len (place z)) xs ≤ 1
+    go : (o : Option ℕ) → place x ≡ o → sum_of (λ z. inside low len (place z)) xs ≤ 1
+        → inside low len o + sum_of (λ z. inside low len (place z)) xs ≤ 1
     go None e rest = omega arith
     go (Some p) e rest = at_place p e (nat_le low p) (nat_lt p (low + len)) refl refl rest
 
 inside-split : (low len first rest : ℕ) (o : Option ℕ) → len ≡ first + rest → inside low len o ≤ inside low first o + inside (low + first) rest o
 inside-split low len first rest None h = zero-le
 inside-split low len first rest (Some p) h =
-    go (nat_le low p) (nat_lt p (low + len)) (nat_lt p (low + first)) (nat_le (low + first) p) (nat_lt p (low + first + rest)) refl refl refl refl refl
+    go (nat_le low p) (nat_lt p (low + len)) (nat_lt p (low + first)) (nat_le (low + first) p) (nat_lt p (low + first + rest)) refl refl
+    refl refl refl
   where
-    go : (a b c d e : Bool) → nat_le low p ≡ a → nat_lt p (low + len) ≡ b → nat_lt p (low + first) ≡ c → nat_le (low + first) p ≡ d → nat_lt p (low + first + rest) ≡ e
+    go : (a b c d e : Bool) → nat_le low p ≡ a → nat_lt p (low + len) ≡ b → nat_lt p (low + first) ≡ c → nat_le (low + first) p ≡ d
+        → nat_lt p (low + first + rest) ≡ e
         → one (a && b) ≤ one (a && c) + one (d && e)
     go false b c d e ha hb hc hd he = zero-le
     go true false c d e ha hb hc hd he = zero-le
@@ -110,5 +116,6 @@ cells place cell xs (suc m) low len h apart =
     let first : sum_of (λ y. inside low cell (place y)) xs ≤ 1 = cell-one place low cell xs apart in
     let rest : sum_of (λ y. inside (low + cell) (m * cell) (place y)) xs ≤ m = cells place cell xs m (low + cell) (m * cell) refl apart in
     let all : sum_of (λ y. inside low len (place y)) xs ≤ sum_of (λ y. inside low cell (place y) + inside (low + cell) (m * cell) (place y)) xs =
-    sum_of-le (λ y. inside low len (place y)) (λ y. inside low cell (place y) + inside (low + cell) (m * cell) (place y)) xs (λ k x e. inside-split low len cell (m * cell) (place x) split) in
+    sum_of-le (λ y. inside low len (place y)) (λ y. inside low cell (place y) + inside (low + cell) (m * cell) (place y)) xs
+    (λ k x e. inside-split low len cell (m * cell) (place x) split) in
     omega (arith, sum_of-add (λ y. inside low cell (place y)) (λ y. inside (low + cell) (m * cell) (place y)) xs)

@@ -1,5 +1,6 @@
 -- How many activations of a row are released in a window: at most as many as the response equations count.
-use Rattle.std.specs.Prelude.{◌≡◌, ◌≢◌, ◌⊎◌, ℕ, zero, suc, ◌+◌, ◌*◌, ◌≤◌, ◌<◌, ◌&&◌, ◌==◌, Bool, true, false, List, [], ◌∷◌, slice_get, Option, Some, nat_le, nat_lt, ℤ, pos, negsuc, ◌+ℤ◌, ◌≤ℤ◌, refl}
+use Rattle.std.specs.Prelude.{◌≡◌, ◌≢◌, ◌⊎◌, ℕ, zero, suc, ◌+◌, ◌*◌, ◌≤◌, ◌<◌, ◌&&◌, ◌==◌, Bool, true, false, List, [], ◌∷◌, slice_get, Option}
+use Rattle.std.specs.Prelude.{Some, nat_le, nat_lt, ℤ, pos, negsuc, ◌+ℤ◌, ◌≤ℤ◌, refl}
 use Rattle.std.specs.Int.{div_ceil}
 use Rattle.std.proofs.Common.{sym, ◌∙◌, ap, subst, arith, inl, inr, le_trans}
 use Rattle.std.proofs.lemmas.Int.{ints}
@@ -23,10 +24,14 @@ pub each-from : {A : Type 0} (P : A → Type 0) (xs : List A) → ((k : ℕ) (x 
 each-from P [] h = tt
 each-from P (x ∷ xs) h = (h 0 x refl, each-from P xs (λ k y e. h (suc k) y e))
 
-pairs-from : {A : Type 0} (R : A → A → Type 0) (xs : List A) → ((k l : ℕ) (x y : A) → k < l → slice_get xs k ≡ Some x → slice_get xs l ≡ Some y → R x y) → Pairs R xs
+pairs-from : {A : Type 0} (R : A → A → Type 0) (xs : List A) → ((k l : ℕ) (x y : A) → k < l → slice_get xs k ≡ Some x → slice_get xs l ≡ Some y
+    → R x y) → Pairs R xs
 pairs-from R [] h = tt
-pairs-from R (x ∷ xs) h =
-    (each-from (R x) xs (λ l y e. h 0 (suc l) x y (omega arith) refl e), pairs-from R xs (λ k l y z less e f. h (suc k) (suc l) y z (omega arith) e f))
+pairs-from R (x ∷ xs) h = (
+  each-from (R x) xs (λ l y e. h 0 (suc l) x y (omega arith) refl e),
+  pairs-from R xs (λ k l y z less e f.
+      h (suc k) (suc l) y z (omega arith) e f),
+)
 
 -- an integer that is no less than 0, as a number
 abbrev pub to_nat : ℤ → ℕ
@@ -74,17 +79,24 @@ abbrev placed : ℕ → ℕ → ℕ → Bound → Activation → Option ℕ
 placed q low w b a = only_if (in_window low w a && a.row == q) (latest b a)
 
 -- an activation of a row that is released by a time at which all is on time
-record IsReleased (rows : List ThreadRow) (v : List Bound) (s : Schedule) (q : ℕ) (row : ThreadRow) (b : Bound) (k : ℕ) (a : Activation) : Type 0 where
+record IsReleased (rows : List ThreadRow) (v : List Bound) (s : Schedule) (q : ℕ) (row : ThreadRow) (b : Bound) (k : ℕ)
+    (a : Activation) : Type 0 where
   is_row : a.row ≡ q
   place : IsAt rows v s k a row b
   is : a.nominal +ℤ pos b.jitter ≡ pos (latest b a)
   from_release : a.release ≤ latest b a
   to_release : latest b a ≤ a.release + b.jitter
 
-released : (rows : List ThreadRow) (v : List Bound) (s : Schedule) (t q : ℕ) (row : ThreadRow) (b : Bound) (k : ℕ) (a : Activation) → IsReady rows v s t
-    → slice_get rows q ≡ Some row → slice_get v q ≡ Some b → slice_get s.activations k ≡ Some a → a.row ≡ q → a.release ≤ t → IsReleased rows v s q row b k a
+released : (rows : List ThreadRow) (v : List Bound) (s : Schedule) (t q : ℕ) (row : ThreadRow) (b : Bound) (k : ℕ) (a : Activation)
+    → IsReady rows v s t
+    → slice_get rows q ≡ Some row → slice_get v q ≡ Some b → slice_get s.activations k ≡ Some a → a.row ≡ q → a.release ≤ t
+    → IsReleased rows v s q row b k a
 released rows v s t q row b k a ready asks gets stands same by =
-    let at : IsAt rows v s k a row b = record { stands = stands; asks = ap (λ j. slice_get rows j) same ∙ asks; gets = ap (λ j. slice_get v j) same ∙ gets } in
+    let at : IsAt rows v s k a row b = record {
+      stands = stands;
+      asks = ap (λ j. slice_get rows j) same ∙ asks;
+      gets = ap (λ j. slice_get v j) same ∙ gets;
+    } in
     let near : t ≤ horizon s = let less : t < horizon s = ready.near in omega arith in
     let times = ready.schedule.jitters t near ready.on_time k a row b at by in
     let early : a.nominal ≤ℤ pos a.release = times.0 in
@@ -124,7 +136,8 @@ row-count rows v s t q row b low w ready asks gets positive by =
     enough : w + b.jitter ≤ div_ceil (w + b.jitter) row.period * row.period
     enough = (div_ceil_times (w + b.jitter) row.period positive).0
 
-    facts : (k : ℕ) (a : Activation) → slice_get s.activations k ≡ Some a → in_window low w a ≡ true → (a.row == q) ≡ true → IsReleased rows v s q row b k a
+    facts : (k : ℕ) (a : Activation) → slice_get s.activations k ≡ Some a → in_window low w a ≡ true → (a.row == q) ≡ true
+        → IsReleased rows v s q row b k a
     facts k a stands hx hy =
         let window = window-facts low w a hx in
         let last : a.release ≤ t = let below : a.release < low + w = window.1 in omega arith in
@@ -138,14 +151,16 @@ row-count rows v s t q row b low w ready asks gets positive by =
     one_place k a stands true true hx hy =
         let fact = facts k a stands hx hy in
         let window = window-facts low w a hx in
-        let above : low ≤ latest b a = let first : low ≤ a.release = window.0 in let late : a.release ≤ latest b a = fact.from_release in omega arith in
+        let above : low ≤ latest b a = let first : low ≤ a.release = window.0 in let late : a.release ≤ latest b a = fact.from_release
+        in omega arith in
         let below : latest b a < low + div_ceil (w + b.jitter) row.period * row.period =
         let last : a.release < low + w = window.1 in let late : latest b a ≤ a.release + b.jitter = fact.to_release in omega (arith, enough) in
         let first : nat_le low (latest b a) ≡ true = grind arith in
         let second : nat_lt (latest b a) (low + div_ceil (w + b.jitter) row.period * row.period) ≡ true = grind arith in
         rw (first, second) (omega arith)
 
-    two_places : (k l : ℕ) (a c : Activation) → k < l → slice_get s.activations k ≡ Some a → slice_get s.activations l ≡ Some c → PlacedApart (placed q low w b) row.period a c
+    two_places : (k l : ℕ) (a c : Activation) → k < l → slice_get s.activations k ≡ Some a → slice_get s.activations l ≡ Some c
+        → PlacedApart (placed q low w b) row.period a c
     two_places k l a c less e f = λ p r is_p is_r.
         let of_a = only_if-some (in_window low w a && a.row == q) (latest b a) p is_p in
         let of_c = only_if-some (in_window low w c && c.row == q) (latest b c) r is_r in

@@ -1,5 +1,6 @@
 -- A worked schedule: a thread of lower priority is in the way for a tick, and the activation uses the two after it.
-use Rattle.std.specs.Prelude.{◌≡◌, ℕ, zero, suc, ◌-◌, ◌≤◌, ◌<◌, Bool, true, false, not, List, [], ◌∷◌, length, filter, take, drop, cond, slice_get, option_map, Some, None, pos, ◌+ℤ◌, ◌≤ℤ◌, refl}
+use Rattle.std.specs.Prelude.{◌≡◌, ℕ, zero, suc, ◌-◌, ◌≤◌, ◌<◌, Bool, true, false, not, List, [], ◌∷◌, length, filter, take, drop, cond}
+use Rattle.std.specs.Prelude.{slice_get, option_map, Some, None, pos, ◌+ℤ◌, ◌≤ℤ◌, refl}
 use Rattle.std.proofs.Common.{arith, subst, lit≤, le_trans, zero-le}
 use Rattle.std.proofs.lemmas.Int.{ints}
 use Rattle.rt_response.specs.declared.rows.ThreadRow.{ThreadRow}
@@ -49,7 +50,19 @@ filter-drop {A = A} test (suc n) (x ∷ xs) = go (test x) (filter test xs) (filt
 blocked-table : IsTable (row ∷ [])
 blocked-table = record {
   count = lit≤ tt;
-  each = (record { asks = lit≤ tt; before_next = lit≤ tt; period = lit≤ tt; works = lit≤ tt; cost = lit≤ tt; block = lit≤ tt; jitter = lit≤ tt; starter = tt }, tt);
+  each = (
+    record {
+      asks = lit≤ tt;
+      before_next = lit≤ tt;
+      period = lit≤ tt;
+      works = lit≤ tt;
+      cost = lit≤ tt;
+      block = lit≤ tt;
+      jitter = lit≤ tt;
+      starter = tt;
+    },
+    tt,
+  );
 }
 
 -- its vector
@@ -60,14 +73,16 @@ blocked-fits = ((refl, ((lit≤ tt, lit≤ tt), tt)), ((lit≤ tt, lit≤ tt), t
 blocked-schedule : IsSchedule (row ∷ []) (bound ∷ []) blocked
 blocked-schedule = record {
   within = only (λ k a. (a.row < 1) × (a.release ≤ 3)) act (omega arith, zero-le);
-  needs = λ k a r b at. let is : row ≡ r = asked k a r b at in subst (λ q. (1 ≤ a.need) × (a.need ≤ q.cost)) is (only (λ j c. (1 ≤ c.need) × (c.need ≤ 2)) act (lit≤ tt, lit≤ tt) k a at.stands);
+  needs = λ k a r b at. let is : row ≡ r = asked k a r b at in subst (λ q. (1 ≤ a.need)
+      × (a.need ≤ q.cost)) is (only (λ j c. (1 ≤ c.need) × (c.need ≤ 2)) act (lit≤ tt, lit≤ tt) k a at.stands);
   uses = only (λ k a. (length (ticks_of k blocked.ticks) ≤ a.need) × Each (λ t. a.release ≤ t) (ticks_of k blocked.ticks)
       × (a.end ≡ option_map suc (slice_get (ticks_of k blocked.ticks) (a.need - 1)))) act (lit≤ tt, (zero-le, (zero-le, tt)), refl);
   separate = λ k l a c r b at_a at_c differ same. absurd (differ (first k a at_a.stands l c at_c.stands));
   jitters = λ t h on_time k a r b at released.
       let is : bound ≡ b = only (λ j c. bound ≡ c) bound refl a.row b at.gets in
       subst (λ c. (a.nominal ≤ℤ pos a.release) × (pos a.release ≤ℤ (a.nominal +ℤ pos c.jitter))) is
-      (only (λ j c. (c.nominal ≤ℤ pos c.release) × (pos c.release ≤ℤ (c.nominal +ℤ pos 1))) act (omega (arith, ints), omega (arith, ints)) k a at.stands);
+      (only (λ j c. (c.nominal ≤ℤ pos c.release) × (pos c.release ≤ℤ (c.nominal +ℤ pos 1))) act
+      (omega (arith, ints), omega (arith, ints)) k a at.stands);
   blocks = λ i r first last asks start h near pending.
       only (λ j q. others blocked j first last ≤ q.block) row
       (le_trans (filter-take (λ t. not (is_of_level blocked.activations 0 t)) (suc last - first) (drop first blocked.ticks))

@@ -1,5 +1,6 @@
 -- The schedule law, by induction on time: from each start of a level the next comes within the level's response time.
-use Rattle.std.specs.Prelude.{◌≡◌, ◌⊎◌, ℕ, zero, suc, ◌+◌, ◌-◌, ◌*◌, ◌≤◌, ◌<◌, Bool, true, false, not, List, length, filter, take, drop, sum_by, slice_get, Option, Some, None, nat_le, nat_lt, refl}
+use Rattle.std.specs.Prelude.{◌≡◌, ◌⊎◌, ℕ, zero, suc, ◌+◌, ◌-◌, ◌*◌, ◌≤◌, ◌<◌, Bool, true, false, not, List, length, filter, take, drop, sum_by}
+use Rattle.std.specs.Prelude.{slice_get, Option, Some, None, nat_le, nat_lt, refl}
 use Rattle.std.specs.Int.{div_ceil}
 use Rattle.std.proofs.Common.{arith, inl, inr, le_trans, zero-le, le_refl, mul-le-mul_right, length-drop}
 use Rattle.std.proofs.lemmas.List.{length-take}
@@ -27,7 +28,8 @@ row-positive rows i row table asks =
     omega arith
 
 -- a response time is at least a tick
-response-some : (rows : List ThreadRow) (v : List Bound) (i : ℕ) (row : ThreadRow) (b : Bound) → IsTable rows → Fits rows v → slice_get rows i ≡ Some row → slice_get v i ≡ Some b → 1 ≤ b.response
+response-some : (rows : List ThreadRow) (v : List Bound) (i : ℕ) (row : ThreadRow) (b : Bound) → IsTable rows → Fits rows v
+    → slice_get rows i ≡ Some row → slice_get v i ≡ Some b → 1 ≤ b.response
 response-some rows v i row b table fits asks gets =
     let is = row-at rows i row table asks in
     let works : 1 ≤ row.cost = is.works in
@@ -42,28 +44,32 @@ ceil-one n m p h =
 
 -- what a level uses of the window is at most what its equation allows, without its blocking
 level-most : (rows : List ThreadRow) (v : List Bound) (s : Schedule) (t i low : ℕ) (row : ThreadRow) (b : Bound) → IsWindow rows v s t i low row b
-    → sum_of (selected_cost (in_window low b.response) (level_entries rows v i row b)) s.activations ≤ row.cost + sum_by (interference b.response) (entries_before rows v i)
+    → sum_of (selected_cost (in_window low b.response) (level_entries rows v i row b)) s.activations
+    ≤ row.cost + sum_by (interference b.response) (entries_before rows v i)
 level-most rows v s t i low row b window =
     let count = selected (in_window low b.response) s.activations in
     let entries = entries_before rows v i in
     let positive : 0 < row.period = row-positive rows i row window.table window.asks in
     let limits = fits-limits rows v i row b window.fits window.asks window.gets in
     let reach : b.response + b.jitter ≤ row.period = let limit : b.jitter + b.response ≤ row.period = limits.1 in omega arith in
-    let own : count i ≤ 1 = le_trans (row-count rows v s t i row b low b.response window.ready window.asks window.gets positive window.by) (ceil-one (b.response + b.jitter) row.period positive reach) in
+    let own : count i ≤ 1 = le_trans (row-count rows v s t i row b low b.response window.ready window.asks window.gets positive window.by)
+    (ceil-one (b.response + b.jitter) row.period positive reach) in
     let own_cost : count i * row.cost ≤ 1 * row.cost = mul-le-mul_right row.cost own in
     let before : work count 0 entries ≤ sum_by (interference b.response) entries = work-within count b.response 0 entries each_before in
     let more : work count 0 (level_entries rows v i row b) ≡ work count 0 entries + count i * row.cost =
     work-more count 0 i entries (row, b) (let long : length entries ≡ i = before-count rows v i row b window.asks window.gets in omega arith) in
     omega (arith, row_by_row (in_window low b.response) (level_entries rows v i row b) s.activations)
   where
-    each_before : (j k : ℕ) (e : Entry) → k ≡ 0 + j → slice_get (entries_before rows v i) j ≡ Some e → selected (in_window low b.response) s.activations k ≤ div_ceil (b.response + e.1.jitter) e.0.period
+    each_before : (j k : ℕ) (e : Entry) → k ≡ 0 + j → slice_get (entries_before rows v i) j ≡ Some e
+        → selected (in_window low b.response) s.activations k ≤ div_ceil (b.response + e.1.jitter) e.0.period
     each_before j k e same stands =
         let is : k ≡ j = omega arith in
         let parts = before-at rows v i j e stands in
         rw is (row-count rows v s t j e.0 e.1 low b.response window.ready parts.0 parts.1 (row-positive rows j e.0 window.table parts.0) window.by)
 
 -- through a window at whose every tick the level is pending none of its activations is late
-none-late : (rows : List ThreadRow) (v : List Bound) (s : Schedule) (t i low : ℕ) (row : ThreadRow) (b : Bound) → IsWindow rows v s t i low row b → 1 ≤ b.response
+none-late : (rows : List ThreadRow) (v : List Bound) (s : Schedule) (t i low : ℕ) (row : ThreadRow) (b : Bound) → IsWindow rows v s t i low row b
+    → 1 ≤ b.response
     → ((x : ℕ) → low ≤ x → x < low + b.response → IsPending s i x) → IsLate s.activations i (low + b.response) → ⊥
 none-late rows v s t i low row b window least pending late =
     let ticks = take b.response (drop low s.ticks) in
@@ -72,7 +78,8 @@ none-late rows v s t i low row b window least pending late =
     let near : t < length s.ticks = window.ready.near in
     let long : length ticks ≡ b.response = simp (length-take, length-drop) (omega arith) in
     let width : suc (low + b.response - 1) - low ≡ b.response = omega arith in
-    let blocked = window.ready.schedule.blocks i row low (low + b.response - 1) window.asks window.start (omega arith) (omega arith) (λ x above below. pending x above (omega arith)) in
+    let blocked = window.ready.schedule.blocks i row low (low + b.response - 1) window.asks window.start (omega arith) (omega arith)
+    (λ x above below. pending x above (omega arith)) in
     let few : length (filter (λ o. not (level o)) ticks) ≤ row.block = rw width at blocked in
     let less = level-less rows v s t i low row b window late in
     let most = level-most rows v s t i low row b window in
@@ -99,13 +106,25 @@ start-or-pending s i low (suc n) = step (start-or-pending s i low n) (start-or-l
     here late x is =
         let same : suc (low + n) ≡ suc x = omega arith in
         let over = rw same at late.late in
-        let before : late.act.release < suc (low + n) = late.before in
-        (late.place, late.act, late.stands, late.low, (let released : late.act.release ≤ x = omega arith in released), over-before late.act.end x over)
+        let before : late.act.release < suc (low + n) = late.before in (
+          late.place,
+          late.act,
+          late.stands,
+          late.low,
+          (let released : late.act.release ≤ x = omega arith
+              in released),
+          over-before late.act.end x over,
+        )
 
     step : IsNext s i low (low + n) ⊎ ((x : ℕ) → low ≤ x → x < low + n → IsPending s i x)
         → Each (IsOverBy i (suc (low + n))) s.activations ⊎ IsLate s.activations i (suc (low + n))
         → IsNext s i low (low + suc n) ⊎ ((x : ℕ) → low ≤ x → x < low + suc n → IsPending s i x)
-    step (inl next) end = inl (record { time = next.time; after = next.after; by = let by : next.time ≤ low + n = next.by in omega arith; start = next.start })
+    step (inl next) end = inl (record {
+      time = next.time;
+      after = next.after;
+      by = let by : next.time ≤ low + n = next.by in omega arith;
+      start = next.start;
+    })
     step (inr pending) (inl start) = inl (record { time = suc (low + n); after = omega arith; by = omega arith; start = start })
     step (inr pending) (inr late) = inr (λ x above below. pick x above below (nat_lt x (low + n)) refl)
       where
@@ -114,7 +133,8 @@ start-or-pending s i low (suc n) = step (start-or-pending s i low n) (start-or-l
         pick x above below false hc = here late x (grind arith)
 
 -- from a start on the next comes within the response time
-next-start : (rows : List ThreadRow) (v : List Bound) (s : Schedule) (t i low : ℕ) (row : ThreadRow) (b : Bound) → IsWindow rows v s t i low row b → 1 ≤ b.response → IsNext s i low (low + b.response)
+next-start : (rows : List ThreadRow) (v : List Bound) (s : Schedule) (t i low : ℕ) (row : ThreadRow) (b : Bound) → IsWindow rows v s t i low row b
+    → 1 ≤ b.response → IsNext s i low (low + b.response)
 next-start rows v s t i low row b window least =
     go (start-or-pending s i low b.response) (start-or-late s.activations i (low + b.response))
   where
@@ -126,19 +146,38 @@ next-start rows v s t i low row b window least =
     go (inr pending) (inr late) = absurd (none-late rows v s t i low row b window least pending late)
 
 -- the first start after a release comes within the response time from that release on
-start-after : (rows : List ThreadRow) (v : List Bound) (s : Schedule) (t i : ℕ) (row : ThreadRow) (b : Bound) (r : ℕ) → IsTable rows → Fits rows v → IsReady rows v s t
+start-after : (rows : List ThreadRow) (v : List Bound) (s : Schedule) (t i : ℕ) (row : ThreadRow) (b : Bound) (r : ℕ) → IsTable rows → Fits rows v
+    → IsReady rows v s t
     → slice_get rows i ≡ Some row → slice_get v i ≡ Some b → 1 ≤ b.response → r + b.response ≤ suc t
     → (d low : ℕ) → IsStart s i low → low ≤ r → r ≤ low + d → IsNext s i r (r + b.response)
 start-after rows v s t i row b r table fits ready asks gets least by zero low start early near =
-    let next = next-start rows v s t i low row b (record { table = table; fits = fits; ready = ready; asks = asks; gets = gets; start = start; by = omega arith }) least in
+    let next = next-start rows v s t i low row b (record {
+      table = table;
+      fits = fits;
+      ready = ready;
+      asks = asks;
+      gets = gets;
+      start = start;
+      by = omega arith;
+    }) least in
     let after : low < next.time = next.after in
     let last : next.time ≤ low + b.response = next.by in
     record { time = next.time; after = omega arith; by = omega arith; start = next.start }
 start-after rows v s t i row b r table fits ready asks gets least by (suc d) low start early near =
-    let next = next-start rows v s t i low row b (record { table = table; fits = fits; ready = ready; asks = asks; gets = gets; start = start; by = omega arith }) least in
-    go next (nat_lt r next.time) refl (λ again early more. start-after rows v s t i row b r table fits ready asks gets least by d next.time again early more)
+    let next = next-start rows v s t i low row b (record {
+      table = table;
+      fits = fits;
+      ready = ready;
+      asks = asks;
+      gets = gets;
+      start = start;
+      by = omega arith;
+    }) least in
+    go next (nat_lt r next.time) refl (λ again early more. start-after rows v s t i row b r table fits ready asks gets least
+    by d next.time again early more)
   where
-    go : (next : IsNext s i low (low + b.response)) (c : Bool) → nat_lt r next.time ≡ c → (IsStart s i next.time → next.time ≤ r → r ≤ next.time + d → IsNext s i r (r + b.response)) → IsNext s i r (r + b.response)
+    go : (next : IsNext s i low (low + b.response)) (c : Bool) → nat_lt r next.time ≡ c
+        → (IsStart s i next.time → next.time ≤ r → r ≤ next.time + d → IsNext s i r (r + b.response)) → IsNext s i r (r + b.response)
     go next true hc rest =
         let last : next.time ≤ low + b.response = next.by in
         record { time = next.time; after = grind arith; by = omega arith; start = next.start }
@@ -147,7 +186,8 @@ start-after rows v s t i row b r table fits ready asks gets least by (suc d) low
         rest next.start (grind arith) (omega arith)
 
 -- the schedule law up to a time
-pub on-time : (rows : List ThreadRow) (v : List Bound) (s : Schedule) → IsTable rows → Fits rows v → IsSchedule rows v s → (t : ℕ) → t ≤ horizon s → AllOnTime rows v s t
+pub on-time : (rows : List ThreadRow) (v : List Bound) (s : Schedule) → IsTable rows → Fits rows v → IsSchedule rows v s → (t : ℕ) → t ≤ horizon s
+    → AllOnTime rows v s t
 on-time rows v s table fits schedule zero h = λ k a row b at by.
     let least : 1 ≤ b.response = response-some rows v a.row row b table fits at.asks at.gets in absurd (omega arith)
 on-time rows v s table fits schedule (suc t) h = λ k a row b at by.

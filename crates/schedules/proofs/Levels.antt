@@ -1,5 +1,6 @@
 -- The ticks that a level uses: by its activations one by one, and row by row.
-use Rattle.std.specs.Prelude.{◌≡◌, ℕ, zero, suc, ◌+◌, ◌*◌, ◌≤◌, ◌==◌, Bool, true, false, not, List, [], ◌∷◌, ◌++◌, length, filter, sum_by, slice_get, Option, Some, None, nat_le, cond, refl}
+use Rattle.std.specs.Prelude.{◌≡◌, ℕ, zero, suc, ◌+◌, ◌*◌, ◌≤◌, ◌==◌, Bool, true, false, not, List, [], ◌∷◌, ◌++◌, length, filter, sum_by}
+use Rattle.std.specs.Prelude.{slice_get, Option, Some, None, nat_le, cond, refl}
 use Rattle.std.specs.Int.{div_ceil}
 use Rattle.std.proofs.Common.{arith, zero-le, add-le-add, mul-le-mul_right, eq-eqb}
 use Rattle.std.proofs.lemmas.List.Sums.{sum_by-cons}
@@ -27,19 +28,22 @@ passing-or test (o ∷ ticks) =
 abbrev pub level_used : ℕ → List (Option ℕ) → ℕ → Activation → ℕ
 level_used i ticks k a = when (nat_le a.row i) (used k ticks)
 
-level_tick : (i : ℕ) (acts : List Activation) (o : Option ℕ) → one (is_of_level acts i o) ≤ sum_from 0 (λ k a. when (nat_le a.row i) (one (is_by k o))) acts
+level_tick : (i : ℕ) (acts : List Activation) (o : Option ℕ)
+    → one (is_of_level acts i o) ≤ sum_from 0 (λ k a. when (nat_le a.row i) (one (is_by k o))) acts
 level_tick i acts None = zero-le
 level_tick i acts (Some user) =
     go (slice_get acts user) refl
   where
-    low : (a : Activation) → slice_get acts user ≡ Some a → (b : Bool) → nat_le a.row i ≡ b → one b ≤ sum_from 0 (λ k c. when (nat_le c.row i) (one (is_by k (Some user)))) acts
+    low : (a : Activation) → slice_get acts user ≡ Some a → (b : Bool) → nat_le a.row i ≡ b
+        → one b ≤ sum_from 0 (λ k c. when (nat_le c.row i) (one (is_by k (Some user)))) acts
     low a h false e = zero-le
     low a h true e =
         let part = sum_from-at (λ k c. when (nat_le c.row i) (one (is_by k (Some user)))) acts 0 user user a (omega arith) h in
         let is : (user == user) ≡ true = eq-eqb user user refl in
         rw (e, is) at part
 
-    go : (found : Option Activation) → slice_get acts user ≡ found → one (is_low i found) ≤ sum_from 0 (λ k a. when (nat_le a.row i) (one (is_by k (Some user)))) acts
+    go : (found : Option Activation) → slice_get acts user ≡ found
+        → one (is_low i found) ≤ sum_from 0 (λ k a. when (nat_le a.row i) (one (is_by k (Some user)))) acts
     go None h = zero-le
     go (Some a) h = low a h (nat_le a.row i) refl
 
@@ -48,13 +52,15 @@ when-add true m n = refl
 when-add false m n = refl
 
 level_used-cons : (i m : ℕ) (o : Option ℕ) (ticks : List (Option ℕ)) (acts : List Activation)
-    → sum_from m (level_used i (o ∷ ticks)) acts ≡ sum_from m (λ k a. when (nat_le a.row i) (one (is_by k o))) acts + sum_from m (level_used i ticks) acts
+    → sum_from m (level_used i (o ∷ ticks)) acts ≡ sum_from m (λ k a. when (nat_le a.row i) (one (is_by k o))) acts
+    + sum_from m (level_used i ticks) acts
 level_used-cons i m o ticks [] = refl
 level_used-cons i m o ticks (a ∷ acts) =
     omega (arith, level_used-cons i (suc m) o ticks acts, when-add (nat_le a.row i) (one (is_by m o)) (used m ticks))
 
 -- the ticks that a level uses are those that its activations use
-pub level-ticks : (i : ℕ) (acts : List Activation) (ticks : List (Option ℕ)) → passing (is_of_level acts i) ticks ≤ sum_from 0 (level_used i ticks) acts
+pub level-ticks : (i : ℕ) (acts : List Activation) (ticks : List (Option ℕ))
+    → passing (is_of_level acts i) ticks ≤ sum_from 0 (level_used i ticks) acts
 level-ticks i acts [] = zero-le
 level-ticks i acts (o ∷ ticks) =
     let first : one (is_of_level acts i o) ≤ sum_from 0 (λ k a. when (nat_le a.row i) (one (is_by k o))) acts = level_tick i acts o in
@@ -98,7 +104,8 @@ selected_work true es row = work-at es 0 row row (omega arith)
 selected_work false es row = zero-le
 
 -- costs one by one are costs row by row
-pub row_by_row : (sel : Activation → Bool) (es : List Entry) (acts : List Activation) → sum_of (selected_cost sel es) acts ≤ work (selected sel acts) 0 es
+pub row_by_row : (sel : Activation → Bool) (es : List Entry) (acts : List Activation)
+    → sum_of (selected_cost sel es) acts ≤ work (selected sel acts) 0 es
 row_by_row sel es [] = zero-le
 row_by_row sel es (a ∷ acts) =
     let first : when (sel a) (cost_at (slice_get es a.row)) ≤ work (λ q. when (sel a) (one (a.row == q))) 0 es = selected_work (sel a) es a.row in
@@ -106,15 +113,18 @@ row_by_row sel es (a ∷ acts) =
     omega (arith, work-add (λ q. when (sel a) (one (a.row == q))) (selected sel acts) 0 es)
 
 -- the work of some entries and one more
-pub work-more : (count : ℕ → ℕ) (m n : ℕ) (es : List Entry) (e : Entry) → n ≡ m + length es → work count m (es ++ e ∷ []) ≡ work count m es + count n * e.0.cost
+pub work-more : (count : ℕ → ℕ) (m n : ℕ) (es : List Entry) (e : Entry) → n ≡ m + length es
+    → work count m (es ++ e ∷ []) ≡ work count m es + count n * e.0.cost
 work-more count m n [] e h = let same : n ≡ m = omega arith in rw same (omega arith)
 work-more count m n (f ∷ es) e h = omega (arith, work-more count (suc m) n es e (omega arith))
 
 -- where each row has as many activations as the equations allow, its work is what they allow
-pub work-within : (count : ℕ → ℕ) (w m : ℕ) (es : List Entry) → ((j k : ℕ) (e : Entry) → k ≡ m + j → slice_get es j ≡ Some e → count k ≤ div_ceil (w + e.1.jitter) e.0.period)
+pub work-within : (count : ℕ → ℕ) (w m : ℕ) (es : List Entry) → ((j k : ℕ) (e : Entry) → k ≡ m + j → slice_get es j ≡ Some e
+    → count k ≤ div_ceil (w + e.1.jitter) e.0.period)
     → work count m es ≤ sum_by (interference w) es
 work-within count w m [] h = zero-le
 work-within count w m (e ∷ es) h =
     let first : count m * e.0.cost ≤ interference w e = mul-le-mul_right e.0.cost (h 0 m e (omega arith) refl) in
-    let rest : work count (suc m) es ≤ sum_by (interference w) es = work-within count w (suc m) es (λ j k f same is. h (suc j) k f (omega arith) is) in
+    let rest : work count (suc m) es ≤ sum_by (interference w) es
+    = work-within count w (suc m) es (λ j k f same is. h (suc j) k f (omega arith) is) in
     rw sum_by-cons (add-le-add first rest)

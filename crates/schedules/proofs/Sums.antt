@@ -33,12 +33,14 @@ sum_from-at f (y ∷ xs) m (suc j) k x h e =
     omega arith
 
 -- a sum of smaller parts is smaller
-pub sum_from-le : {A : Type 0} (f : ℕ → A → ℕ) (g : A → ℕ) (xs : List A) (m : ℕ) → ((j k : ℕ) (x : A) → k ≡ m + j → slice_get xs j ≡ Some x → f k x ≤ g x) → sum_from m f xs ≤ sum_of g xs
+pub sum_from-le : {A : Type 0} (f : ℕ → A → ℕ) (g : A → ℕ) (xs : List A) (m : ℕ)
+    → ((j k : ℕ) (x : A) → k ≡ m + j → slice_get xs j ≡ Some x → f k x ≤ g x) → sum_from m f xs ≤ sum_of g xs
 sum_from-le f g [] m h = zero-le
 sum_from-le f g (x ∷ xs) m h = add-le-add (h 0 m x (omega arith) refl) (sum_from-le f g xs (suc m) (λ j k y e is. h (suc j) k y (omega arith) is))
 
 -- and truly smaller where one part is
-pub sum_from-lt : {A : Type 0} (f : ℕ → A → ℕ) (g : A → ℕ) (xs : List A) (m n : ℕ) (z : A) → ((j k : ℕ) (x : A) → k ≡ m + j → slice_get xs j ≡ Some x → f k x ≤ g x)
+pub sum_from-lt : {A : Type 0} (f : ℕ → A → ℕ) (g : A → ℕ) (xs : List A) (m n : ℕ) (z : A)
+    → ((j k : ℕ) (x : A) → k ≡ m + j → slice_get xs j ≡ Some x → f k x ≤ g x)
     → slice_get xs n ≡ Some z → f (m + n) z < g z → sum_from m f xs < sum_of g xs
 sum_from-lt f g [] m n z h e less = cc
 sum_from-lt f g (x ∷ xs) m zero z h e less =

@@ -1,5 +1,6 @@
 -- The ticks that an activation uses up to a time, and what they say of its end.
-use Rattle.std.specs.Prelude.{◌≡◌, ℕ, zero, suc, ◌+◌, ◌≤◌, ◌<◌, Bool, true, false, List, [], ◌∷◌, length, take, drop, slice_get, Option, option_map, refl}
+use Rattle.std.specs.Prelude.{◌≡◌, ℕ, zero, suc, ◌+◌, ◌≤◌, ◌<◌, Bool, true, false, List, [], ◌∷◌, length, take, drop, slice_get, Option}
+use Rattle.std.specs.Prelude.{option_map, refl}
 use Rattle.std.specs.List.{cons_option}
 use Rattle.std.proofs.Common.{arith, zero-le}
 use Rattle.rt_response.specs.Tables.{Each}
@@ -28,7 +29,8 @@ used-count m k (o ∷ ticks) = count_step (is_by k o) m (ticks_from (m + 1) k ti
 abbrev pub end_at : List ℕ → ℕ → Option ℕ
 end_at xs c = option_map suc (slice_get xs c)
 
-over_past_step : (by : Bool) (m n c : ℕ) (xs : List ℕ) → ((d : ℕ) → is_over (end_at xs d) n ≡ true → m + 1 < n) → is_over (end_at (cons_option (only_if by m) xs) c) n ≡ true → m < n
+over_past_step : (by : Bool) (m n c : ℕ) (xs : List ℕ) → ((d : ℕ) → is_over (end_at xs d) n ≡ true → m + 1 < n)
+    → is_over (end_at (cons_option (only_if by m) xs) c) n ≡ true → m < n
 over_past_step true m n zero xs h e = grind arith
 over_past_step true m n (suc c) xs h e = let later : m + 1 < n = h c e in omega arith
 over_past_step false m n c xs h e = let later : m + 1 < n = h c e in omega arith
@@ -37,7 +39,8 @@ over-past : (m k c n : ℕ) (ticks : List (Option ℕ)) → is_over (end_at (tic
 over-past m k c n [] e = cc
 over-past m k c n (o ∷ ticks) e = over_past_step (is_by k o) m n c (ticks_from (m + 1) k ticks) (λ d. over-past (m + 1) k d n ticks) e
 
-over_used_step : (by : Bool) (m c u t : ℕ) (xs : List ℕ) → ((d : ℕ) → is_over (end_at xs d) t ≡ true → d < u) → is_over (end_at (cons_option (only_if by m) xs) c) t ≡ true → c < one by + u
+over_used_step : (by : Bool) (m c u t : ℕ) (xs : List ℕ) → ((d : ℕ) → is_over (end_at xs d) t ≡ true → d < u)
+    → is_over (end_at (cons_option (only_if by m) xs) c) t ≡ true → c < one by + u
 over_used_step true m zero u t xs h e = omega arith
 over_used_step true m (suc c) u t xs h e = let later : c < u = h c e in omega arith
 over_used_step false m c u t xs h e = let later : c < u = h c e in omega arith
@@ -50,7 +53,8 @@ over-used m k c (suc n) t (o ∷ ticks) h e =
     let same : t ≡ m + 1 + n = omega arith in
     over_used_step (is_by k o) m c (used k (take n ticks)) t (ticks_from (m + 1) k ticks) (λ d. over-used (m + 1) k d n t ticks same) e
 
-used_over_step : (by : Bool) (m c u t : ℕ) (xs : List ℕ) → m < t → ((d : ℕ) → d < u → is_over (end_at xs d) t ≡ true) → c < one by + u → is_over (end_at (cons_option (only_if by m) xs) c) t ≡ true
+used_over_step : (by : Bool) (m c u t : ℕ) (xs : List ℕ) → m < t → ((d : ℕ) → d < u → is_over (end_at xs d) t ≡ true) → c < one
+    by + u → is_over (end_at (cons_option (only_if by m) xs) c) t ≡ true
 used_over_step true m zero u t xs p h e = grind arith
 used_over_step true m (suc c) u t xs p h e = h c (omega arith)
 used_over_step false m c u t xs p h e = h c (omega arith)
@@ -65,7 +69,8 @@ used-over m k c (suc n) t (o ∷ ticks) h e =
     let past : m < t = omega arith in
     used_over_step (is_by k o) m c (used k (take n ticks)) t (ticks_from (m + 1) k ticks) past (λ d. used-over (m + 1) k d n t ticks same) e
 
-before_step : (by : Bool) (m n r u : ℕ) (xs : List ℕ) → (Each (λ x. r ≤ x) xs → u ≡ 0) → Each (λ x. r ≤ x) (cons_option (only_if by m) xs) → m + suc n ≤ r → one by + u ≡ 0
+before_step : (by : Bool) (m n r u : ℕ) (xs : List ℕ) → (Each (λ x. r ≤ x) xs → u ≡ 0) → Each (λ x. r ≤ x) (cons_option (only_if by m) xs)
+    → m + suc n ≤ r → one by + u ≡ 0
 before_step true m n r u xs h e p = let first : r ≤ m = e.0 in absurd (omega arith)
 before_step false m n r u xs h e p = let none : u ≡ 0 = h e in omega arith
 

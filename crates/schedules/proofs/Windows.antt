@@ -1,5 +1,6 @@
 -- A level that is pending through a window of its response time from a start on is over at the window's end.
-use Rattle.std.specs.Prelude.{◌≡◌, ◌⊎◌, ℕ, suc, ◌+◌, ◌-◌, ◌≤◌, ◌<◌, Bool, true, false, List, [], ◌∷◌, length, take, drop, slice_get, Option, Some, None, option_map, nat_le, nat_lt, refl}
+use Rattle.std.specs.Prelude.{◌≡◌, ◌⊎◌, ℕ, suc, ◌+◌, ◌-◌, ◌≤◌, ◌<◌, Bool, true, false, List, [], ◌∷◌, length, take, drop, slice_get, Option}
+use Rattle.std.specs.Prelude.{Some, None, option_map, nat_le, nat_lt, refl}
 use Rattle.std.proofs.Common.{sym, ◌∙◌, ap, arith, inl, inr, zero-le, zero-add}
 use Rattle.rt_response.specs.declared.rows.ThreadRow.{ThreadRow}
 use Rattle.rt_response.specs.declared.rows.Bound.{Bound}
@@ -35,7 +36,14 @@ start-or-late (a ∷ acts) i t =
     more : IsOverBy i t a → Each (IsOverBy i t) acts ⊎ IsLate acts i t
         → Each (IsOverBy i t) (a ∷ acts) ⊎ IsLate (a ∷ acts) i t
     more first (inl others) = inl (first, others)
-    more first (inr late) = inr (record { place = suc late.place; act = late.act; stands = late.stands; low = late.low; before = late.before; late = late.late })
+    more first (inr late) = inr (record {
+      place = suc late.place;
+      act = late.act;
+      stands = late.stands;
+      low = late.low;
+      before = late.before;
+      late = late.late;
+    })
 
     go : (p q r : Bool) → nat_le a.row i ≡ p → nat_lt a.release t ≡ q → is_over a.end t ≡ r
         → Each (IsOverBy i t) acts ⊎ IsLate acts i t
@@ -52,7 +60,8 @@ record IsUse (a : Activation) (count : ℕ → ℕ) : Type 0 where
   over : (n : ℕ) → is_over a.end n ≡ true → a.need ≤ count n
   late : (n : ℕ) → is_over a.end n ≡ false → count n < a.need
 
-use-of : (rows : List ThreadRow) (v : List Bound) (s : Schedule) (k : ℕ) (a : Activation) → IsSchedule rows v s → slice_get s.activations k ≡ Some a → 1 ≤ a.need
+use-of : (rows : List ThreadRow) (v : List Bound) (s : Schedule) (k : ℕ) (a : Activation) → IsSchedule rows v s → slice_get s.activations k ≡ Some a
+    → 1 ≤ a.need
     → IsUse a (λ n. used k (take n s.ticks))
 use-of rows v s k a schedule stands needs =
     let uses = schedule.uses k a stands in
@@ -60,11 +69,13 @@ use-of rows v s k a schedule stands needs =
     record {
       most = λ n. omega (arith, fewer, used-count 0 k s.ticks, used-front k n s.ticks);
       before = λ n h. used-before 0 k n a.release s.ticks uses.1 (omega arith);
-      over = λ n h. let used_so : a.need - 1 < used k (take n s.ticks) = over-used 0 k (a.need - 1) n n s.ticks (omega arith) (ap (λ e. is_over e n) (sym uses.2) ∙ h) in omega arith;
+      over = λ n h. let used_so : a.need - 1 < used k (take n s.ticks)
+          = over-used 0 k (a.need - 1) n n s.ticks (omega arith) (ap (λ e. is_over e n) (sym uses.2) ∙ h) in omega arith;
       late = λ n h. go n h (nat_lt (used k (take n s.ticks)) a.need) refl uses.2;
     }
   where
-    go : (n : ℕ) → is_over a.end n ≡ false → (b : Bool) → nat_lt (used k (take n s.ticks)) a.need ≡ b → a.end ≡ option_map suc (slice_get (ticks_of k s.ticks) (a.need - 1)) → used k (take n s.ticks) < a.need
+    go : (n : ℕ) → is_over a.end n ≡ false → (b : Bool) → nat_lt (used k (take n s.ticks)) a.need ≡ b
+        → a.end ≡ option_map suc (slice_get (ticks_of k s.ticks) (a.need - 1)) → used k (take n s.ticks) < a.need
     go n h true hb e = grind arith
     go n h false hb e =
         let enough : a.need - 1 < used k (take n s.ticks) = grind arith in
@@ -117,8 +128,10 @@ pub record IsWindow (rows : List ThreadRow) (v : List Bound) (s : Schedule) (t i
   pub by : low + b.response ≤ suc t
 
 -- what an activation of the level uses of it
-level-share : (rows : List ThreadRow) (v : List Bound) (s : Schedule) (t i low : ℕ) (row : ThreadRow) (b : Bound) (k : ℕ) (a : Activation) → IsWindow rows v s t i low row b
-    → slice_get s.activations k ≡ Some a → a.row ≤ i → IsShare low b.response (cost_at (slice_get (level_entries rows v i row b) a.row)) a (used k (take b.response (drop low s.ticks)))
+level-share : (rows : List ThreadRow) (v : List Bound) (s : Schedule) (t i low : ℕ) (row : ThreadRow) (b : Bound) (k : ℕ) (a : Activation)
+    → IsWindow rows v s t i low row b
+    → slice_get s.activations k ≡ Some a → a.row ≤ i
+    → IsShare low b.response (cost_at (slice_get (level_entries rows v i row b) a.row)) a (used k (take b.response (drop low s.ticks)))
 level-share rows v s t i low row b k a window stands of_level =
     let schedule = window.ready.schedule in
     let inside = (schedule.within k a stands).0 in
@@ -128,20 +141,25 @@ level-share rows v s t i low row b k a window stands of_level =
     let needs = schedule.needs k a own_row.0 own_bound.0 (record { stands = stands; asks = own_row.1; gets = own_bound.1 }) in
     let entry = level-at rows v i a.row row own_row.0 b own_bound.0 window.asks window.gets of_level own_row.1 own_bound.1 in
     let costs : a.need ≤ cost_at (slice_get (level_entries rows v i row b) a.row) = rw entry needs.1 in
-    share-of low b.response (cost_at (slice_get (level_entries rows v i row b) a.row)) (used k (take b.response (drop low s.ticks))) a (λ n. used k (take n s.ticks))
+    share-of low b.response (cost_at (slice_get (level_entries rows v i row b) a.row)) (used k (take b.response (drop low s.ticks))) a
+    (λ n. used k (take n s.ticks))
     (use-of rows v s k a schedule stands needs.0) (used-window k low b.response (low + b.response) s.ticks refl) needs.0 costs
     (λ before. each-get (IsOverBy i low) s.activations k a window.start stands of_level before)
 
-pub level-less : (rows : List ThreadRow) (v : List Bound) (s : Schedule) (t i low : ℕ) (row : ThreadRow) (b : Bound) → IsWindow rows v s t i low row b → IsLate s.activations i (low + b.response)
-    → sum_from 0 (level_used i (take b.response (drop low s.ticks))) s.activations < sum_of (selected_cost (in_window low b.response) (level_entries rows v i row b)) s.activations
+pub level-less : (rows : List ThreadRow) (v : List Bound) (s : Schedule) (t i low : ℕ) (row : ThreadRow) (b : Bound) → IsWindow rows v s t i low row b
+    → IsLate s.activations i (low + b.response)
+    → sum_from 0 (level_used i (take b.response (drop low s.ticks))) s.activations
+    < sum_of (selected_cost (in_window low b.response) (level_entries rows v i row b)) s.activations
 level-less rows v s t i low row b window late =
-    sum_from-lt (level_used i (take b.response (drop low s.ticks))) (selected_cost (in_window low b.response) (level_entries rows v i row b)) s.activations 0 late.place late.act
+    sum_from-lt (level_used i (take b.response (drop low s.ticks))) (selected_cost (in_window low b.response) (level_entries rows v i row b))
+    s.activations 0 late.place late.act
     (λ j k a same stands. part k a (let is : j ≡ k = omega arith in rw is at stands) (nat_le a.row i) refl)
     late.stands
     (let is : nat_le late.act.row i ≡ true = let low_row : late.act.row ≤ i = late.low in grind arith in
     rw (is, zero-add) ((level-share rows v s t i low row b late.place late.act window late.stands late.low).late late.before late.late))
   where
     part : (k : ℕ) (a : Activation) → slice_get s.activations k ≡ Some a → (x : Bool) → nat_le a.row i ≡ x
-        → when x (used k (take b.response (drop low s.ticks))) ≤ when (in_window low b.response a) (cost_at (slice_get (level_entries rows v i row b) a.row))
+        → when x (used k (take b.response (drop low s.ticks))) ≤ when (in_window low b.response a)
+        (cost_at (slice_get (level_entries rows v i row b) a.row))
     part k a stands false h = zero-le
     part k a stands true h = (level-share rows v s t i low row b k a window stands (grind arith)).most

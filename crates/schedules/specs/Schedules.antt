@@ -1,6 +1,7 @@
 -- Schedules in numbers alone: activations of rows, and which of them uses each tick; and what such a schedule must keep.
 -- Level-i busy periods are those of Joseph and Pandya 1986, with release jitter as in Tindell, Burns and Wellings 1994.
-use Rattle.std.specs.Prelude.{◌≡◌, ◌≢◌, ◌⊎◌, ℕ, suc, ◌-◌, ◌+◌, ◌≤◌, ◌<◌, Bool, true, false, not, List, length, filter, filter_map, take, drop, slice_get, Option, Some, None, option_map, nat_le, ℤ, pos, ◌+ℤ◌, ◌≤ℤ◌, ◌==◌}
+use Rattle.std.specs.Prelude.{◌≡◌, ◌≢◌, ◌⊎◌, ℕ, suc, ◌-◌, ◌+◌, ◌≤◌, ◌<◌, Bool, true, false, not, List, length, filter, filter_map, take, drop}
+use Rattle.std.specs.Prelude.{slice_get, Option, Some, None, option_map, nat_le, ℤ, pos, ◌+ℤ◌, ◌≤ℤ◌, ◌==◌}
 use Rattle.std.specs.List.{enumerate_from}
 use Rattle.rt_response.specs.declared.rows.ThreadRow.{ThreadRow}
 use Rattle.rt_response.specs.declared.rows.Bound.{Bound}
@@ -104,7 +105,8 @@ pub record IsSchedule (rows : List ThreadRow) (v : List Bound) (s : Schedule) : 
       → (length (ticks_of k s.ticks) ≤ a.need) × Each (λ t. a.release ≤ t) (ticks_of k s.ticks)
       × (a.end ≡ option_map suc (slice_get (ticks_of k s.ticks) (a.need - 1)))
   -- nominal times of one row differ by at least its period
-  pub separate : (k l : ℕ) (a c : Activation) (row : ThreadRow) (b : Bound) → IsAt rows v s k a row b → IsAt rows v s l c row b → k ≢ l → a.row ≡ c.row
+  pub separate : (k l : ℕ) (a c : Activation) (row : ThreadRow) (b : Bound) → IsAt rows v s k a row b → IsAt rows v s l c row b → k ≢ l
+      → a.row ≡ c.row
       → ((a.nominal +ℤ pos row.period) ≤ℤ c.nominal) ⊎ ((c.nominal +ℤ pos row.period) ≤ℤ a.nominal)
   -- releases are at most the jitter after their nominal times, as long as all is on time
   pub jitters : (t : ℕ) → t ≤ horizon s → AllOnTime rows v s t

@@ -16,5 +16,6 @@ ghost use Rattle.schedules.specs.Schedules.{Schedule, IsSchedule, AllOnTime, hor
 /// whose response time is within the horizon has ended by its release and that response time
 /// (Joseph and Pandya 1986; with release jitter Tindell, Burns and Wellings 1994).
 pub fn schedules_respond()
-    ensures { (rows : List ThreadRow) (v : List Bound) (s : Schedule) → IsTable rows → Fits rows v → IsSchedule rows v s → AllOnTime rows v s (horizon s) }
+    ensures { (rows : List ThreadRow) (v : List Bound) (s : Schedule) → IsTable rows → Fits rows v → IsSchedule rows v s
+        → AllOnTime rows v s (horizon s) }
 {}

@@ -8,7 +8,8 @@ use Rattle.seq_tree.specs.Faults.{Scope, Expected, has_unknown, has_bad_divisor,
 use Rattle.seq_tree.specs.Trees.{branches_of, otherwise}
 use Rattle.seq_check.specs.Answers.{first_of}
 
-words-any : {A : Type 0} (f : A → Expression) (test : Expected → Bool) (xs : List A) → list_any test (words (map f xs)) ≡ list_any (λ x. test (word (f x))) xs
+words-any : {A : Type 0} (f : A → Expression) (test : Expected → Bool) (xs : List A)
+    → list_any test (words (map f xs)) ≡ list_any (λ x. test (word (f x))) xs
 words-any f test [] = refl
 words-any f test (x ∷ xs) = ap (λ b. test (word (f x)) || b) (words-any f test xs)
 
@@ -20,12 +21,25 @@ conditions-any f test (x ∷ xs) other = ap (λ b. test (condition (f x).0) || b
 
 -- the first fault of expressions that are to be words
 pub words-fault : {A : Type 0} (c : Scope) (f : A → Expression) (xs : List A) →
-    expressions_fault c (words (map f xs)) ≡ first_of (list_any (λ x. has_unknown c (f x)) xs) (list_any (λ x. not (has_sort Word (f x))) xs) (list_any (λ x. has_bad_divisor (f x)) xs)
+    expressions_fault c (words (map f xs)) ≡ first_of (list_any (λ x. has_unknown c (f x)) xs) (list_any (λ x. not (has_sort Word (f x))) xs)
+    (list_any (λ x. has_bad_divisor (f x)) xs)
 words-fault c f xs =
-    rw (words-any f (λ x. has_unknown c x.expression) xs, words-any f (λ x. not (has_sort x.sort x.expression)) xs, words-any f (λ x. has_bad_divisor x.expression) xs) refl
+    rw (
+      words-any f (λ x. has_unknown c x.expression) xs,
+      words-any f (λ x. not (has_sort x.sort x.expression)) xs,
+      words-any f (λ x.
+          has_bad_divisor x.expression) xs,
+    ) refl
 
 -- that of the conditions of an `if`
 pub conditions-fault : {A : Type 0} (c : Scope) (f : A → Expression × Statements) (xs : List A) (other : Option Statements) →
-    expressions_fault c (conditions (branches_of (map f xs) (otherwise other))) ≡ first_of (list_any (λ x. has_unknown c (f x).0) xs) (list_any (λ x. not (has_sort Boolean (f x).0)) xs) (list_any (λ x. has_bad_divisor (f x).0) xs)
+    expressions_fault c (conditions (branches_of (map f xs) (otherwise other)))
+    ≡ first_of (list_any (λ x. has_unknown c (f x).0) xs) (list_any (λ x. not (has_sort Boolean (f x).0)) xs)
+    (list_any (λ x. has_bad_divisor (f x).0) xs)
 conditions-fault c f xs other =
-    rw (conditions-any f (λ x. has_unknown c x.expression) xs other, conditions-any f (λ x. not (has_sort x.sort x.expression)) xs other, conditions-any f (λ x. has_bad_divisor x.expression) xs other) refl
+    rw (
+      conditions-any f (λ x. has_unknown c x.expression) xs other,
+      conditions-any f (λ x.
+          not (has_sort x.sort x.expression)) xs other,
+      conditions-any f (λ x. has_bad_divisor x.expression) xs other,
+    ) refl

@@ -23,10 +23,12 @@ or_else_assoc None b c = refl
 or_else_assoc (Some fault) b c = refl
 
 -- the faults of an `else` come after those of the arms
-else_later : (c : Scope) (arms : List (Expression × Statements)) (others : Branches) → branches_fault c (branches_of arms others) ≡ or_else (branches_fault c (branches_of arms Nothing)) (branches_fault c others)
+else_later : (c : Scope) (arms : List (Expression × Statements)) (others : Branches)
+    → branches_fault c (branches_of arms others) ≡ or_else (branches_fault c (branches_of arms Nothing)) (branches_fault c others)
 else_later c [] others = refl
 else_later c (arm ∷ arms) others =
-    ap (or_else (block_fault c arm.1)) (else_later c arms others) ∙ or_else_assoc (block_fault c arm.1) (branches_fault c (branches_of arms Nothing)) (branches_fault c others)
+    ap (or_else (block_fault c arm.1)) (else_later c arms others) ∙ or_else_assoc (block_fault c arm.1) (branches_fault c (branches_of arms Nothing))
+    (branches_fault c others)
 
 -- an `if` whose conditions have no fault has the first one of its arms
 pub if_arms : (c : Scope) (arms : List (Expression × Statements)) (others : Branches) (u : Unit {0}) (e : BodyFault) →

@@ -21,10 +21,12 @@ pub filled : (before after listed : Bool) → before ≡ false → after ≡ (li
 filled before after listed none added = added ∙ ap (λ b. listed || b) none ∙ or-false listed
 
 -- one that has two lists' names
-pub filled_twice : (xs ys : List Name) (n : Name) (before middle after listed : Bool) → before ≡ false → listed ≡ is_named xs n → middle ≡ (listed || before) → after ≡ (is_named ys n || middle)
+pub filled_twice : (xs ys : List Name) (n : Name) (before middle after listed : Bool) → before ≡ false → listed ≡ is_named xs n
+    → middle ≡ (listed || before) → after ≡ (is_named ys n || middle)
     → after ≡ is_named (xs ++ ys) n
 filled_twice xs ys n before middle after listed none first one two =
-    two ∙ ap (λ b. is_named ys n || b) (filled before middle listed none one ∙ first) ∙ or-turn (is_named ys n) (is_named xs n) ∙ sym (list_any-append (λ m. same_name m n) xs ys)
+    two ∙ ap (λ b. is_named ys n || b) (filled before middle listed none one ∙ first) ∙ or-turn (is_named ys n) (is_named xs n) ∙ sym
+    (list_any-append (λ m. same_name m n) xs ys)
 
 -- the names of the parameters that hand values out
 pub outs_named : (ps : List Param) (n : Name) → list_any (λ q. is_out q.mode && same_name q.name n) ps ≡ is_named (out_names ps) n
@@ -32,7 +34,8 @@ outs_named [] n = refl
 outs_named (p ∷ ps) n = by (is_out p.mode) (outs_named ps n)
   where
     by : (out : Bool) → list_any (λ q. is_out q.mode && same_name q.name n) ps ≡ is_named (out_names ps) n
-        → ((out && same_name p.name n) || list_any (λ q. is_out q.mode && same_name q.name n) ps) ≡ is_named (map (λ q. q.name) (if out then p ∷ filter (λ q. is_out q.mode) ps else filter (λ q. is_out q.mode) ps)) n
+        → ((out && same_name p.name n) || list_any (λ q. is_out q.mode && same_name q.name n) ps)
+        ≡ is_named (map (λ q. q.name) (if out then p ∷ filter (λ q. is_out q.mode) ps else filter (λ q. is_out q.mode) ps)) n
     by true h = ap (λ b. same_name p.name n || b) h
     by false h = h
 

@@ -28,11 +28,13 @@ nothing true = refl
 nothing false = refl
 
 -- what can be assigned inside a loop: what can be assigned outside it, but for the loop's name
-pub named_inside : (loop name : Name) (names : List Name) → is_named (filter (λ n. not (same_name n loop)) names) name ≡ (not (same_name loop name) && is_named names name)
+pub named_inside : (loop name : Name) (names : List Name) → is_named (filter (λ n. not (same_name n loop)) names) name
+    ≡ (not (same_name loop name) && is_named names name)
 named_inside loop name [] = nothing (same_name loop name)
 named_inside loop name (n ∷ ns) = step loop name n ns (same_name n loop) refl (named_inside loop name ns)
 
-found : {A B : Type 0} (f : A → B) (b : Bool) (x : A) (there : Option B) (here : Option A) → there ≡ option_map f here → cond b (Some (f x)) there ≡ option_map f (cond b (Some x) here)
+found : {A B : Type 0} (f : A → B) (b : Bool) (x : A) (there : Option B) (here : Option A) → there ≡ option_map f here
+    → cond b (Some (f x)) there ≡ option_map f (cond b (Some x) here)
 found f true x there here h = refl
 found f false x there here h = h
 

@@ -60,32 +60,40 @@ seen_more before after name h (Binary op left right) = refl
 -- an actual that is not seen yet is handed out, or none is
 pub outs_step : (before after : Name → Bool) (p : Param) (e : Expression) (ps : List Param) (es : List Expression) →
     ((x : Expression) → is_seen after x ≡ ((is_out p.mode && is_same e x) || is_seen before x)) → (is_out p.mode && is_seen before e) ≡ false →
-    (list_any (is_seen before) (out_actuals (p ∷ ps) (e ∷ es)) || repeats (out_actuals (p ∷ ps) (e ∷ es))) ≡ (list_any (is_seen after) (out_actuals ps es) || repeats (out_actuals ps es))
+    (list_any (is_seen before) (out_actuals (p ∷ ps) (e ∷ es)) || repeats (out_actuals (p ∷ ps) (e ∷ es)))
+    ≡ (list_any (is_seen after) (out_actuals ps es) || repeats (out_actuals ps es))
 outs_step before after p e ps es added fresh = by (is_out p.mode) added fresh
   where
     by : (out : Bool) → ((x : Expression) → is_seen after x ≡ ((out && is_same e x) || is_seen before x)) → (out && is_seen before e) ≡ false →
-        (list_any (is_seen before) (if out then e ∷ out_actuals ps es else out_actuals ps es) || repeats (if out then e ∷ out_actuals ps es else out_actuals ps es))
+        (list_any (is_seen before) (if out then e ∷ out_actuals ps es else out_actuals ps es)
+        || repeats (if out then e ∷ out_actuals ps es else out_actuals ps es))
         ≡ (list_any (is_seen after) (out_actuals ps es) || repeats (out_actuals ps es))
-    by false more none = ap (λ b. b || repeats (out_actuals ps es)) (any_same (is_seen before) (is_seen after) (λ x. sym (more x)) (out_actuals ps es))
+    by false more none = ap (λ b. b || repeats (out_actuals ps es))
+        (any_same (is_seen before) (is_seen after) (λ x. sym (more x)) (out_actuals ps es))
     by true more none =
         let outs = out_actuals ps es in
         ap (λ b. (b || list_any (is_seen before) outs) || (stands_again e outs || repeats outs)) none
         ∙ ap (λ b. list_any (is_seen before) outs || (b || repeats outs)) (again_any e outs)
         ∙ mix (list_any (is_seen before) outs) (list_any (is_same e) outs) (repeats outs)
-        ∙ ap (λ b. b || repeats outs) (sym (any_or (is_same e) (is_seen before) outs) ∙ any_same (λ x. is_same e x || is_seen before x) (is_seen after) (λ x. sym (more x)) outs)
+        ∙ ap (λ b. b || repeats outs) (sym (any_or (is_same e) (is_seen before) outs) ∙ any_same (λ x. is_same e x || is_seen before x)
+        (is_seen after) (λ x. sym (more x)) outs)
 
 -- one that is seen is handed out twice
-pub outs_twice : (before : Name → Bool) (p : Param) (e : Expression) (ps : List Param) (es : List Expression) → (is_out p.mode && is_seen before e) ≡ true →
+pub outs_twice : (before : Name → Bool) (p : Param) (e : Expression) (ps : List Param) (es : List Expression)
+    → (is_out p.mode && is_seen before e) ≡ true →
     (list_any (is_seen before) (out_actuals (p ∷ ps) (e ∷ es)) || repeats (out_actuals (p ∷ ps) (e ∷ es))) ≡ true
 outs_twice before p e ps es = by (is_out p.mode)
   where
     by : (out : Bool) → (out && is_seen before e) ≡ true →
-        (list_any (is_seen before) (if out then e ∷ out_actuals ps es else out_actuals ps es) || repeats (if out then e ∷ out_actuals ps es else out_actuals ps es)) ≡ true
+        (list_any (is_seen before) (if out then e ∷ out_actuals ps es else out_actuals ps es)
+        || repeats (if out then e ∷ out_actuals ps es else out_actuals ps es)) ≡ true
     by false there = absurd (cc)
-    by true there = ap (λ b. (b || list_any (is_seen before) (out_actuals ps es)) || (stands_again e (out_actuals ps es) || repeats (out_actuals ps es))) there
+    by true there = ap (λ b. (b || list_any (is_seen before) (out_actuals ps es))
+        || (stands_again e (out_actuals ps es) || repeats (out_actuals ps es))) there
 
 -- nothing is seen yet
-pub none_seen : (before : Name → Bool) → ((n : Name) → before n ≡ false) → (xs : List Expression) → (list_any (is_seen before) xs || repeats xs) ≡ repeats xs
+pub none_seen : (before : Name → Bool) → ((n : Name) → before n ≡ false) → (xs : List Expression)
+    → (list_any (is_seen before) xs || repeats xs) ≡ repeats xs
 none_seen before h xs = ap (λ b. b || repeats xs) (any_never (is_seen before) none xs)
   where
     none : (x : Expression) → is_seen before x ≡ false

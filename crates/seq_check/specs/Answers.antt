@@ -39,4 +39,5 @@ answer_of (Some fault) = Err (told_as fault)
 -- the first of the three faults of expressions, of those that stand
 abbrev pub first_of : Bool → Bool → Bool → Option faults.BodyFault
 first_of is_unknown is_missorted has_divisor =
-    faults.or_else (faults.fault_if is_unknown faults.Unknown) (faults.or_else (faults.fault_if is_missorted faults.Missorted) (faults.fault_if has_divisor faults.Divisor))
+    faults.or_else (faults.fault_if is_unknown faults.Unknown) (faults.or_else (faults.fault_if is_missorted faults.Missorted)
+    (faults.fault_if has_divisor faults.Divisor))

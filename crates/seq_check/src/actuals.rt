@@ -100,7 +100,8 @@ fn repeats_by_pairs(params: &[Param], actuals: &[Expr]) -> bool
 /// Adds the variable that an actual is to a set, and says whether it was there.
 fn add_variable<'a>(seen: &mut Names<'a>, actual: &'a Expr) -> Result<bool, NoMemory>
     ensures told { IfOk result (λ b. b ≡ is_seen (has seen.old) (expression_of actual.entry.now)) }
-    ensures added { OnOk result ((x : Expression) → is_seen (has seen.new) x ≡ (is_same (expression_of actual.entry.now) x || is_seen (has seen.old) x)) }
+    ensures added { OnOk result ((x : Expression) → is_seen (has seen.new) x
+        ≡ (is_same (expression_of actual.entry.now) x || is_seen (has seen.old) x)) }
 {
     match actual {
         Expr::Variable(name) => Ok(!seen.add(name)?),
@@ -115,7 +116,8 @@ fn add_out_actual<'a>(
     actual: &'a Expr,
 ) -> Result<bool, NoMemory>
     ensures told { IfOk result (λ b. b ≡ (is_out param.now.mode && is_seen (has seen.old) (expression_of actual.entry.now))) }
-    ensures added { OnOk result ((x : Expression) → is_seen (has seen.new) x ≡ ((is_out param.now.mode && is_same (expression_of actual.entry.now) x) || is_seen (has seen.old) x)) }
+    ensures added { OnOk result ((x : Expression) → is_seen (has seen.new) x
+        ≡ ((is_out param.now.mode && is_same (expression_of actual.entry.now) x) || is_seen (has seen.old) x)) }
 {
     match param.mode {
         Mode::In => Ok(false),
@@ -185,7 +187,8 @@ pub(crate) fn check_actuals(
     actuals: &[Expr],
     place: &Place,
 ) -> Result<(), BodyFault>
-    ensures { result ≡ answer_of (actuals_fault (place_of place.now) (out_actuals params.now (map expression_of actuals.now)) params.now (map expression_of actuals.now)) }
+    ensures { result ≡ answer_of (actuals_fault (place_of place.now) (out_actuals params.now (map expression_of actuals.now)) params.now
+        (map expression_of actuals.now)) }
 {
     if hands_out_fixed(params, actuals, place) {
         return Err(BodyFault::Assigned);

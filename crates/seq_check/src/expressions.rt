@@ -1,5 +1,6 @@
 ghost use Rattle.std.specs.Prelude.{◌≡◌, map, [], ◌∷◌, Option};
-ghost use Rattle.seq_tree.specs.Faults.{has_unknown, is_bad_literal, is_bad_divisor, has_bad_divisor, condition, conditions, expressions_fault, word, words};
+ghost use Rattle.seq_tree.specs.Faults.{has_unknown, is_bad_literal, is_bad_divisor, has_bad_divisor, condition, conditions, expressions_fault};
+ghost use Rattle.seq_tree.specs.Faults.{word, words};
 ghost use Rattle.seq_tree.specs.Statements.{Statements};
 ghost use Rattle.seq_tree.specs.Trees.{arm_of, branches_of, expression_of, otherwise};
 ghost use Rattle.seq_check.specs.Answers.{answer_of, first_of};
@@ -106,7 +107,8 @@ pub(crate) fn check_words(exprs: &[Expr], place: &Place) -> Result<(), BodyFault
 
 /// Tells the first fault of the conditions of an `if`.
 pub(crate) fn check_conditions(arms: &[Arm], place: &Place) -> Result<(), BodyFault>
-    ensures { (other : Option Statements) → result ≡ answer_of (expressions_fault (place_of place.now) (conditions (branches_of (map arm_of arms.now) (otherwise other)))) }
+    ensures { (other : Option Statements)
+        → result ≡ answer_of (expressions_fault (place_of place.now) (conditions (branches_of (map arm_of arms.now) (otherwise other)))) }
 {
     first_fault(
         arms.iter().any(|a| has_unknown(&a.cond, place)),

@@ -64,7 +64,8 @@ impl<'k, 'a> Known<'k, 'a> {
         params: &'a [Param],
         locals: &'a [Datum],
     ) -> Result<Known<'k, 'a>, NoMemory>
-        ensures { IfOk result (λ k. known_scope k ≡ scope_with shared.entry.now.vars.now (offers_of calls.entry.now) params.entry.now locals.entry.now) }
+        ensures { IfOk result (λ k. known_scope k ≡ scope_with shared.entry.now.vars.now (offers_of calls.entry.now) params.entry.now
+            locals.entry.now) }
     {
         let mut reads = Names::new(alloc);
         add_params(&mut reads, params)?;

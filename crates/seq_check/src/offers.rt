@@ -21,7 +21,8 @@ fn add_offer<'a>(
     table: &mut OpTable<'a, Offer<'a>>,
     offer: &Offer<'a>,
 ) -> Result<(), NoMemory>
-    ensures { OnOk result ((n : OpName) → option_map offer_view (at table.new n) ≡ or_else (option_map offer_view (at table.old n)) (found_in n (offer_view offer.entry.now ∷ []))) }
+    ensures { OnOk result ((n : OpName) → option_map offer_view (at table.new n)
+        ≡ or_else (option_map offer_view (at table.old n)) (found_in n (offer_view offer.entry.now ∷ []))) }
 {
     match table.get(offer.object, &offer.sig.name) {
         Some(_) => Ok(()),

@@ -69,7 +69,8 @@ pub(crate) fn is_boolean(expr: &Expr) -> bool
 
 /// Whether both operands of a comparison are Words, and one of them contains a name.
 fn compares_words(left: &Expr, right: &Expr) -> bool
-    ensures { result ≡ (has_sort Word (expression_of left.now) && has_sort Word (expression_of right.now) && (contains_name (expression_of left.now) || contains_name (expression_of right.now))) }
+    ensures { result ≡ (has_sort Word (expression_of left.now) && has_sort Word (expression_of right.now)
+        && (contains_name (expression_of left.now) || contains_name (expression_of right.now))) }
 {
     is_word(left) && is_word(right) && (contains_name(left) || contains_name(right))
 }

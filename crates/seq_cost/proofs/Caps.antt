@@ -29,18 +29,22 @@ pub cap-turns : (limit turns a b : ℕ) → min limit (turns * min limit (a + mi
 cap-turns limit turns a b = rw (cap-add limit a b) (cap-product limit turns (a + b) (either (a + b) limit))
 
 pub cap-branch : (limit greatest tested test block others : ℕ) →
-    min limit (max (max greatest (min limit (tested + test) + min limit block)) (min limit (tested + test) + others)) ≡ min limit (max greatest (tested + (test + max block others)))
+    min limit (max (max greatest (min limit (tested + test) + min limit block)) (min limit (tested + test) + others))
+    ≡ min limit (max greatest (tested + (test + max block others)))
 cap-branch limit greatest tested test block others = grind arith
 
 cap-test : (limit test block n m : ℕ) → min limit n ≡ min limit m → min limit (test + max block n) ≡ min limit (test + max block m)
 cap-test limit test block n m h = grind (arith, h)
 
 -- what follows the arms, cut
-cap-arms : (limit : ℕ) (w : Weights) (arms : List (Expression × Statements)) (n : ℕ) → min limit (arms_weight w arms (min limit n)) ≡ min limit (arms_weight w arms n)
+cap-arms : (limit : ℕ) (w : Weights) (arms : List (Expression × Statements)) (n : ℕ)
+    → min limit (arms_weight w arms (min limit n)) ≡ min limit (arms_weight w arms n)
 cap-arms limit w [] n = grind arith
-cap-arms limit w (arm ∷ arms) n = cap-test limit w.costs.test (dearest w arm.1) (arms_weight w arms (min limit n)) (arms_weight w arms n) (cap-arms limit w arms n)
+cap-arms limit w (arm ∷ arms) n = cap-test limit w.costs.test (dearest w arm.1) (arms_weight w arms (min limit n)) (arms_weight w arms n)
+    (cap-arms limit w arms n)
 
-arms-branches : (w : Weights) (arms : List (Expression × Statements)) (others : Branches) → arms_weight w arms (dearest_branch w others) ≡ dearest_branch w (branches_of arms others)
+arms-branches : (w : Weights) (arms : List (Expression × Statements)) (others : Branches)
+    → arms_weight w arms (dearest_branch w others) ≡ dearest_branch w (branches_of arms others)
 arms-branches w [] others = refl
 arms-branches w (arm ∷ arms) others = rw (arms-branches w arms others) refl
 

@@ -25,13 +25,15 @@ abbrev get : OpName
 get = record { object = codes "q"; op = codes "get" }
 
 -- callees: the first of a name counts, and one that is not listed counts nothing
-callee_listed : callee_cost (record { name = get; cost = 4 } ∷ record { name = set; cost = 7 } ∷ record { name = set; cost = 9 } ∷ []) (codes "q") (codes "set") ≡ 7
+callee_listed : callee_cost (record { name = get; cost = 4 } ∷ record { name = set; cost = 7 } ∷ record { name = set; cost = 9 } ∷ []) (codes "q")
+    (codes "set") ≡ 7
 callee_listed = refl
 
 callee_not_listed : callee_cost (record { name = get; cost = 4 } ∷ []) (codes "q") (codes "set") ≡ 0
 callee_not_listed = refl
 
-started_listed : callee_starts (record { name = get; starts = 1 } ∷ record { name = set; starts = 3 } ∷ record { name = set; starts = 5 } ∷ []) (codes "q") (codes "set") ≡ 3
+started_listed : callee_starts (record { name = get; starts = 1 } ∷ record { name = set; starts = 3 } ∷ record { name = set; starts = 5 } ∷ [])
+    (codes "q") (codes "set") ≡ 3
 started_listed = refl
 
 started_not_listed : callee_starts (record { name = get; starts = 1 } ∷ []) (codes "e") (codes "get") ≡ 0
@@ -44,7 +46,8 @@ ones account object op = account
 work_takes_ticks : (costs : Bor Costs) (account : Bor ℕ) → (weights_of ones (Ticks costs account)).work 7 ≡ 7
 work_takes_ticks costs account = refl
 
-calls_take_what_the_account_says : (costs : Bor Costs) (account : Bor ℕ) → (weights_of ones (Ticks costs account)).called set.object set.op ≡ account.now
+calls_take_what_the_account_says : (costs : Bor Costs) (account : Bor ℕ) → (weights_of ones (Ticks costs account)).called set.object set.op
+    ≡ account.now
 calls_take_what_the_account_says costs account = refl
 
 work_is_no_call : (target : Bor OpName) → (weights_of ones (Calls target)).work 7 ≡ 0

@@ -27,9 +27,11 @@ joined [] ys zs = refl
 joined (x ∷ xs) ys zs = ap (λ l. x ∷ l) (joined xs ys zs)
 
 -- the calls of an `else` come after those of the arms
-pub branch-append : (arms : List (Expression × Statements)) (others : Branches) → branch_calls (branches_of arms others) ≡ branch_calls (branches_of arms Nothing) ++ branch_calls others
+pub branch-append : (arms : List (Expression × Statements)) (others : Branches)
+    → branch_calls (branches_of arms others) ≡ branch_calls (branches_of arms Nothing) ++ branch_calls others
 branch-append [] others = refl
-branch-append (arm ∷ arms) others = ap (λ l. block_calls arm.1 ++ l) (branch-append arms others) ∙ joined (block_calls arm.1) (branch_calls (branches_of arms Nothing)) (branch_calls others)
+branch-append (arm ∷ arms) others = ap (λ l. block_calls arm.1 ++ l) (branch-append arms others) ∙ joined (block_calls arm.1)
+    (branch_calls (branches_of arms Nothing)) (branch_calls others)
 
 and-both : (a b : Bool) → (a && b) ≡ true → (a ≡ true) × (b ≡ true)
 and-both true b h = (refl, h)
@@ -39,7 +41,8 @@ and-both false b h = absurd (cc)
 abbrev is_new : List OpName → OpName → Bool
 is_new found call = not (list_any (λ f. same_op f call) found)
 
-kept_both : {A : Type 0} (a b : Bool) (x : A) (p : A → Bool) (rest both : List A) → p x ≡ b → filter p rest ≡ both → filter p (cond a (x ∷ rest) rest) ≡ cond (a && b) (x ∷ both) both
+kept_both : {A : Type 0} (a b : Bool) (x : A) (p : A → Bool) (rest both : List A) → p x ≡ b → filter p rest ≡ both
+    → filter p (cond a (x ∷ rest) rest) ≡ cond (a && b) (x ∷ both) both
 kept_both true true x p rest both e h = rw (e, h) refl
 kept_both true false x p rest both e h = rw (e, h) refl
 kept_both false b x p rest both e h = h
@@ -73,17 +76,21 @@ new_step false false = refl
 abbrev GathersAll : List OpName → Type 0
 GathersAll cs = (found : List OpName) → with_calls found cs ≡ found ++ filter (is_new found) (different cs)
 
-with-more : (found : List OpName) (c : OpName) (cs : List OpName) (among : Bool) → list_any (λ f. same_op f c) found ≡ among → GathersAll cs → with_calls found (c ∷ cs) ≡ found ++ filter (is_new found) (different (c ∷ cs))
+with-more : (found : List OpName) (c : OpName) (cs : List OpName) (among : Bool) → list_any (λ f. same_op f c) found ≡ among → GathersAll cs
+    → with_calls found (c ∷ cs) ≡ found ++ filter (is_new found) (different (c ∷ cs))
 with-more found c cs true e gathers =
     let same : filter (is_new found) (filter (λ other. not (same_op c other)) (different cs)) ≡ filter (is_new found) (different cs) =
     filter-both (is_new found) (λ other. not (same_op c other)) (different cs)
-    ∙ filter-same (λ x. not (same_op c x) && is_new found x) (is_new found) (different cs) (λ x. old_step (same_op c x) (list_any (λ f. same_op f x) found) (λ h. any-same found c x h ∙ e)) in
+    ∙ filter-same (λ x. not (same_op c x) && is_new found x) (is_new found) (different cs)
+    (λ x. old_step (same_op c x) (list_any (λ f. same_op f x) found) (λ h. any-same found c x h ∙ e)) in
     rw (e, same) (gathers found)
 with-more found c cs false e gathers =
     let fewer : filter (is_new (found ++ c ∷ [])) (different cs) ≡ filter (is_new found) (filter (λ other. not (same_op c other)) (different cs)) =
-    filter-same (is_new (found ++ c ∷ [])) (λ x. not (same_op c x) && is_new found x) (different cs) (λ x. ap not (list_any-append (λ f. same_op f x) found (c ∷ [])) ∙ new_step (list_any (λ f. same_op f x) found) (same_op c x))
+    filter-same (is_new (found ++ c ∷ [])) (λ x. not (same_op c x) && is_new found x) (different cs)
+    (λ x. ap not (list_any-append (λ f. same_op f x) found (c ∷ [])) ∙ new_step (list_any (λ f. same_op f x) found) (same_op c x))
     ∙ sym (filter-both (is_new found) (λ other. not (same_op c other)) (different cs)) in
-    rw e (gathers (found ++ c ∷ []) ∙ ap (λ l. (found ++ c ∷ []) ++ l) fewer ∙ sym (joined found (c ∷ []) (filter (is_new found) (filter (λ other. not (same_op c other)) (different cs)))))
+    rw e (gathers (found ++ c ∷ []) ∙ ap (λ l. (found ++ c ∷ []) ++ l) fewer ∙ sym
+    (joined found (c ∷ []) (filter (is_new found) (filter (λ other. not (same_op c other)) (different cs)))))
 
 with-different : (cs : List OpName) → GathersAll cs
 with-different [] = λ found. sym (append-nil found)

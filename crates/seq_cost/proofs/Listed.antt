@@ -2,7 +2,8 @@
 use Rattle.std.proofs.Common.{◌≡◌, ℕ, ◌+◌, List, [], ◌∷◌, ◌++◌, refl, ap}
 use Rattle.seq_tree.specs.Names.{Name}
 use Rattle.seq_tree.specs.Lists.{Each}
-use Rattle.seq_tree.specs.Statements.{Statement, Statements, Branches, Null, Assign, If, For, ExitWhen, Call, Work, Put, End, Then, Nothing, Else, When}
+use Rattle.seq_tree.specs.Statements.{Statement, Statements, Branches, Null, Assign, If, For, ExitWhen, Call, Work, Put, End, Then, Nothing}
+use Rattle.seq_tree.specs.Statements.{Else, When}
 use Rattle.seq_tree.specs.Calls.{statement_calls, block_calls, branch_calls}
 use Rattle.seq_tree.specs.Dearest.{Weights, dearest_statement, dearest, dearest_branch}
 use Rattle.seq_tree.specs.declared.tree.Costs.{Costs}
@@ -46,10 +47,18 @@ module _ (costs : Costs) (work : ℕ → ℕ) (f g : Name → Name → ℕ) wher
     pub block-same : (b : Statements) → Each Same (block_calls b) → dearest v b ≡ dearest w b
     block-same End same = refl
     block-same (Then first rest) same =
-        rw (statement-same first (each-left Same (statement_calls first) (block_calls rest) same), block-same rest (each-right Same (statement_calls first) (block_calls rest) same)) refl
+        rw (
+          statement-same first (each-left Same (statement_calls first) (block_calls rest) same),
+          block-same rest (each-right Same
+              (statement_calls first) (block_calls rest) same),
+        ) refl
 
     branches-same : (b : Branches) → Each Same (branch_calls b) → dearest_branch v b ≡ dearest_branch w b
     branches-same Nothing same = refl
     branches-same (Else block) same = block-same block same
     branches-same (When condition block others) same =
-        rw (block-same block (each-left Same (block_calls block) (branch_calls others) same), branches-same others (each-right Same (block_calls block) (branch_calls others) same)) refl
+        rw (
+          block-same block (each-left Same (block_calls block) (branch_calls others) same),
+          branches-same others (each-right Same
+              (block_calls block) (branch_calls others) same),
+        ) refl

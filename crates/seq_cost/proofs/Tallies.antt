@@ -18,25 +18,32 @@ tally w place spent (Then first rest) = unless_over (within_most (spent + deares
 -- what a tally tells
 abbrev pub Told : Weights → ℕ → ℕ → Statements → Result ℕ ℕ → Type 0
 Told w place spent b (Ok sum) = (sum ≡ spent + dearest w b) × (sum ≤ most)
-Told w place spent b (Err at) = (k : ℕ) × (at ≡ place + k) × (spent + dearest w (front k b) ≤ most) × (most < spent + dearest w (front (suc k) b)) × (most < spent + dearest w b)
+Told w place spent b (Err at) = (k : ℕ) × (at ≡ place + k) × (spent + dearest w (front k b) ≤ most) × (most < spent + dearest w (front (suc k) b))
+    × (most < spent + dearest w b)
 
 after : (w : Weights) (place spent : ℕ) (first : Statement) (rest : Statements) (r : Result ℕ ℕ) →
     Told w (suc place) (spent + dearest_statement w first) rest r → Told w place spent (Then first rest) r
 after w place spent first rest (Ok sum) (e, fits) = (grind (arith, e), fits)
-after w place spent first rest (Err at) (k, e, before, with_it, whole) = (suc k, grind (arith, e), grind (arith, before), grind (arith, with_it), grind (arith, whole))
+after w place spent first rest (Err at) (k, e, before, with_it, whole)
+    = (suc k, grind (arith, e), grind (arith, before), grind (arith, with_it), grind (arith, whole))
 
-here : (w : Weights) (place spent : ℕ) (first : Statement) (rest : Statements) → spent ≤ most → most < spent + dearest_statement w first → Told w place spent (Then first rest) (Err place)
+here : (w : Weights) (place spent : ℕ) (first : Statement) (rest : Statements) → spent ≤ most → most < spent + dearest_statement w first
+    → Told w place spent (Then first rest) (Err place)
 here w place spent first rest fits over = (0, grind arith, grind (arith, fits), grind (arith, over), grind (arith, over))
 
-step : (w : Weights) (place spent : ℕ) (first : Statement) (rest : Statements) (over : Bool) → nat_lt most (spent + dearest_statement w first) ≡ over → spent ≤ most →
-    ((spent + dearest_statement w first ≤ most) → Told w (suc place) (spent + dearest_statement w first) rest (tally w (suc place) (spent + dearest_statement w first) rest)) →
+step : (w : Weights) (place spent : ℕ) (first : Statement) (rest : Statements) (over : Bool) → nat_lt most (spent + dearest_statement w first) ≡ over
+    → spent ≤ most →
+    ((spent + dearest_statement w first ≤ most)
+    → Told w (suc place) (spent + dearest_statement w first) rest (tally w (suc place) (spent + dearest_statement w first) rest)) →
     Told w place spent (Then first rest) (tally w place spent (Then first rest))
 step w place spent first rest true e fits more = rw e (here w place spent first rest fits (grind (arith, e)))
 step w place spent first rest false e fits more = rw e (after w place spent first rest _ (more (grind (arith, e))))
 
 pub tally-told : (w : Weights) (place spent : ℕ) (b : Statements) → spent ≤ most → Told w place spent b (tally w place spent b)
 tally-told w place spent End fits = (grind arith, fits)
-tally-told w place spent (Then first rest) fits = step w place spent first rest (nat_lt most (spent + dearest_statement w first)) refl fits (λ h. tally-told w (suc place) (spent + dearest_statement w first) rest h)
+tally-told w place spent (Then first rest) fits
+    = step w place spent first rest (nat_lt most (spent + dearest_statement w first)) refl fits
+    (λ h. tally-told w (suc place) (spent + dearest_statement w first) rest h)
 
 abbrev ok_or : ℕ → Result ℕ ℕ → ℕ
 ok_or other (Ok n) = n

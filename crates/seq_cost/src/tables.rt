@@ -41,7 +41,8 @@ impl<'a, V: Copy + Drop> OpTable<'a, V> {
         op: &'a Name,
         value: V,
     ) -> Result<(), NoMemory>
-        ensures { OnOk result ((n : OpTree) → at self.new n ≡ (if same_op (record { object = object.entry.now; op = op.entry.now }) n then Some value else at self.old n)) }
+        ensures { OnOk result ((n : OpTree)
+            → at self.new n ≡ (if same_op (record { object = object.entry.now; op = op.entry.now }) n then Some value else at self.old n)) }
     {
         let mut ops = match self.objects.remove(object.bytes()) {
             None => BTreeMap::new(alloc),

@@ -41,7 +41,8 @@ fn add_statement<'a>(stmt: &'a Stmt, found: &mut Vec<Call<'a>>) -> Result<(), No
 #[cycle(gathering)]
 #[tactic(auto, using(crate::proofs::Gathering::gathering_laws))]
 fn add_arms<'a>(arms: &'a [Arm], found: &mut Vec<Call<'a>>) -> Result<(), NoMemory>
-    ensures { IfOk result (λ _. map call_of found.new.items ≡ map call_of found.old.items ++ branch_calls (branches_of (map arm_of arms.entry.now) Nothing)) }
+    ensures { IfOk result (λ _. map call_of found.new.items ≡ map call_of found.old.items
+        ++ branch_calls (branches_of (map arm_of arms.entry.now) Nothing)) }
 {
     'arms: for arm in arms {
         add_block(&arm.block, found)?;
@@ -53,7 +54,8 @@ fn add_arms<'a>(arms: &'a [Arm], found: &mut Vec<Call<'a>>) -> Result<(), NoMemo
 #[cycle(gathering)]
 #[tactic(auto, using(crate::proofs::Gathering::gathering_laws))]
 fn add_other<'a>(other: &'a Option<Block>, found: &mut Vec<Call<'a>>) -> Result<(), NoMemory>
-    ensures { IfOk result (λ _. map call_of found.new.items ≡ map call_of found.old.items ++ branch_calls (otherwise (option_map block_of other.entry.now))) }
+    ensures { IfOk result (λ _. map call_of found.new.items ≡ map call_of found.old.items
+        ++ branch_calls (otherwise (option_map block_of other.entry.now))) }
 {
     match other {
         None => Ok(()),

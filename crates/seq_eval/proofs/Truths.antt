@@ -19,7 +19,8 @@ truth_small true = omega arith
 truth_small false = omega arith
 
 -- the operands of a logical operator that gives a Boolean are Booleans
-logical_operands : (named : Bool) (left right : Option Sort) → result_sort Logical named left right ≡ Some Boolean → (left ≡ Some Boolean) × (right ≡ Some Boolean)
+logical_operands : (named : Bool) (left right : Option Sort) → result_sort Logical named left right ≡ Some Boolean
+    → (left ≡ Some Boolean) × (right ≡ Some Boolean)
 logical_operands named (Some Boolean) (Some Boolean) e = (refl, refl)
 logical_operands named (Some Boolean) (Some Word) e = cc
 logical_operands named (Some Boolean) None e = cc
@@ -55,10 +56,12 @@ binary_truth And left right vs l r e =
     let small = (l s.0).1 in let below = and_le_l (value left vs) (value right vs) in ((l s.0).0, omega arith)
 binary_truth Or left right vs l r e =
     let s = logical_operands (contains_name left || contains_name right) (sort_of left) (sort_of right) e in
-    let a = (l s.0).1 in let b = (r s.1).1 in let below = or_lt 1 (value left vs) (value right vs) (omega arith) (omega arith) in ((l s.0).0, omega arith)
+    let a = (l s.0).1 in let b = (r s.1).1 in let below = or_lt 1 (value left vs) (value right vs) (omega arith) (omega arith)
+    in ((l s.0).0, omega arith)
 binary_truth Xor left right vs l r e =
     let s = logical_operands (contains_name left || contains_name right) (sort_of left) (sort_of right) e in
-    let a = (l s.0).1 in let b = (r s.1).1 in let below = xor_lt 1 (value left vs) (value right vs) (omega arith) (omega arith) in ((l s.0).0, omega arith)
+    let a = (l s.0).1 in let b = (r s.1).1 in let below = xor_lt 1 (value left vs) (value right vs) (omega arith) (omega arith)
+    in ((l s.0).0, omega arith)
 binary_truth Eq left right vs l r e = (refl, truth_small _)
 binary_truth Ne left right vs l r e = (refl, truth_small _)
 binary_truth Lt left right vs l r e = (refl, truth_small _)

@@ -12,9 +12,13 @@ pub front-none : (before after text : List ℕ) → after ≡ before → AddsFro
 front-none before after text e = (0, e ∙ sym (append-nil before))
 
 -- a text, and then a front of another
-pub front-then : (before middle after first next : List ℕ) → middle ≡ before ++ first → AddsFront middle after next → AddsFront before after (first ++ next)
-front-then before middle after first next e (n, a) =
-    (length first + n, a ∙ ap (λ t. t ++ take n next) e ∙ append_assoc before first (take n next) ∙ ap (λ t. before ++ t) (sym (take-append-add first next n)))
+pub front-then : (before middle after first next : List ℕ) → middle ≡ before ++ first → AddsFront middle after next
+    → AddsFront before after (first ++ next)
+front-then before middle after first next e (n, a) = (
+  length first + n,
+  a ∙ ap (λ t. t ++ take n next) e ∙ append_assoc before first (take n next) ∙ ap (λ t. before
+      ++ t) (sym (take-append-add first next n)),
+)
 
 -- a front of a text is one of a longer text
 pub front-longer : (before after first next : List ℕ) → AddsFront before after first → AddsFront before after (first ++ next)
@@ -32,12 +36,14 @@ adds-front (Ok done) before after text h a = absurd (IfOk-from_err {T = Unit {0}
 adds-front (Err fault) before after text h a = a
 
 -- a text, and then another
-pub adds-then : (r : Result (Unit {0}) NoMemory) (before middle after first next : List ℕ) → middle ≡ before ++ first → Adds r middle after next → Adds r before after (first ++ next)
+pub adds-then : (r : Result (Unit {0}) NoMemory) (before middle after first next : List ℕ) → middle ≡ before ++ first → Adds r middle after next
+    → Adds r before after (first ++ next)
 adds-then (Ok done) before middle after first next e a = a ∙ ap (λ t. t ++ next) e ∙ append_assoc before first next
 adds-then (Err fault) before middle after first next e a = front-then before middle after first next e a
 
 -- the same text in other words
-pub adds-same : (r : Result (Unit {0}) NoMemory) (before after text other : List ℕ) → text ≡ other → Adds r before after text → Adds r before after other
+pub adds-same : (r : Result (Unit {0}) NoMemory) (before after text other : List ℕ) → text ≡ other → Adds r before after text
+    → Adds r before after other
 adds-same (Ok done) before after text other e a = a ∙ ap (λ t. before ++ t) e
 adds-same (Err fault) before after text other e a = front-same before after text other e a
 
@@ -55,20 +61,24 @@ front-of start after rest text h e =
     (k, sym front ∙ ap (take (length start + k)) e ∙ take-append-add start text k)
 
 -- a front of the next text, where others were added before it
-pub front-onward : (start before after first next text : List ℕ) → length start ≤ length before → before ++ (first ++ next) ≡ start ++ text → AddsFront before after first → AddsFront start after text
+pub front-onward : (start before after first next text : List ℕ) → length start ≤ length before → before ++ (first ++ next) ≡ start ++ text
+    → AddsFront before after first → AddsFront start after text
 front-onward start before after first next text h e (n, a) =
     let more : length before ≤ length after = omega (arith, ap length a ∙ length-append before (take n first)) in
     let split : after ++ (drop n first ++ next) ≡ before ++ (first ++ next) =
-    ap (λ t. t ++ (drop n first ++ next)) a ∙ append_assoc before (take n first) (drop n first ++ next) ∙ ap (λ t. before ++ t) (sym (append_assoc (take n first) (drop n first) next) ∙ ap (λ t. t ++ next) (take-append-drop n first)) in
+    ap (λ t. t ++ (drop n first ++ next)) a ∙ append_assoc before (take n first) (drop n first ++ next) ∙ ap (λ t. before ++ t)
+    (sym (append_assoc (take n first) (drop n first) next) ∙ ap (λ t. t ++ next) (take-append-drop n first)) in
     front-of start after (drop n first ++ next) text (omega (arith, h, more)) (split ∙ e)
 
 -- a text that is written, and then another
-pub writes-then : (r : Result (Unit {0}) NoMemory) (before middle after first next : List ℕ) → middle ≡ before ++ first → Writes r middle after next → Writes r before after (first ++ next)
+pub writes-then : (r : Result (Unit {0}) NoMemory) (before middle after first next : List ℕ) → middle ≡ before ++ first → Writes r middle after next
+    → Writes r before after (first ++ next)
 writes-then (Ok done) before middle after first next e w = w ∙ ap (λ t. t ++ next) e ∙ append_assoc before first next
 writes-then (Err fault) before middle after first next e w = tt
 
 -- the same text in other words
-pub writes-same : (r : Result (Unit {0}) NoMemory) (before after text other : List ℕ) → text ≡ other → Writes r before after text → Writes r before after other
+pub writes-same : (r : Result (Unit {0}) NoMemory) (before after text other : List ℕ) → text ≡ other → Writes r before after text
+    → Writes r before after other
 writes-same (Ok done) before after text other e w = w ∙ ap (λ t. before ++ t) e
 writes-same (Err fault) before after text other e w = tt
 
@@ -82,9 +92,11 @@ writes-added (Ok done) before after text e = e
 writes-added (Err fault) before after text e = tt
 
 -- two texts more, where a whole is they and a rest
-pub two-more : (before one two first second rest whole text : List ℕ) → one ≡ before ++ first → two ≡ one ++ second → whole ≡ first ++ (second ++ rest) → before ++ whole ≡ text → two ++ rest ≡ text
+pub two-more : (before one two first second rest whole text : List ℕ) → one ≡ before ++ first → two ≡ one ++ second
+    → whole ≡ first ++ (second ++ rest) → before ++ whole ≡ text → two ++ rest ≡ text
 two-more before one two first second rest whole text e f w all =
-    ap (λ t. t ++ rest) (f ∙ ap (λ t. t ++ second) e) ∙ append_assoc (before ++ first) second rest ∙ append_assoc before first (second ++ rest) ∙ ap (λ t. before ++ t) (sym w) ∙ all
+    ap (λ t. t ++ rest) (f ∙ ap (λ t. t ++ second) e) ∙ append_assoc (before ++ first) second rest ∙ append_assoc before first (second ++ rest) ∙ ap
+    (λ t. before ++ t) (sym w) ∙ all
 
 pub ruleset writing = (writes-then, writes-printed, writes-added)
 

@@ -3,7 +3,8 @@ use Rattle.std.proofs.Common.{◌≡◌, ℕ, suc, ◌+◌, ◌*◌, min, replic
 use Rattle.std.proofs.lemmas.Grind.{flat_map-append}
 use Rattle.seq_tree.specs.Layout.{layout, line_text, tokens_text}
 use Rattle.seq_tree.specs.Spelling.{Line, line, block_lines, branch_lines, statement_lines, expression_tokens, actual_tokens}
-use Rattle.seq_tree.specs.Statements.{Statement, Statements, Branches, Null, Assign, If, For, ExitWhen, Call, Work, Put, End, Then, Nothing, Else, When}
+use Rattle.seq_tree.specs.Statements.{Statement, Statements, Branches, Null, Assign, If, For, ExitWhen, Call, Work, Put, End, Then, Nothing}
+use Rattle.seq_tree.specs.Statements.{Else, When}
 use Rattle.seq_tree.specs.declared.token.Token.{Token}
 use Rattle.seq_tree.specs.declared.token.Token.TheVariants.{Word, Number, Sign}
 use Rattle.seq_tree.specs.declared.token.Mark.TheVariants.{LeftParen, RightParen, Semicolon, Dot, DotDot, Becomes}
@@ -40,31 +41,41 @@ mutual
   same-statement (Assign target value) n m e = same-one n m e (Word target ∷ Sign Becomes ∷ (expression_tokens value ++ Sign Semicolon ∷ []))
   same-statement (If branches) n m e =
       let last : List Token = Word (codes "end") ∷ Word (codes "if") ∷ Sign Semicolon ∷ [] in
-      same-append (branch_lines (codes "if") n branches) (line n last ∷ []) (branch_lines (codes "if") m branches) (line m last ∷ []) (same-branches branches (codes "if") n m e) (same-one n m e last)
+      same-append (branch_lines (codes "if") n branches) (line n last ∷ []) (branch_lines (codes "if") m branches) (line m last ∷ [])
+      (same-branches branches (codes "if") n m e) (same-one n m e last)
   same-statement (For name low high body) n m e =
-      let first : List Token = Word (codes "for") ∷ Word name ∷ Word (codes "in") ∷ Word (codes "word") ∷ Word (codes "range") ∷ Number low ∷ Sign DotDot ∷ Number high ∷ Word (codes "loop") ∷ [] in
+      let first : List Token = Word (codes "for") ∷ Word name ∷ Word (codes "in") ∷ Word (codes "word") ∷ Word (codes "range") ∷ Number low
+      ∷ Sign DotDot ∷ Number high ∷ Word (codes "loop") ∷ [] in
       let last : List Token = Word (codes "end") ∷ Word (codes "loop") ∷ Sign Semicolon ∷ [] in
-      both (line_text (line n first)) (line_text (line m first)) (layout (block_lines (suc n) body ++ line n last ∷ [])) (layout (block_lines (suc m) body ++ line m last ∷ [])) (same-line n m e first)
-      (same-append (block_lines (suc n) body) (line n last ∷ []) (block_lines (suc m) body) (line m last ∷ []) (same-block body (suc n) (suc m) (same-deeper n m e)) (same-one n m e last))
-  same-statement (ExitWhen condition) n m e = same-one n m e (Word (codes "exit") ∷ Word (codes "when") ∷ (expression_tokens condition ++ Sign Semicolon ∷ []))
+      both (line_text (line n first)) (line_text (line m first)) (layout (block_lines (suc n) body ++ line n last ∷ []))
+      (layout (block_lines (suc m) body ++ line m last ∷ [])) (same-line n m e first)
+      (same-append (block_lines (suc n) body) (line n last ∷ []) (block_lines (suc m) body) (line m last ∷ [])
+      (same-block body (suc n) (suc m) (same-deeper n m e)) (same-one n m e last))
+  same-statement (ExitWhen condition) n m e
+      = same-one n m e (Word (codes "exit") ∷ Word (codes "when") ∷ (expression_tokens condition ++ Sign Semicolon ∷ []))
   same-statement (Call object op actuals) n m e = same-one n m e (Word object ∷ Sign Dot ∷ Word op ∷ (actual_tokens actuals ++ Sign Semicolon ∷ []))
   same-statement (Work ticks) n m e = same-one n m e (Word (codes "work") ∷ Sign LeftParen ∷ Number ticks ∷ Sign RightParen ∷ Sign Semicolon ∷ [])
-  same-statement (Put value) n m e = same-one n m e (Word (codes "put") ∷ Sign LeftParen ∷ (expression_tokens value ++ Sign RightParen ∷ Sign Semicolon ∷ []))
+  same-statement (Put value) n m e
+      = same-one n m e (Word (codes "put") ∷ Sign LeftParen ∷ (expression_tokens value ++ Sign RightParen ∷ Sign Semicolon ∷ []))
 
   pub same-block : (b : Statements) (n m : ℕ) → min n 10 ≡ min m 10 → layout (block_lines n b) ≡ layout (block_lines m b)
   same-block End n m e = refl
   same-block (Then first rest) n m e =
-      same-append (statement_lines n first) (block_lines n rest) (statement_lines m first) (block_lines m rest) (same-statement first n m e) (same-block rest n m e)
+      same-append (statement_lines n first) (block_lines n rest) (statement_lines m first) (block_lines m rest) (same-statement first n m e)
+      (same-block rest n m e)
 
   same-branches : (b : Branches) (word : List ℕ) (n m : ℕ) → min n 10 ≡ min m 10 → layout (branch_lines word n b) ≡ layout (branch_lines word m b)
   same-branches Nothing word n m e = refl
   same-branches (Else block) word n m e =
       let first : List Token = Word (codes "else") ∷ [] in
-      both (line_text (line n first)) (line_text (line m first)) (layout (block_lines (suc n) block)) (layout (block_lines (suc m) block)) (same-line n m e first) (same-block block (suc n) (suc m) (same-deeper n m e))
+      both (line_text (line n first)) (line_text (line m first)) (layout (block_lines (suc n) block)) (layout (block_lines (suc m) block))
+      (same-line n m e first) (same-block block (suc n) (suc m) (same-deeper n m e))
   same-branches (When condition block others) word n m e =
       let first : List Token = Word word ∷ (expression_tokens condition ++ Word (codes "then") ∷ []) in
-      both (line_text (line n first)) (line_text (line m first)) (layout (block_lines (suc n) block ++ branch_lines (codes "elsif") n others)) (layout (block_lines (suc m) block ++ branch_lines (codes "elsif") m others)) (same-line n m e first)
-      (same-append (block_lines (suc n) block) (branch_lines (codes "elsif") n others) (block_lines (suc m) block) (branch_lines (codes "elsif") m others)
+      both (line_text (line n first)) (line_text (line m first)) (layout (block_lines (suc n) block ++ branch_lines (codes "elsif") n others))
+      (layout (block_lines (suc m) block ++ branch_lines (codes "elsif") m others)) (same-line n m e first)
+      (same-append (block_lines (suc n) block) (branch_lines (codes "elsif") n others) (block_lines (suc m) block)
+      (branch_lines (codes "elsif") m others)
       (same-block block (suc n) (suc m) (same-deeper n m e)) (same-branches others (codes "elsif") n m e))
 
 capped : (level : ℕ) → min (min level 10 + 1) 10 ≡ min (suc level) 10

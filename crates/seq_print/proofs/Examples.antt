@@ -8,7 +8,8 @@ use Rattle.seq_tree.specs.Statements.{Null, If, Call, End, Then, Else, When}
 use Rattle.seq_print.specs.Printing.{Writes, actuals_text, expression_text, more_text}
 
 -- `(a + b) mod c`, and `a and not b`
-grouped : expression_text (Binary Mod (Paren (Binary Add (Variable (codes "a")) (Variable (codes "b")))) (Variable (codes "c"))) ≡ codes "(a + b) mod c"
+grouped : expression_text (Binary Mod (Paren (Binary Add (Variable (codes "a")) (Variable (codes "b")))) (Variable (codes "c")))
+    ≡ codes "(a + b) mod c"
 grouped = refl
 
 negated : expression_text (Binary And (Variable (codes "a")) (Not (Variable (codes "b")))) ≡ codes "a and not b"
@@ -39,6 +40,8 @@ lost : Writes (Ok tt) (codes "a") (codes "b") (codes "b") → ⊥
 lost e = cc
 
 -- a block
-nested : layout (block_lines 1 (Then (If (When (Binary Ge (Variable (codes "x")) (Variable (codes "y"))) (Then (Call (codes "o") (codes "p") (Variable (codes "x") ∷ [])) End) (Else (Then Null End)))) End))
+nested : layout (block_lines 1
+    (Then (If (When (Binary Ge (Variable (codes "x")) (Variable (codes "y"))) (Then (Call (codes "o") (codes "p") (Variable (codes "x") ∷ [])) End)
+    (Else (Then Null End)))) End))
     ≡ codes "   if x >= y then\n      o.p (x);\n   else\n      null;\n   end if;\n"
 nested = refl

@@ -73,7 +73,8 @@ sign-name m [] rest e = cc
 sign-name m (c ∷ cs) rest e = sign-word (c ∷ cs) c (cs ++ rest) m (letter-no_dot c (and_parts _ _ e).0)
 
 -- a mark before digits
-pub sign-digits : (m : Mark) (n : ℕ) (ds rest : List ℕ) → all_ascii_digits ds ≡ true → 0 < length ds → parts (Sign m) (gap (Sign m) (Number n) ++ (ds ++ rest)) ≡ true
+pub sign-digits : (m : Mark) (n : ℕ) (ds rest : List ℕ) → all_ascii_digits ds ≡ true → 0 < length ds
+    → parts (Sign m) (gap (Sign m) (Number n) ++ (ds ++ rest)) ≡ true
 sign-digits m n [] rest e h = absurd (omega arith)
 sign-digits m n (d ∷ ds) rest e h = sign-number n d (ds ++ rest) m (digit-no_dot d (and_parts _ _ e).0)
 
@@ -83,7 +84,8 @@ pub record AreDigits (n : ℕ) (ds : List ℕ) : Type 0 where
   pub some : 0 < length ds
 
 -- with what the layout puts between two tokens that stay apart, the first is left as it is
-pub parts-next : (t u : Token) (rest : List ℕ) → ((n : ℕ) → is_readable (Number n) ≡ true → AreDigits n (decimal n)) → is_readable u ≡ true → are_apart t u ≡ true → parts t (gap t u ++ (token_text u ++ rest)) ≡ true
+pub parts-next : (t u : Token) (rest : List ℕ) → ((n : ℕ) → is_readable (Number n) ≡ true → AreDigits n (decimal n)) → is_readable u ≡ true
+    → are_apart t u ≡ true → parts t (gap t u ++ (token_text u ++ rest)) ≡ true
 parts-next (Word name) (Word other) rest written ok apart = refl
 parts-next (Word name) (Number n) rest written ok apart = refl
 parts-next (Word name) (Sign m) rest written ok apart = word-sign name rest m

@@ -1,5 +1,6 @@
 -- A token at the front of a text is read as it is, where what follows leaves it so.
-use Rattle.std.proofs.Common.{◌≡◌, ℕ, suc, ◌+◌, ◌-◌, ◌*◌, ◌≤◌, ◌<◌, ◌^◌, Bool, true, false, ◌&&◌, ◌||◌, cond, List, [], ◌∷◌, ◌++◌, length, take, drop, Some, None, Ok, eqb, ltb, refl, sym, ap, ◌∙◌, arith, decimal}
+use Rattle.std.proofs.Common.{◌≡◌, ℕ, suc, ◌+◌, ◌-◌, ◌*◌, ◌≤◌, ◌<◌, ◌^◌, Bool, true, false, ◌&&◌, ◌||◌, cond, List, [], ◌∷◌, ◌++◌, length, take}
+use Rattle.std.proofs.Common.{drop, Some, None, Ok, eqb, ltb, refl, sym, ap, ◌∙◌, arith, decimal}
 use Rattle.std.specs.Char.{is_ascii_alphabetic, is_ascii_alphanumeric, is_ascii_digit}
 use Rattle.std.specs.Bool.{⊤}
 use Rattle.std.specs.Int.{IsInRange}
@@ -13,7 +14,8 @@ use Rattle.std.proofs.Math.Seq.{take-append_seam, drop-append_seam}
 use Rattle.seq_tree.specs.declared.token.Place.{Place}
 use Rattle.seq_tree.specs.declared.token.Token.TheVariants.{Word, Number, Sign}
 use Rattle.seq_tree.specs.declared.token.Mark.{Mark}
-use Rattle.seq_tree.specs.Lexis.{Name, Numeral, Other, start_of, is_space, begins_comment, begins_part, is_underscore, longest, goes_on, is_name, front_by, name_front, number_front, mark_front, value_from}
+use Rattle.seq_tree.specs.Lexis.{Name, Numeral, Other, start_of, is_space, begins_comment, begins_part, is_underscore, longest, goes_on, is_name}
+use Rattle.seq_tree.specs.Lexis.{front_by, name_front, number_front, mark_front, value_from}
 use Rattle.seq_tree.specs.Marks.{mark_of}
 use Rattle.seq_tree.proofs.Longest.{longest-part, longest-ends, longest-under, longest-nil}
 use Rattle.token_read.proofs.FrontLaws.{front-name, front-numeral}
@@ -59,7 +61,8 @@ run-step part false c (d ∷ ds) rest false e g one two =
     longest-under part c (d ∷ (ds ++ rest)) e u ∙ rw (two h.1) (more (length ds))
 
 -- the whole of a run before what ends it
-longest-whole : (part : ℕ → Bool) (under : Bool) (cs rest : List ℕ) → goes_on part under cs ≡ true → Ends part rest → longest (goes_on part under) (cs ++ rest) ≡ length cs
+longest-whole : (part : ℕ → Bool) (under : Bool) (cs rest : List ℕ) → goes_on part under cs ≡ true → Ends part rest
+    → longest (goes_on part under) (cs ++ rest) ≡ length cs
 longest-whole part under [] rest g ends = longest-stop part under rest ends
 longest-whole part under (c ∷ cs) rest g ends =
     run-step part under c cs rest (part c) refl g (λ h. longest-whole part false cs rest h ends) (λ h. longest-whole part true cs rest h ends)
@@ -102,12 +105,14 @@ after-word : (name rest : List ℕ) → parts (Word name) rest ≡ true → Ends
 after-word name [] e = tt
 after-word name (c ∷ cs) e = or_parts (is_ascii_alphanumeric c) (is_underscore c) (not-true _ e)
 
-name_front-spelled : (place : Place) (text name : List ℕ) → str_to_ascii_lowercase text ≡ name → length text ≤ 64 → name_front place text ≡ Ok (record { token = Some (Word name); len = length text })
+name_front-spelled : (place : Place) (text name : List ℕ) → str_to_ascii_lowercase text ≡ name → length text ≤ 64
+    → name_front place text ≡ Ok (record { token = Some (Word name); len = length text })
 unfolding name_front
 name_front-spelled place text name e h = rw (le-ltb 64 (length text) h) (ap (λ n. Ok (record { token = Some (Word n); len = length text })) e)
 
 -- a name at the front, in capitals or not
-pub spelled-front : (place : Place) (c : ℕ) (cs rest name : List ℕ) → is_name (c ∷ cs) ≡ true → str_to_ascii_lowercase (c ∷ cs) ≡ name → length (c ∷ cs) ≤ 64 → parts (Word name) rest ≡ true
+pub spelled-front : (place : Place) (c : ℕ) (cs rest name : List ℕ) → is_name (c ∷ cs) ≡ true → str_to_ascii_lowercase (c ∷ cs) ≡ name
+    → length (c ∷ cs) ≤ 64 → parts (Word name) rest ≡ true
     → front_by (start_of c (cs ++ rest)) place (c ∷ (cs ++ rest)) ≡ Ok (record { token = Some (Word name); len = suc (length cs) })
 spelled-front place c cs rest name spelled folded short follow =
     let led = and_parts (is_ascii_alphabetic c) (goes_on is_ascii_alphanumeric false cs) spelled in
@@ -157,12 +162,14 @@ after-digits n (c ∷ cs) e =
     let a = alphanumeric-parts c p.0 in
     ((a.0, p.1), rw (a.1, p.1) refl)
 
-number_front-small : (place : Place) (ds rest : List ℕ) (n : ℕ) → value_from 0 ds ≡ n → n < 4294967296 → begins_part rest ≡ false → number_front place ds rest ≡ Ok (record { token = Some (Number n); len = length ds })
+number_front-small : (place : Place) (ds rest : List ℕ) (n : ℕ) → value_from 0 ds ≡ n → n < 4294967296 → begins_part rest ≡ false
+    → number_front place ds rest ≡ Ok (record { token = Some (Number n); len = length ds })
 unfolding number_front
 number_front-small place ds rest n e h b = let t : ltb 4294967295 n ≡ false = le-ltb 4294967295 n (omega arith) in rw (e, t, b) refl
 
 -- digits at the front
-pub digits-front : (place : Place) (n d : ℕ) (ds rest : List ℕ) → all_ascii_digits (d ∷ ds) ≡ true → value_from 0 (d ∷ ds) ≡ n → n < 4294967296 → parts (Number n) rest ≡ true
+pub digits-front : (place : Place) (n d : ℕ) (ds rest : List ℕ) → all_ascii_digits (d ∷ ds) ≡ true → value_from 0 (d ∷ ds) ≡ n → n < 4294967296
+    → parts (Number n) rest ≡ true
     → front_by (start_of d (ds ++ rest)) place (d ∷ (ds ++ rest)) ≡ Ok (record { token = Some (Number n); len = suc (length ds) })
 digits-front place n d ds rest are e h follow =
     let p = and_parts (is_ascii_digit d) (all_ascii_digits ds) are in

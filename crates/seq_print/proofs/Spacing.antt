@@ -66,13 +66,16 @@ expression-ending clings (Binary op left right) =
     ending-append clings (expression_tokens left) (op_token op ∷ expression_tokens right) ∙ expression-ending (clings_on (op_token op)) right
 
 -- an expression begins with a space behind most tokens
-pub expression-beginning : (e : Expression) (rest : List Token) → spaced false (expression_tokens e ++ rest) ≡ codes " " ++ spaced true (expression_tokens e ++ rest)
+pub expression-beginning : (e : Expression) (rest : List Token) → spaced false (expression_tokens e ++ rest)
+    ≡ codes " " ++ spaced true (expression_tokens e ++ rest)
 expression-beginning (Number n) rest = refl
 expression-beginning (Variable name) rest = refl
 expression-beginning (Paren e) rest = refl
 expression-beginning (Not e) rest = refl
 expression-beginning (Binary op left right) rest =
-    let e : (expression_tokens left ++ op_token op ∷ expression_tokens right) ++ rest ≡ expression_tokens left ++ (op_token op ∷ expression_tokens right ++ rest) = append_assoc (expression_tokens left) (op_token op ∷ expression_tokens right) rest in
+    let e : (expression_tokens left ++ op_token op ∷ expression_tokens right) ++ rest
+    ≡ expression_tokens left ++ (op_token op ∷ expression_tokens right ++ rest)
+    = append_assoc (expression_tokens left) (op_token op ∷ expression_tokens right) rest in
     ap (spaced false) e ∙ expression-beginning left (op_token op ∷ expression_tokens right ++ rest) ∙ ap (λ ts. codes " " ++ spaced true ts) (sym e)
 
 -- an expression, and what is behind it
@@ -82,7 +85,8 @@ expression-first e rest =
     ∙ ap (λ c. spaced true (expression_tokens e) ++ spaced c rest) (expression-ending true e)
     ∙ ap (λ x. x ++ spaced false rest) (sym (tokens-spaced (expression_tokens e)))
 
-pub expression-next : (e : Expression) (rest : List Token) → spaced false (expression_tokens e ++ rest) ≡ codes " " ++ (expression_text e ++ spaced false rest)
+pub expression-next : (e : Expression) (rest : List Token) → spaced false (expression_tokens e ++ rest)
+    ≡ codes " " ++ (expression_text e ++ spaced false rest)
 expression-next e rest = expression-beginning e rest ∙ ap (λ x. codes " " ++ x) (expression-first e rest)
 
 pub expression-last : (e : Expression) → spaced false (expression_tokens e) ≡ codes " " ++ expression_text e
@@ -97,12 +101,14 @@ pub not-text : (e : Expression) → expression_text (Not e) ≡ codes "not " ++ 
 not-text e = tokens-spaced (expression_tokens (Not e)) ∙ ap (λ x. codes "not" ++ x) (expression-last e)
 
 pub binary-text : (op : BinOp) (left right : Expression)
-    → expression_text (Binary op left right) ≡ expression_text left ++ ((codes " " ++ (token_text (op_token op) ++ codes " ")) ++ expression_text right)
+    → expression_text (Binary op left right)
+    ≡ expression_text left ++ ((codes " " ++ (token_text (op_token op) ++ codes " ")) ++ expression_text right)
 binary-text op left right =
     let before : List ℕ → List ℕ = λ x. expression_text left ++ x in
     tokens-spaced (expression_tokens (Binary op left right))
     ∙ expression-first left (op_token op ∷ expression_tokens right)
-    ∙ ap (λ b. before (cond b [] (codes " ") ++ (token_text (op_token op) ++ spaced (clings_on (op_token op)) (expression_tokens right)))) (op-apart op).1
+    ∙ ap (λ b. before (cond b [] (codes " ") ++ (token_text (op_token op) ++ spaced (clings_on (op_token op)) (expression_tokens right))))
+    (op-apart op).1
     ∙ ap (λ b. before (codes " " ++ (token_text (op_token op) ++ spaced b (expression_tokens right)))) (op-apart op).0
     ∙ ap (λ x. before (codes " " ++ (token_text (op_token op) ++ x))) (expression-last right)
     ∙ ap (λ x. before (codes " " ++ x)) (sym (append_assoc (token_text (op_token op)) (codes " ") (expression_text right)))
@@ -122,5 +128,6 @@ actuals-spaced (e ∷ es) =
     ap (λ ts. spaced false (Sign LeftParen ∷ ts)) (append_assoc (expression_tokens e) (more_actuals es ++ Sign RightParen ∷ []) (Sign Semicolon ∷ []))
     ∙ ap (λ ts. codes " (" ++ spaced true (expression_tokens e ++ ts)) (append_assoc (more_actuals es) (Sign RightParen ∷ []) (Sign Semicolon ∷ []))
     ∙ ap (λ x. codes " (" ++ x) (expression-first e (more_actuals es ++ Sign RightParen ∷ Sign Semicolon ∷ []))
-    ∙ ap (λ x. codes " (" ++ (expression_text e ++ x)) (more-spaced es (Sign RightParen ∷ Sign Semicolon ∷ []) ∙ sym (append_assoc (more_text es) (codes ")") (codes ";")))
+    ∙ ap (λ x. codes " (" ++ (expression_text e ++ x)) (more-spaced es (Sign RightParen ∷ Sign Semicolon ∷ []) ∙ sym
+    (append_assoc (more_text es) (codes ")") (codes ";")))
     ∙ ap (λ x. codes " (" ++ x) (sym (append_assoc (expression_text e) (more_text es ++ codes ")") (codes ";")))

@@ -1,5 +1,6 @@
 -- Each token of a text is readable: a name is folded and has at most 64 bytes, and a number is below 2 ^ 32.
-use Rattle.std.proofs.Common.{◌≡◌, ℕ, zero, suc, ◌+◌, ◌≤◌, Bool, true, false, not, cond, ◌&&◌, List, [], ◌∷◌, length, map, take, Option, Some, None, Result, Ok, Err, ◌⊎◌, inl, inr, ltb, refl, sym, ap, subst, ◌∙◌, arith}
+use Rattle.std.proofs.Common.{◌≡◌, ℕ, zero, suc, ◌+◌, ◌≤◌, Bool, true, false, not, cond, ◌&&◌, List, [], ◌∷◌, length, map, take, Option, Some}
+use Rattle.std.proofs.Common.{None, Result, Ok, Err, ◌⊎◌, inl, inr, ltb, refl, sym, ap, subst, ◌∙◌, arith}
 use Rattle.std.specs.Bool.{⊤}
 use Rattle.std.specs.Char.{is_ascii_alphabetic, is_ascii_alphanumeric, is_ascii_digit, to_ascii_lowercase}
 use Rattle.std.specs.List.{list_all}
@@ -14,7 +15,9 @@ use Rattle.seq_tree.specs.declared.token.Place.{Place}
 use Rattle.seq_tree.specs.declared.token.Spanned.{Spanned}
 use Rattle.seq_tree.specs.declared.token.Token.{Token}
 use Rattle.seq_tree.specs.declared.token.Token.TheVariants.{Word, Sign}
-use Rattle.seq_tree.specs.Lexis.{Misread, Front, Start, Space, Comment, Name, Numeral, Other, start_of, is_space, begins_comment, begins_part, is_underscore, longest, goes_on, is_name, front_by, name_front, number_front, mark_front, value_from, place_after, then_others, behind, tokens, tokens_after, plain}
+use Rattle.seq_tree.specs.Lexis.{Misread, Front, Start, Space, Comment, Name, Numeral, Other, start_of, is_space, begins_comment, begins_part}
+use Rattle.seq_tree.specs.Lexis.{is_underscore, longest, goes_on, is_name, front_by, name_front, number_front, mark_front, value_from}
+use Rattle.seq_tree.specs.Lexis.{place_after, then_others, behind, tokens, tokens_after, plain}
 use Rattle.seq_tree.proofs.Longest.{longest-cons, longest-nil}
 use Rattle.token_read.proofs.FrontLaws.{front-name}
 use Rattle.seq_print.specs.Readable.{is_readable}
@@ -36,7 +39,8 @@ front-passes : (test : List ℕ → Bool) (xs : List ℕ) → (longest test xs �
 front-passes test [] = inl (longest-nil test)
 front-passes test (b ∷ bs) =
     let P : ℕ → Type 0 = λ m. (m ≡ 0) ⊎ (test (take m (b ∷ bs)) ≡ true) in
-    subst P (sym (longest-cons test b bs)) (front-step test b bs (longest (λ xs. test (b ∷ xs)) bs) (test (b ∷ [])) refl (front-passes (λ xs. test (b ∷ xs)) bs))
+    subst P (sym (longest-cons test b bs)) (front-step test b bs (longest (λ xs. test (b ∷ xs)) bs) (test (b ∷ [])) refl
+    (front-passes (λ xs. test (b ∷ xs)) bs))
 
 run-or-none : (part : ℕ → Bool) (cs : List ℕ) (n : ℕ) → (n ≡ 0) ⊎ (goes_on part false (take n cs) ≡ true) → goes_on part false (take n cs) ≡ true
 run-or-none part cs n (inl z) = rw z refl
@@ -49,10 +53,12 @@ run-passes part cs = run-or-none part cs _ (front-passes (goes_on part false) cs
 one_more : (n : ℕ) → 1 + n ≡ suc n
 one_more n = omega arith
 
-name-passes : (c : ℕ) (cs : List ℕ) → is_ascii_alphabetic c ≡ true → is_name (take (1 + longest (goes_on is_ascii_alphanumeric false) cs) (c ∷ cs)) ≡ true
+name-passes : (c : ℕ) (cs : List ℕ) → is_ascii_alphabetic c ≡ true
+    → is_name (take (1 + longest (goes_on is_ascii_alphanumeric false) cs) (c ∷ cs)) ≡ true
 name-passes c cs e =
     let run = longest (goes_on is_ascii_alphanumeric false) cs in
-    ap (λ n. is_name (take n (c ∷ cs))) (one_more run) ∙ and_from (is_ascii_alphabetic c) (goes_on is_ascii_alphanumeric false (take run cs)) e (run-passes is_ascii_alphanumeric cs)
+    ap (λ n. is_name (take n (c ∷ cs))) (one_more run) ∙ and_from (is_ascii_alphabetic c) (goes_on is_ascii_alphanumeric false (take run cs)) e
+    (run-passes is_ascii_alphanumeric cs)
 
 -- folding keeps what a byte is
 lower-letter : (c : ℕ) → is_ascii_alphabetic (to_ascii_lowercase c) ≡ is_ascii_alphabetic c
@@ -82,17 +88,20 @@ folded-run under (c ∷ cs) =
 folded-name : (name : List ℕ) → is_name (str_to_ascii_lowercase name) ≡ is_name name
 folded-name [] = refl
 folded-name (c ∷ cs) =
-    ap (λ a. a && goes_on is_ascii_alphanumeric false (map to_ascii_lowercase cs)) (lower-letter c) ∙ ap (λ x. is_ascii_alphabetic c && x) (folded-run false cs)
+    ap (λ a. a && goes_on is_ascii_alphanumeric false (map to_ascii_lowercase cs)) (lower-letter c) ∙ ap (λ x. is_ascii_alphabetic c && x)
+    (folded-run false cs)
 
 folded-twice : (name : List ℕ) → str_to_ascii_lowercase (str_to_ascii_lowercase name) ≡ str_to_ascii_lowercase name
 folded-twice [] = refl
-folded-twice (c ∷ cs) = ap (λ x. x ∷ map to_ascii_lowercase (map to_ascii_lowercase cs)) (lower-twice c) ∙ ap (λ t. to_ascii_lowercase c ∷ t) (folded-twice cs)
+folded-twice (c ∷ cs) = ap (λ x. x ∷ map to_ascii_lowercase (map to_ascii_lowercase cs)) (lower-twice c) ∙ ap (λ t. to_ascii_lowercase c ∷ t)
+    (folded-twice cs)
 
 word-readable : (name : List ℕ) → is_name name ≡ true → length name ≤ 64 → is_readable (Word (str_to_ascii_lowercase name)) ≡ true
 word-readable name e h =
     let low = str_to_ascii_lowercase name in
     let short : length low ≤ 64 = rw (length-map name to_ascii_lowercase) h in
-    and_from (is_name low) _ (folded-name name ∙ e) (and_from _ _ ((bytes_eq-Decides (str_to_ascii_lowercase low) low).1 (folded-twice name)) (le-leb (length low) 64 short))
+    and_from (is_name low) _ (folded-name name ∙ e) (and_from _ _ ((bytes_eq-Decides (str_to_ascii_lowercase low) low).1 (folded-twice name))
+    (le-leb (length low) 64 short))
 
 -- a token, where there is one, is readable
 abbrev IsReadable : Option Token → Type 0
@@ -113,7 +122,8 @@ name_front-ok : (place : Place) (name : List ℕ) (g : Front) → is_name name �
 unfolding name_front
 name_front-ok place name g e h = name-ok (ltb 64 (length name)) _ _ g h (λ k. word-readable name e (ltb-false 64 (length name) k))
 
-number-ok : (b d : Bool) (e e' : Misread) (f g : Front) → cond b (Err e) (cond d (Err e') (Ok f)) ≡ Ok g → (b ≡ false → IsReadable f.token) → IsReadable g.token
+number-ok : (b d : Bool) (e e' : Misread) (f g : Front) → cond b (Err e) (cond d (Err e') (Ok f)) ≡ Ok g → (b ≡ false → IsReadable f.token)
+    → IsReadable g.token
 number-ok true d e e' f g h k = cc
 number-ok false true e e' f g h k = cc
 number-ok false false e e' f g h k = same-front f g h (k refl)
@@ -160,13 +170,16 @@ same-tokens us ts e h =
     let P : List Spanned → Type 0 = λ x. AreReadable x in
     subst P same h
 
-others-ok : (place : Place) (r : Result (List Spanned) Misread) (t : Option Token) (ts : List Spanned) → IsReadable t → ((us : List Spanned) → r ≡ Ok us → AreReadable us) → then_others place r t ≡ Ok ts → AreReadable ts
+others-ok : (place : Place) (r : Result (List Spanned) Misread) (t : Option Token) (ts : List Spanned) → IsReadable t
+    → ((us : List Spanned) → r ≡ Ok us → AreReadable us) → then_others place r t ≡ Ok ts → AreReadable ts
 others-ok place (Err e) t ts ok others h = cc
 others-ok place (Ok us) None ts ok others h = same-tokens us ts h (others us refl)
-others-ok place (Ok us) (Some t) ts ok others h = same-tokens (record { token = t; place = place } ∷ us) ts h (and_from (is_readable t) _ ok (others us refl))
+others-ok place (Ok us) (Some t) ts ok others h
+    = same-tokens (record { token = t; place = place } ∷ us) ts h (and_from (is_readable t) _ ok (others us refl))
 
 behind-ok : (place : Place) (others : ℕ → Result (List Spanned) Misread) (r : Result Front Misread) (ts : List Spanned)
-    → ((f : Front) → r ≡ Ok f → IsReadable f.token) → ((k : ℕ) (us : List Spanned) → others k ≡ Ok us → AreReadable us) → behind place others r ≡ Ok ts → AreReadable ts
+    → ((f : Front) → r ≡ Ok f → IsReadable f.token) → ((k : ℕ) (us : List Spanned) → others k ≡ Ok us → AreReadable us)
+    → behind place others r ≡ Ok ts → AreReadable ts
 behind-ok place others (Err e) ts first rest h = cc
 behind-ok place others (Ok f) ts first rest h = others-ok place (others _) f.token ts (first f refl) (rest _) h
 
@@ -179,7 +192,8 @@ after-ok (c ∷ cs) zero place ts h =
     behind-ok place (λ skip. tokens_after skip (place_after place c) cs) (front_by (start_of c cs) place (c ∷ cs)) ts
     (λ f e. front-ok (start_of c cs) place c cs f refl e) (λ k us e. after-ok cs k (place_after place c) us e) h
 
-plain-ok : (r : Result (List Spanned) Misread) (ts : List Token) → ((us : List Spanned) → r ≡ Ok us → AreReadable us) → plain r ≡ Ok ts → list_all is_readable ts ≡ true
+plain-ok : (r : Result (List Spanned) Misread) (ts : List Token) → ((us : List Spanned) → r ≡ Ok us → AreReadable us) → plain r ≡ Ok ts
+    → list_all is_readable ts ≡ true
 plain-ok (Err e) ts ok h = cc
 plain-ok (Ok us) ts ok h =
     let same : map (λ t. t.token) us ≡ ts = cc in

@@ -74,7 +74,8 @@ pub(crate) fn add_for(
     into: &mut Vec<u8>,
 ) -> Result<(), NoMemory>
     ensures { Writes result into.old.items into.new.items
-        (line_text (line level (Word (codes "for") ∷ Word name.now ∷ Word (codes "in") ∷ Word (codes "word") ∷ Word (codes "range") ∷ Number low ∷ Sign DotDot ∷ Number high ∷ Word (codes "loop") ∷ []))) }
+        (line_text (line level (Word (codes "for") ∷ Word name.now ∷ Word (codes "in") ∷ Word (codes "word") ∷ Word (codes "range") ∷ Number low
+        ∷ Sign DotDot ∷ Number high ∷ Word (codes "loop") ∷ []))) }
 {
     put_indent(into, level)?;
     put_name(into, b"for ", name, b" in word range ")?;
@@ -85,7 +86,8 @@ pub(crate) fn add_for(
 /// Adds the line of an exit.
 pub(crate) fn add_exit(condition: &Expr, level: u32, into: &mut Vec<u8>) -> Result<(), NoMemory>
     ensures { Writes result into.old.items into.new.items
-        (line_text (line level (Word (codes "exit") ∷ Word (codes "when") ∷ (expression_tokens (expression_of condition.now) ++ Sign Semicolon ∷ [])))) }
+        (line_text (line level (Word (codes "exit") ∷ Word (codes "when")
+        ∷ (expression_tokens (expression_of condition.now) ++ Sign Semicolon ∷ [])))) }
 {
     put_indent(into, level)?;
     put(into, b"exit when ")?;
@@ -123,7 +125,8 @@ pub(crate) fn add_work(ticks: u32, level: u32, into: &mut Vec<u8>) -> Result<(),
 /// Adds the line of a statement that puts a value out.
 pub(crate) fn add_put(value: &Expr, level: u32, into: &mut Vec<u8>) -> Result<(), NoMemory>
     ensures { Writes result into.old.items into.new.items
-        (line_text (line level (Word (codes "put") ∷ Sign LeftParen ∷ (expression_tokens (expression_of value.now) ++ Sign RightParen ∷ Sign Semicolon ∷ [])))) }
+        (line_text (line level (Word (codes "put") ∷ Sign LeftParen
+        ∷ (expression_tokens (expression_of value.now) ++ Sign RightParen ∷ Sign Semicolon ∷ [])))) }
 {
     put_indent(into, level)?;
     put(into, b"put (")?;

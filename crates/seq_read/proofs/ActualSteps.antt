@@ -21,7 +21,8 @@ close_list es = then_at (fixed_at (token.Sign RightParen)) (λ _. pure_at es)
 abbrev pub actuals_after : ExpressionReader → List Expression → List Token → Read Token (List Expression)
 actuals_after expression = onward (next_is (token.Sign Comma)) (further_at expression) close_list
 
-pub list-start : (expression : ExpressionReader) (ts us rest : List Token) (e : Expression) → fixed_at (token.Sign LeftParen) ts ≡ Ok (tt, us) → expression us ≡ Ok (e, rest) →
+pub list-start : (expression : ExpressionReader) (ts us rest : List Token) (e : Expression) → fixed_at (token.Sign LeftParen) ts ≡ Ok (tt, us)
+    → expression us ≡ Ok (e, rest) →
     actuals_after expression (e ∷ []) rest ≡ list_at expression ts
 unfolding list_at onward
 list-start expression ts us rest e h g = rw (h, g) refl

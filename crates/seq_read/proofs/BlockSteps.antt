@@ -15,7 +15,8 @@ use Rattle.seq_tree.specs.declared.token.Token.TheVariants as token
 use Rattle.seq_tree.specs.declared.token.Mark.TheVariants.{Semicolon}
 use Rattle.token_read.specs.Readers.{fixed_at, next_is}
 use Rattle.seq_read.specs.Expressions.{ExpressionReader, expression_at}
-use Rattle.seq_read.specs.Statements.{StatementReader, BlockReader, word, kind_of, begins_statement, guarded_at, arm_at, otherwise_at, if_at, statement_with, block_with, statement_at, block_at}
+use Rattle.seq_read.specs.Statements.{StatementReader, BlockReader, word, kind_of, begins_statement, guarded_at, arm_at, otherwise_at, if_at}
+use Rattle.seq_read.specs.Statements.{statement_with, block_with, statement_at, block_at}
 use Rattle.seq_read.specs.Nesting.{branching_at, looping_at}
 use Rattle.seq_read.proofs.Takes.{Takes}
 use Rattle.seq_read.proofs.Turns.{onward, onward-turn, onward-fails, onward-ends, turn-shorter}
@@ -25,20 +26,24 @@ use Rattle.seq_read.proofs.TokenTakes.{takes-expression, takes-statement, takes-
 -- what follows the last arm
 abbrev pub close_if : BlockReader → List (Expression × Statements) → StatementReader
 close_if block arms =
-    then_at (otherwise_at block) (λ other. then_at (word (codes "end")) (λ _. then_at (word (codes "if")) (λ _. then_at (fixed_at (token.Sign Semicolon)) (λ _.
+    then_at (otherwise_at block) (λ other. then_at (word (codes "end"))
+    (λ _. then_at (word (codes "if")) (λ _. then_at (fixed_at (token.Sign Semicolon)) (λ _.
     pure_at (If (branches_of arms other))))))
 
 -- the arms so far, and those that are left
 abbrev pub arms_after : ExpressionReader → BlockReader → List (Expression × Statements) → StatementReader
 arms_after expression block = onward (next_is (token.Word (codes "elsif"))) (arm_at expression block) (close_if block)
 
-pub if-start : (expression : ExpressionReader) (block : BlockReader) (ts us rest : List Token) (arm : Expression × Statements) → word (codes "if") ts ≡ Ok (tt, us) →
+pub if-start : (expression : ExpressionReader) (block : BlockReader) (ts us rest : List Token) (arm : Expression × Statements)
+    → word (codes "if") ts ≡ Ok (tt, us) →
     guarded_at expression block us ≡ Ok (arm, rest) → arms_after expression block (arm ∷ []) rest ≡ if_at expression block ts
 unfolding if_at onward
 if-start expression block ts us rest arm h g = rw (h, g) refl
 
-pub if-closes : (block : BlockReader) (arms : List (Expression × Statements)) (other : Branches) (ts us vs ws rest : List Token) → otherwise_at block ts ≡ Ok (other, us) →
-    word (codes "end") us ≡ Ok (tt, vs) → word (codes "if") vs ≡ Ok (tt, ws) → fixed_at (token.Sign Semicolon) ws ≡ Ok (tt, rest) → close_if block arms ts ≡ Ok (If (branches_of arms other), rest)
+pub if-closes : (block : BlockReader) (arms : List (Expression × Statements)) (other : Branches) (ts us vs ws rest : List Token)
+    → otherwise_at block ts ≡ Ok (other, us) →
+    word (codes "end") us ≡ Ok (tt, vs) → word (codes "if") vs ≡ Ok (tt, ws) → fixed_at (token.Sign Semicolon) ws ≡ Ok (tt, rest)
+    → close_if block arms ts ≡ Ok (If (branches_of arms other), rest)
 if-closes block arms other ts us vs ws rest h i j k = rw (h, i, j, k) refl
 
 pub arm-takes : (is_name : Name → Bool) (most deeper : ℕ) → Takes 1 (arm_at (expression_at is_name most deeper) (block_at is_name most deeper))
@@ -50,7 +55,8 @@ pub ruleset branch_steps = (if-start, onward-fails, onward-ends)
 
 -- STATEMENTS
 pub statement_whole : (is_name : Name → Bool) (most deeper : ℕ) (ts : List Token) → statement_at is_name most deeper ts
-    ≡ statement_with is_name (expression_at is_name most deeper) (branching_at is_name most deeper) (looping_at is_name most deeper) (kind_of (first ts)) ts
+    ≡ statement_with is_name (expression_at is_name most deeper) (branching_at is_name most deeper) (looping_at is_name most deeper)
+    (kind_of (first ts)) ts
 unfolding statement_at
 statement_whole is_name most zero ts = refl
 statement_whole is_name most (suc deeper) ts = refl

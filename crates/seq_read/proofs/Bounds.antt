@@ -3,9 +3,11 @@ use Rattle.std.proofs.Common.{ℕ, suc, ◌+◌, ◌≤◌, Bool, true, false, c
 use Rattle.std.proofs.lemmas.Bool.{le-leb}
 use Rattle.seq_tree.specs.Names.{Name}
 use Rattle.seq_tree.specs.Expressions.{Expression, Number, Variable, Paren, Not, Binary}
-use Rattle.seq_tree.specs.Statements.{Statement, Statements, Branches, Null, Assign, If, For, ExitWhen, Call, Work, Put, End, Then, Nothing, Else, When}
+use Rattle.seq_tree.specs.Statements.{Statement, Statements, Branches, Null, Assign, If, For, ExitWhen, Call, Work, Put, End, Then, Nothing}
+use Rattle.seq_tree.specs.Statements.{Else, When}
 use Rattle.seq_tree.specs.Levels.{chain, chains_with}
-use Rattle.seq_tree.specs.Proper.{Limits, IsProperExpression, AreProperActuals, IsProperStatement, IsProperBlock, AreProperStatements, AreProperBranches, without_limits}
+use Rattle.seq_tree.specs.Proper.{Limits, IsProperExpression, AreProperActuals, IsProperStatement, IsProperBlock, AreProperStatements}
+use Rattle.seq_tree.specs.Proper.{AreProperBranches, without_limits}
 use Rattle.seq_read.proofs.ChainLevels.{bounds}
 
 -- how far a tree nests and chains, at most
@@ -63,8 +65,14 @@ module _ (is_name : Name → Bool) (n : ℕ) where
   bound-expression d (Variable name) h p = p
   bound-expression d (Paren e) h p = (le-leb (suc d) n (omega (arith, h)), bound-expression (suc d) e (omega (arith, h)) p.1)
   bound-expression d (Not e) h p = (p.0, bound-expression d e h p.1)
-  bound-expression d (Binary o l r) h p =
-      (p.0, p.1, le-leb (chain (Binary o l r)) n (let c = chain_extent (Binary o l r) in omega (arith, c, h)), bound-expression d l (omega (arith, h)) p.3, bound-expression d r (omega (arith, h)) p.4)
+  bound-expression d (Binary o l r) h p = (
+    p.0,
+    p.1,
+    le-leb (chain (Binary o l r)) n (let c = chain_extent (Binary o l r)
+        in omega (arith, c, h)),
+    bound-expression d l (omega (arith, h)) p.3,
+    bound-expression d r (omega (arith, h)) p.4,
+  )
 
   bound_actuals : (d : ℕ) (es : List Expression) → d + extent_all es ≤ n → AreProperActuals from d es → AreProperActuals to d es
   bound_actuals d [] h p = tt
@@ -76,8 +84,15 @@ module _ (is_name : Name → Bool) (n : ℕ) where
     bound_statement d (Assign target value) h p = (p.0, bound-expression d value h p.1)
     bound_statement d (If Nothing) h p = absurd p.1
     bound_statement d (If (Else b)) h p = absurd p.1
-    bound_statement d (If (When c b others)) h p =
-        (le-leb (suc d) n (omega (arith, h)), (bound-expression (suc d) c (omega (arith, h)) p.1.0, bound-block (suc d) b (omega (arith, h)) p.1.1, bound_branches (suc d) others (omega (arith, h)) p.1.2))
+    bound_statement d (If (When c b others)) h p = (
+      le-leb (suc d) n (omega (arith, h)),
+      (
+        bound-expression (suc d) c (omega (arith, h)) p.1.0,
+        bound-block (suc d) b (omega
+            (arith, h)) p.1.1,
+        bound_branches (suc d) others (omega (arith, h)) p.1.2,
+      ),
+    )
     bound_statement d (For name low high body) h p = (le-leb (suc d) n (omega (arith, h)), p.1, bound-block (suc d) body (omega (arith, h)) p.2)
     bound_statement d (ExitWhen condition) h p = bound-expression d condition h p
     bound_statement d (Call object op actuals) h p = (p.0, p.1, bound_actuals d actuals h p.2)
@@ -95,8 +110,12 @@ module _ (is_name : Name → Bool) (n : ℕ) where
     bound_branches : (d : ℕ) (bs : Branches) → d + extent_branches bs ≤ n → AreProperBranches from d bs → AreProperBranches to d bs
     bound_branches d Nothing h p = tt
     bound_branches d (Else block) h p = bound-block d block h p
-    bound_branches d (When condition block others) h p =
-        (bound-expression d condition (omega (arith, h)) p.0, bound-block d block (omega (arith, h)) p.1, bound_branches d others (omega (arith, h)) p.2)
+    bound_branches d (When condition block others) h p = (
+      bound-expression d condition (omega (arith, h)) p.0,
+      bound-block d block (omega (arith, h)) p.1,
+      bound_branches d others (omega
+          (arith, h)) p.2,
+    )
 
 -- OUT OF LIMITS
 module _ (is_name : Name → Bool) (nests most : ℕ) where
@@ -123,7 +142,8 @@ module _ (is_name : Name → Bool) (nests most : ℕ) where
     free_statement d (Assign target value) p = (p.0, free-expression d value p.1)
     free_statement d (If Nothing) p = absurd p.1
     free_statement d (If (Else b)) p = absurd p.1
-    free_statement d (If (When c b others)) p = (refl, (free-expression (suc d) c p.1.0, free-block (suc d) b p.1.1, free_branches (suc d) others p.1.2))
+    free_statement d (If (When c b others)) p
+        = (refl, (free-expression (suc d) c p.1.0, free-block (suc d) b p.1.1, free_branches (suc d) others p.1.2))
     free_statement d (For name low high body) p = (refl, p.1, free-block (suc d) body p.2)
     free_statement d (ExitWhen condition) p = free-expression d condition p
     free_statement d (Call object op actuals) p = (p.0, p.1, free_actuals d actuals p.2)

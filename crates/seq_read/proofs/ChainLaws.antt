@@ -1,5 +1,6 @@
 -- A chain of operators of one class is read, and grouped to the left.
-use Rattle.std.proofs.Common.{◌≡◌, ℕ, zero, suc, ◌+◌, ◌<◌, true, false, List, [], ◌∷◌, ◌++◌, length, Option, Some, ◌⊎◌, inl, inr, refl, sym, ap, subst, ◌∙◌, arith, append_assoc, append-nil, length-append}
+use Rattle.std.proofs.Common.{◌≡◌, ℕ, zero, suc, ◌+◌, ◌<◌, true, false, List, [], ◌∷◌, ◌++◌, length, Option, Some, ◌⊎◌, inl, inr, refl, sym, ap}
+use Rattle.std.proofs.Common.{subst, ◌∙◌, arith, append_assoc, append-nil, length-append}
 use Rattle.std.specs.Prelude.{⊤}
 use Rattle.grammar.specs.Reading.{first, pure_at, token_at, Reads, Joined}
 use Rattle.grammar.proofs.Laws.{reads-token, IsToken, IsOnly, reads-pure, reads-then}
@@ -26,7 +27,8 @@ Longer e f = length (expression_tokens e) < length (expression_tokens f)
 abbrev pub ExtendsBy : Class → (Expression → List Token → Type 0) → ℕ → Expression → Expression → List Token → Type 0
 ExtendsBy class IsOperand zero e f text = IsOnly {T = Token} e f text
 ExtendsBy class IsOperand (suc n) e f text =
-    Joined (IsToken (sees_operator class)) (λ op. Joined IsOperand (λ g. ExtendsBy class IsOperand n (Binary op e g))) f text ⊎ IsOnly {T = Token} e f text
+    Joined (IsToken (sees_operator class)) (λ op. Joined IsOperand (λ g. ExtendsBy class IsOperand n (Binary op e g))) f text
+    ⊎ IsOnly {T = Token} e f text
 
 -- where it stops
 abbrev pub StopsBy : Class → (Expression → Option Token → Type 0) → Expression → Expression → Option Token → Type 0
@@ -41,7 +43,8 @@ pub record Begun (class : Class) (e f : Expression) (text : List Token) : Type 0
   pub whole : text ≡ token ∷ more
   pub long : Longer e f
 
-module _ (class : Class) (operand : ExpressionReader) (IsOperand : Expression → List Token → Type 0) (StopsOperand : Expression → Option Token → Type 0)
+module _ (class : Class) (operand : ExpressionReader) (IsOperand : Expression → List Token → Type 0) (StopsOperand : Expression
+    → Option Token → Type 0)
     (one : Reads IsOperand StopsOperand operand)
     (some_op : BinOp) (some_is : class_of some_op ≡ class)
     (spelled : (g : Expression) (text : List Token) → IsOperand g text → text ≡ expression_tokens g)
@@ -72,7 +75,8 @@ module _ (class : Class) (operand : ExpressionReader) (IsOperand : Expression �
   longer_step : (op : BinOp) (e g : Expression) → Longer e (Binary op e g)
   longer_step op e g = omega (arith, length-append (expression_tokens e) (op_token op ∷ expression_tokens g))
 
-  longer_on : (n : ℕ) (e f : Expression) (text : List Token) → Extends n e f text → length (expression_tokens f) ≡ length (expression_tokens e) + length text
+  longer_on : (n : ℕ) (e f : Expression) (text : List Token) → Extends n e f text
+      → length (expression_tokens f) ≡ length (expression_tokens e) + length text
   longer_on n e f text h = ap length (tokens_on n e f text h) ∙ length-append (expression_tokens e) text
 
   longer_all : (n : ℕ) (op : BinOp) (e g f : Expression) (text : List Token) → Extends n (Binary op e g) f text → Longer e f
@@ -85,9 +89,17 @@ module _ (class : Class) (operand : ExpressionReader) (IsOperand : Expression �
   begun zero e f text h = inr h
   begun (suc n) e f text (inr h) = inr h
   begun (suc n) e f text (inl j) =
-      inl (record { token = j.before.token; op = j.a; seen = j.before.seen; more = j.back; whole = rw (j.whole, j.before.whole) refl; long = longer_all n j.a e j.after.a f j.after.back j.after.after })
+      inl (record {
+        token = j.before.token;
+        op = j.a;
+        seen = j.before.seen;
+        more = j.back;
+        whole = rw (j.whole, j.before.whole) refl;
+        long = longer_all n j.a e j.after.a f j.after.back j.after.after;
+      })
 
-  follow : (n : ℕ) (e : Expression) (op : BinOp) (g f : Expression) (text back rest : List Token) → IsOperand g text → Extends n (Binary op e g) f back → StopsFrom e f (first rest) →
+  follow : (n : ℕ) (e : Expression) (op : BinOp) (g f : Expression) (text back rest : List Token) → IsOperand g text
+      → Extends n (Binary op e g) f back → StopsFrom e f (first rest) →
       StopsOperand g (first (back ++ rest)) × StopsFrom (Binary op e g) f (first rest)
   follow n e op g f text back rest h x stop =
       elim (begun n (Binary op e g) f back x) [
@@ -98,7 +110,8 @@ module _ (class : Class) (operand : ExpressionReader) (IsOperand : Expression �
             (rw s.1 at, (stop.0, λ long. absurd (not_longer (Binary op e g) f s.0 long)))
       ]
 
-  both : (n : ℕ) (e : Expression) (op : BinOp) (g f : Expression) (text back rest : List Token) → IsOperand g text → Extends n (Binary op e g) f back → StopsOperand g (first (back ++ rest)) → StopsFrom (Binary op e g) f (first rest) →
+  both : (n : ℕ) (e : Expression) (op : BinOp) (g f : Expression) (text back rest : List Token) → IsOperand g text → Extends n (Binary op e g) f back
+      → StopsOperand g (first (back ++ rest)) → StopsFrom (Binary op e g) f (first rest) →
       StopsFrom e f (first rest)
   both n e op g f text back rest h x one_stops stop =
       elim (begun n (Binary op e g) f back x) [
@@ -117,16 +130,27 @@ module _ (class : Class) (operand : ExpressionReader) (IsOperand : Expression �
   reads-chain zero e =
       reads-limit (begins class) (IsOnly {T = Token} e) (λ f o. ⊤) (StopsFrom e) (pure_at e) (reads-pure (λ f o. ⊤) e (λ o. tt)) refl
       (λ f text rest h stop. (rw h.1 stop.0, tt))
-      (λ f text rest h t stop. (let P : List Token → Type 0 = λ us. begins class (first (us ++ rest)) ≡ false in subst P h.1 t, λ long. absurd (not_longer e f h.0 long)))
+      (λ f text rest h t stop. (
+        let P : List Token → Type 0 = λ us. begins class (first
+            (us ++ rest)) ≡ false in subst P h.1 t,
+        λ long. absurd (not_longer e f h.0 long),
+      ))
   reads-chain (suc n) e =
       reads-branch (begins class) _ (IsOnly {T = Token} e) (StopsFrom e) (λ f o. ⊤) (StopsFrom e) _ (pure_at e)
       (reads-then (IsToken (sees_operator class)) _ (λ op o. Unit {0}) (StopsFrom e) (token_at (sees_operator class)) _
-      (reads-token (sees_operator class) some_op (op_token some_op) (let P : Class → Type 0 = λ c. sees_operator c (op_token some_op) ≡ Some some_op in subst P some_is (seen some_op)))
-      (λ op. reads-joint IsOperand (λ g. Extends n (Binary op e g)) StopsOperand (λ g f o. StopsFrom (Binary op e g) f o) (StopsFrom e) operand (λ g. chain_at class operand n (Binary op e g)) one
-      (λ g. reads-chain n (Binary op e g)) (λ g f text back rest h x stop. follow n e op g f text back rest h x stop) (λ g f text back rest h x p stop. both n e op g f text back rest h x p stop))
+      (reads-token (sees_operator class) some_op (op_token some_op) (let P : Class → Type 0 = λ c. sees_operator c (op_token some_op) ≡ Some some_op
+      in subst P some_is (seen some_op)))
+      (λ op. reads-joint IsOperand (λ g. Extends n (Binary op e g)) StopsOperand (λ g f o. StopsFrom (Binary op e g) f o) (StopsFrom e) operand
+      (λ g. chain_at class operand n (Binary op e g)) one
+      (λ g. reads-chain n (Binary op e g)) (λ g f text back rest h x stop. follow n e op g f text back rest h x stop)
+      (λ g f text back rest h x p stop. both n e op g f text back rest h x p stop))
       (λ op f back rest h stop. tt))
       (reads-pure (λ f o. ⊤) e (λ o. tt))
       (λ f text rest j stop. (rw (j.whole, j.before.whole) (seen_begins j.before.token j.a j.before.seen), stop))
       (λ f text rest h stop. (rw h.1 stop.0, tt))
       (λ f text rest j t stop. stop)
-      (λ f text rest h t stop. (let P : List Token → Type 0 = λ us. begins class (first (us ++ rest)) ≡ false in subst P h.1 t, λ long. absurd (not_longer e f h.0 long)))
+      (λ f text rest h t stop. (
+        let P : List Token → Type 0 = λ us. begins class (first
+            (us ++ rest)) ≡ false in subst P h.1 t,
+        λ long. absurd (not_longer e f h.0 long),
+      ))

@@ -1,5 +1,6 @@
 -- What a chain of one class reads is a level of expressions: its trees, grouped to the left.
-use Rattle.std.proofs.Common.{◌≡◌, ℕ, zero, suc, ◌+◌, ◌≤◌, nat_le, Bool, true, false, cond, List, [], ◌∷◌, ◌++◌, length, Option, Some, ◌⊎◌, inl, inr, refl, sym, ap, subst, ◌∙◌, arith, append_assoc, append-nil}
+use Rattle.std.proofs.Common.{◌≡◌, ℕ, zero, suc, ◌+◌, ◌≤◌, nat_le, Bool, true, false, cond, List, [], ◌∷◌, ◌++◌, length, Option, Some, ◌⊎◌, inl}
+use Rattle.std.proofs.Common.{inr, refl, sym, ap, subst, ◌∙◌, arith, append_assoc, append-nil}
 use Rattle.std.specs.Prelude.{if◌then◌else◌}
 use Rattle.std.proofs.lemmas.Bool.{leb-true, leb-false, le-leb}
 use Rattle.grammar.specs.Reading.{first, then_at, Reads, Joined}
@@ -16,7 +17,8 @@ use Rattle.seq_read.specs.declared.operators.Class.{Class}
 use Rattle.seq_read.specs.declared.operators.Class.TheVariants as cls
 use Rattle.seq_read.specs.Operators.{sees_operator, begins}
 use Rattle.seq_read.specs.Expressions.{ExpressionReader, chain_at}
-use Rattle.seq_read.proofs.OperatorLaws.{class_of, rank, ranked, seen, sees, same_class, same_class_is, shares_as, self_class, chains, rank_low, no_relational}
+use Rattle.seq_read.proofs.OperatorLaws.{class_of, rank, ranked, seen, sees, same_class, same_class_is, shares_as, self_class, chains, rank_low}
+use Rattle.seq_read.proofs.OperatorLaws.{no_relational}
 use Rattle.seq_read.proofs.ChainLaws.{right_of, Longer, ExtendsBy, StopsBy, Begun, begun, tokens_on, reads-chain}
 
 -- limits: this many constructs in one another, this many operators in a chain
@@ -64,7 +66,8 @@ chain_step class op e g is = rw (chains_as op class e is) (of (in_class class e)
 step_in : (class : Class) (op : BinOp) (e g : Expression) → class_of op ≡ class → chains class ≡ true → in_class class (Binary op e g) ≡ true
 step_in class op e g is can = ap (λ k. same_class k class) is ∙ self_class class can
 
-count_step : (class : Class) (op : BinOp) (e g : Expression) → class_of op ≡ class → chains class ≡ true → count class (Binary op e g) ≡ suc (count class e)
+count_step : (class : Class) (op : BinOp) (e g : Expression) → class_of op ≡ class → chains class ≡ true
+    → count class (Binary op e g) ≡ suc (count class e)
 count_step class op e g is can = rw (step_in class op e g is can) (chain_step class op e g is)
 
 pub rank_of : (class : Class) (op : BinOp) → class_of op ≡ class → tightness_of (level_of op) ≡ rank class
@@ -131,11 +134,19 @@ module _ (class : Class) (can : chains class ≡ true) (is_name : Name → Bool)
   Ends = StopsBy class StopsOperand
 
   -- WHAT IS READ IS PROPER
-  proper_step : (op : BinOp) (e g : Expression) (n : ℕ) → class_of op ≡ class → Belongs class e → Is e → suc (rank class) ≤ tightness g → Is g → count class e + suc n ≤ most → Is (Binary op e g)
-  proper_step op e g n is b p tight q room =
-      (left_of_belongs class op e is b, rw (rank_of class op is) tight, le-leb (chain (Binary op e g)) most (omega (arith, chain_step class op e g is, room)), p, q)
+  proper_step : (op : BinOp) (e g : Expression) (n : ℕ) → class_of op ≡ class → Belongs class e → Is e → suc (rank class) ≤ tightness g → Is g
+      → count class e + suc n ≤ most → Is (Binary op e g)
+  proper_step op e g n is b p tight q room = (
+    left_of_belongs class op e is b,
+    rw (rank_of class op is) tight,
+    le-leb (chain (Binary op e g)) most (omega
+        (arith, chain_step class op e g is, room)),
+    p,
+    q,
+  )
 
-  pub proper_on : (n : ℕ) (e f : Expression) (text : List Token) → Belongs class e → Is e → count class e + n ≤ most → Goes n e f text → Belongs class f × Is f
+  pub proper_on : (n : ℕ) (e f : Expression) (text : List Token) → Belongs class e → Is e → count class e + n ≤ most → Goes n e f text
+      → Belongs class f × Is f
   proper_on zero e f text b p room h = rw h.0 (b, p)
   proper_on (suc n) e f text b p room (inr h) = rw h.0 (b, p)
   proper_on (suc n) e f text b p room (inl j) =
@@ -157,7 +168,14 @@ module _ (class : Class) (can : chains class ≡ true) (is_name : Name → Bool)
         front = j.front;
         back = j.back;
         before = j.before;
-        after = record { a = k.a; front = k.front; back = k.back; before = k.before; after = wider n m (Binary j.a e k.a) f k.back (omega arith) k.after; whole = k.whole };
+        after = record {
+          a = k.a;
+          front = k.front;
+          back = k.back;
+          before = k.before;
+          after = wider n m (Binary j.a e k.a) f k.back (omega arith) k.after;
+          whole = k.whole;
+        };
         whole = j.whole;
       })
 
@@ -165,9 +183,15 @@ module _ (class : Class) (can : chains class ≡ true) (is_name : Name → Bool)
   op_text op = op_token op ∷ []
 
   op_seen : (op : BinOp) → class_of op ≡ class → IsToken (sees_operator class) op (op_text op)
-  op_seen op is = record { token = op_token op; seen = (let P : Class → Type 0 = λ c. sees_operator c (op_token op) ≡ Some op in subst P is (seen op)); whole = refl }
+  op_seen op is = record {
+    token = op_token op;
+    seen = (let P : Class → Type 0 = λ c. sees_operator c (op_token op) ≡ Some op
+        in subst P is (seen op));
+    whole = refl;
+  }
 
-  one_step : (n : ℕ) (op : BinOp) (e g f : Expression) (text : List Token) → class_of op ≡ class → Operand g text → Goes n (Binary op e g) f [] → Goes (suc n) e f (op_token op ∷ text)
+  one_step : (n : ℕ) (op : BinOp) (e g f : Expression) (text : List Token) → class_of op ≡ class → Operand g text → Goes n (Binary op e g) f []
+      → Goes (suc n) e f (op_token op ∷ text)
   one_step n op e g f text is h on =
       inl (record {
         a = op;
@@ -181,7 +205,8 @@ module _ (class : Class) (can : chains class ≡ true) (is_name : Name → Bool)
   same_left : (op : BinOp) (e l g : Expression) → l ≡ e → Binary op l g ≡ Binary op e g
   same_left op e l g same = ap (λ x. Binary op x g) same
 
-  pub behind : (n : ℕ) (op : BinOp) (e l g : Expression) (text more : List Token) → class_of op ≡ class → Goes n e l text → Operand g more → Goes (suc n) e (Binary op l g) (text ++ op_token op ∷ more)
+  pub behind : (n : ℕ) (op : BinOp) (e l g : Expression) (text more : List Token) → class_of op ≡ class → Goes n e l text → Operand g more
+      → Goes (suc n) e (Binary op l g) (text ++ op_token op ∷ more)
   behind zero op e l g text more is h k =
       let P : List Token → Type 0 = λ us. Goes 1 e (Binary op l g) (us ++ op_token op ∷ more) in
       subst P (sym h.1) (one_step zero op e g (Binary op l g) more is k (same_left op e l g h.0, refl))
@@ -198,7 +223,14 @@ module _ (class : Class) (can : chains class ≡ true) (is_name : Name → Bool)
         front = j.front;
         back = i.front ++ (i.back ++ op_token op ∷ more);
         before = j.before;
-        after = record { a = i.a; front = i.front; back = i.back ++ op_token op ∷ more; before = i.before; after = behind n op (Binary j.a e i.a) l g i.back more is i.after k; whole = refl };
+        after = record {
+          a = i.a;
+          front = i.front;
+          back = i.back ++ op_token op ∷ more;
+          before = i.before;
+          after = behind n op (Binary j.a e i.a) l g i.back more is i.after k;
+          whole = refl;
+        };
         whole = whole;
       })
 
@@ -217,16 +249,19 @@ module _ (class : Class) (can : chains class ≡ true) (is_name : Name → Bool)
   unchained_alone : (f : Expression) → Is f → suc (rank class) ≤ tightness f → Unchained f
   unchained_alone f p tight = record { head = f; tight = tight; proper = p; more = []; on = alone f tight p (count class f) }
 
-  unchained_step : (op : BinOp) (left right : Expression) → Unchained left → same_class (class_of op) class ≡ true → class_of op ≡ class → Is (Binary op left right) → Unchained (Binary op left right)
+  unchained_step : (op : BinOp) (left right : Expression) → Unchained left → same_class (class_of op) class ≡ true → class_of op ≡ class
+      → Is (Binary op left right) → Unchained (Binary op left right)
   unchained_step op left right u same is p = record {
     head = u.head;
     tight = u.tight;
     proper = u.proper;
     more = u.more ++ op_token op ∷ expression_tokens right;
     on =
-        let k : Operand right (expression_tokens right) = ((let P : ℕ → Type 0 = λ n. suc n ≤ tightness right in subst P (rank_of class op is) p.1), p.4, refl) in
+        let k : Operand right (expression_tokens right)
+        = ((let P : ℕ → Type 0 = λ n. suc n ≤ tightness right in subst P (rank_of class op is) p.1), p.4, refl) in
         let P : ℕ → Type 0 = λ n. Goes n u.head (Binary op left right) (u.more ++ op_token op ∷ expression_tokens right) in
-        subst P (sym (count_step class op left right is can)) (behind (count class left) op u.head left right u.more (expression_tokens right) is u.on k);
+        subst P (sym (count_step class op left right is can)) (behind (count class left) op u.head left right u.more
+        (expression_tokens right) is u.on k);
   }
 
   unchained : (f : Expression) → Belongs class f → Is f → Unchained f
@@ -283,7 +318,8 @@ module _ (class : Class) (can : chains class ≡ true) (is_name : Name → Bool)
   pub last_begun : (n : ℕ) (e f : Expression) (text : List Token) → Goes n e f text → Longer e f → last_of class f ≡ right_of f
   last_begun n e f text h long =
       elim (steps_in n e f text h) [
-        | inl same ↦ absurd (let shorter : length (expression_tokens f) ≡ length (expression_tokens e) = ap (λ x. length (expression_tokens x)) same in omega (arith, shorter, long))
+        | inl same ↦ absurd (let shorter : length (expression_tokens f) ≡ length (expression_tokens e) = ap (λ x. length (expression_tokens x)) same
+            in omega (arith, shorter, long))
         | inr b ↦ rw b refl
       ]
 
@@ -293,7 +329,8 @@ module _ (class : Class) (can : chains class ≡ true) (is_name : Name → Bool)
   pub begun_on : (n : ℕ) (e f : Expression) (text : List Token) → Goes n e f text → Begun class e f text ⊎ ((f ≡ e) × (text ≡ []))
   begun_on = begun class operand Operand StopsOperand one some_op some_is (λ g us h. h.2) apart
 
-  pub follow_chain : (e f : Expression) (text back rest : List Token) → Operand e text → Goes most e f back → StopsChain f (first rest) → StopsOperand e (first (back ++ rest)) × Ends e f (first rest)
+  pub follow_chain : (e f : Expression) (text back rest : List Token) → Operand e text → Goes most e f back → StopsChain f (first rest)
+      → StopsOperand e (first (back ++ rest)) × Ends e f (first rest)
   follow_chain e f text back rest h x stop =
       elim (begun_on most e f back x) [
         | inl b ↦
@@ -305,10 +342,12 @@ module _ (class : Class) (can : chains class ≡ true) (is_name : Name → Bool)
             (rw s.1 here, (stop.0, λ long. subst P (last_begun most e f back x long) stop.1))
       ]
 
-  pub both_chain : (e f : Expression) (text back rest : List Token) → Operand e text → Goes most e f back → StopsOperand e (first (back ++ rest)) → Ends e f (first rest) → StopsChain f (first rest)
+  pub both_chain : (e f : Expression) (text back rest : List Token) → Operand e text → Goes most e f back → StopsOperand e (first (back ++ rest))
+      → Ends e f (first rest) → StopsChain f (first rest)
   both_chain e f text back rest h x one_stops stop =
       elim (begun_on most e f back x) [
-        | inl b ↦ let P : Expression → Type 0 = λ y. StopsOperand y (first rest) in (stop.0, subst P (sym (last_begun most e f back x b.long)) (stop.1 b.long))
+        | inl b ↦ let P : Expression → Type 0 = λ y. StopsOperand y (first rest)
+            in (stop.0, subst P (sym (last_begun most e f back x b.long)) (stop.1 b.long))
         | inr s ↦
             let Q : List Token → Type 0 = λ us. StopsOperand e (first (us ++ rest)) in
             let P : Expression → Type 0 = λ y. StopsOperand y (first rest) in
@@ -333,4 +372,5 @@ module _ (class : Class) (can : chains class ≡ true) (is_name : Name → Bool)
   reads-level = reads-same _ IsChain StopsChain _ chain_to chain_back
       (reads-joint Operand (λ e. Goes most e) StopsOperand (λ e f o. Ends e f o) StopsChain operand (λ e. chain_at class operand most e) one
       (λ e. reads-chain class operand Operand StopsOperand one some_op some_is (λ g us h. h.2) apart most e)
-      (λ e f text back rest h x stop. follow_chain e f text back rest h x stop) (λ e f text back rest h x p stop. both_chain e f text back rest h x p stop))
+      (λ e f text back rest h x stop. follow_chain e f text back rest h x stop)
+      (λ e f text back rest h x p stop. both_chain e f text back rest h x p stop))

@@ -19,7 +19,8 @@ use Rattle.seq_read.specs.Expressions.{expression_at}
 use Rattle.seq_read.specs.Statements.{block_at}
 use Rattle.seq_read.specs.Texts.{IsBlockText, SomeBlock, AnyBlock, IsExpressionText, SomeExpression, AnyExpression}
 use Rattle.seq_read.specs.Fronts.{IsLongest, IsFrontFault}
-use Rattle.seq_read.proofs.FrontLaws.{expression-longest, expression-text, expression-deep, expression-stuck, block-longest, block-text, block-deep, block-stuck, reads_limited, blocks_limited}
+use Rattle.seq_read.proofs.FrontLaws.{expression-longest, expression-text, expression-deep, expression-stuck, block-longest, block-text}
+use Rattle.seq_read.proofs.FrontLaws.{block-deep, block-stuck, reads_limited, blocks_limited}
 
 module _ (depth : ℕ) (within : depth ≤ 64) (from : ℕ) (all : List Token) (inside : from ≤ length all) where
   abbrev here : List Token
@@ -33,12 +34,20 @@ module _ (depth : ℕ) (within : depth ≤ 64) (from : ℕ) (all : List Token) (
   block_rest b rest e = let f = (blocks_limited depth within).sound here b rest e in omega (arith, ap length f.split, length-append f.text rest)
 
   block_left : (halt : Halt) → block_at is_block_name 32 (64 - depth) here ≡ Err halt → left_of halt ≤ length here
-  block_left halt e = let f = (blocks_limited depth within).fault here halt e in omega (arith, ap length f.split, length-append f.front f.back, f.place)
+  block_left halt e = let f = (blocks_limited depth within).fault here halt e
+      in omega (arith, ap length f.split, length-append f.front f.back, f.place)
 
   pub block-answered : (b : Statements) (rest : List Token) → block_at (may_name Plain) 32 (64 - depth) here ≡ Ok (b, rest) →
-      (place : ℕ) × (length all - length rest ≡ from + place) × IsLongest (AnyBlock depth) (SomeBlock depth) here place × IsBlockText depth b (take place here)
+      (place : ℕ) × (length all - length rest ≡ from + place) × IsLongest (AnyBlock depth) (SomeBlock depth) here place
+      × IsBlockText depth b (take place here)
   unfolding may_name
-  block-answered b rest e = (length here - length rest, index (length rest) (block_rest b rest e), block-longest depth within here b rest e, block-text depth within here b rest e)
+  block-answered b rest e = (
+    length here - length rest,
+    index (length rest) (block_rest b rest
+        e),
+    block-longest depth within here b rest e,
+    block-text depth within here b rest e,
+  )
 
   pub block-halted : (left : ℕ) → block_at (may_name Plain) 32 (64 - depth) here ≡ Err (Syntax left) →
       (place : ℕ) × (length all - left ≡ from + place) × IsFrontFault (AnyBlock depth) (SomeBlock depth) here (reach.Syntax place)
@@ -54,12 +63,20 @@ module _ (depth : ℕ) (within : depth ≤ 64) (from : ℕ) (all : List Token) (
   expression_rest x rest e = let f = (reads_limited depth within).sound here x rest e in omega (arith, ap length f.split, length-append f.text rest)
 
   expression_left : (halt : Halt) → expression_at is_block_name 32 (64 - depth) here ≡ Err halt → left_of halt ≤ length here
-  expression_left halt e = let f = (reads_limited depth within).fault here halt e in omega (arith, ap length f.split, length-append f.front f.back, f.place)
+  expression_left halt e = let f = (reads_limited depth within).fault here halt e
+      in omega (arith, ap length f.split, length-append f.front f.back, f.place)
 
   pub expression-answered : (x : Expression) (rest : List Token) → expression_at (may_name Plain) 32 (64 - depth) here ≡ Ok (x, rest) →
-      (place : ℕ) × (length all - length rest ≡ from + place) × IsLongest (AnyExpression depth) (SomeExpression depth) here place × IsExpressionText depth x (take place here)
+      (place : ℕ) × (length all - length rest ≡ from + place) × IsLongest (AnyExpression depth) (SomeExpression depth) here place
+      × IsExpressionText depth x (take place here)
   unfolding may_name
-  expression-answered x rest e = (length here - length rest, index (length rest) (expression_rest x rest e), expression-longest depth within here x rest e, expression-text depth within here x rest e)
+  expression-answered x rest e = (
+    length here - length rest,
+    index (length rest) (expression_rest x rest
+        e),
+    expression-longest depth within here x rest e,
+    expression-text depth within here x rest e,
+  )
 
   pub expression-halted : (left : ℕ) → expression_at (may_name Plain) 32 (64 - depth) here ≡ Err (Syntax left) →
       (place : ℕ) × (length all - left ≡ from + place) × IsFrontFault (AnyExpression depth) (SomeExpression depth) here (reach.Syntax place)
@@ -71,12 +88,14 @@ module _ (depth : ℕ) (within : depth ≤ 64) (from : ℕ) (all : List Token) (
   unfolding may_name
   expression-too-deep left e = (length here - left, index left (expression_left (TooDeep left) e), expression-deep depth within here left e)
 
-  pub block-told : (stop : halts.Halt) → Stops stop (block_at (may_name Plain) 32 (64 - depth) here) → Faults (AnyBlock depth) (SomeBlock depth) from here (fault_at (length all) stop)
+  pub block-told : (stop : halts.Halt) → Stops stop (block_at (may_name Plain) 32 (64 - depth) here)
+      → Faults (AnyBlock depth) (SomeBlock depth) from here (fault_at (length all) stop)
   block-told (halt.Syntax left) e = block-halted left e
   block-told (halt.TooDeep left) e = block-too-deep left e
   block-told halt.NoMemory e = tt
 
-  pub expression-told : (stop : halts.Halt) → Stops stop (expression_at (may_name Plain) 32 (64 - depth) here) → Faults (AnyExpression depth) (SomeExpression depth) from here (fault_at (length all) stop)
+  pub expression-told : (stop : halts.Halt) → Stops stop (expression_at (may_name Plain) 32 (64 - depth) here)
+      → Faults (AnyExpression depth) (SomeExpression depth) from here (fault_at (length all) stop)
   expression-told (halt.Syntax left) e = expression-halted left e
   expression-told (halt.TooDeep left) e = expression-too-deep left e
   expression-told halt.NoMemory e = tt

@@ -1,5 +1,6 @@
 -- A token either stops an expression or a block, or some longer one goes on with it. Here there are no limits.
-use Rattle.std.proofs.Common.{◌≡◌, ℕ, suc, ◌<◌, ◌≤◌, Bool, true, false, List, [], ◌∷◌, ◌++◌, Option, Some, None, is_some, ◌⊎◌, inl, inr, refl, sym, ap, subst, ◌∙◌, arith, append_assoc}
+use Rattle.std.proofs.Common.{◌≡◌, ℕ, suc, ◌<◌, ◌≤◌, Bool, true, false, List, [], ◌∷◌, ◌++◌, Option, Some, None, is_some, ◌⊎◌, inl, inr, refl}
+use Rattle.std.proofs.Common.{sym, ap, subst, ◌∙◌, arith, append_assoc}
 use Rattle.seq_tree.specs.Names.{Name}
 use Rattle.seq_tree.specs.Expressions.{Expression, Number, Variable, Paren, Not, Binary}
 use Rattle.seq_tree.specs.Spelling.{expression_tokens, op_token}
@@ -11,7 +12,8 @@ use Rattle.seq_tree.specs.declared.token.Token.TheVariants as token
 use Rattle.seq_read.specs.declared.operators.Class.{Class}
 use Rattle.seq_read.specs.declared.operators.Class.TheVariants as class
 use Rattle.seq_read.specs.Operators.{sees_operator, begins}
-use Rattle.seq_read.proofs.OperatorLaws.{class_of, rank, ranked, sees, same_class_is, logical, NoneLogical, is_relational_class, rank_logical, self_logical, rank_tight, relational_by, rank_not_relational}
+use Rattle.seq_read.proofs.OperatorLaws.{class_of, rank, ranked, sees, same_class_is, logical, NoneLogical, is_relational_class, rank_logical}
+use Rattle.seq_read.proofs.OperatorLaws.{self_logical, rank_tight, relational_by, rank_not_relational}
 use Rattle.seq_read.proofs.ChainLevels.{Belongs, left_of_belongs, belongs_by, only_multiplying, only_adding, rank_of}
 use Rattle.seq_read.proofs.Stopping.{StopsTerm, StopsSimple, StopsRelation, StopsAs, StopsWhole, is_logical}
 
@@ -57,24 +59,34 @@ module _ (is_name : Name → Bool) (d : ℕ) where
     small class.Multiplying = omega arith
 
   -- behind the right side of one
-  inside : (k j : ℕ) (o : BinOp) (l r : Expression) (t : Token) → k ≤ tightness_of (level_of o) → suc (tightness_of (level_of o)) ≤ j → Is (Binary o l r) → Further j r t → Further k (Binary o l r) t
+  inside : (k j : ℕ) (o : BinOp) (l r : Expression) (t : Token) → k ≤ tightness_of (level_of o) → suc (tightness_of (level_of o)) ≤ j
+      → Is (Binary o l r) → Further j r t → Further k (Binary o l r) t
   inside k j o l r t low above p f = record {
     longer = Binary o l f.longer;
     more = f.more;
     tight = low;
     proper = (p.0, (let a = f.tight in omega (arith, a, above)), refl, p.3, f.proper);
-    spelled = ap (λ us. expression_tokens l ++ op_token o ∷ us) f.spelled ∙ sym (append_assoc (expression_tokens l) (op_token o ∷ expression_tokens r) (t ∷ f.more));
+    spelled = ap (λ us. expression_tokens l ++ op_token o ∷ us) f.spelled ∙ sym (append_assoc (expression_tokens l) (op_token o ∷ expression_tokens r)
+        (t ∷ f.more));
   }
 
   loosened : (k j : ℕ) (e : Expression) (t : Token) → k ≤ j → Further j e t → Further k e t
-  loosened k j e t h f = record { longer = f.longer; more = f.more; tight = (let a = f.tight in omega (arith, a, h)); proper = f.proper; spelled = f.spelled }
+  loosened k j e t h f = record {
+    longer = f.longer;
+    more = f.more;
+    tight = (let a = f.tight in omega (arith, a, h));
+    proper = f.proper;
+    spelled = f.spelled;
+  }
 
   -- LEVEL BY LEVEL
   term : (e : Expression) (t : Token) → 3 ≤ tightness e → Is e → StopsTerm e (Some t) ⊎ Further 3 e t
   term e t h p = of (begins class.Multiplying (Some t)) refl where
     of : (b : Bool) → begins class.Multiplying (Some t) ≡ b → StopsTerm e (Some t) ⊎ Further 3 e t
     of false s = inl (s, tt)
-    of true s = let n = next class.Multiplying t s in inr (attach 3 class.Multiplying e t (omega arith) n (left_of_belongs class.Multiplying n.op e n.class_is (belongs_by class.Multiplying only_multiplying e h)) p)
+    of true s = let n = next class.Multiplying t s
+        in inr (attach 3 class.Multiplying e t (omega arith) n (left_of_belongs class.Multiplying n.op e n.class_is
+        (belongs_by class.Multiplying only_multiplying e h)) p)
 
   simple_right : (e : Expression) (t : Token) → 2 ≤ tightness e → Is e → begins class.Adding (Some t) ≡ false → StopsSimple e (Some t) ⊎ Further 2 e t
   simple_right e t h p none = of e h p (belongs_by class.Adding only_adding e h) where
@@ -86,20 +98,27 @@ module _ (is_name : Name → Bool) (d : ℕ) where
     of (Not x) k q (inl b) = absurd (cc)
     of (Binary o l r) k q (inl b) =
         let is = rank_of class.Adding o (same_class_is (class_of o) class.Adding b) in
-        elim (term r t (let a = q.1 in omega (arith, a, is)) q.4) [ inl s ↦ inl (none, s) | inr f ↦ inr (inside 2 3 o l r t (omega (arith, is)) (omega (arith, is)) q f) ]
+        elim (term r t (let a = q.1 in omega (arith, a, is)) q.4) [
+          | inl s ↦ inl (none, s)
+          | inr f ↦ inr
+              (inside 2 3 o l r t (omega (arith, is)) (omega (arith, is)) q f)
+        ]
 
   simple : (e : Expression) (t : Token) → 2 ≤ tightness e → Is e → StopsSimple e (Some t) ⊎ Further 2 e t
   simple e t h p = of (begins class.Adding (Some t)) refl where
     of : (b : Bool) → begins class.Adding (Some t) ≡ b → StopsSimple e (Some t) ⊎ Further 2 e t
     of false s = simple_right e t h p s
-    of true s = let n = next class.Adding t s in inr (attach 2 class.Adding e t (omega arith) n (left_of_belongs class.Adding n.op e n.class_is (belongs_by class.Adding only_adding e h)) p)
+    of true s = let n = next class.Adding t s
+        in inr (attach 2 class.Adding e t (omega arith) n (left_of_belongs class.Adding n.op e n.class_is
+        (belongs_by class.Adding only_adding e h)) p)
 
   -- a side of a comparison alone
   relation_alone : (e : Expression) (t : Token) → 2 ≤ tightness e → Is e → StopsRelation e (Some t) ⊎ Further 1 e t
   relation_alone e t h p = of (begins class.Relational (Some t)) refl where
     of : (b : Bool) → begins class.Relational (Some t) ≡ b → StopsRelation e (Some t) ⊎ Further 1 e t
     of false s = elim (simple e t h p) [ inl q ↦ inl (q, λ out. s) | inr f ↦ inr (loosened 1 2 e t (omega arith) f) ]
-    of true s = let n = next class.Relational t s in inr (attach 1 class.Relational e t (omega arith) n (inr (let r = rank_of class.Relational n.op n.class_is in omega (arith, r, h))) p)
+    of true s = let n = next class.Relational t s
+        in inr (attach 1 class.Relational e t (omega arith) n (inr (let r = rank_of class.Relational n.op n.class_is in omega (arith, r, h))) p)
 
   is_compared : (o : BinOp) → class_of o ≡ class.Relational → is_relational_class (class_of o) ≡ true
   is_compared o is = ap is_relational_class is
@@ -117,15 +136,18 @@ module _ (is_name : Name → Bool) (d : ℕ) where
           | inl q ↦ inl (q, λ out. absurd (let no : true ≡ false = sym s ∙ out in cc))
           | inr f ↦ inr (inside 1 2 o l r t (omega (arith, is)) (omega (arith, is)) p f)
         ]
-    of false s = relation_alone (Binary o l r) t (let r = ranked o in let q = rank_not_relational (class_of o) s (omega (arith, r, h)) in omega (arith, r, q)) p
+    of false s = relation_alone (Binary o l r) t (let r = ranked o in let q = rank_not_relational (class_of o) s (omega (arith, r, h))
+        in omega (arith, r, q)) p
 
   -- the logical level
   none_or : (e : Expression) (t : Token) → 1 ≤ tightness e → Is e → NoneLogical (Some t) ⊎ Further 0 e t
   none_or e t h p = at_and (begins class.And (Some t)) refl where
     behind : (c : Class) → logical c ≡ true → begins c (Some t) ≡ true → Further 0 e t
-    behind c is s = let n = next c t s in attach 0 c e t (omega arith) n (inr (let r = rank_of c n.op n.class_is in let z = rank_logical c is in omega (arith, r, z, h))) p
+    behind c is s = let n = next c t s
+        in attach 0 c e t (omega arith) n (inr (let r = rank_of c n.op n.class_is in let z = rank_logical c is in omega (arith, r, z, h))) p
 
-    at_xor : (b : Bool) → begins class.And (Some t) ≡ false → begins class.Or (Some t) ≡ false → begins class.Xor (Some t) ≡ b → NoneLogical (Some t) ⊎ Further 0 e t
+    at_xor : (b : Bool) → begins class.And (Some t) ≡ false → begins class.Or (Some t) ≡ false → begins class.Xor (Some t) ≡ b
+        → NoneLogical (Some t) ⊎ Further 0 e t
     at_xor true q r s = inr (behind class.Xor refl s)
     at_xor false q r s = inl (q, r, s)
 
@@ -154,7 +176,9 @@ module _ (is_name : Name → Bool) (d : ℕ) where
   goes-on (Not x) t p = whole_alone (Not x) t (omega arith) p refl
   goes-on (Binary o l r) t p = of (logical (class_of o)) refl where
     chained : logical (class_of o) ≡ true → begins (class_of o) (Some t) ≡ true → Further 0 (Binary o l r) t
-    chained is s = let n = next (class_of o) t s in attach 0 (class_of o) (Binary o l r) t (omega arith) n (left_of_belongs (class_of o) n.op (Binary o l r) n.class_is (inl (self_logical (class_of o) is))) p
+    chained is s = let n = next (class_of o) t s
+        in attach 0 (class_of o) (Binary o l r) t (omega arith) n
+        (left_of_belongs (class_of o) n.op (Binary o l r) n.class_is (inl (self_logical (class_of o) is))) p
 
     right : logical (class_of o) ≡ true → begins (class_of o) (Some t) ≡ false → StopsWhole (Binary o l r) (Some t) ⊎ Further 0 (Binary o l r) t
     right is s =
@@ -164,7 +188,8 @@ module _ (is_name : Name → Bool) (d : ℕ) where
           | inr f ↦ inr (inside 0 1 o l r t (omega arith) (omega (arith, z)) p f)
         ]
 
-    under : logical (class_of o) ≡ true → (b : Bool) → begins (class_of o) (Some t) ≡ b → StopsWhole (Binary o l r) (Some t) ⊎ Further 0 (Binary o l r) t
+    under : logical (class_of o) ≡ true → (b : Bool) → begins (class_of o) (Some t) ≡ b → StopsWhole (Binary o l r) (Some t)
+        ⊎ Further 0 (Binary o l r) t
     under is true s = inr (chained is s)
     under is false s = right is s
 

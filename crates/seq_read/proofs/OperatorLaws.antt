@@ -76,7 +76,8 @@ pub record IsSeen (class : Class) (t : Token) (o : BinOp) : Type 0 where
   pub class_is : class_of o ≡ class
   pub token_is : t ≡ op_token o
 
-seen_first : (class : Class) (t : Token) (o p : BinOp) (b : Bool) (later : Option BinOp) → same_token t (op_token p) ≡ b → class_of p ≡ class → (later ≡ Some o → IsSeen class t o) → cond b (Some p) later ≡ Some o → IsSeen class t o
+seen_first : (class : Class) (t : Token) (o p : BinOp) (b : Bool) (later : Option BinOp) → same_token t (op_token p) ≡ b → class_of p ≡ class
+    → (later ≡ Some o → IsSeen class t o) → cond b (Some p) later ≡ Some o → IsSeen class t o
 seen_first class t o p true later same is next e =
     let here : p ≡ o = (let h : Some p ≡ Some o = e in cc) in
     record { class_is = ap class_of (sym here) ∙ is; token_is = same_is t (op_token p) same ∙ ap op_token here }
@@ -88,14 +89,19 @@ none_seen o e = absurd (cc)
 pub sees : (class : Class) (t : Token) (o : BinOp) → sees_operator class t ≡ Some o → IsSeen class t o
 unfolding sees_operator
 sees Multiplying t o e =
-    seen_first Multiplying t o op.Mul (same_token t (op_token op.Mul)) _ refl refl (seen_first Multiplying t o op.Div (same_token t (op_token op.Div)) _ refl refl
+    seen_first Multiplying t o op.Mul (same_token t (op_token op.Mul)) _ refl refl
+    (seen_first Multiplying t o op.Div (same_token t (op_token op.Div)) _ refl refl
     (seen_first Multiplying t o op.Mod (same_token t (op_token op.Mod)) _ refl refl (none_seen o))) e
 sees Adding t o e =
-    seen_first Adding t o op.Add (same_token t (op_token op.Add)) _ refl refl (seen_first Adding t o op.Sub (same_token t (op_token op.Sub)) _ refl refl (none_seen o)) e
+    seen_first Adding t o op.Add (same_token t (op_token op.Add)) _ refl refl
+    (seen_first Adding t o op.Sub (same_token t (op_token op.Sub)) _ refl refl (none_seen o)) e
 sees Relational t o e =
-    seen_first Relational t o op.Eq (same_token t (op_token op.Eq)) _ refl refl (seen_first Relational t o op.Ne (same_token t (op_token op.Ne)) _ refl refl
-    (seen_first Relational t o op.Lt (same_token t (op_token op.Lt)) _ refl refl (seen_first Relational t o op.Le (same_token t (op_token op.Le)) _ refl refl
-    (seen_first Relational t o op.Gt (same_token t (op_token op.Gt)) _ refl refl (seen_first Relational t o op.Ge (same_token t (op_token op.Ge)) _ refl refl (none_seen o)))))) e
+    seen_first Relational t o op.Eq (same_token t (op_token op.Eq)) _ refl refl
+    (seen_first Relational t o op.Ne (same_token t (op_token op.Ne)) _ refl refl
+    (seen_first Relational t o op.Lt (same_token t (op_token op.Lt)) _ refl refl
+    (seen_first Relational t o op.Le (same_token t (op_token op.Le)) _ refl refl
+    (seen_first Relational t o op.Gt (same_token t (op_token op.Gt)) _ refl refl
+    (seen_first Relational t o op.Ge (same_token t (op_token op.Ge)) _ refl refl (none_seen o)))))) e
 sees And t o e = seen_first And t o op.And (same_token t (op_token op.And)) _ refl refl (none_seen o) e
 sees Or t o e = seen_first Or t o op.Or (same_token t (op_token op.Or)) _ refl refl (none_seen o) e
 sees Xor t o e = seen_first Xor t o op.Xor (same_token t (op_token op.Xor)) _ refl refl (none_seen o) e

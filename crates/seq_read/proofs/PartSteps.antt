@@ -18,7 +18,8 @@ use Rattle.seq_read.proofs.Turns.{onward, onward-fails, onward-ends}
 takes-param : (is_name : Name → Bool) → Takes 0 (param_at is_name)
 unfolding param_at named_at
 takes-param is_name =
-    takes-then (takes-any 1 (takes-name is_name)) (λ name. takes-then (any-fixed (Sign Colon)) (λ _. takes-then (takes-any 1 (takes-token (sees_by mode_named))) (λ mode.
+    takes-then (takes-any 1 (takes-name is_name)) (λ name. takes-then (any-fixed (Sign Colon))
+    (λ _. takes-then (takes-any 1 (takes-token (sees_by mode_named))) (λ mode.
     takes-then (any-word (codes "word")) (λ _. takes-pure (record { name = name; mode = mode })))))
 
 pub takes-more_param : (is_name : Name → Bool) → Takes 1 (more_param_at is_name)
@@ -37,7 +38,8 @@ params-start is_name p ts = refl
 pub takes-datum : (is_name : Name → Bool) → Takes 1 (datum_at is_name)
 unfolding datum_at
 takes-datum is_name =
-    takes-then (takes-name is_name) (λ name. takes-then (any-fixed (Sign Colon)) (λ _. takes-then (any-word (codes "word")) (λ _. takes-then (any-fixed (Sign Becomes)) (λ _.
+    takes-then (takes-name is_name) (λ name. takes-then (any-fixed (Sign Colon))
+    (λ _. takes-then (any-word (codes "word")) (λ _. takes-then (any-fixed (Sign Becomes)) (λ _.
     takes-then (takes-any 1 takes-number) (λ n. closes (record { name = name; value = n }))))))
 
 -- the variables so far, and those that are left

@@ -26,7 +26,8 @@ takes-pure {T} {A} a = record { fewer = λ ts b rest e. omega (arith, ap length 
 pub takes-deep : {T A : Type 0} (k : ℕ) → Takes {T = T} {A = A} k deep_at
 takes-deep {T} {A} k = record { fewer = λ ts a rest e. absurd (cc) }
 
-pub takes-then : {T A B : Type 0} {k : ℕ} {r : List T → Read T A} {f : A → List T → Read T B} → Takes k r → ((a : A) → Takes 0 (f a)) → Takes k (then_at r f)
+pub takes-then : {T A B : Type 0} {k : ℕ} {r : List T → Read T A} {f : A → List T → Read T B} → Takes k r → ((a : A) → Takes 0 (f a))
+    → Takes k (then_at r f)
 takes-then {r = r} {f = f} one two = record {
   fewer = λ ts b rest e.
       let both = bind_ok (r ts) (λ x. f x.0 x.1) (b, rest) e in

@@ -1,5 +1,6 @@
 -- A text has at most one fault, and one that reads as a tree within the limits has none.
-use Rattle.std.proofs.Common.{◌≡◌, ℕ, ◌<◌, ◌≤◌, ◌-◌, List, [], ◌++◌, length, take, Ok, Err, ◌⊎◌, inl, inr, refl, sym, ap, subst, ◌∙◌, arith, append-nil}
+use Rattle.std.proofs.Common.{◌≡◌, ℕ, ◌<◌, ◌≤◌, ◌-◌, List, [], ◌++◌, length, take, Ok, Err, ◌⊎◌, inl, inr, refl, sym, ap, subst, ◌∙◌, arith}
+use Rattle.std.proofs.Common.{append-nil}
 use Rattle.std.proofs.Math.Seq.{take-length}
 use Rattle.seq_tree.specs.Lexis.{Misread, Stray, Great, Long, tokens, plain}
 use Rattle.seq_tree.specs.Reach.{IsReach, Fault, Syntax, TooDeep, IsFault}
@@ -65,20 +66,41 @@ record IsOfTokens (Any Within : List Token → Type 0) (limit : ℕ) (bytes : Li
   pub is : f ≡ told_as place kind
 
 abbrev IsOneOf : (List Token → Type 0) → (List Token → Type 0) → ℕ → List ℕ → TextFault → Type 0
-IsOneOf Any Within limit bytes f = IsLexical limit bytes f ⊎ (IsOfTokens Any Within limit bytes f ⊎ ((limit < length bytes) × (f ≡ fault.FileTooLong)))
+IsOneOf Any Within limit bytes f = IsLexical limit bytes f ⊎ (IsOfTokens Any Within limit bytes f
+    ⊎ ((limit < length bytes) × (f ≡ fault.FileTooLong)))
 
-one_of : (Any Within : List Token → Type 0) (limit : ℕ) (bytes : List ℕ) (f : TextFault) → Faults Any Within limit bytes f → IsOneOf Any Within limit bytes f
+one_of : (Any Within : List Token → Type 0) (limit : ℕ) (bytes : List ℕ) (f : TextFault) → Faults Any Within limit bytes f
+    → IsOneOf Any Within limit bytes f
 one_of Any Within limit bytes (fault.Byte place) h = inl (record { misread = Stray place; short = h.0; read = h.1; is = refl })
 one_of Any Within limit bytes (fault.Number place) h = inl (record { misread = Great place; short = h.0; read = h.1; is = refl })
 one_of Any Within limit bytes (fault.Long place) h = inl (record { misread = Long place; short = h.0; read = h.1; is = refl })
 one_of Any Within limit bytes (fault.Syntax place) h =
-    inr (inl (record { place = place; kind = Syntax h.index; short = h.short; found = h.found; read = h.read; of = h.fault; here = h.here; is = refl }))
+    inr (inl (record {
+      place = place;
+      kind = Syntax h.index;
+      short = h.short;
+      found = h.found;
+      read = h.read;
+      of = h.fault;
+      here = h.here;
+      is = refl;
+    }))
 one_of Any Within limit bytes (fault.TooDeep place) h =
-    inr (inl (record { place = place; kind = TooDeep h.index; short = h.short; found = h.found; read = h.read; of = h.fault; here = h.here; is = refl }))
+    inr (inl (record {
+      place = place;
+      kind = TooDeep h.index;
+      short = h.short;
+      found = h.found;
+      read = h.read;
+      of = h.fault;
+      here = h.here;
+      is = refl;
+    }))
 one_of Any Within limit bytes fault.FileTooLong h = inr (inr (h, refl))
 one_of Any Within limit bytes fault.NoMemory h = absurd h
 
-one_stop : (Any Within : List Token → Type 0) (limit : ℕ) (bytes : List ℕ) (f g : TextFault) → IsOfTokens Any Within limit bytes f → IsOfTokens Any Within limit bytes g → f ≡ g
+one_stop : (Any Within : List Token → Type 0) (limit : ℕ) (bytes : List ℕ) (f g : TextFault) → IsOfTokens Any Within limit bytes f
+    → IsOfTokens Any Within limit bytes g → f ≡ g
 one_stop Any Within limit bytes f g a b =
     let found = one_list bytes a.found b.found a.read b.read in
     let P : List Spanned → Type 0 = λ z. IsFault Any Within (bare z) a.kind in
@@ -87,7 +109,8 @@ one_stop Any Within limit bytes f g a b =
     ∙ ap (λ z. place_at bytes b.found (length b.found - index_of z)) kind ∙ sym b.here in
     a.is ∙ ap (λ z. told_as z a.kind) place ∙ ap (told_as b.place) kind ∙ sym b.is
 
-one : (Any Within : List Token → Type 0) (limit : ℕ) (bytes : List ℕ) (f g : TextFault) → IsOneOf Any Within limit bytes f → IsOneOf Any Within limit bytes g → f ≡ g
+one : (Any Within : List Token → Type 0) (limit : ℕ) (bytes : List ℕ) (f g : TextFault) → IsOneOf Any Within limit bytes f
+    → IsOneOf Any Within limit bytes g → f ≡ g
 one Any Within limit bytes f g (inl a) (inl b) =
     let same : Err a.misread ≡ Err b.misread = sym a.read ∙ b.read in
     let misread : a.misread ≡ b.misread = cc in a.is ∙ ap lexical misread ∙ sym b.is
@@ -101,7 +124,8 @@ one Any Within limit bytes f g (inr (inr a)) (inr (inl b)) = let short = b.short
 one Any Within limit bytes f g (inr (inr a)) (inr (inr b)) = a.1 ∙ sym b.1
 
 -- a text has at most one fault
-pub one-text-fault : (Any Within : List Token → Type 0) (limit : ℕ) (bytes : List ℕ) (f g : TextFault) → Faults Any Within limit bytes f → Faults Any Within limit bytes g → f ≡ g
+pub one-text-fault : (Any Within : List Token → Type 0) (limit : ℕ) (bytes : List ℕ) (f g : TextFault) → Faults Any Within limit bytes f
+    → Faults Any Within limit bytes g → f ≡ g
 one-text-fault Any Within limit bytes f g a b = one Any Within limit bytes f g (one_of Any Within limit bytes f a) (one_of Any Within limit bytes g b)
 
 -- TEXTS WITHOUT A FAULT
@@ -111,10 +135,12 @@ bare-spelled bytes ts text e r = let same : Ok (bare ts) ≡ Ok text = sym (ap p
 not_misread : (bytes : List ℕ) (text : List Token) (misread : Misread) → plain (tokens bytes) ≡ Ok text → tokens bytes ≡ Err misread → ⊥
 not_misread bytes text misread r e = let same : Err misread ≡ Ok text = sym (ap plain e) ∙ r in cc
 
-not_syntax : (Any Within : List Token → Type 0) (limit : ℕ) (bytes : List ℕ) (text : List Token) (place : Place) → plain (tokens bytes) ≡ Ok text → Any text → IsFaultyAt Any Within limit bytes place Syntax → ⊥
+not_syntax : (Any Within : List Token → Type 0) (limit : ℕ) (bytes : List ℕ) (text : List Token) (place : Place) → plain (tokens bytes) ≡ Ok text
+    → Any text → IsFaultyAt Any Within limit bytes place Syntax → ⊥
 not_syntax Any Within limit bytes text place r any h = h.fault.none (subst Any (sym (bare-spelled bytes h.found text h.read r)) any)
 
-not_deep : (Any Within : List Token → Type 0) (limit : ℕ) (bytes : List ℕ) (text : List Token) (place : Place) → plain (tokens bytes) ≡ Ok text → Within text → IsFaultyAt Any Within limit bytes place TooDeep → ⊥
+not_deep : (Any Within : List Token → Type 0) (limit : ℕ) (bytes : List ℕ) (text : List Token) (place : Place) → plain (tokens bytes) ≡ Ok text
+    → Within text → IsFaultyAt Any Within limit bytes place TooDeep → ⊥
 not_deep Any Within limit bytes text place r within h =
     let ts = bare h.found in
     let whole : Within ts = subst Within (sym (bare-spelled bytes h.found text h.read r)) within in

@@ -14,8 +14,11 @@ use Rattle.seq_read.specs.declared.operators.Class.TheVariants.{Multiplying, Add
 use Rattle.seq_read.specs.declared.statements.Kind.{Kind}
 use Rattle.seq_read.specs.declared.statements.Kind.TheVariants as kind
 use Rattle.seq_read.specs.Operators.{sees_operator, begins, logical_class}
-use Rattle.seq_read.specs.Expressions.{ExpressionReader, paren_at, literal_at, variable_at, primary_at, inverse_at, factor_at, chain_at, term_at, simple_at, comparison_at, relation_at, logic_at, whole_expression_at, expression_at}
-use Rattle.seq_read.specs.Statements.{StatementReader, BlockReader, word, begins_statement, kind_of, null_at, work_at, put_at, exit_at, assignment_at, further_at, list_at, actuals_at, call_at, named_at, guarded_at, arm_at, else_at, otherwise_at, if_at, for_at, statement_with, block_with, statement_at}
+use Rattle.seq_read.specs.Expressions.{ExpressionReader, paren_at, literal_at, variable_at, primary_at, inverse_at, factor_at, chain_at, term_at}
+use Rattle.seq_read.specs.Expressions.{simple_at, comparison_at, relation_at, logic_at, whole_expression_at, expression_at}
+use Rattle.seq_read.specs.Statements.{StatementReader, BlockReader, word, begins_statement, kind_of, null_at, work_at, put_at, exit_at}
+use Rattle.seq_read.specs.Statements.{assignment_at, further_at, list_at, actuals_at, call_at, named_at, guarded_at, arm_at, else_at}
+use Rattle.seq_read.specs.Statements.{otherwise_at, if_at, for_at, statement_with, block_with, statement_at}
 use Rattle.seq_read.proofs.Takes.{Takes, takes-any, takes-token, takes-pure, takes-deep, takes-then, takes-choose, takes-pick, takes-many}
 
 pub takes-fixed : (u : Token) → Takes 1 (fixed_at u)
@@ -36,7 +39,8 @@ takes-name is_name = takes-token (sees_name is_name)
 -- EXPRESSIONS
 takes-paren : (inner : ExpressionReader) → Takes 0 inner → Takes 0 (paren_at inner)
 unfolding paren_at
-takes-paren inner one = takes-then (any-fixed (token.Sign LeftParen)) (λ _. takes-then one (λ e. takes-then (any-fixed (token.Sign RightParen)) (λ _. takes-pure (Paren e))))
+takes-paren inner one = takes-then (any-fixed (token.Sign LeftParen))
+    (λ _. takes-then one (λ e. takes-then (any-fixed (token.Sign RightParen)) (λ _. takes-pure (Paren e))))
 
 module _ (is_name : Name → Bool) (most : ℕ) (paren : ExpressionReader) (one : Takes 0 paren) where
   takes-literal : Takes 0 literal_at
@@ -63,7 +67,8 @@ module _ (is_name : Name → Bool) (most : ℕ) (paren : ExpressionReader) (one 
   unfolding chain_at
   takes-chain class operand two zero e = takes-choose (begins class) (takes-deep 0) (takes-pure e)
   takes-chain class operand two (suc n) e =
-      takes-choose (begins class) (takes-then (takes-any 1 (takes-token (sees_operator class))) (λ op. takes-then two (λ f. takes-chain class operand two n (Binary op e f)))) (takes-pure e)
+      takes-choose (begins class) (takes-then (takes-any 1 (takes-token (sees_operator class)))
+      (λ op. takes-then two (λ f. takes-chain class operand two n (Binary op e f)))) (takes-pure e)
 
   takes-term : Takes 0 (term_at is_name most paren)
   unfolding term_at
@@ -77,16 +82,19 @@ module _ (is_name : Name → Bool) (most : ℕ) (paren : ExpressionReader) (one 
   unfolding relation_at comparison_at
   takes-relation =
       takes-then takes-simple (λ e. takes-choose (begins Relational)
-      (takes-then (takes-any 1 (takes-token (sees_operator Relational))) (λ op. takes-then takes-simple (λ f. takes-pure (Binary op e f)))) (takes-pure e))
+      (takes-then (takes-any 1 (takes-token (sees_operator Relational))) (λ op. takes-then takes-simple (λ f. takes-pure (Binary op e f))))
+      (takes-pure e))
 
   takes-whole : Takes 0 (whole_expression_at is_name most paren)
   unfolding whole_expression_at logic_at
-  takes-whole = takes-then takes-relation (λ e. takes-pick logical_class (λ class. takes-chain class (relation_at is_name most paren) takes-relation most e))
+  takes-whole = takes-then takes-relation
+      (λ e. takes-pick logical_class (λ class. takes-chain class (relation_at is_name most paren) takes-relation most e))
 
 pub takes-expression : (is_name : Name → Bool) (most deeper : ℕ) → Takes 0 (expression_at is_name most deeper)
 unfolding expression_at
 takes-expression is_name most zero = takes-whole is_name most deep_at (takes-deep 0)
-takes-expression is_name most (suc deeper) = takes-whole is_name most (paren_at (expression_at is_name most deeper)) (takes-paren (expression_at is_name most deeper) (takes-expression is_name most deeper))
+takes-expression is_name most (suc deeper) = takes-whole is_name most (paren_at (expression_at is_name most deeper))
+    (takes-paren (expression_at is_name most deeper) (takes-expression is_name most deeper))
 
 -- STATEMENTS
 pub takes-further : (expression : ExpressionReader) → Takes 0 expression → Takes 1 (further_at expression)
@@ -108,7 +116,8 @@ module _ (is_name : Name → Bool) (expression : ExpressionReader) (one : Takes 
   takes-work : Takes 1 work_at
   unfolding work_at
   takes-work =
-      takes-then (takes-fixed (token.Word (codes "work"))) (λ _. takes-then (any-fixed (token.Sign LeftParen)) (λ _. takes-then (takes-any 1 takes-number) (λ n.
+      takes-then (takes-fixed (token.Word (codes "work"))) (λ _. takes-then (any-fixed (token.Sign LeftParen))
+      (λ _. takes-then (takes-any 1 takes-number) (λ n.
       takes-then (any-fixed (token.Sign RightParen)) (λ _. closes (Work n)))))
 
   takes-put : Takes 1 (put_at expression)
@@ -119,7 +128,8 @@ module _ (is_name : Name → Bool) (expression : ExpressionReader) (one : Takes 
 
   takes-exit : Takes 1 (exit_at expression)
   unfolding exit_at
-  takes-exit = takes-then (takes-fixed (token.Word (codes "exit"))) (λ _. takes-then (any-word (codes "when")) (λ _. takes-then one (λ e. closes (ExitWhen e))))
+  takes-exit = takes-then (takes-fixed (token.Word (codes "exit")))
+      (λ _. takes-then (any-word (codes "when")) (λ _. takes-then one (λ e. closes (ExitWhen e))))
 
   takes-assignment : (target : Name) → Takes 0 (assignment_at expression target)
   unfolding assignment_at
@@ -139,7 +149,8 @@ module _ (is_name : Name → Bool) (expression : ExpressionReader) (one : Takes 
   takes-call : (object : Name) → Takes 0 (call_at is_name expression object)
   unfolding call_at
   takes-call object =
-      takes-then (any-fixed (token.Sign Dot)) (λ _. takes-then (takes-any 1 (takes-name is_name)) (λ op. takes-then takes-actuals (λ es. closes (Call object op es))))
+      takes-then (any-fixed (token.Sign Dot)) (λ _. takes-then (takes-any 1 (takes-name is_name))
+      (λ op. takes-then takes-actuals (λ es. closes (Call object op es))))
 
   takes-named : Takes 1 (named_at is_name expression)
   unfolding named_at
@@ -157,21 +168,25 @@ module _ (is_name : Name → Bool) (expression : ExpressionReader) (one : Takes 
     takes-otherwise : Takes 0 (otherwise_at block)
     unfolding otherwise_at else_at
     takes-otherwise =
-        takes-choose (next_is (token.Word (codes "else"))) (takes-then (any-word (codes "else")) (λ _. takes-then two (λ b. takes-pure (Else b)))) (takes-pure Nothing)
+        takes-choose (next_is (token.Word (codes "else"))) (takes-then (any-word (codes "else")) (λ _. takes-then two (λ b. takes-pure (Else b))))
+        (takes-pure Nothing)
 
     takes-if : Takes 1 (if_at expression block)
     unfolding if_at
     takes-if =
         takes-then (takes-fixed (token.Word (codes "if"))) (λ _. takes-then takes-guarded (λ arm.
-        takes-then (takes-many (next_is (token.Word (codes "elsif"))) (arm_at expression block) (takes-any 1 takes-arm)) (λ arms. takes-then takes-otherwise (λ other.
+        takes-then (takes-many (next_is (token.Word (codes "elsif"))) (arm_at expression block) (takes-any 1 takes-arm))
+        (λ arms. takes-then takes-otherwise (λ other.
         takes-then (any-word (codes "end")) (λ _. takes-then (any-word (codes "if")) (λ _. closes (If (branches_of (arm ∷ arms) other))))))))
 
     takes-for : Takes 1 (for_at is_name block)
     unfolding for_at
     takes-for =
-        takes-then (takes-fixed (token.Word (codes "for"))) (λ _. takes-then (takes-any 1 (takes-name is_name)) (λ name. takes-then (any-word (codes "in")) (λ _.
+        takes-then (takes-fixed (token.Word (codes "for"))) (λ _. takes-then (takes-any 1 (takes-name is_name))
+        (λ name. takes-then (any-word (codes "in")) (λ _.
         takes-then (any-word (codes "word")) (λ _. takes-then (any-word (codes "range")) (λ _. takes-then (takes-any 1 takes-number) (λ low.
-        takes-then (any-fixed (token.Sign DotDot)) (λ _. takes-then (takes-any 1 takes-number) (λ high. takes-then (any-word (codes "loop")) (λ _. takes-then two (λ b.
+        takes-then (any-fixed (token.Sign DotDot)) (λ _. takes-then (takes-any 1 takes-number)
+        (λ high. takes-then (any-word (codes "loop")) (λ _. takes-then two (λ b.
         takes-then (any-word (codes "end")) (λ _. takes-then (any-word (codes "loop")) (λ _. closes (For name low high b)))))))))))))
 
   module _ (branching looping : StatementReader) (two : Takes 1 branching) (three : Takes 1 looping) where
@@ -188,15 +203,20 @@ module _ (is_name : Name → Bool) (expression : ExpressionReader) (one : Takes 
 pub takes-block : (is_name : Name → Bool) (statement : StatementReader) → Takes 1 statement → Takes 0 (block_with is_name statement)
 unfolding block_with
 takes-block is_name statement one =
-    takes-then (takes-any 1 one) (λ s. takes-then (takes-many (begins_statement is_name) statement (takes-any 1 one)) (λ ss. takes-pure (statements_of (s ∷ ss))))
+    takes-then (takes-any 1 one) (λ s. takes-then (takes-many (begins_statement is_name) statement (takes-any 1 one))
+    (λ ss. takes-pure (statements_of (s ∷ ss))))
 
 pub takes-statement : (is_name : Name → Bool) (most deeper : ℕ) → Takes 1 (statement_at is_name most deeper)
 unfolding statement_at
 takes-statement is_name most zero =
-    takes-pick kind_of (takes-statement-with is_name (expression_at is_name most zero) (takes-expression is_name most zero) deep_at deep_at (takes-deep 1) (takes-deep 1))
+    takes-pick kind_of (takes-statement-with is_name (expression_at is_name most zero) (takes-expression is_name most zero) deep_at deep_at
+    (takes-deep 1) (takes-deep 1))
 takes-statement is_name most (suc deeper) =
     let inner = takes-block is_name (statement_at is_name most deeper) (takes-statement is_name most deeper) in
     takes-pick kind_of (takes-statement-with is_name (expression_at is_name most (suc deeper)) (takes-expression is_name most (suc deeper))
-    (if_at (expression_at is_name most deeper) (block_with is_name (statement_at is_name most deeper))) (for_at is_name (block_with is_name (statement_at is_name most deeper)))
-    (takes-if is_name (expression_at is_name most deeper) (takes-expression is_name most deeper) (block_with is_name (statement_at is_name most deeper)) inner)
-    (takes-for is_name (expression_at is_name most deeper) (takes-expression is_name most deeper) (block_with is_name (statement_at is_name most deeper)) inner))
+    (if_at (expression_at is_name most deeper) (block_with is_name (statement_at is_name most deeper)))
+    (for_at is_name (block_with is_name (statement_at is_name most deeper)))
+    (takes-if is_name (expression_at is_name most deeper) (takes-expression is_name most deeper)
+    (block_with is_name (statement_at is_name most deeper)) inner)
+    (takes-for is_name (expression_at is_name most deeper) (takes-expression is_name most deeper)
+    (block_with is_name (statement_at is_name most deeper)) inner))

@@ -35,5 +35,6 @@ SaysBlock depth from ts (Err e) = Faults (AnyBlock depth) (SomeBlock depth) from
 -- the answer with an expression
 abbrev pub SaysExpression : ℕ → ℕ → List Token → Result (Expr × ℕ) ReadFault → Type 0
 SaysExpression depth from ts (Ok x) =
-    (place : ℕ) × (x.1 ≡ from + place) × IsLongest (AnyExpression depth) (SomeExpression depth) ts place × IsExpressionText depth (expression_of x.0) (take place ts)
+    (place : ℕ) × (x.1 ≡ from + place) × IsLongest (AnyExpression depth) (SomeExpression depth) ts place
+    × IsExpressionText depth (expression_of x.0) (take place ts)
 SaysExpression depth from ts (Err e) = Faults (AnyExpression depth) (SomeExpression depth) from ts e

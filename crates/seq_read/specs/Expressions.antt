@@ -17,7 +17,8 @@ ExpressionReader = List Token → Read Token Expression
 
 -- an expression in parentheses
 unfoldable pub paren_at : ExpressionReader → ExpressionReader
-paren_at inner = then_at (fixed_at (token.Sign LeftParen)) (λ _. then_at inner (λ e. then_at (fixed_at (token.Sign RightParen)) (λ _. pure_at (Paren e))))
+paren_at inner = then_at (fixed_at (token.Sign LeftParen))
+    (λ _. then_at inner (λ e. then_at (fixed_at (token.Sign RightParen)) (λ _. pure_at (Paren e))))
 
 -- a number
 unfoldable pub literal_at : ExpressionReader
@@ -43,7 +44,8 @@ factor_at is_name paren = choose_at (next_is (token.Word (codes "not"))) (invers
 unfoldable pub chain_at : Class → ExpressionReader → ℕ → Expression → ExpressionReader
 chain_at class operand zero e = choose_at (begins class) deep_at (pure_at e)
 chain_at class operand (suc most) e =
-    choose_at (begins class) (then_at (token_at (sees_operator class)) (λ op. then_at operand (λ f. chain_at class operand most (Binary op e f)))) (pure_at e)
+    choose_at (begins class) (then_at (token_at (sees_operator class)) (λ op. then_at operand (λ f. chain_at class operand most (Binary op e f))))
+    (pure_at e)
 
 -- factors
 unfoldable pub term_at : (Name → Bool) → ℕ → ExpressionReader → ExpressionReader
@@ -56,7 +58,8 @@ simple_at is_name most paren = then_at (term_at is_name most paren) (λ e. chain
 -- what may follow the first side of a comparison
 unfoldable pub comparison_at : (Name → Bool) → ℕ → ExpressionReader → Expression → ExpressionReader
 comparison_at is_name most paren e =
-    choose_at (begins Relational) (then_at (token_at (sees_operator Relational)) (λ op. then_at (simple_at is_name most paren) (λ f. pure_at (Binary op e f)))) (pure_at e)
+    choose_at (begins Relational) (then_at (token_at (sees_operator Relational))
+    (λ op. then_at (simple_at is_name most paren) (λ f. pure_at (Binary op e f)))) (pure_at e)
 
 -- a comparison, or one side alone
 unfoldable pub relation_at : (Name → Bool) → ℕ → ExpressionReader → ExpressionReader

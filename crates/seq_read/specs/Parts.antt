@@ -34,7 +34,8 @@ mode_named name = if same_name name (codes "in") then Some In else (if same_name
 -- a parameter
 unfoldable pub param_at : (Name → Bool) → List Token → Read Token Param
 param_at is_name =
-    then_at (name_at is_name) (λ name. then_at (fixed_at (Sign Colon)) (λ _. then_at (named_at mode_named) (λ mode. then_at (word (codes "word")) (λ _.
+    then_at (name_at is_name) (λ name. then_at (fixed_at (Sign Colon))
+    (λ _. then_at (named_at mode_named) (λ mode. then_at (word (codes "word")) (λ _.
     pure_at (record { name = name; mode = mode })))))
 
 -- a further parameter
@@ -48,7 +49,8 @@ params_from_at is_name p = then_at (many_at (next_is (Sign Semicolon)) (more_par
 -- a variable and its first value
 unfoldable pub datum_at : (Name → Bool) → List Token → Read Token Datum
 datum_at is_name =
-    then_at (name_at is_name) (λ name. then_at (fixed_at (Sign Colon)) (λ _. then_at (word (codes "word")) (λ _. then_at (fixed_at (Sign Becomes)) (λ _.
+    then_at (name_at is_name) (λ name. then_at (fixed_at (Sign Colon))
+    (λ _. then_at (word (codes "word")) (λ _. then_at (fixed_at (Sign Becomes)) (λ _.
     then_at number_at (λ n. then_at (fixed_at (Sign Semicolon)) (λ _. pure_at (record { name = name; value = n })))))))
 
 -- variables, as many as there are

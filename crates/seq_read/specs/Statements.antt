@@ -56,24 +56,28 @@ null_at = then_at (word (codes "null")) (λ _. then_at (fixed_at (token.Sign Sem
 -- `work (n);`
 unfoldable pub work_at : StatementReader
 work_at =
-    then_at (word (codes "work")) (λ _. then_at (fixed_at (token.Sign LeftParen)) (λ _. then_at number_at (λ n. then_at (fixed_at (token.Sign RightParen)) (λ _.
+    then_at (word (codes "work")) (λ _. then_at (fixed_at (token.Sign LeftParen))
+    (λ _. then_at number_at (λ n. then_at (fixed_at (token.Sign RightParen)) (λ _.
     then_at (fixed_at (token.Sign Semicolon)) (λ _. pure_at (Work n))))))
 
 -- `put (e);`
 unfoldable pub put_at : ExpressionReader → StatementReader
 put_at expression =
-    then_at (word (codes "put")) (λ _. then_at (fixed_at (token.Sign LeftParen)) (λ _. then_at expression (λ e. then_at (fixed_at (token.Sign RightParen)) (λ _.
+    then_at (word (codes "put")) (λ _. then_at (fixed_at (token.Sign LeftParen))
+    (λ _. then_at expression (λ e. then_at (fixed_at (token.Sign RightParen)) (λ _.
     then_at (fixed_at (token.Sign Semicolon)) (λ _. pure_at (Put e))))))
 
 -- `exit when e;`
 unfoldable pub exit_at : ExpressionReader → StatementReader
 exit_at expression =
-    then_at (word (codes "exit")) (λ _. then_at (word (codes "when")) (λ _. then_at expression (λ e. then_at (fixed_at (token.Sign Semicolon)) (λ _. pure_at (ExitWhen e)))))
+    then_at (word (codes "exit")) (λ _. then_at (word (codes "when"))
+    (λ _. then_at expression (λ e. then_at (fixed_at (token.Sign Semicolon)) (λ _. pure_at (ExitWhen e)))))
 
 -- an assignment, behind its target
 unfoldable pub assignment_at : ExpressionReader → Name → StatementReader
 assignment_at expression target =
-    then_at (fixed_at (token.Sign Becomes)) (λ _. then_at expression (λ e. then_at (fixed_at (token.Sign Semicolon)) (λ _. pure_at (Assign target e))))
+    then_at (fixed_at (token.Sign Becomes))
+    (λ _. then_at expression (λ e. then_at (fixed_at (token.Sign Semicolon)) (λ _. pure_at (Assign target e))))
 
 -- a further actual
 unfoldable pub further_at : ExpressionReader → ExpressionReader
@@ -82,7 +86,8 @@ further_at expression = then_at (fixed_at (token.Sign Comma)) (λ _. expression)
 -- actuals in parentheses
 unfoldable pub list_at : ExpressionReader → List Token → Read Token (List Expression)
 list_at expression =
-    then_at (fixed_at (token.Sign LeftParen)) (λ _. then_at expression (λ e. then_at (many_at (next_is (token.Sign Comma)) (further_at expression)) (λ es.
+    then_at (fixed_at (token.Sign LeftParen))
+    (λ _. then_at expression (λ e. then_at (many_at (next_is (token.Sign Comma)) (further_at expression)) (λ es.
     then_at (fixed_at (token.Sign RightParen)) (λ _. pure_at (e ∷ es)))))
 
 -- actuals, where there are any
@@ -119,16 +124,21 @@ otherwise_at block = choose_at (next_is (token.Word (codes "else"))) (else_at bl
 -- an `if`, by what is read inside it
 unfoldable pub if_at : ExpressionReader → BlockReader → StatementReader
 if_at expression block =
-    then_at (word (codes "if")) (λ _. then_at (guarded_at expression block) (λ arm. then_at (many_at (next_is (token.Word (codes "elsif"))) (arm_at expression block)) (λ arms.
-    then_at (otherwise_at block) (λ other. then_at (word (codes "end")) (λ _. then_at (word (codes "if")) (λ _. then_at (fixed_at (token.Sign Semicolon)) (λ _.
+    then_at (word (codes "if")) (λ _. then_at (guarded_at expression block)
+    (λ arm. then_at (many_at (next_is (token.Word (codes "elsif"))) (arm_at expression block)) (λ arms.
+    then_at (otherwise_at block) (λ other. then_at (word (codes "end"))
+    (λ _. then_at (word (codes "if")) (λ _. then_at (fixed_at (token.Sign Semicolon)) (λ _.
     pure_at (If (branches_of (arm ∷ arms) other)))))))))
 
 -- a loop, by what is read inside it
 unfoldable pub for_at : (Name → Bool) → BlockReader → StatementReader
 for_at is_name block =
-    then_at (word (codes "for")) (λ _. then_at (name_at is_name) (λ name. then_at (word (codes "in")) (λ _. then_at (word (codes "word")) (λ _. then_at (word (codes "range")) (λ _.
-    then_at number_at (λ low. then_at (fixed_at (token.Sign DotDot)) (λ _. then_at number_at (λ high. then_at (word (codes "loop")) (λ _. then_at block (λ b.
-    then_at (word (codes "end")) (λ _. then_at (word (codes "loop")) (λ _. then_at (fixed_at (token.Sign Semicolon)) (λ _. pure_at (For name low high b))))))))))))))
+    then_at (word (codes "for")) (λ _. then_at (name_at is_name) (λ name. then_at (word (codes "in"))
+    (λ _. then_at (word (codes "word")) (λ _. then_at (word (codes "range")) (λ _.
+    then_at number_at (λ low. then_at (fixed_at (token.Sign DotDot))
+    (λ _. then_at number_at (λ high. then_at (word (codes "loop")) (λ _. then_at block (λ b.
+    then_at (word (codes "end")) (λ _. then_at (word (codes "loop"))
+    (λ _. then_at (fixed_at (token.Sign Semicolon)) (λ _. pure_at (For name low high b))))))))))))))
 
 -- a statement, by what is read of expressions, and where an `if` or a loop begins
 unfoldable pub statement_with : (Name → Bool) → ExpressionReader → StatementReader → StatementReader → Kind → StatementReader
@@ -142,7 +152,8 @@ statement_with is_name expression branching looping kind.Named = named_at is_nam
 
 -- statements, one at least
 unfoldable pub block_with : (Name → Bool) → StatementReader → BlockReader
-block_with is_name statement = then_at statement (λ s. then_at (many_at (begins_statement is_name) statement) (λ ss. pure_at (statements_of (s ∷ ss))))
+block_with is_name statement = then_at statement (λ s. then_at (many_at (begins_statement is_name) statement)
+    (λ ss. pure_at (statements_of (s ∷ ss))))
 
 -- a statement inside which constructs nest at most so deep
 unfoldable pub statement_at : (Name → Bool) → ℕ → ℕ → StatementReader

@@ -3,7 +3,8 @@ ghost use Rattle.seq_tree.specs.Trees.{expression_of};
 ghost use Rattle.token_read.specs.Ahead.{ahead};
 ghost use Rattle.seq_read.specs.Halts.{Gives};
 ghost use Rattle.seq_read.specs.Names.{may_name};
-ghost use Rattle.seq_read.specs.Expressions.{literal_at, variable_at, primary_at, inverse_at, factor_at, chain_at, term_at, simple_at, comparison_at, relation_at, logic_at, expression_at};
+ghost use Rattle.seq_read.specs.Expressions.{literal_at, variable_at, primary_at, inverse_at, factor_at, chain_at, term_at, simple_at};
+ghost use Rattle.seq_read.specs.Expressions.{comparison_at, relation_at, logic_at, expression_at};
 ghost use Rattle.seq_read.specs.Levels.{opened_at, operand_at, binary_at};
 
 use crate::halt::Halt;
@@ -51,7 +52,8 @@ fn paren(alloc: Global, tokens: Tokens, text: Text, deeper: u32) -> Result<(Expr
 #[cycle(levels)]
 #[tactic(auto, unfolding(crate::specs::Expressions::primary_at))]
 fn primary(alloc: Global, tokens: Tokens, text: Text, deeper: u32) -> Result<(Expr, Tokens), Halt>
-    ensures { Gives (λ r. (expression_of r.0, ahead r.1)) result (primary_at (may_name text) (opened_at (may_name text) 32 deeper) (ahead tokens.entry)) }
+    ensures { Gives (λ r. (expression_of r.0, ahead r.1)) result (primary_at (may_name text) (opened_at (may_name text) 32 deeper)
+        (ahead tokens.entry)) }
 {
     if next_is_mark(tokens, Mark::LeftParen) {
         paren(alloc, tokens, text, deeper)
@@ -66,7 +68,8 @@ fn primary(alloc: Global, tokens: Tokens, text: Text, deeper: u32) -> Result<(Ex
 #[cycle(levels)]
 #[tactic(auto, unfolding(crate::specs::Expressions::inverse_at))]
 fn inverse(alloc: Global, tokens: Tokens, text: Text, deeper: u32) -> Result<(Expr, Tokens), Halt>
-    ensures { Gives (λ r. (expression_of r.0, ahead r.1)) result (inverse_at (may_name text) (opened_at (may_name text) 32 deeper) (ahead tokens.entry)) }
+    ensures { Gives (λ r. (expression_of r.0, ahead r.1)) result (inverse_at (may_name text) (opened_at (may_name text) 32 deeper)
+        (ahead tokens.entry)) }
 {
     let tokens = word(tokens, b"not")?;
     let (inner, tokens) = primary(alloc, tokens, text, deeper)?;
@@ -77,7 +80,8 @@ fn inverse(alloc: Global, tokens: Tokens, text: Text, deeper: u32) -> Result<(Ex
 #[cycle(levels)]
 #[tactic(auto, unfolding(crate::specs::Expressions::factor_at))]
 fn factor(alloc: Global, tokens: Tokens, text: Text, deeper: u32) -> Result<(Expr, Tokens), Halt>
-    ensures { Gives (λ r. (expression_of r.0, ahead r.1)) result (factor_at (may_name text) (opened_at (may_name text) 32 deeper) (ahead tokens.entry)) }
+    ensures { Gives (λ r. (expression_of r.0, ahead r.1)) result (factor_at (may_name text) (opened_at (may_name text) 32 deeper)
+        (ahead tokens.entry)) }
 {
     if next_is_word(tokens, b"not") {
         inverse(alloc, tokens, text, deeper)
@@ -95,7 +99,8 @@ fn operand(
     deeper: u32,
     class: Class,
 ) -> Result<(Expr, Tokens), Halt>
-    ensures { Gives (λ r. (expression_of r.0, ahead r.1)) result (operand_at (may_name text) 32 (opened_at (may_name text) 32 deeper) class (ahead tokens.entry)) }
+    ensures { Gives (λ r. (expression_of r.0, ahead r.1)) result (operand_at (may_name text) 32 (opened_at (may_name text) 32 deeper) class
+        (ahead tokens.entry)) }
 {
     match class {
         Class::Multiplying => factor(alloc, tokens, text, deeper),
@@ -115,7 +120,8 @@ fn binary(
     deeper: u32,
     class: Class,
 ) -> Result<(Expr, Tokens), Halt>
-    ensures { Gives (λ r. (expression_of r.0, ahead r.1)) result (binary_at class (operand_at (may_name text) 32 (opened_at (may_name text) 32 deeper) class) (expression_of left) (ahead tokens.entry)) }
+    ensures { Gives (λ r. (expression_of r.0, ahead r.1)) result
+        (binary_at class (operand_at (may_name text) 32 (opened_at (may_name text) 32 deeper) class) (expression_of left) (ahead tokens.entry)) }
 {
     let (op, tokens) = operator(tokens, class)?;
     let (right, tokens) = operand(alloc, tokens, text, deeper, class)?;
@@ -135,7 +141,8 @@ fn chain(
     deeper: u32,
     class: Class,
 ) -> Result<(Expr, Tokens), Halt>
-    ensures { Gives (λ r. (expression_of r.0, ahead r.1)) result (chain_at class (operand_at (may_name text) 32 (opened_at (may_name text) 32 deeper) class) 32 (expression_of first) (ahead tokens.entry)) }
+    ensures { Gives (λ r. (expression_of r.0, ahead r.1)) result
+        (chain_at class (operand_at (may_name text) 32 (opened_at (may_name text) 32 deeper) class) 32 (expression_of first) (ahead tokens.entry)) }
 {
     let mut left = first;
     let mut rest = tokens;
@@ -156,7 +163,8 @@ fn chain(
 #[cycle(levels)]
 #[tactic(auto, unfolding(crate::specs::Expressions::term_at))]
 fn term(alloc: Global, tokens: Tokens, text: Text, deeper: u32) -> Result<(Expr, Tokens), Halt>
-    ensures { Gives (λ r. (expression_of r.0, ahead r.1)) result (term_at (may_name text) 32 (opened_at (may_name text) 32 deeper) (ahead tokens.entry)) }
+    ensures { Gives (λ r. (expression_of r.0, ahead r.1)) result (term_at (may_name text) 32 (opened_at (may_name text) 32 deeper)
+        (ahead tokens.entry)) }
 {
     let (first, tokens) = factor(alloc, tokens, text, deeper)?;
     chain(alloc, first, tokens, text, deeper, Class::Multiplying)
@@ -166,7 +174,8 @@ fn term(alloc: Global, tokens: Tokens, text: Text, deeper: u32) -> Result<(Expr,
 #[cycle(levels)]
 #[tactic(auto, unfolding(crate::specs::Expressions::simple_at))]
 fn simple(alloc: Global, tokens: Tokens, text: Text, deeper: u32) -> Result<(Expr, Tokens), Halt>
-    ensures { Gives (λ r. (expression_of r.0, ahead r.1)) result (simple_at (may_name text) 32 (opened_at (may_name text) 32 deeper) (ahead tokens.entry)) }
+    ensures { Gives (λ r. (expression_of r.0, ahead r.1)) result (simple_at (may_name text) 32 (opened_at (may_name text) 32 deeper)
+        (ahead tokens.entry)) }
 {
     let (first, tokens) = term(alloc, tokens, text, deeper)?;
     chain(alloc, first, tokens, text, deeper, Class::Adding)
@@ -176,7 +185,8 @@ fn simple(alloc: Global, tokens: Tokens, text: Text, deeper: u32) -> Result<(Exp
 #[cycle(levels)]
 #[tactic(auto, unfolding(crate::specs::Expressions::relation_at, crate::specs::Expressions::comparison_at))]
 fn relation(alloc: Global, tokens: Tokens, text: Text, deeper: u32) -> Result<(Expr, Tokens), Halt>
-    ensures { Gives (λ r. (expression_of r.0, ahead r.1)) result (relation_at (may_name text) 32 (opened_at (may_name text) 32 deeper) (ahead tokens.entry)) }
+    ensures { Gives (λ r. (expression_of r.0, ahead r.1)) result (relation_at (may_name text) 32 (opened_at (may_name text) 32 deeper)
+        (ahead tokens.entry)) }
 {
     let (left, tokens) = simple(alloc, tokens, text, deeper)?;
     if begins(tokens, Class::Relational) {

@@ -13,7 +13,8 @@ use token_read::{Tokens, place_behind};
 /// The text has at most 16,777,216 bytes; lines and columns count from 1, columns in bytes.
 pub fn place_of(bytes: &[u8], read: Tokens, left: usize) -> Place
     requires { length bytes.now ≤ 16777216 }
-    ensures { (found : List Spanned) → tokens bytes.now ≡ Ok found → length found ≡ length (ahead read.entry) → result ≡ place_at bytes.now found left }
+    ensures { (found : List Spanned) → tokens bytes.now ≡ Ok found → length found ≡ length (ahead read.entry)
+        → result ≡ place_at bytes.now found left }
 {
     place_behind(bytes, read.len().saturating_sub(left))
 }

@@ -5,7 +5,9 @@ ghost use Rattle.token_read.specs.Ahead.{ahead};
 ghost use Rattle.seq_read.specs.Halts.{Gives};
 ghost use Rattle.seq_read.specs.Names.{may_name};
 ghost use Rattle.seq_read.specs.Expressions.{expression_at};
-ghost use Rattle.seq_read.specs.Statements.{actuals_at, arm_at, assignment_at, begins_statement, block_at, call_at, else_at, exit_at, further_at, guarded_at, if_at, kind_of, list_at, named_at, next_is_name, null_at, otherwise_at, put_at, statement_at, statement_with, work_at};
+ghost use Rattle.seq_read.specs.Statements.{actuals_at, arm_at, assignment_at, begins_statement, block_at, call_at, else_at, exit_at};
+ghost use Rattle.seq_read.specs.Statements.{further_at, guarded_at, if_at, kind_of, list_at, named_at, next_is_name, null_at, otherwise_at};
+ghost use Rattle.seq_read.specs.Statements.{put_at, statement_at, statement_with, work_at};
 ghost use Rattle.seq_read.specs.Nesting.{branching_at, looping_at};
 
 use crate::expressions::expression;
@@ -119,7 +121,8 @@ fn assignment(
     text: Text,
     deeper: u32,
 ) -> Result<(Stmt, Tokens), Halt>
-    ensures { Gives (λ r. (statement_of r.0, ahead r.1)) result (assignment_at (expression_at (may_name text) 32 deeper) target (ahead tokens.entry)) }
+    ensures { Gives (λ r. (statement_of r.0, ahead r.1)) result (assignment_at (expression_at (may_name text) 32 deeper) target
+        (ahead tokens.entry)) }
 {
     let tokens = mark(tokens, Mark::Becomes)?;
     let (value, tokens) = expression(alloc, tokens, text, deeper)?;
@@ -162,7 +165,8 @@ fn actuals(
     text: Text,
     deeper: u32,
 ) -> Result<(Vec<Expr>, Tokens), Halt>
-    ensures { Gives (λ r. (map expression_of r.0.items, ahead r.1)) result (actuals_at (expression_at (may_name text) 32 deeper) (ahead tokens.entry)) }
+    ensures { Gives (λ r. (map expression_of r.0.items, ahead r.1)) result
+        (actuals_at (expression_at (may_name text) 32 deeper) (ahead tokens.entry)) }
 {
     if next_is_mark(tokens, Mark::LeftParen) {
         list(alloc, tokens, text, deeper)
@@ -180,7 +184,8 @@ fn call(
     text: Text,
     deeper: u32,
 ) -> Result<(Stmt, Tokens), Halt>
-    ensures { Gives (λ r. (statement_of r.0, ahead r.1)) result (call_at (may_name text) (expression_at (may_name text) 32 deeper) object (ahead tokens.entry)) }
+    ensures { Gives (λ r. (statement_of r.0, ahead r.1)) result (call_at (may_name text) (expression_at (may_name text) 32 deeper) object
+        (ahead tokens.entry)) }
 {
     let tokens = mark(tokens, Mark::Dot)?;
     let (op, tokens) = name(alloc, tokens, text)?;
@@ -199,7 +204,8 @@ fn call(
 /// An assignment or a call.
 #[tactic(auto, unfolding(crate::specs::Statements::named_at))]
 fn named(alloc: Global, tokens: Tokens, text: Text, deeper: u32) -> Result<(Stmt, Tokens), Halt>
-    ensures { Gives (λ r. (statement_of r.0, ahead r.1)) result (named_at (may_name text) (expression_at (may_name text) 32 deeper) (ahead tokens.entry)) }
+    ensures { Gives (λ r. (statement_of r.0, ahead r.1)) result (named_at (may_name text) (expression_at (may_name text) 32 deeper)
+        (ahead tokens.entry)) }
 {
     let (first, tokens) = name(alloc, tokens, text)?;
     if next_is_mark(tokens, Mark::Becomes) {
@@ -213,7 +219,8 @@ fn named(alloc: Global, tokens: Tokens, text: Text, deeper: u32) -> Result<(Stmt
 #[cycle(nesting)]
 #[tactic(auto, unfolding(crate::specs::Statements::guarded_at))]
 fn guarded(alloc: Global, tokens: Tokens, text: Text, deeper: u32) -> Result<(Arm, Tokens), Halt>
-    ensures { Gives (λ r. (arm_of r.0, ahead r.1)) result (guarded_at (expression_at (may_name text) 32 deeper) (block_at (may_name text) 32 deeper) (ahead tokens.entry)) }
+    ensures { Gives (λ r. (arm_of r.0, ahead r.1)) result (guarded_at (expression_at (may_name text) 32 deeper) (block_at (may_name text) 32 deeper)
+        (ahead tokens.entry)) }
 {
     let (cond, tokens) = expression(alloc, tokens, text, deeper)?;
     let tokens = word(tokens, b"then")?;
@@ -225,7 +232,8 @@ fn guarded(alloc: Global, tokens: Tokens, text: Text, deeper: u32) -> Result<(Ar
 #[cycle(nesting)]
 #[tactic(auto, unfolding(crate::specs::Statements::arm_at))]
 fn arm(alloc: Global, tokens: Tokens, text: Text, deeper: u32) -> Result<(Arm, Tokens), Halt>
-    ensures { Gives (λ r. (arm_of r.0, ahead r.1)) result (arm_at (expression_at (may_name text) 32 deeper) (block_at (may_name text) 32 deeper) (ahead tokens.entry)) }
+    ensures { Gives (λ r. (arm_of r.0, ahead r.1)) result (arm_at (expression_at (may_name text) 32 deeper) (block_at (may_name text) 32 deeper)
+        (ahead tokens.entry)) }
 {
     let tokens = word(tokens, b"elsif")?;
     guarded(alloc, tokens, text, deeper)
@@ -240,7 +248,8 @@ fn other(
     text: Text,
     deeper: u32,
 ) -> Result<(Option<Block>, Tokens), Halt>
-    ensures { Gives (λ r. (otherwise (option_map block_of r.0), ahead r.1)) result (otherwise_at (block_at (may_name text) 32 deeper) (ahead tokens.entry)) }
+    ensures { Gives (λ r. (otherwise (option_map block_of r.0), ahead r.1)) result
+        (otherwise_at (block_at (may_name text) 32 deeper) (ahead tokens.entry)) }
 {
     if next_is_word(tokens, b"else") {
         let tokens = word(tokens, b"else")?;
@@ -260,7 +269,8 @@ fn conditional(
     text: Text,
     deeper: u32,
 ) -> Result<(Stmt, Tokens), Halt>
-    ensures { Gives (λ r. (statement_of r.0, ahead r.1)) result (if_at (expression_at (may_name text) 32 deeper) (block_at (may_name text) 32 deeper) (ahead tokens.entry)) }
+    ensures { Gives (λ r. (statement_of r.0, ahead r.1)) result (if_at (expression_at (may_name text) 32 deeper) (block_at (may_name text) 32 deeper)
+        (ahead tokens.entry)) }
 {
     let begun = word(tokens, b"if")?;
     let (head, mut rest) = guarded(alloc, begun, text, deeper)?;
@@ -333,7 +343,8 @@ fn of_kind(
     deeper: u32,
     kind: Kind,
 ) -> Result<(Stmt, Tokens), Halt>
-    ensures { Gives (λ r. (statement_of r.0, ahead r.1)) result (statement_with (may_name text) (expression_at (may_name text) 32 deeper) (branching_at (may_name text) 32 deeper) (looping_at (may_name text) 32 deeper) kind (ahead tokens.entry)) }
+    ensures { Gives (λ r. (statement_of r.0, ahead r.1)) result (statement_with (may_name text) (expression_at (may_name text) 32 deeper)
+        (branching_at (may_name text) 32 deeper) (looping_at (may_name text) 32 deeper) kind (ahead tokens.entry)) }
 {
     match kind {
         Kind::Null => null(tokens),

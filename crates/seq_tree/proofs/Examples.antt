@@ -73,7 +73,9 @@ unfolding tokens tokens_after front_by start_of name_front number_front longest 
 long = refl
 
 -- the tokens of a tree are those of its text
-spelled : Ok (block_tokens (two (If (When (Binary op.Lt (Variable x) (Number 1)) (one Null) (When (Not (Paren (Binary op.And (Variable x) (Variable y)))) (one (Put (Number 1))) (Else (one (Call x y (Number 1 ∷ Variable y ∷ []))))))) (For x 1 3 (two (ExitWhen (Variable y)) (Work 3)))))
+spelled : Ok (block_tokens (two
+    (If (When (Binary op.Lt (Variable x) (Number 1)) (one Null) (When (Not (Paren (Binary op.And (Variable x) (Variable y)))) (one (Put (Number 1)))
+    (Else (one (Call x y (Number 1 ∷ Variable y ∷ []))))))) (For x 1 3 (two (ExitWhen (Variable y)) (Work 3)))))
     ≡ plain (tokens (codes "if x < 1 then null; elsif not (x and y) then put (1); else x.y (1, y); end if; for x in word range 1 .. 3 loop exit when y; work (3); end loop;"))
 unfolding tokens tokens_after front_by start_of name_front number_front longest mark_of
 spelled = refl
@@ -97,7 +99,8 @@ inverts_truth = refl
 
 -- the cost of a thread with two loops
 loops : Statements
-loops = two (For (codes "i") 1 0 (one (Put (Variable (codes "i"))))) (For (codes "j") 1 3 (two (ExitWhen (Binary op.Eq (Variable (codes "j")) (Number 1))) Null))
+loops = two (For (codes "i") 1 0 (one (Put (Variable (codes "i")))))
+    (For (codes "j") 1 3 (two (ExitWhen (Binary op.Eq (Variable (codes "j")) (Number 1))) Null))
 
 loops_cost : thread_cost unit_costs (λ object op'. 0) loops ≡ 10
 unfolding loops
@@ -116,7 +119,15 @@ printed_run = (0, (_, refl, (_, refl, refl)), refl)
 
 -- faults
 abbrev scope : Scope
-scope = record { reads = x ∷ y ∷ []; writes = y ∷ []; calls = record { object = codes "o"; sig = record { name = codes "f"; params = record { name = codes "a"; mode = Out } ∷ record { name = codes "b"; mode = Out } ∷ [] } } ∷ []; in_loop = false }
+scope = record {
+  reads = x ∷ y ∷ [];
+  writes = y ∷ [];
+  calls = record {
+    object = codes "o";
+    sig = record { name = codes "f"; params = record { name = codes "a"; mode = Out } ∷ record { name = codes "b"; mode = Out } ∷ [] };
+  } ∷ [];
+  in_loop = false;
+}
 
 unknown : block_fault scope (one (Assign y (Binary op.Div (Variable (codes "z")) (Number 0)))) ≡ Some Unknown
 unknown = refl
@@ -127,7 +138,8 @@ missorted = refl
 divisor : block_fault scope (one (Put (Binary op.Mod (Variable x) (Paren (Number 3))))) ≡ Some Divisor
 divisor = refl
 
-exit : block_fault scope (two (For (codes "i") 1 2 (one (ExitWhen (Binary op.Eq (Variable x) (Number 1))))) (ExitWhen (Binary op.Eq (Variable x) (Number 1)))) ≡ Some Exit
+exit : block_fault scope (two (For (codes "i") 1 2 (one (ExitWhen (Binary op.Eq (Variable x) (Number 1)))))
+    (ExitWhen (Binary op.Eq (Variable x) (Number 1)))) ≡ Some Exit
 exit = refl
 
 assigned : block_fault scope (one (Assign x (Number 1))) ≡ Some Assigned

@@ -1,5 +1,6 @@
 -- How far the longest run goes, one part at a time.
-use Rattle.std.proofs.Common.{◌≡◌, ℕ, suc, ◌+◌, Bool, true, false, not, ◌&&◌, cond, List, [], ◌∷◌, length, ◌≤◌, ◌⊎◌, inl, inr, ltb, eqb, refl, ◌∙◌, arith}
+use Rattle.std.proofs.Common.{◌≡◌, ℕ, suc, ◌+◌, Bool, true, false, not, ◌&&◌, cond, List, [], ◌∷◌, length, ◌≤◌, ◌⊎◌, inl, inr, ltb, eqb, refl}
+use Rattle.std.proofs.Common.{◌∙◌, arith}
 use Rattle.std.proofs.lemmas.Bool.{cases_Bool, eq-eqb, ne_eqb}
 use Rattle.seq_tree.specs.Lexis.{longest, goes_on, is_underscore}
 
@@ -28,15 +29,18 @@ bump-most : (ends : Bool) (n most : ℕ) → n ≤ most → bump ends n ≤ suc 
 bump-most ends n most h = grind arith
 
 -- a part goes one further
-pub longest-part : (part : ℕ → Bool) (under : Bool) (c : ℕ) (cs : List ℕ) → part c ≡ true → longest (goes_on part under) (c ∷ cs) ≡ suc (longest (goes_on part false) cs)
+pub longest-part : (part : ℕ → Bool) (under : Bool) (c : ℕ) (cs : List ℕ) → part c ≡ true
+    → longest (goes_on part under) (c ∷ cs) ≡ suc (longest (goes_on part false) cs)
 longest-part part under c cs e = longest-cons (goes_on part under) c cs ∙ simp e (one_more (longest (goes_on part false) cs))
 
 -- a byte that is neither a part nor an underscore that may stand here ends the run
-pub longest-ends : (part : ℕ → Bool) (under : Bool) (c : ℕ) (cs : List ℕ) → part c ≡ false → (is_underscore c && not under) ≡ false → longest (goes_on part under) (c ∷ cs) ≡ 0
+pub longest-ends : (part : ℕ → Bool) (under : Bool) (c : ℕ) (cs : List ℕ) → part c ≡ false → (is_underscore c && not under) ≡ false
+    → longest (goes_on part under) (c ∷ cs) ≡ 0
 longest-ends part under c cs e u = longest-cons (goes_on part under) c cs ∙ simp (e, u, longest-none cs) refl
 
 -- an underscore counts where a part follows it
-pub longest-under : (part : ℕ → Bool) (c : ℕ) (cs : List ℕ) → part c ≡ false → is_underscore c ≡ true → longest (goes_on part false) (c ∷ cs) ≡ bump false (longest (goes_on part true) cs)
+pub longest-under : (part : ℕ → Bool) (c : ℕ) (cs : List ℕ) → part c ≡ false → is_underscore c ≡ true
+    → longest (goes_on part false) (c ∷ cs) ≡ bump false (longest (goes_on part true) cs)
 longest-under part c cs e u = longest-cons (goes_on part false) c cs ∙ simp (e, u) refl
 
 -- what is left of the run, where an underscore may have been read
@@ -46,7 +50,8 @@ from_here part under rest = cond under (bump false (longest (goes_on part true) 
 bump-suc : (ends : Bool) (n : ℕ) → bump ends (suc n) ≡ suc (suc n)
 bump-suc ends n = grind arith
 
-pub from_here-part : (part : ℕ → Bool) (under : Bool) (c : ℕ) (cs : List ℕ) → part c ≡ true → from_here part under (c ∷ cs) ≡ cond under 2 1 + from_here part false cs
+pub from_here-part : (part : ℕ → Bool) (under : Bool) (c : ℕ) (cs : List ℕ) → part c ≡ true
+    → from_here part under (c ∷ cs) ≡ cond under 2 1 + from_here part false cs
 unfolding from_here
 from_here-part part true c cs e = rw (longest-part part true c cs e, bump-suc) (omega arith)
 from_here-part part false c cs e = rw (longest-part part false c cs e) (omega arith)
@@ -55,7 +60,8 @@ pub from_here-under : (part : ℕ → Bool) (c : ℕ) (cs : List ℕ) → part c
 unfolding from_here
 from_here-under part c cs e u = longest-under part c cs e (rw u refl)
 
-pub from_here-ends : (part : ℕ → Bool) (under : Bool) (c : ℕ) (cs : List ℕ) → part c ≡ false → (is_underscore c && not under) ≡ false → from_here part under (c ∷ cs) ≡ 0
+pub from_here-ends : (part : ℕ → Bool) (under : Bool) (c : ℕ) (cs : List ℕ) → part c ≡ false → (is_underscore c && not under) ≡ false
+    → from_here part under (c ∷ cs) ≡ 0
 unfolding from_here
 from_here-ends part true c cs e u = rw (longest-ends part true c cs e u) refl
 from_here-ends part false c cs e u = longest-ends part false c cs e u
@@ -73,7 +79,8 @@ from_here-start part bytes = refl
 pub ruleset run_steps = (from_here-part, from_here-under, from_here-ends, from_here-nil, from_here-start)
 
 -- a byte that leads: the front goes on by another test
-pub longest-led : (test more : List ℕ → Bool) (c : ℕ) (cs : List ℕ) → test (c ∷ []) ≡ true → longest (λ xs. test (c ∷ xs)) cs ≡ longest more cs → longest test (c ∷ cs) ≡ 1 + longest more cs
+pub longest-led : (test more : List ℕ → Bool) (c : ℕ) (cs : List ℕ) → test (c ∷ []) ≡ true → longest (λ xs. test (c ∷ xs)) cs ≡ longest more cs
+    → longest test (c ∷ cs) ≡ 1 + longest more cs
 longest-led test more c cs single rest = longest-cons test c cs ∙ rw (single, rest) (one_more (longest more cs) ∙ omega arith)
 
 -- a test that no front passes
@@ -94,7 +101,8 @@ longest-shorter test c (d ∷ ds) fails =
     let shorter = longest-shorter (λ xs. test (c ∷ xs)) d ds fails in
     rw (longest-cons test c (d ∷ ds)) (bump-most (test (c ∷ [])) (longest (λ xs. test (c ∷ xs)) (d ∷ ds)) (length ds) shorter)
 
-all_or_not : (test : List ℕ → Bool) (c : ℕ) (cs : List ℕ) → (test (c ∷ cs) ≡ true) ⊎ (test (c ∷ cs) ≡ false) → eqb (longest test (c ∷ cs)) (length (c ∷ cs)) ≡ test (c ∷ cs)
+all_or_not : (test : List ℕ → Bool) (c : ℕ) (cs : List ℕ) → (test (c ∷ cs) ≡ true) ⊎ (test (c ∷ cs) ≡ false)
+    → eqb (longest test (c ∷ cs)) (length (c ∷ cs)) ≡ test (c ∷ cs)
 all_or_not test c cs (inl passes) = rw passes (eq-eqb _ _ (longest-whole test c cs passes))
 all_or_not test c cs (inr fails) = let shorter = longest-shorter test c cs fails in rw fails (ne_eqb _ _ (λ e. omega arith))
 

@@ -8,7 +8,8 @@ one_reach : (Text : List Token → Type 0) (tokens : List Token) (a b : ℕ) →
 one_reach Text tokens a b r q = let up : a ≤ b = q.greatest a r.within r.begins in let down : b ≤ a = r.greatest b q.within q.begins in omega arith
 
 -- and so is a fault
-pub one_fault : (Text Limited : List Token → Type 0) (tokens : List Token) (a b : Fault) → IsFault Text Limited tokens a → IsFault Text Limited tokens b → a ≡ b
+pub one_fault : (Text Limited : List Token → Type 0) (tokens : List Token) (a b : Fault) → IsFault Text Limited tokens a
+    → IsFault Text Limited tokens b → a ≡ b
 one_fault Text Limited tokens (Syntax a) (Syntax b) f g = ap Syntax (one_reach Text tokens a b f.reach g.reach)
 one_fault Text Limited tokens (TooDeep a) (TooDeep b) f g = ap TooDeep (one_reach Limited tokens a b f.reach g.reach)
 one_fault Text Limited tokens (Syntax a) (TooDeep b) f g =

@@ -19,7 +19,8 @@ calls object op = Then (Call object op []) End
 -- a call of the target; four turns with a call of q; a call of the target or of q; a call that isn't listed
 abbrev path : Statements
 path = Then (Call (codes "s") (codes "start") []) (Then (For (codes "i") 1 4 (calls (codes "q") (codes "set")))
-    (Then (If (When (Variable (codes "x")) (calls (codes "s") (codes "start")) (Else (calls (codes "q") (codes "set"))))) (calls (codes "e") (codes "set"))))
+    (Then (If (When (Variable (codes "x")) (calls (codes "s") (codes "start")) (Else (calls (codes "q") (codes "set")))))
+    (calls (codes "e") (codes "set"))))
 
 counted_through : starts_through target inside path ≡ 16
 counted_through = refl

@@ -1,6 +1,7 @@
 -- The tokens of a text with their places: the longest prefix that is a name, a number or a mark is the first token.
 -- Lexical elements are those of ISO/IEC 8652:2012, 2.1 to 2.7, in ASCII, without based literals and exponents.
-use Rattle.std.specs.Prelude.{map, ℕ, zero, suc, ◌+◌, ◌-◌, ◌*◌, Bool, true, false, not, ◌||◌, ◌&&◌, List, [], ◌∷◌, length, take, drop, nat_lt, nat_le, ◌==◌, if◌then◌else◌, Option, Some, None, Result, Ok, Err, is_some}
+use Rattle.std.specs.Prelude.{map, ℕ, zero, suc, ◌+◌, ◌-◌, ◌*◌, Bool, true, false, not, ◌||◌, ◌&&◌, List, [], ◌∷◌, length, take, drop, nat_lt}
+use Rattle.std.specs.Prelude.{nat_le, ◌==◌, if◌then◌else◌, Option, Some, None, Result, Ok, Err, is_some}
 use Rattle.std.specs.Char.{is_ascii_alphabetic, is_ascii_alphanumeric, is_ascii_digit}
 use Rattle.std.specs.Str.{str_to_ascii_lowercase}
 use Rattle.std.specs.List.{prefix_len}
@@ -70,7 +71,10 @@ pub record Front : Type 0 where
 
 -- a name at a place
 unfoldable pub name_front : Place → List ℕ → Result Front Misread
-name_front place text = if nat_lt 64 (length text) then Err (Long place) else Ok (record { token = Some (Word (str_to_ascii_lowercase text)); len = length text })
+name_front place text = if nat_lt 64 (length text) then Err (Long place) else Ok (record {
+  token = Some (Word (str_to_ascii_lowercase text));
+  len = length text;
+})
 
 -- the place past some bytes
 abbrev pub place_past : Place → List ℕ → Place

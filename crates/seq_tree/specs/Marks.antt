@@ -3,7 +3,8 @@
 use Rattle.std.specs.Prelude.{ℕ, List, [], ◌∷◌, Option, codes, find}
 use Rattle.std.specs.Str.{bytes_eq}
 use Rattle.seq_tree.specs.declared.token.Mark.{Mark}
-use Rattle.seq_tree.specs.declared.token.Mark.TheVariants.{LeftParen, RightParen, Comma, Semicolon, Colon, Dot, DotDot, Becomes, Equal, NotEqual, Less, LessEqual, Greater, GreaterEqual, Plus, Minus, Star, Slash, StarStar}
+use Rattle.seq_tree.specs.declared.token.Mark.TheVariants.{LeftParen, RightParen, Comma, Semicolon, Colon, Dot, DotDot, Becomes, Equal, NotEqual}
+use Rattle.seq_tree.specs.declared.token.Mark.TheVariants.{Less, LessEqual, Greater, GreaterEqual, Plus, Minus, Star, Slash, StarStar}
 
 -- how a mark is written
 abbrev pub mark_text : Mark → List ℕ
@@ -29,7 +30,8 @@ mark_text StarStar = codes "**"
 
 -- all marks
 abbrev pub marks : List Mark
-marks = LeftParen ∷ RightParen ∷ Comma ∷ Semicolon ∷ Colon ∷ Dot ∷ DotDot ∷ Becomes ∷ Equal ∷ NotEqual ∷ Less ∷ LessEqual ∷ Greater ∷ GreaterEqual ∷ Plus ∷ Minus ∷ Star ∷ Slash ∷ StarStar ∷ []
+marks = LeftParen ∷ RightParen ∷ Comma ∷ Semicolon ∷ Colon ∷ Dot ∷ DotDot ∷ Becomes ∷ Equal ∷ NotEqual ∷ Less ∷ LessEqual ∷ Greater ∷ GreaterEqual
+    ∷ Plus ∷ Minus ∷ Star ∷ Slash ∷ StarStar ∷ []
 
 -- the mark that is written so
 unfoldable pub mark_of : List ℕ → Option Mark

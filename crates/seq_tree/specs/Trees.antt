@@ -2,7 +2,8 @@
 -- Each contract that speaks of an expression, a block or an operation speaks of its tree.
 use Rattle.std.specs.Prelude.{List, [], ◌∷◌, map, Option, Some, None, box_value}
 use Rattle.seq_tree.specs.Expressions.{Expression, Number, Variable, Paren, Not, Binary}
-use Rattle.seq_tree.specs.Statements.{Statement, Statements, Branches, Null, Assign, If, For, ExitWhen, Call, Work, Put, End, Then, Nothing, Else, When}
+use Rattle.seq_tree.specs.Statements.{Statement, Statements, Branches, Null, Assign, If, For, ExitWhen, Call, Work, Put, End, Then, Nothing}
+use Rattle.seq_tree.specs.Statements.{Else, When}
 use Rattle.seq_tree.specs.Operations.{Signature, Operation, Offer}
 use Rattle.seq_tree.specs.declared.tree.Expr.{Expr, fold-Expr}
 use Rattle.seq_tree.specs.declared.tree.Expr.TheOpen.{Expr-F}

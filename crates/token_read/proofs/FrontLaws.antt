@@ -4,7 +4,8 @@ use Rattle.std.specs.Char.{is_ascii_alphabetic, is_ascii_alphanumeric, is_ascii_
 use Rattle.std.specs.List.{prefix_len}
 use Rattle.std.proofs.lemmas.Bool.{and_parts, eqb-true}
 use Rattle.seq_tree.specs.declared.token.Place.{Place}
-use Rattle.seq_tree.specs.Lexis.{Start, Space, Comment, Name, Numeral, Other, start_of, is_space, begins_comment, is_not_line_feed, longest, goes_on, is_name, is_numeral, front_by, name_front, number_front}
+use Rattle.seq_tree.specs.Lexis.{Start, Space, Comment, Name, Numeral, Other, start_of, is_space, begins_comment, is_not_line_feed, longest}
+use Rattle.seq_tree.specs.Lexis.{goes_on, is_name, is_numeral, front_by, name_front, number_front}
 use Rattle.seq_tree.proofs.Longest.{longest-led}
 
 -- the choice of start_of, by the four tests
@@ -59,22 +60,27 @@ pub comment-some : (c : ℕ) (cs : List ℕ) → Comment ≡ start_of c cs → 0
 comment-some c cs e = rw (comment-hyphen c cs (start-comment c cs (sym e))) (omega arith)
 
 -- white space at the front
-pub front-space : (place : Place) (c : ℕ) (cs : List ℕ) → Space ≡ start_of c cs → front_by (start_of c cs) place (c ∷ cs) ≡ Ok (record { token = None; len = 1 })
+pub front-space : (place : Place) (c : ℕ) (cs : List ℕ) → Space ≡ start_of c cs
+    → front_by (start_of c cs) place (c ∷ cs) ≡ Ok (record { token = None; len = 1 })
 unfolding front_by
 front-space place c cs e = rw (← e) refl
 
 -- a comment at the front
-pub front-comment : (place : Place) (c : ℕ) (cs : List ℕ) → Comment ≡ start_of c cs → front_by (start_of c cs) place (c ∷ cs) ≡ Ok (record { token = None; len = prefix_len is_not_line_feed (c ∷ cs) })
+pub front-comment : (place : Place) (c : ℕ) (cs : List ℕ) → Comment ≡ start_of c cs
+    → front_by (start_of c cs) place (c ∷ cs) ≡ Ok (record { token = None; len = prefix_len is_not_line_feed (c ∷ cs) })
 unfolding front_by
 front-comment place c cs e = rw (← e) refl
 
 -- the name at the front
-pub front-name : (place : Place) (c : ℕ) (cs : List ℕ) → Name ≡ start_of c cs → front_by (start_of c cs) place (c ∷ cs) ≡ name_front place (take (1 + longest (goes_on is_ascii_alphanumeric false) cs) (c ∷ cs))
+pub front-name : (place : Place) (c : ℕ) (cs : List ℕ) → Name ≡ start_of c cs
+    → front_by (start_of c cs) place (c ∷ cs) ≡ name_front place (take (1 + longest (goes_on is_ascii_alphanumeric false) cs) (c ∷ cs))
 unfolding front_by
 front-name place c cs e = let h = longest-name c cs (start-name c cs (sym e)) in rw (← e, h) refl
 
 -- the digits at the front
-pub front-numeral : (place : Place) (c : ℕ) (cs : List ℕ) → Numeral ≡ start_of c cs → front_by (start_of c cs) place (c ∷ cs) ≡ number_front place (take (1 + longest (goes_on is_ascii_digit false) cs) (c ∷ cs)) (drop (1 + longest (goes_on is_ascii_digit false) cs) (c ∷ cs))
+pub front-numeral : (place : Place) (c : ℕ) (cs : List ℕ) → Numeral ≡ start_of c cs
+    → front_by (start_of c cs) place (c ∷ cs) ≡ number_front place (take (1 + longest (goes_on is_ascii_digit false) cs) (c ∷ cs))
+    (drop (1 + longest (goes_on is_ascii_digit false) cs) (c ∷ cs))
 unfolding front_by
 front-numeral place c cs e = let h = longest-numeral c cs (start-numeral c cs (sym e)) in rw (← e, h) refl
 

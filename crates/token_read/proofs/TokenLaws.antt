@@ -10,14 +10,16 @@ use Rattle.seq_tree.specs.declared.token.Token.TheVariants as token
 use Rattle.seq_tree.specs.declared.token.Mark.{Mark}
 use Rattle.seq_tree.specs.declared.token.Mark.TheVariants as mark
 use Rattle.token_read.specs.Words.{number_of, same_mark, same_token}
-use Rattle.token_read.specs.Readers.{sees_fixed, fixed_at, phrase_at, sees_number, number_at, is_within, sees_number_within, number_within_at, sees_name, name_at}
+use Rattle.token_read.specs.Readers.{sees_fixed, fixed_at, phrase_at, sees_number, number_at, is_within, sees_number_within, number_within_at}
+use Rattle.token_read.specs.Readers.{sees_name, name_at}
 
 -- any token may follow
 abbrev pub Any : {A T : Type 0} → A → Option T → Type 0
 Any a o = Unit {0}
 
 -- a reader that any token may follow, and one after it
-pub andthen : {T A B : Type 0} {G : A → List T → Type 0} {H : A → B → List T → Type 0} {Stops : B → Option T → Type 0} {r : List T → Read T A} {f : A → List T → Read T B} →
+pub andthen : {T A B : Type 0} {G : A → List T → Type 0} {H : A → B → List T → Type 0} {Stops : B → Option T → Type 0} {r : List T → Read T A} {f : A
+    → List T → Read T B} →
     Reads G Any r → ((a : A) → Reads (H a) Stops (f a)) → Reads (Joined G H) Stops (then_at r f)
 andthen {G = G} {H = H} {Stops = Stops} {r = r} {f = f} one two = reads-then G H Any Stops r f one two (λ a b back rest h stop. tt)
 
@@ -27,7 +29,9 @@ chosen true x y e = (refl, cc)
 chosen false x y e = absurd (cc)
 
 all_marks : List Mark
-all_marks = mark.LeftParen ∷ mark.RightParen ∷ mark.Comma ∷ mark.Semicolon ∷ mark.Colon ∷ mark.Dot ∷ mark.DotDot ∷ mark.Becomes ∷ mark.Equal ∷ mark.NotEqual ∷ mark.Less ∷ mark.LessEqual ∷ mark.Greater ∷ mark.GreaterEqual ∷ mark.Plus ∷ mark.Minus ∷ mark.Star ∷ mark.Slash ∷ mark.StarStar ∷ []
+all_marks = mark.LeftParen ∷ mark.RightParen ∷ mark.Comma ∷ mark.Semicolon ∷ mark.Colon ∷ mark.Dot ∷ mark.DotDot ∷ mark.Becomes ∷ mark.Equal
+    ∷ mark.NotEqual ∷ mark.Less ∷ mark.LessEqual ∷ mark.Greater ∷ mark.GreaterEqual ∷ mark.Plus ∷ mark.Minus ∷ mark.Star ∷ mark.Slash
+    ∷ mark.StarStar ∷ []
 
 mark_at_number : (m : Mark) → slice_get all_marks (number_of m) ≡ Some m
 unfolding all_marks
@@ -132,7 +136,8 @@ within_sees low high n e = rw e refl
 -- a range has a number of its own: what completes an open text
 pub reads-number_within : (low high : ℕ) → is_within low high low ≡ true → Reads (IsNumberWithin low high) Any (number_within_at low high)
 unfolding number_within_at
-reads-number_within low high some = reads-same (IsToken (sees_number_within low high)) (IsNumberWithin low high) Any (token_at (sees_number_within low high))
+reads-number_within low high some = reads-same (IsToken (sees_number_within low high)) (IsNumberWithin low high) Any
+    (token_at (sees_number_within low high))
     (λ n text g. let s = within_seen low high g.token n g.seen in (s.0, g.whole ∙ ap (λ t. t ∷ []) s.1))
     (λ n text g. record { token = token.Number n; seen = within_sees low high n g.0; whole = g.1 })
     (reads-token (sees_number_within low high) low (token.Number low) (within_sees low high low some))
@@ -160,18 +165,28 @@ reads-name test some passes = reads-same (IsToken (sees_name test)) (IsName test
     (reads-token (sees_name test) some (token.Word some) (name_sees test some passes))
 
 -- one token, or a phrase, in front of the rest of a text
-pub joins-fixed : {B : Type 0} (H : Unit {0} → B → List Token → Type 0) (u : Token) (b : B) (rest : List Token) → H tt b rest → Joined (IsFixed u) H b (u ∷ rest)
+pub joins-fixed : {B : Type 0} (H : Unit {0} → B → List Token → Type 0) (u : Token) (b : B) (rest : List Token) → H tt b rest
+    → Joined (IsFixed u) H b (u ∷ rest)
 joins-fixed H u b rest h = record { a = tt; front = u ∷ []; back = rest; before = refl; after = h; whole = refl }
 
-pub joins-phrase : {B : Type 0} (H : Unit {0} → B → List Token → Type 0) (us : List Token) (b : B) (rest : List Token) → H tt b rest → Joined (IsPhrase us) H b (us ++ rest)
+pub joins-phrase : {B : Type 0} (H : Unit {0} → B → List Token → Type 0) (us : List Token) (b : B) (rest : List Token) → H tt b rest
+    → Joined (IsPhrase us) H b (us ++ rest)
 joins-phrase H us b rest h = record { a = tt; front = us; back = rest; before = refl; after = h; whole = refl }
 
-pub joins-number : {B : Type 0} (H : ℕ → B → List Token → Type 0) (n : ℕ) (b : B) (rest : List Token) → H n b rest → Joined IsNumber H b (token.Number n ∷ rest)
+pub joins-number : {B : Type 0} (H : ℕ → B → List Token → Type 0) (n : ℕ) (b : B) (rest : List Token) → H n b rest
+    → Joined IsNumber H b (token.Number n ∷ rest)
 joins-number H n b rest h = record { a = n; front = token.Number n ∷ []; back = rest; before = refl; after = h; whole = refl }
 
 pub joins-number_within : {B : Type 0} (low high : ℕ) (H : ℕ → B → List Token → Type 0) (n : ℕ) (b : B) (rest : List Token) →
     is_within low high n ≡ true → H n b rest → Joined (IsNumberWithin low high) H b (token.Number n ∷ rest)
-joins-number_within low high H n b rest ok h = record { a = n; front = token.Number n ∷ []; back = rest; before = (ok, refl); after = h; whole = refl }
+joins-number_within low high H n b rest ok h = record {
+  a = n;
+  front = token.Number n ∷ [];
+  back = rest;
+  before = (ok, refl);
+  after = h;
+  whole = refl;
+}
 
 pub joins-name : {B : Type 0} (test : Name → Bool) (H : Name → B → List Token → Type 0) (n : Name) (b : B) (rest : List Token) →
     test n ≡ true → H n b rest → Joined (IsName test) H b (token.Word n ∷ rest)

@@ -2,7 +2,8 @@
 //!
 //! It stands on seq_tree, which has the tokens and what a text's tokens are, and on the laws of `grammar`. `Tokens::of`
 //! carries the promise: exactly the tokens of the text, taken from it as they are read, without memory, or exactly its first fault
-//! and the place; `tokens` answers them as a list. Each reader of one token takes the tokens that are left, and answers what the front of them is with the tokens behind it, or how many tokens were left where it stopped:
+//! and the place; `tokens` answers them as a list. Each reader of one token takes the tokens that are left, and answers what the front of
+//! them is with the tokens behind it, or how many tokens were left where it stopped:
 //! its contract is a reader of the definitions (`Readers`), of which `TokenLaws` proves that it reads exactly its grammar.
 #![tactic(auto)]
 

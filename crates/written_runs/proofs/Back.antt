@@ -1,5 +1,6 @@
 -- From behind a change of one task to before it: what is claimed of the other tasks and of the objects stays.
-use Rattle.std.specs.Prelude.{◌≡◌, ℕ, Bool, true, false, ◌&&◌, ◌==◌, List, [], ◌∷◌, Option, Some, None, slice_get, option_map, unwrap_or, refl, if◌then◌else◌}
+use Rattle.std.specs.Prelude.{◌≡◌, ℕ, Bool, true, false, ◌&&◌, ◌==◌, List, [], ◌∷◌, Option, Some, None, slice_get, option_map, unwrap_or, refl}
+use Rattle.std.specs.Prelude.{if◌then◌else◌}
 use Rattle.std.specs.List.{cons_option}
 use Rattle.std.proofs.Common.{sym, ◌∙◌, ap, subst, inl, inr}
 use Rattle.std.proofs.lemmas.Option.{slice_get-map, same_Some}
@@ -33,13 +34,15 @@ places {P} k i same apart = by (k == i) refl
     by true e = same (eqb-true k i e)
     by false e = apart (eqb-false k i e)
 
-pub thread_at : (ths : List TaskUnit) (ts : List Task) (k : ℕ) (t : Task) → threads_of ts ≡ ths → slice_get ts k ≡ Some t → slice_get ths k ≡ Some t.thread
+pub thread_at : (ths : List TaskUnit) (ts : List Task) (k : ℕ) (t : Task) → threads_of ts ≡ ths → slice_get ts k ≡ Some t
+    → slice_get ths k ≡ Some t.thread
 thread_at ths ts k t same at = ap (λ hs. slice_get hs k) (sym same) ∙ slice_get-map (λ u. u.thread) ts k ∙ ap (option_map (λ u. u.thread)) at
 
 pub other_name : (p : Program) (y : System) (w : Software) → Naming p y w → (ts : List Task) (i k : ℕ) (t u : Task) → threads_of ts ≡ y.threads
     → slice_get ts i ≡ Some t → slice_get ts k ≡ Some u → (k ≡ i → ⊥) → same_name t.thread.name u.thread.name ≡ false
 other_name p y w names' ts i k t u same at there apart =
-    false_from_ne_true _ (λ e. apart (sym (names'.threads_apart i k t.thread u.thread (thread_at y.threads ts i t same at) (thread_at y.threads ts k u same there) e)))
+    false_from_ne_true _ (λ e. apart
+    (sym (names'.threads_apart i k t.thread u.thread (thread_at y.threads ts i t same at) (thread_at y.threads ts k u same there) e)))
 
 -- the steps of a thread, with a moment before
 pub steps-own : (name : Name) (time : ℕ) (deed : Deed) (body : Path) (ms : List Moment) → is_own deed ≡ true
@@ -82,7 +85,8 @@ module _ (p : Program) (arrivals : Arrivals) (meets : MeetsRules p) where
   -- the tasks
   pub threads_back : (i : ℕ) (f : Task → Task) (t : Task) (ts : List Task) (now now' : ℕ) (ms ms' : List Moment) → slice_get ts i ≡ Some t
       → (Stands p arrivals now' (f t) (f t).pieces (steps_of (f t).thread.name ms) → Stands p arrivals now t t.pieces (steps_of t.thread.name ms'))
-      → ((k : ℕ) (u : Task) → (k ≡ i → ⊥) → slice_get ts k ≡ Some u → Stands p arrivals now' u u.pieces (steps_of u.thread.name ms) → Stands p arrivals now u u.pieces (steps_of u.thread.name ms'))
+      → ((k : ℕ) (u : Task) → (k ≡ i → ⊥) → slice_get ts k ≡ Some u → Stands p arrivals now' u u.pieces (steps_of u.thread.name ms)
+      → Stands p arrivals now u u.pieces (steps_of u.thread.name ms'))
       → Threads p arrivals now' (change i f ts) ms → Threads p arrivals now ts ms'
   threads_back i f t ts now now' ms ms' here own others all k u at = places k i
       (λ e. let same : t ≡ u = same_Some t u (sym here ∙ ap (slice_get ts) (sym e) ∙ at) in
@@ -91,9 +95,11 @@ module _ (p : Program) (arrivals : Arrivals) (meets : MeetsRules p) where
       (λ apart. others k u apart at (all k u (change-else i k f ts apart ∙ at)))
 
   -- an object
-  pub serves_back : (j : ℕ) (g : ProtectedUnit) (i : ℕ) (f : Task → Task) (t : Task) (ts : List Task) (stores stores' : List Variables) (ms ms' : List Moment) → slice_get ts i ≡ Some t
+  pub serves_back : (j : ℕ) (g : ProtectedUnit) (i : ℕ) (f : Task → Task) (t : Task) (ts : List Task) (stores stores' : List Variables)
+      (ms ms' : List Moment) → slice_get ts i ≡ Some t
       → (f t).thread ≡ t.thread → passages g.name ms' ≡ passages g.name ms → unwrap_or (slice_get stores j) [] ≡ unwrap_or (slice_get stores' j) []
-      → ((d : ℕ) → Holds j d (sections t) → (d' : ℕ) × Holds j d' (sections (f t)) × (HeldUntil w g t.thread.name d' ms → HeldUntil w g t.thread.name d ms'))
+      → ((d : ℕ) → Holds j d (sections t) → (d' : ℕ) × Holds j d' (sections (f t))
+      × (HeldUntil w g t.thread.name d' ms → HeldUntil w g t.thread.name d ms'))
       → ((k : ℕ) (u : Task) (d : ℕ) → (k ≡ i → ⊥) → slice_get ts k ≡ Some u → HeldUntil w g u.thread.name d ms → HeldUntil w g u.thread.name d ms')
       → ((d' : ℕ) → Holds j d' (sections (f t)) → (d : ℕ) × Holds j d (sections t))
       → Serves w j g (change i f ts) stores' ms → Serves w j g ts stores ms'
@@ -103,7 +109,8 @@ module _ (p : Program) (arrivals : Arrivals) (meets : MeetsRules p) where
         let P : Task → Type 0 = λ z. HeldUntil w g z.thread.name d ms' in
         let Q : Task → Type 0 = λ z. Holds j d (sections z) in
         let R : TaskUnit → Type 0 = λ th. HeldUntil w g th.name (own d (subst Q (sym same) holds)).0 ms in
-        let o : (d' : ℕ) × Holds j d' (sections (f t)) × (HeldUntil w g t.thread.name d' ms → HeldUntil w g t.thread.name d ms') = own d (subst Q (sym same) holds) in
+        let o : (d' : ℕ) × Holds j d' (sections (f t)) × (HeldUntil w g t.thread.name d' ms → HeldUntil w g t.thread.name d ms')
+        = own d (subst Q (sym same) holds) in
         subst P same (o.2 (subst R thread (s.held i (f t) o.0 (change-at i f ts t here) o.1))))
         (λ apart. others k u d apart at (s.held k u d (change-else i k f ts apart ∙ at) holds));
     free = λ none.
@@ -119,7 +126,8 @@ module _ (p : Program) (arrivals : Arrivals) (meets : MeetsRules p) where
   }
 
   -- the way out of an object, from later on
-  pub held_same : (g : ProtectedUnit) (name : Name) (d : ℕ) (ms ms' : List Moment) → passages g.name ms' ≡ passages g.name ms → steps_of name ms' ≡ steps_of name ms
+  pub held_same : (g : ProtectedUnit) (name : Name) (d : ℕ) (ms ms' : List Moment) → passages g.name ms' ≡ passages g.name ms
+      → steps_of name ms' ≡ steps_of name ms
       → HeldUntil w g name d ms → HeldUntil w g name d ms'
   held_same g name d ms ms' pass steps (inl none) = inl (pass ∙ none)
   held_same g name d ms ms' pass steps (inr out) = inr (record {
@@ -136,7 +144,8 @@ module _ (p : Program) (arrivals : Arrivals) (meets : MeetsRules p) where
     after = out.after;
   })
 
-  pub held_step : (g : ProtectedUnit) (name : Name) (d : ℕ) (s : Step) (ms ms' : List Moment) → passages g.name ms' ≡ passages g.name ms → steps_of name ms' ≡ s ∷ steps_of name ms
+  pub held_step : (g : ProtectedUnit) (name : Name) (d : ℕ) (s : Step) (ms ms' : List Moment) → passages g.name ms' ≡ passages g.name ms
+      → steps_of name ms' ≡ s ∷ steps_of name ms
       → closes d s.deed ≡ false → HeldUntil w g name (depth_after d s.deed) ms → HeldUntil w g name d ms'
   held_step g name d s ms ms' pass steps inside (inl none) = inl (pass ∙ none)
   held_step g name d s ms ms' pass steps inside (inr out) = inr (record {
@@ -154,7 +163,8 @@ module _ (p : Program) (arrivals : Arrivals) (meets : MeetsRules p) where
   })
 
   -- a change of one task that nothing is told of
-  pub quiet_back : (i : ℕ) (f : Task → Task) (t : Task) (ts : List Task) (stores : List Variables) (now : ℕ) (told : List Event) → slice_get ts i ≡ Some t
+  pub quiet_back : (i : ℕ) (f : Task → Task) (t : Task) (ts : List Task) (stores : List Variables) (now : ℕ) (told : List Event)
+      → slice_get ts i ≡ Some t
       → (f t).thread ≡ t.thread
       → ((ss : List Step) → Stands p arrivals now (f t) (f t).pieces ss → Stands p arrivals now t t.pieces ss)
       → ((j d : ℕ) → Holds j d (sections t) → Holds j d (sections (f t)))
@@ -180,7 +190,8 @@ module _ (p : Program) (arrivals : Arrivals) (meets : MeetsRules p) where
   own_back i f t ts stores now time deed told here same thread plain stand forth back c =
       let m : Moment = did time t.thread.name deed (silent 0 []) in
       let ms : List Moment = c.moments' in
-      let own : steps_of t.thread.name (m ∷ ms) ≡ step_at time deed (silent 0 []) ∷ steps_of t.thread.name ms = steps-own t.thread.name time deed (silent 0 []) ms plain.own in
+      let own : steps_of t.thread.name (m ∷ ms) ≡ step_at time deed (silent 0 []) ∷ steps_of t.thread.name ms
+      = steps-own t.thread.name time deed (silent 0 []) ms plain.own in
       let P : TaskUnit → Type 0 = λ th. Stands p arrivals now (f t) (f t).pieces (steps_of th.name ms) in
       let Q : List Step → Type 0 = λ ss. Stands p arrivals now t t.pieces ss in
       let other : (k : ℕ) (u : Task) → (k ≡ i → ⊥) → slice_get ts k ≡ Some u → steps_of u.thread.name (m ∷ ms) ≡ steps_of u.thread.name ms =
@@ -189,16 +200,20 @@ module _ (p : Program) (arrivals : Arrivals) (meets : MeetsRules p) where
         moments' = m ∷ ms;
         tells = ap (λ es. By time t.thread.name deed ∷ es) c.tells;
         threads = threads_back i f t ts now now ms (m ∷ ms) here (λ s. subst Q (sym own) (stand _ (subst P thread s)))
-            (λ k u apart at s. let R : List Step → Type 0 = λ ss. Stands p arrivals now u u.pieces ss in subst R (sym (other k u apart at)) s) c.threads;
-        objects = λ j g at. serves_back j g i f t ts stores stores ms (m ∷ ms) here thread (plain.passes g.name time t.thread.name (silent 0 []) ms) refl
+            (λ k u apart at s. let R : List Step → Type 0 = λ ss. Stands p arrivals now u u.pieces ss
+            in subst R (sym (other k u apart at)) s) c.threads;
+        objects = λ j g at. serves_back j g i f t ts stores stores ms (m ∷ ms) here thread
+            (plain.passes g.name time t.thread.name (silent 0 []) ms) refl
             (λ d h. (
               d,
               forth j d h,
               λ s.
                   let H : ℕ → Type 0 = λ e. HeldUntil w g t.thread.name e ms in
-                  held_step g t.thread.name d (step_at time deed (silent 0 [])) ms (m ∷ ms) (plain.passes g.name time t.thread.name (silent 0 []) ms) own (plain.stays d) (subst H (sym (plain.level d)) s),
+                  held_step g t.thread.name d (step_at time deed (silent 0 [])) ms (m
+                  ∷ ms) (plain.passes g.name time t.thread.name (silent 0 []) ms) own (plain.stays d) (subst H (sym (plain.level d)) s),
             ))
-            (λ k u d apart there s. held_same g u.thread.name d ms (m ∷ ms) (plain.passes g.name time t.thread.name (silent 0 []) ms) (other k u apart there) s)
+            (λ k u d apart there s. held_same g u.thread.name d ms (m ∷ ms) (plain.passes g.name time t.thread.name (silent 0 []) ms)
+            (other k u apart there) s)
             (λ d h. (d, back j d h)) (c.objects j g at);
       }
 
@@ -212,7 +227,8 @@ module _ (p : Program) (arrivals : Arrivals) (meets : MeetsRules p) where
       record {
         moments' = m ∷ ms;
         tells = ap (λ es. By time name (names.Arrive value) ∷ es) c.tells;
-        threads = λ k t at. let R : List Step → Type 0 = λ ss. Stands p arrivals now t t.pieces ss in subst R (sym (steps t.thread.name)) (c.threads k t at);
+        threads = λ k t at. let R : List Step → Type 0 = λ ss. Stands p arrivals now t t.pieces ss
+            in subst R (sym (steps t.thread.name)) (c.threads k t at);
         objects = λ j g at. record {
           held = λ k t d there h. held_same g t.thread.name d ms (m ∷ ms) refl (steps t.thread.name) ((c.objects j g at).held k t d there h);
           free = λ none. (c.objects j g at).free none;

@@ -8,7 +8,8 @@ use Rattle.seq_tree.specs.Variables.{Variables, kept}
 use Rattle.seq_tree.specs.Values.{holds}
 use Rattle.ada_tree.specs.Programs.{Program}
 use Rattle.machine.specs.Systems.{System, ProtectedUnit, CallTarget, Plain, Protected, Request, Unknown, callee, system}
-use Rattle.machine.specs.Pieces.{Piece, Idle, Store, Leaving, Calling, Working, Printing, Testing, Turning, Turned, Returning, Closing, Keeping, Opening, Requested, Finishing, turns, pieces, branch_pieces, after_loop}
+use Rattle.machine.specs.Pieces.{Piece, Idle, Store, Leaving, Calling, Working, Printing, Testing, Turning, Turned, Returning, Closing, Keeping}
+use Rattle.machine.specs.Pieces.{Opening, Requested, Finishing, turns, pieces, branch_pieces, after_loop}
 use Rattle.machine.specs.Deeds.{Act, Silent, Leave, Ended, Finish, PieceOutcome, deed, done, called}
 use Rattle.machine.specs.States.{Object, Control}
 use Rattle.guarantee.specs.Software.{Software, program_software}
@@ -25,7 +26,8 @@ use Rattle.ceiling_locking.proofs.Pieces.{closers}
 abbrev pub IsBound : System → List Piece → Type 0
 IsBound y [] = ⊥
 IsBound y (Finishing ∷ rest) = rest ≡ []
-IsBound y (Closing object op vars outs stores caller ∷ rest) = (g : ProtectedUnit) × (slice_get y.objects object ≡ Some g) × (vars ≡ g.vars) × IsBound y rest
+IsBound y (Closing object op vars outs stores caller ∷ rest) = (g : ProtectedUnit) × (slice_get y.objects object ≡ Some g) × (vars ≡ g.vars)
+    × IsBound y rest
 IsBound y (_ ∷ rest) = IsBound y rest
 
 -- this doesn't depend on pieces that a loop passes over
@@ -40,7 +42,8 @@ bound_block y b rest = subst (λ (P : Type 0). P) (sym (past_block (IsBound y) (
 bound_branches : (y : System) (b : Branches) (rest : List Piece) → IsBound y rest → IsBound y (branch_pieces b rest)
 bound_branches y b rest = subst (λ (P : Type 0). P) (sym (past_branches (IsBound y) (past_bound y) b rest))
 
-bound_turns : (y : System) (name : Name) (at last : ℕ) (body : Statements) (rest : List Piece) → IsBound y rest → IsBound y (turns name at last body rest)
+bound_turns : (y : System) (name : Name) (at last : ℕ) (body : Statements) (rest : List Piece) → IsBound y rest
+    → IsBound y (turns name at last body rest)
 bound_turns y name at last body rest = subst (λ (P : Type 0). P) (sym (past_turns (IsBound y) (past_bound y) name at last body rest))
 
 -- a loop that is left stands in the activation
@@ -50,7 +53,8 @@ bound_loop y rest e = subst (λ (P : Type 0). P) (sym (past_loop (IsBound y) (pa
 -- what is known of a deed
 abbrev pub Known : System → Piece → Variables → List Piece → Act → PieceOutcome → Type 0
 Known y x vars rest (Leave object op values data') d =
-    (g : ProtectedUnit) × (slice_get y.objects object ≡ Some g) × (data' ≡ kept g.vars vars) × (closers (x ∷ rest) ≡ Object object ∷ closers d.pieces) × IsBound y d.pieces
+    (g : ProtectedUnit) × (slice_get y.objects object ≡ Some g) × (data' ≡ kept g.vars vars) × (closers (x ∷ rest) ≡ Object object ∷ closers d.pieces)
+    × IsBound y d.pieces
 Known y x vars rest (Ended task value) d = (closers (x ∷ rest) ≡ Control task ∷ closers d.pieces) × IsBound y d.pieces
 Known y x vars rest Finish d = (x ≡ Finishing) × (d.vars ≡ vars)
 Known y x vars rest _ d = IsBound y d.pieces
@@ -68,7 +72,8 @@ module _ (p : Program) (arrivals : Arrivals) (meets : MeetsRules p) where
   names' : Naming p y w
   names' = naming p arrivals meets
 
-  known_call : (unit op : Name) (actuals : List Expression) (vars : Variables) (rest : List Piece) (c : CallTarget) → callee y unit op ≡ c → IsBound y rest
+  known_call : (unit op : Name) (actuals : List Expression) (vars : Variables) (rest : List Piece) (c : CallTarget) → callee y unit op ≡ c
+      → IsBound y rest
       → Known y (Calling unit op actuals) vars rest (called c actuals vars rest).act (called c actuals vars rest)
   known_call unit op actuals vars rest (Plain o) e h = bound_block y o.block _ h
   known_call unit op actuals vars rest (Protected object at g o) e h =
@@ -76,12 +81,14 @@ module _ (p : Program) (arrivals : Arrivals) (meets : MeetsRules p) where
   known_call unit op actuals vars rest (Request task) e h = h
   known_call unit op actuals vars rest Unknown e h = h
 
-  pub known_done : (x : Piece) (vars : Variables) (rest : List Piece) → FitPieces setup.Good (x ∷ rest) → IsBound y (x ∷ rest) → Known y x vars rest (done y x vars rest).act (done y x vars rest)
+  pub known_done : (x : Piece) (vars : Variables) (rest : List Piece) → FitPieces setup.Good (x ∷ rest) → IsBound y (x ∷ rest)
+      → Known y x vars rest (done y x vars rest).act (done y x vars rest)
   known_done Idle vars rest fit h = h
   known_done (Store target e) vars rest fit h = h
   known_done (Leaving condition) vars rest fit h = by (holds condition vars)
     where
-      by : (b : Bool) → Known y (Leaving condition) vars rest (if b then deed Silent (drop 1 vars) (after_loop rest) else deed Silent vars rest).act (if b then deed Silent (drop 1 vars) (after_loop rest) else deed Silent vars rest)
+      by : (b : Bool) → Known y (Leaving condition) vars rest (if b then deed Silent (drop 1 vars) (after_loop rest) else deed Silent vars rest).act
+          (if b then deed Silent (drop 1 vars) (after_loop rest) else deed Silent vars rest)
       by true = bound_loop y rest (fit.0) h
       by false = h
   known_done (Calling unit op actuals) vars rest fit h = known_call unit op actuals vars rest (callee y unit op) refl h

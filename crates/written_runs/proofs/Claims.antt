@@ -43,8 +43,10 @@ pub record Naming (p : Program) (y : System) (w : Software) : Type 0 where
   pub shared : w.shared ≡ map guarded_at y.objects
   pub thread_name : (k : ℕ) (th : TaskUnit) → slice_get y.threads k ≡ Some th → unit_name p th.unit ≡ th.name
   pub object_name : (j : ℕ) (g : ProtectedUnit) → slice_get y.objects j ≡ Some g → unit_name p g.unit ≡ g.name
-  pub threads_apart : (j k : ℕ) (th th' : TaskUnit) → slice_get y.threads j ≡ Some th → slice_get y.threads k ≡ Some th' → same_name th.name th'.name ≡ true → j ≡ k
-  pub objects_apart : (j k : ℕ) (g g' : ProtectedUnit) → slice_get y.objects j ≡ Some g → slice_get y.objects k ≡ Some g' → same_name g.name g'.name ≡ true → j ≡ k
+  pub threads_apart : (j k : ℕ) (th th' : TaskUnit) → slice_get y.threads j ≡ Some th → slice_get y.threads k ≡ Some th'
+      → same_name th.name th'.name ≡ true → j ≡ k
+  pub objects_apart : (j k : ℕ) (g g' : ProtectedUnit) → slice_get y.objects j ≡ Some g → slice_get y.objects k ≡ Some g'
+      → same_name g.name g'.name ≡ true → j ≡ k
   pub callees : (unit name : Name) (object op : ℕ) (g : ProtectedUnit) (o : Operation) → callee y unit name ≡ Protected object op g o
       → (slice_get y.objects object ≡ Some g) × IsOpOf (guarded_at g) (entry_name p y object op).op o
 
@@ -58,14 +60,16 @@ step_at time deed body = record { time = time; deed = deed; body = body }
 -- an end that is next, of an activation with this time used and at this time
 abbrev pub Finishes : System → Software → TaskUnit → ℕ → ℕ → Claim
 Finishes y w th used ending vars ss u =
-    (u ≡ y.costs.finish) × (body : Path) × (more : List Step) × (ss ≡ step_at ending (names.End used) body ∷ more) × Life w (task_at th) (kept th.vars vars) more
+    (u ≡ y.costs.finish) × (body : Path) × (more : List Step) × (ss ≡ step_at ending (names.End used) body ∷ more)
+    × Life w (task_at th) (kept th.vars vars) more
 
 -- a task inside an activation
 pub record IsBusy (p : Program) (a : Arrivals) (now : ℕ) (t : Task) (x : Piece) (rest : List Piece) (ss : List Step) : Type 0 where
   pub used : ℕ
   pub ending : ℕ
   pub more : ℕ
-  pub ahead : (n : ℕ) → IsTicks (system p a).costs x n → Ahead (course p a) (Finishes (system p a) (program_software p) t.thread used ending) t.vars (x ∷ rest) ss (n + more)
+  pub ahead : (n : ℕ) → IsTicks (system p a).costs x n
+      → Ahead (course p a) (Finishes (system p a) (program_software p) t.thread used ending) t.vars (x ∷ rest) ss (n + more)
   pub sums : used ≡ t.used + (t.left + more)
   pub since : now + used ≤ ending + t.used
 
@@ -106,7 +110,8 @@ HeldUntil w g name d ms = (passages g.name ms ≡ []) ⊎ GoesOut w g name d ms
 -- an object
 pub record Serves (w : Software) (j : ℕ) (g : ProtectedUnit) (ts : List Task) (stores : List Variables) (ms : List Moment) : Type 0 where
   pub held : (k : ℕ) (t : Task) (d : ℕ) → slice_get ts k ≡ Some t → Holds j d (sections t) → HeldUntil w g t.thread.name d ms
-  pub free : ((k : ℕ) (t : Task) (d : ℕ) → slice_get ts k ≡ Some t → Holds j d (sections t) → ⊥) → AreOneByOne w (guarded_at g) (unwrap_or (slice_get stores j) []) (passages g.name ms)
+  pub free : ((k : ℕ) (t : Task) (d : ℕ) → slice_get ts k ≡ Some t → Holds j d (sections t) → ⊥)
+      → AreOneByOne w (guarded_at g) (unwrap_or (slice_get stores j) []) (passages g.name ms)
 
 -- the objects
 abbrev pub Objects : System → Software → List Task → List Variables → List Moment → Type 0

@@ -30,7 +30,9 @@ every_run limit p r trace readable accepted m quiet =
     let y : System = system p r in
     let meets : MeetsRules p = readable.1 in
     let all : AreFitting p r y.threads = fits limit p r meets accepted in
-    let silent' : list_any is_stopping (run y m.steps (opening y r.items)).1 ≡ false = ap (list_any is_stopping) m.tells ∙ sym (quiet_names p trace) ∙ quiet in
+    let silent' : list_any is_stopping (run y m.steps (opening y r.items)).1 ≡ false
+    = ap (list_any is_stopping) m.tells ∙ sym (quiet_names p trace) ∙ quiet in
     let P : List Event → Type 0 = λ es. DoesSo p r meets all (named p es) in
-    let d : DoesSo p r meets all (named p trace) = subst P m.tells (runs_so p r meets all r.items m.steps (run_kept y r.items (may-exclude p meets limit r accepted)) m.stops silent') in
+    let d : DoesSo p r meets all (named p trace)
+    = subst P m.tells (runs_so p r meets all r.items m.steps (run_kept y r.items (may-exclude p meets limit r accepted)) m.stops silent') in
     record { order = in_order p r trace m quiet; bodies = d.bodies; threads = d.threads; objects = d.objects }

@@ -9,7 +9,8 @@ use Rattle.seq_tree.specs.Runs as runs
 use Rattle.guarantee.specs.Software.{Task, Software, leads_to}
 use Rattle.guarantee.specs.Events.{Deed, Release, Arrive, Enter, Leave, Request, Print, End, Stop}
 use Rattle.guarantee.specs.Steps.{Step, Placed, placed, outermost, shown}
-use Rattle.guarantee.specs.Scripts.{Activation, Activations, grouped, grouped_by, least_by, most_by, least_inside, most_inside, released_vars, IsWhole, IsCharged, AreRuns}
+use Rattle.guarantee.specs.Scripts.{Activation, Activations, grouped, grouped_by, least_by, most_by, least_inside, most_inside, released_vars}
+use Rattle.guarantee.specs.Scripts.{IsWhole, IsCharged, AreRuns}
 use Rattle.activations.proofs.Ways.{Within, outer}
 use Rattle.activations.proofs.Depths.{placed-append, outermost-append}
 use Rattle.std.proofs.lemmas.Bool.{true≢false}
@@ -23,7 +24,8 @@ abbrev NoRelease : ℕ → Deed → Type 0
 NoRelease zero (Release value) = ⊥
 NoRelease _ _ = ⊤
 
-grouped_by-plain : (d : ℕ) (deed : Deed) (p : Placed) (g : Activations) → NoRelease d deed → grouped_by d deed p g ≡ record { before = p ∷ g.before; activations = g.activations }
+grouped_by-plain : (d : ℕ) (deed : Deed) (p : Placed) (g : Activations) → NoRelease d deed
+    → grouped_by d deed p g ≡ record { before = p ∷ g.before; activations = g.activations }
 grouped_by-plain zero (Release value) p g no' = absurd no'
 grouped_by-plain zero (Arrive value) p g no' = refl
 grouped_by-plain zero (Enter name values) p g no' = refl
@@ -37,7 +39,10 @@ grouped_by-plain (suc d) deed p g no' = refl
 abbrev ArePlain : List Placed → Type 0
 ArePlain ps = Each (λ p. NoRelease p.depth p.step.deed) ps
 
-grouped-append : (ps qs : List Placed) → ArePlain ps → grouped (ps ++ qs) ≡ record { before = ps ++ (grouped qs).before; activations = (grouped qs).activations }
+grouped-append : (ps qs : List Placed) → ArePlain ps → grouped (ps ++ qs) ≡ record {
+  before = ps ++ (grouped qs).before;
+  activations = (grouped qs).activations;
+}
 grouped-append [] qs plain = refl
 grouped-append (p ∷ ps) qs plain =
     ap (λ g. grouped_by p.depth p.step.deed p g) (grouped-append ps qs plain.1)
@@ -86,7 +91,10 @@ end_step time used body = record { time = time; deed = End used; body = body }
 end_steps : (w : Software) (t : Task) (inner more : List Step) (time used : ℕ) (body : Path) (data' : Variables) (script : List Action)
     → Within 0 0 inner → outer 0 inner ≡ map shown script → Life w t data' more
     → grouped (placed 0 (inner ++ end_step time used body ∷ more))
-    ≡ record { before = placed 0 inner ++ record { depth = 0; step = end_step time used body } ∷ []; activations = (grouped (placed 0 more)).activations }
+    ≡ record {
+      before = placed 0 inner ++ record { depth = 0; step = end_step time used body } ∷ [];
+      activations = (grouped (placed 0 more)).activations;
+    }
 end_steps w t inner more time used body data' script within shows life =
     let g : Activations = grouped (placed 0 more) in
     let p : Placed = record { depth = 0; step = end_step time used body } in
@@ -95,17 +103,23 @@ end_steps w t inner more time used body data' script within shows life =
     ∙ ap (λ b. let h : Activations = record { before = placed 0 inner ++ p ∷ b; activations = g.activations } in h) life.0
 
 -- the ticks of operations that are entered, up to an end
-least-end : (ps : List Placed) (time used : ℕ) (body : Path) → least_inside (ps ++ record { depth = 0; step = end_step time used body } ∷ []) ≡ least_inside ps
-least-end ps time used body = sum_by_push (λ p. least_by p.step.deed p.step.body) ps (record { depth = 0; step = end_step time used body }) ∙ omega arith
+least-end : (ps : List Placed) (time used : ℕ) (body : Path) → least_inside (ps ++ record { depth = 0; step = end_step time used body } ∷ [])
+    ≡ least_inside ps
+least-end ps time used body = sum_by_push (λ p. least_by p.step.deed p.step.body) ps (record { depth = 0; step = end_step time used body }) ∙
+    omega arith
 
-most-end : (ps : List Placed) (time used : ℕ) (body : Path) → most_inside (ps ++ record { depth = 0; step = end_step time used body } ∷ []) ≡ most_inside ps
-most-end ps time used body = sum_by_push (λ p. most_by p.step.deed p.step.body) ps (record { depth = 0; step = end_step time used body }) ∙ omega arith
+most-end : (ps : List Placed) (time used : ℕ) (body : Path) → most_inside (ps ++ record { depth = 0; step = end_step time used body } ∷ [])
+    ≡ most_inside ps
+most-end ps time used body = sum_by_push (λ p. most_by p.step.deed p.step.body) ps (record { depth = 0; step = end_step time used body }) ∙
+    omega arith
 
 -- a release, a whole activation and what follows its end
-pub life_whole : (w : Software) (t : Task) (data' : Variables) (time : ℕ) (value : Option ℕ) (way : Path) (p : Path) (inner more : List Step) (ending used : ℕ) (body : Path)
+pub life_whole : (w : Software) (t : Task) (data' : Variables) (time : ℕ) (value : Option ℕ) (way : Path) (p : Path) (inner more : List Step)
+    (ending used : ℕ) (body : Path)
     → Run w.costs (leads_to w) t.block (released_vars t value data') p
     → Within 0 0 inner → outer 0 inner ≡ map shown p.script
-    → p.low + least_inside (placed 0 inner) + w.costs.finish ≤ used → used ≤ p.high + most_inside (placed 0 inner) + w.costs.finish → time + used ≤ ending
+    → p.low + least_inside (placed 0 inner) + w.costs.finish ≤ used → used ≤ p.high + most_inside (placed 0 inner) + w.costs.finish
+    → time + used ≤ ending
     → Life w t (kept t.vars p.vars) more
     → Life w t data' (record { time = time; deed = Release value; body = way } ∷ (inner ++ end_step ending used body ∷ more))
 life_whole w t data' time value way p inner more ending used body run within shows low high since life =
@@ -135,7 +149,8 @@ life_whole w t data' time value way p inner more ending used body run within sho
 grouped_plain : (ps : List Placed) → ArePlain ps → grouped ps ≡ record { before = ps; activations = [] }
 grouped_plain [] plain = refl
 grouped_plain (p ∷ ps) plain =
-    ap (λ g. grouped_by p.depth p.step.deed p g) (grouped_plain ps plain.1) ∙ grouped_by-plain p.depth p.step.deed p (record { before = ps; activations = [] }) plain.0
+    ap (λ g. grouped_by p.depth p.step.deed p g) (grouped_plain ps plain.1) ∙ grouped_by-plain p.depth p.step.deed p
+    (record { before = ps; activations = [] }) plain.0
 
 -- a release and an activation that does not end
 pub life_begun : (w : Software) (t : Task) (data' : Variables) (time : ℕ) (value : Option ℕ) (way : Path) (ss : List Step) (script : List Action)
@@ -143,5 +158,8 @@ pub life_begun : (w : Software) (t : Task) (data' : Variables) (time : ℕ) (val
     → outer 0 ss ≡ map shown script
     → Life w t data' (record { time = time; deed = Release value; body = way } ∷ ss)
 life_begun w t data' time value way ss script begins shows =
-    let P : Activations → Type 0 = λ h. AreRuns w t data' (record { time = time; value = value; steps = h.before } ∷ h.activations) in
-    (refl, subst P (sym (grouped_plain (placed 0 ss) (plain-shown (placed 0 ss) script shows))) (inr (record { script = script; begins = begins; shows = shows }, refl)))
+    let P : Activations → Type 0 = λ h. AreRuns w t data' (record { time = time; value = value; steps = h.before } ∷ h.activations) in (
+      refl,
+      subst P (sym (grouped_plain (placed 0 ss) (plain-shown (placed 0 ss) script shows))) (inr
+          (record { script = script; begins = begins; shows = shows }, refl)),
+    )

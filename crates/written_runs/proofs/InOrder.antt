@@ -28,20 +28,55 @@ told-in_order : (p : Program) (ths : List TaskUnit) (until now later : ℕ) (es 
     → ((n : ℕ) → n ≤ later → IsInOrder (program_software p).tasks until n more)
     → IsInOrder (program_software p).tasks until now (named p es ++ more)
 told-in_order p ths until now later [] more tasks early all quiet rest = rest now early
-told-in_order p ths until now later (event.Release time task value ∷ es) more tasks early all quiet rest =
-    (omega (arith, early, all.0.0), tasks task all.0.1, refl, told-in_order p ths until time later es more tasks (omega (arith, all.0.0)) all.1 quiet rest)
-told-in_order p ths until now later (event.Arrive time task value ∷ es) more tasks early all quiet rest =
-    (omega (arith, early, all.0.0), tasks task all.0.1, refl, told-in_order p ths until time later es more tasks (omega (arith, all.0.0)) all.1 quiet rest)
-told-in_order p ths until now later (event.Enter time task unit op values ∷ es) more tasks early all quiet rest =
-    (omega (arith, early, all.0.0), tasks task all.0.1, refl, told-in_order p ths until time later es more tasks (omega (arith, all.0.0)) all.1 quiet rest)
-told-in_order p ths until now later (event.Leave time task unit op values ∷ es) more tasks early all quiet rest =
-    (omega (arith, early, all.0.0), tasks task all.0.1, refl, told-in_order p ths until time later es more tasks (omega (arith, all.0.0)) all.1 quiet rest)
-told-in_order p ths until now later (event.Request time task target value ∷ es) more tasks early all quiet rest =
-    (omega (arith, early, all.0.0), tasks task all.0.1, refl, told-in_order p ths until time later es more tasks (omega (arith, all.0.0)) all.1 quiet rest)
-told-in_order p ths until now later (event.Print time task value ∷ es) more tasks early all quiet rest =
-    (omega (arith, early, all.0.0), tasks task all.0.1, refl, told-in_order p ths until time later es more tasks (omega (arith, all.0.0)) all.1 quiet rest)
-told-in_order p ths until now later (event.End time task used ∷ es) more tasks early all quiet rest =
-    (omega (arith, early, all.0.0), tasks task all.0.1, refl, told-in_order p ths until time later es more tasks (omega (arith, all.0.0)) all.1 quiet rest)
+told-in_order p ths until now later (event.Release time task value ∷ es) more tasks early all quiet rest = (
+  omega (arith, early, all.0.0),
+  tasks task all.0.1,
+  refl,
+  told-in_order p ths until time later es more tasks (omega
+      (arith, all.0.0)) all.1 quiet rest,
+)
+told-in_order p ths until now later (event.Arrive time task value ∷ es) more tasks early all quiet rest = (
+  omega (arith, early, all.0.0),
+  tasks task all.0.1,
+  refl,
+  told-in_order p ths until time later es more tasks (omega
+      (arith, all.0.0)) all.1 quiet rest,
+)
+told-in_order p ths until now later (event.Enter time task unit op values ∷ es) more tasks early all quiet rest = (
+  omega (arith, early, all.0.0),
+  tasks task all.0.1,
+  refl,
+  told-in_order p ths until time later es more tasks (omega
+      (arith, all.0.0)) all.1 quiet rest,
+)
+told-in_order p ths until now later (event.Leave time task unit op values ∷ es) more tasks early all quiet rest = (
+  omega (arith, early, all.0.0),
+  tasks task all.0.1,
+  refl,
+  told-in_order p ths until time later es more tasks (omega
+      (arith, all.0.0)) all.1 quiet rest,
+)
+told-in_order p ths until now later (event.Request time task target value ∷ es) more tasks early all quiet rest = (
+  omega (arith, early, all.0.0),
+  tasks task all.0.1,
+  refl,
+  told-in_order p ths until time later es more tasks (omega
+      (arith, all.0.0)) all.1 quiet rest,
+)
+told-in_order p ths until now later (event.Print time task value ∷ es) more tasks early all quiet rest = (
+  omega (arith, early, all.0.0),
+  tasks task all.0.1,
+  refl,
+  told-in_order p ths until time later es more tasks (omega
+      (arith, all.0.0)) all.1 quiet rest,
+)
+told-in_order p ths until now later (event.End time task used ∷ es) more tasks early all quiet rest = (
+  omega (arith, early, all.0.0),
+  tasks task all.0.1,
+  refl,
+  told-in_order p ths until time later es more tasks (omega
+      (arith, all.0.0)) all.1 quiet rest,
+)
 told-in_order p ths until now later (event.Stop time task unit priority ceiling ∷ es) more tasks early all quiet rest = absurd (true≢false quiet)
 told-in_order p ths until now later (event.Horizon time ∷ es) more tasks early all quiet rest = absurd all.0
 
@@ -63,7 +98,8 @@ pub quiet_front : (es more : List Event) → list_any is_stopping (es ++ more) �
 quiet_front [] more quiet = refl
 quiet_front (e ∷ es) more quiet = by (is_stopping e) quiet (quiet_front es more)
   where
-    by : (b : Bool) → (b || list_any is_stopping (es ++ more)) ≡ false → (list_any is_stopping (es ++ more) ≡ false → list_any is_stopping es ≡ false) → (b || list_any is_stopping es) ≡ false
+    by : (b : Bool) → (b || list_any is_stopping (es ++ more)) ≡ false → (list_any is_stopping (es ++ more) ≡ false → list_any is_stopping es ≡ false)
+        → (b || list_any is_stopping es) ≡ false
     by true h later = absurd (true≢false h)
     by false h later = later h
 
@@ -71,7 +107,8 @@ pub quiet_back : (es more : List Event) → list_any is_stopping (es ++ more) �
 quiet_back [] more quiet = quiet
 quiet_back (e ∷ es) more quiet = by (is_stopping e) quiet (quiet_back es more)
   where
-    by : (b : Bool) → (b || list_any is_stopping (es ++ more)) ≡ false → (list_any is_stopping (es ++ more) ≡ false → list_any is_stopping more ≡ false) → list_any is_stopping more ≡ false
+    by : (b : Bool) → (b || list_any is_stopping (es ++ more)) ≡ false
+        → (list_any is_stopping (es ++ more) ≡ false → list_any is_stopping more ≡ false) → list_any is_stopping more ≡ false
     by true h later = absurd (true≢false h)
     by false h later = later h
 
@@ -87,10 +124,12 @@ order-from : (p : Program) (y : System) (ths : List TaskUnit) (n : ℕ) (s : Sta
     → IsInOrder (program_software p).tasks y.until now (named p (run y n s).1)
 order-from p y ths zero s now tasks same timely on early stops quiet = absurd (false≢true (sym on ∙ stops))
 order-from p y ths (suc n) s now tasks same timely on early stops quiet = by (step-walks y ths s on timely same)
-    (λ k same' timely' on' early'. order-from p y ths n (step y s).0 k tasks same' timely' on' early' stops (quiet_back (step y s).1 (run y n (step y s).0).1 quiet))
+    (λ k same' timely' on' early'. order-from p y ths n (step y s).0 k tasks same' timely' on' early' stops
+    (quiet_back (step y s).1 (run y n (step y s).0).1 quiet))
   where
     by : Walks y ths s (step y s)
-        → ((k : ℕ) → threads_of (step y s).0.tasks ≡ ths → IsTimely y.until (step y s).0.phase (step y s).0.time → (step y s).0.stopped ≡ false → k ≤ (step y s).0.time
+        → ((k : ℕ) → threads_of (step y s).0.tasks ≡ ths → IsTimely y.until (step y s).0.phase (step y s).0.time → (step y s).0.stopped ≡ false
+        → k ≤ (step y s).0.time
         → IsInOrder (program_software p).tasks y.until k (named p (run y n (step y s).0).1))
         → IsInOrder (program_software p).tasks y.until now (named p ((step y s).1 ++ (run y n (step y s).0).1))
     by (inl f) later =
@@ -117,5 +156,6 @@ pub in_order : (p : Program) (r : Arrivals) (trace : List Event) → Meaning p r
 in_order p r trace m quiet =
     let y : System = system p r in
     let P : List Event → Type 0 = λ es. IsInOrder (program_software p).tasks r.until 0 (named p es) in
-    subst P m.tells (order-from p y y.threads m.steps (start p r) 0 (λ unit has. is_task p r unit has) (first_threads y.threads) (omega arith) refl (omega arith) m.stops
+    subst P m.tells (order-from p y y.threads m.steps (start p r) 0 (λ unit has. is_task p r unit has) (first_threads y.threads) (omega arith) refl
+    (omega arith) m.stops
     (ap (list_any is_stopping) m.tells ∙ sym (quiet_names p trace) ∙ quiet))

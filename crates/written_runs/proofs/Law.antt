@@ -91,7 +91,8 @@ module _ (p : Program) (arrivals : Arrivals) (meets : MeetsRules p) (fits : AreF
       → Conducts p arrivals s.time s.tasks s.stores (named p (run y n s).1)
   conducts_from zero s steady kept timely on stops quiet = absurd (true≢false (sym stops ∙ on))
   conducts_from (suc n) s steady kept timely on stops quiet = by (step-walks y y.threads s on timely steady.threads)
-      (λ timely' on'. conducts_from n (step y s).0 (step_steady p arrivals meets fits s steady) (λ m. kept (suc m)) timely' on' stops (quiet_back (step y s).1 (run y n (step y s).0).1 quiet))
+      (λ timely' on'. conducts_from n (step y s).0 (step_steady p arrivals meets fits s steady) (λ m. kept (suc m)) timely' on' stops
+      (quiet_back (step y s).1 (run y n (step y s).0).1 quiet))
     where
       by : Walks y y.threads s (step y s)
           → (IsTimely y.until (step y s).0.phase (step y s).0.time → (step y s).0.stopped ≡ false
@@ -101,7 +102,8 @@ module _ (p : Program) (arrivals : Arrivals) (meets : MeetsRules p) (fits : AreF
           let more : List machine.Event = (run y n (step y s).0).1 in
           let P : List Event → Type 0 = λ es. Conducts p arrivals s.time s.tasks s.stores es in
           subst P (sym (named-append p (step y s).1 more))
-          (step_backs p arrivals meets fits s on steady (kept 0) (kept 1).alone f.on (quiet_front (step y s).1 more quiet) (named p more) (later f.timely f.on))
+          (step_backs p arrivals meets fits s on steady (kept 0) (kept 1).alone f.on (quiet_front (step y s).1 more quiet) (named p more)
+          (later f.timely f.on))
       by (inr (inl e)) later =
           let none : (run y n (step y s).0).1 ≡ [] = ap (λ next. next.1) (stopped_stays y n (step y s).0 e.stopped) in
           let P : List machine.Event → Type 0 = λ es. Conducts p arrivals s.time s.tasks s.stores (named p (es ++ (run y n (step y s).0).1)) in
@@ -110,7 +112,8 @@ module _ (p : Program) (arrivals : Arrivals) (meets : MeetsRules p) (fits : AreF
       by (inr (inr st)) later = absurd (true≢false (sym st ∙ quiet_front (step y s).1 (run y n (step y s).0).1 quiet))
 
   -- the opening
-  first_at : (ths : List TaskUnit) (k : ℕ) (t : Task) → slice_get (map first_task ths) k ≡ Some t → (th : TaskUnit) × (slice_get ths k ≡ Some th) × (first_task th ≡ t)
+  first_at : (ths : List TaskUnit) (k : ℕ) (t : Task) → slice_get (map first_task ths) k ≡ Some t
+      → (th : TaskUnit) × (slice_get ths k ≡ Some th) × (first_task th ≡ t)
   first_at [] k t e = absurd (none-some t e)
   first_at (th ∷ ths) zero t e = (th, refl, same_Some (first_task th) t e)
   first_at (th ∷ ths) (suc k) t e = first_at ths k t e
@@ -140,9 +143,11 @@ module _ (p : Program) (arrivals : Arrivals) (meets : MeetsRules p) (fits : AreF
       → DoesSo (named p (run y n (opening y items)).1)
   runs_so items n kept stops quiet =
       let s : State = opening y items in
-      let c : Conducts p arrivals 0 s.tasks s.stores (named p (run y n s).1) = conducts_from n s (opening_steady items) kept (omega arith) refl stops quiet in
+      let c : Conducts p arrivals 0 s.tasks s.stores (named p (run y n s).1)
+      = conducts_from n s (opening_steady items) kept (omega arith) refl stops quiet in
       let ms : List Moment = c.moments' in
-      let same : ms ≡ moments (named p (run y n s).1) (map (λ m. m.body) ms) = sym (moments-same ms) ∙ ap (λ es. moments es (map (λ m. m.body) ms)) c.tells in
+      let same : ms ≡ moments (named p (run y n s).1) (map (λ m. m.body) ms)
+      = sym (moments-same ms) ∙ ap (λ es. moments es (map (λ m. m.body) ms)) c.tells in
       let T : List Moment → Type 0 = λ z. Each (FollowsBlock w z) w.tasks in
       let T' : List software.Task → Type 0 = λ ts. Each (FollowsBlock w ms) ts in
       let O : List Moment → Type 0 = λ z. Each (ServesOneByOne w z) w.shared in
@@ -150,7 +155,8 @@ module _ (p : Program) (arrivals : Arrivals) (meets : MeetsRules p) (fits : AreF
       record {
         bodies = map (λ m. m.body) ms;
         threads = subst T same (subst T' (sym names'.tasks) (each-map task_at (FollowsBlock w ms) y.threads
-            (each-by (λ th. FollowsBlock w ms (task_at th)) y.threads (λ k th at. c.threads k (first_task th) (slice_get-map first_task y.threads k ∙ ap (option_map first_task) at)))));
+            (each-by (λ th. FollowsBlock w ms (task_at th)) y.threads
+            (λ k th at. c.threads k (first_task th) (slice_get-map first_task y.threads k ∙ ap (option_map first_task) at)))));
         objects = subst O same (subst O' (sym names'.shared) (each-map guarded_at (ServesOneByOne w ms) y.objects
             (each-by (λ g. ServesOneByOne w ms (guarded_at g)) y.objects (λ j g at.
             let A : Variables → Type 0 = λ v. AreOneByOne w (guarded_at g) v (passages g.name ms) in

@@ -1,5 +1,6 @@
 -- What releases and effects keep and tell: threads and the time stay, and every event is one of a thread at this time.
-use Rattle.std.specs.Prelude.{◌≡◌, ◌⊎◌, ℕ, zero, suc, Bool, true, false, ◌&&◌, ◌||◌, List, [], ◌∷◌, map, nat_lt, Option, Some, None, slice_get, option_map, ⊤, refl, if◌then◌else◌}
+use Rattle.std.specs.Prelude.{◌≡◌, ◌⊎◌, ℕ, zero, suc, Bool, true, false, ◌&&◌, ◌||◌, List, [], ◌∷◌, map, nat_lt, Option, Some, None, slice_get}
+use Rattle.std.specs.Prelude.{option_map, ⊤, refl, if◌then◌else◌}
 use Rattle.std.specs.List.{list_any}
 use Rattle.std.proofs.Common.{sym, ◌∙◌, ap, inl, inr}
 use Rattle.std.proofs.lemmas.Option.{slice_get-map}
@@ -64,7 +65,8 @@ stays : (ths : List TaskUnit) (s : State) → threads_of s.tasks ≡ ths → Goe
 stays ths s same = record { threads = same; time = refl; phase = refl; told = tt; stops = inl refl }
 
 -- from a state that differs in its tasks, order numbers and stores alone
-from_moved : (ths : List TaskUnit) (s s' : State) (next : Next) → s'.time ≡ s.time → s'.phase ≡ s.phase → s'.stopped ≡ s.stopped → Goes ths s' next → Goes ths s next
+from_moved : (ths : List TaskUnit) (s s' : State) (next : Next) → s'.time ≡ s.time → s'.phase ≡ s.phase → s'.stopped ≡ s.stopped → Goes ths s' next
+    → Goes ths s next
 from_moved ths s s' next time phase stopped g = record {
   threads = g.threads;
   time = g.time ∙ time;
@@ -74,7 +76,8 @@ from_moved ths s s' next time phase stopped g = record {
 }
 
 -- an event before
-told_before : (ths : List TaskUnit) (s : State) (e : Event) (next : Next) → IsNow ths s.time e → is_stopping e ≡ false → Goes ths s next → Goes ths s (after (e ∷ []) next)
+told_before : (ths : List TaskUnit) (s : State) (e : Event) (next : Next) → IsNow ths s.time e → is_stopping e ≡ false → Goes ths s next
+    → Goes ths s (after (e ∷ []) next)
 told_before ths s e next now quiet g = record {
   threads = g.threads;
   time = g.time;
@@ -84,7 +87,8 @@ told_before ths s e next now quiet g = record {
 }
 
 -- a release
-pub release_task-goes : (y : System) (ths : List TaskUnit) (i : ℕ) (o : Option Task) (s : State) → slice_get s.tasks i ≡ o → threads_of s.tasks ≡ ths → Goes ths s (release_task y i o s)
+pub release_task-goes : (y : System) (ths : List TaskUnit) (i : ℕ) (o : Option Task) (s : State) → slice_get s.tasks i ≡ o → threads_of s.tasks ≡ ths
+    → Goes ths s (release_task y i o s)
 release_task-goes y ths i None s here same = stays ths s same
 release_task-goes y ths i (Some t) s here same = record {
   threads = change-threads i (released y.costs) s.tasks (released-thread y.costs) ∙ same;
@@ -97,7 +101,8 @@ release_task-goes y ths i (Some t) s here same = record {
 pub release-goes : (y : System) (ths : List TaskUnit) (i : ℕ) (s : State) → threads_of s.tasks ≡ ths → Goes ths s (release y i s)
 release-goes y ths i s same = release_task-goes y ths i (slice_get s.tasks i) s refl same
 
-serve_task-goes : (y : System) (ths : List TaskUnit) (i : ℕ) (o : Option Task) (s : State) → threads_of s.tasks ≡ ths → Goes ths s (serve_task y i o s)
+serve_task-goes : (y : System) (ths : List TaskUnit) (i : ℕ) (o : Option Task) (s : State) → threads_of s.tasks ≡ ths
+    → Goes ths s (serve_task y i o s)
 serve_task-goes y ths i None s same = stays ths s same
 serve_task-goes y ths i (Some t) s same = by (is_waiting t.readiness && t.gate.open')
   where
@@ -109,14 +114,16 @@ pub serve-goes : (y : System) (ths : List TaskUnit) (i : ℕ) (s : State) → th
 serve-goes y ths i s same = serve_task-goes y ths i (slice_get s.tasks i) s same
 
 -- an entry
-entry-goes : (y : System) (ths : List TaskUnit) (i : ℕ) (t : Task) (section : Resource) (told : List Event) (vars : Variables) (ps : List Piece) (s : State)
+entry-goes : (y : System) (ths : List TaskUnit) (i : ℕ) (t : Task) (section : Resource) (told : List Event) (vars : Variables) (ps : List Piece)
+    (s : State)
     → Each (IsNow ths s.time) told → threads_of s.tasks ≡ ths → Goes ths s (entry y i t section told vars ps s)
 entry-goes y ths i t section told vars ps s now same = by section (nat_lt (ceiling_of y section) t.active)
   where
     by : (c : Resource) (b : Bool) → Goes ths s (if b then stopped_at y t c s else entered_at y i c told vars ps s)
     by c true = record { threads = same; time = refl; phase = refl; told = (tt, tt); stops = inr refl }
     by (Object object) false = record {
-      threads = change-threads i (λ u. going y.costs (lent (Object object) s vars) ps (inside_now (Object object) (ceiling_of y (Object object)) u)) s.tasks
+      threads = change-threads i (λ u. going y.costs (lent (Object object) s vars) ps
+          (inside_now (Object object) (ceiling_of y (Object object)) u)) s.tasks
           (λ u. going-thread y.costs (lent (Object object) s vars) ps (inside_now (Object object) (ceiling_of y (Object object)) u)) ∙ same;
       time = refl;
       phase = refl;
@@ -135,7 +142,8 @@ entry-goes y ths i t section told vars ps s now same = by section (nat_lt (ceili
 -- the threads after an exit and as a task goes on
 exit-threads : (y : System) (i : ℕ) (vars : Variables) (ps : List Piece) (s : State) → threads_of (exit y i vars ps s).tasks ≡ threads_of s.tasks
 exit-threads y i vars ps s =
-    change-threads i (λ u. going y.costs vars ps (outside_now u)) s.tasks (λ u. going-thread y.costs vars ps (outside_now u) ∙ outside-thread u.inside u)
+    change-threads i (λ u. going y.costs vars ps (outside_now u)) s.tasks
+    (λ u. going-thread y.costs vars ps (outside_now u) ∙ outside-thread u.inside u)
 
 go-threads : (y : System) (i : ℕ) (vars : Variables) (ps : List Piece) (s : State) → threads_of (go y i vars ps s).tasks ≡ threads_of s.tasks
 go-threads y i vars ps s = change-threads i (going y.costs vars ps) s.tasks (going-thread y.costs vars ps)
@@ -146,30 +154,46 @@ pub acted-goes : (y : System) (ths : List TaskUnit) (i : ℕ) (t : Task) (act : 
 acted-goes y ths i t Silent vars ps s here same =
     record { threads = go-threads y i vars ps s ∙ same; time = refl; phase = refl; told = tt; stops = inl refl }
 acted-goes y ths i t (Print v) vars ps s here same =
-    record { threads = go-threads y i vars ps s ∙ same; time = refl; phase = refl; told = ((refl, unit_of ths s.tasks i t here same), tt); stops = inl refl }
+    record {
+      threads = go-threads y i vars ps s ∙ same;
+      time = refl;
+      phase = refl;
+      told = ((refl, unit_of ths s.tasks i t here same), tt);
+      stops = inl refl;
+    }
 acted-goes y ths i t (Enter object op values) vars ps s here same =
     entry-goes y ths i t (Object object) _ vars ps s ((refl, unit_of ths s.tasks i t here same), tt) same
 acted-goes y ths i t (Leave object op values data') vars ps s here same =
-    record { threads = exit-threads y i vars ps s ∙ same; time = refl; phase = refl; told = ((refl, unit_of ths s.tasks i t here same), tt); stops = inl refl }
+    record {
+      threads = exit-threads y i vars ps s ∙ same;
+      time = refl;
+      phase = refl;
+      told = ((refl, unit_of ths s.tasks i t here same), tt);
+      stops = inl refl;
+    }
 acted-goes y ths i t (Ask task) vars ps s here same = entry-goes y ths i t (Control task) [] vars ps s tt same
 acted-goes y ths i t (Keep task v) vars ps s here same = record {
-  threads = change-threads task (λ u. record u { gate = record u.gate { value = v } }) (go y i vars ps s).tasks (λ u. refl) ∙ go-threads y i vars ps s ∙ same;
+  threads = change-threads task (λ u. record u { gate = record u.gate { value = v } }) (go y i vars ps s).tasks (λ u.
+      refl) ∙ go-threads y i vars ps s ∙ same;
   time = refl;
   phase = refl;
   told = tt;
   stops = inl refl;
 }
 acted-goes y ths i t (Open task) vars ps s here same = record {
-  threads = change-threads task (λ u. record u { gate = record u.gate { open' = true } }) (go y i vars ps s).tasks (λ u. refl) ∙ go-threads y i vars ps s ∙ same;
+  threads = change-threads task (λ u. record u { gate = record u.gate { open' = true } }) (go y i vars ps s).tasks (λ u.
+      refl) ∙ go-threads y i vars ps s ∙ same;
   time = refl;
   phase = refl;
   told = tt;
   stops = inl refl;
 }
 acted-goes y ths i t (Ended task v) vars ps s here same =
-    told_before ths s (event.Request s.time t.thread.unit (task_unit y task) v) (serve y task (exit y i vars ps s)) (refl, unit_of ths s.tasks i t here same) refl
+    told_before ths s (event.Request s.time t.thread.unit (task_unit y task) v) (serve y task (exit y i vars ps s))
+    (refl, unit_of ths s.tasks i t here same) refl
     (from_moved ths s (exit y i vars ps s) _ refl refl refl (serve-goes y ths task (exit y i vars ps s) (exit-threads y i vars ps s ∙ same)))
 acted-goes y ths i t Finish vars ps s here same =
-    told_before ths s (event.End s.time t.thread.unit t.used) (serve y i (record s { tasks = change i (ended vars) s.tasks })) (refl, unit_of ths s.tasks i t here same) refl
+    told_before ths s (event.End s.time t.thread.unit t.used) (serve y i (record s { tasks = change i (ended vars) s.tasks }))
+    (refl, unit_of ths s.tasks i t here same) refl
     (from_moved ths s (record s { tasks = change i (ended vars) s.tasks }) _ refl refl refl
     (serve-goes y ths i (record s { tasks = change i (ended vars) s.tasks }) (change-threads i (ended vars) s.tasks (λ u. refl) ∙ same)))

@@ -24,12 +24,14 @@ first_found : {A : Type 0} (test : A → Bool) (n : ℕ) (xs : List A) (k : ℕ)
 first_found test n [] k x e = absurd (none-some (k, x) e)
 first_found {A} test n (z ∷ xs) k x e = by (test z) e (first_found test (suc n) xs k x)
   where
-    by : (b : Bool) → (if b then Some (n, z) else first_from (suc n) test xs) ≡ Some (k, x) → (first_from (suc n) test xs ≡ Some (k, x) → find test xs ≡ Some x) → cond b (Some z) (find test xs) ≡ Some x
+    by : (b : Bool) → (if b then Some (n, z) else first_from (suc n) test xs) ≡ Some (k, x)
+        → (first_from (suc n) test xs ≡ Some (k, x) → find test xs ≡ Some x) → cond b (Some z) (find test xs) ≡ Some x
     by true h later = ap (λ o. option_map (λ (q : ℕ × A). q.1) o) h
     by false h later = later h
 
 -- a call of a protected operation leads to an operation of that object, of the name that a trace has
-callees : (p : Program) (r : Arrivals) → MeetsRules p → (unit name : Name) (object at : ℕ) (g : ProtectedUnit) (o : Operation) → callee (system p r) unit name ≡ Protected object at g o
+callees : (p : Program) (r : Arrivals) → MeetsRules p → (unit name : Name) (object at : ℕ) (g : ProtectedUnit) (o : Operation)
+    → callee (system p r) unit name ≡ Protected object at g o
     → (slice_get (system p r).objects object ≡ Some g) × IsOpOf (guarded_at g) (entry_name p (system p r) object at).op o
 callees p r meets unit name object at g o e =
     let l : LeadsToObject (system p r) unit name object at g o = subst (LeadsTo (system p r) unit name) e (leads-to (system p r) unit name) in

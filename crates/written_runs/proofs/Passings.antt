@@ -39,7 +39,8 @@ use Rattle.ceiling_locking.specs.Sections.{sections}
 
 -- no object is held by two tasks or twice
 abbrev pub Alone : List Task → Type 0
-Alone ts = (j k k' d d' : ℕ) (u u' : Task) → slice_get ts k ≡ Some u → slice_get ts k' ≡ Some u' → Holds j d (sections u) → Holds j d' (sections u') → (k ≡ k') × (d ≡ d')
+Alone ts = (j k k' d d' : ℕ) (u u' : Task) → slice_get ts k ≡ Some u → slice_get ts k' ≡ Some u' → Holds j d (sections u) → Holds j d' (sections u')
+    → (k ≡ k') × (d ≡ d')
 
 -- each object has its data
 abbrev pub HasStores : System → List Variables → Type 0
@@ -89,36 +90,47 @@ module _ (p : Program) (arrivals : Arrivals) (meets : MeetsRules p) where
 
   -- the passages of the object, and of others
   into_here : (k op time : ℕ) (g : ProtectedUnit) (name : Name) (values : List ℕ) (body : Path) (ms : List Moment) → slice_get y.objects k ≡ Some g
-      → passages g.name (did time name (names.Enter (entry_name p y k op) values) body ∷ ms) ≡ Into name (entry_name p y k op).op values (inside (steps_of name ms)) body ∷ passages g.name ms
+      → passages g.name (did time name (names.Enter (entry_name p y k op) values) body ∷ ms)
+      ≡ Into name (entry_name p y k op).op values (inside (steps_of name ms)) body ∷ passages g.name ms
   into_here k op time g name values body ms at =
-      ap (λ n. cons_option (only_if (same_name n g.name) (Into name (entry_name p y k op).op values (inside (steps_of name ms)) body)) (passages g.name ms)) (object_named k op g at)
-      ∙ ap (λ b. cons_option (only_if b (Into name (entry_name p y k op).op values (inside (steps_of name ms)) body)) (passages g.name ms)) (same-self g.name)
+      ap (λ n. cons_option (only_if (same_name n g.name) (Into name (entry_name p y k op).op values (inside (steps_of name ms)) body))
+      (passages g.name ms)) (object_named k op g at)
+      ∙ ap (λ b. cons_option (only_if b (Into name (entry_name p y k op).op values (inside (steps_of name ms)) body)) (passages g.name ms))
+      (same-self g.name)
 
   out_here : (k op time : ℕ) (g : ProtectedUnit) (name : Name) (values : List ℕ) (body : Path) (ms : List Moment) → slice_get y.objects k ≡ Some g
-      → passages g.name (did time name (names.Leave (entry_name p y k op) values) body ∷ ms) ≡ Out name (entry_name p y k op).op values ∷ passages g.name ms
+      → passages g.name (did time name (names.Leave (entry_name p y k op) values) body ∷ ms)
+      ≡ Out name (entry_name p y k op).op values ∷ passages g.name ms
   out_here k op time g name values body ms at =
       ap (λ n. cons_option (only_if (same_name n g.name) (Out name (entry_name p y k op).op values)) (passages g.name ms)) (object_named k op g at)
       ∙ ap (λ b. cons_option (only_if b (Out name (entry_name p y k op).op values)) (passages g.name ms)) (same-self g.name)
 
-  apart_named : (j k op : ℕ) (g g' : ProtectedUnit) → slice_get y.objects k ≡ Some g → slice_get y.objects j ≡ Some g' → (j ≡ k → ⊥) → same_name (entry_name p y k op).object g'.name ≡ false
+  apart_named : (j k op : ℕ) (g g' : ProtectedUnit) → slice_get y.objects k ≡ Some g → slice_get y.objects j ≡ Some g' → (j ≡ k → ⊥)
+      → same_name (entry_name p y k op).object g'.name ≡ false
   apart_named j k op g g' at there apart =
       ap (λ n. same_name n g'.name) (object_named k op g at) ∙ false_from_ne_true _ (λ e. apart (sym (names'.objects_apart k j g g' at there e)))
 
-  into_other : (j k op time : ℕ) (g g' : ProtectedUnit) (name : Name) (values : List ℕ) (body : Path) (ms : List Moment) → slice_get y.objects k ≡ Some g → slice_get y.objects j ≡ Some g' → (j ≡ k → ⊥)
+  into_other : (j k op time : ℕ) (g g' : ProtectedUnit) (name : Name) (values : List ℕ) (body : Path) (ms : List Moment)
+      → slice_get y.objects k ≡ Some g → slice_get y.objects j ≡ Some g' → (j ≡ k → ⊥)
       → passages g'.name (did time name (names.Enter (entry_name p y k op) values) body ∷ ms) ≡ passages g'.name ms
   into_other j k op time g g' name values body ms at there apart =
-      ap (λ b. cons_option (only_if b (Into name (entry_name p y k op).op values (inside (steps_of name ms)) body)) (passages g'.name ms)) (apart_named j k op g g' at there apart)
+      ap (λ b. cons_option (only_if b (Into name (entry_name p y k op).op values (inside (steps_of name ms)) body)) (passages g'.name ms))
+      (apart_named j k op g g' at there apart)
 
-  out_other : (j k op time : ℕ) (g g' : ProtectedUnit) (name : Name) (values : List ℕ) (body : Path) (ms : List Moment) → slice_get y.objects k ≡ Some g → slice_get y.objects j ≡ Some g' → (j ≡ k → ⊥)
+  out_other : (j k op time : ℕ) (g g' : ProtectedUnit) (name : Name) (values : List ℕ) (body : Path) (ms : List Moment)
+      → slice_get y.objects k ≡ Some g → slice_get y.objects j ≡ Some g' → (j ≡ k → ⊥)
       → passages g'.name (did time name (names.Leave (entry_name p y k op) values) body ∷ ms) ≡ passages g'.name ms
   out_other j k op time g g' name values body ms at there apart =
       ap (λ b. cons_option (only_if b (Out name (entry_name p y k op).op values)) (passages g'.name ms)) (apart_named j k op g g' at there apart)
 
   -- a leave
-  pub leave_back : (i : ℕ) (f : Task → Task) (t : Task) (ts : List Task) (stores : List Variables) (now k op : ℕ) (g : ProtectedUnit) (values : List ℕ) (data' : Variables) (cs : List Resource) (told : List Event)
-      → slice_get ts i ≡ Some t → threads_of ts ≡ y.threads → (f t).thread ≡ t.thread → slice_get y.objects k ≡ Some g → data' ≡ kept g.vars t.vars → HasStores y stores → Alone ts
+  pub leave_back : (i : ℕ) (f : Task → Task) (t : Task) (ts : List Task) (stores : List Variables) (now k op : ℕ) (g : ProtectedUnit)
+      (values : List ℕ) (data' : Variables) (cs : List Resource) (told : List Event)
+      → slice_get ts i ≡ Some t → threads_of ts ≡ y.threads → (f t).thread ≡ t.thread → slice_get y.objects k ≡ Some g → data' ≡ kept g.vars t.vars
+      → HasStores y stores → Alone ts
       → sections t ≡ Object k ∷ cs → sections (f t) ≡ cs
-      → ((ss : List Step) → Stands p arrivals now (f t) (f t).pieces ss → Stands p arrivals now t t.pieces (step_at now (names.Leave (entry_name p y k op) values) (silent 0 t.vars) ∷ ss))
+      → ((ss : List Step) → Stands p arrivals now (f t) (f t).pieces ss
+      → Stands p arrivals now t t.pieces (step_at now (names.Leave (entry_name p y k op) values) (silent 0 t.vars) ∷ ss))
       → Conducts p arrivals now (change i f ts) (set stores k data') told
       → Conducts p arrivals now ts stores (By now t.thread.name (names.Leave (entry_name p y k op) values) ∷ told)
   leave_back i f t ts stores now k op g values data' cs told here same thread at is_kept has alone before behind stand c =
@@ -133,12 +145,14 @@ module _ (p : Program) (arrivals : Arrivals) (meets : MeetsRules p) where
       λ n u apart there. steps-other t.thread.name u.thread.name now deed way ms (other_name p y w names' ts i n t u same here there apart) in
       let top : Holds k 0 (sections t) = (let H : List Resource → Type 0 = λ z. Holds k 0 z in subst H (sym before) refl) in
       let deeper : (j d : ℕ) → Holds j d (sections (f t)) → Holds j (suc d) (sections t) =
-      λ j d h. (let H : List Resource → Type 0 = λ z. Holds j d z in let K : List Resource → Type 0 = λ z. Holds j (suc d) z in subst K (sym before) (subst H behind h)) in
+      λ j d h. (let H : List Resource → Type 0 = λ z. Holds j d z in let K : List Resource → Type 0 = λ z. Holds j (suc d) z
+      in subst K (sym before) (subst H behind h)) in
       let mine : Serves w k g ts stores (m ∷ ms) = record {
         held = λ n u d there holds.
             let one : (n ≡ i) × (d ≡ 0) = alone k n i d 0 u t there here holds top in
             let is : t ≡ u = same_Some t u (sym here ∙ ap (slice_get ts) (sym one.0) ∙ there) in
-            let none : (n' : ℕ) (u' : Task) (d' : ℕ) → slice_get (change i f ts) n' ≡ Some u' → Holds k d' (sections u') → ⊥ = λ n' u' d' there' holds'. places n' i
+            let none : (n' : ℕ) (u' : Task) (d' : ℕ) → slice_get (change i f ts) n' ≡ Some u' → Holds k d' (sections u')
+            → ⊥ = λ n' u' d' there' holds'. places n' i
             (λ e. let now' : f t ≡ u' = same_Some (f t) u' (sym (change-at i f ts t here) ∙ ap (slice_get (change i f ts)) (sym e) ∙ there') in
             let H : Task → Type 0 = λ z. Holds k d' (sections z) in
             zero_suc d' (alone k i i (suc d') 0 t t here here (deeper k d' (subst H (sym now') holds')) top).1)
@@ -168,7 +182,8 @@ module _ (p : Program) (arrivals : Arrivals) (meets : MeetsRules p) where
         moments' = m ∷ ms;
         tells = ap (λ es. By now t.thread.name deed ∷ es) c.tells;
         threads = threads_back p arrivals meets i f t ts now now ms (m ∷ ms) here (λ s. subst Q (sym own) (stand _ (subst P thread s)))
-            (λ n u apart there s. let R : List Step → Type 0 = λ ss. Stands p arrivals now u u.pieces ss in subst R (sym (other n u apart there)) s) c.threads;
+            (λ n u apart there s. let R : List Step → Type 0 = λ ss. Stands p arrivals now u u.pieces ss
+            in subst R (sym (other n u apart there)) s) c.threads;
         objects = λ j g' there. places j k
             (λ e. let is : g ≡ g' = same_Some g g' (sym at ∙ ap (slice_get y.objects) (sym e) ∙ there) in
             let R : ProtectedUnit → Type 0 = λ z. Serves w k z ts stores (m ∷ ms) in
@@ -176,39 +191,51 @@ module _ (p : Program) (arrivals : Arrivals) (meets : MeetsRules p) where
             subst S (sym e) (subst R is mine))
             (λ apart.
             let pass : passages g'.name (m ∷ ms) ≡ passages g'.name ms = out_other j k op now g g' t.thread.name values way ms at there apart in
-            serves_back p arrivals meets j g' i f t ts stores (set stores k data') ms (m ∷ ms) here thread pass (sym (ap (λ o. unwrap_or o []) (set-else k j data' stores apart)))
+            serves_back p arrivals meets j g' i f t ts stores (set stores k data') ms (m ∷ ms) here thread pass
+            (sym (ap (λ o. unwrap_or o []) (set-else k j data' stores apart)))
             (λ d h. let H : List Resource → Type 0 = λ z. Holds j d z in leaves j g' apart pass own d (subst H before h))
             (λ n u d far at' s. held_same p arrivals meets g' u.thread.name d ms (m ∷ ms) pass (other n u far at') s)
             (λ d h. (suc d, deeper j d h)) (c.objects j g' there));
       }
     where
       leaves : (j : ℕ) (g' : ProtectedUnit) → (j ≡ k → ⊥)
-          → passages g'.name (did now t.thread.name (names.Leave (entry_name p y k op) values) (silent 0 t.vars) ∷ c.moments') ≡ passages g'.name c.moments'
+          → passages g'.name (did now t.thread.name (names.Leave (entry_name p y k op) values) (silent 0 t.vars) ∷ c.moments')
+          ≡ passages g'.name c.moments'
           → steps_of t.thread.name (did now t.thread.name (names.Leave (entry_name p y k op) values) (silent 0 t.vars) ∷ c.moments')
           ≡ step_at now (names.Leave (entry_name p y k op) values) (silent 0 t.vars) ∷ steps_of t.thread.name c.moments'
           → (d : ℕ) → Holds j d (Object k ∷ cs)
-          → (d' : ℕ) × Holds j d' (sections (f t)) × (HeldUntil w g' t.thread.name d' c.moments' → HeldUntil w g' t.thread.name d (did now t.thread.name (names.Leave (entry_name p y k op) values) (silent 0 t.vars) ∷ c.moments'))
+          → (d' : ℕ) × Holds j d' (sections (f t)) × (HeldUntil w g' t.thread.name d' c.moments'
+          → HeldUntil w g' t.thread.name d (did now t.thread.name (names.Leave (entry_name p y k op) values) (silent 0 t.vars) ∷ c.moments'))
       leaves j g' apart pass own zero h = absurd (apart (sym h))
       leaves j g' apart pass own (suc d) h =
           let H : List Resource → Type 0 = λ z. Holds j d z in
           let down : d ≡ suc d - 1 = omega arith in
-          let K : ℕ → Type 0 = λ e. HeldUntil w g' t.thread.name e c.moments' in
-          (d, subst H (sym behind) h, λ s. held_step p arrivals meets g' t.thread.name (suc d) (step_at now (names.Leave (entry_name p y k op) values) (silent 0 t.vars)) c.moments' _ pass own refl (subst K down s))
+          let K : ℕ → Type 0 = λ e. HeldUntil w g' t.thread.name e c.moments' in (
+            d,
+            subst H (sym behind) h,
+            λ s. held_step p arrivals meets g' t.thread.name (suc d) (step_at now (names.Leave (entry_name p y k op) values)
+                (silent 0 t.vars)) c.moments' _ pass own refl (subst K down s),
+          )
 
   -- the way out that an entry has, is that of the object
   heads : (a b : Step) (us vs : List Step) → a ∷ us ≡ b ∷ vs → a ≡ b
   heads a b us vs e = cc
 
   same_leave : (ss inner inner' later later' : List Step) (leave leave' : Step) (name name' : OpName) (values values' : List ℕ)
-      → ss ≡ inner ++ leave ∷ later → ss ≡ inner' ++ leave' ∷ later' → Within 0 0 inner → Within 0 0 inner' → leave.deed ≡ names.Leave name values → leave'.deed ≡ names.Leave name' values'
+      → ss ≡ inner ++ leave ∷ later → ss ≡ inner' ++ leave' ∷ later' → Within 0 0 inner → Within 0 0 inner' → leave.deed ≡ names.Leave name values
+      → leave'.deed ≡ names.Leave name' values'
       → leave ≡ leave'
   same_leave ss inner inner' later later' leave leave' name name' values values' e e' within within' deed deed' =
-      let one : before_leave 0 ss ≡ inner = ap (before_leave 0) e ∙ before-closed 0 inner leave later within (closes-leave leave.deed name values deed) in
-      let two : before_leave 0 ss ≡ inner' = ap (before_leave 0) e' ∙ before-closed 0 inner' leave' later' within' (closes-leave leave'.deed name' values' deed') in
-      heads leave leave' later later' (append_cancel_left inner' (leave ∷ later) (leave' ∷ later') (ap (λ i. i ++ leave ∷ later) (sym (sym one ∙ two)) ∙ sym e ∙ e'))
+      let one : before_leave 0 ss ≡ inner = ap (before_leave 0) e ∙ before-closed 0 inner leave later within
+      (closes-leave leave.deed name values deed) in
+      let two : before_leave 0 ss ≡ inner' = ap (before_leave 0) e' ∙ before-closed 0 inner' leave' later' within'
+      (closes-leave leave'.deed name' values' deed') in
+      heads leave leave' later later' (append_cancel_left inner' (leave ∷ later) (leave' ∷ later')
+      (ap (λ i. i ++ leave ∷ later) (sym (sym one ∙ two)) ∙ sym e ∙ e'))
 
   -- the passages from an entry on
-  entry_serves : (g : ProtectedUnit) (o : Operation) (name : Name) (nm : OpName) (data' : Variables) (values : List ℕ) (body : Path) (ms : List Moment) → IsOpOf (guarded_at g) nm.op o
+  entry_serves : (g : ProtectedUnit) (o : Operation) (name : Name) (nm : OpName) (data' : Variables) (values : List ℕ) (body : Path)
+      (ms : List Moment) → IsOpOf (guarded_at g) nm.op o
       → Passes setup o data' values nm (steps_of name ms) body
       → HeldUntil w g name 0 ms
       → AreOneByOne w (guarded_at g) data' (Into name nm.op values (inside (steps_of name ms)) body ∷ passages g.name ms)
@@ -229,7 +256,8 @@ module _ (p : Program) (arrivals : Arrivals) (meets : MeetsRules p) where
   entry_serves g o name nm data' values body ms is_op (inl q) (inr out) =
       let A : List Passage → Type 0 = λ ps. AreOneByOne w (guarded_at g) data' (Into name nm.op values (inside (steps_of name ms)) body ∷ ps) in
       let one : q.leave ≡ out.leave =
-      same_leave (steps_of name ms) q.inner out.inner q.later out.later q.leave out.leave nm out.op (reads (out_names o.sig.params) body.vars) out.results q.parts out.parts q.within out.within q.deed out.deed in
+      same_leave (steps_of name ms) q.inner out.inner q.later out.later q.leave out.leave nm out.op
+      (reads (out_names o.sig.params) body.vars) out.results q.parts out.parts q.within out.within q.deed out.deed in
       let deeds : (nm ≡ out.op) × (reads (out_names o.sig.params) body.vars ≡ out.results) =
       leave_names nm out.op (reads (out_names o.sig.params) body.vars) out.results (sym q.deed ∙ ap (λ s. s.deed) one ∙ out.deed) in
       let left : out.leave.body.vars ≡ body.vars = sym (ap (λ s. s.body.vars) one) ∙ q.leaves in
@@ -245,10 +273,12 @@ module _ (p : Program) (arrivals : Arrivals) (meets : MeetsRules p) where
       (let W : List Step → Type 0 = λ ss. Within 0 z.depth ss in subst W out.parts z.within))
 
   -- an enter
-  pub enter_back : (i : ℕ) (f : Task → Task) (t : Task) (x : Piece) (rest : List Piece) (ts : List Task) (stores : List Variables) (now k op : ℕ) (values : List ℕ) (told : List Event)
+  pub enter_back : (i : ℕ) (f : Task → Task) (t : Task) (x : Piece) (rest : List Piece) (ts : List Task) (stores : List Variables) (now k op : ℕ)
+      (values : List ℕ) (told : List Event)
       → slice_get ts i ≡ Some t → threads_of ts ≡ y.threads → (f t).thread ≡ t.thread → Alone (change i f ts)
       → sections (f t) ≡ Object k ∷ sections t
-      → ((ss : List Step) → Stands p arrivals now (f t) (f t).pieces ss → IsEntry p arrivals meets now t x rest (unwrap_or (slice_get stores k) []) k op values ss)
+      → ((ss : List Step) → Stands p arrivals now (f t) (f t).pieces ss
+      → IsEntry p arrivals meets now t x rest (unwrap_or (slice_get stores k) []) k op values ss)
       → Conducts p arrivals now (change i f ts) (set stores k []) told
       → Conducts p arrivals now ts stores (By now t.thread.name (names.Enter (entry_name p y k op) values) ∷ told)
   enter_back i f t x rest ts stores now k op values told here same thread alone inside' stand c =
@@ -259,8 +289,10 @@ module _ (p : Program) (arrivals : Arrivals) (meets : MeetsRules p) where
       let deed : Deed = names.Enter (entry_name p y k op) values in
       let m : Moment = did now t.thread.name deed e.body in
       let g : ProtectedUnit = e.guarded in
-      let link : (slice_get y.objects k ≡ Some g) × IsOpOf (guarded_at g) (entry_name p y k op).op e.operation = names'.callees e.unit e.name k op g e.operation e.calls in
-      let own : steps_of t.thread.name (m ∷ ms) ≡ step_at now deed e.body ∷ steps_of t.thread.name ms = steps-own t.thread.name now deed e.body ms refl in
+      let link : (slice_get y.objects k ≡ Some g) × IsOpOf (guarded_at g) (entry_name p y k op).op e.operation
+      = names'.callees e.unit e.name k op g e.operation e.calls in
+      let own : steps_of t.thread.name (m ∷ ms) ≡ step_at now deed e.body ∷ steps_of t.thread.name ms
+      = steps-own t.thread.name now deed e.body ms refl in
       let Q : List Step → Type 0 = λ ss. Stands p arrivals now t t.pieces ss in
       let other : (n : ℕ) (u : Task) → (n ≡ i → ⊥) → slice_get ts n ≡ Some u → steps_of u.thread.name (m ∷ ms) ≡ steps_of u.thread.name ms =
       λ n u apart there. steps-other t.thread.name u.thread.name now deed e.body ms (other_name p y w names' ts i n t u same here there apart) in
@@ -286,19 +318,23 @@ module _ (p : Program) (arrivals : Arrivals) (meets : MeetsRules p) where
         moments' = m ∷ ms;
         tells = ap (λ es. By now t.thread.name deed ∷ es) c.tells;
         threads = threads_back p arrivals meets i f t ts now now ms (m ∷ ms) here (λ s. subst Q (sym own) e.stands)
-            (λ n u apart there s. let R : List Step → Type 0 = λ ss. Stands p arrivals now u u.pieces ss in subst R (sym (other n u apart there)) s) c.threads;
+            (λ n u apart there s. let R : List Step → Type 0 = λ ss. Stands p arrivals now u u.pieces ss
+            in subst R (sym (other n u apart there)) s) c.threads;
         objects = λ j g' there. places j k
             (λ is. let one : g ≡ g' = same_Some g g' (sym link.0 ∙ ap (slice_get y.objects) (sym is) ∙ there) in
             let R : ProtectedUnit → Type 0 = λ z. Serves w k z ts stores (m ∷ ms) in
             let S : ℕ → Type 0 = λ n. Serves w n g' ts stores (m ∷ ms) in
             subst S (sym is) (subst R one mine))
             (λ apart.
-            let pass : passages g'.name (m ∷ ms) ≡ passages g'.name ms = into_other j k op now g g' t.thread.name values e.body ms link.0 there apart in
-            serves_back p arrivals meets j g' i f t ts stores (set stores k []) ms (m ∷ ms) here thread pass (sym (ap (λ o. unwrap_or o []) (set-else k j [] stores apart)))
+            let pass : passages g'.name (m ∷ ms) ≡ passages g'.name ms
+            = into_other j k op now g g' t.thread.name values e.body ms link.0 there apart in
+            serves_back p arrivals meets j g' i f t ts stores (set stores k []) ms (m ∷ ms) here thread pass
+            (sym (ap (λ o. unwrap_or o []) (set-else k j [] stores apart)))
             (λ d h. (
               suc d,
               deeper j d h,
-              λ s. held_step p arrivals meets g' t.thread.name d (step_at now deed e.body) ms (m ∷ ms) pass own (closes-enter d (entry_name p y k op) values) s,
+              λ s. held_step p arrivals meets g' t.thread.name d (step_at now deed e.body) ms (m
+                  ∷ ms) pass own (closes-enter d (entry_name p y k op) values) s,
             ))
             (λ n u d far at' s. held_same p arrivals meets g' u.thread.name d ms (m ∷ ms) pass (other n u far at') s)
             (λ d h. let H : List Resource → Type 0 = λ z. Holds j d z in back j apart d (subst H inside' h)) (c.objects j g' there));

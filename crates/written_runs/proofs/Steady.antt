@@ -1,5 +1,6 @@
 -- What each state of a run keeps of its tasks' pieces and ticks and of the objects' data, from one step to the next.
-use Rattle.std.specs.Prelude.{◌≡◌, ◌⊎◌, ℕ, ◌+◌, ◌-◌, Bool, true, false, ◌&&◌, ◌==◌, List, [], ◌∷◌, nat_lt, Option, Some, None, slice_get, refl, if◌then◌else◌}
+use Rattle.std.specs.Prelude.{◌≡◌, ◌⊎◌, ℕ, ◌+◌, ◌-◌, Bool, true, false, ◌&&◌, ◌==◌, List, [], ◌∷◌, nat_lt, Option, Some, None, slice_get, refl}
+use Rattle.std.specs.Prelude.{if◌then◌else◌}
 use Rattle.std.proofs.Common.{sym, ◌∙◌, ap, subst, inl, inr}
 use Rattle.seq_tree.specs.Lists.{change, first_where}
 use Rattle.seq_tree.specs.Variables.{Variables}
@@ -14,12 +15,14 @@ use Rattle.machine.specs.States.{State, Task, Phase, Effects, Delays, Arriving, 
 use Rattle.machine.specs.Dispatch.{dispatched}
 use Rattle.machine.specs.Releases.{release_task, release, is_waiting, serve_task, serve}
 use Rattle.machine.specs.Effects.{acted, takes_effect, entry, entered_at, stopped_at, exit, ended, ceiling_of}
-use Rattle.machine.specs.Steps.{step, step_in, goes_to, effect_of, effect_at, effect_step, delay_step, horizon_step, arrive_at, arrival_step, use_step, is_due}
+use Rattle.machine.specs.Steps.{step, step_in, goes_to, effect_of, effect_at, effect_step, delay_step, horizon_step, arrive_at, arrival_step}
+use Rattle.machine.specs.Steps.{use_step, is_due}
 use Rattle.written_runs.proofs.Moves.{threads_of, Goes, change-threads, release-goes, serve-goes, acted-goes}
 use Rattle.written_runs.proofs.Back.{places}
 use Rattle.written_runs.proofs.Bound.{Known, known_done}
 use Rattle.written_runs.proofs.Passings.{HasStores, set-stores}
-use Rattle.written_runs.proofs.Evolving.{AreFitting, Lasts, HasTicksLeft, acted-evolves, release_task-evolves, serve-evolves, evolve_gate, evolve_on, last_bound}
+use Rattle.written_runs.proofs.Evolving.{AreFitting, Lasts, HasTicksLeft, acted-evolves, release_task-evolves, serve-evolves, evolve_gate}
+use Rattle.written_runs.proofs.Evolving.{evolve_on, last_bound}
 use Rattle.written_runs.proofs.StepsBack.{IsDue, IsSteady, steady_on, steady_still, steady_away, some_if, use_effects}
 use Rattle.std.proofs.lemmas.Option.{same_Some}
 use Rattle.arrivals_tree.specs.Arriving.{Arrivals}
@@ -48,7 +51,8 @@ serve-stores y i s = at (slice_get s.tasks i)
         by false = refl
 
 -- and deeds leave each object some
-entry-stores : (y : System) (i : ℕ) (t : Task) (c : Resource) (told : List Event) (vars : Variables) (ps : List Piece) (s : State) → HasStores y s.stores
+entry-stores : (y : System) (i : ℕ) (t : Task) (c : Resource) (told : List Event) (vars : Variables) (ps : List Piece) (s : State)
+    → HasStores y s.stores
     → HasStores y (entry y i t c told vars ps s).0.stores
 entry-stores y i t c told vars ps s has = by c (nat_lt (ceiling_of y c) t.active)
   where
@@ -85,7 +89,8 @@ module _ (p : Program) (arrivals : Arrivals) (meets : MeetsRules p) (fits : AreF
   Steady s = IsSteady p arrivals meets fits s
 
   -- the pieces after a deed
-  last_done : (x : Piece) (vars : Variables) (rest : List Piece) (act : Act) → Known y x vars rest act (done y x vars rest) → FitPieces setup.Good (x ∷ rest) → Lasts p arrivals (done y x vars rest).pieces
+  last_done : (x : Piece) (vars : Variables) (rest : List Piece) (act : Act) → Known y x vars rest act (done y x vars rest)
+      → FitPieces setup.Good (x ∷ rest) → Lasts p arrivals (done y x vars rest).pieces
   last_done x vars rest Silent known fit = last_bound p arrivals meets _ (fit_done setup is_apt x vars rest fit) known
   last_done x vars rest (Print v) known fit = last_bound p arrivals meets _ (fit_done setup is_apt x vars rest fit) known
   last_done x vars rest (Enter object op values) known fit = last_bound p arrivals meets _ (fit_done setup is_apt x vars rest fit) known
@@ -110,7 +115,8 @@ module _ (p : Program) (arrivals : Arrivals) (meets : MeetsRules p) (fits : AreF
       same_place : (i k : ℕ) → Some i ≡ Some k → i ≡ k
       same_place i k e = cc
 
-      by_left : (i : ℕ) (t : Task) (x : Piece) (rest : List Piece) (b : Bool) → s.ran ≡ Some i → slice_get s.tasks i ≡ Some t → t.pieces ≡ x ∷ rest → (t.left == 0) ≡ b
+      by_left : (i : ℕ) (t : Task) (x : Piece) (rest : List Piece) (b : Bool) → s.ran ≡ Some i → slice_get s.tasks i ≡ Some t → t.pieces ≡ x ∷ rest
+          → (t.left == 0) ≡ b
           → Steady (if b then takes_effect y i t (done y x t.vars rest) s else goes_to Delays s).0
       by_left i t x rest true ran at has e =
           let d : PieceOutcome = done y x t.vars rest in
@@ -118,7 +124,8 @@ module _ (p : Program) (arrivals : Arrivals) (meets : MeetsRules p) (fits : AreF
           let last : Lasts p arrivals (x ∷ rest) = subst L has (steady.lasts i t at) in
           let g : Goes y.threads s (acted y i t d.act d.vars d.pieces s) = acted-goes y y.threads i t d.act d.vars d.pieces s at steady.threads in
           let stays : IsSame s (acted y i t d.act d.vars d.pieces s).0 = acted-same y i t d.act d.vars d.pieces s in
-          steady_on p arrivals meets fits s (acted y i t d.act d.vars d.pieces s).0 i d.pieces steady g.threads (acted-stores y i t d.act d.vars d.pieces s steady.has)
+          steady_on p arrivals meets fits s (acted y i t d.act d.vars d.pieces s).0 i d.pieces steady g.threads
+          (acted-stores y i t d.act d.vars d.pieces s steady.has)
           (acted-evolves p arrivals meets i t d.act d.vars d.pieces s fits steady.threads)
           (last_done x t.vars rest d.act (known_done p arrivals meets x t.vars rest last.0 last.1) last.0)
           (λ k due. due_on s (acted y i t d.act d.vars d.pieces s).0 k stays due) (stays.phase ∙ is, stays.ran ∙ ran)
@@ -129,7 +136,8 @@ module _ (p : Program) (arrivals : Arrivals) (meets : MeetsRules p) (fits : AreF
           let Q : List Piece → Type 0 = λ z. HasTicksLeft z t.left in
           subst P same (subst Q (sym has) (some_if t.left e)))
 
-      by_pieces : (i : ℕ) (t : Task) (ps : List Piece) → s.ran ≡ Some i → slice_get s.tasks i ≡ Some t → t.pieces ≡ ps → Steady (effect_of y i t ps s).0
+      by_pieces : (i : ℕ) (t : Task) (ps : List Piece) → s.ran ≡ Some i → slice_get s.tasks i ≡ Some t → t.pieces ≡ ps
+          → Steady (effect_of y i t ps s).0
       by_pieces i t [] ran at has = away (λ k u there due.
           let one : i ≡ k = same_place i k (sym ran ∙ due.1) in
           let same : t ≡ u = same_Some t u (sym at ∙ ap (slice_get s.tasks) one ∙ there) in
@@ -181,7 +189,8 @@ module _ (p : Program) (arrivals : Arrivals) (meets : MeetsRules p) (fits : AreF
   delays_steady s None is steady = passed s (goes_to Arriving s).0 steady (λ e. delays_effects (sym is ∙ e)) refl refl
   delays_steady s (Some f) is steady =
       let g : Goes y.threads s (release y f.0 s) = release-goes y y.threads f.0 s steady.threads in
-      steady_still p arrivals meets fits s (release y f.0 s).0 steady g.threads (release_task-stores y f.0 (slice_get s.tasks f.0) s) (λ i. release_task-evolves p arrivals meets i [] f.0 (slice_get s.tasks f.0) s fits steady.threads)
+      steady_still p arrivals meets fits s (release y f.0 s).0 steady g.threads (release_task-stores y f.0 (slice_get s.tasks f.0) s)
+      (λ i. release_task-evolves p arrivals meets i [] f.0 (slice_get s.tasks f.0) s fits steady.threads)
       (λ k due. due_on s (release y f.0 s).0 k (release-same y f.0 s) due)
 
   horizon_steady : (s : State) → s.phase ≡ Arriving → Steady s → Steady (horizon_step y s).0
@@ -191,7 +200,8 @@ module _ (p : Program) (arrivals : Arrivals) (meets : MeetsRules p) (fits : AreF
       by true = passed s (record s { stopped = true }) steady (λ e. arriving_effects (sym is ∙ e)) refl refl
       by false = passed s (goes_to Use s).0 steady (λ e. arriving_effects (sym is ∙ e)) refl refl
 
-  arrive_steady : (s : State) (a : Arrival) (others : List Arrival) (o : Option (ℕ × Task)) → s.phase ≡ Arriving → Steady s → Steady (arrive_at y a o (record s { arrivals = others })).0
+  arrive_steady : (s : State) (a : Arrival) (others : List Arrival) (o : Option (ℕ × Task)) → s.phase ≡ Arriving → Steady s
+      → Steady (arrive_at y a o (record s { arrivals = others })).0
   arrive_steady s a others None is steady = passed s (record s { arrivals = others }) steady (λ e. arriving_effects (sym is ∙ e)) refl refl
   arrive_steady s a others (Some f) is steady =
       let set_gate : Task → Task = λ u. record u { gate = record { value = a.value; open' = true } } in
@@ -200,14 +210,17 @@ module _ (p : Program) (arrivals : Arrivals) (meets : MeetsRules p) (fits : AreF
       let g : Goes y.threads s' (serve y f.0 s') = serve-goes y y.threads f.0 s' same in
       let stays : IsSame s' (serve y f.0 s').0 = serve-same y f.0 s' in
       steady_still p arrivals meets fits s (serve y f.0 s').0 steady g.threads (serve-stores y f.0 s')
-      (λ i. evolve_on p arrivals meets i [] s.tasks s'.tasks (serve y f.0 s').0.tasks (evolve_gate p arrivals meets i [] f.0 (λ h. record { value = a.value; open' = true }) s.tasks) (serve-evolves p arrivals meets i [] f.0 s' fits same))
+      (λ i. evolve_on p arrivals meets i [] s.tasks s'.tasks (serve y f.0 s').0.tasks
+      (evolve_gate p arrivals meets i [] f.0 (λ h. record { value = a.value; open' = true }) s.tasks)
+      (serve-evolves p arrivals meets i [] f.0 s' fits same))
       (λ k due. (stays.phase ∙ due.0, stays.ran ∙ due.1))
 
   arrivals_steady : (s : State) (as' : List Arrival) → s.phase ≡ Arriving → Steady s → Steady (arrival_step y as' s).0
   arrivals_steady s [] is steady = horizon_steady s is steady
   arrivals_steady s (a ∷ others) is steady = by (a.time == s.time)
     where
-      by : (b : Bool) → Steady (if b then arrive_at y a (first_where (λ t. t.thread.unit == a.task) s.tasks) (record s { arrivals = others }) else horizon_step y s).0
+      by : (b : Bool) → Steady (if b then arrive_at y a (first_where (λ t. t.thread.unit == a.task) s.tasks)
+          (record s { arrivals = others }) else horizon_step y s).0
       by true = arrive_steady s a others (first_where (λ t. t.thread.unit == a.task) s.tasks) is steady
       by false = horizon_steady s is steady
 
@@ -217,8 +230,10 @@ module _ (p : Program) (arrivals : Arrivals) (meets : MeetsRules p) (fits : AreF
   use_steady s (Some i) is steady = record {
     threads = change-threads i tick s.tasks (λ t. refl) ∙ steady.threads;
     has = steady.has;
-    lasts = λ k t at. places k i (λ e. lasts t (changed-at i tick s.tasks t (ap (slice_get (change i tick s.tasks)) (sym e) ∙ at))) (λ apart. steady.lasts k t (sym (change-else i k tick s.tasks apart) ∙ at));
-    left = λ k t at. places k i (λ e. inl (refl, ap Some (sym e))) (λ apart. inr (left k t (steady.left k t (sym (change-else i k tick s.tasks apart) ∙ at))));
+    lasts = λ k t at. places k i (λ e. lasts t (changed-at i tick s.tasks t (ap (slice_get (change i tick s.tasks)) (sym e) ∙ at))) (λ apart.
+        steady.lasts k t (sym (change-else i k tick s.tasks apart) ∙ at));
+    left = λ k t at. places k i (λ e. inl (refl, ap Some (sym e))) (λ apart.
+        inr (left k t (steady.left k t (sym (change-else i k tick s.tasks apart) ∙ at))));
   }
     where
       tick : Task → Task

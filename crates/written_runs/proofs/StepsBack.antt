@@ -1,5 +1,6 @@
 -- From behind a step to before it, and so from the stop of a run to its opening.
-use Rattle.std.specs.Prelude.{◌≡◌, ◌⊎◌, ℕ, suc, ◌+◌, ◌-◌, ◌≤◌, Bool, true, false, ◌==◌, List, [], ◌∷◌, ◌++◌, Option, Some, None, slice_get, refl, if◌then◌else◌}
+use Rattle.std.specs.Prelude.{◌≡◌, ◌⊎◌, ℕ, suc, ◌+◌, ◌-◌, ◌≤◌, Bool, true, false, ◌==◌, List, [], ◌∷◌, ◌++◌, Option, Some, None, slice_get, refl}
+use Rattle.std.specs.Prelude.{if◌then◌else◌}
 use Rattle.std.proofs.Common.{sym, ◌∙◌, ap, subst, arith, inl, inr}
 use Rattle.seq_tree.specs.Lists.{change, first_where}
 use Rattle.seq_tree.specs.Variables.{Variables}
@@ -14,7 +15,8 @@ use Rattle.machine.specs.States.{State, Task, Phase, Effects, Delays, Arriving, 
 use Rattle.machine.specs.Dispatch.{dispatched}
 use Rattle.machine.specs.Releases.{Next, serve}
 use Rattle.machine.specs.Effects.{takes_effect}
-use Rattle.machine.specs.Steps.{step, step_in, goes_to, effect_of, effect_at, effect_step, delay_step, horizon_step, arrive_at, arrival_step, use_step, is_due}
+use Rattle.machine.specs.Steps.{step, step_in, goes_to, effect_of, effect_at, effect_step, delay_step, horizon_step, arrive_at, arrival_step}
+use Rattle.machine.specs.Steps.{use_step, is_due}
 use Rattle.guarantee.specs.Software.{Software, program_software}
 use Rattle.guarantee.specs.Events.{Event, named}
 use Rattle.written_runs.proofs.Moves.{threads_of, change-threads}
@@ -73,7 +75,8 @@ module _ (p : Program) (arrivals : Arrivals) (meets : MeetsRules p) (fits : AreF
     pub left : (k : ℕ) (t : Task) → slice_get s.tasks k ≡ Some t → IsDue s k ⊎ HasTicksLeft t.pieces t.left
 
   -- a time that passes
-  later_back : (ts : List Task) (stores : List Variables) (now : ℕ) (told : List Event) → Conducts p arrivals (now + 1) ts stores told → Conducts p arrivals now ts stores told
+  later_back : (ts : List Task) (stores : List Variables) (now : ℕ) (told : List Event) → Conducts p arrivals (now + 1) ts stores told
+      → Conducts p arrivals now ts stores told
   later_back ts stores now told c = record {
     moments' = c.moments';
     tells = c.tells;
@@ -84,7 +87,8 @@ module _ (p : Program) (arrivals : Arrivals) (meets : MeetsRules p) (fits : AreF
   -- the use of a tick
   tick_back : (i : ℕ) (o : Option Task) (ts : List Task) (stores : List Variables) (now : ℕ) (told : List Event) → slice_get ts i ≡ o
       → ((t : Task) → o ≡ Some t → HasTicksLeft t.pieces t.left)
-      → Conducts p arrivals (now + 1) (change i (λ t. record t { left = t.left - 1; used = t.used + 1 }) ts) stores told → Conducts p arrivals now ts stores told
+      → Conducts p arrivals (now + 1) (change i (λ t. record t { left = t.left - 1; used = t.used + 1 }) ts) stores told
+      → Conducts p arrivals now ts stores told
   tick_back i None ts stores now told here some c =
       let P : List Task → Type 0 = λ z. Conducts p arrivals (now + 1) z stores told in
       later_back ts stores now told (subst P (change-none i (λ t. record t { left = t.left - 1; used = t.used + 1 }) ts here) c)
@@ -94,7 +98,8 @@ module _ (p : Program) (arrivals : Arrivals) (meets : MeetsRules p) (fits : AreF
         moments' = c.moments';
         tells = c.tells;
         threads = threads_back p arrivals meets i f t ts now (now + 1) c.moments' c.moments' here
-            (λ z. stand_tick p arrivals meets now t t.pieces _ (λ x rest e. let H : List Piece → Type 0 = λ ps. HasTicksLeft ps t.left in subst H e (some t refl)) z)
+            (λ z. stand_tick p arrivals meets now t t.pieces _ (λ x rest e. let H : List Piece → Type 0 = λ ps. HasTicksLeft ps t.left
+            in subst H e (some t refl)) z)
             (λ k u apart at z. stand_later p arrivals meets now u u.pieces _ z) c.threads;
         objects = λ j g at. serves_back p arrivals meets j g i f t ts stores stores c.moments' c.moments' here refl refl refl
             (λ d h. (d, h, λ z. z)) (λ k u d apart there z. z) (λ d h. (d, h)) (c.objects j g at);
@@ -129,7 +134,8 @@ module _ (p : Program) (arrivals : Arrivals) (meets : MeetsRules p) (fits : AreF
           acts_back p arrivals meets s i t x rest (done y x t.vars rest).act a refl (known_done p arrivals meets x t.vars rest last.0 last.1) alone'
       by_left i t x rest false at is e alone' = away
 
-      by_pieces : (i : ℕ) (t : Task) (ps : List Piece) → slice_get s.tasks i ≡ Some t → t.pieces ≡ ps → Alone (effect_of y i t ps s).0.tasks → Backs p arrivals meets s (effect_of y i t ps s)
+      by_pieces : (i : ℕ) (t : Task) (ps : List Piece) → slice_get s.tasks i ≡ Some t → t.pieces ≡ ps → Alone (effect_of y i t ps s).0.tasks
+          → Backs p arrivals meets s (effect_of y i t ps s)
       by_pieces i t [] at is alone' = away
       by_pieces i t (x ∷ rest) at is alone' = by_left i t x rest (t.left == 0) at is refl alone'
 
@@ -142,10 +148,12 @@ module _ (p : Program) (arrivals : Arrivals) (meets : MeetsRules p) (fits : AreF
       by_ran (Some i) alone' = by_task i (slice_get s.tasks i) refl alone'
 
   -- delays
-  delays_back : (s : State) (o : Option (ℕ × Task)) → first_where (λ u. is_due s.time u.readiness) s.tasks ≡ o → IsSteady s → IsKept s.tasks → Backs p arrivals meets s (delay_step y o s)
+  delays_back : (s : State) (o : Option (ℕ × Task)) → first_where (λ u. is_due s.time u.readiness) s.tasks ≡ o → IsSteady s → IsKept s.tasks
+      → Backs p arrivals meets s (delay_step y o s)
   delays_back s None e steady kept = λ on quiet more c. c
   delays_back s (Some f) e steady kept =
-      let at : (k : ℕ) × (f.0 ≡ 0 + k) × (slice_get s.tasks k ≡ Some f.1) × (is_due s.time f.1.readiness ≡ true) = first-from 0 (λ u. is_due s.time u.readiness) s.tasks f.0 f.1 e in
+      let at : (k : ℕ) × (f.0 ≡ 0 + k) × (slice_get s.tasks k ≡ Some f.1) × (is_due s.time f.1.readiness ≡ true)
+      = first-from 0 (λ u. is_due s.time u.readiness) s.tasks f.0 f.1 e in
       release_backs p arrivals meets f.0 (slice_get s.tasks f.0) s refl fits steady.threads
       (λ t there. let is : t ≡ f.1 = same_Some t f.1 (sym there ∙ ap (slice_get s.tasks) (at.1 ∙ omega arith) ∙ at.2) in
       kept.idles f.0 t there (due_not_ready s.time t.readiness (ap (λ z. is_due s.time z.readiness) is ∙ at.3)))
@@ -159,18 +167,21 @@ module _ (p : Program) (arrivals : Arrivals) (meets : MeetsRules p) (fits : AreF
       by false = λ on quiet more c. c
 
   -- arrivals
-  arrives_back : (s : State) (a : Arrival) (others : List Arrival) (o : Option (ℕ × Task)) → first_where (λ t. t.thread.unit == a.task) s.tasks ≡ o → IsSteady s → IsKept s.tasks
+  arrives_back : (s : State) (a : Arrival) (others : List Arrival) (o : Option (ℕ × Task)) → first_where (λ t. t.thread.unit == a.task) s.tasks ≡ o
+      → IsSteady s → IsKept s.tasks
       → Backs p arrivals meets s (arrive_at y a o (record s { arrivals = others }))
   arrives_back s a others None e steady kept = λ on quiet more c. c
   arrives_back s a others (Some f) e steady kept = λ on quiet more c.
       let g : Gate → Gate = λ h. record { value = a.value; open' = true } in
       let set_gate : Task → Task = λ u. record u { gate = record { value = a.value; open' = true } } in
       let s' : State = record s { arrivals = others; tasks = change f.0 set_gate s.tasks } in
-      let at : (k : ℕ) × (f.0 ≡ 0 + k) × (slice_get s.tasks k ≡ Some f.1) × ((f.1.thread.unit == a.task) ≡ true) = first-from 0 (λ t. t.thread.unit == a.task) s.tasks f.0 f.1 e in
+      let at : (k : ℕ) × (f.0 ≡ 0 + k) × (slice_get s.tasks k ≡ Some f.1) × ((f.1.thread.unit == a.task) ≡ true)
+      = first-from 0 (λ t. t.thread.unit == a.task) s.tasks f.0 f.1 e in
       let here : slice_get s.tasks f.0 ≡ Some f.1 = ap (slice_get s.tasks) (at.1 ∙ omega arith) ∙ at.2 in
       let idles : Idles s'.tasks = idle_change p arrivals meets f.0 set_gate f.1 s.tasks here kept.idles (λ h. kept.idles f.0 f.1 here h) in
       let c' : Conducts p arrivals s'.time s'.tasks s'.stores (named p (serve y f.0 s').1 ++ more) =
-      serve_backs p arrivals meets f.0 (slice_get s'.tasks f.0) s' refl fits (change-threads f.0 set_gate s.tasks (λ u. refl) ∙ steady.threads) idles on quiet more c in
+      serve_backs p arrivals meets f.0 (slice_get s'.tasks f.0) s' refl fits (change-threads f.0 set_gate s.tasks (λ u. refl) ∙ steady.threads) idles
+      on quiet more c in
       arrive_back p arrivals meets s.tasks s.stores s.time s.time (unit_name p a.task) a.value (named p (serve y f.0 s').1 ++ more)
       (gate_back p arrivals meets f.0 g (slice_get s.tasks f.0) s.tasks s.stores s.time (named p (serve y f.0 s').1 ++ more) refl c')
 
@@ -178,7 +189,8 @@ module _ (p : Program) (arrivals : Arrivals) (meets : MeetsRules p) (fits : AreF
   arrivals_back s [] steady kept = horizon_back s
   arrivals_back s (a ∷ others) steady kept = by (a.time == s.time)
     where
-      by : (b : Bool) → Backs p arrivals meets s (if b then arrive_at y a (first_where (λ t. t.thread.unit == a.task) s.tasks) (record s { arrivals = others }) else horizon_step y s)
+      by : (b : Bool) → Backs p arrivals meets s (if b then arrive_at y a (first_where (λ t. t.thread.unit == a.task) s.tasks)
+          (record s { arrivals = others }) else horizon_step y s)
       by true = arrives_back s a others (first_where (λ t. t.thread.unit == a.task) s.tasks) refl steady kept
       by false = horizon_back s
 
@@ -209,7 +221,8 @@ module _ (p : Program) (arrivals : Arrivals) (meets : MeetsRules p) (fits : AreF
   -- steady states, from one to the next
   -- each task has what it had, or is new, or stands at a place of its own that acts
   steady_from : (s s' : State) (place : ℕ → ℕ) (ps : List Piece) → IsSteady s → threads_of s'.tasks ≡ y.threads → HasStores y s'.stores
-      → ((k : ℕ) → Evolve p arrivals (place k) ps s.tasks s'.tasks) → ((k : ℕ) → k ≡ place k → Lasts p arrivals ps × IsDue s' k) → ((k : ℕ) → IsDue s k → IsDue s' k) → IsSteady s'
+      → ((k : ℕ) → Evolve p arrivals (place k) ps s.tasks s'.tasks) → ((k : ℕ) → k ≡ place k → Lasts p arrivals ps × IsDue s' k)
+      → ((k : ℕ) → IsDue s k → IsDue s' k) → IsSteady s'
   steady_from s s' place ps steady threads has evolve acts due = record {
     threads = threads;
     has = has;
@@ -235,19 +248,23 @@ module _ (p : Program) (arrivals : Arrivals) (meets : MeetsRules p) (fits : AreF
       left k t (inr (inr b)) = inr b.1
 
   -- within an instant
-  pub steady_on : (s s' : State) (i : ℕ) (ps : List Piece) → IsSteady s → threads_of s'.tasks ≡ y.threads → HasStores y s'.stores → Evolve p arrivals i ps s.tasks s'.tasks → Lasts p arrivals ps
+  pub steady_on : (s s' : State) (i : ℕ) (ps : List Piece) → IsSteady s → threads_of s'.tasks ≡ y.threads → HasStores y s'.stores
+      → Evolve p arrivals i ps s.tasks s'.tasks → Lasts p arrivals ps
       → ((k : ℕ) → IsDue s k → IsDue s' k) → IsDue s' i → IsSteady s'
   steady_on s s' i ps steady threads has evolve last due own =
       steady_from s s' (λ k. i) ps steady threads has (λ k. evolve) (λ k e. (last, (let P : ℕ → Type 0 = λ n. IsDue s' n in subst P (sym e) own))) due
 
   -- the same where none acts: the place is past all tasks
-  pub steady_still : (s s' : State) → IsSteady s → threads_of s'.tasks ≡ y.threads → s'.stores ≡ s.stores → ((i : ℕ) → Evolve p arrivals i [] s.tasks s'.tasks)
+  pub steady_still : (s s' : State) → IsSteady s → threads_of s'.tasks ≡ y.threads → s'.stores ≡ s.stores
+      → ((i : ℕ) → Evolve p arrivals i [] s.tasks s'.tasks)
       → ((k : ℕ) → IsDue s k → IsDue s' k) → IsSteady s'
   steady_still s s' steady threads stores evolve due =
-      steady_from s s' suc [] steady threads (let H : List Variables → Type 0 = λ z. HasStores y z in subst H (sym stores) steady.has) (λ k. evolve (suc k)) (λ k e. absurd (omega (arith, e))) due
+      steady_from s s' suc [] steady threads (let H : List Variables → Type 0 = λ z. HasStores y z
+      in subst H (sym stores) steady.has) (λ k. evolve (suc k)) (λ k e. absurd (omega (arith, e))) due
 
   -- on from the effects
-  pub steady_away : (s : State) → IsSteady s → ((k : ℕ) (t : Task) → slice_get s.tasks k ≡ Some t → IsDue s k → HasTicksLeft t.pieces t.left) → IsSteady (record s { phase = Delays })
+  pub steady_away : (s : State) → IsSteady s → ((k : ℕ) (t : Task) → slice_get s.tasks k ≡ Some t → IsDue s k → HasTicksLeft t.pieces t.left)
+      → IsSteady (record s { phase = Delays })
   steady_away s steady none = record {
     threads = steady.threads;
     has = steady.has;

@@ -31,7 +31,8 @@ tasks_are ds n [] = refl
 tasks_are ds n (u ∷ us) = by u.form (tasks_are ds (n + 1) us)
   where
     by : (form : Form) → filter_map (λ v. task_by v.name v.form) us ≡ map task_at (ths_of ds (n + 1) us)
-        → cons_option (task_by u.name form) (filter_map (λ v. task_by v.name v.form) us) ≡ map task_at (cons_option (thread_by (ds n) n u.name form) (ths_of ds (n + 1) us))
+        → cons_option (task_by u.name form) (filter_map (λ v. task_by v.name v.form) us)
+        ≡ map task_at (cons_option (thread_by (ds n) n u.name form) (ths_of ds (n + 1) us))
     by (Passive ops) rest = rest
     by (Shared ceiling vars ops) rest = rest
     by (Cyclic priority offset period vars block) rest = ap (λ ts. task_at (record {
@@ -59,9 +60,11 @@ objects_are n [] = refl
 objects_are n (u ∷ us) = by u.form (objects_are (n + 1) us)
   where
     by : (form : Form) → filter_map (λ v. guarded_by v.name v.form) us ≡ map guarded_at (objects_of (n + 1) us)
-        → cons_option (guarded_by u.name form) (filter_map (λ v. guarded_by v.name v.form) us) ≡ map guarded_at (cons_option (object_by n u.name form) (objects_of (n + 1) us))
+        → cons_option (guarded_by u.name form) (filter_map (λ v. guarded_by v.name v.form) us)
+        ≡ map guarded_at (cons_option (object_by n u.name form) (objects_of (n + 1) us))
     by (Passive ops) rest = rest
-    by (Shared ceiling vars ops) rest = ap (λ gs. guarded_at (record { unit = n; name = u.name; ceiling = ceiling; vars = vars; ops = ops }) ∷ gs) rest
+    by (Shared ceiling vars ops) rest
+        = ap (λ gs. guarded_at (record { unit = n; name = u.name; ceiling = ceiling; vars = vars; ops = ops }) ∷ gs) rest
     by (Cyclic priority offset period vars block) rest = rest
     by (Sporadic priority ceiling op separation jitter external vars block) rest = rest
 
@@ -73,9 +76,11 @@ shared_of p r = objects_are 0 p.units
 
 -- a thread's name is that of a task
 among : (ths : List TaskUnit) (k : ℕ) (th : TaskUnit) → slice_get ths k ≡ Some th → is_task_name (map task_at ths) th.name ≡ true
-among ths k th e = any-in (λ t. same_name t.name th.name) (task_at th) (map task_at ths) (in-map task_at th ths (at-in ths k th e)) (same-self th.name)
+among ths k th e = any-in (λ t. same_name t.name th.name) (task_at th) (map task_at ths) (in-map task_at th ths (at-in ths k th e))
+    (same-self th.name)
 
 pub is_task : (p : Program) (r : Arrivals) (unit : ℕ) → HasUnit (system p r).threads unit → IsTask p unit
 is_task p r unit has =
     let name : unit_name p unit ≡ has.1.name = ap (unit_name p) (sym has.3) ∙ thread_name p r has.0 has.1 has.2 in
-    ap (λ n. is_task_name (program_software p).tasks n) name ∙ ap (λ ts. is_task_name ts has.1.name) (tasks_of p r) ∙ among (system p r).threads has.0 has.1 has.2
+    ap (λ n. is_task_name (program_software p).tasks n) name ∙ ap (λ ts. is_task_name ts has.1.name) (tasks_of p r) ∙ among
+    (system p r).threads has.0 has.1 has.2

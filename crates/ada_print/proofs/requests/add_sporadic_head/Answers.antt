@@ -5,7 +5,8 @@ use Rattle.ada_print.proofs.requests.add_sporadic_head.Goals as goal
 
 pub returns : goal.returns
 returns c =
-    writes-same _ c.args.into.now.items _ _ _ (sporadic-head c.args.priority c.args.ceiling (signature_of c.args.op.now) c.args.separation c.args.jitter c.args.external)
+    writes-same _ c.args.into.now.items _ _ _ (sporadic-head c.args.priority c.args.ceiling (signature_of c.args.op.now) c.args.separation
+    c.args.jitter c.args.external)
     (writes-then _ c.args.into.now.items c.put_number.new.into.items _ _ _ c.in_ok-put_number.ensures
     (writes-then _ c.put_number.new.into.items c.add_declaration.new.into.items _ _ _ c.in_ok-add_declaration.ensures
     (writes-then _ c.add_declaration.new.into.items c.put.new.into.items _ _ _ c.in_ok-put.ensures

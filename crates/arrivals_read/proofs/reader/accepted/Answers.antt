@@ -22,7 +22,8 @@ returns-in-Ok c =
     let text = text_of c.args.text.now in
     let found = found-list (tokens c.args.bytes.now) (arrival_tokens text) c.requires.spelled in
     fine-arrives c.args.bytes.now (program_of c.args.program.now) found.0 text (arrivals_of c.in-Ok.arrivals)
-    (text-of c.args.bytes.now found.0 text c.requires.short found.1 found.2) (omega (arith, c.if-text-gt-HORIZON_LIMIT.false)) c.in-Ok.ensures.0 c.in-Ok.ensures.1
+    (text-of c.args.bytes.now found.0 text c.requires.short found.1 found.2) (omega (arith, c.if-text-gt-HORIZON_LIMIT.false)) c.in-Ok.ensures.0
+    c.in-Ok.ensures.1
 
 pub returns-in-Err-Wrong : goal.returns-in-Err-Wrong
 returns-in-Err-Wrong c =
@@ -30,7 +31,9 @@ returns-in-Err-Wrong c =
     let found = found-list (tokens c.args.bytes.now) (arrival_tokens text) c.requires.spelled in
     let name = word_bytes c.in-Err-Wrong.name in
     wrong-says c.args.bytes.now (program_of c.args.program.now) c.in-Err-Wrong.cause c.place_behind-place.result.line name c.told.result
-    (wrong-found c.args.bytes.now (program_of c.args.program.now) found.0 text (fault_named c.in-Err-Wrong.cause) name c.in-Err-Wrong.before c.place_behind-place.result.line
-    (text-of c.args.bytes.now found.0 text c.requires.short found.1 found.2) (omega (arith, c.if-text-gt-HORIZON_LIMIT.false)) (rw c.in-Err-Wrong.field-0-is at c.in-Err-Wrong.ensures)
+    (wrong-found c.args.bytes.now (program_of c.args.program.now) found.0 text (fault_named c.in-Err-Wrong.cause) name c.in-Err-Wrong.before
+    c.place_behind-place.result.line
+    (text-of c.args.bytes.now found.0 text c.requires.short found.1 found.2) (omega (arith, c.if-text-gt-HORIZON_LIMIT.false))
+    (rw c.in-Err-Wrong.field-0-is at c.in-Err-Wrong.ensures)
     (ap (λ p. p.line) (c.place_behind-place.ensures found.0 found.1)))
     c.told.ensures

@@ -27,5 +27,6 @@ pub returns-in-Err-Syntax-clause-says : goal.returns-in-Err-Syntax-clause-says
 returns-in-Err-Syntax-clause-says c =
     let ts = found-list (tokens c.args.bytes.now) (ahead c.in-Ok.found) c.in-Ok.ensures.gives in
     let fails = rw c.in-Err-Syntax.field-0-is at c.in-Err-Syntax.ensures in
-    arrivals-faulty c.args.bytes.now ts.0 c.in-Err-Syntax.left c.place_of-place.result (omega (arith, c.if-bytes-gt-TEXT_LIMIT.false)) ts.1 (ap (whole_at arrivals_at) ts.2 ∙ fails)
+    arrivals-faulty c.args.bytes.now ts.0 c.in-Err-Syntax.left c.place_of-place.result (omega (arith, c.if-bytes-gt-TEXT_LIMIT.false)) ts.1
+    (ap (whole_at arrivals_at) ts.2 ∙ fails)
     (rw (← c.in-Err-Syntax.left-is) (c.place_of-place.ensures ts.0 ts.1 ts.3))

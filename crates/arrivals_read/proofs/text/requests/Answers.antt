@@ -12,4 +12,5 @@ requests-smaller c =
 pub requests-preserved : goal.requests-preserved
 requests-preserved c =
     rw (c.in_ok-push.ensures.items, map-append)
-    (request-turn (map request_text c.requests.requests.items) (ahead c.requests.rest) (request_text c.in_ok-next.next) (ahead c.in_ok-next.after) (sym c.requests-test.ensures) c.in_ok-next.ensures ∙ c.requests.invariant)
+    (request-turn (map request_text c.requests.requests.items) (ahead c.requests.rest) (request_text c.in_ok-next.next) (ahead c.in_ok-next.after)
+    (sym c.requests-test.ensures) c.in_ok-next.ensures ∙ c.requests.invariant)

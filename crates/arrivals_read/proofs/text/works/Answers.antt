@@ -12,4 +12,5 @@ works-smaller c =
 pub works-preserved : goal.works-preserved
 works-preserved c =
     rw (c.in_ok-push.ensures.items, map-append)
-    (work-turn (map work_text c.works.works.items) (ahead c.works.rest) (work_text c.in_ok-next.next) (ahead c.in_ok-next.after) (sym c.works-test.ensures) c.in_ok-next.ensures ∙ c.works.invariant)
+    (work-turn (map work_text c.works.works.items) (ahead c.works.rest) (work_text c.in_ok-next.next) (ahead c.in_ok-next.after)
+    (sym c.works-test.ensures) c.in_ok-next.ensures ∙ c.works.invariant)

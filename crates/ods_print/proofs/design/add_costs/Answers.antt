@@ -12,4 +12,5 @@ returns c =
     (writes-then _ c.put_number-3.new.into.items c.put_number-4.new.into.items _ _ _ c.in_ok-put_number-4.ensures
     (writes-then _ c.put_number-4.new.into.items c.put_number-5.new.into.items _ _ _ c.in_ok-put_number-5.ensures
     (writes-then _ c.put_number-5.new.into.items c.put_number-6.new.into.items _ _ _ c.in_ok-put_number-6.ensures
-    (writes-then _ c.put_number-6.new.into.items c.put_number-7.new.into.items _ _ _ c.in_ok-put_number-7.ensures (writes-printed _ _ _ _ c.put-2.ensures)))))))))
+    (writes-then _ c.put_number-6.new.into.items c.put_number-7.new.into.items _ _ _ c.in_ok-put_number-7.ensures
+    (writes-printed _ _ _ _ c.put-2.ensures)))))))))

@@ -7,6 +7,10 @@ use Rattle.ods_print.proofs.law.reads_back.Goals as goal
 
 pub returns : goal.returns
 returns c = record {
-  reads = λ x proper ok within. record { within = within; proper = proper; spelled = read-whole _ _ (gives-lines (design_lines x) (ready-lines (design_lines x) (design-sound x) ok)) };
+  reads = λ x proper ok within. record {
+    within = within;
+    proper = proper;
+    spelled = read-whole _ _ (gives-lines (design_lines x) (ready-lines (design_lines x) (design-sound x) ok));
+  };
   writable = λ text x r. tokens-readable text (design_tokens x) r.spelled;
 }

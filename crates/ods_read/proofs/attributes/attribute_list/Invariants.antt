@@ -6,7 +6,8 @@ use Rattle.ods_read.proofs.attributes.attribute_list.Given as goal
 
 -- the items so far, and then those that are left
 abbrev pub invariant-attrs : goal.invariant-attrs
-invariant-attrs l = gathered (next_by key_named) (attribute_at l.fn.units) l.attrs.items (ahead l.rest) ≡ attribute_list_at l.fn.units (ahead l.fn.tokens)
+invariant-attrs l = gathered (next_by key_named) (attribute_at l.fn.units) l.attrs.items (ahead l.rest)
+    ≡ attribute_list_at l.fn.units (ahead l.fn.tokens)
 
 abbrev pub decreases-attrs : goal.decreases-attrs
 decreases-attrs l = length (ahead l.rest)

@@ -14,11 +14,13 @@ use Rattle.ods_read.proofs.bodies.bodies.Goals as goal
 
 pub bodies-smaller : goal.bodies-smaller
 bodies-smaller c =
-    turn-shorter (body_at (block_at is_design_name 32 c.args.deeper)) (ahead c.bodies.rest) (ahead c.in_ok-next.after) (body_of c.in_ok-next.next) (takes-operation c.args.deeper) c.in_ok-next.ensures
+    turn-shorter (body_at (block_at is_design_name 32 c.args.deeper)) (ahead c.bodies.rest) (ahead c.in_ok-next.after) (body_of c.in_ok-next.next)
+    (takes-operation c.args.deeper) c.in_ok-next.ensures
 
 pub bodies-preserved : goal.bodies-preserved
 bodies-preserved c =
     rw (c.in_ok-push.ensures.items, map-append)
-    (onward-turn (next_is (Word (codes "operation"))) (body_at (block_at is_design_name 32 c.args.deeper)) pure_at (map body_of c.bodies.bodies.items) (ahead c.bodies.rest) (body_of c.in_ok-next.next) (ahead c.in_ok-next.after)
+    (onward-turn (next_is (Word (codes "operation"))) (body_at (block_at is_design_name 32 c.args.deeper)) pure_at (map body_of c.bodies.bodies.items)
+    (ahead c.bodies.rest) (body_of c.in_ok-next.next) (ahead c.in_ok-next.after)
     (takes-operation c.args.deeper) (sym c.bodies-test.ensures) c.in_ok-next.ensures
     ∙ c.bodies.invariant)

@@ -11,7 +11,8 @@ use Rattle.ods_read.proofs.bodies.bodies.Given as goal
 
 -- the items so far, and then those that are left
 abbrev pub invariant-bodies : goal.invariant-bodies
-invariant-bodies l = gathered (next_is (Word (codes "operation"))) (body_at (block_at is_design_name 32 l.fn.deeper)) (map body_of l.bodies.items) (ahead l.rest) ≡ bodies_at (block_at is_design_name 32 l.fn.deeper) (ahead l.fn.tokens)
+invariant-bodies l = gathered (next_is (Word (codes "operation"))) (body_at (block_at is_design_name 32 l.fn.deeper)) (map body_of l.bodies.items)
+    (ahead l.rest) ≡ bodies_at (block_at is_design_name 32 l.fn.deeper) (ahead l.fn.tokens)
 
 abbrev pub decreases-bodies : goal.decreases-bodies
 decreases-bodies l = length (ahead l.rest)

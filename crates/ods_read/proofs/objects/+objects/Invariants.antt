@@ -21,7 +21,8 @@ decreases-object_list l = 4 * l.deeper + 3
 -- the objects so far, and then those that are left
 abbrev pub invariant-object_list-nodes : goal.invariant-object_list-nodes
 invariant-object_list-nodes l =
-    trees_after (tree_at l.fn.units 32 l.fn.deeper) (map tree_of l.nodes.items) (ahead l.rest) ≡ tree_list_at (tree_at l.fn.units 32 l.fn.deeper) (ahead l.fn.tokens)
+    trees_after (tree_at l.fn.units 32 l.fn.deeper) (map tree_of l.nodes.items) (ahead l.rest)
+    ≡ tree_list_at (tree_at l.fn.units 32 l.fn.deeper) (ahead l.fn.tokens)
 
 abbrev pub decreases-object_list-nodes : goal.decreases-object_list-nodes
 decreases-object_list-nodes l = length (ahead l.rest)

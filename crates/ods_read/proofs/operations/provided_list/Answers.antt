@@ -15,6 +15,7 @@ provides-smaller c =
 pub provides-preserved : goal.provides-preserved
 provides-preserved c =
     rw (c.in_ok-push-2.ensures.items, map-append)
-    (onward-turn (next_is_design_name) provided_at pure_at (map provided_of c.provides.provides.items) (ahead c.provides.rest) (provided_of c.in_ok-next.next) (ahead c.in_ok-next.after)
+    (onward-turn (next_is_design_name) provided_at pure_at (map provided_of c.provides.provides.items) (ahead c.provides.rest)
+    (provided_of c.in_ok-next.next) (ahead c.in_ok-next.after)
     takes-provided (sym c.provides-test.ensures) c.in_ok-next.ensures
     ∙ c.provides.invariant)

@@ -4,4 +4,5 @@ use Rattle.rings.proofs.targets.targets_of.Given as goal
 
 -- the edges so far, and those that are left
 abbrev pub invariant-edges : goal.invariant-edges
-invariant-edges l = (a b : ℕ) → (has_number (targets_at l.targets a) b || is_step l.count (drop l.edge-index l.edges) a b) ≡ is_step l.count l.edges a b
+invariant-edges l = (a b : ℕ) → (has_number (targets_at l.targets a) b || is_step l.count (drop l.edge-index l.edges) a b)
+    ≡ is_step l.count l.edges a b

@@ -12,7 +12,8 @@ bounds-from-index c = omega (arith, AllZip-long _ c.args.table.now c.args.from.n
 pub all_interference-taken-requires-clause-entries : goal.all_interference-taken-requires-clause-entries
 all_interference-taken-requires-clause-entries c =
     rw (c.split_at.ensures.front, c.split_at-2.ensures.front)
-    (entries-front c.args.index c.args.table.now c.args.from.now (entries-within _ c.args.table.now c.args.from.now c.requires.table.each c.requires.within))
+    (entries-front c.args.index c.args.table.now c.args.from.now
+    (entries-within _ c.args.table.now c.args.from.now c.requires.table.each c.requires.within))
 
 pub all_interference-taken-requires-clause-window : goal.all_interference-taken-requires-clause-window
 all_interference-taken-requires-clause-window c =
@@ -20,19 +21,27 @@ all_interference-taken-requires-clause-window c =
 
 pub jitter_of-requires-clause-row : goal.jitter_of-requires-clause-row
 jitter_of-requires-clause-row c =
-    rw (AllZip-long _ c.args.table.now c.args.from.now c.requires.within) (each-at _ c.args.table.now c.args.index _ c.requires.table.each c.requires.index)
+    rw (AllZip-long _ c.args.table.now c.args.from.now c.requires.within)
+    (each-at _ c.args.table.now c.args.index _ c.requires.table.each c.requires.index)
 
 pub jitter_of-requires-clause-bounds : goal.jitter_of-requires-clause-bounds
-jitter_of-requires-clause-bounds c = entries-reach c.args.table.now c.args.from.now (entries-within _ c.args.table.now c.args.from.now c.requires.table.each c.requires.within)
+jitter_of-requires-clause-bounds c
+    = entries-reach c.args.table.now c.args.from.now (entries-within _ c.args.table.now c.args.from.now c.requires.table.each c.requires.within)
 
 pub returns-clause-within : goal.returns-clause-within
 returns-clause-within c =
-    side-found c.args.table.now c.args.from.now c.args.index _ (record { jitter = 0; response = 0 }) c.jitter_of.result (c.from.result + c.from-2.result + c.all_interference-taken.result) c.requires.index (AllZip-long _ c.args.table.now c.args.from.now c.requires.within)
+    side-found c.args.table.now c.args.from.now c.args.index _ (record { jitter = 0; response = 0 }) c.jitter_of.result
+    (c.from.result + c.from-2.result + c.all_interference-taken.result) c.requires.index
+    (AllZip-long _ c.args.table.now c.args.from.now c.requires.within)
     c.jitter_of.ensures
-    (rw (c.from.ensures, c.from-2.ensures, c.all_interference-taken.ensures.value, c.split_at.ensures.front, c.split_at-2.ensures.front) refl) c.within_limits.result c.within_limits.ensures.within
+    (rw (c.from.ensures, c.from-2.ensures, c.all_interference-taken.ensures.value, c.split_at.ensures.front, c.split_at-2.ensures.front) refl)
+    c.within_limits.result c.within_limits.ensures.within
 
 pub returns-clause-over : goal.returns-clause-over
 returns-clause-over c =
-    side-over c.args.table.now c.args.from.now c.args.index _ (record { jitter = 0; response = 0 }) c.jitter_of.result (c.from.result + c.from-2.result + c.all_interference-taken.result) c.requires.index (AllZip-long _ c.args.table.now c.args.from.now c.requires.within)
+    side-over c.args.table.now c.args.from.now c.args.index _ (record { jitter = 0; response = 0 }) c.jitter_of.result
+    (c.from.result + c.from-2.result + c.all_interference-taken.result) c.requires.index
+    (AllZip-long _ c.args.table.now c.args.from.now c.requires.within)
     c.jitter_of.ensures
-    (rw (c.from.ensures, c.from-2.ensures, c.all_interference-taken.ensures.value, c.split_at.ensures.front, c.split_at-2.ensures.front) refl) c.within_limits.result c.within_limits.ensures.over
+    (rw (c.from.ensures, c.from-2.ensures, c.all_interference-taken.ensures.value, c.split_at.ensures.front, c.split_at-2.ensures.front) refl)
+    c.within_limits.result c.within_limits.ensures.over

@@ -6,4 +6,5 @@ use Rattle.sample_design.proofs.requests.put_requests.Given as goal
 -- the requests so far, and those of the threads that are left
 abbrev pub invariant-threads : goal.invariant-threads
 invariant-threads l =
-    l.text.items ++ request_lines (requests_among l.n l.time (from_to l.k l.end)) ≡ l.initial.text.items ++ request_lines (requests_among l.n l.time (from_to 1 l.end))
+    l.text.items ++ request_lines (requests_among l.n l.time (from_to l.k l.end))
+    ≡ l.initial.text.items ++ request_lines (requests_among l.n l.time (from_to 1 l.end))

@@ -10,6 +10,8 @@ use Rattle.seq_check.proofs.actuals.hands_out_fixed.Goals as goal
 
 pub returns : goal.returns
 returns c =
-    any_from_yields_List (λ x. is_out x.0.mode && is_fixed_actual (place_of c.args.place.now) (expression_of x.1)) c.any.new.self _ c.any.result c.any.ensures.ran
-    (YieldsList-from_zip (YieldsList-from_slice c.args.params.now cc) (YieldsList-from_slice c.args.actuals.now cc)) (λ x b q k. search (rules, tests))
+    any_from_yields_List (λ x. is_out x.0.mode && is_fixed_actual (place_of c.args.place.now) (expression_of x.1)) c.any.new.self _ c.any.result
+    c.any.ensures.ran
+    (YieldsList-from_zip (YieldsList-from_slice c.args.params.now cc) (YieldsList-from_slice c.args.actuals.now cc))
+    (λ x b q k. search (rules, tests))
     ∙ outs-any expression_of (is_fixed_actual (place_of c.args.place.now)) c.args.params.now c.args.actuals.now

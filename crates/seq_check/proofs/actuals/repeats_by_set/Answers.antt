@@ -12,6 +12,7 @@ pub outs-preserved : goal.outs-preserved
 outs-preserved c =
     let params : c.outs.params.now ≡ c.in-Some-Some.param.now ∷ c.in-Some-Some.later.now = search rules in
     let actuals : c.outs.actuals.now ≡ c.in-Some-Some.actual.now ∷ c.in-Some-Some.others.now = search rules in
-    sym (outs_step (has c.outs.seen) (has c.add_out_actual.new.seen) c.in-Some-Some.param.now (expression_of c.in-Some-Some.actual.now) c.in-Some-Some.later.now
+    sym (outs_step (has c.outs.seen) (has c.add_out_actual.new.seen) c.in-Some-Some.param.now (expression_of c.in-Some-Some.actual.now)
+    c.in-Some-Some.later.now
     (map expression_of c.in-Some-Some.others.now) c.in_ok-add_out_actual.ensures.added (sym c.in_ok-add_out_actual.ensures.told ∙ c.if-branch.false))
     ∙ (rw (params, actuals) at c.outs.invariant)

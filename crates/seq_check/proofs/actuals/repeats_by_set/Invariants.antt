@@ -9,7 +9,8 @@ use Rattle.seq_check.proofs.actuals.repeats_by_set.Given as goal
 -- the whole repeats exactly where what is left does or has a variable of those before
 abbrev pub invariant-outs : goal.invariant-outs
 invariant-outs l =
-    (list_any (is_seen (has l.seen)) (out_actuals l.params (map expression_of l.actuals)) || repeats (out_actuals l.params (map expression_of l.actuals)))
+    (list_any (is_seen (has l.seen)) (out_actuals l.params (map expression_of l.actuals))
+    || repeats (out_actuals l.params (map expression_of l.actuals)))
     ≡ repeats (out_actuals l.fn.params (map expression_of l.fn.actuals))
 
 abbrev pub decreases-outs : goal.decreases-outs

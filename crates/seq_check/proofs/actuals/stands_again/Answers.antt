@@ -12,6 +12,8 @@ use Rattle.seq_check.proofs.actuals.stands_again.Goals as goal
 pub returns-in-Variable : goal.returns-in-Variable
 returns-in-Variable c =
     let opened : expression_of c.args.actual.now ≡ Variable c.in-Variable.name = search (rules, the_lemmas) in
-    rw opened (any_from_yields_List (λ x. is_out x.0.mode && is_variable c.in-Variable.name (expression_of x.1)) c.any.new.self _ c.any.result c.any.ensures.ran
-    (YieldsList-from_zip (YieldsList-from_slice c.args.params.now cc) (YieldsList-from_slice c.args.actuals.now cc)) (λ x b q k. search (rules, tests))
+    rw opened (any_from_yields_List (λ x. is_out x.0.mode && is_variable c.in-Variable.name (expression_of x.1)) c.any.new.self _ c.any.result
+    c.any.ensures.ran
+    (YieldsList-from_zip (YieldsList-from_slice c.args.params.now cc) (YieldsList-from_slice c.args.actuals.now cc))
+    (λ x b q k. search (rules, tests))
     ∙ outs-any expression_of (is_variable c.in-Variable.name) c.args.params.now c.args.actuals.now)

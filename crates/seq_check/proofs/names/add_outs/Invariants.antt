@@ -7,4 +7,5 @@ use Rattle.seq_check.proofs.names.add_outs.Given as goal
 
 -- the names of those so far that hand values out are added
 abbrev pub invariant-params : goal.invariant-params
-invariant-params l = (n : Name) → has l.set n ≡ (list_any (λ q. is_out q.mode && same_name q.name n) (take l.param-index l.params) || has l.initial.set n)
+invariant-params l = (n : Name)
+    → has l.set n ≡ (list_any (λ q. is_out q.mode && same_name q.name n) (take l.param-index l.params) || has l.initial.set n)

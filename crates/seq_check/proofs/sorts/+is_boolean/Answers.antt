@@ -9,16 +9,26 @@ use Rattle.seq_check.proofs.sorts.+is_boolean.Goals as goal
 
 pub returns-in-Relational : goal.returns-in-Relational
 returns-in-Relational t c =
-    let opened : expression_of c.args.expr.now ≡ Binary c.in-Binary.op (expression_of c.in-Binary.left.value) (expression_of c.in-Binary.right.value) = search (rules, the_lemmas) in
-    rw opened (rw (sym c.deref-in-Relational.ensures, sym c.deref-in-Relational-2.ensures) c.compares_words.ensures ∙ sym (relational-boolean (level_of c.in-Binary.op) _ _ _ (sym c.in-Relational.ensures)))
+    let opened : expression_of c.args.expr.now ≡ Binary c.in-Binary.op (expression_of c.in-Binary.left.value) (expression_of c.in-Binary.right.value)
+    = search (rules, the_lemmas) in
+    rw opened (rw (sym c.deref-in-Relational.ensures, sym c.deref-in-Relational-2.ensures) c.compares_words.ensures ∙ sym
+    (relational-boolean (level_of c.in-Binary.op) _ _ _ (sym c.in-Relational.ensures)))
 
 pub returns-in-Arithmetic : goal.returns-in-Arithmetic
 returns-in-Arithmetic t c =
-    let opened : expression_of c.args.expr.now ≡ Binary c.in-Binary.op (expression_of c.in-Binary.left.value) (expression_of c.in-Binary.right.value) = search (rules, the_lemmas) in
+    let opened : expression_of c.args.expr.now ≡ Binary c.in-Binary.op (expression_of c.in-Binary.left.value) (expression_of c.in-Binary.right.value)
+    = search (rules, the_lemmas) in
     rw opened (sym (arithmetic-boolean (level_of c.in-Binary.op) _ _ _ (sym c.in-Arithmetic.ensures)))
 
 pub returns-else-is_boolean : goal.returns-else-is_boolean
 returns-else-is_boolean t c =
-    let opened : expression_of c.args.expr.now ≡ Binary c.in-Binary.op (expression_of c.in-Binary.left.value) (expression_of c.in-Binary.right.value) = search (rules, the_lemmas) in
+    let opened : expression_of c.args.expr.now ≡ Binary c.in-Binary.op (expression_of c.in-Binary.left.value) (expression_of c.in-Binary.right.value)
+    = search (rules, the_lemmas) in
     let left : has_sort Boolean (expression_of c.in-Binary.left.value) ≡ false = rw (sym c.deref.ensures) (sym c.if-is_boolean.ensures) in
-    rw (opened, logical-boolean (level_of c.in-Binary.op) (contains_name (expression_of c.in-Binary.left.value) || contains_name (expression_of c.in-Binary.right.value)) (sort_of (expression_of c.in-Binary.left.value)) (sort_of (expression_of c.in-Binary.right.value)) (sym c.in-Logical.ensures), left) c.if-is_boolean.false
+    rw (
+      opened,
+      logical-boolean (level_of c.in-Binary.op) (contains_name (expression_of c.in-Binary.left.value)
+          || contains_name (expression_of c.in-Binary.right.value)) (sort_of (expression_of c.in-Binary.left.value)) (sort_of
+          (expression_of c.in-Binary.right.value)) (sym c.in-Logical.ensures),
+      left,
+    ) c.if-is_boolean.false

@@ -9,12 +9,21 @@ use Rattle.seq_check.proofs.sorts.+is_word.Goals as goal
 
 pub returns-in-Relational : goal.returns-in-Relational
 returns-in-Relational t c =
-    let opened : expression_of c.args.expr.now ≡ Binary c.in-Binary.op (expression_of c.in-Binary.left.value) (expression_of c.in-Binary.right.value) = search (rules, the_lemmas) in
+    let opened : expression_of c.args.expr.now ≡ Binary c.in-Binary.op (expression_of c.in-Binary.left.value) (expression_of c.in-Binary.right.value)
+    = search (rules, the_lemmas) in
     rw opened (sym (relational-word (level_of c.in-Binary.op) _ _ _ (sym c.in-Relational.ensures)))
 
 pub returns-then-is_word : goal.returns-then-is_word
 returns-then-is_word t c =
-    let opened : expression_of c.args.expr.now ≡ Binary c.in-Binary.op (expression_of c.in-Binary.left.value) (expression_of c.in-Binary.right.value) = search (rules, the_lemmas) in
+    let opened : expression_of c.args.expr.now ≡ Binary c.in-Binary.op (expression_of c.in-Binary.left.value) (expression_of c.in-Binary.right.value)
+    = search (rules, the_lemmas) in
     let left : has_sort Word (expression_of c.in-Binary.left.value) ≡ true = rw (sym c.deref.ensures) (sym c.if-is_word.ensures) in
-    let right : c.is_word-then-is_word.result ≡ has_sort Word (expression_of c.in-Binary.right.value) = rw (sym c.deref-then-is_word.ensures) c.is_word-then-is_word.ensures in
-    rw (opened, other-word (level_of c.in-Binary.op) c.level_of.result (contains_name (expression_of c.in-Binary.left.value) || contains_name (expression_of c.in-Binary.right.value)) (sort_of (expression_of c.in-Binary.left.value)) (sort_of (expression_of c.in-Binary.right.value)) c.level_of.ensures c.in-Logical.is, left) right
+    let right : c.is_word-then-is_word.result ≡ has_sort Word (expression_of c.in-Binary.right.value)
+    = rw (sym c.deref-then-is_word.ensures) c.is_word-then-is_word.ensures in
+    rw (
+      opened,
+      other-word (level_of c.in-Binary.op) c.level_of.result (contains_name (expression_of c.in-Binary.left.value)
+          || contains_name (expression_of c.in-Binary.right.value)) (sort_of (expression_of c.in-Binary.left.value)) (sort_of
+          (expression_of c.in-Binary.right.value)) c.level_of.ensures c.in-Logical.is,
+      left,
+    ) right

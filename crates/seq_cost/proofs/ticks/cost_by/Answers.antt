@@ -12,7 +12,8 @@ use Rattle.seq_cost.proofs.ticks.cost_by.Goals as goal
 pub returns-in_default-clause-over : goal.returns-in_default-clause-over
 returns-in_default-clause-over g c =
     let w = weights_of g.A.Account.counts (Ticks c.args.costs c.args.account) in
-    let at : drop c.stmts.stmt-index c.deref-stmt-items.result.now ≡ c.stmt-item.result ∷ drop (c.stmts.stmt-index + 1) c.deref-stmt-items.result.now = drop_step c.deref-stmt-items.result.now c.stmts.stmt-index c.stmt-item.result c.stmts-test.true c.stmt-item.is in
+    let at : drop c.stmts.stmt-index c.deref-stmt-items.result.now ≡ c.stmt-item.result ∷ drop (c.stmts.stmt-index + 1) c.deref-stmt-items.result.now
+    = drop_step c.deref-stmt-items.result.now c.stmts.stmt-index c.stmt-item.result c.stmts-test.true c.stmt-item.is in
     let none : within_most (c.stmts.total + dearest_statement w (statement_of c.stmt-item.result)) ≡ None = search rules in
     let told : tally w 0 0 (block_of c.args.block.now) ≡ Err c.stmts.statement = sym c.stmts.invariant.0 ∙ rw (at, none) refl in
     (tally-over w (block_of c.args.block.now) c.stmts.statement told).2
@@ -20,7 +21,8 @@ returns-in_default-clause-over g c =
 pub returns-in_default-clause-first : goal.returns-in_default-clause-first
 returns-in_default-clause-first g c =
     let w = weights_of g.A.Account.counts (Ticks c.args.costs c.args.account) in
-    let at : drop c.stmts.stmt-index c.deref-stmt-items.result.now ≡ c.stmt-item.result ∷ drop (c.stmts.stmt-index + 1) c.deref-stmt-items.result.now = drop_step c.deref-stmt-items.result.now c.stmts.stmt-index c.stmt-item.result c.stmts-test.true c.stmt-item.is in
+    let at : drop c.stmts.stmt-index c.deref-stmt-items.result.now ≡ c.stmt-item.result ∷ drop (c.stmts.stmt-index + 1) c.deref-stmt-items.result.now
+    = drop_step c.deref-stmt-items.result.now c.stmts.stmt-index c.stmt-item.result c.stmts-test.true c.stmt-item.is in
     let none : within_most (c.stmts.total + dearest_statement w (statement_of c.stmt-item.result)) ≡ None = search rules in
     let told : tally w 0 0 (block_of c.args.block.now) ≡ Err c.stmts.statement = sym c.stmts.invariant.0 ∙ rw (at, none) refl in
     let over = tally-over w (block_of c.args.block.now) c.stmts.statement told in
@@ -29,6 +31,7 @@ returns-in_default-clause-first g c =
 pub returns-clause-ticks : goal.returns-clause-ticks
 returns-clause-ticks g c =
     let w = weights_of g.A.Account.counts (Ticks c.args.costs c.args.account) in
-    let left : drop c.stmts.stmt-index c.deref-stmt-items.result.now ≡ [] = drop_all c.stmts.stmt-index c.deref-stmt-items.result.now c.stmts-test.false in
+    let left : drop c.stmts.stmt-index c.deref-stmt-items.result.now ≡ []
+    = drop_all c.stmts.stmt-index c.deref-stmt-items.result.now c.stmts-test.false in
     let told : tally w 0 0 (block_of c.args.block.now) ≡ Ok c.stmts.total = sym c.stmts.invariant.0 ∙ rw left refl in
     tally-sum w (block_of c.args.block.now) c.stmts.total told

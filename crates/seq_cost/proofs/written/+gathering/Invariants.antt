@@ -8,9 +8,11 @@ use Rattle.seq_cost.proofs.written.+gathering.Given as goal
 -- what was found, and the calls of the arms that are left
 abbrev pub invariant-add_arms-arms : goal.invariant-add_arms-arms
 invariant-add_arms-arms l =
-    map call_of l.found.items ++ branch_calls (branches_of (map arm_of (drop l.arm-index l.arms)) Nothing) ≡ map call_of l.initial.found.items ++ branch_calls (branches_of (map arm_of l.arms) Nothing)
+    map call_of l.found.items ++ branch_calls (branches_of (map arm_of (drop l.arm-index l.arms)) Nothing)
+    ≡ map call_of l.initial.found.items ++ branch_calls (branches_of (map arm_of l.arms) Nothing)
 
 -- what was found, and the calls of the statements that are left
 abbrev pub invariant-add_block-stmts : goal.invariant-add_block-stmts
 invariant-add_block-stmts l =
-    map call_of l.found.items ++ block_calls (statements_of (map statement_of (drop l.stmt-index l.stmt-items))) ≡ map call_of l.initial.found.items ++ block_calls (block_of l.block)
+    map call_of l.found.items ++ block_calls (statements_of (map statement_of (drop l.stmt-index l.stmt-items)))
+    ≡ map call_of l.initial.found.items ++ block_calls (block_of l.block)

@@ -5,4 +5,5 @@ use Rattle.seq_print.proofs.expression.add_more.Given as goal
 
 -- with the actuals that are left, all have been added
 abbrev pub invariant-actuals : goal.invariant-actuals
-invariant-actuals l = l.into.items ++ more_text (map expression_of (drop l.actual-index l.actuals)) ≡ l.initial.into.items ++ more_text (map expression_of l.actuals)
+invariant-actuals l = l.into.items ++ more_text (map expression_of (drop l.actual-index l.actuals))
+    ≡ l.initial.into.items ++ more_text (map expression_of l.actuals)

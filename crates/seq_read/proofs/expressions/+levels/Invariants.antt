@@ -44,8 +44,10 @@ decreases-expression l = 20 * l.deeper + 19
 -- the chain so far, and then what is left
 abbrev pub invariant-chain-operators : goal.invariant-chain-operators
 invariant-chain-operators l =
-    chain_at l.fn.class (operand_at (may_name l.fn.text) 32 (opened_at (may_name l.fn.text) 32 l.fn.deeper) l.fn.class) l.room (expression_of l.left) (ahead l.rest)
-    ≡ chain_at l.fn.class (operand_at (may_name l.fn.text) 32 (opened_at (may_name l.fn.text) 32 l.fn.deeper) l.fn.class) 32 (expression_of l.fn.first) (ahead l.fn.tokens)
+    chain_at l.fn.class (operand_at (may_name l.fn.text) 32 (opened_at (may_name l.fn.text) 32 l.fn.deeper) l.fn.class) l.room (expression_of l.left)
+    (ahead l.rest)
+    ≡ chain_at l.fn.class (operand_at (may_name l.fn.text) 32 (opened_at (may_name l.fn.text) 32 l.fn.deeper) l.fn.class) 32
+    (expression_of l.fn.first) (ahead l.fn.tokens)
 
 abbrev pub decreases-chain-operators : goal.decreases-chain-operators
 decreases-chain-operators l = l.room

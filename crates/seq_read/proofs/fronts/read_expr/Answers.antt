@@ -14,12 +14,14 @@ pub returns-in-Ok : goal.returns-in-Ok
 returns-in-Ok c =
     let here = c.listed-here.ensures ∙ bare_behind c.args.from c.args.tokens.now _ c.split_at.ensures.back in
     let read = ap (expression_at (may_name Plain) 32 (64 - c.args.depth)) (sym here) ∙ c.in-Ok.ensures in
-    let x = expression-answered c.args.depth (omega arith) c.args.from (bare c.args.tokens.now) (omega (arith, bare_length c.args.tokens.now)) (expression_of c.in-Ok.expr) (ahead c.in-Ok.rest) read in
+    let x = expression-answered c.args.depth (omega arith) c.args.from (bare c.args.tokens.now) (omega (arith, bare_length c.args.tokens.now))
+    (expression_of c.in-Ok.expr) (ahead c.in-Ok.rest) read in
     (x.0, (omega (arith, x.1, bare_length c.args.tokens.now)), x.2, x.3)
 
 pub returns-in-Err : goal.returns-in-Err
 returns-in-Err c =
     let here = c.listed-here.ensures ∙ bare_behind c.args.from c.args.tokens.now _ c.split_at.ensures.back in
     let P : List Token → Type 0 = λ ts. Stops c.in-Err.halt (expression_at (may_name Plain) 32 (64 - c.args.depth) ts) in
-    let told = expression-told c.args.depth (omega arith) c.args.from (bare c.args.tokens.now) (omega (arith, bare_length c.args.tokens.now)) c.in-Err.halt (subst P here c.in-Err.ensures) in
+    let told = expression-told c.args.depth (omega arith) c.args.from (bare c.args.tokens.now) (omega (arith, bare_length c.args.tokens.now))
+    c.in-Err.halt (subst P here c.in-Err.ensures) in
     rw (c.told.ensures, ← bare_length c.args.tokens.now) told

@@ -10,11 +10,13 @@ use Rattle.seq_read.proofs.parts.more_data.Goals as goal
 
 pub data-smaller : goal.data-smaller
 data-smaller c =
-    turn-shorter (datum_at (may_name c.args.text)) (ahead c.data.rest) (ahead c.in_ok-next.after) c.in_ok-next.next (takes-datum (may_name c.args.text)) c.in_ok-next.ensures
+    turn-shorter (datum_at (may_name c.args.text)) (ahead c.data.rest) (ahead c.in_ok-next.after) c.in_ok-next.next
+    (takes-datum (may_name c.args.text)) c.in_ok-next.ensures
 
 pub data-preserved : goal.data-preserved
 data-preserved c =
     rw (c.in_ok-push.ensures.items)
-    (onward-turn (next_is_name (may_name c.args.text)) (datum_at (may_name c.args.text)) pure_at c.data.data.items (ahead c.data.rest) c.in_ok-next.next (ahead c.in_ok-next.after)
+    (onward-turn (next_is_name (may_name c.args.text)) (datum_at (may_name c.args.text)) pure_at c.data.data.items
+    (ahead c.data.rest) c.in_ok-next.next (ahead c.in_ok-next.after)
     (takes-datum (may_name c.args.text)) (sym c.data-test.ensures) c.in_ok-next.ensures
     ∙ c.data.invariant)

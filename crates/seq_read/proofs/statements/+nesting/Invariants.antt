@@ -38,7 +38,8 @@ decreases-conditional l = 10 * l.deeper + 6
 -- the arms so far, and then what is left
 abbrev pub invariant-conditional-arms : goal.invariant-conditional-arms
 invariant-conditional-arms l =
-    arms_after (expression_at (may_name l.fn.text) 32 l.fn.deeper) (block_at (may_name l.fn.text) 32 l.fn.deeper) (map arm_of l.arms.items) (ahead l.rest)
+    arms_after (expression_at (may_name l.fn.text) 32 l.fn.deeper) (block_at (may_name l.fn.text) 32 l.fn.deeper) (map arm_of l.arms.items)
+    (ahead l.rest)
     ≡ if_at (expression_at (may_name l.fn.text) 32 l.fn.deeper) (block_at (may_name l.fn.text) 32 l.fn.deeper) (ahead l.fn.tokens)
 
 abbrev pub decreases-conditional-arms : goal.decreases-conditional-arms

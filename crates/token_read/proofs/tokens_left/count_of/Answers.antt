@@ -18,7 +18,8 @@ pub returns-in_err-token-clause-gives : goal.returns-in_err-token-clause-gives
 returns-in_err-token-clause-gives c =
     let p = err_from_is_err_and c.from_residual.result c.from_residual.ensures.1 in
     rw (p.1, p.2)
-    (fault-told {X = ℕ} (λ _. behind c.args.bytes.now) c.tokens.place _ _ _ c.tokens.invariant.read.0 c.args.bytes.now c.in-Some.ensures.cases.0 c.tokens.invariant.read.2 c.in_err-token.field-0.0 c.in_err-token.ensures.front)
+    (fault-told {X = ℕ} (λ _. behind c.args.bytes.now) c.tokens.place _ _ _ c.tokens.invariant.read.0 c.args.bytes.now c.in-Some.ensures.cases.0
+    c.tokens.invariant.read.2 c.in_err-token.field-0.0 c.in_err-token.ensures.front)
 
 pub tokens-preserved : goal.tokens-preserved
 tokens-preserved c =
@@ -28,11 +29,19 @@ tokens-preserved c =
     let one = length-seen c.in_ok-token.field-0.token c.tokens.place in
     record {
       fits = (omega arith, omega arith);
-      within = omega (arith, seen-one c.in_ok-token.field-0.token, c.more-count.ensures, c.in_ok-token.ensures.len.0, c.split_at.ensures.back_len, c.tokens.invariant.within);
+      within = omega (
+        arith,
+        seen-one c.in_ok-token.field-0.token,
+        c.more-count.ensures,
+        c.in_ok-token.ensures.len.0,
+        c.split_at.ensures.back_len,
+        c.tokens.invariant.within,
+      );
       read = (
         found ++ here,
         (omega (arith, count, one, c.tokens.invariant.read.1)),
-        tokens-turn c.tokens.place _ found _ _ _ _ _ _ _ c.in-Some.ensures.cases.0 c.in_ok-token.ensures.front c.in_ok-token.ensures.len.0 c.split_at.ensures.front c.split_at.ensures.back c.place_past-place.ensures.past refl
+        tokens-turn c.tokens.place _ found _ _ _ _ _ _ _ c.in-Some.ensures.cases.0 c.in_ok-token.ensures.front c.in_ok-token.ensures.len.0
+            c.split_at.ensures.front c.split_at.ensures.back c.place_past-place.ensures.past refl
             ∙ c.tokens.invariant.read.2,
       );
     }
@@ -40,14 +49,17 @@ tokens-preserved c =
 pub returns-clause-gives : goal.returns-clause-gives
 returns-clause-gives c =
     let found = c.tokens.invariant.read.0 in
-    (whole-found c.args.bytes.now found (sym c.tokens.invariant.read.2 ∙ tokens-over c.tokens.place found c.tokens.left.now c.in_default.ensures.cases)).0
+    (whole-found c.args.bytes.now found (sym c.tokens.invariant.read.2 ∙ tokens-over c.tokens.place found c.tokens.left.now
+    c.in_default.ensures.cases)).0
 
 pub returns-clause-counts : goal.returns-clause-counts
 returns-clause-counts c =
     let found = c.tokens.invariant.read.0 in
-    c.tokens.invariant.read.1 ∙ (whole-found c.args.bytes.now found (sym c.tokens.invariant.read.2 ∙ tokens-over c.tokens.place found c.tokens.left.now c.in_default.ensures.cases)).1
+    c.tokens.invariant.read.1 ∙ (whole-found c.args.bytes.now found
+    (sym c.tokens.invariant.read.2 ∙ tokens-over c.tokens.place found c.tokens.left.now c.in_default.ensures.cases)).1
 
 pub returns-clause-whole : goal.returns-clause-whole
 returns-clause-whole c =
     let found = c.tokens.invariant.read.0 in
-    (whole-found c.args.bytes.now found (sym c.tokens.invariant.read.2 ∙ tokens-over c.tokens.place found c.tokens.left.now c.in_default.ensures.cases)).2
+    (whole-found c.args.bytes.now found (sym c.tokens.invariant.read.2 ∙ tokens-over c.tokens.place found c.tokens.left.now
+    c.in_default.ensures.cases)).2

@@ -10,10 +10,12 @@ unreachable-requires c =
 
 pub returns-clause-behind : goal.returns-clause-behind
 returns-clause-behind c =
-    let turn = behind-turn c.args.first c.args.rest.now c.args.bytes.now _ (front_view c.in-Ok.field-0) c.requires.whole c.requires.parts c.in-Ok.ensures.front c.in-Ok.ensures.len.0 c.split_at.ensures.back in
+    let turn = behind-turn c.args.first c.args.rest.now c.args.bytes.now _ (front_view c.in-Ok.field-0) c.requires.whole c.requires.parts
+    c.in-Ok.ensures.front c.in-Ok.ensures.len.0 c.split_at.ensures.back in
     turn.0 ∙ seen-led c.in-Ok.field-0.token _
 
 pub returns-clause-whole : goal.returns-clause-whole
 returns-clause-whole c =
-    let turn = behind-turn c.args.first c.args.rest.now c.args.bytes.now _ (front_view c.in-Ok.field-0) c.requires.whole c.requires.parts c.in-Ok.ensures.front c.in-Ok.ensures.len.0 c.split_at.ensures.back in
+    let turn = behind-turn c.args.first c.args.rest.now c.args.bytes.now _ (front_view c.in-Ok.field-0) c.requires.whole c.requires.parts
+    c.in-Ok.ensures.front c.in-Ok.ensures.len.0 c.split_at.ensures.back in
     turn.1

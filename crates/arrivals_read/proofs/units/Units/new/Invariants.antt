@@ -6,7 +6,8 @@ use Rattle.arrivals_read.proofs.units.Units.new.Given as goal
 
 -- the places of the units from this one on
 abbrev pub invariant-units : goal.invariant-units
-invariant-units l = (l.place ≤ length l.program.units.items) × ((n : Name) → place_in l.places n ≡ first_place l.place n (map unit_of (drop l.place l.program.units.items)))
+invariant-units l = (l.place ≤ length l.program.units.items)
+    × ((n : Name) → place_in l.places n ≡ first_place l.place n (map unit_of (drop l.place l.program.units.items)))
 
 -- the units that are left
 abbrev pub decreases-units : goal.decreases-units

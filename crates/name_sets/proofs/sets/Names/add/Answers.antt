@@ -8,4 +8,5 @@ pub returns-clause-added : goal.returns-clause-added
 unfolding has
 returns-clause-added c = λ n.
     let q : Bor (List ℕ) = record { ref_ptr = (0, 0); now = n } in
-    c.in_ok-insert.ensures.updates.0 q ∙ added_name c.bytes.result.now n (has c.args.self.now n) ∙ ap (λ m. same_name m n || has c.args.self.now n) c.bytes.ensures.bytes
+    c.in_ok-insert.ensures.updates.0 q ∙ added_name c.bytes.result.now n (has c.args.self.now n) ∙ ap
+    (λ m. same_name m n || has c.args.self.now n) c.bytes.ensures.bytes

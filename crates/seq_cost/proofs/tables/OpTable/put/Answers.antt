@@ -15,7 +15,8 @@ returns g c = λ n.
     let o : Bor (List ℕ) = record { ref_ptr = (0, 0); now = n.object } in
     let q : Bor (List ℕ) = record { ref_ptr = (0, 0); now = n.op } in
     let look : BTreeMap (Bor (List ℕ)) V → Option V = get_by (λ k. slice_cmp nat_cmp n.op k.now) in
-    let found : (w : List ℕ) → BTreeMap (Bor (List ℕ)) (BTreeMap (Bor (List ℕ)) V) → Option (BTreeMap (Bor (List ℕ)) V) = λ w m. get_by (λ k. slice_cmp nat_cmp w k.now) m in
+    let found : (w : List ℕ) → BTreeMap (Bor (List ℕ)) (BTreeMap (Bor (List ℕ)) V) → Option (BTreeMap (Bor (List ℕ)) V)
+    = λ w m. get_by (λ k. slice_cmp nat_cmp w k.now) m in
     let object = c.args.object.now in
     let op = c.args.op.now in
     let removed = found n.object c.remove.new.self in
@@ -32,7 +33,9 @@ returns g c = λ n.
           )
     ] in
     put-law look object op n.object n.op (found n.object c.insert-2.new.self) removed old c.match-remove.ops c.insert.new.self c.args.value
-    (c.in_ok-insert-2.ensures.updates.0 o ∙ ap (λ m. cond (is_eq (slice_cmp nat_cmp m n.object)) (Some c.insert.new.self) removed) c.bytes-3.ensures.bytes)
+    (c.in_ok-insert-2.ensures.updates.0 o ∙ ap (λ m. cond (is_eq (slice_cmp nat_cmp m n.object)) (Some c.insert.new.self) removed)
+    c.bytes-3.ensures.bytes)
     (c.remove.ensures.updates.0 o ∙ ap (λ m. cond (is_eq (slice_cmp nat_cmp m n.object)) None old) c.bytes.ensures.bytes)
-    (c.in_ok-insert.ensures.updates.0 q ∙ ap (λ m. cond (is_eq (slice_cmp nat_cmp m n.op)) (Some c.args.value) (look c.match-remove.ops)) c.bytes-2.ensures.bytes)
+    (c.in_ok-insert.ensures.updates.0 q ∙ ap (λ m. cond (is_eq (slice_cmp nat_cmp m n.op)) (Some c.args.value) (look c.match-remove.ops))
+    c.bytes-2.ensures.bytes)
     (λ h. before ∙ ap (λ w. option_and_then look (found w c.args.self.now.objects)) (c.bytes.ensures.bytes ∙ one_name object n.object h))

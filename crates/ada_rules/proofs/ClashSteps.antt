@@ -3,12 +3,13 @@ use Rattle.std.proofs.Common.{◌≡◌, ℕ, ◌+◌, ◌<◌, Bool, true, fals
 use Rattle.std.proofs.Common.{sym, ap, ◌∙◌}
 use Rattle.std.proofs.Math.Path.{fun_ext}
 use Rattle.seq_tree.specs.Names.{Name, is_named}
+use Rattle.seq_tree.proofs.LoopSteps.{drop_step}
 use Rattle.ada_tree.specs.Bodies.{Body}
 use Rattle.ada_tree.specs.Naming.{body_names}
 use Rattle.ada_rules.specs.Clashes.{are_new, clashes_at, clashes_in, clashes_inside, inside_after}
 use Rattle.ada_rules.specs.Parts.{Part, block_parts, part_of}
 use Rattle.ada_rules.specs.declared.parts.Part as code
-use Rattle.ada_rules.proofs.NameSteps.{are_new-same, drop_step}
+use Rattle.ada_rules.proofs.NameSteps.{are_new-same}
 
 -- an answer that is one Boolean is another that is equal
 pub same_answer : {E : Type 0} (r : Result Bool E) (a b : Bool) → a ≡ b → IfOk r (λ x. x ≡ a) → IfOk r (λ x. x ≡ b)

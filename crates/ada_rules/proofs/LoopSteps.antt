@@ -5,16 +5,8 @@ use Rattle.std.proofs.lemmas.List.{map-append}
 use Rattle.std.proofs.lemmas.List.Folds.{list_any-append}
 use Rattle.std.specs.Prelude.{filter_map}
 use Rattle.std.specs.List.{cons_option, list_any}
-use Rattle.ada_rules.proofs.NameSteps.{drop_step, take_step, or_false, or_turn}
-
--- what an item gives is added, and what is left is that of the items behind it
-pub added_step : {A B : Type 0} (G : List A → List B) (mine : List B) (xs : List A) (i : ℕ) (x : A) (before new all : List B)
-    → ((ys : List A) → G (x ∷ ys) ≡ mine ++ G ys) → i < length xs → x ≡ get_or xs i x → new ≡ before ++ mine → before ++ G (drop i xs) ≡ all
-    → new ++ G (drop (i + 1) xs) ≡ all
-added_step G mine xs i x before new all split inside at made was =
-    let rest = drop (i + 1) xs in
-    ap (λ ys. ys ++ G rest) made ∙ append_assoc before mine (G rest) ∙ ap (λ ys. before ++ ys) (sym (split rest))
-    ∙ ap (λ ys. before ++ G ys) (sym (drop_step xs i x inside at)) ∙ was
+use Rattle.seq_tree.proofs.LoopSteps.{drop_step, take_step}
+use Rattle.ada_rules.proofs.NameSteps.{or_false, or_turn}
 
 -- one thing is pushed for an item, behind those of the items before it
 pub pushed_step : {A B C : Type 0} (f : B → C) (G : List A → List C) (xs : List A) (i : ℕ) (x : A) (y : B) (old new : List B) (first : List C)
@@ -28,22 +20,6 @@ pushed_step f G xs i x y old new first split inside at made was =
 -- what stands for a last item, in two steps
 pub maps_last : {A B C : Type 0} (g : B → C) (f : A → B) (x : A) (ys : List A) → map g (map f (ys ++ x ∷ [])) ≡ map g (map f ys) ++ g (f x) ∷ []
 maps_last g f x ys = ap (map g) (map-append f ys (x ∷ [])) ∙ map-append g (map f ys) (f x ∷ [])
-
--- what passes a test, and what is given, for a first item
-pub map_filter_first : {A B : Type 0} (f : A → B) (p : A → Bool) (x : A) (ys : List A)
-    → map f (filter p (x ∷ ys)) ≡ map f (filter p (x ∷ [])) ++ map f (filter p ys)
-map_filter_first {A} f p x ys = by (p x)
-  where
-    by : (b : Bool) → map f (cond b (x ∷ filter p ys) (filter p ys)) ≡ map f (cond b (x ∷ []) []) ++ map f (filter p ys)
-    by true = refl
-    by false = refl
-
-pub given_first : {A B : Type 0} (f : A → Option B) (x : A) (ys : List A) → filter_map f (x ∷ ys) ≡ filter_map f (x ∷ []) ++ filter_map f ys
-given_first {A} {B} f x ys = by (f x) (filter_map f ys)
-  where
-    by : (o : Option B) (bs : List B) → cons_option o bs ≡ cons_option o [] ++ bs
-    by None bs = refl
-    by (Some b) bs = refl
 
 -- it doesn't hold of an item, so that it is up to those behind it
 pub passed_step : {A : Type 0} (F : List A → Bool) (xs : List A) (i : ℕ) (x : A) (here all : Bool)

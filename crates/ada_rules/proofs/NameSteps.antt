@@ -9,16 +9,9 @@ use Rattle.std.proofs.lemmas.List.{map-append, take_more}
 use Rattle.std.proofs.lemmas.List.Folds.{list_any-append}
 use Rattle.std.specs.Borrow.{Bor}
 use Rattle.seq_tree.specs.Names.{Name, same_name, is_named}
+use Rattle.seq_tree.proofs.LoopSteps.{drop_step, take_step}
 use Rattle.ada_rules.specs.Clashes.{are_new, front}
 use Rattle.ada_rules.specs.Lists.{names_of}
-
--- the element at an index, and those behind it
-pub drop_step : {A : Type 0} (xs : List A) (i : ℕ) (x : A) → i < length xs → x ≡ get_or xs i x → drop i xs ≡ x ∷ drop (i + 1) xs
-drop_step xs i x inside at = drop-cons xs i x inside ∙ ap (λ y. y ∷ drop (suc i) xs) (sym at) ∙ ap (λ k. x ∷ drop k xs) (sym (add-one i))
-
--- those before an index, and the element there
-pub take_step : {A : Type 0} (xs : List A) (i : ℕ) (x : A) → i < length xs → x ≡ get_or xs i x → take (i + 1) xs ≡ take i xs ++ x ∷ []
-take_step xs i x inside at = take_more xs i x inside ∙ ap (λ y. take i xs ++ y ∷ []) (sym at)
 
 pub or_false : (a : Bool) → (a || false) ≡ a
 or_false true = refl

@@ -1,5 +1,4 @@
 mod CostExamples
-pub mod LoopSteps
 pub mod BudgetSteps
 pub mod CostSteps
 pub mod PriceLaws

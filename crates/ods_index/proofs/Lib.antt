@@ -1,5 +1,4 @@
 mod Examples
-pub mod LoopSteps
 pub mod WalkSteps
 pub mod TableSteps
 pub mod LinkLaws

@@ -4,6 +4,7 @@ use Rattle.std.proofs.Common.{Option, Some, None, option_map, Err, refl, ap, sym
 use Rattle.std.proofs.Math.ListN.{get_or}
 use Rattle.std.proofs.Math.Seq.{drop-cons}
 use Rattle.std.proofs.lemmas.Grind.{flat_map-append}
+use Rattle.seq_tree.proofs.LoopSteps.{drop_step}
 use Rattle.ods_tree.specs.Designs.{Object, Tree}
 use Rattle.ods_tree.specs.Trees.{node_layer, trees_of, tree_of}
 use Rattle.ods_tree.specs.Walk.{Standing, own_of, standings, inner_standings}
@@ -30,10 +31,6 @@ head_filter f test (x ∷ xs) = head_step f test x xs (test x) (head_filter f te
 -- the name of an object by itself
 pub own_name : (n : nodes.Node) → (object_of n).name ≡ (out-Node n).name
 own_name n = ap (λ t. (own_of t).name) (fold_out-Node Tree node_layer n)
-
--- the element at an index, and those behind it
-pub drop_step : {A : Type 0} (xs : List A) (i : ℕ) (x : A) → i < length xs → x ≡ get_or xs i x → drop i xs ≡ x ∷ drop (i + 1) xs
-drop_step xs i x inside at = drop-cons xs i x inside ∙ ap (λ y. y ∷ drop (suc i) xs) (sym at) ∙ ap (λ k. x ∷ drop k xs) (sym (add-one i))
 
 -- what is told of a front is told of an equal of the whole
 pub told_of_all : (e : code.Broken) (xs ys : List Broken) (all : Option Broken) → head_of (xs ++ ys) ≡ all → Tells (Err e) (head_of xs)

@@ -3,28 +3,11 @@ use Rattle.std.proofs.Common.{◌≡◌, ℕ, ◌+◌, ◌<◌, Bool, true, fals
 use Rattle.std.proofs.Common.{None, Err, get_or, refl, ap, sym, subst, ◌∙◌}
 use Rattle.std.specs.Prelude.{filter_map}
 use Rattle.std.specs.List.{cons_option}
-use Rattle.seq_cost.proofs.Steps.{drop_step}
+use Rattle.seq_tree.proofs.LoopSteps.{drop_step, flat_filter_first, map_filter_first}
 use Rattle.design_rules.specs.Broken.{Broken}
 use Rattle.ods_index.specs.Judging.{IsTold, Tells, head_of}
 use Rattle.ods_index.specs.Told.{told_of, is_memory}
 use Rattle.ods_index.specs.declared.broken.Broken as code
-use Rattle.ods_index.proofs.LoopSteps.{flat_filter_first}
-
--- what passes a test, and what it leads to, item by item
-pub filter_first : {A : Type 0} (p : A → Bool) (x : A) (ys : List A) → filter p (x ∷ ys) ≡ filter p (x ∷ []) ++ filter p ys
-filter_first {A} p x ys = by (p x)
-  where
-    by : (b : Bool) → cond b (x ∷ filter p ys) (filter p ys) ≡ cond b (x ∷ []) [] ++ filter p ys
-    by true = refl
-    by false = refl
-
-pub map_filter_first : {A B : Type 0} (f : A → B) (p : A → Bool) (x : A) (ys : List A)
-    → map f (filter p (x ∷ ys)) ≡ map f (filter p (x ∷ [])) ++ map f (filter p ys)
-map_filter_first {A} f p x ys = by (p x)
-  where
-    by : (b : Bool) → map f (cond b (x ∷ filter p ys) (filter p ys)) ≡ map f (cond b (x ∷ []) []) ++ map f (filter p ys)
-    by true = refl
-    by false = refl
 
 pub map_filters_first : {A B : Type 0} (f : A → B) (p q : A → Bool) (x : A) (ys : List A)
     → map f (filter p (filter q (x ∷ ys))) ≡ map f (filter p (filter q (x ∷ []))) ++ map f (filter p (filter q ys))

@@ -5,10 +5,7 @@ use Rattle.seq_tree.specs.Calls.{block_calls, branch_calls, statement_calls}
 use Rattle.seq_tree.specs.Trees.{arm_of, branches_of, statement_of, statements_of}
 use Rattle.seq_tree.specs.declared.tree.Arm.{Arm}
 use Rattle.seq_tree.specs.declared.tree.Stmt.{Stmt}
-
--- the item at an index, and those behind it
-pub drop_step : {A : Type 0} (xs : List A) (i : ℕ) (x : A) → i < length xs → x ≡ get_or xs i x → drop i xs ≡ x ∷ drop (i + 1) xs
-drop_step xs i x inside at = drop-cons xs i x inside ∙ ap (λ y. y ∷ drop (suc i) xs) (sym at) ∙ ap (λ k. x ∷ drop k xs) (sym (add-one i))
+use Rattle.seq_tree.proofs.LoopSteps.{drop_step}
 
 -- the calls of the statement at an index come before those of the later ones
 pub statement_step : (ss : List Stmt) (i : ℕ) (s : Stmt) → i < length ss → s ≡ get_or ss i s →

@@ -1,6 +1,6 @@
 use Rattle.std.proofs.Common.{rules, ◌≡◌, ◌+◌, ◌++◌, [], ◌∷◌, Err, List, map, drop, flat_map, ap, sym, subst, ◌∙◌}
 use Rattle.std.proofs.lemmas.List.{drop_all}
-use Rattle.seq_cost.proofs.Steps.{drop_step}
+use Rattle.seq_tree.proofs.LoopSteps.{drop_step}
 use Rattle.ods_tree.specs.Trees.{design_of}
 use Rattle.ods_tree.specs.Walk.{objects}
 use Rattle.design_rules.specs.Budgets.{bad_budgets}

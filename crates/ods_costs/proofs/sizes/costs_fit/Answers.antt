@@ -1,5 +1,5 @@
 use Rattle.std.proofs.Common.{rules, ◌≡◌, ◌+◌, ◌++◌, ◌∷◌, Err, List, map, drop, flat_map, ap, sym, subst, ◌∙◌}
-use Rattle.seq_cost.proofs.Steps.{drop_step}
+use Rattle.seq_tree.proofs.LoopSteps.{drop_step}
 use Rattle.ods_tree.specs.Trees.{design_of}
 use Rattle.ods_costs.specs.Costed.{dear_parts}
 use Rattle.ods_index.specs.Judging.{Tells, head_of}

@@ -1,6 +1,6 @@
 use Rattle.std.proofs.Common.{rules, ◌≡◌, ◌∷◌, ◌+◌, ◌++◌, Bor, Err, List, flat_map, map, drop, ap, sym, subst, ◌∙◌}
 use Rattle.std.specs.Prelude.{filter_map}
-use Rattle.seq_cost.proofs.Steps.{drop_step}
+use Rattle.seq_tree.proofs.LoopSteps.{drop_step}
 use Rattle.ods_tree.specs.Designs.{Object}
 use Rattle.ods_tree.specs.Trees.{design_of}
 use Rattle.ods_tree.specs.declared.design.Node.{Node}

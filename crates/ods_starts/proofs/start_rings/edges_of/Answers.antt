@@ -1,7 +1,7 @@
 use Rattle.std.proofs.Common.{◌≡◌, ◌∷◌, ◌+◌, ◌||◌, Bor, List, map, drop, ap, sym, ◌∙◌}
 use Rattle.std.proofs.Math.Bool.{or_assoc}
 use Rattle.std.specs.List.{list_any}
-use Rattle.seq_cost.proofs.Steps.{drop_step}
+use Rattle.seq_tree.proofs.LoopSteps.{drop_step}
 use Rattle.ods_tree.specs.Trees.{design_of}
 use Rattle.ods_tree.specs.declared.design.Node.{Node}
 use Rattle.ods_index.specs.Nodes.{node_object}

@@ -7,7 +7,7 @@ use Rattle.seq_tree.specs.Expressions.{Expression}
 use Rattle.seq_tree.specs.Statements.{Statements}
 use Rattle.seq_tree.specs.Variables.{Variables, write, reads, stored}
 use Rattle.seq_tree.specs.Values.{value, holds}
-use Rattle.seq_tree.specs.Runs.{Action, Path, silent, joined, Called, RunBlock, Run, BeginsScript}
+use Rattle.seq_tree.specs.Runs.{Path, silent, joined}
 use Rattle.seq_tree.specs.Runs as runs
 use Rattle.seq_tree.specs.declared.tree.Datum.{Datum}
 use Rattle.machine.specs.Systems.{CallTarget, Plain, Protected, Request, Unknown, callee}
@@ -15,7 +15,7 @@ use Rattle.machine.specs.Pieces.{Piece, Idle, Store, Leaving, Calling, Working, 
 use Rattle.machine.specs.Pieces.{Opening, Requested, Finishing, pieces, branch_pieces, after_loop}
 use Rattle.machine.specs.Deeds.{Act, Silent, Ask, Keep, Open, done, called, deed}
 use Rattle.guarantee.specs.Events.{Deed, Leave, Request, Print}
-use Rattle.guarantee.specs.Steps.{closes, depth_after, inside, shown, before_leave}
+use Rattle.guarantee.specs.Steps.{shown}
 use Rattle.guarantee.specs.Steps as steps
 use Rattle.activations.proofs.Courses.{Course, IsApt, IsTicks, IsFitCallee, FitPieces}
 use Rattle.activations.proofs.Ways.{Within, outer, least, most, Claim, Either, Beneath, Ahead}

@@ -8,7 +8,7 @@ use Rattle.seq_tree.specs.Operations.{Operation, out_names}
 use Rattle.seq_tree.specs.Variables.{Variables, reads, stored, opened, targets}
 use Rattle.seq_tree.specs.Values.{holds, handed}
 use Rattle.seq_tree.specs.Dearest.{turn_count}
-use Rattle.seq_tree.specs.Runs.{Action, Path, silent, joined, turned, Followed, Turns, Called, Chosen, RunBlock, RunBranch, request_value}
+use Rattle.seq_tree.specs.Runs.{Path, silent, joined, turned, Followed, Turns, Called, Chosen, RunBlock, RunBranch, request_value}
 use Rattle.seq_tree.specs.Runs as runs
 use Rattle.seq_tree.specs.declared.tree.OpName.{OpName}
 use Rattle.machine.specs.Systems.{Plain, Request, callee}

@@ -1,4 +1,3 @@
-ghost use Rattle.std.specs.Prelude.{◌≡◌};
 ghost use Rattle.seq_tree.specs.Layout.{layout, line_text};
 ghost use Rattle.ada_tree.specs.Spelling.{constant_line, hrt_lines};
 ghost use Rattle.seq_print.specs.Printing.{Writes};

@@ -1,4 +1,4 @@
-ghost use Rattle.std.specs.Prelude.{◌≡◌, codes, map};
+ghost use Rattle.std.specs.Prelude.{codes, map};
 ghost use Rattle.seq_tree.specs.Layout.{layout, line_text, tokens_text};
 ghost use Rattle.seq_tree.specs.Trees.{operation_of, signature_of};
 ghost use Rattle.ada_tree.specs.Spelling.{datum_line, declaration_line, param_tokens, renaming_line};

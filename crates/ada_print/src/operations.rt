@@ -1,4 +1,4 @@
-ghost use Rattle.std.specs.Prelude.{◌≡◌, ◌≤◌, map, flat_map};
+ghost use Rattle.std.specs.Prelude.{◌≤◌, map, flat_map};
 ghost use Rattle.seq_tree.specs.Layout.{layout};
 ghost use Rattle.seq_tree.specs.Trees.{operation_of};
 ghost use Rattle.ada_tree.specs.Spelling.{body_lines};

@@ -1,4 +1,3 @@
-ghost use Rattle.std.specs.Prelude.{◌≡◌};
 ghost use Rattle.seq_tree.specs.Layout.{layout};
 ghost use Rattle.ada_tree.specs.Spelling.{program_lines};
 ghost use Rattle.ada_tree.specs.Trees.{program_of};

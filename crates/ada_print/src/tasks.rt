@@ -1,4 +1,3 @@
-ghost use Rattle.std.specs.Prelude.{◌≡◌};
 ghost use Rattle.seq_tree.specs.Layout.{layout};
 ghost use Rattle.seq_tree.specs.Trees.{block_of};
 ghost use Rattle.ada_tree.specs.Programs.{Cyclic};

@@ -1,10 +1,9 @@
 -- A loop that adds what each item gives, or that asks whether something holds of an item: one step of it.
-use Rattle.std.proofs.Common.{◌≡◌, ℕ, ◌+◌, ◌<◌, Bool, true, false, cond, ◌||◌, List, [], ◌∷◌, ◌++◌, length, take, drop, map, filter, Option}
-use Rattle.std.proofs.Common.{Some, None, get_or, refl, ap, sym, ◌∙◌, append_assoc}
+use Rattle.std.proofs.Common.{◌≡◌, ℕ, ◌+◌, ◌<◌, Bool, true, false, ◌||◌, List, [], ◌∷◌, ◌++◌, length, take, drop, map}
+use Rattle.std.proofs.Common.{get_or, ap, sym, ◌∙◌, append_assoc}
 use Rattle.std.proofs.lemmas.List.{map-append}
 use Rattle.std.proofs.lemmas.List.Folds.{list_any-append}
-use Rattle.std.specs.Prelude.{filter_map}
-use Rattle.std.specs.List.{cons_option, list_any}
+use Rattle.std.specs.List.{list_any}
 use Rattle.seq_tree.proofs.LoopSteps.{drop_step, take_step}
 use Rattle.ada_rules.proofs.NameSteps.{or_false, or_turn}
 

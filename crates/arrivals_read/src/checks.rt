@@ -1,4 +1,4 @@
-ghost use Rattle.std.specs.Prelude.{◌≡◌, ◌≤◌, ℕ, List, None, IfOk, OnOk, [], option_map};
+ghost use Rattle.std.specs.Prelude.{◌≡◌, ◌≤◌, List, None, IfOk, OnOk, [], option_map};
 ghost use Rattle.seq_tree.specs.Trees.{signature_of};
 ghost use Rattle.ada_tree.specs.Programs.{is_task};
 ghost use Rattle.ada_tree.specs.Trees.{form_of, program_of, unit_of};

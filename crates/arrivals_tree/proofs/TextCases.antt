@@ -1,20 +1,16 @@
 -- The text of arrivals, what it says of a program, and the first of its items in which something is wrong.
-use Rattle.std.specs.Prelude.{◌≡◌, ℕ, true, List, [], ◌∷◌, map, length, Option, Some, None, codes}
+use Rattle.std.specs.Prelude.{◌≡◌, ℕ, true, List, [], ◌∷◌, map, Option, Some, None, codes}
 use Rattle.std.proofs.Common.{refl}
 use Prim.Native.String.{String}
 use Rattle.seq_tree.specs.Statements.{End}
-use Rattle.seq_tree.specs.declared.token.Token.{Token}
 use Rattle.seq_tree.specs.declared.token.Token.TheVariants.{Word, Number, Sign}
 use Rattle.seq_tree.specs.declared.token.Mark.TheVariants.{Comma, Semicolon}
 use Rattle.seq_tree.specs.declared.tree.Mode.TheVariants.{In}
-use Rattle.ada_tree.specs.Programs.{Unit, Program, Shared, Cyclic, Sporadic}
-use Rattle.arrivals_tree.specs.declared.arrivals.Arrival.{Arrival}
-use Rattle.arrivals_tree.specs.Arriving.{Durations}
+use Rattle.ada_tree.specs.Programs.{Program, Shared, Cyclic, Sporadic}
 use Rattle.arrivals_tree.specs.Acceptance.{ArrivalFault, Falling, Unknown, Unfit, Early, first_fault}
 use Rattle.arrivals_tree.specs.Arrived.{horizon_limit}
-use Rattle.arrivals_tree.specs.ArrivalTexts.{ArrivalText, WorkText, AtText, arrival_tokens, work_tokens, request_tokens, unit_place, work_of}
-use Rattle.arrivals_tree.specs.ArrivalTexts.{request_of, said}
-use Rattle.arrivals_tree.specs.FirstWrong.{Wrong, wrong_at, work_fault, wrong_work, wrong_request, first_wrong}
+use Rattle.arrivals_tree.specs.ArrivalTexts.{ArrivalText, WorkText, AtText, arrival_tokens, unit_place, work_of, request_of, said}
+use Rattle.arrivals_tree.specs.FirstWrong.{Wrong, wrong_at, wrong_work, wrong_request, first_wrong}
 
 -- a thread that is requested from outside with this jitter, a cyclic thread and a protected object
 abbrev program : ℕ → Program

@@ -12,11 +12,11 @@ use Rattle.ada_tree.specs.Bodies.{op_body, bodies, scope}
 use Rattle.ada_tree.specs.Uses.{is_confined}
 use Rattle.ada_tree.specs.Rules.{MeetsRules}
 use Rattle.arrivals_tree.specs.Arriving.{Arrivals}
-use Rattle.ods_tree.specs.Services.{Service, Sort, service_named}
+use Rattle.ods_tree.specs.Services.{Service, service_named}
 use Rattle.ods_tree.specs.Services as sort
 use Rattle.analysis.specs.Execution.{called_cost}
 use Rattle.analysis.specs.Sections as parts
-use Rattle.analysis.specs.Sections.{live_statement, live_calls, live_branches, section, sections_by, service_sections, sections_within, sections}
+use Rattle.analysis.specs.Sections.{live_calls, section, sections_within, sections}
 use Rattle.guarantee.specs.ResponseLaw.{ranked, ceiling_named, program_services, task_sections}
 use Rattle.machine.specs.Systems.{System, TaskUnit, CallTarget, Plain, Protected, Request, Unknown, system, callee}
 use Rattle.machine.specs.States.{Object, Control}

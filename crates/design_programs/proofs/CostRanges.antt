@@ -11,7 +11,7 @@ use Rattle.seq_tree.specs.Statements.{Else, When}
 use Rattle.seq_tree.specs.Dearest.{Weights, turn_count, dearest_statement, dearest, dearest_branch}
 use Rattle.seq_tree.specs.declared.tree.Costs.{Costs}
 use Rattle.seq_tree.specs.declared.tree.OpName.{OpName}
-use Rattle.ods_tree.specs.Flats.{Library, Guarded, Thread, Flat, period_of}
+use Rattle.ods_tree.specs.Flats.{Library, Guarded, Thread, Flat}
 use Rattle.ods_tree.specs.Flats as timing
 use Rattle.ods_tree.specs.Services.{Service, Sort, plain_services, protected_services, requested, request_of, requests, is_service}
 use Rattle.ods_tree.specs.Services.{service_named, flat_services}

@@ -16,7 +16,7 @@ use Rattle.ods_tree.specs.Designs.{Provided, Body, Object, Design}
 use Rattle.ods_tree.specs.Walk.{Standing, terminals}
 use Rattle.ods_tree.specs.Attributes.{attribute, attribute_or}
 use Rattle.ods_tree.specs.declared.design.AttrKey.TheVariants.{Period, Offset, Separation, ArrivalJitter}
-use Rattle.ods_tree.specs.Flats.{Library, Guarded, Timing, Thread, Flat}
+use Rattle.ods_tree.specs.Flats.{Guarded, Timing, Thread}
 use Rattle.ods_tree.specs.Flats as timing
 use Rattle.ods_tree.specs.Flattening.{body_named, operation_by, operations, request_op, is_protected, guarded, threads, flat}
 use Rattle.ods_tree.specs.Services.{Sort, Plain, Protected, Request, Service, flat_services, is_service}

@@ -19,7 +19,7 @@ use Rattle.design_rules.specs.Clashes.{Role, Member, Parameter, Local, Loop, Men
 use Rattle.design_rules.specs.Rules.{AreMet}
 use Rattle.ada_tree.specs.Programs.{Unit, Program}
 use Rattle.ada_tree.specs.Bodies.{Body, bodies, data_of, heads}
-use Rattle.ada_tree.specs.Naming.{block_loops, block_clashes, own_names, inner_names, body_clashes, is_there, calls_of, breaks_naming}
+use Rattle.ada_tree.specs.Naming.{block_loops, block_clashes, own_names, inner_names, body_clashes, breaks_naming}
 use Rattle.ada_tree.specs.Naming as naming
 use Rattle.analysis.specs.Ceilings.{Ranks}
 use Rattle.guarantee.specs.Programs.{passive_unit, shared_unit, thread_unit, program_for}
@@ -32,7 +32,7 @@ use Rattle.design_programs.proofs.InnerNames.{IsInner, member-inner, parameter-i
 use Rattle.design_programs.proofs.LoopNames.{Covered, loops-free, loops-mentioned}
 use Rattle.design_programs.proofs.Offers.{Fitting}
 use Rattle.design_programs.proofs.CallsThere.{program-calls-there}
-use Rattle.design_programs.proofs.ObjectMentions.{BodyFrom, IsMember, OfOp, OfVar, op-member, var-member, member-inside, BodyNames, vars-differ}
+use Rattle.design_programs.proofs.ObjectMentions.{IsMember, OfOp, OfVar, op-member, var-member, member-inside, BodyNames, vars-differ}
 use Rattle.design_programs.proofs.ObjectMentions.{op-var-apart, body-names, member-param-apart, member-local-apart, param-local-apart}
 use Rattle.design_programs.proofs.ObjectMentions as part
 use Rattle.design_programs.proofs.UnitObjects.{UnitObject, unit-object}

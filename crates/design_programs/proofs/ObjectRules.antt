@@ -13,8 +13,7 @@ use Rattle.ods_tree.specs.Flattening.{request_op}
 use Rattle.ods_tree.specs.Ticks.{stated_priorities}
 use Rattle.ods_tree.specs.Sound.{is_within, costs_of}
 use Rattle.design_rules.specs.Broken.{Broken, V02, V04, V05, V08, V10, V11, V12, V13, V15Threads, V15Objects, V16}
-use Rattle.design_rules.specs.Rules.{Clash, KeptName, Include, Operation, Fitting, Stranger, Absence, Use, Source, Number, IdleActive, Size}
-use Rattle.design_rules.specs.Rules.{Spacing, AreMet, IsListed}
+use Rattle.design_rules.specs.Rules.{Clash, KeptName, Operation, Fitting, Use, Source, Number, IdleActive, Size, Spacing, AreMet, IsListed}
 use Rattle.design_rules.specs.Rules as rules
 use Rattle.design_rules.specs.Clashes.{clashes}
 use Rattle.design_rules.specs.Words.{kept_names, object_names}

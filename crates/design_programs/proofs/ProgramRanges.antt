@@ -15,7 +15,7 @@ use Rattle.ods_tree.specs.Flats as timing
 use Rattle.ods_tree.specs.Flattening.{operations, guarded, threads, flat, request_op}
 use Rattle.ods_tree.specs.Sound.{is_within, is_below, is_in_range, costs_of, is_timed}
 use Rattle.ada_tree.specs.Programs.{Unit}
-use Rattle.ada_tree.specs.Bodies.{op_body, bodies, heads}
+use Rattle.ada_tree.specs.Bodies.{op_body, bodies}
 use Rattle.ada_tree.specs.Bodies as ada
 use Rattle.ada_tree.specs.Ranges.{is_outside, jitter_breaks, breaks_ranges, costs_break}
 use Rattle.analysis.specs.Ceilings.{Ranks}

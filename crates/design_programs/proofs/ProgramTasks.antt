@@ -7,7 +7,7 @@ use Rattle.std.proofs.Common.{◌∙◌, ap, arith, zero-le}
 use Rattle.std.proofs.lemmas.List.Elements.{filter_map-append}
 use Rattle.seq_tree.specs.Names.{Name, same_name}
 use Rattle.seq_tree.specs.Lists.{Each}
-use Rattle.ods_tree.specs.Flats.{Library, Guarded, Thread, Flat, period_of}
+use Rattle.ods_tree.specs.Flats.{Library, Guarded, Thread, Flat}
 use Rattle.ods_tree.specs.Flats as timing
 use Rattle.ods_tree.specs.Services.{flat_services, requested, request_of, services}
 use Rattle.ada_tree.specs.Programs.{Unit}

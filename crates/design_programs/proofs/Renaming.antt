@@ -12,7 +12,7 @@ use Rattle.seq_tree.specs.Statements.{Else, When}
 use Rattle.seq_tree.specs.Operations.{Offer, is_out}
 use Rattle.seq_tree.specs.Calls.{statement_calls, block_calls, branch_calls, statement_works, block_works, branch_works}
 use Rattle.seq_tree.specs.Faults.{Scope, BodyFault, Expected, word, condition, words, conditions, within_loop, or_else, fault_if, has_unknown}
-use Rattle.seq_tree.specs.Faults.{expressions_fault, out_actuals, actuals_fault, is_fixed_actual, offer_of, call_fault, statement_fault}
+use Rattle.seq_tree.specs.Faults.{expressions_fault, out_actuals, actuals_fault, is_fixed_actual, call_fault, statement_fault}
 use Rattle.seq_tree.specs.Faults.{block_fault, branches_fault}
 use Rattle.seq_tree.specs.Faults as fault
 use Rattle.seq_tree.specs.Sorts.{has_sort}

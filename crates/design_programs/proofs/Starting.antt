@@ -19,7 +19,7 @@ use Rattle.ods_tree.specs.Flattening.{operations, is_protected, flat}
 use Rattle.ods_tree.specs.Services.{Plain, Protected, Request, Service, flat_services, is_service, service_named}
 use Rattle.ods_tree.specs.declared.design.Kind.{Kind}
 use Rattle.ods_tree.specs.declared.design.Kind.TheVariants as kind
-use Rattle.analysis.specs.Starts.{calls_by, service_calls, starts_by, service_starts, can_request}
+use Rattle.analysis.specs.Starts.{calls_by, service_calls, can_request}
 use Rattle.analysis.specs.Starts as flatly
 use Rattle.design_rules.specs.Lookups.{requires, is_sporadic}
 use Rattle.design_rules.specs.Fittings.{wanted_bodies, body_count}

@@ -7,7 +7,7 @@ use Rattle.seq_tree.specs.Operations.{Signature, Operation}
 use Rattle.ods_tree.specs.Designs.{Provided, Body, Design}
 use Rattle.ods_tree.specs.Walk.{Standing, terminals}
 use Rattle.ods_tree.specs.Links.{resolved}
-use Rattle.ods_tree.specs.Flats.{Library, Guarded, Timing, Thread}
+use Rattle.ods_tree.specs.Flats.{Timing, Thread}
 use Rattle.ods_tree.specs.Flats as timing
 use Rattle.ods_tree.specs.Flattening.{operation_by, body_named, operations, request_op, thread_at, guarded, threads, flat}
 use Rattle.ods_tree.specs.declared.design.Kind.{Kind}

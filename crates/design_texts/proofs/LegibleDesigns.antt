@@ -1,8 +1,8 @@
 -- The program of a design that meets the rules can stand in a text where the names and numbers of its objects can.
-use Rattle.std.proofs.Common.{◌≡◌, ℕ, ◌+◌, ◌≤◌, ◌<◌, Bool, true, false, ◌&&◌, List, [], ◌∷◌, map, zip, length, nat_lt, nat_le, Option, Some}
-use Rattle.std.proofs.Common.{None, unwrap_or, is_some, refl, sym, ap, subst, ◌∙◌, inl, inr, arith}
+use Rattle.std.proofs.Common.{◌≡◌, ℕ, ◌≤◌, true, false, List, [], ◌∷◌, zip, nat_le, Option, Some}
+use Rattle.std.proofs.Common.{None, unwrap_or, refl, sym, ap, subst, ◌∙◌, inl, inr, arith}
 use Rattle.std.specs.List.{list_all}
-use Rattle.std.proofs.lemmas.Bool.{and_parts, and_from, leb-true}
+use Rattle.std.proofs.lemmas.Bool.{and_parts, leb-true}
 use Rattle.seq_tree.specs.Names.{same_name}
 use Rattle.seq_tree.specs.Statements.{Statements}
 use Rattle.seq_tree.specs.Operations.{Signature, Operation}
@@ -10,18 +10,18 @@ use Rattle.seq_tree.specs.Calls.{block_calls}
 use Rattle.seq_tree.specs.Spelling.{block_lines}
 use Rattle.seq_tree.specs.declared.tree.Costs.{Costs}
 use Rattle.seq_tree.specs.declared.tree.OpName.{OpName}
-use Rattle.ods_tree.specs.Designs.{Provided, Body, Object, Design}
+use Rattle.ods_tree.specs.Designs.{Provided, Object, Design}
 use Rattle.ods_tree.specs.Walk.{Standing, objects, terminals}
 use Rattle.ods_tree.specs.Links.{resolve, resolved}
-use Rattle.ods_tree.specs.Flats.{Library, Guarded, Timing, Cyclic, Sporadic, Thread, period_of}
-use Rattle.ods_tree.specs.Flattening.{operations, request_op, libraries, guarded, threads, flat, thread_at}
+use Rattle.ods_tree.specs.Flats.{Library, Guarded, Timing, Cyclic, Sporadic, Thread}
+use Rattle.ods_tree.specs.Flattening.{operations, request_op, guarded, threads, flat}
 use Rattle.ods_tree.specs.Sound.{is_within, is_below, is_timed, is_in_range, costs_of}
 use Rattle.ada_tree.specs.Programs.{Unit}
 use Rattle.ada_tree.specs.Ranges.{is_outside}
 use Rattle.ada_print.specs.Writable.{is_word, is_number, is_writable}
 use Rattle.analysis.specs.Ceilings.{Ranks}
 use Rattle.analysis.specs.Sound.{IsSound}
-use Rattle.guarantee.specs.Programs.{thread_unit, thread_form, program_for}
+use Rattle.guarantee.specs.Programs.{thread_form, program_for}
 use Rattle.design_rules.specs.Rules.{AreMet}
 use Rattle.design_programs.proofs.Lists.{all-in}
 use Rattle.design_programs.proofs.CostRanges.{within-true}

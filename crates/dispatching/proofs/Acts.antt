@@ -1,6 +1,6 @@
 -- What the acts of a running task that is apart from the ready list do to the order of dispatch.
 -- An entry and an exit give it a place by its new active priority; a request may release a task, which goes behind those of its priority.
-use Rattle.std.specs.Prelude.{◌≡◌, ◌≢◌, ℕ, Bool, true, false, ◌&&◌, if◌then◌else◌, nat_lt, List, [], ◌∷◌, Option, Some, slice_get, ℤ, refl}
+use Rattle.std.specs.Prelude.{◌≡◌, ◌≢◌, ℕ, true, false, ◌&&◌, if◌then◌else◌, nat_lt, List, [], ◌∷◌, Some, slice_get, ℤ, refl}
 use Rattle.std.proofs.Common.{sym, ◌∙◌, ap, subst}
 use Rattle.std.proofs.lemmas.Option.{same_Some}
 use Rattle.seq_tree.specs.Lists.{change}
@@ -11,12 +11,11 @@ use Rattle.trace_tree.specs.declared.event.Event.TheVariants as event
 use Rattle.link_queue.specs.Queues.{Entry, at_head, at_tail}
 use Rattle.machine.specs.Systems.{System}
 use Rattle.machine.specs.Pieces.{Piece}
-use Rattle.machine.specs.States.{State, Task, Resource, Held, Ready, Readiness, Waiting, Asleep}
+use Rattle.machine.specs.States.{State, Task, Resource, Held, Ready, Waiting}
 use Rattle.machine.specs.Dispatch.{put_first, put_last}
-use Rattle.machine.specs.Releases.{Next, going, is_waiting, release, release_task, released, serve, serve_task}
-use Rattle.machine.specs.Effects.{ceiling_of, entered_at, entry, exit, go, inside_now, keep, lent, open_gate, outside_by, outside_now, stopped_at}
+use Rattle.machine.specs.Releases.{going, is_waiting, release, release_task, released, serve, serve_task}
+use Rattle.machine.specs.Effects.{ceiling_of, entered_at, entry, inside_now, outside_by, outside_now, stopped_at}
 use Rattle.dispatching.specs.Queueing.{AreQueued, IsReadyAt}
-use Rattle.dispatching.proofs.Places.{get-changed, get-other}
 use Rattle.dispatching.proofs.Queued.{queued-kept}
 use Rattle.dispatching.proofs.Running.{running-here, running-moved, running-released}
 

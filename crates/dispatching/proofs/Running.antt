@@ -6,7 +6,7 @@ use Rattle.std.proofs.lemmas.Option.{same_Some}
 use Rattle.std.proofs.lemmas.Bool.{cases_eq}
 use Rattle.std.proofs.lemmas.Bool.Decides.{nat_tests}
 use Rattle.seq_tree.specs.Lists.{change}
-use Rattle.link_queue.specs.Queues.{Entry, Each, IsApart, IsOrdered, at_head, at_tail, outranks, put_behind, stays_before}
+use Rattle.link_queue.specs.Queues.{Entry, Each, IsApart, IsOrdered, at_head, at_tail, outranks, put_behind}
 use Rattle.link_queue.proofs.Lists.{each-taken}
 use Rattle.machine.specs.States.{Task, Ready}
 use Rattle.machine.specs.Dispatch.{put_first, put_last}

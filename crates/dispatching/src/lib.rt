@@ -19,7 +19,6 @@ ghost use Rattle.seq_tree.specs.Lists.{first_where};
 ghost use Rattle.link_queue.specs.Queues.{Entry, due};
 ghost use Rattle.machine.specs.Dispatch.{dispatched};
 ghost use Rattle.machine.specs.Meanings.{Rest, run};
-ghost use Rattle.machine.specs.Releases.{Next};
 ghost use Rattle.machine.specs.States.{State, Task, Use};
 ghost use Rattle.machine.specs.Steps.{is_due};
 ghost use Rattle.machine.specs.Systems.{System};

@@ -3,7 +3,7 @@ ghost use Rattle.std.specs.Prelude.{false, position};
 ghost use Rattle.std.specs.Str.{bytes_eq};
 ghost use Rattle.hood_io.specs.Causes.{raised};
 ghost use Rattle.hood_io.specs.Shelves.{after_fetch, counted, IsFront, Says};
-ghost use Rattle.hood_io.specs.MemShelf.{file_of, files_of, log_of, fails_of, faults_of, told_of, fails_next, FailsAsPlanned, Copies};
+ghost use Rattle.hood_io.specs.MemShelf.{files_of, log_of, fails_of, faults_of, told_of, fails_next, FailsAsPlanned, Copies};
 
 use crate::memory::NoMemory;
 use crate::shelf::{Fetched, Shelf};

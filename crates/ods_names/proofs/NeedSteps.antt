@@ -1,8 +1,7 @@
 -- What is told first of the operations that objects require: of one object, then of those inside it, one child at a time.
-use Rattle.std.proofs.Common.{◌≡◌, ℕ, ◌+◌, ◌<◌, suc, Bool, true, false, cond, List, [], ◌∷◌, ◌++◌, map, filter, find, drop, length, flat_map}
-use Rattle.std.proofs.Common.{Option, Some, None, option_map, Err, refl, ap, sym, subst, ◌∙◌, add-one}
+use Rattle.std.proofs.Common.{◌≡◌, ℕ, ◌+◌, ◌<◌, Bool, true, false, cond, List, [], ◌∷◌, ◌++◌, map, filter, find, drop, length, flat_map}
+use Rattle.std.proofs.Common.{Option, Some, None, option_map, Err, refl, ap, sym, subst, ◌∙◌}
 use Rattle.std.proofs.Math.ListN.{get_or}
-use Rattle.std.proofs.Math.Seq.{drop-cons}
 use Rattle.std.proofs.lemmas.Grind.{flat_map-append}
 use Rattle.seq_tree.proofs.LoopSteps.{drop_step}
 use Rattle.ods_tree.specs.Designs.{Object, Tree}

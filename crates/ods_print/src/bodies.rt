@@ -1,4 +1,4 @@
-ghost use Rattle.std.specs.Prelude.{◌≡◌, ◌*◌, ◌++◌, flat_map, map, min, option_map, replicate};
+ghost use Rattle.std.specs.Prelude.{◌*◌, ◌++◌, flat_map, map, min, option_map, replicate};
 ghost use Rattle.seq_tree.specs.Trees.{block_of};
 ghost use Rattle.seq_print.specs.Printing.{Writes};
 ghost use Rattle.ods_tree.specs.Spelling.{body_lines, thread_lines};

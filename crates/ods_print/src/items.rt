@@ -1,4 +1,4 @@
-ghost use Rattle.std.specs.Prelude.{◌≡◌, List};
+ghost use Rattle.std.specs.Prelude.{List};
 ghost use Rattle.seq_print.specs.Printing.{Writes};
 ghost use Rattle.ods_tree.specs.Layout.{design_line_text, parts_text};
 ghost use Rattle.ods_tree.specs.Spelling.{Part, attribute_line, datum_line, line, link_line, needed_line, param_parts, provided_line};

@@ -1,4 +1,4 @@
-ghost use Rattle.std.specs.Prelude.{◌≡◌, map};
+ghost use Rattle.std.specs.Prelude.{map};
 ghost use Rattle.seq_print.specs.Printing.{Writes};
 ghost use Rattle.ods_tree.specs.Spelling.{back_lines, front_lines, tree_lines, trees_lines};
 ghost use Rattle.ods_tree.specs.Trees.{tree_of, trees_of};

@@ -1,5 +1,5 @@
 -- Reading the lists of an object, one item after another.
-use Rattle.std.proofs.Common.{◌≡◌, ℕ, Bool, List, [], ◌∷◌, ◌++◌, codes, Option, Ok, Err, refl}
+use Rattle.std.proofs.Common.{◌≡◌, Bool, List, [], ◌∷◌, ◌++◌, codes, Option, Ok, Err, refl}
 use Rattle.grammar.specs.Reading.{Read, ◌>>=◌, pure_at, many_at}
 use Rattle.seq_tree.specs.declared.tree.OpName.{OpName}
 use Rattle.seq_tree.specs.declared.token.Token.{Token}

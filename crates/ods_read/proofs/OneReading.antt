@@ -6,13 +6,10 @@ use Rattle.seq_tree.specs.declared.token.Spanned.{Spanned}
 use Rattle.seq_tree.specs.declared.text_fault.TextFault.{TextFault}
 use Rattle.seq_tree.specs.declared.text_fault.TextFault.TheVariants as text
 use Rattle.seq_read.proofs.TextFaultLaws.{one-text-fault}
-use Rattle.token_read.specs.Words.{bare}
-use Rattle.grammar.specs.Reading.{whole_at}
 use Rattle.ods_tree.specs.Designs.{Design}
 use Rattle.ods_tree.specs.Reading.{Reads}
 use Rattle.ods_tree.specs.Spelling.{design_tokens}
 use Rattle.ods_read.specs.Answers.{AnyDesign, Keeps, Faults}
-use Rattle.ods_read.specs.DesignReaders.{design_at}
 use Rattle.ods_read.proofs.ReadingLaws.{reads-only, reads-unfaulty}
 
 -- the tokens of bytes that have some

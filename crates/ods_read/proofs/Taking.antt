@@ -1,11 +1,11 @@
 -- Each item of a list in a design takes tokens, so that a list has an end.
 use Rattle.std.proofs.Common.{ℕ, zero, suc, Bool, List, [], ◌∷◌, Option, Some, None, codes}
-use Rattle.grammar.specs.Reading.{Read, then_at, pure_at, choose_at, many_at, deep_at}
+use Rattle.grammar.specs.Reading.{Read}
 use Rattle.seq_tree.specs.Names.{Name}
 use Rattle.seq_tree.specs.declared.token.Token.{Token}
 use Rattle.seq_tree.specs.declared.token.Token.TheVariants.{Word, Sign}
 use Rattle.seq_tree.specs.declared.token.Mark.TheVariants.{LeftParen, RightParen, Semicolon, Colon, Dot, Becomes, Equal}
-use Rattle.ods_tree.specs.Designs.{Tree, Node, Empty}
+use Rattle.ods_tree.specs.Designs.{Node, Empty}
 use Rattle.ods_tree.specs.Trees.{trees_of}
 use Rattle.ods_tree.specs.Words.{is_design_name}
 use Rattle.token_read.specs.Readers.{phrase_at, next_is}
@@ -13,7 +13,7 @@ use Rattle.seq_read.specs.Statements.{BlockReader, block_at, statement_at}
 use Rattle.seq_read.proofs.Takes.{Takes, takes-any, takes-token, takes-pure, takes-deep, takes-then, takes-choose, takes-many}
 use Rattle.seq_read.proofs.TokenTakes.{takes-fixed, any-fixed, any-word, takes-number, takes-name, closes, takes-block, takes-statement}
 use Rattle.seq_read.specs.Parts.{sees_by, named_at, mode_named, end_tokens}
-use Rattle.ods_read.specs.Readers.{next_by, kind_named, constraint_named, key_named, unit_named, design_name_at, next_is_design_name, end_at}
+use Rattle.ods_read.specs.Readers.{next_by, kind_named, constraint_named, key_named, unit_named, design_name_at, next_is_design_name}
 use Rattle.ods_read.specs.Readers.{some_at, section_at, op_name_at, next_is_unit, unit_at, attribute_at, attribute_list_at, attributes_at}
 use Rattle.ods_read.specs.Readers.{param_at, more_param_at, param_list_at, enclosed_at, params_at, constraint_at, provided_at, provided_list_at}
 use Rattle.ods_read.specs.Readers.{provides_at, needed_at, needed_list_at, requires_at, datum_at, locals_at, datum_list_at, data_at, body_at}

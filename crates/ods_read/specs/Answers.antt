@@ -1,15 +1,11 @@
 -- What the reader of a design answers, by cases. A place is the line and the column of a token, or of the end of the text.
 -- A text that is too long is told first, then lexical faults, then those of syntax and of depth, whichever stands earlier.
-use Rattle.std.specs.Prelude.{◌≡◌, ℕ, ◌-◌, ◌<◌, ◌≤◌, List, [], ◌∷◌, ◌++◌, length, codes, Result, Ok, Err, ◌⊎◌, ⊤}
-use Rattle.seq_tree.specs.Reach.{Fault, IsFault, Begins}
-use Rattle.seq_tree.specs.Reach as reach
+use Rattle.std.specs.Prelude.{◌≡◌, ℕ, List, [], ◌∷◌, ◌++◌, codes, Result, Ok, Err, ◌⊎◌, ⊤}
+use Rattle.seq_tree.specs.Reach.{Fault, Begins}
 use Rattle.seq_tree.specs.Proper.{within_limits, without_limits}
-use Rattle.seq_tree.specs.Lexis.{tokens, Misread, Stray, Great}
-use Rattle.seq_tree.specs.Lexis as lexis
 use Rattle.seq_tree.specs.declared.token.Token.{Token}
 use Rattle.seq_tree.specs.declared.token.Token.TheVariants.{Word}
 use Rattle.seq_tree.specs.declared.token.Place.{Place}
-use Rattle.seq_tree.specs.declared.token.Spanned.{Spanned}
 use Rattle.seq_tree.specs.declared.text_fault.TextFault.{TextFault}
 use Rattle.seq_tree.specs.declared.text_fault.TextFault.TheVariants as fault
 use Rattle.ods_tree.specs.Designs.{Design}
@@ -19,7 +15,6 @@ use Rattle.ods_tree.specs.Proper.{IsProperDesign}
 use Rattle.ods_tree.specs.Spelling.{design_tokens}
 use Rattle.ods_tree.specs.Reading.{Reads}
 use Rattle.ods_tree.specs.declared.design.Design as designs
-use Rattle.token_read.specs.Words.{bare}
 use Rattle.token_read.specs.declared.fault.LexFault.{LexFault}
 use Rattle.token_read.specs.declared.fault.LexFault.TheVariants as lex
 use Rattle.seq_read.specs.TextFaults as texts

@@ -1,4 +1,4 @@
-ghost use Rattle.std.specs.Prelude.{◌≡◌, codes, map, option_map};
+ghost use Rattle.std.specs.Prelude.{map, option_map};
 ghost use Rattle.seq_tree.specs.Trees.{block_of};
 ghost use Rattle.ods_tree.specs.Trees.{body_of};
 ghost use Rattle.ods_tree.specs.Words.{is_design_name};

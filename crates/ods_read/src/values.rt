@@ -1,4 +1,4 @@
-ghost use Rattle.std.specs.Prelude.{◌≡◌, codes};
+ghost use Rattle.std.specs.Prelude.{◌≡◌};
 ghost use Rattle.grammar.specs.Reading.{first};
 ghost use Rattle.token_read.specs.Ahead.{ahead};
 ghost use Rattle.seq_read.specs.Halts.{Gives};

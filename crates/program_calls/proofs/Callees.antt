@@ -7,10 +7,10 @@ use Rattle.seq_tree.specs.Lists.{first_from}
 use Rattle.seq_tree.specs.Names.{Name, same_name}
 use Rattle.seq_tree.specs.Operations.{Operation}
 use Rattle.ada_tree.specs.Programs.{Form, Unit, Program, Passive, Shared, Cyclic, Sporadic}
-use Rattle.ods_tree.specs.Services.{Service, Sort, is_service, callee_of, callee_by, plain_services, protected_services, request_service}
+use Rattle.ods_tree.specs.Services.{Service, Sort, is_service, plain_services, protected_services, request_service}
 use Rattle.ods_tree.specs.Services.{requested, request_of, service_named}
 use Rattle.ods_tree.specs.Services as services
-use Rattle.guarantee.specs.Software.{Software, program_software, leads_to, all_services, task_by, guarded_by}
+use Rattle.guarantee.specs.Software.{program_software, all_services, task_by, guarded_by}
 use Rattle.guarantee.specs.Software as software
 use Rattle.program_calls.proofs.UnitNames.{AreOthers, IsUnit, find_others, find_unit}
 use Rattle.program_calls.proofs.Lists.{IsIn, in-some, in-parts}

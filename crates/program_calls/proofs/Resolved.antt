@@ -12,13 +12,12 @@ use Rattle.seq_tree.specs.declared.tree.Datum.{Datum}
 use Rattle.ada_tree.specs.Programs.{Form, Unit, Program, Passive, Shared, Cyclic, Sporadic}
 use Rattle.ada_tree.specs.Bodies.{heads, offers}
 use Rattle.arrivals_tree.specs.Arriving.{Arrivals, durations}
-use Rattle.ods_tree.specs.Services.{Service, is_service, callee_of, service_named}
+use Rattle.ods_tree.specs.Services.{is_service, callee_of}
 use Rattle.ods_tree.specs.Services as services
 use Rattle.guarantee.specs.Software.{program_software, leads_to}
 use Rattle.machine.specs.Systems.{System, system, PassiveUnit, ProtectedUnit, TaskUnit, Periodic, Requested, library_by, object_by, thread_by}
 use Rattle.machine.specs.Systems.{CallTarget, Plain, Protected, Request, Unknown, callee, library_or, object_or, request_by, request_if}
-use Rattle.machine.specs.Systems.{op_named, plain_by, protected_by}
-use Rattle.machine.specs.Systems.{ReleasePattern}
+use Rattle.machine.specs.Systems.{op_named, plain_by, protected_by, ReleasePattern}
 use Rattle.program_calls.proofs.UnitNames.{AreOthers, AreApart, IsUnit, unit_of_name, none_made, nothing_made, one_made, IsMade, find_others}
 use Rattle.program_calls.proofs.UnitNames.{find_unit}
 use Rattle.program_calls.proofs.Callees.{is_op, or_find, under, plain_of, protected_of, requests_of, own_ops, service_others, service_unit}

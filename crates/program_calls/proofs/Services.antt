@@ -9,7 +9,7 @@ use Rattle.seq_tree.specs.declared.tree.OpName.{OpName}
 use Rattle.ada_tree.specs.Programs.{Form, Unit, Program, Passive, Shared, Cyclic, Sporadic, is_task}
 use Rattle.ada_tree.specs.Bodies.{op_body, bodies}
 use Rattle.ada_tree.specs.Uses.{passive_ops, shared_ops, is_confined}
-use Rattle.ods_tree.specs.Services.{Service, Sort, plain_services, protected_services, requested, request_of, is_service, service_named}
+use Rattle.ods_tree.specs.Services.{Service, Sort, is_service, service_named}
 use Rattle.ods_tree.specs.Services as sort
 use Rattle.analysis.specs.Sound.{name_of}
 use Rattle.guarantee.specs.ResponseLaw.{program_services}

@@ -12,7 +12,7 @@ use Rattle.arrivals_tree.specs.Acceptance.{Unknown, Falling, Far, request_fault_
 use Rattle.arrivals_tree.specs.Acceptance.{last_time, IsAccepted}
 use Rattle.trace_tree.specs.Lines.{unit_name}
 use Rattle.machine.specs.Systems.{TaskUnit, system, thread_by}
-use Rattle.guarantee.specs.Arrivals.{named_arrivals, DontFall}
+use Rattle.guarantee.specs.Arrivals.{DontFall}
 use Rattle.guarantee.specs.Arrivals as arrivals
 use Rattle.written_runs.proofs.Moves.{HasUnit}
 use Rattle.written_runs.proofs.Units.{ths_of}

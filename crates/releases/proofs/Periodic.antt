@@ -11,7 +11,7 @@ use Rattle.machine.specs.Pieces.{Piece}
 use Rattle.machine.specs.States.{Task, Phase, Effects, Delays, Arriving, Use, Readiness, Asleep, Waiting, Ready}
 use Rattle.machine.specs.Releases.{going, released}
 use Rattle.machine.specs.Effects.{ended, resting}
-use Rattle.guarantee.specs.Events.{Release, End, Event, By, Horizon, named}
+use Rattle.guarantee.specs.Events.{Release, End, Event, By, Horizon}
 use Rattle.guarantee.specs.Events as names
 use Rattle.guarantee.specs.Releases.{Released, releases, AreOnTime}
 use Rattle.guarantee.specs.Bounded.{Response, Either, EndsBy, Responds}

@@ -38,7 +38,7 @@ use Rattle.ceiling_locking.proofs.Arrivals.{step-arrivals}
 use Rattle.written_runs.proofs.Moves.{is_stopping}
 use Rattle.written_runs.proofs.InOrder.{quiet_names, first_threads}
 use Rattle.written_runs.proofs.Claims as claims
-use Rattle.written_runs.proofs.Claims.{task_at, timing_at}
+use Rattle.written_runs.proofs.Claims.{timing_at}
 use Rattle.written_runs.proofs.Namings.{naming}
 use Rattle.written_runs.proofs.Excluded.{run_kept}
 use Rattle.ceiling_locking.proofs.Programs.{may-exclude}
@@ -47,8 +47,7 @@ use Rattle.releases.proofs.PeriodicSteps.{KeepsAway, periodic_from}
 use Rattle.program_calls.proofs.Lists.{each-drop}
 use Rattle.releases.specs.Laws.{EndsWithinPeriod, CyclicTasksAreOnTime}
 use Rattle.releases.proofs.Tasks.{each_task}
-use Rattle.program_calls.proofs.Accepted.{elsewhere}
-use Rattle.program_calls.proofs.Accepted.{IsInside}
+use Rattle.program_calls.proofs.Accepted.{elsewhere, IsInside}
 
 -- the barrier of a request, and its end
 opening_closers : (j : ℕ) (rest : List Piece) → AreOpening j rest → (cs : List Resource) × (closers rest ≡ Control j ∷ cs)

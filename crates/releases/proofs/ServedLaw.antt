@@ -16,7 +16,7 @@ use Rattle.trace_tree.specs.declared.event.Event as machine
 use Rattle.trace_tree.specs.Lines.{unit_name}
 use Rattle.ods_tree.specs.Flats as flats
 use Rattle.machine.specs.Systems.{System, TaskUnit, ReleasePattern, Periodic, Requested, system}
-use Rattle.machine.specs.Pieces.{Piece, Closing, Keeping, Opening}
+use Rattle.machine.specs.Pieces.{Piece, Closing}
 use Rattle.machine.specs.Pieces as parts
 use Rattle.machine.specs.States.{State, Task, Effects, Control, opening}
 use Rattle.machine.specs.Effects.{ceiling_of, ceiling_by}

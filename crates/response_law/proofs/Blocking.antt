@@ -13,7 +13,7 @@ use Rattle.rt_response.specs.Tables.{Each}
 use Rattle.machine.specs.States.{State, Task, Phase, Effects, Delays, Arriving, Use, opening}
 use Rattle.machine.specs.Meanings.{run}
 use Rattle.machine.proofs.RunLaws.{run_add}
-use Rattle.schedules.specs.Schedules.{Activation, Schedule, ticks_of, ticks_from, is_by, only_if, is_over, is_low, between, IsPending, IsStart}
+use Rattle.schedules.specs.Schedules.{ticks_of, ticks_from, is_by, only_if, is_over, is_low, IsPending}
 use Rattle.schedules.specs.Schedules as schedules
 use Rattle.ceiling_locking.specs.Ceilings.{priority_at}
 use Rattle.ceiling_locking.specs.Limits.{IsLimited, IsPendingIn}

@@ -9,7 +9,7 @@ use Rattle.arrivals_tree.specs.declared.arrivals.Arrival.{Arrival}
 use Rattle.arrivals_tree.specs.Acceptance.{next_nominal, nominal, earlier_times}
 use Rattle.rt_response.specs.declared.rows.ThreadRow.{ThreadRow}
 use Rattle.machine.specs.Systems.{System, TaskUnit, ReleasePattern, Periodic, Requested}
-use Rattle.machine.specs.Pieces.{Piece, Finishing, Opening, pieces}
+use Rattle.machine.specs.Pieces.{Piece, Finishing, pieces}
 use Rattle.machine.specs.Pieces as piece
 use Rattle.program_calls.proofs.Remaining.{Measure, behind, rest, CoversCalls}
 

@@ -21,7 +21,7 @@ use Rattle.rt_response.specs.declared.rows.Bound.{Bound}
 use Rattle.rt_response.specs.Response.{Fits}
 use Rattle.trace_tree.specs.Lines.{unit_name}
 use Rattle.trace_tree.specs.declared.event.Event as machine
-use Rattle.machine.specs.Systems.{System, TaskUnit, ReleasePattern, Periodic, Requested, CallTarget, Plain, Protected, Request, system, callee}
+use Rattle.machine.specs.Systems.{TaskUnit, ReleasePattern, Periodic, Requested, CallTarget, Plain, Protected, Request, system, callee}
 use Rattle.machine.specs.Systems as systems
 use Rattle.machine.specs.States.{Resource, Object}
 use Rattle.machine.specs.Meanings.{Meaning}

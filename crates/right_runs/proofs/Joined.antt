@@ -19,7 +19,7 @@ use Rattle.machine.specs.Meanings.{Meaning}
 use Rattle.rt_response.specs.declared.rows.ThreadRow.{ThreadRow}
 use Rattle.rt_response.specs.declared.rows.Bound.{Bound}
 use Rattle.rt_response.specs.Response.{Entry, response_after, inherited, jitter_by, sides_after, right_sides, Fits}
-use Rattle.rt_response.specs.Tables.{IsRow, IsTable}
+use Rattle.rt_response.specs.Tables.{IsRow}
 use Rattle.rt_response.specs.Tables as tables
 use Rattle.guarantee.specs.Software.{Task, program_software, task_by}
 use Rattle.guarantee.specs.Events.{Event, By, named}

@@ -1,4 +1,4 @@
-ghost use Rattle.std.specs.Prelude.{◌≡◌, ◌≤◌, ◌||◌, IfOk, length, map, nat_lt, option_and_then, option_map, position, slice_get, zip};
+ghost use Rattle.std.specs.Prelude.{◌≡◌, ◌≤◌, ◌||◌, IfOk, length, map, nat_lt, position, zip};
 ghost use Rattle.std.specs.List.{position_from};
 ghost use Rattle.seq_tree.specs.Trees.{block_of};
 ghost use Rattle.ods_tree.specs.Trees.{thread_of};

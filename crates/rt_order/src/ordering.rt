@@ -1,4 +1,4 @@
-ghost use Rattle.std.specs.Prelude.{◌≡◌, ◌≤◌, IfOk, length, map};
+ghost use Rattle.std.specs.Prelude.{◌≡◌, IfOk, length, map};
 ghost use Rattle.ods_tree.specs.Trees.{flat_of, guarded_of, thread_of};
 ghost use Rattle.analysis.specs.Ceilings.{ceiling, control_ceiling, ranks};
 ghost use Rattle.analysis.specs.Sound.{IsSound};

@@ -1,4 +1,4 @@
-ghost use Rattle.std.specs.Prelude.{◌≡◌, ℕ, ◌≤◌, ◌<◌, Option, Some, None, IfOk, IfErr};
+ghost use Rattle.std.specs.Prelude.{◌≡◌, ◌<◌, Option, Some, IfOk, IfErr};
 ghost use Rattle.rt_response.specs.Rounds.{excess_or};
 
 use crate::rows::{Bound, Limit, Miss, ThreadRow};

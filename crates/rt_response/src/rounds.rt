@@ -1,4 +1,4 @@
-ghost use Rattle.std.specs.Prelude.{◌≡◌, ℕ, ◌≤◌, List, length, IfOk, IfErr};
+ghost use Rattle.std.specs.Prelude.{◌≡◌, ℕ, List, length, IfOk, IfErr};
 ghost use Rattle.rt_response.specs.declared.rows.Bound.{Bound as Value};
 ghost use Rattle.rt_response.specs.Tables.{IsTable};
 ghost use Rattle.rt_response.specs.Response.{IsAtMost, Meets, Fits, IsLeastVector};

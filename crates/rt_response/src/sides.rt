@@ -1,4 +1,4 @@
-ghost use Rattle.std.specs.Prelude.{◌≡◌, ℕ, ◌+◌, ◌*◌, ◌≤◌, ◌<◌, length, zip, sum_by, take, slice_get, Option, Some, None, IfOk, IfErr};
+ghost use Rattle.std.specs.Prelude.{◌≡◌, ◌+◌, ◌*◌, ◌≤◌, ◌<◌, length, zip, sum_by, slice_get, Some, None, IfOk, IfErr};
 ghost use Rattle.std.specs.List.{AllZip};
 ghost use Rattle.rt_response.specs.Tables.{Each, IsRow, IsTable};
 ghost use Rattle.rt_response.specs.Response.{interference, jitter_by, right_sides, IsWithinLimits};

@@ -5,7 +5,7 @@
 //! of `schedules_respond`, whose body is empty.
 #![tactic(auto)]
 
-ghost use Rattle.std.specs.Prelude.{ℕ, List};
+ghost use Rattle.std.specs.Prelude.{List};
 ghost use Rattle.rt_response.specs.declared.rows.ThreadRow.{ThreadRow};
 ghost use Rattle.rt_response.specs.declared.rows.Bound.{Bound};
 ghost use Rattle.rt_response.specs.Tables.{IsTable};

@@ -1,5 +1,5 @@
 -- A loop over a list: the item at an index with those behind it, and what its calls are.
-use Rattle.std.proofs.Common.{◌≡◌, ℕ, suc, ◌+◌, ◌<◌, List, ◌∷◌, ◌++◌, length, drop, map, get_or, ap, sym, ◌∙◌, drop-cons, add-one}
+use Rattle.std.proofs.Common.{◌≡◌, ℕ, ◌+◌, ◌<◌, List, ◌++◌, length, drop, map, get_or, ap}
 use Rattle.seq_tree.specs.Statements.{Nothing}
 use Rattle.seq_tree.specs.Calls.{block_calls, branch_calls, statement_calls}
 use Rattle.seq_tree.specs.Trees.{arm_of, branches_of, statement_of, statements_of}

@@ -1,5 +1,4 @@
 ghost use Rattle.std.specs.Prelude.{◌≡◌, ℕ};
-ghost use Rattle.seq_tree.specs.Calls.{same_op};
 ghost use Rattle.seq_tree.specs.Dearest.{is_call_of};
 ghost use Rattle.seq_tree.specs.Names.{Name as NameTree};
 ghost use Rattle.seq_cost.specs.Callees.{callee_cost, callee_starts};

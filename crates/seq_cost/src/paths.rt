@@ -1,4 +1,4 @@
-ghost use Rattle.std.specs.Prelude.{◌≡◌, ◌≤◌, ℕ, map, min, option_map};
+ghost use Rattle.std.specs.Prelude.{◌≡◌, ◌≤◌, map, min, option_map};
 ghost use Rattle.seq_tree.specs.Dearest.{dearest, dearest_branch, dearest_statement, turn_count};
 ghost use Rattle.seq_tree.specs.Trees.{arm_of, block_of, otherwise, statement_of};
 ghost use Rattle.seq_cost.specs.Counting.{arms_weight, weights_of};

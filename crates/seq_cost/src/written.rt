@@ -1,5 +1,5 @@
-ghost use Rattle.std.specs.Prelude.{◌≡◌, IfOk, OnOk, map, option_map, ◌∷◌, ◌++◌, [], Option, Some, None};
-ghost use Rattle.seq_tree.specs.Calls.{block_calls, branch_calls, same_op, statement_calls};
+ghost use Rattle.std.specs.Prelude.{◌≡◌, IfOk, map, option_map, ◌++◌, Option, Some, None};
+ghost use Rattle.seq_tree.specs.Calls.{block_calls, branch_calls, statement_calls};
 ghost use Rattle.seq_tree.specs.Statements.{Nothing};
 ghost use Rattle.seq_tree.specs.Trees.{arm_of, block_of, branches_of, otherwise, statement_of};
 ghost use Rattle.seq_cost.specs.Different.{call_of, different};

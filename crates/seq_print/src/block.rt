@@ -1,4 +1,4 @@
-ghost use Rattle.std.specs.Prelude.{◌≡◌, ◌+◌, ◌++◌, codes, map, min, option_map};
+ghost use Rattle.std.specs.Prelude.{◌≡◌, ◌+◌, codes, map, min, option_map};
 ghost use Rattle.seq_tree.specs.Layout.{layout};
 ghost use Rattle.seq_tree.specs.Spelling.{block_lines, branch_lines, statement_lines};
 ghost use Rattle.seq_tree.specs.Statements.{Nothing};

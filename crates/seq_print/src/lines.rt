@@ -1,4 +1,4 @@
-ghost use Rattle.std.specs.Prelude.{◌≡◌, ◌*◌, ◌++◌, [], ◌∷◌, codes, map, min, replicate};
+ghost use Rattle.std.specs.Prelude.{◌*◌, ◌++◌, [], ◌∷◌, codes, map, min, replicate};
 ghost use Rattle.seq_tree.specs.Layout.{line_text};
 ghost use Rattle.seq_tree.specs.Spelling.{actual_tokens, expression_tokens, line};
 ghost use Rattle.seq_tree.specs.Trees.{expression_of};

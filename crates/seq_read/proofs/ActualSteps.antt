@@ -10,7 +10,7 @@ use Rattle.token_read.specs.Readers.{fixed_at, next_is}
 use Rattle.seq_read.specs.Expressions.{ExpressionReader, expression_at}
 use Rattle.seq_read.specs.Statements.{further_at, list_at}
 use Rattle.seq_read.proofs.Takes.{Takes}
-use Rattle.seq_read.proofs.Turns.{onward, onward-turn, onward-fails, onward-ends, turn-shorter}
+use Rattle.seq_read.proofs.Turns.{onward, onward-fails, onward-ends}
 use Rattle.seq_read.proofs.TokenTakes.{takes-expression, takes-further}
 
 -- what follows the last actual

@@ -1,15 +1,10 @@
 -- Reading branches and statements, one after another.
-use Rattle.std.proofs.Common.{◌≡◌, ℕ, zero, suc, Bool, List, [], ◌∷◌, map, codes, Option, Some, None, option_map, Ok, Vec, Global, refl}
+use Rattle.std.proofs.Common.{◌≡◌, ℕ, zero, suc, Bool, List, [], ◌∷◌, codes, Ok, refl}
 use Rattle.grammar.specs.Reading.{first, then_at, pure_at}
 use Rattle.seq_tree.specs.Names.{Name}
 use Rattle.seq_tree.specs.Expressions.{Expression}
 use Rattle.seq_tree.specs.Statements.{Statement, Statements, Branches, If}
-use Rattle.seq_tree.specs.Trees.{statement_layer, arm_layer, block_layer, arm_of, block_of, statement_of, statements_of, branches_of, otherwise}
-use Rattle.seq_tree.specs.declared.tree.Arm.{Arm}
-use Rattle.seq_tree.specs.declared.tree.Block.{Block, Block-F, roll-Block, fold-roll-Block}
-use Rattle.seq_tree.specs.declared.tree.Stmt.{roll-Stmt, fold-roll-Stmt}
-use Rattle.seq_tree.specs.declared.tree.Stmt as stmt
-use Rattle.seq_tree.specs.declared.tree.Stmt.TheOpen as layer
+use Rattle.seq_tree.specs.Trees.{statements_of, branches_of}
 use Rattle.seq_tree.specs.declared.token.Token.{Token}
 use Rattle.seq_tree.specs.declared.token.Token.TheVariants as token
 use Rattle.seq_tree.specs.declared.token.Mark.TheVariants.{Semicolon}
@@ -19,7 +14,7 @@ use Rattle.seq_read.specs.Statements.{StatementReader, BlockReader, word, kind_o
 use Rattle.seq_read.specs.Statements.{statement_with, block_with, statement_at, block_at}
 use Rattle.seq_read.specs.Nesting.{branching_at, looping_at}
 use Rattle.seq_read.proofs.Takes.{Takes}
-use Rattle.seq_read.proofs.Turns.{onward, onward-turn, onward-fails, onward-ends, turn-shorter}
+use Rattle.seq_read.proofs.Turns.{onward, onward-fails, onward-ends}
 use Rattle.seq_read.proofs.TokenTakes.{takes-expression, takes-statement, takes-block, takes-arm}
 
 -- BRANCHES

@@ -11,7 +11,7 @@ use Rattle.seq_tree.specs.declared.text_fault.TextFault.{TextFault}
 use Rattle.seq_tree.specs.declared.text_fault.TextFault.TheVariants as fault
 use Rattle.token_read.specs.Words.{bare}
 use Rattle.seq_read.specs.Places.{place_at}
-use Rattle.seq_read.specs.TextFaults.{IsMisread, IsFaultyAt, Faults}
+use Rattle.seq_read.specs.TextFaults.{IsFaultyAt, Faults}
 
 -- a reach is one number, and so is a fault of tokens
 one_reach : (Text : List Token → Type 0) (ts : List Token) (a b : ℕ) → IsReach Text ts a → IsReach Text ts b → a ≡ b

@@ -1,7 +1,6 @@
 -- What the readers of blocks and expressions by themselves answer: exactly how far the tokens go on, or exactly the fault.
 -- Indices count the tokens from the first of the whole list.
 use Rattle.std.specs.Prelude.{◌≡◌, ℕ, ◌+◌, ◌-◌, List, take, Result, Ok, Err, ⊤}
-use Rattle.seq_tree.specs.Reach.{Fault}
 use Rattle.seq_tree.specs.Reach as reach
 use Rattle.seq_tree.specs.Trees.{block_of, expression_of}
 use Rattle.seq_tree.specs.declared.tree.Block.{Block}

@@ -1,10 +1,9 @@
-ghost use Rattle.std.specs.Prelude.{◌≡◌, codes};
 ghost use Rattle.seq_tree.specs.Trees.{expression_of};
 ghost use Rattle.token_read.specs.Ahead.{ahead};
 ghost use Rattle.seq_read.specs.Halts.{Gives};
 ghost use Rattle.seq_read.specs.Names.{may_name};
 ghost use Rattle.seq_read.specs.Expressions.{literal_at, variable_at, primary_at, inverse_at, factor_at, chain_at, term_at, simple_at};
-ghost use Rattle.seq_read.specs.Expressions.{comparison_at, relation_at, logic_at, expression_at};
+ghost use Rattle.seq_read.specs.Expressions.{comparison_at, relation_at, expression_at};
 ghost use Rattle.seq_read.specs.Levels.{opened_at, operand_at, binary_at};
 
 use crate::halt::Halt;

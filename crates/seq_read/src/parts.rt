@@ -1,4 +1,4 @@
-ghost use Rattle.std.specs.Prelude.{◌≡◌, codes};
+ghost use Rattle.std.specs.Prelude.{◌≡◌};
 ghost use Rattle.token_read.specs.Ahead.{ahead};
 ghost use Rattle.token_read.specs.Readers.{phrase_at};
 ghost use Rattle.seq_read.specs.Halts.{Gives};

@@ -1,4 +1,4 @@
-ghost use Rattle.std.specs.Prelude.{◌≡◌, codes, map, option_map};
+ghost use Rattle.std.specs.Prelude.{◌≡◌, map, option_map};
 ghost use Rattle.grammar.specs.Reading.{first};
 ghost use Rattle.seq_tree.specs.Trees.{arm_of, block_of, expression_of, otherwise, statement_of};
 ghost use Rattle.token_read.specs.Ahead.{ahead};

@@ -11,7 +11,7 @@ use Rattle.seq_tree.specs.Spelling.{block_tokens}
 use Rattle.seq_tree.specs.Levels.{chain}
 use Rattle.seq_tree.specs.Proper.{IsProperExpression, within_limits, is_block_name}
 use Rattle.seq_tree.specs.Dearest.{thread_cost, starts}
-use Rattle.seq_tree.specs.Runs.{Callee, Path, Run, Print}
+use Rattle.seq_tree.specs.Runs.{Callee, Run, Print}
 use Rattle.seq_tree.specs.Runs as runs
 use Rattle.seq_tree.specs.Faults.{Scope, Unknown, Missorted, Divisor, Exit, Assigned, Actual, Count, block_fault}
 use Rattle.seq_tree.specs.declared.tree.Costs.{Costs}

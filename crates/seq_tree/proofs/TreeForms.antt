@@ -1,5 +1,5 @@
 -- The trees of what the code puts together, by their parts: of a block, of an arm, and of the statements with parts.
-use Rattle.std.specs.Prelude.{◌≡◌, ℕ, Option, Some, None, Vec, List, map, option_map, Box}
+use Rattle.std.specs.Prelude.{◌≡◌, ℕ, Option, Some, None, Vec, map, option_map, Box}
 use Rattle.std.specs.declared.alloc.Global.{Global}
 use Rattle.seq_tree.specs.Names.{Name}
 use Rattle.seq_tree.specs.Expressions.{Expression}

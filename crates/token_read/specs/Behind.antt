@@ -1,6 +1,6 @@
 -- The tokens of a text that are still to be read, without their places, and what reading one of them answers.
 -- They are those that the lexical grammar gives the text by itself, wherever it stands.
-use Rattle.std.specs.Prelude.{◌≡◌, ◌≤◌, ℕ, Bool, true, List, [], ◌∷◌, length, map, Option, Some, None, is_some, Result, Ok, Err}
+use Rattle.std.specs.Prelude.{◌≡◌, ◌≤◌, ℕ, Bool, true, List, [], ◌∷◌, length, Option, Some, None, is_some, Result, Ok, Err}
 use Rattle.std.specs.Borrow.{Bor}
 use Rattle.seq_tree.specs.Lexis.{Misread, tokens}
 use Rattle.seq_tree.specs.declared.token.Spanned.{Spanned}

@@ -1,4 +1,4 @@
-ghost use Rattle.std.specs.Prelude.{◌≡◌, ◌≤◌, IfErr, map};
+ghost use Rattle.std.specs.Prelude.{◌≡◌, IfErr, map};
 ghost use Rattle.grammar.specs.Reading.{first};
 ghost use Rattle.seq_tree.specs.declared.token.Token.TheVariants as token;
 ghost use Rattle.token_read.specs.declared.read_fault.ReadFault.TheVariants as fault;

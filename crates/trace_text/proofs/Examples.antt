@@ -1,10 +1,9 @@
 -- Examples that pin the definitions of a summary, each with one beside it that breaks it alone.
-use Rattle.std.specs.Prelude.{◌≡◌, ℕ, List, [], ◌∷◌, ◌++◌, None, codes, decimal, refl}
+use Rattle.std.specs.Prelude.{◌≡◌, ℕ, [], ◌∷◌, ◌++◌, None, codes, decimal, refl}
 use Rattle.seq_tree.specs.Names.{Name}
 use Rattle.seq_tree.specs.Statements.{Statements}
 use Rattle.seq_tree.specs.declared.tree.Costs.{Costs}
-use Rattle.ada_tree.specs.Programs.{Program, Passive, Cyclic}
-use Rattle.trace_tree.specs.declared.event.Event.{Event}
+use Rattle.ada_tree.specs.Programs.{Passive, Cyclic}
 use Rattle.trace_tree.specs.declared.event.Event.TheVariants.{Release, Arrive, End, Horizon}
 use Rattle.trace_text.specs.declared.bound.NamedBound.{NamedBound}
 use Rattle.trace_text.specs.Summaries.{bound_of, kept_count, responses, summary}

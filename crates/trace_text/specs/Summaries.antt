@@ -1,7 +1,7 @@
 -- The summary of a trace: for each task how often it was released and ended and its greatest response, with a bound that was promised
 -- for it, and how many events there were. A response is the time from a release to the task's next end.
 -- The format is this project's own.
-use Rattle.std.specs.Prelude.{ℕ, ◌-◌, Bool, true, false, List, [], ◌∷◌, ◌++◌, map, length, filter_map, flat_map, fold, min, max, ◌==◌}
+use Rattle.std.specs.Prelude.{ℕ, ◌-◌, List, [], ◌∷◌, ◌++◌, length, filter_map, flat_map, min, max, ◌==◌}
 use Rattle.std.specs.Prelude.{if◌then◌else◌, Option, Some, None, option_to_list, codes, decimal}
 use Rattle.std.specs.List.{enumerate_from}
 use Rattle.seq_tree.specs.Names.{Name, same_name}

@@ -1,5 +1,5 @@
 -- What is kept of the events that were noted, and how one more event changes it.
-use Rattle.std.specs.Prelude.{◌≡◌, ℕ, zero, suc, ◌+◌, ◌-◌, ◌<◌, List, [], ◌∷◌, ◌++◌, length, filter_map, min, max, if◌then◌else◌, Option}
+use Rattle.std.specs.Prelude.{ℕ, zero, suc, ◌+◌, ◌-◌, ◌<◌, List, [], ◌∷◌, ◌++◌, length, filter_map, min, max, if◌then◌else◌, Option}
 use Rattle.std.specs.Prelude.{Some, None, option_to_list, ⊤}
 use Rattle.seq_tree.specs.Lists.{change}
 use Rattle.ada_tree.specs.Programs.{Unit, is_task}

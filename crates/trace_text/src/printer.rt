@@ -1,4 +1,4 @@
-ghost use Rattle.std.specs.Prelude.{◌≡◌, ℕ, ◌+◌, ◌<◌, ◌≤◌, [], ◌∷◌, ◌++◌, codes, length, decimal, slice_get, Some};
+ghost use Rattle.std.specs.Prelude.{◌≡◌, ◌+◌, ◌<◌, ◌≤◌, [], ◌∷◌, ◌++◌, codes, length, decimal, slice_get, Some};
 ghost use Rattle.std.specs.List.{join_with_byte};
 ghost use Rattle.seq_tree.specs.Trees.{signature_of};
 ghost use Rattle.ada_tree.specs.Bodies.{heads};

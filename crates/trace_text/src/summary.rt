@@ -1,6 +1,6 @@
-ghost use Rattle.std.specs.Prelude.{◌≡◌, ◌∷◌, ◌++◌, [], List, ℕ, length, map, IfOk, OnOk, decimal};
+ghost use Rattle.std.specs.Prelude.{◌≡◌, ◌∷◌, ◌++◌, [], List, ℕ, length, map, IfOk, OnOk};
 ghost use Rattle.ada_tree.specs.Programs.{is_task};
-ghost use Rattle.ada_tree.specs.Trees.{form_of, program_of, unit_of};
+ghost use Rattle.ada_tree.specs.Trees.{program_of, unit_of};
 ghost use Rattle.trace_text.specs.Summaries.{bound_of, count_line, counts, labelled, task_line};
 ghost use Rattle.trace_text.specs.Tallies.{tally_lines};
 

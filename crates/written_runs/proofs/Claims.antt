@@ -14,7 +14,7 @@ use Rattle.machine.specs.Pieces.{Piece}
 use Rattle.machine.specs.States.{Task, Resource, Object, Control}
 use Rattle.guarantee.specs.Software.{Software, program_software}
 use Rattle.guarantee.specs.Software as software
-use Rattle.guarantee.specs.Events.{Deed, Event, By, Horizon}
+use Rattle.guarantee.specs.Events.{Deed, Event, By}
 use Rattle.guarantee.specs.Events as names
 use Rattle.guarantee.specs.Steps.{Moment, Step, steps_of}
 use Rattle.guarantee.specs.Passages.{Passage, Out, passages, AreOneByOne, IsOpOf}

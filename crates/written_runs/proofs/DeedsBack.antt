@@ -17,7 +17,7 @@ use Rattle.machine.specs.States.{State, Task, Resource, Object, Control, Gate, H
 use Rattle.machine.specs.Releases.{Next, going, released, release_task, release, is_waiting, serve_task, serve, next_time}
 use Rattle.machine.specs.Effects.{acted, entered_at, stopped_at, exit, go, ended, inside_now, outside_now, outside_by, ceiling_of, object_unit}
 use Rattle.guarantee.specs.Software.{Software, program_software}
-use Rattle.guarantee.specs.Events.{Event, By, named, op_at}
+use Rattle.guarantee.specs.Events.{Event, By, named}
 use Rattle.guarantee.specs.Events as names
 use Rattle.guarantee.specs.Steps.{Step, closes}
 use Rattle.written_runs.proofs.Moves.{threads_of, is_stopping, change-threads}

@@ -12,7 +12,7 @@ use Rattle.machine.specs.Systems.{ProtectedUnit, Protected, system, callee}
 use Rattle.guarantee.specs.Software.{program_software}
 use Rattle.guarantee.specs.Passages.{IsOpOf}
 use Rattle.written_runs.proofs.Claims as claims
-use Rattle.written_runs.proofs.Claims.{task_at, guarded_at}
+use Rattle.written_runs.proofs.Claims.{guarded_at}
 use Rattle.written_runs.proofs.Units.{tasks_of, shared_of}
 use Rattle.activations.proofs.Programs.{entry_name}
 use Rattle.program_calls.proofs.Threads.{thread_name, object_name, threads_apart, objects_apart}

@@ -6,7 +6,7 @@ use Rattle.ods_tree.specs.Trees.{body_of}
 use Rattle.ods_tree.specs.Words.{is_design_name}
 use Rattle.token_read.specs.Readers.{next_is}
 use Rattle.seq_read.specs.Statements.{block_at}
-use Rattle.ods_read.specs.Readers.{body_at, bodies_at}
+use Rattle.ods_read.specs.Readers.{body_at}
 use Rattle.token_read.specs.Ahead.{ahead}
 use Rattle.seq_read.proofs.Turns.{onward-turn, turn-shorter}
 use Rattle.ods_read.proofs.Taking.{takes-operation}

@@ -1,7 +1,6 @@
-use Rattle.std.proofs.Common.{sym, map, codes, ◌∙◌}
-use Rattle.std.proofs.lemmas.List.{map-append}
+use Rattle.std.proofs.Common.{sym, ◌∙◌}
 use Rattle.grammar.specs.Reading.{pure_at}
-use Rattle.ods_read.specs.Readers.{next_is_design_name, needed_at, needed_list_at}
+use Rattle.ods_read.specs.Readers.{next_is_design_name, needed_at}
 use Rattle.token_read.specs.Ahead.{ahead}
 use Rattle.seq_read.proofs.Turns.{onward-turn, turn-shorter}
 use Rattle.ods_read.proofs.Taking.{takes-needed}

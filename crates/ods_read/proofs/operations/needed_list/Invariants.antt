@@ -1,4 +1,4 @@
-use Rattle.std.proofs.Common.{◌≡◌, length, map, codes}
+use Rattle.std.proofs.Common.{◌≡◌, length}
 use Rattle.ods_read.specs.Readers.{next_is_design_name, needed_at, needed_list_at}
 use Rattle.token_read.specs.Ahead.{ahead}
 use Rattle.ods_read.proofs.ListSteps.{gathered}

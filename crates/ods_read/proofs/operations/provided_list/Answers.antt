@@ -1,8 +1,8 @@
-use Rattle.std.proofs.Common.{sym, map, codes, ◌∙◌}
+use Rattle.std.proofs.Common.{sym, map, ◌∙◌}
 use Rattle.std.proofs.lemmas.List.{map-append}
 use Rattle.grammar.specs.Reading.{pure_at}
 use Rattle.ods_tree.specs.Trees.{provided_of}
-use Rattle.ods_read.specs.Readers.{next_is_design_name, provided_at, provided_list_at}
+use Rattle.ods_read.specs.Readers.{next_is_design_name, provided_at}
 use Rattle.token_read.specs.Ahead.{ahead}
 use Rattle.seq_read.proofs.Turns.{onward-turn, turn-shorter}
 use Rattle.ods_read.proofs.Taking.{takes-provided}

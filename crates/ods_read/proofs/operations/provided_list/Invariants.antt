@@ -1,4 +1,4 @@
-use Rattle.std.proofs.Common.{◌≡◌, length, map, codes}
+use Rattle.std.proofs.Common.{◌≡◌, length, map}
 use Rattle.ods_tree.specs.Trees.{provided_of}
 use Rattle.ods_read.specs.Readers.{next_is_design_name, provided_at, provided_list_at}
 use Rattle.token_read.specs.Ahead.{ahead}

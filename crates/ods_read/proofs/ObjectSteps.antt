@@ -1,12 +1,11 @@
 -- Reading objects and those inside them, one after another.
-use Rattle.std.proofs.Common.{◌≡◌, ℕ, zero, suc, Bool, List, [], ◌∷◌, map, option_map, Ok, Err, refl}
+use Rattle.std.proofs.Common.{◌≡◌, ℕ, zero, suc, Bool, List, [], ◌∷◌, Ok, Err, refl}
 use Rattle.grammar.specs.Reading.{Read, ◌>>=◌, pure_at, many_at}
-use Rattle.seq_tree.specs.Trees.{block_of}
 use Rattle.seq_tree.specs.declared.token.Token.{Token}
-use Rattle.ods_tree.specs.Designs.{Tree, Node}
-use Rattle.ods_tree.specs.Trees.{provided_of, body_of, trees_of, node_layer, tree_of}
+use Rattle.ods_tree.specs.Designs.{Tree}
+use Rattle.ods_tree.specs.Trees.{trees_of}
 use Rattle.ods_tree.specs.Words.{is_design_name}
-use Rattle.ods_tree.specs.declared.design.Node.{Node-F, roll-Node, fold-roll-Node}
+use Rattle.ods_tree.proofs.TreeForms.{tree_of_roll}
 use Rattle.seq_read.specs.Statements.{block_at}
 use Rattle.seq_read.proofs.Turns.{onward, onward-fails, onward-ends}
 use Rattle.ods_read.specs.Nesting.{inside_at}
@@ -38,20 +37,6 @@ pub object_whole : (units : Bool) (deeper : ℕ) (ts : List Token) → tree_at u
 unfolding tree_with
 object_whole units zero ts = refl
 object_whole units (suc deeper) ts = refl
-
--- the tree of an object and of those inside it
-pub tree_of_roll : (x : Node-F _) → tree_of (roll-Node x) ≡ Node (record {
-  name = x.name;
-  kind = x.kind;
-  attrs = x.attrs.items;
-  provides = map provided_of x.provides.items;
-  needs = x.needs.items;
-  vars = x.vars.items;
-  bodies = map body_of x.bodies.items;
-  thread = option_map block_of x.thread;
-  links = x.links.items;
-}) (trees_of (map tree_of x.children.items))
-tree_of_roll x = fold-roll-Node Tree node_layer x
 
 pub ruleset list_steps = (trees-start, trees-fail, onward-fails, onward-ends)
 

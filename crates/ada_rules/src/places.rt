@@ -2,15 +2,15 @@ ghost use Rattle.std.specs.Prelude.{◌≡◌, ◌∷◌, ◌++◌, [], None, So
 ghost use Rattle.seq_tree.specs.Calls.{same_op};
 ghost use Rattle.seq_tree.specs.Faults.{or_else};
 ghost use Rattle.seq_tree.specs.declared.tree.OpName.{OpName};
-ghost use Rattle.seq_cost.specs.Tables.{at};
+ghost use Rattle.name_sets.specs.Tables.{at};
 ghost use Rattle.ada_rules.specs.Edges.{edge_of};
 ghost use Rattle.ada_rules.specs.Lists.{call_of};
 ghost use Rattle.ada_rules.specs.Places.{IsFirstRound, place_from, step_between, steps_of};
 
 use crate::edges::EdgeView;
 use crate::lists::CallView;
+use name_sets::OpTable;
 use rings::first_on_ring;
-use seq_cost::OpTable;
 use seq_tree::NoMemory;
 use std::alloc::Global;
 

@@ -1,53 +1,16 @@
-ghost use Rattle.std.specs.Prelude.{◌≡◌, ◌<◌, None, Some, IfOk, OnOk, cond, length, option_map, slice_get};
-ghost use Rattle.seq_tree.specs.Names.{Name as NameTree, same_name};
+ghost use Rattle.std.specs.Prelude.{◌≡◌, ◌<◌, IfOk, length, option_map, slice_get};
+ghost use Rattle.seq_tree.specs.Names.{Name as NameTree};
 ghost use Rattle.ada_tree.specs.Trees.{program_of, unit_of};
 ghost use Rattle.arrivals_tree.specs.ArrivalTexts.{unit_place};
 ghost use Rattle.token_read.specs.Lexemes.{word_bytes};
-ghost use Rattle.arrivals_read.specs.Tables.{first_place, place_in};
+ghost use Rattle.name_sets.specs.Places.{place_in};
+ghost use Rattle.arrivals_read.specs.Tables.{first_place};
 
 use ada_tree::{AdaProgram, Unit};
-use seq_tree::{Name, NoMemory};
+use name_sets::Places;
+use seq_tree::NoMemory;
 use std::alloc::Global;
-use std::collections::BTreeMap;
 use token_read::Word;
-
-/// A table of names: for each the place that was put last.
-#[derive(Drop)]
-pub(crate) struct Places<'a> {
-    map: BTreeMap<&'a [u8], u32>,
-}
-
-impl<'a> Places<'a> {
-    /// A table without names.
-    #[tactic(auto, unfolding(crate::specs::Tables::place_in))]
-    fn new(alloc: Global) -> Places<'a>
-        ensures { (n : NameTree) → place_in result n ≡ None }
-    {
-        Places {
-            map: BTreeMap::new(alloc),
-        }
-    }
-
-    /// The place of a name, where it has one.
-    #[tactic(auto, unfolding(crate::specs::Tables::place_in))]
-    fn get(&self, name: &[u8]) -> Option<u32>
-        ensures { result ≡ place_in self.now name.now }
-    {
-        match self.map.get(name) {
-            None => None,
-            Some(place) => Some(*place),
-        }
-    }
-
-    /// Gives a name this place, whatever place it had.
-    #[tactic(auto, unfolding(crate::specs::Tables::place_in))]
-    fn put(&mut self, name: &'a Name, place: u32) -> Result<(), NoMemory>
-        ensures { OnOk result ((n : NameTree) → place_in self.new n ≡ cond (same_name name.entry.now n) (Some place) (place_in self.old n)) }
-    {
-        self.map.insert(name.bytes(), place)?;
-        Ok(())
-    }
-}
 
 /// A program with a table of the names of its units.
 #[derive(Drop)]
@@ -68,7 +31,7 @@ impl<'a> Units<'a> {
         let mut place = program.units.len();
         'units: while place > 0 {
             place -= 1;
-            places.put(&program.units[place].name, place as u32)?;
+            places.put(&program.units[place].name, place)?;
         }
         Ok(Units { program, places })
     }
@@ -78,9 +41,9 @@ impl<'a> Units<'a> {
         ensures { result ≡ unit_place (program_of self.now.program.now) (word_bytes name.entry) }
     {
         let folded = name.folded();
-        match self.places.get(folded.bytes()) {
+        match self.places.get_bytes(folded.bytes()) {
             None => self.program.units.len() as u32,
-            Some(place) => place,
+            Some(place) => place as u32,
         }
     }
 

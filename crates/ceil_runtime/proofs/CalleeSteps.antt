@@ -1,12 +1,7 @@
 -- What is found for a call, and what a call leads to.
-use Rattle.std.proofs.Common.{◌≡◌, ℕ, suc, ◌<◌, Bool, true, false, cond, ◌&&◌, ◌||◌, List, [], ◌∷◌, length, map, drop, get_or, refl, ap}
+use Rattle.std.proofs.Common.{◌≡◌, ℕ, suc, ◌<◌, Bool, true, false, cond, ◌||◌, List, [], ◌∷◌, length, map, drop, get_or, refl, ap}
 use Rattle.std.proofs.Common.{sym, ◌∙◌, subst, drop-cons, Option, Some, None}
 use Rattle.std.specs.Prelude.{option_map, if◌then◌else◌}
-use Rattle.std.specs.Ordering.{is_eq, nat_cmp, ordering_then}
-use Rattle.std.specs.Cmp.Lexicographic.{slice_cmp}
-use Rattle.std.specs.declared.cmp.Ordering.{Ordering}
-use Rattle.std.specs.declared.cmp.Ordering.TheVariants.{Less, Equal, Greater}
-use Rattle.std.proofs.lemmas.Map.Text.{is_eq-slice_cmp}
 use Rattle.seq_tree.specs.Calls.{same_op}
 use Rattle.seq_tree.specs.Lists.{first_from, first_where}
 use Rattle.seq_tree.specs.Names.{Name, same_name, is_named}
@@ -16,7 +11,7 @@ use Rattle.seq_tree.specs.declared.tree.OpName.{OpName}
 use Rattle.seq_tree.specs.declared.tree.OpText.{OpText}
 use Rattle.ada_tree.specs.Programs.{Unit}
 use Rattle.arrivals_tree.specs.declared.arrivals.WorkList.{WorkList}
-use Rattle.machine.specs.Systems.{System, PassiveUnit, ProtectedUnit, CallTarget, Plain, Protected, Request, Unknown, library_or}
+use Rattle.machine.specs.Systems.{System, PassiveUnit, ProtectedUnit, CallTarget, Protected, Request, Unknown, library_or}
 use Rattle.machine.specs.Systems.{object_or, op_named, plain_by, protected_by, request_by}
 use Rattle.ceil_runtime.specs.Callable.{IsCallee, found_object, object_parts, op_name, requested, target_in}
 use Rattle.ceil_runtime.specs.Called.{AreCalleesBut, IsOpOf, found_in}
@@ -30,19 +25,6 @@ use Rattle.ceil_runtime.specs.declared.callees.Owner.TheVariants.{Passive, Share
 use Rattle.ceil_runtime.proofs.CallLaws.{no_true, same-one}
 use Rattle.ceil_runtime.proofs.Finding.{library_named, named, object_named, task_named}
 use Rattle.ceil_runtime.proofs.Targets.{no-target}
-
--- two keys are equal in both parts
-is_eq_then : (a b : Ordering) → is_eq (ordering_then a b) ≡ (is_eq a && is_eq b)
-is_eq_then Less b = refl
-is_eq_then Equal b = refl
-is_eq_then Greater b = refl
-
-pub same-key : (object op o n : List ℕ) → is_eq (ordering_then (slice_cmp nat_cmp object o) (slice_cmp nat_cmp op n))
-    ≡ (same_name object o && same_name op n)
-same-key object op o n =
-    is_eq_then (slice_cmp nat_cmp object o) (slice_cmp nat_cmp op n)
-    ∙ ap (λ b. b && is_eq (slice_cmp nat_cmp op n)) (is_eq-slice_cmp object o)
-    ∙ ap (λ b. same_name object o && b) (is_eq-slice_cmp op n)
 
 -- nothing is found of an operation that a unit hasn't
 no_op : (w : Owner) (r : Option Callee) → r ≡ None → IsOpOf w r None

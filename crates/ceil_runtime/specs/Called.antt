@@ -1,9 +1,7 @@
 -- What is found for a call, by the names of the unit and of the operation.
--- It is kept in the order of the bytes of these names.
+-- It stands in a table of operations.
 use Rattle.std.specs.Prelude.{◌≡◌, ℕ, true, false, List, map, Option, Some, None}
-use Rattle.std.specs.Ordering.{nat_cmp, ordering_then}
-use Rattle.std.specs.Cmp.Lexicographic.{slice_cmp}
-use Rattle.std.specs.BTreeMap.{get_by}
+use Rattle.name_sets.specs.Tables as tables
 use Rattle.seq_tree.specs.Names.{is_named}
 use Rattle.seq_tree.specs.Operations.{Operation}
 use Rattle.seq_tree.specs.Trees.{operation_of}
@@ -23,7 +21,7 @@ use Rattle.ceil_runtime.specs.declared.callees.Owner.TheVariants.{Passive, Share
 
 -- what is found for an operation
 unfoldable pub found_in : Callees → OpName → Option Callee
-found_in t c = get_by (λ k. ordering_then (slice_cmp nat_cmp c.object k.0.now) (slice_cmp nat_cmp c.op k.1.now)) t.map
+found_in t c = tables.at t.table c
 
 -- what is found for each operation is what a call of it leads to in a system
 abbrev pub AreCallees : Callees → System → Type 0

@@ -12,9 +12,9 @@ ghost use Rattle.ceil_runtime.specs.Libraries.{system_from};
 
 use crate::callable::{Callee, library_named, object_named, task_named};
 use ada_tree::Unit;
+use name_sets::OpTable;
 use seq_tree::{Datum, Name, NoMemory, OpText};
 use std::alloc::Global;
-use std::collections::BTreeMap;
 
 /// What has operations with bodies.
 #[derive(Clone, Copy, Drop)]
@@ -58,7 +58,7 @@ fn has_unit(units: &[Unit], name: &Name) -> bool
 /// logarithm of the number of operations.
 #[derive(Drop)]
 pub struct Callees<'a> {
-    map: BTreeMap<(&'a [u8], &'a [u8]), Callee<'a>>,
+    table: OpTable<'a, Callee<'a>>,
 }
 
 impl<'a> Callees<'a> {
@@ -68,34 +68,37 @@ impl<'a> Callees<'a> {
         ensures { (c : OpName) → found_in result c ≡ None }
     {
         Callees {
-            map: BTreeMap::new(alloc),
+            table: OpTable::new(alloc),
         }
     }
 
     /// What a call of this operation of the unit of this name leads to, and None where it leads nowhere.
     #[tactic(auto, unfolding(crate::specs::Called::found_in))]
-    pub fn find(&self, unit: &'a Name, op: &'a Name) -> Option<Callee<'a>>
-        ensures { (y : System) → AreCallees self.now y → IsCallee result (callee y unit.entry.now op.entry.now) }
+    pub fn find(&self, unit: &Name, op: &Name) -> Option<Callee<'a>>
+        ensures { (y : System) → AreCallees self.now y → IsCallee result (callee y unit.now op.now) }
     {
-        match self.map.get(&(unit.bytes(), op.bytes())) {
-            None => None,
-            Some(callee) => Some(*callee),
-        }
+        self.table.get(unit, op)
     }
 
     /// Lets the calls of an operation lead to this, whatever they led to.
     #[tactic(auto, unfolding(crate::specs::Called::found_in))]
-    fn put(&mut self, unit: &'a Name, op: &'a Name, callee: Callee<'a>) -> Result<(), NoMemory>
+    fn put(
+        &mut self,
+        alloc: Global,
+        unit: &'a Name,
+        op: &'a Name,
+        callee: Callee<'a>,
+    ) -> Result<(), NoMemory>
         ensures { OnOk result ((c : OpName) → found_in self.new c
             ≡ cond (same_op (op_name unit.entry.now op.entry.now) c) (Some callee.entry) (found_in self.old c)) }
     {
-        self.map.insert((unit.bytes(), op.bytes()), callee)?;
-        Ok(())
+        self.table.put(alloc, unit, op, callee)
     }
 
     /// Adds the operations of a unit of which none is there. From the last to the first, so that of two with one name the first stays.
     fn add_ops(
         &mut self,
+        alloc: Global,
         unit: &'a Name,
         owner: Owner<'a>,
         ops: &'a [OpText],
@@ -110,43 +113,49 @@ impl<'a> Callees<'a> {
         'ops: while place > 0 {
             place -= 1;
             let op = &ops[place];
-            self.put(unit, &op.sig.name, callee_of(owner, place, op))?;
+            self.put(alloc, unit, &op.sig.name, callee_of(owner, place, op))?;
         }
         Ok(())
     }
 
     /// Adds all that calls of this name lead to, where none of it is there.
-    fn add_unit(&mut self, units: &'a [Unit], unit: &'a Name) -> Result<(), NoMemory>
+    fn add_unit(&mut self, alloc: Global, units: &'a [Unit], unit: &'a Name) -> Result<(), NoMemory>
         requires { (c : OpName) → same_name unit.now c.object ≡ true → found_in self.old c ≡ None }
         ensures added { OnOk result ((work : List WorkList) (c : OpName) → same_name unit.entry.now c.object ≡ true
             → IsCallee (found_in self.new c) (target_in (system_from work (map unit_of units.entry.now)) c)) }
         ensures others { OnOk result ((c : OpName) → same_name unit.entry.now c.object ≡ false → found_in self.new c ≡ found_in self.old c) }
     {
         if let Some(ops) = library_named(units, unit) {
-            return self.add_ops(unit, Owner::Passive, ops);
+            return self.add_ops(alloc, unit, Owner::Passive, ops);
         }
         if let Some(object) = object_named(units, unit) {
             let owner = Owner::Shared {
                 object: object.place,
                 data: object.data,
             };
-            return self.add_ops(unit, owner, object.ops);
+            return self.add_ops(alloc, unit, owner, object.ops);
         }
         if let Some((task, op)) = task_named(units, unit) {
-            return self.put(unit, op, Callee::Request(task));
+            return self.put(alloc, unit, op, Callee::Request(task));
         }
         Ok(())
     }
 
     /// Adds what calls of the name of a unit lead to, unless one of the units that are still to come has that name.
-    fn add_last(&mut self, units: &'a [Unit], unit: &'a Unit, rest: &[Unit]) -> Result<(), NoMemory>
+    fn add_last(
+        &mut self,
+        alloc: Global,
+        units: &'a [Unit],
+        unit: &'a Unit,
+        rest: &[Unit],
+    ) -> Result<(), NoMemory>
         requires { AreCalleesBut self.old (map unit_of units.now) (unit_of unit.now ∷ map unit_of rest.now) }
         ensures { OnOk result (AreCalleesBut self.new (map unit_of units.entry.now) (map unit_of rest.entry.now)) }
     {
         if has_unit(rest, &unit.name) {
             return Ok(());
         }
-        self.add_unit(units, &unit.name)
+        self.add_unit(alloc, units, &unit.name)
     }
 
     /// What each call of a program of these units leads to.
@@ -157,7 +166,7 @@ impl<'a> Callees<'a> {
         let mut left = units;
         'units: while let Some((unit, rest)) = left.split_first() {
             left = rest;
-            callees.add_last(units, unit, rest)?;
+            callees.add_last(alloc, units, unit, rest)?;
         }
         Ok(callees)
     }

@@ -1,1 +1,4 @@
-pub mod SetSteps
+mod Examples
+pub mod ListSteps
+pub mod PlaceSteps
+pub mod TableSteps

@@ -1,1 +1,4 @@
+pub mod OpPlaces
+pub mod Places
 pub mod Sets
+pub mod Tables

@@ -4,14 +4,15 @@ ghost use Rattle.seq_tree.specs.Names.{Name as NameTree, same_name};
 ghost use Rattle.seq_tree.specs.declared.tree.OpName.{OpName};
 ghost use Rattle.name_sets.specs.Sets.{has, has_op};
 
+use crate::op_places::OpPlaces;
+use crate::places::Places;
 use seq_tree::{Name, NoMemory};
 use std::alloc::Global;
-use std::collections::BTreeSet;
 
 /// A set of names.
 #[derive(Drop)]
 pub struct Names<'a> {
-    set: BTreeSet<&'a [u8]>,
+    places: Places<'a>,
 }
 
 impl<'a> Names<'a> {
@@ -21,7 +22,7 @@ impl<'a> Names<'a> {
         ensures { (n : NameTree) → has result n ≡ false }
     {
         Names {
-            set: BTreeSet::new(alloc),
+            places: Places::new(alloc),
         }
     }
 
@@ -30,7 +31,7 @@ impl<'a> Names<'a> {
     pub fn has(&self, name: &Name) -> bool
         ensures { result ≡ has self.now name.now }
     {
-        self.set.contains(name.bytes())
+        self.places.get(name).is_some()
     }
 
     /// Adds a name, and says whether it is new.
@@ -39,14 +40,16 @@ impl<'a> Names<'a> {
         ensures new { IfOk result (λ new. new ≡ not (has self.old name.entry.now)) }
         ensures added { OnOk result ((n : NameTree) → has self.new n ≡ (same_name name.entry.now n || has self.old n)) }
     {
-        Ok(self.set.insert(name.bytes())?)
+        let new = !self.has(name);
+        self.places.put(name, 0)?;
+        Ok(new)
     }
 }
 
 /// A set of operations, by their objects and their own names.
 #[derive(Drop)]
 pub struct Ops<'a> {
-    set: BTreeSet<(&'a [u8], &'a [u8])>,
+    places: OpPlaces<'a>,
 }
 
 impl<'a> Ops<'a> {
@@ -56,25 +59,24 @@ impl<'a> Ops<'a> {
         ensures { (n : OpName) → has_op result n ≡ false }
     {
         Ops {
-            set: BTreeSet::new(alloc),
+            places: OpPlaces::new(alloc),
         }
     }
 
     /// Whether an operation is in the set.
     #[tactic(auto, unfolding(crate::specs::Sets::has_op))]
-    pub fn has(&self, object: &'a Name, op: &'a Name) -> bool
-        ensures { result ≡ has_op self.now (record { object = object.entry.now; op = op.entry.now }) }
+    pub fn has(&self, object: &Name, op: &Name) -> bool
+        ensures { result ≡ has_op self.now (record { object = object.now; op = op.now }) }
     {
-        self.set.contains(&(object.bytes(), op.bytes()))
+        self.places.get(object, op).is_some()
     }
 
     /// Adds an operation.
     #[tactic(auto, unfolding(crate::specs::Sets::has_op))]
-    pub fn add(&mut self, object: &'a Name, op: &'a Name) -> Result<(), NoMemory>
+    pub fn add(&mut self, alloc: Global, object: &'a Name, op: &'a Name) -> Result<(), NoMemory>
         ensures { OnOk result ((n : OpName)
             → has_op self.new n ≡ (same_op (record { object = object.entry.now; op = op.entry.now }) n || has_op self.old n)) }
     {
-        self.set.insert((object.bytes(), op.bytes()))?;
-        Ok(())
+        self.places.put(alloc, object, op, 0)
     }
 }

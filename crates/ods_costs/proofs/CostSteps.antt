@@ -4,7 +4,7 @@ use Rattle.std.specs.Option.{option_or}
 use Rattle.std.specs.Prelude.{if◌then◌else◌, min, option_map}
 use Rattle.seq_tree.specs.Calls.{same_op}
 use Rattle.seq_tree.specs.declared.tree.OpName.{OpName}
-use Rattle.seq_cost.specs.Tables.{or_0}
+use Rattle.name_sets.specs.Tables.{or_0}
 use Rattle.ods_tree.specs.Designs.{Design}
 use Rattle.analysis.specs.Execution.{cost_within}
 use Rattle.ods_tree.specs.Services.{flat_services}

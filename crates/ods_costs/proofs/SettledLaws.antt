@@ -11,8 +11,8 @@ use Rattle.seq_tree.specs.declared.tree.OpName.{OpName}
 use Rattle.seq_tree.proofs.Walks.{same_op-eq}
 use Rattle.seq_cost.proofs.CutCosts.{cap-called}
 use Rattle.seq_cost.proofs.Listed.{block-same, each-all}
-use Rattle.seq_cost.specs.Tables.{number_at}
-use Rattle.seq_cost.specs.declared.tables.OpTable.{OpTable}
+use Rattle.name_sets.specs.Tables.{number_at}
+use Rattle.name_sets.specs.declared.op_table.OpTable.{OpTable}
 use Rattle.ods_tree.specs.Designs.{Design}
 use Rattle.ods_tree.specs.Flattening.{flat}
 use Rattle.ods_tree.specs.Services.{flat_services}

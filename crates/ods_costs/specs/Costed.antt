@@ -24,8 +24,8 @@ use Rattle.ods_tree.specs.Services.{Sort, Service, flat_services}
 use Rattle.ods_tree.specs.Services as sort
 use Rattle.analysis.specs.Execution.{cost_within}
 use Rattle.analysis.specs.Sound.{name_of}
-use Rattle.seq_cost.specs.Tables.{number_at}
-use Rattle.seq_cost.specs.declared.tables.OpTable.{OpTable}
+use Rattle.name_sets.specs.Tables.{number_at}
+use Rattle.name_sets.specs.declared.op_table.OpTable.{OpTable}
 use Rattle.ods_costs.specs.declared.services.Served.{Served}
 
 -- an operation that may be called, and its block where it has one

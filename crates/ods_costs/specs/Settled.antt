@@ -3,8 +3,8 @@
 use Rattle.std.specs.Prelude.{◌≡◌, ◌≤◌, ℕ, Bool, not, ◌&&◌, is_some, min, Option, Some, option_map}
 use Rattle.seq_tree.specs.Statements.{Statements}
 use Rattle.seq_tree.specs.declared.tree.OpName.{OpName}
-use Rattle.seq_cost.specs.Tables.{at}
-use Rattle.seq_cost.specs.declared.tables.OpTable.{OpTable}
+use Rattle.name_sets.specs.Tables.{at}
+use Rattle.name_sets.specs.declared.op_table.OpTable.{OpTable}
 use Rattle.ods_tree.specs.Designs.{Design}
 use Rattle.ods_tree.specs.Links.{resolve}
 use Rattle.ods_tree.specs.Flattening.{flat}

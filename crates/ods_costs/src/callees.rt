@@ -1,9 +1,10 @@
 ghost use Rattle.std.specs.Prelude.{◌≤◌, IfOk, length};
 
 use crate::services::Served;
+use name_sets::OpTable;
 use ods_index::{Links, OpView, called_place, op_places};
 use rings::targets_first;
-use seq_cost::{OpTable, written_calls};
+use seq_cost::written_calls;
 use seq_tree::{Block, NoMemory};
 use std::alloc::Global;
 

@@ -5,7 +5,7 @@ ghost use Rattle.seq_tree.specs.Dearest.{cost};
 ghost use Rattle.seq_tree.specs.Trees.{block_of};
 ghost use Rattle.seq_tree.specs.declared.tree.OpName.{OpName};
 ghost use Rattle.seq_cost.specs.Different.{call_of};
-ghost use Rattle.seq_cost.specs.Tables.{at, number_at};
+ghost use Rattle.name_sets.specs.Tables.{at, number_at};
 ghost use Rattle.ods_tree.specs.Designs.{Design as DesignTree};
 ghost use Rattle.ods_tree.specs.Flattening.{flat};
 ghost use Rattle.ods_tree.specs.Links.{resolved};
@@ -19,8 +19,9 @@ ghost use Rattle.ods_costs.specs.Settled.{HasFirsts, IsSettled, Stays, is_unpric
 
 use crate::callees::callees_first;
 use crate::services::{Served, services_of};
+use name_sets::OpTable;
 use ods_index::{Index, Links, OpView};
-use seq_cost::{Call, OpTable, capped_cost, written_calls};
+use seq_cost::{Call, capped_cost, written_calls};
 use seq_tree::{Block, NoMemory};
 use std::alloc::Global;
 

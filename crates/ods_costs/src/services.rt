@@ -1,7 +1,7 @@
 ghost use Rattle.std.specs.Prelude.{◌≡◌, ◌∷◌, ◌++◌, [], IfOk, flat_map, map, option_map};
 ghost use Rattle.seq_tree.specs.Names.{Name as NameTree};
 ghost use Rattle.seq_tree.specs.Trees.{block_of};
-ghost use Rattle.seq_cost.specs.Tables.{at};
+ghost use Rattle.name_sets.specs.Tables.{at};
 ghost use Rattle.ods_tree.specs.Designs.{Design as DesignTree};
 ghost use Rattle.ods_tree.specs.Flattening.{body_named};
 ghost use Rattle.ods_tree.specs.Trees.{body_of, provided_of};
@@ -9,9 +9,9 @@ ghost use Rattle.ods_costs.specs.Costed.{block_in, gives_operations, gives_reque
 ghost use Rattle.ods_index.specs.Walking.{object_of, standing_of};
 ghost use Rattle.ods_costs.specs.declared.services.Part.TheVariants.{Plain, Guarded, Requests};
 
+use name_sets::OpTable;
 use ods_index::{Standing, is_terminal};
 use ods_tree::{Kind, Node, OpBody, Provided};
-use seq_cost::OpTable;
 use seq_tree::{Block, Name, NoMemory};
 use std::alloc::Global;
 

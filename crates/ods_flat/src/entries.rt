@@ -1,7 +1,7 @@
 ghost use Rattle.std.specs.Prelude.{◌≡◌, ◌∷◌, ◌++◌, [], IfOk, OnOk, map, option_map};
 ghost use Rattle.seq_tree.specs.Names.{Name as NameTree};
 ghost use Rattle.seq_tree.specs.Trees.{operation_of, signature_of};
-ghost use Rattle.seq_cost.specs.Tables.{at};
+ghost use Rattle.name_sets.specs.Tables.{at};
 ghost use Rattle.ods_tree.specs.Flattening.{body_named, operation_by, operations, thread_by};
 ghost use Rattle.ods_tree.specs.Trees.{body_of, design_of, guarded_of, library_of, provided_of, thread_of};
 ghost use Rattle.ods_index.specs.Nodes.{node_object};
@@ -9,9 +9,9 @@ ghost use Rattle.ods_flat.specs.Terminals.{guarded_among, guarded_by, libraries_
 
 use crate::blocks::resolved_block;
 use crate::timings::timing;
+use name_sets::OpTable;
 use ods_index::{Links, attribute_or_0};
 use ods_tree::{AttrKey, FlatPassive, FlatShared, FlatThread, Kind, Node, OpBody, Provided};
-use seq_cost::OpTable;
 use seq_tree::{Datum, Name, NoMemory, OpSig, OpText};
 use std::alloc::Global;
 

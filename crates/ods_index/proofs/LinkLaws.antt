@@ -1,13 +1,12 @@
 -- Objects kept at places, tables of the places of their names, and what a name leads to through them.
-use Rattle.std.proofs.Common.{◌≡◌, ◌++◌, ℕ, zero, suc, Bool, true, false, cond, List, [], ◌∷◌, map, length, Option, Some, None, option_map}
+use Rattle.std.proofs.Common.{◌≡◌, ◌++◌, ℕ, zero, suc, Bool, true, false, cond, List, [], ◌∷◌, map, length, Option, Some, None}
 use Rattle.std.proofs.Common.{option_and_then, unwrap_or, if◌then◌else◌, refl, sym, ap, subst, ◌∙◌}
 use Rattle.std.specs.List.{slice_get}
-use Rattle.std.specs.Ordering.{is_eq, nat_cmp}
-use Rattle.std.specs.Cmp.Lexicographic.{slice_cmp}
-use Rattle.std.proofs.lemmas.Map.Text.{is_eq-slice_cmp}
 use Rattle.std.proofs.lemmas.List.{length-map, map-append}
 use Rattle.seq_tree.specs.Names.{Name, same_name}
 use Rattle.seq_tree.specs.declared.tree.OpName.{OpName}
+use Rattle.name_sets.specs.declared.places.Places.{Places}
+use Rattle.name_sets.specs.Places.{place_in}
 use Rattle.ods_tree.specs.declared.design.Link.{Link}
 use Rattle.ods_tree.specs.declared.design.Node as nodes
 use Rattle.ods_tree.specs.declared.design.Node.{out-Node, fold_out-Node}
@@ -15,25 +14,9 @@ use Rattle.ods_tree.specs.Designs.{Object, Tree, Trees, Node, Empty, With, Desig
 use Rattle.ods_tree.specs.Links.{child_op, first_of, inner_named, link_for, resolve, terminal_op, tree_named}
 use Rattle.ods_tree.specs.Trees.{node_layer, tree_of, trees_of}
 use Rattle.ods_tree.specs.Walk.{own_of}
-use Rattle.ods_index.specs.declared.tables.Places.{Places}
 use Rattle.ods_index.specs.declared.scopes.Scope.{Scope}
-use Rattle.ods_index.specs.Tables.{place_in}
 use Rattle.ods_index.specs.Linked.{by_links}
 use Rattle.ods_index.specs.Scoped.{AreChildren, AreNamed, Covers, Finds, Keeps, child_named, inner_of, meaning_at, scope_trees}
-
--- one operation more
-then_cond : {A B : Type 0} (f : A → Option B) (b : Bool) (a : A) (o : Option A) → option_and_then f (cond b (Some a) o)
-    ≡ cond b (f a) (option_and_then f o)
-then_cond f true a o = refl
-then_cond f false a o = refl
-
-pub meaning_put : {A B : Type 0} (f : A → B) (key op n : Name) (meant : Option A) (old new : Option (Option A)) → key ≡ op → new
-    ≡ cond (is_eq (slice_cmp nat_cmp key n)) (Some meant) old
-    → option_and_then (option_map f) new ≡ cond (same_name op n) (option_map f meant) (option_and_then (option_map f) old)
-meaning_put f key op n meant old new same made =
-    ap (option_and_then (option_map f)) made
-    ∙ then_cond (option_map f) (is_eq (slice_cmp nat_cmp key n)) meant old
-    ∙ ap (λ b. cond b (option_map f meant) (option_and_then (option_map f) old)) (is_eq-slice_cmp key n ∙ ap (λ k. same_name k n) same)
 
 -- what is at the place that was found
 found_tree : (ts : List Tree) (o : Option ℕ) (t : Option Tree) → Finds ts o t → option_and_then (slice_get ts) o ≡ t

@@ -1,15 +1,13 @@
 -- Operations as the code keeps them: by the names that they are borrowed from.
 -- Of an object with children its links say what each of its operations means.
 use Rattle.std.specs.Prelude.{Option, option_map, option_and_then}
-use Rattle.std.specs.Ordering.{nat_cmp}
-use Rattle.std.specs.Cmp.Lexicographic.{slice_cmp}
-use Rattle.std.specs.BTreeMap.{get_by}
 use Rattle.seq_tree.specs.Names.{Name}
 use Rattle.seq_tree.specs.declared.tree.OpName.{OpName}
+use Rattle.name_sets.specs.Tables.{named}
+use Rattle.name_sets.specs.declared.name_table.NameTable.{NameTable}
 use Rattle.ods_tree.specs.Designs.{Tree, Node}
 use Rattle.ods_tree.specs.Links.{child_op, link_for}
 use Rattle.ods_index.specs.declared.links.OpView.{OpView}
-use Rattle.ods_index.specs.declared.scopes.Meanings.{Meanings}
 
 -- the operation that is meant
 abbrev pub op_of : OpView → OpName
@@ -20,5 +18,5 @@ abbrev pub by_links : Tree → Name → Option OpName
 by_links (Node own children) op = option_and_then (child_op children) (link_for op own.links)
 
 -- the terminal operation that is kept for an operation
-unfoldable pub meaning_in : Meanings → Name → Option OpName
-meaning_in m op = option_and_then (option_map op_of) (get_by (λ k. slice_cmp nat_cmp op k.now) m.map)
+abbrev pub meaning_in : NameTable (Option OpView) → Name → Option OpName
+meaning_in t op = option_and_then (option_map op_of) (named t op)

@@ -3,13 +3,13 @@
 use Rattle.std.specs.Prelude.{◌≡◌, ⊤, ℕ, List, Option, Some, None, map, option_and_then, slice_get, if◌then◌else◌}
 use Rattle.seq_tree.specs.Names.{Name, same_name}
 use Rattle.seq_tree.specs.declared.tree.OpName.{OpName}
+use Rattle.name_sets.specs.declared.places.Places.{Places}
+use Rattle.name_sets.specs.Places.{place_in}
 use Rattle.ods_tree.specs.Designs.{Tree, Trees, Node, Empty, With}
 use Rattle.ods_tree.specs.Links.{first_of, terminal_op, tree_named}
 use Rattle.ods_tree.specs.Trees.{tree_of}
 use Rattle.ods_tree.specs.Walk.{own_of}
-use Rattle.ods_index.specs.declared.tables.Places.{Places}
 use Rattle.ods_index.specs.declared.scopes.Scope.{Scope}
-use Rattle.ods_index.specs.Tables.{place_in}
 
 -- the trees of the objects that are kept
 abbrev pub scope_trees : List Scope → List Tree

@@ -1,12 +1,8 @@
--- Tables of names: the place of the first of a name.
--- A table is kept in the order of the bytes of its names.
+-- The place of the first of a name.
+-- A table of places has it for each name.
 use Rattle.std.specs.Prelude.{ℕ, suc, List, [], ◌∷◌, Option, Some, None, cond}
-use Rattle.std.specs.Ordering.{nat_cmp}
-use Rattle.std.specs.Cmp.Lexicographic.{slice_cmp}
-use Rattle.std.specs.BTreeMap.{get_by}
 use Rattle.seq_tree.specs.Names.{Name, same_name}
 use Rattle.ods_tree.specs.declared.design.Provided.{Provided}
-use Rattle.ods_index.specs.declared.tables.Places.{Places}
 use Rattle.ods_index.specs.declared.walk.Standing.{Standing}
 use Rattle.ods_index.specs.Walking.{object_of}
 
@@ -21,7 +17,3 @@ op_name p = p.sig.name
 
 abbrev pub object_name : Standing → Name
 object_name s = (object_of s.node.now).name
-
--- the place that a table has for a name
-unfoldable pub place_in : Places → Name → Option ℕ
-place_in t name = get_by (λ k. slice_cmp nat_cmp name k.now) t.map

@@ -1,14 +1,16 @@
 ghost use Rattle.std.specs.Prelude.{◌≡◌, IfOk, map, option_map, option_and_then, slice_get};
 ghost use Rattle.seq_tree.specs.Names.{Name as NameTree};
+ghost use Rattle.name_sets.specs.Places.{place_in};
 ghost use Rattle.ods_tree.specs.Trees.{design_of, provided_of};
 ghost use Rattle.ods_tree.specs.Walk.{objects};
 ghost use Rattle.design_rules.specs.Lookups.{object_named, operation_named, provided_named};
 ghost use Rattle.ods_index.specs.Indexing.{IsIndex};
-ghost use Rattle.ods_index.specs.Tables.{object_name, place_from, place_in};
+ghost use Rattle.ods_index.specs.Tables.{object_name, place_from};
 ghost use Rattle.ods_index.specs.Walking.{standing_of};
 
-use crate::tables::{OpTable, Places};
+use crate::tables::ProvidedOps;
 use crate::walk::{Standing, objects_of};
+use name_sets::Places;
 use ods_tree::{Design, Provided};
 use seq_tree::{Name, NoMemory, OpName};
 use std::alloc::Global;
@@ -20,7 +22,7 @@ pub struct Index<'a> {
     pub design: &'a Design,
     pub objects: Vec<Standing<'a>>,
     places: Places<'a>,
-    ops: Vec<OpTable<'a>>,
+    ops: Vec<ProvidedOps<'a>>,
 }
 
 /// A table of the names of objects. From the last to the first, so that of two with one name the first stays.
@@ -38,13 +40,13 @@ fn places_of<'a>(alloc: Global, objects: &[Standing<'a>]) -> Result<Places<'a>, 
 }
 
 /// Tables of the operations of objects.
-fn ops_of<'a>(alloc: Global, objects: &[Standing<'a>]) -> Result<Vec<OpTable<'a>>, NoMemory>
+fn ops_of<'a>(alloc: Global, objects: &[Standing<'a>]) -> Result<Vec<ProvidedOps<'a>>, NoMemory>
     ensures { IfOk result (λ v. map (λ t. map provided_of t.provides.now) v.items ≡ map (λ s. (standing_of s).own.provides) objects.now) }
 {
     let mut ops = Vec::new(alloc);
     'objects: for standing in objects {
         let node = standing.node;
-        ops.push(OpTable::new(alloc, node.provides.as_slice())?)?;
+        ops.push(ProvidedOps::new(alloc, node.provides.as_slice())?)?;
     }
     Ok(ops)
 }

@@ -25,6 +25,6 @@ pub use kinds::{
 pub use links::{Links, OpView};
 pub use ops::{called_place, op_places, ops_of};
 pub use required::Required;
-pub use scopes::{Meanings, Scope};
-pub use tables::{OpTable, Places, places_of};
+pub use scopes::Scope;
+pub use tables::{ProvidedOps, places_of};
 pub use walk::{Standing, objects_of};

@@ -5,8 +5,8 @@ ghost use Rattle.ods_tree.specs.Trees.{design_of, tree_of, trees_of};
 ghost use Rattle.ods_index.specs.Linked.{meaning_in, op_of};
 ghost use Rattle.ods_index.specs.Scoped.{AreChildren, AreNamed, Covers, Keeps, inner_of, meaning_at, scope_trees};
 
-use crate::scopes::{Meanings, Scope};
-use crate::tables::Places;
+use crate::scopes::Scope;
+use name_sets::{NameTable, Places};
 use ods_tree::{Design, Link, Node};
 use seq_tree::{Name, NoMemory};
 use std::alloc::Global;
@@ -42,11 +42,11 @@ fn meanings_of<'a>(
     scopes: &[Scope<'a>],
     children: &Places<'a>,
     links: &'a [Link],
-) -> Result<Meanings<'a>, NoMemory>
+) -> Result<NameTable<'a, Option<OpView<'a>>>, NoMemory>
     ensures { IfOk result (λ m. (op : NameTree) → meaning_in m op
         ≡ option_and_then (λ to. meaning_at (scope_trees scopes.now) children.now to.object to.op) (link_for op links.entry.now)) }
 {
-    let mut meanings = Meanings::new(alloc);
+    let mut meanings = NameTable::new(alloc);
     let mut place = links.len();
     'links: while place > 0 {
         place -= 1;

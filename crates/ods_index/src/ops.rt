@@ -1,8 +1,8 @@
 ghost use Rattle.std.specs.Prelude.{◌≡◌, ◌∷◌, ◌++◌, [], Some, None, IfOk, OnOk, if◌then◌else◌, filter, flat_map, map};
 ghost use Rattle.seq_tree.specs.Calls.{same_op};
 ghost use Rattle.seq_tree.specs.declared.tree.OpName.{OpName};
+ghost use Rattle.name_sets.specs.Tables.{at};
 ghost use Rattle.seq_cost.specs.Different.{call_of};
-ghost use Rattle.seq_cost.specs.Tables.{at};
 ghost use Rattle.ods_tree.specs.Links.{first_of, resolve};
 ghost use Rattle.ods_tree.specs.Trees.{design_of, provided_of};
 ghost use Rattle.ods_tree.specs.Walk.{is_terminal};
@@ -13,8 +13,9 @@ ghost use Rattle.ods_index.specs.Walking.{standing_of};
 use crate::kinds::is_terminal;
 use crate::links::{Links, OpView};
 use crate::walk::Standing;
+use name_sets::OpTable;
 use ods_tree::Provided;
-use seq_cost::{Call, OpTable};
+use seq_cost::Call;
 use seq_tree::{Name, NoMemory};
 use std::alloc::Global;
 

@@ -25,7 +25,7 @@ impl<'a> Required<'a> {
     {
         let mut set = Ops::new(alloc);
         'ops: for need in ops {
-            set.add(&need.object, &need.op)?;
+            set.add(alloc, &need.object, &need.op)?;
         }
         Ok(Required { ops, set })
     }

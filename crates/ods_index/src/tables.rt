@@ -1,52 +1,15 @@
-ghost use Rattle.std.specs.Prelude.{◌≡◌, None, Some, IfOk, OnOk, cond, map, option_map};
-ghost use Rattle.seq_tree.specs.Names.{Name as NameTree, same_name};
+ghost use Rattle.std.specs.Prelude.{◌≡◌, IfOk, map, option_map};
+ghost use Rattle.seq_tree.specs.Names.{Name as NameTree};
+ghost use Rattle.name_sets.specs.Places.{place_in};
 ghost use Rattle.ods_tree.specs.Trees.{provided_of};
 ghost use Rattle.design_rules.specs.Lookups.{provided_named};
 ghost use Rattle.ods_index.specs.Nodes.{node_name};
-ghost use Rattle.ods_index.specs.Tables.{op_name, place_from, place_in};
+ghost use Rattle.ods_index.specs.Tables.{op_name, place_from};
 
+use name_sets::Places;
 use ods_tree::{Node, Provided};
 use seq_tree::{Name, NoMemory};
 use std::alloc::Global;
-use std::collections::BTreeMap;
-
-/// A table of names: for each the place that was put last.
-#[derive(Drop)]
-pub struct Places<'a> {
-    map: BTreeMap<&'a [u8], usize>,
-}
-
-impl<'a> Places<'a> {
-    /// A table without names.
-    #[tactic(auto, unfolding(crate::specs::Tables::place_in))]
-    pub fn new(alloc: Global) -> Places<'a>
-        ensures { (n : NameTree) → place_in result n ≡ None }
-    {
-        Places {
-            map: BTreeMap::new(alloc),
-        }
-    }
-
-    /// The place of a name, where it has one.
-    #[tactic(auto, unfolding(crate::specs::Tables::place_in))]
-    pub fn get(&self, name: &Name) -> Option<usize>
-        ensures { result ≡ place_in self.now name.now }
-    {
-        match self.map.get(name.bytes()) {
-            None => None,
-            Some(place) => Some(*place),
-        }
-    }
-
-    /// Gives a name this place, whatever place it had.
-    #[tactic(auto, unfolding(crate::specs::Tables::place_in))]
-    pub fn put(&mut self, name: &'a Name, place: usize) -> Result<(), NoMemory>
-        ensures { OnOk result ((n : NameTree) → place_in self.new n ≡ cond (same_name name.entry.now n) (Some place) (place_in self.old n)) }
-    {
-        self.map.insert(name.bytes(), place)?;
-        Ok(())
-    }
-}
 
 /// A table of the names of objects. From the last to the first, so that of two with one name the first stays.
 pub fn places_of<'a>(alloc: Global, nodes: &[&'a Node]) -> Result<Places<'a>, NoMemory>
@@ -64,15 +27,15 @@ pub fn places_of<'a>(alloc: Global, nodes: &[&'a Node]) -> Result<Places<'a>, No
 
 /// The operations that an object provides, with a table of their names.
 #[derive(Drop)]
-pub struct OpTable<'a> {
+pub struct ProvidedOps<'a> {
     pub provides: &'a [Provided],
     places: Places<'a>,
     ghost held: { (n : NameTree) → place_in places n ≡ place_from 0 n (map op_name provides.now) },
 }
 
-impl<'a> OpTable<'a> {
+impl<'a> ProvidedOps<'a> {
     /// A table of these operations. From the last to the first, so that of two with one name the first stays.
-    pub fn new(alloc: Global, provides: &'a [Provided]) -> Result<OpTable<'a>, NoMemory>
+    pub fn new(alloc: Global, provides: &'a [Provided]) -> Result<ProvidedOps<'a>, NoMemory>
         ensures { IfOk result (λ t. t.provides.now ≡ provides.entry.now) }
     {
         let mut places = Places::new(alloc);
@@ -81,7 +44,7 @@ impl<'a> OpTable<'a> {
             place -= 1;
             places.put(&provides[place].sig.name, place)?;
         }
-        Ok(OpTable { provides, places })
+        Ok(ProvidedOps { provides, places })
     }
 
     /// The first operation of a name, where there is one.

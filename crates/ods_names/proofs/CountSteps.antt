@@ -1,11 +1,8 @@
 -- Names counted one by one.
-use Rattle.std.proofs.Common.{◌≡◌, ℕ, ◌+◌, Bool, true, false, cond, Option, Some, refl, ap, ◌∙◌, arith}
-use Rattle.std.specs.Ordering.{is_eq, nat_cmp}
-use Rattle.std.specs.Cmp.Lexicographic.{slice_cmp}
-use Rattle.std.proofs.lemmas.Map.Text.{is_eq-slice_cmp}
+use Rattle.std.proofs.Common.{◌≡◌, ℕ, ◌+◌, Bool, true, false, cond, Option, Some, refl, ap, arith}
 use Rattle.std.proofs.lemmas.Slice.Eq.{bytes_eq-Decides}
 use Rattle.seq_tree.specs.Names.{Name, same_name}
-use Rattle.ods_names.specs.Counts.{or_0}
+use Rattle.name_sets.specs.Tables.{or_0}
 
 counted_by : (b : Bool) (count : ℕ) (old : Option ℕ) → (b ≡ true → count ≡ or_0 old) → or_0 (cond b (Some (count + 1)) old) ≡ or_0 old + cond b 1 0
 counted_by true count old same = ap (λ k. k + 1) (same refl)
@@ -13,7 +10,6 @@ counted_by false count old same = omega arith
 
 -- a name counted once more, and the others as before
 pub counted_name : (name n : Name) (counts : Name → Option ℕ) →
-    or_0 (cond (is_eq (slice_cmp nat_cmp name n)) (Some (or_0 (counts name) + 1)) (counts n)) ≡ or_0 (counts n) + cond (same_name name n) 1 0
+    or_0 (cond (same_name name n) (Some (or_0 (counts name) + 1)) (counts n)) ≡ or_0 (counts n) + cond (same_name name n) 1 0
 counted_name name n counts =
-    ap (λ b. or_0 (cond b (Some (or_0 (counts name) + 1)) (counts n))) (is_eq-slice_cmp name n)
-    ∙ counted_by (same_name name n) (or_0 (counts name)) (counts n) (λ e. ap (λ m. or_0 (counts m)) ((bytes_eq-Decides name n).0 e))
+    counted_by (same_name name n) (or_0 (counts name)) (counts n) (λ e. ap (λ m. or_0 (counts m)) ((bytes_eq-Decides name n).0 e))

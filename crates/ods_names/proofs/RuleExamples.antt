@@ -9,7 +9,6 @@ use Rattle.ods_tree.specs.declared.design.AttrKey.TheVariants.{Period, Deadline}
 use Rattle.ods_tree.specs.declared.design.TickUnit.TheVariants.{Ms}
 use Rattle.ods_tree.proofs.Short.{attr, cyc_with, pas}
 use Rattle.design_rules.specs.Broken.{V03, V04, V11, V12, V17}
-use Rattle.ods_names.specs.Counts.{or_0}
 use Rattle.ods_names.specs.ObjectFaults.{IsRightTick, bad_objects, breaks_rule, told_by, may_have}
 use Rattle.ods_names.specs.Whole.{at_most_most, attribute_set, count_set, tree_set, is_whole}
 use Rattle.ods_tree.specs.declared.design.Attr.{Attr}
@@ -25,13 +24,6 @@ stand o children = record { own = o; parent = None; siblings = o ∷ []; childre
 
 abbrev of_kind : Kind → Object
 of_kind k = record (own_of passive) { kind = k }
-
--- a number, or 0
-number_or : or_0 (Some 3) ≡ 3
-number_or = refl
-
-number_none : or_0 None ≡ 0
-number_none = refl
 
 -- an active object without children is idle, one with children isn't; nor is a passive one
 idle : breaks_rule rule.IdleActive (stand (of_kind kind.Active) []) ≡ true

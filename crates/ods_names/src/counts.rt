@@ -3,15 +3,15 @@ ghost use Rattle.seq_tree.specs.Names.{Name as NameTree, same_name};
 ghost use Rattle.ods_tree.specs.Trees.{body_of};
 ghost use Rattle.ods_names.specs.Counts.{count_in};
 
+use name_sets::Places;
 use ods_tree::{Link, OpBody};
 use seq_tree::{Name, NoMemory};
 use std::alloc::Global;
-use std::collections::BTreeMap;
 
 /// How often each name was counted.
 #[derive(Drop)]
 pub(crate) struct Counts<'a> {
-    map: BTreeMap<&'a [u8], usize>,
+    places: Places<'a>,
 }
 
 impl<'a> Counts<'a> {
@@ -21,7 +21,7 @@ impl<'a> Counts<'a> {
         ensures { (n : NameTree) → count_in result n ≡ 0 }
     {
         Counts {
-            map: BTreeMap::new(alloc),
+            places: Places::new(alloc),
         }
     }
 
@@ -30,10 +30,7 @@ impl<'a> Counts<'a> {
     pub(crate) fn get(&self, name: &Name) -> usize
         ensures { result ≡ count_in self.now name.now }
     {
-        match self.map.get(name.bytes()) {
-            None => 0,
-            Some(count) => *count,
-        }
+        self.places.get(name).unwrap_or(0)
     }
 
     /// Counts a name.
@@ -43,7 +40,7 @@ impl<'a> Counts<'a> {
         ensures { OnOk result ((n : NameTree) → count_in self.new n ≡ count_in self.old n + cond (same_name name.entry.now n) 1 0) }
     {
         let count = self.get(name);
-        self.map.insert(name.bytes(), count + 1)?;
+        self.places.put(name, count + 1)?;
         Ok(())
     }
 }

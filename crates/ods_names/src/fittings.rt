@@ -3,6 +3,7 @@ ghost use Rattle.std.specs.List.{list_any};
 ghost use Rattle.seq_tree.specs.Names.{Name as NameTree, same_name};
 ghost use Rattle.seq_tree.specs.Operations.{is_out};
 ghost use Rattle.seq_tree.specs.Trees.{block_of};
+ghost use Rattle.name_sets.specs.Places.{place_in};
 ghost use Rattle.ods_tree.specs.Trees.{body_of, design_of, provided_of};
 ghost use Rattle.ods_tree.specs.Flattening.{is_passive};
 ghost use Rattle.ods_tree.specs.Walk.{is_empty, is_terminal};
@@ -14,13 +15,14 @@ ghost use Rattle.ods_names.specs.Counts.{count_in};
 ghost use Rattle.ods_names.specs.Families.{IsFamily};
 ghost use Rattle.ods_index.specs.Indexing.{IsIndex};
 ghost use Rattle.ods_index.specs.Judging.{Tells, head_of};
-ghost use Rattle.ods_index.specs.Tables.{place_from, place_in};
+ghost use Rattle.ods_index.specs.Tables.{place_from};
 ghost use Rattle.ods_index.specs.Walking.{object_of, standing_of};
 
 use crate::counts::{Counts, body_counts, link_counts};
 use crate::operations::is_out;
+use name_sets::Places;
 use ods_index::{
-    Broken, Index, OpTable, Places, Standing, has_thread, is_empty, is_passive, is_sporadic,
+    Broken, Index, ProvidedOps, Standing, has_thread, is_empty, is_passive, is_sporadic,
     is_terminal,
 };
 use ods_tree::{Constraint, Link, Node, OpBody, Provided};
@@ -63,7 +65,7 @@ fn any_unbodied(node: &Node, provides: &[Provided], counts: &Counts<'_>) -> bool
 }
 
 /// Whether some body is that of no operation.
-fn any_stray(bodies: &[OpBody], table: &OpTable<'_>) -> bool
+fn any_stray(bodies: &[OpBody], table: &ProvidedOps<'_>) -> bool
     ensures { result ≡ list_any (λ b. not (is_provided (provided_named b.name (map provided_of table.entry.now.provides.now))))
         (map body_of bodies.now) }
 {
@@ -118,7 +120,7 @@ fn misfits_terminal(alloc: Global, node: &Node) -> Result<bool, NoMemory>
     let provides = node.provides.as_slice();
     let counts = body_counts(alloc, node.bodies.as_slice())?;
     let unbodied = any_unbodied(node, provides, &counts);
-    let table = OpTable::new(alloc, provides)?;
+    let table = ProvidedOps::new(alloc, provides)?;
     let stray = any_stray(node.bodies.as_slice(), &table);
     let lacks = lacks_thread(node);
     let idle = has_stray_thread(node);
@@ -187,7 +189,7 @@ fn agrees(one: Option<&Provided>, other: Option<&Provided>) -> bool
 struct Family<'a> {
     children: &'a [Node],
     places: Places<'a>,
-    ops: Vec<OpTable<'a>>,
+    ops: Vec<ProvidedOps<'a>>,
 }
 
 impl<'a> Family<'a> {
@@ -205,12 +207,12 @@ impl<'a> Family<'a> {
     }
 
     /// Tables of the operations of children.
-    fn ops_of(alloc: Global, children: &'a [Node]) -> Result<Vec<OpTable<'a>>, NoMemory>
+    fn ops_of(alloc: Global, children: &'a [Node]) -> Result<Vec<ProvidedOps<'a>>, NoMemory>
         ensures { IfOk result (λ v. map (λ t. map provided_of t.provides.now) v.items ≡ map (λ c. (object_of c).provides) children.entry.now) }
     {
         let mut ops = Vec::new(alloc);
         'children: for child in children {
-            ops.push(OpTable::new(alloc, child.provides.as_slice())?)?;
+            ops.push(ProvidedOps::new(alloc, child.provides.as_slice())?)?;
         }
         Ok(ops)
     }
@@ -276,7 +278,7 @@ fn any_unlinked(provides: &[Provided], node: &Node, counts: &Counts<'_>) -> bool
 }
 
 /// Whether some link stands for no operation of the object, or for one by none of a child that agrees.
-fn any_unfit_link(links: &[Link], table: &OpTable<'_>, family: &Family<'_>) -> bool
+fn any_unfit_link(links: &[Link], table: &ProvidedOps<'_>, family: &Family<'_>) -> bool
     requires { IsFamily family.now }
     ensures { result ≡ list_any (λ l. not (agrees (provided_named l.op (map provided_of table.entry.now.provides.now))
         (child_operation (map object_of family.entry.now.children.now) l.to))) links.now }
@@ -299,7 +301,7 @@ fn misfits_parent(alloc: Global, standing: &Standing<'_>) -> Result<bool, NoMemo
     let links = node.links.as_slice();
     let counts = link_counts(alloc, links)?;
     let unlinked = any_unlinked(provides, node, &counts);
-    let table = OpTable::new(alloc, provides)?;
+    let table = ProvidedOps::new(alloc, provides)?;
     let family = Family::new(alloc, node.children.as_slice())?;
     let unfit = any_unfit_link(links, &table, &family);
     let threaded = has_block(&node.thread);

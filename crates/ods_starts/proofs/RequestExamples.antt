@@ -1,14 +1,11 @@
 -- Examples: which bodies are held and what they call, what is due, and what is told of sources, and what breaks each of them alone.
-use Rattle.std.specs.Prelude.{◌≡◌, ◌⊎◌, ℕ, true, false, List, [], ◌∷◌, Some, None, codes, map, option_map, refl, unwrap_or}
+use Rattle.std.specs.Prelude.{◌≡◌, ◌⊎◌, ℕ, true, false, List, [], ◌∷◌, Some, None, codes, map, refl}
 use Rattle.std.proofs.Common.{inl, inr, arith, ap, Vec, Global}
-use Rattle.std.specs.BTreeMap.{get_by}
-use Rattle.std.specs.Cmp.Lexicographic.{slice_cmp}
-use Rattle.std.specs.Ordering.{nat_cmp}
 use Rattle.seq_tree.specs.Statements.{Statements, Call, End, Then}
 use Rattle.seq_tree.specs.declared.tree.Costs.{Costs}
 use Rattle.seq_tree.specs.declared.tree.OpName.{OpName}
-use Rattle.seq_cost.specs.Tables.{at, or_0}
-use Rattle.seq_cost.specs.declared.tables.OpTable.{OpTable}
+use Rattle.name_sets.specs.Tables.{at, listed, named, or_0}
+use Rattle.name_sets.specs.declared.op_table.OpTable.{OpTable}
 use Rattle.ods_tree.specs.Designs.{Design, Empty, Node, Object}
 use Rattle.ods_tree.specs.declared.design.AttrKey.TheVariants.{ArrivalJitter}
 use Rattle.ods_tree.specs.declared.design.Kind.TheVariants.{Protected, Sporadic}
@@ -130,14 +127,13 @@ caller_is_due due = by (due put)
     by (inl e) = cc
     by (inr e) = omega (arith, e)
 
-reached_by : (r : Reachers) (v : Vec Reacher Global) → get_by (λ k. slice_cmp nat_cmp (codes "q") k.now) r.map ≡ Some v
-    → reachers_at r (codes "q") ≡ map reacher_of v.items
+reached_by : (r : Reachers) (v : Vec Reacher Global) → named r.threads (codes "q") ≡ Some v → reachers_at r (codes "q") ≡ map reacher_of v.items
 unfolding reachers_at
-reached_by r v e = ap (λ o. unwrap_or (option_map (λ w. map reacher_of w.items) o) []) e
+reached_by r v e = ap (λ o. map reacher_of (listed o)) e
 
-not_reached : (r : Reachers) → get_by (λ k. slice_cmp nat_cmp (codes "q") k.now) r.map ≡ None → reachers_at r (codes "q") ≡ []
+not_reached : (r : Reachers) → named r.threads (codes "q") ≡ None → reachers_at r (codes "q") ≡ []
 unfolding reachers_at
-not_reached r e = ap (λ o. unwrap_or (option_map (λ w. map reacher_of w.items) o) []) e
+not_reached r e = ap (λ o. map reacher_of (listed o)) e
 
 from_outside : source_fault (small outer) outer ≡ None
 from_outside = refl

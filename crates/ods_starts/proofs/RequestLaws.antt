@@ -15,7 +15,7 @@ use Rattle.seq_tree.specs.Statements.{Statement, Statements, Branches, Null, Ass
 use Rattle.seq_tree.specs.Statements.{Nothing, Else, When}
 use Rattle.seq_tree.specs.declared.tree.OpName.{OpName}
 use Rattle.seq_tree.proofs.Walks.{same_op-eq, same_op-refl}
-use Rattle.seq_cost.specs.Tables.{or_0}
+use Rattle.name_sets.specs.Tables.{or_0}
 use Rattle.seq_cost.proofs.Listed.{block-same}
 use Rattle.ods_tree.specs.Designs.{Body, Design, Object}
 use Rattle.ods_tree.specs.Flattening.{is_protected}

@@ -4,8 +4,10 @@ use Rattle.std.proofs.Common.{ap, sym, ◌∙◌}
 use Rattle.seq_tree.specs.Statements.{Call, End, Then}
 use Rattle.seq_tree.specs.declared.tree.Costs.{Costs}
 use Rattle.seq_tree.specs.declared.tree.OpName.{OpName}
-use Rattle.seq_cost.specs.Tables.{at, or_0}
-use Rattle.seq_cost.specs.declared.tables.OpTable.{OpTable}
+use Rattle.name_sets.specs.Sets.{has_op}
+use Rattle.name_sets.specs.Tables.{at, or_0}
+use Rattle.name_sets.specs.declared.op_table.OpTable.{OpTable}
+use Rattle.name_sets.specs.declared.sets.Ops.{Ops}
 use Rattle.ods_tree.specs.Designs.{Design, Empty, Node, Object}
 use Rattle.ods_tree.specs.declared.design.AttrKey.TheVariants.{Period, Separation}
 use Rattle.ods_tree.specs.declared.design.Kind.TheVariants.{Cyclic, Sporadic}
@@ -83,12 +85,12 @@ spread_none = refl
 spread_after : spread (λ n. get ∷ []) 1 1 (set ∷ []) ≡ set ∷ []
 spread_after = refl
 
--- a table without entries is that of no operations, and of no others
-seen_none : (t : OpTable (Unit {0})) → ((n : OpName) → at t n ≡ None) → IsSeen t []
-seen_none t none n = ap is_there (none n)
+-- a set that has none is that of no operations, and of no others
+seen_none : (s : Ops) → ((n : OpName) → has_op s n ≡ false) → IsSeen s []
+seen_none s none n = none n
 
-seen_some : (t : OpTable (Unit {0})) → ((n : OpName) → at t n ≡ None) → IsSeen t (set ∷ []) → ⊥
-seen_some t none seen = (let z : false ≡ true = sym (ap is_there (none set)) ∙ seen set in cc)
+seen_some : (s : Ops) → ((n : OpName) → has_op s n ≡ false) → IsSeen s (set ∷ []) → ⊥
+seen_some s none seen = (let z : false ≡ true = sym (none set) ∙ seen set in cc)
 
 body_of_name : body_steps (small []) (record { object = codes "a"; op = codes "do" }) (codes "a") (set ∷ [])
     (record { name = codes "do"; locals = []; block = Then (Call (codes "q") (codes "set") []) End }) ≡ set ∷ []

@@ -9,6 +9,7 @@ use Rattle.std.proofs.lemmas.Option.{slice_get_within}
 use Rattle.seq_tree.specs.Names.{Name, same_name}
 use Rattle.seq_tree.specs.Rings.{IsOnRing}
 use Rattle.seq_tree.specs.declared.tree.OpName.{OpName}
+use Rattle.name_sets.specs.Places.{place_in}
 use Rattle.ods_tree.specs.Designs.{Object, Design}
 use Rattle.ods_tree.specs.Walk.{Standing, is_terminal, objects}
 use Rattle.ods_tree.specs.declared.design.Node.{Node}
@@ -20,7 +21,7 @@ use Rattle.ods_index.specs.Judging.{IsFirstOffender}
 use Rattle.ods_index.specs.Nodes.{node_name, node_object}
 use Rattle.ods_starts.specs.Spreading.{is_there}
 use Rattle.ods_starts.specs.Starting.{has_edge, has_target, is_at, is_target, starts_at, target_in}
-use Rattle.ods_index.specs.Tables.{place_from, place_in}
+use Rattle.ods_index.specs.Tables.{place_from}
 use Rattle.ods_starts.specs.declared.start_rings.ThreadPlaces.{ThreadPlaces}
 use Rattle.ods_starts.proofs.CallRings.{In, any-in, same-is, same-self, some-in}
 use Rattle.ods_starts.proofs.NamePlaces.{has-place, name-at, names-of, names-same, none-later, object-at, place-of}

@@ -4,12 +4,12 @@ use Rattle.std.proofs.Common.{ap, ◌∙◌}
 use Rattle.seq_tree.specs.Names.{Name}
 use Rattle.seq_tree.specs.Statements.{Call, End, Then}
 use Rattle.seq_tree.specs.declared.tree.OpName.{OpName}
+use Rattle.name_sets.specs.Places.{place_in}
 use Rattle.ods_tree.specs.Designs.{Design, Empty, Node, Object}
 use Rattle.ods_tree.specs.declared.design.Kind.{Kind}
 use Rattle.ods_tree.specs.declared.design.Kind.TheVariants.{Cyclic, Sporadic}
 use Rattle.ods_starts.specs.Spreading.{is_there}
 use Rattle.ods_starts.specs.Starting.{has_edge, has_target, is_at, is_target, start_edges, starts_at, target_in}
-use Rattle.ods_index.specs.Tables.{place_in}
 use Rattle.ods_starts.specs.declared.start_rings.ThreadPlaces.{ThreadPlaces}
 
 abbrev set : OpName

@@ -1,12 +1,10 @@
 -- The threads that reach objects, by the names of these.
 -- A thread reaches an object of which it calls an operation, itself or through protected operations.
-use Rattle.std.specs.Prelude.{◌≡◌, ◌<◌, List, [], filter, flat_map, length, map, option_map, unwrap_or}
+use Rattle.std.specs.Prelude.{◌≡◌, ◌<◌, List, filter, flat_map, length, map}
 use Rattle.std.specs.Borrow.{Bor}
-use Rattle.std.specs.BTreeMap.{get_by}
-use Rattle.std.specs.Cmp.Lexicographic.{slice_cmp}
-use Rattle.std.specs.Ordering.{nat_cmp}
 use Rattle.seq_tree.specs.Names.{Name}
 use Rattle.seq_tree.specs.declared.tree.OpName.{OpName}
+use Rattle.name_sets.specs.Tables.{listed, named}
 use Rattle.ods_tree.specs.Designs.{Object}
 use Rattle.ods_tree.specs.Trees.{design_of}
 use Rattle.ods_tree.specs.declared.design.Node.{Node}
@@ -28,7 +26,7 @@ reacher_of r = object_of r.thread.now
 
 -- the threads that are kept for the name of an object
 unfoldable pub reachers_at : Reachers → Name → List Object
-reachers_at t name = unwrap_or (option_map (λ v. map reacher_of v.items) (get_by (λ k. slice_cmp nat_cmp name k.now) t.map)) []
+reachers_at t name = map reacher_of (listed (named t.threads name))
 
 -- what requests are counted by is that of its design
 pub record AreRight (r : Requests) : Type 0 where

@@ -1,19 +1,16 @@
 -- How often calls request an object, by what is known of protected operations, and which operations call which.
 -- It is the rule on sources, body by body.
 use Rattle.std.specs.Prelude.{◌≡◌, ◌⊎◌, ◌&&◌, ℕ, suc, Bool, true, List, [], ◌∷◌, Option, map, filter, flat_map, fold, max, min, nat_eq}
-use Rattle.std.specs.Prelude.{not, option_map, unwrap_or, if◌then◌else◌}
+use Rattle.std.specs.Prelude.{not, if◌then◌else◌}
 use Rattle.std.specs.List.{list_any}
-use Rattle.std.specs.Ordering.{nat_cmp}
-use Rattle.std.specs.Cmp.Lexicographic.{slice_cmp}
-use Rattle.std.specs.BTreeMap.{get_by}
 use Rattle.seq_tree.specs.Calls.{block_calls, same_op}
 use Rattle.seq_tree.specs.Dearest.{counted}
 use Rattle.seq_tree.specs.Names.{Name, same_name}
 use Rattle.seq_tree.specs.Statements.{Statements}
 use Rattle.seq_tree.specs.Trees.{block_of}
 use Rattle.seq_tree.specs.declared.tree.OpName.{OpName}
-use Rattle.seq_cost.specs.Tables.{at, or_0}
-use Rattle.seq_cost.specs.declared.tables.OpTable.{OpTable}
+use Rattle.name_sets.specs.Tables.{at, listed, or_0}
+use Rattle.name_sets.specs.declared.op_table.OpTable.{OpTable}
 use Rattle.ods_tree.specs.Designs.{Body, Design, Object}
 use Rattle.ods_tree.specs.Flattening.{is_protected}
 use Rattle.ods_tree.specs.Links.{resolve}
@@ -22,7 +19,6 @@ use Rattle.design_rules.specs.Broken.{Broken, V10}
 use Rattle.design_rules.specs.Lookups.{is_sporadic}
 use Rattle.design_rules.specs.Sources.{breaks_sources, source_count, start_count, starts_within}
 use Rattle.ods_starts.specs.declared.held.Bodies.{Bodies}
-use Rattle.ods_starts.specs.declared.held.OpBodies.{OpBodies}
 use Rattle.ods_starts.specs.declared.held.ProtectedBody.{ProtectedBody}
 
 -- how often a call requests a target, where these operations are required
@@ -98,13 +94,9 @@ op_callers x n h = flat_map (op_caller n h.name) (held_calls x h)
 abbrev pub object_callers : Design → Name → HeldBody → List OpName
 object_callers x name h = flat_map (object_caller name h.name) (held_calls x h)
 
--- the bodies that are kept for an operation of an object
-unfoldable pub op_bodies_at : OpBodies → Name → List HeldBody
-op_bodies_at t op = unwrap_or (option_map (λ v. map held_of v.items) (get_by (λ k. slice_cmp nat_cmp op k.now) t.map)) []
-
 -- the bodies that are kept for an operation
 unfoldable pub bodies_at : Bodies → OpName → List HeldBody
-bodies_at t name = unwrap_or (option_map (λ b. op_bodies_at b name.op) (get_by (λ k. slice_cmp nat_cmp name.object k.now) t.objects)) []
+bodies_at t name = map held_of (listed (at t.bodies name))
 
 -- the operations whose counts change one level deeper are among these
 abbrev pub AreDue : Design → Name → ℕ → List OpName → Type 0

@@ -1,16 +1,14 @@
 -- What threads can start: the operations that a thread calls, itself or through protected operations, found level by level.
 -- Each operation is found once, in the order in which calls lead to it.
 use Rattle.std.specs.Prelude.{◌≡◌, ℕ, zero, suc, Bool, true, false, List, [], ◌∷◌, ◌++◌, map, filter, flat_map, drop, length, Option, Some}
-use Rattle.std.specs.Prelude.{None, option_map, unwrap_or, if◌then◌else◌}
+use Rattle.std.specs.Prelude.{None, if◌then◌else◌}
 use Rattle.std.specs.List.{list_any}
-use Rattle.std.specs.Ordering.{nat_cmp}
-use Rattle.std.specs.Cmp.Lexicographic.{slice_cmp}
-use Rattle.std.specs.BTreeMap.{get_by}
 use Rattle.seq_tree.specs.Calls.{block_calls, same_op}
 use Rattle.seq_tree.specs.Names.{Name, same_name}
 use Rattle.seq_tree.specs.declared.tree.OpName.{OpName}
-use Rattle.seq_cost.specs.Tables.{at}
-use Rattle.seq_cost.specs.declared.tables.OpTable.{OpTable}
+use Rattle.name_sets.specs.Sets.{has_op}
+use Rattle.name_sets.specs.Tables.{at, listed, named}
+use Rattle.name_sets.specs.declared.sets.Ops.{Ops}
 use Rattle.ods_tree.specs.Designs.{Body, Object, Design}
 use Rattle.ods_tree.specs.Links.{resolve}
 use Rattle.ods_tree.specs.Walk.{Standing}
@@ -24,13 +22,13 @@ abbrev pub is_there : {A : Type 0} → Option A → Bool
 is_there None = false
 is_there (Some a) = true
 
--- the calls that are kept for an operation of an object
+-- the operations that are kept for a name
 unfoldable pub body_at : BodyCalls → Name → List OpName
-body_at t op = unwrap_or (option_map (λ v. map op_of v.items) (get_by (λ k. slice_cmp nat_cmp op k.now) t.map)) []
+body_at t name = map op_of (listed (named t.calls name))
 
 -- the calls that are kept for an operation
 unfoldable pub inner_at : Inner → OpName → List OpName
-inner_at t name = unwrap_or (option_map (λ b. body_at b name.op) (get_by (λ k. slice_cmp nat_cmp name.object k.now) t.objects)) []
+inner_at t name = map op_of (listed (at t.calls name))
 
 -- the required calls of a body, links followed, where it is that of an operation of this name
 abbrev pub body_steps : Design → OpName → Name → List OpName → Body → List OpName
@@ -56,9 +54,9 @@ abbrev pub spread : (OpName → List OpName) → ℕ → ℕ → List OpName →
 spread next zero from all = all
 spread next (suc depth) from all = spread next depth (length all) (found_all all (flat_map next (drop from all)))
 
--- a table of what was found
-abbrev pub IsSeen : OpTable (Unit {0}) → List OpName → Type 0
-IsSeen t all = (n : OpName) → is_there (at t n) ≡ list_any (same_op n) all
+-- the set of what was found
+abbrev pub IsSeen : Ops → List OpName → Type 0
+IsSeen s all = (n : OpName) → has_op s n ≡ list_any (same_op n) all
 
 -- whether the thread of an object calls an operation of an object of this name, itself or through protected operations
 abbrev pub reaches : Design → Object → Name → Bool

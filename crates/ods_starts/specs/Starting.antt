@@ -4,11 +4,11 @@ use Rattle.std.specs.Prelude.{ℕ, ◌==◌, Bool, false, ◌&&◌, List, map, f
 use Rattle.std.specs.List.{list_any}
 use Rattle.seq_tree.specs.Names.{Name, same_name}
 use Rattle.seq_tree.specs.declared.tree.OpName.{OpName}
+use Rattle.name_sets.specs.Places.{place_in}
 use Rattle.ods_tree.specs.Designs.{Object, Design}
 use Rattle.design_rules.specs.Lookups.{is_sporadic}
 use Rattle.design_rules.specs.Rings.{thread_calls}
 use Rattle.ods_starts.specs.Spreading.{is_there}
-use Rattle.ods_index.specs.Tables.{place_in}
 use Rattle.ods_starts.specs.declared.start_rings.ThreadPlaces.{ThreadPlaces}
 
 -- whether an object of a name is sporadic, and whether one of these is

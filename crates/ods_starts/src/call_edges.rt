@@ -1,14 +1,15 @@
 ghost use Rattle.std.specs.Prelude.{◌≡◌, ◌∷◌, ◌++◌, [], IfOk, OnOk, filter, flat_map, map};
+ghost use Rattle.name_sets.specs.Tables.{at};
 ghost use Rattle.seq_cost.specs.Different.{call_of};
-ghost use Rattle.seq_cost.specs.Tables.{at};
 ghost use Rattle.ods_tree.specs.Trees.{body_of, design_of};
 ghost use Rattle.ods_tree.specs.Walk.{is_terminal};
 ghost use Rattle.ods_starts.specs.Graphed.{body_edges, called_edges, object_edges};
 ghost use Rattle.ods_index.specs.Walking.{standing_of};
 
+use name_sets::OpTable;
 use ods_index::{Links, Required, Standing, called_place, is_terminal};
 use ods_tree::OpBody;
-use seq_cost::{Call, OpTable, written_calls};
+use seq_cost::{Call, written_calls};
 use seq_tree::{Name, NoMemory};
 use std::alloc::Global;
 

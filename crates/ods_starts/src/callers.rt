@@ -8,8 +8,8 @@ ghost use Rattle.ods_starts.specs.Spreading.{body_at, found_all, inner_at};
 
 use crate::held::ProtectedBody;
 use crate::starts::{BodyCalls, Inner, find_all, follow_all, meant_calls};
+use name_sets::Ops;
 use ods_index::{Links, OpView};
-use seq_cost::OpTable;
 use seq_tree::{Name, NoMemory};
 use std::alloc::Global;
 
@@ -110,7 +110,7 @@ impl<'a> Callers<'a> {
     ) -> Result<Vec<OpView<'a>>, NoMemory>
         ensures { IfOk result (λ v. map op_of v.items ≡ found_all [] (body_at self.now.objects object.now)) }
     {
-        let mut seen = OpTable::new(alloc);
+        let mut seen = Ops::new(alloc);
         let mut found = Vec::new(alloc);
         match self.objects.get(object) {
             None => Ok(found),
@@ -129,7 +129,7 @@ impl<'a> Callers<'a> {
     ) -> Result<Vec<OpView<'a>>, NoMemory>
         ensures { IfOk result (λ v. map op_of v.items ≡ found_all [] (flat_map (inner_at self.now.ops) (map op_of ops.entry.now))) }
     {
-        let mut seen = OpTable::new(alloc);
+        let mut seen = Ops::new(alloc);
         let mut found = Vec::new(alloc);
         follow_all(alloc, &self.ops, ops, &mut seen, &mut found)?;
         Ok(found)

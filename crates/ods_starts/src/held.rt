@@ -1,18 +1,17 @@
-ghost use Rattle.std.specs.Prelude.{◌≡◌, ◌∷◌, ◌++◌, [], IfOk, OnOk, if◌then◌else◌, filter, flat_map, map, option_map, unwrap_or};
-ghost use Rattle.seq_tree.specs.Names.{Name as NameTree, same_name};
+ghost use Rattle.std.specs.Prelude.{◌≡◌, ◌∷◌, ◌++◌, [], IfOk, OnOk, filter, flat_map, map, option_map, unwrap_or};
 ghost use Rattle.seq_tree.specs.declared.tree.OpName.{OpName as OpTree};
 ghost use Rattle.ods_tree.specs.Flattening.{is_protected};
 ghost use Rattle.ods_tree.specs.Trees.{body_of};
 ghost use Rattle.ods_tree.specs.Walk.{is_terminal};
 ghost use Rattle.ods_index.specs.Linked.{op_of};
-ghost use Rattle.ods_starts.specs.Requested.{bodies_at, held, held_in, held_named, held_of, op_bodies_at};
+ghost use Rattle.ods_starts.specs.Requested.{bodies_at, held, held_in, held_named, held_of};
 ghost use Rattle.ods_index.specs.Walking.{standing_of};
 
+use name_sets::OpTable;
 use ods_index::{OpView, Required, Standing, is_protected, is_terminal};
 use ods_tree::OpBody;
 use seq_tree::{Block, Name, NoMemory};
 use std::alloc::Global;
-use std::collections::BTreeMap;
 use std::rc::Rc;
 
 /// A body of an operation of a protected object, with what its object requires, which all bodies of the object share.
@@ -38,55 +37,10 @@ impl<'a> ProtectedBody<'a> {
     }
 }
 
-/// The bodies of objects of one name, by the names of their operations.
-#[derive(Drop)]
-struct OpBodies<'a> {
-    map: BTreeMap<&'a [u8], Vec<ProtectedBody<'a>>>,
-}
-
-impl<'a> OpBodies<'a> {
-    /// No bodies.
-    #[tactic(auto, unfolding(crate::specs::Requested::op_bodies_at))]
-    fn new(alloc: Global) -> OpBodies<'a>
-        ensures { (n : NameTree) → op_bodies_at result n ≡ [] }
-    {
-        OpBodies {
-            map: BTreeMap::new(alloc),
-        }
-    }
-
-    /// The bodies of an operation, where there is one.
-    #[tactic(auto, unfolding(crate::specs::Requested::op_bodies_at))]
-    fn get(&self, op: &Name) -> Option<&[ProtectedBody<'a>]>
-        ensures { unwrap_or (option_map (λ v. map held_of v.now) result) [] ≡ op_bodies_at self.now op.now }
-    {
-        match self.map.get(op.bytes()) {
-            None => None,
-            Some(bodies) => Some(bodies.as_slice()),
-        }
-    }
-
-    /// Adds a body.
-    #[tactic(auto, unfolding(crate::specs::Requested::op_bodies_at))]
-    fn add(&mut self, alloc: Global, body: &ProtectedBody<'a>) -> Result<(), NoMemory>
-        ensures { OnOk result ((n : NameTree) → op_bodies_at self.new n ≡ op_bodies_at self.old n
-            ++ (if same_name body.entry.now.op.now n then held_of body.entry.now ∷ [] else [])) }
-    {
-        let more = body.again()?;
-        let mut all = match self.map.remove(body.op.bytes()) {
-            None => Vec::new(alloc),
-            Some(before) => before,
-        };
-        all.push(more)?;
-        self.map.insert(body.op.bytes(), all)?;
-        Ok(())
-    }
-}
-
 /// The bodies of protected operations by the names of these.
 #[derive(Drop)]
 pub(crate) struct Bodies<'a> {
-    objects: BTreeMap<&'a [u8], OpBodies<'a>>,
+    bodies: OpTable<'a, Vec<ProtectedBody<'a>>>,
 }
 
 impl<'a> Bodies<'a> {
@@ -96,7 +50,7 @@ impl<'a> Bodies<'a> {
         ensures { (n : OpTree) → bodies_at result n ≡ [] }
     {
         Bodies {
-            objects: BTreeMap::new(alloc),
+            bodies: OpTable::new(alloc),
         }
     }
 
@@ -105,9 +59,9 @@ impl<'a> Bodies<'a> {
     pub(crate) fn get(&self, op: &OpView<'a>) -> Option<&[ProtectedBody<'a>]>
         ensures { unwrap_or (option_map (λ v. map held_of v.now) result) [] ≡ bodies_at self.now (op_of op.entry.now) }
     {
-        match self.objects.get(op.object.bytes()) {
+        match self.bodies.find(op.object, op.op) {
             None => None,
-            Some(bodies) => bodies.get(op.op),
+            Some(bodies) => Some(bodies.as_slice()),
         }
     }
 
@@ -116,13 +70,8 @@ impl<'a> Bodies<'a> {
     fn add(&mut self, alloc: Global, body: &ProtectedBody<'a>) -> Result<(), NoMemory>
         ensures { OnOk result ((n : OpTree) → bodies_at self.new n ≡ bodies_at self.old n ++ held_named n (held_of body.entry.now)) }
     {
-        let mut bodies = match self.objects.remove(body.object.bytes()) {
-            None => OpBodies::new(alloc),
-            Some(bodies) => bodies,
-        };
-        bodies.add(alloc, body)?;
-        self.objects.insert(body.object.bytes(), bodies)?;
-        Ok(())
+        let more = vec![in alloc; body.again()?]?;
+        self.bodies.extend(alloc, body.object, body.op, more)
     }
 }
 

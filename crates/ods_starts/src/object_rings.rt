@@ -1,4 +1,5 @@
 ghost use Rattle.std.specs.Prelude.{◌≡◌, ◌∷◌, ◌++◌, [], Some, IfOk, OnOk, flat_map, map, option_map, slice_get};
+ghost use Rattle.name_sets.specs.Places.{place_in};
 ghost use Rattle.seq_cost.specs.Different.{call_of};
 ghost use Rattle.ods_tree.specs.Links.{resolve};
 ghost use Rattle.ods_tree.specs.Trees.{body_of, design_of};
@@ -8,12 +9,12 @@ ghost use Rattle.ods_starts.specs.Guarded.{bodies_edges, guard_edges, guards_amo
 ghost use Rattle.ods_index.specs.Indexing.{IsIndex};
 ghost use Rattle.ods_index.specs.Judging.{Judges, Tells};
 ghost use Rattle.ods_index.specs.Nodes.{node_name, node_object};
-ghost use Rattle.ods_index.specs.Tables.{place_in};
 ghost use Rattle.ods_index.specs.Walking.{object_of, standing_of};
 ghost use Rattle.rings.specs.Reached.{IsFirstOnRing};
 
+use name_sets::Places;
 use ods_index::{
-    Broken, Index, Links, OpView, Places, Required, Standing, is_protected, is_terminal, places_of,
+    Broken, Index, Links, OpView, Required, Standing, is_protected, is_terminal, places_of,
 };
 use ods_tree::{Node, OpBody};
 use rings::first_on_ring;

@@ -3,8 +3,8 @@ ghost use Rattle.std.specs.List.{list_any};
 ghost use Rattle.seq_tree.specs.Calls.{same_op};
 ghost use Rattle.seq_tree.specs.Trees.{block_of};
 ghost use Rattle.seq_tree.specs.declared.tree.OpName.{OpName as OpTree};
+ghost use Rattle.name_sets.specs.Tables.{at};
 ghost use Rattle.seq_cost.specs.Different.{call_of};
-ghost use Rattle.seq_cost.specs.Tables.{at};
 ghost use Rattle.ods_tree.specs.Trees.{design_of};
 ghost use Rattle.design_rules.specs.Sources.{starts_within};
 ghost use Rattle.ods_index.specs.Linked.{op_of};
@@ -14,8 +14,9 @@ ghost use Rattle.ods_starts.specs.Requesters.{HasCallers};
 
 use crate::callers::Callers;
 use crate::held::{Bodies, ProtectedBody};
+use name_sets::OpTable;
 use ods_index::{Links, OpView, Required};
-use seq_cost::{Call, OpTable, counted_by, written_calls};
+use seq_cost::{Call, counted_by, written_calls};
 use seq_tree::{Block, Name, NoMemory};
 use std::alloc::Global;
 

@@ -1,15 +1,16 @@
 ghost use Rattle.std.specs.Prelude.{◌≡◌, filter_map, flat_map, map};
+ghost use Rattle.name_sets.specs.Places.{place_in};
 ghost use Rattle.ods_tree.specs.Trees.{design_of};
 ghost use Rattle.design_rules.specs.Separations.{bad_separations, spacing};
 ghost use Rattle.ods_index.specs.Indexing.{IsIndex};
 ghost use Rattle.ods_index.specs.Judging.{Tells, head_of};
 ghost use Rattle.ods_starts.specs.Spacings.{spaced};
 ghost use Rattle.ods_starts.specs.Spreading.{is_there, reaches};
-ghost use Rattle.ods_index.specs.Tables.{place_in};
 ghost use Rattle.ods_index.specs.Walking.{object_of};
 
 use crate::starts::{Starts, threads_of};
-use ods_index::{Broken, Index, Places, attribute_or_0, is_sporadic};
+use name_sets::Places;
+use ods_index::{Broken, Index, attribute_or_0, is_sporadic};
 use ods_tree::{AttrKey, Kind, Node};
 use std::alloc::Global;
 

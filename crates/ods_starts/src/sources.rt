@@ -3,6 +3,7 @@ ghost use Rattle.std.specs.Prelude.{if◌then◌else◌, length, map, max, min, 
 ghost use Rattle.std.specs.List.{list_any};
 ghost use Rattle.seq_tree.specs.Names.{Name as NameTree, same_name};
 ghost use Rattle.seq_tree.specs.declared.tree.OpName.{OpName as OpTree};
+ghost use Rattle.name_sets.specs.Places.{place_in};
 ghost use Rattle.ods_tree.specs.Attributes.{attribute};
 ghost use Rattle.ods_tree.specs.Trees.{design_of};
 ghost use Rattle.ods_tree.specs.Walk.{objects, only_if};
@@ -17,7 +18,6 @@ ghost use Rattle.ods_index.specs.Linked.{op_of};
 ghost use Rattle.ods_starts.specs.Reaching.{AreRight, reacher_of, reachers_at, thread_of};
 ghost use Rattle.ods_starts.specs.Requested.{Knows, block_count, source_fault};
 ghost use Rattle.ods_starts.specs.Spreading.{is_there, reaches};
-ghost use Rattle.ods_index.specs.Tables.{place_in};
 ghost use Rattle.ods_index.specs.Walking.{object_of};
 
 use crate::callers::Callers;
@@ -25,18 +25,17 @@ use crate::held::{Bodies, bodies_of, table_of};
 use crate::reacher::Reacher;
 use crate::requests::{block_requests, counts_within};
 use crate::starts::{Starts, threads_of};
-use ods_index::{Broken, Index, Links, OpView, Places, attribute, is_sporadic};
+use name_sets::{NameTable, OpTable, Places};
+use ods_index::{Broken, Index, Links, OpView, attribute, is_sporadic};
 use ods_tree::{AttrKey, Node};
-use seq_cost::OpTable;
 use seq_tree::{Name, NoMemory};
 use std::alloc::Global;
-use std::collections::BTreeMap;
 
 /// The threads that reach objects, in order, by the names of these: of each a thread calls an operation, itself or through
 /// protected ones.
 #[derive(Drop)]
 struct Reachers<'a> {
-    map: BTreeMap<&'a [u8], Vec<Reacher<'a>>>,
+    threads: NameTable<'a, Vec<Reacher<'a>>>,
 }
 
 impl<'a> Reachers<'a> {
@@ -46,7 +45,7 @@ impl<'a> Reachers<'a> {
         ensures { (n : NameTree) → reachers_at result n ≡ [] }
     {
         Reachers {
-            map: BTreeMap::new(alloc),
+            threads: NameTable::new(alloc),
         }
     }
 
@@ -55,7 +54,7 @@ impl<'a> Reachers<'a> {
     fn get(&self, name: &Name) -> Option<&[Reacher<'a>]>
         ensures { unwrap_or (option_map (λ v. map reacher_of v.now) result) [] ≡ reachers_at self.now name.now }
     {
-        match self.map.get(name.bytes()) {
+        match self.threads.find(name) {
             None => None,
             Some(reachers) => Some(reachers.as_slice()),
         }
@@ -77,14 +76,8 @@ impl<'a> Reachers<'a> {
         ensures { OnOk result ((n : NameTree) → reachers_at self.new n ≡ reachers_at self.old n
             ++ (if same_name name.entry.now n then reacher_of reacher.entry.now ∷ [] else [])) }
     {
-        let more = reacher.again()?;
-        let mut all = match self.map.remove(name.bytes()) {
-            None => Vec::new(alloc),
-            Some(before) => before,
-        };
-        all.push(more)?;
-        self.map.insert(name.bytes(), all)?;
-        Ok(())
+        let more = vec![in alloc; reacher.again()?]?;
+        self.threads.extend(name, more)
     }
 }
 

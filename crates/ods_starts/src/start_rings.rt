@@ -1,6 +1,7 @@
 ghost use Rattle.std.specs.Prelude.{◌≡◌, ◌∷◌, ◌++◌, ◌||◌, [], ℕ, IfOk, OnOk, map, option_map, slice_get};
 ghost use Rattle.std.specs.List.{list_any};
 ghost use Rattle.seq_tree.specs.Names.{Name as NameTree};
+ghost use Rattle.name_sets.specs.Places.{place_in};
 ghost use Rattle.ods_tree.specs.Trees.{design_of};
 ghost use Rattle.design_rules.specs.Broken.{V09Starts};
 ghost use Rattle.design_rules.specs.Rules.{RingedThread};
@@ -10,11 +11,12 @@ ghost use Rattle.ods_index.specs.Linked.{op_of};
 ghost use Rattle.ods_index.specs.Nodes.{node_name, node_object};
 ghost use Rattle.ods_starts.specs.Spreading.{is_there};
 ghost use Rattle.ods_starts.specs.Starting.{has_edge, has_target, is_target, start_edges, starts_at, target_in};
-ghost use Rattle.ods_index.specs.Tables.{place_from, place_in};
+ghost use Rattle.ods_index.specs.Tables.{place_from};
 ghost use Rattle.ods_index.specs.Walking.{object_of};
 
 use crate::starts::{Starts, threads_of};
-use ods_index::{Broken, Index, OpView, Places, is_sporadic, places_of};
+use name_sets::Places;
+use ods_index::{Broken, Index, OpView, is_sporadic, places_of};
 use ods_tree::Node;
 use rings::first_on_ring;
 use seq_tree::{Name, NoMemory};

@@ -5,6 +5,7 @@ ghost use Rattle.seq_tree.specs.Calls.{block_calls, same_op};
 ghost use Rattle.seq_tree.specs.Names.{Name as NameTree, same_name};
 ghost use Rattle.seq_tree.specs.Trees.{block_of};
 ghost use Rattle.seq_tree.specs.declared.tree.OpName.{OpName as OpTree};
+ghost use Rattle.name_sets.specs.Places.{place_in};
 ghost use Rattle.seq_cost.specs.Different.{call_of};
 ghost use Rattle.ods_tree.specs.Flattening.{is_protected};
 ghost use Rattle.ods_tree.specs.Links.{resolve};
@@ -15,47 +16,46 @@ ghost use Rattle.design_rules.specs.Rings.{inner_calls, meant_calls, terminal_op
 ghost use Rattle.ods_index.specs.Indexing.{IsIndex};
 ghost use Rattle.ods_index.specs.Linked.{op_of};
 ghost use Rattle.ods_starts.specs.Spreading.{IsSeen, body_at, body_steps, found_all, found_more, inner_at, is_there, reaches, spread, steps_in};
-ghost use Rattle.ods_index.specs.Tables.{place_in};
 ghost use Rattle.ods_index.specs.Walking.{object_of, standing_of};
 
+use name_sets::{NameTable, OpTable, Ops, Places};
 use ods_index::{
-    Index, Links, OpView, Places, Required, Standing, has_thread, is_protected, is_terminal, ops_of,
+    Index, Links, OpView, Required, Standing, has_thread, is_protected, is_terminal, ops_of,
 };
 use ods_tree::{Node, OpBody};
-use seq_cost::{Call, OpTable, written_calls};
+use seq_cost::{Call, written_calls};
 use seq_tree::{Block, Name, NoMemory};
 use std::alloc::Global;
-use std::collections::BTreeMap;
 
-/// What the bodies of an object call, by the names of their operations.
+/// Operations by names: those whose bodies call an operation of an object, by the name of the object.
 #[derive(Drop)]
 pub(crate) struct BodyCalls<'a> {
-    map: BTreeMap<&'a [u8], Vec<OpView<'a>>>,
+    calls: NameTable<'a, Vec<OpView<'a>>>,
 }
 
 impl<'a> BodyCalls<'a> {
-    /// No calls.
+    /// No operations.
     #[tactic(auto, unfolding(crate::specs::Spreading::body_at))]
     pub(crate) fn new(alloc: Global) -> BodyCalls<'a>
         ensures { (n : NameTree) → body_at result n ≡ [] }
     {
         BodyCalls {
-            map: BTreeMap::new(alloc),
+            calls: NameTable::new(alloc),
         }
     }
 
-    /// What the bodies of an operation call, where there is one.
+    /// The operations that are kept for a name, where there is one.
     #[tactic(auto, unfolding(crate::specs::Spreading::body_at))]
     pub(crate) fn get(&self, op: &Name) -> Option<&[OpView<'a>]>
         ensures { unwrap_or (option_map (λ v. map op_of v.now) result) [] ≡ body_at self.now op.now }
     {
-        match self.map.get(op.bytes()) {
+        match self.calls.find(op) {
             None => None,
             Some(calls) => Some(calls.as_slice()),
         }
     }
 
-    /// Adds what a body of an operation calls.
+    /// Adds operations behind those of a name.
     #[tactic(auto, unfolding(crate::specs::Spreading::body_at))]
     pub(crate) fn add(
         &mut self,
@@ -66,20 +66,14 @@ impl<'a> BodyCalls<'a> {
         ensures { OnOk result ((n : NameTree) → body_at self.new n ≡ body_at self.old n
             ++ (if same_name op.entry.now n then map op_of calls.entry.now else [])) }
     {
-        let mut all = match self.map.remove(op.bytes()) {
-            None => Vec::new(alloc),
-            Some(before) => before,
-        };
-        all.extend_from_slice(calls)?;
-        self.map.insert(op.bytes(), all)?;
-        Ok(())
+        self.calls.extend(op, calls.to_vec(alloc)?)
     }
 }
 
 /// What the bodies of protected operations call, links followed.
 #[derive(Drop)]
 pub(crate) struct Inner<'a> {
-    objects: BTreeMap<&'a [u8], BodyCalls<'a>>,
+    calls: OpTable<'a, Vec<OpView<'a>>>,
 }
 
 impl<'a> Inner<'a> {
@@ -89,7 +83,7 @@ impl<'a> Inner<'a> {
         ensures { (n : OpTree) → inner_at result n ≡ [] }
     {
         Inner {
-            objects: BTreeMap::new(alloc),
+            calls: OpTable::new(alloc),
         }
     }
 
@@ -98,9 +92,9 @@ impl<'a> Inner<'a> {
     fn get(&self, op: &OpView<'a>) -> Option<&[OpView<'a>]>
         ensures { unwrap_or (option_map (λ v. map op_of v.now) result) [] ≡ inner_at self.now (op_of op.entry.now) }
     {
-        match self.objects.get(op.object.bytes()) {
+        match self.calls.find(op.object, op.op) {
             None => None,
-            Some(bodies) => bodies.get(op.op),
+            Some(calls) => Some(calls.as_slice()),
         }
     }
 
@@ -116,13 +110,7 @@ impl<'a> Inner<'a> {
         ensures { OnOk result ((n : OpTree) → inner_at self.new n ≡ inner_at self.old n
             ++ (if same_op (record { object = object.entry.now; op = op.entry.now }) n then map op_of calls.entry.now else [])) }
     {
-        let mut bodies = match self.objects.remove(object.bytes()) {
-            None => BodyCalls::new(alloc),
-            Some(bodies) => bodies,
-        };
-        bodies.add(alloc, op, calls)?;
-        self.objects.insert(object.bytes(), bodies)?;
-        Ok(())
+        self.calls.extend(alloc, object, op, calls.to_vec(alloc)?)
     }
 }
 
@@ -184,28 +172,26 @@ pub(crate) fn meant_calls<'a>(
 fn find<'a>(
     alloc: Global,
     op: &OpView<'a>,
-    seen: &mut OpTable<'a, ()>,
+    seen: &mut Ops<'a>,
     found: &mut Vec<OpView<'a>>,
 ) -> Result<(), NoMemory>
     requires { IsSeen seen.old (map op_of found.old.items) }
     ensures found { OnOk result (map op_of found.new.items ≡ found_more (map op_of found.old.items) (op_of op.entry.now)) }
     ensures seen { OnOk result (IsSeen seen.new (map op_of found.new.items)) }
 {
-    match seen.get(op.object, op.op) {
-        Some(_) => Ok(()),
-        None => {
-            seen.put(alloc, op.object, op.op, ())?;
-            found.push(*op)?;
-            Ok(())
-        }
+    if seen.has(op.object, op.op) {
+        return Ok(());
     }
+    seen.add(alloc, op.object, op.op)?;
+    found.push(*op)?;
+    Ok(())
 }
 
 /// Adds operations that weren't found before.
 pub(crate) fn find_all<'a>(
     alloc: Global,
     ops: &[OpView<'a>],
-    seen: &mut OpTable<'a, ()>,
+    seen: &mut Ops<'a>,
     found: &mut Vec<OpView<'a>>,
 ) -> Result<(), NoMemory>
     requires { IsSeen seen.old (map op_of found.old.items) }
@@ -235,7 +221,7 @@ fn follow<'a>(
     alloc: Global,
     inner: &Inner<'a>,
     op: &OpView<'a>,
-    seen: &mut OpTable<'a, ()>,
+    seen: &mut Ops<'a>,
     found: &mut Vec<OpView<'a>>,
 ) -> Result<(), NoMemory>
     requires { IsSeen seen.old (map op_of found.old.items) }
@@ -254,7 +240,7 @@ pub(crate) fn follow_all<'a>(
     alloc: Global,
     inner: &Inner<'a>,
     ops: &[OpView<'a>],
-    seen: &mut OpTable<'a, ()>,
+    seen: &mut Ops<'a>,
     found: &mut Vec<OpView<'a>>,
 ) -> Result<(), NoMemory>
     requires { IsSeen seen.old (map op_of found.old.items) }
@@ -277,7 +263,7 @@ fn search<'a>(
 ) -> Result<Vec<OpView<'a>>, NoMemory>
     ensures { IfOk result (λ v. map op_of v.items ≡ spread (inner_at inner.entry.now) depth 0 (found_all [] (map op_of starts.entry.now))) }
 {
-    let mut seen = OpTable::new(alloc);
+    let mut seen = Ops::new(alloc);
     let mut found = Vec::new(alloc);
     find_all(alloc, starts, &mut seen, &mut found)?;
     let mut from = 0;

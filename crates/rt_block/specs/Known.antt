@@ -2,7 +2,7 @@
 -- Rows are worked out for given priorities.
 use Rattle.std.specs.Prelude.{◌≡◌, ℕ, List, length, map}
 use Rattle.seq_tree.specs.declared.tree.OpName.{OpName}
-use Rattle.seq_cost.specs.Tables.{at}
+use Rattle.name_sets.specs.Tables.{at}
 use Rattle.ods_tree.specs.Flats.{Flat}
 use Rattle.ods_tree.specs.Trees.{flat_of}
 use Rattle.rt_block.specs.Called.{called_places, inner_places}

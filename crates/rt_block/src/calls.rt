@@ -3,7 +3,7 @@ ghost use Rattle.seq_tree.specs.Dearest.{turn_count};
 ghost use Rattle.seq_tree.specs.Statements.{Nothing};
 ghost use Rattle.seq_tree.specs.Trees.{arm_of, block_of, branches_of, otherwise, statement_of};
 ghost use Rattle.seq_cost.specs.Different.{call_of};
-ghost use Rattle.seq_cost.specs.Tables.{at};
+ghost use Rattle.name_sets.specs.Tables.{at};
 ghost use Rattle.ods_tree.specs.Trees.{thread_of};
 ghost use Rattle.analysis.specs.Sections.{live_branches, live_calls, live_statement};
 ghost use Rattle.rt_block.specs.Called.{called_places, inner_places};
@@ -11,8 +11,9 @@ ghost use Rattle.rt_block.specs.Entries.{entry_at, work_of};
 
 use crate::places::places_called;
 use crate::services::{Body, Served};
+use name_sets::OpTable;
 use ods_tree::FlatThread;
-use seq_cost::{Call, OpTable, written_calls};
+use seq_cost::{Call, written_calls};
 use seq_tree::{Arm, Block, NoMemory, Stmt};
 use std::alloc::Global;
 

@@ -1,14 +1,15 @@
 ghost use Rattle.std.specs.Prelude.{◌≡◌, ◌≤◌, IfOk, length, map, min};
 ghost use Rattle.seq_tree.specs.Dearest.{cost};
 ghost use Rattle.seq_tree.specs.Trees.{block_of};
-ghost use Rattle.seq_cost.specs.Tables.{at};
+ghost use Rattle.name_sets.specs.Tables.{at};
 ghost use Rattle.rt_block.specs.Entries.{entry_at, work_of};
 ghost use Rattle.rt_block.specs.Places.{known_by};
 ghost use Rattle.rt_block.specs.Prices.{cap, deeper_prices, price, prices};
 
 use crate::services::{Body, Served};
 use crate::spread::{same, value};
-use seq_cost::{Account, OpTable, capped_cost};
+use name_sets::OpTable;
+use seq_cost::{Account, capped_cost};
 use seq_tree::{Block, Costs, Name, NoMemory};
 use std::alloc::Global;
 

@@ -10,8 +10,8 @@ use crate::costs::prices_of;
 use crate::places::places_of;
 use crate::services::{Served, services_of};
 use analysis::Ranking;
+use name_sets::OpTable;
 use ods_tree::Flat;
-use seq_cost::OpTable;
 use seq_tree::NoMemory;
 use std::alloc::Global;
 

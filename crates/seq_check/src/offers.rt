@@ -1,10 +1,10 @@
 ghost use Rattle.std.specs.Prelude.{◌≡◌, ◌∷◌, [], IfOk, OnOk, map, option_map};
-ghost use Rattle.seq_cost.specs.Tables.{at};
+ghost use Rattle.name_sets.specs.Tables.{at};
 ghost use Rattle.seq_tree.specs.Faults.{or_else};
 ghost use Rattle.seq_tree.specs.declared.tree.OpName.{OpName};
 ghost use Rattle.seq_check.specs.Scopes.{found_in, offer_view};
 
-use seq_cost::OpTable;
+use name_sets::OpTable;
 use seq_tree::{Name, NoMemory, OpSig};
 use std::alloc::Global;
 

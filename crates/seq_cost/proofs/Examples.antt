@@ -1,6 +1,6 @@
 -- Examples: what the definitions of this crate give for small blocks and lists, and what breaks each of them alone.
 use Rattle.std.specs.Prelude.{◌≡◌, ℕ, List, [], ◌∷◌, codes, refl, Some, None}
-use Rattle.std.proofs.Common.{ap, arith}
+use Rattle.std.proofs.Common.{arith}
 use Rattle.std.specs.Borrow.{Bor}
 use Rattle.seq_tree.specs.Expressions.{Variable}
 use Rattle.seq_tree.specs.Statements.{Statements, Work, Null, End, Then}
@@ -10,8 +10,6 @@ use Rattle.seq_tree.specs.declared.tree.OpName.{OpName}
 use Rattle.seq_cost.specs.Callees.{callee_cost, callee_starts}
 use Rattle.seq_cost.specs.Counting.{arms_weight, weights_of}
 use Rattle.seq_cost.specs.Different.{call_of, different}
-use Rattle.seq_cost.specs.Tables.{at, number_at, or_0}
-use Rattle.seq_cost.specs.declared.tables.OpTable.{OpTable}
 use Rattle.seq_cost.specs.Over.{BringsOver, front, within_most}
 use Rattle.seq_cost.specs.declared.counted.Counted.TheVariants.{Ticks, Calls, Through, Weighed}
 
@@ -108,21 +106,8 @@ once_each = refl
 other_order : different (get ∷ set ∷ []) ≡ get ∷ set ∷ []
 other_order = refl
 
--- a number that a table has, and one that it has not
 abbrev name_of : List ℕ → Bor (List ℕ)
 name_of n = record { ref_ptr = (0, 0); now = n }
-
-set_has_a_number : (table : OpTable ℕ) → at table set ≡ Some 7 → number_at table (codes "q") (codes "set") ≡ 7
-set_has_a_number table h = ap or_0 h
-
-get_has_0 : (table : OpTable ℕ) → at table get ≡ None → number_at table (codes "q") (codes "get") ≡ 0
-get_has_0 table h = ap or_0 h
-
-nothing_is_0 : or_0 None ≡ 0
-nothing_is_0 = refl
-
-something_is_itself : or_0 (Some 3) ≡ 3
-something_is_itself = refl
 
 -- a call is the operation that it names
 called_set : call_of (record { object = name_of (codes "q"); op = name_of (codes "set") }) ≡ set

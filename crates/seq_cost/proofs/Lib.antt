@@ -5,4 +5,3 @@ pub mod CutCosts
 pub mod Listed
 pub mod Tallies
 pub mod Gathering
-pub mod TableSteps

@@ -2,4 +2,3 @@ pub mod Callees
 pub mod Counting
 pub mod Different
 pub mod Over
-pub mod Tables

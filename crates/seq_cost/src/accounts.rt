@@ -2,9 +2,9 @@ ghost use Rattle.std.specs.Prelude.{◌≡◌, ℕ};
 ghost use Rattle.seq_tree.specs.Dearest.{is_call_of};
 ghost use Rattle.seq_tree.specs.Names.{Name as NameTree};
 ghost use Rattle.seq_cost.specs.Callees.{callee_cost, callee_starts};
-ghost use Rattle.seq_cost.specs.Tables.{number_at};
+ghost use Rattle.name_sets.specs.Tables.{number_at};
 
-use crate::tables::OpTable;
+use name_sets::OpTable;
 use seq_tree::{Name, OpName};
 
 /// What the body of an operation costs, in ticks, besides the call of it.

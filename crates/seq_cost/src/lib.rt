@@ -5,19 +5,17 @@
 //! `starts` and `starts_through` count calls along a path by the same definition, and `calls` lists the different calls.
 //!
 //! `cost` and `starts_through` search their list for each call. Where there are many callees, `cost_by`, `capped_cost`,
-//! `starts_by` and `counted_by` take any account of them, as an `OpTable`, which searches by halves.
+//! `starts_by` and `counted_by` take any account of them, as the `OpTable` of `name_sets`, which searches by halves.
 #![tactic(auto)]
 
 mod accounts;
 mod counted;
 mod paths;
 mod starting;
-mod tables;
 mod ticks;
 mod written;
 
 pub use accounts::{Account, Callee, Started};
 pub use starting::{counted_by, starts, starts_by, starts_through};
-pub use tables::OpTable;
 pub use ticks::{TooDear, capped_cost, cost, cost_by};
 pub use written::{Call, calls, written_calls};

@@ -4,7 +4,7 @@ ghost use Rattle.seq_tree.specs.Statements.{Nothing};
 ghost use Rattle.seq_tree.specs.Trees.{arm_of, block_of, branches_of, otherwise, statement_of};
 ghost use Rattle.seq_cost.specs.Different.{call_of, different};
 
-use crate::tables::OpTable;
+use name_sets::Ops;
 use seq_tree::{Arm, Block, Name, NoMemory, OpName, Stmt};
 use std::alloc::Global;
 
@@ -99,11 +99,11 @@ fn firsts<'a>(alloc: Global, calls: &[Call<'a>]) -> Result<Vec<OpName>, NoMemory
     ensures { IfOk result (λ v. v.items ≡ different (map call_of calls.entry.now)) }
 {
     let mut found = Vec::new(alloc);
-    let mut seen: OpTable<'a, ()> = OpTable::new(alloc);
+    let mut seen = Ops::new(alloc);
     'calls: for call in calls {
-        if seen.get(call.object, call.op).is_none() {
+        if !seen.has(call.object, call.op) {
             found.push(op_name(alloc, call)?)?;
-            seen.put(alloc, call.object, call.op, ())?;
+            seen.add(alloc, call.object, call.op)?;
         }
     }
     Ok(found)

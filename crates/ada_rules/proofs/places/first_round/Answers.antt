@@ -1,6 +1,6 @@
 use Rattle.std.proofs.Common.{length, map, ap, sym, ◌∙◌}
 use Rattle.std.proofs.lemmas.List.{length-map}
-use Rattle.seq_cost.specs.Tables.{at}
+use Rattle.name_sets.specs.Tables.{at}
 use Rattle.rings.specs.Graphs.{is_step}
 use Rattle.ada_rules.specs.Edges.{edge_of}
 use Rattle.ada_rules.proofs.PlaceLaws.{first_is}

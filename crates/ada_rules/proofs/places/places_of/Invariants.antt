@@ -1,5 +1,5 @@
 use Rattle.std.proofs.Common.{◌≡◌, map, drop}
-use Rattle.seq_cost.specs.Tables.{at}
+use Rattle.name_sets.specs.Tables.{at}
 use Rattle.seq_tree.specs.Faults.{or_else}
 use Rattle.seq_tree.specs.declared.tree.OpName.{OpName}
 use Rattle.ada_rules.specs.Edges.{edge_of}

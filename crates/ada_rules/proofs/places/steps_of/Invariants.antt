@@ -1,5 +1,5 @@
 use Rattle.std.proofs.Common.{◌≡◌, ◌++◌, map, drop}
-use Rattle.seq_cost.specs.Tables.{at}
+use Rattle.name_sets.specs.Tables.{at}
 use Rattle.ada_rules.specs.Edges.{edge_of}
 use Rattle.ada_rules.specs.Places.{steps_of}
 use Rattle.ada_rules.proofs.places.steps_of.Given as goal

@@ -1,6 +1,6 @@
 use Rattle.std.proofs.Common.{◌&&◌, Bool, List, map}
 use Rattle.std.specs.List.{list_any}
-use Rattle.seq_cost.specs.Tables.{at}
+use Rattle.name_sets.specs.Tables.{at}
 use Rattle.seq_tree.specs.Calls.{same_op}
 use Rattle.ada_rules.specs.Edges.{Edge, edge_of}
 use Rattle.ada_rules.specs.Places.{is_marked}

@@ -1,6 +1,6 @@
 use Rattle.std.proofs.Common.{◌≡◌, ◌||◌, map, take}
 use Rattle.name_sets.specs.Sets.{has_op}
-use Rattle.seq_cost.specs.Tables.{at}
+use Rattle.name_sets.specs.Tables.{at}
 use Rattle.seq_tree.specs.declared.tree.OpName.{OpName}
 use Rattle.ada_rules.specs.Edges.{edge_of}
 use Rattle.ada_rules.specs.Places.{is_led_to}

@@ -1,7 +1,7 @@
 use Rattle.std.proofs.Common.{◌≡◌, ℕ, false, get_or, length, map, ap, sym, ◌∙◌}
 use Rattle.std.proofs.lemmas.List.{length-map}
 use Rattle.name_sets.specs.Sets.{has_op}
-use Rattle.seq_cost.specs.Tables.{at}
+use Rattle.name_sets.specs.Tables.{at}
 use Rattle.rings.specs.Graphs.{is_step}
 use Rattle.rings.specs.Reached.{leads}
 use Rattle.ada_rules.specs.Edges.{edge_of}

@@ -1,5 +1,5 @@
 use Rattle.std.proofs.Common.{List, ◌∷◌, [], Option, None, ℕ, if◌then◌else◌, map}
-use Rattle.seq_cost.specs.Tables.{at}
+use Rattle.name_sets.specs.Tables.{at}
 use Rattle.ada_rules.specs.Edges.{Edge, edge_of}
 use Rattle.ada_rules.specs.Places.{starts_of}
 use Rattle.ada_rules.specs.declared.edges.EdgeView.{EdgeView}

@@ -1,6 +1,6 @@
 use Rattle.std.proofs.Common.{◌≡◌, ◌++◌, map, drop}
 use Rattle.name_sets.specs.Sets.{has_op}
-use Rattle.seq_cost.specs.Tables.{at}
+use Rattle.name_sets.specs.Tables.{at}
 use Rattle.ada_rules.specs.Edges.{edge_of}
 use Rattle.ada_rules.specs.Places.{starts_of}
 use Rattle.ada_rules.proofs.requests.starts_of.Given as goal

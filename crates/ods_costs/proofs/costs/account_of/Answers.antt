@@ -4,7 +4,7 @@ use Rattle.std.specs.List.{list_any}
 use Rattle.seq_tree.specs.Calls.{same_op}
 use Rattle.seq_tree.specs.declared.tree.OpName.{OpName}
 use Rattle.seq_cost.specs.Different.{call_of}
-use Rattle.seq_cost.specs.Tables.{at, number_at}
+use Rattle.name_sets.specs.Tables.{at, number_at}
 use Rattle.seq_cost.specs.declared.written.Call.{Call}
 use Rattle.seq_tree.proofs.LoopSteps.{drop_step}
 use Rattle.ods_tree.specs.Trees.{design_of}

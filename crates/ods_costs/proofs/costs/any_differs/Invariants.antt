@@ -1,6 +1,6 @@
 use Rattle.std.proofs.Common.{◌≡◌, drop}
 use Rattle.std.specs.List.{list_any}
-use Rattle.seq_cost.specs.Tables.{number_at}
+use Rattle.name_sets.specs.Tables.{number_at}
 use Rattle.ods_costs.specs.Costed.{differs}
 use Rattle.ods_costs.proofs.costs.any_differs.Given as goal
 

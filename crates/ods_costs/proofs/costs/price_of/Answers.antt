@@ -3,7 +3,7 @@ use Rattle.std.specs.Prelude.{min, option_map}
 use Rattle.std.proofs.lemmas.Result.{IfOk-weaker}
 use Rattle.seq_tree.specs.Dearest.{cost}
 use Rattle.seq_tree.specs.Trees.{block_of}
-use Rattle.seq_cost.specs.Tables.{number_at}
+use Rattle.name_sets.specs.Tables.{number_at}
 use Rattle.ods_tree.specs.Flattening.{flat}
 use Rattle.ods_tree.specs.Links.{resolved}
 use Rattle.ods_tree.specs.Services.{flat_services}

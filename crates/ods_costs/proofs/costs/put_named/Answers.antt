@@ -1,6 +1,6 @@
 use Rattle.std.proofs.Common.{rules, ◌≡◌, Some, ap, sym, ◌∙◌}
 use Rattle.std.specs.Prelude.{option_map}
-use Rattle.seq_cost.specs.Tables.{at}
+use Rattle.name_sets.specs.Tables.{at}
 use Rattle.ods_tree.specs.Trees.{design_of}
 use Rattle.ods_costs.specs.Costed.{served_as}
 use Rattle.ods_costs.specs.Settled.{served_name}

@@ -4,7 +4,7 @@ use Rattle.std.proofs.lemmas.Result.{IfOk-weaker}
 use Rattle.seq_tree.specs.Names.{Name}
 use Rattle.seq_tree.specs.Statements.{Statements}
 use Rattle.seq_tree.specs.Trees.{block_of}
-use Rattle.seq_cost.specs.Tables.{at}
+use Rattle.name_sets.specs.Tables.{at}
 use Rattle.ods_tree.specs.Designs.{Design}
 use Rattle.ods_tree.specs.declared.design.Node.{the_lemmas}
 use Rattle.ods_costs.specs.Costed.{block_in, served_as, served_ops}

@@ -3,7 +3,7 @@ use Rattle.std.specs.Prelude.{option_map, IfOk}
 use Rattle.std.proofs.lemmas.Result.{IfOk-weaker}
 use Rattle.seq_tree.specs.Names.{Name}
 use Rattle.seq_tree.specs.Trees.{operation_of}
-use Rattle.seq_cost.specs.Tables.{at}
+use Rattle.name_sets.specs.Tables.{at}
 use Rattle.ods_tree.specs.Designs.{Body}
 use Rattle.ods_tree.specs.Flattening.{body_named, operations}
 use Rattle.ods_tree.specs.Trees.{body_of, design_of}

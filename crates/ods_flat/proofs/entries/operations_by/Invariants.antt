@@ -1,7 +1,7 @@
 use Rattle.std.proofs.Common.{◌≡◌, ◌++◌, map, drop}
 use Rattle.std.specs.Prelude.{option_map}
 use Rattle.seq_tree.specs.Trees.{operation_of}
-use Rattle.seq_cost.specs.Tables.{at}
+use Rattle.name_sets.specs.Tables.{at}
 use Rattle.ods_tree.specs.Trees.{body_of, design_of, provided_of}
 use Rattle.ods_flat.specs.Terminals.{operations_among}
 use Rattle.ods_flat.proofs.entries.operations_by.Given as goal

@@ -1,6 +1,7 @@
 use Rattle.std.proofs.Common.{◌≡◌, ◌≤◌, length, map, drop}
 use Rattle.seq_tree.specs.Names.{Name}
-use Rattle.ods_index.specs.Tables.{object_name, place_from, place_in}
+use Rattle.name_sets.specs.Places.{place_in}
+use Rattle.ods_index.specs.Tables.{object_name, place_from}
 use Rattle.ods_index.proofs.index.places_of.Given as goal
 
 -- the places of the objects from this one on

@@ -20,4 +20,4 @@ add_object-returns-clause-named t c =
     object_named c.args.node.now c.args.scopes.now.items c.add_objects.new.scopes.items c.push.new.self.items c.in_ok-scope.scope
     c.args.names.now c.add_objects.new.names c.put.new.self
     c.as_slice.result.now _ c.len-place.result c.in_ok-scope.ensures c.in_ok-push.ensures.items place c.as_slice.ensures.value refl
-    c.in_ok-children.ensures.named c.in_ok-put.ensures
+    c.in_ok-children.ensures.named c.in_ok-put.ensures.put

@@ -1,5 +1,5 @@
 use Rattle.std.proofs.Common.{List, flat_map, map, refl}
-use Rattle.seq_cost.specs.Tables.{at}
+use Rattle.name_sets.specs.Tables.{at}
 use Rattle.ods_tree.specs.Trees.{body_of, design_of}
 use Rattle.ods_tree.specs.declared.design.OpBody.{OpBody}
 use Rattle.ods_starts.specs.Graphed.{body_edges}

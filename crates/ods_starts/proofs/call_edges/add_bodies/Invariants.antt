@@ -1,5 +1,5 @@
 use Rattle.std.proofs.Common.{◌≡◌, ◌++◌, flat_map, map, drop}
-use Rattle.seq_cost.specs.Tables.{at}
+use Rattle.name_sets.specs.Tables.{at}
 use Rattle.ods_tree.specs.Trees.{body_of, design_of}
 use Rattle.ods_starts.specs.Graphed.{body_edges}
 use Rattle.ods_starts.proofs.call_edges.add_bodies.Given as goal

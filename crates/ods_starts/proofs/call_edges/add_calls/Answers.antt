@@ -1,8 +1,8 @@
 use Rattle.std.proofs.Common.{List, map}
 use Rattle.std.specs.List.{list_any}
 use Rattle.seq_tree.specs.Calls.{same_op}
+use Rattle.name_sets.specs.Tables.{at}
 use Rattle.seq_cost.specs.Different.{call_of}
-use Rattle.seq_cost.specs.Tables.{at}
 use Rattle.seq_cost.specs.declared.written.Call.{Call}
 use Rattle.ods_tree.specs.Links.{resolve}
 use Rattle.ods_tree.specs.Trees.{design_of}

@@ -1,6 +1,6 @@
 use Rattle.std.proofs.Common.{◌≡◌, ◌++◌, map, drop}
+use Rattle.name_sets.specs.Tables.{at}
 use Rattle.seq_cost.specs.Different.{call_of}
-use Rattle.seq_cost.specs.Tables.{at}
 use Rattle.ods_tree.specs.Trees.{design_of}
 use Rattle.ods_starts.specs.Graphed.{called_edges}
 use Rattle.ods_starts.proofs.call_edges.add_calls.Given as goal

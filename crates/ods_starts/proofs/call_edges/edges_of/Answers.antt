@@ -1,5 +1,5 @@
 use Rattle.std.proofs.Common.{List, flat_map, map, filter}
-use Rattle.seq_cost.specs.Tables.{at}
+use Rattle.name_sets.specs.Tables.{at}
 use Rattle.ods_tree.specs.Trees.{design_of}
 use Rattle.ods_tree.specs.Walk.{is_terminal}
 use Rattle.ods_index.specs.Walking.{standing_of}

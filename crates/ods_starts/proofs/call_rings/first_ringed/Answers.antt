@@ -1,6 +1,6 @@
 use Rattle.std.proofs.Common.{◌≡◌, IfOk, ap, subst, ◌∙◌, map, flat_map, length, refl}
 use Rattle.std.proofs.Math.Path.{fun_ext}
-use Rattle.seq_cost.specs.Tables.{at}
+use Rattle.name_sets.specs.Tables.{at}
 use Rattle.ods_tree.specs.Trees.{design_of}
 use Rattle.ods_tree.specs.Walk.{objects, terminals}
 use Rattle.ods_starts.specs.Graphed.{object_edges}

@@ -1,8 +1,8 @@
 use Rattle.std.proofs.Common.{[], ◌∷◌, List, map, sym, append_assoc}
 use Rattle.seq_tree.specs.Calls.{block_calls}
+use Rattle.name_sets.specs.Places.{place_in}
 use Rattle.ods_tree.specs.Trees.{body_of, design_of}
 use Rattle.ods_tree.specs.declared.design.OpBody.{OpBody}
-use Rattle.ods_index.specs.Tables.{place_in}
 use Rattle.ods_starts.specs.Guarded.{bodies_edges, meant_edges}
 use Rattle.seq_tree.proofs.LoopSteps.{added_step}
 use Rattle.ods_starts.proofs.object_rings.add_bodies.Goals as goal

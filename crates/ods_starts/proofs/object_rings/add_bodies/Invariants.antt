@@ -1,7 +1,7 @@
 use Rattle.std.proofs.Common.{◌≡◌, ◌++◌, map, drop}
+use Rattle.name_sets.specs.Places.{place_in}
 use Rattle.ods_tree.specs.Trees.{body_of, design_of}
 use Rattle.ods_starts.specs.Guarded.{bodies_edges}
-use Rattle.ods_index.specs.Tables.{place_in}
 use Rattle.ods_starts.proofs.object_rings.add_bodies.Given as goal
 
 -- the edges so far, and those of the bodies that are left

@@ -1,8 +1,8 @@
 use Rattle.std.proofs.Common.{◌≡◌, ◌++◌, map, drop}
+use Rattle.name_sets.specs.Places.{place_in}
 use Rattle.seq_cost.specs.Different.{call_of}
 use Rattle.ods_tree.specs.Trees.{design_of}
 use Rattle.ods_starts.specs.Guarded.{meant_edges}
-use Rattle.ods_index.specs.Tables.{place_in}
 use Rattle.ods_starts.proofs.object_rings.add_calls.Given as goal
 
 -- the edges so far, and those of the calls that are left

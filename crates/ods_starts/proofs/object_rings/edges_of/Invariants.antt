@@ -1,8 +1,8 @@
 use Rattle.std.proofs.Common.{◌≡◌, ◌++◌, flat_map, map, drop}
+use Rattle.name_sets.specs.Places.{place_in}
 use Rattle.ods_tree.specs.Trees.{design_of}
 use Rattle.ods_starts.specs.Guarded.{guard_edges}
 use Rattle.ods_index.specs.Nodes.{node_object}
-use Rattle.ods_index.specs.Tables.{place_in}
 use Rattle.ods_starts.proofs.object_rings.edges_of.Given as goal
 
 -- the edges so far, and those of the objects that are left

@@ -1,10 +1,11 @@
 use Rattle.std.proofs.Common.{◌≡◌, IfOk, ap, subst, ◌∙◌, map, flat_map, length, refl}
 use Rattle.std.proofs.Math.Path.{fun_ext}
 use Rattle.seq_tree.specs.Names.{Name}
+use Rattle.name_sets.specs.Places.{place_in}
 use Rattle.ods_tree.specs.Trees.{design_of}
 use Rattle.ods_starts.specs.Guarded.{guard_edges}
 use Rattle.ods_index.specs.Nodes.{node_object}
-use Rattle.ods_index.specs.Tables.{place_from, place_in}
+use Rattle.ods_index.specs.Tables.{place_from}
 use Rattle.ods_starts.proofs.NamePlaces.{names-of, names-same}
 use Rattle.ods_starts.proofs.ObjectRings.{count-same}
 use Rattle.ods_starts.proofs.object_rings.first_ringed.Goals as goal

@@ -6,8 +6,8 @@ use Rattle.seq_tree.specs.Lists.{Each}
 use Rattle.seq_tree.specs.Names.{Name}
 use Rattle.seq_tree.specs.Trees.{block_of}
 use Rattle.seq_tree.specs.declared.tree.OpName.{OpName}
+use Rattle.name_sets.specs.Tables.{number_at, or_0}
 use Rattle.seq_cost.specs.Different.{call_of}
-use Rattle.seq_cost.specs.Tables.{number_at, or_0}
 use Rattle.seq_cost.proofs.Listed.{block-same}
 use Rattle.ods_tree.specs.Trees.{design_of}
 use Rattle.ods_starts.specs.Requested.{call_weight, known_in}

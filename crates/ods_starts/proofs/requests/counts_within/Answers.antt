@@ -5,7 +5,7 @@ use Rattle.std.specs.Prelude.{if◌then◌else◌}
 use Rattle.std.specs.List.{list_any}
 use Rattle.seq_tree.specs.Calls.{same_op}
 use Rattle.seq_tree.specs.declared.tree.OpName.{OpName}
-use Rattle.seq_cost.specs.Tables.{or_0}
+use Rattle.name_sets.specs.Tables.{or_0}
 use Rattle.ods_tree.specs.Trees.{design_of}
 use Rattle.design_rules.specs.Sources.{starts_within}
 use Rattle.ods_index.specs.Linked.{op_of}

@@ -1,8 +1,8 @@
 use Rattle.std.proofs.Common.{map, subst}
+use Rattle.name_sets.specs.Places.{place_in}
 use Rattle.ods_tree.specs.Trees.{design_of}
 use Rattle.ods_index.specs.Judging.{Tells, head_of}
 use Rattle.ods_starts.specs.Spreading.{is_there, reaches}
-use Rattle.ods_index.specs.Tables.{place_in}
 use Rattle.ods_index.specs.Walking.{object_of}
 use Rattle.ods_starts.proofs.SpacingLaws.{spaced-same}
 use Rattle.ods_starts.proofs.separations.starter_fits.Goals as goal

@@ -1,6 +1,6 @@
 use Rattle.std.proofs.Common.{rules, ◌≡◌, Bor, Err}
+use Rattle.name_sets.specs.Places.{place_in}
 use Rattle.ods_tree.specs.declared.design.Node.{Node}
-use Rattle.ods_index.specs.Tables.{place_in}
 use Rattle.ods_index.specs.Walking.{object_of}
 use Rattle.ods_starts.specs.Spacings.{spaced}
 use Rattle.ods_starts.specs.Spreading.{is_there}

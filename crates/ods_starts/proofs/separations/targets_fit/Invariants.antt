@@ -1,9 +1,9 @@
 use Rattle.std.proofs.Common.{◌≡◌, map, drop}
 use Rattle.std.specs.Prelude.{filter_map}
+use Rattle.name_sets.specs.Places.{place_in}
 use Rattle.ods_index.specs.Judging.{head_of}
 use Rattle.ods_starts.specs.Spacings.{spaced}
 use Rattle.ods_starts.specs.Spreading.{is_there}
-use Rattle.ods_index.specs.Tables.{place_in}
 use Rattle.ods_index.specs.Walking.{object_of}
 use Rattle.ods_starts.proofs.separations.targets_fit.Given as goal
 

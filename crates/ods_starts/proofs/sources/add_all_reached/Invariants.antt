@@ -2,10 +2,10 @@ use Rattle.std.proofs.Common.{◌≡◌, ◌||◌, ◌++◌, ◌∷◌, [], map,
 use Rattle.std.specs.Prelude.{if◌then◌else◌}
 use Rattle.std.specs.List.{list_any}
 use Rattle.seq_tree.specs.Names.{Name, same_name}
+use Rattle.name_sets.specs.Places.{place_in}
 use Rattle.ods_index.specs.Linked.{op_of}
 use Rattle.ods_starts.specs.Reaching.{reacher_of, reachers_at}
 use Rattle.ods_starts.specs.Spreading.{is_there}
-use Rattle.ods_index.specs.Tables.{place_in}
 use Rattle.ods_starts.proofs.sources.add_all_reached.Given as goal
 
 -- the objects so far, and those of the operations that are left

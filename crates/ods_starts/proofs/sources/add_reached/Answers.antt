@@ -2,10 +2,10 @@ use Rattle.std.proofs.Common.{rules, ◌≡◌, ◌∙◌, ◌∷◌, ◌++◌, 
 use Rattle.std.proofs.lemmas.Result.{IfOk-weaker}
 use Rattle.std.specs.Prelude.{if◌then◌else◌}
 use Rattle.seq_tree.specs.Names.{Name, same_name}
+use Rattle.name_sets.specs.Places.{place_in}
 use Rattle.ods_index.specs.Linked.{op_of}
 use Rattle.ods_starts.specs.Reaching.{reacher_of, reachers_at}
 use Rattle.ods_starts.specs.Spreading.{is_there}
-use Rattle.ods_index.specs.Tables.{place_in}
 use Rattle.ods_starts.proofs.SourceLaws.{added-new, found-again, found-new, nothing-again, there-none, there-some}
 use Rattle.ods_starts.proofs.sources.add_reached.Goals as goal
 
@@ -27,7 +27,7 @@ returns-clause-found c =
     IfOk-weaker c.add.result (λ u. (n : Name) → reachers_at c.add.new.self n ≡ reachers_at c.args.reachers.now n
     ++ (if same_name (op_of c.args.op.now).object n then reacher_of c.args.reacher.now ∷ [] else []))
     (λ u. (n : Name) → is_there (place_in c.put.new.self n) ≡ (is_there (place_in c.args.found.now n) || same_name (op_of c.args.op.now).object n))
-    (λ u h n. found-new (op_of c.args.op.now).object n 0 (place_in c.args.found.now n) (place_in c.put.new.self n) (c.in_ok-put.ensures n))
+    (λ u h n. found-new (op_of c.args.op.now).object n 0 (place_in c.args.found.now n) (place_in c.put.new.self n) (c.in_ok-put.ensures.put n))
     c.add.ensures
 
 pub returns-clause-reachers : goal.returns-clause-reachers

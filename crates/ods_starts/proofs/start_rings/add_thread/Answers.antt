@@ -1,11 +1,11 @@
 use Rattle.std.proofs.Common.{◌≡◌, ◌&&◌, ◌||◌, Bool, Some, map, ap, sym, ◌∙◌}
 use Rattle.std.specs.List.{list_any}
 use Rattle.seq_tree.specs.declared.tree.OpName.{OpName}
+use Rattle.name_sets.specs.Places.{place_in}
 use Rattle.ods_tree.specs.Trees.{design_of}
 use Rattle.design_rules.specs.Rings.{thread_calls}
 use Rattle.ods_index.specs.Linked.{op_of}
 use Rattle.ods_starts.specs.Starting.{has_edge, is_at, target_in}
-use Rattle.ods_index.specs.Tables.{place_in}
 use Rattle.ods_index.specs.Walking.{object_of}
 use Rattle.ods_starts.proofs.StartSteps.{edges-more}
 use Rattle.ods_index.proofs.WalkSteps.{own_fields}

@@ -2,11 +2,11 @@ use Rattle.std.proofs.Common.{◌≡◌, ◌∷◌, ◌+◌, ◌||◌, Bor, List
 use Rattle.std.proofs.Math.Bool.{or_assoc}
 use Rattle.std.specs.List.{list_any}
 use Rattle.seq_tree.proofs.LoopSteps.{drop_step}
+use Rattle.name_sets.specs.Places.{place_in}
 use Rattle.ods_tree.specs.Trees.{design_of}
 use Rattle.ods_tree.specs.declared.design.Node.{Node}
 use Rattle.ods_index.specs.Nodes.{node_object}
 use Rattle.ods_starts.specs.Starting.{has_edge, starts_at, target_in}
-use Rattle.ods_index.specs.Tables.{place_in}
 use Rattle.ods_starts.proofs.start_rings.edges_of.Goals as goal
 
 pub threads-preserved : goal.threads-preserved

@@ -1,9 +1,9 @@
 use Rattle.std.proofs.Common.{◌≡◌, ℕ, ◌||◌, map, drop}
 use Rattle.std.specs.List.{list_any}
+use Rattle.name_sets.specs.Places.{place_in}
 use Rattle.ods_tree.specs.Trees.{design_of}
 use Rattle.ods_index.specs.Nodes.{node_object}
 use Rattle.ods_starts.specs.Starting.{has_edge, starts_at, target_in}
-use Rattle.ods_index.specs.Tables.{place_in}
 use Rattle.ods_starts.proofs.start_rings.edges_of.Given as goal
 
 -- the edges so far, and those of the threads that are left

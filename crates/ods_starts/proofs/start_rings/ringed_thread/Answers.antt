@@ -1,4 +1,5 @@
 use Rattle.std.proofs.Common.{◌≡◌, ap, ◌∙◌, arith, map, length, slice_get, None, Some}
+use Rattle.name_sets.specs.Places.{place_in}
 use Rattle.ods_tree.specs.Trees.{design_of}
 use Rattle.ods_tree.specs.Walk.{objects}
 use Rattle.design_rules.specs.Broken.{V09Starts}
@@ -6,7 +7,6 @@ use Rattle.design_rules.specs.Rings.{thread_objects}
 use Rattle.design_rules.specs.Rules.{RingedThread}
 use Rattle.ods_index.specs.Nodes.{node_object}
 use Rattle.ods_starts.specs.Starting.{target_in}
-use Rattle.ods_index.specs.Tables.{place_in}
 use Rattle.ods_index.specs.Walking.{standing_of}
 use Rattle.ods_starts.proofs.CallRings.{tells-first, told-by}
 use Rattle.ods_starts.proofs.NamePlaces.{tell-same}

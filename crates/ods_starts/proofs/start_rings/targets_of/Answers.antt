@@ -1,11 +1,11 @@
 use Rattle.std.proofs.Common.{◌≡◌, ◌∷◌, ◌+◌, ◌||◌, Bor, List, map, drop, ap, sym, ◌∙◌}
 use Rattle.std.proofs.Math.Bool.{or_assoc}
 use Rattle.seq_tree.proofs.LoopSteps.{drop_step}
+use Rattle.name_sets.specs.Places.{place_in}
 use Rattle.ods_tree.specs.declared.design.Node.{Node}
 use Rattle.ods_index.specs.Nodes.{node_object}
 use Rattle.ods_starts.specs.Spreading.{is_there}
 use Rattle.ods_starts.specs.Starting.{has_target, is_target}
-use Rattle.ods_index.specs.Tables.{place_in}
 use Rattle.ods_starts.proofs.start_rings.targets_of.Goals as goal
 
 pub threads-preserved : goal.threads-preserved

@@ -2,13 +2,13 @@ use Rattle.std.proofs.Common.{map, ap, sym, ◌∙◌}
 use Rattle.std.proofs.lemmas.List.{map-append}
 use Rattle.std.specs.List.{list_any}
 use Rattle.seq_tree.specs.Calls.{same_op}
-use Rattle.seq_cost.specs.Tables.{at}
+use Rattle.name_sets.specs.Sets.{has_op}
 use Rattle.ods_index.specs.Linked.{op_of}
 use Rattle.ods_starts.proofs.KeptCalls.{seen-more}
 use Rattle.ods_starts.proofs.starts.find.Goals as goal
 
-pub returns-in_ok-push-in-None-clause-seen : goal.returns-in_ok-push-in-None-clause-seen
-returns-in_ok-push-in-None-clause-seen c = λ n.
-    seen-more (op_of c.args.op.now) n (map op_of c.args.found.now.items) (at c.put.new.self n) (at c.args.seen.now n)
-    (c.in_ok-put-in-None.ensures n) (c.requires n)
-    ∙ ap (list_any (same_op n)) (sym (ap (map op_of) c.in_ok-push-in-None.ensures.items ∙ map-append op_of c.args.found.now.items _))
+pub returns-clause-seen : goal.returns-clause-seen
+returns-clause-seen c = λ n.
+    seen-more (op_of c.args.op.now) n (map op_of c.args.found.now.items) (has_op c.add.new.self n) (has_op c.args.seen.now n)
+    (c.in_ok-add.ensures n) (c.requires n)
+    ∙ ap (list_any (same_op n)) (sym (ap (map op_of) c.in_ok-push.ensures.items ∙ map-append op_of c.args.found.now.items _))

@@ -1,9 +1,9 @@
 use Rattle.std.proofs.Common.{◌≡◌, ◌||◌, map, drop}
 use Rattle.std.specs.List.{list_any}
 use Rattle.seq_tree.specs.Names.{Name, same_name}
+use Rattle.name_sets.specs.Places.{place_in}
 use Rattle.ods_index.specs.Linked.{op_of}
 use Rattle.ods_starts.specs.Spreading.{is_there}
-use Rattle.ods_index.specs.Tables.{place_in}
 use Rattle.ods_starts.proofs.starts.names_of.Given as goal
 
 -- the names so far, and those of the operations that are left

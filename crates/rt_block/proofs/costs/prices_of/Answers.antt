@@ -1,5 +1,5 @@
 use Rattle.std.proofs.Common.{map, length, ◌∙◌, sym, ◌≤◌, arith}
-use Rattle.seq_cost.specs.Tables.{at}
+use Rattle.name_sets.specs.Tables.{at}
 use Rattle.rt_block.specs.Entries.{entry_at}
 use Rattle.rt_block.proofs.SpreadLaws.{prices-settled}
 use Rattle.rt_block.proofs.costs.prices_of.Goals as goal

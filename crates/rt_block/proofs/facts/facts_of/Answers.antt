@@ -1,6 +1,6 @@
 use Rattle.std.proofs.Common.{◌≡◌, length, map, ap, sym, ◌∙◌}
 use Rattle.std.proofs.lemmas.List.{length-map}
-use Rattle.seq_cost.specs.Tables.{at}
+use Rattle.name_sets.specs.Tables.{at}
 use Rattle.ods_tree.specs.Trees.{flat_of, thread_of}
 use Rattle.rt_block.specs.Called.{called_places, inner_places}
 use Rattle.rt_block.specs.Entries.{entries, entry_at}

@@ -1,5 +1,5 @@
 use Rattle.std.proofs.Common.{◌≡◌, drop, map, option_map}
-use Rattle.seq_cost.specs.Tables.{at}
+use Rattle.name_sets.specs.Tables.{at}
 use Rattle.seq_tree.specs.Faults.{or_else}
 use Rattle.seq_tree.specs.declared.tree.OpName.{OpName}
 use Rattle.seq_check.specs.Scopes.{found_in, offer_view}

@@ -1,7 +1,8 @@
 use Rattle.std.proofs.Common.{◌≡◌, ◌≤◌, length, map, drop}
 use Rattle.seq_tree.specs.Names.{Name}
 use Rattle.ada_tree.specs.Trees.{unit_of}
-use Rattle.arrivals_read.specs.Tables.{first_place, place_in}
+use Rattle.name_sets.specs.Places.{place_in}
+use Rattle.arrivals_read.specs.Tables.{first_place}
 use Rattle.arrivals_read.proofs.units.Units.new.Given as goal
 
 -- the places of the units from this one on

@@ -1,7 +1,6 @@
 use Rattle.std.proofs.Common.{◌≡◌, [], ◌∷◌, length, sym, ap, refl, arith, map, set, length-set, true, false, Some}
 use Rattle.std.specs.Prelude.{slice_get}
 use Rattle.std.proofs.lemmas.Option.{slice_get_read}
-use Rattle.link_queue.specs.Queues.{in_time}
 use Rattle.seq_tree.specs.Lists.{change}
 use Rattle.machine.specs.Releases.{Next, going}
 use Rattle.machine.specs.Deeds as deeds

@@ -1,6 +1,6 @@
 use Rattle.std.proofs.Common.{arith, ap, sym, subst, length, ◌∙◌}
 use Rattle.ceil_runtime.specs.Stacked.{vars_of}
-use Rattle.ceil_runtime.specs.Slots.{counted, spread}
+use Rattle.ceil_runtime.specs.Slots.{spread}
 use Rattle.ceil_runtime.specs.Progresses.{behind, nothing_kept, put_away}
 use Rattle.ceil_runtime.specs.Fitting.{Fit, names_of, place_of}
 use Rattle.ceil_runtime.specs.Written.{first_place}

@@ -3,7 +3,7 @@ use Rattle.std.specs.Prelude.{min}
 use Rattle.std.proofs.lemmas.Result.{IfOk-weaker}
 use Rattle.seq_tree.specs.Dearest.{cost}
 use Rattle.seq_tree.specs.Trees.{block_of}
-use Rattle.seq_cost.specs.Tables.{number_at}
+use Rattle.name_sets.specs.Tables.{number_at}
 use Rattle.ods_tree.specs.Trees.{design_of}
 use Rattle.design_rules.specs.Budgets.{body_cost}
 use Rattle.ods_costs.specs.Costed.{AgreesAt, cap, costed_ops, meant}

@@ -1,34 +1,16 @@
-use Rattle.std.proofs.Common.{◌≡◌, ◌∷◌, [], ℕ, List, Bor, Option, Some, ap, ◌∙◌}
-use Rattle.std.specs.Prelude.{option_map, unwrap_or}
-use Rattle.std.specs.Ordering.{nat_cmp}
-use Rattle.std.specs.Cmp.Lexicographic.{slice_cmp}
-use Rattle.std.specs.BTreeMap.{BTreeMap, get_by}
-use Rattle.seq_tree.specs.Names.{same_name}
-use Rattle.ods_starts.specs.Requested.{HeldBody, bodies_at, held_of, op_bodies_at}
-use Rattle.ods_starts.specs.declared.held.OpBodies.{OpBodies}
-use Rattle.ods_starts.proofs.KeptCalls.{added-both}
+use Rattle.std.proofs.Common.{◌∷◌, [], map, ap, ◌∙◌}
+use Rattle.std.proofs.lemmas.Result.{on_ok_weaker}
+use Rattle.seq_tree.specs.Calls.{same_op}
+use Rattle.name_sets.specs.Tables.{at, listed}
+use Rattle.ods_starts.specs.Requested.{bodies_at, held_of}
+use Rattle.ods_starts.proofs.KeptCalls.{added}
 use Rattle.ods_starts.proofs.held.Bodies.add.Goals as goal
-use Rattle.ods_starts.proofs.held.Bodies.add.Goals.{in-None, in-Some}
 
 pub returns : goal.returns
 unfolding bodies_at
-returns c = λ n.
-    let q : Bor (List ℕ) = record { ref_ptr = (0, 0); now = n.object } in
-    let items : OpBodies → List HeldBody = λ b. op_bodies_at b n.op in
-    let found : (w : List ℕ) → BTreeMap (Bor (List ℕ)) OpBodies → Option OpBodies = λ w m. get_by (λ k. slice_cmp nat_cmp w k.now) m in
-    let before : items c.match-remove.bodies ≡ unwrap_or (option_map items (found c.bytes.result.now c.args.self.now.objects)) [] =
-    elim c.match-remove.branch [
-      | in-None w ↦ (
-          let none : items c.match-remove.bodies ≡ [] = rw w.bodies-is (w.new-bodies.ensures n.op) in
-          none ∙ ap (λ z. unwrap_or (option_map items z) []) w.in-None.ensures.value
-          )
-      | in-Some w ↦ (
-          let some : Some c.match-remove.bodies ≡ found c.bytes.result.now c.args.self.now.objects = ap Some w.bodies-is ∙ w.in-Some.ensures.value in
-          ap (λ z. unwrap_or (option_map items z) []) some
-          )
-    ] in
-    added-both items (λ w. found w c.args.self.now.objects) c.args.body.now.object.now n.object (same_name c.args.body.now.op.now n.op)
-    c.bytes.result.now c.bytes-2.result.now (found n.object c.insert.new.self)
-    (found n.object c.remove.new.self) c.match-remove.bodies c.add.new.self (held_of c.args.body.now ∷ [])
-    (c.in_ok-insert.ensures.updates.0 q) c.bytes-2.ensures.bytes (c.remove.ensures.updates.0 q) c.bytes.ensures.bytes
-    (c.in_ok-add.ensures n.op) before
+returns c =
+    on_ok_weaker c.extend.result
+    (λ h n. added held_of (same_op (held_of c.args.body.now).name n) (listed (at c.extend.new.self n)) (listed (at c.args.self.now.bodies n))
+    c.in_ok-more.more.items (held_of c.args.body.now ∷ []) (h n)
+    (ap (map held_of) c.in_ok-more.ensures.items ∙ ap (λ z. z ∷ []) c.in_ok-again.ensures))
+    c.extend.ensures

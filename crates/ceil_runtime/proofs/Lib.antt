@@ -52,4 +52,5 @@ pub mod EntrySteps
 pub mod ActedLaws
 pub mod EntryFacts
 pub mod ExamplesSections
+pub mod ExamplesActed
 pub mod Standing

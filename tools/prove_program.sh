@@ -1,6 +1,7 @@
 #!/bin/sh
 # Proves and builds the program, and then runs it on the example of crates/hrthood. Only one run of this works in a clone at a
-# time; a second ends at once, with status 75. ./hrthood starts it in the background. What it says goes to out/proof.log, at the end the verdict.
+# time; a second ends at once, with status 75. Where the binary is as new as the sources, as behind the gate, it only says so.
+# ./hrthood starts it in the background. What it says goes to out/proof.log, at the end the verdict.
 # With the word --start it returns at once, and the proof keeps nothing of the caller open.
 set -u
 
@@ -20,6 +21,12 @@ case ${1-} in
         ;;
     --locked) ;;
     *)
+        . "$top/tools/current.sh" || exit 125
+        # Nothing but a proof leaves a binary there, so one that is as new as the sources is proved.
+        if is_current "$binary"; then
+            echo 'proved and built already'
+            exit 0
+        fi
         mkdir -p "$top/out" && : >>"$lock" || exit 125
         echo "progress: $log"
         flock -n -E 75 "$lock" "$top/tools/prove_program.sh" --locked

@@ -1,6 +1,7 @@
 -- Lists that items were added to, by the place of a name.
-use Rattle.std.proofs.Common.{◌≡◌, ℕ, ◌<◌, Bool, true, false, List, [], ◌++◌, length, set, Option, Some, Vec, refl, ap, sym, ◌∙◌}
-use Rattle.std.specs.Prelude.{option_and_then, if◌then◌else◌, slice_get}
+use Rattle.std.proofs.Common.{◌≡◌, ℕ, zero, suc, ◌<◌, Bool, true, false, List, [], ◌∷◌, ◌++◌, length, set, Option, Some, None, Vec}
+use Rattle.std.proofs.Common.{refl, ap, sym, ◌∙◌, arith}
+use Rattle.std.specs.Prelude.{option_and_then, option_map, if◌then◌else◌, slice_get}
 use Rattle.std.proofs.Math.ListN.{get_or}
 use Rattle.std.proofs.lemmas.List.{append-nil}
 use Rattle.std.proofs.lemmas.Option.{slice_get_read}
@@ -23,3 +24,13 @@ module _ {V Z : Type 0} where
       more_law b v (Some was) (option_and_then (slice_get xs) o) (option_and_then (slice_get (set xs i v)) o) items
       (over_law xs i v b o within here only)
       (λ h. ap (option_and_then (slice_get xs)) (here h) ∙ slice_get_read xs (length xs) i was refl within stood) made
+
+  -- a list that stands at a place kept its items
+  pub kept_law : (xs : List (Vec V Z)) (i : ℕ) (was v : Vec V Z) (o : Option ℕ) → i < length xs → was ≡ get_or xs i was → v.items ≡ was.items
+      → option_map (λ u. u.items) (option_and_then (slice_get (set xs i v)) o) ≡ option_map (λ u. u.items) (option_and_then (slice_get xs) o)
+  kept_law xs i was v None within stood made = refl
+  kept_law [] i was v (Some p) within stood made = absurd (omega (arith, within))
+  kept_law (x ∷ xs) zero was v (Some zero) within stood made = ap Some (made ∙ ap (λ u. u.items) stood)
+  kept_law (x ∷ xs) zero was v (Some (suc p)) within stood made = refl
+  kept_law (x ∷ xs) (suc i) was v (Some zero) within stood made = refl
+  kept_law (x ∷ xs) (suc i) was v (Some (suc p)) within stood made = kept_law xs i was v (Some p) (omega (arith, within)) stood made

@@ -16,7 +16,7 @@ pub struct NameTable<'a, V> {
 }
 
 impl<'a, V: Drop> NameTable<'a, V> {
-    ghost use Rattle.std.specs.Prelude.{None, OnOk, if◌then◌else◌, option_map};
+    ghost use Rattle.std.specs.Prelude.{None, OnErr, OnOk, if◌then◌else◌, option_map};
     ghost use Rattle.name_sets.specs.Tables.{named};
 
     /// No name has a value.
@@ -41,10 +41,11 @@ impl<'a, V: Drop> NameTable<'a, V> {
         }
     }
 
-    /// Gives a name a value, in place of the one that it has, if any.
+    /// Gives a name a value, in place of the one that it has, if any. Without memory for it all is as before.
     #[tactic(auto, unfolding(crate::specs::Tables::named))]
     pub fn put(&mut self, name: &'a Name, value: V) -> Result<(), NoMemory>
-        ensures { OnOk result ((n : NameTree) → named self.new n ≡ (if same_name name.entry.now n then Some value else named self.old n)) }
+        ensures put { OnOk result ((n : NameTree) → named self.new n ≡ (if same_name name.entry.now n then Some value else named self.old n)) }
+        ensures unchanged { OnErr result ((n : NameTree) → named self.new n ≡ named self.old n) }
     {
         match self.places.get(name) {
             Some(place) => self.values[place] = value,
@@ -70,13 +71,15 @@ impl<'a, V: Copy + Drop> NameTable<'a, V> {
 }
 
 impl<'a, V: Drop> NameTable<'a, Vec<V>> {
-    ghost use Rattle.std.specs.Prelude.{◌++◌, [], OnOk, if◌then◌else◌};
+    ghost use Rattle.std.specs.Prelude.{◌++◌, [], OnErr, OnOk, if◌then◌else◌, option_map};
     ghost use Rattle.name_sets.specs.Tables.{named, listed};
 
-    /// Adds items behind those of a name, which may have had none.
+    /// Adds items behind those of a name, which may have had none. Without memory for all of them none is added.
     pub fn extend(&mut self, name: &'a Name, items: Vec<V>) -> Result<(), NoMemory>
-        ensures { OnOk result ((n : NameTree) → listed (named self.new n) ≡ listed (named self.old n)
+        ensures added { OnOk result ((n : NameTree) → listed (named self.new n) ≡ listed (named self.old n)
             ++ (if same_name name.entry.now n then items.items else [])) }
+        ensures unchanged { OnErr result ((n : NameTree)
+            → option_map (λ v. v.items) (named self.new n) ≡ option_map (λ v. v.items) (named self.old n)) }
     {
         let mut items = items;
         match self.places.get(name) {

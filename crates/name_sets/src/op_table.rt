@@ -17,7 +17,7 @@ pub struct OpTable<'a, V> {
 }
 
 impl<'a, V: Drop> OpTable<'a, V> {
-    ghost use Rattle.std.specs.Prelude.{None, OnOk, if◌then◌else◌, option_map};
+    ghost use Rattle.std.specs.Prelude.{None, OnErr, OnOk, if◌then◌else◌, option_map};
     ghost use Rattle.name_sets.specs.Tables.{at};
 
     /// No operation has a value.
@@ -42,7 +42,7 @@ impl<'a, V: Drop> OpTable<'a, V> {
         }
     }
 
-    /// Gives an operation a value, in place of the one that it has, if any.
+    /// Gives an operation a value, in place of the one that it has, if any. Without memory for it all is as before.
     #[tactic(auto, unfolding(crate::specs::Tables::at))]
     pub fn put(
         &mut self,
@@ -51,8 +51,9 @@ impl<'a, V: Drop> OpTable<'a, V> {
         op: &'a Name,
         value: V,
     ) -> Result<(), NoMemory>
-        ensures { OnOk result ((n : OpName)
+        ensures put { OnOk result ((n : OpName)
             → at self.new n ≡ (if same_op (record { object = object.entry.now; op = op.entry.now }) n then Some value else at self.old n)) }
+        ensures unchanged { OnErr result ((n : OpName) → at self.new n ≡ at self.old n) }
     {
         match self.places.get(object, op) {
             Some(place) => self.values[place] = value,
@@ -78,10 +79,10 @@ impl<'a, V: Copy + Drop> OpTable<'a, V> {
 }
 
 impl<'a, V: Drop> OpTable<'a, Vec<V>> {
-    ghost use Rattle.std.specs.Prelude.{◌++◌, [], OnOk, if◌then◌else◌};
+    ghost use Rattle.std.specs.Prelude.{◌++◌, [], OnErr, OnOk, if◌then◌else◌, option_map};
     ghost use Rattle.name_sets.specs.Tables.{at, listed};
 
-    /// Adds items behind those of an operation, which may have had none.
+    /// Adds items behind those of an operation, which may have had none. Without memory for all of them none is added.
     pub fn extend(
         &mut self,
         alloc: Global,
@@ -89,8 +90,10 @@ impl<'a, V: Drop> OpTable<'a, Vec<V>> {
         op: &'a Name,
         items: Vec<V>,
     ) -> Result<(), NoMemory>
-        ensures { OnOk result ((n : OpName) → listed (at self.new n) ≡ listed (at self.old n)
+        ensures added { OnOk result ((n : OpName) → listed (at self.new n) ≡ listed (at self.old n)
             ++ (if same_op (record { object = object.entry.now; op = op.entry.now }) n then items.items else [])) }
+        ensures unchanged { OnErr result ((n : OpName)
+            → option_map (λ v. v.items) (at self.new n) ≡ option_map (λ v. v.items) (at self.old n)) }
     {
         let mut items = items;
         match self.places.get(object, op) {

@@ -1,4 +1,4 @@
-ghost use Rattle.std.specs.Prelude.{◌≡◌, ◌||◌, false, not, IfOk, OnOk};
+ghost use Rattle.std.specs.Prelude.{◌≡◌, ◌||◌, false, not, IfOk, OnErr, OnOk};
 ghost use Rattle.seq_tree.specs.Calls.{same_op};
 ghost use Rattle.seq_tree.specs.Names.{Name as NameTree, same_name};
 ghost use Rattle.seq_tree.specs.declared.tree.OpName.{OpName};
@@ -34,11 +34,12 @@ impl<'a> Names<'a> {
         self.places.get(name).is_some()
     }
 
-    /// Adds a name, and says whether it is new.
+    /// Adds a name, and says whether it is new. Without memory for it all is as before.
     #[tactic(auto, unfolding(crate::specs::Sets::has))]
     pub fn add(&mut self, name: &'a Name) -> Result<bool, NoMemory>
         ensures new { IfOk result (λ new. new ≡ not (has self.old name.entry.now)) }
         ensures added { OnOk result ((n : NameTree) → has self.new n ≡ (same_name name.entry.now n || has self.old n)) }
+        ensures unchanged { OnErr result ((n : NameTree) → has self.new n ≡ has self.old n) }
     {
         let new = !self.has(name);
         self.places.put(name, 0)?;
@@ -71,11 +72,12 @@ impl<'a> Ops<'a> {
         self.places.get(object, op).is_some()
     }
 
-    /// Adds an operation.
+    /// Adds an operation. Without memory for it all is as before.
     #[tactic(auto, unfolding(crate::specs::Sets::has_op))]
     pub fn add(&mut self, alloc: Global, object: &'a Name, op: &'a Name) -> Result<(), NoMemory>
-        ensures { OnOk result ((n : OpName)
+        ensures added { OnOk result ((n : OpName)
             → has_op self.new n ≡ (same_op (record { object = object.entry.now; op = op.entry.now }) n || has_op self.old n)) }
+        ensures unchanged { OnErr result ((n : OpName) → has_op self.new n ≡ has_op self.old n) }
     {
         self.places.put(alloc, object, op, 0)
     }

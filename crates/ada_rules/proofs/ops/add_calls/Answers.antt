@@ -12,4 +12,4 @@ calls-preserved c = λ n.
     let test : OpName → Bool = λ d. same_op d n in
     told_step (λ (cs : List CallView). list_any test (map call_of cs)) c.args.calls.now c.calls.call-index c.call-item.result
     (test (call_of c.call-item.result)) _ _ _
-    (any_last test call_of c.call-item.result) c.calls-test.true c.call-item.is (c.in_ok-add.ensures n) (c.calls.invariant n)
+    (any_last test call_of c.call-item.result) c.calls-test.true c.call-item.is (c.in_ok-add.ensures.added n) (c.calls.invariant n)

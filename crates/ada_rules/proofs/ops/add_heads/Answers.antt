@@ -12,4 +12,4 @@ heads-preserved c = λ n.
     let test = is_head c.args.object.now n in
     told_step (λ (hs : List (Bor OpSig)). list_any test (map head_of hs)) c.args.heads.now c.heads.head-index c.head-item.result
     (test (head_of c.head-item.result)) _ _ _
-    (any_last test head_of c.head-item.result) c.heads-test.true c.head-item.is (c.in_ok-add.ensures n) (c.heads.invariant n)
+    (any_last test head_of c.head-item.result) c.heads-test.true c.head-item.is (c.in_ok-add.ensures.added n) (c.heads.invariant n)

@@ -16,4 +16,4 @@ returns-in_ok-put-in-Some c = λ from settled.
     let P : Option ℕ → Type 0 = λ o. IfSome o
     (λ n. (from : ℕ) → IsSettled x from c.args.known.now → Stays x from (served_as x c.args.first.now).block n) in
     settled-put x from c.args.known.now c.put.new.self (served_name c.args.named.now) (served_as x c.args.first.now) c.in-Some.ticks c.requires.first
-    (subst P at c.in_ok-price.ensures from settled) c.in_ok-put-in-Some.ensures settled
+    (subst P at c.in_ok-price.ensures from settled) c.in_ok-put-in-Some.ensures.put settled

@@ -20,6 +20,6 @@ calls-preserved c = λ n.
     let step : drop c.calls.call-index calls ≡ c.call-item.result
     ∷ drop (c.calls.call-index + 1) calls = drop_step calls c.calls.call-index c.call-item.result c.calls-test.true c.call-item.is in
     account-step v (call_of c.call-item.result) n left (at c.put.new.self n) (at c.calls.account n)
-    (c.in_ok-put.ensures n ∙ ap (λ k. if same_op (call_of c.call-item.result) n then Some k else at c.calls.account n) c.weight_of-count.ensures)
+    (c.in_ok-put.ensures.put n ∙ ap (λ k. if same_op (call_of c.call-item.result) n then Some k else at c.calls.account n) c.weight_of-count.ensures)
     ∙ ap (λ (cs : List Call). if list_any (λ o. same_op o n) (map call_of cs) then Some (v n) else at c.calls.account n) (sym step)
     ∙ c.calls.invariant n

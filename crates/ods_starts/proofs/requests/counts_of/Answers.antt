@@ -21,6 +21,6 @@ ops-preserved c = λ inner knows n.
     let step : drop c.ops.op-index ops ≡ c.op-item.result
     ∷ drop (c.ops.op-index + 1) ops = drop_step ops c.ops.op-index c.op-item.result c.ops-test.true c.op-item.is in
     account-step v (op_of c.op-item.result) n left (at c.put.new.self n) (at c.ops.counts n)
-    (c.in_ok-put.ensures n ∙ ap (λ k. if same_op (op_of c.op-item.result) n then Some k else at c.ops.counts n) (c.in_ok-count.ensures inner knows))
+    (c.in_ok-put.ensures.put n ∙ ap (λ k. if same_op (op_of c.op-item.result) n then Some k else at c.ops.counts n) (c.in_ok-count.ensures inner knows))
     ∙ ap (λ (os : List OpView). if list_any (λ o. same_op o n) (map op_of os) then Some (v n) else at c.ops.counts n) (sym step)
     ∙ c.ops.invariant inner knows n

@@ -17,7 +17,7 @@ ops-preserved c = λ n.
     let step : drop c.ops.op-index ops ≡ c.op-item.result
     ∷ drop (c.ops.op-index + 1) ops = drop_step ops c.ops.op-index c.op-item.result c.ops-test.true c.op-item.is in
     count-put (known_in c.args.counts.now) (op_of c.op-item.result) n left (at c.put.new.self n) (at c.ops.known n)
-    (c.in_ok-put.ensures n ∙ ap (λ k. if same_op (op_of c.op-item.result) n then Some k else at c.ops.known n)
+    (c.in_ok-put.ensures.put n ∙ ap (λ k. if same_op (op_of c.op-item.result) n then Some k else at c.ops.known n)
     (c.unwrap_or-count.ensures ∙ or-zero c.get.result ∙ ap or_0 c.get.ensures))
     ∙ ap (λ (os : List OpView). if list_any (λ o. same_op o n) (map op_of os) then known_in c.args.counts.now n else known_in c.ops.known n)
     (sym step) ∙ c.ops.invariant n

@@ -10,5 +10,5 @@ use Rattle.ods_starts.proofs.starts.find.Goals as goal
 pub returns-clause-seen : goal.returns-clause-seen
 returns-clause-seen c = λ n.
     seen-more (op_of c.args.op.now) n (map op_of c.args.found.now.items) (has_op c.add.new.self n) (has_op c.args.seen.now n)
-    (c.in_ok-add.ensures n) (c.requires n)
+    (c.in_ok-add.ensures.added n) (c.requires n)
     ∙ ap (list_any (same_op n)) (sym (ap (map op_of) c.in_ok-push.ensures.items ∙ map-append op_of c.args.found.now.items _))

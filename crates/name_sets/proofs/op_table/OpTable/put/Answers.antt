@@ -8,18 +8,18 @@ use Rattle.name_sets.specs.Tables.{at}
 use Rattle.name_sets.proofs.TableSteps.{behind_law, over_law}
 use Rattle.name_sets.proofs.op_table.OpTable.put.Goals as goal
 
-pub returns-in-Some : goal.returns-in-Some
+pub returns-in-Some-clause-put : goal.returns-in-Some-clause-put
 unfolding at
-returns-in-Some g c = λ n.
+returns-in-Some-clause-put g c = λ n.
     let k : OpName = record { object = c.args.object.now; op = c.args.op.now } in
     let t = c.args.self.now in
     let found = sym c.get.ensures ∙ c.in-Some.is in
     over_law t.values.items c.in-Some.place c.args.value (same_op k n) (op_place_in t.places n) (t.inside k c.in-Some.place found)
     (λ h. ap (op_place_in t.places) (sym (same_op-eq k n h)) ∙ found) (t.apart k n c.in-Some.place found)
 
-pub returns-in_ok-put-in-None : goal.returns-in_ok-put-in-None
+pub returns-in_ok-put-in-None-clause-put : goal.returns-in_ok-put-in-None-clause-put
 unfolding at
-returns-in_ok-put-in-None g c = λ n.
+returns-in_ok-put-in-None-clause-put g c = λ n.
     let k : OpName = record { object = c.args.object.now; op = c.args.op.now } in
     let t = c.args.self.now in
     let old = op_place_in t.places n in

@@ -13,4 +13,4 @@ returns c =
     (λ h n. added held_of (same_op (held_of c.args.body.now).name n) (listed (at c.extend.new.self n)) (listed (at c.args.self.now.bodies n))
     c.in_ok-more.more.items (held_of c.args.body.now ∷ []) (h n)
     (ap (map held_of) c.in_ok-more.ensures.items ∙ ap (λ z. z ∷ []) c.in_ok-again.ensures))
-    c.extend.ensures
+    c.extend.ensures.added

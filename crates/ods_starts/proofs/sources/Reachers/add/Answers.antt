@@ -13,4 +13,4 @@ returns c =
     (λ h n. added reacher_of (same_name c.args.name.now n) (listed (named c.extend.new.self n)) (listed (named c.args.self.now.threads n))
     c.in_ok-more.more.items (reacher_of c.args.reacher.now ∷ []) (h n)
     (ap (map reacher_of) c.in_ok-more.ensures.items ∙ ap (λ z. z ∷ []) c.in_ok-again.ensures))
-    c.extend.ensures
+    c.extend.ensures.added

@@ -14,4 +14,4 @@ returns c =
     (λ h n. added op_of (same_name c.args.op.now n) (listed (named c.extend.new.self n)) (listed (named c.args.self.now.calls n))
     c.in_ok-to_vec.field-0.items (map op_of c.args.calls.now) (h n)
     (ap (map op_of) (c.in_ok-to_vec.ensures.items_if_clones_equal (λ x y k. k))))
-    c.extend.ensures
+    c.extend.ensures.added

@@ -1,0 +1,115 @@
+-- Numbers that are worked out callees first are those of calls that are followed as deep as there were turns, or deeper.
+use Rattle.std.proofs.Common.{◌≡◌, ◌≤◌, ◌<◌, ◌⊎◌, inl, inr, ℕ, zero, suc, ◌+◌, Bool, true, false, ◌&&◌, List, [], ◌∷◌, length, map, zip, get_or}
+use Rattle.std.proofs.Common.{refl, sym, ap, ◌∙◌, arith, max}
+use Rattle.std.specs.Prelude.{fold, IfSome, Option, Some, None}
+use Rattle.std.specs.List.{list_all}
+use Rattle.rt_block.specs.Places.{value}
+use Rattle.rt_block.specs.Settled.{Agrees, AgreesFrom, HasPlaces, IsPut, is_done}
+use Rattle.rt_block.specs.Spreads.{deeper, greatest_of, spread}
+use Rattle.rt_block.specs.declared.settled.Settled.{Settled}
+
+-- lists that are made again and again by one step
+module _ (step : List ℕ → List ℕ) (made : ℕ → List ℕ) (next : (d : ℕ) → made (suc d) ≡ step (made d)) where
+  -- a turn that works out nothing
+  pub from-later : (from : ℕ) (s : Settled) → AgreesFrom from made s → AgreesFrom (from + 1) made s
+  from-later from s agrees depth deep = agrees depth (omega (arith, deep))
+
+  -- and one that works out a place, of numbers that agree
+  pub from-put : (from place n : ℕ) (s t : Settled) → ((xs : List ℕ) → Agrees s xs → n ≡ value (step xs) place) → IsPut s place n t
+      → AgreesFrom from made s
+      → AgreesFrom (from + 1) made t
+  from-put from place n s t is put agrees zero deep p done = absurd (omega (arith, deep))
+  from-put from place n s t is put agrees (suc depth) deep p done = by (put p done)
+    where
+      by : ((p ≡ place) × (value t.numbers.items p ≡ n)) ⊎ ((is_done s p ≡ true) × (value t.numbers.items p ≡ value s.numbers.items p))
+          → value t.numbers.items p ≡ value (made (suc depth)) p
+      by (inl (here, same)) = same ∙ is (made depth) (agrees depth (omega (arith, deep))) ∙ ap (λ xs. value xs place) (sym (next depth))
+          ∙ ap (value (made (suc depth))) (sym here)
+      by (inr (before, same)) = same ∙ agrees (suc depth) (omega (arith, deep)) p before
+
+-- what is there has what follows from what it has
+pub some-weaker : {A : Type 0} (P Q : A → Type 0) → ((a : A) → P a → Q a) → (o : Option A) → IfSome o P → IfSome o Q
+some-weaker P Q follows None h = tt
+some-weaker P Q follows (Some a) h = follows a h
+
+-- what is made of the element at a place
+pub mapped-at : {A B : Type 0} (f : A → B) (vs : List A) (p : ℕ) (v : A) (d : B) → p < length vs → v ≡ get_or vs p v → get_or (map f vs) p d ≡ f v
+mapped-at f [] p v d less at = absurd (omega (arith, less))
+mapped-at f (x ∷ vs) zero v d less at = ap f (sym at)
+mapped-at f (x ∷ vs) (suc p) v d less at = mapped-at f vs p v d (omega (arith, less)) at
+
+-- lists of equal length with equal numbers are equal
+same-values : (xs ys : List ℕ) → length xs ≡ length ys → ((p : ℕ) → p < length xs → value xs p ≡ value ys p) → xs ≡ ys
+same-values [] [] h same = refl
+same-values [] (y ∷ ys) h same = absurd (omega (arith, h))
+same-values (x ∷ xs) [] h same = absurd (omega (arith, h))
+same-values (x ∷ xs) (y ∷ ys) h same =
+    let first : x ≡ y = same 0 (omega arith) in
+    let others : xs ≡ ys = same-values xs ys (omega (arith, h)) (λ p less. same (suc p) (omega (arith, less))) in
+    ap (λ z. z ∷ xs) first ∙ ap (λ zs. y ∷ zs) others
+
+all-at : (marks : List Bool) (p : ℕ) → list_all (λ b. b) marks ≡ true → p < length marks → get_or marks p false ≡ true
+all-at [] p all less = absurd (omega (arith, less))
+all-at (true ∷ marks) zero all less = refl
+all-at (true ∷ marks) (suc p) all less = all-at marks p all (omega (arith, less))
+all-at (false ∷ marks) p all less = absurd (cc)
+
+-- numbers that are all worked out are those of a list that they agree with
+pub whole-agrees : (s : Settled) (count : ℕ) (xs : List ℕ) → HasPlaces count s → list_all (λ b. b) s.done.items ≡ true → length xs ≡ count → Agrees s xs
+    → s.numbers.items ≡ xs
+whole-agrees s count xs many all long agrees =
+    same-values s.numbers.items xs (many.0 ∙ sym long)
+    (λ p less. agrees p (all-at s.done.items p all (omega (arith, less, many.0, many.1))))
+
+-- the greatest of numbers at places that are worked out
+pub greatest-agrees : (s : Settled) (xs : List ℕ) (own : ℕ) (places : List ℕ) → Agrees s xs → list_all (is_done s) places ≡ true
+    → greatest_of s.numbers.items own places ≡ greatest_of xs own places
+greatest-agrees s xs own [] agrees all = refl
+greatest-agrees s xs own (p ∷ ps) agrees all =
+    by (is_done s p) refl all (greatest-agrees s xs (max own (value xs p)) ps agrees)
+  where
+    by : (b : Bool) → is_done s p ≡ b → (b && list_all (is_done s) ps) ≡ true
+        → (list_all (is_done s) ps ≡ true
+        → greatest_of s.numbers.items (max own (value xs p)) ps ≡ greatest_of xs (max own (value xs p)) ps)
+        → fold max (max own (value s.numbers.items p)) (map (value s.numbers.items) ps) ≡ fold max (max own (value xs p)) (map (value xs) ps)
+    by true e later others = ap (λ n. fold max (max own n) (map (value s.numbers.items) ps)) (agrees p e) ∙ others later
+    by false e later others = absurd (cc)
+
+-- the number at a place, one call deeper
+deeper-at : (inner : List (List ℕ)) (own xs : List ℕ) (place : ℕ) → length own ≡ length inner → place < length inner
+    → value (deeper inner own xs) place ≡ greatest_of xs (get_or own place 0) (get_or inner place [])
+deeper-at [] own xs place many less = absurd (omega (arith, less))
+deeper-at (ps ∷ inner) [] xs place many less = absurd (omega (arith, many))
+deeper-at (ps ∷ inner) (n ∷ own) xs zero many less = refl
+deeper-at (ps ∷ inner) (n ∷ own) xs (suc place) many less = deeper-at inner own xs place (omega (arith, many)) (omega (arith, less))
+
+-- a turn of following calls to the greatest number
+pub spread-put : (inner : List (List ℕ)) (own : List ℕ) (place : ℕ) (s t : Settled) → length own ≡ length inner → place < length inner
+    → list_all (is_done s) (get_or inner place []) ≡ true
+    → IsPut s place (greatest_of s.numbers.items (get_or own place 0) (get_or inner place [])) t
+    → (from : ℕ) → AgreesFrom from (λ d. spread d inner own) s → AgreesFrom (from + 1) (λ d. spread d inner own) t
+spread-put inner own place s t many less all put from =
+    from-put (deeper inner own) (λ d. spread d inner own) (λ d. refl) from place
+    (greatest_of s.numbers.items (get_or own place 0) (get_or inner place [])) s t
+    (λ xs agrees. greatest-agrees s xs (get_or own place 0) (get_or inner place []) agrees all ∙ sym (deeper-at inner own xs place many less)) put
+
+pub spread-later : (inner : List (List ℕ)) (own : List ℕ) (s : Settled) (from : ℕ) → AgreesFrom from (λ d. spread d inner own) s
+    → AgreesFrom (from + 1) (λ d. spread d inner own) s
+spread-later inner own s from = from-later (deeper inner own) (λ d. spread d inner own) (λ d. refl) from s
+
+map-zip-long : {A B C : Type 0} (g : A × B → C) (xs : List A) (ys : List B) → length ys ≡ length xs → length (map g (zip xs ys)) ≡ length ys
+map-zip-long g [] [] h = refl
+map-zip-long g [] (y ∷ ys) h = absurd (omega (arith, h))
+map-zip-long g (x ∷ xs) [] h = absurd (omega (arith, h))
+map-zip-long g (x ∷ xs) (y ∷ ys) h = ap suc (map-zip-long g xs ys (omega (arith, h)))
+
+-- there are as many numbers as operations
+pub spread-long : (inner : List (List ℕ)) (own : List ℕ) → length own ≡ length inner → length (spread (length own) inner own) ≡ length own
+spread-long inner [] h = refl
+spread-long inner (n ∷ own) h = map-zip-long (λ x. greatest_of (spread (length own) inner (n ∷ own)) x.1 x.0) inner (n ∷ own) h
+
+pub spread-whole : (inner : List (List ℕ)) (own : List ℕ) (from : ℕ) (s : Settled) → length own ≡ length inner → from ≤ length own
+    → HasPlaces (length own) s → list_all (λ b. b) s.done.items ≡ true → AgreesFrom from (λ d. spread d inner own) s
+    → s.numbers.items ≡ spread (length own) inner own
+spread-whole inner own from s many few places all agrees =
+    whole-agrees s (length own) (spread (length own) inner own) places all (spread-long inner own many) (agrees (length own) few)

@@ -10,7 +10,7 @@ use Rattle.seq_tree.specs.Marks.{mark_of}
 use Rattle.seq_tree.specs.Spelling.{block_tokens}
 use Rattle.seq_tree.specs.Levels.{chain}
 use Rattle.seq_tree.specs.Proper.{IsProperExpression, within_limits, is_block_name}
-use Rattle.seq_tree.specs.Dearest.{thread_cost, starts}
+use Rattle.seq_tree.specs.Dearest.{cost, starts}
 use Rattle.seq_tree.specs.Runs.{Callee, Run, Print}
 use Rattle.seq_tree.specs.Runs as runs
 use Rattle.seq_tree.specs.Faults.{Scope, Unknown, Missorted, Divisor, Exit, Assigned, Actual, Count, block_fault}
@@ -97,12 +97,12 @@ inverts = refl
 inverts_truth : value (Not (Binary op.Eq (Variable x) (Number 1))) [] ≡ 1
 inverts_truth = refl
 
--- the cost of a thread with two loops
+-- the cost of a block with two loops
 loops : Statements
 loops = two (For (codes "i") 1 0 (one (Put (Variable (codes "i")))))
     (For (codes "j") 1 3 (two (ExitWhen (Binary op.Eq (Variable (codes "j")) (Number 1))) Null))
 
-loops_cost : thread_cost unit_costs (λ object op'. 0) loops ≡ 10
+loops_cost : cost unit_costs (λ object op'. 0) loops ≡ 9
 unfolding loops
 loops_cost = refl
 

@@ -1,8 +1,10 @@
 -- Numbers that are worked out callees first are those of calls that are followed as deep as there were turns, or deeper.
 use Rattle.std.proofs.Common.{◌≡◌, ◌≤◌, ◌<◌, ◌⊎◌, inl, inr, ℕ, zero, suc, ◌+◌, Bool, true, false, ◌&&◌, List, [], ◌∷◌, length, map, zip, get_or}
 use Rattle.std.proofs.Common.{refl, sym, ap, ◌∙◌, arith, max}
-use Rattle.std.specs.Prelude.{fold, IfSome, Option, Some, None}
+use Rattle.std.specs.Prelude.{fold}
 use Rattle.std.specs.List.{list_all}
+use Rattle.std.proofs.lemmas.List.{ext_get_or, get_or-map, length-map}
+use Rattle.std.proofs.lemmas.Slice.Zip.{length-zip}
 use Rattle.rt_block.specs.Places.{value}
 use Rattle.rt_block.specs.Settled.{Agrees, AgreesFrom, HasPlaces, IsPut, is_done}
 use Rattle.rt_block.specs.Spreads.{deeper, greatest_of, spread}
@@ -27,26 +29,9 @@ module _ (step : List ℕ → List ℕ) (made : ℕ → List ℕ) (next : (d : �
           ∙ ap (value (made (suc depth))) (sym here)
       by (inr (before, same)) = same ∙ agrees (suc depth) (omega (arith, deep)) p before
 
--- what is there has what follows from what it has
-pub some-weaker : {A : Type 0} (P Q : A → Type 0) → ((a : A) → P a → Q a) → (o : Option A) → IfSome o P → IfSome o Q
-some-weaker P Q follows None h = tt
-some-weaker P Q follows (Some a) h = follows a h
-
 -- what is made of the element at a place
 pub mapped-at : {A B : Type 0} (f : A → B) (vs : List A) (p : ℕ) (v : A) (d : B) → p < length vs → v ≡ get_or vs p v → get_or (map f vs) p d ≡ f v
-mapped-at f [] p v d less at = absurd (omega (arith, less))
-mapped-at f (x ∷ vs) zero v d less at = ap f (sym at)
-mapped-at f (x ∷ vs) (suc p) v d less at = mapped-at f vs p v d (omega (arith, less)) at
-
--- lists of equal length with equal numbers are equal
-same-values : (xs ys : List ℕ) → length xs ≡ length ys → ((p : ℕ) → p < length xs → value xs p ≡ value ys p) → xs ≡ ys
-same-values [] [] h same = refl
-same-values [] (y ∷ ys) h same = absurd (omega (arith, h))
-same-values (x ∷ xs) [] h same = absurd (omega (arith, h))
-same-values (x ∷ xs) (y ∷ ys) h same =
-    let first : x ≡ y = same 0 (omega arith) in
-    let others : xs ≡ ys = same-values xs ys (omega (arith, h)) (λ p less. same (suc p) (omega (arith, less))) in
-    ap (λ z. z ∷ xs) first ∙ ap (λ zs. y ∷ zs) others
+mapped-at f vs p v d less at = get_or-map f vs p v d less ∙ ap f (sym at)
 
 all-at : (marks : List Bool) (p : ℕ) → list_all (λ b. b) marks ≡ true → p < length marks → get_or marks p false ≡ true
 all-at [] p all less = absurd (omega (arith, less))
@@ -58,7 +43,7 @@ all-at (false ∷ marks) p all less = absurd (cc)
 pub whole-agrees : (s : Settled) (count : ℕ) (xs : List ℕ) → HasPlaces count s → list_all (λ b. b) s.done.items ≡ true → length xs ≡ count → Agrees s xs
     → s.numbers.items ≡ xs
 whole-agrees s count xs many all long agrees =
-    same-values s.numbers.items xs (many.0 ∙ sym long)
+    ext_get_or 0 s.numbers.items xs (many.0 ∙ sym long)
     (λ p less. agrees p (all-at s.done.items p all (omega (arith, less, many.0, many.1))))
 
 -- the greatest of numbers at places that are worked out
@@ -97,16 +82,12 @@ pub spread-later : (inner : List (List ℕ)) (own : List ℕ) (s : Settled) (fro
     → AgreesFrom (from + 1) (λ d. spread d inner own) s
 spread-later inner own s from = from-later (deeper inner own) (λ d. spread d inner own) (λ d. refl) from s
 
-map-zip-long : {A B C : Type 0} (g : A × B → C) (xs : List A) (ys : List B) → length ys ≡ length xs → length (map g (zip xs ys)) ≡ length ys
-map-zip-long g [] [] h = refl
-map-zip-long g [] (y ∷ ys) h = absurd (omega (arith, h))
-map-zip-long g (x ∷ xs) [] h = absurd (omega (arith, h))
-map-zip-long g (x ∷ xs) (y ∷ ys) h = ap suc (map-zip-long g xs ys (omega (arith, h)))
-
 -- there are as many numbers as operations
 pub spread-long : (inner : List (List ℕ)) (own : List ℕ) → length own ≡ length inner → length (spread (length own) inner own) ≡ length own
 spread-long inner [] h = refl
-spread-long inner (n ∷ own) h = map-zip-long (λ x. greatest_of (spread (length own) inner (n ∷ own)) x.1 x.0) inner (n ∷ own) h
+spread-long inner (n ∷ own) h =
+    length-map (zip inner (n ∷ own)) (λ x. greatest_of (spread (length own) inner (n ∷ own)) x.1 x.0)
+    ∙ let many = length-zip inner (n ∷ own) in omega (arith, many, h)
 
 pub spread-whole : (inner : List (List ℕ)) (own : List ℕ) (from : ℕ) (s : Settled) → length own ≡ length inner → from ≤ length own
     → HasPlaces (length own) s → list_all (λ b. b) s.done.items ≡ true → AgreesFrom from (λ d. spread d inner own) s

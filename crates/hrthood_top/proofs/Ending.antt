@@ -1,5 +1,5 @@
 -- How a command ends, from what was fetched, made and told.
-use Rattle.std.proofs.Common.{◌≡◌, ℕ, List, length, Result, Ok, Err, sym, ap, subst, ◌∙◌, inl, inr}
+use Rattle.std.proofs.Common.{◌≡◌, ℕ, List, length, take, Option, Result, Ok, Err, sym, ap, subst, ◌∙◌, inl, inr}
 use Rattle.std.proofs.Math.Seq.{take-length}
 use Rattle.std.specs.Prelude.{IfSome, ◌⊎◌}
 use Rattle.hood_io.specs.Shelves.{Told}
@@ -10,7 +10,7 @@ use Rattle.hrthood_top.specs.declared.halt.Halt.TheVariants as halt
 use Rattle.hrthood_top.specs.declared.fetch.Stop.{Stop}
 use Rattle.hrthood_top.specs.declared.fetch.Stop.TheVariants as stop
 use Rattle.hrthood_top.specs.declared.file_kind.FileKind.{FileKind}
-use Rattle.hrthood_top.specs.Files.{Texts, HoldsAll, IsTooLong, fetched, grown}
+use Rattle.hrthood_top.specs.Files.{File, Texts, HoldsAll, AreHeld, IsTooLong, fetched, grown}
 use Rattle.hrthood_top.specs.Messages.{too_long_line, fault_line}
 use Rattle.hrthood_top.specs.Verbs.{Verb}
 use Rattle.hrthood_top.specs.Ends.{Outside, Writes, WritesAtMost, WritesUpTo, TooLong, Refusal, Stopped, Refuses, TellsMessage, EndsVerb}
@@ -31,10 +31,17 @@ ends-stop view v ended (stop.TooLong kind) x y h s out =
 ends-stop view v ended (stop.ReadFault name) x y h s out =
     let E : Status → Type 0 = λ z. EndsVerb z v x y in
     let T : List ℕ → Type 0 = λ z. TellsMessage x y (fault_line z) in
-    subst E (sym s.0) (h.0.front, h.0.file, h.0.back, h.0.place, h.0.log, h.1, out, subst T h.0.called s.1)
+    subst E (sym s.0) (h.0.front, h.0.file, h.0.back, h.0.place, h.0.held, h.0.log, h.1, out, subst T h.0.called s.1)
 ends-stop view v ended stop.NoMemory x y h s out =
     let E : Status → Type 0 = λ z. EndsVerb z v x y in
-    subst E (sym s.0) (h.0, h.1, out, s.1)
+    subst E (sym s.0) (h.0, h.1, h.2, out, s.1)
+
+-- all of the files that are there
+all-held : (files : List File) (texts : Texts) (told : Option Told) → IfSome told (λ t. HoldsAll t files texts)
+    → AreHeld told (take (length files) files)
+all-held files texts told held =
+    let H : List File → Type 0 = λ fs. AreHeld told fs in
+    subst H (sym (take-length files)) (if_some-map told (λ t. HoldsAll t files texts) (λ t. (ts : Texts) × HoldsAll t files ts) held (λ t p. (texts, p)))
 
 -- what was made of files that are there
 pub ends-made : {X : Type 0} (view : X → List ℕ) (v : Verb) (ended : Status) (made : Result X (Halt v.Refusal)) (texts : Texts) (x y : Outside) →
@@ -70,7 +77,7 @@ ends-made view v ended (Err (halt.Refused refusal)) texts x y held log m f =
     )
 ends-made view v ended (Err halt.NoMemory) texts x y held log m f =
     let E : Status → Type 0 = λ z. EndsVerb z v x y in
-    subst E (sym f.1.0) (length v.files, log ∙ ap (λ z. grown x.told (fetched z)) (sym (take-length v.files)), f.0, f.1.1)
+    subst E (sym f.1.0) (length v.files, all-held v.files texts x.told held, log ∙ ap (λ z. grown x.told (fetched z)) (sym (take-length v.files)), f.0, f.1.1)
 
 -- what a verb writes, up to its stop
 at_most : (v : Verb) (texts : Texts) (text : List ℕ) (t : Told) → HoldsAll t v.files texts
@@ -105,6 +112,6 @@ ends-streamed v status.Refused texts x y held log (inr s) = (
   s.4,
 )
 ends-streamed v status.NoMemory texts x y held log s
-    = (length v.files, log ∙ ap (λ z. grown x.told (fetched z)) (sym (take-length v.files)), s.0, s.1)
+    = (length v.files, all-held v.files texts x.told held, log ∙ ap (λ z. grown x.told (fetched z)) (sym (take-length v.files)), s.0, s.1)
 ends-streamed v status.ReadFault texts x y held log s = absurd s
 ends-streamed v status.Usage texts x y held log s = absurd s

@@ -1,10 +1,12 @@
--- Examples of what a page gathers, with a page that loses a byte, and of how runs end.
+-- Examples of what a page gathers, with a page that loses a byte, of how runs end, and of files that are held.
 use Rattle.std.proofs.Common.{◌≡◌, ◌++◌, length, Some, refl, sym, ap, subst, arith}
-use Rattle.std.specs.Prelude.{List, [], ◌∷◌, codes, None}
+use Rattle.std.specs.Prelude.{List, [], ◌∷◌, ◌≤◌, codes, None}
 use Rattle.ada_tree.specs.Programs.{Program}
 use Rattle.trace_tree.specs.declared.event.Event.{Event}
 use Rattle.trace_tree.specs.declared.event.Event.TheVariants as event
 use Rattle.trace_tree.specs.Lines.{unit_name}
+use Rattle.hrthood_top.specs.declared.file_kind.FileKind.TheVariants.{Ada}
+use Rattle.hrthood_top.specs.Files.{File, AreHeld}
 use Rattle.hrthood_top.specs.Streaming.{IsGathered}
 use Rattle.hrthood_top.specs.Violations.{EndsAt, RunsOut}
 
@@ -46,3 +48,13 @@ not_so p h = by h.front h.last
     by [] e = cc
     by (f ∷ []) e = cc
     by (f ∷ g ∷ front) e = cc
+
+-- a file, on a shelf where each name has two bytes, and on one where none has any
+abbrev ada : File
+ada = record { kind = Ada; name = codes "a" }
+
+held : AreHeld (Some (record { files = λ name. Some (codes "ab"); log = [] })) (ada ∷ [])
+held = (λ kind. codes "ab", ((refl, (let few : length (codes "ab") ≤ 16777216 = omega arith in few)), tt))
+
+not_held : AreHeld (Some (record { files = λ name. None; log = [] })) (ada ∷ []) → ⊥
+not_held h = absurd (cc h.1.0.0)

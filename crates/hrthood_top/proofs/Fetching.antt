@@ -40,6 +40,11 @@ pub if_some-map : (told : Option Told) (P Q : Told → Type 0) → IfSome told P
 if_some-map None P Q p f = tt
 if_some-map (Some t) P Q p f = f t p
 
+-- no files are held
+pub held-none : (told : Option Told) (texts : Texts) → IfSome told (λ t. HoldsAll t [] texts)
+held-none None texts = tt
+held-none (Some t) texts = tt
+
 -- FILES BEFORE ONE OF A LIST
 record IsCut (files : List File) (i : ℕ) (file : File) : Type 0 where
   pub back : List File
@@ -160,12 +165,17 @@ stops-here view (ReadFault name) files i d texts told told' told'' faults faults
         back = c.back;
         place = c.place;
         called = f.0;
+        held = if_some-map told (λ t. HoldsAll t (take i all) texts) (λ t. (ts : Texts) × HoldsAll t (take i all) ts) s.held (λ t p. (texts, p));
         log = grown-after told told' told'' (fetched (take i all)) (failed file.name ∷ []) s.log f.2;
       },
       rose-later faults faults' faults'' later f.1,
     )
-stops-here view NoMemory files i d texts told told' told'' faults faults' faults'' h s later f =
-    (i, f ∙ sym (grown-nothing told') ∙ s.log)
+stops-here view NoMemory files i d texts told told' told'' faults faults' faults'' h s later f = (
+  i,
+  if_some-map told (λ t. HoldsAll t (take i (map file_tree files)) texts) (λ t. (ts : Texts) × HoldsAll t (take i (map file_tree files)) ts) s.held
+      (λ t p. (texts, p)),
+  f ∙ sym (grown-nothing told') ∙ s.log,
+)
 
 -- all files are there
 pub all-there : {X : Type 0} (view : X → Texts) (x : X) (files : List code.File) (i : ℕ) (told told' : Option Told) (faults faults' : ℕ)

@@ -1,7 +1,7 @@
 -- The summary of a sample: its design is never refused, its events are counted one turn after another, and what is counted of its run is told.
-use Rattle.std.proofs.Common.{◌≡◌, ℕ, zero, suc, ◌+◌, ◌<◌, ◌≤◌, true, List, [], ◌∷◌, ◌++◌, length, take, get_or, Option, Some, None, Result, Ok}
+use Rattle.std.proofs.Common.{◌≡◌, ℕ, zero, suc, ◌+◌, ◌<◌, ◌≤◌, true, List, [], ◌∷◌, ◌++◌, length, take, get_or, Option, Result, Ok}
 use Rattle.std.proofs.Common.{Err, refl, sym, ap, subst, ◌∙◌, arith, append_assoc, append-nil, add-one, inl}
-use Rattle.std.specs.Prelude.{IfOk, IfSome}
+use Rattle.std.specs.Prelude.{IfOk}
 use Rattle.seq_tree.specs.Lists.{Each}
 use Rattle.ods_tree.specs.Layout.{design_text}
 use Rattle.ods_tree.specs.Ticks.{in_ticks}
@@ -30,14 +30,14 @@ use Rattle.sample_laws.proofs.Valid.{sample-valid}
 use Rattle.hrthood_top.specs.declared.status.Status.{Status}
 use Rattle.hrthood_top.specs.declared.status.Status.TheVariants as status
 use Rattle.hrthood_top.specs.Ends.{EndsVerb, outside}
-use Rattle.hrthood_top.specs.Files.{Texts, HoldsAll}
+use Rattle.hrthood_top.specs.Files.{Texts}
 use Rattle.hrthood_top.specs.Generates.{CanGenerate}
 use Rattle.hrthood_top.specs.Replays.{SaysProgram, SaysArrivals}
 use Rattle.hrthood_top.specs.Samples.{IsSummary, IsSummed, SummaryEnds, samples, text_bounds}
 use Rattle.hrthood_top.specs.Verifies.{trace_mark}
 use Rattle.hrthood_top.specs.Writing.{Finishes, Streams, TellsMemory}
 use Rattle.hrthood_top.proofs.Ending.{ends-streamed}
-use Rattle.hrthood_top.proofs.Fetching.{grown-nothing}
+use Rattle.hrthood_top.proofs.Fetching.{held-none, grown-nothing}
 use Rattle.hrthood_top.proofs.OneDesign.{one-design}
 use Rattle.hrthood_top.proofs.Replaying.{accepted_text}
 use Rattle.hrthood_top.proofs.Verified.{verified}
@@ -211,10 +211,6 @@ is-summed {X} {E} view n design arrivals made bounds d p a m kept r e f w same a
     by (Err x) h = tt
 
 -- HOW A SAMPLE ENDS
-
-held-none : (told : Option Told) (texts : Texts) → IfSome told (λ t. HoldsAll t [] texts)
-held-none None texts = tt
-held-none (Some t) texts = tt
 
 sample-streams : {X E : Type 0} (view : X → List ℕ) (n : ℕ) (texts : Texts) (ended : Status) (made : Result X E) (out out' : Option (List ℕ))
     (faults faults' : ℕ) (err err' : Option (List ℕ)) (told told' : ℕ)

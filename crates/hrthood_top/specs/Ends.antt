@@ -12,7 +12,7 @@ use Rattle.hrthood_top.specs.Verbs.{Verb}
 use Rattle.hrthood_top.specs.Commands.{verb_of}
 use Rattle.hrthood_top.specs.Messages.{message_line, too_long_line, fault_line}
 use Rattle.hrthood_top.specs.Tells.{Tells}
-use Rattle.hrthood_top.specs.Files.{File, Texts, HoldsAll, IsTooLong, fetched, failed, grown}
+use Rattle.hrthood_top.specs.Files.{File, Texts, HoldsAll, AreHeld, IsTooLong, fetched, failed, grown}
 
 -- what stands outside: what the shelf tells and the count of its faults, and for standard output and standard error
 -- what was written and the count of faults
@@ -89,11 +89,11 @@ EndsVerb Refused v x y =
     (cause : Cause v) × IfSome x.told (λ t. Refuses t v cause) × (y.told ≡ grown x.told (fetched (fetched_before v cause)))
     × WritesBefore x.told v cause x.out y.out × TellsMessage x y (cause_line v cause)
 EndsVerb ReadFault v x y =
-    (front : List File) × (file : File) × (back : List File) × (v.files ≡ front ++ file ∷ back)
+    (front : List File) × (file : File) × (back : List File) × (v.files ≡ front ++ file ∷ back) × AreHeld x.told front
     × (y.told ≡ grown x.told (fetched front ++ failed file.name ∷ [])) × Rose x.read_faults y.read_faults
     × (y.out ≡ x.out) × TellsMessage x y (fault_line file.name)
 EndsVerb NoMemory v x y =
-    (n : ℕ) × (y.told ≡ grown x.told (fetched (take n v.files))) × (y.out ≡ x.out) × TellsMessage x y (message_line message.NoMemory)
+    (n : ℕ) × AreHeld x.told (take n v.files) × (y.told ≡ grown x.told (fetched (take n v.files))) × (y.out ≡ x.out) × TellsMessage x y (message_line message.NoMemory)
 EndsVerb Usage v x y = ⊥
 
 -- how a run ends, with the command that its words are, where they are one

@@ -10,7 +10,7 @@ use Rattle.hrthood_top.specs.declared.fetch.Stop.{Stop}
 use Rattle.hrthood_top.specs.declared.fetch.Stop.TheVariants.{TooLong, ReadFault, NoMemory}
 use Rattle.hrthood_top.specs.declared.fetch.File as code
 use Rattle.hrthood_top.specs.declared.texts.Texts as values
-use Rattle.hrthood_top.specs.Files.{File, Texts, Holds, HoldsAll, IsTooLong, fetched, failed, grown}
+use Rattle.hrthood_top.specs.Files.{File, Texts, Holds, HoldsAll, AreHeld, IsTooLong, fetched, failed, grown}
 
 -- the file that a value of the code stands for
 abbrev pub file_tree : code.File → File
@@ -36,13 +36,14 @@ Fetches view (Err (ReadFault name)) file told told' faults faults' =
     (name.now ≡ file.name) × Rose faults faults' × (told' ≡ grown told (failed file.name ∷ []))
 Fetches view (Err NoMemory) file told told' faults faults' = told' ≡ grown told []
 
--- a file of these could not be had, after those before it were fetched
+-- a file of these could not be had, after those before it were fetched, each within its limit
 pub record IsFaulty (files : List File) (name : List ℕ) (told told' : Option Told) : Type 0 where
   pub front : List File
   pub file : File
   pub back : List File
   pub place : files ≡ front ++ file ∷ back
   pub called : name ≡ file.name
+  pub held : AreHeld told front
   pub log : told' ≡ grown told (fetched front ++ failed file.name ∷ [])
 
 -- a file of these is too long, and those before it were fetched
@@ -60,4 +61,4 @@ abbrev pub FetchesAll : {X : Type 0} → (X → Texts) → Result X Stop → Lis
 FetchesAll view (Ok x) files told told' faults faults' = IfSome told (λ t. HoldsAll t files (view x)) × (told' ≡ grown told (fetched files))
 FetchesAll view (Err (TooLong kind)) files told told' faults faults' = IsOver files kind told told'
 FetchesAll view (Err (ReadFault name)) files told told' faults faults' = IsFaulty files name.now told told' × Rose faults faults'
-FetchesAll view (Err NoMemory) files told told' faults faults' = (n : ℕ) × (told' ≡ grown told (fetched (take n files)))
+FetchesAll view (Err NoMemory) files told told' faults faults' = (n : ℕ) × AreHeld told (take n files) × (told' ≡ grown told (fetched (take n files)))

@@ -1,6 +1,6 @@
 -- The files of a command: each has a kind, with its limit and its word in messages, and a name on the shelf.
 -- A shelf holds files by their names, and its log tells what was fetched.
-use Rattle.std.specs.Prelude.{◌≡◌, ℕ, ◌≤◌, ◌<◌, true, false, List, ◌++◌, length, map, codes, Option, Some, None}
+use Rattle.std.specs.Prelude.{◌≡◌, ℕ, ◌≤◌, ◌<◌, true, false, List, ◌++◌, length, map, codes, Option, Some, None, IfSome}
 use Rattle.seq_tree.specs.Lists.{Each}
 use Rattle.hood_io.specs.Shelves.{Told, Entry}
 use Rattle.hrthood_top.specs.declared.file_kind.FileKind.{FileKind}
@@ -38,6 +38,10 @@ IsTooLong t file = (text : List ℕ) × (t.files file.name ≡ Some text) × (li
 -- files are there, within their limits, each with the bytes of its kind
 abbrev pub HoldsAll : Told → List File → Texts → Type 0
 HoldsAll t files texts = Each (λ file. Holds t file (texts file.kind)) files
+
+-- where a shelf tells its files, these are there, within their limits
+abbrev pub AreHeld : Option Told → List File → Type 0
+AreHeld told files = IfSome told (λ t. (texts : Texts) × HoldsAll t files texts)
 
 -- files that were fetched, in order
 abbrev pub fetched : List File → List Entry

@@ -4,9 +4,10 @@
 //! `Sink::write`, and in `put_all`, which writes a text whole over any sink. `MemShelf` and
 //! `MemSink` keep theirs in memory and tell all that they hold. `FileShelf`, `OutSink` and
 //! `ErrSink` are the system's files, standard output and standard error, and tell only how many
-//! faults there were.
+//! faults there were. `given_words` are the words of the command line.
 #![tactic(auto)]
 
+mod arguments;
 mod file_shelf;
 mod mem_shelf;
 mod mem_sink;
@@ -16,6 +17,7 @@ mod shelf;
 mod sink;
 mod standard;
 
+pub use arguments::given_words;
 pub use file_shelf::FileShelf;
 pub use mem_shelf::MemShelf;
 pub use mem_sink::MemSink;

@@ -5,10 +5,8 @@
 #[cfg(test)]
 mod tests;
 
-use hood_io::{ErrSink, FileShelf, OutSink};
+use hood_io::{ErrSink, FileShelf, NoMemory, OutSink, given_words};
 use hrthood_top::{Status, run};
-use std::env;
-use std::io::ErrorKind;
 use std::process::ExitCode;
 
 /// Runs these words over the system's files and streams, and answers the exit status.
@@ -21,18 +19,8 @@ fn answer(rt: &HostRuntime, words: &[String]) -> ExitCode {
 }
 
 fn main(rt: HostRuntime) -> ExitCode {
-    let mut words = Vec::new(rt.alloc());
-    match env::args(&rt) {
-        Ok(all) => {
-            for word in all.skip(1) {
-                if words.push(word).is_err() {
-                    return ExitCode::from(Status::NoMemory.code());
-                }
-            }
-        }
-        // A word that is not UTF-8 is in no command, and neither is no word at all.
-        Err(error) if error.kind() == ErrorKind::InvalidData => {}
-        Err(_) => return ExitCode::from(Status::NoMemory.code()),
+    match given_words(&rt) {
+        Ok(words) => answer(&rt, &words),
+        Err(NoMemory) => ExitCode::from(Status::NoMemory.code()),
     }
-    answer(&rt, &words)
 }

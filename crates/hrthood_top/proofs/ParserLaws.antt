@@ -16,7 +16,7 @@ use Rattle.std.proofs.lemmas.Bool.{and_parts}
 use Rattle.clap.proofs.OnLiterals.{clap_on_literals}
 use Rattle.hrthood_top.specs.Words.{command_of, is_file_name, arrivals_command}
 use Rattle.hrthood_top.specs.Parsing.{are_plain, asks_help, found_command, has_flags, one_word, command_line, two_words, word_command, words_command}
-use Rattle.hrthood_top.proofs.ParserSteps.{at, comes_to, leaf, word_fault, turn-plain, found_first, found_second, one-none, one-one, one-more}
+use Rattle.hrthood_top.proofs.ParserSteps.{comes_to, leaf, word_fault, turn-plain, found_first, found_second, one-none, one-one, one-more}
 use Rattle.hrthood_top.proofs.ParserSteps.{one-finds-first, one-finds-second, two-none, two-one, two-two, two-more, two-finds-first}
 use Rattle.hrthood_top.proofs.ParserSteps.{two-finds-second}
 

@@ -1,3 +1,5 @@
+-- What reading the words answers: the command that they are, that they are none, or want of memory.
+-- Want of memory comes to commands alone.
 use Rattle.std.specs.Prelude.{◌≡◌, Option, Some, None, Result, Ok, Err, true, is_some}
 use Rattle.hrthood_top.specs.Words as words
 use Rattle.hrthood_top.specs.Commands.{command_tree}

@@ -182,38 +182,50 @@ fn asks_help(words: &[String]) -> bool
     }
 }
 
-/// Whether plain words are a command; it takes no memory.
-fn is_command(words: &[String]) -> bool
+/// The command that words are of which none is empty, begins with a dash or asks for help, where they are one.
+fn short_command<'a>(words: &'a [String]) -> Option<Command<'a>>
     requires { are_plain (map string_bytes words.now) ≡ true }
-    ensures { result ≡ is_some (command_of (map string_bytes words.now)) }
+    ensures command { MatchOption result (command_of (map string_bytes words.entry.now) ≡ None)
+        (λ c. command_of (map string_bytes words.entry.now) ≡ Some (command_tree c)) }
+    ensures few { IfSome result HasFewThreads }
 {
-    match words {
-        [verb, word] => word_command(verb.as_str(), word.as_str()).is_some(),
-        [verb, file, arrivals] => {
-            arrivals_command(verb.as_str(), file.as_str(), arrivals.as_str()).is_some()
-        }
-        _ => false,
+    let (verb, words) = words.split_first()?;
+    let (first, words) = words.split_first()?;
+    match words.split_first() {
+        None => word_command(verb.as_str(), first.as_str()),
+        Some((second, [])) => arrivals_command(verb.as_str(), first.as_str(), second.as_str()),
+        Some(_) => None,
     }
+}
+
+/// The command that the words are, where they are one. It takes no memory and no parser.
+pub(crate) fn plain_command<'a>(words: &'a [String]) -> Option<Command<'a>>
+    ensures command { MatchOption result (command_of (map string_bytes words.entry.now) ≡ None)
+        (λ c. command_of (map string_bytes words.entry.now) ≡ Some (command_tree c)) }
+    ensures few { IfSome result HasFewThreads }
+{
+    if has_flags(words) || asks_help(words) {
+        return None;
+    }
+    short_command(words)
 }
 
 /// Why plain words are not read: memory was wanted for a command, or they are none.
 fn why_unread(kind: ErrorKind, words: &[String]) -> Unread
-    requires plain { are_plain (map string_bytes words.now) ≡ true }
-    requires cause { (kind ≡ ErrorKind.OutOfMemory) ⊎ (command_of (map string_bytes words.now) ≡ None) }
+    requires { (kind ≡ ErrorKind.OutOfMemory) ⊎ (command_of (map string_bytes words.now) ≡ None) }
     ensures { ReadsAs (Err result) (command_of (map string_bytes words.now)) }
 {
     if kind != ErrorKind::OutOfMemory {
         return Unread::NoCommand;
     }
     // Words that are no command are told so, though memory was wanted.
-    if is_command(words) {
-        Unread::NoMemory
-    } else {
-        Unread::NoCommand
+    match plain_command(words) {
+        Some(_) => Unread::NoMemory,
+        None => Unread::NoCommand,
     }
 }
 
-/// The command that the words are, where they are one.
+/// The command that the words are, where they are one, as the kit's parser reads them.
 pub(crate) fn read_words<'a>(alloc: Global, words: &'a [String]) -> Result<Command<'a>, Unread>
     ensures command { ReadsAs result (command_of (map string_bytes words.entry.now)) }
     ensures few { IfOk result HasFewThreads }

@@ -11,6 +11,15 @@ use crate::status::Status;
 use crate::violation::Ending;
 use hood_io::{Failed, Sink, put_all};
 
+/// Tells that the words are no command.
+pub(crate) fn tell_usage<E: Sink>(err: &mut E) -> Status
+    ensures ended { result ≡ Status.Usage }
+    ensures told { Tells (E.written err.old) (E.written err.new) (E.faults err.old) (E.faults err.new) (message_line Message.Usage) }
+{
+    tell(err, &Message::Usage);
+    Status::Usage
+}
+
 /// Tells that memory was wanted.
 pub(crate) fn tell_no_memory<E: Sink>(err: &mut E) -> Status
     ensures ended { result ≡ Status.NoMemory }

@@ -1,9 +1,10 @@
 //! The top of the toolset: from the words of the command line, files and standard streams to what is written and the status.
 //!
 //! It stands on `bridge` for the Ada text of a design, on the readers of `ada_read` and `arrivals_read` and the processor of
-//! `ceil_runtime` for a replay, and on `hood_io` for files and streams. `run` carries its promise; by `generated_text_replays` the
-//! promise holds over two runs, of which the second never sees the design, and by `refused_exactly_where` a command is refused exactly
-//! where a cause stands. A verb is one module of definitions and one of code (`docs/VERBS.md`).
+//! `ceil_runtime` for a replay, and on `hood_io` for files and streams. `run` carries its promise, and so does `run_plain`, which reads
+//! the words without the kit's parser; by `generated_text_replays` the promise holds over two runs, of which the second never sees the
+//! design, and by `refused_exactly_where` a command has one cause of refusal at most, and none where all of it can be written. A verb is
+//! one module of definitions and one of code (`docs/VERBS.md`).
 #![tactic(auto)]
 
 mod ada_lines;
@@ -44,6 +45,6 @@ pub use generate::GenerateRefusal;
 pub use refusals::refused_exactly_where;
 pub use replay::ReplayRefusal;
 pub use status::Status;
-pub use toolset::run;
+pub use toolset::{run, run_plain};
 pub use two_runs::generated_text_replays;
 pub use verify::VerifyRefusal;

@@ -3,10 +3,10 @@ ghost use Rattle.hrthood_top.specs.Words.{Command};
 ghost use Rattle.hrthood_top.specs.Commands.{verb_of};
 ghost use Rattle.hrthood_top.specs.Exact.{HasOneCause, WritesOrRefuses};
 
-/// A command is refused exactly where a cause stands, over the same files of a shelf.
+/// A command has one cause of refusal at most over the same files of a shelf, and none where what it makes can be written whole.
 pub fn refused_exactly_where()
     // Two causes are one.
     ensures one { (t : Told) (c : Command) → HasOneCause t (verb_of c) }
-    // None stands where what the verb makes is written.
+    // None stands where what the verb makes can be written whole.
     ensures none { (t : Told) (c : Command) → WritesOrRefuses t (verb_of c) }
 {}

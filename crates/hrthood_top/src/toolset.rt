@@ -1,16 +1,15 @@
-ghost use Rattle.std.specs.Prelude.{◌≡◌, ◌↔◌, None, map, string_bytes};
+ghost use Rattle.std.specs.Prelude.{◌≡◌, ◌↔◌, None, Some, map, string_bytes};
 ghost use Rattle.hrthood_top.specs.Words.{command_of};
+ghost use Rattle.hrthood_top.specs.Commands.{HasFewThreads, command_tree};
 ghost use Rattle.hrthood_top.specs.Ends.{Ends, Completes, outside};
 ghost use Rattle.hrthood_top.specs.Samples.{EndsSample};
 
 use crate::analyse::analyse;
 use crate::check::check;
-use crate::command_words::{Command, Unread, read_words};
-use crate::finish::tell_no_memory;
+use crate::command_words::{Command, Unread, plain_command, read_words};
+use crate::finish::{tell_no_memory, tell_usage};
 use crate::format::format;
 use crate::generate::generate;
-use crate::line::tell;
-use crate::message::Message;
 use crate::replay::replay;
 use crate::sample::write_sample;
 use crate::status::Status;
@@ -19,6 +18,31 @@ use hood_io::{Shelf, Sink};
 use std::alloc::Global;
 
 /// Does a command, from its files to what is written.
+fn do_command<F: Shelf, O: Sink, E: Sink>(
+    alloc: Global,
+    command: Command<'_>,
+    shelf: &mut F,
+    out: &mut O,
+    err: &mut E,
+) -> Status
+    requires { HasFewThreads command }
+    ensures ends { Ends result (Some (command_tree command.entry))
+        (outside (F.told shelf.old) (F.faults shelf.old) (O.written out.old) (O.faults out.old) (E.written err.old) (E.faults err.old))
+        (outside (F.told shelf.new) (F.faults shelf.new) (O.written out.new) (O.faults out.new) (E.written err.new) (E.faults err.new)) }
+    ensures summed { EndsSample result (Some (command_tree command.entry)) (O.written out.old) (O.written out.new) }
+{
+    match command {
+        Command::Check { design } => check(alloc, design, shelf, out, err),
+        Command::Analyse { design } => analyse(alloc, design, shelf, out, err),
+        Command::Format { design } => format(alloc, design, shelf, out, err),
+        Command::Generate { design } => generate(alloc, design, shelf, out, err),
+        Command::Replay { ada, arrivals } => replay(alloc, ada, arrivals, shelf, out, err),
+        Command::Verify { design, arrivals } => verify(alloc, design, arrivals, shelf, out, err),
+        Command::Sample { threads } => write_sample(alloc, threads, out, err),
+    }
+}
+
+/// Reads the words by the kit's parser, and does the command that they are.
 #[tactic(auto, using(crate::proofs::UnreadEnds::unread_ends))]
 fn run_command<F: Shelf, O: Sink, E: Sink>(
     alloc: Global,
@@ -32,22 +56,29 @@ fn run_command<F: Shelf, O: Sink, E: Sink>(
         (outside (F.told shelf.new) (F.faults shelf.new) (O.written out.new) (O.faults out.new) (E.written err.new) (E.faults err.new)) }
     ensures summed { EndsSample result (command_of (map string_bytes words.now)) (O.written out.old) (O.written out.new) }
 {
-    let command = match read_words(alloc, words) {
-        Ok(command) => command,
-        Err(Unread::NoCommand) => {
-            tell(err, &Message::Usage);
-            return Status::Usage;
-        }
-        Err(Unread::NoMemory) => return tell_no_memory(err),
-    };
-    match command {
-        Command::Check { design } => check(alloc, design, shelf, out, err),
-        Command::Analyse { design } => analyse(alloc, design, shelf, out, err),
-        Command::Format { design } => format(alloc, design, shelf, out, err),
-        Command::Generate { design } => generate(alloc, design, shelf, out, err),
-        Command::Replay { ada, arrivals } => replay(alloc, ada, arrivals, shelf, out, err),
-        Command::Verify { design, arrivals } => verify(alloc, design, arrivals, shelf, out, err),
-        Command::Sample { threads } => write_sample(alloc, threads, out, err),
+    match read_words(alloc, words) {
+        Ok(command) => do_command(alloc, command, shelf, out, err),
+        Err(Unread::NoCommand) => tell_usage(err),
+        Err(Unread::NoMemory) => tell_no_memory(err),
+    }
+}
+
+/// Reads the words without a parser, and does the command that they are.
+fn run_plain_command<F: Shelf, O: Sink, E: Sink>(
+    alloc: Global,
+    words: &[String],
+    shelf: &mut F,
+    out: &mut O,
+    err: &mut E,
+) -> Status
+    ensures ends { Ends result (command_of (map string_bytes words.now))
+        (outside (F.told shelf.old) (F.faults shelf.old) (O.written out.old) (O.faults out.old) (E.written err.old) (E.faults err.old))
+        (outside (F.told shelf.new) (F.faults shelf.new) (O.written out.new) (O.faults out.new) (E.written err.new) (E.faults err.new)) }
+    ensures summed { EndsSample result (command_of (map string_bytes words.now)) (O.written out.old) (O.written out.new) }
+{
+    match plain_command(words) {
+        Some(command) => do_command(alloc, command, shelf, out, err),
+        None => tell_usage(err),
     }
 }
 
@@ -76,4 +107,26 @@ pub fn run<F: Shelf, O: Sink, E: Sink>(
         (outside (F.told shelf.new) (F.faults shelf.new) (O.written out.new) (O.faults out.new) (E.written err.new) (E.faults err.new)) }
 {
     run_command(alloc, words, shelf, out, err)
+}
+
+/// Does what `run` does, and has its clauses, but reads the words without the kit's parser and without memory. A program that calls it in
+/// the place of `run` is compiled in less time, which a first answer without proof is glad of.
+#[tactic(auto, using(crate::proofs::Completing::completed))]
+pub fn run_plain<F: Shelf, O: Sink, E: Sink>(
+    alloc: Global,
+    words: &[String],
+    shelf: &mut F,
+    out: &mut O,
+    err: &mut E,
+) -> Status
+    ensures usage { (result ≡ Status.Usage) ↔ (command_of (map string_bytes words.now) ≡ None) }
+    ensures ends { Ends result (command_of (map string_bytes words.now))
+        (outside (F.told shelf.old) (F.faults shelf.old) (O.written out.old) (O.faults out.old) (E.written err.old) (E.faults err.old))
+        (outside (F.told shelf.new) (F.faults shelf.new) (O.written out.new) (O.faults out.new) (E.written err.new) (E.faults err.new)) }
+    ensures summed { EndsSample result (command_of (map string_bytes words.now)) (O.written out.old) (O.written out.new) }
+    ensures completes { Completes result (command_of (map string_bytes words.now))
+        (outside (F.told shelf.old) (F.faults shelf.old) (O.written out.old) (O.faults out.old) (E.written err.old) (E.faults err.old))
+        (outside (F.told shelf.new) (F.faults shelf.new) (O.written out.new) (O.faults out.new) (E.written err.new) (E.faults err.new)) }
+{
+    run_plain_command(alloc, words, shelf, out, err)
 }

@@ -7,8 +7,8 @@ use Rattle.hrthood_top.proofs.ParserLaws.{plain-reads}
 use Rattle.hrthood_top.proofs.WordsRead.{read-found}
 use Rattle.hrthood_top.proofs.command_words.read_words.Goals as goal
 
-pub why_unread-requires-clause-cause : goal.why_unread-requires-clause-cause
-why_unread-requires-clause-cause c =
+pub why_unread-requires : goal.why_unread-requires
+why_unread-requires c =
     let plain : are_plain (map string_bytes c.args.words.now) ≡ true = search rules in
     rw c.kind.ensures (has_kind (map string_bytes c.args.words.now) c.in-Err.fault plain c.in-Err.ensures.kinds)
 

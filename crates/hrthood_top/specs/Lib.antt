@@ -6,9 +6,9 @@ pub mod Messages
 pub mod Tells
 pub mod Checks
 pub mod Taking
-pub mod Analyses
 pub mod Formats
 pub mod Generates
+pub mod Analyses
 pub mod Violations
 pub mod Replays
 pub mod RightTraces

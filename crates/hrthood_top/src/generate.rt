@@ -1,6 +1,7 @@
+ghost use Rattle.std.specs.Prelude.{IfOk};
 ghost use Rattle.hood_io.specs.Causes.{HasCause};
 ghost use Rattle.hood_io.specs.Sinks.{Puts};
-ghost use Rattle.bridge.specs.Delivers.{IsTextFor};
+ghost use Rattle.bridge.specs.Delivers.{IsDelivered, IsTextFor};
 ghost use Rattle.hrthood_top.specs.Ends.{EndsVerb, outside};
 ghost use Rattle.hrthood_top.specs.Generates.{generates, generate_line, RefusesDesign};
 ghost use Rattle.hrthood_top.specs.Writing.{IsMade};
@@ -54,15 +55,16 @@ impl Line for GenerateRefusal {
     }
 }
 
-/// What is made of the text of a design.
-pub(crate) fn generate_text(alloc: Global, design: &[u8]) -> Result<Vec<u8>, Halt<GenerateRefusal>>
-    ensures { IsMade (λ v. v.items) (IsTextFor design.now) (RefusesDesign design.now) result }
+/// What is delivered of the text of a design: its Ada text, with bounds and ceilings.
+pub(crate) fn deliver_design(
+    alloc: Global,
+    design: &[u8],
+) -> Result<Delivery, Halt<GenerateRefusal>>
+    ensures delivered { IfOk result (IsDelivered design.now) }
+    ensures made { IsMade (λ d. d.text.items) (IsTextFor design.now) (RefusesDesign design.now) result }
 {
     match deliver(alloc, design) {
-        Ok(delivery) => {
-            let Delivery { text, .. } = delivery;
-            Ok(text)
-        }
+        Ok(delivery) => Ok(delivery),
         Err(Refusal::Text(fault)) => Err(Halt::Refused(GenerateRefusal::Text(fault))),
         Err(Refusal::Rule(broken)) => Err(Halt::Refused(GenerateRefusal::Rule(broken))),
         Err(Refusal::Miss { thread, miss }) => {
@@ -70,6 +72,19 @@ pub(crate) fn generate_text(alloc: Global, design: &[u8]) -> Result<Vec<u8>, Hal
         }
         Err(Refusal::Long) => Err(Halt::Refused(GenerateRefusal::Long)),
         Err(Refusal::NoMemory) => Err(Halt::NoMemory),
+    }
+}
+
+/// What is made of the text of a design.
+pub(crate) fn generate_text(alloc: Global, design: &[u8]) -> Result<Vec<u8>, Halt<GenerateRefusal>>
+    ensures { IsMade (λ v. v.items) (IsTextFor design.now) (RefusesDesign design.now) result }
+{
+    match deliver_design(alloc, design) {
+        Ok(delivery) => {
+            let Delivery { text, .. } = delivery;
+            Ok(text)
+        }
+        Err(why) => Err(why),
     }
 }
 

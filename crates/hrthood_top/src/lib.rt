@@ -37,7 +37,6 @@ mod two_runs;
 mod verify;
 mod violation;
 
-pub use analyse::AnalyseRefusal;
 pub use check::CheckRefusal;
 pub use file_kind::FileKind;
 pub use format::FormatRefusal;

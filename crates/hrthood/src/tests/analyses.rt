@@ -121,7 +121,7 @@ const MISSES: &[&str] = &[
     err: refused U2 a value 22 limit 20 round 1",
 ];
 
-/// Designs that are not taken.
+/// Designs that are not taken, and one whose Ada text is too long.
 const UNTAKEN: &[&str] = &[
     "name: the front of a design
     whole: DESIGN d
@@ -133,6 +133,10 @@ const UNTAKEN: &[&str] = &[
     root: @cyclic
     design_len: 1048577
     err: refused S3 design",
+    "name: bounds of a design of 650,000 bytes whose text is over its limit
+    linked: 130000
+    err_room: 1000
+    err: refused S3 text",
 ];
 
 #[test]

@@ -16,7 +16,7 @@ use Rattle.hrthood_top.specs.Verbs.{Verb}
 use Rattle.hrthood_top.specs.Ends.{Outside, Writes, WritesAtMost, WritesUpTo, TooLong, Refusal, Stopped, Refuses, TellsMessage, EndsVerb}
 use Rattle.hrthood_top.specs.Fetches.{FetchesAll}
 use Rattle.hrthood_top.specs.Writing.{IsMade, Finishes, Streams, TellsHalt, TellsStop}
-use Rattle.hrthood_top.proofs.Fetching.{if_some-map}
+use Rattle.hrthood_top.proofs.Fetching.{are-held, if_some-map}
 
 -- files that could not be had
 pub ends-stop : {X : Type 0} (view : X → Texts) (v : Verb) (ended : Status) (why : Stop) (x y : Outside)
@@ -41,7 +41,7 @@ all-held : (files : List File) (texts : Texts) (told : Option Told) → IfSome t
     → AreHeld told (take (length files) files)
 all-held files texts told held =
     let H : List File → Type 0 = λ fs. AreHeld told fs in
-    subst H (sym (take-length files)) (if_some-map told (λ t. HoldsAll t files texts) (λ t. (ts : Texts) × HoldsAll t files ts) held (λ t p. (texts, p)))
+    subst H (sym (take-length files)) (are-held told files texts held)
 
 -- what was made of files that are there
 pub ends-made : {X : Type 0} (view : X → List ℕ) (v : Verb) (ended : Status) (made : Result X (Halt v.Refusal)) (texts : Texts) (x y : Outside) →
@@ -77,7 +77,8 @@ ends-made view v ended (Err (halt.Refused refusal)) texts x y held log m f =
     )
 ends-made view v ended (Err halt.NoMemory) texts x y held log m f =
     let E : Status → Type 0 = λ z. EndsVerb z v x y in
-    subst E (sym f.1.0) (length v.files, all-held v.files texts x.told held, log ∙ ap (λ z. grown x.told (fetched z)) (sym (take-length v.files)), f.0, f.1.1)
+    let whole = log ∙ ap (λ z. grown x.told (fetched z)) (sym (take-length v.files)) in
+    subst E (sym f.1.0) (length v.files, all-held v.files texts x.told held, whole, f.0, f.1.1)
 
 -- what a verb writes, up to its stop
 at_most : (v : Verb) (texts : Texts) (text : List ℕ) (t : Told) → HoldsAll t v.files texts

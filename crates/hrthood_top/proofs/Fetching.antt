@@ -9,7 +9,7 @@ use Rattle.hrthood_top.specs.declared.file_kind.FileKind.{FileKind}
 use Rattle.hrthood_top.specs.declared.fetch.Stop.{Stop}
 use Rattle.hrthood_top.specs.declared.fetch.Stop.TheVariants.{TooLong, ReadFault, NoMemory}
 use Rattle.hrthood_top.specs.declared.fetch.File as code
-use Rattle.hrthood_top.specs.Files.{File, Texts, Holds, HoldsAll, IsTooLong, fetched, failed, grown}
+use Rattle.hrthood_top.specs.Files.{File, Texts, Holds, HoldsAll, AreHeld, IsTooLong, fetched, failed, grown}
 use Rattle.hrthood_top.specs.Fetches.{file_tree, AreApart, Fetches, FetchesAll}
 
 grown-grown : (told : Option Told) (es fs : List Entry) → grown (grown told es) fs ≡ grown told (es ++ fs)
@@ -39,6 +39,10 @@ if_some-both (Some t) P Q R p q f = f t p q
 pub if_some-map : (told : Option Told) (P Q : Told → Type 0) → IfSome told P → ((t : Told) → P t → Q t) → IfSome told Q
 if_some-map None P Q p f = tt
 if_some-map (Some t) P Q p f = f t p
+
+-- files that are there with these texts are held
+pub are-held : (told : Option Told) (files : List File) (texts : Texts) → IfSome told (λ t. HoldsAll t files texts) → AreHeld told files
+are-held told files texts held = if_some-map told (λ t. HoldsAll t files texts) (λ t. (ts : Texts) × HoldsAll t files ts) held (λ t h. (texts, h))
 
 -- no files are held
 pub held-none : (told : Option Told) (texts : Texts) → IfSome told (λ t. HoldsAll t [] texts)
@@ -165,17 +169,13 @@ stops-here view (ReadFault name) files i d texts told told' told'' faults faults
         back = c.back;
         place = c.place;
         called = f.0;
-        held = if_some-map told (λ t. HoldsAll t (take i all) texts) (λ t. (ts : Texts) × HoldsAll t (take i all) ts) s.held (λ t p. (texts, p));
+        held = are-held told (take i all) texts s.held;
         log = grown-after told told' told'' (fetched (take i all)) (failed file.name ∷ []) s.log f.2;
       },
       rose-later faults faults' faults'' later f.1,
     )
-stops-here view NoMemory files i d texts told told' told'' faults faults' faults'' h s later f = (
-  i,
-  if_some-map told (λ t. HoldsAll t (take i (map file_tree files)) texts) (λ t. (ts : Texts) × HoldsAll t (take i (map file_tree files)) ts) s.held
-      (λ t p. (texts, p)),
-  f ∙ sym (grown-nothing told') ∙ s.log,
-)
+stops-here view NoMemory files i d texts told told' told'' faults faults' faults'' h s later f =
+    (i, are-held told (take i (map file_tree files)) texts s.held, f ∙ sym (grown-nothing told') ∙ s.log)
 
 -- all files are there
 pub all-there : {X : Type 0} (view : X → Texts) (x : X) (files : List code.File) (i : ℕ) (told told' : Option Told) (faults faults' : ℕ)

@@ -4,18 +4,19 @@ use Rattle.std.specs.Prelude.{is_some}
 use Rattle.hrthood_top.specs.declared.message.Message.TheVariants as message
 use Rattle.hrthood_top.specs.declared.status.Status.TheVariants as status
 use Rattle.hrthood_top.specs.Words.{Command, Check, Analyse, Format, Generate, Replay, Verify, Sample}
-use Rattle.hrthood_top.specs.Files.{Texts, HoldsAll}
+use Rattle.hrthood_top.specs.Files.{Texts}
 use Rattle.hrthood_top.specs.Messages.{message_line}
 use Rattle.hrthood_top.specs.Ends.{Ends, Outside, TellsMessage}
 use Rattle.hrthood_top.specs.Samples.{EndsSample}
-use Rattle.hrthood_top.proofs.Fetching.{grown-nothing, held-none, if_some-map}
+use Rattle.hrthood_top.proofs.Fetching.{are-held, grown-nothing, held-none}
 
 -- no file was fetched and nothing written
 pub unread-ends : (is : Option Command) (x y : Outside) → is_some is ≡ true → y.told ≡ x.told → y.out ≡ x.out
     → TellsMessage x y (message_line message.NoMemory) → Ends status.NoMemory is x y
 unread-ends None x y some told out tells = absurd (cc some)
 unread-ends (Some c) x y some told out tells =
-    let none : Texts = λ kind. [] in (0, if_some-map x.told (λ t. HoldsAll t [] none) (λ t. (texts : Texts) × HoldsAll t [] texts) (held-none x.told none) (λ t h. (none, h)), told ∙ grown-nothing x.told, out, tells)
+    let none : Texts = λ kind. [] in
+    (0, are-held x.told [] none (held-none x.told none), told ∙ grown-nothing x.told, out, tells)
 
 pub unread-sample : (is : Option Command) (out : Option (List ℕ)) → EndsSample status.NoMemory is out out
 unread-sample None out = tt

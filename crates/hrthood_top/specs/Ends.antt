@@ -93,7 +93,8 @@ EndsVerb ReadFault v x y =
     × (y.told ≡ grown x.told (fetched front ++ failed file.name ∷ [])) × Rose x.read_faults y.read_faults
     × (y.out ≡ x.out) × TellsMessage x y (fault_line file.name)
 EndsVerb NoMemory v x y =
-    (n : ℕ) × AreHeld x.told (take n v.files) × (y.told ≡ grown x.told (fetched (take n v.files))) × (y.out ≡ x.out) × TellsMessage x y (message_line message.NoMemory)
+    (n : ℕ) × AreHeld x.told (take n v.files) × (y.told ≡ grown x.told (fetched (take n v.files)))
+    × (y.out ≡ x.out) × TellsMessage x y (message_line message.NoMemory)
 EndsVerb Usage v x y = ⊥
 
 -- how a run ends, with the command that its words are, where they are one

@@ -1,4 +1,4 @@
--- Each task of the program of a sound flat design stands in the table of the design.
+-- Each task of the program of a sound and spaced flat design stands in the table of the design.
 use Rattle.std.specs.Prelude.{◌≡◌, ℕ, ◌-◌, zip, length, Some, slice_get}
 use Rattle.std.proofs.Common.{sym, subst}
 use Rattle.seq_tree.specs.Lists.{Each}
@@ -6,7 +6,7 @@ use Rattle.ods_tree.specs.Designs.{Design}
 use Rattle.ods_tree.specs.Flats.{Flat}
 use Rattle.ods_tree.specs.Flattening.{flat}
 use Rattle.ods_tree.specs.Ticks.{first_priority}
-use Rattle.analysis.specs.Sound.{IsSound}
+use Rattle.analysis.specs.Sound.{IsSound, IsSpaced}
 use Rattle.analysis.specs.Priorities.{priorities_of}
 use Rattle.analysis.specs.Ceilings.{ranks, written_ranks}
 use Rattle.guarantee.specs.Programs.{program_for}
@@ -34,11 +34,11 @@ module _ (f : Flat) (first : ℕ) where
       = zipped-at f.threads (priorities_of f) k e h in place k e parts.0 parts.1)))
 
 -- the tasks of a design's program stand in its table
-pub sound-tabled : (x : Design) → IsSound (flat x) → IsTabledDesign x
-sound-tabled x sound =
+pub sound-tabled : (x : Design) → IsSound (flat x) → IsSpaced (flat x) → IsTabledDesign x
+sound-tabled x sound spaced =
     record {
       tasks = in_order (first_priority x) (flat x) (priorities_of (flat x));
-      tabled = flat-tabled (flat x) (first_priority x) sound.started sound.spaced sound.formed.names (sound-table (flat x) sound);
+      tabled = flat-tabled (flat x) (first_priority x) sound.started spaced sound.formed.names (sound-table (flat x) sound);
       all = all-listed (flat x) (first_priority x);
       times = λ v. sym (responses-are (flat x) (first_priority x) v);
     }

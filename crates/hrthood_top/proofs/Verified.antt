@@ -8,7 +8,7 @@ use Rattle.ods_tree.specs.Ticks.{in_ticks}
 use Rattle.ods_tree.specs.Words.{is_design_name}
 use Rattle.design_rules.specs.Rules.{MeetsRules}
 use Rattle.design_programs.proofs.ReadablePrograms.{program-readable}
-use Rattle.design_programs.proofs.SoundDesigns.{flat-sound}
+use Rattle.design_programs.proofs.SoundDesigns.{flat-sound, flat-spaced}
 use Rattle.design_programs.proofs.TabledTasks.{sound-tabled}
 use Rattle.ceiling_locking.proofs.Ceiled.{is-ceiled}
 use Rattle.ceiling_locking.proofs.Stopping.{rest-goes-on}
@@ -103,7 +103,7 @@ design-runs-out : (x : designs.Design) (a : Arrivals) (told : List Event) → Is
     → Meaning (program (in_ticks x)) a told → RunsOut told
 design-runs-out x a told proper meets means =
     let p : Program = program (in_ticks x) in
-    let t = sound-tabled (in_ticks x) (flat-sound x (in_ticks x) meets) in
+    let t = sound-tabled (in_ticks x) (flat-sound x (in_ticks x) meets) (flat-spaced x (in_ticks x) meets) in
     rest-goes-on (system p a) (is-ceiled p a (program-readable x proper meets).1 t.tabled.ceilings t.tabled.inner_ceilings) a.items told means
 
 pub made-runs-out : (design made : List ℕ) (p : Program) (a : Arrivals) (told : List Event) → IsTextFor design made → SaysProgram made p

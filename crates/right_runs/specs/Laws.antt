@@ -19,7 +19,7 @@ use Rattle.ods_tree.specs.Ticks.{in_ticks}
 use Rattle.ods_tree.specs.Flattening.{flat}
 use Rattle.design_rules.specs.Rules.{MeetsRules}
 use Rattle.ada_tree.specs.Spelling.{program_tokens}
-use Rattle.analysis.specs.Sound.{IsSound}
+use Rattle.analysis.specs.Sound.{IsSound, IsSpaced}
 use Rattle.analysis.specs.Tables.{table}
 use Rattle.guarantee.specs.Software.{program_software}
 use Rattle.guarantee.specs.Events.{named}
@@ -43,10 +43,10 @@ TabledRunsAreRight limit =
 abbrev pub AcceptedWhereKept : ℕ → Type 0
 AcceptedWhereKept limit = (p : Program) (r : Arrivals) → IsReadable p → IsAccepted limit p r ↔ AreKept limit (program_software p) (named_arrivals p r)
 
--- every run of the program of a design whose flat design is sound is right
+-- every run of the program of a design whose flat design is sound and spaced is right
 abbrev pub SoundDesignsAreRight : ℕ → Type 0
 SoundDesignsAreRight limit =
-    (x : Design) (v : List Bound) → IsSound (flat x) → IsReadable (program x) → Fits (table (flat x)).rows v
+    (x : Design) (v : List Bound) → IsSound (flat x) → IsSpaced (flat x) → IsReadable (program x) → Fits (table (flat x)).rows v
     → (r : Arrivals) → KeepsSeparations limit x (named_arrivals (program x) r) → IsRight x v (program x) r
 
 -- every run of the program of a design is right, where the design is proper and meets the rules, and bounds fit its table

@@ -25,8 +25,8 @@ pub fn arrivals_are_accepted_where_kept()
     ensures { (limit : ℕ) → AcceptedWhereKept limit }
 {}
 
-/// Every run of the program of a design whose flat design is sound is right: for all arrivals that keep the separations, what is told is
-/// allowed, and every thread responds within its bound.
+/// Every run of the program of a design whose flat design is sound and spaced is right: for all arrivals that keep the separations, what is
+/// told is allowed, and every thread responds within its bound.
 ///
 /// The program can be read, and `v` fits the table. `limit` is the farthest horizon allowed, in ticks.
 pub fn sound_designs_are_right()

@@ -178,7 +178,9 @@ fn ticks_ahead(links: &Links, tasks: &[Task], arrivals: &[Arrival], time: u64, u
     until_effect(links, tasks, most)
 }
 
-/// The processor at work on a program.
+/// The processor at work on a program, in ticks of one processor. Between two calls, until the run has stopped, its lists are those of
+/// its tasks, and its calls lead to what those of its units do (`IsWhole`). `new` gives that and `advance` keeps it, and no one else can
+/// write a field of it, so who holds a machine from one call to the next has only to hand the fact on.
 #[derive(Drop)]
 pub struct Machine<'a> {
     tasks: Vec<Task<'a>>,
@@ -229,8 +231,10 @@ impl<'a> Machine<'a> {
     ghost use Rattle.ceil_runtime.specs.Acted.{HasActed, with_tasks};
     ghost use Rattle.ceil_runtime.specs.Stepping.{AreOfTask, Ends, HasStopped, IsNear, IsStep, steps_left, told_of};
 
-    /// The opening of a program under arrivals that are accepted for it. The one error is a failed allocation, or a protected object
-    /// with more operations than an event has places for.
+    /// The opening of a program under arrivals that are accepted for it. The one error is want of memory: a failed allocation, and two
+    /// limits that are told as one. A protected object may have fewer than 2^32 operations, since an event tells their places in 32
+    /// bits, and the room for the variables and frames of a task, a sum over the operations of the program, must fit a `usize`. No
+    /// program that was read from 16,777,216 bytes comes near either.
     pub fn new(
         alloc: Global,
         program: &'a AdaProgram,
@@ -716,6 +720,7 @@ impl<'a> Machine<'a> {
 
     /// The next events, of which there is at least one, in a buffer that holds none before; in ticks of one processor.
     /// The run has not stopped before. It is over with the horizon, and with a ceiling that is violated. No memory is taken.
+    /// What it asks of the machine, `whole`, is what `new` gave, and what each advance before has kept since the run went on.
     pub fn advance(&mut self, events: &mut EventBuf) -> Turn
         requires whole { IsWhole self.old }
         requires empty { events.old ≡ [] }
@@ -747,6 +752,7 @@ impl<'a> Machine<'a> {
 
     /// The queues that the machine keeps. A task's number in them is its place among the tasks, from 0. At the opening, and in every part of
     /// an instant but the effects of a task, the ready list is the ready tasks in order of dispatch; the sleeping tasks are so always.
+    /// What it asks of the machine, `whole`, is what `new` gives, and what `advance` keeps until the run has stopped.
     pub fn queues(&self) -> &Links
         requires whole { IsWhole self.now }
         ensures ready { IsSettled (running_of self.now).state

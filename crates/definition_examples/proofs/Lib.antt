@@ -4,6 +4,7 @@ mod SoundExamples
 mod ProgramExamples
 mod TextExamples
 mod TokenExamples
+mod AllowedExamples
 mod LawExamples
 mod ViewExamples
 mod RunExamples

@@ -4,6 +4,7 @@ use Rattle.std.proofs.Common.{lit≤, arith, sym, ap, subst, inl, inr, ◌∙◌
 use Rattle.seq_tree.specs.Names.{Name}
 use Rattle.seq_tree.specs.Expressions.{Number}
 use Rattle.seq_tree.specs.Statements.{Put, Then, End}
+use Rattle.seq_tree.specs.Operations.{Operation}
 use Rattle.seq_tree.specs.Variables.{Variables}
 use Rattle.seq_tree.specs.Runs.{Action, Path, Setting, Followed, RunBlock, RunBody, silent}
 use Rattle.seq_tree.specs.Runs as runs
@@ -99,15 +100,23 @@ other_run (inr h) =
 other_deed : FollowsBlock nothing (moments (By 0 a (Release None) ∷ By 2 a (Print 2) ∷ By 3 a (events.End 3) ∷ []) []) printer → ⊥
 other_deed h = other_run h.1
 
--- an object that has no operation of this name
+-- an object with one operation, which does nothing
+abbrev put_only : Operation
+put_only = record { sig = record { name = codes "put"; params = [] }; locals = []; block = End }
+
 abbrev guard : Guarded
-guard = record { name = codes "q"; vars = []; ops = [] }
+guard = record { name = codes "q"; vars = []; ops = put_only ∷ [] }
+
+-- it is entered at the last
+known_at_last : AreOneByOne nothing guard [] (Into a (codes "put") [] [] (silent 0 []) ∷ [])
+known_at_last = (put_only, refl, record { script = []; begins = ([], (silent 0 [], (0, refl, refl), refl)); shows = refl })
+
+-- another operation is not the object's, at the last and before it
+unknown_at_last : AreOneByOne nothing guard [] (Into a (codes "next") [] [] (silent 0 []) ∷ []) → ⊥
+unknown_at_last h = (let e = h.1 in cc)
 
 unknown_operation : AreOneByOne nothing guard [] (Into a (codes "next") [] [] (silent 0 []) ∷ Out a (codes "next") [] ∷ []) → ⊥
 unknown_operation h = (let e = h.2.stands in cc)
-
-unknown_at_last : AreOneByOne nothing guard [] (Into a (codes "next") [] [] (silent 0 []) ∷ []) → ⊥
-unknown_at_last h = (let e = h.1 in cc)
 
 -- arrivals under which a request comes at 5
 abbrev asked : Arrivals

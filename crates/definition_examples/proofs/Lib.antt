@@ -6,5 +6,6 @@ mod TextExamples
 mod TokenExamples
 mod AllowedExamples
 mod LawExamples
+mod LineExamples
 mod ViewExamples
 mod RunExamples

@@ -1,6 +1,6 @@
 #!/bin/sh
 # Proves and builds the program, and then runs it on the example of crates/hrthood. Only one run of this works in a clone at a
-# time; a second ends at once, with status 75. Where the binary is as new as the sources, as behind the gate, it only says so.
+# time; a second ends at once, with status 75. Where the binary is of the sources that are there, as behind the gate, it only says so.
 # ./hrthood starts it in the background. What it says goes to out/proof.log, at the end the verdict.
 # With the word --start it returns at once, and the proof keeps nothing of the caller open.
 set -u
@@ -22,7 +22,7 @@ case ${1-} in
     --locked) ;;
     *)
         . "$top/tools/current.sh" || exit 125
-        # Nothing but a proof leaves a binary there, so one that is as new as the sources is proved.
+        # Nothing but a proof leaves a binary there, so one of these sources is proved.
         if is_current "$binary"; then
             echo 'proved and built already'
             exit 0
@@ -37,6 +37,7 @@ case ${1-} in
         ;;
 esac
 
+. "$top/tools/current.sh" || exit 125
 begun=$top/out/proof.begun
 : >"$begun" && : >"$log" || exit 125
 cd "$crate" || exit 125
@@ -47,13 +48,17 @@ status=$?
 if [ "$status" -eq 0 ] && cmp -s "$top/out/proof.example" stdout; then
     "$binary" </dev/null >/dev/null 2>&1
     if [ $? -eq 2 ]; then
-        # A binary that was right already keeps its age; a source changed meanwhile counts as newer.
+        # So that without a mark too a source that changed meanwhile counts as newer.
         touch -r "$begun" "$binary"
-        echo "proved and built, at $(date)" >>"$log"
-        exit 0
+        if write_mark "$binary.made" "$begun" "$binary"; then
+            echo "proved and built, at $(date)" >>"$log"
+            exit 0
+        fi
+        echo "proved and built, but a source has changed meanwhile: prove it again; at $(date)" >>"$log"
+        exit 1
     fi
 fi
 # Status 1 is a refusal, which stands until a source changes. Others are no verdict: the next call tries again.
 echo "neither proved nor built: status $status, at $(date)" >>"$log"
-[ "$status" -ne 1 ] || touch -r "$begun" "$top/out/proof.refused"
+[ "$status" -ne 1 ] || write_mark "$top/out/proof.refused" "$begun"
 exit 1

@@ -1,6 +1,7 @@
 #!/usr/bin/env bash
-# Generates and replays the example once for each allocation of that run, with that one refused: the program must end with
-# status 5 and nothing on standard output, or with status 0 and the whole output. No part of the gate; it needs a C compiler.
+# Runs verbs on examples once for each allocation of that run, with that one refused: the program must end with status 5 and nothing on
+# standard output, or with status 0 and the whole output. With a path in PROGRAM that program is run, else this repository's, which is proved
+# and built first. No part of the gate; it needs a C compiler.
 set -euo pipefail
 
 top=$(CDPATH='' cd -- "$(dirname -- "${BASH_SOURCE[0]}")/.." && pwd)
@@ -11,6 +12,7 @@ trap 'rm -rf "$scratch"' EXIT
 cat >"$scratch/refuse.c" <<'C'
 #define _GNU_SOURCE
 #include <dlfcn.h>
+#include <errno.h>
 #include <fcntl.h>
 #include <stdlib.h>
 #include <unistd.h>
@@ -37,14 +39,53 @@ void *realloc(void *old, size_t size) {
     return refused() ? NULL : next(old, size);
 }
 
+void *aligned_alloc(size_t alignment, size_t size) {
+    static void *(*next)(size_t, size_t);
+    if (!next) next = dlsym(RTLD_NEXT, "aligned_alloc");
+    return refused() ? NULL : next(alignment, size);
+}
+
+void *memalign(size_t alignment, size_t size) {
+    static void *(*next)(size_t, size_t);
+    if (!next) next = dlsym(RTLD_NEXT, "memalign");
+    return refused() ? NULL : next(alignment, size);
+}
+
+int posix_memalign(void **to, size_t alignment, size_t size) {
+    static int (*next)(void **, size_t, size_t);
+    if (!next) next = dlsym(RTLD_NEXT, "posix_memalign");
+    return refused() ? ENOMEM : next(to, alignment, size);
+}
+
+/* dlsym itself takes memory from here before the next one is known. */
+void *calloc(size_t count, size_t size) {
+    static void *(*next)(size_t, size_t);
+    static char first[4096];
+    static size_t taken;
+    static int asking;
+    if (!next && !asking) {
+        asking = 1;
+        next = dlsym(RTLD_NEXT, "calloc");
+        asking = 0;
+    }
+    if (!next) {
+        size_t from = taken;
+        taken += (count * size + 15) / 16 * 16;
+        return taken <= sizeof first ? first + from : NULL;
+    }
+    return refused() ? NULL : next(count, size);
+}
+
 C
 cc -shared -fPIC -O1 -o "$scratch/refuse.so" "$scratch/refuse.c" -ldl
 
-"$top/tools/prove_program.sh" >/dev/null
+program=${PROGRAM:-$top/crates/hrthood/out/hrthood}
+[ -n "${PROGRAM:-}" ] || "$top/tools/prove_program.sh" >/dev/null
+cd "$top/examples"
 
 # Runs the program on these words, once for each allocation.
 refuse_each() {
-    local run=("$top/crates/hrthood/out/hrthood" "$@")
+    local run=("$program" "$@")
     local number=0 want_memory=0 status told
     "${run[@]}" >"$scratch/whole"
     while :; do
@@ -65,5 +106,11 @@ refuse_each() {
     echo "$1: $((number - 1)) allocations, each refused once: $want_memory runs ended with status 5 and wrote nothing, the others wrote all"
 }
 
-refuse_each generate "$top/examples/one_cyclic_object.design"
-refuse_each replay "$top/examples/one_cyclic_task.ada" "$top/examples/until_20.arrivals"
+refuse_each check mine_pump.design
+refuse_each analyse mine_pump.design
+refuse_each format mine_pump.design
+refuse_each generate one_cyclic_object.design
+refuse_each generate mine_pump.design
+refuse_each replay one_cyclic_task.ada until_20.arrivals
+refuse_each verify mine_pump.design one_water_alarm.arrivals
+refuse_each sample 7

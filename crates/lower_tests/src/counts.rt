@@ -15,7 +15,7 @@ const ONE_OF_TWO: &str =
     "if x = 1 then p.f; else q.g; end if; for i in word range 2 .. 1 loop p.f; end loop; end";
 
 /// The block that a short text begins with.
-fn block(rt: &HostRuntime, text: &str) -> Result<Block, Fail> {
+pub fn block(rt: &HostRuntime, text: &str) -> Result<Block, Fail> {
     let bytes = text.as_bytes();
     let (bytes, _) = bytes.split_at(bytes.len().min(1000));
     let found = tokens(rt.alloc(), bytes)?;
@@ -24,7 +24,7 @@ fn block(rt: &HostRuntime, text: &str) -> Result<Block, Fail> {
 }
 
 /// The operation of an object, by their names.
-fn operation(rt: &HostRuntime, object: &str, op: &str) -> Result<OpName, Fail> {
+pub fn operation(rt: &HostRuntime, object: &str, op: &str) -> Result<OpName, Fail> {
     Ok(OpName {
         object: Name::make(rt.alloc(), object.as_bytes())?,
         op: Name::make(rt.alloc(), op.as_bytes())?,

@@ -41,6 +41,9 @@ const ACCEPTED: &[&str] = &[
     root: @cyclic
     design_len: 1048576
     out: ok d objects 1 threads 1",
+    "name: as many objects as there may be
+    many: 499
+    out: ok d objects 500 threads 0",
     "name: times in milliseconds
     head: TICK = 500 us; PRIORITIES 31 .. 60;
     root: @milliseconds
@@ -106,6 +109,21 @@ const BROKEN_CALLS: &[&str] = &[
         s.start (8); END THREAD; END p; OBJECT s IS SPORADIC ATTRIBUTES SEPARATION = 50; DEADLINE = 20; THREAD_BUDGET = 1000; \
         PROVIDES start (v : in word) ASER; THREAD work (4); END THREAD; END s;
     err: refused V10 s sources 1 starts 2",
+    "name: requests in three turns, which are told as two
+    children: OBJECT p IS CYCLIC ATTRIBUTES PERIOD = 50; DEADLINE = 50; THREAD_BUDGET = 1000; REQUIRES s.start; \
+        THREAD for i in word range 1 .. 3 loop s.start; end loop; END THREAD; END p; \
+        OBJECT s IS SPORADIC ATTRIBUTES SEPARATION = 50; DEADLINE = 20; THREAD_BUDGET = 1000; PROVIDES start ASER; THREAD work (4); \
+        END THREAD; END s;
+    err: refused V10 s sources 1 starts 2",
+    "name: requests of a thread and from outside
+    children: OBJECT p IS CYCLIC ATTRIBUTES PERIOD = 50; DEADLINE = 50; THREAD_BUDGET = 1000; REQUIRES s.start; THREAD s.start; \
+        END THREAD; END p; OBJECT s IS SPORADIC ATTRIBUTES SEPARATION = 50; DEADLINE = 20; THREAD_BUDGET = 1000; ARRIVAL_JITTER = 5; \
+        PROVIDES start ASER; THREAD work (4); END THREAD; END s;
+    err: refused V10 s sources 2 starts 1",
+    "name: a thread that nobody requests
+    root: OBJECT s IS SPORADIC ATTRIBUTES SEPARATION = 50; DEADLINE = 20; THREAD_BUDGET = 1000; PROVIDES start ASER; THREAD work (4); \
+        END THREAD; END s;
+    err: refused V10 s sources 0 starts 0",
     "name: a period that is missing
     root: OBJECT a IS CYCLIC ATTRIBUTES DEADLINE = 10; THREAD_BUDGET = 1000; THREAD work (3); END THREAD; END a;
     err: refused V11 a",
@@ -118,6 +136,9 @@ const BROKEN_CALLS: &[&str] = &[
     "name: an activation over its budget
     root: OBJECT a IS CYCLIC ATTRIBUTES PERIOD = 50; DEADLINE = 50; THREAD_BUDGET = 10; THREAD work (11); END THREAD; END a;
     err: refused V14 a cost 12 budget 10",
+    "name: more objects than there may be
+    many: 500
+    err: refused V15 objects 501",
     "name: a cost that doubles thirty times
     doubling: 31
     err: refused V15 cost p1 f",
@@ -126,6 +147,32 @@ const BROKEN_CALLS: &[&str] = &[
         END THREAD; END p; OBJECT s IS SPORADIC ATTRIBUTES SEPARATION = 50; DEADLINE = 20; THREAD_BUDGET = 1000; PROVIDES start ASER; \
         THREAD work (4); END THREAD; END s;
     err: refused V16 p period 49 s separation 50",
+];
+
+/// Designs with a fault of a body.
+const BROKEN_BODIES: &[&str] = &[
+    "name: a word as a condition
+    root: OBJECT a IS CYCLIC ATTRIBUTES PERIOD = 10; DEADLINE = 10; THREAD_BUDGET = 1000; DATA x : word := 0; \
+        THREAD if x then null; end if; END THREAD; END a;
+    err: refused V13 a thread B2",
+    "name: a divisor that is a name, in an operation
+    root: OBJECT p IS PASSIVE PROVIDES f (x : in word; y : out word); OPERATION f IS BEGIN y := 1 / x; END f; END p;
+    err: refused V13 p f B3",
+    "name: an exit outside of a loop
+    root: OBJECT a IS CYCLIC ATTRIBUTES PERIOD = 10; DEADLINE = 10; THREAD_BUDGET = 1000; DATA x : word := 0; \
+        THREAD exit when x = 1; END THREAD; END a;
+    err: refused V13 a thread B4",
+    "name: an in parameter that is assigned
+    root: OBJECT p IS PASSIVE PROVIDES f (x : in word; y : out word); OPERATION f IS BEGIN x := 1; END f; END p;
+    err: refused V13 p f B5",
+    "name: a number for an out parameter
+    children: OBJECT p IS PASSIVE PROVIDES f (y : out word); OPERATION f IS BEGIN y := 1; END f; END p; \
+        OBJECT q IS PASSIVE PROVIDES f; REQUIRES p.f; OPERATION f IS BEGIN p.f (1); END f; END q;
+    err: refused V13 q f B6",
+    "name: a call without its actual
+    children: OBJECT p IS PASSIVE PROVIDES f (y : out word); OPERATION f IS BEGIN y := 1; END f; END p; \
+        OBJECT q IS PASSIVE PROVIDES f; REQUIRES p.f; OPERATION f IS BEGIN p.f; END f; END q;
+    err: refused V13 q f B7",
 ];
 
 /// Designs of version 2 that are refused.
@@ -193,6 +240,7 @@ fn designs_are_checked(rt: HostRuntime) -> Result<(), Fail> {
     run_table(&rt, alloc, TAKEN, ACCEPTED)?;
     run_table(&rt, alloc, REFUSED, BROKEN_STRUCTURES)?;
     run_table(&rt, alloc, REFUSED, BROKEN_CALLS)?;
+    run_table(&rt, alloc, REFUSED, BROKEN_BODIES)?;
     run_table(&rt, alloc, REFUSED, BROKEN_VERSIONS)?;
     run_table(&rt, alloc, REFUSED, BROKEN_ALL_OVER)
 }

@@ -48,6 +48,15 @@ const TEXTS: &[&str] = &[
     "name: a design too many
     like: no command
     words: generate d d",
+    "name: a check of two designs
+    like: no command
+    words: check a b",
+    "name: arrivals are missing
+    like: no command
+    words: verify a",
+    "name: a word for help, which is no verb
+    like: no command
+    words: help",
 ];
 
 /// Designs that are refused for their text, their attributes or their length.

@@ -10,6 +10,7 @@
 //! | `sum` | of an object whose thread assigns a sum of so many operators, on a line of its own |
 //! | `nested` | of so many objects, each in the one before it, on a line of its own and without an end |
 //! | `doubling` | of passive objects of which each calls the next one twice, up to this many |
+//! | `many` | of so many passive objects in an active one |
 //! | `linked` | of a cyclic object that calls, so many times, an operation whose link leads to names of 64 bytes |
 //! | none of these | of one cyclic object, with `object`, `attributes`, `thread` and the cost of `null;` in `null` |
 //! | `design_len` | beside any: with spaces behind it, up to so many bytes |
@@ -96,10 +97,26 @@ fn doubling(alloc: Global, count: usize) -> Result<String, Fail> {
     Ok(root)
 }
 
+/// Passive objects in an active one.
+fn many(alloc: Global, count: usize) -> Result<String, Fail> {
+    let mut root = String::from_str(alloc, "OBJECT r IS ACTIVE OBJECTS ")?;
+    for k in 0..count {
+        let object = format!(in alloc;
+            "OBJECT p{k} IS PASSIVE PROVIDES f; OPERATION f IS BEGIN null; END f; END p{k}; "
+        )?;
+        root.push_str(&object)?;
+    }
+    root.push_str("END r;")?;
+    Ok(root)
+}
+
 /// The root of a row's design that is made by counting; empty where none is.
 fn counted(alloc: Global, row: &str) -> Result<String, Fail> {
     if let Some(count) = value(row, "nested") {
         return nested(alloc, number(count));
+    }
+    if let Some(count) = value(row, "many") {
+        return many(alloc, number(count));
     }
     match value(row, "doubling") {
         Some(count) => doubling(alloc, number(count)),

@@ -1,7 +1,8 @@
 #!/usr/bin/env bash
 # How long it takes to verify a design, to sum up samples and to read arrivals, at four sizes each, and the exponent by which the time
 # grows with the size: `verify` of the mine pump up to horizons, which also writes its text; `sample` of so many threads; and a replay of
-# 1 tick under so many requests from outside, or durations of work. At most 1 is wanted; a run of few milliseconds tells little. Names of forms as words, as `verify_times.sh requests`, measure those alone.
+# 1 tick under so many requests from outside, or durations of work. At most 1 is wanted; a run of few milliseconds tells little. Names of
+# forms as words, as `verify_times.sh requests`, measure those alone.
 source "$(dirname -- "${BASH_SOURCE[0]}")/measure.sh"
 
 # Each form sets the words of the run.

@@ -52,6 +52,18 @@ is_as_wanted() {
     $same
 }
 
+# Whether verbs.cases has a case of each verb of the usage line. Says which are missing.
+has_each_verb() {
+    local verb all=true
+    for verb in $(sed 's/^usage: hrthood//' wanted/usage | tr '|' '\n' | awk '{ print $1 }'); do
+        if ! grep -q "^0 | $verb " verbs.cases; then
+            all=false
+            echo "verbs.cases has no case of $verb"
+        fi
+    done
+    $all
+}
+
 tables=("${@/%/.cases}")
 [ $# -gt 0 ] || tables=(*.cases)
 count=0
@@ -67,5 +79,7 @@ for table in "${tables[@]}"; do
         ! is_as_wanted "$status" "$words" "$out" "$err" || good=$((good + 1))
     done 3<"$table"
 done
+missing=0
+has_each_verb || missing=1
 echo "$good of $count cases as wanted"
-[ "$count" -gt 0 ] && [ "$good" -eq "$count" ]
+[ "$count" -gt 0 ] && [ "$good" -eq "$count" ] && [ "$missing" -eq 0 ]

@@ -11,9 +11,9 @@ red where the one that runs has a lower priority. Below stand an end, a dot with
 object that is used has a lane of its own: pale while a task is inside, full while it runs there. The table is of the whole trace.
 Each mark has a title, which browsers show under the mouse.
 
-Times are ticks. `verify` writes the Ada text too, which tells priorities, ceilings, costs and bounds; beside a trace of `replay` it stands in the file
-of --text. Who runs is not told by a trace: it follows, as `traces.py` says, but for a gap of a few ticks before the end, which is hatched white.
-What is drawn is only as good as these scripts, which are tested and not proved.
+Times are ticks. `verify` writes the Ada text too, which tells priorities, ceilings, costs and bounds. Beside a trace of `replay` the
+text stands in the file of --text. Who runs is not told by a trace: it follows, as `traces.py` says, but for a gap of a few ticks before the
+end, which is hatched white. What is drawn is only as good as these scripts, which are tested and not proved.
 """
 import argparse
 import os
@@ -26,6 +26,7 @@ import traces                   # noqa: E402
 from traces import Fault        # noqa: E402
 
 DEFAULT_WINDOW = 300            # ticks
+LATE = 'late ends'              # those over their bound
 RUNNING, INK, RED, GREEN, VIOLET = '#4f79a8', '#222', '#b5332a', '#4c8f43', '#6c3483'
 OBJECT_COLOURS = ('#e08e2b', '#7a9a3a', '#a5629c', '#2f8f89', '#c7574b', '#8c6d46', '#6a6fc2', '#b9a52e', '#4f9a63', '#d17ba3', '#3f7fb5',
                   '#9a5b3a')
@@ -103,7 +104,7 @@ def short(name, most):
 class Panel:
     """The lanes of tasks and objects from the tick `start` to `end`, where `step` ticks are as wide as the picture."""
     LEFT, RIGHT = 196, 22           # pixels beside the lanes
-    LANE, OBJECT_LANE = 54, 18      # pixels of height
+    LANE, OBJECT_LANE = 58, 18      # pixels of height
 
     def __init__(self, picture, start, end, step, top):
         self.svg, self.run, self.program = picture.svg, picture.run, picture.run.program
@@ -337,23 +338,25 @@ class Picture:
                    ('cost', lambda t: t.cost), ('blocking', lambda t: t.blocking), ('bound', lambda t: t.bound),
                    ('greatest response', lambda t: totals[t.name].greatest), ('releases', lambda t: totals[t.name].releases),
                    ('ends', lambda t: totals[t.name].ends),
-                   ('ends over bound', lambda t: None if t.bound is None else totals[t.name].over_bound)]
+                   (LATE, lambda t: None if t.bound is None else totals[t.name].over_bound)]
         return [(head, value) for head, value in columns if any(value(task) is not None for task in self.tasks)]
 
     def draw_table(self):
         run = self.run
         self.y += 12
         self.svg.text(14, self.y, 'Whole trace: %d lines, up to tick %d' % (run.lines, run.last), 'name')
-        self.y += 18
+        self.y += 30
         left, top, bottom = 14, self.y, self.y + 16 * len(self.tasks)
         for head, value in self.columns():
             cells = ['-' if value(task) is None else str(value(task)) for task in self.tasks]
             is_text = head in ('task', 'kind')
-            width = max(6.3 * len(head), max(7.6 * len(cell) for cell in cells)) + 14
+            words = head.split(' ')
+            width = max(6.3 * max(len(word) for word in words), max(7.6 * len(cell) for cell in cells)) + 14
             place = left if is_text else left + width - 14
-            self.svg.text(place, top, head, 'small' if is_text else 'small right')
+            for i, word in enumerate(reversed(words)):
+                self.svg.text(place, top - 12 * i, word, 'small' if is_text else 'small right')
             for i, cell in enumerate(cells):
-                is_bad = head == 'ends over bound' and cell not in ('-', '0')
+                is_bad = head == LATE and cell not in ('-', '0')
                 self.svg.text(place, top + 18 + 16 * i, cell, ('' if is_text else 'right') + (' bad' if is_bad else ''))
             left += width
         self.svg.line('M14 %dH%d' % (top + 5, left - 14), class_='base')

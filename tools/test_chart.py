@@ -273,7 +273,7 @@ class Reading(unittest.TestCase):
         self.assertEqual((button.priority, button.period, button.jitter, button.bound, button.deadline), (3, 200, 3, 9, 20))
         self.assertEqual((printer.priority, printer.period, printer.jitter, printer.bound), (2, 100, 0, None))
         self.assertEqual((sampler.priority, sampler.period, sampler.offset), (1, 100, 10))
-        self.assertEqual([task.kind() for task in (button, printer, sampler)], ['requested from outside', 'requested', 'cyclic'])
+        self.assertEqual([task.kind() for task in (button, printer, sampler)], ['sporadic, external', 'sporadic', 'cyclic'])
 
     def test_layout_and_capitals_do_not_matter(self):
         with open(os.path.join(EXAMPLES, 'every_kind.ada')) as stream:
@@ -318,7 +318,7 @@ class Pictures(unittest.TestCase):
                       '2 to 5: l is inside q', '9 put h 8', '11 end h used 6, response 8, bound 9', '12 end l used 6, response 12, bound 10',
                       'h released at 3, deadline 12', 'l released at 0, bound 10', 'horizon'):
             self.assertIn(title, found)
-        self.assertIn('>ends over bound<', answer.stdout)
+        self.assertIn('class="right bad">1<', answer.stdout)
         self.assertIn('Whole trace: 11 lines, up to tick 33', answer.stdout)
 
     def test_the_text_stands_beside_a_replay(self):

@@ -39,7 +39,7 @@ class Task:
         self.cost = self.blocking = None
 
     def kind(self):
-        return 'cyclic' if self.is_cyclic else 'requested from outside' if self.is_external else 'requested'
+        return 'cyclic' if self.is_cyclic else 'sporadic, external' if self.is_external else 'sporadic'
 
 
 class Program:

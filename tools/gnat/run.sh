@@ -1,0 +1,86 @@
+#!/bin/sh
+# run.sh [-s] [-p PROFILE] [-t TICK_US] [-c CPU] [-k FOLDER] DESIGN ARRIVALS
+# Generates the Ada text of DESIGN, builds it with GNAT and the example body of package hrt, runs it on one processor up to the horizon of
+# ARRIVALS, and tells how the run agrees with the replay. PROGRAM names the program that generates and replays: ./hrthood of this repository.
+#   -s  stepped: each statement burns its modelled cost, and each line is compared, with its values and its tick
+#   -p  Jorvik or Ravenscar: builds under that profile
+#   -t  microseconds of a tick: 10000 with -s, else those of the design, else 1000
+#   -c  the processor: 0; a list as 0-3 shows what happens on several
+#   -k  keeps what was built, and the lines, in FOLDER
+# Status 0: the run agrees. 1: it does not. 2: wrong words, or a file that is refused. 3: GNAT is missing, or refuses the text. 4: no right to
+# real-time priorities. 5: the run does not agree, and the host took the processor away meanwhile, so that it shows nothing.
+set -u
+
+usage() {
+    sed -n '2,11s/^# \{0,1\}//p' "$0" >&2
+    exit 2
+}
+
+mode=responses profile='' tick='' cpu=0 keep=''
+while getopts sp:t:c:k: option; do
+    case $option in
+        s) mode=steps ;;
+        p) profile=$OPTARG ;;
+        t) tick=$OPTARG ;;
+        c) cpu=$OPTARG ;;
+        k) keep=$OPTARG ;;
+        *) usage ;;
+    esac
+done
+shift $((OPTIND - 1))
+[ $# -eq 2 ] || usage
+here=$(CDPATH='' cd -- "$(dirname -- "$0")" && pwd) || exit 2
+program=${PROGRAM:-$here/../../hrthood}
+. "$here/needs.sh" || exit 2
+need_gnat
+need_priorities "$cpu"
+
+# The folder `room`, which is kept where it was asked for.
+if [ -n "$keep" ]; then
+    mkdir -p "$keep" && room=$(cd "$keep" && pwd) || exit 2
+else
+    room=$(mktemp -d) || exit 2
+    trap 'rm -rf "$room"' EXIT
+    trap 'exit 130' HUP INT TERM
+fi
+
+# The text and its trace.
+python3 "$here/target.py" arrivals "$2" >"$room/arrivals" || exit 2
+"$program" verify "$1" "$room/arrivals" >"$room/both" || exit 2
+sed '/^-- trace$/,$d' "$room/both" >"$room/text"
+sed '1,/^-- trace$/d' "$room/both" >"$room/trace"
+until=$(sed -n 's/^\([0-9]*\) horizon$/\1/p' "$room/trace")
+if [ $mode = steps ]; then
+    tick=${tick:-10000}
+    python3 "$here/costed.py" <"$room/text" >"$room/built" || exit 2
+else
+    tick=${tick:-$(python3 "$here/target.py" tick "$1")}
+    cp "$room/text" "$room/built"
+fi
+
+# The folder `build` of Ada units. No line of the text is changed without -s.
+rm -rf "$room/build" && mkdir "$room/build" && cd "$room/build" || exit 2
+gnatchop -w -q ../built . || exit 3
+cp "$here"/hrt/*.ad? . || exit 2
+[ $mode = responses ] || cp "$here"/stepped/*.ad? . || exit 2
+# An `out` parameter holds 0 at first in the replay. Without this, and -S00 below, it holds anything.
+echo 'pragma Initialize_Scalars;' >gnat.adc
+if [ -n "$profile" ]; then
+    printf 'pragma Profile (%s);\npragma Partition_Elaboration_Policy (Sequential);\n' "$profile" >>gnat.adc
+fi
+python3 "$here/target.py" driver ../text ../arrivals . || exit 2
+gnatmake -q hrt_run -bargs -S00 || exit 3
+
+# The run ends at the horizon, and its last lines are those that were out by then.
+seconds=$(((until * tick + 400000) / 1000000 + 1))
+HRT_TICK_US=$tick HRT_PAY=1 timeout "$seconds" taskset -c "$cpu" ./hrt_run >../run
+cd .. || exit 2
+case $cpu in
+    # Whether the host took the processor is found on one alone.
+    *[,-]*) sed -i '/ away /d' run ;;
+esac
+if [ $mode = steps ]; then
+    python3 "$here/target.py" steps text trace run
+else
+    python3 "$here/target.py" responses text trace arrivals "$tick" run
+fi

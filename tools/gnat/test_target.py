@@ -1,0 +1,236 @@
+#!/usr/bin/env python3
+"""Tests of what needs neither GNAT nor rights: texts that pay their costs, arrivals as tasks, and that the comparisons find what is changed."""
+import os
+import subprocess
+import sys
+import tempfile
+import unittest
+
+sys.dont_write_bytecode = True
+HERE = os.path.dirname(os.path.realpath(__file__))
+EXAMPLES = os.path.join(HERE, '..', '..', 'examples')
+sys.path.insert(0, HERE)
+import costed                   # noqa: E402
+import target                   # noqa: E402
+import traces                   # noqa: E402
+
+HEAD = """-- design kinds
+-- thread button priority 3 jitter 3 response 9 deadline 20
+-- thread printer priority 2 jitter 26 response 11 deadline 60
+-- thread sampler priority 1 jitter 0 response 26 deadline 80
+"""
+TRACE = """10 release sampler
+20 enter sampler board.note 2
+21 arrive button 7
+21 release button 7
+23 leave sampler board.note
+25 enter button board.note 7
+27 leave button board.note
+28 end button used 5
+32 request sampler printer 2
+32 release printer 2
+33 put printer 2
+34 end printer used 2
+35 end sampler used 18
+110 release sampler
+120 horizon
+"""
+# The same as lines of a run, with priorities in the place of names, and an enter behind the horizon.
+STEPS = """ 20 enter 1 board.note 2
+ 23 leave 1 board.note
+ 25 enter 3 board.note 7
+ 27 leave 3 board.note
+ 28 end 3
+ 32 request 1 printer 2
+ 33 put 2 2
+ 34 end 2
+ 35 end 1
+ 121 enter 1 board.note 4
+"""
+# Seconds, where a tick is a millisecond: the button responds in 5.5 ticks, and the sampler in 21.25.
+SECONDS = """ 0.0265 end 3
+ 0.0300 put 2 2
+ 0.0305 end 2
+ 0.03125 end 1
+"""
+ARRIVALS = '-- once\nUNTIL 120;\nWORK sampler 5, 2;\nAT 21 button 7;\n'
+
+
+def example(name):
+    with open(os.path.join(EXAMPLES, name)) as stream:
+        return stream.read()
+
+
+def program():
+    return target.read_text(HEAD + example('every_kind.ada'))
+
+
+class Steps(unittest.TestCase):
+    def answer(self, run, trace=TRACE):
+        answer = target.compare_steps(program(), trace, run)
+        return answer.status(), answer.lines
+
+    def test_a_run_that_agrees(self):
+        self.assertEqual(self.answer(STEPS), (target.AGREES, ['same: all 9 lines of the replay, in order, at the same ticks']))
+
+    def test_each_line_that_is_changed_is_found(self):
+        lines = STEPS.splitlines()[:9]
+        for i, line in enumerate(lines):
+            time, rest = line.split()[0], line.split(' ', 2)[2]
+            later = ' %d %s' % (int(time) + 1, rest)
+            other_task = line.replace(' 1', ' 2', 1) if ' 1 ' in line or line.endswith(' 1') else line[:-1] + '9'
+            for name, changed in (('missing', []), ('twice', [line, line]), ('a tick later', [later]), ('other values', [line + ' 1']),
+                                  ('another task or value', [other_task])):
+                self.assertNotEqual(changed, [line])
+                status, told = self.answer('\n'.join(lines[:i] + changed + lines[i + 1:]) + '\n')
+                self.assertEqual(status, target.DIFFERS, '%s: %s' % (name, line))
+                self.assertTrue(any('different from line' in one for one in told))
+
+    def test_lines_in_another_order(self):
+        lines = STEPS.splitlines()[:9]
+        for i in range(8):
+            swapped = lines[:i] + [lines[i + 1], lines[i]] + lines[i + 2:]
+            self.assertEqual(self.answer('\n'.join(swapped) + '\n')[0], target.DIFFERS)
+
+    def test_an_empty_run_does_not_agree(self):
+        self.assertEqual(self.answer('')[0], target.DIFFERS)
+
+    def test_the_place_is_told(self):
+        status, lines = self.answer(STEPS.replace('32 request 1 printer 2', '32 request 1 printer 3'))
+        self.assertEqual(lines[0], 'different from line 6 on (of 9 and 9):')
+        self.assertIn('   replay 32 request sampler printer 2                 run 32 request sampler printer 3', lines)
+
+    def test_ticks_alone(self):
+        status, lines = self.answer(STEPS.replace(' 35 end', ' 37 end'))
+        self.assertEqual((status, lines[-1]), (target.DIFFERS, 'the order is the same, and ticks differ by 2 at most'))
+
+    def test_a_task_that_ended(self):
+        status, lines = self.answer(STEPS + ' 40 dead 1 PROGRAM_ERROR hrt_run.adb:1\n')
+        self.assertEqual((status, lines[0]), (target.DIFFERS, 'TASK ENDED: sampler at 40 PROGRAM_ERROR hrt_run.adb:1'))
+
+    def test_the_host_took_the_processor(self):
+        away = ' 22 away 1 0.0043\n'
+        self.assertEqual(self.answer(away + STEPS)[0], target.AGREES)
+        status, lines = self.answer(away + STEPS.replace('35 end', '36 end'))
+        self.assertEqual((status, lines[-1]), (target.DISTURBED, 'the host took the processor away 1 times, for 4.3 ms at most; '
+                                               'so nothing is shown: run it again'))
+
+    def test_a_leave_behind_a_request_may_come_late(self):
+        trace = TRACE.replace('32 request sampler printer 2\n32 release printer 2\n',
+                              '30 enter sampler board.note 2\n32 request sampler printer 2\n32 release printer 2\n32 leave sampler board.note\n')
+        run = STEPS.replace(' 32 request 1 printer 2\n', ' 30 enter 1 board.note 2\n 32 request 1 printer 2\n')
+        run = run.replace(' 34 end 2\n', ' 34 end 2\n 34 leave 1 board.note\n')
+        self.assertEqual(self.answer(run, trace)[1],
+                         ['same: all 10 lines of the replay, in order, at the same ticks; 1 leaves behind requests are passed over'])
+        self.assertEqual(self.answer(run.replace(' 23 leave 1 board.note\n', ''), trace)[0], target.DIFFERS)
+
+    def test_lines_that_are_none(self):
+        for line in ('hello', '3', '3 put', 'x put 1', '3 put x'):
+            with self.assertRaises(traces.Fault):
+                self.answer(line + '\n')
+
+    def test_the_last_line_may_be_cut_off(self):
+        self.assertEqual(self.answer(STEPS + ' 130 le')[0], target.AGREES)
+
+
+class Responses(unittest.TestCase):
+    def answer(self, run, tick=1000):
+        answer = target.compare_responses(program(), TRACE, ARRIVALS, tick, run)
+        return answer.status(), answer.lines
+
+    def test_a_run_within_its_bounds(self):
+        status, lines = self.answer(SECONDS)
+        self.assertEqual(status, target.AGREES)
+        self.assertEqual([line.split() for line in lines], [
+            'puts: 1 replayed, 1 run, same order'.split(), 'task deadline bound replayed run ends'.split(),
+            'button 20 9 7 5.50 1'.split(), 'printer 60 11 2 - 1'.split(), 'sampler 80 26 25 21.25 1'.split()])
+
+    def test_an_end_over_its_bound(self):
+        status, lines = self.answer(SECONDS.replace('0.0265', '0.0301'))
+        self.assertEqual((status, lines[3]), (target.DIFFERS, '   OVER THE BOUND'))
+        self.assertEqual(self.answer(SECONDS.replace('0.0265', '0.0300'))[0], target.AGREES)
+
+    def test_a_tick_of_the_design(self):
+        self.assertEqual(self.answer(SECONDS, 500)[0], target.DIFFERS)
+
+    def test_other_values(self):
+        status, lines = self.answer(SECONDS.replace('put 2 2', 'put 2 3'))
+        self.assertEqual((status, lines[1]), (target.DIFFERS, '   printer: OTHER VALUES'))
+
+    def test_a_run_without_lines(self):
+        self.assertEqual(self.answer('')[0], target.DIFFERS)
+
+
+class Inputs(unittest.TestCase):
+    def test_ticks(self):
+        self.assertEqual(target.tick_of('DESIGN d VERSION 2 IS TICK = 500 us;'), 500)
+        self.assertEqual(target.tick_of('design d version 2 is\ntick=1_0 ms ; -- TICK = 7 s'), 10000)
+        self.assertEqual(target.tick_of('-- TICK = 7 s\nDESIGN d IS'), 1000)
+
+    def test_arrivals(self):
+        self.assertEqual(target.read_arrivals(ARRIVALS), (120, [target.Arrival(21, 'button', 7)]))
+        self.assertEqual(target.read_arrivals('until 1_000; at 3 s; At 4 T 1_1;'), (
+            1000, [target.Arrival(3, 's', None), target.Arrival(4, 't', 11)]))
+        self.assertEqual(target.without_durations(ARRIVALS), 'until 120;\nat 21 button 7;\n')
+
+    def test_equal_priorities_are_refused(self):
+        with self.assertRaises(traces.Fault):
+            target.read_text((HEAD + example('every_kind.ada')).replace('pragma priority (2)', 'pragma priority (3)'))
+
+    def test_driver(self):
+        units = target.driver(HEAD + example('every_kind.ada'), ARRIVALS)
+        self.assertEqual(sorted(units), ['hrt_arrivals.adb', 'hrt_arrivals.ads', 'hrt_run.adb'])
+        self.assertIn('   task hrt_of_button is\n      pragma priority (3);\n', units['hrt_arrivals.ads'])
+        self.assertIn('      delay until hrt.epoch + 21 * tick;\n      kinds.button.press (7);\n', units['hrt_arrivals.adb'])
+        with self.assertRaises(traces.Fault):
+            target.driver(HEAD + example('every_kind.ada'), 'UNTIL 9; AT 3 sampler;')
+
+    def test_costs_are_paid_before_what_they_are_for(self):
+        lines = costed.Coster(example('every_kind.ada')).costed().split('\n')
+        text = [line.strip() for line in lines]
+        place = text.index('hrt_model.tell ("enter", "board.note" & hrt_model.image (v));')
+        self.assertEqual(text[place - 1:place + 6], [
+            'begin', 'hrt_model.tell ("enter", "board.note" & hrt_model.image (v));', 'hrt_model.pay (hrt.assign_cost);', 'last := v;',
+            'work (2);', 'hrt_model.tell ("leave", "board.note");', 'end note;'])
+        place = text.index('hrt_model.tell ("request", "printer" & hrt_model.image (v));')
+        self.assertEqual(text[place - 4:place], ['hrt_model.pay (hrt.assign_cost);', 'hrt_value := v;', 'hrt_model.pay (hrt.assign_cost);',
+                                                 'hrt_open := true;'])
+
+    def test_each_kind_of_statement_pays(self):
+        for statement, wanted in (('null;', 'hrt_model.pay (hrt.null_cost);null;'), ('x := 1;', 'hrt_model.pay (hrt.assign_cost);x := 1;'),
+                                  ('exit when x = 1;', 'hrt_model.pay (hrt.test_cost);exit when x = 1;'),
+                                  ('q.set (x);', 'hrt_model.pay (hrt.call_cost);q.set (x);'), ('work (3);', 'work (3);'),
+                                  ('if x = 1 or x = 2 then', 'if hrt_model.paid (hrt.test_cost) and then (x = 1 or x = 2) then'),
+                                  ('for i in word range 1 .. 3 loop', 'for i in word range 1 .. 3 loop   hrt_model.pay (hrt.turn_cost);'),
+                                  ('put (x);', 'put (x);'), ('else', 'else'), ('end if;', 'end if;'), ('activation_end;', 'activation_end;')):
+            text = 'package body d is\npackage body p is\nprocedure f is\nbegin\n%s\nend f;\nend p;\nend d;\n' % statement
+            out = costed.Coster(text).costed().split('\n')
+            self.assertEqual(''.join(out[5:-4]), wanted)
+
+    def test_only_added(self):
+        """A text without what was added is the text itself, but for conditions."""
+        for name in ('every_kind.ada', 'units_of_every_kind.ada', 'passive_operation.ada', 'one_cyclic_task.ada'):
+            lines = costed.Coster(example(name)).costed().split('\n')
+            self.assertEqual('\n'.join(line for line in lines if 'hrt_model' not in line), example(name))
+
+
+class Words(unittest.TestCase):
+    def run_target(self, *words):
+        return subprocess.run([sys.executable, os.path.join(HERE, 'target.py'), *words], capture_output=True, text=True)
+
+    def test_statuses(self):
+        with tempfile.TemporaryDirectory() as room:
+            paths = {}
+            for name, text in (('text', HEAD + example('every_kind.ada')), ('trace', TRACE), ('run', STEPS), ('other', STEPS.replace('35', '36')),
+                               ('none', 'hello\n')):
+                paths[name] = os.path.join(room, name)
+                with open(paths[name], 'w') as stream:
+                    stream.write(text)
+            for run, wanted in (('run', 0), ('other', 1), ('none', 2)):
+                self.assertEqual(self.run_target('steps', paths['text'], paths['trace'], paths[run]).returncode, wanted)
+        self.assertEqual(self.run_target('steps').returncode, 2)
+        self.assertEqual(self.run_target('tick', 'nowhere.design').returncode, 2)
+
+
+if __name__ == '__main__':
+    unittest.main()

@@ -280,8 +280,10 @@ class Picture:
         self.parts, self.waits = list(run.parts()), list(run.waits())
         used = {piece.object for piece in self.parts} | {
             name for name, _, start, end in run.sections if start < run.end and end > run.start}
-        self.objects = sorted((name for name in run.program.ceilings if name in used), key=lambda name: -run.program.ceilings[name])
-        self.colours = {name: OBJECT_COLOURS[i % len(OBJECT_COLOURS)] for i, name in enumerate(self.objects)}
+        objects = sorted(run.program.ceilings, key=lambda name: -run.program.ceilings[name])
+        self.objects = [name for name in objects if name in used]
+        # An object has one colour in all windows of a run.
+        self.colours = {name: OBJECT_COLOURS[i % len(OBJECT_COLOURS)] for i, name in enumerate(objects)}
         self.y = 0
 
     def draw(self):

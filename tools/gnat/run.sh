@@ -1,8 +1,9 @@
 #!/bin/sh
-# run.sh [-s] [-p PROFILE] [-t TICK_US] [-c CPU] [-k FOLDER] DESIGN ARRIVALS
+# run.sh [-s] [-a] [-p PROFILE] [-t TICK_US] [-c CPU] [-k FOLDER] DESIGN ARRIVALS
 # Generates the Ada text of DESIGN, builds it with GNAT and the example body of package hrt, runs it on one processor up to the horizon of
 # ARRIVALS, and tells how the run agrees with the replay. PROGRAM names the program that generates and replays: ./hrthood of this repository.
 #   -s  stepped: each statement burns its modelled cost, and each line is compared, with its values and its tick
+#   -a  the first file is an Ada text, in the layout of the generator, in the place of a design
 #   -p  Jorvik or Ravenscar: builds under that profile
 #   -t  microseconds of a tick: 10000 with -s, else those of the design, else 1000
 #   -c  the processor: 0; a list as 0-3 shows what happens on several
@@ -12,14 +13,15 @@
 set -u
 
 usage() {
-    sed -n '2,11s/^# \{0,1\}//p' "$0" >&2
+    sed -n '2,12s/^# \{0,1\}//p' "$0" >&2
     exit 2
 }
 
-mode=responses profile='' tick='' cpu=0 keep=''
-while getopts sp:t:c:k: option; do
+mode=responses verb=verify profile='' tick='' cpu=0 keep=''
+while getopts sap:t:c:k: option; do
     case $option in
         s) mode=steps ;;
+        a) verb=replay ;;
         p) profile=$OPTARG ;;
         t) tick=$OPTARG ;;
         c) cpu=$OPTARG ;;
@@ -44,12 +46,17 @@ else
     trap 'exit 130' HUP INT TERM
 fi
 
-# The text and its trace.
+# The text and its trace. A replay that stops at a violated ceiling is refused behind its trace.
 python3 "$here/target.py" arrivals "$2" >"$room/arrivals" || exit 2
-"$program" verify "$1" "$room/arrivals" >"$room/both" || exit 2
-sed '/^-- trace$/,$d' "$room/both" >"$room/text"
-sed '1,/^-- trace$/d' "$room/both" >"$room/trace"
-until=$(sed -n 's/^\([0-9]*\) horizon$/\1/p' "$room/trace")
+if [ $verb = verify ]; then
+    "$program" verify "$1" "$room/arrivals" >"$room/both" || exit 2
+    sed '/^-- trace$/,$d' "$room/both" >"$room/text"
+    sed '1,/^-- trace$/d' "$room/both" >"$room/trace"
+else
+    cp -- "$1" "$room/text" || exit 2
+    "$program" replay "$room/text" "$room/arrivals" >"$room/trace" || grep -q '^[0-9]* stop ' "$room/trace" || exit 2
+fi
+until=$(sed -n '$s/ .*//p' "$room/trace")
 if [ $mode = steps ]; then
     tick=${tick:-10000}
     python3 "$here/costed.py" <"$room/text" >"$room/built" || exit 2

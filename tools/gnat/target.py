@@ -133,6 +133,8 @@ class Answer:
         self.lines = []
         self.is_bad = False
         self.away = [float(line.more) for line in run if line.kind == 'away']
+
+    def refuse_ends_of_tasks(self, run):
         for line in run:
             if line.kind == 'dead':
                 self.refuse('TASK ENDED: %s at %s %s' % (line.task, line.time, line.more))
@@ -183,12 +185,27 @@ def without(lines, late):
         yield line
 
 
+def compare_stop(stop, run, answer):
+    """Where the replay stops, the task gets Program_Error."""
+    found = next((line for line in run if line.kind == 'dead'), None)
+    if found is None:
+        answer.refuse('the replay stops, and no task of the run does: ' + stop.line())
+    elif found[:3] == (stop.time, 'dead', stop.task) and found.more.startswith('PROGRAM_ERROR'):
+        answer.say('the replay stops, and the task gets PROGRAM_ERROR: ' + stop.line())
+    else:
+        answer.refuse('the replay stops, and the run does otherwise: %s, %s at %s %s' % (stop.line(), found.task, found.time, found.more))
+
+
 def compare_steps(program, trace, run_text):
     """Each enter, leave, put, request and end, with its values and its tick."""
     wanted, events = read_trace(trace)
     run = read_run(run_text, program)
     answer = Answer(run)
     until = max(event.time for event in events)
+    if events[-1].kind == 'stop':
+        compare_stop(events[-1], run, answer)
+    else:
+        answer.refuse_ends_of_tasks(run)
     late = late_leaves(wanted)
     wanted = list(without(wanted, late))
     found = list(without([line for line in run if line.kind in TOLD and line.time <= until], late))
@@ -245,6 +262,7 @@ def compare_responses(program, trace, arrivals_text, tick, run_text):
     until, arrivals = read_arrivals(arrivals_text)
     lines = read_run(run_text, program)
     answer = Answer(lines)
+    answer.refuse_ends_of_tasks(lines)
     run = [line._replace(time=line.time * MICROSECONDS / tick) for line in lines]
     run = [line for line in run if line.time <= until]
     compare_puts(program, wanted, run, answer)

@@ -1,6 +1,7 @@
 #!/usr/bin/env python3
 """Tests of what needs neither GNAT nor rights: texts that pay their costs, arrivals as tasks, and that the comparisons find what is changed."""
 import os
+import shutil
 import subprocess
 import sys
 import tempfile
@@ -107,6 +108,17 @@ class Steps(unittest.TestCase):
     def test_a_task_that_ended(self):
         status, lines = self.answer(STEPS + ' 40 dead 1 PROGRAM_ERROR hrt_run.adb:1\n')
         self.assertEqual((status, lines[0]), (target.DIFFERS, 'TASK ENDED: sampler at 40 PROGRAM_ERROR hrt_run.adb:1'))
+
+    def test_a_replay_that_stops(self):
+        trace = TRACE[:TRACE.index('25 enter')] + '23 stop button board priority 3 ceiling 2\n'
+        run = STEPS[:STEPS.index(' 25 enter')]
+        dead = ' 23 dead 3 PROGRAM_ERROR kinds.adb:1 explicit raise\n'
+        self.assertEqual(self.answer(run + dead, trace), (target.AGREES, [
+            'the replay stops, and the task gets PROGRAM_ERROR: 23 stop button board priority 3 ceiling 2',
+            'same: all 2 lines of the replay, in order, at the same ticks']))
+        for other in ('', dead.replace('23', '24'), dead.replace('dead 3', 'dead 2'), dead.replace('PROGRAM', 'CONSTRAINT')):
+            self.assertEqual(self.answer(run + other, trace)[0], target.DIFFERS, other)
+        self.assertEqual(self.answer(run.replace('board.note 2', 'board.note 3') + dead, trace)[0], target.DIFFERS)
 
     def test_the_host_took_the_processor(self):
         away = ' 22 away 1 0.0043\n'
@@ -230,6 +242,24 @@ class Words(unittest.TestCase):
                 self.assertEqual(self.run_target('steps', paths['text'], paths['trace'], paths[run]).returncode, wanted)
         self.assertEqual(self.run_target('steps').returncode, 2)
         self.assertEqual(self.run_target('tick', 'nowhere.design').returncode, 2)
+
+    def run_script(self, name, *words, **more):
+        return subprocess.run(['/bin/sh', os.path.join(HERE, name), *words], capture_output=True, text=True, **more)
+
+    def test_usage(self):
+        for words in ((), ('-x', 'a', 'b'), ('a', 'b', 'c')):
+            answer = self.run_script('run.sh', *words)
+            self.assertEqual((answer.returncode, answer.stdout), (2, ''))
+            self.assertIn('run.sh [-s]', answer.stderr)
+            self.assertIn('Status 0: the run agrees.', answer.stderr)
+
+    def test_a_host_without_gnat(self):
+        with tempfile.TemporaryDirectory() as room:
+            os.symlink(shutil.which('dirname'), os.path.join(room, 'dirname'))
+            for name, words in (('run.sh', ('a.design', 'a.arrivals')), ('measure.sh', ())):
+                answer = self.run_script(name, *words, env={'PATH': room})
+                self.assertEqual((answer.returncode, answer.stdout, answer.stderr),
+                                 (3, '', 'gnatmake is missing: install GNAT (Debian: apt-get install gnat)\n'))
 
 
 if __name__ == '__main__':

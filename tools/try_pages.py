@@ -8,8 +8,8 @@ Pages are Markdown files, README.md and docs/*.md where none is named. In a fenc
 stands for any lines. A block behind a comment `<!-- file NAME -->` is the text of that file. A block with a language, as ```sh, is not run.
 
 Each page has a folder of its own, with links to `hrthood`, `examples`, `tools` and the like, in which its blocks run from the first to the last.
-PROGRAM is the path of the program, and `hrthood` of the repository where it isn't set. With --update the pages get what was written, where
-no line is left out. No part of the gate. Exit status 1 tells that something differs.
+PROGRAM is the path of the program, and the proved program of this repository where it isn't set. With --update the pages get what was written,
+where no line is left out. No part of the gate. Exit status 1 tells that something differs, and 2 that there is no program.
 """
 import os
 import re
@@ -78,11 +78,19 @@ def run(typed, room):
     return done.stdout.decode(errors='replace').splitlines()
 
 
+def find_program():
+    """The path of the program, which scripts find in PROGRAM too. A run without proof would take a minute for each command."""
+    program = os.path.abspath(os.environ.get('PROGRAM', os.path.join(TOP, 'crates', 'hrthood', 'out', 'hrthood')))
+    if not os.access(program, os.X_OK):
+        print(f'try_pages.py: there is no program {program}: run tools/prove_program.sh, or set PROGRAM', file=sys.stderr)
+        sys.exit(2)
+    os.environ['PROGRAM'] = program
+    return program
+
+
 def make_room(room):
     """Links what commands use to a folder."""
-    program = os.path.abspath(os.environ.get('PROGRAM', os.path.join(TOP, 'hrthood')))
-    os.environ['PROGRAM'] = program
-    os.symlink(program, os.path.join(room, 'hrthood'))
+    os.symlink(os.environ['PROGRAM'], os.path.join(room, 'hrthood'))
     for name in LINKS:
         if os.path.exists(os.path.join(TOP, name)):
             os.symlink(os.path.join(TOP, name), os.path.join(room, name))
@@ -138,6 +146,7 @@ def main():
     if not pages:
         folder = os.path.join(TOP, 'docs')
         pages = [os.path.join(TOP, 'README.md')] + sorted(os.path.join(folder, name) for name in os.listdir(folder) if name.endswith('.md'))
+    find_program()
     whole = 0
     for page in pages:
         ran, wrong, files, left = try_page(page, update)

@@ -1,8 +1,8 @@
 #!/usr/bin/env python3
-"""Looks whether docs/RULES.md and docs/REFUSALS.md are right by what stands in the crates.
+"""Looks whether docs/RULES.md, docs/CHANGING.md and docs/REFUSALS.md are right by what stands in the crates.
 
 It says where a code of the definitions of messages (hrthood_top/specs/Messages) has no row in RULES.md or is not told of in REFUSALS.md, where
-RULES.md names a definition, a call or a file that isn't there, and where a test of a row doesn't have the row's code. Exit status 1 tells that it
+RULES.md or CHANGING.md names a definition, a call or a file that isn't there, and where a test of a row doesn't have the row's code. Exit status 1 tells that it
 said something.
 """
 import os
@@ -68,11 +68,13 @@ def row_faults(number, line, seen):
 def faults():
     told = codes_told()
     seen = set()
-    for number, line in enumerate(read(TOP, 'docs', 'RULES.md').split('\n'), 1):
-        for span in re.findall(r'`([^`]+)`', line):
-            if is_there(span) is False:
-                yield f'RULES.md:{number}: {span} is not there'
-        yield from row_faults(number, line, seen)
+    for page in ('RULES.md', 'CHANGING.md'):
+        for number, line in enumerate(read(TOP, 'docs', page).split('\n'), 1):
+            for span in re.findall(r'`([^`]+)`', line):
+                if is_there(span) is False:
+                    yield f'{page}:{number}: {span} is not there'
+            if page == 'RULES.md':
+                yield from row_faults(number, line, seen)
     for code in sorted(told - seen):
         yield f'RULES.md: {code} has no row'
     for code in sorted(seen - told):

@@ -5,7 +5,8 @@
 
 Pages are Markdown files, README.md and docs/*.md where none is named. In a fenced block without a language each line that begins with
 `$ ` is a command, and the lines up to the next one are what it is to write, on standard output and standard error together; a line `...`
-stands for any lines. A block behind a comment `<!-- file NAME -->` is the text of that file. A block with a language, as ```sh, is not run.
+stands for any lines. A block behind a comment `<!-- file NAME -->` is the text of that file. A block with a language, as ```sh, is not run, nor
+one behind a comment `<!-- not run: REASON -->`, as of what differs from host to host.
 
 Each page has a folder of its own, with links to `hrthood`, `examples`, `tools` and the like, in which its blocks run from the first to the last.
 PROGRAM is the path of the program, and the proved program of this repository where it isn't set. With --update the pages get what was written,
@@ -22,25 +23,27 @@ LINKS = ('examples', 'tools', 'completion', 'man', 'docs', 'crates', 'crates.txt
 
 
 def blocks_of(lines):
-    """The fenced blocks of a page: the file that each is the text of (or None), its language, and the lines from one to another."""
+    """The fenced blocks of a page: the file that each is the text of (or None), whether it may be run, and the lines from one to another."""
     found = []
-    named = None
+    named, is_run = None, True
     place = 0
     while place < len(lines):
         line = lines[place]
         comment = re.fullmatch(r'<!-- file (\S+) -->', line.strip())
         fence = re.fullmatch(r'```(\w*)', line)
-        if comment:
+        if re.fullmatch(r'<!-- not run: .* -->', line.strip()):
+            is_run = False
+        elif comment:
             named = comment[1]
         elif fence:
             end = place + 1
             while end < len(lines) and lines[end] != '```':
                 end += 1
-            found.append((named, fence[1], place + 1, end))
-            named = None
+            found.append((named, is_run and not fence[1], place + 1, end))
+            named, is_run = None, True
             place = end
         elif line.strip():
-            named = None
+            named, is_run = None, True
         place += 1
     return found
 
@@ -119,13 +122,13 @@ def try_page(page, update):
     ran = wrong = files = left = grown = 0
     with tempfile.TemporaryDirectory() as room:
         make_room(room)
-        for named, language, begin, end in blocks_of(lines[:]):
+        for named, is_run, begin, end in blocks_of(lines[:]):
             block = lines[begin + grown:end + grown]
             if named:
                 files += 1
                 with open(os.path.join(room, named), 'w') as text:
                     text.write('\n'.join(block) + '\n')
-            elif language or not any(line.startswith('$ ') for line in block):
+            elif not is_run or not any(line.startswith('$ ') for line in block):
                 left += 1
             else:
                 out, count, differ = try_block(block, room, page, begin)

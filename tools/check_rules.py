@@ -1,9 +1,9 @@
 #!/usr/bin/env python3
-"""Looks whether docs/RULES.md, docs/CHANGING.md and docs/REFUSALS.md are right by what stands in the crates.
+"""Looks whether what the pages say of rules and of places in the crates is there.
 
-It says where a code of the definitions of messages (hrthood_top/specs/Messages) has no row in RULES.md or is not told of in REFUSALS.md, where
-RULES.md or CHANGING.md names a definition, a call or a file that isn't there, and where a test of a row doesn't have the row's code. Exit status 1 tells that it
-said something.
+It says where a crate has no row in docs/ARCHITECTURE.md; where a code of the definitions of messages (hrthood_top/specs/Messages) has no row in
+docs/RULES.md, or is not told of in docs/REFUSALS.md; where a page of PAGES names a definition, a call or a file of a crate that isn't there; and
+where a test of a row of RULES.md doesn't have the row's code. Exit status 1 tells that it said something.
 """
 import os
 import re
@@ -12,6 +12,7 @@ import sys
 TOP = os.path.dirname(os.path.dirname(os.path.abspath(__file__)))
 CRATES = os.path.join(TOP, 'crates')
 TESTS = os.path.join(CRATES, 'hrthood', 'src', 'tests')
+PAGES = ('README.md', 'docs/RULES.md', 'docs/CHANGING.md', 'docs/ARCHITECTURE.md', 'docs/GUARANTEE.md', 'docs/TESTED.md')
 CODE = r'[A-Z]\d{1,2}'
 
 
@@ -36,7 +37,7 @@ def sources(crate):
 def is_there(span):
     """Whether what a span of the page names is there; None where it names nothing of the crates."""
     definition = re.fullmatch(r'([a-z0-9_]+)\.([A-Z]\w*)(?:\.(\w+))?', span)
-    call = re.fullmatch(r'([a-z0-9_]+)::(\w+)', span)
+    call = re.fullmatch(r'([a-z0-9_]+)::(?:[A-Z]\w*::)?([a-z]\w*)', span)
     file = re.fullmatch(r'([a-z0-9_]+)/(\w+/[\w/]+\.\w+)', span)
     if definition:
         crate, module, name = definition.groups()
@@ -65,15 +66,27 @@ def row_faults(number, line, seen):
             yield f'RULES.md:{number}: {test} has no row with {code[1]}'
 
 
+def crate_faults():
+    """Crates without a row in the table of docs/ARCHITECTURE.md, and rows without a crate."""
+    crates = {line.partition(':')[0].split()[0] for line in read(TOP, 'crates.txt').split('\n') if re.match(r'\w', line)}
+    table = read(TOP, 'docs', 'ARCHITECTURE.md').partition('| Crate | Has | Its door |')[2].partition('\n\n')[0]
+    rows = set(re.findall(r'^\| (\w+) \|', table, re.M))
+    for crate in sorted(crates - rows):
+        yield f'docs/ARCHITECTURE.md: {crate} has no row'
+    for crate in sorted(rows - crates):
+        yield f'docs/ARCHITECTURE.md: there is no crate {crate}'
+
+
 def faults():
+    yield from crate_faults()
     told = codes_told()
     seen = set()
-    for page in ('RULES.md', 'CHANGING.md'):
-        for number, line in enumerate(read(TOP, 'docs', page).split('\n'), 1):
+    for page in PAGES:
+        for number, line in enumerate(read(TOP, page).split('\n'), 1):
             for span in re.findall(r'`([^`]+)`', line):
                 if is_there(span) is False:
                     yield f'{page}:{number}: {span} is not there'
-            if page == 'RULES.md':
+            if page == 'docs/RULES.md':
                 yield from row_faults(number, line, seen)
     for code in sorted(told - seen):
         yield f'RULES.md: {code} has no row'

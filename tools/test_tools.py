@@ -239,6 +239,36 @@ class Crates(unittest.TestCase):
         self.assertEqual(list(rules.row_faults(1, '| V01 | names | `arrivals.rt` |', set())), ['RULES.md:1: arrivals.rt has no row with V01'])
 
 
+class Pages(unittest.TestCase):
+    """try_pages.py, over a page of its own"""
+
+    PAGE = "text\n\nThe file `a.txt`:\n\n```\none\ntwo\n```\n\n```\n$ cat a.txt\none\n...\n$ echo \\\n  done\n{}\n```\n" \
+        "<!-- not run: it is slow -->\n```\n$ false\nx\n```\n```sh\n$ false\n```\n"
+
+    def try_page(self, answer, *words):
+        with tempfile.TemporaryDirectory() as room:
+            path = os.path.join(room, 'page.md')
+            with open(path, 'w') as text:
+                text.write(self.PAGE.format(answer))
+            status, out, _ = run([sys.executable, os.path.join(TOOLS, 'try_pages.py'), *words, path], PROGRAM='/bin/true')
+            with open(path) as text:
+                return status, out.partition(': ')[2], text.read()
+
+    def test_equal(self):
+        self.assertEqual(self.try_page('done'), (0, '2 commands, 0 differ, 1 files, 2 blocks not run\n', self.PAGE.format('done')))
+
+    def test_other(self):
+        self.assertEqual(self.try_page('gone'), (1, '2 commands, 1 differ, 1 files, 2 blocks not run\n', self.PAGE.format('gone')))
+
+    def test_update(self):
+        self.assertEqual(self.try_page('gone', '--update')[2], self.PAGE.format('done'))
+
+    def test_no_program(self):
+        status, out, err = run([sys.executable, os.path.join(TOOLS, 'try_pages.py'), '/dev/null'], PROGRAM='/nothing')
+        self.assertEqual((status, out), (2, ''))
+        self.assertIn('there is no program /nothing', err)
+
+
 def usage():
     """The verbs of the usage line, each with its operands."""
     _, _, line = run([PROGRAM])
@@ -273,7 +303,8 @@ class Completion(unittest.TestCase):
             for name in ('one.design', 'two.design', 'one.ada', 'one.arrivals', 'other.txt'):
                 open(os.path.join(room, name), 'w').close()
             typed = ' '.join(f"'{word}'" for word in words)
-            script = f'. {TOP}/completion/hrthood.bash; COMP_WORDS=({typed}); COMP_CWORD={len(words) - 1}; _hrthood; printf "%s\\n" "${{COMPREPLY[@]}}"'
+            script = (f'. {TOP}/completion/hrthood.bash; COMP_WORDS=({typed}); COMP_CWORD={len(words) - 1}; _hrthood; '
+                      'printf "%s\\n" "${COMPREPLY[@]}"')
             done = subprocess.run(['bash', '-c', script], cwd=room, capture_output=True, text=True)
             self.assertEqual(done.stderr, '')
             return sorted(done.stdout.split())

@@ -5,7 +5,7 @@
 
 Pages are Markdown files, README.md and docs/*.md where none is named. In a fenced block without a language each line that begins with
 `$ ` is a command, and the lines up to the next one are what it is to write, on standard output and standard error together; a line `...`
-stands for any lines. A block behind a comment `<!-- file NAME -->` is the text of that file. A block with a language, as ```sh, is not run, nor
+stands for any lines. A block behind a line "The file `NAME`:" is the text of that file. A block with a language, as ```sh, is not run, nor
 one behind a comment `<!-- not run: REASON -->`, as of what differs from host to host.
 
 Each page has a folder of its own, with links to `hrthood`, `examples`, `tools` and the like, in which its blocks run from the first to the last.
@@ -29,12 +29,12 @@ def blocks_of(lines):
     place = 0
     while place < len(lines):
         line = lines[place]
-        comment = re.fullmatch(r'<!-- file (\S+) -->', line.strip())
+        file = re.fullmatch(r'The file `(\S+)`:', line)
         fence = re.fullmatch(r'```(\w*)', line)
         if re.fullmatch(r'<!-- not run: .* -->', line.strip()):
             is_run = False
-        elif comment:
-            named = comment[1]
+        elif file:
+            named = file[1]
         elif fence:
             end = place + 1
             while end < len(lines) and lines[end] != '```':

@@ -99,11 +99,11 @@ refuse_each() {
         if [ "$status" -eq 5 ] && [ ! -s "$scratch/out" ] && { [ "$told" = 'no memory' ] || [ -z "$told" ]; }; then
             want_memory=$((want_memory + 1))
         elif [ "$status" -ne 0 ] || ! cmp -s "$scratch/out" "$scratch/whole"; then
-            echo "$1: allocation $number refused: status $status" >&2
+            echo "$*: allocation $number refused: status $status" >&2
             exit 1
         fi
     done
-    echo "$1: $((number - 1)) allocations, each refused once: $want_memory runs ended with status 5 and wrote nothing, the others wrote all"
+    echo "$*: $((number - 1)) allocations, each refused once: $want_memory runs ended with status 5 and wrote nothing, the others wrote all"
 }
 
 refuse_each check mine_pump.design

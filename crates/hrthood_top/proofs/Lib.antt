@@ -1,4 +1,5 @@
 pub mod Pieces
+pub mod Usages
 pub mod Fetching
 pub mod Ending
 pub mod Streamed
@@ -22,9 +23,5 @@ pub mod SampleLaws
 pub mod Summed
 pub mod Gathering
 mod Examples
-mod ParserSteps
-pub mod ParserLaws
-pub mod ParserCommands
-pub mod WordsRead
 pub mod UnreadEnds
 pub mod Tracing

@@ -7,7 +7,7 @@ use Rattle.hood_io.specs.Sinks.{Appends}
 use Rattle.hrthood_top.specs.declared.status.Status.{Status}
 use Rattle.hrthood_top.specs.declared.status.Status.TheVariants.{Done, Refused, Usage, ReadFault, WriteFault, NoMemory}
 use Rattle.hrthood_top.specs.declared.message.Message.TheVariants as message
-use Rattle.hrthood_top.specs.Words.{Command}
+use Rattle.hrthood_words.specs.Words.{Command}
 use Rattle.hrthood_top.specs.Verbs.{Verb}
 use Rattle.hrthood_top.specs.Commands.{verb_of}
 use Rattle.hrthood_top.specs.Messages.{message_line, too_long_line, fault_line}

@@ -1,5 +1,3 @@
-pub mod Words
-pub mod Parsing
 pub mod Files
 pub mod Verbs
 pub mod Messages
@@ -15,7 +13,6 @@ pub mod RightTraces
 pub mod Verifies
 pub mod Samples
 pub mod Commands
-pub mod Reading
 pub mod Ends
 pub mod Exact
 pub mod TwoRuns

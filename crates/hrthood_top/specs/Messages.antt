@@ -22,6 +22,7 @@ use Rattle.hrthood_top.specs.declared.file_kind.FileKind.{FileKind}
 use Rattle.hrthood_top.specs.declared.file_kind.FileKind.TheVariants.{Arrivals}
 use Rattle.hrthood_top.specs.declared.message.Message.{Message}
 use Rattle.hrthood_top.specs.declared.message.Message.TheVariants.{Usage, TooLong, ReadFault, WriteFault, NoMemory}
+use Rattle.hrthood_words.specs.Words.{usage_line}
 use Rattle.hrthood_top.specs.Files.{kind_text}
 
 -- pieces of a text, joined
@@ -170,7 +171,7 @@ fault_line name = codes "fault reading " ++ (name ++ codes "\n")
 
 -- the line of a message that is the same for all verbs
 abbrev pub message_line : Message → List ℕ
-message_line Usage = codes "usage: hrthood check D | analyse D | format D | generate D | replay A R | verify D R | sample N\n"
+message_line Usage = usage_line
 message_line (TooLong kind) = too_long_line kind
 message_line (ReadFault name) = fault_line name.now
 message_line WriteFault = codes "fault writing\n"

@@ -15,7 +15,7 @@ use Rattle.hrthood_top.specs.declared.status.Status.{Status}
 use Rattle.hrthood_top.specs.declared.status.Status.TheVariants as status
 use Rattle.hrthood_top.specs.Verbs.{Verb}
 use Rattle.hrthood_top.specs.Verifies.{IsVerified}
-use Rattle.hrthood_top.specs.Words.{Command, Sample}
+use Rattle.hrthood_words.specs.Words.{Command, Sample}
 
 -- the bounds of the text of a design, with the names of the threads
 abbrev pub text_bounds : (design text : List ℕ) → IsTextFor design text → List NamedBound

@@ -1,17 +1,16 @@
 //! The top of the toolset: from the words of the command line, files and standard streams to what is written and the status.
 //!
-//! It stands on `bridge` for the Ada text of a design, on the readers of `ada_read` and `arrivals_read` and the processor of
-//! `ceil_runtime` for a replay, and on `hood_io` for files and streams. `run` carries its promise, and so does `run_plain`, which reads
-//! the words without the kit's parser; by `generated_text_replays` the promise holds over two runs, of which the second never sees the
-//! design, and by `refused_exactly_where` a command has one cause of refusal at most, and none where all of it can be written. A verb is
-//! one module of definitions and one of code (`docs/VERBS.md`).
+//! It stands on `hrthood_words` for the command that the words are, on `bridge` for the Ada text of a design, on the readers of
+//! `ada_read` and `arrivals_read` and the processor of `ceil_runtime` for a replay, and on `hood_io` for files and streams. `run` carries
+//! its promise, and so does `run_plain`, which reads the words without the kit's parser; by `generated_text_replays` the promise holds
+//! over two runs, of which the second never sees the design, and by `refused_exactly_where` a command has one cause of refusal at most,
+//! and none where all of it can be written. A verb is one module of definitions and one of code (`docs/VERBS.md`).
 #![tactic(auto)]
 
 mod ada_lines;
 mod analyse;
 mod arrival_lines;
 mod check;
-mod command_words;
 mod design_lines;
 mod fetch;
 mod file_kind;
@@ -22,7 +21,6 @@ mod halt;
 mod line;
 mod message;
 mod page;
-mod parsing;
 mod refusals;
 mod replay;
 mod report;
@@ -34,6 +32,7 @@ mod texts;
 mod toolset;
 mod trace;
 mod two_runs;
+mod usage;
 mod verify;
 mod violation;
 

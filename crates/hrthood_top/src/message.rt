@@ -4,7 +4,9 @@ ghost use Rattle.hrthood_top.specs.Messages.{message_line};
 
 use crate::file_kind::{FileKind, kind_text};
 use crate::line::{Line, put_each};
+use crate::usage::put_usage;
 use hood_io::{Failed, Sink, put_all};
+use hrthood_words::VERBS;
 
 /// What is told where a command was not done, for a reason that all verbs share.
 #[derive(Clone, Copy)]
@@ -29,10 +31,7 @@ impl<'a> Line for Message<'a> {
         ensures puts { Puts (E.written err.old) (E.written err.new) (message_line self.now) result }
     {
         match self {
-            Message::Usage => put_all(
-                err,
-                b"usage: hrthood check D | analyse D | format D | generate D | replay A R | verify D R | sample N\n",
-            ),
+            Message::Usage => put_usage(err, &VERBS),
             Message::TooLong(kind) => put_each(
                 err,
                 &[

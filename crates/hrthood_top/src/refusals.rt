@@ -1,5 +1,5 @@
 ghost use Rattle.hood_io.specs.Shelves.{Told};
-ghost use Rattle.hrthood_top.specs.Words.{Command};
+ghost use Rattle.hrthood_words.specs.Words.{Command};
 ghost use Rattle.hrthood_top.specs.Commands.{verb_of};
 ghost use Rattle.hrthood_top.specs.Exact.{HasOneCause, WritesOrRefuses};
 

@@ -1,12 +1,12 @@
 ghost use Rattle.std.specs.Prelude.{◌≡◌, ◌↔◌, None, Some, map, string_bytes};
-ghost use Rattle.hrthood_top.specs.Words.{command_of};
-ghost use Rattle.hrthood_top.specs.Commands.{HasFewThreads, command_tree};
-ghost use Rattle.hrthood_top.specs.Ends.{Ends, Completes, outside};
+ghost use Rattle.hrthood_words.specs.Words.{command_of};
+ghost use Rattle.hrthood_words.specs.Views.{HasFewThreads, command_tree};
+ghost use Rattle.hrthood_top.specs.Commands.{design_verb};
+ghost use Rattle.hrthood_top.specs.Ends.{Ends, EndsVerb, Completes, outside};
 ghost use Rattle.hrthood_top.specs.Samples.{EndsSample};
 
 use crate::analyse::analyse;
 use crate::check::check;
-use crate::command_words::{Command, Unread, plain_command, read_words};
 use crate::finish::{tell_no_memory, tell_usage};
 use crate::format::format;
 use crate::generate::generate;
@@ -15,7 +15,29 @@ use crate::sample::write_sample;
 use crate::status::Status;
 use crate::verify::verify;
 use hood_io::{Shelf, Sink};
+use hrthood_words::{Command, DesignVerb, Unread, plain_command, read_words};
 use std::alloc::Global;
+
+/// Does what a verb does that asks for a design alone, from the design to what is written.
+fn do_on_design<F: Shelf, O: Sink, E: Sink>(
+    alloc: Global,
+    verb: DesignVerb,
+    design: &str,
+    shelf: &mut F,
+    out: &mut O,
+    err: &mut E,
+) -> Status
+    ensures { EndsVerb result (design_verb verb design.now)
+        (outside (F.told shelf.old) (F.faults shelf.old) (O.written out.old) (O.faults out.old) (E.written err.old) (E.faults err.old))
+        (outside (F.told shelf.new) (F.faults shelf.new) (O.written out.new) (O.faults out.new) (E.written err.new) (E.faults err.new)) }
+{
+    match verb {
+        DesignVerb::Check => check(alloc, design, shelf, out, err),
+        DesignVerb::Analyse => analyse(alloc, design, shelf, out, err),
+        DesignVerb::Format => format(alloc, design, shelf, out, err),
+        DesignVerb::Generate => generate(alloc, design, shelf, out, err),
+    }
+}
 
 /// Does a command, from its files to what is written.
 fn do_command<F: Shelf, O: Sink, E: Sink>(
@@ -32,10 +54,7 @@ fn do_command<F: Shelf, O: Sink, E: Sink>(
     ensures summed { EndsSample result (Some (command_tree command.entry)) (O.written out.old) (O.written out.new) }
 {
     match command {
-        Command::Check { design } => check(alloc, design, shelf, out, err),
-        Command::Analyse { design } => analyse(alloc, design, shelf, out, err),
-        Command::Format { design } => format(alloc, design, shelf, out, err),
-        Command::Generate { design } => generate(alloc, design, shelf, out, err),
+        Command::OnDesign { verb, design } => do_on_design(alloc, verb, design, shelf, out, err),
         Command::Replay { ada, arrivals } => replay(alloc, ada, arrivals, shelf, out, err),
         Command::Verify { design, arrivals } => verify(alloc, design, arrivals, shelf, out, err),
         Command::Sample { threads } => write_sample(alloc, threads, out, err),

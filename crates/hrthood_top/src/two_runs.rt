@@ -1,6 +1,7 @@
 ghost use Rattle.std.specs.Prelude.{◌≡◌, ℕ, List, Some};
 ghost use Rattle.hood_io.specs.Shelves.{Told};
-ghost use Rattle.hrthood_top.specs.Words.{Generate, Replay};
+ghost use Rattle.hrthood_words.specs.declared.verbs.DesignVerb.TheVariants.{Generate};
+ghost use Rattle.hrthood_words.specs.Words.{OnDesign, Replay};
 ghost use Rattle.hrthood_top.specs.Ends.{Outside};
 ghost use Rattle.hrthood_top.specs.TwoRuns.{IsDone, IsRightReplay};
 
@@ -12,6 +13,6 @@ ghost use Rattle.hrthood_top.specs.TwoRuns.{IsDone, IsRightReplay};
 /// has its end within it.
 pub fn generated_text_replays()
     ensures { (words others : List (List ℕ)) (d a r text written : List ℕ) (x y u v : Outside) (t s : Told)
-        → IsDone words (Generate d) x y t text → IsDone others (Replay a r) u v s written → s.files a ≡ Some text
+        → IsDone words (OnDesign Generate d) x y t text → IsDone others (Replay a r) u v s written → s.files a ≡ Some text
         → IsRightReplay t s d r text written }
 {}

@@ -1,0 +1,14 @@
+use Rattle.std.proofs.Common.{rules, ◌≡◌, ◌≤◌, Option, None, length, string_bytes, sym}
+use Rattle.hrthood_words.proofs.WordCounts.{alone-none, crowded-none}
+use Rattle.hrthood_words.proofs.reading.plain_command.Goals as goal
+
+pub returns-in_err-first-clause-command : goal.returns-in_err-first-clause-command
+returns-in_err-first-clause-command c =
+    let result : c.from_residual-in_err-first.result ≡ None = search rules in
+    rw result (sym (alone-none string_bytes c.args.words.now c.in_ok-verb.verb.now c.in_ok-verb.words.now (search rules) (search rules)))
+
+pub returns-in-Some-clause-command : goal.returns-in-Some-clause-command
+returns-in-Some-clause-command c =
+    let second = c.in-Some.field-0 in
+    sym (crowded-none string_bytes c.args.words.now c.in_ok-verb.verb.now c.in_ok-first.first.now second.0.now c.in_ok-verb.words.now
+    c.in_ok-first.words.now second.1.now (search rules) (search rules) (search rules) (search rules))

@@ -112,12 +112,13 @@ def driver(text, arrivals_text):
         if task is None or task.operation is None:
             raise Fault('no task of the text takes requests as %s' % name)
         spec += ['   task hrt_of_%s is' % name, '      pragma priority (%d);' % program.ceilings[name], '   end hrt_of_%s;' % name]
-        body += ['   task body hrt_of_%s is' % name, '   begin']
+        # As the tasks of the text do, these call hrt.after behind each release.
+        body += ['   task body hrt_of_%s is' % name, '      hrt_next : ada.real_time.time := hrt.epoch;', '   begin']
         for arrival in arrivals:
             if arrival.task == name:
                 value = '' if arrival.value is None else ' (%d)' % arrival.value
-                body += ['      delay until hrt.epoch + %d * tick;' % arrival.time,
-                         '      %s.%s.%s%s;' % (program.design, name, task.operation, value)]
+                body += ['      hrt_next := hrt.epoch + %d * tick;' % arrival.time, '      delay until hrt_next;',
+                         '      hrt_next := hrt.after (hrt_next, 0);', '      %s.%s.%s%s;' % (program.design, name, task.operation, value)]
         body += ['      loop', '         delay until ada.real_time.time_last;', '      end loop;', '   end hrt_of_%s;' % name]
     main = ['with hrt_arrivals;', 'with %s;' % program.design, 'procedure hrt_run is', 'begin', '   null;', 'end hrt_run;']
     units = {'hrt_arrivals.ads': spec + ['end hrt_arrivals;'], 'hrt_arrivals.adb': body + ['end hrt_arrivals;'], 'hrt_run.adb': main}

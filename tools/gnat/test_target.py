@@ -193,7 +193,8 @@ class Inputs(unittest.TestCase):
         units = target.driver(HEAD + example('every_kind.ada'), ARRIVALS)
         self.assertEqual(sorted(units), ['hrt_arrivals.adb', 'hrt_arrivals.ads', 'hrt_run.adb'])
         self.assertIn('   task hrt_of_button is\n      pragma priority (3);\n', units['hrt_arrivals.ads'])
-        self.assertIn('      delay until hrt.epoch + 21 * tick;\n      kinds.button.press (7);\n', units['hrt_arrivals.adb'])
+        self.assertIn('      hrt_next := hrt.epoch + 21 * tick;\n      delay until hrt_next;\n      hrt_next := hrt.after (hrt_next, 0);\n'
+                      '      kinds.button.press (7);\n', units['hrt_arrivals.adb'])
         with self.assertRaises(traces.Fault):
             target.driver(HEAD + example('every_kind.ada'), 'UNTIL 9; AT 3 sampler;')
 

@@ -43,6 +43,12 @@ package body hrt is
    calls : number := 0;
    pragma volatile (calls);
 
+   --  The release of a task that woke up late, up to its next call of work.
+   owed : moment := zero;
+   is_owed : boolean := false;
+   pragma volatile (owed);
+   pragma volatile (is_owed);
+
    --  How many moments of use lie before a time.
    function moments (now : moment) return integer is
      ((now - zero + tick / 4) / tick);
@@ -67,13 +73,16 @@ package body hrt is
 
    function epoch return moment is (zero);
 
-   --  A cyclic task calls this at once when it wakes up at the time `start`.
+   --  A task calls this at once when it wakes up, with the time at which it is
+   --  released. Where the host woke it late, and no task has run since, what
+   --  has passed is counted to it by its next call of work.
    function after (start : moment; ticks : natural) return moment is
       now : constant moment := ada.real_time.clock;
    begin
-      if now > start then
-         look (now, (if seen > start then seen else start));
-         seen := now;
+      if seen < start and start < now then
+         look (now, start);
+         owed := start;
+         is_owed := true;
       end if;
       return start + ticks * tick;
    end after;
@@ -81,9 +90,10 @@ package body hrt is
    procedure work (ticks : positive) is
       left : integer := ticks;
       now : moment := ada.real_time.clock;
-      passed : integer := moments (now);
+      passed : integer := moments (if is_owed then owed else now);
       known, current : number;
    begin
+      is_owed := false;
       seen := now;
       calls := calls + 1;
       known := calls;

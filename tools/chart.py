@@ -412,6 +412,8 @@ def drawn(words):
     if words.analysis:
         traces.read_analysis(text_of(words.analysis), program)
     run = traces.Run(program, lines, words.start, end)
+    if 0 < run.last <= words.start:
+        raise Fault('the trace ends at tick %d, before the window' % run.last)
     if words.list:
         return listed(run)
     return Picture(run, words.width, words.fold, words.title or 'Run of %s' % program.design).draw()

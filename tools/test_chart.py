@@ -343,6 +343,7 @@ class Pictures(unittest.TestCase):
                 ('', (), 'there is no trace'), (self.ADA, (), 'there is no trace'), ('hello\n', (), 'there is no trace'),
                 (trace, (), 'give it by --text'), (self.ADA + '-- trace\n', (), 'the trace is empty'),
                 (trace, ('--text', 'nowhere.ada'), 'nowhere.ada'), (self.ADA + '-- trace\n' + trace, ('--from', '5', '--to', '5'), 'no tick'),
+                (self.ADA + '-- trace\n5 horizon\n', ('--from', '5'), 'the trace ends at tick 5, before the window'),
                 (self.ADA + '-- trace\n' + trace, ('--width', '100'), 'at least 700'), ('\u00e9\n', (), 'there is no trace'),
                 ('refused U1 a value 12 limit 10 round 1\n', (), 'there is no trace'), (self.ADA + '-- trace\n0 release a', (), 'no task a')):
             answer = run_chart(data, *words)
@@ -359,12 +360,19 @@ class OfTheProgram(unittest.TestCase):
              ('sequential_task.ada', 'until_150.arrivals'), ('requested_task.ada', 'two_requests.arrivals'),
              ('units_of_every_kind.ada', 'until_150.arrivals'), ('every_kind.ada', 'two_presses.arrivals'))
 
+    def write(self, *words):
+        return subprocess.run([os.path.abspath(os.environ['PROGRAM']), *words], capture_output=True, text=True, check=True).stdout
+
+    def test_the_picture_of_the_page(self):
+        output = self.write('verify', os.path.join(EXAMPLES, 'mine_pump.design'), os.path.join(EXAMPLES, 'blocked_sensor.arrivals'))
+        with open(os.path.join(TOOLS, '..', 'docs', 'pictures', 'mine_pump.svg')) as stream:
+            self.assertEqual(run_chart(output, '--from', '470', '--to', '545', '--width', '900').stdout, stream.read())
+
     def test_examples(self):
         for source, arrivals in self.PAIRS:
             is_design = source.endswith('.design')
             path = os.path.join(EXAMPLES, source)
-            output = subprocess.run([os.path.abspath(os.environ['PROGRAM']), 'verify' if is_design else 'replay', path,
-                                     os.path.join(EXAMPLES, arrivals)], capture_output=True, text=True, check=True).stdout
+            output = self.write('verify' if is_design else 'replay', path, os.path.join(EXAMPLES, arrivals))
             words = () if is_design else ('--text', path)
             answer = run_chart(output, *words)
             self.assertEqual((answer.returncode, answer.stderr), (0, ''), source)

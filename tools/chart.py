@@ -266,7 +266,7 @@ class Panel:
             x, y = self.x(stop.time), self.base[stop.task]
             self.svg.line('M%.1f %.1fl14 14m0 -14l-14 14' % (x - 7, y - 20), stop.line(), stroke='#c00', stroke_width=3)
             is_right = x > self.svg.width / 2
-            self.svg.text(x - 10 if is_right else x + 10, y - 28, 'stop: priority %d, ceiling %d of %s' % (*stop.values, stop.object),
+            self.svg.text(x if is_right else x + 6, y + 13, 'stop: priority %d, ceiling %d of %s' % (*stop.values, stop.object),
                           'small bad right' if is_right else 'small bad')
 
 

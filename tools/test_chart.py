@@ -103,6 +103,13 @@ class Doubt(unittest.TestCase):
         trace = '0 release l / 3 release k / 4 release h / 6 end k used 3 / 8 horizon'
         self.assertEqual(who(self.ADA, trace), [(0, 3, 'l', None, ()), (3, 6, 'k', None, ()), (6, 8, 'h', None, ('l',))])
 
+    def test_each_ceiling_is_a_doubt_of_its_own(self):
+        # l may be storing a request of s, at 3, but none of u, at 5: then k could not have told its end.
+        ada = text([('u', 5, 9, 9), ('k', 4, 9, 9), ('s', 3, 9, 9), ('h', 2, 9, 9), ('l', 1, 20, 20)], [('s', 3), ('u', 5)], assign=2)
+        self.assertEqual(who(ada, '0 release l / 3 release h / 4 release k / 6 end k used 2 / 7 release k / 9 end k used 2 / 9 horizon'),
+                         [(0, 3, 'l', None, ()), (3, 4, 'h', None, ('l',)), (4, 6, 'k', None, ()), (6, 7, 'h', None, ('l',)),
+                          (7, 9, 'k', None, ())])
+
     def test_who_tells_something_later_is_no_rival(self):
         trace = '0 release l / 3 release h / 5 end h used 2 / 6 end l used 4 / 6 horizon'
         self.assertEqual(who(self.ADA, trace), [(0, 3, 'l', None, ()), (3, 5, 'h', None, ()), (5, 6, 'l', None, ())])
@@ -113,67 +120,70 @@ class Doubt(unittest.TestCase):
 
 
 class Machine:
-    """A processor with ceiling locking, tick by tick, that tells who runs. Its tasks take random turns of calls, requests and puts."""
-    ASSIGN, CALL = 2, 1
+    """A processor with ceiling locking, tick by tick, that tells who runs.
+
+    Its tasks take random turns of work, puts, sections and requests, one inside the other where ceilings allow it. A step is a number of ticks
+    and what happens behind them: words of a line, or `begin`, the untold beginning of a request.
+    """
+    ASSIGN, CALL = 4, 1
 
     def __init__(self, seed):
         self.random = random.Random(seed)
         count = self.random.randint(2, 6)
-        self.priority = {'t%d' % i: self.random.randint(1, count) for i in range(count)}
-        self.names = list(self.priority)
+        self.names = ['t%d' % i for i in range(count)]
+        self.priority = {name: self.random.randint(1, count) for name in self.names}
         self.requested = self.names[:self.random.randint(0, 2)]
-        most = max(self.priority.values())
-        self.ceilings = {name: self.random.choice((most, most + 1)) for name in ('q', 'r', *self.requested)}
+        self.ceilings = {name: self.random.randint(1, count + 1) for name in ('q', 'r', *self.requested)}
         self.ready, self.lines, self.ran = [], [], []
-        self.inside = {}
-        self.script = {}
-        self.used = {}
+        self.inside, self.steps, self.used = {}, {}, {}
 
     def text(self):
         return text([(name, priority, 99, 99) for name, priority in self.priority.items()], self.ceilings.items(), self.ASSIGN, self.CALL)
 
-    def steps(self, name):
-        """Pairs of ticks and what happens behind them: the last words of a line, or a change of priority that is not told."""
-        for _ in range(self.random.randint(1, 4)):
+    def body(self, name, inside):
+        """The steps of some statements of a task inside these objects."""
+        active = self.ceilings[inside[-1]] if inside else self.priority[name]
+        locks = [lock for lock in 'qr' if lock not in inside and self.ceilings[lock] >= active]
+        targets = [target for target in self.requested if target != name and self.ceilings[target] >= active]
+        for _ in range(self.random.randint(1, 3)):
             kind = self.random.choice(('work', 'put', 'section', 'request'))
-            if kind == 'work':
-                yield self.random.randint(1, 9), None
+            if kind == 'section' and locks:
+                lock = self.random.choice(locks)
+                inner = list(self.body(name, inside + [lock]))
+                inner[-1][1].append(('leave', name, lock + '.set'))
+                yield [self.CALL, [('enter', name, lock + '.set')]]
+                yield from inner
+            elif kind == 'request' and targets:
+                target = self.random.choice(targets)
+                yield [self.CALL, [('begin', name, target)]]
+                yield [2 * self.ASSIGN, [('request', name, target)]]
             elif kind == 'put':
-                yield 1, ('put', name, '5')
-            elif kind == 'section':
-                lock = self.random.choice('qr')
-                yield self.CALL, ('enter', name, lock + '.set')
-                yield self.random.randint(1, 4), ('leave', name, lock + '.set')
-            elif name not in self.requested and self.requested:
-                target = self.random.choice(self.requested)
-                yield self.CALL, ('begin', target)
-                yield 2 * self.ASSIGN, ('request', name, target)
-        yield 1, ('end', name, 'used')
+                yield [1, [('put', name, '5')]]
+            else:
+                yield [self.random.randint(1, 9), []]
 
     def active(self, name):
-        return self.ceilings[self.inside[name]] if self.inside[name] else self.priority[name]
+        return self.ceilings[self.inside[name][-1]] if self.inside[name] else self.priority[name]
 
     def release(self, time, name):
         self.lines.append('%d release %s' % (time, name))
         self.ready.append(name)
-        self.inside[name], self.used[name] = None, 0
-        self.script[name] = [list(step) for step in self.steps(name)]
+        self.inside[name], self.used[name] = [], 0
+        self.steps[name] = [*self.body(name, []), [1, [('end', name, 'used')]]]
 
-    def go_first(self, name, inside):
-        self.inside[name] = inside
-        self.ready.remove(name)
-        self.ready.insert(0, name)
-
-    def do(self, time, name, what):
-        if what[0] == 'begin':
-            return self.go_first(name, what[1])
-        self.lines.append('%d %s%s' % (time, ' '.join(what), ' %d' % self.used[name] if what[0] == 'end' else ''))
-        if what[0] in ('enter', 'leave', 'request'):
-            self.go_first(name, what[2][0] if what[0] == 'enter' else None)
-        if what[0] == 'request' and what[2] not in self.ready:
-            self.release(time, what[2])
-        if what[0] == 'end':
+    def do(self, time, kind, name, what):
+        if kind != 'begin':
+            self.lines.append('%d %s %s %s%s' % (time, kind, name, what, ' %d' % self.used[name] if kind == 'end' else ''))
+        if kind in ('enter', 'begin'):
+            self.inside[name].append(what.split('.')[0])
+        elif kind in ('leave', 'request'):
+            self.inside[name].pop()
+        if kind != 'put':
             self.ready.remove(name)
+        if kind not in ('put', 'end'):
+            self.ready.insert(0, name)
+        if kind == 'request' and what not in self.ready:
+            self.release(time, what)
 
     def run(self, horizon):
         for time in range(horizon):
@@ -183,13 +193,13 @@ class Machine:
             name = max(self.ready, key=self.active, default=None)       # the first of those with the greatest
             self.ran.append(name)
             if name is not None:
-                step = self.script[name][0]
+                step = self.steps[name][0]
                 step[0] -= 1
                 self.used[name] += 1
                 if step[0] == 0:
-                    self.script[name].pop(0)
-                    if step[1]:
-                        self.do(time + 1, name, step[1])
+                    self.steps[name].pop(0)
+                    for event in step[1]:
+                        self.do(time + 1, *event)
         self.lines.append('%d horizon' % horizon)
         return self
 

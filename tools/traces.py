@@ -54,9 +54,9 @@ class Program:
     def task(self, name):
         return self.tasks.setdefault(name, Task(name))
 
-    def greatest_of_requests(self):
-        """The greatest priority at which a request is stored, or None."""
-        return max((self.ceilings[name] for name in self.tasks if name in self.ceilings), default=None)
+    def ceilings_of_requests(self):
+        """The priorities at which requests are stored."""
+        return {self.ceilings[name] for name in self.tasks if name in self.ceilings}
 
 
 class ProgramReader:
@@ -454,14 +454,14 @@ class Dispatching:
         self.section = 2 * program.costs['assign']      # ticks for which a request is stored
         self.coming = {}            # name to its next own event
         self.left = {}              # name to its own ticks up to that event
-        # Behind the last event of a trace a task may be going to tell a request: own ticks it may have run before.
-        self.unseen = {name: 0 for name in program.tasks} if is_end else {}
+        # Behind the end of a trace a task may be going to tell a request, of a ceiling that is not known: its own ticks before the end.
+        self.unseen = {(name, ceiling): 0 for name in program.tasks for ceiling in program.ceilings_of_requests()} if is_end else {}
 
     def find(self):
         for stretch in reversed(self.stretches):
             if stretch.told is not None:
                 self.coming[stretch.told.task], self.left[stretch.told.task] = stretch.told, 0
-                self.unseen.pop(stretch.told.task, None)
+                self.forget_unseen(stretch.told.task)
             if stretch.ready:
                 self.find_runner(stretch)
                 self.find_rivals(stretch)
@@ -489,17 +489,20 @@ class Dispatching:
             raise Fault('%s ran from %d to %d, but %s goes first: the trace is none of this text' % (
                 stretch.runner, stretch.start, stretch.end, first))
 
+    def forget_unseen(self, name):
+        self.unseen = {key: ticks for key, ticks in self.unseen.items() if key[0] != name}
+
     def find_rivals(self, stretch):
-        """Tasks that tell nothing more: may they be storing a request, at a priority that the runner does not reach?"""
-        greatest, length = self.program.greatest_of_requests(), stretch.length()
-        active = self.rank(stretch, stretch.runner, length)[0]
-        for name in [name for name in self.unseen if name in stretch.ready]:
-            if name != stretch.runner and (greatest is None or active > greatest):
-                continue            # it waits, whether it is storing one or not
-            self.unseen[name] += length
-            if self.unseen[name] >= self.section or (name != stretch.runner and stretch.told is not None):
-                del self.unseen[name]
-            elif name != stretch.runner:
+        """Tasks that tell nothing more: may they be storing a request, at a ceiling that the runner's priority does not exceed?"""
+        active = self.rank(stretch, stretch.runner, stretch.length())[0]
+        for name, ceiling in list(self.unseen):
+            is_runner = name == stretch.runner
+            if name not in stretch.ready or (not is_runner and active > ceiling):
+                continue            # it is not ready, or it waits whether it is storing such a request or not
+            self.unseen[name, ceiling] += stretch.length()
+            if self.unseen[name, ceiling] >= self.section or (not is_runner and stretch.told is not None):
+                del self.unseen[name, ceiling]
+            elif not is_runner and name not in stretch.rivals and ceiling >= stretch.ready[name][1][0]:
                 stretch.rivals += (name,)
 
     def count(self, stretch):

@@ -5,7 +5,8 @@ use Rattle.std.specs.Prelude.{unwrap_or}
 use Rattle.hood_io.specs.Shelves.{Told}
 use Rattle.hrthood_top.specs.declared.status.Status.{Status}
 use Rattle.hrthood_top.specs.declared.status.Status.TheVariants.{Done, Refused, Usage, ReadFault, WriteFault, NoMemory}
-use Rattle.hrthood_top.specs.Words.{Command, Check, Analyse, Format, Generate, Replay, Verify, Sample, command_of}
+use Rattle.hrthood_words.specs.declared.verbs.DesignVerb.TheVariants.{Check, Analyse, Format, Generate}
+use Rattle.hrthood_words.specs.Words.{Command, OnDesign, Replay, Verify, Sample, command_of}
 use Rattle.hrthood_top.specs.Commands.{verb_of}
 use Rattle.hrthood_top.specs.Analyses.{analyses}
 use Rattle.hrthood_top.specs.Checks.{checks}
@@ -23,7 +24,7 @@ words ws = command_of ws
 
 commands : map words ((codes "check" ∷ codes "d" ∷ []) ∷ (codes "analyse" ∷ codes "d" ∷ []) ∷ (codes "format" ∷ codes "d" ∷ [])
     ∷ (codes "generate" ∷ codes "d" ∷ []) ∷ (codes "replay" ∷ codes "a" ∷ codes "r" ∷ []) ∷ (codes "verify" ∷ codes "d" ∷ codes "r" ∷ []) ∷ [])
-    ≡ Some (Check (codes "d")) ∷ Some (Analyse (codes "d")) ∷ Some (Format (codes "d")) ∷ Some (Generate (codes "d"))
+    ≡ Some (OnDesign Check (codes "d")) ∷ Some (OnDesign Analyse (codes "d")) ∷ Some (OnDesign Format (codes "d")) ∷ Some (OnDesign Generate (codes "d"))
     ∷ Some (Replay (codes "a") (codes "r")) ∷ Some (Verify (codes "d") (codes "r")) ∷ []
 commands = refl
 
@@ -40,16 +41,16 @@ no_commands : map words ([] ∷ (codes "check" ∷ []) ∷ (codes "check" ∷ co
 no_commands = refl
 
 -- THE VERBS
-check_verb : (d : List ℕ) → verb_of (Check d) ≡ checks d
+check_verb : (d : List ℕ) → verb_of (OnDesign Check d) ≡ checks d
 check_verb d = refl
 
-analyse_verb : (d : List ℕ) → verb_of (Analyse d) ≡ analyses d
+analyse_verb : (d : List ℕ) → verb_of (OnDesign Analyse d) ≡ analyses d
 analyse_verb d = refl
 
-format_verb : (d : List ℕ) → verb_of (Format d) ≡ formats d
+format_verb : (d : List ℕ) → verb_of (OnDesign Format d) ≡ formats d
 format_verb d = refl
 
-generate_verb : (d : List ℕ) → verb_of (Generate d) ≡ generates d
+generate_verb : (d : List ℕ) → verb_of (OnDesign Generate d) ≡ generates d
 generate_verb d = refl
 
 replay_verb : (a r : List ℕ) → verb_of (Replay a r) ≡ replays a r

@@ -77,4 +77,4 @@ part_of_all a b c ps i d h w part =
 pub all_written : (a b : Option (List ℕ)) (ps : List (Bor (List ℕ))) (i : ℕ) → length ps ≤ i → IsWritten a b (joined (drop i ps)) (joined ps)
     → Appends a b (joined ps)
 all_written a b ps i h w =
-    let I : List ℕ → Type 0 = λ z. IsWritten a b (joined z) (joined ps) in none-left a b (joined ps) (subst I (drop_all i ps h) w)
+    let I : List (Bor (List ℕ)) → Type 0 = λ z. IsWritten a b (joined z) (joined ps) in none-left a b (joined ps) (subst I (drop_all i ps h) w)

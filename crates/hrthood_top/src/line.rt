@@ -40,6 +40,19 @@ pub(crate) fn put_each<O: Sink>(out: &mut O, pieces: &[&[u8]]) -> Result<(), Fai
     Ok(())
 }
 
+/// Writes bytes between others; after a failure a proper front of them all was written.
+pub(crate) fn put_between<E: Sink>(
+    err: &mut E,
+    before: &[u8],
+    between: &[u8],
+    behind: &[u8],
+) -> Result<(), Failed>
+    ensures cause { HasCause (E.faults err.old) (E.faults err.new) result }
+    ensures puts { Puts (E.written err.old) (E.written err.new) (before.now ++ (between.now ++ behind.now)) result }
+{
+    put_each(err, &[before, between, behind])
+}
+
 /// Writes a name between other bytes; after a failure a proper front of them all was written.
 pub(crate) fn put_named<E: Sink>(
     err: &mut E,
@@ -50,7 +63,7 @@ pub(crate) fn put_named<E: Sink>(
     ensures cause { HasCause (E.faults err.old) (E.faults err.new) result }
     ensures puts { Puts (E.written err.old) (E.written err.new) (before.now ++ (name.now ++ behind.now)) result }
 {
-    put_each(err, &[before, name.bytes(), behind])
+    put_between(err, before, name.bytes(), behind)
 }
 
 /// Writes a line of a code and one number; after a failure a proper front of it was written.

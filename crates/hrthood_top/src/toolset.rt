@@ -104,7 +104,7 @@ fn run_plain_command<F: Shelf, O: Sink, E: Sink>(
 /// All that the program does, for the words after its name: it fetches the files of the words in their order,
 /// and writes to `out` only when everything but the writing has succeeded. A replay writes while it runs, once the run
 /// can begin, and takes no memory from then on. `err` gets one line where the answer isn't `Done`.
-#[tactic(auto, using(crate::proofs::Completing::completed))]
+#[tactic(auto, using(crate::proofs::Completing::run_ends))]
 pub fn run<F: Shelf, O: Sink, E: Sink>(
     alloc: Global,
     words: &[String],
@@ -130,7 +130,7 @@ pub fn run<F: Shelf, O: Sink, E: Sink>(
 
 /// Does what `run` does, and has its clauses, but reads the words without the kit's parser and without memory. A program that calls it in
 /// the place of `run` is compiled in less time, which a first answer without proof is glad of.
-#[tactic(auto, using(crate::proofs::Completing::completed))]
+#[tactic(auto, using(crate::proofs::Completing::run_ends))]
 pub fn run_plain<F: Shelf, O: Sink, E: Sink>(
     alloc: Global,
     words: &[String],

@@ -1,6 +1,6 @@
 -- Examples of words and the commands that they are, each verb once, with words that differ from one by little and are none; and of the
 -- usage line of two verbs.
-use Rattle.std.proofs.Common.{◌≡◌, List, [], ◌∷◌, Some, None, refl, codes}
+use Rattle.std.proofs.Common.{◌≡◌, [], ◌∷◌, Some, None, refl, codes}
 use Rattle.hrthood_words.specs.declared.verbs.DesignVerb.TheVariants.{Check, Analyse, Format, Generate}
 use Rattle.hrthood_words.specs.declared.verbs.Shape.TheVariants.{Design, DesignArrivals}
 use Rattle.hrthood_words.specs.Words.{OnDesign, Replay, Verify, Sample, command_of, usage_of}

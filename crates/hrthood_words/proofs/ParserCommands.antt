@@ -24,7 +24,8 @@ use Rattle.clap.proofs.WalkLemmas.{first_value-rows}
 use Rattle.hrthood_words.specs.Words.{command_of, verb_command}
 use Rattle.hrthood_words.specs.Parsing.{IsVerb, are_plain, command_line, found_command, given_command, verb_tree, with_verbs, words_found}
 use Rattle.hrthood_words.specs.Views.{listed}
-use Rattle.hrthood_words.specs.declared.verbs.VerbWord.{VerbWord}
+use Rattle.hrthood_words.specs.declared.verbs.Shape as verb
+use Rattle.std.specs.Borrow.{Bor}
 use Rattle.hrthood_words.proofs.ParserLaws.{plain-reads}
 
 pub word-added : (old : Command) (a : Arg) (new : Command) (s : Shape) (r : Rule) → AddsArg old a new → IsVerb s old → rule_of a ≡ r
@@ -43,7 +44,7 @@ pub verb-added : (old sub new : Command) (a : App) (s : Shape) → AddsSubcomman
 verb-added old sub new a s h e is = h.shape is.1 ∙ ap₂ with_subcommand e is.0
 
 -- one more verb of the list is added
-pub verbs-next : (old sub new : Command) (ws : List VerbWord) (i : ℕ) (d : VerbWord) (whole : App) → i < length ws → AddsSubcommand old sub new
+pub verbs-next : (old sub new : Command) (ws : List (Bor Text × verb.Shape)) (i : ℕ) (d : Bor Text × verb.Shape) (whole : App) → i < length ws → AddsSubcommand old sub new
     → IsVerb (verb_tree (listed (get_or ws i d))) sub → with_verbs (app_of old) (map listed (drop i ws)) ≡ whole
     → with_verbs (app_of new) (map listed (drop (i + 1) ws)) ≡ whole
 verbs-next old sub new ws i d whole h added is e =

@@ -1,7 +1,7 @@
 -- What the parser makes of plain words: it has no fault exactly where they have the shape of a command, and then it finds the command.
 -- No law here takes the verbs one by one: they hold of any list of verbs.
-use Rattle.std.proofs.Common.{◌≡◌, ◌∙◌, Bool, true, false, not, List, [], ◌∷◌, ◌++◌, Option, Some, None, refl, sym, ap, ap₂, subst, fold}
-use Rattle.std.proofs.Common.{append_assoc, append-nil, map, option_map}
+use Rattle.std.proofs.Common.{◌≡◌, ◌∙◌, Bool, true, false, not, List, [], ◌∷◌, ◌++◌, Option, Some, None, refl, sym, ap, ap₂, fold}
+use Rattle.std.proofs.Common.{append_assoc, append-nil, option_map}
 use Rattle.std.specs.Prelude.{is_some, codes, find, option_and_then}
 use Rattle.std.specs.List.{list_all}
 use Rattle.std.specs.Str.{bytes_eq}
@@ -16,7 +16,7 @@ use Rattle.clap.specs.declared.error.kind.ErrorKind.TheVariants as kind
 use Rattle.clap.proofs.OnLiterals.{clap_on_literals}
 use Rattle.hrthood_words.specs.declared.verbs.Shape as verb
 use Rattle.hrthood_words.specs.declared.verbs.Shape.TheVariants.{Design, AdaArrivals, DesignArrivals, Count}
-use Rattle.hrthood_words.specs.Words.{Command, Listed, command_of, command_with, is_file_name, shape_named, verb_command, verbs}
+use Rattle.hrthood_words.specs.Words.{Listed, command_of, command_with, is_file_name, shape_named, verb_command, verbs}
 use Rattle.hrthood_words.specs.Parsing.{are_plain, asks_help, command_line, found_command, has_flags, line_of, verb_tree, words_found}
 use Rattle.hrthood_words.proofs.ParserSteps.{comes_to, leaf, one_word, two_words, word_fault, turn-plain, found_first, found_second}
 use Rattle.hrthood_words.proofs.ParserSteps.{one-none, one-one, one-more, one-finds-first, one-finds-second}

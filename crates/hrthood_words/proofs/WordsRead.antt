@@ -1,5 +1,5 @@
 -- What is read of words, by the command that the parser found.
-use Rattle.std.proofs.Common.{◌≡◌, ◌∙◌, Option, Some, None, Result, sym, subst, option_map}
+use Rattle.std.proofs.Common.{◌≡◌, Option, Some, None, Result, sym, subst, option_map}
 use Rattle.std.specs.Option.{ok_or}
 use Rattle.hrthood_words.specs.Words as words
 use Rattle.hrthood_words.specs.Views.{ReadsAs, command_tree}

@@ -1,8 +1,9 @@
 -- What values of the code stand for: a verb of the list, the words behind a verb, a command, and what reading words answers.
 -- The code has words, the definitions their bytes.
 use Rattle.std.specs.Prelude.{◌≡◌, ◌≤◌, List, [], ◌∷◌, ℕ, Option, Some, None, Result, Ok, Err, true, is_some, ⊤}
+use Rattle.std.specs.Borrow.{Bor}
 use Rattle.hrthood_words.specs.Words as words
-use Rattle.hrthood_words.specs.declared.verbs.VerbWord.{VerbWord}
+use Rattle.hrthood_words.specs.declared.verbs.Shape.{Shape}
 use Rattle.hrthood_words.specs.declared.operands.Operands.{Operands}
 use Rattle.hrthood_words.specs.declared.operands.Operands.TheVariants.{One, Two}
 use Rattle.hrthood_words.specs.declared.command.Command.{Command}
@@ -11,8 +12,8 @@ use Rattle.hrthood_words.specs.declared.reading.Unread.{Unread}
 use Rattle.hrthood_words.specs.declared.reading.Unread.TheVariants.{NoCommand, NoMemory}
 
 -- a verb of the list
-abbrev pub listed : VerbWord → words.Listed
-listed v = (v.name.now, v.shape)
+abbrev pub listed : Bor (List ℕ) × Shape → words.Listed
+listed v = (v.0.now, v.1)
 
 -- the words behind a verb
 abbrev pub operand_words : Operands → List (List ℕ)

@@ -13,4 +13,4 @@ mod verbs;
 
 pub use command::Command;
 pub use reading::{Unread, plain_command, read_words};
-pub use verbs::{DesignVerb, Shape, VERBS, VerbWord, operands_text};
+pub use verbs::{DesignVerb, Shape, VERBS, operands_text};

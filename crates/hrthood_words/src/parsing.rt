@@ -3,7 +3,7 @@ ghost use Rattle.clap.specs.Words.{FailsBy, app_of, fault_of, rule_of, subcomman
 ghost use Rattle.hrthood_words.specs.Parsing.{IsVerb, command_line, needed, one_place, two_places, verb_tree, with_places, with_verbs};
 ghost use Rattle.hrthood_words.specs.Views.{listed};
 
-use crate::verbs::{Shape, VERBS, VerbWord};
+use crate::verbs::{Shape, VERBS};
 use clap::{Arg, ArgMatches, Error};
 use std::alloc::{AllocError, Global};
 
@@ -32,12 +32,16 @@ fn two_words<'a>(alloc: Global, verb: &'a str) -> Result<clap::Command<'a>, Allo
 }
 
 /// What the parser is told of a verb.
-fn verb_tree<'a>(alloc: Global, word: &VerbWord) -> Result<clap::Command<'a>, AllocError>
-    ensures { IfOk result (IsVerb (verb_tree (listed word.now))) }
+fn verb_tree<'a>(
+    alloc: Global,
+    verb: &'a str,
+    shape: Shape,
+) -> Result<clap::Command<'a>, AllocError>
+    ensures { IfOk result (IsVerb (verb_tree (verb.entry.now, shape))) }
 {
-    match word.shape {
-        Shape::Design(_) | Shape::Count => one_word(alloc, word.name),
-        Shape::AdaArrivals | Shape::DesignArrivals => two_words(alloc, word.name),
+    match shape {
+        Shape::Design(_) | Shape::Count => one_word(alloc, verb),
+        Shape::AdaArrivals | Shape::DesignArrivals => two_words(alloc, verb),
     }
 }
 
@@ -45,13 +49,14 @@ fn verb_tree<'a>(alloc: Global, word: &VerbWord) -> Result<clap::Command<'a>, Al
 fn with_verbs<'a>(
     alloc: Global,
     line: clap::Command<'a>,
-    words: &[VerbWord],
+    words: &[(&'static str, Shape)],
 ) -> Result<clap::Command<'a>, AllocError>
     ensures { IfOk result (λ c. app_of c ≡ with_verbs (app_of line.entry) (map listed words.now)) }
 {
     let mut line = line;
     'words: for word in words {
-        line = line.subcommand(verb_tree(alloc, word)?)?;
+        let (verb, shape) = *word;
+        line = line.subcommand(verb_tree(alloc, verb, shape)?)?;
     }
     Ok(line)
 }

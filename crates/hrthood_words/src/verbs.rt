@@ -28,45 +28,15 @@ pub enum Shape {
     Count,
 }
 
-/// A verb as it is written, and what it asks for.
-#[derive(Clone, Copy)]
-pub struct VerbWord {
-    /// Its word on the command line.
-    pub name: &'static str,
-    /// Its operands.
-    pub shape: Shape,
-}
-
-/// The verbs, in the order of the usage line.
-pub const VERBS: [VerbWord; 7] = [
-    VerbWord {
-        name: "check",
-        shape: Shape::Design(DesignVerb::Check),
-    },
-    VerbWord {
-        name: "analyse",
-        shape: Shape::Design(DesignVerb::Analyse),
-    },
-    VerbWord {
-        name: "format",
-        shape: Shape::Design(DesignVerb::Format),
-    },
-    VerbWord {
-        name: "generate",
-        shape: Shape::Design(DesignVerb::Generate),
-    },
-    VerbWord {
-        name: "replay",
-        shape: Shape::AdaArrivals,
-    },
-    VerbWord {
-        name: "verify",
-        shape: Shape::DesignArrivals,
-    },
-    VerbWord {
-        name: "sample",
-        shape: Shape::Count,
-    },
+/// The verbs in the order of the usage line, each as it is written, with what it asks for.
+pub const VERBS: [(&str, Shape); 7] = [
+    ("check", Shape::Design(DesignVerb::Check)),
+    ("analyse", Shape::Design(DesignVerb::Analyse)),
+    ("format", Shape::Design(DesignVerb::Format)),
+    ("generate", Shape::Design(DesignVerb::Generate)),
+    ("replay", Shape::AdaArrivals),
+    ("verify", Shape::DesignArrivals),
+    ("sample", Shape::Count),
 ];
 
 /// The operands of a shape in the usage line, a letter each, with a space before it.
@@ -82,12 +52,13 @@ pub fn operands_text(shape: Shape) -> &'static [u8]
 }
 
 /// What the first of these verbs asks for that is written so, where there is one.
-fn named_among(words: &[VerbWord], verb: &str) -> Option<Shape>
+fn shape_among(words: &[(&str, Shape)], verb: &str) -> Option<Shape>
     ensures { result ≡ shape_named (map listed words.now) verb.now }
 {
     'words: for word in words {
-        if word.name == verb {
-            return Some(word.shape);
+        let (name, shape) = *word;
+        if name == verb {
+            return Some(shape);
         }
     }
     None
@@ -97,5 +68,5 @@ fn named_among(words: &[VerbWord], verb: &str) -> Option<Shape>
 pub(crate) fn shape_named(verb: &str) -> Option<Shape>
     ensures { result ≡ shape_named verbs verb.now }
 {
-    named_among(&VERBS, verb)
+    shape_among(&VERBS, verb)
 }

@@ -1,4 +1,4 @@
-use Rattle.std.proofs.Common.{◌≡◌, ◌∙◌, sym}
+use Rattle.std.proofs.Common.{◌∙◌, sym}
 use Rattle.hrthood_words.proofs.ParserCommands.{found-is}
 use Rattle.hrthood_words.proofs.reading.found_command.Goals as goal
 

@@ -1,4 +1,4 @@
-use Rattle.std.proofs.Common.{rules, ◌≡◌, ◌≤◌, Option, None, length, string_bytes, sym}
+use Rattle.std.proofs.Common.{rules, ◌≡◌, None, string_bytes, sym}
 use Rattle.hrthood_words.proofs.WordCounts.{alone-none, crowded-none}
 use Rattle.hrthood_words.proofs.reading.plain_command.Goals as goal
 

@@ -2,13 +2,19 @@
 //!
 //! It stands on the flat designs of `ods_tree` and the definitions of `analysis`. `order` carries its promise: the shorter a
 //! thread's deadline, the greater its priority, and the ceiling of what threads share is the greatest priority of those that come
-//! to it, in their blocks or through protected objects.
+//! to it, in their blocks or through protected objects. `rank` gives the ceilings for any other priorities, and where they are asked
+//! for many, `sharing_of` walks the blocks once and `ceilings` reads what it found.
 #![tactic(auto)]
 
 mod calling;
 mod deadlines;
+mod numbers;
 mod ordering;
 mod rises;
+mod sharing;
+mod users;
 
 pub use calling::calls_object;
-pub use ordering::order;
+pub use numbers::{greatest_of, same, value};
+pub use ordering::{ceilings, order, rank};
+pub use sharing::{Sharing, sharing_of};

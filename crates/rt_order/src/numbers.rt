@@ -1,0 +1,42 @@
+ghost use Rattle.std.specs.Prelude.{◌≡◌, ◌++◌, OnOk, true};
+ghost use Rattle.rt_order.specs.Numbers.{greatest_of, place_if, value};
+
+use seq_tree::NoMemory;
+
+/// The number at a place, and 0 where there is none.
+pub fn value(numbers: &[u32], place: usize) -> u32
+    ensures { result ≡ value numbers.now place }
+{
+    match numbers.get(place) {
+        None => 0,
+        Some(number) => *number,
+    }
+}
+
+/// The greatest of a number and of those at these places.
+pub fn greatest_of(numbers: &[u32], own: u32, places: &[usize]) -> u32
+    ensures { result ≡ greatest_of numbers.now own places.now }
+{
+    let mut greatest = own;
+    'places: for place in places {
+        greatest = greatest.max(value(numbers, *place));
+    }
+    greatest
+}
+
+/// Whether numbers are equal.
+pub fn same(a: &[u32], b: &[u32]) -> bool
+    ensures { result ≡ true → a.now ≡ b.now }
+{
+    a == b
+}
+
+/// Adds a place, where it counts.
+pub(crate) fn add_place(counts: bool, place: usize, into: &mut Vec<usize>) -> Result<(), NoMemory>
+    ensures { OnOk result (into.new.items ≡ into.old.items ++ place_if counts place) }
+{
+    if counts {
+        into.push(place)?;
+    }
+    Ok(())
+}

@@ -8,3 +8,7 @@ pub mod Longest
 pub mod Requests
 pub mod Ranked
 pub mod Known
+pub mod Ceilings
+pub mod Designs
+pub mod Bases
+pub mod PartCosts

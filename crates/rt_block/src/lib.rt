@@ -1,13 +1,19 @@
 //! The table of a flat design: what the response equations ask of each thread, with blocking terms.
 //!
 //! It stands on the flat designs of `ods_tree`, the definitions of `analysis`, the costs of `seq_cost` and the order of `rings`.
-//! `blocking` carries its promise: the table of the definitions, for the priorities and ceilings that are handed in.
+//! `blocking` carries its promise: the table of the definitions, for the priorities and ceilings that are handed in. Where tables are
+//! asked for many priorities, `facts_of` works out once what doesn't depend on them, and `table` reads it. `part_costs` says of any
+//! design what its bodies and threads cost.
 #![tactic(auto)]
 
+mod bases;
 mod calls;
+mod ceilings;
 mod costs;
 mod facts;
+mod operations;
 mod order;
+mod parts;
 mod places;
 mod rows;
 mod sections;
@@ -15,6 +21,8 @@ mod services;
 mod settled;
 mod spread;
 mod starters;
-mod table;
+mod tables;
 
-pub use table::blocking;
+pub use facts::Facts;
+pub use parts::part_costs;
+pub use tables::{blocking, facts_of, table};

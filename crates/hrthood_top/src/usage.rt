@@ -9,12 +9,7 @@ use hood_io::{Failed, Sink, put_all};
 use hrthood_words::{Shape, operands_text};
 
 /// Writes a verb with its operands behind other bytes; after a failure a proper front of them all was written.
-fn put_verb<E: Sink>(
-    err: &mut E,
-    before: &[u8],
-    verb: &str,
-    shape: Shape,
-) -> Result<(), Failed>
+fn put_verb<E: Sink>(err: &mut E, before: &[u8], verb: &str, shape: Shape) -> Result<(), Failed>
     ensures cause { HasCause (E.faults err.old) (E.faults err.new) result }
     ensures puts { Puts (E.written err.old) (E.written err.new) (before.now ++ (verb.now ++ operands_text shape)) result }
 {

@@ -8,11 +8,14 @@ use Rattle.hrthood_top.proofs.Usages.{left_of, one-verb, part-of-verb, all-verbs
 use Rattle.hrthood_top.proofs.usage.put_usage.Goals as goal
 
 pub words-init : goal.words-init
-words-init g c = record { later = omega arith; written = record {
+words-init g c = record {
+  later = omega arith;
+  written = record {
     front = [];
     before = appends-none _;
     whole = ap (λ z. left_of z c.args.words.now 0) c.as_slice-before.ensures;
-  } }
+  };
+}
 
 pub words-preserved : goal.words-preserved
 words-preserved g c = record {

@@ -7,5 +7,6 @@ mod TokenExamples
 mod AllowedExamples
 mod LawExamples
 mod LineExamples
+mod ResponseExamples
 mod ViewExamples
 mod RunExamples

@@ -70,7 +70,8 @@ ended : words units (event.End 9 0 5) ≡ decimal 9 ∷ codes "end" ∷ codes "a
 unfolding words unit_name
 ended = refl
 
-stopped : words units (event.Stop 9 0 1 3 2) ≡ decimal 9 ∷ codes "stop" ∷ codes "a" ∷ codes "q" ∷ codes "priority" ∷ decimal 3 ∷ codes "ceiling" ∷ decimal 2 ∷ []
+stopped : words units (event.Stop 9 0 1 3 2) ≡ decimal 9 ∷ codes "stop" ∷ codes "a" ∷ codes "q" ∷ codes "priority" ∷ decimal 3 ∷ codes "ceiling"
+    ∷ decimal 2 ∷ []
 unfolding words unit_name
 stopped = refl
 

@@ -66,7 +66,8 @@ module _ (Any Within : List Token → Type 0) (limit : ℕ) (bytes : List ℕ) w
   long_word short e = (short, e)
 
   -- the token with which no text goes on, at its own place
-  syntax : (found : List Spanned) (left : ℕ) → length bytes ≤ limit → tokens bytes ≡ Ok found → reach.IsFault Any Within (bare found) (reach.Syntax left)
+  syntax : (found : List Spanned) (left : ℕ) → length bytes ≤ limit → tokens bytes ≡ Ok found
+      → reach.IsFault Any Within (bare found) (reach.Syntax left)
       → texts.Faults Any Within limit bytes (fault.Syntax (place_at bytes found (length found - left)))
   syntax found left short e f = record { short = short; found = found; read = e; index = left; fault = f; here = refl }
 
@@ -124,17 +125,20 @@ module _ (depth from : ℕ) (ts : List Token) where
       → blocks.SaysExpression depth from ts (Ok (x, n)) → ⊥
   other_expression x n never h = never h.0 h.1 h.3
 
-  faulty_block : (n : ℕ) → IsFrontFault (AnyBlock depth) (SomeBlock depth) ts (reach.Syntax n) → blocks.SaysBlock depth from ts (Err (read.Syntax (from + n)))
+  faulty_block : (n : ℕ) → IsFrontFault (AnyBlock depth) (SomeBlock depth) ts (reach.Syntax n)
+      → blocks.SaysBlock depth from ts (Err (read.Syntax (from + n)))
   faulty_block n f = (n, refl, f)
 
-  deep_block : (n : ℕ) → IsFrontFault (AnyBlock depth) (SomeBlock depth) ts (reach.TooDeep n) → blocks.SaysBlock depth from ts (Err (read.TooDeep (from + n)))
+  deep_block : (n : ℕ) → IsFrontFault (AnyBlock depth) (SomeBlock depth) ts (reach.TooDeep n)
+      → blocks.SaysBlock depth from ts (Err (read.TooDeep (from + n)))
   deep_block n f = (n, refl, f)
 
   no_faulty_block : (n : ℕ) → ((place : ℕ) → n ≡ from + place → IsFrontFault (AnyBlock depth) (SomeBlock depth) ts (reach.Syntax place) → ⊥)
       → blocks.SaysBlock depth from ts (Err (read.Syntax n)) → ⊥
   no_faulty_block n never h = never h.0 h.1 h.2
 
-  no_deep_expression : (n : ℕ) → ((place : ℕ) → n ≡ from + place → IsFrontFault (AnyExpression depth) (SomeExpression depth) ts (reach.TooDeep place) → ⊥)
+  no_deep_expression : (n : ℕ) → ((place : ℕ) → n ≡ from + place
+      → IsFrontFault (AnyExpression depth) (SomeExpression depth) ts (reach.TooDeep place) → ⊥)
       → blocks.SaysExpression depth from ts (Err (read.TooDeep n)) → ⊥
   no_deep_expression n never h = never h.0 h.1 h.2
 
@@ -184,7 +188,8 @@ module _ (bytes : List ℕ) where
   unread : (unit : Option Name) → ((p : Program) → Reads bytes p → ⊥) → programs.Says bytes (Err (ada.Rule rule.G5 unit)) → ⊥
   unread unit never h = never h.program h.reads
 
-  two_programs : (p q : Program) (unit : Option Name) → Reads bytes p → Reads bytes q → (p ≡ q → ⊥) → programs.Says bytes (Err (ada.Rule rule.G5 unit)) → ⊥
+  two_programs : (p q : Program) (unit : Option Name) → Reads bytes p → Reads bytes q → (p ≡ q → ⊥)
+      → programs.Says bytes (Err (ada.Rule rule.G5 unit)) → ⊥
   two_programs p q unit r s differ h = differ (let e = h.alone p r in let f = h.alone q s in cc)
 
   unbroken : (unit : Option Name) → ((p : Program) → Reads bytes p → verdicts.Says p (Err (told.Rule rule.G5 unit)) → ⊥)

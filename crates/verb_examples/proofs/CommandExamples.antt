@@ -29,12 +29,14 @@ commands : map words ((codes "check" ∷ codes "d" ∷ []) ∷ (codes "analyse" 
 commands = refl
 
 -- from 1 to 30 threads, by one digit or two
-samples_of : map (λ count. words (codes "sample" ∷ count ∷ [])) (codes "1" ∷ codes "01" ∷ codes "30" ∷ codes "0" ∷ codes "31" ∷ codes "007" ∷ codes "-1"
+samples_of : map (λ count. words (codes "sample" ∷ count ∷ [])) (codes "1" ∷ codes "01" ∷ codes "30" ∷ codes "0" ∷ codes "31" ∷ codes "007"
+    ∷ codes "-1"
     ∷ codes "x" ∷ [] ∷ []) ≡ Some (Sample 1) ∷ Some (Sample 1) ∷ Some (Sample 30) ∷ None ∷ None ∷ None ∷ None ∷ None ∷ None ∷ []
 samples_of = refl
 
 -- too few words or too many, a word that names no file, a verb with another's number of words, and no verb at all
-no_commands : map words ([] ∷ (codes "check" ∷ []) ∷ (codes "check" ∷ codes "a" ∷ codes "b" ∷ []) ∷ (codes "check" ∷ [] ∷ []) ∷ (codes "check" ∷ codes "-d" ∷ [])
+no_commands : map words ([] ∷ (codes "check" ∷ []) ∷ (codes "check" ∷ codes "a" ∷ codes "b" ∷ []) ∷ (codes "check" ∷ [] ∷ [])
+    ∷ (codes "check" ∷ codes "-d" ∷ [])
     ∷ (codes "verify" ∷ codes "a" ∷ []) ∷ (codes "verify" ∷ codes "a" ∷ codes "-r" ∷ []) ∷ (codes "replay" ∷ codes "-a" ∷ codes "r" ∷ [])
     ∷ (codes "verify" ∷ codes "a" ∷ codes "b" ∷ codes "c" ∷ []) ∷ (codes "help" ∷ codes "check" ∷ []) ∷ (codes "Check" ∷ codes "d" ∷ []) ∷ [])
     ≡ None ∷ None ∷ None ∷ None ∷ None ∷ None ∷ None ∷ None ∷ None ∷ None ∷ None ∷ []

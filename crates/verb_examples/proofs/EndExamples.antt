@@ -53,7 +53,14 @@ joins = record {
 
 -- what stands outside before
 abbrev start : Outside
-start = record { told = Some (shelf (codes "ab") (codes "c") []); read_faults = 0; out = Some (codes "o"); write_faults = 0; err = Some []; tell_faults = 0 }
+start = record {
+  told = Some (shelf (codes "ab") (codes "c") []);
+  read_faults = 0;
+  out = Some (codes "o");
+  write_faults = 0;
+  err = Some [];
+  tell_faults = 0;
+}
 
 -- both files were fetched
 abbrev both : Option Told
@@ -300,7 +307,8 @@ no_third (f ∷ front) file back e = cc
 fault_fetched : EndsVerb ReadFault joins start (record after_fault { told = both }) → ⊥
 fault_fetched (front, file, back, place, all, log, rose, out, err) = by front place (ap failed_bytes log) (ap fetch_count log)
   where
-    by : (front : List File) → design ∷ arrivals ∷ [] ≡ front ++ file ∷ back → 0 ≡ sum_by (λ e. if e.failed then length e.name else 0) (fetched front ++ failed file.name ∷ [])
+    by : (front : List File) → design ∷ arrivals ∷ [] ≡ front ++ file ∷ back
+        → 0 ≡ sum_by (λ e. if e.failed then length e.name else 0) (fetched front ++ failed file.name ∷ [])
         → 2 ≡ length (fetched front ++ failed file.name ∷ []) → ⊥
     by [] p e n = omega (arith, n)
     by (f ∷ []) p e n = (let name : arrivals ≡ file = cc in omega (arith, e, ap (λ z. length z.name) name))

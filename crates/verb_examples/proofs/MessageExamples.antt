@@ -72,14 +72,17 @@ whole : map rule_line (rule.V11 None ∷ rule.V17Tick ∷ rule.V17Priorities ∷
     ≡ codes "refused V11 costs\n" ∷ codes "refused V17 tick\n" ∷ codes "refused V17 priorities\n" ∷ []
 whole = refl
 
-faulty_bodies : map rule_line (rule.V13 n (Some (codes "c")) body.Exit ∷ rule.V13 n None body.Sort ∷ rule.V15Cost n (Some (codes "c")) ∷ rule.V15Cost n None ∷ [])
+faulty_bodies : map rule_line (rule.V13 n (Some (codes "c")) body.Exit ∷ rule.V13 n None body.Sort ∷ rule.V15Cost n (Some (codes "c"))
+    ∷ rule.V15Cost n None ∷ [])
     ≡ codes "refused V13 a c B4\n" ∷ codes "refused V13 a thread B2\n" ∷ codes "refused V15 cost a c\n" ∷ codes "refused V15 cost a thread\n" ∷ []
 faulty_bodies = refl
 
-sources : rule_line (rule.V10 n 5 6) ≡ codes "refused V10 " ++ (n ++ (codes " sources " ++ (decimal 5 ++ (codes " starts " ++ (decimal 6 ++ codes "\n")))))
+sources : rule_line (rule.V10 n 5 6)
+    ≡ codes "refused V10 " ++ (n ++ (codes " sources " ++ (decimal 5 ++ (codes " starts " ++ (decimal 6 ++ codes "\n")))))
 sources = refl
 
-budget : rule_line (rule.V14 n 5 6) ≡ codes "refused V14 " ++ (n ++ (codes " cost " ++ (decimal 5 ++ (codes " budget " ++ (decimal 6 ++ codes "\n")))))
+budget : rule_line (rule.V14 n 5 6)
+    ≡ codes "refused V14 " ++ (n ++ (codes " cost " ++ (decimal 5 ++ (codes " budget " ++ (decimal 6 ++ codes "\n")))))
 budget = refl
 
 counts : map rule_line (rule.V15Threads 31 ∷ rule.V15Objects 501 ∷ [])
@@ -87,29 +90,40 @@ counts : map rule_line (rule.V15Threads 31 ∷ rule.V15Objects 501 ∷ [])
 counts = refl
 
 separation : rule_line (rule.V16 n 5 (codes "b") 6)
-    ≡ codes "refused V16 " ++ (n ++ (codes " period " ++ (decimal 5 ++ (codes " " ++ (codes "b" ++ (codes " separation " ++ (decimal 6 ++ codes "\n")))))))
+    ≡ codes "refused V16 " ++ (n ++ (codes " period "
+    ++ (decimal 5 ++ (codes " " ++ (codes "b" ++ (codes " separation " ++ (decimal 6 ++ codes "\n")))))))
 separation = refl
 
 -- BOUNDS
-missed : map (miss_line n) (record { index = 1; which = Deadline; value = 5; limit = 6; round = 7 } ∷ record { index = 1; which = Separation; value = 5; limit = 6; round = 7 } ∷ [])
-    ≡ map (λ code. codes "refused " ++ (code ++ (n ++ (codes " value " ++ (decimal 5 ++ (codes " limit " ++ (decimal 6 ++ (codes " round " ++ (decimal 7 ++ codes "\n")))))))))
+missed : map (miss_line n) (record { index = 1; which = Deadline; value = 5; limit = 6; round = 7 } ∷ record {
+  index = 1;
+  which = Separation;
+  value = 5;
+  limit = 6;
+  round = 7;
+} ∷ [])
+    ≡ map (λ code. codes "refused "
+    ++ (code ++ (n ++ (codes " value " ++ (decimal 5 ++ (codes " limit " ++ (decimal 6 ++ (codes " round " ++ (decimal 7 ++ codes "\n")))))))))
     (codes "U1 " ∷ codes "U2 " ∷ [])
 missed = refl
 
 -- RULES OF A PROGRAM
 units : map (λ r. unit_line r (Some n)) (rules.G1 ∷ rules.G2 ∷ rules.G3 ∷ rules.G4 body.Exit ∷ rules.G5 ∷ rules.G6 ∷ [])
-    ≡ codes "refused G1 a\n" ∷ codes "refused G2 a\n" ∷ codes "refused G3 a\n" ∷ codes "refused G4 a B4\n" ∷ codes "refused G5 a\n" ∷ codes "refused G6 a\n" ∷ []
+    ≡ codes "refused G1 a\n" ∷ codes "refused G2 a\n" ∷ codes "refused G3 a\n" ∷ codes "refused G4 a B4\n" ∷ codes "refused G5 a\n"
+    ∷ codes "refused G6 a\n" ∷ []
 units = refl
 
 unitless : unit_line rules.G5 None ≡ codes "refused G5\n"
 unitless = refl
 
 -- ARRIVALS
-arrivals : map arrivals_line (arrival.Q1 2 ∷ arrival.Q5 2 ∷ []) ≡ (codes "refused Q1 line " ++ (decimal 2 ++ codes "\n")) ∷ (codes "refused Q5 line " ++ (decimal 2 ++ codes "\n")) ∷ []
+arrivals : map arrivals_line (arrival.Q1 2 ∷ arrival.Q5 2 ∷ []) ≡ (codes "refused Q1 line " ++ (decimal 2 ++ codes "\n"))
+    ∷ (codes "refused Q5 line " ++ (decimal 2 ++ codes "\n")) ∷ []
 arrivals = refl
 
 items : map arrivals_line (arrival.Q2 2 n ∷ arrival.Q3 2 n ∷ [])
-    ≡ (codes "refused Q2 line " ++ (decimal 2 ++ (codes " " ++ (n ++ codes "\n")))) ∷ (codes "refused Q3 line " ++ (decimal 2 ++ (codes " " ++ (n ++ codes "\n")))) ∷ []
+    ≡ (codes "refused Q2 line " ++ (decimal 2 ++ (codes " " ++ (n ++ codes "\n"))))
+    ∷ (codes "refused Q3 line " ++ (decimal 2 ++ (codes " " ++ (n ++ codes "\n")))) ∷ []
 items = refl
 
 far : arrivals_line (arrival.Q4 5 6) ≡ codes "refused Q4 value " ++ (decimal 5 ++ (codes " limit " ++ (decimal 6 ++ codes "\n")))

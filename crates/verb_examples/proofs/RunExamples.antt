@@ -129,7 +129,8 @@ module _ (texts : Texts) where
   stopped p a told written v s t i e =
       record { told = told; traces = record { program = p; under = a; says = s; arriving = t; trace = i }; ends = e }
 
-  not_stopped : (written : List ℕ) (v : Violation) → ((p : Program) (a : Arrivals) (told : List Event) → IsTrace p a told written → EndsAt p told v → ⊥)
+  not_stopped : (written : List ℕ) (v : Violation) → ((p : Program) (a : Arrivals) (told : List Event) → IsTrace p a told written
+      → EndsAt p told v → ⊥)
       → (replays (codes "a") (codes "r")).Stops texts written v → ⊥
   not_stopped written v never h = never h.traces.program h.traces.under h.told h.traces.trace h.ends
 
@@ -143,7 +144,8 @@ module _ (texts : Texts) where
   no_replay_text : (f : TextFault) → ¬ Faults (texts kind.Ada) f → (replays (codes "a") (codes "r")).Refuses texts (replay.Text f) → ⊥
   no_replay_text f never h = never h
 
-  replay_rule : (unit : Option Name) → Breaks (texts kind.Ada) rule.G3 unit → (replays (codes "a") (codes "r")).Refuses texts (replay.Unit rule.G3 unit)
+  replay_rule : (unit : Option Name) → Breaks (texts kind.Ada) rule.G3 unit
+      → (replays (codes "a") (codes "r")).Refuses texts (replay.Unit rule.G3 unit)
   replay_rule unit h = h
 
   no_replay_rule : (unit : Option Name) → ¬ Breaks (texts kind.Ada) rule.G3 unit
@@ -217,7 +219,8 @@ module _ (d t r written : List ℕ) where
   of_broken_rules : ((x : Design) → Reads d x → MeetsRules x → ⊥) → IsRightTrace d t r written → ⊥
   of_broken_rules never h = never h.of h.reads h.meets
 
-  of_other_bounds : ((x : Design) (v : List Bound) → Reads d x → IsLeastVector (table (flat (in_ticks x))).rows v → ⊥) → IsRightTrace d t r written → ⊥
+  of_other_bounds : ((x : Design) (v : List Bound) → Reads d x → IsLeastVector (table (flat (in_ticks x))).rows v → ⊥)
+      → IsRightTrace d t r written → ⊥
   of_other_bounds never h = never h.of h.bounds h.reads h.least
 
   of_no_program : ((p : Program) → Accepts t p → ⊥) → IsRightTrace d t r written → ⊥

@@ -45,10 +45,12 @@ module _ (texts : Texts) where
 
   -- two objects inside an active one, and no thread
   check_line : taken_line (design (group (codes "r") (group (codes "a") [] ∷ group (codes "b") [] ∷ [])))
-      ≡ codes "ok " ++ ((design (group (codes "r") [])).name ++ (codes " objects " ++ (decimal 3 ++ (codes " threads " ++ (decimal 0 ++ codes "\n")))))
+      ≡ codes "ok " ++ ((design (group (codes "r") [])).name
+      ++ (codes " objects " ++ (decimal 3 ++ (codes " threads " ++ (decimal 0 ++ codes "\n")))))
   check_line = refl
 
-  taken : (x : Design) (line : List ℕ) → Reads (texts kind.Design) x → MeetsRules x → line ≡ taken_line (in_ticks x) → (checks (codes "d")).Makes texts line
+  taken : (x : Design) (line : List ℕ) → Reads (texts kind.Design) x → MeetsRules x → line ≡ taken_line (in_ticks x)
+      → (checks (codes "d")).Makes texts line
   taken x line r m e = record { design = x; reads = r; meets = m; line_is = e }
 
   unread_taken : (line : List ℕ) → ((x : Design) → Reads (texts kind.Design) x → ⊥) → (checks (codes "d")).Makes texts line → ⊥
@@ -58,7 +60,8 @@ module _ (texts : Texts) where
   broken_taken line never h = never h.design h.reads h.meets
 
   -- another line
-  line_taken : (line : List ℕ) → ((x : Design) → Reads (texts kind.Design) x → line ≡ taken_line (in_ticks x) → ⊥) → (checks (codes "d")).Makes texts line → ⊥
+  line_taken : (line : List ℕ) → ((x : Design) → Reads (texts kind.Design) x → line ≡ taken_line (in_ticks x) → ⊥)
+      → (checks (codes "d")).Makes texts line → ⊥
   line_taken line never h = never h.design h.reads h.line_is
 
   check_text : (f : TextFault) → Faults (texts kind.Design) f → (checks (codes "d")).Refuses texts (check.Text f)
@@ -134,7 +137,8 @@ module _ (texts : Texts) where
   unread_formatted : (made : List ℕ) → ((x : Design) → Reads (texts kind.Design) x → ⊥) → (formats (codes "d")).Makes texts made → ⊥
   unread_formatted made never h = never h.design h.reads
 
-  other_formatted : (made : List ℕ) → ((x : Design) → Reads (texts kind.Design) x → made ≡ design_text x → ⊥) → (formats (codes "d")).Makes texts made → ⊥
+  other_formatted : (made : List ℕ) → ((x : Design) → Reads (texts kind.Design) x → made ≡ design_text x → ⊥)
+      → (formats (codes "d")).Makes texts made → ⊥
   other_formatted made never h = never h.design h.reads h.text_is
 
   -- a text within the limit that doesn't read as the same design
@@ -176,13 +180,15 @@ module _ (texts : Texts) where
   no_generate_text : (f : TextFault) → ¬ Faults (texts kind.Design) f → (generates (codes "d")).Refuses texts (generate.Text f) → ⊥
   no_generate_text f never h = never h
 
-  generate_rule : (x : Design) → Reads (texts kind.Design) x → IsFirstBroken x V17Tick → (generates (codes "d")).Refuses texts (generate.Rule told.V17Tick)
+  generate_rule : (x : Design) → Reads (texts kind.Design) x → IsFirstBroken x V17Tick
+      → (generates (codes "d")).Refuses texts (generate.Rule told.V17Tick)
   generate_rule x r b = record { design = x; reads = r; broken = b }
 
   no_generate_rule : ¬ BreaksRule (texts kind.Design) (Some V17Tick) → (generates (codes "d")).Refuses texts (generate.Rule told.V17Tick) → ⊥
   no_generate_rule never h = never h
 
-  generate_miss : (thread : Name) (m : rows.Miss) → HasNoBounds (texts kind.Design) thread m → (generates (codes "d")).Refuses texts (generate.Miss thread m)
+  generate_miss : (thread : Name) (m : rows.Miss) → HasNoBounds (texts kind.Design) thread m
+      → (generates (codes "d")).Refuses texts (generate.Miss thread m)
   generate_miss thread m h = h
 
   no_generate_miss : (thread : Name) (m : rows.Miss) → ¬ HasNoBounds (texts kind.Design) thread m
@@ -221,7 +227,8 @@ module _ (texts : Texts) where
       → (generates (codes "d")).CanDo texts → ⊥
   boundless_generate never h = never h.design h.bounds h.reads h.least
 
-  long_generate : ((x : Design) (v : List Bound) → Reads (texts kind.Design) x → 16777216 < length (text (in_ticks x) v)) → (generates (codes "d")).CanDo texts → ⊥
+  long_generate : ((x : Design) (v : List Bound) → Reads (texts kind.Design) x → 16777216 < length (text (in_ticks x) v))
+      → (generates (codes "d")).CanDo texts → ⊥
   long_generate long h = omega (arith, h.short, long h.design h.bounds h.reads)
 
   generate_stop : (stop : (generates (codes "d")).Stop) → ⊥
@@ -237,7 +244,8 @@ ceiling = record { name = codes "q"; ceiling = 8 }
 told_bound : bound_line bound
     ≡ codes "thread " ++ (codes "a"
     ++ (((codes " priority " ++ decimal 1) ++ ((codes " period " ++ decimal 2) ++ (codes " deadline " ++ decimal 3)))
-    ++ (((codes " jitter " ++ decimal 4) ++ ((codes " cost " ++ decimal 5) ++ ((codes " blocking " ++ decimal 6) ++ (codes " response " ++ decimal 7))))
+    ++ (((codes " jitter " ++ decimal 4)
+    ++ ((codes " cost " ++ decimal 5) ++ ((codes " blocking " ++ decimal 6) ++ (codes " response " ++ decimal 7))))
     ++ codes "\n")))
 told_bound = refl
 

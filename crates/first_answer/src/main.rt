@@ -2,19 +2,55 @@
 //! less time to compile. `./hrthood` compiles it where the program is not proved yet.
 #![tactic(auto)]
 
-use hood_io::{ErrSink, FileShelf, NoMemory, OutSink, given_words};
+ghost use Rattle.std.specs.Prelude.{◌≡◌, IfOk, OnErr, map, string_bytes};
+ghost use Rattle.std.specs.Process.{exit_status as number_of};
+ghost use Rattle.hrthood_top.specs.Ends.{Ends, outside};
+ghost use Rattle.hrthood_top.specs.Exits.{exit_status};
+ghost use Rattle.hrthood_words.specs.Words.{command_of};
+
+use hood_io::{ErrSink, FileShelf, NoMemory, OutSink, Shelf, Sink, given_words};
 use hrthood_top::{Status, run_plain};
+use std::alloc::Global;
 use std::process::ExitCode;
 
-fn main(rt: HostRuntime) -> ExitCode {
-    let status = match given_words(&rt) {
-        Ok(words) => {
-            let mut shelf = FileShelf::new(&rt);
-            let mut out = OutSink::new(rt.stdout());
-            let mut err = ErrSink::new(rt.stderr());
-            run_plain(rt.alloc(), &words, &mut shelf, &mut out, &mut err)
-        }
-        Err(NoMemory) => Status::NoMemory,
-    };
+/// The exit status of a status.
+fn exit_code(status: Status) -> ExitCode
+    ensures { number_of result ≡ exit_status status }
+{
     ExitCode::from(status.code())
+}
+
+/// Runs the words over a shelf and sinks, and answers the exit status: that of the status with which the run ends. Where memory for the
+/// words was refused, nothing is run.
+fn answer<F: Shelf, O: Sink, E: Sink>(
+    alloc: Global,
+    words: Result<Vec<String>, NoMemory>,
+    shelf: &mut F,
+    out: &mut O,
+    err: &mut E,
+) -> ExitCode
+    ensures ends { IfOk words (λ w. (status : Status) × (number_of result ≡ exit_status status)
+        × Ends status (command_of (map string_bytes w.items))
+        (outside (F.told shelf.old) (F.faults shelf.old) (O.written out.old) (O.faults out.old) (E.written err.old) (E.faults err.old))
+        (outside (F.told shelf.new) (F.faults shelf.new) (O.written out.new) (O.faults out.new) (E.written err.new) (E.faults err.new))) }
+    ensures unread { OnErr words (number_of result ≡ exit_status Status.NoMemory) }
+{
+    match words {
+        Ok(words) => exit_code(run_plain(alloc, &words, shelf, out, err)),
+        Err(NoMemory) => exit_code(Status::NoMemory),
+    }
+}
+
+fn main(rt: HostRuntime) -> ExitCode {
+    let alloc = rt.alloc();
+    let mut shelf = FileShelf::new(&rt);
+    let mut out = OutSink::new(rt.stdout());
+    let mut err = ErrSink::new(rt.stderr());
+    answer(
+        alloc,
+        given_words(&rt, alloc),
+        &mut shelf,
+        &mut out,
+        &mut err,
+    )
 }

@@ -1,2 +1,5 @@
 pub mod Appending
+mod CauseExamples
+pub mod Fronts
+pub mod LastWords
 mod Places

@@ -1,6 +1,7 @@
 -- What a shelf holds, by name, and what was fetched from it.
 -- A shelf that tells nothing has None before and after, and no clause speaks of its files.
-use Rattle.std.specs.Prelude.{◌≡◌, ℕ, ◌<◌, ◌≤◌, Bool, true, false, List, [], ◌∷◌, ◌++◌, length, take, Option, Some, None, IfSome}
+use Rattle.std.specs.Prelude.{◌≡◌, ℕ, ◌<◌, ◌≤◌, Bool, true, false, List, [], ◌∷◌, ◌++◌, length, take, Option, Some, None, Result, Ok, Err}
+use Rattle.std.specs.Prelude.{IfSome, option_map}
 use Rattle.hood_io.specs.declared.shelf.Fetched.{Fetched}
 use Rattle.hood_io.specs.declared.shelf.Fetched.TheVariants.{Done, TooLong, Failed, NoMemory}
 use Rattle.hood_io.specs.Causes.{Rose, raised}
@@ -18,6 +19,12 @@ pub record Told : Type 0 where
 -- what a shelf tells that tells nothing
 abbrev pub untold : Option Told
 untold = None
+
+-- what a shelf tells that has one file, and by each name that one: the file that was opened, where it tells its bytes, and none where
+-- opening it failed
+abbrev pub opened : {S E : Type 0} → (S → Option (List ℕ)) → Result S E → Option Told
+opened bytes (Ok file) = option_map (λ xs. record { files = λ name. Some xs; log = [] }) (bytes file)
+opened bytes (Err e) = Some (record { files = λ name. None; log = [] })
 
 -- what an answer adds to the log
 abbrev pub entries_of : Fetched → List ℕ → List Entry

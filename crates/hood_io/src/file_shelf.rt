@@ -1,5 +1,5 @@
-ghost use Rattle.std.specs.Prelude.{◌≡◌, ◌≤◌, ◌+◌, ◌-◌, ◌^◌, min, take, IfSome, OnOk};
-ghost use Rattle.hood_io.specs.Shelves.{after_fetch, counted, untold, IsFront, Says};
+ghost use Rattle.std.specs.Prelude.{◌≡◌, ◌≤◌, ◌+◌, ◌-◌, ◌^◌, [], Some, min, take, IfSome, OnOk};
+ghost use Rattle.hood_io.specs.Shelves.{after_fetch, counted, opened, untold, IsFront, Says};
 
 use crate::shelf::{Fetched, Shelf};
 use std::alloc::Global;
@@ -25,7 +25,8 @@ impl<'a, R: Files> FileShelf<'a, R> {
 
 /// Makes `into` the first bytes that the reader has left: all of them, or one byte more than `limit`.
 fn read_front<S: Read + Drop>(from: S, limit: usize, into: &mut Vec<u8>) -> io::Result<()>
-    ensures { OnOk result (IfSome (S.remaining from) (λ xs. into.new.items ≡ take (min (limit + 1) (2 ^ 64 - 1)) xs)) }
+    ensures whole { OnOk result (IfSome (S.remaining from) (λ xs. into.new.items ≡ take (min (limit + 1) (2 ^ 64 - 1)) xs)) }
+    ensures front { IfSome (S.remaining from) (λ xs. IsFront into.new.items (Some xs)) }
 {
     into.clear();
     from.take((limit as u64).saturating_add(1))
@@ -33,10 +34,33 @@ fn read_front<S: Read + Drop>(from: S, limit: usize, into: &mut Vec<u8>) -> io::
     Ok(())
 }
 
-/// The first bytes of the file, in place of what `into` held.
-fn read_up_to<R: Files>(rt: &R, name: &str, limit: usize, into: &mut Vec<u8>) -> io::Result<()> {
-    let file = File::open(rt, name)?;
-    read_front(file, limit, into)
+/// What a fetch answers of a file that was opened, or could not be, and the count of faults after it: what every shelf says, of a shelf on
+/// which each name is of this file, where the file tells its bytes.
+fn fetch_opened<S: Read + Drop>(
+    file: io::Result<S>,
+    limit: usize,
+    into: &mut Vec<u8>,
+    faults: &mut u64,
+) -> Fetched
+    ensures later { faults.old ≤ faults.new }
+    ensures front { IfSome (opened S.remaining file) (λ t. IsFront into.new.items (t.files [])) }
+    ensures says { Says result (opened S.remaining file) [] limit into.new.items faults.old faults.new }
+    ensures counted { faults.new ≡ counted result faults.old }
+{
+    into.clear();
+    let read = match file {
+        Ok(file) => read_front(file, limit, into),
+        Err(error) => Err(error),
+    };
+    match read {
+        Ok(()) if into.len() <= limit => Fetched::Done,
+        Ok(()) => Fetched::TooLong,
+        Err(e) if e.kind() == io::ErrorKind::OutOfMemory => Fetched::NoMemory,
+        Err(_) => {
+            *faults = faults.saturating_add(1);
+            Fetched::Failed
+        }
+    }
 }
 
 impl<'a, R: Files> Shelf for FileShelf<'a, R> {
@@ -54,15 +78,6 @@ impl<'a, R: Files> Shelf for FileShelf<'a, R> {
         // What the system's files say beyond others.
         ensures counted { self.new.faults ≡ counted result self.old.faults }
     {
-        into.clear();
-        match read_up_to(self.rt, name, limit, into) {
-            Ok(()) if into.len() <= limit => Fetched::Done,
-            Ok(()) => Fetched::TooLong,
-            Err(e) if e.kind() == io::ErrorKind::OutOfMemory => Fetched::NoMemory,
-            Err(_) => {
-                self.faults = self.faults.saturating_add(1);
-                Fetched::Failed
-            }
-        }
+        fetch_opened(File::open(self.rt, name), limit, into, &mut self.faults)
     }
 }

@@ -4,7 +4,8 @@
 //! `Sink::write`, and in `put_all`, which writes a text whole over any sink. `MemShelf` and
 //! `MemSink` keep theirs in memory and tell all that they hold. `FileShelf`, `OutSink` and
 //! `ErrSink` are the system's files, standard output and standard error, and tell only how many
-//! faults there were. `given_words` are the words of the command line.
+//! faults there were. The two sinks are one `StreamSink`, whose `write` says beyond that what a
+//! stream was given that tells its bytes. `given_words` are the words of the command line.
 #![tactic(auto)]
 
 mod arguments;
@@ -25,4 +26,4 @@ pub use memory::NoMemory;
 pub use puts::put_all;
 pub use shelf::{Fetched, Shelf};
 pub use sink::{Failed, Sink};
-pub use standard::{ErrSink, OutSink};
+pub use standard::{ErrSink, OutSink, StreamSink};

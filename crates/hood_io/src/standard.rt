@@ -2,78 +2,60 @@ ghost use Rattle.std.specs.Prelude.{◌≡◌, None};
 ghost use Rattle.std.specs.Io.KnownBytes.{WriteAppends};
 ghost use Rattle.hood_io.specs.Causes.{HasCause};
 ghost use Rattle.hood_io.specs.MemSink.{counted};
-ghost use Rattle.hood_io.specs.Sinks.{Takes};
+ghost use Rattle.hood_io.specs.Sinks.{Appends, Takes, taken_of};
 
 use crate::sink::{Failed, Sink};
 use std::io::{Stderr, Stdout, Write};
 
-/// Writes a piece, and counts a fault where none of a piece that isn't empty was taken.
-fn write_counted<W: Write>(to: &mut W, faults: &mut u64, bytes: &[u8]) -> Result<usize, Failed>
-    ensures cause { HasCause faults.old faults.new result }
-    ensures takes { Takes bytes.now result }
-    ensures appends { WriteAppends (W.contents to.old) (W.contents to.new) result bytes.now }
-    ensures counted { faults.new ≡ counted result faults.old }
-{
-    if bytes.is_empty() {
-        return Ok(0);
+/// A sink over a stream. It tells nothing of what was written, since a stream need not tell what it holds. Where the stream tells it, the
+/// clause `given` of `write` says what the stream was given.
+#[derive(Drop)]
+pub struct StreamSink<W: Write + Drop> {
+    stream: W,
+    faults: u64,
+}
+
+/// Standard output.
+pub type OutSink = StreamSink<Stdout>;
+
+/// Standard error.
+pub type ErrSink = StreamSink<Stderr>;
+
+impl<W: Write + Drop> StreamSink<W> {
+    /// A sink over this stream, with no faults.
+    pub fn new(stream: W) -> StreamSink<W>
+        ensures stream { result.stream ≡ stream }
+        ensures faults { result.faults ≡ 0 }
+    {
+        StreamSink { stream, faults: 0 }
     }
-    match to.write(bytes) {
-        Ok(count) if count > 0 => Ok(count),
-        _ => {
-            *faults = faults.saturating_add(1);
-            Err(Failed)
+}
+
+impl<W: Write + Drop> Sink for StreamSink<W> {
+    ghost written = { λ _. None };
+
+    ghost faults = { λ s. s.faults };
+
+    /// Writes the piece to the stream, once. It fails where the stream does, or takes none of a piece that isn't empty; the count of faults
+    /// then rises by one, and else stays. What is told as taken is at the end of what the stream holds, where the stream tells that.
+    fn write(&mut self, bytes: &[u8]) -> Result<usize, Failed>
+        ensures cause { HasCause self.old.faults self.new.faults result }
+        ensures takes { Takes bytes.now result }
+        ensures appends { Appends None None (taken_of bytes.now result) }
+
+        // What a stream says beyond other sinks.
+        ensures given { WriteAppends (W.contents self.old.stream) (W.contents self.new.stream) result bytes.now }
+        ensures counted { self.new.faults ≡ counted result self.old.faults }
+    {
+        if bytes.is_empty() {
+            return Ok(0);
         }
-    }
-}
-
-/// Standard output. It tells nothing of what was written.
-#[derive(Drop)]
-pub struct OutSink {
-    out: Stdout,
-    faults: u64,
-}
-
-impl OutSink {
-    /// A sink over the runtime's standard output, with no faults.
-    pub fn new(out: Stdout) -> OutSink
-        ensures { result.faults ≡ 0 }
-    {
-        OutSink { out, faults: 0 }
-    }
-}
-
-impl Sink for OutSink {
-    ghost written = { λ _. None };
-
-    ghost faults = { λ s. s.faults };
-
-    fn write(&mut self, bytes: &[u8]) -> Result<usize, Failed> {
-        write_counted(&mut self.out, &mut self.faults, bytes)
-    }
-}
-
-/// Standard error. It tells nothing of what was written.
-#[derive(Drop)]
-pub struct ErrSink {
-    err: Stderr,
-    faults: u64,
-}
-
-impl ErrSink {
-    /// A sink over the runtime's standard error, with no faults.
-    pub fn new(err: Stderr) -> ErrSink
-        ensures { result.faults ≡ 0 }
-    {
-        ErrSink { err, faults: 0 }
-    }
-}
-
-impl Sink for ErrSink {
-    ghost written = { λ _. None };
-
-    ghost faults = { λ s. s.faults };
-
-    fn write(&mut self, bytes: &[u8]) -> Result<usize, Failed> {
-        write_counted(&mut self.err, &mut self.faults, bytes)
+        match self.stream.write(bytes) {
+            Ok(count) if count > 0 => Ok(count),
+            _ => {
+                self.faults = self.faults.saturating_add(1);
+                Err(Failed)
+            }
+        }
     }
 }

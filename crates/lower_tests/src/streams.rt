@@ -1,7 +1,10 @@
-//! Files and standard error of the system.
+//! The system's files, streams and words: that the adapters over them hand on what is there, whole and in order.
 
-use hood_io::{ErrSink, Fetched, FileShelf, Shelf, put_all};
-use std::fs;
+use hood_io::{ErrSink, Failed, Fetched, FileShelf, Shelf, StreamSink, given_words, put_all};
+use std::alloc::Global;
+use std::env::{Env, FillError};
+use std::fs::{self, File};
+use std::io::{self, Read, Write};
 use std::test::Fail;
 
 #[test]
@@ -24,8 +27,149 @@ fn a_file_is_read_up_to_its_limit(rt: HostRuntime) -> Result<(), Fail> {
     Ok(())
 }
 
+/// A file of more than half of a design's limit, which no one read gives whole.
+#[test]
+fn a_long_file_is_read_whole(rt: HostRuntime) -> Result<(), Fail> {
+    let file = "lower_tests_long_file";
+    let mut text = Vec::new(rt.alloc());
+    text.resize(600_000, b'x')?;
+    text.push(b'y')?;
+    fs::write(&rt, file, text.as_slice())?;
+    let mut shelf = FileShelf::new(&rt);
+    let mut into = Vec::new(rt.alloc());
+    for (limit, answer) in [
+        (1_048_576, Fetched::Done),
+        (600_001, Fetched::Done),
+        (600_000, Fetched::TooLong),
+    ] {
+        let fetched = shelf.fetch(rt.alloc(), file, limit, &mut into);
+        assert_eq!(rt; fetched, answer, "{limit}");
+        assert!(rt; into.as_slice() == text.as_slice(), "{limit}");
+    }
+    fs::remove_file(&rt, file)?;
+    Ok(())
+}
+
+/// A stream that takes at most three bytes of a piece, and none where it has no room left.
+#[derive(Drop)]
+struct Narrow {
+    held: Vec<u8>,
+    room: usize,
+}
+
+impl Write for Narrow {
+    fn write(&mut self, buf: &[u8]) -> io::Result<usize> {
+        let count = buf.len().min(3).min(self.room);
+        let (front, _) = buf.split_at(count);
+        self.held.extend_from_slice(front)?;
+        self.room -= count;
+        Ok(count)
+    }
+
+    fn flush(&mut self) -> io::Result<()> {
+        Ok(())
+    }
+}
+
+/// Each piece that a stream takes in part is followed by the rest, and what is told as written is what the stream holds.
+#[test]
+fn a_stream_that_takes_a_part_gets_the_rest(rt: HostRuntime) -> Result<(), Fail> {
+    let text = b"12345678".as_slice();
+    for (room, answer, held) in [
+        (9, Ok(()), text),
+        (8, Ok(()), text),
+        (7, Err(Failed), b"1234567"),
+        (3, Err(Failed), b"123"),
+        (0, Err(Failed), b""),
+    ] {
+        let mut stream = Narrow {
+            held: Vec::new(rt.alloc()),
+            room,
+        };
+        let put = put_all(&mut StreamSink::new(&mut stream), text);
+        assert_eq!(rt; put, answer, "{room}");
+        assert_eq!(rt; stream.held.as_slice(), held, "{room}");
+    }
+    Ok(())
+}
+
+#[test]
+fn a_pipe_gets_a_text(rt: HostRuntime) -> Result<(), Fail> {
+    let (reader, writer) = io::pipe(&rt)?;
+    let mut reader = reader;
+    let mut sink = StreamSink::new(writer);
+    assert_eq!(rt; put_all(&mut sink, b"to a pipe\n"), Ok(()));
+    drop(sink);
+    let mut held = Vec::new(rt.alloc());
+    reader.read_to_end(&mut held)?;
+    assert_eq!(rt; held.as_slice(), b"to a pipe\n".as_slice());
+    Ok(())
+}
+
+#[test]
+fn a_full_device_takes_nothing(rt: HostRuntime) -> Result<(), Fail> {
+    let full = File::options().write(true).open(&rt, "/dev/full")?;
+    let mut sink = StreamSink::new(full);
+    assert_eq!(rt; put_all(&mut sink, b"to a full device\n"), Err(Failed));
+    assert_eq!(rt; put_all(&mut sink, b""), Ok(()));
+    Ok(())
+}
+
 #[test]
 fn standard_error_takes_a_text(rt: HostRuntime) {
     let mut err = ErrSink::new(rt.stderr());
     assert_eq!(rt; put_all(&mut err, b"to standard error\n"), Ok(()));
+}
+
+/// A command line: the program's name, and its words.
+#[derive(Drop)]
+struct Line(&'static [&'static [u8]]);
+
+impl Env for Line {
+    fn arg(&self, i: usize, buf: &mut [u8]) -> Result<usize, FillError> {
+        let word = self.0.get(i).ok_or(FillError::NotPresent)?;
+        if buf.len() < word.len() {
+            return Err(FillError::TooLong);
+        }
+        let (front, _) = buf.split_at_mut(word.len());
+        front.copy_from_slice(word);
+        Ok(word.len())
+    }
+
+    fn var(&self, _name: &str, _buf: &mut [u8]) -> Result<usize, FillError> {
+        Err(FillError::NotPresent)
+    }
+
+    fn var_at(&self, _i: usize, _buf: &mut [u8]) -> Result<usize, FillError> {
+        Err(FillError::NotPresent)
+    }
+}
+
+/// The words of a command line, with a semicolon behind each.
+fn told_words(alloc: Global, line: &Line) -> Result<String, Fail> {
+    let mut told = String::new(alloc);
+    for word in &given_words(line, alloc)? {
+        told.push_str(word)?;
+        told.push_str(";")?;
+    }
+    Ok(told)
+}
+
+/// Command lines, and their words.
+const LINES: &[(&[&[u8]], &str)] = &[
+    (&[], ""),
+    (&[b"hrthood"], ""),
+    (&[b"hrthood", b"check", b"d"], "check;d;"),
+    (&[b"hrthood", b"verify", b"", b"r s"], "verify;;r s;"),
+    // A word that is not UTF-8.
+    (&[b"hrthood", b"check", b"\xff"], ""),
+];
+
+#[test]
+fn the_words_are_those_behind_the_name(rt: HostRuntime) -> Result<(), Fail> {
+    for (line, wanted) in LINES {
+        let told = told_words(rt.alloc(), &Line(line))?;
+        assert_eq!(rt; told.as_str(), *wanted, "{wanted}");
+    }
+    Ok(())
 }

@@ -14,7 +14,7 @@ cd "$room" || exit 1
 differences=0
 
 # The files that the runs below read: those of examples/, an arrivals file with a long trace, and a design whose text is longer than a pipe.
-cp "$top"/examples/* .
+cp "$top"/examples/*.* .
 : >empty.design
 echo 'UNTIL 400000;' >long.arrivals
 {

@@ -10,3 +10,4 @@ mod LineExamples
 mod ResponseExamples
 mod ViewExamples
 mod RunExamples
+mod OrderExamples

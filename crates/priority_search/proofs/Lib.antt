@@ -1,0 +1,8 @@
+pub mod Places
+pub mod FirstRows
+pub mod Moves
+pub mod FillSteps
+pub mod LastSteps
+pub mod NextSteps
+pub mod SearchSteps
+pub mod OneAnswer

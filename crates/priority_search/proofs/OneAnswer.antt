@@ -1,6 +1,6 @@
 -- A flat design has one answer: the threads that show that no order passes, and the order that is found.
 -- Both are what filling from the lowest place comes to (Audsley 1991), where each place goes to one thread.
-use Rattle.std.specs.Prelude.{◌≡◌, ℕ, zero, suc, ◌+◌, ◌≤◌, List, [], ◌∷◌, length, take, slice_get, Some, refl}
+use Rattle.std.specs.Prelude.{◌≡◌, ℕ, suc, List, [], ◌∷◌, length, take, slice_get, Some, refl}
 use Rattle.std.proofs.Common.{sym, ◌∙◌, ap₂, arith}
 use Rattle.ods_tree.specs.Flats.{Flat}
 use Rattle.analysis.specs.Sound.{IsSound}
@@ -15,7 +15,7 @@ pub one-refuted : (f : Flat) (a b : List ℕ) → IsSound f → IsRefuted f a �
 one-refuted f a b sound x y =
     x.listed
     ∙ filter-same (has_place (take x.left x.order)) (has_place (take y.left y.order)) (places_of f)
-        (λ k h. left-same f x.order y.order x.left y.left sound x.stuck y.stuck k)
+    (λ k h. left-same f x.order y.order x.left y.left sound x.stuck y.stuck k)
     ∙ sym y.listed
 
 -- lists of one length with the same items

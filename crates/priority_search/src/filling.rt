@@ -12,7 +12,12 @@ use seq_tree::NoMemory;
 use std::alloc::Global;
 
 /// The last of the first `free` threads of an order that can be last of them, by its place in the order.
-fn next(alloc: Global, basis: &Basis<'_>, order: &[u32], free: usize) -> Result<Option<usize>, NoMemory>
+fn next(
+    alloc: Global,
+    basis: &Basis<'_>,
+    order: &[u32],
+    free: usize,
+) -> Result<Option<usize>, NoMemory>
     requires sound { IsSound (flat_of basis.now.flat.now) }
     requires known { design_of basis.now.facts ≡ flat_of basis.now.flat.now }
     requires external { AllExternal (flat_of basis.now.flat.now) }
@@ -42,7 +47,11 @@ fn move_back(order: &mut Vec<u32>, from: usize, to: usize) -> Result<(), NoMemor
 /// Fills an order from its lowest place upwards, as far as it can be, and gives how many of its first threads are left.
 ///
 /// The order begins by falling deadline-monotonic priority.
-pub(crate) fn fill(alloc: Global, basis: &Basis<'_>, order: &mut Vec<u32>) -> Result<usize, NoMemory>
+pub(crate) fn fill(
+    alloc: Global,
+    basis: &Basis<'_>,
+    order: &mut Vec<u32>,
+) -> Result<usize, NoMemory>
     requires sound { IsSound (flat_of basis.now.flat.now) }
     requires known { design_of basis.now.facts ≡ flat_of basis.now.flat.now }
     requires external { AllExternal (flat_of basis.now.flat.now) }

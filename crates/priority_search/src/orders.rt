@@ -80,7 +80,11 @@ pub(crate) fn rank_by(alloc: Global, basis: &Basis<'_>, order: &[u32]) -> Result
 }
 
 /// The table for these priorities and ceilings.
-pub(crate) fn table_at(alloc: Global, basis: &Basis<'_>, ranking: &Ranking) -> Result<Table, NoMemory>
+pub(crate) fn table_at(
+    alloc: Global,
+    basis: &Basis<'_>,
+    ranking: &Ranking,
+) -> Result<Table, NoMemory>
     requires sound { IsSound (flat_of basis.now.flat.now) }
     requires known { design_of basis.now.facts ≡ flat_of basis.now.flat.now }
     requires threads { length ranking.now.threads.items ≡ length basis.now.flat.now.threads.items }

@@ -1,14 +1,15 @@
 ghost use Rattle.std.specs.Prelude.{◌≡◌, ◌≤◌, IfErr, IfOk, List};
+ghost use Rattle.seq_tree.specs.Lists.{Each};
 ghost use Rattle.rt_response.specs.Response.{Fits, IsLeastVector};
 ghost use Rattle.rt_response.specs.Rounds.{IsMiss};
 ghost use Rattle.rt_response.specs.declared.rows.Bound.{Bound as BoundTree};
 ghost use Rattle.ods_tree.specs.Trees.{flat_of};
-ghost use Rattle.analysis.specs.Ceilings.{ranks};
+ghost use Rattle.analysis.specs.Ceilings.{ranks_for};
 ghost use Rattle.analysis.specs.Sound.{IsSound};
-ghost use Rattle.analysis.specs.Tables.{table as table_tree};
+ghost use Rattle.analysis.specs.Tables.{table as table_tree, table_for};
 ghost use Rattle.analysis.specs.Trees.{ranks_of, table_of};
 ghost use Rattle.design_bounds.specs.Analyses.{Analyses, IsRefused};
-ghost use Rattle.design_bounds.specs.Rows.{ceiling_rows, named_bounds};
+ghost use Rattle.design_bounds.specs.Rows.{ceiling_rows_by, named_bounds_by};
 
 use crate::naming::{ceiling_rows, named_rows, numbered};
 use crate::rows::{Analysis, CeilingRow, NoBounds};
@@ -36,8 +37,9 @@ fn missed(alloc: Global, flat: &Flat, table: &Table, miss: Miss) -> NoBounds
     }
 }
 
-/// The least bounds of the rows of a table.
-fn bounds_of(alloc: Global, flat: &Flat, table: &Table) -> Result<Vec<Bound>, NoBounds>
+/// The least bounds of the rows of the table of a sound flat design. `Miss` comes exactly where no vector of bounds fits, as in `analyse`.
+/// `NoMemory` comes for want of memory alone.
+pub fn bounds_of(alloc: Global, flat: &Flat, table: &Table) -> Result<Vec<Bound>, NoBounds>
     requires sound { IsSound (flat_of flat.now) }
     requires table { table_of table.now ≡ table_tree (flat_of flat.now) }
     ensures least { IfOk result (λ v. IsLeastVector (table_tree (flat_of flat.now)).rows v.items) }
@@ -54,8 +56,10 @@ fn bounds_of(alloc: Global, flat: &Flat, table: &Table) -> Result<Vec<Bound>, No
     }
 }
 
-/// The bounds with their threads, and with priorities as they are written.
-fn named(
+/// The bounds of the rows of a table with the names of their threads, and with the numbers and priorities as they are written. The table is
+/// that for the priorities of `order`, which may be any from 0 to 31, and the least priority, 1, is written as `first`. `NoMemory` comes
+/// for want of memory alone.
+pub fn named(
     alloc: Global,
     flat: &Flat,
     order: &Ranking,
@@ -63,27 +67,27 @@ fn named(
     bounds: &[Bound],
     first: u32,
 ) -> Result<Vec<NamedBound>, NoMemory>
-    requires sound { IsSound (flat_of flat.now) }
-    requires order { ranks_of order.now ≡ ranks (flat_of flat.now) }
-    requires table { table_of table.now ≡ table_tree (flat_of flat.now) }
+    requires small { Each (λ n. n ≤ 31) order.now.threads.items }
+    requires table { table_of table.now ≡ table_for (flat_of flat.now) order.now.threads.items }
     requires first { first ≤ 1000000000 }
-    ensures { IfOk result (λ v. v.items ≡ named_bounds first (flat_of flat.now) bounds.now) }
+    ensures { IfOk result (λ v. v.items ≡ named_bounds_by first (flat_of flat.now) order.now.threads.items bounds.now) }
 {
     let priorities = numbered(alloc, order.threads.as_slice(), first)?;
     named_rows(alloc, flat, priorities.as_slice(), table, bounds)
 }
 
-/// The ceilings with what they are of, as they are written.
-fn ceilings(
+/// The ceilings for any priorities from 0 to 31, with the names of what they are of and as they are written, where the least priority,
+/// 1, is written as `first`. `NoMemory` comes for want of memory alone.
+pub fn ceilings(
     alloc: Global,
     flat: &Flat,
     order: &Ranking,
     first: u32,
 ) -> Result<Vec<CeilingRow>, NoMemory>
-    requires sound { IsSound (flat_of flat.now) }
-    requires order { ranks_of order.now ≡ ranks (flat_of flat.now) }
+    requires small { Each (λ n. n ≤ 31) order.now.threads.items }
+    requires order { ranks_of order.now ≡ ranks_for (flat_of flat.now) order.now.threads.items }
     requires first { first ≤ 1000000000 }
-    ensures { IfOk result (λ v. v.items ≡ ceiling_rows first (flat_of flat.now)) }
+    ensures { IfOk result (λ v. v.items ≡ ceiling_rows_by first (flat_of flat.now) order.now.threads.items) }
 {
     let shared = numbered(alloc, order.shared.as_slice(), first)?;
     let obcs = numbered(alloc, order.obcs.as_slice(), first)?;

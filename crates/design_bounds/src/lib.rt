@@ -2,12 +2,13 @@
 //!
 //! It stands on the order of `rt_order`, the table of `rt_block` and the rounds of `rt_response`. `analyse` carries its promise: of
 //! every sound flat design the priorities, ceilings, table and least bounds, with the names of threads and objects and in the
-//! numbers of the design, or else the first value that is over its limit.
+//! numbers of the design, or else the first value that is over its limit. `bounds_of` says the same of a table that
+//! is at hand, and `named` and `ceilings` give names and written numbers for any other priorities.
 #![tactic(auto)]
 
 mod analysing;
 mod naming;
 mod rows;
 
-pub use analysing::analyse;
+pub use analysing::{analyse, bounds_of, ceilings, named};
 pub use rows::{Analysis, CeilingRow, NoBounds};

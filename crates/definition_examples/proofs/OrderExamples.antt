@@ -19,7 +19,8 @@ use Rattle.rt_response.proofs.Least.{at_most-refl, div_ceil-mono}
 use Rattle.rt_response.proofs.Solving.{no_excess-within}
 use Rattle.analysis.specs.Blocking.{blocking}
 use Rattle.analysis.specs.Tables.{table}
-use Rattle.order_laws.specs.Orders.{is_internal, priority_in, priorities_by, ranks_by, rows_by, Passes, levels_among, others, share, EndsLast, NoneIsLast, IsStuck, IsObstacle}
+use Rattle.order_laws.specs.Orders.{is_internal, priority_in, priorities_by, ranks_by, rows_by, Passes, levels_among, others, share, EndsLast}
+use Rattle.order_laws.specs.Orders.{NoneIsLast, IsStuck, IsObstacle}
 
 -- a round that the next one leaves as it is, with no value over its limit
 round-passes : (f : Flat) (order : List ℕ) (k : ℕ) → length (round (rows_by f order) k) ≡ length (rows_by f order)
@@ -28,7 +29,8 @@ round-passes : (f : Flat) (order : List ℕ) (k : ℕ) → length (round (rows_b
 round-passes f order k long stays within =
     let P : List Bound → Type 0 = λ v. IsAtMost v (round (rows_by f order) k) in (
       round (rows_by f order) k,
-      ((long, subst P (sym stays) (at_most-refl (round (rows_by f order) k))), no_excess-within 0 (rows_by f order) (round (rows_by f order) k) long within),
+      ((long, subst P (sym stays) (at_most-refl (round (rows_by f order) k))), no_excess-within 0 (rows_by f order) (round
+          (rows_by f order) k) long within),
     )
 
 -- the thread of the longer deadline has a great jitter
@@ -39,7 +41,8 @@ jittered = flat (several (spo_external (codes "a") 20 20 12 (Work 4 ∷ []) ∷ 
 by_deadline : (table jittered).places ≡ 1 ∷ 0 ∷ []
 by_deadline = refl
 
-by_deadline-late : first_excess 0 (table jittered).rows (round (table jittered).rows 1) ≡ Some (record { index = 1; which = Separation; value = 22; limit = 20 })
+by_deadline-late : first_excess 0 (table jittered).rows (round (table jittered).rows 1) ≡ Some
+    (record { index = 1; which = Separation; value = 22; limit = 20 })
 by_deadline-late = refl
 
 -- in the other order it isn't
@@ -124,7 +127,8 @@ late-c w meets most =
     let two-b : 2 ≤ div_ceil (w + 0) 12 = div_ceil-mono 15 (w + 0) 12 (omega (arith, meets, two-a, some-b)) in
     omega (arith, meets, three-a, two-b, most)
 
-ends-there : (own w : ℕ) (s t : Thread) → slice_get crowded.threads own ≡ Some s → slice_get crowded.threads own ≡ Some t → EndsLast crowded all own t w
+ends-there : (own w : ℕ) (s t : Thread) → slice_get crowded.threads own ≡ Some s → slice_get crowded.threads own ≡ Some t
+    → EndsLast crowded all own t w
     → EndsLast crowded all own s w
 ends-there own w s t here at ends = subst (λ u. EndsLast crowded all own u w) (same_Some t s (sym at ∙ here)) ends
 

@@ -43,7 +43,8 @@ pub table-rows : (f : Flat) (o : List ℕ) (t : ThreadTable) → t ≡ table_for
 table-rows f o t e = ap (λ (z : ThreadTable). z.rows) e
 
 -- a table for the priorities by an order
-pub ranks-table : (f : Flat) (o : List ℕ) (r : Ranks) (t : ThreadTable) → r ≡ ranks_by f o → t ≡ table_for f r.threads → t ≡ table_for f (priorities_by f o)
+pub ranks-table : (f : Flat) (o : List ℕ) (r : Ranks) (t : ThreadTable) → r ≡ ranks_by f o → t ≡ table_for f r.threads → t ≡ table_for f
+    (priorities_by f o)
 ranks-table f o r t e g = g ∙ ap (λ (z : Ranks). table_for f z.threads) e
 
 pub rows-enough : (f : Flat) (o : List ℕ) → IsOrder f o → (t : ThreadTable) → t ≡ table_for f (priorities_by f o) → length t.rows ≡ length o
@@ -102,7 +103,8 @@ module _ (f : Flat) (sound : IsSound f) (external : AllExternal f) (o : List ℕ
         (ends-last f o order m enough (get_or rows (free - 1) d) (last-row m e) j own w at (omega (arith, e, less))
         (subst (λ rs. EndsAt rs j (get_or rows (free - 1) d).block w) rows-e ends))
 
-    from-last : (j own : ℕ) → slice_get o j ≡ Some own → j < free → CanBeLast f (take free o) own → (w : ℕ) × EndsAt rows j (get_or rows (free - 1) d).block w
+    from-last : (j own : ℕ) → slice_get o j ≡ Some own → j < free → CanBeLast f (take free o) own → (w : ℕ) × EndsAt rows j (get_or rows
+        (free - 1) d).block w
     from-last j own at less last =
         let last' : CanBeLast f (take (suc m) o) own = subst (λ k. CanBeLast f (take k o) own) e last in (
           last'.1,

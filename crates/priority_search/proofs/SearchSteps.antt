@@ -1,5 +1,6 @@
 -- What the search finds: an order that is filled passes, and threads of which none can be last show that none does.
-use Rattle.std.specs.Prelude.{◌≡◌, ◌⊎◌, ℕ, zero, suc, ◌+◌, ◌-◌, ◌≤◌, ◌<◌, Bool, true, false, cond, List, [], ◌∷◌, ◌++◌, filter, length, take, slice_get, Some, None, refl}
+use Rattle.std.specs.Prelude.{◌≡◌, ◌⊎◌, ℕ, zero, suc, ◌+◌, ◌-◌, ◌≤◌, ◌<◌, Bool, true, false, cond, List, [], ◌∷◌, ◌++◌, filter, length, take}
+use Rattle.std.specs.Prelude.{slice_get, Some, None, refl}
 use Rattle.std.specs.List.{list_any, position_from, range_with_len}
 use Rattle.std.proofs.Common.{sym, ◌∙◌, ap, arith, inl, inr}
 use Rattle.std.proofs.lemmas.Bool.{or_from, cases_eq}
@@ -88,7 +89,8 @@ range-in m (suc n) k low high = by (cases_eq m k) (λ a b. range-in (m + 1) n k 
     by (inl e) more = inl e
     by (inr e) more = inr (more (omega (arith, low, e)) (omega (arith, high)))
 
-module _ (f : Flat) (sound : IsSound f) (external : AllExternal f) (o : List ℕ) (order : IsOrder f o) (left : ℕ) (some : 1 ≤ left) (most : left ≤ length o) where
+module _ (f : Flat) (sound : IsSound f) (external : AllExternal f) (o : List ℕ) (order : IsOrder f o) (left : ℕ) (some : 1 ≤ left)
+    (most : left ≤ length o) where
   abbrev these : List ℕ
   these = take left o
 

@@ -19,8 +19,8 @@ places-init c =
 pub places-preserved : goal.places-preserved
 places-preserved c =
     let found = rw c.in-Some.is at c.in_ok-next.ensures.found in
-    let kept = step-kept (flat_of c.args.basis.now.flat.now) c.requires.sound c.places.order.items c.move_back.new.order.items c.places.free c.in-Some.at
-    c.places.invariant.order c.places.invariant.falling c.places.invariant.filled c.places.invariant.few
+    let kept = step-kept (flat_of c.args.basis.now.flat.now) c.requires.sound c.places.order.items c.move_back.new.order.items c.places.free
+    c.in-Some.at c.places.invariant.order c.places.invariant.falling c.places.invariant.filled c.places.invariant.few
     (rw c.as_slice.ensures.value at found) c.in_ok-move_back-in-Some.ensures in
     record { order = kept.order; falling = kept.falling; filled = kept.filled; few = kept.few }
 

@@ -29,8 +29,11 @@ round-passes : (f : Flat) (order : List ℕ) (k : ℕ) → length (round (rows_b
 round-passes f order k long stays within =
     let P : List Bound → Type 0 = λ v. IsAtMost v (round (rows_by f order) k) in (
       round (rows_by f order) k,
-      ((long, subst P (sym stays) (at_most-refl (round (rows_by f order) k))), no_excess-within 0 (rows_by f order) (round
-          (rows_by f order) k) long within),
+      (
+        (long, subst P (sym stays) (at_most-refl (round (rows_by f order) k))),
+        no_excess-within 0 (rows_by f order) (round
+            (rows_by f order) k) long within,
+      ),
     )
 
 -- the thread of the longer deadline has a great jitter

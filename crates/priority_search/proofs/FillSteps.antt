@@ -33,7 +33,7 @@ next-lowest f o free at next falling = record {
 
 module _ (f : Flat) (sound : IsSound f) (o after : List ℕ) (free at : ℕ) (order : IsOrder f o) (some : suc free ≤ length o)
     (falling : AreByDeadline f (suc free) o) (filled : IsFilledFrom f (suc free) o) (next : IsNext f o (suc free) at)
-        (moves : IsMoved at free o after) where
+    (moves : IsMoved at free o after) where
   early : at ≤ free
   early = let q = next.inside in omega (arith, q)
 
@@ -61,15 +61,15 @@ module _ (f : Flat) (sound : IsSound f) (o after : List ℕ) (free at : ℕ) (or
       by : (free < i) ⊎ (i ≤ free) → IsLowest f (take (suc i) result) own
       by (inl beyond) =
           lowest-same f sound (take (suc i) o) (take (suc i) result) own (moved-same at free moves.0 o moves.1 early late (suc i) (omega
-              (arith, beyond)))
+          (arith, beyond)))
           (filled i own (omega (arith, beyond)) (sym (moved-beyond at free moves.0 o moves.1 early late i beyond) ∙ e))
       by (inr here) =
           let z : i ≡ free = omega (arith, low, here) in
           let own-is : next.place ≡ own = sym same-place ∙ same_Some moves.0 own (sym (moved-here at free moves.0 o moves.1 early late) ∙ ap
-              (slice_get result) (sym z) ∙ e) in
+          (slice_get result) (sym z) ∙ e) in
           let lowest : IsLowest f (take (suc free) result) next.place =
           lowest-same f sound (take (suc free) o) (take (suc free) result) next.place (moved-same at free moves.0 o moves.1 early late (suc free)
-              (omega arith))
+          (omega arith))
           (next-lowest f o (suc free) at next falling) in
           subst (λ k. IsLowest f (take (suc k) result) own) (sym z) (subst (IsLowest f (take (suc free) result)) own-is lowest)
 
@@ -102,7 +102,7 @@ step-kept f sound o after (suc free) at order falling filled few next moves =
       filled = step-filled f sound o after free at order few falling filled next moves';
       few =
           (let long : length after ≡ length o = ap length moves'.2 ∙ moved-long at free moves'.0 o moves'.1 (let q = next.inside in omega
-              (arith, q)) (omega (arith, few))
+          (arith, q)) (omega (arith, few))
           in omega (arith, long, few));
     } in
     subst (λ k. IsKept f k after) (sym z) kept

@@ -28,36 +28,36 @@ split_at-requires c =
 pub last_row-requires-clause-rows : goal.last_row-requires-clause-rows
 last_row-requires-clause-rows c =
     first-each (flat_of c.args.basis.now.flat.now) c.requires.sound c.requires.external c.args.order.now c.requires.order
-        (table_of c.in_ok-table.table)
+    (table_of c.in_ok-table.table)
     c.in_ok-table.ensures c.args.free c.requires.some c.requires.free c.split_at.result.0.now
-        (rw c.as_slice.ensures.value at c.split_at.ensures.front) d
+    (rw c.as_slice.ensures.value at c.split_at.ensures.front) d
 
 pub last_row-requires-clause-few : goal.last_row-requires-clause-few
 last_row-requires-clause-few c =
     first-few (flat_of c.args.basis.now.flat.now) c.requires.sound c.requires.external c.args.order.now c.requires.order
-        (table_of c.in_ok-table.table)
+    (table_of c.in_ok-table.table)
     c.in_ok-table.ensures c.args.free c.requires.some c.requires.free c.split_at.result.0.now
-        (rw c.as_slice.ensures.value at c.split_at.ensures.front) d
+    (rw c.as_slice.ensures.value at c.split_at.ensures.front) d
 
 pub last_row-requires-clause-block : goal.last_row-requires-clause-block
 last_row-requires-clause-block c =
     block-small (flat_of c.args.basis.now.flat.now) c.requires.sound c.requires.external c.args.order.now c.requires.order
-        (table_of c.in_ok-table.table)
+    (table_of c.in_ok-table.table)
     c.in_ok-table.ensures c.args.free c.requires.some c.requires.free c.split_at.result.0.now
-        (rw c.as_slice.ensures.value at c.split_at.ensures.front) d
+    (rw c.as_slice.ensures.value at c.split_at.ensures.front) d
 
 pub returns-clause-found : goal.returns-clause-found
 returns-clause-found c =
     IfSome_then c.last_row.result c.last_row.ensures.found
     (next-found (flat_of c.args.basis.now.flat.now) c.requires.sound c.requires.external c.args.order.now c.requires.order
-        (table_of c.in_ok-table.table)
+    (table_of c.in_ok-table.table)
     c.in_ok-table.ensures c.args.free c.requires.some c.requires.free c.split_at.result.0.now
-        (rw c.as_slice.ensures.value at c.split_at.ensures.front) d)
+    (rw c.as_slice.ensures.value at c.split_at.ensures.front) d)
 
 pub returns-clause-none : goal.returns-clause-none
 returns-clause-none c =
     IfNone_then c.last_row.result c.last_row.ensures.none
     (next-none (flat_of c.args.basis.now.flat.now) c.requires.sound c.requires.external c.args.order.now c.requires.order
-        (table_of c.in_ok-table.table)
+    (table_of c.in_ok-table.table)
     c.in_ok-table.ensures c.args.free c.requires.some c.requires.free c.split_at.result.0.now
-        (rw c.as_slice.ensures.value at c.split_at.ensures.front) d)
+    (rw c.as_slice.ensures.value at c.split_at.ensures.front) d)

@@ -1,0 +1,95 @@
+// The numbers of `analyse`, and what is reckoned of them.
+"use strict";
+
+/** The threads, each with its numbers, and the ceilings, of the lines that `analyse` writes. */
+function readBounds(text) {
+  const [threads, ceilings] = [[], []];
+  for (const line of text.trimEnd().split("\n")) {
+    const words = line.split(" ");
+    if (words[0] === "ceiling") ceilings.push({ name: words[1], ceiling: Number(words[2]) });
+    else {
+      const thread = { name: words[1] };
+      for (let index = 2; index < words.length; index += 2) thread[words[index]] = Number(words[index + 1]);
+      threads.push(thread);
+    }
+  }
+  return { threads, ceilings };
+}
+
+/** How long a tick is, where the design tells it. */
+function tickOf(design) {
+  const tick = /\btick\s*=\s*([\d_]+)\s*(us|ms|s)\b/i.exec(design.replace(/--[^\n]*/g, ""));
+  return tick === null ? null : `${tick[1]} ${tick[2]}`;
+}
+
+/** Of what a response is made: cost, blocking, and what each thread of greater priority takes. Empty where that is not its sum. */
+function whyOf(thread, threads) {
+  const above = threads.filter((other) => other.priority > thread.priority);
+  const parts = above.map((other) => ({ other, times: Math.ceil((thread.response + other.jitter) / other.period) }));
+  const sum = parts.reduce((whole, { other, times }) => whole + times * other.cost, thread.cost + thread.blocking);
+  if (sum !== thread.response) return "";
+  return [`cost ${thread.cost}`, `blocking ${thread.blocking}`, ...parts.map(({ other, times }) => `${other.name} ${times} × ${other.cost}`)].join(" + ");
+}
+
+/** The part of the processor that the threads take at most, as a percentage rounded up. */
+function utilisationOf(threads) {
+  const part = threads.reduce((whole, { cost, period }) => whole + cost / period, 0);
+  return `${(Math.ceil(part * 10000 - 1e-9) / 100).toFixed(2)} %`;
+}
+
+function cellOf(text, attributes = {}) {
+  return make("td", attributes, String(text));
+}
+
+/** A bar of the cost and the response within the deadline. */
+function barOf({ name, cost, response, deadline }) {
+  const width = 120;
+  const told = `cost ${cost} and response ${response} of deadline ${deadline}`;
+  const picture = draw("svg", { class: "meter", width, height: 14, role: "img", "aria-label": `${name}: ${told}` }, told);
+  const part = (kind, ticks) => draw("rect", { class: kind, x: 0, y: 2, width: Math.max(1, width * Math.min(1, ticks / deadline)), height: 10, rx: 2 });
+  picture.append(draw("rect", { class: "deadline", x: 0, y: 2, width, height: 10, rx: 2 }), part("response", response), part("cost", cost));
+  const cell = make("td", { class: "fill" });
+  cell.append(picture);
+  return cell;
+}
+
+function tableOf(caption, heads, rows) {
+  const head = make("tr", {}, ...heads.map((text) => make("th", { scope: "col" }, text)));
+  const body = rows.map(([name, ...cells]) => make("tr", {}, make("th", { scope: "row" }, name), ...cells.map((cell) => (cell instanceof Node ? cell : cellOf(cell)))));
+  return make("table", {}, make("caption", {}, caption), make("thead", {}, head), make("tbody", {}, ...body));
+}
+
+const HEADS = ["Thread", "Priority", "Period", "Deadline", "Jitter", "Cost", "Blocking", "Response", "Slack", "Of the deadline"];
+const WORDS = [
+  ["Response", "the longest time from a release to its end, whatever the arrivals and the branches that are taken: the bound that is proved"],
+  ["Period", "of a sporadic thread the least time between requests"],
+  ["Jitter", "how late a release may come"],
+  ["Blocking", "the longest that a thread of lower priority, inside an object, keeps this one waiting"],
+  ["Slack", "the deadline less the response; this, the bar, the sums and the percentage are reckoned by the page"],
+  ["Of the deadline", "dark the cost, paler the response, within the deadline"],
+  ["Ceiling", "the priority at which an object is entered"],
+];
+
+/** What the words of the tables mean. */
+function glossary() {
+  const entries = WORDS.map(([term, meaning]) => make("div", {}, make("dt", {}, term), make("dd", {}, `${meaning}.`)));
+  return make("dl", { class: "words" }, ...entries);
+}
+
+/** Of what each response is made, where it is the sum of that. */
+function whyList(threads) {
+  const items = threads.map((one) => [one, whyOf(one, threads)]).filter(([, why]) => why !== "");
+  return make("ul", { class: "why", "aria-label": "Of what each response is made" },
+    ...items.map(([one, why]) => make("li", {}, make("b", {}, `${one.name} ${one.response}`), ` = ${why}`)));
+}
+
+function boundsTables({ threads, ceilings }, tick) {
+  const least = threads.reduce((found, one) => (one.deadline - one.response < found.deadline - found.response ? one : found));
+  const ticks = tick === null ? "Times are ticks." : `Times are ticks of ${tick}.`;
+  const rows = threads.map((one) => [one.name, one.priority, one.period, one.deadline, one.jitter, one.cost, one.blocking, one.response,
+    one.deadline - one.response, barOf(one)]);
+  const slack = `The least slack is ${least.deadline - least.response} ticks, of ${least.name}.`;
+  const sums = make("p", { class: "sums" }, `${slack} Costs by periods come to ${utilisationOf(threads)} of the processor.`);
+  const objects = ceilings.length === 0 ? [] : [tableOf("Ceilings", ["Object", "Ceiling"], ceilings.map((one) => [one.name, one.ceiling]))];
+  return [tableOf(`Threads, by priority. ${ticks}`, HEADS, rows), sums, whyList(threads), ...objects, glossary()];
+}

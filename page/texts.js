@@ -1,0 +1,81 @@
+// The two texts: a text area each, with numbers of lines beside it and marks behind it.
+"use strict";
+
+const LINE = 19; // pixels, as in page.css
+
+class Editor {
+  constructor(area, changed) {
+    this.area = area;
+    this.numbers = area.closest(".editor").querySelector(".numbers");
+    this.marks = area.closest(".editor").querySelector(".marks");
+    this.mark = null;
+    this.rows = this.row = 0;
+    area.addEventListener("input", () => { this.show(null); changed(); });
+    area.addEventListener("scroll", () => this.follow());
+    area.addEventListener("keydown", (event) => this.indent(event));
+  }
+
+  /** Tab moves on as everywhere. Enter keeps the spaces at the head of the line. */
+  indent(event) {
+    if (event.key !== "Enter" || event.ctrlKey || event.altKey || event.isComposing) return;
+    const head = /(?:^|\n)([ \t]*)[^\n]*$/.exec(this.area.value.slice(0, this.area.selectionStart))?.[1];
+    if (!head) return;
+    event.preventDefault();
+    // So that the browser can undo it.
+    document.execCommand("insertText", false, `\n${head}`);
+  }
+
+  set(text) {
+    this.area.value = text;
+    this.area.scrollTop = 0;
+    this.show(null);
+  }
+
+  rowOf(index) {
+    return this.area.value.slice(0, index).split("\n").length;
+  }
+
+  /** Marks a place, or none. */
+  show(mark) {
+    this.mark = mark;
+    const text = this.area.value;
+    this.number(text.split("\n").length, mark === null ? 0 : this.rowOf(mark.index));
+    this.marks.replaceChildren();
+    if (mark !== null) {
+      const end = mark.index + Math.max(mark.length, 1);
+      const marked = document.createElement("mark");
+      marked.textContent = text.slice(mark.index, end).replace(/^$|^\n/, " \n");
+      // The last line has no height of its own without more behind it.
+      this.marks.append(text.slice(0, mark.index), marked, text.slice(end), "\n ");
+    }
+    this.area.setAttribute("aria-invalid", String(mark !== null));
+    this.follow();
+  }
+
+  /** Numbers so many rows, of which one may be marked. */
+  number(rows, row) {
+    if (rows === this.rows && row === this.row) return;
+    this.rows = rows;
+    this.row = row;
+    const from = (first, last) => Array.from({ length: Math.max(0, last - first + 1) }, (_, index) => `${first + index}\n`).join("");
+    const marked = document.createElement("b");
+    marked.textContent = `\u25b8${row}\n`;
+    this.numbers.replaceChildren(...(row === 0 ? [from(1, rows)] : [from(1, row - 1), marked, from(row + 1, rows)]), " ");
+  }
+
+  follow() {
+    this.numbers.scrollTop = this.area.scrollTop;
+    this.marks.scrollTop = this.area.scrollTop;
+    this.marks.scrollLeft = this.area.scrollLeft;
+  }
+
+  /** Brings the marked place into view, and selects it. */
+  go() {
+    if (this.mark === null) return;
+    const { index, length } = this.mark;
+    this.area.focus();
+    this.area.setSelectionRange(index, index + length);
+    this.area.scrollTop = Math.max(0, (this.rowOf(index) - 4) * LINE);
+    this.follow();
+  }
+}

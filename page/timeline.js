@@ -1,0 +1,228 @@
+// The tab of the timeline: a window of the trace, moved by mouse, keys and buttons, with what it shows as text too.
+"use strict";
+
+const MOST_EVENTS = 3000; // in a window, of which each is drawn
+const MOST_LINES = 1500000; // of a trace, of which a timeline is made
+const FIRST_EVENTS = 90;
+const LIST_LINES = 5000;
+
+const LEGEND = [
+  ["arrow", "release"], ["hollow", "release by a request from outside"], ["deadline", "deadline"], ["kept", "release to bound"], ["runs", "runs"],
+  ["object-0", "runs inside an object, at its ceiling"], ["waits", "ready, preempted"], ["blocked", "ready, blocked by lower priority"],
+  ["end", "end, response time"], ["diamond", "put"], ["request", "request"],
+];
+
+/** A small picture of a mark. */
+function markPicture(kind) {
+  const { root } = Object.assign(new Canvas(22, 22, ""), {});
+  const canvas = Object.assign(Object.create(Canvas.prototype), { root });
+  root.removeAttribute("role");
+  root.removeAttribute("aria-label");
+  root.setAttribute("aria-hidden", "true");
+  if (kind === "arrow" || kind === "hollow") {
+    canvas.path("arrow", "M11 21v-14");
+    canvas.path(kind === "hollow" ? "head hollow" : "head", "M11 1l-3.5 7h7z");
+  } else if (kind === "deadline") {
+    canvas.path("deadline", "M11 1v16");
+    canvas.path("deadline-head", "M11 21l-3.5 -7h7z");
+  } else if (kind === "kept") {
+    canvas.box("kept", 1, 2, 20, 18);
+    canvas.path("kept-end", "M21 2v18");
+  } else if (kind === "waits") canvas.box("waits", 1, 14, 20, 4);
+  else if (kind === "blocked") canvas.box("blocked", 1, 9, 20, 9);
+  else if (kind === "end") canvas.add("circle", { class: "end", cx: 11, cy: 11, r: 3.5 });
+  else if (kind === "diamond") canvas.path("diamond", "M11 6l4 5l-4 5l-4-5z");
+  else if (kind === "request") canvas.path("request", "M11 0v22");
+  else canvas.box(`part ${kind}`, 1, kind === "runs" ? 5 : 1, 20, kind === "runs" ? 13 : 18);
+  return root;
+}
+
+function legend() {
+  return make("div", { class: "legend" }, ...LEGEND.map(([kind, words]) => {
+    const made = make("span", { class: "key" });
+    made.append(markPicture(kind), words);
+    return made;
+  }));
+}
+
+class Timeline {
+  constructor(panel, style) {
+    this.panel = panel;
+    this.style = style;
+    this.trace = null;
+    this.from = 0;
+    this.to = 1;
+    this.moves = {
+      Earlier: () => this.move(this.from - this.span() / 2),
+      Later: () => this.move(this.from + this.span() / 2),
+      Closer: () => this.scale(0.5),
+      Wider: () => this.scale(2),
+      Whole: () => this.window(0, this.trace.last),
+    };
+    this.holder = make("div", { class: "holder", tabindex: "0", role: "group", id: "window", "aria-label": "Timeline. The arrow keys move it, plus and minus change its size, 0 shows all." });
+    this.list = make("pre", { class: "text", tabindex: "0", "aria-label": "Who runs when" });
+    this.details = make("details", {}, make("summary", {}, "Who runs when, as text"), this.list);
+    this.listen();
+  }
+
+  listen() {
+    const keys = { ArrowLeft: "Earlier", ArrowRight: "Later", "+": "Closer", "=": "Closer", "-": "Wider", "0": "Whole" };
+    this.holder.addEventListener("keydown", (event) => {
+      const name = event.ctrlKey || event.altKey || event.metaKey ? undefined : keys[event.key];
+      if (name === undefined || this.trace === null) return;
+      event.preventDefault();
+      this.moves[name]();
+    });
+    this.holder.addEventListener("pointerdown", (event) => this.drag(event));
+    this.holder.addEventListener("dblclick", (event) => this.scale(event.shiftKey ? 2 : 0.5, this.tickAt(event.clientX)));
+    this.holder.addEventListener("wheel", (event) => this.turn(event), { passive: false });
+    this.details.addEventListener("toggle", () => this.showList());
+  }
+
+  span() {
+    return this.to - this.from;
+  }
+
+  /** The tick at a place of the screen. */
+  tickAt(place) {
+    const box = this.holder.getBoundingClientRect();
+    const left = leftOf(box.width);
+    return this.from + ((place - box.left - left) / (box.width - left - RIGHT)) * this.span();
+  }
+
+  /** The window follows the mouse while its button is held. */
+  drag(event) {
+    if (event.button !== 0 || this.trace === null) return;
+    const [start, from] = [event.clientX, this.from];
+    const ticks = this.tickAt(1) - this.tickAt(0);
+    const moved = ({ clientX }) => this.move(from - (clientX - start) * ticks);
+    this.holder.setPointerCapture(event.pointerId);
+    this.holder.addEventListener("pointermove", moved);
+    const end = () => this.holder.removeEventListener("pointermove", moved);
+    this.holder.addEventListener("pointerup", end, { once: true });
+    this.holder.addEventListener("pointercancel", end, { once: true });
+  }
+
+  /** The wheel moves the page as everywhere; with Ctrl it changes the size, and sideways or with Shift it moves the window. */
+  turn(event) {
+    if (this.trace === null) return;
+    const isSideways = event.shiftKey || Math.abs(event.deltaX) > Math.abs(event.deltaY);
+    if (!event.ctrlKey && !isSideways) return;
+    event.preventDefault();
+    const by = event.deltaX !== 0 ? event.deltaX : event.deltaY;
+    if (event.ctrlKey) this.scale(event.deltaY > 0 ? 1.25 : 0.8, this.tickAt(event.clientX));
+    else this.move(this.from + (Math.sign(by) * this.span()) / 8);
+  }
+
+  scale(factor, at = (this.from + this.to) / 2) {
+    const from = at - (at - this.from) * factor;
+    this.window(from, from + this.span() * factor);
+  }
+
+  /** Shows another window of the same size. */
+  move(from) {
+    this.window(from, from + this.span());
+  }
+
+  /** Shows the window, or the nearest to it that the trace has. */
+  window(from, to) {
+    const most = Math.max(1, this.trace.last);
+    const span = Math.max(1, Math.min(most, Math.round(to - from)));
+    this.from = Math.round(Math.max(0, Math.min(from, most - span)));
+    this.to = this.from + span;
+    this.render();
+  }
+
+  tell(words) {
+    this.trace = null;
+    this.panel.replaceChildren(make("p", { class: "note" }, words));
+  }
+
+  /** Takes a trace, of the Ada text that was run. The window stays where the trace is as long as the one before. */
+  take(ada, lines, isOther) {
+    const before = this.trace?.last;
+    try {
+      const program = readProgram(ada);
+      this.trace = new Trace(program, lines.slice(0, MOST_LINES));
+    } catch (fault) {
+      return this.tell(`There is no timeline: ${fault.message}.`);
+    }
+    this.isCut = lines.length > MOST_LINES;
+    if (isOther || before !== this.trace.last || this.to > this.trace.last) {
+      this.from = 0;
+      this.to = Math.max(1, this.trace.events[Math.min(FIRST_EVENTS, this.trace.events.length - 1)].time);
+    }
+    this.build();
+  }
+
+  build() {
+    const buttons = Object.keys(this.moves).map((name) => {
+      const button = make("button", { type: "button" }, name);
+      button.addEventListener("click", () => this.moves[name]());
+      return button;
+    });
+    this.inputs = ["from", "to"].map((name) => {
+      const input = make("input", { type: "number", min: 0, max: this.trace.last, id: `window-${name}` });
+      input.addEventListener("change", () => this.read());
+      return input;
+    });
+    const [from, to] = this.inputs;
+    const save = saveButton("timeline.svg", () => this.picture());
+    const cut = this.isCut ? [make("p", { class: "note" }, `The timeline is of the first ${MOST_LINES} lines of the trace.`)] : [];
+    this.note = make("p", { class: "note" });
+    this.panel.replaceChildren(make("div", { class: "tools" }, save, ...buttons, make("label", {}, "from ", from), make("label", {}, "to ", to),
+      `of ${this.trace.last} ticks`), ...cut, this.holder, this.note, legend(), this.details, this.totals());
+    this.render();
+  }
+
+  read() {
+    const [from, to] = this.inputs.map((input) => Math.max(0, Math.round(Number(input.value)) || 0));
+    this.window(Math.min(from, to - 1), Math.max(to, from + 1));
+  }
+
+  render() {
+    if (this.trace === null || this.panel.hidden) return;
+    const [from, to] = this.inputs;
+    [from.value, to.value] = [this.from, this.to];
+    const width = Math.max(360, this.holder.clientWidth || this.panel.clientWidth - 30);
+    const isFar = this.trace.countBetween(this.from, this.to) > MOST_EVENTS;
+    try {
+      this.run = isFar ? null : new Run(this.trace, this.from, this.to);
+      this.holder.replaceChildren(isFar ? new Heights(this.trace, this.from, this.to, width).draw() : new Chart(this.run, width).draw());
+      this.note.textContent = isFar
+        ? "Too much happens here to be drawn: each height is the greatest response of what is released there, before the bound. Go closer to see who runs."
+        : "Drag to move, double-click to go closer; Ctrl and the wheel change the size. Who runs follows from the trace; that is tested, and not proved.";
+    } catch (fault) {
+      this.run = null;
+      this.holder.replaceChildren();
+      this.note.textContent = `This window can't be drawn: ${fault.message}.`;
+    }
+    this.showList();
+  }
+
+  showList() {
+    if (!this.details.open) return;
+    const lines = this.run === null ? ["Go closer to see who runs."] : listed(this.run);
+    this.list.textContent = lines.slice(0, LIST_LINES).join("\n") + (lines.length > LIST_LINES ? `\n\u2026 ${lines.length - LIST_LINES} more` : "");
+  }
+
+  /** A table of the whole trace. */
+  totals() {
+    const rows = tasksByPriority(this.trace.program).map((task) => {
+      const { releases, ends, greatest, overBound } = this.trace.totals.get(task.name);
+      return [task.name, task.kind(), task.priority, task.bound ?? "-", greatest ?? "-", releases, ends, overBound];
+    });
+    return tableOf(`The whole trace: ${this.trace.events.length} lines, up to tick ${this.trace.last}`,
+      ["Task", "Kind", "Priority", "Bound", "Greatest response", "Releases", "Ends", "Late ends"], rows);
+  }
+
+  /** The picture as a file, which needs nothing of the page. */
+  picture() {
+    const copy = this.holder.querySelector("svg")?.cloneNode(true) ?? draw("svg", {});
+    const rules = draw("style", {});
+    rules.textContent = this.style;
+    copy.prepend(rules);
+    copy.setAttribute("xmlns", SVG);
+    return new XMLSerializer().serializeToString(copy);
+  }
+}

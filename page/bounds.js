@@ -61,7 +61,7 @@ function tableOf(caption, heads, rows) {
 
 const HEADS = ["Thread", "Priority", "Period", "Deadline", "Jitter", "Cost", "Blocking", "Response", "Slack", "Of the deadline"];
 const WORDS = [
-  ["Response", "the longest time from a release to its end, whatever the arrivals and the branches that are taken: the bound that is proved"],
+  ["Response", "the bound that is proved: each activation ends within so many ticks of its release, whatever the arrivals and the branches taken"],
   ["Period", "of a sporadic thread the least time between requests"],
   ["Jitter", "how late a release may come"],
   ["Blocking", "the longest that a thread of lower priority, inside an object, keeps this one waiting"],

@@ -94,7 +94,8 @@ function showMark(mark) {
 }
 
 function showRefusal({ err }, texts, before) {
-  const line = err.trimEnd();
+  // Where memory is wanted before the run begins, no line tells it.
+  const line = err.trimEnd() || "no memory";
   const mark = markOf(line, texts);
   showMark(mark);
   const [head, hint] = plain(line);

@@ -124,7 +124,7 @@ function showAnswers(texts, { bounds, count, verified, generated }) {
       tell("good", [met, ""], `${objects} objects, ${threads} threads; answered in ${milliseconds} ms`);
       takeTrace(verified.out);
     } else {
-      showRefusal(verified, texts, `${met} But there is no run: `);
+      showRefusal(verified, texts, `${met} There is no run with these arrivals. `);
       state.ada = generated.out;
     }
   }
@@ -227,6 +227,14 @@ async function format() {
   return later();
 }
 
+/** Begins with the design that the help shows. */
+function takeSkeleton() {
+  at("how").close();
+  show({ design: at("skeleton").textContent, arrivals: "UNTIL 300;\n" });
+  again();
+  at("design").focus();
+}
+
 function goToMark() {
   for (const editor of Object.values(editors)) editor.go();
 }
@@ -257,6 +265,7 @@ function listenToButtons() {
   at("format").addEventListener("click", format);
   at("help").addEventListener("click", () => at("how").showModal());
   at("close").addEventListener("click", () => at("how").close());
+  at("take").addEventListener("click", takeSkeleton);
   document.addEventListener("click", (event) => { if (event.target.id === "cut") runs.start(); });
   window.addEventListener("resize", () => timeline.render());
 }

@@ -28,7 +28,8 @@ function whyOf(thread, threads) {
   const parts = above.map((other) => ({ other, times: Math.ceil((thread.response + other.jitter) / other.period) }));
   const sum = parts.reduce((whole, { other, times }) => whole + times * other.cost, thread.cost + thread.blocking);
   if (sum !== thread.response) return "";
-  return [`cost ${thread.cost}`, `blocking ${thread.blocking}`, ...parts.map(({ other, times }) => `${other.name} ${times} × ${other.cost}`)].join(" + ");
+  const taken = parts.map(({ other, times }) => `${other.name} ${times} × ${other.cost}`);
+  return [`cost ${thread.cost}`, `blocking ${thread.blocking}`, ...taken].join(" + ");
 }
 
 /** The part of the processor that the threads take at most, as a percentage rounded up. */
@@ -46,7 +47,8 @@ function barOf({ name, cost, response, deadline }) {
   const width = 120;
   const told = `cost ${cost} and response ${response} of deadline ${deadline}`;
   const picture = draw("svg", { class: "meter", width, height: 14, role: "img", "aria-label": `${name}: ${told}` }, told);
-  const part = (kind, ticks) => draw("rect", { class: kind, x: 0, y: 2, width: Math.max(1, width * Math.min(1, ticks / deadline)), height: 10, rx: 2 });
+  const part = (kind, ticks) =>
+    draw("rect", { class: kind, x: 0, y: 2, width: Math.max(1, width * Math.min(1, ticks / deadline)), height: 10, rx: 2 });
   picture.append(draw("rect", { class: "deadline", x: 0, y: 2, width, height: 10, rx: 2 }), part("response", response), part("cost", cost));
   const cell = make("td", { class: "fill" });
   cell.append(picture);
@@ -55,7 +57,8 @@ function barOf({ name, cost, response, deadline }) {
 
 function tableOf(caption, heads, rows) {
   const head = make("tr", {}, ...heads.map((text) => make("th", { scope: "col" }, text)));
-  const body = rows.map(([name, ...cells]) => make("tr", {}, make("th", { scope: "row" }, name), ...cells.map((cell) => (cell instanceof Node ? cell : cellOf(cell)))));
+  const body = rows.map(([name, ...cells]) =>
+    make("tr", {}, make("th", { scope: "row" }, name), ...cells.map((cell) => (cell instanceof Node ? cell : cellOf(cell)))));
   return make("table", {}, make("caption", {}, caption), make("thead", {}, head), make("tbody", {}, ...body));
 }
 

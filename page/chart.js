@@ -163,7 +163,8 @@ class Chart {
       this.canvas.text(8, y - 20, short(task.name, most), "name");
       const span = task.period === null || most < 20 ? "" : `, ${task.isCyclic ? "period" : "separation"} ${task.period}`;
       this.canvas.text(8, y - 7, `priority ${task.priority}${span}`, "small");
-      const limits = [["deadline", task.deadline], ["bound", task.bound]].filter(([, ticks]) => ticks !== null && (most > 20 || ticks === task.bound));
+      const known = [["deadline", task.deadline], ["bound", task.bound]].filter(([, ticks]) => ticks !== null);
+      const limits = most < 20 ? known.slice(-1) : known;
       this.canvas.text(8, y + 5, limits.map((limit) => limit.join(" ")).join(", "), "small");
     }
     for (const name of this.objects) {
@@ -209,7 +210,8 @@ class Chart {
   }
 
   titleOf({ start, end, task, object, isRequest, rivals }) {
-    const where = object === null ? "" : ` ${isRequest ? "storing a request of" : "inside"} ${object} at priority ${this.program.ceilings.get(object)}`;
+    const ceiling = this.program.ceilings.get(object);
+    const where = object === null ? "" : ` ${isRequest ? "storing a request of" : "inside"} ${object} at priority ${ceiling}`;
     const doubt = rivals.length === 0 ? "" : `, or ${rivals.join(" or ")}, if it was storing a request`;
     return `${start} to ${end}: ${task} runs${where}${doubt}`;
   }
@@ -303,7 +305,8 @@ class Heights {
     this.left = leftOf(width);
     this.scale = (width - this.left - RIGHT) / (this.end - this.start);
     const height = TOP + LANE * this.tasks.length + 14;
-    this.canvas = new Canvas(width, height, `The greatest responses from tick ${this.start} to ${this.end}; the table below tells them of the whole trace`);
+    const name = `The greatest responses from tick ${this.start} to ${this.end}; the table below tells them of the whole trace`;
+    this.canvas = new Canvas(width, height, name);
     this.base = new Map(this.tasks.map((task, index) => [task.name, TOP + LANE * (index + 1) - 14]));
     this.bottom = height - 14;
   }

@@ -121,7 +121,7 @@ function showAnswers(texts, { bounds, count, verified, generated }) {
     if (verified.status === 0) {
       showMark(null);
       const milliseconds = Math.round(bounds.milliseconds + count.milliseconds + verified.milliseconds);
-      tell("good", [met, ""], `${objects} objects, ${threads} threads; answered in ${milliseconds} ms`);
+      tell("good", [met, ""], `objects ${objects}, threads ${threads}; answered in ${milliseconds} ms`);
       takeTrace(verified.out);
     } else {
       showRefusal(verified, texts, `${met} There is no run with these arrivals. `);
@@ -173,7 +173,8 @@ function showTrace() {
   if (state.trace === null) return panel.replaceChildren(make("p", { class: "note" }, "There is no trace while a text is refused."));
   const { lines, text } = state.trace;
   const names = state.bounds.threads.map((thread) => thread.name);
-  const pick = make("select", { "aria-label": "Lines of which task" }, make("option", { value: "" }, "all tasks"), ...names.map((name) => make("option", {}, name)));
+  const options = [make("option", { value: "" }, "all tasks"), ...names.map((name) => make("option", {}, name))];
+  const pick = make("select", { "aria-label": "Lines of which task" }, ...options);
   const holder = make("div", {});
   const show = () => {
     const chosen = pick.value === "" ? lines : lines.filter((line) => line.split(" ").slice(2).includes(pick.value));
@@ -309,7 +310,8 @@ function firstTexts() {
   return Object.values(EXAMPLES)[0];
 }
 
-const NEEDS = "This browser can't run the program: it needs WebAssembly with a memory of 64 bits, as Chromium has from 133 on and Firefox from 134 on.";
+const NEEDS = "This browser can't run the program: it needs WebAssembly with a memory of 64 bits, "
+  + "as Chromium has from 133 on and Firefox from 134 on.";
 
 listenToTabs();
 listenToButtons();

@@ -6,6 +6,11 @@ const MOST_LINES = 1500000; // of a trace, of which a timeline is made
 const FIRST_EVENTS = 90;
 const LIST_LINES = 5000;
 
+const FAR = "Too much happens here to be drawn: each height is the greatest response of what is released there, before the bound. "
+  + "Go closer to see who runs.";
+const NEAR = "Drag to move, double-click to go closer; Ctrl and the wheel change the size. "
+  + "Who runs follows from the trace; that is tested, and not proved.";
+
 const LEGEND = [
   ["arrow", "release"], ["hollow", "release by a request from outside"], ["deadline", "deadline"], ["kept", "release to bound"], ["runs", "runs"],
   ["object-0", "runs inside an object, at its ceiling"], ["waits", "ready, preempted"], ["blocked", "ready, blocked by lower priority"],
@@ -59,7 +64,8 @@ class Timeline {
       Wider: () => this.scale(2),
       Whole: () => this.window(0, this.trace.last),
     };
-    this.holder = make("div", { class: "holder", tabindex: "0", role: "group", id: "window", "aria-label": "Timeline. The arrow keys move it, plus and minus change its size, 0 shows all." });
+    const name = "Timeline. The arrow keys move it, plus and minus change its size, 0 shows all.";
+    this.holder = make("div", { class: "holder", tabindex: "0", role: "group", id: "window", "aria-label": name });
     this.list = make("pre", { class: "text", tabindex: "0", "aria-label": "Who runs when" });
     this.details = make("details", {}, make("summary", {}, "Who runs when, as text"), this.list);
     this.listen();
@@ -189,9 +195,7 @@ class Timeline {
     try {
       this.run = isFar ? null : new Run(this.trace, this.from, this.to);
       this.holder.replaceChildren(isFar ? new Heights(this.trace, this.from, this.to, width).draw() : new Chart(this.run, width).draw());
-      this.note.textContent = isFar
-        ? "Too much happens here to be drawn: each height is the greatest response of what is released there, before the bound. Go closer to see who runs."
-        : "Drag to move, double-click to go closer; Ctrl and the wheel change the size. Who runs follows from the trace; that is tested, and not proved.";
+      this.note.textContent = isFar ? FAR : NEAR;
     } catch (fault) {
       this.run = null;
       this.holder.replaceChildren();

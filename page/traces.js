@@ -563,7 +563,10 @@ class Run {
       }
       for (const name of ready.keys()) {
         if (open.has(name)) open.get(name).end = end;
-        else if (name !== runner) open.set(name, { start, end, task: name, runner, isBlocked: tasks.get(name).priority > tasks.get(runner).priority });
+        else if (name !== runner) {
+          const isBlocked = tasks.get(name).priority > tasks.get(runner).priority;
+          open.set(name, { start, end, task: name, runner, isBlocked });
+        }
       }
     }
     return [...done, ...open.values()];

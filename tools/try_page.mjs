@@ -29,9 +29,9 @@ const judge = (isRight, what) => {
   failed++;
   console.log(`FAILED ${what}`);
 };
-const same = (found, wanted, what) => judge(JSON.stringify(found) === JSON.stringify(wanted), `${what}: ${JSON.stringify(found)} and not ${JSON.stringify(wanted)}`);
-const read = (name) => readFileSync(join(EXAMPLES, name), "utf8");
 const js = JSON.stringify;
+const same = (found, wanted, what) => judge(js(found) === js(wanted), `${what}: ${js(found)} and not ${js(wanted)}`);
+const read = (name) => readFileSync(join(EXAMPLES, name), "utf8");
 
 // ---- What the program answers ----
 
@@ -150,7 +150,8 @@ function judgeMark(told, line, kind, name) {
   if (wanted.bytes !== undefined) same(Buffer.byteLength(before), wanted.bytes, `${name}: ${line} is marked`);
   else if (wanted.line !== undefined) same(before.split("\n").length, wanted.line, `${name}: ${line} is marked`);
   else same(told.marked.toLowerCase().replace(/\s+/g, ""), wanted.marked.toLowerCase(), `${name}: ${line} is marked`);
-  if (wanted.behind !== undefined) judge(new RegExp(`${wanted.behind}\\s+$`).test(bare(before)), `${name}: ${line} is marked at its ${wanted.behind}`);
+  if (wanted.behind === undefined) return;
+  judge(new RegExp(`${wanted.behind}\\s+$`).test(bare(before)), `${name}: ${line} is marked at its ${wanted.behind}`);
 }
 
 async function tryMarks(page) {
@@ -181,10 +182,13 @@ async function tryTyping(page) {
   same((await shown(page)).line, "refused S1 design line 1 column 1", "what was typed is refused");
   await page.evaluate("document.getElementById('tab-bounds').focus()");
   await page.press("g", 1, "KeyG");
-  same(await page.evaluate("[document.activeElement.id, document.activeElement.selectionStart, document.activeElement.selectionEnd]"), ["design", 0, 8],
-    "Alt and G select the marked place");
-  await page.evaluate("document.execCommand('undo')");
-  await page.evaluate("(() => { const area = document.getElementById('design'); area.value = area.value.replace(/^xy/, ''); area.dispatchEvent(new Event('input')); })()");
+  const selected = "(() => { const { id, selectionStart, selectionEnd } = document.activeElement; return [id, selectionStart, selectionEnd]; })()";
+  same(await page.evaluate(selected), ["design", 0, 8], "Alt and G select the marked place");
+  await page.evaluate(`(() => {
+    const area = document.getElementById("design");
+    area.value = area.value.replace(/^xy/, "");
+    area.dispatchEvent(new Event("input"));
+  })()`);
   await page.until("document.querySelector('#verdict.good')", 30);
 }
 
@@ -242,7 +246,8 @@ async function tryWindow(page) {
   await page.press("0");
   same(await at(), [0, 600], "the window shows all");
   await page.evaluate("timeline.window(100, 200)");
-  const box = await page.evaluate("(() => { const box = document.getElementById('window').getBoundingClientRect(); return { x: box.left + 300, y: box.top + 60 }; })()");
+  const place = "(({ left, top }) => ({ x: left + 300, y: top + 60 }))(document.getElementById('window').getBoundingClientRect())";
+  const box = await page.evaluate(place);
   const mouse = (type, x) => page.page("Input.dispatchMouseEvent", { type, x, y: box.y, button: "left", buttons: 1, clickCount: 1 });
   await mouse("mousePressed", box.x);
   for (const by of [20, 60, 120]) await mouse("mouseMoved", box.x - by);
@@ -257,10 +262,12 @@ async function trySaves(browser, page) {
   await set(page, { design: read("mine_pump.design"), arrivals: read("one_water_alarm.arrivals") });
   const verified = answerOf(["verify", "mine_pump.design", "one_water_alarm.arrivals"]).out.toString();
   const cut = verified.indexOf("-- trace\n");
-  const wanted = { "bounds.txt": answerOf(["analyse", "mine_pump.design"]).out.toString(), "trace.txt": verified.slice(cut + 9), "design.ada": verified.slice(0, cut) };
+  const analysed = answerOf(["analyse", "mine_pump.design"]).out.toString();
+  const wanted = { "bounds.txt": analysed, "trace.txt": verified.slice(cut + 9), "design.ada": verified.slice(0, cut) };
   const saves = [["bounds", "bounds.txt"], ["timeline", "timeline.svg"], ["trace", "trace.txt"], ["ada", "design.ada"]];
   for (const [tab, name] of saves) {
-    await page.evaluate(`(() => { document.getElementById('tab-${tab}').click(); document.querySelector('#panel-${tab} .tools button').click(); })()`);
+    await page.evaluate(`document.getElementById('tab-${tab}').click()`);
+    await page.evaluate(`document.querySelector('#panel-${tab} .tools button').click()`);
     for (const end = Date.now() + 20000; Date.now() < end && !existsSync(join(room, name)); ) await new Promise((done) => setTimeout(done, 50));
     const text = existsSync(join(room, name)) ? readFileSync(join(room, name), "utf8") : "";
     if (wanted[name] !== undefined) judge(text === wanted[name], `${name} is saved as the program writes it`);
@@ -273,12 +280,14 @@ async function trySaves(browser, page) {
 
 /** A design of about so many bytes, whose threads and passive objects have long bodies. */
 function largeDesign(bytes) {
-  const parts = ["DESIGN large IS\nCOSTS ASSIGN = 1; TEST = 1; TURN = 1; CALL = 2; NULL = 1; PUT = 1; FINISH = 1; END COSTS;\nOBJECT whole IS ACTIVE\nOBJECTS\n"];
+  const costs = "COSTS ASSIGN = 1; TEST = 1; TURN = 1; CALL = 2; NULL = 1; PUT = 1; FINISH = 1; END COSTS;";
+  const parts = [`DESIGN large IS\n${costs}\nOBJECT whole IS ACTIVE\nOBJECTS\n`];
   const names = Array.from({ length: 460 }, (_, index) => `p${index}`);
   const body = "  r := v * 3 + 5; if r > 9 then r := r / 2; else r := r + 1; end if;\n";
   const turns = Math.floor((bytes - 30000) / names.length / body.length) - 1;
   for (const name of names) {
-    parts.push(`OBJECT ${name} IS PASSIVE\nPROVIDES act (v : in word; r : out word);\nOPERATION act IS BEGIN\n${body.repeat(turns)}END act;\nEND ${name};\n`);
+    parts.push(`OBJECT ${name} IS PASSIVE\nPROVIDES act (v : in word; r : out word);\n`
+      + `OPERATION act IS BEGIN\n${body.repeat(turns)}END act;\nEND ${name};\n`);
   }
   for (let index = 0; index < 30; index++) {
     parts.push(`OBJECT t${index} IS CYCLIC\nATTRIBUTES PERIOD = ${100000 + index}; DEADLINE = ${100000 + index}; THREAD_BUDGET = 3000;\n`
@@ -352,10 +361,10 @@ async function tryKeyboard(page) {
   const reached = new Set();
   for (let turn = 0; turn < 60; turn++) {
     await page.press("Tab");
-    reached.add(await page.evaluate("document.activeElement.id || document.activeElement.getAttribute('aria-label') || document.activeElement.textContent.trim()"));
+    reached.add(await page.evaluate("(({ id, ariaLabel, textContent }) => id || ariaLabel || textContent.trim())(document.activeElement)"));
   }
-  const controls = ["example", "help", "Open a design", "Save the design", "format", "design", "Open arrivals", "arrivals", "tab-timeline", "panel-timeline",
-    "Earlier", "Later", "Whole", "window-from", "window"];
+  const controls = ["example", "help", "Open a design", "Save the design", "format", "design", "Open arrivals", "arrivals", "tab-timeline",
+    "panel-timeline", "Earlier", "Later", "Whole", "window-from", "window"];
   for (const name of controls) judge(reached.has(name), `the Tab key reaches ${name}`);
   await page.page("Accessibility.enable");
   const { nodes } = await page.page("Accessibility.getFullAXTree");
@@ -365,7 +374,8 @@ async function tryKeyboard(page) {
   judge(focusable.length > 20, "controls");
   await page.evaluate("document.getElementById('tab-timeline').focus()");
   await page.press("ArrowRight");
-  same(await page.evaluate("[document.activeElement.id, document.getElementById('panel-trace').hidden]"), ["tab-trace", false], "an arrow key goes to the next tab");
+  const chosen = await page.evaluate("[document.activeElement.id, document.getElementById('panel-trace').hidden]");
+  same(chosen, ["tab-trace", false], "an arrow key goes to the next tab");
 }
 
 const CONTRAST = `(() => {
@@ -385,9 +395,11 @@ const CONTRAST = `(() => {
     const isSvg = element instanceof SVGElement;
     if (!hasText || element.closest(".marks, script, style, [hidden], defs, title") || element.getClientRects().length === 0) continue;
     const style = getComputedStyle(element);
-    const [one, other] = [light(parse(isSvg ? style.fill : style.color)), light(isSvg && element.matches(".inside") ? [34, 34, 34] : ground(element))];
+    // Words inside a box have an edge of their own.
+    const behind = isSvg && element.matches(".inside") ? [34, 34, 34] : ground(element);
+    const [one, other] = [light(parse(isSvg ? style.fill : style.color)), light(behind)];
     const ratio = (Math.max(one, other) + 0.05) / (Math.min(one, other) + 0.05);
-    if (ratio < 4.5) low.push(element.tagName + "." + element.getAttribute("class") + " " + ratio.toFixed(2) + " " + element.textContent.slice(0, 30));
+    if (ratio < 4.5) low.push([element.tagName, element.getAttribute("class"), ratio.toFixed(2), element.textContent.slice(0, 30)].join(" "));
   }
   return low;
 })()`;
@@ -421,7 +433,8 @@ async function tryQuiet(page) {
   same(asked.filter((url) => !/^(file|blob|data):/.test(url)), [], "requests");
   same(await page.evaluate("Object.keys(localStorage)"), ["lafomizana"], "what is kept");
   same(await page.evaluate("fetch('https://example.invalid/').then(() => 'sent', () => 'refused')"), "refused", "a request of the page itself");
-  const faults = page.heard.filter((event) => event.method === "Runtime.exceptionThrown").map((event) => event.params.exceptionDetails.exception?.description);
+  const thrown = page.heard.filter((event) => event.method === "Runtime.exceptionThrown");
+  const faults = thrown.map((event) => event.params.exceptionDetails.exception?.description);
   same(faults, [], "exceptions");
 }
 

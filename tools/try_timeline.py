@@ -224,7 +224,8 @@ def main():
     failed = list(differences(cases))
     for name, part in failed:
         print('%s: %s' % (name, part))
-    doubtful = sum(' or ' in line for case in cases for line in chart.listed(traces.Run(traces.read_program(case['ada']), case['lines'], 0, 10 ** 9)).splitlines())
+    whole = [chart.listed(traces.Run(traces.read_program(case['ada']), case['lines'], 0, 10 ** 9)) for case in cases]
+    doubtful = sum(' or ' in line for lines in whole for line in lines.splitlines())
     windows = sum(len(case['windows']) for case in cases)
     print('%d traces, %d windows, %d pieces in doubt, %d differ' % (len(cases), windows, doubtful, len(failed)))
     sys.exit(1 if failed or not cases else 0)

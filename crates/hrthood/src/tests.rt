@@ -14,6 +14,7 @@ mod large;
 mod replays;
 mod rows;
 mod samples;
+mod searches;
 mod sections;
 mod shapes;
 mod started;

@@ -20,6 +20,9 @@ pub mod Replaying
 pub mod VerifyLaws
 pub mod Verified
 pub mod SampleLaws
+pub mod SearchLaws
+pub mod OneOrder
+pub mod SearchSteps
 pub mod Summed
 pub mod Gathering
 mod Examples

@@ -12,6 +12,8 @@ pub mod Replays
 pub mod RightTraces
 pub mod Verifies
 pub mod Samples
+pub mod Searches
+pub mod DeadlineReports
 pub mod Commands
 pub mod Ends
 pub mod Exact

@@ -12,6 +12,7 @@ use crate::format::format;
 use crate::generate::generate;
 use crate::replay::replay;
 use crate::sample::write_sample;
+use crate::search::search;
 use crate::status::Status;
 use crate::verify::verify;
 use hood_io::{Shelf, Sink};
@@ -36,6 +37,7 @@ fn do_on_design<F: Shelf, O: Sink, E: Sink>(
         DesignVerb::Analyse => analyse(alloc, design, shelf, out, err),
         DesignVerb::Format => format(alloc, design, shelf, out, err),
         DesignVerb::Generate => generate(alloc, design, shelf, out, err),
+        DesignVerb::Search => search(alloc, design, shelf, out, err),
     }
 }
 

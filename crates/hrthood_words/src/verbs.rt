@@ -13,6 +13,8 @@ pub enum DesignVerb {
     Format,
     /// Make its Ada text.
     Generate,
+    /// Look for a priority order under which it passes.
+    Search,
 }
 
 /// The operands that a verb asks for, and which of the verbs that ask for these it is, where there are several.
@@ -29,7 +31,7 @@ pub enum Shape {
 }
 
 /// The verbs in the order of the usage line, each as it is written, with what it asks for.
-pub const VERBS: [(&str, Shape); 7] = [
+pub const VERBS: [(&str, Shape); 8] = [
     ("check", Shape::Design(DesignVerb::Check)),
     ("analyse", Shape::Design(DesignVerb::Analyse)),
     ("format", Shape::Design(DesignVerb::Format)),
@@ -37,6 +39,7 @@ pub const VERBS: [(&str, Shape); 7] = [
     ("replay", Shape::AdaArrivals),
     ("verify", Shape::DesignArrivals),
     ("sample", Shape::Count),
+    ("search", Shape::Design(DesignVerb::Search)),
 ];
 
 /// The operands of a shape in the usage line, a letter each, with a space before it.

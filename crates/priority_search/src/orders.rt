@@ -57,8 +57,9 @@ fn priority_in(order: &[u32], place: u32) -> u32
     0
 }
 
-/// The priorities by an order, of threads at places up to a number.
-fn priorities_up_to(alloc: Global, order: &[u32], count: u32) -> Result<Vec<u32>, NoMemory>
+/// The priorities by an order of the threads at places below `count`: one more than the number of threads that the order has behind
+/// each. `NoMemory` comes for want of memory alone.
+pub fn priorities_up_to(alloc: Global, order: &[u32], count: u32) -> Result<Vec<u32>, NoMemory>
     requires { length order.now ≤ 30 }
     ensures { IfOk result (λ v. v.items ≡ map (priority_in order.now) (range_with_len 0 count)) }
 {

@@ -1,0 +1,123 @@
+-- The lines of an order that was found, names of threads, and what is written of them.
+use Rattle.std.proofs.Common.{◌≡◌, ℕ, zero, suc, ◌+◌, ◌<◌, ◌≤◌, List, [], ◌∷◌, ◌++◌, Bool, true, false, cond, codes, length, map, take, drop, get_or, Option, Some}
+use Rattle.std.proofs.Common.{None, if◌then◌else◌, ◌==◌, refl, sym, ap, subst, ◌∙◌, arith, append_assoc, drop-cons, add-one, append-nil}
+use Rattle.std.proofs.lemmas.List.{drop_all}
+use Rattle.std.specs.List.{position_from, range_with_len}
+use Rattle.seq_tree.specs.Lists.{Each}
+use Rattle.seq_tree.specs.Names.{Name}
+use Rattle.hood_io.specs.Sinks.{Appends}
+use Rattle.ods_tree.specs.Designs.{Design}
+use Rattle.ods_tree.specs.Flats.{Flat}
+use Rattle.ods_tree.specs.Flattening.{flat}
+use Rattle.ods_tree.specs.Ticks.{first_priority}
+use Rattle.rt_response.specs.declared.rows.Bound.{Bound}
+use Rattle.rt_response.specs.declared.rows.ThreadRow.{ThreadRow}
+use Rattle.analysis.specs.Ceilings.{Ranks, ranks_for}
+use Rattle.analysis.specs.Sound.{IsSound}
+use Rattle.analysis.specs.Tables.{ThreadTable, table_for}
+use Rattle.order_laws.specs.Orders.{IsOrder, priority_in, priorities_by, ranks_by, rows_by}
+use Rattle.order_laws.proofs.OrderRows.{places-are}
+use Rattle.priority_search.proofs.NextSteps.{order-few}
+use Rattle.trace_text.specs.declared.bound.NamedBound.{NamedBound}
+use Rattle.design_bounds.specs.declared.rows.CeilingRow.{CeilingRow}
+use Rattle.design_bounds.specs.Rows.{named_bounds_by, ceiling_rows_by}
+use Rattle.hrthood_top.specs.Analyses.{report}
+use Rattle.hrthood_top.specs.Searches.{names_text, report_by}
+use Rattle.hrthood_top.proofs.Pieces.{IsWritten, next-written, part-written, none-left}
+
+-- THE LINES OF AN ORDER
+
+-- priorities by an order are small
+in-most : (o : List ℕ) (k : ℕ) → priority_in o k ≤ length o
+in-most [] k = omega arith
+in-most (x ∷ o) k = by (x == k) (in-most o k)
+  where
+    by : (b : Bool) → priority_in o k ≤ length o → cond b (suc (length o)) (priority_in o k) ≤ suc (length o)
+    by true h = omega arith
+    by false h = omega (arith, h)
+
+each-small : (o ks : List ℕ) → length o ≤ 30 → Each (λ n. n ≤ 31) (map (priority_in o) ks)
+each-small o [] few = tt
+each-small o (k ∷ ks) few = ((let most = in-most o k in omega (arith, most, few)), each-small o ks few)
+
+pub small-by : (f : Flat) (o ps : List ℕ) → IsSound f → IsOrder f o → ps ≡ priorities_by f o → Each (λ n. n ≤ 31) ps
+small-by f o ps sound order e =
+    let P : List ℕ → Type 0 = λ qs. Each (λ n. n ≤ 31) qs in
+    subst P (sym e) (each-small o (range_with_len 0 (length f.threads)) (order-few f sound o order))
+
+-- what was found is the table by the order
+pub table-by : (f : Flat) (o ps : List ℕ) (rows : List ThreadRow) → IsOrder f o → ps ≡ priorities_by f o → rows ≡ rows_by f o
+    → ◌≡◌ {A = ThreadTable} (record { rows = rows; places = o }) (table_for f ps)
+table-by f o ps rows order e h =
+    let T : List ThreadRow → List ℕ → ThreadTable = λ rs qs. record { rows = rs; places = qs } in
+    ap (λ rs. T rs o) h ∙ ap (λ qs. T (rows_by f o) qs) (sym (places-are f o order)) ∙ ap (table_for f) (sym e)
+
+-- and these are the ceilings by it
+pub ranks-by : (f : Flat) (o ps shared obcs : List ℕ) → ps ≡ priorities_by f o → shared ≡ (ranks_by f o).shared → obcs ≡ (ranks_by f o).obcs
+    → ◌≡◌ {A = Ranks} (record { threads = ps; shared = shared; obcs = obcs }) (ranks_for f ps)
+ranks-by f o ps shared obcs e g h =
+    let R : List ℕ → List ℕ → List ℕ → Ranks = λ a b c. record { threads = a; shared = b; obcs = c } in
+    ap (λ b. R ps b obcs) g ∙ ap (λ c. R ps (ranks_by f o).shared c) h ∙ ap (λ qs. R qs (ranks_by f o).shared (ranks_by f o).obcs) e
+    ∙ ap (ranks_for f) (sym e)
+
+-- the priorities that are worked out are those by the order
+pub priorities-are : (f : Flat) (o slice : List ℕ) (count : ℕ) (ps : List ℕ) → slice ≡ o → count ≡ length f.threads
+    → ps ≡ map (priority_in slice) (range_with_len 0 count) → ps ≡ priorities_by f o
+priorities-are f o slice count ps same long e =
+    e ∙ ap (λ s. map (priority_in s) (range_with_len 0 count)) same ∙ ap (λ n. map (priority_in o) (range_with_len 0 n)) long
+
+-- what is reported are the lines for the order
+pub told-by : (first : ℕ) (f : Flat) (o ps : List ℕ) (v u : List Bound) (ns ms : List NamedBound) (cs ds : List CeilingRow) → ps ≡ priorities_by f o
+    → u ≡ v → ns ≡ named_bounds_by first f ps u → ms ≡ ns → cs ≡ ceiling_rows_by first f ps → ds ≡ cs → report ms ds ≡ report_by first f o v
+told-by first f o ps v u ns ms cs ds same bounds named slice ceilings slice' =
+    ap (λ z. report z ds) (slice ∙ named) ∙ ap (report (named_bounds_by first f ps u)) (slice' ∙ ceilings)
+    ∙ ap (λ z. report (named_bounds_by first f ps z) (ceiling_rows_by first f ps)) bounds
+    ∙ ap (λ qs. report (named_bounds_by first f qs v) (ceiling_rows_by first f qs)) same
+
+-- NAMES
+
+-- the first place that passes a test is one of the list
+pub found-within : {A : Type 0} (test : A → Bool) (n k : ℕ) (xs : List A) → position_from test n xs ≡ Some k → k < n + length xs
+found-within test n k [] e = absurd (cc e)
+found-within {A} test n k (x ∷ xs) e = by (test x) e (found-within test (n + 1) k xs)
+  where
+    by : (b : Bool) → cond b (Some n) (position_from test (n + 1) xs) ≡ Some k → (position_from test (n + 1) xs ≡ Some k → k < n + 1 + length xs)
+        → k < n + suc (length xs)
+    by true g more = (let z : n ≡ k = cc g in omega (arith, z))
+    by false g more = let r = more g in omega (arith, r)
+
+-- the names from one on
+abbrev pub left_of : List Name → ℕ → List ℕ
+left_of names i = names_text (drop i names)
+
+names-next : (names : List Name) (i : ℕ) (d : Name) → i < length names
+    → left_of names i ≡ (codes " " ++ (get_or names i d ++ codes "")) ++ left_of names (i + 1)
+names-next names i d h =
+    let next : left_of names i ≡ (codes " " ++ get_or names i d) ++ left_of names (i + 1) = rw (drop-cons names i d, add-one) refl in
+    next ∙ ap (λ z. (codes " " ++ z) ++ left_of names (i + 1)) (sym (append-nil (get_or names i d)))
+
+at-name : (a b : Option (List ℕ)) (names : List Name) (i : ℕ) (d : Name) → i < length names → IsWritten a b (left_of names i) (names_text names)
+    → IsWritten a b ((codes " " ++ (get_or names i d ++ codes "")) ++ left_of names (i + 1)) (names_text names)
+at-name a b names i d h w = let I : List ℕ → Type 0 = λ z. IsWritten a b z (names_text names) in subst I (names-next names i d h) w
+
+-- one more name is written
+pub one-name : (a b c : Option (List ℕ)) (names : List Name) (i : ℕ) (d : Name) → i < length names
+    → IsWritten a b (left_of names i) (names_text names) → Appends b c (codes " " ++ (get_or names i d ++ codes ""))
+    → IsWritten a c (left_of names (i + 1)) (names_text names)
+one-name a b c names i d h w here =
+    next-written a b c (codes " " ++ (get_or names i d ++ codes "")) (left_of names (i + 1)) (names_text names) (at-name a b names i d h w) here
+
+-- a name that is written in part leaves a proper front of them all
+pub part-of-name : (a b c : Option (List ℕ)) (names : List Name) (i : ℕ) (d : Name) → i < length names
+    → IsWritten a b (left_of names i) (names_text names)
+    → (n : ℕ) × (n < length (codes " " ++ (get_or names i d ++ codes ""))) × Appends b c (take n (codes " " ++ (get_or names i d ++ codes "")))
+    → (k : ℕ) × (k < length (names_text names)) × Appends a c (take k (names_text names))
+part-of-name a b c names i d h w part =
+    part-written a b c (codes " " ++ (get_or names i d ++ codes "")) (left_of names (i + 1)) (names_text names) (at-name a b names i d h w) part
+
+-- all names are written
+pub all-names : (a b : Option (List ℕ)) (names : List Name) (i : ℕ) → length names ≤ i → IsWritten a b (left_of names i) (names_text names)
+    → Appends a b (names_text names)
+all-names a b names i h w =
+    let I : List Name → Type 0 = λ z. IsWritten a b (names_text z) (names_text names) in
+    none-left a b (names_text names) (subst I (drop_all i names h) w)

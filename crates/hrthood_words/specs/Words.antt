@@ -7,6 +7,7 @@ use Rattle.std.specs.Char.{is_ascii_digit}
 use Rattle.std.specs.Str.{bytes_eq}
 use Rattle.hrthood_words.specs.declared.verbs.DesignVerb.{DesignVerb}
 use Rattle.hrthood_words.specs.declared.verbs.DesignVerb.TheVariants.{Check, Analyse, Format, Generate, Search}
+use Rattle.hrthood_words.specs.declared.verbs.DesignVerb.TheVariants.{Check, Analyse, Format, Generate, Scale}
 use Rattle.hrthood_words.specs.declared.verbs.Shape.{Shape}
 use Rattle.hrthood_words.specs.declared.verbs.Shape.TheVariants.{Design, AdaArrivals, DesignArrivals, Count}
 
@@ -26,6 +27,7 @@ verbs = (codes "check", Design Check)
     ∷ (codes "verify", DesignArrivals)
     ∷ (codes "sample", Count)
     ∷ (codes "search", Design Search)
+    ∷ (codes "scale", Design Scale)
     ∷ []
 
 -- what the first of these verbs asks for that is written so, where there is one

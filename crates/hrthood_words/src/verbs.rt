@@ -15,6 +15,8 @@ pub enum DesignVerb {
     Generate,
     /// Look for a priority order under which it passes.
     Search,
+    /// Find how far its `work` may grow.
+    Scale,
 }
 
 /// The operands that a verb asks for, and which of the verbs that ask for these it is, where there are several.
@@ -40,6 +42,7 @@ pub const VERBS: [(&str, Shape); 8] = [
     ("verify", Shape::DesignArrivals),
     ("sample", Shape::Count),
     ("search", Shape::Design(DesignVerb::Search)),
+    ("scale", Shape::Design(DesignVerb::Scale)),
 ];
 
 /// The operands of a shape in the usage line, a letter each, with a space before it.

@@ -15,6 +15,7 @@ mod replays;
 mod rows;
 mod samples;
 mod searches;
+mod scales;
 mod sections;
 mod shapes;
 mod started;

@@ -23,6 +23,7 @@ pub mod SampleLaws
 pub mod SearchLaws
 pub mod OneOrder
 pub mod SearchSteps
+pub mod ScaleLaws
 pub mod Summed
 pub mod Gathering
 mod Examples

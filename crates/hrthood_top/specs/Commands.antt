@@ -2,6 +2,7 @@
 use Rattle.std.specs.Prelude.{ℕ, List}
 use Rattle.hrthood_words.specs.declared.verbs.DesignVerb.{DesignVerb}
 use Rattle.hrthood_words.specs.declared.verbs.DesignVerb.TheVariants.{Check, Analyse, Format, Generate, Search}
+use Rattle.hrthood_words.specs.declared.verbs.DesignVerb.TheVariants.{Check, Analyse, Format, Generate, Scale}
 use Rattle.hrthood_words.specs.Words.{Command, OnDesign, Replay, Verify, Sample}
 use Rattle.hrthood_top.specs.Verbs.{Verb}
 use Rattle.hrthood_top.specs.Analyses.{analyses}
@@ -11,6 +12,7 @@ use Rattle.hrthood_top.specs.Generates.{generates}
 use Rattle.hrthood_top.specs.Replays.{replays}
 use Rattle.hrthood_top.specs.Samples.{samples}
 use Rattle.hrthood_top.specs.Searches.{searches}
+use Rattle.hrthood_top.specs.Scales.{scales}
 use Rattle.hrthood_top.specs.Verifies.{verifies}
 
 -- a verb that asks for a design alone
@@ -20,6 +22,7 @@ design_verb Analyse design = analyses design
 design_verb Format design = formats design
 design_verb Generate design = generates design
 design_verb Search design = searches design
+design_verb Scale design = scales design
 
 -- the verb of a command
 abbrev pub verb_of : Command → Verb

@@ -14,6 +14,7 @@ pub mod Verifies
 pub mod Samples
 pub mod Searches
 pub mod DeadlineReports
+pub mod Scales
 pub mod Commands
 pub mod Ends
 pub mod Exact

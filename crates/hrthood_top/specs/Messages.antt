@@ -94,11 +94,15 @@ abbrev pub limit_text : Limit → List ℕ
 limit_text Deadline = codes "U1 "
 limit_text Separation = codes "U2 "
 
--- the line of a value of a thread that is over its limit
+-- a value of a thread that is over its limit, at the end of a line
+abbrev pub miss_text : Name → rows.Miss → List ℕ
+miss_text thread m =
+    limit_text m.which ++ (thread ++ (codes " value " ++ (decimal m.value ++ (codes " limit " ++ (decimal m.limit
+    ++ (codes " round " ++ (decimal m.round ++ codes "\n")))))))
+
+-- the line of such a value where nothing is made for it
 abbrev pub miss_line : Name → rows.Miss → List ℕ
-miss_line thread m =
-    codes "refused " ++ (limit_text m.which ++ (thread ++ (codes " value " ++ (decimal m.value ++ (codes " limit " ++ (decimal m.limit
-    ++ (codes " round " ++ (decimal m.round ++ codes "\n"))))))))
+miss_line thread m = codes "refused " ++ miss_text thread m
 
 -- a place in a file of a kind, at the end of a line
 abbrev pub place_text : FileKind → Place → List ℕ

@@ -14,7 +14,7 @@ use seq_check::BodyFault;
 use seq_tree::{Name, OpName};
 
 /// The code of a limit.
-fn limit_text<'a>(limit: Limit) -> &'a [u8]
+pub(crate) fn limit_text<'a>(limit: Limit) -> &'a [u8]
     ensures { result.now ≡ limit_text limit }
 {
     match limit {
@@ -24,7 +24,7 @@ fn limit_text<'a>(limit: Limit) -> &'a [u8]
 }
 
 /// A part of an object: the operation, or the thread.
-fn part_text(part: &Option<Name>) -> &[u8]
+pub(crate) fn part_text(part: &Option<Name>) -> &[u8]
     ensures { result.now ≡ part_text part.now }
 {
     match part {

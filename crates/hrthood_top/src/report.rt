@@ -8,7 +8,7 @@ use std::alloc::Global;
 use trace_text::NamedBound;
 
 /// Adds a word and a number.
-fn add_number(text: &mut Vec<u8>, label: &[u8], number: u32) -> Result<(), NoMemory>
+pub(crate) fn add_number(text: &mut Vec<u8>, label: &[u8], number: u32) -> Result<(), NoMemory>
     ensures { OnOk result (text.new.items ≡ text.old.items ++ labelled label.now number) }
 {
     let mut digits = Buffer::new();

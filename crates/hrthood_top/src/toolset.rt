@@ -13,6 +13,7 @@ use crate::generate::generate;
 use crate::replay::replay;
 use crate::sample::write_sample;
 use crate::search::search;
+use crate::scale::scale;
 use crate::status::Status;
 use crate::verify::verify;
 use hood_io::{Shelf, Sink};
@@ -38,6 +39,7 @@ fn do_on_design<F: Shelf, O: Sink, E: Sink>(
         DesignVerb::Format => format(alloc, design, shelf, out, err),
         DesignVerb::Generate => generate(alloc, design, shelf, out, err),
         DesignVerb::Search => search(alloc, design, shelf, out, err),
+        DesignVerb::Scale => scale(alloc, design, shelf, out, err),
     }
 }
 

@@ -5,7 +5,7 @@ use Rattle.std.specs.Prelude.{unwrap_or}
 use Rattle.hood_io.specs.Shelves.{Told}
 use Rattle.hrthood_top.specs.declared.status.Status.{Status}
 use Rattle.hrthood_top.specs.declared.status.Status.TheVariants.{Done, Refused, Usage, ReadFault, WriteFault, NoMemory}
-use Rattle.hrthood_words.specs.declared.verbs.DesignVerb.TheVariants.{Check, Analyse, Format, Generate}
+use Rattle.hrthood_words.specs.declared.verbs.DesignVerb.TheVariants.{Check, Analyse, Format, Generate, Scale}
 use Rattle.hrthood_words.specs.Words.{Command, OnDesign, Replay, Verify, Sample, command_of}
 use Rattle.hrthood_top.specs.Commands.{verb_of}
 use Rattle.hrthood_top.specs.Analyses.{analyses}
@@ -14,6 +14,7 @@ use Rattle.hrthood_top.specs.Formats.{formats}
 use Rattle.hrthood_top.specs.Generates.{generates}
 use Rattle.hrthood_top.specs.Replays.{replays}
 use Rattle.hrthood_top.specs.Samples.{samples}
+use Rattle.hrthood_top.specs.Scales.{scales}
 use Rattle.hrthood_top.specs.Verifies.{verifies}
 use Rattle.hrthood_top.specs.Exits.{exit_status}
 use Rattle.hrthood_top.specs.Ends.{Outside, Ends, EndsVerb, Completes, CompletesVerb}
@@ -27,6 +28,9 @@ commands : map words ((codes "check" ∷ codes "d" ∷ []) ∷ (codes "analyse" 
     ≡ Some (OnDesign Check (codes "d")) ∷ Some (OnDesign Analyse (codes "d")) ∷ Some (OnDesign Format (codes "d")) ∷ Some (OnDesign Generate (codes "d"))
     ∷ Some (Replay (codes "a") (codes "r")) ∷ Some (Verify (codes "d") (codes "r")) ∷ []
 commands = refl
+
+scale_command : words (codes "scale" ∷ codes "d" ∷ []) ≡ Some (OnDesign Scale (codes "d"))
+scale_command = refl
 
 -- from 1 to 30 threads, by one digit or two
 samples_of : map (λ count. words (codes "sample" ∷ count ∷ [])) (codes "1" ∷ codes "01" ∷ codes "30" ∷ codes "0" ∷ codes "31" ∷ codes "007"
@@ -54,6 +58,9 @@ format_verb d = refl
 
 generate_verb : (d : List ℕ) → verb_of (OnDesign Generate d) ≡ generates d
 generate_verb d = refl
+
+scale_verb : (d : List ℕ) → verb_of (OnDesign Scale d) ≡ scales d
+scale_verb d = refl
 
 replay_verb : (a r : List ℕ) → verb_of (Replay a r) ≡ replays a r
 replay_verb a r = refl
@@ -88,6 +95,7 @@ start = record {
 
 abbrev usage_line : List ℕ
 usage_line = codes "usage: hrthood check D | analyse D | format D | generate D | replay A R | verify D R | sample N | search D\n"
+usage_line = codes "usage: hrthood check D | analyse D | format D | generate D | replay A R | verify D R | sample N | scale D\n"
 
 usage : Ends Usage None start (record start { err = Some usage_line })
 usage = (refl, refl, inl refl)

@@ -112,6 +112,7 @@ const TOLD: &[&str] = &[
     "words: check
     status: usage
     err: usage: hrthood check D | analyse D | format D | generate D | replay A R | verify D R | sample N | search D",
+    err: usage: hrthood check D | analyse D | format D | generate D | replay A R | verify D R | sample N | scale D",
     "words: check x
     status: read fault
     err: fault reading x",

@@ -1,0 +1,103 @@
+-- That the verb `scale` refuses a design for one reason, and none that meets the rules and holds at one per mille.
+use Rattle.std.proofs.Common.{◌≡◌, ℕ, List, Some, subst, sym, ap, ◌∙◌}
+use Rattle.seq_tree.specs.Names.{Name}
+use Rattle.ods_tree.specs.Designs as designs
+use Rattle.ods_tree.specs.Flattening.{flat}
+use Rattle.ods_tree.specs.Reading.{Reads}
+use Rattle.ods_tree.specs.Ticks.{in_ticks}
+use Rattle.rt_response.specs.declared.rows.Miss as rows
+use Rattle.analysis.specs.Sound.{IsSound}
+use Rattle.analysis.specs.Tables.{table}
+use Rattle.design_programs.proofs.SoundDesigns.{flat-sound}
+use Rattle.design_bounds.specs.Analyses.{IsMissed}
+use Rattle.design_bounds.specs.Rows.{name_of_row}
+use Rattle.scaling_laws.specs.Scaling.{scaled}
+use Rattle.scaling_laws.specs.Holding.{Holds}
+use Rattle.scaling.specs.Margins.{IsMargin, HasNoMargin}
+use Rattle.scaling.specs.declared.margin.Margin.{Margin}
+use Rattle.scaling.specs.declared.margin.Next.TheVariants as next
+use Rattle.hrthood_top.specs.declared.file_kind.FileKind.TheVariants.{Design}
+use Rattle.hrthood_top.specs.declared.scale.ScaleRefusal.{ScaleRefusal}
+use Rattle.hrthood_top.specs.declared.scale.ScaleRefusal.TheVariants.{Text, Rule, Miss}
+use Rattle.hrthood_top.specs.Scales.{CanScale, HoldsNowhere, IsScaled, RefusesScale, margin_lines, scales}
+use Rattle.hrthood_top.specs.Taking.{IsTakenAs}
+use Rattle.hrthood_top.proofs.OneDesign.{one-design, no-fault, one-fault, no-rule, one-rule}
+use Rattle.hrthood_top.proofs.OneRule.{one-at, one-miss}
+use Rattle.hrthood_top.proofs.VerbLaws.{IsExact, never-stops}
+
+-- WHAT THE CODE MAKES OF A DESIGN THAT IS TAKEN
+
+-- its flat design is sound
+pub sound-taken : (bytes : List ℕ) (x : designs.Design) → IsTakenAs bytes x → IsSound (flat x)
+sound-taken bytes x w =
+    let S : designs.Design → Type 0 = λ z. IsSound (flat z) in subst S (sym w.ticked) (flat-sound w.design (in_ticks w.design) w.meets)
+
+-- its margin is told
+pub scaled-as : (bytes lines : List ℕ) (x : designs.Design) (m : Margin) → IsTakenAs bytes x → IsMargin (flat x) m × Holds (flat x) 1
+    → lines ≡ margin_lines m → IsScaled bytes lines
+scaled-as bytes lines x m w h e =
+    let M : designs.Design → Type 0 = λ z. IsMargin (flat z) m in
+    let H : designs.Design → Type 0 = λ z. Holds (flat z) 1 in
+    record {
+      design = w.design;
+      reads = w.reads;
+      meets = w.meets;
+      margin = m;
+      right = subst M w.ticked h.0;
+      holds = subst H w.ticked h.1;
+      told = e;
+    }
+
+-- or the value for which it has none
+pub holds-nowhere : (bytes : List ℕ) (x : designs.Design) (thread : Name) (m : rows.Miss) → IsTakenAs bytes x
+    → HasNoMargin (flat x) (next.Miss thread m) → HoldsNowhere bytes thread m
+holds-nowhere bytes x thread m w h =
+    let N : designs.Design → Type 0 = λ z. HasNoMargin (flat z) (next.Miss thread m) in
+    record { design = w.design; reads = w.reads; meets = w.meets; without = subst N w.ticked h }
+
+-- WHAT REFUSES
+
+can_or_refuses : (bytes bytes' : List ℕ) → bytes ≡ bytes' → CanScale bytes → (r : ScaleRefusal) → RefusesScale bytes' r → ⊥
+can_or_refuses bytes bytes' same w (Text found) h = no-fault bytes' w.design found (subst (λ z. Reads z w.design) same w.reads) h
+can_or_refuses bytes bytes' same w (Rule broken) h = no-rule bytes' broken w.design h (subst (λ z. Reads z w.design) same w.reads) w.meets
+can_or_refuses bytes bytes' same w (Miss thread miss) h =
+    let one : w.design ≡ h.design = one-design bytes' w.design h.design (subst (λ z. Reads z w.design) same w.reads) h.reads in
+    let H : designs.Design → Type 0 = λ z. Holds (flat (in_ticks z)) 1 in
+    h.without.holds (subst H one w.holds)
+
+-- there is one value over its limit at one per mille, and it is that of one thread
+one_over : (bytes : List ℕ) (thread other : Name) (m n : rows.Miss) → HoldsNowhere bytes thread m → HoldsNowhere bytes other n
+    → ◌≡◌ {A = ScaleRefusal} (Miss thread m) (Miss other n)
+one_over bytes thread other m n h k =
+    let M : designs.Design → Type 0 = λ z. IsMissed (scaled 1 (flat (in_ticks z))) thread m in
+    let here : IsMissed (scaled 1 (flat (in_ticks k.design))) thread m
+    = subst M (one-design bytes h.design k.design h.reads k.reads) h.without.fails.1 in
+    let there : IsMissed (scaled 1 (flat (in_ticks k.design))) other n = k.without.fails.1 in
+    let miss : m ≡ n = one-miss (table (scaled 1 (flat (in_ticks k.design)))).rows m n here.first there.first in
+    let called : name_of_row (scaled 1 (flat (in_ticks k.design))) n.index ≡ Some thread
+    = ap (λ z. name_of_row (scaled 1 (flat (in_ticks k.design))) z.index) (sym miss) ∙ here.called in
+    ap (λ z. Miss z m) (one-at _ thread other called there.called) ∙ ap (λ z. Miss other z) miss
+
+one_refusal : (bytes : List ℕ) (r q : ScaleRefusal) → RefusesScale bytes r → RefusesScale bytes q → r ≡ q
+one_refusal bytes (Text f) (Text g) h k = ap Text (one-fault bytes f g h k)
+one_refusal bytes (Text f) (Rule broken) h k = absurd (no-fault bytes k.design f k.reads h)
+one_refusal bytes (Text f) (Miss thread miss) h k = absurd (no-fault bytes k.design f k.reads h)
+one_refusal bytes (Rule broken) (Text f) h k = absurd (no-fault bytes h.design f h.reads k)
+one_refusal bytes (Rule broken) (Rule other) h k = ap Rule (one-rule bytes broken other h k)
+one_refusal bytes (Rule broken) (Miss thread miss) h k = absurd (no-rule bytes broken k.design h k.reads k.meets)
+one_refusal bytes (Miss thread miss) (Text f) h k = absurd (no-fault bytes h.design f h.reads k)
+one_refusal bytes (Miss thread miss) (Rule broken) h k = absurd (no-rule bytes broken h.design k h.reads h.meets)
+one_refusal bytes (Miss thread m) (Miss other n) h k = one_over bytes thread other m n h k
+
+can_make : (bytes made : List ℕ) → IsScaled bytes made → CanScale bytes
+can_make bytes made w = record { design = w.design; reads = w.reads; meets = w.meets; holds = w.holds }
+
+pub scales-exact : (design : List ℕ) → IsExact (scales design)
+scales-exact design = record {
+  one = λ a b same r q h k. one_refusal (b Design) r q (subst (λ z. RefusesScale z r) same.0 h) k;
+  able = λ a b same w r h. can_or_refuses (a Design) (b Design) same.0 w r h;
+  made = λ a made w. can_make (a Design) made w;
+  stops = never-stops (scales design) (λ texts text stop h. h);
+}
+
+pub ruleset scale_laws = (sound-taken, scaled-as, holds-nowhere)

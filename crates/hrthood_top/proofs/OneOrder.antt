@@ -32,13 +32,13 @@ priorities-same f =
     let o = (table f).places in
     let order = deadline-order f in
     lists-same (priorities_by f o) (priorities_of f) (priorities-long f o order ∙ sym (tabled.long f 1)) (λ k x y e g.
-        let less : k < n = (let a = slice_get_within (priorities_by f o) k x e in let b = priorities-long f o order in omega (arith, a, b)) in
-        let i = order-has n o order k less in
-        let one : priority_in o k ≡ x = same_Some (priority_in o k) x (sym (priority-at f o order k less) ∙ e) in
-        let two = priority-of f o order i.0 k i.1 in
-        let there = priority-there f i.0 k i.1 in
-        let three : n - i.0 ≡ y = same_Some (n - i.0) y (sym there.1 ∙ g) in
-        omega (arith, one, two, three))
+    let less : k < n = (let a = slice_get_within (priorities_by f o) k x e in let b = priorities-long f o order in omega (arith, a, b)) in
+    let i = order-has n o order k less in
+    let one : priority_in o k ≡ x = same_Some (priority_in o k) x (sym (priority-at f o order k less) ∙ e) in
+    let two = priority-of f o order i.0 k i.1 in
+    let there = priority-there f i.0 k i.1 in
+    let three : n - i.0 ≡ y = same_Some (n - i.0) y (sym there.1 ∙ g) in
+    omega (arith, one, two, three))
 
 -- bounds by deadlines are a vector by which the order of deadlines passes
 passes-so : (f : Flat) (v : List Bound) → Fits (table f).rows v → Passes f (table f).places
@@ -64,6 +64,6 @@ pub writes-as-analysed : WritesAsAnalysed
 writes-as-analysed bytes lines others w a =
     let x = a.made.design in
     writes-by-deadline bytes lines (in_ticks x) a.made.bounds w (record { design = x; reads = a.made.reads; meets = a.made.meets; ticked = refl })
-        a.made.least
+    a.made.least
     ∙ ap (λ n. report (named_bounds n (flat (in_ticks x)) a.made.bounds) (ceiling_rows n (flat (in_ticks x)))) (ticks-first x)
     ∙ sym a.told

@@ -1,8 +1,7 @@
 -- The verb that a command asks for, with its files.
 use Rattle.std.specs.Prelude.{ℕ, List}
 use Rattle.hrthood_words.specs.declared.verbs.DesignVerb.{DesignVerb}
-use Rattle.hrthood_words.specs.declared.verbs.DesignVerb.TheVariants.{Check, Analyse, Format, Generate, Search}
-use Rattle.hrthood_words.specs.declared.verbs.DesignVerb.TheVariants.{Check, Analyse, Format, Generate, Scale}
+use Rattle.hrthood_words.specs.declared.verbs.DesignVerb.TheVariants.{Check, Analyse, Format, Generate, Search, Scale}
 use Rattle.hrthood_words.specs.Words.{Command, OnDesign, Replay, Verify, Sample}
 use Rattle.hrthood_top.specs.Verbs.{Verb}
 use Rattle.hrthood_top.specs.Analyses.{analyses}

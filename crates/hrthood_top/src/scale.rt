@@ -24,8 +24,7 @@ use ods_flat::flatten;
 use ods_rules::{Broken, Checked};
 use rt_order::order;
 use rt_response::Miss;
-use scaling::scale as scale_flat;
-use scaling::{Margin, ScaleFault};
+use scaling::{Margin, ScaleFault, scale as scale_flat};
 use seq_tree::{Name, NoMemory, TextFault};
 use std::alloc::Global;
 

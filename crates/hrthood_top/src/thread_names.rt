@@ -48,11 +48,7 @@ fn add_name(alloc: Global, flat: &Flat, place: u32, into: &mut Vec<Name>) -> Res
 }
 
 /// The names of the threads at these places of a flat design. `NoMemory` comes for want of memory alone.
-pub(crate) fn names_at(
-    alloc: Global,
-    flat: &Flat,
-    places: &[u32],
-) -> Result<ThreadNames, NoMemory>
+pub(crate) fn names_at(alloc: Global, flat: &Flat, places: &[u32]) -> Result<ThreadNames, NoMemory>
     ensures { IfOk result (λ n. n ≡ names_at (flat_of flat.now) places.now) }
 {
     let mut names = Vec::new(alloc);

@@ -5,7 +5,7 @@ use Rattle.std.specs.Prelude.{unwrap_or}
 use Rattle.hood_io.specs.Shelves.{Told}
 use Rattle.hrthood_top.specs.declared.status.Status.{Status}
 use Rattle.hrthood_top.specs.declared.status.Status.TheVariants.{Done, Refused, Usage, ReadFault, WriteFault, NoMemory}
-use Rattle.hrthood_words.specs.declared.verbs.DesignVerb.TheVariants.{Check, Analyse, Format, Generate, Scale}
+use Rattle.hrthood_words.specs.declared.verbs.DesignVerb.TheVariants.{Check, Analyse, Format, Generate, Search, Scale}
 use Rattle.hrthood_words.specs.Words.{Command, OnDesign, Replay, Verify, Sample, command_of}
 use Rattle.hrthood_top.specs.Commands.{verb_of}
 use Rattle.hrthood_top.specs.Analyses.{analyses}
@@ -14,6 +14,7 @@ use Rattle.hrthood_top.specs.Formats.{formats}
 use Rattle.hrthood_top.specs.Generates.{generates}
 use Rattle.hrthood_top.specs.Replays.{replays}
 use Rattle.hrthood_top.specs.Samples.{samples}
+use Rattle.hrthood_top.specs.Searches.{searches}
 use Rattle.hrthood_top.specs.Scales.{scales}
 use Rattle.hrthood_top.specs.Verifies.{verifies}
 use Rattle.hrthood_top.specs.Exits.{exit_status}
@@ -28,6 +29,9 @@ commands : map words ((codes "check" ∷ codes "d" ∷ []) ∷ (codes "analyse" 
     ≡ Some (OnDesign Check (codes "d")) ∷ Some (OnDesign Analyse (codes "d")) ∷ Some (OnDesign Format (codes "d")) ∷ Some (OnDesign Generate (codes "d"))
     ∷ Some (Replay (codes "a") (codes "r")) ∷ Some (Verify (codes "d") (codes "r")) ∷ []
 commands = refl
+
+search_command : words (codes "search" ∷ codes "d" ∷ []) ≡ Some (OnDesign Search (codes "d"))
+search_command = refl
 
 scale_command : words (codes "scale" ∷ codes "d" ∷ []) ≡ Some (OnDesign Scale (codes "d"))
 scale_command = refl
@@ -58,6 +62,9 @@ format_verb d = refl
 
 generate_verb : (d : List ℕ) → verb_of (OnDesign Generate d) ≡ generates d
 generate_verb d = refl
+
+search_verb : (d : List ℕ) → verb_of (OnDesign Search d) ≡ searches d
+search_verb d = refl
 
 scale_verb : (d : List ℕ) → verb_of (OnDesign Scale d) ≡ scales d
 scale_verb d = refl
@@ -94,8 +101,7 @@ start = record {
 }
 
 abbrev usage_line : List ℕ
-usage_line = codes "usage: hrthood check D | analyse D | format D | generate D | replay A R | verify D R | sample N | search D\n"
-usage_line = codes "usage: hrthood check D | analyse D | format D | generate D | replay A R | verify D R | sample N | scale D\n"
+usage_line = codes "usage: hrthood check D | analyse D | format D | generate D | replay A R | verify D R | sample N | search D | scale D\n"
 
 usage : Ends Usage None start (record start { err = Some usage_line })
 usage = (refl, refl, inl refl)

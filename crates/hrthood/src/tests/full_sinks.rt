@@ -111,8 +111,7 @@ fn a_byte_at_a_time(rt: HostRuntime) -> Result<(), Fail> {
 const TOLD: &[&str] = &[
     "words: check
     status: usage
-    err: usage: hrthood check D | analyse D | format D | generate D | replay A R | verify D R | sample N | search D",
-    err: usage: hrthood check D | analyse D | format D | generate D | replay A R | verify D R | sample N | scale D",
+    err: usage: hrthood check D | analyse D | format D | generate D | replay A R | verify D R | sample N | search D | scale D",
     "words: check x
     status: read fault
     err: fault reading x",

@@ -1,5 +1,5 @@
 -- Where a design has bounds by the order of deadlines, this order is the one that is found, and the lines for it are those of `analyse`.
-use Rattle.std.proofs.Common.{◌≡◌, ℕ, ◌<◌, ◌-◌, List, length, slice_get, Some, refl, sym, ap, subst, ◌∙◌, arith}
+use Rattle.std.proofs.Common.{◌≡◌, ℕ, ◌<◌, ◌-◌, List, length, refl, sym, ap, subst, ◌∙◌, arith}
 use Rattle.std.proofs.lemmas.Option.{same_Some, slice_get_within}
 use Rattle.ods_tree.specs.Designs.{Design}
 use Rattle.ods_tree.specs.Flats.{Flat}
@@ -13,15 +13,15 @@ use Rattle.analysis.specs.Sound.{IsSound}
 use Rattle.analysis.specs.Tables.{table, table_for}
 use Rattle.design_bounds.specs.Rows.{named_bounds, ceiling_rows, named_bounds_by, ceiling_rows_by}
 use Rattle.design_programs.proofs.TabledPrograms as tabled
-use Rattle.order_laws.specs.Orders.{Passes, priority_in, priorities_by, rows_by}
+use Rattle.order_laws.specs.Orders.{Passes, priority_in, priorities_by}
 use Rattle.order_laws.proofs.DeadlineFound.{deadline-found}
 use Rattle.order_laws.proofs.DeadlineOrders.{deadline-order, priority-there}
 use Rattle.order_laws.proofs.OrderPlaces.{order-has}
 use Rattle.order_laws.proofs.OrderRows.{priorities-long, priority-at, priority-of}
 use Rattle.priority_search.proofs.OneAnswer.{lists-same}
-use Rattle.hrthood_top.specs.Analyses.{IsAnalysed, report}
+use Rattle.hrthood_top.specs.Analyses.{report}
 use Rattle.hrthood_top.specs.DeadlineReports.{WritesByDeadline, WritesAsAnalysed}
-use Rattle.hrthood_top.specs.Searches.{IsOrdered, report_by}
+use Rattle.hrthood_top.specs.Searches.{IsOrdered}
 use Rattle.hrthood_top.proofs.GenerateLaws.{one_least}
 use Rattle.hrthood_top.proofs.SearchLaws.{one-taken, taken-sound}
 

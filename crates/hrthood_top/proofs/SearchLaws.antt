@@ -1,5 +1,5 @@
 -- That the verb `search` refuses a design for one reason, and none that passes under some order.
-use Rattle.std.proofs.Common.{◌≡◌, ℕ, ◌+◌, List, [], ◌∷◌, Bool, true, false, ◌||◌, cond, Some, None, refl, sym, ap, subst, ◌∙◌}
+use Rattle.std.proofs.Common.{◌≡◌, ℕ, ◌+◌, List, [], ◌∷◌, Bool, true, false, ◌||◌, cond, Some, refl, sym, ap, subst, ◌∙◌}
 use Rattle.std.specs.List.{list_any, position_from}
 use Rattle.seq_tree.specs.Names.{Name}
 use Rattle.ods_tree.specs.Designs as designs

@@ -1,15 +1,15 @@
 -- The lines of an order that was found, names of threads, and what is written of them.
-use Rattle.std.proofs.Common.{◌≡◌, ℕ, zero, suc, ◌+◌, ◌<◌, ◌≤◌, List, [], ◌∷◌, ◌++◌, Bool, true, false, cond, codes, length, map, take, drop, get_or, Option, Some}
-use Rattle.std.proofs.Common.{None, if◌then◌else◌, ◌==◌, refl, sym, ap, subst, ◌∙◌, arith, append_assoc, drop-cons, add-one, append-nil}
+use Rattle.std.proofs.Common.{◌≡◌, ℕ, suc, ◌+◌, ◌<◌, ◌≤◌, List, [], ◌∷◌, ◌++◌, Bool, true, false, cond, codes, length, map, take, drop, get_or, Option, Some, Result}
+use Rattle.std.proofs.Common.{None, Bor, ◌==◌, refl, sym, ap, subst, ◌∙◌, arith, drop-cons, add-one, append-nil, slice_get, option_map}
+use Rattle.std.specs.Slice.{IsItemAt}
 use Rattle.std.proofs.lemmas.List.{drop_all}
+use Rattle.std.proofs.lemmas.Option.{slice_get-map}
 use Rattle.std.specs.List.{position_from, range_with_len}
 use Rattle.seq_tree.specs.Lists.{Each}
 use Rattle.seq_tree.specs.Names.{Name}
-use Rattle.hood_io.specs.Sinks.{Appends}
-use Rattle.ods_tree.specs.Designs.{Design}
-use Rattle.ods_tree.specs.Flats.{Flat}
-use Rattle.ods_tree.specs.Flattening.{flat}
-use Rattle.ods_tree.specs.Ticks.{first_priority}
+use Rattle.hood_io.specs.Sinks.{Appends, Puts}
+use Rattle.hood_io.proofs.Appending.{appends-none}
+use Rattle.ods_tree.specs.Flats.{Flat, Thread}
 use Rattle.rt_response.specs.declared.rows.Bound.{Bound}
 use Rattle.rt_response.specs.declared.rows.ThreadRow.{ThreadRow}
 use Rattle.analysis.specs.Ceilings.{Ranks, ranks_for}
@@ -17,13 +17,14 @@ use Rattle.analysis.specs.Sound.{IsSound}
 use Rattle.analysis.specs.Tables.{ThreadTable, table_for}
 use Rattle.order_laws.specs.Orders.{IsOrder, priority_in, priorities_by, ranks_by, rows_by}
 use Rattle.order_laws.proofs.OrderRows.{places-are}
+use Rattle.design_bounds.proofs.RowLaws.{there, not-there}
 use Rattle.priority_search.proofs.NextSteps.{order-few}
 use Rattle.trace_text.specs.declared.bound.NamedBound.{NamedBound}
 use Rattle.design_bounds.specs.declared.rows.CeilingRow.{CeilingRow}
 use Rattle.design_bounds.specs.Rows.{named_bounds_by, ceiling_rows_by}
 use Rattle.hrthood_top.specs.Analyses.{report}
-use Rattle.hrthood_top.specs.Searches.{names_text, report_by}
-use Rattle.hrthood_top.proofs.Pieces.{IsWritten, next-written, part-written, none-left}
+use Rattle.hrthood_top.specs.Searches.{name_at, names_text, report_by}
+use Rattle.hrthood_top.proofs.Pieces.{IsWritten, next-written, part-written, none-left, last-put}
 
 -- THE LINES OF AN ORDER
 
@@ -86,6 +87,16 @@ found-within {A} test n k (x ∷ xs) e = by (test x) e (found-within test (n + 1
     by true g more = (let z : n ≡ k = cc g in omega (arith, z))
     by false g more = let r = more g in omega (arith, r)
 
+-- the name of a thread that stands there, and that of none
+pub name-there : {T : Type 0} (view : T → Thread) (ts : List T) (f : Flat) (k : ℕ) (t : Bor T) → f.threads ≡ map view ts → IsItemAt ts k (Some t)
+    → name_at f k ≡ Some (view t.now).name
+name-there view ts f k t same e =
+    ap (option_map (λ u. u.name)) (ap (λ us. slice_get us k) same ∙ slice_get-map view ts k ∙ ap (option_map view) (there ts k t e))
+
+pub no-name : {T : Type 0} (view : T → Thread) (ts : List T) (f : Flat) (k : ℕ) → f.threads ≡ map view ts → IsItemAt ts k None → name_at f k ≡ None
+no-name view ts f k same e =
+    ap (option_map (λ u. u.name)) (ap (λ us. slice_get us k) same ∙ slice_get-map view ts k ∙ ap (option_map view) (not-there ts k e))
+
 -- the names from one on
 abbrev pub left_of : List Name → ℕ → List ℕ
 left_of names i = names_text (drop i names)
@@ -101,19 +112,23 @@ at-name : (a b : Option (List ℕ)) (names : List Name) (i : ℕ) (d : Name) →
 at-name a b names i d h w = let I : List ℕ → Type 0 = λ z. IsWritten a b z (names_text names) in subst I (names-next names i d h) w
 
 -- one more name is written
-pub one-name : (a b c : Option (List ℕ)) (names : List Name) (i : ℕ) (d : Name) → i < length names
-    → IsWritten a b (left_of names i) (names_text names) → Appends b c (codes " " ++ (get_or names i d ++ codes ""))
+pub one-name : (a b c : Option (List ℕ)) (names : List Name) (i : ℕ) (d name : Name) → i < length names → name ≡ get_or names i d
+    → IsWritten a b (left_of names i) (names_text names) → Appends b c (codes " " ++ (name ++ codes ""))
     → IsWritten a c (left_of names (i + 1)) (names_text names)
-one-name a b c names i d h w here =
-    next-written a b c (codes " " ++ (get_or names i d ++ codes "")) (left_of names (i + 1)) (names_text names) (at-name a b names i d h w) here
+one-name a b c names i d name h same w here =
+    let P : List ℕ → Type 0 = λ z. Appends b c (codes " " ++ (z ++ codes "")) in
+    next-written a b c (codes " " ++ (get_or names i d ++ codes "")) (left_of names (i + 1)) (names_text names) (at-name a b names i d h w)
+    (subst P same here)
 
 -- a name that is written in part leaves a proper front of them all
-pub part-of-name : (a b c : Option (List ℕ)) (names : List Name) (i : ℕ) (d : Name) → i < length names
+pub part-of-name : (a b c : Option (List ℕ)) (names : List Name) (i : ℕ) (d name : Name) → i < length names → name ≡ get_or names i d
     → IsWritten a b (left_of names i) (names_text names)
-    → (n : ℕ) × (n < length (codes " " ++ (get_or names i d ++ codes ""))) × Appends b c (take n (codes " " ++ (get_or names i d ++ codes "")))
+    → (n : ℕ) × (n < length (codes " " ++ (name ++ codes ""))) × Appends b c (take n (codes " " ++ (name ++ codes "")))
     → (k : ℕ) × (k < length (names_text names)) × Appends a c (take k (names_text names))
-part-of-name a b c names i d h w part =
-    part-written a b c (codes " " ++ (get_or names i d ++ codes "")) (left_of names (i + 1)) (names_text names) (at-name a b names i d h w) part
+part-of-name a b c names i d name h same w part =
+    let P : List ℕ → Type 0 = λ z. (n : ℕ) × (n < length (codes " " ++ (z ++ codes ""))) × Appends b c (take n (codes " " ++ (z ++ codes ""))) in
+    part-written a b c (codes " " ++ (get_or names i d ++ codes "")) (left_of names (i + 1)) (names_text names) (at-name a b names i d h w)
+    (subst P same part)
 
 -- all names are written
 pub all-names : (a b : Option (List ℕ)) (names : List Name) (i : ℕ) → length names ≤ i → IsWritten a b (left_of names i) (names_text names)
@@ -121,3 +136,26 @@ pub all-names : (a b : Option (List ℕ)) (names : List Name) (i : ℕ) → leng
 all-names a b names i h w =
     let I : List Name → Type 0 = λ z. IsWritten a b (names_text z) (names_text names) in
     none-left a b (names_text names) (subst I (drop_all i names h) w)
+
+-- A TEXT OF THREE PIECES
+
+first-left : (a : Option (List ℕ)) (text : List ℕ) → IsWritten a a text text
+first-left a text = record { front = []; before = appends-none a; whole = refl }
+
+-- the first is written in part
+pub first-part : (a b : Option (List ℕ)) (p q r : List ℕ) → (n : ℕ) × (n < length p) × Appends a b (take n p)
+    → (k : ℕ) × (k < length (p ++ (q ++ r))) × Appends a b (take k (p ++ (q ++ r)))
+first-part a b p q r part = part-written a a b p (q ++ r) (p ++ (q ++ r)) (first-left a (p ++ (q ++ r))) part
+
+-- the second is
+pub second-part : (a b c : Option (List ℕ)) (p q r : List ℕ) → Appends a b p → (n : ℕ) × (n < length q) × Appends b c (take n q)
+    → (k : ℕ) × (k < length (p ++ (q ++ r))) × Appends a c (take k (p ++ (q ++ r)))
+second-part a b c p q r one part =
+    part-written a b c q r (p ++ (q ++ r)) (next-written a a b p (q ++ r) (p ++ (q ++ r)) (first-left a (p ++ (q ++ r))) one) part
+
+-- the last is put
+pub third-put : {E : Type 0} (a b c d : Option (List ℕ)) (p q r : List ℕ) (put : Result (Unit {0}) E) → Appends a b p → Appends b c q → Puts c d r put
+    → Puts a d (p ++ (q ++ r)) put
+third-put a b c d p q r put one two puts =
+    last-put a c d r (p ++ (q ++ r)) put
+    (next-written a b c q r (p ++ (q ++ r)) (next-written a a b p (q ++ r) (p ++ (q ++ r)) (first-left a (p ++ (q ++ r))) one) two) puts

@@ -1,5 +1,5 @@
 -- Writing the usage line, verb by verb.
-use Rattle.std.proofs.Common.{◌≡◌, ◌∙◌, ℕ, ◌+◌, ◌<◌, ◌≤◌, List, ◌++◌, length, map, take, drop, get_or, Bor, Option, [], ◌∷◌, refl, sym, ap, subst, codes}
+use Rattle.std.proofs.Common.{◌≡◌, ◌∙◌, ℕ, ◌+◌, ◌<◌, ◌≤◌, List, ◌++◌, length, map, take, drop, get_or, Bor, Option, ◌∷◌, refl, sym, ap, subst, codes}
 use Rattle.std.proofs.Common.{append_assoc, drop-cons, add-one}
 use Rattle.std.proofs.lemmas.List.{drop_all}
 use Rattle.hood_io.specs.Sinks.{Appends}

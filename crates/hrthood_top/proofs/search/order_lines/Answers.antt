@@ -1,4 +1,4 @@
-use Rattle.std.proofs.Common.{◌≡◌, List, ℕ, IfOk, length, subst, ap, ◌∙◌, arith}
+use Rattle.std.proofs.Common.{◌≡◌, IfOk, subst, sym, ◌∙◌}
 use Rattle.std.proofs.lemmas.List.{length-map}
 use Rattle.ods_tree.specs.Trees.{flat_of, thread_of}
 use Rattle.priority_search.proofs.NextSteps.{order-few}
@@ -14,28 +14,28 @@ named-requires-clause-small c =
     let f = flat_of c.args.flat.now in
     let o = c.args.found.order.items in
     small-by f o c.in_ok-threads.threads.items c.requires.sound c.requires.found.order
-    (priorities-are f o _ _ _ c.as_slice.ensures.value ? c.in_ok-threads.ensures)
+    (priorities-are f o _ _ _ c.as_slice.ensures.value (c.len.ensures ∙ c.args.flat.now.threads.ok.0 ∙ sym (length-map c.args.flat.now.threads.items thread_of)) c.in_ok-threads.ensures)
 
 pub named-requires-clause-table : goal.named-requires-clause-table
 named-requires-clause-table c =
     let f = flat_of c.args.flat.now in
     let o = c.args.found.order.items in
     table-by f o c.in_ok-threads.threads.items c.args.found.rows.items c.requires.found.order
-    (priorities-are f o _ _ _ c.as_slice.ensures.value ? c.in_ok-threads.ensures) c.requires.found.rows
+    (priorities-are f o _ _ _ c.as_slice.ensures.value (c.len.ensures ∙ c.args.flat.now.threads.ok.0 ∙ sym (length-map c.args.flat.now.threads.items thread_of)) c.in_ok-threads.ensures) c.requires.found.rows
 
 pub ceilings-requires-clause-small : goal.ceilings-requires-clause-small
 ceilings-requires-clause-small c =
     let f = flat_of c.args.flat.now in
     let o = c.args.found.order.items in
     small-by f o c.in_ok-threads.threads.items c.requires.sound c.requires.found.order
-    (priorities-are f o _ _ _ c.as_slice.ensures.value ? c.in_ok-threads.ensures)
+    (priorities-are f o _ _ _ c.as_slice.ensures.value (c.len.ensures ∙ c.args.flat.now.threads.ok.0 ∙ sym (length-map c.args.flat.now.threads.items thread_of)) c.in_ok-threads.ensures)
 
 pub ceilings-requires-clause-order : goal.ceilings-requires-clause-order
 ceilings-requires-clause-order c =
     let f = flat_of c.args.flat.now in
     let o = c.args.found.order.items in
     ranks-by f o c.in_ok-threads.threads.items c.args.found.shared.items c.args.found.obcs.items
-    (priorities-are f o _ _ _ c.as_slice.ensures.value ? c.in_ok-threads.ensures) c.requires.found.shared c.requires.found.obcs
+    (priorities-are f o _ _ _ c.as_slice.ensures.value (c.len.ensures ∙ c.args.flat.now.threads.ok.0 ∙ sym (length-map c.args.flat.now.threads.items thread_of)) c.in_ok-threads.ensures) c.requires.found.shared c.requires.found.obcs
 
 pub returns : goal.returns
 returns c =
@@ -43,5 +43,5 @@ returns c =
     let o = c.args.found.order.items in
     subst (λ t. IfOk c.report.result (λ v. v.items ≡ t))
     (told-by c.args.first f o c.in_ok-threads.threads.items c.args.found.bounds.items _ _ _ _ _
-    (priorities-are f o _ _ _ c.as_slice.ensures.value ? c.in_ok-threads.ensures) c.as_slice-2.ensures.value c.in_ok-named.ensures
+    (priorities-are f o _ _ _ c.as_slice.ensures.value (c.len.ensures ∙ c.args.flat.now.threads.ok.0 ∙ sym (length-map c.args.flat.now.threads.items thread_of)) c.in_ok-threads.ensures) c.as_slice-2.ensures.value c.in_ok-named.ensures
     c.as_slice-3.ensures.value c.in_ok-ceilings.ensures c.as_slice-4.ensures.value) c.report.ensures

@@ -94,11 +94,14 @@ abbrev pub limit_text : Limit → List ℕ
 limit_text Deadline = codes "U1 "
 limit_text Separation = codes "U2 "
 
--- a value of a thread that is over its limit, at the end of a line
+-- a value that is over its limit, at the end of a line
+abbrev pub value_text : rows.Miss → List ℕ
+value_text m =
+    codes " value " ++ (decimal m.value ++ (codes " limit " ++ (decimal m.limit ++ (codes " round " ++ (decimal m.round ++ codes "\n")))))
+
+-- the code of its limit and its thread in front of it
 abbrev pub miss_text : Name → rows.Miss → List ℕ
-miss_text thread m =
-    limit_text m.which ++ (thread ++ (codes " value " ++ (decimal m.value ++ (codes " limit " ++ (decimal m.limit
-    ++ (codes " round " ++ (decimal m.round ++ codes "\n")))))))
+miss_text thread m = limit_text m.which ++ (thread ++ value_text m)
 
 -- the line of such a value where nothing is made for it
 abbrev pub miss_line : Name → rows.Miss → List ℕ

@@ -1,5 +1,5 @@
 ghost use Rattle.std.specs.Prelude.{◌≡◌, ◌++◌, IfOk, OnOk};
-ghost use Rattle.hrthood_top.specs.Messages.{miss_text};
+ghost use Rattle.hrthood_top.specs.Messages.{miss_text, value_text};
 ghost use Rattle.hrthood_top.specs.Scales.{margin_lines, next_line};
 
 use crate::design_lines::{limit_text, part_text};
@@ -10,15 +10,13 @@ use scaling::{Margin, Next};
 use seq_tree::{Name, NoMemory};
 use std::alloc::Global;
 
-/// Adds a value of a thread that is over its limit, to the end of its line.
-fn add_miss(text: &mut Vec<u8>, thread: &Name, miss: &Miss) -> Result<(), NoMemory>
-    ensures { OnOk result (text.new.items ≡ text.old.items ++ miss_text thread.now miss.now) }
+/// Adds a value that is over its limit, to the end of its line.
+fn add_value(text: &mut Vec<u8>, miss: &Miss) -> Result<(), NoMemory>
+    ensures { OnOk result (text.new.items ≡ text.old.items ++ value_text miss.now) }
 {
     let mut value = Buffer::new();
     let mut limit = Buffer::new();
     let mut round = Buffer::new();
-    text.extend_from_slice(limit_text(miss.which))?;
-    text.extend_from_slice(thread.bytes())?;
     text.extend_from_slice(b" value ")?;
     text.extend_from_slice(value.format(miss.value).as_bytes())?;
     text.extend_from_slice(b" limit ")?;
@@ -27,6 +25,15 @@ fn add_miss(text: &mut Vec<u8>, thread: &Name, miss: &Miss) -> Result<(), NoMemo
     text.extend_from_slice(round.format(miss.round).as_bytes())?;
     text.extend_from_slice(b"\n")?;
     Ok(())
+}
+
+/// Adds a value of a thread that is over its limit, behind the code of the limit and the thread.
+fn add_miss(text: &mut Vec<u8>, thread: &Name, miss: &Miss) -> Result<(), NoMemory>
+    ensures { OnOk result (text.new.items ≡ text.old.items ++ miss_text thread.now miss.now) }
+{
+    text.extend_from_slice(limit_text(miss.which))?;
+    text.extend_from_slice(thread.bytes())?;
+    add_value(text, miss)
 }
 
 /// Adds the line of a body or a thread that is too dear.

@@ -44,8 +44,8 @@ const OTHERS: &[&str] = &[
     root: OBJECT a IS CYCLIC ATTRIBUTES PERIOD = 10; DEADLINE = 10; THREAD_BUDGET = 1000; THREAD null; END THREAD; END a;
     out: scale 1000000
     out: next limit",
-    "name: a thread that is too dear before it is late
-    root: OBJECT a IS CYCLIC ATTRIBUTES PERIOD = 4000000000; DEADLINE = 4000000000; THREAD_BUDGET = 2000001; \
+    "name: a thread that is too dear and late at once
+    root: OBJECT a IS CYCLIC ATTRIBUTES PERIOD = 1000000000; DEADLINE = 1000000000; THREAD_BUDGET = 2000001; \
         THREAD work (1000000); work (1000000); END THREAD; END a;
     out: scale 499999
     out: next cost a thread",

@@ -36,14 +36,17 @@ function objectsByCeiling(program) {
   return [...program.ceilings.keys()].sort((one, other) => program.ceilings.get(other) - program.ceilings.get(one));
 }
 
-/** A picture with patterns, of so many pixels, that stands for itself with these rules of style in it. */
+/** A picture of so many pixels. With a name it has the patterns too; without one it is a mark beside a chart, which has them. */
 class Canvas {
   constructor(width, height, name) {
-    this.root = draw("svg", { width, height, viewBox: `0 0 ${width} ${height}`, class: "timeline", role: "img", "aria-label": name });
-    const definitions = draw("defs", {});
-    definitions.append(this.stripes("blocked", 5, "blocked-ground"), this.stripes("doubt", 6, null));
-    this.root.append(definitions, draw("rect", { class: "paper", width, height }));
-    this.width = width;
+    const told = name === null ? { "aria-hidden": "true" } : { role: "img", "aria-label": name };
+    this.root = draw("svg", { width, height, viewBox: `0 0 ${width} ${height}`, class: "timeline", ...told });
+    if (name !== null) {
+      const patterns = draw("defs", {});
+      patterns.append(this.stripes("blocked", 5, "blocked-ground"), this.stripes("doubt", 6, null));
+      this.root.append(patterns);
+    }
+    this.root.append(draw("rect", { class: "paper", width, height }));
   }
 
   stripes(id, step, ground) {
@@ -95,27 +98,19 @@ function leftOf(width) {
   return width < 640 ? 118 : 196;
 }
 
-/** The picture of a run in its window. */
-class Chart {
-  constructor(run, width) {
-    this.run = run;
-    this.program = run.program;
-    [this.start, this.end] = [run.start, run.end];
-    this.tasks = tasksByPriority(this.program);
-    [this.parts, this.waits] = [run.parts(), run.waits()];
-    const objects = objectsByCeiling(this.program);
-    const isIn = ({ from, to }) => from < this.end && to > this.start;
-    const used = new Set([...this.parts.map((part) => part.object), ...run.sections.filter(isIn).map((section) => section.object)]);
-    this.objects = objects.filter((name) => used.has(name));
-    // An object has one colour in all windows of a run.
-    this.colours = new Map(objects.map((name, index) => [name, `object-${index % COLOURS}`]));
+/** The lanes of a window, of its tasks and below them of these objects. */
+class Frame {
+  constructor(program, start, end, objects, width) {
+    this.program = program;
+    [this.start, this.end] = [start, end];
+    this.tasks = tasksByPriority(program);
+    this.objects = objects;
     const lanes = TOP + LANE * this.tasks.length + 8;
     this.base = new Map(this.tasks.map((task, index) => [task.name, TOP + LANE * (index + 1) - 14]));
-    this.objectBase = new Map(this.objects.map((name, index) => [name, lanes + OBJECT_LANE * (index + 1) - 3]));
-    this.bottom = lanes + OBJECT_LANE * this.objects.length;
+    this.objectBase = new Map(objects.map((name, index) => [name, lanes + OBJECT_LANE * (index + 1) - 3]));
+    this.bottom = lanes + OBJECT_LANE * objects.length;
     this.left = leftOf(width);
-    this.scale = (width - this.left - RIGHT) / (this.end - this.start);
-    this.canvas = new Canvas(width, this.bottom + 14, `Who runs from tick ${this.start} to ${this.end}; the list below tells the same`);
+    this.scale = (width - this.left - RIGHT) / (end - start);
   }
 
   x(time) {
@@ -130,21 +125,6 @@ class Chart {
   span(from, to) {
     const [start, end] = [Math.max(from, this.start), Math.min(to, this.end)];
     return start < end ? [this.x(start), this.x(end) - this.x(start)] : null;
-  }
-
-  draw() {
-    this.drawGrid();
-    this.drawNames();
-    this.drawBounds();
-    this.drawWaits();
-    this.drawSections();
-    this.drawParts();
-    this.drawRequests();
-    this.drawDeadlinesAndReleases();
-    this.drawEnds();
-    this.drawPuts();
-    this.drawEndOfTrace();
-    return this.canvas.root;
   }
 
   drawGrid() {
@@ -173,6 +153,37 @@ class Chart {
       this.canvas.text(8, y - 3, short(name, most - 6) + (this.program.tasks.has(name) ? " requests" : ""), "small");
       this.canvas.text(this.left - 8, y - 3, `${most < 20 ? "" : "ceiling "}${this.program.ceilings.get(name)}`, "small right");
     }
+  }
+}
+
+/** The picture of a run in its window. */
+class Chart extends Frame {
+  constructor(run, width) {
+    const objects = objectsByCeiling(run.program);
+    const parts = run.parts();
+    const isIn = ({ from, to }) => from < run.end && to > run.start;
+    const used = new Set([...parts.map((part) => part.object), ...run.sections.filter(isIn).map((section) => section.object)]);
+    super(run.program, run.start, run.end, objects.filter((name) => used.has(name)), width);
+    this.run = run;
+    [this.parts, this.waits] = [parts, run.waits()];
+    // An object has one colour in all windows of a run.
+    this.colours = new Map(objects.map((name, index) => [name, `object-${index % COLOURS}`]));
+    this.canvas = new Canvas(width, this.bottom + 14, `Who runs from tick ${this.start} to ${this.end}; the list below tells the same`);
+  }
+
+  draw() {
+    this.drawGrid();
+    this.drawNames();
+    this.drawBounds();
+    this.drawWaits();
+    this.drawSections();
+    this.drawParts();
+    this.drawRequests();
+    this.drawDeadlinesAndReleases();
+    this.drawEnds();
+    this.drawPuts();
+    this.drawEndOfTrace();
+    return this.canvas.root;
   }
 
   drawBounds() {
@@ -297,29 +308,19 @@ class Chart {
 const COLUMN = 2; // pixels
 
 /** The picture of a window with too many events: in each column of each lane the greatest response of what is released there. */
-class Heights {
+class Heights extends Frame {
   constructor(trace, start, end, width) {
+    super(trace.program, start, Math.min(end, Math.max(trace.last, start + 1)), [], width);
     this.trace = trace;
-    [this.start, this.end] = [start, Math.min(end, Math.max(trace.last, start + 1))];
-    this.tasks = tasksByPriority(trace.program);
-    this.left = leftOf(width);
-    this.scale = (width - this.left - RIGHT) / (this.end - this.start);
-    const height = TOP + LANE * this.tasks.length + 14;
     const name = `The greatest responses from tick ${this.start} to ${this.end}; the table below tells them of the whole trace`;
-    this.canvas = new Canvas(width, height, name);
-    this.base = new Map(this.tasks.map((task, index) => [task.name, TOP + LANE * (index + 1) - 14]));
-    this.bottom = height - 14;
-  }
-
-  x(time) {
-    return this.left + (time - this.start) * this.scale;
+    this.canvas = new Canvas(width, this.bottom + 6, name);
   }
 
   /** Of each task the greatest response in each column, by the column's left edge. */
   columns() {
     const found = new Map(this.tasks.map((task) => [task.name, new Map()]));
     for (const { task, release, end } of this.trace.activations) {
-      if (end === null || release < this.start || release > this.end) continue;
+      if (end === null || !this.isHere(release)) continue;
       const columns = found.get(task.name);
       const column = Math.floor(this.x(release) / COLUMN) * COLUMN;
       columns.set(column, Math.max(columns.get(column) ?? 0, end - release));
@@ -328,22 +329,21 @@ class Heights {
   }
 
   draw() {
-    const names = { canvas: this.canvas, tasks: this.tasks, objects: [], base: this.base, left: this.left, end: this.end, start: this.start,
-      scale: this.scale, bottom: this.bottom };
-    const frame = Object.assign(Object.create(Chart.prototype), names);
-    frame.drawGrid();
-    frame.drawNames();
+    this.drawGrid();
+    this.drawNames();
     const columns = this.columns();
-    for (const task of this.tasks) {
-      const base = this.base.get(task.name);
-      const full = task.bound ?? Math.max(1, ...columns.get(task.name).values());
-      this.canvas.box("kept", this.left, base - 28, this.x(this.end) - this.left, 28, `the bound of ${task.name}, ${full}`);
-      for (const [column, response] of columns.get(task.name)) {
-        const title = `${task.name}: greatest response ${response} of at most ${full}`;
-        const height = Math.min(36, (28 * response) / full);
-        this.canvas.box(response > full ? "late-bar" : "runs", column, base - height, COLUMN, height, title);
-      }
-    }
+    for (const task of this.tasks) this.drawLane(task, columns.get(task.name));
     return this.canvas.root;
+  }
+
+  drawLane(task, columns) {
+    const base = this.base.get(task.name);
+    const full = task.bound ?? Math.max(1, ...columns.values());
+    this.canvas.box("kept", this.left, base - 28, this.x(this.end) - this.left, 28, `the bound of ${task.name}, ${full}`);
+    for (const [column, response] of columns) {
+      const height = Math.min(36, (28 * response) / full);
+      const title = `${task.name}: greatest response ${response} of at most ${full}`;
+      this.canvas.box(response > full ? "late-bar" : "runs", column, base - height, COLUMN, height, title);
+    }
   }
 }

@@ -19,11 +19,7 @@ const LEGEND = [
 
 /** A small picture of a mark. */
 function markPicture(kind) {
-  const { root } = Object.assign(new Canvas(22, 22, ""), {});
-  const canvas = Object.assign(Object.create(Canvas.prototype), { root });
-  root.removeAttribute("role");
-  root.removeAttribute("aria-label");
-  root.setAttribute("aria-hidden", "true");
+  const canvas = new Canvas(22, 22, null);
   if (kind === "arrow" || kind === "hollow") {
     canvas.path("arrow", "M11 21v-14");
     canvas.path(kind === "hollow" ? "head hollow" : "head", "M11 1l-3.5 7h7z");
@@ -39,7 +35,7 @@ function markPicture(kind) {
   else if (kind === "diamond") canvas.path("diamond", "M11 6l4 5l-4 5l-4-5z");
   else if (kind === "request") canvas.path("request", "M11 0v22");
   else canvas.box(`part ${kind}`, 1, kind === "runs" ? 5 : 1, 20, kind === "runs" ? 13 : 18);
-  return root;
+  return canvas.root;
 }
 
 function legend() {

@@ -64,6 +64,7 @@ class Timeline {
     this.holder = make("div", { class: "holder", tabindex: "0", role: "group", id: "window", "aria-label": name });
     this.list = make("pre", { class: "text", tabindex: "0", "aria-label": "Who runs when" });
     this.details = make("details", {}, make("summary", {}, "Who runs when, as text"), this.list);
+    this.legend = legend();
     this.listen();
   }
 
@@ -173,7 +174,7 @@ class Timeline {
     const cut = this.isCut ? [make("p", { class: "note" }, `The timeline is of the first ${MOST_LINES} lines of the trace.`)] : [];
     this.note = make("p", { class: "note" });
     this.panel.replaceChildren(make("div", { class: "tools" }, save, ...buttons, make("label", {}, "from ", from), make("label", {}, "to ", to),
-      `of ${this.trace.last} ticks`), ...cut, this.holder, this.note, legend(), this.details, this.totals());
+      `of ${this.trace.last} ticks`), ...cut, this.holder, this.note, this.legend, this.details, this.totals());
     this.render();
   }
 
@@ -192,6 +193,7 @@ class Timeline {
       this.run = isFar ? null : new Run(this.trace, this.from, this.to);
       this.holder.replaceChildren(isFar ? new Heights(this.trace, this.from, this.to, width).draw() : new Chart(this.run, width).draw());
       this.note.textContent = isFar ? FAR : NEAR;
+      this.legend.hidden = isFar;
     } catch (fault) {
       this.run = null;
       this.holder.replaceChildren();

@@ -221,7 +221,7 @@ async function format() {
   try {
     const told = await run(["format", "design"], { design: at("design").value });
     if (told.status !== 0) return again();
-    editors.design.set(told.out);
+    editors.design.replace(told.out);
   } catch {
     // It was cut off by an edit.
   }

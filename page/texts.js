@@ -31,6 +31,15 @@ class Editor {
     this.show(null);
   }
 
+  /** Puts another text in the place of this one, which Ctrl and Z take back. */
+  replace(text) {
+    this.area.focus();
+    this.area.select();
+    if (!document.execCommand("insertText", false, text)) this.set(text);
+    this.area.setSelectionRange(0, 0);
+    this.area.scrollTop = 0;
+  }
+
   rowOf(index) {
     return this.area.value.slice(0, index).split("\n").length;
   }

@@ -192,6 +192,17 @@ async function tryTyping(page) {
   await page.until("document.querySelector('#verdict.good')", 30);
 }
 
+/** Format puts what `format` prints in the place of the design, and Ctrl and Z take it back. */
+async function tryFormat(page) {
+  const design = read("tank.design");
+  await set(page, { design, arrivals: read("until_150.arrivals") });
+  await page.evaluate("document.getElementById('format').click()");
+  const wanted = answerOf(["format", "tank.design"]).out.toString();
+  await page.until(`document.getElementById("design").value === ${js(wanted)}`, 30);
+  await page.evaluate("document.execCommand('undo')");
+  same(await page.evaluate("document.getElementById('design').value"), design, "the design as it was before Format");
+}
+
 // ---- The timeline, and what is saved ----
 
 const LEGEND = new Set(["release", "release by a request from outside", "deadline"]);
@@ -483,7 +494,8 @@ try {
   tryCodes();
   const page = await browser.open(pathToFileURL(file).href);
   await page.until("document.querySelector('#verdict.good')", 120);
-  const steps = { tryVerbs, tryMarks, tryTyping, tryTimeline, tryWindow, tryLarge, tryMemory, tryStop, tryKeyboard, tryColours, tryNarrow };
+  const steps = { tryVerbs, tryMarks, tryTyping, tryFormat, tryTimeline, tryWindow, tryLarge, tryMemory, tryStop, tryKeyboard,
+    tryColours, tryNarrow };
   for (const [name, step] of Object.entries(steps)) await step(page).catch((fault) => judge(false, `${name}: ${fault.message}`));
   await trySaves(browser, page);
   await tryQuiet(page);

@@ -1,7 +1,7 @@
 #!/usr/bin/env python3
 """Looks whether what the pages say of rules and of places in the crates is there.
 
-It says where a crate has no row in docs/ARCHITECTURE.md; where a code of the definitions of messages (hrthood_top/specs/Messages) has no row in
+It says where a crate has no row in docs/ARCHITECTURE.md; where a code of the definitions of messages (hrthood_top/specs/Messages and Searches) has no row in
 docs/RULES.md, or is not told of in docs/REFUSALS.md; where a page of PAGES names a definition, a call or a file of a crate that isn't there; and
 where a test of a row of RULES.md doesn't have the row's code. Exit status 1 tells that it said something.
 """
@@ -23,7 +23,8 @@ def read(*path):
 
 def codes_told():
     """The codes that messages begin with, or have as the code of a limit, a rule or a body."""
-    return set(re.findall(rf'codes "(?:refused )? ?({CODE})\b', read(CRATES, 'hrthood_top', 'specs', 'Messages.antt'))) | {'C1'}
+    texts = [read(CRATES, 'hrthood_top', 'specs', module) for module in ('Messages.antt', 'Searches.antt')]
+    return set(re.findall(rf'codes "(?:refused )? ?({CODE})\b', '\n'.join(texts))) | {'C1'}
 
 
 def sources(crate):

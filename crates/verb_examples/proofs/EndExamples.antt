@@ -16,29 +16,29 @@ use Rattle.hrthood_top.specs.Verbs.{Verb}
 use Rattle.hrthood_top.specs.Ends.{Outside, EndsVerb, Refuses, Refusal, TooLong, Stopped, Writes, WritesAtMost, CanDo, CompletesVerb}
 
 -- a design and arrivals, and a shelf on which they have two bytes and one
-abbrev design : File
+abbrev pub design : File
 design = record { kind = Design; name = codes "d" }
 
-abbrev arrivals : File
+abbrev pub arrivals : File
 arrivals = record { kind = Arrivals; name = codes "rr" }
 
-abbrev bytes : Texts
+abbrev pub bytes : Texts
 bytes Design = codes "ab"
 bytes Ada = []
 bytes Arrivals = codes "c"
 
-abbrev bytes_by : List ℕ → List ℕ → List ℕ → Option (List ℕ)
+abbrev pub bytes_by : List ℕ → List ℕ → List ℕ → Option (List ℕ)
 bytes_by first second name = if bytes_eq name (codes "d") then Some first else if bytes_eq name (codes "rr") then Some second else None
 
-abbrev shelf : List ℕ → List ℕ → List Entry → Told
+abbrev pub shelf : List ℕ → List ℕ → List Entry → Told
 shelf first second log = record { files = bytes_by first second; log = log }
 
 -- and one that holds nothing
-abbrev bare : List Entry → Told
+abbrev pub bare : List Entry → Told
 bare log = record { files = λ name. None; log = log }
 
 -- a verb that writes both files, is refused for the number of bytes of the second, and stops behind the first
-abbrev joins : Verb
+abbrev pub joins : Verb
 joins = record {
   files = design ∷ arrivals ∷ [];
   Makes = λ texts made. made ≡ texts Design ++ texts Arrivals;
@@ -52,7 +52,7 @@ joins = record {
 }
 
 -- what stands outside before
-abbrev start : Outside
+abbrev pub start : Outside
 start = record {
   told = Some (shelf (codes "ab") (codes "c") []);
   read_faults = 0;
@@ -66,7 +66,7 @@ start = record {
 abbrev both : Option Told
 both = Some (shelf (codes "ab") (codes "c") (fetched (design ∷ arrivals ∷ [])))
 
-held : (log : List Entry) → HoldsAll (shelf (codes "ab") (codes "c") log) joins.files bytes
+pub held : (log : List Entry) → HoldsAll (shelf (codes "ab") (codes "c") log) joins.files bytes
 held log = ((refl, lit≤ tt), ((refl, lit≤ tt), tt))
 
 joined : {d r a b text : List ℕ} → ◌≡◌ {A = Option (List ℕ)} (Some a) (Some d) → ◌≡◌ {A = Option (List ℕ)} (Some b) (Some r)

@@ -8,6 +8,7 @@ mod AnalysisExamples
 mod MakeExamples
 mod DeliverExamples
 mod VerbExamples
+mod EmptyExamples
 mod RunExamples
 mod StopExamples
 mod RequestExamples

@@ -2,7 +2,6 @@ pub mod Lifts
 pub mod LiftedRules
 pub mod LiftedTables
 pub mod Restless
-pub mod RestlessSteps
 pub mod RestlessLaw
 pub mod Retimed
 pub mod HardObjects

@@ -12,8 +12,8 @@
 //!    (`Lifts`, `LiftedRules`, `LeastNumbers`), and its first tasks stand in the first rows of its table (`LiftedTables`). The program of a
 //!    design is such a one of its hard part (`BackgroundPrograms`). What is said of software doesn't depend on periods, but for releases
 //!    (`Retimed`).
-//! 3. Clients. A cyclic task of period 1 is released again at once, from the stop of a run backwards (`Restless`, `RestlessSteps`,
-//!    `RestlessLaw`).
+//! 3. Clients. A cyclic task of period 1 is released again at once: this is carried from the stop of a run backwards (`Restless`), as `releases`
+//!    carries any such claim (`RestlessLaw`).
 //! 4. The laws (`BackgroundRuns`), by `right_runs` for the tasks that stand in the table; that one fault comes first
 //!    (`FirstFaults`), that requests can be read off the table (`StarterRows`) and are those of the tree (`ClientStarts`), and that a design without
 //!    background objects keeps its text (`NoBackground`).

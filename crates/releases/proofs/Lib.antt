@@ -1,6 +1,9 @@
 pub mod AcceptedArrivals
 pub mod AllServed
 pub mod ArrivalsTold
+pub mod CarriedRuns
+pub mod CarriedSteps
+pub mod Carrying
 pub mod ExternalRequests
 pub mod Gates
 pub mod InheritedJitter
@@ -8,7 +11,6 @@ pub mod NoArrivals
 pub mod Overruns
 pub mod Periodic
 pub mod PeriodicLaw
-pub mod PeriodicSteps
 pub mod Permitted
 pub mod Readiness
 pub mod RequestEffects

@@ -5,6 +5,10 @@
 //! another is pending, and none does where they keep the separation and activations end soon enough. A task that one other requests, once
 //! on each way through its block at most, is requested once in each activation of it, and inherits its jitter and response time as release
 //! jitter. The statements are in `specs/Laws.antt`.
+//!
+//! What is claimed of one task is carried from the stop of a run back to its opening in one walk (`CarriedSteps`), for every claim that may be
+//! carried over each thing that a run does (`Carrying`): so a further claim of cyclic tasks, here or above, needs no walk of its own
+//! (`CarriedRuns`).
 #![tactic(auto)]
 
 ghost use Rattle.releases.specs.Laws.{RequestsAreServed, AllRequestsAreServed, StartersAskOnce, CyclicTasksAreOnTime, ArrivalsAreTold};

@@ -142,7 +142,8 @@ timed t = record (design t) { version = Some (record { tick = 0; unit = Us; prio
 only_version : IsFirstFault (timed (client (codes "c") (Null ∷ []))) (Breaks V17Tick)
 only_version = record { step = Version; tells = refl; before = λ e less. absurd (not-suc-le-zero less) }
 
-else_than_version : misfits (in_ticks (timed (client (codes "c") (Null ∷ [])))) ++ requesting_clients (in_ticks (timed (client (codes "c") (Null ∷ [])))) ≡ []
+else_than_version : misfits (in_ticks (timed (client (codes "c") (Null ∷ [])))) ++ requesting_clients
+    (in_ticks (timed (client (codes "c") (Null ∷ [])))) ≡ []
 else_than_version = refl
 
 version_before_misfits : IsFirstFault (timed (cyc (codes "h") 1000000000 1000000000 (Null ∷ []))) (Breaks V17Tick)

@@ -82,7 +82,11 @@ module _ (m first : ℕ) where
   unit-raised false t p c h = ap (λ g. let u : Unit = record { name = t.name; form = g } in u) (form-raised t p c t.timing)
   unit-raised true t p c h =
       ap (λ n. let u : Unit = record { name = t.name; form = Cyclic n 0 1 t.vars t.block } in u) (raised-number m p (first - 1))
-      ∙ ap (λ z. let u : Unit = record { name = t.name; form = lift_form (m + (first - 1)) true (thread_form (p + (first - 1)) (c + (first - 1)) z t) } in u)
+      ∙ ap (λ z. let u : Unit = record {
+        name = t.name;
+        form = lift_form (m + (first - 1)) true
+            (thread_form (p + (first - 1)) (c + (first - 1)) z t);
+      } in u)
       (sym (h refl))
 
   threads-raised : (x : Design) (ts : List Thread) (qs cs : List ℕ)

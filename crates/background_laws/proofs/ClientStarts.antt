@@ -43,7 +43,8 @@ filter-map f p [] = refl
 filter-map {A} {B} f p (x ∷ xs) = by (p (f x)) (filter-map f p xs)
   where
     by : (b : Bool) → filter p (map f xs) ≡ map f (filter (λ a. p (f a)) xs)
-        → (if b then f x ∷ filter p (map f xs) else filter p (map f xs)) ≡ map f (if b then x ∷ filter (λ a. p (f a)) xs else filter (λ a. p (f a)) xs)
+        → (if b then f x ∷ filter p (map f xs) else filter p (map f xs))
+        ≡ map f (if b then x ∷ filter (λ a. p (f a)) xs else filter (λ a. p (f a)) xs)
     by true e = ap (λ ys. f x ∷ ys) e
     by false e = e
 
@@ -105,7 +106,8 @@ module _ (written x : Design) (met : AreMet written (hard_part x)) where
           → AreOf (cons_option (thread_by y s.own) (filter_map (λ s. thread_by y s.own) zs))
           (map (λ s. s.own) (if b then s ∷ filter (λ s. has_thread s.own.kind) zs else filter (λ s. has_thread s.own.kind) zs))
       by false e rest =
-          let none : thread_by y s.own ≡ None = ap (option_and_then (λ u. option_map (thread_at y s.own u) s.own.thread)) (no-timing s.own.kind s.own e) in
+          let none : thread_by y s.own ≡ None = ap (option_and_then (λ u. option_map (thread_at y s.own u) s.own.thread))
+          (no-timing s.own.kind s.own e) in
           subst (λ o. AreOf (cons_option o (filter_map (λ s. thread_by y s.own) zs)) (map (λ s. s.own) (filter (λ s. has_thread s.own.kind) zs)))
           (sym none) rest
       by true e rest =
@@ -117,7 +119,8 @@ module _ (written x : Design) (met : AreMet written (hard_part x)) where
             sort = sorted s.own t.0 (timing-of s.own t.0 t.2);
             starts = λ to sort. can-same written y met s t.1 to (service-count written y met) o t.3 (thread-needed written y met s t.1 o t.3) sort;
           } in
-          subst (λ u. AreOf (cons_option u (filter_map (λ s. thread_by y s.own) zs)) (s.own ∷ map (λ s. s.own) (filter (λ s. has_thread s.own.kind) zs)))
+          subst (λ u. AreOf (cons_option u (filter_map (λ s. thread_by y s.own) zs))
+          (s.own ∷ map (λ s. s.own) (filter (λ s. has_thread s.own.kind) zs)))
           (sym t.4) (one, rest)
 
   whole : AreOf (threads y) (thread_objects y)
@@ -135,7 +138,8 @@ module _ (written x : Design) (met : AreMet written (hard_part x)) where
       same : (b : Bool) → lookups.is_sporadic p.kind ≡ b → (is_sporadic u.timing && can_request ss u.name t.block) ≡ can_start y o p
       same true e =
           ap₂ (λ c n. c && can_request ss n t.block) (h.0.sort ∙ e) h.0.named ∙ i.starts p e
-      same false e = ap (λ c. c && can_request ss u.name t.block) (h.0.sort ∙ e) ∙ sym (ap (λ c. c && list_any (λ z. same_name z.object p.name) (thread_calls y o)) e)
+      same false e = ap (λ c. c && can_request ss u.name t.block) (h.0.sort ∙ e)
+          ∙ sym (ap (λ c. c && list_any (λ z. same_name z.object p.name) (thread_calls y o)) e)
 
       by : (b : Bool) → (is_sporadic u.timing && can_request ss u.name t.block) ≡ b
           → map (λ u. A6 t.name u.name) (filter (λ u. is_sporadic u.timing && can_request ss u.name t.block) ts)
@@ -238,4 +242,5 @@ module _ (written x : Design) (met : AreMet written (hard_part x)) where
       outer (is_client_name x) (threads y) (thread_objects y) whole
       ∙ ap (flat_map of_object) hard-clients
       ∙ flat-map hard_object of_object (clients x)
-      ∙ flat-same _ _ (clients x) (λ o h. ap (λ n. map (λ p. A6 n p.name) (filter (λ p. can_start y (hard_object o) p) (thread_objects y))) (hard-name o))
+      ∙ flat-same _ _ (clients x) (λ o h. ap (λ n. map (λ p. A6 n p.name) (filter (λ p. can_start y (hard_object o) p) (thread_objects y)))
+      (hard-name o))

@@ -49,7 +49,8 @@ use Rattle.background_designs.specs.Misfits.{A1, A2, A3, A4, A6, is_such, has_fo
 use Rattle.background_designs.specs.Misfits.{background_requests, slow_threads, misfits, is_sporadic, requesting_clients}
 use Rattle.background_designs.specs.Refusals.{IsBackgroundDesign, Version, Background, Hard, Requests}
 use Rattle.background_designs.specs.Programs.{raised, background_text, hard_rows}
-use Rattle.background_designs.specs.HardParts.{softened, soft_operation, soft_object, cyclic_client, protected_server, hard_object, hard_tree, hard_trees, hard_part}
+use Rattle.background_designs.specs.HardParts.{softened, soft_operation, soft_object, cyclic_client, protected_server, hard_object, hard_tree}
+use Rattle.background_designs.specs.HardParts.{hard_trees, hard_part}
 
 hser-is : (c : Option Constraint) → is_hser c ≡ true → c ≡ Some Hser
 hser-is None h = cc
@@ -85,9 +86,11 @@ module _ (written x : Design) (met : AreMet written x) where
   there s p h j =
       ap (option_and_then (λ (z : Standing). provided_named p.sig.name z.own.provides))
       (found-only (λ (z : Standing). same_name z.own.name s.own.name) (objects x) s h (same-self s.own.name)
-      (λ z k e. key-eq (λ (z : Standing). z.own.name) (objects x) (object-names x (no-clash written x met)) z s k h (same-is z.own.name s.own.name e)))
+      (λ z k e. key-eq (λ (z : Standing). z.own.name) (objects x) (object-names x (no-clash written x met)) z s k h
+      (same-is z.own.name s.own.name e)))
       ∙ found-only (λ (q : Provided). same_name q.sig.name p.sig.name) s.own.provides p j (same-self p.sig.name)
-      (λ q k e. key-eq (λ (q : Provided). q.sig.name) s.own.provides (op-names x s (no-clash written x met) h) q p k j (same-is q.sig.name p.sig.name e))
+      (λ q k e. key-eq (λ (q : Provided). q.sig.name) s.own.provides (op-names x s (no-clash written x met) h) q p k j
+      (same-is q.sig.name p.sig.name e))
 
   -- nothing that callers wait for is provided
   never-waits : (s : Standing) (p : Provided) → IsIn s (objects x) → IsIn p s.own.provides → is_hser p.constraint ≡ false
@@ -98,7 +101,8 @@ module _ (written x : Design) (met : AreMet written x) where
       by true e =
           let n : OpName = record { object = s.own.name; op = p.sig.name } in
           let r : Ends (objects x) (resolve x n) p = resolve-ends x (kept written x met).fit n p (there s p h j) in
-          let same = (and_parts (constraint_place p.constraint == constraint_place r.op.constraint) (same_params p.sig.params r.op.sig.params) r.agree).0 in
+          let same = (and_parts (constraint_place p.constraint == constraint_place r.op.constraint)
+          (same_params p.sig.params r.op.sig.params) r.agree).0 in
           let hard : r.op.constraint ≡ Some Hser = place-hser p.constraint r.op.constraint (hser-is p.constraint e) same in
           let among = (found-in (λ (q : Provided). same_name q.sig.name (resolve x n).op) r.standing.own.provides r.op r.provides).0 in
           let whole : (breaks_table true r.standing.own || list_any hands_out r.standing.own.provides) ≡ false =
@@ -115,7 +119,8 @@ module _ (written x : Design) (met : AreMet written x) where
           absurd (true≢false (sym active ∙ idle))
 
   soft-op : (p : Provided) → is_hser p.constraint ≡ false → soft_operation p ≡ p
-  soft-op p e = ap (λ c. let q : Provided = record { sig = p.sig; constraint = c } in q) (by (list_any (λ q. is_out q.mode) p.sig.params) p.constraint e)
+  soft-op p e = ap (λ c. let q : Provided = record { sig = p.sig; constraint = c } in q)
+      (by (list_any (λ q. is_out q.mode) p.sig.params) p.constraint e)
     where
       by : (b : Bool) (c : Option Constraint) → is_hser c ≡ false → softened b c ≡ c
       by b None h = refl
@@ -141,7 +146,8 @@ module _ (written x : Design) (met : AreMet written x) where
       ∙ soft-same s h
 
   mutual
-    tree-same : (p : Option Object) (ss : List Object) (t : Tree) → ((s : Standing) → IsIn s (standings p ss t) → IsIn s (objects x)) → hard_tree t ≡ t
+    tree-same : (p : Option Object) (ss : List Object) (t : Tree) → ((s : Standing) → IsIn s (standings p ss t) → IsIn s (objects x))
+        → hard_tree t ≡ t
     tree-same p ss (Node own Empty) h =
         let s : Standing = record { own = own; parent = p; siblings = ss; children = [] } in
         ap (λ o. Node o Empty) (hard-same s (h s (inl refl)) refl)
@@ -178,7 +184,8 @@ module _ (written x : Design) (met : AreMet written x) where
 
   no-misfit-actives : misfit_actives x ≡ []
   no-misfit-actives = none-kept _ (terminals x) (λ s h.
-      ap (λ b. only_if (b && (not (is_client s.own || is_server s.own) || (not (is_empty s.own.attrs) || has_foreign_parent s.parent))) (A1 s.own.name))
+      ap (λ b. only_if (b && (not (is_client s.own || is_server s.own) || (not (is_empty s.own.attrs) || has_foreign_parent s.parent)))
+      (A1 s.own.name))
       (not-idle s h))
 
   -- an operation that is named is one of an object
@@ -292,7 +299,8 @@ without-clients x v =
     ++ layout (program_lines (program_for f (ranks_by (first_priority x) x [])))) (map-same (restless_by []) (flat x).threads (λ t. refl))
     ∙ ap (λ r. head (flat x) (written_ranks (first_priority x) r) (take (length (flat x).threads - 0) (table (flat x)).places) v
     ++ layout (program_lines (program_for (flat x) (written_ranks (first_priority x) r)))) (unraised (ranks (flat x)))
-    ∙ ap (λ ps. head (flat x) (stated_ranks x) ps v ++ layout (program_lines (program x))) (take-all (length (flat x).threads - 0) (table (flat x)).places
+    ∙ ap (λ ps. head (flat x) (stated_ranks x) ps v ++ layout (program_lines (program x)))
+    (take-all (length (flat x).threads - 0) (table (flat x)).places
     (let a = few-made (λ p. position (λ q. q == p) (priorities_of (flat x))) (downwards (length (priorities_of (flat x)))) in
     let b = length-downwards (length (priorities_of (flat x))) in let c = long (flat x) 1 in omega (arith, a, b, c)))
   where

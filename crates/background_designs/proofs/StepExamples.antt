@@ -3,9 +3,10 @@ use Rattle.std.specs.Prelude.{◌≡◌, ◌++◌, ℕ, ◌<◌, [], ◌∷◌, 
 use Rattle.std.proofs.Common.{arith, not-suc-le-zero}
 use Rattle.seq_tree.specs.Statements.{Work, Null}
 use Rattle.ods_tree.specs.Designs.{Tree, Design}
-use Rattle.ods_tree.specs.declared.design.TickUnit.TheVariants.{Us}
+use Rattle.ods_tree.specs.declared.design.TickUnit.TheVariants.{Us, Ms, S}
+use Rattle.ods_tree.specs.declared.design.AttrKey.TheVariants.{Deadline}
 use Rattle.ods_tree.specs.Ticks.{in_ticks}
-use Rattle.ods_tree.proofs.Short.{cyc, spo, pro, several, design, call}
+use Rattle.ods_tree.proofs.Short.{cyc, cyc_with, spo, pro, several, design, call}
 use Rattle.ada_tree.specs.Words.{is_ada_name}
 use Rattle.design_rules.specs.Broken.{Broken, V01, V15Cost, V17Tick}
 use Rattle.design_rules.specs.Versions.{version_faults}
@@ -16,7 +17,7 @@ use Rattle.design_rules.specs.Rules.{Rule, AreMet, IsFirst, IsListed, Offends}
 use Rattle.design_rules.proofs.WorkedRules.{meets-where-nothing-told}
 use Rattle.background_designs.specs.HardParts.{hard_part}
 use Rattle.background_designs.specs.Misfits.{A5, A6, misfits, requesting_clients}
-use Rattle.background_designs.specs.Refusals.{Step, Version, Background, Hard, Requests, Breaks, Misfits, Passes, IsBackgroundDesign, IsFirstFault}
+use Rattle.background_designs.specs.Refusals.{Step, Version, Background, Hard, Requests, Breaks, Misfits, Passes, Tells, IsBackgroundDesign, IsFirstFault}
 use Rattle.background_designs.specs.Refusals.{number_of}
 use Rattle.background_designs.proofs.Examples.{client, waits, shared_with_client, through_protected}
 
@@ -182,3 +183,40 @@ clash_before_request = record {
     earlier Background less = refl
     earlier Hard less = absurd (omega (arith, less))
     earlier Requests less = absurd (omega (arith, less))
+
+-- background objects are judged in ticks: a deadline of 1,000,000 seconds, where a tick takes a millisecond
+abbrev slow_in_seconds : Design
+slow_in_seconds = record (design (cyc_with (codes "h") (record { key = Deadline; value = 1000000; unit = Some S } ∷ []) [] (Null ∷ [])))
+    { version = Some (record { tick = 1; unit = Ms; priorities = None }) }
+
+seconds_as_written : misfits slow_in_seconds ≡ []
+seconds_as_written = refl
+
+seconds_in_ticks : IsFirstFault slow_in_seconds (Misfits (A5 (codes "h")))
+seconds_in_ticks = record { step = Background; tells = refl; before = earlier }
+  where
+    earlier : (e : Step) → number_of e < 1 → Passes slow_in_seconds (in_ticks slow_in_seconds) e
+    earlier Version less = refl
+    earlier Background less = absurd (omega (arith, less))
+    earlier Hard less = absurd (omega (arith, less))
+    earlier Requests less = absurd (omega (arith, less))
+
+-- no misfit is told of a design that has none
+not_first : IsFirstFault shared_with_client (Misfits (A5 (codes "h"))) → ⊥
+not_first h = by h.step h.tells
+  where
+    by : (s : Step) → Tells shared_with_client shared_with_client s (Misfits (A5 (codes "h"))) → ⊥
+    by Version e = e
+    by Background e = cc
+    by Hard e = e
+    by Requests e = cc
+
+-- of two misfits the first is told
+not_second : IsFirstFault clash_and_slow (Misfits (A6 (codes "c") (codes "h"))) → ⊥
+not_second h = by h.step h.tells
+  where
+    by : (s : Step) → Tells clash_and_slow clash_and_slow s (Misfits (A6 (codes "c") (codes "h"))) → ⊥
+    by Version e = e
+    by Background e = cc
+    by Hard e = e
+    by Requests e = cc

@@ -1,3 +1,7 @@
 pub mod Actions
 pub mod Following
 pub mod Bounds
+pub mod Scopes
+pub mod Targets
+pub mod Stepping
+pub mod States

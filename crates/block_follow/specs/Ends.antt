@@ -1,7 +1,8 @@
 -- What a walk comes to, scripts aside: the variables and the ticks at its end, or how many actions are left where it stops.
 -- The ticks are the fewest and the most of that path.
-use Rattle.std.specs.Prelude.{ℕ, Result, Ok, Err}
+use Rattle.std.specs.Prelude.{ℕ, List, map, Result, Ok, Err}
 use Rattle.grammar.specs.Reading.{Halt, left_of}
+use Rattle.seq_tree.specs.Names.{Name}
 use Rattle.seq_tree.specs.Variables.{Variables}
 use Rattle.seq_tree.specs.Runs.{Path}
 
@@ -15,3 +16,7 @@ pub record End : Type 0 where
 abbrev pub comes_to : Result Path Halt → Result End ℕ
 comes_to (Ok p) = Ok (record { vars = p.vars; low = p.low; high = p.high })
 comes_to (Err halt) = Err (left_of halt)
+
+-- the names of variables
+abbrev pub names_of : Variables → List Name
+names_of vars = map (λ v. v.0) vars

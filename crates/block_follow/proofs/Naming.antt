@@ -1,5 +1,5 @@
 -- The names of the variables at the bottom of the stack: no step changes them.
-use Rattle.std.proofs.Common.{◌≡◌, ℕ, suc, ◌+◌, ◌*◌, Bool, true, false, List, [], ◌∷◌, length, drop, Option, Some, None, Ok, Err, refl, ap, ◌∙◌, cond}
+use Rattle.std.proofs.Common.{◌≡◌, ℕ, suc, ◌+◌, ◌*◌, ◌≤◌, arith, Bool, true, false, List, [], ◌∷◌, length, drop, Option, Some, None, Ok, Err, refl, ap, ◌∙◌, cond}
 use Rattle.std.specs.Prelude.{is_some, nat_le, nat_lt}
 use Rattle.seq_tree.specs.Names.{Name, same_name}
 use Rattle.seq_tree.specs.Expressions.{Expression}
@@ -134,3 +134,78 @@ by-names false costs calls d s = done-names costs calls d s
 pub step-names : (costs : Costs) (calls : Name → Name → Callee) (d : Doing) (s : State)
     → NamesStay (bottom (d ∷ s.doings) (names_of s.vars)) (step costs calls d s)
 step-names costs calls d s = by-names s.leaving costs calls d s
+
+-- a step leaves no more actions than there were
+abbrev pub Leaves : ℕ → Step → Type 0
+Leaves n (Ok t) = length t.script ≤ n
+Leaves n (Err left) = left ≤ n
+
+same-many : (xs : List Action) → length xs ≤ length xs
+same-many xs = omega arith
+
+told-leaves : (sees : Action → Bool) (script : List Action) (s : State) (next : State → Step)
+    → ((us : List Action) → length us ≤ length script → Leaves (length script) (next (record s { script = us })))
+    → Leaves (length script) (told_by sees script s next)
+told-leaves sees [] s next h = omega arith
+told-leaves sees (a ∷ us) s next h = by (sees a)
+  where
+    by : (b : Bool) → Leaves (length (a ∷ us)) (cond b (next (record s { script = us })) (Err (suc (length us))))
+    by true = h us (omega arith)
+    by false = omega arith
+
+left-leaves : (costs : Costs) (name : OpName) (count : ℕ) (stores : List Name) (us : List Action) (s : State) (n : ℕ) → length us ≤ n
+    → Leaves n (left_by costs name count stores us s)
+left-leaves costs name count stores [] s n le = omega arith
+left-leaves costs name count stores (a ∷ us) s n le = by (sees_leave name count a)
+  where
+    by : (o : Option (List ℕ)) → Leaves n (stored_by costs stores o us s)
+    by None = omega (arith, le)
+    by (Some results) = omega (arith, le)
+
+called-leaves : (costs : Costs) (name : OpName) (c : Callee) (actuals : List Expression) (s : State)
+    → Leaves (length s.script) (called costs name c actuals s)
+called-leaves costs name (Plain o) actuals s = same-many s.script
+called-leaves costs name (Protected params) actuals s =
+    told-leaves (λ a. is_some (sees_entry name (handed params actuals s.vars) a)) s.script s
+    (λ t. left_by costs name (length (out_names params)) (targets params actuals) t.script t)
+    (λ us le. left-leaves costs name (length (out_names params)) (targets params actuals) us (record s { script = us }) (length s.script) le)
+called-leaves costs name Asked actuals s =
+    told-leaves (λ a. is_some (sees_request name (request_value actuals s.vars) a)) s.script s
+    (λ t. Ok (spent (costs.call + 2 * costs.assign) (costs.call + 2 * costs.assign) t)) (λ us le. le)
+called-leaves costs name Unknown actuals s = same-many s.script
+
+turning-leaves : (b : Bool) (name : Name) (at last : ℕ) (body : Statements) (s : State)
+    → length (cond b (turning name at last body s) s).script ≤ length s.script
+turning-leaves true name at last body s = same-many s.script
+turning-leaves false name at last body s = same-many s.script
+
+begun-leaves : (costs : Costs) (calls : Name → Name → Callee) (st : Statement) (s : State) → Leaves (length s.script) (begun costs calls st s)
+begun-leaves costs calls Null s = same-many s.script
+begun-leaves costs calls (Assign target e) s = same-many s.script
+begun-leaves costs calls (If branches) s = same-many s.script
+begun-leaves costs calls (For name at last body) s = turning-leaves (nat_le at last) name at last body s
+begun-leaves costs calls (ExitWhen condition) s = same-many s.script
+begun-leaves costs calls (Call object op actuals) s = called-leaves costs (record { object = object; op = op }) (calls object op) actuals s
+begun-leaves costs calls (Work ticks) s = same-many s.script
+begun-leaves costs calls (Put e) s =
+    told-leaves (λ a. is_some (sees_print (value e s.vars) a)) s.script s (λ t. Ok (spent costs.put costs.put t)) (λ us le. le)
+
+branched-leaves : (costs : Costs) (branches : Branches) (s : State) → length (branched costs branches s).script ≤ length s.script
+branched-leaves costs Nothing s = same-many s.script
+branched-leaves costs (Else block) s = same-many s.script
+branched-leaves costs (When condition block others) s = same-many s.script
+
+by-leaves : (leaving : Bool) (costs : Costs) (calls : Name → Name → Callee) (d : Doing) (s : State)
+    → Leaves (length s.script) (step_by leaving costs calls d s)
+by-leaves true costs calls (Rest block) s = same-many s.script
+by-leaves true costs calls (Arms branches) s = same-many s.script
+by-leaves true costs calls (Turned name at last body) s = same-many s.script
+by-leaves true costs calls (Returned o actuals vars) s = same-many s.script
+by-leaves false costs calls (Rest End) s = same-many s.script
+by-leaves false costs calls (Rest (Then first more)) s = begun-leaves costs calls first (to_do (Rest more) s)
+by-leaves false costs calls (Arms branches) s = branched-leaves costs branches s
+by-leaves false costs calls (Turned name at last body) s = turning-leaves (nat_lt at last) name (at + 1) last body (turned_over costs s)
+by-leaves false costs calls (Returned o actuals vars) s = same-many s.script
+
+pub step-leaves : (costs : Costs) (calls : Name → Name → Callee) (d : Doing) (s : State) → Leaves (length s.script) (step costs calls d s)
+step-leaves costs calls d s = by-leaves s.leaving costs calls d s

@@ -1,10 +1,12 @@
 -- What a walk comes to, scripts aside: the variables and the ticks at its end, or how many actions are left where it stops.
 -- The ticks are the fewest and the most of that path.
-use Rattle.std.specs.Prelude.{ℕ, List, map, Result, Ok, Err}
+use Rattle.std.specs.Prelude.{◌≡◌, ℕ, ◌≤◌, List, map, Result, Ok, Err}
 use Rattle.grammar.specs.Reading.{Halt, left_of}
 use Rattle.seq_tree.specs.Names.{Name}
 use Rattle.seq_tree.specs.Variables.{Variables}
 use Rattle.seq_tree.specs.Runs.{Path}
+use Rattle.block_follow.specs.declared.along.Ended.{Ended}
+use Rattle.block_follow.specs.declared.along.Ended.TheVariants.{Done, Stopped}
 
 -- the end of a walk
 pub record End : Type 0 where
@@ -20,3 +22,11 @@ comes_to (Err halt) = Err (left_of halt)
 -- the names of variables
 abbrev pub names_of : Variables → List Name
 names_of vars = map (λ v. v.0) vars
+
+-- how the following of a block ended, by what its walk comes to: the values of the variables, whose names stay, and the ticks; or how many
+-- of the actions are left
+abbrev pub IsEnd : List Name → ℕ → Ended → Result End ℕ → Type 0
+IsEnd names count (Done low high values) (Ok e) =
+    (low ≡ e.low) × (high ≡ e.high) × (values.items ≡ map (λ v. v.1) e.vars) × (names_of e.vars ≡ names)
+IsEnd names count (Stopped left) (Err n) = (left ≡ n) × (left ≤ count)
+IsEnd names count _ _ = ⊥

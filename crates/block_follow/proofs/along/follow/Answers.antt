@@ -1,0 +1,91 @@
+use Rattle.std.proofs.Common.{ℕ, length, map, refl, ap, sym, ◌∙◌, Result}
+use Rattle.std.proofs.lemmas.List.{length-map}
+use Rattle.grammar.specs.Reading.{Halt, whole_at}
+use Rattle.seq_tree.specs.Runs.{Path}
+use Rattle.seq_tree.specs.Trees.{block_of, offer_of, operation_of}
+use Rattle.block_walks.specs.Walks.{walk_at}
+use Rattle.block_follow.specs.Actions.{action_of}
+use Rattle.block_follow.specs.Ends.{comes_to, names_of}
+use Rattle.block_follow.specs.Following.{callees}
+use Rattle.block_follow.specs.declared.along.Ended.TheVariants.{Done, Stopped}
+use Rattle.block_follow.proofs.Answering.{answer-done, answer-off, answer-short, at-depth, done-length, known, stopped-within}
+use Rattle.block_follow.proofs.Keeping.{deep-enough, deepest}
+use Rattle.block_follow.proofs.along.follow.Goals as goal
+
+pub set_values-requires : goal.set_values-requires
+set_values-requires c =
+    let a = c.args in
+    let calls = callees a.owners.now (map operation_of a.passive.now) (map offer_of a.shared.now) (map offer_of a.requests.now) in
+    let b = block_of a.block.now in
+    let vars = a.env.now.slots.items in
+    let script = map action_of a.script.now in
+    let n = length a.script.now in
+    let whole : ℕ → Result Path Halt = λ d. whole_at (walk_at a.costs.now calls d b vars) script in
+    let ended = known (names_of vars) n (λ d. comes_to (whole d)) c.in_ok-low.field-0 (Done c.in-Done.low c.in-Done.high c.in-Done.values) c.in-Done.is
+        c.in_ok-low.ensures in
+    ap length c.as_slice.ensures.value
+    ∙ done-length (names_of vars) n c.in-Done.low c.in-Done.high c.in-Done.values (comes_to (whole deepest)) (ended deepest deep-enough)
+    ∙ length-map vars (λ v. v.0)
+
+pub overflow_sub-result : goal.overflow_sub-result
+overflow_sub-result c =
+    let a = c.args in
+    let calls = callees a.owners.now (map operation_of a.passive.now) (map offer_of a.shared.now) (map offer_of a.requests.now) in
+    let b = block_of a.block.now in
+    let vars = a.env.now.slots.items in
+    let script = map action_of a.script.now in
+    let n = length a.script.now in
+    let whole : ℕ → Result Path Halt = λ d. whole_at (walk_at a.costs.now calls d b vars) script in
+    let ended = known (names_of vars) n (λ d. comes_to (whole d)) c.in_ok-low.field-0 (Stopped c.in-Stopped.left) c.in-Stopped.is c.in_ok-low.ensures in
+    stopped-within (names_of vars) n c.in-Stopped.left (comes_to (whole deepest)) (ended deepest deep-enough)
+
+pub returns-in-Done : goal.returns-in-Done
+returns-in-Done c =
+    let a = c.args in
+    let calls = callees a.owners.now (map operation_of a.passive.now) (map offer_of a.shared.now) (map offer_of a.requests.now) in
+    let b = block_of a.block.now in
+    let vars = a.env.now.slots.items in
+    let script = map action_of a.script.now in
+    let n = length a.script.now in
+    let whole : ℕ → Result Path Halt = λ d. whole_at (walk_at a.costs.now calls d b vars) script in
+    let ended = known (names_of vars) n (λ d. comes_to (whole d)) c.in_ok-low.field-0 (Done c.in-Done.low c.in-Done.high c.in-Done.values) c.in-Done.is
+        c.in_ok-low.ensures in
+    record {
+      says = λ depth may.
+          answer-done (whole depth) (names_of vars) n (length script) c.in-Done.low c.in-Done.high c.in-Done.values vars c.set_values.new.env.slots.items
+          (at-depth a.costs.now calls b vars script (names_of vars) n (Done c.in-Done.low c.in-Done.high c.in-Done.values) depth ended may)
+          c.set_values.ensures.names (c.set_values.ensures.values ∙ c.as_slice.ensures.value);
+    }
+
+pub returns-then-left-eq0 : goal.returns-then-left-eq0
+returns-then-left-eq0 c =
+    let a = c.args in
+    let calls = callees a.owners.now (map operation_of a.passive.now) (map offer_of a.shared.now) (map offer_of a.requests.now) in
+    let b = block_of a.block.now in
+    let vars = a.env.now.slots.items in
+    let script = map action_of a.script.now in
+    let n = length a.script.now in
+    let whole : ℕ → Result Path Halt = λ d. whole_at (walk_at a.costs.now calls d b vars) script in
+    let ended = known (names_of vars) n (λ d. comes_to (whole d)) c.in_ok-low.field-0 (Stopped c.in-Stopped.left) c.in-Stopped.is c.in_ok-low.ensures in
+    record {
+      says = λ depth may.
+          answer-short (whole depth) (names_of vars) n (length script) c.in-Stopped.left vars vars
+          (at-depth a.costs.now calls b vars script (names_of vars) n (Stopped c.in-Stopped.left) depth ended may) c.if-left-eq0.true refl;
+    }
+
+pub returns-else-left-eq0 : goal.returns-else-left-eq0
+returns-else-left-eq0 c =
+    let a = c.args in
+    let calls = callees a.owners.now (map operation_of a.passive.now) (map offer_of a.shared.now) (map offer_of a.requests.now) in
+    let b = block_of a.block.now in
+    let vars = a.env.now.slots.items in
+    let script = map action_of a.script.now in
+    let n = length a.script.now in
+    let whole : ℕ → Result Path Halt = λ d. whole_at (walk_at a.costs.now calls d b vars) script in
+    let ended = known (names_of vars) n (λ d. comes_to (whole d)) c.in_ok-low.field-0 (Stopped c.in-Stopped.left) c.in-Stopped.is c.in_ok-low.ensures in
+    record {
+      says = λ depth may.
+          answer-off (whole depth) (names_of vars) n (length script) c.in-Stopped.left vars vars
+          (at-depth a.costs.now calls b vars script (names_of vars) n (Stopped c.in-Stopped.left) depth ended may) c.if-left-eq0.false
+          (length-map a.script.now action_of) refl;
+    }

@@ -1,19 +1,23 @@
 -- What the end of the following of a block means for the answer, at any depth at which the block may be walked.
-use Rattle.std.proofs.Common.{◌≡◌, ℕ, zero, suc, ◌+◌, ◌-◌, ◌≤◌, ◌<◌, List, [], ◌∷◌, length, map, Result, Ok, Err, refl, sym, ap, ◌∙◌, arith, subst}
+use Rattle.std.proofs.Common.{◌≡◌, ◌++◌, take, append-nil, append_assoc, length-append, ℕ, zero, suc, ◌+◌, ◌-◌, ◌≤◌, ◌<◌, List, [], ◌∷◌, length, map, Result, Ok, Err, refl, sym, ap, ◌∙◌, arith, subst}
 use Rattle.std.specs.Prelude.{Vec}
 use Rattle.std.specs.declared.alloc.Global.{Global}
 use Rattle.std.proofs.lemmas.List.{length-map}
-use Rattle.grammar.specs.Reading.{Halt, left_of, whole_at}
+use Rattle.std.proofs.Math.Seq.{take-append_seam}
+use Rattle.grammar.specs.Reading.{Halt, IsFirstFault, left_of, whole_at}
 use Rattle.seq_tree.specs.Names.{Name}
 use Rattle.seq_tree.specs.Statements.{Statements}
 use Rattle.seq_tree.specs.Variables.{Variables}
 use Rattle.seq_tree.specs.Runs.{Action, Callee, Path}
 use Rattle.seq_tree.specs.declared.tree.Costs.{Costs}
 use Rattle.block_walks.specs.Fit.{MayRun}
+use Rattle.block_walks.specs.Laws.{RunOf}
 use Rattle.block_walks.specs.Walks.{walk_at}
+use Rattle.block_walks.proofs.Exact.{tells}
 use Rattle.block_follow.specs.Ends.{IsEnd, comes_to, names_of}
 use Rattle.block_follow.specs.Ends as ends
-use Rattle.block_follow.specs.Following.{Answers}
+use Rattle.block_follow.specs.Following.{Answers, Means}
+use Rattle.block_follow.specs.declared.action.Followed.{Followed}
 use Rattle.block_follow.specs.declared.action.Followed.TheVariants as followed
 use Rattle.block_follow.specs.declared.along.Ended.{Ended}
 use Rattle.block_follow.specs.declared.along.Ended.TheVariants.{Done, Stopped}
@@ -82,3 +86,70 @@ at-depth costs calls b vars script names n e depth h may =
 pub known : (names : List Name) (n : ℕ) (W : ℕ → Result ends.End ℕ) (e f : Ended) → e ≡ f → ((d : ℕ) → most < d → IsEnd names n e (W d))
     → (d : ℕ) → most < d → IsEnd names n f (W d)
 known names n W e f same h d big = subst (λ x. IsEnd names n x (W d)) same (h d big)
+
+-- the answer in words of runs
+take-one : (xs : List Action) (t : Action) (more : List Action) → take (suc (length xs)) (xs ++ t ∷ more) ≡ xs ++ t ∷ []
+take-one [] t more = refl
+take-one (x ∷ xs) t more = ap (λ ys. x ∷ ys) (take-one xs t more)
+
+some-first : (xs : List Action) → 1 ≤ length xs → (t : Action) × (more : List Action) × (xs ≡ t ∷ more)
+some-first [] le = absurd (omega (arith, le))
+some-first (x ∷ xs) le = (x, xs, refl)
+
+no-items : (xs : List Action) → length xs ≡ 0 → xs ≡ []
+no-items [] e = refl
+no-items (x ∷ xs) e = absurd (omega (arith, e))
+
+module _ (costs : Costs) (calls : Name → Name → Callee) (b : Statements) (before : Variables) (script : List Action) where
+  abbrev Runs : Path → List Action → Type 0
+  Runs = RunOf costs calls b before
+
+  one-path : (p q : Path) (r : Result Path Halt) → r ≡ Ok p → r ≡ Ok q → q ≡ p
+  one-path p q r e f = cc
+
+  means-short : (left : ℕ) (after : Variables) → IsFirstFault Runs script left → left ≡ 0 → after ≡ before
+      → Means costs calls b before script (Ok followed.Short) after
+  means-short left after f none kept =
+      let front : script ≡ f.front = f.split ∙ ap (λ ys. f.front ++ ys) (no-items f.back (f.place ∙ none)) ∙ append-nil f.front in
+      ((f.tail, (f.last, f.begins.0, sym f.begins.1 ∙ ap (λ xs. xs ++ f.tail) (sym front))), λ h. f.no_text h.0 (h.1, sym h.2), kept)
+
+  means-off : (k left : ℕ) (after : Variables) → IsFirstFault Runs script left → k + left ≡ length script → 1 ≤ left → after ≡ before
+      → Means costs calls b before script (Ok (followed.Off k)) after
+  means-off k left after f sum some kept =
+      let place = f.place in
+      let cut : (t : Action) × (more : List Action) × (f.back ≡ t ∷ more) = some-first f.back (omega (arith, place, some)) in
+      let total = ap length f.split ∙ length-append f.front f.back in
+      let count : k ≡ length f.front = omega (arith, sum, place, total) in
+      let first : take k script ≡ f.front
+          = ap (λ n. take n script) count ∙ ap (take (length f.front)) f.split ∙ take-append_seam f.front f.back in
+      let next : take (suc k) script ≡ f.front ++ cut.0 ∷ []
+          = ap (λ n. take (suc n) script) count ∙ ap (take (suc (length f.front))) (f.split ∙ ap (λ ys. f.front ++ ys) cut.2)
+          ∙ take-one f.front cut.0 cut.1 in
+      (
+        omega (arith, sum, some),
+        (f.tail, (f.last, f.begins.0, sym f.begins.1 ∙ ap (λ xs. xs ++ f.tail) (sym first))),
+        λ h. f.ends cut.0 cut.1 h.0 h.1.0 cut.2
+        (h.1.1, sym (append_assoc f.front (cut.0 ∷ []) h.0) ∙ ap (λ xs. xs ++ h.0) (sym next) ∙ sym h.1.2),
+        kept,
+      )
+
+  means-by : (r : Result Path Halt) (count : ℕ) (answer : Followed) (after : Variables) → count ≡ length script
+      → ((p : Path) → r ≡ Ok p → Runs p script) → ((p : Path) → Runs p script → r ≡ Ok p)
+      → ((halt : Halt) → r ≡ Err halt → IsFirstFault Runs script (left_of halt))
+      → Answers r count before answer after → Means costs calls b before script (Ok answer) after
+  means-by (Ok p) count (followed.Done low high) after n found only fault h =
+      let one = found p refl in
+      (p, one.0, sym one.1, sym h.0, sym h.1, sym h.2, λ q run same. one-path p q (Ok p) refl (only q (run, sym same)))
+  means-by (Ok p) count followed.Short after n found only fault h = absurd h
+  means-by (Ok p) count (followed.Off k) after n found only fault h = absurd h
+  means-by (Err halt) count (followed.Done low high) after n found only fault h = absurd h
+  means-by (Err halt) count followed.Short after n found only fault h = means-short (left_of halt) after (fault halt refl) h.0 h.1
+  means-by (Err halt) count (followed.Off k) after n found only fault h =
+      means-off k (left_of halt) after (fault halt refl) (h.0 ∙ n) h.1 h.2
+
+  pub means : (depth : ℕ) (answer : Followed) (after : Variables) → MayRun calls depth b
+      → Answers (whole_at (walk_at costs calls depth b before) script) (length script) before answer after
+      → Means costs calls b before script (Ok answer) after
+  means depth answer after may h =
+      let t = tells costs calls depth b before script may in
+      means-by (whole_at (walk_at costs calls depth b before) script) (length script) answer after refl t.found t.only t.fault h

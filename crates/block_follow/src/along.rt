@@ -6,7 +6,7 @@ ghost use Rattle.block_walks.specs.Walks.{walk_at};
 ghost use Rattle.block_follow.specs.Actions.{action_of};
 ghost use Rattle.block_follow.specs.Bounds.{most_ticks};
 ghost use Rattle.block_follow.specs.Ends.{IsEnd, comes_to, names_of};
-ghost use Rattle.block_follow.specs.Following.{Follows, callees};
+ghost use Rattle.block_follow.specs.Following.{Follows, Means, callees};
 ghost use Rattle.block_follow.specs.Targets.{leads};
 
 use crate::action::{Action, Followed};
@@ -151,6 +151,10 @@ pub fn follow(
     ensures says { (depth : ℕ)
         → MayRun (callees owners.now (map operation_of passive.now) (map offer_of shared.now) (map offer_of requests.now)) depth (block_of block.now)
         → Follows costs.now (callees owners.now (map operation_of passive.now) (map offer_of shared.now) (map offer_of requests.now)) depth
+        (block_of block.now) env.old.slots.items (map action_of script.now) result env.new.slots.items }
+    ensures means { (depth : ℕ)
+        → MayRun (callees owners.now (map operation_of passive.now) (map offer_of shared.now) (map offer_of requests.now)) depth (block_of block.now)
+        → Means costs.now (callees owners.now (map operation_of passive.now) (map offer_of shared.now) (map offer_of requests.now))
         (block_of block.now) env.old.slots.items (map action_of script.now) result env.new.slots.items }
 {
     match run(

@@ -1,14 +1,16 @@
-use Rattle.std.proofs.Common.{ℕ, length, map, refl, ap, sym, ◌∙◌, Result}
+use Rattle.std.proofs.Common.{ℕ, ◌-◌, length, map, refl, ap, sym, ◌∙◌, Result}
 use Rattle.std.proofs.lemmas.List.{length-map}
 use Rattle.grammar.specs.Reading.{Halt, whole_at}
 use Rattle.seq_tree.specs.Runs.{Path}
 use Rattle.seq_tree.specs.Trees.{block_of, offer_of, operation_of}
+use Rattle.block_walks.specs.Fit.{MayRun}
 use Rattle.block_walks.specs.Walks.{walk_at}
 use Rattle.block_follow.specs.Actions.{action_of}
 use Rattle.block_follow.specs.Ends.{comes_to, names_of}
-use Rattle.block_follow.specs.Following.{callees}
+use Rattle.block_follow.specs.Following.{Answers, callees}
+use Rattle.block_follow.specs.declared.action.Followed.TheVariants as followed
 use Rattle.block_follow.specs.declared.along.Ended.TheVariants.{Done, Stopped}
-use Rattle.block_follow.proofs.Answering.{answer-done, answer-off, answer-short, at-depth, done-length, known, stopped-within}
+use Rattle.block_follow.proofs.Answering.{answer-done, answer-off, answer-short, at-depth, done-length, known, means, stopped-within}
 use Rattle.block_follow.proofs.Keeping.{deep-enough, deepest}
 use Rattle.block_follow.proofs.along.follow.Goals as goal
 
@@ -50,11 +52,15 @@ returns-in-Done c =
     let whole : ℕ → Result Path Halt = λ d. whole_at (walk_at a.costs.now calls d b vars) script in
     let ended = known (names_of vars) n (λ d. comes_to (whole d)) c.in_ok-low.field-0 (Done c.in-Done.low c.in-Done.high c.in-Done.values) c.in-Done.is
         c.in_ok-low.ensures in
+    let after = c.set_values.new.env.slots.items in
+    let says : (depth : ℕ) → MayRun calls depth b → Answers (whole depth) (length script) vars (followed.Done c.in-Done.low c.in-Done.high) after
+        = λ depth may.
+        answer-done (whole depth) (names_of vars) n (length script) c.in-Done.low c.in-Done.high c.in-Done.values vars after
+        (at-depth a.costs.now calls b vars script (names_of vars) n (Done c.in-Done.low c.in-Done.high c.in-Done.values) depth ended may)
+        c.set_values.ensures.names (c.set_values.ensures.values ∙ c.as_slice.ensures.value) in
     record {
-      says = λ depth may.
-          answer-done (whole depth) (names_of vars) n (length script) c.in-Done.low c.in-Done.high c.in-Done.values vars c.set_values.new.env.slots.items
-          (at-depth a.costs.now calls b vars script (names_of vars) n (Done c.in-Done.low c.in-Done.high c.in-Done.values) depth ended may)
-          c.set_values.ensures.names (c.set_values.ensures.values ∙ c.as_slice.ensures.value);
+      says = says;
+      means = λ depth may. means a.costs.now calls b vars script depth (followed.Done c.in-Done.low c.in-Done.high) after may (says depth may);
     }
 
 pub returns-then-left-eq0 : goal.returns-then-left-eq0
@@ -67,10 +73,13 @@ returns-then-left-eq0 c =
     let n = length a.script.now in
     let whole : ℕ → Result Path Halt = λ d. whole_at (walk_at a.costs.now calls d b vars) script in
     let ended = known (names_of vars) n (λ d. comes_to (whole d)) c.in_ok-low.field-0 (Stopped c.in-Stopped.left) c.in-Stopped.is c.in_ok-low.ensures in
+    let says : (depth : ℕ) → MayRun calls depth b → Answers (whole depth) (length script) vars followed.Short vars
+        = λ depth may.
+        answer-short (whole depth) (names_of vars) n (length script) c.in-Stopped.left vars vars
+        (at-depth a.costs.now calls b vars script (names_of vars) n (Stopped c.in-Stopped.left) depth ended may) c.if-left-eq0.true refl in
     record {
-      says = λ depth may.
-          answer-short (whole depth) (names_of vars) n (length script) c.in-Stopped.left vars vars
-          (at-depth a.costs.now calls b vars script (names_of vars) n (Stopped c.in-Stopped.left) depth ended may) c.if-left-eq0.true refl;
+      says = says;
+      means = λ depth may. means a.costs.now calls b vars script depth followed.Short vars may (says depth may);
     }
 
 pub returns-else-left-eq0 : goal.returns-else-left-eq0
@@ -83,9 +92,12 @@ returns-else-left-eq0 c =
     let n = length a.script.now in
     let whole : ℕ → Result Path Halt = λ d. whole_at (walk_at a.costs.now calls d b vars) script in
     let ended = known (names_of vars) n (λ d. comes_to (whole d)) c.in_ok-low.field-0 (Stopped c.in-Stopped.left) c.in-Stopped.is c.in_ok-low.ensures in
+    let says : (depth : ℕ) → MayRun calls depth b → Answers (whole depth) (length script) vars (followed.Off (n - c.in-Stopped.left)) vars
+        = λ depth may.
+        answer-off (whole depth) (names_of vars) n (length script) c.in-Stopped.left vars vars
+        (at-depth a.costs.now calls b vars script (names_of vars) n (Stopped c.in-Stopped.left) depth ended may) c.if-left-eq0.false
+        (length-map a.script.now action_of) refl in
     record {
-      says = λ depth may.
-          answer-off (whole depth) (names_of vars) n (length script) c.in-Stopped.left vars vars
-          (at-depth a.costs.now calls b vars script (names_of vars) n (Stopped c.in-Stopped.left) depth ended may) c.if-left-eq0.false
-          (length-map a.script.now action_of) refl;
+      says = says;
+      means = λ depth may. means a.costs.now calls b vars script depth (followed.Off (n - c.in-Stopped.left)) vars may (says depth may);
     }

@@ -1,5 +1,0 @@
-use Rattle.std.proofs.Common.{length}
-use Rattle.block_follow.proofs.params.+hands.Given as goal
-
-abbrev pub decreases-hands : goal.decreases-hands
-decreases-hands l = length l.params.now

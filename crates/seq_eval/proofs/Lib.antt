@@ -1,3 +1,14 @@
 pub mod Reading
 pub mod Truths
 pub mod Divisions
+pub mod Scoping
+pub mod Entering
+pub mod Offering
+pub mod Meaning
+pub mod Tolls
+pub mod Naming
+pub mod Depths
+pub mod Keeping
+pub mod Ending
+pub mod Answering
+pub mod FollowExamples

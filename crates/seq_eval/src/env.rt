@@ -13,7 +13,7 @@ pub struct Env {
 
 /// Whether two names are one.
 #[tactic(auto, using(crate::proofs::Reading::names))]
-fn is_same(one: &Name, other: &Name) -> bool
+pub(crate) fn is_same(one: &Name, other: &Name) -> bool
     ensures { result ≡ same_name one.now other.now }
 {
     one.same(other)

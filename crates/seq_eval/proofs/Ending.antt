@@ -1,0 +1,149 @@
+-- The loop over what is to do: the innermost frame, a step, and the end.
+use Rattle.std.proofs.Common.{◌≡◌, ℕ, ◌+◌, ◌≤◌, ◌<◌, Bool, true, false, not, List, [], ◌∷◌, ◌++◌, length, map, take, set, get_or, Result, Ok, Err, refl, sym, ap, ◌∙◌}
+use Rattle.std.proofs.Common.{arith, subst}
+use Rattle.std.specs.Prelude.{Vec}
+use Rattle.std.specs.declared.alloc.Global.{Global}
+use Rattle.std.proofs.Math.Seq.{map-set_same}
+use Rattle.std.proofs.lemmas.List.{length-map, length-set, map-append, take_more, take_more_set}
+use Rattle.grammar.specs.Reading.{whole_at}
+use Rattle.seq_tree.specs.Names.{Name}
+use Rattle.seq_tree.specs.Statements.{Statements, End}
+use Rattle.seq_tree.specs.Trees.{block_of, statement_of, statements_of}
+use Rattle.seq_tree.specs.Variables.{Variables}
+use Rattle.seq_tree.specs.Runs.{Action, Callee}
+use Rattle.seq_tree.specs.declared.tree.Block.{Block}
+use Rattle.seq_tree.specs.declared.tree.Costs.{Costs}
+use Rattle.seq_tree.proofs.TreeForms.{block-tree}
+use Rattle.block_walks.specs.Walks.{walk_at}
+use Rattle.seq_eval.specs.Actions.{action_of}
+use Rattle.seq_eval.specs.Ends.{IsEnd, comes_to, names_of}
+use Rattle.seq_eval.specs.Ends as ends
+use Rattle.seq_eval.specs.States.{doing_of, doings_of}
+use Rattle.seq_eval.specs.Stepping.{Doing, Rest, HasFew, State, Step, to_do, moved, step}
+use Rattle.seq_eval.specs.declared.action.Action as rust
+use Rattle.seq_eval.specs.declared.along.Ended.{Ended}
+use Rattle.seq_eval.specs.declared.along.Ended.TheVariants.{Done, Stopped}
+use Rattle.seq_eval.specs.declared.walk.Frame.{Frame}
+use Rattle.seq_eval.proofs.Keeping.{IsCheap, Keeps, begins-kept, deepest, doings-length, doings-snoc, few, most, nearer, off-fewer, off-keeps, on-keeps}
+use Rattle.seq_eval.proofs.Meaning.{rest_of}
+use Rattle.seq_eval.proofs.Tolls.{toll}
+
+-- one more variable of a list has its value
+pub one-set-names : (slots : List (Name × ℕ)) (at v : ℕ) (was : Name × ℕ) → was ≡ get_or slots at was
+    → names_of (set slots at (was.0, v)) ≡ names_of slots
+one-set-names slots at v was is = map-set_same (λ x. x.0) slots at (was.0, v) was (ap (λ x. x.0) is)
+
+pub one-set-value : (slots : List (Name × ℕ)) (values : List ℕ) (at : ℕ) (n : Name) → length slots ≡ length values → at < length values
+    → map (λ x. x.1) (take at slots) ≡ take at values
+    → map (λ x. x.1) (take (at + 1) (set slots at (n, get_or values at 0))) ≡ take (at + 1) values
+one-set-value slots values at n even within was =
+    let v : ℕ = get_or values at 0 in
+    ap (map (λ x. x.1)) (take_more_set slots at (n, v) (omega (arith, even, within)))
+    ∙ map-append (λ x. x.1) (take at slots) ((n, v) ∷ []) ∙ ap (λ xs. xs ++ v ∷ []) was ∙ sym (take_more values at 0 within)
+
+module _ (costs : Costs) (calls : Name → Name → Callee) (b : Statements) (whole : ℕ → Result ends.End ℕ) (names : List Name) (count : ℕ) where
+  abbrev Keeping : State → Type 0
+  Keeping = Keeps costs calls b whole names count
+
+  -- the innermost frame is taken off
+  pub popped : (fs rest : List Frame) (f : Frame) (leaving : Bool) (vars : Variables) (low high : ℕ) (script : List Action)
+      → fs ≡ rest ++ f ∷ []
+      → Keeping (record { doings = doings_of fs; leaving = leaving; vars = vars; low = low; high = high; script = script })
+      → Keeping (to_do (doing_of f) (record { doings = doings_of rest; leaving = leaving; vars = vars; low = low; high = high; script = script }))
+  popped fs rest f leaving vars low high script e =
+      subst (λ ds. Keeping (record { doings = ds; leaving = leaving; vars = vars; low = low; high = high; script = script }))
+      (ap doings_of e ∙ doings-snoc rest f)
+
+  rest-few : (rest : List Frame) → length rest ≤ most → length (doings_of rest) ≤ most
+  rest-few rest some = let e = doings-length rest in omega (arith, e, some)
+
+  -- it is done
+  pub stepped : (rest : List Frame) (f : Frame) (leaving : Bool) (vars : Variables) (low high : ℕ) (script : List Action) (on : Bool) (t : State)
+      → length rest ≤ most
+      → Keeping (to_do (doing_of f) (record { doings = doings_of rest; leaving = leaving; vars = vars; low = low; high = high; script = script }))
+      → moved on t ≡ step costs calls (doing_of f) (record { doings = doings_of rest; leaving = leaving; vars = vars; low = low; high = high; script = script })
+      → on ≡ true → Keeping t
+  stepped rest f leaving vars low high script on t some k e made =
+      on-keeps costs calls b whole names count (doing_of f) _ t (rest-few rest some) k (sym e ∙ ap (λ x. moved x t) made)
+
+  -- or the following stops
+  ended-at : (n left : ℕ) (r : Result ends.End ℕ) → r ≡ Err n → left ≡ n → n ≤ count → IsEnd names count (Stopped left) r
+  ended-at n left r e same le = subst (IsEnd names count (Stopped left)) (sym e) (same, omega (arith, same, le))
+
+  pub stopped : (rest : List Frame) (f : Frame) (leaving : Bool) (vars : Variables) (low high : ℕ) (script : List Action) (on : Bool) (t : State)
+      (left : ℕ) → length rest ≤ most
+      → Keeping (to_do (doing_of f) (record { doings = doings_of rest; leaving = leaving; vars = vars; low = low; high = high; script = script }))
+      → moved on t ≡ step costs calls (doing_of f) (record { doings = doings_of rest; leaving = leaving; vars = vars; low = low; high = high; script = script })
+      → on ≡ false → left ≡ length t.script → (depth : ℕ) → most < depth → IsEnd names count (Stopped left) (whole depth)
+  stopped rest f leaving vars low high script on t left some k e made same depth big =
+      let stops = sym e ∙ ap (λ x. moved x t) made in
+      ended-at (length t.script) left (whole depth)
+      (off-keeps costs calls b whole names count (doing_of f) _ (length t.script) (rest-few rest some) k stops depth big) same
+      (off-fewer costs calls b whole names count (doing_of f) _ (length t.script) k stops)
+
+  -- ticks that are too many are none of a block whose walks take few
+  pub too-many : (s : State) (left : ℕ) → Keeping s → (HasFew s → ⊥) → IsCheap costs calls b → (depth : ℕ) → most < depth
+      → IsEnd names count (Stopped left) (whole depth)
+  too-many s left k many cheap depth big = absurd (many (few costs calls b whole names count s k cheap))
+
+  -- nothing is left to do
+  none-left : (vars : Variables) (low high : ℕ) (leaving : Bool) (script : List Action) (a : Action) (us : List Action) → script ≡ a ∷ us
+      → Keeping (record { doings = []; leaving = leaving; vars = vars; low = low; high = high; script = script })
+      → (depth : ℕ) → most < depth → whole depth ≡ Err (length script)
+  none-left vars low high leaving script a us e k depth big =
+      sym (k.kept depth big) ∙ ap (λ xs. rest_of costs calls depth (record { doings = []; leaving = leaving; vars = vars; low = low; high = high; script = xs })) e
+      ∙ ap (λ xs. Err (length xs)) (sym e)
+
+  pub left-over : (fs : List Frame) (vars : Variables) (low high : ℕ) (leaving : Bool) (script : List Action) (left : ℕ) → fs ≡ []
+      → (length script ≡ 0 → ⊥) → left ≡ length script
+      → Keeping (record { doings = doings_of fs; leaving = leaving; vars = vars; low = low; high = high; script = script })
+      → (depth : ℕ) → most < depth → IsEnd names count (Stopped left) (whole depth)
+  left-over fs vars low high leaving [] left none some same k depth big = absurd (some refl)
+  left-over fs vars low high leaving (a ∷ us) left none some same k depth big =
+      let k' = subst (λ xs. Keeping (record { doings = doings_of xs; leaving = leaving; vars = vars; low = low; high = high; script = a ∷ us })) none k in
+      ended-at (length (a ∷ us)) left (whole depth) (none-left vars low high leaving (a ∷ us) a us refl k' depth big) same k.fewer
+
+  pub all-done : (fs : List Frame) (vars : Variables) (low high : ℕ) (leaving : Bool) (script : List Action) (values : Vec ℕ Global) → fs ≡ [] → length script ≡ 0
+      → values.items ≡ map (λ v. v.1) vars
+      → Keeping (record { doings = doings_of fs; leaving = leaving; vars = vars; low = low; high = high; script = script })
+      → (depth : ℕ) → most < depth → IsEnd names count (Done low high values) (whole depth)
+  all-done fs vars low high leaving (a ∷ us) values none some same k depth big = absurd (omega (arith, some))
+  all-done fs vars low high leaving [] values none some same k depth big =
+      let k' = subst (λ xs. Keeping (record { doings = doings_of xs; leaving = leaving; vars = vars; low = low; high = high; script = [] })) none k in
+      subst (IsEnd names count (Done low high values)) (k'.kept depth big) (refl, refl, same, k'.names-stay)
+
+-- the beginning
+pub begun : (costs : Costs) (calls : Name → Name → Callee) (b : Block) (fs : List Frame) (vars env : Variables) (script : List rust.Action)
+    → doings_of fs ≡ Rest (statements_of (map statement_of b.stmts.items)) ∷ [] → vars ≡ env
+    → Keeps costs calls (block_of b) (λ depth. comes_to (whole_at (walk_at costs calls depth (block_of b) env) (map action_of script))) (names_of env) (length script)
+    (record { doings = doings_of fs; leaving = false; vars = vars; low = 0; high = 0; script = map action_of script })
+begun costs calls b fs vars env script made same =
+    let k = begins-kept costs calls (block_of b) env (map action_of script) in
+    let n = length-map script action_of in
+    let all = subst (λ c. Keeps costs calls (block_of b) (λ depth. comes_to (whole_at (walk_at costs calls depth (block_of b) env) (map action_of script)))
+        (names_of env) c (record { doings = Rest (block_of b) ∷ []; leaving = false; vars = env; low = 0; high = 0; script = map action_of script })) n k in
+    let named = subst (λ vs. Keeps costs calls (block_of b) (λ depth. comes_to (whole_at (walk_at costs calls depth (block_of b) env) (map action_of script)))
+        (names_of env) (length script)
+        (record { doings = Rest (block_of b) ∷ []; leaving = false; vars = vs; low = 0; high = 0; script = map action_of script })) (sym same) all in
+    subst (λ ds. Keeps costs calls (block_of b) (λ depth. comes_to (whole_at (walk_at costs calls depth (block_of b) env) (map action_of script)))
+    (names_of env) (length script)
+    (record { doings = ds; leaving = false; vars = vars; low = 0; high = 0; script = map action_of script }))
+    (ap (λ t. Rest t ∷ []) (block-tree b) ∙ sym made) named
+
+-- a step brings the end nearer
+pub nearer-by : (costs : Costs) (calls : Name → Name → Callee) (fs rest : List Frame) (f : Frame) (leaving : Bool) (vars : Variables) (low high : ℕ)
+    (script : List Action) (on : Bool) (t : State) → length rest ≤ most → fs ≡ rest ++ f ∷ []
+    → moved on t ≡ step costs calls (doing_of f) (record { doings = doings_of rest; leaving = leaving; vars = vars; low = low; high = high; script = script })
+    → on ≡ true → toll costs calls 1 deepest t.doings < toll costs calls 1 deepest (doings_of fs)
+nearer-by costs calls fs rest f leaving vars low high script on t some cut e made =
+    let n = doings-length rest in
+    let less : toll costs calls 1 deepest t.doings < toll costs calls 1 deepest (doing_of f ∷ doings_of rest)
+        = nearer costs calls End (λ depth. Err 0) [] 0 (doing_of f)
+        (record { doings = doings_of rest; leaving = leaving; vars = vars; low = low; high = high; script = script }) t (omega (arith, n, some))
+        (sym e ∙ ap (λ x. moved x t) made) in
+    subst (λ ds. toll costs calls 1 deepest t.doings < toll costs calls 1 deepest ds) (sym (ap doings_of cut ∙ doings-snoc rest f)) less
+
+-- a stack from which no frame could be taken has none
+pub no-frames : (fs : List Frame) → (0 < length fs → ⊥) → fs ≡ []
+no-frames [] none = refl
+no-frames (f ∷ fs) none = absurd (none (omega arith))

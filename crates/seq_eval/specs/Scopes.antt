@@ -1,0 +1,20 @@
+-- What a stack of variables stands for: the innermost stands last in the stack, and first in the definitions.
+-- Values are whole numbers below 2^32.
+use Rattle.std.specs.Prelude.{ℕ, List, [], ◌∷◌, fold}
+use Rattle.seq_tree.specs.Variables.{Variables}
+use Rattle.seq_tree.specs.declared.tree.Mode.{Mode}
+use Rattle.seq_tree.specs.declared.tree.Mode.TheVariants.{In, Out}
+use Rattle.seq_eval.specs.declared.scope.Var.{Var}
+
+-- variables with one more inside them
+abbrev pub with_var : Variables → Var → Variables
+with_var rest v = (v.name.now, v.value) ∷ rest
+
+-- the variables of a stack
+abbrev pub vars_of : List Var → Variables
+vars_of vs = fold with_var [] vs
+
+-- the value of a parameter at entry, by that of its actual
+abbrev pub opened_by : Mode → ℕ → ℕ
+opened_by In v = v
+opened_by Out v = 0

@@ -1,0 +1,181 @@
+ghost use Rattle.std.specs.Prelude.{◌≡◌, ◌≤◌, ◌<◌, ℕ, IfOk, OnOk, length, map};
+ghost use Rattle.grammar.specs.Reading.{whole_at};
+ghost use Rattle.seq_tree.specs.Trees.{block_of, offer_of, operation_of};
+ghost use Rattle.block_walks.specs.Fit.{MayRun};
+ghost use Rattle.block_walks.specs.Walks.{walk_at};
+ghost use Rattle.seq_eval.specs.Actions.{action_of};
+ghost use Rattle.seq_eval.specs.Bounds.{most_ticks};
+ghost use Rattle.seq_eval.specs.Ends.{FitsEnd, IsEnd, comes_to, names_of};
+ghost use Rattle.seq_eval.specs.Following.{Follows, Means, callees};
+ghost use Rattle.seq_eval.specs.Targets.{leads};
+
+use crate::action::{Action, Followed};
+use crate::scope::Scope;
+use crate::targets::Targets;
+use crate::walk::{Frame, Walk};
+use crate::env::Env;
+use seq_tree::{Block, Callable, Costs, Name, NoMemory, OpText};
+use std::alloc::Global;
+
+/// How the following of a block ended.
+#[derive(Drop)]
+enum Ended {
+    /// The script is that of a run: its ticks, and the values of the variables at its end.
+    Done {
+        low: u64,
+        high: u64,
+        values: Vec<u32>,
+    },
+    /// It isn't, and so many actions are left.
+    Stopped(usize),
+}
+
+/// The variables of a list, in its order.
+fn scope_of<'a>(alloc: Global, env: &'a Env) -> Result<Scope<'a>, NoMemory>
+    ensures { IfOk result (λ s. s ≡ env.entry.now.slots.items) }
+{
+    let mut vars = Scope::new(alloc);
+    let mut at = env.slots.len();
+    'slots: while at > 0 {
+        at -= 1;
+        let slot = &env.slots[at];
+        vars.push(&slot.0, slot.1)?;
+    }
+    Ok(vars)
+}
+
+/// Gives the variables of a list these values, in its order.
+fn set_values(env: &mut Env, values: &[u32])
+    requires { length values.now ≡ length env.old.slots.items }
+    ensures names { names_of env.new.slots.items ≡ names_of env.old.slots.items }
+    ensures values { map (λ v. v.1) env.new.slots.items ≡ values.now }
+{
+    let mut at = 0;
+    'values: while at < values.len() {
+        env.slots[at].1 = values[at];
+        at += 1;
+    }
+}
+
+/// Follows a block along a script, from these variables, where calls lead to these.
+fn follow_with<'a>(
+    alloc: Global,
+    block: &'a Block,
+    costs: &Costs,
+    targets: &Targets<'a>,
+    env: &'a Env,
+    script: &'a [Action],
+) -> Result<Ended, NoMemory>
+    ensures fits { IfOk result (FitsEnd (names_of env.entry.now.slots.items) (length script.entry.now)) }
+    ensures ended { IfOk result (λ e. ((depth : ℕ) → most_ticks costs.now (leads targets.now) depth (block_of block.entry.now) ≤ 1000000000)
+        → (depth : ℕ) → 18446744073709551615 < depth
+        → IsEnd (names_of env.entry.now.slots.items) (length script.entry.now) e
+        (comes_to (whole_at (walk_at costs.now (leads targets.now) depth (block_of block.entry.now) env.entry.now.slots.items)
+        (map action_of script.entry.now)))) }
+{
+    let mut frames = Vec::new(alloc);
+    frames.push(Frame::Stmts(block.stmts.as_slice()))?;
+    let mut walk = Walk {
+        frames,
+        leaving: false,
+        vars: scope_of(alloc, env)?,
+        low: 0,
+        high: 0,
+        script,
+    };
+    'frames: while let Some(frame) = walk.frames.pop() {
+        if !walk.has_few() {
+            return Ok(Ended::Stopped(walk.script.len()));
+        }
+        if !walk.step(alloc, costs, targets, frame)? {
+            return Ok(Ended::Stopped(walk.script.len()));
+        }
+    }
+    if !walk.script.is_empty() {
+        return Ok(Ended::Stopped(walk.script.len()));
+    }
+    let values = walk.vars.values(alloc)?;
+    Ok(Ended::Done {
+        low: walk.low,
+        high: walk.high,
+        values,
+    })
+}
+
+/// Follows a block along a script, from these variables, where these operations may be called.
+fn run<'a>(
+    alloc: Global,
+    block: &'a Block,
+    costs: &Costs,
+    passive: &'a [OpText],
+    owners: &'a [Name],
+    shared: &'a [Callable],
+    requests: &'a [Callable],
+    env: &'a Env,
+    script: &'a [Action],
+) -> Result<Ended, NoMemory>
+    requires { length owners.now ≡ length passive.now }
+    ensures fits { IfOk result (FitsEnd (names_of env.entry.now.slots.items) (length script.entry.now)) }
+    ensures ended { IfOk result (λ e. ((depth : ℕ) → most_ticks costs.now (callees owners.entry.now (map operation_of passive.entry.now)
+        (map offer_of shared.entry.now) (map offer_of requests.entry.now)) depth (block_of block.entry.now) ≤ 1000000000)
+        → (depth : ℕ) → 18446744073709551615 < depth
+        → IsEnd (names_of env.entry.now.slots.items) (length script.entry.now) e
+        (comes_to (whole_at (walk_at costs.now (callees owners.entry.now (map operation_of passive.entry.now) (map offer_of shared.entry.now)
+        (map offer_of requests.entry.now)) depth (block_of block.entry.now) env.entry.now.slots.items) (map action_of script.entry.now)))) }
+{
+    let targets = Targets::of(alloc, passive, owners, shared, requests)?;
+    follow_with(alloc, block, costs, &targets, env, script)
+}
+
+/// Reads a block along a script of actions: whether the script is that of a run of the block from the variables of `env`, ends inside a run,
+/// or has an action that can't stand at its place. What protected operations hand out is taken from the script.
+///
+/// `owners` has the object of each of the `passive` operations, `shared` the protected operations that may be called, and `requests` the
+/// operations by which tasks are requested; of two operations of one name the first counts. `Done` tells the fewest and the most ticks of
+/// the run, without those of the bodies of protected operations, and `env` is then its last state. After `Short`, `Off` and `NoMemory` it is as
+/// before. This holds where the ticks of the block are at most 1,000,000,000, with nothing for the bodies of protected operations, where each
+/// call leads to an operation, no passive operation calls itself through others, and exits stand in loops; of other blocks nothing is told.
+///
+/// It takes time in proportion to the statements that it passes, each with the names of its variables and calls, and memory in proportion to
+/// the operations that may be called and to how deep statements and calls are nested.
+pub fn follow(
+    alloc: Global,
+    block: &Block,
+    costs: &Costs,
+    passive: &[OpText],
+    owners: &[Name],
+    shared: &[Callable],
+    requests: &[Callable],
+    env: &mut Env,
+    script: &[Action],
+) -> Result<Followed, NoMemory>
+    requires { length owners.now ≡ length passive.now }
+    ensures says { ((depth : ℕ) → most_ticks costs.now (callees owners.now (map operation_of passive.now) (map offer_of shared.now) (map offer_of requests.now))
+        depth (block_of block.now) ≤ 1000000000)
+        → (depth : ℕ)
+        → MayRun (callees owners.now (map operation_of passive.now) (map offer_of shared.now) (map offer_of requests.now)) depth (block_of block.now)
+        → Follows costs.now (callees owners.now (map operation_of passive.now) (map offer_of shared.now) (map offer_of requests.now)) depth
+        (block_of block.now) env.old.slots.items (map action_of script.now) result env.new.slots.items }
+    ensures means { ((depth : ℕ) → most_ticks costs.now (callees owners.now (map operation_of passive.now) (map offer_of shared.now) (map offer_of requests.now))
+        depth (block_of block.now) ≤ 1000000000)
+        → (depth : ℕ)
+        → MayRun (callees owners.now (map operation_of passive.now) (map offer_of shared.now) (map offer_of requests.now)) depth (block_of block.now)
+        → Means costs.now (callees owners.now (map operation_of passive.now) (map offer_of shared.now) (map offer_of requests.now))
+        (block_of block.now) env.old.slots.items (map action_of script.now) result env.new.slots.items }
+{
+    match run(
+        alloc, block, costs, passive, owners, shared, requests, env, script,
+    )? {
+        Ended::Done { low, high, values } => {
+            set_values(env, values.as_slice());
+            Ok(Followed::Done { low, high })
+        }
+        Ended::Stopped(left) => {
+            if left == 0 {
+                Ok(Followed::Short)
+            } else {
+                Ok(Followed::Off(script.len() - left))
+            }
+        }
+    }
+}

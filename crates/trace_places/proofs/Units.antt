@@ -31,7 +31,7 @@ item-at [] k h = absurd (omega (arith, h))
 item-at (x ∷ xs) zero h = (x, refl)
 item-at (x ∷ xs) (suc k) h = item-at xs k (let g : suc k < suc (length xs) = h in omega arith)
 
-other-way : (a b : Name) → same_name a b ≡ false → same_name b a ≡ false
+pub other-way : (a b : Name) → same_name a b ≡ false → same_name b a ≡ false
 other-way a b e = false_from_ne_true (same_name b a) (λ h. true≢false (sym (is-same a b (sym (same-is b a h))) ∙ e))
 
 each-at : {A : Type 0} (P : A → Type 0) (xs : List A) (i : ℕ) (x : A) → Each P xs → slice_get xs i ≡ Some x → P x
@@ -178,7 +178,7 @@ op-of name (Sporadic priority ceiling op separation jitter external vars block) 
 naming : (p : Program) → MeetsRules p → (i : ℕ) (u : Unit) → slice_get p.units i ≡ Some u → breaks_naming p i u ≡ false
 naming p rules i u at = false_from_ne_true (breaks_naming p i u) (λ breaks. rules Naming (At i) (u, at, breaks))
 
-own-distinct : (p : Program) → MeetsRules p → (k : ℕ) (u : Unit) → slice_get p.units k ≡ Some u → are_distinct (own_names u.form) ≡ true
+pub own-distinct : (p : Program) → MeetsRules p → (k : ℕ) (u : Unit) → slice_get p.units k ≡ Some u → are_distinct (own_names u.form) ≡ true
 own-distinct p meets k u at =
     true-by (are_distinct (own_names u.form)) (or_parts _ _ (or_parts _ _ (or_parts _ _ (naming p meets k u at)).0).0).1
   where

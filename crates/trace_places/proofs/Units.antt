@@ -40,11 +40,11 @@ each-at P (y ∷ ys) zero x h e = subst P (same_Some y x e) h.0
 each-at P (y ∷ ys) (suc i) x h e = each-at P ys i x h.1 e
 
 -- NAMES of units
-suc-same : (i j : ℕ) → (i == j) ≡ (suc i == suc j)
+pub suc-same : (i j : ℕ) → (i == j) ≡ (suc i == suc j)
 suc-same i j = both_ways (i == j) (suc i == suc j)
     (λ e. eq-eqb (suc i) (suc j) (ap suc (eqb-true i j e))) (λ e. eq-eqb i j (let s : suc i ≡ suc j = eqb-true (suc i) (suc j) e in omega (arith, s)))
 
-names-tell : (us : List Unit) (i j : ℕ) (u v : Unit) → AreApart us → slice_get us i ≡ Some u → slice_get us j ≡ Some v
+pub names-tell : (us : List Unit) (i j : ℕ) (u v : Unit) → AreApart us → slice_get us i ≡ Some u → slice_get us j ≡ Some v
     → same_name u.name v.name ≡ (i == j)
 names-tell [] i j u v far at to = absurd (none-some u at)
 names-tell (w ∷ us) zero zero u v far at to =
@@ -101,7 +101,7 @@ module _ {X : Type 0} (make : Unit → Option X) (called : X → Name) (keeps : 
   found (w ∷ us) (suc k) u far at =
       passed u.name w us (each-at (λ z. same_name w.name z.name ≡ false) us k u far.0 at) ∙ found us k u far.1 at
 
-task-name : (u : Unit) (t : Task) → task_in u ≡ Some t → t.name ≡ u.name
+pub task-name : (u : Unit) (t : Task) → task_in u ≡ Some t → t.name ≡ u.name
 task-name u t e = by u.name u.form e
   where
     by : (name : Name) (f : Form) → task_in (record { name = name; form = f }) ≡ Some t → t.name ≡ name

@@ -1,0 +1,7 @@
+pub mod Numerals
+pub mod Placing
+pub mod Back
+pub mod Fitting
+pub mod Fronts
+pub mod TableSteps
+pub mod Splitting

@@ -10,7 +10,8 @@ is a sum of the kit, of the crate's own files and of those of all crates below. 
 - no file of the crate or of one below, no folder of such files, and not crates.txt has changed since BEGUN, by the time of its content or by
   that at which it was put there;
 - the library was made since BEGUN, and is whole as far as its `format` is there;
-- no stamp is there: one of an earlier run, of other sources maybe, stays as it is, and `rt` judges it.
+- no stamp is there: one of an earlier run, of other sources maybe, stays as it is, and `rt` judges it;
+- all that holds of each library below it too, or that has a stamp of what is there now.
 
 It can be fooled by a clock that was set back, and by who hands it a file that was made at another time.
 
@@ -56,8 +57,8 @@ def main():
         stamp = os.path.join(os.path.dirname(crate.rlib), 'stamp')
         if crate.is_built():
             continue
-        changed = [one.name for one in (*crate.below(), crate) if has_changed(one, begun)]
-        if changed or os.path.exists(stamp) or not is_made_since(crate, begun):
+        is_over_such = any(one.name in lacking for one in crate.below())
+        if is_over_such or has_changed(crate, begun) or os.path.exists(stamp) or not is_made_since(crate, begun):
             lacking.append(crate.name)
             continue
         with open(stamp, 'w', encoding='utf-8') as text:

@@ -63,8 +63,8 @@ function tableOf(caption, heads, rows) {
 }
 
 const HEADS = ["Thread", "Priority", "Period", "Deadline", "Jitter", "Cost", "Blocking", "Response", "Slack", "Of the deadline"];
+const PROVED = "the bound that is proved: each activation ends within so many ticks of its release, whatever the arrivals and the branches taken";
 const WORDS = [
-  ["Response", "the bound that is proved: each activation ends within so many ticks of its release, whatever the arrivals and the branches taken"],
   ["Period", "of a sporadic thread the least time between requests"],
   ["Jitter", "how late a release may come"],
   ["Blocking", "the longest that a thread of lower priority, inside an object, keeps this one waiting"],
@@ -73,9 +73,9 @@ const WORDS = [
   ["Ceiling", "the priority at which an object is entered"],
 ];
 
-/** What the words of the tables mean. */
-function glossary() {
-  const entries = WORDS.map(([term, meaning]) => make("div", {}, make("dt", {}, term), make("dd", {}, `${meaning}.`)));
+/** What the words of the tables mean, and what a response is. */
+function glossary(response) {
+  const entries = [["Response", response], ...WORDS].map(([term, meaning]) => make("div", {}, make("dt", {}, term), make("dd", {}, `${meaning}.`)));
   return make("dl", { class: "words" }, ...entries);
 }
 
@@ -86,7 +86,7 @@ function whyList(threads) {
     ...items.map(([one, why]) => make("li", {}, make("b", {}, `${one.name} ${one.response}`), ` = ${why}`)));
 }
 
-function boundsTables({ threads, ceilings }, tick) {
+function boundsTables({ threads, ceilings }, tick, response = PROVED) {
   const least = threads.reduce((found, one) => (one.deadline - one.response < found.deadline - found.response ? one : found));
   const ticks = tick === null ? "Times are ticks." : `Times are ticks of ${tick}.`;
   const rows = threads.map((one) => [one.name, one.priority, one.period, one.deadline, one.jitter, one.cost, one.blocking, one.response,
@@ -94,5 +94,5 @@ function boundsTables({ threads, ceilings }, tick) {
   const slack = `The least slack is ${least.deadline - least.response} ticks, of ${least.name}.`;
   const sums = make("p", { class: "sums" }, `${slack} Costs by periods come to ${utilisationOf(threads)} of the processor.`);
   const objects = ceilings.length === 0 ? [] : [tableOf("Ceilings", ["Object", "Ceiling"], ceilings.map((one) => [one.name, one.ceiling]))];
-  return [tableOf(`Threads, by priority. ${ticks}`, HEADS, rows), sums, whyList(threads), ...objects, glossary()];
+  return [tableOf(`Threads, by priority. ${ticks}`, HEADS, rows), sums, whyList(threads), ...objects, glossary(response)];
 }

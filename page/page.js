@@ -20,6 +20,11 @@ const runs = new Runs(WORKER, MODULE);
 const run = (words, texts, most) => runs.run(words, texts, most);
 const timeline = new Timeline(at("panel-timeline"), CHART_STYLE);
 const editors = { design: new Editor(at("design"), later), arrivals: new Editor(at("arrivals"), later) };
+const verbTabs = VERBS.map((verb) => new VerbTab(verb));
+for (const one of verbTabs) {
+  at("tabs").append(one.tab);
+  at("tabs").parentElement.append(one.panel);
+}
 const panels = [...document.querySelectorAll("[role=tabpanel]")];
 const tabs = [...document.querySelectorAll("[role=tab]")];
 const state = { bounds: null, boundsText: "", tick: null, ada: "", trace: null, isOther: true };
@@ -58,6 +63,14 @@ async function again() {
     if (mine === turn) tell("bad", ["There is no answer.", ""], fault.message === "cut off" ? "The run was stopped." : fault.message);
   } finally {
     clearTimeout(slow);
+  }
+  if (mine === turn) wantChosen();
+}
+
+/** Runs the verb whose tab is chosen, if that is the tab of one, on the design as it is now. */
+function wantChosen() {
+  for (const one of verbTabs) {
+    if (one.isChosen()) one.want(at("design").value);
   }
 }
 
@@ -128,7 +141,9 @@ function showAnswers(texts, { bounds, count, verified, generated }) {
       state.ada = generated.out;
     }
   }
-  for (const panel of panels) panel.classList.remove("stale");
+  for (const panel of panels) {
+    if (verbTabs.every((one) => one.panel !== panel)) panel.classList.remove("stale");
+  }
   showBounds();
   showAda();
   showTrace();
@@ -201,6 +216,7 @@ function choose(tab) {
     at(one.getAttribute("aria-controls")).hidden = !isChosen;
   }
   if (tab.id === "tab-timeline") timeline.render();
+  wantChosen();
 }
 
 function save(name, text) {
@@ -267,7 +283,7 @@ function listenToButtons() {
   at("help").addEventListener("click", () => at("how").showModal());
   at("close").addEventListener("click", () => at("how").close());
   at("take").addEventListener("click", takeSkeleton);
-  document.addEventListener("click", (event) => { if (event.target.id === "cut") runs.start(); });
+  document.addEventListener("click", (event) => { if (event.target.matches("#cut, .cut")) runs.start(); });
   window.addEventListener("resize", () => timeline.render());
 }
 
@@ -275,7 +291,7 @@ function listenToKeys() {
   document.addEventListener("keydown", (event) => {
     const key = event.key.toLowerCase();
     if (event.ctrlKey && event.key === "Enter") again();
-    else if (event.altKey && /^[1-4]$/.test(key)) choose(tabs[Number(key) - 1]);
+    else if (event.altKey && tabs[key - 1] !== undefined) choose(tabs[key - 1]);
     else if (event.altKey && key === "g") goToMark();
     else if (event.altKey && key === "h") at("how").showModal();
     else return;
@@ -319,5 +335,6 @@ listenToKeys();
 listenToExamples();
 show(firstTexts());
 choose(tabs[0]);
+at("last-tab").textContent = String(tabs.length);
 tell("", ["Starting\u2026", ""], "");
 runs.isReady.then(again, (fault) => tell("bad", [NEEDS, ""], fault.message));

@@ -45,6 +45,11 @@ const PLAIN = {
     "Make it or a thread above it cheaper, shorten what threads below it do inside objects, or give it a longer deadline."],
   U2: ["The jitter and the response time of NAME are together over its period or separation.",
     "Give it a longer separation, or a starter that responds sooner."],
+  P1: ["NAME is requested by a thread of the design, so no order is looked for.",
+    "Its jitter would depend on the order. Where it can be released by the world outside, give it ARRIVAL_JITTER."],
+  P2: ["No order of priorities passes.",
+    "None of the threads that are told keeps its limits below all the others of them. One of them has to cost less, to come less "
+      + "often, or to have a later deadline."],
   Q1: ["The request is earlier than the one before it.", "Sort the requests by time, whatever their objects are."],
   Q2: ["No task of this name is requested from outside, or has durations.",
     "AT is for objects with ARRIVAL_JITTER, and WORK for those with a thread."],

@@ -14,7 +14,7 @@ import re
 import sys
 
 TOP = os.path.dirname(os.path.dirname(os.path.abspath(__file__)))
-SCRIPTS = ('refusals', 'texts', 'runs', 'traces', 'chart', 'bounds', 'timeline', 'page')
+SCRIPTS = ('refusals', 'texts', 'runs', 'traces', 'chart', 'bounds', 'timeline', 'verbs', 'page')
 # What the page calls an example, and its two texts.
 EXAMPLES = (
     ('Mine pump', 'mine_pump.design', 'one_water_alarm.arrivals'),

@@ -2,8 +2,9 @@
 # Makes the page out/page/lafomizana.html: the proved crate `page` for WebAssembly, with page/ and examples of examples/, in one file.
 # usage: tools/make_page.sh
 #
-# The crate is proved by the kit's own `rt lib`, over libraries that `rt lib` or `rt check` built in this clone. It takes none of those that
-# `rt ci` leaves: where they are not built, it proves and builds them first, which takes about as long as the gate. No step is left out where something was made before: all of it takes some two minutes.
+# The crate is proved by the kit's own `rt lib`, over libraries that `rt lib` or `rt check` built in this clone, or that the gate proved: .ci/run
+# leaves their stamps (tools/stamp_libraries.py). Where there are none, as behind `rt ci` alone, it proves and builds them first, which takes about as
+# long as the gate. No step is left out where something was made before: all of it takes some two minutes.
 set -euo pipefail
 
 top=$(CDPATH='' cd -- "$(dirname -- "${BASH_SOURCE[0]}")/.." && pwd)

@@ -135,6 +135,84 @@ END d;
 '''
 
 
+PAIR = '''DESIGN d IS
+COSTS ASSIGN = 1; TEST = 1; TURN = 1; CALL = 2; NULL = 1; PUT = 1; FINISH = 1; END COSTS;
+OBJECT whole IS ACTIVE
+OBJECTS
+OBJECT a IS CYCLIC
+ATTRIBUTES PERIOD = 10; DEADLINE = 10; THREAD_BUDGET = 4;
+THREAD work (3); END THREAD;
+END a;
+OBJECT b IS CYCLIC
+ATTRIBUTES PERIOD = 20; DEADLINE = 20; THREAD_BUDGET = 5;
+THREAD work (4); END THREAD;
+END b;
+END whole;
+END d;
+'''
+
+
+class Margins(unittest.TestCase):
+    """margins.py"""
+
+    def table(self, design):
+        """What the script writes of a design, as status, lines and standard error."""
+        with tempfile.TemporaryDirectory() as room:
+            file = os.path.join(room, 'one.design')
+            with open(file, 'w', encoding='utf-8') as text:
+                text.write(design)
+            status, out, err = run([sys.executable, os.path.join(TOOLS, 'margins.py'), '--csv', file], PROGRAM=PROGRAM)
+        return status, out.splitlines(), err.replace(file, 'one.design')
+
+    def test_ticks(self):
+        """Ticks are rounded up, and cut at the greatest number."""
+        margins = load('margins')
+        self.assertEqual([margins.scaled_ticks(1, n) for n in (1, 1000, 1001)], [1, 1, 2])
+        self.assertEqual([margins.scaled_ticks(1001, n) for n in (1, 4, 1000000000)], [2, 5, 1000000000])
+
+    def test_changed(self):
+        """The work of that thread alone is changed, and no call of an operation of that name; budgets become the greatest."""
+        margins = load('margins')
+        lines = ['   OBJECT one IS CYCLIC', '      ATTRIBUTES', '         THREAD_BUDGET = 5 ms;', '      THREAD', '         work (3);',
+                 '         other.work (3);', '      END THREAD;', '   END one;', '   OBJECT two IS CYCLIC', '      THREAD', '         work (7);',
+                 '      END THREAD;', '   END two;']
+        text = '\n'.join(lines)
+        self.assertEqual(margins.threads_of(text), [('one', 4, 6), ('two', 10, 11)])
+        wanted = list(lines)
+        wanted[2] = '         THREAD_BUDGET = 1000000000;'
+        wanted[4] = '         work (5);'
+        self.assertEqual(margins.with_work(text, (4, 6), 1500).split('\n'), wanted)
+
+    def test_greatest(self):
+        """Halving finds the greatest at which nothing fails, and what fails at the next one."""
+        margins = load('margins')
+        for greatest in (1, 2, 999, 1000, 999999):
+            self.assertEqual(margins.margin_of(lambda k: None if k <= greatest else f'over {k}'), (greatest, f'over {greatest + 1}'))
+        self.assertEqual(margins.margin_of(lambda k: None), (1000000, 'limit'))
+        self.assertEqual(margins.margin_of(lambda k: f'over {k}'), (None, 'over 1'))
+
+    @unittest.skipUnless(HAS_PROGRAM, 'there is no program')
+    def test_table(self):
+        """The first thread may work twice as long, as an example of crate scaling_laws has it, and the second one 2.75 times."""
+        self.assertEqual(self.table(PAIR), (0, [
+            'thread,statements_of_work,slack_to_deadline,slack_to_period,margin_per_mille,next',
+            'all,,,,1666,U1 b value 22 limit 20 round 2',
+            'a,1,6,6,2000,U1 b value 21 limit 20 round 2',
+            'b,1,11,11,2750,U1 b value 21 limit 20 round 1',
+        ], ''))
+
+    @unittest.skipUnless(HAS_PROGRAM, 'there is no program')
+    def test_over_limits(self):
+        """A design without bounds has no slacks; where the other thread alone is late a thread has no margin."""
+        status, lines, err = self.table(PAIR.replace('work (4)', 'work (40)').replace('= 5;', '= 50;'))
+        self.assertEqual((status, err), (0, ''))
+        self.assertEqual([line.split(',')[:5] for line in lines[2:]], [['a', '1', '', '', 'none'], ['b', '1', '', '', '275']])
+
+    @unittest.skipUnless(HAS_PROGRAM, 'there is no program')
+    def test_refused(self):
+        self.assertEqual(self.table(PAIR.replace('= 4;', '= 3;')), (1, [], 'margins.py: one.design: refused V14 a cost 4 budget 3\n'))
+
+
 class Pictures(unittest.TestCase):
     """picture_of_design.py"""
 

@@ -82,7 +82,7 @@ const arrivals = [...filesOf("", ".arrivals"), ...filesOf("faults", ".arrivals")
 /** Each verb over all files that it takes. */
 function allLines() {
   const lines = [[], ["help"], ["sample"], ["sample", "0"], ["sample", "31"], ["check", "design"].slice(0, 1)];
-  for (const design of designs) for (const verb of ["check", "analyse", "format", "generate"]) lines.push([verb, design]);
+  for (const design of designs) for (const verb of ["check", "analyse", "format", "generate", "search", "scale"]) lines.push([verb, design]);
   for (const design of filesOf("", ".design")) for (const one of arrivals) lines.push(["verify", design, one]);
   for (const ada of filesOf("", ".ada")) for (const one of arrivals) lines.push(["replay", ada, one]);
   for (const count of [1, 2, 7, 30]) lines.push(["sample", String(count)]);
@@ -100,7 +100,7 @@ async function tryVerbs(page) {
 /** The codes that docs/REFUSALS.md has at the head of a row, but those of `What is no refusal`. */
 function tryCodes() {
   const rows = readFileSync(join(TOP, "docs/REFUSALS.md"), "utf8").split("\n").filter((line) => line.startsWith("| `refused "));
-  const codes = new Set(rows.flatMap((line) => line.split("|")[1].match(/\b[LSVUGQC]\d+\b/g)));
+  const codes = new Set(rows.flatMap((line) => line.split("|")[1].match(/\b[LSVUPGQC]\d+\b/g)));
   const { PLAIN, BODY } = runInThisContext(`(() => { ${readFileSync(join(TOP, "page/refusals.js"), "utf8")}; return { PLAIN, BODY }; })()`);
   same(Object.keys(PLAIN).sort(), [...codes].sort(), "the codes of page/refusals.js and of docs/REFUSALS.md");
   same(Object.keys(BODY).length, 7, "the faults of a body");
@@ -203,6 +203,57 @@ async function tryFormat(page) {
   same(await page.evaluate("document.getElementById('design').value"), design, "the design as it was before Format");
 }
 
+// ---- The tabs of verbs ----
+
+/** What the panel of a verb shows, when its answer is there: its sentence, the program's lines, and the cells of its first table. */
+async function panelOf(page, verb) {
+  await page.evaluate(`document.getElementById('tab-${verb}').click()`);
+  await page.until(`document.getElementById('panel-${verb}').getAttribute('aria-busy') === 'false'`, 60);
+  return page.evaluate(`(() => {
+    const panel = document.getElementById('panel-${verb}');
+    const rows = [...panel.querySelectorAll("table:first-of-type tbody tr")].map((row) => [...row.cells].slice(0, 9).map((cell) => cell.textContent));
+    return { isShown: !panel.hidden, isStale: panel.classList.contains("stale"), line: panel.querySelector("pre")?.textContent,
+      head: panel.querySelector("b")?.textContent, text: panel.textContent, rows };
+  })()`);
+}
+
+const MARGINS = [
+  ["mine_pump.design", "at up to 1.333 times", "co_sensor is over its limit first: the response time of 63 or more, and not 60."],
+  ["jittered_alarm.design", "only with all work at 0.75 times", "the jitter and the response time together of 22 or more, and not 20."],
+  ["one_cyclic_object.design", "at up to 3 times", "a is over its limit first"],
+];
+
+/** Each tab shows what its verb answers, of designs that are taken and of others, and again when the design has changed. */
+async function tryVerbTabs(page) {
+  let count = 0;
+  for (const design of ["mine_pump.design", "jittered_alarm.design", "units_of_every_kind.design", "faults/u1.design", "faults/v13_b6.design"]) {
+    await set(page, { design: read(design), arrivals: read("until_150.arrivals") });
+    for (const verb of ["scale", "search"]) {
+      const { status, out, err } = answerOf([verb, design]);
+      const told = await panelOf(page, verb);
+      same([told.isShown, told.isStale], [true, false], `${verb} of ${design} is shown`);
+      same(told.line, (status === 0 ? out.toString() : err).trimEnd(), `${verb} of ${design}: the program's lines`);
+      judge(told.head.length > 20 && !/refused |NAME|undefined|NaN/.test(told.head), `${verb} of ${design}: a sentence: ${told.head}`);
+      const threads = status === 0 && verb === "search" ? out.toString().split("\n").filter((line) => line.startsWith("thread ")) : [];
+      const numbers = threads.map((line) => line.split(" ")).map((words) => words.filter((_, index) => index % 2 === 1 || index === 16));
+      same(told.rows.map((row) => row.slice(0, 8)), numbers.map((words) => words.slice(0, 8)), `${verb} of ${design}: its table`);
+      count++;
+    }
+  }
+  for (const [design, head, next] of MARGINS) {
+    await set(page, { design: read(design), arrivals: read("until_150.arrivals") });
+    const told = await panelOf(page, "scale");
+    judge(told.head.includes(head) && told.text.includes(next), `the margin of ${design}: ${told.text}`);
+  }
+  await page.evaluate("document.getElementById('tab-scale').focus()");
+  await page.press("1", 1, "Digit1");
+  same(await page.evaluate("document.getElementById('panel-bounds').hidden"), false, "Alt and 1 choose the bounds");
+  await page.press("6", 1, "Digit6");
+  same(await page.evaluate("document.getElementById('panel-search').hidden"), false, "Alt and 6 choose the search");
+  await page.evaluate("document.getElementById('tab-bounds').click()");
+  console.log(`${count} answers in the tabs of verbs`);
+}
+
 // ---- The timeline, and what is saved ----
 
 const LEGEND = new Set(["release", "release by a request from outside", "deadline"]);
@@ -275,9 +326,11 @@ async function trySaves(browser, page) {
   const cut = verified.indexOf("-- trace\n");
   const analysed = answerOf(["analyse", "mine_pump.design"]).out.toString();
   const wanted = { "bounds.txt": analysed, "trace.txt": verified.slice(cut + 9), "design.ada": verified.slice(0, cut) };
-  const saves = [["bounds", "bounds.txt"], ["timeline", "timeline.svg"], ["trace", "trace.txt"], ["ada", "design.ada"]];
+  wanted["margin.txt"] = answerOf(["scale", "mine_pump.design"]).out.toString();
+  const saves = [["bounds", "bounds.txt"], ["timeline", "timeline.svg"], ["trace", "trace.txt"], ["ada", "design.ada"], ["scale", "margin.txt"]];
   for (const [tab, name] of saves) {
     await page.evaluate(`document.getElementById('tab-${tab}').click()`);
+    await page.until(`document.querySelector('#panel-${tab}:not([aria-busy=true]) .tools button') !== null`, 30);
     await page.evaluate(`document.querySelector('#panel-${tab} .tools button').click()`);
     for (const end = Date.now() + 20000; Date.now() < end && !existsSync(join(room, name)); ) await new Promise((done) => setTimeout(done, 50));
     const text = existsSync(join(room, name)) ? readFileSync(join(room, name), "utf8") : "";
@@ -387,6 +440,10 @@ async function tryKeyboard(page) {
   await page.press("ArrowRight");
   const chosen = await page.evaluate("[document.activeElement.id, document.getElementById('panel-trace').hidden]");
   same(chosen, ["tab-trace", false], "an arrow key goes to the next tab");
+  for (const key of ["ArrowRight", "ArrowRight"]) await page.press(key);
+  const next = await page.evaluate("[document.activeElement.id, document.getElementById('panel-scale').hidden]");
+  same(next, ["tab-scale", false], "and on to the tabs of verbs");
+  await page.evaluate("document.getElementById('tab-timeline').click()");
 }
 
 const CONTRAST = `(() => {
@@ -423,6 +480,14 @@ async function tryColours(page) {
     same(await page.evaluate(CONTRAST), [], `texts of too little contrast in ${scheme} colours`);
     await set(page, { design: read("faults/u1.design"), arrivals: read("until_20.arrivals") });
     same(await page.evaluate(CONTRAST), [], `texts of too little contrast in ${scheme} colours, of a refusal`);
+  }
+  for (const scheme of ["light", "dark"]) {
+    await page.scheme(scheme);
+    await set(page, { design: read("jittered_alarm.design"), arrivals: read("until_20.arrivals") });
+    for (const verb of ["scale", "search"]) {
+      await panelOf(page, verb);
+      same(await page.evaluate(CONTRAST), [], `texts of too little contrast in ${scheme} colours, of ${verb}`);
+    }
   }
   await page.scheme("light");
 }
@@ -465,6 +530,8 @@ async function takePictures(page) {
   await take("dark", "timeline", mine, "dark");
   await take("trace", "trace", mine);
   await take("ada", "ada", mine);
+  await take("margin", "scale", mine);
+  await take("search", "search", { design: read("jittered_alarm.design"), arrivals: read("until_20.arrivals") }, "dark");
   await take("refused", "bounds", { design: read("faults/v13_b6.design"), arrivals: read("data_handling.arrivals") });
   await take("late", "bounds", { design: read("faults/u1.design"), arrivals: read("flight_control.arrivals") });
   await take("arrivals", "bounds", { design: read("data_handling.design"), arrivals: read("faults/q3.arrivals") }, "dark");
@@ -494,7 +561,7 @@ try {
   tryCodes();
   const page = await browser.open(pathToFileURL(file).href);
   await page.until("document.querySelector('#verdict.good')", 120);
-  const steps = { tryVerbs, tryMarks, tryTyping, tryFormat, tryTimeline, tryWindow, tryLarge, tryMemory, tryStop, tryKeyboard,
+  const steps = { tryVerbs, tryMarks, tryTyping, tryFormat, tryVerbTabs, tryTimeline, tryWindow, tryLarge, tryMemory, tryStop, tryKeyboard,
     tryColours, tryNarrow };
   for (const [name, step] of Object.entries(steps)) await step(page).catch((fault) => judge(false, `${name}: ${fault.message}`));
   await trySaves(browser, page);

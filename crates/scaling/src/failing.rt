@@ -1,11 +1,11 @@
-ghost use Rattle.std.specs.Prelude.{◌≡◌, IfOk, None};
+ghost use Rattle.std.specs.Prelude.{◌≡◌, IfOk, None, option_map};
 ghost use Rattle.ods_tree.specs.Trees.{flat_of};
 ghost use Rattle.analysis.specs.Ceilings.{ranks};
 ghost use Rattle.analysis.specs.Sound.{IsSound};
 ghost use Rattle.analysis.specs.Trees.{ranks_of};
 ghost use Rattle.rt_block.specs.Designs.{design_of};
 ghost use Rattle.scaling_laws.specs.Parts.{first_dear};
-ghost use Rattle.scaling.specs.Failures.{IsBounded, IsCheap, IsFailure, IsHolding, IsNamed};
+ghost use Rattle.scaling.specs.Failures.{IsBounded, IsCheap, IsFailureIn, IsHolding, IsNamed};
 ghost use Rattle.scaling.specs.Views.{view_of};
 
 use crate::margin::Next;
@@ -15,7 +15,7 @@ use design_bounds::{NoBounds, bounds_of};
 use ods_tree::Flat;
 use rt_block::{Facts, facts_of, part_costs, table};
 use scaled_copies::scaled;
-use seq_tree::NoMemory;
+use seq_tree::{Name, NoMemory};
 use std::alloc::Global;
 
 /// A body or a thread that is too dear, told by its names.
@@ -80,17 +80,18 @@ fn failure_of(alloc: Global, flat: &Flat, order: &Ranking) -> Result<Option<Next
     }
 }
 
-/// What of a flat design fails where all its `work` is at so many per mille, if anything does.
+/// What of a flat design fails where all its `work`, or that of the object of this name alone, is at so many per mille, if anything does.
 pub(crate) fn failure(
     alloc: Global,
     flat: &Flat,
     order: &Ranking,
+    only: Option<&Name>,
     per_mille: u32,
 ) -> Result<Option<Next>, NoMemory>
     requires sound { IsSound (flat_of flat.now) }
     requires order { ranks_of order.now ≡ ranks (flat_of flat.now) }
-    ensures { IfOk result (IsFailure (flat_of flat.now) per_mille) }
+    ensures { IfOk result (IsFailureIn (option_map (λ n. n.now) only.entry) (flat_of flat.now) per_mille) }
 {
-    let copy = scaled(alloc, flat, per_mille)?;
+    let copy = scaled(alloc, flat, only, per_mille)?;
     failure_of(alloc, &copy, order)
 }

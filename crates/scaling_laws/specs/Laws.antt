@@ -1,6 +1,6 @@
 -- What does not fall where `work` grows, and what stays: the laws behind the margin of a design.
 -- That response times grow with execution times is what sensitivity analysis rests on (Lehoczky, Sha and Ding 1989; Bini et al. 2008).
-use Rattle.std.specs.Prelude.{◌≡◌, ◌≤◌, ℕ, List, None}
+use Rattle.std.specs.Prelude.{◌≡◌, ◌≤◌, ℕ, List, Option, None}
 use Rattle.std.specs.List.{AllZip}
 use Rattle.seq_tree.specs.Names.{Name}
 use Rattle.seq_tree.specs.Statements.{Statements}
@@ -17,11 +17,11 @@ use Rattle.analysis.specs.Sections.{sections}
 use Rattle.analysis.specs.Sound.{IsSound, IsSpaced}
 use Rattle.analysis.specs.Tables.{table}
 use Rattle.scaling_laws.specs.Working.{reworked_block, reworked}
-use Rattle.scaling_laws.specs.Scaling.{scaled}
+use Rattle.scaling_laws.specs.Scaling.{scaled, scaled_in}
 use Rattle.scaling_laws.specs.Parts.{parts, first_dear}
 use Rattle.scaling_laws.specs.Rows.{AskNoMore}
-use Rattle.scaling_laws.specs.Holding.{Holds}
-use Rattle.scaling_laws.specs.Designs.{scaled_design}
+use Rattle.scaling_laws.specs.Holding.{Holds, HoldsIn, HoldsWith}
+use Rattle.scaling_laws.specs.Designs.{scaled_design, scaled_design_in}
 
 -- a change of `work` that is nowhere above another
 abbrev pub IsBelow : (Name → ℕ → ℕ) → (Name → ℕ → ℕ) → Type 0
@@ -76,10 +76,26 @@ SpacingStays = (f : Flat) (w : Name → ℕ → ℕ) → IsSpaced f → IsSpaced
 abbrev pub HoldingIsKept : Type 0
 HoldingIsKept = (f : Flat) (j k : ℕ) → j ≤ k → Holds f k → Holds f j
 
+-- a design that holds with some `work` holds with `work` that is nowhere above
+abbrev pub LessWorkHolds : Type 0
+LessWorkHolds = (f : Flat) (v w : Name → ℕ → ℕ) → IsBelow v w → HoldsWith f w → HoldsWith f v
+
+-- so one that holds with the `work` of one object alone at so many per mille holds with it at less
+abbrev pub HoldingAloneIsKept : Type 0
+HoldingAloneIsKept = (only : Option Name) (f : Flat) (j k : ℕ) → j ≤ k → HoldsIn only f k → HoldsIn only f j
+
 -- a sound design is nowhere too dear at one per mille, so there it fails by its bounds alone
 abbrev pub LeastScaleIsCheap : Type 0
 LeastScaleIsCheap = (f : Flat) → IsSound f → first_dear (scaled 1 f) ≡ None
 
+-- nor where the `work` of one object alone is at one per mille
+abbrev pub LeastScaleAloneIsCheap : Type 0
+LeastScaleAloneIsCheap = (only : Option Name) (f : Flat) → IsSound f → first_dear (scaled_in only 1 f) ≡ None
+
 -- what runs of a design at so many per mille is its flat design at so many per mille
 abbrev pub FlatDesignsScale : Type 0
 FlatDesignsScale = (x : Design) (k : ℕ) → flat (scaled_design k x) ≡ scaled k (flat x)
+
+-- and so with the `work` of one object alone
+abbrev pub FlatDesignsScaleAlone : Type 0
+FlatDesignsScaleAlone = (only : Option Name) (x : Design) (k : ℕ) → flat (scaled_design_in only k x) ≡ scaled_in only k (flat x)

@@ -3,12 +3,14 @@
 //! `work` alone is changed, object by object (`Working`); a scaled design has all of it at so many per mille (`Scaling`). Where `work`
 //! grows, costs, sections, blocking, the rows of the table and the least vector do not fall; priorities, ceilings and starters stay. So
 //! a design that holds at so many per mille holds at less (`holding_is_kept`), and the greatest per mille at which it holds can be found
-//! by halving. The laws hold of any two changes of which one is nowhere above the other: of one thread's `work` too, or of one object's.
+//! by halving. The laws hold of any two changes of which one is nowhere above the other (`less_work_holds`), and so of the `work` of one object
+//! alone, as that of one thread's own body (`holding_alone_is_kept`).
 //!
 //! It stands on `analysis`. Each law is the contract of a public function with an empty body.
 #![tactic(auto)]
 
 ghost use Rattle.scaling_laws.specs.Laws.{BlockingGrows, CostsGrow, FittingIsKept, FlatDesignsScale, HoldingIsKept, LeastScaleIsCheap, LeastVectorsGrow};
+ghost use Rattle.scaling_laws.specs.Laws.{FlatDesignsScaleAlone, HoldingAloneIsKept, LeastScaleAloneIsCheap, LessWorkHolds};
 ghost use Rattle.scaling_laws.specs.Laws.{RanksStay, RowsGrow, SectionsGrow, SoundnessStays, SpacingStays};
 
 /// Bodies and threads cost no less where `work` takes no less.
@@ -61,13 +63,33 @@ pub fn holding_is_kept()
     ensures { HoldingIsKept }
 {}
 
+/// A design that holds with some `work` holds with `work` that is nowhere above.
+pub fn less_work_holds()
+    ensures { LessWorkHolds }
+{}
+
+/// A design that holds with the `work` of one object alone at so many per mille, all else as it was, holds with it at less.
+pub fn holding_alone_is_kept()
+    ensures { HoldingAloneIsKept }
+{}
+
 /// No body and no thread of a sound design is too dear at one per mille.
 pub fn least_scale_is_cheap()
     ensures { LeastScaleIsCheap }
+{}
+
+/// Nor where the `work` of one object alone is at one per mille.
+pub fn least_scale_alone_is_cheap()
+    ensures { LeastScaleAloneIsCheap }
 {}
 
 /// What runs of a design in ticks with all its `work` at so many per mille is its flat design at so many per mille: links, attributes and
 /// all that is no `work` stay, and budgets are no part of what runs.
 pub fn flat_designs_scale()
     ensures { FlatDesignsScale }
+{}
+
+/// And so with the `work` of one object alone at so many per mille: what runs is the flat design with that object's `work` so scaled.
+pub fn flat_designs_scale_alone()
+    ensures { FlatDesignsScaleAlone }
 {}

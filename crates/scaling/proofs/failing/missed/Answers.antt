@@ -1,4 +1,4 @@
-use Rattle.std.proofs.Common.{◌≡◌, length, ap, sym, subst, ◌∙◌}
+use Rattle.std.proofs.Common.{length, ap, sym, subst, ◌∙◌}
 use Rattle.ods_tree.specs.Flats.{Flat}
 use Rattle.ods_tree.specs.Trees.{flat_of}
 use Rattle.analysis.specs.Ceilings.{ranks_for}

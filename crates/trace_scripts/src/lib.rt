@@ -1,0 +1,7 @@
+//! Scripts.
+#![tactic(auto)]
+
+mod actions;
+mod books;
+mod names;
+mod scripts;

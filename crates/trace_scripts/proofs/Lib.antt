@@ -4,3 +4,6 @@ pub mod Holding
 pub mod Acting
 pub mod Booking
 pub mod Entering
+pub mod DataSteps
+pub mod Walking
+pub mod Serving

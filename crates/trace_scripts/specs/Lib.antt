@@ -1,2 +1,4 @@
 pub mod Scripts
 pub mod Books
+pub mod Scenes
+pub mod Objects

@@ -3,5 +3,10 @@
 
 mod actions;
 mod books;
+mod data;
 mod names;
 mod scripts;
+mod services;
+mod walks;
+
+pub use walks::Scene;

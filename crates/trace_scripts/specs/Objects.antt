@@ -1,0 +1,16 @@
+-- What an object is at, as the code holds it.
+use Rattle.std.specs.Prelude.{ℕ, List, map}
+use Rattle.seq_tree.specs.Names.{Name}
+use Rattle.script_laws.specs.Services as services
+use Rattle.trace_scripts.specs.declared.services.Charge.{Charge}
+use Rattle.trace_scripts.specs.declared.services.Service.{Service}
+use Rattle.trace_scripts.specs.declared.services.Service.TheVariants.{Free, Inside, Last, Broken}
+
+abbrev pub service_of : Service → services.Service
+service_of (Free env) = services.Free env.slots.items
+service_of (Inside thread op gives after) = services.Inside thread.now op.now gives.items after.slots.items
+service_of Last = services.Last
+service_of Broken = services.Broken
+
+abbrev pub charge_of : Charge → ℕ × ℕ
+charge_of c = (c.low, c.high)

@@ -6,4 +6,4 @@ pub mod Booking
 pub mod Entering
 pub mod DataSteps
 pub mod Walking
-pub mod Serving
+pub mod Entries

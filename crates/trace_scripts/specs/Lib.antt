@@ -2,3 +2,4 @@ pub mod Scripts
 pub mod Books
 pub mod Scenes
 pub mod Objects
+pub mod Serving

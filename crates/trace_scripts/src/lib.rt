@@ -5,6 +5,7 @@ mod actions;
 mod books;
 mod data;
 mod names;
+mod objects;
 mod scripts;
 mod services;
 mod walks;

@@ -1,0 +1,5 @@
+pub mod Courses
+pub mod Served
+pub mod Charged
+pub mod Told
+pub mod Stacks

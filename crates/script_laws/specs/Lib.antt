@@ -1,0 +1,4 @@
+pub mod Entries
+pub mod Services
+pub mod Progress
+pub mod Laws

@@ -1,0 +1,9 @@
+pub mod Readings
+pub mod Asked
+pub mod Holding
+pub mod Acting
+pub mod Booking
+pub mod Entering
+pub mod DataSteps
+pub mod Walking
+pub mod Entries

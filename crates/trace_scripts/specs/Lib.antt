@@ -1,0 +1,5 @@
+pub mod Scripts
+pub mod Books
+pub mod Scenes
+pub mod Objects
+pub mod Serving

@@ -1,0 +1,41 @@
+-- A program with what its calls may lead to, and what the walk of a block along a script answers.
+use Rattle.std.specs.Prelude.{◌≡◌, ℕ, ◌≤◌, Bool, true, false, List, map, length, Option, Some, None}
+use Rattle.seq_tree.specs.Lists.{Each}
+use Rattle.seq_tree.specs.Names.{Name}
+use Rattle.seq_tree.specs.Runs.{Path, Callee}
+use Rattle.seq_tree.specs.Trees.{offer_of, operation_of}
+use Rattle.seq_tree.specs.Variables.{Variables}
+use Rattle.ada_tree.specs.Programs.{Program}
+use Rattle.ada_tree.specs.Bodies.{bodies}
+use Rattle.ada_tree.specs.Rules.{MeetsRules}
+use Rattle.ada_tree.specs.Trees.{program_of}
+use Rattle.guarantee.specs.Software.{Software, program_software, leads_to}
+use Rattle.block_follow.specs.Bounds.{most_ticks}
+use Rattle.block_follow.specs.Following.{callees}
+use Rattle.trace_scripts.specs.declared.walks.Scene.{Scene}
+use Rattle.trace_scripts.specs.declared.walks.Walked.{Walked}
+use Rattle.trace_scripts.specs.declared.walks.Walked.TheVariants.{Ran, Begun, Astray}
+
+abbrev pub program_in : Scene → Program
+program_in s = program_of s.program.now
+
+abbrev pub software_of : Scene → Software
+software_of s = program_software (program_in s)
+
+-- what calls lead to
+abbrev pub calls_of : Scene → Name → Name → Callee
+calls_of s = callees s.owners.now (map operation_of s.passive.now) (map offer_of s.shared.now) (map offer_of s.requests.now)
+
+-- a program that meets its rules, whose calls lead where the lists say, and whose bodies are not too dear
+pub record IsScene (s : Scene) : Type 0 where
+  pub rules : MeetsRules (program_in s)
+  pub lists : length s.owners.now ≡ length s.passive.now
+  pub calls : calls_of s ≡ leads_to (software_of s)
+  pub ticks : Each (λ u. Each (λ b. (depth : ℕ) → most_ticks (program_in s).costs (calls_of s) depth b.block ≤ 1000000000) (bodies u.form)) (program_in s).units
+
+-- what the answer means, by the run that the script shows and whether it begins one
+abbrev pub IsWalk : Option Path → Bool → Walked → Variables → Type 0
+IsWalk (Some p) begins (Ran low high) after = (begins ≡ true) × (after ≡ p.vars) × (low ≡ p.low) × (high ≡ p.high)
+IsWalk None begins Begun after = begins ≡ true
+IsWalk None begins Astray after = begins ≡ false
+IsWalk _ begins answer after = ⊥

@@ -1,0 +1,36 @@
+-- Scripts as the code holds them, and the actions that events show.
+-- A script that is read from its end holds its last action first.
+use Rattle.std.specs.Prelude.{ℕ, Bool, List, [], ◌∷◌, map, fold, Option, Some, None, slice_get, if◌then◌else◌}
+use Rattle.seq_tree.specs.Names.{Name}
+use Rattle.seq_tree.specs.Runs as runs
+use Rattle.ada_tree.specs.Programs.{Form, Unit, Program, Passive, Shared, Cyclic, Sporadic}
+use Rattle.guarantee.specs.Software.{program_software}
+use Rattle.guarantee.specs.Events.{Event, By, Horizon}
+use Rattle.trace_laws.specs.Checks.{action_of}
+use Rattle.block_follow.specs.Actions as trees
+use Rattle.script_laws.specs.Entries.{Shown}
+use Rattle.trace_scripts.specs.declared.scripts.Script.{Script}
+
+-- the script that is held
+abbrev pub shown_of : Script → Shown
+shown_of s = if s.shows then Some (map trees.action_of s.actions.items) else None
+
+-- the script that is held with its last action first
+abbrev pub back_of : Script → Shown
+back_of s = if s.shows then Some (fold (λ as' a. trees.action_of a ∷ as') [] s.actions.items) else None
+
+-- the scripts of levels, the innermost of which stands last
+abbrev pub levels_of : List Script → List Shown
+levels_of ls = fold (λ ss s. back_of s ∷ ss) [] ls
+
+-- the action that an event shows, where it shows one
+abbrev pub action_by : Program → Event → Option runs.Action
+action_by p (By time task deed) = action_of (program_software p) deed
+action_by p (Horizon time) = None
+
+-- the operation by which a unit is requested; where there is none its own name stands there, by which nothing is requested
+abbrev pub asked_name : Name → Form → Name
+asked_name name (Passive ops) = name
+asked_name name (Shared ceiling vars ops) = name
+asked_name name (Cyclic priority offset period vars block) = name
+asked_name name (Sporadic priority ceiling op separation jitter external vars block) = op.name

@@ -1,0 +1,13 @@
+//! Scripts.
+#![tactic(auto)]
+
+mod actions;
+mod books;
+mod data;
+mod names;
+mod objects;
+mod scripts;
+mod services;
+mod walks;
+
+pub use walks::Scene;

@@ -1,0 +1,187 @@
+ghost use Rattle.std.specs.Prelude.{◌≡◌, ◌≤◌, ℕ, true, IfOk, Some};
+ghost use Rattle.seq_tree.specs.Names.{same_name};
+ghost use Rattle.seq_tree.specs.Trees.{block_of, operation_of};
+ghost use Rattle.ods_tree.specs.Flats.{Guarded};
+ghost use Rattle.block_walks.specs.Fit.{MayRun};
+ghost use Rattle.block_follow.specs.Bounds.{most_ticks};
+ghost use Rattle.guarantee.specs.Software.{leads_to};
+ghost use Rattle.script_laws.specs.Services.{charge_by, charge_in, entered_in, inside_by, is_sound, last_by, left_in};
+ghost use Rattle.trace_laws.specs.Checks.{begins_along, op_named, run_along};
+ghost use Rattle.trace_scripts.specs.Books.{entry_of};
+ghost use Rattle.trace_scripts.specs.Scripts.{shown_of};
+ghost use Rattle.trace_scripts.specs.Objects.{charge_of, service_of};
+ghost use Rattle.trace_scripts.specs.Scenes.{IsScene, calls_of, software_of};
+
+use crate::books::Entry;
+use crate::data::{keep, open, results};
+use crate::scripts::Script;
+use crate::walks::{Scene, Walked};
+use seq_eval::Env;
+use seq_tree::{Datum, Name, NoMemory, OpText};
+use std::alloc::Global;
+
+/// What an object is at.
+#[derive(Drop)]
+pub(crate) enum Service<'a> {
+    /// No operation is entered, and the data are these.
+    Free(Env),
+    /// A thread is inside an operation, that hands these results out and leaves these data.
+    Inside {
+        thread: &'a Name,
+        op: &'a Name,
+        gives: Vec<u32>,
+        after: Env,
+    },
+    /// A thread is inside an operation that is never left.
+    Last,
+    /// Its operations are not run one by one.
+    Broken,
+}
+
+/// The fewest and the most ticks of the way through an operation.
+#[derive(Clone, Copy, Drop)]
+pub(crate) struct Charge {
+    pub low: u64,
+    pub high: u64,
+}
+
+/// Whether two names are one.
+#[tactic(auto, using(crate::proofs::Entries::names))]
+pub(crate) fn is_same(one: &Name, other: &Name) -> bool
+    ensures { result ≡ same_name one.now other.now }
+{
+    one.same(other)
+}
+
+impl<'a> Service<'a> {
+    /// Whether the operations of the object are run one by one so far.
+    pub fn is_sound(&self) -> bool
+        ensures { result ≡ is_sound (service_of self.now) }
+    {
+        match self {
+            Service::Broken => false,
+            Service::Free(_) | Service::Inside { .. } | Service::Last => true,
+        }
+    }
+
+    /// Behind an exit with these results.
+    #[tactic(auto, using(crate::proofs::Entries::values))]
+    pub fn leave(self, thread: &Name, op: &Name, values: &[u32]) -> Service<'a>
+        ensures { service_of result ≡ left_in thread.now op.now values.now (service_of self.entry) }
+    {
+        match self {
+            Service::Inside {
+                thread: other,
+                op: same,
+                gives,
+                after,
+            } => {
+                if is_same(other, thread) && is_same(same, op) && values == gives.as_slice() {
+                    Service::Free(after)
+                } else {
+                    Service::Broken
+                }
+            }
+            Service::Free(_) | Service::Last | Service::Broken => Service::Broken,
+        }
+    }
+}
+
+/// Behind an entry into an operation that is left later: the variables are those of its body as it begins.
+fn pass<'a>(
+    scene: &Scene,
+    alloc: Global,
+    mut env: Env,
+    thread: &'a Name,
+    op: &'a OpText,
+    vars: &[Datum],
+    script: &Script,
+    most: u64,
+) -> Result<(Service<'a>, Charge), NoMemory>
+    requires scene { IsScene scene.now }
+    requires ticks { (depth : ℕ) → most_ticks scene.now.program.now.costs (calls_of scene.now) depth (block_of op.now.block) ≤ 1000000000 }
+    ensures service { (depth : ℕ) (g : Guarded) → MayRun (leads_to (software_of scene.now)) depth (block_of op.entry.now.block) → g.vars ≡ vars.now
+        → IfOk result (λ r. service_of r.0 ≡ inside_by g thread.entry.now op.entry.now.sig.name (operation_of op.entry.now)
+        (run_along (software_of scene.now) depth (block_of op.entry.now.block) env.slots.items (shown_of script.now))) }
+    ensures charge { (depth : ℕ) → MayRun (leads_to (software_of scene.now)) depth (block_of op.entry.now.block)
+        → IfOk result (λ r. charge_of r.1 ≡ charge_by most true
+        (run_along (software_of scene.now) depth (block_of op.entry.now.block) env.slots.items (shown_of script.now))) }
+{
+    let none = Charge { low: 0, high: most };
+    match scene.walk(alloc, &op.block, &mut env, script)? {
+        Walked::Ran { low, high } => {
+            let gives = results(alloc, &op.sig.params, &env)?;
+            let after = keep(alloc, vars, &env)?;
+            let inside = Service::Inside {
+                thread,
+                op: &op.sig.name,
+                gives,
+                after,
+            };
+            Ok((inside, Charge { low, high }))
+        }
+        Walked::Begun => Ok((Service::Broken, none)),
+        Walked::Astray => Ok((Service::Broken, none)),
+    }
+}
+
+/// Behind an entry into an operation that is never left.
+fn stay<'a>(
+    scene: &Scene,
+    alloc: Global,
+    mut env: Env,
+    op: &OpText,
+    script: &Script,
+) -> Result<Service<'a>, NoMemory>
+    requires scene { IsScene scene.now }
+    requires ticks { (depth : ℕ) → most_ticks scene.now.program.now.costs (calls_of scene.now) depth (block_of op.now.block) ≤ 1000000000 }
+    ensures { (depth : ℕ) → MayRun (leads_to (software_of scene.now)) depth (block_of op.now.block)
+        → IfOk result (λ r. service_of r ≡ last_by
+        (begins_along (software_of scene.now) depth (block_of op.now.block) env.slots.items (shown_of script.now))) }
+{
+    match scene.walk(alloc, &op.block, &mut env, script)? {
+        Walked::Ran { .. } => Ok(Service::Last),
+        Walked::Begun => Ok(Service::Last),
+        Walked::Astray => Ok(Service::Broken),
+    }
+}
+
+/// Behind an entry into an operation of an object, with the ticks of the way through it.
+pub(crate) fn enter<'a>(
+    scene: &Scene,
+    alloc: Global,
+    state: Service<'a>,
+    thread: &'a Name,
+    op: &'a OpText,
+    vars: &[Datum],
+    values: &[u32],
+    entry: &Entry,
+    most: u64,
+) -> Result<(Service<'a>, Charge), NoMemory>
+    requires scene { IsScene scene.now }
+    requires ticks { (depth : ℕ) → most_ticks scene.now.program.now.costs (calls_of scene.now) depth (block_of op.now.block) ≤ 1000000000 }
+    ensures service { (depth : ℕ) (g : Guarded) → MayRun (leads_to (software_of scene.now)) depth (block_of op.entry.now.block) → g.vars ≡ vars.now
+        → op_named g op.entry.now.sig.name ≡ Some (operation_of op.entry.now)
+        → IfOk result (λ r. service_of r.0
+        ≡ entered_in (software_of scene.now) depth g thread.entry.now op.entry.now.sig.name values.now (entry_of entry.now) (service_of state.entry)) }
+    ensures charge { (depth : ℕ) (g : Guarded) → MayRun (leads_to (software_of scene.now)) depth (block_of op.entry.now.block) → g.vars ≡ vars.now
+        → op_named g op.entry.now.sig.name ≡ Some (operation_of op.entry.now)
+        → IfOk result (λ r. charge_of r.1
+        ≡ charge_in (software_of scene.now) depth most g op.entry.now.sig.name values.now (entry_of entry.now) (service_of state.entry)) }
+{
+    let none = Charge { low: 0, high: most };
+    match state {
+        Service::Free(kept) => {
+            let env = open(alloc, op, values, kept)?;
+            if entry.again {
+                let passed = pass(scene, alloc, env, thread, op, vars, &entry.script, most)?;
+                Ok(passed)
+            } else {
+                Ok((stay(scene, alloc, env, op, &entry.script)?, none))
+            }
+        }
+        Service::Inside { .. } => Ok((Service::Broken, none)),
+        Service::Last => Ok((Service::Broken, none)),
+        Service::Broken => Ok((Service::Broken, none)),
+    }
+}

@@ -121,15 +121,14 @@ module _ (costs : Costs) (calls : Name → Name → Callee) (b : Statements) (be
       let total = ap length f.split ∙ length-append f.front f.back in
       let count : k ≡ length f.front = omega (arith, sum, place, total) in
       let first : take k script ≡ f.front
-          = ap (λ n. take n script) count ∙ ap (take (length f.front)) f.split ∙ take-append_seam f.front f.back in
+      = ap (λ n. take n script) count ∙ ap (take (length f.front)) f.split ∙ take-append_seam f.front f.back in
       let next : take (suc k) script ≡ f.front ++ cut.0 ∷ []
-          = ap (λ n. take (suc n) script) count ∙ ap (take (suc (length f.front))) (f.split ∙ ap (λ ys. f.front ++ ys) cut.2)
-          ∙ take-one f.front cut.0 cut.1 in
-      (
+      = ap (λ n. take (suc n) script) count ∙ ap (take (suc (length f.front))) (f.split ∙ ap (λ ys. f.front ++ ys) cut.2)
+      ∙ take-one f.front cut.0 cut.1 in (
         omega (arith, sum, some),
         (f.tail, (f.last, f.begins.0, sym f.begins.1 ∙ ap (λ xs. xs ++ f.tail) (sym first))),
         λ h. f.ends cut.0 cut.1 h.0 h.1.0 cut.2
-        (h.1.1, sym (append_assoc f.front (cut.0 ∷ []) h.0) ∙ ap (λ xs. xs ++ h.0) (sym next) ∙ sym h.1.2),
+            (h.1.1, sym (append_assoc f.front (cut.0 ∷ []) h.0) ∙ ap (λ xs. xs ++ h.0) (sym next) ∙ sym h.1.2),
         kept,
       )
 

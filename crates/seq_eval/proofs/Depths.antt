@@ -1,5 +1,5 @@
 -- Walks at any depth at which a block may be walked come to the same.
-use Rattle.std.proofs.Common.{◌≡◌, ℕ, zero, suc, ◌+◌, ◌≤◌, ◌<◌, max, Bool, true, false, List, [], ◌∷◌, ◌++◌, length, drop, take, Result, Ok, Err}
+use Rattle.std.proofs.Common.{◌≡◌, ℕ, zero, suc, ◌≤◌, ◌<◌, Bool, true, false, List, [], ◌∷◌, ◌++◌, length, Result, Ok, Err}
 use Rattle.std.proofs.Common.{refl, sym, ap, ◌∙◌, arith, append_assoc, length-append, subst}
 use Rattle.std.specs.Prelude.{nat_lt}
 use Rattle.std.proofs.lemmas.Bool.{ltb-false, ltb-true}
@@ -80,7 +80,7 @@ longer (x ∷ xs) (y ∷ ys) us vs e lt =
 not-before : {A : Type 0} (G : A → List Action → Type 0) (script : List Action) (m n : ℕ) → IsFirstFault G script m → IsFirstFault G script n → m < n → ⊥
 not-before G script m n f g lt =
     let cut = longer g.front f.front g.back f.back (sym g.split ∙ f.split)
-        (let a = f.place in let b = g.place in omega (arith, a, b, lt)) in
+    (let a = f.place in let b = g.place in omega (arith, a, b, lt)) in
     g.ends cut.0 cut.1 (cut.2 ++ f.tail) f.last cut.3
     (subst (G f.last) (ap (λ zs. zs ++ f.tail) cut.4 ∙ append_assoc g.front (cut.0 ∷ cut.2) f.tail) f.begins)
 

@@ -1,10 +1,10 @@
 -- The loop over what is to do: the innermost frame, a step, and the end.
-use Rattle.std.proofs.Common.{◌≡◌, ℕ, ◌+◌, ◌≤◌, ◌<◌, Bool, true, false, not, List, [], ◌∷◌, ◌++◌, length, map, take, set, get_or, Result, Ok, Err, refl, sym, ap, ◌∙◌}
+use Rattle.std.proofs.Common.{◌≡◌, ℕ, ◌+◌, ◌≤◌, ◌<◌, Bool, true, false, List, [], ◌∷◌, ◌++◌, length, map, take, set, get_or, Result, Err, refl, sym, ap, ◌∙◌}
 use Rattle.std.proofs.Common.{arith, subst}
 use Rattle.std.specs.Prelude.{Vec}
 use Rattle.std.specs.declared.alloc.Global.{Global}
 use Rattle.std.proofs.Math.Seq.{map-set_same}
-use Rattle.std.proofs.lemmas.List.{length-map, length-set, map-append, take_more, take_more_set}
+use Rattle.std.proofs.lemmas.List.{length-map, map-append, take_more, take_more_set}
 use Rattle.grammar.specs.Reading.{whole_at}
 use Rattle.seq_tree.specs.Names.{Name}
 use Rattle.seq_tree.specs.Statements.{Statements, End}
@@ -19,9 +19,8 @@ use Rattle.seq_eval.specs.Actions.{action_of}
 use Rattle.seq_eval.specs.Ends.{IsEnd, comes_to, names_of}
 use Rattle.seq_eval.specs.Ends as ends
 use Rattle.seq_eval.specs.States.{doing_of, doings_of}
-use Rattle.seq_eval.specs.Stepping.{Doing, Rest, HasFew, State, Step, to_do, moved, step}
+use Rattle.seq_eval.specs.Stepping.{Rest, HasFew, State, to_do, moved, step}
 use Rattle.seq_eval.specs.declared.action.Action as rust
-use Rattle.seq_eval.specs.declared.along.Ended.{Ended}
 use Rattle.seq_eval.specs.declared.along.Ended.TheVariants.{Done, Stopped}
 use Rattle.seq_eval.specs.declared.walk.Frame.{Frame}
 use Rattle.seq_eval.proofs.Keeping.{IsCheap, Keeps, begins-kept, deepest, doings-length, doings-snoc, few, most, nearer, off-fewer, off-keeps, on-keeps}
@@ -121,10 +120,10 @@ begun costs calls b fs vars env script made same =
     let k = begins-kept costs calls (block_of b) env (map action_of script) in
     let n = length-map script action_of in
     let all = subst (λ c. Keeps costs calls (block_of b) (λ depth. comes_to (whole_at (walk_at costs calls depth (block_of b) env) (map action_of script)))
-        (names_of env) c (record { doings = Rest (block_of b) ∷ []; leaving = false; vars = env; low = 0; high = 0; script = map action_of script })) n k in
+    (names_of env) c (record { doings = Rest (block_of b) ∷ []; leaving = false; vars = env; low = 0; high = 0; script = map action_of script })) n k in
     let named = subst (λ vs. Keeps costs calls (block_of b) (λ depth. comes_to (whole_at (walk_at costs calls depth (block_of b) env) (map action_of script)))
-        (names_of env) (length script)
-        (record { doings = Rest (block_of b) ∷ []; leaving = false; vars = vs; low = 0; high = 0; script = map action_of script })) (sym same) all in
+    (names_of env) (length script)
+    (record { doings = Rest (block_of b) ∷ []; leaving = false; vars = vs; low = 0; high = 0; script = map action_of script })) (sym same) all in
     subst (λ ds. Keeps costs calls (block_of b) (λ depth. comes_to (whole_at (walk_at costs calls depth (block_of b) env) (map action_of script)))
     (names_of env) (length script)
     (record { doings = ds; leaving = false; vars = vars; low = 0; high = 0; script = map action_of script }))
@@ -138,9 +137,9 @@ pub nearer-by : (costs : Costs) (calls : Name → Name → Callee) (fs rest : Li
 nearer-by costs calls fs rest f leaving vars low high script on t some cut e made =
     let n = doings-length rest in
     let less : toll costs calls 1 deepest t.doings < toll costs calls 1 deepest (doing_of f ∷ doings_of rest)
-        = nearer costs calls End (λ depth. Err 0) [] 0 (doing_of f)
-        (record { doings = doings_of rest; leaving = leaving; vars = vars; low = low; high = high; script = script }) t (omega (arith, n, some))
-        (sym e ∙ ap (λ x. moved x t) made) in
+    = nearer costs calls End (λ depth. Err 0) [] 0 (doing_of f)
+    (record { doings = doings_of rest; leaving = leaving; vars = vars; low = low; high = high; script = script }) t (omega (arith, n, some))
+    (sym e ∙ ap (λ x. moved x t) made) in
     subst (λ ds. toll costs calls 1 deepest t.doings < toll costs calls 1 deepest ds) (sym (ap doings_of cut ∙ doings-snoc rest f)) less
 
 -- a stack from which no frame could be taken has none

@@ -1,9 +1,9 @@
 -- Parameters at entry and at the end: one parameter among the others.
-use Rattle.std.proofs.Common.{◌≡◌, ℕ, suc, ◌+◌, ◌<◌, List, [], ◌∷◌, length, drop, get_or, refl, ap, ◌∙◌}
+use Rattle.std.proofs.Common.{◌≡◌, ℕ, ◌+◌, ◌<◌, List, [], ◌∷◌, length, drop, get_or, refl, ap, ◌∙◌}
 use Rattle.seq_tree.specs.Names.{Name}
 use Rattle.seq_tree.specs.Operations.{out_names}
 use Rattle.seq_tree.specs.Values.{handed}
-use Rattle.seq_tree.specs.Variables.{Variables, entered, entered_by}
+use Rattle.seq_tree.specs.Variables.{Variables, entered_by}
 use Rattle.seq_tree.specs.declared.tree.Mode.{Mode}
 use Rattle.seq_tree.specs.declared.tree.Mode.TheVariants.{In, Out}
 use Rattle.seq_tree.specs.declared.tree.Param.{Param}

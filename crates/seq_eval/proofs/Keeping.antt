@@ -1,5 +1,5 @@
 -- What is kept from step to step: what is left of the walk, room for its ticks, the names at the bottom, and no action is added.
-use Rattle.std.proofs.Common.{◌≡◌, ℕ, suc, ◌+◌, ◌≤◌, ◌<◌, false, fold, List, [], ◌∷◌, ◌++◌, length, map, Option, Some, None, Result, Ok, Err, refl, sym, ap, ◌∙◌, arith, subst}
+use Rattle.std.proofs.Common.{◌≡◌, ℕ, ◌+◌, ◌≤◌, ◌<◌, false, fold, List, [], ◌∷◌, ◌++◌, length, Result, Ok, Err, refl, sym, ap, ◌∙◌, arith, subst}
 use Rattle.std.proofs.lemmas.List.Sums.{fold-append}
 use Rattle.grammar.specs.Reading.{whole_at}
 use Rattle.seq_tree.specs.Names.{Name}
@@ -12,7 +12,7 @@ use Rattle.seq_eval.specs.Bounds.{most_ticks}
 use Rattle.seq_eval.specs.Ends.{comes_to, names_of}
 use Rattle.seq_eval.specs.Ends as ends
 use Rattle.seq_eval.specs.States.{doing_of, doings_of, with_frame}
-use Rattle.seq_eval.specs.Stepping.{Doing, Rest, Arms, Turned, Returned, HasFew, State, Step, to_do, step}
+use Rattle.seq_eval.specs.Stepping.{Doing, Rest, Arms, Turned, Returned, HasFew, State, to_do, step}
 use Rattle.seq_eval.specs.declared.walk.Frame.{Frame}
 use Rattle.seq_eval.proofs.Meaning.{backs, rest_of, rest_after, step-keeps, begins-left}
 use Rattle.seq_eval.proofs.Naming.{names_under, step-names, step-leaves, NamesStay, Leaves}
@@ -67,13 +67,13 @@ module _ (costs : Costs) (calls : Name → Name → Callee) (b : Statements) (wh
         ap (rest_after costs calls depth) (sym e) ∙ step-keeps costs calls depth d s (within s depth some big) ∙ k.kept depth big;
     low = λ cheap depth big.
         let p : Pays costs calls 0 depth _ s.low s.high t
-            = subst (PaysStep costs calls 0 depth (toll costs calls 0 depth (d ∷ s.doings)) s.low s.high) e
-            (step-pays costs calls 0 depth d s (within s depth some big)) in
+        = subst (PaysStep costs calls 0 depth (toll costs calls 0 depth (d ∷ s.doings)) s.low s.high) e
+        (step-pays costs calls 0 depth d s (within s depth some big)) in
         let was = k.low cheap depth big in let paid = p.low-paid in let now = p.low in omega (arith, was, paid, now);
     high = λ cheap depth big.
         let p : Pays costs calls 0 depth _ s.low s.high t
-            = subst (PaysStep costs calls 0 depth (toll costs calls 0 depth (d ∷ s.doings)) s.low s.high) e
-            (step-pays costs calls 0 depth d s (within s depth some big)) in
+        = subst (PaysStep costs calls 0 depth (toll costs calls 0 depth (d ∷ s.doings)) s.low s.high) e
+        (step-pays costs calls 0 depth d s (within s depth some big)) in
         let was = k.high cheap depth big in let paid = p.high-paid in let now = p.high in omega (arith, was, paid, now);
     names-stay = subst (NamesStay (names_under (to_do d s))) e (step-names costs calls d s) ∙ k.names-stay;
     fewer = let l : length t.script ≤ length s.script = subst (Leaves (length s.script)) e (step-leaves costs calls d s) in
@@ -95,8 +95,8 @@ module _ (costs : Costs) (calls : Name → Name → Callee) (b : Statements) (wh
       → toll costs calls 1 deepest t.doings < toll costs calls 1 deepest (d ∷ s.doings)
   nearer d s t some e =
       let p : Pays costs calls 1 deepest _ s.low s.high t
-          = subst (PaysStep costs calls 1 deepest (toll costs calls 1 deepest (d ∷ s.doings)) s.low s.high) e
-          (step-pays costs calls 1 deepest d s (within s deepest some deep-enough)) in
+      = subst (PaysStep costs calls 1 deepest (toll costs calls 1 deepest (d ∷ s.doings)) s.low s.high) e
+      (step-pays costs calls 1 deepest d s (within s deepest some deep-enough)) in
       let paid = p.low-paid in omega (arith, paid)
 
 -- the beginning

@@ -1,6 +1,6 @@
 -- What is left of a walk, as a function of the stack: each step keeps it. The body of an operation is walked one call deeper than its caller,
 -- and no stack is as deep as the walk.
-use Rattle.std.proofs.Common.{◌≡◌, ℕ, zero, suc, ◌+◌, ◌-◌, ◌*◌, ◌≤◌, ◌<◌, Bool, true, false, List, [], ◌∷◌, length, drop, Option, Some, None, Result, Ok, Err}
+use Rattle.std.proofs.Common.{◌≡◌, ℕ, suc, ◌+◌, ◌-◌, ◌*◌, ◌≤◌, ◌<◌, Bool, true, false, List, [], ◌∷◌, length, drop, Option, Some, None, Result, Ok, Err}
 use Rattle.std.proofs.Common.{refl, sym, ap, ◌∙◌, arith, cond}
 use Rattle.std.specs.Prelude.{is_some, nat_le, nat_lt}
 use Rattle.std.proofs.lemmas.Bool.{leb-false, leb-true, ltb-false, ltb-true}
@@ -24,8 +24,8 @@ use Rattle.grammar.specs.Reading as reading
 use Rattle.block_walks.specs.Walks.{statement_at, block_at, branches_at, body_at, walk_at, returned}
 use Rattle.seq_eval.specs.Ends.{comes_to}
 use Rattle.seq_eval.specs.Ends as ends
-use Rattle.seq_eval.specs.Stepping.{Doing, Rest, Arms, Turned, Returned, State, Step, spent, to_do, turning, turned_over, given_back, told_by}
-use Rattle.seq_eval.specs.Stepping.{left_by, stored_by, passed, requested, entered_op, called, printed, begun, branched, turned_on, done, passed_over}
+use Rattle.seq_eval.specs.Stepping.{Doing, Rest, Arms, Turned, Returned, State, Step, spent, to_do, turning, told_by}
+use Rattle.seq_eval.specs.Stepping.{left_by, stored_by, passed, entered_op, called, begun, branched, done, passed_over}
 use Rattle.seq_eval.specs.Stepping.{step_by, step}
 
 -- how many bodies of operations are under way

@@ -13,8 +13,8 @@ use Rattle.seq_tree.specs.declared.tree.Costs.{Costs}
 use Rattle.seq_tree.specs.declared.tree.OpName.{OpName}
 use Rattle.block_walks.specs.Walks.{sees_entry, sees_leave, sees_print, sees_request}
 use Rattle.seq_eval.specs.Ends.{names_of}
-use Rattle.seq_eval.specs.Stepping.{Doing, Rest, Arms, Turned, Returned, State, Step, spent, to_do, turning, turned_over, told_by, given_back}
-use Rattle.seq_eval.specs.Stepping.{left_by, stored_by, passed, called, begun, branched, turned_on, done, passed_over, step_by, step}
+use Rattle.seq_eval.specs.Stepping.{Doing, Rest, Arms, Turned, Returned, State, Step, spent, to_do, turning, turned_over, told_by}
+use Rattle.seq_eval.specs.Stepping.{left_by, stored_by, called, begun, branched, done, passed_over, step_by, step}
 
 names-write : (name : Name) (v : ℕ) (vars : Variables) → names_of (write name v vars) ≡ names_of vars
 names-write name v [] = refl

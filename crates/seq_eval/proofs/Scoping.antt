@@ -1,12 +1,11 @@
 -- Stacks of variables: the one at a place, those behind it and those before it.
-use Rattle.std.proofs.Common.{◌≡◌, ℕ, suc, ◌+◌, ◌-◌, ◌≤◌, ◌<◌, cond, Bool, true, false, List, [], ◌∷◌, ◌++◌, length, take, drop, set, get_or, map, fold, refl, ap}
-use Rattle.std.proofs.Common.{sym, ◌∙◌, arith, append-nil, append_assoc, subst}
+use Rattle.std.proofs.Common.{◌≡◌, ℕ, ◌+◌, ◌-◌, ◌≤◌, ◌<◌, cond, Bool, true, false, List, [], ◌∷◌, ◌++◌, length, take, drop, set, get_or, map, fold, refl, ap}
+use Rattle.std.proofs.Common.{sym, ◌∙◌, arith, append_assoc}
 use Rattle.std.proofs.lemmas.List.{take-append-drop, drop-set, take-set, map-append}
 use Rattle.std.proofs.lemmas.List.Sums.{fold-append}
 use Rattle.seq_tree.specs.Names.{Name, same_name}
 use Rattle.seq_tree.specs.Variables.{Variables, write}
 use Rattle.seq_tree.proofs.LoopSteps.{drop_step, take_step}
-use Rattle.seq_eval.specs.Lookups.{found}
 use Rattle.seq_eval.specs.Scopes.{vars_of, with_var}
 use Rattle.seq_eval.specs.declared.scope.Var.{Var}
 
@@ -64,9 +63,9 @@ module _ (name : Name) (value : ℕ) where
       let one : Name × ℕ = (x.name.now, x.value) in
       let inside : at - 1 < length xs = omega (arith, some, within) in
       let before : vars_of (take at xs) ≡ one ∷ front
-          = ap (λ k. vars_of (take k xs)) (sym (one_on at some)) ∙ vars-to xs (at - 1) x inside is in
+      = ap (λ k. vars_of (take k xs)) (sym (one_on at some)) ∙ vars-to xs (at - 1) x inside is in
       let behind : vars_of (drop (at - 1) xs) ≡ vars_of (drop at xs) ++ one ∷ []
-          = vars-from xs (at - 1) x inside is ∙ ap (λ k. vars_of (drop k xs) ++ one ∷ []) (one_on at some) in
+      = vars-from xs (at - 1) x inside is ∙ ap (λ k. vars_of (drop k xs) ++ one ∷ []) (one_on at some) in
       was ∙ ap (λ vs. vars_of (drop at xs) ++ write name value vs) before
       ∙ ap (λ vs. vars_of (drop at xs) ++ vs) (write_by one front false other)
       ∙ sym (append_assoc (vars_of (drop at xs)) (one ∷ []) (write name value front))
@@ -82,12 +81,12 @@ module _ (name : Name) (value : ℕ) where
       let one : Name × ℕ = (x.name.now, x.value) in
       let inside : at - 1 < length xs = omega (arith, some, within) in
       let before : vars_of (take at xs) ≡ one ∷ front
-          = ap (λ k. vars_of (take k xs)) (sym (one_on at some)) ∙ vars-to xs (at - 1) x inside is in
+      = ap (λ k. vars_of (take k xs)) (sym (one_on at some)) ∙ vars-to xs (at - 1) x inside is in
       let new : set xs (at - 1) w ≡ take (at - 1) xs ++ w ∷ drop at xs
-          = sym (take-append-drop (at - 1) (set xs (at - 1) w))
-          ∙ ap (λ ys. ys ++ drop (at - 1) (set xs (at - 1) w)) (take-set xs (at - 1) w)
-          ∙ ap (λ ys. take (at - 1) xs ++ ys) (drop-set xs (at - 1) w inside)
-          ∙ ap (λ k. take (at - 1) xs ++ w ∷ drop k xs) (one_on at some) in
+      = sym (take-append-drop (at - 1) (set xs (at - 1) w))
+      ∙ ap (λ ys. ys ++ drop (at - 1) (set xs (at - 1) w)) (take-set xs (at - 1) w)
+      ∙ ap (λ ys. take (at - 1) xs ++ ys) (drop-set xs (at - 1) w inside)
+      ∙ ap (λ k. take (at - 1) xs ++ w ∷ drop k xs) (one_on at some) in
       ap vars_of new ∙ fold-append with_var [] (take (at - 1) xs) (w ∷ drop at xs)
       ∙ fold_onto (drop at xs) ((w.name.now, w.value) ∷ front)
       ∙ ap (λ n. vars_of (drop at xs) ++ (n, w.value) ∷ front) named ∙ ap (λ v. vars_of (drop at xs) ++ (x.name.now, v) ∷ front) valued

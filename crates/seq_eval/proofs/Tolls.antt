@@ -1,10 +1,10 @@
 -- What is left to do takes no more ticks than its dearest path, and each step takes its own part of it. With a part for the step itself, this
 -- is what a step brings the end nearer by.
-use Rattle.std.proofs.Common.{◌≡◌, ℕ, zero, suc, ◌+◌, ◌-◌, ◌*◌, ◌≤◌, ◌<◌, max, Bool, true, false, List, [], ◌∷◌, length, Option, Some, None, Result, Ok, Err}
-use Rattle.std.proofs.Common.{refl, sym, ap, ◌∙◌, arith, cond}
+use Rattle.std.proofs.Common.{◌≡◌, ℕ, zero, suc, ◌+◌, ◌-◌, ◌*◌, ◌≤◌, ◌<◌, max, Bool, true, false, List, [], ◌∷◌, length, Option, Some, None, Ok, Err}
+use Rattle.std.proofs.Common.{refl, ap, ◌∙◌, arith, cond}
 use Rattle.std.specs.Prelude.{is_some, nat_le, nat_lt}
 use Rattle.std.proofs.Math.Nat.{suc-mul}
-use Rattle.std.proofs.lemmas.Bool.{leb-false, leb-true, ltb-false, ltb-true}
+use Rattle.std.proofs.lemmas.Bool.{leb-true, ltb-true}
 use Rattle.seq_tree.specs.Names.{Name}
 use Rattle.seq_tree.specs.Expressions.{Expression}
 use Rattle.seq_tree.specs.Expressions as expression
@@ -13,15 +13,14 @@ use Rattle.seq_tree.specs.Statements.{Else, When}
 use Rattle.seq_tree.specs.Operations.{out_names}
 use Rattle.seq_tree.specs.Values.{value, holds, handed}
 use Rattle.seq_tree.specs.Variables.{targets}
-use Rattle.seq_tree.specs.Dearest.{dearest, dearest_statement, dearest_branch, turn_count}
+use Rattle.seq_tree.specs.Dearest.{dearest_statement, dearest_branch, turn_count}
 use Rattle.seq_tree.specs.Runs.{Action, Callee, Plain, Protected, Asked, Unknown, request_value}
 use Rattle.seq_tree.specs.declared.tree.Costs.{Costs}
 use Rattle.seq_tree.specs.declared.tree.OpName.{OpName}
-use Rattle.seq_tree.specs.declared.tree.Param.{Param}
 use Rattle.block_walks.specs.Walks.{sees_entry, sees_leave, sees_print, sees_request}
 use Rattle.seq_eval.specs.Bounds.{block_ticks, callee_ticks, called_ticks, most_ticks}
 use Rattle.seq_eval.specs.Stepping.{Doing, Rest, Arms, Turned, Returned, State, Step, spent, to_do, turning, turned_over, told_by}
-use Rattle.seq_eval.specs.Stepping.{left_by, stored_by, passed, called, begun, branched, done, passed_over, step_by, step}
+use Rattle.seq_eval.specs.Stepping.{left_by, stored_by, called, begun, branched, done, passed_over, step_by, step}
 use Rattle.seq_eval.proofs.Meaning.{backs}
 
 module _ (costs : Costs) (calls : Name → Name → Callee) (each : ℕ) where

@@ -10,10 +10,10 @@ ghost use Rattle.seq_eval.specs.Following.{Follows, Means, callees};
 ghost use Rattle.seq_eval.specs.Targets.{leads};
 
 use crate::action::{Action, Followed};
+use crate::env::Env;
 use crate::scope::Scope;
 use crate::targets::Targets;
 use crate::walk::{Frame, Walk};
-use crate::env::Env;
 use seq_tree::{Block, Callable, Costs, Name, NoMemory, OpText};
 use std::alloc::Global;
 

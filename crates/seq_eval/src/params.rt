@@ -100,7 +100,11 @@ pub(crate) fn open_locals<'a>(into: &mut Scope<'a>, locals: &'a [Datum]) -> Resu
 }
 
 /// The values of the parameters that are handed out, in order.
-pub(crate) fn handed_out(alloc: Global, params: &[Param], vars: &Scope) -> Result<Vec<u32>, NoMemory>
+pub(crate) fn handed_out(
+    alloc: Global,
+    params: &[Param],
+    vars: &Scope,
+) -> Result<Vec<u32>, NoMemory>
     ensures { IfOk result (λ v. v.items ≡ reads (out_names params.now) vars.now) }
 {
     let mut values = Vec::new(alloc);

@@ -76,7 +76,8 @@ pub(crate) fn asks(action: &Action, object: &Name, op: &Name, asked: Option<u32>
     ensures { result ≡ is_some (sees_request (record { object = object.now; op = op.now }) asked (action_of action.now)) }
 {
     match action {
-        Action::Request { name, value } => is_same_op(object, op, name) && is_same_value(asked, *value),
+        Action::Request { name, value } => is_same_op(object, op, name)
+            && is_same_value(asked, *value),
         _ => false,
     }
 }

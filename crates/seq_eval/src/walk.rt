@@ -10,8 +10,8 @@ ghost use Rattle.seq_eval.specs.Targets.{leads};
 use crate::action::Action;
 use crate::params::{asked, handed_out, open_locals, open_params, out_count, store};
 use crate::scope::Scope;
-use crate::targets::{Target, Targets};
 use crate::seen::{asks, enters, leaves, prints};
+use crate::targets::{Target, Targets};
 use crate::values::eval;
 use seq_tree::{Arm, Block, Costs, Expr, Name, NoMemory, OpText, Param, Stmt};
 use std::alloc::Global;
@@ -85,8 +85,7 @@ impl<'a> Walk<'a> {
     {
         self.vars.push(round.name, round.at)?;
         self.frames.push(Frame::Turned(round))?;
-        self.frames
-            .push(Frame::Stmts(round.body.stmts.as_slice()))?;
+        self.frames.push(Frame::Stmts(round.body.stmts.as_slice()))?;
         Ok(())
     }
 
@@ -390,12 +389,7 @@ impl<'a> Walk<'a> {
     }
 
     /// Passes over what is to do, where a loop is being left: it ends at the end of its turn, or of the body of an operation.
-    fn pass_over(
-        &mut self,
-        alloc: Global,
-        costs: &Costs,
-        frame: Frame<'a>,
-    ) -> Result<(), NoMemory>
+    fn pass_over(&mut self, alloc: Global, costs: &Costs, frame: Frame<'a>) -> Result<(), NoMemory>
         requires { HasFew (state_of self.old) }
         ensures { OnOk result (state_of self.new ≡ passed_over costs.now (doing_of frame.entry) (state_of self.old)) }
     {

@@ -1,4 +1,4 @@
-use Rattle.std.proofs.Common.{ℕ, Result, ◌≤◌, ◌<◌, ◌++◌, [], ◌∷◌, length, map, ap, arith, refl, sym, subst, ◌∙◌}
+use Rattle.std.proofs.Common.{ℕ, Result, ◌≤◌, ◌++◌, [], ◌∷◌, length, map, ap, arith, sym, ◌∙◌}
 use Rattle.std.proofs.lemmas.List.{length-map}
 use Rattle.std.proofs.lemmas.Bool.{eq-eqb, eqb-true, false≢true}
 use Rattle.grammar.specs.Reading.{whole_at}
@@ -6,7 +6,7 @@ use Rattle.seq_tree.specs.Trees.{block_of, statement_of, statements_of}
 use Rattle.block_walks.specs.Walks.{walk_at}
 use Rattle.seq_eval.specs.Actions.{action_of}
 use Rattle.seq_eval.specs.Ends.{End, comes_to, names_of}
-use Rattle.seq_eval.specs.States.{doing_of, doings_of, state_of}
+use Rattle.seq_eval.specs.States.{doings_of, state_of}
 use Rattle.seq_eval.specs.Stepping.{Rest}
 use Rattle.seq_eval.specs.Targets.{leads}
 use Rattle.seq_eval.specs.declared.walk.Frame.TheVariants.{Stmts}
@@ -53,10 +53,10 @@ returns-then-not-branch c =
     let rest = c.pop.new.self.items in
     let few-frames : length rest ≤ most = omega (arith, c.pop.new.self.ok, c.pop.new.self.small) in
     let k = popped a.costs.now calls b whole names n w.frames.items rest c.in-Some.frame w.leaving w.vars w.low w.high (map action_of w.script.now) c.in-Some.ensures.items
-        c.frames.invariant in
+    c.frames.invariant in
     let ended = stopped a.costs.now calls b whole names n rest c.in-Some.frame w.leaving w.vars w.low w.high (map action_of w.script.now) c.in_ok-step.field-0
-        (state_of c.step.new.self) (length c.step.new.self.script.now) few-frames k c.in_ok-step.ensures c.if-not-branch.true
-        (sym (length-map c.step.new.self.script.now action_of)) in
+    (state_of c.step.new.self) (length c.step.new.self.script.now) few-frames k c.in_ok-step.ensures c.if-not-branch.true
+    (sym (length-map c.step.new.self.script.now action_of)) in
     record { fits = stopped-within names n (length c.step.new.self.script.now) (whole deepest) (ended deepest deep-enough); ended = λ cheap depth big. ended depth big }
 
 pub frames-smaller : goal.frames-smaller
@@ -74,7 +74,7 @@ frames-preserved c =
     let rest = c.pop.new.self.items in
     let few-frames : length rest ≤ most = omega (arith, c.pop.new.self.ok, c.pop.new.self.small) in
     let k = popped _ _ _ _ _ _ w.frames.items rest c.in-Some.frame w.leaving w.vars w.low w.high (map action_of w.script.now) c.in-Some.ensures.items
-        c.frames.invariant in
+    c.frames.invariant in
     stepped _ _ _ _ _ _ rest c.in-Some.frame w.leaving w.vars w.low w.high (map action_of w.script.now) c.in_ok-step.field-0
     (state_of c.step.new.self) few-frames k c.in_ok-step.ensures c.if-not-branch.false
 

@@ -14,8 +14,8 @@ pub returns : goal.returns
 returns c =
     let a = c.args in
     let same : leads c.in_ok-targets.targets
-        ≡ callees a.owners.now (map operation_of a.passive.now) (map offer_of a.shared.now) (map offer_of a.requests.now)
-        = fun_ext (λ object. fun_ext (λ op. c.in_ok-targets.ensures object op)) in
+    ≡ callees a.owners.now (map operation_of a.passive.now) (map offer_of a.shared.now) (map offer_of a.requests.now)
+    = fun_ext (λ object. fun_ext (λ op. c.in_ok-targets.ensures object op)) in
     record {
       fits = c.follow_with.ensures.fits;
       ended = subst (λ calls. IfOk c.follow_with.result (λ e. ((depth : ℕ) → most_ticks a.costs.now calls depth (block_of a.block.now) ≤ 1000000000)

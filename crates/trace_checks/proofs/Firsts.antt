@@ -5,7 +5,7 @@ use Rattle.std.specs.List.{cons_option}
 use Rattle.std.proofs.lemmas.Bool.{ne_eqb}
 use Rattle.seq_tree.specs.Lists.{change}
 use Rattle.seq_tree.specs.Names.{Name, same_name}
-use Rattle.ada_tree.specs.Programs.{Unit, Program}
+use Rattle.ada_tree.specs.Programs.{Unit}
 use Rattle.guarantee.specs.Events.{Event}
 use Rattle.guarantee.specs.Software.{Task}
 use Rattle.trace_places.specs.Places.{task_in}

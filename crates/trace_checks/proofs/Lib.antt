@@ -6,3 +6,4 @@ pub mod Servings
 pub mod Arrivings
 pub mod Passings
 pub mod Saying
+pub mod Meaning

@@ -1,5 +1,5 @@
 -- What the checks say of a trace is what the machine says of it.
-use Rattle.std.proofs.Common.{◌≡◌, ℕ, Bool, true, false, not, List, [], ◌∷◌, ◌++◌, ap, length, Option, Some, None, refl, sym, subst, ◌∙◌}
+use Rattle.std.proofs.Common.{◌≡◌, ℕ, Bool, true, false, not, List, [], ◌∷◌, ap, Option, Some, None, refl, sym, subst, ◌∙◌}
 use Rattle.std.specs.Prelude.{Result, Ok, Err, cond, find}
 use Rattle.std.specs.Bool.{Decides}
 use Rattle.seq_tree.specs.Lists.{Each}
@@ -7,7 +7,7 @@ use Rattle.seq_tree.specs.Names.{Name}
 use Rattle.ada_tree.specs.Programs.{Program}
 use Rattle.guarantee.specs.Allowed.{IsPeriodic, IsRequested}
 use Rattle.guarantee.specs.Arrivals as given
-use Rattle.guarantee.specs.Events.{Event, named}
+use Rattle.guarantee.specs.Events.{Event}
 use Rattle.guarantee.specs.Order.{IsInOrder}
 use Rattle.guarantee.specs.Requests.{AreTold}
 use Rattle.guarantee.specs.Software.{Task, Software, program_software}
@@ -15,10 +15,9 @@ use Rattle.trace_laws.specs.Checks.{in_order, is_periodic, are_told, is_requeste
 use Rattle.trace_laws.specs.Verdicts.{Verdict, IsFirstWithout, IsVerdict, IsVerdictOn}
 use Rattle.trace_laws.specs.Verdicts as verdict
 use Rattle.trace_laws.proofs.Simple.{times, cyclic, arrivals, requests}
-use Rattle.trace_read.specs.Lines.{Tells}
 use Rattle.trace_checks.specs.Answers as answer
 use Rattle.trace_checks.specs.Answers.{Says, late, unserved}
-use Rattle.trace_checks.specs.Meanings.{KeepParts, Means}
+use Rattle.trace_checks.specs.Meanings.{Means}
 use Rattle.trace_checks.specs.declared.broken.Broken.{Broken}
 use Rattle.trace_checks.specs.declared.broken.Broken.TheVariants as broken
 
@@ -84,18 +83,20 @@ module _ (p : Program) (r : given.Arrivals) where
   answers-mean text (Err broken.Times) (told, tells, h) =
       (tells.0, tells.1, tells.2, subst (λ z. IsVerdictOn w r z verdict.Times) tells.3 (no _ _ (times w.tasks r.until 0 told) h))
   answers-mean text (Err (broken.Cyclic thread)) (told, tells, h) =
-      (tells.0, tells.1, tells.2, subst (λ z. IsVerdictOn w r z (verdict.Cyclic thread)) tells.3 (in-time told h.0, late-is told (Some thread) h.1))
+      let f = late-is told (Some thread) h.1 in
+      (tells.0, tells.1, tells.2, subst (λ z. IsVerdictOn w r z (verdict.Cyclic thread)) tells.3 (in-time told h.0, f.0, f.1, f.2))
   answers-mean text (Err broken.Arrivals) (told, tells, h) = (
     tells.0,
     tells.1,
     tells.2,
     subst (λ z. IsVerdictOn w r z verdict.Untold) tells.3 (in-time told h.0, late-is told None h.1, no _ _ (arrivals r.until r.items told) h.2),
   )
-  answers-mean text (Err (broken.Requests thread)) (told, tells, h) = (
-    tells.0,
-    tells.1,
-    tells.2,
-    subst (λ z. IsVerdictOn w r z (verdict.Requests thread)) tells.3
-    (in-time told h.0, late-is told None h.1, come told h.2, unserved-is told (Some thread) h.3),
-  )
+  answers-mean text (Err (broken.Requests thread)) (told, tells, h) =
+      let f = unserved-is told (Some thread) h.3 in (
+        tells.0,
+        tells.1,
+        tells.2,
+        subst (λ z. IsVerdictOn w r z (verdict.Requests thread)) tells.3
+            (in-time told h.0, late-is told None h.1, come told h.2, f.0, f.1, f.2),
+      )
   answers-mean text (Err broken.NoMemory) h = tt

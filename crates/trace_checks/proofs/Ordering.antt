@@ -1,5 +1,5 @@
 -- How times stand behind an event is what the check of times asks of the events that follow.
-use Rattle.std.proofs.Common.{◌≡◌, ℕ, Bool, true, false, List, [], ◌∷◌, ◌&&◌, not, Some, refl, sym, ap, ◌∙◌}
+use Rattle.std.proofs.Common.{◌≡◌, ℕ, Bool, true, false, List, [], ◌∷◌, ◌&&◌, not, refl, sym, ap, ◌∙◌}
 use Rattle.std.specs.Prelude.{nat_le, ◌==◌, is_some, if◌then◌else◌}
 use Rattle.ada_tree.specs.Programs.{Program}
 use Rattle.ada_tree.specs.Rules.{MeetsRules}
@@ -11,7 +11,7 @@ use Rattle.guarantee.specs.Software.{Task, program_software}
 use Rattle.guarantee.specs.Events.{Deed, Event, By, Horizon, op_at, named_event}
 use Rattle.guarantee.specs.Events as deed
 use Rattle.guarantee.specs.Order.{is_task_name, is_stop}
-use Rattle.trace_laws.specs.Checks.{in_order, is_nil}
+use Rattle.trace_laws.specs.Checks.{in_order}
 use Rattle.trace_places.specs.Places.{task_at}
 use Rattle.trace_places.proofs.Units.{what-it-is}
 use Rattle.trace_checks.specs.Timing.{in_order_by, acts, ends, running_after, times_after}

@@ -1,43 +1,33 @@
 -- One event more of a pass over a trace, and what the pass answers at the end.
-use Rattle.std.proofs.Common.{◌≡◌, ℕ, zero, suc, ◌+◌, ◌<◌, ◌≤◌, Bool, true, false, List, [], ◌∷◌, ◌++◌, map, length, Option, Some, None, refl, sym, ap, subst, ◌∙◌, arith}
-use Rattle.std.specs.Prelude.{Result, Ok, Err, option_map, find, not}
+use Rattle.std.proofs.Common.{◌≡◌, ℕ, zero, suc, ◌+◌, ◌<◌, ◌≤◌, List, [], ◌∷◌, ◌++◌, map, length, Option, Some, None, refl, sym, ap, subst, ◌∙◌, arith}
+use Rattle.std.specs.Prelude.{option_map}
 use Rattle.std.proofs.Common.{append_assoc}
 use Rattle.std.proofs.lemmas.List.Concat.{flat_map-cons}
 use Rattle.seq_tree.specs.Lists.{Each, change}
 use Rattle.ada_tree.specs.Programs.{Form, Unit, Program, Passive, Shared, Cyclic, Sporadic}
 use Rattle.ada_tree.specs.Rules.{MeetsRules}
 use Rattle.arrivals_tree.specs.declared.arrivals.Arrival as code
-use Rattle.arrivals_tree.specs.declared.arrivals.Arrivals as values
-use Rattle.arrivals_tree.specs.Arriving.{arrivals_of}
 use Rattle.trace_tree.specs.Lines.{line, lines}
 use Rattle.trace_tree.specs.Placed.{IsPlaced, IsUnit}
 use Rattle.trace_tree.specs.declared.event.Event as machine
 use Rattle.trace_tree.specs.declared.event.Event.TheVariants as event
-use Rattle.guarantee.specs.Arrivals.{named_arrivals}
 use Rattle.guarantee.specs.Events.{Event, named, named_event}
 use Rattle.guarantee.specs.Software.{program_software}
 use Rattle.trace_lines.specs.Told.{HasPlainNames, IsEvent}
 use Rattle.trace_lines.proofs.Events.{line-some}
 use Rattle.trace_laws.specs.Checks.{in_order, are_told}
-use Rattle.trace_laws.specs.Verdicts.{BeginsNoLine, IsVerdict}
-use Rattle.trace_laws.specs.Verdicts as verdict
-use Rattle.trace_read.specs.Lines.{IsNext}
-use Rattle.trace_checks.specs.Timing.{in_order_by, times_after}
+use Rattle.trace_checks.specs.Timing.{in_order_by}
 use Rattle.trace_checks.specs.Cycles.{first_release, nexts_by, nexts_at, nexts_after}
 use Rattle.trace_checks.specs.Serving.{Serving, nothing_waits, serving_of, serving_after, IsWithin}
-use Rattle.trace_checks.specs.Arriving.{named_arrival, due_behind, is_over, arrived_by}
+use Rattle.trace_checks.specs.Arriving.{named_arrival, arrived_by}
 use Rattle.trace_checks.specs.First.{first_failing, is_periodic_by, is_requested_by}
-use Rattle.trace_checks.specs.Parts.{AreFirst, AreAfter, Judges, has_ended, has_all}
+use Rattle.trace_checks.specs.Parts.{AreFirst, AreAfter}
 use Rattle.trace_checks.specs.Passing.{AreOfUnits, Stands, Passing}
-use Rattle.trace_checks.specs.Answers.{Says}
-use Rattle.trace_checks.specs.declared.broken.Broken.TheVariants as broken
 use Rattle.trace_checks.specs.declared.parts.Parts.{Parts}
-use Rattle.trace_checks.specs.declared.times.Times as stand
-use Rattle.trace_checks.specs.declared.waiting.Waiting.{Waiting}
 use Rattle.trace_checks.proofs.Ordering.{times-go-on}
-use Rattle.trace_checks.proofs.Cyclics.{nexts-go-on, first-late}
-use Rattle.trace_checks.proofs.Servings.{serving-go-on, first-unserved}
-use Rattle.trace_checks.proofs.Arrivings.{due-go-on, due-kept, due-over}
+use Rattle.trace_checks.proofs.Cyclics.{nexts-go-on}
+use Rattle.trace_checks.proofs.Servings.{serving-go-on}
+use Rattle.trace_checks.proofs.Arrivings.{due-go-on, due-kept}
 
 length-map : {A B : Type 0} (f : A → B) (xs : List A) → length (map f xs) ≡ length xs
 length-map f [] = refl

@@ -1,6 +1,6 @@
 -- What a pass over a trace answers.
-use Rattle.std.proofs.Common.{◌≡◌, ℕ, ◌+◌, Bool, true, false, List, [], ◌∷◌, ◌++◌, map, length, Option, Some, None, refl, sym, ap, subst, ◌∙◌, arith}
-use Rattle.std.specs.Prelude.{Result, Ok, Err, option_map, suc}
+use Rattle.std.proofs.Common.{◌≡◌, ℕ, ◌+◌, List, [], ◌∷◌, ◌++◌, map, length, Option, Some, None, refl, sym, ap, subst, ◌∙◌, arith}
+use Rattle.std.specs.Prelude.{Ok, Err, option_map, suc}
 use Rattle.ada_tree.specs.Programs.{Program}
 use Rattle.ada_tree.specs.Rules.{MeetsRules}
 use Rattle.arrivals_tree.specs.declared.arrivals.Arrival as code
@@ -11,13 +11,13 @@ use Rattle.guarantee.specs.Arrivals as given
 use Rattle.guarantee.specs.Arrivals.{named_arrivals}
 use Rattle.guarantee.specs.Events.{Event, named}
 use Rattle.guarantee.specs.Software.{program_software}
-use Rattle.trace_laws.specs.Checks.{in_order, is_nil, are_told}
+use Rattle.trace_laws.specs.Checks.{in_order, are_told}
 use Rattle.trace_laws.specs.Verdicts.{BeginsNoLine}
 use Rattle.trace_read.specs.Lines.{Tells}
 use Rattle.trace_checks.specs.Timing.{in_order_by}
 use Rattle.trace_checks.specs.Cycles.{first_release}
 use Rattle.trace_checks.specs.Serving.{nothing_waits, serving_of}
-use Rattle.trace_checks.specs.Arriving.{named_arrival, is_over, arrived_by}
+use Rattle.trace_checks.specs.Arriving.{named_arrival, arrived_by}
 use Rattle.trace_checks.specs.First.{first_failing, is_periodic_by, is_requested_by}
 use Rattle.trace_checks.specs.Parts.{Judges, has_ended, has_all}
 use Rattle.trace_checks.specs.Passing.{Stands, Passing}

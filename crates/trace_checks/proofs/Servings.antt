@@ -1,5 +1,5 @@
 -- How units stand behind an event is what the check of requests asks of the events that follow.
-use Rattle.std.proofs.Common.{◌≡◌, ℕ, Bool, true, false, List, [], ◌∷◌, ◌++◌, ◌&&◌, ◌||◌, not, map, Option, Some, None, refl, sym, ap, ◌∙◌}
+use Rattle.std.proofs.Common.{◌≡◌, ℕ, Bool, true, false, List, [], ◌∷◌, ◌++◌, ◌&&◌, not, map, Option, Some, None, refl, sym, ap, ◌∙◌}
 use Rattle.std.specs.Prelude.{◌==◌, max, filter_map, slice_get, find, option_map, if◌then◌else◌}
 use Rattle.std.specs.List.{cons_option}
 use Rattle.seq_tree.specs.Lists.{change}

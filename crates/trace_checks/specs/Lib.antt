@@ -6,3 +6,4 @@ pub mod First
 pub mod Parts
 pub mod Passing
 pub mod Answers
+pub mod Meanings

@@ -1,6 +1,6 @@
 -- What is kept of the events of a trace so far, and which part is broken first where no event follows.
 -- The parts are in the order of the machine's definition.
-use Rattle.std.specs.Prelude.{◌≡◌, ℕ, ◌≤◌, Bool, true, false, List, [], ◌∷◌, length, map, option_map, Option, Some, None, Result, Ok, Err, ⊤}
+use Rattle.std.specs.Prelude.{◌≡◌, ℕ, Bool, true, false, List, [], map, option_map, Option, Some, None, Result, Ok, Err, ⊤}
 use Rattle.ada_tree.specs.Programs.{Program}
 use Rattle.arrivals_tree.specs.declared.arrivals.Arrival as code
 use Rattle.trace_tree.specs.declared.event.Event as machine

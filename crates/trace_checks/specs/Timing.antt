@@ -1,6 +1,6 @@
 -- How times stand after some events: what the check of times and order asks of those that follow.
 -- Times are in ticks.
-use Rattle.std.specs.Prelude.{ℕ, ◌==◌, Bool, true, false, ◌&&◌, List, [], ◌∷◌, nat_le, is_some, if◌then◌else◌}
+use Rattle.std.specs.Prelude.{ℕ, ◌==◌, Bool, false, ◌&&◌, List, nat_le, is_some, if◌then◌else◌}
 use Rattle.ada_tree.specs.Programs.{Program}
 use Rattle.trace_tree.specs.declared.event.Event as machine
 use Rattle.trace_tree.specs.declared.event.Event.TheVariants as event

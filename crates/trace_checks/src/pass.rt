@@ -6,7 +6,7 @@ ghost use Rattle.trace_tree.specs.Placed.{IsUnit};
 ghost use Rattle.arrivals_tree.specs.Arriving.{arrivals_of};
 ghost use Rattle.trace_lines.specs.Told.{HasPlainNames};
 ghost use Rattle.guarantee.specs.Arrivals.{named_arrivals};
-ghost use Rattle.trace_checks.specs.Answers.{Says};
+ghost use Rattle.trace_checks.specs.Meanings.{Means};
 
 use crate::broken::Broken;
 use crate::parts::Parts;
@@ -31,7 +31,7 @@ pub fn check_parts(
     requires plain { HasPlainNames (program_of program.now) }
     requires near { arrivals.now.until ≤ 1000000000 }
     requires units { Each (λ a. IsUnit (program_of program.now) a.task) arrivals.now.items.items }
-    ensures { Says (program_of program.now) (named_arrivals (program_of program.now) (arrivals_of arrivals.now)) trace.now result }
+    ensures { Means (program_of program.now) (named_arrivals (program_of program.now) (arrivals_of arrivals.now)) trace.now result }
 {
     let mut lines = Lines::new(alloc, program, trace)?;
     let mut parts = Parts::new(alloc, program, arrivals)?;

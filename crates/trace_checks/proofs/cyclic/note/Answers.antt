@@ -1,4 +1,4 @@
-use Rattle.std.proofs.Common.{◌≡◌, ap, set, sym, ◌∙◌}
+use Rattle.std.proofs.Common.{ap, set, sym, ◌∙◌}
 use Rattle.ada_tree.specs.Trees.{form_of}
 use Rattle.trace_checks.specs.Cycles.{next_after, nexts_by}
 use Rattle.trace_checks.proofs.UnitSteps.{change-is-set}

@@ -1,7 +1,6 @@
 use Rattle.std.proofs.Common.{◌≡◌, [], length, map}
 use Rattle.ada_tree.specs.Trees.{unit_of}
-use Rattle.trace_checks.specs.First.{first_failing, is_periodic_by, is_requested_by}
-use Rattle.trace_checks.specs.Serving.{serving_of}
+use Rattle.trace_checks.specs.First.{first_failing, is_periodic_by}
 use Rattle.trace_checks.proofs.parts.first_late.Given as goal
 
 -- the first of those that are left

@@ -1,6 +1,6 @@
 use Rattle.std.proofs.Common.{◌≡◌, [], length, map}
 use Rattle.ada_tree.specs.Trees.{unit_of}
-use Rattle.trace_checks.specs.First.{first_failing, is_periodic_by, is_requested_by}
+use Rattle.trace_checks.specs.First.{first_failing, is_requested_by}
 use Rattle.trace_checks.specs.Serving.{serving_of}
 use Rattle.trace_checks.proofs.parts.first_unserved.Given as goal
 

@@ -1,9 +1,12 @@
-use Rattle.std.proofs.Common.{List, ℕ, None, Ok, Some, subst, ◌∙◌}
+use Rattle.std.proofs.Common.{List, ℕ, None, Err, Ok, Some, subst, ◌∙◌}
 use Rattle.ada_tree.specs.Programs.{Program}
 use Rattle.ada_tree.specs.Trees.{program_of}
+use Rattle.arrivals_tree.specs.Arriving.{arrivals_of}
+use Rattle.guarantee.specs.Arrivals.{named_arrivals}
 use Rattle.trace_read.specs.Lines.{IsNext}
 use Rattle.trace_read.specs.Texts.{text_left, text_program}
 use Rattle.trace_checks.proofs.Passings.{at-program, next-shorter, passing-first, passing-after}
+use Rattle.trace_checks.proofs.Meaning.{answers-mean}
 use Rattle.trace_checks.proofs.Saying.{says-fault, says-ok}
 use Rattle.trace_checks.proofs.pass.check_parts.Goals as goal
 
@@ -47,7 +50,8 @@ returns-in-Ok-judge c =
     let none : IsNext p left (text_left c.next.new.self) None =
     at-program (λ q. IsNext q left (text_left c.next.new.self) None) (text_program c.lines.lines) p c.lines.invariant.program c.requires.meets
     c.requires.plain c.in_default.ensures.next in
-    says-ok p c.requires.meets c.args.arrivals.now c.args.trace.now left c.lines.count c.lines.parts none c.lines.invariant.passing c.in-Ok-judge.ensures
+    answers-mean p (named_arrivals p (arrivals_of c.args.arrivals.now)) c.args.trace.now (Ok c.lines.count) (says-ok p c.requires.meets c.args.arrivals.now c.args.trace.now left c.lines.count c.lines.parts none c.lines.invariant.passing
+    c.in-Ok-judge.ensures)
 
 pub returns : goal.returns
 returns c =
@@ -56,5 +60,5 @@ returns c =
     let none : IsNext p left (text_left c.next.new.self) None =
     at-program (λ q. IsNext q left (text_left c.next.new.self) None) (text_program c.lines.lines) p c.lines.invariant.program c.requires.meets
     c.requires.plain c.in_default.ensures.next in
-    says-fault p c.requires.meets c.args.arrivals.now c.args.trace.now left c.lines.count c.lines.parts c.in-Err.fault none c.lines.invariant.passing
-    c.in-Err.ensures
+    answers-mean p (named_arrivals p (arrivals_of c.args.arrivals.now)) c.args.trace.now (Err c.in-Err.fault) (says-fault p c.requires.meets c.args.arrivals.now c.args.trace.now left c.lines.count c.lines.parts c.in-Err.fault none c.lines.invariant.passing
+    c.in-Err.ensures)

@@ -37,7 +37,8 @@ module _ (only : Option Name) where
       by (Some next) h = h
 
   -- a design does not hold where a body or a thread is too dear
-  dear-refuted : (f : Flat) (k : ℕ) (name : Name) (part : Option Name) → IsDear (scaled_in only k f) name part → first_dear (scaled_in only k f) ≡ None → ⊥
+  dear-refuted : (f : Flat) (k : ℕ) (name : Name) (part : Option Name) → IsDear (scaled_in only k f) name part
+      → first_dear (scaled_in only k f) ≡ None → ⊥
   dear-refuted f k name part h cheap = (let both = sym h.1 ∙ cheap in cc)
 
   -- nor where anything fails

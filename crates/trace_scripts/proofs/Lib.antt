@@ -7,3 +7,4 @@ pub mod Entering
 pub mod DataSteps
 pub mod Walking
 pub mod Entries
+pub mod Objecting

@@ -8,3 +8,5 @@ pub mod DataSteps
 pub mod Walking
 pub mod Entries
 pub mod Objecting
+pub mod Passing
+pub mod ObjectsNamed

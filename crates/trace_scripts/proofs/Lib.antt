@@ -10,3 +10,4 @@ pub mod Entries
 pub mod Objecting
 pub mod Passing
 pub mod ObjectsNamed
+pub mod Firsts

@@ -8,6 +8,7 @@ mod names;
 mod objects;
 mod scripts;
 mod services;
+mod verdict;
 mod walks;
 
 pub use walks::Scene;

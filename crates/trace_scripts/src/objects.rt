@@ -1,4 +1,4 @@
-ghost use Rattle.std.specs.Prelude.{◌≡◌, ◌<◌, ℕ, IfOk, OnOk, length, map, option_map};
+ghost use Rattle.std.specs.Prelude.{◌≡◌, ◌<◌, ℕ, IfOk, OnOk, length, map, is_some, option_map};
 ghost use Rattle.seq_tree.specs.Lists.{Each};
 ghost use Rattle.ada_tree.specs.Trees.{program_of};
 ghost use Rattle.trace_tree.specs.Lines.{unit_name};
@@ -44,6 +44,18 @@ fn object_at<'a>(program: &'a AdaProgram, unit: u32) -> Option<Object<'a>>
             ops: ops.as_slice(),
         }),
         Form::Passive { .. } | Form::Cyclic { .. } | Form::Sporadic { .. } => None,
+    }
+}
+
+/// Whether the unit at a place is an object.
+#[tactic(auto, using(crate::proofs::Readings::unit_steps))]
+pub(crate) fn is_object(program: &AdaProgram, unit: usize) -> bool
+    requires { unit < length (program_of program.now).units }
+    ensures { result ≡ is_some (guarded_at (program_of program.now) unit) }
+{
+    match &program.units[unit].form {
+        Form::Shared { .. } => true,
+        Form::Passive { .. } | Form::Cyclic { .. } | Form::Sporadic { .. } => false,
     }
 }
 

@@ -11,3 +11,4 @@ pub mod Objecting
 pub mod Passing
 pub mod ObjectsNamed
 pub mod Firsts
+pub mod Clearing

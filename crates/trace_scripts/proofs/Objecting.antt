@@ -8,7 +8,7 @@ use Rattle.seq_tree.specs.Operations.{Operation, Signature}
 use Rattle.seq_tree.specs.Statements.{Statements}
 use Rattle.ods_tree.specs.Flats.{Guarded}
 use Rattle.ada_tree.specs.Programs.{Program, Unit, Form, Passive, Shared, Cyclic, Sporadic}
-use Rattle.ada_tree.specs.Bodies.{Body, bodies, op_body, heads}
+use Rattle.ada_tree.specs.Bodies.{heads}
 use Rattle.ada_tree.specs.Rules.{MeetsRules}
 use Rattle.trace_tree.specs.Lines.{unit_name, unit_ops}
 use Rattle.trace_tree.specs.Placed.{IsUnit, IsOp}
@@ -25,6 +25,7 @@ use Rattle.script_laws.specs.Entries as entries
 use Rattle.script_laws.specs.Services as services
 use Rattle.script_laws.specs.Services.{entered_in, left_in, charge_in}
 use Rattle.trace_scripts.specs.Objects.{object_of, service_of}
+use Rattle.trace_scripts.specs.Scenes.{AllBlocks, AllIn}
 use Rattle.trace_scripts.specs.Serving.{leave_by, enter_by, charge_by, left_at, entered_at, charged_at, service_at}
 use Rattle.trace_scripts.specs.declared.objects.Object.{Object}
 use Rattle.trace_scripts.specs.declared.services.Service.{Service}
@@ -44,16 +45,23 @@ map-at f (y ∷ ys) (suc i) x e = map-at f ys i x e
 -- what is known of a unit that is an object
 record IsObject (u : Unit) (g : Guarded) : Type 0 where
   heads : heads u.form ≡ map (λ o. o.sig) g.ops
-  bodies : bodies u.form ≡ map op_body g.ops
 
 object-unit : (name : Name) (f : Form) (g : Guarded) → guarded_in (record { name = name; form = f }) ≡ Some g
     → IsObject (record { name = name; form = f }) g
 object-unit name (Passive ops) g e = absurd (none-some g e)
 object-unit name (Shared ceiling vars ops) g e =
     let z : Guarded = record { name = name; vars = vars; ops = ops } in
-    subst (IsObject (record { name = name; form = Shared ceiling vars ops })) (same_Some z g e) (record { heads = refl; bodies = refl })
+    subst (IsObject (record { name = name; form = Shared ceiling vars ops })) (same_Some z g e) (record { heads = refl })
 object-unit name (Cyclic priority offset period vars block) g e = absurd (none-some g e)
 object-unit name (Sporadic priority ceiling op separation jitter external vars block) g e = absurd (none-some g e)
+
+object-blocks : (P : Statements → Type 0) (name : Name) (f : Form) (g : Guarded) → guarded_in (record { name = name; form = f }) ≡ Some g
+    → AllBlocks P f → Each (λ o. P o.block) g.ops
+object-blocks P name (Passive ops) g e h = absurd (none-some g e)
+object-blocks P name (Shared ceiling vars ops) g e h =
+    let z : Guarded = record { name = name; vars = vars; ops = ops } in subst (λ (x : Guarded). Each (λ o. P o.block) x.ops) (same_Some z g e) h
+object-blocks P name (Cyclic priority offset period vars block) g e h = absurd (none-some g e)
+object-blocks P name (Sporadic priority ceiling op separation jitter external vars block) g e h = absurd (none-some g e)
 
 module _ (p : Program) (unit : ℕ) (in' : IsUnit p unit) (g : Guarded) (at : guarded_at p unit ≡ Some g) where
   abbrev here : (u : Unit) × (slice_get p.units unit ≡ Some u)
@@ -81,12 +89,12 @@ module _ (p : Program) (unit : ℕ) (in' : IsUnit p unit) (g : Guarded) (at : gu
   op-found meets op o h e =
       ap (op_named g) (sym (op-name op o e)) ∙ (what-it-is p meets unit in').op g at op h ∙ e
 
-  pub body-at : (P : Statements → Type 0) → Each (λ u. Each (λ b. P b.block) (bodies u.form)) p.units → (op : ℕ) (o : Operation)
-      → slice_get g.ops op ≡ Some o → P o.block
+  pub body-at : (P : Statements → Type 0) → AllIn P p → (op : ℕ) (o : Operation) → slice_get g.ops op ≡ Some o → P o.block
   body-at P all op o e =
-      let bs : Each (λ b. P b.block) (bodies here.0.form) = each-at (λ u. Each (λ b. P b.block) (bodies u.form)) p.units unit here.0 all here.1 in
-      each-at (λ b. P b.block) (map op_body g.ops) op (op_body o) (subst (λ z. Each (λ b. P b.block) z) is-object.bodies bs)
-      (map-at op_body g.ops op o e)
+      let blocks : AllBlocks P here.0.form = each-at (λ u. AllBlocks P u.form) p.units unit here.0 all here.1 in
+      let of-g : Each (λ q. P q.block) g.ops =
+      object-blocks P here.0.name here.0.form g (sym (ap (option_and_then guarded_in) here.1) ∙ at) blocks in
+      each-at (λ q. P q.block) g.ops op o of-g e
 
 -- ONE STATE
 set-twice : {A : Type 0} (xs : List A) (i : ℕ) (x y : A) → set (set xs i x) i y ≡ set xs i y
@@ -127,7 +135,7 @@ module _ (p : Program) (meets : MeetsRules p) (task unit op : ℕ) (in' : IsUnit
   pub body-named : op_named g body.sig.name ≡ Some (operation_of body)
   body-named = op-found p unit in' g at meets op (operation_of body) inside body-here
 
-  pub body-all : (P : Statements → Type 0) → Each (λ u. Each (λ b. P b.block) (bodies u.form)) p.units → P (block_of body.block)
+  pub body-all : (P : Statements → Type 0) → AllIn P p → P (block_of body.block)
   body-all P all = body-at p unit in' g at P all op (operation_of body) body-here
 
   op-same : (op_at p unit op).op ≡ body.sig.name

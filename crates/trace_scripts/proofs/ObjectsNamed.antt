@@ -142,3 +142,6 @@ module _ (p : Program) (meets : MeetsRules p) (depth most : ℕ) where
       let made : guarded_in v.0 ≡ Some g = sym (ap (option_and_then guarded_in) v.1) ∙ at in
       map-at (λ z. first_by (guarded_in z)) p.units u v.0 v.1 ∙ ap (λ o. Some (first_by o)) made
       ∙ ap (λ o. Some (Free (unwrap_or (option_map (λ (h : Guarded). written h.vars) o) []))) (sym (own u g k at))
+
+  pub first-own : (u : ℕ) (g : Guarded) → IsUnit p u → guarded_at p u ≡ Some g → at_first w (unit_name p u) ≡ Free (written g.vars)
+  first-own u g k at = ap (λ o. Free (unwrap_or (option_map (λ (h : Guarded). written h.vars) o) [])) (own u g k at)

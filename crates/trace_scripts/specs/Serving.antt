@@ -1,11 +1,10 @@
 -- What objects are at while a trace is read, by the places of units, and the ticks of each event's way.
 use Rattle.std.specs.Prelude.{ℕ, List, [], ◌∷◌, map, slice_get, unwrap_or, Option, Some, None}
-use Rattle.seq_tree.specs.Lists.{Each, change}
+use Rattle.seq_tree.specs.Lists.{change}
 use Rattle.seq_tree.specs.Names.{Name}
 use Rattle.seq_tree.specs.Variables.{written}
 use Rattle.ods_tree.specs.Flats.{Guarded}
-use Rattle.ada_tree.specs.Programs.{Program, Unit}
-use Rattle.ada_tree.specs.Bodies.{bodies}
+use Rattle.ada_tree.specs.Programs.{Program}
 use Rattle.block_walks.specs.Fit.{MayRun}
 use Rattle.trace_tree.specs.declared.event.Event as machine
 use Rattle.trace_tree.specs.declared.event.Event.TheVariants as event
@@ -13,12 +12,13 @@ use Rattle.trace_tree.specs.Lines.{unit_name}
 use Rattle.guarantee.specs.Software.{Software, program_software, leads_to}
 use Rattle.guarantee.specs.Events.{op_at}
 use Rattle.trace_places.specs.Places.{guarded_at, guarded_in}
+use Rattle.trace_scripts.specs.Scenes.{AllIn}
 use Rattle.script_laws.specs.Entries as entries
 use Rattle.script_laws.specs.Services.{Service, Free, Broken, entered_in, left_in, charge_in}
 
--- bodies that may be walked
+-- blocks that may be walked
 abbrev pub MayAll : Program → ℕ → Type 0
-MayAll p depth = Each (λ u. Each (λ b. MayRun (leads_to (program_software p)) depth b.block) (bodies u.form)) p.units
+MayAll p depth = AllIn (MayRun (leads_to (program_software p)) depth) p
 
 -- an object after an entry and after an exit, where the unit is one
 abbrev pub enter_by : Software → ℕ → (thread op : Name) → List ℕ → entries.Entry → Option Guarded → Service → Service

@@ -11,4 +11,5 @@ mod services;
 mod verdict;
 mod walks;
 
+pub use verdict::first_unserved;
 pub use walks::Scene;

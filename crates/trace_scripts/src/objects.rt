@@ -211,6 +211,7 @@ pub(crate) fn serve<'a>(
     requires scene { IsScene scene.now }
     requires placed { Each (IsPlaced (program_in scene.now)) events.now }
     requires known { length known.items ≡ length events.now }
+    ensures len { IfOk result (λ r. length r.0.states.items ≡ length (program_in scene.now).units) }
     ensures states { (depth : ℕ) → MayAll (program_in scene.now) depth → IfOk result (λ r. services_of r.0
         ≡ objects_from (program_in scene.now) depth events.now (known_of known.items) (services_first (program_in scene.now))) }
     ensures charges { (depth : ℕ) → MayAll (program_in scene.now) depth → IfOk result (λ r. map charge_of r.1.items

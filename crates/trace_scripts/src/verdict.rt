@@ -1,15 +1,23 @@
-ghost use Rattle.std.specs.Prelude.{◌≡◌, ◌<◌, Bool, find, length, not, option_map};
+ghost use Rattle.std.specs.Prelude.{◌≡◌, ◌<◌, Bool, IfOk, find, length, not, option_map};
 ghost use Rattle.ods_tree.specs.Flats.{Guarded};
 ghost use Rattle.ada_tree.specs.Trees.{program_of};
 ghost use Rattle.trace_tree.specs.Lines.{unit_name};
 ghost use Rattle.guarantee.specs.Events.{named, named_event};
 ghost use Rattle.guarantee.specs.Software.{program_software};
 ghost use Rattle.trace_places.specs.Places.{guarded_at};
-ghost use Rattle.trace_laws.specs.Checks.{most_used, used_in};
+ghost use Rattle.trace_laws.specs.Checks.{most_used, serves, used_in};
+ghost use Rattle.trace_laws.specs.Clear.{IsClear};
+ghost use Rattle.seq_tree.specs.Lists.{Each};
+ghost use Rattle.trace_tree.specs.Placed.{IsPlaced};
+ghost use Rattle.trace_scripts.specs.Scenes.{IsScene, program_in, software_of};
 ghost use Rattle.trace_scripts.specs.Objects.{AreServing, broken_by, services_of};
 
-use crate::objects::{Objects, is_object};
+use crate::books::entries;
+use crate::objects::{Objects, is_object, serve};
+use crate::walks::Scene;
 use ada_tree::AdaProgram;
+use seq_tree::NoMemory;
+use std::alloc::Global;
 use trace_tree::Event;
 
 /// The greatest number of ticks that an event of a trace says were used.
@@ -71,4 +79,22 @@ pub(crate) fn first_broken(program: &AdaProgram, objects: &Objects) -> Option<us
         at += 1;
     }
     None
+}
+
+/// The place of the first object of a program whose operations a trace doesn't run one by one, where there is one.
+pub fn first_unserved(
+    alloc: Global,
+    scene: &Scene,
+    events: &[Event],
+) -> Result<Option<usize>, NoMemory>
+    requires scene { IsScene scene.now }
+    requires placed { Each (IsPlaced (program_in scene.now)) events.now }
+    ensures { (clear : IsClear (software_of scene.now)) → IfOk result (λ r. option_map (unit_name (program_in scene.now)) r
+        ≡ option_map (λ g. g.name) (find (λ g. not (serves (software_of scene.now) clear.depth (named (program_in scene.now) events.now) g))
+        (software_of scene.now).shared)) }
+{
+    let known = entries(alloc, scene.program, events)?;
+    let most = most_used(scene.program, events);
+    let (objects, _) = serve(scene, alloc, events, known, most)?;
+    Ok(first_broken(scene.program, &objects))
 }

@@ -7,3 +7,8 @@ pub mod Entering
 pub mod DataSteps
 pub mod Walking
 pub mod Entries
+pub mod Objecting
+pub mod Passing
+pub mod ObjectsNamed
+pub mod Firsts
+pub mod Clearing

@@ -8,6 +8,8 @@ mod names;
 mod objects;
 mod scripts;
 mod services;
+mod verdict;
 mod walks;
 
+pub use verdict::first_unserved;
 pub use walks::Scene;

@@ -1,11 +1,13 @@
-ghost use Rattle.std.specs.Prelude.{◌≡◌, ◌<◌, ℕ, IfOk, OnOk, length, map, option_map};
+ghost use Rattle.std.specs.Prelude.{◌≡◌, ◌<◌, ℕ, IfOk, OnOk, length, map, is_some, option_map};
+ghost use Rattle.seq_tree.specs.Lists.{Each};
 ghost use Rattle.ada_tree.specs.Trees.{program_of};
 ghost use Rattle.trace_tree.specs.Lines.{unit_name};
-ghost use Rattle.trace_scripts.specs.Books.{entry_of};
-ghost use Rattle.trace_scripts.specs.Objects.{object_of, services_of};
+ghost use Rattle.trace_tree.specs.Placed.{IsOp, IsPlaced, IsUnit};
+ghost use Rattle.trace_scripts.specs.Books.{entry_of, known_of};
+ghost use Rattle.trace_scripts.specs.Objects.{charge_of, object_of, services_of};
 ghost use Rattle.trace_scripts.specs.Scenes.{IsScene, program_in};
-ghost use Rattle.trace_scripts.specs.Serving.{MayAll, charge_with, first_by, objects_with};
-ghost use Rattle.trace_places.specs.Places.{guarded_at, guarded_in};
+ghost use Rattle.trace_scripts.specs.Serving.{MayAll, charge_with, charged_at, entered_at, first_by, charges_by, left_at, objects_from, objects_with, services_first};
+ghost use Rattle.trace_places.specs.Places.{guarded_at};
 
 use crate::books::Entry;
 use crate::data::first_data;
@@ -45,10 +47,22 @@ fn object_at<'a>(program: &'a AdaProgram, unit: u32) -> Option<Object<'a>>
     }
 }
 
+/// Whether the unit at a place is an object.
+#[tactic(auto, using(crate::proofs::Readings::unit_steps))]
+pub(crate) fn is_object(program: &AdaProgram, unit: usize) -> bool
+    requires { unit < length (program_of program.now).units }
+    ensures { result ≡ is_some (guarded_at (program_of program.now) unit) }
+{
+    match &program.units[unit].form {
+        Form::Shared { .. } => true,
+        Form::Passive { .. } | Form::Cyclic { .. } | Form::Sporadic { .. } => false,
+    }
+}
+
 impl<'a> Objects<'a> {
     /// At first: every object at its written data.
     pub fn first(alloc: Global, program: &AdaProgram) -> Result<Objects<'a>, NoMemory>
-        ensures { IfOk result (λ o. services_of o ≡ map (λ u. first_by (guarded_in u)) (program_of program.now).units) }
+        ensures { IfOk result (λ o. services_of o ≡ services_first (program_of program.now)) }
     {
         let mut states = Vec::new(alloc);
         'units: for unit in &program.units {
@@ -59,4 +73,160 @@ impl<'a> Objects<'a> {
         }
         Ok(Objects { states })
     }
+
+    /// Enters an operation.
+    fn enter(
+        &mut self,
+        scene: &Scene<'a>,
+        alloc: Global,
+        task: u32,
+        unit: u32,
+        op: u32,
+        values: &[u32],
+        entry: &Entry,
+        most: u64,
+    ) -> Result<Charge, NoMemory>
+        requires scene { IsScene scene.now }
+        requires task { IsUnit (program_in scene.now) task }
+        requires unit { IsUnit (program_in scene.now) unit }
+        requires op { IsOp (program_in scene.now) unit op }
+        requires states { length self.old.states.items ≡ length (program_in scene.now).units }
+        ensures len { length self.new.states.items ≡ length self.old.states.items }
+        ensures states { (depth : ℕ) → MayAll (program_in scene.now) depth
+            → OnOk result (services_of self.new ≡ entered_at (program_in scene.now) depth task unit op values.now (entry_of entry.now) (services_of self.old)) }
+        ensures charge { (depth : ℕ) → MayAll (program_in scene.now) depth
+            → IfOk result (λ c. charge_of c
+            ≡ charged_at (program_in scene.now) depth most unit op values.now (entry_of entry.now) (services_of self.old)) }
+    {
+        let none = Charge { low: 0, high: most };
+        let thread = &unit_at(scene.program, task).name;
+        let Some(object) = object_at(scene.program, unit) else {
+            return Ok(none);
+        };
+        let body = &object.ops[op as usize];
+        let before = replace(&mut self.states[unit as usize], Service::Broken);
+        let (after, charge) = enter(
+            scene,
+            alloc,
+            before,
+            thread,
+            body,
+            object.vars,
+            values,
+            entry,
+            most,
+        )?;
+        self.states[unit as usize] = after;
+        Ok(charge)
+    }
+
+    /// Leaves an operation.
+    fn leave(&mut self, scene: &Scene<'a>, task: u32, unit: u32, op: u32, values: &[u32])
+        requires scene { IsScene scene.now }
+        requires task { IsUnit (program_in scene.now) task }
+        requires unit { IsUnit (program_in scene.now) unit }
+        requires op { IsOp (program_in scene.now) unit op }
+        requires states { length self.old.states.items ≡ length (program_in scene.now).units }
+        ensures len { length self.new.states.items ≡ length self.old.states.items }
+        ensures states { services_of self.new ≡ left_at (program_in scene.now) task unit op values.now (services_of self.old) }
+    {
+        let thread = &unit_at(scene.program, task).name;
+        let Some(object) = object_at(scene.program, unit) else {
+            return;
+        };
+        let body = &object.ops[op as usize];
+        let before = replace(&mut self.states[unit as usize], Service::Broken);
+        self.states[unit as usize] = before.leave(thread, &body.sig.name, values);
+    }
+
+    /// Takes an event, and tells the ticks of the way through the operation that it enters, where it enters one.
+    #[tactic(auto, unfolding(crate::specs::Serving::objects_with, crate::specs::Serving::charge_with))]
+    pub fn note(
+        &mut self,
+        scene: &Scene<'a>,
+        alloc: Global,
+        event: &Event,
+        entry: &Entry,
+        most: u64,
+    ) -> Result<Charge, NoMemory>
+        requires scene { IsScene scene.now }
+        requires placed { IsPlaced (program_in scene.now) event.now }
+        requires states { length self.old.states.items ≡ length (program_in scene.now).units }
+        ensures len { length self.new.states.items ≡ length self.old.states.items }
+        ensures states { (depth : ℕ) → MayAll (program_in scene.now) depth
+            → OnOk result (services_of self.new ≡ objects_with (program_in scene.now) depth event.now (entry_of entry.now) (services_of self.old)) }
+        ensures charge { (depth : ℕ) → MayAll (program_in scene.now) depth
+            → IfOk result (λ c. charge_of c ≡ charge_with (program_in scene.now) depth most event.now (entry_of entry.now) (services_of self.old)) }
+    {
+        match event {
+            Event::Enter {
+                task,
+                unit,
+                op,
+                values,
+                ..
+            } => {
+                let charge = self.enter(
+                    scene,
+                    alloc,
+                    *task,
+                    *unit,
+                    *op,
+                    values.as_slice(),
+                    entry,
+                    most,
+                )?;
+                Ok(charge)
+            }
+            Event::Leave {
+                task,
+                unit,
+                op,
+                values,
+                ..
+            } => {
+                self.leave(scene, *task, *unit, *op, values.as_slice());
+                Ok(Charge { low: 0, high: 0 })
+            }
+            Event::Release { .. }
+            | Event::Arrive { .. }
+            | Event::Request { .. }
+            | Event::Print { .. }
+            | Event::End { .. }
+            | Event::Stop { .. }
+            | Event::Horizon { .. } => Ok(Charge { low: 0, high: 0 }),
+        }
+    }
+}
+
+/// What the objects are at behind a trace, and the ticks of each event's way, from what is known of each event, the first of which stands
+/// last.
+pub(crate) fn serve<'a>(
+    scene: &Scene<'a>,
+    alloc: Global,
+    events: &[Event],
+    known: Vec<Entry>,
+    most: u64,
+) -> Result<(Objects<'a>, Vec<Charge>), NoMemory>
+    requires scene { IsScene scene.now }
+    requires placed { Each (IsPlaced (program_in scene.now)) events.now }
+    requires known { length known.items ≡ length events.now }
+    ensures len { IfOk result (λ r. length r.0.states.items ≡ length (program_in scene.now).units) }
+    ensures states { (depth : ℕ) → MayAll (program_in scene.now) depth → IfOk result (λ r. services_of r.0
+        ≡ objects_from (program_in scene.now) depth events.now (known_of known.items) (services_first (program_in scene.now))) }
+    ensures charges { (depth : ℕ) → MayAll (program_in scene.now) depth → IfOk result (λ r. map charge_of r.1.items
+        ≡ charges_by (program_in scene.now) depth most events.now (known_of known.items) (services_first (program_in scene.now))) }
+{
+    let mut known = known;
+    let mut objects = Objects::first(alloc, scene.program)?;
+    let mut charges = Vec::new(alloc);
+    let mut left = events;
+    'events: while let Some((event, rest)) = left.split_first() {
+        left = rest;
+        let Some(entry) = known.pop() else {
+            unreachable!()
+        };
+        charges.push(objects.note(scene, alloc, event, &entry, most)?)?;
+    }
+    Ok((objects, charges))
 }

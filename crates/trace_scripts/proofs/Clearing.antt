@@ -1,0 +1,95 @@
+-- Blocks of software that can be followed are those of its program; and what is found of its objects.
+use Rattle.std.proofs.Common.{◌≡◌, ℕ, suc, ◌+◌, Bool, true, not, arith, length, fold, List, [], ◌∷◌, map, Option, Some, None, refl, sym, ap, subst, ◌∙◌}
+use Rattle.std.specs.Prelude.{filter_map, find, slice_get, option_map, ⊤}
+use Rattle.std.specs.List.{cons_option}
+use Rattle.std.proofs.lemmas.Option.{same_Some}
+use Rattle.seq_tree.specs.Lists.{Each}
+use Rattle.seq_tree.specs.Statements.{Statements}
+use Rattle.seq_tree.specs.Variables.{written}
+use Rattle.ods_tree.specs.Flats.{Guarded}
+use Rattle.ada_tree.specs.Programs.{Program, Unit, Form, Passive, Shared, Cyclic, Sporadic}
+use Rattle.ada_tree.specs.Rules.{MeetsRules}
+use Rattle.trace_tree.specs.Placed.{IsPlaced, IsUnit}
+use Rattle.trace_tree.specs.declared.event.Event as machine
+use Rattle.trace_tree.specs.Lines.{unit_name}
+use Rattle.guarantee.specs.Software.{Software, Task, program_software, task_by, guarded_by, leads_to}
+use Rattle.guarantee.specs.Events.{named}
+use Rattle.block_walks.specs.Fit.{MayRun}
+use Rattle.trace_laws.specs.Clear.{IsClear}
+use Rattle.trace_laws.specs.Checks.{serves}
+use Rattle.trace_places.specs.Places.{guarded_at, guarded_in, task_in}
+use Rattle.script_laws.specs.Entries.{entries_in}
+use Rattle.script_laws.specs.Services as services
+use Rattle.script_laws.specs.Services.{served_from}
+use Rattle.script_laws.specs.Laws.{at_first}
+use Rattle.script_laws.proofs.Served.{served-sound}
+use Rattle.script_laws.proofs.Charged.{found-name}
+use Rattle.trace_scripts.specs.Objects.{AreServing}
+use Rattle.trace_scripts.specs.Scenes.{AllBlocks, AllIn}
+use Rattle.trace_scripts.specs.Serving.{MayAll, objects_from, services_first}
+use Rattle.script_laws.specs.Entries as entries
+use Rattle.trace_scripts.specs.Books.{entries_from, entry_of, known_of}
+use Rattle.trace_scripts.specs.declared.books.Entry.{Entry}
+use Rattle.trace_scripts.proofs.Entering.{entries-named}
+use Rattle.trace_scripts.proofs.ObjectsNamed.{states-named, first-named, first-own}
+
+-- the blocks of units
+blocks-of : (P : Statements → Type 0) (us : List Unit) → Each (λ (t : Task). P t.block) (filter_map task_in us)
+    → Each (λ (g : Guarded). Each (λ o. P o.block) g.ops) (filter_map guarded_in us) → Each (λ u. AllBlocks P u.form) us
+blocks-of P [] h k = tt
+blocks-of P (u ∷ us) h k = by u.name u.form (λ i j. blocks-of P us i j) h k
+  where
+    by : (name : _) (f : Form)
+        → (Each (λ (t : Task). P t.block) (filter_map task_in us) → Each (λ (g : Guarded). Each (λ o. P o.block) g.ops) (filter_map guarded_in us)
+        → Each (λ v. AllBlocks P v.form) us)
+        → Each (λ (t : Task). P t.block) (cons_option (task_by name f) (filter_map task_in us))
+        → Each (λ (g : Guarded). Each (λ o. P o.block) g.ops) (cons_option (guarded_by name f) (filter_map guarded_in us))
+        → AllBlocks P f × Each (λ v. AllBlocks P v.form) us
+    by name (Passive ops) more h k = (tt, more h k)
+    by name (Shared ceiling vars ops) more h k = (k.0, more h k.1)
+    by name (Cyclic priority offset period vars block) more h k = (h.0, more h.1 k)
+    by name (Sporadic priority ceiling op separation jitter external vars block) more h k = (h.0, more h.1 k)
+
+pub may-all : (p : Program) (clear : IsClear (program_software p)) → MayAll p clear.depth
+may-all p clear = blocks-of (MayRun (leads_to (program_software p)) clear.depth) p.units clear.threads clear.bodies
+
+-- what the states of objects say behind a trace
+pub states-serve : (p : Program) → MeetsRules p → (depth : ℕ) (es : List machine.Event) → Each (IsPlaced p) es
+    → AreServing p (objects_from p depth es (entries_from p es) (services_first p)) (serves (program_software p) depth (named p es))
+states-serve p meets depth es placed u g k at =
+    let w : Software = program_software p in
+    let Sound : services.Service → Option Bool = λ s. Some (services.is_sound s) in
+    ap (λ xs. option_map services.is_sound (slice_get (objects_from p depth es xs (services_first p)) u)) (entries-named p meets es placed)
+    ∙ ap (option_map services.is_sound)
+    (states-named p meets depth 0 es (entries_in w (named p es)) (services_first p) (at_first w) placed (first-named p meets depth 0) u g k at)
+    ∙ ap (λ s. Sound (served_from w depth g (named p es) (entries_in w (named p es)) s)) (first-own p meets depth 0 u g k at)
+    ∙ ap (λ b. Some b) (sym (served-sound w depth g (named p es)))
+
+-- as many events as are known
+known-count : (xs : List Entry) → length (known_of xs) ≡ length xs
+known-count xs = counted xs [] ∙ plus-none (length xs)
+  where
+    plus-none : (n : ℕ) → n + 0 ≡ n
+    plus-none n = omega arith
+
+    counted : (xs : List Entry) (ys : List entries.Entry) → length (fold (λ zs e. entry_of e ∷ zs) ys xs) ≡ length xs + length ys
+    counted [] ys = omega arith
+    counted (x ∷ xs) ys =
+        let k : length (fold (λ zs e. entry_of e ∷ zs) (entry_of x ∷ ys) xs) ≡ length xs + suc (length ys) = counted xs (entry_of x ∷ ys) in
+        omega (arith, k)
+
+entries-count : (p : Program) (es : List machine.Event) → length (entries_from p es) ≡ length es
+unfolding entries_from
+entries-count p [] = refl
+entries-count p (e ∷ es) = ap suc (entries-count p es)
+
+pub known-length : (p : Program) (es : List machine.Event) (xs : List Entry) → known_of xs ≡ entries_from p es → length xs ≡ length es
+known-length p es xs e = sym (known-count xs) ∙ ap length e ∙ entries-count p es
+
+-- what is said of objects behind a trace
+pub objects-say : (p : Program) → MeetsRules p → (clear : IsClear (program_software p)) (es : List machine.Event) → Each (IsPlaced p) es → (xs : List Entry)
+    → known_of xs ≡ entries_from p es → (ss : List services.Service) → ss ≡ objects_from p clear.depth es (known_of xs) (services_first p)
+    → AreServing p ss (serves (program_software p) clear.depth (named p es))
+objects-say p meets clear es placed xs known ss is =
+    let P : List services.Service → Type 0 = λ z. AreServing p z (serves (program_software p) clear.depth (named p es)) in
+    subst P (sym (is ∙ ap (λ z. objects_from p clear.depth es z (services_first p)) known)) (states-serve p meets clear.depth es placed)

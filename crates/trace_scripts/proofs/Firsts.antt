@@ -1,0 +1,102 @@
+-- The greatest number of ticks, and the first object that is broken.
+use Rattle.std.proofs.Common.{◌≡◌, ℕ, zero, suc, ◌+◌, ◌<◌, ◌≤◌, Bool, true, false, not, List, [], ◌∷◌, map, drop, length, Option, Some, None, refl, sym, ap, ◌∙◌, arith, max, get_or, subst}
+use Rattle.std.specs.Prelude.{find, filter_map, slice_get, option_map, option_and_then, is_some, if◌then◌else◌}
+use Rattle.std.specs.List.{cons_option}
+use Rattle.std.proofs.lemmas.Option.{same_Some, slice_get-map, slice_get_read, get_or_from_slice_get}
+use Rattle.seq_tree.proofs.LoopSteps.{drop_step}
+use Rattle.std.proofs.lemmas.List.{length-map}
+use Rattle.ada_tree.specs.Trees.{program_of, unit_of}
+use Rattle.ada_tree.specs.declared.program.AdaProgram.{AdaProgram}
+use Rattle.seq_tree.specs.Names.{Name}
+use Rattle.ods_tree.specs.Flats.{Guarded}
+use Rattle.ada_tree.specs.Programs.{Program, Unit, Form, Passive, Shared, Cyclic, Sporadic}
+use Rattle.guarantee.specs.Software.{guarded_by}
+use Rattle.trace_tree.specs.Lines.{unit_name}
+use Rattle.trace_tree.specs.Placed.{IsUnit}
+use Rattle.trace_places.specs.Places.{guarded_at, guarded_in}
+use Rattle.trace_places.proofs.Units.{item-at, name-is}
+use Rattle.script_laws.specs.Services as services
+use Rattle.trace_scripts.specs.Objects.{AreServing, broken_by, service_of}
+use Rattle.trace_scripts.specs.declared.services.Service.{Service}
+
+-- THE GREATEST
+pub max-more : (m u r s : ℕ) → max m (max u r) ≡ s → m < u → max u r ≡ s
+max-more m u r s h g = omega (arith, h, g)
+
+pub max-less : (m u r s : ℕ) → max m (max u r) ≡ s → u ≤ m → max m r ≡ s
+max-less m u r s h g = omega (arith, h, g)
+
+-- ONE UNIT
+pub in-units : (p : AdaProgram) (at : ℕ) → at < length p.units.items → IsUnit (program_of p) at
+in-units p at h = subst (λ n. at < n) (sym (length-map p.units.items unit_of)) h
+
+pub on-units : (p : AdaProgram) (at : ℕ) → at < length p.units.items → at + 1 ≤ length (program_of p).units
+on-units p at h = let k : at < length (program_of p).units = in-units p at h in omega (arith, k)
+
+pub in-states : (p : AdaProgram) (at n : ℕ) → n ≡ length (program_of p).units → IsUnit (program_of p) at → at < n
+in-states p at n e h = subst (λ k. at < k) (sym e) h
+
+pub none-broken : (o : Option Guarded) → is_some o ≡ false → (serving : Guarded → Bool) → false ≡ broken_by serving o
+none-broken None e serving = refl
+none-broken (Some g) e serving = absurd (cc)
+
+pub some-broken : (p : Program) (ss : List Service) (serving : Guarded → Bool) → AreServing p (map service_of ss) serving → (u : ℕ) → IsUnit p u
+    → u < length ss → (s : Service) → s ≡ get_or ss u s → (b : Bool) → b ≡ services.is_sound (service_of s) → is_some (guarded_at p u) ≡ true
+    → not b ≡ broken_by serving (guarded_at p u)
+some-broken p ss serving h u in' k s at b e there = by (guarded_at p u) refl there
+  where
+    by : (o : Option Guarded) → guarded_at p u ≡ o → is_some o ≡ true → not b ≡ broken_by serving o
+    by None i t = absurd (cc)
+    by (Some g) i t =
+        let read : slice_get (map service_of ss) u ≡ Some (service_of s) =
+        slice_get-map service_of ss u ∙ ap (option_map service_of) (slice_get_read ss (length ss) u s refl k at) in
+        let same : services.is_sound (service_of s) ≡ serving g =
+        same_Some _ _ (sym (ap (option_map services.is_sound) read) ∙ h u g in' i) in
+        ap not (e ∙ same)
+
+-- THE FIRST
+module _ (p : Program) (at : ℕ) (in' : IsUnit p at) (serving : Guarded → Bool) (target : Option Guarded)
+    (all : find (λ g. not (serving g)) (filter_map guarded_in (drop at p.units)) ≡ target) (b : Bool) (is : b ≡ broken_by serving (guarded_at p at)) where
+  abbrev test : Guarded → Bool
+  test g = not (serving g)
+
+  abbrev here : (u : Unit) × (slice_get p.units at ≡ Some u)
+  here = item-at p.units at in'
+
+  from-here : drop at p.units ≡ here.0 ∷ drop (at + 1) p.units
+  from-here = drop_step p.units at here.0 in' (sym (get_or_from_slice_get p.units at here.0 here.0 here.1))
+
+  broken-here : b ≡ broken_by serving (guarded_in here.0)
+  broken-here = is ∙ ap (λ o. broken_by serving (option_and_then guarded_in o)) here.1
+
+  one-of : (u : Unit) (us : List Unit) → find test (filter_map guarded_in (u ∷ us))
+      ≡ (if broken_by serving (guarded_in u) then guarded_in u else find test (filter_map guarded_in us))
+  one-of u us = by (guarded_in u)
+    where
+      by : (o : Option Guarded) → find test (cons_option o (filter_map guarded_in us))
+          ≡ (if broken_by serving o then o else find test (filter_map guarded_in us))
+      by None = refl
+      by (Some g) = refl
+
+  split : (if b then guarded_in here.0 else find test (filter_map guarded_in (drop (at + 1) p.units))) ≡ target
+  split =
+      ap (λ z. if z then guarded_in here.0 else find test (filter_map guarded_in (drop (at + 1) p.units))) broken-here
+      ∙ sym (one-of here.0 (drop (at + 1) p.units)) ∙ sym (ap (λ us. find test (filter_map guarded_in us)) from-here) ∙ all
+
+  pub found-past : b ≡ false → find test (filter_map guarded_in (drop (at + 1) p.units)) ≡ target
+  found-past e = sym (ap (λ z. if z then guarded_in here.0 else find test (filter_map guarded_in (drop (at + 1) p.units))) e) ∙ split
+
+  named-by : (u : Unit) → broken_by serving (guarded_in u) ≡ true → option_map (λ (g : Guarded). g.name) (guarded_in u) ≡ Some u.name
+  named-by u e = by u.name u.form e
+    where
+      by : (name : Name) (f : Form) → broken_by serving (guarded_by name f) ≡ true → option_map (λ (g : Guarded). g.name) (guarded_by name f) ≡ Some name
+      by name (Passive ops) e = absurd (cc)
+      by name (Shared ceiling vars ops) e = refl
+      by name (Cyclic priority offset period vars block) e = absurd (cc)
+      by name (Sporadic priority ceiling op separation jitter external vars block) e = absurd (cc)
+
+  pub found-here : b ≡ true → Some (unit_name p at) ≡ option_map (λ (g : Guarded). g.name) target
+  found-here e =
+      ap (λ n. Some n) (name-is p at here.0 here.1) ∙ sym (named-by here.0 (sym broken-here ∙ e))
+      ∙ ap (option_map (λ (g : Guarded). g.name))
+      (sym (ap (λ z. if z then guarded_in here.0 else find test (filter_map guarded_in (drop (at + 1) p.units))) e) ∙ split)

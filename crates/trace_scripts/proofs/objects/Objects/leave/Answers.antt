@@ -1,0 +1,26 @@
+use Rattle.std.proofs.Common.{rules, ℕ, ◌≤◌, ap, get_or}
+use Rattle.trace_scripts.specs.Books.{entry_of}
+use Rattle.trace_scripts.specs.Scenes.{program_in, software_of, calls_of}
+use Rattle.trace_scripts.specs.Objects.{object_of, service_of}
+use Rattle.block_follow.specs.Bounds.{most_ticks}
+use Rattle.block_walks.specs.Fit.{MayRun}
+use Rattle.guarantee.specs.Software.{leads_to}
+use Rattle.trace_scripts.proofs.Objecting.{object-here, none-here, ops-within, body-named, body-all, leave-made, enter-made, charge-made, leave-none, enter-none}
+use Rattle.trace_scripts.proofs.objects.Objects.leave.Goals as goal
+
+pub returns-in_default-clause-states : goal.returns-in_default-clause-states
+returns-in_default-clause-states c =
+    leave-none (program_in c.args.scene.now) c.args.task c.args.unit c.args.op _ c.args.values.now
+    (none-here (program_in c.args.scene.now) c.args.unit _ c.object_at.result c.object_at.ensures (search rules))
+
+pub bounds-object-op : goal.bounds-object-op
+bounds-object-op c =
+    ops-within (program_in c.args.scene.now) c.args.unit c.requires.unit _ c.in-Some.object
+    (object-here (program_in c.args.scene.now) c.args.unit _ c.object_at.result c.in-Some.object c.object_at.ensures c.in-Some.is) c.args.op c.requires.op
+
+pub returns-clause-states : goal.returns-clause-states
+returns-clause-states c =
+    leave-made (program_in c.args.scene.now) c.requires.scene.rules c.args.task c.args.unit c.args.op c.requires.unit c.requires.op _ _ c.in-Some.object
+    (object-here (program_in c.args.scene.now) c.args.unit _ c.object_at.result c.in-Some.object c.object_at.ensures c.in-Some.is) c.unit_at.ensures.name (get_or c.in-Some.object.ops.now c.args.op c.index-object-op.result)
+    (ap (get_or c.in-Some.object.ops.now c.args.op) c.index-object-op.is) c.args.self.now.states.items _ c.replace-before.result c.leave.result
+    c.args.values.now (search rules) (search rules) c.leave.ensures

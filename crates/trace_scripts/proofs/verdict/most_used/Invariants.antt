@@ -1,0 +1,9 @@
+use Rattle.std.proofs.Common.{◌≡◌, drop, max}
+use Rattle.ada_tree.specs.Trees.{program_of}
+use Rattle.guarantee.specs.Events.{named}
+use Rattle.trace_laws.specs.Checks.{most_used}
+use Rattle.trace_scripts.proofs.verdict.most_used.Given as goal
+
+-- the greatest so far
+abbrev pub invariant-events : goal.invariant-events
+invariant-events l = max l.most (most_used (named (program_of l.program) (drop l.event-index l.events))) ≡ most_used (named (program_of l.program) l.events)

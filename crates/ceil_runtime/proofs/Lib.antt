@@ -54,3 +54,4 @@ pub mod EntryFacts
 pub mod ExamplesSections
 pub mod ExamplesActed
 pub mod Standing
+pub mod Alone

@@ -74,6 +74,18 @@ StaysOutside y (is.Calling object op actuals) = IsOutside (callee y object.now o
 StaysOutside y (is.Closing e) = ⊥
 StaysOutside y _ = ⊤
 
+-- whether a piece is nothing to others, whatever its names lead to: a call may enter a protected object
+abbrev pub is_silent : piece.Piece → Bool
+is_silent is.Idle = true
+is_silent (is.Store target value) = true
+is_silent (is.Leaving condition) = true
+is_silent (is.Working ticks) = true
+is_silent (is.Testing arm arms other) = true
+is_silent (is.Turning r) = true
+is_silent (is.Turned r) = true
+is_silent (is.Returning c) = true
+is_silent _ = false
+
 -- a call of an operation of a protected object
 pub record IsEntry (y : System) (e : Entry) : Type 0 where
   pub object : ProtectedUnit

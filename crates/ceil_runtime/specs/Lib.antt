@@ -26,3 +26,4 @@ pub mod Starts
 pub mod Shown
 pub mod Stepping
 pub mod Acted
+pub mod Alone

@@ -122,6 +122,11 @@ abbrev pub IsWithin : List Task → List Entry → ℕ → Type 0
 IsWithin tasks [] n = ⊤
 IsWithin tasks (e ∷ es) n = (t : Task) → slice_get tasks e.0 ≡ Some t → (n ≡ 1) ⊎ (n ≤ t.left)
 
+-- no task of a ready list goes before one of this active priority that is put before its equals
+abbrev pub IsBelow : ℕ → List Entry → Type 0
+IsBelow active [] = ⊤
+IsBelow active (e ∷ es) = e.1 ≤ active
+
 -- the task at this place is ready, and the ticks of its piece are used
 abbrev pub HasPiece : List Task → ℕ → Piece → Type 0
 HasPiece tasks i p = (t : Task) → slice_get tasks i ≡ Some t → (t.progress.piece ≡ Some p) × (is_ready t.readiness ≡ true) × (t.left ≡ 0)

@@ -87,6 +87,34 @@ pub enum Piece<'a> {
     Finishing,
 }
 
+impl<'a> Piece<'a> {
+    ghost use Rattle.std.specs.Prelude.{◌≡◌};
+    ghost use Rattle.ceil_runtime.specs.Doing.{is_silent};
+
+    /// Whether the piece is nothing to others, whatever its names lead to.
+    pub fn is_silent(self) -> bool
+        ensures { result ≡ is_silent self.entry }
+    {
+        match self {
+            Piece::Idle => true,
+            Piece::Store { .. } => true,
+            Piece::Leaving(_) => true,
+            Piece::Calling { .. } => false,
+            Piece::Working(_) => true,
+            Piece::Printing(_) => false,
+            Piece::Testing { .. } => true,
+            Piece::Turning(_) => true,
+            Piece::Turned(_) => true,
+            Piece::Returning(_) => true,
+            Piece::Closing(_) => false,
+            Piece::Keeping(_) => false,
+            Piece::Opening(_) => false,
+            Piece::Requested(_) => false,
+            Piece::Finishing => false,
+        }
+    }
+}
+
 /// What stands behind the piece that has started.
 #[derive(Clone, Copy, Default, Drop)]
 pub enum Frame<'a> {

@@ -8,7 +8,7 @@ ghost use Rattle.ceil_runtime.specs.Starts.{first_slept};
 ghost use Rattle.ceil_runtime.specs.Turns.{last_turn};
 ghost use Rattle.ceil_runtime.specs.Works.{task_of};
 ghost use Rattle.ceil_runtime.specs.Objects.{AreObjectsOf};
-ghost use Rattle.ceil_runtime.specs.Processing.{IsWithin};
+ghost use Rattle.ceil_runtime.specs.Processing.{IsBelow, IsWithin};
 
 use crate::buffer::EventBuf;
 use crate::callees::Callees;
@@ -178,6 +178,47 @@ fn ticks_ahead(links: &Links, tasks: &[Task], arrivals: &[Arrival], time: u64, u
     until_effect(links, tasks, most)
 }
 
+/// Whether the first ready task has a greater active priority than this one.
+fn is_outranked(links: &Links, active: u32) -> bool
+    ensures { result ≡ false → IsBelow active links.now.ready }
+{
+    match links.head() {
+        Some((_, level)) => active < level,
+        None => false,
+    }
+}
+
+/// The time of the first release, or of the horizon where that comes before it.
+fn first_release(links: &Links, time: u64, until: u64) -> u64
+    requires in_time { time ≤ until }
+    requires later { Each (λ e. time ≤ e.1) links.now.asleep }
+    ensures later { time ≤ result }
+    ensures horizon { result ≤ until }
+    ensures wake { Each (λ e. result ≤ e.1) links.now.asleep }
+{
+    match links.next_wake() {
+        Some(wake) => until.min(wake),
+        None => until,
+    }
+}
+
+/// The first time, from this one on, at which an arrival comes, or the one given where that comes before it.
+fn first_arrival(arrivals: &[Arrival], time: u64, most: u64) -> u64
+    requires later { time ≤ most }
+    ensures later { time ≤ result }
+    ensures most { result ≤ most }
+    ensures arrival { (n : ℕ) → time ≤ n → n < result → NoArrival n arrivals.now }
+{
+    let Some((arrival, _)) = arrivals.split_first() else {
+        return most;
+    };
+    if arrival.time < time {
+        most
+    } else {
+        most.min(arrival.time)
+    }
+}
+
 /// The processor at work on a program, in ticks of one processor. Between two calls, until the run has stopped, its lists are those of
 /// its tasks, and its calls lead to what those of its units do (`IsWhole`). `new` gives that and `advance` keeps it, and no one else can
 /// write a field of it, so who holds a machine from one call to the next has only to hand the fact on.
@@ -229,6 +270,8 @@ impl<'a> Machine<'a> {
     ghost use Rattle.std.specs.Prelude.{Vec};
     ghost use Rattle.std.specs.declared.alloc.Global.{Global};
     ghost use Rattle.ceil_runtime.specs.Acted.{HasActed, with_tasks};
+    ghost use Rattle.ceil_runtime.specs.Alone.{GoesAlone, IsAlone};
+    ghost use Rattle.ceil_runtime.specs.Doing.{is_silent};
     ghost use Rattle.ceil_runtime.specs.Stepping.{AreOfTask, Ends, HasStopped, IsNear, IsStep, steps_left, told_of};
 
     /// The opening of a program under arrivals that are accepted for it. The one error is want of memory: a failed allocation, and two
@@ -471,6 +514,76 @@ impl<'a> Machine<'a> {
         self.phase = Phase::Delays;
     }
 
+    /// The time up to which the running task goes on alone: that of the first release or arrival, or of the horizon. It is the present one
+    /// where another task goes before it.
+    fn alone_until(&self, task: u32) -> u64
+        requires whole { IsWhole self.now }
+        requires phase { self.now.phase ≡ Phase.Effects (Some task) }
+        requires goes_on { self.now.stopped ≡ false }
+        ensures { IsAlone self.now task result }
+    {
+        if is_outranked(&self.links, self.tasks[task as usize].active) {
+            return self.time;
+        }
+        let most = first_release(&self.links, self.time, self.until);
+        first_arrival(self.arrivals, self.time, most)
+    }
+
+    /// Lets the running task use what is left of its piece at once, where that is over by the time up to which it goes on alone.
+    fn pass(&mut self, task: u32, limit: u64)
+        requires whole { IsWhole self.old }
+        requires phase { self.old.phase ≡ Phase.Effects (Some task) }
+        requires goes_on { self.old.stopped ≡ false }
+        requires alone { IsAlone self.old task limit }
+        ensures { GoesAlone self.old self.new task limit }
+    {
+        let ticks = u64::from(self.tasks[task as usize].left);
+        if ticks == 0 {
+            return;
+        }
+        let room = limit - self.time;
+        if room < ticks {
+            return;
+        }
+        self.time += ticks;
+        self.tasks[task as usize].use_ticks(ticks);
+    }
+
+    /// The effect of a piece of the running task that is nothing to others.
+    fn act_alone(&mut self, task: u32, piece: Piece<'a>)
+        requires whole { IsWhole self.old }
+        requires phase { self.old.phase ≡ Phase.Effects (Some task) }
+        requires goes_on { self.old.stopped ≡ false }
+        requires piece { HasPiece self.old.tasks.items task piece }
+        requires silent { is_silent piece ≡ true }
+        ensures { (limit : ℕ) → IsAlone self.old task limit
+            → GoesAlone self.old self.new task limit × (steps_left self.new < steps_left self.old) }
+    {
+        self.tasks[task as usize].act(&self.costs, &self.callees, piece);
+    }
+
+    /// Goes on through pieces of the running task that are nothing to others, up to an instant at which something else may be due: no
+    /// other part of the instants between has anything to do.
+    fn go_on(&mut self, task: u32)
+        requires whole { IsWhole self.old }
+        requires phase { self.old.phase ≡ Phase.Effects (Some task) }
+        requires goes_on { self.old.stopped ≡ false }
+        ensures { (limit : ℕ) × GoesAlone self.old self.new task limit }
+    {
+        let limit = self.alone_until(task);
+        'pieces: loop {
+            self.pass(task, limit);
+            let Some(piece) = self.due(task) else {
+                return;
+            };
+            if piece.is_silent() {
+                self.act_alone(task, piece);
+            } else {
+                return;
+            }
+        }
+    }
+
     /// Effects: that of the piece of the task that used the tick before, where its ticks are used.
     fn effects(&mut self, running: Option<u32>) -> Told
         requires whole { IsWhole self.old }
@@ -482,6 +595,7 @@ impl<'a> Machine<'a> {
             self.phase = Phase::Delays;
             return Told::Nothing;
         };
+        self.go_on(task);
         let Some(piece) = self.due(task) else {
             self.end_effects(task);
             return Told::Nothing;

@@ -142,7 +142,7 @@ slow = record {
   objects = tt;
 }
 
-not_bounded : PermitsBackground of_cyclic (record { jitter = 0; response = 0 } ∷ []) none released → ⊥
+not_bounded : PermitsBackground of_cyclic (record { jitter = 8; response = 0 } ∷ []) none released → ⊥
 not_bounded h = h.bounded.0.0 (lit≤ tt)
 
 else_than_bounded : NeverStops released × Each (λ t. IsPeriodic 0 released t.name t.timing) (hard_tasks of_cyclic) × AreTold 0 [] released

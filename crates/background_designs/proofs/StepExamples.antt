@@ -192,6 +192,9 @@ slow_in_seconds = record (design (cyc_with (codes "h") (record { key = Deadline;
 seconds_as_written : misfits slow_in_seconds ≡ []
 seconds_as_written = refl
 
+seconds_dont_pass : IsBackgroundDesign slow_in_seconds → ⊥
+seconds_dont_pass h = (let e = h Background in cc)
+
 seconds_in_ticks : IsFirstFault slow_in_seconds (Misfits (A5 (codes "h")))
 seconds_in_ticks = record { step = Background; tells = refl; before = earlier }
   where

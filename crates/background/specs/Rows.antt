@@ -1,6 +1,6 @@
 -- The bounds of the hard threads of a design in ticks with background objects, and their threads by name.
 -- They go by priority, greatest first.
-use Rattle.std.specs.Prelude.{ℕ, List, filter_map, zip, slice_get, Option, option_map, option_and_then}
+use Rattle.std.specs.Prelude.{ℕ, List, filter_map, zip, Option}
 use Rattle.seq_tree.specs.Names.{Name}
 use Rattle.ods_tree.specs.Designs.{Design}
 use Rattle.ods_tree.specs.Flattening.{flat}
@@ -9,6 +9,7 @@ use Rattle.trace_text.specs.declared.bound.NamedBound.{NamedBound}
 use Rattle.design_bounds.specs.Rows.{named_at}
 use Rattle.background_designs.specs.HardParts.{hard_part}
 use Rattle.background_designs.specs.Programs.{background_flat, background_ranks, hard_rows, hard_places}
+use Rattle.background.specs.Fronts.{name_at}
 
 -- a vector for the rows of the hard threads, with their names and numbers, and with the priorities of the program
 abbrev pub background_bounds : Design → List Bound → List NamedBound
@@ -16,4 +17,4 @@ background_bounds x v = filter_map (named_at (background_flat x) (background_ran
 
 -- the name of the thread of a row
 abbrev pub hard_name : Design → ℕ → Option Name
-hard_name x row = option_and_then (λ place. option_map (λ t. t.name) (slice_get (flat (hard_part x)).threads place)) (slice_get (hard_places x) row)
+hard_name x row = name_at (flat (hard_part x)).threads (hard_places x) row

@@ -1,6 +1,6 @@
 -- What a refusal tells: the misfit or the rule of the definitions, with its names and numbers.
 -- Want of memory tells nothing.
-use Rattle.std.specs.Prelude.{Bool, true, false}
+use Rattle.std.specs.Prelude.{◌≡◌, Bool, true, false, Option, Some, None, Result, Ok, Err, ⊤}
 use Rattle.background_designs.specs.Misfits as misfits
 use Rattle.background_designs.specs.Misfits.{Misfit}
 use Rattle.background.specs.declared.delivery.BackgroundRule.{BackgroundRule}
@@ -22,3 +22,16 @@ misfit_of (A6 object target) = misfits.A6 object target
 abbrev pub refusal_by : Bool → Broken → refusals.BackgroundRefusal
 refusal_by true broken = refusal.NoMemory
 refusal_by false broken = refusal.Broken broken
+
+-- a refusal that is told is this misfit, unless it is want of memory
+abbrev pub IsTold : refusals.BackgroundRefusal → Option Misfit → Type 0
+IsTold (refusal.Rule rule) wanted = wanted ≡ Some (misfit_of rule)
+IsTold (refusal.Broken broken) wanted = ⊥
+IsTold (refusal.Miss thread miss) wanted = ⊥
+IsTold refusal.Long wanted = ⊥
+IsTold refusal.NoMemory wanted = ⊤
+
+-- an answer tells the misfit that is to be told, and nothing where none is
+abbrev pub Tells : Result (Unit {0}) refusals.BackgroundRefusal → Option Misfit → Type 0
+Tells (Ok done) wanted = wanted ≡ None
+Tells (Err e) wanted = IsTold e wanted

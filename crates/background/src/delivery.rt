@@ -83,6 +83,7 @@ pub struct Background {
 impl From<Broken> for BackgroundRefusal {
     ghost use Rattle.background.specs.Told.{refusal_by};
     ghost use Rattle.ods_index.specs.Told.{is_memory};
+
     ghost from_gives = { λ broken e. e ≡ refusal_by (is_memory broken) broken };
 
     fn from(broken: Broken) -> BackgroundRefusal {

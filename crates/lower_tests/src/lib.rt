@@ -13,6 +13,8 @@ mod bounds;
 #[cfg(test)]
 mod counts;
 #[cfg(test)]
+mod follows;
+#[cfg(test)]
 mod openings;
 #[cfg(test)]
 mod queues;

@@ -1,5 +1,6 @@
 -- What the end of the following of a block means for the answer, at any depth at which the block may be walked.
-use Rattle.std.proofs.Common.{◌≡◌, ◌++◌, take, append-nil, append_assoc, length-append, ℕ, zero, suc, ◌+◌, ◌-◌, ◌≤◌, ◌<◌, List, [], ◌∷◌, length, map, Result, Ok, Err, refl, sym, ap, ◌∙◌, arith, subst}
+use Rattle.std.proofs.Common.{◌≡◌, ◌++◌, take, append-nil, append_assoc, length-append, ℕ, zero, suc, ◌+◌, ◌-◌, ◌≤◌, ◌<◌, List, [], ◌∷◌, length}
+use Rattle.std.proofs.Common.{map, Result, Ok, Err, refl, sym, ap, ◌∙◌, arith, subst}
 use Rattle.std.specs.Prelude.{Vec}
 use Rattle.std.specs.declared.alloc.Global.{Global}
 use Rattle.std.proofs.lemmas.List.{length-map}
@@ -40,7 +41,8 @@ same-vars (x ∷ xs) (y ∷ ys) e f =
     ap (λ z. z ∷ xs) one ∙ ap (λ zs. y ∷ zs) (same-vars xs ys (tails e) (tails f))
 
 -- there are as many values as names
-pub done-length : (names : List Name) (count low high : ℕ) (values : Vec ℕ Global) (r : Result ends.End ℕ) → IsEnd names count (Done low high values) r
+pub done-length : (names : List Name) (count low high : ℕ) (values : Vec ℕ Global) (r : Result ends.End ℕ)
+    → IsEnd names count (Done low high values) r
     → length values.items ≡ length names
 done-length names count low high values (Ok e) h =
     ap length h.2 ∙ length-map e.vars (λ v. v.1) ∙ sym (length-map e.vars (λ v. v.0)) ∙ ap length h.3
@@ -57,7 +59,8 @@ answer-done (Ok p) names n count low high values before after h named valued =
     (same-vars after p.vars (named ∙ sym h.3) (valued ∙ h.2), h.0, h.1)
 answer-done (Err halt) names n count low high values before after h named valued = absurd h
 
-pub answer-short : (r : Result Path Halt) (names : List Name) (n count left : ℕ) (before after : Variables) → IsEnd names n (Stopped left) (comes_to r)
+pub answer-short : (r : Result Path Halt) (names : List Name) (n count left : ℕ) (before after : Variables)
+    → IsEnd names n (Stopped left) (comes_to r)
     → left ≡ 0 → after ≡ before → Answers r count before followed.Short after
 answer-short (Ok p) names n count left before after h none same = absurd h
 answer-short (Err halt) names n count left before after h none same = (sym h.0 ∙ none, same)

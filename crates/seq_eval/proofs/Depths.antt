@@ -77,7 +77,8 @@ longer (x ∷ xs) (y ∷ ys) us vs e lt =
     (more.0, more.1, more.2, more.3, ap (λ t. t ∷ ys) (sym (heads e)) ∙ ap (λ zs. x ∷ zs) more.4)
 
 -- no first fault comes before another
-not-before : {A : Type 0} (G : A → List Action → Type 0) (script : List Action) (m n : ℕ) → IsFirstFault G script m → IsFirstFault G script n → m < n → ⊥
+not-before : {A : Type 0} (G : A → List Action → Type 0) (script : List Action) (m n : ℕ) → IsFirstFault G script m → IsFirstFault G script n
+    → m < n → ⊥
 not-before G script m n f g lt =
     let cut = longer g.front f.front g.back f.back (sym g.split ∙ f.split)
     (let a = f.place in let b = g.place in omega (arith, a, b, lt)) in

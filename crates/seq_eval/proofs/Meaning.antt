@@ -1,6 +1,7 @@
 -- What is left of a walk, as a function of the stack: each step keeps it. The body of an operation is walked one call deeper than its caller,
 -- and no stack is as deep as the walk.
-use Rattle.std.proofs.Common.{◌≡◌, ℕ, suc, ◌+◌, ◌-◌, ◌*◌, ◌≤◌, ◌<◌, Bool, true, false, List, [], ◌∷◌, length, drop, Option, Some, None, Result, Ok, Err}
+use Rattle.std.proofs.Common.{◌≡◌, ℕ, suc, ◌+◌, ◌-◌, ◌*◌, ◌≤◌, ◌<◌, Bool, true, false, List, [], ◌∷◌, length, drop, Option, Some, None, Result}
+use Rattle.std.proofs.Common.{Ok, Err}
 use Rattle.std.proofs.Common.{refl, sym, ap, ◌∙◌, arith, cond}
 use Rattle.std.specs.Prelude.{is_some, nat_le, nat_lt}
 use Rattle.std.proofs.lemmas.Bool.{leb-false, leb-true, ltb-false, ltb-true}
@@ -142,7 +143,8 @@ module _ (costs : Costs) (calls : Name → Name → Callee) (deepest : ℕ) wher
   turn-begins ds low high name at last body (Err halt) = refl
 
   -- some turns
-  turns : (ds : List Doing) (low high : ℕ) (vars : Variables) (script : List Action) (name : Name) (at last n : ℕ) (body : Statements) → n ≡ suc (last - at)
+  turns : (ds : List Doing) (low high : ℕ) (vars : Variables) (script : List Action) (name : Name) (at last n : ℕ) (body : Statements)
+      → n ≡ suc (last - at)
       → rest_of (turning name at last body (record { doings = ds; leaving = false; vars = vars; low = low; high = high; script = script }))
       ≡ behind (turns_at n at costs.turn name (block_at (guide_at (backs ds)) body) vars script) (onwards ds low high)
   turns ds low high vars script name at last n body e =
@@ -160,7 +162,8 @@ module _ (costs : Costs) (calls : Name → Name → Callee) (deepest : ℕ) wher
   -- an action that has to be next
   told-on : (ds : List Doing) (vars : Variables) (low high : ℕ) (script : List Action) (sees : Action → Option Action) (l h : ℕ) (p : Path)
       → p.left ≡ false → p.vars ≡ vars → p.low ≡ l → p.high ≡ h
-      → rest_after (told_by (λ a. is_some (sees a)) script (record { doings = ds; leaving = false; vars = vars; low = low; high = high; script = script })
+      → rest_after (told_by (λ a. is_some (sees a)) script (record { doings = ds; leaving = false; vars = vars; low = low; high = high; script
+          = script })
       (λ t. Ok (spent l h t)))
       ≡ behind (then_at (token_at sees) (λ a. pure_at p) script) (onwards ds low high)
   told-on ds vars low high [] sees l h p e f g i = refl
@@ -191,7 +194,8 @@ module _ (costs : Costs) (calls : Name → Name → Callee) (deepest : ℕ) wher
       by (Some results) = refl
 
   -- a call of a protected operation
-  passed-on : (ds : List Doing) (vars : Variables) (low high : ℕ) (script : List Action) (name : OpName) (params : List Param) (actuals : List Expression)
+  passed-on : (ds : List Doing) (vars : Variables) (low high : ℕ) (script : List Action) (name : OpName) (params : List Param)
+      (actuals : List Expression)
       → rest_after (passed costs name params actuals
       (record { doings = ds; leaving = false; vars = vars; low = low; high = high; script = script }))
       ≡ behind (then_at (token_at (sees_entry name (handed params actuals vars)))
@@ -222,11 +226,13 @@ module _ (costs : Costs) (calls : Name → Name → Callee) (deepest : ℕ) wher
   entered-on : (ds : List Doing) (vars : Variables) (low high : ℕ) (script : List Action) (o : Operation) (actuals : List Expression) (n : ℕ)
       → n ≡ suc (deepest - suc (backs ds))
       → rest_of (entered_op costs o actuals (record { doings = ds; leaving = false; vars = vars; low = low; high = high; script = script }))
-      ≡ behind (then_at (body_at costs calls n o (opened o (handed o.sig.params actuals vars))) (λ b. pure_at (returned costs o actuals vars b)) script)
+      ≡ behind (then_at (body_at costs calls n o (opened o (handed o.sig.params actuals vars)))
+          (λ b. pure_at (returned costs o actuals vars b)) script)
       (onwards ds low high)
   entered-on ds vars low high script o actuals n e =
       returned-on ds vars low high o actuals (block_at (guide_at (suc (backs ds))) o.block (opened o (handed o.sig.params actuals vars)) script)
-      ∙ ap (λ k. behind (then_at (body_at costs calls k o (opened o (handed o.sig.params actuals vars))) (λ b. pure_at (returned costs o actuals vars b))
+      ∙ ap (λ k. behind (then_at (body_at costs calls k o (opened o (handed o.sig.params actuals vars)))
+          (λ b. pure_at (returned costs o actuals vars b))
       script) (onwards ds low high)) (sym e)
 
   deeper : (n : ℕ) → n < deepest → deepest - n ≡ suc (deepest - suc n)

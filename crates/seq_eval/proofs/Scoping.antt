@@ -1,5 +1,6 @@
 -- Stacks of variables: the one at a place, those behind it and those before it.
-use Rattle.std.proofs.Common.{◌≡◌, ℕ, ◌+◌, ◌-◌, ◌≤◌, ◌<◌, cond, Bool, true, false, List, [], ◌∷◌, ◌++◌, length, take, drop, set, get_or, map, fold, refl, ap}
+use Rattle.std.proofs.Common.{◌≡◌, ℕ, ◌+◌, ◌-◌, ◌≤◌, ◌<◌, cond, Bool, true, false, List, [], ◌∷◌, ◌++◌, length, take, drop, set, get_or, map}
+use Rattle.std.proofs.Common.{fold, refl, ap}
 use Rattle.std.proofs.Common.{sym, ◌∙◌, arith, append_assoc}
 use Rattle.std.proofs.lemmas.List.{take-append-drop, drop-set, take-set, map-append}
 use Rattle.std.proofs.lemmas.List.Sums.{fold-append}

@@ -99,7 +99,8 @@ module _ (costs : Costs) (calls : Name → Name → Callee) (each deepest : ℕ)
   Paying before s t = Pays costs calls each deepest before s.low s.high t
 
   -- a step that takes this many ticks
-  takes : (before l h : ℕ) (s t : State) → t.low ≡ s.low + l → t.high ≡ s.high + h → tolls t.doings + l + each ≤ before → tolls t.doings + h + each ≤ before
+  takes : (before l h : ℕ) (s t : State) → t.low ≡ s.low + l → t.high ≡ s.high + h → tolls t.doings + l + each ≤ before
+      → tolls t.doings + h + each ≤ before
       → Paying before s t
   takes before l h s t e f g i = record { less = l; more = h; low = e; high = f; low-paid = g; high-paid = i }
 
@@ -156,7 +157,8 @@ module _ (costs : Costs) (calls : Name → Name → Callee) (each deepest : ℕ)
   -- some turns begin, where no ticks were taken
   turning-pays : (s t : State) (name : Name) (at last n : ℕ) (body : Statements) (before l : ℕ) → t.low ≡ s.low + l → t.high ≡ s.high + l
       → n ≡ suc (last - at)
-      → before ≡ each + (l + n * (each + each + costs.turn + toll_block costs calls each (toll_called costs calls each (deepest - backs t.doings)) body))
+      → before ≡ each + (l + n * (each + each + costs.turn + toll_block costs calls each (toll_called costs calls each
+          (deepest - backs t.doings)) body))
       + tolls t.doings
       → Paying before s (turning name at last body t)
   turning-pays s t name at last n body before l e f count g =

@@ -1,6 +1,7 @@
 -- Following a block step by step: what is left to do stands on a stack, the innermost first. No call makes the steps recur.
 -- Statements run in sequence (ISO/IEC 8652:2012, 5.1); an exit leaves the innermost loop (5.7); `out` values come back at the end (6.4.1).
-use Rattle.std.specs.Prelude.{ℕ, suc, ◌+◌, ◌*◌, ◌≤◌, Bool, true, false, List, [], ◌∷◌, length, drop, nat_le, nat_lt, Option, Some, None, Result, Ok, Err}
+use Rattle.std.specs.Prelude.{ℕ, suc, ◌+◌, ◌*◌, ◌≤◌, Bool, true, false, List, [], ◌∷◌, length, drop, nat_le, nat_lt, Option, Some, None, Result}
+use Rattle.std.specs.Prelude.{Ok, Err}
 use Rattle.std.specs.Prelude.{if◌then◌else◌, is_some}
 use Rattle.seq_tree.specs.Names.{Name}
 use Rattle.seq_tree.specs.Expressions.{Expression}

@@ -150,13 +150,15 @@ pub fn follow(
     script: &[Action],
 ) -> Result<Followed, NoMemory>
     requires { length owners.now ≡ length passive.now }
-    ensures says { ((depth : ℕ) → most_ticks costs.now (callees owners.now (map operation_of passive.now) (map offer_of shared.now) (map offer_of requests.now))
+    ensures says { ((depth : ℕ) → most_ticks costs.now (callees owners.now (map operation_of passive.now) (map offer_of shared.now)
+        (map offer_of requests.now))
         depth (block_of block.now) ≤ 1000000000)
         → (depth : ℕ)
         → MayRun (callees owners.now (map operation_of passive.now) (map offer_of shared.now) (map offer_of requests.now)) depth (block_of block.now)
         → Follows costs.now (callees owners.now (map operation_of passive.now) (map offer_of shared.now) (map offer_of requests.now)) depth
         (block_of block.now) env.old.slots.items (map action_of script.now) result env.new.slots.items }
-    ensures means { ((depth : ℕ) → most_ticks costs.now (callees owners.now (map operation_of passive.now) (map offer_of shared.now) (map offer_of requests.now))
+    ensures means { ((depth : ℕ) → most_ticks costs.now (callees owners.now (map operation_of passive.now) (map offer_of shared.now)
+        (map offer_of requests.now))
         depth (block_of block.now) ≤ 1000000000)
         → (depth : ℕ)
         → MayRun (callees owners.now (map operation_of passive.now) (map offer_of shared.now) (map offer_of requests.now)) depth (block_of block.now)

@@ -81,7 +81,8 @@ impl<'a> Walk<'a> {
 
     /// Begins a turn of a loop.
     fn turn(&mut self, round: Round<'a>) -> Result<(), NoMemory>
-        ensures { OnOk result (state_of self.new ≡ turning round.entry.name.now round.entry.at round.entry.last (block_of round.entry.body.now) (state_of self.old)) }
+        ensures { OnOk result (state_of self.new ≡ turning round.entry.name.now round.entry.at round.entry.last (block_of round.entry.body.now)
+            (state_of self.old)) }
     {
         self.vars.push(round.name, round.at)?;
         self.frames.push(Frame::Turned(round))?;
@@ -127,7 +128,8 @@ impl<'a> Walk<'a> {
         actuals: &'a [Expr],
     ) -> Result<(), NoMemory>
         requires { HasFew (state_of self.old) }
-        ensures { OnOk result (state_of self.new ≡ entered_op costs.now (operation_of op.entry.now) (map expression_of actuals.entry.now) (state_of self.old)) }
+        ensures { OnOk result (state_of self.new ≡ entered_op costs.now (operation_of op.entry.now) (map expression_of actuals.entry.now)
+            (state_of self.old)) }
     {
         let mut vars = Scope::new(alloc);
         open_locals(&mut vars, op.locals.as_slice())?;
@@ -260,7 +262,8 @@ impl<'a> Walk<'a> {
         stmt: &'a Stmt,
     ) -> Result<bool, NoMemory>
         requires { HasFew (state_of self.old) }
-        ensures { IfOk result (λ on. moved on (state_of self.new) ≡ begun costs.now (leads targets.now) (statement_of stmt.entry.now) (state_of self.old)) }
+        ensures { IfOk result (λ on. moved on (state_of self.new) ≡ begun costs.now (leads targets.now) (statement_of stmt.entry.now)
+            (state_of self.old)) }
     {
         match stmt {
             Stmt::Null => {

@@ -38,14 +38,16 @@ returns-in-Done c =
     = λ cheap. known (names_of vars) n (λ d. comes_to (whole d)) c.in_ok-low.field-0
     (Done c.in-Done.low c.in-Done.high c.in-Done.values) c.in-Done.is (c.in_ok-low.ensures.ended cheap) in
     let after = c.set_values.new.env.slots.items in
-    let says : IsCheap a.costs.now calls b → (depth : ℕ) → MayRun calls depth b → Answers (whole depth) (length script) vars (followed.Done c.in-Done.low c.in-Done.high) after
+    let says : IsCheap a.costs.now calls b → (depth : ℕ) → MayRun calls depth b
+        → Answers (whole depth) (length script) vars (followed.Done c.in-Done.low c.in-Done.high) after
     = λ cheap depth may.
     answer-done (whole depth) (names_of vars) n (length script) c.in-Done.low c.in-Done.high c.in-Done.values vars after
     (at-depth a.costs.now calls b vars script (names_of vars) n (Done c.in-Done.low c.in-Done.high c.in-Done.values) depth (ended cheap) may)
     c.set_values.ensures.names (c.set_values.ensures.values ∙ c.as_slice.ensures.value) in
     record {
       says = says;
-      means = λ cheap depth may. means a.costs.now calls b vars script depth (followed.Done c.in-Done.low c.in-Done.high) after may (says cheap depth may);
+      means = λ cheap depth may. means a.costs.now calls b vars script depth (followed.Done c.in-Done.low c.in-Done.high) after may
+          (says cheap depth may);
     }
 
 pub returns-then-left-eq0 : goal.returns-then-left-eq0
@@ -81,7 +83,8 @@ returns-else-left-eq0 c =
     let ended : IsCheap a.costs.now calls b → (d : ℕ) → most < d → IsEnd (names_of vars) n (Stopped c.in-Stopped.left) (comes_to (whole d))
     = λ cheap. known (names_of vars) n (λ d. comes_to (whole d)) c.in_ok-low.field-0 (Stopped c.in-Stopped.left) c.in-Stopped.is
     (c.in_ok-low.ensures.ended cheap) in
-    let says : IsCheap a.costs.now calls b → (depth : ℕ) → MayRun calls depth b → Answers (whole depth) (length script) vars (followed.Off (n - c.in-Stopped.left)) vars
+    let says : IsCheap a.costs.now calls b → (depth : ℕ) → MayRun calls depth b
+        → Answers (whole depth) (length script) vars (followed.Off (n - c.in-Stopped.left)) vars
     = λ cheap depth may.
     answer-off (whole depth) (names_of vars) n (length script) c.in-Stopped.left vars vars
     (at-depth a.costs.now calls b vars script (names_of vars) n (Stopped c.in-Stopped.left) depth (ended cheap) may) c.if-left-eq0.false

@@ -7,3 +7,4 @@ pub mod Parts
 pub mod Passing
 pub mod Answers
 pub mod Meanings
+pub mod Accepted

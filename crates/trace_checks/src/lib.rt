@@ -15,4 +15,4 @@ mod units;
 mod waiting;
 
 pub use broken::Broken;
-pub use pass::check_parts;
+pub use pass::{accepted_arrivals_are_of_units, check_parts};

@@ -6,6 +6,7 @@ ghost use Rattle.trace_tree.specs.Placed.{IsUnit};
 ghost use Rattle.arrivals_tree.specs.Arriving.{arrivals_of};
 ghost use Rattle.trace_lines.specs.Told.{HasPlainNames};
 ghost use Rattle.guarantee.specs.Arrivals.{named_arrivals};
+ghost use Rattle.trace_checks.specs.Accepted.{AcceptedArrivalsAreOfUnits};
 ghost use Rattle.trace_checks.specs.Meanings.{Means};
 
 use crate::broken::Broken;
@@ -48,3 +49,8 @@ pub fn check_parts(
         Err(fault) => Err(fault),
     }
 }
+
+/// The horizon of arrivals that are accepted for a program is within the limit, in ticks, and each is of a unit of the program.
+pub fn accepted_arrivals_are_of_units()
+    ensures { AcceptedArrivalsAreOfUnits }
+{}

@@ -5,3 +5,4 @@ pub mod Fitting
 pub mod Fronts
 pub mod TableSteps
 pub mod Splitting
+pub mod Gathering

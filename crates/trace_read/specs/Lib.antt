@@ -5,3 +5,4 @@ pub mod Lines
 pub mod Pieces
 pub mod Laws
 pub mod Texts
+pub mod Gathered

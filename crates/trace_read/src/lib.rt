@@ -6,6 +6,7 @@
 #![tactic(auto)]
 
 mod events;
+mod gather;
 mod kind;
 mod lines;
 mod numbers;
@@ -13,4 +14,5 @@ mod split;
 mod table;
 mod words;
 
+pub use gather::{Unread, read_events};
 pub use lines::{Lines, NoLine, lines_go_on};

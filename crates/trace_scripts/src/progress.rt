@@ -1,4 +1,5 @@
-ghost use Rattle.std.specs.Prelude.{◌≡◌, ◌+◌, ◌++◌, ◌&&◌, IfOk, OnOk, None, Some, nat_le, option_map, option_to_list};
+ghost use Rattle.seq_tree.specs.Trees.{block_of};
+ghost use Rattle.std.specs.Prelude.{◌≡◌, ◌≤◌, ℕ, ◌+◌, ◌++◌, ◌&&◌, IfOk, OnOk, None, Some, nat_le, option_map, option_to_list};
 ghost use Rattle.seq_tree.specs.Variables.{entered};
 ghost use Rattle.ada_tree.specs.Rules.{MeetsRules};
 ghost use Rattle.ada_tree.specs.Trees.{program_of};
@@ -11,7 +12,7 @@ ghost use Rattle.trace_tree.specs.Placed.{IsPlaced};
 ghost use Rattle.script_laws.specs.Progress.{all_shown, course_from, ends_by, left_by_course, with_last};
 ghost use Rattle.trace_scripts.specs.Objects.{charge_of};
 ghost use Rattle.trace_scripts.specs.Scenes.{IsScene, calls_of, software_of};
-ghost use Rattle.trace_scripts.specs.Threads.{IsOf, after_event, course_of};
+ghost use Rattle.trace_scripts.specs.Threads.{IsOf, charged_by, course_of, entered_if, left_if, seen_if};
 
 use crate::actions::action;
 use crate::data::{add_all, add_params, keep};
@@ -130,4 +131,121 @@ fn is_within(finish: u32, course: &Course, low: u64, high: u64, used: u64) -> Re
     let most = plus(plus(course.high, high)?, u64::from(finish))?;
     let used = u128::from(used);
     Ok(least <= used && used <= most)
+}
+
+/// Whether an activation from a release ended with so many ticks within the time since, and within the bounds of the run where they are asked.
+fn is_charged(
+    finish: u32,
+    course: &Course,
+    low: u64,
+    high: u64,
+    at: u64,
+    used: u64,
+) -> Result<bool, NoMemory>
+    ensures { IfOk result (λ b. b ≡ charged_by finish (course_of course.now) low high at used) }
+{
+    if plus(u128::from(course.time), used)? > u128::from(at) {
+        return Ok(false);
+    }
+    if !course.among {
+        return Ok(true);
+    }
+    is_within(finish, course, low, high, used)
+}
+
+impl Course {
+    /// The data that an activation leaves, where it is a whole run and an end.
+    pub fn close(
+        &self,
+        scene: &Scene,
+        alloc: Global,
+        thread: Thread,
+        kept_now: Env,
+    ) -> Result<Option<Env>, NoMemory>
+        requires scene { IsScene scene.now }
+        requires ticks { (depth : ℕ) → most_ticks scene.now.program.now.costs (calls_of scene.now) depth (block_of thread.block.now) ≤ 1000000000 }
+        ensures { (depth : ℕ) (t : Task) → IsOf t thread.entry → MayRun (leads_to (software_of scene.now)) depth (block_of thread.entry.block.now)
+            → IfOk result (λ o. option_map (λ e. e.slots.items) o
+            ≡ left_by_course (software_of scene.now) depth t kept_now.slots.items (course_of self.now)) }
+    {
+        let Some((at, used)) = self.end else {
+            return Ok(None);
+        };
+        let mut env = release(alloc, thread.params, self.value, kept_now)?;
+        match scene.walk(alloc, thread.block, &mut env, &self.script)? {
+            Walked::Ran { low, high } => {
+                let finish = scene.program.costs.finish;
+                if is_charged(finish, self, low, high, at, used)? {
+                    Ok(Some(keep(alloc, thread.vars, &env)?))
+                } else {
+                    Ok(None)
+                }
+            }
+            Walked::Begun => Ok(None),
+            Walked::Astray => Ok(None),
+        }
+    }
+
+    /// Whether the last activation may stand: it is whole, or it has no end and begins a run.
+    pub fn ends(
+        &self,
+        scene: &Scene,
+        alloc: Global,
+        thread: Thread,
+        kept_now: Env,
+    ) -> Result<bool, NoMemory>
+        requires scene { IsScene scene.now }
+        requires ticks { (depth : ℕ) → most_ticks scene.now.program.now.costs (calls_of scene.now) depth (block_of thread.block.now) ≤ 1000000000 }
+        ensures { (depth : ℕ) (t : Task) → IsOf t thread.entry → MayRun (leads_to (software_of scene.now)) depth (block_of thread.entry.block.now)
+            → IfOk result (λ b. b ≡ ends_by (software_of scene.now) depth t kept_now.slots.items (course_of self.now) (course_of self.now).end) }
+    {
+        if self.end.is_some() {
+            let left = self.close(scene, alloc, thread, kept_now)?;
+            return Ok(left.is_some());
+        }
+        let mut env = release(alloc, thread.params, self.value, kept_now)?;
+        match scene.walk(alloc, thread.block, &mut env, &self.script)? {
+            Walked::Ran { .. } => Ok(true),
+            Walked::Begun => Ok(true),
+            Walked::Astray => Ok(false),
+        }
+    }
+
+    /// Adds a deed that is no end, with the action that it shows, where it stands outside of operations.
+    fn see(&mut self, outside: bool, action: Option<Action>) -> Result<(), NoMemory>
+        ensures { OnOk result (course_of self.new ≡ seen_if outside (option_map action_of action) (course_of self.old)) }
+    {
+        if outside {
+            self.show(action)?;
+        }
+        Ok(())
+    }
+
+    /// Adds an entry into an operation, with the ticks of the way through it.
+    #[tactic(auto, using(crate::proofs::Coursing::deed_steps))]
+    fn enter(&mut self, action: Option<Action>, good: bool, charge: Charge) -> Result<(), NoMemory>
+        ensures { OnOk result (course_of self.new ≡ entered_if (option_map action_of action) good (charge_of charge) (course_of self.old)) }
+    {
+        self.see(self.depth == 0, action)?;
+        let Some(depth) = self.depth.checked_add(1) else {
+            return Err(NoMemory);
+        };
+        self.depth = depth;
+        if good {
+            self.low = plus(self.low, charge.low)?;
+            self.high = plus(self.high, charge.high)?;
+        } else {
+            self.among = false;
+        }
+        Ok(())
+    }
+
+    /// Adds an exit.
+    #[tactic(auto, using(crate::proofs::Coursing::deed_steps))]
+    fn leave(&mut self, action: Option<Action>) -> Result<(), NoMemory>
+        ensures { OnOk result (course_of self.new ≡ left_if (option_map action_of action) (course_of self.old)) }
+    {
+        self.depth = self.depth.saturating_sub(1);
+        self.see(self.depth == 0, action)
+    }
 }

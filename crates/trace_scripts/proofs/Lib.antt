@@ -12,3 +12,4 @@ pub mod Passing
 pub mod ObjectsNamed
 pub mod Firsts
 pub mod Clearing
+pub mod Coursing

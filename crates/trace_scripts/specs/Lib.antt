@@ -3,3 +3,4 @@ pub mod Books
 pub mod Scenes
 pub mod Objects
 pub mod Serving
+pub mod Threads

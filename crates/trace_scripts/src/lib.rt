@@ -6,6 +6,7 @@ mod books;
 mod data;
 mod names;
 mod objects;
+mod progress;
 mod scripts;
 mod services;
 mod verdict;

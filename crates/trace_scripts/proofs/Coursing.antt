@@ -1,0 +1,101 @@
+-- What an activation leaves, by what the walk of its block answers.
+use Rattle.std.proofs.Common.{◌≡◌, ◌+◌, ℕ, Bool, true, false, ◌&&◌, ◌||◌, not, List, Option, Some, None, refl, sym, ap, ◌∙◌, append-nil, arith, subst, ◌++◌}
+use Rattle.std.specs.Prelude.{is_some, nat_le, option_map, option_to_list, if◌then◌else◌}
+use Rattle.seq_tree.specs.Runs.{Path}
+use Rattle.seq_tree.specs.Variables.{Variables, entered, kept}
+use Rattle.guarantee.specs.Software.{Software, Task}
+use Rattle.script_laws.specs.Progress as laws
+use Rattle.script_laws.specs.Progress.{ends_by, left_by, left_by_course}
+use Rattle.trace_laws.specs.Checks.{run_along}
+use Rattle.guarantee.specs.Scripts.{released_vars}
+use Rattle.seq_tree.specs.Statements.{Statements}
+use Rattle.seq_tree.specs.Trees.{block_of}
+use Rattle.seq_eval.specs.declared.env.Env.{Env}
+use Rattle.trace_scripts.specs.declared.progress.Thread.{Thread}
+use Rattle.trace_scripts.specs.Scenes.{IsWalk}
+use Rattle.trace_scripts.specs.Threads.{IsOf, charged_by}
+use Rattle.trace_scripts.specs.declared.walks.Walked.{Walked}
+use Rattle.trace_scripts.specs.declared.walks.Walked.TheVariants.{Ran, Begun, Astray}
+
+pub ruleset show_steps = (append-nil)
+
+module _ (w : Software) (t : Task) (c : laws.Course) (at used : ℕ) (o : Option Path) (begins : Bool) (after : Variables) where
+  abbrev end : Option (ℕ × ℕ)
+  end = Some (at, used)
+
+  pub ran-left : (low high : ℕ) (data' : Variables) → IsWalk o begins (Ran low high) after → charged_by w.costs.finish c low high at used ≡ true
+      → data' ≡ kept t.vars after → (let r : Option Variables = Some data' in r) ≡ left_by w t c o end
+  ran-left low high data' h e k = by o h
+    where
+      by : (o : Option Path) → IsWalk o begins (Ran low high) after → (let r : Option Variables = Some data' in r) ≡ left_by w t c o end
+      by None h = absurd h
+      by (Some p) h =
+          let F : Bool → Option Variables = λ b. if b then Some (kept t.vars p.vars) else None in
+          ap (λ z. Some z) (k ∙ ap (kept t.vars) h.1) ∙ ap F (sym e) ∙ ap (λ z. F (charged_by w.costs.finish c z high at used)) h.2
+          ∙ ap (λ z. F (charged_by w.costs.finish c p.low z at used)) h.3
+
+  pub ran-none : (low high : ℕ) → IsWalk o begins (Ran low high) after → charged_by w.costs.finish c low high at used ≡ false
+      → (let r : Option Variables = None in r) ≡ left_by w t c o end
+  ran-none low high h e = by o h
+    where
+      by : (o : Option Path) → IsWalk o begins (Ran low high) after → (let r : Option Variables = None in r) ≡ left_by w t c o end
+      by None h = absurd h
+      by (Some p) h =
+          let F : Bool → Option Variables = λ b. if b then Some (kept t.vars p.vars) else None in
+          ap F (sym e) ∙ ap (λ z. F (charged_by w.costs.finish c z high at used)) h.2
+          ∙ ap (λ z. F (charged_by w.costs.finish c p.low z at used)) h.3
+
+  pub begun-none : IsWalk o begins Begun after → (let r : Option Variables = None in r) ≡ left_by w t c o end
+  begun-none h = by o h
+    where
+      by : (o : Option Path) → IsWalk o begins Begun after → (let r : Option Variables = None in r) ≡ left_by w t c o end
+      by None h = refl
+      by (Some p) h = absurd h
+
+  pub astray-none : IsWalk o begins Astray after → (let r : Option Variables = None in r) ≡ left_by w t c o end
+  astray-none h = by o h
+    where
+      by : (o : Option Path) → IsWalk o begins Astray after → (let r : Option Variables = None in r) ≡ left_by w t c o end
+      by None h = refl
+      by (Some p) h = absurd h
+
+pub plus-none : (n : ℕ) → n + 0 ≡ n
+plus-none n = omega arith
+
+pub and-true : (b : Bool) → (b && true) ≡ b
+and-true true = refl
+and-true false = refl
+
+pub and-false : (b : Bool) → (b && false) ≡ false
+and-false true = refl
+and-false false = refl
+
+pub ruleset deed_steps = (plus-none, and-true, and-false)
+
+-- AN ACTIVATION of a thread
+pub answered-so : (o : Option Path) (begins : Bool) (answer target : Walked) (after : Variables) → IsWalk o begins answer after → answer ≡ target
+    → IsWalk o begins target after
+answered-so o begins answer target after h e = subst (λ z. IsWalk o begins z after) e h
+
+pub closing : (w : Software) (depth : ℕ) (t : Task) (thread : Thread) → IsOf t thread → (c : laws.Course) (data' env : Variables) (at used : ℕ)
+    → env ≡ entered thread.params.now (option_to_list c.value) ++ data' → c.end ≡ Some (at, used) → (r : Option Variables)
+    → r ≡ left_by w t c (run_along w depth (block_of thread.block.now) env c.shown) (Some (at, used)) → r ≡ left_by_course w depth t data' c
+closing w depth t thread is c data' env at used opened ends r h =
+    let F : Statements → Variables → Option (ℕ × ℕ) → Option Variables = λ b vs e. left_by w t c (run_along w depth b vs c.shown) e in
+    h ∙ ap (λ b. F b env (Some (at, used))) (sym is.block) ∙ ap (λ vs. F t.block vs (Some (at, used))) opened
+    ∙ ap (λ ps. F t.block (entered ps (option_to_list c.value) ++ data') (Some (at, used))) (sym is.params)
+    ∙ ap (F t.block (released_vars t c.value data')) (sym ends)
+
+pub ends-some : (w : Software) (depth : ℕ) (t : Task) (c : laws.Course) (data' : Variables) (left : Option Env)
+    → option_map (λ (e : Env). e.slots.items) left ≡ left_by_course w depth t data' c → is_some c.end ≡ true
+    → is_some left ≡ ends_by w depth t data' c c.end
+ends-some w depth t c data' left h some =
+    is-mapped left ∙ ap is_some h ∙ by c.end some
+  where
+    is-mapped : (o : Option Env) → is_some o ≡ is_some (option_map (λ (e : Env). e.slots.items) o)
+    is-mapped None = refl
+    is-mapped (Some x) = refl
+
+    by : (e : Option (ℕ × ℕ)) → is_some e ≡ true → is_some (left_by_course w depth t data' c) ≡ ends_by w depth t data' c e
+    by None k = absurd (cc)
+    by (Some f) k = refl

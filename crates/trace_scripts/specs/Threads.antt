@@ -1,0 +1,60 @@
+-- How far a thread is, as the code holds it, and what a step changes of it.
+use Rattle.std.specs.Prelude.{◌≡◌, ◌+◌, ◌&&◌, ◌||◌, ◌-◌, ◌==◌, ℕ, Bool, Option, None, nat_le, not, if◌then◌else◌}
+use Rattle.seq_tree.specs.Runs as runs
+use Rattle.seq_tree.specs.Trees.{block_of}
+use Rattle.ada_tree.specs.Programs.{Program}
+use Rattle.guarantee.specs.Software.{Task, params_of, program_software}
+use Rattle.guarantee.specs.Events.{Event, By, Horizon}
+use Rattle.script_laws.specs.Progress as laws
+use Rattle.script_laws.specs.Progress.{after_deed, all_shown, with_last}
+use Rattle.trace_scripts.specs.Scripts.{shown_of}
+use Rattle.trace_scripts.specs.declared.progress.Course.{Course}
+use Rattle.trace_scripts.specs.declared.progress.Thread.{Thread}
+
+abbrev pub course_of : Course → laws.Course
+course_of c = record {
+  time = c.time;
+  value = c.value;
+  depth = c.depth;
+  shown = shown_of c.script;
+  end = c.end;
+  among = c.among;
+  low = c.low;
+  high = c.high;
+}
+
+-- a thread's task
+pub record IsOf (t : Task) (h : Thread) : Type 0 where
+  pub params : params_of t.timing ≡ h.params.now
+  pub vars : t.vars ≡ h.vars.now
+  pub block : t.block ≡ block_of h.block.now
+
+-- an activation after an event of its thread
+abbrev pub after_event : Program → Bool → ℕ × ℕ → Event → laws.Course → laws.Course
+after_event p good charge (By time task deed) c = after_deed (program_software p) good charge time deed c
+after_event p good charge (Horizon time) c = c
+
+-- whether the ticks of an activation are right: within the time since its release, and between the bounds where they are asked
+abbrev pub charged_by : ℕ → laws.Course → (low high at used : ℕ) → Bool
+charged_by finish c low high at used =
+    nat_le (c.time + used) at && (not c.among || (nat_le (low + c.low + finish) used && nat_le used (high + c.high + finish)))
+
+-- an activation after a deed that shows this action, where it stands outside of operations
+abbrev pub seen_if : Bool → Option runs.Action → laws.Course → laws.Course
+seen_if outside a c = record c {
+  shown = if outside then with_last (all_shown c.shown c.end) a else c.shown;
+  end = if outside then None else c.end;
+}
+
+-- after an entry
+abbrev pub entered_if : Option runs.Action → Bool → ℕ × ℕ → laws.Course → laws.Course
+entered_if a good charge c = record (seen_if (c.depth == 0) a c) {
+  depth = c.depth + 1;
+  among = c.among && good;
+  low = c.low + (if good then charge.0 else 0);
+  high = c.high + (if good then charge.1 else 0);
+}
+
+-- after an exit
+abbrev pub left_if : Option runs.Action → laws.Course → laws.Course
+left_if a c = record (seen_if (c.depth - 1 == 0) a c) { depth = c.depth - 1 }

@@ -1,0 +1,251 @@
+ghost use Rattle.seq_tree.specs.Trees.{block_of};
+ghost use Rattle.std.specs.Prelude.{◌≡◌, ◌≤◌, ℕ, ◌+◌, ◌++◌, ◌&&◌, IfOk, OnOk, None, Some, nat_le, option_map, option_to_list};
+ghost use Rattle.seq_tree.specs.Variables.{entered};
+ghost use Rattle.ada_tree.specs.Rules.{MeetsRules};
+ghost use Rattle.ada_tree.specs.Trees.{program_of};
+ghost use Rattle.block_walks.specs.Fit.{MayRun};
+ghost use Rattle.block_follow.specs.Actions.{action_of};
+ghost use Rattle.block_follow.specs.Bounds.{most_ticks};
+ghost use Rattle.guarantee.specs.Events.{named_event};
+ghost use Rattle.guarantee.specs.Software.{Task, leads_to};
+ghost use Rattle.trace_tree.specs.Placed.{IsPlaced};
+ghost use Rattle.script_laws.specs.Progress.{all_shown, course_from, ends_by, left_by_course, with_last};
+ghost use Rattle.trace_scripts.specs.Objects.{charge_of};
+ghost use Rattle.trace_scripts.specs.Scenes.{IsScene, calls_of, software_of};
+ghost use Rattle.trace_scripts.specs.Threads.{IsOf, charged_by, course_of, entered_if, left_if, seen_if};
+
+use crate::actions::action;
+use crate::data::{add_all, add_params, keep};
+use crate::scripts::Script;
+use crate::services::Charge;
+use crate::walks::{Scene, Walked};
+use ada_tree::AdaProgram;
+use block_follow::Action;
+use seq_eval::Env;
+use seq_tree::{Block, Datum, NoMemory, Param};
+use std::alloc::Global;
+use trace_tree::Event;
+
+/// The parameters that a release hands to a thread, its data and its block.
+#[derive(Clone, Copy, Drop)]
+pub(crate) struct Thread<'a> {
+    pub params: &'a [Param],
+    pub vars: &'a [Datum],
+    pub block: &'a Block,
+}
+
+/// An activation so far: its release, how many operations the thread is inside, the script of what it did outside of them before an end that
+/// came last, the time of that end and the ticks that it says were used, and the ticks of the operations that it entered, where all their
+/// objects are served.
+#[derive(Drop)]
+pub(crate) struct Course {
+    pub time: u64,
+    pub value: Option<u32>,
+    pub depth: u64,
+    pub script: Script,
+    pub end: Option<(u64, u64)>,
+    pub among: bool,
+    pub low: u128,
+    pub high: u128,
+}
+
+/// A sum of ticks. There are never so many events that it doesn't fit.
+fn plus(a: u128, b: u64) -> Result<u128, NoMemory>
+    ensures { IfOk result (λ c. c ≡ a + b) }
+{
+    a.checked_add(u128::from(b)).ok_or(NoMemory)
+}
+
+impl Course {
+    /// An activation at its release.
+    pub fn begin(alloc: Global, time: u64, value: Option<u32>) -> Course
+        ensures { course_of result ≡ course_from time value }
+    {
+        Course {
+            time,
+            value,
+            depth: 0,
+            script: Script::empty(alloc),
+            end: None,
+            among: true,
+            low: 0,
+            high: 0,
+        }
+    }
+
+    /// Adds a deed outside of operations that is no end, with the action that it shows.
+    #[tactic(auto, using(crate::proofs::Coursing::show_steps))]
+    fn show(&mut self, action: Option<Action>) -> Result<(), NoMemory>
+        ensures { OnOk result (course_of self.new
+            ≡ record (course_of self.old) {
+              shown = with_last (all_shown (course_of self.old).shown (course_of self.old).end) (option_map action_of action);
+              end = None;
+            }) }
+    {
+        if self.end.is_some() {
+            self.script.shows = false;
+        }
+        self.script.add(action)?;
+        self.end = None;
+        Ok(())
+    }
+
+    /// Adds an end outside of operations.
+    #[tactic(auto, using(crate::proofs::Coursing::show_steps))]
+    fn finish(&mut self, time: u64, used: u64)
+        ensures { course_of self.new
+            ≡ record (course_of self.old) { shown = all_shown (course_of self.old).shown (course_of self.old).end; end = Some (time, used) } }
+    {
+        if self.end.is_some() {
+            self.script.shows = false;
+        }
+        self.end = Some((time, used));
+    }
+}
+
+/// The variables of an activation at its release.
+fn release(
+    alloc: Global,
+    params: &[Param],
+    value: Option<u32>,
+    kept: Env,
+) -> Result<Env, NoMemory>
+    ensures { IfOk result (λ e. e.slots.items ≡ entered params.now (option_to_list value) ++ kept.slots.items) }
+{
+    let mut env = Env {
+        slots: Vec::new(alloc),
+    };
+    match value {
+        None => add_params(alloc, &mut env, params, &[])?,
+        Some(value) => add_params(alloc, &mut env, params, &[value])?,
+    }
+    add_all(&mut env, kept)?;
+    Ok(env)
+}
+
+/// Whether a number of ticks lies between the least and the most of a run, of the operations that were entered and of the end.
+fn is_within(finish: u32, course: &Course, low: u64, high: u64, used: u64) -> Result<bool, NoMemory>
+    ensures { IfOk result (λ b. b ≡ (nat_le (low + (course_of course.now).low + finish) used && nat_le used (high + (course_of course.now).high + finish))) }
+{
+    let least = plus(plus(course.low, low)?, u64::from(finish))?;
+    let most = plus(plus(course.high, high)?, u64::from(finish))?;
+    let used = u128::from(used);
+    Ok(least <= used && used <= most)
+}
+
+/// Whether an activation from a release ended with so many ticks within the time since, and within the bounds of the run where they are asked.
+fn is_charged(
+    finish: u32,
+    course: &Course,
+    low: u64,
+    high: u64,
+    at: u64,
+    used: u64,
+) -> Result<bool, NoMemory>
+    ensures { IfOk result (λ b. b ≡ charged_by finish (course_of course.now) low high at used) }
+{
+    if plus(u128::from(course.time), used)? > u128::from(at) {
+        return Ok(false);
+    }
+    if !course.among {
+        return Ok(true);
+    }
+    is_within(finish, course, low, high, used)
+}
+
+impl Course {
+    /// The data that an activation leaves, where it is a whole run and an end.
+    pub fn close(
+        &self,
+        scene: &Scene,
+        alloc: Global,
+        thread: Thread,
+        kept_now: Env,
+    ) -> Result<Option<Env>, NoMemory>
+        requires scene { IsScene scene.now }
+        requires ticks { (depth : ℕ) → most_ticks scene.now.program.now.costs (calls_of scene.now) depth (block_of thread.block.now) ≤ 1000000000 }
+        ensures { (depth : ℕ) (t : Task) → IsOf t thread.entry → MayRun (leads_to (software_of scene.now)) depth (block_of thread.entry.block.now)
+            → IfOk result (λ o. option_map (λ e. e.slots.items) o
+            ≡ left_by_course (software_of scene.now) depth t kept_now.slots.items (course_of self.now)) }
+    {
+        let Some((at, used)) = self.end else {
+            return Ok(None);
+        };
+        let mut env = release(alloc, thread.params, self.value, kept_now)?;
+        match scene.walk(alloc, thread.block, &mut env, &self.script)? {
+            Walked::Ran { low, high } => {
+                let finish = scene.program.costs.finish;
+                if is_charged(finish, self, low, high, at, used)? {
+                    Ok(Some(keep(alloc, thread.vars, &env)?))
+                } else {
+                    Ok(None)
+                }
+            }
+            Walked::Begun => Ok(None),
+            Walked::Astray => Ok(None),
+        }
+    }
+
+    /// Whether the last activation may stand: it is whole, or it has no end and begins a run.
+    pub fn ends(
+        &self,
+        scene: &Scene,
+        alloc: Global,
+        thread: Thread,
+        kept_now: Env,
+    ) -> Result<bool, NoMemory>
+        requires scene { IsScene scene.now }
+        requires ticks { (depth : ℕ) → most_ticks scene.now.program.now.costs (calls_of scene.now) depth (block_of thread.block.now) ≤ 1000000000 }
+        ensures { (depth : ℕ) (t : Task) → IsOf t thread.entry → MayRun (leads_to (software_of scene.now)) depth (block_of thread.entry.block.now)
+            → IfOk result (λ b. b ≡ ends_by (software_of scene.now) depth t kept_now.slots.items (course_of self.now) (course_of self.now).end) }
+    {
+        if self.end.is_some() {
+            let left = self.close(scene, alloc, thread, kept_now)?;
+            return Ok(left.is_some());
+        }
+        let mut env = release(alloc, thread.params, self.value, kept_now)?;
+        match scene.walk(alloc, thread.block, &mut env, &self.script)? {
+            Walked::Ran { .. } => Ok(true),
+            Walked::Begun => Ok(true),
+            Walked::Astray => Ok(false),
+        }
+    }
+
+    /// Adds a deed that is no end, with the action that it shows, where it stands outside of operations.
+    fn see(&mut self, outside: bool, action: Option<Action>) -> Result<(), NoMemory>
+        ensures { OnOk result (course_of self.new ≡ seen_if outside (option_map action_of action) (course_of self.old)) }
+    {
+        if outside {
+            self.show(action)?;
+        }
+        Ok(())
+    }
+
+    /// Adds an entry into an operation, with the ticks of the way through it.
+    #[tactic(auto, using(crate::proofs::Coursing::deed_steps))]
+    fn enter(&mut self, action: Option<Action>, good: bool, charge: Charge) -> Result<(), NoMemory>
+        ensures { OnOk result (course_of self.new ≡ entered_if (option_map action_of action) good (charge_of charge) (course_of self.old)) }
+    {
+        self.see(self.depth == 0, action)?;
+        let Some(depth) = self.depth.checked_add(1) else {
+            return Err(NoMemory);
+        };
+        self.depth = depth;
+        if good {
+            self.low = plus(self.low, charge.low)?;
+            self.high = plus(self.high, charge.high)?;
+        } else {
+            self.among = false;
+        }
+        Ok(())
+    }
+
+    /// Adds an exit.
+    #[tactic(auto, using(crate::proofs::Coursing::deed_steps))]
+    fn leave(&mut self, action: Option<Action>) -> Result<(), NoMemory>
+        ensures { OnOk result (course_of self.new ≡ left_if (option_map action_of action) (course_of self.old)) }
+    {
+        self.depth = self.depth.saturating_sub(1);
+        self.see(self.depth == 0, action)
+    }
+}

@@ -1,12 +1,12 @@
 -- How far a thread is, as the code holds it, and what a step changes of it.
-use Rattle.std.specs.Prelude.{◌≡◌, ◌+◌, ◌&&◌, ◌||◌, ◌-◌, ◌==◌, ℕ, Bool, Option, None, nat_le, not, if◌then◌else◌}
+use Rattle.std.specs.Prelude.{◌≡◌, ◌+◌, ◌&&◌, ◌||◌, ◌-◌, ◌==◌, ℕ, Bool, Option, Some, None, nat_le, not, if◌then◌else◌}
 use Rattle.seq_tree.specs.Runs as runs
 use Rattle.seq_tree.specs.Trees.{block_of}
 use Rattle.ada_tree.specs.Programs.{Program}
 use Rattle.guarantee.specs.Software.{Task, params_of, program_software}
 use Rattle.guarantee.specs.Events.{Event, By, Horizon}
 use Rattle.script_laws.specs.Progress as laws
-use Rattle.script_laws.specs.Progress.{after_deed, all_shown, with_last}
+use Rattle.script_laws.specs.Progress.{after_deed, all_shown, is_good, with_last}
 use Rattle.trace_scripts.specs.Scripts.{shown_of}
 use Rattle.trace_scripts.specs.declared.progress.Course.{Course}
 use Rattle.trace_scripts.specs.declared.progress.Thread.{Thread}
@@ -29,9 +29,9 @@ pub record IsOf (t : Task) (h : Thread) : Type 0 where
   pub vars : t.vars ≡ h.vars.now
   pub block : t.block ≡ block_of h.block.now
 
--- an activation after an event of its thread
+-- an activation after an event of its thread; the truth value says whether the object is served, where the event enters one
 abbrev pub after_event : Program → Bool → ℕ × ℕ → Event → laws.Course → laws.Course
-after_event p good charge (By time task deed) c = after_deed (program_software p) good charge time deed c
+after_event p good charge (By time task deed) c = after_deed (program_software p) (is_good (λ object. good) deed) charge time deed c
 after_event p good charge (Horizon time) c = c
 
 -- whether the ticks of an activation are right: within the time since its release, and between the bounds where they are asked
@@ -58,3 +58,10 @@ entered_if a good charge c = record (seen_if (c.depth == 0) a c) {
 -- after an exit
 abbrev pub left_if : Option runs.Action → laws.Course → laws.Course
 left_if a c = record (seen_if (c.depth - 1 == 0) a c) { depth = c.depth - 1 }
+
+-- after an end
+abbrev pub finished_if : Bool → (time used : ℕ) → laws.Course → laws.Course
+finished_if outside time used c = record c {
+  shown = if outside then all_shown c.shown c.end else c.shown;
+  end = if outside then Some (time, used) else c.end;
+}

@@ -6,9 +6,11 @@ use Rattle.ada_tree.specs.Programs.{Program}
 use Rattle.guarantee.specs.Software.{Task, params_of, program_software}
 use Rattle.guarantee.specs.Events.{Event, By, Horizon}
 use Rattle.script_laws.specs.Progress as laws
-use Rattle.script_laws.specs.Progress.{after_deed, all_shown, is_good, with_last}
+use Rattle.script_laws.specs.Progress.{after_deed, all_shown, is_good, step_on, with_last}
 use Rattle.trace_scripts.specs.Scripts.{shown_of}
 use Rattle.trace_scripts.specs.declared.progress.Course.{Course}
+use Rattle.trace_scripts.specs.declared.progress.Progress.{Progress}
+use Rattle.trace_scripts.specs.declared.progress.Progress.TheVariants.{Idle, Active, Astray}
 use Rattle.trace_scripts.specs.declared.progress.Thread.{Thread}
 
 abbrev pub course_of : Course → laws.Course
@@ -65,3 +67,15 @@ finished_if outside time used c = record c {
   shown = if outside then all_shown c.shown c.end else c.shown;
   end = if outside then Some (time, used) else c.end;
 }
+
+-- how far a thread is
+abbrev pub progress_of : Progress → laws.Progress
+progress_of (Idle env) = laws.Idle env.slots.items
+progress_of (Active env course) = laws.Active env.slots.items (course_of course)
+progress_of Astray = laws.Astray
+
+-- after one of its own events
+abbrev pub step_by : Program → ℕ → Task → Bool → ℕ × ℕ → Event → laws.Progress → laws.Progress
+step_by p depth t good charge (By time task deed) s =
+    step_on (program_software p) depth t (is_good (λ object. good) deed) charge time deed s
+step_by p depth t good charge (Horizon time) s = s

@@ -9,10 +9,10 @@ ghost use Rattle.block_follow.specs.Bounds.{most_ticks};
 ghost use Rattle.guarantee.specs.Events.{named_event};
 ghost use Rattle.guarantee.specs.Software.{Task, leads_to};
 ghost use Rattle.trace_tree.specs.Placed.{IsPlaced};
-ghost use Rattle.script_laws.specs.Progress.{all_shown, course_from, ends_by, left_by_course, with_last};
+ghost use Rattle.script_laws.specs.Progress.{again_by, all_shown, course_from, ends_by, left_by_course, with_last};
 ghost use Rattle.trace_scripts.specs.Objects.{charge_of};
 ghost use Rattle.trace_scripts.specs.Scenes.{IsScene, calls_of, software_of};
-ghost use Rattle.trace_scripts.specs.Threads.{IsOf, after_event, charged_by, course_of, entered_if, finished_if, left_if, seen_if};
+ghost use Rattle.trace_scripts.specs.Threads.{IsOf, after_event, charged_by, course_of, entered_if, finished_if, left_if, progress_of, seen_if};
 
 use crate::actions::action;
 use crate::data::{add_all, add_params, keep};
@@ -286,5 +286,26 @@ impl Course {
             Event::Horizon { .. } => {}
         }
         Ok(())
+    }
+}
+
+/// How far a thread is.
+#[derive(Drop)]
+pub(crate) enum Progress {
+    /// It was not released, and its data are these.
+    Idle(Env),
+    /// It runs from these data.
+    Active(Env, Course),
+    /// Its steps are no activations.
+    Astray,
+}
+
+/// The next activation, from the data that the one before left.
+fn again(alloc: Global, time: u64, value: Option<u32>, left: Option<Env>) -> Progress
+    ensures { progress_of result ≡ again_by time value (option_map (λ e. e.slots.items) left) }
+{
+    match left {
+        None => Progress::Astray,
+        Some(env) => Progress::Active(env, Course::begin(alloc, time, value)),
     }
 }

@@ -5,8 +5,8 @@ use Rattle.std.proofs.lemmas.List.{map-append}
 use Rattle.std.proofs.lemmas.List.Sums.{fold-append}
 use Rattle.std.proofs.lemmas.Grind.{reverse_onto}
 use Rattle.seq_tree.specs.Runs as runs
-use Rattle.block_follow.specs.declared.action.Action.{Action}
-use Rattle.block_follow.specs.Actions.{action_of}
+use Rattle.seq_eval.specs.declared.action.Action.{Action}
+use Rattle.seq_eval.specs.Actions.{action_of}
 use Rattle.script_laws.specs.Entries.{Shown, shown_at}
 use Rattle.script_laws.specs.Progress.{with_last}
 use Rattle.trace_laws.specs.Checks.{both}

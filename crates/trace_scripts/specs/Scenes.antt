@@ -10,8 +10,8 @@ use Rattle.ada_tree.specs.Programs.{Program, Form, Passive, Shared, Cyclic, Spor
 use Rattle.ada_tree.specs.Rules.{MeetsRules}
 use Rattle.ada_tree.specs.Trees.{program_of}
 use Rattle.guarantee.specs.Software.{Software, program_software, leads_to}
-use Rattle.block_follow.specs.Bounds.{most_ticks}
-use Rattle.block_follow.specs.Following.{callees}
+use Rattle.seq_eval.specs.Bounds.{most_ticks}
+use Rattle.seq_eval.specs.Following.{callees}
 use Rattle.trace_scripts.specs.declared.walks.Scene.{Scene}
 use Rattle.trace_scripts.specs.declared.walks.Walked.{Walked}
 use Rattle.trace_scripts.specs.declared.walks.Walked.TheVariants.{Ran, Begun, Astray}

@@ -7,7 +7,7 @@ use Rattle.ada_tree.specs.Programs.{Form, Unit, Program, Passive, Shared, Cyclic
 use Rattle.guarantee.specs.Software.{program_software}
 use Rattle.guarantee.specs.Events.{Event, By, Horizon}
 use Rattle.trace_laws.specs.Checks.{action_of}
-use Rattle.block_follow.specs.Actions as trees
+use Rattle.seq_eval.specs.Actions as trees
 use Rattle.script_laws.specs.Entries.{Shown}
 use Rattle.trace_scripts.specs.declared.scripts.Script.{Script}
 

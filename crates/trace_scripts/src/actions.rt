@@ -1,14 +1,14 @@
 ghost use Rattle.std.specs.Prelude.{◌≡◌, IfOk, option_map};
 ghost use Rattle.ada_tree.specs.Rules.{MeetsRules};
 ghost use Rattle.ada_tree.specs.Trees.{form_of, program_of};
-ghost use Rattle.block_follow.specs.Actions.{action_of};
+ghost use Rattle.seq_eval.specs.Actions.{action_of};
 ghost use Rattle.guarantee.specs.Events.{named_event};
 ghost use Rattle.trace_tree.specs.Placed.{IsPlaced};
 ghost use Rattle.trace_scripts.specs.Scripts.{action_by, asked_name};
 
 use crate::names::{copy_op, unit_at};
 use ada_tree::{AdaProgram, Form, Unit};
-use block_follow::Action;
+use seq_eval::Action;
 use seq_tree::{Name, NoMemory, OpName};
 use std::alloc::Global;
 use trace_tree::{Event, Values};

@@ -1,11 +1,11 @@
 ghost use Rattle.std.specs.Prelude.{◌≡◌, ◌∷◌, [], IfOk, OnOk, Some, drop, option_map};
-ghost use Rattle.block_follow.specs.Actions.{action_of};
+ghost use Rattle.seq_eval.specs.Actions.{action_of};
 ghost use Rattle.script_laws.specs.Entries.{shown_at};
 ghost use Rattle.script_laws.specs.Progress.{with_last};
 ghost use Rattle.trace_laws.specs.Checks.{both};
 ghost use Rattle.trace_scripts.specs.Scripts.{back_of, levels_of, shown_of};
 
-use block_follow::Action;
+use seq_eval::Action;
 use seq_tree::NoMemory;
 use std::alloc::Global;
 

@@ -3,7 +3,7 @@ ghost use Rattle.seq_tree.specs.Names.{same_name};
 ghost use Rattle.seq_tree.specs.Trees.{block_of, operation_of};
 ghost use Rattle.ods_tree.specs.Flats.{Guarded};
 ghost use Rattle.block_walks.specs.Fit.{MayRun};
-ghost use Rattle.block_follow.specs.Bounds.{most_ticks};
+ghost use Rattle.seq_eval.specs.Bounds.{most_ticks};
 ghost use Rattle.guarantee.specs.Software.{leads_to};
 ghost use Rattle.script_laws.specs.Services.{charge_by, charge_in, entered_in, inside_by, is_sound, last_by, left_in};
 ghost use Rattle.trace_laws.specs.Checks.{begins_along, op_named, run_along};

@@ -1,7 +1,7 @@
 ghost use Rattle.std.specs.Prelude.{◌≡◌, ◌≤◌, ℕ, IfOk};
 ghost use Rattle.seq_tree.specs.Trees.{block_of};
 ghost use Rattle.block_walks.specs.Fit.{MayRun};
-ghost use Rattle.block_follow.specs.Bounds.{most_ticks};
+ghost use Rattle.seq_eval.specs.Bounds.{most_ticks};
 ghost use Rattle.guarantee.specs.Software.{leads_to};
 ghost use Rattle.trace_laws.specs.Checks.{begins_along, run_along};
 ghost use Rattle.trace_scripts.specs.Scripts.{shown_of};
@@ -9,7 +9,7 @@ ghost use Rattle.trace_scripts.specs.Scenes.{IsScene, IsWalk, calls_of, software
 
 use crate::scripts::Script;
 use ada_tree::AdaProgram;
-use block_follow::{Followed, follow};
+use seq_eval::{Followed, follow};
 use seq_eval::Env;
 use seq_tree::{Block, Callable, Name, NoMemory, OpText};
 use std::alloc::Global;

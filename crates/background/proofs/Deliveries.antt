@@ -1,6 +1,6 @@
 -- What is made of a design as it is written, from what is made of the flat design of its hard part; and the refusals of the steps before.
 use Rattle.std.specs.Prelude.{◌≡◌, ℕ, suc, ◌+◌, ◌≤◌, ◌<◌, Bool, true, false, List, [], ◌∷◌, ◌++◌, length, slice_get, filter_map, Option, Some, None, Result, Ok, Err}
-use Rattle.std.specs.Prelude.{option_to_list, refl}
+use Rattle.std.specs.Prelude.{refl}
 use Rattle.std.specs.List.{list_any, cons_option}
 use Rattle.std.proofs.Common.{sym, ap, subst, ◌∙◌, arith, map}
 use Rattle.std.proofs.lemmas.List.Elements.{filter_map-append}
@@ -46,8 +46,8 @@ use Rattle.ods_tree.proofs.TickLaws.{ticks-version}
 use Rattle.rt_response.specs.Rounds.{IsMiss}
 use Rattle.background_texts.proofs.BackgroundTexts.{text-guaranteed}
 use Rattle.background.specs.Delivers.{DeliversBackground, IsRefusedInBackground, IsBackgroundOf, IsToldFirst}
-use Rattle.background.specs.Fronts.{front_rows, slow_requests, restless_text, restless_bounds}
-use Rattle.background.specs.Makes.{Makes, IsMade, IsRefused}
+use Rattle.background.specs.Fronts.{front_rows, slow_requests}
+use Rattle.background.specs.Makes.{Makes, IsMade}
 use Rattle.background.specs.Told as told
 use Rattle.background.specs.Told.{misfit_of, refusal_by}
 use Rattle.background.specs.declared.delivery.Background.{Background}

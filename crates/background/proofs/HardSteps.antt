@@ -1,5 +1,5 @@
 -- Objects that are made hard in their place: their kinds and attributes first, then their operations and the objects inside them.
-use Rattle.std.proofs.Common.{◌≡◌, ℕ, Bool, true, false, List, [], ◌∷◌, map, length, option_map, Vec, refl, sym, ap, ap₂, ◌∙◌, arith}
+use Rattle.std.proofs.Common.{◌≡◌, Bool, true, false, List, [], ◌∷◌, map, length, option_map, Vec, refl, sym, ap, ap₂, ◌∙◌, arith}
 use Rattle.std.specs.Prelude.{if◌then◌else◌}
 use Rattle.std.specs.declared.alloc.Global.{Global}
 use Rattle.std.proofs.lemmas.List.{length-map, with_items_is}
@@ -7,17 +7,14 @@ use Rattle.std.specs.Vec.{with_items}
 use Rattle.seq_tree.specs.Trees.{block_of}
 use Rattle.ods_tree.specs.Designs.{Object, Tree, Trees, Node, Empty, With}
 use Rattle.ods_tree.specs.Trees.{provided_of, body_of, trees_of, node_layer, tree_of}
-use Rattle.ods_tree.specs.Walk.{is_empty, roots}
-use Rattle.ods_tree.specs.declared.design.Attr.{Attr}
-use Rattle.ods_tree.specs.declared.design.Kind.{Kind}
+use Rattle.ods_tree.specs.Walk.{is_empty}
 use Rattle.ods_tree.specs.declared.design.Kind.TheVariants as kind
 use Rattle.ods_tree.specs.declared.design.Provided as provided
 use Rattle.ods_tree.specs.declared.design.Node as nodes
 use Rattle.ods_tree.specs.declared.design.Node.{Node-F, out-Node, roll-Node, fold-roll-Node, fold_out-Node}
-use Rattle.ods_index.specs.Walking.{object_of, inside}
-use Rattle.ods_index.proofs.WalkSteps.{own_fields}
+use Rattle.ods_index.specs.Walking.{inside}
 use Rattle.background_designs.specs.Clients.{is_client, is_server}
-use Rattle.background_designs.specs.HardParts.{soft_operation, soft_object, hard_object, hard_tree, hard_trees}
+use Rattle.background_designs.specs.HardParts.{soft_operation, soft_object, hard_tree, hard_trees}
 use Rattle.background.specs.Hardening.{client_attributes, retyped_object, retyped}
 
 -- the operations of an object, and the objects inside it, made hard

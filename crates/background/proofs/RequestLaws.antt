@@ -1,9 +1,9 @@
 -- The first requests of slow threads, read off the table of a sound flat design.
-use Rattle.std.specs.Prelude.{◌≡◌, ℕ, zero, suc, ◌-◌, ◌≤◌, ◌==◌, ◌&&◌, Bool, true, false, List, [], ◌∷◌, map, filter, filter_map, find, length}
+use Rattle.std.specs.Prelude.{◌≡◌, ℕ, suc, ◌-◌, ◌≤◌, ◌==◌, ◌&&◌, Bool, true, false, List, [], ◌∷◌, map, filter, filter_map, find, length}
 use Rattle.std.specs.Prelude.{slice_get, Option, Some, None, option_map, option_and_then, if◌then◌else◌, refl}
 use Rattle.std.proofs.Common.{sym, ◌∙◌, ap, arith}
 use Rattle.std.proofs.lemmas.Bool.{true≢false}
-use Rattle.std.proofs.lemmas.Option.{same_Some, none-some}
+use Rattle.std.proofs.lemmas.Option.{same_Some}
 use Rattle.ods_tree.specs.Flats.{Thread, Flat}
 use Rattle.ods_tree.specs.Services.{flat_services}
 use Rattle.rt_response.specs.declared.rows.ThreadRow.{ThreadRow}
@@ -13,7 +13,7 @@ use Rattle.analysis.specs.Starts.{can_request}
 use Rattle.analysis.specs.Tables.{downwards, row_of, starter_of, table}
 use Rattle.design_programs.proofs.PriorityLists.{Entry, entry_by, entries, row_entry, rows-are, position-is}
 use Rattle.design_programs.proofs.PriorityPlaces.{entry-at}
-use Rattle.design_programs.proofs.TabledPrograms.{long, in-range, alone, all-entries}
+use Rattle.design_programs.proofs.TabledPrograms.{in-range, alone, all-entries}
 use Rattle.program_calls.proofs.Places.{map-at}
 use Rattle.ods_index.specs.Judging.{head_of}
 use Rattle.ods_names.proofs.NeedSteps.{head_filter}

@@ -1,7 +1,7 @@
-use Rattle.std.proofs.Common.{◌≡◌, ◌-◌, ◌≤◌, ◌<◌, ℕ, length, map, refl, sym, ap, subst, ◌∙◌, arith}
+use Rattle.std.proofs.Common.{◌≡◌, ◌-◌, ◌≤◌, ◌<◌, ℕ, length, sym, ap, subst, ◌∙◌, arith}
 use Rattle.std.proofs.lemmas.List.{length-map}
 use Rattle.seq_tree.specs.Lists.{Each}
-use Rattle.ods_tree.specs.Trees.{flat_of, guarded_of, thread_of}
+use Rattle.ods_tree.specs.Trees.{flat_of, thread_of}
 use Rattle.analysis.specs.Ceilings.{ranks, Ranks}
 use Rattle.analysis.specs.Trees.{ranks_of, table_of}
 use Rattle.background_designs.specs.Programs.{raised}

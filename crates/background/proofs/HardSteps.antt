@@ -68,10 +68,15 @@ hard-parts n ps ks ops kids =
     ap (map provided_of) (overwritten (out-Node n).provides ps (same_length provided_of soft_operation ps (out-Node n).provides.items ops)) ∙ ops in
     let other : map tree_of (with_items (out-Node n).children ks).items ≡ map hard_tree (map tree_of (out-Node n).children.items) =
     ap (map tree_of) (overwritten (out-Node n).children ks (same_length tree_of hard_tree ks (out-Node n).children.items kids)) ∙ kids in
-    fold-roll-Node Tree node_layer (record (out-Node n) { provides = with_items (out-Node n).provides ps; children = with_items (out-Node n).children ks })
+    fold-roll-Node Tree node_layer (record (out-Node n) {
+      provides = with_items (out-Node n).provides ps;
+      children = with_items
+          (out-Node n).children ks;
+    })
     ∙ ap (λ qs. Node (with_ops qs) (trees_of (map tree_of (with_items (out-Node n).children ks).items))) one
     ∙ ap (λ ts. Node (with_ops (map soft_operation (map provided_of (out-Node n).provides.items))) (trees_of ts)) other
-    ∙ ap (λ us. Node (with_ops (map soft_operation (map provided_of (out-Node n).provides.items))) us) (all-hard (map tree_of (out-Node n).children.items))
+    ∙ ap (λ us. Node (with_ops (map soft_operation (map provided_of (out-Node n).provides.items))) us) (all-hard (map tree_of
+    (out-Node n).children.items))
     ∙ sym (ap made_hard (fold_out-Node Tree node_layer n))
 
 -- the same where the operations were made so before the children of an object that has some

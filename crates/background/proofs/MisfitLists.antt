@@ -1,5 +1,6 @@
 -- The lists of misfits, object by object, and the first of lists one after another.
-use Rattle.std.specs.Prelude.{◌≡◌, Bool, true, false, not, ◌&&◌, ◌||◌, List, [], ◌∷◌, ◌++◌, map, filter, filter_map, flat_map, find, Option, Some, None}
+use Rattle.std.specs.Prelude.{◌≡◌, Bool, true, false, not, ◌&&◌, ◌||◌, List, [], ◌∷◌, ◌++◌, map, filter, filter_map, flat_map, find, Option, Some}
+use Rattle.std.specs.Prelude.{None}
 use Rattle.std.specs.Prelude.{Result, option_map, if◌then◌else◌, refl}
 use Rattle.std.specs.List.{cons_option}
 use Rattle.std.proofs.Common.{sym, ◌∙◌, ap, subst}
@@ -37,9 +38,6 @@ given-passed test b f (x ∷ xs) = by (test x) (given-passed test b f xs)
 -- objects by themselves
 shapes : (x : Design) → misfit_actives x ≡ bad_objects Shape (objects x)
 shapes x = given-passed is_terminal is_misfit (λ s. A1 s.own.name) (objects x)
-
-services : (x : Design) → foreign_servers x ≡ bad_objects Service (objects x)
-services x = refl
 
 -- those of a list that pass a test, by what is told of them
 told-through : {A B C : Type 0} (g : A → B) (test : B → Bool) (f : B → C) (xs : List A)

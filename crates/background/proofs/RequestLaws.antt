@@ -98,7 +98,8 @@ module _ (f : Flat) where
 -- the first of all requests is that of the first thread of which something is told
 pub requests-first : (f : Flat) → head_of (filter_map (request_fault f) f.threads) ≡ head_of (slow_requests f)
 requests-first f =
-    sym (first-passed is_slow (λ c. map (λ t. A6 c.name t.name) (filter (λ t. is_sporadic t.timing && can_request (flat_services f) t.name c.block) f.threads))
+    sym (first-passed is_slow (λ c. map (λ t. A6 c.name t.name) (filter (λ t. is_sporadic t.timing && can_request
+    (flat_services f) t.name c.block) f.threads))
     (λ c. option_map (λ t. A6 c.name t.name) (first_requested f c)) f.threads
     (λ c. head_filter (λ t. A6 c.name t.name) (λ t. is_sporadic t.timing && can_request (flat_services f) t.name c.block) f.threads))
 
@@ -131,5 +132,6 @@ module _ (f : Flat) (place row : ℕ) (t : Thread) (stands : slice_get f.threads
   )
 
   -- what is told of a slow thread whose row this is
-  pub told-row : IsSound f → is_slow t ≡ true → (o : Option Thread) → o ≡ first_started f row → request_fault f t ≡ option_map (λ s. A6 t.name s.name) o
+  pub told-row : IsSound f → is_slow t ≡ true → (o : Option Thread) → o ≡ first_started f row
+      → request_fault f t ≡ option_map (λ s. A6 t.name s.name) o
   told-row sound slow o e = told-by-row f sound place from.0 t stands from.1 slow o (e ∙ ap (first_started f) from.2)

@@ -1,6 +1,6 @@
 -- What an activation leaves, by what the walk of its block answers.
-use Rattle.std.proofs.Common.{◌≡◌, ◌+◌, ℕ, Bool, true, false, ◌&&◌, ◌||◌, not, List, Option, Some, None, refl, sym, ap, ◌∙◌, append-nil, arith, subst, ◌++◌}
-use Rattle.std.specs.Prelude.{is_some, nat_le, option_map, option_to_list, if◌then◌else◌}
+use Rattle.std.proofs.Common.{◌≡◌, ◌+◌, ◌-◌, suc, ℕ, Bool, true, false, ◌&&◌, ◌||◌, not, List, Option, Some, None, refl, sym, ap, ◌∙◌, append-nil, arith, subst, ◌++◌}
+use Rattle.std.specs.Prelude.{◌==◌, is_some, nat_le, option_map, option_to_list, if◌then◌else◌}
 use Rattle.seq_tree.specs.Runs.{Path}
 use Rattle.seq_tree.specs.Variables.{Variables, entered, kept}
 use Rattle.guarantee.specs.Software.{Software, Task}
@@ -13,7 +13,17 @@ use Rattle.seq_tree.specs.Trees.{block_of}
 use Rattle.seq_eval.specs.declared.env.Env.{Env}
 use Rattle.trace_scripts.specs.declared.progress.Thread.{Thread}
 use Rattle.trace_scripts.specs.Scenes.{IsWalk}
-use Rattle.trace_scripts.specs.Threads.{IsOf, charged_by}
+use Rattle.trace_scripts.specs.Threads.{IsOf, after_event, charged_by, entered_if, finished_if, left_if, seen_if}
+use Rattle.trace_scripts.specs.Scripts.{action_by}
+use Rattle.script_laws.specs.Entries.{Shown}
+use Rattle.script_laws.specs.Progress.{after_deed}
+use Rattle.seq_tree.specs.Names.{Name}
+use Rattle.seq_tree.specs.Runs as runs
+use Rattle.seq_tree.specs.declared.tree.OpName.{OpName}
+use Rattle.ada_tree.specs.Programs.{Program}
+use Rattle.guarantee.specs.Software.{program_software}
+use Rattle.guarantee.specs.Events.{Deed, Release, Arrive, Enter, Leave, Request, Print, End, Stop, By}
+use Rattle.trace_laws.specs.Checks.{action_of}
 use Rattle.trace_scripts.specs.declared.walks.Walked.{Walked}
 use Rattle.trace_scripts.specs.declared.walks.Walked.TheVariants.{Ran, Begun, Astray}
 
@@ -99,3 +109,67 @@ ends-some w depth t c data' left h some =
     by : (e : Option (ℕ × ℕ)) → is_some e ≡ true → is_some (left_by_course w depth t data' c) ≡ ends_by w depth t data' c e
     by None k = absurd (cc)
     by (Some f) k = refl
+
+-- ONE DEED
+same-course : (c : laws.Course) (shown : Shown) (end' : Option (ℕ × ℕ)) (depth depth' : ℕ) (among among' : Bool) (low low' high high' : ℕ)
+    → depth ≡ depth' → among ≡ among' → low ≡ low' → high ≡ high'
+    → (let k : laws.Course = record c { shown = shown; end = end'; depth = depth; among = among; low = low; high = high } in k)
+    ≡ record c { shown = shown; end = end'; depth = depth'; among = among'; low = low'; high = high' }
+same-course c shown end' depth depth' among among' low low' high high' e f g h =
+    let F : ℕ → Bool → ℕ → ℕ → laws.Course = λ d a l m. record c { shown = shown; end = end'; depth = d; among = a; low = l; high = m } in
+    ap (λ d. F d among low high) e ∙ ap (λ a. F depth' a low high) f ∙ ap (λ l. F depth' among' l high) g ∙ ap (F depth' among' low') h
+
+pub plain-course : (c : laws.Course) (shown : Shown) (end' : Option (ℕ × ℕ)) (depth : ℕ)
+    → (let k : laws.Course = record c { shown = shown; end = end'; depth = depth } in k)
+    ≡ record c { shown = shown; end = end'; depth = depth; among = c.among && true; low = c.low + 0; high = c.high + 0 }
+plain-course c shown end' depth =
+    same-course c shown end' depth depth c.among (c.among && true) c.low (c.low + 0) c.high (c.high + 0) refl (sym (and-true c.among))
+    (sym (plus-none c.low)) (sym (plus-none c.high))
+
+pub enter-deed : (p : Program) (time : ℕ) (task : Name) (name : OpName) (values : List ℕ) (a : Option runs.Action) (good : Bool) (charge : ℕ × ℕ)
+    (c : laws.Course) → a ≡ action_by p (By time task (Enter name values))
+    → entered_if a good charge c ≡ after_event p good charge (By time task (Enter name values)) c
+enter-deed p time task name values a good charge c e =
+    ap (λ z. entered_if z good charge c) e ∙ by good
+  where
+    w : Software
+    w = program_software p
+
+    one : (n : ℕ) → n + 1 ≡ suc n
+    one n = omega arith
+
+    by : (b : Bool) → entered_if (action_of w (Enter name values)) b charge c ≡ after_deed w b charge time (Enter name values) c
+    by true = same-course c _ _ (c.depth + 1) (suc c.depth) (c.among && true) (c.among && true) (c.low + charge.0) (c.low + charge.0)
+        (c.high + charge.1) (c.high + charge.1) (one c.depth) refl refl refl
+    by false = same-course c _ _ (c.depth + 1) (suc c.depth) (c.among && false) (c.among && false) (c.low + 0) (c.low + 0) (c.high + 0) (c.high + 0)
+        (one c.depth) refl refl refl
+
+pub leave-deed : (p : Program) (time : ℕ) (task : Name) (name : OpName) (values : List ℕ) (a : Option runs.Action) (good : Bool) (charge : ℕ × ℕ)
+    (c : laws.Course) → a ≡ action_by p (By time task (Leave name values))
+    → left_if a c ≡ after_event p good charge (By time task (Leave name values)) c
+leave-deed p time task name values a good charge c e =
+    ap (λ z. left_if z c) e ∙ plain-course c _ _ (c.depth - 1)
+
+pub end-deed : (p : Program) (time : ℕ) (task : Name) (used : ℕ) (good : Bool) (charge : ℕ × ℕ) (c : laws.Course)
+    → finished_if (c.depth == 0) time used c ≡ after_event p good charge (By time task (End used)) c
+end-deed p time task used good charge c = plain-course c _ _ c.depth
+
+abbrev pub is_plain_deed : Deed → Bool
+is_plain_deed (Enter name values) = false
+is_plain_deed (Leave name values) = false
+is_plain_deed (End used) = false
+is_plain_deed _ = true
+
+pub plain-deed : (p : Program) (time : ℕ) (task : Name) (deed : Deed) (a : Option runs.Action) (good : Bool) (charge : ℕ × ℕ) (c : laws.Course)
+    → is_plain_deed deed ≡ true → a ≡ action_by p (By time task deed)
+    → seen_if (c.depth == 0) a c ≡ after_event p good charge (By time task deed) c
+plain-deed p time task (Release v) a good charge c k e = ap (λ z. seen_if (c.depth == 0) z c) e ∙ plain-course c _ _ c.depth
+plain-deed p time task (Arrive v) a good charge c k e = ap (λ z. seen_if (c.depth == 0) z c) e ∙ plain-course c _ _ c.depth
+plain-deed p time task (Enter name values) a good charge c k e = absurd (cc)
+plain-deed p time task (Leave name values) a good charge c k e = absurd (cc)
+plain-deed p time task (Request target v) a good charge c k e = ap (λ z. seen_if (c.depth == 0) z c) e ∙ plain-course c _ _ c.depth
+plain-deed p time task (Print v) a good charge c k e = ap (λ z. seen_if (c.depth == 0) z c) e ∙ plain-course c _ _ c.depth
+plain-deed p time task (End used) a good charge c k e = absurd (cc)
+plain-deed p time task (Stop object priority ceiling) a good charge c k e = ap (λ z. seen_if (c.depth == 0) z c) e ∙ plain-course c _ _ c.depth
+
+pub ruleset step_steps = (enter-deed, leave-deed, end-deed, plain-deed)

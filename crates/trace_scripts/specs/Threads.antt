@@ -1,14 +1,16 @@
 -- How far a thread is, as the code holds it, and what a step changes of it.
-use Rattle.std.specs.Prelude.{◌≡◌, ◌+◌, ◌&&◌, ◌||◌, ◌-◌, ◌==◌, ℕ, Bool, Option, None, nat_le, not, if◌then◌else◌}
+use Rattle.std.specs.Prelude.{◌≡◌, ◌+◌, ◌&&◌, ◌||◌, ◌-◌, ◌==◌, ℕ, Bool, Option, Some, None, nat_le, not, if◌then◌else◌}
 use Rattle.seq_tree.specs.Runs as runs
 use Rattle.seq_tree.specs.Trees.{block_of}
 use Rattle.ada_tree.specs.Programs.{Program}
 use Rattle.guarantee.specs.Software.{Task, params_of, program_software}
 use Rattle.guarantee.specs.Events.{Event, By, Horizon}
 use Rattle.script_laws.specs.Progress as laws
-use Rattle.script_laws.specs.Progress.{after_deed, all_shown, with_last}
+use Rattle.script_laws.specs.Progress.{after_deed, all_shown, is_good, step_on, with_last}
 use Rattle.trace_scripts.specs.Scripts.{shown_of}
 use Rattle.trace_scripts.specs.declared.progress.Course.{Course}
+use Rattle.trace_scripts.specs.declared.progress.Progress.{Progress}
+use Rattle.trace_scripts.specs.declared.progress.Progress.TheVariants.{Idle, Active, Astray}
 use Rattle.trace_scripts.specs.declared.progress.Thread.{Thread}
 
 abbrev pub course_of : Course → laws.Course
@@ -29,9 +31,9 @@ pub record IsOf (t : Task) (h : Thread) : Type 0 where
   pub vars : t.vars ≡ h.vars.now
   pub block : t.block ≡ block_of h.block.now
 
--- an activation after an event of its thread
+-- an activation after an event of its thread; the truth value says whether the object is served, where the event enters one
 abbrev pub after_event : Program → Bool → ℕ × ℕ → Event → laws.Course → laws.Course
-after_event p good charge (By time task deed) c = after_deed (program_software p) good charge time deed c
+after_event p good charge (By time task deed) c = after_deed (program_software p) (is_good (λ object. good) deed) charge time deed c
 after_event p good charge (Horizon time) c = c
 
 -- whether the ticks of an activation are right: within the time since its release, and between the bounds where they are asked
@@ -58,3 +60,22 @@ entered_if a good charge c = record (seen_if (c.depth == 0) a c) {
 -- after an exit
 abbrev pub left_if : Option runs.Action → laws.Course → laws.Course
 left_if a c = record (seen_if (c.depth - 1 == 0) a c) { depth = c.depth - 1 }
+
+-- after an end
+abbrev pub finished_if : Bool → (time used : ℕ) → laws.Course → laws.Course
+finished_if outside time used c = record c {
+  shown = if outside then all_shown c.shown c.end else c.shown;
+  end = if outside then Some (time, used) else c.end;
+}
+
+-- how far a thread is
+abbrev pub progress_of : Progress → laws.Progress
+progress_of (Idle env) = laws.Idle env.slots.items
+progress_of (Active env course) = laws.Active env.slots.items (course_of course)
+progress_of Astray = laws.Astray
+
+-- after one of its own events
+abbrev pub step_by : Program → ℕ → Task → Bool → ℕ × ℕ → Event → laws.Progress → laws.Progress
+step_by p depth t good charge (By time task deed) s =
+    step_on (program_software p) depth t (is_good (λ object. good) deed) charge time deed s
+step_by p depth t good charge (Horizon time) s = s

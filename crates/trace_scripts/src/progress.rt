@@ -9,10 +9,10 @@ ghost use Rattle.block_follow.specs.Bounds.{most_ticks};
 ghost use Rattle.guarantee.specs.Events.{named_event};
 ghost use Rattle.guarantee.specs.Software.{Task, leads_to};
 ghost use Rattle.trace_tree.specs.Placed.{IsPlaced};
-ghost use Rattle.script_laws.specs.Progress.{all_shown, course_from, ends_by, left_by_course, with_last};
+ghost use Rattle.script_laws.specs.Progress.{again_by, all_shown, course_from, ends_by, left_by_course, with_last};
 ghost use Rattle.trace_scripts.specs.Objects.{charge_of};
 ghost use Rattle.trace_scripts.specs.Scenes.{IsScene, calls_of, software_of};
-ghost use Rattle.trace_scripts.specs.Threads.{IsOf, charged_by, course_of, entered_if, left_if, seen_if};
+ghost use Rattle.trace_scripts.specs.Threads.{IsOf, after_event, charged_by, course_of, entered_if, finished_if, left_if, progress_of, seen_if};
 
 use crate::actions::action;
 use crate::data::{add_all, add_params, keep};
@@ -247,5 +247,65 @@ impl Course {
     {
         self.depth = self.depth.saturating_sub(1);
         self.see(self.depth == 0, action)
+    }
+
+    /// Adds an end.
+    fn end(&mut self, outside: bool, time: u64, used: u64)
+        ensures { course_of self.new ≡ finished_if outside time used (course_of self.old) }
+    {
+        if outside {
+            self.finish(time, used);
+        }
+    }
+
+    /// Adds an event of the thread, with the ticks of the way through the operation that it enters, and whether the object is served.
+    #[tactic(auto, using(crate::proofs::Coursing::step_steps))]
+    pub fn step(
+        &mut self,
+        alloc: Global,
+        program: &AdaProgram,
+        event: &Event,
+        good: bool,
+        charge: Charge,
+    ) -> Result<(), NoMemory>
+        requires rules { MeetsRules (program_of program.now) }
+        requires placed { IsPlaced (program_of program.now) event.now }
+        ensures { OnOk result (course_of self.new
+            ≡ after_event (program_of program.now) good (charge_of charge) (named_event (program_of program.now) event.now) (course_of self.old)) }
+    {
+        let shown = action(alloc, program, event)?;
+        match event {
+            Event::Enter { .. } => self.enter(shown, good, charge)?,
+            Event::Leave { .. } => self.leave(shown)?,
+            Event::End { time, used, .. } => self.end(self.depth == 0, *time, *used),
+            Event::Release { .. } => self.see(self.depth == 0, shown)?,
+            Event::Arrive { .. } => self.see(self.depth == 0, shown)?,
+            Event::Request { .. } => self.see(self.depth == 0, shown)?,
+            Event::Print { .. } => self.see(self.depth == 0, shown)?,
+            Event::Stop { .. } => self.see(self.depth == 0, shown)?,
+            Event::Horizon { .. } => {}
+        }
+        Ok(())
+    }
+}
+
+/// How far a thread is.
+#[derive(Drop)]
+pub(crate) enum Progress {
+    /// It was not released, and its data are these.
+    Idle(Env),
+    /// It runs from these data.
+    Active(Env, Course),
+    /// Its steps are no activations.
+    Astray,
+}
+
+/// The next activation, from the data that the one before left.
+fn again(alloc: Global, time: u64, value: Option<u32>, left: Option<Env>) -> Progress
+    ensures { progress_of result ≡ again_by time value (option_map (λ e. e.slots.items) left) }
+{
+    match left {
+        None => Progress::Astray,
+        Some(env) => Progress::Active(env, Course::begin(alloc, time, value)),
     }
 }

@@ -23,11 +23,13 @@ use Rattle.analysis.specs.Sound.{IsSound, IsSpaced}
 use Rattle.analysis.specs.Tables.{table}
 use Rattle.guarantee.specs.Software.{program_software}
 use Rattle.guarantee.specs.Events.{named}
+use Rattle.guarantee.specs.Events as names
+use Rattle.guarantee.specs.Requests.{AreTold}
 use Rattle.guarantee.specs.Arrivals.{named_arrivals, AreKept, KeepsSeparations}
-use Rattle.guarantee.specs.Allowed.{Permits, Allows}
+use Rattle.guarantee.specs.Allowed.{DoesAsWritten, IsPeriodic, IsRequested, Permits, Allows}
 use Rattle.guarantee.specs.Bounded.{IsBounded}
 use Rattle.guarantee.specs.Guaranteed.{IsRight, Guaranteed}
-use Rattle.guarantee.specs.MachineLaw.{IsReadable}
+use Rattle.guarantee.specs.MachineLaw.{NeverStops, IsReadable}
 use Rattle.guarantee.specs.Programs.{program, responses}
 use Rattle.guarantee.specs.ResponseLaw.{Ranked, ranked, AreTabled, times_of}
 
@@ -38,6 +40,21 @@ TabledRunsAreRight limit =
     → IsReadable p → AreTabled p ts rows → Each (λ u. (i : ℕ) × (slice_get ts i ≡ Some u)) (ranked p) → Fits rows v → IsAccepted limit p r
     → Meaning p r trace
     → Permits (program_software p) (named_arrivals p r) (named p trace) × IsBounded (times_of ts v) r.until (named p trace)
+
+-- a trace of a run, by names, of which tasks stand in a table: it does as written, arrivals are told as they come, and each of these tasks is
+-- released on time, has its requests served, and responds within its bound
+pub record ServesTable (p : Program) (ts : List Ranked) (v : List Bound) (r : Arrivals) (trace : List names.Event) : Type 0 where
+  pub quiet : NeverStops trace
+  pub written : DoesAsWritten (program_software p) r.until trace
+  pub arrivals : AreTold r.until (named_arrivals p r).items trace
+  pub served : Each (λ t. IsPeriodic r.until trace t.task.name t.task.timing × IsRequested trace t.task.name t.task.timing) ts
+  pub bounded : IsBounded (times_of ts v) r.until trace
+
+-- every run of a program, some of whose tasks stand in a table that fits, serves these tasks, whatever the others do
+abbrev pub TabledTasksAreServed : ℕ → Type 0
+TabledTasksAreServed limit =
+    (p : Program) (ts : List Ranked) (rows : List ThreadRow) (v : List Bound) (r : Arrivals) (trace : List Event)
+    → IsReadable p → AreTabled p ts rows → Fits rows v → IsAccepted limit p r → Meaning p r trace → ServesTable p ts v r (named p trace)
 
 -- arrivals are accepted for a program exactly where they keep the separations of its software
 abbrev pub AcceptedWhereKept : ℕ → Type 0

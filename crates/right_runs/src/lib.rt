@@ -7,8 +7,8 @@
 #![tactic(auto)]
 
 ghost use Rattle.std.specs.Prelude.{ℕ};
-ghost use Rattle.right_runs.specs.Laws.{TabledRunsAreRight, AcceptedWhereKept, SoundDesignsAreRight, DesignsAreRight, TextsAreGuaranteed};
-ghost use Rattle.right_runs.specs.Laws.{ReplaysAreRight};
+ghost use Rattle.right_runs.specs.Laws.{TabledRunsAreRight, TabledTasksAreServed, AcceptedWhereKept, SoundDesignsAreRight};
+ghost use Rattle.right_runs.specs.Laws.{DesignsAreRight, TextsAreGuaranteed, ReplaysAreRight};
 
 /// Every run of a program whose tasks all stand in a table that fits is permitted by the program's texts and within its bounds.
 ///
@@ -16,6 +16,14 @@ ghost use Rattle.right_runs.specs.Laws.{ReplaysAreRight};
 /// order and none is lost, and arrivals are told as they come. `limit` is the farthest horizon allowed, in ticks.
 pub fn tabled_runs_are_right()
     ensures { (limit : ℕ) → TabledRunsAreRight limit }
+{}
+
+/// Every run of a program, some of whose tasks stand in a table that fits, serves these: each is released on time, has its requests served in
+/// order, and responds within its bound, whatever tasks of lower priority there are besides. The run has no stop and does as written.
+///
+/// The program can be read and the arrivals are accepted. `limit` is the farthest horizon allowed, in ticks.
+pub fn tabled_tasks_are_served()
+    ensures { (limit : ℕ) → TabledTasksAreServed limit }
 {}
 
 /// Arrivals are accepted for a program exactly where they keep the separations of its software.

@@ -1,0 +1,21 @@
+pub mod Lifts
+pub mod LiftedRules
+pub mod LiftedTables
+pub mod Restless
+pub mod RestlessSteps
+pub mod RestlessLaw
+pub mod Retimed
+pub mod HardObjects
+pub mod SlowPriorities
+pub mod HardThreads
+pub mod HardRanks
+pub mod ProperHard
+pub mod LeastNumbers
+pub mod BackgroundPrograms
+pub mod BackgroundRuns
+pub mod HardTicks
+pub mod FirstFaults
+pub mod StarterRows
+pub mod ClientStarts
+pub mod NoBackground
+mod Worked

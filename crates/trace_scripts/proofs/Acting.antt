@@ -1,9 +1,7 @@
 -- The action of a request, by the unit that is requested.
-use Rattle.std.proofs.Common.{◌≡◌, ℕ, Option, Some, slice_get, refl, sym, ap, ◌∙◌}
+use Rattle.std.proofs.Common.{◌≡◌, ℕ, Option, Some, slice_get, sym, ap, ◌∙◌}
 use Rattle.seq_tree.specs.Names.{Name}
 use Rattle.seq_tree.specs.Runs as runs
-use Rattle.seq_tree.specs.declared.tree.OpName.{OpName}
-use Rattle.ada_tree.specs.Programs.{Unit}
 use Rattle.ada_tree.specs.Rules.{MeetsRules}
 use Rattle.ada_tree.specs.Trees.{form_of, program_of, unit_of}
 use Rattle.ada_tree.specs.declared.program.AdaProgram.{AdaProgram}

@@ -1,6 +1,6 @@
 -- The operation by which the unit at a place is requested.
 use Rattle.std.proofs.Common.{◌≡◌, ℕ, zero, suc, Bool, true, false, ◌&&◌, List, [], ◌∷◌, ◌++◌, map, Option, Some, None, refl, sym, ap, subst, ◌∙◌, append_assoc}
-use Rattle.std.specs.Prelude.{find, filter_map, flat_map, slice_get, option_map, option_and_then, unwrap_or, cond}
+use Rattle.std.specs.Prelude.{find, filter_map, flat_map, slice_get, option_map, unwrap_or, cond}
 use Rattle.std.specs.List.{cons_option}
 use Rattle.std.proofs.lemmas.Option.{none-some, same_Some}
 use Rattle.std.proofs.lemmas.Bool.{true≢false, false_from_ne_true}
@@ -10,10 +10,10 @@ use Rattle.seq_tree.specs.Names.{Name, same_name}
 use Rattle.seq_tree.specs.Operations.{Operation}
 use Rattle.seq_tree.specs.Statements.{End}
 use Rattle.ods_tree.specs.Flats.{Library, Guarded}
-use Rattle.ods_tree.specs.Services.{Service, Plain, Protected, Request, plain_services, protected_services, services, requested, request_of}
+use Rattle.ods_tree.specs.Services.{Service, Plain, Protected, Request, plain_services, protected_services, requested, request_of}
 use Rattle.ada_tree.specs.Programs.{Form, Unit, Program, Passive, Shared, Cyclic, Sporadic}
 use Rattle.ada_tree.specs.Rules.{MeetsRules}
-use Rattle.guarantee.specs.Software.{Task, Software, all_services, program_software, task_by}
+use Rattle.guarantee.specs.Software.{Task, program_software, task_by}
 use Rattle.program_calls.proofs.UnitNames.{AreApart}
 use Rattle.program_calls.proofs.Apart.{units_apart}
 use Rattle.program_calls.proofs.Facts.{is-same, same-is}
@@ -130,6 +130,6 @@ pub asked-at : (p : Program) → MeetsRules p → (k : ℕ) (u : Unit) → slice
     → asked_op (program_software p) u.name ≡ asked_name u.name u.form
 asked-at p meets k u at =
     ap (name_or u.name)
-        (plains-past u.name (program_software p).passive (flat_map protected_services (program_software p).shared ++ requests p.units)
-        ∙ shareds-past u.name (program_software p).shared (requests p.units))
+    (plains-past u.name (program_software p).passive (flat_map protected_services (program_software p).shared ++ requests p.units)
+    ∙ shareds-past u.name (program_software p).shared (requests p.units))
     ∙ unit-asked p.units k u (units_apart p meets) at

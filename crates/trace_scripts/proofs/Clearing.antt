@@ -1,31 +1,27 @@
 -- Blocks of software that can be followed are those of its program; and what is found of its objects.
-use Rattle.std.proofs.Common.{◌≡◌, ℕ, suc, ◌+◌, Bool, true, not, arith, length, fold, List, [], ◌∷◌, map, Option, Some, None, refl, sym, ap, subst, ◌∙◌}
-use Rattle.std.specs.Prelude.{filter_map, find, slice_get, option_map, ⊤}
+use Rattle.std.proofs.Common.{◌≡◌, ℕ, suc, ◌+◌, Bool, arith, length, fold, List, [], ◌∷◌, Option, Some, refl, sym, ap, subst, ◌∙◌}
+use Rattle.std.specs.Prelude.{filter_map, slice_get, option_map}
 use Rattle.std.specs.List.{cons_option}
-use Rattle.std.proofs.lemmas.Option.{same_Some}
 use Rattle.seq_tree.specs.Lists.{Each}
 use Rattle.seq_tree.specs.Statements.{Statements}
-use Rattle.seq_tree.specs.Variables.{written}
 use Rattle.ods_tree.specs.Flats.{Guarded}
 use Rattle.ada_tree.specs.Programs.{Program, Unit, Form, Passive, Shared, Cyclic, Sporadic}
 use Rattle.ada_tree.specs.Rules.{MeetsRules}
-use Rattle.trace_tree.specs.Placed.{IsPlaced, IsUnit}
+use Rattle.trace_tree.specs.Placed.{IsPlaced}
 use Rattle.trace_tree.specs.declared.event.Event as machine
-use Rattle.trace_tree.specs.Lines.{unit_name}
 use Rattle.guarantee.specs.Software.{Software, Task, program_software, task_by, guarded_by, leads_to}
 use Rattle.guarantee.specs.Events.{named}
 use Rattle.block_walks.specs.Fit.{MayRun}
 use Rattle.trace_laws.specs.Clear.{IsClear}
 use Rattle.trace_laws.specs.Checks.{serves}
-use Rattle.trace_places.specs.Places.{guarded_at, guarded_in, task_in}
+use Rattle.trace_places.specs.Places.{guarded_in, task_in}
 use Rattle.script_laws.specs.Entries.{entries_in}
 use Rattle.script_laws.specs.Services as services
 use Rattle.script_laws.specs.Services.{served_from}
 use Rattle.script_laws.specs.Laws.{at_first}
 use Rattle.script_laws.proofs.Served.{served-sound}
-use Rattle.script_laws.proofs.Charged.{found-name}
 use Rattle.trace_scripts.specs.Objects.{AreServing}
-use Rattle.trace_scripts.specs.Scenes.{AllBlocks, AllIn}
+use Rattle.trace_scripts.specs.Scenes.{AllBlocks}
 use Rattle.trace_scripts.specs.Serving.{MayAll, objects_from, services_first}
 use Rattle.script_laws.specs.Entries as entries
 use Rattle.trace_scripts.specs.Books.{entries_from, entry_of, known_of}

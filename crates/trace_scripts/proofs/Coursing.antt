@@ -1,6 +1,6 @@
 -- What an activation leaves, by what the walk of its block answers.
 use Rattle.std.proofs.Common.{◌≡◌, ◌+◌, ◌-◌, suc, ℕ, Bool, true, false, ◌&&◌, ◌||◌, not, List, Option, Some, None, refl, sym, ap, ◌∙◌, append-nil, arith, subst, ◌++◌}
-use Rattle.std.specs.Prelude.{◌==◌, is_some, nat_le, option_map, option_to_list, if◌then◌else◌}
+use Rattle.std.specs.Prelude.{◌==◌, is_some, option_map, option_to_list, if◌then◌else◌}
 use Rattle.seq_tree.specs.Runs.{Path}
 use Rattle.seq_tree.specs.Variables.{Variables, entered, kept}
 use Rattle.guarantee.specs.Software.{Software, Task}

@@ -1,11 +1,10 @@
 -- What is read from the end of a trace, by places, is what the definitions say of each entry, by names.
-use Rattle.std.proofs.Common.{◌≡◌, ◌⊎◌, inl, inr, ℕ, zero, suc, ◌<◌, Bool, true, false, ◌&&◌, ◌||◌, List, [], ◌∷◌, map, length, Option, Some, None}
-use Rattle.std.proofs.Common.{refl, sym, ap, subst, ◌∙◌, arith}
+use Rattle.std.proofs.Common.{◌≡◌, ℕ, zero, suc, ◌<◌, Bool, true, false, ◌&&◌, ◌||◌, List, [], ◌∷◌, length, Option, Some}
+use Rattle.std.proofs.Common.{refl, sym, ap, ◌∙◌, arith}
 use Rattle.std.specs.Prelude.{◌==◌, replicate, slice_get, option_map, unwrap_or, if◌then◌else◌}
 use Rattle.std.proofs.lemmas.Bool.{eqb-true, eq-eqb, ne_eqb}
-use Rattle.std.proofs.lemmas.Option.{slice_get_within}
 use Rattle.seq_tree.specs.Lists.{Each, change}
-use Rattle.seq_tree.specs.Names.{Name, same_name}
+use Rattle.seq_tree.specs.Names.{same_name}
 use Rattle.ada_tree.specs.Programs.{Program}
 use Rattle.ada_tree.specs.Rules.{MeetsRules}
 use Rattle.trace_tree.specs.Lines.{unit_name}
@@ -13,14 +12,14 @@ use Rattle.trace_tree.specs.Placed.{IsPlaced, IsUnit}
 use Rattle.trace_tree.specs.declared.event.Event as machine
 use Rattle.trace_tree.specs.declared.event.Event.TheVariants as event
 use Rattle.guarantee.specs.Software.{Software, program_software}
-use Rattle.guarantee.specs.Events.{Deed, Release, Arrive, Enter, Leave, Request, Print, End, Stop, Event, By, Horizon, named, named_event, op_at}
+use Rattle.guarantee.specs.Events.{Deed, Release, Arrive, Enter, Leave, Request, Print, End, Stop, Event, By, named, named_event, op_at}
 use Rattle.guarantee.specs.Steps.{is_own}
-use Rattle.trace_laws.specs.Checks.{action_of, scripted, does_in, is_passage, is_passed}
+use Rattle.trace_laws.specs.Checks.{action_of, is_passed}
 use Rattle.trace_places.proofs.Units.{unit-names}
 use Rattle.script_laws.specs.Entries as entries
 use Rattle.script_laws.specs.Entries.{Shown, shown_at, with_action, stack_of, entry_at, entries_in}
 use Rattle.script_laws.proofs.Stacks.{stack-by, inside-shown}
-use Rattle.trace_scripts.specs.Books.{Kept, kept_with, kept_first, kept_from, entry_with, entries_from, level_at, passed_at}
+use Rattle.trace_scripts.specs.Books.{Kept, kept_with, kept_from, entry_with, entries_from, passed_at}
 
 -- A LIST with one item changed
 pub get-changed : {A : Type 0} (i j : ℕ) (f : A → A) (xs : List A) (x : A) → slice_get xs j ≡ Some x

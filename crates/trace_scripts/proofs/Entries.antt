@@ -1,5 +1,5 @@
 -- An entry into an operation of an object, by what the walk of its body answers.
-use Rattle.std.proofs.Common.{◌≡◌, ℕ, Bool, true, false, List, Option, Some, None, refl, sym, ap, ◌∙◌, subst, bytes_eq}
+use Rattle.std.proofs.Common.{◌≡◌, ℕ, Bool, true, List, Option, Some, None, refl, sym, ap, ◌∙◌, bytes_eq}
 use Rattle.std.specs.Bool.{Decides}
 use Rattle.std.proofs.lemmas.Bool.Decides.{same_from_decides}
 use Rattle.std.proofs.lemmas.Slice.Eq.{bytes_eq-Decides}
@@ -11,7 +11,6 @@ use Rattle.ods_tree.specs.Flats.{Guarded}
 use Rattle.script_laws.specs.Services as services
 use Rattle.script_laws.specs.Services.{inside_by, last_by, charge_by}
 use Rattle.trace_scripts.specs.Scenes.{IsWalk}
-use Rattle.trace_scripts.specs.declared.walks.Walked.{Walked}
 use Rattle.trace_scripts.specs.declared.walks.Walked.TheVariants.{Ran, Begun, Astray}
 
 -- what says whether two names are equal is the test of the definitions

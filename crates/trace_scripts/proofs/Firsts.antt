@@ -1,5 +1,5 @@
 -- The greatest number of ticks, and the first object that is broken.
-use Rattle.std.proofs.Common.{◌≡◌, ℕ, zero, suc, ◌+◌, ◌<◌, ◌≤◌, Bool, true, false, not, List, [], ◌∷◌, map, drop, length, Option, Some, None, refl, sym, ap, ◌∙◌, arith, max, get_or, subst}
+use Rattle.std.proofs.Common.{◌≡◌, ℕ, ◌+◌, ◌<◌, ◌≤◌, Bool, true, false, not, List, ◌∷◌, map, drop, length, Option, Some, None, refl, sym, ap, ◌∙◌, arith, max, get_or, subst}
 use Rattle.std.specs.Prelude.{find, filter_map, slice_get, option_map, option_and_then, is_some, if◌then◌else◌}
 use Rattle.std.specs.List.{cons_option}
 use Rattle.std.proofs.lemmas.Option.{same_Some, slice_get-map, slice_get_read, get_or_from_slice_get}

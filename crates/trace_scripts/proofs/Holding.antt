@@ -1,15 +1,13 @@
 -- Scripts and levels as the code holds them: one action more, and the innermost level.
-use Rattle.std.proofs.Common.{◌≡◌, ℕ, zero, suc, Bool, true, false, List, [], ◌∷◌, ◌++◌, map, drop, fold, Option, Some, None, refl, sym, ap, ◌∙◌, append_assoc}
-use Rattle.std.specs.Prelude.{option_map, reverse, if◌then◌else◌}
+use Rattle.std.proofs.Common.{◌≡◌, Bool, true, false, List, [], ◌∷◌, ◌++◌, map, fold, Some, None, refl, sym, ap, ◌∙◌, append_assoc}
+use Rattle.std.specs.Prelude.{reverse, if◌then◌else◌}
 use Rattle.std.proofs.lemmas.List.{map-append}
 use Rattle.std.proofs.lemmas.List.Sums.{fold-append}
 use Rattle.std.proofs.lemmas.Grind.{reverse_onto}
 use Rattle.seq_tree.specs.Runs as runs
 use Rattle.block_follow.specs.declared.action.Action.{Action}
 use Rattle.block_follow.specs.Actions.{action_of}
-use Rattle.script_laws.specs.Entries.{Shown, shown_at}
-use Rattle.script_laws.specs.Progress.{with_last}
-use Rattle.trace_laws.specs.Checks.{both}
+use Rattle.script_laws.specs.Entries.{Shown}
 use Rattle.trace_scripts.specs.Scripts.{back_of, levels_of, shown_of}
 use Rattle.trace_scripts.specs.declared.scripts.Script.{Script}
 
@@ -49,4 +47,5 @@ turned s r e same = ap (λ b. if b then Some (map action_of r.actions.items) els
     by false = refl
 
 pub ruleset adding = (back-more, shown-more)
+
 pub ruleset stacking = (levels-more)

@@ -1,12 +1,12 @@
 -- What objects are at by places is what they are at by names.
-use Rattle.std.proofs.Common.{◌≡◌, ℕ, zero, suc, Bool, true, false, List, [], ◌∷◌, map, Option, Some, None, refl, sym, ap, subst, ◌∙◌}
+use Rattle.std.proofs.Common.{◌≡◌, ℕ, zero, suc, Bool, true, false, List, [], ◌∷◌, map, Option, Some, None, refl, sym, ap, ◌∙◌}
 use Rattle.std.specs.Prelude.{◌==◌, slice_get, option_map, option_and_then, unwrap_or, if◌then◌else◌}
 use Rattle.std.proofs.lemmas.Bool.{eqb-true}
 use Rattle.seq_tree.specs.Lists.{Each, change}
 use Rattle.seq_tree.specs.Names.{Name, same_name}
 use Rattle.seq_tree.specs.Variables.{written}
 use Rattle.ods_tree.specs.Flats.{Guarded}
-use Rattle.ada_tree.specs.Programs.{Program, Unit}
+use Rattle.ada_tree.specs.Programs.{Program}
 use Rattle.ada_tree.specs.Rules.{MeetsRules}
 use Rattle.trace_tree.specs.Lines.{unit_name}
 use Rattle.trace_tree.specs.Placed.{IsPlaced, IsUnit}
@@ -14,11 +14,11 @@ use Rattle.trace_tree.specs.declared.event.Event as machine
 use Rattle.trace_tree.specs.declared.event.Event.TheVariants as event
 use Rattle.guarantee.specs.Software.{Software, program_software}
 use Rattle.guarantee.specs.Events.{named, named_event, op_at}
-use Rattle.trace_laws.specs.Checks.{object_named, written_in}
+use Rattle.trace_laws.specs.Checks.{object_named}
 use Rattle.trace_places.specs.Places.{guarded_at, guarded_in}
 use Rattle.trace_places.proofs.Units.{item-at, unit-names, what-it-is}
 use Rattle.script_laws.specs.Entries.{Entry}
-use Rattle.script_laws.specs.Services.{Service, Free, Broken, entered_in, left_in, charge_in, served_by, served_from, changed_by, charge_for, charge_at, charges_from}
+use Rattle.script_laws.specs.Services.{Service, Free, Broken, served_by, served_from, changed_by, charge_for, charge_at, charges_from}
 use Rattle.script_laws.specs.Laws.{at_first}
 use Rattle.script_laws.proofs.Charged.{found-name}
 use Rattle.trace_scripts.specs.Serving.{enter_by, leave_by, charge_by, service_at, objects_with, objects_from, charge_with, charges_by, first_by, services_first}

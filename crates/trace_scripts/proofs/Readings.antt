@@ -1,10 +1,10 @@
 -- What stands at a place of a program, and the names of its operations.
-use Rattle.std.proofs.Common.{◌≡◌, ℕ, ◌<◌, List, [], ◌∷◌, length, map, get_or, refl, arith, Option, Some, slice_get, ap, sym, subst, ◌∙◌}
+use Rattle.std.proofs.Common.{◌≡◌, ℕ, ◌<◌, List, [], ◌∷◌, length, map, get_or, arith, Option, Some, slice_get, ap, sym, subst, ◌∙◌}
 use Rattle.std.specs.Prelude.{option_map, unwrap_or}
 use Rattle.std.proofs.lemmas.List.{length-map}
 use Rattle.std.proofs.lemmas.Option.{slice_get-map}
 use Rattle.seq_tree.specs.Names.{Name}
-use Rattle.seq_tree.specs.Operations.{Signature, Operation}
+use Rattle.seq_tree.specs.Operations.{Signature}
 use Rattle.seq_tree.specs.Trees.{operation_of}
 use Rattle.seq_tree.specs.declared.tree.OpText.{OpText}
 use Rattle.seq_tree.specs.declared.tree.OpName.{OpName}

@@ -1,6 +1,6 @@
 -- What the answer of following a block says of the run that a script shows.
-use Rattle.std.proofs.Common.{◌≡◌, ℕ, zero, suc, ◌+◌, ◌≤◌, Bool, true, false, List, [], ◌∷◌, map, length, Option, Some, None, Result, Ok, Err, refl, sym, ap, subst, ◌∙◌, arith}
-use Rattle.std.specs.Prelude.{◌==◌, if◌then◌else◌}
+use Rattle.std.proofs.Common.{◌≡◌, ℕ, ◌≤◌, Bool, true, List, map, length, Some, None, Result, Ok, Err, refl, sym, subst, arith}
+use Rattle.std.specs.Prelude.{if◌then◌else◌}
 use Rattle.std.proofs.lemmas.Bool.{eq-eqb, ne_eqb}
 use Rattle.grammar.specs.Reading.{Halt, left_of, whole_at}
 use Rattle.seq_tree.specs.Names.{Name}
@@ -44,18 +44,18 @@ module _ (s : Scene) (block : Statements) (before after : Variables) (script : S
     (says : (depth : ℕ) → MayRun (calls_of s) depth block
     → Answers (whole_at (walk_at (program_in s).costs (calls_of s) depth block before) (map action_of items)) (length (map action_of items)) before f after)
   where
-  pub told : (depth : ℕ) → MayRun (leads_to (software_of s)) depth block
-      → IsWalk (run_along (software_of s) depth block before (shown_of script)) (begins_along (software_of s) depth block before (shown_of script))
-      (walked_by g) after
-  told depth may =
-      let w : Software = software_of s in
-      let W : (Name → Name → Callee) → List act.Action → Result Path Halt = λ c xs. whole_at (walk_at w.costs c depth block before) (map action_of xs) in
-      let A : Answers (W (calls_of s) items) (length (map action_of items)) before f after = says depth (subst (λ c. MayRun c depth block) (sym calls) may) in
-      let P : Result Path Halt → Followed → Type 0 = λ r x. IsWalk (run_by r) (begins_by r) (walked_by x) after in
-      let one : P (W (calls_of s) items) g = subst (P (W (calls_of s) items)) is (answered (W (calls_of s) items) (length (map action_of items)) before after f A) in
-      let two : P (W (leads_to w) script.actions.items) g =
-      subst (λ xs. P (W (leads_to w) xs) g) same (subst (λ c. P (W c items) g) calls one) in
-      let Q : Bool → Type 0 = λ b. IsWalk
-      (run_along w depth block before (if b then (let o : Shown = Some (map action_of script.actions.items) in o) else None))
-      (begins_along w depth block before (if b then (let o : Shown = Some (map action_of script.actions.items) in o) else None)) (walked_by g) after in
-      subst Q (sym shows) two
+    pub told : (depth : ℕ) → MayRun (leads_to (software_of s)) depth block
+        → IsWalk (run_along (software_of s) depth block before (shown_of script)) (begins_along (software_of s) depth block before (shown_of script))
+        (walked_by g) after
+    told depth may =
+        let w : Software = software_of s in
+        let W : (Name → Name → Callee) → List act.Action → Result Path Halt = λ c xs. whole_at (walk_at w.costs c depth block before) (map action_of xs) in
+        let A : Answers (W (calls_of s) items) (length (map action_of items)) before f after = says depth (subst (λ c. MayRun c depth block) (sym calls) may) in
+        let P : Result Path Halt → Followed → Type 0 = λ r x. IsWalk (run_by r) (begins_by r) (walked_by x) after in
+        let one : P (W (calls_of s) items) g = subst (P (W (calls_of s) items)) is (answered (W (calls_of s) items) (length (map action_of items)) before after f A) in
+        let two : P (W (leads_to w) script.actions.items) g =
+        subst (λ xs. P (W (leads_to w) xs) g) same (subst (λ c. P (W c items) g) calls one) in
+        let Q : Bool → Type 0 = λ b. IsWalk
+        (run_along w depth block before (if b then (let o : Shown = Some (map action_of script.actions.items) in o) else None))
+        (begins_along w depth block before (if b then (let o : Shown = Some (map action_of script.actions.items) in o) else None)) (walked_by g) after in
+        subst Q (sym shows) two

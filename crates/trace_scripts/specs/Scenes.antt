@@ -1,5 +1,5 @@
 -- A program with what its calls may lead to, and what the walk of a block along a script answers.
-use Rattle.std.specs.Prelude.{◌≡◌, ℕ, ◌≤◌, Bool, true, false, List, map, length, Option, Some, None, ⊤}
+use Rattle.std.specs.Prelude.{◌≡◌, ℕ, ◌≤◌, Bool, true, false, map, length, Option, Some, None, ⊤}
 use Rattle.seq_tree.specs.Lists.{Each}
 use Rattle.seq_tree.specs.Names.{Name}
 use Rattle.seq_tree.specs.Runs.{Path, Callee}

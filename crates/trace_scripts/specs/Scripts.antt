@@ -1,9 +1,9 @@
 -- Scripts as the code holds them, and the actions that events show.
 -- A script that is read from its end holds its last action first.
-use Rattle.std.specs.Prelude.{ℕ, Bool, List, [], ◌∷◌, map, fold, Option, Some, None, slice_get, if◌then◌else◌}
+use Rattle.std.specs.Prelude.{List, [], ◌∷◌, map, fold, Option, Some, None, if◌then◌else◌}
 use Rattle.seq_tree.specs.Names.{Name}
 use Rattle.seq_tree.specs.Runs as runs
-use Rattle.ada_tree.specs.Programs.{Form, Unit, Program, Passive, Shared, Cyclic, Sporadic}
+use Rattle.ada_tree.specs.Programs.{Form, Program, Passive, Shared, Cyclic, Sporadic}
 use Rattle.guarantee.specs.Software.{program_software}
 use Rattle.guarantee.specs.Events.{Event, By, Horizon}
 use Rattle.trace_laws.specs.Checks.{action_of}

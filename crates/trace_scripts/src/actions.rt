@@ -42,13 +42,19 @@ pub(crate) fn action(
 {
     match event {
         Event::Enter {
-            unit, op, values, ..
+            unit,
+            op,
+            values,
+            ..
         } => Ok(Some(Action::Enter {
             name: copy_op(alloc, program, *unit, *op)?,
             values: copy_values(alloc, values)?,
         })),
         Event::Leave {
-            unit, op, values, ..
+            unit,
+            op,
+            values,
+            ..
         } => Ok(Some(Action::Leave {
             name: copy_op(alloc, program, *unit, *op)?,
             values: copy_values(alloc, values)?,

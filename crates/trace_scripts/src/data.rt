@@ -100,12 +100,7 @@ pub(crate) fn add_all(env: &mut Env, data: Env) -> Result<(), NoMemory>
 
 /// The variables of an operation's body as it begins.
 #[tactic(auto, using(crate::proofs::DataSteps::append_steps))]
-pub(crate) fn open(
-    alloc: Global,
-    op: &OpText,
-    values: &[u32],
-    data: Env,
-) -> Result<Env, NoMemory>
+pub(crate) fn open(alloc: Global, op: &OpText, values: &[u32], data: Env) -> Result<Env, NoMemory>
     ensures { IfOk result (λ e. e.slots.items ≡ opened (operation_of op.now) values.now ++ data.slots.items) }
 {
     let mut env = Env {

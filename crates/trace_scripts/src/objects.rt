@@ -68,7 +68,8 @@ impl<'a> Objects<'a> {
         'units: for unit in &program.units {
             states.push(match &unit.form {
                 Form::Shared { vars, .. } => Service::Free(first_data(alloc, vars)?),
-                Form::Passive { .. } | Form::Cyclic { .. } | Form::Sporadic { .. } => Service::Broken,
+                Form::Passive { .. } | Form::Cyclic { .. } | Form::Sporadic { .. } =>
+                    Service::Broken,
             })?;
         }
         Ok(Objects { states })

@@ -9,7 +9,7 @@ ghost use Rattle.block_follow.specs.Bounds.{most_ticks};
 ghost use Rattle.guarantee.specs.Events.{named_event};
 ghost use Rattle.guarantee.specs.Software.{Task, leads_to};
 ghost use Rattle.trace_tree.specs.Placed.{IsPlaced};
-ghost use Rattle.script_laws.specs.Progress.{again_by, all_shown, course_from, ends_by, left_by_course, with_last};
+ghost use Rattle.script_laws.specs.Progress.{Active, again_by, all_shown, course_from, ends_by, left_by_course, with_last};
 ghost use Rattle.trace_scripts.specs.Objects.{charge_of};
 ghost use Rattle.trace_scripts.specs.Scenes.{IsScene, calls_of, software_of};
 ghost use Rattle.trace_scripts.specs.Threads.{IsOf, after_event, charged_by, course_of, entered_if, finished_if, left_if, progress_of, seen_if};
@@ -104,12 +104,7 @@ impl Course {
 }
 
 /// The variables of an activation at its release.
-fn release(
-    alloc: Global,
-    params: &[Param],
-    value: Option<u32>,
-    kept: Env,
-) -> Result<Env, NoMemory>
+fn release(alloc: Global, params: &[Param], value: Option<u32>, kept: Env) -> Result<Env, NoMemory>
     ensures { IfOk result (λ e. e.slots.items ≡ entered params.now (option_to_list value) ++ kept.slots.items) }
 {
     let mut env = Env {
@@ -308,4 +303,24 @@ fn again(alloc: Global, time: u64, value: Option<u32>, left: Option<Env>) -> Pro
         None => Progress::Astray,
         Some(env) => Progress::Active(env, Course::begin(alloc, time, value)),
     }
+}
+
+/// An activation that goes on.
+fn go_on(
+    alloc: Global,
+    program: &AdaProgram,
+    kept_now: Env,
+    course: Course,
+    event: &Event,
+    good: bool,
+    charge: Charge,
+) -> Result<Progress, NoMemory>
+    requires rules { MeetsRules (program_of program.now) }
+    requires placed { IsPlaced (program_of program.now) event.now }
+    ensures { IfOk result (λ r. progress_of r ≡ Active kept_now.slots.items
+        (after_event (program_of program.now) good (charge_of charge) (named_event (program_of program.now) event.now) (course_of course))) }
+{
+    let mut course = course;
+    course.step(alloc, program, event, good, charge)?;
+    Ok(Progress::Active(kept_now, course))
 }

@@ -1,4 +1,4 @@
-use Rattle.std.proofs.Common.{rules, refl}
+use Rattle.std.proofs.Common.{rules}
 use Rattle.trace_scripts.proofs.Readings.{op-made}
 use Rattle.trace_scripts.proofs.names.copy_op.Goals as goal
 

@@ -1,4 +1,4 @@
-use Rattle.std.proofs.Common.{rules, ◌≡◌, ℕ, ◌∷◌, [], map}
+use Rattle.std.proofs.Common.{rules, map}
 use Rattle.trace_tree.specs.Placed.{IsPlaced}
 use Rattle.trace_scripts.specs.Books.{known_of}
 use Rattle.trace_scripts.specs.Objects.{charge_of, services_of}

@@ -1,4 +1,3 @@
-use Rattle.std.proofs.Common.{rules}
 use Rattle.guarantee.specs.Events.{named}
 use Rattle.trace_laws.specs.Checks.{serves}
 use Rattle.trace_scripts.specs.Objects.{services_of}

@@ -1,9 +1,12 @@
-use Rattle.std.proofs.Common.{rules, sym, ◌∙◌}
+use Rattle.std.proofs.Common.{rules}
 use Rattle.trace_scripts.specs.Scenes.{software_of}
 use Rattle.trace_scripts.specs.Threads.{course_of}
 use Rattle.trace_scripts.proofs.Coursing.{ends-some}
 use Rattle.trace_scripts.proofs.progress.Course.ends.Goals as goal
 
 pub returns-then-is_some : goal.returns-then-is_some
-returns-then-is_some c = λ depth t is may. search (rules, ends-some (software_of c.args.scene.now) depth t (course_of c.args.self.now)
-    c.args.kept_now.slots.items c.in_ok-left.left (c.in_ok-left.ensures depth t is may))
+returns-then-is_some c = λ depth t is may. search (
+  rules,
+  ends-some (software_of c.args.scene.now) depth t (course_of c.args.self.now)
+      c.args.kept_now.slots.items c.in_ok-left.left (c.in_ok-left.ensures depth t is may),
+)

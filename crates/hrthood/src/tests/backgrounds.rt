@@ -5,7 +5,8 @@ use super::rows::run_table;
 use std::test::Fail;
 
 /// A hard thread and a client that share an object, and a server that the client calls.
-pub const LOGGED: &str = "OBJECT h IS CYCLIC ATTRIBUTES PERIOD = 8; DEADLINE = 8; THREAD_BUDGET = 1000; REQUIRES q.set; \
+pub const LOGGED: &str =
+    "OBJECT h IS CYCLIC ATTRIBUTES PERIOD = 8; DEADLINE = 8; THREAD_BUDGET = 1000; REQUIRES q.set; \
     THREAD q.set; END THREAD; END h; \
     OBJECT q IS PROTECTED PROVIDES set PAER; OPERATION set IS BEGIN work (2); END set; END q; \
     OBJECT idle IS ACTIVE REQUIRES q.set; log.note; THREAD q.set; log.note (1); END THREAD; END idle; \

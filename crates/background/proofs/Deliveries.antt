@@ -1,6 +1,7 @@
 -- What is made of a design as it is written, from what is made of the flat design of its hard part; and the refusals of the steps before.
-use Rattle.std.specs.Prelude.{◌≡◌, ℕ, suc, ◌+◌, ◌≤◌, ◌<◌, Bool, true, false, List, [], ◌∷◌, ◌++◌, length, slice_get, filter_map, Option, Some, None, Result, Ok, Err}
-use Rattle.std.specs.Prelude.{option_to_list, refl}
+use Rattle.std.specs.Prelude.{◌≡◌, ℕ, suc, ◌+◌, ◌≤◌, ◌<◌, Bool, true, false, List, [], ◌∷◌, ◌++◌, length, slice_get, filter_map, Option, Some, None}
+use Rattle.std.specs.Prelude.{Result, Ok, Err}
+use Rattle.std.specs.Prelude.{refl}
 use Rattle.std.specs.List.{list_any, cons_option}
 use Rattle.std.proofs.Common.{sym, ap, subst, ◌∙◌, arith, map}
 use Rattle.std.proofs.lemmas.List.Elements.{filter_map-append}
@@ -46,8 +47,8 @@ use Rattle.ods_tree.proofs.TickLaws.{ticks-version}
 use Rattle.rt_response.specs.Rounds.{IsMiss}
 use Rattle.background_texts.proofs.BackgroundTexts.{text-guaranteed}
 use Rattle.background.specs.Delivers.{DeliversBackground, IsRefusedInBackground, IsBackgroundOf, IsToldFirst}
-use Rattle.background.specs.Fronts.{front_rows, slow_requests, restless_text, restless_bounds}
-use Rattle.background.specs.Makes.{Makes, IsMade, IsRefused}
+use Rattle.background.specs.Fronts.{front_rows, slow_requests}
+use Rattle.background.specs.Makes.{Makes, IsMade}
 use Rattle.background.specs.Told as told
 use Rattle.background.specs.Told.{misfit_of, refusal_by}
 use Rattle.background.specs.declared.delivery.Background.{Background}
@@ -137,8 +138,10 @@ first-other v w x told clear fine f = record {
   rule = f.rule;
   place = f.place;
   offends = as-other v w x (none-listed (version_faults v) clear) f.rule f.place told f.offends;
-  none_lower = λ lower other others low h. f.none_lower lower other others low (as-other w v x (none-listed (version_faults w) fine) lower other others h);
-  none_earlier = λ earlier others low h. f.none_earlier earlier others low (as-other w v x (none-listed (version_faults w) fine) f.rule earlier others h);
+  none_lower = λ lower other others low h. f.none_lower lower other others low (as-other w v x (none-listed
+      (version_faults w) fine) lower other others h);
+  none_earlier = λ earlier others low h. f.none_earlier earlier others low (as-other w v x (none-listed
+      (version_faults w) fine) f.rule earlier others h);
 }
 
 module _ (w : Design) where
@@ -203,7 +206,8 @@ module _ (w : Design) where
             before = before-two;
           }
 
-      pub hard-told : (z : Design) → z ≡ y → (e : codes.Broken) → IsFirstTold (is_memory e) (told_of e) z → IsRefusedInBackground w (refusal_by (is_memory e) e)
+      pub hard-told : (z : Design) → z ≡ y → (e : codes.Broken) → IsFirstTold (is_memory e) (told_of e) z
+          → IsRefusedInBackground w (refusal_by (is_memory e) e)
       hard-told z same e h = by (is_memory e) (told_of e) refl (let F : Design → Type 0 = IsFirstTold (is_memory e) (told_of e) in subst F same h)
         where
           by : (m : Bool) (t : Option Broken) → told_of e ≡ t → IsFirstTold m t y → IsRefusedInBackground w (refusal_by m e)
@@ -315,9 +319,11 @@ mutual
   tree-count : (p q : Option Object) (s r : List Object) (t : Tree) → length (standings p s (hard_tree t)) ≡ length (standings q r t)
   tree-count p q s r (Node own Empty) = refl
   tree-count p q s r (Node own (With first rest)) =
-      ap suc (trees-count (Some (soft_object own)) (Some own) (roots (With (hard_tree first) (hard_trees rest))) (roots (With first rest)) (With first rest))
+      ap suc (trees-count (Some (soft_object own)) (Some own) (roots (With (hard_tree first) (hard_trees rest))) (roots (With first rest))
+      (With first rest))
 
-  trees-count : (p q : Option Object) (s r : List Object) (ts : Trees) → length (inner_standings p s (hard_trees ts)) ≡ length (inner_standings q r ts)
+  trees-count : (p q : Option Object) (s r : List Object) (ts : Trees)
+      → length (inner_standings p s (hard_trees ts)) ≡ length (inner_standings q r ts)
   trees-count p q s r Empty = refl
   trees-count p q s r (With first rest) =
       length-append (standings p s (hard_tree first)) (inner_standings p s (hard_trees rest))

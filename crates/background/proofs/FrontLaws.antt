@@ -1,8 +1,8 @@
 -- The flat design of a hard part: its slow threads are those of the clients, and so what is made of it is what is made of the design.
-use Rattle.std.specs.Prelude.{◌≡◌, ℕ, zero, suc, ◌+◌, ◌-◌, ◌≤◌, ◌==◌, ◌&&◌, Bool, true, false, List, [], ◌∷◌, ◌++◌, map, filter, length, max}
-use Rattle.std.specs.Prelude.{Option, Some, None, filter_map, flat_map, zip, take, if◌then◌else◌, refl}
+use Rattle.std.specs.Prelude.{◌≡◌, ℕ, ◌-◌, ◌==◌, ◌&&◌, Bool, true, false, List, [], ◌∷◌, ◌++◌, map, filter, length}
+use Rattle.std.specs.Prelude.{Some, filter_map, flat_map, zip, take, if◌then◌else◌, refl}
 use Rattle.std.proofs.Common.{sym, ◌∙◌, ap, subst, arith, inl, inr}
-use Rattle.std.proofs.lemmas.Bool.{and_parts, true≢false}
+use Rattle.std.proofs.lemmas.Bool.{and_parts}
 use Rattle.std.proofs.lemmas.Option.{same_Some}
 use Rattle.seq_tree.specs.Layout.{layout}
 use Rattle.seq_tree.specs.Names.{Name, are_distinct}
@@ -23,11 +23,13 @@ use Rattle.program_calls.proofs.Lists.{IsIn, in-map, filter-in, in-filter}
 use Rattle.background_designs.specs.Clients.{is_client, clients, is_client_name}
 use Rattle.background_designs.specs.HardParts.{hard_object, hard_part}
 use Rattle.background_designs.specs.Misfits.{A6, is_sporadic, slow_threads, requesting_clients}
-use Rattle.background_designs.specs.Programs.{client_count, raised, restless, background_flat, background_ranks, background_text, hard_rows, hard_places}
+use Rattle.background_designs.specs.Programs.{client_count, raised, restless, background_flat, background_ranks, background_text, hard_rows}
+use Rattle.background_designs.specs.Programs.{hard_places}
 use Rattle.rt_response.specs.declared.rows.Bound.{Bound}
 use Rattle.background_laws.proofs.HardObjects.{terminal_objects, threads-hard}
 use Rattle.background_laws.proofs.HardThreads.{client-thread, other-thread, thread-source, slow-are-clients}
-use Rattle.background.specs.Fronts.{is_slow, slow_count, front_rows, front_places, name_at, front_name, slow_requests, at_once, restless_flat, restless_ranks}
+use Rattle.background.specs.Fronts.{is_slow, slow_count, front_rows, front_places, name_at, front_name, slow_requests, at_once, restless_flat}
+use Rattle.background.specs.Fronts.{restless_ranks}
 use Rattle.background.specs.Fronts.{restless_text, restless_bounds}
 use Rattle.background.specs.Rows.{background_bounds, hard_name}
 
@@ -131,9 +133,11 @@ module _ (x : Design) (quick : slow_threads x ≡ []) (sound : IsSound (flat (ha
 
   pub same-text : (v : List Bound) → restless_text (first_priority (hard_part x)) f v ≡ background_text x v
   same-text v =
-      ap (λ g. head g (restless_ranks (first_priority x) f) (front_places f) v ++ layout (program_lines (program_for g (restless_ranks (first_priority x) f)))) same-flat
+      ap (λ g. head g (restless_ranks (first_priority x) f) (front_places f) v
+      ++ layout (program_lines (program_for g (restless_ranks (first_priority x) f)))) same-flat
       ∙ ap (λ r. head (background_flat x) r (front_places f) v ++ layout (program_lines (program_for (background_flat x) r))) same-ranks
-      ∙ ap (λ ps. head (background_flat x) (background_ranks x) ps v ++ layout (program_lines (program_for (background_flat x) (background_ranks x)))) same-places
+      ∙ ap (λ ps. head (background_flat x) (background_ranks x) ps v
+      ++ layout (program_lines (program_for (background_flat x) (background_ranks x)))) same-places
 
   pub same-bounds : (v : List Bound) → restless_bounds (first_priority (hard_part x)) f v ≡ background_bounds x v
   same-bounds v =

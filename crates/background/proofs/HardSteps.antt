@@ -1,5 +1,5 @@
 -- Objects that are made hard in their place: their kinds and attributes first, then their operations and the objects inside them.
-use Rattle.std.proofs.Common.{◌≡◌, ℕ, Bool, true, false, List, [], ◌∷◌, map, length, option_map, Vec, refl, sym, ap, ap₂, ◌∙◌, arith}
+use Rattle.std.proofs.Common.{◌≡◌, Bool, true, false, List, [], ◌∷◌, map, length, option_map, Vec, refl, sym, ap, ap₂, ◌∙◌, arith}
 use Rattle.std.specs.Prelude.{if◌then◌else◌}
 use Rattle.std.specs.declared.alloc.Global.{Global}
 use Rattle.std.proofs.lemmas.List.{length-map, with_items_is}
@@ -7,17 +7,14 @@ use Rattle.std.specs.Vec.{with_items}
 use Rattle.seq_tree.specs.Trees.{block_of}
 use Rattle.ods_tree.specs.Designs.{Object, Tree, Trees, Node, Empty, With}
 use Rattle.ods_tree.specs.Trees.{provided_of, body_of, trees_of, node_layer, tree_of}
-use Rattle.ods_tree.specs.Walk.{is_empty, roots}
-use Rattle.ods_tree.specs.declared.design.Attr.{Attr}
-use Rattle.ods_tree.specs.declared.design.Kind.{Kind}
+use Rattle.ods_tree.specs.Walk.{is_empty}
 use Rattle.ods_tree.specs.declared.design.Kind.TheVariants as kind
 use Rattle.ods_tree.specs.declared.design.Provided as provided
 use Rattle.ods_tree.specs.declared.design.Node as nodes
 use Rattle.ods_tree.specs.declared.design.Node.{Node-F, out-Node, roll-Node, fold-roll-Node, fold_out-Node}
-use Rattle.ods_index.specs.Walking.{object_of, inside}
-use Rattle.ods_index.proofs.WalkSteps.{own_fields}
+use Rattle.ods_index.specs.Walking.{inside}
 use Rattle.background_designs.specs.Clients.{is_client, is_server}
-use Rattle.background_designs.specs.HardParts.{soft_operation, soft_object, hard_object, hard_tree, hard_trees}
+use Rattle.background_designs.specs.HardParts.{soft_operation, soft_object, hard_tree, hard_trees}
 use Rattle.background.specs.Hardening.{client_attributes, retyped_object, retyped}
 
 -- the operations of an object, and the objects inside it, made hard
@@ -71,10 +68,15 @@ hard-parts n ps ks ops kids =
     ap (map provided_of) (overwritten (out-Node n).provides ps (same_length provided_of soft_operation ps (out-Node n).provides.items ops)) ∙ ops in
     let other : map tree_of (with_items (out-Node n).children ks).items ≡ map hard_tree (map tree_of (out-Node n).children.items) =
     ap (map tree_of) (overwritten (out-Node n).children ks (same_length tree_of hard_tree ks (out-Node n).children.items kids)) ∙ kids in
-    fold-roll-Node Tree node_layer (record (out-Node n) { provides = with_items (out-Node n).provides ps; children = with_items (out-Node n).children ks })
+    fold-roll-Node Tree node_layer (record (out-Node n) {
+      provides = with_items (out-Node n).provides ps;
+      children = with_items
+          (out-Node n).children ks;
+    })
     ∙ ap (λ qs. Node (with_ops qs) (trees_of (map tree_of (with_items (out-Node n).children ks).items))) one
     ∙ ap (λ ts. Node (with_ops (map soft_operation (map provided_of (out-Node n).provides.items))) (trees_of ts)) other
-    ∙ ap (λ us. Node (with_ops (map soft_operation (map provided_of (out-Node n).provides.items))) us) (all-hard (map tree_of (out-Node n).children.items))
+    ∙ ap (λ us. Node (with_ops (map soft_operation (map provided_of (out-Node n).provides.items))) us) (all-hard (map tree_of
+    (out-Node n).children.items))
     ∙ sym (ap made_hard (fold_out-Node Tree node_layer n))
 
 -- the same where the operations were made so before the children of an object that has some

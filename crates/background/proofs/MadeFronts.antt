@@ -1,19 +1,19 @@
 -- What is made of a flat design whose slow threads are calm, from its parts; and what is made of the flat design of a hard part that was checked.
-use Rattle.std.proofs.Common.{◌≡◌, ℕ, ◌-◌, ◌≤◌, ◌<◌, List, [], ◌∷◌, ◌++◌, length, take, Option, Some, None, Result, Ok, Err, refl, sym, ap, subst, ◌∙◌}
+use Rattle.std.proofs.Common.{◌≡◌, ℕ, ◌≤◌, ◌<◌, List, [], ◌∷◌, length, take, None, Result, Ok, Err, refl, sym, ap, subst, ◌∙◌}
 use Rattle.std.specs.Prelude.{max}
 use Rattle.std.proofs.lemmas.List.{length-map}
 use Rattle.rt_response.specs.Response.{IsLeastVector}
 use Rattle.design_bounds.proofs.TablePlaces.{ranks-long}
 use Rattle.analysis.specs.Priorities.{priorities_of}
 use Rattle.ods_tree.specs.Designs.{Design}
-use Rattle.ods_tree.specs.Flats.{Guarded, Thread, Flat}
+use Rattle.ods_tree.specs.Flats.{Thread, Flat}
 use Rattle.ods_tree.specs.Flattening.{flat}
 use Rattle.ods_tree.specs.Ticks.{first_priority}
 use Rattle.design_rules.specs.Rules.{AreMet}
 use Rattle.rt_response.specs.Tables.{IsTable}
 use Rattle.rt_response.specs.declared.rows.Bound.{Bound}
 use Rattle.rt_response.specs.declared.rows.ThreadRow.{ThreadRow}
-use Rattle.analysis.specs.Ceilings.{Ranks, ceiling, control_ceiling, numbered, ranks}
+use Rattle.analysis.specs.Ceilings.{Ranks, control_ceiling, numbered, ranks}
 use Rattle.analysis.specs.Sound.{IsSound}
 use Rattle.analysis.specs.Tables.{ThreadTable, table}
 use Rattle.design_bounds.proofs.CheckedDesigns.{flat-sound, first-small}
@@ -29,7 +29,8 @@ use Rattle.background.specs.declared.delivery.BackgroundRefusal.TheVariants as r
 use Rattle.background.proofs.RaisedRooms.{first-some, room-raised}
 
 -- the first rows of a table, and their places
-pub cut-rows : (f : Flat) (t : ThreadTable) (k : ℕ) (rows : List ThreadRow) → t ≡ table f → k ≡ front_count f → rows ≡ take k t.rows → rows ≡ front_rows f
+pub cut-rows : (f : Flat) (t : ThreadTable) (k : ℕ) (rows : List ThreadRow) → t ≡ table f → k ≡ front_count f → rows ≡ take k t.rows
+    → rows ≡ front_rows f
 cut-rows f t k rows e count h = h ∙ ap (λ n. take n t.rows) count ∙ ap (λ s. take (front_count f) s.rows) e
 
 pub cut-places : (f : Flat) (t : ThreadTable) (k : ℕ) (places : List ℕ) → t ≡ table f → k ≡ front_count f → places ≡ take k t.places
@@ -45,7 +46,8 @@ stops first f refusal.Long h = absurd h
 stops first f refusal.NoMemory h = h
 
 module _ (first : ℕ) (f g : Flat) (set : g ≡ restless_flat f) (r : Ranks) (up : r ≡ raised (slow_count f) (ranks f)) (places : List ℕ)
-    (front : places ≡ front_places f) (rows : List ThreadRow) (same : rows ≡ front_rows f) (v : List Bound) (least : IsLeastVector (front_rows f) v) where
+    (front : places ≡ front_places f) (rows : List ThreadRow) (same : rows ≡ front_rows f) (v : List Bound)
+    (least : IsLeastVector (front_rows f) v) where
   text-same : text_for first g r places v ≡ restless_text first f v
   text-same =
       ap (λ h. text_for first h r places v) set ∙ ap (λ s. text_for first (restless_flat f) s places v) up
@@ -79,16 +81,8 @@ module _ (first : ℕ) (f g : Flat) (set : g ≡ restless_flat f) (r : Ranks) (u
 pub set-threads : (f g : Flat) → g ≡ restless_flat f → length g.threads ≡ length f.threads
 set-threads f g set = ap (λ h. length h.threads) set ∙ length-map f.threads at_once
 
-pub set-shared : (f g : Flat) → g ≡ restless_flat f → length g.shared ≡ length f.shared
-set-shared f g set = ap (λ h. length h.shared) set
-
 pub raised-threads : (f : Flat) (r : Ranks) (least : ℕ) → r ≡ raised least (ranks f) → length r.threads ≡ length f.threads
 raised-threads f r least up = ap (λ s. length s.threads) up ∙ length-map (ranks f).threads (max least) ∙ ranks-long f (ranks f) refl
-
-pub raised-shared : (f : Flat) (r : Ranks) (least : ℕ) → r ≡ raised least (ranks f) → length r.shared ≡ length f.shared
-raised-shared f r least up =
-    ap (λ s. length s.shared) up ∙ length-map (ranks f).shared (max least)
-    ∙ length-map f.shared (λ (g : Guarded). ceiling f (priorities_of f) g.name)
 
 pub raised-obcs : (f : Flat) (r : Ranks) (least : ℕ) → r ≡ raised least (ranks f) → length r.obcs ≡ length f.threads
 raised-obcs f r least up =
@@ -133,7 +127,8 @@ module _ (x y : Design) (same : y ≡ x) (met : AreMet y y) (first : ℕ) (writt
   calm-made n g (Err refusal.NoMemory) calm h = tt
 
   -- what is made where no request is told
-  pub made-of : (r : Result Background BackgroundRefusal) → head_of (slow_requests f) ≡ None → MakesCalm first f r → Makes (first_priority x) (flat x) r
+  pub made-of : (r : Result Background BackgroundRefusal) → head_of (slow_requests f) ≡ None → MakesCalm first f r
+      → Makes (first_priority x) (flat x) r
   made-of r none h =
       let P : ℕ → Type 0 = λ n. MakesCalm n (flat x) r in
       let Q : Flat → Type 0 = λ g. MakesCalm first g r in

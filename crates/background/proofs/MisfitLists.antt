@@ -1,11 +1,11 @@
 -- The lists of misfits, object by object, and the first of lists one after another.
-use Rattle.std.specs.Prelude.{◌≡◌, Bool, true, false, not, ◌&&◌, ◌||◌, List, [], ◌∷◌, ◌++◌, map, filter, filter_map, flat_map, find, Option, Some, None}
+use Rattle.std.specs.Prelude.{◌≡◌, Bool, true, false, not, ◌&&◌, ◌||◌, List, [], ◌∷◌, ◌++◌, map, filter, filter_map, flat_map, find, Option, Some}
+use Rattle.std.specs.Prelude.{None}
 use Rattle.std.specs.Prelude.{Result, option_map, if◌then◌else◌, refl}
-use Rattle.std.specs.List.{list_any, cons_option}
+use Rattle.std.specs.List.{cons_option}
 use Rattle.std.proofs.Common.{sym, ◌∙◌, ap, subst}
 use Rattle.ods_tree.specs.Designs.{Design}
 use Rattle.ods_tree.specs.Walk.{Standing, objects, terminals, is_terminal, only_if}
-use Rattle.seq_tree.specs.declared.tree.OpName.{OpName}
 use Rattle.design_rules.specs.Bodies.{is_active}
 use Rattle.design_rules.specs.Clashes.{is_aser}
 use Rattle.design_rules.specs.Lookups.{has_thread, operation_named}
@@ -13,15 +13,14 @@ use Rattle.ods_index.specs.Judging.{head_of}
 use Rattle.ods_index.proofs.TellSteps.{head_later}
 use Rattle.ods_names.proofs.NeedSteps.{head_filter}
 use Rattle.background_designs.specs.Clients.{is_hser, is_client, is_server}
-use Rattle.background_designs.specs.Misfits.{Misfit, A1, A2, A3, A4, A5, is_such, is_misfit, is_slow}
+use Rattle.background_designs.specs.Misfits.{Misfit, A1, A2, A4, A5, is_such, is_misfit, is_slow}
 use Rattle.background_designs.specs.Misfits.{misfit_actives, foreign_waits, foreign_servers, background_requests, slow_threads, misfits}
-use Rattle.background.specs.Parts.{serves, is_slow_thread, breaks, told_by, bad_objects, may_not, told_need, first_need, need_fault, bad_needs}
+use Rattle.background.specs.Parts.{bad_objects, first_need, need_fault, bad_needs}
 use Rattle.background.specs.Told.{IsTold, Tells, misfit_of}
 use Rattle.background.specs.declared.delivery.BackgroundRefusal.{BackgroundRefusal}
 use Rattle.background.specs.declared.delivery.BackgroundRefusal.TheVariants as refusal
 use Rattle.background.specs.declared.misfits.Part.{Part}
 use Rattle.background.specs.declared.misfits.Part.TheVariants.{Shape, Service, Deadline}
-use Rattle.background.specs.declared.misfits.Callers.{Callers}
 use Rattle.background.specs.declared.misfits.Callers.TheVariants.{Wait, GoOn}
 
 -- what is given of those that pass a test
@@ -39,9 +38,6 @@ given-passed test b f (x ∷ xs) = by (test x) (given-passed test b f xs)
 -- objects by themselves
 shapes : (x : Design) → misfit_actives x ≡ bad_objects Shape (objects x)
 shapes x = given-passed is_terminal is_misfit (λ s. A1 s.own.name) (objects x)
-
-services : (x : Design) → foreign_servers x ≡ bad_objects Service (objects x)
-services x = refl
 
 -- those of a list that pass a test, by what is told of them
 told-through : {A B C : Type 0} (g : A → B) (test : B → Bool) (f : B → C) (xs : List A)

@@ -1,6 +1,6 @@
 -- The raised priorities and ceilings of a flat design are at most as many as its threads, and at most 60 as they are written.
-use Rattle.std.proofs.Common.{◌≡◌, ℕ, ◌+◌, ◌-◌, ◌≤◌, ◌<◌, Bool, true, false, not, ◌&&◌, ◌==◌, List, [], ◌∷◌, length, map, filter, max, nat_le, Option, Some}
-use Rattle.std.proofs.Common.{None, option_to_list, refl, sym, ap, subst, ◌∙◌, arith, suc}
+use Rattle.std.proofs.Common.{◌≡◌, ℕ, ◌+◌, ◌-◌, ◌≤◌, Bool, true, false, not, ◌&&◌, List, [], ◌∷◌, length, filter, max, nat_le, Option, Some}
+use Rattle.std.proofs.Common.{None, option_to_list, refl, sym, ap, ◌∙◌, arith, suc}
 use Rattle.std.specs.Prelude.{if◌then◌else◌}
 use Rattle.std.proofs.Math.Nat.{max-le}
 use Rattle.std.proofs.lemmas.Bool.{and_parts, leb-true}
@@ -9,8 +9,8 @@ use Rattle.ods_tree.specs.Designs.{Design}
 use Rattle.ods_tree.specs.Walk.{only_if}
 use Rattle.ods_tree.specs.Ticks.{first_priority, least_of, stated_priorities}
 use Rattle.ods_tree.specs.Flats.{Timing, Cyclic, Sporadic, Thread, Guarded, Flat}
-use Rattle.ods_tree.specs.Flattening.{threads, flat}
-use Rattle.analysis.specs.Ceilings.{Ranks, ceiling, control_ceiling, ranks}
+use Rattle.ods_tree.specs.Flattening.{flat}
+use Rattle.analysis.specs.Ceilings.{ceiling, control_ceiling, ranks}
 use Rattle.analysis.specs.Priorities.{priorities_of}
 use Rattle.analysis.specs.Sound.{IsSound}
 use Rattle.design_rules.specs.Broken.{V17Priorities}

@@ -1,9 +1,9 @@
 -- The first requests of slow threads, read off the table of a sound flat design.
-use Rattle.std.specs.Prelude.{◌≡◌, ℕ, zero, suc, ◌-◌, ◌≤◌, ◌==◌, ◌&&◌, Bool, true, false, List, [], ◌∷◌, map, filter, filter_map, find, length}
+use Rattle.std.specs.Prelude.{◌≡◌, ℕ, suc, ◌-◌, ◌≤◌, ◌==◌, ◌&&◌, Bool, true, false, List, [], ◌∷◌, map, filter, filter_map, find, length}
 use Rattle.std.specs.Prelude.{slice_get, Option, Some, None, option_map, option_and_then, if◌then◌else◌, refl}
 use Rattle.std.proofs.Common.{sym, ◌∙◌, ap, arith}
 use Rattle.std.proofs.lemmas.Bool.{true≢false}
-use Rattle.std.proofs.lemmas.Option.{same_Some, none-some}
+use Rattle.std.proofs.lemmas.Option.{same_Some}
 use Rattle.ods_tree.specs.Flats.{Thread, Flat}
 use Rattle.ods_tree.specs.Services.{flat_services}
 use Rattle.rt_response.specs.declared.rows.ThreadRow.{ThreadRow}
@@ -13,7 +13,7 @@ use Rattle.analysis.specs.Starts.{can_request}
 use Rattle.analysis.specs.Tables.{downwards, row_of, starter_of, table}
 use Rattle.design_programs.proofs.PriorityLists.{Entry, entry_by, entries, row_entry, rows-are, position-is}
 use Rattle.design_programs.proofs.PriorityPlaces.{entry-at}
-use Rattle.design_programs.proofs.TabledPrograms.{long, in-range, alone, all-entries}
+use Rattle.design_programs.proofs.TabledPrograms.{in-range, alone, all-entries}
 use Rattle.program_calls.proofs.Places.{map-at}
 use Rattle.ods_index.specs.Judging.{head_of}
 use Rattle.ods_names.proofs.NeedSteps.{head_filter}
@@ -98,7 +98,8 @@ module _ (f : Flat) where
 -- the first of all requests is that of the first thread of which something is told
 pub requests-first : (f : Flat) → head_of (filter_map (request_fault f) f.threads) ≡ head_of (slow_requests f)
 requests-first f =
-    sym (first-passed is_slow (λ c. map (λ t. A6 c.name t.name) (filter (λ t. is_sporadic t.timing && can_request (flat_services f) t.name c.block) f.threads))
+    sym (first-passed is_slow (λ c. map (λ t. A6 c.name t.name) (filter (λ t. is_sporadic t.timing && can_request
+    (flat_services f) t.name c.block) f.threads))
     (λ c. option_map (λ t. A6 c.name t.name) (first_requested f c)) f.threads
     (λ c. head_filter (λ t. A6 c.name t.name) (λ t. is_sporadic t.timing && can_request (flat_services f) t.name c.block) f.threads))
 
@@ -131,5 +132,6 @@ module _ (f : Flat) (place row : ℕ) (t : Thread) (stands : slice_get f.threads
   )
 
   -- what is told of a slow thread whose row this is
-  pub told-row : IsSound f → is_slow t ≡ true → (o : Option Thread) → o ≡ first_started f row → request_fault f t ≡ option_map (λ s. A6 t.name s.name) o
+  pub told-row : IsSound f → is_slow t ≡ true → (o : Option Thread) → o ≡ first_started f row
+      → request_fault f t ≡ option_map (λ s. A6 t.name s.name) o
   told-row sound slow o e = told-by-row f sound place from.0 t stands from.1 slow o (e ∙ ap (first_started f) from.2)

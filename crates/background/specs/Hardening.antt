@@ -15,7 +15,8 @@ client_attributes = longest Period ∷ longest Deadline ∷ longest ThreadBudget
 -- a terminal object with its kind and attributes as a hard one
 abbrev pub retyped_object : Object → Object
 retyped_object o =
-    if is_client o then record o { kind = kind.Cyclic; attrs = client_attributes } else (if is_server o then record o { kind = kind.Protected } else o)
+    if is_client o then record o { kind = kind.Cyclic; attrs = client_attributes }
+    else (if is_server o then record o { kind = kind.Protected } else o)
 
 -- an object with those inside it, where it has none with such a kind and attributes
 abbrev pub retyped : Tree → Tree

@@ -2,6 +2,7 @@
 
 mod analyses;
 mod arrivals;
+mod backgrounds;
 mod changed_by_hand;
 mod changed_tokens;
 mod checks;

@@ -12,11 +12,13 @@ pub mod CheckLaws
 pub mod AnalyseLaws
 pub mod FormatLaws
 pub mod GenerateLaws
+pub mod BackgroundLaws
 pub mod RunEnds
 pub mod ReplayLaws
 pub mod Completing
 pub mod Replayed
 pub mod Replaying
+pub mod BackgroundReplaying
 pub mod VerifyLaws
 pub mod Verified
 pub mod SampleLaws

@@ -171,6 +171,10 @@ is_told : (x : Design) (o : Option Broken) → IsBroken x o → (t : Broken) × 
 is_told x None h = absurd h
 is_told x (Some t) h = (t, refl, h)
 
+-- two rules of the code that are told as one are one
+pub same-rule : (a b : code.Broken) (t u : Broken) → told_of a ≡ Some t → told_of b ≡ Some u → t ≡ u → a ≡ b
+same-rule a b t u e f same = from_told a t e ∙ ap code_of same ∙ sym (from_told b u f)
+
 pub one-broken : (x : Design) (a b : code.Broken) → IsBroken x (told_of a) → IsBroken x (told_of b) → a ≡ b
 one-broken x a b h k =
     let t = is_told x (told_of a) h in

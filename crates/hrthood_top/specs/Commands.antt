@@ -1,10 +1,11 @@
 -- The verb that a command asks for, with its files.
 use Rattle.std.specs.Prelude.{ℕ, List}
 use Rattle.hrthood_words.specs.declared.verbs.DesignVerb.{DesignVerb}
-use Rattle.hrthood_words.specs.declared.verbs.DesignVerb.TheVariants.{Check, Analyse, Format, Generate, Search, Scale}
+use Rattle.hrthood_words.specs.declared.verbs.DesignVerb.TheVariants.{Check, Analyse, Format, Generate, Search, Scale, Background}
 use Rattle.hrthood_words.specs.Words.{Command, OnDesign, Replay, Verify, Sample}
 use Rattle.hrthood_top.specs.Verbs.{Verb}
 use Rattle.hrthood_top.specs.Analyses.{analyses}
+use Rattle.hrthood_top.specs.Backgrounds.{backgrounds}
 use Rattle.hrthood_top.specs.Checks.{checks}
 use Rattle.hrthood_top.specs.Formats.{formats}
 use Rattle.hrthood_top.specs.Generates.{generates}
@@ -22,6 +23,7 @@ design_verb Format design = formats design
 design_verb Generate design = generates design
 design_verb Search design = searches design
 design_verb Scale design = scales design
+design_verb Background design = backgrounds design
 
 -- the verb of a command
 abbrev pub verb_of : Command → Verb

@@ -15,6 +15,7 @@ pub mod Samples
 pub mod Searches
 pub mod DeadlineReports
 pub mod Scales
+pub mod Backgrounds
 pub mod Commands
 pub mod Ends
 pub mod Exact

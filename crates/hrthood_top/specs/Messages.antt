@@ -13,6 +13,8 @@ use Rattle.ada_rules.specs.declared.verdict.AdaRule.{AdaRule}
 use Rattle.ada_rules.specs.declared.verdict.AdaRule.TheVariants as rules
 use Rattle.ods_index.specs.declared.broken.Broken.{Broken}
 use Rattle.ods_index.specs.declared.broken.Broken.TheVariants as rule
+use Rattle.background.specs.declared.delivery.BackgroundRule.{BackgroundRule}
+use Rattle.background.specs.declared.delivery.BackgroundRule.TheVariants as background
 use Rattle.rt_response.specs.declared.rows.Limit.{Limit}
 use Rattle.rt_response.specs.declared.rows.Limit.TheVariants.{Deadline, Separation}
 use Rattle.rt_response.specs.declared.rows.Miss as rows
@@ -88,6 +90,15 @@ rule_line rule.V17Tick = codes "refused V17 tick\n"
 rule_line rule.V17Priorities = codes "refused V17 priorities\n"
 rule_line (rule.V17 object) = name_line (codes "refused V17 ") object
 rule_line rule.NoMemory = codes "refused\n"
+
+-- the line of what is wrong with the background objects of a design
+abbrev pub misfit_line : BackgroundRule → List ℕ
+misfit_line (background.A1 object) = name_line (codes "refused A1 ") object
+misfit_line (background.A2 object target) = use_line (codes "refused A2 ") object target
+misfit_line (background.A3 object) = name_line (codes "refused A3 ") object
+misfit_line (background.A4 object target) = use_line (codes "refused A4 ") object target
+misfit_line (background.A5 object) = name_line (codes "refused A5 ") object
+misfit_line (background.A6 object target) = codes "refused A6 " ++ (object ++ (codes " " ++ (target ++ codes "\n")))
 
 -- the code of a limit
 abbrev pub limit_text : Limit → List ℕ

@@ -22,6 +22,9 @@ use Rattle.guarantee.specs.Arrivals.{named_arrivals}
 use Rattle.guarantee.specs.Allowed.{Allows}
 use Rattle.guarantee.specs.Bounded.{IsBounded}
 use Rattle.guarantee.specs.Programs.{responses}
+use Rattle.background_designs.specs.Refusals.{IsBackgroundDesign}
+use Rattle.background_designs.specs.Programs.{hard_rows}
+use Rattle.background_designs.specs.Runs.{PermitsBackground}
 
 -- lines are the trace of the one program that an Ada text says, a run that a design allows, within its least bounds, under the arrivals of
 -- a text
@@ -41,3 +44,20 @@ pub record IsRightTrace (design text arrivals written : List ℕ) : Type 0 where
   pub exclusive : Exclusive told
   pub allowed : Allows (in_ticks of) (named_arrivals program under) (named program told)
   pub bounded : IsBounded (responses (flat (in_ticks of)) bounds) under.until (named program told)
+
+-- the same of the text of a design with background objects: a run that the design permits, within the least bounds of its hard threads
+pub record IsRightBackgroundTrace (design text arrivals written : List ℕ) : Type 0 where
+  pub of : Design
+  pub reads : Reads design of
+  pub passes : IsBackgroundDesign of
+  pub bounds : List Bound
+  pub least : IsLeastVector (hard_rows (in_ticks of)) bounds
+  pub program : Program
+  pub accepts : Accepts text program
+  pub under : Arrivals
+  pub arrives : Arrives horizon_limit arrivals program under
+  pub told : List Event
+  pub means : Meaning program under told
+  pub whole : written ≡ lines program told
+  pub exclusive : Exclusive told
+  pub permitted : PermitsBackground (in_ticks of) bounds (named_arrivals program under) (named program told)

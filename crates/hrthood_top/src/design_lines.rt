@@ -1,11 +1,13 @@
 ghost use Rattle.std.specs.Prelude.{◌≡◌};
 ghost use Rattle.hood_io.specs.Causes.{HasCause};
 ghost use Rattle.hood_io.specs.Sinks.{Puts};
-ghost use Rattle.hrthood_top.specs.Messages.{part_text, use_line, limit_text, rule_line, miss_line};
+ghost use Rattle.hrthood_top.specs.Messages.{part_text, use_line, limit_text, misfit_line, rule_line, miss_line};
+ghost use Rattle.background.specs.declared.delivery.BackgroundRule.TheVariants.{A6};
 ghost use Rattle.ods_index.specs.declared.broken.Broken.TheVariants.{V09Calls, V10, V13, V14, V15Cost, V16};
 
 use crate::line::{put_count, put_each, put_named};
 use crate::text_lines::body_text;
+use background::BackgroundRule;
 use hood_io::{Failed, Sink, put_all};
 use itoa::Buffer;
 use ods_rules::Broken;
@@ -230,6 +232,38 @@ pub(crate) fn put_rule<E: Sink>(err: &mut E, broken: &Broken) -> Result<(), Fail
         Broken::V17Priorities => put_all(err, b"refused V17 priorities\n"),
         Broken::V17 { object } => put_named(err, b"refused V17 ", object, b"\n"),
         Broken::NoMemory => put_all(err, b"refused\n"),
+    }
+}
+
+/// Writes the line of a client that requests a sporadic object; after a failure a proper front of it was written.
+fn put_request<E: Sink>(err: &mut E, object: &Name, target: &Name) -> Result<(), Failed>
+    ensures cause { HasCause (E.faults err.old) (E.faults err.new) result }
+    ensures puts { Puts (E.written err.old) (E.written err.new) (misfit_line (A6 object.now target.now)) result }
+{
+    put_each(
+        err,
+        &[
+            b"refused A6 ".as_slice(),
+            object.bytes(),
+            b" ".as_slice(),
+            target.bytes(),
+            b"\n".as_slice(),
+        ],
+    )
+}
+
+/// Writes the line of what is wrong with background objects; after a failure a proper front of it was written.
+pub(crate) fn put_misfit<E: Sink>(err: &mut E, rule: &BackgroundRule) -> Result<(), Failed>
+    ensures cause { HasCause (E.faults err.old) (E.faults err.new) result }
+    ensures puts { Puts (E.written err.old) (E.written err.new) (misfit_line rule.now) result }
+{
+    match rule {
+        BackgroundRule::A1 { object } => put_named(err, b"refused A1 ", object, b"\n"),
+        BackgroundRule::A2 { object, target } => put_use(err, b"refused A2 ", object, target),
+        BackgroundRule::A3 { object } => put_named(err, b"refused A3 ", object, b"\n"),
+        BackgroundRule::A4 { object, target } => put_use(err, b"refused A4 ", object, target),
+        BackgroundRule::A5 { object } => put_named(err, b"refused A5 ", object, b"\n"),
+        BackgroundRule::A6 { object, target } => put_request(err, object, target),
     }
 }
 

@@ -10,6 +10,7 @@
 mod ada_lines;
 mod analyse;
 mod arrival_lines;
+mod background_text;
 mod check;
 mod deadline_reports;
 mod design_lines;
@@ -41,6 +42,7 @@ mod usage;
 mod verify;
 mod violation;
 
+pub use background_text::BackgroundRefusal;
 pub use check::CheckRefusal;
 pub use deadline_reports::searched_as_analysed;
 pub use file_kind::FileKind;
@@ -53,5 +55,5 @@ pub use search::SearchRefusal;
 pub use status::Status;
 pub use thread_names::ThreadNames;
 pub use toolset::{run, run_plain};
-pub use two_runs::generated_text_replays;
+pub use two_runs::{background_text_replays, generated_text_replays};
 pub use verify::VerifyRefusal;

@@ -6,6 +6,7 @@ ghost use Rattle.hrthood_top.specs.Ends.{Ends, EndsVerb, Completes, outside};
 ghost use Rattle.hrthood_top.specs.Samples.{EndsSample};
 
 use crate::analyse::analyse;
+use crate::background_text::write_background;
 use crate::check::check;
 use crate::finish::{tell_no_memory, tell_usage};
 use crate::format::format;
@@ -40,6 +41,7 @@ fn do_on_design<F: Shelf, O: Sink, E: Sink>(
         DesignVerb::Generate => generate(alloc, design, shelf, out, err),
         DesignVerb::Search => search(alloc, design, shelf, out, err),
         DesignVerb::Scale => scale(alloc, design, shelf, out, err),
+        DesignVerb::Background => write_background(alloc, design, shelf, out, err),
     }
 }
 

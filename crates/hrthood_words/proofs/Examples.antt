@@ -1,7 +1,7 @@
 -- Examples of words and the commands that they are, each verb once, with words that differ from one by little and are none; and of the
 -- usage line of two verbs.
 use Rattle.std.proofs.Common.{◌≡◌, [], ◌∷◌, Some, None, refl, codes}
-use Rattle.hrthood_words.specs.declared.verbs.DesignVerb.TheVariants.{Check, Analyse, Format, Generate, Search, Scale}
+use Rattle.hrthood_words.specs.declared.verbs.DesignVerb.TheVariants.{Check, Analyse, Format, Generate, Search, Scale, Background}
 use Rattle.hrthood_words.specs.declared.verbs.Shape.TheVariants.{Design, DesignArrivals}
 use Rattle.hrthood_words.specs.Words.{OnDesign, Replay, Verify, Sample, command_of, usage_of}
 
@@ -31,6 +31,9 @@ search = refl
 
 scale : command_of (codes "scale" ∷ codes "d" ∷ []) ≡ Some (OnDesign Scale (codes "d"))
 scale = refl
+
+background : command_of (codes "background" ∷ codes "d" ∷ []) ≡ Some (OnDesign Background (codes "d"))
+background = refl
 
 -- no word, no operand, one too many, one too few
 nothing : command_of [] ≡ None

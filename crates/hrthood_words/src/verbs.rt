@@ -17,6 +17,8 @@ pub enum DesignVerb {
     Search,
     /// Find how far its `work` may grow.
     Scale,
+    /// Make the Ada text of a design with background objects.
+    Background,
 }
 
 /// The operands that a verb asks for, and which of the verbs that ask for these it is, where there are several.
@@ -33,7 +35,7 @@ pub enum Shape {
 }
 
 /// The verbs in the order of the usage line, each as it is written, with what it asks for.
-pub const VERBS: [(&str, Shape); 9] = [
+pub const VERBS: [(&str, Shape); 10] = [
     ("check", Shape::Design(DesignVerb::Check)),
     ("analyse", Shape::Design(DesignVerb::Analyse)),
     ("format", Shape::Design(DesignVerb::Format)),
@@ -43,6 +45,7 @@ pub const VERBS: [(&str, Shape); 9] = [
     ("sample", Shape::Count),
     ("search", Shape::Design(DesignVerb::Search)),
     ("scale", Shape::Design(DesignVerb::Scale)),
+    ("background", Shape::Design(DesignVerb::Background)),
 ];
 
 /// The operands of a shape in the usage line, a letter each, with a space before it.

@@ -62,8 +62,15 @@ module _ (costs : Costs) (calls : Name → Name → Callee) (b : Statements) (wh
   pub stepped : (rest : List Frame) (f : Frame) (leaving : Bool) (vars : Variables) (low high : ℕ) (script : List Action) (on : Bool) (t : State)
       → length rest ≤ most
       → Keeping (to_do (doing_of f) (record { doings = doings_of rest; leaving = leaving; vars = vars; low = low; high = high; script = script }))
-      → moved on t ≡ step costs calls (doing_of f) (record { doings = doings_of rest; leaving = leaving; vars = vars; low = low; high
-          = high; script = script })
+      → moved on t ≡ step costs calls (doing_of f) (record {
+        doings = doings_of rest;
+        leaving = leaving;
+        vars = vars;
+        low = low;
+        high
+            = high;
+        script = script;
+      })
       → on ≡ true → Keeping t
   stepped rest f leaving vars low high script on t some k e made =
       on-keeps costs calls b whole names count (doing_of f) _ t (rest-few rest some) k (sym e ∙ ap (λ x. moved x t) made)
@@ -75,8 +82,15 @@ module _ (costs : Costs) (calls : Name → Name → Callee) (b : Statements) (wh
   pub stopped : (rest : List Frame) (f : Frame) (leaving : Bool) (vars : Variables) (low high : ℕ) (script : List Action) (on : Bool) (t : State)
       (left : ℕ) → length rest ≤ most
       → Keeping (to_do (doing_of f) (record { doings = doings_of rest; leaving = leaving; vars = vars; low = low; high = high; script = script }))
-      → moved on t ≡ step costs calls (doing_of f) (record { doings = doings_of rest; leaving = leaving; vars = vars; low = low; high
-          = high; script = script })
+      → moved on t ≡ step costs calls (doing_of f) (record {
+        doings = doings_of rest;
+        leaving = leaving;
+        vars = vars;
+        low = low;
+        high
+            = high;
+        script = script;
+      })
       → on ≡ false → left ≡ length t.script → (depth : ℕ) → most < depth → IsEnd names count (Stopped left) (whole depth)
   stopped rest f leaving vars low high script on t left some k e made same depth big =
       let stops = sym e ∙ ap (λ x. moved x t) made in
@@ -94,8 +108,15 @@ module _ (costs : Costs) (calls : Name → Name → Callee) (b : Statements) (wh
       → Keeping (record { doings = []; leaving = leaving; vars = vars; low = low; high = high; script = script })
       → (depth : ℕ) → most < depth → whole depth ≡ Err (length script)
   none-left vars low high leaving script a us e k depth big =
-      sym (k.kept depth big) ∙ ap (λ xs. rest_of costs calls depth (record { doings = []; leaving = leaving; vars = vars; low = low; high
-          = high; script = xs })) e
+      sym (k.kept depth big) ∙ ap (λ xs. rest_of costs calls depth (record {
+        doings = [];
+        leaving = leaving;
+        vars = vars;
+        low = low;
+        high
+            = high;
+        script = xs;
+      })) e
       ∙ ap (λ xs. Err (length xs)) (sym e)
 
   pub left-over : (fs : List Frame) (vars : Variables) (low high : ℕ) (leaving : Bool) (script : List Action) (left : ℕ) → fs ≡ []
@@ -104,8 +125,15 @@ module _ (costs : Costs) (calls : Name → Name → Callee) (b : Statements) (wh
       → (depth : ℕ) → most < depth → IsEnd names count (Stopped left) (whole depth)
   left-over fs vars low high leaving [] left none some same k depth big = absurd (some refl)
   left-over fs vars low high leaving (a ∷ us) left none some same k depth big =
-      let k' = subst (λ xs. Keeping (record { doings = doings_of xs; leaving = leaving; vars = vars; low = low; high = high; script
-          = a ∷ us })) none k in
+      let k' = subst (λ xs. Keeping (record {
+        doings = doings_of xs;
+        leaving = leaving;
+        vars = vars;
+        low = low;
+        high = high;
+        script
+            = a ∷ us;
+      })) none k in
       ended-at (length (a ∷ us)) left (whole depth) (none-left vars low high leaving (a ∷ us) a us refl k' depth big) same k.fewer
 
   pub all-done : (fs : List Frame) (vars : Variables) (low high : ℕ) (leaving : Bool) (script : List Action) (values : Vec ℕ Global) → fs ≡ []
@@ -122,17 +150,24 @@ module _ (costs : Costs) (calls : Name → Name → Callee) (b : Statements) (wh
 pub begun : (costs : Costs) (calls : Name → Name → Callee) (b : Block) (fs : List Frame) (vars env : Variables) (script : List rust.Action)
     → doings_of fs ≡ Rest (statements_of (map statement_of b.stmts.items)) ∷ [] → vars ≡ env
     → Keeps costs calls (block_of b) (λ depth. comes_to (whole_at (walk_at costs calls depth (block_of b) env) (map action_of script)))
-        (names_of env) (length script)
+    (names_of env) (length script)
     (record { doings = doings_of fs; leaving = false; vars = vars; low = 0; high = 0; script = map action_of script })
 begun costs calls b fs vars env script made same =
     let k = begins-kept costs calls (block_of b) env (map action_of script) in
     let n = length-map script action_of in
     let all = subst (λ c. Keeps costs calls (block_of b) (λ depth. comes_to (whole_at (walk_at costs calls depth (block_of b) env)
-        (map action_of script)))
-    (names_of env) c (record { doings = Rest (block_of b) ∷ []; leaving = false; vars = env; low = 0; high = 0; script
-        = map action_of script })) n k in
+    (map action_of script)))
+    (names_of env) c (record {
+      doings = Rest (block_of b) ∷ [];
+      leaving = false;
+      vars = env;
+      low = 0;
+      high = 0;
+      script
+          = map action_of script;
+    })) n k in
     let named = subst (λ vs. Keeps costs calls (block_of b) (λ depth. comes_to (whole_at (walk_at costs calls depth (block_of b) env)
-        (map action_of script)))
+    (map action_of script)))
     (names_of env) (length script)
     (record { doings = Rest (block_of b) ∷ []; leaving = false; vars = vs; low = 0; high = 0; script = map action_of script })) (sym same) all in
     subst (λ ds. Keeps costs calls (block_of b) (λ depth. comes_to (whole_at (walk_at costs calls depth (block_of b) env) (map action_of script)))
@@ -143,8 +178,15 @@ begun costs calls b fs vars env script made same =
 -- a step brings the end nearer
 pub nearer-by : (costs : Costs) (calls : Name → Name → Callee) (fs rest : List Frame) (f : Frame) (leaving : Bool) (vars : Variables) (low high : ℕ)
     (script : List Action) (on : Bool) (t : State) → length rest ≤ most → fs ≡ rest ++ f ∷ []
-    → moved on t ≡ step costs calls (doing_of f) (record { doings = doings_of rest; leaving = leaving; vars = vars; low = low; high
-        = high; script = script })
+    → moved on t ≡ step costs calls (doing_of f) (record {
+      doings = doings_of rest;
+      leaving = leaving;
+      vars = vars;
+      low = low;
+      high
+          = high;
+      script = script;
+    })
     → on ≡ true → toll costs calls 1 deepest t.doings < toll costs calls 1 deepest (doings_of fs)
 nearer-by costs calls fs rest f leaving vars low high script on t some cut e made =
     let n = doings-length rest in

@@ -162,8 +162,15 @@ module _ (costs : Costs) (calls : Name → Name → Callee) (deepest : ℕ) wher
   -- an action that has to be next
   told-on : (ds : List Doing) (vars : Variables) (low high : ℕ) (script : List Action) (sees : Action → Option Action) (l h : ℕ) (p : Path)
       → p.left ≡ false → p.vars ≡ vars → p.low ≡ l → p.high ≡ h
-      → rest_after (told_by (λ a. is_some (sees a)) script (record { doings = ds; leaving = false; vars = vars; low = low; high = high; script
-          = script })
+      → rest_after (told_by (λ a. is_some (sees a)) script (record {
+        doings = ds;
+        leaving = false;
+        vars = vars;
+        low = low;
+        high = high;
+        script
+            = script;
+      })
       (λ t. Ok (spent l h t)))
       ≡ behind (then_at (token_at sees) (λ a. pure_at p) script) (onwards ds low high)
   told-on ds vars low high [] sees l h p e f g i = refl
@@ -227,12 +234,12 @@ module _ (costs : Costs) (calls : Name → Name → Callee) (deepest : ℕ) wher
       → n ≡ suc (deepest - suc (backs ds))
       → rest_of (entered_op costs o actuals (record { doings = ds; leaving = false; vars = vars; low = low; high = high; script = script }))
       ≡ behind (then_at (body_at costs calls n o (opened o (handed o.sig.params actuals vars)))
-          (λ b. pure_at (returned costs o actuals vars b)) script)
+      (λ b. pure_at (returned costs o actuals vars b)) script)
       (onwards ds low high)
   entered-on ds vars low high script o actuals n e =
       returned-on ds vars low high o actuals (block_at (guide_at (suc (backs ds))) o.block (opened o (handed o.sig.params actuals vars)) script)
       ∙ ap (λ k. behind (then_at (body_at costs calls k o (opened o (handed o.sig.params actuals vars)))
-          (λ b. pure_at (returned costs o actuals vars b))
+      (λ b. pure_at (returned costs o actuals vars b))
       script) (onwards ds low high)) (sym e)
 
   deeper : (n : ℕ) → n < deepest → deepest - n ≡ suc (deepest - suc n)

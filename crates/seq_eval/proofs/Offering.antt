@@ -47,7 +47,7 @@ pub plain-added : (owners : List Name) (passive : List OpText) (at : ℕ) (owner
     (callee_of old)
     → new ≡ cond (same_op (record { object = owner; op = o.sig.name }) n) (Some t) now
     → callee_of new ≡ first_callee (λ p. Plain p.1) (find (is_plain n.object n.op) (zip (drop (at - 1) owners) (map operation_of (drop
-        (at - 1) passive))))
+    (at - 1) passive))))
     (callee_of old)
 plain-added owners passive at owner o n t now old new even some within is-owner is means was made =
     let test = is_plain n.object n.op in
@@ -55,7 +55,7 @@ plain-added owners passive at owner o n t now old new even some within is-owner 
     ∙ in_front (same_op (record { object = owner; op = o.sig.name }) n) (λ p. Plain p.1) (owner, operation_of o) t now
     (find test (zip (drop at owners) (map operation_of (drop at passive)))) (callee_of old) means was
     ∙ ap (λ k. first_callee (λ p. Plain p.1) (find test ((owner, operation_of o) ∷ zip (drop k owners) (map operation_of (drop k passive))))
-        (callee_of old))
+    (callee_of old))
     (sym (one_on at some))
     ∙ ap (λ os. first_callee (λ p. Plain p.1) (find test (zip os (operation_of o ∷ map operation_of (drop ((at - 1) + 1) passive)))) (callee_of old))
     (sym (drop_step owners (at - 1) owner (omega (arith, some, within, even)) is-owner))

@@ -158,7 +158,7 @@ module _ (costs : Costs) (calls : Name → Name → Callee) (each deepest : ℕ)
   turning-pays : (s t : State) (name : Name) (at last n : ℕ) (body : Statements) (before l : ℕ) → t.low ≡ s.low + l → t.high ≡ s.high + l
       → n ≡ suc (last - at)
       → before ≡ each + (l + n * (each + each + costs.turn + toll_block costs calls each (toll_called costs calls each
-          (deepest - backs t.doings)) body))
+      (deepest - backs t.doings)) body))
       + tolls t.doings
       → Paying before s (turning name at last body t)
   turning-pays s t name at last n body before l e f count g =

@@ -126,7 +126,7 @@ impl<'a> Targets<'a> {
         requires { length owners.now ≡ length passive.now }
         ensures { IfOk result (λ t. (object op : NameBytes) → leads t object op
             ≡ callees owners.entry.now (map operation_of passive.entry.now) (map offer_of shared.entry.now)
-                (map offer_of requests.entry.now) object op) }
+            (map offer_of requests.entry.now) object op) }
     {
         let mut targets = Targets::none(alloc);
         targets.add_requests(alloc, requests)?;

@@ -5,10 +5,11 @@ use Rattle.std.specs.Prelude.{unwrap_or}
 use Rattle.hood_io.specs.Shelves.{Told}
 use Rattle.hrthood_top.specs.declared.status.Status.{Status}
 use Rattle.hrthood_top.specs.declared.status.Status.TheVariants.{Done, Refused, Usage, ReadFault, WriteFault, NoMemory}
-use Rattle.hrthood_words.specs.declared.verbs.DesignVerb.TheVariants.{Check, Analyse, Format, Generate, Search, Scale}
+use Rattle.hrthood_words.specs.declared.verbs.DesignVerb.TheVariants.{Check, Analyse, Format, Generate, Search, Scale, Background}
 use Rattle.hrthood_words.specs.Words.{Command, OnDesign, Replay, Verify, Sample}
 use Rattle.hrthood_top.specs.Commands.{verb_of}
 use Rattle.hrthood_top.specs.Analyses.{analyses}
+use Rattle.hrthood_top.specs.Backgrounds.{backgrounds}
 use Rattle.hrthood_top.specs.Checks.{checks}
 use Rattle.hrthood_top.specs.Formats.{formats}
 use Rattle.hrthood_top.specs.Generates.{generates}
@@ -38,6 +39,9 @@ search_verb d = refl
 
 scale_verb : (d : List ℕ) → verb_of (OnDesign Scale d) ≡ scales d
 scale_verb d = refl
+
+background_verb : (d : List ℕ) → verb_of (OnDesign Background d) ≡ backgrounds d
+background_verb d = refl
 
 replay_verb : (a r : List ℕ) → verb_of (Replay a r) ≡ replays a r
 replay_verb a r = refl
@@ -71,7 +75,8 @@ start = record {
 }
 
 abbrev usage_line : List ℕ
-usage_line = codes "usage: hrthood check D | analyse D | format D | generate D | replay A R | verify D R | sample N | search D | scale D\n"
+usage_line =
+    codes "usage: hrthood check D | analyse D | format D | generate D | replay A R | verify D R | sample N | search D | scale D | background D\n"
 
 usage : Ends Usage None start (record start { err = Some usage_line })
 usage = (refl, refl, inl refl)

@@ -50,7 +50,7 @@ abbrev start : Place
 start = record { line = 1; column = 1 }
 
 -- files without a byte, and with this one
-abbrev empty : Texts
+abbrev pub empty : Texts
 empty kind = []
 
 abbrev strange : Texts
@@ -76,7 +76,7 @@ without_tokens : (name : Name) (version : Option VersionTwo) (costs : Costs) (ro
 without_tokens name None costs root spelled = (let e : 0 ≡ 1 = ap token_count (sym nothing_plain ∙ spelled) in omega (arith, e))
 without_tokens name (Some version) costs root spelled = (let e : 0 ≡ 1 = ap token_count (sym nothing_plain ∙ spelled) in omega (arith, e))
 
-no_design : (x : Design) → Reads [] x → ⊥
+pub no_design : (x : Design) → Reads [] x → ⊥
 no_design x h = without_tokens x.name x.version x.costs x.root h.spelled
 
 no_program : (p : Program) → programs.Reads [] p → ⊥

@@ -11,13 +11,15 @@ use std::test::Fail;
 /// What rows of full sinks have: the design of one cyclic object, and its text.
 const USUAL: &str = "arrivals: UNTIL 20;";
 
-/// Each verb, and a replay that stops. The text that `generate` makes has 1,240 bytes, the line behind it 9, and the trace 80; the first line of
-/// the summary has 53 bytes, and the second 11.
+/// Each verb, and a replay that stops. The text that `generate` and `background` make has 1,240 bytes, the line behind it 9, and the trace 80;
+/// the first line of the summary has 53 bytes, and the second 11.
 const WRITTEN: &[&str] = &[
     "words: check d",
     "words: format d",
     "words: analyse d",
     "words: generate d
+    rooms: 0 1 620 1239",
+    "words: background d
     rooms: 0 1 620 1239",
     "words: replay a.ada r",
     "words: verify d r
@@ -111,7 +113,7 @@ fn a_byte_at_a_time(rt: HostRuntime) -> Result<(), Fail> {
 const TOLD: &[&str] = &[
     "words: check
     status: usage
-    err: usage: hrthood check D | analyse D | format D | generate D | replay A R | verify D R | sample N | search D | scale D",
+    err: usage: hrthood check D | analyse D | format D | generate D | replay A R | verify D R | sample N | search D | scale D | background D",
     "words: check x
     status: read fault
     err: fault reading x",

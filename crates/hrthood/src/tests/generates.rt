@@ -274,9 +274,9 @@ fn texts_of_designs(rt: HostRuntime) -> Result<(), Fail> {
     run_table(&rt, rt.alloc(), MADE, GENERATED)
 }
 
-/// Looks at the head of the text of a row's design.
-fn check_head(rt: &impl Abort, alloc: Global, given: &str) -> Result<(), Fail> {
-    let row = row_text(alloc, given, MADE)?;
+/// Looks at the head of the text of a row's design, where rows have these keys too.
+fn check_head(rt: &impl Abort, alloc: Global, usual: &str, given: &str) -> Result<(), Fail> {
+    let row = row_text(alloc, given, usual)?;
     let head = lines(alloc, &row, "out")?;
     let told = run_row(alloc, &row)?;
     let text = told.out.bytes();
@@ -285,17 +285,27 @@ fn check_head(rt: &impl Abort, alloc: Global, given: &str) -> Result<(), Fail> {
     Ok(())
 }
 
-fn check_heads(rt: &impl Abort, alloc: Global, table: &[&str]) -> Result<(), Fail> {
+/// Looks at the heads of texts, of a table whose rows have these keys too.
+pub fn check_heads(
+    rt: &impl Abort,
+    alloc: Global,
+    usual: &str,
+    table: &[&str],
+) -> Result<(), Fail> {
     for given in table {
-        check_head(rt, alloc, given)?;
+        check_head(rt, alloc, usual, given)?;
     }
     Ok(())
 }
 
 #[test]
 fn heads_of_texts_of_designs(rt: HostRuntime) -> Result<(), Fail> {
-    check_heads(&rt, rt.alloc(), HEADS)
+    check_heads(&rt, rt.alloc(), MADE, HEADS)
 }
+
+/// What rows of designs whose texts are replayed have.
+const GENERATES: &str = "words: generate d
+    arrivals: UNTIL 20;";
 
 /// A design whose text is replayed.
 const REPLAYED: &[&str] = &[
@@ -312,9 +322,9 @@ const REPLAYED: &[&str] = &[
     out: 20 horizon",
 ];
 
-/// Makes the text of a row's design, and looks at its replay.
-fn check_made(rt: &impl Abort, alloc: Global, given: &str) -> Result<(), Fail> {
-    let row = row_text(alloc, given, "words: generate d\narrivals: UNTIL 20;")?;
+/// Makes the text of a row's design, where rows have these keys too, and looks at its replay.
+fn check_made(rt: &impl Abort, alloc: Global, usual: &str, given: &str) -> Result<(), Fail> {
+    let row = row_text(alloc, given, usual)?;
     let arrivals = arrivals_bytes(alloc, &row)?;
     let trace = lines(alloc, &row, "out")?;
     let made = run_row(alloc, &row)?;
@@ -323,9 +333,15 @@ fn check_made(rt: &impl Abort, alloc: Global, given: &str) -> Result<(), Fail> {
     check_replay(rt, alloc, text, &arrivals, &trace, given)
 }
 
-fn check_texts(rt: &impl Abort, alloc: Global, table: &[&str]) -> Result<(), Fail> {
+/// Makes texts and looks at their replays, of a table whose rows have these keys too.
+pub fn check_texts(
+    rt: &impl Abort,
+    alloc: Global,
+    usual: &str,
+    table: &[&str],
+) -> Result<(), Fail> {
     for given in table {
-        check_made(rt, alloc, given)?;
+        check_made(rt, alloc, usual, given)?;
     }
     Ok(())
 }
@@ -334,6 +350,6 @@ fn check_texts(rt: &impl Abort, alloc: Global, table: &[&str]) -> Result<(), Fai
 #[test]
 fn texts_of_designs_are_replayed(rt: HostRuntime) -> Result<(), Fail> {
     let alloc = rt.alloc();
-    check_texts(&rt, alloc, REPLAYED)?;
-    check_texts(&rt, alloc, traces())
+    check_texts(&rt, alloc, GENERATES, REPLAYED)?;
+    check_texts(&rt, alloc, GENERATES, traces())
 }

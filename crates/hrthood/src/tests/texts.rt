@@ -12,6 +12,7 @@
 //! | `ada_cut` | so many bytes are missing at its end |
 //! | `ada_len` | with spaces behind it, up to so many bytes |
 
+use super::backgrounds::{LOGGED, LOGGED_ROOT, TURNS};
 use super::changed_tokens::{ADA, ARRIVALS, DESIGN, UNITS};
 use super::checks::{WRONG, WRONG_WITHOUT_CLASHES};
 use super::formats::{COMMENTED, FORMATTED, TOO_GREAT};
@@ -283,10 +284,13 @@ const SMALL_DESIGNS: &[(&str, &str)] = &[
     ("formatted", FORMATTED),
     ("inner calls", INNER_CALLS),
     ("inner start", INNER_START),
+    ("logged", LOGGED),
+    ("logged root", LOGGED_ROOT),
     ("milliseconds", IN_MILLISECONDS),
     ("section at the end", SECTION_AT_THE_END),
     ("started", STARTED),
     ("too great", TOO_GREAT),
+    ("turns", TURNS),
     ("two objects", TWO_OBJECTS),
     ("wrong", WRONG),
     ("wrong without clashes", WRONG_WITHOUT_CLASHES),
@@ -485,7 +489,7 @@ pub const TRACE: &str =
 
 /// Words that are no command.
 const NO_COMMAND: &str = "status: usage
-    err: usage: hrthood check D | analyse D | format D | generate D | replay A R | verify D R | sample N | search D | scale D";
+    err: usage: hrthood check D | analyse D | format D | generate D | replay A R | verify D R | sample N | search D | scale D | background D";
 
 /// A task with a passive operation that never assigns what it hands out.
 const GIVES_NOTHING: &str = "heads: package p is procedure f (w : out word); end p;

@@ -1,7 +1,7 @@
-use Rattle.std.proofs.Common.{◌≡◌, ◌-◌, ◌≤◌, ◌<◌, ℕ, length, map, refl, sym, ap, subst, ◌∙◌, arith}
+use Rattle.std.proofs.Common.{◌≡◌, ◌-◌, ◌≤◌, ◌<◌, ℕ, length, sym, ap, subst, ◌∙◌, arith}
 use Rattle.std.proofs.lemmas.List.{length-map}
 use Rattle.seq_tree.specs.Lists.{Each}
-use Rattle.ods_tree.specs.Trees.{flat_of, guarded_of, thread_of}
+use Rattle.ods_tree.specs.Trees.{flat_of, thread_of}
 use Rattle.analysis.specs.Ceilings.{ranks, Ranks}
 use Rattle.analysis.specs.Trees.{ranks_of, table_of}
 use Rattle.background_designs.specs.Programs.{raised}
@@ -46,7 +46,8 @@ pub finish-requires-clause-bounds : goal.finish-requires-clause-bounds
 finish-requires-clause-bounds c =
     let f = flat_of c.args.flat in
     let counted : c.slow_count-clients.result ≡ slow_count f = rw c.as_slice.ensures.value at c.slow_count-clients.ensures in
-    let whole : c.len.result ≡ length f.threads = omega (arith, length-map c.args.flat.threads.items thread_of, c.len.ensures, c.args.flat.threads.ok.0) in
+    let whole : c.len.result ≡ length f.threads =
+    omega (arith, length-map c.args.flat.threads.items thread_of, c.len.ensures, c.args.flat.threads.ok.0) in
     let count : c.len.result - c.slow_count-clients.result ≡ front_count f = omega (arith, counted, whole) in
     let front = cut-places f (table_of c.args.table) (c.len.result - c.slow_count-clients.result) c.cut.new.table.thread.items c.requires.table count
     c.cut.ensures.places in
@@ -56,11 +57,13 @@ pub finish-requires-clause-places : goal.finish-requires-clause-places
 finish-requires-clause-places c =
     let f = flat_of c.args.flat in
     let counted : c.slow_count-clients.result ≡ slow_count f = rw c.as_slice.ensures.value at c.slow_count-clients.ensures in
-    let whole : c.len.result ≡ length f.threads = omega (arith, length-map c.args.flat.threads.items thread_of, c.len.ensures, c.args.flat.threads.ok.0) in
+    let whole : c.len.result ≡ length f.threads =
+    omega (arith, length-map c.args.flat.threads.items thread_of, c.len.ensures, c.args.flat.threads.ok.0) in
     let count : c.len.result - c.slow_count-clients.result ≡ front_count f = omega (arith, counted, whole) in
     let front = cut-places f (table_of c.args.table) (c.len.result - c.slow_count-clients.result) c.cut.new.table.thread.items c.requires.table count
     c.cut.ensures.places in
-    let same = sym (set-threads f (flat_of c.set_restless.new.flat) c.set_restless.ensures) ∙ length-map c.set_restless.new.flat.threads.items thread_of in
+    let same = sym (set-threads f (flat_of c.set_restless.new.flat) c.set_restless.ensures)
+    ∙ length-map c.set_restless.new.flat.threads.items thread_of in
     let Q : ℕ → Type 0 = λ n. Each (λ at. at < n) c.cut.new.table.thread.items in
     let P : _ → Type 0 = λ ps. Each (λ at. at < length f.threads) ps in
     subst Q same (subst P (sym front) (front-stand f))
@@ -85,7 +88,8 @@ pub returns : goal.returns
 returns c =
     let f = flat_of c.args.flat in
     let counted : c.slow_count-clients.result ≡ slow_count f = rw c.as_slice.ensures.value at c.slow_count-clients.ensures in
-    let whole : c.len.result ≡ length f.threads = omega (arith, length-map c.args.flat.threads.items thread_of, c.len.ensures, c.args.flat.threads.ok.0) in
+    let whole : c.len.result ≡ length f.threads =
+    omega (arith, length-map c.args.flat.threads.items thread_of, c.len.ensures, c.args.flat.threads.ok.0) in
     let count : c.len.result - c.slow_count-clients.result ≡ front_count f = omega (arith, counted, whole) in
     let k = c.len.result - c.slow_count-clients.result in
     let up : ranks_of c.raise.new.order ≡ raised (slow_count f) (ranks f)

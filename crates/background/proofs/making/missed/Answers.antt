@@ -32,7 +32,11 @@ returns-in-Ok c =
     let i = miss-inside f c.args.miss places c.requires.places c.requires.missed.first in
     let at = slice_get_read places _ c.args.miss.index c.index.result.now refl i c.index.ensures in
     let k : c.index.result.now < length c.args.flat.now.threads.items =
-    omega (arith, place-inside f places c.args.miss.index c.index.result.now c.requires.places at, length-map c.args.flat.now.threads.items thread_of) in
+    omega (
+      arith,
+      place-inside f places c.args.miss.index c.index.result.now c.requires.places at,
+      length-map c.args.flat.now.threads.items thread_of,
+    ) in
     let thread = slice_get_read c.args.flat.now.threads.items _ c.index.result.now c.index-2.result.now refl k c.index-2.ensures in
     record {
       missed = c.requires.missed;

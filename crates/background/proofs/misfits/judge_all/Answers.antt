@@ -1,8 +1,5 @@
-use Rattle.std.proofs.Common.{rules, ◌≡◌, Err, sym, subst}
+use Rattle.std.proofs.Common.{rules, ◌≡◌, Err}
 use Rattle.ods_tree.specs.Trees.{design_of}
-use Rattle.ods_index.specs.Judging.{head_of}
-use Rattle.background_designs.specs.Misfits.{misfits}
-use Rattle.background.specs.Told.{Tells}
 use Rattle.background.proofs.MisfitLists.{shape-told, wait-told, service-told, request-told, all-told}
 use Rattle.background.proofs.misfits.judge_all.Goals as goal
 

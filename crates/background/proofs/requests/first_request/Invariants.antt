@@ -7,4 +7,5 @@ use Rattle.background.proofs.requests.first_request.Given as goal
 -- the first is that of the threads that are left
 abbrev pub invariant-threads : goal.invariant-threads
 invariant-threads l =
-    head_of (filter_map (request_fault (flat_of l.flat)) (map thread_of (drop l.place l.flat.threads.items))) ≡ head_of (slow_requests (flat_of l.flat))
+    head_of (filter_map (request_fault (flat_of l.flat)) (map thread_of (drop l.place l.flat.threads.items)))
+    ≡ head_of (slow_requests (flat_of l.flat))

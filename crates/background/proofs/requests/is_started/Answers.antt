@@ -1,4 +1,4 @@
-use Rattle.std.proofs.Common.{◌<◌, ◌≡◌, ◌&&◌, Some, slice_get, length, refl, ap, sym, ◌∙◌, arith}
+use Rattle.std.proofs.Common.{◌&&◌, slice_get, refl, ap, sym, ◌∙◌, arith}
 use Rattle.std.proofs.lemmas.Option.{slice_get_read, slice_get_within, same_Some}
 use Rattle.ods_tree.specs.Trees.{flat_of, thread_of}
 use Rattle.analysis.specs.Priorities.{priorities_of}
@@ -9,7 +9,8 @@ use Rattle.background.proofs.requests.is_started.Goals as goal
 
 pub index-requires : goal.index-requires
 index-requires c =
-    let r = row-starter (flat_of c.args.flat.now) c.args.place c.row_of-own.result (thread_of c.args.thread.now) c.requires.stands c.row_of-own.ensures in
+    let r = row-starter (flat_of c.args.flat.now) c.args.place c.row_of-own.result (thread_of c.args.thread.now) c.requires.stands
+    c.row_of-own.ensures in
     let there = ap (λ t. slice_get t.rows c.row_of-own.result) c.requires.table ∙ r.1 in
     omega (arith, slice_get_within c.args.table.now.rows.items c.row_of-own.result r.0 there, c.args.table.now.rows.ok.0)
 

@@ -39,7 +39,7 @@ returns-in-Done c =
     (Done c.in-Done.low c.in-Done.high c.in-Done.values) c.in-Done.is (c.in_ok-low.ensures.ended cheap) in
     let after = c.set_values.new.env.slots.items in
     let says : IsCheap a.costs.now calls b → (depth : ℕ) → MayRun calls depth b
-        → Answers (whole depth) (length script) vars (followed.Done c.in-Done.low c.in-Done.high) after
+    → Answers (whole depth) (length script) vars (followed.Done c.in-Done.low c.in-Done.high) after
     = λ cheap depth may.
     answer-done (whole depth) (names_of vars) n (length script) c.in-Done.low c.in-Done.high c.in-Done.values vars after
     (at-depth a.costs.now calls b vars script (names_of vars) n (Done c.in-Done.low c.in-Done.high c.in-Done.values) depth (ended cheap) may)
@@ -84,7 +84,7 @@ returns-else-left-eq0 c =
     = λ cheap. known (names_of vars) n (λ d. comes_to (whole d)) c.in_ok-low.field-0 (Stopped c.in-Stopped.left) c.in-Stopped.is
     (c.in_ok-low.ensures.ended cheap) in
     let says : IsCheap a.costs.now calls b → (depth : ℕ) → MayRun calls depth b
-        → Answers (whole depth) (length script) vars (followed.Off (n - c.in-Stopped.left)) vars
+    → Answers (whole depth) (length script) vars (followed.Off (n - c.in-Stopped.left)) vars
     = λ cheap depth may.
     answer-off (whole depth) (names_of vars) n (length script) c.in-Stopped.left vars vars
     (at-depth a.costs.now calls b vars script (names_of vars) n (Stopped c.in-Stopped.left) depth (ended cheap) may) c.if-left-eq0.false

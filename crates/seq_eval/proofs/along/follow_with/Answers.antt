@@ -33,7 +33,7 @@ returns-then-not-has_few c =
     let names = names_of a.env.now.slots.items in
     let n = length a.script.now in
     let whole : ℕ → Result End ℕ = λ depth. comes_to (whole_at (walk_at a.costs.now calls depth b a.env.now.slots.items)
-        (map action_of a.script.now)) in
+    (map action_of a.script.now)) in
     let w = c.frames.walk in
     let i = c.frames.invariant in
     record {
@@ -50,19 +50,22 @@ returns-then-not-branch c =
     let names = names_of a.env.now.slots.items in
     let n = length a.script.now in
     let whole : ℕ → Result End ℕ = λ depth. comes_to (whole_at (walk_at a.costs.now calls depth b a.env.now.slots.items)
-        (map action_of a.script.now)) in
+    (map action_of a.script.now)) in
     let w = c.frames.walk in
     let rest = c.pop.new.self.items in
     let few-frames : length rest ≤ most = omega (arith, c.pop.new.self.ok, c.pop.new.self.small) in
     let k = popped a.costs.now calls b whole names n w.frames.items rest c.in-Some.frame w.leaving w.vars w.low w.high
-        (map action_of w.script.now) c.in-Some.ensures.items
+    (map action_of w.script.now) c.in-Some.ensures.items
     c.frames.invariant in
     let ended = stopped a.costs.now calls b whole names n rest c.in-Some.frame w.leaving w.vars w.low w.high
-        (map action_of w.script.now) c.in_ok-step.field-0
+    (map action_of w.script.now) c.in_ok-step.field-0
     (state_of c.step.new.self) (length c.step.new.self.script.now) few-frames k c.in_ok-step.ensures c.if-not-branch.true
     (sym (length-map c.step.new.self.script.now action_of)) in
-    record { fits = stopped-within names n (length c.step.new.self.script.now) (whole deepest) (ended deepest deep-enough); ended
-        = λ cheap depth big. ended depth big }
+    record {
+      fits = stopped-within names n (length c.step.new.self.script.now) (whole deepest) (ended deepest deep-enough);
+      ended
+          = λ cheap depth big. ended depth big;
+    }
 
 pub frames-smaller : goal.frames-smaller
 frames-smaller c =
@@ -91,15 +94,18 @@ returns-then-not-is_empty c =
     let names = names_of a.env.now.slots.items in
     let n = length a.script.now in
     let whole : ℕ → Result End ℕ = λ depth. comes_to (whole_at (walk_at a.costs.now calls depth b a.env.now.slots.items)
-        (map action_of a.script.now)) in
+    (map action_of a.script.now)) in
     let w = c.frames.walk in
     let ended = left-over a.costs.now calls b whole names n w.frames.items w.vars w.low w.high w.leaving (map action_of w.script.now)
-        (length w.script.now)
+    (length w.script.now)
     (no-frames w.frames.items (λ h. false≢true (c.in_default.ensures.variant.1 (omega (arith, h, w.frames.ok)))))
     (λ h. false≢true (sym c.if-not-is_empty.true ∙ c.is_empty.ensures
     ∙ eq-eqb (length w.script.now) 0 (sym (length-map w.script.now action_of) ∙ h))) (sym (length-map w.script.now action_of)) c.frames.invariant in
-    record { fits = stopped-within names n (length w.script.now) (whole deepest) (ended deepest deep-enough); ended
-        = λ cheap depth big. ended depth big }
+    record {
+      fits = stopped-within names n (length w.script.now) (whole deepest) (ended deepest deep-enough);
+      ended
+          = λ cheap depth big. ended depth big;
+    }
 
 pub returns : goal.returns
 returns c =
@@ -109,12 +115,15 @@ returns c =
     let names = names_of a.env.now.slots.items in
     let n = length a.script.now in
     let whole : ℕ → Result End ℕ = λ depth. comes_to (whole_at (walk_at a.costs.now calls depth b a.env.now.slots.items)
-        (map action_of a.script.now)) in
+    (map action_of a.script.now)) in
     let w = c.frames.walk in
     let ended = all-done a.costs.now calls b whole names n w.frames.items w.vars w.low w.high w.leaving
-        (map action_of w.script.now) c.in_ok-values.values
+    (map action_of w.script.now) c.in_ok-values.values
     (no-frames w.frames.items (λ h. false≢true (c.in_default.ensures.variant.1 (omega (arith, h, w.frames.ok)))))
     (length-map w.script.now action_of ∙ eqb-true (length w.script.now) 0 (sym c.is_empty.ensures
-        ∙ c.if-not-is_empty.false)) c.in_ok-values.ensures c.frames.invariant in
-    record { fits = done-length names n w.low w.high c.in_ok-values.values (whole deepest) (ended deepest deep-enough); ended
-        = λ cheap depth big. ended depth big }
+    ∙ c.if-not-is_empty.false)) c.in_ok-values.ensures c.frames.invariant in
+    record {
+      fits = done-length names n w.low w.high c.in_ok-values.values (whole deepest) (ended deepest deep-enough);
+      ended
+          = λ cheap depth big. ended depth big;
+    }

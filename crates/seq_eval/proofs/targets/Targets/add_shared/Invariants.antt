@@ -12,7 +12,7 @@ invariant-shared l = record {
   within : l.at ≤ length l.shared;
   added : (n : OpName) → callee_of (found_in l.self n)
       ≡ first_callee (λ o. Protected o.sig.params) (find (is_offered n.object n.op) (map offer_of (drop l.at l.shared))) (callee_of
-          (found_in l.fn.self n));
+      (found_in l.fn.self n));
 }
 
 abbrev pub decreases-shared : goal.decreases-shared

@@ -5,17 +5,9 @@ use Rattle.std.proofs.lemmas.List.{map-append}
 use Rattle.std.proofs.lemmas.List.Sums.{fold-append}
 use Rattle.std.proofs.lemmas.Grind.{reverse_onto}
 use Rattle.seq_tree.specs.Runs as runs
-<<<<<<< HEAD
-use Rattle.seq_eval.specs.declared.action.Action.{Action}
-use Rattle.seq_eval.specs.Actions.{action_of}
-use Rattle.script_laws.specs.Entries.{Shown, shown_at}
-use Rattle.script_laws.specs.Progress.{with_last}
-use Rattle.trace_laws.specs.Checks.{both}
-=======
 use Rattle.seq_eval.specs.declared.action.Action.{Action}
 use Rattle.seq_eval.specs.Actions.{action_of}
 use Rattle.script_laws.specs.Entries.{Shown}
->>>>>>> refs/remotes/f/main
 use Rattle.trace_scripts.specs.Scripts.{back_of, levels_of, shown_of}
 use Rattle.trace_scripts.specs.declared.scripts.Script.{Script}
 

@@ -2,13 +2,8 @@ use Rattle.std.proofs.Common.{rules, ℕ, ◌≤◌, ap, refl, get_or}
 use Rattle.trace_tree.specs.Lines.{unit_name}
 use Rattle.trace_scripts.specs.Books.{entry_of}
 use Rattle.trace_scripts.specs.Scenes.{program_in, software_of, calls_of}
-<<<<<<< HEAD
-use Rattle.trace_scripts.specs.Objects.{object_of, service_of}
-use Rattle.seq_eval.specs.Bounds.{most_ticks}
-=======
 use Rattle.trace_scripts.specs.Objects.{object_of}
 use Rattle.seq_eval.specs.Bounds.{most_ticks}
->>>>>>> refs/remotes/f/main
 use Rattle.block_walks.specs.Fit.{MayRun}
 use Rattle.guarantee.specs.Software.{leads_to}
 use Rattle.trace_scripts.proofs.Objecting.{object-here, none-here, ops-within, body-named, body-all, enter-made, charge-made, enter-none}

@@ -1,17 +1,6 @@
-<<<<<<< HEAD
-use Rattle.std.proofs.Common.{rules, ℕ, ◌≤◌, ap, get_or}
-use Rattle.trace_scripts.specs.Books.{entry_of}
-use Rattle.trace_scripts.specs.Scenes.{program_in, software_of, calls_of}
-use Rattle.trace_scripts.specs.Objects.{object_of, service_of}
-use Rattle.seq_eval.specs.Bounds.{most_ticks}
-use Rattle.block_walks.specs.Fit.{MayRun}
-use Rattle.guarantee.specs.Software.{leads_to}
-use Rattle.trace_scripts.proofs.Objecting.{object-here, none-here, ops-within, body-named, body-all, leave-made, enter-made, charge-made, leave-none, enter-none}
-=======
 use Rattle.std.proofs.Common.{rules, ap, get_or}
 use Rattle.trace_scripts.specs.Scenes.{program_in}
 use Rattle.trace_scripts.proofs.Objecting.{object-here, none-here, ops-within, leave-made, leave-none}
->>>>>>> refs/remotes/f/main
 use Rattle.trace_scripts.proofs.objects.Objects.leave.Goals as goal
 
 pub returns-in_default-clause-states : goal.returns-in_default-clause-states

@@ -1,0 +1,4 @@
+pub mod Answers
+pub mod Calling
+pub mod Units
+pub mod Refusals

@@ -4,3 +4,4 @@ pub mod Gaining
 pub mod Ticks
 pub mod Scenery
 pub mod Judging
+pub mod Wronging

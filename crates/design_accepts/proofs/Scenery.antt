@@ -1,4 +1,5 @@
 -- A program with the lists of what its calls may lead to is a scene.
+use Rattle.trace_text.proofs.Names.{unit_name-read}
 use Rattle.std.proofs.Common.{◌≡◌, ◌≤◌, ℕ, List, [], ◌∷◌, ◌++◌, map, length, refl, sym, ap, ◌∙◌, subst}
 use Rattle.std.proofs.lemmas.List.{length-map}
 use Rattle.seq_tree.specs.Names.{Name}
@@ -44,3 +45,4 @@ is-scene s c passive owners shared requests holds meets quick =
       ticks = subst (λ z. AllIn (λ b. (depth : ℕ) → most_ticks (program_in s).costs z depth b ≤ 1000000000) (program_in s)) (sym calls) quick;
     }
 
+pub ruleset name_steps = (unit_name-read)

@@ -2,3 +2,4 @@ pub mod Answers
 pub mod Calling
 pub mod Units
 pub mod Refusals
+pub mod Wrongs

@@ -1,0 +1,5 @@
+pub mod Answers
+pub mod Calling
+pub mod Units
+pub mod Refusals
+pub mod Wrongs

@@ -2,8 +2,8 @@
 -- usage line of two verbs.
 use Rattle.std.proofs.Common.{◌≡◌, [], ◌∷◌, Some, None, refl, codes}
 use Rattle.hrthood_words.specs.declared.verbs.DesignVerb.TheVariants.{Check, Analyse, Format, Generate, Search, Scale, Background}
-use Rattle.hrthood_words.specs.declared.verbs.Shape.TheVariants.{Design, DesignArrivals}
-use Rattle.hrthood_words.specs.Words.{OnDesign, Replay, Verify, Sample, command_of, usage_of}
+use Rattle.hrthood_words.specs.declared.verbs.Shape.TheVariants.{Design, DesignArrivals, DesignArrivalsTrace}
+use Rattle.hrthood_words.specs.Words.{OnDesign, Replay, Verify, Accepts, Sample, command_of, usage_of}
 
 check : command_of (codes "check" ∷ codes "d" ∷ []) ≡ Some (OnDesign Check (codes "d"))
 check = refl
@@ -35,6 +35,9 @@ scale = refl
 background : command_of (codes "background" ∷ codes "d" ∷ []) ≡ Some (OnDesign Background (codes "d"))
 background = refl
 
+accepts : command_of (codes "accepts" ∷ codes "d" ∷ codes "r" ∷ codes "t" ∷ []) ≡ Some (Accepts (codes "d") (codes "r") (codes "t"))
+accepts = refl
+
 -- no word, no operand, one too many, one too few
 nothing : command_of [] ≡ None
 nothing = refl
@@ -51,12 +54,21 @@ short = refl
 long : command_of (codes "replay" ∷ codes "a" ∷ codes "r" ∷ codes "s" ∷ []) ≡ None
 long = refl
 
+two_of_three : command_of (codes "accepts" ∷ codes "d" ∷ codes "r" ∷ []) ≡ None
+two_of_three = refl
+
+four : command_of (codes "accepts" ∷ codes "d" ∷ codes "r" ∷ codes "t" ∷ codes "u" ∷ []) ≡ None
+four = refl
+
 -- another word, a flag, an empty name, a count over 30
 other : command_of (codes "checks" ∷ codes "d" ∷ []) ≡ None
 other = refl
 
 flag : command_of (codes "verify" ∷ codes "d" ∷ codes "-r" ∷ []) ≡ None
 flag = refl
+
+last_flag : command_of (codes "accepts" ∷ codes "d" ∷ codes "r" ∷ codes "-t" ∷ []) ≡ None
+last_flag = refl
 
 unnamed : command_of (codes "check" ∷ [] ∷ []) ≡ None
 unnamed = refl
@@ -65,5 +77,8 @@ many : command_of (codes "sample" ∷ codes "31" ∷ []) ≡ None
 many = refl
 
 -- verbs with their operands, apart by bars
+three_operands : usage_of ((codes "accepts", DesignArrivalsTrace) ∷ []) ≡ codes "usage: hrthood accepts D R T\n"
+three_operands = refl
+
 two_listed : usage_of ((codes "check", Design Check) ∷ (codes "verify", DesignArrivals) ∷ []) ≡ codes "usage: hrthood check D | verify D R\n"
 two_listed = refl

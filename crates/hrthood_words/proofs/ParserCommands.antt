@@ -21,12 +21,12 @@ use Rattle.clap.specs.declared.parser.matches.ArgMatches.{ArgMatches}
 use Rattle.clap.specs.declared.parser.matches.ArgMatches.TheViews.{out-ArgMatches, out-SubCommand}
 use Rattle.clap.specs.declared.parser.matches.SubCommand.{SubCommand}
 use Rattle.clap.proofs.WalkLemmas.{first_value-rows}
-use Rattle.hrthood_words.specs.Words.{command_of, verb_command}
-use Rattle.hrthood_words.specs.Parsing.{IsVerb, are_plain, command_line, found_command, given_command, verb_tree, with_verbs, words_found}
+use Rattle.hrthood_words.specs.Words.{command_of}
+use Rattle.hrthood_words.specs.Parsing.{IsVerb, are_plain, command_line, found_command, given_command, verb_tree, with_verbs}
 use Rattle.hrthood_words.specs.Views.{listed}
 use Rattle.hrthood_words.specs.declared.verbs.Shape as verb
 use Rattle.std.specs.Borrow.{Bor}
-use Rattle.hrthood_words.proofs.ParserLaws.{plain-reads}
+use Rattle.hrthood_words.proofs.ParserLaws.{plain-reads, same-words}
 
 pub word-added : (old : Command) (a : Arg) (new : Command) (s : Shape) (r : Rule) → AddsArg old a new → IsVerb s old → rule_of a ≡ r
     → a.global ≡ false
@@ -108,8 +108,8 @@ pub found-is : (m inner : ArgMatches) (name : Text) → subcommand_name_of m ≡
     → found_command (subcommand_rows_of m) ≡ given_command name (found_of inner)
 found-is m inner name e f =
     ap found_command (entered-is name (rows_of (found_of inner)) (subcommand_rows_of m) (name-is (out-ArgMatches m).subcommand ∙ e) f)
-    ∙ ap₂ (λ x y. verb_command name (words_found x y)) (sym (first_value-rows (found_of inner) (codes "first")))
-    (sym (first_value-rows (found_of inner) (codes "second")))
+    ∙ same-words name (sym (first_value-rows (found_of inner) (codes "first"))) (sym (first_value-rows (found_of inner) (codes "second")))
+    (sym (first_value-rows (found_of inner) (codes "third")))
 
 pub found-none : (m : ArgMatches) → subcommand_name_of m ≡ None → found_command (subcommand_rows_of m) ≡ None
 found-none m e = ap found_command (none-entered (subcommand_rows_of m) (name-is (out-ArgMatches m).subcommand ∙ e))

@@ -15,12 +15,15 @@ use Rattle.clap.specs.declared.error.kind.ErrorKind.{ErrorKind}
 use Rattle.clap.specs.declared.error.kind.ErrorKind.TheVariants as kind
 use Rattle.clap.proofs.OnLiterals.{clap_on_literals}
 use Rattle.hrthood_words.specs.declared.verbs.Shape as verb
-use Rattle.hrthood_words.specs.declared.verbs.Shape.TheVariants.{Design, AdaArrivals, DesignArrivals, Count}
+use Rattle.hrthood_words.specs.declared.verbs.Shape.TheVariants.{Design, AdaArrivals, DesignArrivals, DesignArrivalsTrace, Count}
 use Rattle.hrthood_words.specs.Words.{Listed, command_of, command_with, is_file_name, shape_named, verb_command, verbs}
 use Rattle.hrthood_words.specs.Parsing.{are_plain, asks_help, command_line, found_command, has_flags, line_of, verb_tree, words_found}
-use Rattle.hrthood_words.proofs.ParserSteps.{comes_to, leaf, one_word, two_words, word_fault, turn-plain, found_first, found_second}
-use Rattle.hrthood_words.proofs.ParserSteps.{one-none, one-one, one-more, one-finds-first, one-finds-second}
-use Rattle.hrthood_words.proofs.ParserSteps.{two-none, two-one, two-two, two-more, two-finds-first, two-finds-second}
+use Rattle.hrthood_words.proofs.ParserSteps.{comes_to, leaf, one_word, two_words, three_words, word_fault, turn-plain}
+use Rattle.hrthood_words.proofs.ParserSteps.{found_first, found_second, found_third}
+use Rattle.hrthood_words.proofs.ParserSteps.{one-none, one-one, one-more, one-finds-first, one-finds-second, one-finds-third}
+use Rattle.hrthood_words.proofs.ParserSteps.{two-none, two-one, two-two, two-more, two-finds-first, two-finds-second, two-finds-third}
+use Rattle.hrthood_words.proofs.ParserSteps.{three-none, three-one, three-two, three-three, three-more}
+use Rattle.hrthood_words.proofs.ParserSteps.{three-finds-first, three-finds-second, three-finds-third}
 
 -- the command line as the parser has it, and the names of its verbs
 abbrev top : Shape
@@ -43,6 +46,12 @@ inside v words = record (walk_from nothing_held) { stopped = Some (v, words) }
 pub choose : {P : Type 0} (b : Bool) → (b ≡ true → P) → (b ≡ false → P) → P
 choose true f g = f refl
 choose false f g = g refl
+
+-- the command of a verb by what was found of its words
+pub same-words : (v : Text) {a b c d e f : Option Text} → a ≡ b → c ≡ d → e ≡ f
+    → verb_command v (words_found a c e) ≡ verb_command v (words_found b d f)
+same-words v {a} {b} {c} {d} {e} {f} p q r =
+    ap₂ (λ x y. verb_command v (words_found x y e)) p q ∙ ap (λ z. verb_command v (words_found b d z)) r
 
 -- a word that is not another is not it either way
 flipped : (a b : Text) → bytes_eq a b ≡ false → bytes_eq b a ≡ false
@@ -149,7 +158,8 @@ fault-in vs v s words h =
     ∙ only-below v words (word_fault s words)
 
 found-in : (vs : List Listed) (v : Text) (s : Shape) (words : List Text) → Enters vs v s
-    → found_command (subcommand_of (line_of vs) (v ∷ words)) ≡ verb_command s.name (words_found (found_first s words) (found_second s words))
+    → found_command (subcommand_of (line_of vs) (v ∷ words))
+    ≡ verb_command s.name (words_found (found_first s words) (found_second s words) (found_third s words))
 found-in vs v s words h =
     ap (λ w. found_command (entered (built (line_of vs)) w.stopped)) (walks-in vs v words h.met)
     ∙ ap found_command (rows-below (built (line_of vs)) v s words h.found)
@@ -183,8 +193,8 @@ one-reads v shape [] h asks few many plain =
 one-reads v shape (a ∷ []) h asks few many plain =
     let p : is_file_name a ≡ true = (and_parts (is_file_name a) true plain).0 in
     let s : Shape = leaf (one_word v) in
-    reads-good (v ∷ a ∷ []) (fault-in verbs v s (a ∷ []) h ∙ one-one v a p) (found-in verbs v s (a ∷ []) h ∙ ap₂
-    (λ x y. verb_command v (words_found x y)) (one-finds-first v a p) (one-finds-second v a p))
+    reads-good (v ∷ a ∷ []) (fault-in verbs v s (a ∷ []) h ∙ one-one v a p)
+    (found-in verbs v s (a ∷ []) h ∙ same-words v (one-finds-first v a p) (one-finds-second v a p) (one-finds-third v a p))
 one-reads v shape (a ∷ b ∷ rest) h asks few many plain =
     let p = and_parts (is_file_name a) (list_all is_file_name (b ∷ rest)) plain in
     let q = and_parts (is_file_name b) (list_all is_file_name rest) p.1 in
@@ -205,8 +215,8 @@ two-reads v shape (a ∷ b ∷ []) h asks none few many plain =
     let p = and_parts (is_file_name a) (list_all is_file_name (b ∷ [])) plain in
     let q = and_parts (is_file_name b) true p.1 in
     let s : Shape = leaf (two_words v) in
-    reads-good (v ∷ a ∷ b ∷ []) (fault-in verbs v s (a ∷ b ∷ []) h ∙ two-two v a b p.0 q.0) (found-in verbs v s (a ∷ b ∷ []) h ∙ ap₂
-    (λ x y. verb_command v (words_found x y)) (two-finds-first v a b p.0 q.0) (two-finds-second v a b p.0 q.0))
+    reads-good (v ∷ a ∷ b ∷ []) (fault-in verbs v s (a ∷ b ∷ []) h ∙ two-two v a b p.0 q.0) (found-in verbs v s (a ∷ b ∷ []) h
+    ∙ same-words v (two-finds-first v a b p.0 q.0) (two-finds-second v a b p.0 q.0) (two-finds-third v a b p.0 q.0))
 two-reads v shape (a ∷ b ∷ c ∷ rest) h asks none few many plain =
     let p = and_parts (is_file_name a) (list_all is_file_name (b ∷ c ∷ rest)) plain in
     let q = and_parts (is_file_name b) (list_all is_file_name (c ∷ rest)) p.1 in
@@ -214,6 +224,41 @@ two-reads v shape (a ∷ b ∷ c ∷ rest) h asks none few many plain =
     reads-bad (v ∷ a ∷ b ∷ c ∷ rest) kind.UnknownArgument []
     (fault-in verbs v (leaf (two_words v)) (a ∷ b ∷ c ∷ rest) h ∙ two-more v a b c rest p.0 q.0 r.0)
     (named-none v shape (a ∷ b ∷ c ∷ rest) asks (many a b c rest))
+
+-- a verb that asks for three
+three-reads : (v : Text) (shape : verb.Shape) (words : List Text) → Enters verbs v (leaf (three_words v)) → Asks v shape
+    → command_with shape [] ≡ None → ((a : Text) → command_with shape (a ∷ []) ≡ None) → ((a b : Text) → command_with shape (a ∷ b ∷ []) ≡ None)
+    → ((a b c d : Text) (more : List Text) → command_with shape (a ∷ b ∷ c ∷ d ∷ more) ≡ None) → list_all is_file_name words ≡ true
+    → Reads (v ∷ words)
+three-reads v shape [] h asks none one few many plain =
+    reads-bad (v ∷ []) kind.MissingRequiredArgument [] (fault-in verbs v (leaf (three_words v)) [] h ∙ three-none v)
+    (named-none v shape [] asks none)
+three-reads v shape (a ∷ []) h asks none one few many plain =
+    let p : is_file_name a ≡ true = (and_parts (is_file_name a) true plain).0 in
+    reads-bad (v ∷ a ∷ []) kind.MissingRequiredArgument [] (fault-in verbs v (leaf (three_words v)) (a ∷ []) h ∙ three-one v a p)
+    (named-none v shape (a ∷ []) asks (one a))
+three-reads v shape (a ∷ b ∷ []) h asks none one few many plain =
+    let p = and_parts (is_file_name a) (list_all is_file_name (b ∷ [])) plain in
+    let q = and_parts (is_file_name b) true p.1 in
+    reads-bad (v ∷ a ∷ b ∷ []) kind.MissingRequiredArgument []
+    (fault-in verbs v (leaf (three_words v)) (a ∷ b ∷ []) h ∙ three-two v a b p.0 q.0)
+    (named-none v shape (a ∷ b ∷ []) asks (few a b))
+three-reads v shape (a ∷ b ∷ c ∷ []) h asks none one few many plain =
+    let p = and_parts (is_file_name a) (list_all is_file_name (b ∷ c ∷ [])) plain in
+    let q = and_parts (is_file_name b) (list_all is_file_name (c ∷ [])) p.1 in
+    let r = and_parts (is_file_name c) true q.1 in
+    let s : Shape = leaf (three_words v) in
+    reads-good (v ∷ a ∷ b ∷ c ∷ []) (fault-in verbs v s (a ∷ b ∷ c ∷ []) h ∙ three-three v a b c p.0 q.0 r.0)
+    (found-in verbs v s (a ∷ b ∷ c ∷ []) h
+    ∙ same-words v (three-finds-first v a b c p.0 q.0 r.0) (three-finds-second v a b c p.0 q.0 r.0) (three-finds-third v a b c p.0 q.0 r.0))
+three-reads v shape (a ∷ b ∷ c ∷ d ∷ rest) h asks none one few many plain =
+    let p = and_parts (is_file_name a) (list_all is_file_name (b ∷ c ∷ d ∷ rest)) plain in
+    let q = and_parts (is_file_name b) (list_all is_file_name (c ∷ d ∷ rest)) p.1 in
+    let r = and_parts (is_file_name c) (list_all is_file_name (d ∷ rest)) q.1 in
+    let t = and_parts (is_file_name d) (list_all is_file_name rest) r.1 in
+    reads-bad (v ∷ a ∷ b ∷ c ∷ d ∷ rest) kind.UnknownArgument []
+    (fault-in verbs v (leaf (three_words v)) (a ∷ b ∷ c ∷ d ∷ rest) h ∙ three-more v a b c d rest p.0 q.0 r.0 t.0)
+    (named-none v shape (a ∷ b ∷ c ∷ d ∷ rest) asks (many a b c d rest))
 
 -- EVERY SHAPE
 
@@ -223,6 +268,8 @@ shape-reads : (v : Text) (shape : verb.Shape) (words : List Text) → Enters ver
 shape-reads v (Design verb) words h asks = one-reads v (Design verb) words h asks refl (λ a b more. refl)
 shape-reads v AdaArrivals words h asks = two-reads v AdaArrivals words h asks refl (λ a. refl) (λ a b c more. refl)
 shape-reads v DesignArrivals words h asks = two-reads v DesignArrivals words h asks refl (λ a. refl) (λ a b c more. refl)
+shape-reads v DesignArrivalsTrace words h asks =
+    three-reads v DesignArrivalsTrace words h asks refl (λ a. refl) (λ a b. refl) (λ a b c d more. refl)
 shape-reads v Count words h asks = one-reads v Count words h asks refl (λ a b more. refl)
 
 -- a word that is none

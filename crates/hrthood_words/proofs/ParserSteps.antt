@@ -12,7 +12,7 @@ use Rattle.clap.specs.Faults.{check_fault, defaults_fault, level_fault, settle_f
 use Rattle.clap.specs.declared.error.kind.ErrorKind.TheVariants as kind
 use Rattle.clap.proofs.OnLiterals.{clap_on_literals}
 use Rattle.hrthood_words.specs.Words.{is_file_name}
-use Rattle.hrthood_words.specs.Parsing.{one_place, two_places, with_places, command_line}
+use Rattle.hrthood_words.specs.Parsing.{one_place, two_places, three_places, with_places, command_line}
 
 -- PLAIN WORDS
 
@@ -47,12 +47,15 @@ turn-plain s names held position word none p = rw (none, plain_dashes word p, pl
 
 -- A VERB WITH ITS WORDS
 
--- a verb that one word must follow, and one that two must
+-- a verb that one word must follow, one that two must, and one that three must
 abbrev pub one_word : Text → Shape
 one_word verb = with_places verb one_place
 
 abbrev pub two_words : Text → Shape
 two_words verb = with_places verb two_places
+
+abbrev pub three_words : Text → Shape
+three_words verb = with_places verb three_places
 
 -- what the parser makes of a verb's subcommand
 abbrev pub leaf : Shape → Shape
@@ -81,6 +84,14 @@ second_held a b = record {
   skip = 0;
 }
 
+-- two words that were taken, and a third that waits for what follows
+abbrev third_held : Text → Text → Text → Held
+third_held a b c = record {
+  rows = (finished (leaf (two_words [])).rules (second_held a b));
+  pending = Some (codes "third", c ∷ []);
+  skip = 0;
+}
+
 one-first : (v a : Text) → is_file_name a ≡ true → walked (leaf (one_word v)).rules [] (walk_from nothing_held) a ≡ at (first_held a) 2
 one-first v a p = walked-plain (leaf (one_word v)).rules [] nothing_held 1 a refl p ∙ refl
 
@@ -89,6 +100,15 @@ two-first v a p = walked-plain (leaf (two_words v)).rules [] nothing_held 1 a re
 
 two-second : (v a b : Text) → is_file_name b ≡ true → walked (leaf (two_words v)).rules [] (at (first_held a) 2) b ≡ at (second_held a b) 3
 two-second v a b p = walked-plain (leaf (two_words v)).rules [] (first_held a) 2 b refl p ∙ refl
+
+three-first : (v a : Text) → is_file_name a ≡ true → walked (leaf (three_words v)).rules [] (walk_from nothing_held) a ≡ at (first_held a) 2
+three-first v a p = walked-plain (leaf (three_words v)).rules [] nothing_held 1 a refl p ∙ refl
+
+three-second : (v a b : Text) → is_file_name b ≡ true → walked (leaf (three_words v)).rules [] (at (first_held a) 2) b ≡ at (second_held a b) 3
+three-second v a b p = walked-plain (leaf (three_words v)).rules [] (first_held a) 2 b refl p ∙ refl
+
+three-third : (v a b c : Text) → is_file_name c ≡ true → walked (leaf (three_words v)).rules [] (at (second_held a b) 3) c ≡ at (third_held a b c) 4
+three-third v a b c p = walked-plain (leaf (three_words v)).rules [] (second_held a b) 3 c refl p ∙ refl
 
 -- the faults of one word's walk: none at its place, and at most one behind it
 abbrev faults : Shape → Walk → Text → List Text → Kinds
@@ -173,6 +193,62 @@ two-more v a b c rest p q r =
     (fault-past s (first_held a) 2 b (c ∷ rest) (at (second_held a b) 3) q refl (two-second v a b q) ∙ fault-here s
     (second_held a b) 3 c rest r refl))
 
+-- three words likewise
+pub three-none : (v : Text) → word_fault (leaf (three_words v)) [] ≡ kind.MissingRequiredArgument ∷ []
+unfolding clap_on_literals
+three-none v = refl
+
+pub three-one : (v a : Text) → is_file_name a ≡ true → word_fault (leaf (three_words v)) (a ∷ []) ≡ kind.MissingRequiredArgument ∷ []
+unfolding clap_on_literals
+three-one v a p =
+    let s : Shape = leaf (three_words v) in
+    level-comes s (a ∷ []) (at (first_held a) 2) [] (three-first v a p)
+    (fault-past s nothing_held 1 a [] (at (first_held a) 2) p refl (three-first v a p) ∙ walk-fault-end s (at (first_held a) 2)) ∙ refl
+
+-- the walk over two words, and over three
+three-walk-two : (v a b : Text) → is_file_name a ≡ true → is_file_name b ≡ true → walk (leaf (three_words v)).rules [] nothing_held (a ∷ b ∷ [])
+    ≡ at (second_held a b) 3
+three-walk-two v a b p q = ap (λ w. walked (leaf (three_words v)).rules [] w b) (three-first v a p) ∙ three-second v a b q
+
+three-walk : (v a b c : Text) → is_file_name a ≡ true → is_file_name b ≡ true → is_file_name c ≡ true
+    → walk (leaf (three_words v)).rules [] nothing_held (a ∷ b ∷ c ∷ []) ≡ at (third_held a b c) 4
+three-walk v a b c p q r = ap (λ w. walked (leaf (three_words v)).rules [] w c) (three-walk-two v a b p q) ∙ three-third v a b c r
+
+-- two words at their places leave the faults to the words behind them
+three-past : (v a b : Text) (rest : List Text) → is_file_name a ≡ true → is_file_name b ≡ true
+    → walk_fault (leaf (three_words v)) [] (walk_from nothing_held) (a ∷ b ∷ rest) ≡ walk_fault (leaf (three_words v)) [] (at (second_held a b) 3) rest
+three-past v a b rest p q =
+    let s : Shape = leaf (three_words v) in
+    fault-past s nothing_held 1 a (b ∷ rest) (at (first_held a) 2) p refl (three-first v a p) ∙
+    fault-past s (first_held a) 2 b rest (at (second_held a b) 3) q refl (three-second v a b q)
+
+pub three-two : (v a b : Text) → is_file_name a ≡ true → is_file_name b ≡ true
+    → word_fault (leaf (three_words v)) (a ∷ b ∷ []) ≡ kind.MissingRequiredArgument ∷ []
+unfolding clap_on_literals
+three-two v a b p q =
+    let s : Shape = leaf (three_words v) in
+    level-comes s (a ∷ b ∷ []) (at (second_held a b) 3) [] (three-walk-two v a b p q)
+    (three-past v a b [] p q ∙ walk-fault-end s (at (second_held a b) 3)) ∙ refl
+
+pub three-three : (v a b c : Text) → is_file_name a ≡ true → is_file_name b ≡ true → is_file_name c ≡ true
+    → word_fault (leaf (three_words v)) (a ∷ b ∷ c ∷ []) ≡ []
+unfolding clap_on_literals
+three-three v a b c p q r =
+    let s : Shape = leaf (three_words v) in
+    level-comes s (a ∷ b ∷ c ∷ []) (at (third_held a b c) 4) [] (three-walk v a b c p q r)
+    (three-past v a b (c ∷ []) p q ∙
+    (fault-past s (second_held a b) 3 c [] (at (third_held a b c) 4) r refl (three-third v a b c r) ∙ walk-fault-end s (at (third_held a b c) 4)))
+    ∙ refl
+
+pub three-more : (v a b c d : Text) (rest : List Text) → is_file_name a ≡ true → is_file_name b ≡ true → is_file_name c ≡ true
+    → is_file_name d ≡ true → word_fault (leaf (three_words v)) (a ∷ b ∷ c ∷ d ∷ rest) ≡ kind.UnknownArgument ∷ []
+three-more v a b c d rest p q r t =
+    let s : Shape = leaf (three_words v) in
+    level-comes s (a ∷ b ∷ c ∷ d ∷ rest) (walk s.rules [] nothing_held (a ∷ b ∷ c ∷ d ∷ rest)) (kind.UnknownArgument ∷ []) refl
+    (three-past v a b (c ∷ d ∷ rest) p q ∙
+    (fault-past s (second_held a b) 3 c (d ∷ rest) (at (third_held a b c) 4) r refl (three-third v a b c r) ∙
+    fault-here s (third_held a b c) 4 d rest t refl))
+
 -- WHAT IS FOUND OF THE WORDS
 
 abbrev pub found_first : Shape → List Text → Option Text
@@ -180,6 +256,9 @@ found_first s words = first_of (codes "first") (rows_after s.rules [] words)
 
 abbrev pub found_second : Shape → List Text → Option Text
 found_second s words = first_of (codes "second") (rows_after s.rules [] words)
+
+abbrev pub found_third : Shape → List Text → Option Text
+found_third s words = first_of (codes "third") (rows_after s.rules [] words)
 
 one-found : (v a : Text) → is_file_name a ≡ true → rows_after (leaf (one_word v)).rules [] (a ∷ [])
     ≡ finished (leaf (one_word v)).rules (first_held a)
@@ -191,6 +270,9 @@ one-finds-first v a p = ap (first_of (codes "first")) (one-found v a p) ∙ refl
 pub one-finds-second : (v a : Text) → is_file_name a ≡ true → found_second (leaf (one_word v)) (a ∷ []) ≡ None
 one-finds-second v a p = ap (first_of (codes "second")) (one-found v a p) ∙ refl
 
+pub one-finds-third : (v a : Text) → is_file_name a ≡ true → found_third (leaf (one_word v)) (a ∷ []) ≡ None
+one-finds-third v a p = ap (first_of (codes "third")) (one-found v a p) ∙ refl
+
 two-found : (v a b : Text) → is_file_name a ≡ true → is_file_name b ≡ true → rows_after (leaf (two_words v)).rules [] (a ∷ b ∷ [])
     ≡ finished (leaf (two_words v)).rules (second_held a b)
 two-found v a b p q = ap (λ w. finished (leaf (two_words v)).rules w.held) (two-walk v a b p q)
@@ -200,3 +282,22 @@ two-finds-first v a b p q = ap (first_of (codes "first")) (two-found v a b p q) 
 
 pub two-finds-second : (v a b : Text) → is_file_name a ≡ true → is_file_name b ≡ true → found_second (leaf (two_words v)) (a ∷ b ∷ []) ≡ Some b
 two-finds-second v a b p q = ap (first_of (codes "second")) (two-found v a b p q) ∙ refl
+
+pub two-finds-third : (v a b : Text) → is_file_name a ≡ true → is_file_name b ≡ true → found_third (leaf (two_words v)) (a ∷ b ∷ []) ≡ None
+two-finds-third v a b p q = ap (first_of (codes "third")) (two-found v a b p q) ∙ refl
+
+three-found : (v a b c : Text) → is_file_name a ≡ true → is_file_name b ≡ true → is_file_name c ≡ true
+    → rows_after (leaf (three_words v)).rules [] (a ∷ b ∷ c ∷ []) ≡ finished (leaf (three_words v)).rules (third_held a b c)
+three-found v a b c p q r = ap (λ w. finished (leaf (three_words v)).rules w.held) (three-walk v a b c p q r)
+
+pub three-finds-first : (v a b c : Text) → is_file_name a ≡ true → is_file_name b ≡ true → is_file_name c ≡ true
+    → found_first (leaf (three_words v)) (a ∷ b ∷ c ∷ []) ≡ Some a
+three-finds-first v a b c p q r = ap (first_of (codes "first")) (three-found v a b c p q r) ∙ refl
+
+pub three-finds-second : (v a b c : Text) → is_file_name a ≡ true → is_file_name b ≡ true → is_file_name c ≡ true
+    → found_second (leaf (three_words v)) (a ∷ b ∷ c ∷ []) ≡ Some b
+three-finds-second v a b c p q r = ap (first_of (codes "second")) (three-found v a b c p q r) ∙ refl
+
+pub three-finds-third : (v a b c : Text) → is_file_name a ≡ true → is_file_name b ≡ true → is_file_name c ≡ true
+    → found_third (leaf (three_words v)) (a ∷ b ∷ c ∷ []) ≡ Some c
+three-finds-third v a b c p q r = ap (first_of (codes "third")) (three-found v a b c p q r) ∙ refl

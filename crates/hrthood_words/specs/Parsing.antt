@@ -10,25 +10,29 @@ use Rattle.clap.specs.Simple.{App, Shape, new_rule, new_shape, shape_of, with_su
 use Rattle.clap.specs.declared.builder.command.Command as parser
 use Rattle.clap.specs.declared.builder.command.Command.TheViews.{out-Command as fields_of}
 use Rattle.hrthood_words.specs.declared.verbs.Shape as verb
-use Rattle.hrthood_words.specs.declared.verbs.Shape.TheVariants.{Design, AdaArrivals, DesignArrivals, Count}
+use Rattle.hrthood_words.specs.declared.verbs.Shape.TheVariants.{Design, AdaArrivals, DesignArrivals, DesignArrivalsTrace, Count}
 use Rattle.hrthood_words.specs.Words.{Command, Listed, is_file_name, verb_command, verbs}
 
 -- a word that must stand
 abbrev pub needed : Text → Rule
 needed id = record (new_rule id) { required = true }
 
--- one word that must stand, and two
+-- one word that must stand, two, and three
 abbrev pub one_place : List Rule
 one_place = needed (codes "first") ∷ []
 
 abbrev pub two_places : List Rule
 two_places = needed (codes "first") ∷ needed (codes "second") ∷ []
 
+abbrev pub three_places : List Rule
+three_places = needed (codes "first") ∷ needed (codes "second") ∷ needed (codes "third") ∷ []
+
 -- the words that must follow a verb, by what it asks for
 abbrev pub places_of : verb.Shape → List Rule
 places_of (Design verb) = one_place
 places_of AdaArrivals = two_places
 places_of DesignArrivals = two_places
+places_of DesignArrivalsTrace = three_places
 places_of Count = one_place
 
 -- a verb that these words must follow
@@ -63,20 +67,23 @@ command_line = line_of verbs
 abbrev pub IsVerb : Shape → parser.Command → Type 0
 IsVerb s c = (shape_of c ≡ s) × ((fields_of c).has_globals ≡ false)
 
--- the words behind a verb, of which the first and perhaps a second were found
-abbrev pub words_found : Option Text → Option Text → List Text
-words_found None second = []
-words_found (Some first) None = first ∷ []
-words_found (Some first) (Some second) = first ∷ second ∷ []
+-- the words behind a verb, of which the first and perhaps a second and a third were found
+abbrev pub words_found : Option Text → Option Text → Option Text → List Text
+words_found None second third = []
+words_found (Some first) None third = first ∷ []
+words_found (Some first) (Some second) None = first ∷ second ∷ []
+words_found (Some first) (Some second) (Some third) = first ∷ second ∷ third ∷ []
 
 -- the command that a verb is with what the parser found of its words
 abbrev pub given_command : Text → Found → Option Command
-given_command verb found = verb_command verb (words_found (first_value found (codes "first")) (first_value found (codes "second")))
+given_command verb found =
+    verb_command verb (words_found (first_value found (codes "first")) (first_value found (codes "second")) (first_value found (codes "third")))
 
 -- the command that a verb is with what was found of its words
 abbrev pub found_command : Option (Text × List Row) → Option Command
 found_command None = None
-found_command (Some p) = verb_command p.0 (words_found (first_of (codes "first") p.1) (first_of (codes "second") p.1))
+found_command (Some p) =
+    verb_command p.0 (words_found (first_of (codes "first") p.1) (first_of (codes "second") p.1) (first_of (codes "third") p.1))
 
 -- the first word asks for help
 abbrev pub asks_help : List Text → Bool

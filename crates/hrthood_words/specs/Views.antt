@@ -5,9 +5,9 @@ use Rattle.std.specs.Borrow.{Bor}
 use Rattle.hrthood_words.specs.Words as words
 use Rattle.hrthood_words.specs.declared.verbs.Shape.{Shape}
 use Rattle.hrthood_words.specs.declared.operands.Operands.{Operands}
-use Rattle.hrthood_words.specs.declared.operands.Operands.TheVariants.{One, Two}
+use Rattle.hrthood_words.specs.declared.operands.Operands.TheVariants.{One, Two, Three}
 use Rattle.hrthood_words.specs.declared.command.Command.{Command}
-use Rattle.hrthood_words.specs.declared.command.Command.TheVariants.{OnDesign, Replay, Verify, Sample}
+use Rattle.hrthood_words.specs.declared.command.Command.TheVariants.{OnDesign, Replay, Verify, Accepts, Sample}
 use Rattle.hrthood_words.specs.declared.reading.Unread.{Unread}
 use Rattle.hrthood_words.specs.declared.reading.Unread.TheVariants.{NoCommand, NoMemory}
 
@@ -19,12 +19,14 @@ listed v = (v.0.now, v.1)
 abbrev pub operand_words : Operands → List (List ℕ)
 operand_words (One first) = first.now ∷ []
 operand_words (Two first second) = first.now ∷ second.now ∷ []
+operand_words (Three first second third) = first.now ∷ second.now ∷ third.now ∷ []
 
 -- names are their bytes
 abbrev pub command_tree : Command → words.Command
 command_tree (OnDesign verb design) = words.OnDesign verb design.now
 command_tree (Replay ada arrivals) = words.Replay ada.now arrivals.now
 command_tree (Verify design arrivals) = words.Verify design.now arrivals.now
+command_tree (Accepts design arrivals trace) = words.Accepts design.now arrivals.now trace.now
 command_tree (Sample threads) = words.Sample threads
 
 -- a sample has from 1 to 30 threads

@@ -8,7 +8,7 @@ use Rattle.std.specs.Str.{bytes_eq}
 use Rattle.hrthood_words.specs.declared.verbs.DesignVerb.{DesignVerb}
 use Rattle.hrthood_words.specs.declared.verbs.DesignVerb.TheVariants.{Check, Analyse, Format, Generate, Search, Scale, Background}
 use Rattle.hrthood_words.specs.declared.verbs.Shape.{Shape}
-use Rattle.hrthood_words.specs.declared.verbs.Shape.TheVariants.{Design, AdaArrivals, DesignArrivals, Count}
+use Rattle.hrthood_words.specs.declared.verbs.Shape.TheVariants.{Design, AdaArrivals, DesignArrivals, DesignArrivalsTrace, Count}
 
 -- THE VERBS
 
@@ -28,6 +28,7 @@ verbs = (codes "check", Design Check)
     ∷ (codes "search", Design Search)
     ∷ (codes "scale", Design Scale)
     ∷ (codes "background", Design Background)
+    ∷ (codes "accepts", DesignArrivalsTrace)
     ∷ []
 
 -- what the first of these verbs asks for that is written so, where there is one
@@ -44,6 +45,8 @@ pub data Command : Type 0 where
   Replay : (ada arrivals : List ℕ) → Command
   -- make the Ada text of a design, and replay it under arrivals
   Verify : (design arrivals : List ℕ) → Command
+  -- tell whether a trace is one of the design's machine under arrivals
+  Accepts : (design arrivals trace : List ℕ) → Command
   -- make the sample of so many threads, verify it and sum up its run
   Sample : (threads : ℕ) → Command
 
@@ -64,6 +67,15 @@ two_files [] = None
 two_files (first ∷ []) = None
 two_files (first ∷ second ∷ []) = if is_file_name first && is_file_name second then Some (first, second) else None
 two_files (first ∷ second ∷ word ∷ words) = None
+
+-- the names that the words are, where they are the names of three files
+abbrev pub three_files : List (List ℕ) → Option (List ℕ × (List ℕ × List ℕ))
+three_files [] = None
+three_files (first ∷ []) = None
+three_files (first ∷ second ∷ []) = None
+three_files (first ∷ second ∷ third ∷ []) =
+    if is_file_name first && (is_file_name second && is_file_name third) then Some (first, (second, third)) else None
+three_files (first ∷ second ∷ third ∷ word ∷ words) = None
 
 -- so many threads, where a sample may have them
 abbrev pub sample_size : ℕ → Option ℕ
@@ -87,6 +99,7 @@ abbrev pub command_with : Shape → List (List ℕ) → Option Command
 command_with (Design verb) words = option_map (OnDesign verb) (one_file words)
 command_with AdaArrivals words = option_map (λ names. Replay names.0 names.1) (two_files words)
 command_with DesignArrivals words = option_map (λ names. Verify names.0 names.1) (two_files words)
+command_with DesignArrivalsTrace words = option_map (λ names. Accepts names.0 names.1.0 names.1.1) (three_files words)
 command_with Count words = option_map Sample (one_count words)
 
 -- the command that a word is with the words behind it, where it is one
@@ -105,6 +118,7 @@ abbrev pub operands_text : Shape → List ℕ
 operands_text (Design verb) = codes " D"
 operands_text AdaArrivals = codes " A R"
 operands_text DesignArrivals = codes " D R"
+operands_text DesignArrivalsTrace = codes " D R T"
 operands_text Count = codes " N"
 
 -- verbs with their operands, the first behind this text and each other behind a bar

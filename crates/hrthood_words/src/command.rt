@@ -2,7 +2,7 @@ ghost use Rattle.std.specs.Prelude.{◌≡◌, IfSome, option_map};
 ghost use Rattle.hrthood_words.specs.Views.{HasFewThreads, command_tree, operand_words};
 ghost use Rattle.hrthood_words.specs.Words.{command_with, verb_command};
 
-use crate::operands::{Operands, one_count, one_file, two_files};
+use crate::operands::{Operands, one_count, one_file, three_files, two_files};
 use crate::verbs::{DesignVerb, Shape, shape_named};
 
 /// What is to be done, with the names of files or a count of threads, from 1 to 30.
@@ -29,6 +29,15 @@ pub enum Command<'a> {
         /// The name of the arrivals.
         arrivals: &'a str,
     },
+    /// Tell whether a trace is one of the design's machine under arrivals.
+    Accepts {
+        /// The name of the design.
+        design: &'a str,
+        /// The name of the arrivals.
+        arrivals: &'a str,
+        /// The name of the trace.
+        trace: &'a str,
+    },
     /// Make the sample of so many threads, verify it and sum up its run.
     Sample {
         /// How many threads it has.
@@ -53,6 +62,14 @@ fn command_with<'a>(shape: Shape, words: Operands<'a>) -> Option<Command<'a>>
         Shape::DesignArrivals => {
             let (design, arrivals) = two_files(words)?;
             Some(Command::Verify { design, arrivals })
+        }
+        Shape::DesignArrivalsTrace => {
+            let (design, arrivals, trace) = three_files(words)?;
+            Some(Command::Accepts {
+                design,
+                arrivals,
+                trace,
+            })
         }
         Shape::Count => {
             let threads = one_count(words)?;

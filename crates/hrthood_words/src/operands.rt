@@ -1,6 +1,6 @@
 ghost use Rattle.std.specs.Prelude.{◌≡◌, ◌≤◌, IfSome, option_map};
 ghost use Rattle.hrthood_words.specs.Views.{operand_words};
-ghost use Rattle.hrthood_words.specs.Words.{is_file_name, one_count, one_file, sample_size, thread_count, two_files};
+ghost use Rattle.hrthood_words.specs.Words.{is_file_name, one_count, one_file, sample_size, thread_count, three_files, two_files};
 
 /// The words behind a verb, where there are as many as some verb asks for.
 #[derive(Clone, Copy)]
@@ -9,6 +9,8 @@ pub(crate) enum Operands<'a> {
     One(&'a str),
     /// Two words.
     Two(&'a str, &'a str),
+    /// Three words.
+    Three(&'a str, &'a str, &'a str),
 }
 
 /// Whether a word may name a file: it isn't empty and doesn't begin with a dash.
@@ -38,6 +40,19 @@ pub(crate) fn two_files<'a>(words: Operands<'a>) -> Option<(&'a str, &'a str)>
     match words {
         Operands::Two(first, second) if is_file_name(first) && is_file_name(second) => {
             Some((first, second))
+        }
+        _ => None,
+    }
+}
+
+/// The names that the words are, where they are the names of three files.
+pub(crate) fn three_files<'a>(words: Operands<'a>) -> Option<(&'a str, &'a str, &'a str)>
+    ensures { option_map (λ names. (names.0.now, (names.1.now, names.2.now))) result ≡ three_files (operand_words words.entry) }
+{
+    match words {
+        Operands::Three(first, second, third)
+            if is_file_name(first) && is_file_name(second) && is_file_name(third) => {
+            Some((first, second, third))
         }
         _ => None,
     }
@@ -77,6 +92,6 @@ pub(crate) fn one_count(words: Operands<'_>) -> Option<u32>
 {
     match words {
         Operands::One(count) => thread_count(count),
-        Operands::Two(_, _) => None,
+        Operands::Two(_, _) | Operands::Three(_, _, _) => None,
     }
 }

@@ -1,6 +1,6 @@
 ghost use Rattle.std.specs.Prelude.{◌≡◌, IfOk, false, map, string_bytes};
 ghost use Rattle.clap.specs.Words.{FailsBy, app_of, fault_of, rule_of, subcommand_of, subcommand_rows_of};
-ghost use Rattle.hrthood_words.specs.Parsing.{IsVerb, command_line, needed, one_place, two_places, verb_tree, with_places, with_verbs};
+ghost use Rattle.hrthood_words.specs.Parsing.{IsVerb, command_line, needed, one_place, three_places, two_places, verb_tree, with_places, with_verbs};
 ghost use Rattle.hrthood_words.specs.Views.{listed};
 
 use crate::verbs::{Shape, VERBS};
@@ -31,6 +31,16 @@ fn two_words<'a>(alloc: Global, verb: &'a str) -> Result<clap::Command<'a>, Allo
         .arg(needed(alloc, "second"))
 }
 
+/// A verb that three words must follow.
+fn three_words<'a>(alloc: Global, verb: &'a str) -> Result<clap::Command<'a>, AllocError>
+    ensures { IfOk result (IsVerb (with_places verb.entry.now three_places)) }
+{
+    clap::Command::new(alloc, verb)
+        .arg(needed(alloc, "first"))?
+        .arg(needed(alloc, "second"))?
+        .arg(needed(alloc, "third"))
+}
+
 /// What the parser is told of a verb.
 fn verb_tree<'a>(
     alloc: Global,
@@ -42,6 +52,7 @@ fn verb_tree<'a>(
     match shape {
         Shape::Design(_) | Shape::Count => one_word(alloc, verb),
         Shape::AdaArrivals | Shape::DesignArrivals => two_words(alloc, verb),
+        Shape::DesignArrivalsTrace => three_words(alloc, verb),
     }
 }
 

@@ -27,14 +27,18 @@ pub fn plain_command<'a>(words: &'a [String]) -> Option<Command<'a>>
 {
     let (verb, words) = words.split_first()?;
     let (first, words) = words.split_first()?;
+    let Some((second, words)) = words.split_first() else {
+        return verb_command(verb.as_str(), Operands::One(first.as_str()));
+    };
     match words.split_first() {
-        None => verb_command(verb.as_str(), Operands::One(first.as_str())),
-        Some((second, [])) => {
-            verb_command(
-                verb.as_str(),
-                Operands::Two(first.as_str(), second.as_str()),
-            )
-        }
+        None => verb_command(
+            verb.as_str(),
+            Operands::Two(first.as_str(), second.as_str()),
+        ),
+        Some((third, [])) => verb_command(
+            verb.as_str(),
+            Operands::Three(first.as_str(), second.as_str(), third.as_str()),
+        ),
         Some(_) => None,
     }
 }
@@ -45,9 +49,12 @@ fn given_command<'a>(verb: &str, words: &ArgMatches<'a>) -> Option<Command<'a>>
     ensures few { IfSome result HasFewThreads }
 {
     let first = words.get_str("first")?;
-    match words.get_str("second") {
-        Some(second) => verb_command(verb, Operands::Two(first, second)),
-        None => verb_command(verb, Operands::One(first)),
+    let Some(second) = words.get_str("second") else {
+        return verb_command(verb, Operands::One(first));
+    };
+    match words.get_str("third") {
+        Some(third) => verb_command(verb, Operands::Three(first, second, third)),
+        None => verb_command(verb, Operands::Two(first, second)),
     }
 }
 

@@ -30,12 +30,14 @@ pub enum Shape {
     AdaArrivals,
     /// A design and arrivals.
     DesignArrivals,
+    /// A design, arrivals and a trace.
+    DesignArrivalsTrace,
     /// A count of threads.
     Count,
 }
 
 /// The verbs in the order of the usage line, each as it is written, with what it asks for.
-pub const VERBS: [(&str, Shape); 10] = [
+pub const VERBS: [(&str, Shape); 11] = [
     ("check", Shape::Design(DesignVerb::Check)),
     ("analyse", Shape::Design(DesignVerb::Analyse)),
     ("format", Shape::Design(DesignVerb::Format)),
@@ -46,6 +48,7 @@ pub const VERBS: [(&str, Shape); 10] = [
     ("search", Shape::Design(DesignVerb::Search)),
     ("scale", Shape::Design(DesignVerb::Scale)),
     ("background", Shape::Design(DesignVerb::Background)),
+    ("accepts", Shape::DesignArrivalsTrace),
 ];
 
 /// The operands of a shape in the usage line, a letter each, with a space before it.
@@ -56,6 +59,7 @@ pub fn operands_text(shape: Shape) -> &'static [u8]
         Shape::Design(_) => b" D",
         Shape::AdaArrivals => b" A R",
         Shape::DesignArrivals => b" D R",
+        Shape::DesignArrivalsTrace => b" D R T",
         Shape::Count => b" N",
     }
 }

@@ -1,12 +1,16 @@
-use Rattle.std.proofs.Common.{◌∙◌, ap₂}
-use Rattle.hrthood_words.specs.Parsing.{words_found}
-use Rattle.hrthood_words.specs.Words.{verb_command}
+use Rattle.std.proofs.Common.{◌∙◌, refl}
+use Rattle.hrthood_words.proofs.ParserLaws.{same-words}
 use Rattle.hrthood_words.proofs.reading.given_command.Goals as goal
 
-pub returns-in-Some-clause-command : goal.returns-in-Some-clause-command
-returns-in-Some-clause-command c =
-    c.verb_command.ensures.command ∙ ap₂ (λ x y. verb_command c.args.verb.now (words_found x y)) c.in_ok-first.ensures c.in-Some.ensures
+pub returns-in_default-clause-command : goal.returns-in_default-clause-command
+returns-in_default-clause-command c =
+    c.verb_command.ensures.command ∙ same-words c.args.verb.now c.in_ok-first.ensures c.in_default.ensures refl
 
 pub returns-in-None-clause-command : goal.returns-in-None-clause-command
 returns-in-None-clause-command c =
-    c.verb_command-in-None.ensures.command ∙ ap₂ (λ x y. verb_command c.args.verb.now (words_found x y)) c.in_ok-first.ensures c.in-None.ensures
+    c.verb_command-in-None.ensures.command ∙ same-words c.args.verb.now c.in_ok-first.ensures c.in-Some.ensures c.in-None.ensures
+
+pub returns-in-Some-get_str-clause-command : goal.returns-in-Some-get_str-clause-command
+returns-in-Some-get_str-clause-command c =
+    c.verb_command-in-Some-get_str.ensures.command
+    ∙ same-words c.args.verb.now c.in_ok-first.ensures c.in-Some.ensures c.in-Some-get_str.ensures

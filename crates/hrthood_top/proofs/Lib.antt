@@ -9,6 +9,8 @@ pub mod OneRule
 pub mod OneBounds
 pub mod VerbLaws
 pub mod CheckLaws
+pub mod AcceptanceLaws
+pub mod Judged
 pub mod AnalyseLaws
 pub mod FormatLaws
 pub mod GenerateLaws
@@ -21,6 +23,7 @@ pub mod Replaying
 pub mod BackgroundReplaying
 pub mod VerifyLaws
 pub mod Verified
+pub mod VerifiedAccepted
 pub mod SampleLaws
 pub mod SearchLaws
 pub mod OneOrder

@@ -3,7 +3,7 @@ use Rattle.std.proofs.Common.{◌≡◌, ◌∙◌, List, [], ℕ, true, Option,
 use Rattle.std.specs.Prelude.{is_some}
 use Rattle.hrthood_top.specs.declared.message.Message.TheVariants as message
 use Rattle.hrthood_top.specs.declared.status.Status.TheVariants as status
-use Rattle.hrthood_words.specs.Words.{Command, OnDesign, Replay, Verify, Sample}
+use Rattle.hrthood_words.specs.Words.{Command, OnDesign, Replay, Verify, Accepts, Sample}
 use Rattle.hrthood_top.specs.Files.{Texts}
 use Rattle.hrthood_top.specs.Messages.{message_line}
 use Rattle.hrthood_top.specs.Ends.{Ends, Outside, TellsMessage}
@@ -23,6 +23,7 @@ unread-sample None out = tt
 unread-sample (Some (OnDesign verb design)) out = tt
 unread-sample (Some (Replay ada arrivals)) out = tt
 unread-sample (Some (Verify design arrivals)) out = tt
+unread-sample (Some (Accepts design arrivals trace)) out = tt
 unread-sample (Some (Sample threads)) out = refl
 
 pub ruleset unread_ends = (unread-ends, unread-sample)

@@ -2,8 +2,9 @@
 use Rattle.std.specs.Prelude.{ℕ, List}
 use Rattle.hrthood_words.specs.declared.verbs.DesignVerb.{DesignVerb}
 use Rattle.hrthood_words.specs.declared.verbs.DesignVerb.TheVariants.{Check, Analyse, Format, Generate, Search, Scale, Background}
-use Rattle.hrthood_words.specs.Words.{Command, OnDesign, Replay, Verify, Sample}
+use Rattle.hrthood_words.specs.Words.{Command, OnDesign, Replay, Verify, Accepts, Sample}
 use Rattle.hrthood_top.specs.Verbs.{Verb}
+use Rattle.hrthood_top.specs.Acceptances.{acceptances}
 use Rattle.hrthood_top.specs.Analyses.{analyses}
 use Rattle.hrthood_top.specs.Backgrounds.{backgrounds}
 use Rattle.hrthood_top.specs.Checks.{checks}
@@ -30,4 +31,5 @@ abbrev pub verb_of : Command → Verb
 verb_of (OnDesign verb design) = design_verb verb design
 verb_of (Replay ada arrivals) = replays ada arrivals
 verb_of (Verify design arrivals) = verifies design arrivals
+verb_of (Accepts design arrivals trace) = acceptances design arrivals trace
 verb_of (Sample threads) = samples threads

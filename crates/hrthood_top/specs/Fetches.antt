@@ -5,7 +5,7 @@ use Rattle.seq_tree.specs.Lists.{Each}
 use Rattle.hood_io.specs.Causes.{Rose}
 use Rattle.hood_io.specs.Shelves.{Told}
 use Rattle.hrthood_top.specs.declared.file_kind.FileKind.{FileKind}
-use Rattle.hrthood_top.specs.declared.file_kind.FileKind.TheVariants.{Design, Ada, Arrivals}
+use Rattle.hrthood_top.specs.declared.file_kind.FileKind.TheVariants.{Design, Ada, Arrivals, Trace}
 use Rattle.hrthood_top.specs.declared.fetch.Stop.{Stop}
 use Rattle.hrthood_top.specs.declared.fetch.Stop.TheVariants.{TooLong, ReadFault, NoMemory}
 use Rattle.hrthood_top.specs.declared.fetch.File as code
@@ -21,6 +21,7 @@ abbrev pub texts_of : values.Texts → Texts
 texts_of texts Design = texts.design.items
 texts_of texts Ada = texts.ada.items
 texts_of texts Arrivals = texts.arrivals.items
+texts_of texts Trace = texts.trace.items
 
 -- no two files are of one kind
 abbrev pub AreApart : List File → Type 0

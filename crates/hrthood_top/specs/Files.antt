@@ -4,7 +4,7 @@ use Rattle.std.specs.Prelude.{◌≡◌, ℕ, ◌≤◌, ◌<◌, true, false, L
 use Rattle.seq_tree.specs.Lists.{Each}
 use Rattle.hood_io.specs.Shelves.{Told, Entry}
 use Rattle.hrthood_top.specs.declared.file_kind.FileKind.{FileKind}
-use Rattle.hrthood_top.specs.declared.file_kind.FileKind.TheVariants.{Design, Ada, Arrivals}
+use Rattle.hrthood_top.specs.declared.file_kind.FileKind.TheVariants.{Design, Ada, Arrivals, Trace}
 
 -- a file that a command names
 pub record File : Type 0 where
@@ -16,12 +16,14 @@ abbrev pub limit_of : FileKind → ℕ
 limit_of Design = 1048576
 limit_of Ada = 16777216
 limit_of Arrivals = 1048576
+limit_of Trace = 16777216
 
 -- what a file of a kind is called in a message
 abbrev pub kind_text : FileKind → List ℕ
 kind_text Design = codes "design"
 kind_text Ada = codes "ada"
 kind_text Arrivals = codes "arrivals"
+kind_text Trace = codes "trace"
 
 -- bytes, for each kind of files
 abbrev pub Texts : Type 0

@@ -24,3 +24,4 @@ pub mod Fetches
 pub mod Streaming
 pub mod Writing
 pub mod Exits
+pub mod Acceptances

@@ -10,6 +10,8 @@ pub enum FileKind {
     Ada,
     /// The arrivals of a run.
     Arrivals,
+    /// The lines of a trace.
+    Trace,
 }
 
 /// The most bytes that a file of a kind may have.
@@ -20,6 +22,7 @@ pub(crate) fn limit_of(kind: FileKind) -> usize
         FileKind::Design => 1_048_576,
         FileKind::Ada => 16_777_216,
         FileKind::Arrivals => 1_048_576,
+        FileKind::Trace => 16_777_216,
     }
 }
 
@@ -31,5 +34,6 @@ pub(crate) fn kind_text(kind: FileKind) -> &'static [u8]
         FileKind::Design => b"design",
         FileKind::Ada => b"ada",
         FileKind::Arrivals => b"arrivals",
+        FileKind::Trace => b"trace",
     }
 }

@@ -7,6 +7,7 @@
 //! and none where all of it can be written. A verb is one module of definitions and one of code (`docs/VERBS.md`).
 #![tactic(auto)]
 
+mod accepts;
 mod ada_lines;
 mod analyse;
 mod arrival_lines;
@@ -14,6 +15,7 @@ mod background_text;
 mod check;
 mod deadline_reports;
 mod design_lines;
+mod design_program;
 mod fetch;
 mod file_kind;
 mod finish;
@@ -42,6 +44,7 @@ mod usage;
 mod verify;
 mod violation;
 
+pub use accepts::AcceptsRefusal;
 pub use background_text::BackgroundRefusal;
 pub use check::CheckRefusal;
 pub use deadline_reports::searched_as_analysed;

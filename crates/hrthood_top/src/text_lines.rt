@@ -33,6 +33,7 @@ fn kind_word<'a>(kind: FileKind) -> &'a [u8]
         FileKind::Design => b"design",
         FileKind::Ada => b"ada",
         FileKind::Arrivals => b"arrivals",
+        FileKind::Trace => b"trace",
     }
 }
 

@@ -10,6 +10,7 @@ pub(crate) struct Texts {
     pub design: Vec<u8>,
     pub ada: Vec<u8>,
     pub arrivals: Vec<u8>,
+    pub trace: Vec<u8>,
 }
 
 impl Texts {
@@ -19,6 +20,7 @@ impl Texts {
             design: Vec::new(alloc),
             ada: Vec::new(alloc),
             arrivals: Vec::new(alloc),
+            trace: Vec::new(alloc),
         }
     }
 
@@ -31,6 +33,7 @@ impl Texts {
             FileKind::Design => self.design = text,
             FileKind::Ada => self.ada = text,
             FileKind::Arrivals => self.arrivals = text,
+            FileKind::Trace => self.trace = text,
         }
     }
 }

@@ -5,6 +5,7 @@ ghost use Rattle.hrthood_top.specs.Commands.{design_verb};
 ghost use Rattle.hrthood_top.specs.Ends.{Ends, EndsVerb, Completes, outside};
 ghost use Rattle.hrthood_top.specs.Samples.{EndsSample};
 
+use crate::accepts::accepts;
 use crate::analyse::analyse;
 use crate::background_text::write_background;
 use crate::check::check;
@@ -63,6 +64,11 @@ fn do_command<F: Shelf, O: Sink, E: Sink>(
         Command::OnDesign { verb, design } => do_on_design(alloc, verb, design, shelf, out, err),
         Command::Replay { ada, arrivals } => replay(alloc, ada, arrivals, shelf, out, err),
         Command::Verify { design, arrivals } => verify(alloc, design, arrivals, shelf, out, err),
+        Command::Accepts {
+            design,
+            arrivals,
+            trace,
+        } => accepts(alloc, design, arrivals, trace, shelf, out, err),
         Command::Sample { threads } => write_sample(alloc, threads, out, err),
     }
 }

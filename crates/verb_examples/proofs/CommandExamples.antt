@@ -1,13 +1,14 @@
 -- Examples: which verb a command asks for, and how words end that are no command.
-use Rattle.std.specs.Prelude.{◌≡◌, true, ℕ, List, [], ◌∷◌, length, map, Option, Some, None, codes, refl}
+use Rattle.std.specs.Prelude.{◌≡◌, true, ℕ, List, [], ◌∷◌, ◌++◌, length, map, Option, Some, None, codes, refl}
 use Rattle.std.proofs.Common.{arith, lit≤, ap, inl, inr}
 use Rattle.std.specs.Prelude.{unwrap_or}
 use Rattle.hood_io.specs.Shelves.{Told}
 use Rattle.hrthood_top.specs.declared.status.Status.{Status}
 use Rattle.hrthood_top.specs.declared.status.Status.TheVariants.{Done, Refused, Usage, ReadFault, WriteFault, NoMemory}
 use Rattle.hrthood_words.specs.declared.verbs.DesignVerb.TheVariants.{Check, Analyse, Format, Generate, Search, Scale, Background}
-use Rattle.hrthood_words.specs.Words.{Command, OnDesign, Replay, Verify, Sample}
+use Rattle.hrthood_words.specs.Words.{Command, OnDesign, Replay, Verify, Accepts, Sample}
 use Rattle.hrthood_top.specs.Commands.{verb_of}
+use Rattle.hrthood_top.specs.Acceptances.{acceptances}
 use Rattle.hrthood_top.specs.Analyses.{analyses}
 use Rattle.hrthood_top.specs.Backgrounds.{backgrounds}
 use Rattle.hrthood_top.specs.Checks.{checks}
@@ -49,6 +50,9 @@ replay_verb a r = refl
 verify_verb : (d r : List ℕ) → verb_of (Verify d r) ≡ verifies d r
 verify_verb d r = refl
 
+accepts_verb : (d r t : List ℕ) → verb_of (Accepts d r t) ≡ acceptances d r t
+accepts_verb d r t = refl
+
 sample_verb : (n : ℕ) → verb_of (Sample n) ≡ samples n
 sample_verb n = refl
 
@@ -76,7 +80,8 @@ start = record {
 
 abbrev usage_line : List ℕ
 usage_line =
-    codes "usage: hrthood check D | analyse D | format D | generate D | replay A R | verify D R | sample N | search D | scale D | background D\n"
+    codes "usage: hrthood check D | analyse D | format D | generate D | replay A R | verify D R | sample N | search D | scale D | background D"
+    ++ codes " | accepts D R T\n"
 
 usage : Ends Usage None start (record start { err = Some usage_line })
 usage = (refl, refl, inl refl)

@@ -6,7 +6,7 @@ use Rattle.std.proofs.Common.{arith, lit≤, sym, ap, subst, inl, inr, ◌∙◌
 use Rattle.std.proofs.lemmas.List.{length-take}
 use Rattle.hood_io.specs.Causes.{Rose}
 use Rattle.hood_io.specs.Shelves.{Told, Entry}
-use Rattle.hrthood_top.specs.declared.file_kind.FileKind.TheVariants.{Design, Ada, Arrivals}
+use Rattle.hrthood_top.specs.declared.file_kind.FileKind.TheVariants.{Design, Ada, Arrivals, Trace}
 use Rattle.hrthood_top.specs.declared.file_kind.FileKind.{FileKind}
 use Rattle.hrthood_top.specs.Messages.{too_long_line, fault_line}
 use Rattle.hrthood_top.specs.declared.status.Status.TheVariants.{Done, Refused, Usage, ReadFault, WriteFault, NoMemory}
@@ -26,6 +26,7 @@ abbrev pub bytes : Texts
 bytes Design = codes "ab"
 bytes Ada = []
 bytes Arrivals = codes "c"
+bytes Trace = []
 
 abbrev pub bytes_by : List ℕ → List ℕ → List ℕ → Option (List ℕ)
 bytes_by first second name = if bytes_eq name (codes "d") then Some first else if bytes_eq name (codes "rr") then Some second else None
@@ -231,6 +232,7 @@ stopped_too_soon (TooLong front file, stands, log, out, (inl e)) = by file.kind 
     by Design e = omega (arith, e)
     by Ada e = omega (arith, e)
     by Arrivals e = omega (arith, e)
+    by Trace e = omega (arith, e)
 stopped_too_soon (Refusal refusal, stands, log, out, (inl e)) = omega (arith, ap byte_count e)
 stopped_too_soon (Stopped stop, stands, log, (text, appends, (texts, all, is)), err) =
     omega (arith, ap byte_count appends, ap length is.0, ap byte_count all.0.0)

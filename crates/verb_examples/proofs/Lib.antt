@@ -9,6 +9,7 @@ mod MakeExamples
 mod DeliverExamples
 mod VerbExamples
 mod EmptyExamples
+mod AcceptsExamples
 mod BackgroundExamples
 mod RunExamples
 mod StopExamples

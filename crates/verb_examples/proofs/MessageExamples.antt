@@ -9,7 +9,7 @@ use Rattle.ada_rules.specs.declared.verdict.AdaRule.TheVariants as rules
 use Rattle.ods_index.specs.declared.broken.Broken.TheVariants as rule
 use Rattle.rt_response.specs.declared.rows.Limit.TheVariants.{Deadline, Separation}
 use Rattle.arrivals_read.specs.declared.fault.ArrivalFault.TheVariants as arrival
-use Rattle.hrthood_top.specs.declared.file_kind.FileKind.TheVariants.{Design, Ada, Arrivals}
+use Rattle.hrthood_top.specs.declared.file_kind.FileKind.TheVariants.{Design, Ada, Arrivals, Trace}
 use Rattle.hrthood_top.specs.Files.{limit_of, kind_text}
 use Rattle.hrthood_top.specs.Violations.{violation_line}
 use Rattle.hrthood_top.specs.Messages.{body_text, rule_line, miss_line, text_line, place_text, unit_line, arrivals_line, too_long_line, fault_line}
@@ -25,14 +25,14 @@ abbrev place : Place
 place = record { line = 3; column = 4 }
 
 -- THE FILES
-kinds : map kind_text (Design ∷ Ada ∷ Arrivals ∷ []) ≡ codes "design" ∷ codes "ada" ∷ codes "arrivals" ∷ []
+kinds : map kind_text (Design ∷ Ada ∷ Arrivals ∷ Trace ∷ []) ≡ codes "design" ∷ codes "ada" ∷ codes "arrivals" ∷ codes "trace" ∷ []
 kinds = refl
 
-limits : map limit_of (Design ∷ Ada ∷ Arrivals ∷ []) ≡ 1048576 ∷ 16777216 ∷ 1048576 ∷ []
+limits : map limit_of (Design ∷ Ada ∷ Arrivals ∷ Trace ∷ []) ≡ 1048576 ∷ 16777216 ∷ 1048576 ∷ 16777216 ∷ []
 limits = refl
 
-too_long : map too_long_line (Design ∷ Ada ∷ Arrivals ∷ [])
-    ≡ codes "refused S3 design\n" ∷ codes "refused S3 ada\n" ∷ codes "refused S3 arrivals\n" ∷ []
+too_long : map too_long_line (Design ∷ Ada ∷ Arrivals ∷ Trace ∷ [])
+    ≡ codes "refused S3 design\n" ∷ codes "refused S3 ada\n" ∷ codes "refused S3 arrivals\n" ∷ codes "refused S3 trace\n" ∷ []
 too_long = refl
 
 -- a file that could not be read

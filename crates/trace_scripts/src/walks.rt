@@ -9,8 +9,7 @@ ghost use Rattle.trace_scripts.specs.Scenes.{IsScene, IsWalk, calls_of, software
 
 use crate::scripts::Script;
 use ada_tree::AdaProgram;
-use seq_eval::{Followed, follow};
-use seq_eval::Env;
+use seq_eval::{Env, Followed, follow};
 use seq_tree::{Block, Callable, Name, NoMemory, OpText};
 use std::alloc::Global;
 

@@ -33,6 +33,9 @@ in-units p at h = subst (λ n. at < n) (sym (length-map p.units.items unit_of)) 
 pub on-units : (p : AdaProgram) (at : ℕ) → at < length p.units.items → at + 1 ≤ length (program_of p).units
 on-units p at h = let k : at < length (program_of p).units = in-units p at h in omega (arith, k)
 
+pub past-units : (p : AdaProgram) (at : ℕ) → length p.units.items ≤ at → length (program_of p).units ≤ at
+past-units p at h = subst (λ n. n ≤ at) (sym (length-map p.units.items unit_of)) h
+
 pub in-states : (p : AdaProgram) (at n : ℕ) → n ≡ length (program_of p).units → IsUnit (program_of p) at → at < n
 in-states p at n e h = subst (λ k. at < k) (sym e) h
 

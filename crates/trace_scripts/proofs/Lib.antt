@@ -13,3 +13,8 @@ pub mod ObjectsNamed
 pub mod Firsts
 pub mod Clearing
 pub mod Coursing
+pub mod Going
+pub mod Finding
+pub mod ThreadsNamed
+pub mod MoveSteps
+pub mod Judging

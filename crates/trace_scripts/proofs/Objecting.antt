@@ -32,7 +32,7 @@ use Rattle.trace_scripts.specs.declared.services.Service.{Service}
 use Rattle.trace_scripts.proofs.Booking.{changed-at, read-at}
 use Rattle.trace_scripts.proofs.Readings.{unit-ops}
 
-each-at : {A : Type 0} (P : A → Type 0) (xs : List A) (i : ℕ) (x : A) → Each P xs → slice_get xs i ≡ Some x → P x
+pub each-at : {A : Type 0} (P : A → Type 0) (xs : List A) (i : ℕ) (x : A) → Each P xs → slice_get xs i ≡ Some x → P x
 each-at P [] i x h e = absurd (none-some x e)
 each-at P (y ∷ ys) zero x h e = subst P (same_Some y x e) h.0
 each-at P (y ∷ ys) (suc i) x h e = each-at P ys i x h.1 e
@@ -107,7 +107,7 @@ change-same i f [] h = refl
 change-same zero f (x ∷ xs) h = ap (λ z. z ∷ xs) (h x)
 change-same (suc i) f (x ∷ xs) h = ap (λ z. x ∷ z) (change-same i f xs h)
 
-state-set : {A B : Type 0} (view : A → B) (xs : List A) (i : ℕ) (b x y : A) (f : B → B) → i < length xs → x ≡ get_or xs i x → view y ≡ f (view x)
+pub state-set : {A B : Type 0} (view : A → B) (xs : List A) (i : ℕ) (b x y : A) (f : B → B) → i < length xs → x ≡ get_or xs i x → view y ≡ f (view x)
     → map view (set (set xs i b) i y) ≡ change i f (map view xs)
 state-set view xs i b x y f h e g = ap (map view) (set-twice xs i b y) ∙ changed-at view xs i x y f h e g
 

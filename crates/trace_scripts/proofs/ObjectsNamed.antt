@@ -24,7 +24,7 @@ use Rattle.script_laws.proofs.Charged.{found-name}
 use Rattle.trace_scripts.specs.Serving.{enter_by, leave_by, charge_by, service_at, objects_with, objects_from, charge_with, charges_by, first_by, services_first}
 use Rattle.trace_scripts.proofs.Entering.{get-changed}
 
-map-at : {A B : Type 0} (f : A → B) (xs : List A) (i : ℕ) (x : A) → slice_get xs i ≡ Some x → slice_get (map f xs) i ≡ Some (f x)
+pub map-at : {A B : Type 0} (f : A → B) (xs : List A) (i : ℕ) (x : A) → slice_get xs i ≡ Some x → slice_get (map f xs) i ≡ Some (f x)
 map-at f [] i x e = absurd (cc)
 map-at f (y ∷ ys) zero x e = ap (option_map f) e
 map-at f (y ∷ ys) (suc i) x e = map-at f ys i x e

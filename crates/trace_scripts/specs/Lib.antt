@@ -4,3 +4,5 @@ pub mod Scenes
 pub mod Objects
 pub mod Serving
 pub mod Threads
+pub mod Moving
+pub mod Wrongs

@@ -1,10 +1,10 @@
 -- How far a thread is, as the code holds it, and what a step changes of it.
-use Rattle.std.specs.Prelude.{◌≡◌, ◌+◌, ◌&&◌, ◌||◌, ◌-◌, ◌==◌, ℕ, Bool, Option, Some, None, nat_le, not, if◌then◌else◌}
+use Rattle.std.specs.Prelude.{◌≡◌, ◌+◌, ◌&&◌, ◌||◌, ◌-◌, ◌==◌, ℕ, Bool, true, false, Option, Some, None, nat_le, not, if◌then◌else◌}
 use Rattle.seq_tree.specs.Runs as runs
 use Rattle.seq_tree.specs.Trees.{block_of}
 use Rattle.ada_tree.specs.Programs.{Program}
 use Rattle.guarantee.specs.Software.{Task, params_of, program_software}
-use Rattle.guarantee.specs.Events.{Event, By, Horizon}
+use Rattle.guarantee.specs.Events.{Event, Release, By, Horizon}
 use Rattle.script_laws.specs.Progress as laws
 use Rattle.script_laws.specs.Progress.{after_deed, all_shown, is_good, step_on, with_last}
 use Rattle.trace_scripts.specs.Scripts.{shown_of}
@@ -79,3 +79,13 @@ abbrev pub step_by : Program → ℕ → Task → Bool → ℕ × ℕ → Event 
 step_by p depth t good charge (By time task deed) s =
     step_on (program_software p) depth t (is_good (λ object. good) deed) charge time deed s
 step_by p depth t good charge (Horizon time) s = s
+
+-- the release that an event is
+abbrev pub released_in : Event → Option (ℕ × Option ℕ)
+released_in (By time task (Release value)) = Some (time, value)
+released_in _ = None
+
+-- whether an event is the end of the trace
+abbrev pub is_at_horizon : Event → Bool
+is_at_horizon (By time task deed) = false
+is_at_horizon (Horizon time) = true

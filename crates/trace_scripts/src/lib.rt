@@ -1,13 +1,13 @@
 //! A trace as its threads and objects: whether the operations of each object are run one by one, and what each activation shows.
 //!
-//! The definitions are those of `trace_laws`, in the passes of `script_laws`. `first_unserved` carries the promise: the first object whose
-//! operations the trace does not run one by one. `Course` in `progress` holds an activation as far as it was seen, and closes it by the run that
-//! its script shows.
+//! The definitions are those of `trace_laws`, in the passes of `script_laws`. `first_wrong` carries the promise: the first thread
+//! whose activations the trace shows wrong, else the first object whose operations it does not run one by one.
 #![tactic(auto)]
 
 mod actions;
 mod books;
 mod data;
+mod moves;
 mod names;
 mod objects;
 mod progress;
@@ -16,5 +16,5 @@ mod services;
 mod verdict;
 mod walks;
 
-pub use verdict::first_unserved;
+pub use verdict::{Wrong, first_wrong};
 pub use walks::Scene;

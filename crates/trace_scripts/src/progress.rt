@@ -1,5 +1,5 @@
 ghost use Rattle.seq_tree.specs.Trees.{block_of};
-ghost use Rattle.std.specs.Prelude.{◌≡◌, ◌≤◌, ℕ, ◌+◌, ◌++◌, ◌&&◌, IfOk, OnOk, None, Some, nat_le, option_map, option_to_list};
+ghost use Rattle.std.specs.Prelude.{◌≡◌, ◌≤◌, ℕ, ◌+◌, ◌++◌, ◌&&◌, IfOk, OnOk, None, Some, false, nat_le, option_map, option_to_list};
 ghost use Rattle.seq_tree.specs.Variables.{entered};
 ghost use Rattle.ada_tree.specs.Rules.{MeetsRules};
 ghost use Rattle.ada_tree.specs.Trees.{program_of};
@@ -11,8 +11,8 @@ ghost use Rattle.guarantee.specs.Software.{Task, leads_to};
 ghost use Rattle.trace_tree.specs.Placed.{IsPlaced};
 ghost use Rattle.script_laws.specs.Progress.{Active, again_by, all_shown, course_from, ends_by, left_by_course, with_last};
 ghost use Rattle.trace_scripts.specs.Objects.{charge_of};
-ghost use Rattle.trace_scripts.specs.Scenes.{IsScene, calls_of, software_of};
-ghost use Rattle.trace_scripts.specs.Threads.{IsOf, after_event, charged_by, course_of, entered_if, finished_if, left_if, progress_of, seen_if};
+ghost use Rattle.trace_scripts.specs.Scenes.{IsScene, calls_of, program_in, software_of};
+ghost use Rattle.trace_scripts.specs.Threads.{IsOf, after_event, charged_by, course_of, entered_if, finished_if, is_at_horizon, left_if, progress_of, released_in, seen_if, step_by};
 
 use crate::actions::action;
 use crate::data::{add_all, add_params, keep};
@@ -322,4 +322,85 @@ fn go_on(
     let mut course = course;
     course.step(alloc, program, event, good, charge)?;
     Ok(Progress::Active(kept_now, course))
+}
+
+/// The time and the value of a release, where an event is one.
+fn released(_program: &AdaProgram, event: &Event) -> Option<(u64, Option<u32>)>
+    ensures { result ≡ released_in (named_event (program_of _program.now) event.now) }
+{
+    match event {
+        Event::Release { time, value, .. } => Some((*time, *value)),
+        Event::Arrive { .. }
+        | Event::Enter { .. }
+        | Event::Leave { .. }
+        | Event::Request { .. }
+        | Event::Print { .. }
+        | Event::End { .. }
+        | Event::Stop { .. }
+        | Event::Horizon { .. } => None,
+    }
+}
+
+/// An activation after one of its thread's events: it ends where another release stands outside of operations.
+#[tactic(auto, using(crate::proofs::Going::going_steps))]
+fn proceed(
+    scene: &Scene,
+    alloc: Global,
+    thread: Thread,
+    kept_now: Env,
+    course: Course,
+    event: &Event,
+    good: bool,
+    charge: Charge,
+) -> Result<Progress, NoMemory>
+    requires scene { IsScene scene.now }
+    requires placed { IsPlaced (program_in scene.now) event.now }
+    requires ticks { (depth : ℕ) → most_ticks scene.now.program.now.costs (calls_of scene.now) depth (block_of thread.block.now) ≤ 1000000000 }
+    ensures { (depth : ℕ) (t : Task) → IsOf t thread.entry → MayRun (leads_to (software_of scene.now)) depth (block_of thread.entry.block.now)
+        → IfOk result (λ r. progress_of r ≡ step_by (program_in scene.now) depth t good (charge_of charge)
+        (named_event (program_in scene.now) event.now) (Active kept_now.slots.items (course_of course))) }
+{
+    if course.depth == 0 {
+        if let Some((time, value)) = released(scene.program, event) {
+            let left = course.close(scene, alloc, thread, kept_now)?;
+            return Ok(again(alloc, time, value, left));
+        }
+    }
+    let next = go_on(alloc, scene.program, kept_now, course, event, good, charge)?;
+    Ok(next)
+}
+
+/// How far a thread is after one of its own events, with the ticks of the way through the operation that it enters, and whether the object
+/// is served.
+#[tactic(auto, using(crate::proofs::Going::going_steps))]
+pub(crate) fn advance(
+    scene: &Scene,
+    alloc: Global,
+    thread: Thread,
+    state: Progress,
+    event: &Event,
+    good: bool,
+    charge: Charge,
+) -> Result<Progress, NoMemory>
+    requires scene { IsScene scene.now }
+    requires placed { IsPlaced (program_in scene.now) event.now }
+    requires own { is_at_horizon (named_event (program_in scene.now) event.now) ≡ false }
+    requires ticks { (depth : ℕ) → most_ticks scene.now.program.now.costs (calls_of scene.now) depth (block_of thread.block.now) ≤ 1000000000 }
+    ensures { (depth : ℕ) (t : Task) → IsOf t thread.entry → MayRun (leads_to (software_of scene.now)) depth (block_of thread.entry.block.now)
+        → IfOk result (λ r. progress_of r ≡ step_by (program_in scene.now) depth t good (charge_of charge)
+        (named_event (program_in scene.now) event.now) (progress_of state)) }
+{
+    match state {
+        Progress::Astray => Ok(Progress::Astray),
+        Progress::Idle(kept_now) => match released(scene.program, event) {
+            None => Ok(Progress::Astray),
+            Some((time, value)) => {
+                Ok(Progress::Active(kept_now, Course::begin(alloc, time, value)))
+            }
+        },
+        Progress::Active(kept_now, course) => {
+            let next = proceed(scene, alloc, thread, kept_now, course, event, good, charge)?;
+            Ok(next)
+        }
+    }
 }

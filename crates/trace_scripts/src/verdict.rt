@@ -1,23 +1,30 @@
-ghost use Rattle.std.specs.Prelude.{◌≡◌, ◌<◌, Bool, IfOk, find, length, not, option_map};
+ghost use Rattle.std.specs.Prelude.{◌≡◌, ◌<◌, ℕ, Bool, IfOk, find, length, not, option_map};
 ghost use Rattle.ods_tree.specs.Flats.{Guarded};
 ghost use Rattle.ada_tree.specs.Trees.{program_of};
 ghost use Rattle.trace_tree.specs.Lines.{unit_name};
 ghost use Rattle.guarantee.specs.Events.{named, named_event};
-ghost use Rattle.guarantee.specs.Software.{program_software};
+ghost use Rattle.guarantee.specs.Software.{Task, program_software};
 ghost use Rattle.trace_places.specs.Places.{guarded_at};
-ghost use Rattle.trace_laws.specs.Checks.{most_used, serves, used_in};
+ghost use Rattle.trace_laws.specs.Checks.{most_used, used_in};
 ghost use Rattle.trace_laws.specs.Clear.{IsClear};
 ghost use Rattle.seq_tree.specs.Lists.{Each};
 ghost use Rattle.trace_tree.specs.Placed.{IsPlaced};
 ghost use Rattle.trace_scripts.specs.Scenes.{IsScene, program_in, software_of};
+ghost use Rattle.trace_scripts.specs.Moving.{AreFollowing, threads_of};
 ghost use Rattle.trace_scripts.specs.Objects.{AreServing, broken_by, services_of};
+ghost use Rattle.trace_scripts.specs.Serving.{MayAll};
+ghost use Rattle.trace_scripts.specs.Wrongs.{judged_last, verdict_by};
+ghost use Rattle.trace_laws.specs.Verdicts.{Verdict};
 
 use crate::books::entries;
+use crate::moves::{Threads, is_well, move_all};
 use crate::objects::{Objects, is_object, serve};
+use crate::progress::Progress;
 use crate::walks::Scene;
 use ada_tree::AdaProgram;
 use seq_tree::NoMemory;
 use std::alloc::Global;
+use std::mem::replace;
 use trace_tree::Event;
 
 /// The greatest number of ticks that an event of a trace says were used.
@@ -81,20 +88,61 @@ pub(crate) fn first_broken(program: &AdaProgram, objects: &Objects) -> Option<us
     None
 }
 
-/// The place of the first object of a program whose operations a trace doesn't run one by one, where there is one.
-pub fn first_unserved(
+/// The place of the first thread whose steps are no activations, where there is one.
+fn first_astray(scene: &Scene, alloc: Global, threads: Threads) -> Result<Option<usize>, NoMemory>
+    requires scene { IsScene scene.now }
+    requires states { length threads.states.items ≡ length (program_in scene.now).units }
+    ensures { (depth : ℕ) → MayAll (program_in scene.now) depth → (following : Task → Bool)
+        → AreFollowing (program_in scene.now) depth (threads_of threads) following → IfOk result (λ r. option_map (unit_name (program_in scene.now)) r
+        ≡ option_map (λ t. t.name) (find (λ t. not (following t)) (software_of scene.now).tasks)) }
+{
+    let mut threads = threads;
+    let mut at = 0;
+    'units: while at < scene.program.units.len() {
+        let state = replace(&mut threads.states[at], Progress::Astray);
+        if !is_well(scene, alloc, at, state)? {
+            return Ok(Some(at));
+        }
+        at += 1;
+    }
+    Ok(None)
+}
+
+/// What a trace shows wrong, by the place of its unit.
+#[derive(Clone, Copy, Drop)]
+pub enum Wrong {
+    /// The activations of a thread.
+    Thread(usize),
+    /// The operations of an object, which are not run one by one.
+    Object(usize),
+}
+
+/// The first thread of a program whose activations a trace shows wrong, else the first object whose operations it does not run one by one,
+/// where there is one: threads and objects in the order of units, whose places count from 0.
+///
+/// The ticks that an activation used are asked for only where it enters no object of the latter kind. The trace is passed three times:
+/// from its end for what is done inside each operation, then for the objects, and then for the threads.
+pub fn first_wrong(
     alloc: Global,
     scene: &Scene,
     events: &[Event],
-) -> Result<Option<usize>, NoMemory>
+) -> Result<Option<Wrong>, NoMemory>
     requires scene { IsScene scene.now }
     requires placed { Each (IsPlaced (program_in scene.now)) events.now }
-    ensures { (clear : IsClear (software_of scene.now)) → IfOk result (λ r. option_map (unit_name (program_in scene.now)) r
-        ≡ option_map (λ g. g.name) (find (λ g. not (serves (software_of scene.now) clear.depth (named (program_in scene.now) events.now) g))
-        (software_of scene.now).shared)) }
+    ensures { (clear : IsClear (software_of scene.now)) (other : Verdict) → IfOk result (λ r. verdict_by (program_in scene.now) r other
+        ≡ judged_last (software_of scene.now) clear.depth (named (program_in scene.now) events.now) other) }
 {
     let known = entries(alloc, scene.program, events)?;
     let most = most_used(scene.program, events);
-    let (objects, _) = serve(scene, alloc, events, known, most)?;
-    Ok(first_broken(scene.program, &objects))
+    let (objects, charges) = serve(scene, alloc, events, known, most)?;
+    let threads = move_all(scene, alloc, events, &charges, &objects)?;
+    let astray = first_astray(scene, alloc, threads)?;
+    if let Some(unit) = astray {
+        return Ok(Some(Wrong::Thread(unit)));
+    }
+    let broken = first_broken(scene.program, &objects);
+    if let Some(unit) = broken {
+        return Ok(Some(Wrong::Object(unit)));
+    }
+    Ok(None)
 }

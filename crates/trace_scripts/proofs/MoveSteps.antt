@@ -1,0 +1,214 @@
+-- One thread that takes an event, and the steps over a trace and over units.
+use Rattle.std.proofs.Common.{◌≡◌, ℕ, zero, suc, ◌+◌, ◌<◌, ◌≤◌, Bool, true, false, not, List, [], ◌∷◌, map, drop, length}
+use Rattle.std.proofs.Common.{Option, Some, None, refl, sym, ap, subst, ◌∙◌, get_or, set, arith}
+use Rattle.std.specs.Prelude.{slice_get, option_map, option_and_then, find, filter_map, is_some}
+use Rattle.std.proofs.lemmas.Option.{none-some, same_Some, slice_get-map, slice_get_read}
+use Rattle.std.proofs.lemmas.List.{nil_from_length}
+use Rattle.seq_tree.specs.Lists.{change}
+use Rattle.seq_tree.specs.Names.{Name}
+use Rattle.seq_tree.specs.Statements.{Statements}
+use Rattle.seq_tree.specs.Trees.{block_of}
+use Rattle.ods_tree.specs.Flats.{Guarded}
+use Rattle.ada_tree.specs.Programs.{Program, Form, Passive, Shared, Cyclic, Sporadic}
+use Rattle.trace_tree.specs.Lines.{unit_name}
+use Rattle.trace_tree.specs.Placed.{IsUnit}
+use Rattle.trace_tree.specs.declared.event.Event as machine
+use Rattle.trace_tree.specs.declared.event.Event.TheVariants as event
+use Rattle.guarantee.specs.Events.{named_event}
+use Rattle.guarantee.specs.Software.{Task, program_software}
+use Rattle.trace_laws.specs.Verdicts.{Shared}
+use Rattle.trace_places.specs.Places.{guarded_at, task_at, task_in}
+use Rattle.trace_places.proofs.Units.{item-at, task-name}
+use Rattle.script_laws.specs.Progress as laws
+use Rattle.script_laws.specs.Progress.{is_well}
+use Rattle.script_laws.specs.Services as services
+use Rattle.script_laws.specs.Services.{is_served, is_sound}
+use Rattle.trace_scripts.specs.Moving.{AreFollowing, AreOf, good_at, good_with, move_by, moved_at, threads_from, threads_with, well_by}
+use Rattle.trace_scripts.specs.Objects.{charge_of, service_of}
+use Rattle.trace_scripts.specs.Scenes.{AllBlocks, AllIn}
+use Rattle.trace_scripts.specs.Serving.{service_at}
+use Rattle.trace_scripts.specs.Threads.{IsOf, progress_of, step_by}
+use Rattle.trace_scripts.specs.declared.progress.Progress.{Progress}
+use Rattle.trace_scripts.specs.declared.progress.Thread.{Thread}
+use Rattle.trace_scripts.specs.declared.services.Charge.{Charge}
+use Rattle.trace_scripts.specs.declared.services.Service.{Service}
+use Rattle.trace_scripts.proofs.Booking.{read-at}
+use Rattle.trace_scripts.proofs.Finding.{found-here, found-past, passes}
+use Rattle.trace_scripts.proofs.Objecting.{change-same, each-at, state-set}
+
+-- THE THREAD at a place
+pub record Found (p : Program) (unit : ℕ) (h : Thread) : Type 0 where
+  pub task : Task
+  pub at : task_at p unit ≡ Some task
+  pub is : IsOf task h
+
+pub thread-found : (p : Program) (unit : ℕ) (r : Option Thread) (h : Thread) → AreOf (task_at p unit) r → r ≡ Some h → Found p unit h
+thread-found p unit r h are e = by (task_at p unit) refl (subst (AreOf (task_at p unit)) e are)
+  where
+    by : (o : Option Task) → task_at p unit ≡ o → AreOf o (Some h) → Found p unit h
+    by None at a = absurd a
+    by (Some t) at a = record { task = t; at = at; is = a }
+
+pub thread-none : (p : Program) (unit : ℕ) (r : Option Thread) → AreOf (task_at p unit) r → r ≡ None → task_at p unit ≡ None
+thread-none p unit r are e = by (task_at p unit) refl (subst (AreOf (task_at p unit)) e are)
+  where
+    by : (o : Option Task) → task_at p unit ≡ o → AreOf o None → task_at p unit ≡ None
+    by None at a = at
+    by (Some t) at a = absurd a
+
+task-block : (P : Statements → Type 0) (name : Name) (f : Form) (t : Task) → task_in (record { name = name; form = f }) ≡ Some t → AllBlocks P f
+    → P t.block
+task-block P name (Passive ops) t e h = absurd (none-some t e)
+task-block P name (Shared ceiling vars ops) t e h = absurd (none-some t e)
+task-block P name (Cyclic priority offset period vars block) t e h = subst (λ (z : Task). P z.block) (same_Some _ t e) h
+task-block P name (Sporadic priority ceiling op separation jitter external vars block) t e h =
+    subst (λ (z : Task). P z.block) (same_Some _ t e) h
+
+pub block-at : (p : Program) (unit : ℕ) → IsUnit p unit → (h : Thread) → Found p unit h → (P : Statements → Type 0) → AllIn P p
+    → P (block_of h.block.now)
+block-at p unit in' h f P all =
+    let u = item-at p.units unit in' in
+    let blocks : AllBlocks P u.0.form = each-at (λ v. AllBlocks P v.form) p.units unit u.0 all u.1 in
+    subst P f.is.block (task-block P u.0.name u.0.form f.task (sym (ap (option_and_then task_in) u.1) ∙ f.at) blocks)
+
+-- ONE EVENT
+pub step-made : (p : Program) (depth : ℕ) (good : Bool) (charge : ℕ × ℕ) (e : machine.Event) (task : ℕ) (h : Thread) → (f : Found p task h)
+    → (ss : List Progress) (b before after : Progress) → task < length ss → before ≡ get_or ss task before
+    → progress_of after ≡ step_by p depth f.task good charge (named_event p e) (progress_of before)
+    → map progress_of (set (set ss task b) task after) ≡ moved_at p depth good charge e task (map progress_of ss)
+step-made p depth good charge e task h f ss b before after in' is does =
+    state-set progress_of ss task b before after (step_by p depth f.task good charge (named_event p e)) in' is does
+    ∙ ap (λ o. change task (move_by p depth good charge (named_event p e) o) (map progress_of ss)) (sym f.at)
+
+pub step-none : (p : Program) (depth : ℕ) (good : Bool) (charge : ℕ × ℕ) (e : machine.Event) (task : ℕ) (ss : List laws.Progress)
+    → task_at p task ≡ None → ss ≡ moved_at p depth good charge e task ss
+step-none p depth good charge e task ss at =
+    sym (change-same task (move_by p depth good charge (named_event p e) None) ss (λ x. refl))
+    ∙ ap (λ o. change task (move_by p depth good charge (named_event p e) o) ss) (sym at)
+
+-- the unit whose thread takes an event
+abbrev pub of_task : machine.Event → Option ℕ
+of_task (event.Release time task value) = Some task
+of_task (event.Arrive time task value) = None
+of_task (event.Enter time task unit op values) = Some task
+of_task (event.Leave time task unit op values) = Some task
+of_task (event.Request time task target value) = Some task
+of_task (event.Print time task value) = Some task
+of_task (event.End time task used) = Some task
+of_task (event.Stop time task unit priority ceiling) = Some task
+of_task (event.Horizon time) = None
+
+pub stepped-with : (p : Program) (depth : ℕ) (good : Bool) (c : ℕ × ℕ) (ss : List laws.Progress) (e : machine.Event) (task : ℕ)
+    → of_task e ≡ Some task → moved_at p depth good c e task ss ≡ threads_with p depth good e c ss
+unfolding threads_with
+stepped-with p depth good c ss (event.Release time own value) task h =
+    ap (λ k. moved_at p depth good c (event.Release time own value) k ss) (sym (same_Some own task h))
+stepped-with p depth good c ss (event.Arrive time own value) task h = absurd (none-some task h)
+stepped-with p depth good c ss (event.Enter time own unit op values) task h =
+    ap (λ k. moved_at p depth good c (event.Enter time own unit op values) k ss) (sym (same_Some own task h))
+stepped-with p depth good c ss (event.Leave time own unit op values) task h =
+    ap (λ k. moved_at p depth good c (event.Leave time own unit op values) k ss) (sym (same_Some own task h))
+stepped-with p depth good c ss (event.Request time own target value) task h =
+    ap (λ k. moved_at p depth good c (event.Request time own target value) k ss) (sym (same_Some own task h))
+stepped-with p depth good c ss (event.Print time own value) task h =
+    ap (λ k. moved_at p depth good c (event.Print time own value) k ss) (sym (same_Some own task h))
+stepped-with p depth good c ss (event.End time own used) task h =
+    ap (λ k. moved_at p depth good c (event.End time own used) k ss) (sym (same_Some own task h))
+stepped-with p depth good c ss (event.Stop time own unit priority ceiling) task h =
+    ap (λ k. moved_at p depth good c (event.Stop time own unit priority ceiling) k ss) (sym (same_Some own task h))
+stepped-with p depth good c ss (event.Horizon time) task h = absurd (none-some task h)
+
+-- whether the object at a place is served
+pub good-object : (p : Program) (unit : ℕ) (ss : List Service) (s : Service) → unit < length ss → s ≡ get_or ss unit s → (b : Bool)
+    → b ≡ is_sound (service_of s) → is_some (guarded_at p unit) ≡ true → b ≡ good_at p (map service_of ss) unit
+good-object p unit ss s h at b e there =
+    e ∙ ap is_sound (sym (read-at service_of ss unit s services.Broken h at)) ∙ by (guarded_at p unit) there
+  where
+    by : (o : Option Guarded) → is_some o ≡ true
+        → is_sound (service_at unit (map service_of ss)) ≡ is_served (λ g. is_sound (service_at unit (map service_of ss))) o
+    by None t = absurd (cc)
+    by (Some g) t = refl
+
+pub good-none : (p : Program) (unit : ℕ) (os : List services.Service) → is_some (guarded_at p unit) ≡ false → true ≡ good_at p os unit
+good-none p unit os e = by (guarded_at p unit) e
+  where
+    by : (o : Option Guarded) → is_some o ≡ false → true ≡ is_served (λ g. is_sound (service_at unit os)) o
+    by None t = refl
+    by (Some g) t = absurd (cc)
+
+-- ALL EVENTS
+module _ (p : Program) (depth : ℕ) (os : List services.Service) (left rest : List machine.Event) (e : machine.Event) (l : left ≡ e ∷ rest)
+    (ways others : List Charge) (ss : List laws.Progress) (target : List laws.Progress)
+    (so-far : threads_from p depth os left (map charge_of ways) ss ≡ target) where
+  pub go-on : (c : Charge) → ways ≡ c ∷ others → (good : Bool) → good ≡ good_with p os e → (ss' : List laws.Progress)
+      → ss' ≡ threads_with p depth good e (charge_of c) ss → threads_from p depth os rest (map charge_of others) ss' ≡ target
+  unfolding threads_from
+  go-on c w good g ss' does =
+      ap (threads_from p depth os rest (map charge_of others)) (does ∙ ap (λ z. threads_with p depth z e (charge_of c) ss) g)
+      ∙ ap (λ z. threads_from p depth os (e ∷ rest) (map charge_of z) ss) (sym w)
+      ∙ ap (λ z. threads_from p depth os z (map charge_of ways) ss) (sym l) ∙ so-far
+
+  pub stops : length ways ≡ 0 → ss ≡ target
+  unfolding threads_from
+  stops n =
+      sym (ap (λ z. threads_from p depth os (e ∷ rest) (map charge_of z) ss) (nil_from_length ways n))
+      ∙ ap (λ z. threads_from p depth os z (map charge_of ways) ss) (sym l) ∙ so-far
+
+pub all-done : (p : Program) (depth : ℕ) (os : List services.Service) (left : List machine.Event) (cs : List (ℕ × ℕ)) (ss target : List laws.Progress)
+    → length left ≡ 0 → threads_from p depth os left cs ss ≡ target → ss ≡ target
+unfolding threads_from
+all-done p depth os left cs ss target n h = sym (ap (λ z. threads_from p depth os z cs ss) (nil_from_length left n)) ∙ h
+
+-- WHETHER STEPS ARE ACTIVATIONS
+pub well-none : (p : Program) (depth unit : ℕ) (s : laws.Progress) → task_at p unit ≡ None
+    → true ≡ well_by (program_software p) depth (task_at p unit) s
+well-none p depth unit s e = ap (λ o. well_by (program_software p) depth o s) (sym e)
+
+pub well-some : (p : Program) (depth unit : ℕ) (h : Thread) (f : Found p unit h) (s : laws.Progress) (b : Bool)
+    → b ≡ is_well (program_software p) depth f.task s → b ≡ well_by (program_software p) depth (task_at p unit) s
+well-some p depth unit h f s b e = e ∙ ap (λ o. well_by (program_software p) depth o s) (sym f.at)
+
+-- OVER UNITS
+pub other-units : (ss : List Progress) (at u : ℕ) (y : Progress) → at + 1 ≤ u
+    → slice_get (map progress_of (set ss at y)) u ≡ slice_get (map progress_of ss) u
+other-units [] at u y h = refl
+other-units (s ∷ ss) at zero y h = absurd (omega (arith, h))
+other-units (s ∷ ss) zero (suc u) y h = refl
+other-units (s ∷ ss) (suc at) (suc u) y h = other-units ss at u y (let g : suc at + 1 ≤ suc u = h in omega (arith, g))
+
+pub passes-thread : (p : Program) (depth at : ℕ) → IsUnit p at → (all : List laws.Progress) (ss : List Progress) (s : Progress)
+    (following : Task → Bool)
+    → AreFollowing p depth all following → slice_get (map progress_of ss) at ≡ slice_get all at → at < length ss → s ≡ get_or ss at s → (b : Bool)
+    → b ≡ well_by (program_software p) depth (task_at p at) (progress_of s) → b ≡ passes following (task_at p at)
+passes-thread p depth at in' all ss s following are same h is b e = e ∙ by (task_at p at) refl
+  where
+    read : slice_get all at ≡ Some (progress_of s)
+    read = sym same ∙ slice_get-map progress_of ss at ∙ ap (option_map progress_of) (slice_get_read ss (length ss) at s refl h is)
+
+    by : (o : Option Task) → task_at p at ≡ o → well_by (program_software p) depth o (progress_of s) ≡ passes following o
+    by None k = refl
+    by (Some t) k =
+        same_Some (is_well (program_software p) depth t (progress_of s)) (following t)
+        (sym (ap (option_map (is_well (program_software p) depth t)) read) ∙ are at t in' k)
+
+pub past-thread : (p : Program) (at : ℕ) → IsUnit p at → (following : Task → Bool) (target : Option Task)
+    → find (λ t. not (following t)) (filter_map task_in (drop at p.units)) ≡ target → (b : Bool) → b ≡ passes following (task_at p at) → b ≡ true
+    → find (λ t. not (following t)) (filter_map task_in (drop (at + 1) p.units)) ≡ target
+past-thread p at in' following target all b is e = found-past task_in (λ t. t.name) task-name p at in' following target all b is e
+
+pub here-thread : (p : Program) (at : ℕ) → IsUnit p at → (following : Task → Bool) (target : Option Task)
+    → find (λ t. not (following t)) (filter_map task_in (drop at p.units)) ≡ target → (b : Bool) → b ≡ passes following (task_at p at) → b ≡ false
+    → Some (unit_name p at) ≡ option_map (λ t. t.name) target
+here-thread p at in' following target all b is e = found-here task_in (λ t. t.name) task-name p at in' following target all b is e
+
+dropped : {A : Type 0} (at : ℕ) (xs : List A) → length xs ≤ at → drop at xs ≡ []
+dropped zero [] h = refl
+dropped zero (x ∷ xs) h = absurd (omega (arith, h))
+dropped (suc at) [] h = refl
+dropped (suc at) (x ∷ xs) h = dropped at xs (let g : suc (length xs) ≤ suc at = h in omega (arith, g))
+
+pub none-left : (p : Program) (at : ℕ) (following : Task → Bool) (target : Option Task) → length p.units ≤ at
+    → find (λ t. not (following t)) (filter_map task_in (drop at p.units)) ≡ target → None ≡ option_map (λ t. t.name) target
+none-left p at following target h all =
+    ap (option_map (λ (t : Task). t.name))
+    (sym (ap (λ us. find (λ t. not (following t)) (filter_map task_in us)) (dropped at p.units h)) ∙ all)

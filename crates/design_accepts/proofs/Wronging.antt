@@ -10,9 +10,9 @@ use Rattle.guarantee.specs.Software.{Task, Software}
 use Rattle.trace_laws.specs.Checks.{follows, serves}
 use Rattle.trace_laws.specs.Verdicts.{Verdict, Times, Script, Shared, first_or}
 use Rattle.design_accepts.specs.Units.{astray, unserved}
-use Rattle.design_accepts.specs.Wrongs.{judged_last, verdict_by}
-use Rattle.design_accepts.specs.declared.stub.Wrong.{Wrong}
-use Rattle.design_accepts.specs.declared.stub.Wrong.TheVariants.{Thread, Object}
+use Rattle.trace_scripts.specs.Wrongs.{judged_last, verdict_by}
+use Rattle.trace_scripts.specs.declared.verdict.Wrong.{Wrong}
+use Rattle.trace_scripts.specs.declared.verdict.Wrong.TheVariants.{Thread, Object}
 
 abbrev last : Option Task → Option Guarded → Verdict
 last a b = first_or (λ t. Script t.name) a (first_or (λ g. Shared g.name) b Times)

@@ -2,4 +2,3 @@ pub mod Answers
 pub mod Calling
 pub mod Units
 pub mod Refusals
-pub mod Wrongs

@@ -7,7 +7,6 @@
 
 mod accepting;
 mod called;
-mod stub;
 mod unaccepted;
 mod units;
 

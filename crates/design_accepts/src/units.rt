@@ -10,12 +10,11 @@ ghost use Rattle.trace_laws.specs.Clear.{IsClear};
 ghost use Rattle.design_accepts.specs.Units.{IsQuick, SaysOf};
 
 use crate::called::called_in;
-use crate::stub::{Wrong, first_wrong};
 use crate::unaccepted::Unaccepted;
 use ada_tree::{AdaProgram, Unit};
 use seq_tree::{Name, NoMemory};
 use std::alloc::Global;
-use trace_scripts::Scene;
+use trace_scripts::{Scene, Wrong, first_wrong};
 use trace_tree::Event;
 
 /// The unit at a place.

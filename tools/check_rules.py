@@ -23,7 +23,7 @@ def read(*path):
 
 def codes_told():
     """The codes that messages begin with, or have as the code of a limit, a rule or a body."""
-    texts = [read(CRATES, 'hrthood_top', 'specs', module) for module in ('Messages.antt', 'Searches.antt')]
+    texts = [read(CRATES, 'hrthood_top', 'specs', module) for module in ('Messages.antt', 'Searches.antt', 'Acceptances.antt')]
     return set(re.findall(rf'codes "(?:refused )? ?({CODE})\b', '\n'.join(texts))) | {'C1'}
 
 

@@ -51,6 +51,7 @@ tells() {
 }
 
 usage='usage: hrthood check D | analyse D | format D | generate D | replay A R | verify D R | sample N | search D | scale D | background D'
+usage+=' | accepts D R T'
 tells 2 "$usage"
 tells 2 "$usage" check
 tells 2 "$usage" check one_cyclic_object.design two

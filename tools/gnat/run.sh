@@ -7,7 +7,7 @@
 #   -p  Jorvik or Ravenscar: builds under that profile
 #   -t  microseconds of a tick: 10000 with -s, else those of the design, else 1000
 #   -c  the processor: 0; a list as 0-3 shows what happens on several
-#   -k  keeps what was built, and the lines, in FOLDER
+#   -k  keeps what was built, and the lines, in FOLDER; with -s also the file `log`, a trace for `hrthood accepts`
 # Status 0: the run agrees. 1: it does not. 2: wrong words, or a file that is refused. 3: GNAT is missing, or refuses the text. 4: no right to
 # real-time priorities. 5: the run does not agree, and the host took the processor away meanwhile, so that it shows nothing.
 set -u
@@ -87,6 +87,7 @@ case $cpu in
     *[,-]*) sed -i '/ away /d' run ;;
 esac
 if [ $mode = steps ]; then
+    python3 "$here/target.py" log text trace run >log || exit 2
     python3 "$here/target.py" steps text trace run
 else
     python3 "$here/target.py" responses text trace arrivals "$tick" run

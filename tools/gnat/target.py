@@ -5,6 +5,7 @@
     target.py tick DESIGN                           microseconds of a tick of a design of version 2, else 1000
     target.py driver TEXT ARRIVALS FOLDER           writes the package hrt_arrivals, whose tasks make the requests, and the program hrt_run
     target.py steps TEXT TRACE RUN                  compares each line of a stepped run with the replay
+    target.py log TEXT TRACE RUN                    writes a stepped run as a trace for `hrthood accepts`
     target.py responses TEXT TRACE ARRIVALS TICK_US RUN     compares what is put, and responses with their bounds
 
 A line of a run is `TIME KIND PRIORITY MORE`. TIME is seconds, or ticks of a stepped run, and the priority is that of the task. Status 0: the run
@@ -224,6 +225,28 @@ def compare_steps(program, trace, run_text):
     return answer
 
 
+def log(program, trace, run_text):
+    """The trace of a stepped run. What a target doesn't tell is taken from the replay: when tasks are released and requests come from outside, the
+    ticks that an activation took itself, and the horizon. Of one instant the lines of the run come first, as effects do on the modelled processor.
+    """
+    _, events = read_trace(trace)
+    until = events[-1].time
+    used = {}
+    for event in events:
+        if event.kind == 'end':
+            used.setdefault(event.task, []).append(more_of(event))
+    lines = []
+    for line in read_run(run_text, program):
+        if line.kind in TOLD and line.time <= until:
+            more = line.more
+            if line.kind == 'end':
+                left = used.get(line.task, [])
+                more = left.pop(0) if left else 'used 0'
+            lines.append((line.time, ' '.join(part for part in (str(line.time), line.kind, line.task, more) if part)))
+    lines += [(event.time, event.line()) for event in events if event.kind in ('release', 'arrive', 'horizon')]
+    return ''.join(text + '\n' for _, text in sorted(lines, key=lambda line: line[0]))
+
+
 def compare_puts(program, wanted, run, answer):
     """The values that each task puts have to be those of the replay, as far as both go."""
     wanted = [(line.task, line.more) for line in wanted if line.kind == 'put']
@@ -298,6 +321,8 @@ def do(words):
                 stream.write(unit)
     elif words[:1] == ['steps'] and len(words) == 4:
         return told(compare_steps(read_text(load(words[1])), load(words[2]), load(words[3])))
+    elif words[:1] == ['log'] and len(words) == 4:
+        sys.stdout.write(log(read_text(load(words[1])), load(words[2]), load(words[3])))
     elif words[:1] == ['responses'] and len(words) == 6:
         return told(compare_responses(read_text(load(words[1])), load(words[2]), load(words[3]), int(words[4]), load(words[5])))
     else:

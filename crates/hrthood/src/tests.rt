@@ -1,5 +1,6 @@
 //! The tests of the whole toolset.
 
+mod accepts;
 mod analyses;
 mod arrivals;
 mod backgrounds;

@@ -24,6 +24,13 @@ const WRITTEN: &[&str] = &[
     "words: replay a.ada r",
     "words: verify d r
     rooms: 0 1 1239 1240 1241 1248 1249 1250 1328",
+    "words: accepts d r t
+    t: 0 release a
+    t: 4 end a used 4
+    t: 10 release a
+    t: 14 end a used 4
+    t: 20 release a
+    t: 20 horizon",
     "words: sample 1
     rooms: 0 1 52 53 54 63",
     "words: replay a.ada r
@@ -113,7 +120,8 @@ fn a_byte_at_a_time(rt: HostRuntime) -> Result<(), Fail> {
 const TOLD: &[&str] = &[
     "words: check
     status: usage
-    err: usage: hrthood check D | analyse D | format D | generate D | replay A R | verify D R | sample N | search D | scale D | background D",
+    err: usage: hrthood check D | analyse D | format D | generate D | replay A R | verify D R | sample N | search D | scale D | \
+        background D | accepts D R T",
     "words: check x
     status: read fault
     err: fault reading x",

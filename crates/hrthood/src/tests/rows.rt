@@ -14,6 +14,9 @@
 //! | `most` | how many bytes one write to either takes at most, from 1 | 100,000 |
 //! | `r` | a line of the file `r`; a row may have several, with a line feed between them | `arrivals` |
 //! | `arrivals`, `arrivals_len` | the file `r`, and its length, with spaces behind a text that is shorter | those of the table |
+//! | `t` | a line of the file `t`, with a line feed behind it; a row may have several | it is empty |
+//! | `t_open` | a last line of the file `t` without its line feed | none |
+//! | `t_len` | the length of the file `t`, with spaces behind a text that is shorter | its own |
 //! | `status` | how the run ends | that of the table |
 //! | `out`, `err` | a line of standard output, and of standard error; a row may have several | nothing is written |
 //! | `told` | the text of standard output by its name, where it stands elsewhere; `ada` is that of the row's task | |
@@ -91,6 +94,13 @@ pub fn arrivals_bytes(alloc: Global, row: &str) -> Result<Vec<u8>, Fail> {
         arrivals.extend_from_slice(text(row, "arrivals").as_bytes())?;
     }
     lengthened(alloc, &arrivals, row, "arrivals_len")
+}
+
+/// The bytes of a row's file `t`.
+fn trace_bytes(alloc: Global, row: &str) -> Result<Vec<u8>, Fail> {
+    let mut trace = lines(alloc, row, "t")?;
+    trace.extend_from_slice(text(row, "t_open").as_bytes())?;
+    lengthened(alloc, &trace, row, "t_len")
 }
 
 /// The part of rows that a row is like.
@@ -194,6 +204,7 @@ fn file_bytes(alloc: Global, row: &str, name: &str) -> Result<Vec<u8>, Fail> {
     match name {
         "d" => design_bytes(alloc, row),
         "a.ada" => ada_bytes(alloc, row),
+        "t" => trace_bytes(alloc, row),
         _ => arrivals_bytes(alloc, row),
     }
 }
@@ -201,7 +212,7 @@ fn file_bytes(alloc: Global, row: &str, name: &str) -> Result<Vec<u8>, Fail> {
 /// The shelf with a row's files.
 fn shelf_of(alloc: Global, row: &str) -> Result<MemShelf, Fail> {
     let mut shelf = empty_shelf(alloc, row)?;
-    for name in ["d", "a.ada", "r"] {
+    for name in ["d", "a.ada", "r", "t"] {
         shelf.put(name, &file_bytes(alloc, row, name)?)?;
     }
     Ok(shelf)
@@ -220,6 +231,16 @@ pub fn run_row(alloc: Global, row: &str) -> Result<Outcome, Fail> {
     let out = sink_of(alloc, row, "room")?;
     let err = sink_of(alloc, row, "err_room")?;
     Ok(run_over(alloc, &words, &mut shelf, out, err))
+}
+
+/// What is told of a trace by the design and the arrivals of a row.
+pub fn judge(alloc: Global, row: &str, trace: &[u8]) -> Result<Outcome, Fail> {
+    let mut shelf = empty_shelf(alloc, row)?;
+    for name in ["d", "r"] {
+        shelf.put(name, &file_bytes(alloc, row, name)?)?;
+    }
+    shelf.put("t", trace)?;
+    run_line(alloc, "accepts d r t", &mut shelf)
 }
 
 /// The word for a status in a row.

@@ -7,7 +7,7 @@ use std::process::Abort;
 use std::test::Fail;
 
 /// What rows of designs that are verified have. `out` is the trace.
-const VERIFIED: &str = "words: verify d r
+pub const VERIFIED: &str = "words: verify d r
     arrivals: UNTIL 20;
     status: done";
 

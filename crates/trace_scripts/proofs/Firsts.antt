@@ -1,9 +1,7 @@
 -- The greatest number of ticks, and the first object that is broken.
-use Rattle.std.proofs.Common.{◌≡◌, ℕ, ◌+◌, ◌<◌, ◌≤◌, Bool, true, false, not, List, ◌∷◌, map, drop, length, Option, Some, None, refl, sym, ap, ◌∙◌, arith, max, get_or, subst}
-use Rattle.std.specs.Prelude.{find, filter_map, slice_get, option_map, option_and_then, is_some, if◌then◌else◌}
-use Rattle.std.specs.List.{cons_option}
-use Rattle.std.proofs.lemmas.Option.{same_Some, slice_get-map, slice_get_read, get_or_from_slice_get}
-use Rattle.seq_tree.proofs.LoopSteps.{drop_step}
+use Rattle.std.proofs.Common.{◌≡◌, ℕ, ◌+◌, ◌<◌, ◌≤◌, Bool, true, false, not, List, map, drop, length, Option, Some, None, refl, sym, ap, ◌∙◌, arith, max, get_or, subst}
+use Rattle.std.specs.Prelude.{find, filter_map, slice_get, option_map, is_some}
+use Rattle.std.proofs.lemmas.Option.{none-some, same_Some, slice_get-map, slice_get_read}
 use Rattle.std.proofs.lemmas.List.{length-map}
 use Rattle.ada_tree.specs.Trees.{program_of, unit_of}
 use Rattle.ada_tree.specs.declared.program.AdaProgram.{AdaProgram}
@@ -14,8 +12,8 @@ use Rattle.guarantee.specs.Software.{guarded_by}
 use Rattle.trace_tree.specs.Lines.{unit_name}
 use Rattle.trace_tree.specs.Placed.{IsUnit}
 use Rattle.trace_places.specs.Places.{guarded_at, guarded_in}
-use Rattle.trace_places.proofs.Units.{item-at, name-is}
 use Rattle.script_laws.specs.Services as services
+use Rattle.trace_scripts.proofs.Finding.{found-here, found-past, passes}
 use Rattle.trace_scripts.specs.Objects.{AreServing, broken_by, service_of}
 use Rattle.trace_scripts.specs.declared.services.Service.{Service}
 
@@ -58,48 +56,30 @@ some-broken p ss serving h u in' k s at b e there = by (guarded_at p u) refl the
         ap not (e ∙ same)
 
 -- THE FIRST
+object-name : (u : Unit) (g : Guarded) → guarded_in u ≡ Some g → g.name ≡ u.name
+object-name u g e = by u.name u.form e
+  where
+    by : (name : Name) (f : Form) → guarded_by name f ≡ Some g → g.name ≡ name
+    by name (Passive ops) h = absurd (none-some g h)
+    by name (Shared ceiling vars ops) h = ap (λ (z : Guarded). z.name) (sym (same_Some _ g h))
+    by name (Cyclic priority offset period vars block) h = absurd (none-some g h)
+    by name (Sporadic priority ceiling op separation jitter external vars block) h = absurd (none-some g h)
+
+not-broken : (serving : Guarded → Bool) (o : Option Guarded) → not (broken_by serving o) ≡ passes serving o
+not-broken serving None = refl
+not-broken serving (Some g) = by (serving g)
+  where
+    by : (b : Bool) → not (not b) ≡ b
+    by true = refl
+    by false = refl
+
 module _ (p : Program) (at : ℕ) (in' : IsUnit p at) (serving : Guarded → Bool) (target : Option Guarded)
     (all : find (λ g. not (serving g)) (filter_map guarded_in (drop at p.units)) ≡ target) (b : Bool) (is : b ≡ broken_by serving (guarded_at p at)) where
-  abbrev test : Guarded → Bool
-  test g = not (serving g)
+  passing : not b ≡ passes serving (guarded_at p at)
+  passing = ap not is ∙ not-broken serving (guarded_at p at)
 
-  abbrev here : (u : Unit) × (slice_get p.units at ≡ Some u)
-  here = item-at p.units at in'
+  pub broken-past : b ≡ false → find (λ g. not (serving g)) (filter_map guarded_in (drop (at + 1) p.units)) ≡ target
+  broken-past e = found-past guarded_in (λ g. g.name) object-name p at in' serving target all (not b) passing (ap not e)
 
-  from-here : drop at p.units ≡ here.0 ∷ drop (at + 1) p.units
-  from-here = drop_step p.units at here.0 in' (sym (get_or_from_slice_get p.units at here.0 here.0 here.1))
-
-  broken-here : b ≡ broken_by serving (guarded_in here.0)
-  broken-here = is ∙ ap (λ o. broken_by serving (option_and_then guarded_in o)) here.1
-
-  one-of : (u : Unit) (us : List Unit) → find test (filter_map guarded_in (u ∷ us))
-      ≡ (if broken_by serving (guarded_in u) then guarded_in u else find test (filter_map guarded_in us))
-  one-of u us = by (guarded_in u)
-    where
-      by : (o : Option Guarded) → find test (cons_option o (filter_map guarded_in us))
-          ≡ (if broken_by serving o then o else find test (filter_map guarded_in us))
-      by None = refl
-      by (Some g) = refl
-
-  split : (if b then guarded_in here.0 else find test (filter_map guarded_in (drop (at + 1) p.units))) ≡ target
-  split =
-      ap (λ z. if z then guarded_in here.0 else find test (filter_map guarded_in (drop (at + 1) p.units))) broken-here
-      ∙ sym (one-of here.0 (drop (at + 1) p.units)) ∙ sym (ap (λ us. find test (filter_map guarded_in us)) from-here) ∙ all
-
-  pub found-past : b ≡ false → find test (filter_map guarded_in (drop (at + 1) p.units)) ≡ target
-  found-past e = sym (ap (λ z. if z then guarded_in here.0 else find test (filter_map guarded_in (drop (at + 1) p.units))) e) ∙ split
-
-  named-by : (u : Unit) → broken_by serving (guarded_in u) ≡ true → option_map (λ (g : Guarded). g.name) (guarded_in u) ≡ Some u.name
-  named-by u e = by u.name u.form e
-    where
-      by : (name : Name) (f : Form) → broken_by serving (guarded_by name f) ≡ true → option_map (λ (g : Guarded). g.name) (guarded_by name f) ≡ Some name
-      by name (Passive ops) e = absurd (cc)
-      by name (Shared ceiling vars ops) e = refl
-      by name (Cyclic priority offset period vars block) e = absurd (cc)
-      by name (Sporadic priority ceiling op separation jitter external vars block) e = absurd (cc)
-
-  pub found-here : b ≡ true → Some (unit_name p at) ≡ option_map (λ (g : Guarded). g.name) target
-  found-here e =
-      ap (λ n. Some n) (name-is p at here.0 here.1) ∙ sym (named-by here.0 (sym broken-here ∙ e))
-      ∙ ap (option_map (λ (g : Guarded). g.name))
-      (sym (ap (λ z. if z then guarded_in here.0 else find test (filter_map guarded_in (drop (at + 1) p.units))) e) ∙ split)
+  pub broken-here : b ≡ true → Some (unit_name p at) ≡ option_map (λ (g : Guarded). g.name) target
+  broken-here e = found-here guarded_in (λ g. g.name) object-name p at in' serving target all (not b) passing (ap not e)

@@ -18,3 +18,4 @@ pub mod Finding
 pub mod ThreadsNamed
 pub mod MoveSteps
 pub mod Judging
+pub mod Valuing

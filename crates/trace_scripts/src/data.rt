@@ -1,9 +1,11 @@
-ghost use Rattle.std.specs.Prelude.{◌≡◌, ◌++◌, ◌∷◌, [], IfOk, OnOk};
-ghost use Rattle.seq_tree.specs.Names.{same_name};
+ghost use Rattle.std.specs.Prelude.{◌≡◌, ◌++◌, ◌∷◌, [], IfOk, OnOk, unwrap_or};
+ghost use Rattle.name_sets.specs.Tables.{named};
+ghost use Rattle.seq_tree.specs.Names.{Name as NameTree, same_name};
 ghost use Rattle.seq_tree.specs.Operations.{out_names};
 ghost use Rattle.seq_tree.specs.Trees.{operation_of};
 ghost use Rattle.seq_tree.specs.Variables.{entered, kept, opened, read, reads, written};
 
+use name_sets::NameTable;
 use seq_eval::{Env, Lookup};
 use seq_tree::{Datum, Mode, Name, NoMemory, OpText, Param};
 use std::alloc::Global;
@@ -46,16 +48,43 @@ pub(crate) fn first_data(alloc: Global, vars: &[Datum]) -> Result<Env, NoMemory>
     Ok(env)
 }
 
+/// The values of variables by their names: of two of one name the first counts.
+fn values_of<'a>(alloc: Global, env: &'a Env) -> Result<NameTable<'a, u32>, NoMemory>
+    ensures { IfOk result (λ t. (n : NameTree) → unwrap_or (named t n) 0 ≡ read n env.entry.now.slots.items) }
+{
+    let mut table = NameTable::new(alloc);
+    let mut at = env.slots.len();
+    'slots: while at > 0 {
+        at -= 1;
+        let slot = &env.slots[at];
+        table.put(&slot.0, slot.1)?;
+    }
+    Ok(table)
+}
+
+/// The value of a variable, and 0 where there is none of that name.
+fn value_in(values: &NameTable<u32>, name: &Name) -> u32
+    ensures { result ≡ unwrap_or (named values.now name.now) 0 }
+{
+    values.get(name).unwrap_or(0)
+}
+
 /// The data among variables, at the values that they have now.
 #[tactic(auto, using(crate::proofs::DataSteps::append_steps))]
 pub(crate) fn keep(alloc: Global, vars: &[Datum], env: &Env) -> Result<Env, NoMemory>
     ensures { IfOk result (λ e. e.slots.items ≡ kept vars.now env.now.slots.items) }
 {
+    let values = values_of(alloc, env)?;
     let mut kept_now = Env {
         slots: Vec::new(alloc),
     };
     'vars: for var in vars {
-        add(alloc, &mut kept_now, &var.name, value_of(env, &var.name))?;
+        add(
+            alloc,
+            &mut kept_now,
+            &var.name,
+            value_in(&values, &var.name),
+        )?;
     }
     Ok(kept_now)
 }

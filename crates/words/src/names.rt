@@ -1,6 +1,7 @@
-ghost use Rattle.std.specs.Prelude.{◌≡◌, map};
+ghost use Rattle.std.specs.Prelude.{◌≡◌, List, ℕ, map, IfSome};
 ghost use Rattle.seq_tree.specs.Proper.{is_among};
 ghost use Rattle.ada_tree.specs.Words.{is_ada_name};
+ghost use Rattle.words.specs.Begun.{AreWith};
 ghost use Rattle.ods_tree.specs.Words.{is_design_name};
 
 /// The reserved words of Ada 2012.
@@ -141,16 +142,53 @@ pub fn is_among(words: &[&str], name: &[u8]) -> bool
     false
 }
 
+/// The reserved words that begin with this byte; None where it is no letter.
+fn reserved_with(first: u8) -> Option<&'static [&'static str]>
+    ensures { IfSome result (λ ws. (rest : List ℕ) → AreWith (map (λ w. w.now) ws.now) first rest) }
+{
+    match first {
+        b'a' => Some(&[
+            "abort", "abs", "abstract", "accept", "access", "aliased", "all", "and", "array", "at",
+        ]),
+        b'b' => Some(&["begin", "body"]),
+        b'c' => Some(&["case", "constant"]),
+        b'd' => Some(&["declare", "delay", "delta", "digits", "do"]),
+        b'e' => Some(&["else", "elsif", "end", "entry", "exception", "exit"]),
+        b'f' => Some(&["for", "function"]),
+        b'g' => Some(&["generic", "goto"]),
+        b'i' => Some(&["if", "in", "interface", "is"]),
+        b'l' => Some(&["limited", "loop"]),
+        b'm' => Some(&["mod"]),
+        b'n' => Some(&["new", "not", "null"]),
+        b'o' => Some(&["of", "or", "others", "out", "overriding"]),
+        b'p' => Some(&["package", "pragma", "private", "procedure", "protected"]),
+        b'r' => Some(&[
+            "raise", "range", "record", "rem", "renames", "requeue", "return", "reverse",
+        ]),
+        b's' => Some(&["select", "separate", "some", "subtype", "synchronized"]),
+        b't' => Some(&["tagged", "task", "terminate", "then", "type"]),
+        b'u' => Some(&["until", "use"]),
+        b'w' => Some(&["when", "while", "with"]),
+        b'x' => Some(&["xor"]),
+        b'h' | b'j' | b'k' | b'q' | b'v' | b'y' | b'z' => Some(&[]),
+        _ => None,
+    }
+}
+
 /// Whether a name, in lower case, may stand in an Ada text: it is not empty, not reserved, not kept for what the text uses itself, and does
 /// not begin with `hrt_`.
 #[tactic(auto, unfolding(ada_tree::specs::Words::is_ada_name))]
 pub fn is_ada_name(name: &[u8]) -> bool
     ensures { result ≡ is_ada_name name.now }
 {
-    !(name.is_empty()
-        || is_among(&RESERVED, name)
-        || is_among(&KEPT, name)
-        || name.starts_with(b"hrt_"))
+    let Some((first, _)) = name.split_first() else {
+        return false;
+    };
+    let is_reserved = match reserved_with(*first) {
+        Some(words) => is_among(words, name),
+        None => is_among(&RESERVED, name),
+    };
+    !(is_reserved || is_among(&KEPT, name) || name.starts_with(b"hrt_"))
 }
 
 /// Whether a word, in lower case, may be a name in a design: it has a byte, and is none of the words of the grammar.

@@ -1,0 +1,8 @@
+-- The words that begin with a byte, by the number that the byte is.
+use Rattle.std.specs.Prelude.{◌≡◌, ℕ, List}
+use Rattle.std.proofs.Common.{sym, subst}
+use Rattle.words.specs.Begun.{AreWith}
+
+pub with-byte : {first : ℕ} (byte : ℕ) → first ≡ byte → (words : List (List ℕ)) → ((rest : List ℕ) → AreWith words byte rest)
+    → (rest : List ℕ) → AreWith words first rest
+with-byte byte is words with' rest = subst (λ b. AreWith words b rest) (sym is) (with' rest)

@@ -15,8 +15,8 @@ fn interference_of(row: &ThreadRow, bound: &Bound, window: u32) -> u128
     ensures value { result ≡ interference window (row.now, bound.now) }
     ensures small { result ≤ 2000000000 * 1000000000 }
 {
-    let reach = u128::from(window) + u128::from(bound.jitter);
-    reach.div_ceil(u128::from(row.period)) * u128::from(row.cost)
+    let reach = u64::from(window + bound.jitter);
+    u128::from(reach.div_ceil(u64::from(row.period)) * u64::from(row.cost))
 }
 
 /// What all rows of greater priority take of a window.

@@ -6,7 +6,7 @@ use Rattle.seq_tree.specs.Statements.{Work, End, Then}
 use Rattle.ods_tree.specs.Flats.{Flat, Cyclic}
 use Rattle.analysis.specs.Ceilings.{Ranks}
 use Rattle.ada_tree.specs.Spelling.{program_lines}
-use Rattle.ada_tree.proofs.OneCyclic.{one_cyclic_lines}
+use Rattle.ada_tree.proofs.Shared.OneCyclic.{one_cyclic_lines}
 use Rattle.guarantee.specs.Programs.{head, program_for}
 
 abbrev one_cyclic : Flat

@@ -1,3 +1,3 @@
 pub mod UnitSteps
-pub mod HeadLaws
+pub mod Shared
 mod Examples

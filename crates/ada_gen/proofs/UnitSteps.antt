@@ -6,7 +6,7 @@ use Rattle.std.proofs.lemmas.List.{map-append, get_or_default, get_or-map, lengt
 use Rattle.std.proofs.lemmas.Option.{slice_get-get_or}
 use Rattle.std.proofs.lemmas.Slice.Zip.{get_or-zip, length-zip}
 use Rattle.seq_print.specs.Printing.{AddsFront}
-use Rattle.seq_print.proofs.Chains.{front-onward}
+use Rattle.seq_print.proofs.Shared.Chains.{front-onward}
 use Rattle.ods_tree.specs.Flats.{Thread}
 use Rattle.rt_response.specs.declared.rows.Bound.{Bound}
 use Rattle.guarantee.specs.Programs.{thread_comment}

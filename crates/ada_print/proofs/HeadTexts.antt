@@ -15,7 +15,7 @@ use Rattle.seq_tree.specs.declared.tree.Param.{Param}
 use Rattle.seq_tree.specs.declared.tree.Datum.{Datum}
 use Rattle.ada_tree.specs.Spelling.{body_lines, datum_line, declaration_line, end_line, head_tokens, mode_token, param_tokens, params_tokens}
 use Rattle.ada_tree.specs.Spelling.{renaming_line}
-use Rattle.seq_print.proofs.Spacing.{spaced, tokens-spaced}
+use Rattle.seq_print.proofs.Shared.Spacing.{spaced, tokens-spaced}
 use Rattle.ada_print.specs.Parts.{head_text, params_more, params_text}
 
 -- the spaces before a line

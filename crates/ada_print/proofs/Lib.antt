@@ -1,5 +1,5 @@
 pub mod HeadTexts
 pub mod LineTurns
 pub mod Layouts
-pub mod ApartLines
+pub mod Shared
 mod Examples

@@ -3,8 +3,8 @@ use Rattle.std.proofs.Common.{◌≡◌, ℕ, Bool, false, List, [], ◌∷◌, 
 use Rattle.std.proofs.Common.{append-nil}
 use Rattle.seq_tree.specs.Lists.{Each}
 use Rattle.grammar.specs.Reading.{first, AreEach, Reads, Joined, then_at, pure_at}
-use Rattle.grammar.proofs.Laws.{reads-same, reads-pure, reads-then, IsOnly}
-use Rattle.grammar.proofs.Picks.{reads-each}
+use Rattle.grammar.proofs.Shared.Laws.{reads-same, reads-pure, reads-then, IsOnly}
+use Rattle.grammar.proofs.Shared.Picks.{reads-each}
 use Rattle.seq_tree.specs.Names.{Name}
 use Rattle.seq_tree.specs.Statements.{Statements}
 use Rattle.seq_tree.specs.Operations.{Signature, Operation}
@@ -18,7 +18,7 @@ use Rattle.ada_tree.specs.Programs.{Form, Passive, Shared, Cyclic, Sporadic}
 use Rattle.ada_tree.specs.Programs as programs
 use Rattle.ada_tree.specs.Spelling.{head_tokens, kept_token, request_token}
 use Rattle.ada_tree.specs.Words.{is_ada_name}
-use Rattle.token_read.proofs.TokenLaws.{Any, andthen, reads-fixed, reads-phrase, reads-number, joins-fixed, joins-phrase, joins-number}
+use Rattle.token_read.proofs.Shared.TokenLaws.{Any, andthen, reads-fixed, reads-phrase, reads-number, joins-fixed, joins-phrase, joins-number}
 use Rattle.seq_read.specs.Statements.{BlockReader, next_is_name, begins_statement, kind_of}
 use Rattle.seq_read.specs.Parts.{end_tokens, data_at}
 use Rattle.ada_read.specs.declared.fixed_text.FixedText.TheVariants as fixed

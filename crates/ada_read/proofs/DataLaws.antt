@@ -2,13 +2,13 @@
 use Rattle.std.proofs.Common.{◌≡◌, true, false, List, [], ◌∷◌, Option, codes, flat_map, refl, sym, subst, arith}
 use Rattle.seq_tree.specs.Lists.{Each}
 use Rattle.grammar.specs.Reading.{Reads}
-use Rattle.grammar.proofs.Laws.{reads-same, reads-pure}
+use Rattle.grammar.proofs.Shared.Laws.{reads-same, reads-pure}
 use Rattle.seq_tree.specs.declared.tree.Datum.{Datum}
 use Rattle.seq_tree.specs.declared.token.Token.{Token}
 use Rattle.seq_tree.specs.declared.token.Token.TheVariants.{Word, Number, Sign}
 use Rattle.seq_tree.specs.declared.token.Mark.TheVariants.{Semicolon, Colon, Becomes}
 use Rattle.ada_tree.specs.Words.{is_ada_name}
-use Rattle.token_read.proofs.TokenLaws.{Any, andthen, reads-fixed, reads-number, joins-fixed, joins-number, joins-name}
+use Rattle.token_read.proofs.Shared.TokenLaws.{Any, andthen, reads-fixed, reads-number, joins-fixed, joins-number, joins-name}
 use Rattle.seq_read.specs.Statements.{next_is_name}
 use Rattle.seq_read.specs.Parts.{datum_at, data_at}
 use Rattle.ada_read.proofs.ParamLaws.{IsSpelled, reads-spelled, reads-ada_name}

@@ -3,7 +3,7 @@ use Rattle.std.proofs.Common.{◌≡◌, ℕ, Bool, true, false, List, [], ◌�
 use Rattle.std.specs.Prelude.{⊤}
 use Rattle.seq_tree.specs.Lists.{Each}
 use Rattle.grammar.specs.Reading.{choose_at, first, Reads}
-use Rattle.grammar.proofs.Laws.{reads-same, reads-pure, reads-choose}
+use Rattle.grammar.proofs.Shared.Laws.{reads-same, reads-pure, reads-choose}
 use Rattle.seq_tree.specs.Names.{Name}
 use Rattle.seq_tree.specs.Operations.{Signature}
 use Rattle.seq_tree.specs.declared.tree.Datum.{Datum}
@@ -13,7 +13,8 @@ use Rattle.seq_tree.specs.declared.token.Mark.TheVariants.{Semicolon}
 use Rattle.ada_tree.specs.Spelling.{truth_token}
 use Rattle.ada_tree.specs.Words.{is_ada_name}
 use Rattle.token_read.specs.Readers.{next_is}
-use Rattle.token_read.proofs.TokenLaws.{Any, andthen, reads-fixed, reads-phrase, reads-number, joins-fixed, joins-phrase, joins-number, joins-name}
+use Rattle.token_read.proofs.Shared.TokenLaws.{Any, andthen, reads-fixed, reads-phrase, reads-number, joins-fixed, joins-phrase, joins-number}
+use Rattle.token_read.proofs.Shared.TokenLaws.{joins-name}
 use Rattle.seq_read.specs.Parts.{end_tokens}
 use Rattle.seq_read.specs.Statements.{next_is_name}
 use Rattle.ada_read.specs.declared.fixed_text.FixedText.TheVariants as fixed

@@ -3,7 +3,7 @@ use Rattle.std.proofs.Common.{◌≡◌, ℕ, List, ◌++◌, sym, ◌∙◌}
 use Rattle.std.proofs.lemmas.Grind.{flat_map-append}
 use Rattle.seq_tree.specs.Statements.{Statements}
 use Rattle.seq_tree.specs.Spelling.{Line, joined, block_lines}
-use Rattle.seq_read.proofs.StatementTokens as tokens
+use Rattle.seq_read.proofs.Shared.StatementTokens as tokens
 
 pub joined-append : (one two : List Line) → joined (one ++ two) ≡ joined one ++ joined two
 joined-append one two = flat_map-append (λ (l : Line). l.tokens) one two

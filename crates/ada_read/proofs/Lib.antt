@@ -9,4 +9,4 @@ pub mod ProgramLaws
 pub mod WideningLaws
 pub mod Repeats
 pub mod ProgramBounds
-pub mod ReadingLaws
+pub mod Shared

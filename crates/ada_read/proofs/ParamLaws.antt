@@ -3,9 +3,9 @@ use Rattle.std.proofs.Common.{◌≡◌, ℕ, ◌<◌, Bool, true, false, cond, 
 use Rattle.std.proofs.Common.{ap, subst, ◌∙◌, arith, append_assoc, append-nil, ◌⊎◌, inl, inr}
 use Rattle.seq_tree.specs.Lists.{Each}
 use Rattle.grammar.specs.Reading.{Read, first, then_at, token_at, many_at, Reads, Joined, AreMany}
-use Rattle.grammar.proofs.Laws.{reads-same, reads-then, reads-pure, reads-token, reads-choose, reads-map, IsToken}
-use Rattle.grammar.proofs.From.{Last}
-use Rattle.grammar.proofs.Many.{last_free, reads-many}
+use Rattle.grammar.proofs.Shared.Laws.{reads-same, reads-then, reads-pure, reads-token, reads-choose, reads-map, IsToken}
+use Rattle.grammar.proofs.Shared.From.{Last}
+use Rattle.grammar.proofs.Shared.Many.{last_free, reads-many}
 use Rattle.seq_tree.specs.Names.{Name, same_name}
 use Rattle.seq_tree.specs.Operations.{Signature}
 use Rattle.seq_tree.specs.declared.tree.Costs.{Costs}
@@ -18,8 +18,8 @@ use Rattle.seq_tree.specs.declared.token.Mark.TheVariants.{LeftParen, RightParen
 use Rattle.ada_tree.specs.Spelling.{mode_token, param_tokens, params_tokens, head_tokens}
 use Rattle.ada_tree.specs.Words.{is_ada_name}
 use Rattle.token_read.specs.Readers.{name_at, next_is}
-use Rattle.token_read.proofs.TokenLaws.{Any, IsPhrase, IsName, andthen, same_is, reads-fixed, reads-phrase, reads-number, reads-name}
-use Rattle.token_read.proofs.TokenLaws.{joins-fixed, joins-phrase, joins-number, joins-name}
+use Rattle.token_read.proofs.Shared.TokenLaws.{Any, IsPhrase, IsName, andthen, same_is, reads-fixed, reads-phrase, reads-number, reads-name}
+use Rattle.token_read.proofs.Shared.TokenLaws.{joins-fixed, joins-phrase, joins-number, joins-name}
 use Rattle.seq_read.specs.Parts.{sees_by, named_at, mode_named, param_at, more_param_at, params_from_at}
 use Rattle.ada_read.specs.declared.fixed_text.FixedText.{FixedText}
 use Rattle.ada_read.specs.declared.fixed_text.FixedText.TheVariants as fixed

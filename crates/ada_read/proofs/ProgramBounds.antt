@@ -3,8 +3,8 @@ use Rattle.std.proofs.Common.{◌≡◌, ℕ, ◌+◌, ◌≤◌, true, List, []
 use Rattle.seq_tree.specs.Lists.{Each}
 use Rattle.seq_tree.specs.Operations.{Operation}
 use Rattle.seq_tree.specs.Proper.{Limits, without_limits}
-use Rattle.seq_read.proofs.ChainLevels.{bounds}
-use Rattle.seq_read.proofs.Bounds.{extent_block, bound-block, free-block}
+use Rattle.seq_read.proofs.Shared.ChainLevels.{bounds}
+use Rattle.seq_read.proofs.Shared.Bounds.{extent_block, bound-block, free-block}
 use Rattle.ada_tree.specs.Programs.{Form, Unit, Program, Passive, Shared, Cyclic, Sporadic}
 use Rattle.ada_tree.specs.Proper.{IsProperOperation, IsProperForm, IsProperProgram}
 use Rattle.ada_tree.specs.Words.{is_ada_name}

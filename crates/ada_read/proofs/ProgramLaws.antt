@@ -1,7 +1,7 @@
 -- The reader of programs reads exactly the texts of programs, where the reader of blocks reads exactly blocks.
 use Rattle.std.proofs.Common.{◌≡◌, ℕ, Bool, true, false, List, [], ◌∷◌, ◌++◌, flat_map, codes, refl, sym, ap, subst, ◌∙◌, append_assoc}
 use Rattle.grammar.specs.Reading.{first, AreEach, Reads}
-use Rattle.grammar.proofs.Laws.{reads-same, reads-pure}
+use Rattle.grammar.proofs.Shared.Laws.{reads-same, reads-pure}
 use Rattle.seq_tree.specs.Names.{Name}
 use Rattle.seq_tree.specs.Spelling.{joined}
 use Rattle.seq_tree.specs.declared.tree.Costs.{Costs}
@@ -13,7 +13,7 @@ use Rattle.ada_tree.specs.Proper.{IsProperProgram}
 use Rattle.ada_tree.specs.Spelling.{specification_lines, unit_body_lines, program_tokens}
 use Rattle.ada_tree.specs.Words.{is_ada_name}
 use Rattle.token_read.specs.Readers.{next_is}
-use Rattle.token_read.proofs.TokenLaws.{Any, andthen, reads-fixed, reads-phrase, joins-fixed, joins-phrase, joins-name}
+use Rattle.token_read.proofs.Shared.TokenLaws.{Any, andthen, reads-fixed, reads-phrase, joins-fixed, joins-phrase, joins-name}
 use Rattle.seq_read.specs.Statements.{BlockReader}
 use Rattle.seq_read.specs.Parts.{end_tokens}
 use Rattle.ada_read.proofs.LevelLaws.{joined-append}

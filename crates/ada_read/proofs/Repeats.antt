@@ -2,7 +2,7 @@
 use Rattle.std.proofs.Common.{◌≡◌, ℕ, suc, ◌+◌, ◌<◌, ◌≤◌, map, drop, get_or, drop-cons, drop_of_length-le, Bool, true, false, List, [], ◌∷◌}
 use Rattle.std.proofs.Common.{◌++◌, length, Option, None, Ok, Err, codes, refl, sym, ap, ◌∙◌, arith, append_assoc, append-nil, length-append}
 use Rattle.grammar.specs.Reading.{Halt, Read, first, ◌>>=◌, many_at, each_at, Reads}
-use Rattle.grammar.proofs.Many.{many-turn, many-fails, many-ends}
+use Rattle.grammar.proofs.Shared.Many.{many-turn, many-fails, many-ends}
 use Rattle.seq_tree.specs.Operations.{Signature, Operation}
 use Rattle.seq_tree.specs.Trees.{signature_of}
 use Rattle.seq_tree.specs.declared.tree.OpSig.{OpSig}
@@ -10,7 +10,7 @@ use Rattle.seq_tree.specs.declared.token.Token.{Token}
 use Rattle.seq_tree.specs.declared.token.Token.TheVariants.{Word}
 use Rattle.ada_tree.specs.Programs as programs
 use Rattle.token_read.specs.Readers.{next_is}
-use Rattle.token_read.proofs.TokenLaws.{Any}
+use Rattle.token_read.proofs.Shared.TokenLaws.{Any}
 use Rattle.ada_read.specs.declared.heads.UnitHead.{UnitHead}
 use Rattle.ada_read.specs.Heads.{Head, head_of}
 use Rattle.ada_read.specs.Readers.{ada_block_at, declaration_at, declarations_at, head_at, heads_at, body_at, bodies_at, operation_at, operations_at}

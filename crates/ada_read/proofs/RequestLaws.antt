@@ -3,7 +3,7 @@ use Rattle.std.proofs.Common.{◌≡◌, Bool, true, false, cond, List, [], ◌�
 use Rattle.std.proofs.Common.{append-nil, ◌⊎◌, inl, inr, length, arith}
 use Rattle.seq_tree.specs.Lists.{Each}
 use Rattle.grammar.specs.Reading.{choose_at, token_at, Reads}
-use Rattle.grammar.proofs.Laws.{reads-same, reads-pure, reads-token, reads-choose, IsToken}
+use Rattle.grammar.proofs.Shared.Laws.{reads-same, reads-pure, reads-token, reads-choose, IsToken}
 use Rattle.seq_tree.specs.Names.{Name, same_name}
 use Rattle.seq_tree.specs.Operations.{Signature}
 use Rattle.seq_tree.specs.declared.tree.Mode.{Mode}
@@ -16,7 +16,7 @@ use Rattle.ada_tree.specs.Proper.{IsRequest}
 use Rattle.ada_tree.specs.Spelling.{head_tokens, params_tokens, truth_token}
 use Rattle.ada_tree.specs.Words.{is_ada_name}
 use Rattle.token_read.specs.Readers.{next_is}
-use Rattle.token_read.proofs.TokenLaws.{Any, andthen, same_is, reads-fixed, reads-phrase, joins-fixed, joins-phrase, joins-name}
+use Rattle.token_read.proofs.Shared.TokenLaws.{Any, andthen, same_is, reads-fixed, reads-phrase, joins-fixed, joins-phrase, joins-name}
 use Rattle.seq_read.specs.Parts.{sees_by, named_at}
 use Rattle.ada_read.specs.declared.fixed_text.FixedText.TheVariants as fixed
 use Rattle.ada_read.specs.FixedTexts.{fixed_tokens}

@@ -1,7 +1,7 @@
 -- A reader of programs with a reader of blocks that has wider limits has wider limits itself.
 use Rattle.std.proofs.Common.{ℕ, List, [], ◌∷◌, codes}
 use Rattle.grammar.specs.Reading.{Widens}
-use Rattle.grammar.proofs.Widening.{widens-token, widens-pure, widens-then, widens-choose, widens-many, widens-each}
+use Rattle.grammar.proofs.Shared.Widening.{widens-token, widens-pure, widens-then, widens-choose, widens-many, widens-each}
 use Rattle.seq_tree.specs.Names.{Name}
 use Rattle.seq_tree.specs.Operations.{Signature}
 use Rattle.seq_tree.specs.declared.tree.Datum.{Datum}

@@ -105,7 +105,7 @@ fn program(alloc: Global, tokens: Tokens) -> Result<(AdaProgram, Tokens), Halt>
 
 /// The program that these are all the tokens of. `Syntax` comes where the tokens are of no program, and `TooDeep` where they are
 /// but for their nesting or a chain, each with the tokens that were left; `NoMemory` comes for want of memory.
-#[tactic(auto, using(seq_read::proofs::WholeSteps::whole_steps))]
+#[tactic(auto, using(seq_read::proofs::Shared::WholeSteps::whole_steps))]
 pub(crate) fn whole(alloc: Global, tokens: Tokens) -> Result<AdaProgram, Halt>
     ensures { GivesWhole program_of result (whole_at (program_at ada_block_at) (ahead tokens.entry)) }
 {

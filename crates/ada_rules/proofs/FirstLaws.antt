@@ -8,7 +8,7 @@ use Rattle.ada_tree.specs.Programs.{Unit}
 use Rattle.ada_tree.specs.Trees.{unit_of}
 use Rattle.ada_tree.specs.declared.program.Unit as code
 use Rattle.ada_rules.specs.Firsts.{NoneBefore, IsFirst}
-use Rattle.seq_tree.proofs.LoopSteps.{take_step}
+use Rattle.seq_tree.proofs.Shared.LoopSteps.{take_step}
 
 -- the unit at a place
 pub unit_at : (us : List code.Unit) (i : ℕ) (x : code.Unit) → i < length us → x ≡ get_or us i x → slice_get (map unit_of us) i ≡ Some (unit_of x)

@@ -4,7 +4,7 @@ use Rattle.std.proofs.Common.{get_or, ap, sym, ◌∙◌, append_assoc}
 use Rattle.std.proofs.lemmas.List.{map-append}
 use Rattle.std.proofs.lemmas.List.Folds.{list_any-append}
 use Rattle.std.specs.List.{list_any}
-use Rattle.seq_tree.proofs.LoopSteps.{drop_step, take_step}
+use Rattle.seq_tree.proofs.Shared.LoopSteps.{drop_step, take_step}
 use Rattle.ada_rules.proofs.NameSteps.{or_false, or_turn}
 
 -- one thing is pushed for an item, behind those of the items before it

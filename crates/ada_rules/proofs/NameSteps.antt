@@ -8,7 +8,7 @@ use Rattle.std.proofs.lemmas.List.{map-append}
 use Rattle.std.proofs.lemmas.List.Folds.{list_any-append}
 use Rattle.std.specs.Borrow.{Bor}
 use Rattle.seq_tree.specs.Names.{Name, same_name, is_named}
-use Rattle.seq_tree.proofs.LoopSteps.{drop_step, take_step}
+use Rattle.seq_tree.proofs.Shared.LoopSteps.{drop_step, take_step}
 use Rattle.ada_rules.specs.Clashes.{are_new, front}
 use Rattle.ada_rules.specs.Lists.{names_of}
 

@@ -6,13 +6,13 @@ use Rattle.std.proofs.lemmas.Bool.{eqb-true, eq-eqb}
 use Rattle.std.proofs.lemmas.Option.{slice_get_within}
 use Rattle.seq_tree.specs.Calls.{same_op}
 use Rattle.seq_tree.specs.declared.tree.OpName.{OpName}
-use Rattle.seq_tree.proofs.Walks.{same_op-eq, same_op-refl, both}
+use Rattle.seq_tree.proofs.Shared.Walks.{same_op-eq, same_op-refl, both}
 use Rattle.ada_rules.specs.Edges.{Edge, joins, Joins, Leads, IsRound, IsFound}
 use Rattle.ada_rules.specs.Places.{IsFirstRound, is_led_to, is_marked, place_from, starts_of, step_between, steps_of}
 use Rattle.rings.specs.Graphs.{has_number, is_step}
 use Rattle.rings.specs.Reached.{IsFirstOnRing, IsReachedBy}
-use Rattle.rings.proofs.Reaching.{reached-more}
-use Rattle.rings.proofs.NamedRings.{names_lead, one_name, ring_of_names, ring_of_places}
+use Rattle.rings.proofs.Shared.Reaching.{reached-more}
+use Rattle.rings.proofs.Shared.NamedRings.{names_lead, one_name, ring_of_names, ring_of_places}
 use Rattle.ada_rules.proofs.RingLaws.{any_place, any-some, first_edge, snoc}
 
 -- a test of what there is, which fails where there is nothing

@@ -17,7 +17,7 @@ use Rattle.ada_rules.specs.Firsts.{IsFirst}
 use Rattle.ada_rules.specs.Places.{IsFirstRound, is_from, is_ringed, leaves_at}
 use Rattle.ada_rules.proofs.ObjectLaws.{leads_units, round_of_units}
 use Rattle.ada_rules.proofs.RingLaws.{edges_are, first_edge, ring_of, round_of}
-use Rattle.rings.proofs.Reaching.{or-cases, or-left, or-right}
+use Rattle.rings.proofs.Shared.Reaching.{or-cases, or-left, or-right}
 
 same-self : (n : Name) → same_name n n ≡ true
 same-self n = (bytes_eq-Decides n n).1 refl

@@ -12,7 +12,7 @@ use Rattle.seq_tree.specs.declared.tree.Costs.{Costs}
 use Rattle.seq_tree.specs.declared.tree.Mode.TheVariants.{In, Out}
 use Rattle.ada_tree.specs.Programs.{Unit, Passive, Shared, Cyclic, Sporadic}
 use Rattle.ada_tree.specs.Spelling.{program_tokens, specification_lines, unit_body_lines}
-use Rattle.ada_tree.proofs.OneCyclic.{one_cyclic_lines}
+use Rattle.ada_tree.proofs.Shared.OneCyclic.{one_cyclic_lines}
 
 abbrev read : Result (List Spanned) Misread → List Token
 read (Ok ts) = map (λ t. t.token) ts

@@ -5,7 +5,7 @@ use Rattle.seq_tree.specs.Statements.{Null, For, ExitWhen, Call, Work, Put}
 use Rattle.seq_tree.specs.declared.tree.BinOp.TheVariants as op
 use Rattle.ods_tree.specs.Designs.{Design}
 use Rattle.ods_tree.specs.Flattening.{flat}
-use Rattle.ods_tree.proofs.Short.{cyc, cyc_at, spo, spo_external, pro, design, several, block, call}
+use Rattle.ods_tree.proofs.Shared.Short.{cyc, cyc_at, spo, spo_external, pro, design, several, block, call}
 use Rattle.rt_response.specs.declared.rows.ThreadRow.{ThreadRow}
 use Rattle.rt_response.specs.declared.rows.Bound.{Bound}
 use Rattle.rt_response.specs.declared.rows.Limit.TheVariants.{Deadline, Separation}

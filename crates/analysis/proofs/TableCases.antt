@@ -5,7 +5,7 @@ use Rattle.seq_tree.specs.Expressions.{Number}
 use Rattle.seq_tree.specs.Statements.{Statement, For, Call, Work, Null}
 use Rattle.ods_tree.specs.Designs.{Tree, Design}
 use Rattle.ods_tree.specs.Flattening.{flat}
-use Rattle.ods_tree.proofs.Short.{cyc, spo, spo_external, pro, pas, design, several, block, call}
+use Rattle.ods_tree.proofs.Shared.Short.{cyc, spo, spo_external, pro, pas, design, several, block, call}
 use Rattle.rt_response.specs.declared.rows.ThreadRow.{ThreadRow}
 use Rattle.analysis.specs.Ceilings.{ranks}
 use Rattle.analysis.specs.Sound.{is_started, is_spaced}

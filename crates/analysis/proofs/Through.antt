@@ -8,7 +8,7 @@ use Rattle.ods_tree.specs.declared.design.Kind.TheVariants.{Protected}
 use Rattle.ods_tree.specs.declared.design.Constraint.TheVariants.{Paer}
 use Rattle.ods_tree.specs.Flattening.{flat}
 use Rattle.ods_tree.specs.Services.{Service, flat_services}
-use Rattle.ods_tree.proofs.Short.{row_costs, needs_of, cyc, spo, pro, several, block, call}
+use Rattle.ods_tree.proofs.Shared.Short.{row_costs, needs_of, cyc, spo, pro, several, block, call}
 use Rattle.analysis.specs.Ceilings.{ranks, written_ranks}
 use Rattle.analysis.specs.Sections.{sections}
 use Rattle.analysis.specs.Starts.{starters, start_count}

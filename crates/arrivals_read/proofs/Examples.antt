@@ -33,7 +33,7 @@ use Rattle.arrivals_read.specs.Checked.{moved, moved_by}
 use Rattle.arrivals_read.specs.Found.{Tells}
 use Rattle.arrivals_read.specs.Tables.{first_place}
 use Rattle.arrivals_read.proofs.Reaching.{arrivals-faulty}
-use Rattle.arrivals_read.proofs.Refusals.{one-refusal, refused-nothing}
+use Rattle.arrivals_read.proofs.Shared.Refusals.{one-refusal, refused-nothing}
 
 abbrev w : String → Token
 w s = Word (codes s)

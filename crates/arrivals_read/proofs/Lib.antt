@@ -3,7 +3,7 @@ pub mod Turns
 pub mod Checking
 pub mod TableSteps
 pub mod Reaching
-pub mod Refusals
 pub mod ItemSteps
 pub mod Telling
+pub mod Shared
 mod Examples

@@ -4,7 +4,7 @@ use Rattle.std.proofs.Common.{ap, ◌∙◌, arith, append_assoc, length-append}
 use Rattle.std.proofs.lemmas.Bool.{leb-true, leb-false}
 use Rattle.std.proofs.lemmas.List.{length-map}
 use Rattle.grammar.specs.Reading.{Syntax, IsFirstFault, whole_at}
-use Rattle.grammar.proofs.Whole.{whole-found, whole-only, whole-fault}
+use Rattle.grammar.proofs.Shared.Whole.{whole-found, whole-only, whole-fault}
 use Rattle.seq_tree.specs.Reach.{IsReach, IsSyntaxFault}
 use Rattle.seq_tree.specs.Reach as reach
 use Rattle.seq_tree.specs.Lexis.{tokens}

@@ -2,14 +2,14 @@
 use Rattle.std.proofs.Common.{◌≡◌, ℕ, ◌<◌, Bool, true, false, List, [], ◌∷◌, ◌++◌, length, Option, Some, None, Ok, Err, suc, codes, flat_map}
 use Rattle.std.proofs.Common.{refl, sym, ap, subst, ◌∙◌, arith, append-nil, ◌⊎◌, inl, inr}
 use Rattle.grammar.specs.Reading.{Halt, Syntax, left_of, Read, first, token_at, then_at, pure_at, many_at, Found, Stuck, Reads, Joined, AreMany}
-use Rattle.grammar.proofs.Laws.{reads-same, reads-then, reads-pure, reads-token, reads-choose, reads-map, ok_parts, IsToken}
-use Rattle.grammar.proofs.Many.{reads-items}
+use Rattle.grammar.proofs.Shared.Laws.{reads-same, reads-then, reads-pure, reads-token, reads-choose, reads-map, ok_parts, IsToken}
+use Rattle.grammar.proofs.Shared.Many.{reads-items}
 use Rattle.seq_tree.specs.Names.{Name}
 use Rattle.seq_tree.specs.declared.token.Token.{Token}
 use Rattle.seq_tree.specs.declared.token.Token.TheVariants.{Word, Number, Sign}
 use Rattle.seq_tree.specs.declared.token.Mark.TheVariants.{Comma, Semicolon}
 use Rattle.token_read.specs.Readers.{sees_word, word_at, next_is, next_is_number}
-use Rattle.token_read.proofs.TokenLaws.{Any, andthen, reads-fixed, reads-number, joins-fixed, joins-number}
+use Rattle.token_read.proofs.Shared.TokenLaws.{Any, andthen, reads-fixed, reads-number, joins-fixed, joins-number}
 use Rattle.arrivals_tree.specs.ArrivalTexts.{ArrivalText, WorkText, AtText, other_tokens, work_tokens, value_tokens, request_tokens, arrival_tokens}
 use Rattle.arrivals_read.specs.Readers.{other_at, others_at, work_at, works_at, some_at, none_at, value_at, request_at, requests_at, until_at}
 use Rattle.arrivals_read.specs.Readers.{end_at, arrivals_at}

@@ -22,7 +22,7 @@ use Rattle.arrivals_read.specs.declared.fault.ArrivalFault.TheVariants as told
 use Rattle.arrivals_read.specs.Answers.{IsText, IsWrong, Says}
 use Rattle.arrivals_read.specs.Checked.{fault_named}
 use Rattle.arrivals_read.specs.Found.{Tells}
-use Rattle.arrivals_read.proofs.Refusals.{cause, fault-near}
+use Rattle.arrivals_read.proofs.Shared.Refusals.{cause, fault-near}
 
 -- THE PLACE OF AN ITEM is that of a token
 first_or_rest : (name : Name) (before most : ℕ) (here : Option acceptance.ArrivalFault) (rest : Option Wrong) (w : Wrong) → before < most

@@ -2,12 +2,12 @@
 use Rattle.std.proofs.Common.{◌≡◌, ℕ, ◌<◌, true, false, List, [], ◌∷◌, ◌++◌, length, Ok, Err, codes, refl, sym, ap, ◌∙◌, arith, append_assoc}
 use Rattle.std.proofs.Common.{append-nil, length-append}
 use Rattle.grammar.specs.Reading.{Halt, Syntax, Read, first, ◌>>=◌, many_at, Reads}
-use Rattle.grammar.proofs.Many.{many-turn, many-fails, many-ends}
+use Rattle.grammar.proofs.Shared.Many.{many-turn, many-fails, many-ends}
 use Rattle.seq_tree.specs.declared.token.Token.{Token}
 use Rattle.seq_tree.specs.declared.token.Token.TheVariants.{Word, Sign}
 use Rattle.seq_tree.specs.declared.token.Mark.TheVariants.{Comma}
 use Rattle.token_read.specs.Readers.{next_is}
-use Rattle.token_read.proofs.TokenLaws.{Any}
+use Rattle.token_read.proofs.Shared.TokenLaws.{Any}
 use Rattle.arrivals_tree.specs.ArrivalTexts.{WorkText, AtText, work_tokens, request_tokens}
 use Rattle.arrivals_read.specs.Readers.{other_at, others_at, work_at, works_at, request_at, requests_at, end_at}
 use Rattle.arrivals_read.proofs.ReaderLaws.{IsSpelled, other_text, reads-other, reads-work, reads-request, starts_spelled, grows_spelled}

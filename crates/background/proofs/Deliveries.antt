@@ -24,16 +24,16 @@ use Rattle.ods_index.specs.Judging.{head_of}
 use Rattle.ods_index.specs.Told.{told_of, is_memory}
 use Rattle.ods_index.specs.declared.broken.Broken as codes
 use Rattle.ods_rules.specs.Checks.{IsFirstTold}
-use Rattle.ods_rules.proofs.VerdictLaws.{met_as_written}
+use Rattle.ods_rules.proofs.Shared.VerdictLaws.{met_as_written}
 use Rattle.rt_response.specs.Response.{IsLeastVector, Fits}
 use Rattle.rt_response.specs.Tables.{IsTable}
 use Rattle.rt_response.specs.declared.rows.Bound.{Bound}
 use Rattle.rt_response.specs.declared.rows.ThreadRow.{ThreadRow}
 use Rattle.analysis.specs.Sound.{IsSound}
 use Rattle.arrivals_tree.specs.Arrived.{horizon_limit}
-use Rattle.design_programs.proofs.SoundDesigns.{flat-sound}
+use Rattle.law_designs.proofs.Shared.SoundDesigns.{flat-sound}
 use Rattle.std.proofs.lemmas.List.{length-append}
-use Rattle.ods_rules.proofs.CountLaws.{few_in_ticks}
+use Rattle.ods_rules.proofs.Shared.CountLaws.{few_in_ticks}
 use Rattle.background_designs.specs.HardParts.{soft_object, hard_tree, hard_trees, hard_part}
 use Rattle.background_designs.specs.Misfits.{Misfit, misfits, misfit_actives, foreign_waits, foreign_servers, background_requests, slow_threads}
 use Rattle.background_designs.specs.Misfits.{requesting_clients}
@@ -41,11 +41,11 @@ use Rattle.background_designs.specs.Programs.{background_text, hard_rows}
 use Rattle.background_designs.specs.Refusals as refusals
 use Rattle.background_designs.specs.Refusals.{Fault, Breaks, Misfits, Step, Passes, Tells, IsBackgroundDesign, IsFirstFault, number_of}
 use Rattle.background_designs.specs.Runs.{IsGuaranteedInBackground}
-use Rattle.background_laws.proofs.BackgroundRuns.{right-run, hard-table}
-use Rattle.background_laws.proofs.HardTicks.{ticks-hard}
-use Rattle.ods_tree.proofs.TickLaws.{ticks-version}
+use Rattle.law_backgrounds.proofs.Shared.BackgroundRuns.{right-run, hard-table}
+use Rattle.law_backgrounds.proofs.Shared.HardTicks.{ticks-hard}
+use Rattle.ods_tree.proofs.Shared.TickLaws.{ticks-version}
 use Rattle.rt_response.specs.Rounds.{IsMiss}
-use Rattle.background_texts.proofs.BackgroundTexts.{text-guaranteed}
+use Rattle.law_background_texts.proofs.Shared.BackgroundTexts.{text-guaranteed}
 use Rattle.background.specs.Delivers.{DeliversBackground, IsRefusedInBackground, IsBackgroundOf, IsToldFirst}
 use Rattle.background.specs.Fronts.{front_rows, slow_requests}
 use Rattle.background.specs.Makes.{Makes, IsMade}

@@ -18,16 +18,16 @@ use Rattle.analysis.specs.Starts.{can_request}
 use Rattle.analysis.specs.Tables.{table}
 use Rattle.guarantee.specs.Programs.{program_for, head}
 use Rattle.design_bounds.specs.Rows.{named_at}
-use Rattle.design_programs.proofs.Lists.{from-map, in-filter_map, named-from, named-at, key-eq}
-use Rattle.program_calls.proofs.Lists.{IsIn, in-map, filter-in, in-filter}
+use Rattle.law_designs.proofs.Shared.Lists.{from-map, in-filter_map, named-from, named-at, key-eq}
+use Rattle.law_calls.proofs.Shared.Lists.{IsIn, in-map, filter-in, in-filter}
 use Rattle.background_designs.specs.Clients.{is_client, clients, is_client_name}
 use Rattle.background_designs.specs.HardParts.{hard_object, hard_part}
 use Rattle.background_designs.specs.Misfits.{A6, is_sporadic, slow_threads, requesting_clients}
 use Rattle.background_designs.specs.Programs.{client_count, raised, restless, background_flat, background_ranks, background_text, hard_rows}
 use Rattle.background_designs.specs.Programs.{hard_places}
 use Rattle.rt_response.specs.declared.rows.Bound.{Bound}
-use Rattle.background_laws.proofs.HardObjects.{terminal_objects, threads-hard}
-use Rattle.background_laws.proofs.HardThreads.{client-thread, other-thread, thread-source, slow-are-clients}
+use Rattle.law_backgrounds.proofs.Shared.HardObjects.{terminal_objects, threads-hard}
+use Rattle.law_backgrounds.proofs.Shared.HardThreads.{client-thread, other-thread, thread-source, slow-are-clients}
 use Rattle.background.specs.Fronts.{is_slow, slow_count, front_rows, front_places, name_at, front_name, slow_requests, at_once, restless_flat}
 use Rattle.background.specs.Fronts.{restless_ranks}
 use Rattle.background.specs.Fronts.{restless_text, restless_bounds}

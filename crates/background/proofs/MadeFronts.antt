@@ -3,7 +3,7 @@ use Rattle.std.proofs.Common.{◌≡◌, ℕ, ◌≤◌, ◌<◌, List, [], ◌�
 use Rattle.std.specs.Prelude.{max}
 use Rattle.std.proofs.lemmas.List.{length-map}
 use Rattle.rt_response.specs.Response.{IsLeastVector}
-use Rattle.design_bounds.proofs.TablePlaces.{ranks-long}
+use Rattle.design_bounds.proofs.Shared.TablePlaces.{ranks-long}
 use Rattle.analysis.specs.Priorities.{priorities_of}
 use Rattle.ods_tree.specs.Designs.{Design}
 use Rattle.ods_tree.specs.Flats.{Thread, Flat}
@@ -16,7 +16,7 @@ use Rattle.rt_response.specs.declared.rows.ThreadRow.{ThreadRow}
 use Rattle.analysis.specs.Ceilings.{Ranks, control_ceiling, numbered, ranks}
 use Rattle.analysis.specs.Sound.{IsSound}
 use Rattle.analysis.specs.Tables.{ThreadTable, table}
-use Rattle.design_bounds.proofs.CheckedDesigns.{flat-sound, first-small}
+use Rattle.design_bounds.proofs.Shared.CheckedDesigns.{flat-sound, first-small}
 use Rattle.ods_index.specs.Judging.{head_of}
 use Rattle.background_designs.specs.Programs.{raised}
 use Rattle.background.specs.Fronts.{slow_count, front_count, front_rows, front_places, slow_requests, at_once, restless_flat, restless_text}

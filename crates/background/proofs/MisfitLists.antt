@@ -10,8 +10,8 @@ use Rattle.design_rules.specs.Bodies.{is_active}
 use Rattle.design_rules.specs.Clashes.{is_aser}
 use Rattle.design_rules.specs.Lookups.{has_thread, operation_named}
 use Rattle.ods_index.specs.Judging.{head_of}
-use Rattle.ods_index.proofs.TellSteps.{head_later}
-use Rattle.ods_names.proofs.NeedSteps.{head_filter}
+use Rattle.ods_index.proofs.Shared.TellSteps.{head_later}
+use Rattle.ods_names.proofs.Shared.NeedSteps.{head_filter}
 use Rattle.background_designs.specs.Clients.{is_hser, is_client, is_server}
 use Rattle.background_designs.specs.Misfits.{Misfit, A1, A2, A4, A5, is_such, is_misfit, is_slow}
 use Rattle.background_designs.specs.Misfits.{misfit_actives, foreign_waits, foreign_servers, background_requests, slow_threads, misfits}

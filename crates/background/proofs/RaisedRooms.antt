@@ -16,9 +16,9 @@ use Rattle.analysis.specs.Sound.{IsSound}
 use Rattle.design_rules.specs.Broken.{V17Priorities}
 use Rattle.design_rules.specs.Versions.{is_range, bad_priorities}
 use Rattle.design_rules.specs.Rules.{AreMet}
-use Rattle.design_bounds.proofs.RankLaws.{each-made}
-use Rattle.design_programs.proofs.RankRanges.{priority-range, ceiling-range, priorities-stated, room}
-use Rattle.program_calls.proofs.Lists.{each-in, each-to}
+use Rattle.design_bounds.proofs.Shared.RankLaws.{each-made}
+use Rattle.law_designs.proofs.Shared.RankRanges.{priority-range, ceiling-range, priorities-stated, room}
+use Rattle.law_calls.proofs.Shared.Lists.{each-in, each-to}
 use Rattle.background_designs.specs.Programs.{at_least, raised}
 use Rattle.background.specs.Fronts.{is_slow, slow_count}
 use Rattle.background.specs.Makes.{HasRoom}

@@ -11,14 +11,14 @@ use Rattle.analysis.specs.Priorities.{priorities_of}
 use Rattle.analysis.specs.Sound.{IsSound}
 use Rattle.analysis.specs.Starts.{can_request}
 use Rattle.analysis.specs.Tables.{downwards, row_of, starter_of, table}
-use Rattle.design_programs.proofs.PriorityLists.{Entry, entry_by, entries, row_entry, rows-are, position-is}
-use Rattle.design_programs.proofs.PriorityPlaces.{entry-at}
-use Rattle.design_programs.proofs.TabledPrograms.{in-range, alone, all-entries}
-use Rattle.program_calls.proofs.Places.{map-at}
+use Rattle.law_designs.proofs.Shared.PriorityLists.{Entry, entry_by, entries, row_entry, rows-are, position-is}
+use Rattle.law_designs.proofs.Shared.PriorityPlaces.{entry-at}
+use Rattle.law_designs.proofs.Shared.TabledPrograms.{in-range, alone, all-entries}
+use Rattle.law_calls.proofs.Shared.Places.{map-at}
 use Rattle.ods_index.specs.Judging.{head_of}
-use Rattle.ods_names.proofs.NeedSteps.{head_filter}
+use Rattle.ods_names.proofs.Shared.NeedSteps.{head_filter}
 use Rattle.background_designs.specs.Misfits.{A6, is_sporadic}
-use Rattle.background_laws.proofs.StarterRows.{requests-by-rows}
+use Rattle.law_backgrounds.proofs.Shared.StarterRows.{requests-by-rows}
 use Rattle.background.specs.Fronts.{is_slow, is_row, first_requested, first_started, request_fault, slow_requests}
 use Rattle.background.proofs.MisfitLists.{first-passed}
 

@@ -67,7 +67,7 @@ pub(crate) fn any_waits(provides: &[Provided]) -> bool
 }
 
 /// Whether an object without children is a client.
-#[tactic(auto, using(ods_index::proofs::WalkSteps::node_steps))]
+#[tactic(auto, using(ods_index::proofs::Shared::WalkSteps::node_steps))]
 pub(crate) fn is_client(node: &Node) -> bool
     ensures { result ≡ is_client (object_of node.now) }
 {
@@ -75,7 +75,7 @@ pub(crate) fn is_client(node: &Node) -> bool
 }
 
 /// Whether an object without children is a server.
-#[tactic(auto, using(ods_index::proofs::WalkSteps::node_steps))]
+#[tactic(auto, using(ods_index::proofs::Shared::WalkSteps::node_steps))]
 pub(crate) fn is_server(node: &Node) -> bool
     ensures { result ≡ is_server (object_of node.now) }
 {

@@ -83,7 +83,7 @@ fn first_need<'a>(index: &Index<'_>, callers: Callers, needs: &'a [OpName]) -> O
 }
 
 /// Whether a parent isn't active, where there is one.
-#[tactic(auto, using(ods_index::proofs::WalkSteps::node_steps))]
+#[tactic(auto, using(ods_index::proofs::Shared::WalkSteps::node_steps))]
 fn has_foreign_parent(parent: Option<&Node>) -> bool
     ensures { result ≡ has_foreign_parent (parent_of parent.entry) }
 {
@@ -94,7 +94,7 @@ fn has_foreign_parent(parent: Option<&Node>) -> bool
 }
 
 /// Whether an object is active, and neither a client nor a server, or has attributes, or stands inside an object that isn't active.
-#[tactic(auto, using(ods_index::proofs::WalkSteps::node_steps))]
+#[tactic(auto, using(ods_index::proofs::Shared::WalkSteps::node_steps))]
 fn is_misfit(standing: &Standing<'_>) -> bool
     ensures { result ≡ is_misfit (standing_of standing.entry.now) }
 {
@@ -105,7 +105,7 @@ fn is_misfit(standing: &Standing<'_>) -> bool
 }
 
 /// Whether an object isn't active and provides an operation whose callers wait.
-#[tactic(auto, using(ods_index::proofs::WalkSteps::node_steps))]
+#[tactic(auto, using(ods_index::proofs::Shared::WalkSteps::node_steps))]
 fn serves(node: &Node) -> bool
     ensures { result ≡ serves (object_of node.now) }
 {
@@ -139,7 +139,7 @@ fn any_slow(attrs: &[Attr]) -> bool
 }
 
 /// Whether an object has no children, and a thread with the deadline of clients.
-#[tactic(auto, using(ods_index::proofs::WalkSteps::node_steps))]
+#[tactic(auto, using(ods_index::proofs::Shared::WalkSteps::node_steps))]
 fn is_slow_thread(standing: &Standing<'_>) -> bool
     ensures { result ≡ is_slow_thread (standing_of standing.entry.now) }
 {
@@ -187,7 +187,7 @@ fn first_object(
 }
 
 /// Whether an object may not require operations whose callers do so.
-#[tactic(auto, using(ods_index::proofs::WalkSteps::node_steps))]
+#[tactic(auto, using(ods_index::proofs::Shared::WalkSteps::node_steps))]
 fn may_not(callers: Callers, standing: &Standing<'_>) -> bool
     ensures { result ≡ may_not callers (standing_of standing.entry.now) }
 {
@@ -219,7 +219,7 @@ fn told_need(
 }
 
 /// What is told of what an object requires, where something is.
-#[tactic(auto, using(ods_index::proofs::WalkSteps::node_steps))]
+#[tactic(auto, using(ods_index::proofs::Shared::WalkSteps::node_steps))]
 fn need_fault(
     alloc: Global,
     index: &Index<'_>,

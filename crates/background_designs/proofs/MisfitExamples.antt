@@ -14,11 +14,11 @@ use Rattle.ods_tree.specs.declared.design.Kind.TheVariants as kind
 use Rattle.ods_tree.specs.declared.design.AttrKey.TheVariants.{Period, Deadline, ThreadBudget}
 use Rattle.ods_tree.specs.declared.design.Constraint.{Constraint}
 use Rattle.ods_tree.specs.declared.design.Constraint.TheVariants.{Aser, Hser, Pser, Paer}
-use Rattle.ods_tree.proofs.Short.{block, attr, cyc, cyc_with, spo, pro, trees, several, design, call, v_in}
+use Rattle.ods_tree.proofs.Shared.Short.{block, attr, cyc, cyc_with, spo, pro, trees, several, design, call, v_in}
 use Rattle.background_designs.specs.Clients.{is_client, is_server, clients}
 use Rattle.background_designs.specs.HardParts.{softened, soft_operation, hard_object, hard_tree, hard_part}
 use Rattle.background_designs.specs.Misfits.{A1, A2, A3, A4, A5, A6, misfits, requesting_clients}
-use Rattle.background_designs.proofs.Examples.{client, server, waiting, waits}
+use Rattle.background_designs.proofs.Shared.Examples.{client, server, waiting, waits}
 
 -- an object without children, of any kind and with anything in it
 abbrev pub object : Name → Kind → List Attr → List Provided → List OpName → Option Statements → Object

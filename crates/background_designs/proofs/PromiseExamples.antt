@@ -6,7 +6,7 @@ use Rattle.seq_tree.specs.Names.{Name}
 use Rattle.seq_tree.specs.Lists.{Each}
 use Rattle.seq_tree.specs.Statements.{Null}
 use Rattle.ods_tree.specs.Designs.{Design}
-use Rattle.ods_tree.proofs.Short.{cyc, spo_external, design}
+use Rattle.ods_tree.proofs.Shared.Short.{cyc, spo_external, design}
 use Rattle.guarantee.specs.Software.{software}
 use Rattle.ada_tree.specs.Reading.{Accepts}
 use Rattle.arrivals_tree.specs.Arriving as places
@@ -24,7 +24,7 @@ use Rattle.background_designs.specs.HardParts.{hard_part}
 use Rattle.background_designs.specs.Programs.{background_program, hard_tasks, hard_responses}
 use Rattle.background_designs.specs.Turns.{IsRestless}
 use Rattle.background_designs.specs.Runs.{PermitsBackground, IsRightInBackground, IsGuaranteedInBackground}
-use Rattle.background_designs.proofs.Examples.{client}
+use Rattle.background_designs.proofs.Shared.Examples.{client}
 
 abbrev c : Name
 c = codes "c"

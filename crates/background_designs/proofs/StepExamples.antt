@@ -6,7 +6,7 @@ use Rattle.ods_tree.specs.Designs.{Tree, Design}
 use Rattle.ods_tree.specs.declared.design.TickUnit.TheVariants.{Us, Ms, S}
 use Rattle.ods_tree.specs.declared.design.AttrKey.TheVariants.{Deadline}
 use Rattle.ods_tree.specs.Ticks.{in_ticks}
-use Rattle.ods_tree.proofs.Short.{cyc, cyc_with, spo, pro, several, design, call}
+use Rattle.ods_tree.proofs.Shared.Short.{cyc, cyc_with, spo, pro, several, design, call}
 use Rattle.ada_tree.specs.Words.{is_ada_name}
 use Rattle.design_rules.specs.Broken.{Broken, V01, V15Cost, V17Tick}
 use Rattle.design_rules.specs.Versions.{version_faults}
@@ -14,12 +14,13 @@ use Rattle.design_rules.specs.Budgets.{bad_sizes}
 use Rattle.design_rules.specs.Clashes.{clashes}
 use Rattle.design_rules.specs.Rules as rule
 use Rattle.design_rules.specs.Rules.{Rule, AreMet, IsFirst, IsListed, Offends}
-use Rattle.design_rules.proofs.WorkedRules.{meets-where-nothing-told}
+use Rattle.design_rules.proofs.Shared.WorkedRules.{meets-where-nothing-told}
 use Rattle.background_designs.specs.HardParts.{hard_part}
 use Rattle.background_designs.specs.Misfits.{A5, A6, misfits, requesting_clients}
-use Rattle.background_designs.specs.Refusals.{Step, Version, Background, Hard, Requests, Breaks, Misfits, Passes, Tells, IsBackgroundDesign, IsFirstFault}
+use Rattle.background_designs.specs.Refusals.{Step, Version, Background, Hard, Requests, Breaks, Misfits, Passes, Tells, IsBackgroundDesign}
+use Rattle.background_designs.specs.Refusals.{IsFirstFault}
 use Rattle.background_designs.specs.Refusals.{number_of}
-use Rattle.background_designs.proofs.Examples.{client, waits, shared_with_client, through_protected}
+use Rattle.background_designs.proofs.Shared.Examples.{client, waits, shared_with_client, through_protected}
 
 -- a hard part by itself that meets the rules does so beside a design without a version
 met_beside : (x y : Design) → version_faults x ≡ [] → AreMet y y → AreMet x y

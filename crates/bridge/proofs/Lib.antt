@@ -1,5 +1,5 @@
 pub mod RankRooms
 pub mod TableSizes
 pub mod Texts
-pub mod MadeDesigns
 pub mod Guarantees
+pub mod Shared

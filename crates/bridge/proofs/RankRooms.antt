@@ -12,9 +12,9 @@ use Rattle.analysis.specs.Priorities.{priorities_of}
 use Rattle.design_rules.specs.Broken.{V17Priorities}
 use Rattle.design_rules.specs.Versions.{is_range, bad_priorities}
 use Rattle.design_rules.specs.Rules.{AreMet}
-use Rattle.design_bounds.proofs.RankLaws.{each-made}
-use Rattle.design_programs.proofs.RankRanges.{priority-range, ceiling-range, priorities-stated, room}
-use Rattle.program_calls.proofs.Lists.{each-in}
+use Rattle.design_bounds.proofs.Shared.RankLaws.{each-made}
+use Rattle.law_designs.proofs.Shared.RankRanges.{priority-range, ceiling-range, priorities-stated, room}
+use Rattle.law_calls.proofs.Shared.Lists.{each-in}
 use Rattle.bridge.specs.Makes.{HasRoom}
 
 -- priorities that are stated as they must begin at 1 at least

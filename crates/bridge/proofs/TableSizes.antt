@@ -9,7 +9,7 @@ use Rattle.rt_response.specs.Response.{Fits}
 use Rattle.analysis.specs.Ceilings.{Ranks, ceiling, control_ceiling, ranks}
 use Rattle.analysis.specs.Priorities.{priorities_of}
 use Rattle.analysis.specs.Tables.{ThreadTable, table}
-use Rattle.design_bounds.proofs.TablePlaces.{places-stand, rows-long}
+use Rattle.design_bounds.proofs.Shared.TablePlaces.{places-stand, rows-long}
 
 -- what holds of each item holds at each place
 each-index : (P : ℕ → Type 0) (xs : List ℕ) → Each P xs → EachIndex xs (λ k. P (slice_index xs k))

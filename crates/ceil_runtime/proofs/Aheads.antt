@@ -4,10 +4,10 @@ use Rattle.std.specs.Prelude.{None, option_map, slice_get, refl}
 use Rattle.std.proofs.Common.{sym, ◌∙◌, ap, subst, arith, inl, inr}
 use Rattle.std.proofs.lemmas.Bool.Decides.{nat_tests}
 use Rattle.arrivals_tree.specs.declared.arrivals.Arrival.{Arrival}
-use Rattle.dispatching.specs.Jumping.{NoArrival}
+use Rattle.law_dispatching.specs.Jumping.{NoArrival}
 use Rattle.std.proofs.lemmas.Option.{slice_get_read}
 use Rattle.link_queue.specs.Queues.{Each, Entry, IsOrdered, WakesBefore}
-use Rattle.link_queue.proofs.Lists.{each-map}
+use Rattle.link_queue.proofs.Shared.Lists.{each-map}
 use Rattle.ceil_runtime.specs.Processing.{IsWithin}
 use Rattle.ceil_runtime.specs.declared.task.Task.{Task}
 

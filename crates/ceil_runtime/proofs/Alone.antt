@@ -9,11 +9,11 @@ use Rattle.seq_tree.specs.declared.tree.Costs.{Costs}
 use Rattle.ada_tree.specs.declared.program.Unit as units
 use Rattle.arrivals_tree.specs.declared.arrivals.Arrival.{Arrival}
 use Rattle.link_queue.specs.Queues.{Each, Entry, IsOrdered, Queues, WakesBefore, at_head, due, outranks, put_behind}
-use Rattle.link_queue.proofs.Lists.{each-map}
+use Rattle.link_queue.proofs.Shared.Lists.{each-map}
 use Rattle.machine.specs.Systems.{System}
 use Rattle.machine.specs.States as states
-use Rattle.dispatching.specs.Jumping.{NoArrival}
-use Rattle.dispatching.specs.Queueing.{AreSleeping, SleepsUntil}
+use Rattle.law_dispatching.specs.Jumping.{NoArrival}
+use Rattle.law_dispatching.specs.Queueing.{AreSleeping, SleepsUntil}
 use Rattle.ceil_runtime.specs.Alone.{GoesAlone, IsAlone, threads_at}
 use Rattle.ceil_runtime.specs.Effort.{most_ends, sections_among}
 use Rattle.ceil_runtime.specs.Left.{left, ran_effort}

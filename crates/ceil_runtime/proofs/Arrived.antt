@@ -18,11 +18,11 @@ use Rattle.machine.specs.Dispatch.{put_last}
 use Rattle.machine.specs.Releases.{after, is_waiting, released, serve}
 use Rattle.machine.specs.Steps.{arrive_at, horizon_step, step}
 use Rattle.machine.specs.Meanings.{run}
-use Rattle.dispatching.specs.Queueing.{AreQueued, AreSleeping, places}
-use Rattle.dispatching.specs.Renumbering.{DifferInOrders, RankAlike}
-use Rattle.dispatching.proofs.Places.{get-changed, get-within}
-use Rattle.dispatching.proofs.Queued.{queued-kept}
-use Rattle.dispatching.proofs.Sleeping.{sleeping-kept}
+use Rattle.law_dispatching.specs.Queueing.{AreQueued, AreSleeping, places}
+use Rattle.law_dispatching.specs.Renumbering.{DifferInOrders, RankAlike}
+use Rattle.law_dispatching.proofs.Shared.Places.{get-changed, get-within}
+use Rattle.law_dispatching.proofs.Shared.Queued.{queued-kept}
+use Rattle.law_dispatching.proofs.Shared.Sleeping.{sleeping-kept}
 use Rattle.ceil_runtime.specs.Processing.{IsKept, IsSound, state_by, system_by}
 use Rattle.ceil_runtime.specs.Readies.{is_ready, readiness_of}
 use Rattle.ceil_runtime.specs.Works.{asked, IsNested, task_of}

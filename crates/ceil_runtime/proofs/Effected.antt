@@ -22,13 +22,13 @@ use Rattle.machine.specs.Releases.{Next, after, going, is_waiting, released, ser
 use Rattle.machine.specs.Effects.{ended, resting, takes_effect}
 use Rattle.machine.specs.Steps.{effect_at, effect_of, step, goes_to}
 use Rattle.machine.specs.Meanings.{run}
-use Rattle.dispatching.specs.Queueing.{AreQueued, AreSleeping, IsReadyAt, places}
-use Rattle.dispatching.specs.Renumbering.{DifferInOrders, RankAlike}
-use Rattle.dispatching.proofs.Queued.{queued-kept}
-use Rattle.dispatching.proofs.Running.{running-apart, running-ended, running-here}
-use Rattle.dispatching.proofs.Ranks.{queued-places, ranks-alike}
-use Rattle.dispatching.proofs.Sleeping.{apart-awake, sleeping-awake, sleeping-kept, sleeping-more}
-use Rattle.dispatching.proofs.Places.{get-changed}
+use Rattle.law_dispatching.specs.Queueing.{AreQueued, AreSleeping, IsReadyAt, places}
+use Rattle.law_dispatching.specs.Renumbering.{DifferInOrders, RankAlike}
+use Rattle.law_dispatching.proofs.Shared.Queued.{queued-kept}
+use Rattle.law_dispatching.proofs.Shared.Running.{running-apart, running-ended, running-here}
+use Rattle.law_dispatching.proofs.Shared.Ranks.{queued-places, ranks-alike}
+use Rattle.law_dispatching.proofs.Shared.Sleeping.{apart-awake, sleeping-awake, sleeping-kept, sleeping-more}
+use Rattle.law_dispatching.proofs.Shared.Places.{get-changed}
 use Rattle.ceil_runtime.specs.Doing.{act_of}
 use Rattle.ceil_runtime.specs.Processing.{AllTasks, HasNoEffect, IsKept, IsSound, order_of, state_by, system_by, with_task}
 use Rattle.ceil_runtime.specs.Readies.{is_ready, readiness_of}

@@ -8,7 +8,7 @@ use Rattle.seq_tree.specs.Variables.{Variables}
 use Rattle.ada_tree.specs.Trees.{unit_of}
 use Rattle.ada_tree.specs.declared.program.Unit as units
 use Rattle.link_queue.specs.Queues.{Each, Entry, Queues, at_tail, outranks, put_behind}
-use Rattle.dispatching.specs.Queueing.{IsReadyAt}
+use Rattle.law_dispatching.specs.Queueing.{IsReadyAt}
 use Rattle.trace_tree.specs.declared.event.Event.{Event}
 use Rattle.trace_tree.specs.declared.event.Event.TheVariants as event
 use Rattle.machine.specs.Systems.{ProtectedUnit, System}
@@ -19,7 +19,7 @@ use Rattle.machine.specs.Deeds as deeds
 use Rattle.machine.specs.Deeds.{PieceOutcome, deed, done}
 use Rattle.machine.specs.Releases.{Next, after, going, is_waiting, released, serve}
 use Rattle.machine.specs.Effects.{acted, ceiling_of, entry, exit, inside_now, object_unit, outside_now, section_unit, task_unit}
-use Rattle.dispatching.proofs.Acts.{not-served}
+use Rattle.law_dispatching.proofs.Shared.Acts.{not-served}
 use Rattle.ceil_runtime.specs.Framed.{frames_of}
 use Rattle.ceil_runtime.specs.Doing.{IsActOf}
 use Rattle.ceil_runtime.specs.Effort.{sections_among}

@@ -53,5 +53,5 @@ pub mod ActedLaws
 pub mod EntryFacts
 pub mod ExamplesSections
 pub mod ExamplesActed
-pub mod Standing
 pub mod Alone
+pub mod Shared

@@ -18,18 +18,18 @@ use Rattle.machine.specs.Releases.{Next}
 use Rattle.machine.specs.Steps.{step, arrival_step, arrive_at, horizon_step}
 use Rattle.machine.specs.Meanings.{Rest, run, and_then}
 use Rattle.trace_tree.specs.declared.event.Event.TheVariants as event
-use Rattle.dispatching.specs.Renumbering.{DifferInOrders}
-use Rattle.dispatching.proofs.Renumbered.{renumbered_tells}
-use Rattle.machine.proofs.RunLaws.{Rest-after}
-use Rattle.dispatching.specs.Jumping.{HasTicks, IsQuiet, NoArrival, ticks_later}
-use Rattle.dispatching.specs.Queueing.{AreQueued, AreSleeping, places}
+use Rattle.law_dispatching.specs.Renumbering.{DifferInOrders}
+use Rattle.law_dispatching.proofs.Shared.Renumbered.{renumbered_tells}
+use Rattle.machine.proofs.Shared.RunLaws.{Rest-after}
+use Rattle.law_dispatching.specs.Jumping.{HasTicks, IsQuiet, NoArrival, ticks_later}
+use Rattle.law_dispatching.specs.Queueing.{AreQueued, AreSleeping, places}
 use Rattle.std.proofs.lemmas.List.{length-map}
-use Rattle.dispatching.proofs.Jumps.{ticks_or_one}
-use Rattle.dispatching.proofs.Places.{get-within}
-use Rattle.dispatching.proofs.Heads.{dispatched-head}
-use Rattle.dispatching.proofs.Queued.{queued-kept}
-use Rattle.dispatching.proofs.Running.{running-taken}
-use Rattle.dispatching.proofs.Sleeping.{none-due, sleeping-kept, sleeping-later}
+use Rattle.law_dispatching.proofs.Shared.Jumps.{ticks_or_one}
+use Rattle.law_dispatching.proofs.Shared.Places.{get-within}
+use Rattle.law_dispatching.proofs.Shared.Heads.{dispatched-head}
+use Rattle.law_dispatching.proofs.Shared.Queued.{queued-kept}
+use Rattle.law_dispatching.proofs.Shared.Running.{running-taken}
+use Rattle.law_dispatching.proofs.Shared.Sleeping.{none-due, sleeping-kept, sleeping-later}
 use Rattle.ceil_runtime.specs.Callable.{CallsAlike}
 use Rattle.ceil_runtime.specs.Libraries.{no_costs}
 use Rattle.ceil_runtime.specs.Written.{system_of}

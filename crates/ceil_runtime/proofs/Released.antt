@@ -12,7 +12,7 @@ use Rattle.ada_tree.specs.declared.program.Unit as units
 use Rattle.arrivals_tree.specs.declared.arrivals.Arrival.{Arrival}
 use Rattle.trace_tree.specs.declared.event.Event.TheVariants as event
 use Rattle.link_queue.specs.Queues.{Each, Entry, IsFree, IsOrdered, Queues, WakesBefore, after_due, at_tail, due}
-use Rattle.link_queue.proofs.Lists.{each-map}
+use Rattle.link_queue.proofs.Shared.Lists.{each-map}
 use Rattle.machine.specs.Pieces.{Piece, Finishing, pieces}
 use Rattle.machine.specs.Systems.{System}
 use Rattle.machine.specs.States as states
@@ -21,12 +21,12 @@ use Rattle.machine.specs.Dispatch.{put_last}
 use Rattle.machine.specs.Releases.{going, is_waiting, next_time, parameter, release, release_task, released, serve, serve_task}
 use Rattle.machine.specs.Steps.{delay_step}
 use Rattle.machine.specs.Meanings.{run}
-use Rattle.dispatching.specs.Queueing.{AreQueued, AreSleeping, IsReadyAt, SleepsUntil, places}
-use Rattle.dispatching.specs.Renumbering.{DifferInOrders, RankAlike}
-use Rattle.dispatching.proofs.Queued.{apart-ready, queued-released}
-use Rattle.dispatching.proofs.Ranks.{queued-places, ranks-alike}
-use Rattle.dispatching.proofs.Sleeping.{apart-awake, first-due, none-due, sleeping-awake, sleeping-fewer}
-use Rattle.dispatching.proofs.Places.{get-within}
+use Rattle.law_dispatching.specs.Queueing.{AreQueued, AreSleeping, IsReadyAt, SleepsUntil, places}
+use Rattle.law_dispatching.specs.Renumbering.{DifferInOrders, RankAlike}
+use Rattle.law_dispatching.proofs.Shared.Queued.{apart-ready, queued-released}
+use Rattle.law_dispatching.proofs.Shared.Ranks.{queued-places, ranks-alike}
+use Rattle.law_dispatching.proofs.Shared.Sleeping.{apart-awake, first-due, none-due, sleeping-awake, sleeping-fewer}
+use Rattle.law_dispatching.proofs.Shared.Places.{get-within}
 use Rattle.ceil_runtime.specs.Processing.{HoldsIn, IsKept, IsSound, order_of, state_by, system_by}
 use Rattle.ceil_runtime.specs.Effort.{sections_among}
 use Rattle.ceil_runtime.specs.Progressed.{is_idle, pieces_left}

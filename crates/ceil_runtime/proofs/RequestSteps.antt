@@ -17,11 +17,11 @@ use Rattle.machine.specs.Deeds.{deed, done}
 use Rattle.machine.specs.Dispatch.{put_first, put_last}
 use Rattle.machine.specs.Releases.{after, going, is_waiting, released, serve}
 use Rattle.machine.specs.Effects.{acted, exit, outside_now}
-use Rattle.dispatching.specs.Queueing.{AreQueued, places}
-use Rattle.dispatching.specs.Renumbering.{DifferInOrders}
-use Rattle.dispatching.proofs.Acts.{go-queued, goes-active, other-waits, goes-readiness, outside-readiness, release-queued, served}
-use Rattle.dispatching.proofs.Places.{get-changed, get-other}
-use Rattle.dispatching.proofs.Queued.{queued-kept}
+use Rattle.law_dispatching.specs.Queueing.{AreQueued, places}
+use Rattle.law_dispatching.specs.Renumbering.{DifferInOrders}
+use Rattle.law_dispatching.proofs.Shared.Acts.{go-queued, goes-active, other-waits, goes-readiness, outside-readiness, release-queued, served}
+use Rattle.law_dispatching.proofs.Shared.Places.{get-changed, get-other}
+use Rattle.law_dispatching.proofs.Shared.Queued.{queued-kept}
 use Rattle.ceil_runtime.specs.Effort.{effort, most_ends, sections_among}
 use Rattle.ceil_runtime.specs.Left.{sleeper}
 use Rattle.ceil_runtime.specs.Processing.{IsKept, IsSound, order_of, state_by, system_by}

@@ -13,13 +13,13 @@ use Rattle.link_queue.specs.Queues.{Entry, Queues, at_head, at_tail}
 use Rattle.machine.specs.States as states
 use Rattle.machine.specs.Dispatch.{put_last}
 use Rattle.machine.specs.Releases.{released}
-use Rattle.dispatching.specs.Queueing.{AreQueued, AreSleeping, places}
-use Rattle.dispatching.specs.Renumbering.{DifferInOrders, RankAlike}
-use Rattle.dispatching.proofs.Acts.{other-waits, release-queued}
-use Rattle.dispatching.proofs.Places.{Before, before-change, get-other}
-use Rattle.dispatching.proofs.Queued.{queued-kept}
-use Rattle.dispatching.proofs.Ranks.{queued-places, ranks-alike}
-use Rattle.dispatching.proofs.Sleeping.{sleeping-awake, sleeping-kept}
+use Rattle.law_dispatching.specs.Queueing.{AreQueued, AreSleeping, places}
+use Rattle.law_dispatching.specs.Renumbering.{DifferInOrders, RankAlike}
+use Rattle.law_dispatching.proofs.Shared.Acts.{other-waits, release-queued}
+use Rattle.law_dispatching.proofs.Shared.Places.{Before, before-change, get-other}
+use Rattle.law_dispatching.proofs.Shared.Queued.{queued-kept}
+use Rattle.law_dispatching.proofs.Shared.Ranks.{queued-places, ranks-alike}
+use Rattle.law_dispatching.proofs.Shared.Sleeping.{sleeping-awake, sleeping-kept}
 use Rattle.ceil_runtime.specs.Processing.{IsKept, IsSound, order_of, state_by, system_by, with_task}
 use Rattle.ceil_runtime.specs.Readies.{is_ready, readiness_of}
 use Rattle.ceil_runtime.specs.Works.{IsNested, task_of}

@@ -10,8 +10,8 @@ use Rattle.machine.specs.Deeds as deeds
 use Rattle.machine.specs.Deeds.{deed, done}
 use Rattle.machine.specs.Releases.{going}
 use Rattle.machine.specs.Effects.{acted, ceiling_of, entered_at, entry, exit, inside_now, lending, lent, outside_now}
-use Rattle.dispatching.specs.Renumbering.{DifferInOrders}
-use Rattle.dispatching.proofs.Acts.{goes-readiness, outside-readiness}
+use Rattle.law_dispatching.specs.Renumbering.{DifferInOrders}
+use Rattle.law_dispatching.proofs.Shared.Acts.{goes-readiness, outside-readiness}
 use Rattle.ceil_runtime.specs.Left.{sleeper}
 use Rattle.ceil_runtime.specs.Processing.{IsSound, state_by, system_by}
 use Rattle.ceil_runtime.specs.Shown.{IsWhole, stores_of}

@@ -23,9 +23,9 @@ use Rattle.machine.specs.Releases.{going}
 use Rattle.machine.specs.Effects.{acted, ceiling_of, entered_at, entry, exit, inside_now, lending, lent, outside_by, outside_now, section_unit}
 use Rattle.machine.specs.Effects.{takes_effect}
 use Rattle.machine.specs.Steps.{effect_at, effect_of, goes_to, step}
-use Rattle.dispatching.specs.Queueing.{AreQueued, places}
-use Rattle.dispatching.specs.Renumbering.{DifferInOrders}
-use Rattle.dispatching.proofs.Acts.{entry-goes, entry-queued, entry-stops, exit-queued, goes-active, goes-readiness, outside-readiness}
+use Rattle.law_dispatching.specs.Queueing.{AreQueued, places}
+use Rattle.law_dispatching.specs.Renumbering.{DifferInOrders}
+use Rattle.law_dispatching.proofs.Shared.Acts.{entry-goes, entry-queued, entry-stops, exit-queued, goes-active, goes-readiness, outside-readiness}
 use Rattle.ceil_runtime.specs.Processing.{IsKept, IsSound, order_of, state_by, system_by}
 use Rattle.ceil_runtime.specs.Works.{IsNested, task_of}
 use Rattle.ceil_runtime.specs.declared.task.Task.{Task}

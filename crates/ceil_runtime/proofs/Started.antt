@@ -7,16 +7,16 @@ use Rattle.seq_tree.specs.Variables.{written}
 use Rattle.seq_tree.specs.declared.tree.Costs.{Costs}
 use Rattle.ada_tree.specs.declared.program.Unit as units
 use Rattle.link_queue.specs.Queues.{Entry, IsApart, IsFree, Queues, in_time, wakes_before}
-use Rattle.link_queue.proofs.Lists.{each-map, each-put, in_order-time}
+use Rattle.link_queue.proofs.Shared.Lists.{each-map, each-put, in_order-time}
 use Rattle.machine.specs.Systems.{System}
 use Rattle.machine.specs.Meanings.{Running}
 use Rattle.machine.specs.States as states
 use Rattle.machine.specs.States.{Asleep, first_task, first_time, first_wait, opening}
 use Rattle.arrivals_tree.specs.declared.arrivals.Arrival.{Arrival}
-use Rattle.dispatching.specs.Queueing.{AreQueued, AreSleeping, IsIn, SleepsUntil, places, places_from}
-use Rattle.dispatching.proofs.Places.{get-within}
-use Rattle.dispatching.proofs.Queued.{in-new, in-put}
-use Rattle.dispatching.proofs.Ranks.{length-places}
+use Rattle.law_dispatching.specs.Queueing.{AreQueued, AreSleeping, IsIn, SleepsUntil, places, places_from}
+use Rattle.law_dispatching.proofs.Shared.Places.{get-within}
+use Rattle.law_dispatching.proofs.Shared.Queued.{in-new, in-put}
+use Rattle.law_dispatching.proofs.Shared.Ranks.{length-places}
 use Rattle.ceil_runtime.specs.Processing.{AreAlike, IsKept, IsSound, state_by, system_by}
 use Rattle.ceil_runtime.specs.Progressed.{vars_left, pieces_left}
 use Rattle.ceil_runtime.specs.Readies.{gate_of, readiness_of}

@@ -14,8 +14,8 @@ use Rattle.trace_tree.specs.declared.event.Event.{Event}
 use Rattle.trace_tree.specs.declared.event.Event.TheVariants as event
 use Rattle.link_queue.specs.Queues.{Entry, Queues, at_head, at_tail}
 use Rattle.machine.specs.Dispatch.{put_last}
-use Rattle.dispatching.specs.Queueing.{places}
-use Rattle.dispatching.specs.Renumbering.{DifferInOrders}
+use Rattle.law_dispatching.specs.Queueing.{places}
+use Rattle.law_dispatching.specs.Renumbering.{DifferInOrders}
 use Rattle.ada_tree.specs.Trees.{unit_of}
 use Rattle.ceil_runtime.specs.Called.{AreCallees, AreCalleesOf}
 use Rattle.ceil_runtime.specs.Libraries.{system_from}

@@ -2,7 +2,7 @@
 -- The steps of the machine that are left out on the way tell nothing and change nothing but the time.
 use Rattle.std.specs.Prelude.{◌≡◌, ℕ, ◌<◌, ◌≤◌, false, List, [], map, Some, slice_get}
 use Rattle.link_queue.specs.Queues.{Each}
-use Rattle.dispatching.specs.Jumping.{NoArrival}
+use Rattle.law_dispatching.specs.Jumping.{NoArrival}
 use Rattle.ceil_runtime.specs.Left.{left}
 use Rattle.ceil_runtime.specs.Processing.{Follows, IsBelow}
 use Rattle.ceil_runtime.specs.Shown.{IsWhole, running_of}

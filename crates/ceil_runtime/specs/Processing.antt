@@ -12,7 +12,7 @@ use Rattle.link_queue.specs.Queues.{Entry, Each, Queues, at_head}
 use Rattle.machine.specs.Systems.{System}
 use Rattle.machine.specs.States as states
 use Rattle.machine.specs.Meanings.{Running, Rest}
-use Rattle.dispatching.specs.Queueing.{AreQueued, AreSleeping, places}
+use Rattle.law_dispatching.specs.Queueing.{AreQueued, AreSleeping, places}
 use Rattle.ceil_runtime.specs.Libraries.{libraries_from, objects_from, no_costs}
 use Rattle.ceil_runtime.specs.Readies.{is_ready}
 use Rattle.ceil_runtime.specs.Doing.{IsDeed}

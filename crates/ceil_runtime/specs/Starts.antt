@@ -10,7 +10,7 @@ use Rattle.link_queue.specs.Queues.{Queues, in_time}
 use Rattle.machine.specs.Systems.{System}
 use Rattle.machine.specs.Meanings.{Running}
 use Rattle.machine.specs.States.{first_task, first_time, first_wait, opening, shut}
-use Rattle.dispatching.specs.Queueing.{AreSleeping}
+use Rattle.law_dispatching.specs.Queueing.{AreSleeping}
 use Rattle.ceil_runtime.specs.Processing.{AllTasks, IsKept}
 use Rattle.ceil_runtime.specs.Libraries.{libraries_from, objects_from}
 use Rattle.ceil_runtime.specs.Progressed.{pieces_left, vars_left}

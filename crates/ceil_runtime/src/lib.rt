@@ -2,6 +2,10 @@
 //! It stands on the definitions of `machine` and on the queues of `link_queue`, and runs every program that meets the rules: any number of
 //! cyclic and sporadic tasks, the protected objects that they enter, nested where they call each other, and the requests between tasks.
 //! `Machine::advance` carries its promise: what it tells, followed by all that is told afterwards, is what was to be told.
+//!
+//! Other crates may cite these proofs of it (`proofs/Shared`):
+//!
+//! - `Standing`: where a machine stands: not past its horizon, and before it where a tick is to be used.
 #![tactic(auto)]
 
 mod acting;

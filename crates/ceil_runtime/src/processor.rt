@@ -3,7 +3,7 @@ ghost use Rattle.ada_tree.specs.Ranges.{costs_break};
 ghost use Rattle.link_queue.specs.Queues.{Each, IsFree};
 ghost use Rattle.std.specs.Prelude.{◌^◌, ◌-◌, ◌∷◌, suc, ℕ};
 ghost use Rattle.seq_tree.specs.Lists.{first_where};
-ghost use Rattle.dispatching.specs.Jumping.{NoArrival};
+ghost use Rattle.law_dispatching.specs.Jumping.{NoArrival};
 ghost use Rattle.ceil_runtime.specs.Starts.{first_slept};
 ghost use Rattle.ceil_runtime.specs.Turns.{last_turn};
 ghost use Rattle.ceil_runtime.specs.Works.{task_of};
@@ -254,7 +254,7 @@ impl<'a> Machine<'a> {
     ghost use Rattle.ceil_runtime.specs.Starts.{CanStart, opened, system_for};
     ghost use Rattle.ceil_runtime.specs.Written.{system_of};
     ghost use Rattle.ceil_runtime.specs.Gathering.{AllThreads};
-    ghost use Rattle.dispatching.specs.Queueing.{AreQueued, AreSleeping};
+    ghost use Rattle.law_dispatching.specs.Queueing.{AreQueued, AreSleeping};
     ghost use Rattle.ceil_runtime.specs.Left.{Falls, left};
     ghost use Rattle.ceil_runtime.specs.Turns.{FallsAt, Turned};
     ghost use Rattle.ada_tree.specs.Programs.{Program};

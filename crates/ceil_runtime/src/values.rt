@@ -23,7 +23,7 @@ pub fn value_of(expr: &Expr, vars: &Scopes) -> u32
 }
 
 /// The value of the innermost variable of this name, and 0 where there is none.
-#[tactic(auto, using(seq_eval::proofs::Reading::found_read))]
+#[tactic(auto, using(seq_eval::proofs::Shared::Reading::found_read))]
 pub fn read(name: &Name, vars: &Scopes) -> u32
     ensures { result ≡ read name.now (vars_of vars.now.items) }
 {

@@ -11,7 +11,7 @@ use Rattle.seq_tree.specs.Runs as runs
 use Rattle.ods_tree.specs.Designs.{Design}
 use Rattle.ods_tree.specs.Flats.{Guarded, Cyclic, Sporadic}
 use Rattle.rt_response.specs.declared.rows.Bound.{Bound}
-use Rattle.ods_tree.proofs.Short.{row_costs}
+use Rattle.ods_tree.proofs.Shared.Short.{row_costs}
 use Rattle.guarantee.specs.Software.{Task, Software, software, program_software, leads_to}
 use Rattle.guarantee.specs.Events.{Deed, Arrive, Release, Print, By, Horizon}
 use Rattle.guarantee.specs.Events as events

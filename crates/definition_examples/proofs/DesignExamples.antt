@@ -21,7 +21,7 @@ use Rattle.ods_tree.specs.Spelling.{part_token, tree_lines}
 use Rattle.ods_tree.specs.declared.design.Kind.TheVariants as kind
 use Rattle.ods_tree.specs.declared.design.Constraint.TheVariants.{Aser, Hser, Pser}
 use Rattle.ods_tree.specs.declared.design.AttrKey.TheVariants.{Period, Offset, Separation, Deadline, ThreadBudget, ArrivalJitter}
-use Rattle.ods_tree.proofs.Short.{row_costs, block, call, attr, v_in, zeros, pas, pro, cyc, cyc_with, trees, design}
+use Rattle.ods_tree.proofs.Shared.Short.{row_costs, block, call, attr, v_in, zeros, pas, pro, cyc, cyc_with, trees, design}
 
 -- an object of a kind, alone
 abbrev object : Name → Object

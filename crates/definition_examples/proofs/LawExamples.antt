@@ -6,7 +6,7 @@ use Rattle.seq_tree.specs.Statements.{Statement, Work}
 use Rattle.seq_tree.specs.Operations.{Operation, Signature}
 use Rattle.ods_tree.specs.Designs.{Design}
 use Rattle.ods_tree.specs.Flats as flats
-use Rattle.ods_tree.proofs.Short.{row_costs, block, call, cyc, spo_external, several}
+use Rattle.ods_tree.proofs.Shared.Short.{row_costs, block, call, cyc, spo_external, several}
 use Rattle.ada_tree.specs.Programs.{Form, Unit, Program, Shared, Cyclic, Sporadic}
 use Rattle.rt_response.specs.declared.rows.ThreadRow.{ThreadRow}
 use Rattle.analysis.specs.Starts.{block_starts}

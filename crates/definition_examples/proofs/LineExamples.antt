@@ -5,7 +5,7 @@ use Rattle.std.proofs.Common.{arith, lit≤}
 use Rattle.seq_tree.specs.Operations.{Signature, Operation}
 use Rattle.seq_tree.specs.Statements.{End}
 use Rattle.seq_tree.specs.declared.tree.Mode.TheVariants.{In}
-use Rattle.ods_tree.proofs.Short.{row_costs}
+use Rattle.ods_tree.proofs.Shared.Short.{row_costs}
 use Rattle.ada_tree.specs.Programs.{Program, Shared, Cyclic, Sporadic}
 use Rattle.trace_tree.specs.declared.event.Event.TheVariants as event
 use Rattle.trace_tree.specs.Lines.{line, lines, words, unit_name, unit_ops, op_name}

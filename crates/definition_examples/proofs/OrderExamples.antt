@@ -10,17 +10,17 @@ use Rattle.seq_tree.specs.Expressions.{Number}
 use Rattle.seq_tree.specs.Statements.{Call, Work}
 use Rattle.ods_tree.specs.Flats.{Thread, Flat}
 use Rattle.ods_tree.specs.Flattening.{flat}
-use Rattle.ods_tree.proofs.Short.{cyc, spo, spo_external, pro, several, call}
+use Rattle.ods_tree.proofs.Shared.Short.{cyc, spo, spo_external, pro, several, call}
 use Rattle.rt_response.specs.declared.rows.Bound.{Bound}
 use Rattle.rt_response.specs.declared.rows.Limit.TheVariants.{Separation}
 use Rattle.rt_response.specs.Response.{right_sides, IsAtMost}
 use Rattle.rt_response.specs.Rounds.{round, first_excess}
-use Rattle.rt_response.proofs.Least.{at_most-refl, div_ceil-mono}
-use Rattle.rt_response.proofs.Solving.{no_excess-within}
+use Rattle.rt_response.proofs.Shared.Least.{at_most-refl, div_ceil-mono}
+use Rattle.rt_response.proofs.Shared.Solving.{no_excess-within}
 use Rattle.analysis.specs.Blocking.{blocking}
 use Rattle.analysis.specs.Tables.{table}
-use Rattle.order_laws.specs.Orders.{is_internal, priority_in, priorities_by, ranks_by, rows_by, Passes, levels_among, others, share, EndsLast}
-use Rattle.order_laws.specs.Orders.{NoneIsLast, IsStuck, IsObstacle}
+use Rattle.law_orders.specs.Orders.{is_internal, priority_in, priorities_by, ranks_by, rows_by, Passes, levels_among, others, share, EndsLast}
+use Rattle.law_orders.specs.Orders.{NoneIsLast, IsStuck, IsObstacle}
 
 -- a round that the next one leaves as it is, with no value over its limit
 round-passes : (f : Flat) (order : List ℕ) (k : ℕ) → length (round (rows_by f order) k) ≡ length (rows_by f order)

@@ -14,7 +14,7 @@ use Rattle.seq_tree.specs.declared.tree.BinOp.TheVariants as bin
 use Rattle.seq_tree.specs.declared.tree.Param.{Param}
 use Rattle.seq_tree.specs.declared.tree.Mode.{Mode}
 use Rattle.seq_tree.specs.declared.tree.Mode.TheVariants.{In, Out}
-use Rattle.ods_tree.proofs.Short.{row_costs, block, call}
+use Rattle.ods_tree.proofs.Shared.Short.{row_costs, block, call}
 use Rattle.ada_tree.specs.Programs.{Form, Unit, Program, Passive, Shared, Cyclic, Sporadic, is_task}
 use Rattle.ada_tree.specs.Bodies.{unit_fault}
 use Rattle.ada_tree.specs.Naming.{breaks_naming}

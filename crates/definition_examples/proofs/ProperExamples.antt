@@ -17,7 +17,7 @@ use Rattle.ods_tree.specs.Words.{is_design_name}
 use Rattle.ods_tree.specs.declared.design.Kind.TheVariants as kind
 use Rattle.ods_tree.specs.declared.design.AttrKey.TheVariants.{Period}
 use Rattle.ods_tree.specs.declared.design.TickUnit.TheVariants.{Ms}
-use Rattle.ods_tree.proofs.Short.{row_costs, block, attr}
+use Rattle.ods_tree.proofs.Shared.Short.{row_costs, block, attr}
 
 abbrev limits : Limits
 limits = within_limits is_design_name

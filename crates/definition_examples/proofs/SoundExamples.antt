@@ -8,7 +8,7 @@ use Rattle.seq_tree.specs.Operations.{Signature, Operation}
 use Rattle.seq_tree.specs.declared.tree.Costs.{Costs}
 use Rattle.ods_tree.specs.Flats.{Library, Guarded, Timing, Cyclic, Sporadic, Thread, Flat}
 use Rattle.ods_tree.specs.Sound.{is_within, entry_names, is_timed, is_in_range, blocks, counted_calls, IsWellFormed}
-use Rattle.ods_tree.proofs.Short.{row_costs, block, call, v_in}
+use Rattle.ods_tree.proofs.Shared.Short.{row_costs, block, call, v_in}
 
 -- a range has both its ends
 range_ends : map (is_within 2 4) (1 ∷ 2 ∷ 4 ∷ 5 ∷ []) ≡ false ∷ true ∷ true ∷ false ∷ []

@@ -7,11 +7,11 @@ use Rattle.ada_tree.specs.Rules.{MeetsRules}
 use Rattle.guarantee.specs.Arrivals.{Arrivals}
 use Rattle.guarantee.specs.Events.{Event}
 use Rattle.guarantee.specs.Software.{Task, Software, program_software}
-use Rattle.trace_laws.specs.Parts.{Serves, Follows}
-use Rattle.trace_laws.specs.Verdicts.{IsFirstWithout, IsVerdict, IsVerdictOn}
-use Rattle.trace_laws.specs.Verdicts as verdict
-use Rattle.trace_laws.proofs.Joins.{in-parts}
-use Rattle.clear_programs.proofs.Clear.{clear}
+use Rattle.law_traces.specs.Parts.{Serves, Follows}
+use Rattle.law_traces.specs.Verdicts.{IsFirstWithout, IsVerdict, IsVerdictOn}
+use Rattle.law_traces.specs.Verdicts as verdict
+use Rattle.law_traces.proofs.Shared.Joins.{in-parts}
+use Rattle.law_clear_programs.proofs.Shared.Clear.{clear}
 use Rattle.trace_read.specs.Lines.{Tells}
 use Rattle.trace_checks.specs.Meanings.{KeepParts}
 

@@ -10,22 +10,22 @@ use Rattle.ada_tree.specs.Rules.{MeetsRules}
 use Rattle.trace_tree.specs.Placed.{IsPlaced}
 use Rattle.trace_tree.specs.declared.event.Event as machine
 use Rattle.design_rules.specs.Rules.{AreMet}
-use Rattle.design_programs.proofs.SoundDesigns.{flat-sound}
+use Rattle.law_designs.proofs.Shared.SoundDesigns.{flat-sound}
 use Rattle.guarantee.specs.Arrivals.{Arrivals}
 use Rattle.guarantee.specs.Events.{Event, named}
 use Rattle.guarantee.specs.Programs.{program}
 use Rattle.guarantee.specs.Software.{Software, program_software, software}
-use Rattle.guarantee.proofs.Same.{program-software}
-use Rattle.trace_lines.specs.Told.{HasPlainNames, IsEvent}
-use Rattle.trace_lines.proofs.Events.{tells-events}
-use Rattle.trace_laws.specs.Checks.{follows, serves}
-use Rattle.trace_laws.specs.Clear.{IsClear}
-use Rattle.trace_laws.specs.Laws.{AreDecided}
-use Rattle.trace_laws.specs.Parts.{Serves, Follows}
-use Rattle.trace_laws.specs.Verdicts as verdict
-use Rattle.trace_laws.specs.Verdicts.{Verdict, IsFirstWithout, IsVerdict}
-use Rattle.trace_laws.proofs.Joins.{all-decided}
-use Rattle.clear_programs.proofs.Clear.{clear}
+use Rattle.guarantee.proofs.Shared.Same.{program-software}
+use Rattle.law_trace_lines.specs.Told.{HasPlainNames, IsEvent}
+use Rattle.law_trace_lines.proofs.Shared.Events.{tells-events}
+use Rattle.law_traces.specs.Checks.{follows, serves}
+use Rattle.law_traces.specs.Clear.{IsClear}
+use Rattle.law_traces.specs.Laws.{AreDecided}
+use Rattle.law_traces.specs.Parts.{Serves, Follows}
+use Rattle.law_traces.specs.Verdicts as verdict
+use Rattle.law_traces.specs.Verdicts.{Verdict, IsFirstWithout, IsVerdict}
+use Rattle.law_traces.proofs.Shared.Joins.{all-decided}
+use Rattle.law_clear_programs.proofs.Shared.Clear.{clear}
 use Rattle.trace_read.specs.Lines.{Tells}
 use Rattle.trace_read.specs.Gathered.{AreLines, Gathers}
 use Rattle.trace_read.specs.declared.gather.Unread.{Unread}

@@ -1,5 +1,5 @@
 -- A program with the lists of what its calls may lead to is a scene.
-use Rattle.trace_text.proofs.Names.{unit_name-read}
+use Rattle.trace_text.proofs.Shared.Names.{unit_name-read}
 use Rattle.std.proofs.Common.{◌≡◌, ◌≤◌, ℕ, List, [], ◌∷◌, ◌++◌, map, length, refl, sym, ap, ◌∙◌, subst}
 use Rattle.std.proofs.lemmas.List.{length-map}
 use Rattle.seq_tree.specs.Names.{Name}

@@ -31,9 +31,9 @@ use Rattle.analysis.specs.Sound.{IsSound}
 use Rattle.analysis.specs.Tables.{activation_cost}
 use Rattle.guarantee.specs.Software.{Software, Task, program_software, software, task_of, library_by, guarded_by, task_by, leads_to, all_services}
 use Rattle.guarantee.specs.Programs.{program}
-use Rattle.guarantee.proofs.Same.{program-software}
-use Rattle.program_calls.proofs.Bodies.{costs-cover}
-use Rattle.program_calls.proofs.Rings.{no-ring}
+use Rattle.guarantee.proofs.Shared.Same.{program-software}
+use Rattle.law_calls.proofs.Shared.Bodies.{costs-cover}
+use Rattle.law_calls.proofs.Shared.Rings.{no-ring}
 use Rattle.trace_scripts.specs.Scenes.{AllBlocks, AllIn}
 
 -- numbers of `work`

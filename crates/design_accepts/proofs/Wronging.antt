@@ -7,8 +7,8 @@ use Rattle.ada_tree.specs.Programs.{Program}
 use Rattle.trace_tree.specs.Lines.{unit_name}
 use Rattle.guarantee.specs.Events.{Event}
 use Rattle.guarantee.specs.Software.{Task, Software}
-use Rattle.trace_laws.specs.Checks.{follows, serves}
-use Rattle.trace_laws.specs.Verdicts.{Verdict, Times, Script, Shared, first_or}
+use Rattle.law_traces.specs.Checks.{follows, serves}
+use Rattle.law_traces.specs.Verdicts.{Verdict, Times, Script, Shared, first_or}
 use Rattle.design_accepts.specs.Units.{astray, unserved}
 use Rattle.trace_scripts.specs.Wrongs.{judged_last, verdict_by}
 use Rattle.trace_scripts.specs.declared.verdict.Wrong.{Wrong}

@@ -1,7 +1,7 @@
 -- What an answer says of a text as a trace of a design: its verdict. Want of memory says nothing.
 use Rattle.std.specs.Prelude.{ℕ, Option, Some, None, Result, Ok, Err}
-use Rattle.trace_laws.specs.Verdicts as verdict
-use Rattle.trace_laws.specs.Verdicts.{Verdict}
+use Rattle.law_traces.specs.Verdicts as verdict
+use Rattle.law_traces.specs.Verdicts.{Verdict}
 use Rattle.design_accepts.specs.declared.unaccepted.Unaccepted.{Unaccepted}
 use Rattle.design_accepts.specs.declared.unaccepted.Unaccepted.TheVariants as why
 

@@ -6,7 +6,7 @@ use Rattle.seq_eval.specs.Bounds.{most_ticks}
 use Rattle.ada_tree.specs.Programs.{Program}
 use Rattle.guarantee.specs.Events.{Event}
 use Rattle.guarantee.specs.Software.{Software, program_software, leads_to}
-use Rattle.trace_laws.specs.Checks.{follows, serves}
+use Rattle.law_traces.specs.Checks.{follows, serves}
 use Rattle.trace_scripts.specs.Scenes.{AllIn}
 use Rattle.design_accepts.specs.declared.unaccepted.Unaccepted.{Unaccepted}
 use Rattle.design_accepts.specs.declared.unaccepted.Unaccepted.TheVariants.{Script, Shared, NoMemory}

@@ -6,7 +6,7 @@ ghost use Rattle.trace_tree.specs.Lines.{unit_name};
 ghost use Rattle.trace_tree.specs.Placed.{IsPlaced};
 ghost use Rattle.guarantee.specs.Events.{named};
 ghost use Rattle.guarantee.specs.Software.{program_software};
-ghost use Rattle.trace_laws.specs.Clear.{IsClear};
+ghost use Rattle.law_traces.specs.Clear.{IsClear};
 ghost use Rattle.design_accepts.specs.Units.{IsQuick, SaysOf};
 
 use crate::called::called_in;

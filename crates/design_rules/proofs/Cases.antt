@@ -18,7 +18,7 @@ use Rattle.ods_tree.specs.declared.design.Constraint.TheVariants.{Aser, Pser, Pa
 use Rattle.ods_tree.specs.declared.design.AttrKey.TheVariants.{Period, Offset, Deadline, ThreadBudget}
 use Rattle.ods_tree.specs.declared.design.Link.{Link}
 use Rattle.ods_tree.specs.Walk.{is_empty}
-use Rattle.ods_tree.proofs.Short.{attr, cyc, cyc_with, spo, spo_external, pro, pas, trees, block, call, design, several}
+use Rattle.ods_tree.proofs.Shared.Short.{attr, cyc, cyc_with, spo, spo_external, pro, pas, trees, block, call, design, several}
 use Rattle.design_rules.specs.Broken.{V01, V02, V03, V04, V05, V06, V10, V11, V13, V15Objects, V16}
 use Rattle.design_rules.specs.Clashes.{clashes}
 use Rattle.ada_tree.specs.Words.{is_ada_name}

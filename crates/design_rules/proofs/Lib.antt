@@ -1,7 +1,6 @@
-pub mod Rows
 mod More
 mod Cases
 mod Nested
 mod Units
 pub mod TickRules
-pub mod WorkedRules
+pub mod Shared

@@ -12,7 +12,7 @@ use Rattle.ods_tree.specs.declared.design.Kind.TheVariants.{Passive, Active, Pro
 use Rattle.ods_tree.specs.declared.design.Constraint.{Constraint}
 use Rattle.ods_tree.specs.declared.design.Constraint.TheVariants.{Aser, Paer}
 use Rattle.ods_tree.specs.declared.design.AttrKey.TheVariants.{Period, Deadline, ThreadBudget, ArrivalJitter}
-use Rattle.ods_tree.proofs.Short.{attr, cyc, cyc_with, spo, pro, trees, group, block, call, design, several}
+use Rattle.ods_tree.proofs.Shared.Short.{attr, cyc, cyc_with, spo, pro, trees, group, block, call, design, several}
 use Rattle.design_rules.specs.Broken.{V01, V03, V04, V05, V06, V07, V09Starts, V10, V11, V12, V15Threads, V16}
 use Rattle.design_rules.specs.Clashes.{clashes}
 use Rattle.design_rules.specs.Includes.{bad_includes}

@@ -13,7 +13,7 @@ use Rattle.seq_tree.specs.declared.tree.OpName.{OpName}
 use Rattle.ods_tree.specs.Designs.{Provided, Body, Object, Tree, Node, Empty, Design}
 use Rattle.ods_tree.specs.declared.design.Kind.TheVariants.{Protected, Cyclic}
 use Rattle.ods_tree.specs.declared.design.Constraint.TheVariants.{Aser, Hser, Pser, Paer}
-use Rattle.ods_tree.proofs.Short.{needs_of, block, cyc, spo, pro, pas, trees, several, call}
+use Rattle.ods_tree.proofs.Shared.Short.{needs_of, block, cyc, spo, pro, pas, trees, several, call}
 use Rattle.design_rules.specs.Broken.{V08, V09Calls, V09Objects, V09Starts, V10, V16}
 use Rattle.design_rules.specs.Uses.{may_call, forbidden}
 use Rattle.design_rules.specs.Sources.{bad_sources, requests_by}
@@ -21,9 +21,9 @@ use Rattle.design_rules.specs.Separations.{bad_separations}
 use Rattle.design_rules.specs.Rings.{meant_calls, operation_calls, calls_from, CallsOp, IsOnCallRing, protected_objects, calls_object}
 use Rattle.design_rules.specs.Rings.{CallsObject, IsOnObjectRing, thread_objects, can_start, StartsThread, IsOnStartRing}
 use Rattle.design_rules.specs.Rules.{Offends, CallRing, ObjectRing, StartRing, IsFirstBroken}
-use Rattle.design_rules.proofs.Rows.{before_rings, after_rings, none_before}
-use Rattle.seq_tree.proofs.Rounds.{ring-both, OneOf, one-both, from-chosen}
-use Rattle.seq_tree.proofs.Walks.{same_op-eq}
+use Rattle.design_rules.proofs.Shared.Rows.{before_rings, after_rings, none_before}
+use Rattle.seq_tree.proofs.Shared.Rounds.{ring-both, OneOf, one-both, from-chosen}
+use Rattle.seq_tree.proofs.Shared.Walks.{same_op-eq}
 use Rattle.ada_tree.specs.Words.{is_ada_name}
 
 abbrev op : String → String → OpName

@@ -7,7 +7,7 @@ use Rattle.ods_tree.specs.Walk.{Standing, standings, inner_standings, roots, own
 use Rattle.ods_tree.specs.Ticks.{attribute_in_ticks, object_in_ticks, tree_in_ticks, trees_in_ticks, tick_time, ticked, in_ticks}
 use Rattle.ods_tree.specs.declared.design.Attr.{Attr}
 use Rattle.ods_tree.specs.declared.design.VersionTwo.{VersionTwo}
-use Rattle.ods_tree.proofs.TickLaws.{ticks-version, ticks-again}
+use Rattle.ods_tree.proofs.Shared.TickLaws.{ticks-version, ticks-again}
 use Rattle.design_rules.specs.Broken.{Broken, V17}
 use Rattle.design_rules.specs.Versions.{bad_tick, bad_priorities, misses_ticks, breaks_ticks, bad_version, version_faults}
 use Rattle.design_rules.specs.Rules.{Version, Clash, KeptName, Include, Operation, Fitting, Stranger, Absence, Use, CallRing, ObjectRing}

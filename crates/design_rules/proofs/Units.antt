@@ -5,7 +5,7 @@ use Rattle.std.proofs.Common.{lit≤, not-suc-le-zero, inl, inr}
 use Rattle.seq_tree.specs.Names.{Name, same_name}
 use Rattle.seq_tree.specs.Calls.{same_op}
 use Rattle.seq_tree.specs.declared.tree.OpName.{OpName}
-use Rattle.seq_tree.proofs.Rounds.{ring-both, OneOf, from-chosen}
+use Rattle.seq_tree.proofs.Shared.Rounds.{ring-both, OneOf, from-chosen}
 use Rattle.seq_tree.specs.Statements.{Work}
 use Rattle.ods_tree.specs.Designs.{Design}
 use Rattle.ods_tree.specs.Ticks.{in_ticks}
@@ -13,8 +13,8 @@ use Rattle.ods_tree.specs.Walk.{terminals}
 use Rattle.ods_tree.specs.declared.design.AttrKey.TheVariants.{Period, Deadline, ThreadBudget}
 use Rattle.ods_tree.specs.declared.design.TickUnit.TheVariants.{Us, Ms, S}
 use Rattle.ods_tree.specs.declared.design.VersionTwo.{VersionTwo}
-use Rattle.ods_tree.proofs.Short.{attr, cyc, cyc_with, group}
-use Rattle.ods_tree.proofs.Versions.{version, timed, design_of_two, millisecond_object}
+use Rattle.ods_tree.proofs.Shared.Short.{attr, cyc, cyc_with, group}
+use Rattle.ods_tree.proofs.Shared.Versions.{version, timed, design_of_two, millisecond_object}
 use Rattle.design_rules.specs.Broken.{V01, V11, V15Threads, V17Tick, V17Priorities, V17}
 use Rattle.design_rules.specs.Versions.{version_faults}
 use Rattle.design_rules.specs.Clashes.{clashes}
@@ -23,7 +23,7 @@ use Rattle.design_rules.specs.Rings.{operation_calls, CallsOp, IsOnCallRing, Cal
 use Rattle.design_rules.specs.Rings.{StartsThread, IsOnStartRing}
 use Rattle.design_rules.specs.Rules.{Version, Number, IsFirstBroken}
 use Rattle.design_rules.specs.Budgets.{thread_limit, bad_sizes}
-use Rattle.design_rules.proofs.Rows.{before_rings, after_rings, first, none_before}
+use Rattle.design_rules.proofs.Shared.Rows.{before_rings, after_rings, first, none_before}
 use Rattle.design_rules.proofs.Nested.{Steps, step-between}
 use Rattle.ada_tree.specs.Words.{is_ada_name}
 

@@ -6,7 +6,7 @@ use Rattle.seq_tree.specs.Variables.{Variables}
 use Rattle.seq_tree.specs.declared.tree.OpName.{OpName}
 use Rattle.seq_tree.specs.Runs as ru
 use Rattle.seq_tree.specs.Runs.{Path, silent}
-use Rattle.ods_tree.proofs.Mine.{mine}
+use Rattle.ods_tree.proofs.Shared.Mine.{mine}
 use Rattle.guarantee.specs.Events as ev
 use Rattle.guarantee.specs.Events.{Event}
 use Rattle.guarantee.specs.Software.{software}

@@ -14,7 +14,7 @@ use Rattle.seq_tree.specs.declared.tree.Mode.TheVariants.{Out}
 use Rattle.seq_tree.specs.declared.tree.OpName.{OpName}
 use Rattle.ada_tree.specs.Programs as form
 use Rattle.ods_tree.specs.Flats.{Guarded, Cyclic, Sporadic, Thread}
-use Rattle.ods_tree.proofs.Short.{row_costs, block, cyc, cyc_at, pro, several, call}
+use Rattle.ods_tree.proofs.Shared.Short.{row_costs, block, cyc, cyc_at, pro, several, call}
 use Rattle.guarantee.specs.Software.{Task, Software}
 use Rattle.guarantee.specs.Events.{Deed, Arrive, Release, Enter, Leave, Print, Stop, By, Horizon}
 use Rattle.guarantee.specs.Events as events

@@ -7,7 +7,7 @@ use Rattle.seq_tree.specs.Statements.{Call, Work}
 use Rattle.seq_tree.specs.Runs.{Action, Path, silent}
 use Rattle.seq_tree.specs.Runs as runs
 use Rattle.ods_tree.specs.Designs.{Design}
-use Rattle.ods_tree.proofs.Short.{cyc, spo, several}
+use Rattle.ods_tree.proofs.Shared.Short.{cyc, spo, several}
 use Rattle.guarantee.specs.Software.{Task, Software, software}
 use Rattle.guarantee.specs.Events.{Deed, Release, Request, End, Event, By, Horizon}
 use Rattle.guarantee.specs.Arrivals.{Arrivals, KeepsSeparations}

@@ -9,7 +9,7 @@ use Rattle.seq_tree.specs.Runs as runs
 use Rattle.seq_tree.specs.declared.tree.OpName.{OpName}
 use Rattle.ods_tree.specs.Designs.{Design}
 use Rattle.ods_tree.specs.Flattening.{flat}
-use Rattle.ods_tree.proofs.Short.{block, cyc, cyc_at, spo, pro, several, call, v_in}
+use Rattle.ods_tree.proofs.Shared.Short.{block, cyc, cyc_at, spo, pro, several, call, v_in}
 use Rattle.ods_tree.specs.Flats.{Cyclic, Sporadic, period_of}
 use Rattle.ada_tree.specs.Programs.{Program}
 use Rattle.rt_response.specs.declared.rows.ThreadRow.{ThreadRow}

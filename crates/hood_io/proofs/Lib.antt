@@ -1,5 +1,5 @@
-pub mod Appending
 mod CauseExamples
 pub mod Fronts
 pub mod LastWords
+pub mod Shared
 mod Places

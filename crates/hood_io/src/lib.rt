@@ -6,6 +6,10 @@
 //! `ErrSink` are the system's files, standard output and standard error, and tell only how many
 //! faults there were. The two sinks are one `StreamSink`, whose `write` says beyond that what a
 //! stream was given that tells its bytes. `given_words` are the words of the command line.
+//!
+//! Other crates may cite these proofs of it (`proofs/Shared`):
+//!
+//! - `Appending`: appending one piece after another: what a chain of writes appends, and where it stopped.
 #![tactic(auto)]
 
 mod arguments;

@@ -4,19 +4,19 @@ use Rattle.ods_tree.specs.Designs as designs
 use Rattle.ada_tree.specs.Rules.{MeetsRules}
 use Rattle.arrivals_tree.specs.Arriving as arrived
 use Rattle.arrivals_read.specs.Answers as arriving
-use Rattle.arrivals_read.proofs.Refusals.{one-arrivals, one-refusal, refused-nothing}
+use Rattle.arrivals_read.proofs.Shared.Refusals.{one-arrivals, one-refusal, refused-nothing}
 use Rattle.guarantee.specs.Arrivals.{named_arrivals}
 use Rattle.guarantee.specs.Programs.{program}
 use Rattle.guarantee.specs.Software.{software}
-use Rattle.guarantee.proofs.Same.{program-software}
-use Rattle.design_programs.proofs.ReadablePrograms.{program-readable}
-use Rattle.clear_programs.proofs.Clear.{clear}
-use Rattle.plain_names.proofs.Names.{design-plain}
-use Rattle.trace_lines.specs.Told.{HasPlainNames}
-use Rattle.trace_laws.specs.Clear.{IsClear}
-use Rattle.trace_laws.proofs.Judging.{one-verdict}
-use Rattle.trace_laws.specs.Verdicts as verdict
-use Rattle.trace_laws.specs.Verdicts.{Verdict, IsVerdict}
+use Rattle.guarantee.proofs.Shared.Same.{program-software}
+use Rattle.law_designs.proofs.Shared.ReadablePrograms.{program-readable}
+use Rattle.law_clear_programs.proofs.Shared.Clear.{clear}
+use Rattle.law_plain_names.proofs.Shared.Names.{design-plain}
+use Rattle.law_trace_lines.specs.Told.{HasPlainNames}
+use Rattle.law_traces.specs.Clear.{IsClear}
+use Rattle.law_traces.proofs.Shared.Judging.{one-verdict}
+use Rattle.law_traces.specs.Verdicts as verdict
+use Rattle.law_traces.specs.Verdicts.{Verdict, IsVerdict}
 use Rattle.design_accepts.specs.Answers.{refusal_verdict}
 use Rattle.design_accepts.specs.declared.unaccepted.Unaccepted.{Unaccepted}
 use Rattle.design_accepts.specs.declared.unaccepted.Unaccepted.TheVariants as why

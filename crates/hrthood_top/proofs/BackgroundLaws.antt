@@ -13,7 +13,7 @@ use Rattle.seq_tree.specs.Names.{Name}
 use Rattle.background_designs.specs.Misfits as misfits
 use Rattle.background_designs.specs.Programs.{background_text, hard_rows}
 use Rattle.background_designs.specs.Refusals.{Breaks, Misfits, IsBackgroundDesign, IsFirstFault}
-use Rattle.background_laws.proofs.FirstFaults.{one_fault, no_fault}
+use Rattle.law_backgrounds.proofs.Shared.FirstFaults.{one_fault, no_fault}
 use Rattle.background.specs.Told.{misfit_of}
 use Rattle.background.specs.Rows.{hard_name}
 use Rattle.background.specs.Delivers.{IsBackgroundOf, IsToldFirst, IsMissedInBackground, IsLongInBackground, IsRefusedInBackground}

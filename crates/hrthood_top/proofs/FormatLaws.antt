@@ -3,7 +3,7 @@ use Rattle.std.proofs.Common.{◌≡◌, ℕ, ◌≤◌, List, length, subst, sy
 use Rattle.ods_tree.specs.Designs as designs
 use Rattle.ods_tree.specs.Layout.{design_text}
 use Rattle.ods_tree.specs.Reading.{Reads}
-use Rattle.ods_print.proofs.Again.{reads-again}
+use Rattle.ods_print.proofs.Shared.Again.{reads-again}
 use Rattle.hrthood_top.specs.declared.file_kind.FileKind.TheVariants.{Design}
 use Rattle.hrthood_top.specs.declared.format.FormatRefusal.{FormatRefusal}
 use Rattle.hrthood_top.specs.declared.format.FormatRefusal.TheVariants.{Text}

@@ -4,7 +4,7 @@ use Rattle.std.proofs.Common.{ap, subst, ◌∙◌, append_assoc, append-nil, ar
 use Rattle.std.proofs.lemmas.List.{drop_all}
 use Rattle.seq_tree.specs.Lists.{Each}
 use Rattle.hood_io.specs.Causes.{HasCause}
-use Rattle.hood_io.proofs.Appending.{appends-none, appends-twice, puts-behind, puts-stopped}
+use Rattle.hood_io.proofs.Shared.Appending.{appends-none, appends-twice, puts-behind, puts-stopped}
 use Rattle.ada_tree.specs.Programs.{Program}
 use Rattle.trace_tree.specs.declared.event.Event.{Event}
 use Rattle.trace_tree.specs.Lines.{line, lines}

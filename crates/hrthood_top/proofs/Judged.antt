@@ -8,7 +8,7 @@ use Rattle.arrivals_tree.specs.Arrived.{Arrives, horizon_limit}
 use Rattle.guarantee.specs.Arrivals.{named_arrivals}
 use Rattle.guarantee.specs.Programs.{program}
 use Rattle.guarantee.specs.Software.{software}
-use Rattle.trace_laws.specs.Verdicts.{Verdict, Accepted, IsVerdict}
+use Rattle.law_traces.specs.Verdicts.{Verdict, Accepted, IsVerdict}
 use Rattle.design_accepts.specs.Answers.{refusal_verdict}
 use Rattle.design_accepts.specs.declared.unaccepted.Unaccepted.{Unaccepted}
 use Rattle.design_accepts.specs.declared.unaccepted.Unaccepted.TheVariants as why

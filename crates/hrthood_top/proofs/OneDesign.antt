@@ -2,7 +2,7 @@
 use Rattle.std.proofs.Common.{◌≡◌, ℕ, List, Option, Some, None, subst}
 use Rattle.ods_tree.specs.Designs as designs
 use Rattle.ods_tree.specs.Reading.{Reads}
-pub use Rattle.ods_read.proofs.OneReading.{one-design, no-fault, one-fault}
+pub use Rattle.ods_read.proofs.Shared.OneReading.{one-design, no-fault, one-fault}
 use Rattle.design_rules.specs.Broken.{Broken}
 use Rattle.design_rules.specs.Rules.{MeetsRules}
 use Rattle.ods_index.specs.Told.{told_of}

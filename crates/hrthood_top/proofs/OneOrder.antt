@@ -5,20 +5,20 @@ use Rattle.ods_tree.specs.Designs.{Design}
 use Rattle.ods_tree.specs.Flats.{Flat}
 use Rattle.ods_tree.specs.Flattening.{flat}
 use Rattle.ods_tree.specs.Ticks.{in_ticks, first_priority}
-use Rattle.ods_tree.proofs.TickLaws.{ticks-first}
+use Rattle.ods_tree.proofs.Shared.TickLaws.{ticks-first}
 use Rattle.rt_response.specs.Response.{Fits, IsLeastVector}
 use Rattle.rt_response.specs.declared.rows.Bound.{Bound}
 use Rattle.analysis.specs.Priorities.{priorities_of}
 use Rattle.analysis.specs.Sound.{IsSound}
 use Rattle.analysis.specs.Tables.{table, table_for}
 use Rattle.design_bounds.specs.Rows.{named_bounds, ceiling_rows, named_bounds_by, ceiling_rows_by}
-use Rattle.design_programs.proofs.TabledPrograms as tabled
-use Rattle.order_laws.specs.Orders.{Passes, priority_in, priorities_by}
-use Rattle.order_laws.proofs.DeadlineFound.{deadline-found}
-use Rattle.order_laws.proofs.DeadlineOrders.{deadline-order, priority-there}
-use Rattle.order_laws.proofs.OrderPlaces.{order-has}
-use Rattle.order_laws.proofs.OrderRows.{priorities-long, priority-at, priority-of}
-use Rattle.priority_search.proofs.OneAnswer.{lists-same}
+use Rattle.law_designs.proofs.Shared.TabledPrograms as tabled
+use Rattle.law_orders.specs.Orders.{Passes, priority_in, priorities_by}
+use Rattle.law_orders.proofs.Shared.DeadlineFound.{deadline-found}
+use Rattle.law_orders.proofs.Shared.DeadlineOrders.{deadline-order, priority-there}
+use Rattle.law_orders.proofs.Shared.OrderPlaces.{order-has}
+use Rattle.law_orders.proofs.Shared.OrderRows.{priorities-long, priority-at, priority-of}
+use Rattle.priority_search.proofs.Shared.OneAnswer.{lists-same}
 use Rattle.hrthood_top.specs.Analyses.{report}
 use Rattle.hrthood_top.specs.DeadlineReports.{WritesByDeadline, WritesAsAnalysed}
 use Rattle.hrthood_top.specs.Searches.{IsOrdered}

@@ -1,7 +1,7 @@
 -- That bytes have at most one fault, as an Ada text.
 use Rattle.std.proofs.Common.{◌≡◌, ℕ, zero, suc, ◌<◌, List, refl, ap, arith}
 use Rattle.seq_tree.specs.declared.text_fault.TextFault.{TextFault}
-use Rattle.seq_read.proofs.TextFaultLaws.{one-text-fault}
+use Rattle.seq_read.proofs.Shared.TextFaultLaws.{one-text-fault}
 use Rattle.ada_read.specs.Answers as ada
 
 -- two numbers, neither of which is below the other

@@ -4,7 +4,7 @@ use Rattle.std.proofs.Common.{◌∙◌, arith, append_assoc, length-append, dro
 use Rattle.std.proofs.lemmas.List.{take-append-le, drop_all}
 use Rattle.std.proofs.Math.Seq.{take-append-add}
 use Rattle.hood_io.specs.Sinks.{Appends, Puts}
-use Rattle.hood_io.proofs.Appending.{appends-twice}
+use Rattle.hood_io.proofs.Shared.Appending.{appends-twice}
 use Rattle.hrthood_top.specs.Messages.{joined}
 
 -- a front of a text is written, and this is left of it

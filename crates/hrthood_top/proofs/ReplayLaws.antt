@@ -11,16 +11,16 @@ use Rattle.ada_rules.specs.Verdicts as verdicts
 use Rattle.ada_rules.specs.declared.verdict.AdaRule.{AdaRule}
 use Rattle.ada_rules.specs.declared.verdict.RuleBreak.TheVariants as told
 use Rattle.ada_read.specs.Answers.{Breaks}
-use Rattle.ada_read.proofs.ReadingLaws.{reads-unfaulty, accepts-unbroken}
+use Rattle.ada_read.proofs.Shared.ReadingLaws.{reads-unfaulty, accepts-unbroken}
 use Rattle.arrivals_tree.specs.Arriving.{Arrivals}
 use Rattle.arrivals_tree.specs.Arrived.{Arrives, horizon_limit}
 use Rattle.arrivals_read.specs.Answers as arriving
 use Rattle.arrivals_read.specs.declared.fault.ArrivalFault.{ArrivalFault}
-use Rattle.arrivals_read.proofs.Refusals.{refused-nothing, one-refusal}
+use Rattle.arrivals_read.proofs.Shared.Refusals.{refused-nothing, one-refusal}
 use Rattle.trace_tree.specs.declared.event.Event.{Event}
 use Rattle.machine.specs.Meanings.{Meaning, start}
 use Rattle.machine.specs.Systems.{system}
-use Rattle.machine.proofs.RunLaws.{Rest-unique}
+use Rattle.machine.proofs.Shared.RunLaws.{Rest-unique}
 use Rattle.hrthood_top.specs.declared.file_kind.FileKind.TheVariants as kind
 use Rattle.hrthood_top.specs.declared.replay.ReplayRefusal.{ReplayRefusal}
 use Rattle.hrthood_top.specs.declared.replay.ReplayRefusal.TheVariants as refusal

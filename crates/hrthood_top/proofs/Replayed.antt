@@ -6,7 +6,7 @@ use Rattle.arrivals_tree.specs.Arriving.{Arrivals}
 use Rattle.arrivals_tree.specs.Arrived.{horizon_limit}
 use Rattle.ada_tree.specs.Programs.{Program}
 use Rattle.ceil_runtime.specs.Replayable.{IsReplayable}
-use Rattle.ceiling_locking.proofs.Programs.{exclusive}
+use Rattle.law_ceilings.proofs.Shared.Programs.{exclusive}
 use Rattle.trace_tree.specs.declared.event.Event.{Event}
 use Rattle.trace_tree.specs.Lines.{lines}
 use Rattle.hood_io.specs.Causes.{HasCause}

@@ -20,9 +20,9 @@ use Rattle.machine.specs.Releases.{Next, release_task, release, is_waiting, serv
 use Rattle.machine.specs.Steps.{goes_to, effect_of, effect_at, effect_step, is_due, delay_step, horizon_step, arrive_at, arrival_step, use_step}
 use Rattle.machine.specs.Steps.{step_in, step}
 use Rattle.machine.specs.Meanings.{run, Meaning}
-use Rattle.machine.proofs.RunLaws.{stopped_stays}
-use Rattle.program_calls.proofs.Lists.{each-append}
-use Rattle.ceiling_locking.specs.Ceilings.{GoesOn}
+use Rattle.machine.proofs.Shared.RunLaws.{stopped_stays}
+use Rattle.law_calls.proofs.Shared.Lists.{each-append}
+use Rattle.law_ceilings.specs.Ceilings.{GoesOn}
 use Rattle.hrthood_top.specs.Violations.{RunsOut, EndsAt, Violation}
 
 -- a step that tells a stop alone, behind which the run has stopped

@@ -8,11 +8,11 @@ use Rattle.ods_tree.specs.Ticks.{in_ticks}
 use Rattle.rt_response.specs.declared.rows.Miss as rows
 use Rattle.analysis.specs.Sound.{IsSound}
 use Rattle.analysis.specs.Tables.{table}
-use Rattle.design_programs.proofs.SoundDesigns.{flat-sound}
+use Rattle.law_designs.proofs.Shared.SoundDesigns.{flat-sound}
 use Rattle.design_bounds.specs.Analyses.{IsMissed}
 use Rattle.design_bounds.specs.Rows.{name_of_row}
-use Rattle.scaling_laws.specs.Scaling.{scaled}
-use Rattle.scaling_laws.specs.Holding.{Holds}
+use Rattle.law_scaling.specs.Scaling.{scaled}
+use Rattle.law_scaling.specs.Holding.{Holds}
 use Rattle.scaling.specs.Margins.{IsMargin, HasNoMargin}
 use Rattle.scaling.specs.declared.margin.Margin.{Margin}
 use Rattle.scaling.specs.declared.margin.Next.TheVariants as next

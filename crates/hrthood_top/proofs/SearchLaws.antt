@@ -7,10 +7,10 @@ use Rattle.ods_tree.specs.Flats.{Flat}
 use Rattle.ods_tree.specs.Flattening.{flat}
 use Rattle.ods_tree.specs.Ticks.{in_ticks}
 use Rattle.design_rules.specs.Rules.{AreMet}
-use Rattle.design_programs.proofs.SoundDesigns.{flat-sound}
+use Rattle.law_designs.proofs.Shared.SoundDesigns.{flat-sound}
 use Rattle.analysis.specs.Sound.{IsSound}
-use Rattle.order_laws.specs.Orders.{is_internal, AllExternal}
-use Rattle.priority_search.proofs.OneAnswer.{one-refuted}
+use Rattle.law_orders.specs.Orders.{is_internal, AllExternal}
+use Rattle.priority_search.proofs.Shared.OneAnswer.{one-refuted}
 use Rattle.hrthood_top.specs.declared.file_kind.FileKind.TheVariants.{Design}
 use Rattle.hrthood_top.specs.declared.check.CheckRefusal.{CheckRefusal}
 use Rattle.hrthood_top.specs.declared.search.SearchRefusal.{SearchRefusal}

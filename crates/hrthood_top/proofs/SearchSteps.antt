@@ -1,5 +1,6 @@
 -- The lines of an order that was found, names of threads, and what is written of them.
-use Rattle.std.proofs.Common.{◌≡◌, ℕ, suc, ◌+◌, ◌<◌, ◌≤◌, List, [], ◌∷◌, ◌++◌, Bool, true, false, cond, codes, length, map, take, drop, get_or, Option, Some, Result}
+use Rattle.std.proofs.Common.{◌≡◌, ℕ, suc, ◌+◌, ◌<◌, ◌≤◌, List, [], ◌∷◌, ◌++◌, Bool, true, false, cond, codes, length, map, take, drop, get_or}
+use Rattle.std.proofs.Common.{Option, Some, Result}
 use Rattle.std.proofs.Common.{None, Bor, ◌==◌, refl, sym, ap, subst, ◌∙◌, arith, drop-cons, add-one, append-nil, slice_get, option_map}
 use Rattle.std.specs.Slice.{IsItemAt}
 use Rattle.std.proofs.lemmas.List.{drop_all}
@@ -8,17 +9,17 @@ use Rattle.std.specs.List.{position_from, range_with_len}
 use Rattle.seq_tree.specs.Lists.{Each}
 use Rattle.seq_tree.specs.Names.{Name}
 use Rattle.hood_io.specs.Sinks.{Appends, Puts}
-use Rattle.hood_io.proofs.Appending.{appends-none}
+use Rattle.hood_io.proofs.Shared.Appending.{appends-none}
 use Rattle.ods_tree.specs.Flats.{Flat, Thread}
 use Rattle.rt_response.specs.declared.rows.Bound.{Bound}
 use Rattle.rt_response.specs.declared.rows.ThreadRow.{ThreadRow}
 use Rattle.analysis.specs.Ceilings.{Ranks, ranks_for}
 use Rattle.analysis.specs.Sound.{IsSound}
 use Rattle.analysis.specs.Tables.{ThreadTable, table_for}
-use Rattle.order_laws.specs.Orders.{IsOrder, priority_in, priorities_by, ranks_by, rows_by}
-use Rattle.order_laws.proofs.OrderRows.{places-are}
-use Rattle.design_bounds.proofs.RowLaws.{there, not-there}
-use Rattle.priority_search.proofs.NextSteps.{order-few}
+use Rattle.law_orders.specs.Orders.{IsOrder, priority_in, priorities_by, ranks_by, rows_by}
+use Rattle.law_orders.proofs.Shared.OrderRows.{places-are}
+use Rattle.design_bounds.proofs.Shared.RowLaws.{there, not-there}
+use Rattle.priority_search.proofs.Shared.NextSteps.{order-few}
 use Rattle.trace_text.specs.declared.bound.NamedBound.{NamedBound}
 use Rattle.design_bounds.specs.declared.rows.CeilingRow.{CeilingRow}
 use Rattle.design_bounds.specs.Rows.{named_bounds_by, ceiling_rows_by}

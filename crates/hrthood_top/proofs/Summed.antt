@@ -10,7 +10,7 @@ use Rattle.arrivals_tree.specs.Arriving.{Arrivals}
 use Rattle.arrivals_tree.specs.Arrived.{Arrives, horizon_limit}
 use Rattle.arrivals_read.specs.Answers as arriving
 use Rattle.arrivals_read.specs.declared.fault.ArrivalFault.{ArrivalFault}
-use Rattle.arrivals_read.proofs.Refusals.{refused-nothing}
+use Rattle.arrivals_read.proofs.Shared.Refusals.{refused-nothing}
 use Rattle.guarantee.specs.Programs.{program}
 use Rattle.bridge.specs.Delivers.{IsDelivered, IsTextFor}
 use Rattle.bridge.specs.declared.delivery.Delivery.{Delivery}
@@ -25,8 +25,8 @@ use Rattle.trace_text.specs.Summaries.{summary}
 use Rattle.trace_text.specs.Tallies.{IsBelow, Tallies, tallies, tallies_from}
 use Rattle.sample_design.specs.Requests.{sample_arrivals}
 use Rattle.sample_design.specs.Samples.{sample_design}
-use Rattle.sample_laws.specs.Laws.{IsValid, sample_bounds}
-use Rattle.sample_laws.proofs.Valid.{sample-valid}
+use Rattle.law_samples.specs.Laws.{IsValid, sample_bounds}
+use Rattle.law_samples.proofs.Shared.Valid.{sample-valid}
 use Rattle.hrthood_top.specs.declared.status.Status.{Status}
 use Rattle.hrthood_top.specs.declared.status.Status.TheVariants as status
 use Rattle.hrthood_top.specs.Ends.{EndsVerb, outside}

@@ -5,7 +5,7 @@ use Rattle.std.specs.List.{list_any}
 use Rattle.std.proofs.lemmas.Bool.{or_parts}
 use Rattle.std.proofs.lemmas.List.Concat.{flat_map-append}
 use Rattle.hood_io.specs.Sinks.{Appends}
-use Rattle.hood_io.proofs.Appending.{appends-twice, puts-behind}
+use Rattle.hood_io.proofs.Shared.Appending.{appends-twice, puts-behind}
 use Rattle.ada_tree.specs.Programs.{Program}
 use Rattle.ada_tree.specs.Rules.{MeetsRules}
 use Rattle.trace_tree.specs.declared.event.Event.{Event}
@@ -14,13 +14,13 @@ use Rattle.trace_tree.specs.Lines.{line, lines, unit_name}
 use Rattle.arrivals_tree.specs.Arriving.{Arrivals}
 use Rattle.machine.specs.Meanings.{Running, Rest, Tells}
 use Rattle.machine.specs.Systems.{System, system}
-use Rattle.activations.proofs.Halts.{readable_goes_on}
+use Rattle.law_tasks.proofs.Shared.Halts.{readable_goes_on}
 use Rattle.ceil_runtime.specs.declared.processor.Machine.{Machine}
 use Rattle.ceil_runtime.specs.Shown.{IsWhole, running_of}
-use Rattle.ceil_runtime.proofs.Standing.{within-horizon, before-horizon}
+use Rattle.ceil_runtime.proofs.Shared.Standing.{within-horizon, before-horizon}
 use Rattle.ceil_runtime.specs.Turns.{EndsWith, is_last}
-use Rattle.ceiling_locking.specs.Ceilings.{GoesOn}
-use Rattle.program_calls.proofs.Lists.{each-append}
+use Rattle.law_ceilings.specs.Ceilings.{GoesOn}
+use Rattle.law_calls.proofs.Shared.Lists.{each-append}
 use Rattle.seq_tree.specs.Lists.{Each}
 use Rattle.trace_tree.specs.Placed.{IsPlaced, IsUnit}
 use Rattle.hrthood_top.specs.declared.violation.Violation as values

@@ -7,14 +7,14 @@ use Rattle.ods_tree.specs.Proper.{IsProperDesign}
 use Rattle.ods_tree.specs.Ticks.{in_ticks}
 use Rattle.ods_tree.specs.Words.{is_design_name}
 use Rattle.design_rules.specs.Rules.{MeetsRules}
-use Rattle.design_programs.proofs.ReadablePrograms.{program-readable}
-use Rattle.design_programs.proofs.SoundDesigns.{flat-sound, flat-spaced}
-use Rattle.design_programs.proofs.TabledTasks.{sound-tabled}
-use Rattle.ceiling_locking.proofs.Ceiled.{is-ceiled}
-use Rattle.ceiling_locking.proofs.Stopping.{rest-goes-on}
+use Rattle.law_designs.proofs.Shared.ReadablePrograms.{program-readable}
+use Rattle.law_designs.proofs.Shared.SoundDesigns.{flat-sound, flat-spaced}
+use Rattle.law_designs.proofs.Shared.TabledTasks.{sound-tabled}
+use Rattle.law_ceilings.proofs.Shared.Ceiled.{is-ceiled}
+use Rattle.law_ceilings.proofs.Shared.Stopping.{rest-goes-on}
 use Rattle.ada_tree.specs.Programs.{Program}
 use Rattle.ada_read.specs.Answers.{Faults}
-use Rattle.ada_read.proofs.ReadingLaws.{reads-unfaulty}
+use Rattle.ada_read.proofs.Shared.ReadingLaws.{reads-unfaulty}
 use Rattle.arrivals_tree.specs.Arriving.{Arrivals}
 use Rattle.arrivals_tree.specs.Arrived.{Arrives, horizon_limit}
 use Rattle.arrivals_read.specs.Answers as arriving
@@ -24,7 +24,7 @@ use Rattle.guarantee.specs.Programs.{program}
 use Rattle.bridge.specs.Delivers.{IsTextFor}
 use Rattle.hood_io.specs.Causes.{HasCause}
 use Rattle.hood_io.specs.Sinks.{Appends}
-use Rattle.hood_io.proofs.Appending.{appends-twice, puts-behind}
+use Rattle.hood_io.proofs.Shared.Appending.{appends-twice, puts-behind}
 use Rattle.machine.specs.Meanings.{Running, Tells, Meaning, begun}
 use Rattle.machine.specs.Systems.{system}
 use Rattle.trace_tree.specs.declared.event.Event.{Event}

@@ -10,10 +10,10 @@ use Rattle.guarantee.specs.Arrivals.{named_arrivals}
 use Rattle.guarantee.specs.Events.{named}
 use Rattle.guarantee.specs.Programs.{program}
 use Rattle.guarantee.specs.Software.{software}
-use Rattle.trace_lines.specs.Told.{IsEvent}
+use Rattle.law_trace_lines.specs.Told.{IsEvent}
 use Rattle.hrthood_top.specs.Acceptances.{IsAcceptedSo, yes_line}
 use Rattle.hrthood_top.specs.Verifies.{IsVerified}
-use Rattle.laws.proofs.RightReplays.{right-replay}
+use Rattle.law_two_runs.proofs.Shared.RightReplays.{right-replay}
 use Rattle.hrthood_top.proofs.Replaying.{accepted_text}
 
 pub verified-accepted : (design arrivals written : List ℕ) (w : IsVerified design arrivals written)

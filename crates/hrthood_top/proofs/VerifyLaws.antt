@@ -9,7 +9,7 @@ use Rattle.ada_tree.specs.Programs.{Program}
 use Rattle.ada_tree.specs.Reading.{Accepts}
 use Rattle.arrivals_tree.specs.Arrived.{Arrives, horizon_limit}
 use Rattle.arrivals_read.specs.Answers as arriving
-use Rattle.arrivals_read.proofs.Refusals.{refused-nothing}
+use Rattle.arrivals_read.proofs.Shared.Refusals.{refused-nothing}
 use Rattle.guarantee.specs.Programs.{program, text}
 use Rattle.bridge.specs.Delivers.{IsTextFor}
 use Rattle.hrthood_top.specs.declared.file_kind.FileKind.TheVariants as kind

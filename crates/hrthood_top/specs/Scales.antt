@@ -11,7 +11,7 @@ use Rattle.design_rules.specs.Rules.{MeetsRules}
 use Rattle.ods_index.specs.Told.{told_of}
 use Rattle.rt_response.specs.declared.rows.Miss as rows
 use Rattle.bridge.specs.Delivers.{BreaksRule}
-use Rattle.scaling_laws.specs.Holding.{Holds}
+use Rattle.law_scaling.specs.Holding.{Holds}
 use Rattle.scaling.specs.Margins.{IsMargin, HasNoMargin}
 use Rattle.scaling.specs.declared.margin.Margin.{Margin}
 use Rattle.scaling.specs.declared.margin.Next.{Next}

@@ -10,7 +10,7 @@ use Rattle.ods_tree.specs.Ticks.{first_priority}
 use Rattle.rt_response.specs.Response.{IsLeastVector}
 use Rattle.rt_response.specs.declared.rows.Bound.{Bound}
 use Rattle.design_bounds.specs.Rows.{named_bounds_by, ceiling_rows_by}
-use Rattle.order_laws.specs.Orders.{is_internal, AllExternal, IsOrder, priorities_by, rows_by, Passes, IsFilled}
+use Rattle.law_orders.specs.Orders.{is_internal, AllExternal, IsOrder, priorities_by, rows_by, Passes, IsFilled}
 use Rattle.priority_search.specs.Searches.{IsRefuted}
 use Rattle.hrthood_top.specs.declared.file_kind.FileKind.TheVariants.{Design}
 use Rattle.hrthood_top.specs.declared.search.SearchRefusal.{SearchRefusal}

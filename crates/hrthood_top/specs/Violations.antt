@@ -7,7 +7,7 @@ use Rattle.ada_tree.specs.Programs.{Program}
 use Rattle.trace_tree.specs.declared.event.Event.{Event}
 use Rattle.trace_tree.specs.declared.event.Event.TheVariants.{Stop}
 use Rattle.trace_tree.specs.Lines.{unit_name}
-use Rattle.ceiling_locking.specs.Ceilings.{GoesOn}
+use Rattle.law_ceilings.specs.Ceilings.{GoesOn}
 
 -- what is told has no stop, so that its run came to the horizon
 abbrev pub RunsOut : List Event → Type 0

@@ -39,7 +39,7 @@ fn put_lines<O: Sink>(
 }
 
 /// The name of the unit at a place.
-#[tactic(auto, using(trace_text::proofs::Names::read_steps))]
+#[tactic(auto, using(trace_text::proofs::Shared::Names::read_steps))]
 fn name_at(program: &AdaProgram, unit: u32) -> &Name
     requires { unit < length (program_of program.now).units }
     ensures { result.now ≡ unit_name (program_of program.now) unit }

@@ -11,7 +11,7 @@ use Rattle.link_queue.specs.declared.table.Slot.{Slot}
 use Rattle.link_queue.specs.declared.table.Place.{Place}
 use Rattle.link_queue.specs.declared.table.Place.TheVariants.{Ready, Asleep}
 use Rattle.link_queue.specs.declared.table.Rank.TheVariants.{Tail, Head, Wake}
-use Rattle.link_queue.proofs.Lists.{each-map, each-both, each-taken, distinct-put, ranked-tail, ranked-head, in_order-time}
+use Rattle.link_queue.proofs.Shared.Lists.{each-map, each-both, each-taken, distinct-put, ranked-tail, ranked-head, in_order-time}
 use Rattle.std.proofs.lemmas.Option.{none-some, same_Some, slice_get-get_or, slice_get_within, get_or_from_slice_get}
 use Rattle.link_queue.proofs.Linking.{slot, get-set_same, get-set_other, leads-same, apart-by_kind, apart-kinds, table-queues, table-seen}
 use Rattle.link_queue.proofs.Linking.{table-sound}

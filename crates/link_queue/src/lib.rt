@@ -11,6 +11,10 @@
 //!
 //! Both lists go through one table with a slot for each task, linked by index. So no call but `Links::new` takes memory, and the first
 //! task of each list is found without a search.
+//!
+//! Other crates may cite these proofs of it (`proofs/Shared`):
+//!
+//! - `Lists`: lists of entries: what holds of each, their order, and what is put behind others.
 #![tactic(auto)]
 
 mod links;

@@ -1,5 +1,5 @@
+pub mod Shared
 mod Worked
 mod Mine
 mod RunCases
 mod StepCases
-pub mod RunLaws

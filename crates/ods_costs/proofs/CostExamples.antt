@@ -7,12 +7,12 @@ use Rattle.ods_tree.specs.Designs.{Tree}
 use Rattle.ods_tree.specs.Services.{Plain, Request}
 use Rattle.ods_tree.specs.Walk.{objects, own_of}
 use Rattle.ods_tree.specs.declared.design.Kind.TheVariants as kind
-use Rattle.ods_tree.proofs.Short.{block, call, pas, design, row_costs}
+use Rattle.ods_tree.proofs.Shared.Short.{block, call, pas, design, row_costs}
 use Rattle.design_rules.specs.Broken.{V14, V15Cost}
 use Rattle.ods_costs.specs.Costed.{block_in, cap, costed_block, costed_named, costed_ops, dear_parts, gives_operations, gives_request}
 use Rattle.ods_costs.specs.Costed.{meant, over_budgets, price, priced, request_in, served_ops, served_part, threads_among}
 use Rattle.ods_costs.specs.declared.services.Part.TheVariants as part
-use Rattle.ods_index.proofs.SmallDesign.{f, g, go, by_root, passive, guarded, cyclic, sporadic, x, alone, parent}
+use Rattle.ods_index.proofs.Shared.SmallDesign.{f, g, go, by_root, passive, guarded, cyclic, sporadic, x, alone, parent}
 
 -- the operations that may be called: not that of the root, which has children; a request has no block
 ops : costed_ops x

@@ -11,8 +11,8 @@ use Rattle.seq_tree.specs.Calls.{same_op, block_calls}
 use Rattle.seq_tree.specs.Lists.{Each}
 use Rattle.seq_tree.specs.declared.tree.Costs.{Costs}
 use Rattle.seq_tree.specs.declared.tree.OpName.{OpName}
-use Rattle.seq_cost.proofs.CutCosts.{cap-called}
-use Rattle.seq_cost.proofs.Listed.{block-same, each-all}
+use Rattle.seq_cost.proofs.Shared.CutCosts.{cap-called}
+use Rattle.seq_cost.proofs.Shared.Listed.{block-same, each-all}
 use Rattle.ods_tree.specs.Designs.{Design}
 use Rattle.ods_tree.specs.Links.{renamed, renamed_statement, renamed_branches, resolve, resolved}
 use Rattle.ods_tree.specs.Flattening.{flat}

@@ -15,7 +15,7 @@ use Rattle.ods_tree.specs.Walk.{Standing, is_terminal, objects}
 use Rattle.ods_tree.specs.declared.design.Kind.{Kind}
 use Rattle.ods_tree.specs.declared.design.Kind.TheVariants as kind
 use Rattle.ods_costs.specs.Costed.{Costed, costed, costed_ops, block_in, request_in, served_ops, served_part, gives_operations, gives_request}
-use Rattle.seq_tree.proofs.LoopSteps.{given_first}
+use Rattle.seq_tree.proofs.Shared.LoopSteps.{given_first}
 use Rattle.ods_costs.specs.declared.services.Part.{Part}
 use Rattle.ods_costs.specs.declared.services.Part.TheVariants as part
 

@@ -8,9 +8,9 @@ use Rattle.seq_tree.specs.Dearest.{cost}
 use Rattle.seq_tree.specs.Names.{Name}
 use Rattle.seq_tree.specs.Statements.{Statements}
 use Rattle.seq_tree.specs.declared.tree.OpName.{OpName}
-use Rattle.seq_tree.proofs.Walks.{same_op-eq}
-use Rattle.seq_cost.proofs.CutCosts.{cap-called}
-use Rattle.seq_cost.proofs.Listed.{block-same, each-all}
+use Rattle.seq_tree.proofs.Shared.Walks.{same_op-eq}
+use Rattle.seq_cost.proofs.Shared.CutCosts.{cap-called}
+use Rattle.seq_cost.proofs.Shared.Listed.{block-same, each-all}
 use Rattle.name_sets.specs.Tables.{number_at}
 use Rattle.name_sets.specs.declared.op_table.OpTable.{OpTable}
 use Rattle.ods_tree.specs.Designs.{Design}

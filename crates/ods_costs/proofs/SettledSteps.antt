@@ -9,7 +9,7 @@ use Rattle.seq_tree.specs.Dearest.{cost}
 use Rattle.seq_tree.specs.Lists.{Each}
 use Rattle.seq_tree.specs.Statements.{Statements}
 use Rattle.seq_tree.specs.declared.tree.OpName.{OpName}
-use Rattle.seq_tree.proofs.Walks.{same_op-eq}
+use Rattle.seq_tree.proofs.Shared.Walks.{same_op-eq}
 use Rattle.name_sets.specs.Tables.{at, number_at, or_0}
 use Rattle.name_sets.specs.declared.op_table.OpTable.{OpTable}
 use Rattle.ods_tree.specs.Designs.{Design}

@@ -11,7 +11,7 @@ use Rattle.design_rules.specs.Lookups.{has_thread}
 use Rattle.ods_costs.specs.Costed.{dear_parts, threads_among}
 use Rattle.ods_index.specs.Judging.{Tells, head_of}
 use Rattle.ods_index.specs.declared.broken.Broken as code
-use Rattle.ods_index.proofs.TellSteps.{head_later}
+use Rattle.ods_index.proofs.Shared.TellSteps.{head_later}
 
 -- one object more, that runs by a thread
 pub thread-more : (s : Standing) (ss : List Standing) → (is_terminal s && has_thread s.own.kind) ≡ true → length (threads_among (s ∷ ss))

@@ -135,7 +135,7 @@ fn activation_fits<'a>(
 }
 
 /// Tells the first body of an operation of an object that is too dear.
-#[tactic(auto, using(ods_index::proofs::TellSteps::tell_steps))]
+#[tactic(auto, using(ods_index::proofs::Shared::TellSteps::tell_steps))]
 fn bodies_fit<'a>(
     alloc: Global,
     priced: &Priced<'a>,
@@ -152,7 +152,7 @@ fn bodies_fit<'a>(
 }
 
 /// Tells the first part of an object that is too dear: the bodies of its operations, then its thread.
-#[tactic(auto, using(ods_index::proofs::TellSteps::tell_steps))]
+#[tactic(auto, using(ods_index::proofs::Shared::TellSteps::tell_steps))]
 fn parts_fit<'a>(alloc: Global, priced: &Priced<'a>, standing: &Standing<'a>) -> Result<(), Broken>
     ensures { Tells result (head_of (dear_parts (design_of priced.now.links.design.now) (standing_of standing.entry.now))) }
 {
@@ -168,7 +168,7 @@ fn parts_fit<'a>(alloc: Global, priced: &Priced<'a>, standing: &Standing<'a>) ->
 }
 
 /// Tells the first part of these objects that is too dear.
-#[tactic(auto, using(ods_index::proofs::TellSteps::tell_steps))]
+#[tactic(auto, using(ods_index::proofs::Shared::TellSteps::tell_steps))]
 pub(crate) fn costs_fit<'a>(
     alloc: Global,
     priced: &Priced<'a>,
@@ -183,7 +183,7 @@ pub(crate) fn costs_fit<'a>(
 }
 
 /// Tells what is too large of a design, by what its blocks cost: threads, then objects, then the first part that is too dear.
-#[tactic(auto, using(ods_index::proofs::TellSteps::tell_steps))]
+#[tactic(auto, using(ods_index::proofs::Shared::TellSteps::tell_steps))]
 fn sizes_fit<'a>(alloc: Global, index: &Index<'a>, priced: &Priced<'a>) -> Result<(), Broken>
     requires indexed { IsIndex index.now }
     requires few { length (objects (design_of index.now.design.now)) < 4294967296 }

@@ -9,7 +9,7 @@ use Rattle.seq_tree.specs.declared.tree.Arm.{Arm}
 use Rattle.seq_tree.specs.declared.tree.Block.{Block}
 use Rattle.seq_tree.specs.declared.tree.OpName.{OpName}
 use Rattle.seq_tree.specs.declared.tree.Stmt.TheVariants as stmt
-use Rattle.seq_tree.proofs.TreeForms.{if-tree}
+use Rattle.seq_tree.proofs.Shared.TreeForms.{if-tree}
 use Rattle.ods_tree.specs.Links.{renamed, renamed_statement, renamed_branches}
 use Rattle.ods_flat.specs.Renaming.{renamed_arm}
 

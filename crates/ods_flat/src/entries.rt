@@ -111,7 +111,7 @@ fn operations<'a>(alloc: Global, links: &Links<'a>, node: &'a Node) -> Result<Ve
 }
 
 /// A passive object.
-#[tactic(auto, using(ods_index::proofs::WalkSteps::node_steps))]
+#[tactic(auto, using(ods_index::proofs::Shared::WalkSteps::node_steps))]
 fn library<'a>(alloc: Global, links: &Links<'a>, node: &'a Node) -> Result<FlatPassive, NoMemory>
     ensures { IfOk result (λ l. library_of l ≡ library_by (design_of links.now.design.now) (node_object node.entry)) }
 {
@@ -122,7 +122,7 @@ fn library<'a>(alloc: Global, links: &Links<'a>, node: &'a Node) -> Result<FlatP
 }
 
 /// A protected object.
-#[tactic(auto, using(ods_index::proofs::WalkSteps::node_steps))]
+#[tactic(auto, using(ods_index::proofs::Shared::WalkSteps::node_steps))]
 fn guarded<'a>(alloc: Global, links: &Links<'a>, node: &'a Node) -> Result<FlatShared, NoMemory>
     ensures { IfOk result (λ g. guarded_of g ≡ guarded_by (design_of links.now.design.now) (node_object node.entry)) }
 {
@@ -134,7 +134,7 @@ fn guarded<'a>(alloc: Global, links: &Links<'a>, node: &'a Node) -> Result<FlatS
 }
 
 /// The thread of an object, where it has one.
-#[tactic(auto, using(ods_index::proofs::WalkSteps::node_steps))]
+#[tactic(auto, using(ods_index::proofs::Shared::WalkSteps::node_steps))]
 fn thread<'a>(
     alloc: Global,
     links: &Links<'a>,
@@ -158,7 +158,7 @@ fn thread<'a>(
 }
 
 /// Adds an object where it is passive.
-#[tactic(auto, using(ods_index::proofs::WalkSteps::node_steps))]
+#[tactic(auto, using(ods_index::proofs::Shared::WalkSteps::node_steps))]
 fn add_library<'a>(
     alloc: Global,
     links: &Links<'a>,
@@ -181,7 +181,7 @@ fn add_library<'a>(
 }
 
 /// Adds an object where it is protected.
-#[tactic(auto, using(ods_index::proofs::WalkSteps::node_steps))]
+#[tactic(auto, using(ods_index::proofs::Shared::WalkSteps::node_steps))]
 fn add_guarded<'a>(
     alloc: Global,
     links: &Links<'a>,

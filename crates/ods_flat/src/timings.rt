@@ -11,7 +11,7 @@ use seq_tree::{NoMemory, OpSig};
 use std::alloc::Global;
 
 /// The operation by which a sporadic object is requested, where it provides one.
-#[tactic(auto, using(ods_index::proofs::WalkSteps::node_steps))]
+#[tactic(auto, using(ods_index::proofs::Shared::WalkSteps::node_steps))]
 fn request_op<'a>(node: &'a Node) -> Option<&'a OpSig>
     ensures { option_map (λ s. signature_of s.now) result ≡ request_op (node_object node.entry).provides }
 {
@@ -22,7 +22,7 @@ fn request_op<'a>(node: &'a Node) -> Option<&'a OpSig>
 }
 
 /// When a thread is released at requests, where its object provides an operation.
-#[tactic(auto, using(ods_index::proofs::WalkSteps::node_steps))]
+#[tactic(auto, using(ods_index::proofs::Shared::WalkSteps::node_steps))]
 fn sporadic<'a>(alloc: Global, node: &'a Node) -> Result<Option<Timing>, NoMemory>
     ensures { IfOk result (λ t. option_map timing_of t ≡ timing_by Sporadic (node_object node.entry)) }
 {
@@ -42,7 +42,7 @@ fn sporadic<'a>(alloc: Global, node: &'a Node) -> Result<Option<Timing>, NoMemor
 }
 
 /// When the thread of an object is released, where it can be.
-#[tactic(auto, using(ods_index::proofs::WalkSteps::node_steps))]
+#[tactic(auto, using(ods_index::proofs::Shared::WalkSteps::node_steps))]
 pub(crate) fn timing<'a>(alloc: Global, node: &'a Node) -> Result<Option<Timing>, NoMemory>
     ensures { IfOk result (λ t. option_map timing_of t ≡ timing_by (node_object node.entry).kind (node_object node.entry)) }
 {

@@ -6,12 +6,12 @@ use Rattle.ods_index.specs.Judging.{Tells, Judges, IsFirstOffender, IsTold, IsTo
 use Rattle.ods_index.specs.Tables.{place_from}
 use Rattle.std.specs.Prelude.{codes}
 use Rattle.ods_tree.specs.Walk.{own_of}
-use Rattle.ods_tree.proofs.Short.{group}
+use Rattle.ods_tree.proofs.Shared.Short.{group}
 use Rattle.ods_index.specs.Told.{is_memory, told_of}
 use Rattle.ods_index.specs.Walking.{inside}
 use Rattle.ods_index.specs.OpPlaces.{op_place_from, own_ops}
 use Rattle.ods_index.specs.declared.broken.Broken.TheVariants as code
-use Rattle.ods_index.proofs.SmallDesign.{f, g, go, passive}
+use Rattle.ods_index.proofs.Shared.SmallDesign.{f, g, go, passive}
 
 -- of two with one name the first is found, and none of a name that is not there
 first_of_two : place_from 0 (98 ∷ []) ((97 ∷ []) ∷ (98 ∷ []) ∷ (98 ∷ []) ∷ []) ≡ Some 1

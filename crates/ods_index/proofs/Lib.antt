@@ -1,8 +1,4 @@
 mod Examples
-pub mod WalkSteps
-pub mod TableSteps
 pub mod LinkLaws
 pub mod RequiredSteps
-pub mod TellSteps
-pub mod AccountSteps
-pub mod SmallDesign
+pub mod Shared

@@ -3,7 +3,7 @@ use Rattle.std.proofs.Common.{◌≡◌, Bool, true, false, ◌||◌, List, [], 
 use Rattle.std.specs.List.{list_any}
 use Rattle.seq_tree.specs.Calls.{same_op}
 use Rattle.seq_tree.specs.declared.tree.OpName.{OpName}
-use Rattle.seq_tree.proofs.Walks.{same_op-eq}
+use Rattle.seq_tree.proofs.Shared.Walks.{same_op-eq}
 
 equal_sides : (a b : OpName) → a ≡ b → same_op a b ≡ same_op b a
 equal_sides a b e = ap (λ z. same_op z b) e ∙ ap (λ z. same_op b z) (sym e)

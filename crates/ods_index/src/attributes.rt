@@ -44,7 +44,7 @@ pub fn attribute(attrs: &[Attr], key: AttrKey) -> Option<u32>
 }
 
 /// The number of attributes of an object that state this.
-#[tactic(auto, using(crate::proofs::WalkSteps::node_steps))]
+#[tactic(auto, using(crate::proofs::Shared::WalkSteps::node_steps))]
 pub fn attribute_count(node: &Node, key: AttrKey) -> usize
     ensures { result ≡ attribute_count key (object_of node.now) }
 {
@@ -52,7 +52,7 @@ pub fn attribute_count(node: &Node, key: AttrKey) -> usize
 }
 
 /// The value of the first attribute of an object that states this, and 0 where there is none.
-#[tactic(auto, using(crate::proofs::WalkSteps::node_steps))]
+#[tactic(auto, using(crate::proofs::Shared::WalkSteps::node_steps))]
 pub fn attribute_or_0(node: &Node, key: AttrKey) -> u32
     ensures { result ≡ attribute_or 0 key (object_of node.now) }
 {

@@ -84,7 +84,7 @@ pub fn is_protected(kind: Kind) -> bool
 }
 
 /// Whether an object has no children.
-#[tactic(auto, using(crate::proofs::WalkSteps::node_steps))]
+#[tactic(auto, using(crate::proofs::Shared::WalkSteps::node_steps))]
 pub fn is_terminal(node: &Node) -> bool
     ensures { result ≡ is_empty (inside (tree_of node.now)) }
 {
@@ -95,7 +95,7 @@ pub fn is_terminal(node: &Node) -> bool
 }
 
 /// Whether an object is active and has no children.
-#[tactic(auto, using(crate::proofs::WalkSteps::node_steps))]
+#[tactic(auto, using(crate::proofs::Shared::WalkSteps::node_steps))]
 pub fn is_idle_active(standing: &Standing<'_>) -> bool
     ensures { result ≡ (is_terminal (standing_of standing.entry.now) && is_active (standing_of standing.entry.now).own.kind) }
 {

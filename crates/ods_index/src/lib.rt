@@ -2,6 +2,15 @@
 //!
 //! It stands on the designs of `ods_tree`, the rules of `design_rules`, the faults of bodies of `seq_check` and the calls of
 //! `seq_cost`. `Broken` is what is told of a rule that a design breaks; the crates above find it.
+//!
+//! Other crates may cite these proofs of it (`proofs/Shared`):
+//!
+//! - `AccountSteps`: steps of the loops that gather what the calls of a block count.
+//! - `SmallDesign`: a small design for examples: a passive object, a protected one that calls it, a cyclic one that calls both, and a
+//!   sporadic one; the root hands an operation on.
+//! - `TableSteps`: the place that a table has for a name, and what stands there.
+//! - `TellSteps`: what an answer tells, of lists one after another.
+//! - `WalkSteps`: the objects inside an object, and how an object opens into itself and those inside it.
 #![tactic(auto)]
 
 mod attributes;

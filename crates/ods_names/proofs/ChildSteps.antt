@@ -8,8 +8,8 @@ use Rattle.ods_tree.specs.Walk.{Standing, standings, inner_standings}
 use Rattle.ods_tree.specs.declared.design.Node as nodes
 use Rattle.design_rules.specs.Broken.{Broken}
 use Rattle.ods_index.specs.Judging.{head_of}
-use Rattle.ods_index.proofs.TellSteps.{head_later}
-use Rattle.seq_tree.proofs.LoopSteps.{drop_step}
+use Rattle.ods_index.proofs.Shared.TellSteps.{head_later}
+use Rattle.seq_tree.proofs.Shared.LoopSteps.{drop_step}
 
 -- nothing is told of a child, so that the first is that of those behind it
 pub child_passes : (f : Standing → List Broken) (p : Option Object) (s : List Object) (kids : List nodes.Node) (i : ℕ) (kid : nodes.Node)

@@ -7,11 +7,9 @@ pub mod KeySteps
 pub mod LoopSteps
 pub mod MentionSteps
 pub mod NameSteps
-pub mod NeedSteps
 pub mod ObjectSteps
 pub mod ScopeSteps
-pub mod SetSteps
 pub mod TakenLaws
 pub mod TakenSteps
-pub mod TickLaws
 pub mod WorkSteps
+pub mod Shared

@@ -7,8 +7,8 @@ use Rattle.std.proofs.lemmas.List.{map-append, take_more}
 use Rattle.std.proofs.lemmas.List.Folds.{list_all-append}
 use Rattle.design_rules.specs.Broken.{Broken}
 use Rattle.ods_index.specs.Judging.{head_of}
-use Rattle.ods_index.proofs.TellSteps.{head_later}
-use Rattle.seq_tree.proofs.LoopSteps.{drop_step}
+use Rattle.ods_index.proofs.Shared.TellSteps.{head_later}
+use Rattle.seq_tree.proofs.Shared.LoopSteps.{drop_step}
 
 -- what an item gives, which depends on its place, is added, and what is left is that of the items behind it
 pub counted_step : {A B C : Type 0} (g : ℕ × B → List C) (v : A → B) (xs : List A) (i : ℕ) (x : A) (before new all : List C)

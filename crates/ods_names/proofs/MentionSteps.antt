@@ -7,7 +7,7 @@ use Rattle.seq_tree.specs.Statements.{Statements, Branches, Nothing}
 use Rattle.seq_tree.specs.Trees.{branches_of}
 use Rattle.ods_tree.specs.Designs.{Body}
 use Rattle.design_rules.specs.Clashes.{Mention, block_loops, branch_loops, is_there}
-use Rattle.ods_index.proofs.WalkSteps.{own_fields, inside_fields}
+use Rattle.ods_index.proofs.Shared.WalkSteps.{own_fields, inside_fields}
 
 -- the loops of branches: those with conditions, then an `else`
 loops_join : (f : Name → List Name → Mention) (open' : List Name) (arms : List (Expression × Statements)) (others : Branches) →

@@ -10,7 +10,7 @@ use Rattle.ada_tree.specs.Words.{is_ada_name}
 use Rattle.design_rules.specs.Broken.{V02}
 use Rattle.ods_index.specs.Judging.{head_of}
 use Rattle.ods_names.specs.NameLists.{names_of}
-use Rattle.ods_names.proofs.NeedSteps.{head_filter}
+use Rattle.ods_names.proofs.Shared.NeedSteps.{head_filter}
 
 -- the names of branches: those with conditions, then an `else`
 branch_join : (arms : List (Expression × Statements)) (others : Branches) → branch_names (branches_of arms others)

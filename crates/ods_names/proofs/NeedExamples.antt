@@ -2,12 +2,12 @@
 use Rattle.std.proofs.Common.{◌≡◌, true, false, [], ◌∷◌, Some, refl}
 use Rattle.std.specs.Prelude.{codes}
 use Rattle.ods_tree.specs.Walk.{Standing, own_of}
-use Rattle.ods_tree.proofs.Short.{design}
+use Rattle.ods_tree.proofs.Shared.Short.{design}
 use Rattle.design_rules.specs.Broken.{V06, V07, V08}
 use Rattle.ods_names.specs.Needs.{bad_needs, breaks, told_by}
 use Rattle.ods_names.specs.NameLists.{all_names}
 use Rattle.ods_names.specs.declared.uses.Rule.TheVariants as rule
-use Rattle.ods_index.proofs.SmallDesign.{f, g, go, passive, guarded, root, x, alone}
+use Rattle.ods_index.proofs.Shared.SmallDesign.{f, g, go, passive, guarded, root, x, alone}
 
 -- an object needs what is near, there and allowed
 abbrev near : Standing

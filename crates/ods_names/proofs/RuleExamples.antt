@@ -7,7 +7,7 @@ use Rattle.ods_tree.specs.Walk.{Standing, own_of}
 use Rattle.ods_tree.specs.declared.design.Kind.{Kind}
 use Rattle.ods_tree.specs.declared.design.AttrKey.TheVariants.{Period, Deadline}
 use Rattle.ods_tree.specs.declared.design.TickUnit.TheVariants.{Ms}
-use Rattle.ods_tree.proofs.Short.{attr, cyc_with, pas}
+use Rattle.ods_tree.proofs.Shared.Short.{attr, cyc_with, pas}
 use Rattle.design_rules.specs.Broken.{V03, V04, V11, V12, V17}
 use Rattle.ods_names.specs.ObjectFaults.{IsRightTick, bad_objects, breaks_rule, told_by, may_have}
 use Rattle.ods_names.specs.Whole.{at_most_most, attribute_set, count_set, tree_set, is_whole}

@@ -7,7 +7,7 @@ use Rattle.seq_tree.specs.Names.{Name}
 use Rattle.seq_tree.specs.Operations.{Offer}
 use Rattle.seq_tree.specs.declared.tree.Param.{Param}
 use Rattle.seq_tree.specs.declared.tree.Datum.{Datum}
-use Rattle.seq_tree.proofs.LoopSteps.{drop_step}
+use Rattle.seq_tree.proofs.Shared.LoopSteps.{drop_step}
 use Rattle.ods_tree.specs.Designs.{Body, Object, Design}
 use Rattle.ods_tree.specs.Walk.{Standing}
 use Rattle.design_rules.specs.Bodies.{body_fault, offers, params_by}
@@ -17,7 +17,7 @@ use Rattle.seq_check.specs.Scopes.{scope_with}
 use Rattle.design_rules.specs.Broken.{Broken}
 use Rattle.ods_index.specs.Judging.{Tells, head_of}
 use Rattle.ods_index.specs.declared.broken.Broken as code
-use Rattle.ods_names.proofs.NeedSteps.{told_of_all}
+use Rattle.ods_names.proofs.Shared.NeedSteps.{told_of_all}
 
 -- what is given for one item more
 cons_given : {B : Type 0} (o : Option B) (ys : List B) → cons_option o ys ≡ option_to_list o ++ ys

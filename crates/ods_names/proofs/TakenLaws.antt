@@ -4,7 +4,7 @@ use Rattle.std.proofs.Common.{option_to_list, Result, Err, refl, ap, sym, subst,
 use Rattle.std.specs.List.{list_any, cons_option}
 use Rattle.std.proofs.Math.ListN.{get_or, drop_of_length-le}
 use Rattle.seq_tree.specs.Names.{Name, same_name, is_named}
-use Rattle.seq_tree.proofs.LoopSteps.{drop_step}
+use Rattle.seq_tree.proofs.Shared.LoopSteps.{drop_step}
 use Rattle.ods_tree.specs.Walk.{only_if}
 use Rattle.design_rules.specs.Broken.{Broken, V01}
 use Rattle.design_rules.specs.Clashes as clashes
@@ -17,7 +17,7 @@ use Rattle.ods_names.specs.declared.mentions.Role.TheVariants as role
 use Rattle.ods_names.specs.declared.taken.Taken.{Taken}
 use Rattle.ods_index.specs.declared.broken.Broken as code
 use Rattle.ods_index.specs.Judging.{Tells, head_of}
-use Rattle.ods_names.proofs.NeedSteps.{told_of_all}
+use Rattle.ods_names.proofs.Shared.NeedSteps.{told_of_all}
 use Rattle.ods_names.proofs.ScopeSteps.{head_given}
 use Rattle.ods_names.proofs.TakenSteps.{same_sort, or_sort, only_sort, none_sort, before_whole, before_single, before_member, before_parameter}
 use Rattle.ods_names.proofs.TakenSteps.{before_loop, before_body, before_local}

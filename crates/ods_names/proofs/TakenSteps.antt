@@ -21,7 +21,7 @@ use Rattle.ods_names.specs.declared.taken.Taken.{Taken}
 use Rattle.ods_index.specs.declared.walk.Standing.{Standing}
 use Rattle.ods_names.specs.Taken.{Holds, is_single, is_member, is_bodied, is_parameter, is_asked, is_bodied_parameter, is_local, has_request}
 use Rattle.ods_names.specs.Taken.{names_where}
-use Rattle.seq_tree.proofs.LoopSteps.{drop_step}
+use Rattle.seq_tree.proofs.Shared.LoopSteps.{drop_step}
 
 -- a set that a name of another sort doesn't change
 pub stays : (s : Bool) {b w : Bool} → b ≡ w → b ≡ ((s && false) || w)

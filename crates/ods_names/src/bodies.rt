@@ -191,7 +191,7 @@ fn judge_thread<'k, 'a>(
 }
 
 /// Tells the first fault in the object at a place.
-#[tactic(auto, using(ods_index::proofs::TellSteps::tell_steps))]
+#[tactic(auto, using(ods_index::proofs::Shared::TellSteps::tell_steps))]
 fn judge_object<'a>(
     alloc: Global,
     index: &Index<'a>,
@@ -209,7 +209,7 @@ fn judge_object<'a>(
 }
 
 /// Tells the first fault of a body or a thread.
-#[tactic(auto, using(ods_index::proofs::TellSteps::tell_steps))]
+#[tactic(auto, using(ods_index::proofs::Shared::TellSteps::tell_steps))]
 pub fn bad_bodies(alloc: Global, index: &Index<'_>) -> Result<(), Broken>
     requires { IsIndex index.now }
     ensures { Tells result (head_of (bad_bodies (design_of index.entry.now.design.now))) }

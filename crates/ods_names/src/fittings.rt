@@ -41,7 +41,7 @@ pub(crate) fn is_aser(constraint: Option<Constraint>) -> bool
 }
 
 /// The number of bodies that an operation must have.
-#[tactic(auto, using(ods_index::proofs::WalkSteps::node_steps))]
+#[tactic(auto, using(ods_index::proofs::Shared::WalkSteps::node_steps))]
 fn wanted_bodies(node: &Node, provided: &Provided) -> usize
     ensures { result ≡ wanted_bodies (object_of node.now) (provided_of provided.now) }
 {
@@ -89,7 +89,7 @@ pub(crate) fn has_block(thread: &Option<Block>) -> bool
 }
 
 /// Whether a terminal object that must have a thread has none.
-#[tactic(auto, using(ods_index::proofs::WalkSteps::node_steps))]
+#[tactic(auto, using(ods_index::proofs::Shared::WalkSteps::node_steps))]
 fn lacks_thread(node: &Node) -> bool
     ensures { result ≡ (has_thread (object_of node.now).kind && not (has_block (object_of node.now).thread)) }
 {
@@ -97,7 +97,7 @@ fn lacks_thread(node: &Node) -> bool
 }
 
 /// Whether a terminal object that may have no thread has one.
-#[tactic(auto, using(ods_index::proofs::WalkSteps::node_steps))]
+#[tactic(auto, using(ods_index::proofs::Shared::WalkSteps::node_steps))]
 fn has_stray_thread(node: &Node) -> bool
     ensures { result ≡ (not (has_thread (object_of node.now).kind) && has_block (object_of node.now).thread) }
 {
@@ -105,7 +105,7 @@ fn has_stray_thread(node: &Node) -> bool
 }
 
 /// Whether a passive object has data.
-#[tactic(auto, using(ods_index::proofs::WalkSteps::node_steps))]
+#[tactic(auto, using(ods_index::proofs::Shared::WalkSteps::node_steps))]
 fn has_stray_data(node: &Node) -> bool
     ensures { result ≡ (is_passive (object_of node.now).kind && not (is_empty (object_of node.now).vars)) }
 {
@@ -113,7 +113,7 @@ fn has_stray_data(node: &Node) -> bool
 }
 
 /// Whether the parts of a terminal object don't fit.
-#[tactic(auto, using(ods_index::proofs::WalkSteps::node_steps))]
+#[tactic(auto, using(ods_index::proofs::Shared::WalkSteps::node_steps))]
 fn misfits_terminal(alloc: Global, node: &Node) -> Result<bool, NoMemory>
     ensures { IfOk result (λ b. b ≡ misfits_terminal (object_of node.now)) }
 {
@@ -292,7 +292,7 @@ fn any_unfit_link(links: &[Link], table: &ProvidedOps<'_>, family: &Family<'_>) 
 }
 
 /// Whether the parts of an object with children don't fit.
-#[tactic(auto, using(ods_index::proofs::WalkSteps::node_steps))]
+#[tactic(auto, using(ods_index::proofs::Shared::WalkSteps::node_steps))]
 fn misfits_parent(alloc: Global, standing: &Standing<'_>) -> Result<bool, NoMemory>
     ensures { IfOk result (λ b. b ≡ misfits_parent (standing_of standing.entry.now)) }
 {

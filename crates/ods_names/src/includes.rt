@@ -63,7 +63,7 @@ fn has_own_kind(kind: Kind, children: &[Node]) -> bool
 }
 
 /// Whether an object with children includes what its kind may not, or not what it must.
-#[tactic(auto, using(ods_index::proofs::WalkSteps::node_steps))]
+#[tactic(auto, using(ods_index::proofs::Shared::WalkSteps::node_steps))]
 pub(crate) fn breaks_includes(standing: &Standing<'_>) -> bool
     ensures { result ≡ breaks_includes (standing_of standing.entry.now) }
 {

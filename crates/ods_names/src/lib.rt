@@ -2,6 +2,12 @@
 //!
 //! It stands on the index of `ods_index`, the rules of `design_rules`, the faults of bodies of `seq_check` and the names of `words`.
 //! Each call carries its promise: it is silent exactly where nothing offends against its rule, and else tells the first that does.
+//!
+//! Other crates may cite these proofs of it (`proofs/Shared`):
+//!
+//! - `NeedSteps`: what is told first of the operations that objects require: of one object, then of those inside it, one child at a time.
+//! - `SetSteps`: a list that is changed item by item, and an object whose attributes and children are.
+//! - `TickLaws`: designs in ticks: nothing is wrong with their version, and their ticks are their own.
 #![tactic(auto)]
 
 mod actives;

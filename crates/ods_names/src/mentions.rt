@@ -241,7 +241,7 @@ fn body_names<'a>(alloc: Global, bodies: &'a [OpBody]) -> Result<Names<'a>, NoMe
 }
 
 /// Whether an operation is a request of a sporadic object.
-#[tactic(auto, using(ods_index::proofs::WalkSteps::node_steps))]
+#[tactic(auto, using(ods_index::proofs::Shared::WalkSteps::node_steps))]
 pub(crate) fn is_request(node: &Node, provided: &Provided) -> bool
     ensures { result ≡ is_request (object_of node.now) (provided_of provided.now) }
 {
@@ -390,7 +390,7 @@ fn add_bodies<'a>(
 }
 
 /// Adds the loops of a thread, where there is one.
-#[tactic(auto, using(ods_index::proofs::WalkSteps::node_steps))]
+#[tactic(auto, using(ods_index::proofs::Shared::WalkSteps::node_steps))]
 fn add_thread<'a>(
     source: Source<'_, 'a>,
     into: &mut Vec<Mention<'a>>,
@@ -414,7 +414,7 @@ fn add_thread<'a>(
 }
 
 /// Adds the names of the object at a place, in order of writing.
-#[tactic(auto, using(ods_index::proofs::WalkSteps::node_steps))]
+#[tactic(auto, using(ods_index::proofs::Shared::WalkSteps::node_steps))]
 fn add_object<'a>(
     source: Source<'_, 'a>,
     into: &mut Vec<Mention<'a>>,

@@ -78,7 +78,7 @@ fn is_sporadic_right(node: &Node) -> bool
 }
 
 /// Whether an object has no attributes.
-#[tactic(auto, using(ods_index::proofs::WalkSteps::node_steps))]
+#[tactic(auto, using(ods_index::proofs::Shared::WalkSteps::node_steps))]
 fn is_bare(node: &Node) -> bool
     ensures { result ≡ is_empty (object_of node.now).attrs }
 {
@@ -100,7 +100,7 @@ fn are_attributes_right(node: &Node, kind: Kind) -> bool
 }
 
 /// Whether the attributes of an object are right; one with children has none.
-#[tactic(auto, using(ods_index::proofs::WalkSteps::node_steps))]
+#[tactic(auto, using(ods_index::proofs::Shared::WalkSteps::node_steps))]
 fn are_right(node: &Node) -> bool
     ensures { result ≡ are_right (is_empty (inside (tree_of node.now))) (object_of node.now) }
 {
@@ -136,7 +136,7 @@ fn does_thread_fit(thread: &Option<Block>) -> bool
 }
 
 /// Whether those of an object are.
-#[tactic(auto, using(ods_index::proofs::WalkSteps::node_steps, crate::proofs::WorkSteps::work_steps))]
+#[tactic(auto, using(ods_index::proofs::Shared::WalkSteps::node_steps, crate::proofs::WorkSteps::work_steps))]
 fn do_numbers_fit(node: &Node) -> bool
     ensures { result ≡ list_all (is_within 1 1000000000) (works (object_of node.now)) }
 {
@@ -146,7 +146,7 @@ fn do_numbers_fit(node: &Node) -> bool
 }
 
 /// Whether a number of an object is out of its range.
-#[tactic(auto, using(ods_index::proofs::WalkSteps::node_steps))]
+#[tactic(auto, using(ods_index::proofs::Shared::WalkSteps::node_steps))]
 pub(crate) fn breaks_numbers(standing: &Standing<'_>) -> bool
     ensures { result ≡ breaks_numbers (standing_of standing.entry.now) }
 {

@@ -100,7 +100,7 @@ fn has_request(kind: Kind, provides: &[Provided]) -> bool
 }
 
 /// Whether the operations of a terminal object, or of one with children, break the table.
-#[tactic(auto, using(ods_index::proofs::WalkSteps::node_steps))]
+#[tactic(auto, using(ods_index::proofs::Shared::WalkSteps::node_steps))]
 fn breaks_table(terminal: bool, node: &Node) -> bool
     ensures { result ≡ breaks_table terminal (object_of node.now) }
 {
@@ -166,7 +166,7 @@ fn any_hands_out(provides: &[Provided]) -> bool
 }
 
 /// Whether an object provides what its kind may not, or an operation without waiting that hands out values.
-#[tactic(auto, using(ods_index::proofs::WalkSteps::node_steps))]
+#[tactic(auto, using(ods_index::proofs::Shared::WalkSteps::node_steps))]
 pub(crate) fn breaks_operations(standing: &Standing<'_>) -> bool
     ensures { result ≡ breaks_operations (standing_of standing.entry.now) }
 {

@@ -35,7 +35,7 @@ fn add_requests<'a>(
 }
 
 /// Adds the names of the requests of the object at a place.
-#[tactic(auto, using(ods_index::proofs::WalkSteps::node_steps))]
+#[tactic(auto, using(ods_index::proofs::Shared::WalkSteps::node_steps))]
 fn add_standing<'a>(
     table: &mut Keys<'a>,
     place: usize,

@@ -43,7 +43,7 @@ fn set_attrs(attrs: &mut [Attr], tick: u64)
 
 /// Sets the attributes of objects, and of those inside them, to their ticks.
 #[cycle(ticks)]
-#[tactic(auto, using(crate::proofs::SetSteps::set_steps))]
+#[tactic(auto, using(crate::proofs::Shared::SetSteps::set_steps))]
 fn set_nodes(nodes: &mut [Node], tick: u64)
     requires { 0 < tick }
     ensures { map tree_of nodes.new ≡ map (tree_set tick) (map tree_of nodes.old) }
@@ -64,7 +64,7 @@ fn set_node(node: &mut Node, tick: u64)
 }
 
 /// Sets each time of a design to its ticks, where nothing is wrong with its version.
-#[tactic(auto, using(crate::proofs::TickLaws::tick_laws))]
+#[tactic(auto, using(crate::proofs::Shared::TickLaws::tick_laws))]
 pub fn set_ticks(design: &mut Design)
     requires { head_of (version_faults (design_of design.old)) ≡ None }
     ensures { design_of design.new ≡ in_ticks (design_of design.old) }

@@ -214,7 +214,7 @@ fn judge_object(
 
 /// Tells the first operation that breaks a rule where an object or one inside it requires it.
 #[cycle(uses)]
-#[tactic(auto, using(ods_index::proofs::TellSteps::tell_steps))]
+#[tactic(auto, using(ods_index::proofs::Shared::TellSteps::tell_steps))]
 fn judge_tree<'a>(
     alloc: Global,
     index: &Index<'_>,

@@ -58,7 +58,7 @@ fn any_misses(tick: u64, attrs: &[Attr]) -> bool
 }
 
 /// Whether an attribute of an object does.
-#[tactic(auto, using(ods_index::proofs::WalkSteps::node_steps))]
+#[tactic(auto, using(ods_index::proofs::Shared::WalkSteps::node_steps))]
 pub(crate) fn breaks_ticks(node: &Node, tick: u64) -> bool
     requires { 0 < tick }
     ensures { result ≡ breaks_ticks tick (object_of node.now) }

@@ -11,7 +11,7 @@ use Rattle.ods_tree.specs.declared.design.AttrKey.TheVariants.{Period, Deadline,
 use Rattle.ods_tree.specs.declared.design.Constraint.TheVariants.{Paer}
 use Rattle.ods_tree.specs.declared.design.Kind.TheVariants.{Cyclic}
 use Rattle.ods_tree.specs.declared.design.TickUnit.TheVariants.{Us, Ms}
-use Rattle.ods_tree.proofs.Short.{row_costs, attr, cyc_with}
+use Rattle.ods_tree.proofs.Shared.Short.{row_costs, attr, cyc_with}
 use Rattle.ods_print.specs.Writable.{is_writable}
 use Rattle.ods_print.specs.Parts.{behind, heading, lines_text, object_line, params_more, params_text}
 

@@ -10,7 +10,7 @@ use Rattle.seq_tree.specs.declared.token.Token.{Token}
 use Rattle.seq_tree.specs.declared.token.Token.TheVariants.{Word, Sign}
 use Rattle.seq_tree.specs.declared.token.Mark.TheVariants.{Semicolon}
 use Rattle.seq_tree.specs.declared.tree.Costs.{Costs}
-use Rattle.seq_print.proofs.Depths.{both, same-block, same-deeper, same-indent}
+use Rattle.seq_print.proofs.Shared.Depths.{both, same-block, same-deeper, same-indent}
 use Rattle.ods_tree.specs.Designs.{Body, Design, Object, Tree, Trees, Node, Empty, With}
 use Rattle.ods_tree.specs.Layout.{capital, parts_text, design_line_text, design_text}
 use Rattle.ods_tree.specs.Spelling.{Part, Capital, Plain, DesignLine, line, attribute_line, back_lines, block_parts, body_lines, cost_lines}

@@ -12,7 +12,7 @@ use seq_tree::{Block, Name, NoMemory};
 use std::alloc::Global;
 
 /// Adds a line of this level with a name between other bytes.
-#[tactic(auto, using(seq_print::proofs::Chains::writing))]
+#[tactic(auto, using(seq_print::proofs::Shared::Chains::writing))]
 pub(crate) fn put_named(
     into: &mut Vec<u8>,
     level: u32,

@@ -14,7 +14,7 @@ use Rattle.token_read.specs.Words.{bare}
 use Rattle.ods_read.specs.DesignReaders.{design_with, design_at}
 use Rattle.seq_read.specs.TextFaults.{IsMisread}
 use Rattle.ods_read.specs.Answers.{IsFaultyAt, Says}
-use Rattle.ods_read.proofs.ReadingLaws.{faulty-at}
+use Rattle.ods_read.proofs.Shared.ReadingLaws.{faulty-at}
 
 -- the first place of a text
 abbrev start : Place

@@ -4,8 +4,8 @@ use Rattle.std.proofs.lemmas.Bool.{le-leb}
 use Rattle.seq_tree.specs.Lists.{Each}
 use Rattle.seq_tree.specs.Statements.{Statements}
 use Rattle.seq_tree.specs.Proper.{Limits, without_limits}
-use Rattle.seq_read.proofs.ChainLevels.{bounds}
-use Rattle.seq_read.proofs.Bounds.{extent_block, bound-block, free-block}
+use Rattle.seq_read.proofs.Shared.ChainLevels.{bounds}
+use Rattle.seq_read.proofs.Shared.Bounds.{extent_block, bound-block, free-block}
 use Rattle.ods_tree.specs.Designs.{Body, Object, Tree, Trees, Node, Empty, With, Design}
 use Rattle.ods_tree.specs.Proper.{IsProperBody, IsProperThread, IsProperObject, IsProperTree, AreProperTrees, IsProperDesign}
 use Rattle.ods_tree.specs.Words.{is_design_name}

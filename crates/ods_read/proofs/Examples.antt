@@ -15,7 +15,7 @@ use Rattle.ods_tree.specs.declared.design.Kind.TheVariants.{Active}
 use Rattle.ods_tree.specs.declared.design.Constraint.TheVariants.{Paer}
 use Rattle.ods_tree.specs.declared.design.AttrKey.TheVariants.{Period}
 use Rattle.ods_tree.specs.declared.design.TickUnit.TheVariants.{Ms}
-use Rattle.ods_tree.proofs.Short.{group, design}
+use Rattle.ods_tree.proofs.Shared.Short.{group, design}
 use Rattle.token_read.specs.Readers.{fixed_at, number_at, name_at}
 use Rattle.seq_read.specs.Statements.{next_is_name}
 use Rattle.seq_read.specs.Parts.{named_at}

@@ -3,8 +3,8 @@
 use Rattle.std.proofs.Common.{◌≡◌, ℕ, zero, suc, ◌+◌, ◌<◌, Bool, true, false, cond, List, [], ◌∷◌, ◌++◌, length, Option, Some, None, is_some, Ok}
 use Rattle.std.proofs.Common.{Err, codes, refl, sym, ap, ◌∙◌, arith, append_assoc, ◌⊎◌, inl, inr}
 use Rattle.grammar.specs.Reading.{Halt, Syntax, TooDeep, Read, first, ◌>>=◌, then_at, pure_at, choose_at, from_at, many_at, deep_at, Reads, Widens}
-use Rattle.grammar.proofs.Laws.{ok_parts}
-use Rattle.grammar.proofs.Widening.{widens-pure, widens-then}
+use Rattle.grammar.proofs.Shared.Laws.{ok_parts}
+use Rattle.grammar.proofs.Shared.Widening.{widens-pure, widens-then}
 use Rattle.seq_tree.specs.Names.{Name}
 use Rattle.seq_tree.specs.Statements.{Statements}
 use Rattle.seq_tree.specs.Proper.{Limits}
@@ -15,10 +15,10 @@ use Rattle.ods_tree.specs.Trees.{trees_of}
 use Rattle.ods_tree.specs.Words.{is_design_name}
 use Rattle.ods_tree.specs.declared.design.VersionTwo.{VersionTwo}
 use Rattle.token_read.specs.Readers.{fixed_at, next_is}
-use Rattle.token_read.proofs.TokenLaws.{same_is, reads-fixed}
+use Rattle.token_read.proofs.Shared.TokenLaws.{same_is, reads-fixed}
 use Rattle.seq_read.specs.Statements.{BlockReader, word, block_at}
-use Rattle.seq_read.proofs.ChainLevels.{bounds}
-use Rattle.seq_read.proofs.StatementWidening.{widens-block}
+use Rattle.seq_read.proofs.Shared.ChainLevels.{bounds}
+use Rattle.seq_read.proofs.Shared.StatementWidening.{widens-block}
 use Rattle.seq_read.specs.Parts.{end_tokens}
 use Rattle.ods_read.specs.Readers.{some_at, kind_named, end_at, body_at, bodies_at, activation_at, thread_at}
 use Rattle.ods_read.specs.ObjectReaders.{TreeReader, TreesReader, next_is_object, tree_list_at, none_at, over_at, children_at, object_at, tree_with}

@@ -11,8 +11,6 @@ pub mod DesignBounds
 pub mod WideningLaws
 pub mod WordLaws
 pub mod LastLaws
-pub mod ReadingLaws
-pub mod Counting
-pub mod OneReading
 pub mod Examples
 pub mod AnswerExamples
+pub mod Shared

@@ -28,7 +28,7 @@ use Rattle.ods_tree.specs.declared.design.TickUnit.{TickUnit}
 use Rattle.ods_tree.specs.declared.design.TickUnit.TheVariants.{Us, Ms, S}
 use Rattle.ods_tree.specs.declared.design.VersionTwo.{VersionTwo}
 use Rattle.ods_tree.specs.declared.design.Attr.{Attr}
-use Rattle.seq_read.proofs.StatementTokens.{block_toks, block-level}
+use Rattle.seq_read.proofs.Shared.StatementTokens.{block_toks, block-level}
 use Rattle.seq_read.specs.Parts.{end_tokens}
 use Rattle.ods_read.proofs.SpelledLaws.{section_tokens}
 use Rattle.ods_read.proofs.PartLaws.{kind_word, key_word, unit_word, unit_tokens, attribute_tokens, param_tokens, more_tokens, params_tokens}

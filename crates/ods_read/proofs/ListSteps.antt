@@ -9,7 +9,7 @@ use Rattle.ods_tree.specs.declared.design.Attr.{Attr}
 use Rattle.ods_tree.specs.declared.design.Link.{Link}
 use Rattle.token_read.specs.Readers.{next_is}
 use Rattle.seq_read.specs.Statements.{BlockReader}
-use Rattle.seq_read.proofs.Turns.{onward, onward-fails, onward-ends}
+use Rattle.seq_read.proofs.Shared.Turns.{onward, onward-fails, onward-ends}
 use Rattle.ods_read.specs.Readers.{next_by, key_named, next_is_design_name, some_at, attribute_at, attribute_list_at, provided_at}
 use Rattle.ods_read.specs.Readers.{provided_list_at, needed_at, needed_list_at, link_at, link_list_at, body_at, bodies_at}
 

@@ -1,7 +1,7 @@
 -- The reader of objects that stops where none may nest any more reads the proper trees within its limits.
 use Rattle.std.proofs.Common.{◌≡◌, ℕ, true, false, List, [], ◌∷◌, ◌++◌, Option, None, Some, is_some, codes, flat_map, refl, sym, subst, ◌∙◌, inl, inr}
 use Rattle.grammar.specs.Reading.{Reads}
-use Rattle.grammar.proofs.Laws.{reads-same}
+use Rattle.grammar.proofs.Shared.Laws.{reads-same}
 use Rattle.seq_tree.specs.Lists.{Each}
 use Rattle.seq_tree.specs.Names.{Name}
 use Rattle.seq_tree.specs.Statements.{Statements}
@@ -18,7 +18,7 @@ use Rattle.ods_tree.specs.declared.design.Link.{Link}
 use Rattle.seq_tree.specs.declared.tree.Datum.{Datum}
 use Rattle.seq_tree.specs.declared.tree.OpName.{OpName}
 use Rattle.token_read.specs.Readers.{next_is}
-use Rattle.token_read.proofs.TokenLaws.{Any, andthen, reads-fixed, joins-fixed, joins-phrase, joins-name}
+use Rattle.token_read.proofs.Shared.TokenLaws.{Any, andthen, reads-fixed, joins-fixed, joins-phrase, joins-name}
 use Rattle.seq_read.specs.Statements.{BlockReader, next_is_name}
 use Rattle.seq_read.specs.Parts.{end_tokens}
 use Rattle.ods_read.specs.Readers.{key_named, next_by, next_is_design_name}

@@ -5,9 +5,9 @@ use Rattle.seq_tree.specs.declared.token.Token.{Token}
 use Rattle.ods_tree.specs.Designs.{Tree}
 use Rattle.ods_tree.specs.Trees.{trees_of}
 use Rattle.ods_tree.specs.Words.{is_design_name}
-use Rattle.ods_tree.proofs.TreeForms.{tree_of_roll}
+use Rattle.ods_tree.proofs.Shared.TreeForms.{tree_of_roll}
 use Rattle.seq_read.specs.Statements.{block_at}
-use Rattle.seq_read.proofs.Turns.{onward, onward-fails, onward-ends}
+use Rattle.seq_read.proofs.Shared.Turns.{onward, onward-fails, onward-ends}
 use Rattle.ods_read.specs.Nesting.{inside_at}
 use Rattle.ods_read.specs.ObjectReaders.{TreeReader, TreesReader, next_is_object, tree_list_at, children_at, object_at, tree_with, tree_at}
 

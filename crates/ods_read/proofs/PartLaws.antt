@@ -2,7 +2,7 @@
 use Rattle.std.proofs.Common.{◌≡◌, ℕ, Bool, true, false, List, [], ◌∷◌, ◌++◌, Option, None, Some, is_some, codes, flat_map, refl, sym, ap, subst}
 use Rattle.std.proofs.Common.{◌∙◌, arith, ◌⊎◌, inl, inr, append_assoc}
 use Rattle.grammar.specs.Reading.{first, then_at, pure_at, many_at, Reads, Joined}
-use Rattle.grammar.proofs.Laws.{IsOnly, reads-same, reads-then, reads-pure, reads-map}
+use Rattle.grammar.proofs.Shared.Laws.{IsOnly, reads-same, reads-then, reads-pure, reads-map}
 use Rattle.seq_tree.specs.Lists.{Each}
 use Rattle.seq_tree.specs.Names.{Name}
 use Rattle.seq_tree.specs.Statements.{Statements}
@@ -31,11 +31,11 @@ use Rattle.ods_tree.specs.declared.design.VersionTwo.{VersionTwo}
 use Rattle.ods_tree.specs.declared.design.Attr.{Attr}
 use Rattle.ods_tree.specs.declared.design.Link.{Link}
 use Rattle.token_read.specs.Readers.{next_is}
-use Rattle.token_read.proofs.TokenLaws.{Any, IsPhrase, IsName, andthen, reads-fixed, reads-phrase, reads-number, reads-name, joins-fixed}
-use Rattle.token_read.proofs.TokenLaws.{joins-phrase, joins-number, joins-name}
+use Rattle.token_read.proofs.Shared.TokenLaws.{Any, IsPhrase, IsName, andthen, reads-fixed, reads-phrase, reads-number, reads-name, joins-fixed}
+use Rattle.token_read.proofs.Shared.TokenLaws.{joins-phrase, joins-number, joins-name}
 use Rattle.seq_read.specs.Statements.{BlockReader, begins_statement, kind_of, next_is_name}
-use Rattle.seq_read.proofs.StatementLaws.{before-token}
-use Rattle.seq_read.proofs.StatementTokens.{block_toks}
+use Rattle.seq_read.proofs.Shared.StatementLaws.{before-token}
+use Rattle.seq_read.proofs.Shared.StatementTokens.{block_toks}
 use Rattle.seq_read.specs.Parts.{named_at, mode_named, end_tokens}
 use Rattle.ods_read.specs.Readers.{next_by, kind_named, constraint_named, key_named, unit_named, design_name_at, next_is_design_name, end_at}
 use Rattle.ods_read.specs.Readers.{op_name_at, cost_at, cost_list_at, costs_at, next_is_unit, unit_at, attribute_at, attribute_list_at}

@@ -4,16 +4,16 @@ use Rattle.std.proofs.Common.{ap, subst, ◌∙◌, ◌⊎◌, inl, inr}
 use Rattle.std.specs.Prelude.{⊤}
 use Rattle.std.proofs.lemmas.Slice.Eq.{bytes_eq-Decides}
 use Rattle.grammar.specs.Reading.{Read, first, then_at, pure_at, choose_at, token_at, many_at, Reads, Joined, AreMany}
-use Rattle.grammar.proofs.Laws.{IsOnly, IsToken, reads-same, reads-then, reads-pure, reads-token, reads-map}
-use Rattle.grammar.proofs.Ends.{reads-branch}
-use Rattle.grammar.proofs.Many.{reads-items}
+use Rattle.grammar.proofs.Shared.Laws.{IsOnly, IsToken, reads-same, reads-then, reads-pure, reads-token, reads-map}
+use Rattle.grammar.proofs.Shared.Ends.{reads-branch}
+use Rattle.grammar.proofs.Shared.Many.{reads-items}
 use Rattle.seq_tree.specs.Lists.{Each}
 use Rattle.seq_tree.specs.Names.{Name, same_name}
 use Rattle.seq_tree.specs.declared.token.Token.{Token}
 use Rattle.seq_tree.specs.declared.token.Token.TheVariants.{Word, Number, Sign}
 use Rattle.seq_tree.specs.declared.token.Mark.TheVariants.{Semicolon}
 use Rattle.token_read.specs.Readers.{next_is}
-use Rattle.token_read.proofs.TokenLaws.{Any, IsPhrase, andthen, same_self, reads-fixed, reads-phrase}
+use Rattle.token_read.proofs.Shared.TokenLaws.{Any, IsPhrase, andthen, same_self, reads-fixed, reads-phrase}
 use Rattle.seq_read.specs.Statements.{word}
 use Rattle.seq_read.specs.Parts.{sees_by, named_at, end_tokens}
 use Rattle.ods_read.specs.Readers.{end_at, some_at, section_at}

@@ -10,8 +10,8 @@ use Rattle.ods_tree.specs.Trees.{trees_of}
 use Rattle.ods_tree.specs.Words.{is_design_name}
 use Rattle.token_read.specs.Readers.{phrase_at, next_is}
 use Rattle.seq_read.specs.Statements.{BlockReader, block_at, statement_at}
-use Rattle.seq_read.proofs.Takes.{Takes, takes-any, takes-token, takes-pure, takes-deep, takes-then, takes-choose, takes-many}
-use Rattle.seq_read.proofs.TokenTakes.{takes-fixed, any-fixed, any-word, takes-number, takes-name, closes, takes-block, takes-statement}
+use Rattle.seq_read.proofs.Shared.Takes.{Takes, takes-any, takes-token, takes-pure, takes-deep, takes-then, takes-choose, takes-many}
+use Rattle.seq_read.proofs.Shared.TokenTakes.{takes-fixed, any-fixed, any-word, takes-number, takes-name, closes, takes-block, takes-statement}
 use Rattle.seq_read.specs.Parts.{sees_by, named_at, mode_named, end_tokens}
 use Rattle.ods_read.specs.Readers.{next_by, kind_named, constraint_named, key_named, unit_named, design_name_at, next_is_design_name}
 use Rattle.ods_read.specs.Readers.{some_at, section_at, op_name_at, next_is_unit, unit_at, attribute_at, attribute_list_at, attributes_at}

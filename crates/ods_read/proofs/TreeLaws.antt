@@ -5,8 +5,8 @@ use Rattle.std.specs.Prelude.{⊤}
 use Rattle.std.proofs.lemmas.Bool.{le-leb}
 use Rattle.std.proofs.lemmas.Bool.Decides.{leb_tells}
 use Rattle.grammar.specs.Reading.{first, then_at, pure_at, choose_at, deep_at, Reads}
-use Rattle.grammar.proofs.Laws.{IsOnly, reads-same, reads-pure, reads-map}
-use Rattle.grammar.proofs.Ends.{reads-limit}
+use Rattle.grammar.proofs.Shared.Laws.{IsOnly, reads-same, reads-pure, reads-map}
+use Rattle.grammar.proofs.Shared.Ends.{reads-limit}
 use Rattle.seq_tree.specs.Lists.{Each}
 use Rattle.seq_tree.specs.Proper.{Limits}
 use Rattle.seq_tree.specs.declared.token.Token.{Token}
@@ -17,11 +17,11 @@ use Rattle.ods_tree.specs.Words.{is_design_name}
 use Rattle.ods_tree.specs.Proper.{IsProperTree, AreProperTrees}
 use Rattle.ods_tree.specs.declared.design.VersionTwo.{VersionTwo}
 use Rattle.token_read.specs.Readers.{next_is}
-use Rattle.token_read.proofs.TokenLaws.{Any, andthen, reads-fixed}
+use Rattle.token_read.proofs.Shared.TokenLaws.{Any, andthen, reads-fixed}
 use Rattle.seq_read.specs.Statements.{word, block_at}
-use Rattle.seq_read.proofs.ChainLevels.{bounds}
-use Rattle.seq_read.proofs.StatementLaws.{Reserves}
-use Rattle.seq_read.proofs.BlockLaws as blocks
+use Rattle.seq_read.proofs.Shared.ChainLevels.{bounds}
+use Rattle.seq_read.proofs.Shared.StatementLaws.{Reserves}
+use Rattle.seq_read.proofs.Shared.BlockLaws as blocks
 use Rattle.ods_read.specs.Readers.{some_at}
 use Rattle.ods_read.specs.ObjectReaders.{TreeReader, TreesReader, next_is_object, tree_list_at, children_at, tree_with}
 use Rattle.ods_read.proofs.SpelledLaws.{IsSpelled, IsSome, reads-some, reads-optional}

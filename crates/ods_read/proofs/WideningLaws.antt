@@ -2,8 +2,8 @@
 use Rattle.std.proofs.Common.{◌≡◌, ℕ, zero, suc, ◌-◌, ◌<◌, ◌≤◌, Bool, true, false, cond, List, [], ◌∷◌, length, Option, Some, None, is_some, Ok}
 use Rattle.std.proofs.Common.{Err, codes, refl, sym, ap, subst, arith, length-append}
 use Rattle.grammar.specs.Reading.{Syntax, TooDeep, Read, first, then_at, pure_at, deep_at, GoesOn, IsWithin, Beyond, Widens, Reads}
-use Rattle.grammar.proofs.Widening.{past_at, widens-fewer, widens-token, widens-pure, widens-then, widens-behind, widens-choose, widens-deep}
-use Rattle.grammar.proofs.Widening.{deep-beyond, widens-past, widens-many}
+use Rattle.grammar.proofs.Shared.Widening.{past_at, widens-fewer, widens-token, widens-pure, widens-then, widens-behind, widens-choose, widens-deep}
+use Rattle.grammar.proofs.Shared.Widening.{deep-beyond, widens-past, widens-many}
 use Rattle.seq_tree.specs.Names.{Name}
 use Rattle.seq_tree.specs.declared.token.Token.{Token}
 use Rattle.seq_tree.specs.declared.token.Token.TheVariants.{Word, Number, Sign}
@@ -13,7 +13,7 @@ use Rattle.ods_tree.specs.Trees.{trees_of}
 use Rattle.ods_tree.specs.Words.{is_design_name}
 use Rattle.token_read.specs.Readers.{sees_fixed, fixed_at, phrase_at, sees_number, number_at, sees_name, name_at, next_is}
 use Rattle.seq_read.specs.Statements.{BlockReader, word, block_at}
-use Rattle.seq_read.proofs.StatementWidening.{widens-block}
+use Rattle.seq_read.proofs.Shared.StatementWidening.{widens-block}
 use Rattle.seq_read.specs.Parts.{sees_by, named_at, mode_named, end_tokens}
 use Rattle.ods_read.specs.Readers.{next_by, kind_named, constraint_named, key_named, unit_named, design_name_at, next_is_design_name, end_at}
 use Rattle.ods_read.specs.Readers.{some_at, op_name_at, cost_at, cost_list_at, costs_at, next_is_unit, unit_at, attribute_at, attribute_list_at}

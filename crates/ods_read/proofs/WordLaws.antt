@@ -18,9 +18,9 @@ use Rattle.seq_tree.specs.declared.token.Token.TheVariants.{Word}
 use Rattle.ods_tree.specs.Words.{is_design_name}
 use Rattle.token_read.specs.Words.{same_token}
 use Rattle.seq_read.specs.Statements.{BlockReader}
-use Rattle.seq_read.proofs.ChainLevels.{bounds}
-use Rattle.seq_read.proofs.ExpressionLaws.{not_word}
-use Rattle.seq_read.proofs.StatementTokens.{statement_toks, block_toks, branch_toks}
+use Rattle.seq_read.proofs.Shared.ChainLevels.{bounds}
+use Rattle.seq_read.proofs.Shared.ExpressionLaws.{not_word}
+use Rattle.seq_read.proofs.Shared.StatementTokens.{statement_toks, block_toks, branch_toks}
 use Rattle.ods_read.proofs.PartLaws.{EndsBlock, IsBlock}
 
 -- any other token than the word of a section of objects

@@ -3,7 +3,7 @@ use Rattle.std.proofs.Common.{◌≡◌, false, [], ◌∷◌, Some, None, refl}
 use Rattle.std.specs.Prelude.{codes}
 use Rattle.seq_tree.specs.Statements.{Work}
 use Rattle.ods_tree.specs.Designs.{Tree}
-use Rattle.ods_tree.proofs.Short.{pas, design}
+use Rattle.ods_tree.proofs.Shared.Short.{pas, design}
 use Rattle.design_rules.specs.Rules.{Clash, Spacing}
 use Rattle.ods_rules.specs.Orders.{IsToldOf, limit, rule_of}
 use Rattle.ods_rules.specs.Checks.{IsFirstTold}

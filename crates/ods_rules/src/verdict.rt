@@ -68,7 +68,7 @@ fn next(rule: Rule) -> Option<Rule>
 }
 
 /// Tells the first offender against a rule, where no lower one is broken.
-#[tactic(auto, using(crate::proofs::VerdictLaws::judged_list))]
+#[tactic(auto, using(crate::proofs::Shared::VerdictLaws::judged_list))]
 fn judge(alloc: Global, index: &Index<'_>, rule: Rule) -> Result<(), Broken>
     requires indexed { IsIndex index.now }
     requires few { length (objects (design_of index.now.design.now)) < 4294967296 }
@@ -98,7 +98,7 @@ fn judge(alloc: Global, index: &Index<'_>, rule: Rule) -> Result<(), Broken>
 }
 
 /// Tells the first offender against the first rule that is broken, rule by rule.
-#[tactic(auto, using(crate::proofs::VerdictLaws::order_laws))]
+#[tactic(auto, using(crate::proofs::Shared::VerdictLaws::order_laws))]
 fn judge_all(alloc: Global, index: &Index<'_>) -> Result<(), Broken>
     requires indexed { IsIndex index.now }
     requires few { length (objects (design_of index.now.design.now)) < 4294967296 }
@@ -128,7 +128,7 @@ fn judge_design(alloc: Global, design: &Design) -> Result<(), Broken>
 ///
 /// The design has fewer than 4,294,967,296 objects. V17 speaks of the design as it is written, the others of the design in ticks.
 /// `NoMemory` comes for want of memory.
-#[tactic(auto, using(crate::proofs::VerdictLaws::check_laws, crate::proofs::CountLaws::count_laws))]
+#[tactic(auto, using(crate::proofs::Shared::VerdictLaws::check_laws, crate::proofs::Shared::CountLaws::count_laws))]
 pub fn check(alloc: Global, design: Design) -> Result<Checked, Broken>
     requires { length (objects (design_of design)) < 4294967296 }
     ensures { Says (design_of design) result }

@@ -10,7 +10,7 @@ use Rattle.seq_tree.specs.Calls.{same_op, block_calls}
 use Rattle.seq_tree.specs.Names.{Name, same_name}
 use Rattle.seq_tree.specs.Rings.{LeadsTo, IsOnRing}
 use Rattle.seq_tree.specs.declared.tree.OpName.{OpName}
-use Rattle.seq_tree.proofs.Walks.{same_op-eq, same_op-refl}
+use Rattle.seq_tree.proofs.Shared.Walks.{same_op-eq, same_op-refl}
 use Rattle.ods_tree.specs.Designs.{Body, Provided, Design}
 use Rattle.ods_tree.specs.Walk.{Standing, objects, terminals, is_terminal, only_if}
 use Rattle.design_rules.specs.Broken.{Broken, V05, V09Calls}
@@ -27,7 +27,7 @@ use Rattle.ods_starts.specs.Graphed.{body_edges, called_edges, edges_from, objec
 use Rattle.ods_index.specs.OpPlaces.{op_place_from, own_ops}
 use Rattle.rings.specs.Graphs.{is_step}
 use Rattle.rings.specs.Reached.{Goes, IsFirstOnRing}
-use Rattle.rings.proofs.Reaching.{both, and-from, or-cases, or-left, or-right}
+use Rattle.rings.proofs.Shared.Reaching.{both, and-from, or-cases, or-left, or-right}
 
 -- an item of a list
 abbrev pub In : {A : Type 0} → A → List A → Type 0

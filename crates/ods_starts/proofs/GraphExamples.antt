@@ -2,10 +2,10 @@
 use Rattle.std.proofs.Common.{◌≡◌, ℕ, true, false, [], ◌∷◌, Option, None, refl}
 use Rattle.std.specs.Prelude.{codes}
 use Rattle.seq_tree.specs.declared.tree.OpName.{OpName}
-use Rattle.ods_tree.proofs.Short.{block, call}
+use Rattle.ods_tree.proofs.Shared.Short.{block, call}
 use Rattle.ods_starts.specs.Graphed.{body_edges, called_edges, calls_step, edges_from, object_edges}
 use Rattle.ods_index.specs.OpPlaces.{op_place_from}
-use Rattle.ods_index.proofs.SmallDesign.{f, g, go, by_root, guarded, x, alone}
+use Rattle.ods_index.proofs.Shared.SmallDesign.{f, g, go, by_root, guarded, x, alone}
 
 -- edges go from a place to that of what a required call means
 abbrev place : OpName → Option ℕ

@@ -8,7 +8,7 @@ use Rattle.ods_tree.specs.Designs.{Object, Body, Tree, Node, Design}
 use Rattle.ods_tree.specs.Walk.{objects, own_of}
 use Rattle.ods_tree.specs.declared.design.Kind.{Kind}
 use Rattle.ods_tree.specs.declared.design.Kind.TheVariants.{Active, Protected}
-use Rattle.ods_tree.proofs.Short.{block, call, design, pas, pro, several, trees}
+use Rattle.ods_tree.proofs.Shared.Short.{block, call, design, pas, pro, several, trees}
 use Rattle.ods_starts.specs.Guarded.{bodies_edges, edges_at, guard_edges, guards_among, guards_step, meant_edges}
 use Rattle.ods_index.specs.Tables.{place_from}
 

@@ -6,7 +6,7 @@ use Rattle.std.proofs.lemmas.List.{map-append}
 use Rattle.std.proofs.lemmas.List.Folds.{list_any-append}
 use Rattle.seq_tree.specs.Calls.{same_op}
 use Rattle.seq_tree.specs.declared.tree.OpName.{OpName}
-use Rattle.seq_tree.proofs.Walks.{same_op-eq, same_op-refl}
+use Rattle.seq_tree.proofs.Shared.Walks.{same_op-eq, same_op-refl}
 
 -- what a list stands for, after items were added behind it where a name is the same
 pub added : {A B : Type 0} (f : A → B) (same : Bool) (new old items : List A) (shown : List B) → new ≡ old ++ (if same then items else [])

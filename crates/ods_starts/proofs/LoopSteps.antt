@@ -3,7 +3,7 @@ use Rattle.std.proofs.Common.{◌≡◌, ℕ, ◌+◌, ◌<◌, Bool, true, fals
 use Rattle.std.proofs.Common.{None, Err, get_or, refl, ap, sym, subst, ◌∙◌}
 use Rattle.std.specs.Prelude.{filter_map}
 use Rattle.std.specs.List.{cons_option}
-use Rattle.seq_tree.proofs.LoopSteps.{drop_step, flat_filter_first, map_filter_first}
+use Rattle.seq_tree.proofs.Shared.LoopSteps.{drop_step, flat_filter_first, map_filter_first}
 use Rattle.design_rules.specs.Broken.{Broken}
 use Rattle.ods_index.specs.Judging.{IsTold, Tells, head_of}
 use Rattle.ods_index.specs.Told.{told_of, is_memory}

@@ -20,10 +20,10 @@ use Rattle.ods_index.specs.Nodes.{node_object}
 use Rattle.ods_index.specs.Tables.{place_from}
 use Rattle.ods_starts.proofs.CallRings.{In, any-in, from-flat, from-map, from-taken, in-flat, in-map, in-taken, same-is, same-self, some-in}
 use Rattle.ods_starts.proofs.NamePlaces.{has-place, name-at, names-of, none-later, object-at, place-of}
-use Rattle.rings.proofs.NamedRings.{ring_of_names, ring_of_places}
+use Rattle.rings.proofs.Shared.NamedRings.{ring_of_names, ring_of_places}
 use Rattle.rings.specs.Graphs.{is_step}
 use Rattle.rings.specs.Reached.{Goes, IsFirstOnRing}
-use Rattle.rings.proofs.Reaching.{and-from, both}
+use Rattle.rings.proofs.Shared.Reaching.{and-from, both}
 
 -- a call between protected objects, by the body that it stands in
 pub record Between (x : Design) (a c : Name) : Type 0 where

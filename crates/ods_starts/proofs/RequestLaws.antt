@@ -14,9 +14,9 @@ use Rattle.seq_tree.specs.Names.{Name, same_name}
 use Rattle.seq_tree.specs.Statements.{Statement, Statements, Branches, Null, Assign, If, For, ExitWhen, Call, Work, Put, End, Then}
 use Rattle.seq_tree.specs.Statements.{Nothing, Else, When}
 use Rattle.seq_tree.specs.declared.tree.OpName.{OpName}
-use Rattle.seq_tree.proofs.Walks.{same_op-eq, same_op-refl}
+use Rattle.seq_tree.proofs.Shared.Walks.{same_op-eq, same_op-refl}
 use Rattle.name_sets.specs.Tables.{or_0}
-use Rattle.seq_cost.proofs.Listed.{block-same}
+use Rattle.seq_cost.proofs.Shared.Listed.{block-same}
 use Rattle.ods_tree.specs.Designs.{Body, Design, Object}
 use Rattle.ods_tree.specs.Flattening.{is_protected}
 use Rattle.ods_tree.specs.Links.{resolve}
@@ -25,8 +25,8 @@ use Rattle.design_rules.specs.Sources.{body_starts, start_weight, starts_within}
 use Rattle.ods_starts.specs.Requested.{AreDue, HeldBody, call_weight, greatest_count, held, held_bodies, held_calls, held_count, held_in}
 use Rattle.ods_starts.specs.Requested.{held_named, object_caller, object_callers, op_caller, op_callers}
 use Rattle.ods_starts.specs.Spreading.{found_all}
-use Rattle.ods_index.proofs.AccountSteps.{each-among}
-use Rattle.seq_cost.proofs.CutCosts.{cap-called}
+use Rattle.ods_index.proofs.Shared.AccountSteps.{each-among}
+use Rattle.seq_cost.proofs.Shared.CutCosts.{cap-called}
 use Rattle.ods_starts.proofs.SpreadLaws.{In, any-some, any-true, grown-all, in-flat, in-left, in-right}
 
 cut-twice : (n k : ℕ) → n ≡ min 2 k → min 2 n ≡ min 2 k

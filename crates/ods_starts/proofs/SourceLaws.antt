@@ -26,7 +26,7 @@ use Rattle.ods_starts.specs.Requested.{source_fault}
 use Rattle.ods_starts.specs.Spreading.{is_there, reaches}
 use Rattle.ods_index.specs.Walking.{object_of}
 use Rattle.ods_starts.proofs.RequestLaws.{counted-quiet, fold-cons}
-use Rattle.ods_index.proofs.WalkSteps.{own_fields}
+use Rattle.ods_index.proofs.Shared.WalkSteps.{own_fields}
 
 or-parts : (a b : Bool) → (a || b) ≡ false → (a ≡ false) × (b ≡ false)
 or-parts true b h = absurd (cc)

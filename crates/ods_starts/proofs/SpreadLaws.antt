@@ -9,7 +9,7 @@ use Rattle.std.proofs.Math.Seq.{drop-append_seam}
 use Rattle.seq_tree.specs.Calls.{same_op}
 use Rattle.seq_tree.specs.Names.{Name, same_name}
 use Rattle.seq_tree.specs.declared.tree.OpName.{OpName}
-use Rattle.seq_tree.proofs.Walks.{same_op-eq}
+use Rattle.seq_tree.proofs.Shared.Walks.{same_op-eq}
 use Rattle.ods_tree.specs.Designs.{Body, Design, Object}
 use Rattle.ods_tree.specs.Walk.{Standing}
 use Rattle.design_rules.specs.Rings.{calls_within, inner_calls, meant_calls, operation_calls}

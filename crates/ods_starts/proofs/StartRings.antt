@@ -25,10 +25,10 @@ use Rattle.ods_index.specs.Tables.{place_from}
 use Rattle.ods_starts.specs.declared.start_rings.ThreadPlaces.{ThreadPlaces}
 use Rattle.ods_starts.proofs.CallRings.{In, any-in, same-is, same-self, some-in}
 use Rattle.ods_starts.proofs.NamePlaces.{has-place, name-at, names-of, names-same, none-later, object-at, place-of}
-use Rattle.rings.proofs.NamedRings.{ring_of_names, ring_of_places}
+use Rattle.rings.proofs.Shared.NamedRings.{ring_of_names, ring_of_places}
 use Rattle.rings.specs.Graphs.{is_step}
 use Rattle.rings.specs.Reached.{Goes, IsFirstOnRing}
-use Rattle.rings.proofs.Reaching.{and-from, both}
+use Rattle.rings.proofs.Shared.Reaching.{and-from, both}
 
 -- a thread that can start another, by the operation that it calls
 pub record Started (x : Design) (a c : Name) : Type 0 where

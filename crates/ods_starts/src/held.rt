@@ -97,7 +97,7 @@ fn add_bodies<'a>(
 }
 
 /// Adds the bodies of an object, where it is protected and has no children.
-#[tactic(auto, using(ods_index::proofs::WalkSteps::node_steps))]
+#[tactic(auto, using(ods_index::proofs::Shared::WalkSteps::node_steps))]
 fn add_object<'a>(
     alloc: Global,
     into: &mut Vec<ProtectedBody<'a>>,

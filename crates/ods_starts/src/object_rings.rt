@@ -183,7 +183,7 @@ fn edges_of<'a>(
 }
 
 /// Tells an object on a ring of calls.
-#[tactic(auto, using(ods_index::proofs::WalkSteps::node_steps))]
+#[tactic(auto, using(ods_index::proofs::Shared::WalkSteps::node_steps))]
 fn tell_node(alloc: Global, node: &Node) -> Result<(), Broken>
     ensures { Tells result (Some (V09Objects (object_of node.entry.now).name)) }
 {

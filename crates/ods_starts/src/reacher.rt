@@ -19,7 +19,7 @@ impl<'a> Reacher<'a> {
     ghost use Rattle.ods_starts.specs.Reaching.{reacher_of};
 
     /// A thread with what it requires.
-    #[tactic(auto, using(ods_index::proofs::WalkSteps::node_steps))]
+    #[tactic(auto, using(ods_index::proofs::Shared::WalkSteps::node_steps))]
     pub(crate) fn new(alloc: Global, thread: &'a Node) -> Result<Reacher<'a>, NoMemory>
         ensures { IfOk result (λ r. reacher_of r ≡ object_of thread.entry.now) }
     {

@@ -15,7 +15,7 @@ use ods_tree::{AttrKey, Kind, Node};
 use std::alloc::Global;
 
 /// The period or separation of a thread, in ticks.
-#[tactic(auto, using(ods_index::proofs::WalkSteps::node_steps))]
+#[tactic(auto, using(ods_index::proofs::Shared::WalkSteps::node_steps))]
 fn spacing(node: &Node) -> u32
     ensures { result ≡ spacing (object_of node.now) }
 {
@@ -29,7 +29,7 @@ fn spacing(node: &Node) -> u32
 }
 
 /// Tells a thread that starts another, of an object that it reaches, more often than its separation allows.
-#[tactic(auto, using(ods_index::proofs::WalkSteps::node_steps))]
+#[tactic(auto, using(ods_index::proofs::Shared::WalkSteps::node_steps))]
 fn target_fits(alloc: Global, from: &Node, reached: &Places<'_>, to: &Node) -> Result<(), Broken>
     ensures { Tells result (spaced (λ n. is_there (place_in reached.entry.now n)) (object_of from.now) (object_of to.now)) }
 {
@@ -50,7 +50,7 @@ fn target_fits(alloc: Global, from: &Node, reached: &Places<'_>, to: &Node) -> R
 }
 
 /// Tells the first of these threads that another starts more often than its separation allows.
-#[tactic(auto, using(ods_index::proofs::TellSteps::tell_steps))]
+#[tactic(auto, using(ods_index::proofs::Shared::TellSteps::tell_steps))]
 fn targets_fit(
     alloc: Global,
     from: &Node,
@@ -82,7 +82,7 @@ fn starter_fits<'a>(
 }
 
 /// Tells the first of these threads that starts another more often than its separation allows.
-#[tactic(auto, using(ods_index::proofs::TellSteps::tell_steps))]
+#[tactic(auto, using(ods_index::proofs::Shared::TellSteps::tell_steps))]
 fn starters_fit<'a>(alloc: Global, starts: &Starts<'a>, threads: &[&'a Node]) -> Result<(), Broken>
     ensures { Tells result (head_of
         (flat_map (λ f. filter_map (spaced (reaches (design_of starts.now.links.design.now) f) f)

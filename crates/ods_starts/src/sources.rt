@@ -150,7 +150,7 @@ fn reachers_of<'a>(
 }
 
 /// 1 where an object is requested from outside, and else 0.
-#[tactic(auto, using(ods_index::proofs::WalkSteps::node_steps))]
+#[tactic(auto, using(ods_index::proofs::Shared::WalkSteps::node_steps))]
 fn outside_count(node: &Node) -> usize
     ensures count { result ≡ length (option_to_list (attribute ArrivalJitter (object_of node.now))) }
     ensures one { result ≤ 1 }
@@ -162,7 +162,7 @@ fn outside_count(node: &Node) -> usize
 }
 
 /// How often a thread requests an object on one path at most, told as 2 where it is more.
-#[tactic(auto, using(ods_index::proofs::WalkSteps::node_steps))]
+#[tactic(auto, using(ods_index::proofs::Shared::WalkSteps::node_steps))]
 fn requests_in<'a>(
     alloc: Global,
     links: &Links<'a>,
@@ -210,7 +210,7 @@ fn sum_of(inside: usize, outside: usize) -> u32
 }
 
 /// Tells an object that has not one source, or is requested more than once on a path.
-#[tactic(auto, using(ods_index::proofs::WalkSteps::node_steps))]
+#[tactic(auto, using(ods_index::proofs::Shared::WalkSteps::node_steps))]
 fn counts_fit(alloc: Global, node: &Node, sources: u32, starts: u32) -> Result<(), Broken>
     ensures { Tells result (only_if (not (sources == 1) || not (nat_le starts 1)) (V10 (object_of node.now).name sources starts)) }
 {
@@ -258,7 +258,7 @@ impl<'a> Requests<'a> {
     }
 
     /// The number of sources of an object that is sporadic.
-    #[tactic(auto, using(ods_index::proofs::WalkSteps::node_steps))]
+    #[tactic(auto, using(ods_index::proofs::Shared::WalkSteps::node_steps))]
     fn source_count(&self, node: &Node) -> u32
         requires right { AreRight self.now }
         requires sporadic { is_sporadic (object_of node.now).kind ≡ true }
@@ -304,7 +304,7 @@ impl<'a> Requests<'a> {
     }
 
     /// Tells an object whose sources are wrong.
-    #[tactic(auto, using(ods_index::proofs::WalkSteps::node_steps))]
+    #[tactic(auto, using(ods_index::proofs::Shared::WalkSteps::node_steps))]
     fn target_fits(&self, alloc: Global, node: &Node) -> Result<(), Broken>
         requires { AreRight self.now }
         ensures { Tells result (source_fault (design_of self.now.starts.links.design.now) (object_of node.now)) }
@@ -318,7 +318,7 @@ impl<'a> Requests<'a> {
     }
 
     /// Tells the first object of these whose sources are wrong.
-    #[tactic(auto, using(ods_index::proofs::TellSteps::tell_steps))]
+    #[tactic(auto, using(ods_index::proofs::Shared::TellSteps::tell_steps))]
     fn targets_fit(&self, alloc: Global, threads: &[&'a Node]) -> Result<(), Broken>
         requires { AreRight self.now }
         ensures { Tells result (head_of (filter_map (source_fault (design_of self.now.starts.links.design.now)) (map thread_of threads.now))) }

@@ -23,7 +23,7 @@ use seq_tree::{Name, NoMemory};
 use std::alloc::Global;
 
 /// Adds the name of a thread, where it is sporadic.
-#[tactic(auto, using(ods_index::proofs::WalkSteps::node_steps, crate::proofs::StartSteps::target_steps))]
+#[tactic(auto, using(ods_index::proofs::Shared::WalkSteps::node_steps, crate::proofs::StartSteps::target_steps))]
 fn add_target<'a>(node: &'a Node, names: &mut Places<'a>) -> Result<(), NoMemory>
     ensures { OnOk result ((n : NameTree) → is_there (place_in names.new n)
         ≡ (is_there (place_in names.old n) || is_target n (object_of node.entry.now))) }
@@ -108,7 +108,7 @@ fn add_starts<'a>(
 }
 
 /// Adds the edges of a thread, where it has a place.
-#[tactic(auto, using(ods_index::proofs::WalkSteps::node_steps))]
+#[tactic(auto, using(ods_index::proofs::Shared::WalkSteps::node_steps))]
 fn add_thread<'a>(
     alloc: Global,
     starts: &Starts<'a>,
@@ -150,7 +150,7 @@ fn edges_of<'a>(
 }
 
 /// Tells a thread on a ring of starts, by its place.
-#[tactic(auto, using(ods_index::proofs::WalkSteps::node_steps))]
+#[tactic(auto, using(ods_index::proofs::Shared::WalkSteps::node_steps))]
 fn tell_thread(alloc: Global, threads: &[&Node], place: usize) -> Result<(), Broken>
     ensures { Tells result (option_map (λ n. V09Starts (node_name n)) (slice_get threads.now place)) }
 {

@@ -313,7 +313,7 @@ fn add_bodies<'a>(
 }
 
 /// Adds what the bodies of an object call, where it is protected and has no children.
-#[tactic(auto, using(ods_index::proofs::WalkSteps::node_steps))]
+#[tactic(auto, using(ods_index::proofs::Shared::WalkSteps::node_steps))]
 fn add_object<'a>(
     alloc: Global,
     links: &Links<'a>,
@@ -399,7 +399,7 @@ fn names_of<'a>(alloc: Global, ops: &[OpView<'a>]) -> Result<Places<'a>, NoMemor
 }
 
 /// What the thread of an object calls itself.
-#[tactic(auto, using(ods_index::proofs::WalkSteps::node_steps, crate::proofs::SpreadLaws::thread_laws))]
+#[tactic(auto, using(ods_index::proofs::Shared::WalkSteps::node_steps, crate::proofs::SpreadLaws::thread_laws))]
 fn thread_starts<'a>(
     alloc: Global,
     links: &Links<'a>,

@@ -11,8 +11,8 @@ use Rattle.ods_tree.specs.declared.design.Constraint.TheVariants.{Paer}
 use Rattle.ods_tree.specs.Walk.{objects, own_of}
 use Rattle.ods_tree.specs.Links.{resolve}
 use Rattle.ods_tree.specs.Flattening.{flat}
-use Rattle.ods_tree.proofs.Short.{v_in}
-use Rattle.ods_tree.proofs.Mine.{mine, pump_controller, water_handler, data_logger, alarm_console}
+use Rattle.ods_tree.proofs.Shared.Short.{v_in}
+use Rattle.ods_tree.proofs.Shared.Mine.{mine, pump_controller, water_handler, data_logger, alarm_console}
 
 -- a printed line
 printed : parts_text (provided_line 2 (record { sig = record { name = codes "set"; params = v_in ∷ [] }; constraint = Some Paer })).parts

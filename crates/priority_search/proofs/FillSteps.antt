@@ -8,10 +8,10 @@ use Rattle.std.proofs.lemmas.Option.{same_Some, slice_get_within}
 use Rattle.ods_tree.specs.Flats.{Flat}
 use Rattle.analysis.specs.Priorities.{priorities_of}
 use Rattle.analysis.specs.Sound.{IsSound}
-use Rattle.order_laws.specs.Orders.{places_of, IsOrder, CanBeLast, IsLowest, IsFilledFrom}
-use Rattle.order_laws.proofs.OrderPlaces.{place-stands, take-at, at-take, stands-place}
-use Rattle.order_laws.proofs.Permutations.{skip}
-use Rattle.order_laws.proofs.SamePlaces.{lowest-same}
+use Rattle.law_orders.specs.Orders.{places_of, IsOrder, CanBeLast, IsLowest, IsFilledFrom}
+use Rattle.law_orders.proofs.Shared.OrderPlaces.{place-stands, take-at, at-take, stands-place}
+use Rattle.law_orders.proofs.Shared.Permutations.{skip}
+use Rattle.law_orders.proofs.Shared.SamePlaces.{lowest-same}
 use Rattle.priority_search.specs.Steps.{IsNext, AreByDeadline, IsMoved}
 use Rattle.priority_search.proofs.Moves.{moved-front, moved-here, moved-beyond, moved-order, moved-same, moved-long, skip-rises, skip-below}
 

@@ -3,6 +3,5 @@ pub mod FirstRows
 pub mod Moves
 pub mod FillSteps
 pub mod LastSteps
-pub mod NextSteps
 pub mod SearchSteps
-pub mod OneAnswer
+pub mod Shared

@@ -9,14 +9,14 @@ use Rattle.ods_tree.specs.Flats.{Flat}
 use Rattle.analysis.specs.Priorities.{priorities_of}
 use Rattle.analysis.specs.Sound.{IsSound}
 use Rattle.analysis.specs.Tables.{places_by_priority}
-use Rattle.program_calls.proofs.Lists.{IsIn, at-in, place-of, in-filter, filter-in, each-in}
-use Rattle.design_programs.proofs.TabledPrograms.{has-at}
-use Rattle.order_laws.specs.Orders.{AllExternal, places_of, IsOrder, Passes, has_place, IsFilled, IsObstacle, IsFilledFrom, NoneIsLast}
-use Rattle.order_laws.proofs.OrderPlaces.{order-within, place-stands, stands-place, take-at, at-take}
-use Rattle.order_laws.proofs.Passing.{pass-by-lasts}
-use Rattle.order_laws.proofs.Obstacles.{obstacles-refuse}
-use Rattle.order_laws.proofs.DeadlineOrders.{priority-there}
-use Rattle.order_laws.proofs.SamePlaces.{SamePlaces, last-same}
+use Rattle.law_calls.proofs.Shared.Lists.{IsIn, at-in, place-of, in-filter, filter-in, each-in}
+use Rattle.law_designs.proofs.Shared.TabledPrograms.{has-at}
+use Rattle.law_orders.specs.Orders.{AllExternal, places_of, IsOrder, Passes, has_place, IsFilled, IsObstacle, IsFilledFrom, NoneIsLast}
+use Rattle.law_orders.proofs.Shared.OrderPlaces.{order-within, place-stands, stands-place, take-at, at-take}
+use Rattle.law_orders.proofs.Shared.Passing.{pass-by-lasts}
+use Rattle.law_orders.proofs.Shared.Obstacles.{obstacles-refuse}
+use Rattle.law_orders.proofs.Shared.DeadlineOrders.{priority-there}
+use Rattle.law_orders.proofs.Shared.SamePlaces.{SamePlaces, last-same}
 use Rattle.priority_search.specs.Steps.{AreByDeadline, listed}
 use Rattle.priority_search.specs.Searches.{IsRefuted}
 

@@ -4,7 +4,7 @@ use Rattle.std.specs.Prelude.{◌≡◌, ℕ, List, take, Some, Result, Ok, Err,
 use Rattle.std.specs.List.{position_from}
 use Rattle.ods_tree.specs.Flats.{Flat}
 use Rattle.rt_response.specs.Response.{IsLeastVector}
-use Rattle.order_laws.specs.Orders.{is_internal, AllExternal, IsOrder, ranks_by, rows_by, Passes, IsFilled, IsStuck, IsObstacle}
+use Rattle.law_orders.specs.Orders.{is_internal, AllExternal, IsOrder, ranks_by, rows_by, Passes, IsFilled, IsStuck, IsObstacle}
 use Rattle.priority_search.specs.Steps.{listed}
 use Rattle.priority_search.specs.declared.found.Found.{Found}
 use Rattle.priority_search.specs.declared.found.NotFound.{NotFound}

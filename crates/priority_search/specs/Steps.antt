@@ -4,7 +4,7 @@ use Rattle.std.specs.Prelude.{◌≡◌, ℕ, ◌<◌, ◌≤◌, List, take, fi
 use Rattle.std.specs.List.{insert, remove}
 use Rattle.ods_tree.specs.Flats.{Flat}
 use Rattle.analysis.specs.Priorities.{priorities_of}
-use Rattle.order_laws.specs.Orders.{places_of, has_place, CanBeLast}
+use Rattle.law_orders.specs.Orders.{places_of, has_place, CanBeLast}
 
 -- the last of the first threads of an order that can be last of them
 pub record IsNext (f : Flat) (order : List ℕ) (free at : ℕ) : Type 0 where

@@ -3,7 +3,7 @@ ghost use Rattle.std.specs.List.{insert, remove};
 ghost use Rattle.ods_tree.specs.Trees.{flat_of};
 ghost use Rattle.analysis.specs.Sound.{IsSound};
 ghost use Rattle.rt_block.specs.Designs.{design_of};
-ghost use Rattle.order_laws.specs.Orders.{AllExternal, IsFilledFrom, IsOrder, NoneIsLast};
+ghost use Rattle.law_orders.specs.Orders.{AllExternal, IsFilledFrom, IsOrder, NoneIsLast};
 ghost use Rattle.priority_search.specs.Steps.{AreByDeadline, IsMoved, IsNext};
 
 use crate::last::last_row;

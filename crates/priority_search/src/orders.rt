@@ -6,7 +6,7 @@ ghost use Rattle.analysis.specs.Sound.{IsSound};
 ghost use Rattle.analysis.specs.Tables.{table_for};
 ghost use Rattle.analysis.specs.Trees.{ranks_of, table_of};
 ghost use Rattle.rt_block.specs.Designs.{design_of};
-ghost use Rattle.order_laws.specs.Orders.{priority_in, priorities_by, ranks_by};
+ghost use Rattle.law_orders.specs.Orders.{priority_in, priorities_by, ranks_by};
 
 use analysis::{Ranking, Table};
 use ods_tree::Flat;

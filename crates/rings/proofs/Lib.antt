@@ -1,3 +1,2 @@
-pub mod Reaching
 pub mod RingLaws
-pub mod NamedRings
+pub mod Shared

@@ -8,7 +8,7 @@ use Rattle.rings.specs.Graphs.{has_number, is_step}
 use Rattle.rings.specs.Ranks.{falls, is_before, stays}
 use Rattle.rings.specs.Reached.{leads, Goes, IsReached, TellsRing}
 use Rattle.rings.specs.declared.graph.Graph.{Graph}
-use Rattle.rings.proofs.Reaching.{both, and-from}
+use Rattle.rings.proofs.Shared.Reaching.{both, and-from}
 
 -- paths of edges that are the same
 pub same-paths : (f g : ℕ → ℕ → Bool) → ((a b : ℕ) → f a b ≡ g a b) → (a : ℕ) (path : List ℕ) (b : ℕ) → LeadsTo (Goes f) a path b

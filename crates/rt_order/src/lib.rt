@@ -4,6 +4,10 @@
 //! thread's deadline, the greater its priority, and the ceiling of what threads share is the greatest priority of those that come
 //! to it, in their blocks or through protected objects. `rank` gives the ceilings for any other priorities, and where they are asked
 //! for many, `sharing_of` walks the blocks once and `ceilings` reads what it found.
+//!
+//! Other crates may cite these proofs of it (`proofs/Shared`):
+//!
+//! - `CeilingSteps`: ceilings that are found round by round are those of the definition.
 #![tactic(auto)]
 
 mod calling;

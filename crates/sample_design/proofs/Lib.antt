@@ -1,5 +1,5 @@
 pub mod Digits
 pub mod TreeSteps
-pub mod NumberSteps
 pub mod RequestSteps
 pub mod Examples
+pub mod Shared

@@ -5,7 +5,7 @@ use Rattle.std.specs.Prelude.{if◌then◌else◌}
 use Rattle.std.proofs.lemmas.Grind.{flat_map-append}
 use Rattle.sample_design.specs.Samples.{from_to}
 use Rattle.sample_design.specs.Requests.{is_due, request_at, request_line, request_lines, requests_among, requests_at}
-use Rattle.sample_design.proofs.NumberSteps.{from_to-step, from_to-none}
+use Rattle.sample_design.proofs.Shared.NumberSteps.{from_to-step, from_to-none}
 
 -- the line of a thread's request, where it has one at a time
 abbrev pub due_line : ℕ → ℕ → ℕ → List ℕ

@@ -132,7 +132,7 @@ fn thread(alloc: Global, n: u32, k: u32) -> Result<Node, NoMemory>
 }
 
 /// Threads of so many, from one on and below another.
-#[tactic(auto, using(crate::proofs::NumberSteps::number_steps))]
+#[tactic(auto, using(crate::proofs::Shared::NumberSteps::number_steps))]
 fn members(alloc: Global, n: u32, first: u32, end: u32) -> Result<Vec<Node>, NoMemory>
     requires { (n ≤ 30) × (end ≤ 31) }
     ensures { IfOk result (λ v. map tree_of v.items ≡ map (thread n) (from_to first end)) }
@@ -176,7 +176,7 @@ fn group(alloc: Global, n: u32, g: u32) -> Result<Node, NoMemory>
 }
 
 /// The object that holds all.
-#[tactic(auto, using(crate::proofs::NumberSteps::number_steps))]
+#[tactic(auto, using(crate::proofs::Shared::NumberSteps::number_steps))]
 pub(crate) fn plant(alloc: Global, n: u32) -> Result<Node, NoMemory>
     requires { n ≤ 30 }
     ensures { IfOk result (λ t. tree_of t ≡ plant n) }

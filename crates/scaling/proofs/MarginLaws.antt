@@ -3,12 +3,12 @@ use Rattle.std.proofs.Common.{◌≡◌, ◌≤◌, ◌+◌, ℕ, suc, ap, ◌�
 use Rattle.ods_tree.specs.Flats.{Flat}
 use Rattle.analysis.specs.Ceilings.{Ranks, ranks, ranks_for}
 use Rattle.analysis.specs.Sound.{IsSound}
-use Rattle.scaling_laws.specs.Scaling.{scaled_in, work_of, most_per_mille}
-use Rattle.scaling_laws.specs.Parts.{first_dear}
-use Rattle.scaling_laws.specs.Holding.{HoldsIn}
-use Rattle.scaling_laws.proofs.Holding.{holds-less, least-cheap}
-use Rattle.scaling_laws.proofs.Ranks.{ranks-same}
-use Rattle.scaling_laws.proofs.Sound.{sound-still}
+use Rattle.law_scaling.specs.Scaling.{scaled_in, work_of, most_per_mille}
+use Rattle.law_scaling.specs.Parts.{first_dear}
+use Rattle.law_scaling.specs.Holding.{HoldsIn}
+use Rattle.law_scaling.proofs.Shared.Holding.{holds-less, least-cheap}
+use Rattle.law_scaling.proofs.Shared.Ranks.{ranks-same}
+use Rattle.law_scaling.proofs.Shared.Sound.{sound-still}
 use Rattle.seq_tree.specs.Names.{Name}
 use Rattle.scaling.specs.Failures.{IsDear, IsHolding, FailsIn, IsFailureIn}
 use Rattle.scaling.specs.Margins.{IsNext, IsMarginIn}

@@ -1,5 +1,6 @@
 -- The names of bodies and threads, with what they cost beside them, tell the first that is too dear.
-use Rattle.std.proofs.Common.{◌≡◌, ℕ, min, Bool, true, false, List, [], ◌∷◌, ◌++◌, map, refl, ap, ◌∙◌, sym, arith, Option, Some, None, option_map, slice_get, suc, ◌+◌}
+use Rattle.std.proofs.Common.{◌≡◌, ℕ, min, Bool, true, false, List, [], ◌∷◌, ◌++◌, map, refl, ap, ◌∙◌, sym, arith, Option, Some, None, option_map}
+use Rattle.std.proofs.Common.{slice_get, suc, ◌+◌}
 use Rattle.std.specs.Prelude.{find, nat_lt, nat_le, flat_map}
 use Rattle.std.proofs.lemmas.List.{map-append}
 use Rattle.seq_tree.specs.Names.{Name}
@@ -8,8 +9,8 @@ use Rattle.ods_tree.specs.Flats.{Library, Guarded, Thread, Flat}
 use Rattle.rt_block.specs.Bases.{thread_cost}
 use Rattle.rt_block.specs.PartCosts.{body_cost, part_costs}
 use Rattle.rt_block.specs.Prices.{cap}
-use Rattle.scaling_laws.specs.Parts.{Part, most_ticks, body_part, thread_part, parts, first_dear}
-use Rattle.scaling_laws.proofs.Ranks.{map-map}
+use Rattle.law_scaling.specs.Parts.{Part, most_ticks, body_part, thread_part, parts, first_dear}
+use Rattle.law_scaling.proofs.Shared.Ranks.{map-map}
 use Rattle.scaling.specs.PartNames.{PartName, body_name, thread_name, part_names, dear_among}
 use Rattle.scaling.specs.Failures.{IsCheap, IsDear, IsNamed}
 use Rattle.scaling.specs.declared.margin.Next.{Next}

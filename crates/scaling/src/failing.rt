@@ -4,7 +4,7 @@ ghost use Rattle.analysis.specs.Ceilings.{ranks};
 ghost use Rattle.analysis.specs.Sound.{IsSound};
 ghost use Rattle.analysis.specs.Trees.{ranks_of};
 ghost use Rattle.rt_block.specs.Designs.{design_of};
-ghost use Rattle.scaling_laws.specs.Parts.{first_dear};
+ghost use Rattle.law_scaling.specs.Parts.{first_dear};
 ghost use Rattle.scaling.specs.Failures.{IsBounded, IsCheap, IsFailureIn, IsHolding, IsNamed};
 ghost use Rattle.scaling.specs.Views.{view_of};
 

@@ -5,7 +5,7 @@ use Rattle.seq_tree.specs.Calls.{block_calls, branch_calls, statement_calls}
 use Rattle.seq_tree.specs.Trees.{arm_of, branches_of, statement_of, statements_of}
 use Rattle.seq_tree.specs.declared.tree.Arm.{Arm}
 use Rattle.seq_tree.specs.declared.tree.Stmt.{Stmt}
-use Rattle.seq_tree.proofs.LoopSteps.{drop_step}
+use Rattle.seq_tree.proofs.Shared.LoopSteps.{drop_step}
 
 -- the calls of the statement at an index come before those of the later ones
 pub statement_step : (ss : List Stmt) (i : ℕ) (s : Stmt) → i < length ss → s ≡ get_or ss i s →

@@ -6,6 +6,11 @@
 //!
 //! `cost` and `starts_through` search their list for each call. Where there are many callees, `cost_by`, `capped_cost`,
 //! `starts_by` and `counted_by` take any account of them, as the `OpTable` of `name_sets`, which searches by halves.
+//!
+//! Other crates may cite these proofs of it (`proofs/Shared`):
+//!
+//! - `CutCosts`: costs cut at a limit: cutting what calls count changes no cut cost.
+//! - `Listed`: the cost of a block, where its callees have what each call of it costs by another account, is the cost by that account.
 #![tactic(auto)]
 
 mod accounts;

@@ -11,10 +11,10 @@ use Rattle.seq_tree.specs.Statements.{Statements}
 use Rattle.seq_tree.specs.Variables.{Variables}
 use Rattle.seq_tree.specs.Runs.{Action, Callee, Path}
 use Rattle.seq_tree.specs.declared.tree.Costs.{Costs}
-use Rattle.block_walks.specs.Fit.{MayRun}
-use Rattle.block_walks.specs.Laws.{RunOf}
-use Rattle.block_walks.specs.Walks.{walk_at}
-use Rattle.block_walks.proofs.Exact.{tells}
+use Rattle.law_walks.specs.Fit.{MayRun}
+use Rattle.law_walks.specs.Laws.{RunOf}
+use Rattle.law_walks.specs.Walks.{walk_at}
+use Rattle.law_walks.proofs.Shared.Exact.{tells}
 use Rattle.seq_eval.specs.Ends.{IsEnd, comes_to, names_of}
 use Rattle.seq_eval.specs.Ends as ends
 use Rattle.seq_eval.specs.Following.{Answers, Means}

@@ -11,10 +11,10 @@ use Rattle.seq_tree.specs.Variables.{Variables}
 use Rattle.seq_tree.specs.Runs.{Action, Path, Callee, Plain, Protected, Asked, Unknown}
 use Rattle.seq_tree.specs.Operations.{Operation}
 use Rattle.seq_tree.specs.declared.tree.Costs.{Costs}
-use Rattle.block_walks.specs.Walks.{walk_at}
-use Rattle.block_walks.specs.Fit.{MayStatement, MayBlock, MayBranches, Leads, MayCall, MayRun}
-use Rattle.block_walks.specs.Laws.{RunOf, Tells}
-use Rattle.block_walks.proofs.Exact.{tells}
+use Rattle.law_walks.specs.Walks.{walk_at}
+use Rattle.law_walks.specs.Fit.{MayStatement, MayBlock, MayBranches, Leads, MayCall, MayRun}
+use Rattle.law_walks.specs.Laws.{RunOf, Tells}
+use Rattle.law_walks.proofs.Shared.Exact.{tells}
 use Rattle.seq_eval.specs.Ends.{comes_to}
 
 -- good calls, with a weaker fact

@@ -14,8 +14,8 @@ use Rattle.seq_tree.specs.Variables.{Variables}
 use Rattle.seq_tree.specs.Runs.{Action, Callee}
 use Rattle.seq_tree.specs.declared.tree.Block.{Block}
 use Rattle.seq_tree.specs.declared.tree.Costs.{Costs}
-use Rattle.seq_tree.proofs.TreeForms.{block-tree}
-use Rattle.block_walks.specs.Walks.{walk_at}
+use Rattle.seq_tree.proofs.Shared.TreeForms.{block-tree}
+use Rattle.law_walks.specs.Walks.{walk_at}
 use Rattle.seq_eval.specs.Actions.{action_of}
 use Rattle.seq_eval.specs.Ends.{IsEnd, comes_to, names_of}
 use Rattle.seq_eval.specs.Ends as ends

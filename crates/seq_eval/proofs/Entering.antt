@@ -7,7 +7,7 @@ use Rattle.seq_tree.specs.Variables.{Variables, entered_by}
 use Rattle.seq_tree.specs.declared.tree.Mode.{Mode}
 use Rattle.seq_tree.specs.declared.tree.Mode.TheVariants.{In, Out}
 use Rattle.seq_tree.specs.declared.tree.Param.{Param}
-use Rattle.seq_tree.proofs.LoopSteps.{drop_step}
+use Rattle.seq_tree.proofs.Shared.LoopSteps.{drop_step}
 
 -- a parameter for which there is no value
 pub entered-none : (m : Mode) (name : Name) (others : List ℕ → Variables) → entered_by m name [] others ≡ (name, 0) ∷ others []

@@ -11,8 +11,8 @@ use Rattle.seq_tree.specs.declared.tree.BinOp.TheVariants as op
 use Rattle.seq_tree.specs.declared.tree.Costs.{Costs}
 use Rattle.seq_tree.specs.declared.tree.Mode.TheVariants.{In, Out}
 use Rattle.seq_tree.specs.declared.tree.OpName.{OpName}
-use Rattle.block_walks.specs.Fit.{MayRun}
-use Rattle.block_walks.specs.Walks.{walk_at}
+use Rattle.law_walks.specs.Fit.{MayRun}
+use Rattle.law_walks.specs.Walks.{walk_at}
 use Rattle.seq_eval.specs.Bounds.{most_ticks}
 use Rattle.seq_eval.specs.Ends.{comes_to}
 

@@ -7,7 +7,7 @@ use Rattle.seq_tree.specs.Statements.{Statements}
 use Rattle.seq_tree.specs.Variables.{Variables}
 use Rattle.seq_tree.specs.Runs.{Action, Callee}
 use Rattle.seq_tree.specs.declared.tree.Costs.{Costs}
-use Rattle.block_walks.specs.Walks.{walk_at}
+use Rattle.law_walks.specs.Walks.{walk_at}
 use Rattle.seq_eval.specs.Bounds.{most_ticks}
 use Rattle.seq_eval.specs.Ends.{comes_to, names_of}
 use Rattle.seq_eval.specs.Ends as ends

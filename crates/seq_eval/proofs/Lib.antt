@@ -1,4 +1,3 @@
-pub mod Reading
 pub mod Truths
 pub mod Divisions
 pub mod Scoping
@@ -12,3 +11,4 @@ pub mod Keeping
 pub mod Ending
 pub mod Answering
 pub mod FollowExamples
+pub mod Shared

@@ -18,11 +18,11 @@ use Rattle.seq_tree.specs.Runs.{Action, Path, Callee, Plain, Protected, Asked, U
 use Rattle.seq_tree.specs.declared.tree.Costs.{Costs}
 use Rattle.seq_tree.specs.declared.tree.OpName.{OpName}
 use Rattle.seq_tree.specs.declared.tree.Param.{Param}
-use Rattle.block_walks.specs.Walks.{Walk, Guide, after_at, turns_at, sees_entry, sees_leave, sees_print, sees_request, called_at, chosen_at}
-use Rattle.block_walks.specs.Walks as walks
+use Rattle.law_walks.specs.Walks.{Walk, Guide, after_at, turns_at, sees_entry, sees_leave, sees_print, sees_request, called_at, chosen_at}
+use Rattle.law_walks.specs.Walks as walks
 use Rattle.seq_tree.specs.Runs as runs
 use Rattle.grammar.specs.Reading as reading
-use Rattle.block_walks.specs.Walks.{statement_at, block_at, branches_at, body_at, walk_at, returned}
+use Rattle.law_walks.specs.Walks.{statement_at, block_at, branches_at, body_at, walk_at, returned}
 use Rattle.seq_eval.specs.Ends.{comes_to}
 use Rattle.seq_eval.specs.Ends as ends
 use Rattle.seq_eval.specs.Stepping.{Doing, Rest, Arms, Turned, Returned, State, Step, spent, to_do, turning, told_by}

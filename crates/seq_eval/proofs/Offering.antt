@@ -9,7 +9,7 @@ use Rattle.seq_tree.specs.Trees.{offer_of, operation_of}
 use Rattle.seq_tree.specs.declared.tree.Callable.{Callable}
 use Rattle.seq_tree.specs.declared.tree.OpName.{OpName}
 use Rattle.seq_tree.specs.declared.tree.OpText.{OpText}
-use Rattle.seq_tree.proofs.LoopSteps.{drop_step}
+use Rattle.seq_tree.proofs.Shared.LoopSteps.{drop_step}
 use Rattle.seq_eval.specs.Following.{callee_by, is_offered, is_plain}
 use Rattle.seq_eval.specs.Targets.{callee_of, first_callee}
 use Rattle.seq_eval.specs.declared.targets.Target.{Target}

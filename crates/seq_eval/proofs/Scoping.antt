@@ -6,7 +6,7 @@ use Rattle.std.proofs.lemmas.List.{take-append-drop, drop-set, take-set, map-app
 use Rattle.std.proofs.lemmas.List.Sums.{fold-append}
 use Rattle.seq_tree.specs.Names.{Name, same_name}
 use Rattle.seq_tree.specs.Variables.{Variables, write}
-use Rattle.seq_tree.proofs.LoopSteps.{drop_step, take_step}
+use Rattle.seq_tree.proofs.Shared.LoopSteps.{drop_step, take_step}
 use Rattle.seq_eval.specs.Scopes.{vars_of, with_var}
 use Rattle.seq_eval.specs.declared.scope.Var.{Var}
 

@@ -17,7 +17,7 @@ use Rattle.seq_tree.specs.Dearest.{dearest_statement, dearest_branch, turn_count
 use Rattle.seq_tree.specs.Runs.{Action, Callee, Plain, Protected, Asked, Unknown, request_value}
 use Rattle.seq_tree.specs.declared.tree.Costs.{Costs}
 use Rattle.seq_tree.specs.declared.tree.OpName.{OpName}
-use Rattle.block_walks.specs.Walks.{sees_entry, sees_leave, sees_print, sees_request}
+use Rattle.law_walks.specs.Walks.{sees_entry, sees_leave, sees_print, sees_request}
 use Rattle.seq_eval.specs.Bounds.{block_ticks, callee_ticks, called_ticks, most_ticks}
 use Rattle.seq_eval.specs.Stepping.{Doing, Rest, Arms, Turned, Returned, State, Step, spent, to_do, turning, turned_over, told_by}
 use Rattle.seq_eval.specs.Stepping.{left_by, stored_by, called, begun, branched, done, passed_over, step_by, step}

@@ -1,5 +1,5 @@
 -- What the answer of following a block along a script means: a run and its ticks, a script that ends inside a run, or the first action
--- that no run has at its place. Runs are those of the sequential language, and walks those of `block_walks`.
+-- that no run has at its place. Runs are those of the sequential language, and walks those of `law_walks`.
 use Rattle.std.specs.Prelude.{◌≡◌, ℕ, suc, ◌+◌, ◌≤◌, ◌<◌, ◌&&◌, Bool, List, length, take, find, zip, Option, Some, None, Result, Ok, Err}
 use Rattle.grammar.specs.Reading.{left_of, Halt, whole_at}
 use Rattle.seq_tree.specs.Names.{Name, same_name}
@@ -9,7 +9,7 @@ use Rattle.seq_tree.specs.Variables.{Variables}
 use Rattle.seq_tree.specs.Runs.{Action, Path, Callee, Plain, Protected, Asked, Unknown, Run, IsScript, BeginsScript}
 use Rattle.seq_tree.specs.declared.tree.Costs.{Costs}
 use Rattle.seq_tree.specs.declared.memory.NoMemory.{NoMemory}
-use Rattle.block_walks.specs.Walks.{walk_at}
+use Rattle.law_walks.specs.Walks.{walk_at}
 use Rattle.seq_eval.specs.declared.action.Followed.{Followed}
 use Rattle.seq_eval.specs.declared.action.Followed.TheVariants.{Done, Short, Off}
 

@@ -14,7 +14,7 @@ use Rattle.seq_tree.specs.Runs.{Action, Callee, Plain, Protected, Asked, Unknown
 use Rattle.seq_tree.specs.declared.tree.Costs.{Costs}
 use Rattle.seq_tree.specs.declared.tree.OpName.{OpName}
 use Rattle.seq_tree.specs.declared.tree.Param.{Param}
-use Rattle.block_walks.specs.Walks.{sees_entry, sees_leave, sees_print, sees_request}
+use Rattle.law_walks.specs.Walks.{sees_entry, sees_leave, sees_print, sees_request}
 
 -- what is left to do
 pub data Doing : Type 0 where

@@ -1,8 +1,8 @@
 ghost use Rattle.std.specs.Prelude.{◌≡◌, ◌≤◌, ◌<◌, ℕ, IfOk, OnOk, length, map};
 ghost use Rattle.grammar.specs.Reading.{whole_at};
 ghost use Rattle.seq_tree.specs.Trees.{block_of, offer_of, operation_of};
-ghost use Rattle.block_walks.specs.Fit.{MayRun};
-ghost use Rattle.block_walks.specs.Walks.{walk_at};
+ghost use Rattle.law_walks.specs.Fit.{MayRun};
+ghost use Rattle.law_walks.specs.Walks.{walk_at};
 ghost use Rattle.seq_eval.specs.Actions.{action_of};
 ghost use Rattle.seq_eval.specs.Bounds.{most_ticks};
 ghost use Rattle.seq_eval.specs.Ends.{FitsEnd, IsEnd, comes_to, names_of};

@@ -12,7 +12,7 @@ pub struct Env {
 }
 
 /// Whether two names are one.
-#[tactic(auto, using(crate::proofs::Reading::names))]
+#[tactic(auto, using(crate::proofs::Shared::Reading::names))]
 pub(crate) fn is_same(one: &Name, other: &Name) -> bool
     ensures { result ≡ same_name one.now other.now }
 {

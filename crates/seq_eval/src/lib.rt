@@ -1,10 +1,14 @@
 //! The values of expressions, over any table of variables, and which run of a block, if any, shows a script of actions.
 //!
-//! It stands on `seq_tree`, which defines values and runs, and on `block_walks`, which reads a block along a script as a text is read by a
+//! It stands on `seq_tree`, which defines values and runs, and on `law_walks`, which reads a block along a script as a text is read by a
 //! grammar. `eval` carries the first promise: it answers exactly the value of an expression, over the variables that a `Lookup` stands for.
 //! `Env` is the plainest `Lookup`, a list of names and values. `follow` carries the second: its answer is that of the walk
 //! (`specs/Following.antt`), and in words of runs the same. It keeps what is left to do on a stack of its own, so that no chain of calls makes
 //! it recur, and looks up each call in a table.
+//!
+//! Other crates may cite these proofs of it (`proofs/Shared`):
+//!
+//! - `Reading`: a variable reads as what is found under its name, and as 0 where nothing is.
 #![tactic(auto)]
 
 mod action;

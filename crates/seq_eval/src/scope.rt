@@ -70,7 +70,7 @@ impl<'a> Scope<'a> {
     }
 
     /// The value of the innermost variable of this name, and 0 where there is none.
-    #[tactic(auto, using(crate::proofs::Reading::found_read))]
+    #[tactic(auto, using(crate::proofs::Shared::Reading::found_read))]
     pub fn read(&self, name: &Name) -> u32
         ensures { result ≡ read name.now self.now }
     {

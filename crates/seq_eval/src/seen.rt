@@ -2,7 +2,7 @@ ghost use Rattle.std.specs.Prelude.{◌≡◌, is_some, map, option_map};
 ghost use Rattle.seq_tree.specs.Calls.{same_op};
 ghost use Rattle.seq_tree.specs.Trees.{expression_of};
 ghost use Rattle.seq_tree.specs.Values.{handed};
-ghost use Rattle.block_walks.specs.Walks.{same_value, sees_entry, sees_leave, sees_print, sees_request};
+ghost use Rattle.law_walks.specs.Walks.{same_value, sees_entry, sees_leave, sees_print, sees_request};
 ghost use Rattle.seq_eval.specs.Actions.{action_of};
 
 use crate::action::Action;
@@ -11,7 +11,7 @@ use crate::scope::Scope;
 use seq_tree::{Expr, Name, OpName, Param};
 
 /// Whether these names are those of an operation.
-#[tactic(auto, using(crate::proofs::Reading::names))]
+#[tactic(auto, using(crate::proofs::Shared::Reading::names))]
 fn is_same_op(object: &Name, op: &Name, other: &OpName) -> bool
     ensures { result ≡ same_op (record { object = object.now; op = op.now }) other.now }
 {

@@ -27,7 +27,7 @@ fn word(value: u32) -> Valued
 }
 
 /// The value of the first variable of that name, and 0 where there is none.
-#[tactic(auto, using(crate::proofs::Reading::found_read))]
+#[tactic(auto, using(crate::proofs::Shared::Reading::found_read))]
 fn read<L: Lookup>(name: &Name, env: &L) -> u32
     ensures { result ≡ read name.now (L.meaning env.now) }
 {

@@ -2,7 +2,7 @@
 use Rattle.std.proofs.Common.{◌≡◌, ℕ, suc, ◌+◌, ◌<◌, List, ◌∷◌, map, length, drop, get_or, ap, sym, add-one, drop-cons}
 use Rattle.seq_tree.specs.Trees.{arm_of, block_of, expression_of}
 use Rattle.seq_tree.specs.declared.tree.Arm.{Arm}
-use Rattle.seq_tree.proofs.TreeForms.{arm-tree}
+use Rattle.seq_tree.proofs.Shared.TreeForms.{arm-tree}
 
 -- an arm and those behind it
 pub arms-next : (arms : List Arm) (i : ℕ) (a : Arm) → i < length arms → a ≡ get_or arms i a

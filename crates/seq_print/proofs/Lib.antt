@@ -1,11 +1,5 @@
 pub mod Examples
-pub mod Following
-pub mod Fronts
-pub mod BackLaws
 pub mod Indents
-pub mod Chains
-pub mod Spacing
-pub mod Depths
 pub mod StatementTexts
-pub mod TokenForms
 pub mod ArmForms
+pub mod Shared

@@ -11,9 +11,9 @@ use Rattle.seq_tree.specs.declared.tree.Arm.{Arm}
 use Rattle.seq_tree.specs.declared.token.Token.TheVariants.{Word, Number, Sign}
 use Rattle.seq_tree.specs.declared.token.Mark.TheVariants.{LeftParen, RightParen, Semicolon, Dot, DotDot, Becomes}
 use Rattle.seq_print.specs.Printing.{expression_text, actuals_text}
-use Rattle.seq_print.proofs.Depths.{both, layout-append, block-deeper}
+use Rattle.seq_print.proofs.Shared.Depths.{both, layout-append, block-deeper}
 use Rattle.seq_print.proofs.ArmForms.{arms-next}
-use Rattle.seq_print.proofs.Spacing.{tokens-spaced, expression-first, expression-next, actuals-spaced}
+use Rattle.seq_print.proofs.Shared.Spacing.{tokens-spaced, expression-first, expression-next, actuals-spaced}
 
 -- the spaces before a line
 abbrev pub indent : ℕ → List ℕ

@@ -23,7 +23,7 @@ pub fn put_indent(into: &mut Vec<u8>, level: u32) -> Result<(), NoMemory>
 }
 
 /// Adds a line of this level with these bytes; for want of memory a part of it may have been added.
-#[tactic(auto, using(crate::proofs::Chains::writing))]
+#[tactic(auto, using(crate::proofs::Shared::Chains::writing))]
 pub fn put_line(into: &mut Vec<u8>, level: u32, bytes: &[u8]) -> Result<(), NoMemory>
     ensures { Writes result into.old.items into.new.items (replicate (min 30 (3 * level)) 32 ++ (bytes.now ++ codes "\n")) }
 {

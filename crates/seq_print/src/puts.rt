@@ -21,7 +21,7 @@ pub fn put_digits(into: &mut Vec<u8>, n: u32) -> Result<(), NoMemory>
 }
 
 /// Adds a name between other bytes; for want of memory a front of them may have been added.
-#[tactic(auto, using(crate::proofs::Chains::adding))]
+#[tactic(auto, using(crate::proofs::Shared::Chains::adding))]
 pub fn put_name(
     into: &mut Vec<u8>,
     before: &[u8],
@@ -36,7 +36,7 @@ pub fn put_name(
 }
 
 /// Adds the digits of a number between other bytes; for want of memory a front of them may have been added.
-#[tactic(auto, using(crate::proofs::Chains::adding))]
+#[tactic(auto, using(crate::proofs::Shared::Chains::adding))]
 pub fn put_number(into: &mut Vec<u8>, before: &[u8], n: u32, behind: &[u8]) -> Result<(), NoMemory>
     ensures { Adds result into.old.items into.new.items (before.now ++ (decimal n ++ behind.now)) }
 {

@@ -9,9 +9,9 @@ use Rattle.seq_tree.specs.declared.token.Mark.TheVariants.{LeftParen, RightParen
 use Rattle.token_read.specs.Readers.{fixed_at, next_is}
 use Rattle.seq_read.specs.Expressions.{ExpressionReader, expression_at}
 use Rattle.seq_read.specs.Statements.{further_at, list_at}
-use Rattle.seq_read.proofs.Takes.{Takes}
-use Rattle.seq_read.proofs.Turns.{onward, onward-fails, onward-ends}
-use Rattle.seq_read.proofs.TokenTakes.{takes-expression, takes-further}
+use Rattle.seq_read.proofs.Shared.Takes.{Takes}
+use Rattle.seq_read.proofs.Shared.Turns.{onward, onward-fails, onward-ends}
+use Rattle.seq_read.proofs.Shared.TokenTakes.{takes-expression, takes-further}
 
 -- what follows the last actual
 abbrev pub close_list : List Expression → List Token → Read Token (List Expression)

@@ -13,9 +13,9 @@ use Rattle.seq_read.specs.Expressions.{ExpressionReader, expression_at}
 use Rattle.seq_read.specs.Statements.{StatementReader, BlockReader, word, kind_of, begins_statement, guarded_at, arm_at, otherwise_at, if_at}
 use Rattle.seq_read.specs.Statements.{statement_with, block_with, statement_at, block_at}
 use Rattle.seq_read.specs.Nesting.{branching_at, looping_at}
-use Rattle.seq_read.proofs.Takes.{Takes}
-use Rattle.seq_read.proofs.Turns.{onward, onward-fails, onward-ends}
-use Rattle.seq_read.proofs.TokenTakes.{takes-expression, takes-statement, takes-block, takes-arm}
+use Rattle.seq_read.proofs.Shared.Takes.{Takes}
+use Rattle.seq_read.proofs.Shared.Turns.{onward, onward-fails, onward-ends}
+use Rattle.seq_read.proofs.Shared.TokenTakes.{takes-expression, takes-statement, takes-block, takes-arm}
 
 -- BRANCHES
 -- what follows the last arm

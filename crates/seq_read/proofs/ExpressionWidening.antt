@@ -2,8 +2,9 @@
 use Rattle.std.proofs.Common.{◌≡◌, ℕ, zero, suc, ◌<◌, ◌≤◌, Bool, true, false, List, [], ◌∷◌, length, codes, Option, Some, None, is_some, Ok}
 use Rattle.std.proofs.Common.{refl, arith}
 use Rattle.grammar.specs.Reading.{first, then_at, pure_at, choose_at, token_at, deep_at, GoesOn, Widens}
-use Rattle.grammar.proofs.Widening.{widens-fewer, widens-token, widens-pure, widens-then, widens-behind, goes-behind, widens-pick, widens-choose}
-use Rattle.grammar.proofs.Widening.{widens-deep, past_at, widens-past}
+use Rattle.grammar.proofs.Shared.Widening.{widens-fewer, widens-token, widens-pure, widens-then, widens-behind, goes-behind, widens-pick}
+use Rattle.grammar.proofs.Shared.Widening.{widens-choose}
+use Rattle.grammar.proofs.Shared.Widening.{widens-deep, past_at, widens-past}
 use Rattle.seq_tree.specs.Names.{Name}
 use Rattle.seq_tree.specs.Expressions.{Expression, Number, Variable, Paren, Not, Binary}
 use Rattle.seq_tree.specs.declared.tree.BinOp.{BinOp}

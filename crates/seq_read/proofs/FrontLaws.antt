@@ -2,7 +2,7 @@
 use Rattle.std.proofs.Common.{◌≡◌, ℕ, ◌+◌, ◌-◌, ◌<◌, ◌≤◌, Bool, true, false, cond, List, ◌∷◌, ◌++◌, length, take, codes, Option, Some, None, Ok}
 use Rattle.std.proofs.Common.{Err, ◌⊎◌, inl, inr, refl, sym, ap, ◌∙◌, arith, append_assoc, append-nil}
 use Rattle.grammar.specs.Reading.{Syntax, TooDeep, Read, Reads, Widens}
-use Rattle.grammar.proofs.Laws.{reads-same}
+use Rattle.grammar.proofs.Shared.Laws.{reads-same}
 use Rattle.seq_tree.specs.Reach.{IsDepthFault}
 use Rattle.seq_tree.specs.Expressions.{Expression, Number}
 use Rattle.seq_tree.specs.Statements.{Statement, Statements, Null, Assign, If, For, ExitWhen, Work, Put, End, Then, Nothing, When}
@@ -11,23 +11,23 @@ use Rattle.seq_tree.specs.Proper.{IsProperExpression, IsProperStatement, IsPrope
 use Rattle.seq_tree.specs.declared.token.Token.{Token}
 use Rattle.seq_tree.specs.declared.token.Token.TheVariants as token
 use Rattle.token_read.specs.Readers.{next_is}
-use Rattle.token_read.proofs.TokenLaws.{same_is}
+use Rattle.token_read.proofs.Shared.TokenLaws.{same_is}
 use Rattle.seq_read.specs.declared.statements.Kind.TheVariants as kind
 use Rattle.seq_read.specs.Expressions.{expression_at}
 use Rattle.seq_read.specs.Statements.{kind_of, next_is_name, has_word, begins_statement, block_at}
 use Rattle.seq_read.specs.Fronts.{IsLongest, IsFrontSyntaxFault}
 use Rattle.seq_read.specs.Texts.{IsBlockText, SomeBlock, AnyBlock, IsExpressionText, SomeExpression, AnyExpression}
 use Rattle.seq_read.proofs.Stopping.{StopsWhole, stops_whole}
-use Rattle.seq_read.proofs.ChainLevels.{bounds}
-use Rattle.seq_read.proofs.ExpressionLaws.{reads-expression}
+use Rattle.seq_read.proofs.Shared.ChainLevels.{bounds}
+use Rattle.seq_read.proofs.Shared.ExpressionLaws.{reads-expression}
 use Rattle.seq_read.proofs.ExpressionWidening.{widens-expression}
-use Rattle.seq_read.proofs.StatementTokens.{w, statement_toks, block_toks, block-spelled}
-use Rattle.seq_read.proofs.StatementLaws.{Reserves}
-use Rattle.seq_read.proofs.BlockLaws.{reads-block}
-use Rattle.seq_read.proofs.StatementWidening.{widens-block}
-use Rattle.seq_read.proofs.Bounds.{extent, extent_block, bound-expression, bound-block, free-expression, free-block}
+use Rattle.seq_read.proofs.Shared.StatementTokens.{w, statement_toks, block_toks, block-spelled}
+use Rattle.seq_read.proofs.Shared.StatementLaws.{Reserves}
+use Rattle.seq_read.proofs.Shared.BlockLaws.{reads-block}
+use Rattle.seq_read.proofs.Shared.StatementWidening.{widens-block}
+use Rattle.seq_read.proofs.Shared.Bounds.{extent, extent_block, bound-expression, bound-block, free-expression, free-block}
 use Rattle.seq_read.proofs.GoingOn.{goes-on}
-use Rattle.seq_read.proofs.Reaches.{longest, longest_text, too-deep, front-syntax-fault}
+use Rattle.seq_read.proofs.Shared.Reaches.{longest, longest_text, too-deep, front-syntax-fault}
 
 reserves : Reserves is_block_name
 reserves = record {

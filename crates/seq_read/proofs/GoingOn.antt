@@ -14,7 +14,7 @@ use Rattle.seq_read.specs.declared.operators.Class.TheVariants as class
 use Rattle.seq_read.specs.Operators.{sees_operator, begins}
 use Rattle.seq_read.proofs.OperatorLaws.{class_of, rank, ranked, sees, same_class_is, logical, NoneLogical, is_relational_class, rank_logical}
 use Rattle.seq_read.proofs.OperatorLaws.{self_logical, rank_tight, relational_by, rank_not_relational}
-use Rattle.seq_read.proofs.ChainLevels.{Belongs, left_of_belongs, belongs_by, only_multiplying, only_adding, rank_of}
+use Rattle.seq_read.proofs.Shared.ChainLevels.{Belongs, left_of_belongs, belongs_by, only_multiplying, only_adding, rank_of}
 use Rattle.seq_read.proofs.Stopping.{StopsTerm, StopsSimple, StopsRelation, StopsAs, StopsWhole, is_logical}
 
 -- an operator that is next

@@ -6,7 +6,7 @@ use Rattle.seq_tree.specs.declared.tree.BinOp.{BinOp}
 use Rattle.seq_tree.specs.declared.tree.BinOp.TheVariants as op
 use Rattle.seq_tree.specs.declared.token.Token.{Token}
 use Rattle.token_read.specs.Words.{same_token}
-use Rattle.token_read.proofs.TokenLaws.{same_is}
+use Rattle.token_read.proofs.Shared.TokenLaws.{same_is}
 use Rattle.seq_read.specs.declared.operators.Class.{Class}
 use Rattle.seq_read.specs.declared.operators.Class.TheVariants.{Multiplying, Adding, Relational, And, Or, Xor}
 use Rattle.seq_read.specs.Operators.{sees_operator, begins, logical_class}

@@ -10,9 +10,9 @@ use Rattle.seq_tree.specs.declared.token.Mark.TheVariants.{Semicolon, Colon, Bec
 use Rattle.token_read.specs.Readers.{next_is}
 use Rattle.seq_read.specs.Statements.{next_is_name}
 use Rattle.seq_read.specs.Parts.{sees_by, mode_named, named_at, param_at, more_param_at, params_from_at, datum_at, data_at, more_data_at}
-use Rattle.seq_read.proofs.Takes.{Takes, takes-any, takes-token, takes-pure, takes-then}
-use Rattle.seq_read.proofs.TokenTakes.{takes-fixed, any-fixed, any-word, takes-number, takes-name, closes}
-use Rattle.seq_read.proofs.Turns.{onward, onward-fails, onward-ends}
+use Rattle.seq_read.proofs.Shared.Takes.{Takes, takes-any, takes-token, takes-pure, takes-then}
+use Rattle.seq_read.proofs.Shared.TokenTakes.{takes-fixed, any-fixed, any-word, takes-number, takes-name, closes}
+use Rattle.seq_read.proofs.Shared.Turns.{onward, onward-fails, onward-ends}
 
 -- PARAMETERS
 takes-param : (is_name : Name → Bool) → Takes 0 (param_at is_name)

@@ -3,6 +3,22 @@
 //! It stands on the tokens of `token_read` and the laws of readers of `grammar`. `read_block` and `read_expr` carry its
 //! promise: the longest block or expression from a place on, or exactly the token with which none goes on, or none within the limits.
 //! `block` and `expression` are the same for the readers of whole texts.
+//!
+//! Other crates may cite these proofs of it (`proofs/Shared`):
+//!
+//! - `BlockLaws`: the reader of blocks reads the proper blocks within its limits.
+//! - `Bounds`: trees without limits keep some limits, and trees that keep limits are trees without them.
+//! - `ChainLevels`: what a chain of one class reads is a level of expressions: its trees, grouped to the left.
+//! - `ExpressionLaws`: the reader of expressions reads the levelled expressions within its limits.
+//! - `Reaches`: how far a reader goes is how far texts go.
+//! - `StatementLaws`: the reader of statements reads the proper statements within its limits.
+//! - `StatementTokens`: the tokens of statements, whatever the level at which their lines stand.
+//! - `StatementWidening`: readers of statements and blocks with limits, against those with wider ones.
+//! - `Takes`: how many tokens the readers take at least, one form after another.
+//! - `TextFaultLaws`: a text has at most one fault, and one that reads as a tree within the limits has none.
+//! - `TokenTakes`: each expression and each statement takes tokens.
+//! - `Turns`: repetitions, one turn after another.
+//! - `WholeSteps`: a tree that is read from all of the tokens.
 #![tactic(auto)]
 
 mod expressions;

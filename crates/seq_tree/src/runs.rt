@@ -34,7 +34,7 @@ fn first_and_rest(bytes: &[u8]) -> Option<(u8, &[u8])>
 
 /// The length of the longest front of such parts with single underscores between them, in bytes; 0 where the first byte is
 /// no such part.
-#[tactic(auto, using(crate::proofs::Longest::run_steps))]
+#[tactic(auto, using(crate::proofs::Shared::Longest::run_steps))]
 pub fn run_len(part: Part, bytes: &[u8]) -> usize
     ensures within { result ≤ length bytes.now }
     ensures longest { result ≡ longest (goes_on (is_part part) false) bytes.now }
@@ -57,7 +57,7 @@ pub fn run_len(part: Part, bytes: &[u8]) -> usize
 }
 
 /// Whether bytes are one name: a letter, then letters and digits, with single underscores between them.
-#[tactic(auto, using(crate::proofs::Longest::whole_runs))]
+#[tactic(auto, using(crate::proofs::Shared::Longest::whole_runs))]
 pub(crate) fn is_name(bytes: &[u8]) -> bool
     ensures { result ≡ is_name bytes.now }
 {

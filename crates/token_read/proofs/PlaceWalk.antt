@@ -9,7 +9,7 @@ use Rattle.seq_tree.specs.Lexis.{Misread, Front, front_by, start_of, place_after
 use Rattle.token_read.specs.declared.lexemes.Lexeme.{Lexeme}
 use Rattle.token_read.specs.Lexemes.{token_of}
 use Rattle.token_read.specs.Places.{passed, place_or}
-use Rattle.token_read.proofs.TokenSteps.{with_front, tokens-cons, tokens-fault, tokens-nil, tokens-start}
+use Rattle.token_read.proofs.Shared.TokenSteps.{with_front, tokens-cons, tokens-fault, tokens-nil, tokens-start}
 
 -- the place of the token behind so many others, where there is no fault
 unfoldable pub placed : ℕ → List ℕ → Result (List Spanned) Misread → Option Place

@@ -75,7 +75,7 @@ fn single_front(place: Place, byte: u8) -> Result<Front<'static>, LexFault>
 }
 
 /// The mark at the front of a text, by its first byte and the others.
-#[tactic(auto, using(crate::proofs::MarkLaws::mark_fronts))]
+#[tactic(auto, using(crate::proofs::Shared::MarkLaws::mark_fronts))]
 fn mark_front(place: Place, first: u8, rest: &[u8]) -> Result<Front<'static>, LexFault>
     ensures mark { Gives front_view result (front_by Other place (first ∷ rest.now)) }
     ensures len { IfOk result (λ f. (0 < f.len) × (f.len ≤ length rest.now + 1)) }
@@ -132,7 +132,7 @@ fn comment_len(bytes: &[u8]) -> usize
 }
 
 /// What stands at the front of a text that is not empty, at its place.
-#[tactic(auto, using(crate::proofs::FrontLaws::fronts))]
+#[tactic(auto, using(crate::proofs::Shared::FrontLaws::fronts))]
 pub(crate) fn front_of<'a>(
     place: Place,
     bytes: &'a [u8],

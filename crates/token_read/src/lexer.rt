@@ -30,7 +30,7 @@ fn add(
 /// The tokens of a text of at most 16,777,216 bytes, each with its line and column, both from 1 and columns in bytes. Names
 /// are folded to lower case; white space and comments are dropped. `Byte`, `Number` and `Long` tell the first fault of the
 /// text and its place; `NoMemory` may come in place of any answer.
-#[tactic(auto, using(crate::proofs::TokenSteps::token_steps))]
+#[tactic(auto, using(crate::proofs::Shared::TokenSteps::token_steps))]
 pub fn tokens(alloc: Global, bytes: &[u8]) -> Result<Vec<Spanned>, LexFault>
     requires { length bytes.now ≤ 16777216 }
     ensures { Gives (λ v. v.items) result (tokens bytes.now) }

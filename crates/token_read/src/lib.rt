@@ -5,6 +5,14 @@
 //! and the place; `tokens` answers them as a list. Each reader of one token takes the tokens that are left, and answers what the front of
 //! them is with the tokens behind it, or how many tokens were left where it stopped:
 //! its contract is a reader of the definitions (`Readers`), of which `TokenLaws` proves that it reads exactly its grammar.
+//!
+//! Other crates may cite these proofs of it (`proofs/Shared`):
+//!
+//! - `BehindSteps`: the tokens of a text by themselves: whether they are found, and which they are, is the same wherever the text stands.
+//! - `FrontLaws`: the front of a text, by what its first byte begins.
+//! - `MarkLaws`: the marks of one byte and of two, and the mark at the front of a text.
+//! - `TokenLaws`: the laws of the readers of one token, and of a phrase.
+//! - `TokenSteps`: the tokens of a text, one front at a time.
 #![tactic(auto)]
 
 mod fault;

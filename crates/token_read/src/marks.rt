@@ -4,7 +4,7 @@ ghost use Rattle.seq_tree.specs.Marks.{mark_of};
 use seq_tree::Mark;
 
 /// The mark of one byte.
-#[tactic(auto, using(crate::proofs::MarkLaws::one_byte), unfolding(crate::proofs::MarkLaws::single))]
+#[tactic(auto, using(crate::proofs::Shared::MarkLaws::one_byte), unfolding(crate::proofs::Shared::MarkLaws::single))]
 pub(crate) fn single(byte: u8) -> Option<Mark>
     ensures { result ≡ mark_of (byte ∷ []) }
 {
@@ -27,7 +27,7 @@ pub(crate) fn single(byte: u8) -> Option<Mark>
 }
 
 /// The mark of two bytes.
-#[tactic(auto, using(crate::proofs::MarkLaws::two_bytes), unfolding(crate::proofs::MarkLaws::double))]
+#[tactic(auto, using(crate::proofs::Shared::MarkLaws::two_bytes), unfolding(crate::proofs::Shared::MarkLaws::double))]
 pub(crate) fn double(first: u8, second: u8) -> Option<Mark>
     ensures { result ≡ mark_of (first ∷ second ∷ []) }
 {

@@ -140,7 +140,7 @@ impl<'a> Tokens<'a> {
     }
 
     /// The tokens of a list.
-    #[tactic(auto, using(crate::proofs::BehindSteps::list_steps))]
+    #[tactic(auto, using(crate::proofs::Shared::BehindSteps::list_steps))]
     pub fn listed(list: &'a [Spanned]) -> Tokens<'a>
         ensures { ahead result ≡ bare list.entry.now }
     {

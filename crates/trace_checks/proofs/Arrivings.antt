@@ -14,9 +14,9 @@ use Rattle.guarantee.specs.Arrivals.{Arrival}
 use Rattle.guarantee.specs.Events.{Event, By, named_event}
 use Rattle.guarantee.specs.Events as deed
 use Rattle.guarantee.specs.Requests.{arrival_by}
-use Rattle.block_walks.specs.Walks.{same_value}
-use Rattle.trace_laws.specs.Checks.{same_arrival, same_arrivals, are_told}
-use Rattle.trace_places.proofs.Units.{unit-names}
+use Rattle.law_walks.specs.Walks.{same_value}
+use Rattle.law_traces.specs.Checks.{same_arrival, same_arrivals, are_told}
+use Rattle.law_trace_places.proofs.Shared.Units.{unit-names}
 use Rattle.trace_checks.specs.Passing.{AreOfUnits}
 use Rattle.trace_checks.specs.Arriving.{named_arrival, comes_by, due_after, due_from, due_behind, is_over, arrived_by}
 

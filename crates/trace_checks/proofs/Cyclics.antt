@@ -16,11 +16,11 @@ use Rattle.guarantee.specs.Events.{Event, Deed, By, named_event}
 use Rattle.guarantee.specs.Events as deed
 use Rattle.guarantee.specs.Releases.{Released, release_by, releases}
 use Rattle.guarantee.specs.Software.{task_by, program_software}
-use Rattle.block_walks.specs.Walks.{same_value}
-use Rattle.program_calls.proofs.Facts.{is-same}
-use Rattle.program_calls.proofs.Apart.{units_apart}
-use Rattle.trace_laws.specs.Checks.{on_time, is_periodic}
-use Rattle.trace_places.proofs.Units.{item-at, name-is, names-tell}
+use Rattle.law_walks.specs.Walks.{same_value}
+use Rattle.law_calls.proofs.Shared.Facts.{is-same}
+use Rattle.law_calls.proofs.Shared.Apart.{units_apart}
+use Rattle.law_traces.specs.Checks.{on_time, is_periodic}
+use Rattle.law_trace_places.proofs.Shared.Units.{item-at, name-is, names-tell}
 use Rattle.trace_checks.specs.First.{first_failing, on_time_by, periodic_by, is_periodic_by}
 use Rattle.trace_checks.specs.Cycles.{first_release, next_after, nexts_by, nexts_at, nexts_after}
 use Rattle.trace_checks.proofs.Firsts.{unnoted, noted, tested, first-thread}

@@ -9,7 +9,7 @@ use Rattle.guarantee.specs.Software.{Task}
 use Rattle.guarantee.specs.Events.{Event, By, Horizon, Release, Arrive, Request, Stop}
 use Rattle.guarantee.specs.Events as deed
 use Rattle.guarantee.specs.Arrivals.{Arrival}
-use Rattle.trace_laws.specs.Checks.{in_order, is_periodic, are_told, is_requested}
+use Rattle.law_traces.specs.Checks.{in_order, is_periodic, are_told, is_requested}
 
 abbrev p : Name
 p = codes "p"

@@ -8,8 +8,8 @@ use Rattle.seq_tree.specs.Names.{Name, same_name}
 use Rattle.ada_tree.specs.Programs.{Unit}
 use Rattle.guarantee.specs.Events.{Event}
 use Rattle.guarantee.specs.Software.{Task}
-use Rattle.trace_places.specs.Places.{task_in}
-use Rattle.trace_places.proofs.Units.{suc-same, task-name}
+use Rattle.law_trace_places.specs.Places.{task_in}
+use Rattle.law_trace_places.proofs.Shared.Units.{suc-same, task-name}
 use Rattle.trace_checks.specs.First.{first_failing}
 
 module _ {S : Type 0} (A : Unit → S → List Event → Bool) (e : Event) where

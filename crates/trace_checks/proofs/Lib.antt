@@ -7,5 +7,5 @@ pub mod Arrivings
 pub mod Passings
 pub mod Saying
 pub mod Meaning
-pub mod Accepting
 pub mod Examples
+pub mod Shared

@@ -11,10 +11,10 @@ use Rattle.guarantee.specs.Events.{Event}
 use Rattle.guarantee.specs.Order.{IsInOrder}
 use Rattle.guarantee.specs.Requests.{AreTold}
 use Rattle.guarantee.specs.Software.{Task, Software, program_software}
-use Rattle.trace_laws.specs.Checks.{in_order, is_periodic, are_told, is_requested}
-use Rattle.trace_laws.specs.Verdicts.{Verdict, IsFirstWithout, IsVerdict, IsVerdictOn}
-use Rattle.trace_laws.specs.Verdicts as verdict
-use Rattle.trace_laws.proofs.Simple.{times, cyclic, arrivals, requests}
+use Rattle.law_traces.specs.Checks.{in_order, is_periodic, are_told, is_requested}
+use Rattle.law_traces.specs.Verdicts.{Verdict, IsFirstWithout, IsVerdict, IsVerdictOn}
+use Rattle.law_traces.specs.Verdicts as verdict
+use Rattle.law_traces.proofs.Shared.Simple.{times, cyclic, arrivals, requests}
 use Rattle.trace_checks.specs.Answers as answer
 use Rattle.trace_checks.specs.Answers.{Says, late, unserved}
 use Rattle.trace_checks.specs.Meanings.{Means}

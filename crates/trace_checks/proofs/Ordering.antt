@@ -11,9 +11,9 @@ use Rattle.guarantee.specs.Software.{Task, program_software}
 use Rattle.guarantee.specs.Events.{Deed, Event, By, Horizon, op_at, named_event}
 use Rattle.guarantee.specs.Events as deed
 use Rattle.guarantee.specs.Order.{is_task_name, is_stop}
-use Rattle.trace_laws.specs.Checks.{in_order}
-use Rattle.trace_places.specs.Places.{task_at}
-use Rattle.trace_places.proofs.Units.{what-it-is}
+use Rattle.law_traces.specs.Checks.{in_order}
+use Rattle.law_trace_places.specs.Places.{task_at}
+use Rattle.law_trace_places.proofs.Shared.Units.{what-it-is}
 use Rattle.trace_checks.specs.Timing.{in_order_by, acts, ends, running_after, times_after}
 use Rattle.trace_checks.specs.declared.times.Times.{Times}
 use Rattle.trace_checks.specs.declared.times.Times.TheVariants.{Running, Ended, Broken}

@@ -1,5 +1,6 @@
 -- One event more of a pass over a trace, and what the pass answers at the end.
-use Rattle.std.proofs.Common.{◌≡◌, ℕ, zero, suc, ◌+◌, ◌<◌, ◌≤◌, List, [], ◌∷◌, ◌++◌, map, length, Option, Some, None, refl, sym, ap, subst, ◌∙◌, arith}
+use Rattle.std.proofs.Common.{◌≡◌, ℕ, zero, suc, ◌+◌, ◌<◌, ◌≤◌, List, [], ◌∷◌, ◌++◌, map, length, Option, Some, None, refl, sym, ap, subst, ◌∙◌}
+use Rattle.std.proofs.Common.{arith}
 use Rattle.std.specs.Prelude.{option_map}
 use Rattle.std.proofs.Common.{append_assoc}
 use Rattle.std.proofs.lemmas.List.Concat.{flat_map-cons}
@@ -13,9 +14,9 @@ use Rattle.trace_tree.specs.declared.event.Event as machine
 use Rattle.trace_tree.specs.declared.event.Event.TheVariants as event
 use Rattle.guarantee.specs.Events.{Event, named, named_event}
 use Rattle.guarantee.specs.Software.{program_software}
-use Rattle.trace_lines.specs.Told.{HasPlainNames, IsEvent}
-use Rattle.trace_lines.proofs.Events.{line-some}
-use Rattle.trace_laws.specs.Checks.{in_order, are_told}
+use Rattle.law_trace_lines.specs.Told.{HasPlainNames, IsEvent}
+use Rattle.law_trace_lines.proofs.Shared.Events.{line-some}
+use Rattle.law_traces.specs.Checks.{in_order, are_told}
 use Rattle.trace_checks.specs.Timing.{in_order_by}
 use Rattle.trace_checks.specs.Cycles.{first_release, nexts_by, nexts_at, nexts_after}
 use Rattle.trace_checks.specs.Serving.{Serving, nothing_waits, serving_of, serving_after, IsWithin}

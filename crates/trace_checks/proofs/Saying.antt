@@ -11,8 +11,8 @@ use Rattle.guarantee.specs.Arrivals as given
 use Rattle.guarantee.specs.Arrivals.{named_arrivals}
 use Rattle.guarantee.specs.Events.{Event, named}
 use Rattle.guarantee.specs.Software.{program_software}
-use Rattle.trace_laws.specs.Checks.{in_order, are_told}
-use Rattle.trace_laws.specs.Verdicts.{BeginsNoLine}
+use Rattle.law_traces.specs.Checks.{in_order, are_told}
+use Rattle.law_traces.specs.Verdicts.{BeginsNoLine}
 use Rattle.trace_read.specs.Lines.{Tells}
 use Rattle.trace_checks.specs.Timing.{in_order_by}
 use Rattle.trace_checks.specs.Cycles.{first_release}

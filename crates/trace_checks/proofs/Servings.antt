@@ -14,11 +14,11 @@ use Rattle.trace_tree.specs.declared.event.Event.TheVariants as event
 use Rattle.guarantee.specs.Events.{Event, named_event}
 use Rattle.guarantee.specs.Requests.{Notice, Asked, Taken, Done, Pending, notice_by, notices}
 use Rattle.guarantee.specs.Software.{task_by, program_software}
-use Rattle.block_walks.specs.Walks.{same_value}
-use Rattle.program_calls.proofs.Facts.{is-same}
-use Rattle.program_calls.proofs.Apart.{units_apart}
-use Rattle.trace_laws.specs.Checks.{are_served, is_requested}
-use Rattle.trace_places.proofs.Units.{item-at, name-is, names-tell}
+use Rattle.law_walks.specs.Walks.{same_value}
+use Rattle.law_calls.proofs.Shared.Facts.{is-same}
+use Rattle.law_calls.proofs.Shared.Apart.{units_apart}
+use Rattle.law_traces.specs.Checks.{are_served, is_requested}
+use Rattle.law_trace_places.proofs.Shared.Units.{item-at, name-is, names-tell}
 use Rattle.trace_checks.specs.First.{first_failing, served_by, requested_by, is_requested_by}
 use Rattle.trace_checks.specs.Serving.{Serving, nothing_waits, asked, taken_by, taken, idle_behind, done, rests, is_served, serving_after}
 use Rattle.trace_checks.proofs.Firsts.{unnoted, noted, tested, first-thread}

@@ -5,7 +5,7 @@ use Rattle.std.proofs.lemmas.List.{length-map}
 use Rattle.std.proofs.lemmas.Option.{slice_get-map, slice_get_read}
 use Rattle.seq_tree.specs.Lists.{change}
 use Rattle.ada_tree.specs.Programs.{Program, Form, Unit, is_task, Passive, Shared, Cyclic, Sporadic}
-use Rattle.trace_places.specs.Places.{task_in, task_at}
+use Rattle.law_trace_places.specs.Places.{task_in, task_at}
 
 -- an item of a list, under a view
 pub read-map : {A B : Type 0} (v : A → B) (xs : List A) (i : ℕ) (x : A) → i < length (map v xs) → x ≡ get_or xs i x → slice_get (map v xs) i

@@ -6,9 +6,9 @@ use Rattle.ada_tree.specs.Programs.{Program}
 use Rattle.guarantee.specs.Arrivals as given
 use Rattle.guarantee.specs.Events.{Event}
 use Rattle.guarantee.specs.Software.{Task, Software, program_software}
-use Rattle.trace_laws.specs.Checks.{in_order, is_periodic, are_told, is_requested}
-use Rattle.trace_laws.specs.Verdicts as verdict
-use Rattle.trace_laws.specs.Verdicts.{IsVerdict}
+use Rattle.law_traces.specs.Checks.{in_order, is_periodic, are_told, is_requested}
+use Rattle.law_traces.specs.Verdicts as verdict
+use Rattle.law_traces.specs.Verdicts.{IsVerdict}
 use Rattle.trace_read.specs.Lines.{Tells}
 use Rattle.trace_checks.specs.declared.broken.Broken.{Broken}
 use Rattle.trace_checks.specs.declared.broken.Broken.TheVariants.{Line, Times, Cyclic, Arrivals, Requests, NoMemory}

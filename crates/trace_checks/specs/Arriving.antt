@@ -8,8 +8,8 @@ use Rattle.trace_tree.specs.declared.event.Event as machine
 use Rattle.trace_tree.specs.declared.event.Event.TheVariants as event
 use Rattle.guarantee.specs.Arrivals.{Arrival}
 use Rattle.guarantee.specs.Events.{Event}
-use Rattle.block_walks.specs.Walks.{same_value}
-use Rattle.trace_laws.specs.Checks.{are_told}
+use Rattle.law_walks.specs.Walks.{same_value}
+use Rattle.law_traces.specs.Checks.{are_told}
 
 -- an arrival by names
 abbrev pub named_arrival : Program → code.Arrival → Arrival

@@ -5,7 +5,7 @@ use Rattle.seq_tree.specs.Lists.{change}
 use Rattle.ada_tree.specs.Programs.{Program, Unit, Form, Passive, Shared, Cyclic, Sporadic}
 use Rattle.trace_tree.specs.declared.event.Event.{Event}
 use Rattle.trace_tree.specs.declared.event.Event.TheVariants.{Release}
-use Rattle.block_walks.specs.Walks.{same_value}
+use Rattle.law_walks.specs.Walks.{same_value}
 
 -- the first release
 abbrev pub first_release : Form → Option ℕ

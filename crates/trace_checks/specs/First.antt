@@ -6,7 +6,7 @@ use Rattle.ada_tree.specs.Programs.{Form, Unit, Passive, Shared, Cyclic, Sporadi
 use Rattle.guarantee.specs.Events.{Event}
 use Rattle.guarantee.specs.Requests.{Notice, notices}
 use Rattle.guarantee.specs.Releases.{Released, releases}
-use Rattle.trace_laws.specs.Checks.{on_time, are_served}
+use Rattle.law_traces.specs.Checks.{on_time, are_served}
 use Rattle.trace_checks.specs.Serving.{Serving}
 
 -- the first unit for which the answer is no, where there is one

@@ -9,8 +9,8 @@ use Rattle.guarantee.specs.Events.{Event}
 use Rattle.guarantee.specs.Order.{IsInOrder}
 use Rattle.guarantee.specs.Requests.{AreTold}
 use Rattle.guarantee.specs.Software.{Software, program_software}
-use Rattle.trace_laws.specs.Verdicts as verdict
-use Rattle.trace_laws.specs.Verdicts.{IsVerdict}
+use Rattle.law_traces.specs.Verdicts as verdict
+use Rattle.law_traces.specs.Verdicts.{IsVerdict}
 use Rattle.trace_read.specs.Lines.{Tells}
 use Rattle.trace_checks.specs.declared.broken.Broken.{Broken}
 use Rattle.trace_checks.specs.declared.broken.Broken.TheVariants.{Line, Times, Cyclic, Arrivals, Requests, NoMemory}

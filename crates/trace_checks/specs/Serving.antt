@@ -5,7 +5,7 @@ use Rattle.seq_tree.specs.Lists.{change}
 use Rattle.trace_tree.specs.declared.event.Event.{Event}
 use Rattle.trace_tree.specs.declared.event.Event.TheVariants.{Release, Arrive, Request, End}
 use Rattle.guarantee.specs.Requests.{Pending}
-use Rattle.block_walks.specs.Walks.{same_value}
+use Rattle.law_walks.specs.Walks.{same_value}
 use Rattle.trace_checks.specs.declared.waiting.Pending as code
 use Rattle.trace_checks.specs.declared.waiting.Waiting.{Waiting}
 

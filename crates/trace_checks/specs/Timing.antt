@@ -6,8 +6,8 @@ use Rattle.trace_tree.specs.declared.event.Event as machine
 use Rattle.trace_tree.specs.declared.event.Event.TheVariants as event
 use Rattle.guarantee.specs.Software.{Task}
 use Rattle.guarantee.specs.Events.{Event}
-use Rattle.trace_laws.specs.Checks.{in_order, is_nil}
-use Rattle.trace_places.specs.Places.{task_at}
+use Rattle.law_traces.specs.Checks.{in_order, is_nil}
+use Rattle.law_trace_places.specs.Places.{task_at}
 use Rattle.trace_checks.specs.declared.times.Times.{Times}
 use Rattle.trace_checks.specs.declared.times.Times.TheVariants.{Running, Ended, Broken}
 

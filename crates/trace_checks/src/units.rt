@@ -1,6 +1,6 @@
 ghost use Rattle.std.specs.Prelude.{◌≡◌, ◌<◌, Some, is_some, length, slice_get};
 ghost use Rattle.ada_tree.specs.Trees.{form_of, program_of, unit_of};
-ghost use Rattle.trace_places.specs.Places.{task_at};
+ghost use Rattle.law_trace_places.specs.Places.{task_at};
 ghost use Rattle.ada_tree.specs.Programs.{is_task};
 
 use ada_tree::{AdaProgram, Form, Unit};

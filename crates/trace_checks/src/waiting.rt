@@ -1,6 +1,6 @@
 ghost use Rattle.std.specs.Prelude.{◌≡◌, ◌<◌, ◌≤◌, IfOk, OnOk, length, map};
 ghost use Rattle.ada_tree.specs.Trees.{program_of, unit_of};
-ghost use Rattle.block_walks.specs.Walks.{same_value};
+ghost use Rattle.law_walks.specs.Walks.{same_value};
 ghost use Rattle.trace_tree.specs.Placed.{IsPlaced};
 ghost use Rattle.trace_checks.specs.Serving.{is_served, nothing_waits, serving_of, serving_after};
 ghost use Rattle.trace_checks.specs.Serving as serving;

@@ -6,12 +6,13 @@ use Rattle.ada_tree.specs.Programs.{Program}
 use Rattle.trace_tree.specs.Placed.{IsUnit, IsOp}
 use Rattle.trace_tree.specs.declared.event.Event.{Event}
 use Rattle.trace_tree.specs.declared.event.Event.TheVariants as event
-use Rattle.trace_lines.specs.Told.{IsTicks, IsWord, IsWordWhere, AreWords, IsEvent}
-use Rattle.trace_lines.specs.Cuts.{cut}
+use Rattle.law_trace_lines.specs.Told.{IsTicks, IsWord, IsWordWhere, AreWords, IsEvent}
+use Rattle.law_trace_lines.specs.Cuts.{cut}
 use Rattle.trace_read.specs.declared.kind.Kind.{Kind}
 use Rattle.trace_read.specs.declared.kind.Kind.TheVariants.{Release, Arrive, Enter, Leave, Request, Print, End, Stop, Horizon}
 use Rattle.trace_read.specs.Names.{unit_of_name, op_of_name}
-use Rattle.trace_read.specs.Reading.{Bytes, with_word, number_of, value_of, maybe_value, values_of, kind_of, op_of, passage_of, request_of, used_of, level_of, stop_of}
+use Rattle.trace_read.specs.Reading.{Bytes, with_word, number_of, value_of, maybe_value, values_of, kind_of, op_of, passage_of, request_of, used_of}
+use Rattle.trace_read.specs.Reading.{level_of, stop_of}
 use Rattle.trace_read.specs.Reading.{deed_of, happens, event_of}
 use Rattle.trace_read.proofs.Numerals.{number-fits, value-fits, values-fit, maybe-fits}
 use Rattle.trace_read.proofs.Placing.{unit-below, op-below}

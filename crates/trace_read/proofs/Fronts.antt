@@ -10,11 +10,11 @@ use Rattle.ada_tree.specs.Rules.{MeetsRules}
 use Rattle.trace_tree.specs.Lines.{line, lines, words}
 use Rattle.trace_tree.specs.declared.event.Event as machine
 use Rattle.guarantee.specs.Events.{Event, named, named_event}
-use Rattle.trace_lines.specs.Told.{Lacks, HasPlainNames, IsEvent}
-use Rattle.trace_lines.specs.Cuts.{cut}
-use Rattle.trace_lines.proofs.Words.{cut-join}
-use Rattle.trace_lines.proofs.Events.{text, line-cut, line-some, some-words, words-lack, clear-space, fixed-space, tells-event}
-use Rattle.trace_laws.specs.Verdicts.{BeginsNoLine}
+use Rattle.law_trace_lines.specs.Told.{Lacks, HasPlainNames, IsEvent}
+use Rattle.law_trace_lines.specs.Cuts.{cut}
+use Rattle.law_trace_lines.proofs.Shared.Words.{cut-join}
+use Rattle.law_trace_lines.proofs.Shared.Events.{text, line-cut, line-some, some-words, words-lack, clear-space, fixed-space, tells-event}
+use Rattle.law_traces.specs.Verdicts.{BeginsNoLine}
 use Rattle.trace_read.specs.declared.lines.NoLine.{NoLine}
 use Rattle.trace_read.specs.Lines.{Tells, IsNext}
 use Rattle.trace_read.specs.Laws.{GoesOn}

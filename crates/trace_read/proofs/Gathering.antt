@@ -6,8 +6,8 @@ use Rattle.ada_tree.specs.Programs.{Program}
 use Rattle.ada_tree.specs.Rules.{MeetsRules}
 use Rattle.trace_tree.specs.Lines.{line, lines}
 use Rattle.trace_tree.specs.declared.event.Event.{Event}
-use Rattle.trace_lines.specs.Told.{HasPlainNames, IsEvent}
-use Rattle.trace_lines.proofs.Events.{line-some}
+use Rattle.law_trace_lines.specs.Told.{HasPlainNames, IsEvent}
+use Rattle.law_trace_lines.proofs.Shared.Events.{line-some}
 
 pub append-none : {A : Type 0} (xs : List A) → xs ++ [] ≡ xs
 append-none [] = refl

@@ -1,5 +1,6 @@
 -- The place of a name in a list: it is one of the places, and that of a name which no earlier one is the same as.
-use Rattle.std.proofs.Common.{◌≡◌, ℕ, zero, suc, Bool, true, false, not, List, [], ◌∷◌, ◌++◌, map, length, Option, Some, None, refl, sym, ap, subst, ◌∙◌, arith}
+use Rattle.std.proofs.Common.{◌≡◌, ℕ, zero, suc, Bool, true, false, not, List, [], ◌∷◌, ◌++◌, map, length, Option, Some, None, refl, sym, ap, subst}
+use Rattle.std.proofs.Common.{◌∙◌, arith}
 use Rattle.std.specs.Prelude.{◌+◌, ◌<◌, slice_get, option_map, option_and_then, unwrap_or, if◌then◌else◌}
 use Rattle.std.proofs.lemmas.Bool.{and_parts, or_parts, ne_eqb}
 use Rattle.std.proofs.lemmas.Option.{none-some, same_Some}
@@ -11,8 +12,8 @@ use Rattle.ada_tree.specs.Bodies.{heads, data_of}
 use Rattle.ada_tree.specs.Rules.{MeetsRules}
 use Rattle.trace_tree.specs.Lines.{unit_name, unit_ops}
 use Rattle.trace_tree.specs.Placed.{IsUnit, IsOp}
-use Rattle.program_calls.proofs.Facts.{is-same}
-use Rattle.trace_places.proofs.Units.{item-at, name-is, unit-names, own-distinct, other-way}
+use Rattle.law_calls.proofs.Shared.Facts.{is-same}
+use Rattle.law_trace_places.proofs.Shared.Units.{item-at, name-is, unit-names, own-distinct, other-way}
 use Rattle.trace_read.specs.Names.{place_from, head_names, unit_of_name, op_of_name}
 
 pub place-below : (names : List Name) (i k : ℕ) (n : Name) → place_from i n names ≡ Some k → k < i + length names

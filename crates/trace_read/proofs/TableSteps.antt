@@ -1,7 +1,7 @@
 -- Tables of the operations of units, one after another.
 use Rattle.std.proofs.Common.{◌≡◌, ℕ, zero, suc, List, [], ◌∷◌, ◌++◌, length, take, Some, refl, sym, ap, subst, ◌∙◌, arith}
 use Rattle.std.specs.Prelude.{◌+◌, ◌<◌, ◌≤◌, map, get_or}
-use Rattle.seq_tree.proofs.LoopSteps.{take_step}
+use Rattle.seq_tree.proofs.Shared.LoopSteps.{take_step}
 use Rattle.ada_tree.specs.Trees.{form_of, unit_of}
 use Rattle.ada_tree.specs.declared.program.Unit as code
 use Rattle.std.proofs.lemmas.Option.{none-some}

@@ -7,8 +7,8 @@ use Rattle.ada_tree.specs.Programs.{Program}
 use Rattle.trace_tree.specs.Lines.{line, lines}
 use Rattle.trace_tree.specs.declared.event.Event as machine
 use Rattle.guarantee.specs.Events.{Event, named}
-use Rattle.trace_lines.specs.Told.{IsEvent}
-use Rattle.trace_laws.specs.Verdicts.{BeginsNoLine}
+use Rattle.law_trace_lines.specs.Told.{IsEvent}
+use Rattle.law_traces.specs.Verdicts.{BeginsNoLine}
 use Rattle.trace_read.specs.declared.lines.NoLine.{NoLine}
 
 -- a text of lines of events that tell this by names

@@ -1,7 +1,7 @@
 ghost use Rattle.std.specs.Prelude.{◌≡◌, ◌∷◌, ◌++◌, [], OnOk};
 ghost use Rattle.ada_tree.specs.Rules.{MeetsRules};
 ghost use Rattle.ada_tree.specs.Trees.{program_of};
-ghost use Rattle.trace_lines.specs.Told.{HasPlainNames};
+ghost use Rattle.law_trace_lines.specs.Told.{HasPlainNames};
 ghost use Rattle.trace_read.specs.Gathered.{Gathers};
 ghost use Rattle.trace_read.specs.declared.gather.Unread.TheVariants.{NoMemory as Lacking};
 

@@ -11,7 +11,7 @@ use Rattle.trace_tree.specs.declared.event.Event as machine
 use Rattle.trace_tree.specs.declared.event.Event.TheVariants as event
 use Rattle.guarantee.specs.Software.{program_software}
 use Rattle.guarantee.specs.Events.{named_event}
-use Rattle.trace_laws.specs.Clear.{asked_op}
+use Rattle.law_traces.specs.Clear.{asked_op}
 use Rattle.trace_scripts.specs.Scripts.{action_by, asked_name}
 use Rattle.trace_scripts.proofs.Asked.{asked-at}
 

@@ -1,5 +1,6 @@
 -- The operation by which the unit at a place is requested.
-use Rattle.std.proofs.Common.{◌≡◌, ℕ, zero, suc, Bool, true, false, ◌&&◌, List, [], ◌∷◌, ◌++◌, map, Option, Some, None, refl, sym, ap, subst, ◌∙◌, append_assoc}
+use Rattle.std.proofs.Common.{◌≡◌, ℕ, zero, suc, Bool, true, false, ◌&&◌, List, [], ◌∷◌, ◌++◌, map, Option, Some, None, refl, sym, ap, subst, ◌∙◌}
+use Rattle.std.proofs.Common.{append_assoc}
 use Rattle.std.specs.Prelude.{find, filter_map, flat_map, slice_get, option_map, unwrap_or, cond}
 use Rattle.std.specs.List.{cons_option}
 use Rattle.std.proofs.lemmas.Option.{none-some, same_Some}
@@ -14,10 +15,10 @@ use Rattle.ods_tree.specs.Services.{Service, Plain, Protected, Request, plain_se
 use Rattle.ada_tree.specs.Programs.{Form, Unit, Program, Passive, Shared, Cyclic, Sporadic}
 use Rattle.ada_tree.specs.Rules.{MeetsRules}
 use Rattle.guarantee.specs.Software.{Task, program_software, task_by}
-use Rattle.program_calls.proofs.UnitNames.{AreApart}
-use Rattle.program_calls.proofs.Apart.{units_apart}
-use Rattle.program_calls.proofs.Facts.{is-same, same-is}
-use Rattle.trace_laws.specs.Clear.{is_request, asked_op}
+use Rattle.law_calls.proofs.Shared.UnitNames.{AreApart}
+use Rattle.law_calls.proofs.Shared.Apart.{units_apart}
+use Rattle.law_calls.proofs.Shared.Facts.{is-same, same-is}
+use Rattle.law_traces.specs.Clear.{is_request, asked_op}
 use Rattle.trace_scripts.specs.Scripts.{asked_name}
 
 each-at : {A : Type 0} (P : A → Type 0) (xs : List A) (i : ℕ) (x : A) → Each P xs → slice_get xs i ≡ Some x → P x

@@ -1,14 +1,15 @@
 -- What is kept while a trace is read from its end: the tables after each event, by places.
-use Rattle.std.proofs.Common.{◌≡◌, ℕ, zero, suc, ◌+◌, List, [], ◌∷◌, ◌++◌, map, replicate, length, refl, sym, ap, ◌∙◌, arith, ◌<◌, ◌≤◌, ◌-◌, drop, get_or, set}
+use Rattle.std.proofs.Common.{◌≡◌, ℕ, zero, suc, ◌+◌, List, [], ◌∷◌, ◌++◌, map, replicate, length, refl, sym, ap, ◌∙◌, arith, ◌<◌, ◌≤◌, ◌-◌, drop}
+use Rattle.std.proofs.Common.{get_or, set}
 use Rattle.std.proofs.lemmas.List.Sums.{fold-append}
-use Rattle.seq_tree.proofs.LoopSteps.{drop_step}
+use Rattle.seq_tree.proofs.Shared.LoopSteps.{drop_step}
 use Rattle.ada_tree.specs.Programs.{Program}
 use Rattle.trace_tree.specs.declared.event.Event as machine
 use Rattle.trace_tree.specs.declared.event.Event.TheVariants as event
 use Rattle.seq_tree.specs.Lists.{change}
 use Rattle.std.proofs.lemmas.List.{length-map, length-replicate, map-append}
 use Rattle.std.specs.Prelude.{Bool, true, false, slice_get, unwrap_or}
-use Rattle.script_laws.specs.Entries.{Shown, shown_at}
+use Rattle.law_scripts.specs.Entries.{Shown, shown_at}
 use Rattle.trace_scripts.specs.Scripts.{levels_of}
 use Rattle.trace_scripts.specs.Books.{Kept, level_at, entry_of, entry_with, entries_from, kept_first, kept_from, kept_of, kept_with, known_of}
 use Rattle.trace_scripts.specs.declared.books.Entry.{Entry}

@@ -11,19 +11,19 @@ use Rattle.trace_tree.specs.Placed.{IsPlaced}
 use Rattle.trace_tree.specs.declared.event.Event as machine
 use Rattle.guarantee.specs.Software.{Software, Task, program_software, task_by, guarded_by, leads_to}
 use Rattle.guarantee.specs.Events.{named}
-use Rattle.block_walks.specs.Fit.{MayRun}
-use Rattle.trace_laws.specs.Clear.{IsClear}
-use Rattle.trace_laws.specs.Checks.{serves}
-use Rattle.trace_places.specs.Places.{guarded_in, task_in}
-use Rattle.script_laws.specs.Entries.{entries_in}
-use Rattle.script_laws.specs.Services as services
-use Rattle.script_laws.specs.Services.{served_from}
-use Rattle.script_laws.specs.Laws.{at_first}
-use Rattle.script_laws.proofs.Served.{served-sound}
+use Rattle.law_walks.specs.Fit.{MayRun}
+use Rattle.law_traces.specs.Clear.{IsClear}
+use Rattle.law_traces.specs.Checks.{serves}
+use Rattle.law_trace_places.specs.Places.{guarded_in, task_in}
+use Rattle.law_scripts.specs.Entries.{entries_in}
+use Rattle.law_scripts.specs.Services as services
+use Rattle.law_scripts.specs.Services.{served_from}
+use Rattle.law_scripts.specs.Laws.{at_first}
+use Rattle.law_scripts.proofs.Shared.Served.{served-sound}
 use Rattle.trace_scripts.specs.Objects.{AreServing}
 use Rattle.trace_scripts.specs.Scenes.{AllBlocks}
 use Rattle.trace_scripts.specs.Serving.{MayAll, objects_from, services_first}
-use Rattle.script_laws.specs.Entries as entries
+use Rattle.law_scripts.specs.Entries as entries
 use Rattle.trace_scripts.specs.Books.{entries_from, entry_of, known_of}
 use Rattle.trace_scripts.specs.declared.books.Entry.{Entry}
 use Rattle.trace_scripts.proofs.Entering.{entries-named}

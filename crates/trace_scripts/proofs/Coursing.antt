@@ -1,12 +1,13 @@
 -- What an activation leaves, by what the walk of its block answers.
-use Rattle.std.proofs.Common.{◌≡◌, ◌+◌, ◌-◌, suc, ℕ, Bool, true, false, ◌&&◌, ◌||◌, not, List, Option, Some, None, refl, sym, ap, ◌∙◌, append-nil, arith, subst, ◌++◌}
+use Rattle.std.proofs.Common.{◌≡◌, ◌+◌, ◌-◌, suc, ℕ, Bool, true, false, ◌&&◌, ◌||◌, not, List, Option, Some, None, refl, sym, ap, ◌∙◌, append-nil}
+use Rattle.std.proofs.Common.{arith, subst, ◌++◌}
 use Rattle.std.specs.Prelude.{◌==◌, is_some, option_map, option_to_list, if◌then◌else◌}
 use Rattle.seq_tree.specs.Runs.{Path}
 use Rattle.seq_tree.specs.Variables.{Variables, entered, kept}
 use Rattle.guarantee.specs.Software.{Software, Task}
-use Rattle.script_laws.specs.Progress as laws
-use Rattle.script_laws.specs.Progress.{ends_by, left_by, left_by_course}
-use Rattle.trace_laws.specs.Checks.{run_along}
+use Rattle.law_scripts.specs.Progress as laws
+use Rattle.law_scripts.specs.Progress.{ends_by, left_by, left_by_course}
+use Rattle.law_traces.specs.Checks.{run_along}
 use Rattle.guarantee.specs.Scripts.{released_vars}
 use Rattle.seq_tree.specs.Statements.{Statements}
 use Rattle.seq_tree.specs.Trees.{block_of}
@@ -15,15 +16,15 @@ use Rattle.trace_scripts.specs.declared.progress.Thread.{Thread}
 use Rattle.trace_scripts.specs.Scenes.{IsWalk}
 use Rattle.trace_scripts.specs.Threads.{IsOf, after_event, charged_by, entered_if, finished_if, left_if, seen_if}
 use Rattle.trace_scripts.specs.Scripts.{action_by}
-use Rattle.script_laws.specs.Entries.{Shown}
-use Rattle.script_laws.specs.Progress.{after_deed}
+use Rattle.law_scripts.specs.Entries.{Shown}
+use Rattle.law_scripts.specs.Progress.{after_deed}
 use Rattle.seq_tree.specs.Names.{Name}
 use Rattle.seq_tree.specs.Runs as runs
 use Rattle.seq_tree.specs.declared.tree.OpName.{OpName}
 use Rattle.ada_tree.specs.Programs.{Program}
 use Rattle.guarantee.specs.Software.{program_software}
 use Rattle.guarantee.specs.Events.{Deed, Release, Arrive, Enter, Leave, Request, Print, End, Stop, By}
-use Rattle.trace_laws.specs.Checks.{action_of}
+use Rattle.law_traces.specs.Checks.{action_of}
 use Rattle.trace_scripts.specs.declared.walks.Walked.{Walked}
 use Rattle.trace_scripts.specs.declared.walks.Walked.TheVariants.{Ran, Begun, Astray}
 

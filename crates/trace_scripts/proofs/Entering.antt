@@ -14,11 +14,11 @@ use Rattle.trace_tree.specs.declared.event.Event.TheVariants as event
 use Rattle.guarantee.specs.Software.{Software, program_software}
 use Rattle.guarantee.specs.Events.{Deed, Release, Arrive, Enter, Leave, Request, Print, End, Stop, Event, By, named, named_event, op_at}
 use Rattle.guarantee.specs.Steps.{is_own}
-use Rattle.trace_laws.specs.Checks.{action_of, is_passed}
-use Rattle.trace_places.proofs.Units.{unit-names}
-use Rattle.script_laws.specs.Entries as entries
-use Rattle.script_laws.specs.Entries.{Shown, shown_at, with_action, stack_of, entry_at, entries_in}
-use Rattle.script_laws.proofs.Stacks.{stack-by, inside-shown}
+use Rattle.law_traces.specs.Checks.{action_of, is_passed}
+use Rattle.law_trace_places.proofs.Shared.Units.{unit-names}
+use Rattle.law_scripts.specs.Entries as entries
+use Rattle.law_scripts.specs.Entries.{Shown, shown_at, with_action, stack_of, entry_at, entries_in}
+use Rattle.law_scripts.proofs.Shared.Stacks.{stack-by, inside-shown}
 use Rattle.trace_scripts.specs.Books.{Kept, kept_with, kept_from, entry_with, entries_from, passed_at}
 
 -- A LIST with one item changed

@@ -3,12 +3,12 @@ use Rattle.std.proofs.Common.{◌≡◌, ℕ, ◌+◌, Bool, true, false, not, L
 use Rattle.std.specs.Prelude.{find, filter_map, slice_get, option_map, option_and_then, if◌then◌else◌}
 use Rattle.std.specs.List.{cons_option}
 use Rattle.std.proofs.lemmas.Option.{get_or_from_slice_get}
-use Rattle.seq_tree.proofs.LoopSteps.{drop_step}
+use Rattle.seq_tree.proofs.Shared.LoopSteps.{drop_step}
 use Rattle.seq_tree.specs.Names.{Name}
 use Rattle.ada_tree.specs.Programs.{Program, Unit}
 use Rattle.trace_tree.specs.Lines.{unit_name}
 use Rattle.trace_tree.specs.Placed.{IsUnit}
-use Rattle.trace_places.proofs.Units.{item-at, name-is}
+use Rattle.law_trace_places.proofs.Shared.Units.{item-at, name-is}
 
 -- whether a test holds of what is made, where it is
 abbrev pub passes : {X : Type 0} → (X → Bool) → Option X → Bool

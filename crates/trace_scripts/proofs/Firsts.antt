@@ -1,5 +1,6 @@
 -- The greatest number of ticks, and the first object that is broken.
-use Rattle.std.proofs.Common.{◌≡◌, ℕ, ◌+◌, ◌<◌, ◌≤◌, Bool, true, false, not, List, map, drop, length, Option, Some, None, refl, sym, ap, ◌∙◌, arith, max, get_or, subst}
+use Rattle.std.proofs.Common.{◌≡◌, ℕ, ◌+◌, ◌<◌, ◌≤◌, Bool, true, false, not, List, map, drop, length, Option, Some, None, refl, sym, ap, ◌∙◌, arith}
+use Rattle.std.proofs.Common.{max, get_or, subst}
 use Rattle.std.specs.Prelude.{find, filter_map, slice_get, option_map, is_some}
 use Rattle.std.proofs.lemmas.Option.{none-some, same_Some, slice_get-map, slice_get_read}
 use Rattle.std.proofs.lemmas.List.{length-map}
@@ -11,8 +12,8 @@ use Rattle.ada_tree.specs.Programs.{Program, Unit, Form, Passive, Shared, Cyclic
 use Rattle.guarantee.specs.Software.{guarded_by}
 use Rattle.trace_tree.specs.Lines.{unit_name}
 use Rattle.trace_tree.specs.Placed.{IsUnit}
-use Rattle.trace_places.specs.Places.{guarded_at, guarded_in}
-use Rattle.script_laws.specs.Services as services
+use Rattle.law_trace_places.specs.Places.{guarded_at, guarded_in}
+use Rattle.law_scripts.specs.Services as services
 use Rattle.trace_scripts.proofs.Finding.{found-here, found-past, passes}
 use Rattle.trace_scripts.specs.Objects.{AreServing, broken_by, service_of}
 use Rattle.trace_scripts.specs.declared.services.Service.{Service}

@@ -7,7 +7,7 @@ use Rattle.std.proofs.lemmas.Grind.{reverse_onto}
 use Rattle.seq_tree.specs.Runs as runs
 use Rattle.seq_eval.specs.declared.action.Action.{Action}
 use Rattle.seq_eval.specs.Actions.{action_of}
-use Rattle.script_laws.specs.Entries.{Shown}
+use Rattle.law_scripts.specs.Entries.{Shown}
 use Rattle.trace_scripts.specs.Scripts.{back_of, levels_of, shown_of}
 use Rattle.trace_scripts.specs.declared.scripts.Script.{Script}
 

@@ -7,8 +7,8 @@ use Rattle.ada_tree.specs.Programs.{Program}
 use Rattle.trace_tree.specs.Lines.{unit_name}
 use Rattle.guarantee.specs.Software.{Software}
 use Rattle.guarantee.specs.Events.{Event}
-use Rattle.trace_laws.specs.Checks.{follows, serves}
-use Rattle.trace_laws.specs.Verdicts.{Verdict, Script, Shared, first_or}
+use Rattle.law_traces.specs.Checks.{follows, serves}
+use Rattle.law_traces.specs.Verdicts.{Verdict, Script, Shared, first_or}
 use Rattle.trace_scripts.specs.Wrongs.{judged_last}
 
 module _ {A : Type 0} (verdict : Name → Verdict) (called : A → Name) (other : Verdict) where

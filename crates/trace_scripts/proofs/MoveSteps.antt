@@ -16,13 +16,13 @@ use Rattle.trace_tree.specs.declared.event.Event as machine
 use Rattle.trace_tree.specs.declared.event.Event.TheVariants as event
 use Rattle.guarantee.specs.Events.{named_event}
 use Rattle.guarantee.specs.Software.{Task, program_software}
-use Rattle.trace_laws.specs.Verdicts.{Shared}
-use Rattle.trace_places.specs.Places.{guarded_at, task_at, task_in}
-use Rattle.trace_places.proofs.Units.{item-at, task-name}
-use Rattle.script_laws.specs.Progress as laws
-use Rattle.script_laws.specs.Progress.{is_well}
-use Rattle.script_laws.specs.Services as services
-use Rattle.script_laws.specs.Services.{is_served, is_sound}
+use Rattle.law_traces.specs.Verdicts.{Shared}
+use Rattle.law_trace_places.specs.Places.{guarded_at, task_at, task_in}
+use Rattle.law_trace_places.proofs.Shared.Units.{item-at, task-name}
+use Rattle.law_scripts.specs.Progress as laws
+use Rattle.law_scripts.specs.Progress.{is_well}
+use Rattle.law_scripts.specs.Services as services
+use Rattle.law_scripts.specs.Services.{is_served, is_sound}
 use Rattle.trace_scripts.specs.Moving.{AreFollowing, AreOf, good_at, good_with, move_by, moved_at, threads_from, threads_with, well_by}
 use Rattle.trace_scripts.specs.Objects.{charge_of, service_of}
 use Rattle.trace_scripts.specs.Scenes.{AllBlocks, AllIn}

@@ -13,17 +13,17 @@ use Rattle.ada_tree.specs.Rules.{MeetsRules}
 use Rattle.trace_tree.specs.Lines.{unit_name, unit_ops}
 use Rattle.trace_tree.specs.Placed.{IsUnit, IsOp}
 use Rattle.guarantee.specs.Events.{op_at}
-use Rattle.trace_laws.specs.Checks.{op_named}
-use Rattle.trace_places.specs.Places.{guarded_at, guarded_in}
-use Rattle.trace_places.proofs.Units.{item-at, what-it-is}
+use Rattle.law_traces.specs.Checks.{op_named}
+use Rattle.law_trace_places.specs.Places.{guarded_at, guarded_in}
+use Rattle.law_trace_places.proofs.Shared.Units.{item-at, what-it-is}
 use Rattle.std.proofs.lemmas.List.{length-map}
 use Rattle.seq_tree.specs.Trees.{block_of, operation_of}
 use Rattle.seq_tree.specs.declared.tree.OpText.{OpText}
-use Rattle.trace_text.proofs.Names.{read-map}
+use Rattle.trace_text.proofs.Shared.Names.{read-map}
 use Rattle.guarantee.specs.Software.{program_software}
-use Rattle.script_laws.specs.Entries as entries
-use Rattle.script_laws.specs.Services as services
-use Rattle.script_laws.specs.Services.{entered_in, left_in, charge_in}
+use Rattle.law_scripts.specs.Entries as entries
+use Rattle.law_scripts.specs.Services as services
+use Rattle.law_scripts.specs.Services.{entered_in, left_in, charge_in}
 use Rattle.trace_scripts.specs.Objects.{object_of, service_of}
 use Rattle.trace_scripts.specs.Scenes.{AllBlocks, AllIn}
 use Rattle.trace_scripts.specs.Serving.{leave_by, enter_by, charge_by, left_at, entered_at, charged_at, service_at}

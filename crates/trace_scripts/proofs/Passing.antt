@@ -6,8 +6,8 @@ use Rattle.std.proofs.lemmas.List.{nil_from_length}
 use Rattle.seq_tree.specs.Lists.{Each}
 use Rattle.ada_tree.specs.Programs.{Program}
 use Rattle.trace_tree.specs.declared.event.Event as machine
-use Rattle.script_laws.specs.Entries as entries
-use Rattle.script_laws.specs.Services as services
+use Rattle.law_scripts.specs.Entries as entries
+use Rattle.law_scripts.specs.Services as services
 use Rattle.trace_scripts.specs.Books.{entry_of, known_of}
 use Rattle.trace_scripts.specs.Objects.{charge_of}
 use Rattle.trace_scripts.specs.Serving.{objects_with, objects_from, charge_with, charges_by}

@@ -15,7 +15,7 @@ use Rattle.ada_tree.specs.declared.program.AdaProgram.{AdaProgram}
 use Rattle.ada_tree.specs.declared.program.Unit as units
 use Rattle.trace_tree.specs.Lines.{unit_name, unit_ops}
 use Rattle.guarantee.specs.Events.{op_at}
-use Rattle.trace_text.proofs.Names.{read-map, unit_name-read}
+use Rattle.trace_text.proofs.Shared.Names.{read-map, unit_name-read}
 
 pub unit-read : (p : AdaProgram) (unit : ℕ) (u : units.Unit) → unit < length (program_of p).units → u ≡ get_or p.units.items unit u
     → slice_get (program_of p).units unit ≡ Some (unit_of u)

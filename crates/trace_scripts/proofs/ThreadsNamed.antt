@@ -16,17 +16,17 @@ use Rattle.trace_tree.specs.declared.event.Event.TheVariants as event
 use Rattle.guarantee.specs.Software.{Software, Task, program_software}
 use Rattle.guarantee.specs.Events.{Deed, Release, Arrive, Enter, Leave, Request, Print, End, Stop, Event, By, named, named_event, op_at}
 use Rattle.guarantee.specs.Steps.{is_own}
-use Rattle.trace_laws.specs.Checks.{follows, most_used, serves}
-use Rattle.trace_laws.specs.Clear.{IsClear}
-use Rattle.trace_places.specs.Places.{guarded_at, task_at, task_in}
-use Rattle.trace_places.proofs.Units.{item-at, name-is, task-name, unit-names, what-it-is}
-use Rattle.script_laws.specs.Entries.{entries_in}
-use Rattle.script_laws.specs.Progress as laws
-use Rattle.script_laws.specs.Progress.{is_good, is_well, moved_by, moved_from, step_on}
-use Rattle.script_laws.specs.Services as services
-use Rattle.script_laws.specs.Services.{is_served, is_sound}
-use Rattle.script_laws.specs.Laws.{at_first, charges_in, is_served_in}
-use Rattle.script_laws.proofs.Told.{thread-told}
+use Rattle.law_traces.specs.Checks.{follows, most_used, serves}
+use Rattle.law_traces.specs.Clear.{IsClear}
+use Rattle.law_trace_places.specs.Places.{guarded_at, task_at, task_in}
+use Rattle.law_trace_places.proofs.Shared.Units.{item-at, name-is, task-name, unit-names, what-it-is}
+use Rattle.law_scripts.specs.Entries.{entries_in}
+use Rattle.law_scripts.specs.Progress as laws
+use Rattle.law_scripts.specs.Progress.{is_good, is_well, moved_by, moved_from, step_on}
+use Rattle.law_scripts.specs.Services as services
+use Rattle.law_scripts.specs.Services.{is_served, is_sound}
+use Rattle.law_scripts.specs.Laws.{at_first, charges_in, is_served_in}
+use Rattle.law_scripts.proofs.Shared.Told.{thread-told}
 use Rattle.trace_scripts.specs.Books.{entries_from, known_of}
 use Rattle.trace_scripts.specs.declared.books.Entry.{Entry}
 use Rattle.trace_scripts.specs.Moving.{AreFollowing, good_at, good_with, idle_at_first, move_by, threads_first, threads_from, threads_with}

@@ -3,10 +3,10 @@ use Rattle.std.proofs.Common.{◌≡◌, ℕ, ◌+◌, ◌-◌, ◌<◌, ◌≤�
 use Rattle.std.proofs.Common.{get_or, arith}
 use Rattle.std.specs.Prelude.{unwrap_or, if◌then◌else◌}
 use Rattle.std.specs.Cmp.{both_ways}
-use Rattle.seq_tree.proofs.LoopSteps.{drop_step}
+use Rattle.seq_tree.proofs.Shared.LoopSteps.{drop_step}
 use Rattle.seq_tree.specs.Names.{Name, same_name}
 use Rattle.seq_tree.specs.Variables.{Variables, read}
-use Rattle.program_calls.proofs.Facts.{same-is, is-same}
+use Rattle.law_calls.proofs.Shared.Facts.{same-is, is-same}
 
 turned : (a b : Name) → same_name a b ≡ same_name b a
 turned a b = both_ways (same_name a b) (same_name b a) (λ e. is-same b a (sym (same-is a b e))) (λ e. is-same a b (sym (same-is b a e)))

@@ -8,15 +8,15 @@ use Rattle.seq_tree.specs.Runs.{Path, Callee}
 use Rattle.seq_tree.specs.Statements.{Statements}
 use Rattle.seq_tree.specs.Variables.{Variables}
 use Rattle.guarantee.specs.Software.{Software, leads_to}
-use Rattle.block_walks.specs.Fit.{MayRun}
-use Rattle.block_walks.specs.Walks.{walk_at}
+use Rattle.law_walks.specs.Fit.{MayRun}
+use Rattle.law_walks.specs.Walks.{walk_at}
 use Rattle.seq_eval.specs.Following.{Answers}
 use Rattle.seq_eval.specs.declared.action.Followed.{Followed}
 use Rattle.seq_eval.specs.declared.action.Followed.TheVariants.{Done, Short, Off}
-use Rattle.trace_laws.specs.Checks.{run_by, begins_by, run_along, begins_along}
+use Rattle.law_traces.specs.Checks.{run_by, begins_by, run_along, begins_along}
 use Rattle.seq_eval.specs.declared.action.Action as act
 use Rattle.seq_eval.specs.Actions.{action_of}
-use Rattle.script_laws.specs.Entries.{Shown}
+use Rattle.law_scripts.specs.Entries.{Shown}
 use Rattle.trace_scripts.specs.Scripts.{shown_of}
 use Rattle.trace_scripts.specs.Scenes.{IsWalk, calls_of, program_in, software_of}
 use Rattle.trace_scripts.specs.declared.scripts.Script.{Script}

@@ -7,9 +7,9 @@ use Rattle.ada_tree.specs.Programs.{Program}
 use Rattle.trace_tree.specs.declared.event.Event as machine
 use Rattle.trace_tree.specs.declared.event.Event.TheVariants as event
 use Rattle.guarantee.specs.Events.{named_event}
-use Rattle.trace_laws.specs.Checks.{both}
-use Rattle.script_laws.specs.Entries as entries
-use Rattle.script_laws.specs.Entries.{Shown, shown_at, no_entry}
+use Rattle.law_traces.specs.Checks.{both}
+use Rattle.law_scripts.specs.Entries as entries
+use Rattle.law_scripts.specs.Entries.{Shown, shown_at, no_entry}
 use Rattle.trace_scripts.specs.Scripts.{action_by, levels_of, shown_of}
 use Rattle.trace_scripts.specs.declared.books.Entry.{Entry}
 use Rattle.trace_scripts.specs.declared.books.Book.{Book}

@@ -2,11 +2,11 @@
 use Rattle.std.specs.Prelude.{◌≡◌, ℕ, Bool, false, not, List, map, slice_get, option_map, Option, Some, None}
 use Rattle.ada_tree.specs.Programs.{Program}
 use Rattle.trace_tree.specs.Placed.{IsUnit}
-use Rattle.trace_places.specs.Places.{guarded_at}
+use Rattle.law_trace_places.specs.Places.{guarded_at}
 use Rattle.seq_tree.specs.Names.{Name}
 use Rattle.seq_tree.specs.Trees.{operation_of}
 use Rattle.ods_tree.specs.Flats.{Guarded}
-use Rattle.script_laws.specs.Services as services
+use Rattle.law_scripts.specs.Services as services
 use Rattle.trace_scripts.specs.declared.objects.Object.{Object}
 use Rattle.trace_scripts.specs.declared.objects.Objects.{Objects}
 use Rattle.trace_scripts.specs.declared.services.Charge.{Charge}

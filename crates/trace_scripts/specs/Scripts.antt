@@ -6,9 +6,9 @@ use Rattle.seq_tree.specs.Runs as runs
 use Rattle.ada_tree.specs.Programs.{Form, Program, Passive, Shared, Cyclic, Sporadic}
 use Rattle.guarantee.specs.Software.{program_software}
 use Rattle.guarantee.specs.Events.{Event, By, Horizon}
-use Rattle.trace_laws.specs.Checks.{action_of}
+use Rattle.law_traces.specs.Checks.{action_of}
 use Rattle.seq_eval.specs.Actions as trees
-use Rattle.script_laws.specs.Entries.{Shown}
+use Rattle.law_scripts.specs.Entries.{Shown}
 use Rattle.trace_scripts.specs.declared.scripts.Script.{Script}
 
 -- the script that is held

@@ -5,16 +5,16 @@ use Rattle.seq_tree.specs.Names.{Name}
 use Rattle.seq_tree.specs.Variables.{written}
 use Rattle.ods_tree.specs.Flats.{Guarded}
 use Rattle.ada_tree.specs.Programs.{Program}
-use Rattle.block_walks.specs.Fit.{MayRun}
+use Rattle.law_walks.specs.Fit.{MayRun}
 use Rattle.trace_tree.specs.declared.event.Event as machine
 use Rattle.trace_tree.specs.declared.event.Event.TheVariants as event
 use Rattle.trace_tree.specs.Lines.{unit_name}
 use Rattle.guarantee.specs.Software.{Software, program_software, leads_to}
 use Rattle.guarantee.specs.Events.{op_at}
-use Rattle.trace_places.specs.Places.{guarded_at, guarded_in}
+use Rattle.law_trace_places.specs.Places.{guarded_at, guarded_in}
 use Rattle.trace_scripts.specs.Scenes.{AllIn}
-use Rattle.script_laws.specs.Entries as entries
-use Rattle.script_laws.specs.Services.{Service, Free, Broken, entered_in, left_in, charge_in}
+use Rattle.law_scripts.specs.Entries as entries
+use Rattle.law_scripts.specs.Services.{Service, Free, Broken, entered_in, left_in, charge_in}
 
 -- blocks that may be walked
 abbrev pub MayAll : Program → ℕ → Type 0

@@ -4,8 +4,8 @@ use Rattle.ada_tree.specs.Programs.{Program}
 use Rattle.trace_tree.specs.Lines.{unit_name}
 use Rattle.guarantee.specs.Software.{Software}
 use Rattle.guarantee.specs.Events.{Event}
-use Rattle.trace_laws.specs.Checks.{follows, serves}
-use Rattle.trace_laws.specs.Verdicts.{Verdict, Script, Shared, first_or}
+use Rattle.law_traces.specs.Checks.{follows, serves}
+use Rattle.law_traces.specs.Verdicts.{Verdict, Script, Shared, first_or}
 use Rattle.trace_scripts.specs.declared.verdict.Wrong.{Wrong}
 use Rattle.trace_scripts.specs.declared.verdict.Wrong.TheVariants.{Thread, Object}
 

@@ -2,9 +2,10 @@ ghost use Rattle.std.specs.Prelude.{◌≡◌, ◌<◌, IfOk, OnOk, length};
 ghost use Rattle.seq_tree.specs.Lists.{Each};
 ghost use Rattle.ada_tree.specs.Rules.{MeetsRules};
 ghost use Rattle.ada_tree.specs.Trees.{program_of};
-ghost use Rattle.script_laws.specs.Entries.{no_entry, shown_at};
+ghost use Rattle.law_scripts.specs.Entries.{no_entry, shown_at};
 ghost use Rattle.trace_tree.specs.Placed.{IsPlaced};
-ghost use Rattle.trace_scripts.specs.Books.{entries_from, entry_of, entry_with, known_of, kept_first, kept_of, kept_with, close_at, level_at, marked, open_at, passed_at, put_at};
+ghost use Rattle.trace_scripts.specs.Books.{entries_from, entry_of, entry_with, known_of, kept_first, kept_of, kept_with, close_at, level_at};
+ghost use Rattle.trace_scripts.specs.Books.{marked, open_at, passed_at, put_at};
 ghost use Rattle.trace_scripts.specs.Scripts.{shown_of};
 
 use crate::actions::action;

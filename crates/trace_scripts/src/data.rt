@@ -11,7 +11,7 @@ use seq_tree::{Datum, Mode, Name, NoMemory, OpText, Param};
 use std::alloc::Global;
 
 /// The value of a variable, and 0 where there is none of that name.
-#[tactic(auto, using(seq_eval::proofs::Reading::found_read))]
+#[tactic(auto, using(seq_eval::proofs::Shared::Reading::found_read))]
 fn value_of(env: &Env, name: &Name) -> u32
     ensures { result ≡ read name.now env.now.slots.items }
 {

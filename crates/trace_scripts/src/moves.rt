@@ -3,7 +3,7 @@ ghost use Rattle.seq_tree.specs.Lists.{Each};
 ghost use Rattle.ada_tree.specs.Trees.{program_of};
 ghost use Rattle.trace_tree.specs.Placed.{IsPlaced, IsUnit};
 ghost use Rattle.guarantee.specs.Events.{named_event};
-ghost use Rattle.trace_places.specs.Places.{task_at};
+ghost use Rattle.law_trace_places.specs.Places.{task_at};
 ghost use Rattle.trace_scripts.specs.Objects.{charge_of, services_of};
 ghost use Rattle.trace_scripts.specs.Scenes.{IsScene, program_in, software_of};
 ghost use Rattle.trace_scripts.specs.Serving.{MayAll};

@@ -6,8 +6,9 @@ ghost use Rattle.trace_tree.specs.Placed.{IsOp, IsPlaced, IsUnit};
 ghost use Rattle.trace_scripts.specs.Books.{entry_of, known_of};
 ghost use Rattle.trace_scripts.specs.Objects.{charge_of, object_of, services_of};
 ghost use Rattle.trace_scripts.specs.Scenes.{IsScene, program_in};
-ghost use Rattle.trace_scripts.specs.Serving.{MayAll, charge_with, charged_at, entered_at, first_by, charges_by, left_at, objects_from, objects_with, services_first};
-ghost use Rattle.trace_places.specs.Places.{guarded_at};
+ghost use Rattle.trace_scripts.specs.Serving.{MayAll, charge_with, charged_at, entered_at, first_by, charges_by, left_at, objects_from};
+ghost use Rattle.trace_scripts.specs.Serving.{objects_with, services_first};
+ghost use Rattle.law_trace_places.specs.Places.{guarded_at};
 
 use crate::books::Entry;
 use crate::data::first_data;

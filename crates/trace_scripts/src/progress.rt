@@ -3,16 +3,17 @@ ghost use Rattle.std.specs.Prelude.{◌≡◌, ◌≤◌, ℕ, ◌+◌, ◌++◌
 ghost use Rattle.seq_tree.specs.Variables.{entered};
 ghost use Rattle.ada_tree.specs.Rules.{MeetsRules};
 ghost use Rattle.ada_tree.specs.Trees.{program_of};
-ghost use Rattle.block_walks.specs.Fit.{MayRun};
+ghost use Rattle.law_walks.specs.Fit.{MayRun};
 ghost use Rattle.seq_eval.specs.Actions.{action_of};
 ghost use Rattle.seq_eval.specs.Bounds.{most_ticks};
 ghost use Rattle.guarantee.specs.Events.{named_event};
 ghost use Rattle.guarantee.specs.Software.{Task, leads_to};
 ghost use Rattle.trace_tree.specs.Placed.{IsPlaced};
-ghost use Rattle.script_laws.specs.Progress.{Active, again_by, all_shown, course_from, ends_by, left_by_course, with_last};
+ghost use Rattle.law_scripts.specs.Progress.{Active, again_by, all_shown, course_from, ends_by, left_by_course, with_last};
 ghost use Rattle.trace_scripts.specs.Objects.{charge_of};
 ghost use Rattle.trace_scripts.specs.Scenes.{IsScene, calls_of, program_in, software_of};
-ghost use Rattle.trace_scripts.specs.Threads.{IsOf, after_event, charged_by, course_of, entered_if, finished_if, is_at_horizon, left_if, progress_of, released_in, seen_if, step_by};
+ghost use Rattle.trace_scripts.specs.Threads.{IsOf, after_event, charged_by, course_of, entered_if, finished_if, is_at_horizon, left_if};
+ghost use Rattle.trace_scripts.specs.Threads.{progress_of, released_in, seen_if, step_by};
 
 use crate::actions::action;
 use crate::data::{add_all, add_params, keep};

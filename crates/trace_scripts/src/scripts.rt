@@ -1,8 +1,8 @@
 ghost use Rattle.std.specs.Prelude.{◌≡◌, ◌∷◌, [], IfOk, OnOk, Some, drop, option_map};
 ghost use Rattle.seq_eval.specs.Actions.{action_of};
-ghost use Rattle.script_laws.specs.Entries.{shown_at};
-ghost use Rattle.script_laws.specs.Progress.{with_last};
-ghost use Rattle.trace_laws.specs.Checks.{both};
+ghost use Rattle.law_scripts.specs.Entries.{shown_at};
+ghost use Rattle.law_scripts.specs.Progress.{with_last};
+ghost use Rattle.law_traces.specs.Checks.{both};
 ghost use Rattle.trace_scripts.specs.Scripts.{back_of, levels_of, shown_of};
 
 use seq_eval::Action;

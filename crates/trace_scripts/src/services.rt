@@ -2,11 +2,11 @@ ghost use Rattle.std.specs.Prelude.{◌≡◌, ◌≤◌, ℕ, true, IfOk, Some}
 ghost use Rattle.seq_tree.specs.Names.{same_name};
 ghost use Rattle.seq_tree.specs.Trees.{block_of, operation_of};
 ghost use Rattle.ods_tree.specs.Flats.{Guarded};
-ghost use Rattle.block_walks.specs.Fit.{MayRun};
+ghost use Rattle.law_walks.specs.Fit.{MayRun};
 ghost use Rattle.seq_eval.specs.Bounds.{most_ticks};
 ghost use Rattle.guarantee.specs.Software.{leads_to};
-ghost use Rattle.script_laws.specs.Services.{charge_by, charge_in, entered_in, inside_by, is_sound, last_by, left_in};
-ghost use Rattle.trace_laws.specs.Checks.{begins_along, op_named, run_along};
+ghost use Rattle.law_scripts.specs.Services.{charge_by, charge_in, entered_in, inside_by, is_sound, last_by, left_in};
+ghost use Rattle.law_traces.specs.Checks.{begins_along, op_named, run_along};
 ghost use Rattle.trace_scripts.specs.Books.{entry_of};
 ghost use Rattle.trace_scripts.specs.Scripts.{shown_of};
 ghost use Rattle.trace_scripts.specs.Objects.{charge_of, service_of};

@@ -1,9 +1,9 @@
 ghost use Rattle.std.specs.Prelude.{◌≡◌, ◌≤◌, ℕ, IfOk};
 ghost use Rattle.seq_tree.specs.Trees.{block_of};
-ghost use Rattle.block_walks.specs.Fit.{MayRun};
+ghost use Rattle.law_walks.specs.Fit.{MayRun};
 ghost use Rattle.seq_eval.specs.Bounds.{most_ticks};
 ghost use Rattle.guarantee.specs.Software.{leads_to};
-ghost use Rattle.trace_laws.specs.Checks.{begins_along, run_along};
+ghost use Rattle.law_traces.specs.Checks.{begins_along, run_along};
 ghost use Rattle.trace_scripts.specs.Scripts.{shown_of};
 ghost use Rattle.trace_scripts.specs.Scenes.{IsScene, IsWalk, calls_of, software_of};
 

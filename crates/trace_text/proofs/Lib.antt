@@ -1,4 +1,4 @@
-pub mod Names
 pub mod Spacing
 pub mod TallyLaws
 pub mod Examples
+pub mod Shared

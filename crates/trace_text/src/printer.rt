@@ -13,7 +13,7 @@ use seq_tree::{Name, OpSig};
 use trace_tree::{Event, Values};
 
 // The head of the operation at a place of a unit. That of a sporadic unit is its request operation.
-#[tactic(auto, using(crate::proofs::Names::head_steps))]
+#[tactic(auto, using(crate::proofs::Shared::Names::head_steps))]
 fn head_at(form: &Form, place: usize) -> &OpSig
     requires { place < length (heads (form_of form.now)) }
     ensures { slice_get (heads (form_of form.now)) place ≡ Some (signature_of result.now) }
@@ -27,7 +27,7 @@ fn head_at(form: &Form, place: usize) -> &OpSig
 }
 
 // The unit at a place.
-#[tactic(auto, using(crate::proofs::Names::read_steps))]
+#[tactic(auto, using(crate::proofs::Shared::Names::read_steps))]
 fn unit_at(program: &AdaProgram, unit: u32) -> &Unit
     requires { unit < length (program_of program.now).units }
     ensures name { unit_name (program_of program.now) unit ≡ result.now.name }
@@ -37,7 +37,7 @@ fn unit_at(program: &AdaProgram, unit: u32) -> &Unit
 }
 
 // The name of the operation at a place of a unit.
-#[tactic(auto, using(crate::proofs::Names::read_steps))]
+#[tactic(auto, using(crate::proofs::Shared::Names::read_steps))]
 fn op_at(program: &AdaProgram, unit: u32, op: u32) -> &Name
     requires unit { unit < length (program_of program.now).units }
     requires op { op < length (unit_ops (program_of program.now) unit) }

@@ -14,9 +14,9 @@ use Rattle.guarantee.specs.Events.{named}
 use Rattle.guarantee.specs.Allowed.{Permits}
 use Rattle.guarantee.specs.Programs.{program}
 use Rattle.guarantee.specs.Software.{software}
-use Rattle.trace_lines.specs.Told.{IsEvent}
-use Rattle.trace_laws.specs.Verdicts.{Verdict, IsVerdict, BeginsNoLine}
-use Rattle.trace_laws.specs.Verdicts as verdict
+use Rattle.law_trace_lines.specs.Told.{IsEvent}
+use Rattle.law_traces.specs.Verdicts.{Verdict, IsVerdict, BeginsNoLine}
+use Rattle.law_traces.specs.Verdicts as verdict
 use Rattle.design_accepts.specs.declared.unaccepted.Unaccepted.{Unaccepted}
 use Rattle.design_accepts.specs.declared.unaccepted.Unaccepted.TheVariants as why
 use Rattle.hrthood_top.specs.declared.accepts.AcceptsRefusal.TheVariants as refusal

@@ -17,7 +17,7 @@ use Rattle.ods_tree.specs.Reading.{Reads}
 use Rattle.ods_tree.specs.Spelling.{design_tokens}
 use Rattle.ods_read.specs.DesignReaders.{design_at, design_with}
 use Rattle.ods_read.specs.Answers.{Faults}
-use Rattle.ods_read.proofs.ReadingLaws.{faulty-at}
+use Rattle.ods_read.proofs.Shared.ReadingLaws.{faulty-at}
 use Rattle.design_rules.specs.Broken.{Broken}
 use Rattle.rt_response.specs.declared.rows.Miss.{Miss}
 use Rattle.ada_tree.specs.Programs.{Program}

@@ -3,12 +3,12 @@ use Rattle.std.specs.Prelude.{◌≡◌, ℕ, List, [], ◌∷◌, ◌++◌, get
 use Rattle.std.proofs.Common.{arith, ap, sym, ◌∙◌}
 use Rattle.seq_tree.specs.Names.{Name}
 use Rattle.seq_tree.specs.Statements.{End}
-use Rattle.ods_tree.proofs.Short.{row_costs}
+use Rattle.ods_tree.proofs.Shared.Short.{row_costs}
 use Rattle.ada_tree.specs.Programs.{Program, Shared, Cyclic}
 use Rattle.trace_tree.specs.declared.event.Event.{Event}
 use Rattle.trace_tree.specs.declared.event.Event.TheVariants as event
 use Rattle.trace_tree.specs.Lines.{unit_name}
-use Rattle.ceiling_locking.specs.Ceilings.{GoesOn}
+use Rattle.law_ceilings.specs.Ceilings.{GoesOn}
 use Rattle.hrthood_top.specs.Violations.{EndsAt, RunsOut, Violation}
 
 -- a task and a protected object

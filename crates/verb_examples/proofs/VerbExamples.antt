@@ -9,7 +9,7 @@ use Rattle.ods_tree.specs.Flattening.{flat}
 use Rattle.ods_tree.specs.Layout.{design_text}
 use Rattle.ods_tree.specs.Ticks.{in_ticks, first_priority}
 use Rattle.ods_tree.specs.Reading.{Reads}
-use Rattle.ods_tree.proofs.Short.{design, group}
+use Rattle.ods_tree.proofs.Shared.Short.{design, group}
 use Rattle.ods_read.specs.Answers.{Faults}
 use Rattle.design_rules.specs.Rules.{MeetsRules, IsFirstBroken}
 use Rattle.design_rules.specs.Broken.{V17Tick}

@@ -1,7 +1,7 @@
 use Rattle.std.proofs.Common.{◌<◌, get_or, length, arith, refl}
 use Rattle.ods_tree.specs.Trees.{flat_of, thread_of}
 use Rattle.analysis.specs.Trees.{ranks_of}
-use Rattle.seq_print.proofs.Chains.{adds-front}
+use Rattle.seq_print.proofs.Shared.Chains.{adds-front}
 use Rattle.guarantee.specs.Programs.{thread_comment}
 use Rattle.ada_gen.specs.Rows.{row}
 use Rattle.ada_gen.proofs.UnitSteps.{comment-at, place-below, row-front, row-step}

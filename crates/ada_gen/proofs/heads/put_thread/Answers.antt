@@ -1,5 +1,5 @@
 use Rattle.ods_tree.specs.Trees.{thread_of}
-use Rattle.seq_print.proofs.Chains.{adds-front, adds-same, adds-then, front-longer, front-same, front-then}
+use Rattle.seq_print.proofs.Shared.Chains.{adds-front, adds-same, adds-then, front-longer, front-same, front-then}
 use Rattle.ada_gen.proofs.UnitSteps.{thread-text}
 use Rattle.ada_gen.proofs.heads.put_thread.Goals as goal
 

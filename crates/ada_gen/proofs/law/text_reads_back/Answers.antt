@@ -1,4 +1,4 @@
-use Rattle.ada_gen.proofs.HeadLaws.{text-back}
+use Rattle.ada_gen.proofs.Shared.HeadLaws.{text-back}
 use Rattle.ada_gen.proofs.law.text_reads_back.Goals as goal
 
 pub returns : goal.returns

@@ -1,4 +1,4 @@
-use Rattle.seq_print.proofs.Chains.{writes-printed, writes-same, writes-then}
+use Rattle.seq_print.proofs.Shared.Chains.{writes-printed, writes-same, writes-then}
 use Rattle.ada_print.proofs.Layouts.{hrt-text}
 use Rattle.ada_print.proofs.costs.add_hrt.Goals as goal
 

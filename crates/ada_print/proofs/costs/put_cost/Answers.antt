@@ -1,4 +1,4 @@
-use Rattle.seq_print.proofs.Chains.{writes-added, writes-same, writes-then}
+use Rattle.seq_print.proofs.Shared.Chains.{writes-added, writes-same, writes-then}
 use Rattle.ada_print.proofs.Layouts.{cost-text}
 use Rattle.ada_print.proofs.costs.put_cost.Goals as goal
 

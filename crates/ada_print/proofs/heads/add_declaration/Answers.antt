@@ -1,5 +1,5 @@
 use Rattle.seq_tree.specs.Trees.{signature_of}
-use Rattle.seq_print.proofs.Chains.{writes-printed, writes-same, writes-then}
+use Rattle.seq_print.proofs.Shared.Chains.{writes-printed, writes-same, writes-then}
 use Rattle.ada_print.proofs.HeadTexts.{declaration-text}
 use Rattle.ada_print.proofs.heads.add_declaration.Goals as goal
 

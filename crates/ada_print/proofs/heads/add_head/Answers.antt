@@ -1,5 +1,5 @@
 use Rattle.std.proofs.Common.{◌++◌, ap, ◌∙◌}
-use Rattle.seq_print.proofs.Chains.{writes-then}
+use Rattle.seq_print.proofs.Shared.Chains.{writes-then}
 use Rattle.ada_print.proofs.heads.add_head.Goals as goal
 
 pub returns : goal.returns

@@ -1,8 +1,8 @@
 use Rattle.std.proofs.Common.{[], refl}
 use Rattle.ada_tree.specs.Spelling.{program_lines, program_tokens}
-use Rattle.seq_print.proofs.BackLaws.{reads-back}
-use Rattle.seq_print.proofs.TokenForms.{tokens-readable}
-use Rattle.ada_print.proofs.ApartLines.{program-ok}
+use Rattle.seq_print.proofs.Shared.BackLaws.{reads-back}
+use Rattle.seq_print.proofs.Shared.TokenForms.{tokens-readable}
+use Rattle.ada_print.proofs.Shared.ApartLines.{program-ok}
 use Rattle.ada_print.proofs.law.reads_back.Goals as goal
 
 pub returns : goal.returns

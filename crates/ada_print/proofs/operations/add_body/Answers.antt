@@ -1,6 +1,6 @@
 use Rattle.std.proofs.Common.{◌+◌, add-one}
 use Rattle.seq_tree.specs.Trees.{operation_of}
-use Rattle.seq_print.proofs.Chains.{writes-added, writes-same, writes-then}
+use Rattle.seq_print.proofs.Shared.Chains.{writes-added, writes-same, writes-then}
 use Rattle.ada_print.proofs.HeadTexts.{body-text}
 use Rattle.ada_print.proofs.operations.add_body.Goals as goal
 

@@ -1,4 +1,4 @@
-use Rattle.seq_print.proofs.Chains.{writes-added, writes-same}
+use Rattle.seq_print.proofs.Shared.Chains.{writes-added, writes-same}
 use Rattle.ada_print.proofs.Layouts.{package-text}
 use Rattle.ada_print.proofs.program.add_package.Goals as goal
 

@@ -1,5 +1,5 @@
 use Rattle.ada_tree.specs.Trees.{program_of}
-use Rattle.seq_print.proofs.Chains.{writes-same, writes-then}
+use Rattle.seq_print.proofs.Shared.Chains.{writes-same, writes-then}
 use Rattle.ada_print.proofs.Layouts.{program-text}
 use Rattle.ada_print.proofs.program.add_program.Goals as goal
 

@@ -1,5 +1,5 @@
 use Rattle.seq_tree.specs.Trees.{signature_of}
-use Rattle.seq_print.proofs.Chains.{writes-same, writes-then}
+use Rattle.seq_print.proofs.Shared.Chains.{writes-same, writes-then}
 use Rattle.ada_print.proofs.Layouts.{sporadic-head}
 use Rattle.ada_print.proofs.requests.add_sporadic_head.Goals as goal
 

@@ -1,5 +1,5 @@
 use Rattle.seq_tree.specs.Trees.{block_of}
-use Rattle.seq_print.proofs.Chains.{writes-printed, writes-same, writes-then}
+use Rattle.seq_print.proofs.Shared.Chains.{writes-printed, writes-same, writes-then}
 use Rattle.ada_print.proofs.Layouts.{cyclic-text}
 use Rattle.ada_print.proofs.tasks.add_cyclic.Goals as goal
 

@@ -1,4 +1,4 @@
-use Rattle.seq_print.proofs.Chains.{writes-added, writes-same}
+use Rattle.seq_print.proofs.Shared.Chains.{writes-added, writes-same}
 use Rattle.ada_print.proofs.Layouts.{task-text}
 use Rattle.ada_print.proofs.tasks.add_task.Goals as goal
 

@@ -1,6 +1,6 @@
 use Rattle.std.proofs.Common.{map}
 use Rattle.seq_tree.specs.Trees.{operation_of}
-use Rattle.seq_print.proofs.Chains.{writes-printed, writes-same, writes-then}
+use Rattle.seq_print.proofs.Shared.Chains.{writes-printed, writes-same, writes-then}
 use Rattle.ada_print.proofs.Layouts.{shared-body}
 use Rattle.ada_print.proofs.units.add_shared.Goals as goal
 

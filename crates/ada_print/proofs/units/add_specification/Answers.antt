@@ -1,5 +1,5 @@
 use Rattle.ada_tree.specs.Trees.{unit_of}
-use Rattle.seq_print.proofs.Chains.{writes-added, writes-same, writes-then}
+use Rattle.seq_print.proofs.Shared.Chains.{writes-added, writes-same, writes-then}
 use Rattle.ada_print.proofs.Layouts.{specification-text}
 use Rattle.ada_print.proofs.units.add_specification.Goals as goal
 

@@ -5,9 +5,9 @@ use Rattle.seq_tree.specs.declared.token.Token.{Token}
 use Rattle.ada_tree.specs.Programs.{Program}
 use Rattle.ada_tree.specs.Trees.{program_of}
 use Rattle.token_read.specs.Ahead.{ahead}
-use Rattle.token_read.proofs.BehindSteps.{found-list}
+use Rattle.token_read.proofs.Shared.BehindSteps.{found-list}
 use Rattle.ada_read.specs.Readers.{ada_block_at, program_at}
-use Rattle.ada_read.proofs.ReadingLaws.{judged-says, judged-only, faulty-at, deep-at}
+use Rattle.ada_read.proofs.Shared.ReadingLaws.{judged-says, judged-only, faulty-at, deep-at}
 use Rattle.ada_read.proofs.reader.read_ada.Goals as goal
 
 -- what the tokens are read as

@@ -3,7 +3,7 @@ use Rattle.seq_check.specs.Scopes.{offer_view}
 use Rattle.ada_tree.specs.Trees.{unit_of}
 use Rattle.ada_tree.specs.declared.program.Unit.{Unit}
 use Rattle.ada_rules.specs.FaultsTold.{unit_offers}
-use Rattle.seq_tree.proofs.LoopSteps.{added_step}
+use Rattle.seq_tree.proofs.Shared.LoopSteps.{added_step}
 use Rattle.ada_rules.proofs.bodies.all_offers.Goals as goal
 
 pub units-preserved : goal.units-preserved

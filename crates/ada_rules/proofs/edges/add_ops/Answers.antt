@@ -2,7 +2,7 @@ use Rattle.std.proofs.Common.{List, flat_map, map, refl}
 use Rattle.seq_tree.specs.Trees.{operation_of}
 use Rattle.seq_tree.specs.declared.tree.OpText.{OpText}
 use Rattle.ada_rules.specs.Edges.{edge_of, op_edges}
-use Rattle.seq_tree.proofs.LoopSteps.{added_step}
+use Rattle.seq_tree.proofs.Shared.LoopSteps.{added_step}
 use Rattle.ada_rules.proofs.edges.add_ops.Goals as goal
 
 pub ops-preserved : goal.ops-preserved

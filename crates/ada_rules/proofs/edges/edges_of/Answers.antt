@@ -2,7 +2,7 @@ use Rattle.std.proofs.Common.{List, flat_map, map, refl}
 use Rattle.ada_tree.specs.Trees.{unit_of}
 use Rattle.ada_tree.specs.declared.program.Unit.{Unit}
 use Rattle.ada_rules.specs.Edges.{edge_of, unit_edges}
-use Rattle.seq_tree.proofs.LoopSteps.{added_step}
+use Rattle.seq_tree.proofs.Shared.LoopSteps.{added_step}
 use Rattle.ada_rules.proofs.edges.edges_of.Goals as goal
 
 pub units-preserved : goal.units-preserved

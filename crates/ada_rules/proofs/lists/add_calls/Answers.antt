@@ -2,7 +2,7 @@ use Rattle.std.proofs.Common.{List, ◌∷◌, [], map}
 use Rattle.ada_rules.specs.Lists.{call_of}
 use Rattle.ada_rules.specs.Parts.{calls_in, part_of}
 use Rattle.ada_rules.specs.declared.parts.Part.{Part}
-use Rattle.seq_tree.proofs.LoopSteps.{added_step}
+use Rattle.seq_tree.proofs.Shared.LoopSteps.{added_step}
 use Rattle.ada_rules.proofs.PartLaws.{calls-cons}
 use Rattle.ada_rules.proofs.lists.add_calls.Goals as goal
 

@@ -2,7 +2,7 @@ use Rattle.std.proofs.Common.{List, ◌∷◌, [], map}
 use Rattle.ada_rules.specs.Lists.{names_of}
 use Rattle.ada_rules.specs.Parts.{loops_in, part_of}
 use Rattle.ada_rules.specs.declared.parts.Part.{Part}
-use Rattle.seq_tree.proofs.LoopSteps.{added_step}
+use Rattle.seq_tree.proofs.Shared.LoopSteps.{added_step}
 use Rattle.ada_rules.proofs.PartLaws.{loops-cons}
 use Rattle.ada_rules.proofs.lists.add_loops.Goals as goal
 

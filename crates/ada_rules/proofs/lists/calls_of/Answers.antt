@@ -3,7 +3,7 @@ use Rattle.seq_tree.specs.Calls.{block_calls}
 use Rattle.ada_rules.specs.Lists.{call_of}
 use Rattle.ada_rules.specs.Parts.{body_of}
 use Rattle.ada_rules.specs.declared.parts.BodyView.{BodyView}
-use Rattle.seq_tree.proofs.LoopSteps.{added_step}
+use Rattle.seq_tree.proofs.Shared.LoopSteps.{added_step}
 use Rattle.ada_rules.proofs.lists.calls_of.Goals as goal
 
 pub bodies-preserved : goal.bodies-preserved

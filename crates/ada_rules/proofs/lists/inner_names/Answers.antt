@@ -2,7 +2,7 @@ use Rattle.std.proofs.Common.{List, flat_map, map, refl}
 use Rattle.ada_rules.specs.Lists.{body_inner_names, names_of}
 use Rattle.ada_rules.specs.Parts.{body_of}
 use Rattle.ada_rules.specs.declared.parts.BodyView.{BodyView}
-use Rattle.seq_tree.proofs.LoopSteps.{added_step}
+use Rattle.seq_tree.proofs.Shared.LoopSteps.{added_step}
 use Rattle.ada_rules.proofs.lists.inner_names.Goals as goal
 
 pub bodies-preserved : goal.bodies-preserved

@@ -3,7 +3,7 @@ use Rattle.ada_rules.specs.Edges.{call_edges, edge_of, node}
 use Rattle.ada_rules.specs.Lists.{call_of}
 use Rattle.ada_rules.specs.declared.lists.CallView.{CallView}
 use Rattle.name_sets.specs.Sets.{has}
-use Rattle.seq_tree.proofs.LoopSteps.{added_step, map_filter_first}
+use Rattle.seq_tree.proofs.Shared.LoopSteps.{added_step, map_filter_first}
 use Rattle.ada_rules.proofs.objects.add_calls.Goals as goal
 
 pub calls-preserved : goal.calls-preserved

@@ -3,7 +3,7 @@ use Rattle.seq_tree.specs.Trees.{operation_of}
 use Rattle.seq_tree.specs.declared.tree.OpText.{OpText}
 use Rattle.ada_rules.specs.Edges.{edge_of, op_object_edges}
 use Rattle.name_sets.specs.Sets.{has}
-use Rattle.seq_tree.proofs.LoopSteps.{added_step}
+use Rattle.seq_tree.proofs.Shared.LoopSteps.{added_step}
 use Rattle.ada_rules.proofs.objects.add_ops.Goals as goal
 
 pub ops-preserved : goal.ops-preserved

@@ -3,7 +3,7 @@ use Rattle.ada_tree.specs.Trees.{unit_of}
 use Rattle.ada_tree.specs.declared.program.Unit.{Unit}
 use Rattle.ada_rules.specs.Edges.{edge_of, object_edges}
 use Rattle.name_sets.specs.Sets.{has}
-use Rattle.seq_tree.proofs.LoopSteps.{added_step}
+use Rattle.seq_tree.proofs.Shared.LoopSteps.{added_step}
 use Rattle.ada_rules.proofs.objects.edges_by.Goals as goal
 
 pub units-preserved : goal.units-preserved

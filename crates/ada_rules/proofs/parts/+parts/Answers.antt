@@ -3,8 +3,8 @@ use Rattle.seq_tree.specs.Trees.{arm_of, block_of, otherwise, statement_of, stat
 use Rattle.seq_tree.specs.declared.tree.Arm.{Arm}
 use Rattle.seq_tree.specs.declared.tree.Stmt.{Stmt}
 use Rattle.ada_rules.specs.Parts.{part_of, arms_parts, block_parts, statement_parts}
-use Rattle.seq_tree.proofs.TreeForms.{arm-tree, call-tree, for-tree, if-tree, work-tree}
-use Rattle.seq_tree.proofs.LoopSteps.{added_step}
+use Rattle.seq_tree.proofs.Shared.TreeForms.{arm-tree, call-tree, for-tree, if-tree, work-tree}
+use Rattle.seq_tree.proofs.Shared.LoopSteps.{added_step}
 use Rattle.ada_rules.proofs.PartSteps.{pushed, looped, branched}
 use Rattle.ada_rules.proofs.parts.+parts.Goals as goal
 

@@ -3,7 +3,7 @@ use Rattle.name_sets.specs.Tables.{at}
 use Rattle.ada_rules.specs.Edges.{edge_of}
 use Rattle.ada_rules.specs.Places.{step_between, steps_of}
 use Rattle.ada_rules.specs.declared.edges.EdgeView.{EdgeView}
-use Rattle.seq_tree.proofs.LoopSteps.{added_step, given_first}
+use Rattle.seq_tree.proofs.Shared.LoopSteps.{added_step, given_first}
 use Rattle.ada_rules.proofs.places.steps_of.Goals as goal
 
 pub edges-preserved : goal.edges-preserved

@@ -4,7 +4,7 @@ use Rattle.ada_rules.specs.Edges.{Edge, edge_of}
 use Rattle.ada_rules.specs.Places.{starts_of}
 use Rattle.ada_rules.specs.declared.edges.EdgeView.{EdgeView}
 use Rattle.name_sets.specs.Sets.{has_op}
-use Rattle.seq_tree.proofs.LoopSteps.{added_step, given_first}
+use Rattle.seq_tree.proofs.Shared.LoopSteps.{added_step, given_first}
 use Rattle.ada_rules.proofs.requests.starts_of.Goals as goal
 
 pub edges-preserved : goal.edges-preserved

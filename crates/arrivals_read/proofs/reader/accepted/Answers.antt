@@ -2,7 +2,7 @@ use Rattle.std.proofs.Common.{refl, ap, arith}
 use Rattle.seq_tree.specs.Lexis.{tokens}
 use Rattle.ada_tree.specs.Trees.{program_of}
 use Rattle.token_read.specs.Lexemes.{word_bytes}
-use Rattle.token_read.proofs.BehindSteps.{found-list}
+use Rattle.token_read.proofs.Shared.BehindSteps.{found-list}
 use Rattle.arrivals_tree.specs.Arriving.{arrivals_of}
 use Rattle.arrivals_tree.specs.ArrivalTexts.{arrival_tokens}
 use Rattle.arrivals_read.specs.Checked.{fault_named}

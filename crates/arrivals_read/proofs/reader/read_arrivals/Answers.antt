@@ -3,11 +3,11 @@ use Rattle.grammar.specs.Reading.{whole_at}
 use Rattle.seq_tree.specs.Lexis.{tokens}
 use Rattle.ada_tree.specs.Trees.{program_of}
 use Rattle.token_read.specs.Ahead.{ahead}
-use Rattle.token_read.proofs.BehindSteps.{found-list}
+use Rattle.token_read.proofs.Shared.BehindSteps.{found-list}
 use Rattle.arrivals_read.specs.Readers.{arrivals_at}
 use Rattle.arrivals_read.specs.Texts.{text_of}
 use Rattle.arrivals_read.proofs.Reaching.{arrivals-found, arrivals-faulty}
-use Rattle.arrivals_read.proofs.Refusals.{says-only}
+use Rattle.arrivals_read.proofs.Shared.Refusals.{says-only}
 use Rattle.arrivals_read.proofs.reader.read_arrivals.Goals as goal
 
 pub accepted-requires-clause-sized : goal.accepted-requires-clause-sized

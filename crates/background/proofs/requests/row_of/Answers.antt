@@ -3,7 +3,7 @@ use Rattle.std.proofs.lemmas.List.{length-map}
 use Rattle.std.proofs.lemmas.Option.{slice_get_read}
 use Rattle.ods_tree.specs.Trees.{flat_of, thread_of}
 use Rattle.analysis.specs.Trees.{ranks_of}
-use Rattle.design_bounds.proofs.TablePlaces.{ranks-long}
+use Rattle.design_bounds.proofs.Shared.TablePlaces.{ranks-long}
 use Rattle.background.proofs.RequestLaws.{row-counted}
 use Rattle.background.proofs.requests.row_of.Goals as goal
 

@@ -1,7 +1,7 @@
 use Rattle.std.proofs.Common.{refl, arith}
 use Rattle.ods_tree.specs.Trees.{design_of, flat_of}
 use Rattle.ods_rules.specs.Checks.{checked_design}
-use Rattle.bridge.proofs.MadeDesigns.{sound-of, small-of, some-of, room-of, made-of, long-of}
+use Rattle.bridge.proofs.Shared.MadeDesigns.{sound-of, small-of, some-of, room-of, made-of, long-of}
 use Rattle.bridge.proofs.making.make.Goals as goal
 
 pub analyse-requires-clause-sound : goal.analyse-requires-clause-sound

@@ -1,7 +1,7 @@
 use Rattle.ada_tree.specs.Trees.{program_of}
 use Rattle.arrivals_tree.specs.Arriving.{arrivals_of}
 use Rattle.guarantee.specs.Arrivals.{named_arrivals}
-use Rattle.trace_checks.proofs.Accepting.{accepted}
+use Rattle.trace_checks.proofs.Shared.Accepting.{accepted}
 use Rattle.design_accepts.proofs.Judging.{slice-refused, slice-holds, slice-placed}
 use Rattle.design_accepts.proofs.accepting.judge.Goals as goal
 

@@ -2,7 +2,7 @@ use Rattle.std.proofs.Common.{ap, Some, ◌∙◌}
 use Rattle.ada_tree.specs.Trees.{program_of}
 use Rattle.guarantee.specs.Events.{named}
 use Rattle.guarantee.specs.Software.{program_software}
-use Rattle.trace_laws.specs.Verdicts.{Times}
+use Rattle.law_traces.specs.Verdicts.{Times}
 use Rattle.design_accepts.proofs.Scenery.{is-scene}
 use Rattle.design_accepts.proofs.Wronging.{thread-told, object-told, none-told}
 use Rattle.design_accepts.proofs.units.judge_units.Goals as goal

@@ -1,7 +1,7 @@
 use Rattle.std.proofs.Common.{◌+◌, length, take, drop, List, ℕ, ap, ◌∙◌, arith, subst, length-drop}
 use Rattle.std.proofs.lemmas.List.{drop-drop}
 use Rattle.hood_io.specs.Sinks.{Appends}
-use Rattle.hood_io.proofs.Appending.{appends-more}
+use Rattle.hood_io.proofs.Shared.Appending.{appends-more}
 use Rattle.hood_io.proofs.puts.put_all.Goals as goal
 
 pub pieces-preserved : goal.pieces-preserved

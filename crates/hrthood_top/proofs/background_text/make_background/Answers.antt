@@ -1,5 +1,5 @@
 use Rattle.ods_tree.specs.Trees.{design_of}
-use Rattle.ods_read.proofs.Counting.{objects-few}
+use Rattle.ods_read.proofs.Shared.Counting.{objects-few}
 use Rattle.hrthood_top.proofs.background_text.make_background.Goals as goal
 
 pub deliver_background-requires : goal.deliver_background-requires

@@ -1,6 +1,6 @@
 use Rattle.ods_tree.specs.Trees.{design_of, flat_of}
 use Rattle.ods_rules.specs.Checks.{checked_design}
-use Rattle.bridge.proofs.MadeDesigns.{sound-of, some-of, room-of}
+use Rattle.bridge.proofs.Shared.MadeDesigns.{sound-of, some-of, room-of}
 use Rattle.hrthood_top.proofs.design_program.design_program.Goals as goal
 
 pub flat_program-requires-clause-sound : goal.flat_program-requires-clause-sound

@@ -2,7 +2,7 @@ use Rattle.std.proofs.Common.{◌∙◌}
 use Rattle.std.proofs.lemmas.List.{length-map}
 use Rattle.ods_tree.specs.Trees.{flat_of, thread_of}
 use Rattle.analysis.specs.Trees.{ranks_of}
-use Rattle.design_bounds.proofs.TablePlaces.{ranks-long}
+use Rattle.design_bounds.proofs.Shared.TablePlaces.{ranks-long}
 use Rattle.hrthood_top.proofs.design_program.flat_program.Goals as goal
 
 pub generate-requires-clause-priorities : goal.generate-requires-clause-priorities

@@ -1,6 +1,6 @@
 use Rattle.std.proofs.Common.{[], refl, arith}
 use Rattle.std.proofs.lemmas.Result.{err_from_is_err_and}
-use Rattle.hood_io.proofs.Appending.{appends-none}
+use Rattle.hood_io.proofs.Shared.Appending.{appends-none}
 use Rattle.hrthood_top.proofs.Pieces.{one_more, part_of_all, all_written}
 use Rattle.hrthood_top.proofs.line.put_each.Goals as goal
 

@@ -1,7 +1,7 @@
 use Rattle.std.proofs.Common.{◌≡◌, IfOk, subst, sym, ◌∙◌}
 use Rattle.std.proofs.lemmas.List.{length-map}
 use Rattle.ods_tree.specs.Trees.{flat_of, thread_of}
-use Rattle.priority_search.proofs.NextSteps.{order-few}
+use Rattle.priority_search.proofs.Shared.NextSteps.{order-few}
 use Rattle.hrthood_top.proofs.SearchSteps.{priorities-are, small-by, table-by, ranks-by, told-by}
 use Rattle.hrthood_top.proofs.search.order_lines.Goals as goal
 

@@ -1,7 +1,7 @@
 use Rattle.std.proofs.Common.{arith}
 use Rattle.std.proofs.lemmas.List.{length-map}
 use Rattle.ods_tree.specs.Trees.{flat_of, thread_of}
-use Rattle.order_laws.specs.Orders.{is_internal}
+use Rattle.law_orders.specs.Orders.{is_internal}
 use Rattle.hrthood_top.proofs.SearchSteps.{found-within}
 use Rattle.hrthood_top.proofs.search.refusal_of.Goals as goal
 

@@ -1,6 +1,6 @@
 use Rattle.ods_tree.specs.Trees.{design_of, flat_of}
 use Rattle.ods_rules.specs.Checks.{checked_design}
-use Rattle.bridge.proofs.MadeDesigns.{sound-of, small-of}
+use Rattle.bridge.proofs.Shared.MadeDesigns.{sound-of, small-of}
 use Rattle.hrthood_top.proofs.search.search_checked.Goals as goal
 
 pub search_flat-requires-clause-sound : goal.search_flat-requires-clause-sound

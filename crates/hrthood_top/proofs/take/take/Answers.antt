@@ -1,5 +1,5 @@
 use Rattle.ods_tree.specs.Trees.{design_of}
-use Rattle.ods_read.proofs.Counting.{objects-few}
+use Rattle.ods_read.proofs.Shared.Counting.{objects-few}
 use Rattle.hrthood_top.proofs.take.take.Goals as goal
 
 pub check-requires : goal.check-requires

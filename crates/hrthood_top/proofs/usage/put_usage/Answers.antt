@@ -1,6 +1,6 @@
 use Rattle.std.proofs.Common.{[], ap, arith, codes, map}
 use Rattle.std.proofs.lemmas.Result.{err_from_is_err_and}
-use Rattle.hood_io.proofs.Appending.{appends-none}
+use Rattle.hood_io.proofs.Shared.Appending.{appends-none}
 use Rattle.hrthood_words.specs.Views.{listed}
 use Rattle.hrthood_words.specs.Words.{usage_of}
 use Rattle.hrthood_top.proofs.Pieces.{last-put}

@@ -1,6 +1,6 @@
 use Rattle.std.proofs.Common.{rules, ◌≡◌, ◌+◌, ◌++◌, [], ◌∷◌, Err, List, map, drop, flat_map, ap, sym, subst, ◌∙◌}
 use Rattle.std.proofs.lemmas.List.{drop_all}
-use Rattle.seq_tree.proofs.LoopSteps.{drop_step}
+use Rattle.seq_tree.proofs.Shared.LoopSteps.{drop_step}
 use Rattle.ods_tree.specs.Trees.{design_of}
 use Rattle.ods_tree.specs.Walk.{objects}
 use Rattle.design_rules.specs.Budgets.{bad_budgets}
@@ -9,7 +9,7 @@ use Rattle.ods_index.specs.Judging.{Tells, head_of}
 use Rattle.ods_index.specs.Walking.{standing_of}
 use Rattle.ods_index.specs.declared.walk.Standing.{Standing}
 use Rattle.ods_costs.proofs.BudgetSteps.{budgets-split}
-use Rattle.ods_index.proofs.TellSteps.{tells_front}
+use Rattle.ods_index.proofs.Shared.TellSteps.{tells_front}
 use Rattle.ods_costs.proofs.budgets.budgets_fit.Goals as goal
 
 pub returns-in_err-object_fits : goal.returns-in_err-object_fits

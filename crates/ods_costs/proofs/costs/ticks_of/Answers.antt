@@ -6,10 +6,10 @@ use Rattle.seq_tree.specs.Trees.{block_of}
 use Rattle.seq_tree.specs.declared.tree.OpName.{OpName}
 use Rattle.seq_cost.specs.Different.{call_of}
 use Rattle.name_sets.specs.Tables.{number_at, or_0}
-use Rattle.seq_cost.proofs.Listed.{block-same}
+use Rattle.seq_cost.proofs.Shared.Listed.{block-same}
 use Rattle.ods_tree.specs.Trees.{design_of}
 use Rattle.ods_costs.specs.Costed.{cap, meant}
-use Rattle.ods_index.proofs.AccountSteps.{each-among}
+use Rattle.ods_index.proofs.Shared.AccountSteps.{each-among}
 use Rattle.ods_costs.proofs.costs.ticks_of.Goals as goal
 
 pub returns : goal.returns

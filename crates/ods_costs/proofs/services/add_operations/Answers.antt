@@ -7,7 +7,7 @@ use Rattle.name_sets.specs.Tables.{at}
 use Rattle.ods_tree.specs.Trees.{provided_of}
 use Rattle.ods_tree.specs.declared.design.Provided.{Provided}
 use Rattle.ods_costs.specs.Costed.{served_as, served_ops}
-use Rattle.seq_tree.proofs.LoopSteps.{added_step}
+use Rattle.seq_tree.proofs.Shared.LoopSteps.{added_step}
 use Rattle.ods_costs.proofs.ServedSteps.{served-first}
 use Rattle.ods_costs.proofs.services.add_operations.Goals as goal
 

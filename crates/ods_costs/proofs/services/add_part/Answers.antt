@@ -2,7 +2,7 @@ use Rattle.std.proofs.Common.{List, map, flat_map, refl}
 use Rattle.ods_index.specs.Walking.{standing_of}
 use Rattle.ods_index.specs.declared.walk.Standing.{Standing}
 use Rattle.ods_costs.specs.Costed.{served_as, served_part}
-use Rattle.seq_tree.proofs.LoopSteps.{added_step}
+use Rattle.seq_tree.proofs.Shared.LoopSteps.{added_step}
 use Rattle.ods_costs.proofs.services.add_part.Goals as goal
 
 pub objects-preserved : goal.objects-preserved

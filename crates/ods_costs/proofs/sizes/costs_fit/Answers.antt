@@ -1,11 +1,11 @@
 use Rattle.std.proofs.Common.{rules, ◌≡◌, ◌+◌, ◌++◌, ◌∷◌, Err, List, map, drop, flat_map, ap, sym, subst, ◌∙◌}
-use Rattle.seq_tree.proofs.LoopSteps.{drop_step}
+use Rattle.seq_tree.proofs.Shared.LoopSteps.{drop_step}
 use Rattle.ods_tree.specs.Trees.{design_of}
 use Rattle.ods_costs.specs.Costed.{dear_parts}
 use Rattle.ods_index.specs.Judging.{Tells, head_of}
 use Rattle.ods_index.specs.Walking.{standing_of}
 use Rattle.ods_index.specs.declared.walk.Standing.{Standing}
-use Rattle.ods_index.proofs.TellSteps.{head_later, tells_front}
+use Rattle.ods_index.proofs.Shared.TellSteps.{head_later, tells_front}
 use Rattle.ods_costs.proofs.sizes.costs_fit.Goals as goal
 
 pub returns-in_err-parts_fit : goal.returns-in_err-parts_fit

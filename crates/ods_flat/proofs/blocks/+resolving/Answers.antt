@@ -5,7 +5,7 @@ use Rattle.seq_tree.specs.Trees.{arm_of, block_of, branches_of, otherwise, state
 use Rattle.seq_tree.specs.declared.tree.Stmt.{the_lemmas}
 use Rattle.ods_tree.specs.Links.{renamed, renamed_statement, resolve}
 use Rattle.ods_tree.specs.Trees.{design_of}
-use Rattle.seq_tree.proofs.TreeForms.{block-tree, block_of_roll}
+use Rattle.seq_tree.proofs.Shared.TreeForms.{block-tree, block_of_roll}
 use Rattle.ods_flat.specs.Renaming.{renamed_arm}
 use Rattle.ods_flat.proofs.RenamingLaws.{if-renamed, renamed-list}
 use Rattle.ods_flat.proofs.blocks.+resolving.Goals as goal

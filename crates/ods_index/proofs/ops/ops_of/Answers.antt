@@ -4,7 +4,7 @@ use Rattle.ods_index.specs.Linked.{op_of}
 use Rattle.ods_index.specs.OpPlaces.{own_ops}
 use Rattle.ods_index.specs.Walking.{standing_of}
 use Rattle.ods_index.specs.declared.walk.Standing.{Standing}
-use Rattle.seq_tree.proofs.LoopSteps.{added_step, flat_filter_first}
+use Rattle.seq_tree.proofs.Shared.LoopSteps.{added_step, flat_filter_first}
 use Rattle.ods_index.proofs.ops.ops_of.Goals as goal
 
 pub objects-preserved : goal.objects-preserved

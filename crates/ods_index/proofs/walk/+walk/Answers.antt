@@ -1,4 +1,4 @@
-use Rattle.ods_index.proofs.WalkSteps.{walked}
+use Rattle.ods_index.proofs.Shared.WalkSteps.{walked}
 use Rattle.ods_index.proofs.walk.+walk.Goals as goal
 
 pub returns : goal.returns

@@ -8,7 +8,7 @@ use Rattle.ods_tree.specs.declared.design.Node.{out-Node}
 use Rattle.design_rules.specs.Bodies.{body_fault, params_by}
 use Rattle.ods_names.specs.BodyScopes.{part_fault}
 use Rattle.ods_index.specs.Walking.{object_of}
-use Rattle.ods_names.proofs.NeedSteps.{own_name}
+use Rattle.ods_names.proofs.Shared.NeedSteps.{own_name}
 use Rattle.ods_names.proofs.ScopeSteps.{given_told, body_fault_by, provided_here}
 use Rattle.ods_names.proofs.bodies.judge_bodies.Goals as goal
 

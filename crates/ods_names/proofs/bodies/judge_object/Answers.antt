@@ -4,7 +4,7 @@ use Rattle.design_rules.specs.Bodies.{body_fault, thread_fault}
 use Rattle.design_rules.specs.Broken.{Broken}
 use Rattle.ods_index.specs.Judging.{Tells}
 use Rattle.ods_index.specs.Walking.{object_of}
-use Rattle.ods_index.proofs.TellSteps.{head_later, tells_front}
+use Rattle.ods_index.proofs.Shared.TellSteps.{head_later, tells_front}
 use Rattle.ods_names.proofs.bodies.judge_object.Goals as goal
 
 pub returns-in_err-judge_bodies : goal.returns-in_err-judge_bodies

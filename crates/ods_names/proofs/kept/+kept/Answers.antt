@@ -6,7 +6,7 @@ use Rattle.seq_tree.specs.declared.tree.Arm.{Arm}
 use Rattle.seq_tree.specs.declared.tree.Stmt.{Stmt, the_lemmas}
 use Rattle.design_rules.specs.Words.{block_names, branch_names, expression_names, statement_names}
 use Rattle.ods_names.specs.NameLists.{names_of}
-use Rattle.seq_tree.proofs.LoopSteps.{added_step}
+use Rattle.seq_tree.proofs.Shared.LoopSteps.{added_step}
 use Rattle.ods_names.proofs.NameSteps.{added_branches}
 use Rattle.ods_names.proofs.kept.+kept.Goals as goal
 

@@ -3,7 +3,7 @@ use Rattle.design_rules.specs.Words.{object_names}
 use Rattle.ods_index.specs.Walking.{standing_of}
 use Rattle.ods_index.specs.declared.walk.Standing.{Standing}
 use Rattle.ods_names.specs.NameLists.{names_of}
-use Rattle.seq_tree.proofs.LoopSteps.{added_step}
+use Rattle.seq_tree.proofs.Shared.LoopSteps.{added_step}
 use Rattle.ods_names.proofs.kept.all_names.Goals as goal
 
 pub objects-preserved : goal.objects-preserved

@@ -6,7 +6,7 @@ use Rattle.seq_tree.specs.declared.tree.Stmt.{Stmt, the_lemmas}
 use Rattle.design_rules.specs.Clashes.{Mention, block_loops, branch_loops, statement_loops}
 use Rattle.ods_names.specs.Mentions.{gathered, mention_by, requests_in}
 use Rattle.ods_names.specs.NameLists.{names_of}
-use Rattle.seq_tree.proofs.LoopSteps.{added_step}
+use Rattle.seq_tree.proofs.Shared.LoopSteps.{added_step}
 use Rattle.ods_names.proofs.MentionSteps.{added_loops}
 use Rattle.ods_names.proofs.mentions.+mentions.Goals as goal
 

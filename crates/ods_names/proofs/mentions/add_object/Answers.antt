@@ -5,8 +5,8 @@ use Rattle.design_rules.specs.Clashes.{Mention, Single, Member, body_mentions, m
 use Rattle.ods_names.specs.Mentions.{gathered}
 use Rattle.ods_index.specs.Walking.{object_of}
 use Rattle.ods_names.proofs.MentionSteps.{object_joined}
-use Rattle.ods_names.proofs.NeedSteps.{own_name}
-use Rattle.ods_index.proofs.WalkSteps.{own_fields}
+use Rattle.ods_names.proofs.Shared.NeedSteps.{own_name}
+use Rattle.ods_index.proofs.Shared.WalkSteps.{own_fields}
 use Rattle.ods_names.proofs.mentions.add_object.Goals as goal
 
 pub returns : goal.returns

@@ -4,7 +4,7 @@ use Rattle.ods_tree.specs.declared.design.Provided.{Provided}
 use Rattle.design_rules.specs.Clashes.{operation_mentions}
 use Rattle.ods_index.specs.Walking.{object_of}
 use Rattle.ods_names.specs.Mentions.{gathered}
-use Rattle.seq_tree.proofs.LoopSteps.{added_step}
+use Rattle.seq_tree.proofs.Shared.LoopSteps.{added_step}
 use Rattle.ods_names.proofs.mentions.add_operations.Goals as goal
 
 pub provides-preserved : goal.provides-preserved

@@ -5,7 +5,7 @@ use Rattle.ods_tree.specs.Trees.{tree_of}
 use Rattle.ods_tree.specs.declared.design.Node.{out-Node, roll-Node}
 use Rattle.ods_tree.specs.declared.design.Node.TheViews.{out-roll-Node}
 use Rattle.ods_names.specs.Whole.{tree_set}
-use Rattle.ods_names.proofs.SetSteps.{set_twice, written_seen}
+use Rattle.ods_names.proofs.Shared.SetSteps.{set_twice, written_seen}
 use Rattle.ods_names.proofs.ticks.+ticks.Goals as goal
 
 pub set_node-returns : goal.set_node-returns

@@ -2,7 +2,7 @@ use Rattle.std.proofs.Common.{◌∙◌, None, ap, slice_index_or, slice_set}
 use Rattle.ods_tree.specs.declared.design.Attr.{Attr}
 use Rattle.ods_tree.specs.declared.design.AttrKey.TheVariants.{Period}
 use Rattle.ods_names.specs.Whole.{attribute_set}
-use Rattle.ods_names.proofs.SetSteps.{written}
+use Rattle.ods_names.proofs.Shared.SetSteps.{written}
 use Rattle.ods_names.proofs.ticks.set_attrs.Goals as goal
 
 pub attrs-preserved : goal.attrs-preserved

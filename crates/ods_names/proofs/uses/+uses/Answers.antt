@@ -6,7 +6,7 @@ use Rattle.ods_index.specs.Judging.{Tells, head_of}
 use Rattle.ods_names.specs.Needs.{bad_needs}
 use Rattle.ods_index.specs.Walking.{object_of, parent_of, siblings_of}
 use Rattle.ods_names.proofs.ChildSteps.{child_passes, children_pass}
-use Rattle.ods_names.proofs.NeedSteps.{own_passes, own_told, child_told}
+use Rattle.ods_names.proofs.Shared.NeedSteps.{own_passes, own_told, child_told}
 use Rattle.ods_names.proofs.uses.+uses.Goals as goal
 
 pub returns-in_err-judge_object : goal.returns-in_err-judge_object

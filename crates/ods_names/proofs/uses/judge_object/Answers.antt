@@ -4,7 +4,7 @@ use Rattle.design_rules.specs.Broken.{Broken}
 use Rattle.ods_index.specs.Judging.{Tells}
 use Rattle.ods_names.specs.Needs.{breaks, told_by}
 use Rattle.ods_index.specs.Walking.{standing_of}
-use Rattle.ods_names.proofs.NeedSteps.{head_filter, own_name}
+use Rattle.ods_names.proofs.Shared.NeedSteps.{head_filter, own_name}
 use Rattle.ods_names.proofs.uses.judge_object.Goals as goal
 
 pub returns : goal.returns

@@ -6,10 +6,10 @@ use Rattle.design_rules.specs.Versions.{bad_priorities, bad_tick}
 use Rattle.ods_index.specs.Judging.{Tells, head_of}
 use Rattle.ods_index.specs.Walking.{standing_of}
 use Rattle.ods_index.specs.declared.walk.Standing.{Standing}
-use Rattle.ods_index.proofs.TellSteps.{head_later, tells_front}
+use Rattle.ods_index.proofs.Shared.TellSteps.{head_later, tells_front}
 use Rattle.ods_names.specs.ObjectFaults.{bad_objects}
 use Rattle.ods_names.specs.declared.objects.ObjectRule.TheVariants as rule
-use Rattle.ods_names.proofs.TickLaws.{tick_by}
+use Rattle.ods_names.proofs.Shared.TickLaws.{tick_by}
 use Rattle.ods_names.proofs.versions.version_fits.Goals as goal
 
 pub returns-in_err-tick_fits : goal.returns-in_err-tick_fits

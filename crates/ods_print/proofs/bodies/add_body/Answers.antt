@@ -1,5 +1,5 @@
 use Rattle.ods_tree.specs.Trees.{body_of}
-use Rattle.seq_print.proofs.Chains.{writes-same, writes-then}
+use Rattle.seq_print.proofs.Shared.Chains.{writes-same, writes-then}
 use Rattle.ods_print.proofs.Lines.{body-text}
 use Rattle.ods_print.proofs.bodies.add_body.Goals as goal
 

@@ -1,5 +1,5 @@
 use Rattle.seq_tree.specs.Trees.{block_of}
-use Rattle.seq_print.proofs.Chains.{writes-same, writes-then}
+use Rattle.seq_print.proofs.Shared.Chains.{writes-same, writes-then}
 use Rattle.ods_print.proofs.Lines.{thread-text}
 use Rattle.ods_print.proofs.bodies.add_thread.Goals as goal
 

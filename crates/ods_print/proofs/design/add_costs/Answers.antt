@@ -1,4 +1,4 @@
-use Rattle.seq_print.proofs.Chains.{writes-printed, writes-same, writes-then}
+use Rattle.seq_print.proofs.Shared.Chains.{writes-printed, writes-same, writes-then}
 use Rattle.ods_print.proofs.Lines.{costs-text}
 use Rattle.ods_print.proofs.design.add_costs.Goals as goal
 

@@ -1,8 +1,8 @@
 use Rattle.ods_tree.specs.Spelling.{design_lines, design_tokens}
-use Rattle.seq_print.proofs.BackLaws.{read-whole}
-use Rattle.seq_print.proofs.TokenForms.{tokens-readable}
-use Rattle.ods_print.proofs.PartLaws.{gives-lines, ready-lines}
-use Rattle.ods_print.proofs.SoundLines.{design-sound}
+use Rattle.seq_print.proofs.Shared.BackLaws.{read-whole}
+use Rattle.seq_print.proofs.Shared.TokenForms.{tokens-readable}
+use Rattle.ods_print.proofs.Shared.PartLaws.{gives-lines, ready-lines}
+use Rattle.ods_print.proofs.Shared.SoundLines.{design-sound}
 use Rattle.ods_print.proofs.law.reads_back.Goals as goal
 
 pub returns : goal.returns

@@ -1,4 +1,4 @@
-use Rattle.seq_print.proofs.Chains.{writes-same, writes-then}
+use Rattle.seq_print.proofs.Shared.Chains.{writes-same, writes-then}
 use Rattle.ods_print.proofs.Lines.{front-node}
 use Rattle.ods_print.proofs.nodes.add_front.Goals as goal
 

@@ -2,7 +2,7 @@ use Rattle.std.proofs.Common.{sym, ◌∙◌}
 use Rattle.grammar.specs.Reading.{pure_at}
 use Rattle.ods_read.specs.Readers.{next_by, key_named, attribute_at}
 use Rattle.token_read.specs.Ahead.{ahead}
-use Rattle.seq_read.proofs.Turns.{onward-turn, turn-shorter}
+use Rattle.seq_read.proofs.Shared.Turns.{onward-turn, turn-shorter}
 use Rattle.ods_read.proofs.Taking.{takes-attribute}
 use Rattle.ods_read.proofs.attributes.attribute_list.Goals as goal
 

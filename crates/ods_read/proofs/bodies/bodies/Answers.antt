@@ -8,7 +8,7 @@ use Rattle.token_read.specs.Readers.{next_is}
 use Rattle.seq_read.specs.Statements.{block_at}
 use Rattle.ods_read.specs.Readers.{body_at}
 use Rattle.token_read.specs.Ahead.{ahead}
-use Rattle.seq_read.proofs.Turns.{onward-turn, turn-shorter}
+use Rattle.seq_read.proofs.Shared.Turns.{onward-turn, turn-shorter}
 use Rattle.ods_read.proofs.Taking.{takes-operation}
 use Rattle.ods_read.proofs.bodies.bodies.Goals as goal
 

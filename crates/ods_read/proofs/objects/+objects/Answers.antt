@@ -2,7 +2,7 @@ use Rattle.std.proofs.Common.{sym, map, ◌∙◌}
 use Rattle.std.proofs.lemmas.List.{map-append}
 use Rattle.ods_tree.specs.Trees.{tree_of}
 use Rattle.token_read.specs.Ahead.{ahead}
-use Rattle.seq_read.proofs.Turns.{onward-turn, turn-shorter}
+use Rattle.seq_read.proofs.Shared.Turns.{onward-turn, turn-shorter}
 use Rattle.ods_read.specs.ObjectReaders.{next_is_object, tree_at}
 use Rattle.ods_read.proofs.Taking.{takes-tree}
 use Rattle.ods_read.proofs.ObjectSteps.{close_list}

@@ -4,7 +4,7 @@ use Rattle.grammar.specs.Reading.{pure_at}
 use Rattle.ods_tree.specs.Trees.{provided_of}
 use Rattle.ods_read.specs.Readers.{next_is_design_name, provided_at}
 use Rattle.token_read.specs.Ahead.{ahead}
-use Rattle.seq_read.proofs.Turns.{onward-turn, turn-shorter}
+use Rattle.seq_read.proofs.Shared.Turns.{onward-turn, turn-shorter}
 use Rattle.ods_read.proofs.Taking.{takes-provided}
 use Rattle.ods_read.proofs.operations.provided_list.Goals as goal
 

@@ -5,9 +5,9 @@ use Rattle.seq_tree.specs.declared.token.Token.{Token}
 use Rattle.ods_tree.specs.Designs.{Design}
 use Rattle.ods_tree.specs.Trees.{design_of}
 use Rattle.token_read.specs.Ahead.{ahead}
-use Rattle.token_read.proofs.BehindSteps.{found-list}
+use Rattle.token_read.proofs.Shared.BehindSteps.{found-list}
 use Rattle.ods_read.specs.DesignReaders.{design_at}
-use Rattle.ods_read.proofs.ReadingLaws.{reads-as, reads-only, faulty-at, deep-at}
+use Rattle.ods_read.proofs.Shared.ReadingLaws.{reads-as, reads-only, faulty-at, deep-at}
 use Rattle.ods_read.proofs.reader.read_design.Goals as goal
 
 -- what the tokens are read as

@@ -2,7 +2,7 @@ use Rattle.std.proofs.Common.{sym, ◌∙◌}
 use Rattle.grammar.specs.Reading.{pure_at}
 use Rattle.ods_read.specs.Readers.{next_is_design_name, link_at}
 use Rattle.token_read.specs.Ahead.{ahead}
-use Rattle.seq_read.proofs.Turns.{onward-turn, turn-shorter}
+use Rattle.seq_read.proofs.Shared.Turns.{onward-turn, turn-shorter}
 use Rattle.ods_read.proofs.Taking.{takes-link}
 use Rattle.ods_read.proofs.sections.link_list.Goals as goal
 

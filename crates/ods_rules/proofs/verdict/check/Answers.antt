@@ -2,8 +2,8 @@ use Rattle.std.proofs.Common.{rules, ◌≡◌, ◌<◌, length, sym, subst, Err
 use Rattle.ods_tree.specs.Designs.{Design}
 use Rattle.ods_tree.specs.Trees.{design_of}
 use Rattle.ods_tree.specs.Walk.{objects}
-use Rattle.ods_rules.proofs.CountLaws.{few_in_ticks}
-use Rattle.ods_rules.proofs.VerdictLaws.{meets_at, met_at, passes_at, says_at}
+use Rattle.ods_rules.proofs.Shared.CountLaws.{few_in_ticks}
+use Rattle.ods_rules.proofs.Shared.VerdictLaws.{meets_at, met_at, passes_at, says_at}
 use Rattle.ods_rules.proofs.verdict.check.Goals as goal
 
 pub judge_design-requires-clause-few : goal.judge_design-requires-clause-few

@@ -3,7 +3,7 @@ use Rattle.name_sets.specs.Tables.{at}
 use Rattle.ods_tree.specs.Trees.{body_of, design_of}
 use Rattle.ods_tree.specs.declared.design.OpBody.{OpBody}
 use Rattle.ods_starts.specs.Graphed.{body_edges}
-use Rattle.seq_tree.proofs.LoopSteps.{added_step}
+use Rattle.seq_tree.proofs.Shared.LoopSteps.{added_step}
 use Rattle.ods_starts.proofs.call_edges.add_bodies.Goals as goal
 
 pub bodies-preserved : goal.bodies-preserved

@@ -7,7 +7,7 @@ use Rattle.seq_cost.specs.declared.written.Call.{Call}
 use Rattle.ods_tree.specs.Links.{resolve}
 use Rattle.ods_tree.specs.Trees.{design_of}
 use Rattle.ods_starts.specs.Graphed.{called_edges}
-use Rattle.seq_tree.proofs.LoopSteps.{added_step}
+use Rattle.seq_tree.proofs.Shared.LoopSteps.{added_step}
 use Rattle.ods_starts.proofs.LoopSteps.{placed_first}
 use Rattle.ods_starts.proofs.call_edges.add_calls.Goals as goal
 

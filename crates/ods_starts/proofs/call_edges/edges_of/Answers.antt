@@ -5,7 +5,7 @@ use Rattle.ods_tree.specs.Walk.{is_terminal}
 use Rattle.ods_index.specs.Walking.{standing_of}
 use Rattle.ods_index.specs.declared.walk.Standing.{Standing}
 use Rattle.ods_starts.specs.Graphed.{object_edges}
-use Rattle.seq_tree.proofs.LoopSteps.{added_step, flat_filter_first}
+use Rattle.seq_tree.proofs.Shared.LoopSteps.{added_step, flat_filter_first}
 use Rattle.ods_starts.proofs.call_edges.edges_of.Goals as goal
 
 pub objects-preserved : goal.objects-preserved

@@ -4,7 +4,7 @@ use Rattle.ods_tree.specs.Walk.{is_terminal}
 use Rattle.ods_index.specs.Walking.{standing_of}
 use Rattle.ods_index.specs.declared.walk.Standing.{Standing}
 use Rattle.ods_starts.specs.Requested.{held_in, held_of}
-use Rattle.seq_tree.proofs.LoopSteps.{added_step}
+use Rattle.seq_tree.proofs.Shared.LoopSteps.{added_step}
 use Rattle.ods_starts.proofs.LoopSteps.{flat_filters_first}
 use Rattle.ods_starts.proofs.held.bodies_of.Goals as goal
 

@@ -4,7 +4,7 @@ use Rattle.name_sets.specs.Places.{place_in}
 use Rattle.ods_tree.specs.Trees.{body_of, design_of}
 use Rattle.ods_tree.specs.declared.design.OpBody.{OpBody}
 use Rattle.ods_starts.specs.Guarded.{bodies_edges, meant_edges}
-use Rattle.seq_tree.proofs.LoopSteps.{added_step}
+use Rattle.seq_tree.proofs.Shared.LoopSteps.{added_step}
 use Rattle.ods_starts.proofs.object_rings.add_bodies.Goals as goal
 
 pub bodies-preserved : goal.bodies-preserved

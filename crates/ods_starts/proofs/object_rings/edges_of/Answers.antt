@@ -4,7 +4,7 @@ use Rattle.ods_tree.specs.Trees.{design_of}
 use Rattle.ods_tree.specs.declared.design.Node.{Node}
 use Rattle.ods_index.specs.Nodes.{node_object}
 use Rattle.ods_starts.specs.Guarded.{guard_edges}
-use Rattle.seq_tree.proofs.LoopSteps.{added_step}
+use Rattle.seq_tree.proofs.Shared.LoopSteps.{added_step}
 use Rattle.ods_starts.proofs.object_rings.edges_of.Goals as goal
 
 pub guards-preserved : goal.guards-preserved

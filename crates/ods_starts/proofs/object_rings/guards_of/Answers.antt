@@ -5,7 +5,7 @@ use Rattle.ods_index.specs.Nodes.{node_object}
 use Rattle.ods_index.specs.Walking.{standing_of}
 use Rattle.ods_index.specs.declared.walk.Standing.{Standing}
 use Rattle.ods_starts.specs.Guarded.{guards_among}
-use Rattle.seq_tree.proofs.LoopSteps.{added_step}
+use Rattle.seq_tree.proofs.Shared.LoopSteps.{added_step}
 use Rattle.ods_starts.proofs.LoopSteps.{map_filters_first}
 use Rattle.ods_starts.proofs.object_rings.guards_of.Goals as goal
 

@@ -6,10 +6,10 @@ use Rattle.seq_tree.specs.declared.tree.OpName.{OpName}
 use Rattle.name_sets.specs.Tables.{at}
 use Rattle.seq_cost.specs.Different.{call_of}
 use Rattle.seq_cost.specs.declared.written.Call.{Call}
-use Rattle.seq_tree.proofs.LoopSteps.{drop_step}
+use Rattle.seq_tree.proofs.Shared.LoopSteps.{drop_step}
 use Rattle.ods_tree.specs.Trees.{design_of}
 use Rattle.ods_starts.specs.Requested.{call_weight, known_in}
-use Rattle.ods_index.proofs.AccountSteps.{account-step}
+use Rattle.ods_index.proofs.Shared.AccountSteps.{account-step}
 use Rattle.ods_starts.proofs.requests.account_of.Goals as goal
 
 pub calls-preserved : goal.calls-preserved

@@ -8,10 +8,10 @@ use Rattle.seq_tree.specs.Trees.{block_of}
 use Rattle.seq_tree.specs.declared.tree.OpName.{OpName}
 use Rattle.name_sets.specs.Tables.{number_at, or_0}
 use Rattle.seq_cost.specs.Different.{call_of}
-use Rattle.seq_cost.proofs.Listed.{block-same}
+use Rattle.seq_cost.proofs.Shared.Listed.{block-same}
 use Rattle.ods_tree.specs.Trees.{design_of}
 use Rattle.ods_starts.specs.Requested.{call_weight, known_in}
-use Rattle.ods_index.proofs.AccountSteps.{each-among}
+use Rattle.ods_index.proofs.Shared.AccountSteps.{each-among}
 use Rattle.ods_starts.proofs.RequestLaws.{call-cut, counted-cut}
 use Rattle.ods_starts.proofs.requests.block_requests.Goals as goal
 

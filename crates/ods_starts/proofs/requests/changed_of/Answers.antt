@@ -2,7 +2,7 @@ use Rattle.std.proofs.Common.{List, filter, map}
 use Rattle.ods_index.specs.Linked.{op_of}
 use Rattle.ods_index.specs.declared.links.OpView.{OpView}
 use Rattle.ods_starts.specs.Requested.{changes}
-use Rattle.seq_tree.proofs.LoopSteps.{added_step, filter_first}
+use Rattle.seq_tree.proofs.Shared.LoopSteps.{added_step, filter_first}
 use Rattle.ods_starts.proofs.requests.changed_of.Goals as goal
 
 pub ops-preserved : goal.ops-preserved

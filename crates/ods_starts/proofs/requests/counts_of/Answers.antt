@@ -3,13 +3,13 @@ use Rattle.std.specs.Prelude.{if◌then◌else◌}
 use Rattle.std.specs.List.{list_any}
 use Rattle.seq_tree.specs.Calls.{same_op}
 use Rattle.seq_tree.specs.declared.tree.OpName.{OpName}
-use Rattle.seq_tree.proofs.LoopSteps.{drop_step}
+use Rattle.seq_tree.proofs.Shared.LoopSteps.{drop_step}
 use Rattle.name_sets.specs.Tables.{at}
 use Rattle.ods_tree.specs.Trees.{design_of}
 use Rattle.ods_index.specs.Linked.{op_of}
 use Rattle.ods_starts.specs.Requested.{bodies_at, greatest_count}
 use Rattle.ods_index.specs.declared.links.OpView.{OpView}
-use Rattle.ods_index.proofs.AccountSteps.{account-step}
+use Rattle.ods_index.proofs.Shared.AccountSteps.{account-step}
 use Rattle.ods_starts.proofs.requests.counts_of.Goals as goal
 
 pub ops-preserved : goal.ops-preserved

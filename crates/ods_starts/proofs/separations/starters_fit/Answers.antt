@@ -1,6 +1,6 @@
 use Rattle.std.proofs.Common.{rules, ◌≡◌, ◌∷◌, ◌+◌, ◌++◌, Bor, Err, List, flat_map, map, drop, ap, sym, subst, ◌∙◌}
 use Rattle.std.specs.Prelude.{filter_map}
-use Rattle.seq_tree.proofs.LoopSteps.{drop_step}
+use Rattle.seq_tree.proofs.Shared.LoopSteps.{drop_step}
 use Rattle.ods_tree.specs.Designs.{Object}
 use Rattle.ods_tree.specs.Trees.{design_of}
 use Rattle.ods_tree.specs.declared.design.Node.{Node}
@@ -9,7 +9,7 @@ use Rattle.ods_index.specs.Judging.{Tells, head_of}
 use Rattle.ods_starts.specs.Spacings.{spaced}
 use Rattle.ods_starts.specs.Spreading.{reaches}
 use Rattle.ods_index.specs.Walking.{object_of}
-use Rattle.ods_index.proofs.TellSteps.{tells_front}
+use Rattle.ods_index.proofs.Shared.TellSteps.{tells_front}
 use Rattle.ods_starts.proofs.separations.starters_fit.Goals as goal
 
 pub returns-in_err-starter_fits : goal.returns-in_err-starter_fits

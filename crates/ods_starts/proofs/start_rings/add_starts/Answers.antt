@@ -2,7 +2,7 @@ use Rattle.std.proofs.Common.{List, map}
 use Rattle.ods_index.specs.Linked.{op_of}
 use Rattle.ods_index.specs.declared.links.OpView.{OpView}
 use Rattle.ods_starts.specs.Starting.{start_edges, target_in}
-use Rattle.seq_tree.proofs.LoopSteps.{added_step}
+use Rattle.seq_tree.proofs.Shared.LoopSteps.{added_step}
 use Rattle.ods_starts.proofs.LoopSteps.{placed_one}
 use Rattle.ods_starts.proofs.start_rings.add_starts.Goals as goal
 

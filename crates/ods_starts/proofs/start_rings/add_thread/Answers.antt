@@ -8,7 +8,7 @@ use Rattle.ods_index.specs.Linked.{op_of}
 use Rattle.ods_starts.specs.Starting.{has_edge, is_at, target_in}
 use Rattle.ods_index.specs.Walking.{object_of}
 use Rattle.ods_starts.proofs.StartSteps.{edges-more}
-use Rattle.ods_index.proofs.WalkSteps.{own_fields}
+use Rattle.ods_index.proofs.Shared.WalkSteps.{own_fields}
 use Rattle.ods_starts.proofs.start_rings.add_thread.Goals as goal
 
 pub returns-in_ok-add_starts-in-Some : goal.returns-in_ok-add_starts-in-Some

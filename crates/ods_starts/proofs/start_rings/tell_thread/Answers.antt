@@ -1,8 +1,8 @@
 use Rattle.std.proofs.Common.{Some, ap, sym, ◌∙◌}
 use Rattle.design_rules.specs.Broken.{V09Starts}
 use Rattle.ods_index.specs.Nodes.{node_name}
-use Rattle.ods_index.proofs.TableSteps.{got_as}
-use Rattle.ods_index.proofs.WalkSteps.{own_fields}
+use Rattle.ods_index.proofs.Shared.TableSteps.{got_as}
+use Rattle.ods_index.proofs.Shared.WalkSteps.{own_fields}
 use Rattle.ods_starts.proofs.start_rings.tell_thread.Goals as goal
 
 pub returns : goal.returns

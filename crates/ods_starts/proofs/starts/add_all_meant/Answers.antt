@@ -6,7 +6,7 @@ use Rattle.seq_cost.specs.declared.written.Call.{Call}
 use Rattle.ods_tree.specs.Links.{resolve}
 use Rattle.ods_tree.specs.Trees.{design_of}
 use Rattle.ods_index.specs.Linked.{op_of}
-use Rattle.seq_tree.proofs.LoopSteps.{added_step, map_filter_first}
+use Rattle.seq_tree.proofs.Shared.LoopSteps.{added_step, map_filter_first}
 use Rattle.ods_starts.proofs.starts.add_all_meant.Goals as goal
 
 pub calls-preserved : goal.calls-preserved

@@ -3,7 +3,7 @@ use Rattle.ods_tree.specs.Walk.{is_terminal}
 use Rattle.design_rules.specs.Lookups.{has_thread}
 use Rattle.ods_index.specs.Walking.{object_of, standing_of}
 use Rattle.ods_index.specs.declared.walk.Standing.{Standing}
-use Rattle.seq_tree.proofs.LoopSteps.{added_step}
+use Rattle.seq_tree.proofs.Shared.LoopSteps.{added_step}
 use Rattle.ods_starts.proofs.LoopSteps.{map_filters_first}
 use Rattle.ods_starts.proofs.starts.threads_of.Goals as goal
 

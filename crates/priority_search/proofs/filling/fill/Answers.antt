@@ -1,6 +1,6 @@
 use Rattle.std.proofs.Common.{◌≡◌, length, subst, arith}
 use Rattle.ods_tree.specs.Trees.{flat_of}
-use Rattle.order_laws.specs.Orders.{IsFilledFrom}
+use Rattle.law_orders.specs.Orders.{IsFilledFrom}
 use Rattle.priority_search.specs.Steps.{AreByDeadline}
 use Rattle.priority_search.proofs.FillSteps.{none-filled, step-kept}
 use Rattle.priority_search.proofs.filling.fill.Goals as goal

@@ -1,6 +1,6 @@
 use Rattle.std.proofs.Common.{◌≤◌, length}
 use Rattle.ods_tree.specs.Trees.{flat_of}
-use Rattle.order_laws.specs.Orders.{IsOrder, IsFilledFrom}
+use Rattle.law_orders.specs.Orders.{IsOrder, IsFilledFrom}
 use Rattle.priority_search.specs.Steps.{AreByDeadline}
 use Rattle.priority_search.proofs.filling.fill.Given as goal
 

@@ -3,7 +3,7 @@ use Rattle.std.proofs.lemmas.Option.{IfSome_then}
 use Rattle.ods_tree.specs.Trees.{flat_of}
 use Rattle.rt_response.specs.declared.rows.ThreadRow.{ThreadRow}
 use Rattle.analysis.specs.Trees.{table_of}
-use Rattle.priority_search.proofs.NextSteps.{order-few, rows-enough, first-each, first-few, block-small, next-found, next-none}
+use Rattle.priority_search.proofs.Shared.NextSteps.{order-few, rows-enough, first-each, first-few, block-small, next-found, next-none}
 use Rattle.priority_search.proofs.filling.next.Goals as goal
 
 IfNone_then : {X : Type 0} (o : Option X) {P Q : Type 0} → IfNone o P → (P → Q) → IfNone o Q

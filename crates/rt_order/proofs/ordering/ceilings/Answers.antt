@@ -4,7 +4,7 @@ use Rattle.ods_tree.specs.Trees.{flat_of}
 use Rattle.rt_order.specs.Comers.{comers_of}
 use Rattle.rt_order.specs.Kept.{users_of}
 use Rattle.rt_order.specs.Rises.{ceilings_within, comers, control_by, greatest}
-use Rattle.rt_order.proofs.CeilingSteps.{ranks-are}
+use Rattle.rt_order.proofs.Shared.CeilingSteps.{ranks-are}
 use Rattle.rt_order.proofs.ordering.ceilings.Goals as goal
 
 pub returns : goal.returns

@@ -1,6 +1,6 @@
 use Rattle.std.proofs.Common.{◌∙◌, length}
 use Rattle.std.proofs.lemmas.List.{take-replicate}
-use Rattle.rt_response.proofs.Least.{round-below}
+use Rattle.rt_response.proofs.Shared.Least.{round-below}
 use Rattle.rt_response.proofs.rounds.respond.Goals as goal
 
 pub settle-requires-clause-zeros : goal.settle-requires-clause-zeros

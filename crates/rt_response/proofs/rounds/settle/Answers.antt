@@ -1,6 +1,7 @@
 use Rattle.std.proofs.Common.{◌+◌, arith, ap}
-use Rattle.rt_response.proofs.Least.{miss-none_fits}
-use Rattle.rt_response.proofs.Solving.{total, reached-first, reached-few, reached-next, reached-least, reached-miss, bounds_eq-Decides, bounds_differ}
+use Rattle.rt_response.proofs.Shared.Least.{miss-none_fits}
+use Rattle.rt_response.proofs.Shared.Solving.{total, reached-first, reached-few, reached-next, reached-least, reached-miss, bounds_eq-Decides}
+use Rattle.rt_response.proofs.Shared.Solving.{bounds_differ}
 use Rattle.rt_response.proofs.rounds.settle.Goals as goal
 
 pub rounds-init : goal.rounds-init

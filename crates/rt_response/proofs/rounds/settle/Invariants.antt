@@ -1,5 +1,5 @@
 use Rattle.std.proofs.Common.{◌≡◌, ◌-◌, length}
-use Rattle.rt_response.proofs.Solving.{total, IsReached}
+use Rattle.rt_response.proofs.Shared.Solving.{total, IsReached}
 use Rattle.rt_response.proofs.rounds.settle.Given as goal
 
 abbrev pub invariant-rounds : goal.invariant-rounds

@@ -1,6 +1,6 @@
 use Rattle.std.proofs.Common.{◌+◌, arith, refl}
 use Rattle.std.proofs.lemmas.Slice.Zip.{AllZip-long}
-use Rattle.rt_response.proofs.Places.{each-at, entries-within, entries-front, entries-reach, response-small, side-found, side-over}
+use Rattle.rt_response.proofs.Shared.Places.{each-at, entries-within, entries-front, entries-reach, response-small, side-found, side-over}
 use Rattle.rt_response.proofs.sides.side.Goals as goal
 
 pub split_at-requires-2 : goal.split_at-requires-2

@@ -5,7 +5,7 @@ use Rattle.analysis.specs.Ceilings.{ranks_for}
 use Rattle.analysis.specs.Sound.{IsSound}
 use Rattle.analysis.specs.Tables.{table_for}
 use Rattle.analysis.specs.Trees.{ranks_of}
-use Rattle.design_bounds.proofs.TablePlaces.{ranks-long}
+use Rattle.design_bounds.proofs.Shared.TablePlaces.{ranks-long}
 use Rattle.scaling.proofs.MarginLaws.{own-ranks}
 use Rattle.scaling.proofs.failing.missed.Goals as goal
 

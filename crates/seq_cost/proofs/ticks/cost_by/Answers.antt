@@ -5,7 +5,7 @@ use Rattle.seq_tree.specs.Trees.{block_of, statement_of}
 use Rattle.seq_cost.specs.Counting.{weights_of}
 use Rattle.seq_cost.specs.Over.{within_most}
 use Rattle.seq_cost.specs.declared.counted.Counted.TheVariants.{Ticks}
-use Rattle.seq_tree.proofs.LoopSteps.{drop_step}
+use Rattle.seq_tree.proofs.Shared.LoopSteps.{drop_step}
 use Rattle.seq_cost.proofs.Tallies.{tally, tally-over, tally-sum}
 use Rattle.seq_cost.proofs.ticks.cost_by.Goals as goal
 

@@ -3,8 +3,8 @@ use Rattle.std.proofs.lemmas.List.{length-map}
 use Rattle.grammar.specs.Reading.{Halt, whole_at}
 use Rattle.seq_tree.specs.Runs.{Path}
 use Rattle.seq_tree.specs.Trees.{block_of, offer_of, operation_of}
-use Rattle.block_walks.specs.Fit.{MayRun}
-use Rattle.block_walks.specs.Walks.{walk_at}
+use Rattle.law_walks.specs.Fit.{MayRun}
+use Rattle.law_walks.specs.Walks.{walk_at}
 use Rattle.seq_eval.specs.Actions.{action_of}
 use Rattle.seq_eval.specs.Ends.{FitsEnd, IsEnd, comes_to, names_of}
 use Rattle.seq_eval.specs.Following.{Answers, callees}

@@ -3,7 +3,7 @@ use Rattle.std.proofs.lemmas.List.{length-map}
 use Rattle.std.proofs.lemmas.Bool.{eq-eqb, eqb-true, false≢true}
 use Rattle.grammar.specs.Reading.{whole_at}
 use Rattle.seq_tree.specs.Trees.{block_of, statement_of, statements_of}
-use Rattle.block_walks.specs.Walks.{walk_at}
+use Rattle.law_walks.specs.Walks.{walk_at}
 use Rattle.seq_eval.specs.Actions.{action_of}
 use Rattle.seq_eval.specs.Ends.{End, comes_to, names_of}
 use Rattle.seq_eval.specs.States.{doings_of, state_of}

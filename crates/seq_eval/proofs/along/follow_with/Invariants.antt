@@ -1,7 +1,7 @@
 use Rattle.std.proofs.Common.{length, map}
 use Rattle.grammar.specs.Reading.{whole_at}
 use Rattle.seq_tree.specs.Trees.{block_of}
-use Rattle.block_walks.specs.Walks.{walk_at}
+use Rattle.law_walks.specs.Walks.{walk_at}
 use Rattle.seq_eval.specs.Actions.{action_of}
 use Rattle.seq_eval.specs.Ends.{comes_to, names_of}
 use Rattle.seq_eval.specs.States.{doings_of, state_of}

@@ -2,7 +2,7 @@ use Rattle.std.proofs.Common.{◌≡◌, ◌≤◌, ◌<◌, ℕ, IfOk, length, 
 use Rattle.std.proofs.Math.Path.{fun_ext}
 use Rattle.grammar.specs.Reading.{whole_at}
 use Rattle.seq_tree.specs.Trees.{block_of, offer_of, operation_of}
-use Rattle.block_walks.specs.Walks.{walk_at}
+use Rattle.law_walks.specs.Walks.{walk_at}
 use Rattle.seq_eval.specs.Actions.{action_of}
 use Rattle.seq_eval.specs.Bounds.{most_ticks}
 use Rattle.seq_eval.specs.Ends.{IsEnd, comes_to, names_of}

@@ -4,9 +4,9 @@ use Rattle.seq_tree.specs.Spelling.{branch_lines, statement_lines}
 use Rattle.seq_tree.specs.Statements.{For, Nothing}
 use Rattle.seq_tree.specs.Trees.{arm_of, block_of, branches_of, statement_of}
 use Rattle.seq_tree.specs.declared.tree.Stmt.{the_lemmas}
-use Rattle.seq_print.proofs.Chains.{two-more, writes-same, writes-then}
+use Rattle.seq_print.proofs.Shared.Chains.{two-more, writes-same, writes-then}
 use Rattle.seq_print.proofs.StatementTexts.{arms-text, else-text, if-text, loop-text}
-use Rattle.seq_tree.proofs.TreeForms.{if-tree}
+use Rattle.seq_tree.proofs.Shared.TreeForms.{if-tree}
 use Rattle.seq_print.proofs.block.+statements.Goals as goal
 
 pub add_other-returns-in_ok-put_line-in-Some : goal.add_other-returns-in_ok-put_line-in-Some

@@ -3,8 +3,8 @@ use Rattle.seq_tree.specs.Expressions.{Paren, Not, Binary}
 use Rattle.seq_tree.specs.Trees.{expression_of}
 use Rattle.seq_tree.specs.declared.tree.Expr.{the_lemmas}
 use Rattle.seq_print.specs.Printing.{expression_text}
-use Rattle.seq_print.proofs.Chains.{writes-printed, writes-same, writes-then}
-use Rattle.seq_print.proofs.Spacing.{paren-text, not-text, binary-text}
+use Rattle.seq_print.proofs.Shared.Chains.{writes-printed, writes-same, writes-then}
+use Rattle.seq_print.proofs.Shared.Spacing.{paren-text, not-text, binary-text}
 use Rattle.seq_print.proofs.expression.+add_expression.Goals as goal
 
 pub returns-in_ok-add_expression-in-Paren : goal.returns-in_ok-add_expression-in-Paren

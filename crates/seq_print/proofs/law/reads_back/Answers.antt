@@ -1,4 +1,4 @@
-use Rattle.seq_print.proofs.BackLaws.{reads-back}
+use Rattle.seq_print.proofs.Shared.BackLaws.{reads-back}
 use Rattle.seq_print.proofs.law.reads_back.Goals as goal
 
 pub returns : goal.returns

@@ -1,5 +1,5 @@
 use Rattle.seq_tree.specs.Trees.{expression_of}
-use Rattle.seq_print.proofs.Chains.{writes-printed, writes-same, writes-then}
+use Rattle.seq_print.proofs.Shared.Chains.{writes-printed, writes-same, writes-then}
 use Rattle.seq_print.proofs.StatementTexts.{assign-text}
 use Rattle.seq_print.proofs.lines.add_assign.Goals as goal
 

@@ -1,6 +1,6 @@
 use Rattle.seq_tree.specs.Trees.{expression_of}
 use Rattle.std.proofs.Common.{◌++◌, map, ap, ◌∙◌}
-use Rattle.seq_print.proofs.Chains.{writes-printed, writes-same, writes-then}
+use Rattle.seq_print.proofs.Shared.Chains.{writes-printed, writes-same, writes-then}
 use Rattle.seq_print.proofs.StatementTexts.{call-text}
 use Rattle.seq_print.proofs.lines.add_call.Goals as goal
 

@@ -1,4 +1,4 @@
-use Rattle.seq_print.proofs.Chains.{writes-added, writes-same, writes-then}
+use Rattle.seq_print.proofs.Shared.Chains.{writes-added, writes-same, writes-then}
 use Rattle.seq_print.proofs.StatementTexts.{for-text}
 use Rattle.seq_print.proofs.lines.add_for.Goals as goal
 

@@ -7,7 +7,7 @@ use Rattle.grammar.specs.Reading.{pure_at}
 use Rattle.seq_read.specs.Names.{may_name}
 use Rattle.seq_read.specs.Parts.{more_param_at}
 use Rattle.seq_read.proofs.PartSteps.{takes-more_param}
-use Rattle.seq_read.proofs.Turns.{onward-turn, turn-shorter}
+use Rattle.seq_read.proofs.Shared.Turns.{onward-turn, turn-shorter}
 use Rattle.seq_read.proofs.parts.params_from.Goals as goal
 
 pub params-smaller : goal.params-smaller

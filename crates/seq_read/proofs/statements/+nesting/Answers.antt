@@ -8,10 +8,10 @@ use Rattle.token_read.specs.Readers.{next_is}
 use Rattle.seq_read.specs.Names.{may_name}
 use Rattle.seq_read.specs.Expressions.{expression_at}
 use Rattle.seq_read.specs.Statements.{begins_statement, arm_at, statement_at, block_at}
-use Rattle.seq_read.proofs.Turns.{onward-turn, onward-ends, turn-shorter}
-use Rattle.seq_read.proofs.TokenTakes.{takes-statement}
+use Rattle.seq_read.proofs.Shared.Turns.{onward-turn, onward-ends, turn-shorter}
+use Rattle.seq_read.proofs.Shared.TokenTakes.{takes-statement}
 use Rattle.seq_read.proofs.BlockSteps.{close_if, close_block, if-closes, arm-takes}
-use Rattle.seq_tree.proofs.TreeForms.{block_of_roll, if-tree}
+use Rattle.seq_tree.proofs.Shared.TreeForms.{block_of_roll, if-tree}
 use Rattle.seq_read.proofs.statements.+nesting.Goals as goal
 
 pub conditional-arms-smaller : goal.conditional-arms-smaller

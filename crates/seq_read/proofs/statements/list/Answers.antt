@@ -9,7 +9,7 @@ use Rattle.seq_read.specs.Names.{may_name}
 use Rattle.seq_read.specs.Expressions.{expression_at}
 use Rattle.seq_read.specs.Statements.{further_at}
 use Rattle.seq_read.proofs.ActualSteps.{close_list, further-takes}
-use Rattle.seq_read.proofs.Turns.{onward-turn, turn-shorter}
+use Rattle.seq_read.proofs.Shared.Turns.{onward-turn, turn-shorter}
 use Rattle.seq_read.proofs.statements.list.Goals as goal
 
 pub actuals-smaller : goal.actuals-smaller

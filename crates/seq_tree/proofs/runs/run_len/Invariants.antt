@@ -1,6 +1,6 @@
 use Rattle.std.proofs.Common.{length, ◌≡◌, false, ◌+◌, ◌≤◌, cond}
 use Rattle.seq_tree.specs.Parts.{is_part}
-use Rattle.seq_tree.proofs.Longest.{from_here}
+use Rattle.seq_tree.proofs.Shared.Longest.{from_here}
 use Rattle.seq_tree.proofs.runs.run_len.Given as goal
 
 -- what is left of the run is the run of what is left

@@ -1,5 +1,5 @@
 use Rattle.std.proofs.Common.{sym, ◌∙◌, arith}
-use Rattle.token_read.proofs.TokenSteps.{tokens-turn, tokens-over}
+use Rattle.token_read.proofs.Shared.TokenSteps.{tokens-turn, tokens-over}
 use Rattle.token_read.proofs.lexer.tokens.Goals as goal
 
 pub tokens-preserved : goal.tokens-preserved

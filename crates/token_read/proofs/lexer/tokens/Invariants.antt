@@ -1,7 +1,7 @@
 use Rattle.std.proofs.Common.{◌≡◌, length}
 use Rattle.seq_tree.specs.Lexis.{tokens, tokens_after}
 use Rattle.token_read.specs.Places.{Fits}
-use Rattle.token_read.proofs.TokenSteps.{with_front}
+use Rattle.token_read.proofs.Shared.TokenSteps.{with_front}
 use Rattle.token_read.proofs.lexer.tokens.Given as goal
 
 -- the tokens so far, and then those of what is left

@@ -1,5 +1,5 @@
 use Rattle.std.proofs.Common.{rules}
-use Rattle.token_read.proofs.MarkLaws.{single, mark_of-single}
+use Rattle.token_read.proofs.Shared.MarkLaws.{single, mark_of-single}
 use Rattle.token_read.proofs.marks.single.Goals as goal
 
 pub returns-in_default : goal.returns-in_default

@@ -1,7 +1,7 @@
 use Rattle.std.proofs.Common.{arith, sym, ◌∙◌, ap}
 use Rattle.token_read.specs.Fronts.{front_view}
 use Rattle.token_read.specs.Places.{passed}
-use Rattle.token_read.proofs.BehindSteps.{fault-some}
+use Rattle.token_read.proofs.Shared.BehindSteps.{fault-some}
 use Rattle.token_read.proofs.PlaceWalk.{place_past-parts, some-seen, walk-ends, walk-fault, walk-here, walk-turn}
 use Rattle.token_read.proofs.token_places.place_behind.Goals as goal
 

@@ -3,8 +3,8 @@ use Rattle.std.proofs.lemmas.Result.{err_from_is_err_and}
 use Rattle.seq_tree.specs.Lexis.{tokens, with_token}
 use Rattle.token_read.specs.Behind.{behind}
 use Rattle.token_read.specs.Lexemes.{token_of}
-use Rattle.token_read.proofs.TokenSteps.{tokens-over, tokens-start, tokens-turn, with_front-none}
-use Rattle.token_read.proofs.BehindSteps.{fault-told, length-seen, seen-one, whole-found}
+use Rattle.token_read.proofs.Shared.TokenSteps.{tokens-over, tokens-start, tokens-turn, with_front-none}
+use Rattle.token_read.proofs.Shared.BehindSteps.{fault-told, length-seen, seen-one, whole-found}
 use Rattle.token_read.proofs.tokens_left.count_of.Goals as goal
 
 pub tokens-init : goal.tokens-init

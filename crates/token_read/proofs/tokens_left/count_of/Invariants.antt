@@ -2,7 +2,7 @@ use Rattle.std.proofs.Common.{◌≡◌, ◌+◌, ◌≤◌, List, length}
 use Rattle.seq_tree.specs.declared.token.Spanned.{Spanned}
 use Rattle.seq_tree.specs.Lexis.{tokens, tokens_after}
 use Rattle.token_read.specs.Places.{Fits}
-use Rattle.token_read.proofs.TokenSteps.{with_front}
+use Rattle.token_read.proofs.Shared.TokenSteps.{with_front}
 use Rattle.token_read.proofs.tokens_left.count_of.Given as goal
 
 -- the tokens so far, as many as were counted, and then those of what is left

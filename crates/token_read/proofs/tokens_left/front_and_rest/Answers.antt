@@ -1,6 +1,6 @@
 use Rattle.std.proofs.Common.{◌∙◌}
 use Rattle.token_read.specs.Fronts.{front_view}
-use Rattle.token_read.proofs.BehindSteps.{behind-turn, fault-some, seen-led, whole-front}
+use Rattle.token_read.proofs.Shared.BehindSteps.{behind-turn, fault-some, seen-led, whole-front}
 use Rattle.token_read.proofs.tokens_left.front_and_rest.Goals as goal
 
 pub unreachable-requires : goal.unreachable-requires

@@ -1,7 +1,7 @@
 use Rattle.std.proofs.Common.{sym, ap, ◌∙◌}
 use Rattle.std.proofs.lemmas.List.{nil_from_length}
 use Rattle.token_read.specs.Behind.{behind}
-use Rattle.token_read.proofs.BehindSteps.{behind-nil}
+use Rattle.token_read.proofs.Shared.BehindSteps.{behind-nil}
 use Rattle.token_read.proofs.tokens_left.next_of.Goals as goal
 
 pub returns : goal.returns

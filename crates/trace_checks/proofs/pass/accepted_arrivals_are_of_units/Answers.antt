@@ -1,4 +1,4 @@
-use Rattle.trace_checks.proofs.Accepting.{accepted}
+use Rattle.trace_checks.proofs.Shared.Accepting.{accepted}
 use Rattle.trace_checks.proofs.pass.accepted_arrivals_are_of_units.Goals as goal
 
 pub returns : goal.returns

@@ -2,7 +2,7 @@ use Rattle.std.proofs.Common.{◌≡◌, ◌++◌, length}
 use Rattle.seq_tree.specs.Lists.{Each}
 use Rattle.ada_tree.specs.Trees.{program_of}
 use Rattle.trace_tree.specs.Lines.{lines}
-use Rattle.trace_lines.specs.Told.{IsEvent}
+use Rattle.law_trace_lines.specs.Told.{IsEvent}
 use Rattle.trace_read.specs.Texts.{text_left, text_program}
 use Rattle.trace_read.proofs.gather.read_events.Given as goal
 

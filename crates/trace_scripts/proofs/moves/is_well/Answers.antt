@@ -1,9 +1,9 @@
 use Rattle.std.proofs.Common.{ℕ, ◌≤◌, ap, sym, ◌∙◌}
 use Rattle.ada_tree.specs.Programs.{Program}
-use Rattle.block_walks.specs.Fit.{MayRun}
+use Rattle.law_walks.specs.Fit.{MayRun}
 use Rattle.guarantee.specs.Software.{leads_to}
 use Rattle.seq_eval.specs.Bounds.{most_ticks}
-use Rattle.trace_places.specs.Places.{task_at}
+use Rattle.law_trace_places.specs.Places.{task_at}
 use Rattle.trace_scripts.specs.Moving.{well_by}
 use Rattle.trace_scripts.specs.Scenes.{program_in, software_of, calls_of}
 use Rattle.trace_scripts.specs.Threads.{progress_of}

@@ -1,7 +1,7 @@
 use Rattle.std.proofs.Common.{◌≡◌, ℕ, ◌≤◌, ◌-◌, Bool, drop, length, not}
 use Rattle.std.specs.Prelude.{find, filter_map, slice_get}
 use Rattle.guarantee.specs.Software.{Task}
-use Rattle.trace_places.specs.Places.{task_in}
+use Rattle.law_trace_places.specs.Places.{task_in}
 use Rattle.trace_scripts.specs.Moving.{AreFollowing, threads_of}
 use Rattle.trace_scripts.specs.Scenes.{program_in, software_of}
 use Rattle.trace_scripts.specs.Serving.{MayAll}

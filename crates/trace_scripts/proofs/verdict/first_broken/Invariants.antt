@@ -3,7 +3,7 @@ use Rattle.std.specs.Prelude.{find, filter_map}
 use Rattle.ods_tree.specs.Flats.{Guarded}
 use Rattle.ada_tree.specs.Trees.{program_of}
 use Rattle.guarantee.specs.Software.{program_software}
-use Rattle.trace_places.specs.Places.{guarded_in}
+use Rattle.law_trace_places.specs.Places.{guarded_in}
 use Rattle.trace_scripts.specs.Objects.{AreServing, services_of}
 use Rattle.trace_scripts.proofs.verdict.first_broken.Given as goal
 

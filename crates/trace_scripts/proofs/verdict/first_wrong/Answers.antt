@@ -2,7 +2,7 @@ use Rattle.std.proofs.Common.{List, map, ap, ◌∙◌}
 use Rattle.ada_tree.specs.Programs.{Program}
 use Rattle.guarantee.specs.Events.{Event, named}
 use Rattle.guarantee.specs.Software.{Software}
-use Rattle.trace_laws.specs.Checks.{follows, serves}
+use Rattle.law_traces.specs.Checks.{follows, serves}
 use Rattle.trace_scripts.specs.Moving.{threads_of}
 use Rattle.trace_scripts.specs.Objects.{charge_of, services_of}
 use Rattle.trace_scripts.specs.Scenes.{program_in, software_of}

@@ -1,7 +1,7 @@
 use Rattle.std.proofs.Common.{◌≡◌, drop, max}
 use Rattle.ada_tree.specs.Trees.{program_of}
 use Rattle.guarantee.specs.Events.{named}
-use Rattle.trace_laws.specs.Checks.{most_used}
+use Rattle.law_traces.specs.Checks.{most_used}
 use Rattle.trace_scripts.proofs.verdict.most_used.Given as goal
 
 -- the greatest so far

@@ -2,7 +2,7 @@ use Rattle.std.proofs.Common.{◌∙◌, List, Some, cond, sym, ap}
 use Rattle.std.specs.Prelude.{option_and_then, slice_get}
 use Rattle.seq_tree.specs.Calls.{same_op}
 use Rattle.seq_tree.specs.declared.tree.OpName.{OpName}
-use Rattle.seq_tree.proofs.Walks.{same_op-eq}
+use Rattle.seq_tree.proofs.Shared.Walks.{same_op-eq}
 use Rattle.name_sets.specs.OpPlaces.{op_place_in}
 use Rattle.name_sets.specs.Tables.{at}
 use Rattle.name_sets.proofs.TableSteps.{behind_law, over_law}

@@ -2,7 +2,7 @@ use Rattle.std.proofs.Common.{◌∙◌}
 use Rattle.ods_tree.specs.Trees.{design_of}
 use Rattle.ods_tree.specs.Walk.{objects}
 use Rattle.ods_index.specs.Walking.{standing_of}
-use Rattle.ods_index.proofs.TableSteps.{place_found}
+use Rattle.ods_index.proofs.Shared.TableSteps.{place_found}
 use Rattle.ods_index.proofs.index.Index.place.Goals as goal
 
 pub returns-clause-found : goal.returns-clause-found

@@ -3,7 +3,7 @@ use Rattle.ods_tree.specs.Trees.{design_of, provided_of}
 use Rattle.ods_tree.specs.Walk.{objects}
 use Rattle.design_rules.specs.Lookups.{provided_named}
 use Rattle.ods_index.specs.Walking.{standing_of}
-use Rattle.ods_index.proofs.TableSteps.{same_place}
+use Rattle.ods_index.proofs.Shared.TableSteps.{same_place}
 use Rattle.ods_index.proofs.index.Index.provided.Goals as goal
 
 pub returns-in-Some : goal.returns-in-Some

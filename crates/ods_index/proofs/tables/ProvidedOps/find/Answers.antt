@@ -1,6 +1,6 @@
 use Rattle.std.proofs.Common.{◌∙◌, option_and_then, ap, sym}
 use Rattle.ods_tree.specs.Trees.{provided_of}
-use Rattle.ods_index.proofs.TableSteps.{at_place, found_place, got_as}
+use Rattle.ods_index.proofs.Shared.TableSteps.{at_place, found_place, got_as}
 use Rattle.ods_index.proofs.tables.ProvidedOps.find.Goals as goal
 
 pub returns-in-None : goal.returns-in-None

@@ -3,7 +3,7 @@ use Rattle.ods_tree.specs.Trees.{provided_of}
 use Rattle.ods_tree.specs.declared.design.Node.{Node}
 use Rattle.ods_index.specs.Walking.{object_of}
 use Rattle.ods_index.specs.declared.tables.ProvidedOps.{ProvidedOps}
-use Rattle.ods_index.proofs.WalkSteps.{own_fields}
+use Rattle.ods_index.proofs.Shared.WalkSteps.{own_fields}
 use Rattle.ods_names.proofs.LoopSteps.{mapped_step}
 use Rattle.ods_names.proofs.fittings.Family.ops_of.Goals as goal
 

@@ -1,6 +1,6 @@
 use Rattle.std.proofs.Common.{◌∙◌, map, refl}
 use Rattle.ods_index.specs.Walking.{object_of}
-use Rattle.ods_index.proofs.TableSteps.{place_found}
+use Rattle.ods_index.proofs.Shared.TableSteps.{place_found}
 use Rattle.ods_names.proofs.fittings.Family.place.Goals as goal
 
 pub returns : goal.returns

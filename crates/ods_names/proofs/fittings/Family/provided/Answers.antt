@@ -2,7 +2,7 @@ use Rattle.std.proofs.Common.{◌∙◌, map, refl}
 use Rattle.ods_tree.specs.Trees.{provided_of}
 use Rattle.design_rules.specs.Lookups.{provided_named}
 use Rattle.ods_index.specs.Walking.{object_of}
-use Rattle.ods_index.proofs.TableSteps.{same_place}
+use Rattle.ods_index.proofs.Shared.TableSteps.{same_place}
 use Rattle.ods_names.proofs.fittings.Family.provided.Goals as goal
 
 pub returns-in-Some : goal.returns-in-Some

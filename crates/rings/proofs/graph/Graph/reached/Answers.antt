@@ -1,7 +1,7 @@
 use Rattle.std.proofs.Common.{◌≡◌, [], arith, ap, ◌∙◌, ◌&&◌, false, get_or, nat_lt}
 use Rattle.rings.specs.Graphs.{has_number}
 use Rattle.rings.specs.Reached.{leads}
-use Rattle.rings.proofs.Reaching.{taken, complete, has-last, marks-grow}
+use Rattle.rings.proofs.Shared.Reaching.{taken, complete, has-last, marks-grow}
 use Rattle.rings.proofs.RingLaws.{no-items}
 use Rattle.rings.proofs.graph.Graph.reached.Goals as goal
 

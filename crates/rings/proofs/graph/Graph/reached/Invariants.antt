@@ -1,6 +1,6 @@
 use Rattle.std.proofs.Common.{◌≡◌, ◌+◌, not, length}
 use Rattle.std.specs.List.{count_by}
-use Rattle.rings.proofs.Reaching.{Reaching}
+use Rattle.rings.proofs.Shared.Reaching.{Reaching}
 use Rattle.rings.proofs.graph.Graph.reached.Given as goal
 
 abbrev pub invariant-nodes : goal.invariant-nodes

@@ -1,5 +1,5 @@
 use Rattle.std.proofs.Common.{◌≡◌, List, [], map, replicate}
-use Rattle.script_laws.specs.Entries.{Shown}
+use Rattle.law_scripts.specs.Entries.{Shown}
 use Rattle.trace_scripts.specs.Scripts.{levels_of}
 use Rattle.trace_scripts.proofs.books.Book.first.Given as goal
 

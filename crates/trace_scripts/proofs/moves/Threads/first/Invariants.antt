@@ -1,6 +1,6 @@
 use Rattle.std.proofs.Common.{◌≡◌, ◌++◌, drop, map}
 use Rattle.ada_tree.specs.Trees.{unit_of}
-use Rattle.trace_places.specs.Places.{task_in}
+use Rattle.law_trace_places.specs.Places.{task_in}
 use Rattle.trace_scripts.specs.Threads.{progress_of}
 use Rattle.trace_scripts.specs.Moving.{idle_at_first}
 use Rattle.trace_scripts.proofs.moves.Threads.first.Given as goal

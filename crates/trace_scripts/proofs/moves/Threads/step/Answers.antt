@@ -1,6 +1,6 @@
 use Rattle.std.proofs.Common.{ℕ, ◌≤◌, rules}
 use Rattle.ada_tree.specs.Programs.{Program}
-use Rattle.block_walks.specs.Fit.{MayRun}
+use Rattle.law_walks.specs.Fit.{MayRun}
 use Rattle.guarantee.specs.Software.{leads_to}
 use Rattle.seq_eval.specs.Bounds.{most_ticks}
 use Rattle.trace_scripts.specs.Moving.{threads_of}

@@ -4,7 +4,7 @@ use Rattle.trace_scripts.specs.Books.{entry_of}
 use Rattle.trace_scripts.specs.Scenes.{program_in, software_of, calls_of}
 use Rattle.trace_scripts.specs.Objects.{object_of}
 use Rattle.seq_eval.specs.Bounds.{most_ticks}
-use Rattle.block_walks.specs.Fit.{MayRun}
+use Rattle.law_walks.specs.Fit.{MayRun}
 use Rattle.guarantee.specs.Software.{leads_to}
 use Rattle.trace_scripts.proofs.Objecting.{object-here, none-here, ops-within, body-named, body-all, enter-made, charge-made, enter-none}
 use Rattle.trace_scripts.proofs.objects.Objects.enter.Goals as goal

@@ -1,6 +1,6 @@
 use Rattle.std.proofs.Common.{◌≡◌, ◌++◌, drop, map}
 use Rattle.ada_tree.specs.Trees.{unit_of}
-use Rattle.trace_places.specs.Places.{guarded_in}
+use Rattle.law_trace_places.specs.Places.{guarded_in}
 use Rattle.trace_scripts.specs.Objects.{service_of}
 use Rattle.trace_scripts.specs.Serving.{first_by}
 use Rattle.trace_scripts.proofs.objects.Objects.first.Given as goal

@@ -1,5 +1,0 @@
-use Rattle.activations.proofs.Halts.{readable_means}
-use Rattle.activations.proofs.every_program_means.Goals as goal
-
-pub returns : goal.returns
-returns c = λ p a meets. readable_means p a meets

@@ -1,5 +1,0 @@
-use Rattle.ceiling_locking.proofs.Stopping.{rest-goes-on}
-use Rattle.ceiling_locking.proofs.ceilings_hold.Goals as goal
-
-pub returns : goal.returns
-returns c = λ y as' told ceiled rest. rest-goes-on y ceiled as' told rest

@@ -1,5 +1,0 @@
-use Rattle.dispatching.proofs.Sleeping.{due-sleeper}
-use Rattle.dispatching.proofs.first_due_sleeper_is_released.Goals as goal
-
-pub returns : goal.returns
-returns c tasks time asleep a = due-sleeper tasks time asleep a

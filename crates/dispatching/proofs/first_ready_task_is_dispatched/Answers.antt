@@ -1,5 +1,0 @@
-use Rattle.dispatching.proofs.Heads.{dispatched-head}
-use Rattle.dispatching.proofs.first_ready_task_is_dispatched.Goals as goal
-
-pub returns : goal.returns
-returns c tasks orders ready q = dispatched-head tasks orders ready q

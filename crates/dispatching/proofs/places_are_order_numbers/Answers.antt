@@ -1,7 +1,0 @@
-use Rattle.std.specs.Prelude.{length}
-use Rattle.dispatching.specs.Queueing.{places}
-use Rattle.dispatching.proofs.Ranks.{queued-places, ranks-alike}
-use Rattle.dispatching.proofs.places_are_order_numbers.Goals as goal
-
-pub returns : goal.returns
-returns c tasks orders ready q = ranks-alike tasks orders (places (length tasks) ready) ready q (queued-places tasks orders ready q)

@@ -1,0 +1,2 @@
+pub mod LegibleHard
+pub mod Shared

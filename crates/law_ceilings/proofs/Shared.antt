@@ -1,0 +1,19 @@
+-- What other crates may cite of the proofs of this one.
+pub mod Arrivals
+pub mod Blocked
+pub mod Ceiled
+pub mod Excludes
+pub mod Excluding
+pub mod Fitting
+pub mod Keeping
+pub mod Kept
+pub mod Limited
+pub mod Moves
+pub mod Passing
+pub mod Paying
+pub mod Permissions
+pub mod Pieces
+pub mod Programs
+pub mod Stopping
+pub mod Tables
+pub mod Turning

@@ -1,0 +1,27 @@
+-- What other crates may cite of the proofs of this one.
+pub mod Blocks
+pub mod CostRanges
+pub mod Flattened
+pub mod Greatest
+pub mod Lists
+pub mod ObjectNames
+pub mod ObjectRules
+pub mod Offers
+pub mod PriorityLists
+pub mod PriorityOrders
+pub mod PriorityPlaces
+pub mod ProgramRanges
+pub mod ProgramTasks
+pub mod ProperProgram
+pub mod ProperTicks
+pub mod RankRanges
+pub mod ReadablePrograms
+pub mod Resolving
+pub mod Served
+pub mod SoundDesigns
+pub mod Started
+pub mod Starting
+pub mod TableRanges
+pub mod TabledPrograms
+pub mod TabledTasks
+pub mod Units

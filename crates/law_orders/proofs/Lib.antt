@@ -1,0 +1,3 @@
+pub mod SectionCosts
+pub mod LevelPlaces
+pub mod Shared

@@ -1,0 +1,5 @@
+use Rattle.law_orders.proofs.Shared.Passing.{pass-by-lasts}
+use Rattle.law_orders.proofs.orders_pass_by_lasts.Goals as goal
+
+pub returns : goal.returns
+returns c = pass-by-lasts

@@ -1,0 +1,15 @@
+pub mod AllServed
+pub mod CarriedSteps
+pub mod Gates
+pub mod NoArrivals
+pub mod Periodic
+pub mod Readiness
+pub mod RequestEffects
+pub mod RequestNotices
+pub mod RequestPieces
+pub mod RequestStanding
+pub mod RequestSteps
+pub mod Requesters
+pub mod StarterCounts
+pub mod StarterSteps
+pub mod Shared

@@ -1,0 +1,6 @@
+-- What other crates may cite of the proofs of this one.
+pub mod Bounded
+pub mod DesignLaw
+pub mod KeptAccepted
+pub mod Worked
+pub mod WorkedBounds

@@ -1,0 +1,13 @@
+pub mod Numbers
+pub mod Multiples
+pub mod Requests
+pub mod Spelled
+pub mod Accepted
+pub mod Proper
+pub mod Standing
+pub mod Starts
+pub mod Tests
+pub mod Checked
+pub mod Held
+pub mod Examples
+pub mod Shared

@@ -1,0 +1,4 @@
+-- What other crates may cite of the proofs of this one.
+pub mod Holding
+pub mod Ranks
+pub mod Sound

@@ -1,0 +1,5 @@
+use Rattle.law_scaling.proofs.Cheap.{parts-more}
+use Rattle.law_scaling.proofs.costs_grow.Goals as goal
+
+pub returns : goal.returns
+returns c = λ f v w below. parts-more f v w below

@@ -1,0 +1,5 @@
+use Rattle.law_scaling.proofs.Shared.Holding.{holds-less}
+use Rattle.law_scaling.proofs.holding_alone_is_kept.Goals as goal
+
+pub returns : goal.returns
+returns c = holds-less

@@ -1,0 +1,10 @@
+use Rattle.std.proofs.Common.{sym}
+use Rattle.law_scripts.proofs.Shared.Served.{served-sound}
+use Rattle.law_scripts.proofs.Shared.Told.{thread-told}
+use Rattle.law_scripts.proofs.passes_tell_checks.Goals as goal
+
+pub returns : goal.returns
+returns c = λ w distinct depth trace. record {
+  objects = λ g. served-sound w depth g trace;
+  threads = λ t. sym (thread-told w distinct depth trace t);
+}

@@ -1,0 +1,7 @@
+pub mod Deciding
+pub mod RunLaws
+pub mod Objects
+pub mod Charges
+pub mod Scripts
+pub mod Examples
+pub mod Shared

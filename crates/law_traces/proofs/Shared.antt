@@ -1,0 +1,6 @@
+-- What other crates may cite of the proofs of this one.
+pub mod Joins
+pub mod Judging
+pub mod Leveling
+pub mod Pairs
+pub mod Simple

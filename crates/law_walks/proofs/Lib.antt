@@ -1,0 +1,5 @@
+pub mod Bodies
+pub mod Equals
+pub mod Steps
+pub mod Examples
+pub mod Shared

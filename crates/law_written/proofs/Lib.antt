@@ -1,0 +1,9 @@
+pub mod Groups
+pub mod Bound
+pub mod Acts
+pub mod Evolving
+pub mod Passings
+pub mod DeedsBack
+pub mod Steady
+pub mod Law
+pub mod Shared

@@ -1,0 +1,4 @@
+-- What other crates may cite of the proofs of this one.
+pub mod NeedSteps
+pub mod SetSteps
+pub mod TickLaws

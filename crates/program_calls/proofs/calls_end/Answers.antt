@@ -1,5 +1,0 @@
-use Rattle.program_calls.proofs.Bodies.{calls-end}
-use Rattle.program_calls.proofs.calls_end.Goals as goal
-
-pub returns : goal.returns
-returns c = λ ss from path to no_ring way. calls-end ss no_ring from path to way

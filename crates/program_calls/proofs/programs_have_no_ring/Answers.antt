@@ -1,5 +1,0 @@
-use Rattle.program_calls.proofs.Rings.{no-ring}
-use Rattle.program_calls.proofs.programs_have_no_ring.Goals as goal
-
-pub returns : goal.returns
-returns c = λ p rules. no-ring p rules

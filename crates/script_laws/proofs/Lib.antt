@@ -1,5 +1,0 @@
-pub mod Courses
-pub mod Served
-pub mod Charged
-pub mod Told
-pub mod Stacks

@@ -1,5 +1,0 @@
-use Rattle.trace_places.proofs.Units.{unit-names}
-use Rattle.trace_places.proofs.unit_names_tell_units.Goals as goal
-
-pub returns : goal.returns
-returns c = λ p meets i j h k. unit-names p meets i j h k

@@ -12,7 +12,7 @@ below 1,000, or `none`.
 PROGRAM is the path of the program, and the proved program of this repository where it isn't set.
 
 What is proved: each answer of the program; that a design that holds with the `work` of one object at so many per mille holds with it at less, so
-that halving finds the greatest (`holding_alone_is_kept` of `scaling_laws`); and that what runs of the changed design is the flat design with that
+that halving finds the greatest (`holding_alone_is_kept` of `law_scaling`); and that what runs of the changed design is the flat design with that
 object's `work` so scaled (`flat_designs_scale_alone`). Not proved: this script, which writes the changed designs, asks `analyse` about each, and
 halves. `scale_alone` of crate `scaling` does the same by a proved function, and no verb calls it.
 """

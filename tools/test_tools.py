@@ -193,7 +193,7 @@ class Margins(unittest.TestCase):
 
     @unittest.skipUnless(HAS_PROGRAM, 'there is no program')
     def test_table(self):
-        """The first thread may work twice as long, as an example of crate scaling_laws has it, and the second one 2.75 times."""
+        """The first thread may work twice as long, as an example of crate law_scaling has it, and the second one 2.75 times."""
         self.assertEqual(self.table(PAIR), (0, [
             'thread,statements_of_work,slack_to_deadline,slack_to_period,margin_per_mille,next',
             'all,,,,1666,U1 b value 22 limit 20 round 2',
@@ -304,6 +304,28 @@ class Crates(unittest.TestCase):
         self.assertRegex(out, r'\d+ seq_tree\n')
         status, _, err = run([sys.executable, os.path.join(TOOLS, 'above.py'), 'nothing'])
         self.assertEqual((status, err), (1, 'above.py: nothing is no crate of crates.txt\n'))
+
+    def test_doors(self):
+        script = os.path.join(TOOLS, 'doors.py')
+        with tempfile.TemporaryDirectory() as room:
+            def put(path, text):
+                os.makedirs(os.path.dirname(os.path.join(room, path)), exist_ok=True)
+                with open(os.path.join(room, path), 'w') as out:
+                    out.write(text)
+            put('low/proofs/Inner.antt', '')
+            put('low/proofs/Shared/Outer.antt', '')
+            put('low/src/lib.rt', '//! - `Outer`: lists.\n')
+            put('high/src/lib.rt', '#[tactic(auto, using(low::proofs::Shared::Outer::rules))]\n')
+            put('high/proofs/Steps.antt', 'use Rattle.low.proofs.Shared.Outer.{lists}\nuse Rattle.high.proofs.Steps.{one}\n')
+            self.assertEqual(run([sys.executable, script, '--closed'], CRATES_OF_DOORS=room)[0], 0)
+            self.assertEqual(run([sys.executable, script, 'low'], CRATES_OF_DOORS=room)[1], 'low: specs 0 of 0; proofs: Outer 1\n')
+            put('low/src/lib.rt', '//! Lists.\nfn outer() {}\n')
+            told = run([sys.executable, script, '--closed'], CRATES_OF_DOORS=room)
+            self.assertEqual(told[:2], (1, "low: its head doesn't name Shared.Outer\n"))
+            put('low/src/lib.rt', '//! - `Outer`: lists.\n')
+            put('high/proofs/Steps.antt', 'use Rattle.low.proofs.Inner.{lists}\n')
+            told = run([sys.executable, script, '--closed'], CRATES_OF_DOORS=room)
+            self.assertEqual(told[:2], (1, "low: proofs/Inner is cited by high, and isn't in proofs/Shared\n"))
 
     def test_rules(self):
         rules = load('check_rules')

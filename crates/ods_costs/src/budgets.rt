@@ -103,8 +103,8 @@ fn budgets_fit<'a>(alloc: Global, index: &Index<'a>, priced: &Priced<'a>) -> Res
     Ok(())
 }
 
-/// Tells the first thread whose activation costs more than its budget, and not too much.
-pub fn bad_budgets(alloc: Global, index: &Index<'_>) -> Result<(), Broken>
+/// V14: tells the first thread whose activation costs more than its budget, and not too much.
+pub fn first_bad_budget(alloc: Global, index: &Index<'_>) -> Result<(), Broken>
     requires { IsIndex index.now }
     ensures { Tells result (head_of (bad_budgets (design_of index.entry.now.design.now))) }
 {

@@ -10,5 +10,5 @@ mod costs;
 mod services;
 mod sizes;
 
-pub use budgets::bad_budgets;
-pub use sizes::bad_sizes;
+pub use budgets::first_bad_budget;
+pub use sizes::first_bad_size;

@@ -197,8 +197,8 @@ fn sizes_fit<'a>(alloc: Global, index: &Index<'a>, priced: &Priced<'a>) -> Resul
     costs_fit(alloc, priced, objects)
 }
 
-/// Tells what is too large: more threads than there may be, then more objects, then the first part of an object that is too dear.
-pub fn bad_sizes(alloc: Global, index: &Index<'_>) -> Result<(), Broken>
+/// V15: tells what is too large: more threads than there may be, then more objects, then the first part of an object that is too dear.
+pub fn first_bad_size(alloc: Global, index: &Index<'_>) -> Result<(), Broken>
     requires indexed { IsIndex index.now }
     requires few { length (objects (design_of index.now.design.now)) < 4294967296 }
     ensures { Tells result (head_of (bad_sizes (design_of index.entry.now.design.now))) }

@@ -8,13 +8,15 @@ ghost use Rattle.ods_index.specs.Judging.{Judges, Passes, PassesBefore};
 ghost use Rattle.ods_rules.specs.Orders.{Verdict, limit, rule_of};
 
 use crate::checked::Checked;
-use ods_costs::{bad_budgets, bad_sizes};
+use ods_costs::{first_bad_budget, first_bad_size};
 use ods_index::{Broken, Index};
 use ods_names::{
     absent, bad_bodies, bad_fittings, forbidden, includes_fit, kept_names, no_clashes,
     no_idle_actives, numbers_fit, operations_fit, set_ticks, strangers, versions_fit,
 };
-use ods_starts::{bad_separations, bad_sources, ringed_object, ringed_op, ringed_thread};
+use ods_starts::{
+    first_bad_source, first_bad_spacing, first_ringed_object, first_ringed_op, first_ringed_thread,
+};
 use ods_tree::Design;
 use std::alloc::Global;
 
@@ -84,16 +86,16 @@ fn judge(alloc: Global, index: &Index<'_>, rule: Rule) -> Result<(), Broken>
         Rule::Stranger => strangers(alloc, index),
         Rule::Absence => absent(alloc, index),
         Rule::Use => forbidden(alloc, index),
-        Rule::CallRing => ringed_op(alloc, index),
-        Rule::ObjectRing => ringed_object(alloc, index),
-        Rule::StartRing => ringed_thread(alloc, index),
-        Rule::Source => bad_sources(alloc, index),
+        Rule::CallRing => first_ringed_op(alloc, index),
+        Rule::ObjectRing => first_ringed_object(alloc, index),
+        Rule::StartRing => first_ringed_thread(alloc, index),
+        Rule::Source => first_bad_source(alloc, index),
         Rule::Number => numbers_fit(alloc, index),
         Rule::IdleActive => no_idle_actives(alloc, index),
         Rule::BodyFault => bad_bodies(alloc, index),
-        Rule::Budget => bad_budgets(alloc, index),
-        Rule::Size => bad_sizes(alloc, index),
-        Rule::Spacing => bad_separations(alloc, index),
+        Rule::Budget => first_bad_budget(alloc, index),
+        Rule::Size => first_bad_size(alloc, index),
+        Rule::Spacing => first_bad_spacing(alloc, index),
     }
 }
 

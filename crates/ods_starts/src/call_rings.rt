@@ -44,7 +44,7 @@ fn first_ringed<'a>(
 }
 
 /// V09: tells the first operation on a ring of calls.
-pub fn ringed_op(alloc: Global, index: &Index<'_>) -> Result<(), Broken>
+pub fn first_ringed_op(alloc: Global, index: &Index<'_>) -> Result<(), Broken>
     requires indexed { IsIndex index.now }
     requires before { PassesBefore (design_of index.now.design.now) CallRing }
     ensures { Judges (RingedOp (design_of index.entry.now.design.now)) result }

@@ -16,9 +16,9 @@ mod sources;
 mod start_rings;
 mod starts;
 
-pub use call_rings::ringed_op;
-pub use object_rings::ringed_object;
-pub use separations::bad_separations;
-pub use sources::bad_sources;
-pub use start_rings::ringed_thread;
+pub use call_rings::first_ringed_op;
+pub use object_rings::first_ringed_object;
+pub use separations::first_bad_spacing;
+pub use sources::first_bad_source;
+pub use start_rings::first_ringed_thread;
 pub use starts::threads_of;

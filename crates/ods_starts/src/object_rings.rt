@@ -216,7 +216,7 @@ fn first_ringed<'a>(
 }
 
 /// V09: tells the first protected object on a ring of calls.
-pub fn ringed_object(alloc: Global, index: &Index<'_>) -> Result<(), Broken>
+pub fn first_ringed_object(alloc: Global, index: &Index<'_>) -> Result<(), Broken>
     requires { IsIndex index.now }
     ensures { Judges (RingedObject (design_of index.entry.now.design.now)) result }
 {

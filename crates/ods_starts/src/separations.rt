@@ -94,8 +94,8 @@ fn starters_fit<'a>(alloc: Global, starts: &Starts<'a>, threads: &[&'a Node]) ->
     Ok(())
 }
 
-/// Tells the first thread, and of what it starts the first, that it starts more often than the separation of that allows.
-pub fn bad_separations(alloc: Global, index: &Index<'_>) -> Result<(), Broken>
+/// V16: tells the first thread, and of what it starts the first, that it starts more often than the separation of that allows.
+pub fn first_bad_spacing(alloc: Global, index: &Index<'_>) -> Result<(), Broken>
     requires { IsIndex index.now }
     ensures { Tells result (head_of (bad_separations (design_of index.entry.now.design.now))) }
 {

@@ -330,8 +330,8 @@ impl<'a> Requests<'a> {
     }
 }
 
-/// Tells the first sporadic object that has not one source, or that is requested more than once on a path of an activation.
-pub fn bad_sources(alloc: Global, index: &Index<'_>) -> Result<(), Broken>
+/// V10: tells the first sporadic object that has not one source, or that is requested more than once on a path of an activation.
+pub fn first_bad_source(alloc: Global, index: &Index<'_>) -> Result<(), Broken>
     requires indexed { IsIndex index.now }
     requires few { length (objects (design_of index.now.design.now)) < 4294967296 }
     ensures { Tells result (head_of (bad_sources (design_of index.entry.now.design.now))) }

@@ -162,7 +162,7 @@ fn tell_thread(alloc: Global, threads: &[&Node], place: usize) -> Result<(), Bro
 }
 
 /// V09: tells the first thread on a ring of starts.
-pub fn ringed_thread(alloc: Global, index: &Index<'_>) -> Result<(), Broken>
+pub fn first_ringed_thread(alloc: Global, index: &Index<'_>) -> Result<(), Broken>
     requires { IsIndex index.now }
     ensures { Judges (RingedThread (design_of index.entry.now.design.now)) result }
 {

@@ -5,15 +5,15 @@ use Rattle.ods_index.specs.Judging.{PassesBefore}
 use Rattle.ods_rules.specs.Orders.{rule_of}
 use Rattle.ods_rules.proofs.verdict.judge.Goals as goal
 
-pub ringed_op-requires-clause-before : goal.ringed_op-requires-clause-before
-ringed_op-requires-clause-before c =
+pub first_ringed_op-requires-clause-before : goal.first_ringed_op-requires-clause-before
+first_ringed_op-requires-clause-before c =
     let P : Rule → Type 0 = λ r. PassesBefore (design_of c.args.index.now.design.now) (rule_of r) in subst P c.in-CallRing.is c.requires.before
 
 pub returns-in-CallRing : goal.returns-in-CallRing
-returns-in-CallRing c = rw c.in-CallRing.is c.ringed_op.ensures
+returns-in-CallRing c = rw c.in-CallRing.is c.first_ringed_op.ensures
 
 pub returns-in-ObjectRing : goal.returns-in-ObjectRing
-returns-in-ObjectRing c = rw c.in-ObjectRing.is c.ringed_object.ensures
+returns-in-ObjectRing c = rw c.in-ObjectRing.is c.first_ringed_object.ensures
 
 pub returns-in-StartRing : goal.returns-in-StartRing
-returns-in-StartRing c = rw c.in-StartRing.is c.ringed_thread.ensures
+returns-in-StartRing c = rw c.in-StartRing.is c.first_ringed_thread.ensures

@@ -11,7 +11,7 @@ use Rattle.ods_index.specs.Walking.{standing_of}
 use Rattle.ods_starts.proofs.CallRings.{tells-first, told-by}
 use Rattle.ods_starts.proofs.NamePlaces.{tell-same}
 use Rattle.ods_starts.proofs.StartRings.{first-ringed, first-same, graph-of, none-ringed, step-of, whole-threads}
-use Rattle.ods_starts.proofs.start_rings.ringed_thread.Goals as goal
+use Rattle.ods_starts.proofs.start_rings.first_ringed_thread.Goals as goal
 
 pub returns-in-None : goal.returns-in-None
 returns-in-None c =

@@ -11,7 +11,7 @@ use Rattle.ods_index.specs.Judging.{Tells, head_of}
 use Rattle.ods_starts.specs.Spacings.{spaced}
 use Rattle.ods_starts.specs.Spreading.{reaches}
 use Rattle.ods_index.specs.Walking.{object_of, standing_of}
-use Rattle.ods_starts.proofs.separations.bad_separations.Goals as goal
+use Rattle.ods_starts.proofs.separations.first_bad_spacing.Goals as goal
 
 pub returns : goal.returns
 returns c =

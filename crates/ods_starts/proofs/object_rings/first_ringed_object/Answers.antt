@@ -11,7 +11,7 @@ use Rattle.ods_index.specs.Walking.{standing_of}
 use Rattle.ods_starts.proofs.CallRings.{tells-first, told-by}
 use Rattle.ods_starts.proofs.NamePlaces.{names-of, tell-same}
 use Rattle.ods_starts.proofs.ObjectRings.{none-ringed, first-ringed}
-use Rattle.ods_starts.proofs.object_rings.ringed_object.Goals as goal
+use Rattle.ods_starts.proofs.object_rings.first_ringed_object.Goals as goal
 use Rattle.rings.specs.Reached.{IsFirstOnRing}
 
 pub returns-in-None : goal.returns-in-None

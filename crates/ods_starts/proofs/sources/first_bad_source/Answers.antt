@@ -9,7 +9,7 @@ use Rattle.design_rules.specs.Sources.{bad_sources}
 use Rattle.ods_index.specs.Judging.{Tells, head_of}
 use Rattle.ods_starts.specs.Reaching.{thread_of}
 use Rattle.ods_starts.specs.Requested.{source_fault}
-use Rattle.ods_starts.proofs.sources.bad_sources.Goals as goal
+use Rattle.ods_starts.proofs.sources.first_bad_source.Goals as goal
 
 pub returns : goal.returns
 returns c =

@@ -10,7 +10,7 @@ use Rattle.ods_index.specs.Judging.{Passes}
 use Rattle.ods_index.specs.Linked.{op_of}
 use Rattle.ods_index.specs.Walking.{standing_of}
 use Rattle.ods_starts.proofs.CallRings.{none-ringed, first-ringed, tells-first, ops-same, tell-same, told-by}
-use Rattle.ods_starts.proofs.call_rings.ringed_op.Goals as goal
+use Rattle.ods_starts.proofs.call_rings.first_ringed_op.Goals as goal
 use Rattle.rings.specs.Reached.{IsFirstOnRing}
 
 pub returns-in-None : goal.returns-in-None

@@ -10,15 +10,15 @@ use Rattle.ceil_runtime.specs.Left.{Falls}
 use Rattle.ceil_runtime.specs.Processing.{Follows, IsSound}
 use Rattle.ceil_runtime.specs.Shown.{running_of}
 use Rattle.ceil_runtime.specs.Stepping.{AreOfTask, IsNear, IsStep, steps_left, told_of}
-use Rattle.ceil_runtime.specs.Works.{task_of}
-use Rattle.ceil_runtime.specs.declared.effects.Act.{Act}
-use Rattle.ceil_runtime.specs.declared.effects.Act.TheVariants.{Ended}
+use Rattle.task_runtime.specs.Works.{task_of}
+use Rattle.task_runtime.specs.declared.effects.Act.{Act}
+use Rattle.task_runtime.specs.declared.effects.Act.TheVariants.{Ended}
 use Rattle.ceil_runtime.specs.declared.processor.Machine.{Machine}
 use Rattle.ceil_runtime.specs.declared.processor.Phase.TheVariants.{Effects}
 use Rattle.ceil_runtime.specs.declared.processor.Told.{Told}
 use Rattle.ceil_runtime.specs.declared.processor.Told.TheVariants.{Nothing, One, Two}
-use Rattle.ceil_runtime.specs.declared.task.Readiness.TheVariants as readies
-use Rattle.ceil_runtime.specs.declared.task.Task.{Task}
+use Rattle.task_runtime.specs.declared.task.Readiness.TheVariants as readies
+use Rattle.task_runtime.specs.declared.task.Task.{Task}
 use Rattle.ceil_runtime.proofs.EntrySteps.{left-whole, ready-each}
 use Rattle.ceil_runtime.proofs.Processed.{get-put, get_within, set-twice}
 use Rattle.ceil_runtime.proofs.Reached.{among-tasks}

@@ -15,20 +15,20 @@ use Rattle.machine.specs.States as states
 use Rattle.law_dispatching.specs.Jumping.{NoArrival}
 use Rattle.law_dispatching.specs.Queueing.{AreSleeping, SleepsUntil}
 use Rattle.ceil_runtime.specs.Alone.{GoesAlone, IsAlone, threads_at}
-use Rattle.ceil_runtime.specs.Effort.{most_ends, sections_among}
+use Rattle.task_runtime.specs.Effort.{most_ends, sections_among}
 use Rattle.ceil_runtime.specs.Left.{left, ran_effort}
 use Rattle.ceil_runtime.specs.Processing.{Follows, HoldsIn, IsBelow, IsSound, IsWithin, state_by, system_by}
 use Rattle.ceil_runtime.specs.Shown.{IsWhole, running_of, stores_of}
 use Rattle.ceil_runtime.specs.Stepping.{AreOfTask, HasObject, HasOp, HasUnit, IsNear, IsOfTask, IsStep, steps_by, steps_left, told_of}
-use Rattle.ceil_runtime.specs.Works.{Acts, EffortFalls, StaysInside, task_of, used_ticks}
-use Rattle.ceil_runtime.specs.Written.{system_of}
-use Rattle.ceil_runtime.specs.Doing.{StaysOutside, act_of, is_silent}
-use Rattle.ceil_runtime.specs.Framed.{frames_of}
-use Rattle.ceil_runtime.specs.Progresses.{kept, piece_of, started, with_parts}
-use Rattle.ceil_runtime.specs.declared.effects.Act.{Act}
-use Rattle.ceil_runtime.specs.declared.effects.Act.TheVariants as acts
-use Rattle.ceil_runtime.specs.declared.piece.Piece as piece
-use Rattle.ceil_runtime.specs.declared.piece.Piece.TheVariants as is
+use Rattle.task_runtime.specs.Works.{Acts, EffortFalls, StaysInside, task_of, used_ticks}
+use Rattle.task_runtime.specs.Written.{system_of}
+use Rattle.task_runtime.specs.Doing.{StaysOutside, act_of, is_silent}
+use Rattle.task_runtime.specs.Framed.{frames_of}
+use Rattle.task_runtime.specs.Progresses.{kept, piece_of, started, with_parts}
+use Rattle.task_runtime.specs.declared.effects.Act.{Act}
+use Rattle.task_runtime.specs.declared.effects.Act.TheVariants as acts
+use Rattle.task_runtime.specs.declared.piece.Piece as piece
+use Rattle.task_runtime.specs.declared.piece.Piece.TheVariants as is
 use Rattle.machine.specs.Deeds as deeds
 use Rattle.machine.specs.Deeds.{deed, done}
 use Rattle.machine.specs.Pieces as pieces
@@ -41,17 +41,17 @@ use Rattle.ceil_runtime.specs.declared.processor.Phase.{Phase}
 use Rattle.ceil_runtime.specs.declared.processor.Phase.TheVariants.{Effects, Delays, Arriving, Use}
 use Rattle.ceil_runtime.specs.declared.processor.Told.{Told}
 use Rattle.ceil_runtime.specs.declared.processor.Told.TheVariants.{Nothing, One, Two}
-use Rattle.ceil_runtime.specs.declared.task.Task.{Task}
-use Rattle.ceil_runtime.specs.declared.thread.Thread.{Thread}
+use Rattle.task_runtime.specs.declared.task.Task.{Task}
+use Rattle.task_runtime.specs.declared.thread.Thread.{Thread}
 use Rattle.ceil_runtime.proofs.Aheads.{wake-most}
 use Rattle.ceil_runtime.proofs.Advancing.{follows-none, follows-then}
 use Rattle.ceil_runtime.proofs.Effected.{end-run, end-sound}
 use Rattle.ceil_runtime.proofs.Falling.{falls-use, left_by}
 use Rattle.ceil_runtime.proofs.Nearing.{nears-ticks, ran-few}
 use Rattle.ceil_runtime.proofs.Processed.{Changed, arriving-goes, changed-system, follows-of, get-set_same, get_within, use-run, use-sound}
-use Rattle.ceil_runtime.proofs.Reached.{nests-going}
 use Rattle.ceil_runtime.proofs.Released.{delays-over, going-active}
 use Rattle.ceil_runtime.proofs.Stepped.{IsBeside, going-step, running-sound}
+use Rattle.task_runtime.proofs.Shared.AtWork.{nests-going}
 
 -- put before its equals, a task that no other goes before is the first
 ahead-of : (i active : ℕ) (ready : List Entry) → IsBelow active ready → at_head (i, active) ready ≡ (i, active) ∷ ready

@@ -29,22 +29,22 @@ use Rattle.law_dispatching.proofs.Shared.Running.{running-apart, running-ended, 
 use Rattle.law_dispatching.proofs.Shared.Ranks.{queued-places, ranks-alike}
 use Rattle.law_dispatching.proofs.Shared.Sleeping.{apart-awake, sleeping-awake, sleeping-kept, sleeping-more}
 use Rattle.law_dispatching.proofs.Shared.Places.{get-changed}
-use Rattle.ceil_runtime.specs.Doing.{act_of}
+use Rattle.task_runtime.specs.Doing.{act_of}
 use Rattle.ceil_runtime.specs.Processing.{AllTasks, HasNoEffect, IsKept, IsSound, order_of, state_by, system_by, with_task}
-use Rattle.ceil_runtime.specs.Readies.{is_ready, readiness_of}
-use Rattle.ceil_runtime.specs.Works.{Acts, IsNested, task_of}
-use Rattle.ceil_runtime.specs.Written.{system_of}
-use Rattle.ceil_runtime.specs.declared.effects.Act.{Act}
-use Rattle.ceil_runtime.specs.declared.effects.Act.TheVariants.{Finish}
-use Rattle.ceil_runtime.specs.declared.task.Task.{Task}
-use Rattle.ceil_runtime.specs.declared.task.Readiness as readiness
-use Rattle.ceil_runtime.specs.declared.task.Readiness.TheVariants as readies
+use Rattle.task_runtime.specs.Readies.{is_ready, readiness_of}
+use Rattle.task_runtime.specs.Works.{Acts, IsNested, task_of}
+use Rattle.task_runtime.specs.Written.{system_of}
+use Rattle.task_runtime.specs.declared.effects.Act.{Act}
+use Rattle.task_runtime.specs.declared.effects.Act.TheVariants.{Finish}
+use Rattle.task_runtime.specs.declared.task.Task.{Task}
+use Rattle.task_runtime.specs.declared.task.Readiness as readiness
+use Rattle.task_runtime.specs.declared.task.Readiness.TheVariants as readies
 use Rattle.ceil_runtime.specs.declared.processor.Phase.TheVariants.{Effects, Delays}
-use Rattle.ceil_runtime.proofs.Idles.{rests-idle}
 use Rattle.ceil_runtime.proofs.Processed.{runs-alike, changed-alike, Changed, changed-all, changed-length, changed-tasks, get-put, get-set_same}
 use Rattle.ceil_runtime.proofs.Processed.{get_within, step-run}
 use Rattle.ceil_runtime.proofs.Released.{changed_at, asleep-apart, going-active, going-next, going-readiness, going-used, ready-is, serve-none}
 use Rattle.ceil_runtime.proofs.Released.{serve-run, tail-ranks, waiting-released}
+use Rattle.task_runtime.proofs.Shared.AtWork.{rests-idle}
 
 clash : true ≡ false → ⊥
 clash k = cc

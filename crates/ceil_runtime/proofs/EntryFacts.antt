@@ -6,17 +6,17 @@ use Rattle.seq_tree.specs.Names.{Name}
 use Rattle.seq_tree.specs.Variables.{Variables, written}
 use Rattle.seq_tree.specs.declared.tree.Datum.{Datum}
 use Rattle.ada_tree.specs.Trees.{unit_of}
-use Rattle.ceil_runtime.specs.Fitting.{IsOfObject, entry_names, names_of}
-use Rattle.ceil_runtime.specs.Libraries.{objects_from}
+use Rattle.task_runtime.specs.Fitting.{IsOfObject, entry_names, names_of}
+use Rattle.task_runtime.specs.Libraries.{objects_from}
 use Rattle.ceil_runtime.specs.Objects.{AreObjectsOf, first_object, lasting, shown}
 use Rattle.ceil_runtime.specs.Processing.{AreAlike}
-use Rattle.ceil_runtime.specs.Stacked.{vars_of, with_var}
+use Rattle.task_runtime.specs.Stacked.{vars_of, with_var}
 use Rattle.ceil_runtime.specs.Stepping.{HasObject, HasOp}
-use Rattle.ceil_runtime.specs.Written.{system_of}
+use Rattle.task_runtime.specs.Written.{system_of}
 use Rattle.ceil_runtime.specs.declared.object.Object.{Object}
-use Rattle.ceil_runtime.specs.declared.piece.Entry.{Entry}
-use Rattle.ceil_runtime.specs.declared.task.Task.{Task}
-use Rattle.ceil_runtime.specs.declared.values.Var.{Var}
+use Rattle.task_runtime.specs.declared.piece.Entry.{Entry}
+use Rattle.task_runtime.specs.declared.task.Task.{Task}
+use Rattle.task_runtime.specs.declared.values.Var.{Var}
 use Rattle.ada_tree.specs.declared.program.Unit as units
 use Rattle.ceil_runtime.proofs.ObjectsKept.{IsAt, IsEntered, entered-by, object-at}
 

@@ -20,25 +20,25 @@ use Rattle.machine.specs.Deeds.{PieceOutcome, deed, done}
 use Rattle.machine.specs.Releases.{Next, after, going, is_waiting, released, serve}
 use Rattle.machine.specs.Effects.{acted, ceiling_of, entry, exit, inside_now, object_unit, outside_now, section_unit, task_unit}
 use Rattle.law_dispatching.proofs.Shared.Acts.{not-served}
-use Rattle.ceil_runtime.specs.Framed.{frames_of}
-use Rattle.ceil_runtime.specs.Doing.{IsActOf}
-use Rattle.ceil_runtime.specs.Effort.{sections_among}
-use Rattle.ceil_runtime.specs.Libraries.{objects_from}
+use Rattle.task_runtime.specs.Framed.{frames_of}
+use Rattle.task_runtime.specs.Doing.{IsActOf}
+use Rattle.task_runtime.specs.Effort.{sections_among}
+use Rattle.task_runtime.specs.Libraries.{objects_from}
 use Rattle.ceil_runtime.specs.Objects.{first_object, lasting, shown, store_of}
 use Rattle.ceil_runtime.specs.Processing.{IsSound, system_by}
-use Rattle.ceil_runtime.specs.Progresses.{behind, kept, piece_of, put_away, started, with_parts}
-use Rattle.ceil_runtime.specs.Readies.{readiness_of}
+use Rattle.task_runtime.specs.Progresses.{behind, kept, piece_of, put_away, started, with_parts}
+use Rattle.task_runtime.specs.Readies.{readiness_of}
 use Rattle.ceil_runtime.specs.Shown.{IsWhole, stores_of}
 use Rattle.ceil_runtime.specs.Stepping.{HasObject, HasOp, HasStopped, HasUnit, IsStep}
-use Rattle.ceil_runtime.specs.Works.{Acts, ActsAs, EffortFalls, Enters, Leaves, task_of}
-use Rattle.ceil_runtime.specs.Written.{system_of}
-use Rattle.ceil_runtime.specs.declared.effects.Act.TheVariants as acts
-use Rattle.ceil_runtime.specs.declared.effects.Deed.{Deed}
+use Rattle.task_runtime.specs.Works.{Acts, ActsAs, EffortFalls, Enters, Leaves, task_of}
+use Rattle.task_runtime.specs.Written.{system_of}
+use Rattle.task_runtime.specs.declared.effects.Act.TheVariants as acts
+use Rattle.task_runtime.specs.declared.effects.Deed.{Deed}
 use Rattle.ceil_runtime.specs.declared.object.Object as objects
-use Rattle.ceil_runtime.specs.declared.piece.Piece.{Piece}
-use Rattle.ceil_runtime.specs.declared.task.Task.{Task}
-use Rattle.ceil_runtime.specs.declared.task.Readiness.{Readiness}
-use Rattle.ceil_runtime.specs.declared.task.Readiness.TheVariants as readies
+use Rattle.task_runtime.specs.declared.piece.Piece.{Piece}
+use Rattle.task_runtime.specs.declared.task.Task.{Task}
+use Rattle.task_runtime.specs.declared.task.Readiness.{Readiness}
+use Rattle.task_runtime.specs.declared.task.Readiness.TheVariants as readies
 use Rattle.ceil_runtime.specs.declared.processor.Machine.{Machine}
 use Rattle.ceil_runtime.specs.declared.processor.Phase.TheVariants.{Effects}
 use Rattle.ceil_runtime.specs.declared.processor.Told.{Told}
@@ -46,13 +46,14 @@ use Rattle.ceil_runtime.specs.declared.processor.Told.TheVariants.{Nothing, One,
 use Rattle.ceil_runtime.proofs.Effected.{order-queued}
 use Rattle.ceil_runtime.proofs.ObjectsKept.{changed-stores, entered-ceiling, entered-unit}
 use Rattle.ceil_runtime.proofs.Processed.{Changed, changed-system, changed-tasks, changed-threads, runs-alike}
-use Rattle.ceil_runtime.proofs.Reached.{asked-unit, inside-falls, inside-going, inside-works, outside-falls, outside-going, outside-works}
-use Rattle.ceil_runtime.proofs.Reached.{nests-inside, nests-outside, unit-before}
+use Rattle.ceil_runtime.proofs.Reached.{asked-unit}
+use Rattle.ceil_runtime.proofs.Reached.{unit-before}
 use Rattle.ceil_runtime.proofs.RequestSteps.{answer-step}
 use Rattle.ceil_runtime.proofs.Sectioned.{left-sound}
 use Rattle.ceil_runtime.proofs.SectionSteps.{entry-step, exit-step}
 use Rattle.ceil_runtime.proofs.Stepped.{IsBeside, effect_state, running-sound}
 use Rattle.ceil_runtime.proofs.StopSteps.{stop-step, stopped-step}
+use Rattle.task_runtime.proofs.Shared.AtWork.{inside-falls, inside-going, inside-works, nests-inside, nests-outside, outside-falls, outside-going, outside-works}
 
 -- an entry that stands behind others leaves their facts
 each-behind : (P : Entry → Type 0) (before : Entry → Bool) (e : Entry) (es : List Entry) → Each P (put_behind before e es) → Each P es

@@ -6,14 +6,14 @@ use Rattle.std.proofs.Common.{ℕ, ◌<◌, ◌≤◌, ap, arith, subst, sym, �
 use Rattle.machine.specs.Deeds.{done}
 use Rattle.machine.specs.Pieces.{Finishing, Idle, Requested}
 use Rattle.ceil_runtime.specs.Acted.{HasActed, with_tasks}
-use Rattle.ceil_runtime.specs.Effort.{effort, sections_among}
+use Rattle.task_runtime.specs.Effort.{effort, sections_among}
 use Rattle.ceil_runtime.specs.Shown.{IsWhole}
-use Rattle.ceil_runtime.specs.Works.{task_of}
-use Rattle.ceil_runtime.specs.Written.{reserve, system_of}
-use Rattle.ceil_runtime.specs.declared.effects.Act.TheVariants.{Silent, Print, Keep, Finish}
+use Rattle.task_runtime.specs.Works.{task_of}
+use Rattle.task_runtime.specs.Written.{reserve, system_of}
+use Rattle.task_runtime.specs.declared.effects.Act.TheVariants.{Silent, Print, Keep, Finish}
 use Rattle.ceil_runtime.specs.declared.processor.Machine.{Machine}
 use Rattle.ceil_runtime.specs.declared.processor.Phase.TheVariants.{Effects}
-use Rattle.ceil_runtime.specs.declared.task.Task.{Task}
+use Rattle.task_runtime.specs.declared.task.Task.{Task}
 
 -- a task whose one piece does nothing has no piece then
 has-acted : (m : Machine) (ts : Vec Task Global) (t t' : Task) → IsWhole m → m.phase ≡ Effects (Some 0) → m.stopped ≡ false

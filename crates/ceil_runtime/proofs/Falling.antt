@@ -11,14 +11,14 @@ use Rattle.std.proofs.lemmas.List.{length-map}
 use Rattle.seq_tree.specs.declared.tree.Costs.{Costs}
 use Rattle.ada_tree.specs.declared.program.Unit as units
 use Rattle.link_queue.specs.Queues.{Entry}
-use Rattle.ceil_runtime.specs.Effort.{most_ends}
+use Rattle.task_runtime.specs.Effort.{most_ends}
 use Rattle.ceil_runtime.specs.Left.{left, ran_effort, sleeper, sleepers}
 use Rattle.ceil_runtime.specs.Processing.{state_by, system_by}
-use Rattle.ceil_runtime.specs.Works.{task_of}
-use Rattle.ceil_runtime.specs.Readies.{readiness_of}
-use Rattle.ceil_runtime.specs.Written.{thread_of}
-use Rattle.ceil_runtime.specs.declared.task.Task as works
-use Rattle.ceil_runtime.specs.declared.task.Readiness.TheVariants as readiness
+use Rattle.task_runtime.specs.Works.{task_of}
+use Rattle.task_runtime.specs.Readies.{readiness_of}
+use Rattle.task_runtime.specs.Written.{thread_of}
+use Rattle.task_runtime.specs.declared.task.Task as works
+use Rattle.task_runtime.specs.declared.task.Readiness.TheVariants as readiness
 use Rattle.ceil_runtime.specs.declared.processor.Phase.{Phase}
 use Rattle.ceil_runtime.specs.declared.processor.Phase.TheVariants.{Effects, Delays, Arriving, Use}
 use Rattle.ceil_runtime.proofs.Processed.{Changed, changed-system, changed-tasks, here-of}

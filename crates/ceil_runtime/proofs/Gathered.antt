@@ -17,14 +17,14 @@ use Rattle.arrivals_tree.specs.Arriving.{durations}
 use Rattle.arrivals_tree.specs.declared.arrivals.WorkList.{WorkList}
 use Rattle.machine.specs.Systems.{thread_by}
 use Rattle.ceil_runtime.specs.Gathering.{Adds, AllThreads, IsThreadOf}
-use Rattle.ceil_runtime.specs.Libraries.{handed, threads_from}
-use Rattle.ceil_runtime.specs.Written.{block_of_thread, form_by, thread_of, timing_of, written_as}
-use Rattle.ceil_runtime.specs.declared.thread.Timing.{Timing}
-use Rattle.ceil_runtime.specs.declared.thread.Timing.TheVariants as timing
-use Rattle.ceil_runtime.specs.declared.thread.Thread.{Thread}
-use Rattle.ceil_runtime.proofs.Blocks.{block-tree}
+use Rattle.task_runtime.specs.Libraries.{handed, threads_from}
+use Rattle.task_runtime.specs.Written.{block_of_thread, form_by, thread_of, timing_of, written_as}
+use Rattle.task_runtime.specs.declared.thread.Timing.{Timing}
+use Rattle.task_runtime.specs.declared.thread.Timing.TheVariants as timing
+use Rattle.task_runtime.specs.declared.thread.Thread.{Thread}
+use Rattle.seq_tree.proofs.Shared.TreeForms.{block-tree}
 use Rattle.ceil_runtime.proofs.Started.{get-push}
-use Rattle.ceil_runtime.proofs.UnitsAt.{get-map, units-at}
+use Rattle.task_runtime.proofs.Shared.UnitsAt.{get-map, units-at}
 
 -- a task that is written as this unit, at its place
 pub record IsTaskAt (lists : List WorkList) (us : List units.Unit) (place : ℕ) (u : units.Unit) (t : Thread) : Type 0 where

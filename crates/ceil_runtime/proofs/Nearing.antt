@@ -6,23 +6,24 @@ use Rattle.seq_tree.specs.declared.tree.Costs.{Costs}
 use Rattle.arrivals_tree.specs.declared.arrivals.Arrival.{Arrival}
 use Rattle.ada_tree.specs.Trees.{unit_of}
 use Rattle.ada_tree.specs.declared.program.Unit as units
-use Rattle.ceil_runtime.specs.Framed.{frames_of}
-use Rattle.ceil_runtime.specs.Callable.{calls_room, libraries_room, objects_room}
+use Rattle.task_runtime.specs.Framed.{frames_of}
+use Rattle.task_runtime.specs.Callable.{calls_room, libraries_room, objects_room}
 use Rattle.std.proofs.lemmas.List.{length-map}
 use Rattle.std.proofs.lemmas.Option.{slice_get-map}
 use Rattle.machine.specs.States as states
-use Rattle.ceil_runtime.specs.Effort.{effort, most_ends, own_vars}
+use Rattle.task_runtime.specs.Effort.{effort, most_ends, own_vars}
 use Rattle.ceil_runtime.specs.Processing.{AllTasks, IsKept, system_by}
 use Rattle.ceil_runtime.specs.Left.{effort_of, ran_effort}
 use Rattle.ceil_runtime.specs.Stepping.{steps_by}
-use Rattle.ceil_runtime.specs.Progressed.{pieces_left}
-use Rattle.ceil_runtime.specs.Libraries.{libraries_from, objects_from}
-use Rattle.ceil_runtime.specs.Works.{task_of}
-use Rattle.ceil_runtime.specs.Written.{system_of, params_of, reserve, thread_of}
-use Rattle.ceil_runtime.specs.declared.task.Task.{Task}
+use Rattle.task_runtime.specs.Progressed.{pieces_left}
+use Rattle.task_runtime.specs.Libraries.{libraries_from, objects_from}
+use Rattle.task_runtime.specs.Works.{task_of}
+use Rattle.task_runtime.specs.Written.{system_of, params_of, reserve, thread_of}
+use Rattle.task_runtime.specs.declared.task.Task.{Task}
 use Rattle.ceil_runtime.specs.declared.processor.Phase.TheVariants.{Effects, Use}
-use Rattle.ceil_runtime.proofs.Frames.{few-frames}
-use Rattle.ceil_runtime.proofs.Starting.{effort-most, few-ends}
+use Rattle.task_runtime.proofs.Frames.{few-frames}
+use Rattle.task_runtime.proofs.Starting.{effort-most, few-ends}
+use Rattle.task_runtime.proofs.Shared.AtWork.{effort-few}
 
 -- the sum of a list by its first number
 fold-from : (a : ℕ) (xs : List ℕ) → fold ◌+◌ a xs ≡ a + fold ◌+◌ 0 xs
@@ -59,12 +60,6 @@ reserve-most until time costs us tasks i t at of =
     let room : calls_room [] (system_of t.progress.stack.thread) ≡ calls_room [] (system_by until costs us tasks) =
     ap (λ vs. libraries_room [] (libraries_from 0 (map unit_of vs)) + objects_room [] (objects_from 0 (map unit_of vs))) of in
     omega (arith, sum-most tasks i t at, room, length-map (params_of t.progress.stack.thread) (λ q. q.name))
-
-pub effort-few : (most : ℕ) (t : Task) → reserve t.progress.stack.thread ≤ most → effort most (task_of t).pieces ≤ most
-effort-few most t enough =
-    let s = t.progress.stack in
-    effort-most most (pieces_left t.progress)
-    (omega (arith, few-ends t.progress.piece (frames_of s), few-frames s.thread (frames_of s) s.fit, enough))
 
 pub ran-few : (until time : ℕ) (costs : Costs) (us : List units.Unit) (tasks : List Task) (ran : Option ℕ) → AllTasks (IsKept until time us) tasks
     → ran_effort (most_ends (system_by until costs us tasks)) (map task_of tasks) ran ≤ most_ends (system_by until costs us tasks)

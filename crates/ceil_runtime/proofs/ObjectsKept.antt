@@ -9,13 +9,13 @@ use Rattle.ada_tree.specs.declared.program.Unit as units
 use Rattle.machine.specs.Systems.{ProtectedUnit, System}
 use Rattle.machine.specs.Effects.{ceiling_of, object_unit}
 use Rattle.machine.specs.States.{Object as InObject}
-use Rattle.ceil_runtime.specs.Fitting.{IsOfObject}
-use Rattle.ceil_runtime.specs.Libraries.{objects_from}
+use Rattle.task_runtime.specs.Fitting.{IsOfObject}
+use Rattle.task_runtime.specs.Libraries.{objects_from}
 use Rattle.ceil_runtime.specs.Objects.{AreObjectsOf, first_object, lasting, shown, store_of}
 use Rattle.ceil_runtime.specs.Processing.{system_by}
 use Rattle.ceil_runtime.specs.declared.object.Object.{Object}
-use Rattle.ceil_runtime.specs.declared.piece.Entry.{Entry}
-use Rattle.ceil_runtime.specs.declared.task.Task.{Task}
+use Rattle.task_runtime.specs.declared.piece.Entry.{Entry}
+use Rattle.task_runtime.specs.declared.task.Task.{Task}
 
 twice : {A B C : Type 0} (g : B → C) (f : A → B) (xs : List A) → map g (map f xs) ≡ map (λ x. g (f x)) xs
 twice g f [] = refl

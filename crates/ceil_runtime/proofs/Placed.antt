@@ -18,11 +18,11 @@ use Rattle.trace_tree.specs.declared.event.Event.TheVariants as event
 use Rattle.trace_tree.specs.Lines.{unit_ops}
 use Rattle.trace_tree.specs.Placed.{IsOp, IsPlaced, IsUnit}
 use Rattle.machine.specs.Systems.{ProtectedUnit, TaskUnit, thread_by, system}
-use Rattle.ceil_runtime.specs.Libraries.{objects_from}
+use Rattle.task_runtime.specs.Libraries.{objects_from}
 use Rattle.ceil_runtime.specs.Processing.{AllTasks, IsKept}
 use Rattle.ceil_runtime.specs.Stepping.{HasObject, HasOp, HasUnit, IsOfTask}
-use Rattle.ceil_runtime.specs.Written.{system_of, thread_of}
-use Rattle.ceil_runtime.specs.declared.task.Task.{Task}
+use Rattle.task_runtime.specs.Written.{system_of, thread_of}
+use Rattle.task_runtime.specs.declared.task.Task.{Task}
 
 -- the unit of a task, where there is one
 abbrev unit_or : ℕ → Option TaskUnit → ℕ

@@ -30,14 +30,14 @@ use Rattle.law_dispatching.proofs.Shared.Heads.{dispatched-head}
 use Rattle.law_dispatching.proofs.Shared.Queued.{queued-kept}
 use Rattle.law_dispatching.proofs.Shared.Running.{running-taken}
 use Rattle.law_dispatching.proofs.Shared.Sleeping.{none-due, sleeping-kept, sleeping-later}
-use Rattle.ceil_runtime.specs.Callable.{CallsAlike}
-use Rattle.ceil_runtime.specs.Libraries.{no_costs}
-use Rattle.ceil_runtime.specs.Written.{system_of}
+use Rattle.task_runtime.specs.Callable.{CallsAlike}
+use Rattle.task_runtime.specs.Libraries.{no_costs}
+use Rattle.task_runtime.specs.Written.{system_of}
 use Rattle.ceil_runtime.specs.Processing.{AreAlike, AllTasks, Follows, IsKept, IsSound, IsWithin, order_of, state_by, system_by, with_task}
-use Rattle.ceil_runtime.specs.Readies.{is_ready}
-use Rattle.ceil_runtime.specs.Works.{IsNested, task_of, used_ticks}
-use Rattle.ceil_runtime.specs.Written.{thread_of}
-use Rattle.ceil_runtime.specs.declared.task.Task.{Task}
+use Rattle.task_runtime.specs.Readies.{is_ready}
+use Rattle.task_runtime.specs.Works.{IsNested, task_of, used_ticks}
+use Rattle.task_runtime.specs.Written.{thread_of}
+use Rattle.task_runtime.specs.declared.task.Task.{Task}
 use Rattle.ceil_runtime.specs.declared.processor.Phase.TheVariants.{Effects, Arriving, Use}
 
 -- the task of an entry, where there is one

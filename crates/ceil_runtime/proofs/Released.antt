@@ -28,19 +28,20 @@ use Rattle.law_dispatching.proofs.Shared.Ranks.{queued-places, ranks-alike}
 use Rattle.law_dispatching.proofs.Shared.Sleeping.{apart-awake, first-due, none-due, sleeping-awake, sleeping-fewer}
 use Rattle.law_dispatching.proofs.Shared.Places.{get-within}
 use Rattle.ceil_runtime.specs.Processing.{HoldsIn, IsKept, IsSound, order_of, state_by, system_by}
-use Rattle.ceil_runtime.specs.Effort.{sections_among}
-use Rattle.ceil_runtime.specs.Progressed.{is_idle, pieces_left}
-use Rattle.ceil_runtime.specs.Readies.{is_ready, readiness_of, rests_as}
-use Rattle.ceil_runtime.specs.Works.{IsNested, task_of}
-use Rattle.ceil_runtime.specs.Written.{timing_of}
-use Rattle.ceil_runtime.specs.declared.thread.Timing.{Timing}
-use Rattle.ceil_runtime.specs.declared.thread.Timing.TheVariants as timing
-use Rattle.ceil_runtime.specs.declared.task.Task.{Task}
-use Rattle.ceil_runtime.specs.declared.task.Readiness as readiness
-use Rattle.ceil_runtime.specs.declared.task.Readiness.TheVariants as readies
+use Rattle.task_runtime.specs.Effort.{sections_among}
+use Rattle.task_runtime.specs.Progressed.{is_idle, pieces_left}
+use Rattle.task_runtime.specs.Readies.{is_ready, readiness_of, rests_as}
+use Rattle.task_runtime.specs.Works.{IsNested, task_of}
+use Rattle.task_runtime.specs.Written.{timing_of}
+use Rattle.task_runtime.specs.declared.thread.Timing.{Timing}
+use Rattle.task_runtime.specs.declared.thread.Timing.TheVariants as timing
+use Rattle.task_runtime.specs.declared.task.Task.{Task}
+use Rattle.task_runtime.specs.declared.task.Readiness as readiness
+use Rattle.task_runtime.specs.declared.task.Readiness.TheVariants as readies
 use Rattle.ceil_runtime.specs.declared.processor.Phase.{Phase}
 use Rattle.ceil_runtime.specs.declared.processor.Phase.TheVariants.{Delays, Arriving}
 use Rattle.ceil_runtime.proofs.Processed.{changed-alike, Changed, changed-all, changed-length, changed-tasks, here-of, step-run}
+use Rattle.task_runtime.proofs.Shared.AtWork.{going-inside}
 
 -- what a task that goes on is dispatched by
 pub going-active : (costs : Costs) (vars : Variables) (ps : List Piece) (t : states.Task) → (going costs vars ps t).active ≡ t.active
@@ -61,11 +62,6 @@ going-next costs vars (p ∷ ps) t = refl
 
 pub released-used : (costs : Costs) (t : states.Task) → (released costs t).used ≡ 0
 released-used costs t = going-used costs _ _ _
-
--- a task that is released is inside no section
-pub going-inside : (costs : Costs) (vars : Variables) (ps : List Piece) (t : states.Task) → (going costs vars ps t).inside ≡ t.inside
-going-inside costs vars [] t = refl
-going-inside costs vars (p ∷ ps) t = refl
 
 pub released-nested : (costs : Costs) (t : Task) → is_ready t.readiness ≡ false → IsNested (task_of t) → IsNested (released costs (task_of t))
 released-nested costs t rests h =

@@ -22,16 +22,16 @@ use Rattle.law_dispatching.specs.Renumbering.{DifferInOrders}
 use Rattle.law_dispatching.proofs.Shared.Acts.{go-queued, goes-active, other-waits, goes-readiness, outside-readiness, release-queued, served}
 use Rattle.law_dispatching.proofs.Shared.Places.{get-changed, get-other}
 use Rattle.law_dispatching.proofs.Shared.Queued.{queued-kept}
-use Rattle.ceil_runtime.specs.Effort.{effort, most_ends, sections_among}
+use Rattle.task_runtime.specs.Effort.{effort, most_ends, sections_among}
 use Rattle.ceil_runtime.specs.Left.{sleeper}
 use Rattle.ceil_runtime.specs.Processing.{IsKept, IsSound, order_of, state_by, system_by}
-use Rattle.ceil_runtime.specs.Readies.{readiness_of}
+use Rattle.task_runtime.specs.Readies.{readiness_of}
 use Rattle.ceil_runtime.specs.Shown.{IsWhole, stores_of}
 use Rattle.ceil_runtime.specs.Stepping.{AreOfTask, Ends, IsStep}
-use Rattle.ceil_runtime.specs.Works.{EffortFalls, IsNested, task_of}
-use Rattle.ceil_runtime.specs.Written.{reserve}
-use Rattle.ceil_runtime.specs.declared.task.Task.{Task}
-use Rattle.ceil_runtime.specs.declared.task.Readiness.TheVariants as readies
+use Rattle.task_runtime.specs.Works.{EffortFalls, IsNested, task_of}
+use Rattle.task_runtime.specs.Written.{reserve}
+use Rattle.task_runtime.specs.declared.task.Task.{Task}
+use Rattle.task_runtime.specs.declared.task.Readiness.TheVariants as readies
 use Rattle.ceil_runtime.specs.declared.processor.Machine.{Machine}
 use Rattle.ceil_runtime.specs.declared.processor.Phase.TheVariants.{Effects}
 use Rattle.ceil_runtime.specs.declared.processor.Told.TheVariants.{Nothing, Two}

@@ -16,8 +16,8 @@ use Rattle.ceil_runtime.specs.Left.{sleeper}
 use Rattle.ceil_runtime.specs.Processing.{IsSound, state_by, system_by}
 use Rattle.ceil_runtime.specs.Shown.{IsWhole, stores_of}
 use Rattle.ceil_runtime.specs.Stepping.{AreOfTask, Ends, IsStep, told_of}
-use Rattle.ceil_runtime.specs.Works.{EffortFalls, IsNested, task_of}
-use Rattle.ceil_runtime.specs.declared.task.Task.{Task}
+use Rattle.task_runtime.specs.Works.{EffortFalls, IsNested, task_of}
+use Rattle.task_runtime.specs.declared.task.Task.{Task}
 use Rattle.ceil_runtime.specs.declared.processor.Machine.{Machine}
 use Rattle.ceil_runtime.specs.declared.processor.Phase.TheVariants.{Effects}
 use Rattle.ceil_runtime.specs.declared.processor.Told.{Told}

@@ -18,21 +18,22 @@ use Rattle.law_dispatching.proofs.Shared.Places.{get-within}
 use Rattle.law_dispatching.proofs.Shared.Queued.{in-new, in-put}
 use Rattle.law_dispatching.proofs.Shared.Ranks.{length-places}
 use Rattle.ceil_runtime.specs.Processing.{AreAlike, IsKept, IsSound, state_by, system_by}
-use Rattle.ceil_runtime.specs.Progressed.{vars_left, pieces_left}
-use Rattle.ceil_runtime.specs.Readies.{gate_of, readiness_of}
-use Rattle.ceil_runtime.specs.Starts.{AreOpen, CanStart, IsFresh, first_slept, opened, system_for}
-use Rattle.ceil_runtime.specs.Insides.{inside_of}
+use Rattle.task_runtime.specs.Progressed.{vars_left, pieces_left}
+use Rattle.task_runtime.specs.Readies.{gate_of, readiness_of}
+use Rattle.ceil_runtime.specs.Starts.{AreOpen, CanStart, first_slept, opened, system_for}
+use Rattle.task_runtime.specs.Works.{IsFresh}
+use Rattle.task_runtime.specs.Insides.{inside_of}
 use Rattle.ada_tree.specs.Trees.{unit_of}
 use Rattle.ceil_runtime.specs.Gathering.{AllThreads, IsThreadOf}
-use Rattle.ceil_runtime.specs.Libraries.{no_costs, objects_from, system_from, threads_from}
+use Rattle.task_runtime.specs.Libraries.{no_costs, objects_from, system_from, threads_from}
 use Rattle.arrivals_tree.specs.declared.arrivals.WorkList.{WorkList}
 use Rattle.std.proofs.lemmas.Option.{slice_get-map}
-use Rattle.ceil_runtime.specs.Works.{IsNested, task_of}
-use Rattle.ceil_runtime.specs.Written.{system_of, thread_of, timing_of}
-use Rattle.ceil_runtime.specs.declared.thread.Thread.{Thread}
-use Rattle.ceil_runtime.specs.declared.thread.Timing.{Timing}
-use Rattle.ceil_runtime.specs.declared.thread.Timing.TheVariants as timing
-use Rattle.ceil_runtime.specs.declared.task.Task.{Task}
+use Rattle.task_runtime.specs.Works.{IsNested, task_of}
+use Rattle.task_runtime.specs.Written.{system_of, thread_of, timing_of}
+use Rattle.task_runtime.specs.declared.thread.Thread.{Thread}
+use Rattle.task_runtime.specs.declared.thread.Timing.{Timing}
+use Rattle.task_runtime.specs.declared.thread.Timing.TheVariants as timing
+use Rattle.task_runtime.specs.declared.task.Task.{Task}
 use Rattle.ceil_runtime.specs.declared.processor.Phase.TheVariants.{Effects}
 
 module _ {A : Type 0} where

@@ -17,21 +17,21 @@ use Rattle.machine.specs.Dispatch.{put_last}
 use Rattle.law_dispatching.specs.Queueing.{places}
 use Rattle.law_dispatching.specs.Renumbering.{DifferInOrders}
 use Rattle.ada_tree.specs.Trees.{unit_of}
-use Rattle.ceil_runtime.specs.Called.{AreCallees, AreCalleesOf}
-use Rattle.ceil_runtime.specs.Libraries.{system_from}
-use Rattle.ceil_runtime.specs.Doing.{act_of}
-use Rattle.ceil_runtime.specs.Effort.{most_ends}
-use Rattle.ceil_runtime.specs.Readies.{readiness_of}
-use Rattle.ceil_runtime.specs.Written.{system_of, reserve}
-use Rattle.ceil_runtime.specs.declared.effects.Act.{Act}
-use Rattle.ceil_runtime.specs.declared.effects.Act.TheVariants.{Finish}
-use Rattle.ceil_runtime.specs.declared.task.Readiness.TheVariants as readies
+use Rattle.task_runtime.specs.Called.{AreCallees, AreCalleesOf}
+use Rattle.task_runtime.specs.Libraries.{system_from}
+use Rattle.task_runtime.specs.Doing.{act_of}
+use Rattle.task_runtime.specs.Effort.{most_ends}
+use Rattle.task_runtime.specs.Readies.{readiness_of}
+use Rattle.task_runtime.specs.Written.{system_of, reserve}
+use Rattle.task_runtime.specs.declared.effects.Act.{Act}
+use Rattle.task_runtime.specs.declared.effects.Act.TheVariants.{Finish}
+use Rattle.task_runtime.specs.declared.task.Readiness.TheVariants as readies
 use Rattle.ceil_runtime.specs.Left.{left, ran_effort, sleeper, sleepers}
 use Rattle.ceil_runtime.specs.Processing.{Follows, IsSound, order_of, state_by, system_by}
 use Rattle.ceil_runtime.specs.Shown.{IsWhole, running_of, stores_of}
 use Rattle.ceil_runtime.specs.Stepping.{AreOfTask, Ends, HasUnit, IsNear, IsStep, steps_by, steps_left, told_of}
-use Rattle.ceil_runtime.specs.Works.{Acts, EffortFalls, IsNested, task_of}
-use Rattle.ceil_runtime.specs.declared.task.Task.{Task}
+use Rattle.task_runtime.specs.Works.{Acts, EffortFalls, IsNested, task_of}
+use Rattle.task_runtime.specs.declared.task.Task.{Task}
 use Rattle.ceil_runtime.specs.declared.processor.Machine.{Machine}
 use Rattle.ceil_runtime.specs.declared.processor.Phase.{Phase}
 use Rattle.ceil_runtime.specs.declared.processor.Phase.TheVariants.{Effects, Delays}

@@ -13,10 +13,10 @@ use Rattle.machine.specs.Effects.{acted, ceiling_of, entry, section_unit}
 use Rattle.ceil_runtime.specs.Processing.{Follows, IsSound, state_by, system_by}
 use Rattle.ceil_runtime.specs.Shown.{IsWhole, running_of, stores_of}
 use Rattle.ceil_runtime.specs.Stepping.{AreOfTask, Ends, HasStopped, IsStep}
-use Rattle.ceil_runtime.specs.Works.{task_of}
+use Rattle.task_runtime.specs.Works.{task_of}
 use Rattle.ceil_runtime.specs.Left.{Falls}
 use Rattle.ceil_runtime.specs.Objects.{store_of}
-use Rattle.ceil_runtime.specs.declared.task.Task.{Task}
+use Rattle.task_runtime.specs.declared.task.Task.{Task}
 use Rattle.ceil_runtime.specs.declared.processor.Machine.{Machine}
 use Rattle.ceil_runtime.specs.declared.processor.Phase.TheVariants.{Effects}
 use Rattle.ceil_runtime.specs.declared.processor.Told.TheVariants.{One}

@@ -2,15 +2,15 @@
 -- were before the piece.
 use Rattle.std.specs.Prelude.{◌≡◌, ℕ, ◌+◌, ◌≤◌, false, min, set, slice_get, Some, Vec}
 use Rattle.std.specs.declared.alloc.Global.{Global}
-use Rattle.ceil_runtime.specs.Doing.{IsAmong, act_of}
-use Rattle.ceil_runtime.specs.Effort.{sections_among}
+use Rattle.task_runtime.specs.Doing.{IsAmong, act_of}
+use Rattle.task_runtime.specs.Effort.{sections_among}
 use Rattle.ceil_runtime.specs.Shown.{IsWhole}
-use Rattle.ceil_runtime.specs.Works.{Acts, EffortFalls, StaysInside, task_of}
-use Rattle.ceil_runtime.specs.Written.{system_of}
-use Rattle.ceil_runtime.specs.declared.effects.Act.{Act}
+use Rattle.task_runtime.specs.Works.{Acts, EffortFalls, StaysInside, task_of}
+use Rattle.task_runtime.specs.Written.{system_of}
+use Rattle.task_runtime.specs.declared.effects.Act.{Act}
 use Rattle.ceil_runtime.specs.declared.processor.Machine.{Machine}
 use Rattle.ceil_runtime.specs.declared.processor.Phase.TheVariants.{Effects}
-use Rattle.ceil_runtime.specs.declared.task.Task.{Task}
+use Rattle.task_runtime.specs.declared.task.Task.{Task}
 
 -- a machine with these tasks
 abbrev pub with_tasks : Vec Task Global → Machine → Machine

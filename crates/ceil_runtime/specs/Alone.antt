@@ -9,8 +9,8 @@ use Rattle.ceil_runtime.specs.Shown.{IsWhole, running_of}
 use Rattle.ceil_runtime.specs.Stepping.{steps_left}
 use Rattle.ceil_runtime.specs.declared.processor.Machine.{Machine}
 use Rattle.ceil_runtime.specs.declared.processor.Phase.TheVariants.{Effects}
-use Rattle.ceil_runtime.specs.declared.task.Task.{Task}
-use Rattle.ceil_runtime.specs.declared.thread.Thread.{Thread}
+use Rattle.task_runtime.specs.declared.task.Task.{Task}
+use Rattle.task_runtime.specs.declared.thread.Thread.{Thread}
 
 -- up to this time nothing but the task at this place is due: no release, no arrival and no horizon comes before it
 pub record IsAlone (m : Machine) (i limit : ℕ) : Type 0 where

@@ -6,9 +6,9 @@ use Rattle.arrivals_tree.specs.declared.arrivals.WorkList.{WorkList}
 use Rattle.ada_tree.specs.Trees.{unit_of}
 use Rattle.ada_tree.specs.declared.program.Unit as units
 use Rattle.machine.specs.Systems.{thread_by}
-use Rattle.ceil_runtime.specs.Libraries.{handed}
-use Rattle.ceil_runtime.specs.Written.{thread_of, written_as}
-use Rattle.ceil_runtime.specs.declared.thread.Thread.{Thread}
+use Rattle.task_runtime.specs.Libraries.{handed}
+use Rattle.task_runtime.specs.Written.{thread_of, written_as}
+use Rattle.task_runtime.specs.declared.thread.Thread.{Thread}
 
 -- a fact of each task
 abbrev pub AllThreads : (Thread → Type 0) → List Thread → Type 0

@@ -6,7 +6,7 @@ use Rattle.trace_tree.specs.declared.event.Event.{Event}
 use Rattle.machine.specs.Pieces.{Piece, Printing, Finishing}
 use Rattle.machine.specs.States.{State, Task, Phase, Effects, Delays, Arriving, Use, Readiness, Ready, Waiting, Asleep}
 use Rattle.machine.specs.Meanings.{Running}
-use Rattle.ceil_runtime.specs.Effort.{effort, most_ends}
+use Rattle.task_runtime.specs.Effort.{effort, most_ends}
 
 -- twice the events that the first piece tells
 abbrev pub first_tells : List Piece → ℕ

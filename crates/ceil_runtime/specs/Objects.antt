@@ -6,8 +6,8 @@ use Rattle.seq_tree.specs.declared.tree.Datum.{Datum}
 use Rattle.ada_tree.specs.Trees.{unit_of}
 use Rattle.ada_tree.specs.declared.program.Unit as units
 use Rattle.machine.specs.Systems.{ProtectedUnit, object_by}
-use Rattle.ceil_runtime.specs.Libraries.{objects_from}
-use Rattle.ceil_runtime.specs.Stacked.{vars_of}
+use Rattle.task_runtime.specs.Libraries.{objects_from}
+use Rattle.task_runtime.specs.Stacked.{vars_of}
 use Rattle.ceil_runtime.specs.declared.object.Object.{Object}
 
 -- an object: where it stands among the units, what is written of it, how many operations it has, and its data

@@ -13,14 +13,14 @@ use Rattle.machine.specs.Systems.{System}
 use Rattle.machine.specs.States as states
 use Rattle.machine.specs.Meanings.{Running, Rest}
 use Rattle.law_dispatching.specs.Queueing.{AreQueued, AreSleeping, places}
-use Rattle.ceil_runtime.specs.Libraries.{libraries_from, objects_from, no_costs}
-use Rattle.ceil_runtime.specs.Readies.{is_ready}
-use Rattle.ceil_runtime.specs.Doing.{IsDeed}
-use Rattle.ceil_runtime.specs.declared.effects.Deed.{Deed}
-use Rattle.ceil_runtime.specs.Works.{ActsAs, IsNested, task_of}
-use Rattle.ceil_runtime.specs.Written.{system_of, thread_of}
-use Rattle.ceil_runtime.specs.declared.task.Task.{Task}
-use Rattle.ceil_runtime.specs.declared.piece.Piece.{Piece}
+use Rattle.task_runtime.specs.Libraries.{libraries_from, objects_from, no_costs}
+use Rattle.task_runtime.specs.Readies.{is_ready}
+use Rattle.task_runtime.specs.Doing.{IsDeed}
+use Rattle.task_runtime.specs.declared.effects.Deed.{Deed}
+use Rattle.task_runtime.specs.Works.{ActsAs, IsNested, task_of}
+use Rattle.task_runtime.specs.Written.{system_of, thread_of}
+use Rattle.task_runtime.specs.declared.task.Task.{Task}
+use Rattle.task_runtime.specs.declared.piece.Piece.{Piece}
 use Rattle.ceil_runtime.specs.declared.processor.Phase.{Phase}
 use Rattle.ceil_runtime.specs.declared.processor.Phase.TheVariants.{Effects, Delays, Arriving, Use}
 

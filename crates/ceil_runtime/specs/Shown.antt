@@ -4,7 +4,7 @@ use Rattle.std.specs.Prelude.{◌≡◌, List, map, None}
 use Rattle.seq_tree.specs.Variables.{Variables}
 use Rattle.machine.specs.Meanings.{Running}
 use Rattle.machine.specs.States.{State, Effects}
-use Rattle.ceil_runtime.specs.Called.{AreCalleesOf}
+use Rattle.task_runtime.specs.Called.{AreCalleesOf}
 use Rattle.ceil_runtime.specs.Objects.{store_of}
 use Rattle.ceil_runtime.specs.Processing.{IsSound, state_by, system_by}
 use Rattle.ceil_runtime.specs.declared.processor.Machine.{Machine}

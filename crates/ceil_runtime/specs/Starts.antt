@@ -12,15 +12,15 @@ use Rattle.machine.specs.Meanings.{Running}
 use Rattle.machine.specs.States.{first_task, first_time, first_wait, opening, shut}
 use Rattle.law_dispatching.specs.Queueing.{AreSleeping}
 use Rattle.ceil_runtime.specs.Processing.{AllTasks, IsKept}
-use Rattle.ceil_runtime.specs.Libraries.{libraries_from, objects_from}
-use Rattle.ceil_runtime.specs.Progressed.{pieces_left, vars_left}
-use Rattle.ceil_runtime.specs.Readies.{gate_of, readiness_of}
-use Rattle.ceil_runtime.specs.Works.{task_of}
-use Rattle.ceil_runtime.specs.Written.{CanRun, durations_of, thread_of, timing_of}
-use Rattle.ceil_runtime.specs.declared.thread.Thread.{Thread}
-use Rattle.ceil_runtime.specs.declared.thread.Timing.{Timing}
-use Rattle.ceil_runtime.specs.declared.thread.Timing.TheVariants.{Periodic, Requested}
-use Rattle.ceil_runtime.specs.declared.task.Task.{Task}
+use Rattle.task_runtime.specs.Libraries.{libraries_from, objects_from}
+use Rattle.task_runtime.specs.Progressed.{pieces_left, vars_left}
+use Rattle.task_runtime.specs.Readies.{gate_of, readiness_of}
+use Rattle.task_runtime.specs.Works.{task_of}
+use Rattle.task_runtime.specs.Written.{CanRun, durations_of, thread_of, timing_of}
+use Rattle.task_runtime.specs.declared.thread.Thread.{Thread}
+use Rattle.task_runtime.specs.declared.thread.Timing.{Timing}
+use Rattle.task_runtime.specs.declared.thread.Timing.TheVariants.{Periodic, Requested}
+use Rattle.task_runtime.specs.declared.task.Task.{Task}
 
 -- what runs, where these are the tasks
 abbrev pub system_for : ℕ → Costs → List units.Unit → List Thread → System
@@ -38,20 +38,6 @@ pub record CanStart (us : List units.Unit) (t : Thread) : Type 0 where
   pub units : t.units.now ≡ us
   pub offset : first_time (timing_of t.timing) < 2 ^ 32
   pub long : has_nothing (durations_of t) ≡ false
-
--- a task before its first activation
-pub record IsFresh (t : Task) (th : Thread) : Type 0 where
-  pub thread : t.progress.stack.thread ≡ th
-  pub vars : vars_left t.progress ≡ written th.«data».now
-  pub pieces : pieces_left t.progress ≡ []
-  pub rests : readiness_of t.readiness (first_time (timing_of th.timing)) ≡ first_wait (timing_of th.timing)
-  pub next : t.next ≡ first_time (timing_of th.timing)
-  pub left : t.left ≡ 0
-  pub used : t.used ≡ 0
-  pub works : t.works ≡ 0
-  pub gate : gate_of t.gate ≡ shut
-  pub active : t.active ≡ th.priority
-  pub inside : t.inside.items ≡ []
 
 -- these tasks at the opening, before all effects
 abbrev pub opened : ℕ → Costs → List units.Unit → List Arrival → List Thread → Running

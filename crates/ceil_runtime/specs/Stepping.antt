@@ -5,13 +5,13 @@ use Rattle.arrivals_tree.specs.declared.arrivals.Arrival.{Arrival}
 use Rattle.trace_tree.specs.declared.event.Event.{Event}
 use Rattle.trace_tree.specs.declared.event.Event.TheVariants as event
 use Rattle.machine.specs.Systems.{ProtectedUnit}
-use Rattle.ceil_runtime.specs.Written.{system_of}
+use Rattle.task_runtime.specs.Written.{system_of}
 use Rattle.ceil_runtime.specs.Processing.{Follows, system_by}
 use Rattle.ceil_runtime.specs.Left.{Falls, ran_effort}
 use Rattle.ceil_runtime.specs.Shown.{IsWhole, running_of}
-use Rattle.ceil_runtime.specs.Effort.{most_ends}
-use Rattle.ceil_runtime.specs.Works.{task_of}
-use Rattle.ceil_runtime.specs.declared.task.Task.{Task}
+use Rattle.task_runtime.specs.Effort.{most_ends}
+use Rattle.task_runtime.specs.Works.{task_of}
+use Rattle.task_runtime.specs.declared.task.Task.{Task}
 use Rattle.ceil_runtime.specs.declared.processor.Phase.{Phase}
 use Rattle.ceil_runtime.specs.declared.processor.Phase.TheVariants.{Effects, Delays, Arriving, Use}
 use Rattle.ceil_runtime.specs.declared.processor.Machine.{Machine}

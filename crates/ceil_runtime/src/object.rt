@@ -1,9 +1,9 @@
 ghost use Rattle.std.specs.Prelude.{◌≡◌, ◌≤◌, ◌<◌, ◌^◌, length, map, take, vec_len, vec_capacity};
-ghost use Rattle.ceil_runtime.specs.Fitting.{names_of};
-ghost use Rattle.ceil_runtime.specs.Stacked.{vars_of};
+ghost use Rattle.task_runtime.specs.Fitting.{names_of};
+ghost use Rattle.task_runtime.specs.Stacked.{vars_of};
 
-use crate::values::Var;
 use seq_tree::Datum;
+use task_runtime::Var;
 
 /// A protected object at work: its place among the units, its ceiling, how many operations it has, its data as they are written, and
 /// its data now. A task that is inside has them among its variables meanwhile.

@@ -1,15 +1,15 @@
 ghost use Rattle.std.specs.Prelude.{◌≡◌, ◌+◌, ◌++◌, ◌≤◌, ◌<◌, ◌^◌, length, map, vec_len, vec_capacity, IfOk};
 ghost use Rattle.seq_tree.specs.Variables.{written};
-ghost use Rattle.ceil_runtime.specs.Stacked.{vars_of};
+ghost use Rattle.task_runtime.specs.Stacked.{vars_of};
 ghost use Rattle.ada_tree.specs.Trees.{unit_of};
-ghost use Rattle.ceil_runtime.specs.Libraries.{objects_from};
+ghost use Rattle.task_runtime.specs.Libraries.{objects_from};
 ghost use Rattle.ceil_runtime.specs.Objects.{AddsObject, first_object, shown};
 
 use crate::object::Object;
-use crate::values::Var;
 use ada_tree::{Form, Unit};
 use seq_tree::{Datum, NoMemory};
 use std::alloc::Global;
+use task_runtime::Var;
 
 /// Adds the data of an object at their written values.
 fn fill_data<'a>(vars: &mut Vec<Var<'a>>, data: &'a [Datum])

@@ -6,24 +6,20 @@ ghost use Rattle.seq_tree.specs.Lists.{first_where};
 ghost use Rattle.law_dispatching.specs.Jumping.{NoArrival};
 ghost use Rattle.ceil_runtime.specs.Starts.{first_slept};
 ghost use Rattle.ceil_runtime.specs.Turns.{last_turn};
-ghost use Rattle.ceil_runtime.specs.Works.{task_of};
+ghost use Rattle.task_runtime.specs.Works.{task_of};
 ghost use Rattle.ceil_runtime.specs.Objects.{AreObjectsOf};
 ghost use Rattle.ceil_runtime.specs.Processing.{IsBelow, IsWithin};
 
 use crate::buffer::EventBuf;
-use crate::callees::Callees;
-use crate::effects::{Act, Deed};
-use crate::inside::Section;
 use crate::object::Object;
 use crate::objects::objects_in;
-use crate::piece::{Entry, Piece};
-use crate::task::{Readiness, Task};
-use crate::thread::{Thread, Timing, ceiling_of, threads_in};
+use crate::threads::threads_in;
 use ada_tree::{AdaProgram, Unit};
 use arrivals_tree::{Arrival, Arrivals};
 use link_queue::Links;
 use seq_tree::{Costs, NoMemory};
 use std::alloc::Global;
+use task_runtime::{Act, Callees, Deed, Entry, Piece, Readiness, Section, Task, Thread, Timing, ceiling_of};
 use trace_tree::Event;
 
 /// What an advance of the machine came to.
@@ -250,9 +246,9 @@ impl<'a> Machine<'a> {
     ghost use Rattle.machine.specs.Meanings.{Tells, begun};
     ghost use Rattle.trace_tree.specs.declared.event.Event.{Event};
     ghost use Rattle.ceil_runtime.specs.Replayable.{IsReplayable};
-    ghost use Rattle.ceil_runtime.specs.Libraries.{no_costs};
+    ghost use Rattle.task_runtime.specs.Libraries.{no_costs};
     ghost use Rattle.ceil_runtime.specs.Starts.{CanStart, opened, system_for};
-    ghost use Rattle.ceil_runtime.specs.Written.{system_of};
+    ghost use Rattle.task_runtime.specs.Written.{system_of};
     ghost use Rattle.ceil_runtime.specs.Gathering.{AllThreads};
     ghost use Rattle.law_dispatching.specs.Queueing.{AreQueued, AreSleeping};
     ghost use Rattle.ceil_runtime.specs.Left.{Falls, left};
@@ -264,14 +260,14 @@ impl<'a> Machine<'a> {
     ghost use Rattle.trace_tree.specs.Placed.{IsPlaced};
     ghost use Rattle.ceil_runtime.specs.Processing.{Follows, HasNoPiece, HasPiece, IsDue, IsReaching};
     ghost use Rattle.trace_tree.specs.declared.event.Event.TheVariants as event;
-    ghost use Rattle.ceil_runtime.specs.declared.task.Task.{Task};
+    ghost use Rattle.task_runtime.specs.declared.task.Task.{Task};
     ghost use Rattle.std.specs.Prelude.{slice_get};
     ghost use Rattle.ceil_runtime.specs.Shown.{IsSettled, IsWhole, running_of};
     ghost use Rattle.std.specs.Prelude.{Vec};
     ghost use Rattle.std.specs.declared.alloc.Global.{Global};
     ghost use Rattle.ceil_runtime.specs.Acted.{HasActed, with_tasks};
     ghost use Rattle.ceil_runtime.specs.Alone.{GoesAlone, IsAlone};
-    ghost use Rattle.ceil_runtime.specs.Doing.{is_silent};
+    ghost use Rattle.task_runtime.specs.Doing.{is_silent};
     ghost use Rattle.ceil_runtime.specs.Stepping.{AreOfTask, Ends, HasStopped, IsNear, IsStep, steps_left, told_of};
 
     /// The opening of a program under arrivals that are accepted for it. The one error is want of memory: a failed allocation, and two

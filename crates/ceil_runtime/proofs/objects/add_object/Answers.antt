@@ -1,8 +1,8 @@
 use Rattle.std.proofs.Common.{◌≡◌, ◌∙◌, ap, arith, refl, sym, length, List, ◌++◌, map, take, vec_len}
-use Rattle.ceil_runtime.specs.Fitting.{names_of}
+use Rattle.task_runtime.specs.Fitting.{names_of}
 use Rattle.seq_tree.specs.Variables.{written}
-use Rattle.ceil_runtime.specs.Stacked.{vars_of}
-use Rattle.ceil_runtime.specs.declared.values.Var.{Var}
+use Rattle.task_runtime.specs.Stacked.{vars_of}
+use Rattle.task_runtime.specs.declared.values.Var.{Var}
 use Rattle.ceil_runtime.proofs.ObjectsFound.{adds-nothing, data-names}
 use Rattle.ceil_runtime.proofs.objects.add_object.Goals as goal
 

@@ -1,6 +1,6 @@
 use Rattle.std.proofs.Common.{◌≡◌, ◌≤◌, ◌+◌, ◌++◌, length, drop, vec_capacity, vec_len}
 use Rattle.seq_tree.specs.Variables.{written}
-use Rattle.ceil_runtime.specs.Stacked.{vars_of}
+use Rattle.task_runtime.specs.Stacked.{vars_of}
 use Rattle.ceil_runtime.proofs.objects.fill_data.Given as goal
 
 -- the data from here on are variables

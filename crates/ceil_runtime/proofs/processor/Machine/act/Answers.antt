@@ -5,17 +5,18 @@ use Rattle.seq_tree.specs.Lists.{change}
 use Rattle.machine.specs.Releases.{Next, going}
 use Rattle.machine.specs.Deeds as deeds
 use Rattle.ceil_runtime.specs.Processing.{system_by}
-use Rattle.ceil_runtime.specs.Works.{kept_value, opened_now, task_of}
-use Rattle.ceil_runtime.specs.Written.{system_of}
-use Rattle.ceil_runtime.specs.declared.effects.Deed.TheVariants.{Own}
-use Rattle.ceil_runtime.specs.declared.effects.Act.TheVariants.{Silent, Print}
+use Rattle.task_runtime.specs.Works.{kept_value, opened_now, task_of}
+use Rattle.task_runtime.specs.Written.{system_of}
+use Rattle.task_runtime.specs.declared.effects.Deed.TheVariants.{Own}
+use Rattle.task_runtime.specs.declared.effects.Act.TheVariants.{Silent, Print}
 use Rattle.ceil_runtime.specs.declared.processor.Told.TheVariants.{Nothing, One}
 use Rattle.trace_tree.specs.declared.event.Event.TheVariants as event
 use Rattle.ceil_runtime.proofs.ActedLaws.{same-step}
 use Rattle.ceil_runtime.proofs.Processed.{runs-alike}
-use Rattle.ceil_runtime.proofs.Reached.{among-tasks, nests-going, reached-act, stays-own}
+use Rattle.ceil_runtime.proofs.Reached.{among-tasks}
 use Rattle.ceil_runtime.proofs.RequestSteps.{gate-step}
 use Rattle.ceil_runtime.proofs.Stepped.{effect_state, going-step, running-sound, task-callees}
+use Rattle.task_runtime.proofs.Shared.AtWork.{nests-going, reached-act, stays-own}
 use Rattle.ceil_runtime.proofs.processor.Machine.act.Goals as goal
 
 pub act-act-requires-clause-few : goal.act-act-requires-clause-few

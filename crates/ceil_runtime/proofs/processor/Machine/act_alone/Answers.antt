@@ -1,6 +1,6 @@
 use Rattle.std.proofs.Common.{length, refl, arith}
 use Rattle.std.proofs.lemmas.Option.{slice_get_read}
-use Rattle.ceil_runtime.specs.Written.{system_of}
+use Rattle.task_runtime.specs.Written.{system_of}
 use Rattle.ceil_runtime.proofs.Alone.{silent-goes, silent-outside}
 use Rattle.ceil_runtime.proofs.Stepped.{running-sound, task-callees}
 use Rattle.ceil_runtime.proofs.processor.Machine.act_alone.Goals as goal

@@ -1,7 +1,7 @@
 use Rattle.std.proofs.Common.{length, refl, arith, sym, ◌∙◌, subst}
 use Rattle.std.proofs.lemmas.Option.{same_Some, slice_get_read}
 use Rattle.ceil_runtime.specs.Processing.{IsBelow}
-use Rattle.ceil_runtime.specs.declared.task.Task.{Task}
+use Rattle.task_runtime.specs.declared.task.Task.{Task}
 use Rattle.ceil_runtime.proofs.Alone.{asleep-from, each-most}
 use Rattle.ceil_runtime.proofs.Stepped.{running-sound}
 use Rattle.ceil_runtime.proofs.processor.Machine.alone_until.Goals as goal

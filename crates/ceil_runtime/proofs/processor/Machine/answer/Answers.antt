@@ -1,7 +1,7 @@
 use Rattle.std.proofs.Common.{sym, ◌∙◌, ap, arith, refl, length, set, length-set}
 use Rattle.ceil_runtime.specs.Acted.{with_tasks}
-use Rattle.ceil_runtime.specs.Readies.{is_ready}
-use Rattle.ceil_runtime.specs.declared.effects.Act.TheVariants.{Ended}
+use Rattle.task_runtime.specs.Readies.{is_ready}
+use Rattle.task_runtime.specs.declared.effects.Act.TheVariants.{Ended}
 use Rattle.ceil_runtime.proofs.ActedLaws.{acted-found, acted-within, asked-at, asked-free, asked-same, asked-sound, asked-there, asked-within}
 use Rattle.ceil_runtime.proofs.EntrySteps.{answered-step, same-put, unserved-step, waits-open}
 use Rattle.ceil_runtime.proofs.Stepped.{running-sound}

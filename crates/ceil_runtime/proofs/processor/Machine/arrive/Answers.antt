@@ -9,15 +9,15 @@ use Rattle.link_queue.specs.Queues.{at_tail}
 use Rattle.machine.specs.Releases.{released}
 use Rattle.machine.specs.States.{State}
 use Rattle.machine.specs.Systems.{System}
-use Rattle.ceil_runtime.specs.Effort.{most_ends}
+use Rattle.task_runtime.specs.Effort.{most_ends}
 use Rattle.machine.specs.States.{Task as Task'}
 use Rattle.ceil_runtime.specs.Processing.{Follows, IsSound, state_by, system_by}
-use Rattle.ceil_runtime.specs.Readies.{is_ready}
+use Rattle.task_runtime.specs.Readies.{is_ready}
 use Rattle.ceil_runtime.specs.Shown.{running_of, stores_of}
-use Rattle.ceil_runtime.specs.Works.{asked, task_of}
+use Rattle.task_runtime.specs.Works.{asked, task_of}
 use Rattle.ceil_runtime.specs.declared.processor.Phase.{Phase}
 use Rattle.ceil_runtime.specs.declared.processor.Phase.TheVariants.{Arriving}
-use Rattle.ceil_runtime.specs.declared.task.Readiness.TheVariants as readies
+use Rattle.task_runtime.specs.declared.task.Readiness.TheVariants as readies
 use Rattle.ceil_runtime.proofs.Arrived.{answered-differs, answered-run, answered-sound, asked-known, asked-run, asked-sound, asked-state}
 use Rattle.ceil_runtime.proofs.Arrived.{asked-unit, is_of, nobody-asked}
 use Rattle.ceil_runtime.proofs.Falling.{falls-arrival, falls-nobody, left_by}

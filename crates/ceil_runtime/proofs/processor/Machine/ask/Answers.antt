@@ -3,15 +3,16 @@ use Rattle.std.specs.Prelude.{nat_lt}
 use Rattle.std.proofs.lemmas.Option.{same_Some, slice_get_read}
 use Rattle.machine.specs.Deeds as deeds
 use Rattle.machine.specs.States.{Control}
-use Rattle.ceil_runtime.specs.Effort.{sections_among}
-use Rattle.ceil_runtime.specs.Works.{Acts, StaysInside, task_of}
-use Rattle.ceil_runtime.specs.Written.{system_of}
-use Rattle.ceil_runtime.specs.declared.effects.Act.{Act}
-use Rattle.ceil_runtime.specs.declared.effects.Deed.TheVariants.{Ask}
+use Rattle.task_runtime.specs.Effort.{sections_among}
+use Rattle.task_runtime.specs.Works.{Acts, StaysInside, task_of}
+use Rattle.task_runtime.specs.Written.{system_of}
+use Rattle.task_runtime.specs.declared.effects.Act.{Act}
+use Rattle.task_runtime.specs.declared.effects.Deed.TheVariants.{Ask}
 use Rattle.ceil_runtime.proofs.EntryFacts.{task-at}
 use Rattle.ceil_runtime.proofs.EntrySteps.{ask-step, reached-at, stop-before}
-use Rattle.ceil_runtime.proofs.Reached.{among-tasks, ask-is, asked-ceiling, asked-unit, has-room, reached-act, stays-asking}
+use Rattle.ceil_runtime.proofs.Reached.{among-tasks, asked-ceiling, asked-unit}
 use Rattle.ceil_runtime.proofs.Stepped.{running-sound, task-callees}
+use Rattle.task_runtime.proofs.Shared.AtWork.{ask-is, has-room, reached-act, stays-asking}
 use Rattle.ceil_runtime.proofs.processor.Machine.ask.Goals as goal
 
 pub index-asked-requires : goal.index-asked-requires

@@ -7,7 +7,7 @@ use Rattle.machine.specs.Meanings.{Running}
 use Rattle.machine.specs.Releases.{released}
 use Rattle.machine.specs.States.{State}
 use Rattle.ceil_runtime.specs.Processing.{Follows, IsSound, state_by, system_by}
-use Rattle.ceil_runtime.specs.Readies.{is_ready}
+use Rattle.task_runtime.specs.Readies.{is_ready}
 use Rattle.ceil_runtime.specs.Shown.{running_of, stores_of}
 use Rattle.ceil_runtime.specs.declared.processor.Phase.{Phase}
 use Rattle.ceil_runtime.specs.declared.processor.Phase.TheVariants.{Delays, Arriving}

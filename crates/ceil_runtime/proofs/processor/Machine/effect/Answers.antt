@@ -1,10 +1,10 @@
 use Rattle.std.proofs.Common.{length, sym, ◌∙◌, refl, subst}
 use Rattle.std.proofs.lemmas.Option.{same_Some, slice_get_read}
-use Rattle.ceil_runtime.specs.Doing.{IsDeed}
-use Rattle.ceil_runtime.specs.Works.{ActsAs, task_of}
-use Rattle.ceil_runtime.specs.Written.{system_of}
-use Rattle.ceil_runtime.specs.declared.effects.Deed.TheVariants.{Own, Enter, Leave, Ask}
-use Rattle.ceil_runtime.specs.declared.task.Task.{Task}
+use Rattle.task_runtime.specs.Doing.{IsDeed}
+use Rattle.task_runtime.specs.Works.{ActsAs, task_of}
+use Rattle.task_runtime.specs.Written.{system_of}
+use Rattle.task_runtime.specs.declared.effects.Deed.TheVariants.{Own, Enter, Leave, Ask}
+use Rattle.task_runtime.specs.declared.task.Task.{Task}
 use Rattle.ceil_runtime.proofs.ActedLaws.{same-step}
 use Rattle.ceil_runtime.proofs.Stepped.{running-sound, task-callees}
 use Rattle.ceil_runtime.proofs.processor.Machine.effect.Goals as goal

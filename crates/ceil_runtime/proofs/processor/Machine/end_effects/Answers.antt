@@ -1,8 +1,8 @@
 use Rattle.std.proofs.Common.{length, refl}
 use Rattle.std.proofs.lemmas.Option.{slice_get_read}
 use Rattle.ceil_runtime.proofs.Effected.{running-free}
-use Rattle.ceil_runtime.proofs.Idles.{nothing-due}
 use Rattle.ceil_runtime.proofs.Stepped.{end-step, running-sound}
+use Rattle.task_runtime.proofs.Shared.AtWork.{nothing-due}
 use Rattle.ceil_runtime.proofs.processor.Machine.end_effects.Goals as goal
 
 pub push_head-requires : goal.push_head-requires

@@ -5,18 +5,17 @@ use Rattle.machine.specs.Deeds as deeds
 use Rattle.machine.specs.Effects.{inside_now, object_unit}
 use Rattle.machine.specs.States.{Object}
 use Rattle.trace_tree.specs.declared.event.Event.TheVariants as event
-use Rattle.ceil_runtime.specs.Fitting.{names_of}
+use Rattle.task_runtime.specs.Fitting.{names_of}
 use Rattle.ceil_runtime.specs.Processing.{system_by}
-use Rattle.ceil_runtime.specs.Stacked.{vars_of}
-use Rattle.ceil_runtime.specs.Works.{task_of}
-use Rattle.ceil_runtime.specs.Written.{system_of}
-use Rattle.ceil_runtime.specs.declared.effects.Deed.TheVariants.{Enter}
-use Rattle.ceil_runtime.proofs.Doings.{of-object}
+use Rattle.task_runtime.specs.Stacked.{vars_of}
+use Rattle.task_runtime.specs.Works.{task_of}
+use Rattle.task_runtime.specs.Written.{system_of}
+use Rattle.task_runtime.specs.declared.effects.Deed.TheVariants.{Enter}
 use Rattle.ceil_runtime.proofs.EntryFacts.{found-object, found-op, found-shows, found-unit, place-few, same-names, task-at}
 use Rattle.ceil_runtime.proofs.EntrySteps.{enter-step, reached-at, stop-before}
 use Rattle.ceil_runtime.proofs.ObjectsKept.{changed-objects, entered-ceiling, entered-unit}
-use Rattle.ceil_runtime.proofs.Reached.{has-room}
 use Rattle.ceil_runtime.proofs.Stepped.{running-sound}
+use Rattle.task_runtime.proofs.Shared.AtWork.{has-room, of-object}
 use Rattle.ceil_runtime.proofs.processor.Machine.enter.Goals as goal
 
 pub index-object-requires : goal.index-object-requires

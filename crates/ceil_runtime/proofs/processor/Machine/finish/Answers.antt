@@ -4,14 +4,14 @@ use Rattle.link_queue.specs.Queues.{Queues, in_time}
 use Rattle.machine.specs.Effects.{ended}
 use Rattle.machine.specs.Releases.{is_waiting}
 use Rattle.ceil_runtime.specs.Acted.{with_tasks}
-use Rattle.ceil_runtime.specs.Readies.{readiness_of}
+use Rattle.task_runtime.specs.Readies.{readiness_of}
 use Rattle.ceil_runtime.specs.Shown.{stores_of}
-use Rattle.ceil_runtime.specs.declared.effects.Act.TheVariants.{Finish}
+use Rattle.task_runtime.specs.declared.effects.Act.TheVariants.{Finish}
 use Rattle.ceil_runtime.proofs.ActedLaws.{acted-found, acted-set, acted-within}
 use Rattle.ceil_runtime.proofs.Effected.{ended-rests, finish-sound, running-free, wait-sound, waits-now}
 use Rattle.ceil_runtime.proofs.Processed.{Changed}
-use Rattle.ceil_runtime.proofs.Reached.{nests-ended}
 use Rattle.ceil_runtime.proofs.Stepped.{finish-step, running-sound, served-step}
+use Rattle.task_runtime.proofs.Shared.AtWork.{nests-ended}
 use Rattle.ceil_runtime.proofs.processor.Machine.finish.Goals as goal
 
 pub index_mut-active-requires : goal.index_mut-active-requires

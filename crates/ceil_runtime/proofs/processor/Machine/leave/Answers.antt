@@ -1,6 +1,6 @@
 use Rattle.std.proofs.Common.{length, sym, ap, ◌∙◌, refl, arith, map, take, Some}
 use Rattle.std.proofs.lemmas.Option.{slice_get_read, slice_get_within}
-use Rattle.ceil_runtime.specs.Fitting.{entry_names}
+use Rattle.task_runtime.specs.Fitting.{entry_names}
 use Rattle.ceil_runtime.proofs.EntryFacts.{all-names, found-object, found-op, found-shows, place-few, same-count, same-names, task-at}
 use Rattle.ceil_runtime.proofs.EntrySteps.{leave-step}
 use Rattle.ceil_runtime.proofs.ObjectsKept.{changed-objects}

@@ -3,21 +3,22 @@ use Rattle.std.proofs.lemmas.List.{length-map}
 use Rattle.ada_tree.specs.Trees.{program_of, unit_of}
 use Rattle.arrivals_tree.specs.Arriving.{arrivals_of}
 use Rattle.ceil_runtime.specs.Gathering.{AllThreads}
-use Rattle.ceil_runtime.specs.Libraries.{handed, no_costs, threads_from}
+use Rattle.task_runtime.specs.Libraries.{handed, no_costs, threads_from}
 use Rattle.ceil_runtime.specs.Starts.{CanStart, opened, system_for}
-use Rattle.ceil_runtime.specs.Written.{system_of, thread_of}
-use Rattle.ceil_runtime.proofs.Openings.{can-start, near-horizon, opened-all, whole}
+use Rattle.task_runtime.specs.Written.{system_of, thread_of}
+use Rattle.ceil_runtime.proofs.Openings.{can-start, near-horizon, opened-all}
+use Rattle.task_runtime.proofs.Shared.Runnable.{whole}
 use Rattle.ceil_runtime.proofs.Started.{start-alike}
 use Rattle.ceil_runtime.proofs.processor.Machine.new.Goals as goal
 
 pub threads_in-requires : goal.threads_in-requires
 threads_in-requires c =
-    let few = (whole (program_of c.args.program.now) (arrivals_of c.args.arrivals.now) c.requires).1 in
+    let few = (whole (program_of c.args.program.now) c.requires.meets).1 in
     omega (arith, few, length-map c.args.program.now.units.items unit_of, ap length c.as_slice-units.ensures.value)
 
 pub open-requires-clause-few : goal.open-requires-clause-few
 open-requires-clause-few c =
-    let few = (whole (program_of c.args.program.now) (arrivals_of c.args.arrivals.now) c.requires).1 in
+    let few = (whole (program_of c.args.program.now) c.requires.meets).1 in
     omega (
       arith,
       few,
@@ -30,7 +31,7 @@ open-requires-clause-few c =
 
 pub open-requires-clause-known : goal.open-requires-clause-known
 open-requires-clause-known c =
-    let few = (whole (program_of c.args.program.now) (arrivals_of c.args.arrivals.now) c.requires).1 in
+    let few = (whole (program_of c.args.program.now) c.requires.meets).1 in
     omega (arith, few, length-map c.args.program.now.units.items unit_of, ap length c.as_slice-units.ensures.value)
 
 pub open-requires-clause-near : goal.open-requires-clause-near
@@ -38,7 +39,7 @@ open-requires-clause-near c = let near = near-horizon (program_of c.args.program
     in omega (arith, near)
 
 pub open-requires-clause-ticking : goal.open-requires-clause-ticking
-open-requires-clause-ticking c = (whole (program_of c.args.program.now) (arrivals_of c.args.arrivals.now) c.requires).0
+open-requires-clause-ticking c = (whole (program_of c.args.program.now) c.requires.meets).0
 
 pub open-requires-clause-start : goal.open-requires-clause-start
 open-requires-clause-start c =

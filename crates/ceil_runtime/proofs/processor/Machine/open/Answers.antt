@@ -5,14 +5,14 @@ use Rattle.std.specs.Prelude.{None, false, map}
 use Rattle.seq_tree.specs.Variables.{Variables}
 use Rattle.ada_tree.specs.Trees.{unit_of}
 use Rattle.machine.specs.Meanings.{Running}
-use Rattle.ceil_runtime.specs.Libraries.{objects_from}
+use Rattle.task_runtime.specs.Libraries.{objects_from}
 use Rattle.ceil_runtime.specs.Processing.{state_by, system_by}
 use Rattle.ceil_runtime.specs.declared.processor.Phase.TheVariants.{Effects}
 use Rattle.ceil_runtime.proofs.ObjectsFound.{found-stores}
 use Rattle.link_queue.specs.Queues.{IsFree}
 use Rattle.ceil_runtime.specs.Starts.{AreOpen, first_slept, opened}
-use Rattle.ceil_runtime.specs.declared.thread.Thread.{Thread}
-use Rattle.ceil_runtime.specs.declared.task.Task.{Task}
+use Rattle.task_runtime.specs.declared.thread.Thread.{Thread}
+use Rattle.task_runtime.specs.declared.task.Task.{Task}
 use Rattle.ceil_runtime.proofs.ObjectsKept.{opened-objects}
 use Rattle.ceil_runtime.proofs.Started.{open-alike, open-free, open-next, open-none, open-running, open-sound, slept-size}
 use Rattle.ceil_runtime.proofs.processor.Machine.open.Goals as goal

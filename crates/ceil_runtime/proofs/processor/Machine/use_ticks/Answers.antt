@@ -2,11 +2,11 @@ use Rattle.std.proofs.Common.{◌≤◌, ◌≡◌, ◌<◌, ◌+◌, ◌-◌, �
 use Rattle.std.proofs.lemmas.Option.{slice_get_read}
 use Rattle.link_queue.specs.Queues.{Entry, Queues}
 use Rattle.ceil_runtime.specs.Processing.{IsSound, state_by, system_by, IsWithin}
-use Rattle.ceil_runtime.specs.Effort.{most_ends}
+use Rattle.task_runtime.specs.Effort.{most_ends}
 use Rattle.ceil_runtime.specs.Stepping.{steps_by}
 use Rattle.ceil_runtime.specs.Shown.{stores_of}
 use Rattle.ceil_runtime.proofs.Nearing.{nears-ticks, ran-few}
-use Rattle.ceil_runtime.specs.Works.{used_ticks}
+use Rattle.task_runtime.specs.Works.{used_ticks}
 use Rattle.ceil_runtime.specs.declared.processor.Phase.{Phase}
 use Rattle.ceil_runtime.specs.declared.processor.Phase.TheVariants.{Use, Effects}
 use Rattle.ceil_runtime.proofs.Processed.{Changed, changed-system, first-entry, follows-of, idle-run, idle-sound, no-entry, ready-known, use-run}

@@ -1,0 +1,85 @@
+ghost use Rattle.std.specs.Prelude.{◌≡◌, true, false, length};
+ghost use Rattle.task_runtime.specs.Effort.{request_params};
+ghost use Rattle.machine.specs.States.{first_time, first_wait};
+ghost use Rattle.task_runtime.specs.Readies.{is_ready, readiness_of, rests_as};
+ghost use Rattle.task_runtime.specs.Written.{timing_of};
+ghost use Rattle.machine.specs.Effects.{ceiling_by};
+
+use crate::task::Readiness;
+use ada_tree::Unit;
+use arrivals_tree::WorkList;
+use seq_tree::{Datum, Name, OpSig, Stmt};
+
+/// When a task is released.
+#[derive(Clone, Copy, Drop)]
+pub enum Timing<'a> {
+    /// At its own times: the first one, and one each period from then on, in ticks.
+    Periodic {
+        offset: u32,
+        period: u32,
+    },
+    /// At requests of its operation, whose control structure has this ceiling. The separation and the jitter are in ticks.
+    Requested {
+        op: &'a OpSig,
+        ceiling: u32,
+        separation: u32,
+        jitter: u32,
+        external: bool,
+    },
+}
+
+/// How many parameters the requests of a task have.
+pub fn params_len(timing: Timing) -> usize
+    ensures { result ≡ length (request_params (timing_of timing.entry)) }
+{
+    match timing {
+        Timing::Periodic { .. } => 0,
+        Timing::Requested { op, .. } => op.params.len(),
+    }
+}
+
+/// Whether a task sleeps or waits first.
+pub fn opening_rest(timing: Timing) -> Readiness
+    ensures readiness { readiness_of result (first_time (timing_of timing.entry)) ≡ first_wait (timing_of timing.entry) }
+    ensures rests { is_ready result ≡ false }
+    ensures fits { rests_as result timing.entry ≡ true }
+{
+    match timing {
+        Timing::Periodic { .. } => Readiness::Asleep,
+        Timing::Requested { .. } => Readiness::Waiting,
+    }
+}
+
+/// The first nominal time, in ticks.
+pub fn opening_time(timing: Timing) -> u64
+    ensures { result ≡ first_time (timing_of timing.entry) }
+{
+    match timing {
+        Timing::Periodic { offset, .. } => u64::from(offset),
+        Timing::Requested { .. } => 0,
+    }
+}
+
+/// A task as it is written, with the units of its program and the durations that are handed to all tasks, the place of its
+/// own unit, its priority, and when it is released.
+#[derive(Clone, Copy, Drop)]
+pub struct Thread<'a> {
+    pub units: &'a [Unit],
+    pub work: &'a [WorkList],
+    pub unit: u32,
+    pub name: &'a Name,
+    pub priority: u32,
+    pub timing: Timing<'a>,
+    pub data: &'a [Datum],
+    pub stmts: &'a [Stmt],
+}
+
+/// The ceiling of the control structure of a task, which is 0 where it has times of its own.
+pub fn ceiling_of(timing: Timing) -> u32
+    ensures { result ≡ ceiling_by (timing_of timing.entry) }
+{
+    match timing {
+        Timing::Periodic { .. } => 0,
+        Timing::Requested { ceiling, .. } => ceiling,
+    }
+}

@@ -4,10 +4,10 @@
 /** The threads, each with its numbers, and the ceilings, of the lines that `analyse` writes. */
 function readBounds(text) {
   const [threads, ceilings] = [[], []];
-  for (const line of text.trimEnd().split("\n")) {
+  for (const line of text.split("\n")) {
     const words = line.split(" ");
     if (words[0] === "ceiling") ceilings.push({ name: words[1], ceiling: Number(words[2]) });
-    else {
+    else if (words[0] === "thread") {
       const thread = { name: words[1] };
       for (let index = 2; index < words.length; index += 2) thread[words[index]] = Number(words[index + 1]);
       threads.push(thread);
@@ -42,14 +42,15 @@ function cellOf(text, attributes = {}) {
   return make("td", attributes, String(text));
 }
 
-/** A bar of the cost and the response within the deadline. */
+/** A bar of the cost, where it is known, and the response within the deadline. */
 function barOf({ name, cost, response, deadline }) {
   const width = 120;
-  const told = `cost ${cost} and response ${response} of deadline ${deadline}`;
+  const told = `${cost === undefined ? "" : `cost ${cost} and `}response ${response} of deadline ${deadline}`;
   const picture = draw("svg", { class: "meter", width, height: 14, role: "img", "aria-label": `${name}: ${told}` }, told);
   const part = (kind, ticks) =>
     draw("rect", { class: kind, x: 0, y: 2, width: Math.max(1, width * Math.min(1, ticks / deadline)), height: 10, rx: 2 });
-  picture.append(draw("rect", { class: "deadline", x: 0, y: 2, width, height: 10, rx: 2 }), part("response", response), part("cost", cost));
+  picture.append(draw("rect", { class: "deadline", x: 0, y: 2, width, height: 10, rx: 2 }), part("response", response));
+  if (cost !== undefined) picture.append(part("cost", cost));
   const cell = make("td", { class: "fill" });
   cell.append(picture);
   return cell;
@@ -86,13 +87,17 @@ function whyList(threads) {
     ...items.map(([one, why]) => make("li", {}, make("b", {}, `${one.name} ${one.response}`), ` = ${why}`)));
 }
 
+function ceilingTable(ceilings) {
+  return ceilings.length === 0 ? [] : [tableOf("Ceilings", ["Object", "Ceiling"], ceilings.map((one) => [one.name, one.ceiling]))];
+}
+
 function boundsTables({ threads, ceilings }, tick, response = PROVED) {
+  if (threads.length === 0) return [make("p", { class: "note" }, "The design has no thread, so there is nothing to bound."), ...ceilingTable(ceilings)];
   const least = threads.reduce((found, one) => (one.deadline - one.response < found.deadline - found.response ? one : found));
   const ticks = tick === null ? "Times are ticks." : `Times are ticks of ${tick}.`;
   const rows = threads.map((one) => [one.name, one.priority, one.period, one.deadline, one.jitter, one.cost, one.blocking, one.response,
     one.deadline - one.response, barOf(one)]);
   const slack = `The least slack is ${least.deadline - least.response} ticks, of ${least.name}.`;
   const sums = make("p", { class: "sums" }, `${slack} Costs by periods come to ${utilisationOf(threads)} of the processor.`);
-  const objects = ceilings.length === 0 ? [] : [tableOf("Ceilings", ["Object", "Ceiling"], ceilings.map((one) => [one.name, one.ceiling]))];
-  return [tableOf(`Threads, by priority. ${ticks}`, HEADS, rows), sums, whyList(threads), ...objects, glossary(response)];
+  return [tableOf(`Threads, by priority. ${ticks}`, HEADS, rows), sums, whyList(threads), ...ceilingTable(ceilings), glossary(response)];
 }

@@ -15,35 +15,62 @@ const KEPT = "lafomizana"; // the name under which the browser keeps the last te
 const WAIT = 250; // milliseconds from an edit to the run
 const SLOW = 600; // milliseconds of a run, after which Stop is shown
 const SHOWN_LINES = 20000;
+const MOST_KEPT = 1000000; // characters of a trace that the browser keeps
+const MOST_TYPED = 200000; // characters of a trace that are put into its text as if they were typed
 
 const runs = new Runs(WORKER, MODULE);
 const run = (words, texts, most) => runs.run(words, texts, most);
 const timeline = new Timeline(at("panel-timeline"), CHART_STYLE);
-const editors = { design: new Editor(at("design"), later), arrivals: new Editor(at("arrivals"), later) };
+const editors = {
+  design: new Editor(at("design"), later),
+  arrivals: new Editor(at("arrivals"), later),
+  trace: new Editor(at("trace"), laterTrace),
+};
 const verbTabs = VERBS.map((verb) => new VerbTab(verb));
 for (const one of verbTabs) {
   at("tabs").append(one.tab);
-  at("tabs").parentElement.append(one.panel);
+  if (!one.panel.isConnected) at("tabs").parentElement.append(one.panel);
 }
 const panels = [...document.querySelectorAll("[role=tabpanel]")];
 const tabs = [...document.querySelectorAll("[role=tab]")];
-const state = { bounds: null, boundsText: "", tick: null, ada: "", trace: null, isOther: true };
+const state = { bounds: null, boundsText: "", tick: null, ada: "", trace: null, isOther: true, isBackground: false, mark: null };
 
 // ---- Runs of all that is shown ----
 
 let timer;
+let traceTimer;
 let turn = 0;
+
+/** The texts as they are now, by the names of their files. */
+function textsNow() {
+  return Object.fromEntries(Object.keys(editors).map((kind) => [kind, at(kind).value]));
+}
+
+/** The part of a panel that an edit makes out of date: a text to write may stand beside it. */
+function answerPart(panel) {
+  return panel.querySelector(".answer") ?? panel;
+}
 
 /** Runs all again soon, when the texts have not changed for a moment. */
 function later() {
-  for (const panel of panels) panel.classList.add("stale");
+  state.mark = null;
+  for (const panel of panels) answerPart(panel).classList.add("stale");
   clearTimeout(timer);
   timer = setTimeout(again, WAIT);
 }
 
+/** The same for a change of the trace, which is asked for by the tab of one verb alone. */
+function laterTrace() {
+  answerPart(at("panel-accepts")).classList.add("stale");
+  clearTimeout(traceTimer);
+  traceTimer = setTimeout(() => { keep(textsNow()); wantChosen(); }, WAIT);
+}
+
 function keep(texts) {
+  // A long trace would take the room of all.
+  const kept = texts.trace.length > MOST_KEPT ? { ...texts, trace: "" } : texts;
   try {
-    localStorage.setItem(KEPT, JSON.stringify(texts));
+    localStorage.setItem(KEPT, JSON.stringify(kept));
   } catch {
     // Without storage nothing is kept, which is no fault.
   }
@@ -53,7 +80,7 @@ async function again() {
   clearTimeout(timer);
   const mine = ++turn;
   if (runs.isBusy()) runs.start();
-  const texts = { design: at("design").value, arrivals: at("arrivals").value };
+  const texts = textsNow();
   keep(texts);
   const slow = setTimeout(() => tell("", ["Running\u2026", ""], "", make("button", { type: "button", class: "go", id: "cut" }, "Stop")), SLOW);
   try {
@@ -67,17 +94,26 @@ async function again() {
   if (mine === turn) wantChosen();
 }
 
-/** Runs the verb whose tab is chosen, if that is the tab of one, on the design as it is now. */
+/** Runs the verb whose tab is chosen, if that is the tab of one, on the texts as they are now. */
 function wantChosen() {
   for (const one of verbTabs) {
-    if (one.isChosen()) one.want(at("design").value);
+    if (one.isChosen()) one.want(textsNow());
   }
+  showMarks();
+}
+
+/** The answers for a design with background objects, which `background` and `replay` alone take: its Ada text, and a run of that. */
+async function backgroundAnswersOf({ design, arrivals }) {
+  const background = await run(["background", "design"], { design });
+  if (background.status !== 0) return { bounds: background };
+  return { background, replayed: await run(["replay", "program", "arrivals"], { program: background.out, arrivals }) };
 }
 
 /** The answers for two texts: the bounds, which `early` gets at once, then the Ada text with the trace, as far as there are some. */
-async function answersOf(texts, early) {
+async function answersOf({ design, arrivals }, early) {
+  const texts = { design, arrivals };
   const bounds = await run(["analyse", "design"], texts);
-  if (bounds.status !== 0) return { bounds };
+  if (bounds.status !== 0) return backgroundOf(design).length > 0 ? backgroundAnswersOf(texts) : { bounds };
   early(bounds);
   const count = await run(["check", "design"], texts);
   const verified = await run(["verify", "design", "arrivals"], texts);
@@ -97,22 +133,23 @@ function tell(kind, [head, hint], line, ...more) {
 
 function goButton(mark) {
   if (mark === null) return [];
-  const button = make("button", { type: "button", class: "go", id: "go" }, "Go to the place");
-  button.addEventListener("click", () => editors[mark.kind].go());
+  const button = make("button", { type: "button", class: "go" }, "Go to the place");
+  button.addEventListener("click", () => { editors[mark.kind].show(mark); editors[mark.kind].go(); });
   return [button];
 }
 
-function showMark(mark) {
+/** Marks what is refused by the verb whose tab is chosen, or else by those that are always run. */
+function showMarks() {
+  const mark = verbTabs.find((one) => one.isChosen())?.mark ?? state.mark;
   for (const [kind, editor] of Object.entries(editors)) editor.show(mark?.kind === kind ? mark : null);
 }
 
 function showRefusal({ err }, texts, before) {
   // Where memory is wanted before the run begins, no line tells it.
   const line = err.trimEnd() || "no memory";
-  const mark = markOf(line, texts);
-  showMark(mark);
+  state.mark = markOf(line, texts);
   const [head, hint] = plain(line);
-  tell("bad", [before + head, hint], line, ...goButton(mark));
+  tell("bad", [before + head, hint], line, ...goButton(state.mark));
 }
 
 function takeBounds({ out }, texts) {
@@ -123,23 +160,39 @@ function takeBounds({ out }, texts) {
   at("panel-bounds").classList.remove("stale");
 }
 
-function showAnswers(texts, { bounds, count, verified, generated }) {
-  [state.ada, state.trace] = ["", null];
-  if (bounds.status !== 0) {
+/** The answers for a design with clients and servers, or what is refused of its arrivals. */
+function takeBackground(texts, { background, replayed }) {
+  const { hard, program } = tasksOf(background.out);
+  const met = `Every deadline of the hard threads of ${program.design} is met on the modelled processor, whatever the background does, `
+    + "under all arrivals that keep their separations.";
+  [state.bounds, state.ada, state.isBackground] = [null, background.out, true];
+  if (replayed.status !== 0) return showRefusal(replayed, texts, `${met} There is no run with these arrivals. `);
+  const milliseconds = Math.round(background.milliseconds + replayed.milliseconds);
+  tell("good", [met, ""], `hard threads ${hard.length}, background objects ${backgroundOf(texts.design).length}; answered in ${milliseconds} ms`);
+  takeTrace(replayed.out);
+}
+
+function takeVerified(texts, { bounds, count, verified, generated }) {
+  const [, name, objects, threads] = /^ok (\S+) objects (\d+) threads (\d+)/.exec(count.out) ?? [];
+  const met = `Every deadline of ${name} is met on the modelled processor, under all arrivals that keep their separations.`;
+  if (verified.status !== 0) {
+    state.ada = generated.out;
+    return showRefusal(verified, texts, `${met} There is no run with these arrivals. `);
+  }
+  const milliseconds = Math.round(bounds.milliseconds + count.milliseconds + verified.milliseconds);
+  tell("good", [met, ""], `objects ${objects}, threads ${threads}; answered in ${milliseconds} ms`);
+  const cut = verified.out.indexOf("\n-- trace\n");
+  state.ada = verified.out.slice(0, cut + 1);
+  takeTrace(verified.out.slice(cut + "\n-- trace\n".length));
+}
+
+function showAnswers(texts, told) {
+  [state.ada, state.trace, state.isBackground] = ["", null, false];
+  if (told.background !== undefined) takeBackground(texts, told);
+  else if (told.bounds.status === 0) takeVerified(texts, told);
+  else {
     state.bounds = null;
-    showRefusal(bounds, texts, "");
-  } else {
-    const [, name, objects, threads] = /^ok (\S+) objects (\d+) threads (\d+)/.exec(count.out) ?? [];
-    const met = `Every deadline of ${name} is met on the modelled processor, under all arrivals that keep their separations.`;
-    if (verified.status === 0) {
-      showMark(null);
-      const milliseconds = Math.round(bounds.milliseconds + count.milliseconds + verified.milliseconds);
-      tell("good", [met, ""], `objects ${objects}, threads ${threads}; answered in ${milliseconds} ms`);
-      takeTrace(verified.out);
-    } else {
-      showRefusal(verified, texts, `${met} There is no run with these arrivals. `);
-      state.ada = generated.out;
-    }
+    showRefusal(told.bounds, texts, "");
   }
   for (const panel of panels) {
     if (verbTabs.every((one) => one.panel !== panel)) panel.classList.remove("stale");
@@ -150,18 +203,25 @@ function showAnswers(texts, { bounds, count, verified, generated }) {
   showTimeline();
 }
 
-function takeTrace(out) {
-  const cut = out.indexOf("\n-- trace\n");
-  state.ada = out.slice(0, cut + 1);
-  const text = out.slice(cut + "\n-- trace\n".length);
+function takeTrace(text) {
   state.trace = { text, lines: text.trimEnd().split("\n") };
 }
 
 function showBounds() {
   const panel = at("panel-bounds");
+  if (state.isBackground) return panel.replaceChildren(...backgroundBounds());
   if (state.bounds === null) return panel.replaceChildren(make("p", { class: "note" }, "There are no bounds while the design is refused."));
   const tools = make("div", { class: "tools" }, saveButton("bounds.txt", () => state.boundsText));
   panel.replaceChildren(tools, ...boundsTables(state.bounds, state.tick));
+}
+
+/** The bounds of the hard threads of a design with clients and servers, with the way to all that is told of it. */
+function backgroundBounds() {
+  const button = make("button", { type: "button" }, "Background objects and ceilings");
+  button.addEventListener("click", () => { choose(at("tab-background")); at("tab-background").focus(); });
+  const { hard } = tasksOf(state.ada);
+  const table = hard.length === 0 ? make("p", { class: "note" }, "The design has no hard thread.") : hardTable(hard, tickOf(at("design").value));
+  return [make("div", { class: "tools" }, button), table, make("p", { class: "note" }, `Response: ${PROVED}.`)];
 }
 
 function saveButton(name, text) {
@@ -185,9 +245,10 @@ function showAda() {
 
 function showTrace() {
   const panel = at("panel-trace");
+  at("own").disabled = state.trace === null;
   if (state.trace === null) return panel.replaceChildren(make("p", { class: "note" }, "There is no trace while a text is refused."));
   const { lines, text } = state.trace;
-  const names = state.bounds.threads.map((thread) => thread.name);
+  const names = [...tasksOf(state.ada).hard, ...tasksOf(state.ada).clients].map((task) => task.name);
   const options = [make("option", { value: "" }, "all tasks"), ...names.map((name) => make("option", {}, name))];
   const pick = make("select", { "aria-label": "Lines of which task" }, ...options);
   const holder = make("div", {});
@@ -227,10 +288,21 @@ function save(name, text) {
 
 async function openFile() {
   const [file] = at("file").files;
-  if (file !== undefined) editors[at("file").dataset.to].set(await file.text());
+  const { to } = at("file").dataset;
+  if (file !== undefined) editors[to].set(await file.text());
   at("file").value = "";
+  if (to === "trace") return laterTrace();
   state.isOther = true;
   later();
+}
+
+/** Takes the trace of the page's own run as the one to be judged, to begin with. */
+function takeOwnTrace() {
+  const { text } = state.trace;
+  // A browser takes long to write so much as if it were typed, which could be taken back.
+  if (text.length > MOST_TYPED) editors.trace.set(text);
+  else editors.trace.replace(text);
+  laterTrace();
 }
 
 async function format() {
@@ -283,13 +355,21 @@ function listenToButtons() {
   at("help").addEventListener("click", () => at("how").showModal());
   at("close").addEventListener("click", () => at("how").close());
   at("take").addEventListener("click", takeSkeleton);
+  at("own").addEventListener("click", takeOwnTrace);
   document.addEventListener("click", (event) => { if (event.target.matches("#cut, .cut")) runs.start(); });
   window.addEventListener("resize", () => timeline.render());
 }
 
+/** The letter or number of a key, also where the system writes another sign with Alt. */
+function letterOf({ key, code }) {
+  return /^[a-z0-9]$/i.test(key) ? key.toLowerCase() : /^(?:Key|Digit)(.)$/.exec(code)?.[1].toLowerCase() ?? "";
+}
+
 function listenToKeys() {
   document.addEventListener("keydown", (event) => {
-    const key = event.key.toLowerCase();
+    // With this key signs are written.
+    if (event.getModifierState("AltGraph")) return;
+    const key = letterOf(event);
     if (event.ctrlKey && event.key === "Enter") again();
     else if (event.altKey && tabs[key - 1] !== undefined) choose(tabs[key - 1]);
     else if (event.altKey && key === "g") goToMark();
@@ -303,6 +383,7 @@ function show(texts) {
   state.isOther = true;
   editors.design.set(texts.design);
   editors.arrivals.set(texts.arrivals);
+  editors.trace.set(texts.trace ?? "");
 }
 
 function listenToExamples() {

@@ -65,8 +65,10 @@ const PLAIN = {
   Q4: ["The horizon is over 1,000,000,000 ticks."],
   Q5: ["A duration is 0, or the request lacks a value or has one that isn't asked for.",
     "A value stands exactly where the request has a parameter."],
-  T1: ["A line of the trace is none that a replay writes."],
-  T2: ["The trace is none that the design's machine allows."],
+  T1: ["A line of the trace is none that a replay writes.",
+    "A word that is none, a name of no unit or operation, a zero before a number, a space too many, or a last line that isn't ended."],
+  T2: ["The trace is none that the design allows.",
+    "Priorities and bounds aren't asked: an activation may wait as long as it likes, and a trace of another scheduler may pass."],
   G1: ["A name in NAME clashes with another, or a call names what isn't there."],
   G2: ["The passive unit NAME calls other than passive operations."],
   G3: ["The unit NAME leads back to itself by calls."],
@@ -86,6 +88,24 @@ const BODY = {
   B7: "a call has a wrong number of parameters",
 };
 
+// Of each part of the design's machine what a trace breaks of it; with a name, and of the requests from outside without one.
+const PART = {
+  a: "The order of the trace, its threads or its last line is none that the design allows",
+  b: "NAME isn't released at its offset and then once each period, up to the horizon",
+  c: "The lines with arrive aren't the requests of the arrivals, in their order, up to the horizon",
+  "c NAME": "The releases of NAME aren't its requests, each served once, with its value, as soon as the activation before has ended",
+  d: "An activation of NAME is no run of its block: another call, value or number of ticks, a line too many, or one that is missing",
+  e: "Operations of NAME overlap, or what they hand out doesn't follow from what came before",
+};
+
+/** What a refusal of a trace says: a sentence, or null. */
+function sentenceOfTrace(line) {
+  const [, code, part, name] = /^refused (T[12]) (line|\w)(?: (\w+))?$/.exec(line) ?? [];
+  if (code === "T1") return `Line ${name} of the trace is none that a replay of this design writes.`;
+  if (code === undefined) return null;
+  return `${(PART[name === undefined ? part : `${part} NAME`] ?? PART[part]).replace("NAME", name)}.`;
+}
+
 /** The words of a refusal that tell more than its code: a sentence, or null. */
 function sentenceOf(line) {
   let found = /^refused U1 (\S+) value (\d+) limit (\d+)/.exec(line);
@@ -103,7 +123,7 @@ function sentenceOf(line) {
   }
   found = /^refused (?:V13|G4) (\S+)(?: (\S+))? (B\d)$/.exec(line);
   if (found !== null) return `${found[2] === "thread" ? "The thread" : found[2] ?? "A body"} of ${found[1]} has a fault: ${BODY[found[3]]}.`;
-  return null;
+  return sentenceOfTrace(line);
 }
 
 /** What a line of standard error says: a sentence, and what to look at, which may be empty. */
@@ -180,11 +200,12 @@ function namedPlace(tokens, code, names) {
   if (start < 0) return -1;
   const end = placeOf(tokens, ["end", object], start);
   const within = (pattern) => placeOf(tokens, pattern, start, end < 0 ? tokens.length : end);
-  if (["V06", "V07", "V08"].includes(code)) {
+  if (["V06", "V07", "V08", "A2", "A4"].includes(code)) {
     const [target, operation] = part.split(".");
     const place = within([target, ".", operation]);
     if (place >= 0) return place;
   }
+  if (code === "A5" && within(["deadline"]) >= 0) return within(["deadline"]);
   if (["V09", "V13", "V15"].includes(code) && part !== undefined) {
     const place = part === "thread" ? within(["thread"]) : within(["operation", part]) + 1;
     if (place > 0) return place;
@@ -221,7 +242,7 @@ function markOfArrivals(line, texts) {
 function markOf(line, texts) {
   const mark = markOfPlace(line, texts) ?? markOfArrivals(line, texts);
   if (mark !== null) return mark;
-  const found = /^refused ([VU]\d+) (?:cost )?(\S+)(?: (\S+))?/.exec(line);
+  const found = /^refused ([VUAP]\d+) (?:cost )?(\S+)(?: (\S+))?/.exec(line);
   if (found === null) return null;
   const tokens = tokensOf(texts.design);
   const place = namedPlace(tokens, found[1], found.slice(2).filter((name) => name !== undefined));

@@ -40,7 +40,7 @@ class Runs {
     return this.waiting.size > 0;
   }
 
-  /** The status of a run of these words over the texts `design`, `program` and `arrivals`, and what it wrote. */
+  /** The status of a run of these words over the texts `design`, `program`, `arrivals` and `trace`, and what it wrote. */
   async run(words, texts, most) {
     const { worker } = this;
     await this.isReady;

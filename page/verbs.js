@@ -1,4 +1,4 @@
-// Tabs of verbs over the design alone, each with what one verb writes. One more verb is one line of VERBS.
+// Tabs of verbs, each with what one verb writes of the texts that it takes. One more verb is one line of VERBS.
 "use strict";
 
 /** So many per mille as a factor. */
@@ -32,68 +32,159 @@ function marginView(out) {
 }
 
 /** `search`: an order of priorities under which the design passes. */
-function searchView(out) {
+function searchView(out, { design }) {
   const isSame = state.bounds !== null && out === state.boundsText;
   const head = isSame
     ? "The order by deadlines passes, so it is the one that is found."
     : "The order by deadlines fails, and under this order each thread keeps its limits.";
   const note = make("p", { class: "note" }, "No Ada text is written for another order than that by deadlines, and no run of one is proved.");
   const response = isSame ? PROVED : "the least number that meets the response equations under this order";
-  const tables = boundsTables(readBounds(out), tickOf(at("design").value), response);
+  const tables = boundsTables(readBounds(out), tickOf(design), response);
   return [make("p", {}, make("b", {}, head)), ...(isSame ? [] : [note]), ...tables];
 }
 
-// Of each verb its tab, the file that Save writes, and how its lines are shown.
+/** The hard threads with the bounds in the head of an Ada text, and the other tasks, which are clients. */
+function tasksOf(ada) {
+  const read = new ProgramReader(ada).read();
+  const program = read.tasks.size === 0 ? read : readProgram(ada);
+  const tasks = tasksByPriority(program);
+  return { program, hard: tasks.filter((task) => task.bound !== null), clients: tasks.filter((task) => task.bound === null) };
+}
+
+/** The hard threads of an Ada text as a table, with their sums. */
+function hardTable(hard, tick) {
+  const rows = hard.map(({ name, priority, deadline, jitter, bound }) =>
+    [name, priority, deadline, jitter, bound, deadline - bound, barOf({ name, response: bound, deadline })]);
+  const ticks = tick === null ? "Times are ticks." : `Times are ticks of ${tick}.`;
+  return tableOf(`Hard threads, by priority. ${ticks}`, ["Thread", "Priority", "Deadline", "Jitter", "Response", "Slack", "Of the deadline"], rows);
+}
+
+const CLIENT = "runs in the time that the hard threads leave, and again as soon as it has ended; no bound and no share of the time is promised";
+const SERVER = "serves one caller at a time, who waits for it; no hard thread is among them";
+
+/** Clients and servers of a design as a table, of which the Ada text tells priorities and ceilings. */
+function backgroundTable(design, { program, clients }) {
+  const rows = backgroundOf(design).map(({ name, hasThread }) => {
+    const priority = hasThread ? clients.find((task) => task.name === name)?.priority : program.ceilings.get(name);
+    return [name, hasThread ? "client" : "server", priority ?? "-", make("td", { class: "wide" }, hasThread ? CLIENT : SERVER)];
+  });
+  const table = tableOf("Background objects, below all hard threads", ["Object", "Kind", "Priority", "What it does"], rows);
+  table.className = "plain";
+  return table;
+}
+
+/** `background`: the Ada text of a design with clients and servers, and what it tells of bounds and priorities. */
+function backgroundView(out, { design }) {
+  const told = tasksOf(out);
+  const isPlain = backgroundOf(design).length === 0;
+  const head = isPlain
+    ? "The design has no background objects, so this is the text of `generate`."
+    : "Each hard thread keeps its deadline, whatever the clients and servers of the background do.";
+  const ceilings = [...told.program.ceilings].map(([name, ceiling]) => ({ name, ceiling }));
+  return [
+    make("p", {}, make("b", {}, head)),
+    ...(told.hard.length === 0 ? [] : [hardTable(told.hard, tickOf(design))]),
+    ...(isPlain ? [] : [backgroundTable(design, told)]),
+    ...ceilingTable(ceilings),
+    make("p", { class: "note" }, "The slack and the bars are reckoned by the page. What a client does inside a protected object counts as blocking."),
+    make("h3", {}, "Its Ada text"),
+    linesOf(out.trimEnd().split("\n")),
+  ];
+}
+
+/** `accepts`: whether a trace from anywhere is one that the design allows under the arrivals. */
+function acceptsView(out) {
+  const [, lines] = /^yes lines (\d+)\n$/.exec(out);
+  return [
+    make("p", {}, make("b", {}, `Yes: the design allows this trace under these arrivals. It has ${lines} lines.`)),
+    make("p", { class: "note" }, "Priorities and bounds aren't asked: an activation may wait as long as it likes."),
+  ];
+}
+
+const NO_TRACE = "Paste a trace below, open a file, or take that of this page's run and change it: is it one that the design allows under the "
+  + "arrivals, wherever it comes from?";
+const NO_MACHINE = "No trace of a design with background objects can be judged.";
+
+// Of each verb its tab, the files that it takes, the file that Save writes, and how its lines are shown; and what is told where one of its files
+// is empty, which is left out where none may be.
 const VERBS = [
-  { verb: "scale", label: "Margin", file: "margin.txt", view: marginView },
-  { verb: "search", label: "Search", file: "search.txt", view: searchView },
+  { verb: "scale", label: "Margin", takes: ["design"], file: "margin.txt", view: marginView },
+  { verb: "search", label: "Search", takes: ["design"], file: "search.txt", view: searchView },
+  { verb: "background", label: "Background", takes: ["design"], file: "background.ada", view: backgroundView },
+  { verb: "accepts", label: "Check a trace", takes: ["design", "arrivals", "trace"], file: "verdict.txt", view: acceptsView, none: NO_TRACE },
 ];
 
-/** The tab of a verb. Its run begins when the tab is chosen, and again when the design has changed meanwhile. */
+/** The tab of a verb. Its run begins when the tab is chosen, and again when a text that it takes has changed meanwhile. */
 class VerbTab {
-  constructor({ verb, label, file, view }) {
-    Object.assign(this, { verb, file, view });
-    this.design = null; // of the answer that is shown, or on its way
+  constructor({ verb, label, takes, file, view, none }) {
+    Object.assign(this, { verb, takes, file, view, none });
+    this.texts = null; // of the answer that is shown, or on its way
+    this.mark = null; // of what it refuses
     this.tab = make("button", { type: "button", role: "tab", id: `tab-${verb}`, "aria-controls": `panel-${verb}` }, label);
-    this.panel = make("div", { role: "tabpanel", id: `panel-${verb}`, "aria-labelledby": `tab-${verb}`, tabindex: "0", hidden: "" });
+    this.panel = at(`panel-${verb}`)
+      ?? make("div", { role: "tabpanel", id: `panel-${verb}`, "aria-labelledby": `tab-${verb}`, tabindex: "0", hidden: "" });
+    this.answer = answerPart(this.panel);
   }
 
   isChosen() {
     return !this.panel.hidden;
   }
 
-  /** Shows what the verb answers of this design, when it is there. */
-  async want(design) {
-    if (this.design === design) {
-      if (this.panel.getAttribute("aria-busy") !== "true") this.panel.classList.remove("stale");
-      return;
-    }
-    this.design = design;
-    this.panel.setAttribute("aria-busy", "true");
-    const stop = make("button", { type: "button", class: "go cut" }, "Stop");
-    const slow = setTimeout(() => this.panel.replaceChildren(make("p", { class: "note" }, "Running\u2026 ", stop)), SLOW);
-    const told = await run([this.verb, "design"], { design }).catch((fault) => ({ fault: fault.message }));
-    clearTimeout(slow);
-    // The design has changed meanwhile, and its answer comes behind.
-    if (this.design !== design) return;
-    this.panel.setAttribute("aria-busy", "false");
-    this.panel.classList.remove("stale");
-    this.panel.replaceChildren(...this.shown(told));
+  isOf(texts) {
+    return this.texts !== null && this.takes.every((kind) => this.texts[kind] === texts[kind]);
   }
 
-  shown({ fault, status, out, err }) {
+  /** Shows what the verb answers of these texts, when it is there. */
+  async want(texts) {
+    if (this.isOf(texts)) {
+      if (this.panel.getAttribute("aria-busy") !== "true") this.answer.classList.remove("stale");
+      return;
+    }
+    const given = Object.fromEntries(this.takes.map((kind) => [kind, texts[kind]]));
+    [this.texts, this.mark] = [given, null];
+    if (this.none !== undefined && this.takes.some((kind) => given[kind] === "")) return this.put(make("p", { class: "note" }, this.none));
+    this.panel.setAttribute("aria-busy", "true");
+    const stop = make("button", { type: "button", class: "go cut" }, "Stop");
+    const slow = setTimeout(() => this.answer.replaceChildren(make("p", { class: "note" }, "Running\u2026 ", stop)), SLOW);
+    const told = await run([this.verb, ...this.takes], given).catch((fault) => ({ fault: fault.message }));
+    clearTimeout(slow);
+    // A text has changed meanwhile, and its answer comes behind.
+    if (this.texts !== given) return;
+    this.put(...this.shown(told, given));
+    if (told.fault === undefined) this.answer.classList.add(told.status === 0 ? "good" : "bad");
+    showMarks();
+  }
+
+  put(...parts) {
+    this.panel.setAttribute("aria-busy", "false");
+    this.answer.classList.remove("stale", "good", "bad");
+    this.answer.replaceChildren(...parts);
+  }
+
+  shown({ fault, status, out, err }, given) {
     if (fault !== undefined) {
-      this.design = null;
+      this.texts = null;
       const again = make("button", { type: "button", class: "go" }, "Run again");
-      again.addEventListener("click", () => this.want(at("design").value));
+      again.addEventListener("click", () => this.want(textsNow()));
       return [make("p", { class: "note" }, fault === "cut off" ? "The run was stopped. " : `${fault} `, again)];
     }
-    if (status !== 0) {
-      const line = err.trimEnd() || "no memory";
-      const [head, hint] = plain(line);
-      return [make("p", {}, make("b", {}, head)), make("p", {}, hint), make("pre", { class: "text" }, line)];
-    }
+    if (status !== 0) return this.refused(err.trimEnd() || "no memory", given);
     const lines = make("details", {}, make("summary", {}, "The program's own lines"), make("pre", { class: "text" }, out.trimEnd()));
-    return [make("div", { class: "tools" }, saveButton(this.file, () => out)), ...this.view(out), lines];
+    return [make("div", { class: "tools" }, saveButton(this.file, () => out)), ...this.view(out, given), lines];
+  }
+
+  /** What is refused, in plain words, with the button that leads to its place. */
+  refused(line, given) {
+    const [head, hint] = plain(line);
+    this.mark = markOf(line, given) ?? (given.trace === undefined ? null : markOfTrace(line, given, state.trace?.lines ?? null));
+    const why = this.mark?.why ? [make("p", {}, `The program tells the part; the page marks a line of it: ${this.mark.why}.`)] : [];
+    const isOther = this.verb === "accepts" && backgroundOf(given.design).length > 0;
+    return [
+      ...goButton(this.mark).map((button) => make("div", { class: "tools" }, button)),
+      make("p", {}, make("b", {}, head)),
+      ...why,
+      make("p", {}, isOther ? NO_MACHINE : hint),
+      make("pre", { class: "text" }, line),
+    ];
   }
 }

@@ -14,10 +14,10 @@ import re
 import sys
 
 TOP = os.path.dirname(os.path.dirname(os.path.abspath(__file__)))
-SCRIPTS = ('refusals', 'texts', 'runs', 'traces', 'chart', 'bounds', 'timeline', 'verbs', 'page')
-# What the page calls an example, and its two texts.
+SCRIPTS = ('refusals', 'texts', 'runs', 'traces', 'trace_places', 'chart', 'bounds', 'timeline', 'verbs', 'page')
+# What the page calls an example, and its texts: a design, arrivals and for some a trace.
 EXAMPLES = (
-    ('Mine pump', 'mine_pump.design', 'one_water_alarm.arrivals'),
+    ('Mine pump', 'mine_pump.design', 'one_water_alarm.arrivals', 'one_water_alarm.trace'),
     ('Mine pump, a sensor is blocked', 'mine_pump.design', 'blocked_sensor.arrivals'),
     ('Flight control', 'flight_control.design', 'flight_control.arrivals'),
     ('Data handling', 'data_handling.design', 'data_handling.arrivals'),
@@ -25,8 +25,10 @@ EXAMPLES = (
     ('An object of every kind', 'every_kind.design', 'two_presses.arrivals'),
     ('A thread that starts another', 'units_of_every_kind.design', 'until_150.arrivals'),
     ('One cyclic object', 'one_cyclic_object.design', 'until_20.arrivals'),
+    ('Clients and servers in the background', 'logged_control.design', 'until_40.arrivals'),
     ('Refused: a deadline too short', 'faults/u1.design', 'flight_control.arrivals'),
     ('Refused: a request too near', 'data_handling.design', 'faults/q3.arrivals'),
+    ('Refused: a trace with two inside one object', 'mine_pump.design', 'one_water_alarm.arrivals', 'faults/t2e.trace'),
 )
 
 
@@ -41,7 +43,8 @@ def as_script(value):
 
 
 def examples():
-    return {name: {'design': text_of('examples', design), 'arrivals': text_of('examples', arrivals)} for name, design, arrivals in EXAMPLES}
+    kinds = ('design', 'arrivals', 'trace')
+    return {name: {kind: text_of('examples', file) for kind, file in zip(kinds, files)} for name, *files in EXAMPLES}
 
 
 def scripts():

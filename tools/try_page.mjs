@@ -45,7 +45,7 @@ function answerOf(line, cwd = EXAMPLES) {
 function handedIn(line) {
   const texts = {};
   const given = line.map((word) => {
-    const kind = { ".design": "design", ".ada": "program", ".arrivals": "arrivals" }[/\.\w+$/.exec(word)?.[0]];
+    const kind = { ".design": "design", ".ada": "program", ".arrivals": "arrivals", ".trace": "trace" }[/\.\w+$/.exec(word)?.[0]];
     if (kind === undefined || !existsSync(join(EXAMPLES, word)) || texts[kind] !== undefined) return word;
     texts[kind] = read(word);
     return kind;
@@ -78,26 +78,33 @@ function filesOf(folder, ending) {
 
 const designs = [...filesOf("", ".design"), ...filesOf("faults", ".design"), ...filesOf("mistakes", ".design")];
 const arrivals = [...filesOf("", ".arrivals"), ...filesOf("faults", ".arrivals")];
+const traces = [...filesOf("", ".trace"), ...filesOf("faults", ".trace")];
+const OVER_DESIGNS = ["check", "analyse", "format", "generate", "search", "scale", "background"];
 
 /** Each verb over all files that it takes. */
 function allLines() {
-  const lines = [[], ["help"], ["sample"], ["sample", "0"], ["sample", "31"], ["check", "design"].slice(0, 1)];
-  for (const design of designs) for (const verb of ["check", "analyse", "format", "generate", "search", "scale", "background"]) lines.push([verb, design]);
+  const lines = [[], ["help"], ["sample"], ["sample", "0"], ["sample", "31"], ["check"]];
+  for (const design of designs) for (const verb of OVER_DESIGNS) lines.push([verb, design]);
   for (const design of filesOf("", ".design")) for (const one of arrivals) lines.push(["verify", design, one]);
   for (const ada of filesOf("", ".ada")) for (const one of arrivals) lines.push(["replay", ada, one]);
+  for (const design of designs) lines.push(["accepts", design, "one_water_alarm.arrivals", "one_water_alarm.trace"]);
+  for (const one of arrivals) for (const trace of traces) lines.push(["accepts", "mine_pump.design", one, trace]);
   for (const count of [1, 2, 7, 30]) lines.push(["sample", String(count)]);
   return lines;
 }
 
-/** A page hands three words to the program and has no text of a trace, so what needs one is left to the program's own cases. */
-function needsNoTrace(line) {
-  return !line.some((word) => word.endsWith(".trace"));
+/** The verbs of the usage line. */
+function verbsOfUsage() {
+  return [...answerOf(["help"]).err.matchAll(/(?:usage: hrthood|\|) (\w+)/g)].map((found) => found[1]);
 }
 
 async function tryVerbs(page) {
-  const [tables, all] = [casesOfTables().filter(needsNoTrace), allLines()];
+  const [tables, all] = [casesOfTables(), allLines()];
+  const verbs = verbsOfUsage();
+  judge(verbs.length > 10, `verbs of the usage line: ${verbs}`);
+  for (const verb of verbs) judge(all.some((line) => line[0] === verb && line.length > 1), `${verb} is tried over the examples`);
   for (const line of [...tables, ...all]) await compare(page, line);
-  console.log(`${tables.length} cases of the tables and ${all.length} lines of words over all examples`);
+  console.log(`${tables.length} cases of the tables and ${all.length} lines of words over all examples, of ${verbs.length} verbs`);
 }
 
 // ---- What is refused ----
@@ -123,7 +130,8 @@ function wantedMark(line, text) {
   const [, code, ...names] = line.replace(" cost ", " ").split(" ");
   if (code === "Q4") return { marked: /until\s+(\w+)/.exec(bare(text))[1] };
   if (code.startsWith("Q")) return { line: Number(names[1]) };
-  if (["V06", "V07", "V08"].includes(code)) return { marked: names[1] };
+  if (["V06", "V07", "V08", "A2", "A4"].includes(code)) return { marked: names[1] };
+  if (code === "A5") return { marked: "deadline" };
   if (code === "V13") return names[1] === "thread" ? { marked: "thread" } : { marked: names[1], behind: "operation" };
   if (code === "V17" && names[0] === "priorities") return { marked: "priorities" };
   if (code === "V15" && names[0] === "threads") return { marked: "design" };
@@ -159,10 +167,15 @@ function judgeMark(told, line, kind, name) {
   judge(new RegExp(`${wanted.behind}\\s+$`).test(bare(before)), `${name}: ${line} is marked at its ${wanted.behind}`);
 }
 
+/** A design with clients and servers is judged by `background`. */
+function hasBackground(design) {
+  return /^(logged_control|faults\/a\d)\.design$/.test(design);
+}
+
 async function tryMarks(page) {
   let count = 0;
   for (const design of designs) {
-    const { status, err } = answerOf(["analyse", design]);
+    const { status, err } = answerOf([hasBackground(design) ? "background" : "analyse", design]);
     if (status === 0) continue;
     await set(page, { design: read(design), arrivals: read("until_150.arrivals") });
     judgeMark(await shown(page), err.trimEnd(), "design", design);
@@ -228,20 +241,36 @@ const MARGINS = [
   ["one_cyclic_object.design", "at up to 3 times", "a is over its limit first"],
 ];
 
+/** The rows of the first table of a tab, of the lines that the program writes. */
+function wantedRows(verb, out) {
+  const lines = out.split("\n").map((line) => line.split(" "));
+  if (verb === "search") {
+    const threads = lines.filter((words) => words[0] === "thread");
+    return threads.map((words) => words.filter((_, index) => index % 2 === 1 || index === 16).slice(0, 8));
+  }
+  if (verb !== "background") return [];
+  const heads = lines.filter((words) => words[0] === "--" && words[1] === "thread");
+  return heads.map(([, , name, , priority, , jitter, , response, , deadline]) =>
+    [name, priority, deadline, jitter, response, String(Number(deadline) - Number(response))]);
+}
+
 /** Each tab shows what its verb answers, of designs that are taken and of others, and again when the design has changed. */
 async function tryVerbTabs(page) {
   let count = 0;
-  for (const design of ["mine_pump.design", "jittered_alarm.design", "units_of_every_kind.design", "faults/u1.design", "faults/v13_b6.design"]) {
+  const shown = ["mine_pump.design", "jittered_alarm.design", "units_of_every_kind.design", "faults/u1.design", "faults/v13_b6.design",
+    "logged_control.design", ...filesOf("faults", ".design").filter(hasBackground)];
+  for (const design of shown) {
     await set(page, { design: read(design), arrivals: read("until_150.arrivals") });
-    for (const verb of ["scale", "search"]) {
+    for (const verb of ["scale", "search", "background"]) {
       const { status, out, err } = answerOf([verb, design]);
       const told = await panelOf(page, verb);
+      const wanted = status === 0 ? out.toString() : err;
       same([told.isShown, told.isStale], [true, false], `${verb} of ${design} is shown`);
-      same(told.line, (status === 0 ? out.toString() : err).trimEnd(), `${verb} of ${design}: the program's lines`);
+      same(told.line, wanted.trimEnd(), `${verb} of ${design}: the program's lines`);
       judge(told.head.length > 20 && !/refused |NAME|undefined|NaN/.test(told.head), `${verb} of ${design}: a sentence: ${told.head}`);
-      const threads = status === 0 && verb === "search" ? out.toString().split("\n").filter((line) => line.startsWith("thread ")) : [];
-      const numbers = threads.map((line) => line.split(" ")).map((words) => words.filter((_, index) => index % 2 === 1 || index === 16));
-      same(told.rows.map((row) => row.slice(0, 8)), numbers.map((words) => words.slice(0, 8)), `${verb} of ${design}: its table`);
+      const rows = status === 0 ? wantedRows(verb, wanted) : [];
+      same(told.rows.map((row) => row.slice(0, rows[0]?.length)), rows, `${verb} of ${design}: its table`);
+      if (status !== 0) await judgePlace(page, wanted.trimEnd(), `${verb} of ${design}`);
       count++;
     }
   }
@@ -251,12 +280,130 @@ async function tryVerbTabs(page) {
     judge(told.head.includes(head) && told.text.includes(next), `the margin of ${design}: ${told.text}`);
   }
   await page.evaluate("document.getElementById('tab-scale').focus()");
-  await page.press("1", 1, "Digit1");
-  same(await page.evaluate("document.getElementById('panel-bounds').hidden"), false, "Alt and 1 choose the bounds");
-  await page.press("6", 1, "Digit6");
-  same(await page.evaluate("document.getElementById('panel-search').hidden"), false, "Alt and 6 choose the search");
+  const tabs = ["bounds", "timeline", "trace", "ada", "scale", "search", "background", "accepts"];
+  for (const [index, tab] of tabs.entries()) {
+    await page.press(String(index + 1), 1, `Digit${index + 1}`);
+    same(await page.evaluate(`document.getElementById('panel-${tab}').hidden`), false, `Alt and ${index + 1} choose ${tab}`);
+  }
   await page.evaluate("document.getElementById('tab-bounds').click()");
   console.log(`${count} answers in the tabs of verbs`);
+}
+
+/** A refusal of the tab that is chosen is marked in its text, though the verdict's own may be another, and its button selects it. */
+async function judgePlace(page, line, what) {
+  if (/^refused P/.test(line)) return;
+  const told = await shown(page);
+  judgeMark({ ...told, line, head: `${what} tells more`, isBad: true }, line, "design", what);
+  await page.evaluate("document.querySelector('[role=tabpanel]:not([hidden]) .go').click()");
+  const selected = await page.evaluate("[document.activeElement.id, document.activeElement.selectionStart]");
+  same(selected, ["design", told.index], `${what}: the way to its place`);
+}
+
+/** A design with clients and servers: its verdict, its bounds, its trace, and what is refused of its arrivals. */
+async function tryBackground(page) {
+  const design = "logged_control.design";
+  await set(page, { design: read(design), arrivals: read("until_40.arrivals") });
+  const told = await shown(page);
+  judge(told.head.includes("hard threads of logged_control is met"), `the verdict of a design with clients: ${told.head}`);
+  judge(/^hard threads 1, background objects 2; /.test(told.line), `its line: ${told.line}`);
+  same(await page.evaluate("state.trace.text"), answerOf(["replay", "logged_control.ada", "until_40.arrivals"]).out.toString(), "its trace");
+  same(await page.evaluate("state.ada"), read("logged_control.ada"), "its Ada text");
+  await page.evaluate("document.getElementById('tab-bounds').click()");
+  const cells = "[...document.querySelectorAll('#panel-bounds tbody tr')].map((row) => [...row.cells].slice(0, 6).map((cell) => cell.textContent))";
+  same(await page.evaluate(cells), [["control", "2", "15", "0", "10", "5"]], "the bounds of its hard thread");
+  await page.evaluate("document.querySelector('#panel-bounds .tools button').click()");
+  await page.until("document.getElementById('panel-background').getAttribute('aria-busy') === 'false'", 30);
+  const tables = await page.evaluate(`[...document.querySelectorAll('#panel-background table')].slice(1)
+    .map((table) => [...table.tBodies[0].rows].map((row) => [...row.cells].slice(0, 3).map((cell) => cell.textContent)))`);
+  const wanted = [[["journal", "server", "1"], ["reporter", "client", "1"]], [["state", "2"], ["journal", "1"]]];
+  same(tables, wanted, "its clients, servers and ceilings");
+  await set(page, { design: read(design), arrivals: "UNTIL 40;\nAT 3 control;\n" });
+  const refused = await shown(page);
+  judge(refused.line === "refused Q2 line 2 control" && refused.kind === "arrivals", `arrivals that it refuses: ${refused.line}`);
+}
+
+// ---- Traces to check ----
+
+/** The line that is to be marked in each trace of examples/faults, which differs from a trace of the mine pump there. */
+const BROKEN = { "t1.trace": 5, "t2a.trace": 6, "t2b.trace": 28, "t2c.trace": 13, "t2c_thread.trace": 14, "t2d.trace": 9, "t2e.trace": 18 };
+
+/** What the tab tells of the trace that stands in its text: the program's line, a sentence, and the number of the line that is marked. */
+async function judged(page) {
+  await page.evaluate("document.getElementById('tab-accepts').click()");
+  await page.until("document.getElementById('panel-accepts').getAttribute('aria-busy') === 'false'", 60);
+  return page.evaluate(`(() => {
+    const [panel, { mark, area }] = [document.getElementById("panel-accepts"), editors.trace];
+    return { line: panel.querySelector("pre.text")?.textContent, head: panel.querySelector("b")?.textContent,
+      row: mark === null ? null : editors.trace.rowOf(mark.index), marked: mark && area.value.slice(mark.index, mark.index + mark.length) };
+  })()`);
+}
+
+/** A change of one line of a trace: its number, and the lines that come in its place. */
+function changesOf(lines) {
+  const changes = [];
+  for (const [index, line] of lines.entries()) {
+    const words = line.split(" ");
+    const later = [Number(words[0]) + 1, ...words.slice(1)].join(" ");
+    changes.push([index, []], [index, [`${line} `]], [index, [line.replace(words[1], "wait")]]);
+    if (words[1] === "release" || words[1] === "arrive") changes.push([index, [later]], [index, [line, line]]);
+    if (words[1] === "enter") changes.push([index, [line.replace(/\d+$/, (digits) => Number(digits) + 1)]]);
+    if (words[1] === "end") changes.push([index, [line.replace(/\d+$/, (digits) => Number(digits) + 1)]]);
+  }
+  return changes;
+}
+
+/** Traces that are changed in one line: what is told is what the program tells, and the line that is marked is that one, or near to it. */
+async function tryChanged(page, design, given, most) {
+  const arrivals = read(given);
+  const own = answerOf(["verify", design, given]).out.toString().split("\n-- trace\n")[1];
+  await set(page, { design: read(design), arrivals, trace: own });
+  same((await judged(page)).line, `yes lines ${own.split("\n").length - 1}`, `the own trace of ${design} is accepted`);
+  const lines = own.trimEnd().split("\n");
+  const changes = changesOf(lines);
+  const step = Math.max(1, Math.floor(changes.length / most));
+  const room = mkdtempSync(join(tmpdir(), "page-"));
+  let [count, near] = [0, 0];
+  for (const [index, others] of changes.filter((_, place) => place % step === 0)) {
+    const trace = [...lines.slice(0, index), ...others, ...lines.slice(index + 1), ""].join("\n");
+    writeFileSync(join(room, "trace"), trace);
+    const wanted = answerOf(["accepts", design, given, join(room, "trace")]);
+    await page.evaluate(`editors.trace.set(${js(trace)}); wantChosen(); null`);
+    const told = await judged(page);
+    const what = `line ${index + 1} of the trace of ${design} as ${js(others)}`;
+    same(told.line, (wanted.status === 0 ? wanted.out.toString() : wanted.err).trimEnd(), what);
+    if (wanted.status === 0) continue;
+    judge(told.row !== null && told.marked !== "", `${what}: ${told.line} marks a line`);
+    if (told.line.startsWith("refused T1 ")) same(told.row, Number(told.line.split(" ")[3]), `${what}: the line that is told is marked`);
+    count++;
+    if (Math.abs(told.row - index - 1) <= 1) near++;
+  }
+  rmSync(room, { recursive: true, force: true });
+  judge(count > 20, `changed traces of ${design}`);
+  return [count, near];
+}
+
+async function tryTraces(page) {
+  const mine = { design: read("mine_pump.design"), arrivals: read("one_water_alarm.arrivals") };
+  for (const [name, row] of Object.entries(BROKEN)) {
+    await set(page, { ...mine, trace: read(`faults/${name}`) });
+    const told = await judged(page);
+    same(told.line, answerOf(["accepts", "mine_pump.design", "one_water_alarm.arrivals", `faults/${name}`]).err.trimEnd(), `what is told of ${name}`);
+    judge(told.head.length > 20 && !/refused |NAME|undefined/.test(told.head), `${name}: a sentence: ${told.head}`);
+    same(told.row, row, `the line of ${name} that is marked`);
+  }
+  await set(page, mine);
+  const none = await page.evaluate("[document.querySelector('#panel-accepts .answer').textContent.slice(0, 5), editors.trace.mark]");
+  same(none, ["Paste", null], "no trace");
+  await page.evaluate("document.getElementById('own').click()");
+  await page.until("document.querySelector('#panel-accepts b')?.textContent.startsWith('Yes')", 30);
+  await page.evaluate("(() => { editors.trace.area.focus(); editors.trace.area.setSelectionRange(0, 0); })()");
+  await page.press("7");
+  await page.until("document.querySelector('#panel-accepts pre.text')?.textContent === 'refused T2 a' && editors.trace.mark !== null", 30);
+  const [some, others] = [await tryChanged(page, "mine_pump.design", "blocked_sensor.arrivals", 160),
+    await tryChanged(page, "data_handling.design", "data_handling.arrivals", 120)];
+  const [count, near] = [some[0] + others[0], some[1] + others[1]];
+  judge(near >= 0.7 * count, `the line that was changed is marked, or one beside it: ${near} of ${count}`);
+  console.log(`${count} changed traces are refused; in ${near} of them the line that is marked is at most one from the change`);
 }
 
 // ---- The timeline, and what is saved ----
@@ -276,14 +423,21 @@ const PAIRS = [
   ["data_handling.design", "data_handling.arrivals", [[0, 300], [900, 1300]]],
   ["every_kind.design", "two_presses.arrivals", [[10, 40]]],
   ["units_of_every_kind.design", "until_150.arrivals", [[0, 150]]],
+  ["logged_control.design", "until_40.arrivals", [[0, 40]]],
 ];
+
+/** The Ada text of a design, and its trace behind the line between them. */
+function textAndTrace(design, given) {
+  if (!hasBackground(design)) return answerOf(["verify", design, given]).out;
+  return `${read("logged_control.ada")}-- trace\n${answerOf(["replay", "logged_control.ada", given]).out}`;
+}
 
 async function tryTimeline(page) {
   let count = 0;
   await page.evaluate("document.getElementById('tab-timeline').click()");
   for (const [design, given, windows] of PAIRS) {
     await set(page, { design: read(design), arrivals: read(given) });
-    const output = answerOf(["verify", design, given]).out;
+    const output = textAndTrace(design, given);
     for (const [from, to] of windows) {
       const last = await page.evaluate("timeline.trace.last");
       const end = Math.min(to, last);
@@ -326,13 +480,16 @@ async function tryWindow(page) {
 async function trySaves(browser, page) {
   const room = mkdtempSync(join(tmpdir(), "page-"));
   await browser.call("Browser.setDownloadBehavior", { behavior: "allow", downloadPath: room });
-  await set(page, { design: read("mine_pump.design"), arrivals: read("one_water_alarm.arrivals") });
+  await set(page, { design: read("mine_pump.design"), arrivals: read("one_water_alarm.arrivals"), trace: read("one_water_alarm.trace") });
   const verified = answerOf(["verify", "mine_pump.design", "one_water_alarm.arrivals"]).out.toString();
   const cut = verified.indexOf("-- trace\n");
   const analysed = answerOf(["analyse", "mine_pump.design"]).out.toString();
   const wanted = { "bounds.txt": analysed, "trace.txt": verified.slice(cut + 9), "design.ada": verified.slice(0, cut) };
   wanted["margin.txt"] = answerOf(["scale", "mine_pump.design"]).out.toString();
-  const saves = [["bounds", "bounds.txt"], ["timeline", "timeline.svg"], ["trace", "trace.txt"], ["ada", "design.ada"], ["scale", "margin.txt"]];
+  wanted["background.ada"] = answerOf(["background", "mine_pump.design"]).out.toString();
+  wanted["verdict.txt"] = "yes lines 36\n";
+  const saves = [["bounds", "bounds.txt"], ["timeline", "timeline.svg"], ["trace", "trace.txt"], ["ada", "design.ada"], ["scale", "margin.txt"],
+    ["background", "background.ada"], ["accepts", "verdict.txt"]];
   for (const [tab, name] of saves) {
     await page.evaluate(`document.getElementById('tab-${tab}').click()`);
     await page.until(`document.querySelector('#panel-${tab}:not([aria-busy=true]) .tools button') !== null`, 30);
@@ -441,6 +598,12 @@ async function tryKeyboard(page) {
   const nameless = focusable.filter((node) => !node.name?.value && node.role.value !== "RootWebArea").map((node) => node.role.value);
   same(nameless, [], "controls without a name");
   judge(focusable.length > 20, "controls");
+  await page.evaluate("document.getElementById('tab-accepts').click()");
+  for (const name of ["accepts", "own", "Open a trace", "Save the trace to check", "trace"]) {
+    await page.press("Tab");
+    if (name === "accepts") await page.evaluate("document.getElementById('panel-accepts').focus()");
+    else same(await page.evaluate("document.activeElement.ariaLabel || document.activeElement.id"), name, `the Tab key reaches ${name}`);
+  }
   await page.evaluate("document.getElementById('tab-timeline').focus()");
   await page.press("ArrowRight");
   const chosen = await page.evaluate("[document.activeElement.id, document.getElementById('panel-trace').hidden]");
@@ -486,24 +649,29 @@ async function tryColours(page) {
     await set(page, { design: read("faults/u1.design"), arrivals: read("until_20.arrivals") });
     same(await page.evaluate(CONTRAST), [], `texts of too little contrast in ${scheme} colours, of a refusal`);
   }
+  const others = [["scale", "jittered_alarm.design"], ["search", "jittered_alarm.design"], ["background", "logged_control.design"],
+    ["background", "faults/a2.design"], ["accepts", "mine_pump.design"]];
   for (const scheme of ["light", "dark"]) {
     await page.scheme(scheme);
-    await set(page, { design: read("jittered_alarm.design"), arrivals: read("until_20.arrivals") });
-    for (const verb of ["scale", "search"]) {
+    for (const [verb, design] of others) {
+      await set(page, { design: read(design), arrivals: read("one_water_alarm.arrivals"), trace: read("faults/t2e.trace") });
       await panelOf(page, verb);
-      same(await page.evaluate(CONTRAST), [], `texts of too little contrast in ${scheme} colours, of ${verb}`);
+      same(await page.evaluate(CONTRAST), [], `texts of too little contrast in ${scheme} colours, of ${verb} of ${design}`);
     }
   }
   await page.scheme("light");
 }
 
 async function tryNarrow(page) {
-  await set(page, { design: read("mine_pump.design"), arrivals: read("one_water_alarm.arrivals") });
-  for (const width of [360, 600, 900]) {
-    await page.size(width, 800);
-    await page.evaluate("new Promise((done) => setTimeout(done, 100))");
-    const wide = await page.evaluate("document.scrollingElement.scrollWidth");
-    judge(wide <= width, `a window of ${width} pixels: the page takes ${wide}`);
+  for (const [tab, design] of [["timeline", "mine_pump.design"], ["accepts", "mine_pump.design"], ["background", "logged_control.design"]]) {
+    await page.evaluate(`document.getElementById('tab-${tab}').click()`);
+    await set(page, { design: read(design), arrivals: read("one_water_alarm.arrivals"), trace: read("faults/t2e.trace") });
+    for (const width of [360, 600, 900]) {
+      await page.size(width, 800);
+      await page.evaluate("new Promise((done) => setTimeout(done, 100))");
+      const wide = await page.evaluate("document.scrollingElement.scrollWidth");
+      judge(wide <= width, `${tab} in a window of ${width} pixels: the page takes ${wide}`);
+    }
   }
   await page.size(1400, 900);
 }
@@ -527,6 +695,7 @@ async function takePictures(page) {
     await page.evaluate(`document.getElementById('tab-${tab}').click()`);
     await set(page, texts);
     if (name === "timeline" || name === "dark") await page.evaluate("timeline.window(396, 546)");
+    await page.until("document.querySelector('[aria-busy=true]') === null");
     await page.evaluate("new Promise((done) => setTimeout(done, 150))");
     await page.shoot(join(pictures, `${name}.png`));
   };
@@ -537,6 +706,13 @@ async function takePictures(page) {
   await take("ada", "ada", mine);
   await take("margin", "scale", mine);
   await take("search", "search", { design: read("jittered_alarm.design"), arrivals: read("until_20.arrivals") }, "dark");
+  await take("background", "background", { design: read("logged_control.design"), arrivals: read("until_40.arrivals") });
+  await take("background_timeline", "timeline", { design: read("logged_control.design"), arrivals: read("until_40.arrivals") });
+  await take("background_refused", "background", { design: read("faults/a4.design"), arrivals: read("until_40.arrivals") }, "dark");
+  const traced = (name) => ({ design: mine.design, arrivals: read("one_water_alarm.arrivals"), trace: read(name) });
+  await take("accepted", "accepts", traced("one_water_alarm.trace"));
+  await take("not_accepted", "accepts", traced("faults/t2e.trace"), "dark");
+  await take("narrow_trace", "accepts", traced("faults/t2e.trace"), "light", [400, 1600]);
   await take("refused", "bounds", { design: read("faults/v13_b6.design"), arrivals: read("data_handling.arrivals") });
   await take("late", "bounds", { design: read("faults/u1.design"), arrivals: read("flight_control.arrivals") });
   await take("arrivals", "bounds", { design: read("data_handling.design"), arrivals: read("faults/q3.arrivals") }, "dark");
@@ -566,8 +742,8 @@ try {
   tryCodes();
   const page = await browser.open(pathToFileURL(file).href);
   await page.until("document.querySelector('#verdict.good')", 120);
-  const steps = { tryVerbs, tryMarks, tryTyping, tryFormat, tryVerbTabs, tryTimeline, tryWindow, tryLarge, tryMemory, tryStop, tryKeyboard,
-    tryColours, tryNarrow };
+  const steps = { tryVerbs, tryMarks, tryTyping, tryFormat, tryVerbTabs, tryBackground, tryTraces, tryTimeline, tryWindow, tryLarge, tryMemory,
+    tryStop, tryKeyboard, tryColours, tryNarrow };
   for (const [name, step] of Object.entries(steps)) await step(page).catch((fault) => judge(false, `${name}: ${fault.message}`));
   await trySaves(browser, page);
   await tryQuiet(page);

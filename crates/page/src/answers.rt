@@ -59,41 +59,44 @@ fn copied(from: &[u8], to: &mut [u8]) -> usize
 /// Runs the words of a page over its texts, with so much room for what is written.
 fn run_page(
     alloc: Global,
-    words: (&[u8], &[u8], &[u8]),
-    texts: (&[u8], &[u8], &[u8]),
+    words: (&[u8], &[u8], &[u8], &[u8]),
+    texts: (&[u8], &[u8], &[u8], &[u8]),
     out_room: usize,
     err_room: usize,
 ) -> Result<Run, NoMemory>
-    ensures { IfOk result (λ r. Answers r.status words.entry.0.now words.entry.1.now words.entry.2.now
-        (record { design = texts.entry.0.now; program = texts.entry.1.now; arrivals = texts.entry.2.now }) (bytes_of r.out) (bytes_of r.err)) }
+    ensures { IfOk result (λ r. Answers r.status words.entry.0.now words.entry.1.now words.entry.2.now words.entry.3.now
+        (record { design = texts.entry.0.now; program = texts.entry.1.now; arrivals = texts.entry.2.now; trace = texts.entry.3.now })
+        (bytes_of r.out) (bytes_of r.err)) }
 {
-    let mut shelf = page_shelf(alloc, texts.0, texts.1, texts.2)?;
-    let words = given_words(alloc, words.0, words.1, words.2)?;
+    let mut shelf = page_shelf(alloc, texts.0, texts.1, texts.2, texts.3)?;
+    let words = given_words(alloc, words.0, words.1, words.2, words.3)?;
     run_over(alloc, &words, &mut shelf, out_room, err_room)
 }
 
-/// Runs the words of a page, of which an empty one is none, over its texts, whose names are `design`, `program` and `arrivals`. What the
-/// run writes to standard output stands at the front of `out`, and what it writes to standard error at that of `err`. Where memory is
-/// wanted before the run begins, nothing is written, and the status is that of wanted memory.
+/// Runs the words of a page, of which an empty one is none, over its texts, whose names are `design`, `program`, `arrivals` and `trace`.
+/// What the run writes to standard output stands at the front of `out`, and what it writes to standard error at that of `err`. Where memory
+/// is wanted before the run begins, nothing is written, and the status is that of wanted memory.
 #[unsafe(no_mangle)]
 pub extern "C" fn page_run(
     alloc: Global,
     first: &[u8],
     second: &[u8],
     third: &[u8],
+    fourth: &[u8],
     design: &[u8],
     program: &[u8],
     arrivals: &[u8],
+    trace: &[u8],
     out: &mut [u8],
     err: &mut [u8],
     answer: &mut Answer,
 )
-    ensures { IsAnswer answer.new.status answer.new.out answer.new.err first.now second.now third.now
-        (record { design = design.now; program = program.now; arrivals = arrivals.now })
+    ensures { IsAnswer answer.new.status answer.new.out answer.new.err first.now second.now third.now fourth.now
+        (record { design = design.now; program = program.now; arrivals = arrivals.now; trace = trace.now })
         (take answer.new.out out.new) (length out.old) (take answer.new.err err.new) (length err.old) }
 {
-    let words = (first, second, third);
-    let texts = (design, program, arrivals);
+    let words = (first, second, third, fourth);
+    let texts = (design, program, arrivals, trace);
     match run_page(alloc, words, texts, out.len(), err.len()) {
         Ok(run) => {
             answer.status = run.status.code();

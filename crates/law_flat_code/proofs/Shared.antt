@@ -2,6 +2,7 @@
 pub mod Begins
 pub mod Calling
 pub mod Entering
+pub mod Follows
 pub mod Going
 pub mod Moves
 pub mod Places

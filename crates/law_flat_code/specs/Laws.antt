@@ -10,6 +10,7 @@ use Rattle.machine.specs.Pieces.{Piece, Calling, Finishing, Turned, pieces}
 use Rattle.law_flat_code.specs.Codes.{Ins, BlockStands, BodyStands, block_size, told_by}
 use Rattle.law_flat_code.specs.Aheads.{Ahead, Context, Somewhere}
 use Rattle.law_flat_code.specs.Withins.{AllLead, StaysWithin, scope_within, within}
+use Rattle.law_flat_code.specs.Following.{DependsBelow, Stepping, block_view}
 use Rattle.law_flat_code.specs.Steps.{Calls, Finishes, GoesOn, GoesPast, IsInside, IsOwn, IsPart, IsReturn, Passes, Returns, TurnEnds}
 
 -- ahead of a block are its pieces, and those that are ahead of its end
@@ -80,3 +81,9 @@ BlocksBegin = (b : Statements) (open' : Bool) (depth : ℕ) (turn : ℕ → ℕ)
 abbrev pub MovesStay : Type 0
 MovesStay = (b : Statements) (reads : Variables → ℕ → Ins → Bool) (scope : Variables) (out pc n to : ℕ) (open' : Bool) (depth : ℕ) (turn : ℕ → ℕ) (rest : List Piece)
     → BlockStands (told_by reads) scope out pc b → n < block_size b → AllLead (told_by reads) (pc + n) to → StaysWithin b pc n to open' depth turn scope rest
+
+-- each instruction of a block: what it is, and from which place and turns on the pieces after it are left
+abbrev pub InstructionsFollow : Type 0
+InstructionsFollow = (b : Statements) (reads : Variables → ℕ → Ins → Bool) (scope : Variables) (out pc n : ℕ) (open' : Bool) (depth : ℕ)
+    (turn : ℕ → ℕ) (rest : (ℕ → ℕ) → List Piece) → DependsBelow depth rest → BlockStands (told_by reads) scope out pc b → n < block_size b
+    → Stepping (told_by reads) (block_view b depth rest scope) (block_size b) pc n out open' depth turn (rest turn) scope

@@ -90,4 +90,4 @@ pub record StaysWithin (b : Statements) (pc n to : ℕ) (open' : Bool) (depth : 
   pub place : to ≡ pc + at
   pub inside' : at ≤ block_size b
   pub pieces' : within b n open' depth turn rest ≡ within b at true depth turn rest
-  pub scope' : scope_within b n open' scope ≡ scope_within b at true scope
+  pub scope' : scope_within b n false scope ≡ scope_within b at true scope

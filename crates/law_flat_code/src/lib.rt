@@ -3,19 +3,22 @@
 //!
 //! An instruction stands at a place for a scope, which says in which slot each name is kept (`specs/Codes.antt`). What stands where is a
 //! relation, and in the laws a test, so that they hold of every representation of code. `specs/Aheads.antt` says when pieces are ahead of a
-//! place, and `specs/Withins.antt` reads off a place of a block which pieces are left.
+//! place, `specs/Withins.antt` reads off a place of a block and the turns of its open loops which pieces are left, and
+//! `specs/Following.antt` says where and with which turns each instruction goes on.
 //!
 //! Other crates may cite these proofs of it (`proofs/Shared`), which are over relations:
 //!
 //! - `Begins`: from the first instruction of a block on, its pieces are left.
 //! - `Calling`: calls, requests, and the ends of bodies and of activations.
 //! - `Entering`: ahead of a block stand its pieces.
+//! - `Follows`: after each instruction of a block, what is left is read off the place to which it leads.
 //! - `Going`: where it goes on after a piece.
 //! - `Moves`: a move in no time inside a block leaves the same pieces in the same scope.
 //! - `Places`: ahead of a place inside a block stand the pieces from its instruction on.
 #![tactic(auto)]
 
-ghost use Rattle.law_flat_code.specs.Laws.{ActivationsFinish, BlockIsAhead, BlocksBegin, BodiesReturn, CallsEnter, MovesStay, PartsPass};
+ghost use Rattle.law_flat_code.specs.Laws.{ActivationsFinish, BlockIsAhead, BlocksBegin, BodiesReturn, CallsEnter, InstructionsFollow};
+ghost use Rattle.law_flat_code.specs.Laws.{MovesStay, PartsPass};
 ghost use Rattle.law_flat_code.specs.Laws.{PiecesGoOn, PlacesAreAhead, RequestsGoOn, SectionsEnter, TurnsEnd, UnknownGoesOn};
 
 /// Ahead of a block that stands in code are its pieces, and then those that are ahead of its end.
@@ -83,4 +86,10 @@ pub fn blocks_begin()
 /// scope.
 pub fn moves_stay()
     ensures { MovesStay }
+{}
+
+/// What each instruction of a block is, and what is left after it, read off the place where it goes on and the turns of the loops around that
+/// place: the first turn of a loop and the end of a turn set the count of that loop, and no other instruction touches one.
+pub fn instructions_follow()
+    ensures { InstructionsFollow }
 {}

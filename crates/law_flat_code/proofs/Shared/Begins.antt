@@ -58,7 +58,7 @@ mutual
       (less 0 (size first)) (begins first open' depth turn (pieces others rest))
       (ap (λ z. within others z open' depth turn rest) (zero-less (size first)) ∙ begins_within others open' depth turn rest)
 
-  begins_among : (bs : Branches) (open' : Bool) (depth : ℕ) (turn : ℕ → ℕ) (rest : List Piece) → among bs 0 open' depth turn rest ≡ branch_pieces bs rest
+  pub begins_among : (bs : Branches) (open' : Bool) (depth : ℕ) (turn : ℕ → ℕ) (rest : List Piece) → among bs 0 open' depth turn rest ≡ branch_pieces bs rest
   begins_among Nothing open' depth turn rest = refl
   begins_among (Else block) open' depth turn rest = begins_within block open' depth turn rest
   begins_among (When c block others) open' depth turn rest = refl
@@ -85,7 +85,7 @@ mutual
       either (nat_lt 0 (size first)) _ _ scope (scope_starts first open' scope)
       (ap (λ z. scope_within others z open' scope) (zero-less (size first)) ∙ scope_begins others open' scope)
 
-  scope_starts_among : (bs : Branches) (open' : Bool) (scope : Variables) → scope_among bs 0 open' scope ≡ scope
+  pub scope_starts_among : (bs : Branches) (open' : Bool) (scope : Variables) → scope_among bs 0 open' scope ≡ scope
   scope_starts_among Nothing open' scope = refl
   scope_starts_among (Else block) open' scope = scope_begins block open' scope
   scope_starts_among (When c block others) open' scope = refl

@@ -1,0 +1,4 @@
+pub mod Divisions
+pub mod SlotReads
+pub mod Reaches
+pub mod Shared

@@ -1,0 +1,8 @@
+use Rattle.linked.proofs.Shared.Growths.{linked_not}
+use Rattle.linked.proofs.link.link_not.Goals as goal
+use Rattle.std.proofs.lemmas.Option.{slice_get_within}
+
+pub returns-clause-linked : goal.returns-clause-linked
+returns-clause-linked c = λ e scope h. linked_not c.args.nodes.now.items c.add.new.nodes.items c.args.inner.is_boolean c.args.inner.operand
+    c.in_ok-place.place scope e c.add.ensures.grows
+    (slice_get_within c.add.new.nodes.items c.in_ok-place.place _ c.in_ok-place.ensures.there) c.in_ok-place.ensures.there h

@@ -1,4 +1,3 @@
-pub mod Bodies
 pub mod FitPrograms
 pub mod Joins
 pub mod OneWay

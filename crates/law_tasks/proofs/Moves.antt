@@ -18,7 +18,7 @@ use Rattle.law_tasks.proofs.Shared.Courses.{Course, IsApt, seen, setting}
 use Rattle.law_tasks.proofs.Shared.Ways.{WayPiece, Ways, Onwards}
 use Rattle.law_tasks.proofs.Joins.{same_way, joined-silent, joined-assoc, joined-turned, no_turns, some_turns}
 use Rattle.law_tasks.proofs.Splits.{Split, split_block, split_branches}
-use Rattle.law_tasks.proofs.Bodies.{body_of}
+use Rattle.law_walks.proofs.Shared.Bodies.{body_of}
 use Rattle.law_calls.proofs.Shared.Pieces.{in_loop}
 
 -- what goes on as another way does

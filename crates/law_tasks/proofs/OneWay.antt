@@ -15,7 +15,7 @@ use Rattle.seq_tree.specs.Runs.{RunStatement, RunBlock, RunBranch, RunBody, Run}
 use Rattle.seq_tree.specs.Runs as runs
 use Rattle.seq_tree.specs.declared.tree.Costs.{Costs}
 use Rattle.seq_tree.specs.declared.tree.OpName.{OpName}
-use Rattle.law_tasks.proofs.Bodies.{Bodies, with_bodies}
+use Rattle.law_walks.proofs.Shared.Bodies.{Bodies, with_bodies}
 use Rattle.std.proofs.lemmas.List.{append_cancel_left}
 
 -- ways that are one where their scripts are fronts of one list

@@ -23,7 +23,7 @@ use Rattle.law_tasks.proofs.Shared.Courses.{Course, IsApt, IsFitCallee, seen, se
 use Rattle.law_calls.proofs.Shared.Depths.{IsDeep}
 use Rattle.law_calls.proofs.Shared.Passives.{passive_by, passive_calls}
 use Rattle.law_tasks.proofs.Shared.Ways.{WayPiece, Ways, Onwards, Passing, is_last}
-use Rattle.law_tasks.proofs.Bodies.{body_of}
+use Rattle.law_walks.proofs.Shared.Bodies.{body_of}
 use Rattle.law_tasks.proofs.Shared.Fits.{both_block}
 use Rattle.law_calls.proofs.Shared.Pieces.{Kind, Step, TurnEnd, BodyEnd, kind, in_loop, in_loop_by}
 

@@ -1,4 +1,3 @@
-pub mod Bodies
 pub mod Equals
 pub mod Steps
 pub mod Examples

@@ -7,6 +7,8 @@
 //!
 //! Other crates may cite these proofs of it (`proofs/Shared`):
 //!
+//! - `Bodies`: ways through bodies: calls may go deeper than they need, and each way has some depth.
+//! - `Deeper`: a block that may be walked with calls so deep may be walked with deeper ones.
 //! - `Exact`: walks are exact: of statements, blocks, branches and calls, by induction on the depth of calls and on the block.
 #![tactic(auto)]
 

@@ -3,7 +3,7 @@ use Rattle.std.proofs.Common.{◌≡◌, ℕ, zero, suc, ◌+◌, ◌<◌, ◌�
 use Rattle.std.proofs.Common.{arith}
 use Rattle.std.specs.Prelude.{option_map}
 use Rattle.std.proofs.Common.{append_assoc}
-use Rattle.std.proofs.lemmas.List.Concat.{flat_map-cons}
+use Rattle.std.proofs.lemmas.List.{length-append, length-map, map-append}
 use Rattle.seq_tree.specs.Lists.{Each, change}
 use Rattle.ada_tree.specs.Programs.{Form, Unit, Program, Passive, Shared, Cyclic, Sporadic}
 use Rattle.ada_tree.specs.Rules.{MeetsRules}
@@ -15,7 +15,8 @@ use Rattle.trace_tree.specs.declared.event.Event.TheVariants as event
 use Rattle.guarantee.specs.Events.{Event, named, named_event}
 use Rattle.guarantee.specs.Software.{program_software}
 use Rattle.law_trace_lines.specs.Told.{HasPlainNames, IsEvent}
-use Rattle.law_trace_lines.proofs.Shared.Events.{line-some}
+use Rattle.law_calls.proofs.Shared.Lists.{each-append}
+use Rattle.trace_read.proofs.Shared.Nexts.{lines-push, next-shorter}
 use Rattle.law_traces.specs.Checks.{in_order, are_told}
 use Rattle.trace_checks.specs.Timing.{in_order_by}
 use Rattle.trace_checks.specs.Cycles.{first_release, nexts_by, nexts_at, nexts_after}
@@ -30,40 +31,10 @@ use Rattle.trace_checks.proofs.Cyclics.{nexts-go-on}
 use Rattle.trace_checks.proofs.Servings.{serving-go-on}
 use Rattle.trace_checks.proofs.Arrivings.{due-go-on, due-kept}
 
-length-map : {A B : Type 0} (f : A → B) (xs : List A) → length (map f xs) ≡ length xs
-length-map f [] = refl
-length-map f (x ∷ xs) = ap suc (length-map f xs)
-
 length-change : {A : Type 0} (k : ℕ) (f : A → A) (xs : List A) → length (change k f xs) ≡ length xs
 length-change k f [] = refl
 length-change zero f (x ∷ xs) = refl
 length-change (suc k) f (x ∷ xs) = ap suc (length-change k f xs)
-
-push-append : {A : Type 0} (xs : List A) (x : A) (ys : List A) → (xs ++ x ∷ []) ++ ys ≡ xs ++ x ∷ ys
-push-append [] x ys = refl
-push-append (y ∷ xs) x ys = ap (λ zs. y ∷ zs) (push-append xs x ys)
-
-pub append-none : {A : Type 0} (xs : List A) → xs ++ [] ≡ xs
-append-none [] = refl
-append-none (x ∷ xs) = ap (λ zs. x ∷ zs) (append-none xs)
-
-length-push : {A : Type 0} (xs : List A) (x : A) → length (xs ++ x ∷ []) ≡ length xs + 1
-length-push [] x = refl
-length-push (y ∷ xs) x = let h = length-push xs x in omega (arith, h)
-
-map-push : {A B : Type 0} (f : A → B) (xs : List A) (x : A) → map f (xs ++ x ∷ []) ≡ map f xs ++ f x ∷ []
-map-push f [] x = refl
-map-push f (y ∷ xs) x = ap (λ zs. f y ∷ zs) (map-push f xs x)
-
-each-push : {A : Type 0} (P : A → Type 0) (xs : List A) (x : A) → Each P xs → P x → Each P (xs ++ x ∷ [])
-each-push P [] x h i = (i, tt)
-each-push P (y ∷ xs) x h i = (h.0, each-push P xs x h.1 i)
-
-lines-push : (p : Program) (es : List machine.Event) (e : machine.Event) → lines p (es ++ e ∷ []) ≡ lines p es ++ line p e
-lines-push p [] e = flat_map-cons (line p) e [] ∙ append-none (line p e)
-lines-push p (f ∷ es) e =
-    flat_map-cons (line p) f (es ++ e ∷ []) ∙ ap (λ z. line p f ++ z) (lines-push p es e)
-    ∙ sym (append_assoc (line p f) (lines p es) (line p e)) ∙ ap (λ z. z ++ line p e) (sym (flat_map-cons (line p) f es))
 
 -- SIZES stay
 nexts-by-size : (until : ℕ) (f : Form) (ns : List (Option ℕ)) (time task : ℕ) (value : Option ℕ) → length (nexts_by until f ns time task value) ≡ length ns
@@ -118,8 +89,8 @@ module _ (p : Program) (meets : MeetsRules p) (plain : HasPlainNames p) (until :
     cyclic = λ told. ap (λ ns. first_failing (is_periodic_by until) p.units ns told) first.nexts;
     arrivals = λ told. ap (λ due. arrived_by p until due told) first.due;
     requests = λ told. ap (λ ss. first_failing is_requested_by p.units ss told) first.waiting;
-    nexts = ap length first.nexts ∙ length-map _ p.units;
-    waiting = sym (length-map serving_of s.waiting.items) ∙ ap length first.waiting ∙ length-map _ p.units;
+    nexts = ap length first.nexts ∙ length-map p.units _;
+    waiting = sym (length-map s.waiting.items serving_of) ∙ ap length first.waiting ∙ length-map p.units _;
     units = subst (AreOfUnits p) (sym first.due) units;
   }
 
@@ -127,19 +98,19 @@ module _ (p : Program) (meets : MeetsRules p) (plain : HasPlainNames p) (until :
       → AreAfter p until s e t → Stands p until items (before ++ named_event p e ∷ []) t
   stands-after before s e t h placed after = record {
     times = λ told. ap (λ z. in_order_by (program_software p).tasks until z told) after.times ∙ times-go-on p meets until s.times e told placed
-        ∙ h.times (named_event p e ∷ told) ∙ ap (in_order (program_software p).tasks until 0) (sym (push-append before (named_event p e) told));
+        ∙ h.times (named_event p e ∷ told) ∙ ap (in_order (program_software p).tasks until 0) (sym (append_assoc before (named_event p e ∷ []) told));
     cyclic = λ told. ap (λ ns. first_failing (is_periodic_by until) p.units ns told) after.nexts ∙ nexts-go-on p meets until s.nexts.items e told placed
         ∙ h.cyclic (named_event p e ∷ told)
-        ∙ ap (first_failing (is_periodic_by until) p.units (map (λ u. first_release u.form) p.units)) (sym (push-append before (named_event p e) told));
+        ∙ ap (first_failing (is_periodic_by until) p.units (map (λ u. first_release u.form) p.units)) (sym (append_assoc before (named_event p e ∷ []) told));
     arrivals = λ told. ap (λ due. arrived_by p until due told) after.due
         ∙ due-go-on p meets until (option_map (λ r. r.now) s.due) e told placed h.units
-        ∙ h.arrivals (named_event p e ∷ told) ∙ ap (are_told until (map (named_arrival p) items)) (sym (push-append before (named_event p e) told));
+        ∙ h.arrivals (named_event p e ∷ told) ∙ ap (are_told until (map (named_arrival p) items)) (sym (append_assoc before (named_event p e ∷ []) told));
     requests = λ told. ap (λ ss. first_failing is_requested_by p.units ss told) after.waiting
         ∙ serving-go-on p meets (map serving_of s.waiting.items) e told placed ∙ h.requests (named_event p e ∷ told)
-        ∙ ap (first_failing is_requested_by p.units (map (λ u. nothing_waits) p.units)) (sym (push-append before (named_event p e) told));
+        ∙ ap (first_failing is_requested_by p.units (map (λ u. nothing_waits) p.units)) (sym (append_assoc before (named_event p e ∷ []) told));
     nexts = ap length after.nexts ∙ nexts-size p until s.nexts.items e ∙ h.nexts;
-    waiting = sym (length-map serving_of t.waiting.items) ∙ ap length after.waiting ∙ serving-size (map serving_of s.waiting.items) e
-        ∙ length-map serving_of s.waiting.items ∙ h.waiting;
+    waiting = sym (length-map t.waiting.items serving_of) ∙ ap length after.waiting ∙ serving-size (map serving_of s.waiting.items) e
+        ∙ length-map s.waiting.items serving_of ∙ h.waiting;
     units = subst (AreOfUnits p) (sym after.due) (due-kept p meets until (option_map (λ r. r.now) s.due) e h.units);
   }
 
@@ -155,32 +126,14 @@ module _ (p : Program) (meets : MeetsRules p) (plain : HasPlainNames p) (until :
     stands = stands-first s first units;
   }
 
-  some-length : (e : machine.Event) (rest : List ℕ) → length rest < length (line p e ++ rest)
-  some-length e rest = by (line p e) (λ h. line-some p plain e [] (h ∙ sym (append-none (line p e))))
-    where
-      longer : (xs : List ℕ) → length rest ≤ length (xs ++ rest)
-      longer [] = omega arith
-      longer (x ∷ xs) = let h = longer xs in omega (arith, h)
-
-      by : (l : List ℕ) → ([] ≡ l → ⊥) → length rest < length (l ++ rest)
-      by [] h = absurd (h refl)
-      by (x ∷ xs) h = let g = longer xs in omega (arith, g)
-
-  pub next-shorter : (e : machine.Event) (left rest : List ℕ) → left ≡ line p e ++ rest → length rest < length left
-  next-shorter e left rest same = subst (λ z. length rest < length z) (sym same) (some-length e rest)
-
   pub passing-after : (text left rest : List ℕ) (count : ℕ) (s t : Parts) (e : machine.Event) → Passing p until items text left count s
       → IsEvent p e → left ≡ line p e ++ rest → AreAfter p until s e t → Passing p until items text rest (count + 1) t
   passing-after text left rest count s t e h is same after = record {
     events = h.events ++ e ∷ [];
-    each = each-push (IsEvent p) h.events e h.each is;
+    each = each-append (IsEvent p) h.events (e ∷ []) h.each (is, tt);
     split = h.split ∙ ap (λ z. lines p h.events ++ z) same ∙ sym (append_assoc (lines p h.events) (line p e) rest)
         ∙ ap (λ z. z ++ rest) (sym (lines-push p h.events e));
-    counted = let c = h.counted in let l = length-push h.events e in omega (arith, c, l);
-    within = let w = h.within in let l = next-shorter e left rest same in omega (arith, w, l);
-    stands = subst (λ z. Stands p until items z t) (sym (map-push (named_event p) h.events e)) (stands-after (named p h.events) s e t h.stands is.0 after);
+    counted = let c = h.counted in let l = length-append h.events (e ∷ []) in omega (arith, c, l);
+    within = let w = h.within in let l = next-shorter p plain e left rest same in omega (arith, w, l);
+    stands = subst (λ z. Stands p until items z t) (sym (map-append (named_event p) h.events (e ∷ []))) (stands-after (named p h.events) s e t h.stands is.0 after);
   }
-
--- what holds of a program where it meets its rules, at another name of it
-pub at-program : (P : Program → Type 0) (q p : Program) → q ≡ p → MeetsRules p → HasPlainNames p → (MeetsRules q → HasPlainNames q → P q) → P p
-at-program P q p same meets plain h = subst P same (h (subst MeetsRules (sym same) meets) (subst HasPlainNames (sym same) plain))

@@ -1,6 +1,7 @@
 -- What a pass over a trace answers.
 use Rattle.std.proofs.Common.{◌≡◌, ℕ, ◌+◌, List, [], ◌∷◌, ◌++◌, map, length, Option, Some, None, refl, sym, ap, subst, ◌∙◌, arith}
 use Rattle.std.specs.Prelude.{Ok, Err, option_map, suc}
+use Rattle.std.proofs.lemmas.List.{append-nil, length-map}
 use Rattle.ada_tree.specs.Programs.{Program}
 use Rattle.ada_tree.specs.Rules.{MeetsRules}
 use Rattle.arrivals_tree.specs.declared.arrivals.Arrival as code
@@ -31,7 +32,6 @@ use Rattle.trace_checks.specs.declared.times.Times.TheVariants.{Running, Ended, 
 use Rattle.trace_checks.proofs.Cyclics.{first-late}
 use Rattle.trace_checks.proofs.Servings.{first-unserved}
 use Rattle.trace_checks.proofs.Arrivings.{due-over}
-use Rattle.trace_checks.proofs.Passings.{append-none}
 
 module _ (p : Program) (meets : MeetsRules p) (a : values.Arrivals) where
   abbrev r : given.Arrivals
@@ -51,7 +51,7 @@ module _ (p : Program) (meets : MeetsRules p) (a : values.Arrivals) where
 
   module _ (before : List Event) (s : Parts) (h : Stands p a.until items before s) where
     whole : before ++ [] ≡ before
-    whole = append-none before
+    whole = append-nil before
 
     times-said : in_order (program_software p).tasks a.until 0 before ≡ has_ended s.times
     times-said = ap (in_order (program_software p).tasks a.until 0) (sym whole) ∙ sym (h.times []) ∙ ended s.times
@@ -71,11 +71,7 @@ module _ (p : Program) (meets : MeetsRules p) (a : values.Arrivals) where
         ∙ ap (first_failing is_requested_by p.units (map (λ u. nothing_waits) p.units)) (sym whole) ∙ sym (h.requests [])
 
   tells : (text : List ℕ) (count : ℕ) (s : Parts) (h : Passing p a.until items text [] count s) → Tells p text (named p h.events)
-  tells text count s h = (h.events, h.each, h.split ∙ append-none (lines p h.events), refl)
-
-  length-map : {A B : Type 0} (f : A → B) (xs : List A) → length (map f xs) ≡ length xs
-  length-map f [] = refl
-  length-map f (x ∷ xs) = ap suc (length-map f xs)
+  tells text count s h = (h.events, h.each, h.split ∙ append-nil (lines p h.events), refl)
 
   pub says-ok : (text left : List ℕ) (count : ℕ) (s : Parts) → left ≡ [] → Passing p a.until items text left count s → Judges p a.until s (Ok tt)
       → Says p r text (Ok count)
@@ -85,7 +81,7 @@ module _ (p : Program) (meets : MeetsRules p) (a : values.Arrivals) where
         told,
         tells text count s g,
         (
-          g.counted ∙ sym (length-map _ g.events),
+          g.counted ∙ sym (length-map g.events _),
           times-said told s g.stands ∙ j.0,
           late-said told s g.stands ∙ j.1,
           arrivals-said told s g.stands ∙ j.2,

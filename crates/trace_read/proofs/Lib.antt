@@ -6,3 +6,4 @@ pub mod Fronts
 pub mod TableSteps
 pub mod Splitting
 pub mod Gathering
+pub mod Shared

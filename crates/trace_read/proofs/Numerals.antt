@@ -4,12 +4,15 @@ use Rattle.std.specs.Prelude.{◌+◌, ◌-◌, ◌*◌, ◌^◌, ◌<◌, ◌�
 use Rattle.std.specs.Char.{digit_value, is_ascii_digit}
 use Rattle.std.specs.Str.Parse.{AllDigits, digits_value, digits_value_after}
 use Rattle.std.proofs.lemmas.Bool.{and_from, and_parts, ltb-true, lt-ltb, le-leb}
+use Rattle.std.proofs.Common.{append_assoc}
+use Rattle.std.proofs.lemmas.List.{append-nil}
 use Rattle.std.proofs.lemmas.Option.{none-some, same_Some, cond_some, option_and_then_some}
 use Rattle.std.proofs.lemmas.Str.{digit_value_digit}
 use Rattle.std.proofs.lemmas.Str.Parse.{digit_from_value}
 use Rattle.std.proofs.lemmas.Fmt.{decimal_is_IsNumeral}
 use Rattle.seq_tree.specs.Lists.{Each}
 use Rattle.trace_tree.specs.Lines.{value_words, option_words}
+use Rattle.law_calls.proofs.Shared.Lists.{each-append}
 use Rattle.law_trace_lines.specs.Told.{IsTicks, IsWord, IsWordWhere, AreWords}
 use Rattle.trace_read.specs.Reading.{Bytes, number_from, number_of, value_of, maybe_value, values_from, values_of}
 
@@ -57,16 +60,8 @@ length-push : (ns : List ℕ) (n : ℕ) → length (ns ++ n ∷ []) ≡ suc (len
 length-push [] n = refl
 length-push (m ∷ ns) n = ap suc (length-push ns n)
 
-push-append : (ns : List ℕ) (n : ℕ) (ms : List ℕ) → (ns ++ n ∷ []) ++ ms ≡ ns ++ n ∷ ms
-push-append [] n ms = refl
-push-append (m ∷ ns) n ms = ap (λ xs. m ∷ xs) (push-append ns n ms)
-
-append-none : (ns : List ℕ) → ns ++ [] ≡ ns
-append-none [] = refl
-append-none (m ∷ ns) = ap (λ xs. m ∷ xs) (append-none ns)
-
 values-read : (ns ms : List ℕ) → length ns + length ms ≤ 8 → Each IsWord ms → values_from ns (value_words ms) ≡ Some (ns ++ ms)
-values-read ns [] h words = ap (λ xs. Some xs) (sym (append-none ns))
+values-read ns [] h words = ap (λ xs. Some xs) (sym (append-nil ns))
 values-read ns (m ∷ ms) h words =
     let g : length ns + suc (length ms) ≤ 8 = h in
     let room : length ns < 8 = omega (arith, g) in
@@ -74,7 +69,7 @@ values-read ns (m ∷ ms) h words =
     ap (λ b. if b then option_and_then (λ n. values_from (ns ++ n ∷ []) (value_words ms)) (value_of (decimal m)) else None) (lt-ltb (length ns) 8 room)
     ∙ ap (λ o. option_and_then (λ n. values_from (ns ++ n ∷ []) (value_words ms)) o) (value-back m words.0)
     ∙ values-read (ns ++ m ∷ []) ms (subst (λ z. z + length ms ≤ 8) (sym (length-push ns m)) k) words.1
-    ∙ ap (λ xs. Some xs) (push-append ns m ms)
+    ∙ ap (λ xs. Some xs) (append_assoc ns (m ∷ []) ms)
 
 pub values-back : (ns : List ℕ) → AreWords ns → values_of (value_words ns) ≡ Some ns
 unfolding values_of
@@ -105,10 +100,6 @@ value-fits w n e = option_and_then_some (λ m. if nat_lt m (2 ^ 32) then Some m 
     by : (m : ℕ) → number_of w ≡ Some m → (if nat_lt m (2 ^ 32) then Some m else None) ≡ Some n → IsWord n
     by m at g = let c = cond_some (nat_lt m (2 ^ 32)) m n g in subst IsWord c.1 (ltb-true m (2 ^ 32) c.0)
 
-each-push : (ns : List ℕ) (n : ℕ) → Each IsWord ns → IsWord n → Each IsWord (ns ++ n ∷ [])
-each-push [] n h i = (i, tt)
-each-push (m ∷ ns) n h i = (h.0, each-push ns n h.1 i)
-
 values-within : (ws : List Bytes) (ns vs : List ℕ) → length ns ≤ 8 → Each IsWord ns → values_from ns ws ≡ Some vs → AreWords vs
 values-within [] ns vs few words e = subst AreWords (same_Some ns vs e) (few, words)
 values-within (w ∷ ws) ns vs few words e = by (nat_lt (length ns) 8) refl e (λ n. values-within ws (ns ++ n ∷ []) vs)
@@ -119,7 +110,7 @@ values-within (w ∷ ws) ns vs few words e = by (nat_lt (length ns) 8) refl e (�
     by : (b : Bool) → nat_lt (length ns) 8 ≡ b → (if b then option_and_then next (value_of w) else None) ≡ Some vs
         → ((n : ℕ) → length (ns ++ n ∷ []) ≤ 8 → Each IsWord (ns ++ n ∷ []) → values_from (ns ++ n ∷ []) ws ≡ Some vs → AreWords vs) → AreWords vs
     by true t g more = option_and_then_some next (value_of w) vs g (λ n at then'.
-        more n (let l = length-push ns n in let r = ltb-true (length ns) 8 t in omega (arith, l, r)) (each-push ns n words (value-fits w n at)) then')
+        more n (let l = length-push ns n in let r = ltb-true (length ns) 8 t in omega (arith, l, r)) (each-append IsWord ns (n ∷ []) words (value-fits w n at, tt)) then')
     by false t g more = absurd (none-some vs g)
 
 pub values-fit : (ws : List Bytes) (vs : List ℕ) → values_of ws ≡ Some vs → AreWords vs

@@ -3,6 +3,7 @@ use Rattle.std.proofs.Common.{◌≡◌, ℕ, zero, suc, Bool, true, false, not,
 use Rattle.std.proofs.Common.{◌∙◌, arith}
 use Rattle.std.specs.Prelude.{◌+◌, ◌<◌, slice_get, option_map, option_and_then, unwrap_or, if◌then◌else◌}
 use Rattle.std.proofs.lemmas.Bool.{and_parts, or_parts, ne_eqb}
+use Rattle.std.proofs.lemmas.List.{length-map}
 use Rattle.std.proofs.lemmas.Option.{none-some, same_Some}
 use Rattle.seq_tree.specs.Lists.{first_from}
 use Rattle.seq_tree.specs.Names.{Name, same_name, is_named, are_distinct}
@@ -51,10 +52,6 @@ within [] k x at = absurd (none-some x at)
 within (y ∷ ys) zero x at = omega arith
 within (y ∷ ys) (suc k) x at = let h = within ys k x at in omega (arith, h)
 
-length-map : {A B : Type 0} (f : A → B) (xs : List A) → length (map f xs) ≡ length xs
-length-map f [] = refl
-length-map f (x ∷ xs) = ap suc (length-map f xs)
-
 -- UNITS
 pub unit-back : (p : Program) → MeetsRules p → (k : ℕ) → IsUnit p k → unit_of_name p (unit_name p k) ≡ Some k
 unfolding unit_of_name
@@ -70,7 +67,7 @@ pub unit-below : (p : Program) (k : ℕ) (n : Name) → unit_of_name p n ≡ Som
 unfolding unit_of_name
 unit-below p k n e =
     let h = place-below (map (λ (x : Unit). x.name) p.units) 0 k n e in
-    let l = length-map (λ (x : Unit). x.name) p.units in
+    let l = length-map p.units (λ x. x.name) in
     let g : 0 + length (map (λ (x : Unit). x.name) p.units) ≡ length p.units = omega (arith, l) in subst (λ z. k < z) g h
 
 -- OPERATIONS
@@ -122,7 +119,7 @@ op-below p unit op n e = by (slice_get p.units unit) refl e
     by (Some u) at g =
         let ops : unit_ops p unit ≡ heads u.form = ap (λ o. unwrap_or (option_map (λ (z : Unit). heads z.form) o) []) at in
         let h = place-below (head_names u.form) 0 op n g in
-        let l = length-map (λ (z : Signature). z.name) (heads u.form) in
+        let l = length-map (heads u.form) (λ z. z.name) in
         let below : op < length (heads u.form) =
         let k : 0 + length (head_names u.form) ≡ length (heads u.form) = omega (arith, l) in subst (λ z. op < z) k h in
         subst (λ (hs : List Signature). op < length hs) (sym ops) below

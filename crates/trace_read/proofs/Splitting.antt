@@ -2,7 +2,7 @@
 use Rattle.std.proofs.Common.{◌≡◌, ℕ, zero, suc, true, false, not, List, [], ◌∷◌, ◌++◌, length, take, drop, refl, sym, ap, subst, ◌∙◌, arith}
 use Rattle.std.specs.Prelude.{◌+◌, ◌≤◌, ◌==◌, bytes_eq}
 use Rattle.std.proofs.lemmas.Bool.{and_from, and_parts, ne_eqb, true≢false}
-use Rattle.std.proofs.lemmas.List.{take-append-drop}
+use Rattle.std.proofs.lemmas.List.{append-nil, take-append-drop}
 use Rattle.std.proofs.lemmas.Slice.Eq.{bytes_eq-Decides}
 use Rattle.std.proofs.Math.Seq.{take-append_seam}
 use Rattle.law_trace_lines.specs.Told.{Lacks}
@@ -42,12 +42,8 @@ nothing (b ∷ left) h = absurd (let z : suc (length left) ≡ 0 = h in omega (a
 pub split-last : (by len : ℕ) (bytes left : List ℕ) → length left ≡ 0 → left ≡ drop len bytes → Lacks by (take len bytes) → cut by bytes ≡ bytes ∷ []
 split-last by len bytes left none at lacks =
     let e : [] ≡ drop len bytes = nothing left none ∙ at in
-    let whole : take len bytes ≡ bytes = sym (append-none (take len bytes)) ∙ ap (λ z. take len bytes ++ z) e ∙ take-append-drop len bytes in
+    let whole : take len bytes ≡ bytes = sym (append-nil (take len bytes)) ∙ ap (λ z. take len bytes ++ z) e ∙ take-append-drop len bytes in
     cut-last by bytes (subst (Lacks by) whole lacks)
-  where
-    append-none : (xs : List ℕ) → xs ++ [] ≡ xs
-    append-none [] = refl
-    append-none (x ∷ xs) = ap (λ z. x ∷ z) (append-none xs)
 
 -- A TEXT that begins with these bytes
 pub begins-other : (text first written front more : List ℕ) → first ≡ take (length written) text → written ≡ front → true ≡ not (bytes_eq first written)

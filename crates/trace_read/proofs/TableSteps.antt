@@ -4,6 +4,7 @@ use Rattle.std.specs.Prelude.{◌+◌, ◌<◌, ◌≤◌, map, get_or}
 use Rattle.seq_tree.proofs.Shared.LoopSteps.{take_step}
 use Rattle.ada_tree.specs.Trees.{form_of, unit_of}
 use Rattle.ada_tree.specs.declared.program.Unit as code
+use Rattle.std.proofs.lemmas.List.{map-append}
 use Rattle.std.proofs.lemmas.Option.{none-some}
 use Rattle.seq_tree.specs.Names.{Name}
 use Rattle.ada_tree.specs.Programs.{Unit}
@@ -34,15 +35,11 @@ tables-push [] (s ∷ ts) u t h i = absurd h
 tables-push (v ∷ us) [] u t h i = absurd h
 tables-push (v ∷ us) (s ∷ ts) u t h i = (h.0, tables-push us ts u t h.1 i)
 
-map-push : {A B : Type 0} (f : A → B) (xs : List A) (x : A) → map f (xs ++ x ∷ []) ≡ map f xs ++ f x ∷ []
-map-push f [] x = refl
-map-push f (y ∷ ys) x = ap (λ zs. f y ∷ zs) (map-push f ys x)
-
 pub tables-next : (us : List code.Unit) (i : ℕ) (u : code.Unit) (ts later : List Places) (t : Places) → AreTables (map unit_of (take i us)) ts
     → i < length us → u ≡ get_or us i u → IsTable (head_names (form_of u.form)) t → later ≡ ts ++ t ∷ [] → AreTables (map unit_of (take (i + 1) us)) later
 tables-next us i u ts later t h less at one pushed =
     let units : map unit_of (take (i + 1) us) ≡ map unit_of (take i us) ++ unit_of u ∷ [] =
-    ap (map unit_of) (take_step us i u less at) ∙ map-push unit_of (take i us) u in
+    ap (map unit_of) (take_step us i u less at) ∙ map-append unit_of (take i us) (u ∷ []) in
     subst (λ xs. AreTables xs later) (sym units)
     (subst (AreTables (map unit_of (take i us) ++ unit_of u ∷ [])) (sym pushed) (tables-push (map unit_of (take i us)) ts (unit_of u) t h one))
 

@@ -3,6 +3,10 @@
 //! It stands on `trace_text`, which writes the line of an event, on `name_sets` for tables of names, and on the laws of `law_trace_lines` and
 //! `law_trace_places`. `Lines::next` carries the promise: an event exactly where the bytes at hand begin with the line of one, and then the bytes
 //! behind it. A line is read by its words, and its event is written again and compared, so that no other way of writing is taken.
+//!
+//! Other crates may cite these proofs of it (`proofs/Shared`):
+//!
+//! - `Nexts`: one event more behind others: the text of all, and that its line takes some bytes.
 #![tactic(auto)]
 
 mod events;

@@ -5,8 +5,7 @@ use Rattle.seq_tree.specs.Names.{Name}
 use Rattle.seq_tree.specs.Statements.{Statement, Statements, Branches, Null, Assign, If, For, ExitWhen, Call, Work, Put, End, Then, Nothing}
 use Rattle.seq_tree.specs.Statements.{Else, When}
 use Rattle.seq_tree.specs.Operations.{Operation}
-use Rattle.seq_tree.specs.Variables.{Variables}
-use Rattle.seq_tree.specs.Runs.{Path, Setting, RunBody}
+use Rattle.seq_tree.specs.Runs.{Setting}
 use Rattle.seq_tree.specs.Runs as runs
 use Rattle.seq_tree.specs.declared.tree.Costs.{Costs}
 use Rattle.seq_tree.specs.declared.tree.OpName.{OpName}
@@ -15,6 +14,7 @@ use Rattle.law_calls.proofs.Shared.Depths.{IsDeep}
 use Rattle.law_calls.proofs.Shared.Passives.{passive_calls}
 use Rattle.machine.specs.Pieces.{Piece, Leaving, Calling, Working, Testing, Turning, Turned, ticks_of}
 use Rattle.law_calls.proofs.Shared.Pieces.{in_loop}
+use Rattle.law_walks.proofs.Shared.Bodies.{AnyBody}
 
 -- what runs, what a call leads to by the texts, the names of operations and requests by their places, the calls that are made, and whether
 -- a trace may end inside an activation
@@ -90,10 +90,6 @@ FitPieces Good (x ∷ xs) = FitPiece Good (in_loop xs) x × FitPieces Good xs
 abbrev pub IsTicks : Costs → Piece → ℕ → Type 0
 IsTicks costs (Working ticks) n = (1 ≤ n) × (n ≤ ticks)
 IsTicks costs x n = n ≡ ticks_of costs None x
-
--- a way through a body, however deep its calls
-abbrev pub AnyBody : Costs → (Name → Name → runs.Callee) → Operation → Variables → Path → Type 0
-AnyBody costs callee' o vars p = (depth : ℕ) × RunBody costs callee' depth o vars p
 
 -- the setting of a task's ways
 abbrev pub setting : Course → Setting

@@ -23,7 +23,7 @@ use Rattle.law_tasks.proofs.Joins.{joined-end}
 use Rattle.law_tasks.proofs.Splits.{Split, split_block}
 use Rattle.law_tasks.proofs.Shared.Depths.{within-append, outer-append, within-raise, outer-raise, before-open, before-closed, least-append}
 use Rattle.law_tasks.proofs.Shared.Depths.{most-append}
-use Rattle.law_tasks.proofs.Bodies.{run_of}
+use Rattle.law_walks.proofs.Shared.Bodies.{run_of}
 use Rattle.law_tasks.proofs.Totals.{some_ways}
 use Rattle.law_tasks.proofs.Shared.Aheads.{expand, under_block}
 use Rattle.law_calls.proofs.Shared.Pieces.{BodyEnd, kind}

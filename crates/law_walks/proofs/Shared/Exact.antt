@@ -20,7 +20,8 @@ use Rattle.law_walks.specs.Walks.{Walk, Guide, called_at, statement_at, block_at
 use Rattle.law_walks.specs.Walks.{sees_entry, sees_leave, sees_request, sees_print}
 use Rattle.law_walks.specs.Fit.{MayStatement, MayBlock, MayBranches, MayCall, MayRun, Leads}
 use Rattle.law_walks.specs.Laws.{Tells}
-use Rattle.law_walks.proofs.Bodies.{AnyBody, with_bodies, body_of, run_of, run_any, block_any}
+use Rattle.law_walks.proofs.Shared.Bodies.{AnyBody, with_bodies, body_of, run_of, run_any, block_any}
+use Rattle.law_walks.proofs.Shared.Deeper.{leads-map, may-block}
 use Rattle.law_walks.proofs.Equals.{entry-one, entry-self, leave-one, leave-self, request-one, request-self, print-one, print-self}
 use Rattle.law_walks.proofs.Steps.{Does, Any, Walks, Behind, walks-given, walks-after, walks-then, walks-turns, walks-chosen, walks-action}
 
@@ -165,37 +166,6 @@ module _ (costs : Costs) (calls : Name → Name → Callee) where
       walks-branches within (When condition block others) f vars =
           tested (silent costs.test vars) refl _ _ (walks-chosen (holds condition vars) _ _ _ _ (walks-block within block f.0 vars)
           (walks-branches within others f.1 vars))
-
-  -- good calls, with a weaker fact
-  mutual
-    may-statement : (Good Weak : Name → Name → Type 0) → ((object op : Name) → Good object op → Weak object op) → (within : Bool) (s : Statement)
-        → MayStatement Good within s → MayStatement Weak within s
-    may-statement Good Weak to within Null f = tt
-    may-statement Good Weak to within (Assign target e) f = tt
-    may-statement Good Weak to within (If branches) f = may-branches Good Weak to within branches f
-    may-statement Good Weak to within (For name low high b) f = may-block Good Weak to true b f
-    may-statement Good Weak to within (ExitWhen condition) f = f
-    may-statement Good Weak to within (Call object op actuals) f = to object op f
-    may-statement Good Weak to within (Work ticks) f = tt
-    may-statement Good Weak to within (Put e) f = tt
-
-    may-block : (Good Weak : Name → Name → Type 0) → ((object op : Name) → Good object op → Weak object op) → (within : Bool) (b : Statements)
-        → MayBlock Good within b → MayBlock Weak within b
-    may-block Good Weak to within End f = tt
-    may-block Good Weak to within (Then first rest) f = (may-statement Good Weak to within first f.0, may-block Good Weak to within rest f.1)
-
-    may-branches : (Good Weak : Name → Name → Type 0) → ((object op : Name) → Good object op → Weak object op) → (within : Bool) (b : Branches)
-        → MayBranches Good within b → MayBranches Weak within b
-    may-branches Good Weak to within Nothing f = tt
-    may-branches Good Weak to within (Else block) f = may-block Good Weak to within block f
-    may-branches Good Weak to within (When condition block others) f
-        = (may-block Good Weak to within block f.0, may-branches Good Weak to within others f.1)
-
-  leads-map : (Fact Weak : Operation → Type 0) → ((o : Operation) → Fact o → Weak o) → (c : Callee) → Leads Fact c → Leads Weak c
-  leads-map Fact Weak to (Plain o) h = to o h
-  leads-map Fact Weak to (Protected params) h = tt
-  leads-map Fact Weak to Asked h = tt
-  leads-map Fact Weak to Unknown h = h
 
   -- the way through a body is one through its block
   walks-body : (depth : ℕ) (o : Operation) → MayBlock (AreWalked (body_at costs calls depth)) false o.block → (vars : Variables)

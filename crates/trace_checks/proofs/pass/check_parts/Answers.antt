@@ -5,7 +5,8 @@ use Rattle.arrivals_tree.specs.Arriving.{arrivals_of}
 use Rattle.guarantee.specs.Arrivals.{named_arrivals}
 use Rattle.trace_read.specs.Lines.{IsNext}
 use Rattle.trace_read.specs.Texts.{text_left, text_program}
-use Rattle.trace_checks.proofs.Passings.{at-program, next-shorter, passing-first, passing-after}
+use Rattle.trace_read.proofs.Shared.Nexts.{at-program, next-shorter}
+use Rattle.trace_checks.proofs.Passings.{passing-first, passing-after}
 use Rattle.trace_checks.proofs.Meaning.{answers-mean}
 use Rattle.trace_checks.proofs.Saying.{says-fault, says-ok}
 use Rattle.trace_checks.proofs.pass.check_parts.Goals as goal
@@ -26,7 +27,7 @@ lines-smaller c =
     at-program (λ q. IsNext q left rest (Some c.in-Some.next)) (text_program c.lines.lines) p c.lines.invariant.program c.requires.meets c.requires.plain
     c.in-Some.ensures.next in
     let step : IsNext p left rest (Some (Ok c.in-Ok.event)) = subst (λ n. IsNext p left rest (Some n)) c.in-Ok.is next in
-    next-shorter p c.requires.meets c.requires.plain c.args.arrivals.now.until c.args.arrivals.now.items.items c.in-Ok.event left rest step.1
+    next-shorter p c.requires.plain c.in-Ok.event left rest step.1
 
 pub lines-preserved : goal.lines-preserved
 lines-preserved c =

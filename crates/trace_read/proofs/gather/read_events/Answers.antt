@@ -3,7 +3,8 @@ use Rattle.ada_tree.specs.Programs.{Program}
 use Rattle.ada_tree.specs.Trees.{program_of}
 use Rattle.trace_read.specs.Lines.{IsNext}
 use Rattle.trace_read.specs.Texts.{text_left, text_program}
-use Rattle.trace_read.proofs.Gathering.{all-gathered, at-program, each-next, gathered-next, next-shorter}
+use Rattle.trace_read.proofs.Gathering.{all-gathered, each-next, gathered-next}
+use Rattle.trace_read.proofs.Shared.Nexts.{at-program, next-shorter}
 use Rattle.trace_read.proofs.gather.read_events.Goals as goal
 
 pub lines-smaller : goal.lines-smaller

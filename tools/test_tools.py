@@ -333,7 +333,7 @@ class Crates(unittest.TestCase):
         self.assertTrue(rules.is_there('design_rules.Clashes.clashes'))
         self.assertFalse(rules.is_there('design_rules.Clashes.clash'))
         self.assertFalse(rules.is_there('design_rules.Clash'))
-        self.assertFalse(rules.is_there('ods_names::no_clash'))
+        self.assertFalse(rules.is_there('ods_names::first_clas'))
         self.assertFalse(rules.is_there('ods_names/src/clash.rt'))
         self.assertEqual(list(rules.row_faults(1, '| V01 | names | `nothing.rt` |', set())), ['RULES.md:1: there is no test nothing.rt'])
         self.assertEqual(list(rules.row_faults(1, '| V01 | names | `arrivals.rt` |', set())), ['RULES.md:1: arrivals.rt has no row with V01'])

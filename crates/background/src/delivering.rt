@@ -10,7 +10,7 @@ use crate::delivery::{Background, BackgroundRefusal};
 use crate::hardening::harden;
 use crate::making::make;
 use crate::misfits::misfits_fit;
-use ods_names::{set_ticks, versions_fit};
+use ods_forms::{first_bad_version, set_ticks};
 use ods_rules::check;
 use ods_tree::Design;
 use std::alloc::Global;
@@ -35,7 +35,7 @@ pub fn deliver_background(alloc: Global, design: Design) -> Result<Background, B
     ensures { DeliversBackground (design_of design) result }
 {
     let mut design = design;
-    versions_fit(alloc, &design)?;
+    first_bad_version(alloc, &design)?;
     set_ticks(&mut design);
     misfits_fit(alloc, &design)?;
     harden(alloc, &mut design)?;

@@ -63,7 +63,7 @@ fn soften(provided: &mut Provided)
 }
 
 /// Makes operations whose callers wait protected ones.
-#[tactic(auto, using(ods_names::proofs::Shared::SetSteps::set_steps))]
+#[tactic(auto, using(ods_forms::proofs::Shared::SetSteps::set_steps))]
 fn soften_all(provides: &mut [Provided])
     ensures { map provided_of provides.new ≡ map soft_operation (map provided_of provides.old) }
 {
@@ -135,7 +135,7 @@ fn harden_node(alloc: Global, node: &mut Node) -> Result<(), NoMemory>
 
 /// Makes objects beside each other, and those inside them, hard ones.
 #[cycle(hardening)]
-#[tactic(auto, using(ods_names::proofs::Shared::SetSteps::set_steps))]
+#[tactic(auto, using(ods_forms::proofs::Shared::SetSteps::set_steps))]
 fn harden_nodes(alloc: Global, nodes: &mut [Node]) -> Result<(), NoMemory>
     ensures { OnOk result (map tree_of nodes.new ≡ map hard_tree (map tree_of nodes.old)) }
 {

@@ -48,7 +48,7 @@ fn set_thread(thread: &mut FlatThread)
 }
 
 /// Lets the threads with the deadline of clients be released again as soon as they have ended.
-#[tactic(auto, using(ods_names::proofs::Shared::SetSteps::set_steps))]
+#[tactic(auto, using(ods_forms::proofs::Shared::SetSteps::set_steps))]
 fn set_threads(threads: &mut [FlatThread])
     ensures { map thread_of threads.new ≡ map at_once (map thread_of threads.old) }
 {

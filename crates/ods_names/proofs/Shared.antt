@@ -1,4 +1,2 @@
 -- What other crates may cite of the proofs of this one.
 pub mod NeedSteps
-pub mod SetSteps
-pub mod TickLaws

@@ -18,13 +18,16 @@ use Rattle.ods_names.specs.declared.taken.Taken.{Taken}
 use Rattle.ods_index.specs.declared.broken.Broken as code
 use Rattle.ods_index.specs.Judging.{Tells, head_of}
 use Rattle.ods_names.proofs.Shared.NeedSteps.{told_of_all}
-use Rattle.ods_names.proofs.ScopeSteps.{head_given}
 use Rattle.ods_names.proofs.TakenSteps.{same_sort, or_sort, only_sort, none_sort, before_whole, before_single, before_member, before_parameter}
 use Rattle.ods_names.proofs.TakenSteps.{before_loop, before_body, before_local}
 
 cons_given : {B : Type 0} (o : Option B) (ys : List B) → cons_option o ys ≡ option_to_list o ++ ys
 cons_given None ys = refl
 cons_given (Some b) ys = refl
+
+head_given : {B : Type 0} (o : Option B) → head_of (option_to_list o) ≡ o
+head_given None = refl
+head_given (Some b) = refl
 
 -- two tests of sets, and then one of either sort
 joined : (f g : Role → Bool) (es : List Mention) (n : Name) {a b : Bool} → a ≡ names_where f es n → b ≡ names_where g es n

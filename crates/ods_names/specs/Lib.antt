@@ -1,10 +1,5 @@
-pub mod BodyScopes
-pub mod Counts
-pub mod Families
 pub mod Keys
 pub mod Mentions
 pub mod NameLists
 pub mod Needs
-pub mod ObjectFaults
 pub mod Taken
-pub mod Whole

@@ -84,8 +84,8 @@ fn judge_all<'a>(alloc: Global, index: &Index<'a>, mentions: &[Mention<'a>]) -> 
     judge_each(alloc, &mut taken, mentions)
 }
 
-/// Tells the first name that an earlier thing has, where the two may not share it.
-pub fn no_clashes(alloc: Global, index: &Index<'_>) -> Result<(), Broken>
+/// V01: tells the first name that an earlier thing has, where the two may not share it.
+pub fn first_clash(alloc: Global, index: &Index<'_>) -> Result<(), Broken>
     requires { IsIndex index.now }
     ensures { Tells result (head_of (clashes (design_of index.entry.now.design.now))) }
 {

@@ -276,7 +276,7 @@ fn is_kept(name: &Name) -> bool
 }
 
 /// The first of names that can't stand in an Ada text.
-fn first_kept<'a>(names: &[&'a Name]) -> Option<&'a Name>
+fn find_kept<'a>(names: &[&'a Name]) -> Option<&'a Name>
     ensures { option_map (λ n. n.now) result ≡ find (λ n. not (is_ada_name n)) (names_of names.entry.now) }
 {
     'names: for name in names {
@@ -299,12 +299,12 @@ fn tell(alloc: Global, name: Option<&Name>) -> Result<(), Broken>
     }
 }
 
-/// Tells the first name that can't stand in an Ada text.
-pub fn kept_names(alloc: Global, index: &Index<'_>) -> Result<(), Broken>
+/// V02: tells the first name that can't stand in an Ada text.
+pub fn first_kept_name(alloc: Global, index: &Index<'_>) -> Result<(), Broken>
     requires { IsIndex index.now }
     ensures { Tells result (head_of (kept_names (design_of index.entry.now.design.now))) }
 {
     let names = all_names(alloc, index)?;
-    let first = first_kept(names.as_slice());
+    let first = find_kept(names.as_slice());
     tell(alloc, first)
 }

@@ -13,10 +13,9 @@ ghost use Rattle.ods_names.specs.Mentions.{gathered, mention_by, requests_in, ro
 ghost use Rattle.ods_names.specs.NameLists.{names_of};
 ghost use Rattle.ods_index.specs.Walking.{object_of, standing_of};
 
-use crate::fittings::{has_block, is_aser};
 use name_sets::Names;
 use ods_index::{Index, Standing, is_sporadic};
-use ods_tree::{Node, OpBody, Provided};
+use ods_tree::{Constraint, Node, OpBody, Provided};
 use seq_tree::{Arm, Block, Datum, Name, NoMemory, Param, Stmt};
 use std::alloc::Global;
 
@@ -245,7 +244,7 @@ fn body_names<'a>(alloc: Global, bodies: &'a [OpBody]) -> Result<Names<'a>, NoMe
 pub(crate) fn is_request(node: &Node, provided: &Provided) -> bool
     ensures { result ≡ is_request (object_of node.now) (provided_of provided.now) }
 {
-    is_sporadic(node.kind) && is_aser(provided.constraint)
+    is_sporadic(node.kind) && matches!(provided.constraint, Some(Constraint::Aser))
 }
 
 /// Whether an operation has a body; that of a request is the thread.
@@ -254,7 +253,7 @@ fn is_bodied(node: &Node, bodies: &Names<'_>, provided: &Provided) -> bool
     requires { (n : NameTree) → has bodies.now n ≡ list_any (λ b. same_name b.name n) (object_of node.now).bodies }
     ensures { result ≡ is_bodied (object_of node.now) (provided_of provided.now) }
 {
-    bodies.has(&provided.sig.name) || (is_request(node, provided) && has_block(&node.thread))
+    bodies.has(&provided.sig.name) || (is_request(node, provided) && node.thread.is_some())
 }
 
 /// Adds the parameters of an operation.

@@ -261,24 +261,24 @@ fn judge(alloc: Global, index: &Index<'_>, rule: Rule) -> Result<(), Broken>
     judge_tree(alloc, index, rule, &near, root, None, None)
 }
 
-/// Tells the first object that requires an operation of an object that is neither sibling nor uncle.
-pub fn strangers(alloc: Global, index: &Index<'_>) -> Result<(), Broken>
+/// V06: tells the first object that requires an operation of an object that is neither sibling nor uncle.
+pub fn first_stranger(alloc: Global, index: &Index<'_>) -> Result<(), Broken>
     requires { IsIndex index.now }
     ensures { Tells result (head_of (strangers (design_of index.entry.now.design.now))) }
 {
     judge(alloc, index, Rule::Near)
 }
 
-/// Tells the first object that requires an operation that isn't there.
-pub fn absent(alloc: Global, index: &Index<'_>) -> Result<(), Broken>
+/// V07: tells the first object that requires an operation that isn't there.
+pub fn first_absent(alloc: Global, index: &Index<'_>) -> Result<(), Broken>
     requires { IsIndex index.now }
     ensures { Tells result (head_of (absent (design_of index.entry.now.design.now))) }
 {
     judge(alloc, index, Rule::There)
 }
 
-/// Tells the first object that requires an operation that its kind may not call.
-pub fn forbidden(alloc: Global, index: &Index<'_>) -> Result<(), Broken>
+/// V08: tells the first object that requires an operation that its kind may not call.
+pub fn first_forbidden(alloc: Global, index: &Index<'_>) -> Result<(), Broken>
     requires { IsIndex index.now }
     ensures { Tells result (head_of (forbidden (design_of index.entry.now.design.now))) }
 {

@@ -9,11 +9,12 @@ ghost use Rattle.ods_rules.specs.Orders.{Verdict, limit, rule_of};
 
 use crate::checked::Checked;
 use ods_costs::{first_bad_budget, first_bad_size};
-use ods_index::{Broken, Index};
-use ods_names::{
-    absent, bad_bodies, bad_fittings, forbidden, includes_fit, kept_names, no_clashes,
-    no_idle_actives, numbers_fit, operations_fit, set_ticks, strangers, versions_fit,
+use ods_forms::{
+    first_bad_body, first_bad_fitting, first_bad_include, first_bad_number, first_bad_operation,
+    first_bad_version, first_idle_active, set_ticks,
 };
+use ods_index::{Broken, Index};
+use ods_names::{first_absent, first_clash, first_forbidden, first_kept_name, first_stranger};
 use ods_starts::{
     first_bad_source, first_bad_spacing, first_ringed_object, first_ringed_op, first_ringed_thread,
 };
@@ -78,21 +79,21 @@ fn judge(alloc: Global, index: &Index<'_>, rule: Rule) -> Result<(), Broken>
     ensures { Judges (Offends (design_of index.entry.now.design.now) (design_of index.entry.now.design.now) (rule_of rule)) result }
 {
     match rule {
-        Rule::Clash => no_clashes(alloc, index),
-        Rule::KeptName => kept_names(alloc, index),
-        Rule::Include => includes_fit(alloc, index),
-        Rule::Operation => operations_fit(alloc, index),
-        Rule::Fitting => bad_fittings(alloc, index),
-        Rule::Stranger => strangers(alloc, index),
-        Rule::Absence => absent(alloc, index),
-        Rule::Use => forbidden(alloc, index),
+        Rule::Clash => first_clash(alloc, index),
+        Rule::KeptName => first_kept_name(alloc, index),
+        Rule::Include => first_bad_include(alloc, index),
+        Rule::Operation => first_bad_operation(alloc, index),
+        Rule::Fitting => first_bad_fitting(alloc, index),
+        Rule::Stranger => first_stranger(alloc, index),
+        Rule::Absence => first_absent(alloc, index),
+        Rule::Use => first_forbidden(alloc, index),
         Rule::CallRing => first_ringed_op(alloc, index),
         Rule::ObjectRing => first_ringed_object(alloc, index),
         Rule::StartRing => first_ringed_thread(alloc, index),
         Rule::Source => first_bad_source(alloc, index),
-        Rule::Number => numbers_fit(alloc, index),
-        Rule::IdleActive => no_idle_actives(alloc, index),
-        Rule::BodyFault => bad_bodies(alloc, index),
+        Rule::Number => first_bad_number(alloc, index),
+        Rule::IdleActive => first_idle_active(alloc, index),
+        Rule::BodyFault => first_bad_body(alloc, index),
         Rule::Budget => first_bad_budget(alloc, index),
         Rule::Size => first_bad_size(alloc, index),
         Rule::Spacing => first_bad_spacing(alloc, index),
@@ -136,7 +137,7 @@ pub fn check(alloc: Global, design: Design) -> Result<Checked, Broken>
     ensures { Says (design_of design) result }
 {
     let mut design = design;
-    versions_fit(alloc, &design)?;
+    first_bad_version(alloc, &design)?;
     set_ticks(&mut design);
     judge_design(alloc, &design)?;
     Ok(Checked { design })

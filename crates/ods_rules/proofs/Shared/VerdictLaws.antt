@@ -12,7 +12,7 @@ use Rattle.ods_rules.specs.Checks.{IsFirstTold, Says}
 use Rattle.ods_index.specs.Judging.{head_of, IsTold, Tells, IsFirstOffender, IsToldFirst, Judges, Passes}
 use Rattle.ods_rules.specs.Orders.{PassesBelow, IsToldOf, Verdict, limit, rule_of}
 use Rattle.ods_index.specs.Told.{told_of, is_memory}
-use Rattle.ods_names.proofs.Shared.TickLaws.{still_fine, ticks_again}
+use Rattle.ods_forms.proofs.Shared.TickLaws.{still_fine, ticks_again}
 use Rattle.ods_index.specs.declared.broken.Broken as codes
 use Rattle.ods_rules.specs.declared.verdict.Rule as code
 

@@ -4,7 +4,7 @@ use Rattle.std.specs.Vec.{with_items}
 use Rattle.ods_tree.specs.Trees.{tree_of}
 use Rattle.ods_tree.specs.declared.design.Node.{out-Node, roll-Node}
 use Rattle.ods_tree.specs.declared.design.Node.TheViews.{out-roll-Node}
-use Rattle.ods_names.proofs.Shared.SetSteps.{written_seen}
+use Rattle.ods_forms.proofs.Shared.SetSteps.{written_seen}
 use Rattle.background_designs.specs.HardParts.{hard_tree}
 use Rattle.background.proofs.HardSteps.{parent-hard}
 use Rattle.background.proofs.hardening.+hardening.Goals as goal

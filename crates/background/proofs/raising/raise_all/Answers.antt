@@ -1,5 +1,5 @@
 use Rattle.std.proofs.Common.{ap, max, slice_set, ◌∙◌}
-use Rattle.ods_names.proofs.Shared.SetSteps.{written}
+use Rattle.ods_forms.proofs.Shared.SetSteps.{written}
 use Rattle.background.proofs.raising.raise_all.Goals as goal
 
 pub numbers-preserved : goal.numbers-preserved

@@ -13,13 +13,13 @@ judge_design-requires-clause-few c =
 
 pub judge_design-requires-clause-version : goal.judge_design-requires-clause-version
 judge_design-requires-clause-version c = passes_at (design_of c.args.design) (design_of c.set_ticks.new.design) c.set_ticks.ensures
-    c.in_ok-versions_fit.ensures
+    c.in_ok-first_bad_version.ensures
 
 pub returns-in_err-judge_design : goal.returns-in_err-judge_design
 returns-in_err-judge_design c =
     let result : c.from_residual-in_err-judge_design.result ≡ Err c.in_err-judge_design.field-0.0 = search rules in
     rw result (says_at (design_of c.args.design) (design_of c.set_ticks.new.design) c.in_err-judge_design.field-0.0 c.set_ticks.ensures
-    c.in_ok-versions_fit.ensures
+    c.in_ok-first_bad_version.ensures
     c.in_err-judge_design.ensures)
 
 pub invariant_of-result : goal.invariant_of-result
@@ -32,5 +32,5 @@ pub returns : goal.returns
 returns c = (
   c.set_ticks.ensures,
   meets_at (design_of c.args.design) (design_of
-      c.set_ticks.new.design) c.set_ticks.ensures c.in_ok-versions_fit.ensures c.in_ok-judge_design.ensures,
+      c.set_ticks.new.design) c.set_ticks.ensures c.in_ok-first_bad_version.ensures c.in_ok-judge_design.ensures,
 )

@@ -1,0 +1,11 @@
+use Rattle.std.proofs.Common.{◌≡◌, map, drop, not}
+use Rattle.std.specs.List.{list_any}
+use Rattle.ods_tree.specs.Trees.{provided_of}
+use Rattle.ods_forms.specs.ObjectFaults.{may_have}
+use Rattle.ods_forms.proofs.operations.any_unfit.Given as goal
+
+-- it is up to those that are left
+abbrev pub invariant-ops : goal.invariant-ops
+invariant-ops l =
+    list_any (λ p. not (may_have l.terminal l.kind p.constraint)) (map provided_of (drop l.provided-index l.provides))
+    ≡ list_any (λ p. not (may_have l.terminal l.kind p.constraint)) (map provided_of l.provides)

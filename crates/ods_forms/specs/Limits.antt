@@ -1,0 +1,11 @@
+-- The limits of what is written in a design.
+-- They are those of the rules, by name.
+use Rattle.std.specs.Prelude.{ℕ}
+
+-- the greatest time, in ticks or microseconds, and the greatest number of `work`
+abbrev pub most_ticks : ℕ
+most_ticks = 1000000000
+
+-- the greatest number that is told
+abbrev pub most_count : ℕ
+most_count = 4294967295

@@ -1,7 +1,7 @@
 -- Choices by tests of places, and what is left where a part ends.
-use Rattle.std.proofs.Common.{◌≡◌, inl, inr, ◌<◌, ◌≤◌, ℕ, suc, ◌+◌, ◌-◌, Bool, true, List, ◌∷◌, refl, ap, sym, ◌∙◌, arith}
+use Rattle.std.proofs.Common.{◌≡◌, inl, inr, ◌<◌, ◌≤◌, ℕ, suc, ◌+◌, ◌-◌, Bool, List, refl, ap, sym, ◌∙◌, arith}
 use Rattle.std.specs.Prelude.{nat_lt, if◌then◌else◌}
-use Rattle.seq_tree.specs.Statements.{Statement, Statements, Branches, End, Then, Nothing, Else, When}
+use Rattle.seq_tree.specs.Statements.{Statements, Branches, End, Then, Nothing, Else, When}
 use Rattle.seq_tree.specs.Variables.{Variables}
 use Rattle.machine.specs.Pieces.{Piece}
 use Rattle.law_flat_code.specs.Codes.{Code, BranchesStand, size, block_size, branch_size}

@@ -1,5 +1,5 @@
 -- After each instruction of a block, what is left is read off the place to which it leads.
-use Rattle.std.proofs.Common.{◌≡◌, ◌⊎◌, inl, inr, ◌<◌, ◌≤◌, ℕ, zero, suc, ◌+◌, ◌-◌, Bool, true, false, List, ◌∷◌, refl, ap, sym, subst, ◌∙◌, arith}
+use Rattle.std.proofs.Common.{◌≡◌, inl, inr, ◌<◌, ◌≤◌, ℕ, zero, suc, ◌+◌, ◌-◌, Bool, true, false, List, ◌∷◌, refl, ap, sym, subst, ◌∙◌, arith}
 use Rattle.std.specs.Prelude.{nat_le, nat_lt, drop, if◌then◌else◌}
 use Rattle.seq_tree.specs.Names.{Name}
 use Rattle.seq_tree.specs.Expressions.{Expression}
@@ -10,7 +10,7 @@ use Rattle.machine.specs.Pieces.{Piece, pieces, pieces_of, branch_pieces, turns,
 use Rattle.machine.specs.Pieces as piece
 use Rattle.law_flat_code.specs.Codes.{Code, Ins, Stands, BlockStands, BranchesStand, size, block_size, branch_size, in_turn}
 use Rattle.law_flat_code.specs.Codes as ins
-use Rattle.law_flat_code.specs.Following.{AgreeBelow, Begins, DependsBelow, Ends, Follows, Goes, Leaves, LeftAt, Stepping, View, block_view}
+use Rattle.law_flat_code.specs.Following.{Begins, DependsBelow, Ends, Follows, Goes, Leaves, LeftAt, Stepping, View, block_view}
 use Rattle.law_flat_code.specs.Withins.{inside, within, among, scope_inside, scope_within, scope_among, turn_end}
 use Rattle.law_flat_code.proofs.Shared.Begins.{begins_among, begins_within, scope_begins, scope_starts_among}
 use Rattle.law_flat_code.proofs.Choices.{among_end, behind_first, ends_at, first_then, in_block, in_others, or_behind, passed, scope_among_end, scope_within_end}

@@ -1,7 +1,7 @@
 -- Choices by tests of places, and what is left where a part ends.
-use Rattle.std.proofs.Common.{◌≡◌, inl, inr, ◌<◌, ◌≤◌, ℕ, suc, ◌+◌, ◌-◌, Bool, true, List, ◌∷◌, refl, ap, sym, ◌∙◌, arith}
+use Rattle.std.proofs.Common.{◌≡◌, inl, inr, ◌<◌, ◌≤◌, ℕ, suc, ◌+◌, ◌-◌, Bool, List, refl, ap, sym, ◌∙◌, arith}
 use Rattle.std.specs.Prelude.{nat_lt, if◌then◌else◌}
-use Rattle.seq_tree.specs.Statements.{Statement, Statements, Branches, End, Then, Nothing, Else, When}
+use Rattle.seq_tree.specs.Statements.{Statements, Branches, End, Then, Nothing, Else, When}
 use Rattle.seq_tree.specs.Variables.{Variables}
 use Rattle.machine.specs.Pieces.{Piece}
 use Rattle.law_flat_code.specs.Codes.{Code, BranchesStand, size, block_size, branch_size}
@@ -24,7 +24,8 @@ passed n m x y le = by (less n m)
     by (inr t) = ap (λ z. if z then x else y) t.0
 
 -- a choice behind the first of a list of instructions
-pub behind_first : {A : Type 0} (f : ℕ → A) (x y : A) (m k : ℕ) → (if nat_lt 0 (suc m) then (if nat_lt (suc m - 1) k then f (suc m - 1) else x) else y)
+pub behind_first : {A : Type 0} (f : ℕ → A) (x y : A) (m k : ℕ)
+    → (if nat_lt 0 (suc m) then (if nat_lt (suc m - 1) k then f (suc m - 1) else x) else y)
     ≡ (if nat_lt m k then f m else x)
 behind_first f x y m k =
     let less-one : suc m - 1 ≡ m = omega arith in
@@ -32,14 +33,16 @@ behind_first f x y m k =
 
 -- where a block, branches or a statement ends, what is behind it is left
 mutual
-  pub within_end : (b : Statements) (open' : Bool) (depth : ℕ) (turn : ℕ → ℕ) (rest : List Piece) → within b (block_size b) open' depth turn rest ≡ rest
+  pub within_end : (b : Statements) (open' : Bool) (depth : ℕ) (turn : ℕ → ℕ) (rest : List Piece)
+      → within b (block_size b) open' depth turn rest ≡ rest
   within_end End open' depth turn rest = refl
   within_end (Then first others) open' depth turn rest =
       let left : size first + block_size others - size first ≡ block_size others = omega arith in
       passed (size first + block_size others) (size first) _ _ (omega arith)
       ∙ ap (λ z. within others z open' depth turn rest) left ∙ within_end others open' depth turn rest
 
-  pub among_end : (bs : Branches) (open' : Bool) (depth : ℕ) (turn : ℕ → ℕ) (rest : List Piece) → among bs (branch_size bs) open' depth turn rest ≡ rest
+  pub among_end : (bs : Branches) (open' : Bool) (depth : ℕ) (turn : ℕ → ℕ) (rest : List Piece)
+      → among bs (branch_size bs) open' depth turn rest ≡ rest
   among_end Nothing open' depth turn rest = refl
   among_end (Else block) open' depth turn rest = within_end block open' depth turn rest
   among_end (When c block others) open' depth turn rest =
@@ -91,7 +94,8 @@ ends_at (When c block others) code scope out end pc h =
 
 -- what is left in a block behind its condition
 pub in_block : {A : Type 0} (f g : ℕ → A) (x y : A) (m k : ℕ) → m ≤ k → f k ≡ x
-    → f m ≡ (if nat_lt 0 (suc m) then (if nat_lt (suc m - 1) k then f (suc m - 1) else (if nat_lt (suc m - 1) (suc k) then x else g (suc m - 1 - suc k))) else y)
+    → f m ≡ (if nat_lt 0 (suc m) then (if nat_lt (suc m - 1) k then f (suc m - 1) else (if nat_lt (suc m - 1) (suc k) then x
+    else g (suc m - 1 - suc k))) else y)
 in_block f g x y m k le end =
     let one : suc m - 1 ≡ m = omega arith in
     let next : (if nat_lt m (suc k) then x else g (m - suc k)) ≡ x = taken m (suc k) x (g (m - suc k)) (omega (arith, le)) in
@@ -100,7 +104,8 @@ in_block f g x y m k le end =
     ∙ sym (taken 0 (suc m) _ y (omega arith))
 
 pub first_then : {A : Type 0} (f g : ℕ → A) (x y : A) (m k : ℕ) → m < k
-    → f m ≡ (if nat_lt 0 (suc m) then (if nat_lt (suc m - 1) k then f (suc m - 1) else (if nat_lt (suc m - 1) (suc k) then x else g (suc m - 1 - suc k))) else y)
+    → f m ≡ (if nat_lt 0 (suc m) then (if nat_lt (suc m - 1) k then f (suc m - 1) else (if nat_lt (suc m - 1) (suc k) then x
+    else g (suc m - 1 - suc k))) else y)
 first_then f g x y m k lt =
     let one : suc m - 1 ≡ m = omega arith in
     sym (taken m k (f m) (if nat_lt m (suc k) then x else g (m - suc k)) lt)

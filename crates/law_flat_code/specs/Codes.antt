@@ -33,8 +33,11 @@ pub data Ins : Type 0 where
 abbrev pub Code : Type 1
 Code = Variables → ℕ → Ins → Type 0
 
--- code by a test of whether an instruction stands at a place for a scope, so that each law is one clause
-abbrev pub told_by : (Variables → ℕ → Ins → Bool) → Code
+-- a test of whether an instruction stands at a place for a scope, and code by a test, so that each law is one clause
+abbrev pub CodeTest : Type 0
+CodeTest = Variables → ℕ → Ins → Bool
+
+abbrev pub told_by : CodeTest → Code
 told_by reads scope pc i = reads scope pc i ≡ true
 
 -- the lowest slot that no name of a scope has

@@ -61,7 +61,8 @@ Follows v most pc n out open' depth turn rest around ps (ins.Store target e) = G
 Follows v most pc n out open' depth turn rest around ps (ins.Working ticks) = Goes v n turn ps (piece.Working ticks)
 Follows v most pc n out open' depth turn rest around ps (ins.Printing e) = Goes v n turn ps (piece.Printing e)
 Follows v most pc n out open' depth turn rest around ps (ins.Calling unit op actuals) = Goes v n turn ps (piece.Calling unit op actuals)
-Follows v most pc n out open' depth turn rest around ps (ins.Exit c to) = Goes v n turn ps (piece.Leaving c) × Leaves v most pc n out turn rest around to
+Follows v most pc n out open' depth turn rest around ps (ins.Exit c to) = Goes v n turn ps (piece.Leaving c)
+    × Leaves v most pc n out turn rest around to
 Follows v most pc n out open' depth turn rest around ps (ins.Test c other) =
     (block : Statements) × (others : Branches) × (behind : List Piece) × (ps ≡ piece.Testing c block others ∷ behind)
     × (pieces block behind ≡ v.left true turn (suc n)) × (v.scope true (suc n) ≡ v.scope false n)

@@ -51,14 +51,16 @@ mutual
   begins (Work k) open' depth turn rest = refl
   begins (Put e) open' depth turn rest = refl
 
-  pub begins_within : (b : Statements) (open' : Bool) (depth : ℕ) (turn : ℕ → ℕ) (rest : List Piece) → within b 0 open' depth turn rest ≡ pieces b rest
+  pub begins_within : (b : Statements) (open' : Bool) (depth : ℕ) (turn : ℕ → ℕ) (rest : List Piece)
+      → within b 0 open' depth turn rest ≡ pieces b rest
   begins_within End open' depth turn rest = refl
   begins_within (Then first others) open' depth turn rest =
       by_size first (inside first 0 open' depth turn (pieces others rest)) (within others (0 - size first) open' depth turn rest) (pieces others rest)
       (less 0 (size first)) (begins first open' depth turn (pieces others rest))
       (ap (λ z. within others z open' depth turn rest) (zero-less (size first)) ∙ begins_within others open' depth turn rest)
 
-  pub begins_among : (bs : Branches) (open' : Bool) (depth : ℕ) (turn : ℕ → ℕ) (rest : List Piece) → among bs 0 open' depth turn rest ≡ branch_pieces bs rest
+  pub begins_among : (bs : Branches) (open' : Bool) (depth : ℕ) (turn : ℕ → ℕ) (rest : List Piece)
+      → among bs 0 open' depth turn rest ≡ branch_pieces bs rest
   begins_among Nothing open' depth turn rest = refl
   begins_among (Else block) open' depth turn rest = begins_within block open' depth turn rest
   begins_among (When c block others) open' depth turn rest = refl

@@ -1,5 +1,5 @@
 -- After each instruction of a block, what is left is read off the place to which it leads.
-use Rattle.std.proofs.Common.{◌≡◌, ◌⊎◌, inl, inr, ◌<◌, ◌≤◌, ℕ, zero, suc, ◌+◌, ◌-◌, Bool, true, false, List, ◌∷◌, refl, ap, sym, subst, ◌∙◌, arith}
+use Rattle.std.proofs.Common.{◌≡◌, inl, inr, ◌<◌, ◌≤◌, ℕ, zero, suc, ◌+◌, ◌-◌, Bool, true, false, List, ◌∷◌, refl, ap, sym, subst, ◌∙◌, arith}
 use Rattle.std.specs.Prelude.{nat_le, nat_lt, drop, if◌then◌else◌}
 use Rattle.seq_tree.specs.Names.{Name}
 use Rattle.seq_tree.specs.Expressions.{Expression}
@@ -10,10 +10,11 @@ use Rattle.machine.specs.Pieces.{Piece, pieces, pieces_of, branch_pieces, turns,
 use Rattle.machine.specs.Pieces as piece
 use Rattle.law_flat_code.specs.Codes.{Code, Ins, Stands, BlockStands, BranchesStand, size, block_size, branch_size, in_turn}
 use Rattle.law_flat_code.specs.Codes as ins
-use Rattle.law_flat_code.specs.Following.{AgreeBelow, Begins, DependsBelow, Ends, Follows, Goes, Leaves, LeftAt, Stepping, View, block_view}
+use Rattle.law_flat_code.specs.Following.{Begins, DependsBelow, Ends, Follows, Goes, Leaves, LeftAt, Stepping, View, block_view}
 use Rattle.law_flat_code.specs.Withins.{inside, within, among, scope_inside, scope_within, scope_among, turn_end}
 use Rattle.law_flat_code.proofs.Shared.Begins.{begins_among, begins_within, scope_begins, scope_starts_among}
-use Rattle.law_flat_code.proofs.Choices.{among_end, behind_first, ends_at, first_then, in_block, in_others, or_behind, passed, scope_among_end, scope_within_end}
+use Rattle.law_flat_code.proofs.Choices.{among_end, behind_first, ends_at, first_then, in_block, in_others, or_behind, passed, scope_among_end}
+use Rattle.law_flat_code.proofs.Choices.{scope_within_end}
 use Rattle.law_flat_code.proofs.Choices.{taken, up_to, within_end}
 use Rattle.law_flat_code.proofs.Tests.{Told, less}
 
@@ -313,7 +314,8 @@ module _ (name : Name) (low high : ℕ) (body : Statements) (depth : ℕ) (rest 
     );
   }
 
-  loop_ends : (code : Code) (out pc n : ℕ) (open' : Bool) (turn : ℕ → ℕ) → suc (block_size body) ≡ n → Stands code scope out pc (For name low high body)
+  loop_ends : (code : Code) (out pc n : ℕ) (open' : Bool) (turn : ℕ → ℕ) → suc (block_size body) ≡ n
+      → Stands code scope out pc (For name low high body)
       → Stepping code loop (suc (suc (block_size body))) pc n out open' depth turn (rest turn) scope
   loop_ends code out pc n open' turn e h =
       subst (λ z. Stepping code loop (suc (suc (block_size body))) pc z out open' depth turn (rest turn) scope) e (record {
@@ -382,9 +384,11 @@ module _ (c : Expression) (block : Statements) (others : Branches) (depth : ℕ)
       (suc (suc (block_size block)))
   others_part = record {
     fits = omega arith;
-    left = λ turn m le. sym (in_others (λ i. within block i true depth turn (rest turn)) (λ i. among others i true depth turn (rest turn)) (rest turn) _
+    left = λ turn m le. sym (in_others (λ i. within block i true depth turn (rest turn)) (λ i. among others i true depth turn (rest turn))
+        (rest turn) _
         m (block_size block)) ∙ ap (arms.left true turn) (more_behind (block_size block) m);
-    left_open = λ open' turn m lt. sym (in_others (λ i. within block i open' depth turn (rest turn)) (λ i. among others i open' depth turn (rest turn))
+    left_open = λ open' turn m lt. sym (in_others (λ i. within block i open' depth turn (rest turn)) (λ i. among others i open' depth turn
+        (rest turn))
         (rest turn) _ m (block_size block)) ∙ ap (arms.left open' turn) (more_behind (block_size block) m);
     scope = λ m le. sym (in_others (λ i. scope_within block i true scope) (λ i. scope_among others i true scope) scope _ m (block_size block))
         ∙ ap (arms.scope true) (more_behind (block_size block) m);
@@ -424,7 +428,8 @@ module _ (c : Expression) (block : Statements) (others : Branches) (depth : ℕ)
   }
 
   at_jump : {A : Type 0} (f g : ℕ → A) (x y : A) (k : ℕ)
-      → (if nat_lt 0 (suc k) then (if nat_lt (suc k - 1) k then f (suc k - 1) else (if nat_lt (suc k - 1) (suc k) then x else g (suc k - 1 - suc k))) else y)
+      → (if nat_lt 0 (suc k) then (if nat_lt (suc k - 1) k then f (suc k - 1) else (if nat_lt (suc k - 1) (suc k) then x
+      else g (suc k - 1 - suc k))) else y)
       ≡ x
   at_jump f g x y k =
       taken 0 (suc k) _ y (omega arith) ∙ passed (suc k - 1) k _ _ (omega arith) ∙ taken (suc k - 1) (suc k) x _ (omega arith)
@@ -463,7 +468,8 @@ module _ (c : Expression) (block : Statements) (others : Branches) (depth : ℕ)
       (when_tests code out end pc open' turn h)
   when_steps n (inl z) (inl u) w block_steps others_step code out end pc open' turn h lt =
       stepping (block_view block depth rest scope) arms (block_size block) (suc (suc (block_size block + branch_size others))) 1 block_part
-      pc (suc pc) (omega arith) code (n - 1) n out out open' depth depth turn (rest turn) (rest turn) scope scope u.1 (omega arith) (omega (arith, z.1))
+      pc (suc pc) (omega arith) code (n - 1) n out out open' depth depth turn (rest turn) (rest turn) scope scope u.1 (omega arith) (omega
+      (arith, z.1))
       (leaves_same (block_view block depth rest scope) arms (block_size block) (suc (suc (block_size block + branch_size others))) 1 block_part
       pc (suc pc) (omega arith) (n - 1) out turn (rest turn) (rest turn) scope u.1 refl)
       (block_steps code scope out (suc pc) (n - 1) open' depth turn rest dep h.1 u.1)
@@ -473,7 +479,8 @@ module _ (c : Expression) (block : Statements) (others : Branches) (depth : ℕ)
       let k = suc (suc (block_size block)) in
       let inner : n - 1 - suc (block_size block) < branch_size others = omega (arith, lt, w.1) in
       stepping (branches_view others depth rest scope) arms (branch_size others) (suc (suc (block_size block + branch_size others))) k others_part
-      pc (suc (suc pc + block_size block)) (omega arith) code (n - 1 - suc (block_size block)) n out out open' depth depth turn (rest turn) (rest turn)
+      pc (suc (suc pc + block_size block)) (omega arith) code (n - 1 - suc (block_size block)) n out out open' depth depth turn (rest turn)
+      (rest turn)
       scope scope inner (omega arith) (omega (arith, z.1, w.1))
       (leaves_same (branches_view others depth rest scope) arms (branch_size others) (suc (suc (block_size block + branch_size others))) k others_part
       pc (suc (suc pc + block_size block)) (omega arith) (n - 1 - suc (block_size block)) out turn (rest turn) (rest turn) scope inner refl)
@@ -553,7 +560,8 @@ mutual
   steps_inside (Assign target x) code scope out pc n open' depth turn rest dep h lt =
       only code (statement_view (Assign target x) depth rest scope) out pc n open' depth turn (rest turn) scope (ins.Store target x) lt h (refl, refl)
   steps_inside (If branches) code scope out pc n open' depth turn rest dep h lt =
-      stepping (branches_view branches depth rest scope) (statement_view (If branches) depth rest scope) (branch_size branches) (branch_size branches) 0
+      stepping (branches_view branches depth rest scope) (statement_view (If branches) depth rest scope) (branch_size branches)
+      (branch_size branches) 0
       (if_part branches depth rest scope) pc pc (omega arith) code n n out out open' depth depth turn (rest turn) (rest turn) scope scope lt
       (omega arith) (omega arith)
       (leaves_same (branches_view branches depth rest scope) (statement_view (If branches) depth rest scope) (branch_size branches)
@@ -565,7 +573,8 @@ mutual
       only code (statement_view (ExitWhen c) depth rest scope) out pc n open' depth turn (rest turn) scope (ins.Exit c out) lt h
       ((refl, refl), inr (refl, refl, refl))
   steps_inside (Call unit op actuals) code scope out pc n open' depth turn rest dep h lt =
-      only code (statement_view (Call unit op actuals) depth rest scope) out pc n open' depth turn (rest turn) scope (ins.Calling unit op actuals) lt h
+      only code (statement_view (Call unit op actuals) depth rest scope) out pc n open' depth turn (rest turn) scope
+      (ins.Calling unit op actuals) lt h
       (refl, refl)
   steps_inside (Work ticks) code scope out pc n open' depth turn rest dep h lt =
       only code (statement_view (Work ticks) depth rest scope) out pc n open' depth turn (rest turn) scope (ins.Working ticks) lt h (refl, refl)

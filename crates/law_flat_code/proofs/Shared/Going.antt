@@ -116,7 +116,18 @@ pieces_go_on y code out pc (piece.Store target e) vars rest own in' h =
     record { jumps = h.0; place = h.1; there = h.2; ins = ins.Store target e; is = h.3.0; out = out; scoped = refl; backs = refl; ahead = h.3.1 }
 pieces_go_on y code out pc (piece.Leaving c) vars rest own in' h =
     let l = left_by (holds c vars) code out h.1 c vars rest in' h.3.1 in
-    record { jumps = h.0; place = h.1; there = h.2; ins = ins.Exit c out.to; is = h.3.0; out = l.out; scoped = l.scoped; backs = l.backs; ahead = l.ahead }
+    record {
+      jumps = h.0;
+      place = h.1;
+      there = h.2;
+      ins = ins.Exit c out.to;
+      is = h.3.0;
+      out = l.out;
+      scoped = l.scoped;
+      backs = l.backs;
+      ahead =
+          l.ahead;
+    }
 pieces_go_on y code out pc (piece.Working n) vars rest own in' h =
     record { jumps = h.0; place = h.1; there = h.2; ins = ins.Working n; is = h.3.0; out = out; scoped = refl; backs = refl; ahead = h.3.1 }
 pieces_go_on y code out pc (piece.Printing e) vars rest own in' h =

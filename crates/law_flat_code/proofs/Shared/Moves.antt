@@ -1,14 +1,13 @@
 -- A move in no time inside a block leaves the same pieces in the same scope.
-use Rattle.std.proofs.Common.{◌≡◌, ◌<◌, ℕ, ◌+◌, Bool, false, List, ◌∷◌, refl, ap, sym, ◌∙◌}
-use Rattle.std.specs.Prelude.{nat_le, if◌then◌else◌}
-use Rattle.seq_tree.specs.Names.{Name}
+use Rattle.std.proofs.Common.{◌<◌, ℕ, ◌+◌, Bool, false, List, ◌∷◌, refl, ap, sym, ◌∙◌}
+use Rattle.std.specs.Prelude.{if◌then◌else◌}
 use Rattle.seq_tree.specs.Statements.{Statements}
 use Rattle.seq_tree.specs.Variables.{Variables}
 use Rattle.machine.specs.Pieces.{Piece}
 use Rattle.machine.specs.Pieces as piece
 use Rattle.law_flat_code.specs.Codes.{Code, BlockStands, Ins, block_size}
 use Rattle.law_flat_code.specs.Codes as ins
-use Rattle.law_flat_code.specs.Following.{Follows, LeftAt, block_view}
+use Rattle.law_flat_code.specs.Following.{Follows, block_view}
 use Rattle.law_flat_code.specs.Withins.{AllLead, LeadsTo, StaysWithin, scope_within, within}
 use Rattle.law_flat_code.proofs.Shared.Follows.{steps_block}
 

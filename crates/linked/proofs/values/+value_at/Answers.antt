@@ -10,7 +10,8 @@ value_at-value-requires t c =
     let n = length c.args.nodes.now in
     let k = c.in-Node.place in
     let within : k < n = place_below c.args.operand n k c.in-Node.is c.requires.below in
-    let below : IsBelow k c.in-Not.inner = has_below c.args.nodes.now k _ (node.Not c.in-Not.is_boolean c.in-Not.inner) c.requires.ordered within c.in-Not.is in
+    let below : IsBelow k c.in-Not.inner = has_below c.args.nodes.now k _
+    (node.Not c.in-Not.is_boolean c.in-Not.inner) c.requires.ordered within c.in-Not.is in
     let r : reach c.in-Not.inner < reach c.args.operand = reach_falls c.args.operand c.in-Not.inner k c.in-Node.is below in
     let d = c.decreases in
     (omega (arith, r, d), (c.requires.ordered, below_more c.in-Not.inner k n below (omega (arith, within))))
@@ -20,7 +21,8 @@ value_at-first-requires t c =
     let n = length c.args.nodes.now in
     let k = c.in-Node.place in
     let within : k < n = place_below c.args.operand n k c.in-Node.is c.requires.below in
-    let below = has_below c.args.nodes.now k _ (node.Binary c.in-Binary.op c.in-Binary.left c.in-Binary.right) c.requires.ordered within c.in-Binary.is in
+    let below = has_below c.args.nodes.now k _
+    (node.Binary c.in-Binary.op c.in-Binary.left c.in-Binary.right) c.requires.ordered within c.in-Binary.is in
     let r : reach c.in-Binary.left < reach c.args.operand = reach_falls c.args.operand c.in-Binary.left k c.in-Node.is below.0 in
     let d = c.decreases in
     (omega (arith, r, d), (c.requires.ordered, below_more c.in-Binary.left k n below.0 (omega (arith, within))))
@@ -30,7 +32,8 @@ value_at-second-requires t c =
     let n = length c.args.nodes.now in
     let k = c.in-Node.place in
     let within : k < n = place_below c.args.operand n k c.in-Node.is c.requires.below in
-    let below = has_below c.args.nodes.now k _ (node.Binary c.in-Binary.op c.in-Binary.left c.in-Binary.right) c.requires.ordered within c.in-Binary.is in
+    let below = has_below c.args.nodes.now k _
+    (node.Binary c.in-Binary.op c.in-Binary.left c.in-Binary.right) c.requires.ordered within c.in-Binary.is in
     let r : reach c.in-Binary.right < reach c.args.operand = reach_falls c.args.operand c.in-Binary.right k c.in-Node.is below.1 in
     let d = c.decreases in
     (omega (arith, r, d), (c.requires.ordered, below_more c.in-Binary.right k n below.1 (omega (arith, within))))

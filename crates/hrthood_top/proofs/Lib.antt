@@ -24,7 +24,6 @@ pub mod BackgroundReplaying
 pub mod VerifyLaws
 pub mod Verified
 pub mod VerifiedAccepted
-pub mod VerifiedExamples
 pub mod SampleLaws
 pub mod SearchLaws
 pub mod OneOrder

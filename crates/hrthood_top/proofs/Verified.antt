@@ -1,8 +1,17 @@
 -- What is verified of a design and an arrivals text: its text, and the trace of that text, which never stops.
 use Rattle.std.proofs.Common.{◌≡◌, ℕ, List, ◌++◌, Option, Result, Ok, Err, sym, subst, append_assoc, inl}
+use Rattle.seq_tree.specs.Proper.{within_limits}
 use Rattle.seq_tree.specs.declared.text_fault.TextFault.{TextFault}
+use Rattle.ods_tree.specs.Designs as designs
+use Rattle.ods_tree.specs.Proper.{IsProperDesign}
 use Rattle.ods_tree.specs.Ticks.{in_ticks}
-use Rattle.law_told_events.proofs.Shared.Events.{design-goes-on}
+use Rattle.ods_tree.specs.Words.{is_design_name}
+use Rattle.design_rules.specs.Rules.{MeetsRules}
+use Rattle.law_designs.proofs.Shared.ReadablePrograms.{program-readable}
+use Rattle.law_designs.proofs.Shared.SoundDesigns.{flat-sound, flat-spaced}
+use Rattle.law_designs.proofs.Shared.TabledTasks.{sound-tabled}
+use Rattle.law_ceilings.proofs.Shared.Ceiled.{is-ceiled}
+use Rattle.law_ceilings.proofs.Shared.Stopping.{rest-goes-on}
 use Rattle.ada_tree.specs.Programs.{Program}
 use Rattle.ada_read.specs.Answers.{Faults}
 use Rattle.ada_read.proofs.Shared.ReadingLaws.{reads-unfaulty}
@@ -17,6 +26,7 @@ use Rattle.hood_io.specs.Causes.{HasCause}
 use Rattle.hood_io.specs.Sinks.{Appends}
 use Rattle.hood_io.proofs.Shared.Appending.{appends-twice, puts-behind}
 use Rattle.machine.specs.Meanings.{Running, Tells, Meaning, begun}
+use Rattle.machine.specs.Systems.{system}
 use Rattle.trace_tree.specs.declared.event.Event.{Event}
 use Rattle.trace_tree.specs.Lines.{lines}
 use Rattle.hrthood_top.specs.declared.file_kind.FileKind.TheVariants as kind
@@ -89,11 +99,18 @@ pub front-cut : {E : Type 0} (front : List ℕ) (p : Program) (m : Running) (bef
 front-cut front p m before now e cut rest = (rest.0, rest.1, cut-more front (lines p rest.0) before now cut)
 
 -- no run of the program of a design stops
+design-runs-out : (x : designs.Design) (a : Arrivals) (told : List Event) → IsProperDesign (within_limits is_design_name) x → MeetsRules x
+    → Meaning (program (in_ticks x)) a told → RunsOut told
+design-runs-out x a told proper meets means =
+    let p : Program = program (in_ticks x) in
+    let t = sound-tabled (in_ticks x) (flat-sound x (in_ticks x) meets) (flat-spaced x (in_ticks x) meets) in
+    rest-goes-on (system p a) (is-ceiled p a (program-readable x proper meets).1 t.tabled.ceilings t.tabled.inner_ceilings) a.items told means
+
 pub made-runs-out : (design made : List ℕ) (p : Program) (a : Arrivals) (told : List Event) → IsTextFor design made → SaysProgram made p
     → Meaning p a told → RunsOut told
 made-runs-out design made p a told w says means =
     let M : Program → Type 0 = λ q. Meaning q a told in
-    design-goes-on w.design design w.reads w.meets a told
+    design-runs-out w.design a told w.reads.proper w.meets
     (subst M (sym (says.alone (program (in_ticks w.design)) (accepted_text design made w))) means)
 
 -- the text and the trace

@@ -26,7 +26,7 @@ use Rattle.hrthood_top.specs.declared.check.CheckRefusal.{CheckRefusal}
 use Rattle.hrthood_top.specs.declared.file_kind.FileKind.TheVariants.{Design, Arrivals, Trace}
 use Rattle.hrthood_top.specs.Checks.{RefusesCheck}
 use Rattle.hrthood_top.specs.Taking.{IsTakenAs}
-use Rattle.hrthood_top.specs.Acceptances.{IsJudgedSo, IsJudged, RefusesAccepts, CanAccept, acceptances}
+use Rattle.hrthood_top.specs.Acceptances.{IsJudgedSo, IsJudged, IsYes, IsAcceptedSo, RefusesAccepts, CanAccept, acceptances, yes_line}
 use Rattle.hrthood_top.proofs.CheckLaws as checking
 use Rattle.hrthood_top.proofs.SearchLaws.{one-taken}
 use Rattle.hrthood_top.proofs.VerbLaws.{IsExact, never-stops}
@@ -83,12 +83,23 @@ one-judged design x arrivals trace u v taken h k =
     one-verdict (software x) (taken-clear design x taken) (program x) (taken-plain design x taken) (named_arrivals (program x) k.under) trace u v
     (subst V under h.verdict) k.verdict
 
+accepted-same : (n m : ℕ) → verdict.Accepted n ≡ verdict.Accepted m → n ≡ m
+accepted-same n m e = cc
+
 -- what is said of the design that bytes are taken as
 along : (P : designs.Design → Type 0) (design : List ℕ) (x y : designs.Design) → IsTakenAs design x → IsTakenAs design y → P x → P y
 along P design x y h k p = subst P (one-taken design x y h k) p
 
 taken-not : (design : List ℕ) (x : designs.Design) → IsTakenAs design x → (r : CheckRefusal) → RefusesCheck design r → ⊥
 taken-not design x w r h = checking.not-untaken design w.design r w.reads w.meets h
+
+-- a trace that is accepted has one line that tells it
+pub one-accepted : (design arrivals trace a b : List ℕ) → IsAcceptedSo design arrivals trace a → IsAcceptedSo design arrivals trace b → a ≡ b
+one-accepted design arrivals trace a b h k =
+    let Y : designs.Design → Type 0 = λ x. IsYes x arrivals trace a in
+    let y = along Y design h.0 k.0 h.1 k.1 h.2 in
+    let v = one-judged design k.0 arrivals trace (verdict.Accepted y.0) (verdict.Accepted k.2.0) k.1 y.1 k.2.1 in
+    y.2 ∙ ap yes_line (accepted-same y.0 k.2.0 v) ∙ sym k.2.2
 
 not_refused : (design arrivals trace : List ℕ) → CanAccept design arrivals trace → (r : AcceptsRefusal) → RefusesAccepts design arrivals trace r → ⊥
 not_refused design arrivals trace w (refusal.Untaken found) h = taken-not design w.taken_as w.taken found h

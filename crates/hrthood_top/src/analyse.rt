@@ -14,7 +14,8 @@ use hood_io::{Shelf, Sink};
 use seq_tree::NoMemory;
 use std::alloc::Global;
 
-/// What is told of the text of a design: the bounds and the ceilings that go with its Ada text.
+/// What is told of the text of a design: the bounds and the ceilings that go with its Ada text. That text is made too, and dropped, so that a
+/// design is refused here exactly where `generate` refuses it, for a text that would be too long among others.
 #[tactic(auto, using(crate::proofs::AnalyseLaws::analysed_as))]
 fn analyse_text(alloc: Global, design: &[u8]) -> Result<Vec<u8>, Halt<GenerateRefusal>>
     ensures { IsMade (λ v. v.items) (IsAnalysed design.now) (RefusesDesign design.now) result }

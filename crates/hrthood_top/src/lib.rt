@@ -58,5 +58,5 @@ pub use search::SearchRefusal;
 pub use status::Status;
 pub use thread_names::ThreadNames;
 pub use toolset::{run, run_plain};
-pub use two_runs::{background_text_replays, generated_text_replays};
+pub use two_runs::{background_text_replays, generated_text_replays, verified_trace_is_accepted};
 pub use verify::VerifyRefusal;

@@ -1,9 +1,9 @@
 ghost use Rattle.std.specs.Prelude.{◌≡◌, ℕ, List, Some};
 ghost use Rattle.hood_io.specs.Shelves.{Told};
 ghost use Rattle.hrthood_words.specs.declared.verbs.DesignVerb.TheVariants.{Background, Generate};
-ghost use Rattle.hrthood_words.specs.Words.{OnDesign, Replay};
+ghost use Rattle.hrthood_words.specs.Words.{OnDesign, Replay, Verify};
 ghost use Rattle.hrthood_top.specs.Ends.{Outside};
-ghost use Rattle.hrthood_top.specs.TwoRuns.{IsDone, IsRightBackgroundReplay, IsRightReplay};
+ghost use Rattle.hrthood_top.specs.TwoRuns.{IsDone, IsRightBackgroundReplay, IsRightReplay, IsVerifiedTrace};
 
 /// What `replay` writes of a text that `generate` wrote is the trace of a run that the design allows, within its bounds.
 ///
@@ -26,4 +26,15 @@ pub fn background_text_replays()
     ensures { (words others : List (List ℕ)) (d a r text written : List ℕ) (x y u v : Outside) (t s : Told)
         → IsDone words (OnDesign Background d) x y t text → IsDone others (Replay a r) u v s written → s.files a ≡ Some text
         → IsRightBackgroundReplay t s d r text written }
+{}
+
+/// The trace that `verify` writes is accepted by `accepts`.
+///
+/// The two runs are apart: of the first only its trace comes to the second, as a file beside the same design and arrivals. In the first, `x`
+/// and `y` are what stood outside before and after it, and `t` is its shelf with the design in the file `d` and the arrivals in `r`; what it
+/// wrote is a text, a line and the trace. However the second run ends, it does not refuse: where it is done it has written `yes lines` with the
+/// number of events that the first told. The trace must be within the limit of its files, 16,777,216 bytes, beyond which it is not read.
+pub fn verified_trace_is_accepted()
+    ensures { (words : List (List ℕ)) (d r written : List ℕ) (x y : Outside) (t : Told)
+        → IsDone words (Verify d r) x y t written → IsVerifiedTrace t d r written }
 {}

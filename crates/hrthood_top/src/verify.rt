@@ -110,7 +110,8 @@ fn put_verified<'a, O: Sink>(
 }
 
 /// Verifies a design under an arrivals text, whatever the names of their files: nothing is written before its text is made and read, the arrivals
-/// are read, and the run can begin.
+/// are read, and the run can begin. The program is read back from the text, and not taken from where the text was made, since what is promised is
+/// promised of the text.
 fn verify_texts<O: Sink, E: Sink>(alloc: Global, texts: &Texts, out: &mut O, err: &mut E) -> Status
     ensures { (design arrivals : List ℕ) → Streams (verifies design arrivals) (texts_of texts.now) result
         (O.written out.old) (O.written out.new) (O.faults out.old) (O.faults out.new)

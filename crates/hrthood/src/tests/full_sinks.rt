@@ -17,6 +17,8 @@ const WRITTEN: &[&str] = &[
     "words: check d",
     "words: format d",
     "words: analyse d",
+    "words: search d",
+    "words: scale d",
     "words: generate d
     rooms: 0 1 620 1239",
     "words: background d

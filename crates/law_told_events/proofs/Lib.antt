@@ -1,0 +1,6 @@
+pub mod Values
+pub mod Pieces
+pub mod Steps
+pub mod Texts
+pub mod Programs
+pub mod Shared

@@ -6,7 +6,6 @@ mod StartingExamples
 pub mod CallRings
 pub mod NamePlaces
 pub mod ObjectRings
-pub mod OnceCalls
 pub mod LoopSteps
 pub mod KeptCalls
 pub mod RequestLaws

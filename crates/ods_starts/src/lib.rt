@@ -9,7 +9,6 @@ mod call_rings;
 mod callers;
 mod held;
 mod object_rings;
-mod once;
 mod reacher;
 mod requests;
 mod separations;

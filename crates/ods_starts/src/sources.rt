@@ -1,4 +1,4 @@
-ghost use Rattle.std.specs.Prelude.{◌≡◌, ◌<◌, ◌≤◌, ◌+◌, ◌||◌, ◌&&◌, ◌++◌, ◌∷◌, [], ◌==◌, ℕ, None, true, IfOk, OnOk, filter, filter_map, fold};
+ghost use Rattle.std.specs.Prelude.{◌≡◌, ◌<◌, ◌≤◌, ◌+◌, ◌||◌, ◌&&◌, ◌++◌, ◌∷◌, [], ◌==◌, ℕ, true, IfOk, OnOk, filter, filter_map, fold};
 ghost use Rattle.std.specs.Prelude.{if◌then◌else◌, length, map, max, min, nat_le, not, option_map, option_to_list, unwrap_or};
 ghost use Rattle.std.specs.List.{list_any};
 ghost use Rattle.seq_tree.specs.Names.{Name as NameTree, same_name};
@@ -22,7 +22,6 @@ ghost use Rattle.ods_index.specs.Walking.{object_of};
 
 use crate::callers::Callers;
 use crate::held::{Bodies, bodies_of, table_of};
-use crate::once::Once;
 use crate::reacher::Reacher;
 use crate::requests::{block_requests, counts_within};
 use crate::starts::{Starts, threads_of};
@@ -233,7 +232,6 @@ struct Requests<'a> {
     callers: Callers<'a>,
     threads: Vec<&'a Node>,
     reachers: Reachers<'a>,
-    once: Once<'a>,
 }
 
 impl<'a> Requests<'a> {
@@ -250,14 +248,12 @@ impl<'a> Requests<'a> {
         let callers = Callers::of_bodies(alloc, &starts.links, listed.as_slice())?;
         let threads = threads_of(alloc, index.objects.as_slice())?;
         let reachers = reachers_of(alloc, &starts, threads.as_slice())?;
-        let once = Once::new(alloc, &starts.links, listed.as_slice(), threads.as_slice())?;
         Ok(Requests {
             starts,
             bodies,
             callers,
             threads,
             reachers,
-            once,
         })
     }
 
@@ -307,16 +303,6 @@ impl<'a> Requests<'a> {
         }
     }
 
-    /// Whether an object with so many sources shows at once that these are right.
-    #[tactic(auto, using(ods_index::proofs::Shared::WalkSteps::node_steps))]
-    fn is_fine(&self, node: &Node, sources: u32) -> bool
-        requires right { AreRight self.now }
-        requires counted { sources ≡ source_count (design_of self.now.starts.links.design.now) (object_of node.now) }
-        ensures { result ≡ true → source_fault (design_of self.now.starts.links.design.now) (object_of node.now) ≡ None }
-    {
-        sources == 1 && self.once.has(&node.name)
-    }
-
     /// Tells an object whose sources are wrong.
     #[tactic(auto, using(ods_index::proofs::Shared::WalkSteps::node_steps))]
     fn target_fits(&self, alloc: Global, node: &Node) -> Result<(), Broken>
@@ -327,9 +313,6 @@ impl<'a> Requests<'a> {
             return Ok(());
         }
         let sources = self.source_count(node);
-        if self.is_fine(node, sources) {
-            return Ok(());
-        }
         let starts = self.start_count(alloc, node)?;
         counts_fit(alloc, node, sources, starts)
     }

@@ -1,3 +1,0 @@
-mod ListedSteps
-mod WaySteps
-pub mod Shared

@@ -40,7 +40,8 @@ impl<'a> PlacesByName<'a> {
     /// Adds a place behind those of a name.
     #[tactic(auto, unfolding(crate::specs::ByNames::places_at))]
     fn add(&mut self, alloc: Global, name: &'a Name, place: usize) -> Result<(), NoMemory>
-        ensures { OnOk result ((n : NameTree) → places_at self.new n ≡ places_at self.old n ++ (if same_name name.entry.now n then place ∷ [] else [])) }
+        ensures { OnOk result ((n : NameTree) → places_at self.new n
+            ≡ places_at self.old n ++ (if same_name name.entry.now n then place ∷ [] else [])) }
     {
         let mut places = Vec::new(alloc);
         places.push(place)?;
@@ -55,7 +56,8 @@ impl<'a> PlacesByName<'a> {
         name: &'a Name,
         place: usize,
     ) -> Result<(), NoMemory>
-        ensures marked { OnOk result ((before : NameTree → List ℕ) → IsMarked before place self.old seen.old → IsMarked before place self.new seen.new) }
+        ensures marked { OnOk result ((before : NameTree → List ℕ) → IsMarked before place self.old seen.old
+            → IsMarked before place self.new seen.new) }
         ensures seen { OnOk result ((n : NameTree) → has seen.new n ≡ (same_name name.entry.now n || has seen.old n)) }
     {
         if seen.add(name)? {
@@ -71,7 +73,8 @@ impl<'a> PlacesByName<'a> {
         names: &[&'a Name],
         place: usize,
     ) -> Result<(), NoMemory>
-        ensures { OnOk result ((n : NameTree) → places_at self.new n ≡ places_at self.old n ++ place_if (is_named (names_of names.entry.now) n) place) }
+        ensures { OnOk result ((n : NameTree) → places_at self.new n
+            ≡ places_at self.old n ++ place_if (is_named (names_of names.entry.now) n) place) }
     {
         let mut seen = Names::new(alloc);
         'names: for name in names {

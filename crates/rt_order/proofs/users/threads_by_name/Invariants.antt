@@ -8,4 +8,6 @@ use Rattle.rt_order.proofs.users.threads_by_name.Given as goal
 
 -- the places so far, and those of the threads that are left
 abbrev pub invariant-threads : goal.invariant-threads
-invariant-threads l = (n : Name) → places_at l.places n ++ places_from (uses_object n) l.i (map thread_of (drop l.i l.threads)) ≡ places_from (uses_object n) 0 (map thread_of l.threads)
+invariant-threads l =
+    (n : Name) → places_at l.places n ++ places_from (uses_object n) l.i (map thread_of (drop l.i l.threads))
+    ≡ places_from (uses_object n) 0 (map thread_of l.threads)

@@ -10,15 +10,12 @@ ghost use Rattle.rt_block.specs.Bases.{base_of, starter_place, thread_cost};
 ghost use Rattle.rt_block.specs.Known.{IsKnown, IsServed, design};
 ghost use Rattle.rt_block.specs.Prices.{cap};
 
-use crate::costs::ticks_of;
+use crate::costs::{CAP, ticks_of};
 use crate::operations::Operations;
 use crate::starters::starter;
 use ods_tree::{FlatThread, Timing};
 use seq_tree::{Block, Name, NoMemory};
 use std::alloc::Global;
-
-/// One tick over the greatest cost.
-const CAP: u64 = 1_000_000_001;
 
 /// What the rows of a thread have for any priorities: times and cost in ticks, and the place of the first thread that requests it, where
 /// it isn't requested from outside.

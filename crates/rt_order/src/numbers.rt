@@ -1,7 +1,5 @@
-ghost use Rattle.std.specs.Prelude.{◌≡◌, ◌++◌, OnOk, true};
-ghost use Rattle.rt_order.specs.Numbers.{greatest_of, place_if, value};
-
-use seq_tree::NoMemory;
+ghost use Rattle.std.specs.Prelude.{◌≡◌, ◌↔◌, true};
+ghost use Rattle.rt_order.specs.Numbers.{greatest_of, value};
 
 /// The number at a place, and 0 where there is none.
 pub fn value(numbers: &[u32], place: usize) -> u32
@@ -26,17 +24,7 @@ pub fn greatest_of(numbers: &[u32], own: u32, places: &[usize]) -> u32
 
 /// Whether numbers are equal.
 pub fn same(a: &[u32], b: &[u32]) -> bool
-    ensures { result ≡ true → a.now ≡ b.now }
+    ensures { (result ≡ true) ↔ (a.now ≡ b.now) }
 {
     a == b
-}
-
-/// Adds a place, where it counts.
-pub(crate) fn add_place(counts: bool, place: usize, into: &mut Vec<usize>) -> Result<(), NoMemory>
-    ensures { OnOk result (into.new.items ≡ into.old.items ++ place_if counts place) }
-{
-    if counts {
-        into.push(place)?;
-    }
-    Ok(())
 }

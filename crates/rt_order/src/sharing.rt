@@ -2,7 +2,7 @@ ghost use Rattle.std.specs.Prelude.{◌≡◌, IfOk};
 ghost use Rattle.ods_tree.specs.Trees.{flat_of};
 ghost use Rattle.rt_order.specs.Shared.{AreControlUsers, AreUsers};
 
-use crate::users::{Users, shared_users, thread_users};
+use crate::users::{Users, shared_users, thread_users, users_by_name};
 use ods_tree::Flat;
 use seq_tree::NoMemory;
 use std::alloc::Global;
@@ -18,12 +18,13 @@ pub struct Sharing<'a> {
     ghost controls_are: { AreControlUsers (flat_of flat.now) controls.items },
 }
 
-/// Who uses what the threads of a flat design share. `NoMemory` comes for want of memory alone.
+/// Who uses what the threads of a flat design share; each block is walked once. `NoMemory` comes for want of memory alone.
 pub fn sharing_of<'a>(alloc: Global, flat: &'a Flat) -> Result<Sharing<'a>, NoMemory>
     ensures { IfOk result (λ s. s.flat.now ≡ flat.entry.now) }
 {
-    let objects = shared_users(alloc, flat)?;
-    let controls = thread_users(alloc, flat)?;
+    let named = users_by_name(alloc, flat)?;
+    let objects = shared_users(alloc, &named)?;
+    let controls = thread_users(alloc, &named)?;
     Ok(Sharing {
         flat,
         objects,

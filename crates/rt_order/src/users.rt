@@ -1,13 +1,15 @@
 ghost use Rattle.std.specs.Prelude.{◌≡◌, IfOk, map, option_map};
+ghost use Rattle.seq_tree.specs.Names.{Name as NameTree};
 ghost use Rattle.ods_tree.specs.Trees.{flat_of, guarded_of, thread_of};
 ghost use Rattle.analysis.specs.Ceilings.{calls_from_inside, uses_object};
+ghost use Rattle.rt_order.specs.ByNames.{places_at};
 ghost use Rattle.rt_order.specs.Kept.{users_of};
 ghost use Rattle.rt_order.specs.Numbers.{places_from};
-ghost use Rattle.rt_order.specs.Shared.{AreControlUsers, AreUsers};
+ghost use Rattle.rt_order.specs.Shared.{AreControlUsers, AreNamed, AreUsers};
 ghost use Rattle.rt_order.specs.Users.{control_users, users};
 
-use crate::calling::{calls_inside, uses};
-use crate::numbers::add_place;
+use crate::by_name::PlacesByName;
+use crate::called::{names_called, names_used};
 use ods_tree::{Flat, FlatShared, FlatThread, Timing};
 use seq_tree::{Name, NoMemory};
 use std::alloc::Global;
@@ -19,70 +21,107 @@ pub(crate) struct Users {
     pub(crate) callers: Vec<usize>,
 }
 
-/// The places of the threads that use an object or control structure.
-fn find_threads(alloc: Global, threads: &[FlatThread], name: &Name) -> Result<Vec<usize>, NoMemory>
-    ensures { IfOk result (λ v. v.items ≡ places_from (uses_object name.now) 0 (map thread_of threads.now)) }
-{
-    let mut found = Vec::new(alloc);
-    'threads: for (i, thread) in threads.iter().enumerate() {
-        add_place(uses(thread, name), i, &mut found)?;
-    }
-    Ok(found)
+/// The places of a flat design's threads by the names that they use, and those of its protected objects by the names that they call.
+#[derive(Drop)]
+pub(crate) struct UsersByName<'a> {
+    pub(crate) flat: &'a Flat,
+    threads: PlacesByName<'a>,
+    callers: PlacesByName<'a>,
 }
 
-/// The places of the protected objects that call an object or request a thread.
-fn find_callers(alloc: Global, shared: &[FlatShared], name: &Name) -> Result<Vec<usize>, NoMemory>
-    ensures { IfOk result (λ v. v.items ≡ places_from (calls_from_inside name.now) 0 (map guarded_of shared.now)) }
+/// The places of threads by the names that they use.
+fn threads_by_name<'a>(
+    alloc: Global,
+    threads: &'a [FlatThread],
+) -> Result<PlacesByName<'a>, NoMemory>
+    ensures { IfOk result (λ t. (n : NameTree) → places_at t n ≡ places_from (uses_object n) 0 (map thread_of threads.entry.now)) }
 {
-    let mut found = Vec::new(alloc);
-    'shared: for (i, object) in shared.iter().enumerate() {
-        add_place(calls_inside(object, name), i, &mut found)?;
+    let mut places = PlacesByName::new(alloc);
+    'threads: for (i, thread) in threads.iter().enumerate() {
+        let names = names_used(alloc, thread)?;
+        places.add_each(alloc, names.as_slice(), i)?;
     }
-    Ok(found)
+    Ok(places)
+}
+
+/// The places of protected objects by the names that they call.
+fn callers_by_name<'a>(
+    alloc: Global,
+    shared: &'a [FlatShared],
+) -> Result<PlacesByName<'a>, NoMemory>
+    ensures { IfOk result (λ t. (n : NameTree) → places_at t n ≡ places_from (calls_from_inside n) 0 (map guarded_of shared.entry.now)) }
+{
+    let mut places = PlacesByName::new(alloc);
+    'shared: for (i, object) in shared.iter().enumerate() {
+        let names = names_called(alloc, object)?;
+        places.add_each(alloc, names.as_slice(), i)?;
+    }
+    Ok(places)
+}
+
+/// Who uses what, by names: each block is walked once.
+pub(crate) fn users_by_name<'a>(alloc: Global, flat: &'a Flat) -> Result<UsersByName<'a>, NoMemory>
+    ensures named { IfOk result AreNamed }
+    ensures flat { IfOk result (λ u. u.flat.now ≡ flat.entry.now) }
+{
+    let threads = threads_by_name(alloc, flat.threads.as_slice())?;
+    let callers = callers_by_name(alloc, flat.shared.as_slice())?;
+    Ok(UsersByName {
+        flat,
+        threads,
+        callers,
+    })
 }
 
 /// Who uses an object or control structure.
-fn find_users(alloc: Global, flat: &Flat, name: &Name) -> Result<Users, NoMemory>
-    ensures { IfOk result (λ u. users_of u ≡ users (flat_of flat.now) name.now) }
+fn find_users(alloc: Global, named: &UsersByName<'_>, name: &Name) -> Result<Users, NoMemory>
+    requires { AreNamed named.now }
+    ensures { IfOk result (λ u. users_of u ≡ users (flat_of named.now.flat.now) name.now) }
 {
-    let threads = find_threads(alloc, flat.threads.as_slice(), name)?;
-    let callers = find_callers(alloc, flat.shared.as_slice(), name)?;
+    let threads = named.threads.get(alloc, name)?;
+    let callers = named.callers.get(alloc, name)?;
     Ok(Users { threads, callers })
 }
 
 /// Who uses a thread's control structure, where it has one.
 fn find_control_users(
     alloc: Global,
-    flat: &Flat,
+    named: &UsersByName<'_>,
     thread: &FlatThread,
 ) -> Result<Option<Users>, NoMemory>
+    requires { AreNamed named.now }
     ensures { IfOk result (λ o. option_map users_of o
-        ≡ control_users (flat_of flat.now) (thread_of thread.now).name (thread_of thread.now).timing) }
+        ≡ control_users (flat_of named.now.flat.now) (thread_of thread.now).name (thread_of thread.now).timing) }
 {
     match &thread.timing {
         Timing::Cyclic { .. } => Ok(None),
-        Timing::Sporadic { .. } => Ok(Some(find_users(alloc, flat, &thread.name)?)),
+        Timing::Sporadic { .. } => Ok(Some(find_users(alloc, named, &thread.name)?)),
     }
 }
 
 /// Who uses the protected objects, by place.
-pub(crate) fn shared_users(alloc: Global, flat: &Flat) -> Result<Vec<Users>, NoMemory>
-    ensures { IfOk result (λ v. AreUsers (flat_of flat.now) v.items) }
+pub(crate) fn shared_users(alloc: Global, named: &UsersByName<'_>) -> Result<Vec<Users>, NoMemory>
+    requires { AreNamed named.now }
+    ensures { IfOk result (λ v. AreUsers (flat_of named.now.flat.now) v.items) }
 {
     let mut found = Vec::new(alloc);
-    'shared: for object in &flat.shared {
-        found.push(find_users(alloc, flat, &object.name)?)?;
+    'shared: for object in &named.flat.shared {
+        found.push(find_users(alloc, named, &object.name)?)?;
     }
     Ok(found)
 }
 
 /// Who uses the control structures, by the place of their thread.
-pub(crate) fn thread_users(alloc: Global, flat: &Flat) -> Result<Vec<Option<Users>>, NoMemory>
-    ensures { IfOk result (λ v. AreControlUsers (flat_of flat.now) v.items) }
+pub(crate) fn thread_users(
+    alloc: Global,
+    named: &UsersByName<'_>,
+) -> Result<Vec<Option<Users>>, NoMemory>
+    requires { AreNamed named.now }
+    ensures { IfOk result (λ v. AreControlUsers (flat_of named.now.flat.now) v.items) }
 {
     let mut found = Vec::new(alloc);
-    'threads: for thread in &flat.threads {
-        found.push(find_control_users(alloc, flat, thread)?)?;
+    'threads: for thread in &named.flat.threads {
+        found.push(find_control_users(alloc, named, thread)?)?;
     }
     Ok(found)
 }

@@ -8,4 +8,4 @@ use Rattle.rt_order.proofs.users.thread_users.Given as goal
 abbrev pub invariant-threads : goal.invariant-threads
 invariant-threads l =
     map (option_map users_of) l.found.items
-    ≡ map (λ t. control_users (flat_of l.flat) t.name t.timing) (map thread_of (take l.thread-index l.thread-items))
+    ≡ map (λ t. control_users (flat_of l.named.flat.now) t.name t.timing) (map thread_of (take l.thread-index l.thread-items))

@@ -7,22 +7,6 @@
 # in the last of them.
 source "$(dirname -- "${BASH_SOURCE[0]}")/measure.sh"
 
-# 30 threads, and so many objects of this kind, with this constraint on their operations, in a chain.
-chain() {
-    awk -v kind="$1" -v constraint="$2" -v count="$3" -v costs="$costs" 'BEGIN {
-        print "DESIGN d IS " costs "\nOBJECT r IS ACTIVE\nOBJECTS"
-        for (k = 1; k <= 30; k++) {
-            print "OBJECT t" k " IS CYCLIC ATTRIBUTES PERIOD = 1000000; DEADLINE = " 1000000 - k "; THREAD_BUDGET = 1000000;"
-            print "REQUIRES p1.f; THREAD p1.f; END THREAD; END t" k ";"
-        }
-        for (k = 1; k <= count; k++) {
-            print "OBJECT p" k " IS " kind " PROVIDES f" constraint ";" (k < count ? " REQUIRES p" k + 1 ".f;" : "")
-            print "OPERATION f IS BEGIN " (k < count ? "p" k + 1 ".f" : "null") "; END f; END p" k ";"
-        }
-        print "END r;\nEND d;"
-    }'
-}
-
 # Two threads, the last of which has this deadline; the first leaves it one tick of each period of this many.
 one_tick_left() {
     awk -v period="$1" -v deadline="$2" -v costs="$costs" 'BEGIN {
@@ -54,7 +38,7 @@ halves() {
 chains() {
     : >"$room/times"
     for count in 59 118 235 469; do
-        chain "$1" "$2" "$count" >"$room/design"
+        chain_of_objects "$1" "$2" "$count" >"$room/design"
         run analyse "$room/design"
         echo "$count $best" >>"$room/times"
         printf '30 threads, %s %s objects: %s s, %s KiB, said last: %s\n' "$count" "$1" "$best" \
@@ -75,7 +59,8 @@ rounds() {
         "$form" "$size" $((response - 1)) >"$room/short"
         round=$("$program" analyse "$room/short" 2>&1 | awk '$3 == "last" { print $NF }') || true
         echo "$round $best" >>"$room/times"
-        printf '%s %s: response %s, %s rounds, %s s\n' "$form" "$size" "$response" "$round" "$best"
+        printf '%s %s: response %s, %s rounds, %s s, %s ns a round\n' "$form" "$size" "$response" "$round" "$best" \
+            "$(awk -v seconds="$best" -v rounds="$round" 'BEGIN { printf "%.0f", seconds * 1e9 / (rounds > 0 ? rounds : 1) }')"
     done
     printf '%s: exponent %s of the rounds\n' "$form" "$(exponent "$room/times")"
 }

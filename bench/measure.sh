@@ -16,6 +16,22 @@ arrivals=$top/examples/until_20.arrivals
 costs='COSTS ASSIGN = 1; TEST = 1; TURN = 1; CALL = 2; NULL = 1; PUT = 1; FINISH = 1; END COSTS;'
 attributes='ATTRIBUTES PERIOD = 1000000000; DEADLINE = 1000000000; THREAD_BUDGET = 1000000000;'
 
+# A design of 30 threads that call the first of so many objects of this kind, with this constraint on their operations, in a chain.
+chain_of_objects() {
+    awk -v kind="$1" -v constraint="$2" -v count="$3" -v costs="$costs" 'BEGIN {
+        print "DESIGN d IS " costs "\nOBJECT r IS ACTIVE\nOBJECTS"
+        for (k = 1; k <= 30; k++) {
+            print "OBJECT t" k " IS CYCLIC ATTRIBUTES PERIOD = 1000000; DEADLINE = " 1000000 - k "; THREAD_BUDGET = 1000000;"
+            print "REQUIRES p1.f; THREAD p1.f; END THREAD; END t" k ";"
+        }
+        for (k = 1; k <= count; k++) {
+            print "OBJECT p" k " IS " kind " PROVIDES f" constraint ";" (k < count ? " REQUIRES p" k + 1 ".f;" : "")
+            print "OPERATION f IS BEGIN " (k < count ? "p" k + 1 ".f" : "null") "; END f; END p" k ";"
+        }
+        print "END r;\nEND d;"
+    }'
+}
+
 # Runs the program with these words, and sets the least of three processor times. What it says stands in the room.
 run() {
     local TIMEFORMAT='%U %S'

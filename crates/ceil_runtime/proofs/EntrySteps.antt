@@ -53,7 +53,8 @@ use Rattle.ceil_runtime.proofs.Sectioned.{left-sound}
 use Rattle.ceil_runtime.proofs.SectionSteps.{entry-step, exit-step}
 use Rattle.ceil_runtime.proofs.Stepped.{IsBeside, effect_state, running-sound}
 use Rattle.ceil_runtime.proofs.StopSteps.{stop-step, stopped-step}
-use Rattle.task_runtime.proofs.Shared.AtWork.{inside-falls, inside-going, inside-works, nests-inside, nests-outside, outside-falls, outside-going, outside-works}
+use Rattle.task_runtime.proofs.Shared.AtWork.{inside-falls, inside-going, inside-works, nests-inside, nests-outside, outside-falls, outside-going}
+use Rattle.task_runtime.proofs.Shared.AtWork.{outside-works}
 
 -- an entry that stands behind others leaves their facts
 each-behind : (P : Entry → Type 0) (before : Entry → Bool) (e : Entry) (es : List Entry) → Each P (put_behind before e es) → Each P es

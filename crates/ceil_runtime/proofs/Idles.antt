@@ -13,7 +13,7 @@ use Rattle.task_runtime.specs.Works.{task_of}
 use Rattle.task_runtime.specs.Written.{first_place}
 use Rattle.task_runtime.specs.declared.piece.Piece as piece
 use Rattle.task_runtime.specs.declared.task.Task.{Task}
-use Rattle.task_runtime.proofs.Starting.{none-left}
+use Rattle.task_runtime.proofs.Shared.Starting.{none-left}
 use Rattle.task_runtime.proofs.Shared.AtWork.{piece-ready}
 
 -- what is due of the task at a place, from the task: by lemmas, since a search takes seconds in the machine's context

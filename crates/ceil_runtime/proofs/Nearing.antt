@@ -21,8 +21,8 @@ use Rattle.task_runtime.specs.Works.{task_of}
 use Rattle.task_runtime.specs.Written.{system_of, params_of, reserve, thread_of}
 use Rattle.task_runtime.specs.declared.task.Task.{Task}
 use Rattle.ceil_runtime.specs.declared.processor.Phase.TheVariants.{Effects, Use}
-use Rattle.task_runtime.proofs.Frames.{few-frames}
-use Rattle.task_runtime.proofs.Starting.{effort-most, few-ends}
+use Rattle.task_runtime.proofs.Shared.Frames.{few-frames}
+use Rattle.task_runtime.proofs.Shared.Starting.{effort-most, few-ends}
 use Rattle.task_runtime.proofs.Shared.AtWork.{effort-few}
 
 -- the sum of a list by its first number

@@ -31,8 +31,8 @@ use Rattle.task_runtime.specs.declared.piece.Piece.{Piece}
 use Rattle.task_runtime.specs.declared.piece.Piece.TheVariants as is
 use Rattle.task_runtime.specs.declared.task.Task.{Task}
 use Rattle.task_runtime.specs.declared.thread.Thread.{Thread}
-use Rattle.task_runtime.proofs.Doings.{request-at}
-use Rattle.task_runtime.proofs.Sections.{few-sections}
+use Rattle.task_runtime.proofs.Shared.Doings.{request-at}
+use Rattle.task_runtime.proofs.Shared.Sections.{few-sections}
 use Rattle.task_runtime.proofs.Shared.AtWork.{going-inside}
 
 -- the unit and the ceiling of a task that is requested
@@ -79,4 +79,3 @@ unit-before tasks tasks' same k u at = by_place (slice_get tasks k) refl
         one : Some (thread_of w.progress.stack.thread) ≡ Some (thread_of u.progress.stack.thread)
             → thread_of w.progress.stack.thread ≡ thread_of u.progress.stack.thread
         one e = cc
-

@@ -19,7 +19,9 @@ use arrivals_tree::{Arrival, Arrivals};
 use link_queue::Links;
 use seq_tree::{Costs, NoMemory};
 use std::alloc::Global;
-use task_runtime::{Act, Callees, Deed, Entry, Piece, Readiness, Section, Task, Thread, Timing, ceiling_of};
+use task_runtime::{
+    Act, Callees, Deed, Entry, Piece, Readiness, Section, Task, Thread, Timing, ceiling_of,
+};
 use trace_tree::Event;
 
 /// What an advance of the machine came to.

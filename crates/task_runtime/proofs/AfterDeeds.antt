@@ -18,9 +18,9 @@ use Rattle.task_runtime.specs.Written.{durations_of, reserve, thread_of}
 use Rattle.task_runtime.specs.declared.progress.Progress.{Progress}
 use Rattle.task_runtime.specs.declared.task.Task.{Task}
 use Rattle.task_runtime.specs.declared.thread.Thread.{Thread}
-use Rattle.task_runtime.proofs.Frames.{few-frames}
+use Rattle.task_runtime.proofs.Shared.Frames.{few-frames}
 use Rattle.task_runtime.proofs.Goings.{going-starts}
-use Rattle.task_runtime.proofs.Starting.{effort-falls, few-ends, some-effort}
+use Rattle.task_runtime.proofs.Shared.Starting.{effort-falls, few-ends, some-effort}
 
 -- a task whose progress and counts have changed
 abbrev pub acted : Task → Progress → Thread → ℕ → ℕ → states.Task

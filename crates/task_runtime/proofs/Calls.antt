@@ -27,7 +27,7 @@ use Rattle.task_runtime.specs.declared.piece.Call.{Call}
 use Rattle.task_runtime.specs.declared.piece.Entry.{Entry}
 use Rattle.task_runtime.specs.declared.piece.Frame.{Frame}
 use Rattle.task_runtime.specs.declared.piece.Frame.TheVariants as frame
-use Rattle.task_runtime.proofs.Frames.{FitAll, few-frames, system-kept}
+use Rattle.task_runtime.proofs.Shared.Frames.{FitAll, few-frames, system-kept}
 use Rattle.task_runtime.proofs.Stacks.{vars-length}
 
 -- an operation that is clear is there

@@ -21,7 +21,7 @@ use Rattle.task_runtime.specs.declared.piece.Piece.TheVariants as piece
 use Rattle.task_runtime.specs.declared.piece.Frame.{Frame}
 use Rattle.task_runtime.specs.declared.piece.Frame.TheVariants as frame
 use Rattle.task_runtime.proofs.Ends.{kept-behind, names-kept}
-use Rattle.task_runtime.proofs.Frames.{first-frame}
+use Rattle.task_runtime.proofs.Shared.Frames.{first-frame}
 use Rattle.task_runtime.proofs.Stacks.{vars-front, vars-length}
 
 -- a piece that a statement begins with is like every other

@@ -16,11 +16,7 @@ pub mod ExamplesChains
 pub mod ExamplesCallees
 pub mod Blocks
 pub mod CallLaws
-pub mod Doings
-pub mod Frames
 pub mod Leading
-pub mod Sections
-pub mod Starting
 pub mod Targets
 pub mod Examples
 pub mod ExamplesCalls

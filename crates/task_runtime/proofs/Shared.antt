@@ -1,5 +1,9 @@
 -- What other crates may cite of the proofs of this one.
-pub mod UnitsAt
-pub mod Runnable
 pub mod AtWork
+pub mod Doings
 pub mod ExampleSystem
+pub mod Frames
+pub mod Runnable
+pub mod Sections
+pub mod Starting
+pub mod UnitsAt

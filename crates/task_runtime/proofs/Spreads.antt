@@ -16,7 +16,7 @@ use Rattle.task_runtime.specs.declared.piece.Slot.{Slot}
 use Rattle.task_runtime.specs.declared.piece.Frame.{Frame}
 use Rattle.task_runtime.specs.declared.piece.Frame.TheVariants as frame
 use Rattle.task_runtime.proofs.Stacks.{vars-length}
-use Rattle.task_runtime.proofs.Frames.{fit-pop, fit-push, popped, popped-fit, pushed, pushed-fit}
+use Rattle.task_runtime.proofs.Shared.Frames.{fit-pop, fit-push, popped, popped-fit, pushed, pushed-fit}
 
 -- how many frames there are
 saved-length : (vs : List Var) → length (saved vs) ≡ length vs

@@ -5,10 +5,14 @@
 //!
 //! Other crates may cite these proofs of it (`proofs/Shared`):
 //!
-//! - `Runnable`: a task of a program that meets the rules can be run;
-//! - `AtWork`: what holds of a task at work: what follows from its piece, and how its sections and effects are counted;
-//! - `UnitsAt`: the units of a program by their places;
+//! - `AtWork`: what holds of a task at work: what follows from its piece, and how its sections and effects are counted.
+//! - `Doings`: what a call does, by what it leads to.
 //! - `ExampleSystem`: a system of three units, for examples.
+//! - `Frames`: frames: what is pushed stands first, and where the next frame stands.
+//! - `Runnable`: a task of a program that meets the rules can be run.
+//! - `Sections`: how many sections a task is inside: each has its end among the pieces left.
+//! - `Starting`: what starts after an effect: how many ticks, and how many effects and events may follow.
+//! - `UnitsAt`: the units of a program by their places.
 #![tactic(auto)]
 
 mod acting;

@@ -1,5 +1,6 @@
 -- What holds of a task at work, whatever it is made of inside: what follows from the piece that it has, and how sections and effects are counted.
-use Rattle.std.specs.Prelude.{◌≡◌, ◌⊎◌, ℕ, Bool, true, false, ◌||◌, suc, ◌+◌, ◌-◌, ◌<◌, ◌≤◌, min, vec_capacity, fold, List, [], ◌∷◌, length, map, Option}
+use Rattle.std.specs.Prelude.{◌≡◌, ◌⊎◌, ℕ, Bool, true, false, ◌||◌, suc, ◌+◌, ◌-◌, ◌<◌, ◌≤◌, min, vec_capacity, fold, List, [], ◌∷◌, length, map}
+use Rattle.std.specs.Prelude.{Option}
 use Rattle.std.specs.Prelude.{Some, None, option_map, unwrap_or, refl}
 use Rattle.std.proofs.Common.{ap, subst, ◌∙◌, sym, arith, inl, inr}
 use Rattle.seq_tree.specs.Trees.{operation_of}
@@ -33,10 +34,10 @@ use Rattle.task_runtime.specs.declared.piece.Piece.{Piece}
 use Rattle.task_runtime.specs.declared.piece.Piece.TheVariants as is
 use Rattle.task_runtime.specs.declared.task.Task.{Task}
 use Rattle.task_runtime.specs.declared.thread.Thread.{Thread}
-use Rattle.task_runtime.proofs.Doings.{op-below, request-at}
-use Rattle.task_runtime.proofs.Frames.{few-frames}
-use Rattle.task_runtime.proofs.Sections.{few-sections}
-use Rattle.task_runtime.proofs.Starting.{effort-most, few-ends, none-left}
+use Rattle.task_runtime.proofs.Shared.Doings.{op-below, request-at}
+use Rattle.task_runtime.proofs.Shared.Frames.{few-frames}
+use Rattle.task_runtime.proofs.Shared.Sections.{few-sections}
+use Rattle.task_runtime.proofs.Shared.Starting.{effort-most, few-ends, none-left}
 
 pub piece-none : (t : Task) → t.progress.piece ≡ None → (task_of t).pieces ≡ []
 piece-none t is =

@@ -5,7 +5,7 @@ use Rattle.task_runtime.specs.Fitting.{FitsFirst, place_of}
 use Rattle.task_runtime.specs.Progressed.{pieces_left}
 use Rattle.task_runtime.specs.Progresses.{behind, kept, put_away, started}
 use Rattle.task_runtime.specs.Written.{first_place}
-use Rattle.task_runtime.proofs.Starting.{none-left, same-ticks, same-works, works-tick}
+use Rattle.task_runtime.proofs.Shared.Starting.{none-left, same-ticks, same-works, works-tick}
 use Rattle.task_runtime.proofs.progress.Progress.start.Goals as goal
 
 pub returns-in-None : goal.returns-in-None

@@ -4,8 +4,8 @@ use Rattle.task_runtime.specs.Framed.{frames_of}
 use Rattle.task_runtime.specs.Callable.{IsCallee, op_name}
 use Rattle.task_runtime.specs.Doing.{IsOutside}
 use Rattle.task_runtime.specs.Written.{first_place, system_of}
-use Rattle.task_runtime.proofs.Doings.{request-at}
-use Rattle.task_runtime.proofs.Frames.{system-kept}
+use Rattle.task_runtime.proofs.Shared.Doings.{request-at}
+use Rattle.task_runtime.proofs.Shared.Frames.{system-kept}
 use Rattle.task_runtime.proofs.stack.Stack.call_outside.Goals as goal
 
 pub returns-in-Some-Request-clause-first : goal.returns-in-Some-Request-clause-first

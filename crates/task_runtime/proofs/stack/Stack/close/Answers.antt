@@ -3,7 +3,7 @@ use Rattle.task_runtime.specs.Framed.{frames_of}
 use Rattle.task_runtime.specs.Progresses.{behind}
 use Rattle.task_runtime.specs.Slots.{spread}
 use Rattle.task_runtime.specs.Stacked.{vars_of}
-use Rattle.task_runtime.proofs.Frames.{first-frame}
+use Rattle.task_runtime.proofs.Shared.Frames.{first-frame}
 use Rattle.task_runtime.proofs.Firsts.{first-ended, kept-ended}
 use Rattle.task_runtime.proofs.stack.Stack.close.Goals as goal
 

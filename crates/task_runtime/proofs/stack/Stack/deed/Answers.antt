@@ -3,7 +3,7 @@ use Rattle.task_runtime.specs.Framed.{frames_of}
 use Rattle.task_runtime.specs.Fitting.{IsOfObject}
 use Rattle.task_runtime.specs.Written.{first_place}
 use Rattle.task_runtime.proofs.Firsts.{first-at}
-use Rattle.task_runtime.proofs.Frames.{system-kept}
+use Rattle.task_runtime.proofs.Shared.Frames.{system-kept}
 use Rattle.task_runtime.proofs.stack.Stack.deed.Goals as goal
 
 pub returns-in-Closing : goal.returns-in-Closing

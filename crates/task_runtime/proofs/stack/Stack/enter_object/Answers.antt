@@ -6,7 +6,7 @@ use Rattle.task_runtime.specs.Callable.{data_by, op_by}
 use Rattle.task_runtime.specs.Fitting.{FitsBlock, IsOfObject, IsPushed, above, call_name, entry_names, place_of}
 use Rattle.task_runtime.specs.Written.{first_place, system_of}
 use Rattle.task_runtime.specs.declared.piece.Frame.TheVariants as frame
-use Rattle.task_runtime.proofs.Frames.{system-kept}
+use Rattle.task_runtime.proofs.Shared.Frames.{system-kept}
 use Rattle.task_runtime.proofs.Calls.{body-block, entry-spot, is-ready, lent-room, under-way}
 use Rattle.task_runtime.proofs.Spreads.{spread-length}
 use Rattle.task_runtime.proofs.Shared.AtWork.{of-object}

@@ -2,7 +2,7 @@ use Rattle.std.proofs.Common.{arith}
 use Rattle.task_runtime.specs.Framed.{frames_of}
 use Rattle.task_runtime.specs.Written.{first_place}
 use Rattle.task_runtime.specs.declared.piece.Slot.{Slot}
-use Rattle.task_runtime.proofs.Frames.{room-for}
+use Rattle.task_runtime.proofs.Shared.Frames.{room-for}
 use Rattle.task_runtime.proofs.Spreads.{push-bare, push-counted, push-fits, push-slot, spread-length}
 use Rattle.task_runtime.proofs.stack.Stack.push_frame.Goals as goal
 

@@ -5,7 +5,7 @@ use Rattle.task_runtime.specs.Callable.{IsCallee, op_name}
 use Rattle.task_runtime.specs.Doing.{IsPlain}
 use Rattle.task_runtime.specs.Written.{system_of}
 use Rattle.task_runtime.proofs.Calls.{is-there}
-use Rattle.task_runtime.proofs.Doings.{protected-at}
+use Rattle.task_runtime.proofs.Shared.Doings.{protected-at}
 use Rattle.task_runtime.proofs.stack.Stack.reached.Goals as goal
 
 pub unreachable-requires : goal.unreachable-requires

@@ -1,5 +1,5 @@
 use Rattle.std.proofs.Common.{arith}
-use Rattle.task_runtime.proofs.Frames.{few-vars}
+use Rattle.task_runtime.proofs.Shared.Frames.{few-vars}
 use Rattle.task_runtime.specs.Framed.{frames_of}
 use Rattle.task_runtime.proofs.Spreads.{spread-length}
 use Rattle.task_runtime.proofs.stack.Stack.turn.Goals as goal

@@ -14,7 +14,7 @@ use Rattle.task_runtime.specs.Written.{first_place, system_of, thread_of, timing
 use Rattle.task_runtime.specs.declared.thread.Thread.{Thread}
 use Rattle.task_runtime.proofs.AfterDeeds.{falls-on, goes-on}
 use Rattle.task_runtime.proofs.Goings.{goes-done, goes-given}
-use Rattle.task_runtime.proofs.Sections.{is-among, stays-inside}
+use Rattle.task_runtime.proofs.Shared.Sections.{is-among, stays-inside}
 use Rattle.task_runtime.proofs.task.Task.act.Goals as goal
 
 pub returns-in_default : goal.returns-in_default

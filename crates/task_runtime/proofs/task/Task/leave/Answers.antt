@@ -8,7 +8,7 @@ use Rattle.machine.specs.Deeds as deeds
 use Rattle.task_runtime.specs.Fitting.{FitsFirst, place_of}
 use Rattle.task_runtime.specs.declared.piece.Piece.TheVariants as is
 use Rattle.task_runtime.proofs.AfterDeeds.{falls-on, goes-on}
-use Rattle.task_runtime.proofs.Sections.{stays-inside}
+use Rattle.task_runtime.proofs.Shared.Sections.{stays-inside}
 use Rattle.task_runtime.proofs.task.Task.leave.Goals as goal
 
 pub returns-clause-leaves : goal.returns-clause-leaves

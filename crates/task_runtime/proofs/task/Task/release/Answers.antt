@@ -1,6 +1,6 @@
 use Rattle.std.proofs.Common.{ℕ, ◌<◌, sym, ap, subst, ◌∙◌}
 use Rattle.task_runtime.specs.Effort.{first_ticks}
-use Rattle.task_runtime.proofs.Starting.{activation-ticks}
+use Rattle.task_runtime.proofs.Shared.Starting.{activation-ticks}
 use Rattle.task_runtime.proofs.task.Task.release.Goals as goal
 
 pub returns-clause-some : goal.returns-clause-some

@@ -23,7 +23,7 @@ use Rattle.task_runtime.specs.declared.piece.Piece.TheVariants as is
 use Rattle.task_runtime.specs.declared.piece.Frame.{Frame}
 use Rattle.task_runtime.specs.declared.piece.Frame.TheVariants as frame
 use Rattle.task_runtime.specs.declared.thread.Thread.{Thread}
-use Rattle.task_runtime.proofs.Frames.{first-frame}
+use Rattle.task_runtime.proofs.Shared.Frames.{first-frame}
 
 no_true : true ≡ false → ⊥
 no_true h = cc

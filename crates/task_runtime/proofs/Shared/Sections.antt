@@ -30,9 +30,9 @@ use Rattle.task_runtime.specs.declared.piece.Piece.TheVariants as is
 use Rattle.task_runtime.specs.declared.progress.Progress.{Progress}
 use Rattle.task_runtime.specs.declared.thread.Thread.{Thread}
 use Rattle.task_runtime.proofs.Blocks.{after-pieces}
-use Rattle.task_runtime.proofs.Frames.{few-frames, first-frame, system-kept}
-use Rattle.task_runtime.proofs.Doings.{request-at}
-use Rattle.task_runtime.proofs.Starting.{few-ends}
+use Rattle.task_runtime.proofs.Shared.Frames.{few-frames, first-frame, system-kept}
+use Rattle.task_runtime.proofs.Shared.Doings.{request-at}
+use Rattle.task_runtime.proofs.Shared.Starting.{few-ends}
 
 -- no ends of sections are among the pieces of statements
 sections_turns : (b : Bool) (name : Name) (at last : ℕ) (body : Statements) (rest : List Piece) → nat_le at last ≡ b

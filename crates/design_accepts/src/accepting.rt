@@ -49,9 +49,10 @@ fn judge(
 ///
 /// The text is read twice: once for its lines, times, releases, arrivals and requests, then as a list of events for its threads and objects. That
 /// takes time by the bytes of the trace and of the program, with names looked up in tables. Then each activation, and each entry into an operation
-/// of an object that is not yet found broken, is followed once: that takes time by the bytes of the data of its unit, and by the statements that it
-/// passes (`seq_eval::follow_in`). In a trace that is accepted these are at most as many as the ticks that its ends say were used, and as the ticks
-/// of one activation more for each thread. In one that is refused each entry may pass as many as its operation can take, up to 1,000,000,000.
+/// of an object that is not yet found broken, is followed once: that takes time by the operations of the program, of which a table is made each time,
+/// by the bytes of the data of its unit, and by the statements that it passes (`seq_eval::follow`). In a trace that is accepted these are at most as
+/// many as the ticks that its ends say were used, and as the ticks of one activation more for each thread. In one that is refused each entry may pass
+/// as many as its operation can take, up to 1,000,000,000.
 ///
 /// Memory grows with the lines of the trace: each is held as an event of 64 bytes, with 56 bytes of what is known of it, and one inside an
 /// operation, or of the activation that is open, as an action of its script too.

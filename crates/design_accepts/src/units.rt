@@ -12,7 +12,6 @@ ghost use Rattle.design_accepts.specs.Units.{IsQuick, SaysOf};
 use crate::called::called_in;
 use crate::unaccepted::Unaccepted;
 use ada_tree::{AdaProgram, Unit};
-use seq_eval::Calls;
 use seq_tree::{Name, NoMemory};
 use std::alloc::Global;
 use trace_scripts::{Scene, Wrong, first_wrong};
@@ -51,16 +50,12 @@ pub(crate) fn judge_units(
         → SaysOf (program_software (program_of program.now)) clear.depth (named (program_of program.now) events.now) result }
 {
     let called = called_in(alloc, program)?;
-    let calls = Calls::of(
-        alloc,
-        called.passive.as_slice(),
-        called.owners.as_slice(),
-        called.shared.as_slice(),
-        called.requests.as_slice(),
-    )?;
     let scene = Scene {
         program,
-        calls: &calls,
+        passive: called.passive.as_slice(),
+        owners: called.owners.as_slice(),
+        shared: called.shared.as_slice(),
+        requests: called.requests.as_slice(),
     };
     match first_wrong(alloc, &scene, events)? {
         None => Ok(()),

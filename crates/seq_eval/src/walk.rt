@@ -2,16 +2,16 @@ ghost use Rattle.std.specs.Prelude.{◌≡◌, ◌≤◌, ◌↔◌, IfOk, IsTru
 ghost use Rattle.seq_tree.specs.Operations.{out_names};
 ghost use Rattle.seq_tree.specs.Trees.{arm_of, block_of, branches_of, expression_of, operation_of, otherwise, statement_of};
 ghost use Rattle.seq_tree.specs.Variables.{targets};
-ghost use Rattle.seq_eval.specs.Calls.{calls_in};
 ghost use Rattle.seq_eval.specs.Stepping.{HasFew, begun, branched, called, done, entered_op, given_back, left_by, moved, passed};
 ghost use Rattle.seq_eval.specs.Stepping.{passed_over, printed, requested, spent, step, turned_on, turned_over, turning};
 ghost use Rattle.seq_eval.specs.States.{doing_of, state_of};
+ghost use Rattle.seq_eval.specs.Targets.{leads};
 
 use crate::action::Action;
-use crate::calls::{Calls, Target};
 use crate::params::{asked, handed_out, open_locals, open_params, out_count, store};
 use crate::scope::Scope;
 use crate::seen::{asks, enters, leaves, prints};
+use crate::targets::{Target, Targets};
 use crate::values::eval;
 use seq_tree::{Arm, Block, Costs, Expr, Name, NoMemory, OpText, Param, Stmt};
 use std::alloc::Global;
@@ -232,17 +232,17 @@ impl<'a> Walk<'a> {
         &mut self,
         alloc: Global,
         costs: &Costs,
-        calls: &Calls<'a>,
+        targets: &Targets<'a>,
         object: &Name,
         op: &Name,
         actuals: &'a [Expr],
     ) -> Result<bool, NoMemory>
         requires { HasFew (state_of self.old) }
         ensures { IfOk result (λ on. moved on (state_of self.new)
-            ≡ called costs.now (record { object = object.now; op = op.now }) (calls_in calls.now object.now op.now)
+            ≡ called costs.now (record { object = object.now; op = op.now }) (leads targets.now object.now op.now)
             (map expression_of actuals.entry.now) (state_of self.old)) }
     {
-        match calls.find(object, op) {
+        match targets.find(object, op) {
             Some(Target::Plain(text)) => {
                 self.enter(alloc, costs, text, actuals)?;
                 Ok(true)
@@ -258,11 +258,11 @@ impl<'a> Walk<'a> {
         &mut self,
         alloc: Global,
         costs: &Costs,
-        calls: &Calls<'a>,
+        targets: &Targets<'a>,
         stmt: &'a Stmt,
     ) -> Result<bool, NoMemory>
         requires { HasFew (state_of self.old) }
-        ensures { IfOk result (λ on. moved on (state_of self.new) ≡ begun costs.now (calls_in calls.now) (statement_of stmt.entry.now)
+        ensures { IfOk result (λ on. moved on (state_of self.new) ≡ begun costs.now (leads targets.now) (statement_of stmt.entry.now)
             (state_of self.old)) }
     {
         match stmt {
@@ -307,7 +307,7 @@ impl<'a> Walk<'a> {
                 op,
                 actuals,
             } => {
-                return self.call(alloc, costs, calls, object, op, actuals.as_slice());
+                return self.call(alloc, costs, targets, object, op, actuals.as_slice());
             }
             Stmt::Work(ticks) => self.spend(1, u64::from(*ticks)),
             Stmt::Put(value) => {
@@ -370,11 +370,11 @@ impl<'a> Walk<'a> {
         &mut self,
         alloc: Global,
         costs: &Costs,
-        calls: &Calls<'a>,
+        targets: &Targets<'a>,
         frame: Frame<'a>,
     ) -> Result<bool, NoMemory>
         requires { HasFew (state_of self.old) }
-        ensures { IfOk result (λ on. moved on (state_of self.new) ≡ done costs.now (calls_in calls.now) (doing_of frame.entry) (state_of self.old)) }
+        ensures { IfOk result (λ on. moved on (state_of self.new) ≡ done costs.now (leads targets.now) (doing_of frame.entry) (state_of self.old)) }
     {
         match frame {
             Frame::Stmts(stmts) => {
@@ -382,7 +382,7 @@ impl<'a> Walk<'a> {
                     return Ok(true);
                 };
                 self.frames.push(Frame::Stmts(rest))?;
-                return self.begin(alloc, costs, calls, first);
+                return self.begin(alloc, costs, targets, first);
             }
             Frame::Arms { arms, other } => self.branch(costs, arms, other)?,
             Frame::Turned(round) => self.turn_on(costs, round)?,
@@ -410,17 +410,17 @@ impl<'a> Walk<'a> {
         &mut self,
         alloc: Global,
         costs: &Costs,
-        calls: &Calls<'a>,
+        targets: &Targets<'a>,
         frame: Frame<'a>,
     ) -> Result<bool, NoMemory>
         requires { HasFew (state_of self.old) }
-        ensures { IfOk result (λ on. moved on (state_of self.new) ≡ step costs.now (calls_in calls.now) (doing_of frame.entry) (state_of self.old)) }
+        ensures { IfOk result (λ on. moved on (state_of self.new) ≡ step costs.now (leads targets.now) (doing_of frame.entry) (state_of self.old)) }
     {
         if self.leaving {
             self.pass_over(alloc, costs, frame)?;
             Ok(true)
         } else {
-            self.go_on(alloc, costs, calls, frame)
+            self.go_on(alloc, costs, targets, frame)
         }
     }
 }

@@ -9,15 +9,19 @@ ghost use Rattle.trace_scripts.specs.Scenes.{IsScene, IsWalk, calls_of, software
 
 use crate::scripts::Script;
 use ada_tree::AdaProgram;
-use seq_eval::{Calls, Env, Followed, follow_in};
-use seq_tree::{Block, NoMemory};
+use seq_eval::{Env, Followed, follow};
+use seq_tree::{Block, Callable, Name, NoMemory, OpText};
 use std::alloc::Global;
 
-/// A program, and what calls in it lead to.
+/// A program, and what calls in it may lead to: the passive operations, each with its owner at the same place, the protected operations and
+/// the requests.
 #[derive(Clone, Copy, Drop)]
 pub struct Scene<'a> {
     pub program: &'a AdaProgram,
-    pub calls: &'a Calls<'a>,
+    pub passive: &'a [OpText],
+    pub owners: &'a [Name],
+    pub shared: &'a [Callable],
+    pub requests: &'a [Callable],
 }
 
 /// What a script is to the runs of a block, with the fewest and the most ticks of the run.
@@ -50,8 +54,17 @@ impl Scene<'_> {
         if !script.shows {
             return Ok(Walked::Astray);
         }
-        let costs = &self.program.costs;
-        let answer = follow_in(alloc, block, costs, self.calls, env, &script.actions)?;
+        let answer = follow(
+            alloc,
+            block,
+            &self.program.costs,
+            self.passive,
+            self.owners,
+            self.shared,
+            self.requests,
+            env,
+            &script.actions,
+        )?;
         match answer {
             Followed::Done { low, high } => Ok(Walked::Ran { low, high }),
             Followed::Short => Ok(Walked::Begun),

@@ -2,18 +2,17 @@ use Rattle.std.proofs.Common.{ℕ, ◌-◌, length, map, refl, ap, subst, ◌<�
 use Rattle.std.proofs.lemmas.List.{length-map}
 use Rattle.grammar.specs.Reading.{Halt, whole_at}
 use Rattle.seq_tree.specs.Runs.{Path}
-use Rattle.seq_tree.specs.Trees.{block_of}
+use Rattle.seq_tree.specs.Trees.{block_of, offer_of, operation_of}
 use Rattle.law_walks.specs.Fit.{MayRun}
 use Rattle.law_walks.specs.Walks.{walk_at}
 use Rattle.seq_eval.specs.Actions.{action_of}
-use Rattle.seq_eval.specs.Calls.{calls_in}
 use Rattle.seq_eval.specs.Ends.{FitsEnd, IsEnd, comes_to, names_of}
-use Rattle.seq_eval.specs.Following.{Answers}
+use Rattle.seq_eval.specs.Following.{Answers, callees}
 use Rattle.seq_eval.specs.declared.action.Followed.TheVariants as followed
 use Rattle.seq_eval.specs.declared.along.Ended.TheVariants.{Done, Stopped}
 use Rattle.seq_eval.proofs.Answering.{answer-done, answer-off, answer-short, at-depth, known, means}
 use Rattle.seq_eval.proofs.Keeping.{IsCheap, most}
-use Rattle.seq_eval.proofs.along.follow_in.Goals as goal
+use Rattle.seq_eval.proofs.along.follow.Goals as goal
 
 pub set_values-requires : goal.set_values-requires
 set_values-requires c =
@@ -28,7 +27,7 @@ overflow_sub-result c =
 pub returns-in-Done : goal.returns-in-Done
 returns-in-Done c =
     let a = c.args in
-    let calls = calls_in a.calls.now in
+    let calls = callees a.owners.now (map operation_of a.passive.now) (map offer_of a.shared.now) (map offer_of a.requests.now) in
     let b = block_of a.block.now in
     let vars = a.env.now.slots.items in
     let script = map action_of a.script.now in
@@ -54,7 +53,7 @@ returns-in-Done c =
 pub returns-then-left-eq0 : goal.returns-then-left-eq0
 returns-then-left-eq0 c =
     let a = c.args in
-    let calls = calls_in a.calls.now in
+    let calls = callees a.owners.now (map operation_of a.passive.now) (map offer_of a.shared.now) (map offer_of a.requests.now) in
     let b = block_of a.block.now in
     let vars = a.env.now.slots.items in
     let script = map action_of a.script.now in
@@ -75,7 +74,7 @@ returns-then-left-eq0 c =
 pub returns-else-left-eq0 : goal.returns-else-left-eq0
 returns-else-left-eq0 c =
     let a = c.args in
-    let calls = calls_in a.calls.now in
+    let calls = callees a.owners.now (map operation_of a.passive.now) (map offer_of a.shared.now) (map offer_of a.requests.now) in
     let b = block_of a.block.now in
     let vars = a.env.now.slots.items in
     let script = map action_of a.script.now in

@@ -68,7 +68,10 @@ class GivenTrace {
   /** The line of these that isn't as in the page's own run, whatever its time; or the first of them. */
   unlike(test, name) {
     const found = this.firstOther(test, ({ line }) => line.replace(/^\d+ /, ""));
-    if (found !== undefined && !found.isMissing) return { place: found.place, why: `the page's own run has another line of ${name} in its turn` };
+    if (found !== undefined && !found.isMissing) {
+      const other = found.own === undefined ? `no more line of ${name}` : `"${found.own.line}" in its turn`;
+      return { place: found.place, why: `the page's own run has ${other}` };
+    }
     return { place: this.places(test)[0] ?? this.events.length - 1, why: `the first line of ${name}` };
   }
 

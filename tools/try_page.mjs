@@ -277,7 +277,9 @@ async function compareTexts(page, line, texts, what) {
 
 async function tryLarge(page) {
   const long = { design: read("mine_pump.design"), arrivals: "UNTIL 1000000;\n" };
-  await compareTexts(page, ["verify", "design", "arrivals"], long, "1,000,000 ticks of the mine pump");
+  const { out } = await compareTexts(page, ["verify", "design", "arrivals"], long, "1,000,000 ticks of the mine pump");
+  const trace = out.slice(out.indexOf("\n-- trace\n") + "\n-- trace\n".length);
+  await compareTexts(page, ["accepts", "design", "arrivals", "trace"], { ...long, trace }, "its trace is judged");
   const most = largeDesign(2 ** 20);
   judge(Buffer.byteLength(most) === 2 ** 20, "a design of 1 MiB");
   for (const verb of ["check", "analyse", "format"]) await compareTexts(page, [verb, "design"], { design: most }, `${verb} of a design of 1 MiB`);
@@ -288,6 +290,10 @@ async function tryLarge(page) {
   judge(await page.evaluate("timeline.trace.events.length > 170000 && timeline.trace.last === 1000000"), "a long trace has a timeline");
   await page.evaluate("timeline.moves.Whole()");
   judge(await page.evaluate("document.querySelectorAll('#window svg rect.runs').length > 1000"), "a whole long trace is drawn as heights");
+  await page.evaluate("(() => { document.getElementById('tab-accepts').click(); document.getElementById('own').click(); })()");
+  const began = Date.now();
+  await page.until("document.querySelector('#panel-accepts b')?.textContent.startsWith('Yes')", 120);
+  console.log(`a trace of ${trace.split("\n").length - 1} lines is taken, numbered and judged: ${Date.now() - began} ms`);
 }
 
 /** With whatever room there is memory is wanted, or the answer is whole. */

@@ -270,12 +270,15 @@ function showTimeline() {
 // ---- Tabs, files and keys ----
 
 function choose(tab) {
+  const held = document.activeElement.closest("[role=tabpanel]");
   for (const one of tabs) {
     const isChosen = one === tab;
     one.setAttribute("aria-selected", String(isChosen));
     one.tabIndex = isChosen ? 0 : -1;
     at(one.getAttribute("aria-controls")).hidden = !isChosen;
   }
+  // The focus isn't lost with the panel in which it was.
+  if (held?.hidden) tab.focus();
   if (tab.id === "tab-timeline") timeline.render();
   wantChosen();
 }

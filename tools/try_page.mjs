@@ -51,7 +51,8 @@ function casesOfTables() {
       lines.push(line.split("|")[1].trim().split(/\s+/).filter((word) => word !== "").map((word) => (word === "''" ? "" : word)));
     }
   }
-  return lines;
+  // A page hands in four words at most, as no verb has more.
+  return lines.filter((line) => line.length <= 4);
 }
 
 const arrivals = [...filesOf("", ".arrivals"), ...filesOf("faults", ".arrivals")];
@@ -348,7 +349,10 @@ async function tryKeyboard(page) {
     if (name === "accepts") await page.evaluate("document.getElementById('panel-accepts').focus()");
     else same(await page.evaluate("document.activeElement.ariaLabel || document.activeElement.id"), name, `the Tab key reaches ${name}`);
   }
-  await page.evaluate("document.getElementById('tab-timeline').focus()");
+  await page.evaluate("(() => { document.getElementById('tab-timeline').click(); document.getElementById('window').focus(); })()");
+  await page.press("5", 1, "Digit5");
+  same(await page.evaluate("document.activeElement.id"), "tab-scale", "the focus goes to the tab where its panel is hidden");
+  await page.evaluate("(() => { document.getElementById('tab-timeline').click(); document.getElementById('tab-timeline').focus(); })()");
   await page.press("ArrowRight");
   const chosen = await page.evaluate("[document.activeElement.id, document.getElementById('panel-trace').hidden]");
   same(chosen, ["tab-trace", false], "an arrow key goes to the next tab");

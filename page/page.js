@@ -82,6 +82,7 @@ async function again() {
   if (runs.isBusy()) runs.start();
   const texts = textsNow();
   keep(texts);
+  state.mark = null;
   const slow = setTimeout(() => tell("", ["Running\u2026", ""], "", make("button", { type: "button", class: "go", id: "cut" }, "Stop")), SLOW);
   try {
     const told = await answersOf(texts, (bounds) => { if (mine === turn) takeBounds(bounds, texts); });

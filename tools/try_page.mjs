@@ -112,6 +112,8 @@ async function tryMarks(page) {
     judgeMark(await shown(page), err.trimEnd(), "arrivals", one);
     count++;
   }
+  await set(page, { design: read("mine_pump.design"), arrivals: read("one_water_alarm.arrivals") });
+  same((await shown(page)).kind, null, "no mark is left where nothing is refused");
   console.log(`${count} refusals with their sentence and their place`);
 }
 
@@ -440,7 +442,7 @@ async function takePictures(page) {
   const take = async (name, tab, texts, scheme = "light", size = [1400, 900]) => {
     await page.size(...size);
     await page.scheme(scheme);
-    await page.evaluate(`document.getElementById('tab-${tab}').click()`);
+    await page.evaluate(`(() => { document.activeElement.blur(); document.getElementById('tab-${tab}').click(); })()`);
     await set(page, texts);
     if (name === "timeline" || name === "dark") await page.evaluate("timeline.window(396, 546)");
     await page.until("document.querySelector('[aria-busy=true]') === null");

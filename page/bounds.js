@@ -92,7 +92,7 @@ function ceilingTable(ceilings) {
 }
 
 function boundsTables({ threads, ceilings }, tick, response = PROVED) {
-  if (threads.length === 0) return [make("p", { class: "note" }, "The design has no thread, so there is nothing to bound."), ...ceilingTable(ceilings)];
+  if (threads.length === 0) return [make("p", { class: "note" }, "The design has no thread, so nothing is bounded."), ...ceilingTable(ceilings)];
   const least = threads.reduce((found, one) => (one.deadline - one.response < found.deadline - found.response ? one : found));
   const ticks = tick === null ? "Times are ticks." : `Times are ticks of ${tick}.`;
   const rows = threads.map((one) => [one.name, one.priority, one.period, one.deadline, one.jitter, one.cost, one.blocking, one.response,

@@ -82,6 +82,7 @@ async function again() {
   if (runs.isBusy()) runs.start();
   const texts = textsNow();
   keep(texts);
+  state.mark = null;
   const slow = setTimeout(() => tell("", ["Running\u2026", ""], "", make("button", { type: "button", class: "go", id: "cut" }, "Stop")), SLOW);
   try {
     const told = await answersOf(texts, (bounds) => { if (mine === turn) takeBounds(bounds, texts); });
@@ -270,12 +271,15 @@ function showTimeline() {
 // ---- Tabs, files and keys ----
 
 function choose(tab) {
+  const held = document.activeElement.closest("[role=tabpanel]");
   for (const one of tabs) {
     const isChosen = one === tab;
     one.setAttribute("aria-selected", String(isChosen));
     one.tabIndex = isChosen ? 0 : -1;
     at(one.getAttribute("aria-controls")).hidden = !isChosen;
   }
+  // The focus isn't lost with the panel in which it was.
+  if (held?.hidden) tab.focus();
   if (tab.id === "tab-timeline") timeline.render();
   wantChosen();
 }

@@ -78,7 +78,7 @@ function backgroundView(out, { design }) {
   const told = tasksOf(out);
   const isPlain = backgroundOf(design).length === 0;
   const head = isPlain
-    ? "The design has no background objects, so this is the text of `generate`."
+    ? "The design has no background objects, so its Ada text is that of the tab Ada text."
     : "Each hard thread keeps its deadline, whatever the clients and servers of the background do.";
   const ceilings = [...told.program.ceilings].map(([name, ceiling]) => ({ name, ceiling }));
   return [

@@ -2,34 +2,15 @@
 use Rattle.std.proofs.Common.{◌≡◌, true, false, [], ◌∷◌, ap, codes, drop, refl}
 use Rattle.std.specs.Fmt.{digits}
 use Rattle.seq_tree.specs.Layout.{layout, line_text}
-use Rattle.seq_tree.specs.declared.tree.Mode.TheVariants.{In, Out}
+use Rattle.seq_tree.specs.declared.tree.Mode.TheVariants.{In}
 use Rattle.seq_tree.specs.declared.tree.Param.{Param}
-use Rattle.ada_print.specs.Parts.{head_text, params_more, params_text}
+use Rattle.ada_print.specs.Parts.{head_text}
 use Rattle.ada_print.specs.Requests.{external_line, waiting_lines}
 use Rattle.ada_print.specs.Writable.{is_number, is_word}
 
--- a parameter that hands a value in, and one that hands it out
+-- a parameter that hands a value in
 abbrev v : Param
 v = record { name = codes "v"; mode = In }
-
-abbrev r : Param
-r = record { name = codes "r"; mode = Out }
-
--- parameters: behind semicolons, not commas
-two : params_text (v ∷ r ∷ []) ≡ codes " (v : in word; r : out word)"
-two = refl
-
-comma : codes "; r : out word)" ≡ codes ", r : out word)" → ⊥
-comma e = cc
-
-commas : params_text (v ∷ r ∷ []) ≡ codes " (v : in word, r : out word)" → ⊥
-commas e = comma (ap (drop 13) e)
-
-none : params_text [] ≡ []
-none = refl
-
-further : params_more (r ∷ []) ≡ codes "; r : out word"
-further = refl
 
 -- heads: without parameters there are no parentheses
 alone : head_text (record { name = codes "start"; params = [] }) ≡ codes "procedure start"

@@ -16,7 +16,8 @@ use Rattle.seq_tree.specs.declared.tree.Datum.{Datum}
 use Rattle.ada_tree.specs.Spelling.{body_lines, datum_line, declaration_line, end_line, head_tokens, mode_token, param_tokens, params_tokens}
 use Rattle.ada_tree.specs.Spelling.{renaming_line}
 use Rattle.seq_print.proofs.Shared.Spacing.{spaced, tokens-spaced}
-use Rattle.ada_print.specs.Parts.{head_text, params_more, params_text}
+use Rattle.seq_print.specs.Printing.{mode_text, param_text, params_more, params_text}
+use Rattle.ada_print.specs.Parts.{head_text}
 
 -- the spaces before a line
 abbrev pub indent : ℕ → List ℕ
@@ -40,7 +41,7 @@ datum-text level d = simp append_assoc
 -- a parameter, and what is behind it
 param-spaced : (n : Name) (m : Mode) (rest : List Token)
     → spaced true ((Word n ∷ Sign Colon ∷ mode_token m ∷ Word (codes "word") ∷ []) ++ rest)
-    ≡ tokens_text (Word n ∷ Sign Colon ∷ mode_token m ∷ Word (codes "word") ∷ []) ++ spaced false rest
+    ≡ (n ++ mode_text m) ++ spaced false rest
 param-spaced n In rest = sym (append_assoc n (codes " : in word") (spaced false rest))
 param-spaced n Out rest = sym (append_assoc n (codes " : out word") (spaced false rest))
 
@@ -49,8 +50,8 @@ more-spaced : (ps : List Param) (rest : List Token) → spaced false (flat_map (
 more-spaced [] rest = refl
 more-spaced (p ∷ ps) rest =
     ap (λ x. codes "; " ++ x) (param-spaced p.name p.mode (flat_map (λ q. Sign Semicolon ∷ param_tokens q) ps ++ rest))
-    ∙ ap (λ x. codes "; " ++ (tokens_text (param_tokens p) ++ x)) (more-spaced ps rest)
-    ∙ ap (λ x. codes "; " ++ x) (sym (append_assoc (tokens_text (param_tokens p)) (params_more ps) (spaced false rest)))
+    ∙ ap (λ x. codes "; " ++ (param_text p ++ x)) (more-spaced ps rest)
+    ∙ ap (λ x. codes "; " ++ x) (sym (append_assoc (param_text p) (params_more ps) (spaced false rest)))
 
 -- parameters, and what is behind them
 params-spaced : (ps : List Param) (rest : List Token) → spaced false (params_tokens ps ++ rest) ≡ params_text ps ++ spaced false rest
@@ -58,10 +59,10 @@ params-spaced [] rest = refl
 params-spaced (p ∷ ps) rest =
     let more = flat_map (λ q. Sign Semicolon ∷ param_tokens q) ps in
     ap (λ x. codes " (" ++ x) (param-spaced p.name p.mode ((more ++ Sign RightParen ∷ []) ++ rest))
-    ∙ ap (λ ts. codes " (" ++ (tokens_text (param_tokens p) ++ spaced false ts)) (append_assoc more (Sign RightParen ∷ []) rest)
-    ∙ ap (λ x. codes " (" ++ (tokens_text (param_tokens p) ++ x))
+    ∙ ap (λ ts. codes " (" ++ (param_text p ++ spaced false ts)) (append_assoc more (Sign RightParen ∷ []) rest)
+    ∙ ap (λ x. codes " (" ++ (param_text p ++ x))
     (more-spaced ps (Sign RightParen ∷ rest) ∙ sym (append_assoc (params_more ps) (codes ")") (spaced false rest)))
-    ∙ ap (λ x. codes " (" ++ x) (sym (append_assoc (tokens_text (param_tokens p)) (params_more ps ++ codes ")") (spaced false rest)))
+    ∙ ap (λ x. codes " (" ++ x) (sym (append_assoc (param_text p) (params_more ps ++ codes ")") (spaced false rest)))
 
 -- a head, and what is behind it
 head-spaced : (sig : Signature) (rest : List Token) → tokens_text (head_tokens sig ++ rest) ≡ head_text sig ++ spaced false rest

@@ -2,15 +2,14 @@
 -- The text keeps to ISO/IEC 8652:2012; its form is this project's own.
 use Rattle.std.specs.Prelude.{ℕ, List, [], ◌∷◌, ◌++◌, codes, flat_map}
 use Prim.Native.String.{String}
-use Rattle.seq_tree.specs.Layout.{tokens_text}
 use Rattle.seq_tree.specs.Names.{Name}
 use Rattle.seq_tree.specs.Operations.{Signature}
 use Rattle.seq_tree.specs.Spelling.{Line, line}
 use Rattle.seq_tree.specs.declared.token.Token.{Token}
 use Rattle.seq_tree.specs.declared.token.Token.TheVariants.{Word, Sign}
 use Rattle.seq_tree.specs.declared.token.Mark.TheVariants.{LeftParen, RightParen, Semicolon, Dot}
-use Rattle.seq_tree.specs.declared.tree.Param.{Param}
-use Rattle.ada_tree.specs.Spelling.{end_line, param_tokens}
+use Rattle.ada_tree.specs.Spelling.{end_line}
+use Rattle.seq_print.specs.Printing.{params_text}
 
 -- a word
 abbrev w : String → Token
@@ -41,15 +40,6 @@ abbrev pub closing_lines : Name → List Line
 closing_lines name =
     end_line 0 name ∷ line 0 (w "with" ∷ Word name ∷ semicolon ∷ []) ∷ line 0 (w "procedure" ∷ w "hrt_main" ∷ w "is" ∷ []) ∷ line 0 (w "begin" ∷ [])
     ∷ line 1 (w "null" ∷ semicolon ∷ []) ∷ end_line 0 (codes "hrt_main") ∷ []
-
--- further parameters, each behind a semicolon
-abbrev pub params_more : List Param → List ℕ
-params_more ps = flat_map (λ p. codes "; " ++ tokens_text (param_tokens p)) ps
-
--- parameters, behind the name of their operation
-abbrev pub params_text : List Param → List ℕ
-params_text [] = []
-params_text (p ∷ ps) = codes " (" ++ (tokens_text (param_tokens p) ++ (params_more ps ++ codes ")"))
 
 -- the head of a procedure
 abbrev pub head_text : Signature → List ℕ

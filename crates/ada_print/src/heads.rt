@@ -1,48 +1,12 @@
 ghost use Rattle.std.specs.Prelude.{codes, map};
-ghost use Rattle.seq_tree.specs.Layout.{layout, line_text, tokens_text};
+ghost use Rattle.seq_tree.specs.Layout.{layout, line_text};
 ghost use Rattle.seq_tree.specs.Trees.{operation_of, signature_of};
-ghost use Rattle.ada_tree.specs.Spelling.{datum_line, declaration_line, param_tokens, renaming_line};
+ghost use Rattle.ada_tree.specs.Spelling.{datum_line, declaration_line, renaming_line};
 ghost use Rattle.seq_print.specs.Printing.{Writes};
-ghost use Rattle.ada_print.specs.Parts.{head_text, params_more, params_text};
+ghost use Rattle.ada_print.specs.Parts.{head_text};
 
-use seq_print::{put, put_indent, put_name, put_number};
-use seq_tree::{Datum, Mode, NoMemory, OpSig, OpText, Param};
-
-/// Adds a parameter.
-fn add_param(param: &Param, into: &mut Vec<u8>) -> Result<(), NoMemory>
-    ensures { Writes result into.old.items into.new.items (tokens_text (param_tokens param.now)) }
-{
-    match param.mode {
-        Mode::In => put_name(into, b"", &param.name, b" : in word"),
-        Mode::Out => put_name(into, b"", &param.name, b" : out word"),
-    }
-}
-
-/// Adds further parameters, each behind a semicolon.
-fn add_more(params: &[Param], into: &mut Vec<u8>) -> Result<(), NoMemory>
-    ensures { Writes result into.old.items into.new.items (params_more params.now) }
-{
-    'params: for param in params {
-        put(into, b"; ")?;
-        add_param(param, into)?;
-    }
-    Ok(())
-}
-
-/// Adds parameters in parentheses, where there are any, with a space before them.
-fn add_params(params: &[Param], into: &mut Vec<u8>) -> Result<(), NoMemory>
-    ensures { Writes result into.old.items into.new.items (params_text params.now) }
-{
-    match params.split_first() {
-        None => Ok(()),
-        Some((first, rest)) => {
-            put(into, b" (")?;
-            add_param(first, into)?;
-            add_more(rest, into)?;
-            put(into, b")")
-        }
-    }
-}
+use seq_print::{put, put_indent, put_name, put_number, put_params};
+use seq_tree::{Datum, NoMemory, OpSig, OpText};
 
 /// Adds the head of a procedure.
 pub(crate) fn add_head(sig: &OpSig, into: &mut Vec<u8>) -> Result<(), NoMemory>
@@ -50,7 +14,7 @@ pub(crate) fn add_head(sig: &OpSig, into: &mut Vec<u8>) -> Result<(), NoMemory>
 {
     put(into, b"procedure ")?;
     put(into, sig.name.bytes())?;
-    add_params(&sig.params, into)
+    put_params(&sig.params, into)
 }
 
 /// Adds the declaration of a procedure.

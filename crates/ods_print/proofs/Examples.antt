@@ -2,8 +2,6 @@
 use Rattle.std.specs.Prelude.{◌≡◌, ℕ, true, false, [], ◌∷◌, Some, None, codes, refl}
 use Rattle.std.specs.Fmt.{digits}
 use Rattle.seq_tree.specs.Statements.{Work}
-use Rattle.seq_tree.specs.declared.tree.Param.{Param}
-use Rattle.seq_tree.specs.declared.tree.Mode.TheVariants.{In, Out}
 use Rattle.ods_tree.specs.Designs.{Design}
 use Rattle.ods_tree.specs.Layout.{design_text}
 use Rattle.ods_tree.specs.Spelling.{constraint_parts, unit_parts}
@@ -13,7 +11,7 @@ use Rattle.ods_tree.specs.declared.design.Kind.TheVariants.{Cyclic}
 use Rattle.ods_tree.specs.declared.design.TickUnit.TheVariants.{Us, Ms}
 use Rattle.ods_tree.proofs.Shared.Short.{row_costs, attr, cyc_with}
 use Rattle.ods_print.specs.Writable.{is_writable}
-use Rattle.ods_print.specs.Parts.{behind, heading, lines_text, object_line, params_more, params_text}
+use Rattle.ods_print.specs.Parts.{behind, heading, lines_text, object_line}
 
 -- one cyclic object, in a design of version 1
 abbrev one : Design
@@ -39,22 +37,6 @@ words = refl
 
 no_words : heading {A = ℕ} 1 (codes "DATA") [] ≡ []
 no_words = refl
-
--- parameters: behind semicolons, not commas
-abbrev v : Param
-v = record { name = codes "v"; mode = In }
-
-abbrev w' : Param
-w' = record { name = codes "r"; mode = Out }
-
-both_params : params_text (v ∷ w' ∷ []) ≡ codes " (v : in word; r : out word)"
-both_params = refl
-
-further : params_more (w' ∷ []) ≡ codes "; r : out word"
-further = refl
-
-with_comma : params_more (w' ∷ []) ≡ codes ", r : out word" → ⊥
-with_comma e = cc
 
 -- a constraint in capitals, and a unit in lower case
 constraint : behind (constraint_parts (Some Paer)) ≡ codes " PAER"

@@ -23,7 +23,8 @@ use Rattle.ods_tree.specs.declared.design.TickUnit.{TickUnit}
 use Rattle.ods_tree.specs.declared.design.TickUnit.TheVariants.{Us, Ms, S}
 use Rattle.ods_tree.specs.declared.design.Attr.{Attr}
 use Rattle.ods_tree.specs.declared.design.Link.{Link}
-use Rattle.ods_print.specs.Parts.{behind, params_more, params_text}
+use Rattle.seq_print.specs.Printing.{mode_text, param_text, params_more, params_text}
+use Rattle.ods_print.specs.Parts.{behind}
 
 -- the spaces before a line
 abbrev pub indent : ℕ → List ℕ
@@ -59,19 +60,10 @@ constraint-spaced (Some Hser) = refl
 constraint-spaced (Some Pser) = refl
 constraint-spaced (Some Paer) = refl
 
--- a parameter
-param-text : (p : Param) → parts_text (param_parts p) ≡ p.name ++ (codes " : " ++ (part_text (mode_part p.mode) ++ codes " word"))
-param-text p = by p.name p.mode
-  where
-    by : (n : Name) (m : Mode) → parts_text (Plain (Word n) ∷ Plain (Sign Colon) ∷ mode_part m ∷ Plain (Word (codes "word")) ∷ [])
-        ≡ n ++ (codes " : " ++ (part_text (mode_part m) ++ codes " word"))
-    by n In = refl
-    by n Out = refl
-
 -- a parameter, and what is behind it
 param-spaced : (n : Name) (m : Mode) (clings : Bool) (rest : List Part)
     → spaced true ((Plain (Word n) ∷ Plain (Sign Colon) ∷ mode_part m ∷ Plain (Word (codes "word")) ∷ []) ++ rest)
-    ≡ parts_text (Plain (Word n) ∷ Plain (Sign Colon) ∷ mode_part m ∷ Plain (Word (codes "word")) ∷ []) ++ spaced false rest
+    ≡ (n ++ mode_text m) ++ spaced false rest
 param-spaced n In clings rest = sym (append_assoc n (codes " : in word") (spaced false rest))
 param-spaced n Out clings rest = sym (append_assoc n (codes " : out word") (spaced false rest))
 
@@ -80,8 +72,8 @@ more-spaced : (ps : List Param) (rest : List Part) → spaced false (flat_map (�
 more-spaced [] rest = refl
 more-spaced (p ∷ ps) rest =
     ap (λ x. codes "; " ++ x) (param-spaced p.name p.mode true (flat_map (λ q. Plain (Sign Semicolon) ∷ param_parts q) ps ++ rest))
-    ∙ ap (λ x. codes "; " ++ (parts_text (param_parts p) ++ x)) (more-spaced ps rest)
-    ∙ ap (λ x. codes "; " ++ x) (sym (append_assoc (parts_text (param_parts p)) (params_more ps) (spaced false rest)))
+    ∙ ap (λ x. codes "; " ++ (param_text p ++ x)) (more-spaced ps rest)
+    ∙ ap (λ x. codes "; " ++ x) (sym (append_assoc (param_text p) (params_more ps) (spaced false rest)))
 
 -- parameters, and what is behind them
 pub params-spaced : (ps : List Param) (rest : List Part) → spaced false (params_parts ps ++ rest) ≡ params_text ps ++ spaced false rest
@@ -89,10 +81,10 @@ params-spaced [] rest = refl
 params-spaced (p ∷ ps) rest =
     let more = flat_map (λ q. Plain (Sign Semicolon) ∷ param_parts q) ps in
     ap (λ x. codes " (" ++ x) (param-spaced p.name p.mode true ((more ++ Plain (Sign RightParen) ∷ []) ++ rest))
-    ∙ ap (λ ts. codes " (" ++ (parts_text (param_parts p) ++ spaced false ts)) (append_assoc more (Plain (Sign RightParen) ∷ []) rest)
-    ∙ ap (λ x. codes " (" ++ (parts_text (param_parts p) ++ x)) (more-spaced ps (Plain (Sign RightParen) ∷ rest) ∙ sym
+    ∙ ap (λ ts. codes " (" ++ (param_text p ++ spaced false ts)) (append_assoc more (Plain (Sign RightParen) ∷ []) rest)
+    ∙ ap (λ x. codes " (" ++ (param_text p ++ x)) (more-spaced ps (Plain (Sign RightParen) ∷ rest) ∙ sym
     (append_assoc (params_more ps) (codes ")") (spaced false rest)))
-    ∙ ap (λ x. codes " (" ++ x) (sym (append_assoc (parts_text (param_parts p)) (params_more ps ++ codes ")") (spaced false rest)))
+    ∙ ap (λ x. codes " (" ++ x) (sym (append_assoc (param_text p) (params_more ps ++ codes ")") (spaced false rest)))
 
 -- the line of a provided operation
 pub provided-text : (level : ℕ) (name : Name) (ps : List Param) (o : Option Constraint)

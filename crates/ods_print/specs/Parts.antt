@@ -3,9 +3,8 @@
 use Rattle.std.specs.Prelude.{ℕ, List, [], ◌∷◌, ◌++◌, map, codes, flat_map}
 use Rattle.seq_tree.specs.Names.{Name}
 use Rattle.seq_tree.specs.declared.token.Token.TheVariants.{Word}
-use Rattle.seq_tree.specs.declared.tree.Param.{Param}
-use Rattle.ods_tree.specs.Layout.{part_text, parts_text, design_line_text}
-use Rattle.ods_tree.specs.Spelling.{Part, Capital, Plain, DesignLine, line, kind_part, param_parts}
+use Rattle.ods_tree.specs.Layout.{part_text, design_line_text}
+use Rattle.ods_tree.specs.Spelling.{Part, Capital, Plain, DesignLine, line, kind_part}
 use Rattle.ods_tree.specs.declared.design.Kind.{Kind}
 
 -- lines
@@ -15,15 +14,6 @@ lines_text lines = flat_map design_line_text lines
 -- parts, each behind a space
 abbrev pub behind : List Part → List ℕ
 behind parts = flat_map (λ p. codes " " ++ part_text p) parts
-
--- further parameters, each behind a semicolon
-abbrev pub params_more : List Param → List ℕ
-params_more ps = flat_map (λ p. codes "; " ++ parts_text (param_parts p)) ps
-
--- parameters, behind the name of their operation
-abbrev pub params_text : List Param → List ℕ
-params_text [] = []
-params_text (p ∷ ps) = codes " (" ++ (parts_text (param_parts p) ++ (params_more ps ++ codes ")"))
 
 -- items, each on a line of its own
 abbrev pub item_lines : {A : Type 0} → ℕ → (A → List Part) → List A → List DesignLine

@@ -20,9 +20,11 @@ mod block;
 mod expression;
 mod law;
 mod lines;
+mod params;
 mod puts;
 
 pub use block::print_block;
 pub use law::{reads_back, tokens_are_readable};
 pub use lines::{put_indent, put_line};
+pub use params::put_params;
 pub use puts::{put, put_digits, put_name, put_number};

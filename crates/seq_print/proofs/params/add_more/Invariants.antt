@@ -1,6 +1,6 @@
 use Rattle.std.proofs.Common.{◌≡◌, ◌++◌, drop}
-use Rattle.ods_print.specs.Parts.{params_more}
-use Rattle.ods_print.proofs.items.add_more.Given as goal
+use Rattle.seq_print.specs.Printing.{params_more}
+use Rattle.seq_print.proofs.params.add_more.Given as goal
 
 -- with the parameters that are left, all have been added
 abbrev pub invariant-params : goal.invariant-params

@@ -27,7 +27,8 @@ use Rattle.hrthood_top.specs.declared.background_text.BackgroundRefusal.{Backgro
 use Rattle.hrthood_top.specs.declared.background_text.BackgroundRefusal.TheVariants.{Text, Rule, Broken, Miss, Long}
 use Rattle.hrthood_top.specs.Backgrounds.{IsBackgroundTextFor, RefusesRead, RefusesBackground, CanBackground, backgrounds}
 use Rattle.hrthood_top.proofs.OneDesign.{one-design, no-fault, one-fault}
-use Rattle.hrthood_top.proofs.OneRule.{one-at, one-miss, same-rule}
+use Rattle.law_backgrounds.proofs.Shared.FirstFaults.{one-at}
+use Rattle.hrthood_top.proofs.OneRule.{one-miss, same-rule}
 use Rattle.hrthood_top.proofs.GenerateLaws.{one_least}
 use Rattle.hrthood_top.proofs.VerbLaws.{IsExact, never-stops}
 

@@ -10,7 +10,8 @@ use Rattle.design_bounds.specs.Analyses.{IsMissed}
 use Rattle.design_bounds.specs.Rows.{name_of_row}
 use Rattle.bridge.specs.Delivers.{HasNoBounds}
 use Rattle.hrthood_top.proofs.OneDesign.{one-design}
-use Rattle.hrthood_top.proofs.OneRule.{one-at, one-miss}
+use Rattle.law_backgrounds.proofs.Shared.FirstFaults.{one-at}
+use Rattle.hrthood_top.proofs.OneRule.{one-miss}
 
 pub one-bounds : (bytes : List ℕ) (thread other : Name) (m n : rows.Miss) → HasNoBounds bytes thread m → HasNoBounds bytes other n
     → (thread ≡ other) × (m ≡ n)

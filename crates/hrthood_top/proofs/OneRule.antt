@@ -25,84 +25,14 @@ use Rattle.rt_response.specs.declared.rows.ThreadRow.{ThreadRow}
 use Rattle.rt_response.specs.declared.rows.Miss.{Miss}
 use Rattle.rt_response.specs.declared.excess.Excess.{Excess}
 use Rattle.rt_response.specs.Rounds.{IsMiss, first_excess, round}
-use Rattle.hrthood_top.proofs.OneText.{no-less}
+use Rattle.law_backgrounds.proofs.Shared.FirstFaults.{item_at, no-less, one-at, one-first}
 
 pub some-same : {A : Type 0} (a b : A) → ◌≡◌ {A = Option A} (Some a) (Some b) → a ≡ b
 some-same a b e = cc
 
--- two answers of one place
-pub one-at : {A : Type 0} (o : Option A) (a b : A) → o ≡ Some a → o ≡ Some b → a ≡ b
-one-at o a b e f = some-same a b (sym e ∙ f)
-
--- the item at a place of a list, and this one where it has none
-abbrev item_at : {A : Type 0} → A → List A → ℕ → A
-item_at d [] n = d
-item_at d (x ∷ xs) zero = x
-item_at d (x ∷ xs) (suc n) = item_at d xs n
-
 -- THE RULES OF DESIGNS
--- a rule by its number
-abbrev design_rule : ℕ → design.Rule
-design_rule n = item_at design.Spacing (design.Version ∷ design.Clash ∷ design.KeptName ∷ design.Include ∷ design.Operation ∷ design.Fitting
-    ∷ design.Stranger ∷ design.Absence ∷ design.Use ∷ design.CallRing ∷ design.ObjectRing ∷ design.StartRing ∷ design.Source ∷ design.Number
-    ∷ design.IdleActive ∷ design.BodyFault ∷ design.Budget ∷ design.Size ∷ design.Spacing ∷ []) n
-
-design_rule-is : (r : design.Rule) → design_rule (design.number_of r) ≡ r
-design_rule-is design.Version = refl
-design_rule-is design.Clash = refl
-design_rule-is design.KeptName = refl
-design_rule-is design.Include = refl
-design_rule-is design.Operation = refl
-design_rule-is design.Fitting = refl
-design_rule-is design.Stranger = refl
-design_rule-is design.Absence = refl
-design_rule-is design.Use = refl
-design_rule-is design.CallRing = refl
-design_rule-is design.ObjectRing = refl
-design_rule-is design.StartRing = refl
-design_rule-is design.Source = refl
-design_rule-is design.Number = refl
-design_rule-is design.IdleActive = refl
-design_rule-is design.BodyFault = refl
-design_rule-is design.Budget = refl
-design_rule-is design.Size = refl
-design_rule-is design.Spacing = refl
-
-one_offender : (written x : Design) (r : design.Rule) (place : ℕ) (a b : Broken) → design.Offends written x r place a
-    → design.Offends written x r place b → a ≡ b
-one_offender written x design.Version place a b h k = one-at _ a b h k
-one_offender written x design.Clash place a b h k = one-at _ a b h k
-one_offender written x design.KeptName place a b h k = one-at _ a b h k
-one_offender written x design.Include place a b h k = one-at _ a b h k
-one_offender written x design.Operation place a b h k = one-at _ a b h k
-one_offender written x design.Fitting place a b h k = one-at _ a b h k
-one_offender written x design.Stranger place a b h k = one-at _ a b h k
-one_offender written x design.Absence place a b h k = one-at _ a b h k
-one_offender written x design.Use place a b h k = one-at _ a b h k
-one_offender written x design.CallRing place a b h k = h.tells ∙ ap V09Calls (one-at _ h.op k.op h.stands k.stands) ∙ sym k.tells
-one_offender written x design.ObjectRing place a b h k
-    = h.tells ∙ ap (λ o. V09Objects o.name) (one-at _ h.object k.object h.stands k.stands) ∙ sym k.tells
-one_offender written x design.StartRing place a b h k
-    = h.tells ∙ ap (λ o. V09Starts o.name) (one-at _ h.thread k.thread h.stands k.stands) ∙ sym k.tells
-one_offender written x design.Source place a b h k = one-at _ a b h k
-one_offender written x design.Number place a b h k = one-at _ a b h k
-one_offender written x design.IdleActive place a b h k = one-at _ a b h k
-one_offender written x design.BodyFault place a b h k = one-at _ a b h k
-one_offender written x design.Budget place a b h k = one-at _ a b h k
-one_offender written x design.Size place a b h k = one-at _ a b h k
-one_offender written x design.Spacing place a b h k = one-at _ a b h k
-
 one_broken : (x : Design) (a b : Broken) → design.IsFirstBroken x a → design.IsFirstBroken x b → a ≡ b
-one_broken x a b f g =
-    let number = no-less (design.number_of f.rule) (design.number_of g.rule) (λ l. g.none_lower f.rule f.place a l f.offends)
-    (λ l. f.none_lower g.rule g.place b l g.offends) in
-    let same : f.rule ≡ g.rule = sym (design_rule-is f.rule) ∙ ap design_rule number ∙ design_rule-is g.rule in
-    let O : design.Rule → Type 0 = λ r. design.Offends x (in_ticks x) r f.place a in
-    let offends = subst O same f.offends in
-    let B : design.Rule → Type 0 = λ r. design.Offends x (in_ticks x) r g.place b in
-    let place = no-less f.place g.place (λ l. g.none_earlier f.place a l offends) (λ l. f.none_earlier g.place b l (subst B (sym same) g.offends)) in
-    let Q : ℕ → Type 0 = λ n. design.Offends x (in_ticks x) g.rule n a in
-    one_offender x (in_ticks x) g.rule g.place a b (subst Q place offends) g.offends
+one_broken x a b f g = one-first x (in_ticks x) a b f g
 
 -- the value of the code that tells this
 abbrev code_of : Broken → code.Broken

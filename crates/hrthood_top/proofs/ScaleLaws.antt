@@ -22,7 +22,8 @@ use Rattle.hrthood_top.specs.declared.scale.ScaleRefusal.TheVariants.{Text, Rule
 use Rattle.hrthood_top.specs.Scales.{CanScale, HoldsNowhere, IsScaled, RefusesScale, margin_lines, scales}
 use Rattle.hrthood_top.specs.Taking.{IsTakenAs}
 use Rattle.hrthood_top.proofs.OneDesign.{one-design, no-fault, one-fault, no-rule, one-rule}
-use Rattle.hrthood_top.proofs.OneRule.{one-at, one-miss}
+use Rattle.law_backgrounds.proofs.Shared.FirstFaults.{one-at}
+use Rattle.hrthood_top.proofs.OneRule.{one-miss}
 use Rattle.hrthood_top.proofs.VerbLaws.{IsExact, never-stops}
 
 -- WHAT THE CODE MAKES OF A DESIGN THAT IS TAKEN

@@ -20,7 +20,7 @@ use Rattle.hrthood_top.specs.Searches.{name_at, names_at, IsInternal, HasNoOrder
 use Rattle.hrthood_top.specs.Taking.{IsTakenAs}
 use Rattle.hrthood_top.proofs.CheckLaws as checking
 use Rattle.hrthood_top.proofs.OneDesign.{one-design}
-use Rattle.hrthood_top.proofs.OneRule.{one-at}
+use Rattle.law_backgrounds.proofs.Shared.FirstFaults.{one-at}
 use Rattle.hrthood_top.proofs.VerbLaws.{IsExact, never-stops}
 
 -- bytes are taken as one design

@@ -1,3 +1,4 @@
+pub mod EndSteps
 mod Examples
 pub mod ListSteps
 pub mod PlaceSteps

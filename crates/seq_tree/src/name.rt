@@ -5,6 +5,7 @@ ghost use Rattle.seq_tree.specs.Lexis.{is_name};
 
 use crate::memory::NoMemory;
 use crate::runs::is_name;
+use smallvec::SmallVec;
 use std::alloc::Global;
 use std::marker::Model;
 
@@ -26,10 +27,11 @@ impl From<NoMemory> for NameFault {
 }
 
 /// A name, folded to lower case, of 1 to 64 bytes. Contracts see it as its bytes. It is one pointer, since a tree holds up to two
-/// names in each statement, and most statements hold none.
+/// names in each statement, and most statements hold none. Up to 24 bytes stand behind that pointer, so such a name is one block of
+/// memory, and a longer one is two.
 #[derive(Drop, Debug)]
 pub struct Name {
-    bytes: Box<Vec<u8>>,
+    bytes: Box<SmallVec<u8, 24>>,
 }
 
 impl Model for Name {
@@ -61,7 +63,8 @@ impl Name {
         requires { (0 < length bytes.now) × (length bytes.now ≤ 64) }
         ensures { IfOk result (λ n. n ≡ str_to_ascii_lowercase bytes.now) }
     {
-        let folded: Vec<u8> = bytes.iter().map(|b| b.to_ascii_lowercase()).collect(alloc)?;
+        let mut folded = SmallVec::from_slice(alloc, bytes)?;
+        folded.as_mut_slice().make_ascii_lowercase();
         let bytes = Box::new(alloc, folded)?;
         Ok(Name { bytes })
     }
@@ -70,7 +73,10 @@ impl Name {
     pub fn copy(&self, alloc: Global) -> Result<Name, NoMemory>
         ensures { IfOk result (λ n. n ≡ self.now) }
     {
-        let bytes = Box::new(alloc, Vec::from_slice(alloc, self.bytes.as_slice())?)?;
+        let bytes = Box::new(
+            alloc,
+            SmallVec::from_slice(alloc, self.bytes.as_slice())?,
+        )?;
         Ok(Name { bytes })
     }
 

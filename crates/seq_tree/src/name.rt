@@ -73,10 +73,7 @@ impl Name {
     pub fn copy(&self, alloc: Global) -> Result<Name, NoMemory>
         ensures { IfOk result (λ n. n ≡ self.now) }
     {
-        let bytes = Box::new(
-            alloc,
-            SmallVec::from_slice(alloc, self.bytes.as_slice())?,
-        )?;
+        let bytes = Box::new(alloc, SmallVec::from_slice(alloc, self.bytes.as_slice())?)?;
         Ok(Name { bytes })
     }
 

@@ -338,6 +338,25 @@ class Crates(unittest.TestCase):
         self.assertEqual(list(rules.row_faults(1, '| V01 | names | `nothing.rt` |', set())), ['RULES.md:1: there is no test nothing.rt'])
         self.assertEqual(list(rules.row_faults(1, '| V01 | names | `arrivals.rt` |', set())), ['RULES.md:1: arrivals.rt has no row with V01'])
 
+    def test_edits_fit(self):
+        """Each line that a wrong body changes stands once in its file, so that none is passed over since its crate changed."""
+        tried, lost = 0, []
+        for crate in sorted(os.listdir(os.path.join(TOP, 'crates'))):
+            for folder in ('must-fail', 'more-edits'):
+                room = os.path.join(TOP, 'crates', crate, folder)
+                for edit in sorted(os.listdir(room)) if os.path.isdir(room) else []:
+                    with open(os.path.join(room, edit)) as said:
+                        lines = [line.rstrip('\n').split(': ', 1) for line in said]
+                    for key, *value in lines:
+                        if key == 'file':
+                            with open(os.path.join(TOP, 'crates', crate, *value)) as source:
+                                text = source.read()
+                        elif key == 'old':
+                            lost += [] if text.count(*value) == 1 else [f'{crate}/{folder}/{edit}']
+                            tried += 1
+        self.assertEqual(lost, [])
+        self.assertGreater(tried, 500)
+
 
 class Pages(unittest.TestCase):
     """try_pages.py, over a page of its own"""

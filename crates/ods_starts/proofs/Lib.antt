@@ -6,6 +6,7 @@ mod StartingExamples
 pub mod CallRings
 pub mod NamePlaces
 pub mod ObjectRings
+pub mod LoopEnds
 pub mod LoopSteps
 pub mod KeptCalls
 pub mod RequestLaws

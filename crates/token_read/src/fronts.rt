@@ -1,6 +1,6 @@
 ghost use Rattle.std.specs.Prelude.{◌≡◌, ◌+◌, ◌<◌, ◌≤◌, ◌∷◌, [], IfErr, IfOk, length};
 ghost use Rattle.std.specs.List.{prefix_len};
-ghost use Rattle.seq_tree.specs.Lexis.{Other, front_by, is_not_line_feed, mark_front, name_front, number_front, start_of};
+ghost use Rattle.seq_tree.specs.Lexis.{Other, front_by, is_not_line_feed, is_space, mark_front, name_front, number_front, start_of};
 ghost use Rattle.seq_tree.specs.Marks.{mark_of};
 ghost use Rattle.token_read.specs.Fronts.{front_view, start_view};
 ghost use Rattle.token_read.specs.Outcomes.{Gives};
@@ -103,12 +103,19 @@ pub(crate) enum Start {
     Other,
 }
 
+/// Whether a byte is white space: a space, or tab to carriage return.
+pub(crate) fn is_space(byte: u8) -> bool
+    ensures { result ≡ is_space byte }
+{
+    byte == b' ' || (b'\t' <= byte && byte <= b'\r')
+}
+
 /// What the first byte begins, before this rest.
 #[tactic(auto, unfolding(seq_tree::specs::Lexis::start_of))]
 fn start_of(first: u8, rest: &[u8]) -> Start
     ensures { start_view result ≡ start_of first rest.now }
 {
-    if first == b' ' || (b'\t' <= first && first <= b'\r') {
+    if is_space(first) {
         return Start::Space;
     }
     if first.is_ascii_alphabetic() {

@@ -1,11 +1,11 @@
-ghost use Rattle.std.specs.Prelude.{◌≡◌, ◌+◌, ◌++◌, ◌<◌, ◌≤◌, ◌==◌, ◌∷◌, [], true, IfErr, IfOk, length, option_map};
+ghost use Rattle.std.specs.Prelude.{◌≡◌, ◌+◌, ◌++◌, ◌<◌, ◌≤◌, ◌==◌, ◌∷◌, [], true, false, IfErr, IfNone, IfOk, IfSome, length, option_map};
 ghost use Rattle.seq_tree.specs.Lexis.{plain, tokens};
 ghost use Rattle.token_read.specs.Behind.{Finds, behind, counted, is_whole, seen};
 ghost use Rattle.token_read.specs.Outcomes.{Gives};
 ghost use Rattle.token_read.specs.Words.{bare};
 
 use crate::fault::LexFault;
-use crate::fronts::{Front, front_of};
+use crate::fronts::{Front, front_of, is_space};
 use crate::lexemes::Lexeme;
 use crate::places::place_past;
 use seq_tree::{Place, Spanned};
@@ -23,6 +23,29 @@ pub struct Tokens<'a> {
     ghost counts: { count ≡ length (counted next (bare listed.now ++ behind text.now)) },
 }
 
+/// What stands at the front of a text, a token, or white space or a comment, and the bytes behind it; none where there is a fault.
+#[tactic(auto, using(crate::proofs::Shared::BehindSteps::front_steps))]
+fn step_of<'a>(bytes: &'a [u8], first: u8, rest: &'a [u8]) -> Option<(Option<Lexeme<'a>>, &'a [u8])>
+    requires few { length bytes.now ≤ 16777216 }
+    requires parts { bytes.now ≡ first ∷ rest.now }
+    ensures behind { IfSome result (λ r. is_whole bytes.entry.now ≡ true → behind bytes.entry.now ≡ seen r.0 (behind r.1.now)) }
+    ensures whole { IfSome result (λ r. is_whole bytes.entry.now ≡ is_whole r.1.now) }
+    ensures less { IfSome result (λ r. length r.1.now < length bytes.entry.now) }
+    ensures fault { IfNone result (is_whole bytes.entry.now ≡ false) }
+{
+    if is_space(first) {
+        return Some((None, rest));
+    }
+    let start = Place { line: 1, column: 1 };
+    match front_of(start, bytes, first, rest) {
+        Ok(Front { token, len }) => {
+            let (_, after) = bytes.split_at(len);
+            Some((token, after))
+        }
+        Err(_) => None,
+    }
+}
+
 /// What stands at the front of a text without faults: a token, or white space or a comment; and the bytes behind it.
 fn front_and_rest<'a>(bytes: &'a [u8], first: u8, rest: &'a [u8]) -> (Option<Lexeme<'a>>, &'a [u8])
     requires few { length bytes.now ≤ 16777216 }
@@ -32,12 +55,10 @@ fn front_and_rest<'a>(bytes: &'a [u8], first: u8, rest: &'a [u8]) -> (Option<Lex
     ensures whole { is_whole result.1.now ≡ true }
     ensures less { length result.1.now < length bytes.entry.now }
 {
-    let start = Place { line: 1, column: 1 };
-    let Ok(Front { token, len }) = front_of(start, bytes, first, rest) else {
+    let Some(found) = step_of(bytes, first, rest) else {
         unreachable!();
     };
-    let (_, after) = bytes.split_at(len);
-    (token, after)
+    found
 }
 
 /// The first token of a text without faults and the bytes behind it, where there is one.
@@ -68,8 +89,25 @@ fn more(count: usize, token: Option<Lexeme>) -> usize
     }
 }
 
-/// How many tokens a text has, or its first fault.
-fn count_of(bytes: &[u8]) -> Result<usize, LexFault>
+/// How many tokens a text has, where it has no fault.
+fn count_of_whole(bytes: &[u8]) -> Option<usize>
+    requires { length bytes.now ≤ 16777216 }
+    ensures counts { IfSome result (λ n. n ≡ length (behind bytes.now)) }
+    ensures whole { IfSome result (λ _. is_whole bytes.now ≡ true) }
+    ensures few { IfSome result (λ n. n ≤ length bytes.now) }
+{
+    let mut count = 0;
+    let mut left = bytes;
+    'fronts: while let Some((first, rest)) = left.split_first() {
+        let (token, after) = step_of(left, *first, rest)?;
+        count = more(count, token);
+        left = after;
+    }
+    Some(count)
+}
+
+/// How many tokens a text has, or its first fault, by a walk that keeps the place.
+fn count_with_places(bytes: &[u8]) -> Result<usize, LexFault>
     requires { length bytes.now ≤ 16777216 }
     ensures gives { Gives (λ _. behind bytes.now) result (plain (tokens bytes.now)) }
     ensures counts { IfOk result (λ n. n ≡ length (behind bytes.now)) }
@@ -88,6 +126,21 @@ fn count_of(bytes: &[u8]) -> Result<usize, LexFault>
         left = after;
     }
     Ok(count)
+}
+
+/// How many tokens a text has, or its first fault. Most texts have none, so the place is kept only where there is one.
+fn count_of(bytes: &[u8]) -> Result<usize, LexFault>
+    requires { length bytes.now ≤ 16777216 }
+    ensures gives { Gives (λ _. behind bytes.now) result (plain (tokens bytes.now)) }
+    ensures counts { IfOk result (λ n. n ≡ length (behind bytes.now)) }
+    ensures whole { IfOk result (λ _. is_whole bytes.now ≡ true) }
+    ensures few { IfOk result (λ n. n ≤ length bytes.now) }
+    ensures ample { IfErr result (λ e. e ≡ LexFault.NoMemory → ⊥) }
+{
+    match count_of_whole(bytes) {
+        Some(count) => Ok(count),
+        None => count_with_places(bytes),
+    }
 }
 
 impl<'a> Tokens<'a> {

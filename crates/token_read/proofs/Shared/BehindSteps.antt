@@ -1,5 +1,5 @@
 -- The tokens of a text by themselves: whether they are found, and which they are, is the same wherever the text stands.
-use Rattle.std.proofs.Common.{◌≡◌, ℕ, zero, suc, ◌-◌, ◌<◌, ◌≤◌, Bool, true, false, List, [], ◌∷◌, ◌++◌, length, take, drop, Option}
+use Rattle.std.proofs.Common.{◌≡◌, ℕ, zero, suc, ◌+◌, ◌-◌, ◌<◌, ◌≤◌, Bool, true, false, List, [], ◌∷◌, ◌++◌, length, take, drop, Option}
 use Rattle.std.proofs.Common.{Some, None, option_map, is_some, Result, Ok, Err, if◌then◌else◌, nat_lt, refl, sym, ap, ◌∙◌, subst, arith}
 use Rattle.std.proofs.Common.{append-nil}
 use Rattle.std.proofs.lemmas.List.{map-append, length-map}
@@ -9,7 +9,7 @@ use Rattle.seq_tree.specs.declared.token.Place.{Place}
 use Rattle.seq_tree.specs.declared.token.Spanned.{Spanned}
 use Rattle.seq_tree.specs.Lexis.{Misread, Stray, Great, Long, Front, Start, Space, Comment, Name, Numeral, Other, is_name, is_numeral, is_mark}
 use Rattle.seq_tree.specs.Lexis.{longest, value_from, begins_part, place_after, place_past, front_by, name_front, number_front, mark_front}
-use Rattle.seq_tree.specs.Lexis.{start_of, then_others, behind as front_behind, plain, tokens, tokens_after, with_token}
+use Rattle.seq_tree.specs.Lexis.{is_space, start_of, then_others, behind as front_behind, plain, tokens, tokens_after, with_token}
 use Rattle.seq_tree.specs.Marks.{mark_of}
 use Rattle.token_read.specs.declared.fault.LexFault.{LexFault}
 use Rattle.token_read.specs.declared.fault.LexFault.TheVariants as fault
@@ -19,6 +19,7 @@ use Rattle.token_read.specs.Fronts.{front_view}
 use Rattle.token_read.specs.Lexemes.{token_of}
 use Rattle.token_read.specs.Words.{bare}
 use Rattle.token_read.specs.Behind.{behind, found_in, is_whole, or_none, seen}
+use Rattle.token_read.proofs.Shared.FrontLaws.{space-front}
 use Rattle.token_read.proofs.Shared.TokenSteps.{with_front, with_front-err, tokens-cons, tokens-fault, tokens-nil, tokens-start}
 
 -- a fault that is none of memory is one of the text
@@ -134,14 +135,32 @@ unfolding behind is_whole
 behind-turn c rest left after f whole is_left read positive is_after =
     split f.token (tokens left) (tokens after) (turn c rest left after f is_left read positive is_after) whole
 
--- a text without faults has none at its front
-pub whole-front : (c : ℕ) (rest left : List ℕ) (e : Misread) → is_whole left ≡ true → left ≡ c ∷ rest
-    → front_by (start_of c rest) start left ≡ Err e → ⊥
+some-front : (xs : List Spanned) (r : Result (List Spanned) Misread) → is_some (found_in (with_front xs r)) ≡ is_some (found_in r)
+unfolding with_front
+some-front xs (Err d) = refl
+some-front xs (Ok us) = refl
+
+-- a text has no fault where there is none at its front and none behind it, and its tokens are then that at its front and those behind it
+pub step-turn : (c : ℕ) (rest left after : List ℕ) (f : Front) → left ≡ c ∷ rest → front_by (start_of c rest) start left ≡ Ok f → 0 < f.len
+    → after ≡ drop f.len left
+    → (is_whole left ≡ is_whole after) × (is_whole left ≡ true → behind left ≡ led f.token (behind after))
+unfolding behind is_whole
+step-turn c rest left after f is_left read positive is_after =
+    let here = turn c rest left after f is_left read positive is_after in
+    (ap is_some here ∙ some-front (with_token f.token start []) (tokens after), λ whole. (split f.token (tokens left) (tokens after) here whole).0)
+
+-- white space at the front
+pub space-turn : (c : ℕ) (rest left : List ℕ) → left ≡ c ∷ rest → is_space c ≡ true
+    → (is_whole left ≡ is_whole rest) × (is_whole left ≡ true → behind left ≡ behind rest)
+space-turn c rest left is_left space =
+    step-turn c rest left rest (record { token = None; len = 1 }) is_left (space-front c rest start left space) (omega arith) (rw is_left refl)
+
+-- a text with a fault at its front has one
+pub front-fault : (c : ℕ) (rest left : List ℕ) (e : Misread) → left ≡ c ∷ rest → front_by (start_of c rest) start left ≡ Err e → is_whole left ≡ false
 unfolding is_whole
-whole-front c rest left e whole is_left read =
+front-fault c rest left e is_left read =
     let fault : tokens left ≡ Err e = rw (is_left) (sym (tokens-start (c ∷ rest)) ∙ tokens-fault start c rest e (rw is_left at read)) in
-    let none : is_some (found_in (tokens left)) ≡ false = rw fault refl in
-    cc
+    rw fault refl
 
 pub behind-nil : behind [] ≡ []
 unfolding behind
@@ -150,6 +169,15 @@ behind-nil = ap (λ r. or_none (found_in r)) (sym (tokens-start []) ∙ tokens-n
 pub whole-nil : is_whole [] ≡ true
 unfolding is_whole
 whole-nil = ap (λ r. is_some (found_in r)) (sym (tokens-start []) ∙ tokens-nil start)
+
+-- the tokens of a text without faults
+pub whole-plain : (bytes : List ℕ) → is_whole bytes ≡ true → plain (tokens bytes) ≡ Ok (behind bytes)
+unfolding behind is_whole
+whole-plain bytes h = go (tokens bytes) h
+  where
+    go : (r : Result (List Spanned) Misread) → is_some (found_in r) ≡ true → plain r ≡ Ok (or_none (found_in r))
+    go (Ok ts) h = refl
+    go (Err fault) h = absurd cc
 
 -- a text that was found to have these tokens
 pub whole-found : (bytes : List ℕ) (found : List Spanned) → tokens bytes ≡ Ok found → (plain (tokens bytes) ≡ Ok (behind bytes))
@@ -174,6 +202,10 @@ pub length-seen : (t : Option Lexeme) (place : Place) → length (with_token (op
 length-seen None place = refl
 length-seen (Some l) place = refl
 
+pub length-seen-others : (t : Option Lexeme) (ts : List Token) → length (seen t ts) ≡ length (seen t []) + length ts
+length-seen-others None ts = omega arith
+length-seen-others (Some l) ts = omega arith
+
 pub seen-one : (t : Option Lexeme) → length (seen t []) ≤ 1
 seen-one None = omega arith
 seen-one (Some l) = omega arith
@@ -189,5 +221,7 @@ module _ {X : Type 0} (view : X → List Token) (place : Place) (c : ℕ) (rest 
   fault-told (fault.Number p) h = told (Great p) h
   fault-told (fault.Long p) h = told (Long p) h
   fault-told fault.NoMemory h = tt
+
+pub ruleset front_steps = (seen-led)
 
 pub ruleset list_steps = (behind-nil, whole-nil, append-nil, length-map)

@@ -1,5 +1,5 @@
 -- The front of a text, by what its first byte begins.
-use Rattle.std.proofs.Common.{◌≡◌, ℕ, ◌+◌, ◌<◌, Bool, true, false, cond, List, [], ◌∷◌, take, drop, None, Ok, eqb, refl, sym, arith}
+use Rattle.std.proofs.Common.{◌≡◌, ℕ, ◌+◌, ◌<◌, Bool, true, false, cond, List, [], ◌∷◌, take, drop, None, Ok, eqb, refl, sym, ap, ◌∙◌, arith}
 use Rattle.std.specs.Char.{is_ascii_alphabetic, is_ascii_alphanumeric, is_ascii_digit}
 use Rattle.std.specs.List.{prefix_len}
 use Rattle.std.proofs.lemmas.Bool.{and_parts, eqb-true}
@@ -11,6 +11,10 @@ use Rattle.seq_tree.proofs.Shared.Longest.{longest-led}
 -- the choice of start_of, by the four tests
 abbrev choice : Bool → Bool → Bool → Bool → Start
 choice s a d m = cond s Space (cond a Name (cond d Numeral (cond m Comment Other)))
+
+choice-space : (s a d m : Bool) → s ≡ true → choice s a d m ≡ Space
+choice-space true a d m e = refl
+choice-space false a d m e = absurd cc
 
 choice-name : (s a d m : Bool) → choice s a d m ≡ Name → a ≡ true
 choice-name true a d m e = cc
@@ -32,6 +36,19 @@ choice-comment false true d m e = cc
 choice-comment false false true m e = cc
 choice-comment false false false true e = refl
 choice-comment false false false false e = cc
+
+start-space : (c : ℕ) (cs : List ℕ) → is_space c ≡ true → start_of c cs ≡ Space
+unfolding start_of
+start-space c cs e = choice-space (is_space c) (is_ascii_alphabetic c) (is_ascii_digit c) (begins_comment c cs) e
+
+space-alone : (place : Place) (text : List ℕ) → front_by Space place text ≡ Ok (record { token = None; len = 1 })
+unfolding front_by
+space-alone place text = refl
+
+-- white space is one byte, and no token
+pub space-front : (c : ℕ) (cs : List ℕ) (place : Place) (text : List ℕ) → is_space c ≡ true
+    → front_by (start_of c cs) place text ≡ Ok (record { token = None; len = 1 })
+space-front c cs place text e = ap (λ s. front_by s place text) (start-space c cs e) ∙ space-alone place text
 
 start-name : (c : ℕ) (cs : List ℕ) → start_of c cs ≡ Name → is_ascii_alphabetic c ≡ true
 unfolding start_of

@@ -3,7 +3,7 @@ use Rattle.seq_tree.specs.declared.token.Spanned.{Spanned}
 use Rattle.seq_tree.specs.Lexis.{tokens, tokens_after}
 use Rattle.token_read.specs.Places.{Fits}
 use Rattle.token_read.proofs.Shared.TokenSteps.{with_front}
-use Rattle.token_read.proofs.tokens_left.count_of.Given as goal
+use Rattle.token_read.proofs.tokens_left.count_with_places.Given as goal
 
 -- the tokens so far, as many as were counted, and then those of what is left
 abbrev pub invariant-tokens : goal.invariant-tokens

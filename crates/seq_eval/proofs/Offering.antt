@@ -11,8 +11,8 @@ use Rattle.seq_tree.specs.declared.tree.OpName.{OpName}
 use Rattle.seq_tree.specs.declared.tree.OpText.{OpText}
 use Rattle.seq_tree.proofs.Shared.LoopSteps.{drop_step}
 use Rattle.seq_eval.specs.Following.{callee_by, is_offered, is_plain}
-use Rattle.seq_eval.specs.Targets.{callee_of, first_callee}
-use Rattle.seq_eval.specs.declared.targets.Target.{Target}
+use Rattle.seq_eval.specs.Calls.{callee_of, first_callee}
+use Rattle.seq_eval.specs.declared.calls.Target.{Target}
 
 -- one in front of others
 in_front : {A : Type 0} (b : Bool) (f : A → Callee) (a : A) (t : Target) (now : Option Target) (others : Option A) (rest : Callee)

@@ -5,14 +5,14 @@ ghost use Rattle.law_walks.specs.Fit.{MayRun};
 ghost use Rattle.law_walks.specs.Walks.{walk_at};
 ghost use Rattle.seq_eval.specs.Actions.{action_of};
 ghost use Rattle.seq_eval.specs.Bounds.{most_ticks};
+ghost use Rattle.seq_eval.specs.Calls.{calls_in};
 ghost use Rattle.seq_eval.specs.Ends.{FitsEnd, IsEnd, comes_to, names_of};
 ghost use Rattle.seq_eval.specs.Following.{Follows, Means, callees};
-ghost use Rattle.seq_eval.specs.Targets.{leads};
 
 use crate::action::{Action, Followed};
+use crate::calls::Calls;
 use crate::env::Env;
 use crate::scope::Scope;
-use crate::targets::Targets;
 use crate::walk::{Frame, Walk};
 use seq_tree::{Block, Callable, Costs, Name, NoMemory, OpText};
 use std::alloc::Global;
@@ -58,19 +58,19 @@ fn set_values(env: &mut Env, values: &[u32])
 }
 
 /// Follows a block along a script, from these variables, where calls lead to these.
-fn follow_with<'a>(
+fn run<'a, 'c: 'a>(
     alloc: Global,
     block: &'a Block,
     costs: &Costs,
-    targets: &Targets<'a>,
+    calls: &Calls<'c>,
     env: &'a Env,
     script: &'a [Action],
 ) -> Result<Ended, NoMemory>
     ensures fits { IfOk result (FitsEnd (names_of env.entry.now.slots.items) (length script.entry.now)) }
-    ensures ended { IfOk result (λ e. ((depth : ℕ) → most_ticks costs.now (leads targets.now) depth (block_of block.entry.now) ≤ 1000000000)
+    ensures ended { IfOk result (λ e. ((depth : ℕ) → most_ticks costs.now (calls_in calls.now) depth (block_of block.entry.now) ≤ 1000000000)
         → (depth : ℕ) → 18446744073709551615 < depth
         → IsEnd (names_of env.entry.now.slots.items) (length script.entry.now) e
-        (comes_to (whole_at (walk_at costs.now (leads targets.now) depth (block_of block.entry.now) env.entry.now.slots.items)
+        (comes_to (whole_at (walk_at costs.now (calls_in calls.now) depth (block_of block.entry.now) env.entry.now.slots.items)
         (map action_of script.entry.now)))) }
 {
     let mut frames = Vec::new(alloc);
@@ -87,7 +87,7 @@ fn follow_with<'a>(
         if !walk.has_few() {
             return Ok(Ended::Stopped(walk.script.len()));
         }
-        if !walk.step(alloc, costs, targets, frame)? {
+        if !walk.step(alloc, costs, calls, frame)? {
             return Ok(Ended::Stopped(walk.script.len()));
         }
     }
@@ -102,42 +102,53 @@ fn follow_with<'a>(
     })
 }
 
-/// Follows a block along a script, from these variables, where these operations may be called.
-fn run<'a>(
-    alloc: Global,
-    block: &'a Block,
-    costs: &Costs,
-    passive: &'a [OpText],
-    owners: &'a [Name],
-    shared: &'a [Callable],
-    requests: &'a [Callable],
-    env: &'a Env,
-    script: &'a [Action],
-) -> Result<Ended, NoMemory>
-    requires { length owners.now ≡ length passive.now }
-    ensures fits { IfOk result (FitsEnd (names_of env.entry.now.slots.items) (length script.entry.now)) }
-    ensures ended { IfOk result (λ e. ((depth : ℕ) → most_ticks costs.now (callees owners.entry.now (map operation_of passive.entry.now)
-        (map offer_of shared.entry.now) (map offer_of requests.entry.now)) depth (block_of block.entry.now) ≤ 1000000000)
-        → (depth : ℕ) → 18446744073709551615 < depth
-        → IsEnd (names_of env.entry.now.slots.items) (length script.entry.now) e
-        (comes_to (whole_at (walk_at costs.now (callees owners.entry.now (map operation_of passive.entry.now) (map offer_of shared.entry.now)
-        (map offer_of requests.entry.now)) depth (block_of block.entry.now) env.entry.now.slots.items) (map action_of script.entry.now)))) }
-{
-    let targets = Targets::of(alloc, passive, owners, shared, requests)?;
-    follow_with(alloc, block, costs, &targets, env, script)
-}
-
 /// Reads a block along a script of actions: whether the script is that of a run of the block from the variables of `env`, ends inside a run,
 /// or has an action that can't stand at its place. What protected operations hand out is taken from the script.
 ///
-/// `owners` has the object of each of the `passive` operations, `shared` the protected operations that may be called, and `requests` the
-/// operations by which tasks are requested; of two operations of one name the first counts. `Done` tells the fewest and the most ticks of
-/// the run, without those of the bodies of protected operations, and `env` is then its last state. After `Short`, `Off` and `NoMemory` it is as
-/// before. This holds where the ticks of the block are at most 1,000,000,000, with nothing for the bodies of protected operations, where each
-/// call leads to an operation, no passive operation calls itself through others, and exits stand in loops; of other blocks nothing is told.
+/// `Done` tells the fewest and the most ticks of the run, without those of the bodies of protected operations, and `env` is then its last
+/// state. After `Short`, `Off` and `NoMemory` it is as before. This holds where the ticks of the block are at most 1,000,000,000, with nothing
+/// for the bodies of protected operations, where each call leads to an operation, no passive operation calls itself through others, and exits
+/// stand in loops; of other blocks nothing is told.
 ///
-/// It takes time in proportion to the statements that it passes, each with the names of its variables and calls, and memory in proportion to
-/// the operations that may be called and to how deep statements and calls are nested.
+/// A statement that it passes is passed once for each time that the run does so, however short the script is: up to 1,000,000,000 times for a
+/// block of as many ticks. Each time takes, for each name of a variable in it, up to the bytes of the variables of the body that runs, and for a
+/// call what a look into `calls` takes. Memory grows with the variables of `env`, and with how deep statements and calls are nested.
+pub fn follow_in(
+    alloc: Global,
+    block: &Block,
+    costs: &Costs,
+    calls: &Calls,
+    env: &mut Env,
+    script: &[Action],
+) -> Result<Followed, NoMemory>
+    ensures says { ((depth : ℕ) → most_ticks costs.now (calls_in calls.now) depth (block_of block.now) ≤ 1000000000)
+        → (depth : ℕ) → MayRun (calls_in calls.now) depth (block_of block.now)
+        → Follows costs.now (calls_in calls.now) depth (block_of block.now) env.old.slots.items (map action_of script.now) result
+        env.new.slots.items }
+    ensures means { ((depth : ℕ) → most_ticks costs.now (calls_in calls.now) depth (block_of block.now) ≤ 1000000000)
+        → (depth : ℕ) → MayRun (calls_in calls.now) depth (block_of block.now)
+        → Means costs.now (calls_in calls.now) (block_of block.now) env.old.slots.items (map action_of script.now) result env.new.slots.items }
+{
+    match run(alloc, block, costs, calls, env, script)? {
+        Ended::Done { low, high, values } => {
+            set_values(env, values.as_slice());
+            Ok(Followed::Done { low, high })
+        }
+        Ended::Stopped(left) => {
+            if left == 0 {
+                Ok(Followed::Short)
+            } else {
+                Ok(Followed::Off(script.len() - left))
+            }
+        }
+    }
+}
+
+/// Reads a block along a script of actions as `follow_in` does, where these operations may be called.
+///
+/// `owners` has the object of each of the `passive` operations, `shared` the protected operations that may be called, and `requests` the
+/// operations by which tasks are requested; of two operations of one name the first counts. A table of all of them is made for this call alone:
+/// who follows several blocks makes the `Calls` once.
 pub fn follow(
     alloc: Global,
     block: &Block,
@@ -165,19 +176,6 @@ pub fn follow(
         → Means costs.now (callees owners.now (map operation_of passive.now) (map offer_of shared.now) (map offer_of requests.now))
         (block_of block.now) env.old.slots.items (map action_of script.now) result env.new.slots.items }
 {
-    match run(
-        alloc, block, costs, passive, owners, shared, requests, env, script,
-    )? {
-        Ended::Done { low, high, values } => {
-            set_values(env, values.as_slice());
-            Ok(Followed::Done { low, high })
-        }
-        Ended::Stopped(left) => {
-            if left == 0 {
-                Ok(Followed::Short)
-            } else {
-                Ok(Followed::Off(script.len() - left))
-            }
-        }
-    }
+    let calls = Calls::of(alloc, passive, owners, shared, requests)?;
+    follow_in(alloc, block, costs, &calls, env, script)
 }

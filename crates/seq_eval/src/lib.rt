@@ -4,7 +4,7 @@
 //! grammar. `eval` carries the first promise: it answers exactly the value of an expression, over the variables that a `Lookup` stands for.
 //! `Env` is the plainest `Lookup`, a list of names and values. `follow` carries the second: its answer is that of the walk
 //! (`specs/Following.antt`), and in words of runs the same. It keeps what is left to do on a stack of its own, so that no chain of calls makes
-//! it recur, and looks up each call in a table.
+//! it recur, and looks up each call in a table, `Calls`, which `follow_in` is handed, so that it can be made once for many scripts.
 //!
 //! Other crates may cite these proofs of it (`proofs/Shared`):
 //!
@@ -13,18 +13,20 @@
 
 mod action;
 mod along;
+mod calls;
 mod env;
 mod lookup;
 mod operators;
 mod params;
 mod scope;
 mod seen;
-mod targets;
 mod values;
 mod walk;
 
 pub use action::{Action, Followed};
-pub use along::follow;
+pub use along::{follow, follow_in};
+pub use calls::Calls;
 pub use env::Env;
 pub use lookup::Lookup;
+pub use operators::{combine, gives_boolean, invert};
 pub use values::eval;

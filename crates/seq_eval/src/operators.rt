@@ -3,10 +3,10 @@ ghost use Rattle.seq_tree.specs.Values.{combined, inverted, is_boolean_op};
 
 use seq_tree::BinOp;
 
-/// The value of the operator at two values. A truth value is 1 or 0, and what doesn't fit 32 bits wraps. No program that meets the
-/// rules divides by 0; the quotient is 0 there, and the remainder the left value.
+/// The value of an operator at two values, modulo 2^32. A comparison answers a truth value, which is 1 or 0, and `and`, `or` and `xor` work bit
+/// by bit. No program that meets the rules divides by 0; the quotient is 0 there, and the remainder the left value. It takes no memory.
 #[tactic(auto, using(crate::proofs::Divisions::by_nothing))]
-pub(crate) fn combine(op: BinOp, left: u32, right: u32) -> u32
+pub fn combine(op: BinOp, left: u32, right: u32) -> u32
     ensures { result ≡ combined op left right }
 {
     match op {
@@ -27,8 +27,9 @@ pub(crate) fn combine(op: BinOp, left: u32, right: u32) -> u32
     }
 }
 
-/// The value of `not` at a Boolean's value or at a word.
-pub(crate) fn invert(is_boolean: bool, value: u32) -> u32
+/// The value of `not` at the value of a Boolean, which is 1 or 0, or at a word, whose 32 bits are inverted. For a Boolean any value but 0
+/// counts as 1. It takes no memory.
+pub fn invert(is_boolean: bool, value: u32) -> u32
     ensures { result ≡ inverted is_boolean value }
 {
     if is_boolean {
@@ -38,8 +39,9 @@ pub(crate) fn invert(is_boolean: bool, value: u32) -> u32
     }
 }
 
-/// Whether the operator gives a Boolean, where its left operand is one or not.
-pub(crate) fn gives_boolean(op: BinOp, left: bool) -> bool
+/// Whether an operator gives a Boolean, where its left operand is one or not: a comparison always does, a logical operator where its operands
+/// do, and an operator of arithmetic never.
+pub fn gives_boolean(op: BinOp, left: bool) -> bool
     ensures { result ≡ is_boolean_op op left }
 {
     match op {

@@ -2,16 +2,16 @@ ghost use Rattle.std.specs.Prelude.{◌≡◌, ◌≤◌, ◌↔◌, IfOk, IsTru
 ghost use Rattle.seq_tree.specs.Operations.{out_names};
 ghost use Rattle.seq_tree.specs.Trees.{arm_of, block_of, branches_of, expression_of, operation_of, otherwise, statement_of};
 ghost use Rattle.seq_tree.specs.Variables.{targets};
+ghost use Rattle.seq_eval.specs.Calls.{calls_in};
 ghost use Rattle.seq_eval.specs.Stepping.{HasFew, begun, branched, called, done, entered_op, given_back, left_by, moved, passed};
 ghost use Rattle.seq_eval.specs.Stepping.{passed_over, printed, requested, spent, step, turned_on, turned_over, turning};
 ghost use Rattle.seq_eval.specs.States.{doing_of, state_of};
-ghost use Rattle.seq_eval.specs.Targets.{leads};
 
 use crate::action::Action;
+use crate::calls::{Calls, Target};
 use crate::params::{asked, handed_out, open_locals, open_params, out_count, store};
 use crate::scope::Scope;
 use crate::seen::{asks, enters, leaves, prints};
-use crate::targets::{Target, Targets};
 use crate::values::eval;
 use seq_tree::{Arm, Block, Costs, Expr, Name, NoMemory, OpText, Param, Stmt};
 use std::alloc::Global;
@@ -228,21 +228,21 @@ impl<'a> Walk<'a> {
     }
 
     /// Makes a call, where the actions that come next let it.
-    fn call(
+    fn call<'c: 'a>(
         &mut self,
         alloc: Global,
         costs: &Costs,
-        targets: &Targets<'a>,
+        calls: &Calls<'c>,
         object: &Name,
         op: &Name,
         actuals: &'a [Expr],
     ) -> Result<bool, NoMemory>
         requires { HasFew (state_of self.old) }
         ensures { IfOk result (λ on. moved on (state_of self.new)
-            ≡ called costs.now (record { object = object.now; op = op.now }) (leads targets.now object.now op.now)
+            ≡ called costs.now (record { object = object.now; op = op.now }) (calls_in calls.now object.now op.now)
             (map expression_of actuals.entry.now) (state_of self.old)) }
     {
-        match targets.find(object, op) {
+        match calls.find(object, op) {
             Some(Target::Plain(text)) => {
                 self.enter(alloc, costs, text, actuals)?;
                 Ok(true)
@@ -254,15 +254,15 @@ impl<'a> Walk<'a> {
     }
 
     /// Begins a statement, where the actions that come next let it.
-    fn begin(
+    fn begin<'c: 'a>(
         &mut self,
         alloc: Global,
         costs: &Costs,
-        targets: &Targets<'a>,
+        calls: &Calls<'c>,
         stmt: &'a Stmt,
     ) -> Result<bool, NoMemory>
         requires { HasFew (state_of self.old) }
-        ensures { IfOk result (λ on. moved on (state_of self.new) ≡ begun costs.now (leads targets.now) (statement_of stmt.entry.now)
+        ensures { IfOk result (λ on. moved on (state_of self.new) ≡ begun costs.now (calls_in calls.now) (statement_of stmt.entry.now)
             (state_of self.old)) }
     {
         match stmt {
@@ -307,7 +307,7 @@ impl<'a> Walk<'a> {
                 op,
                 actuals,
             } => {
-                return self.call(alloc, costs, targets, object, op, actuals.as_slice());
+                return self.call(alloc, costs, calls, object, op, actuals.as_slice());
             }
             Stmt::Work(ticks) => self.spend(1, u64::from(*ticks)),
             Stmt::Put(value) => {
@@ -366,15 +366,15 @@ impl<'a> Walk<'a> {
     }
 
     /// Does what is to do, where no loop is being left.
-    fn go_on(
+    fn go_on<'c: 'a>(
         &mut self,
         alloc: Global,
         costs: &Costs,
-        targets: &Targets<'a>,
+        calls: &Calls<'c>,
         frame: Frame<'a>,
     ) -> Result<bool, NoMemory>
         requires { HasFew (state_of self.old) }
-        ensures { IfOk result (λ on. moved on (state_of self.new) ≡ done costs.now (leads targets.now) (doing_of frame.entry) (state_of self.old)) }
+        ensures { IfOk result (λ on. moved on (state_of self.new) ≡ done costs.now (calls_in calls.now) (doing_of frame.entry) (state_of self.old)) }
     {
         match frame {
             Frame::Stmts(stmts) => {
@@ -382,7 +382,7 @@ impl<'a> Walk<'a> {
                     return Ok(true);
                 };
                 self.frames.push(Frame::Stmts(rest))?;
-                return self.begin(alloc, costs, targets, first);
+                return self.begin(alloc, costs, calls, first);
             }
             Frame::Arms { arms, other } => self.branch(costs, arms, other)?,
             Frame::Turned(round) => self.turn_on(costs, round)?,
@@ -406,21 +406,21 @@ impl<'a> Walk<'a> {
     }
 
     /// Makes a step, where the actions that come next let it: the innermost of what is to do, which is taken off.
-    pub fn step(
+    pub fn step<'c: 'a>(
         &mut self,
         alloc: Global,
         costs: &Costs,
-        targets: &Targets<'a>,
+        calls: &Calls<'c>,
         frame: Frame<'a>,
     ) -> Result<bool, NoMemory>
         requires { HasFew (state_of self.old) }
-        ensures { IfOk result (λ on. moved on (state_of self.new) ≡ step costs.now (leads targets.now) (doing_of frame.entry) (state_of self.old)) }
+        ensures { IfOk result (λ on. moved on (state_of self.new) ≡ step costs.now (calls_in calls.now) (doing_of frame.entry) (state_of self.old)) }
     {
         if self.leaving {
             self.pass_over(alloc, costs, frame)?;
             Ok(true)
         } else {
-            self.go_on(alloc, costs, targets, frame)
+            self.go_on(alloc, costs, calls, frame)
         }
     }
 }

@@ -1,26 +1,129 @@
-use Rattle.std.proofs.Common.{◌≡◌, ◌≤◌, ◌<◌, ℕ, IfOk, length, map, subst}
-use Rattle.std.proofs.Math.Path.{fun_ext}
+use Rattle.std.proofs.Common.{ℕ, Result, ◌≤◌, ◌++◌, [], ◌∷◌, length, map, ap, arith, sym, ◌∙◌}
+use Rattle.std.proofs.lemmas.List.{length-map}
+use Rattle.std.proofs.lemmas.Bool.{eq-eqb, eqb-true, false≢true}
 use Rattle.grammar.specs.Reading.{whole_at}
-use Rattle.seq_tree.specs.Trees.{block_of, offer_of, operation_of}
+use Rattle.seq_tree.specs.Trees.{block_of, statement_of, statements_of}
 use Rattle.law_walks.specs.Walks.{walk_at}
 use Rattle.seq_eval.specs.Actions.{action_of}
-use Rattle.seq_eval.specs.Bounds.{most_ticks}
-use Rattle.seq_eval.specs.Ends.{IsEnd, comes_to, names_of}
-use Rattle.seq_eval.specs.Following.{callees}
-use Rattle.seq_eval.specs.Targets.{leads}
+use Rattle.seq_eval.specs.Ends.{End, comes_to, names_of}
+use Rattle.seq_eval.specs.States.{doings_of, state_of}
+use Rattle.seq_eval.specs.Stepping.{Rest}
+use Rattle.seq_eval.specs.Calls.{calls_in}
+use Rattle.seq_eval.specs.declared.walk.Frame.TheVariants.{Stmts}
+use Rattle.seq_eval.proofs.Answering.{done-length, stopped-within}
+use Rattle.seq_eval.proofs.Keeping.{deep-enough, deepest, most}
+use Rattle.seq_eval.proofs.Ending.{all-done, begun, left-over, nearer-by, no-frames, popped, stepped, stopped, too-many}
 use Rattle.seq_eval.proofs.along.run.Goals as goal
+
+pub frames-init : goal.frames-init
+frames-init c =
+    begun c.args.costs.now (calls_in c.args.calls.now) c.args.block.now c.push.new.self.items c.in_ok-scope_of.field-0 c.args.env.now.slots.items
+    c.args.script.now
+    (ap doings_of (c.in_ok-push.ensures.items ∙ ap (λ fs. fs ++ Stmts c.as_slice.result ∷ []) c.new-frames.ensures.items)
+    ∙ ap (λ ss. Rest (statements_of (map statement_of ss)) ∷ []) c.as_slice.ensures.value) c.in_ok-scope_of.ensures
+
+pub step-requires : goal.step-requires
+step-requires c = c.has_few.ensures.0 c.if-not-has_few.false
+
+pub returns-then-not-has_few : goal.returns-then-not-has_few
+returns-then-not-has_few c =
+    let a = c.args in
+    let calls = calls_in a.calls.now in
+    let b = block_of a.block.now in
+    let names = names_of a.env.now.slots.items in
+    let n = length a.script.now in
+    let whole : ℕ → Result End ℕ = λ depth. comes_to (whole_at (walk_at a.costs.now calls depth b a.env.now.slots.items)
+    (map action_of a.script.now)) in
+    let w = c.frames.walk in
+    let i = c.frames.invariant in
+    record {
+      fits = let f = i.fewer in let e = length-map w.script.now action_of in omega (arith, f, e);
+      ended = too-many a.costs.now calls b whole names n (state_of w) (length w.script.now) i
+          (λ h. false≢true (sym c.if-not-has_few.true ∙ c.has_few.ensures.1 h));
+    }
+
+pub returns-then-not-branch : goal.returns-then-not-branch
+returns-then-not-branch c =
+    let a = c.args in
+    let calls = calls_in a.calls.now in
+    let b = block_of a.block.now in
+    let names = names_of a.env.now.slots.items in
+    let n = length a.script.now in
+    let whole : ℕ → Result End ℕ = λ depth. comes_to (whole_at (walk_at a.costs.now calls depth b a.env.now.slots.items)
+    (map action_of a.script.now)) in
+    let w = c.frames.walk in
+    let rest = c.pop.new.self.items in
+    let few-frames : length rest ≤ most = omega (arith, c.pop.new.self.ok, c.pop.new.self.small) in
+    let k = popped a.costs.now calls b whole names n w.frames.items rest c.in-Some.frame w.leaving w.vars w.low w.high
+    (map action_of w.script.now) c.in-Some.ensures.items
+    c.frames.invariant in
+    let ended = stopped a.costs.now calls b whole names n rest c.in-Some.frame w.leaving w.vars w.low w.high
+    (map action_of w.script.now) c.in_ok-step.field-0
+    (state_of c.step.new.self) (length c.step.new.self.script.now) few-frames k c.in_ok-step.ensures c.if-not-branch.true
+    (sym (length-map c.step.new.self.script.now action_of)) in
+    record {
+      fits = stopped-within names n (length c.step.new.self.script.now) (whole deepest) (ended deepest deep-enough);
+      ended
+          = λ cheap depth big. ended depth big;
+    }
+
+pub frames-smaller : goal.frames-smaller
+frames-smaller c =
+    let w = c.frames.walk in
+    let rest = c.pop.new.self.items in
+    let few-frames : length rest ≤ most = omega (arith, c.pop.new.self.ok, c.pop.new.self.small) in
+    nearer-by c.args.costs.now (calls_in c.args.calls.now) w.frames.items rest c.in-Some.frame w.leaving w.vars w.low w.high
+    (map action_of w.script.now) c.in_ok-step.field-0 (state_of c.step.new.self) few-frames c.in-Some.ensures.items c.in_ok-step.ensures
+    c.if-not-branch.false
+
+pub frames-preserved : goal.frames-preserved
+frames-preserved c =
+    let w = c.frames.walk in
+    let rest = c.pop.new.self.items in
+    let few-frames : length rest ≤ most = omega (arith, c.pop.new.self.ok, c.pop.new.self.small) in
+    let k = popped _ _ _ _ _ _ w.frames.items rest c.in-Some.frame w.leaving w.vars w.low w.high (map action_of w.script.now) c.in-Some.ensures.items
+    c.frames.invariant in
+    stepped _ _ _ _ _ _ rest c.in-Some.frame w.leaving w.vars w.low w.high (map action_of w.script.now) c.in_ok-step.field-0
+    (state_of c.step.new.self) few-frames k c.in_ok-step.ensures c.if-not-branch.false
+
+pub returns-then-not-is_empty : goal.returns-then-not-is_empty
+returns-then-not-is_empty c =
+    let a = c.args in
+    let calls = calls_in a.calls.now in
+    let b = block_of a.block.now in
+    let names = names_of a.env.now.slots.items in
+    let n = length a.script.now in
+    let whole : ℕ → Result End ℕ = λ depth. comes_to (whole_at (walk_at a.costs.now calls depth b a.env.now.slots.items)
+    (map action_of a.script.now)) in
+    let w = c.frames.walk in
+    let ended = left-over a.costs.now calls b whole names n w.frames.items w.vars w.low w.high w.leaving (map action_of w.script.now)
+    (length w.script.now)
+    (no-frames w.frames.items (λ h. false≢true (c.in_default.ensures.variant.1 (omega (arith, h, w.frames.ok)))))
+    (λ h. false≢true (sym c.if-not-is_empty.true ∙ c.is_empty.ensures
+    ∙ eq-eqb (length w.script.now) 0 (sym (length-map w.script.now action_of) ∙ h))) (sym (length-map w.script.now action_of)) c.frames.invariant in
+    record {
+      fits = stopped-within names n (length w.script.now) (whole deepest) (ended deepest deep-enough);
+      ended
+          = λ cheap depth big. ended depth big;
+    }
 
 pub returns : goal.returns
 returns c =
     let a = c.args in
-    let same : leads c.in_ok-targets.targets
-    ≡ callees a.owners.now (map operation_of a.passive.now) (map offer_of a.shared.now) (map offer_of a.requests.now)
-    = fun_ext (λ object. fun_ext (λ op. c.in_ok-targets.ensures object op)) in
+    let calls = calls_in a.calls.now in
+    let b = block_of a.block.now in
+    let names = names_of a.env.now.slots.items in
+    let n = length a.script.now in
+    let whole : ℕ → Result End ℕ = λ depth. comes_to (whole_at (walk_at a.costs.now calls depth b a.env.now.slots.items)
+    (map action_of a.script.now)) in
+    let w = c.frames.walk in
+    let ended = all-done a.costs.now calls b whole names n w.frames.items w.vars w.low w.high w.leaving
+    (map action_of w.script.now) c.in_ok-values.values
+    (no-frames w.frames.items (λ h. false≢true (c.in_default.ensures.variant.1 (omega (arith, h, w.frames.ok)))))
+    (length-map w.script.now action_of ∙ eqb-true (length w.script.now) 0 (sym c.is_empty.ensures
+    ∙ c.if-not-is_empty.false)) c.in_ok-values.ensures c.frames.invariant in
     record {
-      fits = c.follow_with.ensures.fits;
-      ended = subst (λ calls. IfOk c.follow_with.result (λ e. ((depth : ℕ) → most_ticks a.costs.now calls depth (block_of a.block.now) ≤ 1000000000)
-          → (depth : ℕ) → 18446744073709551615 < depth
-          → IsEnd (names_of a.env.now.slots.items) (length a.script.now) e
-          (comes_to (whole_at (walk_at a.costs.now calls depth (block_of a.block.now) a.env.now.slots.items) (map action_of a.script.now))))) same
-          c.follow_with.ensures.ended;
+      fits = done-length names n w.low w.high c.in_ok-values.values (whole deepest) (ended deepest deep-enough);
+      ended
+          = λ cheap depth big. ended depth big;
     }

@@ -3,8 +3,8 @@ use Rattle.seq_tree.specs.Runs.{Protected}
 use Rattle.seq_tree.specs.Trees.{offer_of}
 use Rattle.seq_tree.specs.declared.tree.OpName.{OpName}
 use Rattle.seq_eval.specs.Following.{is_offered}
-use Rattle.seq_eval.specs.Targets.{callee_of, first_callee, found_in}
-use Rattle.seq_eval.proofs.targets.Targets.add_shared.Given as goal
+use Rattle.seq_eval.specs.Calls.{callee_of, first_callee, found_in}
+use Rattle.seq_eval.proofs.calls.Calls.add_shared.Given as goal
 
 -- those from here on are there
 abbrev pub invariant-shared : goal.invariant-shared

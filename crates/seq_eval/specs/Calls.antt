@@ -7,12 +7,12 @@ use Rattle.seq_tree.specs.Runs as runs
 use Rattle.seq_tree.specs.Trees.{operation_of}
 use Rattle.seq_tree.specs.declared.tree.OpName.{OpName}
 use Rattle.name_sets.specs.Tables.{at}
-use Rattle.seq_eval.specs.declared.targets.Target.{Target}
-use Rattle.seq_eval.specs.declared.targets.Target.TheVariants.{Plain, Protected, Asked}
-use Rattle.seq_eval.specs.declared.targets.Targets.{Targets}
+use Rattle.seq_eval.specs.declared.calls.Target.{Target}
+use Rattle.seq_eval.specs.declared.calls.Target.TheVariants.{Plain, Protected, Asked}
+use Rattle.seq_eval.specs.declared.calls.Calls.{Calls}
 
 -- what stands in the table under the names of an operation
-unfoldable pub found_in : Targets → OpName → Option Target
+unfoldable pub found_in : Calls → OpName → Option Target
 found_in t name = at t.table name
 
 -- what that is in the definitions
@@ -23,8 +23,8 @@ callee_of (Some (Protected params)) = runs.Protected params.now
 callee_of (Some Asked) = runs.Asked
 
 -- what calls lead to
-abbrev pub leads : Targets → Name → Name → Callee
-leads t object op = callee_of (found_in t (record { object = object; op = op }))
+abbrev pub calls_in : Calls → Name → Name → Callee
+calls_in t object op = callee_of (found_in t (record { object = object; op = op }))
 
 -- what the first of some leads to, where there is one
 abbrev pub first_callee : {A : Type 0} → (A → Callee) → Option A → Callee → Callee

@@ -3,8 +3,8 @@ use Rattle.seq_tree.specs.Runs.{Plain}
 use Rattle.seq_tree.specs.Trees.{operation_of}
 use Rattle.seq_tree.specs.declared.tree.OpName.{OpName}
 use Rattle.seq_eval.specs.Following.{is_plain}
-use Rattle.seq_eval.specs.Targets.{callee_of, first_callee, found_in}
-use Rattle.seq_eval.proofs.targets.Targets.add_passive.Given as goal
+use Rattle.seq_eval.specs.Calls.{callee_of, first_callee, found_in}
+use Rattle.seq_eval.proofs.calls.Calls.add_passive.Given as goal
 
 -- those from here on are there
 abbrev pub invariant-passive : goal.invariant-passive

@@ -1,11 +1,10 @@
 ghost use Rattle.std.specs.Prelude.{◌≡◌, None, Some, IfOk, OnOk, cond, find, length, map, zip};
 ghost use Rattle.seq_tree.specs.Calls.{same_op};
-ghost use Rattle.seq_tree.specs.Names.{Name as NameBytes};
 ghost use Rattle.seq_tree.specs.Runs.{Asked, Plain, Protected};
 ghost use Rattle.seq_tree.specs.Trees.{offer_of, operation_of};
 ghost use Rattle.seq_tree.specs.declared.tree.OpName.{OpName};
 ghost use Rattle.seq_eval.specs.Following.{callees, is_offered, is_plain};
-ghost use Rattle.seq_eval.specs.Targets.{callee_of, first_callee, found_in, leads};
+ghost use Rattle.seq_eval.specs.Calls.{callee_of, calls_in, first_callee, found_in};
 
 use name_sets::OpTable;
 use seq_tree::{Callable, Name, NoMemory, OpText, Param};
@@ -22,34 +21,34 @@ pub(crate) enum Target<'a> {
     Asked,
 }
 
-/// What the calls lead to, by the names of the object and of the operation. A call is looked up in the time of the logarithm of the number
-/// of operations.
+/// What calls lead to, by the names of the object and of the operation. A call is looked up in the time of the logarithm of the number of
+/// operations.
 #[derive(Drop)]
-pub(crate) struct Targets<'a> {
+pub struct Calls<'a> {
     table: OpTable<'a, Target<'a>>,
 }
 
-impl<'a> Targets<'a> {
+impl<'a> Calls<'a> {
     /// No operations.
-    #[tactic(auto, unfolding(crate::specs::Targets::found_in))]
-    fn none(alloc: Global) -> Targets<'a>
+    #[tactic(auto, unfolding(crate::specs::Calls::found_in))]
+    fn none(alloc: Global) -> Calls<'a>
         ensures { (n : OpName) → found_in result n ≡ None }
     {
-        Targets {
+        Calls {
             table: OpTable::new(alloc),
         }
     }
 
     /// What a call leads to, and `None` where it leads nowhere.
-    #[tactic(auto, unfolding(crate::specs::Targets::found_in))]
-    pub fn find(&self, object: &Name, op: &Name) -> Option<Target<'a>>
+    #[tactic(auto, unfolding(crate::specs::Calls::found_in))]
+    pub(crate) fn find(&self, object: &Name, op: &Name) -> Option<Target<'a>>
         ensures { result ≡ found_in self.now (record { object = object.now; op = op.now }) }
     {
         self.table.get(object, op)
     }
 
     /// Lets the calls of an operation lead to this, whatever they led to.
-    #[tactic(auto, unfolding(crate::specs::Targets::found_in))]
+    #[tactic(auto, unfolding(crate::specs::Calls::found_in))]
     fn put(
         &mut self,
         alloc: Global,
@@ -115,23 +114,26 @@ impl<'a> Targets<'a> {
         Ok(())
     }
 
-    /// What calls lead to where these operations may be called.
+    /// What calls lead to where these operations may be called: `owners` has the object of each of the `passive` operations, `shared` the
+    /// protected operations, and `requests` the operations by which tasks are requested. Of two operations of one name the first counts, and a
+    /// passive one before a protected one before a request.
+    ///
+    /// Time and memory grow with the number of operations, times its logarithm for the time.
     pub fn of(
         alloc: Global,
         passive: &'a [OpText],
         owners: &'a [Name],
         shared: &'a [Callable],
         requests: &'a [Callable],
-    ) -> Result<Targets<'a>, NoMemory>
+    ) -> Result<Calls<'a>, NoMemory>
         requires { length owners.now ≡ length passive.now }
-        ensures { IfOk result (λ t. (object op : NameBytes) → leads t object op
-            ≡ callees owners.entry.now (map operation_of passive.entry.now) (map offer_of shared.entry.now)
-            (map offer_of requests.entry.now) object op) }
+        ensures { IfOk result (λ c. calls_in c ≡ callees owners.entry.now (map operation_of passive.entry.now) (map offer_of shared.entry.now)
+            (map offer_of requests.entry.now)) }
     {
-        let mut targets = Targets::none(alloc);
-        targets.add_requests(alloc, requests)?;
-        targets.add_shared(alloc, shared)?;
-        targets.add_passive(alloc, passive, owners)?;
-        Ok(targets)
+        let mut calls = Calls::none(alloc);
+        calls.add_requests(alloc, requests)?;
+        calls.add_shared(alloc, shared)?;
+        calls.add_passive(alloc, passive, owners)?;
+        Ok(calls)
     }
 }

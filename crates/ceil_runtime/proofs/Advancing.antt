@@ -6,10 +6,9 @@ use Rattle.trace_tree.specs.declared.event.Event.TheVariants as event
 use Rattle.machine.specs.Systems.{System}
 use Rattle.machine.specs.Meanings.{Running, Rest, Tells}
 use Rattle.ceil_runtime.specs.Processing.{Follows}
-use Rattle.ceil_runtime.specs.Shown.{running_of}
+use Rattle.ceil_runtime.specs.Snapshots.{Snapshot, running_at}
 use Rattle.ceil_runtime.specs.Stepping.{EndsAt}
 use Rattle.ceil_runtime.specs.Turns.{FallsAt, Turned, last_turn}
-use Rattle.ceil_runtime.specs.declared.processor.Machine.{Machine}
 
 pub follows-none : (r : Running) → Follows r [] r
 follows-none r = record { system = refl; tells = λ rest h. h }
@@ -41,17 +40,17 @@ no_both : false ≡ true → ⊥
 no_both h = cc
 
 -- the answer to the last event says what the run has come to
-pub stop-turned : (e : Event) (m : Machine) (told : List Event) → told ≡ e ∷ [] → EndsAt e m → m.stopped ≡ true
-    → Turned (last_turn e) told (running_of m)
-stop-turned (event.Horizon time) m told is ends stopped = (([], is ∙ ap (λ n. event.Horizon n ∷ []) ends.0, refl), stopped)
-stop-turned (event.Stop time task unit priority ceiling) m told is ends stopped = (([], is, refl), stopped)
-stop-turned (event.Release time task v) m told is ends stopped = absurd (no_both (sym ends.1 ∙ stopped))
-stop-turned (event.Arrive time task v) m told is ends stopped = absurd (no_both (sym ends.1 ∙ stopped))
-stop-turned (event.Enter time task unit op values) m told is ends stopped = absurd (no_both (sym ends.1 ∙ stopped))
-stop-turned (event.Leave time task unit op values) m told is ends stopped = absurd (no_both (sym ends.1 ∙ stopped))
-stop-turned (event.Request time task target v) m told is ends stopped = absurd (no_both (sym ends.1 ∙ stopped))
-stop-turned (event.Print time task v) m told is ends stopped = absurd (no_both (sym ends.1 ∙ stopped))
-stop-turned (event.End time task used) m told is ends stopped = absurd (no_both (sym ends.1 ∙ stopped))
+pub stop-turned : (e : Event) (s : Snapshot) (told : List Event) → told ≡ e ∷ [] → EndsAt e s → s.stopped ≡ true
+    → Turned (last_turn e) told (running_at s)
+stop-turned (event.Horizon time) s told is ends stopped = (([], is ∙ ap (λ n. event.Horizon n ∷ []) ends.0, refl), stopped)
+stop-turned (event.Stop time task unit priority ceiling) s told is ends stopped = (([], is, refl), stopped)
+stop-turned (event.Release time task v) s told is ends stopped = absurd (no_both (sym ends.1 ∙ stopped))
+stop-turned (event.Arrive time task v) s told is ends stopped = absurd (no_both (sym ends.1 ∙ stopped))
+stop-turned (event.Enter time task unit op values) s told is ends stopped = absurd (no_both (sym ends.1 ∙ stopped))
+stop-turned (event.Leave time task unit op values) s told is ends stopped = absurd (no_both (sym ends.1 ∙ stopped))
+stop-turned (event.Request time task target v) s told is ends stopped = absurd (no_both (sym ends.1 ∙ stopped))
+stop-turned (event.Print time task v) s told is ends stopped = absurd (no_both (sym ends.1 ∙ stopped))
+stop-turned (event.End time task used) s told is ends stopped = absurd (no_both (sym ends.1 ∙ stopped))
 
 pub last-falls : (e : Event) (old new : ℕ) → FallsAt (last_turn e) old new
 last-falls (event.Horizon time) old new = tt

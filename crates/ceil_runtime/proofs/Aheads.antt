@@ -5,7 +5,7 @@ use Rattle.std.proofs.Common.{sym, ◌∙◌, ap, subst, arith, inl, inr}
 use Rattle.std.proofs.lemmas.Bool.Decides.{nat_tests}
 use Rattle.arrivals_tree.specs.declared.arrivals.Arrival.{Arrival}
 use Rattle.law_dispatching.specs.Jumping.{NoArrival}
-use Rattle.std.proofs.lemmas.Option.{slice_get_read}
+use Rattle.std.proofs.lemmas.Option.{same_Some, slice_get_read}
 use Rattle.link_queue.specs.Queues.{Each, Entry, IsOrdered, WakesBefore}
 use Rattle.link_queue.proofs.Shared.Lists.{each-map}
 use Rattle.ceil_runtime.specs.Processing.{IsWithin}
@@ -19,10 +19,7 @@ wake-most time n (e ∷ es) wake ordered first le =
     (here, each-map (WakesBefore e) (λ x. time + n ≤ x.1) es (λ x w. more x w) ordered.0)
   where
     same : wake ≡ e.1
-    same = some_same first
-      where
-        some_same : Some wake ≡ Some e.1 → wake ≡ e.1
-        some_same k = cc
+    same = same_Some wake e.1 first
 
     here : time + n ≤ e.1
     here = omega (arith, same)
@@ -33,21 +30,12 @@ wake-most time n (e ∷ es) wake ordered first le =
 
 pub wake-first : (time : ℕ) (es : List Entry) (wake : ℕ) → Each (λ e. time < e.1) es → Some wake ≡ option_map (λ e. e.1) (slice_get es 0)
     → time < wake
-wake-first time [] wake later first = absurd (none first)
-  where
-    none : Some wake ≡ None → ⊥
-    none k = cc
-wake-first time (e ∷ es) wake later first = let same : wake ≡ e.1 = some_same first in omega (arith, later.0)
-  where
-    some_same : Some wake ≡ Some e.1 → wake ≡ e.1
-    some_same k = cc
+wake-first time [] wake later first = absurd (cc first)
+wake-first time (e ∷ es) wake later first = let same : wake ≡ e.1 = same_Some wake e.1 first in omega (arith, later.0)
 
 pub wake-none : (P : Entry → Type 0) (es : List Entry) → None ≡ option_map (λ e. e.1) (slice_get es 0) → Each P es
 wake-none P [] none = tt
-wake-none P (e ∷ es) none = absurd (some none)
-  where
-    some : None ≡ Some e.1 → ⊥
-    some k = cc
+wake-none P (e ∷ es) none = absurd (cc none)
 
 pub each-fewer : (time n m : ℕ) (es : List Entry) → n ≤ m → Each (λ e. time + m ≤ e.1) es → Each (λ e. time + n ≤ e.1) es
 each-fewer time n m es le all = each-map (λ e. time + m ≤ e.1) (λ e. time + n ≤ e.1) es (λ e h. omega arith) all
@@ -63,10 +51,7 @@ first_task task level e first =
 
 pub head-known : (tasks : List Task) (es : List Entry) (task level : ℕ) → Each (λ e. e.0 < length tasks) es
     → ◌≡◌ {A = Option Entry} (Some (task, level)) (slice_get es 0) → task < length tasks
-head-known tasks [] task level all first = absurd (none first)
-  where
-    none : ◌≡◌ {A = Option Entry} (Some (task, level)) None → ⊥
-    none k = cc
+head-known tasks [] task level all first = absurd (cc first)
 head-known tasks (e ∷ es) task level all first = let same : task ≡ e.0 = first_task task level e first in omega (arith, all.0)
 
 pub within-head : (tasks : List Task) (es : List Entry) (task level n : ℕ) (t : Task) → Each (λ e. e.0 < length tasks) es
@@ -90,10 +75,7 @@ within-head tasks (e ∷ es) task level n t all first read le =
 
 pub within-none : (tasks : List Task) (es : List Entry) (n : ℕ) → None ≡ slice_get es 0 → IsWithin tasks es n
 within-none tasks [] n none = tt
-within-none tasks (e ∷ es) n none = absurd (some none)
-  where
-    some : None ≡ Some e → ⊥
-    some k = cc
+within-none tasks (e ∷ es) n none = absurd (cc none)
 
 -- no arrival before the first one that is still to come
 pub before-arrival : (arrivals : List Arrival) (a : Arrival) (others : List Arrival) (time n : ℕ) → arrivals ≡ a ∷ others

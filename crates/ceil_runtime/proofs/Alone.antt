@@ -1,6 +1,6 @@
 -- A task that goes on alone: what many ticks and their empty parts come to, and how its steps follow each other.
-use Rattle.std.specs.Prelude.{◌≡◌, ◌⊎◌, ℕ, zero, suc, ◌+◌, ◌-◌, ◌*◌, ◌<◌, ◌≤◌, max, min, Bool, true, false, nat_le, nat_lt, if◌then◌else◌}
-use Rattle.std.specs.Prelude.{List, [], ◌∷◌, drop, map, set, Option, Some, None, option_map, slice_get, refl}
+use Rattle.std.specs.Prelude.{◌≡◌, ◌⊎◌, ℕ, zero, suc, ◌+◌, ◌-◌, ◌*◌, ◌<◌, ◌≤◌, max, Bool, true, false, nat_le, nat_lt, if◌then◌else◌, List, [], ◌∷◌}
+use Rattle.std.specs.Prelude.{drop, map, set, Option, Some, None, option_map, slice_get, refl}
 use Rattle.std.proofs.Common.{sym, ◌∙◌, ap, subst, arith, inl, inr}
 use Rattle.std.proofs.lemmas.Bool.Decides.{nat_tests}
 use Rattle.std.proofs.lemmas.Option.{same_Some, slice_get-map}
@@ -14,13 +14,14 @@ use Rattle.machine.specs.Systems.{System}
 use Rattle.machine.specs.States as states
 use Rattle.law_dispatching.specs.Jumping.{NoArrival}
 use Rattle.law_dispatching.specs.Queueing.{AreSleeping, SleepsUntil}
+use Rattle.ceil_runtime.specs.Acted.{HasDone, IsActing}
 use Rattle.ceil_runtime.specs.Alone.{GoesAlone, IsAlone, threads_at}
-use Rattle.task_runtime.specs.Effort.{most_ends, sections_among}
-use Rattle.ceil_runtime.specs.Left.{left, ran_effort}
-use Rattle.ceil_runtime.specs.Processing.{Follows, HoldsIn, IsBelow, IsSound, IsWithin, state_by, system_by}
-use Rattle.ceil_runtime.specs.Shown.{IsWhole, running_of, stores_of}
-use Rattle.ceil_runtime.specs.Stepping.{AreOfTask, HasObject, HasOp, HasUnit, IsNear, IsOfTask, IsStep, steps_by, steps_left, told_of}
-use Rattle.task_runtime.specs.Works.{Acts, EffortFalls, StaysInside, task_of, used_ticks}
+use Rattle.task_runtime.specs.Effort.{most_ends}
+use Rattle.ceil_runtime.specs.Left.{ran_effort}
+use Rattle.ceil_runtime.specs.Processing.{Follows, IsBelow, IsSound, IsWithin, state_by, system_by}
+use Rattle.ceil_runtime.specs.Snapshots.{IsWholeAt, Snapshot, running_at}
+use Rattle.ceil_runtime.specs.Stepping.{AreOfTask, HasObject, HasOp, HasUnit, IsNear, IsOfTask, Steps, steps_by, steps_left, told_of}
+use Rattle.task_runtime.specs.Works.{Acts, task_of, used_ticks}
 use Rattle.task_runtime.specs.Written.{system_of}
 use Rattle.task_runtime.specs.Doing.{StaysOutside, act_of, is_silent}
 use Rattle.task_runtime.specs.Framed.{frames_of}
@@ -36,8 +37,6 @@ use Rattle.seq_tree.specs.Trees.{expression_of}
 use Rattle.seq_tree.specs.Values.{holds}
 use Rattle.trace_tree.specs.declared.event.Event.{Event}
 use Rattle.trace_tree.specs.declared.event.Event.TheVariants as event
-use Rattle.ceil_runtime.specs.declared.processor.Machine.{Machine}
-use Rattle.ceil_runtime.specs.declared.processor.Phase.{Phase}
 use Rattle.ceil_runtime.specs.declared.processor.Phase.TheVariants.{Effects, Delays, Arriving, Use}
 use Rattle.ceil_runtime.specs.declared.processor.Told.{Told}
 use Rattle.ceil_runtime.specs.declared.processor.Told.TheVariants.{Nothing, One, Two}
@@ -48,9 +47,10 @@ use Rattle.ceil_runtime.proofs.Advancing.{follows-none, follows-then}
 use Rattle.ceil_runtime.proofs.Effected.{end-run, end-sound}
 use Rattle.ceil_runtime.proofs.Falling.{falls-use, left_by}
 use Rattle.ceil_runtime.proofs.Nearing.{nears-ticks, ran-few}
+use Rattle.ceil_runtime.proofs.Phases.{acting}
 use Rattle.ceil_runtime.proofs.Processed.{Changed, arriving-goes, changed-system, follows-of, get-set_same, get_within, use-run, use-sound}
 use Rattle.ceil_runtime.proofs.Released.{delays-over, going-active}
-use Rattle.ceil_runtime.proofs.Stepped.{IsBeside, going-step, running-sound}
+use Rattle.ceil_runtime.proofs.Stepped.{going-step}
 use Rattle.task_runtime.proofs.Shared.AtWork.{nests-going}
 
 -- put before its equals, a task that no other goes before is the first
@@ -212,85 +212,55 @@ still-below tasks i t t' ready here same below u at =
     let now : t' ≡ u = get-set_same tasks i t' u (get_within i tasks t here) at in
     subst (λ (n : ℕ). IsBelow n ready) (sym same ∙ ap (λ (v : Task). v.active) now) below
 
--- the ticks of the running task of a machine
-module _ (m : Machine) (i : ℕ) (whole : IsWhole m) (phase : m.phase ≡ Effects (Some i)) (on : m.stopped ≡ false) (limit : ℕ)
-    (alone : IsAlone m i limit) (t t' : Task) (ticks : ℕ) (here : slice_get m.tasks.items i ≡ Some t) (all : t.left ≡ ticks) (some : 0 < ticks)
-    (fits : m.time + ticks ≤ limit) (does : task_of t' ≡ used_ticks ticks (task_of t)) (thread : t'.progress.stack.thread ≡ t.progress.stack.thread)
+-- the ticks of the running task of a processor
+module _ (s : Snapshot) (i : ℕ) (whole : IsWholeAt (acting s i)) (limit : ℕ) (alone : IsAlone (acting s i) i limit) (t t' : Task) (ticks : ℕ)
+    (here : slice_get s.tasks i ≡ Some t) (all : t.left ≡ ticks) (some : 0 < ticks) (fits : s.time + ticks ≤ limit)
+    (does : task_of t' ≡ used_ticks ticks (task_of t)) (thread : t'.progress.stack.thread ≡ t.progress.stack.thread)
     (ready : t'.readiness ≡ t.readiness) where
   abbrev tasks_now : List Task
-  tasks_now = set m.tasks.items i t'
+  tasks_now = set s.tasks i t'
 
-  changed : Changed m.tasks.items tasks_now i t t' (used_ticks ticks)
+  changed : Changed s.tasks tasks_now i t t' (used_ticks ticks)
   changed = record { here = here; set_is = refl; does = does; thread = thread }
 
-  sound : IsSound m.until m.time (Effects (Some i)) (Some i) m.units.now m.tasks.items m.links
-  sound = running-sound m i whole phase on
-
-  ran : m.ran ≡ Some i
-  ran = (subst (λ (p : Phase). HoldsIn p m.until m.time m.ran m.tasks.items m.links) phase whole.sound.here).0
-
-  horizon_then : m.time + ticks ≤ m.until
+  horizon_then : s.time + ticks ≤ s.until
   horizon_then = omega (arith, fits, alone.horizon)
 
-  wake_then : Each (λ e. m.time + ticks ≤ e.1) m.links.asleep
-  wake_then = each-map (λ e. limit ≤ e.1) (λ e. m.time + ticks ≤ e.1) m.links.asleep (λ e h. omega (arith, h, fits)) alone.wake
+  wake_then : Each (λ e. s.time + ticks ≤ e.1) s.queues.asleep
+  wake_then = each-map (λ e. limit ≤ e.1) (λ e. s.time + ticks ≤ e.1) s.queues.asleep (λ e h. omega (arith, h, fits)) alone.wake
 
-  quiet_then : (n : ℕ) → m.time ≤ n → n < m.time + ticks → NoArrival n m.arrivals.now
+  quiet_then : (n : ℕ) → s.time ≤ n → n < s.time + ticks → NoArrival n s.arrivals
   quiet_then n from before = alone.arrival n from (omega (arith, before, fits))
 
-  pub below_then : IsBelow t.active m.links.ready
+  below_then : IsBelow t.active s.queues.ready
   below_then = alone.first (omega (arith, some, fits)) t here
 
-  pub pass-sound : IsSound m.until (m.time + ticks) m.phase m.ran m.units.now tasks_now m.links
-  pass-sound =
-      subst (λ (p : Phase). IsSound m.until (m.time + ticks) p m.ran m.units.now tasks_now m.links) (sym phase)
-      (subst (λ (r : Option ℕ). IsSound m.until (m.time + ticks) (Effects (Some i)) r m.units.now tasks_now m.links) (sym ran)
-      (passed-sound (stores_of m) m.arrivals.now m.until m.time m.costs m.units.now i m.tasks.items m.links sound t t' tasks_now ticks changed all
-      some horizon_then wake_then quiet_then below_then ready))
-
-  pub pass-follows : Follows (running_of m) [] (record {
-    system = system_by m.until m.costs m.units.now tasks_now;
-    state = state_by (stores_of m) m.arrivals.now (m.time + ticks) m.phase m.ran m.stopped tasks_now m.links.ready;
-  })
-  pass-follows =
-      let P : Phase → Option ℕ → Bool → Type 0 =
-      λ p r b. Follows (record {
-        system = system_by m.until m.costs m.units.now m.tasks.items;
-        state = state_by (stores_of m) m.arrivals.now m.time p r b m.tasks.items m.links.ready;
-      }) [] (record {
-        system = system_by m.until m.costs m.units.now tasks_now;
-        state = state_by (stores_of m) m.arrivals.now (m.time + ticks) p r b tasks_now m.links.ready;
-      }) in
-      subst (λ p. P p m.ran m.stopped) (sym phase)
-      (subst (λ r. P (Effects (Some i)) r m.stopped) (sym ran)
-      (subst (λ b. P (Effects (Some i)) (Some i) b) (sym on)
-      (passed-follows (stores_of m) m.arrivals.now m.until m.time m.costs m.units.now i m.tasks.items m.links sound t t' tasks_now ticks changed all
-      some horizon_then wake_then quiet_then below_then ready)))
-
-  pub pass-nears : steps_by m.arrivals.now (most_ends (system_by m.until m.costs m.units.now tasks_now)) m.until (m.time + ticks) m.phase tasks_now
-      m.ran ≤ steps_left m
-  pass-nears =
-      let P : Phase → Option ℕ → Type 0 =
-      λ p r. steps_by m.arrivals.now (most_ends (system_by m.until m.costs m.units.now tasks_now)) m.until (m.time + ticks) p tasks_now r
-      ≤ steps_by m.arrivals.now (most_ends (system_by m.until m.costs m.units.now m.tasks.items)) m.until m.time p m.tasks.items r in
-      subst (λ p. P p m.ran) (sym phase) (subst (λ r. P (Effects (Some i)) r) (sym ran)
-      (passed-nears (stores_of m) m.arrivals.now m.until m.time m.costs m.units.now i m.tasks.items m.links sound t t' tasks_now ticks changed all
-      some horizon_then wake_then quiet_then below_then ready))
-
-  pub pass-falls : left_by (stores_of m) m.arrivals.now m.until m.costs m.units.now (m.time + ticks) m.phase m.ran m.stopped tasks_now m.links.ready
-      ≤ left (running_of m)
-  pass-falls =
-      let P : Phase → Option ℕ → Bool → Type 0 =
-      λ p r b. left_by (stores_of m) m.arrivals.now m.until m.costs m.units.now (m.time + ticks) p r b tasks_now m.links.ready
-      ≤ left_by (stores_of m) m.arrivals.now m.until m.costs m.units.now m.time p r b m.tasks.items m.links.ready in
-      subst (λ p. P p m.ran m.stopped) (sym phase)
-      (subst (λ r. P (Effects (Some i)) r m.stopped) (sym ran)
-      (subst (λ b. P (Effects (Some i)) (Some i) b) (sym on)
-      (passed-falls (stores_of m) m.arrivals.now m.until m.time m.costs m.units.now i m.tasks.items m.links sound t t' tasks_now ticks changed all
-      some horizon_then wake_then quiet_then below_then ready)))
-
-  pub alone-later : IsAlone m i limit → (m.time + ticks < limit → (u : Task) → slice_get tasks_now i ≡ Some u → IsBelow u.active m.links.ready)
-  alone-later a = λ less u at. still-below m.tasks.items i t t' m.links.ready here (ap (λ v. v.active) does) below_then u at
+  pub pass-goes : GoesAlone (acting s i) (record (acting s i) { time = s.time + ticks; tasks = tasks_now }) i limit
+  pass-goes = record {
+    acting = record {
+      whole = record {
+        sound = passed-sound s.stores s.arrivals s.until s.time s.costs s.units i s.tasks s.queues whole.sound t t' tasks_now ticks changed all some
+            horizon_then wake_then quiet_then below_then ready;
+        callees = whole.callees;
+      };
+      phase = refl;
+      goes_on = refl;
+    };
+    alone = record {
+      later = fits;
+      horizon = alone.horizon;
+      wake = alone.wake;
+      arrival = λ n from before. alone.arrival n (omega (arith, from)) before;
+      first = λ less u at. still-below s.tasks i t t' s.queues.ready here (ap (λ v. v.active) does) below_then u at;
+    };
+    follows = passed-follows s.stores s.arrivals s.until s.time s.costs s.units i s.tasks s.queues whole.sound t t' tasks_now ticks changed all some
+        horizon_then wake_then quiet_then below_then ready;
+    threads = threads-put s.tasks i t t' here thread;
+    nears = passed-nears s.stores s.arrivals s.until s.time s.costs s.units i s.tasks s.queues whole.sound t t' tasks_now ticks changed all some
+        horizon_then wake_then quiet_then below_then ready;
+    falls = passed-falls s.stores s.arrivals s.until s.time s.costs s.units i s.tasks s.queues whole.sound t t' tasks_now ticks changed all some
+        horizon_then wake_then quiet_then below_then ready;
+  }
 
 -- no release comes before the present time
 pub asleep-from : (tasks : List states.Task) (time : ℕ) (es : List Entry) → AreSleeping tasks time es → Each (λ e. time ≤ e.1) es
@@ -309,26 +279,22 @@ pub each-most : (n m : ℕ) (es : List Entry) → n ≤ m → Each (λ e. m ≤ 
 each-most n m es le all = each-map (λ e. m ≤ e.1) (λ e. n ≤ e.1) es (λ e h. omega (arith, h, le)) all
 
 -- no steps
-pub alone-none : (m : Machine) (i limit : ℕ) → IsWhole m → m.phase ≡ Effects (Some i) → m.stopped ≡ false → IsAlone m i limit → GoesAlone m m i limit
-alone-none m i limit whole phase on alone = record {
-  whole = whole;
-  phase = phase;
-  goes_on = on;
+pub alone-none : (s : Snapshot) (i limit : ℕ) → IsActing s i → IsAlone s i limit → GoesAlone s s i limit
+alone-none s i limit acting alone = record {
+  acting = acting;
   alone = alone;
-  follows = follows-none (running_of m);
+  follows = follows-none (running_at s);
   threads = refl;
   nears = omega arith;
   falls = omega arith;
 }
 
 -- steps that follow each other
-pub alone-both : (m m' m'' : Machine) (i limit : ℕ) → GoesAlone m m' i limit → GoesAlone m' m'' i limit → GoesAlone m m'' i limit
-alone-both m m' m'' i limit a b = record {
-  whole = b.whole;
-  phase = b.phase;
-  goes_on = b.goes_on;
+pub alone-both : (s s' s'' : Snapshot) (i limit : ℕ) → GoesAlone s s' i limit → GoesAlone s' s'' i limit → GoesAlone s s'' i limit
+alone-both s s' s'' i limit a b = record {
+  acting = b.acting;
   alone = b.alone;
-  follows = follows-then (running_of m) (running_of m') (running_of m'') [] a.follows b.follows;
+  follows = follows-then (running_at s) (running_at s') (running_at s'') [] a.follows b.follows;
   threads = b.threads ∙ a.threads;
   nears = omega (arith, a.nears, b.nears);
   falls = omega (arith, a.falls, b.falls);
@@ -350,10 +316,7 @@ module _ (tasks tasks' : List Task) (same : threads_at tasks' ≡ threads_at tas
 
       by_task : (o : Option Task) → slice_get tasks place ≡ o
           → (t : Task) × (slice_get tasks place ≡ Some t) × (t'.progress.stack.thread ≡ t.progress.stack.thread)
-      by_task None e = absurd (none (sym (ap (option_map thread_at) e) ∙ both))
-        where
-          none : None ≡ Some (thread_at t') → ⊥
-          none k = cc
+      by_task None e = absurd (cc (sym (ap (option_map thread_at) e) ∙ both))
       by_task (Some t) e = (t, e, sym (same_Some (thread_at t) (thread_at t') (sym (ap (option_map thread_at) e) ∙ both)))
 
   unit-before : (unit : ℕ) → HasUnit tasks' unit → HasUnit tasks unit
@@ -409,17 +372,17 @@ module _ (tasks tasks' : List Task) (same : threads_at tasks' ≡ threads_at tas
   told-before (Two e f) h = (event-before e h.0, event-before f h.1)
 
 -- a step after them
-pub alone-then : (m m' m'' : Machine) (i limit : ℕ) (told : Told) → GoesAlone m m' i limit → IsStep m' told m'' → IsStep m told m''
-alone-then m m' m'' i limit told a s = record {
-  whole = s.whole;
-  follows = follows-then (running_of m) (running_of m') (running_of m'') (told_of told) a.follows s.follows;
-  ends = s.ends;
-  nears = near told s.nears;
-  of = told-before m.tasks.items m'.tasks.items a.threads told s.of;
-  falls = λ on. let h = s.falls on in omega (arith, h, a.falls);
+pub alone-then : (s s' s'' : Snapshot) (i limit : ℕ) (told : Told) → GoesAlone s s' i limit → Steps s' told s'' → Steps s told s''
+alone-then s s' s'' i limit told a b = record {
+  whole = b.whole;
+  follows = follows-then (running_at s) (running_at s') (running_at s'') (told_of told) a.follows b.follows;
+  ends = b.ends;
+  nears = near told b.nears;
+  of = told-before s.tasks s'.tasks a.threads told b.of;
+  falls = λ on. let h = b.falls on in omega (arith, h, a.falls);
 }
   where
-    near : (events : Told) → IsNear events m' m'' → IsNear events m m''
+    near : (events : Told) → IsNear events s' s'' → IsNear events s s''
     near Nothing h = omega (arith, h, a.nears)
     near (One e) h = tt
     near (Two e f) h = tt
@@ -490,51 +453,39 @@ acts-silent z costs t t' p act started_is silent a =
     ∙ silent-done z p frames.away (task_of t).vars a.rest silent)
 
 -- the effect of a piece that is nothing to others
-module _ (m : Machine) (i : ℕ) (whole : IsWhole m) (phase : m.phase ≡ Effects (Some i)) (on : m.stopped ≡ false) (t t' : Task)
-    (here : slice_get m.tasks.items i ≡ Some t) (used : t.left ≡ 0) (p : piece.Piece) (started_is : t.progress.piece ≡ Some p)
-    (silent : is_silent p ≡ true) (act : Act) (acts_are : Acts (system_of t.progress.stack.thread) m.costs (task_of t) act (task_of t'))
-    (thread : t'.progress.stack.thread ≡ t.progress.stack.thread) (works : t'.works ≤ t.works + min t'.left 1)
-    (falls : EffortFalls t.progress.stack.thread (task_of t) (task_of t'))
-    (inside : StaysInside (act_of act) (sections_among (task_of t).pieces) (sections_among (task_of t').pieces)) where
-  silent_is : act ≡ acts.Silent
-  silent_is = acts-silent (system_of t.progress.stack.thread) m.costs t t' p act started_is silent acts_are
-
-  a : Acts (system_of t.progress.stack.thread) m.costs (task_of t) acts.Silent (task_of t')
-  a = subst (λ (x : Act). Acts (system_of t.progress.stack.thread) m.costs (task_of t) x (task_of t')) silent_is acts_are
-
-  same_inside : sections_among (task_of t').pieces ≡ sections_among (task_of t).pieces
-  same_inside = subst (λ (x : Act). StaysInside (act_of x) (sections_among (task_of t).pieces) (sections_among (task_of t').pieces)) silent_is inside
+module _ (s : Snapshot) (i : ℕ) (whole : IsWholeAt (acting s i)) (t t' : Task) (here : slice_get s.tasks i ≡ Some t) (due : t.left ≡ 0)
+    (p : piece.Piece) (started_is : t.progress.piece ≡ Some p) (silent : is_silent p ≡ true) (act : Act) (d : HasDone s.costs act t t') where
+  silent_done : HasDone s.costs acts.Silent t t'
+  silent_done = subst (λ (x : Act). HasDone s.costs x t t')
+      (acts-silent (system_of t.progress.stack.thread) s.costs t t' p act started_is silent d.acts) d
 
   same_active : t'.active ≡ t.active
-  same_active = ap (λ u. u.active) a.after ∙ going-active m.costs a.vars a.pieces (task_of t)
+  same_active = ap (λ u. u.active) silent_done.acts.after ∙ going-active s.costs silent_done.acts.vars silent_done.acts.pieces (task_of t)
 
-  module _ (m' : Machine) (b : IsBeside m m' (Effects (Some i))) (items : m'.tasks.items ≡ set m.tasks.items i t') (links : m'.links ≡ m.links)
-      (stores : stores_of m' ≡ stores_of m) where
-    silent-step : IsStep m Nothing m'
-    silent-step = going-step m i whole phase on t t' here used acts.Silent a thread works falls
-        (nests-going t t' m.costs a.vars a.pieces a.after same_inside) m' b items links stores a.after Nothing refl (b.stopped ∙ on) tt (omega arith)
+  silent-step : Steps (acting s i) Nothing (record (acting s i) { tasks = set s.tasks i t' })
+  silent-step =
+      let a = silent_done.acts in
+      going-step s i whole t t' here due acts.Silent silent_done (nests-going t t' s.costs a.vars a.pieces a.after silent_done.inside)
+      a.after Nothing refl refl tt (omega arith)
 
-    pub silent-goes : (limit : ℕ) → IsAlone m i limit → GoesAlone m m' i limit × (steps_left m' < steps_left m)
-    silent-goes limit alone =
-        let s = silent-step in (
-          record {
-            whole = s.whole s.ends;
-            phase = b.phase;
-            goes_on = s.ends;
-            alone = record {
-              later = subst (λ (n : ℕ). n ≤ limit) (sym b.time) alone.later;
-              horizon = subst (λ (n : ℕ). limit ≤ n) (sym b.until) alone.horizon;
-              wake = subst (λ (q : Queues). Each (λ e. limit ≤ e.1) q.asleep) (sym links) alone.wake;
-              arrival = λ n from before. subst (NoArrival n) (sym b.arrivals)
-                  (alone.arrival n (subst (λ (k : ℕ). k ≤ n) b.time from) before);
-              first = λ less u at. subst (λ (q : Queues). IsBelow u.active q.ready) (sym links)
-                  (still-below m.tasks.items i t t' m.links.ready here same_active
-                  (alone.first (subst (λ (k : ℕ). k < limit) b.time less) t here) u (ap (λ ts. slice_get ts i) (sym items) ∙ at));
-            };
-            follows = s.follows;
-            threads = ap threads_at items ∙ threads-put m.tasks.items i t t' here thread;
-            nears = omega (arith, s.nears);
-            falls = let h = s.falls s.ends in omega (arith, h);
-          },
-          s.nears,
-        )
+  pub silent-goes : (limit : ℕ) → IsAlone (acting s i) i limit
+      → GoesAlone (acting s i) (record (acting s i) { tasks = set s.tasks i t' }) i limit
+      × (steps_left (record (acting s i) { tasks = set s.tasks i t' }) < steps_left (acting s i))
+  silent-goes limit alone =
+      let step = silent-step in (
+        record {
+          acting = record { whole = step.whole refl; phase = refl; goes_on = refl };
+          alone = record {
+            later = alone.later;
+            horizon = alone.horizon;
+            wake = alone.wake;
+            arrival = alone.arrival;
+            first = λ less u at. still-below s.tasks i t t' s.queues.ready here same_active (alone.first less t here) u at;
+          };
+          follows = step.follows;
+          threads = threads-put s.tasks i t t' here d.thread;
+          nears = omega (arith, step.nears);
+          falls = let h = step.falls refl in omega (arith, h);
+        },
+        step.nears,
+      )

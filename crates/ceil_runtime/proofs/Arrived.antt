@@ -1,6 +1,6 @@
 -- An arrival whose time has come: the task of its unit keeps the value, and is released where it waits.
-use Rattle.std.specs.Prelude.{◌≡◌, ℕ, suc, ◌+◌, ◌<◌, ◌≤◌, min, Bool, true, false, ◌&&◌, ◌==◌, if◌then◌else◌, List, [], ◌∷◌, length, map, Option}
-use Rattle.std.specs.Prelude.{Some, None, option_map, slice_get, refl}
+use Rattle.std.specs.Prelude.{◌≡◌, ℕ, suc, ◌+◌, ◌<◌, ◌≤◌, min, Bool, true, false, ◌&&◌, ◌==◌, if◌then◌else◌, List, [], ◌∷◌, length, map, Option, Some}
+use Rattle.std.specs.Prelude.{None, option_map, slice_get, refl}
 use Rattle.std.proofs.Common.{sym, ◌∙◌, ap, subst, arith, drop, drop-cons, add-one, get_or}
 use Rattle.std.proofs.lemmas.Bool.Decides.{nat_tests}
 use Rattle.std.proofs.lemmas.List.{length-map}
@@ -43,16 +43,13 @@ pub record IsFound {A : Type 0} (test : A → Bool) (n k : ℕ) (xs : List A) : 
 
 pub found-first : {A : Type 0} (test : A → Bool) (n k : ℕ) (xs : List A) → option_map (λ (x : ℕ × A). x.0) (first_from n test xs) ≡ Some k
     → IsFound test n k xs
-found-first test n k [] h = absurd (none h)
-  where
-    none : None ≡ Some k → ⊥
-    none e = cc
+found-first test n k [] h = absurd (cc h)
 found-first {A} test n k (x ∷ xs) h = by_test (test x) refl (found-first test (suc n) k xs) h
   where
     by_test : (b : Bool) → test x ≡ b → (option_map (λ (y : ℕ × A). y.0) (first_from (suc n) test xs) ≡ Some k → IsFound test (suc n) k xs)
         → option_map (λ (y : ℕ × A). y.0) (if b then Some (n, x) else first_from (suc n) test xs) ≡ Some k → IsFound test n k (x ∷ xs)
     by_test true e more g =
-        let same : n ≡ k = same_place g in
+        let same : n ≡ k = same_Some n k g in
         record {
           item = x;
           first = ap (λ b. if b then Some (n, x) else first_from (suc n) test xs) e ∙ ap (λ m. Some (m, x)) same;
@@ -61,9 +58,6 @@ found-first {A} test n k (x ∷ xs) h = by_test (test x) refl (found-first test 
           at = refl;
           passes = e;
         }
-      where
-        same_place : Some n ≡ Some k → n ≡ k
-        same_place l = cc
     by_test false e more g =
         let f : IsFound test (suc n) k xs = more g in
         record {
@@ -132,10 +126,7 @@ module _ (stores : List Variables) (a : Arrival) (others : List Arrival) (until 
           → arrive_at (system_by until costs us tasks) a o (state_by stores others time Arriving ran false tasks q.ready)
           ≡ (state_by stores others time Arriving ran false tasks q.ready, [])
       by_found None h = refl
-      by_found (Some t) h = absurd (some h)
-        where
-          some : {k : ℕ} → None ≡ Some k → ⊥
-          some e = cc
+      by_found (Some t) h = absurd (cc h)
 
   -- the first task of its unit
   module _ (i : ℕ) (found : Some i ≡ option_map (λ (t : ℕ × states.Task). t.0) (first_where (is_of a.task) (map task_of tasks))) where

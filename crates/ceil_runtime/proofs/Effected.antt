@@ -1,6 +1,6 @@
 -- The effect of the piece of the task that used the tick before.
-use Rattle.std.specs.Prelude.{◌≡◌, ◌⊎◌, ℕ, zero, suc, ◌+◌, ◌<◌, ◌≤◌, max, min, Bool, true, false, ◌&&◌, ◌==◌, if◌then◌else◌, List, [], ◌∷◌}
-use Rattle.std.specs.Prelude.{length, map, Option, Some, None, option_map, slice_get, ℤ, refl}
+use Rattle.std.specs.Prelude.{◌≡◌, ◌⊎◌, ℕ, zero, suc, ◌+◌, ◌<◌, ◌≤◌, max, min, Bool, true, false, ◌&&◌, ◌==◌, if◌then◌else◌, List, [], ◌∷◌, length}
+use Rattle.std.specs.Prelude.{map, Option, Some, None, option_map, slice_get, ℤ, refl}
 use Rattle.std.proofs.Common.{sym, ◌∙◌, ap, subst, arith, inl, inr}
 use Rattle.std.proofs.lemmas.Bool.Decides.{nat_tests}
 use Rattle.std.proofs.lemmas.List.{length-map}
@@ -15,7 +15,7 @@ use Rattle.link_queue.specs.Queues.{Entry, IsFree, Queues, at_head, at_tail, in_
 use Rattle.machine.specs.Pieces.{Piece}
 use Rattle.machine.specs.Systems.{System, ReleasePattern, Periodic, Requested}
 use Rattle.machine.specs.States as states
-use Rattle.machine.specs.States.{Asleep, Waiting, Ready}
+use Rattle.machine.specs.States.{Asleep, Ready}
 use Rattle.machine.specs.Deeds.{deed, done}
 use Rattle.machine.specs.Dispatch.{put_last}
 use Rattle.machine.specs.Releases.{Next, after, going, is_waiting, released, serve}
@@ -300,14 +300,8 @@ module _ (stores : List Variables) (arrivals : List Arrival) (until time : ℕ) 
 
 -- a task that ends its activation is ready no more
 pub resting-apart : (w : ReleasePattern) (next : ℕ) → resting w next ≡ Ready → ⊥
-resting-apart (Periodic offset period) next h = clash' h
-  where
-    clash' : Asleep next ≡ Ready → ⊥
-    clash' k = cc
-resting-apart (Requested op ceiling separation jitter external) next h = clash' h
-  where
-    clash' : Waiting ≡ Ready → ⊥
-    clash' k = cc
+resting-apart (Periodic offset period) next h = cc h
+resting-apart (Requested op ceiling separation jitter external) next h = cc h
 
 -- the end of an activation
 module _ (stores : List Variables) (arrivals : List Arrival) (until time : ℕ) (costs : Costs) (us : List units.Unit) (i : ℕ) (tasks : List Task)
@@ -410,10 +404,7 @@ module _ (stores : List Variables) (arrivals : List Arrival) (until time : ℕ) 
       rests u h = ap (λ v. is_ready v.readiness) (sym h) ∙ ended-rests
 
   awake : (k : ℕ) → (task_of t).readiness ≡ Asleep k → ⊥
-  awake k h = wrong (sym (is-ready until time us i (Some i) tasks q sound t here) ∙ h)
-    where
-      wrong : Ready ≡ Asleep k → ⊥
-      wrong e = cc
+  awake k h = cc (sym (is-ready until time us i (Some i) tasks q sound t here) ∙ h)
 
   -- it sleeps
   pub finish-sound : (q' : Queues) → t'.readiness ≡ readies.Asleep → q' ≡ record q { asleep = in_time (i, max t'.next time) q.asleep }

@@ -1,30 +1,31 @@
 -- The protected object that a task of a machine enters or leaves: it is there, and its data have the names that are written.
-use Rattle.std.specs.Prelude.{◌≡◌, ℕ, ◌+◌, ◌<◌, ◌^◌, List, [], ◌∷◌, fold, length, map, take, zero, suc, Some, slice_get, refl}
-use Rattle.std.proofs.Common.{sym, ◌∙◌, ap, arith}
+use Rattle.std.specs.Prelude.{◌≡◌, ℕ, ◌+◌, ◌<◌, ◌^◌, List, [], ◌∷◌, fold, get_or, length, map, take, Some, slice_get, refl}
+use Rattle.std.proofs.Common.{sym, ◌∙◌, ap, subst, arith}
 use Rattle.std.proofs.lemmas.List.{length-map, take_all}
+use Rattle.std.proofs.lemmas.Option.{same_Some, slice_get_read, slice_get_within}
 use Rattle.seq_tree.specs.Names.{Name}
 use Rattle.seq_tree.specs.Variables.{Variables, written}
 use Rattle.seq_tree.specs.declared.tree.Datum.{Datum}
 use Rattle.ada_tree.specs.Trees.{unit_of}
 use Rattle.task_runtime.specs.Fitting.{IsOfObject, entry_names, names_of}
 use Rattle.task_runtime.specs.Libraries.{objects_from}
+use Rattle.ceil_runtime.specs.Acted.{IsDoing}
 use Rattle.ceil_runtime.specs.Objects.{AreObjectsOf, first_object, lasting, shown}
 use Rattle.ceil_runtime.specs.Processing.{AreAlike}
 use Rattle.task_runtime.specs.Stacked.{vars_of, with_var}
+use Rattle.ceil_runtime.specs.Shown.{snapshot_of}
 use Rattle.ceil_runtime.specs.Stepping.{HasObject, HasOp}
 use Rattle.task_runtime.specs.Written.{system_of}
 use Rattle.ceil_runtime.specs.declared.object.Object.{Object}
+use Rattle.ceil_runtime.specs.declared.processor.Machine.{Machine}
+use Rattle.task_runtime.specs.declared.effects.Deed.{Deed}
 use Rattle.task_runtime.specs.declared.piece.Entry.{Entry}
+use Rattle.task_runtime.specs.declared.piece.Piece.{Piece}
 use Rattle.task_runtime.specs.declared.task.Task.{Task}
 use Rattle.task_runtime.specs.declared.values.Var.{Var}
 use Rattle.ada_tree.specs.declared.program.Unit as units
+use Rattle.ceil_runtime.proofs.Phases.{doing-here}
 use Rattle.ceil_runtime.proofs.ObjectsKept.{IsAt, IsEntered, entered-by, object-at}
-
--- the task at a place
-pub task-at : (tasks : List Task) (i : ℕ) → i < length tasks → (t : Task) × (slice_get tasks i ≡ Some t)
-task-at [] i h = absurd (omega (arith, h))
-task-at (u ∷ us) zero h = (u, refl)
-task-at (u ∷ us) (suc i) h = task-at us i (omega (arith, h))
 
 -- the object of an entry
 pub record IsFound (us : List units.Unit) (os : List Object) (t : Task) (e : Entry) : Type 0 where
@@ -40,46 +41,48 @@ found-object us tasks os alike known i t here e of =
     = ap (λ y. slice_get y.objects e.object) (sym (alike i t here)) ∙ en.at in
     record { entered = en; at = at; is = object-at us os known e.object en.entered at }
 
-module _ (us : List units.Unit) (tasks : List Task) (os : List Object) (i : ℕ) (t : Task) (here : slice_get tasks i
-    ≡ Some t) (e : Entry) (o : Object) (there : slice_get os e.object ≡ Some o) (f : IsFound us os t e) where
-  same_object : f.is.object ≡ o
-  same_object = one (sym f.is.here ∙ there)
-    where
-      one : Some f.is.object ≡ Some o → f.is.object ≡ o
-      one k = cc
+-- a task of a machine at its place, and the object of its entry at its own
+pub record IsMet (m : Machine) (i : ℕ) (t : Task) (e : Entry) (o : Object) : Type 0 where
+  pub here : slice_get m.tasks.items i ≡ Some t
+  pub there : slice_get m.objects.items e.object ≡ Some o
+  pub found : IsFound m.units.now m.objects.items t e
 
-  pub found-shows : lasting (shown o) ≡ lasting (first_object f.entered.entered)
-  found-shows = ap (λ x. lasting (shown x)) (sym same_object) ∙ f.is.shows
+module _ (m : Machine) (i : ℕ) (t : Task) (e : Entry) (o : Object) (f : IsMet m i t e o) where
+  same_object : f.found.is.object ≡ o
+  same_object = same_Some f.found.is.object o (sym f.found.is.here ∙ f.there)
 
-  pub found-op : HasOp tasks o.unit e.place
+  pub found-shows : lasting (shown o) ≡ lasting (first_object f.found.entered.entered)
+  found-shows = ap (λ x. lasting (shown x)) (sym same_object) ∙ f.found.is.shows
+
+  pub found-op : HasOp m.tasks.items o.unit e.place
   found-op = record {
     place = i;
     task = t;
-    here = here;
+    here = f.here;
     object = e.object;
-    entered = f.entered.entered;
-    at = f.entered.at;
+    entered = f.found.entered.entered;
+    at = f.found.entered.at;
     is_unit = ap (λ x. x.unit) found-shows;
-    is_op = f.entered.is_op;
+    is_op = f.found.entered.is_op;
   }
 
-  pub found-unit : HasObject tasks o.unit
+  pub found-unit : HasObject m.tasks.items o.unit
   found-unit = record {
     place = i;
     task = t;
-    here = here;
+    here = f.here;
     object = e.object;
-    entered = f.entered.entered;
-    at = f.entered.at;
+    entered = f.found.entered.entered;
+    at = f.found.entered.at;
     is_unit = ap (λ x. x.unit) found-shows;
   }
 
   pub place-few : e.place < 2 ^ 32
-  place-few = let ops = ap (λ x. x.ops) found-shows in omega (arith, f.entered.is_op, ops, o.few)
+  place-few = let ops = ap (λ x. x.ops) found-shows in omega (arith, f.found.entered.is_op, ops, o.few)
 
   -- what is written of it
   pub same-written : written o.written.now ≡ written e.«data».now
-  same-written = ap (λ x. written x.vars) found-shows ∙ f.entered.vars
+  same-written = ap (λ x. written x.vars) found-shows ∙ f.found.entered.vars
 
   pub same-names : map (λ d. d.name) o.written.now ≡ entry_names e
   same-names = sym (of-written o.written.now) ∙ ap names_of same-written ∙ of-written e.«data».now
@@ -92,6 +95,26 @@ module _ (us : List units.Unit) (tasks : List Task) (os : List Object) (i : ℕ)
   same-count =
       let names = ap length same-names in
       omega (arith, names, length-map o.written.now (λ d. d.name), length-map e.«data».now (λ d. d.name))
+
+-- the object that a task of a machine enters or leaves
+module _ (m : Machine) (i : ℕ) (p : Piece) (d : Deed) (w : (t : Task) × IsDoing (snapshot_of m) i p d t) (e : Entry)
+    (of : IsOfObject (system_of w.0.progress.stack.thread) e) where
+  met_found : (t : Task) → slice_get m.tasks.items i ≡ Some t → IsFound m.units.now m.objects.items t e
+  met_found t here =
+      found-object m.units.now m.tasks.items m.objects.items w.1.acting.whole.sound.calls m.known i t here e
+      (subst (λ (u : Task). IsOfObject (system_of u.progress.stack.thread) e) (same_Some w.0 t (sym w.1.here ∙ here)) of)
+
+  pub met-within : e.object < length m.objects.items
+  met-within = let f = met_found w.0 w.1.here in slice_get_within m.objects.items e.object f.is.object f.is.here
+
+  pub met : (t : Task) → t ≡ get_or m.tasks.items i t → (o : Object) → o ≡ get_or m.objects.items e.object o → IsMet m i t e o
+  met t read o read_object =
+      let here = (doing-here (snapshot_of m) i p d w t read).here in
+      record {
+        here = here;
+        there = slice_get_read m.objects.items (length m.objects.items) e.object o refl met-within read_object;
+        found = met_found t here;
+      }
 
 -- variables are as many as their names
 length-vars : (rest : Variables) (vs : List Var) → length (fold with_var rest vs) ≡ length vs + length rest

@@ -1,5 +1,5 @@
 -- Examples of what a machine keeps and tells: for each definition one case that holds, and one that breaks it alone.
-use Rattle.std.specs.Prelude.{◌≡◌, ℕ, zero, suc, ◌+◌, ◌<◌, ◌≤◌, true, false, List, [], ◌∷◌, Option, Some, None, refl}
+use Rattle.std.specs.Prelude.{◌≡◌, ℕ, zero, suc, ◌+◌, ◌<◌, ◌≤◌, true, false, List, [], ◌∷◌, Some, None, refl}
 use Rattle.std.proofs.Common.{arith, sym, ◌∙◌}
 use Rattle.seq_tree.specs.declared.tree.Costs.{Costs}
 use Rattle.link_queue.specs.Queues.{Queues}
@@ -66,10 +66,7 @@ no-task : IsRunning (Some 0) (Some 0) [] → ⊥
 no-task h = let known : 0 < 0 = h.1 in omega (arith, known)
 
 another-ran : (tasks : List Task) → IsRunning (Some 0) (Some 1) tasks → ⊥
-another-ran tasks h = differ h.0
-  where
-    differ : ◌≡◌ {A = Option ℕ} (Some 1) (Some 0) → ⊥
-    differ k = cc
+another-ran tasks h = cc h.0
 
 -- where none has effects, no task used the tick before, or that one has no effect any more
 nobody-ran : (tasks : List Task) → IsRunning None None tasks
@@ -93,10 +90,7 @@ settled : IsSettled over
 settled phase = refl
 
 settled-not : IsSettled (record over { ran = Some 0 }) → ⊥
-settled-not h = some_none (h refl)
-  where
-    some_none : ◌≡◌ {A = Option ℕ} (Some 0) None → ⊥
-    some_none k = cc
+settled-not h = cc (h refl)
 
 follows : Follows at_end [] at_end
 follows = record { system = refl; tells = λ rest h. h }
@@ -108,18 +102,12 @@ tells-nothing (suc n) = tells-nothing n
 follows-not : Follows at_end (event.Horizon 0 ∷ []) at_end → ⊥
 follows-not f = wrong (f.tells [] (record { steps = 0; stops = refl; tells = refl }))
   where
-    some_none : event.Horizon 0 ∷ [] ≡ [] → ⊥
-    some_none k = cc
-
     wrong : Rest idle over (event.Horizon 0 ∷ []) → ⊥
-    wrong r = some_none (sym r.tells ∙ tells-nothing r.steps)
+    wrong r = cc (sym r.tells ∙ tells-nothing r.steps)
 
 -- events that are told count only while the run goes on
 falls : Falls at_end (event.Horizon 0 ∷ []) at_end
-falls goes_on = absurd (clash goes_on)
-  where
-    clash : true ≡ false → ⊥
-    clash k = cc
+falls goes_on = absurd (cc goes_on)
 
 falls-not : Falls at_end (event.Horizon 0 ∷ []) (record { system = idle; state = record over { stopped = false } }) → ⊥
 falls-not f = let less : 0 + 1 ≤ 0 = f refl in omega (arith, less)

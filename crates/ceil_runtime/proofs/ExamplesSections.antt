@@ -1,5 +1,5 @@
 -- Examples of the objects of a machine, and of what its events are of: for each definition one case that holds, and one that breaks it.
-use Rattle.std.specs.Prelude.{◌≡◌, ℕ, true, false, [], ◌∷◌, map, Some, None, slice_get, refl}
+use Rattle.std.specs.Prelude.{◌≡◌, true, false, [], ◌∷◌, map, slice_get, refl}
 use Rattle.std.proofs.Common.{ap, sym, ◌∙◌, arith}
 use Rattle.seq_tree.specs.Variables.{Variables}
 use Rattle.ada_tree.specs.Trees.{unit_of}
@@ -18,10 +18,7 @@ lasts : (store : Variables) → lasting (record (first_object object) { store = 
 lasts store = refl
 
 lasts-not : lasting (record (first_object object) { ceiling = 6 }) ≡ lasting (first_object object) → ⊥
-lasts-not h = differ (ap (λ o. o.ceiling) h)
-  where
-    differ : ◌≡◌ {A = ℕ} 6 5 → ⊥
-    differ k = cc
+lasts-not h = cc (ap (λ o. o.ceiling) h)
 
 -- the objects of units, in their order
 objects-of : (u : units.Unit) (o : objects.Object) → objects_from 0 (unit_of u ∷ []) ≡ object ∷ [] → lasting (shown o) ≡ lasting (first_object object)
@@ -29,34 +26,14 @@ objects-of : (u : units.Unit) (o : objects.Object) → objects_from 0 (unit_of u
 objects-of u o found same = ap (λ x. x ∷ []) same ∙ sym (ap (map (λ g. lasting (first_object g))) found)
 
 objects-of-not : (o : objects.Object) → AreObjectsOf [] (o ∷ []) → ⊥
-objects-of-not o h = some h
-  where
-    some : lasting (shown o) ∷ [] ≡ [] → ⊥
-    some k = cc
+objects-of-not o h = cc h
 
 -- a machine that has stopped is else as it was
 has-stopped : (m : Machine) → HasStopped m (record m { stopped = true })
-has-stopped m =
-    record {
-      tasks = refl;
-      objects = refl;
-      links = refl;
-      arrivals = refl;
-      units = refl;
-      callees = refl;
-      costs = refl;
-      until = refl;
-      time = refl;
-      phase = refl;
-      ran = refl;
-      stopped = refl;
-    }
+has-stopped m = refl
 
 has-stopped-not : (m : Machine) → HasStopped m (record m { stopped = false }) → ⊥
-has-stopped-not m h = runs h.stopped
-  where
-    runs : false ≡ true → ⊥
-    runs k = cc
+has-stopped-not m h = cc (ap (λ s. s.stopped) h)
 
 -- an operation of the object, which has one
 has-op : (t : Task) → system_of t.progress.stack.thread ≡ three → HasOp (t ∷ []) 1 0
@@ -72,7 +49,4 @@ has-op t same = record {
 }
 
 has-op-not : HasOp [] 1 0 → ⊥
-has-op-not h = none h.here
-  where
-    none : None ≡ Some h.task → ⊥
-    none k = cc
+has-op-not h = cc h.here

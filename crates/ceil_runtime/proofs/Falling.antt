@@ -1,12 +1,12 @@
 -- A run that goes on has as many events less to tell.
-use Rattle.std.specs.Prelude.{◌≡◌, ℕ, zero, suc, ◌+◌, ◌-◌, ◌*◌, ◌<◌, ◌≤◌, Bool, List, [], ◌∷◌, length, Option, Some, None, slice_get}
+use Rattle.std.specs.Prelude.{◌≡◌, ℕ, zero, suc, ◌+◌, ◌-◌, ◌*◌, ◌<◌, ◌≤◌, Bool, List, [], ◌∷◌, length, Option, Some, slice_get, map}
 use Rattle.std.proofs.Common.{sym, ◌∙◌, ap, arith}
+use Rattle.std.proofs.lemmas.Option.{same_Some}
 use Rattle.arrivals_tree.specs.declared.arrivals.Arrival.{Arrival}
 use Rattle.seq_tree.specs.Lists.{change}
 use Rattle.seq_tree.specs.Variables.{Variables}
 use Rattle.machine.specs.Systems.{System}
 use Rattle.machine.specs.States.{Task, Readiness, Asleep, Waiting, Ready}
-use Rattle.std.specs.Prelude.{map}
 use Rattle.std.proofs.lemmas.List.{length-map}
 use Rattle.seq_tree.specs.declared.tree.Costs.{Costs}
 use Rattle.ada_tree.specs.declared.program.Unit as units
@@ -26,19 +26,13 @@ use Rattle.ceil_runtime.proofs.Processed.{Changed, changed-system, changed-tasks
 -- the sum after one task has changed
 pub sleepers-change : (ts : List Task) (i : ℕ) (t : Task) (f : Task → Task) → slice_get ts i ≡ Some t
     → sleepers (change i f ts) + sleeper t.readiness ≡ sleepers ts + sleeper (f t).readiness
-sleepers-change [] i t f at = absurd (none at)
-  where
-    none : None ≡ Some t → ⊥
-    none k = cc
+sleepers-change [] i t f at = absurd (cc at)
 sleepers-change (u ∷ us) zero t f at =
-    let same : u ≡ t = some_same at in
+    let same : u ≡ t = same_Some u t at in
     let a : sleeper u.readiness ≡ sleeper t.readiness = ap (λ v. sleeper v.readiness) same in
     let b : sleeper (f u).readiness ≡ sleeper (f t).readiness = ap (λ v. sleeper (f v).readiness) same in
     sums (sleeper (f u).readiness) (sleeper u.readiness) (sleepers us) (sleeper t.readiness) (sleeper (f t).readiness) a b
   where
-    some_same : Some u ≡ Some t → u ≡ t
-    some_same k = cc
-
     sums : (a b s c d : ℕ) → b ≡ c → a ≡ d → a + s + c ≡ b + s + d
     sums a b s c d h k = omega arith
 sleepers-change (u ∷ us) (suc i) t f at = sums (sleeper u.readiness) (sleepers (change i f us)) (sleepers us) (sleeper t.readiness)

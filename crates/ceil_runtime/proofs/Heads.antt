@@ -7,10 +7,7 @@ use Rattle.ceil_runtime.specs.Processing.{IsWithin}
 use Rattle.task_runtime.specs.declared.task.Task.{Task}
 
 pub first-holds : (P : Entry → Type 0) (es : List Entry) (e : Entry) → slice_get es 0 ≡ Some e → Each P es → P e
-first-holds P [] e at h = absurd (wrong at)
-  where
-    wrong : slice_get [] 0 ≡ Some e → ⊥
-    wrong k = cc
+first-holds P [] e at h = absurd (cc at)
 first-holds P (f ∷ fs) e at h = subst P (same_Some f e at) h.0
 
 -- at most the ticks left, or one
@@ -30,7 +27,4 @@ within-head tasks (f ∷ fs) e t most left least n at here some same longer shor
 
 pub within-none : (tasks : List Task) (es : List Entry) (n : ℕ) → slice_get es 0 ≡ None → IsWithin tasks es n
 within-none tasks [] n at = tt
-within-none tasks (f ∷ fs) n at = absurd (wrong at)
-  where
-    wrong : slice_get (f ∷ fs) 0 ≡ None → ⊥
-    wrong k = cc
+within-none tasks (f ∷ fs) n at = absurd (cc at)

@@ -1,19 +1,11 @@
 -- A task of which no piece has started has nothing left, and one of which a piece has started is ready.
-use Rattle.std.specs.Prelude.{◌≡◌, ◌⊎◌, ℕ, Bool, true, false, ◌||◌, List, [], ◌∷◌, Option, Some, None, slice_get, refl}
+use Rattle.std.specs.Prelude.{◌≡◌, ℕ, true, List, Option, Some, None, slice_get, refl}
 use Rattle.std.proofs.Common.{sym, ◌∙◌, ap, subst, inl, inr}
 use Rattle.std.proofs.lemmas.Option.{same_Some}
-use Rattle.machine.specs.Pieces.{Piece}
-use Rattle.task_runtime.specs.Framed.{frames_of}
-use Rattle.task_runtime.specs.Fitting.{FitsFirst, place_of}
 use Rattle.ceil_runtime.specs.Processing.{IsDue}
-use Rattle.task_runtime.specs.Progresses.{kept, started}
-use Rattle.task_runtime.specs.Progressed.{is_idle, pieces_left}
 use Rattle.task_runtime.specs.Readies.{is_ready}
-use Rattle.task_runtime.specs.Works.{task_of}
-use Rattle.task_runtime.specs.Written.{first_place}
 use Rattle.task_runtime.specs.declared.piece.Piece as piece
 use Rattle.task_runtime.specs.declared.task.Task.{Task}
-use Rattle.task_runtime.proofs.Shared.Starting.{none-left}
 use Rattle.task_runtime.proofs.Shared.AtWork.{piece-ready}
 
 -- what is due of the task at a place, from the task: by lemmas, since a search takes seconds in the machine's context

@@ -13,13 +13,13 @@ pub mod Gathered
 pub mod Placed
 pub mod Falling
 pub mod Examples
+pub mod Phases
 pub mod Stepped
+pub mod Instants
 pub mod ObjectsFound
 pub mod Sectioned
 pub mod Requests
-pub mod SectionSteps
-pub mod RequestSteps
-pub mod StopSteps
+pub mod ActSteps
 pub mod Reached
 pub mod ObjectsKept
 pub mod EntrySteps

@@ -6,23 +6,19 @@ use Rattle.seq_tree.specs.declared.tree.Costs.{Costs}
 use Rattle.arrivals_tree.specs.declared.arrivals.Arrival.{Arrival}
 use Rattle.ada_tree.specs.Trees.{unit_of}
 use Rattle.ada_tree.specs.declared.program.Unit as units
-use Rattle.task_runtime.specs.Framed.{frames_of}
 use Rattle.task_runtime.specs.Callable.{calls_room, libraries_room, objects_room}
 use Rattle.std.proofs.lemmas.List.{length-map}
-use Rattle.std.proofs.lemmas.Option.{slice_get-map}
+use Rattle.std.proofs.lemmas.Option.{same_Some, slice_get-map}
 use Rattle.machine.specs.States as states
 use Rattle.task_runtime.specs.Effort.{effort, most_ends, own_vars}
 use Rattle.ceil_runtime.specs.Processing.{AllTasks, IsKept, system_by}
 use Rattle.ceil_runtime.specs.Left.{effort_of, ran_effort}
 use Rattle.ceil_runtime.specs.Stepping.{steps_by}
-use Rattle.task_runtime.specs.Progressed.{pieces_left}
 use Rattle.task_runtime.specs.Libraries.{libraries_from, objects_from}
 use Rattle.task_runtime.specs.Works.{task_of}
 use Rattle.task_runtime.specs.Written.{system_of, params_of, reserve, thread_of}
 use Rattle.task_runtime.specs.declared.task.Task.{Task}
 use Rattle.ceil_runtime.specs.declared.processor.Phase.TheVariants.{Effects, Use}
-use Rattle.task_runtime.proofs.Shared.Frames.{few-frames}
-use Rattle.task_runtime.proofs.Shared.Starting.{effort-most, few-ends}
 use Rattle.task_runtime.proofs.Shared.AtWork.{effort-few}
 
 -- the sum of a list by its first number
@@ -36,18 +32,12 @@ sum-cons x xs = let here = fold-from (0 + x) xs in omega (arith, here)
 -- each task's data are among all
 sum-most : (tasks : List Task) (i : ℕ) (t : Task) → slice_get tasks i ≡ Some t
     → own_vars (thread_of t.progress.stack.thread) ≤ sum (map own_vars (map (λ u. thread_of u.progress.stack.thread) tasks))
-sum-most [] i t at = absurd (none at)
-  where
-    none : None ≡ Some t → ⊥
-    none k = cc
+sum-most [] i t at = absurd (cc at)
 sum-most (u ∷ us) zero t at =
     let whole = sum-cons (own_vars (thread_of u.progress.stack.thread)) (map own_vars (map (λ w. thread_of w.progress.stack.thread) us)) in
     let same : own_vars (thread_of u.progress.stack.thread) ≡ own_vars (thread_of t.progress.stack.thread)
-    = ap (λ v. own_vars (thread_of v.progress.stack.thread)) (some_same at) in
+    = ap (λ v. own_vars (thread_of v.progress.stack.thread)) (same_Some u t at) in
     omega (arith, whole, same)
-  where
-    some_same : Some u ≡ Some t → u ≡ t
-    some_same k = cc
 sum-most (u ∷ us) (suc i) t at =
     let whole = sum-cons (own_vars (thread_of u.progress.stack.thread)) (map own_vars (map (λ w. thread_of w.progress.stack.thread) us)) in
     let more = sum-most us i t at in omega (arith, more, whole)

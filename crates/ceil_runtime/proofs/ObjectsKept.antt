@@ -1,7 +1,7 @@
 -- The protected objects of a machine are those of its units, whatever their data are.
 use Rattle.std.specs.Prelude.{◌≡◌, ℕ, zero, suc, ◌<◌, List, [], ◌∷◌, length, map, set, Option, Some, None, option_map, slice_get, unwrap_or, refl}
 use Rattle.std.proofs.Common.{sym, ◌∙◌, ap, subst}
-use Rattle.std.proofs.lemmas.Option.{slice_get-map}
+use Rattle.std.proofs.lemmas.Option.{same_Some, slice_get-map}
 use Rattle.seq_tree.specs.Variables.{written}
 use Rattle.seq_tree.specs.declared.tree.Costs.{Costs}
 use Rattle.ada_tree.specs.Trees.{unit_of}
@@ -29,10 +29,7 @@ opened-objects us os same = sym (twice lasting shown os) ∙ ap (map lasting) sa
 same_set : {B : Type 0} (f : Object → B) (os : List Object) (k : ℕ) (o o' : Object) → slice_get os k ≡ Some o → f o' ≡ f o
     → map f (set os k o') ≡ map f os
 same_set f [] k o o' here same = refl
-same_set f (x ∷ xs) zero o o' here same = ap (λ y. y ∷ map f xs) (same ∙ ap f (sym (one here)))
-  where
-    one : Some x ≡ Some o → x ≡ o
-    one e = cc
+same_set f (x ∷ xs) zero o o' here same = ap (λ y. y ∷ map f xs) (same ∙ ap f (sym (same_Some x o here)))
 same_set f (x ∷ xs) (suc k) o o' here same = ap (λ ys. f x ∷ ys) (same_set f xs k o o' here same)
 
 -- with other data of one of them
@@ -62,14 +59,12 @@ object-at us os known k g at = by_place (slice_get os k) refl
         ∙ slice_get-map (λ h. lasting (first_object h)) (objects_from 0 (map unit_of us)) k ∙ ap (option_map (λ h. lasting (first_object h))) at
 
     by_place : (x : Option Object) → slice_get os k ≡ x → IsAt os k g
-    by_place None is = absurd (none (ap (option_map (λ o. lasting (shown o))) (sym is) ∙ both))
-      where
-        none : None ≡ Some (lasting (first_object g)) → ⊥
-        none e = cc
-    by_place (Some o) is = record { object = o; here = is; shows = one (ap (option_map (λ h. lasting (shown h))) (sym is) ∙ both) }
-      where
-        one : Some (lasting (shown o)) ≡ Some (lasting (first_object g)) → lasting (shown o) ≡ lasting (first_object g)
-        one e = cc
+    by_place None is = absurd (cc (ap (option_map (λ o. lasting (shown o))) (sym is) ∙ both))
+    by_place (Some o) is = record {
+      object = o;
+      here = is;
+      shows = same_Some (lasting (shown o)) (lasting (first_object g)) (ap (option_map (λ h. lasting (shown h))) (sym is) ∙ both);
+    }
 
 -- the object that a call leaves is there
 pub record IsEntered (y : System) (e : Entry) : Type 0 where
@@ -82,10 +77,7 @@ pub entered-by : (y : System) (e : Entry) → IsOfObject y e → IsEntered y e
 entered-by y e of = by_place (slice_get y.objects e.object) refl
   where
     by_place : (x : Option ProtectedUnit) → slice_get y.objects e.object ≡ x → IsEntered y e
-    by_place None is = absurd (none (ap (option_map (λ g. written g.vars)) (sym is) ∙ of.0))
-      where
-        none : None ≡ Some (written e.«data».now) → ⊥
-        none k = cc
+    by_place None is = absurd (cc (ap (option_map (λ g. written g.vars)) (sym is) ∙ of.0))
     by_place (Some g) is = record {
       entered = g;
       at = is;

@@ -32,10 +32,7 @@ unit_or n (Some t) = t.unit
 -- each task of units is one of them
 member-unit : (a : Arrivals) (n : ℕ) (us : List Unit) (i : ℕ) (t : TaskUnit)
     → slice_get (filter_map (λ u. thread_by (durations a u.0) u.0 u.1.name u.1.form) (enumerate_from n us)) i ≡ Some t → t.unit < n + length us
-member-unit a n [] i t e = absurd (none e)
-  where
-    none : None ≡ Some t → ⊥
-    none k = cc
+member-unit a n [] i t e = absurd (cc e)
 member-unit a n (u ∷ us) i t e = by_form u.name u.form i (member-unit a (n + 1) us) e where
   by_form : (name : Name) (f : Form) (i : ℕ)
       → ((j : ℕ) (s : TaskUnit) → slice_get (filter_map (λ u. thread_by (durations a u.0) u.0 u.1.name u.1.form) (enumerate_from (n + 1) us)) j
@@ -62,10 +59,7 @@ has-unit p a tasks unit threads h =
 -- an object of a program stands in one of its units, with its operations
 member-object : (n : ℕ) (us : List Unit) (i : ℕ) (g : ProtectedUnit) → slice_get (objects_from n us) i ≡ Some g
     → (k : ℕ) × (g.unit ≡ n + k) × (k < length us) × (unwrap_or (option_map (λ u. heads u.form) (slice_get us k)) [] ≡ map (λ o. o.sig) g.ops)
-member-object n [] i g e = absurd (none e)
-  where
-    none : None ≡ Some g → ⊥
-    none k = cc
+member-object n [] i g e = absurd (cc e)
 member-object n (u ∷ us) i g e = by_form u.name u.form i (member-object (n + 1) us) e where
   later : (name : Name) (f : Form) → (k : ℕ) × (g.unit ≡ n + 1 + k) × (k < length us)
       × (unwrap_or (option_map (λ v. heads v.form) (slice_get us k)) [] ≡ map (λ o. o.sig) g.ops)

@@ -32,11 +32,10 @@ use Rattle.law_dispatching.proofs.Shared.Running.{running-taken}
 use Rattle.law_dispatching.proofs.Shared.Sleeping.{none-due, sleeping-kept, sleeping-later}
 use Rattle.task_runtime.specs.Callable.{CallsAlike}
 use Rattle.task_runtime.specs.Libraries.{no_costs}
-use Rattle.task_runtime.specs.Written.{system_of}
+use Rattle.task_runtime.specs.Written.{system_of, thread_of}
 use Rattle.ceil_runtime.specs.Processing.{AreAlike, AllTasks, Follows, IsKept, IsSound, IsWithin, order_of, state_by, system_by, with_task}
 use Rattle.task_runtime.specs.Readies.{is_ready}
 use Rattle.task_runtime.specs.Works.{IsNested, task_of, used_ticks}
-use Rattle.task_runtime.specs.Written.{thread_of}
 use Rattle.task_runtime.specs.declared.task.Task.{Task}
 use Rattle.ceil_runtime.specs.declared.processor.Phase.TheVariants.{Effects, Arriving, Use}
 
@@ -74,43 +73,28 @@ pub record Changed (tasks tasks' : List Task) (i : ℕ) (t t' : Task) (f : state
 map-set : (tasks : List Task) (i : ℕ) (t t' : Task) (f : states.Task → states.Task) → slice_get tasks i ≡ Some t → task_of t' ≡ f (task_of t)
     → map task_of (set tasks i t') ≡ change i f (map task_of tasks)
 map-set [] i t t' f here does = refl
-map-set (u ∷ us) zero t t' f here does = ap (λ v. v ∷ map task_of us) (does ∙ ap (λ w. f (task_of w)) (sym (some_same here)))
-  where
-    some_same : Some u ≡ Some t → u ≡ t
-    some_same k = cc
+map-set (u ∷ us) zero t t' f here does = ap (λ v. v ∷ map task_of us) (does ∙ ap (λ w. f (task_of w)) (sym (same_Some u t here)))
 map-set (u ∷ us) (suc i) t t' f here does = ap (λ vs. task_of u ∷ vs) (map-set us i t t' f here does)
 
 threads-set : (tasks : List Task) (i : ℕ) (t t' : Task) → slice_get tasks i ≡ Some t → t'.progress.stack.thread ≡ t.progress.stack.thread
     → map (λ u. thread_of u.progress.stack.thread) (set tasks i t') ≡ map (λ u. thread_of u.progress.stack.thread) tasks
 threads-set [] i t t' here same = refl
 threads-set (u ∷ us) zero t t' here same = ap (λ v. v ∷ map (λ u. thread_of u.progress.stack.thread) us)
-    (ap thread_of same ∙ ap (λ w. thread_of w.progress.stack.thread) (sym (some_same here)))
-  where
-    some_same : Some u ≡ Some t → u ≡ t
-    some_same k = cc
+    (ap thread_of same ∙ ap (λ w. thread_of w.progress.stack.thread) (sym (same_Some u t here)))
 threads-set (u ∷ us) (suc i) t t' here same = ap (λ vs. thread_of u.progress.stack.thread ∷ vs) (threads-set us i t t' here same)
 
 all-set : (P Q : Task → Type 0) (tasks : List Task) (i : ℕ) (t' : Task) → AllTasks P tasks → ((u : Task) → P u → Q u) → Q t'
     → AllTasks Q (set tasks i t')
-all-set P Q [] i t' all f q = λ j u at. absurd (none at)
-  where
-    none : {u : Task} → None ≡ Some u → ⊥
-    none k = cc
+all-set P Q [] i t' all f q = λ j u at. absurd (cc at)
 all-set P Q (v ∷ vs) zero t' all f q = λ j u at. by_place j u at
   where
     by_place : (j : ℕ) (u : Task) → slice_get (t' ∷ vs) j ≡ Some u → Q u
-    by_place zero u at = subst Q (some_same at) q
-      where
-        some_same : Some t' ≡ Some u → t' ≡ u
-        some_same k = cc
+    by_place zero u at = subst Q (same_Some t' u at) q
     by_place (suc j) u at = f u (all (suc j) u at)
 all-set P Q (v ∷ vs) (suc i) t' all f q = λ j u at. by_place j u at (all-set P Q vs i t' (λ k w here. all (suc k) w here) f q)
   where
     by_place : (j : ℕ) (u : Task) → slice_get (v ∷ set vs i t') j ≡ Some u → AllTasks Q (set vs i t') → Q u
-    by_place zero u at later = subst Q (some_same at) (f v (all 0 v refl))
-      where
-        some_same : Some v ≡ Some u → v ≡ u
-        some_same k = cc
+    by_place zero u at later = subst Q (same_Some v u at) (f v (all 0 v refl))
     by_place (suc j) u at later = later j u at
 
 module _ (tasks tasks' : List Task) (i : ℕ) (t t' : Task) (f : states.Task → states.Task) (c : Changed tasks tasks' i t t' f) where
@@ -179,15 +163,9 @@ module _ (stores : List Variables) (arrivals : List Arrival) (until time : ℕ) 
   }
     where
       first : (es : List Entry) → Each (λ e. time + ticks ≤ e.1) es → (e : Entry) → slice_get es 0 ≡ Some e → time + suc j < e.1
-      first [] all e at = absurd (none at)
-        where
-          none : None ≡ Some e → ⊥
-          none k = cc
-      first (x ∷ xs) all e at = let same : x ≡ e = some_same at in let later : time + ticks ≤ e.1
+      first [] all e at = absurd (cc at)
+      first (x ∷ xs) all e at = let same : x ≡ e = same_Some x e at in let later : time + ticks ≤ e.1
           = subst (λ (z : Entry). time + ticks ≤ z.1) same all.0 in omega arith
-        where
-          some_same : Some x ≡ Some e → x ≡ e
-          some_same k = cc
 
       not_yet : (a b : ℕ) → a < b → (a == b) ≡ false
       not_yet a b k = grind (arith, nat_tests)
@@ -241,10 +219,7 @@ module _ (stores : List Variables) (arrivals : List Arrival) (until time : ℕ) 
       where
         by_ready : (ready : List Entry) → ◌≡◌ {A = Option Entry} (slice_get ready 0) (Some (task, level)) → IsWithin tasks ready ticks
             → (ticks ≡ 1) ⊎ HasTicks (map task_of tasks) ticks (Some task)
-        by_ready [] none w = absurd (no_head none)
-          where
-            no_head : ◌≡◌ {A = Option Entry} None (Some (task, level)) → ⊥
-            no_head k = cc
+        by_ready [] none w = absurd (cc none)
         by_ready (e ∷ es) is w = by_left (w t (ap (slice_get tasks) (head_is is) ∙ c.here))
           where
             head_is : ◌≡◌ {A = Option Entry} (Some e) (Some (task, level)) → e.0 ≡ task
@@ -252,11 +227,8 @@ module _ (stores : List Variables) (arrivals : List Arrival) (until time : ℕ) 
 
             by_left : (ticks ≡ 1) ⊎ (ticks ≤ t.left) → (ticks ≡ 1) ⊎ HasTicks (map task_of tasks) ticks (Some task)
             by_left (inl one) = inl one
-            by_left (inr le) = inr (λ u at. lefts u (some_task (sym (here-of tasks tasks' task t t' (used_ticks ticks) c) ∙ at)))
+            by_left (inr le) = inr (λ u at. lefts u (same_Some _ _ (sym (here-of tasks tasks' task t t' (used_ticks ticks) c) ∙ at)))
               where
-                some_task : {u : states.Task} → Some (task_of t) ≡ Some u → task_of t ≡ u
-                some_task l = cc
-
                 lefts : (u : states.Task) → task_of t ≡ u → ticks ≤ u.left
                 lefts u same = let l : t.left ≡ u.left = ap (λ v. v.left) same in omega (arith, le, l)
 
@@ -268,10 +240,7 @@ module _ (stores : List Variables) (arrivals : List Arrival) (until time : ℕ) 
       where
         by_ready : (ready : List Entry) → ◌≡◌ {A = Option Entry} (slice_get ready 0) (Some (task, level))
             → AreQueued (map task_of tasks) (places (length tasks) q.ready) ready → at_head (task, (task_of t').active) (drop 1 ready) ≡ ready
-        by_ready [] none w = absurd (no_head none)
-          where
-            no_head : ◌≡◌ {A = Option Entry} None (Some (task, level)) → ⊥
-            no_head k = cc
+        by_ready [] none w = absurd (cc none)
         by_ready (e ∷ es) is w =
             let same : e.0 ≡ task = ap (first_or task) is in
             let here : task_of t ≡ w.each.0.0
@@ -340,29 +309,17 @@ module _ (stores : List Variables) (arrivals : List Arrival) (until time : ℕ) 
 -- the first entry of a list, by its task
 pub first-entry : (ready : List Entry) (task : ℕ) → Some task ≡ option_map (λ (e : Entry). e.0) (slice_get ready 0)
     → (level : ℕ) × ◌≡◌ {A = Option Entry} (slice_get ready 0) (Some (task, level))
-first-entry [] task is = absurd (none is)
-  where
-    none : Some task ≡ None → ⊥
-    none k = cc
-first-entry (e ∷ es) task is = (e.1, ap (λ n. let x : Option Entry = Some (n, e.1) in x) (sym (same is)))
-  where
-    same : Some task ≡ Some e.0 → task ≡ e.0
-    same k = cc
+first-entry [] task is = absurd (cc is)
+first-entry (e ∷ es) task is = (e.1, ap (λ n. let x : Option Entry = Some (n, e.1) in x) (sym (same_Some task e.0 is)))
 
 pub no-entry : (ready : List Entry) → None ≡ option_map (λ (e : Entry). e.0) (slice_get ready 0) → (slice_get ready 0 ≡ None) × (drop 1 ready ≡ ready)
 no-entry [] is = (refl, refl)
-no-entry (e ∷ es) is = absurd (none is)
-  where
-    none : None ≡ Some e.0 → ⊥
-    none k = cc
+no-entry (e ∷ es) is = absurd (cc is)
 
 -- a task of the ready list is one of the tasks
 pub ready-known : (tasks : List Task) (ready : List Entry) (task level : ℕ) → AreQueued (map task_of tasks) (places (length tasks) ready) ready
     → ◌≡◌ {A = Option Entry} (slice_get ready 0) (Some (task, level)) → task < length tasks
-ready-known tasks [] task level q is = absurd (no_head is)
-  where
-    no_head : ◌≡◌ {A = Option Entry} None (Some (task, level)) → ⊥
-    no_head k = cc
+ready-known tasks [] task level q is = absurd (cc is)
 ready-known tasks (e ∷ es) task level q is =
     let h : e.0 < length (map task_of tasks) = get-within e.0 (map task_of tasks) q.each.0.0 q.each.0.1 in
     let same : e.0 ≡ task = ap (first_or task) is in
@@ -420,14 +377,8 @@ arriving-ends y stores arrivals time ran tasks ready none now =
 
 -- the task that was put at a place
 pub get-set_same : (tasks : List Task) (i : ℕ) (t u : Task) → i < length tasks → slice_get (set tasks i t) i ≡ Some u → t ≡ u
-get-set_same [] i t u h at = absurd (none at)
-  where
-    none : None ≡ Some u → ⊥
-    none k = cc
-get-set_same (v ∷ vs) zero t u h at = some_same at
-  where
-    some_same : Some t ≡ Some u → t ≡ u
-    some_same k = cc
+get-set_same [] i t u h at = absurd (cc at)
+get-set_same (v ∷ vs) zero t u h at = same_Some t u at
 get-set_same (v ∷ vs) (suc i) t u h at = get-set_same vs i t u (omega arith) at
 
 -- of two tasks that are put at a place the later one stands there

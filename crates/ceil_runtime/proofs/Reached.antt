@@ -1,39 +1,16 @@
 -- What a piece reaches, before its effect and in it.
-use Rattle.std.specs.Prelude.{◌≡◌, ℕ, suc, ◌+◌, ◌-◌, ◌<◌, ◌≤◌, min, vec_capacity, fold, List, [], ◌∷◌, length, map, Option, Some, None}
-use Rattle.std.specs.Prelude.{option_map, slice_get, unwrap_or, refl}
-use Rattle.std.proofs.Common.{ap, subst, ◌∙◌, sym, arith}
+use Rattle.std.specs.Prelude.{◌≡◌, ℕ, ◌<◌, List, length, map, Option, Some, None, option_map, slice_get, unwrap_or, refl}
+use Rattle.std.proofs.Common.{ap, ◌∙◌, sym, arith}
 use Rattle.std.proofs.lemmas.List.{length-map}
 use Rattle.std.proofs.lemmas.Option.{slice_get-map}
-use Rattle.seq_tree.specs.Variables.{Variables}
 use Rattle.seq_tree.specs.declared.tree.Costs.{Costs}
 use Rattle.ada_tree.specs.declared.program.Unit as units
-use Rattle.machine.specs.Systems.{System, CallTarget, Plain, Protected, Request, Unknown, callee}
-use Rattle.machine.specs.Deeds as deeds
-use Rattle.machine.specs.Pieces as pieces
-use Rattle.machine.specs.Releases.{going}
-use Rattle.machine.specs.Effects.{ceiling_by, ceiling_of, ended, inside_now, outside_by, outside_now, task_unit}
-use Rattle.machine.specs.States as states
-use Rattle.machine.specs.States.{Resource, Control}
-use Rattle.task_runtime.specs.Callable.{op_name}
-use Rattle.task_runtime.specs.Doing.{IsActOf, IsAsk, IsDeed, IsOutside, IsPlain, StaysOutside, act_of}
-use Rattle.task_runtime.specs.Effort.{sections_among}
-use Rattle.task_runtime.specs.Insides.{inside_of, with_held}
+use Rattle.machine.specs.Effects.{ceiling_by, ceiling_of, task_unit}
+use Rattle.machine.specs.States.{Control}
 use Rattle.ceil_runtime.specs.Processing.{AreAlike, system_by}
 use Rattle.ceil_runtime.specs.Stepping.{HasUnit}
-use Rattle.task_runtime.specs.Works.{Acts, ActsAs, EffortFalls, IsNested, task_of}
-use Rattle.task_runtime.specs.Written.{reserve, system_of, thread_of, timing_of}
-use Rattle.task_runtime.specs.declared.effects.Act.{Act}
-use Rattle.task_runtime.specs.declared.effects.Act.TheVariants as acts
-use Rattle.task_runtime.specs.declared.effects.Deed.{Deed}
-use Rattle.task_runtime.specs.declared.effects.Deed.TheVariants as to
-use Rattle.task_runtime.specs.declared.inside.Held.{Held}
-use Rattle.task_runtime.specs.declared.piece.Piece.{Piece}
-use Rattle.task_runtime.specs.declared.piece.Piece.TheVariants as is
+use Rattle.task_runtime.specs.Written.{system_of, thread_of, timing_of}
 use Rattle.task_runtime.specs.declared.task.Task.{Task}
-use Rattle.task_runtime.specs.declared.thread.Thread.{Thread}
-use Rattle.task_runtime.proofs.Shared.Doings.{request-at}
-use Rattle.task_runtime.proofs.Shared.Sections.{few-sections}
-use Rattle.task_runtime.proofs.Shared.AtWork.{going-inside}
 
 -- the unit and the ceiling of a task that is requested
 module _ (until : ℕ) (costs : Costs) (us : List units.Unit) (tasks : List Task) (k : ℕ) (u : Task) (here : slice_get tasks k ≡ Some u) where
@@ -65,10 +42,7 @@ unit-before tasks tasks' same k u at = by_place (slice_get tasks k) refl
         ∙ slice_get-map (λ v. thread_of v.progress.stack.thread) tasks' k ∙ ap (option_map (λ v. thread_of v.progress.stack.thread)) at
 
     by_place : (o : Option Task) → slice_get tasks k ≡ o → HasUnit tasks u.progress.stack.thread.unit
-    by_place None is = absurd (none (ap (option_map (λ v. thread_of v.progress.stack.thread)) (sym is) ∙ both))
-      where
-        none : None ≡ Some (thread_of u.progress.stack.thread) → ⊥
-        none e = cc
+    by_place None is = absurd (cc (ap (option_map (λ v. thread_of v.progress.stack.thread)) (sym is) ∙ both))
     by_place (Some w) is = record {
       place = k;
       task = w;

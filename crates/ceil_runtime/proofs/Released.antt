@@ -1,6 +1,6 @@
 -- The release of a task: at its time, or where it waits; and the end of the delays of an instant.
-use Rattle.std.specs.Prelude.{◌≡◌, ℕ, ◌+◌, ◌<◌, ◌≤◌, ◌^◌, min, Bool, true, false, ◌&&◌, ◌||◌, ◌++◌, nat_le, if◌then◌else◌, List, [], ◌∷◌, length}
-use Rattle.std.specs.Prelude.{map, Option, Some, None, option_map, slice_get, ℤ, refl}
+use Rattle.std.specs.Prelude.{◌≡◌, ℕ, ◌+◌, ◌<◌, ◌≤◌, ◌^◌, min, Bool, true, false, ◌&&◌, ◌||◌, ◌++◌, nat_le, if◌then◌else◌, List, [], ◌∷◌, length, map}
+use Rattle.std.specs.Prelude.{Option, Some, None, option_map, slice_get, ℤ, refl}
 use Rattle.std.proofs.Common.{sym, ◌∙◌, ap, subst, arith, inl, inr}
 use Rattle.std.proofs.lemmas.Bool.Decides.{nat_tests}
 use Rattle.std.proofs.lemmas.List.{length-map}
@@ -107,10 +107,7 @@ ready-is readies.Waiting next h = absurd (cc)
 ready-is readies.Ready next h = refl
 
 pub rests-apart : (r : readiness.Readiness) (next : ℕ) → is_ready r ≡ false → readiness_of r next ≡ Ready → ⊥
-rests-apart r next not h = clash (sym not ∙ ap is_ready (ready-is r next h))
-  where
-    clash : false ≡ true → ⊥
-    clash k = cc
+rests-apart r next not h = cc (sym not ∙ ap is_ready (ready-is r next h))
 
 -- the entry of the first task that is due
 pub record Woken (time task : ℕ) (asleep : List Entry) : Type 0 where
@@ -121,15 +118,12 @@ pub record Woken (time task : ℕ) (asleep : List Entry) : Type 0 where
   pub rest : after_due time asleep ≡ others
 
 pub woken : (time task : ℕ) (asleep : List Entry) → Some task ≡ due time asleep → Woken time task asleep
-woken time task [] h = absurd (none h)
-  where
-    none : Some task ≡ None → ⊥
-    none k = cc
+woken time task [] h = absurd (cc h)
 woken time task (e ∷ es) h = by_test (nat_le e.1 time) refl h
   where
     by_test : (b : Bool) → nat_le e.1 time ≡ b → Some task ≡ (if b then Some e.0 else None) → Woken time task (e ∷ es)
     by_test true test k =
-        let same : task ≡ e.0 = some_task k in
+        let same : task ≡ e.0 = same_Some task e.0 k in
         record {
           key = e.1;
           others = es;
@@ -138,15 +132,9 @@ woken time task (e ∷ es) h = by_test (nat_le e.1 time) refl h
           rest = ap (λ b. if b then es else e ∷ es) test;
         }
       where
-        some_task : Some task ≡ Some e.0 → task ≡ e.0
-        some_task l = cc
-
         le : (m n : ℕ) → nat_le m n ≡ true → m ≤ n
         le m n l = grind (arith, nat_tests)
-    by_test false test k = absurd (none k)
-      where
-        none : Some task ≡ None → ⊥
-        none l = cc
+    by_test false test k = absurd (cc k)
 
 -- none is due
 pub none_woken : (time : ℕ) (asleep : List Entry) → None ≡ due time asleep → ((e : Entry) → slice_get asleep 0 ≡ Some e → time < e.1)
@@ -159,10 +147,7 @@ none_woken time (e ∷ es) h = by_test (nat_le e.1 time) refl h
   where
     by_test : (b : Bool) → nat_le e.1 time ≡ b → None ≡ (if b then Some e.0 else None) → ((x : Entry) → slice_get (e ∷ es) 0 ≡ Some x → time < x.1)
         × (after_due time (e ∷ es) ≡ e ∷ es)
-    by_test true test k = absurd (none k)
-      where
-        none : None ≡ Some e.0 → ⊥
-        none l = cc
+    by_test true test k = absurd (cc k)
     by_test false test k = (λ x at. subst (λ (z : Entry). time < z.1) (same x at) (lt e.1 time test), ap (λ b. if b then es else e ∷ es) test)
       where
         same : (x : Entry) → Some e ≡ Some x → e ≡ x
@@ -242,10 +227,7 @@ module _ (costs : Costs) (tasks tasks' : List Task) (os : List ℤ) (ready : Lis
 
 -- a task that waits is one that is released by requests
 pub waits-next : (r : readiness.Readiness) (w : Timing) (next : ℕ) → rests_as r w ≡ true → r ≡ readies.Waiting → next_time (timing_of w) next ≡ next
-waits-next r (timing.Periodic offset period) next h e = absurd (clash (sym (ap (λ x. rests_as x (timing.Periodic offset period)) e) ∙ h))
-  where
-    clash : false ≡ true → ⊥
-    clash k = cc
+waits-next r (timing.Periodic offset period) next h e = absurd (cc (sym (ap (λ x. rests_as x (timing.Periodic offset period)) e) ∙ h))
 waits-next r (timing.Requested op ceiling separation jitter external) next h e = refl
 
 -- a task that waits is released
@@ -271,7 +253,7 @@ waiting-released until time costs us p ran tasks tasks' q q' i t t' plain sound 
           (subst (λ (ts : List states.Task). AreSleeping ts time q.asleep) (sym (changed-tasks tasks tasks' i t t' (released costs) c))
           (sleeping-awake (map task_of tasks) time q.asleep i (task_of t) (released costs) sound.sleeping
           (here-of tasks tasks' i t t' (released costs) c)
-          (λ n h. asleep-apart t.readiness t.next n (λ e. wrong (sym e ∙ waits)) h) (λ n h. not_asleep n (sym (going-readiness costs _ _ _) ∙ h))));
+          (λ n h. asleep-apart t.readiness t.next n (λ e. cc (sym e ∙ waits)) h) (λ n h. not_asleep n (sym (going-readiness costs _ _ _) ∙ h))));
       kept = changed-all tasks tasks' i t t' (released costs) c (IsKept until time us) (IsKept until time us) sound.kept (λ u h. h)
           (tail-kept costs tasks tasks' os q.ready i t t' c queued rests until time us k works (omega (arith, next, k.next)));
       here = here;
@@ -280,9 +262,6 @@ waiting-released until time costs us p ran tasks tasks' q q' i t t' plain sound 
       calls = changed-alike tasks tasks' i t t' (released costs) c us sound.calls;
       in_time = sound.in_time;
     }
-  where
-    wrong : readies.Asleep ≡ readies.Waiting → ⊥
-    wrong k = cc
 
 -- a task that waits is in neither list
 pub waiting-free : (until time : ℕ) (us : List units.Unit) (p : Phase) (ran : Option ℕ) (tasks : List Task) (q : Queues)
@@ -294,11 +273,8 @@ waiting-free until time us p ran tasks q sound each i t here waits =
       known = omega (arith, sound.size, slice_get_within tasks i t here);
       not_ready = apart-ready (map task_of tasks) i (task_of t) q.ready at (rests-apart t.readiness t.next (ap is_ready waits)) each;
       not_asleep = apart-awake (map task_of tasks) time i (task_of t) q.asleep at (λ k h. asleep-apart t.readiness t.next k
-          (λ e. wrong (sym e ∙ waits)) h) sound.sleeping.each;
+          (λ e. cc (sym e ∙ waits)) h) sound.sleeping.each;
     }
-  where
-    wrong : readies.Asleep ≡ readies.Waiting → ⊥
-    wrong k = cc
 
 -- where a task waits with an open control structure, it is released
 pub serve-run : (y : System) (i : ℕ) (u : states.Task) (s : states.State) → slice_get s.tasks i ≡ Some u

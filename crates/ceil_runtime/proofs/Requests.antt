@@ -1,6 +1,6 @@
 -- The parts of a request: a value is kept, the control structure opens, and the task that is requested is released where it waits.
-use Rattle.std.specs.Prelude.{◌≡◌, ◌≢◌, ◌⊎◌, ℕ, zero, suc, ◌+◌, ◌<◌, ◌≤◌, min, true, false, List, [], ◌∷◌, length, map, Option, Some, None}
-use Rattle.std.specs.Prelude.{option_map, slice_get, ℤ, refl}
+use Rattle.std.specs.Prelude.{◌≡◌, ◌≢◌, ◌⊎◌, ℕ, zero, suc, ◌+◌, ◌<◌, ◌≤◌, min, false, List, [], ◌∷◌, length, map, Option, Some, None, option_map}
+use Rattle.std.specs.Prelude.{slice_get, ℤ, refl}
 use Rattle.std.proofs.Common.{sym, ◌∙◌, ap, subst, arith, inl, inr}
 use Rattle.std.proofs.lemmas.List.{length-map}
 use Rattle.std.proofs.lemmas.Option.{same_Some, slice_get-map}
@@ -36,10 +36,7 @@ pub order-by : (i : ℕ) (tasks : List Task) (a : states.Task) (es : List Entry)
 order-by i tasks a es at = by_task (slice_get tasks i) refl
   where
     by_task : (o : Option Task) → slice_get tasks i ≡ o → with_task i (slice_get tasks i) es ≡ at_head (i, a.active) es
-    by_task None e = absurd (none (sym (ap (option_map task_of) e) ∙ sym (slice_get-map task_of tasks i) ∙ at))
-      where
-        none : None ≡ Some a → ⊥
-        none k = cc
+    by_task None e = absurd (cc (sym (ap (option_map task_of) e) ∙ sym (slice_get-map task_of tasks i) ∙ at))
     by_task (Some t) e =
         let same : task_of t ≡ a = same_Some (task_of t) a (sym (ap (option_map task_of) e) ∙ sym (slice_get-map task_of tasks i) ∙ at) in
         ap (λ o. with_task i o es) e ∙ ap (λ u. at_head (i, u.active) es) same
@@ -220,9 +217,6 @@ module _ (until time : ℕ) (costs : Costs) (us : List units.Unit) (i : ℕ) (ta
       ready_apart : (n : ℕ) → states.Ready ≡ states.Asleep n → ⊥
       ready_apart n e = cc
 
-      clash : true ≡ false → ⊥
-      clash e = cc
-
       len : length tasks' ≡ length tasks
       len = changed-length tasks tasks' k u u' _ c
 
@@ -241,6 +235,6 @@ module _ (until time : ℕ) (costs : Costs) (us : List units.Unit) (i : ℕ) (ta
             works = omega (arith, works, h.works, none);
             next = omega (arith, next, h.next);
             units = ap (λ th. th.units.now) c.thread ∙ h.units;
-            idle = λ not. absurd (clash (sym (ap is_ready now_ready) ∙ not));
+            idle = λ not. absurd (cc (sym (ap is_ready now_ready) ∙ not));
             nested = subst IsNested (sym c.does) (released-nested costs u (ap is_ready waits) h.nested);
           }

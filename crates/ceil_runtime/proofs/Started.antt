@@ -1,6 +1,6 @@
 -- The opening of a processor, task by task.
-use Rattle.std.specs.Prelude.{◌≡◌, ◌≢◌, ◌⊎◌, ℕ, zero, suc, ◌<◌, ◌^◌, max, false, List, [], ◌∷◌, ◌++◌, length, map, replicate, Some, None}
-use Rattle.std.specs.Prelude.{option_map, slice_get, ℤ, pos, refl}
+use Rattle.std.specs.Prelude.{◌≡◌, ◌≢◌, ◌⊎◌, ℕ, zero, suc, ◌<◌, ◌^◌, max, false, List, [], ◌∷◌, ◌++◌, length, map, replicate, Some, None, option_map}
+use Rattle.std.specs.Prelude.{slice_get, ℤ, pos, refl}
 use Rattle.std.proofs.Common.{sym, ◌∙◌, ap, subst, arith, inl, inr}
 use Rattle.std.proofs.lemmas.List.{length-map, map-append}
 use Rattle.seq_tree.specs.Variables.{written}
@@ -21,14 +21,13 @@ use Rattle.ceil_runtime.specs.Processing.{AreAlike, IsKept, IsSound, state_by, s
 use Rattle.task_runtime.specs.Progressed.{vars_left, pieces_left}
 use Rattle.task_runtime.specs.Readies.{gate_of, readiness_of}
 use Rattle.ceil_runtime.specs.Starts.{AreOpen, CanStart, first_slept, opened, system_for}
-use Rattle.task_runtime.specs.Works.{IsFresh}
+use Rattle.task_runtime.specs.Works.{IsFresh, IsNested, task_of}
 use Rattle.task_runtime.specs.Insides.{inside_of}
 use Rattle.ada_tree.specs.Trees.{unit_of}
 use Rattle.ceil_runtime.specs.Gathering.{AllThreads, IsThreadOf}
 use Rattle.task_runtime.specs.Libraries.{no_costs, objects_from, system_from, threads_from}
 use Rattle.arrivals_tree.specs.declared.arrivals.WorkList.{WorkList}
-use Rattle.std.proofs.lemmas.Option.{slice_get-map}
-use Rattle.task_runtime.specs.Works.{IsNested, task_of}
+use Rattle.std.proofs.lemmas.Option.{same_Some, slice_get-map}
 use Rattle.task_runtime.specs.Written.{system_of, thread_of, timing_of}
 use Rattle.task_runtime.specs.declared.thread.Thread.{Thread}
 use Rattle.task_runtime.specs.declared.thread.Timing.{Timing}
@@ -38,10 +37,7 @@ use Rattle.ceil_runtime.specs.declared.processor.Phase.TheVariants.{Effects}
 
 module _ {A : Type 0} where
   get-push-old : (xs : List A) (y x : A) (i : ℕ) → slice_get xs i ≡ Some x → slice_get (xs ++ y ∷ []) i ≡ Some x
-  get-push-old [] y x i at = absurd (none at)
-    where
-      none : None ≡ Some x → ⊥
-      none k = cc
+  get-push-old [] y x i at = absurd (cc at)
   get-push-old (z ∷ zs) y x zero at = at
   get-push-old (z ∷ zs) y x (suc i) at = get-push-old zs y x i at
 
@@ -50,14 +46,8 @@ module _ {A : Type 0} where
   get-push-new (z ∷ zs) y = get-push-new zs y
 
   pub get-push : (xs : List A) (y x : A) (i : ℕ) → slice_get (xs ++ y ∷ []) i ≡ Some x → (slice_get xs i ≡ Some x) ⊎ ((i ≡ length xs) × (y ≡ x))
-  get-push [] y x zero at = inr (refl, same at)
-    where
-      same : Some y ≡ Some x → y ≡ x
-      same k = cc
-  get-push [] y x (suc i) at = absurd (none at)
-    where
-      none : None ≡ Some x → ⊥
-      none k = cc
+  get-push [] y x zero at = inr (refl, same_Some y x at)
+  get-push [] y x (suc i) at = absurd (cc at)
   get-push (z ∷ zs) y x zero at = inl at
   get-push (z ∷ zs) y x (suc i) at = turn (get-push zs y x i at)
     where
@@ -193,10 +183,7 @@ module _ (until : ℕ) (us : List units.Unit) (threads : List Thread) (tasks : L
     where
       by_timing : (w : Timing) → th.timing ≡ w → (k : ℕ) → first_wait (timing_of th.timing) ≡ Asleep k → ⊥
       by_timing (timing.Periodic offset period) e k h = other offset period e
-      by_timing (timing.Requested op ceiling separation jitter external) e k h = wrong (sym (ap (λ w. first_wait (timing_of w)) e) ∙ h)
-        where
-          wrong : states.Waiting ≡ Asleep k → ⊥
-          wrong x = cc
+      by_timing (timing.Requested op ceiling separation jitter external) e k h = cc (sym (ap (λ w. first_wait (timing_of w)) e) ∙ h)
 
 -- it sleeps or waits
 pub open-next : (until : ℕ) (us : List units.Unit) (threads : List Thread) (tasks : List Task) (q : Queues) (o : AreOpen until us threads tasks q)
@@ -281,24 +268,12 @@ module _ (until : ℕ) (costs : Costs) (us : List units.Unit) (threads : List Th
       none_ready i t at is = by_list threads i at
         where
           by_list : (hs : List Thread) (i : ℕ) → slice_get (map first_task (map thread_of hs)) i ≡ Some t → IsIn i []
-          by_list [] i at' = absurd (none at')
+          by_list [] i at' = absurd (cc at')
+          by_list (h ∷ hs) zero at' = absurd (by_timing h.timing (ap (λ u. u.readiness) (same_Some (first_task (thread_of h)) t at') ∙ is))
             where
-              none : None ≡ Some t → ⊥
-              none k = cc
-          by_list (h ∷ hs) zero at' = absurd (by_timing h.timing (ap (λ u. u.readiness) (same at') ∙ is))
-            where
-              same : Some (first_task (thread_of h)) ≡ Some t → first_task (thread_of h) ≡ t
-              same k = cc
-
               by_timing : (w : Timing) → first_wait (timing_of w) ≡ states.Ready → ⊥
-              by_timing (timing.Periodic offset period) k = wrong k
-                where
-                  wrong : Asleep offset ≡ states.Ready → ⊥
-                  wrong x = cc
-              by_timing (timing.Requested op ceiling separation jitter external) k = wrong k
-                where
-                  wrong : states.Waiting ≡ states.Ready → ⊥
-                  wrong x = cc
+              by_timing (timing.Periodic offset period) k = cc k
+              by_timing (timing.Requested op ceiling separation jitter external) k = cc k
           by_list (h ∷ hs) (suc i) at' = by_list hs i at'
 
   open-state : (arrivals : List Arrival)

@@ -5,6 +5,7 @@ pub mod Turns
 pub mod Objects
 pub mod Processing
 pub mod Starts
+pub mod Snapshots
 pub mod Shown
 pub mod Stepping
 pub mod Acted

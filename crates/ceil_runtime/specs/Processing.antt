@@ -15,9 +15,7 @@ use Rattle.machine.specs.Meanings.{Running, Rest}
 use Rattle.law_dispatching.specs.Queueing.{AreQueued, AreSleeping, places}
 use Rattle.task_runtime.specs.Libraries.{libraries_from, objects_from, no_costs}
 use Rattle.task_runtime.specs.Readies.{is_ready}
-use Rattle.task_runtime.specs.Doing.{IsDeed}
-use Rattle.task_runtime.specs.declared.effects.Deed.{Deed}
-use Rattle.task_runtime.specs.Works.{ActsAs, IsNested, task_of}
+use Rattle.task_runtime.specs.Works.{IsNested, task_of}
 use Rattle.task_runtime.specs.Written.{system_of, thread_of}
 use Rattle.task_runtime.specs.declared.task.Task.{Task}
 use Rattle.task_runtime.specs.declared.piece.Piece.{Piece}
@@ -139,8 +137,3 @@ HasNoPiece tasks i = (t : Task) → slice_get tasks i ≡ Some t → (t.progress
 abbrev pub IsDue : List Task → ℕ → Option Piece → Type 0
 IsDue tasks i None = HasNoPiece tasks i
 IsDue tasks i (Some p) = HasPiece tasks i p
-
--- the task at this place has a piece that reaches this
-abbrev pub IsReaching : List Task → ℕ → Piece → Deed → Type 0
-IsReaching tasks i p d = (t : Task) → slice_get tasks i ≡ Some t → IsDeed (system_of t.progress.stack.thread) p d
-    × ActsAs (system_of t.progress.stack.thread) (task_of t) d

@@ -4,26 +4,38 @@ use Rattle.std.specs.Prelude.{◌≡◌, List, map, None}
 use Rattle.seq_tree.specs.Variables.{Variables}
 use Rattle.machine.specs.Meanings.{Running}
 use Rattle.machine.specs.States.{State, Effects}
-use Rattle.task_runtime.specs.Called.{AreCalleesOf}
 use Rattle.ceil_runtime.specs.Objects.{store_of}
-use Rattle.ceil_runtime.specs.Processing.{IsSound, state_by, system_by}
+use Rattle.ceil_runtime.specs.Snapshots.{IsWholeAt, Snapshot, running_at}
 use Rattle.ceil_runtime.specs.declared.processor.Machine.{Machine}
 
 -- the data of the protected objects
 abbrev pub stores_of : Machine → List Variables
 stores_of m = map store_of m.objects.items
 
--- what runs, and where it stands
-abbrev pub running_of : Machine → Running
-running_of m = record {
-  system = system_by m.until m.costs m.units.now m.tasks.items;
-  state = state_by (stores_of m) m.arrivals.now m.time m.phase m.ran m.stopped m.tasks.items m.links.ready;
+-- all that its steps depend on
+abbrev pub snapshot_of : Machine → Snapshot
+snapshot_of m = record {
+  until = m.until;
+  costs = m.costs;
+  units = m.units.now;
+  callees = m.callees;
+  stores = stores_of m;
+  arrivals = m.arrivals.now;
+  time = m.time;
+  phase = m.phase;
+  ran = m.ran;
+  stopped = m.stopped;
+  tasks = m.tasks.items;
+  queues = m.links;
 }
 
+-- what runs, and where it stands
+abbrev pub running_of : Machine → Running
+running_of m = running_at (snapshot_of m)
+
 -- a processor whose lists are those of its tasks, and whose calls lead to what those of its units do
-pub record IsWhole (m : Machine) : Type 0 where
-  pub sound : IsSound m.until m.time m.phase m.ran m.units.now m.tasks.items m.links
-  pub callees : AreCalleesOf m.callees m.units.now
+abbrev pub IsWhole : Machine → Type 0
+IsWhole m = IsWholeAt (snapshot_of m)
 
 -- no task has effects: the part of the instant is another one, or no task used the tick before
 abbrev pub IsSettled : State → Type 0

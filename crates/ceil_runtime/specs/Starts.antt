@@ -2,19 +2,16 @@
 use Rattle.std.specs.Prelude.{◌≡◌, ℕ, ◌<◌, ◌^◌, false, List, [], map}
 use Rattle.arrivals_tree.specs.Acceptance.{has_nothing}
 use Rattle.arrivals_tree.specs.declared.arrivals.Arrival.{Arrival}
-use Rattle.seq_tree.specs.Variables.{written}
 use Rattle.seq_tree.specs.declared.tree.Costs.{Costs}
 use Rattle.ada_tree.specs.Trees.{unit_of}
 use Rattle.ada_tree.specs.declared.program.Unit as units
 use Rattle.link_queue.specs.Queues.{Queues, in_time}
 use Rattle.machine.specs.Systems.{System}
 use Rattle.machine.specs.Meanings.{Running}
-use Rattle.machine.specs.States.{first_task, first_time, first_wait, opening, shut}
+use Rattle.machine.specs.States.{first_task, first_time, opening}
 use Rattle.law_dispatching.specs.Queueing.{AreSleeping}
 use Rattle.ceil_runtime.specs.Processing.{AllTasks, IsKept}
 use Rattle.task_runtime.specs.Libraries.{libraries_from, objects_from}
-use Rattle.task_runtime.specs.Progressed.{pieces_left, vars_left}
-use Rattle.task_runtime.specs.Readies.{gate_of, readiness_of}
 use Rattle.task_runtime.specs.Works.{task_of}
 use Rattle.task_runtime.specs.Written.{CanRun, durations_of, thread_of, timing_of}
 use Rattle.task_runtime.specs.declared.thread.Thread.{Thread}

@@ -6,9 +6,10 @@ use Rattle.trace_tree.specs.declared.event.Event.{Event}
 use Rattle.trace_tree.specs.declared.event.Event.TheVariants as event
 use Rattle.machine.specs.Systems.{ProtectedUnit}
 use Rattle.task_runtime.specs.Written.{system_of}
-use Rattle.ceil_runtime.specs.Processing.{Follows, system_by}
+use Rattle.ceil_runtime.specs.Processing.{Follows}
 use Rattle.ceil_runtime.specs.Left.{Falls, ran_effort}
-use Rattle.ceil_runtime.specs.Shown.{IsWhole, running_of}
+use Rattle.ceil_runtime.specs.Shown.{snapshot_of}
+use Rattle.ceil_runtime.specs.Snapshots.{IsWholeAt, Snapshot, running_at, system_at}
 use Rattle.task_runtime.specs.Effort.{most_ends}
 use Rattle.task_runtime.specs.Works.{task_of}
 use Rattle.task_runtime.specs.declared.task.Task.{Task}
@@ -29,11 +30,8 @@ steps_in most Use tasks ran = 0
 abbrev pub steps_by : List Arrival → ℕ → ℕ → ℕ → Phase → List Task → Option ℕ → ℕ
 steps_by arrivals most until time phase tasks ran = (until - time) * (most + 4) + steps_in most phase tasks ran + length arrivals
 
-abbrev pub most_of : Machine → ℕ
-most_of m = most_ends (system_by m.until m.costs m.units.now m.tasks.items)
-
-abbrev pub steps_left : Machine → ℕ
-steps_left m = steps_by m.arrivals.now (most_of m) m.until m.time m.phase m.tasks.items m.ran
+abbrev pub steps_left : Snapshot → ℕ
+steps_left s = steps_by s.arrivals (most_ends (system_at s)) s.until s.time s.phase s.tasks s.ran
 
 -- the events that a step tells
 abbrev pub told_of : Told → List Event
@@ -42,10 +40,10 @@ told_of (One e) = e ∷ []
 told_of (Two e f) = e ∷ f ∷ []
 
 -- a step that tells nothing is followed by fewer such steps
-abbrev pub IsNear : Told → Machine → Machine → Type 0
-IsNear Nothing m m' = steps_left m' < steps_left m
-IsNear (One e) m m' = ⊤
-IsNear (Two e f) m m' = ⊤
+abbrev pub IsNear : Told → Snapshot → Snapshot → Type 0
+IsNear Nothing s s' = steps_left s' < steps_left s
+IsNear (One e) s s' = ⊤
+IsNear (Two e f) s s' = ⊤
 
 -- an event of a run that goes on
 abbrev pub GoesOn : Event → Type 0
@@ -59,15 +57,15 @@ GoesOn (event.Request time task target value) = ⊤
 GoesOn _ = ⊥
 
 -- a run stops at the horizon, and not before
-abbrev pub EndsAt : Event → Machine → Type 0
-EndsAt (event.Horizon time) m = (time ≡ m.time) × (m.stopped ≡ true)
-EndsAt (event.Stop time task unit priority ceiling) m = m.stopped ≡ true
-EndsAt e m = GoesOn e × (m.stopped ≡ false)
+abbrev pub EndsAt : Event → Snapshot → Type 0
+EndsAt (event.Horizon time) s = (time ≡ s.time) × (s.stopped ≡ true)
+EndsAt (event.Stop time task unit priority ceiling) s = s.stopped ≡ true
+EndsAt e s = GoesOn e × (s.stopped ≡ false)
 
-abbrev pub Ends : Told → Machine → Type 0
-Ends Nothing m = m.stopped ≡ false
-Ends (One e) m = EndsAt e m
-Ends (Two e f) m = GoesOn e × GoesOn f × (m.stopped ≡ false)
+abbrev pub Ends : Told → Snapshot → Type 0
+Ends Nothing s = s.stopped ≡ false
+Ends (One e) s = EndsAt e s
+Ends (Two e f) s = GoesOn e × GoesOn f × (s.stopped ≡ false)
 
 -- a task of this unit
 pub record HasUnit (tasks : List Task) (unit : ℕ) : Type 0 where
@@ -114,25 +112,22 @@ AreOfTask tasks (One e) = IsOfTask tasks e
 AreOfTask tasks (Two e f) = IsOfTask tasks e × IsOfTask tasks f
 
 -- a machine that has stopped, and is else as it was
-pub record HasStopped (m m' : Machine) : Type 0 where
-  pub tasks : m'.tasks.items ≡ m.tasks.items
-  pub objects : m'.objects.items ≡ m.objects.items
-  pub links : m'.links ≡ m.links
-  pub arrivals : m'.arrivals.now ≡ m.arrivals.now
-  pub units : m'.units.now ≡ m.units.now
-  pub callees : m'.callees ≡ m.callees
-  pub costs : m'.costs ≡ m.costs
-  pub until : m'.until ≡ m.until
-  pub time : m'.time ≡ m.time
-  pub phase : m'.phase ≡ m.phase
-  pub ran : m'.ran ≡ m.ran
-  pub stopped : m'.stopped ≡ true
+abbrev pub HasStopped : Machine → Machine → Type 0
+HasStopped m m' = snapshot_of m' ≡ record (snapshot_of m) { stopped = true }
 
--- a step from a machine that runs to another, and what it tells
-pub record IsStep (m : Machine) (told : Told) (m' : Machine) : Type 0 where
-  pub whole : m'.stopped ≡ false → IsWhole m'
-  pub follows : Follows (running_of m) (told_of told) (running_of m')
-  pub ends : Ends told m'
-  pub nears : IsNear told m m'
-  pub of : AreOfTask m.tasks.items told
-  pub falls : Falls (running_of m) (told_of told) (running_of m')
+-- a step from a processor that runs to another, and what it tells
+pub record Steps (s : Snapshot) (told : Told) (s' : Snapshot) : Type 0 where
+  pub whole : s'.stopped ≡ false → IsWholeAt s'
+  pub follows : Follows (running_at s) (told_of told) (running_at s')
+  pub ends : Ends told s'
+  pub nears : IsNear told s s'
+  pub of : AreOfTask s.tasks told
+  pub falls : Falls (running_at s) (told_of told) (running_at s')
+
+-- the same of machines
+abbrev pub IsStep : Machine → Told → Machine → Type 0
+IsStep m told m' = Steps (snapshot_of m) told (snapshot_of m')
+
+-- a processor before an arrival was taken
+abbrev pub before_arrival : Arrival → Snapshot → Snapshot
+before_arrival a s = record s { arrivals = a ∷ s.arrivals }

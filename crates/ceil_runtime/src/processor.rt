@@ -253,24 +253,22 @@ impl<'a> Machine<'a> {
     ghost use Rattle.task_runtime.specs.Written.{system_of};
     ghost use Rattle.ceil_runtime.specs.Gathering.{AllThreads};
     ghost use Rattle.law_dispatching.specs.Queueing.{AreQueued, AreSleeping};
-    ghost use Rattle.ceil_runtime.specs.Left.{Falls, left};
+    ghost use Rattle.ceil_runtime.specs.Left.{left};
     ghost use Rattle.ceil_runtime.specs.Turns.{FallsAt, Turned};
     ghost use Rattle.ada_tree.specs.Programs.{Program};
     ghost use Rattle.arrivals_tree.specs.Arriving.{Arrivals as Arriving};
     ghost use Rattle.machine.specs.Systems.{system};
     ghost use Rattle.seq_tree.specs.Lists.{Each as EachEvent};
     ghost use Rattle.trace_tree.specs.Placed.{IsPlaced};
-    ghost use Rattle.ceil_runtime.specs.Processing.{Follows, HasNoPiece, HasPiece, IsDue, IsReaching};
+    ghost use Rattle.ceil_runtime.specs.Processing.{HasNoPiece, HasPiece, IsDue};
     ghost use Rattle.trace_tree.specs.declared.event.Event.TheVariants as event;
     ghost use Rattle.task_runtime.specs.declared.task.Task.{Task};
     ghost use Rattle.std.specs.Prelude.{slice_get};
-    ghost use Rattle.ceil_runtime.specs.Shown.{IsSettled, IsWhole, running_of};
-    ghost use Rattle.std.specs.Prelude.{Vec};
-    ghost use Rattle.std.specs.declared.alloc.Global.{Global};
-    ghost use Rattle.ceil_runtime.specs.Acted.{HasActed, with_tasks};
+    ghost use Rattle.ceil_runtime.specs.Shown.{IsSettled, IsWhole, running_of, snapshot_of};
+    ghost use Rattle.ceil_runtime.specs.Acted.{HasActed, IsActing, IsDoing, with_tasks};
     ghost use Rattle.ceil_runtime.specs.Alone.{GoesAlone, IsAlone};
-    ghost use Rattle.task_runtime.specs.Doing.{is_silent};
-    ghost use Rattle.ceil_runtime.specs.Stepping.{AreOfTask, Ends, HasStopped, IsNear, IsStep, steps_left, told_of};
+    ghost use Rattle.task_runtime.specs.Doing.{StaysOutside, is_silent};
+    ghost use Rattle.ceil_runtime.specs.Stepping.{HasStopped, IsStep, Steps, before_arrival, steps_left};
 
     /// The opening of a program under arrivals that are accepted for it. The one error is want of memory: a failed allocation, and two
     /// limits that are told as one. A protected object may have fewer than 2^32 operations, since an event tells their places in 32
@@ -352,11 +350,7 @@ impl<'a> Machine<'a> {
         requires whole { IsWhole self.old }
         requires phase { self.old.phase ≡ Phase.Use }
         requires goes_on { self.old.stopped ≡ false }
-        ensures whole { IsWhole self.new }
-        ensures follows { Follows (running_of self.old) [] (running_of self.new) }
-        ensures goes_on { self.new.stopped ≡ false }
-        ensures nears { steps_left self.new < steps_left self.old }
-        ensures falls { Falls (running_of self.old) [] (running_of self.new) }
+        ensures { IsStep self.old Told.Nothing self.new }
     {
         let ticks = ticks_ahead(
             &self.links,
@@ -382,12 +376,7 @@ impl<'a> Machine<'a> {
         requires phase { self.old.phase ≡ Phase.Arriving }
         requires goes_on { self.old.stopped ≡ false }
         requires none { NoArrival self.old.time self.old.arrivals.now }
-        ensures whole { self.new.stopped ≡ false → IsWhole self.new }
-        ensures follows { Follows (running_of self.old) (told_of result) (running_of self.new) }
-        ensures ends { Ends result self.new }
-        ensures nears { IsNear result self.old self.new }
-        ensures of { AreOfTask self.old.tasks.items result }
-        ensures falls { Falls (running_of self.old) (told_of result) (running_of self.new) }
+        ensures { IsStep self.old result self.new }
     {
         if self.time == self.until {
             self.stopped = true;
@@ -404,18 +393,24 @@ impl<'a> Machine<'a> {
         requires goes_on { self.old.stopped ≡ false }
         requires first { self.old.arrivals.now ≡ arrival ∷ others.now }
         requires now { arrival.time ≡ self.old.time }
-        ensures whole { IsWhole self.new }
-        ensures follows { Follows (running_of self.old) (told_of result) (running_of self.new) }
-        ensures ends { Ends result self.new }
-        ensures nears { IsNear result self.old self.new }
-        ensures of { AreOfTask self.old.tasks.items result }
-        ensures falls { Falls (running_of self.old) (told_of result) (running_of self.new) }
+        ensures { IsStep self.old result self.new }
     {
+        self.arrivals = others;
         let Some(task) = place_of(self.tasks.as_slice(), arrival.task) else {
-            self.arrivals = others;
             return Told::Nothing;
         };
-        self.arrivals = others;
+        self.ask_at(task, arrival)
+    }
+
+    /// The arrival of a request for the task at this place, taken off the arrivals before.
+    fn ask_at(&mut self, task: u32, arrival: Arrival) -> Told
+        requires whole { IsWhole self.old }
+        requires phase { self.old.phase ≡ Phase.Arriving }
+        requires goes_on { self.old.stopped ≡ false }
+        requires now { arrival.time ≡ self.old.time }
+        requires found { Some task ≡ option_map (λ t. t.0) (first_where (λ t. t.thread.unit == arrival.task) (map task_of self.old.tasks.items)) }
+        ensures { Steps (before_arrival arrival (snapshot_of self.old)) result (snapshot_of self.new) }
+    {
         let asked = &mut self.tasks[task as usize];
         asked.arrive(arrival.value);
         let arrived = Event::Arrive {
@@ -443,12 +438,7 @@ impl<'a> Machine<'a> {
         requires whole { IsWhole self.old }
         requires phase { self.old.phase ≡ Phase.Arriving }
         requires goes_on { self.old.stopped ≡ false }
-        ensures whole { self.new.stopped ≡ false → IsWhole self.new }
-        ensures follows { Follows (running_of self.old) (told_of result) (running_of self.new) }
-        ensures ends { Ends result self.new }
-        ensures nears { IsNear result self.old self.new }
-        ensures of { AreOfTask self.old.tasks.items result }
-        ensures falls { Falls (running_of self.old) (told_of result) (running_of self.new) }
+        ensures { IsStep self.old result self.new }
     {
         let Some((arrival, others)) = self.arrivals.split_first() else {
             return self.horizon();
@@ -464,12 +454,7 @@ impl<'a> Machine<'a> {
         requires whole { IsWhole self.old }
         requires phase { self.old.phase ≡ Phase.Delays }
         requires goes_on { self.old.stopped ≡ false }
-        ensures whole { IsWhole self.new }
-        ensures follows { Follows (running_of self.old) (told_of result) (running_of self.new) }
-        ensures ends { Ends result self.new }
-        ensures nears { IsNear result self.old self.new }
-        ensures of { AreOfTask self.old.tasks.items result }
-        ensures falls { Falls (running_of self.old) (told_of result) (running_of self.new) }
+        ensures { IsStep self.old result self.new }
     {
         let Some(task) = self.links.wake_due(self.time) else {
             self.phase = Phase::Arriving;
@@ -501,9 +486,7 @@ impl<'a> Machine<'a> {
 
     /// The end of the effects of an instant. The task that had them goes before the other ready tasks of its active priority.
     fn end_effects(&mut self, task: u32)
-        requires whole { IsWhole self.old }
-        requires phase { self.old.phase ≡ Phase.Effects (Some task) }
-        requires goes_on { self.old.stopped ≡ false }
+        requires acting { IsActing (snapshot_of self.old) task }
         requires none { HasNoPiece self.old.tasks.items task }
         ensures { IsStep self.old Told.Nothing self.new }
     {
@@ -515,10 +498,8 @@ impl<'a> Machine<'a> {
     /// The time up to which the running task goes on alone: that of the first release or arrival, or of the horizon. It is the present one
     /// where another task goes before it.
     fn alone_until(&self, task: u32) -> u64
-        requires whole { IsWhole self.now }
-        requires phase { self.now.phase ≡ Phase.Effects (Some task) }
-        requires goes_on { self.now.stopped ≡ false }
-        ensures { IsAlone self.now task result }
+        requires acting { IsActing (snapshot_of self.now) task }
+        ensures { IsAlone (snapshot_of self.now) task result }
     {
         if is_outranked(&self.links, self.tasks[task as usize].active) {
             return self.time;
@@ -529,11 +510,9 @@ impl<'a> Machine<'a> {
 
     /// Lets the running task use what is left of its piece at once, where that is over by the time up to which it goes on alone.
     fn pass(&mut self, task: u32, limit: u64)
-        requires whole { IsWhole self.old }
-        requires phase { self.old.phase ≡ Phase.Effects (Some task) }
-        requires goes_on { self.old.stopped ≡ false }
-        requires alone { IsAlone self.old task limit }
-        ensures { GoesAlone self.old self.new task limit }
+        requires acting { IsActing (snapshot_of self.old) task }
+        requires alone { IsAlone (snapshot_of self.old) task limit }
+        ensures { GoesAlone (snapshot_of self.old) (snapshot_of self.new) task limit }
     {
         let ticks = u64::from(self.tasks[task as usize].left);
         if ticks == 0 {
@@ -547,26 +526,34 @@ impl<'a> Machine<'a> {
         self.tasks[task as usize].use_ticks(ticks);
     }
 
+    /// The effect of a piece on its own task, where it neither enters a protected object nor leaves one.
+    fn own_effect(&mut self, task: u32, piece: Piece<'a>) -> Act
+        requires acting { IsActing (snapshot_of self.old) task }
+        requires piece { HasPiece self.old.tasks.items task piece }
+        requires outside { (t : Task) → slice_get self.old.tasks.items task ≡ Some t → StaysOutside (system_of t.progress.stack.thread) piece }
+        ensures acted { (t : Task) × (t' : Task) × HasActed self.old.tasks.items (snapshot_of self.new) task result t t' }
+        ensures before { snapshot_of self.old ≡ with_tasks self.old.tasks.items (snapshot_of self.new) }
+    {
+        self.tasks[task as usize].act(&self.costs, &self.callees, piece)
+    }
+
     /// The effect of a piece of the running task that is nothing to others.
     fn act_alone(&mut self, task: u32, piece: Piece<'a>)
-        requires whole { IsWhole self.old }
-        requires phase { self.old.phase ≡ Phase.Effects (Some task) }
-        requires goes_on { self.old.stopped ≡ false }
+        requires acting { IsActing (snapshot_of self.old) task }
         requires piece { HasPiece self.old.tasks.items task piece }
         requires silent { is_silent piece ≡ true }
-        ensures { (limit : ℕ) → IsAlone self.old task limit
-            → GoesAlone self.old self.new task limit × (steps_left self.new < steps_left self.old) }
+        ensures { (limit : ℕ) → IsAlone (snapshot_of self.old) task limit
+            → GoesAlone (snapshot_of self.old) (snapshot_of self.new) task limit
+            × (steps_left (snapshot_of self.new) < steps_left (snapshot_of self.old)) }
     {
-        self.tasks[task as usize].act(&self.costs, &self.callees, piece);
+        self.own_effect(task, piece);
     }
 
     /// Goes on through pieces of the running task that are nothing to others, up to an instant at which something else may be due: no
     /// other part of the instants between has anything to do.
     fn go_on(&mut self, task: u32)
-        requires whole { IsWhole self.old }
-        requires phase { self.old.phase ≡ Phase.Effects (Some task) }
-        requires goes_on { self.old.stopped ≡ false }
-        ensures { (limit : ℕ) × GoesAlone self.old self.new task limit }
+        requires acting { IsActing (snapshot_of self.old) task }
+        ensures { (limit : ℕ) × GoesAlone (snapshot_of self.old) (snapshot_of self.new) task limit }
     {
         let limit = self.alone_until(task);
         'pieces: loop {
@@ -603,9 +590,7 @@ impl<'a> Machine<'a> {
 
     /// The effect of the piece of a task whose ticks are used.
     fn effect(&mut self, task: u32, piece: Piece<'a>) -> Told
-        requires whole { IsWhole self.old }
-        requires phase { self.old.phase ≡ Phase.Effects (Some task) }
-        requires goes_on { self.old.stopped ≡ false }
+        requires acting { IsActing (snapshot_of self.old) task }
         requires piece { HasPiece self.old.tasks.items task piece }
         ensures { IsStep self.old result self.new }
     {
@@ -638,11 +623,7 @@ impl<'a> Machine<'a> {
 
     /// The entry into a protected object, whose data the task takes, unless its active priority is above the ceiling.
     fn enter(&mut self, task: u32, piece: Piece<'a>, entry: Entry<'a>) -> Told
-        requires whole { IsWhole self.old }
-        requires phase { self.old.phase ≡ Phase.Effects (Some task) }
-        requires goes_on { self.old.stopped ≡ false }
-        requires piece { HasPiece self.old.tasks.items task piece }
-        requires reaches { IsReaching self.old.tasks.items task piece (Deed.Enter entry) }
+        requires does { (t : Task) × IsDoing (snapshot_of self.old) task piece (Deed.Enter entry) t }
         ensures { IsStep self.old result self.new }
     {
         let object = &self.objects[entry.object];
@@ -666,11 +647,7 @@ impl<'a> Machine<'a> {
 
     /// The exit from a protected object, which takes its data back.
     fn leave(&mut self, task: u32, piece: Piece<'a>, entry: Entry<'a>) -> Told
-        requires whole { IsWhole self.old }
-        requires phase { self.old.phase ≡ Phase.Effects (Some task) }
-        requires goes_on { self.old.stopped ≡ false }
-        requires piece { HasPiece self.old.tasks.items task piece }
-        requires reaches { IsReaching self.old.tasks.items task piece (Deed.Leave entry) }
+        requires does { (t : Task) × IsDoing (snapshot_of self.old) task piece (Deed.Leave entry) t }
         ensures { IsStep self.old result self.new }
     {
         let object = &mut self.objects[entry.object];
@@ -688,11 +665,7 @@ impl<'a> Machine<'a> {
 
     /// The entry into the control structure of a task, unless the active priority of the one that requests it is above the ceiling.
     fn ask(&mut self, task: u32, piece: Piece<'a>, target: usize) -> Told
-        requires whole { IsWhole self.old }
-        requires phase { self.old.phase ≡ Phase.Effects (Some task) }
-        requires goes_on { self.old.stopped ≡ false }
-        requires piece { HasPiece self.old.tasks.items task piece }
-        requires reaches { IsReaching self.old.tasks.items task piece (Deed.Ask target) }
+        requires does { (t : Task) × IsDoing (snapshot_of self.old) task piece (Deed.Ask target) t }
         ensures { IsStep self.old result self.new }
     {
         let asked = &self.tasks[target];
@@ -701,29 +674,21 @@ impl<'a> Machine<'a> {
         if self.tasks[task as usize].is_above(ceiling) {
             return self.stop(task, unit, ceiling);
         }
-        let caller = &mut self.tasks[task as usize];
-        caller.act(&self.costs, &self.callees, piece);
-        caller.go_inside(Section::Control(target), ceiling);
+        self.own_effect(task, piece);
+        self.tasks[task as usize].go_inside(Section::Control(target), ceiling);
         Told::Nothing
     }
 
     /// The effect of a piece that neither enters a section nor leaves a protected object.
     fn act(&mut self, task: u32, piece: Piece<'a>) -> Told
-        requires whole { IsWhole self.old }
-        requires phase { self.old.phase ≡ Phase.Effects (Some task) }
-        requires goes_on { self.old.stopped ≡ false }
-        requires piece { HasPiece self.old.tasks.items task piece }
-        requires reaches { IsReaching self.old.tasks.items task piece Deed.Own }
+        requires does { (t : Task) × IsDoing (snapshot_of self.old) task piece Deed.Own t }
         ensures { IsStep self.old result self.new }
     {
-        let active = &mut self.tasks[task as usize];
-        let act = active.act(&self.costs, &self.callees, piece);
-        let unit = active.progress.stack.thread.unit;
-        match act {
+        match self.own_effect(task, piece) {
             Act::Silent => Told::Nothing,
             Act::Print(value) => Told::One(Event::Print {
                 time: self.time,
-                task: unit,
+                task: self.tasks[task as usize].progress.stack.thread.unit,
                 value,
             }),
             Act::Ask(_) => unreachable!(),
@@ -749,9 +714,9 @@ impl<'a> Machine<'a> {
     /// The end of a request, by which its task leaves the control structure: the task that was requested is released, where it waits and
     /// its control structure is open.
     fn answer(&mut self, task: u32, target: usize, value: Option<u32>) -> Told
-        requires acted { (ts : Vec Task Global) × (t : Task) × (t' : Task) × HasActed ts self.old task (Act.Ended target value) t t' }
-        ensures { (ts : Vec Task Global) (t t' : Task) → HasActed ts self.old task (Act.Ended target value) t t'
-            → IsStep (with_tasks ts self.old) result self.new }
+        requires acted { (ts : List Task) × (t : Task) × (t' : Task) × HasActed ts (snapshot_of self.old) task (Act.Ended target value) t t' }
+        ensures { (ts : List Task) (t t' : Task) → HasActed ts (snapshot_of self.old) task (Act.Ended target value) t t'
+            → Steps (with_tasks ts (snapshot_of self.old)) result (snapshot_of self.new) }
     {
         let active = &mut self.tasks[task as usize];
         let unit = active.progress.stack.thread.unit;
@@ -782,8 +747,9 @@ impl<'a> Machine<'a> {
     /// The end of an activation: the task sleeps until its next time, or waits for a request, and is released at once where its control
     /// structure is open.
     fn finish(&mut self, task: u32) -> Told
-        requires acted { (ts : Vec Task Global) × (t : Task) × (t' : Task) × HasActed ts self.old task Act.Finish t t' }
-        ensures { (ts : Vec Task Global) (t t' : Task) → HasActed ts self.old task Act.Finish t t' → IsStep (with_tasks ts self.old) result self.new }
+        requires acted { (ts : List Task) × (t : Task) × (t' : Task) × HasActed ts (snapshot_of self.old) task Act.Finish t t' }
+        ensures { (ts : List Task) (t t' : Task) → HasActed ts (snapshot_of self.old) task Act.Finish t t'
+            → Steps (with_tasks ts (snapshot_of self.old)) result (snapshot_of self.new) }
     {
         let active = &mut self.tasks[task as usize];
         let unit = active.progress.stack.thread.unit;

@@ -1,366 +1,111 @@
-use Rattle.std.proofs.Common.{◌≡◌, [], ◌∷◌, length, sym, ap, refl, arith, map, set, length-set, true, false, Some}
-use Rattle.std.specs.Prelude.{slice_get}
-use Rattle.std.proofs.lemmas.Option.{slice_get_read}
-use Rattle.seq_tree.specs.Lists.{change}
-use Rattle.machine.specs.Releases.{Next, going}
-use Rattle.machine.specs.Deeds as deeds
-use Rattle.ceil_runtime.specs.Processing.{system_by}
-use Rattle.task_runtime.specs.Works.{kept_value, opened_now, task_of}
+use Rattle.std.proofs.Common.{◌≡◌, arith, false, set, subst, sym, true}
+use Rattle.task_runtime.specs.Works.{task_of}
 use Rattle.task_runtime.specs.Written.{system_of}
+use Rattle.task_runtime.specs.declared.effects.Act.TheVariants.{Keep, Open, Print}
 use Rattle.task_runtime.specs.declared.effects.Deed.TheVariants.{Own}
-use Rattle.task_runtime.specs.declared.effects.Act.TheVariants.{Silent, Print}
+use Rattle.ceil_runtime.specs.Acted.{with_tasks}
+use Rattle.ceil_runtime.specs.Shown.{snapshot_of}
+use Rattle.ceil_runtime.specs.Stepping.{Steps}
 use Rattle.ceil_runtime.specs.declared.processor.Told.TheVariants.{Nothing, One}
+use Rattle.ceil_runtime.proofs.ActedLaws.{acted-among, acted-found, acted-within, keep-acted, open-acted, print-acted, silent-acted}
+use Rattle.ceil_runtime.proofs.Phases.{doing-piece, doing-there}
+use Rattle.task_runtime.proofs.Shared.AtWork.{reached-act, stays-own}
 use Rattle.trace_tree.specs.declared.event.Event.TheVariants as event
-use Rattle.ceil_runtime.proofs.ActedLaws.{same-step}
-use Rattle.ceil_runtime.proofs.Processed.{runs-alike}
-use Rattle.ceil_runtime.proofs.Reached.{among-tasks}
-use Rattle.ceil_runtime.proofs.RequestSteps.{gate-step}
-use Rattle.ceil_runtime.proofs.Stepped.{effect_state, going-step, running-sound, task-callees}
-use Rattle.task_runtime.proofs.Shared.AtWork.{nests-going, reached-act, stays-own}
 use Rattle.ceil_runtime.proofs.processor.Machine.act.Goals as goal
 
-pub act-act-requires-clause-few : goal.act-act-requires-clause-few
-act-act-requires-clause-few c =
-    let m = c.args.self.now in
-    let i = c.args.task in
-    let t = c.index_mut-active.result.now in
-    let sound = running-sound m i c.requires.whole c.requires.phase c.requires.goes_on in
-    let here = slice_get_read m.tasks.items (length m.tasks.items) i t refl sound.here.1 c.index_mut-active.ensures.value in
-    let k = sound.kept i t here in
-    omega (arith, k.works, sound.in_time, sound.near)
+pub own_effect-requires-clause-acting : goal.own_effect-requires-clause-acting
+own_effect-requires-clause-acting c = c.requires.does.1.acting
 
-pub act-act-requires-clause-callees : goal.act-act-requires-clause-callees
-act-act-requires-clause-callees c =
-    let m = c.args.self.now in
-    let i = c.args.task in
-    let t = c.index_mut-active.result.now in
-    let sound = running-sound m i c.requires.whole c.requires.phase c.requires.goes_on in
-    let here = slice_get_read m.tasks.items (length m.tasks.items) i t refl sound.here.1 c.index_mut-active.ensures.value in
-    task-callees m i t c.requires.whole here
+pub own_effect-requires-clause-piece : goal.own_effect-requires-clause-piece
+own_effect-requires-clause-piece c = doing-piece (snapshot_of c.args.self.now) c.args.task c.args.piece Own c.requires.does
+
+pub own_effect-requires-clause-outside : goal.own_effect-requires-clause-outside
+own_effect-requires-clause-outside c = λ t there.
+    stays-own (system_of t.progress.stack.thread) c.args.piece
+    (doing-there (snapshot_of c.args.self.now) c.args.task c.args.piece Own c.requires.does t there).deed
 
 pub returns-in-Silent : goal.returns-in-Silent
 returns-in-Silent c =
-    let m = c.args.self.now in
-    let i = c.args.task in
-    let t = c.index_mut-active.result.now in
-    let t' = c.act-act.new.self in
-    let sound = running-sound m i c.requires.whole c.requires.phase c.requires.goes_on in
-    let here = slice_get_read m.tasks.items (length m.tasks.items) i t refl sound.here.1 c.index_mut-active.ensures.value in
-    let p = c.requires.piece t here in
-    let a = c.in-Silent.ensures.acts in
-    going-step m i c.requires.whole c.requires.phase c.requires.goes_on t t' here p.2 Silent a c.in-Silent.ensures.thread c.in-Silent.ensures.works
-    c.in-Silent.ensures.falls (nests-going t t' m.costs a.vars a.pieces a.after c.in-Silent.ensures.inside) _
-    (record {
-      until = refl;
-      costs = refl;
-      units = refl;
-      callees = refl;
-      arrivals = refl;
-      time = refl;
-      ran = refl;
-      stopped = refl;
-      phase = c.requires.phase;
-    }) refl refl refl a.after Nothing refl c.requires.goes_on tt (omega arith)
+    let n = snapshot_of c.own_effect.new.self in
+    let a = c.in-Silent.ensures.acted in
+    subst (λ x. Steps x Nothing n) (sym c.in-Silent.ensures.before) (silent-acted c.args.self.now.tasks.items n c.args.task a.0 a.1 a.2)
+
+pub index-requires : goal.index-requires
+index-requires c =
+    let a = c.in-Print.ensures.acted in
+    omega (
+      arith,
+      acted-within c.args.self.now.tasks.items (snapshot_of c.own_effect.new.self) c.args.task (Print c.in-Print.value) a.0 a.1 a.2,
+      c.own_effect.new.self.tasks.ok.0,
+    )
 
 pub returns-in-Print : goal.returns-in-Print
 returns-in-Print c =
-    let m = c.args.self.now in
-    let i = c.args.task in
-    let t = c.index_mut-active.result.now in
-    let t' = c.act-act.new.self in
-    let sound = running-sound m i c.requires.whole c.requires.phase c.requires.goes_on in
-    let here = slice_get_read m.tasks.items (length m.tasks.items) i t refl sound.here.1 c.index_mut-active.ensures.value in
-    let p = c.requires.piece t here in
-    let a = c.in-Print.ensures.acts in
-    going-step m i c.requires.whole c.requires.phase c.requires.goes_on t t' here p.2 (Print c.in-Print.value) a c.in-Print.ensures.thread
-    c.in-Print.ensures.works c.in-Print.ensures.falls (nests-going t t' m.costs a.vars a.pieces a.after c.in-Print.ensures.inside) _
-    (record {
-      until = refl;
-      costs = refl;
-      units = refl;
-      callees = refl;
-      arrivals = refl;
-      time = refl;
-      ran = refl;
-      stopped = refl;
-      phase = c.requires.phase;
-    }) refl refl refl a.after (One (event.Print m.time t'.progress.stack.thread.unit c.in-Print.value))
-    (ap (λ th. let next : Next = (
-      record (effect_state m i) {
-        tasks
-            = change i (going m.costs a.vars a.pieces) (map task_of m.tasks.items);
-      },
-      event.Print m.time th.unit c.in-Print.value ∷ [],
-    ) in next) (sym c.in-Print.ensures.thread)) (tt, c.requires.goes_on)
-    (record { place = i; task = t; here = here; is_unit = ap (λ th. th.unit) c.in-Print.ensures.thread }) (omega arith)
-
-pub act-act-requires-clause-outside : goal.act-act-requires-clause-outside
-act-act-requires-clause-outside c =
-    let m = c.args.self.now in
-    let i = c.args.task in
-    let t = c.index_mut-active.result.now in
-    let sound = running-sound m i c.requires.whole c.requires.phase c.requires.goes_on in
-    let here = slice_get_read m.tasks.items (length m.tasks.items) i t refl sound.here.1 c.index_mut-active.ensures.value in
-    stays-own (system_of t.progress.stack.thread) c.args.piece (c.requires.reaches t here).0
+    let ts = c.args.self.now.tasks.items in
+    let n = snapshot_of c.own_effect.new.self in
+    let a = c.in-Print.ensures.acted in
+    let x = c.index.result.now in
+    subst (λ s. Steps s (One (event.Print n.time x.progress.stack.thread.unit c.in-Print.value)) n) (sym c.in-Print.ensures.before)
+    (print-acted ts n c.args.task a.0 x c.in-Print.value
+    (acted-found ts n c.args.task (Print c.in-Print.value) a.0 a.1 a.2 x c.index.ensures))
 
 pub unreachable-requires : goal.unreachable-requires
 unreachable-requires c =
-    let m = c.args.self.now in
-    let i = c.args.task in
-    let t = c.index_mut-active.result.now in
-    let sound = running-sound m i c.requires.whole c.requires.phase c.requires.goes_on in
-    let here = slice_get_read m.tasks.items (length m.tasks.items) i t refl sound.here.1 c.index_mut-active.ensures.value in
-    let own : false ≡ true = reached-act (system_of t.progress.stack.thread) m.costs (task_of t) _ Own _
-    (c.requires.reaches t here).1 c.in-Ask.ensures.acts in
-    clash own
-  where
-    clash : false ≡ true → ⊥
-    clash e = cc
+    let a = c.in-Ask.ensures.acted in
+    let own : false ≡ true = reached-act (system_of a.0.progress.stack.thread) c.own_effect.new.self.costs (task_of a.0) (task_of a.1) Own _
+    (doing-there (snapshot_of c.args.self.now) c.args.task c.args.piece Own c.requires.does a.0 a.2.here).reaches a.2.done.acts in
+    cc own
 
 pub index_mut-requires : goal.index_mut-requires
 index_mut-requires c =
-    let m = c.args.self.now in
-    let i = c.args.task in
-    let t = c.index_mut-active.result.now in
-    let sound = running-sound m i c.requires.whole c.requires.phase c.requires.goes_on in
-    let here = slice_get_read m.tasks.items (length m.tasks.items) i t refl sound.here.1 c.index_mut-active.ensures.value in
-    let below = among-tasks m.units.now m.tasks.items sound.calls i t here c.in-Keep.target c.in-Keep.ensures.among in
-    omega (arith, below, m.tasks.ok.0)
-
-pub index_mut-requires-in-Open : goal.index_mut-requires-in-Open
-index_mut-requires-in-Open c =
-    let m = c.args.self.now in
-    let i = c.args.task in
-    let t = c.index_mut-active.result.now in
-    let sound = running-sound m i c.requires.whole c.requires.phase c.requires.goes_on in
-    let here = slice_get_read m.tasks.items (length m.tasks.items) i t refl sound.here.1 c.index_mut-active.ensures.value in
-    let below = among-tasks m.units.now m.tasks.items sound.calls i t here c.in-Open.target c.in-Open.ensures.among in
-    omega (arith, below, m.tasks.ok.0)
+    let a = c.in-Keep.ensures.acted in
+    omega (
+      arith,
+      acted-among c.args.self.now.tasks.items (snapshot_of c.own_effect.new.self) c.args.task (Keep c.in-Keep.target c.in-Keep.value) a.0 a.1 a.2
+          c.in-Keep.target a.2.done.among,
+      c.own_effect.new.self.tasks.ok.0,
+    )
 
 pub returns-in-Keep : goal.returns-in-Keep
 returns-in-Keep c =
-    let m = c.args.self.now in
-    let i = c.args.task in
-    let t = c.index_mut-active.result.now in
-    let sound = running-sound m i c.requires.whole c.requires.phase c.requires.goes_on in
-    let here = slice_get_read m.tasks.items (length m.tasks.items) i t refl sound.here.1 c.index_mut-active.ensures.value in
-    let t' = c.act-act.new.self in
-    let p = c.requires.piece t here in
-    let a = c.in-Keep.ensures.acts in
-    let k = c.in-Keep.target in
-    let tasks' = set m.tasks.items i t' in
-    let u = c.index_mut.result.now in
-    let below = among-tasks m.units.now m.tasks.items sound.calls i t here k c.in-Keep.ensures.among in
-    let there : slice_get tasks' k ≡ Some u
-    = slice_get_read tasks' (length tasks') k u refl (omega (arith, below, length-set m.tasks.items i t')) c.index_mut.ensures.value in
-    gate-step m i c.requires.whole c.requires.phase c.requires.goes_on t t' here p.2 a.piece a.rest a.pieces a.vars
-    (deeds.Keep c.in-Keep.target c.in-Keep.value) a.first
-    (a.does (system_by m.until m.costs m.units.now m.tasks.items) (runs-alike m.until m.costs m.units.now m.tasks.items sound.calls i t here))
-    c.in-Keep.ensures.thread c.in-Keep.ensures.works c.in-Keep.ensures.falls
-    (nests-going t t' m.costs a.vars a.pieces a.after c.in-Keep.ensures.inside) tasks' refl
-    a.after k (kept_value c.in-Keep.value) (λ v. (refl, refl)) (λ v. (refl, refl)) (λ v. refl) refl u c.keep.new.self _
-    (record {
-      until = refl;
-      costs = refl;
-      units = refl;
-      callees = refl;
-      arrivals = refl;
-      time = refl;
-      ran = refl;
-      stopped = refl;
-      phase = c.requires.phase;
-    })
-    (record { here = there; set_is = refl; does = c.keep.ensures.task; thread = ap (λ g. g.stack.thread) c.keep.ensures.progress })
-    c.keep.ensures.same (ap (λ v. v.left) c.keep.ensures.task) (ap (λ v. v.used) c.keep.ensures.task) (ap (λ v. v.works) c.keep.ensures.task)
-    (ap (λ v. v.next) c.keep.ensures.task) refl refl
+    let n = snapshot_of c.own_effect.new.self in
+    let a = c.in-Keep.ensures.acted in
+    subst (λ s. Steps s Nothing (with_tasks (set n.tasks c.in-Keep.target c.keep.new.self) n)) (sym c.in-Keep.ensures.before)
+    (keep-acted c.args.self.now.tasks.items n c.args.task a.0 a.1 c.in-Keep.target c.index_mut.result.now c.keep.new.self c.index_mut.ensures.value
+    c.keep.ensures.progress c.keep.ensures.same c.in-Keep.value a.2 c.keep.ensures.task)
+
+pub index_mut-requires-in-Open : goal.index_mut-requires-in-Open
+index_mut-requires-in-Open c =
+    let a = c.in-Open.ensures.acted in
+    omega (
+      arith,
+      acted-among c.args.self.now.tasks.items (snapshot_of c.own_effect.new.self) c.args.task (Open c.in-Open.target) a.0 a.1 a.2 c.in-Open.target
+          a.2.done.among,
+      c.own_effect.new.self.tasks.ok.0,
+    )
 
 pub returns-in-Open : goal.returns-in-Open
 returns-in-Open c =
-    let m = c.args.self.now in
-    let i = c.args.task in
-    let t = c.index_mut-active.result.now in
-    let sound = running-sound m i c.requires.whole c.requires.phase c.requires.goes_on in
-    let here = slice_get_read m.tasks.items (length m.tasks.items) i t refl sound.here.1 c.index_mut-active.ensures.value in
-    let t' = c.act-act.new.self in
-    let p = c.requires.piece t here in
-    let a = c.in-Open.ensures.acts in
-    let k = c.in-Open.target in
-    let tasks' = set m.tasks.items i t' in
-    let u = c.index_mut-in-Open.result.now in
-    let below = among-tasks m.units.now m.tasks.items sound.calls i t here k c.in-Open.ensures.among in
-    let there : slice_get tasks' k ≡ Some u
-    = slice_get_read tasks' (length tasks') k u refl (omega (arith, below, length-set m.tasks.items i t')) c.index_mut-in-Open.ensures.value in
-    gate-step m i c.requires.whole c.requires.phase c.requires.goes_on t t' here p.2 a.piece a.rest a.pieces a.vars
-    (deeds.Open c.in-Open.target) a.first
-    (a.does (system_by m.until m.costs m.units.now m.tasks.items) (runs-alike m.until m.costs m.units.now m.tasks.items sound.calls i t here))
-    c.in-Open.ensures.thread c.in-Open.ensures.works c.in-Open.ensures.falls
-    (nests-going t t' m.costs a.vars a.pieces a.after c.in-Open.ensures.inside) tasks' refl
-    a.after k opened_now (λ v. (refl, refl)) (λ v. (refl, refl)) (λ v. refl) refl u c.open_gate.new.self _
-    (record {
-      until = refl;
-      costs = refl;
-      units = refl;
-      callees = refl;
-      arrivals = refl;
-      time = refl;
-      ran = refl;
-      stopped = refl;
-      phase = c.requires.phase;
-    })
-    (record { here = there; set_is = refl; does = c.open_gate.ensures.task; thread = ap (λ g. g.stack.thread) c.open_gate.ensures.progress })
-    c.open_gate.ensures.same (ap (λ v. v.left) c.open_gate.ensures.task) (ap (λ v. v.used) c.open_gate.ensures.task)
-    (ap (λ v. v.works) c.open_gate.ensures.task) (ap (λ v. v.next) c.open_gate.ensures.task) refl refl
+    let n = snapshot_of c.own_effect.new.self in
+    let a = c.in-Open.ensures.acted in
+    subst (λ s. Steps s Nothing (with_tasks (set n.tasks c.in-Open.target c.open_gate.new.self) n)) (sym c.in-Open.ensures.before)
+    (open-acted c.args.self.now.tasks.items n c.args.task a.0 a.1 c.in-Open.target c.index_mut-in-Open.result.now c.open_gate.new.self
+    c.index_mut-in-Open.ensures.value c.open_gate.ensures.progress c.open_gate.ensures.same a.2 c.open_gate.ensures.task)
 
 pub answer-requires : goal.answer-requires
-answer-requires c =
-    let m = c.args.self.now in
-    let i = c.args.task in
-    let t = c.index_mut-active.result.now in
-    let sound = running-sound m i c.requires.whole c.requires.phase c.requires.goes_on in
-    let here = slice_get_read m.tasks.items (length m.tasks.items) i t refl sound.here.1 c.index_mut-active.ensures.value in
-    let p = c.requires.piece t here in
-    record {
-      acted = (
-        m.tasks,
-        t,
-        c.act-act.new.self,
-        record {
-          whole = record { sound = c.requires.whole.sound; callees = c.requires.whole.callees };
-          phase = c.requires.phase;
-          goes_on = c.requires.goes_on;
-          here = here;
-          due = p.2;
-          acts = c.in-Ended.ensures.acts;
-          thread = c.in-Ended.ensures.thread;
-          works = c.in-Ended.ensures.works;
-          falls = c.in-Ended.ensures.falls;
-          among = c.in-Ended.ensures.among;
-          inside = c.in-Ended.ensures.inside;
-          tasks = refl;
-        },
-      );
-    }
+answer-requires c = let a = c.in-Ended.ensures.acted in record { acted = (c.args.self.now.tasks.items, a.0, a.1, a.2) }
 
 pub returns-in-Ended : goal.returns-in-Ended
 returns-in-Ended c =
-    let m = c.args.self.now in
-    let i = c.args.task in
-    let t = c.index_mut-active.result.now in
-    let sound = running-sound m i c.requires.whole c.requires.phase c.requires.goes_on in
-    let here = slice_get_read m.tasks.items (length m.tasks.items) i t refl sound.here.1 c.index_mut-active.ensures.value in
-    let p = c.requires.piece t here in
-    same-step _ m _ c.answer.result refl refl refl (c.answer.ensures m.tasks t c.act-act.new.self (record {
-      whole = record { sound = c.requires.whole.sound; callees = c.requires.whole.callees };
-      phase = c.requires.phase;
-      goes_on = c.requires.goes_on;
-      here = here;
-      due = p.2;
-      acts = c.in-Ended.ensures.acts;
-      thread = c.in-Ended.ensures.thread;
-      works = c.in-Ended.ensures.works;
-      falls = c.in-Ended.ensures.falls;
-      among = c.in-Ended.ensures.among;
-      inside = c.in-Ended.ensures.inside;
-      tasks = refl;
-    }))
+    let a = c.in-Ended.ensures.acted in
+    subst (λ s. Steps s c.answer.result (snapshot_of c.answer.new.self)) (sym c.in-Ended.ensures.before)
+    (c.answer.ensures c.args.self.now.tasks.items a.0 a.1 a.2)
 
 pub finish-requires : goal.finish-requires
-finish-requires c =
-    let m = c.args.self.now in
-    let i = c.args.task in
-    let t = c.index_mut-active.result.now in
-    let sound = running-sound m i c.requires.whole c.requires.phase c.requires.goes_on in
-    let here = slice_get_read m.tasks.items (length m.tasks.items) i t refl sound.here.1 c.index_mut-active.ensures.value in
-    let p = c.requires.piece t here in
-    record {
-      acted = (
-        m.tasks,
-        t,
-        c.act-act.new.self,
-        record {
-          whole = record { sound = c.requires.whole.sound; callees = c.requires.whole.callees };
-          phase = c.requires.phase;
-          goes_on = c.requires.goes_on;
-          here = here;
-          due = p.2;
-          acts = c.in-Finish.ensures.acts;
-          thread = c.in-Finish.ensures.thread;
-          works = c.in-Finish.ensures.works;
-          falls = c.in-Finish.ensures.falls;
-          among = c.in-Finish.ensures.among;
-          inside = c.in-Finish.ensures.inside;
-          tasks = refl;
-        },
-      );
-    }
+finish-requires c = let a = c.in-Finish.ensures.acted in record { acted = (c.args.self.now.tasks.items, a.0, a.1, a.2) }
 
 pub returns-in-Finish : goal.returns-in-Finish
 returns-in-Finish c =
-    let m = c.args.self.now in
-    let i = c.args.task in
-    let t = c.index_mut-active.result.now in
-    let sound = running-sound m i c.requires.whole c.requires.phase c.requires.goes_on in
-    let here = slice_get_read m.tasks.items (length m.tasks.items) i t refl sound.here.1 c.index_mut-active.ensures.value in
-    let p = c.requires.piece t here in
-    same-step _ m _ c.finish.result refl refl refl (c.finish.ensures m.tasks t c.act-act.new.self (record {
-      whole = record { sound = c.requires.whole.sound; callees = c.requires.whole.callees };
-      phase = c.requires.phase;
-      goes_on = c.requires.goes_on;
-      here = here;
-      due = p.2;
-      acts = c.in-Finish.ensures.acts;
-      thread = c.in-Finish.ensures.thread;
-      works = c.in-Finish.ensures.works;
-      falls = c.in-Finish.ensures.falls;
-      among = c.in-Finish.ensures.among;
-      inside = c.in-Finish.ensures.inside;
-      tasks = refl;
-    }))
-
-pub act-act-requires-clause-piece : goal.act-act-requires-clause-piece
-act-act-requires-clause-piece c =
-    let m = c.args.self.now in
-    let i = c.args.task in
-    let t = c.index_mut-active.result.now in
-    let sound = running-sound m i c.requires.whole c.requires.phase c.requires.goes_on in
-    let here = slice_get_read m.tasks.items (length m.tasks.items) i t refl sound.here.1 c.index_mut-active.ensures.value in
-    (c.requires.piece t here).0
-
-pub act-act-requires-clause-ready : goal.act-act-requires-clause-ready
-act-act-requires-clause-ready c =
-    let m = c.args.self.now in
-    let i = c.args.task in
-    let t = c.index_mut-active.result.now in
-    let sound = running-sound m i c.requires.whole c.requires.phase c.requires.goes_on in
-    let here = slice_get_read m.tasks.items (length m.tasks.items) i t refl sound.here.1 c.index_mut-active.ensures.value in
-    (c.requires.piece t here).1
-
-pub act-act-requires-clause-used : goal.act-act-requires-clause-used
-act-act-requires-clause-used c =
-    let m = c.args.self.now in
-    let i = c.args.task in
-    let t = c.index_mut-active.result.now in
-    let sound = running-sound m i c.requires.whole c.requires.phase c.requires.goes_on in
-    let here = slice_get_read m.tasks.items (length m.tasks.items) i t refl sound.here.1 c.index_mut-active.ensures.value in
-    (c.requires.piece t here).2
-
-pub act-act-requires-clause-ticking : goal.act-act-requires-clause-ticking
-act-act-requires-clause-ticking c = c.args.self.now.ticking
-
-pub index_mut-active-requires : goal.index_mut-active-requires
-index_mut-active-requires c =
-    let m = c.args.self.now in
-    let sound = running-sound m c.args.task c.requires.whole c.requires.phase c.requires.goes_on in
-    omega (arith, sound.here.1, m.tasks.ok.0)
-
-pub invariant_of-self : goal.invariant_of-self
-invariant_of-self c = record { ticking = c.args.self.now.ticking; known = c.args.self.now.known }
-
-pub invariant_of-self-in-Finish : goal.invariant_of-self-in-Finish
-invariant_of-self-in-Finish c = record { ticking = c.args.self.now.ticking; known = c.args.self.now.known }
-
-pub invariant_of-self-in-Keep : goal.invariant_of-self-in-Keep
-invariant_of-self-in-Keep c = record { ticking = c.args.self.now.ticking; known = c.args.self.now.known }
-
-pub invariant_of-self-in-Open : goal.invariant_of-self-in-Open
-invariant_of-self-in-Open c = record { ticking = c.args.self.now.ticking; known = c.args.self.now.known }
+    let a = c.in-Finish.ensures.acted in
+    subst (λ s. Steps s c.finish.result (snapshot_of c.finish.new.self)) (sym c.in-Finish.ensures.before)
+    (c.finish.ensures c.args.self.now.tasks.items a.0 a.1 a.2)

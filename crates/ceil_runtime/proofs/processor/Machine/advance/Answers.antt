@@ -1,6 +1,6 @@
 use Rattle.std.proofs.Common.{ap, subst, sym, ◌∙◌, [], ◌∷◌}
 use Rattle.ceil_runtime.specs.Left.{left}
-use Rattle.ceil_runtime.specs.Shown.{running_of}
+use Rattle.ceil_runtime.specs.Shown.{running_of, snapshot_of}
 use Rattle.ceil_runtime.specs.Turns.{FallsAt, Turned}
 use Rattle.ceil_runtime.specs.declared.processor.Turn.{Turn}
 use Rattle.ceil_runtime.proofs.Advancing.{follows-none, follows-then, last-falls, less-left, one-pushed, same-left, stop-turned, tells-told}
@@ -62,7 +62,7 @@ returns-then-self-clause-placed c = λ p a runs.
 pub returns-then-self-clause-turned : goal.returns-then-self-clause-turned
 returns-then-self-clause-turned c =
     subst (λ (t : Turn). Turned t c.push.new.self (running_of c.step.new.self)) (sym c.turn_of-last.ensures)
-    (stop-turned c.in-One.event c.step.new.self _ (one-pushed c.in-One.event _ c.push.new.self c.steps.invariant.empty c.push.ensures)
+    (stop-turned c.in-One.event (snapshot_of c.step.new.self) _ (one-pushed c.in-One.event _ c.push.new.self c.steps.invariant.empty c.push.ensures)
     c.in-One.ensures.ends c.if-self.true)
 
 pub returns-then-self-clause-falls : goal.returns-then-self-clause-falls
@@ -74,7 +74,7 @@ returns-then-self-clause-falls c =
 pub steps-init : goal.steps-init
 steps-init c = record {
   running = c.requires.goes_on;
-  whole = record { sound = c.requires.whole.sound; callees = c.requires.whole.callees };
+  whole = c.requires.whole;
   empty = c.requires.empty;
   within = same-left (left (running_of c.args.self.now));
   follows = follows-none (running_of c.args.self.now);
@@ -86,7 +86,7 @@ steps-preserved c =
     let whole = c.in-Nothing.ensures.whole on in
     record {
       running = on;
-      whole = record { sound = whole.sound; callees = whole.callees };
+      whole = whole;
       empty = c.steps.invariant.empty;
       within = less-left (left (running_of c.step.new.self)) _ _ (c.in-Nothing.ensures.falls on) c.steps.invariant.within;
       follows = follows-then _ _ (running_of c.step.new.self) [] c.steps.invariant.follows c.in-Nothing.ensures.follows;
@@ -96,22 +96,16 @@ pub steps-smaller : goal.steps-smaller
 steps-smaller c = c.in-Nothing.ensures.nears
 
 pub step-requires-clause-whole : goal.step-requires-clause-whole
-step-requires-clause-whole c = record { sound = c.steps.invariant.whole.sound; callees = c.steps.invariant.whole.callees }
+step-requires-clause-whole c = c.steps.invariant.whole
 
 pub step-requires-clause-goes_on : goal.step-requires-clause-goes_on
 step-requires-clause-goes_on c = c.steps.invariant.running
 
 pub returns-then-self-clause-whole : goal.returns-then-self-clause-whole
-returns-then-self-clause-whole c = λ on.
-    let whole = c.in-One.ensures.whole on in
-    record { sound = whole.sound; callees = whole.callees }
+returns-then-self-clause-whole c = λ on. c.in-One.ensures.whole on
 
 pub returns-else-self-clause-whole : goal.returns-else-self-clause-whole
-returns-else-self-clause-whole c = λ on.
-    let whole = c.in-One.ensures.whole on in
-    record { sound = whole.sound; callees = whole.callees }
+returns-else-self-clause-whole c = λ on. c.in-One.ensures.whole on
 
 pub returns-in-Two-clause-whole : goal.returns-in-Two-clause-whole
-returns-in-Two-clause-whole c = λ on.
-    let whole = c.in-Two.ensures.whole on in
-    record { sound = whole.sound; callees = whole.callees }
+returns-in-Two-clause-whole c = λ on. c.in-Two.ensures.whole on

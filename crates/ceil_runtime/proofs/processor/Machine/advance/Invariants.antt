@@ -1,7 +1,7 @@
 use Rattle.std.proofs.Common.{◌≡◌, ◌≤◌, [], false}
 use Rattle.ceil_runtime.specs.Left.{left}
 use Rattle.ceil_runtime.specs.Processing.{Follows}
-use Rattle.ceil_runtime.specs.Shown.{IsWhole, running_of}
+use Rattle.ceil_runtime.specs.Shown.{IsWhole, running_of, snapshot_of}
 use Rattle.ceil_runtime.specs.Stepping.{steps_left}
 use Rattle.ceil_runtime.proofs.processor.Machine.advance.Given as goal
 
@@ -16,4 +16,4 @@ invariant-steps l = record {
 }
 
 abbrev pub decreases-steps : goal.decreases-steps
-decreases-steps l = steps_left l.self
+decreases-steps l = steps_left (snapshot_of l.self)

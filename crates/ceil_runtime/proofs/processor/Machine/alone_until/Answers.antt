@@ -1,32 +1,33 @@
-use Rattle.std.proofs.Common.{length, refl, arith, sym, ◌∙◌, subst}
-use Rattle.std.proofs.lemmas.Option.{same_Some, slice_get_read}
+use Rattle.std.proofs.Common.{arith, sym, ◌∙◌, subst}
+use Rattle.std.proofs.lemmas.Option.{same_Some}
 use Rattle.ceil_runtime.specs.Processing.{IsBelow}
 use Rattle.task_runtime.specs.declared.task.Task.{Task}
 use Rattle.ceil_runtime.proofs.Alone.{asleep-from, each-most}
-use Rattle.ceil_runtime.proofs.Stepped.{running-sound}
+use Rattle.ceil_runtime.specs.Shown.{snapshot_of}
+use Rattle.ceil_runtime.proofs.Phases.{caller-here, caller-known, whole-acting}
 use Rattle.ceil_runtime.proofs.processor.Machine.alone_until.Goals as goal
 
 pub index-requires : goal.index-requires
 index-requires c =
-    let m = c.args.self.now in
-    let sound = running-sound m c.args.task c.requires.whole c.requires.phase c.requires.goes_on in
-    omega (arith, sound.here.1, m.tasks.ok.0)
+    omega (arith, caller-known (snapshot_of c.args.self.now) c.args.task c.requires.acting, c.args.self.now.tasks.ok.0)
 
 pub first_release-most-requires-clause-in_time : goal.first_release-most-requires-clause-in_time
-first_release-most-requires-clause-in_time c = c.requires.whole.sound.in_time
+first_release-most-requires-clause-in_time c = c.requires.acting.whole.sound.in_time
 
 pub first_release-most-requires-clause-later : goal.first_release-most-requires-clause-later
 first_release-most-requires-clause-later c =
     let m = c.args.self.now in
-    asleep-from _ m.time m.links.asleep c.requires.whole.sound.sleeping
+    let s = snapshot_of m in
+    asleep-from _ m.time m.links.asleep c.requires.acting.whole.sound.sleeping
 
 pub returns-then-is_outranked : goal.returns-then-is_outranked
 returns-then-is_outranked c =
     let m = c.args.self.now in
+    let s = snapshot_of m in
     record {
       later = omega arith;
-      horizon = c.requires.whole.sound.in_time;
-      wake = asleep-from _ m.time m.links.asleep c.requires.whole.sound.sleeping;
+      horizon = c.requires.acting.whole.sound.in_time;
+      wake = asleep-from _ m.time m.links.asleep c.requires.acting.whole.sound.sleeping;
       arrival = λ n from before. absurd (omega (arith, from, before));
       first = λ less t at. absurd (omega (arith, less));
     }
@@ -34,10 +35,11 @@ returns-then-is_outranked c =
 pub returns : goal.returns
 returns c =
     let m = c.args.self.now in
+    let s = snapshot_of m in
     let i = c.args.task in
-    let sound = running-sound m i c.requires.whole c.requires.phase c.requires.goes_on in
+    let sound = (whole-acting s i c.requires.acting).sound in
     let t = c.index.result.now in
-    let here = slice_get_read m.tasks.items (length m.tasks.items) i t refl sound.here.1 c.index.ensures in
+    let here = caller-here s i c.requires.acting t c.index.ensures in
     let below = c.is_outranked.ensures c.if-is_outranked.false in
     record {
       later = c.first_arrival.ensures.later;

@@ -1,10 +1,11 @@
 use Rattle.std.proofs.Common.{arith}
 use Rattle.ceil_runtime.proofs.Alone.{alone-both, alone-none}
+use Rattle.ceil_runtime.specs.Shown.{snapshot_of}
 use Rattle.ceil_runtime.proofs.processor.Machine.go_on.Goals as goal
 
 pub pieces-init : goal.pieces-init
 pieces-init c = record {
-  goes = alone-none c.args.self.now c.args.task c.alone_until-limit.result c.requires.whole c.requires.phase c.requires.goes_on
+  goes = alone-none (snapshot_of c.args.self.now) c.args.task c.alone_until-limit.result c.requires.acting
       c.alone_until-limit.ensures;
 }
 

@@ -6,21 +6,7 @@ use Rattle.task_runtime.specs.declared.task.Task.{Task}
 use Rattle.ceil_runtime.proofs.processor.Machine.stop.Goals as goal
 
 pub returns-clause-machine : goal.returns-clause-machine
-returns-clause-machine c =
-    record {
-      tasks = refl;
-      objects = refl;
-      links = refl;
-      arrivals = refl;
-      units = refl;
-      callees = refl;
-      costs = refl;
-      until = refl;
-      time = refl;
-      phase = refl;
-      ran = refl;
-      stopped = refl;
-    }
+returns-clause-machine c = refl
 
 pub returns-clause-told : goal.returns-clause-told
 returns-clause-told c = λ t at.

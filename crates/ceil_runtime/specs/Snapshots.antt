@@ -1,0 +1,46 @@
+-- A processor at an instant, by what is read off its machine: what runs, where its run stands, and what always holds there.
+use Rattle.std.specs.Prelude.{ℕ, Bool, List, Option}
+use Rattle.seq_tree.specs.Variables.{Variables}
+use Rattle.seq_tree.specs.declared.tree.Costs.{Costs}
+use Rattle.ada_tree.specs.declared.program.Unit as trees
+use Rattle.arrivals_tree.specs.declared.arrivals.Arrival.{Arrival}
+use Rattle.link_queue.specs.Queues.{Queues}
+use Rattle.machine.specs.Systems.{System}
+use Rattle.machine.specs.States.{State}
+use Rattle.machine.specs.Meanings.{Running}
+use Rattle.task_runtime.specs.Called.{AreCalleesOf}
+use Rattle.task_runtime.specs.declared.callees.Callees.{Callees}
+use Rattle.task_runtime.specs.declared.task.Task.{Task}
+use Rattle.ceil_runtime.specs.Processing.{IsSound, state_by, system_by}
+use Rattle.ceil_runtime.specs.declared.processor.Phase.{Phase}
+
+-- a processor, without how its machine keeps it
+pub record Snapshot : Type 0 where
+  pub until : ℕ
+  pub costs : Costs
+  pub units : List trees.Unit
+  pub callees : Callees
+  pub stores : List Variables
+  pub arrivals : List Arrival
+  pub time : ℕ
+  pub phase : Phase
+  pub ran : Option ℕ
+  pub stopped : Bool
+  pub tasks : List Task
+  pub queues : Queues
+
+-- what runs
+abbrev pub system_at : Snapshot → System
+system_at s = system_by s.until s.costs s.units s.tasks
+
+-- where it stands
+abbrev pub state_at : Snapshot → State
+state_at s = state_by s.stores s.arrivals s.time s.phase s.ran s.stopped s.tasks s.queues.ready
+
+abbrev pub running_at : Snapshot → Running
+running_at s = record { system = system_at s; state = state_at s }
+
+-- its lists are those of its tasks, and its calls lead to what those of its units do
+pub record IsWholeAt (s : Snapshot) : Type 0 where
+  pub sound : IsSound s.until s.time s.phase s.ran s.units s.tasks s.queues
+  pub callees : AreCalleesOf s.callees s.units

@@ -1,0 +1,13 @@
+use Rattle.std.proofs.Common.{◌≡◌, Some, refl, ap, ◌∙◌}
+use Rattle.seq_tree.specs.Statements.{Work}
+use Rattle.seq_tree.specs.Trees.{expression_of}
+use Rattle.linker.specs.Standing.{lists_of}
+use Rattle.linker.specs.declared.code.Ins.TheVariants as ins
+use Rattle.linker.proofs.Keeping.{added_none, reads_grown}
+use Rattle.linker.proofs.Linkages.{one_instruction}
+use Rattle.linker.proofs.plain.link_work.Goals as goal
+
+pub returns : goal.returns
+returns c = λ leads scope out. one_instruction leads scope out c.in_ok-at.at c.args.end (ins.Work c.args.ticks) (lists_of c.args.code.now)
+    (lists_of c.args.code.now) (lists_of c.fill.new.code) (Work c.args.ticks) (added_none (lists_of c.args.code.now)) c.in_ok-fill.ensures
+    c.in_ok-at.ensures refl (λ later h g l. h)

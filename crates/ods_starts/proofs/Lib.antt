@@ -7,6 +7,7 @@ pub mod CallRings
 pub mod NamePlaces
 pub mod ObjectRings
 pub mod LoopEnds
+pub mod OnceCalls
 pub mod LoopSteps
 pub mod KeptCalls
 pub mod RequestLaws

@@ -273,3 +273,20 @@ fault-counted x o sources starts k s t =
     ap (λ n. only_if (not (n == 1) || not (nat_le starts 1)) (V10 o.name n starts)) s
     ∙ ap (λ n. only_if (not (source_count x o == 1) || not (nat_le n 1)) (V10 o.name (source_count x o) n)) t
     ∙ ap (λ b. only_if (b && breaks_sources x o) (V10 o.name (source_count x o) (start_count x o))) (sym k)
+
+least-one : (n k : ℕ) → n ≡ min 2 k → k ≤ 1 → nat_le n 1 ≡ true
+least-one n k e h = grind (arith, e, h)
+
+-- nothing is told of one that has one source and is requested once at most
+pub fault-none : (x : Design) (o : Object) (sources : ℕ) → sources ≡ source_count x o → (sources == 1) ≡ true
+    → fold max 0 (map (requests_by x o.name) (thread_objects x)) ≤ 1 → source_fault x o ≡ None
+fault-none x o sources s one few =
+    let counted : (source_count x o == 1) ≡ true = ap (λ n. n == 1) (sym s) ∙ one in
+    let started : nat_le (start_count x o) 1 ≡ true = least-one (start_count x o) (fold max 0 (map (requests_by x o.name) (thread_objects x))) refl few in
+    ap (λ b. only_if (is_sporadic o.kind && (not b || not (nat_le (start_count x o) 1))) (V10 o.name (source_count x o) (start_count x o))) counted
+    ∙ ap (λ b. only_if (is_sporadic o.kind && (false || not b)) (V10 o.name (source_count x o) (start_count x o))) started
+    ∙ by (is_sporadic o.kind)
+  where
+    by : (b : Bool) → only_if (b && false) (V10 o.name (source_count x o) (start_count x o)) ≡ None
+    by true = refl
+    by false = refl

@@ -3,6 +3,7 @@ pub mod Guarded
 pub mod Reaching
 pub mod Requested
 pub mod Requesters
+pub mod Singles
 pub mod Spacings
 pub mod Spreading
 pub mod Starting

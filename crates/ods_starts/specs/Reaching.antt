@@ -1,6 +1,6 @@
 -- The threads that reach objects, by the names of these.
 -- A thread reaches an object of which it calls an operation, itself or through protected operations.
-use Rattle.std.specs.Prelude.{◌≡◌, ◌<◌, List, filter, flat_map, length, map}
+use Rattle.std.specs.Prelude.{◌≡◌, ◌<◌, ◌≤◌, true, List, filter, flat_map, fold, length, map, max}
 use Rattle.std.specs.Borrow.{Bor}
 use Rattle.seq_tree.specs.Names.{Name}
 use Rattle.seq_tree.specs.declared.tree.OpName.{OpName}
@@ -9,8 +9,10 @@ use Rattle.ods_tree.specs.Designs.{Object}
 use Rattle.ods_tree.specs.Trees.{design_of}
 use Rattle.ods_tree.specs.declared.design.Node.{Node}
 use Rattle.design_rules.specs.Rings.{thread_objects}
+use Rattle.design_rules.specs.Sources.{requests_by}
 use Rattle.ods_starts.specs.Requested.{bodies_at, held_bodies, held_named}
 use Rattle.ods_starts.specs.Requesters.{HasCallers}
+use Rattle.ods_starts.specs.Singles.{is_once}
 use Rattle.ods_starts.specs.Spreading.{reaches}
 use Rattle.ods_index.specs.Walking.{object_of}
 use Rattle.ods_starts.specs.declared.reacher.Reacher.{Reacher}
@@ -35,4 +37,6 @@ pub record AreRight (r : Requests) : Type 0 where
   pub threads : map thread_of r.threads.items ≡ thread_objects (design_of r.starts.links.design.now)
   pub reached : (n : Name) → reachers_at r.reachers n
       ≡ filter (λ o. reaches (design_of r.starts.links.design.now) o n) (thread_objects (design_of r.starts.links.design.now))
+  pub once : (n : Name) → is_once r.once n ≡ true
+      → fold max 0 (map (requests_by (design_of r.starts.links.design.now) n) (thread_objects (design_of r.starts.links.design.now))) ≤ 1
   pub few : length (thread_objects (design_of r.starts.links.design.now)) < 4294967295

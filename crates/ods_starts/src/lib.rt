@@ -9,6 +9,7 @@ mod call_rings;
 mod callers;
 mod held;
 mod object_rings;
+mod once;
 mod reacher;
 mod requests;
 mod separations;

@@ -17,11 +17,13 @@ ghost use Rattle.ods_index.specs.Judging.{Tells, head_of};
 ghost use Rattle.ods_index.specs.Linked.{op_of};
 ghost use Rattle.ods_starts.specs.Reaching.{AreRight, reacher_of, reachers_at, thread_of};
 ghost use Rattle.ods_starts.specs.Requested.{Knows, block_count, source_fault};
+ghost use Rattle.ods_starts.specs.Singles.{is_once};
 ghost use Rattle.ods_starts.specs.Spreading.{is_there, reaches};
 ghost use Rattle.ods_index.specs.Walking.{object_of};
 
 use crate::callers::Callers;
 use crate::held::{Bodies, bodies_of, table_of};
+use crate::once::Once;
 use crate::reacher::Reacher;
 use crate::requests::{block_requests, counts_within};
 use crate::starts::{Starts, threads_of};
@@ -232,6 +234,7 @@ struct Requests<'a> {
     callers: Callers<'a>,
     threads: Vec<&'a Node>,
     reachers: Reachers<'a>,
+    once: Once<'a>,
 }
 
 impl<'a> Requests<'a> {
@@ -248,12 +251,14 @@ impl<'a> Requests<'a> {
         let callers = Callers::of_bodies(alloc, &starts.links, listed.as_slice())?;
         let threads = threads_of(alloc, index.objects.as_slice())?;
         let reachers = reachers_of(alloc, &starts, threads.as_slice())?;
+        let once = Once::new(alloc, &starts.links, listed.as_slice(), threads.as_slice())?;
         Ok(Requests {
             starts,
             bodies,
             callers,
             threads,
             reachers,
+            once,
         })
     }
 
@@ -303,6 +308,14 @@ impl<'a> Requests<'a> {
         }
     }
 
+    /// Whether an object has one source, and shows at once that no path requests it twice.
+    #[tactic(auto, using(ods_index::proofs::Shared::WalkSteps::node_steps))]
+    fn is_fine(&self, node: &Node, sources: u32) -> bool
+        ensures { result ≡ (sources == 1 && is_once self.now.once (object_of node.now).name) }
+    {
+        sources == 1 && self.once.has(&node.name)
+    }
+
     /// Tells an object whose sources are wrong.
     #[tactic(auto, using(ods_index::proofs::Shared::WalkSteps::node_steps))]
     fn target_fits(&self, alloc: Global, node: &Node) -> Result<(), Broken>
@@ -313,6 +326,9 @@ impl<'a> Requests<'a> {
             return Ok(());
         }
         let sources = self.source_count(node);
+        if self.is_fine(node, sources) {
+            return Ok(());
+        }
         let starts = self.start_count(alloc, node)?;
         counts_fit(alloc, node, sources, starts)
     }

@@ -35,7 +35,7 @@ fn add_target<'a>(node: &'a Node, names: &mut Places<'a>) -> Result<(), NoMemory
 }
 
 /// A table of the names of sporadic threads.
-fn targets_of<'a>(alloc: Global, threads: &[&'a Node]) -> Result<Places<'a>, NoMemory>
+pub(crate) fn targets_of<'a>(alloc: Global, threads: &[&'a Node]) -> Result<Places<'a>, NoMemory>
     ensures { IfOk result (λ t. (n : NameTree) → is_there (place_in t n) ≡ has_target (map node_object threads.entry.now) n) }
 {
     let mut names = Places::new(alloc);

@@ -1,4 +1,5 @@
-use Rattle.std.proofs.Common.{◌≡◌, ◌<◌, Bor, List, filter, flat_map, length, map, ap, sym, subst, ◌∙◌}
+use Rattle.std.proofs.Common.{◌≡◌, ◌<◌, ◌≤◌, Bor, fold, List, filter, flat_map, length, map, ap, sym, subst, ◌∙◌}
+use Rattle.std.specs.Prelude.{max}
 use Rattle.ods_tree.specs.Designs.{Object}
 use Rattle.ods_tree.specs.Flattening.{is_protected}
 use Rattle.ods_tree.specs.Trees.{design_of}
@@ -7,6 +8,7 @@ use Rattle.ods_tree.specs.declared.design.Design as code
 use Rattle.ods_tree.specs.declared.design.Node.{Node}
 use Rattle.design_rules.specs.Lookups.{has_thread}
 use Rattle.design_rules.specs.Rings.{thread_objects}
+use Rattle.design_rules.specs.Sources.{requests_by}
 use Rattle.ods_starts.specs.Reaching.{thread_of}
 use Rattle.ods_starts.specs.Requested.{held_bodies, held_in, held_named, held_of, object_callers, op_callers}
 use Rattle.ods_starts.specs.Spreading.{reaches}
@@ -44,6 +46,19 @@ returns-clause-right c =
           λ n. c.in_ok-reachers.ensures n
           ∙ ap (λ (ts : List (Bor Node)). filter (λ o. reaches x o n) (map thread_of ts)) c.as_slice-5.ensures.value
           ∙ ap (λ (os : List Object). filter (λ o. reaches x o n) os) threads;
+      once =
+          λ n h. subst (λ (os : List Object). fold max 0 (map (requests_by x n) os) ≤ 1)
+          (ap (λ (ts : List (Bor Node)). map thread_of ts) c.as_slice-7.ensures.value ∙ threads) (c.in_ok-once.ensures n h);
       few =
           subst (λ (d : code.Design). length (thread_objects (design_of d)) < 4294967295) (sym c.in_ok-starts.ensures) (few-threads y c.requires.few);
     }
+
+pub new-requires : goal.new-requires
+new-requires c =
+    let y = design_of c.args.index.now.design.now in
+    let x = design_of c.in_ok-starts.starts.links.design.now in
+    let same : objects y ≡ objects x = ap (λ (d : code.Design). objects (design_of d)) (sym c.in_ok-starts.ensures) in
+    let walked : map standing_of c.as_slice.result.now ≡ objects x = ap (λ (ss : List Standing). map standing_of ss) c.as_slice.ensures.value
+    ∙ c.requires.indexed.walked ∙ same in
+    ap (λ (bs : List ProtectedBody). map held_of bs) c.as_slice-6.ensures.value ∙ c.in_ok-listed.ensures
+    ∙ ap (λ ss. flat_map (λ s. held_in s.own) (filter (λ s. is_protected s.own.kind) (filter is_terminal ss))) walked

@@ -1,0 +1,3 @@
+mod ListedSteps
+mod WaySteps
+pub mod Shared

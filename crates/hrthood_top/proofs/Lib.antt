@@ -32,5 +32,5 @@ pub mod ScaleLaws
 pub mod Summed
 pub mod Gathering
 mod Examples
-pub mod UnreadEnds
+pub mod RunsDone
 pub mod Tracing

@@ -18,6 +18,7 @@ pub mod Scales
 pub mod Backgrounds
 pub mod Commands
 pub mod Ends
+pub mod Runs
 pub mod Exact
 pub mod TwoRuns
 pub mod Fetches

@@ -5,6 +5,7 @@ pub mod Ending
 pub mod Streamed
 pub mod OneText
 pub mod OneDesign
+pub mod Taken
 pub mod OneRule
 pub mod OneBounds
 pub mod VerbLaws

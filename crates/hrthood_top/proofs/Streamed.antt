@@ -2,8 +2,8 @@
 use Rattle.std.proofs.Common.{◌≡◌, ℕ, List, Option, sym, subst, inl}
 use Rattle.std.specs.Prelude.{⊤}
 use Rattle.hrthood_top.specs.declared.status.Status.{Status}
-use Rattle.hrthood_top.specs.declared.halt.Halt.{Halt}
-use Rattle.hrthood_top.specs.declared.halt.Halt.TheVariants.{Refused, NoMemory}
+use Rattle.bridge.specs.declared.halt.Halt.{Halt}
+use Rattle.bridge.specs.declared.halt.Halt.TheVariants.{Refused, NoMemory}
 use Rattle.hrthood_top.specs.Files.{Texts}
 use Rattle.hrthood_top.specs.Verbs.{Verb}
 use Rattle.hrthood_top.specs.Writing.{Streams, TellsHalt}

@@ -5,14 +5,12 @@ use Rattle.ods_tree.specs.Designs as designs
 use Rattle.ods_tree.specs.Reading.{Reads}
 use Rattle.ods_tree.specs.Ticks.{in_ticks}
 use Rattle.ods_tree.specs.Walk.{objects}
-use Rattle.ods_read.specs.Answers.{Faults}
 use Rattle.design_rules.specs.Rings.{thread_objects}
 use Rattle.design_rules.specs.Rules.{MeetsRules}
-use Rattle.ods_index.specs.Told.{told_of}
-use Rattle.bridge.specs.Delivers.{BreaksRule}
+use Rattle.bridge.specs.Taking.{RefusesTaking}
 use Rattle.hrthood_top.specs.declared.file_kind.FileKind.TheVariants.{Design}
-use Rattle.hrthood_top.specs.declared.check.CheckRefusal.{CheckRefusal}
-use Rattle.hrthood_top.specs.declared.check.CheckRefusal.TheVariants.{Text, Rule}
+use Rattle.bridge.specs.declared.taking.Untaken.{Untaken}
+use Rattle.bridge.specs.declared.taking.Untaken.TheVariants.{Text, Rule}
 use Rattle.hrthood_top.specs.Messages.{text_line, rule_line}
 use Rattle.hrthood_top.specs.Verbs.{Verb}
 
@@ -29,13 +27,8 @@ pub record IsTaken (bytes line : List ℕ) : Type 0 where
   pub meets : MeetsRules design
   pub line_is : line ≡ taken_line (in_ticks design)
 
--- why a design is not taken
-abbrev pub RefusesCheck : List ℕ → CheckRefusal → Type 0
-RefusesCheck bytes (Text fault) = Faults bytes fault
-RefusesCheck bytes (Rule broken) = BreaksRule bytes (told_of broken)
-
--- the line that tells it
-abbrev pub check_line : CheckRefusal → List ℕ
+-- the line that tells why a design is not taken
+abbrev pub check_line : Untaken → List ℕ
 check_line (Text fault) = text_line Design fault
 check_line (Rule broken) = rule_line broken
 
@@ -50,8 +43,8 @@ abbrev pub checks : List ℕ → Verb
 checks design = record {
   files = record { kind = Design; name = design } ∷ [];
   Makes = λ texts made. IsTaken (texts Design) made;
-  Refusal = CheckRefusal;
-  Refuses = λ texts refusal. RefusesCheck (texts Design) refusal;
+  Refusal = Untaken;
+  Refuses = λ texts refusal. RefusesTaking (texts Design) refusal;
   line = check_line;
   Stop = ⊥;
   Stops = λ texts text stop. ⊥;

@@ -3,7 +3,6 @@ pub mod Verbs
 pub mod Messages
 pub mod Tells
 pub mod Checks
-pub mod Taking
 pub mod Formats
 pub mod Generates
 pub mod Analyses

@@ -6,11 +6,9 @@ use Rattle.ods_tree.specs.Designs as designs
 use Rattle.ods_tree.specs.Flattening.{flat}
 use Rattle.ods_tree.specs.Reading.{Reads}
 use Rattle.ods_tree.specs.Ticks.{in_ticks}
-use Rattle.ods_read.specs.Answers.{Faults}
 use Rattle.design_rules.specs.Rules.{MeetsRules}
-use Rattle.ods_index.specs.Told.{told_of}
 use Rattle.rt_response.specs.declared.rows.Miss as rows
-use Rattle.bridge.specs.Delivers.{BreaksRule}
+use Rattle.bridge.specs.Taking.{RefusesTaking}
 use Rattle.law_scaling.specs.Holding.{Holds}
 use Rattle.scaling.specs.Margins.{IsMargin, HasNoMargin}
 use Rattle.scaling.specs.declared.margin.Margin.{Margin}
@@ -18,8 +16,9 @@ use Rattle.scaling.specs.declared.margin.Next.{Next}
 use Rattle.scaling.specs.declared.margin.Next.TheVariants as next
 use Rattle.hrthood_top.specs.declared.file_kind.FileKind.TheVariants.{Design}
 use Rattle.hrthood_top.specs.declared.scale.ScaleRefusal.{ScaleRefusal}
-use Rattle.hrthood_top.specs.declared.scale.ScaleRefusal.TheVariants.{Text, Rule, Miss}
-use Rattle.hrthood_top.specs.Messages.{text_line, rule_line, miss_line, miss_text, part_text}
+use Rattle.hrthood_top.specs.declared.scale.ScaleRefusal.TheVariants.{Untaken, Miss}
+use Rattle.hrthood_top.specs.Checks.{check_line}
+use Rattle.hrthood_top.specs.Messages.{miss_line, miss_text, part_text}
 use Rattle.hrthood_top.specs.Verbs.{Verb}
 
 -- the line of what fails at the next per mille
@@ -51,14 +50,12 @@ pub record HoldsNowhere (bytes : List ℕ) (thread : Name) (miss : rows.Miss) : 
 
 -- why a design has no margin
 abbrev pub RefusesScale : List ℕ → ScaleRefusal → Type 0
-RefusesScale bytes (Text fault) = Faults bytes fault
-RefusesScale bytes (Rule broken) = BreaksRule bytes (told_of broken)
+RefusesScale bytes (Untaken refusal) = RefusesTaking bytes refusal
 RefusesScale bytes (Miss thread miss) = HoldsNowhere bytes thread miss
 
 -- the line that tells it
 abbrev pub scale_line : ScaleRefusal → List ℕ
-scale_line (Text fault) = text_line Design fault
-scale_line (Rule broken) = rule_line broken
+scale_line (Untaken refusal) = check_line refusal
 scale_line (Miss thread miss) = miss_line thread miss
 
 -- bytes of a design that meets the rules and holds at one per mille

@@ -16,9 +16,9 @@ use Rattle.hrthood_top.specs.declared.file_kind.FileKind.TheVariants.{Design}
 use Rattle.hrthood_top.specs.declared.search.SearchRefusal.{SearchRefusal}
 use Rattle.hrthood_top.specs.declared.search.SearchRefusal.TheVariants.{Untaken, Started, None}
 use Rattle.hrthood_top.specs.Analyses.{report}
-use Rattle.hrthood_top.specs.Checks.{RefusesCheck, check_line}
+use Rattle.hrthood_top.specs.Checks.{check_line}
 use Rattle.hrthood_top.specs.Messages.{name_line}
-use Rattle.hrthood_top.specs.Taking.{IsTakenAs}
+use Rattle.bridge.specs.Taking.{IsTakenAs, RefusesTaking}
 use Rattle.hrthood_top.specs.Verbs.{Verb}
 
 -- the name of the thread at a place, where one is there
@@ -68,7 +68,7 @@ IsSearched bytes lines = (x : designs.Design) × IsTakenAs bytes x × IsOrdered 
 
 -- why no order is found for bytes
 abbrev pub RefusesSearch : List ℕ → SearchRefusal → Type 0
-RefusesSearch bytes (Untaken refusal) = RefusesCheck bytes refusal
+RefusesSearch bytes (Untaken refusal) = RefusesTaking bytes refusal
 RefusesSearch bytes (Started thread) = (x : designs.Design) × IsTakenAs bytes x × IsInternal (flat x) thread
 RefusesSearch bytes (None threads) = (x : designs.Design) × IsTakenAs bytes x × HasNoOrder (flat x) threads
 

@@ -4,11 +4,11 @@ ghost use Rattle.hrthood_top.specs.Tells.{Tells};
 ghost use Rattle.hrthood_top.specs.Writing.{Finishes, TellsEnding, TellsHalt, TellsStop, TellsUnread, TellsWritten};
 
 use crate::fetch::Stop;
-use crate::halt::Halt;
 use crate::line::{Line, tell};
 use crate::message::Message;
 use crate::status::Status;
 use crate::violation::Ending;
+use bridge::Halt;
 use hood_io::{Failed, Sink, put_all};
 use hrthood_words::Unread;
 

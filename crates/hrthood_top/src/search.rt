@@ -11,17 +11,15 @@ ghost use Rattle.hrthood_top.specs.Searches.{searches, search_line, name_at, rep
 ghost use Rattle.hrthood_top.specs.Writing.{IsMade};
 ghost use Rattle.priority_search.specs.Searches.{IsFound, IsNotFound};
 
-use crate::check::CheckRefusal;
 use crate::fetch::{File, fetch_files};
 use crate::file_kind::FileKind;
 use crate::finish::{finish, tell_stop};
-use crate::halt::Halt;
 use crate::line::{Line, put_named};
 use crate::report::report;
 use crate::status::Status;
-use crate::take::take;
 use crate::thread_names::{ThreadNames, names_at, put_names};
 use analysis::{Ranking, Table};
+use bridge::{Halt, Untaken, take};
 use design_bounds::{ceilings, named};
 use hood_io::{Failed, Shelf, Sink, put_all};
 use ods_flat::{first_priority, flatten};
@@ -35,7 +33,7 @@ use std::alloc::Global;
 #[derive(Drop, Debug)]
 pub enum SearchRefusal {
     /// The bytes are not the text of a design, or the design breaks a rule.
-    Untaken(CheckRefusal),
+    Untaken(Untaken),
     /// This sporadic thread is requested by threads; it is the first in flattened order.
     Started(Name),
     /// No order passes: of these threads none can be last of them.

@@ -3,7 +3,7 @@ use Rattle.ada_tree.specs.Trees.{program_of}
 use Rattle.arrivals_read.specs.Answers.{Says}
 use Rattle.bridge.specs.Delivers.{IsTextFor}
 use Rattle.ceil_runtime.specs.Shown.{running_of}
-use Rattle.hrthood_top.specs.declared.halt.Halt.TheVariants.{NoMemory}
+use Rattle.bridge.specs.declared.halt.Halt.TheVariants.{NoMemory}
 use Rattle.hrthood_top.specs.Fetches.{texts_of}
 use Rattle.hrthood_top.specs.Generates.{RefusesDesign}
 use Rattle.hrthood_top.specs.Verifies.{verifies}

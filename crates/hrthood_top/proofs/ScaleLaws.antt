@@ -3,7 +3,6 @@ use Rattle.std.proofs.Common.{◌≡◌, ℕ, List, Some, subst, sym, ap, ◌∙
 use Rattle.seq_tree.specs.Names.{Name}
 use Rattle.ods_tree.specs.Designs as designs
 use Rattle.ods_tree.specs.Flattening.{flat}
-use Rattle.ods_tree.specs.Reading.{Reads}
 use Rattle.ods_tree.specs.Ticks.{in_ticks}
 use Rattle.rt_response.specs.declared.rows.Miss as rows
 use Rattle.analysis.specs.Tables.{table}
@@ -14,16 +13,15 @@ use Rattle.law_scaling.specs.Holding.{Holds}
 use Rattle.scaling.specs.Margins.{IsMargin, HasNoMargin}
 use Rattle.scaling.specs.declared.margin.Margin.{Margin}
 use Rattle.scaling.specs.declared.margin.Next.TheVariants as next
-use Rattle.hrthood_top.specs.declared.file_kind.FileKind.TheVariants.{Design}
 use Rattle.hrthood_top.specs.declared.scale.ScaleRefusal.{ScaleRefusal}
 use Rattle.hrthood_top.specs.declared.scale.ScaleRefusal.TheVariants.{Untaken, Miss}
-use Rattle.hrthood_top.specs.Scales.{CanScale, HoldsNowhere, IsScaled, RefusesScale, margin_lines, scales}
+use Rattle.hrthood_top.specs.Scales.{CanScale, HoldsNowhere, IsScaled, RefusesScale, margin_lines, of_scale}
 use Rattle.bridge.specs.Taking.{IsTakenAs}
 use Rattle.hrthood_top.proofs.OneDesign.{one-design, not-untaken, one-untaken}
 use Rattle.law_backgrounds.proofs.Shared.FirstFaults.{one-at}
 use Rattle.hrthood_top.proofs.OneRule.{one-miss}
 use Rattle.hrthood_top.proofs.Taken.{taken-sound}
-use Rattle.hrthood_top.proofs.VerbLaws.{IsExact, never-stops}
+use Rattle.hrthood_top.proofs.VerbLaws.{IsExactOf}
 
 -- WHAT THE CODE MAKES OF A DESIGN THAT IS TAKEN
 
@@ -52,10 +50,10 @@ holds-nowhere bytes x thread m w h =
 
 -- WHAT REFUSES
 
-can_or_refuses : (bytes bytes' : List ℕ) → bytes ≡ bytes' → CanScale bytes → (r : ScaleRefusal) → RefusesScale bytes' r → ⊥
-can_or_refuses bytes bytes' same w (Untaken r) h = not-untaken bytes' w.design r (subst (λ z. Reads z w.design) same w.reads) w.meets h
-can_or_refuses bytes bytes' same w (Miss thread miss) h =
-    let one : w.design ≡ h.design = one-design bytes' w.design h.design (subst (λ z. Reads z w.design) same w.reads) h.reads in
+can_or_refuses : (bytes : List ℕ) → CanScale bytes → (r : ScaleRefusal) → RefusesScale bytes r → ⊥
+can_or_refuses bytes w (Untaken r) h = not-untaken bytes w.design r w.reads w.meets h
+can_or_refuses bytes w (Miss thread miss) h =
+    let one : w.design ≡ h.design = one-design bytes w.design h.design w.reads h.reads in
     let H : designs.Design → Type 0 = λ z. Holds (flat (in_ticks z)) 1 in
     h.without.holds (subst H one w.holds)
 
@@ -81,12 +79,11 @@ one_refusal bytes (Miss thread m) (Miss other n) h k = one_over bytes thread oth
 can_make : (bytes made : List ℕ) → IsScaled bytes made → CanScale bytes
 can_make bytes made w = record { design = w.design; reads = w.reads; meets = w.meets; holds = w.holds }
 
-pub scales-exact : (design : List ℕ) → IsExact (scales design)
-scales-exact design = record {
-  one = λ a b same r q h k. one_refusal (b Design) r q (subst (λ z. RefusesScale z r) same.0 h) k;
-  able = λ a b same w r h. can_or_refuses (a Design) (b Design) same.0 w r h;
-  made = λ a made w. can_make (a Design) made w;
-  stops = never-stops (scales design) (λ texts text stop h. h);
+pub scales-exact : IsExactOf of_scale
+scales-exact = record {
+  able = can_or_refuses;
+  one = one_refusal;
+  made = can_make;
 }
 
 pub ruleset scale_laws = (taken-sound, scaled-as, holds-nowhere)

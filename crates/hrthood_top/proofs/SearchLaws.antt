@@ -7,14 +7,13 @@ use Rattle.ods_tree.specs.Flattening.{flat}
 use Rattle.analysis.specs.Sound.{IsSound}
 use Rattle.law_orders.specs.Orders.{is_internal, AllExternal}
 use Rattle.priority_search.proofs.Shared.OneAnswer.{one-refuted}
-use Rattle.hrthood_top.specs.declared.file_kind.FileKind.TheVariants.{Design}
 use Rattle.hrthood_top.specs.declared.search.SearchRefusal.{SearchRefusal}
 use Rattle.hrthood_top.specs.declared.search.SearchRefusal.TheVariants as refusal
-use Rattle.hrthood_top.specs.Searches.{name_at, names_at, IsInternal, HasNoOrder, IsSearched, RefusesSearch, CanSearch, searches}
+use Rattle.hrthood_top.specs.Searches.{name_at, names_at, IsInternal, HasNoOrder, IsSearched, RefusesSearch, CanSearch, of_search}
 use Rattle.law_backgrounds.proofs.Shared.FirstFaults.{one-at}
 use Rattle.hrthood_top.proofs.OneDesign.{one-untaken}
 use Rattle.hrthood_top.proofs.Taken.{along, taken-not, taken-sound}
-use Rattle.hrthood_top.proofs.VerbLaws.{IsExact, never-stops}
+use Rattle.hrthood_top.proofs.VerbLaws.{IsExactOf}
 
 -- where no item passes a test, none is the first that does
 found-none : {A : Type 0} (test : A → Bool) (n k : ℕ) (xs : List A) → list_any test xs ≡ false → position_from test n xs ≡ Some k → ⊥
@@ -70,10 +69,9 @@ can_make bytes made w = record {
   passes = (w.2.bounds, w.2.least.fits);
 }
 
-pub searches-exact : (design : List ℕ) → IsExact (searches design)
-searches-exact design = record {
-  one = λ a b same r q h k. one_refusal (b Design) r q (subst (λ z. RefusesSearch z r) same.0 h) k;
-  able = λ a b same w r h. not_refused (b Design) (subst CanSearch same.0 w) r h;
-  made = λ a made w. can_make (a Design) made w;
-  stops = never-stops (searches design) (λ texts text stop h. h);
+pub searches-exact : IsExactOf of_search
+searches-exact = record {
+  able = not_refused;
+  one = one_refusal;
+  made = can_make;
 }

@@ -1,6 +1,6 @@
 -- The verb `scale`: how far all `work` of a design may grow, in per mille, and what fails at the next one.
 -- The margin is that of the flat design; the lines are this project's own.
-use Rattle.std.specs.Prelude.{◌≡◌, ℕ, List, [], ◌∷◌, ◌++◌, codes, decimal}
+use Rattle.std.specs.Prelude.{◌≡◌, ℕ, List, ◌++◌, codes, decimal}
 use Rattle.seq_tree.specs.Names.{Name}
 use Rattle.ods_tree.specs.Designs as designs
 use Rattle.ods_tree.specs.Flattening.{flat}
@@ -14,12 +14,11 @@ use Rattle.scaling.specs.Margins.{IsMargin, HasNoMargin}
 use Rattle.scaling.specs.declared.margin.Margin.{Margin}
 use Rattle.scaling.specs.declared.margin.Next.{Next}
 use Rattle.scaling.specs.declared.margin.Next.TheVariants as next
-use Rattle.hrthood_top.specs.declared.file_kind.FileKind.TheVariants.{Design}
 use Rattle.hrthood_top.specs.declared.scale.ScaleRefusal.{ScaleRefusal}
 use Rattle.hrthood_top.specs.declared.scale.ScaleRefusal.TheVariants.{Untaken, Miss}
 use Rattle.hrthood_top.specs.Checks.{check_line}
 use Rattle.hrthood_top.specs.Messages.{miss_line, miss_text, part_text}
-use Rattle.hrthood_top.specs.Verbs.{Verb}
+use Rattle.hrthood_top.specs.Verbs.{OfDesign, Verb, on_design}
 
 -- the line of what fails at the next per mille
 abbrev pub next_line : Next → List ℕ
@@ -65,16 +64,16 @@ pub record CanScale (bytes : List ℕ) : Type 0 where
   pub meets : MeetsRules design
   pub holds : Holds (flat (in_ticks design)) 1
 
+-- what the verb makes of a design
+abbrev pub of_scale : OfDesign
+of_scale = record {
+  Makes = IsScaled;
+  Refusal = ScaleRefusal;
+  Refuses = RefusesScale;
+  line = scale_line;
+  CanDo = CanScale;
+}
+
 -- the verb
 abbrev pub scales : List ℕ → Verb
-scales design = record {
-  files = record { kind = Design; name = design } ∷ [];
-  Makes = λ texts made. IsScaled (texts Design) made;
-  Refusal = ScaleRefusal;
-  Refuses = λ texts refusal. RefusesScale (texts Design) refusal;
-  line = scale_line;
-  Stop = ⊥;
-  Stops = λ texts text stop. ⊥;
-  stop_line = λ stop. [];
-  CanDo = λ texts. CanScale (texts Design);
-}
+scales = on_design of_scale

@@ -2,18 +2,13 @@ ghost use Rattle.std.specs.Prelude.{IfOk};
 ghost use Rattle.hood_io.specs.Causes.{HasCause};
 ghost use Rattle.hood_io.specs.Sinks.{Puts};
 ghost use Rattle.bridge.specs.Delivers.{IsDelivered, IsTextFor};
-ghost use Rattle.hrthood_top.specs.Ends.{EndsVerb, outside};
-ghost use Rattle.hrthood_top.specs.Generates.{generates, generate_line, RefusesDesign};
+ghost use Rattle.hrthood_top.specs.Generates.{generate_line, RefusesDesign};
 ghost use Rattle.hrthood_top.specs.Writing.{IsMade};
 
 use crate::design_lines::put_miss;
-use crate::fetch::{File, fetch_files};
-use crate::file_kind::FileKind;
-use crate::finish::{finish, tell_stop};
 use crate::line::Line;
-use crate::status::Status;
 use bridge::{Delivery, Halt, Refusal, Untaken, deliver};
-use hood_io::{Failed, Shelf, Sink, put_all};
+use hood_io::{Failed, Sink, put_all};
 use rt_response::Miss;
 use seq_tree::Name;
 use std::alloc::Global;
@@ -83,27 +78,5 @@ pub(crate) fn generate_text(alloc: Global, design: &[u8]) -> Result<Vec<u8>, Hal
             Ok(text)
         }
         Err(why) => Err(why),
-    }
-}
-
-/// Does the verb `generate`, from its file to what is written.
-pub(crate) fn generate<F: Shelf, O: Sink, E: Sink>(
-    alloc: Global,
-    design: &str,
-    shelf: &mut F,
-    out: &mut O,
-    err: &mut E,
-) -> Status
-    ensures { EndsVerb result (generates design.now)
-        (outside (F.told shelf.old) (F.faults shelf.old) (O.written out.old) (O.faults out.old) (E.written err.old) (E.faults err.old))
-        (outside (F.told shelf.new) (F.faults shelf.new) (O.written out.new) (O.faults out.new) (E.written err.new) (E.faults err.new)) }
-{
-    let files = [File {
-        kind: FileKind::Design,
-        name: design,
-    }];
-    match fetch_files(alloc, shelf, &files) {
-        Ok(texts) => finish(out, err, generate_text(alloc, &texts.design)),
-        Err(stop) => tell_stop(err, stop),
     }
 }

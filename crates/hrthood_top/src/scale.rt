@@ -4,19 +4,14 @@ ghost use Rattle.ods_rules.specs.Checks.{checked_design};
 ghost use Rattle.ods_tree.specs.Flattening.{flat};
 ghost use Rattle.analysis.specs.Sound.{IsSound};
 ghost use Rattle.scaling.specs.Margins.{Scales};
-ghost use Rattle.hrthood_top.specs.Ends.{EndsVerb, outside};
-ghost use Rattle.hrthood_top.specs.Scales.{IsScaled, RefusesScale, scale_line, scales};
+ghost use Rattle.hrthood_top.specs.Scales.{IsScaled, RefusesScale, scale_line};
 ghost use Rattle.hrthood_top.specs.Writing.{IsMade};
 
 use crate::design_lines::put_miss;
-use crate::fetch::{File, fetch_files};
-use crate::file_kind::FileKind;
-use crate::finish::{finish, tell_stop};
 use crate::line::Line;
 use crate::margin::margin_lines;
-use crate::status::Status;
 use bridge::{Halt, Untaken, take};
-use hood_io::{Failed, Shelf, Sink};
+use hood_io::{Failed, Sink};
 use ods_flat::flatten;
 use ods_rules::Checked;
 use rt_order::order;
@@ -65,7 +60,7 @@ fn margin_of(alloc: Global, checked: &Checked) -> Result<Margin, ScaleFault>
 
 /// What is told of the text of a design: its margin.
 #[tactic(auto, using(crate::proofs::ScaleLaws::scale_laws))]
-fn scale_text(alloc: Global, design: &[u8]) -> Result<Vec<u8>, Halt<ScaleRefusal>>
+pub(crate) fn scale_text(alloc: Global, design: &[u8]) -> Result<Vec<u8>, Halt<ScaleRefusal>>
     ensures { IsMade (λ v. v.items) (IsScaled design.now) (RefusesScale design.now) result }
 {
     let checked = match take(alloc, design) {
@@ -82,27 +77,5 @@ fn scale_text(alloc: Global, design: &[u8]) -> Result<Vec<u8>, Halt<ScaleRefusal
             Err(Halt::Refused(ScaleRefusal::Miss { thread, miss }))
         }
         Err(ScaleFault::NoMemory) => Err(Halt::NoMemory),
-    }
-}
-
-/// Does the verb `scale`, from its file to what is written.
-pub(crate) fn scale<F: Shelf, O: Sink, E: Sink>(
-    alloc: Global,
-    design: &str,
-    shelf: &mut F,
-    out: &mut O,
-    err: &mut E,
-) -> Status
-    ensures { EndsVerb result (scales design.now)
-        (outside (F.told shelf.old) (F.faults shelf.old) (O.written out.old) (O.faults out.old) (E.written err.old) (E.faults err.old))
-        (outside (F.told shelf.new) (F.faults shelf.new) (O.written out.new) (O.faults out.new) (E.written err.new) (E.faults err.new)) }
-{
-    let files = [File {
-        kind: FileKind::Design,
-        name: design,
-    }];
-    match fetch_files(alloc, shelf, &files) {
-        Ok(texts) => finish(out, err, scale_text(alloc, &texts.design)),
-        Err(stop) => tell_stop(err, stop),
     }
 }

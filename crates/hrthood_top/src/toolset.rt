@@ -1,27 +1,55 @@
-ghost use Rattle.std.specs.Prelude.{IfOk, Option, Some, map, string_bytes};
+ghost use Rattle.std.specs.Prelude.{◌≡◌, IfOk, List, Option, Some, map, string_bytes, ℕ};
 ghost use Rattle.hrthood_words.specs.Words.{Command as Asked, command_of};
 ghost use Rattle.hrthood_words.specs.Views.{HasFewThreads, ReadsAs, command_tree};
 ghost use Rattle.hrthood_top.specs.Commands.{design_verb};
+ghost use Rattle.hrthood_top.specs.declared.file_kind.FileKind.TheVariants.{Design};
 ghost use Rattle.hrthood_top.specs.Ends.{Ends, EndsVerb, outside};
+ghost use Rattle.hrthood_top.specs.Files.{Texts};
 ghost use Rattle.hrthood_top.specs.Runs.{Runs};
 ghost use Rattle.hrthood_top.specs.Samples.{EndsSample};
+ghost use Rattle.hrthood_top.specs.Writing.{Streams};
 
 use crate::accepts::accepts;
-use crate::analyse::analyse;
-use crate::background_text::write_background;
-use crate::check::check;
-use crate::finish::tell_unread;
-use crate::format::format;
-use crate::generate::generate;
+use crate::analyse::analyse_text;
+use crate::background_text::make_background;
+use crate::check::check_text;
+use crate::fetch::{File, fetch_files};
+use crate::file_kind::FileKind;
+use crate::finish::{finish, tell_stop, tell_unread};
+use crate::format::format_text;
+use crate::generate::generate_text;
 use crate::replay::replay;
 use crate::sample::write_sample;
-use crate::scale::scale;
-use crate::search::search;
+use crate::scale::scale_text;
+use crate::search::search_text;
 use crate::status::Status;
 use crate::verify::verify;
 use hood_io::{Shelf, Sink};
 use hrthood_words::{Command, DesignVerb, Unread, plain_command, read_words};
 use std::alloc::Global;
+
+/// Does what a verb does with the text of a design, which is all that it asks for.
+fn do_text<O: Sink, E: Sink>(
+    alloc: Global,
+    verb: DesignVerb,
+    design: &[u8],
+    out: &mut O,
+    err: &mut E,
+) -> Status
+    ensures { (name : List ℕ) (texts : Texts) → texts Design ≡ design.now → Streams (design_verb verb name) texts result
+        (O.written out.old) (O.written out.new) (O.faults out.old) (O.faults out.new)
+        (E.written err.old) (E.written err.new) (E.faults err.old) (E.faults err.new) }
+{
+    match verb {
+        DesignVerb::Check => finish(out, err, check_text(alloc, design)),
+        DesignVerb::Analyse => finish(out, err, analyse_text(alloc, design)),
+        DesignVerb::Format => finish(out, err, format_text(alloc, design)),
+        DesignVerb::Generate => finish(out, err, generate_text(alloc, design)),
+        DesignVerb::Search => finish(out, err, search_text(alloc, design)),
+        DesignVerb::Scale => finish(out, err, scale_text(alloc, design)),
+        DesignVerb::Background => finish(out, err, make_background(alloc, design)),
+    }
+}
 
 /// Does what a verb does that asks for a design alone, from the design to what is written.
 fn do_on_design<F: Shelf, O: Sink, E: Sink>(
@@ -36,14 +64,13 @@ fn do_on_design<F: Shelf, O: Sink, E: Sink>(
         (outside (F.told shelf.old) (F.faults shelf.old) (O.written out.old) (O.faults out.old) (E.written err.old) (E.faults err.old))
         (outside (F.told shelf.new) (F.faults shelf.new) (O.written out.new) (O.faults out.new) (E.written err.new) (E.faults err.new)) }
 {
-    match verb {
-        DesignVerb::Check => check(alloc, design, shelf, out, err),
-        DesignVerb::Analyse => analyse(alloc, design, shelf, out, err),
-        DesignVerb::Format => format(alloc, design, shelf, out, err),
-        DesignVerb::Generate => generate(alloc, design, shelf, out, err),
-        DesignVerb::Search => search(alloc, design, shelf, out, err),
-        DesignVerb::Scale => scale(alloc, design, shelf, out, err),
-        DesignVerb::Background => write_background(alloc, design, shelf, out, err),
+    let files = [File {
+        kind: FileKind::Design,
+        name: design,
+    }];
+    match fetch_files(alloc, shelf, &files) {
+        Ok(texts) => do_text(alloc, verb, &texts.design, out, err),
+        Err(stop) => tell_stop(err, stop),
     }
 }
 

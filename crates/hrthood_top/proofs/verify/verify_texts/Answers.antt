@@ -10,8 +10,8 @@ use Rattle.hrthood_top.specs.Verifies.{verifies}
 use Rattle.hrthood_top.specs.Writing.{IsMade}
 use Rattle.hrthood_top.proofs.Replayed.{texts-replayable}
 use Rattle.hrthood_top.proofs.ReplayLaws.{few-units}
-use Rattle.hrthood_top.proofs.Streamed.{streams-halted}
-use Rattle.hrthood_top.proofs.Verified.{arrivals-unsaid, design-halted, made-halted, said-arrivals, streams-verified}
+use Rattle.hrthood_top.proofs.Streamed.{made-halted, streams-halted}
+use Rattle.hrthood_top.proofs.Verified.{arrivals-unsaid, design-halted, said-arrivals, streams-verified}
 use Rattle.hrthood_top.proofs.verify.verify_texts.Goals as goal
 
 pub returns-in-Err : goal.returns-in-Err

@@ -1,2 +1,3 @@
+pub mod Taking
 pub mod Makes
 pub mod Delivers

@@ -1,10 +1,9 @@
 ghost use Rattle.bridge.specs.Delivers.{Delivers};
 
 use crate::delivery::{Delivery, Refusal};
+use crate::halt::Halt;
 use crate::making::make;
-use ods_read::read_design;
-use ods_rules::check;
-use seq_tree::TextFault;
+use crate::taking::{Untaken, take};
 use std::alloc::Global;
 
 /// The Ada text of a design, with bounds and ceilings, from the bytes of the design.
@@ -15,19 +14,10 @@ use std::alloc::Global;
 pub fn deliver(alloc: Global, design: &[u8]) -> Result<Delivery, Refusal>
     ensures { Delivers design.now result }
 {
-    let read = match read_design(alloc, design) {
-        Ok(read) => read,
-        Err(TextFault::NoMemory) => return Err(Refusal::NoMemory),
-        Err(fault) => return Err(Refusal::Text(fault)),
-    };
-    let checked = match check(alloc, read) {
-        Ok(checked) => checked,
-        Err(broken) => {
-            if broken.is_memory() {
-                return Err(Refusal::NoMemory);
-            }
-            return Err(Refusal::Rule(broken));
-        }
-    };
-    make(alloc, &checked)
+    match take(alloc, design) {
+        Ok(checked) => make(alloc, &checked),
+        Err(Halt::Refused(Untaken::Text(fault))) => Err(Refusal::Text(fault)),
+        Err(Halt::Refused(Untaken::Rule(broken))) => Err(Refusal::Rule(broken)),
+        Err(Halt::NoMemory) => Err(Refusal::NoMemory),
+    }
 }

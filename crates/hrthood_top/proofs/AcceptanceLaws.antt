@@ -22,13 +22,11 @@ use Rattle.design_accepts.specs.declared.unaccepted.Unaccepted.{Unaccepted}
 use Rattle.design_accepts.specs.declared.unaccepted.Unaccepted.TheVariants as why
 use Rattle.hrthood_top.specs.declared.accepts.AcceptsRefusal.{AcceptsRefusal}
 use Rattle.hrthood_top.specs.declared.accepts.AcceptsRefusal.TheVariants as refusal
-use Rattle.hrthood_top.specs.declared.check.CheckRefusal.{CheckRefusal}
 use Rattle.hrthood_top.specs.declared.file_kind.FileKind.TheVariants.{Design, Arrivals, Trace}
-use Rattle.hrthood_top.specs.Checks.{RefusesCheck}
-use Rattle.hrthood_top.specs.Taking.{IsTakenAs}
+use Rattle.bridge.specs.Taking.{IsTakenAs}
 use Rattle.hrthood_top.specs.Acceptances.{IsJudgedSo, IsJudged, IsYes, IsAcceptedSo, RefusesAccepts, CanAccept, acceptances, yes_line}
-use Rattle.hrthood_top.proofs.CheckLaws as checking
-use Rattle.hrthood_top.proofs.SearchLaws.{one-taken}
+use Rattle.hrthood_top.proofs.OneDesign.{one-untaken}
+use Rattle.hrthood_top.proofs.Taken.{along, taken-not}
 use Rattle.hrthood_top.proofs.VerbLaws.{IsExact, never-stops}
 
 -- the cause that a verdict is; of one that accepts there is none, and any stands there
@@ -86,13 +84,6 @@ one-judged design x arrivals trace u v taken h k =
 accepted-same : (n m : ℕ) → verdict.Accepted n ≡ verdict.Accepted m → n ≡ m
 accepted-same n m e = cc
 
--- what is said of the design that bytes are taken as
-along : (P : designs.Design → Type 0) (design : List ℕ) (x y : designs.Design) → IsTakenAs design x → IsTakenAs design y → P x → P y
-along P design x y h k p = subst P (one-taken design x y h k) p
-
-taken-not : (design : List ℕ) (x : designs.Design) → IsTakenAs design x → (r : CheckRefusal) → RefusesCheck design r → ⊥
-taken-not design x w r h = checking.not-untaken design w.design r w.reads w.meets h
-
 -- a trace that is accepted has one line that tells it
 pub one-accepted : (design arrivals trace a b : List ℕ) → IsAcceptedSo design arrivals trace a → IsAcceptedSo design arrivals trace b → a ≡ b
 one-accepted design arrivals trace a b h k =
@@ -113,7 +104,7 @@ not_refused design arrivals trace w (refusal.Trace u) h =
 
 one_refusal : (design arrivals trace : List ℕ) (r q : AcceptsRefusal) → RefusesAccepts design arrivals trace r → RefusesAccepts design arrivals trace q
     → r ≡ q
-one_refusal design arrivals trace (refusal.Untaken f) (refusal.Untaken g) h k = ap refusal.Untaken (checking.one_refusal design f g h k)
+one_refusal design arrivals trace (refusal.Untaken f) (refusal.Untaken g) h k = ap refusal.Untaken (one-untaken design f g h k)
 one_refusal design arrivals trace (refusal.Untaken f) (refusal.Arrivals g) h k = absurd (taken-not design k.0 k.1 f h)
 one_refusal design arrivals trace (refusal.Untaken f) (refusal.Trace v) h k = absurd (taken-not design k.0 k.1 f h)
 one_refusal design arrivals trace (refusal.Arrivals f) (refusal.Untaken g) h k = absurd (taken-not design h.0 h.1 g k)

@@ -1,15 +1,13 @@
 -- That the verb `analyse` refuses a design for the reasons of `generate`, and none of which an Ada text can be made.
-use Rattle.std.proofs.Common.{◌≡◌, ℕ, List, subst, ap, ◌∙◌}
+use Rattle.std.proofs.Common.{◌≡◌, ℕ, List, ap, ◌∙◌}
 use Rattle.ods_tree.specs.Flattening.{flat}
 use Rattle.ods_tree.specs.Ticks.{in_ticks, first_priority}
 use Rattle.bridge.specs.Delivers.{IsDelivered}
 use Rattle.bridge.specs.declared.delivery.Delivery.{Delivery}
 use Rattle.design_bounds.specs.Rows.{named_bounds}
-use Rattle.hrthood_top.specs.declared.file_kind.FileKind.TheVariants.{Design}
-use Rattle.hrthood_top.specs.Analyses.{IsAnalysed, analyses, report}
-use Rattle.hrthood_top.specs.Generates.{RefusesDesign}
+use Rattle.hrthood_top.specs.Analyses.{IsAnalysed, of_analyse, report}
 use Rattle.hrthood_top.proofs.GenerateLaws.{can_make, can_or_refuses, one_refusal}
-use Rattle.hrthood_top.proofs.VerbLaws.{IsExact, never-stops}
+use Rattle.hrthood_top.proofs.VerbLaws.{IsExactOf}
 
 -- the lines of what was delivered
 pub analysed_as : (bytes lines : List ℕ) (d : Delivery) → IsDelivered bytes d → lines ≡ report d.bounds.items d.ceilings.items
@@ -23,10 +21,9 @@ analysed_as bytes lines d w e =
           ∙ ap (report (named_bounds (first_priority x) (flat (in_ticks x)) w.whole.bounds)) w.ceilings;
     }
 
-pub analyses-exact : (design : List ℕ) → IsExact (analyses design)
-analyses-exact design = record {
-  one = λ a b same r q h k. one_refusal (b Design) r q (subst (λ z. RefusesDesign z r) same.0 h) k;
-  able = λ a b same w r h. can_or_refuses (a Design) (b Design) same.0 w r h;
-  made = λ a made w. can_make (a Design) w.text w.made;
-  stops = never-stops (analyses design) (λ texts text stop h. h);
+pub analyses-exact : IsExactOf of_analyse
+analyses-exact = record {
+  able = can_or_refuses;
+  one = one_refusal;
+  made = λ bytes lines w. can_make bytes w.text w.made;
 }

@@ -22,15 +22,14 @@ use Rattle.background.specs.declared.delivery.BackgroundRefusal as delivery
 use Rattle.background.specs.declared.delivery.BackgroundRefusal.TheVariants as delivered
 use Rattle.background.specs.declared.delivery.BackgroundRule.{BackgroundRule}
 use Rattle.background.specs.declared.delivery.BackgroundRule.TheVariants as rule
-use Rattle.hrthood_top.specs.declared.file_kind.FileKind.TheVariants.{Design}
 use Rattle.hrthood_top.specs.declared.background_text.BackgroundRefusal.{BackgroundRefusal}
 use Rattle.hrthood_top.specs.declared.background_text.BackgroundRefusal.TheVariants.{Text, Rule, Broken, Miss, Long}
-use Rattle.hrthood_top.specs.Backgrounds.{IsBackgroundTextFor, RefusesRead, RefusesBackground, CanBackground, backgrounds}
+use Rattle.hrthood_top.specs.Backgrounds.{IsBackgroundTextFor, RefusesRead, RefusesBackground, CanBackground, of_background}
 use Rattle.hrthood_top.proofs.OneDesign.{one-design, no-fault, one-fault}
 use Rattle.law_backgrounds.proofs.Shared.FirstFaults.{one-at}
 use Rattle.hrthood_top.proofs.OneRule.{one-miss, same-rule}
 use Rattle.hrthood_top.proofs.GenerateLaws.{one_least}
-use Rattle.hrthood_top.proofs.VerbLaws.{IsExact, never-stops}
+use Rattle.hrthood_top.proofs.VerbLaws.{IsExactOf}
 
 -- WHAT IS MADE
 
@@ -193,10 +192,9 @@ can-make bytes made w = record {
   short = (let short = w.short in rw w.made at short);
 }
 
-pub backgrounds-exact : (design : List ℕ) → IsExact (backgrounds design)
-backgrounds-exact design = record {
-  one = λ a b same r q h k. same-refusal (b Design) r q (subst (λ z. RefusesBackground z r) same.0 h) k;
-  able = λ a b same w r h. not-refused (b Design) (subst CanBackground same.0 w) r h;
-  made = λ a made w. can-make (a Design) made w;
-  stops = never-stops (backgrounds design) (λ texts text stop h. h);
+pub backgrounds-exact : IsExactOf of_background
+backgrounds-exact = record {
+  able = not-refused;
+  one = same-refusal;
+  made = can-make;
 }

@@ -1,12 +1,10 @@
 -- How a command ends, from what was fetched, made and told.
-use Rattle.std.proofs.Common.{◌≡◌, ℕ, List, length, take, Option, Result, Ok, Err, sym, ap, subst, ◌∙◌, inl, inr}
+use Rattle.std.proofs.Common.{◌≡◌, ℕ, List, length, take, Option, Err, sym, ap, subst, ◌∙◌, inl, inr}
 use Rattle.std.proofs.Math.Seq.{take-length}
 use Rattle.std.specs.Prelude.{IfSome, ◌⊎◌}
 use Rattle.hood_io.specs.Shelves.{Told}
 use Rattle.hrthood_top.specs.declared.status.Status.{Status}
 use Rattle.hrthood_top.specs.declared.status.Status.TheVariants as status
-use Rattle.hrthood_top.specs.declared.halt.Halt.{Halt}
-use Rattle.hrthood_top.specs.declared.halt.Halt.TheVariants as halt
 use Rattle.hrthood_top.specs.declared.fetch.Stop.{Stop}
 use Rattle.hrthood_top.specs.declared.fetch.Stop.TheVariants as stop
 use Rattle.hrthood_top.specs.declared.file_kind.FileKind.{FileKind}
@@ -15,7 +13,7 @@ use Rattle.hrthood_top.specs.Messages.{too_long_line, fault_line}
 use Rattle.hrthood_top.specs.Verbs.{Verb}
 use Rattle.hrthood_top.specs.Ends.{Outside, Writes, WritesAtMost, WritesUpTo, TooLong, Refusal, Stopped, Refuses, TellsMessage, EndsVerb}
 use Rattle.hrthood_top.specs.Fetches.{FetchesAll}
-use Rattle.hrthood_top.specs.Writing.{IsMade, Finishes, Streams, TellsHalt, TellsStop}
+use Rattle.hrthood_top.specs.Writing.{Streams, TellsStop}
 use Rattle.hrthood_top.proofs.Fetching.{are-held, if_some-map}
 
 -- files that could not be had
@@ -42,43 +40,6 @@ all-held : (files : List File) (texts : Texts) (told : Option Told) → IfSome t
 all-held files texts told held =
     let H : List File → Type 0 = λ fs. AreHeld told fs in
     subst H (sym (take-length files)) (are-held told files texts held)
-
--- what was made of files that are there
-pub ends-made : {X : Type 0} (view : X → List ℕ) (v : Verb) (ended : Status) (made : Result X (Halt v.Refusal)) (texts : Texts) (x y : Outside) →
-    IfSome x.told (λ t. HoldsAll t v.files texts) → y.told ≡ grown x.told (fetched v.files) → IsMade view (v.Makes texts) (v.Refuses texts) made →
-    Finishes view (TellsHalt v.line) made ended x.out y.out x.write_faults y.write_faults x.err y.err x.tell_faults y.tell_faults
-    → EndsVerb ended v x y
-ends-made view v status.Done (Ok z) texts x y held log m f =
-    (view z, f.0, if_some-map x.told (λ t. HoldsAll t v.files texts) (λ t. Writes t v (view z)) held (λ t p. (texts, p, m)), log, f.1)
-ends-made view v status.WriteFault (Ok z) texts x y held log m f = (
-  view z,
-  f.0,
-  f.1,
-  f.2,
-  if_some-map x.told (λ t. HoldsAll t v.files texts) (λ t. WritesAtMost t v (view z)) held (λ t p.
-      inl (texts, p, m)),
-  f.3,
-  log,
-  f.4,
-)
-ends-made view v status.Refused (Ok z) texts x y held log m f = absurd f
-ends-made view v status.Usage (Ok z) texts x y held log m f = absurd f
-ends-made view v status.ReadFault (Ok z) texts x y held log m f = absurd f
-ends-made view v status.NoMemory (Ok z) texts x y held log m f = absurd f
-ends-made view v ended (Err (halt.Refused refusal)) texts x y held log m f =
-    let E : Status → Type 0 = λ z. EndsVerb z v x y in
-    subst E (sym f.1.0) (
-      Refusal refusal,
-      if_some-map x.told (λ t. HoldsAll t v.files texts) (λ t. Refuses t v (Refusal refusal)) held (λ t p.
-          (texts, p, m)),
-      log,
-      f.0,
-      f.1.1,
-    )
-ends-made view v ended (Err halt.NoMemory) texts x y held log m f =
-    let E : Status → Type 0 = λ z. EndsVerb z v x y in
-    let whole = log ∙ ap (λ z. grown x.told (fetched z)) (sym (take-length v.files)) in
-    subst E (sym f.1.0) (length v.files, all-held v.files texts x.told held, whole, f.0, f.1.1)
 
 -- what a verb writes, up to its stop
 at_most : (v : Verb) (texts : Texts) (text : List ℕ) (t : Told) → HoldsAll t v.files texts

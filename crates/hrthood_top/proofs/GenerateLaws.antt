@@ -2,7 +2,6 @@
 use Rattle.std.proofs.Common.{◌≡◌, ℕ, List, [], ◌∷◌, length, refl, ap, subst, ◌∙◌, arith}
 use Rattle.ods_tree.specs.Designs as designs
 use Rattle.ods_tree.specs.Flattening.{flat}
-use Rattle.ods_tree.specs.Reading.{Reads}
 use Rattle.ods_tree.specs.Ticks.{in_ticks}
 use Rattle.rt_response.specs.declared.rows.Bound.{Bound}
 use Rattle.rt_response.specs.declared.rows.Miss as rows
@@ -12,13 +11,12 @@ use Rattle.analysis.specs.Tables.{table}
 use Rattle.guarantee.specs.Programs.{text}
 use Rattle.bridge.specs.Delivers.{IsTextFor, HasNoBounds, HasLongText}
 use Rattle.seq_tree.specs.Names.{Name}
-use Rattle.hrthood_top.specs.declared.file_kind.FileKind.TheVariants.{Design}
 use Rattle.hrthood_top.specs.declared.generate.GenerateRefusal.{GenerateRefusal}
-use Rattle.hrthood_top.specs.declared.generate.GenerateRefusal.TheVariants.{Text, Rule, Miss, Long}
-use Rattle.hrthood_top.specs.Generates.{CanGenerate, RefusesDesign, generates}
-use Rattle.hrthood_top.proofs.OneDesign.{one-design, no-fault, one-fault, no-rule, one-rule}
+use Rattle.hrthood_top.specs.declared.generate.GenerateRefusal.TheVariants.{Untaken, Miss, Long}
+use Rattle.hrthood_top.specs.Generates.{CanGenerate, RefusesDesign, of_generate}
+use Rattle.hrthood_top.proofs.OneDesign.{one-design, not-untaken, one-untaken}
 use Rattle.hrthood_top.proofs.OneBounds.{one-bounds}
-use Rattle.hrthood_top.proofs.VerbLaws.{IsExact, never-stops}
+use Rattle.hrthood_top.proofs.VerbLaws.{IsExactOf}
 
 -- two vectors, neither of which is above the other
 same_vectors : (v u : List Bound) → IsAtMost v u → IsAtMost u v → v ≡ u
@@ -36,9 +34,9 @@ same_vectors (a ∷ v) (b ∷ u) p q =
 pub one_least : (rows : List ThreadRow) (v u : List Bound) → IsLeastVector rows v → IsLeastVector rows u → v ≡ u
 one_least rows v u p q = same_vectors v u (p.least u q.fits) (q.least v p.fits)
 
-not_long : (bytes bytes' : List ℕ) → bytes ≡ bytes' → CanGenerate bytes → HasLongText bytes' → ⊥
-not_long bytes bytes' same w h =
-    let one : h.design ≡ w.design = one-design bytes' h.design w.design h.reads (subst (λ z. Reads z w.design) same w.reads) in
+not_long : (bytes : List ℕ) → CanGenerate bytes → HasLongText bytes → ⊥
+not_long bytes w h =
+    let one : h.design ≡ w.design = one-design bytes h.design w.design h.reads w.reads in
     let P : designs.Design → Type 0 = λ z. IsLeastVector (table (flat (in_ticks z))).rows h.bounds in
     let bounds : h.bounds ≡ w.bounds = one_least (table (flat (in_ticks w.design))).rows h.bounds w.bounds (subst P one h.least) w.least in
     let L : designs.Design → List Bound → ℕ = λ z v. length (text (in_ticks z) v) in
@@ -46,13 +44,11 @@ not_long bytes bytes' same w h =
     = ap (λ z. L z h.bounds) one ∙ ap (L w.design) bounds in
     let long = h.long in let short = w.short in omega (arith, equal)
 
-pub can_or_refuses : (bytes bytes' : List ℕ) → bytes ≡ bytes' → CanGenerate bytes → (r : GenerateRefusal) → RefusesDesign bytes' r → ⊥
-can_or_refuses bytes bytes' same w (Text found) h = no-fault bytes' w.design found (subst (λ z. Reads z w.design) same w.reads) h
-can_or_refuses bytes bytes' same w (Rule broken) h = no-rule bytes' broken w.design h (subst (λ z. Reads z w.design) same w.reads) w.meets
-can_or_refuses bytes bytes' same w (Miss thread miss) h =
-    let one : h.design ≡ w.design = one-design bytes' h.design w.design h.reads (subst (λ z. Reads z w.design) same w.reads) in
-    h.missed.none w.bounds (rw one w.least.fits)
-can_or_refuses bytes bytes' same w Long h = not_long bytes bytes' same w h
+pub can_or_refuses : (bytes : List ℕ) → CanGenerate bytes → (r : GenerateRefusal) → RefusesDesign bytes r → ⊥
+can_or_refuses bytes w (Untaken r) h = not-untaken bytes w.design r w.reads w.meets h
+can_or_refuses bytes w (Miss thread miss) h =
+    let one : h.design ≡ w.design = one-design bytes h.design w.design h.reads w.reads in h.missed.none w.bounds (rw one w.least.fits)
+can_or_refuses bytes w Long h = not_long bytes w h
 
 abbrev pub can_make : (bytes made : List ℕ) → IsTextFor bytes made → CanGenerate bytes
 can_make bytes made w = record {
@@ -73,27 +69,19 @@ one_over : (bytes : List ℕ) (thread other : Name) (m n : rows.Miss) → HasNoB
 one_over bytes thread other m n h k = (let one = one-bounds bytes thread other m n h k in ap (λ z. Miss z m) one.0 ∙ ap (λ z. Miss other z) one.1)
 
 pub one_refusal : (bytes : List ℕ) (r q : GenerateRefusal) → RefusesDesign bytes r → RefusesDesign bytes q → r ≡ q
-one_refusal bytes (Text f) (Text g) h k = ap Text (one-fault bytes f g h k)
-one_refusal bytes (Text f) (Rule broken) h k = absurd (no-fault bytes k.design f k.reads h)
-one_refusal bytes (Text f) (Miss thread miss) h k = absurd (no-fault bytes k.design f k.reads h)
-one_refusal bytes (Text f) Long h k = absurd (no-fault bytes k.design f k.reads h)
-one_refusal bytes (Rule broken) (Text f) h k = absurd (no-fault bytes h.design f h.reads k)
-one_refusal bytes (Rule broken) (Rule other) h k = ap Rule (one-rule bytes broken other h k)
-one_refusal bytes (Rule broken) (Miss thread miss) h k = absurd (no-rule bytes broken k.design h k.reads k.meets)
-one_refusal bytes (Rule broken) Long h k = absurd (no-rule bytes broken k.design h k.reads k.meets)
-one_refusal bytes (Miss thread miss) (Text f) h k = absurd (no-fault bytes h.design f h.reads k)
-one_refusal bytes (Miss thread miss) (Rule broken) h k = absurd (no-rule bytes broken h.design k h.reads h.meets)
+one_refusal bytes (Untaken r) (Untaken q) h k = ap Untaken (one-untaken bytes r q h k)
+one_refusal bytes (Untaken r) (Miss thread miss) h k = absurd (not-untaken bytes k.design r k.reads k.meets h)
+one_refusal bytes (Untaken r) Long h k = absurd (not-untaken bytes k.design r k.reads k.meets h)
+one_refusal bytes (Miss thread miss) (Untaken q) h k = absurd (not-untaken bytes h.design q h.reads h.meets k)
 one_refusal bytes (Miss thread miss) (Miss other more) h k = one_over bytes thread other miss more h k
 one_refusal bytes (Miss thread miss) Long h k = absurd (bounds_or_none bytes thread miss h k)
-one_refusal bytes Long (Text f) h k = absurd (no-fault bytes h.design f h.reads k)
-one_refusal bytes Long (Rule broken) h k = absurd (no-rule bytes broken h.design k h.reads h.meets)
+one_refusal bytes Long (Untaken q) h k = absurd (not-untaken bytes h.design q h.reads h.meets k)
 one_refusal bytes Long (Miss thread miss) h k = absurd (bounds_or_none bytes thread miss k h)
 one_refusal bytes Long Long h k = refl
 
-pub generates-exact : (design : List ℕ) → IsExact (generates design)
-generates-exact design = record {
-  one = λ a b same r q h k. one_refusal (b Design) r q (subst (λ z. RefusesDesign z r) same.0 h) k;
-  able = λ a b same w r h. can_or_refuses (a Design) (b Design) same.0 w r h;
-  made = λ a made w. can_make (a Design) made w;
-  stops = never-stops (generates design) (λ texts text stop h. h);
+pub generates-exact : IsExactOf of_generate
+generates-exact = record {
+  able = can_or_refuses;
+  one = one_refusal;
+  made = can_make;
 }

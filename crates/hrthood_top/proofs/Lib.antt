@@ -5,6 +5,7 @@ pub mod Ending
 pub mod Streamed
 pub mod OneText
 pub mod OneDesign
+pub mod Taken
 pub mod OneRule
 pub mod OneBounds
 pub mod VerbLaws
@@ -32,5 +33,5 @@ pub mod ScaleLaws
 pub mod Summed
 pub mod Gathering
 mod Examples
-pub mod UnreadEnds
+pub mod RunsDone
 pub mod Tracing

@@ -23,7 +23,7 @@ use Rattle.hrthood_top.specs.Analyses.{report}
 use Rattle.hrthood_top.specs.DeadlineReports.{WritesByDeadline, WritesAsAnalysed}
 use Rattle.hrthood_top.specs.Searches.{IsOrdered}
 use Rattle.hrthood_top.proofs.GenerateLaws.{one_least}
-use Rattle.hrthood_top.proofs.SearchLaws.{one-taken, taken-sound}
+use Rattle.hrthood_top.proofs.Taken.{one-taken, taken-sound}
 
 -- the priorities by the order of deadlines
 priorities-same : (f : Flat) → priorities_by f (table f).places ≡ priorities_of f

@@ -13,7 +13,7 @@ use Rattle.design_rules.specs.Rules as design
 use Rattle.ods_index.specs.Told.{told_of}
 use Rattle.ods_index.specs.declared.broken.Broken as code
 use Rattle.ods_index.specs.declared.broken.Broken.TheVariants as variant
-use Rattle.bridge.specs.Delivers.{IsBroken}
+use Rattle.bridge.specs.Taking.{IsBroken}
 use Rattle.ada_tree.specs.Programs.{Program}
 use Rattle.ada_tree.specs.Bodies.{unit_fault}
 use Rattle.ada_tree.specs.Rules as ada

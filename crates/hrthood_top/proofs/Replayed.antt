@@ -10,8 +10,8 @@ use Rattle.law_ceilings.proofs.Shared.Programs.{exclusive}
 use Rattle.trace_tree.specs.declared.event.Event.{Event}
 use Rattle.trace_tree.specs.Lines.{lines}
 use Rattle.hood_io.specs.Causes.{HasCause}
-use Rattle.hrthood_top.specs.declared.halt.Halt.{Halt}
-use Rattle.hrthood_top.specs.declared.halt.Halt.TheVariants.{Refused, NoMemory}
+use Rattle.bridge.specs.declared.halt.Halt.{Halt}
+use Rattle.bridge.specs.declared.halt.Halt.TheVariants.{Refused, NoMemory}
 use Rattle.hrthood_top.specs.declared.replay.ReplayRefusal.{ReplayRefusal}
 use Rattle.hrthood_top.specs.declared.replay.ReplayRefusal.TheVariants as refusal
 use Rattle.hrthood_top.specs.declared.status.Status.{Status}

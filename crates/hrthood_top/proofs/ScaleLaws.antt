@@ -3,12 +3,9 @@ use Rattle.std.proofs.Common.{◌≡◌, ℕ, List, Some, subst, sym, ap, ◌∙
 use Rattle.seq_tree.specs.Names.{Name}
 use Rattle.ods_tree.specs.Designs as designs
 use Rattle.ods_tree.specs.Flattening.{flat}
-use Rattle.ods_tree.specs.Reading.{Reads}
 use Rattle.ods_tree.specs.Ticks.{in_ticks}
 use Rattle.rt_response.specs.declared.rows.Miss as rows
-use Rattle.analysis.specs.Sound.{IsSound}
 use Rattle.analysis.specs.Tables.{table}
-use Rattle.law_designs.proofs.Shared.SoundDesigns.{flat-sound}
 use Rattle.design_bounds.specs.Analyses.{IsMissed}
 use Rattle.design_bounds.specs.Rows.{name_of_row}
 use Rattle.law_scaling.specs.Scaling.{scaled}
@@ -16,22 +13,17 @@ use Rattle.law_scaling.specs.Holding.{Holds}
 use Rattle.scaling.specs.Margins.{IsMargin, HasNoMargin}
 use Rattle.scaling.specs.declared.margin.Margin.{Margin}
 use Rattle.scaling.specs.declared.margin.Next.TheVariants as next
-use Rattle.hrthood_top.specs.declared.file_kind.FileKind.TheVariants.{Design}
 use Rattle.hrthood_top.specs.declared.scale.ScaleRefusal.{ScaleRefusal}
-use Rattle.hrthood_top.specs.declared.scale.ScaleRefusal.TheVariants.{Text, Rule, Miss}
-use Rattle.hrthood_top.specs.Scales.{CanScale, HoldsNowhere, IsScaled, RefusesScale, margin_lines, scales}
-use Rattle.hrthood_top.specs.Taking.{IsTakenAs}
-use Rattle.hrthood_top.proofs.OneDesign.{one-design, no-fault, one-fault, no-rule, one-rule}
+use Rattle.hrthood_top.specs.declared.scale.ScaleRefusal.TheVariants.{Untaken, Miss}
+use Rattle.hrthood_top.specs.Scales.{CanScale, HoldsNowhere, IsScaled, RefusesScale, margin_lines, of_scale}
+use Rattle.bridge.specs.Taking.{IsTakenAs}
+use Rattle.hrthood_top.proofs.OneDesign.{one-design, not-untaken, one-untaken}
 use Rattle.law_backgrounds.proofs.Shared.FirstFaults.{one-at}
 use Rattle.hrthood_top.proofs.OneRule.{one-miss}
-use Rattle.hrthood_top.proofs.VerbLaws.{IsExact, never-stops}
+use Rattle.hrthood_top.proofs.Taken.{taken-sound}
+use Rattle.hrthood_top.proofs.VerbLaws.{IsExactOf}
 
 -- WHAT THE CODE MAKES OF A DESIGN THAT IS TAKEN
-
--- its flat design is sound
-pub sound-taken : (bytes : List ℕ) (x : designs.Design) → IsTakenAs bytes x → IsSound (flat x)
-sound-taken bytes x w =
-    let S : designs.Design → Type 0 = λ z. IsSound (flat z) in subst S (sym w.ticked) (flat-sound w.design (in_ticks w.design) w.meets)
 
 -- its margin is told
 pub scaled-as : (bytes lines : List ℕ) (x : designs.Design) (m : Margin) → IsTakenAs bytes x → IsMargin (flat x) m × Holds (flat x) 1
@@ -58,11 +50,10 @@ holds-nowhere bytes x thread m w h =
 
 -- WHAT REFUSES
 
-can_or_refuses : (bytes bytes' : List ℕ) → bytes ≡ bytes' → CanScale bytes → (r : ScaleRefusal) → RefusesScale bytes' r → ⊥
-can_or_refuses bytes bytes' same w (Text found) h = no-fault bytes' w.design found (subst (λ z. Reads z w.design) same w.reads) h
-can_or_refuses bytes bytes' same w (Rule broken) h = no-rule bytes' broken w.design h (subst (λ z. Reads z w.design) same w.reads) w.meets
-can_or_refuses bytes bytes' same w (Miss thread miss) h =
-    let one : w.design ≡ h.design = one-design bytes' w.design h.design (subst (λ z. Reads z w.design) same w.reads) h.reads in
+can_or_refuses : (bytes : List ℕ) → CanScale bytes → (r : ScaleRefusal) → RefusesScale bytes r → ⊥
+can_or_refuses bytes w (Untaken r) h = not-untaken bytes w.design r w.reads w.meets h
+can_or_refuses bytes w (Miss thread miss) h =
+    let one : w.design ≡ h.design = one-design bytes w.design h.design w.reads h.reads in
     let H : designs.Design → Type 0 = λ z. Holds (flat (in_ticks z)) 1 in
     h.without.holds (subst H one w.holds)
 
@@ -80,25 +71,19 @@ one_over bytes thread other m n h k =
     ap (λ z. Miss z m) (one-at _ thread other called there.called) ∙ ap (λ z. Miss other z) miss
 
 one_refusal : (bytes : List ℕ) (r q : ScaleRefusal) → RefusesScale bytes r → RefusesScale bytes q → r ≡ q
-one_refusal bytes (Text f) (Text g) h k = ap Text (one-fault bytes f g h k)
-one_refusal bytes (Text f) (Rule broken) h k = absurd (no-fault bytes k.design f k.reads h)
-one_refusal bytes (Text f) (Miss thread miss) h k = absurd (no-fault bytes k.design f k.reads h)
-one_refusal bytes (Rule broken) (Text f) h k = absurd (no-fault bytes h.design f h.reads k)
-one_refusal bytes (Rule broken) (Rule other) h k = ap Rule (one-rule bytes broken other h k)
-one_refusal bytes (Rule broken) (Miss thread miss) h k = absurd (no-rule bytes broken k.design h k.reads k.meets)
-one_refusal bytes (Miss thread miss) (Text f) h k = absurd (no-fault bytes h.design f h.reads k)
-one_refusal bytes (Miss thread miss) (Rule broken) h k = absurd (no-rule bytes broken h.design k h.reads h.meets)
+one_refusal bytes (Untaken r) (Untaken q) h k = ap Untaken (one-untaken bytes r q h k)
+one_refusal bytes (Untaken r) (Miss thread miss) h k = absurd (not-untaken bytes k.design r k.reads k.meets h)
+one_refusal bytes (Miss thread miss) (Untaken q) h k = absurd (not-untaken bytes h.design q h.reads h.meets k)
 one_refusal bytes (Miss thread m) (Miss other n) h k = one_over bytes thread other m n h k
 
 can_make : (bytes made : List ℕ) → IsScaled bytes made → CanScale bytes
 can_make bytes made w = record { design = w.design; reads = w.reads; meets = w.meets; holds = w.holds }
 
-pub scales-exact : (design : List ℕ) → IsExact (scales design)
-scales-exact design = record {
-  one = λ a b same r q h k. one_refusal (b Design) r q (subst (λ z. RefusesScale z r) same.0 h) k;
-  able = λ a b same w r h. can_or_refuses (a Design) (b Design) same.0 w r h;
-  made = λ a made w. can_make (a Design) made w;
-  stops = never-stops (scales design) (λ texts text stop h. h);
+pub scales-exact : IsExactOf of_scale
+scales-exact = record {
+  able = can_or_refuses;
+  one = one_refusal;
+  made = can_make;
 }
 
-pub ruleset scale_laws = (sound-taken, scaled-as, holds-nowhere)
+pub ruleset scale_laws = (taken-sound, scaled-as, holds-nowhere)

@@ -1,39 +1,19 @@
 -- That the verb `search` refuses a design for one reason, and none that passes under some order.
-use Rattle.std.proofs.Common.{◌≡◌, ℕ, ◌+◌, List, [], ◌∷◌, Bool, true, false, ◌||◌, cond, Some, refl, sym, ap, subst, ◌∙◌}
+use Rattle.std.proofs.Common.{◌≡◌, ℕ, ◌+◌, List, [], ◌∷◌, Bool, true, false, ◌||◌, cond, Some, refl, sym, ap, ◌∙◌}
 use Rattle.std.specs.List.{list_any, position_from}
 use Rattle.seq_tree.specs.Names.{Name}
-use Rattle.ods_tree.specs.Designs as designs
 use Rattle.ods_tree.specs.Flats.{Flat}
 use Rattle.ods_tree.specs.Flattening.{flat}
-use Rattle.ods_tree.specs.Ticks.{in_ticks}
-use Rattle.design_rules.specs.Rules.{AreMet}
-use Rattle.law_designs.proofs.Shared.SoundDesigns.{flat-sound}
 use Rattle.analysis.specs.Sound.{IsSound}
 use Rattle.law_orders.specs.Orders.{is_internal, AllExternal}
 use Rattle.priority_search.proofs.Shared.OneAnswer.{one-refuted}
-use Rattle.hrthood_top.specs.declared.file_kind.FileKind.TheVariants.{Design}
-use Rattle.hrthood_top.specs.declared.check.CheckRefusal.{CheckRefusal}
 use Rattle.hrthood_top.specs.declared.search.SearchRefusal.{SearchRefusal}
 use Rattle.hrthood_top.specs.declared.search.SearchRefusal.TheVariants as refusal
-use Rattle.hrthood_top.specs.Checks.{RefusesCheck}
-use Rattle.hrthood_top.specs.Searches.{name_at, names_at, IsInternal, HasNoOrder, IsSearched, RefusesSearch, CanSearch, searches}
-use Rattle.hrthood_top.specs.Taking.{IsTakenAs}
-use Rattle.hrthood_top.proofs.CheckLaws as checking
-use Rattle.hrthood_top.proofs.OneDesign.{one-design}
+use Rattle.hrthood_top.specs.Searches.{name_at, names_at, IsInternal, HasNoOrder, IsSearched, RefusesSearch, CanSearch, of_search}
 use Rattle.law_backgrounds.proofs.Shared.FirstFaults.{one-at}
-use Rattle.hrthood_top.proofs.VerbLaws.{IsExact, never-stops}
-
--- bytes are taken as one design
-pub one-taken : (bytes : List ℕ) (x y : designs.Design) → IsTakenAs bytes x → IsTakenAs bytes y → x ≡ y
-one-taken bytes x y v w = v.ticked ∙ ap in_ticks (one-design bytes v.design w.design v.reads w.reads) ∙ sym w.ticked
-
--- its flat design is sound
-pub taken-sound : (bytes : List ℕ) (x : designs.Design) → IsTakenAs bytes x → IsSound (flat x)
-taken-sound bytes x w = let P : designs.Design → Type 0 = λ y. AreMet w.design y in flat-sound w.design x (subst P (sym w.ticked) w.meets)
-
--- what is taken is not refused as untaken
-taken-not : (bytes : List ℕ) (x : designs.Design) → IsTakenAs bytes x → (r : CheckRefusal) → RefusesCheck bytes r → ⊥
-taken-not bytes x w r h = checking.not-untaken bytes w.design r w.reads w.meets h
+use Rattle.hrthood_top.proofs.OneDesign.{one-untaken}
+use Rattle.hrthood_top.proofs.Taken.{along, taken-not, taken-sound}
+use Rattle.hrthood_top.proofs.VerbLaws.{IsExactOf}
 
 -- where no item passes a test, none is the first that does
 found-none : {A : Type 0} (test : A → Bool) (n k : ℕ) (xs : List A) → list_any test xs ≡ false → position_from test n xs ≡ Some k → ⊥
@@ -56,32 +36,28 @@ one_internal f t u h k =
 one_unordered : (f : Flat) (ts us : List Name) → IsSound f → HasNoOrder f ts → HasNoOrder f us → ts ≡ us
 one_unordered f ts us sound h k = h.called ∙ ap (names_at f) (one-refuted f h.places k.places sound h.refuted k.refuted) ∙ sym k.called
 
--- what is said of the flat design of one design is said of that of the other
-along : (P : Flat → Type 0) (bytes : List ℕ) (x y : designs.Design) → IsTakenAs bytes x → IsTakenAs bytes y → P (flat x) → P (flat y)
-along P bytes x y v w h = let Q : designs.Design → Type 0 = λ z. P (flat z) in subst Q (one-taken bytes x y v w) h
-
 -- a design that passes under an order is refused for no reason
 not_refused : (bytes : List ℕ) → CanSearch bytes → (r : SearchRefusal) → RefusesSearch bytes r → ⊥
 not_refused bytes w (refusal.Untaken r) h = taken-not bytes w.design w.taken r h
 not_refused bytes w (refusal.Started thread) h =
-    not_internal (flat w.design) thread w.external (along (λ f. IsInternal f thread) bytes h.0 w.design h.1 w.taken h.2)
+    not_internal (flat w.design) thread w.external (along (λ x. IsInternal (flat x) thread) bytes h.0 w.design h.1 w.taken h.2)
 not_refused bytes w (refusal.None threads) h =
-    let k = along (λ f. HasNoOrder f threads) bytes h.0 w.design h.1 w.taken h.2 in k.refuted.none w.order w.is_order w.passes
+    let k = along (λ x. HasNoOrder (flat x) threads) bytes h.0 w.design h.1 w.taken h.2 in k.refuted.none w.order w.is_order w.passes
 
 one_refusal : (bytes : List ℕ) (r q : SearchRefusal) → RefusesSearch bytes r → RefusesSearch bytes q → r ≡ q
-one_refusal bytes (refusal.Untaken r) (refusal.Untaken q) h k = ap refusal.Untaken (checking.one_refusal bytes r q h k)
+one_refusal bytes (refusal.Untaken r) (refusal.Untaken q) h k = ap refusal.Untaken (one-untaken bytes r q h k)
 one_refusal bytes (refusal.Untaken r) (refusal.Started t) h k = absurd (taken-not bytes k.0 k.1 r h)
 one_refusal bytes (refusal.Untaken r) (refusal.None ts) h k = absurd (taken-not bytes k.0 k.1 r h)
 one_refusal bytes (refusal.Started t) (refusal.Untaken q) h k = absurd (taken-not bytes h.0 h.1 q k)
 one_refusal bytes (refusal.Started t) (refusal.Started u) h k =
-    ap refusal.Started (one_internal (flat k.0) t u (along (λ f. IsInternal f t) bytes h.0 k.0 h.1 k.1 h.2) k.2)
+    ap refusal.Started (one_internal (flat k.0) t u (along (λ x. IsInternal (flat x) t) bytes h.0 k.0 h.1 k.1 h.2) k.2)
 one_refusal bytes (refusal.Started t) (refusal.None us) h k =
-    absurd (not_internal (flat k.0) t k.2.refuted.external (along (λ f. IsInternal f t) bytes h.0 k.0 h.1 k.1 h.2))
+    absurd (not_internal (flat k.0) t k.2.refuted.external (along (λ x. IsInternal (flat x) t) bytes h.0 k.0 h.1 k.1 h.2))
 one_refusal bytes (refusal.None ts) (refusal.Untaken q) h k = absurd (taken-not bytes h.0 h.1 q k)
 one_refusal bytes (refusal.None ts) (refusal.Started u) h k =
-    absurd (not_internal (flat h.0) u h.2.refuted.external (along (λ f. IsInternal f u) bytes k.0 h.0 k.1 h.1 k.2))
+    absurd (not_internal (flat h.0) u h.2.refuted.external (along (λ x. IsInternal (flat x) u) bytes k.0 h.0 k.1 h.1 k.2))
 one_refusal bytes (refusal.None ts) (refusal.None us) h k =
-    ap refusal.None (one_unordered (flat k.0) ts us (taken-sound bytes k.0 k.1) (along (λ f. HasNoOrder f ts) bytes h.0 k.0 h.1 k.1 h.2) k.2)
+    ap refusal.None (one_unordered (flat k.0) ts us (taken-sound bytes k.0 k.1) (along (λ x. HasNoOrder (flat x) ts) bytes h.0 k.0 h.1 k.1 h.2) k.2)
 
 can_make : (bytes made : List ℕ) → IsSearched bytes made → CanSearch bytes
 can_make bytes made w = record {
@@ -93,10 +69,9 @@ can_make bytes made w = record {
   passes = (w.2.bounds, w.2.least.fits);
 }
 
-pub searches-exact : (design : List ℕ) → IsExact (searches design)
-searches-exact design = record {
-  one = λ a b same r q h k. one_refusal (b Design) r q (subst (λ z. RefusesSearch z r) same.0 h) k;
-  able = λ a b same w r h. not_refused (b Design) (subst CanSearch same.0 w) r h;
-  made = λ a made w. can_make (a Design) made w;
-  stops = never-stops (searches design) (λ texts text stop h. h);
+pub searches-exact : IsExactOf of_search
+searches-exact = record {
+  able = not_refused;
+  one = one_refusal;
+  made = can_make;
 }

@@ -2,8 +2,9 @@
 use Rattle.std.proofs.Common.{◌≡◌, ℕ, List, [], ◌∷◌, ◌++◌, length, Some, refl, sym, ap, subst, ◌∙◌, arith}
 use Rattle.seq_tree.specs.Lists.{Each}
 use Rattle.hood_io.specs.Shelves.{Told}
+use Rattle.hrthood_top.specs.declared.file_kind.FileKind.TheVariants.{Design}
 use Rattle.hrthood_top.specs.Files.{File, Texts, Holds, HoldsAll, IsTooLong}
-use Rattle.hrthood_top.specs.Verbs.{Verb}
+use Rattle.hrthood_top.specs.Verbs.{OfDesign, Verb, on_design}
 use Rattle.hrthood_top.specs.Ends.{Writes, Cause, TooLong, Refusal, Stopped, Refuses, CanDo}
 
 -- texts that are the same for these files
@@ -36,6 +37,20 @@ pub record IsExact (v : Verb) : Type 0 where
   -- what it makes something of, it can be done of
   pub made : (a : Texts) (text : List ℕ) → v.Makes a text → v.CanDo a
   pub stops : StopsExactly v
+
+-- what is to be shown of what is made of a design alone
+pub record IsExactOf (of : OfDesign) : Type 0 where
+  pub able : (bytes : List ℕ) → of.CanDo bytes → (r : of.Refusal) → of.Refuses bytes r → ⊥
+  pub one : (bytes : List ℕ) (r q : of.Refusal) → of.Refuses bytes r → of.Refuses bytes q → r ≡ q
+  pub made : (bytes text : List ℕ) → of.Makes bytes text → of.CanDo bytes
+
+pub design-exact : (of : OfDesign) (name : List ℕ) → IsExactOf of → IsExact (on_design of name)
+design-exact of name h = record {
+  able = λ a b same w r refused. h.able (b Design) (subst of.CanDo same.0 w) r refused;
+  one = λ a b same r q refused k. h.one (b Design) r q (subst (λ z. of.Refuses z r) same.0 refused) k;
+  made = λ a text w. h.made (a Design) text w;
+  stops = never-stops (on_design of name) (λ texts text stop stops. stops);
+}
 
 -- a shelf has one file of a name
 pub one_file : (t : Told) (name a b : List ℕ) → t.files name ≡ Some a → t.files name ≡ Some b → a ≡ b

@@ -31,8 +31,8 @@ use Rattle.trace_tree.specs.declared.event.Event.{Event}
 use Rattle.trace_tree.specs.Lines.{lines}
 use Rattle.hrthood_top.specs.declared.file_kind.FileKind.TheVariants as kind
 use Rattle.hrthood_top.specs.declared.generate.GenerateRefusal.{GenerateRefusal}
-use Rattle.hrthood_top.specs.declared.halt.Halt.{Halt}
-use Rattle.hrthood_top.specs.declared.halt.Halt.TheVariants as halt
+use Rattle.bridge.specs.declared.halt.Halt.{Halt}
+use Rattle.bridge.specs.declared.halt.Halt.TheVariants as halt
 use Rattle.hrthood_top.specs.declared.status.Status.{Status}
 use Rattle.hrthood_top.specs.declared.violation.Ending.{Ending}
 use Rattle.hrthood_top.specs.declared.violation.Ending.TheVariants.{Horizon, Stopped}
@@ -42,7 +42,7 @@ use Rattle.hrthood_top.specs.Replays.{Replays, SaysProgram, SaysArrivals}
 use Rattle.hrthood_top.specs.Streaming.{IsCut, PutsRun, violation_of}
 use Rattle.hrthood_top.specs.Verifies.{IsVerified, IsTextAlone, RefusesVerify, PutsBehind, halted_arrivals, halted_design, trace_mark, verifies}
 use Rattle.hrthood_top.specs.Violations.{RunsOut}
-use Rattle.hrthood_top.specs.Writing.{IsMade, Streams, TellsEnding}
+use Rattle.hrthood_top.specs.Writing.{Streams, TellsEnding}
 use Rattle.hrthood_top.proofs.Gathering.{cut-more}
 use Rattle.hrthood_top.proofs.Replayed.{traced}
 use Rattle.hrthood_top.proofs.Replaying.{accepted_text, right_trace}
@@ -52,12 +52,6 @@ use Rattle.hrthood_top.proofs.Streamed.{IsHalted}
 -- a text that was made of a design has no fault, and breaks no rule
 pub made-unfaulty : (design made : List ℕ) (found : TextFault) → IsTextFor design made → Faults made found → ⊥
 made-unfaulty design made found w h = reads-unfaulty made (program (in_ticks w.design)) found (accepted_text design made w).reads h
-
--- what was not made has a reason
-pub made-halted : {X R : Type 0} (view : X → List ℕ) (Makes : List ℕ → Type 0) (Refuses : R → Type 0) (why : Halt R)
-    → IsMade view Makes Refuses (Err why) → IsHalted Refuses why
-made-halted view Makes Refuses (halt.Refused refusal) h = h
-made-halted view Makes Refuses halt.NoMemory h = tt
 
 -- what was read is what the text says
 pub said-arrivals : (arrivals : List ℕ) (p : Program) (a : Arrivals) → Arrives horizon_limit arrivals p a

@@ -1,5 +1,5 @@
 -- That the verb `verify` refuses a design and an arrivals text for one reason, and none that it can be done of.
-use Rattle.std.proofs.Common.{◌≡◌, ℕ, List, refl, sym, ap, subst, ◌∙◌}
+use Rattle.std.proofs.Common.{◌≡◌, ℕ, List, sym, ap, subst, ◌∙◌}
 use Rattle.ods_tree.specs.Designs as designs
 use Rattle.ods_tree.specs.Flattening.{flat}
 use Rattle.ods_tree.specs.Ticks.{in_ticks}
@@ -32,7 +32,7 @@ one-made design t u h k =
     h.made ∙ ap (λ z. text (in_ticks z) h.bounds) one ∙ ap (text (in_ticks k.design)) bounds ∙ sym k.made
 
 can_or_refuses : (design arrivals : List ℕ) → CanVerify design arrivals → (r : VerifyRefusal) → RefusesVerify design arrivals r → ⊥
-can_or_refuses design arrivals w (Design refusal) h = generating.can_or_refuses design design refl w.can refusal h
+can_or_refuses design arrivals w (Design refusal) h = generating.can_or_refuses design w.can refusal h
 can_or_refuses design arrivals w (Arrivals found) h =
     let one : h.made.design ≡ w.can.design = one-design design h.made.design w.can.design h.made.reads w.can.reads in
     let A : designs.Design → Type 0 = λ x. Accepts h.text (program (in_ticks x)) in
@@ -54,9 +54,9 @@ can_make design arrivals written w =
 one_refusal : (design arrivals : List ℕ) (r q : VerifyRefusal) → RefusesVerify design arrivals r → RefusesVerify design arrivals q → r ≡ q
 one_refusal design arrivals (Design a) (Design b) h k = ap Design (generating.one_refusal design a b h k)
 one_refusal design arrivals (Design a) (Arrivals f) h k
-    = absurd (generating.can_or_refuses design design refl (generating.can_make design k.text k.made) a h)
+    = absurd (generating.can_or_refuses design (generating.can_make design k.text k.made) a h)
 one_refusal design arrivals (Arrivals f) (Design b) h k
-    = absurd (generating.can_or_refuses design design refl (generating.can_make design h.text h.made) b k)
+    = absurd (generating.can_or_refuses design (generating.can_make design h.text h.made) b k)
 one_refusal design arrivals (Arrivals f) (Arrivals g) h k =
     let T : List ℕ → Type 0 = λ t. IsAdaAlone t arrivals f in
     ap Arrivals (one_arrivals k.text arrivals f g (subst T (one-made design h.text k.text h.made k.made) h.alone) k.alone)

@@ -15,11 +15,11 @@ use Rattle.design_accepts.specs.declared.unaccepted.Unaccepted.TheVariants as wh
 use Rattle.hrthood_top.specs.declared.accepts.AcceptsRefusal.{AcceptsRefusal}
 use Rattle.hrthood_top.specs.declared.accepts.AcceptsRefusal.TheVariants as refusal
 use Rattle.hrthood_top.specs.declared.file_kind.FileKind.TheVariants.{Design, Arrivals, Trace}
-use Rattle.hrthood_top.specs.declared.halt.Halt.{Halt}
-use Rattle.hrthood_top.specs.declared.halt.Halt.TheVariants as halt
-use Rattle.hrthood_top.specs.Checks.{RefusesCheck, check_line}
+use Rattle.bridge.specs.declared.halt.Halt.{Halt}
+use Rattle.bridge.specs.declared.halt.Halt.TheVariants as halt
+use Rattle.hrthood_top.specs.Checks.{check_line}
 use Rattle.hrthood_top.specs.Messages.{arrivals_line, count_line, name_line}
-use Rattle.hrthood_top.specs.Taking.{IsTakenAs}
+use Rattle.bridge.specs.Taking.{IsTakenAs, RefusesTaking}
 use Rattle.hrthood_top.specs.Verbs.{Verb}
 
 -- under arrivals that a text says of the program of a design in ticks, this is the verdict on a text as a trace of the design
@@ -58,7 +58,7 @@ IsAcceptedSo design arrivals trace written = (x : designs.Design) × IsTakenAs d
 
 -- why nothing is accepted
 abbrev pub RefusesAccepts : List ℕ → List ℕ → List ℕ → AcceptsRefusal → Type 0
-RefusesAccepts design arrivals trace (refusal.Untaken found) = RefusesCheck design found
+RefusesAccepts design arrivals trace (refusal.Untaken found) = RefusesTaking design found
 RefusesAccepts design arrivals trace (refusal.Arrivals found) =
     (x : designs.Design) × IsTakenAs design x × RefusesTrace x arrivals trace (refusal.Arrivals found)
 RefusesAccepts design arrivals trace (refusal.Trace why) =

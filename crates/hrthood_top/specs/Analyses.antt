@@ -1,16 +1,15 @@
 -- The verb `analyse`: the bounds of a design and its ceilings, one a line.
 -- The bounds are the least that fit the design's table, those of the head of its Ada text; the lines are this project's own.
-use Rattle.std.specs.Prelude.{◌≡◌, ℕ, List, [], ◌∷◌, ◌++◌, codes, decimal, flat_map}
+use Rattle.std.specs.Prelude.{◌≡◌, ℕ, List, ◌++◌, codes, decimal, flat_map}
 use Rattle.ods_tree.specs.Flattening.{flat}
 use Rattle.ods_tree.specs.Ticks.{in_ticks, first_priority}
 use Rattle.bridge.specs.Delivers.{IsTextFor}
 use Rattle.design_bounds.specs.Rows.{named_bounds, ceiling_rows}
 use Rattle.trace_text.specs.declared.bound.NamedBound.{NamedBound}
 use Rattle.design_bounds.specs.declared.rows.CeilingRow.{CeilingRow}
-use Rattle.hrthood_top.specs.declared.file_kind.FileKind.TheVariants.{Design}
 use Rattle.hrthood_top.specs.declared.generate.GenerateRefusal.{GenerateRefusal}
 use Rattle.hrthood_top.specs.Generates.{RefusesDesign, CanGenerate, generate_line}
-use Rattle.hrthood_top.specs.Verbs.{Verb}
+use Rattle.hrthood_top.specs.Verbs.{OfDesign, Verb, on_design}
 
 -- a word and a number
 abbrev pub labelled : List ℕ → ℕ → List ℕ
@@ -45,16 +44,16 @@ pub record IsAnalysed (bytes lines : List ℕ) : Type 0 where
   pub told : lines ≡ report (named_bounds (first_priority made.design) (flat (in_ticks made.design)) made.bounds)
       (ceiling_rows (first_priority made.design) (flat (in_ticks made.design)))
 
--- the verb, which has the refusals of `generate`
-abbrev pub analyses : List ℕ → Verb
-analyses design = record {
-  files = record { kind = Design; name = design } ∷ [];
-  Makes = λ texts made. IsAnalysed (texts Design) made;
+-- what the verb makes of a design, with the refusals of `generate`
+abbrev pub of_analyse : OfDesign
+of_analyse = record {
+  Makes = IsAnalysed;
   Refusal = GenerateRefusal;
-  Refuses = λ texts refusal. RefusesDesign (texts Design) refusal;
+  Refuses = RefusesDesign;
   line = generate_line;
-  Stop = ⊥;
-  Stops = λ texts text stop. ⊥;
-  stop_line = λ stop. [];
-  CanDo = λ texts. CanGenerate (texts Design);
+  CanDo = CanGenerate;
 }
+
+-- the verb
+abbrev pub analyses : List ℕ → Verb
+analyses = on_design of_analyse

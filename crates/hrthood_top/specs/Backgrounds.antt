@@ -1,6 +1,6 @@
 -- The verb `background`: the Ada text of a design with background objects.
 -- What is made of a design, and why nothing is, is that of the delivery, said of bytes.
-use Rattle.std.specs.Prelude.{◌≡◌, ℕ, ◌≤◌, List, [], ◌∷◌, length, codes}
+use Rattle.std.specs.Prelude.{◌≡◌, ℕ, ◌≤◌, List, length, codes}
 use Rattle.ods_tree.specs.Designs as designs
 use Rattle.ods_tree.specs.Reading.{Reads}
 use Rattle.ods_tree.specs.Ticks.{in_ticks}
@@ -18,7 +18,7 @@ use Rattle.hrthood_top.specs.declared.file_kind.FileKind.TheVariants.{Design}
 use Rattle.hrthood_top.specs.declared.background_text.BackgroundRefusal.{BackgroundRefusal}
 use Rattle.hrthood_top.specs.declared.background_text.BackgroundRefusal.TheVariants.{Text, Rule, Broken, Miss, Long}
 use Rattle.hrthood_top.specs.Messages.{text_line, misfit_line, rule_line, miss_line}
-use Rattle.hrthood_top.specs.Verbs.{Verb}
+use Rattle.hrthood_top.specs.Verbs.{OfDesign, Verb, on_design}
 
 -- a text for the design with background objects that the bytes are: its own, with the least bounds of its hard threads, guaranteed
 pub record IsBackgroundTextFor (bytes text_made : List ℕ) : Type 0 where
@@ -62,16 +62,16 @@ pub record CanBackground (bytes : List ℕ) : Type 0 where
   pub least : IsLeastVector (hard_rows (in_ticks design)) bounds
   pub short : length (background_text (in_ticks design) bounds) ≤ 16777216
 
+-- what the verb makes of a design
+abbrev pub of_background : OfDesign
+of_background = record {
+  Makes = IsBackgroundTextFor;
+  Refusal = BackgroundRefusal;
+  Refuses = RefusesBackground;
+  line = background_line;
+  CanDo = CanBackground;
+}
+
 -- the verb
 abbrev pub backgrounds : List ℕ → Verb
-backgrounds design = record {
-  files = record { kind = Design; name = design } ∷ [];
-  Makes = λ texts made. IsBackgroundTextFor (texts Design) made;
-  Refusal = BackgroundRefusal;
-  Refuses = λ texts refusal. RefusesBackground (texts Design) refusal;
-  line = background_line;
-  Stop = ⊥;
-  Stops = λ texts text stop. ⊥;
-  stop_line = λ stop. [];
-  CanDo = λ texts. CanBackground (texts Design);
-}
+backgrounds = on_design of_background

@@ -1,20 +1,18 @@
 -- The verb `check`: whether a design is taken, how many objects and threads it has, or the first rule that it breaks.
 -- The rules are those of designs; the lines are this project's own.
-use Rattle.std.specs.Prelude.{◌≡◌, ℕ, List, [], ◌∷◌, ◌++◌, length, codes, decimal}
+use Rattle.std.specs.Prelude.{◌≡◌, ℕ, List, ◌++◌, length, codes, decimal}
 use Rattle.ods_tree.specs.Designs as designs
 use Rattle.ods_tree.specs.Reading.{Reads}
 use Rattle.ods_tree.specs.Ticks.{in_ticks}
 use Rattle.ods_tree.specs.Walk.{objects}
-use Rattle.ods_read.specs.Answers.{Faults}
 use Rattle.design_rules.specs.Rings.{thread_objects}
 use Rattle.design_rules.specs.Rules.{MeetsRules}
-use Rattle.ods_index.specs.Told.{told_of}
-use Rattle.bridge.specs.Delivers.{BreaksRule}
+use Rattle.bridge.specs.Taking.{RefusesTaking}
 use Rattle.hrthood_top.specs.declared.file_kind.FileKind.TheVariants.{Design}
-use Rattle.hrthood_top.specs.declared.check.CheckRefusal.{CheckRefusal}
-use Rattle.hrthood_top.specs.declared.check.CheckRefusal.TheVariants.{Text, Rule}
+use Rattle.bridge.specs.declared.taking.Untaken.{Untaken}
+use Rattle.bridge.specs.declared.taking.Untaken.TheVariants.{Text, Rule}
 use Rattle.hrthood_top.specs.Messages.{text_line, rule_line}
-use Rattle.hrthood_top.specs.Verbs.{Verb}
+use Rattle.hrthood_top.specs.Verbs.{OfDesign, Verb, on_design}
 
 -- the line of a design in ticks that is taken: its name, and the numbers of all its objects and of its threads
 abbrev pub taken_line : designs.Design → List ℕ
@@ -29,13 +27,8 @@ pub record IsTaken (bytes line : List ℕ) : Type 0 where
   pub meets : MeetsRules design
   pub line_is : line ≡ taken_line (in_ticks design)
 
--- why a design is not taken
-abbrev pub RefusesCheck : List ℕ → CheckRefusal → Type 0
-RefusesCheck bytes (Text fault) = Faults bytes fault
-RefusesCheck bytes (Rule broken) = BreaksRule bytes (told_of broken)
-
--- the line that tells it
-abbrev pub check_line : CheckRefusal → List ℕ
+-- the line that tells why a design is not taken
+abbrev pub check_line : Untaken → List ℕ
 check_line (Text fault) = text_line Design fault
 check_line (Rule broken) = rule_line broken
 
@@ -45,16 +38,16 @@ pub record CanCheck (bytes : List ℕ) : Type 0 where
   pub reads : Reads bytes design
   pub meets : MeetsRules design
 
+-- what the verb makes of a design
+abbrev pub of_check : OfDesign
+of_check = record {
+  Makes = IsTaken;
+  Refusal = Untaken;
+  Refuses = RefusesTaking;
+  line = check_line;
+  CanDo = CanCheck;
+}
+
 -- the verb
 abbrev pub checks : List ℕ → Verb
-checks design = record {
-  files = record { kind = Design; name = design } ∷ [];
-  Makes = λ texts made. IsTaken (texts Design) made;
-  Refusal = CheckRefusal;
-  Refuses = λ texts refusal. RefusesCheck (texts Design) refusal;
-  line = check_line;
-  Stop = ⊥;
-  Stops = λ texts text stop. ⊥;
-  stop_line = λ stop. [];
-  CanDo = λ texts. CanCheck (texts Design);
-}
+checks = on_design of_check

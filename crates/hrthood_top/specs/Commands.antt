@@ -3,28 +3,32 @@ use Rattle.std.specs.Prelude.{ℕ, List}
 use Rattle.hrthood_words.specs.declared.verbs.DesignVerb.{DesignVerb}
 use Rattle.hrthood_words.specs.declared.verbs.DesignVerb.TheVariants.{Check, Analyse, Format, Generate, Search, Scale, Background}
 use Rattle.hrthood_words.specs.Words.{Command, OnDesign, Replay, Verify, Accepts, Sample}
-use Rattle.hrthood_top.specs.Verbs.{Verb}
+use Rattle.hrthood_top.specs.Verbs.{OfDesign, Verb, on_design}
 use Rattle.hrthood_top.specs.Acceptances.{acceptances}
-use Rattle.hrthood_top.specs.Analyses.{analyses}
-use Rattle.hrthood_top.specs.Backgrounds.{backgrounds}
-use Rattle.hrthood_top.specs.Checks.{checks}
-use Rattle.hrthood_top.specs.Formats.{formats}
-use Rattle.hrthood_top.specs.Generates.{generates}
+use Rattle.hrthood_top.specs.Analyses.{of_analyse}
+use Rattle.hrthood_top.specs.Backgrounds.{of_background}
+use Rattle.hrthood_top.specs.Checks.{of_check}
+use Rattle.hrthood_top.specs.Formats.{of_format}
+use Rattle.hrthood_top.specs.Generates.{of_generate}
 use Rattle.hrthood_top.specs.Replays.{replays}
 use Rattle.hrthood_top.specs.Samples.{samples}
-use Rattle.hrthood_top.specs.Searches.{searches}
-use Rattle.hrthood_top.specs.Scales.{scales}
+use Rattle.hrthood_top.specs.Searches.{of_search}
+use Rattle.hrthood_top.specs.Scales.{of_scale}
 use Rattle.hrthood_top.specs.Verifies.{verifies}
 
--- a verb that asks for a design alone
+-- what a verb makes that asks for a design alone
+abbrev pub of_verb : DesignVerb → OfDesign
+of_verb Check = of_check
+of_verb Analyse = of_analyse
+of_verb Format = of_format
+of_verb Generate = of_generate
+of_verb Search = of_search
+of_verb Scale = of_scale
+of_verb Background = of_background
+
+-- that verb
 abbrev pub design_verb : DesignVerb → List ℕ → Verb
-design_verb Check design = checks design
-design_verb Analyse design = analyses design
-design_verb Format design = formats design
-design_verb Generate design = generates design
-design_verb Search design = searches design
-design_verb Scale design = scales design
-design_verb Background design = backgrounds design
+design_verb verb design = on_design (of_verb verb) design
 
 -- the verb of a command
 abbrev pub verb_of : Command → Verb

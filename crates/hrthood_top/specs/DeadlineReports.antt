@@ -10,7 +10,7 @@ use Rattle.analysis.specs.Tables.{table}
 use Rattle.design_bounds.specs.Rows.{named_bounds, ceiling_rows}
 use Rattle.hrthood_top.specs.Analyses.{IsAnalysed, report}
 use Rattle.hrthood_top.specs.Searches.{IsSearched}
-use Rattle.hrthood_top.specs.Taking.{IsTakenAs}
+use Rattle.bridge.specs.Taking.{IsTakenAs}
 
 -- where the design has bounds by the order of deadlines, `search` writes the lines of the least of them and of the ceilings by this order
 abbrev pub WritesByDeadline : Type 0

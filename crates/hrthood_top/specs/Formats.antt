@@ -1,6 +1,6 @@
 -- The verb `format`: the text of a design, printed again. The rules are not checked.
 -- The layout is this project's own.
-use Rattle.std.specs.Prelude.{◌≡◌, ℕ, ◌≤◌, List, [], ◌∷◌, length}
+use Rattle.std.specs.Prelude.{◌≡◌, ℕ, ◌≤◌, List, length}
 use Rattle.ods_tree.specs.Designs as designs
 use Rattle.ods_tree.specs.Layout.{design_text}
 use Rattle.ods_tree.specs.Reading.{Reads}
@@ -9,7 +9,7 @@ use Rattle.hrthood_top.specs.declared.file_kind.FileKind.TheVariants.{Design}
 use Rattle.hrthood_top.specs.declared.format.FormatRefusal.{FormatRefusal}
 use Rattle.hrthood_top.specs.declared.format.FormatRefusal.TheVariants.{Text}
 use Rattle.hrthood_top.specs.Messages.{text_line}
-use Rattle.hrthood_top.specs.Verbs.{Verb}
+use Rattle.hrthood_top.specs.Verbs.{OfDesign, Verb, on_design}
 
 -- bytes of a design, and its text as it is laid out, which reads as the same design within the limit of bytes
 pub record IsFormatted (bytes text : List ℕ) : Type 0 where
@@ -26,16 +26,16 @@ RefusesFormat bytes (Text fault) = Faults bytes fault
 abbrev pub format_line : FormatRefusal → List ℕ
 format_line (Text fault) = text_line Design fault
 
--- the verb; all bytes of a design can be printed
-abbrev pub formats : List ℕ → Verb
-formats design = record {
-  files = record { kind = Design; name = design } ∷ [];
-  Makes = λ texts made. IsFormatted (texts Design) made;
+-- what the verb makes of a design; all bytes of a design can be printed
+abbrev pub of_format : OfDesign
+of_format = record {
+  Makes = IsFormatted;
   Refusal = FormatRefusal;
-  Refuses = λ texts refusal. RefusesFormat (texts Design) refusal;
+  Refuses = RefusesFormat;
   line = format_line;
-  Stop = ⊥;
-  Stops = λ texts text stop. ⊥;
-  stop_line = λ stop. [];
-  CanDo = λ texts. (x : designs.Design) × Reads (texts Design) x;
+  CanDo = λ bytes. (x : designs.Design) × Reads bytes x;
 }
+
+-- the verb
+abbrev pub formats : List ℕ → Verb
+formats = on_design of_format

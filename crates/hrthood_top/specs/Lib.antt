@@ -3,7 +3,6 @@ pub mod Verbs
 pub mod Messages
 pub mod Tells
 pub mod Checks
-pub mod Taking
 pub mod Formats
 pub mod Generates
 pub mod Analyses
@@ -18,6 +17,7 @@ pub mod Scales
 pub mod Backgrounds
 pub mod Commands
 pub mod Ends
+pub mod Runs
 pub mod Exact
 pub mod TwoRuns
 pub mod Fetches

@@ -19,8 +19,8 @@ use Rattle.machine.specs.Meanings.{Meaning}
 use Rattle.hrthood_top.specs.declared.file_kind.FileKind.TheVariants.{Ada, Arrivals}
 use Rattle.hrthood_top.specs.declared.replay.ReplayRefusal.{ReplayRefusal}
 use Rattle.hrthood_top.specs.declared.replay.ReplayRefusal.TheVariants as refusal
-use Rattle.hrthood_top.specs.declared.halt.Halt.{Halt}
-use Rattle.hrthood_top.specs.declared.halt.Halt.TheVariants as halt
+use Rattle.bridge.specs.declared.halt.Halt.{Halt}
+use Rattle.bridge.specs.declared.halt.Halt.TheVariants as halt
 use Rattle.hrthood_top.specs.Messages.{arrivals_line, text_line, unit_line}
 use Rattle.hrthood_top.specs.Verbs.{Verb}
 use Rattle.hrthood_top.specs.Violations.{EndsAt, RunsOut, Violation, violation_line}

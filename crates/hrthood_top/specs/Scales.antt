@@ -1,26 +1,24 @@
 -- The verb `scale`: how far all `work` of a design may grow, in per mille, and what fails at the next one.
 -- The margin is that of the flat design; the lines are this project's own.
-use Rattle.std.specs.Prelude.{◌≡◌, ℕ, List, [], ◌∷◌, ◌++◌, codes, decimal}
+use Rattle.std.specs.Prelude.{◌≡◌, ℕ, List, ◌++◌, codes, decimal}
 use Rattle.seq_tree.specs.Names.{Name}
 use Rattle.ods_tree.specs.Designs as designs
 use Rattle.ods_tree.specs.Flattening.{flat}
 use Rattle.ods_tree.specs.Reading.{Reads}
 use Rattle.ods_tree.specs.Ticks.{in_ticks}
-use Rattle.ods_read.specs.Answers.{Faults}
 use Rattle.design_rules.specs.Rules.{MeetsRules}
-use Rattle.ods_index.specs.Told.{told_of}
 use Rattle.rt_response.specs.declared.rows.Miss as rows
-use Rattle.bridge.specs.Delivers.{BreaksRule}
+use Rattle.bridge.specs.Taking.{RefusesTaking}
 use Rattle.law_scaling.specs.Holding.{Holds}
 use Rattle.scaling.specs.Margins.{IsMargin, HasNoMargin}
 use Rattle.scaling.specs.declared.margin.Margin.{Margin}
 use Rattle.scaling.specs.declared.margin.Next.{Next}
 use Rattle.scaling.specs.declared.margin.Next.TheVariants as next
-use Rattle.hrthood_top.specs.declared.file_kind.FileKind.TheVariants.{Design}
 use Rattle.hrthood_top.specs.declared.scale.ScaleRefusal.{ScaleRefusal}
-use Rattle.hrthood_top.specs.declared.scale.ScaleRefusal.TheVariants.{Text, Rule, Miss}
-use Rattle.hrthood_top.specs.Messages.{text_line, rule_line, miss_line, miss_text, part_text}
-use Rattle.hrthood_top.specs.Verbs.{Verb}
+use Rattle.hrthood_top.specs.declared.scale.ScaleRefusal.TheVariants.{Untaken, Miss}
+use Rattle.hrthood_top.specs.Checks.{check_line}
+use Rattle.hrthood_top.specs.Messages.{miss_line, miss_text, part_text}
+use Rattle.hrthood_top.specs.Verbs.{OfDesign, Verb, on_design}
 
 -- the line of what fails at the next per mille
 abbrev pub next_line : Next → List ℕ
@@ -51,14 +49,12 @@ pub record HoldsNowhere (bytes : List ℕ) (thread : Name) (miss : rows.Miss) : 
 
 -- why a design has no margin
 abbrev pub RefusesScale : List ℕ → ScaleRefusal → Type 0
-RefusesScale bytes (Text fault) = Faults bytes fault
-RefusesScale bytes (Rule broken) = BreaksRule bytes (told_of broken)
+RefusesScale bytes (Untaken refusal) = RefusesTaking bytes refusal
 RefusesScale bytes (Miss thread miss) = HoldsNowhere bytes thread miss
 
 -- the line that tells it
 abbrev pub scale_line : ScaleRefusal → List ℕ
-scale_line (Text fault) = text_line Design fault
-scale_line (Rule broken) = rule_line broken
+scale_line (Untaken refusal) = check_line refusal
 scale_line (Miss thread miss) = miss_line thread miss
 
 -- bytes of a design that meets the rules and holds at one per mille
@@ -68,16 +64,16 @@ pub record CanScale (bytes : List ℕ) : Type 0 where
   pub meets : MeetsRules design
   pub holds : Holds (flat (in_ticks design)) 1
 
+-- what the verb makes of a design
+abbrev pub of_scale : OfDesign
+of_scale = record {
+  Makes = IsScaled;
+  Refusal = ScaleRefusal;
+  Refuses = RefusesScale;
+  line = scale_line;
+  CanDo = CanScale;
+}
+
 -- the verb
 abbrev pub scales : List ℕ → Verb
-scales design = record {
-  files = record { kind = Design; name = design } ∷ [];
-  Makes = λ texts made. IsScaled (texts Design) made;
-  Refusal = ScaleRefusal;
-  Refuses = λ texts refusal. RefusesScale (texts Design) refusal;
-  line = scale_line;
-  Stop = ⊥;
-  Stops = λ texts text stop. ⊥;
-  stop_line = λ stop. [];
-  CanDo = λ texts. CanScale (texts Design);
-}
+scales = on_design of_scale

@@ -1,6 +1,6 @@
 -- The verb `search`: a priority order under which a design passes, looked for where the order by deadlines may fail.
 -- The order is filled from its lowest place upwards (Audsley 1991); the lines are those of `analyse` for it.
-use Rattle.std.specs.Prelude.{◌≡◌, ℕ, List, [], ◌∷◌, ◌++◌, codes, filter_map, flat_map, slice_get, Option, Some, option_map}
+use Rattle.std.specs.Prelude.{◌≡◌, ℕ, List, ◌++◌, codes, filter_map, flat_map, slice_get, Option, Some, option_map}
 use Rattle.std.specs.List.{position_from}
 use Rattle.seq_tree.specs.Names.{Name}
 use Rattle.ods_tree.specs.Designs as designs
@@ -12,14 +12,13 @@ use Rattle.rt_response.specs.declared.rows.Bound.{Bound}
 use Rattle.design_bounds.specs.Rows.{named_bounds_by, ceiling_rows_by}
 use Rattle.law_orders.specs.Orders.{is_internal, AllExternal, IsOrder, priorities_by, rows_by, Passes, IsFilled}
 use Rattle.priority_search.specs.Searches.{IsRefuted}
-use Rattle.hrthood_top.specs.declared.file_kind.FileKind.TheVariants.{Design}
 use Rattle.hrthood_top.specs.declared.search.SearchRefusal.{SearchRefusal}
 use Rattle.hrthood_top.specs.declared.search.SearchRefusal.TheVariants.{Untaken, Started, None}
 use Rattle.hrthood_top.specs.Analyses.{report}
-use Rattle.hrthood_top.specs.Checks.{RefusesCheck, check_line}
+use Rattle.hrthood_top.specs.Checks.{check_line}
 use Rattle.hrthood_top.specs.Messages.{name_line}
-use Rattle.hrthood_top.specs.Taking.{IsTakenAs}
-use Rattle.hrthood_top.specs.Verbs.{Verb}
+use Rattle.bridge.specs.Taking.{IsTakenAs, RefusesTaking}
+use Rattle.hrthood_top.specs.Verbs.{OfDesign, Verb, on_design}
 
 -- the name of the thread at a place, where one is there
 abbrev pub name_at : Flat → ℕ → Option Name
@@ -68,7 +67,7 @@ IsSearched bytes lines = (x : designs.Design) × IsTakenAs bytes x × IsOrdered 
 
 -- why no order is found for bytes
 abbrev pub RefusesSearch : List ℕ → SearchRefusal → Type 0
-RefusesSearch bytes (Untaken refusal) = RefusesCheck bytes refusal
+RefusesSearch bytes (Untaken refusal) = RefusesTaking bytes refusal
 RefusesSearch bytes (Started thread) = (x : designs.Design) × IsTakenAs bytes x × IsInternal (flat x) thread
 RefusesSearch bytes (None threads) = (x : designs.Design) × IsTakenAs bytes x × HasNoOrder (flat x) threads
 
@@ -91,16 +90,16 @@ pub record CanSearch (bytes : List ℕ) : Type 0 where
   pub is_order : IsOrder (flat design) order
   pub passes : Passes (flat design) order
 
+-- what the verb makes of a design
+abbrev pub of_search : OfDesign
+of_search = record {
+  Makes = IsSearched;
+  Refusal = SearchRefusal;
+  Refuses = RefusesSearch;
+  line = search_line;
+  CanDo = CanSearch;
+}
+
 -- the verb
 abbrev pub searches : List ℕ → Verb
-searches design = record {
-  files = record { kind = Design; name = design } ∷ [];
-  Makes = λ texts made. IsSearched (texts Design) made;
-  Refusal = SearchRefusal;
-  Refuses = λ texts refusal. RefusesSearch (texts Design) refusal;
-  line = search_line;
-  Stop = ⊥;
-  Stops = λ texts text stop. ⊥;
-  stop_line = λ stop. [];
-  CanDo = λ texts. CanSearch (texts Design);
-}
+searches = on_design of_search

@@ -15,8 +15,8 @@ use Rattle.trace_tree.specs.declared.event.Event.{Event}
 use Rattle.trace_tree.specs.Lines.{lines}
 use Rattle.hrthood_top.specs.declared.file_kind.FileKind.TheVariants as kind
 use Rattle.hrthood_top.specs.declared.generate.GenerateRefusal.{GenerateRefusal}
-use Rattle.hrthood_top.specs.declared.halt.Halt.{Halt}
-use Rattle.hrthood_top.specs.declared.halt.Halt.TheVariants as halt
+use Rattle.bridge.specs.declared.halt.Halt.{Halt}
+use Rattle.bridge.specs.declared.halt.Halt.TheVariants as halt
 use Rattle.hrthood_top.specs.declared.verify.VerifyRefusal.{VerifyRefusal}
 use Rattle.hrthood_top.specs.declared.verify.VerifyRefusal.TheVariants.{Design, Arrivals}
 use Rattle.hrthood_top.specs.declared.violation.Ending.{Ending}

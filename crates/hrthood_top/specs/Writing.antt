@@ -3,10 +3,12 @@
 use Rattle.std.specs.Prelude.{◌≡◌, ℕ, ◌<◌, List, length, take, Option, Result, Ok, Err, ◌⊎◌, ⊤}
 use Rattle.hood_io.specs.Causes.{Rose}
 use Rattle.hood_io.specs.Sinks.{Appends}
+use Rattle.hrthood_words.specs.declared.reading.Unread.{Unread}
+use Rattle.hrthood_words.specs.declared.reading.Unread.TheVariants as unread
 use Rattle.hrthood_top.specs.declared.status.Status.{Status}
 use Rattle.hrthood_top.specs.declared.status.Status.TheVariants as status
-use Rattle.hrthood_top.specs.declared.halt.Halt.{Halt}
-use Rattle.hrthood_top.specs.declared.halt.Halt.TheVariants as halt
+use Rattle.bridge.specs.declared.halt.Halt.{Halt}
+use Rattle.bridge.specs.declared.halt.Halt.TheVariants as halt
 use Rattle.hrthood_top.specs.declared.fetch.Stop.{Stop}
 use Rattle.hrthood_top.specs.declared.fetch.Stop.TheVariants.{TooLong, ReadFault, NoMemory}
 use Rattle.hrthood_top.specs.declared.message.Message.TheVariants as message
@@ -35,6 +37,11 @@ WritesText _ text out out' faults faults' err err' told told' = ⊥
 -- want of memory is told
 abbrev pub TellsMemory : Status → Option (List ℕ) → Option (List ℕ) → ℕ → ℕ → Type 0
 TellsMemory ended err err' told told' = (ended ≡ status.NoMemory) × Tells err err' told told' (message_line message.NoMemory)
+
+-- why no command is read is told
+abbrev pub TellsUnread : Unread → Status → Option (List ℕ) → Option (List ℕ) → ℕ → ℕ → Type 0
+TellsUnread unread.NoCommand ended err err' told told' = (ended ≡ status.Usage) × Tells err err' told told' (message_line message.Usage)
+TellsUnread unread.NoMemory ended err err' told told' = TellsMemory ended err err' told told'
 
 -- why a verb makes nothing is told
 abbrev pub TellsHalt : {R : Type 0} → (R → List ℕ) → Halt R → Status → Option (List ℕ) → Option (List ℕ) → ℕ → ℕ → Type 0

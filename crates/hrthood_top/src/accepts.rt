@@ -12,18 +12,16 @@ ghost use Rattle.hrthood_top.specs.Messages.{count_line};
 ghost use Rattle.hrthood_top.specs.Writing.{IsMade};
 
 use crate::arrival_lines::put_arrivals;
-use crate::check::CheckRefusal;
 use crate::design_program::design_program;
 use crate::fetch::{File, fetch_files};
 use crate::file_kind::FileKind;
 use crate::finish::{finish, tell_stop};
-use crate::halt::Halt;
 use crate::line::{Line, put_each, put_named};
 use crate::status::Status;
-use crate::take::take;
 use ada_tree::AdaProgram;
 use arrivals_read::{ArrivalFault, read_arrivals};
 use arrivals_tree::Arrivals;
+use bridge::{Halt, Untaken, take};
 use design_accepts::{Unaccepted, accepts as judge};
 use hood_io::{Failed, Shelf, Sink, put_all};
 use itoa::Buffer;
@@ -35,7 +33,7 @@ use std::alloc::Global;
 #[derive(Drop, Debug)]
 pub enum AcceptsRefusal {
     /// The bytes are not the text of a design, or the design breaks a rule.
-    Untaken(CheckRefusal),
+    Untaken(Untaken),
     /// The arrivals text is none for the program of the design, for this reason; never for want of memory.
     Arrivals(ArrivalFault),
     /// The text is no trace that the design's machine allows, for this reason; never for want of memory.

@@ -1,19 +1,15 @@
 ghost use Rattle.hood_io.specs.Causes.{HasCause};
 ghost use Rattle.hood_io.specs.Sinks.{Puts};
-ghost use Rattle.hrthood_top.specs.Backgrounds.{IsBackgroundTextFor, RefusesBackground, background_line, backgrounds};
-ghost use Rattle.hrthood_top.specs.Ends.{EndsVerb, outside};
+ghost use Rattle.hrthood_top.specs.Backgrounds.{IsBackgroundTextFor, RefusesBackground, background_line};
 ghost use Rattle.hrthood_top.specs.Writing.{IsMade};
 
 use crate::design_lines::{put_misfit, put_miss, put_rule};
-use crate::fetch::{File, fetch_files};
 use crate::file_kind::FileKind;
-use crate::finish::{finish, tell_stop};
-use crate::halt::Halt;
 use crate::line::Line;
-use crate::status::Status;
 use crate::text_lines::put_fault;
 use background::{Background, BackgroundRefusal as Refusal, BackgroundRule, deliver_background};
-use hood_io::{Failed, Shelf, Sink, put_all};
+use bridge::Halt;
+use hood_io::{Failed, Sink, put_all};
 use ods_read::read_design;
 use ods_rules::Broken;
 use rt_response::Miss;
@@ -82,27 +78,5 @@ pub(crate) fn make_background(
         }
         Err(Refusal::Long) => Err(Halt::Refused(BackgroundRefusal::Long)),
         Err(Refusal::NoMemory) => Err(Halt::NoMemory),
-    }
-}
-
-/// Does the verb `background`, from its file to what is written.
-pub(crate) fn write_background<F: Shelf, O: Sink, E: Sink>(
-    alloc: Global,
-    design: &str,
-    shelf: &mut F,
-    out: &mut O,
-    err: &mut E,
-) -> Status
-    ensures { EndsVerb result (backgrounds design.now)
-        (outside (F.told shelf.old) (F.faults shelf.old) (O.written out.old) (O.faults out.old) (E.written err.old) (E.faults err.old))
-        (outside (F.told shelf.new) (F.faults shelf.new) (O.written out.new) (O.faults out.new) (E.written err.new) (E.faults err.new)) }
-{
-    let files = [File {
-        kind: FileKind::Design,
-        name: design,
-    }];
-    match fetch_files(alloc, shelf, &files) {
-        Ok(texts) => finish(out, err, make_background(alloc, &texts.design)),
-        Err(stop) => tell_stop(err, stop),
     }
 }

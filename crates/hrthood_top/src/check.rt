@@ -2,35 +2,22 @@ ghost use Rattle.std.specs.Prelude.{◌≡◌, IfOk};
 ghost use Rattle.hood_io.specs.Causes.{HasCause};
 ghost use Rattle.hood_io.specs.Sinks.{Puts};
 ghost use Rattle.ods_rules.specs.Checks.{checked_design};
-ghost use Rattle.hrthood_top.specs.Checks.{checks, check_line, taken_line, IsTaken, RefusesCheck};
-ghost use Rattle.hrthood_top.specs.Ends.{EndsVerb, outside};
+ghost use Rattle.bridge.specs.Taking.{RefusesTaking};
+ghost use Rattle.hrthood_top.specs.Checks.{check_line, taken_line, IsTaken};
 ghost use Rattle.hrthood_top.specs.Writing.{IsMade};
 
 use crate::design_lines::put_rule;
-use crate::fetch::{File, fetch_files};
 use crate::file_kind::FileKind;
-use crate::finish::{finish, tell_stop};
-use crate::halt::Halt;
 use crate::line::Line;
-use crate::status::Status;
-use crate::take::take;
 use crate::text_lines::put_fault;
-use hood_io::{Failed, Shelf, Sink};
+use bridge::{Halt, Untaken, take};
+use hood_io::{Failed, Sink};
 use itoa::Buffer;
-use ods_rules::{Broken, Checked, count};
-use seq_tree::{NoMemory, TextFault};
+use ods_rules::{Checked, count};
+use seq_tree::NoMemory;
 use std::alloc::Global;
 
-/// Why a design is not taken.
-#[derive(Drop, Debug)]
-pub enum CheckRefusal {
-    /// The bytes are not the text of a design, for this reason and at this place.
-    Text(TextFault),
-    /// The design breaks this rule; never for want of memory.
-    Rule(Broken),
-}
-
-impl Line for CheckRefusal {
+impl Line for Untaken {
     ghost line = { check_line };
 
     fn put<E: Sink>(&self, err: &mut E) -> Result<(), Failed>
@@ -38,8 +25,8 @@ impl Line for CheckRefusal {
         ensures puts { Puts (E.written err.old) (E.written err.new) (check_line self.now) result }
     {
         match self {
-            CheckRefusal::Text(fault) => put_fault(err, FileKind::Design, *fault),
-            CheckRefusal::Rule(broken) => put_rule(err, broken),
+            Untaken::Text(fault) => put_fault(err, FileKind::Design, *fault),
+            Untaken::Rule(broken) => put_rule(err, broken),
         }
     }
 }
@@ -63,34 +50,12 @@ fn taken_line(alloc: Global, checked: &Checked) -> Result<Vec<u8>, NoMemory>
 
 /// What is told of the text of a design.
 #[tactic(auto, using(crate::proofs::CheckLaws::check_laws))]
-fn check_text(alloc: Global, design: &[u8]) -> Result<Vec<u8>, Halt<CheckRefusal>>
-    ensures { IsMade (λ v. v.items) (IsTaken design.now) (RefusesCheck design.now) result }
+pub(crate) fn check_text(alloc: Global, design: &[u8]) -> Result<Vec<u8>, Halt<Untaken>>
+    ensures { IsMade (λ v. v.items) (IsTaken design.now) (RefusesTaking design.now) result }
 {
     let checked = take(alloc, design)?;
     match taken_line(alloc, &checked) {
         Ok(line) => Ok(line),
         Err(NoMemory) => Err(Halt::NoMemory),
-    }
-}
-
-/// Does the verb `check`, from its file to what is written.
-pub(crate) fn check<F: Shelf, O: Sink, E: Sink>(
-    alloc: Global,
-    design: &str,
-    shelf: &mut F,
-    out: &mut O,
-    err: &mut E,
-) -> Status
-    ensures { EndsVerb result (checks design.now)
-        (outside (F.told shelf.old) (F.faults shelf.old) (O.written out.old) (O.faults out.old) (E.written err.old) (E.faults err.old))
-        (outside (F.told shelf.new) (F.faults shelf.new) (O.written out.new) (O.faults out.new) (E.written err.new) (E.faults err.new)) }
-{
-    let files = [File {
-        kind: FileKind::Design,
-        name: design,
-    }];
-    match fetch_files(alloc, shelf, &files) {
-        Ok(texts) => finish(out, err, check_text(alloc, &texts.design)),
-        Err(stop) => tell_stop(err, stop),
     }
 }

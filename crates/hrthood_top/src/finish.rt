@@ -1,18 +1,19 @@
 ghost use Rattle.std.specs.Prelude.{◌≡◌};
 ghost use Rattle.hrthood_top.specs.Messages.{message_line};
 ghost use Rattle.hrthood_top.specs.Tells.{Tells};
-ghost use Rattle.hrthood_top.specs.Writing.{Finishes, TellsEnding, TellsHalt, TellsStop, TellsWritten};
+ghost use Rattle.hrthood_top.specs.Writing.{Finishes, TellsEnding, TellsHalt, TellsStop, TellsUnread, TellsWritten};
 
 use crate::fetch::Stop;
-use crate::halt::Halt;
 use crate::line::{Line, tell};
 use crate::message::Message;
 use crate::status::Status;
 use crate::violation::Ending;
+use bridge::Halt;
 use hood_io::{Failed, Sink, put_all};
+use hrthood_words::Unread;
 
 /// Tells that the words are no command.
-pub(crate) fn tell_usage<E: Sink>(err: &mut E) -> Status
+fn tell_usage<E: Sink>(err: &mut E) -> Status
     ensures ended { result ≡ Status.Usage }
     ensures told { Tells (E.written err.old) (E.written err.new) (E.faults err.old) (E.faults err.new) (message_line Message.Usage) }
 {
@@ -27,6 +28,16 @@ pub(crate) fn tell_no_memory<E: Sink>(err: &mut E) -> Status
 {
     tell(err, &Message::NoMemory);
     Status::NoMemory
+}
+
+/// Tells why no command was read.
+pub(crate) fn tell_unread<E: Sink>(err: &mut E, why: Unread) -> Status
+    ensures { TellsUnread why result (E.written err.old) (E.written err.new) (E.faults err.old) (E.faults err.new) }
+{
+    match why {
+        Unread::NoCommand => tell_usage(err),
+        Unread::NoMemory => tell_no_memory(err),
+    }
 }
 
 /// Tells why a verb made nothing.

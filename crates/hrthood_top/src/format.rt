@@ -1,17 +1,13 @@
 ghost use Rattle.hood_io.specs.Causes.{HasCause};
 ghost use Rattle.hood_io.specs.Sinks.{Puts};
-ghost use Rattle.hrthood_top.specs.Ends.{EndsVerb, outside};
-ghost use Rattle.hrthood_top.specs.Formats.{formats, format_line, IsFormatted, RefusesFormat};
+ghost use Rattle.hrthood_top.specs.Formats.{format_line, IsFormatted, RefusesFormat};
 ghost use Rattle.hrthood_top.specs.Writing.{IsMade};
 
-use crate::fetch::{File, fetch_files};
 use crate::file_kind::FileKind;
-use crate::finish::{finish, tell_stop};
-use crate::halt::Halt;
 use crate::line::Line;
-use crate::status::Status;
 use crate::text_lines::put_fault;
-use hood_io::{Failed, Shelf, Sink};
+use bridge::Halt;
+use hood_io::{Failed, Sink};
 use ods_print::format as print_design;
 use ods_read::read_design;
 use seq_tree::{NoMemory, TextFault};
@@ -38,7 +34,7 @@ impl Line for FormatRefusal {
 }
 
 /// The text of a design, printed again.
-fn format_text(alloc: Global, design: &[u8]) -> Result<Vec<u8>, Halt<FormatRefusal>>
+pub(crate) fn format_text(alloc: Global, design: &[u8]) -> Result<Vec<u8>, Halt<FormatRefusal>>
     ensures { IsMade (λ v. v.items) (IsFormatted design.now) (RefusesFormat design.now) result }
 {
     let read = match read_design(alloc, design) {
@@ -49,27 +45,5 @@ fn format_text(alloc: Global, design: &[u8]) -> Result<Vec<u8>, Halt<FormatRefus
     match print_design(alloc, &read) {
         Ok(text) => Ok(text),
         Err(NoMemory) => Err(Halt::NoMemory),
-    }
-}
-
-/// Does the verb `format`, from its file to what is written.
-pub(crate) fn format<F: Shelf, O: Sink, E: Sink>(
-    alloc: Global,
-    design: &str,
-    shelf: &mut F,
-    out: &mut O,
-    err: &mut E,
-) -> Status
-    ensures { EndsVerb result (formats design.now)
-        (outside (F.told shelf.old) (F.faults shelf.old) (O.written out.old) (O.faults out.old) (E.written err.old) (E.faults err.old))
-        (outside (F.told shelf.new) (F.faults shelf.new) (O.written out.new) (O.faults out.new) (E.written err.new) (E.faults err.new)) }
-{
-    let files = [File {
-        kind: FileKind::Design,
-        name: design,
-    }];
-    match fetch_files(alloc, shelf, &files) {
-        Ok(texts) => finish(out, err, format_text(alloc, &texts.design)),
-        Err(stop) => tell_stop(err, stop),
     }
 }

@@ -2,32 +2,22 @@ ghost use Rattle.std.specs.Prelude.{IfOk};
 ghost use Rattle.hood_io.specs.Causes.{HasCause};
 ghost use Rattle.hood_io.specs.Sinks.{Puts};
 ghost use Rattle.bridge.specs.Delivers.{IsDelivered, IsTextFor};
-ghost use Rattle.hrthood_top.specs.Ends.{EndsVerb, outside};
-ghost use Rattle.hrthood_top.specs.Generates.{generates, generate_line, RefusesDesign};
+ghost use Rattle.hrthood_top.specs.Generates.{generate_line, RefusesDesign};
 ghost use Rattle.hrthood_top.specs.Writing.{IsMade};
 
-use crate::design_lines::{put_miss, put_rule};
-use crate::fetch::{File, fetch_files};
-use crate::file_kind::FileKind;
-use crate::finish::{finish, tell_stop};
-use crate::halt::Halt;
+use crate::design_lines::put_miss;
 use crate::line::Line;
-use crate::status::Status;
-use crate::text_lines::put_fault;
-use bridge::{Delivery, Refusal, deliver};
-use hood_io::{Failed, Shelf, Sink, put_all};
-use ods_rules::Broken;
+use bridge::{Delivery, Halt, Refusal, Untaken, deliver};
+use hood_io::{Failed, Sink, put_all};
 use rt_response::Miss;
-use seq_tree::{Name, TextFault};
+use seq_tree::Name;
 use std::alloc::Global;
 
 /// Why no Ada text is made of a design.
 #[derive(Drop, Debug)]
 pub enum GenerateRefusal {
-    /// The bytes are not the text of a design, for this reason and at this place.
-    Text(TextFault),
-    /// The design breaks this rule; never for want of memory.
-    Rule(Broken),
+    /// The bytes are not the text of a design, or the design breaks a rule.
+    Untaken(Untaken),
     /// A thread has a value over its limit, so that no bounds can be given.
     Miss {
         /// The thread.
@@ -47,8 +37,7 @@ impl Line for GenerateRefusal {
         ensures puts { Puts (E.written err.old) (E.written err.new) (generate_line self.now) result }
     {
         match self {
-            GenerateRefusal::Text(fault) => put_fault(err, FileKind::Design, *fault),
-            GenerateRefusal::Rule(broken) => put_rule(err, broken),
+            GenerateRefusal::Untaken(refusal) => refusal.put(err),
             GenerateRefusal::Miss { thread, miss } => put_miss(err, thread, miss),
             GenerateRefusal::Long => put_all(err, b"refused S3 text\n"),
         }
@@ -65,8 +54,12 @@ pub(crate) fn deliver_design(
 {
     match deliver(alloc, design) {
         Ok(delivery) => Ok(delivery),
-        Err(Refusal::Text(fault)) => Err(Halt::Refused(GenerateRefusal::Text(fault))),
-        Err(Refusal::Rule(broken)) => Err(Halt::Refused(GenerateRefusal::Rule(broken))),
+        Err(Refusal::Text(fault)) => Err(Halt::Refused(GenerateRefusal::Untaken(Untaken::Text(
+            fault,
+        )))),
+        Err(Refusal::Rule(broken)) => Err(Halt::Refused(GenerateRefusal::Untaken(Untaken::Rule(
+            broken,
+        )))),
         Err(Refusal::Miss { thread, miss }) => {
             Err(Halt::Refused(GenerateRefusal::Miss { thread, miss }))
         }
@@ -85,27 +78,5 @@ pub(crate) fn generate_text(alloc: Global, design: &[u8]) -> Result<Vec<u8>, Hal
             Ok(text)
         }
         Err(why) => Err(why),
-    }
-}
-
-/// Does the verb `generate`, from its file to what is written.
-pub(crate) fn generate<F: Shelf, O: Sink, E: Sink>(
-    alloc: Global,
-    design: &str,
-    shelf: &mut F,
-    out: &mut O,
-    err: &mut E,
-) -> Status
-    ensures { EndsVerb result (generates design.now)
-        (outside (F.told shelf.old) (F.faults shelf.old) (O.written out.old) (O.faults out.old) (E.written err.old) (E.faults err.old))
-        (outside (F.told shelf.new) (F.faults shelf.new) (O.written out.new) (O.faults out.new) (E.written err.new) (E.faults err.new)) }
-{
-    let files = [File {
-        kind: FileKind::Design,
-        name: design,
-    }];
-    match fetch_files(alloc, shelf, &files) {
-        Ok(texts) => finish(out, err, generate_text(alloc, &texts.design)),
-        Err(stop) => tell_stop(err, stop),
     }
 }

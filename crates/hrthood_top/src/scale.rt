@@ -4,37 +4,27 @@ ghost use Rattle.ods_rules.specs.Checks.{checked_design};
 ghost use Rattle.ods_tree.specs.Flattening.{flat};
 ghost use Rattle.analysis.specs.Sound.{IsSound};
 ghost use Rattle.scaling.specs.Margins.{Scales};
-ghost use Rattle.hrthood_top.specs.Ends.{EndsVerb, outside};
-ghost use Rattle.hrthood_top.specs.Scales.{IsScaled, RefusesScale, scale_line, scales};
+ghost use Rattle.hrthood_top.specs.Scales.{IsScaled, RefusesScale, scale_line};
 ghost use Rattle.hrthood_top.specs.Writing.{IsMade};
 
-use crate::check::CheckRefusal;
-use crate::design_lines::{put_miss, put_rule};
-use crate::fetch::{File, fetch_files};
-use crate::file_kind::FileKind;
-use crate::finish::{finish, tell_stop};
-use crate::halt::Halt;
+use crate::design_lines::put_miss;
 use crate::line::Line;
 use crate::margin::margin_lines;
-use crate::status::Status;
-use crate::take::take;
-use crate::text_lines::put_fault;
-use hood_io::{Failed, Shelf, Sink};
+use bridge::{Halt, Untaken, take};
+use hood_io::{Failed, Sink};
 use ods_flat::flatten;
-use ods_rules::{Broken, Checked};
+use ods_rules::Checked;
 use rt_order::order;
 use rt_response::Miss;
 use scaling::{Margin, ScaleFault, scale as scale_flat};
-use seq_tree::{Name, NoMemory, TextFault};
+use seq_tree::{Name, NoMemory};
 use std::alloc::Global;
 
 /// Why no margin of a design is told.
 #[derive(Drop, Debug)]
 pub enum ScaleRefusal {
-    /// The bytes are not the text of a design, for this reason and at this place.
-    Text(TextFault),
-    /// The design breaks this rule; never for want of memory.
-    Rule(Broken),
+    /// The bytes are not the text of a design, or the design breaks a rule.
+    Untaken(Untaken),
     /// A thread has a value over its limit where all `work` is at one per mille already.
     Miss {
         /// The thread.
@@ -52,8 +42,7 @@ impl Line for ScaleRefusal {
         ensures puts { Puts (E.written err.old) (E.written err.new) (scale_line self.now) result }
     {
         match self {
-            ScaleRefusal::Text(fault) => put_fault(err, FileKind::Design, *fault),
-            ScaleRefusal::Rule(broken) => put_rule(err, broken),
+            ScaleRefusal::Untaken(refusal) => refusal.put(err),
             ScaleRefusal::Miss { thread, miss } => put_miss(err, thread, miss),
         }
     }
@@ -71,17 +60,12 @@ fn margin_of(alloc: Global, checked: &Checked) -> Result<Margin, ScaleFault>
 
 /// What is told of the text of a design: its margin.
 #[tactic(auto, using(crate::proofs::ScaleLaws::scale_laws))]
-fn scale_text(alloc: Global, design: &[u8]) -> Result<Vec<u8>, Halt<ScaleRefusal>>
+pub(crate) fn scale_text(alloc: Global, design: &[u8]) -> Result<Vec<u8>, Halt<ScaleRefusal>>
     ensures { IsMade (λ v. v.items) (IsScaled design.now) (RefusesScale design.now) result }
 {
     let checked = match take(alloc, design) {
         Ok(checked) => checked,
-        Err(Halt::Refused(CheckRefusal::Text(fault))) => {
-            return Err(Halt::Refused(ScaleRefusal::Text(fault)));
-        }
-        Err(Halt::Refused(CheckRefusal::Rule(broken))) => {
-            return Err(Halt::Refused(ScaleRefusal::Rule(broken)));
-        }
+        Err(Halt::Refused(refusal)) => return Err(Halt::Refused(ScaleRefusal::Untaken(refusal))),
         Err(Halt::NoMemory) => return Err(Halt::NoMemory),
     };
     match margin_of(alloc, &checked) {
@@ -93,27 +77,5 @@ fn scale_text(alloc: Global, design: &[u8]) -> Result<Vec<u8>, Halt<ScaleRefusal
             Err(Halt::Refused(ScaleRefusal::Miss { thread, miss }))
         }
         Err(ScaleFault::NoMemory) => Err(Halt::NoMemory),
-    }
-}
-
-/// Does the verb `scale`, from its file to what is written.
-pub(crate) fn scale<F: Shelf, O: Sink, E: Sink>(
-    alloc: Global,
-    design: &str,
-    shelf: &mut F,
-    out: &mut O,
-    err: &mut E,
-) -> Status
-    ensures { EndsVerb result (scales design.now)
-        (outside (F.told shelf.old) (F.faults shelf.old) (O.written out.old) (O.faults out.old) (E.written err.old) (E.faults err.old))
-        (outside (F.told shelf.new) (F.faults shelf.new) (O.written out.new) (O.faults out.new) (E.written err.new) (E.faults err.new)) }
-{
-    let files = [File {
-        kind: FileKind::Design,
-        name: design,
-    }];
-    match fetch_files(alloc, shelf, &files) {
-        Ok(texts) => finish(out, err, scale_text(alloc, &texts.design)),
-        Err(stop) => tell_stop(err, stop),
     }
 }

@@ -6,24 +6,17 @@ ghost use Rattle.ods_tree.specs.Ticks.{first_priority};
 ghost use Rattle.ods_tree.specs.Trees.{flat_of};
 ghost use Rattle.analysis.specs.Sound.{IsSound};
 ghost use Rattle.ods_rules.specs.Checks.{checked_design};
-ghost use Rattle.hrthood_top.specs.Ends.{EndsVerb, outside};
-ghost use Rattle.hrthood_top.specs.Searches.{searches, search_line, name_at, report_by, IsOrdered, IsSearched, RefusesOrder, RefusesSearch};
+ghost use Rattle.hrthood_top.specs.Searches.{search_line, name_at, report_by, IsOrdered, IsSearched, RefusesOrder, RefusesSearch};
 ghost use Rattle.hrthood_top.specs.Writing.{IsMade};
 ghost use Rattle.priority_search.specs.Searches.{IsFound, IsNotFound};
 
-use crate::check::CheckRefusal;
-use crate::fetch::{File, fetch_files};
-use crate::file_kind::FileKind;
-use crate::finish::{finish, tell_stop};
-use crate::halt::Halt;
 use crate::line::{Line, put_named};
 use crate::report::report;
-use crate::status::Status;
-use crate::take::take;
 use crate::thread_names::{ThreadNames, names_at, put_names};
 use analysis::{Ranking, Table};
+use bridge::{Halt, Untaken, take};
 use design_bounds::{ceilings, named};
-use hood_io::{Failed, Shelf, Sink, put_all};
+use hood_io::{Failed, Sink, put_all};
 use ods_flat::{first_priority, flatten};
 use ods_rules::Checked;
 use ods_tree::Flat;
@@ -35,7 +28,7 @@ use std::alloc::Global;
 #[derive(Drop, Debug)]
 pub enum SearchRefusal {
     /// The bytes are not the text of a design, or the design breaks a rule.
-    Untaken(CheckRefusal),
+    Untaken(Untaken),
     /// This sporadic thread is requested by threads; it is the first in flattened order.
     Started(Name),
     /// No order passes: of these threads none can be last of them.
@@ -143,34 +136,12 @@ fn search_checked(alloc: Global, checked: &Checked) -> Result<Vec<u8>, Halt<Sear
 }
 
 /// What is told of the text of a design.
-fn search_text(alloc: Global, design: &[u8]) -> Result<Vec<u8>, Halt<SearchRefusal>>
+pub(crate) fn search_text(alloc: Global, design: &[u8]) -> Result<Vec<u8>, Halt<SearchRefusal>>
     ensures { IsMade (λ v. v.items) (IsSearched design.now) (RefusesSearch design.now) result }
 {
     match take(alloc, design) {
         Ok(checked) => search_checked(alloc, &checked),
         Err(Halt::Refused(refusal)) => Err(Halt::Refused(SearchRefusal::Untaken(refusal))),
         Err(Halt::NoMemory) => Err(Halt::NoMemory),
-    }
-}
-
-/// Does the verb `search`, from its file to what is written.
-pub(crate) fn search<F: Shelf, O: Sink, E: Sink>(
-    alloc: Global,
-    design: &str,
-    shelf: &mut F,
-    out: &mut O,
-    err: &mut E,
-) -> Status
-    ensures { EndsVerb result (searches design.now)
-        (outside (F.told shelf.old) (F.faults shelf.old) (O.written out.old) (O.faults out.old) (E.written err.old) (E.faults err.old))
-        (outside (F.told shelf.new) (F.faults shelf.new) (O.written out.new) (O.faults out.new) (E.written err.new) (E.faults err.new)) }
-{
-    let files = [File {
-        kind: FileKind::Design,
-        name: design,
-    }];
-    match fetch_files(alloc, shelf, &files) {
-        Ok(texts) => finish(out, err, search_text(alloc, &texts.design)),
-        Err(stop) => tell_stop(err, stop),
     }
 }

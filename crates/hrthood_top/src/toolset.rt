@@ -1,26 +1,55 @@
-ghost use Rattle.std.specs.Prelude.{◌≡◌, ◌↔◌, None, Some, map, string_bytes};
-ghost use Rattle.hrthood_words.specs.Words.{command_of};
-ghost use Rattle.hrthood_words.specs.Views.{HasFewThreads, command_tree};
+ghost use Rattle.std.specs.Prelude.{◌≡◌, IfOk, List, Option, Some, map, string_bytes, ℕ};
+ghost use Rattle.hrthood_words.specs.Words.{Command as Asked, command_of};
+ghost use Rattle.hrthood_words.specs.Views.{HasFewThreads, ReadsAs, command_tree};
 ghost use Rattle.hrthood_top.specs.Commands.{design_verb};
-ghost use Rattle.hrthood_top.specs.Ends.{Ends, EndsVerb, Completes, outside};
+ghost use Rattle.hrthood_top.specs.declared.file_kind.FileKind.TheVariants.{Design};
+ghost use Rattle.hrthood_top.specs.Ends.{Ends, EndsVerb, outside};
+ghost use Rattle.hrthood_top.specs.Files.{Texts};
+ghost use Rattle.hrthood_top.specs.Runs.{Runs};
 ghost use Rattle.hrthood_top.specs.Samples.{EndsSample};
+ghost use Rattle.hrthood_top.specs.Writing.{Streams};
 
 use crate::accepts::accepts;
-use crate::analyse::analyse;
-use crate::background_text::write_background;
-use crate::check::check;
-use crate::finish::{tell_no_memory, tell_usage};
-use crate::format::format;
-use crate::generate::generate;
+use crate::analyse::analyse_text;
+use crate::background_text::make_background;
+use crate::check::check_text;
+use crate::fetch::{File, fetch_files};
+use crate::file_kind::FileKind;
+use crate::finish::{finish, tell_stop, tell_unread};
+use crate::format::format_text;
+use crate::generate::generate_text;
 use crate::replay::replay;
 use crate::sample::write_sample;
-use crate::scale::scale;
-use crate::search::search;
+use crate::scale::scale_text;
+use crate::search::search_text;
 use crate::status::Status;
 use crate::verify::verify;
 use hood_io::{Shelf, Sink};
 use hrthood_words::{Command, DesignVerb, Unread, plain_command, read_words};
 use std::alloc::Global;
+
+/// Does what a verb does with the text of a design, which is all that it asks for.
+fn do_text<O: Sink, E: Sink>(
+    alloc: Global,
+    verb: DesignVerb,
+    design: &[u8],
+    out: &mut O,
+    err: &mut E,
+) -> Status
+    ensures { (name : List ℕ) (texts : Texts) → texts Design ≡ design.now → Streams (design_verb verb name) texts result
+        (O.written out.old) (O.written out.new) (O.faults out.old) (O.faults out.new)
+        (E.written err.old) (E.written err.new) (E.faults err.old) (E.faults err.new) }
+{
+    match verb {
+        DesignVerb::Check => finish(out, err, check_text(alloc, design)),
+        DesignVerb::Analyse => finish(out, err, analyse_text(alloc, design)),
+        DesignVerb::Format => finish(out, err, format_text(alloc, design)),
+        DesignVerb::Generate => finish(out, err, generate_text(alloc, design)),
+        DesignVerb::Search => finish(out, err, search_text(alloc, design)),
+        DesignVerb::Scale => finish(out, err, scale_text(alloc, design)),
+        DesignVerb::Background => finish(out, err, make_background(alloc, design)),
+    }
+}
 
 /// Does what a verb does that asks for a design alone, from the design to what is written.
 fn do_on_design<F: Shelf, O: Sink, E: Sink>(
@@ -35,14 +64,13 @@ fn do_on_design<F: Shelf, O: Sink, E: Sink>(
         (outside (F.told shelf.old) (F.faults shelf.old) (O.written out.old) (O.faults out.old) (E.written err.old) (E.faults err.old))
         (outside (F.told shelf.new) (F.faults shelf.new) (O.written out.new) (O.faults out.new) (E.written err.new) (E.faults err.new)) }
 {
-    match verb {
-        DesignVerb::Check => check(alloc, design, shelf, out, err),
-        DesignVerb::Analyse => analyse(alloc, design, shelf, out, err),
-        DesignVerb::Format => format(alloc, design, shelf, out, err),
-        DesignVerb::Generate => generate(alloc, design, shelf, out, err),
-        DesignVerb::Search => search(alloc, design, shelf, out, err),
-        DesignVerb::Scale => scale(alloc, design, shelf, out, err),
-        DesignVerb::Background => write_background(alloc, design, shelf, out, err),
+    let files = [File {
+        kind: FileKind::Design,
+        name: design,
+    }];
+    match fetch_files(alloc, shelf, &files) {
+        Ok(texts) => do_text(alloc, verb, &texts.design, out, err),
+        Err(stop) => tell_stop(err, stop),
     }
 }
 
@@ -73,50 +101,28 @@ fn do_command<F: Shelf, O: Sink, E: Sink>(
     }
 }
 
-/// Reads the words by the kit's parser, and does the command that they are.
-#[tactic(auto, using(crate::proofs::UnreadEnds::unread_ends))]
-fn run_command<F: Shelf, O: Sink, E: Sink>(
+/// Does the command that was read, or tells why none was.
+fn do_read<F: Shelf, O: Sink, E: Sink>(
     alloc: Global,
-    words: &[String],
+    read: Result<Command<'_>, Unread>,
     shelf: &mut F,
     out: &mut O,
     err: &mut E,
 ) -> Status
-    ensures ends { Ends result (command_of (map string_bytes words.now))
+    requires { IfOk read HasFewThreads }
+    ensures { (is : Option Asked) → ReadsAs read.entry is → Runs result is
         (outside (F.told shelf.old) (F.faults shelf.old) (O.written out.old) (O.faults out.old) (E.written err.old) (E.faults err.old))
         (outside (F.told shelf.new) (F.faults shelf.new) (O.written out.new) (O.faults out.new) (E.written err.new) (E.faults err.new)) }
-    ensures summed { EndsSample result (command_of (map string_bytes words.now)) (O.written out.old) (O.written out.new) }
 {
-    match read_words(alloc, words) {
+    match read {
         Ok(command) => do_command(alloc, command, shelf, out, err),
-        Err(Unread::NoCommand) => tell_usage(err),
-        Err(Unread::NoMemory) => tell_no_memory(err),
-    }
-}
-
-/// Reads the words without a parser, and does the command that they are.
-fn run_plain_command<F: Shelf, O: Sink, E: Sink>(
-    alloc: Global,
-    words: &[String],
-    shelf: &mut F,
-    out: &mut O,
-    err: &mut E,
-) -> Status
-    ensures ends { Ends result (command_of (map string_bytes words.now))
-        (outside (F.told shelf.old) (F.faults shelf.old) (O.written out.old) (O.faults out.old) (E.written err.old) (E.faults err.old))
-        (outside (F.told shelf.new) (F.faults shelf.new) (O.written out.new) (O.faults out.new) (E.written err.new) (E.faults err.new)) }
-    ensures summed { EndsSample result (command_of (map string_bytes words.now)) (O.written out.old) (O.written out.new) }
-{
-    match plain_command(words) {
-        Some(command) => do_command(alloc, command, shelf, out, err),
-        None => tell_usage(err),
+        Err(why) => tell_unread(err, why),
     }
 }
 
 /// All that the program does, for the words after its name: it fetches the files of the words in their order,
 /// and writes to `out` only when everything but the writing has succeeded. A replay writes while it runs, once the run
 /// can begin, and takes no memory from then on. `err` gets one line where the answer isn't `Done`.
-#[tactic(auto, using(crate::proofs::Completing::run_ends))]
 pub fn run<F: Shelf, O: Sink, E: Sink>(
     alloc: Global,
     words: &[String],
@@ -124,25 +130,16 @@ pub fn run<F: Shelf, O: Sink, E: Sink>(
     out: &mut O,
     err: &mut E,
 ) -> Status
-    // Usage exactly where the words are no command.
-    ensures usage { (result ≡ Status.Usage) ↔ (command_of (map string_bytes words.now) ≡ None) }
-    // Each status with its cause, with what was written and fetched, and with what stays as it was.
-    ensures ends { Ends result (command_of (map string_bytes words.now))
-        (outside (F.told shelf.old) (F.faults shelf.old) (O.written out.old) (O.faults out.old) (E.written err.old) (E.faults err.old))
-        (outside (F.told shelf.new) (F.faults shelf.new) (O.written out.new) (O.faults out.new) (E.written err.new) (E.faults err.new)) }
-    // A sample is never refused, and what is written of it is its summary, whatever the shelf.
-    ensures summed { EndsSample result (command_of (map string_bytes words.now)) (O.written out.old) (O.written out.new) }
-    // What can be done is done, unless memory is wanted or a fault came.
-    ensures completes { Completes result (command_of (map string_bytes words.now))
+    // Usage exactly where the words are no command; each status with its cause; a sample is summed up; what can be done is done.
+    ensures { Runs result (command_of (map string_bytes words.now))
         (outside (F.told shelf.old) (F.faults shelf.old) (O.written out.old) (O.faults out.old) (E.written err.old) (E.faults err.old))
         (outside (F.told shelf.new) (F.faults shelf.new) (O.written out.new) (O.faults out.new) (E.written err.new) (E.faults err.new)) }
 {
-    run_command(alloc, words, shelf, out, err)
+    do_read(alloc, read_words(alloc, words), shelf, out, err)
 }
 
-/// Does what `run` does, and has its clauses, but reads the words without the kit's parser and without memory. A program that calls it in
+/// Does what `run` does, and has its clause, but reads the words without the kit's parser and without memory. A program that calls it in
 /// the place of `run` is compiled in less time, which a first answer without proof is glad of.
-#[tactic(auto, using(crate::proofs::Completing::run_ends))]
 pub fn run_plain<F: Shelf, O: Sink, E: Sink>(
     alloc: Global,
     words: &[String],
@@ -150,14 +147,12 @@ pub fn run_plain<F: Shelf, O: Sink, E: Sink>(
     out: &mut O,
     err: &mut E,
 ) -> Status
-    ensures usage { (result ≡ Status.Usage) ↔ (command_of (map string_bytes words.now) ≡ None) }
-    ensures ends { Ends result (command_of (map string_bytes words.now))
-        (outside (F.told shelf.old) (F.faults shelf.old) (O.written out.old) (O.faults out.old) (E.written err.old) (E.faults err.old))
-        (outside (F.told shelf.new) (F.faults shelf.new) (O.written out.new) (O.faults out.new) (E.written err.new) (E.faults err.new)) }
-    ensures summed { EndsSample result (command_of (map string_bytes words.now)) (O.written out.old) (O.written out.new) }
-    ensures completes { Completes result (command_of (map string_bytes words.now))
+    ensures { Runs result (command_of (map string_bytes words.now))
         (outside (F.told shelf.old) (F.faults shelf.old) (O.written out.old) (O.faults out.old) (E.written err.old) (E.faults err.old))
         (outside (F.told shelf.new) (F.faults shelf.new) (O.written out.new) (O.faults out.new) (E.written err.new) (E.faults err.new)) }
 {
-    run_plain_command(alloc, words, shelf, out, err)
+    match plain_command(words) {
+        Some(command) => do_read(alloc, Ok(command), shelf, out, err),
+        None => do_read(alloc, Err(Unread::NoCommand), shelf, out, err),
+    }
 }

@@ -20,12 +20,12 @@ use Rattle.law_traces.specs.Verdicts as verdict
 use Rattle.design_accepts.specs.declared.unaccepted.Unaccepted.{Unaccepted}
 use Rattle.design_accepts.specs.declared.unaccepted.Unaccepted.TheVariants as why
 use Rattle.hrthood_top.specs.declared.accepts.AcceptsRefusal.TheVariants as refusal
-use Rattle.hrthood_top.specs.declared.check.CheckRefusal.{CheckRefusal}
+use Rattle.bridge.specs.declared.taking.Untaken.{Untaken}
 use Rattle.hrthood_top.specs.declared.file_kind.FileKind.TheVariants as kind
 use Rattle.hrthood_top.specs.Files.{Texts, limit_of, kind_text}
-use Rattle.hrthood_top.specs.Checks.{RefusesCheck, check_line}
+use Rattle.hrthood_top.specs.Checks.{check_line}
 use Rattle.hrthood_top.specs.Messages.{arrivals_line, too_long_line}
-use Rattle.hrthood_top.specs.Taking.{IsTakenAs}
+use Rattle.bridge.specs.Taking.{IsTakenAs, RefusesTaking}
 use Rattle.hrthood_top.specs.Acceptances.{CanAccept, IsJudgedSo, IsAcceptedSo, RefusesTrace, acceptances, trace_line, yes_line}
 use Rattle.verb_examples.proofs.EmptyExamples.{empty, no_design}
 
@@ -125,11 +125,11 @@ module _ (texts : Texts) where
       → (acceptances (codes "d") (codes "r") (codes "t")).Refuses texts (refusal.Arrivals f) → ⊥
   some_arrivals_text f never h = never h.0 h.1 h.2
 
-  unchecked : (c : CheckRefusal) → RefusesCheck (texts kind.Design) c
+  unchecked : (c : Untaken) → RefusesTaking (texts kind.Design) c
       → (acceptances (codes "d") (codes "r") (codes "t")).Refuses texts (refusal.Untaken c)
   unchecked c h = h
 
-  checked : (c : CheckRefusal) → (RefusesCheck (texts kind.Design) c → ⊥)
+  checked : (c : Untaken) → (RefusesTaking (texts kind.Design) c → ⊥)
       → (acceptances (codes "d") (codes "r") (codes "t")).Refuses texts (refusal.Untaken c) → ⊥
   checked c never h = never h
 
@@ -139,7 +139,7 @@ module _ (texts : Texts) where
   no_stop made stop h = h
 
 -- a design that is taken is no cause that concerns its trace
-not_untaken : (x : Design) (arrivals trace : List ℕ) (c : CheckRefusal) → RefusesTrace x arrivals trace (refusal.Untaken c) → ⊥
+not_untaken : (x : Design) (arrivals trace : List ℕ) (c : Untaken) → RefusesTrace x arrivals trace (refusal.Untaken c) → ⊥
 not_untaken x arrivals trace c h = h
 
 -- THE LINES
@@ -155,7 +155,7 @@ trace_lines : map trace_line (why.Times ∷ why.Cyclic (codes "p") ∷ why.Arriv
     ∷ codes "refused T2 d s\n" ∷ codes "refused T2 e q\n" ∷ []
 trace_lines = refl
 
-check_told : (c : CheckRefusal) → (acceptances (codes "d") (codes "r") (codes "t")).line (refusal.Untaken c) ≡ check_line c
+check_told : (c : Untaken) → (acceptances (codes "d") (codes "r") (codes "t")).line (refusal.Untaken c) ≡ check_line c
 check_told c = refl
 
 arrivals_told : (f : ArrivalFault) → (acceptances (codes "d") (codes "r") (codes "t")).line (refusal.Arrivals f) ≡ arrivals_line f

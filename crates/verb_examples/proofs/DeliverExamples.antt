@@ -22,7 +22,8 @@ use Rattle.design_bounds.specs.Analyses.{IsMissed}
 use Rattle.design_bounds.specs.Rows.{named_bounds, ceiling_rows}
 use Rattle.bridge.specs.declared.delivery.Delivery.{Delivery}
 use Rattle.bridge.specs.declared.delivery.Refusal.TheVariants as refusal
-use Rattle.bridge.specs.Delivers.{IsTextFor, BreaksRule, HasNoBounds, HasLongText, Delivers}
+use Rattle.bridge.specs.Delivers.{IsTextFor, HasNoBounds, HasLongText, Delivers}
+use Rattle.bridge.specs.Taking.{BreaksRule}
 
 -- THE TEXT
 module _ (bytes made : List ℕ) where

@@ -29,8 +29,9 @@ use Rattle.arrivals_tree.specs.Arrived.{Arrives, horizon_limit}
 use Rattle.arrivals_tree.specs.Arriving.{Arrivals}
 use Rattle.arrivals_tree.specs.ArrivalTexts.{arrival_tokens}
 use Rattle.hood_io.specs.Shelves.{Entry, Told}
-use Rattle.bridge.specs.Delivers.{BreaksRule, HasLongText, HasNoBounds, IsTextFor}
-use Rattle.hrthood_top.specs.declared.check.CheckRefusal.TheVariants as check
+use Rattle.bridge.specs.Delivers.{HasLongText, HasNoBounds, IsTextFor}
+use Rattle.bridge.specs.Taking.{BreaksRule}
+use Rattle.bridge.specs.declared.taking.Untaken.TheVariants as check
 use Rattle.hrthood_top.specs.declared.format.FormatRefusal.TheVariants as format
 use Rattle.hrthood_top.specs.declared.generate.GenerateRefusal.TheVariants as generate
 use Rattle.hrthood_top.specs.declared.verify.VerifyRefusal.TheVariants as verify
@@ -142,16 +143,16 @@ syntax = faulty-at [] [] 0 start (lit≤ tt) no_tokens nothing_read refl
 check_refuses : (checks (codes "d")).Refuses empty (check.Text (fault.Syntax start))
 check_refuses = syntax
 
-analyse_refuses : (analyses (codes "d")).Refuses empty (generate.Text (fault.Syntax start))
+analyse_refuses : (analyses (codes "d")).Refuses empty (generate.Untaken (check.Text (fault.Syntax start)))
 analyse_refuses = syntax
 
 format_refuses : (formats (codes "d")).Refuses empty (format.Text (fault.Syntax start))
 format_refuses = syntax
 
-generate_refuses : (generates (codes "d")).Refuses empty (generate.Text (fault.Syntax start))
+generate_refuses : (generates (codes "d")).Refuses empty (generate.Untaken (check.Text (fault.Syntax start)))
 generate_refuses = syntax
 
-verify_refuses : (verifies (codes "d") (codes "r")).Refuses empty (verify.Design (generate.Text (fault.Syntax start)))
+verify_refuses : (verifies (codes "d") (codes "r")).Refuses empty (verify.Design (generate.Untaken (check.Text (fault.Syntax start))))
 verify_refuses = syntax
 
 -- and not for a byte, nor for a rule, its bounds or its length

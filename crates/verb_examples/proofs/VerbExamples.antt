@@ -22,9 +22,10 @@ use Rattle.guarantee.specs.Programs.{text}
 use Rattle.trace_text.specs.declared.bound.NamedBound.{NamedBound}
 use Rattle.design_bounds.specs.Rows.{named_bounds, ceiling_rows}
 use Rattle.design_bounds.specs.declared.rows.CeilingRow.{CeilingRow}
-use Rattle.bridge.specs.Delivers.{IsTextFor, BreaksRule, HasNoBounds, HasLongText}
+use Rattle.bridge.specs.Delivers.{IsTextFor, HasNoBounds, HasLongText}
+use Rattle.bridge.specs.Taking.{BreaksRule}
 use Rattle.hrthood_top.specs.declared.file_kind.FileKind.TheVariants as kind
-use Rattle.hrthood_top.specs.declared.check.CheckRefusal.TheVariants as check
+use Rattle.bridge.specs.declared.taking.Untaken.TheVariants as check
 use Rattle.hrthood_top.specs.declared.format.FormatRefusal.TheVariants as format
 use Rattle.hrthood_top.specs.declared.generate.GenerateRefusal.TheVariants as generate
 use Rattle.hrthood_top.specs.Files.{File, Texts}
@@ -174,17 +175,17 @@ module _ (texts : Texts) where
   not_generated : (t : List ℕ) → ¬ IsTextFor (texts kind.Design) t → (generates (codes "d")).Makes texts t → ⊥
   not_generated t never h = never h
 
-  generate_text : (f : TextFault) → Faults (texts kind.Design) f → (generates (codes "d")).Refuses texts (generate.Text f)
+  generate_text : (f : TextFault) → Faults (texts kind.Design) f → (generates (codes "d")).Refuses texts (generate.Untaken (check.Text f))
   generate_text f h = h
 
-  no_generate_text : (f : TextFault) → ¬ Faults (texts kind.Design) f → (generates (codes "d")).Refuses texts (generate.Text f) → ⊥
+  no_generate_text : (f : TextFault) → ¬ Faults (texts kind.Design) f → (generates (codes "d")).Refuses texts (generate.Untaken (check.Text f)) → ⊥
   no_generate_text f never h = never h
 
   generate_rule : (x : Design) → Reads (texts kind.Design) x → IsFirstBroken x V17Tick
-      → (generates (codes "d")).Refuses texts (generate.Rule told.V17Tick)
+      → (generates (codes "d")).Refuses texts (generate.Untaken (check.Rule told.V17Tick))
   generate_rule x r b = record { design = x; reads = r; broken = b }
 
-  no_generate_rule : ¬ BreaksRule (texts kind.Design) (Some V17Tick) → (generates (codes "d")).Refuses texts (generate.Rule told.V17Tick) → ⊥
+  no_generate_rule : ¬ BreaksRule (texts kind.Design) (Some V17Tick) → (generates (codes "d")).Refuses texts (generate.Untaken (check.Rule told.V17Tick)) → ⊥
   no_generate_rule never h = never h
 
   generate_miss : (thread : Name) (m : rows.Miss) → HasNoBounds (texts kind.Design) thread m
@@ -201,10 +202,10 @@ module _ (texts : Texts) where
   no_generate_long : ¬ HasLongText (texts kind.Design) → (generates (codes "d")).Refuses texts generate.Long → ⊥
   no_generate_long never h = never h
 
-  generate_text_line : (f : TextFault) → (generates (codes "d")).line (generate.Text f) ≡ text_line kind.Design f
+  generate_text_line : (f : TextFault) → (generates (codes "d")).line (generate.Untaken (check.Text f)) ≡ text_line kind.Design f
   generate_text_line f = refl
 
-  generate_rule_line : (generates (codes "d")).line (generate.Rule told.V17Tick) ≡ rule_line told.V17Tick
+  generate_rule_line : (generates (codes "d")).line (generate.Untaken (check.Rule told.V17Tick)) ≡ rule_line told.V17Tick
   generate_rule_line = refl
 
   generate_miss_line : (thread : Name) (m : rows.Miss) → (generates (codes "d")).line (generate.Miss thread m) ≡ miss_line thread m

@@ -11,8 +11,12 @@ const KEPT: &str = "words: analyse d
 const REFUSED: &str = "words: analyse d
     status: refused";
 
-/// Bounds and ceilings of threads and protected objects.
-const BOUNDS: &[&str] = &[
+/// Designs that pass by the order of their deadlines: `search` writes of them what `analyse` does.
+pub fn by_deadline() -> &'static [&'static str] {
+    BY_DEADLINE
+}
+
+const BY_DEADLINE: &[&str] = &[
     "name: three cyclic threads
     children: OBJECT a IS CYCLIC ATTRIBUTES PERIOD = 7; DEADLINE = 7; THREAD_BUDGET = 1000; THREAD work (2); END THREAD; END a; \
         OBJECT b IS CYCLIC ATTRIBUTES PERIOD = 12; DEADLINE = 12; THREAD_BUDGET = 1000; THREAD work (2); END THREAD; END b; \
@@ -20,11 +24,6 @@ const BOUNDS: &[&str] = &[
     out: thread a priority 3 period 7 deadline 7 jitter 0 cost 3 blocking 0 response 3
     out: thread b priority 2 period 12 deadline 12 jitter 0 cost 3 blocking 0 response 6
     out: thread c priority 1 period 20 deadline 20 jitter 0 cost 5 blocking 0 response 20",
-    "name: a section at the end of an activation
-    children: @section at the end
-    out: thread h priority 2 period 10 deadline 9 jitter 0 cost 6 blocking 3 response 9
-    out: thread l priority 1 period 20 deadline 20 jitter 0 cost 6 blocking 0 response 18
-    out: ceiling q 2",
     "name: two protected objects
     children: @two objects
     out: thread x priority 3 period 40 deadline 20 jitter 0 cost 9 blocking 2 response 11
@@ -32,6 +31,15 @@ const BOUNDS: &[&str] = &[
     out: thread z priority 1 period 40 deadline 40 jitter 0 cost 5 blocking 0 response 19
     out: ceiling q1 3
     out: ceiling q2 3",
+];
+
+/// Bounds and ceilings of threads and protected objects.
+const BOUNDS: &[&str] = &[
+    "name: a section at the end of an activation
+    children: @section at the end
+    out: thread h priority 2 period 10 deadline 9 jitter 0 cost 6 blocking 3 response 9
+    out: thread l priority 1 period 20 deadline 20 jitter 0 cost 6 blocking 0 response 18
+    out: ceiling q 2",
     "name: a loop of no turn and an exit
     root: OBJECT a IS CYCLIC ATTRIBUTES PERIOD = 20; DEADLINE = 20; THREAD_BUDGET = 1000; THREAD for i in word range 1 .. 0 loop put (i); \
         end loop; for j in word range 1 .. 3 loop exit when j = 1; null; end loop; END THREAD; END a;
@@ -121,7 +129,11 @@ const MISSES: &[&str] = &[
     err: refused U2 a value 22 limit 20 round 1",
 ];
 
-/// Designs that are not taken, and one whose Ada text is too long.
+/// Designs that are not taken, for which no bounds are looked for.
+pub fn untaken() -> &'static [&'static str] {
+    UNTAKEN
+}
+
 const UNTAKEN: &[&str] = &[
     "name: the front of a design
     whole: DESIGN d
@@ -133,6 +145,10 @@ const UNTAKEN: &[&str] = &[
     root: @cyclic
     design_len: 1048577
     err: refused S3 design",
+];
+
+/// A design whose Ada text is too long.
+const LONG: &[&str] = &[
     "name: bounds of a design of 650,000 bytes whose text is over its limit
     linked: 130000
     err_room: 1000
@@ -142,9 +158,11 @@ const UNTAKEN: &[&str] = &[
 #[test]
 fn designs_are_analysed(rt: HostRuntime) -> Result<(), Fail> {
     let alloc = rt.alloc();
+    run_table(&rt, alloc, KEPT, by_deadline())?;
     run_table(&rt, alloc, KEPT, BOUNDS)?;
     run_table(&rt, alloc, KEPT, STARTS)?;
     run_table(&rt, alloc, KEPT, DESIGNS)?;
     run_table(&rt, alloc, REFUSED, MISSES)?;
-    run_table(&rt, alloc, REFUSED, UNTAKEN)
+    run_table(&rt, alloc, REFUSED, untaken())?;
+    run_table(&rt, alloc, REFUSED, LONG)
 }

@@ -8,18 +8,10 @@ use std::test::Fail;
 /// Requests from outside, and what they release.
 const REQUESTS: &[&str] = &[
     "name: a request that is late by its jitter
-    like: asked
+    like: late request
+    separation: 500
     jitter: 5
-    r: UNTIL 600;
-    r: AT 0 s 1;
-    r: AT 495 s 1;
-    out: 0 arrive s 1
-    out: 0 release s 1
-    out: 5 end s used 5
-    out: 495 arrive s 1
-    out: 495 release s 1
-    out: 500 end s used 5
-    out: 600 horizon",
+    block: work (4);",
     "name: a request before a task of lower priority
     like: requested
     arrivals: UNTIL 20; AT 1 s 7;

@@ -20,6 +20,23 @@ pub const LOGGED_ROOT: &str = "OBJECT r IS ACTIVE OBJECTS \
     OBJECT log IS ACTIVE PROVIDES note (v : in word) HSER; OPERATION note IS BEGIN work (1); END note; END log; \
     END r;";
 
+/// What both do, and so does a program with the same tasks.
+pub const LOGGED_TRACE: &str = "arrivals: UNTIL 16;
+    out: 0 release h
+    out: 0 release idle
+    out: 2 enter h q.set
+    out: 4 leave h q.set
+    out: 5 end h used 5
+    out: 7 enter idle q.set
+    out: 8 release h
+    out: 9 leave idle q.set
+    out: 11 enter h q.set
+    out: 13 leave h q.set
+    out: 14 end h used 5
+    out: 16 enter idle log.note 1
+    out: 16 release h
+    out: 16 horizon";
+
 /// Two clients of one server.
 pub const TURNS: &str = "OBJECT a IS ACTIVE REQUIRES srv.f; THREAD srv.f; END THREAD; END a; \
     OBJECT b IS ACTIVE REQUIRES srv.f; THREAD srv.f; END THREAD; END b; \
@@ -39,7 +56,8 @@ const OWN: &[&str] = &[
     "name: times with units and a range of priorities
     head: TICK = 500 us; PRIORITIES 31 .. 60;
     root: @milliseconds
-    told: milliseconds text",
+    priority: 31
+    told: ada",
 ];
 
 /// The heads of texts: bounds of the hard threads alone, in which the sections of clients count.
@@ -78,20 +96,7 @@ const TRACES: &[&str] = &[
     children: @logged
     why: idle is inside q at 8, where h waits for its end; it has called the server for one tick of two when h comes again at 8, and ends its \
         call at 16
-    out: 0 release h
-    out: 0 release idle
-    out: 2 enter h q.set
-    out: 4 leave h q.set
-    out: 5 end h used 5
-    out: 7 enter idle q.set
-    out: 8 release h
-    out: 9 leave idle q.set
-    out: 11 enter h q.set
-    out: 13 leave h q.set
-    out: 14 end h used 5
-    out: 16 enter idle log.note 1
-    out: 16 release h
-    out: 16 horizon",
+    like: logged trace",
     "name: two clients and a server that both call take turns
     children: @turns
     arrivals: UNTIL 12;

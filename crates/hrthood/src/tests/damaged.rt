@@ -2,7 +2,7 @@
 //! them tells the place behind all that stands before that token: of the end of the text, or of the byte.
 
 use super::rows::{check_replay, check_that, check_told, requested_text, row_text, run_file};
-use super::texts::{TRACE, ada_text, beside, named};
+use super::texts::{TRACE, beside, text_named};
 use std::alloc::Global;
 use std::process::Abort;
 use std::test::Fail;
@@ -15,8 +15,8 @@ const DESIGNS: &[(&str, usize)] = &[
     ("changed design", 300),
 ];
 
-/// Ada texts by their names, and how many tokens each has: with units of every kind, and with every statement.
-const TEXTS: &[(&str, usize)] = &[("every kind text", 571), ("changed ada", 331)];
+/// Ada texts by their names, and how many tokens each has: with units of every kind, with every statement, and of one cyclic task.
+const TEXTS: &[(&str, usize)] = &[("every kind text", 571), ("changed ada", 331), ("ada", 227)];
 
 /// What stands before an item of the arrivals files below is a whole file. What a replay tells under it: `a` takes one tick more than its work.
 const WHOLE: &[(&str, &str)] = &[
@@ -166,8 +166,10 @@ fn check_table(
     kind: &str,
     table: &[(&str, usize)],
 ) -> Result<(), Fail> {
+    let row = row_text(alloc, "", "")?;
     for (name, tokens) in table {
-        check_damaged(rt, alloc, kind, named(name).as_bytes(), *tokens)?;
+        let bytes = text_named(alloc, &row, name)?;
+        check_damaged(rt, alloc, kind, &bytes, *tokens)?;
     }
     Ok(())
 }
@@ -185,18 +187,10 @@ fn designs_damaged_at_each_token(rt: HostRuntime) -> Result<(), Fail> {
 
 /// For each token of each Ada text, of which all are found: with the text cut off before it, `replay` ends with the status of a refusal
 /// and nothing on standard output, and tells S1 behind the last byte that is left; with a byte of value 0 in its place it tells L1 at that
-/// byte. The last text is that of one cyclic task.
+/// byte.
 #[test]
 fn ada_texts_damaged_at_each_token(rt: HostRuntime) -> Result<(), Fail> {
-    let alloc = rt.alloc();
-    check_table(&rt, alloc, "ada", TEXTS)?;
-    check_damaged(
-        &rt,
-        alloc,
-        "ada",
-        &ada_text(alloc, &row_text(alloc, "", "")?)?,
-        227,
-    )
+    check_table(&rt, rt.alloc(), "ada", TEXTS)
 }
 
 /// For each token of each arrivals file, of which all are found: with the file cut off before it, `replay` ends with the status of a

@@ -3,6 +3,7 @@
 use super::rows::{
     arrivals_bytes, check_end, check_replay, check_that, lines, row_text, run_row, run_table,
 };
+use super::texts::{ASKED_BODY, ASKED_SPEC, HRT, MAIN};
 use super::verifies::traces;
 use std::alloc::Global;
 use std::process::Abort;
@@ -40,31 +41,13 @@ END d;
 
 /// The text of its program. The request takes 2 ticks of the structure of `s`, which `s` can meet: it responds within 10. In the 8 ticks of
 /// `c` come the 8 of one activation of `s`, and `s` inherits those 16.
-pub const EVERY_KIND_TEXT: &str = "-- design d
+pub const EVERY_KIND_TEXT: &[&str] = &[
+    "-- design d
 -- thread s priority 2 jitter 16 response 10 deadline 50
 -- thread c priority 1 jitter 0 response 16 deadline 100
-pragma task_dispatching_policy (fifo_within_priorities);
-pragma locking_policy (ceiling_locking);
-with ada.real_time;
-package hrt is
-   type word is mod 2 ** 32;
-   subtype moment is ada.real_time.time;
-   assign_cost : constant := 1;
-   test_cost : constant := 1;
-   turn_cost : constant := 1;
-   call_cost : constant := 2;
-   null_cost : constant := 1;
-   put_cost : constant := 1;
-   finish_cost : constant := 1;
-   function epoch return moment;
-   function after (start : moment; ticks : natural) return moment;
-   procedure work (ticks : positive);
-   procedure put (value : word);
-   procedure activation_end;
-end hrt;
-with hrt;
-use hrt;
-package d is
+",
+    HRT,
+    "package d is
    package p is
       procedure next (a : in word; r : out word);
    end p;
@@ -85,15 +68,9 @@ package d is
    package s is
       protected hrt_obcs is
          pragma priority (2);
-         procedure start (v : in word);
-         entry hrt_wait (hrt_request : out word);
-      private
-         hrt_value : word := 0;
-         hrt_open : boolean := false;
-      end hrt_obcs;
-      procedure start (v : in word) renames hrt_obcs.start;
-      task hrt_thread is
-         pragma priority (2);
+",
+    ASKED_SPEC,
+    "         pragma priority (2);
       end hrt_thread;
       hrt_separation : constant := 50;
       hrt_jitter : constant := 0;
@@ -130,89 +107,17 @@ package body d is
          end loop;
       end hrt_thread;
    end c;
-   package body s is
-      protected body hrt_obcs is
-         procedure start (v : in word) is
-         begin
-            hrt_value := v;
-            hrt_open := true;
-         end start;
-         entry hrt_wait (hrt_request : out word) when hrt_open is
-         begin
-            hrt_request := hrt_value;
-            hrt_open := false;
-         end hrt_wait;
-      end hrt_obcs;
-      task body hrt_thread is
-         v : word := 0;
-      begin
-         loop
-            hrt_obcs.hrt_wait (v);
-            q.set (v);
+",
+    ASKED_BODY,
+    "            q.set (v);
             work (4);
             activation_end;
          end loop;
       end hrt_thread;
    end s;
-end d;
-with d;
-procedure hrt_main is
-begin
-   null;
-end hrt_main;
-";
-
-/// A text of a design in which the least priority is written as 31, and a tick takes half a millisecond.
-pub const IN_MILLISECONDS_TEXT: &str = "-- design d
--- thread a priority 31 jitter 0 response 4 deadline 10
-pragma task_dispatching_policy (fifo_within_priorities);
-pragma locking_policy (ceiling_locking);
-with ada.real_time;
-package hrt is
-   type word is mod 2 ** 32;
-   subtype moment is ada.real_time.time;
-   assign_cost : constant := 1;
-   test_cost : constant := 1;
-   turn_cost : constant := 1;
-   call_cost : constant := 2;
-   null_cost : constant := 1;
-   put_cost : constant := 1;
-   finish_cost : constant := 1;
-   function epoch return moment;
-   function after (start : moment; ticks : natural) return moment;
-   procedure work (ticks : positive);
-   procedure put (value : word);
-   procedure activation_end;
-end hrt;
-with hrt;
-use hrt;
-package d is
-   package a is
-      task hrt_thread is
-         pragma priority (31);
-      end hrt_thread;
-   end a;
-end d;
-package body d is
-   package body a is
-      task body hrt_thread is
-         hrt_next : hrt.moment := hrt.after (hrt.epoch, 0);
-      begin
-         loop
-            delay until hrt_next;
-            hrt_next := hrt.after (hrt_next, 10);
-            work (3);
-            activation_end;
-         end loop;
-      end hrt_thread;
-   end a;
-end d;
-with d;
-procedure hrt_main is
-begin
-   null;
-end hrt_main;
-";
+",
+    MAIN,
+];
 
 /// What rows of designs of which a text is made have.
 const MADE: &str = "words: generate d
@@ -226,7 +131,8 @@ const GENERATED: &[&str] = &[
     "name: times with units and a range of priorities
     head: TICK = 500 us; PRIORITIES 31 .. 60;
     root: @milliseconds
-    told: milliseconds text",
+    priority: 31
+    told: ada",
     "name: the rounds of the last of three threads
     children: OBJECT a IS CYCLIC ATTRIBUTES PERIOD = 7; DEADLINE = 7; THREAD_BUDGET = 1000; THREAD work (2); END THREAD; END a; \
         OBJECT b IS CYCLIC ATTRIBUTES PERIOD = 12; DEADLINE = 12; THREAD_BUDGET = 1000; THREAD work (2); END THREAD; END b; \

@@ -27,7 +27,7 @@
 //! is run once more without room in standard error, which changes nothing else.
 
 use super::shapes::design_bytes;
-use super::texts::{USUAL, ada_bytes, ada_text, joined, named, padded};
+use super::texts::{USUAL, ada_bytes, ada_text, joined, named, padded, text_named};
 use hood_io::{MemShelf, MemSink};
 use hrthood_top::{Status, run};
 use std::alloc::Global;
@@ -259,8 +259,7 @@ pub fn word_of(status: Status) -> &'static str {
 fn wanted_out(alloc: Global, row: &str) -> Result<Vec<u8>, Fail> {
     let mut out = match value(row, "told") {
         None => lines(alloc, row, "out")?,
-        Some("ada") => ada_text(alloc, row)?,
-        Some(name) => named(name).as_bytes().to_vec(alloc)?,
+        Some(name) => text_named(alloc, row, name)?,
     };
     out.truncate(number(text(row, "room")));
     Ok(out)

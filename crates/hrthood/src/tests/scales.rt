@@ -1,5 +1,6 @@
 //! Designs whose margin is told: how far all their `work` may grow, and what fails at the next per mille.
 
+use super::analyses::untaken;
 use super::rows::run_table;
 use std::test::Fail;
 
@@ -62,16 +63,6 @@ const NOT_SCALED: &[&str] = &[
     root: OBJECT a IS CYCLIC ATTRIBUTES PERIOD = 5; DEADLINE = 5; THREAD_BUDGET = 1000; THREAD null; null; null; null; work (1); \
         END THREAD; END a;
     err: refused U1 a value 6 limit 5 round 0",
-    "name: the front of a design
-    whole: DESIGN d
-    err: refused S1 design line 1 column 9",
-    "name: a thread over its deadline that assigns what isn't there
-    root: OBJECT a IS CYCLIC ATTRIBUTES PERIOD = 10; DEADLINE = 10; THREAD_BUDGET = 1000; THREAD work (20); y := 1; END THREAD; END a;
-    err: refused V13 a thread B1",
-    "name: a design over its limit
-    root: @cyclic
-    design_len: 1048577
-    err: refused S3 design",
 ];
 
 #[test]
@@ -79,5 +70,6 @@ fn designs_are_scaled(rt: HostRuntime) -> Result<(), Fail> {
     let alloc = rt.alloc();
     run_table(&rt, alloc, SCALED, MISSED)?;
     run_table(&rt, alloc, SCALED, OTHERS)?;
-    run_table(&rt, alloc, REFUSED, NOT_SCALED)
+    run_table(&rt, alloc, REFUSED, NOT_SCALED)?;
+    run_table(&rt, alloc, REFUSED, untaken())
 }

@@ -1,5 +1,6 @@
 //! Designs for which a priority order is looked for.
 
+use super::analyses::{by_deadline, untaken};
 use super::rows::run_table;
 use std::test::Fail;
 
@@ -28,20 +29,6 @@ const ORDERED: &[&str] = &[
     out: thread a priority 32 period 20 deadline 20 jitter 12 cost 5 blocking 0 response 5
     out: thread b priority 31 period 15 deadline 15 jitter 0 cost 5 blocking 0 response 15
     out: ceiling a 32",
-    "name: three cyclic threads that pass by their deadlines
-    children: OBJECT a IS CYCLIC ATTRIBUTES PERIOD = 7; DEADLINE = 7; THREAD_BUDGET = 1000; THREAD work (2); END THREAD; END a; \
-        OBJECT b IS CYCLIC ATTRIBUTES PERIOD = 12; DEADLINE = 12; THREAD_BUDGET = 1000; THREAD work (2); END THREAD; END b; \
-        OBJECT c IS CYCLIC ATTRIBUTES PERIOD = 20; DEADLINE = 20; THREAD_BUDGET = 1000; THREAD work (4); END THREAD; END c;
-    out: thread a priority 3 period 7 deadline 7 jitter 0 cost 3 blocking 0 response 3
-    out: thread b priority 2 period 12 deadline 12 jitter 0 cost 3 blocking 0 response 6
-    out: thread c priority 1 period 20 deadline 20 jitter 0 cost 5 blocking 0 response 20",
-    "name: two protected objects
-    children: @two objects
-    out: thread x priority 3 period 40 deadline 20 jitter 0 cost 9 blocking 2 response 11
-    out: thread y priority 2 period 40 deadline 30 jitter 0 cost 5 blocking 2 response 16
-    out: thread z priority 1 period 40 deadline 40 jitter 0 cost 5 blocking 0 response 19
-    out: ceiling q1 3
-    out: ceiling q2 3",
 ];
 
 /// Designs that are refused.
@@ -64,21 +51,13 @@ const UNORDERED: &[&str] = &[
         work (49); END THREAD; END p; OBJECT s IS SPORADIC ATTRIBUTES SEPARATION = 50; DEADLINE = 20; THREAD_BUDGET = 1000; \
         PROVIDES start (v : in word) ASER; THREAD work (4); END THREAD; END s;
     err: refused P1 s",
-    "name: the front of a design
-    whole: DESIGN d
-    err: refused S1 design line 1 column 9",
-    "name: an assignment to what isn't there
-    root: OBJECT a IS CYCLIC ATTRIBUTES PERIOD = 10; DEADLINE = 10; THREAD_BUDGET = 1000; THREAD work (20); y := 1; END THREAD; END a;
-    err: refused V13 a thread B1",
-    "name: a design over its limit
-    root: @cyclic
-    design_len: 1048577
-    err: refused S3 design",
 ];
 
 #[test]
 fn orders_are_searched(rt: HostRuntime) -> Result<(), Fail> {
     let alloc = rt.alloc();
     run_table(&rt, alloc, FOUND, ORDERED)?;
-    run_table(&rt, alloc, REFUSED, UNORDERED)
+    run_table(&rt, alloc, FOUND, by_deadline())?;
+    run_table(&rt, alloc, REFUSED, UNORDERED)?;
+    run_table(&rt, alloc, REFUSED, untaken())
 }

@@ -83,13 +83,7 @@ const WORKED: &[&str] = &[
     children: @started
     cyclic: p 1 0 50 is begin s.start (7);
     started: s 2 2 50 0 start (v : in word) is begin work (4);
-    arrivals: UNTIL 12;
-    out: 0 release p
-    out: 4 request p s 7
-    out: 4 release s 7
-    out: 9 end s used 5
-    out: 10 end p used 5
-    out: 12 horizon",
+    like: started trace",
     "name: a protected operation that calls another, for which a task waits
     children: @inner calls
     protected: q 1 set is begin work (2); e.set; work (1);
@@ -203,21 +197,7 @@ const SECTIONS: &[&str] = &[
     protected: log 1 note (v : in word) is begin work (1);
     cyclic: h 2 0 8 is begin q.set;
     cyclic: idle 1 0 1 is begin q.set; log.note (1);
-    arrivals: UNTIL 16;
-    out: 0 release h
-    out: 0 release idle
-    out: 2 enter h q.set
-    out: 4 leave h q.set
-    out: 5 end h used 5
-    out: 7 enter idle q.set
-    out: 8 release h
-    out: 9 leave idle q.set
-    out: 11 enter h q.set
-    out: 13 leave h q.set
-    out: 14 end h used 5
-    out: 16 enter idle log.note 1
-    out: 16 release h
-    out: 16 horizon",
+    like: logged trace",
     "name: tasks of one priority that are released as soon as they end take turns
     protected: q 1 set is begin null;
     cyclic: a 1 0 1 is begin q.set;

@@ -12,15 +12,16 @@
 //! | `ada_cut` | so many bytes are missing at its end |
 //! | `ada_len` | with spaces behind it, up to so many bytes |
 
-use super::backgrounds::{LOGGED, LOGGED_ROOT, TURNS};
+use super::backgrounds::{LOGGED, LOGGED_ROOT, LOGGED_TRACE, TURNS};
 use super::changed_tokens::{ADA, ARRIVALS, DESIGN, UNITS};
 use super::checks::{WRONG, WRONG_WITHOUT_CLASHES};
 use super::formats::{COMMENTED, FORMATTED, TOO_GREAT};
-use super::generates::{EVERY_KIND, EVERY_KIND_TEXT, IN_MILLISECONDS_TEXT};
+use super::generates::{EVERY_KIND, EVERY_KIND_TEXT};
 use super::replays::NO_UNITS;
 use super::rows::{lengthened, number, text, value};
 use super::sections::{SECTION_AT_THE_END, TWO_OBJECTS};
 use super::units::{BODIES, SPECS, push_units};
+use super::verifies::{LATE_REQUEST, STARTED_TRACE};
 use std::alloc::Global;
 use std::test::Fail;
 
@@ -89,11 +90,11 @@ pub fn filled(alloc: Global, templates: &[&str], row: &str) -> Result<Vec<u8>, F
 
 /// The comments before the text of the cyclic task.
 const COMMENTS: &str = "-- design d
--- thread {unit} priority 1 jitter 0 response {response} deadline {deadline}
+-- thread {unit} priority {priority} jitter 0 response {response} deadline {deadline}
 ";
 
 /// The clauses on the processor and the unit `hrt`.
-const HRT: &str = "pragma task_dispatching_policy (fifo_within_priorities);
+pub const HRT: &str = "pragma task_dispatching_policy (fifo_within_priorities);
 pragma locking_policy (ceiling_locking);
 with ada.real_time;
 package hrt is
@@ -116,8 +117,52 @@ with hrt;
 use hrt;
 ";
 
-/// The specification and the body of the program `d` with the cyclic task.
-const TASK: &str = "package d is{ heads}
+/// The specification of the sporadic unit `s` between its ceiling and its priority.
+pub const ASKED_SPEC: &str = "         procedure start (v : in word);
+         entry hrt_wait (hrt_request : out word);
+      private
+         hrt_value : word := 0;
+         hrt_open : boolean := false;
+      end hrt_obcs;
+      procedure start (v : in word) renames hrt_obcs.start;
+      task hrt_thread is
+";
+
+/// The body of the sporadic unit `s` up to what its task does.
+pub const ASKED_BODY: &str = "   package body s is
+      protected body hrt_obcs is
+         procedure start (v : in word) is
+         begin
+            hrt_value := v;
+            hrt_open := true;
+         end start;
+         entry hrt_wait (hrt_request : out word) when hrt_open is
+         begin
+            hrt_request := hrt_value;
+            hrt_open := false;
+         end hrt_wait;
+      end hrt_obcs;
+      task body hrt_thread is
+         v : word := 0;
+      begin
+         loop
+            hrt_obcs.hrt_wait (v);
+";
+
+/// What stands behind the units of the program `d`.
+pub const MAIN: &str = "end d;
+with d;
+procedure hrt_main is
+begin
+   null;
+end hrt_main;
+";
+
+/// The text of the program `d` with the cyclic task.
+const TASK: &[&str] = &[
+    COMMENTS,
+    HRT,
+    "package d is{ heads}
    package {unit} is
       task hrt_thread is
          pragma priority ({priority});
@@ -137,28 +182,20 @@ package body d is{ bodies}
          end loop;
       end hrt_thread;
    end {unit};
-end d;
-with d;
-procedure hrt_main is
-begin
-   null;
-end hrt_main;
-";
+",
+    MAIN,
+];
 
-/// The specification and the body of the program `d` with the sporadic task.
-const ASKED_TASK: &str = "package d is
+/// The text of the program `d` with the sporadic task.
+const ASKED_TASK: &[&str] = &[
+    HRT,
+    "package d is
    package s is
       protected hrt_obcs is
          pragma priority (1);
-         procedure start (v : in word);
-         entry hrt_wait (hrt_request : out word);
-      private
-         hrt_value : word := 0;
-         hrt_open : boolean := false;
-      end hrt_obcs;
-      procedure start (v : in word) renames hrt_obcs.start;
-      task hrt_thread is
-         pragma priority (1);
+",
+    ASKED_SPEC,
+    "         pragma priority (1);
       end hrt_thread;
       hrt_separation : constant := {separation};
       hrt_jitter : constant := {jitter};
@@ -166,57 +203,41 @@ const ASKED_TASK: &str = "package d is
    end s;
 end d;
 package body d is
-   package body s is
-      protected body hrt_obcs is
-         procedure start (v : in word) is
-         begin
-            hrt_value := v;
-            hrt_open := true;
-         end start;
-         entry hrt_wait (hrt_request : out word) when hrt_open is
-         begin
-            hrt_request := hrt_value;
-            hrt_open := false;
-         end hrt_wait;
-      end hrt_obcs;
-      task body hrt_thread is
-         v : word := 0;
-      begin
-         loop
-            hrt_obcs.hrt_wait (v);
-            {block}
+",
+    ASKED_BODY,
+    "            {block}
             activation_end;
          end loop;
       end hrt_thread;
    end s;
-end d;
-with d;
-procedure hrt_main is
-begin
-   null;
-end hrt_main;
-";
-
-/// The text of the unit `hrt` with these templates before it and behind it.
-fn with_hrt(alloc: Global, row: &str, before: &str, behind: &str) -> Result<Vec<u8>, Fail> {
-    filled(alloc, &[before, HRT, behind], row)
-}
+",
+    MAIN,
+];
 
 /// The Ada text of the program `d` with a row's task: of the sporadic one where the row has a separation, and else of the cyclic one.
 pub fn ada_text(alloc: Global, row: &str) -> Result<Vec<u8>, Fail> {
     match value(row, "separation") {
-        Some(_) => with_hrt(alloc, row, "", ASKED_TASK),
-        None => with_hrt(alloc, row, COMMENTS, TASK),
+        Some(_) => filled(alloc, ASKED_TASK, row),
+        None => filled(alloc, TASK, row),
+    }
+}
+
+/// The text that a row means by a name: the Ada text of its task, that of the design of every kind of object, or one that is known by it.
+pub fn text_named(alloc: Global, row: &str, name: &str) -> Result<Vec<u8>, Fail> {
+    match name {
+        "ada" => ada_text(alloc, row),
+        "every kind text" => filled(alloc, EVERY_KIND_TEXT, row),
+        other => Ok(named(other).as_bytes().to_vec(alloc)?),
     }
 }
 
 /// The Ada text of the program `d` with these specifications of units, and their bodies.
 fn units_text(alloc: Global, row: &str, specs: &[u8]) -> Result<Vec<u8>, Fail> {
-    let mut all = with_hrt(alloc, row, "", "package d is\n")?;
+    let mut all = filled(alloc, &[HRT, "package d is\n"], row)?;
     all.extend_from_slice(specs)?;
     all.extend_from_slice(b"end d;\npackage body d is\n")?;
     push_units(alloc, &mut all, row, BODIES)?;
-    all.extend_from_slice(b"end d;\nwith d;\nprocedure hrt_main is begin null; end hrt_main;\n")?;
+    all.extend_from_slice(MAIN.as_bytes())?;
     Ok(all)
 }
 
@@ -266,10 +287,6 @@ pub fn named(name: &str) -> &'static str {
     if !found.is_empty() {
         return found;
     }
-    let found = large_text(name);
-    if !found.is_empty() {
-        return found;
-    }
     let found = tokens(name);
     if !found.is_empty() {
         return found;
@@ -305,10 +322,13 @@ const PARTS: &[(&str, &str)] = &[
     ("asked", ASKED),
     ("asked without a value", ASKED_BARE),
     ("gives nothing", GIVES_NOTHING),
+    ("late request", LATE_REQUEST),
+    ("logged trace", LOGGED_TRACE),
     ("no command", NO_COMMAND),
     ("no units", NO_UNITS),
     ("protected", PROTECTED),
     ("requested", REQUESTED),
+    ("started trace", STARTED_TRACE),
     ("starting", STARTING),
     ("three tasks", THREE_TASKS),
     ("trace", TRACE),
@@ -318,22 +338,11 @@ fn part_of_rows(name: &str) -> &'static str {
     beside(PARTS, name)
 }
 
-/// Large designs, and a text of one.
-const LARGE_DESIGNS: &[(&str, &str)] = &[
-    ("every kind", EVERY_KIND),
-    ("milliseconds text", IN_MILLISECONDS_TEXT),
-    ("mine", MINE),
-];
+/// Large designs.
+const LARGE_DESIGNS: &[(&str, &str)] = &[("every kind", EVERY_KIND), ("mine", MINE)];
 
 fn large_design(name: &str) -> &'static str {
     beside(LARGE_DESIGNS, name)
-}
-
-/// A large text of a design.
-const LARGE_TEXTS: &[(&str, &str)] = &[("every kind text", EVERY_KIND_TEXT)];
-
-fn large_text(name: &str) -> &'static str {
-    beside(LARGE_TEXTS, name)
 }
 
 /// Tokens of texts.

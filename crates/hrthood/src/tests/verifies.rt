@@ -14,6 +14,27 @@ pub const VERIFIED: &str = "words: verify d r
 /// The line between the text and the trace.
 const MARK: &[u8] = b"-- trace\n";
 
+/// What a thread does that another starts.
+pub const STARTED_TRACE: &str = "arrivals: UNTIL 12;
+    out: 0 release p
+    out: 4 request p s 7
+    out: 4 release s 7
+    out: 9 end s used 5
+    out: 10 end p used 5
+    out: 12 horizon";
+
+/// Two requests from outside, of which the second comes as soon as it may behind one that is late by its jitter.
+pub const LATE_REQUEST: &str = "r: UNTIL 600;
+    r: AT 0 s 1;
+    r: AT 495 s 1;
+    out: 0 arrive s 1
+    out: 0 release s 1
+    out: 5 end s used 5
+    out: 495 arrive s 1
+    out: 495 release s 1
+    out: 500 end s used 5
+    out: 600 horizon";
+
 /// Designs with their traces.
 const TRACES: &[&str] = &[
     "name: one cyclic task
@@ -25,13 +46,7 @@ const TRACES: &[&str] = &[
     out: 20 horizon",
     "name: a thread that starts another
     children: @started
-    arrivals: UNTIL 12;
-    out: 0 release p
-    out: 4 request p s 7
-    out: 4 release s 7
-    out: 9 end s used 5
-    out: 10 end p used 5
-    out: 12 horizon",
+    like: started trace",
     "name: two threads that share an object
     children: @section at the end
     arrivals: UNTIL 13;
@@ -48,16 +63,7 @@ const TRACES: &[&str] = &[
     "name: requests from outside, one of them late by its jitter
     root: OBJECT s IS SPORADIC ATTRIBUTES SEPARATION = 500; DEADLINE = 20; THREAD_BUDGET = 1000; ARRIVAL_JITTER = 5; \
         PROVIDES start (v : in word) ASER; THREAD work (4); END THREAD; END s;
-    r: UNTIL 600;
-    r: AT 0 s 1;
-    r: AT 495 s 1;
-    out: 0 arrive s 1
-    out: 0 release s 1
-    out: 5 end s used 5
-    out: 495 arrive s 1
-    out: 495 release s 1
-    out: 500 end s used 5
-    out: 600 horizon",
+    like: late request",
     "name: the mine pump
     whole: @mine
     r: UNTIL 100;

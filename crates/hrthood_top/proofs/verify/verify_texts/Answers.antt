@@ -3,15 +3,15 @@ use Rattle.ada_tree.specs.Trees.{program_of}
 use Rattle.arrivals_read.specs.Answers.{Says}
 use Rattle.bridge.specs.Delivers.{IsTextFor}
 use Rattle.ceil_runtime.specs.Shown.{running_of}
-use Rattle.hrthood_top.specs.declared.halt.Halt.TheVariants.{NoMemory}
+use Rattle.bridge.specs.declared.halt.Halt.TheVariants.{NoMemory}
 use Rattle.hrthood_top.specs.Fetches.{texts_of}
 use Rattle.hrthood_top.specs.Generates.{RefusesDesign}
 use Rattle.hrthood_top.specs.Verifies.{verifies}
 use Rattle.hrthood_top.specs.Writing.{IsMade}
 use Rattle.hrthood_top.proofs.Replayed.{texts-replayable}
 use Rattle.hrthood_top.proofs.ReplayLaws.{few-units}
-use Rattle.hrthood_top.proofs.Streamed.{streams-halted}
-use Rattle.hrthood_top.proofs.Verified.{arrivals-unsaid, design-halted, made-halted, said-arrivals, streams-verified}
+use Rattle.hrthood_top.proofs.Streamed.{made-halted, streams-halted}
+use Rattle.hrthood_top.proofs.Verified.{arrivals-unsaid, design-halted, said-arrivals, streams-verified}
 use Rattle.hrthood_top.proofs.verify.verify_texts.Goals as goal
 
 pub returns-in-Err : goal.returns-in-Err

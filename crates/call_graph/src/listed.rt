@@ -23,11 +23,7 @@ fn add_call<'a>(twice: bool, call: Call<'a>, found: &mut Vec<Call<'a>>) -> Resul
 /// Adds the calls of a statement.
 #[cycle(gathering)]
 #[tactic(auto, using(crate::proofs::ListedSteps::listed_steps))]
-fn add_statement<'a>(
-    twice: bool,
-    stmt: &'a Stmt,
-    found: &mut Vec<Call<'a>>,
-) -> Result<(), NoMemory>
+fn add_statement<'a>(twice: bool, stmt: &'a Stmt, found: &mut Vec<Call<'a>>) -> Result<(), NoMemory>
     ensures { IfOk result (λ _. map call_of found.new.items ≡ map call_of found.old.items
         ++ statement_listed twice (statement_of stmt.entry.now)) }
 {

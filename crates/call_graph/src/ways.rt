@@ -50,8 +50,7 @@ impl<'a> Ways<'a> {
         match self.froms.get(op.object, op.op) {
             None => false,
             Some(from) => {
-                from.object.bytes() == caller.object.bytes()
-                    && from.op.bytes() == caller.op.bytes()
+                from.object.bytes() == caller.object.bytes() && from.op.bytes() == caller.op.bytes()
             }
         }
     }
@@ -143,10 +142,7 @@ impl<'a> Ways<'a> {
 }
 
 /// How often operations are called.
-fn counts_of<'a>(
-    alloc: Global,
-    callers: &[Caller<'a>],
-) -> Result<OpTable<'a, u32>, NoMemory> {
+fn counts_of<'a>(alloc: Global, callers: &[Caller<'a>]) -> Result<OpTable<'a, u32>, NoMemory> {
     let mut counts = OpTable::new(alloc);
     'callers: for caller in callers {
         'calls: for op in &caller.calls {
@@ -269,10 +265,7 @@ fn found_ways<'a>(alloc: Global, callers: &[Caller<'a>]) -> Result<Ways<'a>, NoM
 }
 
 /// The ways from threads to what is called once, which fit all these callers; none where they don't. The time grows as the calls do.
-pub fn ways_of<'a>(
-    alloc: Global,
-    callers: &[Caller<'a>],
-) -> Result<Option<Ways<'a>>, NoMemory>
+pub fn ways_of<'a>(alloc: Global, callers: &[Caller<'a>]) -> Result<Option<Ways<'a>>, NoMemory>
     ensures { IfOk result (λ o. IfSome o (λ w. list_any (misfits w) (map caller_of callers.entry.now) ≡ false)) }
 {
     let ways = found_ways(alloc, callers)?;

@@ -78,9 +78,12 @@ pub handing_on : (scope : Variables) (first : ℕ) (whole rest : List Expression
 handing_on scope first whole rest In e c d f h a v = record {
   added = added_twice c d f h.added a;
   long = omega (arith, one_longer d.actuals f.actuals v.0 v.1, h.long);
-  stands = λ later g l s. h.stands later (grows_twice d.nodes f.nodes later.nodes a.nodes g) (longer_twice d.actuals f.actuals later.actuals a.actuals l)
-      (v.0, placed d.actuals f.actuals later.actuals v.0 v.1 l, reads_grown f later scope v.0 e g v.2,
-      subst (λ z. ValuesStand later scope z rest) (sym (one_longer d.actuals f.actuals v.0 v.1)) s);
+  stands = λ later g l s. h.stands later (grows_twice d.nodes f.nodes later.nodes a.nodes g) (longer_twice d.actuals f.actuals later.actuals a.actuals l) (
+    v.0,
+    placed d.actuals f.actuals later.actuals v.0 v.1 l,
+    reads_grown f later scope v.0 e g v.2,
+    subst (λ z. ValuesStand later scope z rest) (sym (one_longer d.actuals f.actuals v.0 v.1)) s,
+  );
 }
 handing_on scope first whole rest Out e c d f h a v = record {
   added = added_twice c d f h.added a;
@@ -125,9 +128,10 @@ targeting_one scope first whole rest n c d f h a v =
     let o = operand.Slot (target_slot n scope) in record {
       added = added_twice c d f h.added a;
       long = omega (arith, one_longer d.actuals f.actuals o v, h.long);
-      stands = λ later l s. h.stands later (longer_twice d.actuals f.actuals later.actuals a.actuals l)
-          (placed d.actuals f.actuals later.actuals o v l,
-          subst (λ z. TargetsStand later scope z rest) (sym (one_longer d.actuals f.actuals o v)) s);
+      stands = λ later l s. h.stands later (longer_twice d.actuals f.actuals later.actuals a.actuals l) (
+        placed d.actuals f.actuals later.actuals o v l,
+        subst (λ z. TargetsStand later scope z rest) (sym (one_longer d.actuals f.actuals o v)) s,
+      );
     }
 
 pub targeting_on : (scope : Variables) (first : ℕ) (whole rest : List Name) (mode : Mode) (e : Expression) (c d f : Lists)

@@ -42,11 +42,12 @@ module _ (leads : Name → Name → Leads) (scope : Variables) (out : ℕ) where
         long = omega (arith, first.long, later'.long);
         filled = filled_then m end start m start end c d e later'.filled first.filled (omega (arith, there)) (omega arith) (omega arith)
             (omega (arith, later'.long));
-        stands = λ later k.
-            (first.stands later (keeps_narrow start m start end e later (omega arith) (omega (arith, later'.long)) k),
-            subst (λ z. BlockStands (Has leads later) scope out z rest) there
-            (later'.stands later (keeps_filled start m m end d e later first.filled (inr (omega arith))
-            (keeps_narrow m end start end e later (omega (arith, there)) (omega arith) k))));
+        stands = λ later k. (
+          first.stands later (keeps_narrow start m start end e later (omega arith) (omega (arith, later'.long)) k),
+          subst (λ z. BlockStands (Has leads later) scope out z rest) there
+              (later'.stands later (keeps_filled start m m end d e later first.filled (inr (omega arith))
+              (keeps_narrow m end start end e later (omega (arith, there)) (omega arith) k))),
+        );
       }
 
   -- an `if` without an `else`
@@ -79,20 +80,24 @@ module _ (leads : Name → Name → Leads) (scope : Variables) (out : ℕ) where
         long = long;
         filled = filled_then others end at others at end z c g rest.filled f234 (omega (arith, there)) (omega arith) (omega arith)
             (omega (arith, rest.long));
-        stands = λ later keep.
-            ((o, kept_there at at end (ins.Test o others) f g later tests (omega arith) (omega (arith, long)) keep
-            ∙ ap (λ n. Some (ins.Test o n)) there,
-            reads_grown f later scope o cond' (grows_twice f.nodes g.nodes later.nodes tests.filled.nodes keep.nodes) reads),
-            subst (λ n. BlockStands (Has leads later) scope out n b) (sym t)
-            (body.stands later (keeps_filled at block block jump e g later f4 (inr (omega arith))
-            (keeps_narrow block jump at end g later (omega (arith, t)) (omega (arith, here, long)) keep))),
-            subst (λ n. slice_get later.ins n ≡ Some (ins.Jump end)) here
-            (kept_there jump jump others (ins.Jump end) c d later jumps (omega arith) (omega (arith, j))
-            (keeps_filled at jump jump others d g later f34 (inr (omega arith))
-            (keeps_narrow jump others at end g later (omega (arith, here)) (omega (arith, there, long)) keep))),
-            subst (λ n. BranchesStand (Has leads later) scope out end n bs) there
-            (rest.stands later (keeps_filled at others others end c g later f234 (inr (omega arith))
-            (keeps_narrow others end at end g later (omega (arith, there)) (omega arith) keep))));
+        stands = λ later keep. (
+          (
+            o,
+            kept_there at at end (ins.Test o others) f g later tests (omega arith) (omega (arith, long)) keep
+                ∙ ap (λ n. Some (ins.Test o n)) there,
+            reads_grown f later scope o cond' (grows_twice f.nodes g.nodes later.nodes tests.filled.nodes keep.nodes) reads,
+          ),
+          subst (λ n. BlockStands (Has leads later) scope out n b) (sym t)
+              (body.stands later (keeps_filled at block block jump e g later f4 (inr (omega arith))
+              (keeps_narrow block jump at end g later (omega (arith, t)) (omega (arith, here, long)) keep))),
+          subst (λ n. slice_get later.ins n ≡ Some (ins.Jump end)) here
+              (kept_there jump jump others (ins.Jump end) c d later jumps (omega arith) (omega (arith, j))
+              (keeps_filled at jump jump others d g later f34 (inr (omega arith))
+              (keeps_narrow jump others at end g later (omega (arith, here)) (omega (arith, there, long)) keep))),
+          subst (λ n. BranchesStand (Has leads later) scope out end n bs) there
+              (rest.stands later (keeps_filled at others others end c g later f234 (inr (omega arith))
+              (keeps_narrow others end at end g later (omega (arith, there)) (omega arith) keep))),
+        );
       }
 
   -- an `if`, by its branches
@@ -120,18 +125,19 @@ module _ (leads : Name → Name → Leads) (scope : Variables) (out : ℕ) where
       record {
         long = omega (arith, behind);
         filled = filled_then start next at end at end c d f h.filled f23 (omega (arith, t)) (omega (arith, n)) (omega arith) (omega arith);
-        stands = λ later keep.
-            (kept_there at at end (cond (nat_le low high) (ins.Begin (next_slot scope) low) (ins.Jump end)) e f later begins (omega arith)
-            (omega (arith, behind)) keep
-            ∙ ap (λ z. Some (cond (nat_le low high) (ins.Begin (next_slot scope) low) (ins.Jump z))) behind,
-            subst (λ z. BlockStands (Has leads later) (in_turn name scope) z (suc at) body) behind
-            (subst (λ z. BlockStands (Has leads later) (in_turn name scope) end z body) (sym t)
-            (h.stands later (keeps_filled next end start next d e later f2 (inl (omega arith))
-            (keeps_filled at start start next e f later f3 (inr (omega arith))
-            (keeps_narrow start next at end f later (omega (arith, t)) (omega (arith, n)) keep))))),
-            subst (λ z. slice_get later.ins (suc at + k) ≡ Some (ins.Next (next_slot scope) high z)) (sym t)
-            (subst (λ z. slice_get later.ins z ≡ Some (ins.Next (next_slot scope) high start)) here
-            (kept_there next next end (ins.Next (next_slot scope) high start) d e later ends (omega arith) (omega (arith, n))
-            (keeps_filled at start next end e f later f3 (inr (omega (arith, h.long)))
-            (keeps_narrow next end at end f later (omega (arith, here)) (omega arith) keep)))));
+        stands = λ later keep. (
+          kept_there at at end (cond (nat_le low high) (ins.Begin (next_slot scope) low) (ins.Jump end)) e f later begins (omega arith)
+              (omega (arith, behind)) keep
+              ∙ ap (λ z. Some (cond (nat_le low high) (ins.Begin (next_slot scope) low) (ins.Jump z))) behind,
+          subst (λ z. BlockStands (Has leads later) (in_turn name scope) z (suc at) body) behind
+              (subst (λ z. BlockStands (Has leads later) (in_turn name scope) end z body) (sym t)
+              (h.stands later (keeps_filled next end start next d e later f2 (inl (omega arith))
+              (keeps_filled at start start next e f later f3 (inr (omega arith))
+              (keeps_narrow start next at end f later (omega (arith, t)) (omega (arith, n)) keep))))),
+          subst (λ z. slice_get later.ins (suc at + k) ≡ Some (ins.Next (next_slot scope) high z)) (sym t)
+              (subst (λ z. slice_get later.ins z ≡ Some (ins.Next (next_slot scope) high start)) here
+              (kept_there next next end (ins.Next (next_slot scope) high start) d e later ends (omega arith) (omega (arith, n))
+              (keeps_filled at start next end e f later f3 (inr (omega (arith, h.long)))
+              (keeps_narrow next end at end f later (omega (arith, here)) (omega arith) keep)))),
+        );
       }

@@ -13,12 +13,7 @@ use crate::scope::Scope;
 use seq_tree::{Expr, Name, NoMemory};
 
 /// Adds the actuals of a call, by what it leads to, and tells its instruction.
-fn called(
-    code: &mut Code,
-    target: Target,
-    actuals: &[Expr],
-    scope: &Scope,
-) -> Result<Ins, NoMemory>
+fn called(code: &mut Code, target: Target, actuals: &[Expr], scope: &Scope) -> Result<Ins, NoMemory>
     ensures added { OnOk result (Added (lists_of code.old) (lists_of code.new)) }
     ensures stands { IfOk result (λ i. CallStands (lists_of code.new) scope.now (leads_of target.entry) (map expression_of actuals.now) (Some i)) }
 {

@@ -78,7 +78,14 @@ fn link_arm<'a, C: Calls>(
     let block = link_lines(code, &arm.block, scope, calls, out, jump)?;
     let cond = add_expr(code, &arm.cond, scope)?;
     let start = before(block)?;
-    fill(code, start, Ins::Test { cond, other: others })?;
+    fill(
+        code,
+        start,
+        Ins::Test {
+            cond,
+            other: others,
+        },
+    )?;
     Ok(start)
 }
 

@@ -122,7 +122,15 @@ pub(crate) fn close_loop(
         → LinksStatement leads scope out end from (lists_of code.new) at (For name low high body)) }
 {
     let next = before(end)?;
-    fill(code, next, Ins::Next { counter, last: high, start })?;
+    fill(
+        code,
+        next,
+        Ins::Next {
+            counter,
+            last: high,
+            start,
+        },
+    )?;
     let at = before(start)?;
     fill(code, at, first_turn(counter, low, high, end))?;
     Ok(at)

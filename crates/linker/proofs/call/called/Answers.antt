@@ -20,9 +20,12 @@ returns-in_ok-outs-in-Body-clause-stands c =
     let new = lists_of c.add_targets.new.code in
     let first = c.in_ok-first-in-Body.first in
     let added = c.in_ok-outs-in-Body.ensures.added in
-    rw c.in-Body.is (first, ap (λ n. Some (ins.Call c.in-Body.place first n)) c.in_ok-outs-in-Body.ensures.count,
-    values_grown (lists_of c.add_values.new.code) new scope first (values_in params es) added.nodes added.actuals c.in_ok-first-in-Body.ensures.stand,
-    subst (λ at. TargetsStand new scope at (targets params es)) (sym c.in_ok-first-in-Body.ensures.long) c.in_ok-outs-in-Body.ensures.stand)
+    rw c.in-Body.is (
+      first,
+      ap (λ n. Some (ins.Call c.in-Body.place first n)) c.in_ok-outs-in-Body.ensures.count,
+      values_grown (lists_of c.add_values.new.code) new scope first (values_in params es) added.nodes added.actuals c.in_ok-first-in-Body.ensures.stand,
+      subst (λ at. TargetsStand new scope at (targets params es)) (sym c.in_ok-first-in-Body.ensures.long) c.in_ok-outs-in-Body.ensures.stand,
+    )
 
 pub returns-in_ok-value-in-Request-clause-stands : goal.returns-in_ok-value-in-Request-clause-stands
 returns-in_ok-value-in-Request-clause-stands c = rw c.in-Request.is (c.in_ok-value-in-Request.ensures.stands c.in-Request.task)

@@ -15,7 +15,7 @@ returns-then-not-requests g c =
     let w = c.args.self.now in
     let name : OpName = record { object = c.args.object.now; op = c.args.op.now } in
     let ticks : ℕ = c.args.costs.now.call + 2 * c.args.costs.now.assign in
-    let value : c.asked-value.result ≡ request_value (map expression_of c.args.actuals.now) w.vars = search rules in
+    let value : c.asked-value.result ≡ request_value (map expression_of c.args.actuals.now) w.vars = c.asked-value.ensures in
     sym (told-not (λ a. is_some (sees_request name (request_value (map expression_of c.args.actuals.now) w.vars) a)) (g.S.Actions.meaning w.script)
     (state_of g.S.Actions.meaning w) (λ t. Ok (spent ticks ticks t))
     (ap (λ v. of_next (λ a. is_some (sees_request name v a)) false (g.S.Actions.meaning w.script)) (sym value) ∙ sym c.requests.ensures
@@ -27,8 +27,10 @@ returns g c =
     let name : OpName = record { object = c.args.object.now; op = c.args.op.now } in
     let ticks : ℕ = c.args.costs.now.call + 2 * c.args.costs.now.assign in
     let rest = g.S.Actions.meaning c.pass.new.self in
-    let value : c.asked-value.result ≡ request_value (map expression_of c.args.actuals.now) w.vars = search rules in
-    ap Ok c.spend.ensures ∙ ap (λ n. Ok (spent n n (at_script rest (state_of g.S.Actions.meaning w)))) ?
+    let value : c.asked-value.result ≡ request_value (map expression_of c.args.actuals.now) w.vars = c.asked-value.ensures in
+    let spends : c.from.result + 2 * c.from-2.result ≡ ticks
+    = ap (λ n. n + 2 * c.from-2.result) c.from.ensures ∙ ap (λ n. c.args.costs.now.call + 2 * n) c.from-2.ensures in
+    ap Ok c.spend.ensures ∙ ap (λ n. Ok (spent n n (at_script rest (state_of g.S.Actions.meaning w)))) spends
     ∙ sym (told-so (λ a. is_some (sees_request name (request_value (map expression_of c.args.actuals.now) w.vars) a)) (g.S.Actions.meaning w.script)
     rest (state_of g.S.Actions.meaning w) (λ t. Ok (spent ticks ticks t))
     (ap (λ v. of_next (λ a. is_some (sees_request name v a)) false (g.S.Actions.meaning w.script)) (sym value) ∙ sym c.requests.ensures

@@ -1,8 +1,9 @@
 -- What the end of the following of a block means for the answer, at any depth at which the block may be walked.
 use Rattle.std.proofs.Common.{◌≡◌, ◌++◌, take, append-nil, append_assoc, length-append, ℕ, zero, suc, ◌+◌, ◌-◌, ◌≤◌, ◌<◌, List, [], ◌∷◌, length}
 use Rattle.std.proofs.Common.{map, Result, Ok, Err, refl, sym, ap, ◌∙◌, arith, subst}
-use Rattle.std.specs.Prelude.{Vec}
+use Rattle.std.specs.Prelude.{IsErr, Vec}
 use Rattle.std.specs.declared.alloc.Global.{Global}
+use Rattle.std.proofs.lemmas.Bool.{false≢true}
 use Rattle.std.proofs.lemmas.List.{length-map}
 use Rattle.std.proofs.Math.Seq.{take-append_seam}
 use Rattle.grammar.specs.Reading.{Halt, IsFirstFault, left_of, whole_at}
@@ -10,6 +11,7 @@ use Rattle.seq_tree.specs.Names.{Name}
 use Rattle.seq_tree.specs.Statements.{Statements}
 use Rattle.seq_tree.specs.Variables.{Variables}
 use Rattle.seq_tree.specs.Runs.{Action, Callee, Path}
+use Rattle.seq_tree.specs.declared.memory.NoMemory.{NoMemory}
 use Rattle.seq_tree.specs.declared.tree.Costs.{Costs}
 use Rattle.law_walks.specs.Fit.{MayRun}
 use Rattle.law_walks.specs.Laws.{RunOf}
@@ -161,3 +163,9 @@ module _ (costs : Costs) (calls : Name → Name → Callee) (b : Statements) (be
   means depth answer after may h =
       let t = tells costs calls depth b before script may in
       means-by (whole_at (walk_at costs calls depth b before) script) (length script) answer after refl t.found t.only t.fault h
+
+  -- after want of memory the variables are as before
+  pub means-failed : (answer : Result Followed NoMemory) (after : Variables) → IsErr answer → after ≡ before
+      → Means costs calls b before script answer after
+  means-failed (Ok found) after failed kept = absurd (false≢true failed)
+  means-failed (Err e) after failed kept = kept

@@ -6,4 +6,6 @@ pub mod Fronts
 pub mod TableSteps
 pub mod Splitting
 pub mod Gathering
+pub mod Chaining
+pub mod Telling
 pub mod Shared

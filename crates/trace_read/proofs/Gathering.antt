@@ -18,9 +18,9 @@ use Rattle.trace_read.proofs.Fronts.{told-lines}
 use Rattle.trace_read.proofs.Shared.Nexts.{lines-push, next-shorter}
 
 -- the line of an event begins at this byte, and behind the lines from it on are these bytes
-record Begins (p : Program) (text left : List ℕ) (events : List Event) (start index : ℕ) : Type 0 where
-  within : start ≤ length text
-  lines_from : drop start text ≡ lines p (drop index events) ++ left
+pub record Begins (p : Program) (text left : List ℕ) (events : List Event) (start index : ℕ) : Type 0 where
+  pub within : start ≤ length text
+  pub lines_from : drop start text ≡ lines p (drop index events) ++ left
 
 -- a text that begins with lines of events, which begin at these bytes, and then has these bytes left
 pub record Counted (p : Program) (text left starts : List ℕ) : Type 0 where

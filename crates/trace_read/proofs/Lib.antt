@@ -8,4 +8,5 @@ pub mod Splitting
 pub mod Gathering
 pub mod Chaining
 pub mod Telling
+mod Examples
 pub mod Shared

@@ -1,7 +1,7 @@
 -- Events of a text that are told one by one: a line at its start, the events of the text to those from an index on, and the tables of all of them.
 use Rattle.std.proofs.Common.{◌≡◌, ℕ, zero, suc, ◌<◌, ◌≤◌, List, [], ◌∷◌, length, drop, get_or, Option, Some, None, refl, sym, ap, subst, ◌∙◌, arith}
 use Rattle.std.specs.Prelude.{◌+◌, ◌-◌, IfSome, MatchOption}
-use Rattle.std.proofs.lemmas.List.{drop_all, length-drop}
+use Rattle.std.proofs.lemmas.List.{get_or_read, length-drop}
 use Rattle.ada_tree.specs.Programs.{Program}
 use Rattle.trace_tree.specs.Placed.{IsPlaced}
 use Rattle.trace_tree.specs.declared.event.Event.{Event}
@@ -52,8 +52,8 @@ task-fits p (event.Horizon time) is = tt
 pub object-fits : (p : Program) (e : Event) → IsPlaced p e → IfSome (object_of e) (λ u. u < length p.units)
 object-fits p (event.Release time task value) is = tt
 object-fits p (event.Arrive time task value) is = tt
-object-fits p (event.Enter time task unit op values) is = is.1.0
-object-fits p (event.Leave time task unit op values) is = is.1.0
+object-fits p (event.Enter time task unit op values) is = is.1
+object-fits p (event.Leave time task unit op values) is = is.1
 object-fits p (event.Request time task target value) is = tt
 object-fits p (event.Print time task value) is = tt
 object-fits p (event.End time task used) is = tt
@@ -86,3 +86,21 @@ pub reached-own : (es these : List Event) (task last index : ℕ) (o : Option Ev
 reached-own es these task last index None own first is = ap (λ i. first_task (drop i es)) is.1 ∙ own
 reached-own es these task last index (Some e) own first is =
     ap first_task (is.0 ∙ is.1) ∙ first e (drop (suc index) es) is.1
+
+-- a step by a table, for the events of a text by another name
+module _ (found : Behind) (fewer : (task : ℕ) (es : List Event) → length (found task es) ≤ length es) (view es : List Event) (same : view ≡ es)
+    (table : List ℕ) (long : length table ≡ length view) (leads : Leads found view 0 table) (task last : ℕ) (own : first_task (drop last es) ≡ Some task) where
+  there : first_task (drop last view) ≡ Some task
+  there = ap (λ xs. first_task (drop last xs)) same ∙ own
+
+  pub step-within : last < length table
+  step-within = let within = own-within view last task there in omega (arith, within, long)
+
+  pub step-stands : (index : ℕ) → index ≡ get_or table last index → Stands es index (found task (drop (suc last) es))
+  step-stands index is =
+      let read : index ≡ get_or table last 0 = get_or_read table last index step-within is 0 in
+      subst (λ xs. Stands xs index (found task (drop (suc last) xs))) same
+      (subst (λ i. Stands view i (found task (drop (suc last) view))) (sym read) (leads last task (omega arith) there))
+
+  pub step-fewer : length (found task (drop (suc last) es)) < length (drop last es)
+  step-fewer = behind-fewer es (found task (drop (suc last) es)) last task own (fewer task (drop (suc last) es))

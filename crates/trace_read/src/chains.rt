@@ -128,6 +128,13 @@ pub(crate) struct Links {
     pub lasts: Vec<u32>,
 }
 
+/// How many units the program of a table has.
+fn count_units(table: &Table<'_>) -> usize
+    ensures { result ≡ length (table_program table.now).units }
+{
+    table.program.units.len()
+}
+
 /// The tables of the events of a text whose lines begin at these bytes. The lines are read once, from the last to the first.
 pub(crate) fn link(
     alloc: Global,
@@ -139,7 +146,7 @@ pub(crate) fn link(
     ensures { IfOk result (AreLinks (events_in (table_program table.now) text.now)) }
 {
     let lines = starts.len() as u32;
-    let units = table.program.units.len();
+    let units = count_units(table);
     let mut nexts = Chain::new(alloc, lines, units)?;
     let mut exits = Chain::new(alloc, lines, units)?;
     let mut lasts = zeros(alloc, units)?;

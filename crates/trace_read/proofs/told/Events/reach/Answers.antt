@@ -1,5 +1,10 @@
+use Rattle.std.proofs.Common.{sym, ◌∙◌}
 use Rattle.trace_read.proofs.Telling.{reaches-at}
 use Rattle.trace_read.proofs.told.Events.reach.Goals as goal
 
 pub returns : goal.returns
-returns c = ?
+returns c = λ these stands fewer.
+    reaches-at c.args.self.now these c.args.last.now c.args.index c.in_ok-event.event stands fewer c.in_ok-event.ensures
+
+pub returns-in_err-event : goal.returns-in_err-event
+returns-in_err-event c = λ these stands fewer. ?

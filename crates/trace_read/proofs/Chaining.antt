@@ -1,6 +1,6 @@
 -- Tables of deeds that are made from the last event to the first: one event more in front.
 use Rattle.std.proofs.Common.{◌≡◌, ℕ, zero, suc, ◌<◌, ◌≤◌, List, [], ◌∷◌, length, drop, get_or, Option, Some, None, refl, sym, ap, subst, ◌∙◌, arith}
-use Rattle.std.specs.Prelude.{◌+◌, ◌-◌, ◌==◌, ◌||◌, Bool, true, false, set, replicate, nat_lt, max, if◌then◌else◌}
+use Rattle.std.specs.Prelude.{◌+◌, ◌-◌, ◌==◌, ◌||◌, Bool, true, false, set, replicate, nat_lt, max}
 use Rattle.std.proofs.lemmas.Bool.{eqb-true, eqb-false, eq-eqb, ne_eqb, ltb-true, ltb-false, lt-ltb, le-ltb}
 use Rattle.std.proofs.lemmas.List.{length-drop, length-set, length-replicate, get_or-replicate, get_or-set_same, get_or-set_other, get_or_default, get_or_past, drop_all}
 use Rattle.std.proofs.lemmas.Option.{none-some, same_Some}
@@ -11,7 +11,7 @@ use Rattle.trace_read.specs.declared.deeds.Part.{Part}
 use Rattle.trace_read.specs.declared.deeds.Part.TheVariants.{Other, Plain, Opens, Closes}
 use Rattle.trace_read.specs.Deeds.{part_of, task_of, first_task, from_own, own_by, from_exit, exit_by, passes, passed_in}
 use Rattle.trace_read.specs.Chains.{AreLasts, Behind, Heads, IsChain, IsLast, Leads, Stands, from_out, object_of, out_by}
-use Rattle.trace_read.proofs.Shared.Deeds.{drop-next, drop-some, stands-later, part-own, own-part, other-part, no-part, own-fewer, own-first, exit-fewer}
+use Rattle.trace_read.proofs.Shared.Deeds.{drop-next, drop-some, own-part, other-part, no-part, exit-fewer}
 use Rattle.trace_read.proofs.Shared.Deeds.{exit-first, exit-outer, out_of}
 
 -- THE TABLES behind the last event

@@ -2,7 +2,7 @@
 use Rattle.std.proofs.Common.{◌≡◌, ℕ, zero, suc, ◌+◌, ◌<◌, ◌≤◌, List, [], ◌∷◌, ◌++◌, length, drop, get_or, refl, sym, ap, subst, ◌∙◌, append_assoc, arith}
 use Rattle.std.specs.Prelude.{Bool, true, false, ◌-◌, ◌==◌}
 use Rattle.std.proofs.lemmas.Bool.{eqb-true, eqb-false}
-use Rattle.std.proofs.lemmas.List.{append-nil, drop-append-le, drop_all, get_or-append_right, get_or_append_left, get_or_push, length-append, length-drop, drop_at}
+use Rattle.std.proofs.lemmas.List.{append-nil, drop-append-le, get_or_append_left, get_or_push, length-append, length-drop, drop_at}
 use Rattle.seq_tree.specs.Lists.{Each}
 use Rattle.ada_tree.specs.Programs.{Program}
 use Rattle.ada_tree.specs.Rules.{MeetsRules}
@@ -82,13 +82,13 @@ module _ (p : Program) (plain : HasPlainNames p) (text left rest : List ℕ) (e 
         let more : length (starts ++ start ∷ []) ≡ length starts + 1 = length-append starts (start ∷ []) in
         let counted = so-far.counted in
         omega (arith, longer, more, counted)
-    );
+        );
     within = (
         let shorter : length rest < length left = next-shorter p plain e left rest same in
         let more : length (starts ++ start ∷ []) ≡ length starts + 1 = length-append starts (start ∷ []) in
         let within = so-far.within in
         omega (arith, shorter, more, within)
-    );
+        );
     begins = λ k less. by k less (k == length starts) refl;
   })
     where

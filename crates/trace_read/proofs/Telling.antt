@@ -1,16 +1,14 @@
 -- Events of a text that are told one by one: a line at its start, the events of the text to those from an index on, and the tables of all of them.
-use Rattle.std.proofs.Common.{◌≡◌, ℕ, zero, suc, ◌<◌, ◌≤◌, List, [], ◌∷◌, length, drop, get_or, Option, Some, None, refl, sym, ap, subst, ◌∙◌, arith}
-use Rattle.std.specs.Prelude.{◌+◌, ◌-◌, IfSome, MatchOption}
+use Rattle.std.proofs.Common.{◌≡◌, ℕ, suc, ◌<◌, ◌≤◌, List, [], ◌∷◌, length, drop, get_or, Option, Some, None, refl, sym, ap, subst, ◌∙◌, arith}
+use Rattle.std.specs.Prelude.{◌-◌, IfSome, MatchOption}
 use Rattle.std.proofs.lemmas.List.{get_or_read, length-drop}
 use Rattle.ada_tree.specs.Programs.{Program}
 use Rattle.trace_tree.specs.Placed.{IsPlaced}
 use Rattle.trace_tree.specs.declared.event.Event.{Event}
 use Rattle.trace_tree.specs.declared.event.Event.TheVariants as event
-use Rattle.law_trace_lines.specs.Told.{IsEvent}
-use Rattle.trace_read.specs.Chains.{AreStarts, Behind, Leads, Stands, from_out, object_of}
+use Rattle.trace_read.specs.Chains.{Behind, Leads, Stands, from_out, object_of}
 use Rattle.trace_read.specs.Deeds.{Reaches, first_task, from_exit, from_own, task_of}
-use Rattle.trace_read.specs.Telling.{events_in}
-use Rattle.trace_read.proofs.Shared.Deeds.{drop-next, drop-some, exit-fewer, exit-first, own-fewer, own-first, stands-later}
+use Rattle.trace_read.proofs.Shared.Deeds.{drop-next, drop-some, stands-later}
 
 -- the first of the events from an index on, and the others
 pub tells-at : (es told : List Event) (at : ℕ) (e : Event) (rest : List Event) → told ≡ drop at es → told ≡ e ∷ rest → drop at es ≡ e ∷ drop (suc at) es

@@ -1,4 +1,4 @@
-use Rattle.std.proofs.Common.{◌≡◌, ◌-◌, ◌<◌, ◌≤◌, List, ℕ, None, Ok, Some, length, drop, sym, subst, ◌∙◌, arith}
+use Rattle.std.proofs.Common.{◌≡◌, ◌-◌, List, ℕ, None, Ok, Some, length, drop, sym, subst, ◌∙◌, arith}
 use Rattle.ada_tree.specs.Programs.{Program}
 use Rattle.trace_read.specs.Lines.{IsNext}
 use Rattle.trace_read.specs.Texts.{table_program, text_left, text_program}

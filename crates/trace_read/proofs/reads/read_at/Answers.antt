@@ -1,5 +1,4 @@
-use Rattle.std.proofs.Common.{◌≡◌, ◌<◌, length, drop, get_or, ap, sym, ◌∙◌, arith}
-use Rattle.std.proofs.lemmas.List.{drop_all}
+use Rattle.std.proofs.Common.{◌<◌, length, ap, ◌∙◌, arith}
 use Rattle.law_trace_lines.specs.Cuts.{cut}
 use Rattle.trace_read.specs.Telling.{events_in, told_by}
 use Rattle.trace_read.specs.Texts.{table_program}

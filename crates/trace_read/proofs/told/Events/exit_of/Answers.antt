@@ -1,4 +1,4 @@
-use Rattle.std.proofs.Common.{List, ◌≡◌, ℕ, drop, suc}
+use Rattle.std.proofs.Common.{List, drop, suc}
 use Rattle.ada_tree.specs.Trees.{program_of}
 use Rattle.trace_tree.specs.declared.event.Event.{Event}
 use Rattle.trace_read.specs.Chains.{from_out}

@@ -2,7 +2,8 @@
 use Rattle.std.proofs.Common.{◌≡◌, ℕ, zero, suc, ◌<◌, ◌≤◌, List, [], ◌∷◌, length, drop, get_or, Option, Some, None, refl, sym, ap, subst, ◌∙◌, arith}
 use Rattle.std.specs.Prelude.{◌+◌, ◌-◌, ◌==◌, ◌||◌, Bool, true, false, set, replicate, nat_lt, max}
 use Rattle.std.proofs.lemmas.Bool.{eqb-true, eqb-false, eq-eqb, ne_eqb, ltb-true, ltb-false, lt-ltb, le-ltb}
-use Rattle.std.proofs.lemmas.List.{length-drop, length-set, length-replicate, get_or-replicate, get_or-set_same, get_or-set_other, get_or_default, get_or_past, drop_all}
+use Rattle.std.proofs.lemmas.List.{length-drop, length-set, length-replicate, get_or-replicate, get_or-set_same, get_or-set_other, get_or_default}
+use Rattle.std.proofs.lemmas.List.{get_or_past, drop_all}
 use Rattle.std.proofs.lemmas.Option.{none-some, same_Some}
 use Rattle.trace_tree.specs.declared.event.Event.{Event}
 use Rattle.trace_tree.specs.declared.event.Event.TheVariants as event
@@ -100,7 +101,9 @@ module _ (found : Behind) (es : List Event) (at : ℕ) (e : Event) (here : drop 
       → d.next.items ≡ set c.next.items at (get_or c.head.items own 0) → d.head.items ≡ set c.head.items own head
       → Stands es head (found own (e ∷ drop (suc at) es)) → IsChain found es (suc at) c → IsChain found es at d
   chain-deed c d own head is fits next heads stands chain =
-      let less : at < length c.next.items = (let some = drop-some es at e (drop (suc at) es) here in let long = chain.long in omega (arith, some, long)) in
+      let some : at < length es = drop-some es at e (drop (suc at) es) here in
+      let long = chain.long in
+      let less : at < length c.next.items = omega (arith, some, long) in
       record {
         long = ap length next ∙ length-set c.next.items at (get_or c.head.items own 0) ∙ chain.long;
         leads = subst (Leads found es at) (sym next)

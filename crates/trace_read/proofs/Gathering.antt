@@ -1,8 +1,9 @@
 -- Lines of events one after another, with the bytes at which they begin.
-use Rattle.std.proofs.Common.{◌≡◌, ℕ, zero, suc, ◌+◌, ◌<◌, ◌≤◌, List, [], ◌∷◌, ◌++◌, length, drop, get_or, refl, sym, ap, subst, ◌∙◌, append_assoc, arith}
+use Rattle.std.proofs.Common.{◌≡◌, ℕ, zero, suc, ◌+◌, ◌<◌, ◌≤◌, List, [], ◌∷◌, ◌++◌, length, drop, get_or}
+use Rattle.std.proofs.Common.{refl, sym, ap, subst, ◌∙◌, append_assoc, arith}
 use Rattle.std.specs.Prelude.{Bool, true, false, ◌-◌, ◌==◌}
 use Rattle.std.proofs.lemmas.Bool.{eqb-true, eqb-false}
-use Rattle.std.proofs.lemmas.List.{append-nil, drop-append-le, get_or_append_left, get_or_push, length-append, length-drop, drop_at}
+use Rattle.std.proofs.lemmas.List.{append-nil, drop-append-le, get_or_append_left, get_or_push, length-append, drop_at}
 use Rattle.seq_tree.specs.Lists.{Each}
 use Rattle.ada_tree.specs.Programs.{Program}
 use Rattle.ada_tree.specs.Rules.{MeetsRules}
@@ -42,9 +43,6 @@ counted-none p text left same = record {
 }
 
 -- how many bytes are before those that are left
-pub left-at : (text left : List ℕ) (start : ℕ) → start ≤ length text → drop start text ≡ left → length left ≤ length text
-left-at text left start within is = let long : length (drop start text) ≡ length text - start = length-drop start text in let same = ap length is in omega (arith, long, same)
-
 pub start-next : (p : Program) (text left starts : List ℕ) → Counted p text left starts → drop (length text - length left) text ≡ left
 start-next p text left starts so-far =
     let front : List ℕ = lines p so-far.events in
@@ -119,7 +117,8 @@ each-drop P zero xs each = each
 each-drop P (suc k) [] each = tt
 each-drop P (suc k) (x ∷ xs) each = each-drop P k xs each.1
 
-module _ (p : Program) (plain : HasPlainNames p) (meets : MeetsRules p) (text left starts : List ℕ) (so-far : Counted p text left starts) (none : left ≡ []) where
+module _ (p : Program) (plain : HasPlainNames p) (meets : MeetsRules p) (text left starts : List ℕ) (so-far : Counted p text left starts)
+    (none : left ≡ []) where
   whole : text ≡ lines p so-far.events
   whole = so-far.split ∙ ap (λ z. lines p so-far.events ++ z) none ∙ append-nil (lines p so-far.events)
 
@@ -135,7 +134,9 @@ module _ (p : Program) (plain : HasPlainNames p) (meets : MeetsRules p) (text le
     count = so-far.counted ∙ ap length (sym told);
     within = λ k less. (so-far.begins k less).within;
     start = λ k less.
-        ap (events_in p) ((so-far.begins k less).lines_from ∙ ap (λ z. lines p (drop k so-far.events) ++ z) none ∙ append-nil (lines p (drop k so-far.events)))
+        ap (events_in p) (
+        (so-far.begins k less).lines_from ∙ ap (λ z. lines p (drop k so-far.events) ++ z) none ∙ append-nil (lines p (drop k so-far.events))
+        )
         ∙ told-lines p plain meets (drop k so-far.events) (each-drop (IsEvent p) k so-far.events so-far.each) ∙ ap (drop k) (sym told);
   }
 

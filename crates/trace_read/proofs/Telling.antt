@@ -11,7 +11,8 @@ use Rattle.trace_read.specs.Deeds.{Reaches, first_task, from_exit, from_own, tas
 use Rattle.trace_read.proofs.Shared.Deeds.{drop-next, drop-some, stands-later}
 
 -- the first of the events from an index on, and the others
-pub tells-at : (es told : List Event) (at : ℕ) (e : Event) (rest : List Event) → told ≡ drop at es → told ≡ e ∷ rest → drop at es ≡ e ∷ drop (suc at) es
+pub tells-at : (es told : List Event) (at : ℕ) (e : Event) (rest : List Event) → told ≡ drop at es → told ≡ e ∷ rest
+    → drop at es ≡ e ∷ drop (suc at) es
 tells-at es told at e rest is one =
     let here : drop at es ≡ e ∷ rest = sym is ∙ one in here ∙ ap (λ xs. e ∷ xs) (drop-next es at e rest here)
 
@@ -80,14 +81,16 @@ behind-fewer es these at task own fewer =
 
 -- where a walk is behind its step
 pub reached-own : (es these : List Event) (task last index : ℕ) (o : Option Event) → first_task (drop last es) ≡ Some task
-    → ((e : Event) (rest : List Event) → these ≡ e ∷ rest → task_of e ≡ Some task) → Reaches es these last index o → first_task (drop index es) ≡ Some task
+    → ((e : Event) (rest : List Event) → these ≡ e ∷ rest → task_of e ≡ Some task) → Reaches es these last index o
+    → first_task (drop index es) ≡ Some task
 reached-own es these task last index None own first is = ap (λ i. first_task (drop i es)) is.1 ∙ own
 reached-own es these task last index (Some e) own first is =
     ap first_task (is.0 ∙ is.1) ∙ first e (drop (suc index) es) is.1
 
 -- a step by a table, for the events of a text by another name
 module _ (found : Behind) (fewer : (task : ℕ) (es : List Event) → length (found task es) ≤ length es) (view es : List Event) (same : view ≡ es)
-    (table : List ℕ) (long : length table ≡ length view) (leads : Leads found view 0 table) (task last : ℕ) (own : first_task (drop last es) ≡ Some task) where
+    (table : List ℕ) (long : length table ≡ length view) (leads : Leads found view 0 table) (task last : ℕ)
+    (own : first_task (drop last es) ≡ Some task) where
   there : first_task (drop last view) ≡ Some task
   there = ap (λ xs. first_task (drop last xs)) same ∙ own
 

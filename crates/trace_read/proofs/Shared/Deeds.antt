@@ -24,7 +24,8 @@ drop-some (x ∷ xs) zero y ys e = omega arith
 drop-some (x ∷ xs) (suc k) y ys e = let h = drop-some xs k y ys e in omega (arith, h)
 
 -- an index of these, which are fewer than those from another index on, stands behind that
-pub stands-later : {X : Type 0} (xs ys : List X) (index at : ℕ) → index ≤ length xs → drop index xs ≡ ys → length ys < length (drop at xs) → at < index
+pub stands-later : {X : Type 0} (xs ys : List X) (index at : ℕ) → index ≤ length xs → drop index xs ≡ ys → length ys < length (drop at xs)
+    → at < index
 stands-later xs ys index at within is fewer =
     let here : length (drop index xs) ≡ length xs - index = length-drop index xs in
     let there : length (drop at xs) ≡ length xs - at = length-drop at xs in
@@ -169,7 +170,8 @@ out_of task [] = []
 out_of task (y ∷ ys) = from_exit task ys 0
 
 module _ (task : ℕ) (e : Event) (es : List Event) (step : (d : ℕ) → from_exit task es (suc d) ≡ out_of task (from_exit task es d)) where
-  exit-outer-by : (part : Part) (d : ℕ) → exit_by part (suc d) (e ∷ es) (from_exit task es) ≡ out_of task (exit_by part d (e ∷ es) (from_exit task es))
+  exit-outer-by : (part : Part) (d : ℕ)
+      → exit_by part (suc d) (e ∷ es) (from_exit task es) ≡ out_of task (exit_by part d (e ∷ es) (from_exit task es))
   exit-outer-by Other d = step d
   exit-outer-by Plain d = step d
   exit-outer-by Opens d = step (suc d)

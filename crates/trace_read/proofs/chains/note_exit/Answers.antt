@@ -20,7 +20,8 @@ returns-in-Some-clause-chain c = λ es here chain.
     c.out-head.ensures ∙ ap (λ part. out_by part c.args.chain.now.next.items outer c.args.at) c.part_of.ensures in
     let stands : Stands es c.out-head.result (from_out c.in-Some.task (c.args.event.now ∷ drop (suc c.args.at) es)) =
     subst (λ i. Stands es i (from_out c.in-Some.task (c.args.event.now ∷ drop (suc c.args.at) es))) (sym head)
-    (out-stands es c.args.at c.in-Some.task c.args.event.now c.args.chain.now.next.items outer here chain.long chain.leads (chain.heads c.in-Some.task fits))
+    (out-stands es c.args.at c.in-Some.task c.args.event.now c.args.chain.now.next.items outer here chain.long chain.leads
+    (chain.heads c.in-Some.task fits))
     in
-    chain-deed from_out es c.args.at c.args.event.now here (out-passed c.args.event.now) c.args.chain.now c.put.new.self c.in-Some.task c.out-head.result
-    own fits c.put.ensures.next c.put.ensures.head stands chain
+    chain-deed from_out es c.args.at c.args.event.now here (out-passed c.args.event.now) c.args.chain.now c.put.new.self c.in-Some.task
+    c.out-head.result own fits c.put.ensures.next c.put.ensures.head stands chain

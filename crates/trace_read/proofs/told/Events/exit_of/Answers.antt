@@ -13,10 +13,10 @@ returns-clause-reached c =
     let view : List Event = events_in (program_of c.self.inside.table.now.program.now) c.self.inside.text.now in
     let links = c.self.invariant.links in
     c.reach.ensures (from_out c.args.task (drop (suc c.args.last.now) c.args.self.now))
-    (step-stands from_out (λ task es. exit-fewer task es 0) view c.args.self.now c.self.view_is c.self.inside.links.exits.items links.exits_long links.exits c.args.task c.args.last.now
-    c.requires.own c.index-index.result.now c.index-index.ensures)
-    (step-fewer from_out (λ task es. exit-fewer task es 0) view c.args.self.now c.self.view_is c.self.inside.links.exits.items links.exits_long links.exits c.args.task c.args.last.now
-    c.requires.own)
+    (step-stands from_out (λ task es. exit-fewer task es 0) view c.args.self.now c.self.view_is
+    c.self.inside.links.exits.items links.exits_long links.exits c.args.task c.args.last.now c.requires.own c.index-index.result.now c.index-index.ensures)
+    (step-fewer from_out (λ task es. exit-fewer task es 0) view c.args.self.now c.self.view_is
+    c.self.inside.links.exits.items links.exits_long links.exits c.args.task c.args.last.now c.requires.own)
 
 pub returns-clause-own : goal.returns-clause-own
 returns-clause-own c =

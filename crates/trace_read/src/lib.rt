@@ -8,6 +8,8 @@
 //!
 //! Other crates may cite these proofs of it (`proofs/Shared`):
 //!
+//! - `Deeds`: what stands behind a deed of a task is fewer than all that stands there, and begins with a deed of the task; the exit from the
+//!   operation outside stands behind that from the one inside; and walks over events come nearer to the end.
 //! - `Nexts`: one event more behind others: the text of all, and that its line takes some bytes.
 #![tactic(auto)]
 

@@ -4,5 +4,8 @@ pub mod Reading
 pub mod Lines
 pub mod Pieces
 pub mod Laws
+pub mod Telling
 pub mod Texts
 pub mod Gathered
+pub mod Deeds
+pub mod Chains

@@ -2,7 +2,7 @@
 use Rattle.std.proofs.Common.{◌≡◌, ℕ, List, [], ◌∷◌, ◌++◌, Option, Some, None, refl, sym, ap, subst, ◌∙◌}
 use Rattle.std.specs.Prelude.{Result, Ok, Err}
 use Rattle.std.proofs.lemmas.Option.{none-some, same_Some}
-use Rattle.std.specs.List.{join_with_byte}
+use Rattle.std.specs.List.{cons_option, join_with_byte}
 use Rattle.std.proofs.lemmas.List.Concat.{flat_map-cons}
 use Rattle.seq_tree.specs.Lists.{Each}
 use Rattle.ada_tree.specs.Programs.{Program}
@@ -18,7 +18,8 @@ use Rattle.law_traces.specs.Verdicts.{BeginsNoLine}
 use Rattle.trace_read.specs.declared.lines.NoLine.{NoLine}
 use Rattle.trace_read.specs.Lines.{Tells, IsNext}
 use Rattle.trace_read.specs.Laws.{GoesOn}
-use Rattle.trace_read.specs.Reading.{event_of}
+use Rattle.trace_read.specs.Reading.{event_of, number_of}
+use Rattle.trace_read.specs.Telling.{events_in, told_by}
 use Rattle.trace_read.proofs.Back.{event-back}
 
 heads-same : {A : Type 0} {x y : A} {xs ys : List A} → x ∷ xs ≡ y ∷ ys → x ≡ y
@@ -37,6 +38,18 @@ module _ (p : Program) (plain : HasPlainNames p) where
   front-tells meets bytes front others piece e more h same =
       let one : front ≡ text p plain e = heads-same (sym piece ∙ ap (cut 10) same ∙ line-cut p plain e more h.1) in
       ap (λ t. event_of p (cut 32 t)) one ∙ ap (event_of p) (words-of e h) ∙ event-back p meets plain e h
+
+  -- the events that a text tells, and a text of lines
+  told-front : MeetsRules p → (e : machine.Event) (more : List ℕ) → IsEvent p e → events_in p (line p e ++ more) ≡ e ∷ events_in p more
+  told-front meets e more h =
+      ap (told_by p) (line-cut p plain e more h.1)
+      ∙ ap (λ o. cons_option o (events_in p more)) (ap (event_of p) (words-of e h) ∙ event-back p meets plain e h)
+
+  pub told-lines : MeetsRules p → (es : List machine.Event) → Each (IsEvent p) es → events_in p (lines p es) ≡ es
+  unfolding event_of number_of
+  told-lines meets [] h = refl
+  told-lines meets (e ∷ es) h =
+      ap (events_in p) (flat_map-cons (line p) e es) ∙ told-front meets e (lines p es) h.0 ∙ ap (λ z. e ∷ z) (told-lines meets es h.1)
 
   -- no event is told
   pub untold : MeetsRules p → (bytes front : List ℕ) (others : List (List ℕ)) → cut 10 bytes ≡ front ∷ others → event_of p (cut 32 front) ≡ None

@@ -4,5 +4,6 @@ pub mod Reading
 pub mod Lines
 pub mod Pieces
 pub mod Laws
+pub mod Telling
 pub mod Texts
 pub mod Gathered

@@ -1,15 +1,15 @@
-ghost use Rattle.std.specs.Prelude.{◌≡◌, ◌∷◌, ◌++◌, [], OnOk};
+ghost use Rattle.std.specs.Prelude.{◌≡◌};
 ghost use Rattle.ada_tree.specs.Rules.{MeetsRules};
-ghost use Rattle.ada_tree.specs.Trees.{program_of};
 ghost use Rattle.law_trace_lines.specs.Told.{HasPlainNames};
 ghost use Rattle.trace_read.specs.Gathered.{Gathers};
+ghost use Rattle.trace_read.specs.Texts.{table_program};
 ghost use Rattle.trace_read.specs.declared.gather.Unread.TheVariants.{NoMemory as Lacking};
 
 use crate::lines::Lines;
-use ada_tree::AdaProgram;
+use crate::table::Table;
+use crate::told::Events;
 use seq_tree::NoMemory;
 use std::alloc::Global;
-use trace_tree::Event;
 
 /// Why a text has no list of events.
 #[derive(Clone, Copy, Debug, PartialEq, Eq)]
@@ -32,29 +32,25 @@ impl From<NoMemory> for Unread {
 }
 
 /// The events of which a text has the lines, in order. `Line` comes exactly where a line is none of an event, with the first such line; a last
-/// line without its line feed is none. The list takes some 64 bytes for each event, and at most as much again while it grows.
-pub fn read_events(alloc: Global, program: &AdaProgram, text: &[u8]) -> Result<Vec<Event>, Unread>
-    requires meets { MeetsRules (program_of program.now) }
-    requires plain { HasPlainNames (program_of program.now) }
-    ensures { Gathers (λ v. v.items) (program_of program.now) text.now result }
+/// line without its line feed is none. The text is read once, and nothing of it is held: each event is read again where it is asked for. Memory is
+/// taken as for a table.
+#[tactic(auto, using(crate::proofs::Gathering::counting))]
+pub fn read_events<'t, 'p, 'x>(
+    alloc: Global,
+    table: &'t Table<'p>,
+    text: &'x [u8],
+) -> Result<Events<'t, 'p, 'x>, Unread>
+    requires meets { MeetsRules (table_program table.now) }
+    requires plain { HasPlainNames (table_program table.now) }
+    ensures { Gathers (λ e. e) (table_program table.entry.now) text.entry.now result }
 {
-    let mut lines = Lines::new(alloc, program, text)?;
-    let mut events = Vec::new(alloc);
+    let mut lines = Lines::new(alloc, table.program, text)?;
+    let mut count: u64 = 0;
     'lines: while let Some(next) = lines.next() {
-        let Ok(event) = next else {
-            return Err(Unread::Line {
-                line: events.len() as u64 + 1,
-            });
+        let Ok(_event) = next else {
+            return Err(Unread::Line { line: count + 1 });
         };
-        push(&mut events, event)?;
+        count += 1;
     }
-    Ok(events)
-}
-
-/// Adds an event behind the others.
-fn push(events: &mut Vec<Event>, event: Event) -> Result<(), NoMemory>
-    ensures { OnOk result (events.new.items ≡ events.old.items ++ event ∷ []) }
-{
-    events.push(event)?;
-    Ok(())
+    Ok(Events::of(table, text))
 }

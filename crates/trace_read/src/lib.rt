@@ -2,7 +2,8 @@
 //!
 //! It stands on `trace_text`, which writes the line of an event, on `name_sets` for tables of names, and on the laws of `law_trace_lines` and
 //! `law_trace_places`. `Lines::next` carries the promise: an event exactly where the bytes at hand begin with the line of one, and then the bytes
-//! behind it. A line is read by its words, and its event is written again and compared, so that no other way of writing is taken.
+//! behind it. A line is read by its words, and its event is written again and compared, so that no other way of writing is taken. `read_events`
+//! gives the events of a whole text as `Events`, that holds none of them: each is read again where it is asked for.
 //!
 //! Other crates may cite these proofs of it (`proofs/Shared`):
 //!
@@ -16,7 +17,10 @@ mod lines;
 mod numbers;
 mod split;
 mod table;
+mod told;
 mod words;
 
 pub use gather::{Unread, read_events};
 pub use lines::{Lines, NoLine, lines_go_on};
+pub use table::Table;
+pub use told::Events;

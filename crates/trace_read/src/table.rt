@@ -77,9 +77,9 @@ fn op_place(tables: &[Places<'_>], unit: usize, name: &[u8]) -> Option<usize>
     tables.get(unit)?.get_bytes(name)
 }
 
-/// A program with tables of the names of its units and of their operations.
+/// A program with tables of the names of its units and of their operations, by which lines are read.
 #[derive(Drop)]
-pub(crate) struct Table<'a> {
+pub struct Table<'a> {
     pub(crate) program: &'a AdaProgram,
     units: Places<'a>,
     ops: Vec<Places<'a>>,
@@ -89,9 +89,10 @@ pub(crate) struct Table<'a> {
 }
 
 impl<'a> Table<'a> {
+    /// The tables of a program. `NoMemory` is answered where memory lacks, and for a program of more than 4,294,967,295 units, or operations of
+    /// one unit.
     #[tactic(auto, unfolding(crate::specs::Names::op_of_name))]
-    /// The tables of a program. None is made where more than 4,294,967,295 units or operations of one unit would have to stand in them.
-    pub(crate) fn new(alloc: Global, program: &'a AdaProgram) -> Result<Table<'a>, NoMemory>
+    pub fn new(alloc: Global, program: &'a AdaProgram) -> Result<Table<'a>, NoMemory>
         ensures { IfOk result (λ t. t.program.now ≡ program.entry.now) }
     {
         let units = places_of_units(alloc, program.units.as_slice())?;

@@ -31,6 +31,16 @@ impl<'a> Words<'a> {
         }
     }
 
+    /// The same pieces once more.
+    pub(crate) fn copy(&self) -> Words<'a>
+        ensures { result ≡ self.now }
+    {
+        Words {
+            by: self.by,
+            left: self.left,
+        }
+    }
+
     /// The next piece, where one is left.
     pub(crate) fn next(&mut self) -> Option<&'a [u8]>
         ensures { MatchOption result ((self.old ≡ []) × (self.new ≡ [])) (λ w. self.old ≡ w.now ∷ self.new) }

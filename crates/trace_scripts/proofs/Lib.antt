@@ -2,7 +2,7 @@ pub mod Readings
 pub mod Asked
 pub mod Holding
 pub mod Acting
-pub mod Booking
+pub mod Looking
 pub mod Entering
 pub mod DataSteps
 pub mod Walking

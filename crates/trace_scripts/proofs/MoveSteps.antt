@@ -3,7 +3,6 @@ use Rattle.std.proofs.Common.{◌≡◌, ℕ, zero, suc, ◌+◌, ◌<◌, ◌�
 use Rattle.std.proofs.Common.{Option, Some, None, refl, sym, ap, subst, ◌∙◌, get_or, set, arith}
 use Rattle.std.specs.Prelude.{slice_get, option_map, option_and_then, find, filter_map, is_some}
 use Rattle.std.proofs.lemmas.Option.{none-some, same_Some, slice_get-map, slice_get_read}
-use Rattle.std.proofs.lemmas.List.{nil_from_length}
 use Rattle.seq_tree.specs.Lists.{change}
 use Rattle.seq_tree.specs.Names.{Name}
 use Rattle.seq_tree.specs.Statements.{Statements}
@@ -24,17 +23,16 @@ use Rattle.law_scripts.specs.Progress.{is_well}
 use Rattle.law_scripts.specs.Services as services
 use Rattle.law_scripts.specs.Services.{is_served, is_sound}
 use Rattle.trace_scripts.specs.Moving.{AreFollowing, AreOf, good_at, good_with, move_by, moved_at, threads_from, threads_with, well_by}
-use Rattle.trace_scripts.specs.Objects.{charge_of, service_of}
+use Rattle.trace_scripts.specs.Objects.{service_of}
 use Rattle.trace_scripts.specs.Scenes.{AllBlocks, AllIn}
-use Rattle.trace_scripts.specs.Serving.{service_at}
+use Rattle.trace_scripts.specs.Insides.{entries_from, entry_from}
+use Rattle.trace_scripts.specs.Serving.{charge_with, charges_by, objects_with, service_at}
 use Rattle.trace_scripts.specs.Threads.{IsOf, progress_of, step_by}
 use Rattle.trace_scripts.specs.declared.progress.Progress.{Progress}
 use Rattle.trace_scripts.specs.declared.progress.Thread.{Thread}
-use Rattle.trace_scripts.specs.declared.services.Charge.{Charge}
 use Rattle.trace_scripts.specs.declared.services.Service.{Service}
-use Rattle.trace_scripts.proofs.Booking.{read-at}
 use Rattle.trace_scripts.proofs.Finding.{found-here, found-past, passes}
-use Rattle.trace_scripts.proofs.Objecting.{change-same, each-at, state-set}
+use Rattle.trace_scripts.proofs.Objecting.{change-same, each-at, read-at, state-set}
 
 -- THE THREAD at a place
 pub record Found (p : Program) (unit : ℕ) (h : Thread) : Type 0 where
@@ -137,27 +135,24 @@ good-none p unit os e = by (guarded_at p unit) e
     by (Some g) t = absurd (cc)
 
 -- ALL EVENTS
-module _ (p : Program) (depth : ℕ) (os : List services.Service) (left rest : List machine.Event) (e : machine.Event) (l : left ≡ e ∷ rest)
-    (ways others : List Charge) (ss : List laws.Progress) (target : List laws.Progress)
-    (so-far : threads_from p depth os left (map charge_of ways) ss ≡ target) where
-  pub go-on : (c : Charge) → ways ≡ c ∷ others → (good : Bool) → good ≡ good_with p os e → (ss' : List laws.Progress)
-      → ss' ≡ threads_with p depth good e (charge_of c) ss → threads_from p depth os rest (map charge_of others) ss' ≡ target
-  unfolding threads_from
-  go-on c w good g ss' does =
-      ap (threads_from p depth os rest (map charge_of others)) (does ∙ ap (λ z. threads_with p depth z e (charge_of c) ss) g)
-      ∙ ap (λ z. threads_from p depth os (e ∷ rest) (map charge_of z) ss) (sym w)
-      ∙ ap (λ z. threads_from p depth os z (map charge_of ways) ss) (sym l) ∙ so-far
-
-  pub stops : length ways ≡ 0 → ss ≡ target
-  unfolding threads_from
-  stops n =
-      sym (ap (λ z. threads_from p depth os (e ∷ rest) (map charge_of z) ss) (nil_from_length ways n))
-      ∙ ap (λ z. threads_from p depth os z (map charge_of ways) ss) (sym l) ∙ so-far
+pub go-on : (p : Program) (depth most : ℕ) (os : List services.Service) (left rest : List machine.Event) (e : machine.Event) → left ≡ e ∷ rest
+    → (ss ss' : List services.Service) → ss' ≡ objects_with p depth e (entry_from p e rest) ss → (ts ts' target : List laws.Progress)
+    → threads_from p depth os left (charges_by p depth most left (entries_from p left) ss) ts ≡ target → (c : ℕ × ℕ)
+    → c ≡ charge_with p depth most e (entry_from p e rest) ss → (good : Bool) → good ≡ good_with p os e → ts' ≡ threads_with p depth good e c ts
+    → threads_from p depth os rest (charges_by p depth most rest (entries_from p rest) ss') ts' ≡ target
+unfolding threads_from charges_by entries_from
+go-on p depth most os left rest e l ss ss' serves ts ts' target so-far c is good g does =
+    let Rest : List services.Service → List laws.Progress → List laws.Progress =
+    λ z t. threads_from p depth os rest (charges_by p depth most rest (entries_from p rest) z) t in
+    ap (λ z. Rest z ts') serves
+    ∙ ap (Rest (objects_with p depth e (entry_from p e rest) ss))
+    (does ∙ ap (λ z. threads_with p depth z e c ts) g ∙ ap (λ z. threads_with p depth (good_with p os e) e z ts) is)
+    ∙ ap (λ z. threads_from p depth os z (charges_by p depth most z (entries_from p z) ss) ts) (sym l) ∙ so-far
 
 pub all-done : (p : Program) (depth : ℕ) (os : List services.Service) (left : List machine.Event) (cs : List (ℕ × ℕ)) (ss target : List laws.Progress)
-    → length left ≡ 0 → threads_from p depth os left cs ss ≡ target → ss ≡ target
+    → left ≡ [] → threads_from p depth os left cs ss ≡ target → ss ≡ target
 unfolding threads_from
-all-done p depth os left cs ss target n h = sym (ap (λ z. threads_from p depth os z cs ss) (nil_from_length left n)) ∙ h
+all-done p depth os left cs ss target n h = sym (ap (λ z. threads_from p depth os z cs ss) n) ∙ h
 
 -- WHETHER STEPS ARE ACTIVATIONS
 pub well-none : (p : Program) (depth unit : ℕ) (s : laws.Progress) → task_at p unit ≡ None

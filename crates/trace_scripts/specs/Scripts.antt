@@ -1,6 +1,5 @@
 -- Scripts as the code holds them, and the actions that events show.
--- A script that is read from its end holds its last action first.
-use Rattle.std.specs.Prelude.{List, [], ◌∷◌, map, fold, Option, Some, None, if◌then◌else◌}
+use Rattle.std.specs.Prelude.{map, Option, Some, None, if◌then◌else◌}
 use Rattle.seq_tree.specs.Names.{Name}
 use Rattle.seq_tree.specs.Runs as runs
 use Rattle.ada_tree.specs.Programs.{Form, Program, Passive, Shared, Cyclic, Sporadic}
@@ -14,14 +13,6 @@ use Rattle.trace_scripts.specs.declared.scripts.Script.{Script}
 -- the script that is held
 abbrev pub shown_of : Script → Shown
 shown_of s = if s.shows then Some (map trees.action_of s.actions.items) else None
-
--- the script that is held with its last action first
-abbrev pub back_of : Script → Shown
-back_of s = if s.shows then Some (fold (λ as' a. trees.action_of a ∷ as') [] s.actions.items) else None
-
--- the scripts of levels, the innermost of which stands last
-abbrev pub levels_of : List Script → List Shown
-levels_of ls = fold (λ ss s. back_of s ∷ ss) [] ls
 
 -- the action that an event shows, where it shows one
 abbrev pub action_by : Program → Event → Option runs.Action

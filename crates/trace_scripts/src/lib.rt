@@ -5,8 +5,8 @@
 #![tactic(auto)]
 
 mod actions;
-mod books;
 mod data;
+mod insides;
 mod moves;
 mod names;
 mod objects;

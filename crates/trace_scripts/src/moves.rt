@@ -1,4 +1,4 @@
-ghost use Rattle.std.specs.Prelude.{◌≡◌, ◌<◌, ℕ, IfOk, OnOk, false, length, map, slice_get};
+ghost use Rattle.std.specs.Prelude.{◌≡◌, ◌<◌, ℕ, IfOk, OnOk, false, length};
 ghost use Rattle.seq_tree.specs.Lists.{Each};
 ghost use Rattle.ada_tree.specs.Trees.{program_of};
 ghost use Rattle.trace_tree.specs.Placed.{IsPlaced, IsUnit};
@@ -6,7 +6,8 @@ ghost use Rattle.guarantee.specs.Events.{named_event};
 ghost use Rattle.law_trace_places.specs.Places.{task_at};
 ghost use Rattle.trace_scripts.specs.Objects.{charge_of, services_of};
 ghost use Rattle.trace_scripts.specs.Scenes.{IsScene, program_in, software_of};
-ghost use Rattle.trace_scripts.specs.Serving.{MayAll};
+ghost use Rattle.trace_scripts.specs.Insides.{entries_from};
+ghost use Rattle.trace_scripts.specs.Serving.{MayAll, charges_by, services_first};
 ghost use Rattle.trace_scripts.specs.Threads.{is_at_horizon, progress_of};
 ghost use Rattle.trace_scripts.specs.Moving.{AreOf, good_at, good_with, moved_at, threads_first, threads_from, threads_of, threads_with, well_by};
 
@@ -19,6 +20,7 @@ use ada_tree::{AdaProgram, Form};
 use seq_tree::NoMemory;
 use std::alloc::Global;
 use std::mem::replace;
+use trace_read::Events;
 use trace_tree::Event;
 
 /// How far each thread is, by the places of units.
@@ -160,12 +162,13 @@ impl Threads {
     }
 }
 
-/// How far threads are behind a trace, with the ticks of each event's way, and what objects are at behind it.
+/// How far threads are behind a trace, where the objects are at these states behind it. The ticks of each way through an operation are found again:
+/// `most` is the greatest number of ticks that an event says were used.
 pub(crate) fn move_all(
     scene: &Scene,
     alloc: Global,
-    events: &[Event],
-    charges: &[Charge],
+    events: &Events,
+    most: u64,
     objects: &Objects,
 ) -> Result<Threads, NoMemory>
     requires scene { IsScene scene.now }
@@ -173,20 +176,17 @@ pub(crate) fn move_all(
     requires objects { length objects.now.states.items ≡ length (program_in scene.now).units }
     ensures len { IfOk result (λ h. length h.states.items ≡ length (program_in scene.now).units) }
     ensures states { (depth : ℕ) → MayAll (program_in scene.now) depth → IfOk result (λ h. threads_of h
-        ≡ threads_from (program_in scene.now) depth (services_of objects.now) events.now (map charge_of charges.now)
-        (threads_first (program_in scene.now))) }
+        ≡ threads_from (program_in scene.now) depth (services_of objects.now) events.now
+        (charges_by (program_in scene.now) depth most events.now (entries_from (program_in scene.now) events.now)
+        (services_first (program_in scene.now))) (threads_first (program_in scene.now))) }
 {
     let mut threads = Threads::first(alloc, scene.program)?;
-    let mut left = events;
-    let mut ways = charges;
-    'events: while let Some((event, rest)) = left.split_first() {
-        let Some((charge, others)) = ways.split_first() else {
-            return Ok(threads);
-        };
-        left = rest;
-        ways = others;
-        let good = is_good_entry(scene.program, objects, event);
-        threads.note(scene, alloc, event, good, *charge)?;
+    let mut served = Objects::first(alloc, scene.program)?;
+    let mut left = events.copy();
+    'events: while let Some(event) = left.next() {
+        let charge = served.note(scene, alloc, &event, &left, most)?;
+        let good = is_good_entry(scene.program, objects, &event);
+        threads.note(scene, alloc, &event, good, charge)?;
     }
     Ok(threads)
 }

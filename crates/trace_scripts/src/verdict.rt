@@ -16,7 +16,6 @@ ghost use Rattle.trace_scripts.specs.Serving.{MayAll};
 ghost use Rattle.trace_scripts.specs.Wrongs.{judged_last, verdict_by};
 ghost use Rattle.law_traces.specs.Verdicts.{Verdict};
 
-use crate::books::entries;
 use crate::moves::{Threads, is_well, move_all};
 use crate::objects::{Objects, is_object, serve};
 use crate::progress::Progress;
@@ -25,15 +24,17 @@ use ada_tree::AdaProgram;
 use seq_tree::NoMemory;
 use std::alloc::Global;
 use std::mem::replace;
+use trace_read::Events;
 use trace_tree::Event;
 
 /// The greatest number of ticks that an event of a trace says were used.
-pub(crate) fn most_used(program: &AdaProgram, events: &[Event]) -> u64
+pub(crate) fn most_used(program: &AdaProgram, events: &Events) -> u64
     ensures { result ≡ most_used (named (program_of program.now) events.now) }
 {
     let mut most = 0;
-    'events: for event in events {
-        let used = used_in(program, event);
+    let mut left = events.copy();
+    'events: while let Some(event) = left.next() {
+        let used = used_in(program, &event);
         if most < used {
             most = used;
         }
@@ -120,22 +121,19 @@ pub enum Wrong {
 /// The first thread of a program whose activations a trace shows wrong, else the first object whose operations it does not run one by one,
 /// where there is one: threads and objects in the order of units, whose places count from 0.
 ///
-/// The ticks that an activation used are asked for only where it enters no object of the latter kind. The trace is passed three times:
-/// from its end for what is done inside each operation, then for the objects, and then for the threads.
-pub fn first_wrong(
-    alloc: Global,
-    scene: &Scene,
-    events: &[Event],
-) -> Result<Option<Wrong>, NoMemory>
+/// The ticks that an activation used are asked for only where it enters no object of the latter kind. The trace is passed three times: for the
+/// greatest number of ticks that an end tells, for the objects, and for the threads with the objects once more. Behind an entry into an operation
+/// of an object that is free the events are read ahead, up to the exit and up to the next event that passes the object. Nothing is held of an event
+/// but the action that it shows in the script of an operation that is followed, or of an activation until it ends.
+pub fn first_wrong(alloc: Global, scene: &Scene, events: &Events) -> Result<Option<Wrong>, NoMemory>
     requires scene { IsScene scene.now }
     requires placed { Each (IsPlaced (program_in scene.now)) events.now }
     ensures { (clear : IsClear (software_of scene.now)) (other : Verdict) → IfOk result (λ r. verdict_by (program_in scene.now) r other
         ≡ judged_last (software_of scene.now) clear.depth (named (program_in scene.now) events.now) other) }
 {
-    let known = entries(alloc, scene.program, events)?;
     let most = most_used(scene.program, events);
-    let (objects, charges) = serve(scene, alloc, events, known, most)?;
-    let threads = move_all(scene, alloc, events, &charges, &objects)?;
+    let objects = serve(scene, alloc, events)?;
+    let threads = move_all(scene, alloc, events, most, &objects)?;
     let astray = first_astray(scene, alloc, threads)?;
     if let Some(unit) = astray {
         return Ok(Some(Wrong::Thread(unit)));

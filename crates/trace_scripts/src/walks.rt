@@ -9,19 +9,15 @@ ghost use Rattle.trace_scripts.specs.Scenes.{IsScene, IsWalk, calls_of, software
 
 use crate::scripts::Script;
 use ada_tree::AdaProgram;
-use seq_eval::{Env, Followed, follow};
-use seq_tree::{Block, Callable, Name, NoMemory, OpText};
+use seq_eval::{Calls, Env, Followed, follow_in};
+use seq_tree::{Block, NoMemory};
 use std::alloc::Global;
 
-/// A program, and what calls in it may lead to: the passive operations, each with its owner at the same place, the protected operations and
-/// the requests.
+/// A program, and what calls in it lead to.
 #[derive(Clone, Copy, Drop)]
-pub struct Scene<'a> {
+pub struct Scene<'a, 'c> {
     pub program: &'a AdaProgram,
-    pub passive: &'a [OpText],
-    pub owners: &'a [Name],
-    pub shared: &'a [Callable],
-    pub requests: &'a [Callable],
+    pub calls: &'a Calls<'c>,
 }
 
 /// What a script is to the runs of a block, with the fewest and the most ticks of the run.
@@ -35,7 +31,7 @@ pub(crate) enum Walked {
     Astray,
 }
 
-impl Scene<'_> {
+impl Scene<'_, '_> {
     /// Follows a block along a script. Behind a run the variables are those that it leaves.
     #[tactic(auto)]
     pub(crate) fn walk(
@@ -54,17 +50,8 @@ impl Scene<'_> {
         if !script.shows {
             return Ok(Walked::Astray);
         }
-        let answer = follow(
-            alloc,
-            block,
-            &self.program.costs,
-            self.passive,
-            self.owners,
-            self.shared,
-            self.requests,
-            env,
-            &script.actions,
-        )?;
+        let costs = &self.program.costs;
+        let answer = follow_in(alloc, block, costs, self.calls, env, &script.actions)?;
         match answer {
             Followed::Done { low, high } => Ok(Walked::Ran { low, high }),
             Followed::Short => Ok(Walked::Begun),

@@ -1,0 +1,96 @@
+-- What is known of an entry into an operation from the events behind it: the script of what its thread does inside, and whether the object is
+-- passed again. Of an operation that is entered inside the script has the entry and the exit.
+use Rattle.std.specs.Prelude.{ℕ, zero, suc, ◌==◌, ◌||◌, Bool, false, List, [], ◌∷◌, ◌++◌, Option, Some, None, if◌then◌else◌}
+use Rattle.seq_tree.specs.Runs as runs
+use Rattle.ada_tree.specs.Programs.{Program}
+use Rattle.trace_tree.specs.declared.event.Event as machine
+use Rattle.trace_tree.specs.declared.event.Event.TheVariants as event
+use Rattle.guarantee.specs.Events.{named_event}
+use Rattle.law_traces.specs.Checks.{both}
+use Rattle.law_scripts.specs.Entries as entries
+use Rattle.law_scripts.specs.Entries.{Shown, no_entry}
+use Rattle.trace_scripts.specs.Scripts.{action_by, shown_of}
+use Rattle.trace_scripts.specs.declared.insides.Entry.{Entry}
+use Rattle.trace_scripts.specs.declared.insides.Part.{Part}
+use Rattle.trace_scripts.specs.declared.insides.Part.TheVariants.{Other, Plain, Opens, Closes}
+
+-- what an event is to a thread
+abbrev pub part_of : ℕ → machine.Event → Part
+part_of task (event.Release time own value) = if own == task then Plain else Other
+part_of task (event.Arrive time own value) = Other
+part_of task (event.Enter time own unit op values) = if own == task then Opens else Other
+part_of task (event.Leave time own unit op values) = if own == task then Closes else Other
+part_of task (event.Request time own target value) = if own == task then Plain else Other
+part_of task (event.Print time own value) = if own == task then Plain else Other
+part_of task (event.End time own used) = if own == task then Plain else Other
+part_of task (event.Stop time own unit priority ceiling) = if own == task then Plain else Other
+part_of task (event.Horizon time) = Other
+
+-- whether an event is the exit, where the thread is inside so many operations more
+abbrev pub is_exit : Part → ℕ → Bool
+is_exit Other depth = false
+is_exit Plain depth = false
+is_exit Opens depth = false
+is_exit Closes depth = depth == 0
+
+-- the script with an event in front, inside so many operations more, from what is shown behind it inside so many
+abbrev pub inside_by : Part → ℕ → Option runs.Action → (ℕ → Shown) → Shown
+inside_by Other depth a more = more depth
+inside_by Plain zero a more = both a (more zero)
+inside_by Plain (suc depth) a more = more (suc depth)
+inside_by Opens zero a more = both a (more 1)
+inside_by Opens (suc depth) a more = more (suc (suc depth))
+inside_by Closes zero a more = Some []
+inside_by Closes (suc zero) a more = both a (more zero)
+inside_by Closes (suc (suc depth)) a more = more (suc depth)
+
+-- the script up to the exit, where the thread is inside so many operations more
+unfoldable pub inside_from : Program → ℕ → List machine.Event → ℕ → Shown
+inside_from p task [] depth = Some []
+inside_from p task (e ∷ es) depth = inside_by (part_of task e) depth (action_by p (named_event p e)) (inside_from p task es)
+
+-- two scripts one behind the other
+abbrev pub joined : Shown → Shown → Shown
+joined None more = None
+joined (Some as') None = None
+joined (Some as') (Some bs) = Some (as' ++ bs)
+
+-- whether an event passes the object at a place, and whether one does
+abbrev pub passes : ℕ → machine.Event → Bool
+passes unit (event.Enter time task own op values) = own == unit
+passes unit (event.Leave time task own op values) = own == unit
+passes unit (event.Release time task value) = false
+passes unit (event.Arrive time task value) = false
+passes unit (event.Request time task target value) = false
+passes unit (event.Print time task value) = false
+passes unit (event.End time task used) = false
+passes unit (event.Stop time task own priority ceiling) = false
+passes unit (event.Horizon time) = false
+
+unfoldable pub passed_in : ℕ → List machine.Event → Bool
+passed_in unit [] = false
+passed_in unit (e ∷ es) = passes unit e || passed_in unit es
+
+-- what is known of an entry
+abbrev pub entry_of : Entry → entries.Entry
+entry_of e = record { script = shown_of e.script; again = e.again }
+
+-- of an entry of a task into an operation of a unit, from the events behind it
+abbrev pub known_from : Program → (task unit : ℕ) → List machine.Event → entries.Entry
+known_from p task unit es = record { script = inside_from p task es 0; again = passed_in unit es }
+
+-- of an event, and of each event of a trace
+unfoldable pub entry_from : Program → machine.Event → List machine.Event → entries.Entry
+entry_from p (event.Enter time task unit op values) es = known_from p task unit es
+entry_from p (event.Release time task value) es = no_entry
+entry_from p (event.Arrive time task value) es = no_entry
+entry_from p (event.Leave time task unit op values) es = no_entry
+entry_from p (event.Request time task target value) es = no_entry
+entry_from p (event.Print time task value) es = no_entry
+entry_from p (event.End time task used) es = no_entry
+entry_from p (event.Stop time task unit priority ceiling) es = no_entry
+entry_from p (event.Horizon time) es = no_entry
+
+unfoldable pub entries_from : Program → List machine.Event → List entries.Entry
+entries_from p [] = []
+entries_from p (e ∷ es) = entry_from p e es ∷ entries_from p es

@@ -20,8 +20,9 @@ use Rattle.law_trace_places.proofs.Shared.Units.{unit-names}
 use Rattle.law_scripts.specs.Entries as entries
 use Rattle.law_scripts.specs.Entries.{Shown, shown_at, with_action, stack_of, entry_at, entries_in}
 use Rattle.law_scripts.proofs.Shared.Stacks.{stack-by, inside-shown}
-use Rattle.trace_scripts.specs.Insides.{entries_from, entry_from, inside_by, inside_from, passed_in}
-use Rattle.trace_scripts.specs.declared.insides.Part.TheVariants.{Other, Plain, Opens, Closes}
+use Rattle.trace_read.specs.Deeds.{passed_in}
+use Rattle.trace_read.specs.declared.deeds.Part.TheVariants.{Other, Plain, Opens, Closes}
+use Rattle.trace_scripts.specs.Insides.{entries_from, entry_from, inside_by, inside_from}
 
 -- A LIST with one item changed
 pub get-changed : {A : Type 0} (i j : ℕ) (f : A → A) (xs : List A) (x : A) → slice_get xs j ≡ Some x

@@ -1,95 +1,100 @@
--- What is read ahead behind an entry, one event at a time.
-use Rattle.std.proofs.Common.{◌≡◌, ℕ, zero, suc, ◌+◌, ◌<◌, Bool, true, false, List, [], ◌∷◌, Option, Some, None, refl, sym, ap, ◌∙◌, append-nil, arith}
-use Rattle.std.specs.Prelude.{◌||◌}
-use Rattle.std.proofs.lemmas.Bool.{eqb-true}
+-- What is read ahead behind an entry, one event of its task at a time.
+use Rattle.std.proofs.Common.{◌≡◌, ℕ, zero, suc, Bool, true, false, List, [], ◌∷◌, drop, Option, Some, None, refl, sym, ap, subst, ◌∙◌, append-nil}
 use Rattle.seq_tree.specs.Runs as runs
 use Rattle.ada_tree.specs.Programs.{Program}
 use Rattle.trace_tree.specs.declared.event.Event as machine
 use Rattle.guarantee.specs.Events.{named_event}
 use Rattle.law_traces.specs.Checks.{both}
 use Rattle.law_scripts.specs.Entries.{Shown}
-use Rattle.trace_scripts.specs.Insides.{inside_by, inside_from, is_exit, joined, part_of, passed_in, passes}
+use Rattle.trace_read.specs.Deeds.{Reaches, exit_by, from_exit, from_own, own_by, part_of}
+use Rattle.trace_read.specs.declared.deeds.Part.{Part}
+use Rattle.trace_read.specs.declared.deeds.Part.TheVariants.{Other, Plain, Opens, Closes}
+use Rattle.trace_scripts.specs.Insides.{IsAt, after_if, inside_by, inside_from, joined}
 use Rattle.trace_scripts.specs.Scripts.{action_by}
-use Rattle.trace_scripts.specs.declared.insides.Part.{Part}
-use Rattle.trace_scripts.specs.declared.insides.Part.TheVariants.{Other, Plain, Opens, Closes}
 
 -- nothing in front, and nothing behind
 pub front-none : (s : Shown) → joined (Some []) s ≡ s
 front-none None = refl
 front-none (Some as') = refl
 
-back-none : (s : Shown) → joined s (Some []) ≡ s
+pub back-none : (s : Shown) → joined s (Some []) ≡ s
 back-none None = refl
 back-none (Some as') = ap (λ z. let o : Shown = Some z in o) (append-nil as')
 
-exit-shown : (part : Part) (depth : ℕ) (a : Option runs.Action) (more : ℕ → Shown) → is_exit part depth ≡ true → inside_by part depth a more ≡ Some []
-exit-shown Other depth a more h = absurd (cc)
-exit-shown Plain depth a more h = absurd (cc)
-exit-shown Opens depth a more h = absurd (cc)
-exit-shown Closes zero a more h = refl
-exit-shown Closes (suc depth) a more h = absurd (let z : suc depth ≡ 0 = eqb-true (suc depth) 0 h in omega (arith, z))
+module _ (p : Program) (task : ℕ) where
+  abbrev act : machine.Event → Option runs.Action
+  act e = action_by p (named_event p e)
 
--- one event taken, by what depth it stands at
-module _ (a : Option runs.Action) (more : ℕ → Shown) (s s' : Shown) where
-  pub plain-within : (depth depth' : ℕ) → 0 < depth → depth' ≡ depth → s' ≡ s → joined s' (more depth') ≡ joined s (inside_by Plain depth a more)
-  plain-within zero depth' h e f = absurd (omega (arith, h))
-  plain-within (suc d) depth' h e f = ap (λ z. joined s' (more z)) e ∙ ap (λ z. joined z (more (suc d))) f
-
-  pub plain-outside : (depth depth' : ℕ) → (0 < depth → ⊥) → depth' ≡ depth → ((m : Shown) → joined s' m ≡ joined s (both a m))
-      → joined s' (more depth') ≡ joined s (inside_by Plain depth a more)
-  plain-outside zero depth' h e does = ap (λ z. joined s' (more z)) e ∙ does (more 0)
-  plain-outside (suc d) depth' h e does = absurd (h (omega arith))
-
-  pub open-within : (depth depth' : ℕ) → depth' ≡ depth + 1 → 1 < depth' → s' ≡ s → joined s' (more depth') ≡ joined s (inside_by Opens depth a more)
-  open-within zero depth' e h f = absurd (omega (arith, e, h))
-  open-within (suc d) depth' e h f =
-      ap (λ z. joined s' (more z)) (let z : depth' ≡ suc d + 1 = e in let k : depth' ≡ suc (suc d) = omega (arith, z) in k)
-      ∙ ap (λ z. joined z (more (suc (suc d)))) f
-
-  pub open-outside : (depth depth' : ℕ) → depth' ≡ depth + 1 → (1 < depth' → ⊥) → ((m : Shown) → joined s' m ≡ joined s (both a m))
-      → joined s' (more depth') ≡ joined s (inside_by Opens depth a more)
-  open-outside zero depth' e h does =
-      ap (λ z. joined s' (more z)) (let z : depth' ≡ 0 + 1 = e in let k : depth' ≡ 1 = omega (arith, z) in k) ∙ does (more 1)
-  open-outside (suc d) depth' e h does = absurd (h (let z : depth' ≡ suc d + 1 = e in omega (arith, z)))
-
-pub ruleset taking = (plain-within, plain-outside, open-within, open-outside)
-
-module _ (p : Program) (task depth : ℕ) (left : List machine.Event) (s target : Shown) (h : joined s (inside_from p task left depth) ≡ target) where
-  pub inside-step : (rest : List machine.Event) (e : machine.Event) → left ≡ e ∷ rest → (part : Part) → part ≡ part_of task e → (depth' : ℕ) (s' : Shown)
-      → ((more : ℕ → Shown) → joined s' (more depth') ≡ joined s (inside_by part depth (action_by p (named_event p e)) more))
-      → joined s' (inside_from p task rest depth') ≡ target
+  -- the events of others are passed over
+  own-by : (e : machine.Event) (es : List machine.Event) (part : Part) → part_of task e ≡ part
+      → inside_from p task es 0 ≡ inside_from p task (from_own task es) 0
+      → inside_from p task (e ∷ es) 0 ≡ inside_from p task (own_by part (e ∷ es) (from_own task es)) 0
   unfolding inside_from
-  inside-step rest e l part is depth' s' does =
-      does (inside_from p task rest)
-      ∙ ap (λ z. joined s (inside_by z depth (action_by p (named_event p e)) (inside_from p task rest))) is
-      ∙ ap (λ z. joined s (inside_from p task z depth)) (sym l) ∙ h
+  own-by e es Other is more = ap (λ z. inside_by z 0 (act e) (inside_from p task es)) is ∙ more
+  own-by e es Plain is more = refl
+  own-by e es Opens is more = refl
+  own-by e es Closes is more = refl
 
-  pub inside-exit : (rest : List machine.Event) (e : machine.Event) → left ≡ e ∷ rest → (part : Part) → part ≡ part_of task e → is_exit part depth ≡ true
-      → s ≡ target
+  own-inside : (es : List machine.Event) → inside_from p task es 0 ≡ inside_from p task (from_own task es) 0
+  unfolding from_own
+  own-inside [] = refl
+  own-inside (e ∷ es) = own-by e es (part_of task e) refl (own-inside es)
+
+  -- what is shown inside one operation more is the exit from that one, and what is shown behind it
+  abbrev behind_exit : List machine.Event → Shown
+  behind_exit [] = Some []
+  behind_exit (x ∷ xs) = both (act x) (inside_from p task xs 0)
+
+  at-part : (e : machine.Event) (es : List machine.Event) → ((d : ℕ) → inside_from p task es (suc d) ≡ behind_exit (from_exit task es d))
+      → (part : Part) (d : ℕ) → inside_by part (suc d) (act e) (inside_from p task es) ≡ behind_exit (exit_by part d (e ∷ es) (from_exit task es))
+  at-part e es more Other d = more d
+  at-part e es more Plain d = more d
+  at-part e es more Opens d = more (suc d)
+  at-part e es more Closes zero = refl
+  at-part e es more Closes (suc d) = more d
+
+  exit-inside : (es : List machine.Event) (d : ℕ) → inside_from p task es (suc d) ≡ behind_exit (from_exit task es d)
+  unfolding inside_from from_exit
+  exit-inside [] d = refl
+  exit-inside (e ∷ es) d = at-part e es (exit-inside es) (part_of task e) d
+
+  -- an entry, with the exit or without
+  pub passage-left : (es : List machine.Event) (x : machine.Event) (xs : List machine.Event) → from_exit task es 0 ≡ x ∷ xs
+      → (a : Option runs.Action) (s s' s'' : Shown) → ((more : Shown) → joined s' more ≡ joined s (both a more))
+      → ((more : Shown) → joined s'' more ≡ joined s' (both (act x) more))
+      → joined s'' (inside_from p task xs 0) ≡ joined s (both a (inside_from p task es 1))
+  passage-left es x xs is a s s' s'' enters leaves =
+      leaves (inside_from p task xs 0) ∙ enters (both (act x) (inside_from p task xs 0))
+      ∙ ap (λ z. joined s (both a z)) (sym (exit-inside es 0 ∙ ap behind_exit is))
+
+  pub passage-open : (es : List machine.Event) → from_exit task es 0 ≡ [] → (a : Option runs.Action) (s s' : Shown)
+      → ((more : Shown) → joined s' more ≡ joined s (both a more)) → s' ≡ joined s (both a (inside_from p task es 1))
+  passage-open es is a s s' enters =
+      sym (back-none s') ∙ enters (Some []) ∙ ap (λ z. joined s (both a z)) (sym (exit-inside es 0 ∙ ap behind_exit is))
+
+  -- an event of the task, by what it is
+  pub by-part : (here rest : List machine.Event) (e : machine.Event) → here ≡ e ∷ rest → (part : Part) → part ≡ part_of task e
+      → inside_by part 0 (act e) (inside_from p task rest) ≡ inside_from p task here 0
   unfolding inside_from
-  inside-exit rest e l part is exit =
-      sym (back-none s)
-      ∙ ap (joined s) (sym (exit-shown part depth (action_by p (named_event p e)) (inside_from p task rest) exit))
-      ∙ ap (λ z. joined s (inside_by z depth (action_by p (named_event p e)) (inside_from p task rest))) is
-      ∙ ap (λ z. joined s (inside_from p task z depth)) (sym l) ∙ h
+  by-part here rest e at part is =
+      ap (λ z. inside_by z 0 (act e) (inside_from p task rest)) is ∙ ap (λ z. inside_from p task z 0) (sym at)
 
-  pub inside-end : left ≡ [] → s ≡ target
+  -- the next event of the task
+  pub next-reached : (es : List machine.Event) (last index : ℕ) (e : machine.Event)
+      → Reaches es (from_own task (drop (suc last) es)) last index (Some e)
+      → inside_from p task (drop index es) 0 ≡ inside_from p task (drop (suc last) es) 0
+  next-reached es last index e r = ap (λ z. inside_from p task z 0) r.0 ∙ sym (own-inside (drop (suc last) es))
+
+  pub none-reached : (es : List machine.Event) (last index : ℕ) → Reaches es (from_own task (drop (suc last) es)) last index None
+      → inside_from p task (drop (suc last) es) 0 ≡ Some []
   unfolding inside_from
-  inside-end none = sym (back-none s) ∙ ap (λ z. joined s (inside_from p task z depth)) (sym none) ∙ h
+  none-reached es last index r = own-inside (drop (suc last) es) ∙ ap (λ z. inside_from p task z 0) r.0
 
--- whether an object is passed
-module _ (unit : ℕ) (left : List machine.Event) (target : Bool) (h : passed_in unit left ≡ target) where
-  pub passed-step : (rest : List machine.Event) (e : machine.Event) → left ≡ e ∷ rest → (b : Bool) → b ≡ passes unit e → b ≡ false
-      → passed_in unit rest ≡ target
-  unfolding passed_in
-  passed-step rest e l b is same =
-      ap (λ z. z || passed_in unit rest) (sym same ∙ is) ∙ ap (passed_in unit) (sym l) ∙ h
+pub reached-at : (es these : List machine.Event) (last index : ℕ) (e : machine.Event) → Reaches es these last index (Some e) → IsAt es index e
+reached-at es these last index e r = r.0 ∙ r.1
 
-  pub passed-here : (rest : List machine.Event) (e : machine.Event) → left ≡ e ∷ rest → (b : Bool) → b ≡ passes unit e → b ≡ true → true ≡ target
-  unfolding passed_in
-  passed-here rest e l b is same =
-      ap (λ z. z || passed_in unit rest) (sym same ∙ is) ∙ ap (passed_in unit) (sym l) ∙ h
+pub more-behind : (b : Bool) (s more target : Shown) → b ≡ true → after_if b s more ≡ target → joined s more ≡ target
+more-behind b s more target is h = subst (λ z. after_if z s more ≡ target) is h
 
-  pub passed-end : left ≡ [] → false ≡ target
-  unfolding passed_in
-  passed-end none = ap (passed_in unit) (sym none) ∙ h
+pub none-behind : (b : Bool) (s more target : Shown) → b ≡ false → after_if b s more ≡ target → s ≡ target
+none-behind b s more target is h = subst (λ z. after_if z s more ≡ target) is h

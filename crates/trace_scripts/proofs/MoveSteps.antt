@@ -22,6 +22,7 @@ use Rattle.law_scripts.specs.Progress as laws
 use Rattle.law_scripts.specs.Progress.{is_well}
 use Rattle.law_scripts.specs.Services as services
 use Rattle.law_scripts.specs.Services.{is_served, is_sound}
+use Rattle.trace_read.specs.Deeds.{Reads}
 use Rattle.trace_scripts.specs.Moving.{AreFollowing, AreOf, good_at, good_with, move_by, moved_at, threads_from, threads_with, well_by}
 use Rattle.trace_scripts.specs.Objects.{service_of}
 use Rattle.trace_scripts.specs.Scenes.{AllBlocks, AllIn}
@@ -33,6 +34,7 @@ use Rattle.trace_scripts.specs.declared.progress.Thread.{Thread}
 use Rattle.trace_scripts.specs.declared.services.Service.{Service}
 use Rattle.trace_scripts.proofs.Finding.{found-here, found-past, passes}
 use Rattle.trace_scripts.proofs.Objecting.{change-same, each-at, read-at, state-set}
+use Rattle.trace_scripts.proofs.Passing.{behind-is}
 
 -- THE THREAD at a place
 pub record Found (p : Program) (unit : ℕ) (h : Thread) : Type 0 where
@@ -135,19 +137,24 @@ good-none p unit os e = by (guarded_at p unit) e
     by (Some g) t = absurd (cc)
 
 -- ALL EVENTS
-pub go-on : (p : Program) (depth most : ℕ) (os : List services.Service) (left rest : List machine.Event) (e : machine.Event) → left ≡ e ∷ rest
-    → (ss ss' : List services.Service) → ss' ≡ objects_with p depth e (entry_from p e rest) ss → (ts ts' target : List laws.Progress)
-    → threads_from p depth os left (charges_by p depth most left (entries_from p left) ss) ts ≡ target → (c : ℕ × ℕ)
-    → c ≡ charge_with p depth most e (entry_from p e rest) ss → (good : Bool) → good ≡ good_with p os e → ts' ≡ threads_with p depth good e c ts
-    → threads_from p depth os rest (charges_by p depth most rest (entries_from p rest) ss') ts' ≡ target
+pub go-on : (p : Program) (depth most : ℕ) (os : List services.Service) (es : List machine.Event) (at behind here : ℕ) (e : machine.Event)
+    → Reads es at behind (Some e) → here ≡ at
+    → (ss ss' : List services.Service) → ss' ≡ objects_with p depth e (entry_from p e (drop (suc here) es)) ss → (ts ts' target : List laws.Progress)
+    → threads_from p depth os (drop at es) (charges_by p depth most (drop at es) (entries_from p (drop at es)) ss) ts ≡ target → (c : ℕ × ℕ)
+    → c ≡ charge_with p depth most e (entry_from p e (drop (suc here) es)) ss → (good : Bool) → good ≡ good_with p os e
+    → ts' ≡ threads_with p depth good e c ts
+    → threads_from p depth os (drop behind es) (charges_by p depth most (drop behind es) (entries_from p (drop behind es)) ss') ts' ≡ target
 unfolding threads_from charges_by entries_from
-go-on p depth most os left rest e l ss ss' serves ts ts' target so-far c is good g does =
+go-on p depth most os es at behind here e r here-is ss ss' serves ts ts' target so-far c is good g does =
+    let rest : List machine.Event = drop behind es in
+    let same : drop (suc here) es ≡ rest = behind-is es at behind here e r here-is in
     let Rest : List services.Service → List laws.Progress → List laws.Progress =
     λ z t. threads_from p depth os rest (charges_by p depth most rest (entries_from p rest) z) t in
-    ap (λ z. Rest z ts') serves
+    ap (λ z. Rest z ts') (serves ∙ ap (λ z. objects_with p depth e (entry_from p e z) ss) same)
     ∙ ap (Rest (objects_with p depth e (entry_from p e rest) ss))
-    (does ∙ ap (λ z. threads_with p depth z e c ts) g ∙ ap (λ z. threads_with p depth (good_with p os e) e z ts) is)
-    ∙ ap (λ z. threads_from p depth os z (charges_by p depth most z (entries_from p z) ss) ts) (sym l) ∙ so-far
+    (does ∙ ap (λ z. threads_with p depth z e c ts) g
+    ∙ ap (λ z. threads_with p depth (good_with p os e) e z ts) (is ∙ ap (λ z. charge_with p depth most e (entry_from p e z) ss) same))
+    ∙ ap (λ z. threads_from p depth os z (charges_by p depth most z (entries_from p z) ss) ts) (sym r.0) ∙ so-far
 
 pub all-done : (p : Program) (depth : ℕ) (os : List services.Service) (left : List machine.Event) (cs : List (ℕ × ℕ)) (ss target : List laws.Progress)
     → left ≡ [] → threads_from p depth os left cs ss ≡ target → ss ≡ target

@@ -1,6 +1,6 @@
 -- What is known of an entry into an operation from the events behind it: the script of what its thread does inside, and whether the object is
 -- passed again. Of an operation that is entered inside the script has the entry and the exit.
-use Rattle.std.specs.Prelude.{ℕ, zero, suc, ◌==◌, ◌||◌, Bool, false, List, [], ◌∷◌, ◌++◌, Option, Some, None, if◌then◌else◌}
+use Rattle.std.specs.Prelude.{◌≡◌, ℕ, zero, suc, Bool, true, false, List, [], ◌∷◌, ◌++◌, drop, Option, Some, None}
 use Rattle.seq_tree.specs.Runs as runs
 use Rattle.ada_tree.specs.Programs.{Program}
 use Rattle.trace_tree.specs.declared.event.Event as machine
@@ -9,29 +9,15 @@ use Rattle.guarantee.specs.Events.{named_event}
 use Rattle.law_traces.specs.Checks.{both}
 use Rattle.law_scripts.specs.Entries as entries
 use Rattle.law_scripts.specs.Entries.{Shown, no_entry}
+use Rattle.trace_read.specs.Deeds.{part_of, passed_in}
+use Rattle.trace_read.specs.declared.deeds.Part.{Part}
+use Rattle.trace_read.specs.declared.deeds.Part.TheVariants.{Other, Plain, Opens, Closes}
 use Rattle.trace_scripts.specs.Scripts.{action_by, shown_of}
 use Rattle.trace_scripts.specs.declared.insides.Entry.{Entry}
-use Rattle.trace_scripts.specs.declared.insides.Part.{Part}
-use Rattle.trace_scripts.specs.declared.insides.Part.TheVariants.{Other, Plain, Opens, Closes}
 
--- what an event is to a thread
-abbrev pub part_of : ℕ → machine.Event → Part
-part_of task (event.Release time own value) = if own == task then Plain else Other
-part_of task (event.Arrive time own value) = Other
-part_of task (event.Enter time own unit op values) = if own == task then Opens else Other
-part_of task (event.Leave time own unit op values) = if own == task then Closes else Other
-part_of task (event.Request time own target value) = if own == task then Plain else Other
-part_of task (event.Print time own value) = if own == task then Plain else Other
-part_of task (event.End time own used) = if own == task then Plain else Other
-part_of task (event.Stop time own unit priority ceiling) = if own == task then Plain else Other
-part_of task (event.Horizon time) = Other
-
--- whether an event is the exit, where the thread is inside so many operations more
-abbrev pub is_exit : Part → ℕ → Bool
-is_exit Other depth = false
-is_exit Plain depth = false
-is_exit Opens depth = false
-is_exit Closes depth = depth == 0
+-- an event stands at an index, and the others behind it
+abbrev pub IsAt : List machine.Event → ℕ → machine.Event → Type 0
+IsAt es here e = drop here es ≡ e ∷ drop (suc here) es
 
 -- the script with an event in front, inside so many operations more, from what is shown behind it inside so many
 abbrev pub inside_by : Part → ℕ → Option runs.Action → (ℕ → Shown) → Shown
@@ -55,21 +41,10 @@ joined None more = None
 joined (Some as') None = None
 joined (Some as') (Some bs) = Some (as' ++ bs)
 
--- whether an event passes the object at a place, and whether one does
-abbrev pub passes : ℕ → machine.Event → Bool
-passes unit (event.Enter time task own op values) = own == unit
-passes unit (event.Leave time task own op values) = own == unit
-passes unit (event.Release time task value) = false
-passes unit (event.Arrive time task value) = false
-passes unit (event.Request time task target value) = false
-passes unit (event.Print time task value) = false
-passes unit (event.End time task used) = false
-passes unit (event.Stop time task own priority ceiling) = false
-passes unit (event.Horizon time) = false
-
-unfoldable pub passed_in : ℕ → List machine.Event → Bool
-passed_in unit [] = false
-passed_in unit (e ∷ es) = passes unit e || passed_in unit es
+-- a script, and what is shown behind it where more may come
+abbrev pub after_if : Bool → Shown → Shown → Shown
+after_if true s more = joined s more
+after_if false s more = s
 
 -- what is known of an entry
 abbrev pub entry_of : Entry → entries.Entry

@@ -182,11 +182,13 @@ pub(crate) fn move_all(
 {
     let mut threads = Threads::first(alloc, scene.program)?;
     let mut served = Objects::first(alloc, scene.program)?;
-    let mut left = events.copy();
-    'events: while let Some(event) = left.next() {
-        let charge = served.note(scene, alloc, &event, &left, most)?;
+    let mut at: u32 = 0;
+    let mut here: u32 = 0;
+    'events: while let Some(event) = events.next(&mut at) {
+        let charge = served.note(scene, alloc, events, here, &event, most)?;
         let good = is_good_entry(scene.program, objects, &event);
         threads.note(scene, alloc, &event, good, charge)?;
+        here = at;
     }
     Ok(threads)
 }

@@ -1,9 +1,10 @@
-ghost use Rattle.std.specs.Prelude.{◌≡◌, ◌<◌, ℕ, IfOk, OnOk, length, is_some, option_map};
+ghost use Rattle.std.specs.Prelude.{◌≡◌, ◌<◌, ℕ, suc, IfOk, OnOk, Some, drop, length, is_some, option_map};
 ghost use Rattle.seq_tree.specs.Lists.{Each};
 ghost use Rattle.ada_tree.specs.Trees.{program_of};
 ghost use Rattle.trace_tree.specs.Lines.{unit_name};
 ghost use Rattle.trace_tree.specs.Placed.{IsOp, IsPlaced, IsUnit};
-ghost use Rattle.trace_scripts.specs.Insides.{entries_from, entry_from, known_from};
+ghost use Rattle.trace_read.specs.Deeds.{first_task};
+ghost use Rattle.trace_scripts.specs.Insides.{IsAt, entries_from, entry_from, known_from};
 ghost use Rattle.trace_scripts.specs.Objects.{charge_of, object_of, services_of};
 ghost use Rattle.trace_scripts.specs.Scenes.{IsScene, program_in};
 ghost use Rattle.trace_scripts.specs.Serving.{MayAll, charge_with, charged_at, entered_at, first_by, left_at, objects_from};
@@ -76,7 +77,7 @@ impl<'a> Objects<'a> {
         Ok(Objects { states })
     }
 
-    /// Enters an operation.
+    /// Enters an operation, where the entry stands at index `here`.
     fn enter(
         &mut self,
         scene: &Scene<'a, '_>,
@@ -85,11 +86,13 @@ impl<'a> Objects<'a> {
         unit: u32,
         op: u32,
         values: &[u32],
-        rest: &Events,
+        events: &Events,
+        here: u32,
         most: u64,
     ) -> Result<Charge, NoMemory>
         requires scene { IsScene scene.now }
-        requires placed { Each (IsPlaced (program_in scene.now)) rest.now }
+        requires placed { Each (IsPlaced (program_in scene.now)) events.now }
+        requires own { first_task (drop here events.now) ≡ Some task }
         requires task { IsUnit (program_in scene.now) task }
         requires unit { IsUnit (program_in scene.now) unit }
         requires op { IsOp (program_in scene.now) unit op }
@@ -97,11 +100,13 @@ impl<'a> Objects<'a> {
         ensures len { length self.new.states.items ≡ length self.old.states.items }
         ensures states { (depth : ℕ) → MayAll (program_in scene.now) depth
             → OnOk result (services_of self.new
-            ≡ entered_at (program_in scene.now) depth task unit op values.now (known_from (program_in scene.now) task unit rest.now)
+            ≡ entered_at (program_in scene.now) depth task unit op values.now
+            (known_from (program_in scene.now) task unit (drop (suc here) events.now))
             (services_of self.old)) }
         ensures charge { (depth : ℕ) → MayAll (program_in scene.now) depth
             → IfOk result (λ c. charge_of c
-            ≡ charged_at (program_in scene.now) depth most unit op values.now (known_from (program_in scene.now) task unit rest.now)
+            ≡ charged_at (program_in scene.now) depth most unit op values.now
+            (known_from (program_in scene.now) task unit (drop (suc here) events.now))
             (services_of self.old)) }
     {
         let none = Charge { low: 0, high: most };
@@ -121,7 +126,8 @@ impl<'a> Objects<'a> {
             body,
             object.vars,
             values,
-            rest,
+            events,
+            here,
             most,
         )?;
         self.states[unit as usize] = after;
@@ -147,27 +153,31 @@ impl<'a> Objects<'a> {
         self.states[unit as usize] = before.leave(thread, &body.sig.name, values);
     }
 
-    /// Takes an event, with those behind it, and tells the ticks of the way through the operation that it enters, where it enters one.
+    /// Takes the event at index `here`, and tells the ticks of the way through the operation that it enters, where it enters one.
     #[tactic(auto, unfolding(crate::specs::Serving::objects_with, crate::specs::Serving::charge_with, crate::specs::Insides::entry_from))]
     pub fn note(
         &mut self,
         scene: &Scene<'a, '_>,
         alloc: Global,
+        events: &Events,
+        here: u32,
         event: &Event,
-        rest: &Events,
         most: u64,
     ) -> Result<Charge, NoMemory>
         requires scene { IsScene scene.now }
         requires placed { IsPlaced (program_in scene.now) event.now }
-        requires behind { Each (IsPlaced (program_in scene.now)) rest.now }
+        requires all { Each (IsPlaced (program_in scene.now)) events.now }
+        requires at { IsAt events.now here event.now }
         requires states { length self.old.states.items ≡ length (program_in scene.now).units }
         ensures len { length self.new.states.items ≡ length self.old.states.items }
         ensures states { (depth : ℕ) → MayAll (program_in scene.now) depth
             → OnOk result (services_of self.new
-            ≡ objects_with (program_in scene.now) depth event.now (entry_from (program_in scene.now) event.now rest.now) (services_of self.old)) }
+            ≡ objects_with (program_in scene.now) depth event.now (entry_from (program_in scene.now) event.now (drop (suc here) events.now))
+            (services_of self.old)) }
         ensures charge { (depth : ℕ) → MayAll (program_in scene.now) depth
             → IfOk result (λ c. charge_of c
-            ≡ charge_with (program_in scene.now) depth most event.now (entry_from (program_in scene.now) event.now rest.now) (services_of self.old)) }
+            ≡ charge_with (program_in scene.now) depth most event.now (entry_from (program_in scene.now) event.now (drop (suc here) events.now))
+            (services_of self.old)) }
     {
         match event {
             Event::Enter {
@@ -184,7 +194,8 @@ impl<'a> Objects<'a> {
                     *unit,
                     *op,
                     values.as_slice(),
-                    rest,
+                    events,
+                    here,
                     most,
                 )?;
                 Ok(charge)
@@ -223,9 +234,11 @@ pub(crate) fn serve<'a>(
         ≡ objects_from (program_in scene.now) depth events.now (entries_from (program_in scene.now) events.now) (services_first (program_in scene.now))) }
 {
     let mut objects = Objects::first(alloc, scene.program)?;
-    let mut left = events.copy();
-    'events: while let Some(event) = left.next() {
-        objects.note(scene, alloc, &event, &left, 0)?;
+    let mut at: u32 = 0;
+    let mut here: u32 = 0;
+    'events: while let Some(event) = events.next(&mut at) {
+        objects.note(scene, alloc, events, here, &event, 0)?;
+        here = at;
     }
     Ok(objects)
 }

@@ -1,4 +1,4 @@
-ghost use Rattle.std.specs.Prelude.{◌≡◌, ◌≤◌, ℕ, true, IfOk, Some};
+ghost use Rattle.std.specs.Prelude.{◌≡◌, ◌≤◌, ℕ, suc, true, IfOk, Some, drop};
 ghost use Rattle.seq_tree.specs.Lists.{Each};
 ghost use Rattle.seq_tree.specs.Names.{same_name};
 ghost use Rattle.seq_tree.specs.Trees.{block_of, operation_of};
@@ -10,6 +10,7 @@ ghost use Rattle.guarantee.specs.Software.{leads_to};
 ghost use Rattle.law_scripts.specs.Services.{charge_by, charge_in, entered_in, inside_by, is_sound, last_by, left_in};
 ghost use Rattle.law_scripts.specs.Services.{Free as FreeOne};
 ghost use Rattle.law_traces.specs.Checks.{begins_along, op_named, run_along};
+ghost use Rattle.trace_read.specs.Deeds.{first_task};
 ghost use Rattle.trace_scripts.specs.Insides.{entry_of, known_from};
 ghost use Rattle.trace_scripts.specs.Scripts.{shown_of};
 ghost use Rattle.trace_scripts.specs.Objects.{charge_of, service_of};
@@ -183,8 +184,8 @@ fn begin<'a>(
     }
 }
 
-/// Behind an entry of a task into an operation of an object at a place, with the ticks of the way through it. The events behind it are read where
-/// the object is free.
+/// Behind an entry of a task into an operation of an object at a place, with the ticks of the way through it. The entry stands at index `here`, and
+/// what its task does inside is read where the object is free.
 pub(crate) fn enter<'a>(
     scene: &Scene,
     alloc: Global,
@@ -195,26 +196,28 @@ pub(crate) fn enter<'a>(
     op: &'a OpText,
     vars: &[Datum],
     values: &[u32],
-    rest: &Events,
+    events: &Events,
+    here: u32,
     most: u64,
 ) -> Result<(Service<'a>, Charge), NoMemory>
     requires scene { IsScene scene.now }
-    requires placed { Each (IsPlaced (program_in scene.now)) rest.now }
+    requires placed { Each (IsPlaced (program_in scene.now)) events.now }
+    requires own { first_task (drop here events.now) ≡ Some task }
     requires ticks { (depth : ℕ) → most_ticks scene.now.program.now.costs (calls_of scene.now) depth (block_of op.now.block) ≤ 1000000000 }
     ensures service { (depth : ℕ) (g : Guarded) → MayRun (leads_to (software_of scene.now)) depth (block_of op.entry.now.block) → g.vars ≡ vars.now
         → op_named g op.entry.now.sig.name ≡ Some (operation_of op.entry.now)
         → IfOk result (λ r. service_of r.0
-        ≡ entered_in (software_of scene.now) depth g thread.entry.now op.entry.now.sig.name values.now (known_from (program_in scene.now) task unit rest.now)
-        (service_of state.entry)) }
+        ≡ entered_in (software_of scene.now) depth g thread.entry.now op.entry.now.sig.name values.now
+        (known_from (program_in scene.now) task unit (drop (suc here) events.now)) (service_of state.entry)) }
     ensures charge { (depth : ℕ) (g : Guarded) → MayRun (leads_to (software_of scene.now)) depth (block_of op.entry.now.block) → g.vars ≡ vars.now
         → op_named g op.entry.now.sig.name ≡ Some (operation_of op.entry.now)
         → IfOk result (λ r. charge_of r.1
-        ≡ charge_in (software_of scene.now) depth most g op.entry.now.sig.name values.now (known_from (program_in scene.now) task unit rest.now)
-        (service_of state.entry)) }
+        ≡ charge_in (software_of scene.now) depth most g op.entry.now.sig.name values.now
+        (known_from (program_in scene.now) task unit (drop (suc here) events.now)) (service_of state.entry)) }
 {
     match state {
         Service::Free(kept) => {
-            let entry = known(alloc, scene.program, task, unit, rest)?;
+            let entry = known(alloc, scene.program, task, unit, events, here)?;
             let begun = begin(scene, alloc, kept, thread, op, vars, values, &entry, most)?;
             Ok(begun)
         }

@@ -32,8 +32,8 @@ pub(crate) fn most_used(program: &AdaProgram, events: &Events) -> u64
     ensures { result ≡ most_used (named (program_of program.now) events.now) }
 {
     let mut most = 0;
-    let mut left = events.copy();
-    'events: while let Some(event) = left.next() {
+    let mut at: u32 = 0;
+    'events: while let Some(event) = events.next(&mut at) {
         let used = used_in(program, &event);
         if most < used {
             most = used;
@@ -123,8 +123,8 @@ pub enum Wrong {
 ///
 /// The ticks that an activation used are asked for only where it enters no object of the latter kind. The trace is passed three times: for the
 /// greatest number of ticks that an end tells, for the objects, and for the threads with the objects once more. Behind an entry into an operation
-/// of an object that is free the events are read ahead, up to the exit and up to the next event that passes the object. Nothing is held of an event
-/// but the action that it shows in the script of an operation that is followed, or of an activation until it ends.
+/// of an object that is free what its thread does inside is read ahead, from one of its events to the next, over each operation that it enters there.
+/// Nothing is held of an event but the action that it shows in the script of an operation that is followed, or of an activation until it ends.
 pub fn first_wrong(alloc: Global, scene: &Scene, events: &Events) -> Result<Option<Wrong>, NoMemory>
     requires scene { IsScene scene.now }
     requires placed { Each (IsPlaced (program_in scene.now)) events.now }

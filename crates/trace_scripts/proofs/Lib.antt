@@ -19,3 +19,4 @@ pub mod ThreadsNamed
 pub mod MoveSteps
 pub mod Judging
 pub mod Valuing
+mod AlongSteps

@@ -9,8 +9,8 @@ use Rattle.law_scripts.specs.Entries.{Shown}
 use Rattle.trace_read.specs.Deeds.{Reaches, exit_by, from_exit, from_own, own_by, part_of}
 use Rattle.trace_read.specs.declared.deeds.Part.{Part}
 use Rattle.trace_read.specs.declared.deeds.Part.TheVariants.{Other, Plain, Opens, Closes}
-use Rattle.trace_scripts.specs.Insides.{IsAt, after_if, inside_by, inside_from, joined}
-use Rattle.trace_scripts.specs.Scripts.{action_by}
+use Rattle.trace_scripts.specs.Insides.{after_if, inside_by, inside_from, joined}
+use Rattle.trace_scripts.specs.Scripts.{IsAt, action_by}
 
 -- nothing in front, and nothing behind
 pub front-none : (s : Shown) → joined (Some []) s ≡ s

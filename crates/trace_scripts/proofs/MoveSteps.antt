@@ -72,13 +72,13 @@ block-at p unit in' h f P all =
     subst P f.is.block (task-block P u.0.name u.0.form f.task (sym (ap (option_and_then task_in) u.1) ∙ f.at) blocks)
 
 -- ONE EVENT
-pub step-made : (p : Program) (depth : ℕ) (good : Bool) (charge : ℕ × ℕ) (e : machine.Event) (task : ℕ) (h : Thread) → (f : Found p task h)
+pub step-made : (p : Program) (es : List machine.Event) (depth : ℕ) (good : Bool) (charge : ℕ × ℕ) (e : machine.Event) (task : ℕ) (h : Thread) → (f : Found p task h)
     → (ss : List Progress) (b before after : Progress) → task < length ss → before ≡ get_or ss task before
-    → progress_of after ≡ step_by p depth f.task good charge (named_event p e) (progress_of before)
-    → map progress_of (set (set ss task b) task after) ≡ moved_at p depth good charge e task (map progress_of ss)
-step-made p depth good charge e task h f ss b before after in' is does =
-    state-set progress_of ss task b before after (step_by p depth f.task good charge (named_event p e)) in' is does
-    ∙ ap (λ o. change task (move_by p depth good charge (named_event p e) o) (map progress_of ss)) (sym f.at)
+    → progress_of p es after ≡ step_by p depth f.task good charge (named_event p e) (progress_of p es before)
+    → map (progress_of p es) (set (set ss task b) task after) ≡ moved_at p depth good charge e task (map (progress_of p es) ss)
+step-made p es depth good charge e task h f ss b before after in' is does =
+    state-set (progress_of p es) ss task b before after (step_by p depth f.task good charge (named_event p e)) in' is does
+    ∙ ap (λ o. change task (move_by p depth good charge (named_event p e) o) (map (progress_of p es) ss)) (sym f.at)
 
 pub step-none : (p : Program) (depth : ℕ) (good : Bool) (charge : ℕ × ℕ) (e : machine.Event) (task : ℕ) (ss : List laws.Progress)
     → task_at p task ≡ None → ss ≡ moved_at p depth good charge e task ss
@@ -171,26 +171,26 @@ pub well-some : (p : Program) (depth unit : ℕ) (h : Thread) (f : Found p unit 
 well-some p depth unit h f s b e = e ∙ ap (λ o. well_by (program_software p) depth o s) (sym f.at)
 
 -- OVER UNITS
-pub other-units : (ss : List Progress) (at u : ℕ) (y : Progress) → at + 1 ≤ u
-    → slice_get (map progress_of (set ss at y)) u ≡ slice_get (map progress_of ss) u
-other-units [] at u y h = refl
-other-units (s ∷ ss) at zero y h = absurd (omega (arith, h))
-other-units (s ∷ ss) zero (suc u) y h = refl
-other-units (s ∷ ss) (suc at) (suc u) y h = other-units ss at u y (let g : suc at + 1 ≤ suc u = h in omega (arith, g))
+pub other-units : (p : Program) (es : List machine.Event) (ss : List Progress) (at u : ℕ) (y : Progress) → at + 1 ≤ u
+    → slice_get (map (progress_of p es) (set ss at y)) u ≡ slice_get (map (progress_of p es) ss) u
+other-units p es [] at u y h = refl
+other-units p es (s ∷ ss) at zero y h = absurd (omega (arith, h))
+other-units p es (s ∷ ss) zero (suc u) y h = refl
+other-units p es (s ∷ ss) (suc at) (suc u) y h = other-units p es ss at u y (let g : suc at + 1 ≤ suc u = h in omega (arith, g))
 
-pub passes-thread : (p : Program) (depth at : ℕ) → IsUnit p at → (all : List laws.Progress) (ss : List Progress) (s : Progress)
+pub passes-thread : (p : Program) (es : List machine.Event) (depth at : ℕ) → IsUnit p at → (all : List laws.Progress) (ss : List Progress) (s : Progress)
     (following : Task → Bool)
-    → AreFollowing p depth all following → slice_get (map progress_of ss) at ≡ slice_get all at → at < length ss → s ≡ get_or ss at s → (b : Bool)
-    → b ≡ well_by (program_software p) depth (task_at p at) (progress_of s) → b ≡ passes following (task_at p at)
-passes-thread p depth at in' all ss s following are same h is b e = e ∙ by (task_at p at) refl
+    → AreFollowing p depth all following → slice_get (map (progress_of p es) ss) at ≡ slice_get all at → at < length ss → s ≡ get_or ss at s → (b : Bool)
+    → b ≡ well_by (program_software p) depth (task_at p at) (progress_of p es s) → b ≡ passes following (task_at p at)
+passes-thread p es depth at in' all ss s following are same h is b e = e ∙ by (task_at p at) refl
   where
-    read : slice_get all at ≡ Some (progress_of s)
-    read = sym same ∙ slice_get-map progress_of ss at ∙ ap (option_map progress_of) (slice_get_read ss (length ss) at s refl h is)
+    read : slice_get all at ≡ Some (progress_of p es s)
+    read = sym same ∙ slice_get-map (progress_of p es) ss at ∙ ap (option_map (progress_of p es)) (slice_get_read ss (length ss) at s refl h is)
 
-    by : (o : Option Task) → task_at p at ≡ o → well_by (program_software p) depth o (progress_of s) ≡ passes following o
+    by : (o : Option Task) → task_at p at ≡ o → well_by (program_software p) depth o (progress_of p es s) ≡ passes following o
     by None k = refl
     by (Some t) k =
-        same_Some (is_well (program_software p) depth t (progress_of s)) (following t)
+        same_Some (is_well (program_software p) depth t (progress_of p es s)) (following t)
         (sym (ap (option_map (is_well (program_software p) depth t)) read) ∙ are at t in' k)
 
 pub past-thread : (p : Program) (at : ℕ) → IsUnit p at → (following : Task → Bool) (target : Option Task)

@@ -5,7 +5,8 @@ use Rattle.ada_tree.specs.Programs.{Program}
 use Rattle.trace_tree.specs.declared.event.Event as machine
 use Rattle.law_scripts.specs.Services as services
 use Rattle.trace_read.specs.Deeds.{Reads, first_task, task_of}
-use Rattle.trace_scripts.specs.Insides.{IsAt, entries_from, entry_from}
+use Rattle.trace_scripts.specs.Insides.{entries_from, entry_from}
+use Rattle.trace_scripts.specs.Scripts.{IsAt}
 use Rattle.trace_scripts.specs.Serving.{objects_with, objects_from}
 
 -- AN EVENT at an index

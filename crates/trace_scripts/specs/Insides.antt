@@ -1,6 +1,6 @@
 -- What is known of an entry into an operation from the events behind it: the script of what its thread does inside, and whether the object is
 -- passed again. Of an operation that is entered inside the script has the entry and the exit.
-use Rattle.std.specs.Prelude.{◌≡◌, ℕ, zero, suc, Bool, true, false, List, [], ◌∷◌, ◌++◌, drop, Option, Some, None}
+use Rattle.std.specs.Prelude.{ℕ, zero, suc, Bool, true, false, List, [], ◌∷◌, ◌++◌, Option, Some, None}
 use Rattle.seq_tree.specs.Runs as runs
 use Rattle.ada_tree.specs.Programs.{Program}
 use Rattle.trace_tree.specs.declared.event.Event as machine
@@ -14,10 +14,6 @@ use Rattle.trace_read.specs.declared.deeds.Part.{Part}
 use Rattle.trace_read.specs.declared.deeds.Part.TheVariants.{Other, Plain, Opens, Closes}
 use Rattle.trace_scripts.specs.Scripts.{action_by, shown_of}
 use Rattle.trace_scripts.specs.declared.insides.Entry.{Entry}
-
--- an event stands at an index, and the others behind it
-abbrev pub IsAt : List machine.Event → ℕ → machine.Event → Type 0
-IsAt es here e = drop here es ≡ e ∷ drop (suc here) es
 
 -- the script with an event in front, inside so many operations more, from what is shown behind it inside so many
 abbrev pub inside_by : Part → ℕ → Option runs.Action → (ℕ → Shown) → Shown
@@ -47,8 +43,8 @@ after_if true s more = joined s more
 after_if false s more = s
 
 -- what is known of an entry
-abbrev pub entry_of : Entry → entries.Entry
-entry_of e = record { script = shown_of e.script; again = e.again }
+abbrev pub entry_of : Program → List machine.Event → Entry → entries.Entry
+entry_of p es e = record { script = shown_of p es e.script; again = e.again }
 
 -- of an entry of a task into an operation of a unit, from the events behind it
 abbrev pub known_from : Program → (task unit : ℕ) → List machine.Event → entries.Entry

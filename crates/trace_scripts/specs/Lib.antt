@@ -6,3 +6,4 @@ pub mod Serving
 pub mod Threads
 pub mod Moving
 pub mod Wrongs
+pub mod Reading

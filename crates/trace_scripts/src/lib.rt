@@ -11,6 +11,7 @@ mod moves;
 mod names;
 mod objects;
 mod progress;
+mod reading;
 mod scripts;
 mod services;
 mod verdict;

@@ -100,20 +100,22 @@ fn pass<'a>(
     thread: &'a Name,
     op: &'a OpText,
     vars: &[Datum],
+    events: &Events,
     script: &Script,
     most: u64,
 ) -> Result<(Service<'a>, Charge), NoMemory>
     requires scene { IsScene scene.now }
+    requires placed { Each (IsPlaced (program_in scene.now)) events.now }
     requires ticks { (depth : ℕ) → most_ticks scene.now.program.now.costs (calls_of scene.now) depth (block_of op.now.block) ≤ 1000000000 }
     ensures service { (depth : ℕ) (g : Guarded) → MayRun (leads_to (software_of scene.now)) depth (block_of op.entry.now.block) → g.vars ≡ vars.now
         → IfOk result (λ r. service_of r.0 ≡ inside_by g thread.entry.now op.entry.now.sig.name (operation_of op.entry.now)
-        (run_along (software_of scene.now) depth (block_of op.entry.now.block) env.slots.items (shown_of script.now))) }
+        (run_along (software_of scene.now) depth (block_of op.entry.now.block) env.slots.items (shown_of (program_in scene.now) events.now script.now))) }
     ensures charge { (depth : ℕ) → MayRun (leads_to (software_of scene.now)) depth (block_of op.entry.now.block)
         → IfOk result (λ r. charge_of r.1 ≡ charge_by most true
-        (run_along (software_of scene.now) depth (block_of op.entry.now.block) env.slots.items (shown_of script.now))) }
+        (run_along (software_of scene.now) depth (block_of op.entry.now.block) env.slots.items (shown_of (program_in scene.now) events.now script.now))) }
 {
     let none = Charge { low: 0, high: most };
-    match scene.walk(alloc, &op.block, &mut env, script)? {
+    match scene.walk(alloc, events, &op.block, &mut env, script)? {
         Walked::Ran { low, high } => {
             let gives = results(alloc, &op.sig.params, &env)?;
             let after = keep(alloc, vars, &env)?;
@@ -136,15 +138,17 @@ fn stay<'a>(
     alloc: Global,
     mut env: Env,
     op: &OpText,
+    events: &Events,
     script: &Script,
 ) -> Result<Service<'a>, NoMemory>
     requires scene { IsScene scene.now }
+    requires placed { Each (IsPlaced (program_in scene.now)) events.now }
     requires ticks { (depth : ℕ) → most_ticks scene.now.program.now.costs (calls_of scene.now) depth (block_of op.now.block) ≤ 1000000000 }
     ensures { (depth : ℕ) → MayRun (leads_to (software_of scene.now)) depth (block_of op.now.block)
         → IfOk result (λ r. service_of r ≡ last_by
-        (begins_along (software_of scene.now) depth (block_of op.now.block) env.slots.items (shown_of script.now))) }
+        (begins_along (software_of scene.now) depth (block_of op.now.block) env.slots.items (shown_of (program_in scene.now) events.now script.now))) }
 {
-    match scene.walk(alloc, &op.block, &mut env, script)? {
+    match scene.walk(alloc, events, &op.block, &mut env, script)? {
         Walked::Ran { .. } => Ok(Service::Last),
         Walked::Begun => Ok(Service::Last),
         Walked::Astray => Ok(Service::Broken),
@@ -160,27 +164,39 @@ fn begin<'a>(
     op: &'a OpText,
     vars: &[Datum],
     values: &[u32],
+    events: &Events,
     entry: &Entry,
     most: u64,
 ) -> Result<(Service<'a>, Charge), NoMemory>
     requires scene { IsScene scene.now }
+    requires placed { Each (IsPlaced (program_in scene.now)) events.now }
     requires ticks { (depth : ℕ) → most_ticks scene.now.program.now.costs (calls_of scene.now) depth (block_of op.now.block) ≤ 1000000000 }
     ensures service { (depth : ℕ) (g : Guarded) → MayRun (leads_to (software_of scene.now)) depth (block_of op.entry.now.block) → g.vars ≡ vars.now
         → op_named g op.entry.now.sig.name ≡ Some (operation_of op.entry.now)
         → IfOk result (λ r. service_of r.0
-        ≡ entered_in (software_of scene.now) depth g thread.entry.now op.entry.now.sig.name values.now (entry_of entry.now) (FreeOne kept.slots.items)) }
+        ≡ entered_in (software_of scene.now) depth g thread.entry.now op.entry.now.sig.name values.now (entry_of (program_in scene.now) events.now entry.now) (FreeOne kept.slots.items)) }
     ensures charge { (depth : ℕ) (g : Guarded) → MayRun (leads_to (software_of scene.now)) depth (block_of op.entry.now.block) → g.vars ≡ vars.now
         → op_named g op.entry.now.sig.name ≡ Some (operation_of op.entry.now)
         → IfOk result (λ r. charge_of r.1
-        ≡ charge_in (software_of scene.now) depth most g op.entry.now.sig.name values.now (entry_of entry.now) (FreeOne kept.slots.items)) }
+        ≡ charge_in (software_of scene.now) depth most g op.entry.now.sig.name values.now (entry_of (program_in scene.now) events.now entry.now) (FreeOne kept.slots.items)) }
 {
     let env = open(alloc, op, values, kept)?;
     if entry.again {
-        let passed = pass(scene, alloc, env, thread, op, vars, &entry.script, most)?;
+        let passed = pass(
+            scene,
+            alloc,
+            env,
+            thread,
+            op,
+            vars,
+            events,
+            &entry.script,
+            most,
+        )?;
         Ok(passed)
     } else {
         let none = Charge { low: 0, high: most };
-        Ok((stay(scene, alloc, env, op, &entry.script)?, none))
+        Ok((stay(scene, alloc, env, op, events, &entry.script)?, none))
     }
 }
 
@@ -217,8 +233,19 @@ pub(crate) fn enter<'a>(
 {
     match state {
         Service::Free(kept) => {
-            let entry = known(alloc, scene.program, task, unit, events, here)?;
-            let begun = begin(scene, alloc, kept, thread, op, vars, values, &entry, most)?;
+            let entry = known(alloc, task, unit, events, here)?;
+            let begun = begin(
+                scene,
+                alloc,
+                kept,
+                thread,
+                op,
+                vars,
+                values,
+                events,
+                &entry,
+                most,
+            )?;
             Ok(begun)
         }
         Service::Inside { .. } => Ok((Service::Broken, Charge { low: 0, high: most })),

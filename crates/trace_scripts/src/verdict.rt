@@ -90,18 +90,24 @@ pub(crate) fn first_broken(program: &AdaProgram, objects: &Objects) -> Option<us
 }
 
 /// The place of the first thread whose steps are no activations, where there is one.
-fn first_astray(scene: &Scene, alloc: Global, threads: Threads) -> Result<Option<usize>, NoMemory>
+fn first_astray(
+    scene: &Scene,
+    alloc: Global,
+    events: &Events,
+    threads: Threads,
+) -> Result<Option<usize>, NoMemory>
     requires scene { IsScene scene.now }
+    requires placed { Each (IsPlaced (program_in scene.now)) events.now }
     requires states { length threads.states.items ≡ length (program_in scene.now).units }
     ensures { (depth : ℕ) → MayAll (program_in scene.now) depth → (following : Task → Bool)
-        → AreFollowing (program_in scene.now) depth (threads_of threads) following → IfOk result (λ r. option_map (unit_name (program_in scene.now)) r
+        → AreFollowing (program_in scene.now) depth (threads_of (program_in scene.now) events.now threads) following → IfOk result (λ r. option_map (unit_name (program_in scene.now)) r
         ≡ option_map (λ t. t.name) (find (λ t. not (following t)) (software_of scene.now).tasks)) }
 {
     let mut threads = threads;
     let mut at = 0;
     'units: while at < scene.program.units.len() {
         let state = replace(&mut threads.states[at], Progress::Astray);
-        if !is_well(scene, alloc, at, state)? {
+        if !is_well(scene, alloc, events, at, state)? {
             return Ok(Some(at));
         }
         at += 1;
@@ -124,7 +130,8 @@ pub enum Wrong {
 /// The ticks that an activation used are asked for only where it enters no object of the latter kind. The trace is passed three times: for the
 /// greatest number of ticks that an end tells, for the objects, and for the threads with the objects once more. Behind an entry into an operation
 /// of an object that is free what its thread does inside is read ahead, from one of its events to the next, over each operation that it enters there.
-/// Nothing is held of an event but the action that it shows in the script of an operation that is followed, or of an activation until it ends.
+/// Nothing is held of an event but its index, in four bytes, in the script of an operation that is followed, or of an activation until it ends: each
+/// is read again when it is followed.
 pub fn first_wrong(alloc: Global, scene: &Scene, events: &Events) -> Result<Option<Wrong>, NoMemory>
     requires scene { IsScene scene.now }
     requires placed { Each (IsPlaced (program_in scene.now)) events.now }
@@ -134,7 +141,7 @@ pub fn first_wrong(alloc: Global, scene: &Scene, events: &Events) -> Result<Opti
     let most = most_used(scene.program, events);
     let objects = serve(scene, alloc, events)?;
     let threads = move_all(scene, alloc, events, most, &objects)?;
-    let astray = first_astray(scene, alloc, threads)?;
+    let astray = first_astray(scene, alloc, events, threads)?;
     if let Some(unit) = astray {
         return Ok(Some(Wrong::Thread(unit)));
     }

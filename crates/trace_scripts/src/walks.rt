@@ -1,17 +1,21 @@
 ghost use Rattle.std.specs.Prelude.{◌≡◌, ◌≤◌, ℕ, IfOk};
+ghost use Rattle.seq_tree.specs.Lists.{Each};
 ghost use Rattle.seq_tree.specs.Trees.{block_of};
 ghost use Rattle.law_walks.specs.Fit.{MayRun};
 ghost use Rattle.seq_eval.specs.Bounds.{most_ticks};
 ghost use Rattle.guarantee.specs.Software.{leads_to};
 ghost use Rattle.law_traces.specs.Checks.{begins_along, run_along};
+ghost use Rattle.trace_tree.specs.Placed.{IsPlaced};
 ghost use Rattle.trace_scripts.specs.Scripts.{shown_of};
-ghost use Rattle.trace_scripts.specs.Scenes.{IsScene, IsWalk, calls_of, software_of};
+ghost use Rattle.trace_scripts.specs.Scenes.{IsScene, IsWalk, calls_of, program_in, software_of};
 
+use crate::reading::Reading;
 use crate::scripts::Script;
 use ada_tree::AdaProgram;
-use seq_eval::{Calls, Env, Followed, follow_in};
+use seq_eval::{Actions, Along, Calls, Env, follow_actions};
 use seq_tree::{Block, NoMemory};
 use std::alloc::Global;
+use trace_read::Events;
 
 /// A program, and what calls in it lead to.
 #[derive(Clone, Copy, Drop)]
@@ -37,25 +41,32 @@ impl Scene<'_, '_> {
     pub(crate) fn walk(
         &self,
         alloc: Global,
+        events: &Events,
         block: &Block,
         env: &mut Env,
         script: &Script,
     ) -> Result<Walked, NoMemory>
         requires scene { IsScene self.now }
+        requires placed { Each (IsPlaced (program_in self.now)) events.now }
         requires ticks { (depth : ℕ) → most_ticks self.now.program.now.costs (calls_of self.now) depth (block_of block.now) ≤ 1000000000 }
         ensures { (depth : ℕ) → MayRun (leads_to (software_of self.now)) depth (block_of block.now)
-            → IfOk result (λ r. IsWalk (run_along (software_of self.now) depth (block_of block.now) env.old.slots.items (shown_of script.now))
-            (begins_along (software_of self.now) depth (block_of block.now) env.old.slots.items (shown_of script.now)) r env.new.slots.items) }
+            → IfOk result (λ r. IsWalk (run_along (software_of self.now) depth (block_of block.now) env.old.slots.items (shown_of (program_in self.now) events.now script.now))
+            (begins_along (software_of self.now) depth (block_of block.now) env.old.slots.items (shown_of (program_in self.now) events.now script.now)) r env.new.slots.items) }
     {
         if !script.shows {
             return Ok(Walked::Astray);
         }
         let costs = &self.program.costs;
-        let answer = follow_in(alloc, block, costs, self.calls, env, &script.actions)?;
-        match answer {
-            Followed::Done { low, high } => Ok(Walked::Ran { low, high }),
-            Followed::Short => Ok(Walked::Begun),
-            Followed::Off(_) => Ok(Walked::Astray),
+        let reading = Reading::new(self.program, events, script.lines.as_slice());
+        match follow_actions(alloc, block, costs, self.calls, env, reading)? {
+            Along::Done { low, high } => Ok(Walked::Ran { low, high }),
+            Along::Stopped(rest) => {
+                if rest.is_over() {
+                    Ok(Walked::Begun)
+                } else {
+                    Ok(Walked::Astray)
+                }
+            }
         }
     }
 }

@@ -23,12 +23,12 @@ events-preserved c = record {
   served = search rules;
   states = λ depth may. go-on (program_in c.args.scene.now) depth c.args.most (services_of c.args.objects.now) c.args.events.now c.events.at
       c.next.new.at c.events.here c.in-Some.event c.in-Some.ensures c.events.invariant.here (services_of c.events.served)
-      (services_of c.note.new.self) (c.in_ok-charge.ensures.states depth may) (threads_of c.events.threads) (threads_of c.note-in-Some.new.self) _
+      (services_of c.note.new.self) (c.in_ok-charge.ensures.states depth may) (threads_of (program_in c.args.scene.now) c.args.events.now c.events.threads) (threads_of (program_in c.args.scene.now) c.args.events.now c.note-in-Some.new.self) _
       (c.events.invariant.states depth may) (charge_of c.in_ok-charge.charge) (c.in_ok-charge.ensures.charge depth may)
       c.is_good_entry-good.result c.is_good_entry-good.ensures (c.in_ok-note.ensures.states depth may);
 }
 
 pub returns-clause-states : goal.returns-clause-states
 returns-clause-states c = λ depth may.
-    all-done (program_in c.args.scene.now) depth (services_of c.args.objects.now) _ _ (threads_of c.events.threads) _ (search rules)
+    all-done (program_in c.args.scene.now) depth (services_of c.args.objects.now) _ _ (threads_of (program_in c.args.scene.now) c.args.events.now c.events.threads) _ (search rules)
     (c.events.invariant.states depth may)

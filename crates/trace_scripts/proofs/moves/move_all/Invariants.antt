@@ -15,7 +15,7 @@ invariant-events l = record {
   states : (depth : ℕ) → MayAll (program_in l.scene) depth
       → threads_from (program_in l.scene) depth (services_of l.objects) (drop l.at l.events)
       (charges_by (program_in l.scene) depth l.most (drop l.at l.events) (entries_from (program_in l.scene) (drop l.at l.events)) (services_of l.served))
-      (threads_of l.threads)
+      (threads_of (program_in l.scene) l.events l.threads)
       ≡ threads_from (program_in l.scene) depth (services_of l.objects) l.events
       (charges_by (program_in l.scene) depth l.most l.events (entries_from (program_in l.scene) l.events) (services_first (program_in l.scene)))
       (threads_first (program_in l.scene));

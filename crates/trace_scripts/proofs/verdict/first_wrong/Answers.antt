@@ -20,7 +20,7 @@ returns-in-Some c = λ clear other.
     (c.in_ok-astray.ensures clear.depth (may-all p clear) (follows w clear.depth told)
     (threads-told p c.requires.scene.rules clear c.args.events.now c.requires.placed
     (services_of c.in_ok-objects.objects) (c.in_ok-objects.ensures.states clear.depth (may-all p clear)) c.most_used-most.result
-    c.most_used-most.ensures (threads_of c.in_ok-threads.threads) (c.in_ok-threads.ensures.states clear.depth (may-all p clear))))
+    c.most_used-most.ensures (threads_of (program_in c.args.scene.now) c.args.events.now c.in_ok-threads.threads) (c.in_ok-threads.ensures.states clear.depth (may-all p clear))))
     c.in-Some.unit c.in-Some.is
 
 pub returns-in-Some-broken : goal.returns-in-Some-broken
@@ -32,7 +32,7 @@ returns-in-Some-broken c = λ clear other.
     (c.in_ok-astray.ensures clear.depth (may-all p clear) (follows w clear.depth told)
     (threads-told p c.requires.scene.rules clear c.args.events.now c.requires.placed
     (services_of c.in_ok-objects.objects) (c.in_ok-objects.ensures.states clear.depth (may-all p clear)) c.most_used-most.result
-    c.most_used-most.ensures (threads_of c.in_ok-threads.threads) (c.in_ok-threads.ensures.states clear.depth (may-all p clear))))
+    c.most_used-most.ensures (threads_of (program_in c.args.scene.now) c.args.events.now c.in_ok-threads.threads) (c.in_ok-threads.ensures.states clear.depth (may-all p clear))))
     c.first_broken-broken.result
     (c.first_broken-broken.ensures (serves w clear.depth told)
     (objects-say p c.requires.scene.rules clear c.args.events.now c.requires.placed
@@ -48,7 +48,7 @@ returns c = λ clear other.
     (c.in_ok-astray.ensures clear.depth (may-all p clear) (follows w clear.depth told)
     (threads-told p c.requires.scene.rules clear c.args.events.now c.requires.placed
     (services_of c.in_ok-objects.objects) (c.in_ok-objects.ensures.states clear.depth (may-all p clear)) c.most_used-most.result
-    c.most_used-most.ensures (threads_of c.in_ok-threads.threads) (c.in_ok-threads.ensures.states clear.depth (may-all p clear))))
+    c.most_used-most.ensures (threads_of (program_in c.args.scene.now) c.args.events.now c.in_ok-threads.threads) (c.in_ok-threads.ensures.states clear.depth (may-all p clear))))
     c.first_broken-broken.result
     (c.first_broken-broken.ensures (serves w clear.depth told)
     (objects-say p c.requires.scene.rules clear c.args.events.now c.requires.placed

@@ -48,15 +48,16 @@ fn judge(
 /// How many lines a trace from anywhere has that the machine of a design allows under arrivals; else the first part that it breaks, of those
 /// that `Unaccepted` lists, in their order.
 ///
-/// The text is read once for its lines, times, releases, arrivals and requests, and where these are right four times more for its threads and
-/// objects. That takes time by the bytes of the trace and of the program, with names looked up in tables. Each activation is followed once, and each
-/// entry into an operation of an object that is not yet found broken twice, with the lines behind it read up to the exit. Following takes time by
-/// the bytes of the data of its unit, and by the statements that it passes (`seq_eval::follow_in`). In a trace that is accepted these are at most as
-/// many as the ticks that its ends say were used, and as the ticks of one activation more for each thread, and for operations as many again. In one
-/// that is refused each entry may pass as many as its operation can take, up to 1,000,000,000.
+/// The text is read once for its lines, times, releases, arrivals and requests, and where these are right several times more for its threads and
+/// objects. That takes time by the bytes of the trace and of the program, with names looked up in tables: a line is read for the one operation or
+/// activation that it belongs to, however deep operations are nested. Each activation is followed once, and each entry into an operation of an object
+/// that is not yet found broken twice. Following takes time by the bytes of the data of its unit, and by the statements that it passes
+/// (`seq_eval::follow_actions`). In a trace that is accepted these are at most as many as the ticks that its ends say were used, and as the ticks of
+/// one activation more for each thread, and for operations as many again. In one that is refused each entry may pass as many as its operation can
+/// take, up to 1,000,000,000.
 ///
-/// Nothing is held of a line but the action that it shows in the script of the operation that is followed, or of an activation that hasn't ended, so
-/// memory grows with the lines of the longest of these.
+/// Memory grows with the lines of the trace: 12 bytes are held for each in a table, and 4 more for each in the script of the operation that is
+/// followed or of an activation that hasn't ended. No event is held but the one that is read.
 pub fn accepts(
     alloc: Global,
     design: &Checked,

@@ -1,8 +1,9 @@
 -- What the end of the following of a block means for the answer, at any depth at which the block may be walked.
 use Rattle.std.proofs.Common.{◌≡◌, ◌++◌, take, append-nil, append_assoc, length-append, ℕ, zero, suc, ◌+◌, ◌-◌, ◌≤◌, ◌<◌, List, [], ◌∷◌, length}
 use Rattle.std.proofs.Common.{map, Result, Ok, Err, refl, sym, ap, ◌∙◌, arith, subst}
-use Rattle.std.specs.Prelude.{Vec}
+use Rattle.std.specs.Prelude.{IsErr, Vec}
 use Rattle.std.specs.declared.alloc.Global.{Global}
+use Rattle.std.proofs.lemmas.Bool.{false≢true}
 use Rattle.std.proofs.lemmas.List.{length-map}
 use Rattle.std.proofs.Math.Seq.{take-append_seam}
 use Rattle.grammar.specs.Reading.{Halt, IsFirstFault, left_of, whole_at}
@@ -10,6 +11,7 @@ use Rattle.seq_tree.specs.Names.{Name}
 use Rattle.seq_tree.specs.Statements.{Statements}
 use Rattle.seq_tree.specs.Variables.{Variables}
 use Rattle.seq_tree.specs.Runs.{Action, Callee, Path}
+use Rattle.seq_tree.specs.declared.memory.NoMemory.{NoMemory}
 use Rattle.seq_tree.specs.declared.tree.Costs.{Costs}
 use Rattle.law_walks.specs.Fit.{MayRun}
 use Rattle.law_walks.specs.Laws.{RunOf}
@@ -18,6 +20,7 @@ use Rattle.law_walks.proofs.Shared.Exact.{tells}
 use Rattle.seq_eval.specs.Ends.{IsEnd, comes_to, names_of}
 use Rattle.seq_eval.specs.Ends as ends
 use Rattle.seq_eval.specs.Following.{Answers, Means}
+use Rattle.seq_eval.specs.Scripts.{stopped_at}
 use Rattle.seq_eval.specs.declared.action.Followed.{Followed}
 use Rattle.seq_eval.specs.declared.action.Followed.TheVariants as followed
 use Rattle.seq_eval.specs.declared.along.Ended.{Ended}
@@ -40,55 +43,60 @@ same-vars (x ∷ xs) (y ∷ ys) e f =
     let one : x ≡ y = ap (λ n. (n, x.1)) (heads e) ∙ ap (λ v. (y.0, v)) (heads f) in
     ap (λ z. z ∷ xs) one ∙ ap (λ zs. y ∷ zs) (same-vars xs ys (tails e) (tails f))
 
--- there are as many values as names
-pub done-length : (names : List Name) (count low high : ℕ) (values : Vec ℕ Global) (r : Result ends.End ℕ)
-    → IsEnd names count (Done low high values) r
-    → length values.items ≡ length names
-done-length names count low high values (Ok e) h =
-    ap length h.2 ∙ length-map e.vars (λ v. v.1) ∙ sym (length-map e.vars (λ v. v.0)) ∙ ap length h.3
-done-length names count low high values (Err n) h = absurd h
+module _ {S : Type 0} (meaning : S → List Action) where
+  -- there are as many values as names
+  pub done-length : (names : List Name) (count low high : ℕ) (values : Vec ℕ Global) (r : Result ends.End ℕ)
+      → IsEnd meaning names count (Done low high values) r
+      → length values.items ≡ length names
+  done-length names count low high values (Ok e) h =
+      ap length h.2 ∙ length-map e.vars (λ v. v.1) ∙ sym (length-map e.vars (λ v. v.0)) ∙ ap length h.3
+  done-length names count low high values (Err n) h = absurd h
 
-pub stopped-within : (names : List Name) (count left : ℕ) (r : Result ends.End ℕ) → IsEnd names count (Stopped left) r → left ≤ count
-stopped-within names count left (Ok e) h = absurd h
-stopped-within names count left (Err n) h = h.1
+  pub stopped-within : (names : List Name) (count : ℕ) (rest : S) (r : Result ends.End ℕ) → IsEnd meaning names count (Stopped rest) r
+      → length (meaning rest) ≤ count
+  stopped-within names count rest (Ok e) h = absurd h
+  stopped-within names count rest (Err n) h = h.1
 
-pub answer-done : (r : Result Path Halt) (names : List Name) (n count low high : ℕ) (values : Vec ℕ Global) (before after : Variables)
-    → IsEnd names n (Done low high values) (comes_to r) → names_of after ≡ names → map (λ v. v.1) after ≡ values.items
-    → Answers r count before (followed.Done low high) after
-answer-done (Ok p) names n count low high values before after h named valued =
-    (same-vars after p.vars (named ∙ sym h.3) (valued ∙ h.2), h.0, h.1)
-answer-done (Err halt) names n count low high values before after h named valued = absurd h
+  pub answer-done : (r : Result Path Halt) (names : List Name) (n low high : ℕ) (values : Vec ℕ Global) (before after : Variables)
+      → IsEnd meaning names n (Done low high values) (comes_to r) → names_of after ≡ names → map (λ v. v.1) after ≡ values.items
+      → Answers r n before (followed.Done low high) after
+  answer-done (Ok p) names n low high values before after h named valued =
+      (same-vars after p.vars (named ∙ sym h.3) (valued ∙ h.2), h.0, h.1)
+  answer-done (Err halt) names n low high values before after h named valued = absurd h
 
-pub answer-short : (r : Result Path Halt) (names : List Name) (n count left : ℕ) (before after : Variables)
-    → IsEnd names n (Stopped left) (comes_to r)
-    → left ≡ 0 → after ≡ before → Answers r count before followed.Short after
-answer-short (Ok p) names n count left before after h none same = absurd h
-answer-short (Err halt) names n count left before after h none same = (sym h.0 ∙ none, same)
+  left-over : (k left n : ℕ) → left ≡ k → left ≤ n → (halt : Halt) → left_of halt ≡ k → (vars : Variables)
+      → Answers (Err halt) n vars (stopped_at n left) vars
+  left-over k zero n same within halt e vars = (omega (arith, e, same), refl)
+  left-over k (suc left) n same within halt e vars = (omega (arith, e, same, within), omega (arith, e, same), refl)
 
-pub answer-off : (r : Result Path Halt) (names : List Name) (n count left : ℕ) (before after : Variables) → IsEnd names n (Stopped left) (comes_to r)
-    → (left ≡ 0 → ⊥) → count ≡ n → after ≡ before → Answers r count before (followed.Off (n - left)) after
-answer-off (Ok p) names n count left before after h some same kept = absurd h
-answer-off (Err halt) names n count left before after h some same kept =
-    let e = h.0 in let within = h.1 in (omega (arith, e, within, same), let one = some-one left some in omega (arith, e, one), kept)
-  where
-    some-one : (m : ℕ) → (m ≡ 0 → ⊥) → 1 ≤ m
-    some-one zero none = absurd (none refl)
-    some-one (suc m) none = omega arith
+  pub answer-stopped : (r : Result Path Halt) (names : List Name) (n : ℕ) (rest : S) (vars : Variables)
+      → IsEnd meaning names n (Stopped rest) (comes_to r) → Answers r n vars (stopped_at n (length (meaning rest))) vars
+  answer-stopped (Ok p) names n rest vars h = absurd h
+  answer-stopped (Err halt) names n rest vars h = left-over (left_of halt) (length (meaning rest)) n h.0 h.1 halt refl vars
 
--- the end is that of the walk at any depth at which the block may be walked
-pub at-depth : (costs : Costs) (calls : Name → Name → Callee) (b : Statements) (vars : Variables) (script : List Action) (names : List Name) (n : ℕ)
-    (e : Ended) (depth : ℕ)
-    → ((d : ℕ) → most < d → IsEnd names n e (comes_to (whole_at (walk_at costs calls d b vars) script))) → MayRun calls depth b
-    → IsEnd names n e (comes_to (whole_at (walk_at costs calls depth b vars) script))
-at-depth costs calls b vars script names n e depth h may =
-    let big = deep-enough in
-    subst (IsEnd names n e) (sym (same-depths costs calls b vars script depth (depth + deepest) (omega arith) may))
-    (h (depth + deepest) (omega (arith, big)))
+  -- the end is that of the walk at any depth at which the block may be walked
+  pub at-depth : (costs : Costs) (calls : Name → Name → Callee) (b : Statements) (vars : Variables) (script : List Action) (names : List Name)
+      (n : ℕ) (e : Ended S) (depth : ℕ)
+      → ((d : ℕ) → most < d → IsEnd meaning names n e (comes_to (whole_at (walk_at costs calls d b vars) script))) → MayRun calls depth b
+      → IsEnd meaning names n e (comes_to (whole_at (walk_at costs calls depth b vars) script))
+  at-depth costs calls b vars script names n e depth h may =
+      let big = deep-enough in
+      subst (IsEnd meaning names n e) (sym (same-depths costs calls b vars script depth (depth + deepest) (omega arith) may))
+      (h (depth + deepest) (omega (arith, big)))
 
--- the end that is known
-pub known : (names : List Name) (n : ℕ) (W : ℕ → Result ends.End ℕ) (e f : Ended) → e ≡ f → ((d : ℕ) → most < d → IsEnd names n e (W d))
-    → (d : ℕ) → most < d → IsEnd names n f (W d)
-known names n W e f same h d big = subst (λ x. IsEnd names n x (W d)) same (h d big)
+  -- the end that is known
+  pub known : (names : List Name) (n : ℕ) (W : ℕ → Result ends.End ℕ) (e f : Ended S) → e ≡ f
+      → ((d : ℕ) → most < d → IsEnd meaning names n e (W d)) → (d : ℕ) → most < d → IsEnd meaning names n f (W d)
+  known names n W e f same h d big = subst (λ x. IsEnd meaning names n x (W d)) same (h d big)
+
+-- the answer that tells a place
+pub as-short : (n left : ℕ) → left ≡ 0 → stopped_at n left ≡ followed.Short
+as-short n zero none = refl
+as-short n (suc left) none = absurd (omega (arith, none))
+
+pub as-off : (n left count some : ℕ) → n ≡ count → left ≡ some → (some ≡ 0 → ⊥) → stopped_at n left ≡ followed.Off (count - some)
+as-off n zero count some e same is-some = absurd (is-some (sym same))
+as-off n (suc left) count some e same is-some = ap (λ k. followed.Off (k - suc left)) e ∙ ap (λ k. followed.Off (count - k)) same
 
 -- the answer in words of runs
 take-one : (xs : List Action) (t : Action) (more : List Action) → take (suc (length xs)) (xs ++ t ∷ more) ≡ xs ++ t ∷ []
@@ -155,3 +163,9 @@ module _ (costs : Costs) (calls : Name → Name → Callee) (b : Statements) (be
   means depth answer after may h =
       let t = tells costs calls depth b before script may in
       means-by (whole_at (walk_at costs calls depth b before) script) (length script) answer after refl t.found t.only t.fault h
+
+  -- after want of memory the variables are as before
+  pub means-failed : (answer : Result Followed NoMemory) (after : Variables) → IsErr answer → after ≡ before
+      → Means costs calls b before script answer after
+  means-failed (Ok found) after failed kept = absurd (false≢true failed)
+  means-failed (Err e) after failed kept = kept

@@ -6,6 +6,7 @@ pub mod Offering
 pub mod Meaning
 pub mod Tolls
 pub mod Naming
+pub mod NextSteps
 pub mod Depths
 pub mod Keeping
 pub mod Ending

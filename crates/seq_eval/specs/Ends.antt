@@ -4,7 +4,7 @@ use Rattle.std.specs.Prelude.{◌≡◌, ℕ, ◌≤◌, List, length, map, Resu
 use Rattle.grammar.specs.Reading.{Halt, left_of}
 use Rattle.seq_tree.specs.Names.{Name}
 use Rattle.seq_tree.specs.Variables.{Variables}
-use Rattle.seq_tree.specs.Runs.{Path}
+use Rattle.seq_tree.specs.Runs.{Action, Path}
 use Rattle.seq_eval.specs.declared.along.Ended.{Ended}
 use Rattle.seq_eval.specs.declared.along.Ended.TheVariants.{Done, Stopped}
 
@@ -23,15 +23,15 @@ comes_to (Err halt) = Err (left_of halt)
 abbrev pub names_of : Variables → List Name
 names_of vars = map (λ v. v.0) vars
 
--- how the following of a block ended, by what its walk comes to: the values of the variables, whose names stay, and the ticks; or how many
--- of the actions are left
-abbrev pub IsEnd : List Name → ℕ → Ended → Result End ℕ → Type 0
-IsEnd names count (Done low high values) (Ok e) =
+-- how the following of a block ended, where scripts have this meaning, by what its walk comes to: the values of the variables, whose names
+-- stay, and the ticks; or the actions that are left
+abbrev pub IsEnd : {S : Type 0} → (S → List Action) → List Name → ℕ → Ended S → Result End ℕ → Type 0
+IsEnd meaning names count (Done low high values) (Ok e) =
     (low ≡ e.low) × (high ≡ e.high) × (values.items ≡ map (λ v. v.1) e.vars) × (names_of e.vars ≡ names)
-IsEnd names count (Stopped left) (Err n) = (left ≡ n) × (left ≤ count)
-IsEnd names count _ _ = ⊥
+IsEnd meaning names count (Stopped rest) (Err n) = (length (meaning rest) ≡ n) × (length (meaning rest) ≤ count)
+IsEnd meaning names count _ _ = ⊥
 
 -- whether there are as many values as variables, and no more actions left than there were
-abbrev pub FitsEnd : List Name → ℕ → Ended → Type 0
-FitsEnd names count (Done low high values) = length values.items ≡ length names
-FitsEnd names count (Stopped left) = left ≤ count
+abbrev pub FitsEnd : {S : Type 0} → (S → List Action) → List Name → ℕ → Ended S → Type 0
+FitsEnd meaning names count (Done low high values) = length values.items ≡ length names
+FitsEnd meaning names count (Stopped rest) = length (meaning rest) ≤ count

@@ -2,6 +2,7 @@ pub mod Lookups
 pub mod Actions
 pub mod Following
 pub mod Bounds
+pub mod Scripts
 pub mod Scopes
 pub mod Calls
 pub mod Ends

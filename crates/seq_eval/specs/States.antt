@@ -1,7 +1,7 @@
 -- What the stack of the code stands for: a frame is something to do, and the innermost stands last in the code, first in the definitions.
 use Rattle.std.specs.Prelude.{List, [], ◌∷◌, fold, map, option_map}
+use Rattle.seq_tree.specs.Runs.{Action}
 use Rattle.seq_tree.specs.Trees.{arm_of, block_of, branches_of, expression_of, operation_of, otherwise, statement_of, statements_of}
-use Rattle.seq_eval.specs.Actions.{action_of}
 use Rattle.seq_eval.specs.Stepping.{Doing, State}
 use Rattle.seq_eval.specs.Stepping as doing
 use Rattle.seq_eval.specs.declared.walk.Frame.{Frame}
@@ -23,13 +23,13 @@ with_frame rest f = doing_of f ∷ rest
 abbrev pub doings_of : List Frame → List Doing
 doings_of frames = fold with_frame [] frames
 
--- how far the following is
-abbrev pub state_of : Walk → State
-state_of w = record {
+-- how far the following is, where a script has this meaning
+abbrev pub state_of : {S : Type 0} → (S → List Action) → Walk S → State
+state_of meaning w = record {
   doings = doings_of w.frames.items;
   leaving = w.leaving;
   vars = w.vars;
   low = w.low;
   high = w.high;
-  script = map action_of w.script.now;
+  script = meaning w.script;
 }

@@ -5,6 +5,7 @@
 //! `Env` is the plainest `Lookup`, a list of names and values. `follow` carries the second: its answer is that of the walk
 //! (`specs/Following.antt`), and in words of runs the same. It keeps what is left to do on a stack of its own, so that no chain of calls makes
 //! it recur, and looks up each call in a table, `Calls`, which `follow_in` is handed, so that it can be made once for many scripts.
+//! `follow_actions` does the same over whatever gives `Actions`, so that a script need not be held as a list.
 //!
 //! Other crates may cite these proofs of it (`proofs/Shared`):
 //!
@@ -19,14 +20,16 @@ mod lookup;
 mod operators;
 mod params;
 mod scope;
+mod script;
 mod seen;
 mod values;
 mod walk;
 
 pub use action::{Action, Followed};
-pub use along::{follow, follow_in};
+pub use along::{follow, follow_actions, follow_in};
 pub use calls::Calls;
 pub use env::Env;
 pub use lookup::Lookup;
 pub use operators::{combine, gives_boolean, invert};
+pub use script::{Actions, Along};
 pub use values::eval;

@@ -1,14 +1,11 @@
-ghost use Rattle.std.specs.Prelude.{◌≡◌, is_some, map, option_map};
+ghost use Rattle.std.specs.Prelude.{◌≡◌, is_some, option_map};
 ghost use Rattle.seq_tree.specs.Calls.{same_op};
-ghost use Rattle.seq_tree.specs.Trees.{expression_of};
-ghost use Rattle.seq_tree.specs.Values.{handed};
-ghost use Rattle.law_walks.specs.Walks.{same_value, sees_entry, sees_leave, sees_print, sees_request};
+ghost use Rattle.law_walks.specs.Walks.{same_value, sees_enter, sees_print, sees_request};
 ghost use Rattle.seq_eval.specs.Actions.{action_of};
+ghost use Rattle.seq_eval.specs.Scripts.{sees_exit};
 
 use crate::action::Action;
-use crate::params::hands;
-use crate::scope::Scope;
-use seq_tree::{Expr, Name, OpName, Param};
+use seq_tree::{Name, OpName};
 
 /// Whether these names are those of an operation.
 #[tactic(auto, using(crate::proofs::Shared::Reading::names))]
@@ -29,39 +26,29 @@ fn is_same_value(one: Option<u32>, other: Option<u32>) -> bool
     }
 }
 
-/// Whether an action enters an operation with the values of the actuals that are handed in.
-pub(crate) fn enters(
-    action: &Action,
-    object: &Name,
-    op: &Name,
-    params: &[Param],
-    actuals: &[Expr],
-    vars: &Scope,
-) -> bool
-    ensures { result ≡ is_some (sees_entry (record { object = object.now; op = op.now })
-        (handed params.now (map expression_of actuals.now) vars.now) (action_of action.now)) }
+/// The values that an action hands in where it enters an operation.
+pub(crate) fn entry_values<'a>(action: &'a Action, object: &Name, op: &Name) -> Option<&'a [u32]>
+    ensures { option_map (λ r. r.now) result ≡ sees_enter (record { object = object.now; op = op.now }) (action_of action.entry.now) }
 {
     match action {
         Action::Enter { name, values } => {
-            is_same_op(object, op, name) && hands(params, actuals, vars, values.as_slice())
+            if is_same_op(object, op, name) {
+                Some(values.as_slice())
+            } else {
+                None
+            }
         }
-        _ => false,
+        _ => None,
     }
 }
 
-/// The values that an action hands out where it leaves an operation with so many values.
-pub(crate) fn leaves<'a>(
-    action: &'a Action,
-    object: &Name,
-    op: &Name,
-    count: usize,
-) -> Option<&'a [u32]>
-    ensures { option_map (λ r. r.now) result
-        ≡ sees_leave (record { object = object.now; op = op.now }) count (action_of action.entry.now) }
+/// The values that an action hands out where it leaves an operation.
+pub(crate) fn exit_values<'a>(action: &'a Action, object: &Name, op: &Name) -> Option<&'a [u32]>
+    ensures { option_map (λ r. r.now) result ≡ sees_exit (record { object = object.now; op = op.now }) (action_of action.entry.now) }
 {
     match action {
         Action::Leave { name, values } => {
-            if is_same_op(object, op, name) && values.len() == count {
+            if is_same_op(object, op, name) {
                 Some(values.as_slice())
             } else {
                 None

@@ -7,11 +7,10 @@ ghost use Rattle.seq_eval.specs.Stepping.{HasFew, begun, branched, called, done,
 ghost use Rattle.seq_eval.specs.Stepping.{passed_over, printed, requested, spent, step, turned_on, turned_over, turning};
 ghost use Rattle.seq_eval.specs.States.{doing_of, state_of};
 
-use crate::action::Action;
 use crate::calls::{Calls, Target};
-use crate::params::{asked, handed_out, open_locals, open_params, out_count, store};
+use crate::params::{asked, handed_out, hands, open_locals, open_params, out_count, store};
 use crate::scope::Scope;
-use crate::seen::{asks, enters, leaves, prints};
+use crate::script::Actions;
 use crate::values::eval;
 use seq_tree::{Arm, Block, Costs, Expr, Name, NoMemory, OpText, Param, Stmt};
 use std::alloc::Global;
@@ -52,28 +51,28 @@ pub(crate) enum Frame<'a> {
 /// How far the following of a block is: what is left to do, the innermost last; whether a loop is being left; the variables of the body that
 /// runs; the ticks so far; and the actions that are left.
 #[derive(Drop)]
-pub(crate) struct Walk<'a> {
+pub(crate) struct Walk<'a, S> {
     pub frames: Vec<Frame<'a>>,
     pub leaving: bool,
     pub vars: Scope<'a>,
     pub low: u64,
     pub high: u64,
-    pub script: &'a [Action],
+    pub script: S,
 }
 
-impl<'a> Walk<'a> {
+impl<'a, S: Actions + Drop> Walk<'a, S> {
     /// Whether the ticks so far are not too many.
     pub fn has_few(&self) -> bool
-        ensures { IsTrue result ↔ HasFew (state_of self.now) }
+        ensures { IsTrue result ↔ HasFew (state_of S.meaning self.now) }
     {
         self.low <= MOST_TICKS && self.high <= MOST_TICKS
     }
 
     /// Adds ticks.
     fn spend(&mut self, low: u64, high: u64)
-        requires few { HasFew (state_of self.old) }
+        requires few { HasFew (state_of S.meaning self.old) }
         requires within { (low ≤ 20000000000) × (high ≤ 20000000000) }
-        ensures { state_of self.new ≡ spent low high (state_of self.old) }
+        ensures { state_of S.meaning self.new ≡ spent low high (state_of S.meaning self.old) }
     {
         self.low += low;
         self.high += high;
@@ -81,8 +80,8 @@ impl<'a> Walk<'a> {
 
     /// Begins a turn of a loop.
     fn turn(&mut self, round: Round<'a>) -> Result<(), NoMemory>
-        ensures { OnOk result (state_of self.new ≡ turning round.entry.name.now round.entry.at round.entry.last (block_of round.entry.body.now)
-            (state_of self.old)) }
+        ensures { OnOk result (state_of S.meaning self.new
+            ≡ turning round.entry.name.now round.entry.at round.entry.last (block_of round.entry.body.now) (state_of S.meaning self.old)) }
     {
         self.vars.push(round.name, round.at)?;
         self.frames.push(Frame::Turned(round))?;
@@ -92,8 +91,8 @@ impl<'a> Walk<'a> {
 
     /// Ends a turn.
     fn end_turn(&mut self, costs: &Costs)
-        requires { HasFew (state_of self.old) }
-        ensures { state_of self.new ≡ turned_over costs.now (state_of self.old) }
+        requires { HasFew (state_of S.meaning self.old) }
+        ensures { state_of S.meaning self.new ≡ turned_over costs.now (state_of S.meaning self.old) }
     {
         self.leaving = false;
         self.vars.pop();
@@ -109,7 +108,8 @@ impl<'a> Walk<'a> {
         actuals: &[Expr],
         vars: Scope<'a>,
     ) -> Result<(), NoMemory>
-        ensures { OnOk result (state_of self.new ≡ given_back (operation_of op.now) (map expression_of actuals.now) vars.entry (state_of self.old)) }
+        ensures { OnOk result (state_of S.meaning self.new
+            ≡ given_back (operation_of op.now) (map expression_of actuals.now) vars.entry (state_of S.meaning self.old)) }
     {
         let params = op.sig.params.as_slice();
         let body = replace(&mut self.vars, vars);
@@ -127,9 +127,9 @@ impl<'a> Walk<'a> {
         op: &'a OpText,
         actuals: &'a [Expr],
     ) -> Result<(), NoMemory>
-        requires { HasFew (state_of self.old) }
-        ensures { OnOk result (state_of self.new ≡ entered_op costs.now (operation_of op.entry.now) (map expression_of actuals.entry.now)
-            (state_of self.old)) }
+        requires { HasFew (state_of S.meaning self.old) }
+        ensures { OnOk result (state_of S.meaning self.new ≡ entered_op costs.now (operation_of op.entry.now) (map expression_of actuals.entry.now)
+            (state_of S.meaning self.old)) }
     {
         let mut vars = Scope::new(alloc);
         open_locals(&mut vars, op.locals.as_slice())?;
@@ -143,39 +143,39 @@ impl<'a> Walk<'a> {
     }
 
     /// Prints a value, where the next action does. Else no action is taken.
-    fn print(&mut self, costs: &Costs, value: u32) -> bool
-        requires { HasFew (state_of self.old) }
-        ensures { moved result (state_of self.new) ≡ printed costs.now value (state_of self.old) }
+    fn print(&mut self, costs: &Costs, value: u32) -> Result<bool, NoMemory>
+        requires { HasFew (state_of S.meaning self.old) }
+        ensures { IfOk result (λ on. moved on (state_of S.meaning self.new) ≡ printed costs.now value (state_of S.meaning self.old)) }
     {
-        let Some((action, rest)) = self.script.split_first() else {
-            return false;
-        };
-        if !prints(action, value) {
-            return false;
+        if !self.script.prints(value) {
+            return Ok(false);
         }
-        self.script = rest;
+        self.script.pass()?;
         let ticks = u64::from(costs.put);
         self.spend(ticks, ticks);
-        true
+        Ok(true)
     }
 
     /// Requests a task, where the next action does. Else no action is taken.
-    fn request(&mut self, costs: &Costs, object: &Name, op: &Name, actuals: &[Expr]) -> bool
-        requires { HasFew (state_of self.old) }
-        ensures { moved result (state_of self.new)
-            ≡ requested costs.now (record { object = object.now; op = op.now }) (map expression_of actuals.now) (state_of self.old) }
+    fn request(
+        &mut self,
+        costs: &Costs,
+        object: &Name,
+        op: &Name,
+        actuals: &[Expr],
+    ) -> Result<bool, NoMemory>
+        requires { HasFew (state_of S.meaning self.old) }
+        ensures { IfOk result (λ on. moved on (state_of S.meaning self.new)
+            ≡ requested costs.now (record { object = object.now; op = op.now }) (map expression_of actuals.now) (state_of S.meaning self.old)) }
     {
-        let Some((action, rest)) = self.script.split_first() else {
-            return false;
-        };
         let value = asked(actuals, &self.vars);
-        if !asks(action, object, op, value) {
-            return false;
+        if !self.script.requests(object, op, value) {
+            return Ok(false);
         }
-        self.script = rest;
+        self.script.pass()?;
         let ticks = u64::from(costs.call) + 2 * u64::from(costs.assign);
         self.spend(ticks, ticks);
-        true
+        Ok(true)
     }
 
     /// Leaves a protected operation, where the next action does, and stores the values that it hands out. Else no action is taken.
@@ -186,22 +186,22 @@ impl<'a> Walk<'a> {
         op: &Name,
         params: &[Param],
         actuals: &[Expr],
-    ) -> bool
-        requires { HasFew (state_of self.old) }
-        ensures { moved result (state_of self.new)
+    ) -> Result<bool, NoMemory>
+        requires { HasFew (state_of S.meaning self.old) }
+        ensures { IfOk result (λ on. moved on (state_of S.meaning self.new)
             ≡ left_by costs.now (record { object = object.now; op = op.now }) (length (out_names params.now))
-            (targets params.now (map expression_of actuals.now)) (state_of self.old).script (state_of self.old) }
+            (targets params.now (map expression_of actuals.now)) (state_of S.meaning self.old).script (state_of S.meaning self.old)) }
     {
-        let Some((action, rest)) = self.script.split_first() else {
-            return false;
+        let Some(results) = self.script.leaves(object, op) else {
+            return Ok(false);
         };
-        let Some(results) = leaves(action, object, op, out_count(params)) else {
-            return false;
-        };
+        if results.len() != out_count(params) {
+            return Ok(false);
+        }
         store(&mut self.vars, params, actuals, results);
-        self.script = rest;
+        self.script.pass()?;
         self.spend(u64::from(costs.call), u64::from(costs.call));
-        true
+        Ok(true)
     }
 
     /// Passes a protected operation, where the next two actions do. Else the first of them that doesn't is not taken.
@@ -212,18 +212,19 @@ impl<'a> Walk<'a> {
         op: &Name,
         params: &[Param],
         actuals: &[Expr],
-    ) -> bool
-        requires { HasFew (state_of self.old) }
-        ensures { moved result (state_of self.new)
-            ≡ passed costs.now (record { object = object.now; op = op.now }) params.now (map expression_of actuals.now) (state_of self.old) }
+    ) -> Result<bool, NoMemory>
+        requires { HasFew (state_of S.meaning self.old) }
+        ensures { IfOk result (λ on. moved on (state_of S.meaning self.new)
+            ≡ passed costs.now (record { object = object.now; op = op.now }) params.now (map expression_of actuals.now)
+            (state_of S.meaning self.old)) }
     {
-        let Some((action, rest)) = self.script.split_first() else {
-            return false;
+        let Some(values) = self.script.enters(object, op) else {
+            return Ok(false);
         };
-        if !enters(action, object, op, params, actuals, &self.vars) {
-            return false;
+        if !hands(params, actuals, &self.vars, values) {
+            return Ok(false);
         }
-        self.script = rest;
+        self.script.pass()?;
         self.leave_op(costs, object, op, params, actuals)
     }
 
@@ -237,18 +238,18 @@ impl<'a> Walk<'a> {
         op: &Name,
         actuals: &'a [Expr],
     ) -> Result<bool, NoMemory>
-        requires { HasFew (state_of self.old) }
-        ensures { IfOk result (λ on. moved on (state_of self.new)
+        requires { HasFew (state_of S.meaning self.old) }
+        ensures { IfOk result (λ on. moved on (state_of S.meaning self.new)
             ≡ called costs.now (record { object = object.now; op = op.now }) (calls_in calls.now object.now op.now)
-            (map expression_of actuals.entry.now) (state_of self.old)) }
+            (map expression_of actuals.entry.now) (state_of S.meaning self.old)) }
     {
         match calls.find(object, op) {
             Some(Target::Plain(text)) => {
                 self.enter(alloc, costs, text, actuals)?;
                 Ok(true)
             }
-            Some(Target::Protected(params)) => Ok(self.pass(costs, object, op, params, actuals)),
-            Some(Target::Asked) => Ok(self.request(costs, object, op, actuals)),
+            Some(Target::Protected(params)) => self.pass(costs, object, op, params, actuals),
+            Some(Target::Asked) => self.request(costs, object, op, actuals),
             None => Ok(false),
         }
     }
@@ -261,9 +262,9 @@ impl<'a> Walk<'a> {
         calls: &Calls<'c>,
         stmt: &'a Stmt,
     ) -> Result<bool, NoMemory>
-        requires { HasFew (state_of self.old) }
-        ensures { IfOk result (λ on. moved on (state_of self.new) ≡ begun costs.now (calls_in calls.now) (statement_of stmt.entry.now)
-            (state_of self.old)) }
+        requires { HasFew (state_of S.meaning self.old) }
+        ensures { IfOk result (λ on. moved on (state_of S.meaning self.new) ≡ begun costs.now (calls_in calls.now) (statement_of stmt.entry.now)
+            (state_of S.meaning self.old)) }
     {
         match stmt {
             Stmt::Null => {
@@ -312,7 +313,7 @@ impl<'a> Walk<'a> {
             Stmt::Work(ticks) => self.spend(1, u64::from(*ticks)),
             Stmt::Put(value) => {
                 let value = eval(value, &self.vars);
-                return Ok(self.print(costs, value));
+                return self.print(costs, value);
             }
         }
         Ok(true)
@@ -325,9 +326,10 @@ impl<'a> Walk<'a> {
         arms: &'a [Arm],
         other: &'a Option<Block>,
     ) -> Result<(), NoMemory>
-        requires { HasFew (state_of self.old) }
-        ensures { OnOk result (state_of self.new
-            ≡ branched costs.now (branches_of (map arm_of arms.entry.now) (otherwise (option_map block_of other.entry.now))) (state_of self.old)) }
+        requires { HasFew (state_of S.meaning self.old) }
+        ensures { OnOk result (state_of S.meaning self.new
+            ≡ branched costs.now (branches_of (map arm_of arms.entry.now) (otherwise (option_map block_of other.entry.now)))
+            (state_of S.meaning self.old)) }
     {
         match arms.split_first() {
             Some((arm, rest)) => {
@@ -349,9 +351,10 @@ impl<'a> Walk<'a> {
 
     /// Ends a turn, and begins the next one, where there is one.
     fn turn_on(&mut self, costs: &Costs, round: Round<'a>) -> Result<(), NoMemory>
-        requires { HasFew (state_of self.old) }
-        ensures { OnOk result (state_of self.new
-            ≡ turned_on costs.now round.entry.name.now round.entry.at round.entry.last (block_of round.entry.body.now) (state_of self.old)) }
+        requires { HasFew (state_of S.meaning self.old) }
+        ensures { OnOk result (state_of S.meaning self.new
+            ≡ turned_on costs.now round.entry.name.now round.entry.at round.entry.last (block_of round.entry.body.now)
+            (state_of S.meaning self.old)) }
     {
         self.end_turn(costs);
         if round.at < round.last {
@@ -373,8 +376,9 @@ impl<'a> Walk<'a> {
         calls: &Calls<'c>,
         frame: Frame<'a>,
     ) -> Result<bool, NoMemory>
-        requires { HasFew (state_of self.old) }
-        ensures { IfOk result (λ on. moved on (state_of self.new) ≡ done costs.now (calls_in calls.now) (doing_of frame.entry) (state_of self.old)) }
+        requires { HasFew (state_of S.meaning self.old) }
+        ensures { IfOk result (λ on. moved on (state_of S.meaning self.new)
+            ≡ done costs.now (calls_in calls.now) (doing_of frame.entry) (state_of S.meaning self.old)) }
     {
         match frame {
             Frame::Stmts(stmts) => {
@@ -393,8 +397,8 @@ impl<'a> Walk<'a> {
 
     /// Passes over what is to do, where a loop is being left: it ends at the end of its turn, or of the body of an operation.
     fn pass_over(&mut self, alloc: Global, costs: &Costs, frame: Frame<'a>) -> Result<(), NoMemory>
-        requires { HasFew (state_of self.old) }
-        ensures { OnOk result (state_of self.new ≡ passed_over costs.now (doing_of frame.entry) (state_of self.old)) }
+        requires { HasFew (state_of S.meaning self.old) }
+        ensures { OnOk result (state_of S.meaning self.new ≡ passed_over costs.now (doing_of frame.entry) (state_of S.meaning self.old)) }
     {
         match frame {
             Frame::Stmts(_) => {}
@@ -413,8 +417,9 @@ impl<'a> Walk<'a> {
         calls: &Calls<'c>,
         frame: Frame<'a>,
     ) -> Result<bool, NoMemory>
-        requires { HasFew (state_of self.old) }
-        ensures { IfOk result (λ on. moved on (state_of self.new) ≡ step costs.now (calls_in calls.now) (doing_of frame.entry) (state_of self.old)) }
+        requires { HasFew (state_of S.meaning self.old) }
+        ensures { IfOk result (λ on. moved on (state_of S.meaning self.new)
+            ≡ step costs.now (calls_in calls.now) (doing_of frame.entry) (state_of S.meaning self.old)) }
     {
         if self.leaving {
             self.pass_over(alloc, costs, frame)?;

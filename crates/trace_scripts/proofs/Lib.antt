@@ -19,4 +19,4 @@ pub mod ThreadsNamed
 pub mod MoveSteps
 pub mod Judging
 pub mod Valuing
-mod AlongSteps
+pub mod AlongSteps

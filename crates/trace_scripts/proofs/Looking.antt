@@ -85,10 +85,9 @@ module _ (p : Program) (task : ℕ) where
       → inside_from p task (drop index es) 0 ≡ inside_from p task (drop (suc last) es) 0
   next-reached es last index e r = ap (λ z. inside_from p task z 0) r.0 ∙ sym (own-inside (drop (suc last) es))
 
-  pub none-reached : (es : List machine.Event) (last index : ℕ) → Reaches es (from_own task (drop (suc last) es)) last index None
-      → inside_from p task (drop (suc last) es) 0 ≡ Some []
+  pub none-reached : (es : List machine.Event) → from_own task es ≡ [] → inside_from p task es 0 ≡ Some []
   unfolding inside_from
-  none-reached es last index r = own-inside (drop (suc last) es) ∙ ap (λ z. inside_from p task z 0) r.0
+  none-reached es none = own-inside es ∙ ap (λ z. inside_from p task z 0) none
 
 pub reached-at : (es these : List machine.Event) (last index : ℕ) (e : machine.Event) → Reaches es these last index (Some e) → IsAt es index e
 reached-at es these last index e r = r.0 ∙ r.1

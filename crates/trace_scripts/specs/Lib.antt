@@ -6,4 +6,3 @@ pub mod Serving
 pub mod Threads
 pub mod Moving
 pub mod Wrongs
-pub mod Reading

@@ -3,6 +3,8 @@ use Rattle.std.specs.Prelude.{◌≡◌, ℕ, suc, true, List, [], ◌∷◌, dr
 use Rattle.std.specs.List.{cons_option}
 use Rattle.seq_tree.specs.Names.{Name}
 use Rattle.seq_tree.specs.Runs as runs
+use Rattle.seq_tree.specs.Lists.{Each}
+use Rattle.ada_tree.specs.Rules.{MeetsRules}
 use Rattle.ada_tree.specs.Programs.{Form, Program, Passive, Shared, Cyclic, Sporadic}
 use Rattle.guarantee.specs.Software.{program_software}
 use Rattle.guarantee.specs.Events.{Event, By, Horizon, named_event}
@@ -43,6 +45,12 @@ shown_of p es s = if s.shows then Some (actions_at p es s.lines.items) else None
 abbrev pub IsNext : Program → Option machine.Event → Type 0
 IsNext p None = ⊤
 IsNext p (Some e) = IsPlaced p e × (is_some (action_by p (named_event p e)) ≡ true)
+
+-- what is so of a script that is read along
+pub record IsReading (p : Program) (es : List machine.Event) (next : Option machine.Event) : Type 0 where
+  pub rules : MeetsRules p
+  pub placed : Each (IsPlaced p) es
+  pub ahead : IsNext p next
 
 -- the actions that are left: that of the event that was read, and those at these indices
 abbrev pub left_of : Program → List machine.Event → Option machine.Event → List ℕ → List runs.Action

@@ -26,6 +26,19 @@ course_of p es c = record {
   high = c.high;
 }
 
+-- its times and ticks alone
+abbrev pub times_of : Course → laws.Course
+times_of c = record {
+  time = c.time;
+  value = c.value;
+  depth = c.depth;
+  shown = None;
+  end = c.end;
+  among = c.among;
+  low = c.low;
+  high = c.high;
+}
+
 -- a thread's task
 pub record IsOf (t : Task) (h : Thread) : Type 0 where
   pub params : params_of t.timing ≡ h.params.now

@@ -11,6 +11,7 @@ ghost use Rattle.trace_tree.specs.Placed.{IsOp, IsPlaced, IsUnit};
 ghost use Rattle.trace_scripts.specs.Scripts.{action_by, asked_name};
 
 use crate::names::{op_name, unit_at};
+use crate::services::is_same;
 use ada_tree::{AdaProgram, Form, Unit};
 use seq_tree::Name;
 use trace_tree::Event;
@@ -40,13 +41,16 @@ fn asked_op(unit: &Unit) -> &Name
 }
 
 /// Whether these names are those of the operation at a place.
+#[tactic(auto, using(crate::proofs::Readings::read_steps))]
 fn is_op(program: &AdaProgram, unit: u32, op: u32, object: &Name, name: &Name) -> bool
     requires unit { IsUnit (program_of program.now) unit }
     requires op { IsOp (program_of program.now) unit op }
     ensures { result ≡ same_op (record { object = object.now; op = name.now }) (op_at (program_of program.now) unit op) }
 {
     let owner = unit_at(program, unit);
-    object.same(&owner.name) && name.same(op_name(&owner.form, op))
+    let is_object = is_same(object, &owner.name);
+    let is_name = is_same(name, op_name(&owner.form, op));
+    is_object && is_name
 }
 
 /// Whether two values are there and the same, or neither is there.
@@ -146,7 +150,10 @@ pub(crate) fn asks(
     match event {
         Event::Request { target, value, .. } => {
             let unit = unit_at(program, *target);
-            object.same(&unit.name) && op.same(asked_op(unit)) && is_same_value(asked, *value)
+            let is_object = is_same(object, &unit.name);
+            let is_name = is_same(op, asked_op(unit));
+            let is_value = is_same_value(asked, *value);
+            is_object && is_name && is_value
         }
         Event::Release { .. }
         | Event::Arrive { .. }

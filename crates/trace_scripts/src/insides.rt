@@ -28,7 +28,8 @@ fn add(here: u32, event: &Event, script: &mut Script) -> Result<(), NoMemory>
     ensures { (p : Program) (es : List machine.Event) → IsAt es here event.now → (more : Shown) → OnOk result (joined (shown_of p es script.new) more
         ≡ joined (shown_of p es script.old) (both (action_by p (named_event p event.now)) more)) }
 {
-    script.add(here, shows(event))
+    script.add(here, shows(event))?;
+    Ok(())
 }
 
 /// Adds an entry into another operation, at index `last`, and the exit from that one, where there is one; `last` is then the index of the exit.
@@ -79,7 +80,10 @@ fn take(
             add(*last, event, script)?;
             Ok(true)
         }
-        Part::Opens => add_passage(task, events, last, event, script),
+        Part::Opens => {
+            let more = add_passage(task, events, last, event, script)?;
+            Ok(more)
+        }
         Part::Closes => Ok(false),
     }
 }

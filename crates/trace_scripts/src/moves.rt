@@ -1,7 +1,6 @@
-ghost use Rattle.std.specs.Prelude.{◌≡◌, ◌<◌, ℕ, IfOk, List, OnOk, false, length};
+ghost use Rattle.std.specs.Prelude.{◌≡◌, ◌<◌, ℕ, IfOk, OnOk, false, length};
 ghost use Rattle.seq_tree.specs.Lists.{Each};
 ghost use Rattle.ada_tree.specs.Trees.{program_of};
-ghost use Rattle.trace_tree.specs.declared.event.Event as machine;
 ghost use Rattle.trace_tree.specs.Placed.{IsPlaced, IsUnit};
 ghost use Rattle.guarantee.specs.Events.{named_event};
 ghost use Rattle.law_trace_places.specs.Places.{task_at};
@@ -91,8 +90,12 @@ fn is_good_entry(program: &AdaProgram, objects: &Objects, event: &Event) -> bool
 
 impl Threads {
     /// At first: every thread at its written data.
-    pub fn first(alloc: Global, program: &AdaProgram) -> Result<Threads, NoMemory>
-        ensures { (es : List machine.Event) → IfOk result (λ h. threads_of (program_of program.now) es h ≡ threads_first (program_of program.now)) }
+    pub fn first(
+        alloc: Global,
+        program: &AdaProgram,
+        _events: &Events,
+    ) -> Result<Threads, NoMemory>
+        ensures { IfOk result (λ h. threads_of (program_of program.now) _events.now h ≡ threads_first (program_of program.now)) }
     {
         let mut states = Vec::new(alloc);
         'units: for unit in &program.units {
@@ -193,7 +196,7 @@ pub(crate) fn move_all(
         (charges_by (program_in scene.now) depth most events.now (entries_from (program_in scene.now) events.now)
         (services_first (program_in scene.now))) (threads_first (program_in scene.now))) }
 {
-    let mut threads = Threads::first(alloc, scene.program)?;
+    let mut threads = Threads::first(alloc, scene.program, events)?;
     let mut served = Objects::first(alloc, scene.program)?;
     let mut at: u32 = 0;
     let mut here: u32 = 0;

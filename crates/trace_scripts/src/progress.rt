@@ -15,7 +15,7 @@ ghost use Rattle.trace_scripts.specs.Objects.{charge_of};
 ghost use Rattle.trace_scripts.specs.Scripts.{IsAt, action_at};
 ghost use Rattle.trace_scripts.specs.Scenes.{IsScene, calls_of, program_in, software_of};
 ghost use Rattle.trace_scripts.specs.Threads.{IsOf, after_event, charged_by, course_of, entered_if, finished_if, is_at_horizon, left_if};
-ghost use Rattle.trace_scripts.specs.Threads.{progress_of, released_in, seen_if, step_by};
+ghost use Rattle.trace_scripts.specs.Threads.{progress_of, released_in, seen_if, step_by, times_of};
 
 use crate::data::{add_all, add_params, keep};
 use crate::scripts::Script;
@@ -143,7 +143,7 @@ fn is_charged(
     at: u64,
     used: u64,
 ) -> Result<bool, NoMemory>
-    ensures { (p : Program) (es : List machine.Event) → IfOk result (λ b. b ≡ charged_by finish (course_of p es course.now) low high at used) }
+    ensures { IfOk result (λ b. b ≡ charged_by finish (times_of course.now) low high at used) }
 {
     if plus(u128::from(course.time), used)? > u128::from(at) {
         return Ok(false);
@@ -282,19 +282,17 @@ impl Course {
             → OnOk result (course_of p es self.new ≡ after_event p good (charge_of charge) (named_event p event.now) (course_of p es self.old)) }
     {
         match event {
-            Event::Enter { .. } => self.enter(here, good, charge),
-            Event::Leave { .. } => self.leave(here),
-            Event::End { time, used, .. } => {
-                self.end(self.depth == 0, *time, *used);
-                Ok(())
-            }
-            Event::Release { .. } => self.see(self.depth == 0, here, false),
-            Event::Arrive { .. } => self.see(self.depth == 0, here, false),
-            Event::Request { .. } => self.see(self.depth == 0, here, true),
-            Event::Print { .. } => self.see(self.depth == 0, here, true),
-            Event::Stop { .. } => self.see(self.depth == 0, here, false),
-            Event::Horizon { .. } => Ok(()),
+            Event::Enter { .. } => self.enter(here, good, charge)?,
+            Event::Leave { .. } => self.leave(here)?,
+            Event::End { time, used, .. } => self.end(self.depth == 0, *time, *used),
+            Event::Release { .. } => self.see(self.depth == 0, here, false)?,
+            Event::Arrive { .. } => self.see(self.depth == 0, here, false)?,
+            Event::Request { .. } => self.see(self.depth == 0, here, true)?,
+            Event::Print { .. } => self.see(self.depth == 0, here, true)?,
+            Event::Stop { .. } => self.see(self.depth == 0, here, false)?,
+            Event::Horizon { .. } => {}
         }
+        Ok(())
     }
 }
 

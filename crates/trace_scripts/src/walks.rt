@@ -58,7 +58,8 @@ impl Scene<'_, '_> {
         }
         let costs = &self.program.costs;
         let reading = Reading::new(self.program, events, script.lines.as_slice());
-        match follow_actions(alloc, block, costs, self.calls, env, reading)? {
+        let answer = follow_actions(alloc, block, costs, self.calls, env, reading)?;
+        match answer {
             Along::Done { low, high } => Ok(Walked::Ran { low, high }),
             Along::Stopped(rest) => {
                 if rest.is_over() {

@@ -1,30 +1,27 @@
-use Rattle.std.proofs.Common.{rules}
-use Rattle.ada_tree.specs.Trees.{program_of}
-use Rattle.trace_tree.specs.Placed.{IsPlaced}
+use Rattle.std.proofs.Common.{ap, drop, rules, suc, sym, ◌∙◌}
+use Rattle.trace_scripts.specs.Insides.{joined}
 use Rattle.trace_scripts.specs.Scripts.{shown_of}
-use Rattle.trace_scripts.proofs.Looking.{inside-end, inside-exit, inside-step}
-use Rattle.trace_scripts.proofs.Passing.{each-first, each-rest}
+use Rattle.trace_scripts.proofs.Looking.{back-none, more-behind, next-reached, none-behind, none-reached}
 use Rattle.trace_scripts.proofs.insides.script_inside.Goals as goal
 
-pub take-requires-clause-placed : goal.take-requires-clause-placed
-take-requires-clause-placed c =
-    each-first (IsPlaced (program_of c.args.program.now)) c.events.events c.next.new.self c.in-Some.event c.in-Some.ensures c.events.invariant.placed
+pub returns-then-not-branch : goal.returns-then-not-branch
+returns-then-not-branch c = λ p.
+    none-behind c.in_ok-take.field-0 _ _ _ (search rules) (c.in_ok-take.ensures.shown p)
+    ∙ ap (joined (shown_of p c.args.events.now c.deeds.script))
+    (next-reached p c.args.task c.args.events.now c.deeds.last c.next_of.new.last c.in-Some.event c.in-Some.ensures.reached)
+    ∙ c.deeds.invariant.shown p
 
-pub events-preserved : goal.events-preserved
-events-preserved c = record {
-  placed = each-rest (IsPlaced (program_of c.args.program.now)) c.events.events c.next.new.self c.in-Some.event c.in-Some.ensures
-      c.events.invariant.placed;
-  shown = inside-step (program_of c.args.program.now) c.args.task c.events.inside.depth c.events.events (shown_of c.events.inside.script) _
-      c.events.invariant.shown c.next.new.self c.in-Some.event c.in-Some.ensures c.part_of-part.result c.part_of-part.ensures c.take.new.self.depth
-      (shown_of c.take.new.self.script) c.in_ok-take.ensures;
+pub deeds-preserved : goal.deeds-preserved
+deeds-preserved c = record {
+  own = c.take.ensures.own;
+  shown = λ p. more-behind c.in_ok-take.field-0 _ _ _ (search rules) (c.in_ok-take.ensures.shown p)
+      ∙ ap (joined (shown_of p c.args.events.now c.deeds.script))
+      (next-reached p c.args.task c.args.events.now c.deeds.last c.next_of.new.last c.in-Some.event c.in-Some.ensures.reached)
+      ∙ c.deeds.invariant.shown p;
 }
 
-pub returns-then-is_exit : goal.returns-then-is_exit
-returns-then-is_exit c =
-    inside-exit (program_of c.args.program.now) c.args.task c.events.inside.depth c.events.events (shown_of c.events.inside.script) _
-    c.events.invariant.shown c.next.new.self c.in-Some.event c.in-Some.ensures c.part_of-part.result c.part_of-part.ensures (search rules)
-
 pub returns : goal.returns
-returns c =
-    inside-end (program_of c.args.program.now) c.args.task c.events.inside.depth c.events.events (shown_of c.events.inside.script) _
-    c.events.invariant.shown (search rules)
+returns c = λ p.
+    sym (back-none (shown_of p c.args.events.now c.deeds.script))
+    ∙ ap (joined (shown_of p c.args.events.now c.deeds.script))
+    (sym (none-reached p c.args.task (drop (suc c.deeds.last) c.args.events.now) (search rules))) ∙ c.deeds.invariant.shown p

@@ -1,5 +1,5 @@
 use Rattle.std.proofs.Common.{rules, sym, ◌∙◌}
-use Rattle.trace_scripts.specs.Scenes.{software_of}
+use Rattle.trace_scripts.specs.Scenes.{program_in, software_of}
 use Rattle.trace_scripts.specs.Threads.{course_of}
 use Rattle.trace_scripts.proofs.Coursing.{answered-so, astray-none, begun-none, closing, ran-none}
 use Rattle.trace_scripts.proofs.progress.Course.close.Goals as goal

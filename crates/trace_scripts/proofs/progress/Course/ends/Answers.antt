@@ -1,5 +1,5 @@
 use Rattle.std.proofs.Common.{rules}
-use Rattle.trace_scripts.specs.Scenes.{software_of}
+use Rattle.trace_scripts.specs.Scenes.{program_in, software_of}
 use Rattle.trace_scripts.specs.Threads.{course_of}
 use Rattle.trace_scripts.proofs.Coursing.{ends-some}
 use Rattle.trace_scripts.proofs.progress.Course.ends.Goals as goal

@@ -34,10 +34,10 @@ some-if true x = refl
 some-if false x = refl
 
 -- whether an event is the request that is asked for
-module _ (p : AdaProgram) (e : machine.Event) (time task target : ℕ) (value asked : Option ℕ) (u : units.Unit) (object op op' : Name)
+module _ (p : AdaProgram) (e : machine.Event) (time task target : ℕ) (value asked : Option ℕ) (u : units.Unit) (object op : Name)
     (is : e ≡ event.Request time task target value) (meets : MeetsRules (program_of p)) (at : slice_get (program_of p).units target ≡ Some (unit_of u))
-    (name : unit_name (program_of p) target ≡ u.name) (named : op' ≡ asked_name u.name (form_of u.form)) (a b c : Bool)
-    (f : a ≡ same_name object u.name) (g : b ≡ same_name op op') (h : c ≡ same_value asked value)
+    (name : unit_name (program_of p) target ≡ u.name) (a c : Bool)
+    (f : a ≡ same_name object u.name && same_name op (asked_name u.name (form_of u.form))) (h : c ≡ same_value asked value)
   where
     abbrev asked_for : OpName
     asked_for = record { object = object; op = op }
@@ -45,17 +45,19 @@ module _ (p : AdaProgram) (e : machine.Event) (time task target : ℕ) (value as
     abbrev answer : Bool
     answer = is_some (option_and_then (sees_request asked_for asked) (action_by (program_of p) (named_event (program_of p) e)))
 
-    asks-so : (a && b) && c ≡ answer
+    abbrev named_so : Bool
+    named_so = same_name object u.name && same_name op (asked_name u.name (form_of u.form))
+
+    asks-so : a && c ≡ answer
     asks-so =
         let S : runs.Action → Bool = λ z. is_some (sees_request asked_for asked z) in
-        ap (λ z. (z && b) && c) f ∙ ap (λ z. (same_name object u.name && z) && c) g
-        ∙ ap (λ z. (same_name object u.name && same_name op op') && z) h
-        ∙ sym (some-if ((same_name object u.name && same_name op op') && same_value asked value) (runs.Request asked_for asked))
-        ∙ ap S (request-made p target value u u.name op' meets at name refl named)
+        ap (λ z. z && c) f ∙ ap (λ z. named_so && z) h
+        ∙ sym (some-if (named_so && same_value asked value) (runs.Request asked_for asked))
+        ∙ ap S (request-made p target value u u.name (asked_name u.name (form_of u.form)) meets at name refl refl)
         ∙ ap (λ z. is_some (option_and_then (sees_request asked_for asked) (action_by (program_of p) (named_event (program_of p) z)))) (sym is)
 
-    pub asks-then : a ≡ true → b ≡ true → c ≡ answer
-    asks-then i j = ap (λ z. z && c) (sym j) ∙ ap (λ z. (z && b) && c) (sym i) ∙ asks-so
+    pub asks-then : a ≡ true → c ≡ answer
+    asks-then i = ap (λ z. z && c) (sym i) ∙ asks-so
 
-    pub asks-else : a ≡ true → b ≡ false → false ≡ answer
-    asks-else i j = ap (λ z. z && c) (sym j) ∙ ap (λ z. (z && b) && c) (sym i) ∙ asks-so
+    pub asks-else : a ≡ false → a ≡ answer
+    asks-else i = i ∙ ap (λ z. z && c) (sym i) ∙ asks-so

@@ -1,5 +1,5 @@
 -- A script that is read along: what its next event answers is what the first of the actions that are left answers.
-use Rattle.std.proofs.Common.{◌≡◌, ℕ, suc, Bool, true, false, List, [], ◌∷◌, drop, Option, Some, None, refl, sym, ap, subst, ◌∙◌}
+use Rattle.std.proofs.Common.{◌≡◌, ℕ, suc, Bool, true, false, List, [], ◌∷◌, arith, drop, length, Option, Some, None, refl, sym, ap, subst, ◌∙◌}
 use Rattle.std.specs.Prelude.{is_some}
 use Rattle.std.specs.List.{cons_option}
 use Rattle.seq_tree.specs.Lists.{Each}
@@ -44,9 +44,10 @@ module _ (p : Program) (es : List machine.Event) where
   line-here line more left target e l is h =
       ap (λ o. cons_option o (actions_at p es more)) (sym is) ∙ ap (actions_at p es) (sym l) ∙ h
 
-  pub line-last : (left : List ℕ) (target : List Action) → left ≡ [] → actions_at p es left ≡ target → [] ≡ target
+  pub line-last : (left : List ℕ) (target : List Action) → length left ≡ 0 → actions_at p es left ≡ target → [] ≡ target
   unfolding actions_at
-  line-last left target none h = sym (ap (actions_at p es) none) ∙ h
+  line-last [] target none h = h
+  line-last (line ∷ more) target none h = absurd (let z : suc (length more) ≡ 0 = none in omega (arith, z))
 
   -- THE NEXT EVENT
   pub some-placed : (next : Option machine.Event) (e : machine.Event) → next ≡ Some e → IsNext p next → IsPlaced p e

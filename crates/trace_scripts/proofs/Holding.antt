@@ -1,6 +1,6 @@
 -- A script with one event more, in front of what is shown behind it.
 use Rattle.std.proofs.Common.{◌≡◌, ℕ, Bool, true, false, List, [], ◌∷◌, ◌++◌, Option, Some, None, refl, sym, ap, ◌∙◌, append_assoc}
-use Rattle.std.specs.Prelude.{is_some, not, if◌then◌else◌}
+use Rattle.std.specs.Prelude.{is_some, if◌then◌else◌}
 use Rattle.std.specs.List.{cons_option}
 use Rattle.seq_tree.specs.Runs as runs
 use Rattle.ada_tree.specs.Programs.{Program}
@@ -62,10 +62,6 @@ module _ (p : Program) (es : List machine.Event) (here : ℕ) where
       → shown_of p es after ≡ with_last (shown_of p es before) (action_at p es here)
   shown-none before after none hides =
       ap (λ b. held b after.lines.items) hides ∙ none-last (shown_of p es before) (action_at p es here) none
-
-pub unhidden : (b : Bool) → not b ≡ false → b ≡ true
-unhidden true h = refl
-unhidden false h = absurd (cc)
 
 -- an event that is added
 pub added : (p : Program) (es : List machine.Event) (here : ℕ) (e : machine.Event) → IsAt es here e → (b : Bool)

@@ -1,9 +1,10 @@
-ghost use Rattle.std.specs.Prelude.{◌≡◌, ◌<◌, ℕ, List, Some, is_some, length, option_and_then, option_map, slice_get};
+ghost use Rattle.std.specs.Prelude.{◌≡◌, ◌<◌, ◌&&◌, ℕ, List, Some, is_some, length, option_and_then, option_map, slice_get};
 ghost use Rattle.ada_tree.specs.Bodies.{heads};
 ghost use Rattle.ada_tree.specs.Programs.{Program};
 ghost use Rattle.ada_tree.specs.Rules.{MeetsRules};
 ghost use Rattle.ada_tree.specs.Trees.{form_of, program_of, unit_of};
 ghost use Rattle.seq_tree.specs.Calls.{same_op};
+ghost use Rattle.seq_tree.specs.Names.{same_name};
 ghost use Rattle.law_walks.specs.Walks.{same_value, sees_enter, sees_print, sees_request};
 ghost use Rattle.seq_eval.specs.Scripts.{sees_exit};
 ghost use Rattle.guarantee.specs.Events.{named_event, op_at};
@@ -38,6 +39,13 @@ fn asked_op(unit: &Unit) -> &Name
         Form::Passive { .. } | Form::Shared { .. } | Form::Cyclic { .. } => &unit.name,
         Form::Sporadic { op, .. } => &op.name,
     }
+}
+
+/// Whether these names are those by which a unit is requested.
+fn is_asked(unit: &Unit, object: &Name, op: &Name) -> bool
+    ensures { result ≡ (same_name object.now unit.now.name && same_name op.now (asked_name unit.now.name (form_of unit.now.form))) }
+{
+    is_same(object, &unit.name) && is_same(op, asked_op(unit))
 }
 
 /// Whether these names are those of the operation at a place.
@@ -150,10 +158,9 @@ pub(crate) fn asks(
     match event {
         Event::Request { target, value, .. } => {
             let unit = unit_at(program, *target);
-            let is_object = is_same(object, &unit.name);
-            let is_name = is_same(op, asked_op(unit));
+            let is_named = is_asked(unit, object, op);
             let is_value = is_same_value(asked, *value);
-            is_object && is_name && is_value
+            is_named && is_value
         }
         Event::Release { .. }
         | Event::Arrive { .. }

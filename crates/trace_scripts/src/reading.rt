@@ -23,8 +23,10 @@ fn shown_at(_program: &AdaProgram, events: &Events, line: u32) -> Option<Event>
     ensures shown { MatchOption result (action_at (program_of _program.now) events.now line ≡ None)
         (λ e. action_at (program_of _program.now) events.now line ≡ action_by (program_of _program.now) (named_event (program_of _program.now) e)) }
 {
-    let event = events.event(line)?;
-    if shows(&event) { Some(event) } else { None }
+    match events.event(line) {
+        None => None,
+        Some(event) => if shows(&event) { Some(event) } else { None },
+    }
 }
 
 /// The first of the events at these indices that shows an action, where one does, and the indices behind it.

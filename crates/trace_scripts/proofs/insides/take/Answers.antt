@@ -13,8 +13,8 @@ returns-in_ok-add-in-Plain-clause-shown c = λ p.
     (by-part p c.args.task (drop c.args.last.now c.args.events.now) (drop (suc c.args.last.now) c.args.events.now) c.args.event.now c.requires.at
     Plain c.in-Plain.ensures)
 
-pub returns-in-Opens-clause-shown : goal.returns-in-Opens-clause-shown
-returns-in-Opens-clause-shown c = λ p.
+pub returns-in_ok-more-in-Opens-clause-shown : goal.returns-in_ok-more-in-Opens-clause-shown
+returns-in_ok-more-in-Opens-clause-shown c = λ p.
     c.in_ok-more-in-Opens.ensures.shown p
     ∙ ap (joined (shown_of p c.args.events.now c.args.script.now))
     (by-part p c.args.task (drop c.args.last.now c.args.events.now) (drop (suc c.args.last.now) c.args.events.now) c.args.event.now c.requires.at

@@ -27,23 +27,23 @@ returns-in_ok-see-in-Release c = λ p es at.
 pub returns-in_ok-see-in-Arrive : goal.returns-in_ok-see-in-Arrive
 returns-in_ok-see-in-Arrive c = λ p es at.
     plain-step p es c.args.here c.args.event.now at c.args.good (charge_of c.args.charge) (course_of p es c.args.self.now)
-    (course_of p es c.see.new.self) c.in-Arrive.time (unit_name p c.in-Arrive.task) (Arrive c.in-Arrive.value) (ap (named_event p) c.in-Arrive.is) refl false refl
+    (course_of p es c.see-in-Arrive.new.self) c.in-Arrive.time (unit_name p c.in-Arrive.task) (Arrive c.in-Arrive.value) (ap (named_event p) c.in-Arrive.is) refl false refl
     (c.in_ok-see-in-Arrive.ensures p es)
 
 pub returns-in_ok-see-in-Request : goal.returns-in_ok-see-in-Request
 returns-in_ok-see-in-Request c = λ p es at.
     plain-step p es c.args.here c.args.event.now at c.args.good (charge_of c.args.charge) (course_of p es c.args.self.now)
-    (course_of p es c.see.new.self) c.in-Request.time (unit_name p c.in-Request.task) (Request (unit_name p c.in-Request.target) c.in-Request.value) (ap (named_event p) c.in-Request.is) refl true refl
+    (course_of p es c.see-in-Request.new.self) c.in-Request.time (unit_name p c.in-Request.task) (Request (unit_name p c.in-Request.target) c.in-Request.value) (ap (named_event p) c.in-Request.is) refl true refl
     (c.in_ok-see-in-Request.ensures p es)
 
 pub returns-in_ok-see-in-Print : goal.returns-in_ok-see-in-Print
 returns-in_ok-see-in-Print c = λ p es at.
     plain-step p es c.args.here c.args.event.now at c.args.good (charge_of c.args.charge) (course_of p es c.args.self.now)
-    (course_of p es c.see.new.self) c.in-Print.time (unit_name p c.in-Print.task) (Print c.in-Print.value) (ap (named_event p) c.in-Print.is) refl true refl
+    (course_of p es c.see-in-Print.new.self) c.in-Print.time (unit_name p c.in-Print.task) (Print c.in-Print.value) (ap (named_event p) c.in-Print.is) refl true refl
     (c.in_ok-see-in-Print.ensures p es)
 
 pub returns-in_ok-see-in-Stop : goal.returns-in_ok-see-in-Stop
 returns-in_ok-see-in-Stop c = λ p es at.
     plain-step p es c.args.here c.args.event.now at c.args.good (charge_of c.args.charge) (course_of p es c.args.self.now)
-    (course_of p es c.see.new.self) c.in-Stop.time (unit_name p c.in-Stop.task) (Stop (unit_name p c.in-Stop.unit) c.in-Stop.priority c.in-Stop.ceiling) (ap (named_event p) c.in-Stop.is) refl false refl
+    (course_of p es c.see-in-Stop.new.self) c.in-Stop.time (unit_name p c.in-Stop.task) (Stop (unit_name p c.in-Stop.unit) c.in-Stop.priority c.in-Stop.ceiling) (ap (named_event p) c.in-Stop.is) refl false refl
     (c.in_ok-see-in-Stop.ensures p es)

@@ -10,8 +10,8 @@ use Rattle.seq_tree.specs.Runs as runs
 use Rattle.seq_tree.specs.Variables.{stored}
 use Rattle.seq_tree.specs.declared.tree.Costs.{Costs}
 use Rattle.seq_tree.specs.declared.tree.OpName.{OpName}
-use Rattle.law_walks.specs.Walks.{sees_entry}
-use Rattle.seq_eval.specs.Scripts.{next_entry, next_exit, of_next}
+use Rattle.law_walks.specs.Walks.{sees_entry, sees_request}
+use Rattle.seq_eval.specs.Scripts.{next_entry, next_exit, next_requests, of_next}
 use Rattle.seq_eval.specs.Stepping.{State, Step, at_script, left_by, spent, stored_by, told_by}
 
 -- an action that has to be next
@@ -25,6 +25,11 @@ pub told-so : (sees : Action → Bool) (us rest : List Action) (s : State) (next
 told-so sees [] rest s next e same = absurd (false≢true e)
 told-so sees (a ∷ us) rest s next e same =
     ap (λ b. cond b (next (at_script us s)) (Err (suc (length us)))) e ∙ ap (λ xs. next (at_script xs s)) (sym same)
+
+-- a request, whose value is that of an expression
+pub asked-next : (name : OpName) (asked value : Option ℕ) (us : List Action) (on wanted : Bool) → asked ≡ value
+    → on ≡ next_requests name asked us → on ≡ wanted → of_next (λ a. is_some (sees_request name value a)) false us ≡ wanted
+asked-next name asked value us on wanted same seen is = ap (λ v. next_requests name v us) (sym same) ∙ sym seen ∙ is
 
 -- the values of one are those of another
 same-values : {vs ws : List ℕ} → Some vs ≡ Some ws → vs ≡ ws

@@ -1,4 +1,4 @@
-use Rattle.std.proofs.Common.{ℕ, length, map, refl, ap, subst, ◌<◌, ◌∙◌, Result}
+use Rattle.std.proofs.Common.{ℕ, length, ap, subst, ◌<◌, ◌∙◌, Result}
 use Rattle.std.proofs.lemmas.List.{length-map}
 use Rattle.grammar.specs.Reading.{Halt, whole_at}
 use Rattle.seq_tree.specs.Runs.{Path}

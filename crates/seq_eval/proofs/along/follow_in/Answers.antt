@@ -1,13 +1,11 @@
-use Rattle.std.proofs.Common.{◌≡◌, ◌-◌, ◌≤◌, ℕ, Ok, Result, length, map, ap, arith, subst, sym, ◌∙◌}
+use Rattle.std.proofs.Common.{◌≡◌, ◌-◌, ◌≤◌, Ok, length, map, ap, arith, subst, sym, ◌∙◌}
 use Rattle.std.proofs.lemmas.Bool.{eq-eqb, eqb-true, false≢true}
 use Rattle.std.proofs.lemmas.List.{length-map}
 use Rattle.seq_tree.specs.Trees.{block_of}
-use Rattle.seq_tree.specs.declared.memory.NoMemory.{NoMemory}
 use Rattle.seq_eval.specs.Actions.{action_of}
 use Rattle.seq_eval.specs.Calls.{calls_in}
 use Rattle.seq_eval.specs.Following.{Follows, Means}
 use Rattle.seq_eval.specs.Scripts.{IsWithin, answered, followed_as}
-use Rattle.seq_eval.specs.declared.action.Followed.{Followed}
 use Rattle.seq_eval.specs.declared.action.Followed.TheVariants as followed
 use Rattle.seq_eval.proofs.Answering.{as-off, as-short, means-failed}
 use Rattle.seq_eval.proofs.along.follow_in.Goals as goal

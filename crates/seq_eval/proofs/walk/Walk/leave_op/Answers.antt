@@ -1,4 +1,4 @@
-use Rattle.std.proofs.Common.{◌≡◌, ℕ, length, map, sym, ap, ◌∙◌, Ok}
+use Rattle.std.proofs.Common.{ℕ, length, map, sym, ap, ◌∙◌, Ok}
 use Rattle.std.proofs.lemmas.Bool.{eq-eqb}
 use Rattle.std.specs.Prelude.{option_map}
 use Rattle.seq_tree.specs.Operations.{out_names}

@@ -1,6 +1,6 @@
 -- What words tell is an event of the program: its places are places of the program, and its numbers fit their types.
-use Rattle.std.proofs.Common.{◌≡◌, ℕ, List, [], ◌∷◌, Option, Some, None, refl, subst}
-use Rattle.std.specs.Prelude.{option_map, option_and_then}
+use Rattle.std.proofs.Common.{◌≡◌, ℕ, List, [], ◌∷◌, Option, Some, None, refl, sym, subst}
+use Rattle.std.specs.Prelude.{IfSome, option_map, option_and_then}
 use Rattle.std.proofs.lemmas.Option.{none-some, same_Some}
 use Rattle.ada_tree.specs.Programs.{Program}
 use Rattle.trace_tree.specs.Placed.{IsUnit, IsOp}
@@ -134,3 +134,7 @@ module _ (p : Program) where
       let c = word-some a.1 _ e b.2 in
       let d = and-some _ (kind_of c.0) e c.2 in
       happens-fits b.0 d.0 c.1 e (number-fits a.0 b.0 b.1) d.2
+
+  pub event-where : (ws : List Bytes) (o : Option Event) → o ≡ event_of p ws → IfSome o (IsEvent p)
+  event-where ws None is = tt
+  event-where ws (Some e) is = event-fits ws e (sym is)

@@ -6,4 +6,7 @@ pub mod Fronts
 pub mod TableSteps
 pub mod Splitting
 pub mod Gathering
+pub mod Chaining
+pub mod Telling
+mod Examples
 pub mod Shared

@@ -7,3 +7,5 @@ pub mod Laws
 pub mod Telling
 pub mod Texts
 pub mod Gathered
+pub mod Deeds
+pub mod Chains

@@ -1,4 +1,4 @@
-ghost use Rattle.std.specs.Prelude.{◌≡◌};
+ghost use Rattle.std.specs.Prelude.{◌≡◌, ◌∷◌, ◌++◌, [], IfOk, OnOk};
 ghost use Rattle.ada_tree.specs.Rules.{MeetsRules};
 ghost use Rattle.law_trace_lines.specs.Told.{HasPlainNames};
 ghost use Rattle.trace_read.specs.Gathered.{Gathers};
@@ -31,9 +31,36 @@ impl From<NoMemory> for Unread {
     }
 }
 
+/// How many line feeds bytes have.
+fn line_feeds(text: &[u8]) -> usize {
+    let mut count: usize = 0;
+    'bytes: for byte in text {
+        if *byte == b'\n' {
+            count = count.saturating_add(1);
+        }
+    }
+    count
+}
+
+/// No bytes at which lines begin, with room for so many.
+fn no_starts(alloc: Global, lines: usize) -> Result<Vec<u32>, NoMemory>
+    ensures { IfOk result (λ v. v.items ≡ []) }
+{
+    Ok(Vec::with_capacity(alloc, lines)?)
+}
+
+/// Adds the byte at which a line begins.
+fn push(starts: &mut Vec<u32>, start: u32) -> Result<(), NoMemory>
+    ensures { OnOk result (starts.new.items ≡ starts.old.items ++ start ∷ []) }
+{
+    starts.push(start)?;
+    Ok(())
+}
+
 /// The events of which a text has the lines, in order. `Line` comes exactly where a line is none of an event, with the first such line; a last
-/// line without its line feed is none. The text is read once, and nothing of it is held: each event is read again where it is asked for. Memory is
-/// taken as for a table.
+/// line without its line feed is none. The text is read twice, and no event is held: each is read again where it is asked for. Beside the text,
+/// memory is taken for 12 bytes a line, for 4 a unit, and meanwhile as for a table and for 8 a unit. `NoMemory` is also answered for a text of more
+/// than 4,294,967,295 bytes.
 #[tactic(auto, using(crate::proofs::Gathering::counting))]
 pub fn read_events<'t, 'p, 'x>(
     alloc: Global,
@@ -44,13 +71,20 @@ pub fn read_events<'t, 'p, 'x>(
     requires plain { HasPlainNames (table_program table.now) }
     ensures { Gathers (λ e. e) (table_program table.entry.now) text.entry.now result }
 {
+    if text.len() > 4294967295 {
+        return Err(Unread::NoMemory);
+    }
+    let mut starts = no_starts(alloc, line_feeds(text))?;
     let mut lines = Lines::new(alloc, table.program, text)?;
-    let mut count: u64 = 0;
+    let mut start = 0;
     'lines: while let Some(next) = lines.next() {
         let Ok(_event) = next else {
-            return Err(Unread::Line { line: count + 1 });
+            return Err(Unread::Line {
+                line: starts.len() as u64 + 1,
+            });
         };
-        count += 1;
+        push(&mut starts, start)?;
+        start = (text.len() - lines.len_left()) as u32;
     }
-    Ok(Events::of(table, text))
+    Ok(Events::of(alloc, table, text, starts)?)
 }

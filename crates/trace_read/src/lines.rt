@@ -1,4 +1,4 @@
-ghost use Rattle.std.specs.Prelude.{◌≡◌, ◌++◌, List, ℕ, IfOk, MatchOption};
+ghost use Rattle.std.specs.Prelude.{◌≡◌, ◌++◌, List, ℕ, IfOk, MatchOption, length};
 ghost use Rattle.ada_tree.specs.Trees.{program_of};
 ghost use Rattle.ada_tree.specs.Rules.{MeetsRules};
 ghost use Rattle.trace_tree.specs.Lines.{line};
@@ -85,6 +85,13 @@ impl<'a> Lines<'a> {
             left: text,
             buffer: LineBuf::new(),
         })
+    }
+
+    /// How many bytes are left.
+    pub(crate) fn len_left(&self) -> usize
+        ensures { result ≡ length (text_left self.now) }
+    {
+        self.left.len()
     }
 
     /// The event whose line the bytes that are left begin with, and then the bytes behind it are left; nothing where no bytes are left; and

@@ -1,7 +1,7 @@
 use Rattle.std.proofs.Common.{◌≡◌, length}
 use Rattle.ada_tree.specs.Trees.{program_of}
 use Rattle.trace_read.specs.Telling.{told_by}
-use Rattle.trace_read.proofs.told.next_in.Given as goal
+use Rattle.trace_read.proofs.reads.next_in.Given as goal
 
 -- the lines so far tell none
 abbrev pub invariant-lines : goal.invariant-lines

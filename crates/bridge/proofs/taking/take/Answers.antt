@@ -6,6 +6,6 @@ use Rattle.bridge.proofs.taking.take.Goals as goal
 pub check-requires : goal.check-requires
 check-requires c = objects-few c.args.design.now (design_of c.in-Ok.read) c.in-Ok.ensures.says
 
-pub returns-in-Err-check : goal.returns-in-Err-check
-returns-in-Err-check c =
+pub returns-else-is_memory : goal.returns-else-is_memory
+returns-else-is_memory c =
     breaks c.args.design.now (design_of c.in-Ok.read) c.in-Err-check.broken c.in-Ok.ensures.says c.if-is_memory.ensures c.in-Err-check.ensures

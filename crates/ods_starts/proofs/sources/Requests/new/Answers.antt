@@ -53,8 +53,8 @@ returns-clause-right c =
           subst (λ (d : code.Design). length (thread_objects (design_of d)) < 4294967295) (sym c.in_ok-starts.ensures) (few-threads y c.requires.few);
     }
 
-pub new-requires : goal.new-requires
-new-requires c =
+pub new-requires-2 : goal.new-requires-2
+new-requires-2 c =
     let y = design_of c.args.index.now.design.now in
     let x = design_of c.in_ok-starts.starts.links.design.now in
     let same : objects y ≡ objects x = ap (λ (d : code.Design). objects (design_of d)) (sym c.in_ok-starts.ensures) in

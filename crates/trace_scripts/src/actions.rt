@@ -22,7 +22,8 @@ pub(crate) fn shows(event: &Event) -> bool
     ensures { (p : Program) → is_some (action_by p (named_event p event.now)) ≡ result }
 {
     match event {
-        Event::Enter { .. } | Event::Leave { .. } | Event::Request { .. } | Event::Print { .. } => true,
+        Event::Enter { .. } | Event::Leave { .. } | Event::Request { .. } | Event::Print { .. } =>
+            true,
         Event::Release { .. }
         | Event::Arrive { .. }
         | Event::End { .. }

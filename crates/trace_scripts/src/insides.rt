@@ -45,8 +45,10 @@ fn add_passage(
     requires own { first_task (drop last.old events.now) ≡ Some task }
     ensures own { first_task (drop last.new events.now) ≡ Some task }
     ensures shorter { length (drop last.new events.now) ≤ length (drop last.old events.now) }
-    ensures shown { (p : Program) → IfOk result (λ is. after_if is (shown_of p events.now script.new) (inside_from p task (drop (suc last.new) events.now) 0)
-        ≡ joined (shown_of p events.now script.old) (both (action_by p (named_event p entry.now)) (inside_from p task (drop (suc last.old) events.now) 1))) }
+    ensures shown { (p : Program) → IfOk result (λ is. after_if is (shown_of p events.now script.new) (inside_from p task (drop
+        (suc last.new) events.now) 0)
+        ≡ joined (shown_of p events.now script.old) (both (action_by p (named_event p entry.now)) (inside_from p task (drop
+        (suc last.old) events.now) 1))) }
 {
     add(*last, entry, script)?;
     match events.exit_of(task, last) {
@@ -71,7 +73,8 @@ fn take(
     requires own { first_task (drop last.old events.now) ≡ Some task }
     ensures own { first_task (drop last.new events.now) ≡ Some task }
     ensures shorter { length (drop last.new events.now) ≤ length (drop last.old events.now) }
-    ensures shown { (p : Program) → IfOk result (λ is. after_if is (shown_of p events.now script.new) (inside_from p task (drop (suc last.new) events.now) 0)
+    ensures shown { (p : Program) → IfOk result (λ is. after_if is (shown_of p events.now script.new) (inside_from p task (drop
+        (suc last.new) events.now) 0)
         ≡ joined (shown_of p events.now script.old) (inside_from p task (drop last.old events.now) 0)) }
 {
     match part_of(task, event) {

@@ -90,11 +90,7 @@ fn is_good_entry(program: &AdaProgram, objects: &Objects, event: &Event) -> bool
 
 impl Threads {
     /// At first: every thread at its written data.
-    pub fn first(
-        alloc: Global,
-        program: &AdaProgram,
-        _events: &Events,
-    ) -> Result<Threads, NoMemory>
+    pub fn first(alloc: Global, program: &AdaProgram, _events: &Events) -> Result<Threads, NoMemory>
         ensures { IfOk result (λ h. threads_of (program_of program.now) _events.now h ≡ threads_first (program_of program.now)) }
     {
         let mut states = Vec::new(alloc);
@@ -165,13 +161,27 @@ impl Threads {
             (charge_of charge) (threads_of (program_in scene.now) events.now self.old)) }
     {
         match event {
-            Event::Release { task, .. } => self.step(scene, alloc, events, here, *task, event, good, charge)?,
-            Event::Enter { task, .. } => self.step(scene, alloc, events, here, *task, event, good, charge)?,
-            Event::Leave { task, .. } => self.step(scene, alloc, events, here, *task, event, good, charge)?,
-            Event::Request { task, .. } => self.step(scene, alloc, events, here, *task, event, good, charge)?,
-            Event::Print { task, .. } => self.step(scene, alloc, events, here, *task, event, good, charge)?,
-            Event::End { task, .. } => self.step(scene, alloc, events, here, *task, event, good, charge)?,
-            Event::Stop { task, .. } => self.step(scene, alloc, events, here, *task, event, good, charge)?,
+            Event::Release { task, .. } => self.step(
+                scene, alloc, events, here, *task, event, good, charge,
+            )?,
+            Event::Enter { task, .. } => self.step(
+                scene, alloc, events, here, *task, event, good, charge,
+            )?,
+            Event::Leave { task, .. } => self.step(
+                scene, alloc, events, here, *task, event, good, charge,
+            )?,
+            Event::Request { task, .. } => self.step(
+                scene, alloc, events, here, *task, event, good, charge,
+            )?,
+            Event::Print { task, .. } => self.step(
+                scene, alloc, events, here, *task, event, good, charge,
+            )?,
+            Event::End { task, .. } => self.step(
+                scene, alloc, events, here, *task, event, good, charge,
+            )?,
+            Event::Stop { task, .. } => self.step(
+                scene, alloc, events, here, *task, event, good, charge,
+            )?,
             Event::Arrive { .. } | Event::Horizon { .. } => {}
         }
         Ok(())

@@ -232,7 +232,8 @@ pub(crate) fn serve<'a>(
     requires placed { Each (IsPlaced (program_in scene.now)) events.now }
     ensures len { IfOk result (λ o. length o.states.items ≡ length (program_in scene.now).units) }
     ensures states { (depth : ℕ) → MayAll (program_in scene.now) depth → IfOk result (λ o. services_of o
-        ≡ objects_from (program_in scene.now) depth events.now (entries_from (program_in scene.now) events.now) (services_first (program_in scene.now))) }
+        ≡ objects_from (program_in scene.now) depth events.now (entries_from (program_in scene.now) events.now) (services_first
+        (program_in scene.now))) }
 {
     let mut objects = Objects::first(alloc, scene.program)?;
     let mut at: u32 = 0;

@@ -1,6 +1,7 @@
 ghost use Rattle.seq_tree.specs.Lists.{Each};
 ghost use Rattle.seq_tree.specs.Trees.{block_of};
-ghost use Rattle.std.specs.Prelude.{◌≡◌, ◌≤◌, ℕ, ◌+◌, ◌++◌, ◌&&◌, IfOk, List, OnOk, None, Some, false, is_some, nat_le, option_map, option_to_list, true};
+ghost use Rattle.std.specs.Prelude.{◌≡◌, ◌≤◌, ℕ, ◌+◌, ◌++◌, ◌&&◌, IfOk, List, OnOk, None, Some, false, is_some, true};
+ghost use Rattle.std.specs.Prelude.{nat_le, option_map, option_to_list};
 ghost use Rattle.seq_tree.specs.Variables.{entered};
 ghost use Rattle.ada_tree.specs.Programs.{Program};
 ghost use Rattle.ada_tree.specs.Trees.{program_of};
@@ -417,16 +418,7 @@ pub(crate) fn advance(
         },
         Progress::Active(kept_now, course) => {
             let next = proceed(
-                scene,
-                alloc,
-                events,
-                here,
-                thread,
-                kept_now,
-                course,
-                event,
-                good,
-                charge,
+                scene, alloc, events, here, thread, kept_now, course, event, good, charge,
             )?;
             Ok(next)
         }

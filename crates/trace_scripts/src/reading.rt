@@ -37,7 +37,8 @@ fn first_shown<'l>(
 ) -> (Option<Event>, &'l [u32])
     requires { Each (IsPlaced (program_of program.now)) events.now }
     ensures next { IsNext (program_of program.now) result.0 }
-    ensures left { left_of (program_of program.now) events.now result.0 result.1.now ≡ actions_at (program_of program.now) events.now lines.entry.now }
+    ensures left { left_of (program_of program.now) events.now result.0 result.1.now ≡ actions_at
+        (program_of program.now) events.now lines.entry.now }
 {
     let mut left = lines;
     'lines: while let Some((line, rest)) = left.split_first() {

@@ -109,10 +109,12 @@ fn pass<'a>(
     requires ticks { (depth : ℕ) → most_ticks scene.now.program.now.costs (calls_of scene.now) depth (block_of op.now.block) ≤ 1000000000 }
     ensures service { (depth : ℕ) (g : Guarded) → MayRun (leads_to (software_of scene.now)) depth (block_of op.entry.now.block) → g.vars ≡ vars.now
         → IfOk result (λ r. service_of r.0 ≡ inside_by g thread.entry.now op.entry.now.sig.name (operation_of op.entry.now)
-        (run_along (software_of scene.now) depth (block_of op.entry.now.block) env.slots.items (shown_of (program_in scene.now) events.now script.now))) }
+        (run_along (software_of scene.now) depth (block_of op.entry.now.block) env.slots.items (shown_of
+        (program_in scene.now) events.now script.now))) }
     ensures charge { (depth : ℕ) → MayRun (leads_to (software_of scene.now)) depth (block_of op.entry.now.block)
         → IfOk result (λ r. charge_of r.1 ≡ charge_by most true
-        (run_along (software_of scene.now) depth (block_of op.entry.now.block) env.slots.items (shown_of (program_in scene.now) events.now script.now))) }
+        (run_along (software_of scene.now) depth (block_of op.entry.now.block) env.slots.items (shown_of
+        (program_in scene.now) events.now script.now))) }
 {
     let none = Charge { low: 0, high: most };
     match scene.walk(alloc, events, &op.block, &mut env, script)? {
@@ -146,7 +148,8 @@ fn stay<'a>(
     requires ticks { (depth : ℕ) → most_ticks scene.now.program.now.costs (calls_of scene.now) depth (block_of op.now.block) ≤ 1000000000 }
     ensures { (depth : ℕ) → MayRun (leads_to (software_of scene.now)) depth (block_of op.now.block)
         → IfOk result (λ r. service_of r ≡ last_by
-        (begins_along (software_of scene.now) depth (block_of op.now.block) env.slots.items (shown_of (program_in scene.now) events.now script.now))) }
+        (begins_along (software_of scene.now) depth (block_of op.now.block) env.slots.items (shown_of
+        (program_in scene.now) events.now script.now))) }
 {
     match scene.walk(alloc, events, &op.block, &mut env, script)? {
         Walked::Ran { .. } => Ok(Service::Last),
@@ -174,11 +177,13 @@ fn begin<'a>(
     ensures service { (depth : ℕ) (g : Guarded) → MayRun (leads_to (software_of scene.now)) depth (block_of op.entry.now.block) → g.vars ≡ vars.now
         → op_named g op.entry.now.sig.name ≡ Some (operation_of op.entry.now)
         → IfOk result (λ r. service_of r.0
-        ≡ entered_in (software_of scene.now) depth g thread.entry.now op.entry.now.sig.name values.now (entry_of (program_in scene.now) events.now entry.now) (FreeOne kept.slots.items)) }
+        ≡ entered_in (software_of scene.now) depth g thread.entry.now op.entry.now.sig.name values.now (entry_of
+        (program_in scene.now) events.now entry.now) (FreeOne kept.slots.items)) }
     ensures charge { (depth : ℕ) (g : Guarded) → MayRun (leads_to (software_of scene.now)) depth (block_of op.entry.now.block) → g.vars ≡ vars.now
         → op_named g op.entry.now.sig.name ≡ Some (operation_of op.entry.now)
         → IfOk result (λ r. charge_of r.1
-        ≡ charge_in (software_of scene.now) depth most g op.entry.now.sig.name values.now (entry_of (program_in scene.now) events.now entry.now) (FreeOne kept.slots.items)) }
+        ≡ charge_in (software_of scene.now) depth most g op.entry.now.sig.name values.now (entry_of (program_in scene.now) events.now entry.now)
+        (FreeOne kept.slots.items)) }
 {
     let env = open(alloc, op, values, kept)?;
     if entry.again {
@@ -235,16 +240,7 @@ pub(crate) fn enter<'a>(
         Service::Free(kept) => {
             let entry = known(alloc, task, unit, events, here)?;
             let begun = begin(
-                scene,
-                alloc,
-                kept,
-                thread,
-                op,
-                vars,
-                values,
-                events,
-                &entry,
-                most,
+                scene, alloc, kept, thread, op, vars, values, events, &entry, most,
             )?;
             Ok(begun)
         }

@@ -100,7 +100,8 @@ fn first_astray(
     requires placed { Each (IsPlaced (program_in scene.now)) events.now }
     requires states { length threads.states.items ≡ length (program_in scene.now).units }
     ensures { (depth : ℕ) → MayAll (program_in scene.now) depth → (following : Task → Bool)
-        → AreFollowing (program_in scene.now) depth (threads_of (program_in scene.now) events.now threads) following → IfOk result (λ r. option_map (unit_name (program_in scene.now)) r
+        → AreFollowing (program_in scene.now) depth (threads_of (program_in scene.now) events.now threads) following → IfOk result (λ r. option_map
+        (unit_name (program_in scene.now)) r
         ≡ option_map (λ t. t.name) (find (λ t. not (following t)) (software_of scene.now).tasks)) }
 {
     let mut threads = threads;

@@ -50,8 +50,10 @@ impl Scene<'_, '_> {
         requires placed { Each (IsPlaced (program_in self.now)) events.now }
         requires ticks { (depth : ℕ) → most_ticks self.now.program.now.costs (calls_of self.now) depth (block_of block.now) ≤ 1000000000 }
         ensures { (depth : ℕ) → MayRun (leads_to (software_of self.now)) depth (block_of block.now)
-            → IfOk result (λ r. IsWalk (run_along (software_of self.now) depth (block_of block.now) env.old.slots.items (shown_of (program_in self.now) events.now script.now))
-            (begins_along (software_of self.now) depth (block_of block.now) env.old.slots.items (shown_of (program_in self.now) events.now script.now)) r env.new.slots.items) }
+            → IfOk result (λ r. IsWalk (run_along (software_of self.now) depth (block_of block.now) env.old.slots.items (shown_of
+            (program_in self.now) events.now script.now))
+            (begins_along (software_of self.now) depth (block_of block.now) env.old.slots.items (shown_of
+            (program_in self.now) events.now script.now)) r env.new.slots.items) }
     {
         if !script.shows {
             return Ok(Walked::Astray);

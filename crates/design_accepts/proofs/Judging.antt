@@ -156,22 +156,11 @@ pub design-told : (x : Design) (p : Program) (r : Arrivals) (text : List ℕ) (o
 design-told x p r text o is h =
     subst (λ w. IfSome o (λ v. IsVerdict w p r text v)) (ap program_software is ∙ program-software x) h
 
--- the same of events that stand in a slice
-pub slice-refused : (p : Program) (meets : MeetsRules p) (plain : HasPlainNames p) (r : Arrivals) (text : List ℕ) (es seen : List machine.Event)
-    → AreLines p text es → seen ≡ es → (n : ℕ) → Means p r text (Ok n) → (u : Unaccepted)
-    → ((c : IsClear (program_software p)) → SaysOf (program_software p) c.depth (named p seen) (Err u))
-    → IfSome (refusal_verdict u) (λ v. IsVerdict (program_software p) p r text v)
-slice-refused p meets plain r text es seen are is n h u says =
-    units-refused p meets plain r text es are n h u
-    (λ c. subst (λ z. SaysOf (program_software p) c.depth (named p z) (Err u)) is (says c))
+-- the same of a program that a table names
+pub table-lines : (q p : Program) (text : List ℕ) (es : List machine.Event) → q ≡ p → AreLines q text es → AreLines p text es
+table-lines q p text es same h = subst (λ z. AreLines z text es) same h
 
-pub slice-holds : (p : Program) (meets : MeetsRules p) (plain : HasPlainNames p) (r : Arrivals) (text : List ℕ) (es seen : List machine.Event)
-    → AreLines p text es → seen ≡ es → (n : ℕ) → Means p r text (Ok n)
-    → ((c : IsClear (program_software p)) → SaysOf (program_software p) c.depth (named p seen) (Ok tt))
-    → IsVerdict (program_software p) p r text (verdict.Accepted n)
-slice-holds p meets plain r text es seen are is n h says =
-    units-hold p meets plain r text es are n h (λ c. subst (λ z. SaysOf (program_software p) c.depth (named p z) (Ok tt)) is (says c))
-
-pub slice-placed : (p : Program) (meets : MeetsRules p) (plain : HasPlainNames p) (r : Arrivals) (text : List ℕ) (es seen : List machine.Event)
-    → AreLines p text es → seen ≡ es → Each (IsPlaced p) seen
-slice-placed p meets plain r text es seen are is = subst (Each (IsPlaced p)) (sym is) (all-placed p meets plain r text es are)
+pub table-refused : (q p : Program) (meets : MeetsRules p) (plain : HasPlainNames p) (r : Arrivals) (text : List ℕ) (u : Unread) → q ≡ p
+    → Gathers {V = List machine.Event} (λ v. v) q text (Err u) → IfSome (refusal_verdict (unread_of u)) (λ v. IsVerdict (program_software p) p r text v)
+table-refused q p meets plain r text u same h =
+    lines-refused p meets plain r text u (subst (λ z. Gathers {V = List machine.Event} (λ v. v) z text (Err u)) same h)

@@ -20,7 +20,7 @@ use arrivals_tree::Arrivals;
 use ods_rules::Checked;
 use std::alloc::Global;
 use trace_checks::check_parts;
-use trace_read::read_events;
+use trace_read::{Table, read_events};
 
 /// How many lines a trace has that the machine of a program allows under arrivals, or else the first part that it breaks.
 fn judge(
@@ -37,8 +37,9 @@ fn judge(
         (named_arrivals (program_of program.now) (arrivals_of arrivals.now)) trace.now v) }
 {
     let lines = check_parts(alloc, program, arrivals, trace)?;
-    let events = read_events(alloc, program, trace)?;
-    match judge_units(alloc, program, events.as_slice()) {
+    let table = Table::new(alloc, program)?;
+    let events = read_events(alloc, &table, trace)?;
+    match judge_units(alloc, program, &events) {
         Ok(()) => Ok(lines),
         Err(why) => Err(why),
     }
@@ -47,15 +48,16 @@ fn judge(
 /// How many lines a trace from anywhere has that the machine of a design allows under arrivals; else the first part that it breaks, of those
 /// that `Unaccepted` lists, in their order.
 ///
-/// The text is read twice: once for its lines, times, releases, arrivals and requests, then as a list of events for its threads and objects. That
-/// takes time by the bytes of the trace and of the program, with names looked up in tables. Then each activation, and each entry into an operation
-/// of an object that is not yet found broken, is followed once: that takes time by the operations of the program, of which a table is made each time,
-/// by the bytes of the data of its unit, and by the statements that it passes (`seq_eval::follow`). In a trace that is accepted these are at most as
-/// many as the ticks that its ends say were used, and as the ticks of one activation more for each thread. In one that is refused each entry may pass
-/// as many as its operation can take, up to 1,000,000,000.
+/// The text is read once for its lines, times, releases, arrivals and requests, and where these are right several times more for its threads and
+/// objects. That takes time by the bytes of the trace and of the program, with names looked up in tables: a line is read for the one operation or
+/// activation that it belongs to, however deep operations are nested. Each activation is followed once, and each entry into an operation of an object
+/// that is not yet found broken twice. Following takes time by the bytes of the data of its unit, and by the statements that it passes
+/// (`seq_eval::follow_actions`). In a trace that is accepted these are at most as many as the ticks that its ends say were used, and as the ticks of
+/// one activation more for each thread, and for operations as many again. In one that is refused each entry may pass as many as its operation can
+/// take, up to 1,000,000,000.
 ///
-/// Memory grows with the lines of the trace: each is held as an event of 64 bytes, with 56 bytes of what is known of it, and one inside an
-/// operation, or of the activation that is open, as an action of its script too.
+/// Memory grows with the lines of the trace: 12 bytes are held for each in a table, and 4 more for each in the script of the operation that is
+/// followed or of an activation that hasn't ended. No event is held but the one that is read.
 pub fn accepts(
     alloc: Global,
     design: &Checked,

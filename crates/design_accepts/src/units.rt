@@ -12,10 +12,11 @@ ghost use Rattle.design_accepts.specs.Units.{IsQuick, SaysOf};
 use crate::called::called_in;
 use crate::unaccepted::Unaccepted;
 use ada_tree::{AdaProgram, Unit};
+use seq_eval::Calls;
 use seq_tree::{Name, NoMemory};
 use std::alloc::Global;
+use trace_read::Events;
 use trace_scripts::{Scene, Wrong, first_wrong};
-use trace_tree::Event;
 
 /// The unit at a place.
 #[tactic(auto, using(crate::proofs::Scenery::name_steps))]
@@ -41,7 +42,7 @@ fn name_at(alloc: Global, program: &AdaProgram, place: usize) -> Result<Name, No
 pub(crate) fn judge_units(
     alloc: Global,
     program: &AdaProgram,
-    events: &[Event],
+    events: &Events,
 ) -> Result<(), Unaccepted>
     requires meets { MeetsRules (program_of program.now) }
     requires quick { IsQuick (program_of program.now) }
@@ -50,12 +51,16 @@ pub(crate) fn judge_units(
         → SaysOf (program_software (program_of program.now)) clear.depth (named (program_of program.now) events.now) result }
 {
     let called = called_in(alloc, program)?;
+    let calls = Calls::of(
+        alloc,
+        called.passive.as_slice(),
+        called.owners.as_slice(),
+        called.shared.as_slice(),
+        called.requests.as_slice(),
+    )?;
     let scene = Scene {
         program,
-        passive: called.passive.as_slice(),
-        owners: called.owners.as_slice(),
-        shared: called.shared.as_slice(),
-        requests: called.requests.as_slice(),
+        calls: &calls,
     };
     match first_wrong(alloc, &scene, events)? {
         None => Ok(()),

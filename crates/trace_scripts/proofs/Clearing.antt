@@ -1,5 +1,5 @@
 -- Blocks of software that can be followed are those of its program; and what is found of its objects.
-use Rattle.std.proofs.Common.{◌≡◌, ℕ, suc, ◌+◌, Bool, arith, length, fold, List, [], ◌∷◌, Option, Some, refl, sym, ap, subst, ◌∙◌}
+use Rattle.std.proofs.Common.{◌≡◌, ℕ, Bool, List, [], ◌∷◌, Option, Some, sym, ap, subst, ◌∙◌}
 use Rattle.std.specs.Prelude.{filter_map, slice_get, option_map}
 use Rattle.std.specs.List.{cons_option}
 use Rattle.seq_tree.specs.Lists.{Each}
@@ -23,9 +23,7 @@ use Rattle.law_scripts.proofs.Shared.Served.{served-sound}
 use Rattle.trace_scripts.specs.Objects.{AreServing}
 use Rattle.trace_scripts.specs.Scenes.{AllBlocks}
 use Rattle.trace_scripts.specs.Serving.{MayAll, objects_from, services_first}
-use Rattle.law_scripts.specs.Entries as entries
-use Rattle.trace_scripts.specs.Books.{entries_from, entry_of, known_of}
-use Rattle.trace_scripts.specs.declared.books.Entry.{Entry}
+use Rattle.trace_scripts.specs.Insides.{entries_from}
 use Rattle.trace_scripts.proofs.Entering.{entries-named}
 use Rattle.trace_scripts.proofs.ObjectsNamed.{states-named, first-named, first-own}
 
@@ -61,31 +59,10 @@ states-serve p meets depth es placed u g k at =
     ∙ ap (λ s. Sound (served_from w depth g (named p es) (entries_in w (named p es)) s)) (first-own p meets depth 0 u g k at)
     ∙ ap (λ b. Some b) (sym (served-sound w depth g (named p es)))
 
--- as many events as are known
-known-count : (xs : List Entry) → length (known_of xs) ≡ length xs
-known-count xs = counted xs [] ∙ plus-none (length xs)
-  where
-    plus-none : (n : ℕ) → n + 0 ≡ n
-    plus-none n = omega arith
-
-    counted : (xs : List Entry) (ys : List entries.Entry) → length (fold (λ zs e. entry_of e ∷ zs) ys xs) ≡ length xs + length ys
-    counted [] ys = omega arith
-    counted (x ∷ xs) ys =
-        let k : length (fold (λ zs e. entry_of e ∷ zs) (entry_of x ∷ ys) xs) ≡ length xs + suc (length ys) = counted xs (entry_of x ∷ ys) in
-        omega (arith, k)
-
-entries-count : (p : Program) (es : List machine.Event) → length (entries_from p es) ≡ length es
-unfolding entries_from
-entries-count p [] = refl
-entries-count p (e ∷ es) = ap suc (entries-count p es)
-
-pub known-length : (p : Program) (es : List machine.Event) (xs : List Entry) → known_of xs ≡ entries_from p es → length xs ≡ length es
-known-length p es xs e = sym (known-count xs) ∙ ap length e ∙ entries-count p es
-
 -- what is said of objects behind a trace
-pub objects-say : (p : Program) → MeetsRules p → (clear : IsClear (program_software p)) (es : List machine.Event) → Each (IsPlaced p) es → (xs : List Entry)
-    → known_of xs ≡ entries_from p es → (ss : List services.Service) → ss ≡ objects_from p clear.depth es (known_of xs) (services_first p)
+pub objects-say : (p : Program) → MeetsRules p → (clear : IsClear (program_software p)) (es : List machine.Event) → Each (IsPlaced p) es
+    → (ss : List services.Service) → ss ≡ objects_from p clear.depth es (entries_from p es) (services_first p)
     → AreServing p ss (serves (program_software p) clear.depth (named p es))
-objects-say p meets clear es placed xs known ss is =
+objects-say p meets clear es placed ss is =
     let P : List services.Service → Type 0 = λ z. AreServing p z (serves (program_software p) clear.depth (named p es)) in
-    subst P (sym (is ∙ ap (λ z. objects_from p clear.depth es z (services_first p)) known)) (states-serve p meets clear.depth es placed)
+    subst P (sym is) (states-serve p meets clear.depth es placed)

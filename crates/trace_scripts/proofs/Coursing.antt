@@ -15,7 +15,9 @@ use Rattle.seq_eval.specs.declared.env.Env.{Env}
 use Rattle.trace_scripts.specs.declared.progress.Thread.{Thread}
 use Rattle.trace_scripts.specs.Scenes.{IsWalk}
 use Rattle.trace_scripts.specs.Threads.{IsOf, after_event, charged_by, entered_if, finished_if, left_if, seen_if}
-use Rattle.trace_scripts.specs.Scripts.{action_by}
+use Rattle.trace_tree.specs.declared.event.Event as machine
+use Rattle.trace_scripts.specs.Scripts.{IsAt, action_at, action_by}
+use Rattle.trace_scripts.proofs.Holding.{at-index}
 use Rattle.law_scripts.specs.Entries.{Shown}
 use Rattle.law_scripts.specs.Progress.{after_deed}
 use Rattle.seq_tree.specs.Names.{Name}
@@ -23,7 +25,7 @@ use Rattle.seq_tree.specs.Runs as runs
 use Rattle.seq_tree.specs.declared.tree.OpName.{OpName}
 use Rattle.ada_tree.specs.Programs.{Program}
 use Rattle.guarantee.specs.Software.{program_software}
-use Rattle.guarantee.specs.Events.{Deed, Release, Arrive, Enter, Leave, Request, Print, End, Stop, By}
+use Rattle.guarantee.specs.Events.{Deed, Release, Arrive, Enter, Leave, Request, Print, End, Stop, Event, By, named_event}
 use Rattle.law_traces.specs.Checks.{action_of}
 use Rattle.trace_scripts.specs.declared.walks.Walked.{Walked}
 use Rattle.trace_scripts.specs.declared.walks.Walked.TheVariants.{Ran, Begun, Astray}
@@ -172,5 +174,37 @@ plain-deed p time task (Request target v) a good charge c k e = ap (λ z. seen_i
 plain-deed p time task (Print v) a good charge c k e = ap (λ z. seen_if (c.depth == 0) z c) e ∙ plain-course c _ _ c.depth
 plain-deed p time task (End used) a good charge c k e = absurd (cc)
 plain-deed p time task (Stop object priority ceiling) a good charge c k e = ap (λ z. seen_if (c.depth == 0) z c) e ∙ plain-course c _ _ c.depth
+
+-- THE EVENT at an index
+module _ (p : Program) (es : List machine.Event) (here : ℕ) (e : machine.Event) (at : IsAt es here e) (good : Bool) (charge : ℕ × ℕ)
+    (c c' : laws.Course)
+  where
+    shown-as : (x : Event) → named_event p e ≡ x → action_at p es here ≡ action_by p x
+    shown-as x is = at-index p es here e at ∙ ap (action_by p) is
+
+    pub enter-step : (time : ℕ) (task : Name) (name : OpName) (values : List ℕ) → named_event p e ≡ By time task (Enter name values)
+        → (is_some (action_at p es here) ≡ true → c' ≡ entered_if (action_at p es here) good charge c)
+        → c' ≡ after_event p good charge (named_event p e) c
+    enter-step time task name values is does =
+        let same : action_at p es here ≡ action_by p (By time task (Enter name values)) = shown-as (By time task (Enter name values)) is in
+        does (ap is_some same) ∙ enter-deed p time task name values (action_at p es here) good charge c same
+        ∙ ap (λ z. after_event p good charge z c) (sym is)
+
+    pub leave-step : (time : ℕ) (task : Name) (name : OpName) (values : List ℕ) → named_event p e ≡ By time task (Leave name values)
+        → (is_some (action_at p es here) ≡ true → c' ≡ left_if (action_at p es here) c)
+        → c' ≡ after_event p good charge (named_event p e) c
+    leave-step time task name values is does =
+        let same : action_at p es here ≡ action_by p (By time task (Leave name values)) = shown-as (By time task (Leave name values)) is in
+        does (ap is_some same) ∙ leave-deed p time task name values (action_at p es here) good charge c same
+        ∙ ap (λ z. after_event p good charge z c) (sym is)
+
+    pub plain-step : (time : ℕ) (task : Name) (deed : Deed) → named_event p e ≡ By time task deed → is_plain_deed deed ≡ true → (b : Bool)
+        → is_some (action_by p (By time task deed)) ≡ b
+        → (is_some (action_at p es here) ≡ b → c' ≡ seen_if (c.depth == 0) (action_at p es here) c)
+        → c' ≡ after_event p good charge (named_event p e) c
+    plain-step time task deed is plain b shown does =
+        let same : action_at p es here ≡ action_by p (By time task deed) = shown-as (By time task deed) is in
+        does (ap is_some same ∙ shown) ∙ plain-deed p time task deed (action_at p es here) good charge c plain same
+        ∙ ap (λ z. after_event p good charge z c) (sym is)
 
 pub ruleset step_steps = (enter-deed, leave-deed, end-deed, plain-deed)

@@ -1,51 +1,74 @@
--- Scripts and levels as the code holds them: one action more, and the innermost level.
-use Rattle.std.proofs.Common.{◌≡◌, Bool, true, false, List, [], ◌∷◌, ◌++◌, map, fold, Some, None, refl, sym, ap, ◌∙◌, append_assoc}
-use Rattle.std.specs.Prelude.{reverse, if◌then◌else◌}
-use Rattle.std.proofs.lemmas.List.{map-append}
-use Rattle.std.proofs.lemmas.List.Sums.{fold-append}
-use Rattle.std.proofs.lemmas.Grind.{reverse_onto}
+-- A script with one event more, in front of what is shown behind it.
+use Rattle.std.proofs.Common.{◌≡◌, ℕ, Bool, true, false, List, [], ◌∷◌, ◌++◌, Option, Some, None, refl, sym, ap, ◌∙◌, append_assoc}
+use Rattle.std.specs.Prelude.{is_some, if◌then◌else◌}
+use Rattle.std.specs.List.{cons_option}
 use Rattle.seq_tree.specs.Runs as runs
-use Rattle.seq_eval.specs.declared.action.Action.{Action}
-use Rattle.seq_eval.specs.Actions.{action_of}
+use Rattle.ada_tree.specs.Programs.{Program}
+use Rattle.guarantee.specs.Events.{named_event}
+use Rattle.trace_tree.specs.declared.event.Event as machine
+use Rattle.law_traces.specs.Checks.{both}
 use Rattle.law_scripts.specs.Entries.{Shown}
-use Rattle.trace_scripts.specs.Scripts.{back_of, levels_of, shown_of}
+use Rattle.law_scripts.specs.Progress.{with_last}
+use Rattle.trace_scripts.specs.Insides.{joined}
+use Rattle.trace_scripts.specs.Scripts.{IsAt, action_at, action_by, actions_at, first_action, shown_of}
 use Rattle.trace_scripts.specs.declared.scripts.Script.{Script}
 
-abbrev backwards : List Action → List runs.Action
-backwards as' = fold (λ bs a. action_of a ∷ bs) [] as'
+pub last-front : (s : Shown) (a : Option runs.Action) (more : Shown) → joined (with_last s a) more ≡ joined s (both a more)
+last-front None a more = refl
+last-front (Some as') None more = refl
+last-front (Some as') (Some a) None = refl
+last-front (Some as') (Some a) (Some bs) = ap (λ z. let o : Shown = Some z in o) (append_assoc as' (a ∷ []) bs)
 
-pub back-more : (as' : List Action) (a : Action) → backwards (as' ++ a ∷ []) ≡ action_of a ∷ backwards as'
-back-more as' a = fold-append (λ bs b. action_of b ∷ bs) [] as' (a ∷ [])
+onto-both : {A : Type 0} (o : Option A) (xs ys : List A) → cons_option o (xs ++ ys) ≡ cons_option o xs ++ ys
+onto-both None xs ys = refl
+onto-both (Some x) xs ys = refl
 
-pub shown-more : (as' : List Action) (a : Action) → map action_of (as' ++ a ∷ []) ≡ map action_of as' ++ action_of a ∷ []
-shown-more as' a = map-append action_of as' (a ∷ [])
+module _ (p : Program) (es : List machine.Event) (here : ℕ) where
+  -- the event at an index
+  pub at-index : (e : machine.Event) → IsAt es here e → action_at p es here ≡ action_by p (named_event p e)
+  unfolding action_at
+  at-index e at = ap (first_action p) at
 
-pub levels-more : (ls : List Script) (l : Script) → levels_of (ls ++ l ∷ []) ≡ back_of l ∷ levels_of ls
-levels-more ls l = fold-append (λ ss s. back_of s ∷ ss) [] ls (l ∷ [])
+  actions-more : (lines : List ℕ) → actions_at p es (lines ++ here ∷ []) ≡ actions_at p es lines ++ cons_option (action_at p es here) []
+  unfolding actions_at
+  actions-more [] = refl
+  actions-more (l ∷ ls) =
+      ap (cons_option (action_at p es l)) (actions-more ls)
+      ∙ onto-both (action_at p es l) (actions_at p es ls) (cons_option (action_at p es here) [])
 
-abbrev push_back : List runs.Action → Action → List runs.Action
-push_back bs a = action_of a ∷ bs
+  abbrev held : Bool → List ℕ → Shown
+  held b lines = if b then Some (actions_at p es lines) else None
 
-back-onto : (as' : List Action) (bs : List runs.Action) → fold push_back bs as' ≡ backwards as' ++ bs
-back-onto [] bs = refl
-back-onto (a ∷ as') bs =
-    back-onto as' (action_of a ∷ bs) ∙ sym (append_assoc (backwards as') (action_of a ∷ []) bs)
-    ∙ ap (λ z. z ++ bs) (sym (back-onto as' (action_of a ∷ [])))
+  one-more : (b : Bool) (lines : List ℕ) (o : Option runs.Action) → is_some o ≡ true → (xs : List runs.Action)
+      → xs ≡ actions_at p es lines ++ cons_option o []
+      → (let s : Shown = if b then Some xs else None in s) ≡ with_last (held b lines) o
+  one-more false lines o some xs e = refl
+  one-more true lines None some xs e = absurd (cc)
+  one-more true lines (Some a) some xs e = ap (λ z. let s : Shown = Some z in s) e
 
-back-turned : (as' : List Action) → map action_of (reverse as') ≡ backwards as'
-back-turned [] = refl
-back-turned (a ∷ as') =
-    ap (map action_of) (reverse_onto as' a []) ∙ map-append action_of (reverse as') (a ∷ []) ∙ ap (λ z. z ++ action_of a ∷ []) (back-turned as')
-    ∙ sym (back-onto as' (action_of a ∷ []))
+  pub shown-more : (before after : Script) → is_some (action_at p es here) ≡ true → after.shows ≡ before.shows
+      → after.lines.items ≡ before.lines.items ++ here ∷ [] → shown_of p es after ≡ with_last (shown_of p es before) (action_at p es here)
+  shown-more before after some same lines =
+      ap (λ b. held b after.lines.items) same ∙ ap (held before.shows) lines
+      ∙ one-more before.shows before.lines.items (action_at p es here) some (actions_at p es (before.lines.items ++ here ∷ []))
+      (actions-more before.lines.items)
 
--- a script that is turned
-pub turned : (s r : Script) → r.actions.items ≡ reverse s.actions.items → r.shows ≡ s.shows → shown_of r ≡ back_of s
-turned s r e same = ap (λ b. if b then Some (map action_of r.actions.items) else None) same ∙ by s.shows
-  where
-    by : (b : Bool) → (if b then Some (map action_of r.actions.items) else None) ≡ (if b then Some (backwards s.actions.items) else None)
-    by true = ap (λ z. Some (map action_of z)) e ∙ ap (λ (z : List runs.Action). let o : Shown = Some z in o) (back-turned s.actions.items)
-    by false = refl
+  none-last : (s : Shown) (o : Option runs.Action) → is_some o ≡ false → (let r : Shown = None in r) ≡ with_last s o
+  none-last None o e = refl
+  none-last (Some as') None e = refl
+  none-last (Some as') (Some a) e = absurd (cc)
 
-pub ruleset adding = (back-more, shown-more)
+  pub shown-none : (before after : Script) → is_some (action_at p es here) ≡ false → after.shows ≡ false
+      → shown_of p es after ≡ with_last (shown_of p es before) (action_at p es here)
+  shown-none before after none hides =
+      ap (λ b. held b after.lines.items) hides ∙ none-last (shown_of p es before) (action_at p es here) none
 
-pub ruleset stacking = (levels-more)
+-- an event that is added
+pub added : (p : Program) (es : List machine.Event) (here : ℕ) (e : machine.Event) → IsAt es here e → (b : Bool)
+    → is_some (action_by p (named_event p e)) ≡ b → (s s' : Shown)
+    → (is_some (action_at p es here) ≡ b → s' ≡ with_last s (action_at p es here))
+    → (more : Shown) → joined s' more ≡ joined s (both (action_by p (named_event p e)) more)
+added p es here e at b is s s' adds more =
+    let same : action_at p es here ≡ action_by p (named_event p e) = at-index p es here e at in
+    ap (λ z. joined z more) (adds (ap is_some same ∙ is)) ∙ last-front s (action_at p es here) more
+    ∙ ap (λ o. joined s (both o more)) same

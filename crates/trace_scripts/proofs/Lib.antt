@@ -2,7 +2,7 @@ pub mod Readings
 pub mod Asked
 pub mod Holding
 pub mod Acting
-pub mod Booking
+pub mod Looking
 pub mod Entering
 pub mod DataSteps
 pub mod Walking
@@ -19,3 +19,4 @@ pub mod ThreadsNamed
 pub mod MoveSteps
 pub mod Judging
 pub mod Valuing
+pub mod AlongSteps

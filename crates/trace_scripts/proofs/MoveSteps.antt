@@ -3,7 +3,6 @@ use Rattle.std.proofs.Common.{◌≡◌, ℕ, zero, suc, ◌+◌, ◌<◌, ◌�
 use Rattle.std.proofs.Common.{Option, Some, None, refl, sym, ap, subst, ◌∙◌, get_or, set, arith}
 use Rattle.std.specs.Prelude.{slice_get, option_map, option_and_then, find, filter_map, is_some}
 use Rattle.std.proofs.lemmas.Option.{none-some, same_Some, slice_get-map, slice_get_read}
-use Rattle.std.proofs.lemmas.List.{nil_from_length}
 use Rattle.seq_tree.specs.Lists.{change}
 use Rattle.seq_tree.specs.Names.{Name}
 use Rattle.seq_tree.specs.Statements.{Statements}
@@ -23,18 +22,19 @@ use Rattle.law_scripts.specs.Progress as laws
 use Rattle.law_scripts.specs.Progress.{is_well}
 use Rattle.law_scripts.specs.Services as services
 use Rattle.law_scripts.specs.Services.{is_served, is_sound}
+use Rattle.trace_read.specs.Deeds.{Reads}
 use Rattle.trace_scripts.specs.Moving.{AreFollowing, AreOf, good_at, good_with, move_by, moved_at, threads_from, threads_with, well_by}
-use Rattle.trace_scripts.specs.Objects.{charge_of, service_of}
+use Rattle.trace_scripts.specs.Objects.{service_of}
 use Rattle.trace_scripts.specs.Scenes.{AllBlocks, AllIn}
-use Rattle.trace_scripts.specs.Serving.{service_at}
+use Rattle.trace_scripts.specs.Insides.{entries_from, entry_from}
+use Rattle.trace_scripts.specs.Serving.{charge_with, charges_by, objects_with, service_at}
 use Rattle.trace_scripts.specs.Threads.{IsOf, progress_of, step_by}
 use Rattle.trace_scripts.specs.declared.progress.Progress.{Progress}
 use Rattle.trace_scripts.specs.declared.progress.Thread.{Thread}
-use Rattle.trace_scripts.specs.declared.services.Charge.{Charge}
 use Rattle.trace_scripts.specs.declared.services.Service.{Service}
-use Rattle.trace_scripts.proofs.Booking.{read-at}
 use Rattle.trace_scripts.proofs.Finding.{found-here, found-past, passes}
-use Rattle.trace_scripts.proofs.Objecting.{change-same, each-at, state-set}
+use Rattle.trace_scripts.proofs.Objecting.{change-same, each-at, read-at, state-set}
+use Rattle.trace_scripts.proofs.Passing.{behind-is}
 
 -- THE THREAD at a place
 pub record Found (p : Program) (unit : ℕ) (h : Thread) : Type 0 where
@@ -72,13 +72,13 @@ block-at p unit in' h f P all =
     subst P f.is.block (task-block P u.0.name u.0.form f.task (sym (ap (option_and_then task_in) u.1) ∙ f.at) blocks)
 
 -- ONE EVENT
-pub step-made : (p : Program) (depth : ℕ) (good : Bool) (charge : ℕ × ℕ) (e : machine.Event) (task : ℕ) (h : Thread) → (f : Found p task h)
+pub step-made : (p : Program) (es : List machine.Event) (depth : ℕ) (good : Bool) (charge : ℕ × ℕ) (e : machine.Event) (task : ℕ) (h : Thread) → (f : Found p task h)
     → (ss : List Progress) (b before after : Progress) → task < length ss → before ≡ get_or ss task before
-    → progress_of after ≡ step_by p depth f.task good charge (named_event p e) (progress_of before)
-    → map progress_of (set (set ss task b) task after) ≡ moved_at p depth good charge e task (map progress_of ss)
-step-made p depth good charge e task h f ss b before after in' is does =
-    state-set progress_of ss task b before after (step_by p depth f.task good charge (named_event p e)) in' is does
-    ∙ ap (λ o. change task (move_by p depth good charge (named_event p e) o) (map progress_of ss)) (sym f.at)
+    → progress_of p es after ≡ step_by p depth f.task good charge (named_event p e) (progress_of p es before)
+    → map (progress_of p es) (set (set ss task b) task after) ≡ moved_at p depth good charge e task (map (progress_of p es) ss)
+step-made p es depth good charge e task h f ss b before after in' is does =
+    state-set (progress_of p es) ss task b before after (step_by p depth f.task good charge (named_event p e)) in' is does
+    ∙ ap (λ o. change task (move_by p depth good charge (named_event p e) o) (map (progress_of p es) ss)) (sym f.at)
 
 pub step-none : (p : Program) (depth : ℕ) (good : Bool) (charge : ℕ × ℕ) (e : machine.Event) (task : ℕ) (ss : List laws.Progress)
     → task_at p task ≡ None → ss ≡ moved_at p depth good charge e task ss
@@ -137,27 +137,29 @@ good-none p unit os e = by (guarded_at p unit) e
     by (Some g) t = absurd (cc)
 
 -- ALL EVENTS
-module _ (p : Program) (depth : ℕ) (os : List services.Service) (left rest : List machine.Event) (e : machine.Event) (l : left ≡ e ∷ rest)
-    (ways others : List Charge) (ss : List laws.Progress) (target : List laws.Progress)
-    (so-far : threads_from p depth os left (map charge_of ways) ss ≡ target) where
-  pub go-on : (c : Charge) → ways ≡ c ∷ others → (good : Bool) → good ≡ good_with p os e → (ss' : List laws.Progress)
-      → ss' ≡ threads_with p depth good e (charge_of c) ss → threads_from p depth os rest (map charge_of others) ss' ≡ target
-  unfolding threads_from
-  go-on c w good g ss' does =
-      ap (threads_from p depth os rest (map charge_of others)) (does ∙ ap (λ z. threads_with p depth z e (charge_of c) ss) g)
-      ∙ ap (λ z. threads_from p depth os (e ∷ rest) (map charge_of z) ss) (sym w)
-      ∙ ap (λ z. threads_from p depth os z (map charge_of ways) ss) (sym l) ∙ so-far
-
-  pub stops : length ways ≡ 0 → ss ≡ target
-  unfolding threads_from
-  stops n =
-      sym (ap (λ z. threads_from p depth os (e ∷ rest) (map charge_of z) ss) (nil_from_length ways n))
-      ∙ ap (λ z. threads_from p depth os z (map charge_of ways) ss) (sym l) ∙ so-far
+pub go-on : (p : Program) (depth most : ℕ) (os : List services.Service) (es : List machine.Event) (at behind here : ℕ) (e : machine.Event)
+    → Reads es at behind (Some e) → here ≡ at
+    → (ss ss' : List services.Service) → ss' ≡ objects_with p depth e (entry_from p e (drop (suc here) es)) ss → (ts ts' target : List laws.Progress)
+    → threads_from p depth os (drop at es) (charges_by p depth most (drop at es) (entries_from p (drop at es)) ss) ts ≡ target → (c : ℕ × ℕ)
+    → c ≡ charge_with p depth most e (entry_from p e (drop (suc here) es)) ss → (good : Bool) → good ≡ good_with p os e
+    → ts' ≡ threads_with p depth good e c ts
+    → threads_from p depth os (drop behind es) (charges_by p depth most (drop behind es) (entries_from p (drop behind es)) ss') ts' ≡ target
+unfolding threads_from charges_by entries_from
+go-on p depth most os es at behind here e r here-is ss ss' serves ts ts' target so-far c is good g does =
+    let rest : List machine.Event = drop behind es in
+    let same : drop (suc here) es ≡ rest = behind-is es at behind here e r here-is in
+    let Rest : List services.Service → List laws.Progress → List laws.Progress =
+    λ z t. threads_from p depth os rest (charges_by p depth most rest (entries_from p rest) z) t in
+    ap (λ z. Rest z ts') (serves ∙ ap (λ z. objects_with p depth e (entry_from p e z) ss) same)
+    ∙ ap (Rest (objects_with p depth e (entry_from p e rest) ss))
+    (does ∙ ap (λ z. threads_with p depth z e c ts) g
+    ∙ ap (λ z. threads_with p depth (good_with p os e) e z ts) (is ∙ ap (λ z. charge_with p depth most e (entry_from p e z) ss) same))
+    ∙ ap (λ z. threads_from p depth os z (charges_by p depth most z (entries_from p z) ss) ts) (sym r.0) ∙ so-far
 
 pub all-done : (p : Program) (depth : ℕ) (os : List services.Service) (left : List machine.Event) (cs : List (ℕ × ℕ)) (ss target : List laws.Progress)
-    → length left ≡ 0 → threads_from p depth os left cs ss ≡ target → ss ≡ target
+    → left ≡ [] → threads_from p depth os left cs ss ≡ target → ss ≡ target
 unfolding threads_from
-all-done p depth os left cs ss target n h = sym (ap (λ z. threads_from p depth os z cs ss) (nil_from_length left n)) ∙ h
+all-done p depth os left cs ss target n h = sym (ap (λ z. threads_from p depth os z cs ss) n) ∙ h
 
 -- WHETHER STEPS ARE ACTIVATIONS
 pub well-none : (p : Program) (depth unit : ℕ) (s : laws.Progress) → task_at p unit ≡ None
@@ -169,26 +171,26 @@ pub well-some : (p : Program) (depth unit : ℕ) (h : Thread) (f : Found p unit 
 well-some p depth unit h f s b e = e ∙ ap (λ o. well_by (program_software p) depth o s) (sym f.at)
 
 -- OVER UNITS
-pub other-units : (ss : List Progress) (at u : ℕ) (y : Progress) → at + 1 ≤ u
-    → slice_get (map progress_of (set ss at y)) u ≡ slice_get (map progress_of ss) u
-other-units [] at u y h = refl
-other-units (s ∷ ss) at zero y h = absurd (omega (arith, h))
-other-units (s ∷ ss) zero (suc u) y h = refl
-other-units (s ∷ ss) (suc at) (suc u) y h = other-units ss at u y (let g : suc at + 1 ≤ suc u = h in omega (arith, g))
+pub other-units : (p : Program) (es : List machine.Event) (ss : List Progress) (at u : ℕ) (y : Progress) → at + 1 ≤ u
+    → slice_get (map (progress_of p es) (set ss at y)) u ≡ slice_get (map (progress_of p es) ss) u
+other-units p es [] at u y h = refl
+other-units p es (s ∷ ss) at zero y h = absurd (omega (arith, h))
+other-units p es (s ∷ ss) zero (suc u) y h = refl
+other-units p es (s ∷ ss) (suc at) (suc u) y h = other-units p es ss at u y (let g : suc at + 1 ≤ suc u = h in omega (arith, g))
 
-pub passes-thread : (p : Program) (depth at : ℕ) → IsUnit p at → (all : List laws.Progress) (ss : List Progress) (s : Progress)
+pub passes-thread : (p : Program) (es : List machine.Event) (depth at : ℕ) → IsUnit p at → (all : List laws.Progress) (ss : List Progress) (s : Progress)
     (following : Task → Bool)
-    → AreFollowing p depth all following → slice_get (map progress_of ss) at ≡ slice_get all at → at < length ss → s ≡ get_or ss at s → (b : Bool)
-    → b ≡ well_by (program_software p) depth (task_at p at) (progress_of s) → b ≡ passes following (task_at p at)
-passes-thread p depth at in' all ss s following are same h is b e = e ∙ by (task_at p at) refl
+    → AreFollowing p depth all following → slice_get (map (progress_of p es) ss) at ≡ slice_get all at → at < length ss → s ≡ get_or ss at s → (b : Bool)
+    → b ≡ well_by (program_software p) depth (task_at p at) (progress_of p es s) → b ≡ passes following (task_at p at)
+passes-thread p es depth at in' all ss s following are same h is b e = e ∙ by (task_at p at) refl
   where
-    read : slice_get all at ≡ Some (progress_of s)
-    read = sym same ∙ slice_get-map progress_of ss at ∙ ap (option_map progress_of) (slice_get_read ss (length ss) at s refl h is)
+    read : slice_get all at ≡ Some (progress_of p es s)
+    read = sym same ∙ slice_get-map (progress_of p es) ss at ∙ ap (option_map (progress_of p es)) (slice_get_read ss (length ss) at s refl h is)
 
-    by : (o : Option Task) → task_at p at ≡ o → well_by (program_software p) depth o (progress_of s) ≡ passes following o
+    by : (o : Option Task) → task_at p at ≡ o → well_by (program_software p) depth o (progress_of p es s) ≡ passes following o
     by None k = refl
     by (Some t) k =
-        same_Some (is_well (program_software p) depth t (progress_of s)) (following t)
+        same_Some (is_well (program_software p) depth t (progress_of p es s)) (following t)
         (sym (ap (option_map (is_well (program_software p) depth t)) read) ∙ are at t in' k)
 
 pub past-thread : (p : Program) (at : ℕ) → IsUnit p at → (following : Task → Bool) (target : Option Task)

@@ -1,5 +1,5 @@
 -- An operation of the object at a place, and one state that has changed.
-use Rattle.std.proofs.Common.{◌≡◌, ℕ, zero, suc, ◌<◌, List, [], ◌∷◌, map, length, Option, Some, None, refl, sym, ap, subst, ◌∙◌, get_or, set}
+use Rattle.std.proofs.Common.{◌≡◌, ℕ, zero, suc, ◌<◌, List, [], ◌∷◌, map, length, Option, Some, None, refl, sym, ap, subst, ◌∙◌, get_or, set, arith}
 use Rattle.std.specs.Prelude.{slice_get, option_map, unwrap_or, option_and_then}
 use Rattle.std.proofs.lemmas.Option.{none-some, same_Some}
 use Rattle.seq_tree.specs.Lists.{Each, change}
@@ -29,8 +29,21 @@ use Rattle.trace_scripts.specs.Scenes.{AllBlocks, AllIn}
 use Rattle.trace_scripts.specs.Serving.{leave_by, enter_by, charge_by, left_at, entered_at, charged_at, service_at}
 use Rattle.trace_scripts.specs.declared.objects.Object.{Object}
 use Rattle.trace_scripts.specs.declared.services.Service.{Service}
-use Rattle.trace_scripts.proofs.Booking.{changed-at, read-at}
 use Rattle.trace_scripts.proofs.Readings.{unit-ops}
+
+-- one item of a list under a view: changed, and read
+changed-at : {A B : Type 0} (view : A → B) (xs : List A) (i : ℕ) (x y : A) (f : B → B) → i < length xs → x ≡ get_or xs i x → view y ≡ f (view x)
+    → map view (set xs i y) ≡ change i f (map view xs)
+changed-at view [] i x y f h e g = absurd (omega (arith, h))
+changed-at {A} {B} view (u ∷ us) zero x y f h e g = ap (λ z. z ∷ map view us) (g ∙ ap (λ z. f (view z)) e)
+changed-at view (u ∷ us) (suc i) x y f h e g =
+    ap (λ z. view u ∷ z) (changed-at view us i x y f (let k : suc i < suc (length us) = h in omega arith) e g)
+
+pub read-at : {A B : Type 0} (view : A → B) (xs : List A) (i : ℕ) (x : A) (d : B) → i < length xs → x ≡ get_or xs i x
+    → unwrap_or (slice_get (map view xs) i) d ≡ view x
+read-at view [] i x d h e = absurd (omega (arith, h))
+read-at view (u ∷ us) zero x d h e = ap view (sym e)
+read-at view (u ∷ us) (suc i) x d h e = read-at view us i x d (let k : suc i < suc (length us) = h in omega arith) e
 
 pub each-at : {A : Type 0} (P : A → Type 0) (xs : List A) (i : ℕ) (x : A) → Each P xs → slice_get xs i ≡ Some x → P x
 each-at P [] i x h e = absurd (none-some x e)

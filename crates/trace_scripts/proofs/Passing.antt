@@ -1,62 +1,46 @@
 -- The pass over the objects, one event at a time.
-use Rattle.std.proofs.Common.{◌≡◌, ℕ, suc, ◌+◌, List, [], ◌∷◌, ◌++◌, map, length, sym, ap, subst, ◌∙◌, arith, append_assoc, append-nil}
-use Rattle.std.proofs.lemmas.List.{map-append, length-append}
-use Rattle.std.proofs.lemmas.List.Sums.{fold-append}
-use Rattle.std.proofs.lemmas.List.{nil_from_length}
+use Rattle.std.proofs.Common.{◌≡◌, ℕ, zero, suc, List, [], ◌∷◌, Option, Some, drop, sym, ap, subst, ◌∙◌}
 use Rattle.seq_tree.specs.Lists.{Each}
 use Rattle.ada_tree.specs.Programs.{Program}
 use Rattle.trace_tree.specs.declared.event.Event as machine
-use Rattle.law_scripts.specs.Entries as entries
 use Rattle.law_scripts.specs.Services as services
-use Rattle.trace_scripts.specs.Books.{entry_of, known_of}
-use Rattle.trace_scripts.specs.Objects.{charge_of}
-use Rattle.trace_scripts.specs.Serving.{objects_with, objects_from, charge_with, charges_by}
-use Rattle.trace_scripts.specs.declared.books.Entry.{Entry}
-use Rattle.trace_scripts.specs.declared.services.Charge.{Charge}
+use Rattle.trace_read.specs.Deeds.{Reads, first_task, task_of}
+use Rattle.trace_scripts.specs.Insides.{entries_from, entry_from}
+use Rattle.trace_scripts.specs.Scripts.{IsAt}
+use Rattle.trace_scripts.specs.Serving.{objects_with, objects_from}
 
-known-popped : (known popped : List Entry) (x : Entry) → known ≡ popped ++ x ∷ [] → known_of known ≡ entry_of x ∷ known_of popped
-known-popped known popped x e = ap known_of e ∙ fold-append (λ xs z. entry_of z ∷ xs) [] popped (x ∷ [])
+-- AN EVENT at an index
+each-drop : {A : Type 0} (P : A → Type 0) (n : ℕ) (xs : List A) → Each P xs → Each P (drop n xs)
+each-drop P zero xs h = h
+each-drop P (suc n) [] h = h
+each-drop P (suc n) (x ∷ xs) h = each-drop P n xs h.1
 
-pub length-popped : (known popped : List Entry) (x : Entry) (left rest : List machine.Event) (e : machine.Event) → known ≡ popped ++ x ∷ []
-    → left ≡ e ∷ rest → length known ≡ length left → length popped ≡ length rest
-length-popped known popped x left rest e k l h =
-    let a : length known ≡ length popped + 1 = ap length k ∙ length-append popped (x ∷ []) in
-    let b : length left ≡ suc (length rest) = ap length l in
-    omega (arith, a, b, h)
+pub placed-at : (P : machine.Event → Type 0) (es : List machine.Event) (here : ℕ) (e : machine.Event) → IsAt es here e → Each P es → P e
+placed-at P es here e at h = (subst (Each P) at (each-drop P here es h)).0
 
-pub each-rest : {A : Type 0} (P : A → Type 0) (left rest : List A) (e : A) → left ≡ e ∷ rest → Each P left → Each P rest
-each-rest P left rest e l h = (subst (Each P) l h).1
+pub stands-at : (es : List machine.Event) (at behind here : ℕ) (e : machine.Event) → Reads es at behind (Some e) → here ≡ at → IsAt es here e
+stands-at es at behind here e r is =
+    ap (λ k. drop k es) is ∙ r.0 ∙ ap (λ k. e ∷ drop k es) (r.1 ∙ ap suc (sym is))
 
-module _ (p : Program) (depth most : ℕ) (left rest : List machine.Event) (e : machine.Event) (known popped : List Entry) (x : Entry)
-    (ss ss' : List services.Service) (l : left ≡ e ∷ rest) (k : known ≡ popped ++ x ∷ []) (does : ss' ≡ objects_with p depth e (entry_of x) ss) where
-  pub step-states : (target : List services.Service) → objects_from p depth left (known_of known) ss ≡ target
-      → objects_from p depth rest (known_of popped) ss' ≡ target
-  unfolding objects_from
-  step-states target h =
-      ap (objects_from p depth rest (known_of popped)) does
-      ∙ ap (λ z. objects_from p depth (e ∷ rest) z ss) (sym (known-popped known popped x k)) ∙ ap (λ z. objects_from p depth z (known_of known) ss) (sym l) ∙ h
+pub behind-is : (es : List machine.Event) (at behind here : ℕ) (e : machine.Event) → Reads es at behind (Some e) → here ≡ at
+    → drop (suc here) es ≡ drop behind es
+behind-is es at behind here e r is = ap (λ k. drop k es) (ap suc is ∙ sym r.1)
 
-  pub step-charges : (cs pushed : List Charge) (c : Charge) (target : List (ℕ × ℕ)) → pushed ≡ cs ++ c ∷ []
-      → charge_of c ≡ charge_with p depth most e (entry_of x) ss
-      → map charge_of cs ++ charges_by p depth most left (known_of known) ss ≡ target
-      → map charge_of pushed ++ charges_by p depth most rest (known_of popped) ss' ≡ target
-  unfolding charges_by
-  step-charges cs pushed c target made charged h =
-      ap (λ z. map charge_of z ++ charges_by p depth most rest (known_of popped) ss') made
-      ∙ ap (λ z. z ++ charges_by p depth most rest (known_of popped) ss') (map-append charge_of cs (c ∷ []))
-      ∙ append_assoc (map charge_of cs) (charge_of c ∷ []) (charges_by p depth most rest (known_of popped) ss')
-      ∙ ap (λ z. map charge_of cs ++ z ∷ charges_by p depth most rest (known_of popped) ss') charged
-      ∙ ap (λ z. map charge_of cs ++ charge_with p depth most e (entry_of x) ss ∷ charges_by p depth most rest (known_of popped) z) does
-      ∙ ap (λ z. map charge_of cs ++ charges_by p depth most (e ∷ rest) z ss) (sym (known-popped known popped x k))
-      ∙ ap (λ z. map charge_of cs ++ charges_by p depth most z (known_of known) ss) (sym l) ∙ h
+pub task-here : (es : List machine.Event) (here task : ℕ) (e : machine.Event) → IsAt es here e → task_of e ≡ Some task → first_task (drop here es) ≡ Some task
+task-here es here task e at is = ap first_task at ∙ is
 
-pub done-states : (p : Program) (depth : ℕ) (left : List machine.Event) (xs : List entries.Entry) (ss target : List services.Service) → length left ≡ 0
-    → objects_from p depth left xs ss ≡ target → ss ≡ target
+-- THE OBJECTS
+pub step-states : (p : Program) (depth : ℕ) (es : List machine.Event) (at behind here : ℕ) (e : machine.Event) → Reads es at behind (Some e) → here ≡ at
+    → (ss ss' target : List services.Service) → ss' ≡ objects_with p depth e (entry_from p e (drop (suc here) es)) ss
+    → objects_from p depth (drop at es) (entries_from p (drop at es)) ss ≡ target
+    → objects_from p depth (drop behind es) (entries_from p (drop behind es)) ss' ≡ target
+unfolding objects_from entries_from
+step-states p depth es at behind here e r is ss ss' target does h =
+    ap (objects_from p depth (drop behind es) (entries_from p (drop behind es)))
+    (does ∙ ap (λ z. objects_with p depth e (entry_from p e z) ss) (behind-is es at behind here e r is))
+    ∙ ap (λ z. objects_from p depth z (entries_from p z) ss) (sym r.0) ∙ h
+
+pub done-states : (p : Program) (depth : ℕ) (left : List machine.Event) (ss target : List services.Service) → left ≡ []
+    → objects_from p depth left (entries_from p left) ss ≡ target → ss ≡ target
 unfolding objects_from
-done-states p depth left xs ss target l h = sym (ap (λ z. objects_from p depth z xs ss) (nil_from_length left l)) ∙ h
-
-pub done-charges : (p : Program) (depth most : ℕ) (left : List machine.Event) (xs : List entries.Entry) (ss : List services.Service)
-    (cs target : List (ℕ × ℕ)) → length left ≡ 0 → cs ++ charges_by p depth most left xs ss ≡ target → cs ≡ target
-unfolding charges_by
-done-charges p depth most left xs ss cs target l h =
-    sym (append-nil cs) ∙ sym (ap (λ z. cs ++ charges_by p depth most z xs ss) (nil_from_length left l)) ∙ h
+done-states p depth left ss target l h = sym (ap (λ z. objects_from p depth z (entries_from p z) ss) l) ∙ h

@@ -1,9 +1,10 @@
 -- What stands at a place of a program, and the names of its operations.
-use Rattle.std.proofs.Common.{◌≡◌, ℕ, ◌<◌, List, [], ◌∷◌, length, map, get_or, arith, Option, Some, slice_get, ap, sym, subst, ◌∙◌}
+use Rattle.std.proofs.Common.{◌≡◌, ℕ, ◌<◌, Bool, true, ◌&&◌, List, [], ◌∷◌, length, map, get_or, arith, Option, Some, slice_get, ap, sym, subst, ◌∙◌}
 use Rattle.std.specs.Prelude.{option_map, unwrap_or}
 use Rattle.std.proofs.lemmas.List.{length-map}
 use Rattle.std.proofs.lemmas.Option.{slice_get-map}
-use Rattle.seq_tree.specs.Names.{Name}
+use Rattle.seq_tree.specs.Names.{Name, same_name}
+use Rattle.seq_tree.specs.Calls.{same_op}
 use Rattle.seq_tree.specs.Operations.{Signature}
 use Rattle.seq_tree.specs.Trees.{operation_of}
 use Rattle.seq_tree.specs.declared.tree.OpText.{OpText}
@@ -53,15 +54,20 @@ pub op-within : (p : AdaProgram) (unit op : ℕ) (u : units.Unit) → slice_get 
     → op < length (unit_ops (program_of p) unit) → op < length (heads (form_of u.form))
 op-within p unit op u at h = subst (λ hs. op < length hs) (unit-ops (program_of p) unit (unit_of u) at) h
 
-pub op-made : (p : AdaProgram) (unit op : ℕ) (u : units.Unit) (object name name' : Name) → slice_get (program_of p).units unit ≡ Some (unit_of u)
-    → option_map (λ h. h.name) (slice_get (heads (form_of u.form)) op) ≡ Some name' → object ≡ u.name → name ≡ name'
-    → (let n : OpName = record { object = object; op = name } in n) ≡ op_at (program_of p) unit op
-op-made p unit op u object name name' at e i j =
-    let F : Name → Name → OpName = λ x y. record { object = x; op = y } in
-    ap (λ x. F x name) i ∙ ap (F u.name) j ∙ sym (op-read (program_of p) unit op (unit_of u) name' at e)
+pub op-is : (p : AdaProgram) (unit op : ℕ) (u : units.Unit) (object name name' : Name) → slice_get (program_of p).units unit ≡ Some (unit_of u)
+    → option_map (λ h. h.name) (slice_get (heads (form_of u.form)) op) ≡ Some name' → (a b : Bool) → a ≡ same_name object u.name
+    → b ≡ same_name name name' → a && b ≡ same_op (record { object = object; op = name }) (op_at (program_of p) unit op)
+op-is p unit op u object name name' at e a b f g =
+    let n : OpName = record { object = object; op = name } in
+    ap (λ z. z && b) f ∙ ap (λ z. same_name object u.name && z) g ∙ ap (same_op n) (sym (op-read (program_of p) unit op (unit_of u) name' at e))
+
+pub op-then : (p : AdaProgram) (unit op : ℕ) (u : units.Unit) (object name name' : Name) → slice_get (program_of p).units unit ≡ Some (unit_of u)
+    → option_map (λ h. h.name) (slice_get (heads (form_of u.form)) op) ≡ Some name' → (a b : Bool) → a ≡ same_name object u.name
+    → b ≡ same_name name name' → a ≡ true → b ≡ same_op (record { object = object; op = name }) (op_at (program_of p) unit op)
+op-then p unit op u object name name' at e a b f g h = ap (λ z. z && b) (sym h) ∙ op-is p unit op u object name name' at e a b f g
 
 pub ruleset unit_steps = (unit-read, unit_name-read)
 
-pub ruleset read_steps = (op-within, op-made)
+pub ruleset read_steps = (op-within, op-is)
 
 pub ruleset name_steps = (name-read, only-name, length-map)

@@ -27,8 +27,7 @@ use Rattle.law_scripts.specs.Services as services
 use Rattle.law_scripts.specs.Services.{is_served, is_sound}
 use Rattle.law_scripts.specs.Laws.{at_first, charges_in, is_served_in}
 use Rattle.law_scripts.proofs.Shared.Told.{thread-told}
-use Rattle.trace_scripts.specs.Books.{entries_from, known_of}
-use Rattle.trace_scripts.specs.declared.books.Entry.{Entry}
+use Rattle.trace_scripts.specs.Insides.{entries_from}
 use Rattle.trace_scripts.specs.Moving.{AreFollowing, good_at, good_with, idle_at_first, move_by, threads_first, threads_from, threads_with}
 use Rattle.trace_scripts.specs.Objects.{AreServing}
 use Rattle.trace_scripts.specs.Serving.{charges_by, objects_from, service_at, services_first}
@@ -155,12 +154,11 @@ threads-say p meets clear es placed os are cs charged ss is u t k at =
     ∙ ap (λ b. Some b) (thread-told w clear.objects d told t)
 
 pub threads-told : (p : Program) → MeetsRules p → (clear : IsClear (program_software p)) (es : List machine.Event) → Each (IsPlaced p) es
-    → (xs : List Entry) → known_of xs ≡ entries_from p es → (os : List services.Service)
-    → os ≡ objects_from p clear.depth es (known_of xs) (services_first p) → (most : ℕ) → most ≡ most_used (named p es) → (cs : List (ℕ × ℕ))
-    → cs ≡ charges_by p clear.depth most es (known_of xs) (services_first p) → (ss : List laws.Progress)
-    → ss ≡ threads_from p clear.depth os es cs (threads_first p)
+    → (os : List services.Service) → os ≡ objects_from p clear.depth es (entries_from p es) (services_first p)
+    → (most : ℕ) → most ≡ most_used (named p es) → (ss : List laws.Progress)
+    → ss ≡ threads_from p clear.depth os es (charges_by p clear.depth most es (entries_from p es) (services_first p)) (threads_first p)
     → AreFollowing p clear.depth ss (follows (program_software p) clear.depth (named p es))
-threads-told p meets clear es placed xs known os made most greatest cs charged ss is =
-    threads-say p meets clear es placed os (objects-say p meets clear es placed xs known os made) cs
-    (charged ∙ ap (λ z. charges_by p clear.depth most es z (services_first p)) known
-    ∙ ap (λ m. charges_by p clear.depth m es (entries_from p es) (services_first p)) greatest) ss is
+threads-told p meets clear es placed os made most greatest ss is =
+    threads-say p meets clear es placed os (objects-say p meets clear es placed os made)
+    (charges_by p clear.depth most es (entries_from p es) (services_first p))
+    (ap (λ m. charges_by p clear.depth m es (entries_from p es) (services_first p)) greatest) ss is

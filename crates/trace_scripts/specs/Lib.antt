@@ -1,5 +1,5 @@
 pub mod Scripts
-pub mod Books
+pub mod Insides
 pub mod Scenes
 pub mod Objects
 pub mod Serving

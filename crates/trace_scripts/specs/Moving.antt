@@ -75,8 +75,8 @@ threads_from p depth os [] cs ss = ss
 threads_from p depth os (e ∷ es) [] ss = ss
 threads_from p depth os (e ∷ es) (c ∷ cs) ss = threads_from p depth os es cs (threads_with p depth (good_with p os e) e c ss)
 
-abbrev pub threads_of : Threads → List laws.Progress
-threads_of h = map progress_of h.states.items
+abbrev pub threads_of : Program → List machine.Event → Threads → List laws.Progress
+threads_of p es h = map (progress_of p es) h.states.items
 
 -- whether the steps of a thread are activations, where the unit has one
 abbrev pub well_by : Software → ℕ → Option Task → laws.Progress → Bool

@@ -1,9 +1,8 @@
 -- A program with what its calls may lead to, and what the walk of a block along a script answers.
-use Rattle.std.specs.Prelude.{◌≡◌, ℕ, ◌≤◌, Bool, true, false, map, length, Option, Some, None, ⊤}
+use Rattle.std.specs.Prelude.{◌≡◌, ℕ, ◌≤◌, Bool, true, false, Option, Some, None, ⊤}
 use Rattle.seq_tree.specs.Lists.{Each}
 use Rattle.seq_tree.specs.Names.{Name}
 use Rattle.seq_tree.specs.Runs.{Path, Callee}
-use Rattle.seq_tree.specs.Trees.{offer_of, operation_of}
 use Rattle.seq_tree.specs.Variables.{Variables}
 use Rattle.seq_tree.specs.Statements.{Statements}
 use Rattle.ada_tree.specs.Programs.{Program, Form, Passive, Shared, Cyclic, Sporadic}
@@ -11,7 +10,7 @@ use Rattle.ada_tree.specs.Rules.{MeetsRules}
 use Rattle.ada_tree.specs.Trees.{program_of}
 use Rattle.guarantee.specs.Software.{Software, program_software, leads_to}
 use Rattle.seq_eval.specs.Bounds.{most_ticks}
-use Rattle.seq_eval.specs.Following.{callees}
+use Rattle.seq_eval.specs.Calls.{calls_in}
 use Rattle.trace_scripts.specs.declared.walks.Scene.{Scene}
 use Rattle.trace_scripts.specs.declared.walks.Walked.{Walked}
 use Rattle.trace_scripts.specs.declared.walks.Walked.TheVariants.{Ran, Begun, Astray}
@@ -24,7 +23,7 @@ software_of s = program_software (program_in s)
 
 -- what calls lead to
 abbrev pub calls_of : Scene → Name → Name → Callee
-calls_of s = callees s.owners.now (map operation_of s.passive.now) (map offer_of s.shared.now) (map offer_of s.requests.now)
+calls_of s = calls_in s.calls.now
 
 -- a fact of the blocks of threads and of the operations of objects
 abbrev pub AllBlocks : (Statements → Type 0) → Form → Type 0
@@ -36,10 +35,9 @@ AllBlocks P (Sporadic priority ceiling op separation jitter external vars block)
 abbrev pub AllIn : (Statements → Type 0) → Program → Type 0
 AllIn P p = Each (λ u. AllBlocks P u.form) p.units
 
--- a program that meets its rules, whose calls lead where the lists say, and whose blocks are not too dear
+-- a program that meets its rules, whose calls lead where the table says, and whose blocks are not too dear
 pub record IsScene (s : Scene) : Type 0 where
   pub rules : MeetsRules (program_in s)
-  pub lists : length s.owners.now ≡ length s.passive.now
   pub calls : calls_of s ≡ leads_to (software_of s)
   pub ticks : AllIn (λ b. (depth : ℕ) → most_ticks (program_in s).costs (calls_of s) depth b ≤ 1000000000) (program_in s)
 

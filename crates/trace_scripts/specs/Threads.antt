@@ -1,5 +1,5 @@
 -- How far a thread is, as the code holds it, and what a step changes of it.
-use Rattle.std.specs.Prelude.{◌≡◌, ◌+◌, ◌&&◌, ◌||◌, ◌-◌, ◌==◌, ℕ, Bool, true, false, Option, Some, None, nat_le, not, if◌then◌else◌}
+use Rattle.std.specs.Prelude.{◌≡◌, ◌+◌, ◌&&◌, ◌||◌, ◌-◌, ◌==◌, ℕ, Bool, true, false, List, Option, Some, None, nat_le, not, if◌then◌else◌}
 use Rattle.seq_tree.specs.Runs as runs
 use Rattle.seq_tree.specs.Trees.{block_of}
 use Rattle.ada_tree.specs.Programs.{Program}
@@ -7,18 +7,32 @@ use Rattle.guarantee.specs.Software.{Task, params_of, program_software}
 use Rattle.guarantee.specs.Events.{Event, Release, By, Horizon}
 use Rattle.law_scripts.specs.Progress as laws
 use Rattle.law_scripts.specs.Progress.{after_deed, all_shown, is_good, step_on, with_last}
+use Rattle.trace_tree.specs.declared.event.Event as machine
 use Rattle.trace_scripts.specs.Scripts.{shown_of}
 use Rattle.trace_scripts.specs.declared.progress.Course.{Course}
 use Rattle.trace_scripts.specs.declared.progress.Progress.{Progress}
 use Rattle.trace_scripts.specs.declared.progress.Progress.TheVariants.{Idle, Active, Astray}
 use Rattle.trace_scripts.specs.declared.progress.Thread.{Thread}
 
-abbrev pub course_of : Course → laws.Course
-course_of c = record {
+abbrev pub course_of : Program → List machine.Event → Course → laws.Course
+course_of p es c = record {
   time = c.time;
   value = c.value;
   depth = c.depth;
-  shown = shown_of c.script;
+  shown = shown_of p es c.script;
+  end = c.end;
+  among = c.among;
+  low = c.low;
+  high = c.high;
+}
+
+-- its times and ticks alone
+abbrev pub times_of : Course → laws.Course
+times_of c = record {
+  time = c.time;
+  value = c.value;
+  depth = c.depth;
+  shown = None;
   end = c.end;
   among = c.among;
   low = c.low;
@@ -69,10 +83,10 @@ finished_if outside time used c = record c {
 }
 
 -- how far a thread is
-abbrev pub progress_of : Progress → laws.Progress
-progress_of (Idle env) = laws.Idle env.slots.items
-progress_of (Active env course) = laws.Active env.slots.items (course_of course)
-progress_of Astray = laws.Astray
+abbrev pub progress_of : Program → List machine.Event → Progress → laws.Progress
+progress_of p es (Idle env) = laws.Idle env.slots.items
+progress_of p es (Active env course) = laws.Active env.slots.items (course_of p es course)
+progress_of p es Astray = laws.Astray
 
 -- after one of its own events
 abbrev pub step_by : Program → ℕ → Task → Bool → ℕ × ℕ → Event → laws.Progress → laws.Progress

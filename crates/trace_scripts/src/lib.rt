@@ -5,12 +5,13 @@
 #![tactic(auto)]
 
 mod actions;
-mod books;
 mod data;
+mod insides;
 mod moves;
 mod names;
 mod objects;
 mod progress;
+mod reading;
 mod scripts;
 mod services;
 mod verdict;

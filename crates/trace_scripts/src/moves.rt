@@ -1,4 +1,4 @@
-ghost use Rattle.std.specs.Prelude.{◌≡◌, ◌<◌, ℕ, IfOk, OnOk, false, length, map, slice_get};
+ghost use Rattle.std.specs.Prelude.{◌≡◌, ◌<◌, ℕ, IfOk, OnOk, false, length};
 ghost use Rattle.seq_tree.specs.Lists.{Each};
 ghost use Rattle.ada_tree.specs.Trees.{program_of};
 ghost use Rattle.trace_tree.specs.Placed.{IsPlaced, IsUnit};
@@ -6,7 +6,9 @@ ghost use Rattle.guarantee.specs.Events.{named_event};
 ghost use Rattle.law_trace_places.specs.Places.{task_at};
 ghost use Rattle.trace_scripts.specs.Objects.{charge_of, services_of};
 ghost use Rattle.trace_scripts.specs.Scenes.{IsScene, program_in, software_of};
-ghost use Rattle.trace_scripts.specs.Serving.{MayAll};
+ghost use Rattle.trace_scripts.specs.Insides.{entries_from};
+ghost use Rattle.trace_scripts.specs.Scripts.{IsAt};
+ghost use Rattle.trace_scripts.specs.Serving.{MayAll, charges_by, services_first};
 ghost use Rattle.trace_scripts.specs.Threads.{is_at_horizon, progress_of};
 ghost use Rattle.trace_scripts.specs.Moving.{AreOf, good_at, good_with, moved_at, threads_first, threads_from, threads_of, threads_with, well_by};
 
@@ -19,6 +21,7 @@ use ada_tree::{AdaProgram, Form};
 use seq_tree::NoMemory;
 use std::alloc::Global;
 use std::mem::replace;
+use trace_read::Events;
 use trace_tree::Event;
 
 /// How far each thread is, by the places of units.
@@ -87,8 +90,8 @@ fn is_good_entry(program: &AdaProgram, objects: &Objects, event: &Event) -> bool
 
 impl Threads {
     /// At first: every thread at its written data.
-    pub fn first(alloc: Global, program: &AdaProgram) -> Result<Threads, NoMemory>
-        ensures { IfOk result (λ h. threads_of h ≡ threads_first (program_of program.now)) }
+    pub fn first(alloc: Global, program: &AdaProgram, _events: &Events) -> Result<Threads, NoMemory>
+        ensures { IfOk result (λ h. threads_of (program_of program.now) _events.now h ≡ threads_first (program_of program.now)) }
     {
         let mut states = Vec::new(alloc);
         'units: for unit in &program.units {
@@ -101,11 +104,13 @@ impl Threads {
         Ok(Threads { states })
     }
 
-    /// Takes an event of a thread.
+    /// Takes an event of a thread, at index `here`.
     fn step(
         &mut self,
         scene: &Scene,
         alloc: Global,
+        events: &Events,
+        here: u32,
         task: u32,
         event: &Event,
         good: bool,
@@ -113,80 +118,103 @@ impl Threads {
     ) -> Result<(), NoMemory>
         requires scene { IsScene scene.now }
         requires task { IsUnit (program_in scene.now) task }
-        requires placed { IsPlaced (program_in scene.now) event.now }
+        requires placed { Each (IsPlaced (program_in scene.now)) events.now }
+        requires at { IsAt events.now here event.now }
         requires own { is_at_horizon (named_event (program_in scene.now) event.now) ≡ false }
         requires states { length self.old.states.items ≡ length (program_in scene.now).units }
         ensures len { length self.new.states.items ≡ length self.old.states.items }
         ensures states { (depth : ℕ) → MayAll (program_in scene.now) depth
-            → OnOk result (threads_of self.new ≡ moved_at (program_in scene.now) depth good (charge_of charge) event.now task (threads_of self.old)) }
+            → OnOk result (threads_of (program_in scene.now) events.now self.new
+            ≡ moved_at (program_in scene.now) depth good (charge_of charge) event.now task (threads_of (program_in scene.now) events.now self.old)) }
     {
         let Some(thread) = thread_at(scene.program, task as usize) else {
             return Ok(());
         };
         let before = replace(&mut self.states[task as usize], Progress::Astray);
-        let after = advance(scene, alloc, thread, before, event, good, charge)?;
+        let after = advance(
+            scene, alloc, events, here, thread, before, event, good, charge,
+        )?;
         self.states[task as usize] = after;
         Ok(())
     }
 
-    /// Takes an event.
+    /// Takes the event at index `here`.
     #[tactic(auto, unfolding(crate::specs::Moving::threads_with))]
     fn note(
         &mut self,
         scene: &Scene,
         alloc: Global,
+        events: &Events,
+        here: u32,
         event: &Event,
         good: bool,
         charge: Charge,
     ) -> Result<(), NoMemory>
         requires scene { IsScene scene.now }
         requires placed { IsPlaced (program_in scene.now) event.now }
+        requires all { Each (IsPlaced (program_in scene.now)) events.now }
+        requires at { IsAt events.now here event.now }
         requires states { length self.old.states.items ≡ length (program_in scene.now).units }
         ensures len { length self.new.states.items ≡ length self.old.states.items }
         ensures states { (depth : ℕ) → MayAll (program_in scene.now) depth
-            → OnOk result (threads_of self.new ≡ threads_with (program_in scene.now) depth good event.now (charge_of charge) (threads_of self.old)) }
+            → OnOk result (threads_of (program_in scene.now) events.now self.new ≡ threads_with (program_in scene.now) depth good event.now
+            (charge_of charge) (threads_of (program_in scene.now) events.now self.old)) }
     {
         match event {
-            Event::Release { task, .. } => self.step(scene, alloc, *task, event, good, charge)?,
-            Event::Enter { task, .. } => self.step(scene, alloc, *task, event, good, charge)?,
-            Event::Leave { task, .. } => self.step(scene, alloc, *task, event, good, charge)?,
-            Event::Request { task, .. } => self.step(scene, alloc, *task, event, good, charge)?,
-            Event::Print { task, .. } => self.step(scene, alloc, *task, event, good, charge)?,
-            Event::End { task, .. } => self.step(scene, alloc, *task, event, good, charge)?,
-            Event::Stop { task, .. } => self.step(scene, alloc, *task, event, good, charge)?,
+            Event::Release { task, .. } => self.step(
+                scene, alloc, events, here, *task, event, good, charge,
+            )?,
+            Event::Enter { task, .. } => self.step(
+                scene, alloc, events, here, *task, event, good, charge,
+            )?,
+            Event::Leave { task, .. } => self.step(
+                scene, alloc, events, here, *task, event, good, charge,
+            )?,
+            Event::Request { task, .. } => self.step(
+                scene, alloc, events, here, *task, event, good, charge,
+            )?,
+            Event::Print { task, .. } => self.step(
+                scene, alloc, events, here, *task, event, good, charge,
+            )?,
+            Event::End { task, .. } => self.step(
+                scene, alloc, events, here, *task, event, good, charge,
+            )?,
+            Event::Stop { task, .. } => self.step(
+                scene, alloc, events, here, *task, event, good, charge,
+            )?,
             Event::Arrive { .. } | Event::Horizon { .. } => {}
         }
         Ok(())
     }
 }
 
-/// How far threads are behind a trace, with the ticks of each event's way, and what objects are at behind it.
+/// How far threads are behind a trace, where the objects are at these states behind it. The ticks of each way through an operation are found again:
+/// `most` is the greatest number of ticks that an event says were used.
 pub(crate) fn move_all(
     scene: &Scene,
     alloc: Global,
-    events: &[Event],
-    charges: &[Charge],
+    events: &Events,
+    most: u64,
     objects: &Objects,
 ) -> Result<Threads, NoMemory>
     requires scene { IsScene scene.now }
     requires placed { Each (IsPlaced (program_in scene.now)) events.now }
     requires objects { length objects.now.states.items ≡ length (program_in scene.now).units }
     ensures len { IfOk result (λ h. length h.states.items ≡ length (program_in scene.now).units) }
-    ensures states { (depth : ℕ) → MayAll (program_in scene.now) depth → IfOk result (λ h. threads_of h
-        ≡ threads_from (program_in scene.now) depth (services_of objects.now) events.now (map charge_of charges.now)
-        (threads_first (program_in scene.now))) }
+    ensures states { (depth : ℕ) → MayAll (program_in scene.now) depth → IfOk result (λ h. threads_of (program_in scene.now) events.now h
+        ≡ threads_from (program_in scene.now) depth (services_of objects.now) events.now
+        (charges_by (program_in scene.now) depth most events.now (entries_from (program_in scene.now) events.now)
+        (services_first (program_in scene.now))) (threads_first (program_in scene.now))) }
 {
-    let mut threads = Threads::first(alloc, scene.program)?;
-    let mut left = events;
-    let mut ways = charges;
-    'events: while let Some((event, rest)) = left.split_first() {
-        let Some((charge, others)) = ways.split_first() else {
-            return Ok(threads);
-        };
-        left = rest;
-        ways = others;
-        let good = is_good_entry(scene.program, objects, event);
-        threads.note(scene, alloc, event, good, *charge)?;
+    let mut threads = Threads::first(alloc, scene.program, events)?;
+    let mut served = Objects::first(alloc, scene.program)?;
+    let mut at: u32 = 0;
+    let mut here: u32 = 0;
+    'events: while let Some(event) = events.next(&mut at) {
+        let charge = served.note(scene, alloc, events, here, &event, most)?;
+        let good = is_good_entry(scene.program, objects, &event);
+        threads.note(scene, alloc, events, here, &event, good, charge)?;
+        here = at;
     }
     Ok(threads)
 }
@@ -195,13 +223,15 @@ pub(crate) fn move_all(
 pub(crate) fn is_well(
     scene: &Scene,
     alloc: Global,
+    events: &Events,
     unit: usize,
     state: Progress,
 ) -> Result<bool, NoMemory>
     requires scene { IsScene scene.now }
+    requires placed { Each (IsPlaced (program_in scene.now)) events.now }
     requires unit { IsUnit (program_in scene.now) unit }
     ensures { (depth : ℕ) → MayAll (program_in scene.now) depth → IfOk result (λ b. b
-        ≡ well_by (software_of scene.now) depth (task_at (program_in scene.now) unit) (progress_of state)) }
+        ≡ well_by (software_of scene.now) depth (task_at (program_in scene.now) unit) (progress_of (program_in scene.now) events.now state)) }
 {
     let Some(thread) = thread_at(scene.program, unit) else {
         return Ok(true);
@@ -209,7 +239,7 @@ pub(crate) fn is_well(
     match state {
         Progress::Idle(_) => Ok(true),
         Progress::Active(kept_now, course) => {
-            let ends = course.ends(scene, alloc, thread, kept_now)?;
+            let ends = course.ends(scene, alloc, events, thread, kept_now)?;
             Ok(ends)
         }
         Progress::Astray => Ok(false),

@@ -1,13 +1,11 @@
-ghost use Rattle.std.specs.Prelude.{◌≡◌, ◌<◌, IfOk, Some, length, option_map, slice_get};
+ghost use Rattle.std.specs.Prelude.{◌≡◌, ◌<◌, Some, length, option_map, slice_get};
 ghost use Rattle.ada_tree.specs.Bodies.{heads};
 ghost use Rattle.ada_tree.specs.Trees.{form_of, program_of, unit_of};
-ghost use Rattle.guarantee.specs.Events.{op_at};
 ghost use Rattle.trace_tree.specs.Lines.{unit_name};
-ghost use Rattle.trace_tree.specs.Placed.{IsOp, IsUnit};
+ghost use Rattle.trace_tree.specs.Placed.{IsUnit};
 
 use ada_tree::{AdaProgram, Form, Unit};
-use seq_tree::{Name, NoMemory, OpName};
-use std::alloc::Global;
+use seq_tree::Name;
 
 /// The unit at a place.
 #[tactic(auto, using(crate::proofs::Readings::unit_steps))]
@@ -21,7 +19,7 @@ pub(crate) fn unit_at(program: &AdaProgram, unit: u32) -> &Unit
 
 /// The name of the operation at a place of a unit. That of a sporadic unit is its request operation.
 #[tactic(auto, using(crate::proofs::Readings::name_steps))]
-fn op_name(form: &Form, op: u32) -> &Name
+pub(crate) fn op_name(form: &Form, op: u32) -> &Name
     requires { op < length (heads (form_of form.now)) }
     ensures { option_map (λ h. h.name) (slice_get (heads (form_of form.now)) op) ≡ Some result.now }
 {
@@ -31,22 +29,4 @@ fn op_name(form: &Form, op: u32) -> &Name
         Form::Cyclic { .. } => unreachable!(),
         Form::Sporadic { op, .. } => &op.name,
     }
-}
-
-/// The names of an operation and of its unit.
-#[tactic(auto, using(crate::proofs::Readings::read_steps))]
-pub(crate) fn copy_op(
-    alloc: Global,
-    program: &AdaProgram,
-    unit: u32,
-    op: u32,
-) -> Result<OpName, NoMemory>
-    requires unit { IsUnit (program_of program.now) unit }
-    requires op { IsOp (program_of program.now) unit op }
-    ensures { IfOk result (λ n. n ≡ op_at (program_of program.now) unit op) }
-{
-    let owner = unit_at(program, unit);
-    let object = owner.name.copy(alloc)?;
-    let op = op_name(&owner.form, op).copy(alloc)?;
-    Ok(OpName { object, op })
 }

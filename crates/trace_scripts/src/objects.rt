@@ -1,16 +1,17 @@
-ghost use Rattle.std.specs.Prelude.{◌≡◌, ◌<◌, ℕ, IfOk, OnOk, length, map, is_some, option_map};
+ghost use Rattle.std.specs.Prelude.{◌≡◌, ◌<◌, ℕ, suc, IfOk, OnOk, Some, drop, length, is_some, option_map};
 ghost use Rattle.seq_tree.specs.Lists.{Each};
 ghost use Rattle.ada_tree.specs.Trees.{program_of};
 ghost use Rattle.trace_tree.specs.Lines.{unit_name};
 ghost use Rattle.trace_tree.specs.Placed.{IsOp, IsPlaced, IsUnit};
-ghost use Rattle.trace_scripts.specs.Books.{entry_of, known_of};
+ghost use Rattle.trace_read.specs.Deeds.{first_task};
+ghost use Rattle.trace_scripts.specs.Insides.{entries_from, entry_from, known_from};
+ghost use Rattle.trace_scripts.specs.Scripts.{IsAt};
 ghost use Rattle.trace_scripts.specs.Objects.{charge_of, object_of, services_of};
 ghost use Rattle.trace_scripts.specs.Scenes.{IsScene, program_in};
-ghost use Rattle.trace_scripts.specs.Serving.{MayAll, charge_with, charged_at, entered_at, first_by, charges_by, left_at, objects_from};
+ghost use Rattle.trace_scripts.specs.Serving.{MayAll, charge_with, charged_at, entered_at, first_by, left_at, objects_from};
 ghost use Rattle.trace_scripts.specs.Serving.{objects_with, services_first};
 ghost use Rattle.law_trace_places.specs.Places.{guarded_at};
 
-use crate::books::Entry;
 use crate::data::first_data;
 use crate::names::unit_at;
 use crate::services::{Charge, Service, enter};
@@ -19,6 +20,7 @@ use ada_tree::{AdaProgram, Form};
 use seq_tree::{Datum, Name, NoMemory, OpText};
 use std::alloc::Global;
 use std::mem::replace;
+use trace_read::Events;
 use trace_tree::{Event, Values};
 
 /// What each object is at, by the places of units.
@@ -76,29 +78,37 @@ impl<'a> Objects<'a> {
         Ok(Objects { states })
     }
 
-    /// Enters an operation.
+    /// Enters an operation, where the entry stands at index `here`.
     fn enter(
         &mut self,
-        scene: &Scene<'a>,
+        scene: &Scene<'a, '_>,
         alloc: Global,
         task: u32,
         unit: u32,
         op: u32,
         values: &[u32],
-        entry: &Entry,
+        events: &Events,
+        here: u32,
         most: u64,
     ) -> Result<Charge, NoMemory>
         requires scene { IsScene scene.now }
+        requires placed { Each (IsPlaced (program_in scene.now)) events.now }
+        requires own { first_task (drop here events.now) ≡ Some task }
         requires task { IsUnit (program_in scene.now) task }
         requires unit { IsUnit (program_in scene.now) unit }
         requires op { IsOp (program_in scene.now) unit op }
         requires states { length self.old.states.items ≡ length (program_in scene.now).units }
         ensures len { length self.new.states.items ≡ length self.old.states.items }
         ensures states { (depth : ℕ) → MayAll (program_in scene.now) depth
-            → OnOk result (services_of self.new ≡ entered_at (program_in scene.now) depth task unit op values.now (entry_of entry.now) (services_of self.old)) }
+            → OnOk result (services_of self.new
+            ≡ entered_at (program_in scene.now) depth task unit op values.now
+            (known_from (program_in scene.now) task unit (drop (suc here) events.now))
+            (services_of self.old)) }
         ensures charge { (depth : ℕ) → MayAll (program_in scene.now) depth
             → IfOk result (λ c. charge_of c
-            ≡ charged_at (program_in scene.now) depth most unit op values.now (entry_of entry.now) (services_of self.old)) }
+            ≡ charged_at (program_in scene.now) depth most unit op values.now
+            (known_from (program_in scene.now) task unit (drop (suc here) events.now))
+            (services_of self.old)) }
     {
         let none = Charge { low: 0, high: most };
         let thread = &unit_at(scene.program, task).name;
@@ -111,11 +121,14 @@ impl<'a> Objects<'a> {
             scene,
             alloc,
             before,
+            task,
+            unit,
             thread,
             body,
             object.vars,
             values,
-            entry,
+            events,
+            here,
             most,
         )?;
         self.states[unit as usize] = after;
@@ -123,7 +136,7 @@ impl<'a> Objects<'a> {
     }
 
     /// Leaves an operation.
-    fn leave(&mut self, scene: &Scene<'a>, task: u32, unit: u32, op: u32, values: &[u32])
+    fn leave(&mut self, scene: &Scene<'a, '_>, task: u32, unit: u32, op: u32, values: &[u32])
         requires scene { IsScene scene.now }
         requires task { IsUnit (program_in scene.now) task }
         requires unit { IsUnit (program_in scene.now) unit }
@@ -141,24 +154,31 @@ impl<'a> Objects<'a> {
         self.states[unit as usize] = before.leave(thread, &body.sig.name, values);
     }
 
-    /// Takes an event, and tells the ticks of the way through the operation that it enters, where it enters one.
-    #[tactic(auto, unfolding(crate::specs::Serving::objects_with, crate::specs::Serving::charge_with))]
+    /// Takes the event at index `here`, and tells the ticks of the way through the operation that it enters, where it enters one.
+    #[tactic(auto, unfolding(crate::specs::Serving::objects_with, crate::specs::Serving::charge_with, crate::specs::Insides::entry_from))]
     pub fn note(
         &mut self,
-        scene: &Scene<'a>,
+        scene: &Scene<'a, '_>,
         alloc: Global,
+        events: &Events,
+        here: u32,
         event: &Event,
-        entry: &Entry,
         most: u64,
     ) -> Result<Charge, NoMemory>
         requires scene { IsScene scene.now }
         requires placed { IsPlaced (program_in scene.now) event.now }
+        requires all { Each (IsPlaced (program_in scene.now)) events.now }
+        requires at { IsAt events.now here event.now }
         requires states { length self.old.states.items ≡ length (program_in scene.now).units }
         ensures len { length self.new.states.items ≡ length self.old.states.items }
         ensures states { (depth : ℕ) → MayAll (program_in scene.now) depth
-            → OnOk result (services_of self.new ≡ objects_with (program_in scene.now) depth event.now (entry_of entry.now) (services_of self.old)) }
+            → OnOk result (services_of self.new
+            ≡ objects_with (program_in scene.now) depth event.now (entry_from (program_in scene.now) event.now (drop (suc here) events.now))
+            (services_of self.old)) }
         ensures charge { (depth : ℕ) → MayAll (program_in scene.now) depth
-            → IfOk result (λ c. charge_of c ≡ charge_with (program_in scene.now) depth most event.now (entry_of entry.now) (services_of self.old)) }
+            → IfOk result (λ c. charge_of c
+            ≡ charge_with (program_in scene.now) depth most event.now (entry_from (program_in scene.now) event.now (drop (suc here) events.now))
+            (services_of self.old)) }
     {
         match event {
             Event::Enter {
@@ -175,7 +195,8 @@ impl<'a> Objects<'a> {
                     *unit,
                     *op,
                     values.as_slice(),
-                    entry,
+                    events,
+                    here,
                     most,
                 )?;
                 Ok(charge)
@@ -201,34 +222,25 @@ impl<'a> Objects<'a> {
     }
 }
 
-/// What the objects are at behind a trace, and the ticks of each event's way, from what is known of each event, the first of which stands
-/// last.
+/// What the objects are at behind a trace.
 pub(crate) fn serve<'a>(
-    scene: &Scene<'a>,
+    scene: &Scene<'a, '_>,
     alloc: Global,
-    events: &[Event],
-    known: Vec<Entry>,
-    most: u64,
-) -> Result<(Objects<'a>, Vec<Charge>), NoMemory>
+    events: &Events,
+) -> Result<Objects<'a>, NoMemory>
     requires scene { IsScene scene.now }
     requires placed { Each (IsPlaced (program_in scene.now)) events.now }
-    requires known { length known.items ≡ length events.now }
-    ensures len { IfOk result (λ r. length r.0.states.items ≡ length (program_in scene.now).units) }
-    ensures states { (depth : ℕ) → MayAll (program_in scene.now) depth → IfOk result (λ r. services_of r.0
-        ≡ objects_from (program_in scene.now) depth events.now (known_of known.items) (services_first (program_in scene.now))) }
-    ensures charges { (depth : ℕ) → MayAll (program_in scene.now) depth → IfOk result (λ r. map charge_of r.1.items
-        ≡ charges_by (program_in scene.now) depth most events.now (known_of known.items) (services_first (program_in scene.now))) }
+    ensures len { IfOk result (λ o. length o.states.items ≡ length (program_in scene.now).units) }
+    ensures states { (depth : ℕ) → MayAll (program_in scene.now) depth → IfOk result (λ o. services_of o
+        ≡ objects_from (program_in scene.now) depth events.now (entries_from (program_in scene.now) events.now) (services_first
+        (program_in scene.now))) }
 {
-    let mut known = known;
     let mut objects = Objects::first(alloc, scene.program)?;
-    let mut charges = Vec::new(alloc);
-    let mut left = events;
-    'events: while let Some((event, rest)) = left.split_first() {
-        left = rest;
-        let Some(entry) = known.pop() else {
-            unreachable!()
-        };
-        charges.push(objects.note(scene, alloc, event, &entry, most)?)?;
+    let mut at: u32 = 0;
+    let mut here: u32 = 0;
+    'events: while let Some(event) = events.next(&mut at) {
+        objects.note(scene, alloc, events, here, &event, 0)?;
+        here = at;
     }
-    Ok((objects, charges))
+    Ok(objects)
 }

@@ -1,29 +1,32 @@
+ghost use Rattle.seq_tree.specs.Lists.{Each};
 ghost use Rattle.seq_tree.specs.Trees.{block_of};
-ghost use Rattle.std.specs.Prelude.{◌≡◌, ◌≤◌, ℕ, ◌+◌, ◌++◌, ◌&&◌, IfOk, OnOk, None, Some, false, nat_le, option_map, option_to_list};
+ghost use Rattle.std.specs.Prelude.{◌≡◌, ◌≤◌, ℕ, ◌+◌, ◌++◌, ◌&&◌, IfOk, List, OnOk, None, Some, false, is_some, true};
+ghost use Rattle.std.specs.Prelude.{nat_le, option_map, option_to_list};
 ghost use Rattle.seq_tree.specs.Variables.{entered};
-ghost use Rattle.ada_tree.specs.Rules.{MeetsRules};
+ghost use Rattle.ada_tree.specs.Programs.{Program};
 ghost use Rattle.ada_tree.specs.Trees.{program_of};
 ghost use Rattle.law_walks.specs.Fit.{MayRun};
-ghost use Rattle.seq_eval.specs.Actions.{action_of};
 ghost use Rattle.seq_eval.specs.Bounds.{most_ticks};
 ghost use Rattle.guarantee.specs.Events.{named_event};
 ghost use Rattle.guarantee.specs.Software.{Task, leads_to};
+ghost use Rattle.trace_tree.specs.declared.event.Event as machine;
 ghost use Rattle.trace_tree.specs.Placed.{IsPlaced};
 ghost use Rattle.law_scripts.specs.Progress.{Active, again_by, all_shown, course_from, ends_by, left_by_course, with_last};
 ghost use Rattle.trace_scripts.specs.Objects.{charge_of};
+ghost use Rattle.trace_scripts.specs.Scripts.{IsAt, action_at};
 ghost use Rattle.trace_scripts.specs.Scenes.{IsScene, calls_of, program_in, software_of};
 ghost use Rattle.trace_scripts.specs.Threads.{IsOf, after_event, charged_by, course_of, entered_if, finished_if, is_at_horizon, left_if};
-ghost use Rattle.trace_scripts.specs.Threads.{progress_of, released_in, seen_if, step_by};
+ghost use Rattle.trace_scripts.specs.Threads.{progress_of, released_in, seen_if, step_by, times_of};
 
-use crate::actions::action;
 use crate::data::{add_all, add_params, keep};
 use crate::scripts::Script;
 use crate::services::Charge;
 use crate::walks::{Scene, Walked};
 use ada_tree::AdaProgram;
-use seq_eval::{Action, Env};
+use seq_eval::Env;
 use seq_tree::{Block, Datum, NoMemory, Param};
 use std::alloc::Global;
+use trace_read::Events;
 use trace_tree::Event;
 
 /// The parameters that a release hands to a thread, its data and its block.
@@ -59,7 +62,7 @@ fn plus(a: u128, b: u64) -> Result<u128, NoMemory>
 impl Course {
     /// An activation at its release.
     pub fn begin(alloc: Global, time: u64, value: Option<u32>) -> Course
-        ensures { course_of result ≡ course_from time value }
+        ensures { (p : Program) (es : List machine.Event) → course_of p es result ≡ course_from time value }
     {
         Course {
             time,
@@ -73,19 +76,20 @@ impl Course {
         }
     }
 
-    /// Adds a deed outside of operations that is no end, with the action that it shows.
+    /// Adds a deed outside of operations that is no end, at an index, which shows an action or shows none.
     #[tactic(auto, using(crate::proofs::Coursing::show_steps))]
-    fn show(&mut self, action: Option<Action>) -> Result<(), NoMemory>
-        ensures { OnOk result (course_of self.new
-            ≡ record (course_of self.old) {
-              shown = with_last (all_shown (course_of self.old).shown (course_of self.old).end) (option_map action_of action);
+    fn show(&mut self, here: u32, shows: bool) -> Result<(), NoMemory>
+        ensures { (p : Program) (es : List machine.Event) → is_some (action_at p es here) ≡ shows
+            → OnOk result (course_of p es self.new
+            ≡ record (course_of p es self.old) {
+              shown = with_last (all_shown (course_of p es self.old).shown (course_of p es self.old).end) (action_at p es here);
               end = None;
             }) }
     {
         if self.end.is_some() {
             self.script.shows = false;
         }
-        self.script.add(action)?;
+        self.script.add(here, shows)?;
         self.end = None;
         Ok(())
     }
@@ -93,8 +97,11 @@ impl Course {
     /// Adds an end outside of operations.
     #[tactic(auto, using(crate::proofs::Coursing::show_steps))]
     fn finish(&mut self, time: u64, used: u64)
-        ensures { course_of self.new
-            ≡ record (course_of self.old) { shown = all_shown (course_of self.old).shown (course_of self.old).end; end = Some (time, used) } }
+        ensures { (p : Program) (es : List machine.Event) → course_of p es self.new
+            ≡ record (course_of p es self.old) {
+              shown = all_shown (course_of p es self.old).shown (course_of p es self.old).end;
+              end = Some (time, used);
+            } }
     {
         if self.end.is_some() {
             self.script.shows = false;
@@ -120,7 +127,7 @@ fn release(alloc: Global, params: &[Param], value: Option<u32>, kept: Env) -> Re
 
 /// Whether a number of ticks lies between the least and the most of a run, of the operations that were entered and of the end.
 fn is_within(finish: u32, course: &Course, low: u64, high: u64, used: u64) -> Result<bool, NoMemory>
-    ensures { IfOk result (λ b. b ≡ (nat_le (low + (course_of course.now).low + finish) used && nat_le used (high + (course_of course.now).high + finish))) }
+    ensures { IfOk result (λ b. b ≡ (nat_le (low + course.now.low + finish) used && nat_le used (high + course.now.high + finish))) }
 {
     let least = plus(plus(course.low, low)?, u64::from(finish))?;
     let most = plus(plus(course.high, high)?, u64::from(finish))?;
@@ -137,7 +144,7 @@ fn is_charged(
     at: u64,
     used: u64,
 ) -> Result<bool, NoMemory>
-    ensures { IfOk result (λ b. b ≡ charged_by finish (course_of course.now) low high at used) }
+    ensures { IfOk result (λ b. b ≡ charged_by finish (times_of course.now) low high at used) }
 {
     if plus(u128::from(course.time), used)? > u128::from(at) {
         return Ok(false);
@@ -154,20 +161,23 @@ impl Course {
         &self,
         scene: &Scene,
         alloc: Global,
+        events: &Events,
         thread: Thread,
         kept_now: Env,
     ) -> Result<Option<Env>, NoMemory>
         requires scene { IsScene scene.now }
+        requires placed { Each (IsPlaced (program_in scene.now)) events.now }
         requires ticks { (depth : ℕ) → most_ticks scene.now.program.now.costs (calls_of scene.now) depth (block_of thread.block.now) ≤ 1000000000 }
         ensures { (depth : ℕ) (t : Task) → IsOf t thread.entry → MayRun (leads_to (software_of scene.now)) depth (block_of thread.entry.block.now)
             → IfOk result (λ o. option_map (λ e. e.slots.items) o
-            ≡ left_by_course (software_of scene.now) depth t kept_now.slots.items (course_of self.now)) }
+            ≡ left_by_course (software_of scene.now) depth t kept_now.slots.items
+            (course_of (program_in scene.now) events.now self.now)) }
     {
         let Some((at, used)) = self.end else {
             return Ok(None);
         };
         let mut env = release(alloc, thread.params, self.value, kept_now)?;
-        match scene.walk(alloc, thread.block, &mut env, &self.script)? {
+        match scene.walk(alloc, events, thread.block, &mut env, &self.script)? {
             Walked::Ran { low, high } => {
                 let finish = scene.program.costs.finish;
                 if is_charged(finish, self, low, high, at, used)? {
@@ -186,42 +196,47 @@ impl Course {
         &self,
         scene: &Scene,
         alloc: Global,
+        events: &Events,
         thread: Thread,
         kept_now: Env,
     ) -> Result<bool, NoMemory>
         requires scene { IsScene scene.now }
+        requires placed { Each (IsPlaced (program_in scene.now)) events.now }
         requires ticks { (depth : ℕ) → most_ticks scene.now.program.now.costs (calls_of scene.now) depth (block_of thread.block.now) ≤ 1000000000 }
         ensures { (depth : ℕ) (t : Task) → IsOf t thread.entry → MayRun (leads_to (software_of scene.now)) depth (block_of thread.entry.block.now)
-            → IfOk result (λ b. b ≡ ends_by (software_of scene.now) depth t kept_now.slots.items (course_of self.now) (course_of self.now).end) }
+            → IfOk result (λ b. b ≡ ends_by (software_of scene.now) depth t kept_now.slots.items
+            (course_of (program_in scene.now) events.now self.now) self.now.end) }
     {
         if self.end.is_some() {
-            let left = self.close(scene, alloc, thread, kept_now)?;
+            let left = self.close(scene, alloc, events, thread, kept_now)?;
             return Ok(left.is_some());
         }
         let mut env = release(alloc, thread.params, self.value, kept_now)?;
-        match scene.walk(alloc, thread.block, &mut env, &self.script)? {
+        match scene.walk(alloc, events, thread.block, &mut env, &self.script)? {
             Walked::Ran { .. } => Ok(true),
             Walked::Begun => Ok(true),
             Walked::Astray => Ok(false),
         }
     }
 
-    /// Adds a deed that is no end, with the action that it shows, where it stands outside of operations.
-    fn see(&mut self, outside: bool, action: Option<Action>) -> Result<(), NoMemory>
-        ensures { OnOk result (course_of self.new ≡ seen_if outside (option_map action_of action) (course_of self.old)) }
+    /// Adds a deed that is no end, at an index, which shows an action or shows none, where it stands outside of operations.
+    fn see(&mut self, outside: bool, here: u32, shows: bool) -> Result<(), NoMemory>
+        ensures { (p : Program) (es : List machine.Event) → is_some (action_at p es here) ≡ shows
+            → OnOk result (course_of p es self.new ≡ seen_if outside (action_at p es here) (course_of p es self.old)) }
     {
         if outside {
-            self.show(action)?;
+            self.show(here, shows)?;
         }
         Ok(())
     }
 
-    /// Adds an entry into an operation, with the ticks of the way through it.
+    /// Adds an entry into an operation, at an index, with the ticks of the way through it.
     #[tactic(auto, using(crate::proofs::Coursing::deed_steps))]
-    fn enter(&mut self, action: Option<Action>, good: bool, charge: Charge) -> Result<(), NoMemory>
-        ensures { OnOk result (course_of self.new ≡ entered_if (option_map action_of action) good (charge_of charge) (course_of self.old)) }
+    fn enter(&mut self, here: u32, good: bool, charge: Charge) -> Result<(), NoMemory>
+        ensures { (p : Program) (es : List machine.Event) → is_some (action_at p es here) ≡ true
+            → OnOk result (course_of p es self.new ≡ entered_if (action_at p es here) good (charge_of charge) (course_of p es self.old)) }
     {
-        self.see(self.depth == 0, action)?;
+        self.see(self.depth == 0, here, true)?;
         let Some(depth) = self.depth.checked_add(1) else {
             return Err(NoMemory);
         };
@@ -235,49 +250,47 @@ impl Course {
         Ok(())
     }
 
-    /// Adds an exit.
+    /// Adds an exit, at an index.
     #[tactic(auto, using(crate::proofs::Coursing::deed_steps))]
-    fn leave(&mut self, action: Option<Action>) -> Result<(), NoMemory>
-        ensures { OnOk result (course_of self.new ≡ left_if (option_map action_of action) (course_of self.old)) }
+    fn leave(&mut self, here: u32) -> Result<(), NoMemory>
+        ensures { (p : Program) (es : List machine.Event) → is_some (action_at p es here) ≡ true
+            → OnOk result (course_of p es self.new ≡ left_if (action_at p es here) (course_of p es self.old)) }
     {
         self.depth = self.depth.saturating_sub(1);
-        self.see(self.depth == 0, action)
+        self.see(self.depth == 0, here, true)
     }
 
     /// Adds an end.
     fn end(&mut self, outside: bool, time: u64, used: u64)
-        ensures { course_of self.new ≡ finished_if outside time used (course_of self.old) }
+        ensures { (p : Program) (es : List machine.Event) → course_of p es self.new ≡ finished_if outside time used (course_of p es self.old) }
     {
         if outside {
             self.finish(time, used);
         }
     }
 
-    /// Adds an event of the thread, with the ticks of the way through the operation that it enters, and whether the object is served.
+    /// Adds the event of the thread at index `here`, with the ticks of the way through the operation that it enters, and whether the object is
+    /// served.
     #[tactic(auto, using(crate::proofs::Coursing::step_steps))]
     pub fn step(
         &mut self,
-        alloc: Global,
-        program: &AdaProgram,
+        here: u32,
         event: &Event,
         good: bool,
         charge: Charge,
     ) -> Result<(), NoMemory>
-        requires rules { MeetsRules (program_of program.now) }
-        requires placed { IsPlaced (program_of program.now) event.now }
-        ensures { OnOk result (course_of self.new
-            ≡ after_event (program_of program.now) good (charge_of charge) (named_event (program_of program.now) event.now) (course_of self.old)) }
+        ensures { (p : Program) (es : List machine.Event) → IsAt es here event.now
+            → OnOk result (course_of p es self.new ≡ after_event p good (charge_of charge) (named_event p event.now) (course_of p es self.old)) }
     {
-        let shown = action(alloc, program, event)?;
         match event {
-            Event::Enter { .. } => self.enter(shown, good, charge)?,
-            Event::Leave { .. } => self.leave(shown)?,
+            Event::Enter { .. } => self.enter(here, good, charge)?,
+            Event::Leave { .. } => self.leave(here)?,
             Event::End { time, used, .. } => self.end(self.depth == 0, *time, *used),
-            Event::Release { .. } => self.see(self.depth == 0, shown)?,
-            Event::Arrive { .. } => self.see(self.depth == 0, shown)?,
-            Event::Request { .. } => self.see(self.depth == 0, shown)?,
-            Event::Print { .. } => self.see(self.depth == 0, shown)?,
-            Event::Stop { .. } => self.see(self.depth == 0, shown)?,
+            Event::Release { .. } => self.see(self.depth == 0, here, false)?,
+            Event::Arrive { .. } => self.see(self.depth == 0, here, false)?,
+            Event::Request { .. } => self.see(self.depth == 0, here, true)?,
+            Event::Print { .. } => self.see(self.depth == 0, here, true)?,
+            Event::Stop { .. } => self.see(self.depth == 0, here, false)?,
             Event::Horizon { .. } => {}
         }
         Ok(())
@@ -297,7 +310,7 @@ pub(crate) enum Progress {
 
 /// The next activation, from the data that the one before left.
 fn again(alloc: Global, time: u64, value: Option<u32>, left: Option<Env>) -> Progress
-    ensures { progress_of result ≡ again_by time value (option_map (λ e. e.slots.items) left) }
+    ensures { (p : Program) (es : List machine.Event) → progress_of p es result ≡ again_by time value (option_map (λ e. e.slots.items) left) }
 {
     match left {
         None => Progress::Astray,
@@ -305,23 +318,20 @@ fn again(alloc: Global, time: u64, value: Option<u32>, left: Option<Env>) -> Pro
     }
 }
 
-/// An activation that goes on.
+/// An activation that goes on by the event at index `here`.
 fn go_on(
-    alloc: Global,
-    program: &AdaProgram,
     kept_now: Env,
     course: Course,
+    here: u32,
     event: &Event,
     good: bool,
     charge: Charge,
 ) -> Result<Progress, NoMemory>
-    requires rules { MeetsRules (program_of program.now) }
-    requires placed { IsPlaced (program_of program.now) event.now }
-    ensures { IfOk result (λ r. progress_of r ≡ Active kept_now.slots.items
-        (after_event (program_of program.now) good (charge_of charge) (named_event (program_of program.now) event.now) (course_of course))) }
+    ensures { (p : Program) (es : List machine.Event) → IsAt es here event.now → IfOk result (λ r. progress_of p es r ≡ Active kept_now.slots.items
+        (after_event p good (charge_of charge) (named_event p event.now) (course_of p es course))) }
 {
     let mut course = course;
-    course.step(alloc, program, event, good, charge)?;
+    course.step(here, event, good, charge)?;
     Ok(Progress::Active(kept_now, course))
 }
 
@@ -342,11 +352,13 @@ fn released(_program: &AdaProgram, event: &Event) -> Option<(u64, Option<u32>)>
     }
 }
 
-/// An activation after one of its thread's events: it ends where another release stands outside of operations.
+/// An activation after the event of its thread at index `here`: it ends where another release stands outside of operations.
 #[tactic(auto, using(crate::proofs::Going::going_steps))]
 fn proceed(
     scene: &Scene,
     alloc: Global,
+    events: &Events,
+    here: u32,
     thread: Thread,
     kept_now: Env,
     course: Course,
@@ -355,28 +367,32 @@ fn proceed(
     charge: Charge,
 ) -> Result<Progress, NoMemory>
     requires scene { IsScene scene.now }
-    requires placed { IsPlaced (program_in scene.now) event.now }
+    requires placed { Each (IsPlaced (program_in scene.now)) events.now }
+    requires at { IsAt events.now here event.now }
     requires ticks { (depth : ℕ) → most_ticks scene.now.program.now.costs (calls_of scene.now) depth (block_of thread.block.now) ≤ 1000000000 }
     ensures { (depth : ℕ) (t : Task) → IsOf t thread.entry → MayRun (leads_to (software_of scene.now)) depth (block_of thread.entry.block.now)
-        → IfOk result (λ r. progress_of r ≡ step_by (program_in scene.now) depth t good (charge_of charge)
-        (named_event (program_in scene.now) event.now) (Active kept_now.slots.items (course_of course))) }
+        → IfOk result (λ r. progress_of (program_in scene.now) events.now r ≡ step_by (program_in scene.now) depth t good (charge_of charge)
+        (named_event (program_in scene.now) event.now)
+        (Active kept_now.slots.items (course_of (program_in scene.now) events.now course))) }
 {
     if course.depth == 0 {
         if let Some((time, value)) = released(scene.program, event) {
-            let left = course.close(scene, alloc, thread, kept_now)?;
+            let left = course.close(scene, alloc, events, thread, kept_now)?;
             return Ok(again(alloc, time, value, left));
         }
     }
-    let next = go_on(alloc, scene.program, kept_now, course, event, good, charge)?;
+    let next = go_on(kept_now, course, here, event, good, charge)?;
     Ok(next)
 }
 
-/// How far a thread is after one of its own events, with the ticks of the way through the operation that it enters, and whether the object
-/// is served.
+/// How far a thread is after one of its own events, at index `here`, with the ticks of the way through the operation that it enters, and whether
+/// the object is served.
 #[tactic(auto, using(crate::proofs::Going::going_steps))]
 pub(crate) fn advance(
     scene: &Scene,
     alloc: Global,
+    events: &Events,
+    here: u32,
     thread: Thread,
     state: Progress,
     event: &Event,
@@ -384,12 +400,13 @@ pub(crate) fn advance(
     charge: Charge,
 ) -> Result<Progress, NoMemory>
     requires scene { IsScene scene.now }
-    requires placed { IsPlaced (program_in scene.now) event.now }
+    requires placed { Each (IsPlaced (program_in scene.now)) events.now }
+    requires at { IsAt events.now here event.now }
     requires own { is_at_horizon (named_event (program_in scene.now) event.now) ≡ false }
     requires ticks { (depth : ℕ) → most_ticks scene.now.program.now.costs (calls_of scene.now) depth (block_of thread.block.now) ≤ 1000000000 }
     ensures { (depth : ℕ) (t : Task) → IsOf t thread.entry → MayRun (leads_to (software_of scene.now)) depth (block_of thread.entry.block.now)
-        → IfOk result (λ r. progress_of r ≡ step_by (program_in scene.now) depth t good (charge_of charge)
-        (named_event (program_in scene.now) event.now) (progress_of state)) }
+        → IfOk result (λ r. progress_of (program_in scene.now) events.now r ≡ step_by (program_in scene.now) depth t good (charge_of charge)
+        (named_event (program_in scene.now) event.now) (progress_of (program_in scene.now) events.now state)) }
 {
     match state {
         Progress::Astray => Ok(Progress::Astray),
@@ -400,7 +417,9 @@ pub(crate) fn advance(
             }
         },
         Progress::Active(kept_now, course) => {
-            let next = proceed(scene, alloc, thread, kept_now, course, event, good, charge)?;
+            let next = proceed(
+                scene, alloc, events, here, thread, kept_now, course, event, good, charge,
+            )?;
             Ok(next)
         }
     }

@@ -1,24 +1,29 @@
-ghost use Rattle.std.specs.Prelude.{◌≡◌, ◌≤◌, ℕ, true, IfOk, Some};
+ghost use Rattle.std.specs.Prelude.{◌≡◌, ◌≤◌, ℕ, suc, true, IfOk, Some, drop};
+ghost use Rattle.seq_tree.specs.Lists.{Each};
 ghost use Rattle.seq_tree.specs.Names.{same_name};
 ghost use Rattle.seq_tree.specs.Trees.{block_of, operation_of};
 ghost use Rattle.ods_tree.specs.Flats.{Guarded};
 ghost use Rattle.law_walks.specs.Fit.{MayRun};
+ghost use Rattle.trace_tree.specs.Placed.{IsPlaced};
 ghost use Rattle.seq_eval.specs.Bounds.{most_ticks};
 ghost use Rattle.guarantee.specs.Software.{leads_to};
 ghost use Rattle.law_scripts.specs.Services.{charge_by, charge_in, entered_in, inside_by, is_sound, last_by, left_in};
+ghost use Rattle.law_scripts.specs.Services.{Free as FreeOne};
 ghost use Rattle.law_traces.specs.Checks.{begins_along, op_named, run_along};
-ghost use Rattle.trace_scripts.specs.Books.{entry_of};
+ghost use Rattle.trace_read.specs.Deeds.{first_task};
+ghost use Rattle.trace_scripts.specs.Insides.{entry_of, known_from};
 ghost use Rattle.trace_scripts.specs.Scripts.{shown_of};
 ghost use Rattle.trace_scripts.specs.Objects.{charge_of, service_of};
-ghost use Rattle.trace_scripts.specs.Scenes.{IsScene, calls_of, software_of};
+ghost use Rattle.trace_scripts.specs.Scenes.{IsScene, calls_of, program_in, software_of};
 
-use crate::books::Entry;
 use crate::data::{keep, open, results};
+use crate::insides::{Entry, known};
 use crate::scripts::Script;
 use crate::walks::{Scene, Walked};
 use seq_eval::Env;
 use seq_tree::{Datum, Name, NoMemory, OpText};
 use std::alloc::Global;
+use trace_read::Events;
 
 /// What an object is at.
 #[derive(Drop)]
@@ -95,20 +100,24 @@ fn pass<'a>(
     thread: &'a Name,
     op: &'a OpText,
     vars: &[Datum],
+    events: &Events,
     script: &Script,
     most: u64,
 ) -> Result<(Service<'a>, Charge), NoMemory>
     requires scene { IsScene scene.now }
+    requires placed { Each (IsPlaced (program_in scene.now)) events.now }
     requires ticks { (depth : ℕ) → most_ticks scene.now.program.now.costs (calls_of scene.now) depth (block_of op.now.block) ≤ 1000000000 }
     ensures service { (depth : ℕ) (g : Guarded) → MayRun (leads_to (software_of scene.now)) depth (block_of op.entry.now.block) → g.vars ≡ vars.now
         → IfOk result (λ r. service_of r.0 ≡ inside_by g thread.entry.now op.entry.now.sig.name (operation_of op.entry.now)
-        (run_along (software_of scene.now) depth (block_of op.entry.now.block) env.slots.items (shown_of script.now))) }
+        (run_along (software_of scene.now) depth (block_of op.entry.now.block) env.slots.items (shown_of
+        (program_in scene.now) events.now script.now))) }
     ensures charge { (depth : ℕ) → MayRun (leads_to (software_of scene.now)) depth (block_of op.entry.now.block)
         → IfOk result (λ r. charge_of r.1 ≡ charge_by most true
-        (run_along (software_of scene.now) depth (block_of op.entry.now.block) env.slots.items (shown_of script.now))) }
+        (run_along (software_of scene.now) depth (block_of op.entry.now.block) env.slots.items (shown_of
+        (program_in scene.now) events.now script.now))) }
 {
     let none = Charge { low: 0, high: most };
-    match scene.walk(alloc, &op.block, &mut env, script)? {
+    match scene.walk(alloc, events, &op.block, &mut env, script)? {
         Walked::Ran { low, high } => {
             let gives = results(alloc, &op.sig.params, &env)?;
             let after = keep(alloc, vars, &env)?;
@@ -131,57 +140,112 @@ fn stay<'a>(
     alloc: Global,
     mut env: Env,
     op: &OpText,
+    events: &Events,
     script: &Script,
 ) -> Result<Service<'a>, NoMemory>
     requires scene { IsScene scene.now }
+    requires placed { Each (IsPlaced (program_in scene.now)) events.now }
     requires ticks { (depth : ℕ) → most_ticks scene.now.program.now.costs (calls_of scene.now) depth (block_of op.now.block) ≤ 1000000000 }
     ensures { (depth : ℕ) → MayRun (leads_to (software_of scene.now)) depth (block_of op.now.block)
         → IfOk result (λ r. service_of r ≡ last_by
-        (begins_along (software_of scene.now) depth (block_of op.now.block) env.slots.items (shown_of script.now))) }
+        (begins_along (software_of scene.now) depth (block_of op.now.block) env.slots.items (shown_of
+        (program_in scene.now) events.now script.now))) }
 {
-    match scene.walk(alloc, &op.block, &mut env, script)? {
+    match scene.walk(alloc, events, &op.block, &mut env, script)? {
         Walked::Ran { .. } => Ok(Service::Last),
         Walked::Begun => Ok(Service::Last),
         Walked::Astray => Ok(Service::Broken),
     }
 }
 
-/// Behind an entry into an operation of an object, with the ticks of the way through it.
-pub(crate) fn enter<'a>(
+/// Behind an entry into an operation of an object that is free, with the ticks of the way through it.
+fn begin<'a>(
     scene: &Scene,
     alloc: Global,
-    state: Service<'a>,
+    kept: Env,
     thread: &'a Name,
     op: &'a OpText,
     vars: &[Datum],
     values: &[u32],
+    events: &Events,
     entry: &Entry,
     most: u64,
 ) -> Result<(Service<'a>, Charge), NoMemory>
     requires scene { IsScene scene.now }
+    requires placed { Each (IsPlaced (program_in scene.now)) events.now }
     requires ticks { (depth : ℕ) → most_ticks scene.now.program.now.costs (calls_of scene.now) depth (block_of op.now.block) ≤ 1000000000 }
     ensures service { (depth : ℕ) (g : Guarded) → MayRun (leads_to (software_of scene.now)) depth (block_of op.entry.now.block) → g.vars ≡ vars.now
         → op_named g op.entry.now.sig.name ≡ Some (operation_of op.entry.now)
         → IfOk result (λ r. service_of r.0
-        ≡ entered_in (software_of scene.now) depth g thread.entry.now op.entry.now.sig.name values.now (entry_of entry.now) (service_of state.entry)) }
+        ≡ entered_in (software_of scene.now) depth g thread.entry.now op.entry.now.sig.name values.now (entry_of
+        (program_in scene.now) events.now entry.now) (FreeOne kept.slots.items)) }
     ensures charge { (depth : ℕ) (g : Guarded) → MayRun (leads_to (software_of scene.now)) depth (block_of op.entry.now.block) → g.vars ≡ vars.now
         → op_named g op.entry.now.sig.name ≡ Some (operation_of op.entry.now)
         → IfOk result (λ r. charge_of r.1
-        ≡ charge_in (software_of scene.now) depth most g op.entry.now.sig.name values.now (entry_of entry.now) (service_of state.entry)) }
+        ≡ charge_in (software_of scene.now) depth most g op.entry.now.sig.name values.now (entry_of (program_in scene.now) events.now entry.now)
+        (FreeOne kept.slots.items)) }
 {
-    let none = Charge { low: 0, high: most };
+    let env = open(alloc, op, values, kept)?;
+    if entry.again {
+        let passed = pass(
+            scene,
+            alloc,
+            env,
+            thread,
+            op,
+            vars,
+            events,
+            &entry.script,
+            most,
+        )?;
+        Ok(passed)
+    } else {
+        let none = Charge { low: 0, high: most };
+        Ok((stay(scene, alloc, env, op, events, &entry.script)?, none))
+    }
+}
+
+/// Behind an entry of a task into an operation of an object at a place, with the ticks of the way through it. The entry stands at index `here`, and
+/// what its task does inside is read where the object is free.
+pub(crate) fn enter<'a>(
+    scene: &Scene,
+    alloc: Global,
+    state: Service<'a>,
+    task: u32,
+    unit: u32,
+    thread: &'a Name,
+    op: &'a OpText,
+    vars: &[Datum],
+    values: &[u32],
+    events: &Events,
+    here: u32,
+    most: u64,
+) -> Result<(Service<'a>, Charge), NoMemory>
+    requires scene { IsScene scene.now }
+    requires placed { Each (IsPlaced (program_in scene.now)) events.now }
+    requires own { first_task (drop here events.now) ≡ Some task }
+    requires ticks { (depth : ℕ) → most_ticks scene.now.program.now.costs (calls_of scene.now) depth (block_of op.now.block) ≤ 1000000000 }
+    ensures service { (depth : ℕ) (g : Guarded) → MayRun (leads_to (software_of scene.now)) depth (block_of op.entry.now.block) → g.vars ≡ vars.now
+        → op_named g op.entry.now.sig.name ≡ Some (operation_of op.entry.now)
+        → IfOk result (λ r. service_of r.0
+        ≡ entered_in (software_of scene.now) depth g thread.entry.now op.entry.now.sig.name values.now
+        (known_from (program_in scene.now) task unit (drop (suc here) events.now)) (service_of state.entry)) }
+    ensures charge { (depth : ℕ) (g : Guarded) → MayRun (leads_to (software_of scene.now)) depth (block_of op.entry.now.block) → g.vars ≡ vars.now
+        → op_named g op.entry.now.sig.name ≡ Some (operation_of op.entry.now)
+        → IfOk result (λ r. charge_of r.1
+        ≡ charge_in (software_of scene.now) depth most g op.entry.now.sig.name values.now
+        (known_from (program_in scene.now) task unit (drop (suc here) events.now)) (service_of state.entry)) }
+{
     match state {
         Service::Free(kept) => {
-            let env = open(alloc, op, values, kept)?;
-            if entry.again {
-                let passed = pass(scene, alloc, env, thread, op, vars, &entry.script, most)?;
-                Ok(passed)
-            } else {
-                Ok((stay(scene, alloc, env, op, &entry.script)?, none))
-            }
+            let entry = known(alloc, task, unit, events, here)?;
+            let begun = begin(
+                scene, alloc, kept, thread, op, vars, values, events, &entry, most,
+            )?;
+            Ok(begun)
         }
-        Service::Inside { .. } => Ok((Service::Broken, none)),
-        Service::Last => Ok((Service::Broken, none)),
-        Service::Broken => Ok((Service::Broken, none)),
+        Service::Inside { .. } => Ok((Service::Broken, Charge { low: 0, high: most })),
+        Service::Last => Ok((Service::Broken, Charge { low: 0, high: most })),
+        Service::Broken => Ok((Service::Broken, Charge { low: 0, high: most })),
     }
 }

@@ -16,7 +16,6 @@ ghost use Rattle.trace_scripts.specs.Serving.{MayAll};
 ghost use Rattle.trace_scripts.specs.Wrongs.{judged_last, verdict_by};
 ghost use Rattle.law_traces.specs.Verdicts.{Verdict};
 
-use crate::books::entries;
 use crate::moves::{Threads, is_well, move_all};
 use crate::objects::{Objects, is_object, serve};
 use crate::progress::Progress;
@@ -25,15 +24,17 @@ use ada_tree::AdaProgram;
 use seq_tree::NoMemory;
 use std::alloc::Global;
 use std::mem::replace;
+use trace_read::Events;
 use trace_tree::Event;
 
 /// The greatest number of ticks that an event of a trace says were used.
-pub(crate) fn most_used(program: &AdaProgram, events: &[Event]) -> u64
+pub(crate) fn most_used(program: &AdaProgram, events: &Events) -> u64
     ensures { result ≡ most_used (named (program_of program.now) events.now) }
 {
     let mut most = 0;
-    'events: for event in events {
-        let used = used_in(program, event);
+    let mut at: u32 = 0;
+    'events: while let Some(event) = events.next(&mut at) {
+        let used = used_in(program, &event);
         if most < used {
             most = used;
         }
@@ -89,18 +90,25 @@ pub(crate) fn first_broken(program: &AdaProgram, objects: &Objects) -> Option<us
 }
 
 /// The place of the first thread whose steps are no activations, where there is one.
-fn first_astray(scene: &Scene, alloc: Global, threads: Threads) -> Result<Option<usize>, NoMemory>
+fn first_astray(
+    scene: &Scene,
+    alloc: Global,
+    events: &Events,
+    threads: Threads,
+) -> Result<Option<usize>, NoMemory>
     requires scene { IsScene scene.now }
+    requires placed { Each (IsPlaced (program_in scene.now)) events.now }
     requires states { length threads.states.items ≡ length (program_in scene.now).units }
     ensures { (depth : ℕ) → MayAll (program_in scene.now) depth → (following : Task → Bool)
-        → AreFollowing (program_in scene.now) depth (threads_of threads) following → IfOk result (λ r. option_map (unit_name (program_in scene.now)) r
+        → AreFollowing (program_in scene.now) depth (threads_of (program_in scene.now) events.now threads) following → IfOk result (λ r. option_map
+        (unit_name (program_in scene.now)) r
         ≡ option_map (λ t. t.name) (find (λ t. not (following t)) (software_of scene.now).tasks)) }
 {
     let mut threads = threads;
     let mut at = 0;
     'units: while at < scene.program.units.len() {
         let state = replace(&mut threads.states[at], Progress::Astray);
-        if !is_well(scene, alloc, at, state)? {
+        if !is_well(scene, alloc, events, at, state)? {
             return Ok(Some(at));
         }
         at += 1;
@@ -120,23 +128,21 @@ pub enum Wrong {
 /// The first thread of a program whose activations a trace shows wrong, else the first object whose operations it does not run one by one,
 /// where there is one: threads and objects in the order of units, whose places count from 0.
 ///
-/// The ticks that an activation used are asked for only where it enters no object of the latter kind. The trace is passed three times:
-/// from its end for what is done inside each operation, then for the objects, and then for the threads.
-pub fn first_wrong(
-    alloc: Global,
-    scene: &Scene,
-    events: &[Event],
-) -> Result<Option<Wrong>, NoMemory>
+/// The ticks that an activation used are asked for only where it enters no object of the latter kind. The trace is passed three times: for the
+/// greatest number of ticks that an end tells, for the objects, and for the threads with the objects once more. Behind an entry into an operation
+/// of an object that is free what its thread does inside is read ahead, from one of its events to the next, over each operation that it enters there.
+/// Nothing is held of an event but its index, in four bytes, in the script of an operation that is followed, or of an activation until it ends: each
+/// is read again when it is followed.
+pub fn first_wrong(alloc: Global, scene: &Scene, events: &Events) -> Result<Option<Wrong>, NoMemory>
     requires scene { IsScene scene.now }
     requires placed { Each (IsPlaced (program_in scene.now)) events.now }
     ensures { (clear : IsClear (software_of scene.now)) (other : Verdict) → IfOk result (λ r. verdict_by (program_in scene.now) r other
         ≡ judged_last (software_of scene.now) clear.depth (named (program_in scene.now) events.now) other) }
 {
-    let known = entries(alloc, scene.program, events)?;
     let most = most_used(scene.program, events);
-    let (objects, charges) = serve(scene, alloc, events, known, most)?;
-    let threads = move_all(scene, alloc, events, &charges, &objects)?;
-    let astray = first_astray(scene, alloc, threads)?;
+    let objects = serve(scene, alloc, events)?;
+    let threads = move_all(scene, alloc, events, most, &objects)?;
+    let astray = first_astray(scene, alloc, events, threads)?;
     if let Some(unit) = astray {
         return Ok(Some(Wrong::Thread(unit)));
     }

@@ -1,16 +1,21 @@
-use Rattle.std.proofs.Common.{ap, Some, ◌∙◌}
+use Rattle.std.proofs.Common.{[], ap, Some, ◌∙◌}
 use Rattle.ada_tree.specs.Trees.{program_of}
 use Rattle.guarantee.specs.Events.{named}
 use Rattle.guarantee.specs.Software.{program_software}
 use Rattle.law_traces.specs.Verdicts.{Times}
-use Rattle.design_accepts.proofs.Scenery.{is-scene}
+use Rattle.design_accepts.proofs.Scenery.{are-led, as-listed, is-scene}
 use Rattle.design_accepts.proofs.Wronging.{thread-told, object-told, none-told}
 use Rattle.design_accepts.proofs.units.judge_units.Goals as goal
 
+pub of-requires : goal.of-requires
+of-requires c =
+    as-listed (program_of c.args.program.now) c.in_ok-called.called _ _ [] [] c.as_slice.ensures.value c.as_slice-2.ensures.value
+    c.in_ok-called.ensures
+
 pub first_wrong-requires-clause-scene : goal.first_wrong-requires-clause-scene
 first_wrong-requires-clause-scene c =
-    is-scene _ c.in_ok-called.called c.as_slice.ensures.value c.as_slice-2.ensures.value c.as_slice-3.ensures.value c.as_slice-4.ensures.value
-    c.in_ok-called.ensures c.requires.meets c.requires.quick
+    is-scene _ (c.in_ok-calls.ensures ∙ are-led (program_of c.args.program.now) c.in_ok-called.called _ _ _ _ c.as_slice.ensures.value
+    c.as_slice-2.ensures.value c.in_ok-called.ensures c.as_slice-3.ensures.value c.as_slice-4.ensures.value) c.requires.meets c.requires.quick
 
 pub returns-in-None : goal.returns-in-None
 returns-in-None c = λ clear.

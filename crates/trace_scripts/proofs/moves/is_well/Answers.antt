@@ -24,4 +24,4 @@ returns-in-Active c = λ depth may.
     well-some p depth c.args.unit c.in-Some.thread f _ c.in_ok-ends-in-Active.ends
     (c.in_ok-ends-in-Active.ensures depth f.task f.is
     (block-at p c.args.unit c.requires.unit c.in-Some.thread f (λ b. MayRun (leads_to (software_of c.args.scene.now)) depth b) may))
-    ∙ ap (λ s. well_by (software_of c.args.scene.now) depth (task_at p c.args.unit) (progress_of s)) (sym c.in-Active.is)
+    ∙ ap (λ s. well_by (software_of c.args.scene.now) depth (task_at p c.args.unit) (progress_of (program_in c.args.scene.now) c.args.events.now s)) (sym c.in-Active.is)

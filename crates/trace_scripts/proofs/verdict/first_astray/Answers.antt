@@ -13,7 +13,7 @@ returns-then-not-branch c = λ depth may following are.
     let at : ℕ = c.units.at in
     let in' : IsUnit p at = in-units c.args.scene.now.program.now at (search rules) in
     here-thread p at in' following _ (c.units.invariant.found depth may following are) c.in_ok-is_well.field-0
-    (passes-thread p depth at in' (threads_of c.args.threads) c.units.threads.states.items c.replace-state.result following are
+    (passes-thread p c.args.events.now depth at in' (threads_of (program_in c.args.scene.now) c.args.events.now c.args.threads) c.units.threads.states.items c.replace-state.result following are
     (c.units.invariant.others at (omega arith)) (in-states c.args.scene.now.program.now at _ c.units.invariant.sized in') (search rules)
     c.in_ok-is_well.field-0 (c.in_ok-is_well.ensures depth may)) (search rules)
 
@@ -25,9 +25,9 @@ units-preserved c =
     record {
       within = on-units c.args.scene.now.program.now at (search rules);
       sized = search rules;
-      others = λ u h. other-units c.units.threads.states.items at u c.replace-state.new.dest h ∙ c.units.invariant.others u (omega (arith, h));
+      others = λ u h. other-units p c.args.events.now c.units.threads.states.items at u c.replace-state.new.dest h ∙ c.units.invariant.others u (omega (arith, h));
       found = λ depth may following are. past-thread p at in' following _ (c.units.invariant.found depth may following are) c.in_ok-is_well.field-0
-          (passes-thread p depth at in' (threads_of c.args.threads) c.units.threads.states.items c.replace-state.result following are
+          (passes-thread p c.args.events.now depth at in' (threads_of (program_in c.args.scene.now) c.args.events.now c.args.threads) c.units.threads.states.items c.replace-state.result following are
           (c.units.invariant.others at (omega arith)) (in-states c.args.scene.now.program.now at _ c.units.invariant.sized in') (search rules)
           c.in_ok-is_well.field-0 (c.in_ok-is_well.ensures depth may)) (search rules);
     }

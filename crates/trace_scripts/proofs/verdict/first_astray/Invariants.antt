@@ -12,9 +12,9 @@ abbrev pub invariant-units : goal.invariant-units
 invariant-units l = record {
   within : l.at ≤ length (program_in l.scene).units;
   sized : length l.threads.states.items ≡ length (program_in l.scene).units;
-  others : (u : ℕ) → l.at ≤ u → slice_get (threads_of l.threads) u ≡ slice_get (threads_of l.fn.threads) u;
+  others : (u : ℕ) → l.at ≤ u → slice_get (threads_of (program_in l.scene) l.events l.threads) u ≡ slice_get (threads_of (program_in l.scene) l.events l.fn.threads) u;
   found : (depth : ℕ) → MayAll (program_in l.scene) depth → (following : Task → Bool)
-      → AreFollowing (program_in l.scene) depth (threads_of l.fn.threads) following
+      → AreFollowing (program_in l.scene) depth (threads_of (program_in l.scene) l.events l.fn.threads) following
       → find (λ t. not (following t)) (filter_map task_in (drop l.at (program_in l.scene).units))
       ≡ find (λ t. not (following t)) (software_of l.scene).tasks;
 }

@@ -11,7 +11,7 @@ use Rattle.trace_scripts.proofs.moves.Threads.step.Goals as goal
 
 pub returns-in_default-clause-states : goal.returns-in_default-clause-states
 returns-in_default-clause-states c = λ depth may.
-    step-none (program_in c.args.scene.now) depth c.args.good (charge_of c.args.charge) c.args.event.now c.args.task (threads_of c.args.self.now)
+    step-none (program_in c.args.scene.now) depth c.args.good (charge_of c.args.charge) c.args.event.now c.args.task (threads_of (program_in c.args.scene.now) c.args.events.now c.args.self.now)
     (thread-none (program_in c.args.scene.now) c.args.task c.thread_at.result c.thread_at.ensures (search rules))
 
 pub advance-requires-clause-ticks : goal.advance-requires-clause-ticks
@@ -25,7 +25,7 @@ returns-clause-states c = λ depth may.
     let p : Program = program_in c.args.scene.now in
     let f : Found p c.args.task c.in-Some.thread =
     thread-found p c.args.task c.thread_at.result c.in-Some.thread c.thread_at.ensures c.in-Some.is in
-    step-made p depth c.args.good (charge_of c.args.charge) c.args.event.now c.args.task c.in-Some.thread f c.args.self.now.states.items _
+    step-made p c.args.events.now depth c.args.good (charge_of c.args.charge) c.args.event.now c.args.task c.in-Some.thread f c.args.self.now.states.items _
     c.replace-before.result c.in_ok-after.after (search rules) (search rules)
     (c.in_ok-after.ensures depth f.task f.is
     (block-at p c.args.task c.requires.task c.in-Some.thread f (λ b. MayRun (leads_to (software_of c.args.scene.now)) depth b) may))

@@ -1,4 +1,3 @@
-pub mod Divisions
 pub mod SlotReads
 pub mod Reaches
 pub mod Shared

@@ -1,8 +1,8 @@
 //! Linked code: expressions whose variables are slots, and their values. No code runs over it yet.
 //!
-//! It stands on `seq_tree`, which defines the value of an expression over named variables, and on `seq_eval` for tables of names.
-//! `link_expr` writes the nodes of an expression, with the slot of each variable that a table gives; `value_at` carries the promise: its
-//! answer is the value of each expression that the code stands for, over the variables that the slots hold.
+//! It stands on `seq_tree`, which defines the value of an expression over named variables, and on `seq_eval` for tables of names and the
+//! values of operators. `link_expr` writes the nodes of an expression, with the slot of each variable that a table gives; `value_at` carries
+//! the promise: its answer is the value of each expression that the code stands for, over the variables that the slots hold.
 //!
 //! Other crates may cite these proofs of it (`proofs/Shared`):
 //!
@@ -14,7 +14,6 @@
 mod code;
 mod law;
 mod link;
-mod operators;
 mod values;
 
 pub use code::{Linked, Node, Operand};

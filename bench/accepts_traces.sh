@@ -41,7 +41,7 @@ beside_operations() {
 # A thread that prints so often in one activation.
 printing() {
     echo "DESIGN d IS $costs
-OBJECT r IS CYCLIC $attributes THREAD for k in 1 .. $1 loop put (1); end loop; END THREAD; END r;
+OBJECT r IS CYCLIC $attributes THREAD for k in word range 1 .. $1 loop put (1); end loop; END THREAD; END r;
 END d;"
 }
 

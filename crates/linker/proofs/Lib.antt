@@ -1,7 +1,12 @@
 pub mod Keeping
 pub mod Scoping
+pub mod Entering
+pub mod Units
+pub mod Parting
 pub mod Linkages
 pub mod Handing
 pub mod Bodying
 pub mod LinkSteps
 pub mod Counting
+pub mod Naming
+pub mod Examples

@@ -4,3 +4,6 @@ pub mod Scopes
 pub mod Standing
 pub mod Linking
 pub mod Bodies
+pub mod Callees
+pub mod Programs
+pub mod Parts

@@ -1,0 +1,15 @@
+use Rattle.std.proofs.Common.{◌≡◌, ℕ, [], List, length, map}
+use Rattle.ada_tree.specs.Trees.{unit_of}
+use Rattle.machine.specs.Systems.{System}
+use Rattle.linker.specs.Callees.{AreEntered, IsSystemOf, body_of, target_among, threads_from}
+use Rattle.linker.proofs.tables.Callees.add_tasks.Given as goal
+
+-- tasks of other names are among the units that are left
+abbrev pub invariant-units : goal.invariant-units
+invariant-units l = (y : System) (is : IsSystemOf (map unit_of l.units) y)
+    → AreEntered y l.fn.self.units (map body_of l.fn.self.bodies.items) (target_among 0 [] 0 [] 0 y.threads)
+    → (i : ℕ) × AreEntered y l.self.units (map body_of l.self.bodies.items)
+    (target_among 0 [] 0 [] l.task (threads_from is.durations i (map unit_of l.left)))
+
+abbrev pub decreases-units : goal.decreases-units
+decreases-units l = length l.left

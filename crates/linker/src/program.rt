@@ -136,7 +136,10 @@ fn link_unit<'a, C: Calls>(
             Ok(())
         }
         Form::Sporadic {
-            op, vars, block, ..
+            op,
+            vars,
+            block,
+            ..
         } => {
             let start = link_task(alloc, code, block, &op.params, vars, calls)?;
             starts.push(start)?;

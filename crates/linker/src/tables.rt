@@ -207,7 +207,12 @@ impl<'a> Callees<'a> {
     }
 
     /// Enters a unit, where it is a protected object, and counts it.
-    fn add_object(&mut self, alloc: Global, unit: &'a Unit, object: usize) -> Result<usize, NoMemory>
+    fn add_object(
+        &mut self,
+        alloc: Global,
+        unit: &'a Unit,
+        object: usize,
+    ) -> Result<usize, NoMemory>
         ensures { IfOk result (λ next. (y : System) (us : List UnitTree) (i k : ℕ) (ts : List TaskUnit)
             → AreEntered y self.old.units (map body_of self.old.bodies.items) (target_among 0 [] object (objects_from i (unit_of unit.entry.now ∷ us)) k ts)
             → AreEntered y self.new.units (map body_of self.new.bodies.items) (target_among 0 [] next (objects_from (suc i) us) k ts)) }

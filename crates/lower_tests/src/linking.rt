@@ -16,7 +16,12 @@ fn the_units_of_a_program_are_linked(rt: HostRuntime) -> Result<(), Fail> {
     assert_eq!(rt; linked.code.ins.len(), 11);
     assert!(rt; matches!(linked.code.ins.get(2), Some(Ins::Work(2))));
     assert!(rt; matches!(linked.code.ins.get(3), Some(Ins::Return)));
-    assert!(rt; matches!(linked.code.ins.get(5), Some(Ins::Call { op: 1, outs: 0, .. })));
+    assert!(rt;
+        matches!(
+            linked.code.ins.get(5),
+            Some(Ins::Call { op: 1, outs: 0, .. })
+        )
+    );
     assert!(rt; matches!(linked.code.ins.get(8), Some(Ins::Finish)));
     Ok(())
 }

@@ -29,7 +29,7 @@ returns-in_ok-push-in-Cyclic g c = λ from whole durations i us h.
     c.args.starts.now.items _ c.in_ok-start-in-Cyclic.start
     (subst (λ v. PartsLeft leads ins.Finish from (lists_of c.args.code.now) whole (map task_part (threads_from durations i (v ∷ us)))
     c.args.starts.now.items) (as_cyclic c.args.unit.now s.priority s.offset s.period s.vars s.block s.is) h)
-    c.in_ok-start-in-Cyclic.ensures c.in_ok-push-in-Cyclic.ensures.items
+    (rw c.deref.ensures.value at c.in_ok-start-in-Cyclic.ensures) c.in_ok-push-in-Cyclic.ensures.items
 
 pub returns-in_ok-push-in-Sporadic : goal.returns-in_ok-push-in-Sporadic
 returns-in_ok-push-in-Sporadic g c = λ from whole durations i us h.
@@ -42,4 +42,4 @@ returns-in_ok-push-in-Sporadic g c = λ from whole durations i us h.
     (subst (λ v. PartsLeft leads ins.Finish from (lists_of c.args.code.now) whole (map task_part (threads_from durations i (v ∷ us)))
     c.args.starts.now.items)
     (as_sporadic c.args.unit.now s.priority s.ceiling s.op s.separation s.jitter s.external s.vars s.block s.is) h)
-    c.in_ok-start-in-Sporadic.ensures c.in_ok-push-in-Sporadic.ensures.items
+    (rw (c.deref-in-Sporadic.ensures.value, c.deref-in-Sporadic-2.ensures.value) at c.in_ok-start-in-Sporadic.ensures) c.in_ok-push-in-Sporadic.ensures.items

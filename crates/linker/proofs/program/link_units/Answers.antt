@@ -18,9 +18,9 @@ returns c =
     let one = lists_of c.link_ops.new.code in
     let two = lists_of c.link_tasks.new.code in
     let bodies = map op_part (map body_of callees.bodies.items) in
-    let ops = c.in_ok-starts.ensures in
+    let ops = rw c.bodies.ensures at c.in_ok-starts.ensures in
     let tasks = c.in_ok-tasks.ensures in
-    record {
+    rw c.into_bodies.ensures (record {
       leads = leads;
       calls = c.in_ok-callees.ensures;
       bodies = parts_done leads ins.Return zero' one two bodies c.in_ok-starts.starts.items ops (tasks (λ k. [])).kept;
@@ -29,4 +29,4 @@ returns c =
           c.in_ok-tasks.tasks.items (tasks is.durations) (keeps_none 0 _ two));
       ordered = nodes_ordered zero' two c.new-code.ensures.nodes
           (grows_twice zero'.nodes one.nodes two.nodes ops.kept.nodes (tasks (λ k. [])).kept.nodes);
-    }
+    })

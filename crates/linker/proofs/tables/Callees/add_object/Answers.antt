@@ -14,7 +14,7 @@ returns-in_ok-enter_ops-in-Shared c = λ y us i k ts h.
     let g = object_of i u.name s.ceiling s.vars.items os in
     let m = c.args.object in
     subst (λ q. AreEntered y _ _ (target_among 0 [] q (objects_from (suc i) us) k ts)) c.in_ok-next-in-Shared.ensures
-    (c.in_ok-enter_ops-in-Shared.ensures y (λ op. protected_by (m, g) (op_named op os)) _ _ (protected_led m g)
+    ((rw (c.deref.ensures.value, c.deref-in-Shared.ensures.value) at c.in_ok-enter_ops-in-Shared.ensures) y (λ op. protected_by (m, g) (op_named op os)) _ _ (protected_led m g)
     (object_here u.name s.ceiling s.vars.items os m i k us ts)
     (subst (λ v. AreEntered y c.args.self.now.units (map body_of c.args.self.now.bodies.items) (target_among 0 [] m (objects_from i (v ∷ us)) k ts))
     (as_shared u s.ceiling s.vars s.ops s.is) h))

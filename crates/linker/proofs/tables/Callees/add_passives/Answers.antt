@@ -5,9 +5,12 @@ use Rattle.linker.proofs.LinkSteps.{empty_of}
 use Rattle.linker.proofs.tables.Callees.add_passives.Goals as goal
 
 pub units-init : goal.units-init
-units-init c = λ y is h.
-    (0, 0, subst (λ ls. AreEntered y c.args.self.now.units (map body_of c.args.self.now.bodies.items) (target_among 0 ls 0 y.objects 0 y.threads))
-    is.libraries h)
+units-init c = λ y is h. (
+  0,
+  0,
+  subst (λ ls. AreEntered y c.args.self.now.units (map body_of c.args.self.now.bodies.items) (target_among 0 ls 0 y.objects 0 y.threads))
+      is.libraries h,
+)
 
 pub units-preserved : goal.units-preserved
 units-preserved c = λ y is h.

@@ -11,10 +11,12 @@ units-init c = λ y is h.
 pub units-preserved : goal.units-preserved
 units-preserved c = λ y is h.
     let r = c.units.invariant y is h in
-    let here : c.units.left.now ≡ c.in-Some.unit.now ∷ c.in-Some.rest.now = search rules in
-    (suc r.0, c.in_ok-next.ensures y is.durations (map unit_of c.in-Some.rest.now) r.0
-    (subst (λ us. AreEntered y c.units.self.units (map body_of c.units.self.bodies.items)
-    (target_among 0 [] 0 [] c.units.task (threads_from is.durations r.0 us))) (ap (map unit_of) here) r.1))
+    let here : c.units.left.now ≡ c.in-Some.unit.now ∷ c.in-Some.rest.now = search rules in (
+      suc r.0,
+      c.in_ok-next.ensures y is.durations (map unit_of c.in-Some.rest.now) r.0
+          (subst (λ us. AreEntered y c.units.self.units (map body_of c.units.self.bodies.items)
+          (target_among 0 [] 0 [] c.units.task (threads_from is.durations r.0 us))) (ap (map unit_of) here) r.1),
+    )
 
 pub returns : goal.returns
 returns c = λ y is h.

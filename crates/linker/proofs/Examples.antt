@@ -1,18 +1,34 @@
--- What the definitions say of small programs.
-use Rattle.std.proofs.Common.{◌≡◌, ℕ, List, [], ◌∷◌, Option, Some, None, refl, arith}
-use Rattle.std.specs.Prelude.{codes}
+-- What the definitions say of small programs: each clause holds of a case, and is broken by one that differs from it alone.
+use Rattle.std.proofs.Common.{◌≡◌, ℕ, Bool, true, false, List, [], ◌∷◌, Option, Some, None, map, refl, ap, sym, subst, arith, if◌then◌else◌}
+use Rattle.std.specs.Prelude.{codes, slice_get}
 use Rattle.std.proofs.lemmas.Option.{slice_get_within}
+use Rattle.seq_tree.specs.Names.{Name, same_name}
 use Rattle.seq_tree.specs.Operations.{Operation}
 use Rattle.seq_tree.specs.Statements.{End}
+use Rattle.seq_tree.specs.declared.tree.Costs.{Costs}
+use Rattle.seq_tree.specs.declared.tree.Datum.{Datum}
+use Rattle.seq_tree.specs.declared.tree.Mode.TheVariants.{In}
+use Rattle.seq_tree.specs.declared.tree.Param.{Param}
+use Rattle.ada_tree.specs.Programs.{Cyclic, Form, Passive, Unit}
+use Rattle.machine.specs.Systems.{ProtectedUnit, System, TaskUnit, callee}
 use Rattle.machine.specs.Systems as to
-use Rattle.linker.specs.Callees.{IsLed, OpBody}
-use Rattle.linker.specs.Leads.{Body, Nowhere, Request}
-use Rattle.linker.specs.Programs.{AllStand, Part}
+use Rattle.linked.specs.Nodes.{AreOrdered}
+use Rattle.linker.specs.Callees.{IsLed, IsSystemOf, OpBody, body_of, libraries_from, threads_from}
+use Rattle.linker.specs.Leads.{Body, Leads, Nowhere, Request}
+use Rattle.linker.specs.Programs.{AllStand, AreLinked, Part, op_part, task_part}
 use Rattle.linker.specs.Scopes.{slots_of}
+use Rattle.linker.specs.Standing.{Has, lists_of}
+use Rattle.linker.specs.declared.code.Ins.TheVariants as ins
+use Rattle.linker.specs.declared.program.LinkedUnits.{LinkedUnits}
+use Rattle.law_flat_code.specs.Codes.{TaskStands}
 
 tick : Operation
 tick = record { sig = record { name = codes "tick"; params = [] }; locals = []; block = End }
 
+tock : Operation
+tock = record { sig = record { name = codes "tock"; params = [] }; locals = []; block = End }
+
+-- an operation of a passive unit
 body : OpBody
 body = record { owner = None; vars = []; op = tick }
 
@@ -20,7 +36,10 @@ body = record { owner = None; vars = []; op = tick }
 leads_there : IsLed (body ∷ []) (to.Plain tick) (Body 0 [])
 leads_there = (0, refl, refl)
 
--- and not past the last body, nowhere, or to a task
+-- and not to another's, past the last body, nowhere, or to a task
+leads_to_another : IsLed (body ∷ []) (to.Plain tock) (Body 0 []) → ⊥
+leads_to_another (0, w, h) = cc
+
 leads_past : IsLed [] (to.Plain tick) (Body 0 []) → ⊥
 leads_past h = let lt = slice_get_within [] h.0 body h.2 in omega (arith, lt)
 
@@ -30,13 +49,55 @@ leads_nowhere h = let e = h.1 in cc
 unknown_leads : IsLed (body ∷ []) to.Unknown (Body 0 []) → ⊥
 unknown_leads h = cc
 
--- a request leads to its own task
-leads_to_another : IsLed [] (to.Request 1) (Request 0) → ⊥
-leads_to_another h = cc
+unknown_leads_nowhere : IsLed (body ∷ []) to.Unknown Nowhere
+unknown_leads_nowhere = refl
 
--- the first name of a body has the highest slot
+-- a request leads to its own task
+request_leads : IsLed [] (to.Request 1) (Request 1)
+request_leads = refl
+
+request_of_another : IsLed [] (to.Request 1) (Request 0) → ⊥
+request_of_another h = cc
+
+-- a protected object with one datum and one operation
+level : Datum
+level = record { name = codes "level"; value = 7 }
+
+guarded : ProtectedUnit
+guarded = record { unit = 3; name = codes "q"; ceiling = 5; vars = level ∷ []; ops = tick ∷ [] }
+
+-- a call of it leads to the body that has the place of the object, its own place and the object's data
+protected_leads : IsLed (record { owner = Some (2, 0); vars = level ∷ []; op = tick } ∷ []) (to.Protected 2 0 guarded tick) (Body 0 [])
+protected_leads = (0, refl, refl)
+
+-- and not to one of another object, one at another place, or one without the data
+protected_elsewhere : IsLed (record { owner = Some (1, 0); vars = level ∷ []; op = tick } ∷ []) (to.Protected 2 0 guarded tick) (Body 0 []) → ⊥
+protected_elsewhere (0, w, h) = cc
+
+protected_at_another_place : IsLed (record { owner = Some (2, 1); vars = level ∷ []; op = tick } ∷ []) (to.Protected 2 0 guarded tick) (Body 0 [])
+    → ⊥
+protected_at_another_place (0, w, h) = cc
+
+protected_without_data : IsLed (record { owner = Some (2, 0); vars = []; op = tick } ∷ []) (to.Protected 2 0 guarded tick) (Body 0 []) → ⊥
+protected_without_data (0, w, h) = cc
+
+plain_as_protected : IsLed (body ∷ []) (to.Protected 2 0 guarded tick) (Body 0 []) → ⊥
+plain_as_protected (0, w, h) = cc
+
+-- the first name of a body has the highest slot: parameters, then locals, then data
 slots_count_down : slots_of (codes "x" ∷ codes "y" ∷ []) ≡ (codes "x", 1) ∷ (codes "y", 0) ∷ []
 slots_count_down = refl
+
+in_x : Param
+in_x = record { mode = In; name = codes "x" }
+
+local_y : Datum
+local_y = record { name = codes "y"; value = 0 }
+
+names_in_order : (op_part (record { owner = Some (2, 0); vars = level ∷ [];
+  op = record { sig = record { name = codes "set"; params = in_x ∷ [] }; locals = local_y ∷ []; block = End } })).names
+    ≡ codes "x" ∷ codes "y" ∷ codes "level" ∷ []
+names_in_order = refl
 
 part : Part
 part = record { names = []; block = End }
@@ -53,3 +114,67 @@ starts_elsewhere h = let e = h.0 in cc
 
 starts_there : AllStand (λ scope start block. start ≡ 0) (part ∷ []) (0 ∷ [])
 starts_there = (refl, tt)
+
+-- a program of one task that does nothing, and one of a passive unit
+lone : Unit
+lone = record { name = codes "a"; form = Cyclic 1 0 10 [] End }
+
+passive : Unit
+passive = record { name = codes "p"; form = Passive (tick ∷ []) }
+
+module _ (costs : Costs) where
+  -- what runs of them
+  running : System
+  running = record { until = 0; costs = costs; libraries = []; objects = []; threads = threads_from (λ unit. []) 0 (lone ∷ []) }
+
+  runs : IsSystemOf (lone ∷ []) running
+  runs = record { durations = λ unit. []; libraries = refl; objects = refl; threads = refl }
+
+  called : System
+  called = record { until = 0; costs = costs; libraries = libraries_from 0 (passive ∷ []); objects = []; threads = [] }
+
+  calls : IsSystemOf (passive ∷ []) called
+  calls = record { durations = λ unit. []; libraries = refl; objects = refl; threads = refl }
+
+  -- a system has all the units
+  runs_nothing : IsSystemOf (lone ∷ []) (record running { threads = [] }) → ⊥
+  runs_nothing h = let e = h.threads in cc
+
+  -- the block of the task has a start
+  task_lacks : (c : LinkedUnits) → c.tasks.items ≡ [] → AreLinked (lone ∷ []) c → ⊥
+  task_lacks c none h =
+      subst (AllStand (TaskStands (Has h.leads (lists_of c.code))) (map task_part running.threads)) none (h.tasks running runs)
+
+  -- and ends as an activation does
+  task_returns : (c : LinkedUnits) → c.tasks.items ≡ 0 ∷ [] → c.code.ins.items ≡ ins.Return ∷ [] → AreLinked (lone ∷ []) c → ⊥
+  task_returns c at code h =
+      let stands = subst (AllStand (TaskStands (Has h.leads (lists_of c.code))) (map task_part running.threads)) at (h.tasks running runs) in
+      let last = rw code at stands.0.1 in cc
+
+  -- the body of an operation that is called is there
+  body_lacks : (c : LinkedUnits) → c.ops.items ≡ [] → AreLinked (passive ∷ []) c → ⊥
+  body_lacks c none h =
+      let led : IsLed (map body_of c.ops.items) (to.Plain tick) (h.leads (codes "p") (codes "tick")) = h.calls called calls (codes "p") (codes "tick") in
+      let here : slice_get [] led.0 ≡ Some body = subst (λ bs. slice_get (map body_of bs) led.0 ≡ Some body) none led.2 in
+      absurd (let lt = slice_get_within [] led.0 body here in omega (arith, lt))
+
+-- its thread
+thread : List ℕ → TaskUnit
+thread work = record { unit = 0; name = codes "a"; priority = 1; timing = to.Periodic 0 10; vars = []; block = End; durations = work }
+
+unrequested : (b : Bool) (bodies : List OpBody) (work : List ℕ) (op : Name)
+    → IsLed bodies (to.request_by op (if b then Some (0, thread work) else None)) Nowhere
+unrequested true bodies work op = refl
+unrequested false bodies work op = refl
+
+-- the one task is linked as the end of its activation, and calls lead nowhere
+task_is_linked : (c : LinkedUnits) → c.code.ins.items ≡ ins.Finish ∷ [] → c.code.nodes.items ≡ [] → c.ops.items ≡ [] → c.starts.items ≡ []
+    → c.tasks.items ≡ 0 ∷ [] → AreLinked (lone ∷ []) c
+task_is_linked c code nodes ops starts tasks = record {
+  leads = λ unit op. Nowhere;
+  calls = λ y is unit op. rw (is.libraries, is.objects, is.threads)
+      (unrequested (same_name (codes "a") unit) (map body_of c.ops.items) (is.durations 0) op);
+  bodies = rw (ops, starts) tt;
+  tasks = λ y is. rw (is.threads, tasks) ((tt, rw code refl), tt);
+  ordered = rw nodes (λ k n at. absurd (let lt = slice_get_within [] k n at in omega (arith, lt)));
+}

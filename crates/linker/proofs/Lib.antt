@@ -1,3 +1,4 @@
+pub mod Shared
 pub mod Keeping
 pub mod Scoping
 pub mod Entering

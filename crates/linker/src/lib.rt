@@ -27,4 +27,4 @@ pub use code::{Code, Ins};
 pub use link::link_block;
 pub use program::{LinkedUnits, link_units};
 pub use scope::Scope;
-pub use tables::{Callees, OpBody};
+pub use tables::OpBody;

@@ -41,7 +41,7 @@ fn link_statement<'a, C: Calls>(
         } => {
             let next = before(end)?;
             let counter = scope.enter(name)?;
-            let start = link_lines(code, body, scope, calls, end, next)?;
+            let start = link_block(code, body, scope, calls, end, next)?;
             scope.leave()?;
             close_loop(code, counter, *low, *high, start, end)
         }
@@ -75,7 +75,7 @@ fn link_arm<'a, C: Calls>(
 {
     let jump = before(others)?;
     fill(code, jump, Ins::Jump(end))?;
-    let block = link_lines(code, &arm.block, scope, calls, out, jump)?;
+    let block = link_block(code, &arm.block, scope, calls, out, jump)?;
     let cond = add_expr(code, &arm.cond, scope)?;
     let start = before(block)?;
     fill(
@@ -131,13 +131,14 @@ fn link_other<'a, C: Calls>(
 {
     match other {
         None => Ok(end),
-        Some(block) => link_lines(code, block, scope, calls, out, end),
+        Some(block) => link_block(code, block, scope, calls, out, end),
     }
 }
 
-/// Links the statements of a block in front of a place, from the last to the first, and tells where the block begins.
+/// Links a block in front of a place, into code that has room for it there: loops that it doesn't begin are left to `out`. It tells where the
+/// block begins. The one error is a failed allocation, or too little room, or more than 32 bits can count.
 #[cycle(statements)]
-fn link_lines<'a, C: Calls>(
+pub fn link_block<'a, C: Calls>(
     code: &mut Code,
     block: &'a Block,
     scope: &mut Scope<'a>,
@@ -157,21 +158,4 @@ fn link_lines<'a, C: Calls>(
         start = linked;
     }
     Ok(start)
-}
-
-/// Links a block in front of a place, into code that has room for it there: loops that it doesn't begin are left to `out`. It tells where the
-/// block begins. The one error is a failed allocation, or too little room, or more than 32 bits can count.
-pub fn link_block<'a, C: Calls>(
-    code: &mut Code,
-    block: &'a Block,
-    scope: &mut Scope<'a>,
-    calls: &C,
-    out: u32,
-    end: u32,
-) -> Result<u32, NoMemory>
-    ensures scope { OnOk result (scope.new ≡ scope.old) }
-    ensures links { IfOk result (λ start. LinksBlock (C.leads calls.now) scope.old out end (lists_of code.old) (lists_of code.new) start
-        (block_of block.entry.now)) }
-{
-    link_lines(code, block, scope, calls, out, end)
 }

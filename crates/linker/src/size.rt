@@ -26,7 +26,7 @@ fn statement_len(stmt: &Stmt) -> Result<u32, NoMemory>
             sum(first, last)
         }
         Stmt::For { body, .. } => {
-            let turn = lines_len(body)?;
+            let turn = block_len(body)?;
             sum(turn, 2)
         }
         Stmt::ExitWhen(_) => Ok(1),
@@ -43,7 +43,7 @@ fn arms_len(arms: &[Arm]) -> Result<u32, NoMemory>
 {
     let mut len = 0;
     'arms: for arm in arms {
-        let block = lines_len(&arm.block)?;
+        let block = block_len(&arm.block)?;
         let both = sum(block, 2)?;
         let next = sum(len, both)?;
         len = next;
@@ -58,13 +58,13 @@ fn other_len(other: &Option<Block>) -> Result<u32, NoMemory>
 {
     match other {
         None => Ok(0),
-        Some(block) => lines_len(block),
+        Some(block) => block_len(block),
     }
 }
 
-/// How many instructions a block has.
+/// How many instructions a block has. The one error is that 32 bits can't count them.
 #[cycle(statements)]
-fn lines_len(block: &Block) -> Result<u32, NoMemory>
+pub(crate) fn block_len(block: &Block) -> Result<u32, NoMemory>
     ensures { IfOk result (λ n. n ≡ block_size (block_of block.now)) }
 {
     let mut len = 0;
@@ -74,11 +74,4 @@ fn lines_len(block: &Block) -> Result<u32, NoMemory>
         len = next;
     }
     Ok(len)
-}
-
-/// How many instructions a block has. The one error is that 32 bits can't count them.
-pub(crate) fn block_len(block: &Block) -> Result<u32, NoMemory>
-    ensures { IfOk result (λ n. n ≡ block_size (block_of block.now)) }
-{
-    lines_len(block)
 }

@@ -48,7 +48,7 @@ pub(crate) enum Entry<'a> {
 
 /// What calls of a program lead to. A call is looked up in the time of the logarithm of the numbers of units and of operations.
 #[derive(Drop)]
-pub struct Callees<'a> {
+pub(crate) struct Callees<'a> {
     units: NameTable<'a, Entry<'a>>,
     bodies: Vec<OpBody<'a>>,
 }
@@ -300,7 +300,7 @@ impl<'a> Callees<'a> {
 
     /// What calls of a program of these units lead to: passive units come first, then protected objects, then tasks, and of two of one kind
     /// and name the first one, as the definitions have it.
-    pub fn of_units(alloc: Global, units: &'a [Unit]) -> Result<Callees<'a>, NoMemory>
+    pub(crate) fn of_units(alloc: Global, units: &'a [Unit]) -> Result<Callees<'a>, NoMemory>
         ensures { IfOk result (λ c. (y : System) → IsSystemOf (map unit_of units.entry.now) y → (unit op : NameBytes)
             → IsLed (map body_of c.bodies.items) (callee y unit op) (lead_by (named c.units unit) op)) }
     {

@@ -76,12 +76,12 @@ link_other-returns-in-None-clause-links g t c =
 
 pub link_other-returns-in-Some-clause-links : goal.link_other-returns-in-Some-clause-links
 link_other-returns-in-Some-clause-links g t c =
-    rw c.in-Some.is (if_ok c.link_lines.result _ _
+    rw c.in-Some.is (if_ok c.link_block.result _ _
     (λ start h. links_else (g.C.Calls.leads c.args.calls.now) c.args.scope.now c.args.out c.args.end start (lists_of c.args.code.now)
-    (lists_of c.link_lines.new.code) (block_of c.in-Some.block) h) c.link_lines.ensures.links)
+    (lists_of c.link_block.new.code) (block_of c.in-Some.block) h) c.link_block.ensures.links)
 
-pub link_lines-stmts-init : goal.link_lines-stmts-init
-link_lines-stmts-init g t c = let long = c.len-at.ensures ∙ c.args.block.now.stmts.ok.0 in record {
+pub link_block-stmts-init : goal.link_block-stmts-init
+link_block-stmts-init g t c = let long = c.len-at.ensures ∙ c.args.block.now.stmts.ok.0 in record {
   within = omega (arith, long);
   same = refl;
   links = rw (stmts_none c.args.block.now.stmts.items c.len-at.result (omega (arith, long)))
@@ -95,8 +95,8 @@ link_arms-arms-init g t c = record {
   links = λ from bs h. rw (arms_none c.args.arms.now bs) h;
 }
 
-pub link_lines-stmts-preserved : goal.link_lines-stmts-preserved
-link_lines-stmts-preserved g t c =
+pub link_block-stmts-preserved : goal.link_block-stmts-preserved
+link_block-stmts-preserved g t c =
     let i = c.stmts.invariant in
     let a = c.args in
     let leads = g.C.Calls.leads a.calls.now in
@@ -119,8 +119,8 @@ link_arms-arms-preserved g t c =
           ((rw i.same at c.in_ok-linked.ensures.links) from _ (i.links from bs h));
     }
 
-pub link_lines-returns-clause-links : goal.link_lines-returns-clause-links
-link_lines-returns-clause-links g t c =
+pub link_block-returns-clause-links : goal.link_block-returns-clause-links
+link_block-returns-clause-links g t c =
     let a = c.args in
     let none : c.stmts.at ≡ 0 = omega (arith, c.stmts-test.false) in
     rw (block-tree a.block.now)
@@ -138,7 +138,7 @@ pub link_arm-returns-clause-links : goal.link_arm-returns-clause-links
 link_arm-returns-clause-links g t c =
     let a = c.args in
     λ from bs rest. links_when (g.C.Calls.leads a.calls.now) a.scope.now a.out a.end a.others c.in_ok-jump.jump c.in_ok-block.block c.in_ok-start.start
-    c.in_ok-cond.cond from (lists_of a.code.now) (lists_of c.fill.new.code) (lists_of c.link_lines.new.code) (lists_of c.add_expr.new.code)
+    c.in_ok-cond.cond from (lists_of a.code.now) (lists_of c.fill.new.code) (lists_of c.link_block.new.code) (lists_of c.add_expr.new.code)
     (lists_of c.fill-2.new.code) (expression_of a.arm.now.cond) (block_of a.arm.now.block) bs rest c.in_ok-jump.ensures c.in_ok-fill.ensures
     c.in_ok-block.ensures.links c.in_ok-cond.ensures.added (rw c.in_ok-block.ensures.scope at c.in_ok-cond.ensures.reads) c.in_ok-start.ensures
     c.in_ok-fill-2.ensures

@@ -17,8 +17,8 @@ invariant-link_arms-arms g l = record {
 }
 
 -- the statements from here on are linked
-abbrev pub invariant-link_lines-stmts : goal.invariant-link_lines-stmts
-invariant-link_lines-stmts g l = record {
+abbrev pub invariant-link_block-stmts : goal.invariant-link_block-stmts
+invariant-link_block-stmts g l = record {
   within : l.at ≤ length l.block.stmts.items;
   same : l.scope ≡ l.initial.scope;
   links : LinksBlock (g.C.Calls.leads l.calls) l.initial.scope l.out l.end (lists_of l.initial.code) (lists_of l.code) l.start
@@ -28,5 +28,5 @@ invariant-link_lines-stmts g l = record {
 abbrev pub decreases-link_arms-arms : goal.decreases-link_arms-arms
 decreases-link_arms-arms g l = l.at
 
-abbrev pub decreases-link_lines-stmts : goal.decreases-link_lines-stmts
-decreases-link_lines-stmts g l = l.at
+abbrev pub decreases-link_block-stmts : goal.decreases-link_block-stmts
+decreases-link_block-stmts g l = l.at

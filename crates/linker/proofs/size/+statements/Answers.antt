@@ -28,13 +28,13 @@ arms_len-returns t c =
     let none = arms_end c.args.arms.now c.arms.arm-index ended in
     omega (arith, none, c.arms.invariant)
 
-pub lines_len-stmts-preserved : goal.lines_len-stmts-preserved
-lines_len-stmts-preserved t c =
+pub block_len-stmts-preserved : goal.block_len-stmts-preserved
+block_len-stmts-preserved t c =
     stmts_counted c.deref-stmt-items.result.now c.stmts.stmt-index c.stmt-item.result c.stmts.len c.in_ok-next.next _ c.stmts-test.true c.stmt-item.is
     c.stmts.invariant (omega (arith, c.in_ok-next.ensures, c.in_ok-lines.ensures))
 
-pub lines_len-returns : goal.lines_len-returns
-lines_len-returns t c =
+pub block_len-returns : goal.block_len-returns
+block_len-returns t c =
     let items = c.deref-stmt-items.result.now in
     let ended : length items ≤ c.stmts.stmt-index = search rules in
     let none = stmts_end items c.stmts.stmt-index ended in

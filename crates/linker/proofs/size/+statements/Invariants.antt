@@ -10,7 +10,7 @@ invariant-arms_len-arms l =
     l.len + branch_size (branches_of (map arm_of (drop l.arm-index l.arms)) Nothing) ≡ branch_size (branches_of (map arm_of l.arms) Nothing)
 
 -- the instructions so far and those of the statements that are left are those of all
-abbrev pub invariant-lines_len-stmts : goal.invariant-lines_len-stmts
-invariant-lines_len-stmts l =
+abbrev pub invariant-block_len-stmts : goal.invariant-block_len-stmts
+invariant-block_len-stmts l =
     l.len + block_size (statements_of (map statement_of (drop l.stmt-index l.stmt-items)))
     ≡ block_size (statements_of (map statement_of l.stmt-items))

@@ -1,5 +1,5 @@
 -- Where bodies and the blocks of tasks stand in linked units, by their places.
-use Rattle.std.proofs.Common.{◌≡◌, ℕ, suc, List, [], ◌∷◌, Some, map, refl, ap, subst, ◌∙◌, arith}
+use Rattle.std.proofs.Common.{◌≡◌, ℕ, zero, suc, List, [], ◌∷◌, Some, map, refl, ap, subst, ◌∙◌, arith}
 use Rattle.std.specs.Prelude.{slice_get, option_map}
 use Rattle.std.proofs.lemmas.Option.{same_Some, slice_get-map, slice_get_within}
 use Rattle.seq_tree.specs.Statements.{Statements}
@@ -23,7 +23,7 @@ pub part_stands : (Stand : Variables → ℕ → Statements → Type 0) (ps : Li
     → slice_get ps k ≡ Some p → (s : ℕ) × (slice_get ss k ≡ Some s) × Stand (slots_of p.names) s p.block
 part_stands Stand [] ss k p h there = absurd (let lt = slice_get_within [] k p there in omega (arith, lt))
 part_stands Stand (q ∷ ps) [] k p h there = absurd h
-part_stands Stand (q ∷ ps) (s ∷ ss) 0 p h there = (s, refl, subst (λ r. Stand (slots_of r.names) s r.block) (same_Some q p there) h.0)
+part_stands Stand (q ∷ ps) (s ∷ ss) zero p h there = (s, refl, subst (λ r. Stand (slots_of r.names) s r.block) (same_Some q p there) h.0)
 part_stands Stand (q ∷ ps) (s ∷ ss) (suc k) p h there = part_stands Stand ps ss k p h.1 there
 
 module _ (us : List Unit) (c : LinkedUnits) (linked : AreLinked us c) where

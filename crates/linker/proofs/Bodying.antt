@@ -1,5 +1,6 @@
 -- A body that is linked behind the code that was there.
-use Rattle.std.proofs.Common.{◌≡◌, inl, inr, ◌<◌, ◌≤◌, ℕ, suc, ◌+◌, List, [], ◌∷◌, ◌++◌, Some, length, refl, ap, sym, subst, ◌∙◌, arith, length-append, append_assoc, append-nil}
+use Rattle.std.proofs.Common.{◌≡◌, inl, inr, ℕ, suc, ◌+◌, List, [], ◌∷◌, ◌++◌, Some, length, refl, ap, sym, subst, ◌∙◌, arith}
+use Rattle.std.proofs.Common.{length-append, append_assoc, append-nil}
 use Rattle.std.specs.Prelude.{slice_get}
 use Rattle.seq_tree.specs.Names.{Name}
 use Rattle.seq_tree.specs.Statements.{Statements}
@@ -8,10 +9,10 @@ use Rattle.linked.proofs.Shared.Growths.{grows_none, grows_twice}
 use Rattle.law_flat_code.specs.Codes.{block_size}
 use Rattle.linker.specs.Bodies.{LinksBody, Roomed}
 use Rattle.linker.specs.Leads.{Leads}
-use Rattle.linker.specs.Linking.{Filled, Fills, LinksBlock}
+use Rattle.linker.specs.Linking.{Fills, LinksBlock}
 use Rattle.linker.specs.Standing.{Lists}
 use Rattle.linker.specs.declared.code.Ins.{Ins}
-use Rattle.linker.proofs.Keeping.{get_before, keeps_filled, keeps_narrow, longer_none, longer_twice}
+use Rattle.linker.proofs.Keeping.{get_before, keeps_narrow, longer_none, longer_twice}
 
 pub roomed_none : (c : Lists) (n : ℕ) → n ≡ 0 → Roomed n c c
 roomed_none c n e = record { more = []; is = sym (append-nil c.ins); long = sym e; nodes = refl; actuals = refl }
@@ -46,7 +47,8 @@ links_body leads scope count end at start c d e f last b counted room ends befor
       };
       ends = λ later keep. subst (λ z. slice_get later.ins z ≡ Some last) (sym block.long)
           (keep.same at (omega (arith, block.long)) (omega (arith, long, block.long)) ∙ block.filled.others at (inr (omega arith)) ∙ fills.there);
-      stands = λ later keep. block.stands later (keeps_narrow start at start (length f.ins) f later (omega arith) (omega (arith, long, block.long)) keep);
+      stands = λ later keep. block.stands later (keeps_narrow start at start (length f.ins) f later (omega arith)
+          (omega (arith, long, block.long)) keep);
     }
   where
     whole : (xs ys : List Ins) (n : ℕ) → length ys ≡ n → length (xs ++ ys) ≡ length xs + n

@@ -3,7 +3,7 @@ use Rattle.std.proofs.Common.{◌≡◌, ◌<◌, ◌≤◌, ◌+◌, ℕ, suc, 
 use Rattle.std.proofs.lemmas.List.{drop_all}
 use Rattle.seq_tree.specs.Expressions.{Expression}
 use Rattle.seq_tree.specs.Statements.{Branches, Statements, Nothing, When}
-use Rattle.seq_tree.specs.Trees.{arm_of, block_of, branches_of, expression_of, statement_of, statements_of}
+use Rattle.seq_tree.specs.Trees.{arm_of, block_of, branches_of, statement_of, statements_of}
 use Rattle.seq_tree.specs.declared.tree.Arm.{Arm}
 use Rattle.seq_tree.specs.declared.tree.Stmt.{Stmt}
 use Rattle.seq_tree.proofs.Shared.LoopSteps.{drop_step}

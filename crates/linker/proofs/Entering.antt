@@ -19,7 +19,6 @@ use Rattle.linker.specs.Callees.{AddsBodies, AreEntered, AreLed, IsFound, IsLed,
 use Rattle.linker.specs.Callees.{target_among}
 use Rattle.linker.specs.Leads.{Leads, Body, Nowhere}
 use Rattle.linker.specs.declared.tables.Entry.{Entry}
-use Rattle.linker.specs.declared.tables.Entry.TheVariants as entry
 use Rattle.linker.specs.declared.tables.Found.{Found}
 use Rattle.linker.proofs.Keeping.{get_last, get_more}
 
@@ -49,7 +48,8 @@ found_none bs object vars n ops f e =
     (ap (λ z. first_from (length ops) (λ (o : Operation). same_name o.sig.name n) (map operation_of z)) (drop-length ops))
 
 -- one operation more, before the others
-found_by : (b : Bool) (bs : List OpBody) (object : Option ℕ) (vars : List Datum) (n : Name) (old new : Option Found) (f : Found) (o : Operation) (at : ℕ)
+found_by : (b : Bool) (bs : List OpBody) (object : Option ℕ) (vars : List Datum) (n : Name) (old new : Option Found) (f : Found)
+    (o : Operation) (at : ℕ)
     (os : List Operation) → same_name o.sig.name n ≡ b → new ≡ (if same_name o.sig.name n then Some f else old)
     → f.params.now ≡ o.sig.params → f.place ≡ length bs → IsFound bs object vars old (first_from (suc at) (λ q. same_name q.sig.name n) os)
     → IsFound (bs ++ record { owner = option_map (λ (k : ℕ). (k, at)) object; vars = vars; op = o } ∷ []) object vars new
@@ -69,8 +69,10 @@ pub found_on : (bs cs : List OpBody) (object : Option ℕ) (vars : List Datum) (
     → IsFound cs object vars new (first_from at (λ q. same_name q.sig.name n) (map operation_of (drop at ops)))
 found_on bs cs object vars n old new f ops op at lt is grown put params place h =
     subst (λ os. IsFound cs object vars new (first_from at (λ q. same_name q.sig.name n) os)) (sym here)
-    (subst (λ z. IsFound z object vars new (first_from at (λ q. same_name q.sig.name n) (operation_of op ∷ map operation_of (drop (suc at) ops)))) (sym grown)
-    (found_by (same_name op.sig.name n) bs object vars n old new f (operation_of op) at (map operation_of (drop (suc at) ops)) refl put params place h))
+    (subst (λ z. IsFound z object vars new (first_from at (λ q. same_name q.sig.name n) (operation_of op ∷ map operation_of (drop (suc at) ops))))
+    (sym grown)
+    (found_by (same_name op.sig.name n) bs object vars n old new f (operation_of op) at (map operation_of (drop (suc at) ops))
+    refl put params place h))
   where
     here : map operation_of (drop at ops) ≡ operation_of op ∷ map operation_of (drop (suc at) ops)
     here = ap (map operation_of) (drop-cons ops at op lt) ∙ ap (λ x. operation_of x ∷ map operation_of (drop (suc at) ops)) (sym is)
@@ -94,9 +96,11 @@ entered_none y us bs h = record {
     no_entry : (e : Entry) → None ≡ Some e → ⊥
     no_entry e h = cc
 
-module _ (y : System) (name : Name) (target : Name → CallTarget) (left left' : Name → Name → CallTarget) (passes : Passes name target left left') where
+module _ (y : System) (name : Name) (target : Name → CallTarget) (left left' : Name → Name → CallTarget)
+  (passes : Passes name target left left') where
   -- a name that was entered before
-  pub entered_before : (us : NameTable Entry) (bs : List OpBody) (e : Entry) → named us name ≡ Some e → AreEntered y us bs left → AreEntered y us bs left'
+  pub entered_before : (us : NameTable Entry) (bs : List OpBody) (e : Entry) → named us name ≡ Some e
+      → AreEntered y us bs left → AreEntered y us bs left'
   entered_before us bs e there h = record {
     absent = λ n none op. h.absent n none op ∙ passes.others n op (differs n (same_name name n) refl none);
     present = h.present;

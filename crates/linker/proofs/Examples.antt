@@ -9,12 +9,11 @@ use Rattle.seq_tree.specs.declared.tree.Costs.{Costs}
 use Rattle.seq_tree.specs.declared.tree.Datum.{Datum}
 use Rattle.seq_tree.specs.declared.tree.Mode.TheVariants.{In}
 use Rattle.seq_tree.specs.declared.tree.Param.{Param}
-use Rattle.ada_tree.specs.Programs.{Cyclic, Form, Passive, Unit}
-use Rattle.machine.specs.Systems.{ProtectedUnit, System, TaskUnit, callee}
+use Rattle.ada_tree.specs.Programs.{Cyclic, Passive, Unit}
+use Rattle.machine.specs.Systems.{ProtectedUnit, System, TaskUnit}
 use Rattle.machine.specs.Systems as to
-use Rattle.linked.specs.Nodes.{AreOrdered}
-use Rattle.linker.specs.Callees.{IsLed, IsSystemOf, OpBody, body_of, libraries_from, threads_from}
-use Rattle.linker.specs.Leads.{Body, Leads, Nowhere, Request}
+use Rattle.linker.specs.Callees.{IsLed, IsSystemOf, OpBody, body_of, libraries_from}
+use Rattle.linker.specs.Leads.{Body, Nowhere, Request}
 use Rattle.linker.specs.Programs.{AllStand, AreLinked, Part, op_part, task_part}
 use Rattle.linker.specs.Scopes.{slots_of}
 use Rattle.linker.specs.Standing.{Has, lists_of}
@@ -180,7 +179,8 @@ module _ (costs : Costs) where
   -- the body of an operation that is called is there
   body_lacks : (c : LinkedUnits) → c.ops.items ≡ [] → AreLinked (passive ∷ []) c → ⊥
   body_lacks c none h =
-      let led : IsLed (map body_of c.ops.items) (to.Plain tick) (h.leads (codes "p") (codes "tick")) = h.calls called calls (codes "p") (codes "tick") in
+      let led : IsLed (map body_of c.ops.items) (to.Plain tick) (h.leads (codes "p") (codes "tick")) =
+      h.calls called calls (codes "p") (codes "tick") in
       let here : slice_get [] led.0 ≡ Some body = subst (λ bs. slice_get (map body_of bs) led.0 ≡ Some body) none led.2 in
       let lt = slice_get_within [] led.0 body here in omega (arith, lt)
 

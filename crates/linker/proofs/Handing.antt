@@ -66,7 +66,8 @@ pub record Handing (scope : Variables) (first : ℕ) (whole : List Expression) (
   pub stands : (later : Lists) → Grows d.nodes later.nodes → Longer d.actuals later.actuals → ValuesStand later scope (length d.actuals) rest
       → ValuesStand later scope first whole
 
-pub handing_all : (scope : Variables) (first : ℕ) (whole : List Expression) (c : Lists) → first ≡ length c.actuals → Handing scope first whole c c whole
+pub handing_all : (scope : Variables) (first : ℕ) (whole : List Expression) (c : Lists) → first ≡ length c.actuals
+    → Handing scope first whole c c whole
 handing_all scope first whole c e = record {
   added = added_none c;
   long = omega (arith, e);
@@ -78,7 +79,8 @@ pub handing_on : (scope : Variables) (first : ℕ) (whole rest : List Expression
 handing_on scope first whole rest In e c d f h a v = record {
   added = added_twice c d f h.added a;
   long = omega (arith, one_longer d.actuals f.actuals v.0 v.1, h.long);
-  stands = λ later g l s. h.stands later (grows_twice d.nodes f.nodes later.nodes a.nodes g) (longer_twice d.actuals f.actuals later.actuals a.actuals l) (
+  stands = λ later g l s. h.stands later (grows_twice d.nodes f.nodes later.nodes a.nodes g)
+      (longer_twice d.actuals f.actuals later.actuals a.actuals l) (
     v.0,
     placed d.actuals f.actuals later.actuals v.0 v.1 l,
     reads_grown f later scope v.0 e g v.2,
@@ -88,7 +90,8 @@ handing_on scope first whole rest In e c d f h a v = record {
 handing_on scope first whole rest Out e c d f h a v = record {
   added = added_twice c d f h.added a;
   long = ap (λ z. length z + length rest) v ∙ h.long;
-  stands = λ later g l s. h.stands later (grows_twice d.nodes f.nodes later.nodes a.nodes g) (longer_twice d.actuals f.actuals later.actuals a.actuals l)
+  stands = λ later g l s. h.stands later (grows_twice d.nodes f.nodes later.nodes a.nodes g)
+      (longer_twice d.actuals f.actuals later.actuals a.actuals l)
       (subst (λ z. ValuesStand later scope (length z) rest) v s);
 }
 
@@ -107,7 +110,8 @@ handed_long scope first whole rest c d h e =
 pub record Targeting (scope : Variables) (first : ℕ) (whole : List Name) (c d : Lists) (rest : List Name) : Type 0 where
   pub added : Added c d
   pub long : length d.actuals + length rest ≡ first + length whole
-  pub stands : (later : Lists) → Longer d.actuals later.actuals → TargetsStand later scope (length d.actuals) rest → TargetsStand later scope first whole
+  pub stands : (later : Lists) → Longer d.actuals later.actuals → TargetsStand later scope (length d.actuals) rest
+      → TargetsStand later scope first whole
 
 pub targeting_all : (scope : Variables) (whole : List Name) (c : Lists) → Targeting scope (length c.actuals) whole c c whole
 targeting_all scope whole c = record { added = added_none c; long = refl; stands = λ later l h. h }

@@ -1,5 +1,6 @@
 -- Code that is filled place by place: what was written elsewhere stays.
-use Rattle.std.proofs.Common.{◌≡◌, ◌⊎◌, inl, inr, ◌<◌, ◌≤◌, ℕ, suc, List, [], ◌∷◌, ◌++◌, Some, length, set, refl, ap, sym, subst, ◌∙◌, arith, length-append, append_assoc, append-nil}
+use Rattle.std.proofs.Common.{◌≡◌, ◌⊎◌, inl, inr, ◌<◌, ◌≤◌, ℕ, suc, List, [], ◌∷◌, ◌++◌, Some, length, set, refl, ap, sym, subst, ◌∙◌, arith}
+use Rattle.std.proofs.Common.{length-append, append_assoc, append-nil}
 use Rattle.std.specs.Prelude.{slice_get}
 use Rattle.std.proofs.lemmas.Bool.{cases_lt}
 use Rattle.std.proofs.lemmas.Option.{slice_get_past, slice_get_within, slice_get-get_or, get_or_from_slice_get}
@@ -9,7 +10,6 @@ use Rattle.seq_tree.specs.Expressions.{Expression}
 use Rattle.seq_tree.specs.Values.{is_boolean}
 use Rattle.seq_tree.specs.Variables.{Variables}
 use Rattle.linked.specs.Nodes.{Grows}
-use Rattle.linked.specs.declared.code.Node.{Node}
 use Rattle.linked.specs.declared.code.Operand.{Operand}
 use Rattle.linked.proofs.Shared.Growths.{grows_none, grows_twice, linked_grown}
 use Rattle.linker.specs.Linking.{Added, Filled, Fills, Keeps, Longer}

@@ -2,7 +2,7 @@
 use Rattle.std.proofs.Common.{◌≡◌, ◌<◌, ◌≤◌, ◌+◌, ◌-◌, ℕ, List, [], ◌∷◌, Result, Ok, Err, IfOk, OnOk, length, map, drop, get_or, refl, ap, ◌∙◌, arith}
 use Rattle.std.proofs.lemmas.List.{drop_all}
 use Rattle.std.proofs.Math.Seq.{drop-length}
-use Rattle.seq_tree.specs.Statements.{Branches, Statements, End, Then, When}
+use Rattle.seq_tree.specs.Statements.{Branches, End, Then, When}
 use Rattle.seq_tree.specs.Trees.{arm_of, block_of, branches_of, expression_of, statement_of, statements_of}
 use Rattle.seq_tree.specs.declared.tree.Arm.{Arm}
 use Rattle.seq_tree.specs.declared.tree.Stmt.{Stmt}

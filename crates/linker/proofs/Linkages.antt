@@ -1,5 +1,5 @@
 -- Statements that are linked one before another.
-use Rattle.std.proofs.Common.{◌≡◌, inl, inr, ◌≤◌, ℕ, suc, ◌+◌, List, Some, cond, refl, ap, sym, subst, ◌∙◌, arith}
+use Rattle.std.proofs.Common.{◌≡◌, inl, inr, ℕ, suc, ◌+◌, Some, cond, refl, ap, sym, subst, ◌∙◌, arith}
 use Rattle.std.specs.Prelude.{slice_get, nat_le}
 use Rattle.seq_tree.specs.Names.{Name}
 use Rattle.seq_tree.specs.Expressions.{Expression}
@@ -10,7 +10,7 @@ use Rattle.linked.specs.declared.code.Operand.{Operand}
 use Rattle.linked.proofs.Shared.Growths.{grows_twice}
 use Rattle.law_flat_code.specs.Codes.{Stands, BlockStands, BranchesStand, size, block_size, branch_size, in_turn, next_slot}
 use Rattle.linker.specs.Leads.{Leads}
-use Rattle.linker.specs.Linking.{Added, Filled, Fills, Keeps, LinksBlock, LinksBranches, LinksStatement, Longer}
+use Rattle.linker.specs.Linking.{Added, Filled, Fills, LinksBlock, LinksBranches, LinksStatement, Longer}
 use Rattle.linker.specs.Standing.{Has, Lists, Reads}
 use Rattle.linker.specs.declared.code.Ins.{Ins}
 use Rattle.linker.specs.declared.code.Ins.TheVariants as ins

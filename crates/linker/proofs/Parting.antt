@@ -1,5 +1,5 @@
 -- Parts of a program that are linked one after another.
-use Rattle.std.proofs.Common.{◌≡◌, ◌<◌, ◌≤◌, ℕ, suc, ◌+◌, List, [], ◌∷◌, ◌++◌, length, refl, ap, sym, subst, ◌∙◌}
+use Rattle.std.proofs.Common.{◌≡◌, ◌<◌, ◌≤◌, ℕ, ◌+◌, List, [], ◌∷◌, ◌++◌, length, refl, ap, sym, subst, ◌∙◌}
 use Rattle.std.proofs.Common.{map, drop, get_or, arith, append-nil, append_assoc}
 use Rattle.std.proofs.lemmas.List.{drop_all}
 use Rattle.std.proofs.lemmas.Option.{slice_get_within}
@@ -7,7 +7,6 @@ use Rattle.seq_tree.proofs.Shared.LoopSteps.{drop_step}
 use Rattle.seq_tree.specs.Names.{Name}
 use Rattle.linked.specs.Nodes.{AreOrdered, Grows}
 use Rattle.linked.proofs.Shared.Growths.{grows_none, grows_twice}
-use Rattle.law_flat_code.specs.Codes.{block_size}
 use Rattle.linker.specs.Bodies.{LinksBody}
 use Rattle.linker.specs.Callees.{body_of}
 use Rattle.linker.specs.Leads.{Leads}
@@ -76,7 +75,8 @@ module _ (leads : Name → Name → Leads) (last : Ins) where
       → PartsLeft leads last c e (map op_part (map body_of bodies)) (map op_part (map body_of (drop (at + 1) bodies))) starts'
   parts_next c d e bodies at b starts starts' start lt is h body grown =
       parts_on c d e (map op_part (map body_of bodies)) (map op_part (map body_of (drop (at + 1) bodies))) (op_part (body_of b)) starts starts' start
-      (subst (λ bs. PartsLeft leads last c d (map op_part (map body_of bodies)) (map op_part (map body_of bs)) starts) (drop_step bodies at b lt is) h)
+      (subst (λ bs. PartsLeft leads last c d (map op_part (map body_of bodies)) (map op_part (map body_of bs)) starts)
+      (drop_step bodies at b lt is) h)
       body grown
 
   pub parts_end : (c d : Lists) (bodies : List code.OpBody) (at : ℕ) (starts : List ℕ) → length bodies ≤ at

@@ -1,5 +1,6 @@
 -- A stack of names with a table of their innermost slots.
-use Rattle.std.proofs.Common.{◌≡◌, ◌⊎◌, inl, inr, ◌<◌, ◌≤◌, ℕ, suc, ◌+◌, ◌-◌, Bool, true, false, List, [], ◌∷◌, ◌++◌, Option, Some, None, length, take}
+use Rattle.std.proofs.Common.{◌≡◌, ◌⊎◌, inl, inr, ◌<◌, ◌≤◌, ℕ, suc, ◌+◌, ◌-◌, Bool, true, false, List, [], ◌∷◌, ◌++◌, Option, Some, None}
+use Rattle.std.proofs.Common.{length, take}
 use Rattle.std.proofs.Common.{drop, fold, refl, ap, sym, subst, ◌∙◌, arith, length-append}
 use Rattle.std.specs.Prelude.{slice_get, unwrap_or, if◌then◌else◌}
 use Rattle.std.proofs.lemmas.Bool.{cases_lt}
@@ -68,7 +69,8 @@ each_left false n s rest o o' e is h hidden =
     ∙ found_here false n s.name.now s.slot rest (same_either n s.name.now ∙ e)
 
 pub table_none : (xs : List Slot) (t : NameTable (Option ℕ)) → xs ≡ [] → ((n : Name) → named t n ≡ None) → IsTable xs t
-table_none xs t e h = subst (λ z. IsTable z t) (sym e) (record { each = λ n. ap (λ z. unwrap_or z None) (h n); hidden = λ k s at. absurd (let lt = slice_get_within [] k s at in omega (arith, lt)) })
+table_none xs t e h = subst (λ z. IsTable z t) (sym e)
+    (record { each = λ n. ap (λ z. unwrap_or z None) (h n); hidden = λ k s at. absurd (let lt = slice_get_within [] k s at in omega (arith, lt)) })
 
 pub table_same : (xs ys : List Slot) (t u : NameTable (Option ℕ)) → ys ≡ xs → ((n : Name) → named u n ≡ named t n) → IsTable xs t → IsTable ys u
 table_same xs ys t u e h table = subst (λ z. IsTable z u) (sym e) (record {

@@ -1,5 +1,5 @@
 -- Units of a program one after another, and what calls of their names lead to.
-use Rattle.std.proofs.Common.{◌≡◌, ℕ, suc, Bool, true, false, List, [], ◌∷◌, Option, Some, None, map, refl, ap, subst}
+use Rattle.std.proofs.Common.{◌≡◌, ℕ, suc, Bool, true, false, List, [], ◌∷◌, map, refl, ap}
 use Rattle.std.specs.Prelude.{Vec, if◌then◌else◌}
 use Rattle.std.specs.declared.alloc.Global.{Global}
 use Rattle.std.proofs.lemmas.Slice.Eq.{bytes_eq-Decides}
@@ -11,11 +11,11 @@ use Rattle.seq_tree.specs.declared.tree.Block.{Block}
 use Rattle.seq_tree.specs.declared.tree.Datum.{Datum}
 use Rattle.seq_tree.specs.declared.tree.OpSig.{OpSig}
 use Rattle.seq_tree.specs.declared.tree.OpText.{OpText}
-use Rattle.ada_tree.specs.Programs.{Unit, Form, Passive, Shared, Cyclic, Sporadic}
+use Rattle.ada_tree.specs.Programs.{Unit, Passive, Shared, Cyclic, Sporadic}
 use Rattle.ada_tree.specs.Trees.{form_of, unit_of}
 use Rattle.ada_tree.specs.declared.program.Form.TheVariants as form
 use Rattle.ada_tree.specs.declared.program.Unit as units
-use Rattle.machine.specs.Systems.{ProtectedUnit, TaskUnit, CallTarget, op_named, plain_by, protected_by}
+use Rattle.machine.specs.Systems.{ProtectedUnit, TaskUnit, op_named, plain_by, protected_by}
 use Rattle.machine.specs.Systems as to
 use Rattle.linker.specs.Callees.{IsLed, OpBody, Passes, libraries_from, objects_from, target_among, threads_from}
 use Rattle.linker.specs.Leads.{Request, Nowhere}
@@ -38,7 +38,8 @@ pub object_here : (name : Name) (ceiling : ℕ) (vars : List Datum) (os : List O
     (target_among 0 [] (suc m) (objects_from (suc i) us) k ts)
 object_here name ceiling vars os m i k us ts = record { here = λ op. rw (same_self name) refl; others = λ w op e. rw e refl }
 
-pub cyclic_here : (name : Name) (priority offset period : ℕ) (vars : List Datum) (block : Statements) (durations : ℕ → List ℕ) (k i : ℕ) (us : List Unit)
+pub cyclic_here : (name : Name) (priority offset period : ℕ) (vars : List Datum) (block : Statements)
+    (durations : ℕ → List ℕ) (k i : ℕ) (us : List Unit)
     → Passes name (λ op. to.Unknown)
     (target_among 0 [] 0 [] k (threads_from durations i (record { name = name; form = Cyclic priority offset period vars block } ∷ us)))
     (target_among 0 [] 0 [] (suc k) (threads_from durations (suc i) us))

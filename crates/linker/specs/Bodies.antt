@@ -4,10 +4,9 @@ use Rattle.std.specs.Prelude.{◌≡◌, ◌+◌, ◌++◌, ℕ, suc, List, Some
 use Rattle.seq_tree.specs.Names.{Name}
 use Rattle.seq_tree.specs.Statements.{Statements}
 use Rattle.seq_tree.specs.Variables.{Variables}
-use Rattle.linked.specs.Nodes.{Grows}
 use Rattle.law_flat_code.specs.Codes.{BlockStands, block_size}
 use Rattle.linker.specs.Leads.{Leads}
-use Rattle.linker.specs.Linking.{Keeps, Longer}
+use Rattle.linker.specs.Linking.{Keeps}
 use Rattle.linker.specs.Standing.{Has, Lists}
 use Rattle.linker.specs.declared.code.Ins.{Ins}
 

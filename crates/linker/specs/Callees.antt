@@ -1,6 +1,6 @@
 -- What calls lead to in a program, by tables: units by their names, and for each its operations by theirs.
 -- Operations with bodies are counted as they are found, through all units.
-use Rattle.std.specs.Prelude.{◌≡◌, ℕ, false, List, [], ◌++◌, Option, Some, None, slice_get, map, filter_map, option_map, if◌then◌else◌}
+use Rattle.std.specs.Prelude.{◌≡◌, ℕ, false, List, [], ◌++◌, Option, Some, None, slice_get, filter_map, option_map, if◌then◌else◌}
 use Rattle.std.specs.List.{enumerate_from}
 use Rattle.seq_tree.specs.Lists.{first_from}
 use Rattle.seq_tree.specs.Names.{Name, same_name}

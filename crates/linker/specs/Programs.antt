@@ -1,6 +1,6 @@
 -- What linking a program does: the body of each operation to which calls lead, and the block of each task, stand in its code.
 -- Data stand lowest among the slots, then locals, then parameters.
-use Rattle.std.specs.Prelude.{◌≡◌, ◌≤◌, ℕ, List, [], ◌∷◌, ◌++◌, map, length, ⊤}
+use Rattle.std.specs.Prelude.{ℕ, List, [], ◌∷◌, ◌++◌, map, ⊤}
 use Rattle.seq_tree.specs.Names.{Name}
 use Rattle.seq_tree.specs.Statements.{Statements}
 use Rattle.seq_tree.specs.Variables.{Variables}
@@ -13,7 +13,7 @@ use Rattle.law_flat_code.specs.Codes.{BodyStands, TaskStands}
 use Rattle.linker.specs.Callees.{IsLed, IsSystemOf, OpBody, body_of}
 use Rattle.linker.specs.Leads.{Leads}
 use Rattle.linker.specs.Scopes.{slots_of}
-use Rattle.linker.specs.Standing.{Has, Lists, lists_of}
+use Rattle.linker.specs.Standing.{Has, lists_of}
 use Rattle.linker.specs.declared.program.LinkedUnits.{LinkedUnits}
 
 -- a block, with the names that are known as it begins, the innermost first

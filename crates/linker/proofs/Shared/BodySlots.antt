@@ -1,10 +1,9 @@
 -- The slots of a body that begins, and the variables that the machine gives it.
-use Rattle.std.proofs.Common.{◌≡◌, ℕ, suc, List, [], ◌∷◌, ◌++◌, Option, None, Some, map, length, refl, ap, sym, subst, ◌∙◌, arith}
+use Rattle.std.proofs.Common.{◌≡◌, ℕ, List, [], ◌∷◌, ◌++◌, Option, Some, map, length, refl, ap, sym, subst, ◌∙◌, arith}
 use Rattle.std.proofs.Common.{append_assoc}
 use Rattle.std.specs.Prelude.{reverse, slice_get, unwrap_or, option_to_list}
 use Rattle.std.proofs.lemmas.List.{length-map, length-reverse, map-append, reverse-append}
 use Rattle.seq_tree.specs.Names.{Name}
-use Rattle.seq_tree.specs.Operations.{Operation}
 use Rattle.seq_tree.specs.Variables.{Variables, entered, entered_by, kept, opened, written}
 use Rattle.seq_tree.specs.declared.tree.Datum.{Datum}
 use Rattle.seq_tree.specs.declared.tree.Mode.{Mode}

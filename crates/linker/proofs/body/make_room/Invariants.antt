@@ -1,4 +1,4 @@
-use Rattle.std.proofs.Common.{◌≡◌, ◌≤◌, ◌-◌}
+use Rattle.std.proofs.Common.{◌≤◌, ◌-◌}
 use Rattle.linker.specs.Bodies.{Roomed}
 use Rattle.linker.specs.Standing.{lists_of}
 use Rattle.linker.proofs.body.make_room.Given as goal

@@ -23,7 +23,8 @@ returns-in_ok-outs-in-Body-clause-stands c =
     rw c.in-Body.is (
       first,
       ap (λ n. Some (ins.Call c.in-Body.place first n)) c.in_ok-outs-in-Body.ensures.count,
-      values_grown (lists_of c.add_values.new.code) new scope first (values_in params es) added.nodes added.actuals c.in_ok-first-in-Body.ensures.stand,
+      values_grown (lists_of c.add_values.new.code) new scope first (values_in params es) added.nodes added.actuals
+          c.in_ok-first-in-Body.ensures.stand,
       subst (λ at. TargetsStand new scope at (targets params es)) (sym c.in_ok-first-in-Body.ensures.long) c.in_ok-outs-in-Body.ensures.stand,
     )
 

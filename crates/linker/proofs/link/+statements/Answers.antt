@@ -1,12 +1,12 @@
-use Rattle.std.proofs.Common.{◌≡◌, ◌-◌, ◌≤◌, rules, map, drop, option_map, refl, ap, sym, subst, ◌∙◌, arith}
+use Rattle.std.proofs.Common.{◌≡◌, rules, map, drop, option_map, refl, ap, subst, ◌∙◌, arith}
 use Rattle.std.proofs.lemmas.Result.{on_ok_weaker}
 use Rattle.seq_tree.specs.Statements.{Null, Assign, If, For, ExitWhen, Call, Work, Put}
 use Rattle.seq_tree.specs.Trees.{arm_of, block_of, branches_of, expression_of, otherwise, statement_of, statements_of}
 use Rattle.seq_tree.specs.declared.tree.Stmt.{the_lemmas}
 use Rattle.seq_tree.proofs.Shared.TreeForms.{block-tree}
-use Rattle.linker.specs.Linking.{LinksBlock, LinksBranches, LinksStatement}
+use Rattle.linker.specs.Linking.{LinksBlock, LinksBranches}
 use Rattle.linker.specs.Standing.{lists_of}
-use Rattle.linker.proofs.Linkages.{links_else, links_end, links_for, links_if, links_nothing, links_then, links_when}
+use Rattle.linker.proofs.Linkages.{links_else, links_end, links_if, links_nothing, links_then, links_when}
 use Rattle.linker.proofs.LinkSteps.{arms_none, arms_step, if_ok, on_ok_given, stmts_none, stmts_step}
 use Rattle.linker.proofs.link.+statements.Goals as goal
 
@@ -137,7 +137,8 @@ link_arms-returns-clause-links g t c =
 pub link_arm-returns-clause-links : goal.link_arm-returns-clause-links
 link_arm-returns-clause-links g t c =
     let a = c.args in
-    λ from bs rest. links_when (g.C.Calls.leads a.calls.now) a.scope.now a.out a.end a.others c.in_ok-jump.jump c.in_ok-block.block c.in_ok-start.start
+    λ from bs rest. links_when (g.C.Calls.leads a.calls.now) a.scope.now a.out a.end a.others c.in_ok-jump.jump c.in_ok-block.block
+    c.in_ok-start.start
     c.in_ok-cond.cond from (lists_of a.code.now) (lists_of c.fill.new.code) (lists_of c.link_block.new.code) (lists_of c.add_expr.new.code)
     (lists_of c.fill-2.new.code) (expression_of a.arm.now.cond) (block_of a.arm.now.block) bs rest c.in_ok-jump.ensures c.in_ok-fill.ensures
     c.in_ok-block.ensures.links c.in_ok-cond.ensures.added (rw c.in_ok-block.ensures.scope at c.in_ok-cond.ensures.reads) c.in_ok-start.ensures

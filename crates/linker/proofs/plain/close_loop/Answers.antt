@@ -1,8 +1,8 @@
-use Rattle.std.proofs.Common.{◌≡◌, ℕ, suc, cond, ap, sym, subst, ◌∙◌, arith}
+use Rattle.std.proofs.Common.{◌≡◌, cond, sym, subst, arith}
 use Rattle.std.specs.Prelude.{nat_le}
-use Rattle.linker.specs.Linking.{Fills, LinksBlock}
+use Rattle.linker.specs.Linking.{Fills}
 use Rattle.linker.specs.Standing.{lists_of}
-use Rattle.law_flat_code.specs.Codes.{in_turn, next_slot}
+use Rattle.law_flat_code.specs.Codes.{next_slot}
 use Rattle.linker.specs.declared.code.Ins.TheVariants as ins
 use Rattle.linker.proofs.Linkages.{links_for}
 use Rattle.linker.proofs.plain.close_loop.Goals as goal

@@ -1,9 +1,9 @@
-use Rattle.std.proofs.Common.{◌≡◌, Some, refl, ap, ◌∙◌}
+use Rattle.std.proofs.Common.{refl}
 use Rattle.seq_tree.specs.Statements.{Put}
 use Rattle.seq_tree.specs.Trees.{expression_of}
 use Rattle.linker.specs.Standing.{lists_of}
 use Rattle.linker.specs.declared.code.Ins.TheVariants as ins
-use Rattle.linker.proofs.Keeping.{added_none, reads_grown}
+use Rattle.linker.proofs.Keeping.{reads_grown}
 use Rattle.linker.proofs.Linkages.{one_instruction}
 use Rattle.linker.proofs.plain.link_put.Goals as goal
 

@@ -1,4 +1,4 @@
-use Rattle.std.proofs.Common.{map, drop, arith}
+use Rattle.std.proofs.Common.{map}
 use Rattle.linker.specs.Callees.{body_of}
 use Rattle.linker.specs.Programs.{op_part}
 use Rattle.linker.specs.Standing.{lists_of}

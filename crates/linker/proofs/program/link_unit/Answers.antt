@@ -1,5 +1,5 @@
 use Rattle.std.proofs.Common.{◌∷◌, ◌++◌, suc, map, subst}
-use Rattle.seq_tree.specs.Trees.{block_of, signature_of}
+use Rattle.seq_tree.specs.Trees.{block_of}
 use Rattle.linker.specs.Callees.{threads_from}
 use Rattle.linker.specs.Parts.{PartsLeft}
 use Rattle.linker.specs.Programs.{datum_names, param_names, task_part}
@@ -42,4 +42,5 @@ returns-in_ok-push-in-Sporadic g c = λ from whole durations i us h.
     (subst (λ v. PartsLeft leads ins.Finish from (lists_of c.args.code.now) whole (map task_part (threads_from durations i (v ∷ us)))
     c.args.starts.now.items)
     (as_sporadic c.args.unit.now s.priority s.ceiling s.op s.separation s.jitter s.external s.vars s.block s.is) h)
-    (rw (c.deref-in-Sporadic.ensures.value, c.deref-in-Sporadic-2.ensures.value) at c.in_ok-start-in-Sporadic.ensures) c.in_ok-push-in-Sporadic.ensures.items
+    (rw (c.deref-in-Sporadic.ensures.value, c.deref-in-Sporadic-2.ensures.value) at c.in_ok-start-in-Sporadic.ensures)
+    c.in_ok-push-in-Sporadic.ensures.items

@@ -1,4 +1,4 @@
-use Rattle.std.proofs.Common.{[], map, ap, sym, subst}
+use Rattle.std.proofs.Common.{[], map, sym, subst}
 use Rattle.ada_tree.specs.Trees.{unit_of}
 use Rattle.linked.proofs.Shared.Growths.{grows_twice}
 use Rattle.linker.specs.Callees.{body_of, lead_by, threads_from}

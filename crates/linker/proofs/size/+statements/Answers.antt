@@ -1,4 +1,4 @@
-use Rattle.std.proofs.Common.{◌≡◌, ◌≤◌, ◌∙◌, rules, length, map, option_map, ap, sym, arith}
+use Rattle.std.proofs.Common.{◌≡◌, ◌≤◌, rules, length, map, option_map, ap, arith}
 use Rattle.seq_tree.specs.Statements.{If}
 use Rattle.seq_tree.specs.Trees.{arm_of, block_of, branches_of, otherwise, statement_of, statements_of}
 use Rattle.seq_tree.specs.declared.tree.Stmt.{the_lemmas}

@@ -3,7 +3,8 @@ use Rattle.linker.proofs.Scoping.{none_left, popped, scope_shorter, table_shorte
 use Rattle.linker.proofs.scope.Scope.leave.Goals as goal
 
 pub returns-in_default-clause-left : goal.returns-in_default-clause-left
-returns-in_default-clause-left c = none_left c.self.inside.slots.items c.args.self.now (rw c.deref.ensures.value at c.in_default.ensures.cases) c.self.view_is
+returns-in_default-clause-left c =
+    none_left c.self.inside.slots.items c.args.self.now (rw c.deref.ensures.value at c.in_default.ensures.cases) c.self.view_is
 
 pub invariant_of-self-2 : goal.invariant_of-self-2
 invariant_of-self-2 c =

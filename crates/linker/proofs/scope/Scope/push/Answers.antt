@@ -13,7 +13,8 @@ invariant_of-self c =
 pub invariant_of-self-in_err-put : goal.invariant_of-self-in_err-put
 invariant_of-self-in_err-put c =
     let t = c.self.inside in
-    table_same t.slots.items c.reserve.new.self.items t.innermost c.put.new.self c.reserve.ensures.items c.in_err-put.ensures.unchanged c.self.invariant
+    table_same t.slots.items c.reserve.new.self.items t.innermost c.put.new.self c.reserve.ensures.items c.in_err-put.ensures.unchanged
+    c.self.invariant
 
 pub invariant_of-self-2 : goal.invariant_of-self-2
 invariant_of-self-2 c =

@@ -1,4 +1,4 @@
-use Rattle.std.proofs.Common.{◌≡◌, ℕ, [], length, map}
+use Rattle.std.proofs.Common.{ℕ, [], length, map}
 use Rattle.ada_tree.specs.Trees.{unit_of}
 use Rattle.machine.specs.Systems.{System}
 use Rattle.linker.specs.Callees.{AreEntered, IsSystemOf, body_of, objects_from, target_among}

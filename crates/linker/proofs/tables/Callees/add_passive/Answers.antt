@@ -16,7 +16,8 @@ returns-in-Passive c =
     (λ entered y us n i m k gs ts h. (
       suc n,
       entered y (λ op. plain_by (op_named op os)) _ _ (plain_led os) (library_here u.name os n i m k us gs ts)
-          (subst (λ v. AreEntered y c.args.self.now.units (map body_of c.args.self.now.bodies.items) (target_among n (libraries_from i (v ∷ us)) m gs k ts))
+          (subst (λ v. AreEntered y c.args.self.now.units (map body_of c.args.self.now.bodies.items)
+          (target_among n (libraries_from i (v ∷ us)) m gs k ts))
           (as_passive u ops c.in-Passive.is) h),
     ))
     (rw c.deref.ensures.value at c.enter_ops.ensures)
@@ -25,7 +26,8 @@ pub returns-in-Shared : goal.returns-in-Shared
 returns-in-Shared c = λ y us n i m k gs ts h.
     let s = c.in-Shared in (
       n,
-      subst (λ v. AreEntered y c.args.self.now.units (map body_of c.args.self.now.bodies.items) (target_among n (libraries_from i (v ∷ us)) m gs k ts))
+      subst (λ v. AreEntered y c.args.self.now.units (map body_of c.args.self.now.bodies.items)
+      (target_among n (libraries_from i (v ∷ us)) m gs k ts))
           (as_shared c.args.unit.now s.ceiling s.vars s.ops s.is) h,
     )
 
@@ -33,7 +35,8 @@ pub returns-in-Cyclic : goal.returns-in-Cyclic
 returns-in-Cyclic c = λ y us n i m k gs ts h.
     let s = c.in-Cyclic in (
       n,
-      subst (λ v. AreEntered y c.args.self.now.units (map body_of c.args.self.now.bodies.items) (target_among n (libraries_from i (v ∷ us)) m gs k ts))
+      subst (λ v. AreEntered y c.args.self.now.units (map body_of c.args.self.now.bodies.items)
+      (target_among n (libraries_from i (v ∷ us)) m gs k ts))
           (as_cyclic c.args.unit.now s.priority s.offset s.period s.vars s.block s.is) h,
     )
 
@@ -41,6 +44,7 @@ pub returns-in-Sporadic : goal.returns-in-Sporadic
 returns-in-Sporadic c = λ y us n i m k gs ts h.
     let s = c.in-Sporadic in (
       n,
-      subst (λ v. AreEntered y c.args.self.now.units (map body_of c.args.self.now.bodies.items) (target_among n (libraries_from i (v ∷ us)) m gs k ts))
+      subst (λ v. AreEntered y c.args.self.now.units (map body_of c.args.self.now.bodies.items)
+      (target_among n (libraries_from i (v ∷ us)) m gs k ts))
           (as_sporadic c.args.unit.now s.priority s.ceiling s.op s.separation s.jitter s.external s.vars s.block s.is) h,
     )

@@ -1,4 +1,4 @@
-use Rattle.std.proofs.Common.{◌≡◌, rules, [], ◌∷◌, suc, map, ap, subst, sym}
+use Rattle.std.proofs.Common.{◌≡◌, rules, [], ◌∷◌, suc, map, ap, subst}
 use Rattle.ada_tree.specs.Trees.{unit_of}
 use Rattle.linker.specs.Callees.{AreEntered, body_of, libraries_from, target_among}
 use Rattle.linker.proofs.LinkSteps.{empty_of}

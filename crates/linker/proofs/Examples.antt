@@ -1,7 +1,7 @@
 -- What the definitions say of small programs: each clause holds of a case, and is broken by one that differs from it alone.
 use Rattle.std.proofs.Common.{◌≡◌, ℕ, Bool, true, false, List, [], ◌∷◌, Option, Some, None, map, refl, ap, sym, subst, arith, if◌then◌else◌}
 use Rattle.std.specs.Prelude.{codes, slice_get}
-use Rattle.std.proofs.lemmas.Option.{same_Some, slice_get_within}
+use Rattle.std.proofs.lemmas.Option.{none-some, same_Some, slice_get_within}
 use Rattle.seq_tree.specs.Names.{Name, same_name}
 use Rattle.seq_tree.specs.Operations.{Operation}
 use Rattle.seq_tree.specs.Statements.{End}
@@ -10,9 +10,9 @@ use Rattle.seq_tree.specs.declared.tree.Datum.{Datum}
 use Rattle.seq_tree.specs.declared.tree.Mode.TheVariants.{In}
 use Rattle.seq_tree.specs.declared.tree.Param.{Param}
 use Rattle.ada_tree.specs.Programs.{Cyclic, Passive, Unit}
-use Rattle.machine.specs.Systems.{ProtectedUnit, System, TaskUnit}
+use Rattle.machine.specs.Systems.{PassiveUnit, ProtectedUnit, System, TaskUnit}
 use Rattle.machine.specs.Systems as to
-use Rattle.linker.specs.Callees.{IsLed, IsSystemOf, OpBody, body_of, libraries_from}
+use Rattle.linker.specs.Callees.{IsLed, IsSystemOf, OpBody, body_of}
 use Rattle.linker.specs.Leads.{Body, Nowhere, Request}
 use Rattle.linker.specs.Programs.{AllStand, AreLinked, Part, op_part, task_part}
 use Rattle.linker.specs.Scopes.{slots_of}
@@ -21,18 +21,18 @@ use Rattle.linker.specs.declared.code.Ins.TheVariants as ins
 use Rattle.linker.specs.declared.program.LinkedUnits.{LinkedUnits}
 use Rattle.law_flat_code.specs.Codes.{TaskStands}
 
-tick : Operation
+abbrev tick : Operation
 tick = record { sig = record { name = codes "tick"; params = [] }; locals = []; block = End }
 
 -- a datum, and an operation that has it as a local
-level : Datum
+abbrev level : Datum
 level = record { name = codes "level"; value = 7 }
 
-tock : Operation
+abbrev tock : Operation
 tock = record { sig = record { name = codes "tick"; params = [] }; locals = level ∷ []; block = End }
 
 -- an operation of a passive unit
-body : OpBody
+abbrev body : OpBody
 body = record { owner = None; vars = []; op = tick }
 
 -- where one body is known, a call leads to that one
@@ -73,10 +73,10 @@ request_of_another : IsLed [] (to.Request 1) (Request 0) → ⊥
 request_of_another h = cc
 
 -- a protected object with one datum and one operation
-guarded : ProtectedUnit
+abbrev guarded : ProtectedUnit
 guarded = record { unit = 3; name = codes "q"; ceiling = 5; vars = level ∷ []; ops = tick ∷ [] }
 
-owned : Option (ℕ × ℕ) → List Datum → OpBody
+abbrev owned : Option (ℕ × ℕ) → List Datum → OpBody
 owned owner vars = record { owner = owner; vars = vars; op = tick }
 
 -- a call of it leads to the body that has the place of the object, its own place and the object's data
@@ -100,16 +100,16 @@ protected_without_data h =
 
 protected_of_none : IsLed (owned None (level ∷ []) ∷ []) (to.Protected 2 1 guarded tick) (Body 0 []) → ⊥
 protected_of_none h =
-    let e : None ≡ Some (2, 1) = ap (λ w. w.owner) (only_body (owned None (level ∷ [])) (owned (Some (2, 1)) (level ∷ [])) h) in cc
+    none-some (2, 1) (ap (λ w. w.owner) (only_body (owned None (level ∷ [])) (owned (Some (2, 1)) (level ∷ [])) h))
 
 -- the first name of a body has the highest slot: parameters, then locals, then data
 slots_count_down : slots_of (codes "x" ∷ codes "y" ∷ []) ≡ (codes "x", 1) ∷ (codes "y", 0) ∷ []
 slots_count_down = refl
 
-in_x : Param
+abbrev in_x : Param
 in_x = record { mode = In; name = codes "x" }
 
-local_y : Datum
+abbrev local_y : Datum
 local_y = record { name = codes "y"; value = 0 }
 
 names_in_order : (op_part (record { owner = Some (2, 0); vars = level ∷ [];
@@ -117,7 +117,7 @@ names_in_order : (op_part (record { owner = Some (2, 0); vars = level ∷ [];
     ≡ codes "x" ∷ codes "y" ∷ codes "level" ∷ []
 names_in_order = refl
 
-part : Part
+abbrev part : Part
 part = record { names = []; block = End }
 
 -- each part has a start, and each start a part
@@ -134,25 +134,28 @@ starts_there : AllStand (λ scope start block. start ≡ 0) (part ∷ []) (0 ∷
 starts_there = (refl, tt)
 
 -- a program of one task that does nothing, with its thread, and one of a passive unit
-lone : Unit
+abbrev lone : Unit
 lone = record { name = codes "a"; form = Cyclic 1 0 10 [] End }
 
-thread : List ℕ → TaskUnit
+abbrev thread : List ℕ → TaskUnit
 thread work = record { unit = 0; name = codes "a"; priority = 1; timing = to.Periodic 0 10; vars = []; block = End; durations = work }
 
-passive : Unit
+abbrev passive : Unit
 passive = record { name = codes "p"; form = Passive (tick ∷ []) }
+
+abbrev library : PassiveUnit
+library = record { unit = 0; name = codes "p"; ops = tick ∷ [] }
 
 module _ (costs : Costs) where
   -- what runs of them
-  running : System
+  abbrev running : System
   running = record { until = 0; costs = costs; libraries = []; objects = []; threads = thread [] ∷ [] }
 
   runs : IsSystemOf (lone ∷ []) running
   runs = record { durations = λ unit. []; libraries = refl; objects = refl; threads = refl }
 
-  called : System
-  called = record { until = 0; costs = costs; libraries = libraries_from 0 (passive ∷ []); objects = []; threads = [] }
+  abbrev called : System
+  called = record { until = 0; costs = costs; libraries = library ∷ []; objects = []; threads = [] }
 
   calls : IsSystemOf (passive ∷ []) called
   calls = record { durations = λ unit. []; libraries = refl; objects = refl; threads = refl }
@@ -162,7 +165,7 @@ module _ (costs : Costs) where
   runs_nothing h = let e : [] ≡ thread (h.durations 0) ∷ [] = h.threads in cc
 
   calls_nothing : IsSystemOf (passive ∷ []) running → ⊥
-  calls_nothing h = let e : [] ≡ libraries_from 0 (passive ∷ []) = h.libraries in cc
+  calls_nothing h = let e : [] ≡ library ∷ [] = h.libraries in cc
 
   -- the block of the task has a start
   task_lacks : (c : LinkedUnits) → c.tasks.items ≡ [] → AreLinked (lone ∷ []) c → ⊥

@@ -1,5 +1,5 @@
 -- Units of a program one after another, and what calls of their names lead to.
-use Rattle.std.proofs.Common.{◌≡◌, ℕ, suc, Bool, true, false, List, [], ◌∷◌, map, refl, ap}
+use Rattle.std.proofs.Common.{◌≡◌, ℕ, suc, Bool, true, false, List, [], ◌∷◌, map, refl, ap, ◌+◌}
 use Rattle.std.specs.Prelude.{Vec, if◌then◌else◌}
 use Rattle.std.specs.declared.alloc.Global.{Global}
 use Rattle.std.proofs.lemmas.Slice.Eq.{bytes_eq-Decides}
@@ -25,7 +25,7 @@ same_self n = (bytes_eq-Decides n n).1 refl
 
 pub library_here : (name : Name) (os : List Operation) (n i m k : ℕ) (us : List Unit) (gs : List ProtectedUnit) (ts : List TaskUnit)
     → Passes name (λ op. plain_by (op_named op os)) (target_among n (libraries_from i (record { name = name; form = Passive os } ∷ us)) m gs k ts)
-    (target_among (suc n) (libraries_from (suc i) us) m gs k ts)
+    (target_among (suc n) (libraries_from (i + 1) us) m gs k ts)
 library_here name os n i m k us gs ts = record { here = λ op. rw (same_self name) refl; others = λ w op e. rw e refl }
 
 -- a protected object as it is written
@@ -35,14 +35,14 @@ object_of i name ceiling vars os = record { unit = i; name = name; ceiling = cei
 pub object_here : (name : Name) (ceiling : ℕ) (vars : List Datum) (os : List Operation) (m i k : ℕ) (us : List Unit) (ts : List TaskUnit)
     → Passes name (λ op. protected_by (m, object_of i name ceiling vars os) (op_named op os))
     (target_among 0 [] m (objects_from i (record { name = name; form = Shared ceiling vars os } ∷ us)) k ts)
-    (target_among 0 [] (suc m) (objects_from (suc i) us) k ts)
+    (target_among 0 [] (suc m) (objects_from (i + 1) us) k ts)
 object_here name ceiling vars os m i k us ts = record { here = λ op. rw (same_self name) refl; others = λ w op e. rw e refl }
 
 pub cyclic_here : (name : Name) (priority offset period : ℕ) (vars : List Datum) (block : Statements)
     (durations : ℕ → List ℕ) (k i : ℕ) (us : List Unit)
     → Passes name (λ op. to.Unknown)
     (target_among 0 [] 0 [] k (threads_from durations i (record { name = name; form = Cyclic priority offset period vars block } ∷ us)))
-    (target_among 0 [] 0 [] (suc k) (threads_from durations (suc i) us))
+    (target_among 0 [] 0 [] (suc k) (threads_from durations (i + 1) us))
 cyclic_here name priority offset period vars block durations k i us =
     record { here = λ op. rw (same_self name) refl; others = λ w op e. rw e refl }
 
@@ -51,7 +51,7 @@ pub sporadic_here : (name : Name) (priority ceiling : ℕ) (sig : Signature) (se
     → Passes name (λ op. if same_name sig.name op then to.Request k else to.Unknown)
     (target_among 0 [] 0 [] k (threads_from durations i
     (record { name = name; form = Sporadic priority ceiling sig separation jitter external vars block } ∷ us)))
-    (target_among 0 [] 0 [] (suc k) (threads_from durations (suc i) us))
+    (target_among 0 [] 0 [] (suc k) (threads_from durations (i + 1) us))
 sporadic_here name priority ceiling sig separation jitter external vars block durations k i us =
     record { here = λ op. rw (same_self name) refl; others = λ w op e. rw e refl }
 

@@ -1,4 +1,4 @@
-ghost use Rattle.std.specs.Prelude.{◌≡◌, ◌++◌, ℕ, suc, List, [], ◌∷◌, IfOk, OnOk, map};
+ghost use Rattle.std.specs.Prelude.{◌≡◌, ◌+◌, ◌++◌, ℕ, List, [], ◌∷◌, IfOk, OnOk, map};
 ghost use Rattle.seq_tree.specs.Names.{Name as NameBytes};
 ghost use Rattle.seq_tree.specs.Trees.{block_of, operation_of};
 ghost use Rattle.ada_tree.specs.Programs.{Unit as UnitTree};
@@ -124,7 +124,7 @@ fn link_unit<'a, C: Calls>(
     ensures { OnOk result ((from : Lists) (whole : List Part) (durations : ℕ → List ℕ) (i : ℕ) (us : List UnitTree)
         → PartsLeft (C.leads calls.now) InsIs.Finish from (lists_of code.old) whole
         (map task_part (threads_from durations i (unit_of unit.entry.now ∷ us))) starts.old.items
-        → PartsLeft (C.leads calls.now) InsIs.Finish from (lists_of code.new) whole (map task_part (threads_from durations (suc i) us))
+        → PartsLeft (C.leads calls.now) InsIs.Finish from (lists_of code.new) whole (map task_part (threads_from durations (i + 1) us))
         starts.new.items) }
 {
     match &unit.form {

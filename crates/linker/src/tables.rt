@@ -1,4 +1,4 @@
-ghost use Rattle.std.specs.Prelude.{◌≡◌, ℕ, suc, List, [], ◌∷◌, None, Some, IfOk, OnOk, if◌then◌else◌, is_some, map, option_map};
+ghost use Rattle.std.specs.Prelude.{◌≡◌, ◌+◌, ℕ, suc, List, [], ◌∷◌, None, Some, IfOk, OnOk, if◌then◌else◌, is_some, map, option_map};
 ghost use Rattle.seq_tree.specs.Names.{Name as NameBytes, same_name};
 ghost use Rattle.seq_tree.specs.Trees.{operation_of};
 ghost use Rattle.ada_tree.specs.Programs.{Unit as UnitTree};
@@ -126,6 +126,13 @@ fn add_ops<'a>(
     Ok(table)
 }
 
+/// A count with one more. The one error is that no number tells it.
+fn one_more(count: usize) -> Result<usize, NoMemory>
+    ensures { IfOk result (λ next. next ≡ suc count) }
+{
+    count.checked_add(1).ok_or(NoMemory)
+}
+
 /// The place of an operation, with that of its object.
 fn owner_of(object: Option<usize>, place: usize) -> Option<(usize, usize)>
     ensures { result ≡ option_map (λ (k : ℕ). (k, place)) object }
@@ -196,7 +203,7 @@ impl<'a> Callees<'a> {
     fn add_passive(&mut self, alloc: Global, unit: &'a Unit) -> Result<(), NoMemory>
         ensures { OnOk result ((y : System) (us : List UnitTree) (n i m k : ℕ) (gs : List ProtectedUnit) (ts : List TaskUnit)
             → AreEntered y self.old.units (map body_of self.old.bodies.items) (target_among n (libraries_from i (unit_of unit.entry.now ∷ us)) m gs k ts)
-            → (next : ℕ) × AreEntered y self.new.units (map body_of self.new.bodies.items) (target_among next (libraries_from (suc i) us) m gs k ts)) }
+            → (next : ℕ) × AreEntered y self.new.units (map body_of self.new.bodies.items) (target_among next (libraries_from (i + 1) us) m gs k ts)) }
     {
         match &unit.form {
             Form::Passive { ops } => self.enter_ops(alloc, &unit.name, None, &[], ops),
@@ -215,12 +222,12 @@ impl<'a> Callees<'a> {
     ) -> Result<usize, NoMemory>
         ensures { IfOk result (λ next. (y : System) (us : List UnitTree) (i k : ℕ) (ts : List TaskUnit)
             → AreEntered y self.old.units (map body_of self.old.bodies.items) (target_among 0 [] object (objects_from i (unit_of unit.entry.now ∷ us)) k ts)
-            → AreEntered y self.new.units (map body_of self.new.bodies.items) (target_among 0 [] next (objects_from (suc i) us) k ts)) }
+            → AreEntered y self.new.units (map body_of self.new.bodies.items) (target_among 0 [] next (objects_from (i + 1) us) k ts)) }
     {
         match &unit.form {
             Form::Passive { .. } => Ok(object),
             Form::Shared { vars, ops, .. } => {
-                let next = object.checked_add(1).ok_or(NoMemory)?;
+                let next = one_more(object)?;
                 self.enter_ops(alloc, &unit.name, Some(object), vars, ops)?;
                 Ok(next)
             }
@@ -234,7 +241,7 @@ impl<'a> Callees<'a> {
         ensures { IfOk result (λ next. (y : System) (durations : ℕ → List ℕ) (us : List UnitTree) (i : ℕ)
             → AreEntered y self.old.units (map body_of self.old.bodies.items)
             (target_among 0 [] 0 [] task (threads_from durations i (unit_of unit.entry.now ∷ us)))
-            → AreEntered y self.new.units (map body_of self.new.bodies.items) (target_among 0 [] 0 [] next (threads_from durations (suc i) us))) }
+            → AreEntered y self.new.units (map body_of self.new.bodies.items) (target_among 0 [] 0 [] next (threads_from durations (i + 1) us))) }
     {
         match &unit.form {
             Form::Passive { .. } => Ok(task),

@@ -7,7 +7,9 @@ use Rattle.linker.proofs.Parting.{parts_all, parts_next, parts_end}
 use Rattle.linker.proofs.program.link_ops.Goals as goal
 
 pub ops-init : goal.ops-init
-ops-init g c = parts_all (g.C.Calls.leads c.args.calls.now) ins.Return (lists_of c.args.code.now) (map op_part (map body_of c.args.bodies.now))
+ops-init g c =
+    rw c.new-starts.ensures.items
+    (parts_all (g.C.Calls.leads c.args.calls.now) ins.Return (lists_of c.args.code.now) (map op_part (map body_of c.args.bodies.now)))
 
 pub ops-preserved : goal.ops-preserved
 ops-preserved g c =

@@ -1,4 +1,4 @@
-use Rattle.std.proofs.Common.{◌≡◌, rules, [], ◌∷◌, suc, map, ap, subst}
+use Rattle.std.proofs.Common.{◌≡◌, rules, [], ◌∷◌, map, ap, subst, ◌+◌}
 use Rattle.ada_tree.specs.Trees.{unit_of}
 use Rattle.linker.specs.Callees.{threads_from}
 use Rattle.linker.specs.Parts.{PartsLeft}
@@ -12,8 +12,8 @@ use Rattle.linker.proofs.program.link_tasks.Goals as goal
 pub units-init : goal.units-init
 units-init g c = λ durations. (
   0,
-  parts_all (g.C.Calls.leads c.args.calls.now) ins.Finish (lists_of c.args.code.now)
-      (map task_part (threads_from durations 0 (map unit_of c.args.units.now))),
+  rw c.new-starts.ensures.items (parts_all (g.C.Calls.leads c.args.calls.now) ins.Finish (lists_of c.args.code.now)
+      (map task_part (threads_from durations 0 (map unit_of c.args.units.now)))),
 )
 
 pub units-preserved : goal.units-preserved
@@ -21,7 +21,7 @@ units-preserved g c = λ durations.
     let r = c.units.invariant durations in
     let here : c.units.left.now ≡ c.in-Some.unit.now ∷ c.in-Some.rest.now = search rules in
     let whole = map task_part (threads_from durations 0 (map unit_of c.args.units.now)) in (
-      suc r.0,
+      r.0 + 1,
       c.in_ok-link_unit.ensures (lists_of c.args.code.now) whole durations r.0 (map unit_of c.in-Some.rest.now)
           (subst (λ us. PartsLeft (g.C.Calls.leads c.args.calls.now) ins.Finish (lists_of c.args.code.now) (lists_of c.units.code) whole
           (map task_part (threads_from durations r.0 us)) c.units.starts.items) (ap (map unit_of) here) r.1),

@@ -1,4 +1,4 @@
-use Rattle.std.proofs.Common.{◌∷◌, ◌++◌, suc, map, subst}
+use Rattle.std.proofs.Common.{◌∷◌, ◌++◌, map, subst, ◌+◌}
 use Rattle.seq_tree.specs.Trees.{block_of}
 use Rattle.linker.specs.Callees.{threads_from}
 use Rattle.linker.specs.Parts.{PartsLeft}
@@ -25,7 +25,7 @@ returns-in_ok-push-in-Cyclic g c = λ from whole durations i us h.
     let leads = g.C.Calls.leads c.args.calls.now in
     let s = c.in-Cyclic in
     parts_on leads ins.Finish from (lists_of c.args.code.now) (lists_of c.link_task.new.code) whole
-    (map task_part (threads_from durations (suc i) us)) (record { names = datum_names s.vars.items; block = block_of s.block })
+    (map task_part (threads_from durations (i + 1) us)) (record { names = datum_names s.vars.items; block = block_of s.block })
     c.args.starts.now.items _ c.in_ok-start-in-Cyclic.start
     (subst (λ v. PartsLeft leads ins.Finish from (lists_of c.args.code.now) whole (map task_part (threads_from durations i (v ∷ us)))
     c.args.starts.now.items) (as_cyclic c.args.unit.now s.priority s.offset s.period s.vars s.block s.is) h)
@@ -36,7 +36,7 @@ returns-in_ok-push-in-Sporadic g c = λ from whole durations i us h.
     let leads = g.C.Calls.leads c.args.calls.now in
     let s = c.in-Sporadic in
     parts_on leads ins.Finish from (lists_of c.args.code.now) (lists_of c.link_task-in-Sporadic.new.code) whole
-    (map task_part (threads_from durations (suc i) us))
+    (map task_part (threads_from durations (i + 1) us))
     (record { names = param_names s.op.params.items ++ datum_names s.vars.items; block = block_of s.block })
     c.args.starts.now.items _ c.in_ok-start-in-Sporadic.start
     (subst (λ v. PartsLeft leads ins.Finish from (lists_of c.args.code.now) whole (map task_part (threads_from durations i (v ∷ us)))

@@ -1,7 +1,9 @@
 use Rattle.std.proofs.Common.{[], map, sym, subst}
 use Rattle.ada_tree.specs.Trees.{unit_of}
+use Rattle.seq_tree.specs.Names.{Name}
 use Rattle.linked.proofs.Shared.Growths.{grows_twice}
 use Rattle.linker.specs.Callees.{body_of, lead_by, threads_from}
+use Rattle.linker.specs.Leads.{Leads}
 use Rattle.linker.specs.Parts.{EndStands}
 use Rattle.linker.specs.Programs.{AllStand, op_part, task_part}
 use Rattle.linker.specs.Standing.{lists_of}
@@ -13,7 +15,7 @@ use Rattle.linker.proofs.program.link_units.Goals as goal
 pub returns : goal.returns
 returns c =
     let callees = c.in_ok-callees.callees in
-    let leads = λ unit op. lead_by (named callees.units unit) op in
+    let leads : Name → Name → Leads = λ unit op. lead_by (named callees.units unit) op in
     let zero' = lists_of c.new-code.result in
     let one = lists_of c.link_ops.new.code in
     let two = lists_of c.link_tasks.new.code in

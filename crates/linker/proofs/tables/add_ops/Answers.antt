@@ -1,4 +1,4 @@
-use Rattle.std.proofs.Common.{◌≡◌, ◌-◌, suc, ◌++◌, ◌∷◌, [], map, drop, refl, ap, sym, subst, ◌∙◌, arith}
+use Rattle.std.proofs.Common.{◌≡◌, ◌-◌, suc, ◌++◌, ◌∷◌, [], map, drop, ap, sym, subst, ◌∙◌, arith}
 use Rattle.std.proofs.lemmas.List.{length-map, map-append}
 use Rattle.seq_tree.specs.Lists.{first_from}
 use Rattle.seq_tree.specs.Names.{same_name}
@@ -30,7 +30,8 @@ ops-preserved c =
       within = omega (arith, i.within);
       more = adds_one (map body_of a.bodies.now.items) bs _ _ i.more grown;
       found = λ n. found_on bs _ a.object a.vars.now n (named c.ops.table n) _ _ a.ops.now op at (omega (arith, i.within, c.ops-test.true))
-          c.index-ops-at.is grown (c.in_ok-put.ensures.put n) refl (c.in_ok-place.ensures ∙ sym (length-map c.ops.bodies.items body_of))
+          c.index-ops-at.is grown (c.in_ok-put.ensures.put n) c.as_slice-params.ensures.value
+          (c.in_ok-place.ensures ∙ sym (length-map c.ops.bodies.items body_of))
           (subst (λ k. IsFound bs a.object a.vars.now (named c.ops.table n)
           (first_from k (λ o. same_name o.sig.name n) (map operation_of (drop k a.ops.now)))) again (i.found n));
     }

@@ -1,4 +1,4 @@
-use Rattle.std.proofs.Common.{[], ◌∷◌, suc, map, subst}
+use Rattle.std.proofs.Common.{[], ◌∷◌, map, subst, ◌+◌, sym}
 use Rattle.seq_tree.specs.Trees.{operation_of}
 use Rattle.machine.specs.Systems.{op_named, protected_by}
 use Rattle.linker.specs.Callees.{AreEntered, body_of, objects_from, target_among}
@@ -13,7 +13,7 @@ returns-in_ok-enter_ops-in-Shared c = λ y us i k ts h.
     let os = map operation_of s.ops.items in
     let g = object_of i u.name s.ceiling s.vars.items os in
     let m = c.args.object in
-    subst (λ q. AreEntered y _ _ (target_among 0 [] q (objects_from (suc i) us) k ts)) c.in_ok-next-in-Shared.ensures
+    subst (λ q. AreEntered y _ _ (target_among 0 [] q (objects_from (i + 1) us) k ts)) (sym c.in_ok-next-in-Shared.ensures)
     ((rw (c.deref.ensures.value, c.deref-in-Shared.ensures.value) at c.in_ok-enter_ops-in-Shared.ensures) y
     (λ op. protected_by (m, g) (op_named op os)) _ _ (protected_led m g)
     (object_here u.name s.ceiling s.vars.items os m i k us ts)

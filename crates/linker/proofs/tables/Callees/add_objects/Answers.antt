@@ -1,4 +1,4 @@
-use Rattle.std.proofs.Common.{◌≡◌, rules, [], ◌∷◌, suc, map, ap, subst}
+use Rattle.std.proofs.Common.{◌≡◌, rules, [], ◌∷◌, map, ap, subst, ◌+◌}
 use Rattle.ada_tree.specs.Trees.{unit_of}
 use Rattle.linker.specs.Callees.{AreEntered, body_of, objects_from, target_among}
 use Rattle.linker.proofs.LinkSteps.{empty_of}
@@ -15,7 +15,7 @@ pub units-preserved : goal.units-preserved
 units-preserved c = λ y is h.
     let r = c.units.invariant y is h in
     let here : c.units.left.now ≡ c.in-Some.unit.now ∷ c.in-Some.rest.now = search rules in (
-      suc r.0,
+      r.0 + 1,
       c.in_ok-next.ensures y (map unit_of c.in-Some.rest.now) r.0 0 y.threads
           (subst (λ us. AreEntered y c.units.self.units (map body_of c.units.self.bodies.items)
           (target_among 0 [] c.units.object (objects_from r.0 us) 0 y.threads)) (ap (map unit_of) here) r.1),

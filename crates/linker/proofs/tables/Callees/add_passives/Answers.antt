@@ -1,4 +1,4 @@
-use Rattle.std.proofs.Common.{◌≡◌, rules, [], ◌∷◌, suc, map, ap, subst}
+use Rattle.std.proofs.Common.{◌≡◌, rules, [], ◌∷◌, map, ap, subst, ◌+◌}
 use Rattle.ada_tree.specs.Trees.{unit_of}
 use Rattle.linker.specs.Callees.{AreEntered, body_of, libraries_from, target_among}
 use Rattle.linker.proofs.LinkSteps.{empty_of}
@@ -20,7 +20,7 @@ units-preserved c = λ y is h.
     let n = c.in_ok-add_passive.ensures y us r.0 r.1 0 0 y.objects y.threads
     (subst (λ ls. AreEntered y c.units.self.units (map body_of c.units.self.bodies.items)
     (target_among r.0 (libraries_from r.1 ls) 0 y.objects 0 y.threads)) (ap (map unit_of) here) r.2) in
-    (n.0, suc r.1, n.1)
+    (n.0, r.1 + 1, n.1)
 
 pub returns : goal.returns
 returns c = λ y is h.

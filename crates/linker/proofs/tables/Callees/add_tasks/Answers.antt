@@ -1,4 +1,4 @@
-use Rattle.std.proofs.Common.{◌≡◌, rules, [], ◌∷◌, suc, map, ap, subst}
+use Rattle.std.proofs.Common.{◌≡◌, rules, [], ◌∷◌, map, ap, subst, ◌+◌}
 use Rattle.ada_tree.specs.Trees.{unit_of}
 use Rattle.linker.specs.Callees.{AreEntered, body_of, target_among, threads_from}
 use Rattle.linker.proofs.LinkSteps.{empty_of}
@@ -12,7 +12,7 @@ pub units-preserved : goal.units-preserved
 units-preserved c = λ y is h.
     let r = c.units.invariant y is h in
     let here : c.units.left.now ≡ c.in-Some.unit.now ∷ c.in-Some.rest.now = search rules in (
-      suc r.0,
+      r.0 + 1,
       c.in_ok-next.ensures y is.durations (map unit_of c.in-Some.rest.now) r.0
           (subst (λ us. AreEntered y c.units.self.units (map body_of c.units.self.bodies.items)
           (target_among 0 [] 0 [] c.units.task (threads_from is.durations r.0 us))) (ap (map unit_of) here) r.1),

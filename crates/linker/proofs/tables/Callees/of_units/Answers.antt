@@ -9,4 +9,4 @@ returns c = λ y is unit op.
     let one = c.in_ok-add_passives.ensures y is start in
     let two = c.in_ok-add_objects.ensures y is one in
     let three = c.in_ok-add_tasks.ensures y is two in
-    entered_all y c.add_tasks.new.callees.units (map body_of c.add_tasks.new.callees.bodies.items) three unit op
+    entered_all y c.add_tasks.new.self.units (map body_of c.add_tasks.new.self.bodies.items) three unit op

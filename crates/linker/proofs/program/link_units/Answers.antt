@@ -22,7 +22,7 @@ returns c =
     let bodies = map op_part (map body_of callees.bodies.items) in
     let ops = rw c.bodies.ensures at c.in_ok-starts.ensures in
     let tasks = c.in_ok-tasks.ensures in
-    rw c.into_bodies.ensures (record {
+    rw c.into_bodies-ops.ensures (record {
       leads = leads;
       calls = c.in_ok-callees.ensures;
       bodies = parts_done leads ins.Return zero' one two bodies c.in_ok-starts.starts.items ops (tasks (λ k. [])).kept;

@@ -31,7 +31,7 @@ ops-preserved c =
       more = adds_one (map body_of a.bodies.now.items) bs _ _ i.more grown;
       found = λ n. found_on bs _ a.object a.vars.now n (named c.ops.table n) _ _ a.ops.now op at (omega (arith, i.within, c.ops-test.true))
           c.index-ops-at.is grown (c.in_ok-put.ensures.put n) c.as_slice-params.ensures.value
-          (c.in_ok-place.ensures ∙ sym (length-map c.ops.bodies.items body_of))
+          (c.in_ok-place.ensures ∙ c.len.ensures ∙ c.ops.bodies.ok.0 ∙ sym (length-map c.ops.bodies.items body_of))
           (subst (λ k. IsFound bs a.object a.vars.now (named c.ops.table n)
           (first_from k (λ o. same_name o.sig.name n) (map operation_of (drop k a.ops.now)))) again (i.found n));
     }

@@ -13,7 +13,9 @@ returns-in_ok-enter_ops-in-Shared c = λ y us i k ts h.
     let os = map operation_of s.ops.items in
     let g = object_of i u.name s.ceiling s.vars.items os in
     let m = c.args.object in
-    subst (λ q. AreEntered y _ _ (target_among 0 [] q (objects_from (i + 1) us) k ts)) (sym c.in_ok-next-in-Shared.ensures)
+    let t = c.enter_ops.new.self in
+    subst (λ q. AreEntered y t.units (map body_of t.bodies.items) (target_among 0 [] q (objects_from (i + 1) us) k ts))
+    (sym c.in_ok-next-in-Shared.ensures)
     ((rw (c.deref.ensures.value, c.deref-in-Shared.ensures.value) at c.in_ok-enter_ops-in-Shared.ensures) y
     (λ op. protected_by (m, g) (op_named op os)) _ _ (protected_led m g)
     (object_here u.name s.ceiling s.vars.items os m i k us ts)

@@ -11,7 +11,9 @@ pub returns-in_ok-enter-in-Cyclic : goal.returns-in_ok-enter-in-Cyclic
 returns-in_ok-enter-in-Cyclic c = λ y durations us i h.
     let u = c.args.unit.now in
     let s = c.in-Cyclic in
-    subst (λ q. AreEntered y _ _ (target_among 0 [] 0 [] q (threads_from durations (i + 1) us))) (sym c.in_ok-next-in-Cyclic.ensures)
+    let t = c.enter.new.self in
+    subst (λ q. AreEntered y t.units (map body_of t.bodies.items) (target_among 0 [] 0 [] q (threads_from durations (i + 1) us)))
+    (sym c.in_ok-next-in-Cyclic.ensures)
     (c.in_ok-enter-in-Cyclic.ensures y (λ op. to.Unknown) _ _ (λ op. refl)
     (cyclic_here u.name s.priority s.offset s.period s.vars.items (block_of s.block) durations c.args.task i us)
     (subst (λ v. AreEntered y c.args.self.now.units (map body_of c.args.self.now.bodies.items)
@@ -24,7 +26,9 @@ returns-in_ok-enter-in-Sporadic c = λ y durations us i h.
     let s = c.in-Sporadic in
     let sig = signature_of s.op in
     let k = c.args.task in
-    subst (λ q. AreEntered y _ _ (target_among 0 [] 0 [] q (threads_from durations (i + 1) us))) (sym c.in_ok-next-in-Sporadic.ensures)
+    let t = c.enter-in-Sporadic.new.self in
+    subst (λ q. AreEntered y t.units (map body_of t.bodies.items) (target_among 0 [] 0 [] q (threads_from durations (i + 1) us)))
+    (sym c.in_ok-next-in-Sporadic.ensures)
     (c.in_ok-enter-in-Sporadic.ensures y (λ op. if same_name sig.name op then to.Request k else to.Unknown) _ _
     (λ op. request_led (same_name sig.name op) (map body_of c.args.self.now.bodies.items) k)
     (sporadic_here u.name s.priority s.ceiling sig s.separation s.jitter s.external s.vars.items (block_of s.block) durations k i us)

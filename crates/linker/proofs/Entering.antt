@@ -97,7 +97,7 @@ entered_none y us bs h = record {
     no_entry e h = cc
 
 module _ (y : System) (name : Name) (target : Name → CallTarget) (left left' : Name → Name → CallTarget)
-  (passes : Passes name target left left') where
+    (passes : Passes name target left left') where
   -- a name that was entered before
   pub entered_before : (us : NameTable Entry) (bs : List OpBody) (e : Entry) → named us name ≡ Some e
       → AreEntered y us bs left → AreEntered y us bs left'

@@ -112,8 +112,11 @@ in_x = record { mode = In; name = codes "x" }
 abbrev local_y : Datum
 local_y = record { name = codes "y"; value = 0 }
 
-names_in_order : (op_part (record { owner = Some (2, 0); vars = level ∷ [];
-  op = record { sig = record { name = codes "set"; params = in_x ∷ [] }; locals = local_y ∷ []; block = End } })).names
+names_in_order : (op_part (record {
+  owner = Some (2, 0);
+  vars = level ∷ [];
+  op = record { sig = record { name = codes "set"; params = in_x ∷ [] }; locals = local_y ∷ []; block = End };
+})).names
     ≡ codes "x" ∷ codes "y" ∷ codes "level" ∷ []
 names_in_order = refl
 

@@ -81,11 +81,11 @@ handing_on scope first whole rest In e c d f h a v = record {
   long = omega (arith, one_longer d.actuals f.actuals v.0 v.1, h.long);
   stands = λ later g l s. h.stands later (grows_twice d.nodes f.nodes later.nodes a.nodes g)
       (longer_twice d.actuals f.actuals later.actuals a.actuals l) (
-    v.0,
-    placed d.actuals f.actuals later.actuals v.0 v.1 l,
-    reads_grown f later scope v.0 e g v.2,
-    subst (λ z. ValuesStand later scope z rest) (sym (one_longer d.actuals f.actuals v.0 v.1)) s,
-  );
+        v.0,
+        placed d.actuals f.actuals later.actuals v.0 v.1 l,
+        reads_grown f later scope v.0 e g v.2,
+        subst (λ z. ValuesStand later scope z rest) (sym (one_longer d.actuals f.actuals v.0 v.1)) s,
+      );
 }
 handing_on scope first whole rest Out e c d f h a v = record {
   added = added_twice c d f h.added a;

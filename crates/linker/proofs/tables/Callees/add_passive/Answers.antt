@@ -27,7 +27,7 @@ returns-in-Shared c = λ y us n i m k gs ts h.
     let s = c.in-Shared in (
       n,
       subst (λ v. AreEntered y c.args.self.now.units (map body_of c.args.self.now.bodies.items)
-      (target_among n (libraries_from i (v ∷ us)) m gs k ts))
+          (target_among n (libraries_from i (v ∷ us)) m gs k ts))
           (as_shared c.args.unit.now s.ceiling s.vars s.ops s.is) h,
     )
 
@@ -36,7 +36,7 @@ returns-in-Cyclic c = λ y us n i m k gs ts h.
     let s = c.in-Cyclic in (
       n,
       subst (λ v. AreEntered y c.args.self.now.units (map body_of c.args.self.now.bodies.items)
-      (target_among n (libraries_from i (v ∷ us)) m gs k ts))
+          (target_among n (libraries_from i (v ∷ us)) m gs k ts))
           (as_cyclic c.args.unit.now s.priority s.offset s.period s.vars s.block s.is) h,
     )
 
@@ -45,6 +45,6 @@ returns-in-Sporadic c = λ y us n i m k gs ts h.
     let s = c.in-Sporadic in (
       n,
       subst (λ v. AreEntered y c.args.self.now.units (map body_of c.args.self.now.bodies.items)
-      (target_among n (libraries_from i (v ∷ us)) m gs k ts))
+          (target_among n (libraries_from i (v ∷ us)) m gs k ts))
           (as_sporadic c.args.unit.now s.priority s.ceiling s.op s.separation s.jitter s.external s.vars s.block s.is) h,
     )

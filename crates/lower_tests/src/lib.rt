@@ -15,8 +15,6 @@ mod counts;
 #[cfg(test)]
 mod follows;
 #[cfg(test)]
-mod linking;
-#[cfg(test)]
 mod openings;
 #[cfg(test)]
 mod queues;

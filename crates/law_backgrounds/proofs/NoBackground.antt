@@ -51,6 +51,7 @@ use Rattle.background_designs.specs.Refusals.{IsBackgroundDesign, Version, Backg
 use Rattle.background_designs.specs.Programs.{raised, background_text, hard_rows}
 use Rattle.background_designs.specs.HardParts.{softened, soft_operation, soft_object, cyclic_client, protected_server, hard_object, hard_tree}
 use Rattle.background_designs.specs.HardParts.{hard_trees, hard_part}
+use Rattle.law_backgrounds.proofs.Shared.HardRanks.{length-downwards}
 
 hser-is : (c : Option Constraint) → is_hser c ≡ true → c ≡ Some Hser
 hser-is None h = cc
@@ -287,10 +288,6 @@ few-made {A} {B} f (x ∷ xs) = by (f x) (few-made f xs)
     by : (o : Option B) → length (filter_map f xs) ≤ length xs → length (cons_option o (filter_map f xs)) ≤ suc (length xs)
     by None h = omega (arith, h)
     by (Some b) h = omega (arith, h)
-
-length-downwards : (n : ℕ) → length (downwards n) ≡ n
-length-downwards zero = refl
-length-downwards (suc n) = ap suc (length-downwards n)
 
 without-clients : (x : Design) (v : List Bound) → text_by (first_priority x) x [] v ≡ text x v
 without-clients x v =

@@ -8,6 +8,8 @@ use Rattle.std.specs.Prelude.{◌-◌, ◌==◌, filter, nat_le, is_some, if◌t
 use Rattle.std.proofs.lemmas.List.{map-append}
 use Rattle.std.proofs.lemmas.List.Elements.{filter-append}
 use Rattle.std.proofs.lemmas.List.Sums.{sum_by_push}
+use Rattle.std.proofs.Math.Bool.{and-false, and-true}
+use Rattle.std.proofs.lemmas.Bool.{and_parts}
 use Rattle.seq_tree.specs.Names.{Name, same_name}
 use Rattle.seq_tree.specs.Variables.{Variables, written, kept}
 use Rattle.seq_tree.specs.Runs.{Action, Path}
@@ -91,14 +93,6 @@ seen w ss (Some e) = (scripted w (deeds e.script), Some (e.end.time, e.used))
 wrong : {A : Type 0} → true ≡ false → A
 wrong e = absurd (cc)
 
-and-false : (b : Bool) → (b && false) ≡ false
-and-false true = refl
-and-false false = refl
-
-and-true : (b : Bool) → (b && true) ≡ b
-and-true true = refl
-and-true false = refl
-
 module _ (w : Software) (depth : ℕ) (t : Task) (served : Name → Bool) (where' : Activation → Bool)
     (at-first : (time : ℕ) (value : Option ℕ) → where' (record { time = time; value = value; steps = [] }) ≡ true)
     (at-last : (time : ℕ) (value : Option ℕ) (ps : List Placed) (p : Placed)
@@ -181,10 +175,6 @@ module _ (w : Software) (depth : ℕ) (t : Task) (served : Name → Bool) (where
   high-by (End used) p c h = refl
   high-by (Stop object priority ceiling) p c h = refl
 
-  and-both : (a b : Bool) → (a && b) ≡ true → (a ≡ true) × (b ≡ true)
-  and-both true b e = (refl, e)
-  and-both false b e = wrong (sym e)
-
   -- an activation so far, and one step more
   tells-after : (c : Course) (ps : List Placed) (charge : ℕ × ℕ) (time : ℕ) (deed : Deed) (body : Path) → Tells c ps
       → ChargedRight (is_good served deed) deed body charge
@@ -203,14 +193,14 @@ module _ (w : Software) (depth : ℕ) (t : Task) (served : Name → Bool) (where
 
       low' : (c.among && good) ≡ true → c.low + ticks_by good deed charge.0 ≡ least_inside (ps ++ p ∷ [])
       low' e =
-          let b = and-both c.among good e in
+          let b = and_parts c.among good e in
           let right' : ChargedRight true deed body charge = subst (λ z. ChargedRight z deed body charge) b.1 right in
           ap (λ z. c.low + ticks_by z deed charge.0) b.1 ∙ ap (λ z. c.low + z) (low-by deed body charge right')
           ∙ ap (λ z. z + least_by deed body) (h.low b.0) ∙ sym (sum_by_push (λ q. least_by q.step.deed q.step.body) ps p)
 
       high' : (c.among && good) ≡ true → c.high + ticks_by good deed charge.1 ≡ most_inside (ps ++ p ∷ [])
       high' e =
-          let b = and-both c.among good e in
+          let b = and_parts c.among good e in
           let right' : ChargedRight true deed body charge = subst (λ z. ChargedRight z deed body charge) b.1 right in
           ap (λ z. c.high + ticks_by z deed charge.1) b.1 ∙ ap (λ z. c.high + z) (high-by deed body charge right')
           ∙ ap (λ z. z + most_by deed body) (h.high b.0) ∙ sym (sum_by_push (λ q. most_by q.step.deed q.step.body) ps p)

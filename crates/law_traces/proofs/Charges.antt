@@ -5,7 +5,7 @@ use Rattle.std.proofs.Common.{sym, ap, subst, ◌∙◌, arith}
 use Rattle.std.specs.Prelude.{find, unwrap_or, option_map, ⊤, if◌then◌else◌}
 use Rattle.std.specs.Bool.{Decides}
 use Rattle.std.specs.List.{list_any, list_all}
-use Rattle.std.proofs.lemmas.Bool.{and_parts}
+use Rattle.std.proofs.lemmas.Bool.{and_parts, or_parts, not-true}
 use Rattle.std.proofs.lemmas.Option.{same_Some, none-some}
 use Rattle.std.proofs.lemmas.Slice.Eq.{bytes_eq-Decides}
 use Rattle.std.proofs.lemmas.List.Sums.{sum_by-cons}
@@ -29,27 +29,12 @@ use Rattle.law_traces.specs.Checks.{most_used, ways, serves, one_by_one, is_amon
 use Rattle.law_traces.proofs.Deciding.{decides-each, decides-where, each-map, each-both}
 use Rattle.law_traces.proofs.Shared.Pairs.{Pairs, AlikeMoment, AlikeStep, AlikePlaced}
 use Rattle.law_traces.proofs.Objects.{AlikeAt, found-each, wrong, ways-serve, check-serves, one-only}
+use Rattle.law_traces.proofs.Shared.Finding.{same-turned, found-passes}
 
 -- OBJECTS have names of their own
-false-parts : (a b : Bool) → (a || b) ≡ false → (a ≡ false) × (b ≡ false)
-false-parts false false e = (refl, refl)
-false-parts false true e = wrong e
-false-parts true b e = wrong e
-
-not-false : (b : Bool) → not b ≡ true → b ≡ false
-not-false true e = wrong (sym e)
-not-false false e = refl
-
-same-turned : (a b : Name) → same_name a b ≡ false → same_name b a ≡ false
-same-turned a b e = by (same_name b a) refl
-  where
-    by : (z : Bool) → same_name b a ≡ z → z ≡ false
-    by true h = wrong (sym ((bytes_eq-Decides a b).1 (sym ((bytes_eq-Decides b a).0 h))) ∙ e)
-    by false h = refl
-
 none-named : (name : Name) (gs : List Guarded) → is_named (map (λ g. g.name) gs) name ≡ false → Each (λ g. same_name g.name name ≡ false) gs
 none-named name [] e = tt
-none-named name (g ∷ gs) e = let p = false-parts (same_name g.name name) _ e in (p.0, none-named name gs p.1)
+none-named name (g ∷ gs) e = let p = or_parts (same_name g.name name) _ e in (p.0, none-named name gs p.1)
 
 pub own-names : (gs : List Guarded) → are_distinct (map (λ g. g.name) gs) ≡ true
     → Each (λ g. find (λ h. same_name h.name g.name) gs ≡ Some g) gs
@@ -61,7 +46,7 @@ own-names (g ∷ gs) e =
       each-both (λ x. same_name x.name g.name ≡ false) (λ x. find (λ h. same_name h.name x.name) gs ≡ Some x)
           (λ x. find (λ h. same_name h.name x.name) (g ∷ gs) ≡ Some x)
           (λ x other found. ap (First x) (same-turned x.name g.name other) ∙ found) gs
-          (none-named g.name gs (not-false _ p.0)) (own-names gs p.1),
+          (none-named g.name gs (not-true _ p.0)) (own-names gs p.1),
     )
 
 module _ (w : Software) (clear : IsClear w) (trace : List Event) where
@@ -153,18 +138,6 @@ module _ (w : Software) (clear : IsClear w) (trace : List Event) where
       c : Path
       c = way_in w clear.depth most data' (By time task (Enter name values)) told
 
-      tested : {A : Type 0} (test : A → Bool) (xs : List A) (x : A) → find test xs ≡ Some x → test x ≡ true
-      tested test [] x e = absurd (none-some x e)
-      tested {A} test (y ∷ ys) x e = at (test y) refl (tested test ys x)
-        where
-          at : (b : Bool) → test y ≡ b → (find test ys ≡ Some x → test x ≡ true) → test x ≡ true
-          at true t more =
-              let F : Bool → Option A = λ z. if z then Some y else find test ys in
-              ap test (sym (same_Some y x (sym (ap F t) ∙ e))) ∙ t
-          at false t more =
-              let F : Bool → Option A = λ z. if z then Some y else find test ys in
-              more (sym (ap F t) ∙ e)
-
       served : (g : Guarded) (b : Bool) → serves w clear.depth trace g ≡ b → object_named w name.object ≡ Some g
           → Entered (Enter name values) (first_way bs) c
       served g false s e = inr (inr (g, e, s))
@@ -172,7 +145,7 @@ module _ (w : Software) (clear : IsClear w) (trace : List Event) where
           let pairs = found-each (λ h. same_name h.name name.object) (λ h. serves w clear.depth trace h ≡ true
           → Pairs (AlikeAt most h) (moments (By time task (Enter name values) ∷ told) bs)
           (moments (By time task (Enter name values) ∷ told) (waysof data' (By time task (Enter name values) ∷ told)))) w.shared g all e s in
-          let named : same_name g.name name.object ≡ true = tested (λ h. same_name h.name name.object) w.shared g e in
+          let named : same_name g.name name.object ≡ true = found-passes (λ h. same_name h.name name.object) w.shared g e in
           let turned : same_name name.object g.name ≡ true =
           (bytes_eq-Decides name.object g.name).1 (sym ((bytes_eq-Decides g.name name.object).0 named)) in
           elim (pairs.0 time task name values refl turned) [
@@ -298,11 +271,11 @@ module _ (w : Software) (clear : IsClear w) (trace : List Event) where
   good-step : (p : Placed) (ps : List Placed) → IsGood (p ∷ ps) → (name : OpName) (values : List ℕ) → p.step.deed ≡ Enter name values
       → IsBad name.object → ⊥
   good-step p ps good name values e bad =
-      let here = (false-parts (enters name.object p.step.deed) (enters_any name.object ps) (good name.object bad.0 bad.1 bad.2)).0 in
+      let here = (or_parts (enters name.object p.step.deed) (enters_any name.object ps) (good name.object bad.0 bad.1 bad.2)).0 in
       wrong (sym (ap (enters name.object) e ∙ (bytes_eq-Decides name.object name.object).1 refl) ∙ here)
 
   good-rest : (p : Placed) (ps : List Placed) → IsGood (p ∷ ps) → IsGood ps
-  good-rest p ps good object g found bad = (false-parts (enters object p.step.deed) (enters_any object ps) (good object g found bad)).1
+  good-rest p ps good object g found bad = (or_parts (enters object p.step.deed) (enters_any object ps) (good object g found bad)).1
 
   sums-least : (ps qs : List Placed) → Pairs Pair ps qs → IsGood ps → least_inside qs ≤ least_inside ps
   sums-least [] [] h good = omega arith
@@ -339,7 +312,7 @@ module _ (w : Software) (clear : IsClear w) (trace : List Event) where
   among-good a e object g found bad =
       let one = found-each (λ h. same_name h.name object) (λ h. (not (enters_in h.name a) || serves w clear.depth trace h) ≡ true) w.shared g
       (all-true (λ h. not (enters_in h.name a) || serves w clear.depth trace h) w.shared e) found in
-      let named : g.name ≡ object = (bytes_eq-Decides g.name object).0 (tested w.shared found) in
+      let named : g.name ≡ object = (bytes_eq-Decides g.name object).0 (found-passes w.shared found) in
       ap (λ n. enters_in n a) (sym named) ∙ left-out (enters_in g.name a) (serves w clear.depth trace g) bad one
     where
       left-out : (x y : Bool) → y ≡ false → (not x || y) ≡ true → x ≡ false
@@ -351,9 +324,9 @@ module _ (w : Software) (clear : IsClear w) (trace : List Event) where
       all-true test [] h = tt
       all-true test (x ∷ xs) h = let p = and_parts (test x) (list_all test xs) h in (p.0, all-true test xs p.1)
 
-      tested : (gs : List Guarded) → find (λ h. same_name h.name object) gs ≡ Some g → same_name g.name object ≡ true
-      tested [] f = absurd (none-some g f)
-      tested (x ∷ xs) f = at (same_name x.name object) refl (tested xs)
+      found-passes : (gs : List Guarded) → find (λ h. same_name h.name object) gs ≡ Some g → same_name g.name object ≡ true
+      found-passes [] f = absurd (none-some g f)
+      found-passes (x ∷ xs) f = at (same_name x.name object) refl (found-passes xs)
         where
           at : (b : Bool) → same_name x.name object ≡ b → (find (λ h. same_name h.name object) xs ≡ Some g → same_name g.name object ≡ true)
               → same_name g.name object ≡ true

@@ -6,6 +6,7 @@
 //!
 //! Other crates may cite these proofs of it (`proofs/Shared`):
 //!
+//! - `Finding`: names that differ either way round, and what is found by a test.
 //! - `Joins`: all parts together: each is decided, and they are the machine.
 //! - `Judging`: verdicts: what the checks say is the verdict on a list of events, and a text has one list of events.
 //! - `Leveling`: the levels of a thread's deeds are what is inside its operations.

@@ -5,6 +5,7 @@ use Rattle.std.specs.List.{list_any, position_from, range_with_len}
 use Rattle.std.proofs.Common.{sym, ◌∙◌, ap, arith, inl, inr}
 use Rattle.std.proofs.lemmas.Bool.{or_from, cases_eq}
 use Rattle.std.proofs.lemmas.Option.{same_Some, none-some}
+use Rattle.std.specs.Cmp.{both_ways}
 use Rattle.ods_tree.specs.Flats.{Flat}
 use Rattle.analysis.specs.Priorities.{priorities_of}
 use Rattle.analysis.specs.Sound.{IsSound}
@@ -42,11 +43,6 @@ by-deadline f free i j a b p q less short e g u v =
 -- an order that is filled passes
 pub filled-passes : (f : Flat) (o : List ℕ) → IsSound f → AllExternal f → IsOrder f o → IsFilled f o → Passes f o
 filled-passes f o sound external order filled = pass-by-lasts f o sound external order (λ i own e. (filled i own e).last)
-
-both : (a b : Bool) → (a ≡ true → b ≡ true) → (b ≡ true → a ≡ true) → a ≡ b
-both true b f g = sym (f refl)
-both false true f g = g refl
-both false false f g = refl
 
 pub filter-same : (p q : ℕ → Bool) (xs : List ℕ) → ((k : ℕ) → IsIn k xs → p k ≡ q k) → filter p xs ≡ filter q xs
 filter-same p q [] same = refl
@@ -112,7 +108,7 @@ module _ (f : Flat) (sound : IsSound f) (external : AllExternal f) (o : List ℕ
       stands-place (listed f these) at.0 k at.1
 
   same : SamePlaces these (listed f these)
-  same k = both (has_place these k) (has_place (listed f these) k) (in-listed k) (λ h. (listed-in k h).1)
+  same k = both_ways (has_place these k) (has_place (listed f these) k) (in-listed k) (λ h. (listed-in k h).1)
 
   pub refuted : IsFilledFrom f left o → NoneIsLast f these → IsRefuted f (listed f these)
   refuted filled none = record {

@@ -2,7 +2,7 @@
 use Rattle.std.proofs.Common.{◌≡◌, ℕ, zero, suc, Bool, true, false, not, List, [], ◌∷◌, ◌++◌, map, length, Option, Some, None, refl, sym, ap, subst}
 use Rattle.std.proofs.Common.{◌∙◌, arith}
 use Rattle.std.specs.Prelude.{◌+◌, ◌<◌, slice_get, option_map, option_and_then, unwrap_or, if◌then◌else◌}
-use Rattle.std.proofs.lemmas.Bool.{and_parts, or_parts, ne_eqb}
+use Rattle.std.proofs.lemmas.Bool.{and_parts, or_parts, ne_eqb, not-true}
 use Rattle.std.proofs.lemmas.List.{length-map}
 use Rattle.std.proofs.lemmas.Option.{none-some, same_Some}
 use Rattle.seq_tree.specs.Lists.{first_from}
@@ -14,8 +14,9 @@ use Rattle.ada_tree.specs.Rules.{MeetsRules}
 use Rattle.trace_tree.specs.Lines.{unit_name, unit_ops}
 use Rattle.trace_tree.specs.Placed.{IsUnit, IsOp}
 use Rattle.law_calls.proofs.Shared.Facts.{is-same}
-use Rattle.law_trace_places.proofs.Shared.Units.{item-at, name-is, unit-names, own-distinct, other-way}
+use Rattle.law_trace_places.proofs.Shared.Units.{item-at, name-is, unit-names, own-distinct}
 use Rattle.trace_read.specs.Names.{place_from, head_names, unit_of_name, op_of_name}
+use Rattle.law_traces.proofs.Shared.Finding.{same-turned}
 
 pub place-below : (names : List Name) (i k : ℕ) (n : Name) → place_from i n names ≡ Some k → k < i + length names
 place-below [] i k n e = absurd (none-some k e)
@@ -71,10 +72,6 @@ unit-below p k n e =
     let g : 0 + length (map (λ (x : Unit). x.name) p.units) ≡ length p.units = omega (arith, l) in subst (λ z. k < z) g h
 
 -- OPERATIONS
-not-false : (b : Bool) → not b ≡ true → b ≡ false
-not-false true e = cc
-not-false false e = refl
-
 named-not : (names more : List Name) (k : ℕ) (m n : Name) → is_named (names ++ more) m ≡ false → slice_get names k ≡ Some n → same_name n m ≡ false
 named-not [] more k m n e at = absurd (none-some n at)
 named-not (x ∷ names) more zero m n e at = ap (λ z. same_name z m) (sym (same_Some x n at)) ∙ (or_parts (same_name x m) _ e).0
@@ -86,7 +83,7 @@ distinct-at [] more d j k m n less at to = absurd (none-some m at)
 distinct-at (x ∷ names) more d zero zero m n less at to = absurd (omega (arith, less))
 distinct-at (x ∷ names) more d zero (suc k) m n less at to =
     let p = and_parts (not (is_named (names ++ more) x)) _ d in
-    ap (λ z. same_name z n) (sym (same_Some x m at)) ∙ other-way n x (named-not names more k x n (not-false _ p.0) to)
+    ap (λ z. same_name z n) (sym (same_Some x m at)) ∙ same-turned n x (named-not names more k x n (not-true _ p.0) to)
 distinct-at (x ∷ names) more d (suc j) zero m n less at to = absurd (omega (arith, less))
 distinct-at (x ∷ names) more d (suc j) (suc k) m n less at to =
     distinct-at names more (and_parts (not (is_named (names ++ more) x)) _ d).1 j k m n (omega (arith, less)) at to

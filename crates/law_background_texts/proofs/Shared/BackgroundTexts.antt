@@ -1,7 +1,7 @@
 -- The text of a design with background objects that was read from a text: its tokens are those of the design's program, so it is guaranteed.
-use Rattle.std.proofs.Common.{◌≡◌, ℕ, ◌+◌, ◌-◌, ◌≤◌, Bool, true, false, List, [], ◌∷◌, zip, length, max, Option, Some, None, Ok}
+use Rattle.std.proofs.Common.{◌≡◌, ℕ, ◌+◌, ◌-◌, ◌≤◌, Bool, true, false, List, zip, length, max, Ok}
 use Rattle.std.proofs.Common.{refl, sym, ap, subst, ◌∙◌, arith, le_trans, if◌then◌else◌}
-use Rattle.std.specs.List.{list_all, AllZip}
+use Rattle.std.specs.List.{list_all}
 use Rattle.std.proofs.lemmas.Bool.{and_parts, and_from}
 use Rattle.seq_tree.specs.Lexis.{tokens, plain}
 use Rattle.seq_print.proofs.Shared.TokenForms.{tokens-readable}
@@ -10,18 +10,15 @@ use Rattle.ods_tree.specs.Designs.{Design}
 use Rattle.ods_tree.specs.Walk.{Standing, objects}
 use Rattle.ods_tree.specs.Reading.{Reads}
 use Rattle.ods_tree.specs.Spelling.{design_tokens}
-use Rattle.ods_tree.specs.Ticks.{ticked, in_ticks, first_priority}
-use Rattle.ods_tree.specs.Flats.{Timing, Cyclic, Sporadic, Thread, period_of}
+use Rattle.ods_tree.specs.Ticks.{in_ticks, first_priority}
+use Rattle.ods_tree.specs.Flats.{Cyclic, Thread, period_of}
 use Rattle.ods_tree.specs.Flattening.{threads, flat}
-use Rattle.ods_tree.specs.Sound.{is_within, is_timed, is_in_range}
-use Rattle.ods_tree.specs.declared.design.VersionTwo.{VersionTwo}
+use Rattle.ods_tree.specs.Sound.{is_timed, is_in_range}
 use Rattle.ods_tree.proofs.Shared.TickLaws.{ticks-version}
 use Rattle.ada_tree.specs.Spelling.{program_tokens}
 use Rattle.ada_print.specs.Writable.{is_word, is_number, is_writable}
-use Rattle.rt_response.specs.declared.rows.ThreadRow.{ThreadRow}
 use Rattle.rt_response.specs.declared.rows.Bound.{Bound}
 use Rattle.rt_response.specs.Response.{Fits}
-use Rattle.rt_response.specs.Tables as rows
 use Rattle.analysis.specs.Sound.{IsSound}
 use Rattle.analysis.specs.Ceilings.{ranks}
 use Rattle.guarantee.specs.Programs.{program, stated_ranks}
@@ -34,12 +31,13 @@ use Rattle.law_designs.proofs.Shared.SoundDesigns.{flat-sound}
 use Rattle.law_designs.proofs.Shared.Units.{unit-from, from-zip}
 use Rattle.law_designs.proofs.Shared.ProperTicks.{proper-in-ticks}
 use Rattle.law_calls.proofs.Shared.Lists.{IsIn}
-use Rattle.ada_gen.specs.Heads.{is_thread_writable, is_bound_writable, is_head_writable}
+use Rattle.ada_gen.specs.Heads.{is_thread_writable, is_head_writable}
 use Rattle.ada_gen.proofs.Shared.HeadLaws.{text-back}
 use Rattle.law_texts.proofs.Shared.LegibleObjects.{IsLegibleObject, objects-legible, name-legible}
 use Rattle.law_texts.proofs.Shared.LegibleTicks.{legible-in-ticks}
 use Rattle.law_texts.proofs.Shared.LegibleDesigns.{number_below, costs-read, thread-named, unit-read}
 use Rattle.law_texts.proofs.Shared.LegibleUnits.{IsLegibleUnit, program-legible}
+use Rattle.law_texts.proofs.Shared.WrittenTexts.{bounds-read, ticked-name, period-in}
 use Rattle.background_designs.specs.Clients.{is_client_name}
 use Rattle.background_designs.specs.HardParts.{hard_part}
 use Rattle.background_designs.specs.Refusals.{IsBackgroundDesign, Hard, Requests}
@@ -53,27 +51,6 @@ use Rattle.law_backgrounds.proofs.Shared.ProperHard.{hard-are-proper}
 use Rattle.law_backgrounds.proofs.Shared.BackgroundPrograms.{program-raised}
 use Rattle.law_backgrounds.proofs.Shared.BackgroundRuns.{quick, guaranteed, hard-table}
 use Rattle.law_background_texts.proofs.LegibleHard.{hard-are-legible, lift-legible}
-
--- bounds that fit can be read
-bounds-read : (n : ℕ) (rs : List ThreadRow) (v : List Bound) → rows.Each (rows.IsRow n) rs
-    → AllZip (λ (row : ThreadRow) (b : Bound). (b.response ≤ row.deadline) × (b.jitter + b.response ≤ row.period)) rs v
-    → list_all is_bound_writable v ≡ true
-bounds-read n [] [] h k = refl
-bounds-read n [] (b ∷ v) h k = absurd k
-bounds-read n (r ∷ rs) [] h k = absurd k
-bounds-read n (r ∷ rs) (b ∷ v) h k =
-    let period : r.period ≤ 1000000000 = h.0.period in
-    let sum : b.jitter + b.response ≤ r.period = k.0.1 in
-    and_from _ _ (and_from _ _ (number_below b.jitter (omega (arith, period, sum))) (number_below b.response (omega (arith, period, sum))))
-    (bounds-read n rs v h.1 k.1)
-
-ticked-name : (v : Option VersionTwo) (x : Design) → (ticked v x).name ≡ x.name
-ticked-name None x = refl
-ticked-name (Some v) x = refl
-
-period-in : (u : Timing) → is_timed u ≡ true → period_of u ≤ 1000000000
-period-in (Cyclic period offset) e = (within-true 1 1000000000 period (and_parts (is_within 1 1000000000 period) _ e).0).1
-period-in (Sporadic op separation jitter) e = (within-true 1 1000000000 separation (and_parts (is_within 1 1000000000 separation) _ e).0).1
 
 module _ (written : Design) (bytes : List ℕ) (reads : Reads bytes written) (passes : IsBackgroundDesign written) where
   abbrev x : Design

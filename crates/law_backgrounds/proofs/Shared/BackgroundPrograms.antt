@@ -111,7 +111,7 @@ zip-front (suc k) [] v h = refl
 zip-front (suc k) (x ∷ xs) [] h = refl
 zip-front (suc k) (x ∷ xs) (b ∷ v) h = ap (λ zs. (x, b) ∷ zs) (zip-front k xs v (omega (arith, h)))
 
-take-few : {A : Type 0} (k : ℕ) (xs : List A) → length (take k xs) ≤ k
+pub take-few : {A : Type 0} (k : ℕ) (xs : List A) → length (take k xs) ≤ k
 take-few zero [] = omega arith
 take-few zero (x ∷ xs) = omega arith
 take-few (suc k) [] = omega arith

@@ -1,5 +1,5 @@
 -- Every run of the program of a design with background objects is right, where bounds fit the rows of its hard threads.
-use Rattle.std.specs.Prelude.{◌≡◌, ℕ, zero, suc, ◌-◌, ◌≤◌, Bool, true, false, not, List, [], ◌∷◌, ◌++◌, refl, map, take, length, Some, slice_get, Ok}
+use Rattle.std.specs.Prelude.{◌≡◌, ℕ, ◌-◌, ◌≤◌, Bool, true, false, not, List, [], ◌∷◌, ◌++◌, refl, map, take, length, Some, slice_get, Ok}
 use Rattle.std.proofs.Common.{sym, ◌∙◌, ap, ap₂, subst, arith}
 use Rattle.std.proofs.lemmas.Bool.{true≢false}
 use Rattle.seq_tree.specs.Names.{Name}
@@ -10,7 +10,6 @@ use Rattle.ods_tree.specs.Designs.{Object, Design}
 use Rattle.ods_tree.specs.Words.{is_design_name}
 use Rattle.ods_tree.specs.Proper.{IsProperDesign}
 use Rattle.ods_tree.specs.Ticks.{in_ticks}
-use Rattle.ods_tree.specs.Flats.{Thread, Flat}
 use Rattle.ods_tree.specs.Flats as timing
 use Rattle.ods_tree.specs.Flattening.{threads, flat}
 use Rattle.ods_tree.proofs.Shared.TickLaws.{ticks-version}
@@ -66,13 +65,7 @@ use Rattle.law_backgrounds.proofs.Shared.Lifts.{lifted}
 use Rattle.law_backgrounds.proofs.LiftedTables.{retask, retime, passive-same, shared-same, tasks-lifted}
 use Rattle.law_backgrounds.proofs.Retimed.{retimed, written-back, kept-on}
 use Rattle.law_backgrounds.proofs.RestlessLaw.{task_at_once}
-use Rattle.law_backgrounds.proofs.Shared.BackgroundPrograms.{sound, readable, ts, program-raised, hard-tabled, hard-times, hard-stands}
-
-take-few : {A : Type 0} (k : ℕ) (xs : List A) → length (take k xs) ≤ k
-take-few zero [] = omega arith
-take-few zero (x ∷ xs) = omega arith
-take-few (suc k) [] = omega arith
-take-few (suc k) (x ∷ xs) = let r = take-few k xs in omega (arith, r)
+use Rattle.law_backgrounds.proofs.Shared.BackgroundPrograms.{sound, readable, ts, program-raised, hard-tabled, hard-times, hard-stands, take-few}
 
 -- software of a raised program
 software-raised : (least : ℕ) (e : Name → Bool) (p : Program) → program_software (lifted least e p) ≡ retimed e (program_software p)

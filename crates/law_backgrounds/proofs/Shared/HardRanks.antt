@@ -33,7 +33,7 @@ use Rattle.law_backgrounds.proofs.Shared.HardThreads.{OfClient, client-thread, o
 use Rattle.law_backgrounds.proofs.SlowPriorities.{slow_count, slow-low, fast-high}
 
 -- names that differ still do so in the last part
-distinct-last : (ms ns : List Name) → are_distinct (ms ++ ns) ≡ true → are_distinct ns ≡ true
+pub distinct-last : (ms ns : List Name) → are_distinct (ms ++ ns) ≡ true → are_distinct ns ≡ true
 distinct-last [] ns h = h
 distinct-last (m ∷ ms) ns h = distinct-last ms ns (and_parts _ (are_distinct (ms ++ ns)) h).1
 
@@ -56,7 +56,7 @@ length-entries f ps (q ∷ qs) = by (entry_by f ps q) (length-entries f ps qs)
     by None h = omega (arith, h)
     by (Some e) h = omega (arith, h)
 
-length-downwards : (n : ℕ) → length (downwards n) ≡ n
+pub length-downwards : (n : ℕ) → length (downwards n) ≡ n
 length-downwards zero = refl
 length-downwards (suc n) = ap suc (length-downwards n)
 

@@ -1,8 +1,9 @@
 -- Two orders that are filled from their lowest places have the same thread at each filled place, and the same threads left.
-use Rattle.std.specs.Prelude.{◌≡◌, ◌⊎◌, ℕ, zero, suc, ◌+◌, ◌-◌, ◌≤◌, ◌<◌, true, Bool, false, List, length, take, slice_get, Some, refl}
+use Rattle.std.specs.Prelude.{◌≡◌, ◌⊎◌, ℕ, zero, suc, ◌+◌, ◌-◌, ◌≤◌, ◌<◌, true, List, length, take, slice_get, Some, refl}
 use Rattle.std.proofs.Common.{sym, ◌∙◌, ap, subst, arith, inl, inr}
 use Rattle.std.proofs.lemmas.Bool.{cases_lt}
 use Rattle.std.proofs.lemmas.Option.{same_Some, slice_get_within}
+use Rattle.std.specs.Cmp.{both_ways}
 use Rattle.ods_tree.specs.Flats.{Flat}
 use Rattle.analysis.specs.Priorities.{priorities_of}
 use Rattle.analysis.specs.Sound.{IsSound}
@@ -38,17 +39,12 @@ front-within n i f a b is order-a order-b agree k h =
         let clash : d ≡ r = order-once (length f.threads) a order-a d r k (own.1 ∙ ap Some same) e in
         absurd (omega (arith, clash, short, high))
 
-both : (a b : Bool) → (a ≡ true → b ≡ true) → (b ≡ true → a ≡ true) → a ≡ b
-both true b f g = sym (f refl)
-both false true f g = g refl
-both false false f g = refl
-
 agree-back : (i : ℕ) (a b : List ℕ) → AgreeFrom i a b → AgreeFrom i b a
 agree-back i a b agree j x y low e g = sym (agree j y x low g e)
 
 pub front-same : (i : ℕ) (f : Flat) (a b : List ℕ) → IsOrder f a → IsOrder f b → AgreeFrom i a b → SamePlaces (take i a) (take i b)
 front-same i f a b order-a order-b agree k =
-    both (has_place (take i a) k) (has_place (take i b) k) (front-within (length f.threads) i f a b refl order-a order-b agree k)
+    both_ways (has_place (take i a) k) (has_place (take i b) k) (front-within (length f.threads) i f a b refl order-a order-b agree k)
     (front-within (length f.threads) i f b a refl order-b order-a (agree-back i a b agree) k)
 
 -- two threads of which each is the lowest of the same threads are one

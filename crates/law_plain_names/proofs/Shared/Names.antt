@@ -1,11 +1,11 @@
 -- The names of units and of their operations, by the objects that they are from.
-use Rattle.std.proofs.Common.{◌≡◌, inl, inr, ℕ, true, List, [], ◌∷◌, map, zip, Some, None, refl, sym, ap, subst, ◌∙◌}
+use Rattle.std.proofs.Common.{◌≡◌, inl, inr, ℕ, true, List, [], ◌∷◌, map, zip, Some, refl, sym, ap, subst, ◌∙◌}
 use Rattle.std.specs.List.{list_all}
 use Rattle.seq_tree.specs.Lists.{Each}
 use Rattle.seq_tree.specs.Operations.{Signature, Operation}
 use Rattle.seq_print.specs.Readable.{is_readable}
 use Rattle.seq_print.proofs.Shared.TokenForms.{tokens-readable}
-use Rattle.ods_tree.specs.Designs.{Provided, Design}
+use Rattle.ods_tree.specs.Designs.{Design}
 use Rattle.ods_tree.specs.Walk.{Standing, objects, terminals}
 use Rattle.ods_tree.specs.Reading.{Reads}
 use Rattle.ods_tree.specs.Spelling.{design_tokens}
@@ -24,13 +24,9 @@ use Rattle.law_designs.proofs.Shared.Flattened.{OfCyclic, OfSporadic, timing-of}
 use Rattle.law_designs.proofs.Shared.Units.{UnitFrom, OfLibrary, OfGuarded, OfThread, unit-from, from-zip}
 use Rattle.law_texts.proofs.Shared.LegibleObjects.{IsLegibleObject, objects-legible}
 use Rattle.law_texts.proofs.Shared.LegibleTicks.{legible-in-ticks}
-use Rattle.law_texts.proofs.Shared.LegibleDesigns.{thread-named}
+use Rattle.law_texts.proofs.Shared.LegibleDesigns.{thread-named, request-in}
 use Rattle.law_trace_lines.specs.Told.{IsPlain, HasPlainNames}
 use Rattle.law_plain_names.proofs.Bytes.{plain}
-
-request-in : (ps : List Provided) (sig : Signature) → request_op ps ≡ Some sig → (p : Provided) × IsIn p ps × (p.sig ≡ sig)
-request-in [] sig e = absurd (let z : None ≡ Some sig = e in cc)
-request-in (p ∷ ps) sig e = (p, inl refl, (let z : Some p.sig ≡ Some sig = e in cc))
 
 abbrev AreNamed : List Signature → Type 0
 AreNamed hs = Each (λ h. is_word h.name ≡ true) hs

@@ -1,8 +1,7 @@
 -- The ways of objects that are served are those that are computed of the whole trace; those of broken objects are asked of no activation.
 use Rattle.std.proofs.Common.{◌≡◌, ℕ, Bool, true, false, ◌&&◌, ◌||◌, List, [], ◌∷◌, ◌++◌, drop, Option, Some, None}
 use Rattle.std.proofs.Common.{refl, sym, ap, subst, ◌∙◌}
-use Rattle.std.specs.Prelude.{find, bytes_eq, if◌then◌else◌, ⊤}
-use Rattle.std.proofs.lemmas.Option.{same_Some, none-some}
+use Rattle.std.specs.Prelude.{bytes_eq, if◌then◌else◌, ⊤}
 use Rattle.std.proofs.lemmas.Slice.Eq.{bytes_eq-Decides}
 use Rattle.seq_tree.specs.Names.{Name, same_name}
 use Rattle.seq_tree.specs.Operations.{Operation}
@@ -14,6 +13,7 @@ use Rattle.guarantee.specs.Events.{Deed, Release, Arrive, Enter, Leave, Request,
 use Rattle.guarantee.specs.Steps.{first_way}
 use Rattle.law_traces.specs.Checks.{scripted, run_along, begins_along, run_of, op_named, object_named, body_by}
 use Rattle.law_traces.specs.Checks.{is_passage, is_passed, does_in, endless, body_in, way_of, way_in, kept_in, data_after, ways_from}
+use Rattle.law_traces.proofs.Shared.Finding.{found-passes}
 use Rattle.law_scripts.specs.Entries.{Entry, entry_at, entries_in}
 use Rattle.law_scripts.specs.Services.{Service, Free, Inside, Last, Broken, is_sound, inside_by, last_by, ran_by, entered_by, entered_in, left_in}
 use Rattle.law_scripts.specs.Services.{charge_by, run_by_op, charge_in, served_by, served_from, changed_by, charge_for, charge_at, charges_from}
@@ -44,21 +44,9 @@ charge-way most false o = (refl, refl)
 charge-way most true None = (refl, refl)
 charge-way most true (Some p) = (refl, refl)
 
-tested : {A : Type 0} (test : A → Bool) (xs : List A) (x : A) → find test xs ≡ Some x → test x ≡ true
-tested test [] x e = absurd (none-some x e)
-tested {A} test (y ∷ ys) x e = at (test y) refl (tested test ys x)
-  where
-    at : (b : Bool) → test y ≡ b → (find test ys ≡ Some x → test x ≡ true) → test x ≡ true
-    at true t more =
-        let F : Bool → Option A = λ z. if z then Some y else find test ys in
-        ap test (sym (same_Some y x (sym (ap F t) ∙ e))) ∙ t
-    at false t more =
-        let F : Bool → Option A = λ z. if z then Some y else find test ys in
-        more (sym (ap F t) ∙ e)
-
 -- an object that is found has the name that it is found by
 pub found-name : (w : Software) (object : Name) (g : Guarded) → object_named w object ≡ Some g → g.name ≡ object
-found-name w object g e = (bytes_eq-Decides g.name object).0 (tested (λ h. same_name h.name object) w.shared g e)
+found-name w object g e = (bytes_eq-Decides g.name object).0 (found-passes (λ h. same_name h.name object) w.shared g e)
 
 module _ (w : Software) (depth most : ℕ) where
   abbrev pub Owns : Guarded → Type 0

@@ -5,6 +5,7 @@ use Rattle.std.proofs.Common.{refl, sym, ap, ◌∙◌}
 use Rattle.std.specs.Prelude.{bytes_eq, if◌then◌else◌}
 use Rattle.std.specs.List.{cons_option}
 use Rattle.std.proofs.lemmas.Slice.Eq.{bytes_eq-Decides}
+use Rattle.std.proofs.Math.Bool.{and-false}
 use Rattle.seq_tree.specs.Names.{Name, same_name}
 use Rattle.seq_tree.specs.Operations.{Operation, out_names}
 use Rattle.seq_tree.specs.Variables.{Variables, written, kept, reads, opened}
@@ -25,10 +26,6 @@ use Rattle.law_scripts.specs.Services.{served_from}
 
 pub wrong : {A : Type 0} → true ≡ false → A
 wrong e = absurd (cc)
-
-and-false : (b : Bool) → (b && false) ≡ false
-and-false true = refl
-and-false false = refl
 
 module _ (w : Software) (depth : ℕ) (g : Guarded) where
   -- what the passages that are left say of an object

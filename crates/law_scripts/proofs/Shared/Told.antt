@@ -3,7 +3,7 @@ use Rattle.std.proofs.Common.{◌≡◌, ℕ, Bool, true, false, not, ◌&&◌, 
 use Rattle.std.proofs.Common.{refl, sym, ap, ◌∙◌}
 use Rattle.std.specs.Prelude.{find, unwrap_or, option_map, if◌then◌else◌}
 use Rattle.std.specs.List.{list_any, list_all}
-use Rattle.std.proofs.lemmas.Bool.{and_parts}
+use Rattle.std.proofs.lemmas.Bool.{and_parts, or_parts, not-true}
 use Rattle.std.proofs.lemmas.Slice.Eq.{bytes_eq-Decides}
 use Rattle.seq_tree.specs.Names.{Name, same_name, is_named, are_distinct}
 use Rattle.seq_tree.specs.Variables.{written}
@@ -13,28 +13,13 @@ use Rattle.guarantee.specs.Events.{Deed, Release, Arrive, Enter, Leave, Request,
 use Rattle.guarantee.specs.Steps.{Placed}
 use Rattle.law_traces.specs.Parts.{enters}
 use Rattle.law_traces.specs.Checks.{object_named, written_in, most_used, ways, serves, follows, is_among_served}
+use Rattle.law_traces.proofs.Shared.Finding.{same-turned}
 use Rattle.law_scripts.specs.Entries.{entries_in}
 use Rattle.law_scripts.specs.Services.{Service, Free, is_sound, served_from, charges_from, is_served}
 use Rattle.law_scripts.specs.Progress.{Idle, is_good, is_well, moved_from}
 use Rattle.law_scripts.proofs.Courses.{from-idle}
-use Rattle.law_scripts.proofs.Shared.Served.{wrong, served-sound}
+use Rattle.law_scripts.proofs.Shared.Served.{served-sound}
 use Rattle.law_scripts.proofs.Shared.Charged.{Owns, Kept, charged-from}
-
-same-turned : (a b : Name) → same_name a b ≡ false → same_name b a ≡ false
-same-turned a b e = by (same_name b a) refl
-  where
-    by : (z : Bool) → same_name b a ≡ z → z ≡ false
-    by true h = wrong (sym ((bytes_eq-Decides a b).1 (sym ((bytes_eq-Decides b a).0 h))) ∙ e)
-    by false h = refl
-
-false-parts : (a b : Bool) → (a || b) ≡ false → (a ≡ false) × (b ≡ false)
-false-parts false false e = (refl, refl)
-false-parts false true e = wrong e
-false-parts true b e = wrong e
-
-not-false : (b : Bool) → not b ≡ true → b ≡ false
-not-false true e = wrong (sym e)
-not-false false e = refl
 
 module _ (serving : Guarded → Bool) where
   abbrev enters_any : Name → List Placed → Bool
@@ -79,7 +64,7 @@ module _ (serving : Guarded → Bool) where
   none-named : (object : Name) (gs : List Guarded) → is_named (map (λ g. g.name) gs) object ≡ false → all_named object gs ≡ true
   none-named object [] e = refl
   none-named object (g ∷ gs) e =
-      let p = false-parts (same_name g.name object) _ e in
+      let p = or_parts (same_name g.name object) _ e in
       ap (λ z. (not (z || false) || serving g) && all_named object gs) (same-turned g.name object p.0) ∙ none-named object gs p.1
 
   one-named : (object : Name) (gs : List Guarded) → are_distinct (map (λ g. g.name) gs) ≡ true
@@ -103,7 +88,7 @@ module _ (serving : Guarded → Bool) where
           let turned : same_name object g.name ≡ true = (bytes_eq-Decides object g.name).1 (sym same) in
           let F : Bool → Option Guarded = λ z. if z then Some g else rest in
           ap (λ z. (not (z || false) || serving g) && all_named object gs) turned
-          ∙ ap (λ z. serving g && z) (none-named object gs (ap (λ n. is_named (map (λ h. h.name) gs) n) (sym same) ∙ not-false _ other))
+          ∙ ap (λ z. serving g && z) (none-named object gs (ap (λ n. is_named (map (λ h. h.name) gs) n) (sym same) ∙ not-true _ other))
           ∙ only (serving g) ∙ ap (is_served serving) (sym (ap F f))
       by false f other more =
           let F : Bool → Option Guarded = λ z. if z then Some g else rest in

@@ -43,7 +43,7 @@ use Rattle.law_texts.proofs.Shared.LegibleUnits.{IsLegibleForm, IsLegibleUnit, A
 pub number_below : (n : ℕ) → n ≤ 1000000000 → is_number n ≡ true
 number_below n h = grind arith
 
-number_inside : (n : ℕ) → is_outside 1 60 n ≡ false → is_number n ≡ true
+pub number_inside : (n : ℕ) → is_outside 1 60 n ≡ false → is_number n ≡ true
 number_inside n h = grind arith
 
 jitter_below : (jitter : Option ℕ) (separation : ℕ) → separation ≤ 1000000000 → is_below jitter separation ≡ true
@@ -66,7 +66,7 @@ costs-read c h = record {
 }
 
 -- the request is one of the operations that are provided
-request-in : (ps : List Provided) (sig : Signature) → request_op ps ≡ Some sig → (p : Provided) × IsIn p ps × (p.sig ≡ sig)
+pub request-in : (ps : List Provided) (sig : Signature) → request_op ps ≡ Some sig → (p : Provided) × IsIn p ps × (p.sig ≡ sig)
 request-in [] sig e = absurd (let z : None ≡ Some sig = e in cc)
 request-in (p ∷ ps) sig e = (p, inl refl, (let z : Some p.sig ≡ Some sig = e in cc))
 

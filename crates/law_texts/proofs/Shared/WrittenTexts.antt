@@ -1,5 +1,5 @@
 -- The text of a design that was read from a text: its tokens are those of the design's program, and so it is guaranteed for the design.
-use Rattle.std.proofs.Common.{◌≡◌, ℕ, suc, ◌+◌, ◌≤◌, true, false, List, [], ◌∷◌, zip, length, Option, Some, None, Ok}
+use Rattle.std.proofs.Common.{◌≡◌, ℕ, suc, ◌+◌, ◌≤◌, true, List, [], ◌∷◌, zip, length, Option, Some, None, Ok}
 use Rattle.std.proofs.Common.{refl, sym, ap, ◌∙◌, inl, inr, arith, le_trans}
 use Rattle.std.specs.List.{list_all, AllZip}
 use Rattle.std.proofs.lemmas.Bool.{and_parts, and_from}
@@ -18,8 +18,7 @@ use Rattle.ods_tree.specs.declared.design.VersionTwo.{VersionTwo}
 use Rattle.ods_tree.proofs.Shared.TickLaws.{ticks-version}
 use Rattle.ada_tree.specs.Spelling.{program_tokens}
 use Rattle.ada_tree.specs.Reading.{Accepts}
-use Rattle.ada_tree.specs.Ranges.{is_outside}
-use Rattle.ada_print.specs.Writable.{is_word, is_number}
+use Rattle.ada_print.specs.Writable.{is_word}
 use Rattle.rt_response.specs.declared.rows.ThreadRow.{ThreadRow}
 use Rattle.rt_response.specs.declared.rows.Bound.{Bound}
 use Rattle.rt_response.specs.Response.{Fits}
@@ -45,7 +44,7 @@ use Rattle.ada_gen.specs.Heads.{is_thread_writable, is_bound_writable, is_head_w
 use Rattle.ada_gen.proofs.Shared.HeadLaws.{text-back}
 use Rattle.law_texts.proofs.Shared.LegibleObjects.{IsLegibleObject, objects-legible, name-legible}
 use Rattle.law_texts.proofs.Shared.LegibleTicks.{legible-in-ticks}
-use Rattle.law_texts.proofs.Shared.LegibleDesigns.{number_below, thread-named, program-written}
+use Rattle.law_texts.proofs.Shared.LegibleDesigns.{number_below, thread-named, program-written, number_inside}
 
 -- a pair stands among triples of lists that are as long
 third : {A : Type 0} (xs : List A) (ys zs : List ℕ) (x : A) (y : ℕ) → length zs ≡ length ys → IsIn (x, y) (zip xs ys)
@@ -57,16 +56,13 @@ third (a ∷ xs) (b ∷ ys) (c ∷ zs) x y e (inl h) = (c, inl (ap (λ p. (p.0, 
 third (a ∷ xs) (b ∷ ys) (c ∷ zs) x y e (inr h) = (let r = third xs ys zs x y (let z : suc (length zs) ≡ suc (length ys) = e in cc) h
     in (r.0, inr r.1))
 
-number_inside : (n : ℕ) → is_outside 1 60 n ≡ false → is_number n ≡ true
-number_inside n h = grind arith
-
 -- periods and separations that are in their range
-period-in : (u : Timing) → is_timed u ≡ true → period_of u ≤ 1000000000
+pub period-in : (u : Timing) → is_timed u ≡ true → period_of u ≤ 1000000000
 period-in (Cyclic period offset) e = (within-true 1 1000000000 period (and_parts (is_within 1 1000000000 period) _ e).0).1
 period-in (Sporadic op separation jitter) e = (within-true 1 1000000000 separation (and_parts (is_within 1 1000000000 separation) _ e).0).1
 
 -- bounds that fit can be read
-bounds-read : (n : ℕ) (rs : List ThreadRow) (v : List Bound) → rows.Each (rows.IsRow n) rs
+pub bounds-read : (n : ℕ) (rs : List ThreadRow) (v : List Bound) → rows.Each (rows.IsRow n) rs
     → AllZip (λ (row : ThreadRow) (b : Bound). (b.response ≤ row.deadline) × (b.jitter + b.response ≤ row.period)) rs v
     → list_all is_bound_writable v ≡ true
 bounds-read n [] [] h k = refl
@@ -78,7 +74,7 @@ bounds-read n (r ∷ rs) (b ∷ v) h k =
     and_from _ _ (and_from _ _ (number_below b.jitter (omega (arith, period, sum))) (number_below b.response (omega (arith, period, sum))))
     (bounds-read n rs v h.1 k.1)
 
-ticked-name : (v : Option VersionTwo) (x : Design) → (ticked v x).name ≡ x.name
+pub ticked-name : (v : Option VersionTwo) (x : Design) → (ticked v x).name ≡ x.name
 ticked-name None x = refl
 ticked-name (Some v) x = refl
 

@@ -94,10 +94,10 @@ decimal-plain : (n : ℕ) → IsTicks n → IsPlain (decimal n)
 decimal-plain n h = (decimal-lacks 10 n (omega arith) h, decimal-lacks 32 n (omega arith) h, decimal-lacks 46 n (omega arith) h)
 
 -- NAMES
-each_at : {A : Type 0} (P : A → Type 0) (xs : List A) (i : ℕ) (x : A) → Each P xs → slice_get xs i ≡ Some x → P x
-each_at P [] i x h e = absurd (none-some x e)
-each_at P (y ∷ ys) zero x h e = subst P (same_Some y x e) h.0
-each_at P (y ∷ ys) (suc i) x h e = each_at P ys i x h.1 e
+pub each-at : {A : Type 0} (P : A → Type 0) (xs : List A) (i : ℕ) (x : A) → Each P xs → slice_get xs i ≡ Some x → P x
+each-at P [] i x h e = absurd (none-some x e)
+each-at P (y ∷ ys) zero x h e = subst P (same_Some y x e) h.0
+each-at P (y ∷ ys) (suc i) x h e = each-at P ys i x h.1 e
 
 abbrev IsPlainUnit : Unit → Type 0
 IsPlainUnit u = IsPlain u.name × Each (λ h. IsPlain h.name) (heads u.form)
@@ -109,7 +109,7 @@ plain-by name (Some x) one = one x refl
 module _ (p : Program) (plain : HasPlainNames p) where
   pub unit-plain : (k : ℕ) → IsPlain (unit_name p k)
   unfolding unit_name
-  unit-plain k = plain-by (λ u. u.name) (slice_get p.units k) (λ u e. (each_at IsPlainUnit p.units k u plain e).0)
+  unit-plain k = plain-by (λ u. u.name) (slice_get p.units k) (λ u e. (each-at IsPlainUnit p.units k u plain e).0)
 
   ops-plain : (o : Option Unit) → ((u : Unit) → o ≡ Some u → IsPlainUnit u)
       → Each (λ h. IsPlain h.name) (unwrap_or (option_map (λ u. heads u.form) o) [])
@@ -120,8 +120,8 @@ module _ (p : Program) (plain : HasPlainNames p) where
   unfolding unit_ops
   op-plain unit op =
       plain-by (λ o. o.name) (slice_get (unit_ops p unit) op)
-      (λ h e. each_at (λ g. IsPlain g.name) (unit_ops p unit) op h
-      (ops-plain (slice_get p.units unit) (λ u i. each_at IsPlainUnit p.units unit u plain i)) e)
+      (λ h e. each-at (λ g. IsPlain g.name) (unit_ops p unit) op h
+      (ops-plain (slice_get p.units unit) (λ u i. each-at IsPlainUnit p.units unit u plain i)) e)
 
   -- an operation by its names
   pub op-back : (unit op : ℕ) → named_op (cut 46 (op_name p unit op)) ≡ op_at p unit op

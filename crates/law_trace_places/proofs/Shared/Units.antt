@@ -3,7 +3,7 @@ use Rattle.std.proofs.Common.{◌≡◌, ℕ, zero, suc, Bool, true, false, not,
 use Rattle.std.proofs.Common.{◌∙◌, arith}
 use Rattle.std.specs.Prelude.{◌<◌, ◌==◌, ◌||◌, cond, find, filter_map, slice_get, option_map, option_and_then, unwrap_or, is_some}
 use Rattle.std.specs.List.{cons_option, list_any}
-use Rattle.std.proofs.lemmas.Bool.{and_parts, or_parts, eqb-true, eq-eqb, ne_eqb, false_from_ne_true, true≢false}
+use Rattle.std.proofs.lemmas.Bool.{and_parts, or_parts, eqb-true, eq-eqb, ne_eqb, false_from_ne_true, not-true}
 use Rattle.std.specs.Cmp.{both_ways}
 use Rattle.std.proofs.lemmas.Option.{none-some, same_Some}
 use Rattle.seq_tree.specs.Lists.{Each}
@@ -21,24 +21,18 @@ use Rattle.guarantee.specs.Order.{is_task_name}
 use Rattle.guarantee.specs.Events.{op_at}
 use Rattle.law_calls.proofs.Shared.UnitNames.{AreApart}
 use Rattle.law_calls.proofs.Shared.Apart.{units_apart}
-use Rattle.law_calls.proofs.Shared.Facts.{same-is, is-same}
+use Rattle.law_calls.proofs.Shared.Facts.{is-same}
 use Rattle.law_traces.specs.Checks.{object_named, op_named}
+use Rattle.law_traces.proofs.Shared.Finding.{same-turned}
 use Rattle.law_trace_places.specs.Places.{task_in, guarded_in, guarded_at}
 use Rattle.law_trace_places.specs.Laws.{TellsWhatItIs}
+use Rattle.law_trace_lines.proofs.Shared.Events.{each-at}
 
 -- the item at a place inside a list
 pub item-at : {A : Type 0} (xs : List A) (k : ℕ) → k < length xs → (x : A) × (slice_get xs k ≡ Some x)
 item-at [] k h = absurd (omega (arith, h))
 item-at (x ∷ xs) zero h = (x, refl)
 item-at (x ∷ xs) (suc k) h = item-at xs k (let g : suc k < suc (length xs) = h in omega arith)
-
-pub other-way : (a b : Name) → same_name a b ≡ false → same_name b a ≡ false
-other-way a b e = false_from_ne_true (same_name b a) (λ h. true≢false (sym (is-same a b (sym (same-is b a h))) ∙ e))
-
-each-at : {A : Type 0} (P : A → Type 0) (xs : List A) (i : ℕ) (x : A) → Each P xs → slice_get xs i ≡ Some x → P x
-each-at P [] i x h e = absurd (none-some x e)
-each-at P (y ∷ ys) zero x h e = subst P (same_Some y x e) h.0
-each-at P (y ∷ ys) (suc i) x h e = each-at P ys i x h.1 e
 
 -- NAMES of units
 pub suc-same : (i j : ℕ) → (i == j) ≡ (suc i == suc j)
@@ -55,7 +49,7 @@ names-tell (w ∷ us) zero (suc j) u v far at to =
     ∙ sym (ne_eqb zero (suc j) (λ e. let z : zero ≡ suc j = e in absurd (omega (arith, z))))
 names-tell (w ∷ us) (suc i) zero u v far at to =
     ap (λ (x : Unit). same_name u.name x.name) (sym (same_Some w v to))
-    ∙ other-way w.name u.name (each-at (λ z. same_name w.name z.name ≡ false) us i u far.0 at)
+    ∙ same-turned w.name u.name (each-at (λ z. same_name w.name z.name ≡ false) us i u far.0 at)
     ∙ sym (ne_eqb (suc i) zero (λ e. let z : suc i ≡ zero = e in absurd (omega (arith, z))))
 names-tell (w ∷ us) (suc i) (suc j) u v far at to = names-tell us i j u v far.1 at to ∙ suc-same i j
 
@@ -86,7 +80,7 @@ module _ {X : Type 0} (make : Unit → Option X) (called : X → Name) (keeps : 
 
   none-behind : (name : Name) (us : List Unit) → Each (λ v. same_name name v.name ≡ false) us → find (is_it name) (filter_map make us) ≡ None
   none-behind name [] h = refl
-  none-behind name (u ∷ us) h = passed name u us (other-way name u.name h.0) ∙ none-behind name us h.1
+  none-behind name (u ∷ us) h = passed name u us (same-turned name u.name h.0) ∙ none-behind name us h.1
 
   here : (u : Unit) (us : List Unit) → Each (λ v. same_name u.name v.name ≡ false) us → find (is_it u.name) (filter_map make (u ∷ us)) ≡ make u
   here u us h = by (make u) refl
@@ -111,7 +105,7 @@ task-name u t e = by u.name u.form e
     by name (Cyclic priority offset period vars block) h = ap (λ (z : Task). z.name) (sym (same_Some _ t h))
     by name (Sporadic priority ceiling op separation jitter external vars block) h = ap (λ (z : Task). z.name) (sym (same_Some _ t h))
 
-object-name : (u : Unit) (g : Guarded) → guarded_in u ≡ Some g → g.name ≡ u.name
+pub object-name : (u : Unit) (g : Guarded) → guarded_in u ≡ Some g → g.name ≡ u.name
 object-name u g e = by u.name u.form e
   where
     by : (name : Name) (f : Form) → guarded_in (record { name = name; form = f }) ≡ Some g → g.name ≡ name
@@ -136,10 +130,6 @@ named-not (q ∷ ops) more name zero o e at =
     ap (λ (z : Operation). same_name z.sig.name name) (sym (same_Some q o at)) ∙ (or_parts (same_name q.sig.name name) _ e).0
 named-not (q ∷ ops) more name (suc k) o e at = named-not ops more name k o (or_parts (same_name q.sig.name name) _ e).1 at
 
-not-false : (b : Bool) → not b ≡ true → b ≡ false
-not-false true e = cc
-not-false false e = refl
-
 op-found : (ops : List Operation) (more : List Name) (k : ℕ) (o : Operation)
     → are_distinct (map (λ h. h.name) (map (λ q. q.sig) ops) ++ more) ≡ true → slice_get ops k ≡ Some o
     → find (λ q. same_name q.sig.name o.sig.name) ops ≡ Some o
@@ -150,7 +140,7 @@ op-found (q ∷ ops) more zero o e at =
 op-found (q ∷ ops) more (suc k) o e at =
     let d = and_parts (not (is_named (map (λ h. h.name) (map (λ q. q.sig) ops) ++ more) q.sig.name)) _ e in
     ap (λ b. cond b (Some q) (find (λ z. same_name z.sig.name o.sig.name) ops))
-    (other-way o.sig.name q.sig.name (named-not ops more q.sig.name k o (not-false _ d.0) at))
+    (same-turned o.sig.name q.sig.name (named-not ops more q.sig.name k o (not-true _ d.0) at))
     ∙ op-found ops more k o d.1 at
 
 sig-at : (ops : List Operation) (k : ℕ) (o : Operation) → slice_get ops k ≡ Some o → slice_get (map (λ q. q.sig) ops) k ≡ Some o.sig

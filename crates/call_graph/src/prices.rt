@@ -80,7 +80,8 @@ fn deeper<'a, P: CallPlaces>(
     services: &[Served<'_>],
     known: &'a [u32],
 ) -> Result<Vec<u32>, NoMemory>
-    ensures { IfOk result (λ v. v.items ≡ deeper_prices costs.now (known_by (P.places places.entry.now) known.entry.now) (map entry_at services.now)) }
+    ensures { IfOk result (λ v. v.items
+        ≡ deeper_prices costs.now (known_by (P.places places.entry.now) known.entry.now) (map entry_at services.now)) }
 {
     let mut next = Vec::new(alloc);
     'services: for served in services {

@@ -21,8 +21,8 @@ use Rattle.seq_tree.proofs.Shared.LoopSteps.{given_first}
 use Rattle.ods_costs.specs.declared.services.Part.{Part}
 use Rattle.ods_costs.specs.declared.services.Part.TheVariants as part
 
-pub served-same : (x : Design) (own : Part) (object : Name) (look seen : Name → Option Statements) (ps : List Provided) → ((op : Name) → look op ≡ seen op)
-    → served_ops x own object look ps ≡ served_ops x own object seen ps
+pub served-same : (x : Design) (own : Part) (object : Name) (look seen : Name → Option Statements) (ps : List Provided)
+    → ((op : Name) → look op ≡ seen op) → served_ops x own object look ps ≡ served_ops x own object seen ps
 served-same x own object look seen [] same = refl
 served-same x own object look seen (p ∷ ps) same = rw (same p.sig.name, served-same x own object look seen ps same) refl
 
@@ -71,7 +71,8 @@ module _ (x : Design) where
           → map entry_of (map (plain_op o.name)
           (cons_option (option_map (operation_by x p.sig) b)
           (filter_map (λ p. option_map (operation_by x p.sig) (body_named p.sig.name o.bodies)) ps)))
-          ≡ cons_option (option_map (λ b. meant_entry x (record { name = record { object = o.name; op = p.sig.name }; work = work_in part.Plain b }))
+          ≡ cons_option
+          (option_map (λ b. meant_entry x (record { name = record { object = o.name; op = p.sig.name }; work = work_in part.Plain b }))
           (option_map (λ (d : Body). d.block) b)) (served_ops x part.Plain o.name (block_in o) ps)
       by None h = h
       by (Some b) h = ap (λ l. entry_of (plain_op o.name (operation_by x p.sig b)) ∷ l) h
@@ -88,7 +89,8 @@ module _ (x : Design) where
           → map entry_of (map (protected_op o.name)
           (cons_option (option_map (operation_by x p.sig) b)
           (filter_map (λ p. option_map (operation_by x p.sig) (body_named p.sig.name o.bodies)) ps)))
-          ≡ cons_option (option_map (λ b. meant_entry x (record { name = record { object = o.name; op = p.sig.name }; work = work_in part.Guarded b }))
+          ≡ cons_option
+          (option_map (λ b. meant_entry x (record { name = record { object = o.name; op = p.sig.name }; work = work_in part.Guarded b }))
           (option_map (λ (d : Body). d.block) b)) (served_ops x part.Guarded o.name (block_in o) ps)
       by None h = h
       by (Some b) h = ap (λ l. entry_of (protected_op o.name (operation_by x p.sig b)) ∷ l) h
@@ -128,7 +130,8 @@ module _ (x : Design) where
     where
       by : (t p : Bool) → is_terminal s ≡ t → is_protected s.own.kind ≡ p
           → map entry_of (flat_map protected_services (filter_map entry (filter is_terminal ss))) ≡ flat_map (served_part x part.Guarded) ss
-          → map entry_of (flat_map protected_services (filter_map entry (filter is_terminal (s ∷ ss)))) ≡ flat_map (served_part x part.Guarded) (s ∷ ss)
+          → map entry_of (flat_map protected_services (filter_map entry (filter is_terminal (s ∷ ss))))
+          ≡ flat_map (served_part x part.Guarded) (s ∷ ss)
       by false p t e h = rw t h
       by true false t e h = rw (t, e) h
       by true true t e h =

@@ -29,7 +29,8 @@ impl CallPlaces for Meant<'_, '_> {
     ghost places = { λ m. meant_place (design_of m.links.now.design.now) (at m.places.now) };
 
     fn place(&self, object: &Name, op: &Name) -> Option<usize>
-        ensures { result ≡ meant_place (design_of self.now.links.now.design.now) (at self.now.places.now) (record { object = object.now; op = op.now }) }
+        ensures { result ≡ meant_place (design_of self.now.links.now.design.now) (at self.now.places.now)
+            (record { object = object.now; op = op.now }) }
     {
         called_place(self.links, self.places, &Call { object, op })
     }

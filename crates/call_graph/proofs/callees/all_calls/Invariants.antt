@@ -6,6 +6,7 @@ use Rattle.call_graph.proofs.callees.all_calls.Given as goal
 -- the places so far are those of the operations so far
 abbrev pub invariant-services : goal.invariant-services
 invariant-services g l = record {
-  places : map (λ v. v.items) l.calls.items ≡ map (λ e. work_places (g.P.CallPlaces.places l.places) e.work) (map entry_at (take l.served-index l.services));
+  places : map (λ v. v.items) l.calls.items
+      ≡ map (λ e. work_places (g.P.CallPlaces.places l.places) e.work) (map entry_at (take l.served-index l.services));
   many : length l.calls.items ≡ l.served-index;
 }

@@ -30,4 +30,5 @@ returns c =
     ++ served_ops x c.args.part o.name look o.provides)
     (λ _. (x : Design) → map (served_as x) c.add_operations.new.into.items ≡ map (served_as x) c.args.into.now.items
     ++ served_ops x c.args.part o.name (block_in o) o.provides)
-    (λ done is x. is x ∙ ap (λ l. map (served_as x) c.args.into.now.items ++ l) (served-same x c.args.part o.name look (block_in o) o.provides looks)) given
+    (λ done is x. is x
+    ∙ ap (λ l. map (served_as x) c.args.into.now.items ++ l) (served-same x c.args.part o.name look (block_in o) o.provides looks)) given

@@ -13,8 +13,7 @@ ghost use Rattle.ods_costs.specs.Costed.{ArePrices, meant_place};
 use crate::services::services_of;
 use call_graph::{CallPlaces, places_of, prices_of, ticks_of};
 use name_sets::OpTable;
-use ods_index::{Index, Links, called_place};
-use seq_cost::Call;
+use ods_index::{Index, Links};
 use seq_tree::{Block, Name, NoMemory};
 use std::alloc::Global;
 
@@ -32,7 +31,7 @@ impl CallPlaces for Meant<'_, '_> {
         ensures { result ≡ meant_place (design_of self.now.links.now.design.now) (at self.now.places.now)
             (record { object = object.now; op = op.now }) }
     {
-        called_place(self.links, self.places, &Call { object, op })
+        self.links.place(self.places, object, op)
     }
 }
 
@@ -54,11 +53,12 @@ impl<'a> Priced<'a> {
         let services = services_of(alloc, index.objects.as_slice())?;
         let links = Links::new(alloc, index.design)?;
         let places = places_of(alloc, services.as_slice())?;
+        let design = links.design;
         let meant = Meant {
             links: &links,
             places: &places,
         };
-        let priced = prices_of(alloc, &links.design.costs, &meant, services.as_slice())?;
+        let priced = prices_of(alloc, &design.costs, &meant, services.as_slice())?;
         Ok(Priced {
             links,
             places,

@@ -1,3 +1,5 @@
 mod ListedSteps
 mod WaySteps
+mod SettledPrices
+mod SettledExamples
 pub mod Shared

@@ -8,7 +8,8 @@ use Rattle.ods_tree.specs.Walk.{Standing, is_terminal, only_if}
 use Rattle.design_rules.specs.Broken.{Broken}
 use Rattle.design_rules.specs.Budgets.{greatest_cost, is_over, over_budget}
 use Rattle.design_rules.specs.Lookups.{has_thread}
-use Rattle.ods_costs.specs.Costed.{cap, over_budgets}
+use Rattle.call_graph.specs.Prices.{cap}
+use Rattle.ods_costs.specs.Costed.{over_budgets}
 
 either : (body : ℕ) → (body ≤ 1000000000) ⊎ (1000000001 ≤ body)
 either body = grind arith

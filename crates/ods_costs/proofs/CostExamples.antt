@@ -1,86 +1,78 @@
--- What the definitions of costs, calls and their prices hold of, and what breaks each alone.
-use Rattle.std.proofs.Common.{◌≡◌, ℕ, Bool, true, false, [], ◌∷◌, Some, None, map, refl}
+-- What the definitions of costs and calls hold of, and what breaks each alone.
+use Rattle.std.proofs.Common.{◌≡◌, ℕ, true, false, [], ◌∷◌, Option, Some, None, map, min, refl, arith}
 use Rattle.std.specs.Prelude.{codes}
-use Rattle.seq_tree.specs.Names.{Name, same_name}
+use Rattle.seq_tree.specs.Dearest.{cost}
 use Rattle.seq_tree.specs.Statements.{Work}
+use Rattle.seq_tree.specs.declared.tree.OpName.{OpName}
 use Rattle.ods_tree.specs.Designs.{Tree}
-use Rattle.ods_tree.specs.Services.{Plain, Request}
+use Rattle.ods_tree.specs.Flattening.{flat}
 use Rattle.ods_tree.specs.Walk.{objects, own_of}
 use Rattle.ods_tree.specs.declared.design.Kind.TheVariants as kind
-use Rattle.ods_tree.proofs.Shared.Short.{block, call, pas, design, row_costs}
+use Rattle.ods_tree.proofs.Shared.Short.{block, call, pas, design}
 use Rattle.design_rules.specs.Broken.{V14, V15Cost}
-use Rattle.ods_costs.specs.Costed.{block_in, cap, costed_block, costed_named, costed_ops, dear_parts, gives_operations, gives_request}
-use Rattle.ods_costs.specs.Costed.{meant, over_budgets, price, priced, request_in, served_ops, served_part, threads_among}
+use Rattle.design_rules.specs.Budgets.{body_cost}
+use Rattle.call_graph.specs.Entries.{entries}
+use Rattle.call_graph.specs.Entries as works
+use Rattle.call_graph.specs.Places.{known_by, place_from}
+use Rattle.call_graph.specs.Prices.{cap}
+use Rattle.ods_costs.specs.Costed.{ArePrices, block_in, dear_parts, gives_operations, gives_request, meant_entry, meant_place, meant_work}
+use Rattle.ods_costs.specs.Costed.{over_budgets, request_in, served_ops, served_part, threads_among, work_in}
 use Rattle.ods_costs.specs.declared.services.Part.TheVariants as part
 use Rattle.ods_index.proofs.Shared.SmallDesign.{f, g, go, by_root, passive, guarded, cyclic, sporadic, x, alone, parent}
 
--- the operations that may be called: not that of the root, which has children; a request has no block
-ops : costed_ops x
-    ≡ record { name = f; block = Some (block (Work 3 ∷ [])) } ∷ record { name = g; block = Some (block (call (codes "p") (codes "f") ∷ [])) }
-    ∷ record { name = go; block = None } ∷ []
+-- the operations that may be called: not that of the root, which has children
+ops : entries (flat x)
+    ≡ record { name = f; work = works.Plain (block (Work 3 ∷ [])) }
+    ∷ record { name = g; work = works.Protected (block (call (codes "p") (codes "f") ∷ [])) } ∷ record { name = go; work = works.Asked } ∷ []
 ops = refl
 
-plain_block : costed_block Plain (record { sig = record { name = codes "f"; params = [] }; locals = []; block = block (Work 3 ∷ []) })
-    ≡ Some (block (Work 3 ∷ []))
-plain_block = refl
+-- what an operation of a part runs
+plain_work : work_in part.Plain (block []) ≡ works.Plain (block [])
+plain_work = refl
 
-request_block : costed_block Request (record { sig = record { name = codes "f"; params = [] }; locals = []; block = block (Work 3 ∷ []) }) ≡ None
-request_block = refl
+guarded_work : work_in part.Guarded (block []) ≡ works.Protected (block [])
+guarded_work = refl
 
--- the first of a name
-first_named : costed_named (record { name = f; block = None } ∷ record { name = f; block = Some (block []) } ∷ []) f
-    ≡ Some (record { name = f; block = None })
-first_named = refl
+request_work : work_in part.Requests (block []) ≡ works.Asked
+request_work = refl
 
-none_named : costed_named (costed_ops x) by_root ≡ None
-none_named = refl
+-- a call goes by what it means, in a body too
+abbrev places : OpName → Option ℕ
+places = place_from 0 (f ∷ g ∷ go ∷ [])
 
--- a request counts two assignments, a block its dearest path
-request_price : price row_costs (λ object op. 0) None ≡ 2
-request_price = refl
-
-block_price : price row_costs (λ object op. 5) (Some (block (call (codes "p") (codes "f") ∷ []))) ≡ 7
-block_price = refl
-
--- what calls count that are followed so deep
-depth_none : priced x 0 f ≡ 0
-depth_none = refl
-
-depth_one : priced x 1 f ≡ 3
-depth_one = refl
-
-depth_less : priced x 1 g ≡ 2
-depth_less = refl
-
-depth_enough : priced x 2 g ≡ 5
-depth_enough = refl
-
--- and no more than the limit
-depth_cut : priced (design (pas (codes "p") (codes "f") (Work 2000000000 ∷ []))) 1 f ≡ cap
-depth_cut = refl
-
--- a call counts what it means
-abbrev of_p : Name → Name → ℕ
-of_p object op = if_p (same_name object (codes "p"))
-  where
-    if_p : Bool → ℕ
-    if_p true = 3
-    if_p false = 0
-
-by_link : meant x of_p (codes "r") (codes "f") ≡ 3
+by_link : meant_place x places by_root ≡ Some 0
 by_link = refl
 
-by_no_link : meant x of_p (codes "r") (codes "go") ≡ 0
+by_no_link : meant_place x places go ≡ Some 2
 by_no_link = refl
 
+by_nothing : meant_place x places (record { object = codes "r"; op = codes "go" }) ≡ None
+by_nothing = refl
+
+meant_block : meant_entry x (record { name = g; work = works.Protected (block (call (codes "r") (codes "f") ∷ [])) })
+    ≡ record { name = g; work = works.Protected (block (call (codes "p") (codes "f") ∷ [])) }
+meant_block = refl
+
+meant_request : meant_work x works.Asked ≡ works.Asked
+meant_request = refl
+
+-- prices of which one is too great are not those of the design
+priced_block : min cap (cost x.costs (known_by (meant_place x places) (3 ∷ 5 ∷ 2 ∷ [])) (block (call (codes "q") (codes "g") ∷ [])))
+    ≡ min cap (body_cost x (block (call (codes "q") (codes "g") ∷ [])))
+priced_block = refl
+
+too_dear : ArePrices x places (3 ∷ 6 ∷ 2 ∷ []) → ⊥
+too_dear h = let same : 8 ≡ 7 = h (block (call (codes "q") (codes "g") ∷ [])) in omega (arith, same)
+
 -- what objects give to parts
-given : served_ops x (codes "p") (block_in (own_of passive)) (own_of passive).provides ≡ record { name = f; block = Some (block (Work 3 ∷ [])) } ∷ []
+given : served_ops x part.Plain (codes "p") (block_in (own_of passive)) (own_of passive).provides
+    ≡ record { name = f; work = works.Plain (block (Work 3 ∷ [])) } ∷ []
 given = refl
 
-given_none : served_ops x (codes "s") (block_in (own_of sporadic)) (own_of sporadic).provides ≡ []
+given_none : served_ops x part.Plain (codes "s") (block_in (own_of sporadic)) (own_of sporadic).provides ≡ []
 given_none = refl
 
-asked : request_in (own_of sporadic) ≡ record { name = go; block = None } ∷ []
+asked : request_in (own_of sporadic) ≡ record { name = go; work = works.Asked } ∷ []
 asked = refl
 
 asked_none : request_in (own_of cyclic) ≡ []
@@ -98,7 +90,8 @@ request_gives = refl
 request_not : gives_request part.Requests kind.Cyclic ≡ false
 request_not = refl
 
-part_given : served_part x part.Guarded (alone guarded) ≡ record { name = g; block = Some (block (call (codes "p") (codes "f") ∷ [])) } ∷ []
+part_given : served_part x part.Guarded (alone guarded)
+    ≡ record { name = g; work = works.Protected (block (call (codes "p") (codes "f") ∷ [])) } ∷ []
 part_given = refl
 
 part_of_parent : served_part x part.Guarded (parent guarded) ≡ []

@@ -1,24 +1,22 @@
--- Costs of calls by what they mean, cut at a limit: cutting what calls count, or counting calls by what they mean, changes no cut cost.
+-- Costs of calls by what they mean: prices by the places of these are those of the flat design.
+use Rattle.std.proofs.Common.{◌≡◌, ℕ, zero, suc, ◌+◌, ◌*◌, List, [], ◌∷◌, Option, length, map, min, refl, ap, sym, ◌∙◌}
 use Rattle.std.proofs.lemmas.List.{length-map}
-use Rattle.design_rules.specs.Budgets.{body_cost}
-use Rattle.std.proofs.Common.{◌≡◌, length, ℕ, suc, Bool, true, false, cond, ◌+◌, ◌*◌, List, [], ◌∷◌, Option, Some, None, refl, ap, sym, ◌∙◌}
-use Rattle.std.specs.Prelude.{min, option_map, find, map}
 use Rattle.seq_tree.specs.Names.{Name}
 use Rattle.seq_tree.specs.Statements.{Statement, Statements, Branches, Null, Assign, If, For, ExitWhen, Call, Work, Put, End, Then}
 use Rattle.seq_tree.specs.Statements.{Nothing, Else, When}
 use Rattle.seq_tree.specs.Dearest.{Weights, dearest, dearest_statement, dearest_branch, turn_count, cost}
-use Rattle.seq_tree.specs.Calls.{same_op, block_calls}
-use Rattle.seq_tree.specs.Lists.{Each}
 use Rattle.seq_tree.specs.declared.tree.Costs.{Costs}
 use Rattle.seq_tree.specs.declared.tree.OpName.{OpName}
-use Rattle.seq_cost.proofs.Shared.CutCosts.{cap-called}
-use Rattle.seq_cost.proofs.Shared.Listed.{block-same, each-all}
 use Rattle.ods_tree.specs.Designs.{Design}
 use Rattle.ods_tree.specs.Links.{renamed, renamed_statement, renamed_branches, resolve, resolved}
 use Rattle.ods_tree.specs.Flattening.{flat}
-use Rattle.ods_tree.specs.Services.{Plain, Protected, Request, Sort, Service, flat_services, service_named, is_service}
-use Rattle.analysis.specs.Execution.{body_cost_by, service_cost, cost_within}
-use Rattle.ods_costs.specs.Costed.{Costed, cap, costed, costed_block, costed_named, costed_ops, meant, price, priced}
+use Rattle.call_graph.specs.Entries.{Entry, entries, entry_at}
+use Rattle.call_graph.specs.Entries as works
+use Rattle.call_graph.specs.Places.{known_by, place_from}
+use Rattle.call_graph.specs.Prices.{cap, deeper_prices, price, prices}
+use Rattle.call_graph.specs.declared.services.Served.{Served}
+use Rattle.call_graph.proofs.Shared.PriceLaws.{block-priced}
+use Rattle.ods_costs.specs.Costed.{ArePrices, meant_entry, meant_place, meant_work, served_as}
 
 -- calls by what they mean
 module _ (means : OpName → OpName) (costs : Costs) (work : ℕ → ℕ) (f : Name → Name → ℕ) where
@@ -51,66 +49,46 @@ module _ (means : OpName → OpName) (costs : Costs) (work : ℕ → ℕ) (f : N
     renamed-branches (Else block) = renamed-dearest block
     renamed-branches (When condition block others) = rw (renamed-dearest block, renamed-branches others) refl
 
-module _ (x : Design) where
-  abbrev ss : List Service
-  ss = flat_services (flat x)
+module _ (x : Design) (place : OpName → Option ℕ) where
+  meant-cost : (numbers : List ℕ) (b : Statements) → cost x.costs (known_by (meant_place x place) numbers) b
+      ≡ cost x.costs (known_by place numbers) (resolved x b)
+  meant-cost numbers b = sym (renamed-dearest (resolve x) x.costs (λ ticks. ticks) (known_by place numbers) b)
 
-  abbrev ticks : ℕ → ℕ
-  ticks n = n
+  meant-price : (numbers : List ℕ) (w : works.Work) → price x.costs (known_by (meant_place x place) numbers) w
+      ≡ price x.costs (known_by place numbers) (meant_work x w)
+  meant-price numbers (works.Plain b) = ap (min cap) (meant-cost numbers b)
+  meant-price numbers (works.Protected b) = ap (min cap) (meant-cost numbers b)
+  meant-price numbers works.Asked = refl
 
-  -- a block, where an account has for each call of it what calls count that are followed so deep
-  pub priced-block : (depth : ℕ) (called : Name → Name → ℕ) (b : Statements)
-      → Each (λ c. meant x called c.object c.op ≡ priced x depth (resolve x c)) (block_calls b)
-      → min cap (cost x.costs (meant x called) b) ≡ min cap (cost x.costs (cost_within depth x.costs ss) (resolved x b))
-  priced-block depth called b same =
-      ap (min cap) (block-same x.costs ticks (meant x called) (λ object op. min cap (meant x (cost_within depth x.costs ss) object op)) b same)
-      ∙ sym (cap-called cap x.costs ticks (meant x (cost_within depth x.costs ss)) b)
-      ∙ ap (min cap) (sym (renamed-dearest (resolve x) x.costs ticks (cost_within depth x.costs ss) b))
+  meant-deeper : (numbers : List ℕ) (ss : List Served) → deeper_prices x.costs (known_by (meant_place x place) numbers) (map entry_at ss)
+      ≡ deeper_prices x.costs (known_by place numbers) (map (served_as x) ss)
+  meant-deeper numbers [] = refl
+  meant-deeper numbers (s ∷ ss) =
+      ap (λ n. n ∷ deeper_prices x.costs (known_by (meant_place x place) numbers) (map entry_at ss)) (meant-price numbers (entry_at s).work)
+      ∙ ap (λ ns. price x.costs (known_by place numbers) (served_as x s).work ∷ ns) (meant-deeper numbers ss)
 
-  -- the same, where the account has that for every call
-  pub priced-all : (depth : ℕ) (called : Name → Name → ℕ) (b : Statements) → ((n : OpName) → called n.object n.op ≡ priced x depth n)
-      → min cap (cost x.costs (meant x called) b) ≡ min cap (cost x.costs (cost_within depth x.costs ss) (resolved x b))
-  priced-all depth called b same =
-      priced-block depth called b
-      (each-all (λ c. meant x called c.object c.op ≡ priced x depth (resolve x c)) (λ c. same (resolve x c)) (block_calls b))
+  meant-prices : (depth : ℕ) (ss : List Served) → prices depth x.costs (meant_place x place) (map entry_at ss)
+      ≡ prices depth x.costs place (map (served_as x) ss)
+  meant-prices zero ss = refl
+  meant-prices (suc depth) ss =
+      meant-deeper (prices depth x.costs (meant_place x place) (map entry_at ss)) ss
+      ∙ ap (λ ns. deeper_prices x.costs (known_by place ns) (map (served_as x) ss)) (meant-prices depth ss)
 
-  body-price : (called : Name → Name → ℕ) (s : Service) (sort : Sort) → body_cost_by x.costs called sort s.op
-      ≡ price x.costs called (costed_block sort s.op)
-  body-price called s Plain = refl
-  body-price called s Protected = refl
-  body-price called s Request = refl
+  -- names stay as they are
+  meant-names : (ss : List Served) → map (λ e. e.name) (map entry_at ss) ≡ map (λ e. e.name) (map (served_as x) ss)
+  meant-names [] = refl
+  meant-names (s ∷ ss) = ap (λ ns. (entry_at s).name ∷ ns) (meant-names ss)
 
-  find-costed : (services : List Service) (n : OpName) → costed_named (map costed services) n
-      ≡ option_map costed (service_named services n.object n.op)
-  find-costed [] n = refl
-  find-costed (s ∷ services) n = by (is_service n.object n.op s) (find-costed services n)
-    where
-      by : (b : Bool) → find (λ c. same_op c.name n) (map costed services) ≡ option_map costed (find (is_service n.object n.op) services)
-          → cond b (Some (costed s)) (find (λ c. same_op c.name n) (map costed services))
-          ≡ option_map costed (cond b (Some s) (find (is_service n.object n.op) services))
-      by true h = refl
-      by false h = h
-
-  -- what a call counts that is followed one deeper
-  abbrev pub price_named : (Name → Name → ℕ) → Option Costed → ℕ
-  price_named called None = 0
-  price_named called (Some c) = price x.costs called c.block
-
-  pub deeper-price : (depth : ℕ) (n : OpName) → priced x (suc depth) n
-      ≡ min cap (price_named (cost_within depth x.costs ss) (costed_named (costed_ops x) n))
-  deeper-price depth n = ap (min cap) (by (service_named ss n.object n.op) ∙ ap (price_named (cost_within depth x.costs ss)) (sym (find-costed ss n)))
-    where
-      by : (o : Option Service) → service_cost x.costs (cost_within depth x.costs ss) o
-          ≡ price_named (cost_within depth x.costs ss) (option_map costed o)
-      by None = refl
-      by (Some s) = body-price (cost_within depth x.costs ss) s s.sort
-
-  -- as deep as there are operations that may be called
-  pub depth-same : length (costed_ops x) ≡ length ss
-  depth-same = length-map ss costed
-
-  -- a block, where an account has what calls count
-  pub body-priced : (called : Name → Name → ℕ) (b : Statements) → ((n : OpName) → called n.object n.op ≡ priced x (length (costed_ops x)) n)
-      → min cap (cost x.costs (meant x called) b) ≡ min cap (body_cost x b)
-  body-priced called b same =
-      priced-all (length (costed_ops x)) called b same ∙ ap (λ d. min cap (cost x.costs (cost_within d x.costs ss) (resolved x b))) depth-same
+  -- the prices of all operations that may be called are what calls count
+  pub prices-are : (ss : List Served) (numbers : List ℕ) → map (served_as x) ss ≡ entries (flat x)
+      → ((n : OpName) → place n ≡ place_from 0 (map (λ e. e.name) (map entry_at ss)) n)
+      → numbers ≡ prices (length ss) x.costs (meant_place x place) (map entry_at ss) → ArePrices x place numbers
+  prices-are ss numbers all places is b =
+      let es = entries (flat x) in
+      let placed : (n : OpName) → place n ≡ place_from 0 (map (λ e. e.name) es) n =
+      λ n. places n ∙ ap (λ ns. place_from 0 ns n) (meant-names ss ∙ ap (map (λ (e : Entry). e.name)) all) in
+      let many : length ss ≡ length es = sym (length-map ss (served_as x)) ∙ ap (λ (cs : List Entry). length cs) all in
+      let same : numbers ≡ prices (length es) x.costs place es = is ∙ meant-prices (length ss) ss
+      ∙ ap (prices (length ss) x.costs place) all ∙ ap (λ n. prices n x.costs place es) many in
+      ap (min cap) (meant-cost numbers b ∙ ap (λ ns. cost x.costs (known_by place ns) (resolved x b)) same)
+      ∙ block-priced (flat x) place placed (resolved x b)

@@ -1,89 +1,59 @@
--- What the costs of operations are worked out from: each that may be called, by its name and its block; a request has none.
--- Costs are cut at one tick over the greatest.
-use Rattle.std.specs.Prelude.{◌++◌, flat_map, ◌≡◌, ℕ, ◌*◌, Bool, ◌&&◌, false, not, nat_eq, List, [], Option, Some, None, option_map}
-use Rattle.std.specs.Prelude.{option_and_then, option_to_list, min, map, filter, filter_map, find, if◌then◌else◌}
+-- What the costs of a design are worked out from: the operations that may be called, with their calls by what they mean.
+-- They go in the order of the flat design.
+use Rattle.std.specs.Prelude.{◌++◌, flat_map, ◌≡◌, ℕ, Bool, ◌&&◌, false, List, [], Option, Some, None, option_map}
+use Rattle.std.specs.Prelude.{option_and_then, option_to_list, min, map, filter, filter_map, if◌then◌else◌}
 use Rattle.seq_tree.specs.Names.{Name}
-use Rattle.seq_tree.specs.Calls.{same_op}
 use Rattle.seq_tree.specs.Statements.{Statements}
-use Rattle.seq_tree.specs.Trees.{block_of}
 use Rattle.seq_tree.specs.Dearest.{cost}
-use Rattle.seq_tree.specs.declared.tree.Costs.{Costs}
 use Rattle.seq_tree.specs.declared.tree.OpName.{OpName}
-use Rattle.seq_tree.specs.Operations.{Operation, Signature}
+use Rattle.seq_tree.specs.Operations.{Signature}
+use Rattle.call_graph.specs.Entries.{Work, Entry, entry_at}
+use Rattle.call_graph.specs.Entries as works
+use Rattle.call_graph.specs.Places.{known_by}
+use Rattle.call_graph.specs.Prices.{cap}
+use Rattle.call_graph.specs.declared.services.Served.{Served}
 use Rattle.ods_tree.specs.Designs.{Provided, Body, Object, Design}
 use Rattle.ods_tree.specs.Walk.{Standing, is_terminal}
 use Rattle.ods_tree.specs.declared.design.Kind.{Kind}
 use Rattle.design_rules.specs.Lookups.{has_thread, is_sporadic}
 use Rattle.design_rules.specs.Broken.{Broken}
-use Rattle.design_rules.specs.Budgets.{dear_body, dear_thread, over_budget}
+use Rattle.design_rules.specs.Budgets.{body_cost, dear_body, dear_thread, over_budget}
 use Rattle.ods_costs.specs.declared.services.Part.{Part}
 use Rattle.ods_costs.specs.declared.services.Part.TheVariants.{Plain, Guarded, Requests}
 use Rattle.ods_tree.specs.Links.{resolve, resolved}
-use Rattle.ods_tree.specs.Flattening.{body_named, flat, is_passive, is_protected, request_op}
-use Rattle.ods_tree.specs.Services.{Sort, Service, flat_services}
-use Rattle.ods_tree.specs.Services as sort
-use Rattle.analysis.specs.Execution.{cost_within}
-use Rattle.analysis.specs.Sound.{name_of}
-use Rattle.name_sets.specs.Tables.{number_at}
-use Rattle.name_sets.specs.declared.op_table.OpTable.{OpTable}
-use Rattle.ods_costs.specs.declared.services.Served.{Served}
+use Rattle.ods_tree.specs.Flattening.{body_named, is_passive, is_protected, request_op}
 
--- an operation that may be called, and its block where it has one
-pub record Costed : Type 0 where
-  pub name : OpName
-  pub block : Option Statements
+-- what an operation of a part runs, by its block
+abbrev pub work_in : Part → Statements → Work
+work_in Plain b = works.Plain b
+work_in Guarded b = works.Protected b
+work_in Requests b = works.Asked
 
--- the block of an operation, by what it is to its callers
-abbrev pub costed_block : Sort → Operation → Option Statements
-costed_block sort.Plain o = Some o.block
-costed_block sort.Protected o = Some o.block
-costed_block sort.Request o = None
+-- what an operation runs, its calls by what they mean
+abbrev pub meant_work : Design → Work → Work
+meant_work x (works.Plain b) = works.Plain (resolved x b)
+meant_work x (works.Protected b) = works.Protected (resolved x b)
+meant_work x works.Asked = works.Asked
 
--- an operation of the flat design so
-abbrev pub costed : Service → Costed
-costed s = record { name = name_of s; block = costed_block s.sort s.op }
+abbrev pub meant_entry : Design → Entry → Entry
+meant_entry x e = record { name = e.name; work = meant_work x e.work }
 
--- one that the code keeps, its calls by what they mean
-abbrev pub served_as : Design → Served → Costed
-served_as x s = record { name = record { object = s.object.now; op = s.op.now }; block = option_map (λ b. resolved x (block_of b.now)) s.block }
+-- one that the code keeps
+abbrev pub served_as : Design → Served → Entry
+served_as x s = meant_entry x (entry_at s)
 
--- the operations that may be called in a design
-abbrev pub costed_ops : Design → List Costed
-costed_ops x = map costed (flat_services (flat x))
+-- the place of what a call means
+abbrev pub meant_place : Design → (OpName → Option ℕ) → OpName → Option ℕ
+meant_place x place n = place (resolve x n)
 
--- the one of a name
-abbrev pub costed_named : List Costed → OpName → Option Costed
-costed_named cs name = find (λ c. same_op c.name name) cs
-
--- what a call counts besides itself, where the calls of its block count so much
-abbrev pub price : Costs → (Name → Name → ℕ) → Option Statements → ℕ
-price costs called None = 2 * costs.assign
-price costs called (Some b) = cost costs called b
-
--- one tick over the greatest cost
-abbrev pub cap : ℕ
-cap = 1000000001
-
--- what a call counts besides itself, where calls are followed so deep, cut
-abbrev pub priced : Design → ℕ → OpName → ℕ
-priced x depth name = min cap (cost_within depth x.costs (flat_services (flat x)) name.object name.op)
-
--- what is counted for what a call means
-abbrev pub meant : Design → (Name → Name → ℕ) → Name → Name → ℕ
-meant x called object op = let to = resolve x (record { object = object; op = op }) in called to.object to.op
-
--- whether two accounts count differently for an operation that the code keeps
-abbrev pub differs : (Name → Name → ℕ) → (Name → Name → ℕ) → Served → Bool
-differs f g s = not (nat_eq (f s.object.now s.op.now) (g s.object.now s.op.now))
-
--- a table has what calls count that are followed so deep
-abbrev pub AgreesAt : Design → ℕ → OpTable ℕ → Type 0
-AgreesAt x depth t = (n : OpName) → number_at t n.object n.op ≡ priced x depth n
+-- numbers by places are what calls count of the blocks of a design
+abbrev pub ArePrices : Design → (OpName → Option ℕ) → List ℕ → Type 0
+ArePrices x place prices = (b : Statements) → min cap (cost x.costs (known_by (meant_place x place) prices) b) ≡ min cap (body_cost x b)
 
 -- the operations of these that an object provides, by their blocks
-abbrev pub served_ops : Design → Name → (Name → Option Statements) → List Provided → List Costed
-served_ops x object block ps =
-    filter_map (λ p. option_map (λ b. record { name = record { object = object; op = p.sig.name }; block = Some (resolved x b) })
+abbrev pub served_ops : Design → Part → Name → (Name → Option Statements) → List Provided → List Entry
+served_ops x part object block ps =
+    filter_map (λ p. option_map (λ b. meant_entry x (record { name = record { object = object; op = p.sig.name }; work = work_in part b }))
     (block p.sig.name)) ps
 
 -- the block of an operation of an object
@@ -91,10 +61,10 @@ abbrev pub block_in : Object → Name → Option Statements
 block_in o op = option_map (λ b. b.block) (body_named op o.bodies)
 
 -- the request of an object with a thread, where it provides an operation
-abbrev pub request_in : Object → List Costed
+abbrev pub request_in : Object → List Entry
 request_in o =
     option_to_list (option_and_then
-    (λ (sig : Signature). option_map (λ b. record { name = record { object = o.name; op = sig.name }; block = None }) o.thread)
+    (λ (sig : Signature). option_map (λ b. record { name = record { object = o.name; op = sig.name }; work = works.Asked }) o.thread)
     (request_op o.provides))
 
 -- whether an object of a kind gives its operations to a part
@@ -110,10 +80,10 @@ gives_request Guarded kind = false
 gives_request Requests kind = is_sporadic kind
 
 -- what an object gives to a part
-abbrev pub served_part : Design → Part → Standing → List Costed
+abbrev pub served_part : Design → Part → Standing → List Entry
 served_part x part s =
     if is_terminal s
-    then (if gives_operations part s.own.kind then served_ops x s.own.name (block_in s.own) s.own.provides
+    then (if gives_operations part s.own.kind then served_ops x part s.own.name (block_in s.own) s.own.provides
     else if gives_request part s.own.kind then request_in s.own else [])
     else []
 

@@ -1,2 +1,1 @@
 pub mod Costed
-pub mod Settled

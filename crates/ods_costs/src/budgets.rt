@@ -61,7 +61,7 @@ fn thread_fits<'a>(
 ) -> Result<(), Broken>
     ensures { Tells result (over_budget (design_of priced.now.links.design.now) (object_of node.entry.now) (block_of block.entry.now)) }
 {
-    let body = priced.body(alloc, block)?;
+    let body = priced.body(block);
     let cost = u64::from(body) + u64::from(priced.links.design.costs.finish);
     let budget = budget_of(node.attrs.as_slice());
     if is_over(budget, cost) {

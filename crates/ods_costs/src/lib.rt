@@ -1,11 +1,10 @@
 //! The rules on costs and sizes of a design: the first offender against V14 and V15.
 //!
-//! It stands on the index of `ods_index`, the rules of `design_rules` and the costs of `analysis` and `seq_cost`.
+//! It stands on the index of `ods_index`, the rules of `design_rules`, the costs of `analysis` and the prices of `call_graph`.
 //! Each call carries its promise: it is silent exactly where nothing offends against its rule, and else tells the first that does.
 #![tactic(auto)]
 
 mod budgets;
-mod callees;
 mod costs;
 mod services;
 mod sizes;

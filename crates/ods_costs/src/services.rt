@@ -5,23 +5,17 @@ ghost use Rattle.name_sets.specs.Tables.{at};
 ghost use Rattle.ods_tree.specs.Designs.{Design as DesignTree};
 ghost use Rattle.ods_tree.specs.Flattening.{body_named};
 ghost use Rattle.ods_tree.specs.Trees.{body_of, provided_of};
-ghost use Rattle.ods_costs.specs.Costed.{block_in, gives_operations, gives_request, request_in, served_as, served_ops, served_part};
+ghost use Rattle.call_graph.specs.Entries.{work_of};
+ghost use Rattle.ods_costs.specs.Costed.{block_in, gives_operations, gives_request, request_in, served_as, served_ops, served_part, work_in};
 ghost use Rattle.ods_index.specs.Walking.{object_of, standing_of};
 ghost use Rattle.ods_costs.specs.declared.services.Part.TheVariants.{Plain, Guarded, Requests};
 
+use call_graph::{Body, Served};
 use name_sets::OpTable;
 use ods_index::{Standing, is_terminal};
 use ods_tree::{Kind, Node, OpBody, Provided};
 use seq_tree::{Block, Name, NoMemory};
 use std::alloc::Global;
-
-/// An operation that may be called, with its block; a request has none.
-#[derive(Clone, Copy)]
-pub(crate) struct Served<'a> {
-    pub(crate) object: &'a Name,
-    pub(crate) op: &'a Name,
-    pub(crate) block: Option<&'a Block>,
-}
 
 /// The operations that may be called, by the sort of their objects.
 #[derive(Clone, Copy)]
@@ -55,6 +49,17 @@ fn gives_request(part: Part, kind: Kind) -> bool
     }
 }
 
+/// What a call of an operation of this part runs, by its block.
+fn body_in<'a>(part: Part, block: &'a Block) -> Body<'a>
+    ensures { work_of result ≡ work_in part (block_of block.entry.now) }
+{
+    match part {
+        Part::Plain => Body::Plain(block),
+        Part::Guarded => Body::Protected(block),
+        Part::Requests => Body::Asked,
+    }
+}
+
 /// The blocks of the operations of an object: of bodies of one name the first.
 fn blocks_of<'a>(
     alloc: Global,
@@ -75,13 +80,14 @@ fn blocks_of<'a>(
 
 /// Adds an operation that an object provides, where it has a body.
 fn add_operation<'a>(
+    part: Part,
     object: &'a Name,
     provided: &'a Provided,
     blocks: &OpTable<'a, &'a Block>,
     into: &mut Vec<Served<'a>>,
 ) -> Result<(), NoMemory>
     ensures { IfOk result (λ _. (x : DesignTree) → map (served_as x) into.new.items ≡ map (served_as x) into.old.items
-        ++ served_ops x object.entry.now
+        ++ served_ops x part object.entry.now
         (λ op. option_map (λ b. block_of b.now) (at blocks.now (record { object = object.entry.now; op = op }))) (provided_of provided.entry.now
         ∷ [])) }
 {
@@ -91,7 +97,7 @@ fn add_operation<'a>(
             into.push(Served {
                 object,
                 op: &provided.sig.name,
-                block: Some(block),
+                body: body_in(part, block),
             })?;
             Ok(())
         }
@@ -100,18 +106,19 @@ fn add_operation<'a>(
 
 /// Adds the operations that an object provides and has bodies for.
 fn add_operations<'a>(
+    part: Part,
     object: &'a Name,
     provides: &'a [Provided],
     blocks: &OpTable<'a, &'a Block>,
     into: &mut Vec<Served<'a>>,
 ) -> Result<(), NoMemory>
     ensures { IfOk result (λ _. (x : DesignTree) → map (served_as x) into.new.items ≡ map (served_as x) into.old.items
-        ++ served_ops x object.entry.now
+        ++ served_ops x part object.entry.now
         (λ op. option_map (λ b. block_of b.now) (at blocks.now (record { object = object.entry.now; op = op })))
         (map provided_of provides.entry.now)) }
 {
     'provides: for provided in provides {
-        add_operation(object, provided, blocks, into)?;
+        add_operation(part, object, provided, blocks, into)?;
     }
     Ok(())
 }
@@ -130,7 +137,7 @@ fn add_request<'a>(node: &'a Node, into: &mut Vec<Served<'a>>) -> Result<(), NoM
             into.push(Served {
                 object: &node.name,
                 op: &provided.sig.name,
-                block: None,
+                body: Body::Asked,
             })?;
             Ok(())
         }
@@ -138,12 +145,17 @@ fn add_request<'a>(node: &'a Node, into: &mut Vec<Served<'a>>) -> Result<(), NoM
 }
 
 /// Adds the operations that an object provides and has bodies for.
-fn add_own<'a>(alloc: Global, node: &'a Node, into: &mut Vec<Served<'a>>) -> Result<(), NoMemory>
+fn add_own<'a>(
+    alloc: Global,
+    part: Part,
+    node: &'a Node,
+    into: &mut Vec<Served<'a>>,
+) -> Result<(), NoMemory>
     ensures { IfOk result (λ _. (x : DesignTree) → map (served_as x) into.new.items ≡ map (served_as x) into.old.items
-        ++ served_ops x (object_of node.entry.now).name (block_in (object_of node.entry.now)) (object_of node.entry.now).provides) }
+        ++ served_ops x part (object_of node.entry.now).name (block_in (object_of node.entry.now)) (object_of node.entry.now).provides) }
 {
     let blocks = blocks_of(alloc, &node.name, node.bodies.as_slice())?;
-    add_operations(&node.name, node.provides.as_slice(), &blocks, into)
+    add_operations(part, &node.name, node.provides.as_slice(), &blocks, into)
 }
 
 /// Adds what an object gives to a part.
@@ -161,7 +173,7 @@ fn add_object<'a>(
         return Ok(());
     }
     if gives_operations(part, node.kind) {
-        return add_own(alloc, node, into);
+        return add_own(alloc, part, node, into);
     }
     if gives_request(part, node.kind) {
         return add_request(node, into);

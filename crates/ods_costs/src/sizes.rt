@@ -105,7 +105,7 @@ fn body_fits<'a>(
 ) -> Result<(), Broken>
     ensures { Tells result (dear_body (design_of priced.now.links.design.now) (object_of node.entry.now) (body_of body.entry.now)) }
 {
-    let cost = priced.body(alloc, &body.block)?;
+    let cost = priced.body(&body.block);
     if u64::from(cost) > GREATEST {
         return Err(Broken::V15Cost {
             object: node.name.copy(alloc)?,
@@ -124,7 +124,7 @@ fn activation_fits<'a>(
 ) -> Result<(), Broken>
     ensures { Tells result (dear_thread (design_of priced.now.links.design.now) (object_of node.entry.now) (block_of block.entry.now)) }
 {
-    let cost = u64::from(priced.body(alloc, block)?) + u64::from(priced.links.design.costs.finish);
+    let cost = u64::from(priced.body(block)) + u64::from(priced.links.design.costs.finish);
     if cost > GREATEST {
         return Err(Broken::V15Cost {
             object: node.name.copy(alloc)?,

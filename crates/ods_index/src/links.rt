@@ -1,12 +1,13 @@
-ghost use Rattle.std.specs.Prelude.{◌≡◌, Some, IfOk, OnOk, map, option_and_then, option_map, slice_get};
+ghost use Rattle.std.specs.Prelude.{◌≡◌, Some, IfOk, OnOk, map, option_and_then, option_map, slice_get, unwrap_or};
 ghost use Rattle.seq_tree.specs.Names.{Name as NameTree};
+ghost use Rattle.name_sets.specs.Tables.{at};
 ghost use Rattle.ods_tree.specs.Links.{inner_named, link_for, resolve, tree_named};
 ghost use Rattle.ods_tree.specs.Trees.{design_of, tree_of, trees_of};
 ghost use Rattle.ods_index.specs.Linked.{meaning_in, op_of};
 ghost use Rattle.ods_index.specs.Scoped.{AreChildren, AreNamed, Covers, Keeps, inner_of, meaning_at, scope_trees};
 
 use crate::scopes::Scope;
-use name_sets::{NameTable, Places};
+use name_sets::{NameTable, OpTable, Places};
 use ods_tree::{Design, Link, Node};
 use seq_tree::{Name, NoMemory};
 use std::alloc::Global;
@@ -32,6 +33,26 @@ fn meaning<'a>(
         Some(place) => match scopes.get(place) {
             None => None,
             Some(scope) => scope.get(op),
+        },
+    }
+}
+
+/// The place of the terminal operation that an operation of an object stands for, or of its own name where there is none.
+fn meaning_place(
+    scopes: &[Scope<'_>],
+    names: &Places<'_>,
+    places: &OpTable<'_, usize>,
+    object: &Name,
+    op: &Name,
+) -> Option<usize>
+    ensures { result ≡ at places.now (unwrap_or (meaning_at (scope_trees scopes.now) names.now object.now op.now)
+        (record { object = object.now; op = op.now })) }
+{
+    match names.get(object) {
+        None => places.get(object, op),
+        Some(place) => match scopes.get(place) {
+            None => places.get(object, op),
+            Some(scope) => scope.place(places, object, op),
         },
     }
 }
@@ -150,5 +171,11 @@ impl<'a> Links<'a> {
             None => name,
             Some(meant) => meant,
         }
+    }
+    /// The place of what a call means, where it is that of an operation.
+    pub fn place(&self, places: &OpTable<'_, usize>, object: &Name, op: &Name) -> Option<usize>
+        ensures { result ≡ at places.now (resolve (design_of self.now.design.now) (record { object = object.now; op = op.now })) }
+    {
+        meaning_place(self.scopes.as_slice(), &self.names, places, object, op)
     }
 }

@@ -94,9 +94,5 @@ pub fn called_place<'a>(
 ) -> Option<usize>
     ensures { result ≡ at places.now (resolve (design_of links.now.design.now) (call_of call.entry.now)) }
 {
-    let meant = links.resolve(OpView {
-        object: call.object,
-        op: call.op,
-    });
-    places.get(meant.object, meant.op)
+    links.place(places, call.object, call.op)
 }

@@ -1,11 +1,12 @@
-ghost use Rattle.std.specs.Prelude.{◌≡◌, option_map};
+ghost use Rattle.std.specs.Prelude.{◌≡◌, option_map, unwrap_or};
 ghost use Rattle.seq_tree.specs.Names.{Name as NameTree};
+ghost use Rattle.name_sets.specs.Tables.{at};
 ghost use Rattle.ods_tree.specs.Links.{terminal_op};
 ghost use Rattle.ods_tree.specs.Trees.{tree_of};
 ghost use Rattle.ods_index.specs.Linked.{by_links, meaning_in, op_of};
 
 use crate::links::OpView;
-use name_sets::NameTable;
+use name_sets::{NameTable, OpTable};
 use ods_tree::Node;
 use seq_tree::Name;
 
@@ -28,6 +29,19 @@ impl<'a> Scope<'a> {
                 op,
             }),
             Some(_) => self.meanings.get(op)?,
+        }
+    }
+    /// The place of the terminal operation that one of the object stands for, or of this name where its links lead to none.
+    pub fn place(&self, places: &OpTable<'_, usize>, object: &Name, op: &Name) -> Option<usize>
+        ensures { result ≡ at places.now (unwrap_or (terminal_op (tree_of self.now.node.now) op.now) (record { object = object.now; op = op.now })) }
+    {
+        match self.node.children.as_slice().split_first() {
+            None => places.get(&self.node.name, op),
+            Some(_) => match self.meanings.get(op) {
+                Some(Some(to)) => places.get(to.object, to.op),
+                Some(None) => places.get(object, op),
+                None => places.get(object, op),
+            },
         }
     }
 }

@@ -8,7 +8,7 @@ use Rattle.rt_response.specs.declared.rows.ThreadRow.{ThreadRow}
 use Rattle.analysis.specs.Blocking.{blocking}
 use Rattle.analysis.specs.Starts.{can_request}
 use Rattle.analysis.specs.Tables.{activation_cost, jitter_of, unless_external}
-use Rattle.rt_block.specs.Prices.{cap}
+use Rattle.call_graph.specs.Prices.{cap}
 use Rattle.rt_block.specs.declared.bases.Base.{Base}
 
 -- the cost of a thread's activation, cut

@@ -4,7 +4,7 @@ use Rattle.std.specs.Prelude.{◌≡◌, ℕ, List, [], ◌∷◌, map}
 use Rattle.seq_tree.specs.Operations.{Operation}
 use Rattle.ods_tree.specs.Flats.{Timing, Cyclic, Sporadic, Flat}
 use Rattle.analysis.specs.Ceilings.{ceiling}
-use Rattle.rt_block.specs.Entries.{Work, Plain, Protected, Asked, Entry, entries}
+use Rattle.call_graph.specs.Entries.{Work, Plain, Protected, Asked, Entry, entries}
 use Rattle.rt_block.specs.declared.ceilings.Levels.{Levels}
 
 -- the ceiling of what a call runs, where its object has this one

@@ -1,9 +1,6 @@
 pub mod Entries
-pub mod Places
 pub mod Called
-pub mod Prices
 pub mod Spreads
-pub mod Settled
 pub mod Longest
 pub mod Requests
 pub mod Ranked

@@ -6,7 +6,7 @@ use Rattle.ods_tree.specs.Flats.{Flat}
 use Rattle.ods_tree.specs.Services.{flat_services}
 use Rattle.analysis.specs.Execution.{block_cost}
 use Rattle.rt_block.specs.Bases.{thread_cost}
-use Rattle.rt_block.specs.Prices.{cap}
+use Rattle.call_graph.specs.Prices.{cap}
 
 -- the body of an operation
 abbrev pub body_cost : Flat → Operation → ℕ

@@ -8,11 +8,11 @@ ghost use Rattle.analysis.specs.Execution.{block_cost};
 ghost use Rattle.analysis.specs.Tables.{jitter_of};
 ghost use Rattle.rt_block.specs.Bases.{base_of, starter_place, thread_cost};
 ghost use Rattle.rt_block.specs.Known.{IsKnown, IsServed, design};
-ghost use Rattle.rt_block.specs.Prices.{cap};
+ghost use Rattle.call_graph.specs.Prices.{cap};
 
-use crate::costs::{CAP, ticks_of};
 use crate::operations::Operations;
 use crate::starters::starter;
+use call_graph::{CAP, ticks_of};
 use ods_tree::{FlatThread, Timing};
 use seq_tree::{Block, Name, NoMemory};
 use std::alloc::Global;

@@ -1,6 +1,6 @@
 //! The table of a flat design: what the response equations ask of each thread, with blocking terms.
 //!
-//! It stands on the flat designs of `ods_tree`, the definitions of `analysis`, the costs of `seq_cost` and the order of `rings`.
+//! It stands on the flat designs of `ods_tree`, the definitions of `analysis`, the calls of `seq_cost` and the prices of `call_graph`.
 //! `blocking` carries its promise: the table of the definitions, for the priorities and ceilings that are handed in. Where tables are
 //! asked for many priorities, `facts_of` works out once what doesn't depend on them, and `table` reads it. `part_costs` says of any
 //! design what its bodies and threads cost.
@@ -9,16 +9,12 @@
 mod bases;
 mod calls;
 mod ceilings;
-mod costs;
 mod facts;
 mod operations;
-mod order;
 mod parts;
-mod places;
 mod rows;
 mod sections;
 mod services;
-mod settled;
 mod spread;
 mod starters;
 mod tables;

@@ -1,12 +1,10 @@
 ghost use Rattle.std.specs.Prelude.{◌≡◌, IfOk};
 ghost use Rattle.rt_block.specs.Known.{IsKnown, IsServed};
 
-use crate::calls::{Scope, all_calls, inner_calls, thread_calls};
-use crate::costs::prices_of;
-use crate::order::callees_first;
-use crate::places::places_of;
+use crate::calls::{Scope, inner_calls, thread_calls};
 use crate::sections::section_prices;
-use crate::services::{Served, services_of};
+use crate::services::services_of;
+use call_graph::{Served, places_of, prices_of};
 use name_sets::OpTable;
 use ods_tree::Flat;
 use seq_tree::NoMemory;
@@ -37,17 +35,8 @@ pub(crate) fn operations_of<'a>(alloc: Global, flat: &'a Flat) -> Result<Operati
 {
     let services = services_of(alloc, flat)?;
     let places = places_of(alloc, services.as_slice())?;
-    let calls = all_calls(alloc, &places, services.as_slice())?;
-    let callees_first = callees_first(alloc, calls.as_slice())?;
-    let prices = prices_of(
-        alloc,
-        &flat.costs,
-        &places,
-        services.as_slice(),
-        calls.as_slice(),
-        callees_first.as_slice(),
-    )?;
-    let sections = section_prices(alloc, services.as_slice(), prices.as_slice())?;
+    let priced = prices_of(alloc, &flat.costs, &places, services.as_slice())?;
+    let sections = section_prices(alloc, services.as_slice(), priced.prices.as_slice())?;
     let live_inner = inner_calls(alloc, &places, Scope::Live, services.as_slice())?;
     let live = thread_calls(alloc, &places, Scope::Live, flat.threads.as_slice())?;
     let written_inner = inner_calls(alloc, &places, Scope::Written, services.as_slice())?;
@@ -56,8 +45,8 @@ pub(crate) fn operations_of<'a>(alloc: Global, flat: &'a Flat) -> Result<Operati
         flat,
         services,
         places,
-        callees_first,
-        prices,
+        callees_first: priced.callees_first,
+        prices: priced.prices,
         sections,
         live_inner,
         live,

@@ -8,7 +8,7 @@ use Rattle.seq_tree.specs.Operations.{Operation}
 use Rattle.ods_tree.specs.Flats.{Library, Guarded, Thread, Flat}
 use Rattle.rt_block.specs.Bases.{thread_cost}
 use Rattle.rt_block.specs.PartCosts.{body_cost, part_costs}
-use Rattle.rt_block.specs.Prices.{cap}
+use Rattle.call_graph.specs.Prices.{cap}
 use Rattle.law_scaling.specs.Parts.{Part, most_ticks, body_part, thread_part, parts, first_dear}
 use Rattle.law_scaling.proofs.Shared.Ranks.{map-map}
 use Rattle.scaling.specs.PartNames.{PartName, body_name, thread_name, part_names, dear_among}

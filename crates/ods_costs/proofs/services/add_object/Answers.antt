@@ -22,7 +22,7 @@ returns-then-gives_operations c =
     let g : gives_operations c.args.part s.own.kind ≡ true = search (rules, the_lemmas) in
     IfOk-weaker c.add_own.result
     (λ _. (x : Design) → map (served_as x) c.add_own.new.into.items ≡ map (served_as x) c.args.into.now.items
-    ++ served_ops x s.own.name (block_in s.own) s.own.provides)
+    ++ served_ops x c.args.part s.own.name (block_in s.own) s.own.provides)
     (λ _. (x : Design) → map (served_as x) c.add_own.new.into.items ≡ map (served_as x) c.args.into.now.items ++ served_part x c.args.part s)
     (λ done is x. is x ∙ ap (λ l. map (served_as x) c.args.into.now.items ++ l) (sym (served-given x c.args.part s t g))) c.add_own.ensures
 

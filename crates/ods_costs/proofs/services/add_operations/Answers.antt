@@ -16,8 +16,8 @@ provides-preserved c = λ x.
     let p = c.provided-item.result in
     let look : Name → Option Statements
     = λ op. option_map (λ b. block_of b.now) (at c.args.blocks.now (record { object = c.args.object.now; op = op })) in
-    added_step (λ (ps : List Provided). served_ops x c.args.object.now look (map provided_of ps))
-    (served_ops x c.args.object.now look (provided_of p ∷ []))
+    added_step (λ (ps : List Provided). served_ops x c.args.part c.args.object.now look (map provided_of ps))
+    (served_ops x c.args.part c.args.object.now look (provided_of p ∷ []))
     c.args.provides.now c.provides.provided-index p (map (served_as x) c.provides.into.items) _ _
-    (λ ys. served-first x c.args.object.now look (provided_of p) (map provided_of ys)) c.provides-test.true c.provided-item.is
+    (λ ys. served-first x c.args.part c.args.object.now look (provided_of p) (map provided_of ys)) c.provides-test.true c.provided-item.is
     (c.in_ok-add_operation.ensures x) (c.provides.invariant x)

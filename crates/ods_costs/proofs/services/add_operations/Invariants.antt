@@ -11,8 +11,8 @@ use Rattle.ods_costs.proofs.services.add_operations.Given as goal
 abbrev pub invariant-provides : goal.invariant-provides
 invariant-provides l =
     (x : Design) → map (served_as x) l.into.items
-    ++ served_ops x l.object (λ op. option_map (λ b. block_of b.now) (at l.blocks (record { object = l.object; op = op })))
+    ++ served_ops x l.part l.object (λ op. option_map (λ b. block_of b.now) (at l.blocks (record { object = l.object; op = op })))
     (map provided_of (drop l.provided-index l.provides))
     ≡ map (served_as x) l.initial.into.items
-    ++ served_ops x l.object (λ op. option_map (λ b. block_of b.now) (at l.blocks (record { object = l.object; op = op })))
+    ++ served_ops x l.part l.object (λ op. option_map (λ b. block_of b.now) (at l.blocks (record { object = l.object; op = op })))
     (map provided_of l.provides)

@@ -21,13 +21,14 @@ returns c =
     let looks : (op : Name) → look op ≡ block_in o op = λ op. search (rules, the_lemmas, c.in_ok-blocks.ensures op) in
     let R : Name → List Provided → Type 0 = λ name ps. IfOk c.add_operations.result
     (λ _. (x : Design) → map (served_as x) c.add_operations.new.into.items ≡ map (served_as x) c.args.into.now.items
-    ++ served_ops x name (λ op. option_map (λ b. block_of b.now) (at c.in_ok-blocks.blocks (record { object = name; op = op }))) ps) in
+    ++ served_ops x c.args.part name (λ op. option_map (λ b. block_of b.now) (at c.in_ok-blocks.blocks (record { object = name; op = op }))) ps) in
     let shown : R (out-Node c.args.node.now).name (map provided_of (out-Node c.args.node.now).provides.items) =
     subst (λ ps. R (out-Node c.args.node.now).name (map provided_of ps)) c.as_slice-2.ensures.value c.add_operations.ensures in
     let given : R o.name o.provides = subst (λ (z : Object). R z.name z.provides) (sym (own_fields c.args.node.now)) shown in
     IfOk-weaker c.add_operations.result
     (λ _. (x : Design) → map (served_as x) c.add_operations.new.into.items ≡ map (served_as x) c.args.into.now.items
-    ++ served_ops x o.name look o.provides)
+    ++ served_ops x c.args.part o.name look o.provides)
     (λ _. (x : Design) → map (served_as x) c.add_operations.new.into.items ≡ map (served_as x) c.args.into.now.items
-    ++ served_ops x o.name (block_in o) o.provides)
-    (λ done is x. is x ∙ ap (λ l. map (served_as x) c.args.into.now.items ++ l) (served-same x o.name look (block_in o) o.provides looks)) given
+    ++ served_ops x c.args.part o.name (block_in o) o.provides)
+    (λ done is x. is x
+    ∙ ap (λ l. map (served_as x) c.args.into.now.items ++ l) (served-same x c.args.part o.name look (block_in o) o.provides looks)) given

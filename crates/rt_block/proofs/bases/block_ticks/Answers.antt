@@ -3,9 +3,9 @@ use Rattle.seq_tree.specs.Dearest.{cost}
 use Rattle.seq_tree.specs.Trees.{block_of}
 use Rattle.name_sets.specs.Tables.{at}
 use Rattle.rt_block.specs.Known.{design}
-use Rattle.rt_block.specs.Places.{known_by}
-use Rattle.rt_block.specs.Prices.{cap}
-use Rattle.rt_block.proofs.PriceLaws.{block-priced}
+use Rattle.call_graph.specs.Places.{known_by}
+use Rattle.call_graph.specs.Prices.{cap}
+use Rattle.call_graph.proofs.Shared.PriceLaws.{block-priced}
 use Rattle.rt_block.proofs.bases.block_ticks.Goals as goal
 
 pub returns : goal.returns

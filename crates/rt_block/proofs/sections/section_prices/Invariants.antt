@@ -1,5 +1,5 @@
 use Rattle.std.proofs.Common.{◌≡◌, ◌++◌, map, drop, length}
-use Rattle.rt_block.specs.Entries.{entry_at}
+use Rattle.call_graph.specs.Entries.{entry_at}
 use Rattle.rt_block.specs.Longest.{section_prices}
 use Rattle.rt_block.proofs.sections.section_prices.Given as goal
 

@@ -1,6 +1,7 @@
 use Rattle.std.proofs.Common.{◌≡◌, ◌++◌, map, flat_map, ap, ◌∙◌, append_assoc}
 use Rattle.ods_tree.specs.Trees.{flat_of, guarded_of, library_of, thread_of}
-use Rattle.rt_block.specs.Entries.{asked_entries, entry_at, plain_entries, protected_entries}
+use Rattle.call_graph.specs.Entries.{entry_at}
+use Rattle.rt_block.specs.Entries.{asked_entries, plain_entries, protected_entries}
 use Rattle.rt_block.proofs.EntryLaws.{entries-are}
 use Rattle.rt_block.proofs.services.services_of.Goals as goal
 

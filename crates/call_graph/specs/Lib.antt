@@ -1,2 +1,3 @@
+pub mod Branched
 pub mod Listed
 pub mod Once

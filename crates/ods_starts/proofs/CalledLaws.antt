@@ -1,16 +1,17 @@
 -- Which bodies make the calls of protected operations, and that a body lists all calls that it makes.
 -- What a body calls it lists also by the name that its way and its rank have.
-use Rattle.std.proofs.Common.{◌≡◌, inl, inr, ◌⊎◌, Bool, true, false, List, [], ◌∷◌, ◌++◌, map, filter, refl, sym, subst}
+use Rattle.std.proofs.Common.{◌≡◌, inl, inr, ◌⊎◌, Bool, true, false, not, ◌&&◌, ◌||◌, List, [], ◌∷◌, ◌++◌, map, filter, refl, sym, subst}
 use Rattle.std.proofs.Common.{◌∙◌}
+use Rattle.std.specs.Prelude.{if◌then◌else◌}
 use Rattle.std.specs.List.{list_any}
 use Rattle.seq_tree.specs.Calls.{block_calls, branch_calls, same_op, statement_calls}
 use Rattle.seq_tree.specs.Names.{same_name}
 use Rattle.seq_tree.specs.Statements.{Statement, Statements, Branches, Null, Assign, If, For, ExitWhen, Call, Work, Put, End, Then}
 use Rattle.seq_tree.specs.Statements.{Nothing, Else, When}
 use Rattle.seq_tree.specs.declared.tree.OpName.{OpName}
-use Rattle.seq_tree.proofs.Shared.Walks.{same_op-eq}
+use Rattle.seq_tree.proofs.Shared.Walks.{both, same_op-eq}
 use Rattle.name_sets.specs.declared.places.Places.{Places}
-use Rattle.call_graph.specs.Listed.{block_listed, branch_listed, call_listed, statement_listed}
+use Rattle.call_graph.specs.Listed.{block_listed, branch_listed, call_listed, listed_all, listed_more, statement_listed}
 use Rattle.ods_tree.specs.Designs.{Body, Design, Object}
 use Rattle.ods_tree.specs.Flattening.{is_protected}
 use Rattle.ods_tree.specs.Links.{resolve}
@@ -18,7 +19,7 @@ use Rattle.ods_tree.specs.Walk.{Standing, terminals}
 use Rattle.design_rules.specs.Rings.{inner_calls, meant_calls, operation_calls, protected_objects}
 use Rattle.ods_starts.specs.Requested.{HeldBody, held, held_bodies, held_calls, held_in}
 use Rattle.ods_starts.specs.Singles.{key, keys_in}
-use Rattle.ods_starts.proofs.CallRings.{In, any-in, from-filter, from-flat, from-map, in-filter, in-flat, in-left, in-map, in-parts, in-right, same-self}
+use Rattle.ods_starts.proofs.CallRings.{In, any-in, from-filter, from-flat, from-map, in-filter, in-flat, in-left, in-map, in-parts, in-right, same-self, some-in}
 use Rattle.rings.proofs.Shared.Reaching.{and-from}
 
 -- where none of a list passes, no item does
@@ -81,11 +82,54 @@ two-parts c xs ys vs ws f g h = by (in-parts c xs ys h)
     by (inl k) = in-left c vs ws (f k)
     by (inr k) = in-right c vs ws (g k)
 
+either-part : (c : OpName) (xs ys zs : List OpName) → (In c xs → In c zs) → (In c ys → In c zs) → In c (xs ++ ys) → In c zs
+either-part c xs ys zs f g h = by (in-parts c xs ys h)
+  where
+    by : In c xs ⊎ In c ys → In c zs
+    by (inl k) = f k
+    by (inr k) = g k
+
+-- a call of a branch is listed, as it stands behind those that are or is passed over since it is among them
+more-stays : (c d : OpName) (seen : OpName → Bool) (all : List OpName) → In c all → In c (listed_more seen all d)
+unfolding listed_more
+more-stays c d seen all h = by (list_any (λ e. same_op e d) all && not (seen d))
+  where
+    by : (b : Bool) → In c (if b then all else all ++ d ∷ [])
+    by true = h
+    by false = in-left c all (d ∷ []) h
+
+more-comes : (d : OpName) (seen : OpName → Bool) (all : List OpName) → In d (listed_more seen all d)
+unfolding listed_more
+more-comes d seen all = by (list_any (λ e. same_op e d) all && not (seen d)) refl
+  where
+    by : (b : Bool) → (list_any (λ e. same_op e d) all && not (seen d)) ≡ b → In d (if b then all else all ++ d ∷ [])
+    by true e =
+        let r = some-in (λ f. same_op f d) all (both (list_any (λ f. same_op f d) all) (not (seen d)) e).0 in
+        let P : OpName → Type 0 = λ z. In z all in subst P (same_op-eq r.0 d r.2) r.1
+    by false e = in-right d all (d ∷ []) (inl refl)
+
+all-stay : (c : OpName) (seen : OpName → Bool) (all ds : List OpName) → In c all → In c (listed_all seen all ds)
+all-stay c seen all [] h = h
+all-stay c seen all (d ∷ ds) h = all-stay c (λ n. same_op d n || seen n) (listed_more seen all d) ds (more-stays c d seen all h)
+
+all-come : (c : OpName) (seen : OpName → Bool) (all ds : List OpName) → In c ds → In c (listed_all seen all ds)
+all-come c seen all [] h = absurd h
+all-come c seen all (d ∷ ds) (inl e) =
+    let P : OpName → Type 0 = λ z. In z (listed_more seen all d) in
+    all-stay c (λ n. same_op d n || seen n) (listed_more seen all d) ds (subst P e (more-comes d seen all))
+all-come c seen all (d ∷ ds) (inr h) = all-come c (λ n. same_op d n || seen n) (listed_more seen all d) ds h
+
+branches-stay : (twice : Bool) (c : OpName) (all : List OpName) (b : Branches) → In c all → In c (branch_listed twice all b)
+branches-stay twice c all Nothing h = h
+branches-stay twice c all (Else block) h = all-stay c (λ n. false) all (block_listed twice block) h
+branches-stay twice c all (When condition block others) h =
+    branches-stay twice c (listed_all (λ n. false) all (block_listed twice block)) others (all-stay c (λ n. false) all (block_listed twice block) h)
+
 mutual
   statement-listed : (twice : Bool) (c : OpName) (s : Statement) → In c (statement_calls s) → In c (statement_listed twice s)
   statement-listed twice c Null h = absurd h
   statement-listed twice c (Assign target e) h = absurd h
-  statement-listed twice c (If branches) h = branches-listed twice c branches h
+  statement-listed twice c (If branches) h = branches-listed twice c [] branches h
   statement-listed twice c (For name low high body) h = block-listed true c body h
   statement-listed twice c (ExitWhen condition) h = absurd h
   statement-listed twice c (Call object op actuals) h = call-listed twice c (record { object = object; op = op }) h
@@ -98,12 +142,14 @@ mutual
       two-parts c (statement_calls first) (block_calls rest) (statement_listed twice first) (block_listed twice rest)
       (statement-listed twice c first) (block-listed twice c rest) h
 
-  branches-listed : (twice : Bool) (c : OpName) (b : Branches) → In c (branch_calls b) → In c (branch_listed twice b)
-  branches-listed twice c Nothing h = absurd h
-  branches-listed twice c (Else block) h = block-listed twice c block h
-  branches-listed twice c (When condition block others) h =
-      two-parts c (block_calls block) (branch_calls others) (block_listed twice block) (branch_listed twice others)
-      (block-listed twice c block) (branches-listed twice c others) h
+  branches-listed : (twice : Bool) (c : OpName) (all : List OpName) (b : Branches) → In c (branch_calls b) → In c (branch_listed twice all b)
+  branches-listed twice c all Nothing h = absurd h
+  branches-listed twice c all (Else block) h = all-come c (λ n. false) all (block_listed twice block) (block-listed twice c block h)
+  branches-listed twice c all (When condition block others) h =
+      let behind = listed_all (λ n. false) all (block_listed twice block) in
+      either-part c (block_calls block) (branch_calls others) (branch_listed twice behind others)
+      (λ k. branches-stay twice c behind others (all-come c (λ n. false) all (block_listed twice block) (block-listed twice c block k)))
+      (λ k. branches-listed twice c behind others k) h
 
 -- what a block means to call, and what it lists of that
 abbrev pub meant_of : Design → List OpName → List OpName → List OpName

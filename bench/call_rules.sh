@@ -41,10 +41,17 @@ design() {
                 thread("a", "CYCLIC " cyclic, all)
                 for (k = 1; k <= count; k++) thread("s" k, "SPORADIC " sporadic, "")
             }
-            # threads, all of which call the first of a chain of protected objects
-            if (form == "shared") {
-                for (k = 1; k <= count; k++) thread("a" k, "CYCLIC " cyclic, "p1.f;")
-                for (k = 1; k <= count; k++) guarded("p" k, k < count ? "p" k + 1 ".f;" : "", k < count ? "p" k + 1 ".f;" : "")
+            # threads, all of which call the first of a chain of protected objects, which leads nowhere, or whose last requests a thread; or
+            # threads that are requested from outside call it
+            if (form == "shared" || form == "asked" || form == "outside") {
+                kind = form == "outside" ? "SPORADIC " sporadic : "CYCLIC " cyclic
+                if (form == "outside") sub(/PROVIDES/, "ARRIVAL_JITTER = 0; PROVIDES", kind)
+                for (k = 1; k <= count; k++) thread("a" k, kind, "p1.f;")
+                for (k = 1; k <= count; k++) {
+                    next_one = k < count ? "p" k + 1 ".f;" : form == "asked" ? "s.go;" : ""
+                    guarded("p" k, next_one, next_one)
+                }
+                if (form == "asked") thread("s", "SPORADIC " sporadic, "")
             }
             # one protected object with operations that a thread calls one after another
             if (form == "operations") {
@@ -64,8 +71,10 @@ branches() { design "$1" 352 branches; }
 starts() { design "$1" 205 starts; }
 fan() { design "$1" 200 fan; }
 shared() { design "$1" 287 shared; }
+asked() { design "$1" 287 asked; }
+outside() { design "$1" 332 outside; }
 operations() { design "$1" 75 operations; }
 
-for form in requests starts fan operations branches shared; do
+for form in requests starts fan operations branches shared asked outside; do
     grow check "$form" 122880 253952 516096 1040384
 done

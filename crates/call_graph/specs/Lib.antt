@@ -1,3 +1,4 @@
+pub mod Branched
 pub mod Listed
 pub mod Once
 pub mod Entries

@@ -34,16 +34,16 @@ abbrev pub In : {A : Type 0} → A → List A → Type 0
 In a [] = ⊥
 In a (b ∷ bs) = (b ≡ a) ⊎ In a bs
 
-in-left : {A : Type 0} (a : A) (xs ys : List A) → In a xs → In a (xs ++ ys)
+pub in-left : {A : Type 0} (a : A) (xs ys : List A) → In a xs → In a (xs ++ ys)
 in-left a [] ys h = absurd h
 in-left a (x ∷ xs) ys (inl e) = inl e
 in-left a (x ∷ xs) ys (inr h) = inr (in-left a xs ys h)
 
-in-right : {A : Type 0} (a : A) (xs ys : List A) → In a ys → In a (xs ++ ys)
+pub in-right : {A : Type 0} (a : A) (xs ys : List A) → In a ys → In a (xs ++ ys)
 in-right a [] ys h = h
 in-right a (x ∷ xs) ys h = inr (in-right a xs ys h)
 
-in-parts : {A : Type 0} (a : A) (xs ys : List A) → In a (xs ++ ys) → In a xs ⊎ In a ys
+pub in-parts : {A : Type 0} (a : A) (xs ys : List A) → In a (xs ++ ys) → In a xs ⊎ In a ys
 in-parts a [] ys h = inr h
 in-parts a (x ∷ xs) ys (inl e) = inl (inl e)
 in-parts a (x ∷ xs) ys (inr h) = by (in-parts a xs ys h)

@@ -1,20 +1,20 @@
 -- Examples: which bodies are held and what they call, what is due, and what is told of sources, and what breaks each of them alone.
-use Rattle.std.specs.Prelude.{◌≡◌, ◌⊎◌, ℕ, true, false, List, [], ◌∷◌, Some, None, codes, map, refl}
-use Rattle.std.proofs.Common.{inl, inr, arith, ap, Vec, Global}
+use Rattle.std.specs.Prelude.{◌≡◌, ◌⊎◌, ℕ, true, false, List, [], ◌∷◌, Some, None, codes, refl}
+use Rattle.std.proofs.Common.{inl, inr, arith, ap}
+use Rattle.seq_tree.specs.Calls.{same_op}
 use Rattle.seq_tree.specs.Statements.{Statements, Call, End, Then}
 use Rattle.seq_tree.specs.declared.tree.Costs.{Costs}
 use Rattle.seq_tree.specs.declared.tree.OpName.{OpName}
-use Rattle.name_sets.specs.Tables.{at, listed, named, or_0}
+use Rattle.name_sets.specs.Tables.{at, or_0}
 use Rattle.name_sets.specs.declared.op_table.OpTable.{OpTable}
 use Rattle.ods_tree.specs.Designs.{Design, Empty, Node, Object}
 use Rattle.ods_tree.specs.declared.design.AttrKey.TheVariants.{ArrivalJitter}
 use Rattle.ods_tree.specs.declared.design.Kind.TheVariants.{Protected, Sporadic}
 use Rattle.design_rules.specs.Broken.{V10}
-use Rattle.ods_starts.specs.Reaching.{reacher_of, reachers_at}
 use Rattle.ods_starts.specs.Requested.{AreDue, HeldBody, Knows, changes, greatest_count, held_bodies, held_calls, held_count, held_named}
 use Rattle.ods_starts.specs.Requested.{object_callers, op_callers, source_fault}
-use Rattle.ods_starts.specs.declared.reacher.Reacher.{Reacher}
-use Rattle.ods_starts.specs.declared.sources.Reachers.{Reachers}
+use Rattle.ods_starts.specs.Sourced.{leads_at, reaches_by}
+use Rattle.ods_starts.specs.declared.callers.Callers.{Callers}
 
 abbrev put : OpName
 put = record { object = codes "k"; op = codes "put" }
@@ -127,13 +127,21 @@ caller_is_due due = by (due put)
     by (inl e) = cc
     by (inr e) = omega (arith, e)
 
-reached_by : (r : Reachers) (v : Vec Reacher Global) → named r.threads (codes "q") ≡ Some v → reachers_at r (codes "q") ≡ map reacher_of v.items
-unfolding reachers_at
-reached_by r v e = ap (λ o. map reacher_of (listed o)) e
+-- a thread that calls q.set
+abbrev asker : Object
+asker = record outer { name = codes "a"; attrs = []; needs = set ∷ []; thread = Some calls_set }
 
-not_reached : (r : Reachers) → named r.threads (codes "q") ≡ None → reachers_at r (codes "q") ≡ []
-unfolding reachers_at
-not_reached r e = ap (λ o. map reacher_of (listed o)) e
+called_by_thread : reaches_by (small outer) (codes "q") (λ m. false) asker ≡ true
+called_by_thread = refl
+
+led_to : reaches_by (small outer) (codes "s") (λ m. same_op m set) asker ≡ true
+led_to = refl
+
+not_reached : reaches_by (small outer) (codes "s") (λ m. false) asker ≡ false
+not_reached = refl
+
+no_levels : (t : Callers) → leads_at t 0 (codes "q") put ≡ false
+no_levels t = refl
 
 from_outside : source_fault (small outer) outer ≡ None
 from_outside = refl

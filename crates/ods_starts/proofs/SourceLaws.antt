@@ -1,19 +1,19 @@
 -- Threads that request an object: how many reach it, and that one that doesn't reach it never requests it.
-use Rattle.std.proofs.Common.{◌≡◌, ◌≤◌, ◌<◌, ℕ, zero, suc, Bool, true, false, cond, not, ◌&&◌, ◌||◌, List, [], ◌∷◌, ◌++◌, Option, Some}
-use Rattle.std.proofs.Common.{None, is_some, map, filter, flat_map, fold, length, arith, refl, ap, sym, ◌∙◌}
+use Rattle.std.proofs.Common.{◌≡◌, ◌≤◌, ◌<◌, ◌+◌, ℕ, zero, suc, Bool, true, false, cond, not, ◌&&◌, ◌||◌, List, [], ◌∷◌, ◌++◌, Option, Some}
+use Rattle.std.proofs.Common.{None, map, filter, flat_map, fold, length, arith, refl, ap, sym, ◌∙◌}
 use Rattle.std.specs.Prelude.{max, min, nat_le, ◌==◌, option_to_list, if◌then◌else◌}
 use Rattle.std.specs.List.{list_any}
-use Rattle.std.proofs.lemmas.List.{append-nil}
 use Rattle.std.proofs.lemmas.List.Folds.{list_any-append}
-use Rattle.std.proofs.lemmas.Slice.Eq.{bytes_eq-Decides}
 use Rattle.seq_tree.specs.Calls.{block_calls}
 use Rattle.seq_tree.specs.Dearest.{counted}
 use Rattle.seq_tree.specs.Lists.{Each}
 use Rattle.seq_tree.specs.Names.{Name, same_name}
 use Rattle.seq_tree.specs.Statements.{Statements}
 use Rattle.seq_tree.specs.declared.tree.OpName.{OpName}
+use Rattle.ods_tree.specs.Attributes.{attribute}
 use Rattle.ods_tree.specs.Designs.{Body, Design, Object, Tree, Node, Empty, With}
 use Rattle.ods_tree.specs.Links.{resolve}
+use Rattle.ods_tree.specs.declared.design.AttrKey.TheVariants.{ArrivalJitter}
 use Rattle.ods_tree.specs.declared.design.Node as nodes
 use Rattle.ods_tree.specs.declared.design.Node.{out-Node}
 use Rattle.ods_tree.specs.Walk.{Standing, inner_standings, is_terminal, objects, only_if, own_of, roots, standings}
@@ -23,7 +23,7 @@ use Rattle.design_rules.specs.Rings.{calls_within, can_start, inner_calls, meant
 use Rattle.design_rules.specs.Rings.{thread_objects}
 use Rattle.design_rules.specs.Sources.{body_starts, breaks_sources, requests_by, source_count, start_count, start_weight, starts_within}
 use Rattle.ods_starts.specs.Requested.{source_fault}
-use Rattle.ods_starts.specs.Spreading.{is_there, reaches}
+use Rattle.ods_starts.specs.Spreading.{reaches}
 use Rattle.ods_index.specs.Walking.{object_of}
 use Rattle.ods_starts.proofs.RequestLaws.{counted-quiet, fold-cons}
 use Rattle.ods_index.proofs.Shared.WalkSteps.{own_fields}
@@ -33,7 +33,7 @@ or-parts true b h = absurd (cc)
 or-parts false b h = (refl, h)
 
 -- a test of what a list leads to
-any-flat : (p : OpName → Bool) (f : OpName → List OpName) (xs : List OpName) → list_any p (flat_map f xs) ≡ list_any (λ m. list_any p (f m)) xs
+pub any-flat : (p : OpName → Bool) (f : OpName → List OpName) (xs : List OpName) → list_any p (flat_map f xs) ≡ list_any (λ m. list_any p (f m)) xs
 any-flat p f [] = refl
 any-flat p f (y ∷ xs) = list_any-append p (f y) (flat_map f xs) ∙ ap (λ b. list_any p (f y) || b) (any-flat p f xs)
 
@@ -167,59 +167,30 @@ pub starters-counted : (x : Design) (o : Object) (fs : List Object) → is_spora
     ≡ length (filter (λ f. can_start x f o) fs)
 starters-counted x o fs e = ap (λ b. length (filter (λ f. b && reaches x f o.name) fs)) (sym e)
 
--- a name that is there already
-pub found-again : (there : Name → Bool) (m : Name) → there m ≡ true → (n : Name) → there n ≡ (there n || same_name m n)
-found-again there m h n = by (same_name m n) refl
+-- where no thread reaches an object, none counts
+pub none-reached : (x : Design) (n : Name) (os : List Object) → list_any (λ o. reaches x o n) os ≡ false
+    → (length (filter (λ o. reaches x o n) os) ≡ 0) × (fold max 0 (map (requests_by x n) os) ≡ 0)
+none-reached x n [] h = (refl, refl)
+none-reached x n (o ∷ os) h =
+    let parts = or-parts (reaches x o n) (list_any (λ f. reaches x f n) os) h in
+    let rest = none-reached x n os parts.1 in (
+      ap (λ b. length (cond b (o ∷ filter (λ f. reaches x f n) os) (filter (λ f. reaches x f n) os))) parts.0 ∙ rest.0,
+      fold-cons (requests_by x n o) (map (requests_by x n) os)
+          ∙ max-nothing (requests_by x n o) (fold max 0 (map (requests_by x n) os)) (quiet-thread x n o parts.0) rest.1,
+    )
+
+-- and where one does, one counts
+pub some-reached : (x : Design) (n : Name) (os : List Object) → list_any (λ o. reaches x o n) os ≡ true → 1 ≤ length (filter (λ o. reaches x o n) os)
+some-reached x n [] h = absurd (cc)
+some-reached x n (o ∷ os) h = by (reaches x o n) (some-reached x n os) h
   where
-    or-true : (b : Bool) → (b || true) ≡ true
-    or-true true = refl
-    or-true false = refl
+    rest : List Object
+    rest = filter (λ f. reaches x f n) os
 
-    or-false : (b : Bool) → b ≡ (b || false)
-    or-false true = refl
-    or-false false = refl
-
-    by : (t : Bool) → same_name m n ≡ t → there n ≡ (there n || t)
-    by true e = ap there (sym ((bytes_eq-Decides m n).0 e)) ∙ h ∙ sym (or-true (there n))
-    by false e = or-false (there n)
-
-pub nothing-again : {A : Type 0} (there : Name → Bool) (m : Name) (xs one : List A) → there m ≡ true → (n : Name) → xs ≡ xs
-    ++ (if not (there n) && same_name m n then one else [])
-nothing-again there m xs one h n = by (there n) refl (same_name m n) refl
-  where
-    by : (b : Bool) → there n ≡ b → (t : Bool) → same_name m n ≡ t → xs ≡ xs ++ (if not b && t then one else [])
-    by true e t k = sym (append-nil xs)
-    by false e true k = (let z : true ≡ false = sym h ∙ ap there ((bytes_eq-Decides m n).0 k) ∙ e in cc)
-    by false e false k = sym (append-nil xs)
-
--- one that is new
-pub found-new : (m n : Name) (place : ℕ) (old new : Option ℕ) → new ≡ cond (same_name m n) (Some place) old → is_there new
-    ≡ (is_there old || same_name m n)
-found-new m n place old new e = ap is_there e ∙ by (same_name m n) (is_there old) refl
-  where
-    by : (t b : Bool) → is_there old ≡ b → is_there (cond t (Some place) old) ≡ (is_there old || t)
-    by true true e = ap (λ c. c || true) (sym e)
-    by true false e = ap (λ c. c || true) (sym e)
-    by false true e = e ∙ ap (λ c. c || false) (sym e)
-    by false false e = e ∙ ap (λ c. c || false) (sym e)
-
-pub added-new : {A : Type 0} (there : Name → Bool) (m : Name) (xs ys one : List A) → there m ≡ false → (n : Name) → ys ≡ xs
-    ++ (if same_name m n then one else [])
-    → ys ≡ xs ++ (if not (there n) && same_name m n then one else [])
-added-new there m xs ys one h n e = e ∙ ap (λ b. xs ++ (if b then one else [])) (by (there n) refl (same_name m n) refl)
-  where
-    by : (b : Bool) → there n ≡ b → (t : Bool) → same_name m n ≡ t → t ≡ (not b && t)
-    by true e true k = (let z : false ≡ true = sym h ∙ ap there ((bytes_eq-Decides m n).0 k) ∙ e in cc)
-    by true e false k = refl
-    by false e t k = refl
-
--- what was kept before the first operation, and after one more
-pub added-once : {A : Type 0} (xs ys zs one : List A) (old new here : Bool) → ys ≡ xs ++ (if old then one else []) → new ≡ (old || here) → zs
-    ≡ ys ++ (if not old && here then one else [])
-    → zs ≡ xs ++ (if new then one else [])
-added-once xs ys zs one true new here y n z = z ∙ append-nil ys ∙ y ∙ ap (λ b. xs ++ (if b then one else [])) (sym n)
-added-once xs ys zs one false new here y n z =
-    z ∙ ap (λ l. l ++ (if here then one else [])) (y ∙ append-nil xs) ∙ ap (λ b. xs ++ (if b then one else [])) (sym n)
+    by : (b : Bool) → (list_any (λ f. reaches x f n) os ≡ true → 1 ≤ length rest) → (b || list_any (λ f. reaches x f n) os) ≡ true
+        → 1 ≤ length (cond b (o ∷ rest) rest)
+    by true r k = omega arith
+    by false r k = r k
 
 -- fewer threads than objects, but for a design of one object
 pub filter-shorter : {A : Type 0} (p : A → Bool) (xs : List A) → length (filter p xs) ≤ length xs
@@ -249,15 +220,6 @@ few-tree (Node own (With first rest)) few = omega (arith, few, fewer (inner_stan
 
 pub few-threads : (x : Design) → length (objects x) < 4294967296 → length (thread_objects x) < 4294967295
 few-threads x few = few-tree x.root few
-
--- whether a name is kept, by the look-up
-pub there-some : {A : Type 0} (o : Option A) → is_some o ≡ true → is_there o ≡ true
-there-some None h = absurd (cc)
-there-some (Some a) h = refl
-
-pub there-none : {A : Type 0} (o : Option A) → is_some o ≡ false → is_there o ≡ false
-there-none None h = refl
-there-none (Some a) h = absurd (cc)
 
 -- the name and the kind of an object with no fields hidden
 pub own-name : (n : nodes.Node) → (out-Node n).name ≡ (object_of n).name
@@ -290,3 +252,17 @@ fault-none x o sources s one few =
     by : (b : Bool) → only_if (b && false) (V10 o.name (source_count x o) (start_count x o)) ≡ None
     by true = refl
     by false = refl
+
+-- nothing is told of one whose sources are one in all and that is requested once at most
+pub fine-fault : (x : Design) (o : Object) (out : ℕ) → out ≡ length (option_to_list (attribute ArrivalJitter o))
+    → length (filter (λ f. reaches x f o.name) (thread_objects x)) + out ≡ 1 → fold max 0 (map (requests_by x o.name) (thread_objects x)) ≤ 1
+    → source_fault x o ≡ None
+fine-fault x o out is one few = by (is_sporadic o.kind) refl
+  where
+    by : (b : Bool) → is_sporadic o.kind ≡ b → source_fault x o ≡ None
+    by true e =
+        let counted : source_count x o ≡ 1 =
+        ap (λ n. n + length (option_to_list (attribute ArrivalJitter o))) (sym (starters-counted x o (thread_objects x) e))
+        ∙ ap (λ n. length (filter (λ f. reaches x f o.name) (thread_objects x)) + n) (sym is) ∙ one in
+        fault-none x o 1 (sym counted) refl few
+    by false e = ap (λ b. only_if (b && breaks_sources x o) (V10 o.name (source_count x o) (start_count x o))) e

@@ -9,7 +9,7 @@ use Rattle.std.proofs.Math.Seq.{drop-append_seam}
 use Rattle.seq_tree.specs.Calls.{same_op}
 use Rattle.seq_tree.specs.Names.{Name, same_name}
 use Rattle.seq_tree.specs.declared.tree.OpName.{OpName}
-use Rattle.seq_tree.proofs.Shared.Walks.{same_op-eq}
+use Rattle.seq_tree.proofs.Shared.Walks.{same_op-eq, within}
 use Rattle.ods_tree.specs.Designs.{Body, Design, Object}
 use Rattle.ods_tree.specs.Walk.{Standing}
 use Rattle.design_rules.specs.Rings.{calls_within, inner_calls, meant_calls, operation_calls}
@@ -29,7 +29,7 @@ pub in-right : (a : OpName) (xs ys : List OpName) → In a ys → In a (xs ++ ys
 in-right a [] ys h = h
 in-right a (x ∷ xs) ys h = inr (in-right a xs ys h)
 
-in-parts : (a : OpName) (xs ys : List OpName) → In a (xs ++ ys) → In a xs ⊎ In a ys
+pub in-parts : (a : OpName) (xs ys : List OpName) → In a (xs ++ ys) → In a xs ⊎ In a ys
 in-parts a [] ys h = inr h
 in-parts a (x ∷ xs) ys (inl e) = inl (inl e)
 in-parts a (x ∷ xs) ys (inr h) = by (in-parts a xs ys h)
@@ -130,15 +130,9 @@ spread-ends next (suc depth) from all h =
     ap (λ ops. spread next depth (length all) (found_all all (flat_map next ops))) (drop_of_length-le all h)
     ∙ spread-ends next depth (length all) all (omega arith)
 
-module _ (x : Design) (next : OpName → List OpName) (is : (n : OpName) → next n ≡ inner_calls x n) where
-  in-next : (n m : OpName) → In m (inner_calls x n) → In m (next n)
-  in-next n m h = let P : List OpName → Type 0 = λ z. In m z in subst P (sym (is n)) h
-
-  from-next : (n m : OpName) → In m (next n) → In m (inner_calls x n)
-  from-next n m h = let P : List OpName → Type 0 = λ z. In m z in subst P (is n) h
-
+module _ (next : OpName → List OpName) where
   -- an operation is the first to which it leads itself
-  here : (depth : ℕ) (n : OpName) → In n (calls_within depth x n)
+  here : (depth : ℕ) (n : OpName) → In n (within depth next n)
   here zero n = inl refl
   here (suc depth) n = inl refl
 
@@ -152,26 +146,26 @@ module _ (x : Design) (next : OpName → List OpName) (is : (n : OpName) → nex
 
   -- what is found was found before, or is led to from the place on
   pub sound : (depth from : ℕ) (all : List OpName) (c : OpName) → In c (spread next depth from all) → In c all
-      ⊎ ((n : OpName) × In n (drop from all) × In c (calls_within depth x n))
+      ⊎ ((n : OpName) × In n (drop from all) × In c (within depth next n))
   sound zero from all c h = inl h
   sound (suc depth) from all c h = by (sound depth (length all) after c h)
     where
       after : List OpName
       after = found_all all (flat_map next (drop from all))
 
-      called : (m : OpName) → In m (flat_map next (drop from all)) → In c (calls_within depth x m) → (n : OpName) × In n (drop from all)
-          × In c (calls_within (suc depth) x n)
+      called : (m : OpName) → In m (flat_map next (drop from all)) → In c (within depth next m) → (n : OpName) × In n (drop from all)
+          × In c (within (suc depth) next n)
       called m k j =
           let r = from-flat next m (drop from all) k in
-          (r.0, r.1, inr (in-flat (calls_within depth x) m c (inner_calls x r.0) (from-next r.0 m r.2) j))
+          (r.0, r.1, inr (in-flat (within depth next) m c (next r.0) r.2 j))
 
       old : In c all ⊎ In c (grown-all all (flat_map next (drop from all))).more → In c all
-          ⊎ ((n : OpName) × In n (drop from all) × In c (calls_within (suc depth) x n))
+          ⊎ ((n : OpName) × In n (drop from all) × In c (within (suc depth) next n))
       old (inl k) = inl k
       old (inr k) = inr (called c ((grown-all all (flat_map next (drop from all))).looked c k) (here depth c))
 
-      by : In c after ⊎ ((m : OpName) × In m (drop (length all) after) × In c (calls_within depth x m)) → In c all
-          ⊎ ((n : OpName) × In n (drop from all) × In c (calls_within (suc depth) x n))
+      by : In c after ⊎ ((m : OpName) × In m (drop (length all) after) × In c (within depth next m)) → In c all
+          ⊎ ((n : OpName) × In n (drop from all) × In c (within (suc depth) next n))
       by (inl k) =
           let g = grown-all all (flat_map next (drop from all)) in
           let P : List OpName → Type 0 = λ z. In c z in old (in-parts c all g.more (subst P g.grown k))
@@ -213,33 +207,33 @@ module _ (x : Design) (next : OpName → List OpName) (is : (n : OpName) → nex
   stays (suc depth) from all c h = stays depth (length all) (found_all all (flat_map next (drop from all))) c (kept from all c h)
 
   -- what is led to is found
-  pub complete : (depth from : ℕ) (all : List OpName) → Closed from all → (n c : OpName) → In n all → In c (calls_within depth x n)
+  pub complete : (depth from : ℕ) (all : List OpName) → Closed from all → (n c : OpName) → In n all → In c (within depth next n)
       → In c (spread next depth from all)
   complete zero from all closed n c h (inl e) = let P : OpName → Type 0 = λ z. In z all in subst P e h
   complete zero from all closed n c h (inr k) = absurd k
   complete (suc depth) from all closed n c h (inl e) = let P : OpName → Type 0 = λ z. In z all in stays (suc depth) from all c (subst P e h)
   complete (suc depth) from all closed n c h (inr k) =
-      let r = from-flat (calls_within depth x) c (inner_calls x n) k in
+      let r = from-flat (within depth next) c (next n) k in
       complete depth (length all) (found_all all (flat_map next (drop from all))) (closed-later from all closed) r.0 c
-      (called-later from all closed n r.0 h (in-next n r.0 r.1)) r.2
+      (called-later from all closed n r.0 h r.1) r.2
 
   -- from no operations before
   pub spread-in : (depth : ℕ) (starts : List OpName) (c : OpName) → In c (spread next depth 0 (found_all [] starts))
-      → In c (flat_map (calls_within depth x) starts)
+      → In c (flat_map (within depth next) starts)
   spread-in depth starts c h = by (sound depth 0 (found_all [] starts) c h)
     where
       from-starts : (n : OpName) → In n (found_all [] starts) → In n starts
       from-starts n k = let g = grown-all [] starts in let P : List OpName → Type 0 = λ z. In n z in g.looked n (subst P g.grown k)
 
-      by : In c (found_all [] starts) ⊎ ((n : OpName) × In n (found_all [] starts) × In c (calls_within depth x n))
-          → In c (flat_map (calls_within depth x) starts)
-      by (inl k) = in-flat (calls_within depth x) c c starts (from-starts c k) (here depth c)
-      by (inr r) = in-flat (calls_within depth x) r.0 c starts (from-starts r.0 r.1) r.2
+      by : In c (found_all [] starts) ⊎ ((n : OpName) × In n (found_all [] starts) × In c (within depth next n))
+          → In c (flat_map (within depth next) starts)
+      by (inl k) = in-flat (within depth next) c c starts (from-starts c k) (here depth c)
+      by (inr r) = in-flat (within depth next) r.0 c starts (from-starts r.0 r.1) r.2
 
-  pub in-spread : (depth : ℕ) (starts : List OpName) (c : OpName) → In c (flat_map (calls_within depth x) starts)
+  pub in-spread : (depth : ℕ) (starts : List OpName) (c : OpName) → In c (flat_map (within depth next) starts)
       → In c (spread next depth 0 (found_all [] starts))
   in-spread depth starts c h =
-      let r = from-flat (calls_within depth x) c starts h in
+      let r = from-flat (within depth next) c starts h in
       complete depth 0 (found_all [] starts) (λ n k. inl k) r.0 c ((grown-all [] starts).found r.0 r.1) r.2
 
 -- a test finds an item of a list
@@ -267,20 +261,37 @@ same-bool false true f g = g refl
 same-bool false false f g = refl
 
 -- a test finds one among the found ones where it does among those that are led to
+pub spread-found : (next : OpName → List OpName) (p : OpName → Bool) (depth : ℕ) (starts : List OpName)
+    → list_any p (spread next depth 0 (found_all [] starts)) ≡ list_any p (flat_map (within depth next) starts)
+spread-found next p depth starts = same-bool _ _ forth back
+  where
+    forth : list_any p (spread next depth 0 (found_all [] starts)) ≡ true → list_any p (flat_map (within depth next) starts) ≡ true
+    forth h =
+        let r = any-some p (spread next depth 0 (found_all [] starts)) h in
+        any-true p (flat_map (within depth next) starts) r.0 (spread-in next depth starts r.0 r.1) r.2
+
+    back : list_any p (flat_map (within depth next) starts) ≡ true → list_any p (spread next depth 0 (found_all [] starts)) ≡ true
+    back h =
+        let r = any-some p (flat_map (within depth next) starts) h in
+        any-true p (spread next depth 0 (found_all [] starts)) r.0 (in-spread next depth starts r.0 r.1) r.2
+
+flat-same : (f g : OpName → List OpName) (xs : List OpName) → ((n : OpName) → f n ≡ g n) → flat_map f xs ≡ flat_map g xs
+flat-same f g [] same = refl
+flat-same f g (y ∷ xs) same = ap (λ l. l ++ flat_map f xs) (same y) ∙ ap (λ l. g y ++ l) (flat-same f g xs same)
+
+-- what is within a depth by what protected operations call
+pub within-calls : (x : Design) (next : OpName → List OpName) → ((n : OpName) → next n ≡ inner_calls x n) → (depth : ℕ) (n : OpName)
+    → within depth next n ≡ calls_within depth x n
+within-calls x next is zero n = refl
+within-calls x next is (suc depth) n =
+    ap (λ l. n ∷ flat_map (within depth next) l) (is n)
+    ∙ ap (λ l. n ∷ l) (flat-same (within depth next) (calls_within depth x) (inner_calls x n) (within-calls x next is depth))
+
 pub spread-any : (x : Design) (next : OpName → List OpName) → ((n : OpName) → next n ≡ inner_calls x n)
     → (p : OpName → Bool) (depth : ℕ) (starts : List OpName)
     → list_any p (spread next depth 0 (found_all [] starts)) ≡ list_any p (flat_map (calls_within depth x) starts)
-spread-any x next is p depth starts = same-bool _ _ forth back
-  where
-    forth : list_any p (spread next depth 0 (found_all [] starts)) ≡ true → list_any p (flat_map (calls_within depth x) starts) ≡ true
-    forth h =
-        let r = any-some p (spread next depth 0 (found_all [] starts)) h in
-        any-true p (flat_map (calls_within depth x) starts) r.0 (spread-in x next is depth starts r.0 r.1) r.2
-
-    back : list_any p (flat_map (calls_within depth x) starts) ≡ true → list_any p (spread next depth 0 (found_all [] starts)) ≡ true
-    back h =
-        let r = any-some p (flat_map (calls_within depth x) starts) h in
-        any-true p (spread next depth 0 (found_all [] starts)) r.0 (in-spread x next is depth starts r.0 r.1) r.2
+spread-any x next is p depth starts =
+    spread-found next p depth starts ∙ ap (list_any p) (flat-same (within depth next) (calls_within depth x) starts (within-calls x next is depth))
 
 pub ruleset spread_laws = (found-append)
 

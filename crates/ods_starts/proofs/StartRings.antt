@@ -46,7 +46,7 @@ pub record Started (x : Design) (a c : Name) : Type 0 where
 same-too : (a b c : Name) → same_name a b ≡ true → b ≡ c → a ≡ c
 same-too a b c h e = same-is a b h ∙ e
 
-started : (x : Design) (a c : Name) → StartsThread x a c → Started x a c
+pub started : (x : Design) (a c : Name) → StartsThread x a c → Started x a c
 started x a c h =
     let f = some-in (λ f. same_name f.name a && list_any (λ t. same_name t.name c && can_start x f t) (thread_objects x)) (thread_objects x) h in
     let g = both (same_name f.0.name a) (list_any (λ t. same_name t.name c && can_start x f.0 t) (thread_objects x)) f.2 in

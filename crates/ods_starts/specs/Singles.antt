@@ -1,6 +1,6 @@
 -- What ways of calls are found by: the callers of a design, its protected operations and its threads.
 -- All operations of a target, which a sporadic thread is, have one name here, so that its requests are counted together.
-use Rattle.std.specs.Prelude.{Bool, false, ◌&&◌, List, Option, Some, None, is_some, filter, map, option_to_list, if◌then◌else◌}
+use Rattle.std.specs.Prelude.{Bool, false, ◌&&◌, List, Option, Some, None, is_some, filter, flat_map, map, option_to_list, if◌then◌else◌}
 use Rattle.std.specs.List.{list_any}
 use Rattle.seq_tree.specs.Calls.{same_op}
 use Rattle.seq_tree.specs.Names.{Name}
@@ -29,12 +29,20 @@ key t m = if is_there (place_in t m.object) then target_key m.object else m
 abbrev pub keys_in : Places → Design → List OpName → Statements → List OpName
 keys_in t x needs b = map (λ c. key t (resolve x c)) (filter (λ c. list_any (same_op c) needs) (block_listed false b))
 
--- a body of a protected operation, and the thread of an object, where it has one
+-- those of the thread of an object, where it has one
+abbrev pub thread_keys : Places → Design → Object → List OpName
+thread_keys t x o = flat_map (keys_in t x o.needs) (option_to_list o.thread)
+
+-- a body of a protected operation, and all threads together
 abbrev pub held_caller : Places → Design → HeldBody → CallerTree
 held_caller t x h = record { from = Some (key t h.name); calls = keys_in t x h.needs h.block }
 
-abbrev pub thread_callers : Places → Design → Object → List CallerTree
-thread_callers t x o = map (λ b. record { from = None; calls = keys_in t x o.needs b }) (option_to_list o.thread)
+abbrev pub threads_caller : Places → Design → List Object → CallerTree
+threads_caller t x os = record { from = None; calls = flat_map (thread_keys t x) os }
+
+-- a thread by itself, under the name that it has where it is a target
+abbrev pub named_caller : Places → Design → Object → CallerTree
+named_caller t x o = record { from = Some (target_key o.name); calls = thread_keys t x o }
 
 -- whether a target has a way
 abbrev pub has_way : Option Ways → Name → Bool

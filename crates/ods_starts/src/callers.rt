@@ -4,10 +4,10 @@ ghost use Rattle.seq_tree.specs.declared.tree.OpName.{OpName as OpTree};
 ghost use Rattle.ods_tree.specs.Trees.{design_of};
 ghost use Rattle.ods_index.specs.Linked.{op_of};
 ghost use Rattle.ods_starts.specs.Requested.{held_of, object_caller, object_callers, op_caller, op_callers};
-ghost use Rattle.ods_starts.specs.Spreading.{body_at, found_all, inner_at};
+ghost use Rattle.ods_starts.specs.Spreading.{body_at, found_all, inner_at, spread};
 
 use crate::held::ProtectedBody;
-use crate::starts::{BodyCalls, Inner, find_all, follow_all, meant_calls};
+use crate::starts::{BodyCalls, Inner, find_all, follow_all, meant_calls, search};
 use name_sets::Ops;
 use ods_index::{Links, OpView};
 use seq_tree::{Name, NoMemory};
@@ -118,6 +118,22 @@ impl<'a> Callers<'a> {
                 find_all(alloc, ops, &mut seen, &mut found)?;
                 Ok(found)
             }
+        }
+    }
+
+    /// The operations that lead to one of an object, by so many calls before the last one at most, each once.
+    pub(crate) fn leading_to(
+        &self,
+        alloc: Global,
+        depth: usize,
+        object: &Name,
+    ) -> Result<Vec<OpView<'a>>, NoMemory>
+        ensures { IfOk result (λ v. map op_of v.items
+            ≡ spread (inner_at self.now.ops) depth 0 (found_all [] (body_at self.now.objects object.now))) }
+    {
+        match self.objects.get(object) {
+            None => search(alloc, &self.ops, depth, &[]),
+            Some(ops) => search(alloc, &self.ops, depth, ops),
         }
     }
 

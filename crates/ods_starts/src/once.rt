@@ -1,4 +1,4 @@
-ghost use Rattle.std.specs.Prelude.{◌≡◌, ◌≤◌, ◌∷◌, ◌++◌, [], true, IfOk, OnOk, filter, flat_map, fold, map, max};
+ghost use Rattle.std.specs.Prelude.{◌≡◌, ◌≤◌, ◌∷◌, ◌++◌, [], true, IfOk, OnOk, filter, flat_map, fold, length, map, max};
 ghost use Rattle.std.specs.List.{list_any};
 ghost use Rattle.seq_tree.specs.Calls.{same_op};
 ghost use Rattle.seq_tree.specs.Names.{Name as NameTree};
@@ -12,7 +12,8 @@ ghost use Rattle.ods_index.specs.Linked.{op_of};
 ghost use Rattle.ods_index.specs.Walking.{object_of};
 ghost use Rattle.ods_starts.specs.Reaching.{thread_of};
 ghost use Rattle.ods_starts.specs.Requested.{held_bodies, held_of};
-ghost use Rattle.ods_starts.specs.Singles.{has_way, held_caller, is_once, key, keys_in, thread_callers};
+ghost use Rattle.ods_starts.specs.Singles.{has_way, held_caller, is_once, key, keys_in, thread_keys, threads_caller};
+ghost use Rattle.ods_starts.specs.Spreading.{reaches};
 
 use crate::held::ProtectedBody;
 use crate::start_rings::targets_of;
@@ -125,7 +126,7 @@ fn add_body<'a>(
 }
 
 /// Adds bodies of protected operations.
-fn add_bodies<'a>(
+pub(crate) fn add_bodies<'a>(
     alloc: Global,
     targets: &Places<'a>,
     links: &Links<'a>,
@@ -141,39 +142,53 @@ fn add_bodies<'a>(
     Ok(())
 }
 
-/// Adds what the thread of an object calls.
-#[tactic(auto, using(ods_index::proofs::Shared::WalkSteps::node_steps))]
+/// The names of what the thread of an object calls.
+#[tactic(auto, using(ods_index::proofs::Shared::WalkSteps::node_steps, crate::proofs::SpreadLaws::thread_laws))]
+pub(crate) fn thread_keys<'a>(
+    alloc: Global,
+    targets: &Places<'a>,
+    links: &Links<'a>,
+    node: &'a Node,
+) -> Result<Vec<Call<'a>>, NoMemory>
+    ensures { IfOk result (λ v. map call_of v.items
+        ≡ thread_keys targets.now (design_of links.now.design.now) (object_of node.entry.now)) }
+{
+    match &node.thread {
+        None => Ok(Vec::new(alloc)),
+        Some(block) => {
+            let needs = Required::new(alloc, node.needs.as_slice())?;
+            keys_of(alloc, targets, links, &needs, block)
+        }
+    }
+}
+
+/// Adds the names of what the thread of an object calls.
+#[tactic(auto, using(crate::proofs::LoopEnds::added_laws))]
 fn add_thread<'a>(
     alloc: Global,
     targets: &Places<'a>,
     links: &Links<'a>,
     node: &'a Node,
-    into: &mut Vec<Caller<'a>>,
+    into: &mut Vec<Call<'a>>,
 ) -> Result<(), NoMemory>
-    ensures { OnOk result (map caller_of into.new.items ≡ map caller_of into.old.items
-        ++ thread_callers targets.now (design_of links.now.design.now) (object_of node.entry.now)) }
+    ensures { OnOk result (map call_of into.new.items ≡ map call_of into.old.items
+        ++ thread_keys targets.now (design_of links.now.design.now) (object_of node.entry.now)) }
 {
-    match &node.thread {
-        None => Ok(()),
-        Some(block) => {
-            let needs = Required::new(alloc, node.needs.as_slice())?;
-            let calls = keys_of(alloc, targets, links, &needs, block)?;
-            into.push(Caller { from: None, calls })?;
-            Ok(())
-        }
-    }
+    let keys = thread_keys(alloc, targets, links, node)?;
+    into.extend_from_slice(keys.as_slice())?;
+    Ok(())
 }
 
-/// Adds what threads call.
+/// Adds the names of what threads call.
 fn add_threads<'a>(
     alloc: Global,
     targets: &Places<'a>,
     links: &Links<'a>,
     threads: &[&'a Node],
-    into: &mut Vec<Caller<'a>>,
+    into: &mut Vec<Call<'a>>,
 ) -> Result<(), NoMemory>
-    ensures { OnOk result (map caller_of into.new.items ≡ map caller_of into.old.items
-        ++ flat_map (thread_callers targets.now (design_of links.now.design.now)) (map thread_of threads.entry.now)) }
+    ensures { OnOk result (map call_of into.new.items ≡ map call_of into.old.items
+        ++ flat_map (thread_keys targets.now (design_of links.now.design.now)) (map thread_of threads.entry.now)) }
 {
     'threads: for node in threads {
         add_thread(alloc, targets, links, node, into)?;
@@ -181,8 +196,40 @@ fn add_threads<'a>(
     Ok(())
 }
 
-/// The sporadic threads that no path of an activation requests twice, as far as that shows by each call being the only one: looking for
-/// these takes as long as there are calls, and counting the requests of each thread by itself as long as there are ways to it.
+/// What threads call, as if they were one.
+fn threads_caller<'a>(
+    alloc: Global,
+    targets: &Places<'a>,
+    links: &Links<'a>,
+    threads: &[&'a Node],
+) -> Result<Caller<'a>, NoMemory>
+    ensures { IfOk result (λ c. caller_of c
+        ≡ threads_caller targets.now (design_of links.now.design.now) (map thread_of threads.entry.now)) }
+{
+    let mut calls = Vec::new(alloc);
+    add_threads(alloc, targets, links, threads, &mut calls)?;
+    Ok(Caller { from: None, calls })
+}
+
+/// Adds threads, as if they were one.
+fn add_threads_caller<'a>(
+    alloc: Global,
+    targets: &Places<'a>,
+    links: &Links<'a>,
+    threads: &[&'a Node],
+    into: &mut Vec<Caller<'a>>,
+) -> Result<(), NoMemory>
+    ensures { OnOk result (map caller_of into.new.items ≡ map caller_of into.old.items
+        ++ threads_caller targets.now (design_of links.now.design.now) (map thread_of threads.entry.now) ∷ []) }
+{
+    let caller = threads_caller(alloc, targets, links, threads)?;
+    into.push(caller)?;
+    Ok(())
+}
+
+/// The sporadic threads that one thread alone reaches, and that no path of an activation requests twice, as far as that shows by each call
+/// being the only one: looking for these takes as long as there are calls, and counting the requests of each thread by itself as long as
+/// there are ways to it.
 #[derive(Drop)]
 pub(crate) struct Once<'a> {
     targets: Places<'a>,
@@ -221,13 +268,15 @@ impl<'a> Once<'a> {
         threads: &[&'a Node],
     ) -> Result<Once<'a>, NoMemory>
         requires { map held_of bodies.now ≡ held_bodies (design_of links.now.design.now) }
-        ensures { IfOk result (λ t. (n : NameTree) → is_once t n ≡ true
+        ensures starts { IfOk result (λ t. (n : NameTree) → is_once t n ≡ true
             → fold max 0 (map (requests_by (design_of links.now.design.now) n) (map thread_of threads.entry.now)) ≤ 1) }
+        ensures sources { IfOk result (λ t. (n : NameTree) → is_once t n ≡ true
+            → length (filter (λ o. reaches (design_of links.now.design.now) o n) (map thread_of threads.entry.now)) ≤ 1) }
     {
         let targets = targets_of(alloc, threads)?;
         let mut callers = Vec::new(alloc);
         add_bodies(alloc, &targets, links, bodies, &mut callers)?;
-        add_threads(alloc, &targets, links, threads, &mut callers)?;
+        add_threads_caller(alloc, &targets, links, threads, &mut callers)?;
         let ways = ways_of(alloc, callers.as_slice())?;
         Ok(Once { targets, ways })
     }

@@ -5,14 +5,13 @@ use ods_index::Required;
 use ods_tree::Node;
 use seq_tree::NoMemory;
 use std::alloc::Global;
-use std::rc::Rc;
 
-/// A thread that reaches an object, with what it requires, which all the objects that it reaches share.
+/// A thread that reaches an object, with what it requires.
 #[derive(Drop)]
 pub(crate) struct Reacher<'a> {
     pub(crate) thread: &'a Node,
-    pub(crate) needs: Rc<Required<'a>>,
-    ghost right: { needs.value.ops.now ≡ (object_of thread.now).needs },
+    pub(crate) needs: Required<'a>,
+    ghost right: { needs.ops.now ≡ (object_of thread.now).needs },
 }
 
 impl<'a> Reacher<'a> {
@@ -23,17 +22,7 @@ impl<'a> Reacher<'a> {
     pub(crate) fn new(alloc: Global, thread: &'a Node) -> Result<Reacher<'a>, NoMemory>
         ensures { IfOk result (λ r. reacher_of r ≡ object_of thread.entry.now) }
     {
-        let needs = Rc::new(alloc, Required::new(alloc, thread.needs.as_slice())?)?;
+        let needs = Required::new(alloc, thread.needs.as_slice())?;
         Ok(Reacher { thread, needs })
-    }
-
-    /// The same thread, once more.
-    pub(crate) fn again(&self) -> Result<Reacher<'a>, NoMemory>
-        ensures { IfOk result (λ r. reacher_of r ≡ reacher_of self.entry.now) }
-    {
-        Ok(Reacher {
-            thread: self.thread,
-            needs: self.needs.clone()?,
-        })
     }
 }

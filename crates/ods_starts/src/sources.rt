@@ -1,24 +1,26 @@
-ghost use Rattle.std.specs.Prelude.{◌≡◌, ◌<◌, ◌≤◌, ◌+◌, ◌||◌, ◌&&◌, ◌++◌, ◌∷◌, [], ◌==◌, ℕ, true, IfOk, OnOk, filter, filter_map, fold};
-ghost use Rattle.std.specs.Prelude.{if◌then◌else◌, length, map, max, min, nat_le, not, option_map, option_to_list, unwrap_or};
+ghost use Rattle.std.specs.Prelude.{◌≡◌, ◌<◌, ◌≤◌, ◌+◌, ◌||◌, ◌&&◌, ◌++◌, ◌∷◌, [], ◌==◌, ℕ, true, None, IfOk, OnOk, filter, filter_map, fold};
+ghost use Rattle.std.specs.Prelude.{length, map, max, min, nat_le, not, option_to_list};
 ghost use Rattle.std.specs.List.{list_any};
-ghost use Rattle.seq_tree.specs.Names.{Name as NameTree, same_name};
+ghost use Rattle.seq_tree.specs.Calls.{same_op};
+ghost use Rattle.seq_tree.specs.Names.{same_name};
 ghost use Rattle.seq_tree.specs.declared.tree.OpName.{OpName as OpTree};
-ghost use Rattle.name_sets.specs.Places.{place_in};
+ghost use Rattle.name_sets.specs.Sets.{has_op};
 ghost use Rattle.ods_tree.specs.Attributes.{attribute};
 ghost use Rattle.ods_tree.specs.Trees.{design_of};
 ghost use Rattle.ods_tree.specs.Walk.{objects, only_if};
 ghost use Rattle.ods_tree.specs.declared.design.AttrKey.TheVariants.{ArrivalJitter};
 ghost use Rattle.design_rules.specs.Broken.{V10};
 ghost use Rattle.design_rules.specs.Lookups.{is_sporadic};
-ghost use Rattle.design_rules.specs.Rings.{terminal_ops};
-ghost use Rattle.design_rules.specs.Sources.{bad_sources, requests_by, source_count, start_count, starts_within};
+ghost use Rattle.design_rules.specs.Rings.{terminal_ops, thread_objects};
+ghost use Rattle.design_rules.specs.Sources.{bad_sources, requests_by, source_count, starts_within};
 ghost use Rattle.ods_index.specs.Indexing.{IsIndex};
 ghost use Rattle.ods_index.specs.Judging.{Tells, head_of};
 ghost use Rattle.ods_index.specs.Linked.{op_of};
-ghost use Rattle.ods_starts.specs.Reaching.{AreRight, reacher_of, reachers_at, thread_of};
+ghost use Rattle.ods_starts.specs.Reaching.{AreRight, reacher_of, thread_of};
 ghost use Rattle.ods_starts.specs.Requested.{Knows, block_count, source_fault};
 ghost use Rattle.ods_starts.specs.Singles.{is_once};
-ghost use Rattle.ods_starts.specs.Spreading.{is_there, reaches};
+ghost use Rattle.ods_starts.specs.Sourced.{any_leads, leads_at, reaches_by};
+ghost use Rattle.ods_starts.specs.Spreading.{reaches};
 ghost use Rattle.ods_index.specs.Walking.{object_of};
 
 use crate::callers::Callers;
@@ -26,127 +28,93 @@ use crate::held::{Bodies, bodies_of, table_of};
 use crate::once::Once;
 use crate::reacher::Reacher;
 use crate::requests::{block_requests, counts_within};
-use crate::starts::{Starts, threads_of};
-use name_sets::{NameTable, OpTable, Places};
+use crate::starts::{Starts, thread_starts, threads_of};
+use name_sets::{OpTable, Ops, Places};
 use ods_index::{Broken, Index, Links, OpView, attribute, is_sporadic};
 use ods_tree::{AttrKey, Node};
 use seq_tree::{Name, NoMemory};
 use std::alloc::Global;
 
-/// The threads that reach objects, in order, by the names of these: of each a thread calls an operation, itself or through
-/// protected ones.
-#[derive(Drop)]
-struct Reachers<'a> {
-    threads: NameTable<'a, Vec<Reacher<'a>>>,
-}
-
-impl<'a> Reachers<'a> {
-    /// No threads.
-    #[tactic(auto, unfolding(crate::specs::Reaching::reachers_at))]
-    fn new(alloc: Global) -> Reachers<'a>
-        ensures { (n : NameTree) → reachers_at result n ≡ [] }
-    {
-        Reachers {
-            threads: NameTable::new(alloc),
-        }
-    }
-
-    /// The threads that reach an object, where one does.
-    #[tactic(auto, unfolding(crate::specs::Reaching::reachers_at))]
-    fn get(&self, name: &Name) -> Option<&[Reacher<'a>]>
-        ensures { unwrap_or (option_map (λ v. map reacher_of v.now) result) [] ≡ reachers_at self.now name.now }
-    {
-        match self.threads.find(name) {
-            None => None,
-            Some(reachers) => Some(reachers.as_slice()),
-        }
-    }
-
-    /// How many threads reach an object.
-    fn count(&self, name: &Name) -> usize
-        ensures { result ≡ length (reachers_at self.now name.now) }
-    {
-        match self.get(name) {
-            None => 0,
-            Some(reachers) => reachers.len(),
-        }
-    }
-
-    /// Adds a thread to those that reach an object.
-    #[tactic(auto, unfolding(crate::specs::Reaching::reachers_at))]
-    fn add(&mut self, alloc: Global, name: &'a Name, reacher: &Reacher<'a>) -> Result<(), NoMemory>
-        ensures { OnOk result ((n : NameTree) → reachers_at self.new n ≡ reachers_at self.old n
-            ++ (if same_name name.entry.now n then reacher_of reacher.entry.now ∷ [] else [])) }
-    {
-        let more = vec![in alloc; reacher.again()?]?;
-        self.threads.extend(name, more)
-    }
-}
-
-/// Adds a thread to those that reach the object of an operation, where that wasn't found before.
-fn add_reached<'a>(
-    alloc: Global,
-    op: &OpView<'a>,
-    reacher: &Reacher<'a>,
-    found: &mut Places<'a>,
-    reachers: &mut Reachers<'a>,
-) -> Result<(), NoMemory>
-    ensures found { OnOk result ((n : NameTree) → is_there (place_in found.new n)
-        ≡ (is_there (place_in found.old n) || same_name (op_of op.entry.now).object n)) }
-    ensures reachers { OnOk result ((n : NameTree) → reachers_at reachers.new n ≡ reachers_at reachers.old n
-        ++ (if not (is_there (place_in found.old n)) && same_name (op_of op.entry.now).object n then reacher_of reacher.entry.now ∷ [] else [])) }
+/// A set of operations.
+fn set_of<'a>(alloc: Global, ops: &[OpView<'a>]) -> Result<Ops<'a>, NoMemory>
+    ensures { IfOk result (λ s. (m : OpTree) → has_op s m ≡ list_any (λ c. same_op c m) (map op_of ops.entry.now)) }
 {
-    if found.get(op.object).is_some() {
+    let mut set = Ops::new(alloc);
+    'ops: for op in ops {
+        set.add(alloc, op.object, op.op)?;
+    }
+    Ok(set)
+}
+
+/// The operations that lead to those of an object, by so many calls at most.
+fn leading_to<'a>(
+    alloc: Global,
+    callers: &Callers<'a>,
+    depth: usize,
+    target: &Name,
+) -> Result<Ops<'a>, NoMemory>
+    ensures { IfOk result (λ s. (m : OpTree) → has_op s m ≡ leads_at callers.now depth target.now m) }
+{
+    if depth == 0 {
+        return Ok(Ops::new(alloc));
+    }
+    let found = callers.leading_to(alloc, depth - 1, target)?;
+    set_of(alloc, found.as_slice())
+}
+
+/// Whether an operation is one of an object, or leads to one.
+fn leads<'a>(target: &Name, leading: &Ops<'a>, op: &OpView<'a>) -> bool
+    ensures { result ≡ (same_name (op_of op.now).object target.now || has_op leading.now (op_of op.now)) }
+{
+    op.object.bytes() == target.bytes() || leading.has(op.object, op.op)
+}
+
+/// Whether one of these does.
+fn any_leads<'a>(target: &Name, leading: &Ops<'a>, ops: &[OpView<'a>]) -> bool
+    ensures { result ≡ any_leads target.now (has_op leading.now) (map op_of ops.now) }
+{
+    'ops: for op in ops {
+        if leads(target, leading, op) {
+            return true;
+        }
+    }
+    false
+}
+
+/// Adds a thread, where it reaches an object.
+fn add_reacher<'a>(
+    alloc: Global,
+    links: &Links<'a>,
+    target: &Name,
+    leading: &Ops<'a>,
+    thread: &'a Node,
+    into: &mut Vec<Reacher<'a>>,
+) -> Result<(), NoMemory>
+    ensures { OnOk result (map reacher_of into.new.items ≡ map reacher_of into.old.items
+        ++ filter (reaches_by (design_of links.now.design.now) target.now (has_op leading.now)) (object_of thread.entry.now ∷ [])) }
+{
+    let calls = thread_starts(alloc, links, thread)?;
+    if !any_leads(target, leading, calls.as_slice()) {
         return Ok(());
     }
-    found.put(op.object, 0)?;
-    reachers.add(alloc, op.object, reacher)
-}
-
-/// Adds a thread to those that reach the objects of these operations.
-fn add_all_reached<'a>(
-    alloc: Global,
-    ops: &[OpView<'a>],
-    reacher: &Reacher<'a>,
-    reachers: &mut Reachers<'a>,
-) -> Result<(), NoMemory>
-    ensures { OnOk result ((n : NameTree) → reachers_at reachers.new n ≡ reachers_at reachers.old n
-        ++ (if list_any (λ c. same_name c.object n) (map op_of ops.entry.now) then reacher_of reacher.entry.now ∷ [] else [])) }
-{
-    let mut found = Places::new(alloc);
-    'ops: for op in ops {
-        add_reached(alloc, op, reacher, &mut found, reachers)?;
-    }
+    into.push(Reacher::new(alloc, thread)?)?;
     Ok(())
 }
 
-/// Adds a thread to those that reach what it reaches.
-fn add_thread<'a>(
+/// The threads among these that reach an object.
+fn reachers_by<'a>(
     alloc: Global,
-    starts: &Starts<'a>,
-    thread: &'a Node,
-    reachers: &mut Reachers<'a>,
-) -> Result<(), NoMemory>
-    ensures { OnOk result ((n : NameTree) → reachers_at reachers.new n ≡ reachers_at reachers.old n
-        ++ filter (λ o. reaches (design_of starts.now.links.design.now) o n) (object_of thread.entry.now ∷ [])) }
-{
-    let calls = starts.calls(alloc, thread)?;
-    let reacher = Reacher::new(alloc, thread)?;
-    add_all_reached(alloc, calls.as_slice(), &reacher, reachers)
-}
-
-/// The threads among these that reach objects.
-fn reachers_of<'a>(
-    alloc: Global,
-    starts: &Starts<'a>,
+    links: &Links<'a>,
+    target: &Name,
+    leading: &Ops<'a>,
     threads: &[&'a Node],
-) -> Result<Reachers<'a>, NoMemory>
-    ensures { IfOk result (λ t. (n : NameTree) → reachers_at t n
-        ≡ filter (λ o. reaches (design_of starts.now.links.design.now) o n) (map thread_of threads.entry.now)) }
+) -> Result<Vec<Reacher<'a>>, NoMemory>
+    ensures { IfOk result (λ v. map reacher_of v.items
+        ≡ filter (reaches_by (design_of links.now.design.now) target.now (has_op leading.now)) (map thread_of threads.entry.now)) }
 {
-    let mut reachers = Reachers::new(alloc);
+    let mut reachers = Vec::new(alloc);
     'threads: for thread in threads {
-        add_thread(alloc, starts, thread, &mut reachers)?;
+        add_reacher(alloc, links, target, leading, thread, &mut reachers)?;
     }
     Ok(reachers)
 }
@@ -233,7 +201,7 @@ struct Requests<'a> {
     bodies: Bodies<'a>,
     callers: Callers<'a>,
     threads: Vec<&'a Node>,
-    reachers: Reachers<'a>,
+    reached: Places<'a>,
     once: Once<'a>,
 }
 
@@ -250,26 +218,46 @@ impl<'a> Requests<'a> {
         let bodies = table_of(alloc, listed.as_slice())?;
         let callers = Callers::of_bodies(alloc, &starts.links, listed.as_slice())?;
         let threads = threads_of(alloc, index.objects.as_slice())?;
-        let reachers = reachers_of(alloc, &starts, threads.as_slice())?;
+        let reached = starts.reached_by_any(alloc, threads.as_slice())?;
         let once = Once::new(alloc, &starts.links, listed.as_slice(), threads.as_slice())?;
         Ok(Requests {
             starts,
             bodies,
             callers,
             threads,
-            reachers,
+            reached,
             once,
         })
     }
 
-    /// The number of sources of an object that is sporadic.
+    /// The threads that reach an object, in order.
+    fn reachers_of(&self, alloc: Global, name: &Name) -> Result<Vec<Reacher<'a>>, NoMemory>
+        requires { AreRight self.now }
+        ensures { IfOk result (λ v. map reacher_of v.items
+            ≡ filter (λ o. reaches (design_of self.now.starts.links.design.now) o name.now)
+            (thread_objects (design_of self.now.starts.links.design.now))) }
+    {
+        let leading = leading_to(alloc, &self.callers, self.starts.depth, name)?;
+        reachers_by(
+            alloc,
+            &self.starts.links,
+            name,
+            &leading,
+            self.threads.as_slice(),
+        )
+    }
+
+    /// The number of sources of an object that is sporadic, by the threads that reach it.
     #[tactic(auto, using(ods_index::proofs::Shared::WalkSteps::node_steps))]
-    fn source_count(&self, node: &Node) -> u32
+    fn source_count(&self, node: &Node, reachers: &[Reacher<'a>]) -> u32
         requires right { AreRight self.now }
         requires sporadic { is_sporadic (object_of node.now).kind ≡ true }
+        requires all { map reacher_of reachers.now
+            ≡ filter (λ o. reaches (design_of self.now.starts.links.design.now) o (object_of node.now).name)
+            (thread_objects (design_of self.now.starts.links.design.now)) }
         ensures { result ≡ source_count (design_of self.now.starts.links.design.now) (object_of node.now) }
     {
-        let inside = self.reachers.count(&node.name);
+        let inside = reachers.len();
         let outside = outside_count(node);
         sum_of(inside, outside)
     }
@@ -297,23 +285,38 @@ impl<'a> Requests<'a> {
         most_requests(alloc, links, name, &known, reachers)
     }
 
-    /// The most requests of an object on one path, told as 2 where there are more.
-    fn start_count(&self, alloc: Global, node: &Node) -> Result<u32, NoMemory>
-        requires { AreRight self.now }
-        ensures { IfOk result (λ n. n ≡ start_count (design_of self.now.starts.links.design.now) (object_of node.entry.now)) }
+    /// Whether an object isn't requested from outside, and shows at once that one thread alone reaches it, which requests it once at most.
+    #[tactic(auto, using(ods_index::proofs::Shared::WalkSteps::node_steps))]
+    fn is_alone(&self, node: &Node, outside: usize) -> bool
+        ensures { result ≡ (outside == 0 && is_once self.now.once (object_of node.now).name) }
     {
-        match self.reachers.get(&node.name) {
-            None => Ok(0),
-            Some(reachers) => self.start_count_by(alloc, &node.name, reachers),
+        outside == 0 && self.once.has(&node.name)
+    }
+
+    /// Whether an object shows at once that it has one source, and that no path requests it twice.
+    #[tactic(auto, using(ods_index::proofs::Shared::WalkSteps::node_steps))]
+    fn is_fine(&self, node: &Node) -> bool
+        requires { AreRight self.now }
+        ensures { result ≡ true → source_fault (design_of self.now.starts.links.design.now) (object_of node.now) ≡ None }
+    {
+        let outside = outside_count(node);
+        match self.reached.get(&node.name) {
+            None => outside == 1,
+            Some(_) => self.is_alone(node, outside),
         }
     }
 
-    /// Whether an object has one source, and shows at once that no path requests it twice.
+    /// Tells an object that is sporadic and whose sources are wrong, by counting them.
     #[tactic(auto, using(ods_index::proofs::Shared::WalkSteps::node_steps))]
-    fn is_fine(&self, node: &Node, sources: u32) -> bool
-        ensures { result ≡ (sources == 1 && is_once self.now.once (object_of node.now).name) }
+    fn counted_fits(&self, alloc: Global, node: &Node) -> Result<(), Broken>
+        requires right { AreRight self.now }
+        requires sporadic { is_sporadic (object_of node.now).kind ≡ true }
+        ensures { Tells result (source_fault (design_of self.now.starts.links.design.now) (object_of node.now)) }
     {
-        sources == 1 && self.once.has(&node.name)
+        let reachers = self.reachers_of(alloc, &node.name)?;
+        let sources = self.source_count(node, reachers.as_slice());
+        let starts = self.start_count_by(alloc, &node.name, reachers.as_slice())?;
+        counts_fit(alloc, node, sources, starts)
     }
 
     /// Tells an object whose sources are wrong.
@@ -325,12 +328,10 @@ impl<'a> Requests<'a> {
         if !is_sporadic(node.kind) {
             return Ok(());
         }
-        let sources = self.source_count(node);
-        if self.is_fine(node, sources) {
+        if self.is_fine(node) {
             return Ok(());
         }
-        let starts = self.start_count(alloc, node)?;
-        counts_fit(alloc, node, sources, starts)
+        self.counted_fits(alloc, node)
     }
 
     /// Tells the first object of these whose sources are wrong.

@@ -1,9 +1,10 @@
-ghost use Rattle.std.specs.Prelude.{◌≡◌, ◌∷◌, ◌++◌, ◌||◌, [], ℕ, IfOk, OnOk, map, option_map, slice_get};
+ghost use Rattle.std.specs.Prelude.{◌≡◌, ◌∷◌, ◌++◌, ◌||◌, [], ℕ, true, IfOk, OnOk, map, option_map, slice_get};
 ghost use Rattle.std.specs.List.{list_any};
 ghost use Rattle.seq_tree.specs.Names.{Name as NameTree};
 ghost use Rattle.name_sets.specs.Places.{place_in};
 ghost use Rattle.ods_tree.specs.Trees.{design_of};
 ghost use Rattle.design_rules.specs.Broken.{V09Starts};
+ghost use Rattle.design_rules.specs.Rings.{IsOnStartRing};
 ghost use Rattle.design_rules.specs.Rules.{RingedThread};
 ghost use Rattle.ods_index.specs.Indexing.{IsIndex};
 ghost use Rattle.ods_index.specs.Judging.{Judges, Tells};
@@ -14,9 +15,11 @@ ghost use Rattle.ods_starts.specs.Starting.{has_edge, has_target, is_target, sta
 ghost use Rattle.ods_index.specs.Tables.{place_from};
 ghost use Rattle.ods_index.specs.Walking.{object_of};
 
+use crate::held::bodies_of;
+use crate::rising;
 use crate::starts::{Starts, threads_of};
 use name_sets::Places;
-use ods_index::{Broken, Index, OpView, is_sporadic, places_of};
+use ods_index::{Broken, Index, Links, OpView, is_sporadic, places_of};
 use ods_tree::Node;
 use rings::first_on_ring;
 use seq_tree::{Name, NoMemory};
@@ -161,8 +164,19 @@ fn tell_thread(alloc: Global, threads: &[&Node], place: usize) -> Result<(), Bro
     Err(Broken::V09Starts { thread })
 }
 
-/// V09: tells the first thread on a ring of starts.
-pub fn first_ringed_thread(alloc: Global, index: &Index<'_>) -> Result<(), Broken>
+/// Whether it shows at once that no thread is on a ring of starts.
+fn shows_none(alloc: Global, index: &Index<'_>) -> Result<bool, NoMemory>
+    requires { IsIndex index.now }
+    ensures { IfOk result (λ b. b ≡ true → (a : NameTree) → IsOnStartRing (design_of index.entry.now.design.now) a → ⊥) }
+{
+    let links = Links::new(alloc, index.design)?;
+    let bodies = bodies_of(alloc, index.objects.as_slice())?;
+    let threads = threads_of(alloc, index.objects.as_slice())?;
+    rising::shows_none(alloc, &links, bodies.as_slice(), threads.as_slice())
+}
+
+/// Tells the first thread on a ring of starts, by all that each thread reaches.
+fn first_by_search(alloc: Global, index: &Index<'_>) -> Result<(), Broken>
     requires { IsIndex index.now }
     ensures { Judges (RingedThread (design_of index.entry.now.design.now)) result }
 {
@@ -174,4 +188,15 @@ pub fn first_ringed_thread(alloc: Global, index: &Index<'_>) -> Result<(), Broke
         None => Ok(()),
         Some(place) => tell_thread(alloc, threads.as_slice(), place),
     }
+}
+
+/// V09: tells the first thread on a ring of starts.
+pub fn first_ringed_thread(alloc: Global, index: &Index<'_>) -> Result<(), Broken>
+    requires { IsIndex index.now }
+    ensures { Judges (RingedThread (design_of index.entry.now.design.now)) result }
+{
+    if shows_none(alloc, index)? {
+        return Ok(());
+    }
+    first_by_search(alloc, index)
 }

@@ -1,5 +1,5 @@
 ghost use Rattle.std.specs.Prelude.{◌≡◌, ◌≤◌, ◌∷◌, ◌++◌, [], Bool, IfOk, OnOk, drop, filter, flat_map, if◌then◌else◌, length, map};
-ghost use Rattle.std.specs.Prelude.{option_map, option_to_list, unwrap_or};
+ghost use Rattle.std.specs.Prelude.{option_map, unwrap_or};
 ghost use Rattle.std.specs.List.{list_any};
 ghost use Rattle.seq_tree.specs.Calls.{block_calls, same_op};
 ghost use Rattle.seq_tree.specs.Names.{Name as NameTree, same_name};
@@ -15,6 +15,7 @@ ghost use Rattle.design_rules.specs.Lookups.{has_thread};
 ghost use Rattle.design_rules.specs.Rings.{inner_calls, meant_calls, terminal_ops, thread_calls};
 ghost use Rattle.ods_index.specs.Indexing.{IsIndex};
 ghost use Rattle.ods_index.specs.Linked.{op_of};
+ghost use Rattle.ods_starts.specs.Sourced.{direct_calls};
 ghost use Rattle.ods_starts.specs.Spreading.{IsSeen, body_at, body_steps, found_all, found_more, inner_at, is_there, reaches, spread, steps_in};
 ghost use Rattle.ods_index.specs.Walking.{object_of, standing_of};
 
@@ -255,7 +256,7 @@ pub(crate) fn follow_all<'a>(
 }
 
 /// These operations and what they lead to through protected ones, in so many levels at most, up to one that finds none.
-fn search<'a>(
+pub(crate) fn search<'a>(
     alloc: Global,
     inner: &Inner<'a>,
     depth: usize,
@@ -400,13 +401,12 @@ fn names_of<'a>(alloc: Global, ops: &[OpView<'a>]) -> Result<Places<'a>, NoMemor
 
 /// What the thread of an object calls itself.
 #[tactic(auto, using(ods_index::proofs::Shared::WalkSteps::node_steps, crate::proofs::SpreadLaws::thread_laws))]
-fn thread_starts<'a>(
+pub(crate) fn thread_starts<'a>(
     alloc: Global,
     links: &Links<'a>,
     node: &'a Node,
 ) -> Result<Vec<OpView<'a>>, NoMemory>
-    ensures { IfOk result (λ v. map op_of v.items
-        ≡ flat_map (meant_calls (design_of links.now.design.now) (object_of node.entry.now)) (option_to_list (object_of node.entry.now).thread)) }
+    ensures { IfOk result (λ v. map op_of v.items ≡ direct_calls (design_of links.now.design.now) (object_of node.entry.now)) }
 {
     match &node.thread {
         None => Ok(Vec::new(alloc)),
@@ -415,6 +415,38 @@ fn thread_starts<'a>(
             meant_calls(alloc, links, &needs, block)
         }
     }
+}
+
+/// Adds what the thread of an object calls itself.
+#[tactic(auto, using(crate::proofs::LoopEnds::added_laws))]
+fn add_starts<'a>(
+    alloc: Global,
+    links: &Links<'a>,
+    node: &'a Node,
+    into: &mut Vec<OpView<'a>>,
+) -> Result<(), NoMemory>
+    ensures { OnOk result (map op_of into.new.items ≡ map op_of into.old.items
+        ++ direct_calls (design_of links.now.design.now) (object_of node.entry.now)) }
+{
+    let calls = thread_starts(alloc, links, node)?;
+    into.extend_from_slice(calls.as_slice())?;
+    Ok(())
+}
+
+/// What threads call themselves.
+fn all_starts<'a>(
+    alloc: Global,
+    links: &Links<'a>,
+    threads: &[&'a Node],
+) -> Result<Vec<OpView<'a>>, NoMemory>
+    ensures { IfOk result (λ v. map op_of v.items
+        ≡ flat_map (direct_calls (design_of links.now.design.now)) (map (λ t. object_of t.now) threads.entry.now)) }
+{
+    let mut calls = Vec::new(alloc);
+    'threads: for node in threads {
+        add_starts(alloc, links, node, &mut calls)?;
+    }
+    Ok(calls)
 }
 
 /// What threads can start.
@@ -459,6 +491,19 @@ impl<'a> Starts<'a> {
             ≡ reaches (design_of self.now.links.design.now) (object_of node.entry.now) n) }
     {
         let found = self.calls(alloc, node)?;
+        names_of(alloc, found.as_slice())
+    }
+    /// A table of the names of the objects of which one of these threads calls operations, itself or through protected ones.
+    pub(crate) fn reached_by_any(
+        &self,
+        alloc: Global,
+        threads: &[&'a Node],
+    ) -> Result<Places<'a>, NoMemory>
+        ensures { IfOk result (λ t. (n : NameTree) → is_there (place_in t n)
+            ≡ list_any (λ o. reaches (design_of self.now.links.design.now) o n) (map (λ t. object_of t.now) threads.entry.now)) }
+    {
+        let starts = all_starts(alloc, &self.links, threads)?;
+        let found = search(alloc, &self.inner, self.depth, starts.as_slice())?;
         names_of(alloc, found.as_slice())
     }
 }

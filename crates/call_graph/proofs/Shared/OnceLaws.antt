@@ -7,7 +7,7 @@ use Rattle.std.specs.List.{list_any}
 use Rattle.seq_tree.specs.Calls.{same_op}
 use Rattle.seq_tree.specs.declared.tree.OpName.{OpName}
 use Rattle.seq_tree.proofs.Shared.Walks.{both, same_op-eq, same_op-refl}
-use Rattle.call_graph.specs.Once.{CallerTree, fits, fits_at, is_from, is_next, misfits_at, repeats, sum_of}
+use Rattle.call_graph.specs.Once.{fits, fits_at, is_from, is_next, misfits_at, repeats, sum_of}
 
 -- how often an operation is among others
 abbrev pub times : OpName → List OpName → ℕ

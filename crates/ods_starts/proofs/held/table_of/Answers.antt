@@ -1,4 +1,4 @@
-use Rattle.std.proofs.Common.{◌≤◌, List, length, map, flat_map, rules, refl}
+use Rattle.std.proofs.Common.{◌≤◌, length, map, flat_map, rules, refl}
 use Rattle.ods_starts.specs.Requested.{bodies_at, held_named, held_of}
 use Rattle.ods_starts.proofs.LoopEnds.{added_all}
 use Rattle.ods_starts.proofs.held.table_of.Goals as goal

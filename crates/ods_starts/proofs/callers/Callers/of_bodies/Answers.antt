@@ -1,4 +1,4 @@
-use Rattle.std.proofs.Common.{◌≤◌, List, length, map, flat_map, rules, refl}
+use Rattle.std.proofs.Common.{◌≤◌, length, map, flat_map, rules, refl}
 use Rattle.ods_tree.specs.Trees.{design_of}
 use Rattle.ods_starts.specs.Requested.{held_of, object_callers, op_callers}
 use Rattle.ods_starts.specs.Spreading.{body_at, inner_at}

@@ -1,22 +1,31 @@
-use Rattle.std.proofs.Common.{rules, ◌≡◌, ◌++◌, List, Option, map, flat_map, false, ap, refl, subst, ◌∙◌}
+use Rattle.std.proofs.Common.{rules, ◌≡◌, [], ◌∷◌, ◌++◌, List, Option, map, false, refl, subst}
 use Rattle.std.specs.Prelude.{IfSome}
 use Rattle.std.specs.List.{list_any}
 use Rattle.call_graph.specs.Once.{CallerTree, caller_of, misfits}
-use Rattle.call_graph.specs.declared.ways.Caller.{Caller}
 use Rattle.call_graph.specs.declared.ways.Ways.{Ways}
 use Rattle.ods_tree.specs.Trees.{design_of}
 use Rattle.ods_starts.specs.Reaching.{thread_of}
 use Rattle.ods_starts.specs.Requested.{held_bodies}
-use Rattle.ods_starts.specs.Singles.{held_caller, thread_callers}
-use Rattle.ods_starts.proofs.OnceCalls.{once-requests}
+use Rattle.ods_starts.specs.Singles.{held_caller, threads_caller}
+use Rattle.ods_starts.proofs.OnceCalls.{once-alone}
 use Rattle.ods_starts.proofs.once.Once.new.Goals as goal
 
-pub returns : goal.returns
-returns c n h =
+pub returns-clause-starts : goal.returns-clause-starts
+returns-clause-starts c n h =
     let x = design_of c.args.links.now.design.now in
     let t = c.in_ok-targets.targets in
     let os = map thread_of c.args.threads.now in
-    let all : map caller_of c.as_slice.result.now ≡ map (held_caller t x) (held_bodies x) ++ flat_map (thread_callers t x) os = search rules in
-    once-requests x _ c.in_ok-ways.ways os refl
+    let all : map caller_of c.as_slice.result.now ≡ map (held_caller t x) (held_bodies x) ++ threads_caller t x os ∷ [] = search rules in
+    (once-alone x _ c.in_ok-ways.ways os refl
     (λ v is. subst (λ (cs : List CallerTree). list_any (misfits v) cs ≡ false) all
-    (subst (λ (o : Option Ways). IfSome o (λ w. list_any (misfits w) (map caller_of c.as_slice.result.now) ≡ false)) is c.in_ok-ways.ensures)) n h
+    (subst (λ (o : Option Ways). IfSome o (λ w. list_any (misfits w) (map caller_of c.as_slice.result.now) ≡ false)) is c.in_ok-ways.ensures)) n h).0
+
+pub returns-clause-sources : goal.returns-clause-sources
+returns-clause-sources c n h =
+    let x = design_of c.args.links.now.design.now in
+    let t = c.in_ok-targets.targets in
+    let os = map thread_of c.args.threads.now in
+    let all : map caller_of c.as_slice.result.now ≡ map (held_caller t x) (held_bodies x) ++ threads_caller t x os ∷ [] = search rules in
+    (once-alone x _ c.in_ok-ways.ways os refl
+    (λ v is. subst (λ (cs : List CallerTree). list_any (misfits v) cs ≡ false) all
+    (subst (λ (o : Option Ways). IfSome o (λ w. list_any (misfits w) (map caller_of c.as_slice.result.now) ≡ false)) is c.in_ok-ways.ensures)) n h).1

@@ -1,4 +1,5 @@
 use Rattle.std.proofs.Common.{◌≡◌, ◌<◌, ◌≤◌, Bor, fold, List, filter, flat_map, length, map, ap, sym, subst, ◌∙◌}
+use Rattle.std.specs.List.{list_any}
 use Rattle.std.specs.Prelude.{max}
 use Rattle.ods_tree.specs.Designs.{Object}
 use Rattle.ods_tree.specs.Flattening.{is_protected}
@@ -43,12 +44,14 @@ returns-clause-right c =
       };
       threads = threads;
       reached =
-          λ n. c.in_ok-reachers.ensures n
-          ∙ ap (λ (ts : List (Bor Node)). filter (λ o. reaches x o n) (map thread_of ts)) c.as_slice-5.ensures.value
-          ∙ ap (λ (os : List Object). filter (λ o. reaches x o n) os) threads;
+          λ n. c.in_ok-reached.ensures n ∙ ap (λ (ts : List (Bor Node)). list_any (λ o. reaches x o n) (map thread_of ts)) c.as_slice-5.ensures.value
+          ∙ ap (λ (os : List Object). list_any (λ o. reaches x o n) os) threads;
       once =
           λ n h. subst (λ (os : List Object). fold max 0 (map (requests_by x n) os) ≤ 1)
-          (ap (λ (ts : List (Bor Node)). map thread_of ts) c.as_slice-7.ensures.value ∙ threads) (c.in_ok-once.ensures n h);
+          (ap (λ (ts : List (Bor Node)). map thread_of ts) c.as_slice-7.ensures.value ∙ threads) (c.in_ok-once.ensures.starts n h);
+      alone =
+          λ n h. subst (λ (os : List Object). length (filter (λ o. reaches x o n) os) ≤ 1)
+          (ap (λ (ts : List (Bor Node)). map thread_of ts) c.as_slice-7.ensures.value ∙ threads) (c.in_ok-once.ensures.sources n h);
       few =
           subst (λ (d : code.Design). length (thread_objects (design_of d)) < 4294967295) (sym c.in_ok-starts.ensures) (few-threads y c.requires.few);
     }

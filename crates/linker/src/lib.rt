@@ -6,6 +6,11 @@
 //! calls lead and the block of each task stand in the code, and each call there leads to what the definitions say. `link_body` does it for
 //! one body, behind the code that was there, and `link_block` for a block in front of a place of the code, whatever is written elsewhere later.
 //! It writes a block from its last statement to its first, so that every place behind it is known when a jump leads there.
+//!
+//! Other crates may cite these proofs of it (`proofs/Shared`):
+//!
+//! - `BodySlots`: the slots of a body that begins are the variables that the machine gives it.
+//! - `Starts`: each body and each block of a task stands in the code of linked units at its place.
 #![tactic(auto)]
 
 mod actuals;

@@ -6,6 +6,10 @@
 //! calls lead and the block of each task stand in the code, and each call there leads to what the definitions say. `link_body` does it for
 //! one body, behind the code that was there, and `link_block` for a block in front of a place of the code, whatever is written elsewhere later.
 //! It writes a block from its last statement to its first, so that every place behind it is known when a jump leads there.
+//!
+//! Other crates may cite these proofs of it (`proofs/Shared`):
+//! - `Starts`: where the body of an operation stands, and the block of a task, by their places.
+//! - `BodySlots`: that the variables which the machine gives a body have the names of its slots, and how values lie in these.
 #![tactic(auto)]
 
 mod actuals;

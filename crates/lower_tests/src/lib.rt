@@ -15,6 +15,8 @@ mod counts;
 #[cfg(test)]
 mod follows;
 #[cfg(test)]
+mod linking;
+#[cfg(test)]
 mod openings;
 #[cfg(test)]
 mod queues;

@@ -12,7 +12,7 @@ use std::test::Fail;
 
 /// Three tasks and two protected objects with the ceiling 3, of which `x` enters both: `x` has the priority 3 and the offset 2, `y` 2 and
 /// 4, and `z` 1 and 0.
-const TWO_OBJECTS: &str = "pragma task_dispatching_policy (fifo_within_priorities);
+pub(crate) const TWO_OBJECTS: &str = "pragma task_dispatching_policy (fifo_within_priorities);
 pragma locking_policy (ceiling_locking);
 with ada.real_time;
 package hrt is

@@ -1,7 +1,6 @@
 -- The texts of the heads of procedures, and of lines that begin with one.
-use Rattle.std.proofs.Common.{◌≡◌, ℕ, ◌*◌, suc, min, replicate, true, false, List, [], ◌∷◌, ◌++◌, map, flat_map, codes, decimal, refl, sym, ap}
+use Rattle.std.proofs.Common.{◌≡◌, ℕ, suc, true, false, List, [], ◌∷◌, ◌++◌, map, flat_map, codes, decimal, refl, sym, ap}
 use Rattle.std.proofs.Common.{◌∙◌, append_assoc, append-nil}
-use Rattle.std.proofs.lemmas.Grind.{flat_map-append}
 use Rattle.seq_tree.specs.Layout.{layout, line_text, tokens_text}
 use Rattle.seq_tree.specs.Names.{Name}
 use Rattle.seq_tree.specs.Operations.{Signature, Operation}
@@ -17,14 +16,8 @@ use Rattle.ada_tree.specs.Spelling.{body_lines, datum_line, declaration_line, en
 use Rattle.ada_tree.specs.Spelling.{renaming_line}
 use Rattle.seq_print.proofs.Shared.Spacing.{spaced, tokens-spaced}
 use Rattle.seq_print.specs.Printing.{mode_text, param_text, params_more, params_text}
+use Rattle.seq_print.proofs.Shared.Depths.{indent, layout-append}
 use Rattle.ada_print.specs.Parts.{head_text}
-
--- the spaces before a line
-abbrev pub indent : ℕ → List ℕ
-indent level = replicate (min 30 (3 * level)) 32
-
-pub layout-append : (xs ys : List Line) → layout (xs ++ ys) ≡ layout xs ++ layout ys
-layout-append xs ys = flat_map-append line_text xs ys
 
 -- the bytes of lines, and of more lines
 pub joined-two : (a b : List Line) (x y : List ℕ) → x ≡ layout a → y ≡ layout b → x ++ y ≡ layout (a ++ b)

@@ -18,7 +18,8 @@ use Rattle.ada_tree.specs.Spelling.{specification_lines, task_lines, unit_body_l
 use Rattle.ada_print.specs.Parts.{closing_lines, head_text, opening_lines, package_lines}
 use Rattle.ada_print.specs.Parts as parts
 use Rattle.ada_print.specs.Requests.{constant_lines, external_line, object_lines, waiting_lines}
-use Rattle.ada_print.proofs.HeadTexts.{is-text, end-text, joined-two, layout-append, one-line}
+use Rattle.ada_print.proofs.HeadTexts.{is-text, end-text, joined-two, one-line}
+use Rattle.seq_print.proofs.Shared.Depths.{layout-append}
 
 -- a cost
 pub cost-text : (name : List ℕ) (n : ℕ) → codes "   " ++ (name ++ (codes " : constant := " ++ (decimal n ++ codes ";\n")))

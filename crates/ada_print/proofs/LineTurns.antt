@@ -3,7 +3,7 @@ use Rattle.std.proofs.Common.{◌≡◌, ◌<◌, ℕ, suc, ◌+◌, List, ◌�
 use Rattle.std.proofs.Common.{append_assoc}
 use Rattle.seq_tree.specs.Layout.{layout, line_text}
 use Rattle.seq_tree.specs.Spelling.{Line}
-use Rattle.ada_print.proofs.HeadTexts.{layout-append}
+use Rattle.seq_print.proofs.Shared.Depths.{layout-append}
 
 items-next : {A : Type 0} (xs : List A) (i : ℕ) (x : A) → i < length xs → x ≡ get_or xs i x → drop i xs ≡ x ∷ drop (i + 1) xs
 items-next xs i x h e = rw (add-one, drop-cons xs i x h) (ap (λ y. y ∷ drop (suc i) xs) (sym e))

@@ -3,7 +3,7 @@ use Rattle.std.proofs.Common.{◌≡◌, ℕ, Bool, false, List, [], ◌∷◌, 
 use Rattle.std.proofs.Common.{append-nil}
 use Rattle.seq_tree.specs.Lists.{Each}
 use Rattle.grammar.specs.Reading.{first, AreEach, Reads, Joined, then_at, pure_at}
-use Rattle.grammar.proofs.Shared.Laws.{reads-same, reads-pure, reads-then, IsOnly}
+use Rattle.grammar.proofs.Shared.Laws.{reads-same, reads-pure, reads-then, IsOnly, joins-part}
 use Rattle.grammar.proofs.Shared.Picks.{reads-each}
 use Rattle.seq_tree.specs.Names.{Name}
 use Rattle.seq_tree.specs.Statements.{Statements}
@@ -26,7 +26,7 @@ use Rattle.ada_read.specs.FixedTexts.{fixed_tokens}
 use Rattle.ada_read.specs.Heads.{Head, PassiveHead, SharedHead, CyclicHead, SporadicHead, head_name}
 use Rattle.ada_read.specs.Readers.{operation_at, operations_at, cyclic_at, passive_at, shared_at, keeping_at, waiting_at, serving_at, form_at}
 use Rattle.ada_read.specs.Readers.{body_head_at, body_at, bodies_at}
-use Rattle.ada_read.proofs.ParamLaws.{and_until, reads-text, joins-text, joins-part}
+use Rattle.ada_read.proofs.ParamLaws.{and_until, reads-text, joins-text}
 use Rattle.ada_read.proofs.DataLaws.{IsDatum, datum_tokens, EndsData, reads-data}
 
 task_ends_data : (rest : List Token) → EndsData (first (fixed_tokens fixed.TaskBody ++ rest))

@@ -3,7 +3,7 @@ use Rattle.std.proofs.Common.{◌≡◌, ℕ, Bool, true, false, List, [], ◌�
 use Rattle.std.specs.Prelude.{⊤}
 use Rattle.seq_tree.specs.Lists.{Each}
 use Rattle.grammar.specs.Reading.{choose_at, first, Reads}
-use Rattle.grammar.proofs.Shared.Laws.{reads-same, reads-pure, reads-choose}
+use Rattle.grammar.proofs.Shared.Laws.{reads-same, reads-pure, reads-choose, joins-part}
 use Rattle.seq_tree.specs.Names.{Name}
 use Rattle.seq_tree.specs.Operations.{Signature}
 use Rattle.seq_tree.specs.declared.tree.Datum.{Datum}
@@ -17,13 +17,14 @@ use Rattle.token_read.proofs.Shared.TokenLaws.{Any, andthen, reads-fixed, reads-
 use Rattle.token_read.proofs.Shared.TokenLaws.{joins-name}
 use Rattle.seq_read.specs.Parts.{end_tokens}
 use Rattle.seq_read.specs.Statements.{next_is_name}
+use Rattle.seq_read.proofs.Shared.Spelled.{IsSpelled, reads-spelled}
 use Rattle.ada_read.specs.declared.fixed_text.FixedText.TheVariants as fixed
 use Rattle.ada_read.specs.FixedTexts.{fixed_tokens}
 use Rattle.ada_read.specs.Heads.{Head, PassiveHead, SharedHead, CyclicHead, SporadicHead, head_name}
 use Rattle.ada_read.specs.Readers.{constants_at, cyclic_head_at, head_at, heads_at, inner_at, object_head_at, passive_head_at, shared_head_at}
 use Rattle.ada_read.specs.Readers.{sporadic_head_at}
-use Rattle.ada_read.proofs.ParamLaws.{and_until, IsNamedHead, IsSpelled, declaration_tokens, reads-text, joins-text, joins-part, reads-ada_name}
-use Rattle.ada_read.proofs.ParamLaws.{reads-declarations, reads-spelled}
+use Rattle.ada_read.proofs.ParamLaws.{and_until, IsNamedHead, declaration_tokens, reads-text, joins-text, reads-ada_name}
+use Rattle.ada_read.proofs.ParamLaws.{reads-declarations}
 use Rattle.ada_read.proofs.DataLaws.{IsDatum, datum_tokens, EndsData, reads-data}
 use Rattle.ada_read.proofs.RequestLaws.{IsNamedRequest, renaming_tokens, request_renaming_tokens, reads-renamings, reads-request}
 use Rattle.ada_read.proofs.RequestLaws.{reads-request_renaming, reads-truth}

@@ -1,11 +1,9 @@
 -- The readers of costs, names, parameters and declarations read their grammar.
-use Rattle.std.proofs.Common.{◌≡◌, ℕ, ◌<◌, Bool, true, false, cond, List, [], ◌∷◌, ◌++◌, length, Option, None, Some, codes, flat_map, refl, sym}
+use Rattle.std.proofs.Common.{◌≡◌, ℕ, Bool, true, false, cond, List, [], ◌∷◌, ◌++◌, Option, None, Some, codes, flat_map, refl, sym}
 use Rattle.std.proofs.Common.{ap, subst, ◌∙◌, arith, append_assoc, append-nil, ◌⊎◌, inl, inr}
 use Rattle.seq_tree.specs.Lists.{Each}
-use Rattle.grammar.specs.Reading.{Read, first, then_at, token_at, many_at, Reads, Joined, AreMany}
-use Rattle.grammar.proofs.Shared.Laws.{reads-same, reads-then, reads-pure, reads-token, reads-choose, reads-map, IsToken}
-use Rattle.grammar.proofs.Shared.From.{Last}
-use Rattle.grammar.proofs.Shared.Many.{last_free, reads-many}
+use Rattle.grammar.specs.Reading.{Read, first, then_at, token_at, many_at, Reads, Joined}
+use Rattle.grammar.proofs.Shared.Laws.{reads-same, reads-then, reads-pure, reads-token, reads-choose, reads-map, IsToken, joins-part}
 use Rattle.seq_tree.specs.Names.{Name, same_name}
 use Rattle.seq_tree.specs.Operations.{Signature}
 use Rattle.seq_tree.specs.declared.tree.Costs.{Costs}
@@ -21,6 +19,8 @@ use Rattle.token_read.specs.Readers.{name_at, next_is}
 use Rattle.token_read.proofs.Shared.TokenLaws.{Any, IsPhrase, IsName, andthen, same_is, reads-fixed, reads-phrase, reads-number, reads-name}
 use Rattle.token_read.proofs.Shared.TokenLaws.{joins-fixed, joins-phrase, joins-number, joins-name}
 use Rattle.seq_read.specs.Parts.{sees_by, named_at, mode_named, param_at, more_param_at, params_from_at}
+use Rattle.seq_read.proofs.Shared.Spelled.{IsSpelled, reads-spelled}
+use Rattle.seq_read.proofs.Shared.CostLaws.{all_costs, reads-all_costs}
 use Rattle.ada_read.specs.declared.fixed_text.FixedText.{FixedText}
 use Rattle.ada_read.specs.declared.fixed_text.FixedText.TheVariants as fixed
 use Rattle.ada_read.specs.declared.fixed_text.CostName.{CostName}
@@ -36,11 +36,6 @@ pub joins-text : {B : Type 0} (H : Unit {0} → B → List Token → Type 0) (te
     → Joined (IsPhrase (fixed_tokens text)) H b (fixed_tokens text ++ rest)
 joins-text H text b rest h = joins-phrase H (fixed_tokens text) b rest h
 
--- a part of a text with its own law, in front of the rest
-pub joins-part : {A B : Type 0} {G : A → List Token → Type 0} (H : A → B → List Token
-    → Type 0) (a : A) (text : List Token) (b : B) (rest : List Token) → G a text → H a b rest → Joined G H b (text ++ rest)
-joins-part H a text b rest g h = record { a = a; front = text; back = rest; before = g; after = h; whole = refl }
-
 -- a part that stops at some tokens, which come next
 pub and_until : {A B : Type 0} {G : A → List Token → Type 0} {H : A → B → List Token → Type 0} {r : List Token → Read Token A} {f : A → List Token
     → Read Token B} (stop : Option Token → Type 0) (us : List Token) →
@@ -49,61 +44,6 @@ pub and_until : {A B : Type 0} {G : A → List Token → Type 0} {H : A → B �
 and_until {A} {B} {G} {H} {r} {f} stop us halts one two =
     reads-then G (λ a. Joined (IsPhrase us) (λ _. H a)) (λ a o. stop o) Any r f one two
     (λ a b back rest h end. rw (h.whole, h.before, append_assoc) (halts (h.back ++ rest)))
-
--- what is spelled in one way, where it is proper
-abbrev pub IsSpelled : {A : Type 0} → (A → Type 0) → (A → List Token) → A → List Token → Type 0
-IsSpelled P spell a text = P a × (text ≡ spell a)
-
--- as many as there are, each spelled in one way
-module _ {A : Type 0} (P : A → Type 0) (spell : A → List Token) (test : Option Token → Bool) (r : List Token
-    → Read Token A) (one : Reads (IsSpelled P spell) Any r)
-    (starts : (a : A) (rest : List Token) → P a → test (first (spell a ++ rest)) ≡ true) (grows : (a : A)
-    → 0 < length (spell a)) (ends : test None ≡ false) where
-  each_to : (xs : List A) (text : List Token) → AreMany (IsSpelled P spell) xs text → Each P xs × (text ≡ flat_map spell xs)
-  each_to [] text g = (tt, g)
-  each_to (x ∷ xs) text g = let h = each_to xs g.1 g.3 in ((g.2.0, h.0), rw (g.4, g.2.1, h.1) refl)
-
-  each_back : (xs : List A) (text : List Token) → Each P xs × (text ≡ flat_map spell xs) → AreMany (IsSpelled P spell) xs text
-  each_back [] text h = h.1
-  each_back (x ∷ xs) text h = (spell x, flat_map spell xs, (h.0.0, refl), each_back xs (flat_map spell xs) (h.0.1, refl), h.1)
-
-  starts_spelled : (a : A) (text rest : List Token) → IsSpelled P spell a text → test (first (text ++ rest)) ≡ true
-  starts_spelled a text rest g = rw g.1 (starts a rest g.0)
-
-  grows_spelled : (a : A) (text : List Token) → IsSpelled P spell a text → 0 < length text
-  grows_spelled a text g = rw g.1 (grows a)
-
-  -- whether they end
-  abbrev pub IsEnd : Option Token → Type 0
-  IsEnd o = test o ≡ false
-
-  many_spelled : Reads (AreMany (IsSpelled P spell)) (λ xs o. (test o ≡ false) × Last (λ a (p : Option Token). Unit {0}) xs o) (many_at test r)
-  many_spelled = reads-many test (IsSpelled P spell) (λ a o. Unit {0}) r one starts_spelled grows_spelled (λ a o h. tt) ends
-
-  pub reads-spelled : Reads (λ xs text. Each P xs × (text ≡ flat_map spell xs)) (λ xs o. IsEnd o) (many_at test r)
-  reads-spelled = record {
-    sound = λ ts xs rest e. let f = many_spelled.sound ts xs rest e in record {
-      text = f.text;
-      spelled = each_to xs f.text f.spelled;
-      split = f.split;
-      stops = f.stops.0;
-    };
-    complete = λ xs text rest h stop. many_spelled.complete xs text rest (each_back xs text h) (stop, last_free xs (first rest));
-    fault = λ ts halt e. let f = many_spelled.fault ts halt e in
-        record {
-          front = f.front;
-          back = f.back;
-          split = f.split;
-          place = f.place;
-          last = f.last;
-          tail = f.tail;
-          viable = each_to f.last (f.front ++ f.tail) f.viable;
-          dead = f.dead;
-        };
-    some = [];
-    some_text = [];
-    some_spelled = (tt, refl);
-  }
 
 -- the cost of a kind of statement
 abbrev cost_text : CostName → ℕ → List Token
@@ -125,52 +65,11 @@ reads-cost c = reads-same _ (IsCost c) Any (cost_at c)
 
 -- all costs
 abbrev pub costs_text : Costs → List Token
-costs_text c =
-    cost_text cost.Assign c.assign ++ (cost_text cost.Test c.test ++ (cost_text cost.Turn c.turn ++ (cost_text cost.Call c.call
-    ++ (cost_text cost.Null c.nothing ++ (cost_text cost.Put c.put ++ (cost_text cost.Finish c.finish ++ []))))))
+costs_text = all_costs cost_text cost.Assign cost.Test cost.Turn cost.Call cost.Null cost.Put cost.Finish
 
-abbrev pub AreCosts : Costs → List Token → Type 0
-AreCosts c text = text ≡ costs_text c
-
-costs_to : (assign test turn call nothing put finish : ℕ) (c : Costs)
-    → c ≡ record { assign = assign; test = test; turn = turn; call = call; nothing = nothing; put = put; finish = finish } →
-    (text : List Token) → AreCosts (record { assign = assign; test = test; turn = turn; call = call; nothing = nothing; put = put; finish = finish })
-    text → AreCosts c text
-costs_to assign test turn call nothing put finish c e text h = let P : Costs → Type 0 = λ d. AreCosts d text in subst P (sym e) h
-
-pub reads-costs : Reads AreCosts Any costs_at
+pub reads-costs : Reads (λ c text. text ≡ costs_text c) Any costs_at
 unfolding costs_at
-reads-costs = reads-same _ AreCosts Any costs_at
-    (λ c text g1.
-    let g2 = g1.after in let g3 = g2.after in let g4 = g3.after in let g5 = g4.after in let g6 = g5.after in let g7 = g6.after in
-    costs_to g1.a g2.a g3.a g4.a g5.a g6.a g7.a c g7.after.0 text
-    (rw (
-      g1.whole,
-      g1.before,
-      g2.whole,
-      g2.before,
-      g3.whole,
-      g3.before,
-      g4.whole,
-      g4.before,
-      g5.whole,
-      g5.before,
-      g6.whole,
-      g6.before,
-      g7.whole,
-      g7.before,
-      g7.after.1,
-    ) (refl {a = costs_text (record { assign = g1.a; test = g2.a; turn = g3.a; call = g4.a; nothing = g5.a; put = g6.a; finish = g7.a })})))
-    (λ c text h.
-    rw h (joins-part _ c.assign (cost_text cost.Assign c.assign) c _ refl (joins-part _ c.test (cost_text cost.Test c.test) c _ refl
-    (joins-part _ c.turn (cost_text cost.Turn c.turn) c _ refl (joins-part _ c.call (cost_text cost.Call c.call) c _ refl
-    (joins-part _ c.nothing (cost_text cost.Null c.nothing) c _ refl (joins-part _ c.put (cost_text cost.Put c.put) c _ refl
-    (joins-part _ c.finish (cost_text cost.Finish c.finish) c [] refl (refl, refl)))))))))
-    (andthen (reads-cost cost.Assign) (λ assign. andthen (reads-cost cost.Test)
-    (λ test. andthen (reads-cost cost.Turn) (λ turn. andthen (reads-cost cost.Call) (λ call.
-    andthen (reads-cost cost.Null) (λ nothing. andthen (reads-cost cost.Put) (λ put. andthen (reads-cost cost.Finish) (λ finish.
-    reads-pure Any (record { assign = assign; test = test; turn = turn; call = call; nothing = nothing; put = put; finish = finish })
-    (λ _. tt)))))))))
+reads-costs = reads-all_costs cost_text cost.Assign cost.Test cost.Turn cost.Call cost.Null cost.Put cost.Finish cost_at reads-cost
 
 -- some word is a name
 pub reads-ada_name : Reads (IsName is_ada_name) Any (name_at is_ada_name)

@@ -1,7 +1,7 @@
 -- The reader of programs reads exactly the texts of programs, where the reader of blocks reads exactly blocks.
 use Rattle.std.proofs.Common.{◌≡◌, ℕ, Bool, true, false, List, [], ◌∷◌, ◌++◌, flat_map, codes, refl, sym, ap, subst, ◌∙◌, append_assoc}
 use Rattle.grammar.specs.Reading.{first, AreEach, Reads}
-use Rattle.grammar.proofs.Shared.Laws.{reads-same, reads-pure}
+use Rattle.grammar.proofs.Shared.Laws.{reads-same, reads-pure, joins-part}
 use Rattle.seq_tree.specs.Names.{Name}
 use Rattle.seq_tree.specs.Spelling.{joined}
 use Rattle.seq_tree.specs.declared.tree.Costs.{Costs}
@@ -21,7 +21,7 @@ use Rattle.ada_read.specs.declared.fixed_text.FixedText.TheVariants as fixed
 use Rattle.ada_read.specs.FixedTexts.{fixed_tokens, cost_name}
 use Rattle.ada_read.specs.Heads.{Head}
 use Rattle.ada_read.specs.Readers.{services_at, units_at, main_at, program_at}
-use Rattle.ada_read.proofs.ParamLaws.{and_until, reads-text, joins-text, joins-part, costs_text, reads-costs, reads-ada_name}
+use Rattle.ada_read.proofs.ParamLaws.{and_until, reads-text, joins-text, costs_text, reads-costs, reads-ada_name}
 use Rattle.ada_read.proofs.HeadLaws.{AreHeads, reads-heads}
 use Rattle.ada_read.proofs.BodyLaws.{EndsBlock, IsBlock, limits, body_head_tokens, IsBody, reads-body_head, reads-bodies}
 use Rattle.ada_read.proofs.UnitLaws.{units_to, heads_from, heads_good, heads_joined, bodies_back}

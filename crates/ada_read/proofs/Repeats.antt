@@ -1,8 +1,7 @@
 -- Reading lists, one item at a time.
-use Rattle.std.proofs.Common.{◌≡◌, ℕ, suc, ◌+◌, ◌<◌, ◌≤◌, map, drop, get_or, drop-cons, drop_of_length-le, Bool, true, false, List, [], ◌∷◌}
-use Rattle.std.proofs.Common.{◌++◌, length, Option, None, Ok, Err, codes, refl, sym, ap, ◌∙◌, arith, append_assoc, append-nil, length-append}
-use Rattle.grammar.specs.Reading.{Halt, Read, first, ◌>>=◌, many_at, each_at, Reads}
-use Rattle.grammar.proofs.Shared.Many.{many-turn, many-fails, many-ends}
+use Rattle.std.proofs.Common.{◌≡◌, ℕ, suc, ◌+◌, ◌<◌, ◌≤◌, map, drop, get_or, drop-cons, drop_of_length-le, true, false, List, [], ◌∷◌}
+use Rattle.std.proofs.Common.{◌++◌, length, Ok, Err, codes, refl, sym, ap, ◌∙◌, arith, append-nil}
+use Rattle.grammar.specs.Reading.{Halt, Read, first, each_at}
 use Rattle.seq_tree.specs.Operations.{Signature, Operation}
 use Rattle.seq_tree.specs.Trees.{signature_of}
 use Rattle.seq_tree.specs.declared.tree.OpSig.{OpSig}
@@ -10,107 +9,60 @@ use Rattle.seq_tree.specs.declared.token.Token.{Token}
 use Rattle.seq_tree.specs.declared.token.Token.TheVariants.{Word}
 use Rattle.ada_tree.specs.Programs as programs
 use Rattle.token_read.specs.Readers.{next_is}
-use Rattle.token_read.proofs.Shared.TokenLaws.{Any}
+use Rattle.seq_read.proofs.Shared.Takes.{Takes, takes-read}
+use Rattle.seq_read.proofs.Shared.Turns.{with_front, front-none, front-more, front-turn, front-fails, front-ends, turn-shorter}
 use Rattle.ada_read.specs.declared.heads.UnitHead.{UnitHead}
 use Rattle.ada_read.specs.Heads.{Head, head_of}
 use Rattle.ada_read.specs.Readers.{ada_block_at, declaration_at, declarations_at, head_at, heads_at, body_at, bodies_at, operation_at, operations_at}
-use Rattle.ada_read.proofs.ParamLaws.{IsSpelled, IsNamedHead, declaration_tokens, reads-declaration}
-use Rattle.ada_read.proofs.HeadLaws.{IsGoodHead, head_text, reads-head}
-
--- what is read, behind items that were read before
-unfoldable pub with_front : {A : Type 0} → List A → Read Token (List A) → Read Token (List A)
-with_front front q = q >>= λ y. Ok (front ++ y.0, y.1)
-
-regroup : {A : Type 0} (front : List A) (x : A) (q : Read Token (List A)) → with_front front (q >>= λ y. Ok (x ∷ y.0, y.1))
-    ≡ with_front (front ++ x ∷ []) q
-unfolding with_front
-regroup front x (Ok y) = rw (append_assoc) refl
-regroup front x (Err left) = refl
-
-pub front-none : {A : Type 0} (q : Read Token (List A)) → with_front [] q ≡ q
-unfolding with_front
-front-none (Ok y) = refl
-front-none (Err left) = refl
-
--- as many as there are, each spelled in one way
-module _ {A : Type 0} (P : A → Type 0) (spell : A → List Token) (test : Option Token → Bool) (r : List Token
-    → Read Token A) (one : Reads (IsSpelled P spell) Any r)
-    (starts : (a : A) (rest : List Token) → P a → test (first (spell a ++ rest)) ≡ true) (grows : (a : A)
-    → 0 < length (spell a)) (ends : test None ≡ false) where
-  starts_spelled : (a : A) (text rest : List Token) → IsSpelled P spell a text → test (first (text ++ rest)) ≡ true
-  starts_spelled a text rest g = rw g.1 (starts a rest g.0)
-
-  grows_spelled : (a : A) (text : List Token) → IsSpelled P spell a text → 0 < length text
-  grows_spelled a text g = rw g.1 (grows a)
-
-  spelled_shorter : (ts : List Token) (x : A) (rest : List Token) → r ts ≡ Ok (x, rest) → length rest < length ts
-  spelled_shorter ts x rest e =
-      let f = one.sound ts x rest e in
-      omega (arith, ap length f.split, length-append f.text rest, grows_spelled x f.text f.spelled)
-
-  spelled_turn : (front : List A) (ts : List Token) (x : A) (rest : List Token) → test (first ts) ≡ true → r ts ≡ Ok (x, rest)
-      → with_front (front ++ x ∷ []) (many_at test r rest) ≡ with_front front (many_at test r ts)
-  spelled_turn front ts x rest t e =
-      sym (ap (with_front front) (many-turn test (IsSpelled P spell) (λ a o. Unit {0}) r one starts_spelled grows_spelled
-      (λ a o h. tt) ends ts x rest t e) ∙ regroup front x (many_at test r rest))
-
-  spelled_fails : (front : List A) (ts : List Token) (halt : Halt) → test (first ts) ≡ true → r ts ≡ Err halt
-      → with_front front (many_at test r ts) ≡ Err halt
-  unfolding with_front
-  spelled_fails front ts halt t e
-      = rw (many-fails test (IsSpelled P spell) (λ a o. Unit {0}) r one starts_spelled grows_spelled (λ a o h. tt) ends ts halt t e) refl
-
-  spelled_ends : (front : List A) (ts : List Token) → test (first ts) ≡ false → with_front front (many_at test r ts) ≡ Ok (front, ts)
-  unfolding with_front
-  spelled_ends front ts t = rw (
-    many-ends test (IsSpelled P spell) (λ a o. Unit {0}) r one starts_spelled grows_spelled (λ a o h.
-        tt) ends ts t,
-    append-nil,
-  ) refl
+use Rattle.ada_read.proofs.ParamLaws.{reads-declaration}
+use Rattle.ada_read.proofs.HeadLaws.{reads-head}
 
 -- DECLARATIONS
+takes-declaration : Takes 1 declaration_at
+takes-declaration = takes-read reads-declaration (λ s text g. rw g.1 (omega arith))
+
 pub declaration-shorter : (ts : List Token) (s : Signature) (rest : List Token) → declaration_at ts ≡ Ok (s, rest) → length rest < length ts
-declaration-shorter = spelled_shorter IsNamedHead declaration_tokens (next_is (Word (codes "procedure"))) declaration_at reads-declaration
-    (λ s rest h. refl) (λ s. omega arith) refl
+declaration-shorter ts s rest e = turn-shorter declaration_at ts rest s takes-declaration e
 
 pub declaration-turn : (front : List Signature) (ts : List Token) (s : Signature) (rest : List Token)
-    → next_is (Word (codes "procedure")) (first ts) ≡ true → declaration_at ts ≡ Ok (s, rest) →
-    with_front (front ++ s ∷ []) (declarations_at rest) ≡ with_front front (declarations_at ts)
+    → next_is (Word (codes "procedure")) (first ts) ≡ true → declaration_at ts ≡ Ok (s, rest)
+    → with_front (front ++ s ∷ []) (declarations_at rest) ≡ with_front front (declarations_at ts)
 unfolding declarations_at
-declaration-turn = spelled_turn IsNamedHead declaration_tokens (next_is (Word (codes "procedure"))) declaration_at reads-declaration
-    (λ s rest h. refl) (λ s. omega arith) refl
+declaration-turn = front-turn (next_is (Word (codes "procedure"))) declaration_at takes-declaration
 
 pub declaration-fails : (front : List Signature) (ts : List Token) (halt : Halt) → next_is (Word (codes "procedure")) (first ts) ≡ true
-    → declaration_at ts ≡ Err halt → with_front front (declarations_at ts) ≡ Err halt
+    → declaration_at ts ≡ Err halt
+    → with_front front (declarations_at ts) ≡ Err halt
 unfolding declarations_at
-declaration-fails = spelled_fails IsNamedHead declaration_tokens (next_is (Word (codes "procedure"))) declaration_at reads-declaration
-    (λ s rest h. refl) (λ s. omega arith) refl
+declaration-fails = front-fails (next_is (Word (codes "procedure"))) declaration_at
 
 pub declaration-ends : (front : List Signature) (ts : List Token) → next_is (Word (codes "procedure")) (first ts) ≡ false
     → with_front front (declarations_at ts) ≡ Ok (front, ts)
 unfolding declarations_at
-declaration-ends = spelled_ends IsNamedHead declaration_tokens (next_is (Word (codes "procedure"))) declaration_at reads-declaration
-    (λ s rest h. refl) (λ s. omega arith) refl
+declaration-ends = front-ends (next_is (Word (codes "procedure"))) declaration_at
 
 -- SPECIFICATIONS
+takes-head : Takes 1 head_at
+takes-head = takes-read reads-head (λ h text g. rw g.1 (omega arith))
+
 pub head-shorter : (ts : List Token) (h : Head) (rest : List Token) → head_at ts ≡ Ok (h, rest) → length rest < length ts
-head-shorter = spelled_shorter IsGoodHead head_text (next_is (Word (codes "package"))) head_at reads-head (λ h rest k. refl) (λ h. omega arith) refl
+head-shorter ts h rest e = turn-shorter head_at ts rest h takes-head e
 
 pub head-turn : (front : List Head) (ts : List Token) (h : Head) (rest : List Token) → next_is (Word (codes "package")) (first ts) ≡ true
-    → head_at ts ≡ Ok (h, rest) →
-    with_front (front ++ h ∷ []) (heads_at rest) ≡ with_front front (heads_at ts)
+    → head_at ts ≡ Ok (h, rest)
+    → with_front (front ++ h ∷ []) (heads_at rest) ≡ with_front front (heads_at ts)
 unfolding heads_at
-head-turn = spelled_turn IsGoodHead head_text (next_is (Word (codes "package"))) head_at reads-head (λ h rest k. refl) (λ h. omega arith) refl
+head-turn = front-turn (next_is (Word (codes "package"))) head_at takes-head
 
 pub head-fails : (front : List Head) (ts : List Token) (halt : Halt) → next_is (Word (codes "package")) (first ts) ≡ true → head_at ts ≡ Err halt
     → with_front front (heads_at ts) ≡ Err halt
 unfolding heads_at
-head-fails = spelled_fails IsGoodHead head_text (next_is (Word (codes "package"))) head_at reads-head (λ h rest k. refl) (λ h. omega arith) refl
+head-fails = front-fails (next_is (Word (codes "package"))) head_at
 
 pub head-ends : (front : List Head) (ts : List Token) → next_is (Word (codes "package")) (first ts) ≡ false
     → with_front front (heads_at ts) ≡ Ok (front, ts)
 unfolding heads_at
-head-ends = spelled_ends IsGoodHead head_text (next_is (Word (codes "package"))) head_at reads-head (λ h rest k. refl) (λ h. omega arith) refl
+head-ends = front-ends (next_is (Word (codes "package"))) head_at
 
 -- ONE FOR EACH
 module _ {X B A : Type 0} (view : X → B) (r : B → List Token → Read Token A) (xs : List X) (i : ℕ) where
@@ -122,7 +74,7 @@ module _ {X B A : Type 0} (view : X → B) (r : B → List Token → Read Token 
   each_turn : (front : List A) (ts : List Token) (x : X) (a : A) (rest : List Token) → i < length xs → x ≡ get_or xs i x
       → r (view x) ts ≡ Ok (a, rest) →
       with_front (front ++ a ∷ []) (each_at r (map view (drop (i + 1) xs)) rest) ≡ with_front front (each_at r (map view (drop i xs)) ts)
-  each_turn front ts x a rest h item e = rw (item_next x h item, e) (sym (regroup front a (each_at r (map view (drop (i + 1) xs)) rest)))
+  each_turn front ts x a rest h item e = rw (item_next x h item, e) (sym (front-more front a (each_at r (map view (drop (i + 1) xs)) rest)))
 
   each_fails : (front : List A) (ts : List Token) (x : X) (halt : Halt) → i < length xs → x ≡ get_or xs i x → r (view x) ts ≡ Err halt
       → with_front front (each_at r (map view (drop i xs)) ts) ≡ Err halt

@@ -3,7 +3,7 @@ use Rattle.std.proofs.Common.{◌≡◌, Bool, true, false, cond, List, [], ◌�
 use Rattle.std.proofs.Common.{append-nil, ◌⊎◌, inl, inr, length, arith}
 use Rattle.seq_tree.specs.Lists.{Each}
 use Rattle.grammar.specs.Reading.{choose_at, token_at, Reads}
-use Rattle.grammar.proofs.Shared.Laws.{reads-same, reads-pure, reads-token, reads-choose, IsToken}
+use Rattle.grammar.proofs.Shared.Laws.{reads-same, reads-pure, reads-token, reads-choose, IsToken, joins-part}
 use Rattle.seq_tree.specs.Names.{Name, same_name}
 use Rattle.seq_tree.specs.Operations.{Signature}
 use Rattle.seq_tree.specs.declared.tree.Mode.{Mode}
@@ -18,10 +18,11 @@ use Rattle.ada_tree.specs.Words.{is_ada_name}
 use Rattle.token_read.specs.Readers.{next_is}
 use Rattle.token_read.proofs.Shared.TokenLaws.{Any, andthen, same_is, reads-fixed, reads-phrase, joins-fixed, joins-phrase, joins-name}
 use Rattle.seq_read.specs.Parts.{sees_by, named_at}
+use Rattle.seq_read.proofs.Shared.Spelled.{IsSpelled}
 use Rattle.ada_read.specs.declared.fixed_text.FixedText.TheVariants as fixed
 use Rattle.ada_read.specs.FixedTexts.{fixed_tokens}
 use Rattle.ada_read.specs.Readers.{renaming_at, renamings_at, request_renaming_at, request_param_at, request_at, unlisted_at, truth_named}
-use Rattle.ada_read.proofs.ParamLaws.{AreUnlisted, IsNamed, IsNamedHead, IsSpelled, declaration_tokens, reads-text, joins-text, joins-part}
+use Rattle.ada_read.proofs.ParamLaws.{AreUnlisted, IsNamed, IsNamedHead, declaration_tokens, reads-text, joins-text}
 use Rattle.ada_read.proofs.ParamLaws.{reads-ada_name, reads-unlisted}
 
 -- RENAMINGS

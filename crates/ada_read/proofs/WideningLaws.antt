@@ -7,15 +7,16 @@ use Rattle.seq_tree.specs.Operations.{Signature}
 use Rattle.seq_tree.specs.declared.tree.Datum.{Datum}
 use Rattle.seq_tree.specs.declared.tree.Mode.TheVariants.{In}
 use Rattle.seq_tree.specs.declared.tree.Param.{Param}
-use Rattle.seq_tree.specs.declared.token.Token.{Token}
 use Rattle.seq_tree.specs.declared.token.Token.TheVariants.{Word, Sign}
-use Rattle.seq_tree.specs.declared.token.Mark.TheVariants.{LeftParen, Semicolon, Colon, Becomes}
+use Rattle.seq_tree.specs.declared.token.Mark.TheVariants.{LeftParen, Semicolon, Colon}
 use Rattle.ada_tree.specs.Programs.{Passive, Shared, Cyclic, Sporadic}
 use Rattle.ada_tree.specs.Spelling.{head_tokens, kept_token, request_token}
 use Rattle.ada_tree.specs.Words.{is_ada_name}
-use Rattle.token_read.specs.Readers.{sees_fixed, fixed_at, phrase_at, sees_number, number_at, sees_name, name_at, next_is}
-use Rattle.seq_read.specs.Statements.{BlockReader, next_is_name}
-use Rattle.seq_read.specs.Parts.{end_tokens, sees_by, named_at, mode_named, param_at, more_param_at, params_from_at, datum_at, data_at}
+use Rattle.token_read.specs.Readers.{sees_name, name_at, next_is}
+use Rattle.seq_read.specs.Statements.{BlockReader}
+use Rattle.seq_read.specs.Parts.{end_tokens, sees_by, named_at, mode_named, param_at, more_param_at, params_from_at}
+use Rattle.seq_read.proofs.Shared.TokenWidening.{widens-fixed, widens-phrase, widens-number}
+use Rattle.seq_read.proofs.Shared.DatumLaws.{widens-data}
 use Rattle.ada_read.specs.declared.fixed_text.FixedText.{FixedText}
 use Rattle.ada_read.specs.declared.fixed_text.FixedText.TheVariants as fixed
 use Rattle.ada_read.specs.declared.fixed_text.CostName.{CostName}
@@ -30,20 +31,8 @@ use Rattle.ada_read.specs.Readers.{body_at, bodies_at, services_at, units_at, ma
 
 module _ (n : ℕ) where
   -- TOKENS
-  widens-fixed : (u : Token) → Widens n (fixed_at u) (fixed_at u)
-  unfolding fixed_at
-  widens-fixed u = widens-token n (sees_fixed u)
-
-  widens-phrase : (us : List Token) → Widens n (phrase_at us) (phrase_at us)
-  widens-phrase [] = widens-pure n tt
-  widens-phrase (u ∷ us) = widens-then (widens-fixed u) (λ _. widens-phrase us)
-
   widens-text : (text : FixedText) → Widens n (text_at text) (text_at text)
   widens-text text = widens-phrase (fixed_tokens text)
-
-  widens-number : Widens n number_at number_at
-  unfolding number_at
-  widens-number = widens-token n sees_number
 
   widens-name : Widens n (name_at is_ada_name) (name_at is_ada_name)
   unfolding name_at
@@ -107,17 +96,6 @@ module _ (n : ℕ) where
   unfolding declarations_at
   widens-declarations = widens-many (next_is (Word (codes "procedure"))) widens-declaration
 
-  widens-datum : Widens n (datum_at is_ada_name) (datum_at is_ada_name)
-  unfolding datum_at
-  widens-datum =
-      widens-then widens-name (λ name. widens-then (widens-fixed (Sign Colon)) (λ _. widens-then (widens-fixed (Word (codes "word"))) (λ _.
-      widens-then (widens-fixed (Sign Becomes)) (λ _. widens-then widens-number (λ k. widens-then (widens-fixed (Sign Semicolon)) (λ _.
-      widens-pure n (record { name = name; value = k })))))))
-
-  widens-data : Widens n (data_at is_ada_name) (data_at is_ada_name)
-  unfolding data_at
-  widens-data = widens-many (next_is_name is_ada_name) widens-datum
-
   widens-cyclic_head : (name : Name) → Widens n (cyclic_head_at name) (cyclic_head_at name)
   unfolding cyclic_head_at
   widens-cyclic_head name =
@@ -164,7 +142,7 @@ module _ (n : ℕ) where
       widens-then (widens-text fixed.ObjectHead)
       (λ _. widens-then widens-number (λ ceiling. widens-then (widens-text fixed.Close) (λ _. widens-then widens-declarations (λ sigs.
       widens-then (widens-fixed (Word (codes "private")))
-      (λ _. widens-then widens-data (λ vars. widens-then (widens-text fixed.ObjectEnd) (λ _. widens-then (widens-renamings sigs) (λ _.
+      (λ _. widens-then (widens-data is_ada_name) (λ vars. widens-then (widens-text fixed.ObjectEnd) (λ _. widens-then (widens-renamings sigs) (λ _.
       widens-then (widens-phrase (end_tokens name)) (λ _. widens-pure n (SharedHead name ceiling sigs vars))))))))))
 
   widens-truth : Widens n (named_at truth_named) (named_at truth_named)
@@ -243,14 +221,14 @@ module _ (n : ℕ) where
     unfolding operation_at
     widens-operation sig =
         widens-then (widens-phrase (head_tokens sig)) (λ _. widens-then (widens-fixed (Word (codes "is")))
-        (λ _. widens-then widens-data (λ locals. widens-then (widens-fixed (Word (codes "begin"))) (λ _.
+        (λ _. widens-then (widens-data is_ada_name) (λ locals. widens-then (widens-fixed (Word (codes "begin"))) (λ _.
         widens-then widens (λ b. widens-then (widens-phrase (end_tokens sig.name))
         (λ _. widens-pure n (record { sig = sig; locals = locals; block = b })))))))
 
     widens-cyclic : (priority : ℕ) → Widens n (cyclic_at block priority) (cyclic_at wider priority)
     unfolding cyclic_at
     widens-cyclic priority =
-        widens-then widens-data (λ vars. widens-then (widens-text fixed.TaskBody)
+        widens-then (widens-data is_ada_name) (λ vars. widens-then (widens-text fixed.TaskBody)
         (λ _. widens-then widens-number (λ offset. widens-then (widens-text fixed.Delay) (λ _.
         widens-then widens-number (λ period. widens-then (widens-text fixed.Close)
         (λ _. widens-then widens (λ b. widens-then (widens-text fixed.TaskLoop) (λ _.
@@ -283,7 +261,7 @@ module _ (n : ℕ) where
     widens-form (SharedHead name ceiling sigs vars) = widens-shared ceiling sigs vars
     widens-form (CyclicHead name priority) = widens-cyclic priority
     widens-form (SporadicHead name priority ceiling op separation jitter external) =
-        widens-then widens-data (λ vars. widens-then (widens-serving op)
+        widens-then (widens-data is_ada_name) (λ vars. widens-then (widens-serving op)
         (λ b. widens-pure n (Sporadic priority ceiling op separation jitter external vars b)))
 
     widens-body : (h : Head) → Widens n (body_at block h) (body_at wider h)

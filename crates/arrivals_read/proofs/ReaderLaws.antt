@@ -2,7 +2,7 @@
 use Rattle.std.proofs.Common.{◌≡◌, ℕ, ◌<◌, Bool, true, false, List, [], ◌∷◌, ◌++◌, length, Option, Some, None, Ok, Err, suc, codes, flat_map}
 use Rattle.std.proofs.Common.{refl, sym, ap, subst, ◌∙◌, arith, append-nil, ◌⊎◌, inl, inr}
 use Rattle.grammar.specs.Reading.{Halt, Syntax, left_of, Read, first, token_at, then_at, pure_at, many_at, Found, Stuck, Reads, Joined, AreMany}
-use Rattle.grammar.proofs.Shared.Laws.{reads-same, reads-then, reads-pure, reads-token, reads-choose, reads-map, ok_parts, IsToken}
+use Rattle.grammar.proofs.Shared.Laws.{reads-same, reads-then, reads-pure, reads-token, reads-choose, reads-map, ok_parts, IsToken, joins-part}
 use Rattle.grammar.proofs.Shared.Many.{reads-items}
 use Rattle.seq_tree.specs.Names.{Name}
 use Rattle.seq_tree.specs.declared.token.Token.{Token}
@@ -32,11 +32,6 @@ reads-word = reads-same (IsToken sees_word) IsWord Any (token_at sees_word)
 
 joins-word : {B : Type 0} (H : Name → B → List Token → Type 0) (n : Name) (b : B) (rest : List Token) → H n b rest → Joined IsWord H b (Word n ∷ rest)
 joins-word H n b rest h = record { a = n; front = Word n ∷ []; back = rest; before = refl; after = h; whole = refl }
-
--- a part of a text with its own law, in front of the rest
-joins-part : {A B : Type 0} {G : A → List Token → Type 0} (H : A → B → List Token → Type 0) (a : A) (text : List Token) (b : B) (rest : List Token)
-    → G a text → H a b rest → Joined G H b (text ++ rest)
-joins-part H a text b rest g h = record { a = a; front = text; back = rest; before = g; after = h; whole = refl }
 
 -- what is spelled in one way
 abbrev pub IsSpelled : {A : Type 0} → (A → List Token) → A → List Token → Type 0

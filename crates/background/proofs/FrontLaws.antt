@@ -2,7 +2,6 @@
 use Rattle.std.specs.Prelude.{◌≡◌, ℕ, ◌-◌, ◌==◌, ◌&&◌, Bool, true, false, List, [], ◌∷◌, ◌++◌, map, filter, length}
 use Rattle.std.specs.Prelude.{Some, filter_map, flat_map, zip, take, if◌then◌else◌, refl}
 use Rattle.std.proofs.Common.{sym, ◌∙◌, ap, subst, arith, inl, inr}
-use Rattle.std.proofs.lemmas.Bool.{and_parts}
 use Rattle.std.proofs.lemmas.Option.{same_Some}
 use Rattle.seq_tree.specs.Layout.{layout}
 use Rattle.seq_tree.specs.Names.{Name, are_distinct}
@@ -28,15 +27,11 @@ use Rattle.background_designs.specs.Programs.{hard_places}
 use Rattle.rt_response.specs.declared.rows.Bound.{Bound}
 use Rattle.law_backgrounds.proofs.Shared.HardObjects.{terminal_objects, threads-hard}
 use Rattle.law_backgrounds.proofs.Shared.HardThreads.{client-thread, other-thread, thread-source, slow-are-clients}
+use Rattle.law_backgrounds.proofs.Shared.HardRanks.{distinct-last}
 use Rattle.background.specs.Fronts.{is_slow, slow_count, front_rows, front_places, name_at, front_name, slow_requests, at_once, restless_flat}
 use Rattle.background.specs.Fronts.{restless_ranks}
 use Rattle.background.specs.Fronts.{restless_text, restless_bounds}
 use Rattle.background.specs.Rows.{background_bounds, hard_name}
-
--- names that differ still do so in the last part
-distinct-last : (ms ns : List Name) → are_distinct (ms ++ ns) ≡ true → are_distinct ns ≡ true
-distinct-last [] ns h = h
-distinct-last (m ∷ ms) ns h = distinct-last ms ns (and_parts _ (are_distinct (ms ++ ns)) h).1
 
 -- tests, and functions, that agree on what is in a list
 filter-same : {A : Type 0} (s t : A → Bool) (xs : List A) → ((x : A) → IsIn x xs → s x ≡ t x) → filter s xs ≡ filter t xs

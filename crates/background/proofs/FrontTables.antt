@@ -1,42 +1,24 @@
 -- The first rows of a table: as many as their places, at which threads stand; a value over its limit is that of one of them.
-use Rattle.std.proofs.Common.{◌≡◌, ℕ, zero, suc, ◌+◌, ◌<◌, Bool, true, false, List, [], ◌∷◌, ◌++◌, length, take, Some, slice_get}
+use Rattle.std.proofs.Common.{◌≡◌, ℕ, zero, suc, ◌+◌, ◌<◌, List, [], ◌∷◌, ◌++◌, length, take, Some, slice_get}
 use Rattle.std.proofs.Common.{refl, sym, ap, ◌∙◌, arith}
-use Rattle.std.specs.Prelude.{nat_lt, option_map, option_and_then}
+use Rattle.std.specs.Prelude.{option_map, option_and_then}
 use Rattle.seq_tree.specs.Layout.{layout}
 use Rattle.seq_tree.specs.Lists.{Each}
 use Rattle.seq_tree.specs.Names.{Name}
 use Rattle.ods_tree.specs.Flats.{Thread, Flat}
 use Rattle.ada_tree.specs.Programs.{Program}
 use Rattle.ada_tree.specs.Spelling.{program_lines}
-use Rattle.rt_response.specs.declared.rows.ThreadRow.{ThreadRow}
 use Rattle.rt_response.specs.declared.rows.Bound.{Bound}
-use Rattle.rt_response.specs.declared.excess.Excess.{Excess}
 use Rattle.rt_response.specs.Response.{Fits}
-use Rattle.rt_response.specs.Rounds.{IsMiss, first_excess, round}
+use Rattle.rt_response.specs.Rounds.{IsMiss, round}
 use Rattle.rt_response.specs.declared.rows.Miss as rows
 use Rattle.analysis.specs.Ceilings.{Ranks, written_ranks}
 use Rattle.analysis.specs.Tables.{table}
 use Rattle.guarantee.specs.Programs.{head, program_for}
 use Rattle.law_calls.proofs.Shared.Places.{all-at}
-use Rattle.design_bounds.proofs.Shared.TablePlaces.{places-stand, rows-long}
+use Rattle.design_bounds.proofs.Shared.TablePlaces.{places-stand, rows-long, excess-at}
 use Rattle.background.specs.Fronts.{front_count, front_rows, front_places, name_at, front_name}
 use Rattle.background.specs.Makes.{text_for}
-
--- an excess is that of a row
-excess-at : (i : ℕ) (rows : List ThreadRow) (v : List Bound) (x : Excess) → first_excess i rows v ≡ Some x → x.index < i + length rows
-excess-at i [] v x e = cc
-excess-at i (row ∷ rows) [] x e = cc
-excess-at i (row ∷ rows) (b ∷ v) x e = over (nat_lt row.deadline b.response) (nat_lt row.period (b.jitter + b.response)) refl refl
-    (excess-at (suc i) rows v x)
-  where
-    here : (o : Excess) → Some o ≡ Some x → o.index ≡ i → x.index < i + suc (length rows)
-    here o h at = (let same : o ≡ x = cc in let is : x.index ≡ i = ap (λ z. z.index) (sym same) ∙ at in omega (arith, is))
-
-    over : (d s : Bool) → nat_lt row.deadline b.response ≡ d → nat_lt row.period (b.jitter + b.response) ≡ s
-        → (first_excess (suc i) rows v ≡ Some x → x.index < suc i + length rows) → x.index < i + suc (length rows)
-    over true s p q later = here _ (rw p at e) refl
-    over false true p q later = here _ (rw (p, q) at e) refl
-    over false false p q later = (let h = later (rw (p, q) at e) in omega (arith, h))
 
 -- the fronts of lists of one length have one length
 take-long : {A B : Type 0} (k : ℕ) (xs : List A) (ys : List B) → length xs ≡ length ys → length (take k xs) ≡ length (take k ys)

@@ -1,5 +1,5 @@
 -- What is made of a flat design whose slow threads are calm, from its parts; and what is made of the flat design of a hard part that was checked.
-use Rattle.std.proofs.Common.{◌≡◌, ℕ, ◌≤◌, ◌<◌, List, [], ◌∷◌, length, take, None, Result, Ok, Err, refl, sym, ap, subst, ◌∙◌}
+use Rattle.std.proofs.Common.{◌≡◌, ℕ, ◌<◌, List, [], ◌∷◌, length, take, None, Result, Ok, Err, refl, sym, ap, subst, ◌∙◌}
 use Rattle.std.specs.Prelude.{max}
 use Rattle.std.proofs.lemmas.List.{length-map}
 use Rattle.rt_response.specs.Response.{IsLeastVector}
@@ -14,9 +14,8 @@ use Rattle.rt_response.specs.Tables.{IsTable}
 use Rattle.rt_response.specs.declared.rows.Bound.{Bound}
 use Rattle.rt_response.specs.declared.rows.ThreadRow.{ThreadRow}
 use Rattle.analysis.specs.Ceilings.{Ranks, control_ceiling, numbered, ranks}
-use Rattle.analysis.specs.Sound.{IsSound}
 use Rattle.analysis.specs.Tables.{ThreadTable, table}
-use Rattle.design_bounds.proofs.Shared.CheckedDesigns.{flat-sound, first-small}
+use Rattle.design_bounds.proofs.Shared.CheckedDesigns.{flat-of}
 use Rattle.ods_index.specs.Judging.{head_of}
 use Rattle.background_designs.specs.Programs.{raised}
 use Rattle.background.specs.Fronts.{slow_count, front_count, front_rows, front_places, slow_requests, at_once, restless_flat, restless_text}
@@ -26,7 +25,7 @@ use Rattle.background.specs.Told.{IsTold}
 use Rattle.background.specs.declared.delivery.Background.{Background}
 use Rattle.background.specs.declared.delivery.BackgroundRefusal.{BackgroundRefusal}
 use Rattle.background.specs.declared.delivery.BackgroundRefusal.TheVariants as refusal
-use Rattle.background.proofs.RaisedRooms.{first-some, room-raised}
+use Rattle.background.proofs.RaisedRooms.{room-raised}
 
 -- the first rows of a table, and their places
 pub cut-rows : (f : Flat) (t : ThreadTable) (k : ℕ) (rows : List ThreadRow) → t ≡ table f → k ≡ front_count f → rows ≡ take k t.rows
@@ -94,23 +93,11 @@ none-at-all [] e = refl
 none-at-all (x ∷ xs) e = absurd (cc)
 
 module _ (x y : Design) (same : y ≡ x) (met : AreMet y y) (first : ℕ) (written : first ≡ first_priority y) (f : Flat) (flattened : f ≡ flat x) where
-  flat-of : f ≡ flat y
-  flat-of = flattened ∙ ap flat (sym same)
-
-  pub sound-of : IsSound f
-  sound-of = subst IsSound (sym flat-of) (flat-sound y y met)
-
-  pub small-of : first ≤ 1000000000
-  small-of = subst (λ n. n ≤ 1000000000) (sym written) (first-small y met)
-
-  pub some-of : 1 ≤ first
-  some-of = subst (λ n. 1 ≤ n) (sym written) (first-some y met)
-
   pub room-of : HasRoom first (raised (slow_count f) (ranks f))
   room-of =
       let P : ℕ → Type 0 = λ n. HasRoom n (raised (slow_count (flat y)) (ranks (flat y))) in
       let Q : Flat → Type 0 = λ g. HasRoom first (raised (slow_count g) (ranks g)) in
-      subst Q (sym flat-of) (subst P (sym written) (room-raised y met))
+      subst Q (sym (flat-of x y same met first written f flattened)) (subst P (sym written) (room-raised y met))
 
   calm-of : head_of (slow_requests f) ≡ None → slow_requests (flat x) ≡ []
   calm-of none = ap slow_requests (sym flattened) ∙ none-at-all (slow_requests f) none

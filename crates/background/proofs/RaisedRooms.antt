@@ -1,23 +1,19 @@
 -- The raised priorities and ceilings of a flat design are at most as many as its threads, and at most 60 as they are written.
-use Rattle.std.proofs.Common.{◌≡◌, ℕ, ◌+◌, ◌-◌, ◌≤◌, Bool, true, false, not, ◌&&◌, List, [], ◌∷◌, length, filter, max, nat_le, Option, Some}
-use Rattle.std.proofs.Common.{None, option_to_list, refl, sym, ap, ◌∙◌, arith, suc}
+use Rattle.std.proofs.Common.{ℕ, ◌+◌, ◌-◌, ◌≤◌, Bool, true, false, List, [], ◌∷◌, length, filter, max}
+use Rattle.std.proofs.Common.{refl, arith, suc}
 use Rattle.std.specs.Prelude.{if◌then◌else◌}
 use Rattle.std.proofs.Math.Nat.{max-le}
-use Rattle.std.proofs.lemmas.Bool.{and_parts, leb-true}
 use Rattle.seq_tree.specs.Lists.{Each}
 use Rattle.ods_tree.specs.Designs.{Design}
-use Rattle.ods_tree.specs.Walk.{only_if}
-use Rattle.ods_tree.specs.Ticks.{first_priority, least_of, stated_priorities}
+use Rattle.ods_tree.specs.Ticks.{first_priority}
 use Rattle.ods_tree.specs.Flats.{Timing, Cyclic, Sporadic, Thread, Guarded, Flat}
 use Rattle.ods_tree.specs.Flattening.{flat}
 use Rattle.analysis.specs.Ceilings.{ceiling, control_ceiling, ranks}
 use Rattle.analysis.specs.Priorities.{priorities_of}
 use Rattle.analysis.specs.Sound.{IsSound}
-use Rattle.design_rules.specs.Broken.{V17Priorities}
-use Rattle.design_rules.specs.Versions.{is_range, bad_priorities}
 use Rattle.design_rules.specs.Rules.{AreMet}
 use Rattle.design_bounds.proofs.Shared.RankLaws.{each-made}
-use Rattle.law_designs.proofs.Shared.RankRanges.{priority-range, ceiling-range, priorities-stated, room}
+use Rattle.law_designs.proofs.Shared.RankRanges.{priority-range, ceiling-range, room}
 use Rattle.law_calls.proofs.Shared.Lists.{each-in, each-to}
 use Rattle.background_designs.specs.Programs.{at_least, raised}
 use Rattle.background.specs.Fronts.{is_slow, slow_count}
@@ -81,20 +77,7 @@ module _ (f : Flat) where
         obcs = each-to (λ n. n ≤ most) (λ n. n + (first - 1) ≤ 60) _ up low-obcs;
       }
 
--- priorities that are stated as they must begin at 1 at least
-range-first : (r : Option (ℕ × ℕ)) → bad_priorities r ≡ [] → 1 ≤ least_of r
-range-first None h = omega arith
-range-first (Some range) h = by (is_range range) refl h
-  where
-    by : (b : Bool) → is_range range ≡ b → option_to_list (only_if (not (is_range range)) V17Priorities) ≡ [] → 1 ≤ range.0
-    by true e k = leb-true 1 range.0 (and_parts (nat_le 1 range.0) (nat_le range.0 range.1)
-        (and_parts (nat_le 1 range.0 && nat_le range.0 range.1) (nat_le range.1 60) e).0).0
-    by false e k = (let z : V17Priorities ∷ [] ≡ [] = sym (ap (λ b. option_to_list (only_if (not b) V17Priorities)) e) ∙ k in cc)
-
 -- of a design that meets the rules
 module _ (y : Design) (met : AreMet y y) where
-  pub first-some : 1 ≤ first_priority y
-  first-some = range-first (stated_priorities y) (priorities-stated y y met refl)
-
   pub room-raised : HasRoom (first_priority y) (raised (slow_count (flat y)) (ranks (flat y)))
   room-raised = has-room (flat y) (first_priority y) (room y y met refl)

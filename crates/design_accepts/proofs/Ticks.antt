@@ -1,7 +1,7 @@
 -- The ticks of a walk of a block of a sound design's program: at most those that the block costs, and so within the greatest cost.
 use Rattle.std.proofs.Common.{◌≡◌, ◌≤◌, ◌+◌, ◌*◌, ℕ, zero, suc, Bool, true, false, List, [], ◌∷◌, ◌++◌, map, flat_map, Option, Some, None, refl}
 use Rattle.std.proofs.Common.{sym, ap, subst, ◌∙◌, arith, le_refl}
-use Rattle.std.specs.Prelude.{find, filter_map, cond, max, nat_lt, nat_le, slice_get}
+use Rattle.std.specs.Prelude.{find, filter_map, cond, max, nat_lt, nat_le}
 use Rattle.std.specs.List.{list_any, list_all, cons_option}
 use Rattle.std.proofs.lemmas.Bool.{or_parts, and_parts, false_from_ne_true, leb-true}
 use Rattle.std.proofs.lemmas.List.Folds.{list_any-append}
@@ -16,7 +16,7 @@ use Rattle.seq_tree.specs.Dearest.{Weights, turn_count, dearest_statement, deare
 use Rattle.seq_tree.specs.declared.tree.Costs.{Costs}
 use Rattle.seq_eval.specs.Bounds.{block_ticks, called_ticks, callee_ticks, most_ticks}
 use Rattle.ods_tree.specs.Designs.{Design}
-use Rattle.ods_tree.specs.Flats.{Library, Guarded, Timing, Thread, Flat}
+use Rattle.ods_tree.specs.Flats.{Guarded, Timing, Thread}
 use Rattle.ods_tree.specs.Flats as timing
 use Rattle.ods_tree.specs.Flattening.{flat}
 use Rattle.ods_tree.specs.Services.{Service, Sort, Plain, Protected, Request, service_named, flat_services, plain_services, protected_services}
@@ -34,6 +34,7 @@ use Rattle.guarantee.specs.Programs.{program}
 use Rattle.guarantee.proofs.Shared.Same.{program-software}
 use Rattle.law_calls.proofs.Shared.Bodies.{costs-cover}
 use Rattle.law_calls.proofs.Shared.Rings.{no-ring}
+use Rattle.law_calls.proofs.Shared.Lists.{each-append, each-by}
 use Rattle.trace_scripts.specs.Scenes.{AllBlocks, AllIn}
 
 -- numbers of `work`
@@ -85,10 +86,6 @@ module _ (c : Costs) (f g : Name → Name → ℕ) (less : (object op : Name) �
         omega (arith, block-less block es.0, branches-less others es.1)
 
 -- LISTS
-each-append : {A : Type 0} (P : A → Type 0) (xs ys : List A) → Each P xs → Each P ys → Each P (xs ++ ys)
-each-append P [] ys h k = k
-each-append P (x ∷ xs) ys h k = (h.0, each-append P xs ys h.1 k)
-
 found-each : {A : Type 0} (P : A → Type 0) (test : A → Bool) (xs : List A) (x : A) → Each P xs → find test xs ≡ Some x → P x
 found-each P test [] x h e = absurd (none-some x e)
 found-each {A} P test (y ∷ ys) x h e = by (test y) e (λ k. found-each P test ys x h.1 k)
@@ -96,10 +93,6 @@ found-each {A} P test (y ∷ ys) x h e = by (test y) e (λ k. found-each P test 
     by : (b : Bool) → cond b (Some y) (find test ys) ≡ Some x → (find test ys ≡ Some x → P x) → P x
     by true k more = subst P (same_Some {A = A} y x k) h.0
     by false k more = more k
-
-each-at : {A : Type 0} (P : A → Type 0) (xs : List A) → ((i : ℕ) (x : A) → slice_get xs i ≡ Some x → P x) → Each P xs
-each-at P [] h = tt
-each-at P (x ∷ xs) h = (h 0 x refl, each-at P xs (λ i y e. h (suc i) y e))
 
 all-each : {A : Type 0} (P : A → Type 0) (test : A → Bool) → ((x : A) → test x ≡ true → P x) → (xs : List A) → list_all test xs ≡ true → Each P xs
 all-each P test is [] e = tt
@@ -173,7 +166,7 @@ module _ (p : Program) (meets : MeetsRules p) where
 
   units-work : Each UnitWorks p.units
   units-work =
-      each-at UnitWorks p.units (λ i u at. (or_parts _ _ (false_from_ne_true (breaks_ranges u) (λ breaks. meets Ranges (At i) (u, at, breaks)))).1)
+      each-by UnitWorks p.units (λ i u at. (or_parts _ _ (false_from_ne_true (breaks_ranges u) (λ breaks. meets Ranges (At i) (u, at, breaks)))).1)
 
   services-work : Each PlainWorks ss
   services-work =

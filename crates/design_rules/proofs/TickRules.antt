@@ -1,7 +1,8 @@
 -- A design that meets the rules meets them in ticks too.
 use Rattle.std.specs.Prelude.{◌≡◌, ℕ, false, List, [], ◌∷◌, ◌++◌, map, filter_map, slice_get, Option, Some, None, refl}
-use Rattle.std.specs.List.{list_any, cons_option}
-use Rattle.std.proofs.Common.{ap, sym, subst, ◌∙◌}
+use Rattle.std.specs.List.{list_any}
+use Rattle.std.proofs.Common.{sym, subst, ◌∙◌}
+use Rattle.std.proofs.lemmas.List.Elements.{filter_map-append}
 use Rattle.ods_tree.specs.Designs.{Object, Tree, Trees, Node, Empty, With, Design}
 use Rattle.ods_tree.specs.Walk.{Standing, standings, inner_standings, roots, own_of, only_if}
 use Rattle.ods_tree.specs.Ticks.{attribute_in_ticks, object_in_ticks, tree_in_ticks, trees_in_ticks, tick_time, ticked, in_ticks}
@@ -20,15 +21,6 @@ none_between tick other (a ∷ as') = none_between tick other as'
 
 abbrev between : ℕ → Standing → Option Broken
 between tick s = only_if (breaks_ticks tick s.own) (V17 s.own.name)
-
-filter_map-append : {A B : Type 0} (f : A → Option B) (xs ys : List A) → filter_map f (xs ++ ys) ≡ filter_map f xs ++ filter_map f ys
-filter_map-append {A} {B} f [] ys = refl
-filter_map-append {A} {B} f (x ∷ xs) ys = by (f x) (filter_map-append f xs ys)
-  where
-    by : (o : Option B) → filter_map f (xs ++ ys) ≡ filter_map f xs ++ filter_map f ys
-        → cons_option o (filter_map f (xs ++ ys)) ≡ cons_option o (filter_map f xs) ++ filter_map f ys
-    by None rest = rest
-    by (Some y) rest = ap (λ zs. y ∷ zs) rest
 
 -- nor does an object of a tree in ticks
 mutual

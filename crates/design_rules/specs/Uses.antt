@@ -12,6 +12,7 @@ use Rattle.ods_tree.specs.declared.design.Constraint.{Constraint}
 use Rattle.ods_tree.specs.declared.design.Constraint.TheVariants.{Hser}
 use Rattle.design_rules.specs.Broken.{Broken, V06, V07, V08}
 use Rattle.design_rules.specs.Lookups.{operation_named}
+pub use Rattle.design_rules.specs.Fittings.{is_provided as is_there}
 
 -- whether an object's parent requires an operation of this object
 abbrev pub is_uncle : Option Object → Name → Bool
@@ -33,11 +34,6 @@ may_call Passive (Some c) = false
 may_call Active (Some c) = true
 may_call kind (Some Hser) = false
 may_call kind (Some c) = true
-
--- whether an operation is there
-abbrev pub is_there : Option Provided → Bool
-is_there None = false
-is_there (Some p) = true
 
 -- whether an operation is there and an object of a kind may not call it
 abbrev pub is_forbidden : Kind → Option Provided → Bool

@@ -7,9 +7,9 @@
 //!
 //! Other crates may cite these proofs of it (`proofs/Shared`):
 //!
-//! - `Ends`: the laws of readers whose ends depend on more than their last part: a choice, one after another, and a limit that is reached.
 //! - `From`: the law of lists whose items depend on those before them.
 //! - `Laws`: the laws of the readers, one form after another.
+//! - `Limits`: the law of readers with a limit that is reached.
 //! - `Many`: the law of repetitions.
 //! - `Picks`: the laws of a choice among several, and of one reader for each of a list.
 //! - `Whole`: the law of a reader of a whole text.

@@ -18,7 +18,7 @@ use Rattle.law_orders.proofs.Shared.DeadlineFound.{deadline-found}
 use Rattle.law_orders.proofs.Shared.DeadlineOrders.{deadline-order, priority-there}
 use Rattle.law_orders.proofs.Shared.OrderPlaces.{order-has}
 use Rattle.law_orders.proofs.Shared.OrderRows.{priorities-long, priority-at, priority-of}
-use Rattle.priority_search.proofs.Shared.OneAnswer.{lists-same}
+use Rattle.law_orders.proofs.Shared.DeadlineFound.{lists-same}
 use Rattle.hrthood_top.specs.Analyses.{report}
 use Rattle.hrthood_top.specs.DeadlineReports.{WritesByDeadline, WritesAsAnalysed}
 use Rattle.hrthood_top.specs.Searches.{IsOrdered}

@@ -10,7 +10,7 @@ use Rattle.seq_tree.specs.declared.token.Token.{Token}
 use Rattle.seq_tree.specs.declared.token.Token.TheVariants.{Word, Sign}
 use Rattle.seq_tree.specs.declared.token.Mark.TheVariants.{Semicolon}
 use Rattle.seq_tree.specs.declared.tree.Costs.{Costs}
-use Rattle.seq_print.proofs.Shared.Depths.{both, same-block, same-deeper, same-indent}
+use Rattle.seq_print.proofs.Shared.Depths.{both, same-block, same-deeper, same-indent, indent}
 use Rattle.ods_tree.specs.Designs.{Body, Design, Object, Tree, Trees, Node, Empty, With}
 use Rattle.ods_tree.specs.Layout.{capital, parts_text, design_line_text, design_text}
 use Rattle.ods_tree.specs.Spelling.{Part, Capital, Plain, DesignLine, line, attribute_line, back_lines, block_parts, body_lines, cost_lines}
@@ -23,7 +23,7 @@ use Rattle.ods_tree.specs.declared.design.Node as nodes
 use Rattle.ods_tree.specs.declared.design.Node.{out-Node, fold_out-Node}
 use Rattle.ods_tree.specs.declared.design.Provided as provided
 use Rattle.ods_print.specs.Parts.{heading, item_lines, lines_text, object_line}
-use Rattle.ods_print.proofs.Parting.{cost-text, indent}
+use Rattle.ods_print.proofs.Parting.{cost-text}
 
 pub lines-append : (xs ys : List DesignLine) → lines_text (xs ++ ys) ≡ lines_text xs ++ lines_text ys
 lines-append xs ys = flat_map-append design_line_text xs ys

@@ -1,5 +1,5 @@
 -- The parts of a line, one after another, with the spaces between them.
-use Rattle.std.proofs.Common.{◌≡◌, ℕ, ◌*◌, min, replicate, Bool, true, false, ◌||◌, cond, Option, Some, None, List, [], ◌∷◌, ◌++◌, map, flat_map}
+use Rattle.std.proofs.Common.{◌≡◌, ℕ, Bool, true, false, ◌||◌, cond, Option, Some, None, List, [], ◌∷◌, ◌++◌, map, flat_map}
 use Rattle.std.proofs.Common.{codes, decimal, refl, sym, ap, ◌∙◌, append_assoc, append-nil}
 use Rattle.seq_tree.specs.Layout.{clings_back, clings_on, gap}
 use Rattle.seq_tree.specs.Names.{Name}
@@ -24,11 +24,8 @@ use Rattle.ods_tree.specs.declared.design.TickUnit.TheVariants.{Us, Ms, S}
 use Rattle.ods_tree.specs.declared.design.Attr.{Attr}
 use Rattle.ods_tree.specs.declared.design.Link.{Link}
 use Rattle.seq_print.specs.Printing.{mode_text, param_text, params_more, params_text}
+use Rattle.seq_print.proofs.Shared.Depths.{indent}
 use Rattle.ods_print.specs.Parts.{behind}
-
--- the spaces before a line
-abbrev pub indent : ℕ → List ℕ
-indent level = replicate (min 30 (3 * level)) 32
 
 -- parts behind one that the next stands at directly, or one that it doesn't
 abbrev pub spaced : Bool → List Part → List ℕ

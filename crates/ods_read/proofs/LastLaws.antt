@@ -20,13 +20,14 @@ use Rattle.seq_read.specs.Statements.{BlockReader, word, block_at}
 use Rattle.seq_read.proofs.Shared.ChainLevels.{bounds}
 use Rattle.seq_read.proofs.Shared.StatementWidening.{widens-block}
 use Rattle.seq_read.specs.Parts.{end_tokens}
+use Rattle.seq_read.proofs.Shared.TokenWidening.{widens-fixed, widens-phrase, widens-named}
 use Rattle.ods_read.specs.Readers.{some_at, kind_named, end_at, body_at, bodies_at, activation_at, thread_at}
 use Rattle.ods_read.specs.ObjectReaders.{TreeReader, TreesReader, next_is_object, tree_list_at, none_at, over_at, children_at, object_at, tree_with}
 use Rattle.ods_read.specs.DesignReaders.{design_with}
 use Rattle.ods_read.proofs.PartLaws.{EndsBlock, IsBlock, reads-kind, reads-design_name, reads-attributes, reads-provides, reads-requires}
 use Rattle.ods_read.proofs.PartLaws.{reads-data, reads-locals, reads-body, reads-bodies, reads-thread, reads-costs}
 use Rattle.ods_read.proofs.TreeLaws.{closed_at, reads-block, reads-children, reads-tree}
-use Rattle.ods_read.proofs.WideningLaws.{widens-fixed, widens-phrase, widens-name, widens-named, widens-locals, widens-attributes}
+use Rattle.ods_read.proofs.WideningLaws.{widens-name, widens-locals, widens-attributes}
 use Rattle.ods_read.proofs.WideningLaws.{widens-provides, widens-requires, widens-data, widens-implements, widens-version, widens-costs}
 use Rattle.ods_read.proofs.WordLaws.{Right, Fine, fine-free, fine-block}
 use Rattle.ods_read.proofs.DesignLaws.{reads-version}
@@ -219,16 +220,16 @@ module _ (nests most : ℕ) (room : 0 < most) (v : Option VersionTwo) where
     told-ended : {B : Type 0} (name : Name) (f : Statements → B)
         → Told (then_at block (λ b. then_at (end_at name) (λ _. pure_at (f b)))) (then_at block (λ b. then_at (end_at name) (λ _. pure_at (f b))))
     told-ended name f = told-then block block _ _ (told-same block (fine-of d deeper e)) (suffix law)
-        (λ b. told-same _ (fine-free (widens-then (widens-phrase 0 (end_tokens name)) (λ _. widens-pure 0 (f b)))))
+        (λ b. told-same _ (fine-free (widens-then (widens-phrase (end_tokens name)) (λ _. widens-pure 0 (f b)))))
 
     told-body : Told (body_at block) (body_at block)
     unfolding body_at
     told-body =
-        told-second (suffix (reads-fixed (Word (codes "operation")))) (widens-fixed 0 (Word (codes "operation")))
+        told-second (suffix (reads-fixed (Word (codes "operation")))) (widens-fixed (Word (codes "operation")))
         (λ _. told-second (suffix reads-design_name) (widens-name 0) (λ name.
-        told-second (suffix (reads-fixed (Word (codes "is")))) (widens-fixed 0 (Word (codes "is")))
+        told-second (suffix (reads-fixed (Word (codes "is")))) (widens-fixed (Word (codes "is")))
         (λ _. told-second (suffix reads-locals) (widens-locals 0) (λ locals.
-        told-second (suffix (reads-fixed (Word (codes "begin")))) (widens-fixed 0 (Word (codes "begin")))
+        told-second (suffix (reads-fixed (Word (codes "begin")))) (widens-fixed (Word (codes "begin")))
         (λ _. told-ended name (λ b. record { name = name; locals = locals; block = b }))))))
 
     told-bodies : Told (bodies_at block) (bodies_at block)
@@ -238,28 +239,28 @@ module _ (nests most : ℕ) (room : 0 < most) (v : Option VersionTwo) where
     told-thread : Told (thread_at block) (thread_at block)
     unfolding thread_at activation_at
     told-thread = told-choose (next_is (Word (codes "thread"))) _ _ None
-        (told-second (suffix (reads-fixed (Word (codes "thread")))) (widens-fixed 0 (Word (codes "thread"))) (λ _. told-ended (codes "thread") Some))
+        (told-second (suffix (reads-fixed (Word (codes "thread")))) (widens-fixed (Word (codes "thread"))) (λ _. told-ended (codes "thread") Some))
 
     told-object : (p c : TreesReader) → Told p c → Suffix p → Told (object_at (is_some v) block p) (object_at (is_some v) block c)
     unfolding object_at
     told-object p c one suf =
-        told-second (suffix (reads-fixed (Word (codes "object")))) (widens-fixed 0 (Word (codes "object")))
+        told-second (suffix (reads-fixed (Word (codes "object")))) (widens-fixed (Word (codes "object")))
         (λ _. told-second (suffix reads-design_name) (widens-name 0) (λ name.
-        told-second (suffix (reads-fixed (Word (codes "is")))) (widens-fixed 0 (Word (codes "is")))
-        (λ _. told-second (suffix reads-kind) (widens-named 0 kind_named) (λ kind.
+        told-second (suffix (reads-fixed (Word (codes "is")))) (widens-fixed (Word (codes "is")))
+        (λ _. told-second (suffix reads-kind) (widens-named kind_named) (λ kind.
         told-second (suffix (reads-attributes v)) (widens-attributes 0 (is_some v))
         (λ attrs. told-second (suffix reads-provides) (widens-provides 0) (λ provides.
         told-second (suffix reads-requires) (widens-requires 0) (λ needs. told-second (suffix reads-data) (widens-data 0) (λ vars.
         told-then (bodies_at block) (bodies_at block) _ _ told-bodies (suffix (reads-bodies limits d block law)) (λ bodies.
         told-then (thread_at block) (thread_at block) _ _ told-thread (suffix (reads-thread limits d block law)) (λ thread.
         told-then p c _ _ one suf (λ trees. told-same _
-        (fine-free (widens-then (widens-implements 0) (λ links. widens-then (widens-phrase 0 (end_tokens name)) (λ _. widens-pure 0 _)))))))))))))))
+        (fine-free (widens-then (widens-implements 0) (λ links. widens-then (widens-phrase (end_tokens name)) (λ _. widens-pure 0 _)))))))))))))))
 
   told-list : (p c : TreeReader) → Told p c → Suffix p → Told (children_at (tree_list_at p)) (children_at (tree_list_at c))
   unfolding children_at tree_list_at
   told-list p c one suf =
       told-choose (next_is (Word (codes "objects"))) _ _ Empty
-      (told-second (suffix (reads-fixed (Word (codes "objects")))) (widens-fixed 0 (Word (codes "objects")))
+      (told-second (suffix (reads-fixed (Word (codes "objects")))) (widens-fixed (Word (codes "objects")))
       (λ _. told-map (some_at next_is_object p) (some_at next_is_object c) trees_of (told-some next_is_object p c one suf)))
 
   told-tree : (deeper e : ℕ) → suc e + deeper ≡ nests
@@ -278,10 +279,10 @@ module _ (nests most : ℕ) (room : 0 < most) (v : Option VersionTwo) where
 pub told-design : (most deeper : ℕ) → 0 < most → Told (design_with closed_at most deeper) (design_with (children_at over_at) most deeper)
 unfolding design_with
 told-design most deeper room =
-    told-second (suffix (reads-fixed (Word (codes "design")))) (widens-fixed 0 (Word (codes "design")))
+    told-second (suffix (reads-fixed (Word (codes "design")))) (widens-fixed (Word (codes "design")))
     (λ _. told-second (suffix reads-design_name) (widens-name 0) (λ name.
     told-second (suffix reads-version) (widens-version 0) (λ version. told-second (suffix reads-costs) (widens-costs 0) (λ costs.
     told-then (tree_with closed_at (is_some version) most deeper) (tree_with (children_at over_at) (is_some version) most deeper) _ _
     (told-tree (suc deeper) most room version deeper 0 (omega arith))
     (suffix (reads-tree (suc deeper) most room version deeper 0 (omega arith)))
-    (λ root. told-same _ (fine-free (widens-then (widens-phrase 0 (end_tokens name)) (λ _. widens-pure 0 _))))))))
+    (λ root. told-same _ (fine-free (widens-then (widens-phrase (end_tokens name)) (λ _. widens-pure 0 _))))))))

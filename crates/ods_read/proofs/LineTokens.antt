@@ -30,9 +30,10 @@ use Rattle.ods_tree.specs.declared.design.VersionTwo.{VersionTwo}
 use Rattle.ods_tree.specs.declared.design.Attr.{Attr}
 use Rattle.seq_read.proofs.Shared.StatementTokens.{block_toks, block-level}
 use Rattle.seq_read.specs.Parts.{end_tokens}
+use Rattle.seq_read.proofs.Shared.DatumLaws.{datum_tokens}
 use Rattle.ods_read.proofs.SpelledLaws.{section_tokens}
 use Rattle.ods_read.proofs.PartLaws.{kind_word, key_word, unit_word, unit_tokens, attribute_tokens, param_tokens, more_tokens, params_tokens}
-use Rattle.ods_read.proofs.PartLaws.{constraint_tokens, provided_tokens, needed_tokens, datum_tokens, link_tokens, body_tokens, thread_tokens}
+use Rattle.ods_read.proofs.PartLaws.{constraint_tokens, provided_tokens, needed_tokens, link_tokens, body_tokens, thread_tokens}
 use Rattle.ods_read.proofs.PartLaws.{costs_tokens}
 use Rattle.ods_read.proofs.ObjectLaws.{object_tokens, tree_tokens, trees_tokens, children_tokens}
 use Rattle.ods_read.proofs.DesignLaws.{version_tokens, range_tokens, design_text}

@@ -1,7 +1,7 @@
 -- The reader of objects that stops where none may nest any more reads the proper trees within its limits.
 use Rattle.std.proofs.Common.{◌≡◌, ℕ, true, false, List, [], ◌∷◌, ◌++◌, Option, None, Some, is_some, codes, flat_map, refl, sym, subst, ◌∙◌, inl, inr}
 use Rattle.grammar.specs.Reading.{Reads}
-use Rattle.grammar.proofs.Shared.Laws.{reads-same}
+use Rattle.grammar.proofs.Shared.Laws.{reads-same, joins-part}
 use Rattle.seq_tree.specs.Lists.{Each}
 use Rattle.seq_tree.specs.Names.{Name}
 use Rattle.seq_tree.specs.Statements.{Statements}
@@ -21,12 +21,14 @@ use Rattle.token_read.specs.Readers.{next_is}
 use Rattle.token_read.proofs.Shared.TokenLaws.{Any, andthen, reads-fixed, joins-fixed, joins-phrase, joins-name}
 use Rattle.seq_read.specs.Statements.{BlockReader, next_is_name}
 use Rattle.seq_read.specs.Parts.{end_tokens}
+use Rattle.seq_read.proofs.Shared.Spelled.{IsSpelled}
+use Rattle.seq_read.proofs.Shared.DatumLaws.{datum_tokens}
 use Rattle.ods_read.specs.Readers.{key_named, next_by, next_is_design_name}
 use Rattle.ods_read.specs.ObjectReaders.{TreesReader, next_is_object, object_at}
-use Rattle.ods_read.proofs.SpelledLaws.{joins-part, IsSpelled, section_tokens, EndsSection, IsHeadedBy, on-then, on-end, section_headed}
+use Rattle.ods_read.proofs.SpelledLaws.{section_tokens, EndsSection, IsHeadedBy, on-then, on-end, section_headed}
 use Rattle.ods_read.proofs.SpelledLaws.{section_stops}
 use Rattle.ods_read.proofs.PartLaws.{kind_word, reads-kind, reads-design_name, attribute_tokens, reads-attributes, IsProvided, provided_tokens}
-use Rattle.ods_read.proofs.PartLaws.{reads-provides, IsOpName, needed_tokens, reads-requires, IsDatum, datum_tokens, reads-data, IsLink}
+use Rattle.ods_read.proofs.PartLaws.{reads-provides, IsOpName, needed_tokens, reads-requires, IsDatum, reads-data, IsLink}
 use Rattle.ods_read.proofs.PartLaws.{link_tokens, reads-implements, EndsBlock, IsBlock, IsBody, body_tokens, reads-bodies, thread_tokens}
 use Rattle.ods_read.proofs.PartLaws.{EndsThread, reads-thread}
 

@@ -2,7 +2,7 @@
 use Rattle.std.proofs.Common.{◌≡◌, ℕ, Bool, true, false, List, [], ◌∷◌, ◌++◌, Option, None, Some, is_some, codes, flat_map, refl, sym, ap, subst}
 use Rattle.std.proofs.Common.{◌∙◌, arith, ◌⊎◌, inl, inr, append_assoc}
 use Rattle.grammar.specs.Reading.{first, then_at, pure_at, many_at, Reads, Joined}
-use Rattle.grammar.proofs.Shared.Laws.{IsOnly, reads-same, reads-then, reads-pure, reads-map}
+use Rattle.grammar.proofs.Shared.Laws.{IsOnly, reads-same, reads-then, reads-pure, reads-map, joins-part}
 use Rattle.seq_tree.specs.Lists.{Each}
 use Rattle.seq_tree.specs.Names.{Name}
 use Rattle.seq_tree.specs.Statements.{Statements}
@@ -15,7 +15,7 @@ use Rattle.seq_tree.specs.declared.tree.Mode.TheVariants.{In, Out}
 use Rattle.seq_tree.specs.declared.tree.Param.{Param}
 use Rattle.seq_tree.specs.declared.token.Token.{Token}
 use Rattle.seq_tree.specs.declared.token.Token.TheVariants.{Word, Number, Sign}
-use Rattle.seq_tree.specs.declared.token.Mark.TheVariants.{LeftParen, RightParen, Semicolon, Colon, Dot, Becomes, Equal}
+use Rattle.seq_tree.specs.declared.token.Mark.TheVariants.{LeftParen, RightParen, Semicolon, Colon, Dot, Equal}
 use Rattle.ods_tree.specs.Designs.{Provided, Body}
 use Rattle.ods_tree.specs.Words.{is_design_name}
 use Rattle.ods_tree.specs.Proper.{IsProperAttribute, IsProperThread}
@@ -37,13 +37,17 @@ use Rattle.seq_read.specs.Statements.{BlockReader, begins_statement, kind_of, ne
 use Rattle.seq_read.proofs.Shared.StatementLaws.{before-token}
 use Rattle.seq_read.proofs.Shared.StatementTokens.{block_toks}
 use Rattle.seq_read.specs.Parts.{named_at, mode_named, end_tokens}
+use Rattle.seq_read.proofs.Shared.Spelled.{IsSpelled, reads-spelled}
+use Rattle.seq_read.proofs.Shared.CostLaws.{all_costs, reads-all_costs}
+use Rattle.seq_read.proofs.Shared.DatumLaws.{datum_tokens}
+use Rattle.seq_read.proofs.Shared.DatumLaws as variables
 use Rattle.ods_read.specs.Readers.{next_by, kind_named, constraint_named, key_named, unit_named, design_name_at, next_is_design_name, end_at}
 use Rattle.ods_read.specs.Readers.{op_name_at, cost_at, cost_list_at, costs_at, next_is_unit, unit_at, attribute_at, attribute_list_at}
 use Rattle.ods_read.specs.Readers.{attributes_at, param_at, more_param_at, param_list_at, enclosed_at, params_at, constraint_at, provided_at}
 use Rattle.ods_read.specs.Readers.{provided_list_at, provides_at, needed_at, needed_list_at, requires_at, datum_at, locals_at, datum_list_at}
 use Rattle.ods_read.specs.Readers.{data_at, body_at, bodies_at, activation_at, thread_at, link_at, link_list_at, implements_at}
-use Rattle.ods_read.proofs.SpelledLaws.{joins-part, reads-equal, tried, IsWordOf, reads-named, reads-optional, IsSpelled, section_tokens}
-use Rattle.ods_read.proofs.SpelledLaws.{EndsSection, reads-spelled, reads-some, reads-section}
+use Rattle.ods_read.proofs.SpelledLaws.{reads-equal, tried, IsWordOf, reads-named, reads-optional, section_tokens}
+use Rattle.ods_read.proofs.SpelledLaws.{EndsSection, reads-some, reads-section}
 
 -- WORDS
 abbrev pub kind_word : Kind → List ℕ
@@ -186,53 +190,14 @@ reads-cost statement = reads-same _ (λ n text. text ≡ cost_tokens statement n
     (λ _. andthen reads-number (λ n. andthen (reads-fixed (Sign Semicolon)) (λ _. reads-pure Any n (λ _. tt))))))
 
 abbrev pub cost_list_tokens : Costs → List Token
-cost_list_tokens c =
-    cost_tokens (codes "assign") c.assign ++ (cost_tokens (codes "test") c.test
-    ++ (cost_tokens (codes "turn") c.turn ++ (cost_tokens (codes "call") c.call
-    ++ (cost_tokens (codes "null") c.nothing ++ (cost_tokens (codes "put") c.put ++ (cost_tokens (codes "finish") c.finish ++ []))))))
+cost_list_tokens =
+    all_costs cost_tokens (codes "assign") (codes "test") (codes "turn") (codes "call") (codes "null") (codes "put") (codes "finish")
 
-abbrev AreCosts : Costs → List Token → Type 0
-AreCosts c text = text ≡ cost_list_tokens c
-
-costs_to : (assign test turn call nothing put finish : ℕ) (c : Costs)
-    → c ≡ record { assign = assign; test = test; turn = turn; call = call; nothing = nothing; put = put; finish = finish } →
-    (text : List Token) → AreCosts (record { assign = assign; test = test; turn = turn; call = call; nothing = nothing; put = put; finish = finish })
-    text → AreCosts c text
-costs_to assign test turn call nothing put finish c e text h = let P : Costs → Type 0 = λ d. AreCosts d text in subst P (sym e) h
-
-reads-cost_list : Reads AreCosts Any cost_list_at
+reads-cost_list : Reads (λ c text. text ≡ cost_list_tokens c) Any cost_list_at
 unfolding cost_list_at
-reads-cost_list = reads-same _ AreCosts Any cost_list_at
-    (λ c text g1.
-    let g2 = g1.after in let g3 = g2.after in let g4 = g3.after in let g5 = g4.after in let g6 = g5.after in let g7 = g6.after in
-    costs_to g1.a g2.a g3.a g4.a g5.a g6.a g7.a c g7.after.0 text
-    (rw (
-      g1.whole,
-      g1.before,
-      g2.whole,
-      g2.before,
-      g3.whole,
-      g3.before,
-      g4.whole,
-      g4.before,
-      g5.whole,
-      g5.before,
-      g6.whole,
-      g6.before,
-      g7.whole,
-      g7.before,
-      g7.after.1,
-    ) (refl {a = cost_list_tokens (record { assign = g1.a; test = g2.a; turn = g3.a; call = g4.a; nothing = g5.a; put = g6.a; finish = g7.a })})))
-    (λ c text h.
-    rw h (joins-part _ c.assign (cost_tokens (codes "assign") c.assign) c _ refl (joins-part _ c.test (cost_tokens (codes "test") c.test) c _ refl
-    (joins-part _ c.turn (cost_tokens (codes "turn") c.turn) c _ refl (joins-part _ c.call (cost_tokens (codes "call") c.call) c _ refl
-    (joins-part _ c.nothing (cost_tokens (codes "null") c.nothing) c _ refl (joins-part _ c.put (cost_tokens (codes "put") c.put) c _ refl
-    (joins-part _ c.finish (cost_tokens (codes "finish") c.finish) c [] refl (refl, refl)))))))))
-    (andthen (reads-cost (codes "assign")) (λ assign. andthen (reads-cost (codes "test"))
-    (λ test. andthen (reads-cost (codes "turn")) (λ turn. andthen (reads-cost (codes "call")) (λ call.
-    andthen (reads-cost (codes "null")) (λ nothing. andthen (reads-cost (codes "put")) (λ put. andthen (reads-cost (codes "finish")) (λ finish.
-    reads-pure Any (record { assign = assign; test = test; turn = turn; call = call; nothing = nothing; put = put; finish = finish })
-    (λ _. tt)))))))))
+reads-cost_list =
+    reads-all_costs cost_tokens (codes "assign") (codes "test") (codes "turn") (codes "call") (codes "null") (codes "put") (codes "finish")
+    cost_at reads-cost
 
 abbrev pub costs_tokens : Costs → List Token
 costs_tokens c = Word (codes "costs") ∷ (cost_list_tokens c ++ (end_tokens (codes "costs") ++ []))
@@ -579,50 +544,19 @@ reads-requires =
 
 -- DATA
 abbrev pub IsDatum : Datum → Type 0
-IsDatum d = is_design_name d.name ≡ true
-
-abbrev pub datum_tokens : Datum → List Token
-datum_tokens d = Word d.name ∷ Sign Colon ∷ Word (codes "word") ∷ Sign Becomes ∷ Number d.value ∷ Sign Semicolon ∷ []
+IsDatum = variables.IsDatum is_design_name
 
 pub reads-datum : Reads (IsSpelled IsDatum datum_tokens) Any datum_at
-unfolding datum_at
-reads-datum = reads-same _ (IsSpelled IsDatum datum_tokens) Any datum_at
-    (λ d text g1.
-    let g2 = g1.after in let g3 = g2.after in let g4 = g3.after in let g5 = g4.after in let g6 = g5.after in
-    let P : Datum → Type 0 = λ q. IsSpelled IsDatum datum_tokens q text in
-    subst P (sym g6.after.0) (
-      g1.before.0,
-      rw (
-        g1.whole,
-        g1.before.1,
-        g2.whole,
-        g2.before,
-        g3.whole,
-        g3.before,
-        g4.whole,
-        g4.before,
-        g5.whole,
-        g5.before,
-        g6.whole,
-        g6.before,
-        g6.after.1,
-      ) refl,
-    ))
-    (λ d text h.
-    rw h.1 (joins-name is_design_name _ d.name d _ h.0
-    (joins-fixed _ (Sign Colon) d _ (joins-fixed _ (Word (codes "word")) d _ (joins-fixed _ (Sign Becomes) d _
-    (joins-number _ d.value d _ (joins-fixed _ (Sign Semicolon) d [] (refl, refl))))))))
-    (andthen reads-design_name (λ name. andthen (reads-fixed (Sign Colon))
-    (λ _. andthen (reads-fixed (Word (codes "word"))) (λ _. andthen (reads-fixed (Sign Becomes)) (λ _.
-    andthen reads-number (λ n. andthen (reads-fixed (Sign Semicolon)) (λ _. reads-pure Any (record { name = name; value = n }) (λ _. tt))))))))
+unfolding datum_at is_design_name
+reads-datum = variables.reads-datum is_design_name (codes "a") refl
 
 -- whether no name follows
 abbrev EndsData : List Datum → Option Token → Type 0
 EndsData ds o = next_is_design_name o ≡ false
 
 pub reads-locals : Reads (λ ds text. Each IsDatum ds × (text ≡ flat_map datum_tokens ds)) EndsData locals_at
-unfolding locals_at next_is_name
-reads-locals = reads-spelled IsDatum datum_tokens next_is_design_name datum_at reads-datum (λ d rest h. h) (λ d. omega arith) refl
+unfolding locals_at is_design_name
+reads-locals = variables.reads-data is_design_name (codes "a") refl
 
 pub reads-data : Reads (λ xs text. Each IsDatum xs × (text ≡ section_tokens (codes "data") datum_tokens xs))
     (EndsSection (codes "data") next_is_design_name) data_at

@@ -3,10 +3,8 @@ use Rattle.std.proofs.Common.{◌≡◌, ℕ, ◌<◌, Bool, true, false, cond, 
 use Rattle.std.proofs.Common.{ap, subst, ◌∙◌, ◌⊎◌, inl, inr}
 use Rattle.std.specs.Prelude.{⊤}
 use Rattle.std.proofs.lemmas.Slice.Eq.{bytes_eq-Decides}
-use Rattle.grammar.specs.Reading.{Read, first, then_at, pure_at, choose_at, token_at, many_at, Reads, Joined, AreMany}
-use Rattle.grammar.proofs.Shared.Laws.{IsOnly, IsToken, reads-same, reads-then, reads-pure, reads-token, reads-map}
-use Rattle.grammar.proofs.Shared.Ends.{reads-branch}
-use Rattle.grammar.proofs.Shared.Many.{reads-items}
+use Rattle.grammar.specs.Reading.{Read, first, then_at, pure_at, choose_at, token_at, many_at, Reads, Joined}
+use Rattle.grammar.proofs.Shared.Laws.{IsOnly, IsToken, reads-same, reads-then, reads-branch, reads-pure, reads-token, reads-map}
 use Rattle.seq_tree.specs.Lists.{Each}
 use Rattle.seq_tree.specs.Names.{Name, same_name}
 use Rattle.seq_tree.specs.declared.token.Token.{Token}
@@ -16,12 +14,8 @@ use Rattle.token_read.specs.Readers.{next_is}
 use Rattle.token_read.proofs.Shared.TokenLaws.{Any, IsPhrase, andthen, same_self, reads-fixed, reads-phrase}
 use Rattle.seq_read.specs.Statements.{word}
 use Rattle.seq_read.specs.Parts.{sees_by, named_at, end_tokens}
+use Rattle.seq_read.proofs.Shared.Spelled.{IsSpelled, AreSpelled, reads-spelled}
 use Rattle.ods_read.specs.Readers.{end_at, some_at, section_at}
-
--- a part of a text with its own law, in front of the rest
-pub joins-part : {A B : Type 0} {G : A → List Token → Type 0} (H : A → B → List Token
-    → Type 0) (a : A) (text : List Token) (b : B) (rest : List Token) → G a text → H a b rest → Joined G H b (text ++ rest)
-joins-part H a text b rest g h = record { a = a; front = text; back = rest; before = g; after = h; whole = refl }
 
 -- a reader that answers the same
 pub reads-equal : {A : Type 0} {G : A → List Token → Type 0} {Stops : A → Option Token → Type 0} {r : List Token → Read Token A} (s : List Token
@@ -94,10 +88,6 @@ module _ {A : Type 0} (test : Option Token → Bool) (G : A → List Token → T
       (λ a text rest g t stop. to a text (first rest) g stop) stops_no
 
 -- LISTS AND SECTIONS
--- what is spelled in one way, where it is proper
-abbrev pub IsSpelled : {A : Type 0} → (A → Type 0) → (A → List Token) → A → List Token → Type 0
-IsSpelled P spell a text = P a × (text ≡ spell a)
-
 -- one at least
 abbrev pub IsSome : {A : Type 0} → List A → Type 0
 IsSome [] = ⊥
@@ -117,30 +107,16 @@ module _ {A : Type 0} (P : A → Type 0) (spell : A → List Token) (test : Opti
     → Read Token A) (one : Reads (IsSpelled P spell) Any r)
     (starts : (a : A) (rest : List Token) → P a → test (first (spell a ++ rest)) ≡ true) (grows : (a : A)
     → 0 < length (spell a)) (ends : test None ≡ false) where
-  abbrev pub AreSpelled : List A → List Token → Type 0
-  AreSpelled xs text = Each P xs × (text ≡ flat_map spell xs)
-
   abbrev Ends : List A → Option Token → Type 0
   Ends xs o = test o ≡ false
-
-  each_to : (xs : List A) (text : List Token) → AreMany (IsSpelled P spell) xs text → AreSpelled xs text
-  each_to [] text g = (tt, g)
-  each_to (x ∷ xs) text g = let h = each_to xs g.1 g.3 in ((g.2.0, h.0), rw (g.4, g.2.1, h.1) refl)
-
-  each_back : (xs : List A) (text : List Token) → AreSpelled xs text → AreMany (IsSpelled P spell) xs text
-  each_back [] text h = h.1
-  each_back (x ∷ xs) text h = (spell x, flat_map spell xs, (h.0.0, refl), each_back xs (flat_map spell xs) (h.0.1, refl), h.1)
-
-  pub reads-spelled : Reads AreSpelled Ends (many_at test r)
-  reads-spelled = reads-same (AreMany (IsSpelled P spell)) AreSpelled Ends (many_at test r) each_to each_back
-      (reads-items test (IsSpelled P spell) r one (λ a text rest g. rw g.1 (starts a rest g.0)) (λ a text g. rw g.1 (grows a)) ends)
 
   -- items that begin with this one
   abbrev AreFirst : A → List A → List Token → Type 0
   AreFirst a xs text = (more : List A) × (xs ≡ a ∷ more) × Each P more × (text ≡ flat_map spell more)
 
   reads-more : (a : A) → Reads (AreFirst a) Ends (then_at (many_at test r) (λ more. pure_at (a ∷ more)))
-  reads-more a = reads-map AreSpelled (AreFirst a) Ends Ends (many_at test r) (λ more. a ∷ more) reads-spelled
+  reads-more a = reads-map (AreSpelled P spell) (AreFirst a) Ends Ends (many_at test r) (λ more. a ∷ more)
+      (reads-spelled P spell test r one starts grows ends)
       (λ more text g. (more, refl, g.0, g.1)) (λ xs text h. (h.0, (h.2, h.3), sym h.1)) (λ more o h. h) (λ more o h. h)
 
   abbrev pub AreSome : List A → List Token → Type 0

@@ -4,7 +4,7 @@ use Rattle.grammar.specs.Reading.{Read}
 use Rattle.seq_tree.specs.Names.{Name}
 use Rattle.seq_tree.specs.declared.token.Token.{Token}
 use Rattle.seq_tree.specs.declared.token.Token.TheVariants.{Word, Sign}
-use Rattle.seq_tree.specs.declared.token.Mark.TheVariants.{LeftParen, RightParen, Semicolon, Colon, Dot, Becomes, Equal}
+use Rattle.seq_tree.specs.declared.token.Mark.TheVariants.{LeftParen, RightParen, Semicolon, Colon, Dot, Equal}
 use Rattle.ods_tree.specs.Designs.{Node, Empty}
 use Rattle.ods_tree.specs.Trees.{trees_of}
 use Rattle.ods_tree.specs.Words.{is_design_name}
@@ -13,6 +13,7 @@ use Rattle.seq_read.specs.Statements.{BlockReader, block_at, statement_at}
 use Rattle.seq_read.proofs.Shared.Takes.{Takes, takes-any, takes-token, takes-pure, takes-deep, takes-then, takes-choose, takes-many}
 use Rattle.seq_read.proofs.Shared.TokenTakes.{takes-fixed, any-fixed, any-word, takes-number, takes-name, closes, takes-block, takes-statement}
 use Rattle.seq_read.specs.Parts.{sees_by, named_at, mode_named, end_tokens}
+use Rattle.seq_read.proofs.Shared.DatumLaws as variables
 use Rattle.ods_read.specs.Readers.{next_by, kind_named, constraint_named, key_named, unit_named, design_name_at, next_is_design_name}
 use Rattle.ods_read.specs.Readers.{some_at, section_at, op_name_at, next_is_unit, unit_at, attribute_at, attribute_list_at, attributes_at}
 use Rattle.ods_read.specs.Readers.{param_at, more_param_at, param_list_at, enclosed_at, params_at, constraint_at, provided_at, provided_list_at}
@@ -112,14 +113,11 @@ takes-requires = takes-section (codes "requires") (some_at next_is_design_name n
 -- DATA
 takes-datum : Takes 1 datum_at
 unfolding datum_at
-takes-datum =
-    takes-then (takes-name is_design_name) (λ name. takes-then (any-fixed (Sign Colon))
-    (λ _. takes-then (any-word (codes "word")) (λ _. takes-then (any-fixed (Sign Becomes)) (λ _.
-    takes-then (takes-any 1 takes-number) (λ n. closes (record { name = name; value = n }))))))
+takes-datum = variables.takes-datum is_design_name
 
 takes-locals : Takes 0 locals_at
 unfolding locals_at
-takes-locals = takes-many next_is_design_name datum_at (takes-any 1 takes-datum)
+takes-locals = variables.takes-data is_design_name
 
 takes-data : Takes 0 data_at
 unfolding data_at datum_list_at

@@ -6,7 +6,7 @@ use Rattle.std.proofs.lemmas.Bool.{le-leb}
 use Rattle.std.proofs.lemmas.Bool.Decides.{leb_tells}
 use Rattle.grammar.specs.Reading.{first, then_at, pure_at, choose_at, deep_at, Reads}
 use Rattle.grammar.proofs.Shared.Laws.{IsOnly, reads-same, reads-pure, reads-map}
-use Rattle.grammar.proofs.Shared.Ends.{reads-limit}
+use Rattle.grammar.proofs.Shared.Limits.{reads-limit}
 use Rattle.seq_tree.specs.Lists.{Each}
 use Rattle.seq_tree.specs.Proper.{Limits}
 use Rattle.seq_tree.specs.declared.token.Token.{Token}
@@ -22,9 +22,10 @@ use Rattle.seq_read.specs.Statements.{word, block_at}
 use Rattle.seq_read.proofs.Shared.ChainLevels.{bounds}
 use Rattle.seq_read.proofs.Shared.StatementLaws.{Reserves}
 use Rattle.seq_read.proofs.Shared.BlockLaws as blocks
+use Rattle.seq_read.proofs.Shared.Spelled.{IsSpelled}
 use Rattle.ods_read.specs.Readers.{some_at}
 use Rattle.ods_read.specs.ObjectReaders.{TreeReader, TreesReader, next_is_object, tree_list_at, children_at, tree_with}
-use Rattle.ods_read.proofs.SpelledLaws.{IsSpelled, IsSome, reads-some, reads-optional}
+use Rattle.ods_read.proofs.SpelledLaws.{IsSome, reads-some, reads-optional}
 use Rattle.ods_read.proofs.PartLaws.{EndsBlock, IsBlock}
 use Rattle.ods_read.proofs.ObjectLaws.{tree_tokens, trees_tokens, children_tokens, EndsChildren, IsWhole, reads-object}
 

@@ -4,17 +4,18 @@ use Rattle.std.proofs.Common.{Err, codes, refl, sym, ap, subst, arith, length-ap
 use Rattle.grammar.specs.Reading.{Syntax, TooDeep, Read, first, then_at, pure_at, deep_at, GoesOn, IsWithin, Beyond, Widens, Reads}
 use Rattle.grammar.proofs.Shared.Widening.{past_at, widens-fewer, widens-token, widens-pure, widens-then, widens-behind, widens-choose, widens-deep}
 use Rattle.grammar.proofs.Shared.Widening.{deep-beyond, widens-past, widens-many}
-use Rattle.seq_tree.specs.Names.{Name}
 use Rattle.seq_tree.specs.declared.token.Token.{Token}
 use Rattle.seq_tree.specs.declared.token.Token.TheVariants.{Word, Number, Sign}
-use Rattle.seq_tree.specs.declared.token.Mark.TheVariants.{LeftParen, RightParen, Semicolon, Colon, Dot, DotDot, Becomes, Equal}
+use Rattle.seq_tree.specs.declared.token.Mark.TheVariants.{LeftParen, RightParen, Semicolon, Colon, Dot, DotDot, Equal}
 use Rattle.ods_tree.specs.Designs.{Tree, Trees, Node, Empty}
 use Rattle.ods_tree.specs.Trees.{trees_of}
 use Rattle.ods_tree.specs.Words.{is_design_name}
-use Rattle.token_read.specs.Readers.{sees_fixed, fixed_at, phrase_at, sees_number, number_at, sees_name, name_at, next_is}
+use Rattle.token_read.specs.Readers.{sees_fixed, fixed_at, sees_name, name_at, next_is}
 use Rattle.seq_read.specs.Statements.{BlockReader, word, block_at}
 use Rattle.seq_read.proofs.Shared.StatementWidening.{widens-block}
-use Rattle.seq_read.specs.Parts.{sees_by, named_at, mode_named, end_tokens}
+use Rattle.seq_read.specs.Parts.{named_at, mode_named, end_tokens}
+use Rattle.seq_read.proofs.Shared.TokenWidening.{widens-fixed, widens-phrase, widens-number, widens-named}
+use Rattle.seq_read.proofs.Shared.DatumLaws as variables
 use Rattle.ods_read.specs.Readers.{next_by, kind_named, constraint_named, key_named, unit_named, design_name_at, next_is_design_name, end_at}
 use Rattle.ods_read.specs.Readers.{some_at, op_name_at, cost_at, cost_list_at, costs_at, next_is_unit, unit_at, attribute_at, attribute_list_at}
 use Rattle.ods_read.specs.Readers.{attributes_at, param_at, more_param_at, param_list_at, enclosed_at, params_at, constraint_at, provided_at}
@@ -74,25 +75,9 @@ fails_at u (t ∷ us) e = rw e refl
 
 module _ (n : ℕ) where
   -- TOKENS
-  pub widens-fixed : (u : Token) → Widens n (fixed_at u) (fixed_at u)
-  unfolding fixed_at
-  widens-fixed u = widens-token n (sees_fixed u)
-
-  pub widens-phrase : (us : List Token) → Widens n (phrase_at us) (phrase_at us)
-  widens-phrase [] = widens-pure n tt
-  widens-phrase (u ∷ us) = widens-then (widens-fixed u) (λ _. widens-phrase us)
-
-  widens-number : Widens n number_at number_at
-  unfolding number_at
-  widens-number = widens-token n sees_number
-
   pub widens-name : Widens n design_name_at design_name_at
   unfolding name_at
   widens-name = widens-token n (sees_name is_design_name)
-
-  pub widens-named : {A : Type 0} (named : Name → Option A) → Widens n (named_at named) (named_at named)
-  unfolding named_at
-  widens-named named = widens-token n (sees_by named)
 
   widens-some : {A : Type 0} (test : Option Token → Bool) {r s : List Token → Read Token A} → Widens n r s
       → Widens n (some_at test r) (some_at test s)
@@ -178,14 +163,11 @@ module _ (n : ℕ) where
 
   widens-datum : Widens n datum_at datum_at
   unfolding datum_at
-  widens-datum =
-      widens-then widens-name (λ name. widens-then (widens-fixed (Sign Colon))
-      (λ _. widens-then (widens-fixed (Word (codes "word"))) (λ _. widens-then (widens-fixed (Sign Becomes)) (λ _.
-      widens-then widens-number (λ k. widens-then (widens-fixed (Sign Semicolon)) (λ _. widens-pure n (record { name = name; value = k })))))))
+  widens-datum = variables.widens-datum is_design_name
 
   pub widens-locals : Widens n locals_at locals_at
   unfolding locals_at
-  widens-locals = widens-many next_is_design_name widens-datum
+  widens-locals = variables.widens-data is_design_name
 
   pub widens-data : Widens n data_at data_at
   unfolding data_at datum_list_at
@@ -216,11 +198,11 @@ module _ (n : ℕ) where
   -- WHAT HAS THE LIMITS OF BLOCKS
   module _ (block wider : BlockReader) (widens : Widens n block wider) where
     widens-bodies : Widens n (bodies_at block) (bodies_at wider)
-    unfolding bodies_at body_at locals_at
+    unfolding bodies_at body_at
     widens-bodies = widens-many (next_is (Word (codes "operation")))
         (widens-then (widens-fixed (Word (codes "operation")))
         (λ _. widens-then widens-name (λ name. widens-then (widens-fixed (Word (codes "is"))) (λ _.
-        widens-then (widens-many next_is_design_name widens-datum)
+        widens-then widens-locals
         (λ locals. widens-then (widens-fixed (Word (codes "begin"))) (λ _. widens-then widens (λ b.
         widens-then (widens-phrase (end_tokens name)) (λ _. widens-pure n (record { name = name; locals = locals; block = b })))))))))
 
@@ -390,8 +372,8 @@ pub widens-design : (last : TreesReader) (most more : ℕ) (h : most < more) (ro
     Widens n (design_with last most deeper) (design_with closed_at more further)
 unfolding design_with
 widens-design last most more h room limit deeper further n a b c =
-    widens-then (widens-fixed n (Word (codes "design")))
+    widens-then (widens-fixed (Word (codes "design")))
     (λ _. widens-then (widens-name n) (λ name. widens-then (widens-version n) (λ version. widens-then (widens-costs n) (λ costs.
     widens-then (widens-tree more room (is_some version) last (limit (is_some version)) most h deeper further n a b c)
-    (λ root. widens-then (widens-phrase n (end_tokens name)) (λ _.
+    (λ root. widens-then (widens-phrase (end_tokens name)) (λ _.
     widens-pure n (record { name = name; version = version; costs = costs; root = root })))))))

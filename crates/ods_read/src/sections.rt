@@ -35,7 +35,7 @@ fn more_data(alloc: Global, tokens: Tokens, front: Vec<Datum>) -> Result<(Vec<Da
 }
 
 /// Data, one at least, and the tokens after them.
-#[tactic(auto, unfolding(crate::specs::Readers::datum_list_at, crate::specs::Readers::locals_at, crate::specs::Heads::data_from_at))]
+#[tactic(auto, unfolding(seq_read::specs::Parts::data_at, crate::specs::Readers::datum_at, crate::specs::Readers::datum_list_at, crate::specs::Readers::locals_at, crate::specs::Heads::data_from_at))]
 fn datum_list(alloc: Global, tokens: Tokens) -> Result<(Vec<Datum>, Tokens), Halt>
     ensures { Gives (λ r. (r.0.items, ahead r.1)) result (datum_list_at (ahead tokens.entry)) }
 {

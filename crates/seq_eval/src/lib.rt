@@ -31,5 +31,6 @@ pub use calls::Calls;
 pub use env::Env;
 pub use lookup::Lookup;
 pub use operators::{combine, gives_boolean, invert};
+pub use params::target;
 pub use script::{Actions, Along};
 pub use values::eval;

@@ -135,7 +135,7 @@ pub(crate) fn out_count(params: &[Param]) -> usize
 }
 
 /// The variable that an actual is, where it is handed out.
-fn target<'a>(param: &Param, actual: &'a Expr) -> Option<&'a Name>
+pub fn target<'a>(param: &Param, actual: &'a Expr) -> Option<&'a Name>
     ensures { (others : List NameBytes) → target_by param.now.mode (expression_of actual.entry.now) others
         ≡ option_to_list (option_map (λ n. n.now) result) ++ others }
 {

@@ -1,5 +1,5 @@
 -- The texts of statements, by those of their parts.
-use Rattle.std.proofs.Common.{◌≡◌, ℕ, suc, ◌+◌, ◌*◌, ◌<◌, length, drop, get_or, min, replicate, List, [], ◌∷◌, ◌++◌, codes, decimal, map, Option}
+use Rattle.std.proofs.Common.{◌≡◌, ℕ, suc, ◌+◌, ◌<◌, length, drop, get_or, min, List, [], ◌∷◌, ◌++◌, codes, decimal, map, Option}
 use Rattle.std.proofs.Common.{Some, None, refl, ap, sym, ◌∙◌, append_assoc, append-nil}
 use Rattle.seq_tree.specs.Expressions.{Expression}
 use Rattle.seq_tree.specs.Layout.{layout, line_text, tokens_text}
@@ -11,13 +11,9 @@ use Rattle.seq_tree.specs.declared.tree.Arm.{Arm}
 use Rattle.seq_tree.specs.declared.token.Token.TheVariants.{Word, Number, Sign}
 use Rattle.seq_tree.specs.declared.token.Mark.TheVariants.{LeftParen, RightParen, Semicolon, Dot, DotDot, Becomes}
 use Rattle.seq_print.specs.Printing.{expression_text, actuals_text}
-use Rattle.seq_print.proofs.Shared.Depths.{both, layout-append, block-deeper}
+use Rattle.seq_print.proofs.Shared.Depths.{both, layout-append, block-deeper, indent}
 use Rattle.seq_print.proofs.ArmForms.{arms-next}
 use Rattle.seq_print.proofs.Shared.Spacing.{tokens-spaced, expression-first, expression-next, actuals-spaced}
-
--- the spaces before a line
-abbrev pub indent : ℕ → List ℕ
-indent level = replicate (min 30 (3 * level)) 32
 
 pub for-text : (level low high : ℕ) (name : Name)
     → indent level ++ ((codes "for " ++ (name ++ codes " in word range "))

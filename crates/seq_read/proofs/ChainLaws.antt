@@ -3,8 +3,8 @@ use Rattle.std.proofs.Common.{◌≡◌, ℕ, zero, suc, ◌+◌, ◌<◌, true,
 use Rattle.std.proofs.Common.{subst, ◌∙◌, arith, append_assoc, append-nil, length-append}
 use Rattle.std.specs.Prelude.{⊤}
 use Rattle.grammar.specs.Reading.{first, pure_at, token_at, Reads, Joined}
-use Rattle.grammar.proofs.Shared.Laws.{reads-token, IsToken, IsOnly, reads-pure, reads-then}
-use Rattle.grammar.proofs.Shared.Ends.{reads-branch, reads-limit, reads-joint}
+use Rattle.grammar.proofs.Shared.Laws.{reads-token, IsToken, IsOnly, reads-pure, reads-then, reads-branch, reads-joint}
+use Rattle.grammar.proofs.Shared.Limits.{reads-limit}
 use Rattle.seq_tree.specs.Expressions.{Expression, Binary}
 use Rattle.seq_tree.specs.Spelling.{expression_tokens, op_token}
 use Rattle.seq_tree.specs.declared.tree.BinOp.{BinOp}

@@ -11,25 +11,13 @@ use Rattle.seq_tree.specs.declared.tree.BinOp.{BinOp}
 use Rattle.seq_tree.specs.declared.token.Token.{Token}
 use Rattle.seq_tree.specs.declared.token.Token.TheVariants as token
 use Rattle.seq_tree.specs.declared.token.Mark.TheVariants.{LeftParen, RightParen}
-use Rattle.token_read.specs.Readers.{fixed_at, sees_fixed, number_at, sees_number, name_at, sees_name, next_is, next_is_number}
+use Rattle.token_read.specs.Readers.{fixed_at, sees_fixed, next_is, next_is_number}
 use Rattle.seq_read.specs.declared.operators.Class.{Class}
 use Rattle.seq_read.specs.declared.operators.Class.TheVariants as class
 use Rattle.seq_read.specs.Operators.{sees_operator, begins, logical_class}
 use Rattle.seq_read.specs.Expressions.{ExpressionReader, paren_at, literal_at, variable_at, primary_at, inverse_at, factor_at, chain_at, term_at}
 use Rattle.seq_read.specs.Expressions.{simple_at, comparison_at, relation_at, logic_at, whole_expression_at, expression_at}
-
--- single tokens
-pub widens-fixed : (n : ℕ) (u : Token) → Widens n (fixed_at u) (fixed_at u)
-unfolding fixed_at
-widens-fixed n u = widens-token n (sees_fixed u)
-
-pub widens-number : (n : ℕ) → Widens n number_at number_at
-unfolding number_at
-widens-number n = widens-token n sees_number
-
-pub widens-name : (n : ℕ) (is_name : Name → Bool) → Widens n (name_at is_name) (name_at is_name)
-unfolding name_at
-widens-name n is_name = widens-token n (sees_name is_name)
+use Rattle.seq_read.proofs.Shared.TokenWidening.{widens-fixed, widens-number, widens-name}
 
 -- a token that is there is taken
 pub takes-seen : {A : Type 0} (sees : Token → Option A) (ts : List Token) (t : Token) (us : List Token) (a : A) → ts ≡ t ∷ us → sees t ≡ Some a
@@ -110,7 +98,7 @@ module _ (is_name : Name → Bool) (most more n : ℕ) (h : most < more) (k : n 
     (primaries : Widens n (primary_at is_name paren) (primary_at is_name paren')) where
   inverse : Widens n (inverse_at is_name paren) (inverse_at is_name paren')
   unfolding inverse_at
-  inverse = widens-then (widens-fixed n (token.Word (codes "not"))) (λ _. widens-then primaries (λ e. widens-pure n (Not e)))
+  inverse = widens-then (widens-fixed (token.Word (codes "not"))) (λ _. widens-then primaries (λ e. widens-pure n (Not e)))
 
   factor : Widens n (factor_at is_name paren) (factor_at is_name paren')
   unfolding factor_at
@@ -147,11 +135,11 @@ module _ (is_name : Name → Bool) (most more n : ℕ) (h : most < more) (k : n 
 -- NESTING
 literal : (n : ℕ) → Widens n literal_at literal_at
 unfolding literal_at
-literal n = widens-then (widens-number n) (λ m. widens-pure n (Number m))
+literal n = widens-then widens-number (λ m. widens-pure n (Number m))
 
 variable : (n : ℕ) (is_name : Name → Bool) → Widens n (variable_at is_name) (variable_at is_name)
 unfolding variable_at
-variable n is_name = widens-then (widens-name n is_name) (λ name. widens-pure n (Variable name))
+variable n is_name = widens-then (widens-name is_name) (λ name. widens-pure n (Variable name))
 
 atom : (n : ℕ) (is_name : Name → Bool)
     → Widens n (choose_at next_is_number literal_at (variable_at is_name)) (choose_at next_is_number literal_at (variable_at is_name))
@@ -165,7 +153,7 @@ widens-primary n is_name paren paren' one = widens-choose (next_is (token.Sign L
 inside : (n : ℕ) (inner inner' : ExpressionReader) → Widens n inner inner' → (a : Unit {0}) →
     Widens n (then_at inner (λ e. then_at (fixed_at (token.Sign RightParen)) (λ _. pure_at (Paren e))))
     (then_at inner' (λ e. then_at (fixed_at (token.Sign RightParen)) (λ _. pure_at (Paren e))))
-inside n inner inner' one a = widens-then one (λ e. widens-then (widens-fixed n (token.Sign RightParen)) (λ _. widens-pure n (Paren e)))
+inside n inner inner' one a = widens-then one (λ e. widens-then (widens-fixed (token.Sign RightParen)) (λ _. widens-pure n (Paren e)))
 
 widens-paren : (n : ℕ) (inner inner' : ExpressionReader) → Widens n inner inner' → Widens (suc n) (paren_at inner) (paren_at inner')
 unfolding paren_at fixed_at

@@ -6,12 +6,12 @@ use Rattle.seq_tree.specs.declared.tree.Datum.{Datum}
 use Rattle.seq_tree.specs.declared.tree.Param.{Param}
 use Rattle.seq_tree.specs.declared.token.Token.{Token}
 use Rattle.seq_tree.specs.declared.token.Token.TheVariants.{Sign}
-use Rattle.seq_tree.specs.declared.token.Mark.TheVariants.{Semicolon, Colon, Becomes}
+use Rattle.seq_tree.specs.declared.token.Mark.TheVariants.{Semicolon, Colon}
 use Rattle.token_read.specs.Readers.{next_is}
 use Rattle.seq_read.specs.Statements.{next_is_name}
 use Rattle.seq_read.specs.Parts.{sees_by, mode_named, named_at, param_at, more_param_at, params_from_at, datum_at, data_at, more_data_at}
 use Rattle.seq_read.proofs.Shared.Takes.{Takes, takes-any, takes-token, takes-pure, takes-then}
-use Rattle.seq_read.proofs.Shared.TokenTakes.{takes-fixed, any-fixed, any-word, takes-number, takes-name, closes}
+use Rattle.seq_read.proofs.Shared.TokenTakes.{takes-fixed, any-fixed, any-word, takes-name}
 use Rattle.seq_read.proofs.Shared.Turns.{onward, onward-fails, onward-ends}
 
 -- PARAMETERS
@@ -35,13 +35,6 @@ unfolding params_from_at onward
 params-start is_name p ts = refl
 
 -- VARIABLES
-pub takes-datum : (is_name : Name → Bool) → Takes 1 (datum_at is_name)
-unfolding datum_at
-takes-datum is_name =
-    takes-then (takes-name is_name) (λ name. takes-then (any-fixed (Sign Colon))
-    (λ _. takes-then (any-word (codes "word")) (λ _. takes-then (any-fixed (Sign Becomes)) (λ _.
-    takes-then (takes-any 1 takes-number) (λ n. closes (record { name = name; value = n }))))))
-
 -- the variables so far, and those that are left
 abbrev pub data_after : (Name → Bool) → List Datum → List Token → Read Token (List Datum)
 data_after is_name = onward (next_is_name is_name) (datum_at is_name) pure_at

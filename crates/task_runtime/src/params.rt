@@ -1,10 +1,9 @@
-ghost use Rattle.std.specs.Prelude.{◌≡◌, ◌≤◌, ◌+◌, ◌++◌, List, [], length, map, option_map, option_to_list, vec_len, vec_capacity};
-ghost use Rattle.seq_tree.specs.Names.{Name as NameBytes};
+ghost use Rattle.std.specs.Prelude.{◌≡◌, ◌≤◌, ◌+◌, ◌++◌, [], length, map, vec_len, vec_capacity};
 ghost use Rattle.seq_tree.specs.Operations.{out_names};
 ghost use Rattle.seq_tree.specs.Trees.{expression_of};
 ghost use Rattle.seq_tree.specs.Values.{handed};
 ghost use Rattle.seq_tree.specs.Runs.{request_value};
-ghost use Rattle.seq_tree.specs.Variables.{entered, kept, reads, stored, target_by, targets, written};
+ghost use Rattle.seq_tree.specs.Variables.{entered, kept, reads, stored, targets, written};
 ghost use Rattle.machine.specs.Releases.{parameter};
 ghost use Rattle.task_runtime.specs.Effort.{request_params};
 ghost use Rattle.task_runtime.specs.Stacked.{vars_of};
@@ -13,7 +12,8 @@ ghost use Rattle.task_runtime.specs.Written.{timing_of};
 use crate::scopes::Scopes;
 use crate::thread::Timing;
 use crate::values::{Var, read, value_of};
-use seq_tree::{Datum, Expr, Mode, Name, Param};
+use seq_eval::target;
+use seq_tree::{Datum, Expr, Mode, Param};
 use trace_tree::Values;
 
 /// Adds the values of the actuals that are handed in, in order.
@@ -50,23 +50,6 @@ pub fn hand_out(values: &mut Values, params: &[Param], vars: &Scopes)
             values.push(read(&param.name, vars));
             hand_out(values, params, vars);
         }
-    }
-}
-
-/// The variable that an actual is, where it is handed out.
-fn target<'a>(param: &Param, actual: &'a Expr) -> Option<&'a Name>
-    ensures { (others : List NameBytes) → target_by param.now.mode (expression_of actual.entry.now) others
-        ≡ option_to_list (option_map (λ n. n.now) result) ++ others }
-{
-    match param.mode {
-        Mode::In => None,
-        Mode::Out => match actual {
-            Expr::Variable(name) => Some(name),
-            Expr::Number(_) => None,
-            Expr::Paren(_) => None,
-            Expr::Not(_) => None,
-            Expr::Binary(..) => None,
-        },
     }
 }
 

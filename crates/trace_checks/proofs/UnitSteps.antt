@@ -1,18 +1,10 @@
 -- What stands at a place of a program that the code reads.
 use Rattle.std.proofs.Common.{◌≡◌, ℕ, zero, suc, ◌<◌, List, [], ◌∷◌, length, map, set, get_or, arith, Some, refl, sym, ap, ◌∙◌}
 use Rattle.std.specs.Prelude.{slice_get, option_and_then, is_some, Result, Ok, Err, OnOk}
-use Rattle.std.proofs.lemmas.List.{length-map}
-use Rattle.std.proofs.lemmas.Option.{slice_get-map, slice_get_read}
 use Rattle.seq_tree.specs.Lists.{change}
 use Rattle.ada_tree.specs.Programs.{Program, Form, Unit, is_task, Passive, Shared, Cyclic, Sporadic}
 use Rattle.law_trace_places.specs.Places.{task_in, task_at}
-
--- an item of a list, under a view
-pub read-map : {A B : Type 0} (v : A → B) (xs : List A) (i : ℕ) (x : A) → i < length (map v xs) → x ≡ get_or xs i x → slice_get (map v xs) i
-    ≡ Some (v x)
-read-map v xs i x h e =
-    let short : i < length xs = omega (arith, length-map xs v) in
-    rw (slice_get-map v xs i, slice_get_read xs (length xs) i x refl short e)
+use Rattle.trace_text.proofs.Shared.Names.{read-map}
 
 pub ruleset unit_steps = (read-map)
 

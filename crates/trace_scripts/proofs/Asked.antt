@@ -1,11 +1,11 @@
 -- The operation by which the unit at a place is requested.
-use Rattle.std.proofs.Common.{◌≡◌, ℕ, zero, suc, Bool, true, false, ◌&&◌, List, [], ◌∷◌, ◌++◌, map, Option, Some, None, refl, sym, ap, subst, ◌∙◌}
+use Rattle.std.proofs.Common.{◌≡◌, ℕ, zero, suc, Bool, true, false, ◌&&◌, List, [], ◌∷◌, ◌++◌, map, Option, Some, None, refl, ap, subst, ◌∙◌}
 use Rattle.std.proofs.Common.{append_assoc}
 use Rattle.std.specs.Prelude.{find, filter_map, flat_map, slice_get, option_map, unwrap_or, cond}
 use Rattle.std.specs.List.{cons_option}
 use Rattle.std.proofs.lemmas.Option.{none-some, same_Some}
-use Rattle.std.proofs.lemmas.Bool.{true≢false, false_from_ne_true}
 use Rattle.std.proofs.lemmas.List.Concat.{flat_map-cons}
+use Rattle.std.proofs.Math.Bool.{and-false}
 use Rattle.seq_tree.specs.Lists.{Each}
 use Rattle.seq_tree.specs.Names.{Name, same_name}
 use Rattle.seq_tree.specs.Operations.{Operation}
@@ -17,25 +17,15 @@ use Rattle.ada_tree.specs.Rules.{MeetsRules}
 use Rattle.guarantee.specs.Software.{Task, program_software, task_by}
 use Rattle.law_calls.proofs.Shared.UnitNames.{AreApart}
 use Rattle.law_calls.proofs.Shared.Apart.{units_apart}
-use Rattle.law_calls.proofs.Shared.Facts.{is-same, same-is}
+use Rattle.law_calls.proofs.Shared.Facts.{is-same}
 use Rattle.law_traces.specs.Clear.{is_request, asked_op}
+use Rattle.law_traces.proofs.Shared.Finding.{same-turned}
 use Rattle.trace_scripts.specs.Scripts.{asked_name}
-
-each-at : {A : Type 0} (P : A → Type 0) (xs : List A) (i : ℕ) (x : A) → Each P xs → slice_get xs i ≡ Some x → P x
-each-at P [] i x h e = absurd (none-some x e)
-each-at P (y ∷ ys) zero x h e = subst P (same_Some y x e) h.0
-each-at P (y ∷ ys) (suc i) x h e = each-at P ys i x h.1 e
-
-other-way : (a b : Name) → same_name a b ≡ false → same_name b a ≡ false
-other-way a b e = false_from_ne_true (same_name b a) (λ h. true≢false (sym (is-same a b (sym (same-is b a h))) ∙ e))
+use Rattle.law_trace_lines.proofs.Shared.Events.{each-at}
 
 module _ (target : Name) where
   abbrev asks : Service → Bool
   asks s = same_name s.object target && is_request s.sort
-
-  and-false : (b : Bool) → (b && false) ≡ false
-  and-false true = refl
-  and-false false = refl
 
   abbrev found : List Service → Option Name
   found ss = option_map (λ s. s.op.sig.name) (find asks ss)
@@ -99,7 +89,7 @@ unit-past target u us e = by u.name u.form e
 
 none-asks : (target : Name) (us : List Unit) → Each (λ v. same_name target v.name ≡ false) us → find (asks target) (requests us) ≡ None
 none-asks target [] h = refl
-none-asks target (u ∷ us) h = unit-past target u us (other-way target u.name h.0) ∙ none-asks target us h.1
+none-asks target (u ∷ us) h = unit-past target u us (same-turned target u.name h.0) ∙ none-asks target us h.1
 
 -- the name that is found
 abbrev name_or : Name → Option Service → Name

@@ -1,7 +1,8 @@
 -- What an activation leaves, by what the walk of its block answers.
-use Rattle.std.proofs.Common.{◌≡◌, ◌+◌, ◌-◌, suc, ℕ, Bool, true, false, ◌&&◌, ◌||◌, not, List, Option, Some, None, refl, sym, ap, ◌∙◌, append-nil}
+use Rattle.std.proofs.Common.{◌≡◌, ◌+◌, ◌-◌, suc, ℕ, Bool, true, false, ◌&&◌, List, Option, Some, None, refl, sym, ap, ◌∙◌, append-nil}
 use Rattle.std.proofs.Common.{arith, subst, ◌++◌}
 use Rattle.std.specs.Prelude.{◌==◌, is_some, option_map, option_to_list, if◌then◌else◌}
+use Rattle.std.proofs.Math.Bool.{and-true, and-false}
 use Rattle.seq_tree.specs.Runs.{Path}
 use Rattle.seq_tree.specs.Variables.{Variables, entered, kept}
 use Rattle.guarantee.specs.Software.{Software, Task}
@@ -74,14 +75,6 @@ module _ (w : Software) (t : Task) (c : laws.Course) (at used : ℕ) (o : Option
 
 pub plus-none : (n : ℕ) → n + 0 ≡ n
 plus-none n = omega arith
-
-pub and-true : (b : Bool) → (b && true) ≡ b
-and-true true = refl
-and-true false = refl
-
-pub and-false : (b : Bool) → (b && false) ≡ false
-and-false true = refl
-and-false false = refl
 
 pub ruleset deed_steps = (plus-none, and-true, and-false)
 

@@ -3,6 +3,7 @@ use Rattle.std.proofs.Common.{◌≡◌, ℕ, zero, suc, Bool, true, false, ◌&
 use Rattle.std.proofs.Common.{refl, sym, ap, ◌∙◌, arith}
 use Rattle.std.specs.Prelude.{◌==◌, slice_get, option_map, if◌then◌else◌}
 use Rattle.std.proofs.lemmas.Bool.{eqb-true, eq-eqb, ne_eqb}
+use Rattle.std.proofs.Math.Bool.{and-true, and-false}
 use Rattle.seq_tree.specs.Lists.{Each, change}
 use Rattle.seq_tree.specs.Names.{same_name}
 use Rattle.seq_tree.specs.Runs as runs
@@ -46,14 +47,6 @@ get-changed {A} (suc i) (suc j) f (y ∷ ys) x e =
         by false e true f =
             let g : suc i ≡ suc j = eqb-true (suc i) (suc j) f in
             let h = eq-eqb i j (omega (arith, g)) in absurd (cc)
-
-and-true : (b : Bool) → (b && true) ≡ b
-and-true true = refl
-and-true false = refl
-
-and-false : (b : Bool) → (b && false) ≡ false
-and-false true = refl
-and-false false = refl
 
 -- levels behind the first ones
 drop-one : (d : ℕ) (ss : List Shown) → shown_at d (drop 1 ss) ≡ shown_at (suc d) ss

@@ -3,7 +3,7 @@ use Rattle.std.proofs.Common.{◌≡◌, ℕ, Bool, true, List, Option, Some, No
 use Rattle.std.specs.Bool.{Decides}
 use Rattle.std.proofs.lemmas.Bool.Decides.{same_from_decides}
 use Rattle.std.proofs.lemmas.Slice.Eq.{bytes_eq-Decides}
-use Rattle.seq_tree.specs.Names.{Name, same_name}
+use Rattle.seq_tree.specs.Names.{Name}
 use Rattle.seq_tree.specs.Operations.{Operation, out_names}
 use Rattle.seq_tree.specs.Runs.{Path}
 use Rattle.seq_tree.specs.Variables.{Variables, kept, reads}
@@ -12,10 +12,7 @@ use Rattle.law_scripts.specs.Services as services
 use Rattle.law_scripts.specs.Services.{inside_by, last_by, charge_by}
 use Rattle.trace_scripts.specs.Scenes.{IsWalk}
 use Rattle.trace_scripts.specs.declared.walks.Walked.TheVariants.{Ran, Begun, Astray}
-
--- what says whether two names are equal is the test of the definitions
-pub same-names : (b : Bool) (x y : Name) → Decides b (x ≡ y) → b ≡ same_name x y
-same-names b x y h = same_from_decides b (same_name x y) h (bytes_eq-Decides x y)
+use Rattle.seq_eval.proofs.Shared.Reading.{same-names}
 
 pub same-values : (b : Bool) (xs ys : List ℕ) → Decides b (xs ≡ ys) → b ≡ bytes_eq xs ys
 same-values b xs ys h = same_from_decides b (bytes_eq xs ys) h (bytes_eq-Decides xs ys)

@@ -2,17 +2,16 @@
 use Rattle.std.proofs.Common.{◌≡◌, ℕ, ◌+◌, ◌<◌, ◌≤◌, Bool, true, false, not, List, map, drop, length, Option, Some, None, refl, sym, ap, ◌∙◌, arith}
 use Rattle.std.proofs.Common.{max, get_or, subst}
 use Rattle.std.specs.Prelude.{find, filter_map, slice_get, option_map, is_some}
-use Rattle.std.proofs.lemmas.Option.{none-some, same_Some, slice_get-map, slice_get_read}
+use Rattle.std.proofs.lemmas.Option.{same_Some, slice_get-map, slice_get_read}
 use Rattle.std.proofs.lemmas.List.{length-map}
 use Rattle.ada_tree.specs.Trees.{program_of, unit_of}
 use Rattle.ada_tree.specs.declared.program.AdaProgram.{AdaProgram}
-use Rattle.seq_tree.specs.Names.{Name}
 use Rattle.ods_tree.specs.Flats.{Guarded}
-use Rattle.ada_tree.specs.Programs.{Program, Unit, Form, Passive, Shared, Cyclic, Sporadic}
-use Rattle.guarantee.specs.Software.{guarded_by}
+use Rattle.ada_tree.specs.Programs.{Program}
 use Rattle.trace_tree.specs.Lines.{unit_name}
 use Rattle.trace_tree.specs.Placed.{IsUnit}
 use Rattle.law_trace_places.specs.Places.{guarded_at, guarded_in}
+use Rattle.law_trace_places.proofs.Shared.Units.{object-name}
 use Rattle.law_scripts.specs.Services as services
 use Rattle.trace_scripts.proofs.Finding.{found-here, found-past, passes}
 use Rattle.trace_scripts.specs.Objects.{AreServing, broken_by, service_of}
@@ -57,15 +56,6 @@ some-broken p ss serving h u in' k s at b e there = by (guarded_at p u) refl the
         ap not (e ∙ same)
 
 -- THE FIRST
-object-name : (u : Unit) (g : Guarded) → guarded_in u ≡ Some g → g.name ≡ u.name
-object-name u g e = by u.name u.form e
-  where
-    by : (name : Name) (f : Form) → guarded_by name f ≡ Some g → g.name ≡ name
-    by name (Passive ops) h = absurd (none-some g h)
-    by name (Shared ceiling vars ops) h = ap (λ (z : Guarded). z.name) (sym (same_Some _ g h))
-    by name (Cyclic priority offset period vars block) h = absurd (none-some g h)
-    by name (Sporadic priority ceiling op separation jitter external vars block) h = absurd (none-some g h)
-
 not-broken : (serving : Guarded → Bool) (o : Option Guarded) → not (broken_by serving o) ≡ passes serving o
 not-broken serving None = refl
 not-broken serving (Some g) = by (serving g)

@@ -22,7 +22,7 @@ use Rattle.law_scripts.specs.Progress as laws
 use Rattle.law_scripts.specs.Progress.{is_well}
 use Rattle.law_scripts.specs.Services as services
 use Rattle.law_scripts.specs.Services.{is_served, is_sound}
-use Rattle.trace_read.specs.Deeds.{Reads}
+use Rattle.trace_read.specs.Deeds.{Reads, task_of}
 use Rattle.trace_scripts.specs.Moving.{AreFollowing, AreOf, good_at, good_with, move_by, moved_at, threads_from, threads_with, well_by}
 use Rattle.trace_scripts.specs.Objects.{service_of}
 use Rattle.trace_scripts.specs.Scenes.{AllBlocks, AllIn}
@@ -33,8 +33,9 @@ use Rattle.trace_scripts.specs.declared.progress.Progress.{Progress}
 use Rattle.trace_scripts.specs.declared.progress.Thread.{Thread}
 use Rattle.trace_scripts.specs.declared.services.Service.{Service}
 use Rattle.trace_scripts.proofs.Finding.{found-here, found-past, passes}
-use Rattle.trace_scripts.proofs.Objecting.{change-same, each-at, read-at, state-set}
+use Rattle.trace_scripts.proofs.Objecting.{change-same, read-at, state-set}
 use Rattle.trace_scripts.proofs.Passing.{behind-is}
+use Rattle.law_trace_lines.proofs.Shared.Events.{each-at}
 
 -- THE THREAD at a place
 pub record Found (p : Program) (unit : ℕ) (h : Thread) : Type 0 where
@@ -86,20 +87,8 @@ step-none p depth good charge e task ss at =
     sym (change-same task (move_by p depth good charge (named_event p e) None) ss (λ x. refl))
     ∙ ap (λ o. change task (move_by p depth good charge (named_event p e) o) ss) (sym at)
 
--- the unit whose thread takes an event
-abbrev pub of_task : machine.Event → Option ℕ
-of_task (event.Release time task value) = Some task
-of_task (event.Arrive time task value) = None
-of_task (event.Enter time task unit op values) = Some task
-of_task (event.Leave time task unit op values) = Some task
-of_task (event.Request time task target value) = Some task
-of_task (event.Print time task value) = Some task
-of_task (event.End time task used) = Some task
-of_task (event.Stop time task unit priority ceiling) = Some task
-of_task (event.Horizon time) = None
-
 pub stepped-with : (p : Program) (depth : ℕ) (good : Bool) (c : ℕ × ℕ) (ss : List laws.Progress) (e : machine.Event) (task : ℕ)
-    → of_task e ≡ Some task → moved_at p depth good c e task ss ≡ threads_with p depth good e c ss
+    → task_of e ≡ Some task → moved_at p depth good c e task ss ≡ threads_with p depth good e c ss
 unfolding threads_with
 stepped-with p depth good c ss (event.Release time own value) task h =
     ap (λ k. moved_at p depth good c (event.Release time own value) k ss) (sym (same_Some own task h))

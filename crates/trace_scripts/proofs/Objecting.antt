@@ -30,6 +30,8 @@ use Rattle.trace_scripts.specs.Serving.{leave_by, enter_by, charge_by, left_at, 
 use Rattle.trace_scripts.specs.declared.objects.Object.{Object}
 use Rattle.trace_scripts.specs.declared.services.Service.{Service}
 use Rattle.trace_scripts.proofs.Readings.{unit-ops}
+use Rattle.trace_scripts.proofs.ObjectsNamed.{map-at}
+use Rattle.law_trace_lines.proofs.Shared.Events.{each-at}
 
 -- one item of a list under a view: changed, and read
 changed-at : {A B : Type 0} (view : A → B) (xs : List A) (i : ℕ) (x y : A) (f : B → B) → i < length xs → x ≡ get_or xs i x → view y ≡ f (view x)
@@ -44,16 +46,6 @@ pub read-at : {A B : Type 0} (view : A → B) (xs : List A) (i : ℕ) (x : A) (d
 read-at view [] i x d h e = absurd (omega (arith, h))
 read-at view (u ∷ us) zero x d h e = ap view (sym e)
 read-at view (u ∷ us) (suc i) x d h e = read-at view us i x d (let k : suc i < suc (length us) = h in omega arith) e
-
-pub each-at : {A : Type 0} (P : A → Type 0) (xs : List A) (i : ℕ) (x : A) → Each P xs → slice_get xs i ≡ Some x → P x
-each-at P [] i x h e = absurd (none-some x e)
-each-at P (y ∷ ys) zero x h e = subst P (same_Some y x e) h.0
-each-at P (y ∷ ys) (suc i) x h e = each-at P ys i x h.1 e
-
-map-at : {A B : Type 0} (f : A → B) (xs : List A) (i : ℕ) (x : A) → slice_get xs i ≡ Some x → slice_get (map f xs) i ≡ Some (f x)
-map-at f [] i x e = absurd (none-some x e)
-map-at f (y ∷ ys) zero x e = ap (option_map f) e
-map-at f (y ∷ ys) (suc i) x e = map-at f ys i x e
 
 -- what is known of a unit that is an object
 record IsObject (u : Unit) (g : Guarded) : Type 0 where

@@ -1,5 +1,5 @@
 -- The pass over the objects, one event at a time.
-use Rattle.std.proofs.Common.{◌≡◌, ℕ, zero, suc, List, [], ◌∷◌, Option, Some, drop, sym, ap, subst, ◌∙◌}
+use Rattle.std.proofs.Common.{◌≡◌, ℕ, suc, List, [], ◌∷◌, Some, drop, sym, ap, subst, ◌∙◌}
 use Rattle.seq_tree.specs.Lists.{Each}
 use Rattle.ada_tree.specs.Programs.{Program}
 use Rattle.trace_tree.specs.declared.event.Event as machine
@@ -8,13 +8,9 @@ use Rattle.trace_read.specs.Deeds.{Reads, first_task, task_of}
 use Rattle.trace_scripts.specs.Insides.{entries_from, entry_from}
 use Rattle.trace_scripts.specs.Scripts.{IsAt}
 use Rattle.trace_scripts.specs.Serving.{objects_with, objects_from}
+use Rattle.law_calls.proofs.Shared.Lists.{each-drop}
 
 -- AN EVENT at an index
-each-drop : {A : Type 0} (P : A → Type 0) (n : ℕ) (xs : List A) → Each P xs → Each P (drop n xs)
-each-drop P zero xs h = h
-each-drop P (suc n) [] h = h
-each-drop P (suc n) (x ∷ xs) h = each-drop P n xs h.1
-
 pub placed-at : (P : machine.Event → Type 0) (es : List machine.Event) (here : ℕ) (e : machine.Event) → IsAt es here e → Each P es → P e
 placed-at P es here e at h = (subst (Each P) at (each-drop P here es h)).0
 

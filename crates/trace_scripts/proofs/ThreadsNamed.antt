@@ -3,6 +3,7 @@ use Rattle.std.proofs.Common.{◌≡◌, ℕ, Bool, true, false, ◌&&◌, List,
 use Rattle.std.specs.Prelude.{◌==◌, slice_get, option_map, option_and_then, unwrap_or, if◌then◌else◌}
 use Rattle.std.proofs.lemmas.Bool.{eqb-true}
 use Rattle.std.proofs.lemmas.Option.{none-some, same_Some}
+use Rattle.std.proofs.Math.Bool.{and-true}
 use Rattle.seq_tree.specs.Lists.{Each, change}
 use Rattle.seq_tree.specs.Names.{Name, same_name}
 use Rattle.seq_tree.specs.Variables.{written}
@@ -34,10 +35,6 @@ use Rattle.trace_scripts.specs.Serving.{charges_by, objects_from, service_at, se
 use Rattle.trace_scripts.proofs.Clearing.{objects-say}
 use Rattle.trace_scripts.proofs.Entering.{entries-named, get-changed}
 use Rattle.trace_scripts.proofs.ObjectsNamed.{charges-named, first-named, map-at}
-
-and-true : (b : Bool) → (b && true) ≡ b
-and-true true = refl
-and-true false = refl
 
 module _ (p : Program) (meets : MeetsRules p) (depth : ℕ) (os : List services.Service) (served : Name → Bool)
     (goods : (unit : ℕ) → IsUnit p unit → good_at p os unit ≡ served (unit_name p unit)) where

@@ -5,32 +5,20 @@ use Rattle.ods_tree.specs.Flats.{Flat}
 use Rattle.ods_tree.specs.Flattening.{flat}
 use Rattle.ods_tree.specs.Ticks.{first_priority}
 use Rattle.design_rules.specs.Rules.{AreMet}
-use Rattle.analysis.specs.Sound.{IsSound}
 use Rattle.design_bounds.specs.Analyses.{IsAnalysis}
 use Rattle.design_bounds.specs.declared.rows.Analysis.{Analysis}
-use Rattle.design_bounds.proofs.Shared.CheckedDesigns.{flat-sound, first-small}
+use Rattle.design_bounds.proofs.Shared.CheckedDesigns.{flat-of}
+pub use Rattle.design_bounds.proofs.Shared.CheckedDesigns.{sound-of, small-of, some-of}
 use Rattle.bridge.specs.Makes.{HasRoom, IsLong, IsMade, flat_text}
 use Rattle.bridge.specs.declared.delivery.Delivery.{Delivery}
-use Rattle.bridge.proofs.RankRooms.{first-some, has-room}
+use Rattle.bridge.proofs.RankRooms.{has-room}
 
 module _ (x y : Design) (same : y ≡ x) (met : AreMet y y) (first : ℕ) (written : first ≡ first_priority y) (f : Flat) (flattened : f ≡ flat x) where
-  flat-of : f ≡ flat y
-  flat-of = flattened ∙ ap flat (sym same)
-
-  pub sound-of : IsSound f
-  sound-of = subst IsSound (sym flat-of) (flat-sound y y met)
-
-  pub small-of : first ≤ 1000000000
-  small-of = subst (λ n. n ≤ 1000000000) (sym written) (first-small y met)
-
-  pub some-of : 1 ≤ first
-  some-of = subst (λ n. 1 ≤ n) (sym written) (first-some y met)
-
   pub room-of : HasRoom first f
   room-of =
       let P : ℕ → Type 0 = λ n. HasRoom n (flat y) in
       let Q : Flat → Type 0 = λ g. HasRoom first g in
-      subst Q (sym flat-of) (subst P (sym written) (has-room y met))
+      subst Q (sym (flat-of x y same met first written f flattened)) (subst P (sym written) (has-room y met))
 
   named : first ≡ first_priority x
   named = written ∙ ap first_priority same

@@ -36,7 +36,7 @@ all-found P g [] h each = refl
 all-found P g (x ∷ xs) h each = ap (λ o. length (cons_option o (filter_map g xs))) (h x each.0).1 ∙ ap suc (all-found P g xs h each.1)
 
 -- an excess is that of a row
-excess-at : (i : ℕ) (rows : List ThreadRow) (v : List Bound) (x : Excess) → first_excess i rows v ≡ Some x → x.index < i + length rows
+pub excess-at : (i : ℕ) (rows : List ThreadRow) (v : List Bound) (x : Excess) → first_excess i rows v ≡ Some x → x.index < i + length rows
 excess-at i [] v x e = cc
 excess-at i (row ∷ rows) [] x e = cc
 excess-at i (row ∷ rows) (b ∷ v) x e = over (nat_lt row.deadline b.response) (nat_lt row.period (b.jitter + b.response)) refl refl

@@ -30,32 +30,37 @@ first-cut (u ∷ us) t more after = refl
 
 -- ONE READER AFTER ANOTHER
 module _ {T A B : Type 0} (G : A → List T → Type 0) (H : A → B → List T → Type 0)
-    (StopsG : A → Option T → Type 0) (StopsH : B → Option T → Type 0)
+    (StopsG : A → Option T → Type 0) (StopsH : A → B → Option T → Type 0) (Stops : B → Option T → Type 0)
     (r : List T → Read T A) (f : A → List T → Read T B)
-    (one : Reads G StopsG r) (two : (a : A) → Reads (H a) StopsH (f a))
-    (follow : (a : A) (b : B) (back rest : List T) → H a b back → StopsH b (first rest) → StopsG a (first (back ++ rest))) where
-  sound : (ts : List T) (b : B) (rest : List T) → then_at r f ts ≡ Ok (b, rest) → Found (Joined G H) StopsH ts b rest
-  sound ts b rest e =
+    (one : Reads G StopsG r) (two : (a : A) → Reads (H a) (StopsH a) (f a))
+    (follow : (a : A) (b : B) (text back rest : List T) → G a text → H a b back → Stops b (first rest)
+    → StopsG a (first (back ++ rest)) × StopsH a b (first rest))
+    (stops_both : (a : A) (b : B) (text back rest : List T) → G a text → H a b back → StopsG a (first (back ++ rest)) → StopsH a b (first rest)
+    → Stops b (first rest)) where
+  joint-sound : (ts : List T) (b : B) (rest : List T) → then_at r f ts ≡ Ok (b, rest) → Found (Joined G H) Stops ts b rest
+  joint-sound ts b rest e =
       let both = bind_ok (r ts) (λ x. f x.0 x.1) (b, rest) e in
       let g = one.sound ts both.x.0 both.x.1 both.one in
       let h = (two both.x.0).sound both.x.1 b rest both.two in
+      let P : Option T → Type 0 = λ o. StopsG both.x.0 o in
       record {
         text = g.text ++ h.text;
         spelled = record { a = both.x.0; front = g.text; back = h.text; before = g.spelled; after = h.spelled; whole = refl };
         split = g.split ∙ ap (λ us. g.text ++ us) h.split ∙ sym (append_assoc g.text h.text rest);
-        stops = h.stops;
+        stops = stops_both both.x.0 b g.text h.text rest g.spelled h.spelled (subst P (ap first h.split) g.stops) h.stops;
       }
 
-  complete : (b : B) (text rest : List T) → Joined G H b text → StopsH b (first rest) → then_at r f (text ++ rest) ≡ Ok (b, rest)
-  complete b text rest j stop =
-      rw (j.whole, append_assoc, one.complete j.a j.front (j.back ++ rest) j.before (follow j.a b j.back rest j.after stop))
-      ((two j.a).complete b j.back rest j.after stop)
+  joint-complete : (b : B) (text rest : List T) → Joined G H b text → Stops b (first rest) → then_at r f (text ++ rest) ≡ Ok (b, rest)
+  joint-complete b text rest j stop =
+      let s = follow j.a b j.front j.back rest j.before j.after stop in
+      rw (j.whole, append_assoc, one.complete j.a j.front (j.back ++ rest) j.before s.0)
+      ((two j.a).complete b j.back rest j.after s.1)
 
-  fault : (ts : List T) (left : Halt) → then_at r f ts ≡ Err left → Stuck (Joined G H) (then_at r f) ts left
-  fault ts left e =
-      elim (bind_err (r ts) (λ x. f x.0 x.1) left e) [
+  joint-fault : (ts : List T) (halt : Halt) → then_at r f ts ≡ Err halt → Stuck (Joined G H) (then_at r f) ts halt
+  joint-fault ts halt e =
+      elim (bind_err (r ts) (λ x. f x.0 x.1) halt e) [
         | inl h ↦
-            let s = one.fault ts left h in
+            let s = one.fault ts halt h in
             let next = two s.last in
             record {
               front = s.front;
@@ -76,7 +81,7 @@ module _ {T A B : Type 0} (G : A → List T → Type 0) (H : A → B → List T 
             }
         | inr q ↦
             let g = one.sound ts q.x.0 q.x.1 q.one in
-            let s = (two q.x.0).fault q.x.1 left q.two in
+            let s = (two q.x.0).fault q.x.1 halt q.two in
             record {
               front = g.text ++ s.front;
               back = s.back;
@@ -100,11 +105,11 @@ module _ {T A B : Type 0} (G : A → List T → Type 0) (H : A → B → List T 
             }
       ]
 
-  pub reads-then : Reads (Joined G H) StopsH (then_at r f)
-  reads-then = record {
-    sound = sound;
-    complete = complete;
-    fault = fault;
+  pub reads-joint : Reads (Joined G H) Stops (then_at r f)
+  reads-joint = record {
+    sound = joint-sound;
+    complete = joint-complete;
+    fault = joint-fault;
     some = (two one.some).some;
     some_text = one.some_text ++ (two one.some).some_text;
     some_spelled = record {
@@ -116,6 +121,19 @@ module _ {T A B : Type 0} (G : A → List T → Type 0) (H : A → B → List T 
       whole = refl;
     };
   }
+
+-- the same, where what may follow depends on the last value alone
+pub reads-then : {T A B : Type 0} (G : A → List T → Type 0) (H : A → B → List T → Type 0) (StopsG : A → Option T → Type 0)
+    (StopsH : B → Option T → Type 0) (r : List T → Read T A) (f : A → List T → Read T B) → Reads G StopsG r → ((a : A) → Reads (H a) StopsH (f a))
+    → ((a : A) (b : B) (back rest : List T) → H a b back → StopsH b (first rest) → StopsG a (first (back ++ rest)))
+    → Reads (Joined G H) StopsH (then_at r f)
+reads-then G H StopsG StopsH r f one two follow = reads-joint G H StopsG (λ a. StopsH) StopsH r f one two
+    (λ a b text back rest g h stop. (follow a b back rest h stop, stop)) (λ a b text back rest g h before stop. stop)
+
+-- a part of a text with its own law, in front of the rest
+pub joins-part : {T A B : Type 0} {G : A → List T → Type 0} (H : A → B → List T → Type 0) (a : A) (text : List T) (b : B) (rest : List T)
+    → G a text → H a b rest → Joined G H b (text ++ rest)
+joins-part H a text b rest g h = record { a = a; front = text; back = rest; before = g; after = h; whole = refl }
 
 -- what two equal results have in common; cc takes no pair apart
 pub ok_parts : {T A : Type 0} {a b : A} {us vs : List T} → (let left : Read T A = Ok (a, us) in left) ≡ Ok (b, vs) → (a ≡ b) × (us ≡ vs)
@@ -211,30 +229,43 @@ pub test_cut : {T : Type 0} (test : Option T → Bool) (ts front back : List T) 
 test_cut test ts front back t more after split at
     = sym (ap (λ us. test (first us)) split ∙ ap (λ us. test (first (front ++ us))) at ∙ ap test (first-cut front t more after))
 
-module _ {T A : Type 0} (test : Option T → Bool) (G H : A → List T → Type 0) (Stops : A → Option T → Type 0)
-    (r s : List T → Read T A) (one : Reads G Stops r) (two : Reads H Stops s)
-    (yes : (a : A) (text rest : List T) → G a text → Stops a (first rest) → test (first (text ++ rest)) ≡ true)
-    (no : (a : A) (text rest : List T) → H a text → Stops a (first rest) → test (first (text ++ rest)) ≡ false) where
+module _ {T A : Type 0} (test : Option T → Bool) (G H : A → List T → Type 0) (StopsG StopsH Stops : A → Option T → Type 0)
+    (r s : List T → Read T A) (one : Reads G StopsG r) (two : Reads H StopsH s)
+    (yes : (a : A) (text rest : List T) → G a text → Stops a (first rest) → (test (first (text ++ rest)) ≡ true) × StopsG a (first rest))
+    (no : (a : A) (text rest : List T) → H a text → Stops a (first rest) → (test (first (text ++ rest)) ≡ false) × StopsH a (first rest))
+    (stops_yes : (a : A) (text rest : List T) → G a text → test (first (text ++ rest)) ≡ true → StopsG a (first rest) → Stops a (first rest))
+    (stops_no : (a : A) (text rest : List T) → H a text → test (first (text ++ rest)) ≡ false → StopsH a (first rest) → Stops a (first rest)) where
   abbrev pub Either : A → List T → Type 0
   Either a text = G a text ⊎ H a text
 
-  choose-sound : (ts : List T) (a : A) (rest : List T) (b : Bool) → cond b (r ts) (s ts) ≡ Ok (a, rest) → Found Either Stops ts a rest
-  choose-sound ts a rest true e = let f = one.sound ts a rest e in record { text = f.text; spelled = inl f.spelled; split = f.split; stops = f.stops }
-  choose-sound ts a rest false e = let f = two.sound ts a rest e
-      in record { text = f.text; spelled = inr f.spelled; split = f.split; stops = f.stops }
+  branch-sound : (ts : List T) (a : A) (rest : List T) (b : Bool) → test (first ts) ≡ b → cond b (r ts) (s ts) ≡ Ok (a, rest)
+      → Found Either Stops ts a rest
+  branch-sound ts a rest true t e = let f = one.sound ts a rest e
+      in record {
+        text = f.text;
+        spelled = inl f.spelled;
+        split = f.split;
+        stops = stops_yes a f.text rest f.spelled (ap (λ us. test (first us)) (sym f.split) ∙ t) f.stops;
+      }
+  branch-sound ts a rest false t e = let f = two.sound ts a rest e
+      in record {
+        text = f.text;
+        spelled = inr f.spelled;
+        split = f.split;
+        stops = stops_no a f.text rest f.spelled (ap (λ us. test (first us)) (sym f.split) ∙ t) f.stops;
+      }
 
-  choose-complete : (a : A) (text rest : List T) → Either a text → Stops a (first rest) → choose_at test r s (text ++ rest) ≡ Ok (a, rest)
-  choose-complete a text rest e stop =
+  branch-complete : (a : A) (text rest : List T) → Either a text → Stops a (first rest) → choose_at test r s (text ++ rest) ≡ Ok (a, rest)
+  branch-complete a text rest e stop =
       elim e [
-        | inl g ↦ rw (yes a text rest g stop) (one.complete a text rest g stop)
-        | inr h ↦ rw (no a text rest h stop)
-            (two.complete a text rest h stop)
+        | inl g ↦ let y = yes a text rest g stop in rw y.0 (one.complete a text rest g y.1)
+        | inr h ↦ let n = no a text rest h stop in rw n.0 (two.complete a text rest h n.1)
       ]
 
-  choose-fault : (ts : List T) (left : Halt) (b : Bool) → test (first ts) ≡ b → cond b (r ts) (s ts) ≡ Err left
-      → Stuck Either (choose_at test r s) ts left
-  choose-fault ts left true t e =
-      let f = one.fault ts left e in
+  branch-fault : (ts : List T) (halt : Halt) (b : Bool) → test (first ts) ≡ b → cond b (r ts) (s ts) ≡ Err halt
+      → Stuck Either (choose_at test r s) ts halt
+  branch-fault ts halt true t e =
+      let f = one.fault ts halt e in
       record {
         front = f.front;
         back = f.back;
@@ -245,8 +276,8 @@ module _ {T A : Type 0} (test : Option T → Bool) (G H : A → List T → Type 
         viable = inl f.viable;
         dead = λ u more after at. rw (test_cut test ts f.front f.back u more after f.split at, t) (f.dead u more after at);
       }
-  choose-fault ts left false t e =
-      let f = two.fault ts left e in
+  branch-fault ts halt false t e =
+      let f = two.fault ts halt e in
       record {
         front = f.front;
         back = f.back;
@@ -258,15 +289,25 @@ module _ {T A : Type 0} (test : Option T → Bool) (G H : A → List T → Type 
         dead = λ u more after at. rw (test_cut test ts f.front f.back u more after f.split at, t) (f.dead u more after at);
       }
 
-  pub reads-choose : Reads Either Stops (choose_at test r s)
-  reads-choose = record {
-    sound = λ ts a rest e. choose-sound ts a rest (test (first ts)) e;
-    complete = choose-complete;
-    fault = λ ts left e. choose-fault ts left (test (first ts)) refl e;
+  pub reads-branch : Reads Either Stops (choose_at test r s)
+  reads-branch = record {
+    sound = λ ts a rest e. branch-sound ts a rest (test (first ts)) refl e;
+    complete = branch-complete;
+    fault = λ ts halt e. branch-fault ts halt (test (first ts)) refl e;
     some = one.some;
     some_text = one.some_text;
     some_spelled = inl one.some_spelled;
   }
+
+-- the same, where both may be followed by what the choice may be followed by
+pub reads-choose : {T A : Type 0} (test : Option T → Bool) (G H : A → List T → Type 0) (Stops : A → Option T → Type 0) (r s : List T → Read T A)
+    → Reads G Stops r → Reads H Stops s
+    → ((a : A) (text rest : List T) → G a text → Stops a (first rest) → test (first (text ++ rest)) ≡ true)
+    → ((a : A) (text rest : List T) → H a text → Stops a (first rest) → test (first (text ++ rest)) ≡ false)
+    → Reads (λ a text. G a text ⊎ H a text) Stops (choose_at test r s)
+reads-choose test G H Stops r s one two fits other = reads-branch test G H Stops Stops Stops r s one two
+    (λ a text rest g stop. (fits a text rest g stop, stop)) (λ a text rest h stop. (other a text rest h stop, stop))
+    (λ a text rest g t stop. stop) (λ a text rest h t stop. stop)
 
 -- THE SAME GRAMMAR, SAID OTHERWISE
 pub reads-same : {T A : Type 0} (G H : A → List T → Type 0) (Stops : A → Option T → Type 0) (r : List T → Read T A) →

@@ -1,18 +1,12 @@
 -- The hard part of a design in ticks is in ticks.
-use Rattle.std.specs.Prelude.{◌≡◌, ℕ, Bool, true, false, List, [], ◌∷◌, map, Option, Some, None, refl, if◌then◌else◌}
+use Rattle.std.specs.Prelude.{◌≡◌, ℕ, Bool, true, false, map, Option, Some, None, refl, if◌then◌else◌}
 use Rattle.std.proofs.Common.{ap, ap₂, ◌∙◌}
 use Rattle.ods_tree.specs.Designs.{Object, Tree, Trees, Node, Empty, With, Design}
-use Rattle.ods_tree.specs.declared.design.Attr.{Attr}
 use Rattle.ods_tree.specs.declared.design.VersionTwo.{VersionTwo}
 use Rattle.ods_tree.specs.Ticks.{attribute_in_ticks, object_in_ticks, tree_in_ticks, trees_in_ticks, tick_time, ticked, in_ticks}
-use Rattle.ods_tree.proofs.Shared.TickLaws.{ticks-version}
+use Rattle.ods_tree.proofs.Shared.TickLaws.{ticks-version, attributes-again}
 use Rattle.background_designs.specs.Clients.{is_client, is_server}
 use Rattle.background_designs.specs.HardParts.{soft_object, cyclic_client, protected_server, hard_object, hard_tree, hard_trees, hard_part}
-
-attributes-again : (tick : ℕ) (as' : List Attr) → map (attribute_in_ticks tick) (map (attribute_in_ticks tick) as')
-    ≡ map (attribute_in_ticks tick) as'
-attributes-again tick [] = refl
-attributes-again tick (a ∷ as') = ap (λ bs. attribute_in_ticks tick a ∷ bs) (attributes-again tick as')
 
 soft-again : (tick : ℕ) (o : Object) → object_in_ticks tick (soft_object (object_in_ticks tick o)) ≡ soft_object (object_in_ticks tick o)
 soft-again tick o = ap (λ bs. record (soft_object o) { attrs = bs }) (attributes-again tick o.attrs)

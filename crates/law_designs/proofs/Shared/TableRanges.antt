@@ -23,7 +23,7 @@ use Rattle.std.proofs.lemmas.Bool.{and_parts, leb-true}
 use Rattle.law_calls.proofs.Shared.Places.{all-at}
 use Rattle.std.proofs.lemmas.List.{length-map}
 
-count-down : (n : ℕ) → length (downwards n) ≡ n
+pub count-down : (n : ℕ) → length (downwards n) ≡ n
 count-down zero = refl
 count-down (suc n) = ap suc (count-down n)
 
@@ -37,6 +37,19 @@ few {A} {B} g (x ∷ xs) = by (g x) (few g xs)
 
 small : (jitter separation : ℕ) → nat_lt jitter separation ≡ true → jitter < separation
 small jitter separation e = grind arith
+
+-- periods, separations and jitters that are in their range
+pub timed : (k : timing.Timing) → is_timed k ≡ true → (period_of k ≤ 1000000000) × (jitter_of k ≤ 1000000000)
+timed (timing.Cyclic period offset) e =
+    let parts = and_parts (is_within 1 1000000000 period) (nat_le offset 1000000000) e in
+    ((within-true 1 1000000000 period parts.0).1, omega arith)
+timed (timing.Sporadic op separation None) e =
+    let parts = and_parts (is_within 1 1000000000 separation) true e in
+    ((within-true 1 1000000000 separation parts.0).1, omega arith)
+timed (timing.Sporadic op separation (Some jitter)) e =
+    let parts = and_parts (is_within 1 1000000000 separation) (nat_lt jitter separation) e in
+    let most = (within-true 1 1000000000 separation parts.0).1 in
+    (most, (let less = small jitter separation parts.1 in omega (arith, most, less)))
 
 module _ (f : Flat) (sound : IsSound f) where
   abbrev ps : List ℕ
@@ -71,18 +84,6 @@ module _ (f : Flat) (sound : IsSound f) where
   starter-in t (timing.Cyclic period offset) = tt
   starter-in t (timing.Sporadic op separation (Some jitter)) = tt
   starter-in t (timing.Sporadic op separation None) = row-in (position (λ u. can_request (flat_services f) t.name u.block) f.threads)
-
-  timed : (k : timing.Timing) → is_timed k ≡ true → (period_of k ≤ 1000000000) × (jitter_of k ≤ 1000000000)
-  timed (timing.Cyclic period offset) e =
-      let parts = and_parts (is_within 1 1000000000 period) (nat_le offset 1000000000) e in
-      ((within-true 1 1000000000 period parts.0).1, omega arith)
-  timed (timing.Sporadic op separation None) e =
-      let parts = and_parts (is_within 1 1000000000 separation) true e in
-      ((within-true 1 1000000000 separation parts.0).1, omega arith)
-  timed (timing.Sporadic op separation (Some jitter)) e =
-      let parts = and_parts (is_within 1 1000000000 separation) (nat_lt jitter separation) e in
-      let most = (within-true 1 1000000000 separation parts.0).1 in
-      (most, (let less = small jitter separation parts.1 in omega (arith, most, less)))
 
   is-row : (e : Entry) → Stands f ps e → IsRow (length es) (row_entry f ps e)
   is-row e s =

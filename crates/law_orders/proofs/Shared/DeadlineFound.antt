@@ -19,7 +19,7 @@ use Rattle.law_orders.proofs.Shared.Fewer.{fewer-above}
 use Rattle.law_orders.proofs.Shared.DeadlineOrders.{deadline-order, priority-there}
 
 -- lists of one length with the same items
-lists-same : (xs ys : List ℕ) → length xs ≡ length ys → ((i x y : ℕ) → slice_get xs i ≡ Some x → slice_get ys i ≡ Some y → x ≡ y) → xs ≡ ys
+pub lists-same : (xs ys : List ℕ) → length xs ≡ length ys → ((i x y : ℕ) → slice_get xs i ≡ Some x → slice_get ys i ≡ Some y → x ≡ y) → xs ≡ ys
 lists-same [] [] h each = refl
 lists-same [] (y ∷ ys) h each = absurd (omega (arith, h))
 lists-same (x ∷ xs) [] h each = absurd (omega (arith, h))

@@ -1,7 +1,7 @@
 -- The table of an order is in its ranges.
-use Rattle.std.specs.Prelude.{◌≡◌, ℕ, suc, ◌≤◌, ◌<◌, nat_le, nat_lt, true, List, [], ◌∷◌, length, slice_get, Some, None, refl}
+use Rattle.std.specs.Prelude.{◌≡◌, ℕ, suc, ◌<◌, nat_le, true, List, [], ◌∷◌, length, slice_get, Some, refl}
 use Rattle.std.proofs.Common.{sym, ◌∙◌, subst, arith}
-use Rattle.std.proofs.lemmas.Bool.{and_parts, leb-true, ltb-true}
+use Rattle.std.proofs.lemmas.Bool.{and_parts, leb-true}
 use Rattle.std.proofs.lemmas.Option.{same_Some, slice_get_within}
 use Rattle.ods_tree.specs.Flats.{Thread, Flat, period_of}
 use Rattle.ods_tree.specs.Flats as timing
@@ -10,25 +10,13 @@ use Rattle.rt_response.specs.declared.rows.ThreadRow.{ThreadRow}
 use Rattle.rt_response.specs.Tables.{IsRow, IsTable, IsStarter}
 use Rattle.rt_response.specs.Tables as tables
 use Rattle.analysis.specs.Sound.{IsSound}
-use Rattle.analysis.specs.Tables.{jitter_of, activation_cost, row_of}
+use Rattle.analysis.specs.Tables.{activation_cost, row_of}
 use Rattle.law_calls.proofs.Shared.Places.{all-at}
 use Rattle.law_designs.proofs.Shared.CostRanges.{all-each, within-true, finish-some, blocking-cheap}
+use Rattle.law_designs.proofs.Shared.TableRanges.{timed}
 use Rattle.law_orders.specs.Orders.{AllExternal, IsOrder, priority_in, priorities_by, rows_by}
 use Rattle.law_orders.proofs.Shared.OrderRows.{rows-at, rows-long, thread-of}
 use Rattle.law_orders.proofs.Shared.Passing.{starts-none}
-
-timed : (k : timing.Timing) → is_timed k ≡ true → (period_of k ≤ 1000000000) × (jitter_of k ≤ 1000000000)
-timed (timing.Cyclic period offset) e =
-    let parts = and_parts (is_within 1 1000000000 period) (nat_le offset 1000000000) e in
-    ((within-true 1 1000000000 period parts.0).1, omega arith)
-timed (timing.Sporadic op separation None) e =
-    let parts = and_parts (is_within 1 1000000000 separation) true e in
-    ((within-true 1 1000000000 separation parts.0).1, omega arith)
-timed (timing.Sporadic op separation (Some jitter)) e =
-    let parts = and_parts (is_within 1 1000000000 separation) (nat_lt jitter separation) e in
-    let most = (within-true 1 1000000000 separation parts.0).1 in
-    let less = ltb-true jitter separation parts.1 in
-    (most, omega (arith, most, less))
 
 each-from : (P : ThreadRow → Type 0) (rows : List ThreadRow) → ((i : ℕ) (row : ThreadRow) → slice_get rows i ≡ Some row → P row) → tables.Each P rows
 each-from P [] h = tt

@@ -19,7 +19,7 @@ use Rattle.seq_print.proofs.Shared.Fronts.{written}
 use Rattle.ods_tree.specs.Layout.{capital, part_text, parts_text, design_line_text}
 use Rattle.ods_tree.specs.Spelling.{Part, Capital, Plain, DesignLine, part_token}
 use Rattle.ods_print.specs.Parts.{lines_text}
-use Rattle.ods_print.proofs.Parting.{indent}
+use Rattle.seq_print.proofs.Shared.Depths.{indent}
 
 -- whether a word that is printed in capitals reads as the word
 abbrev pub is_capital : List ℕ → Bool

@@ -1,12 +1,13 @@
 -- A flat design has one answer: the threads that show that no order passes, and the order that is found.
 -- Both are what filling from the lowest place comes to (Audsley 1991), where each place goes to one thread.
-use Rattle.std.specs.Prelude.{◌≡◌, ℕ, suc, List, [], ◌∷◌, length, take, slice_get, Some, refl}
-use Rattle.std.proofs.Common.{sym, ◌∙◌, ap₂, arith}
+use Rattle.std.specs.Prelude.{◌≡◌, ℕ, List, length, take}
+use Rattle.std.proofs.Common.{sym, ◌∙◌, arith}
 use Rattle.ods_tree.specs.Flats.{Flat}
 use Rattle.analysis.specs.Sound.{IsSound}
 use Rattle.law_orders.specs.Orders.{IsOrder, IsFilled, has_place, places_of}
 use Rattle.law_orders.proofs.Shared.FilledOrders.{filled-agree, left-same}
 use Rattle.law_orders.proofs.Shared.OrderPlaces.{order-long}
+use Rattle.law_orders.proofs.Shared.DeadlineFound.{lists-same}
 use Rattle.priority_search.specs.Searches.{IsRefuted}
 use Rattle.priority_search.proofs.SearchSteps.{filter-same}
 
@@ -17,14 +18,6 @@ one-refuted f a b sound x y =
     ∙ filter-same (has_place (take x.left x.order)) (has_place (take y.left y.order)) (places_of f)
     (λ k h. left-same f x.order y.order x.left y.left sound x.stuck y.stuck k)
     ∙ sym y.listed
-
--- lists of one length with the same items
-pub lists-same : (xs ys : List ℕ) → length xs ≡ length ys → ((i x y : ℕ) → slice_get xs i ≡ Some x → slice_get ys i ≡ Some y → x ≡ y) → xs ≡ ys
-lists-same [] [] h each = refl
-lists-same [] (y ∷ ys) h each = absurd (omega (arith, h))
-lists-same (x ∷ xs) [] h each = absurd (omega (arith, h))
-lists-same (x ∷ xs) (y ∷ ys) h each =
-    ap₂ (λ a b. a ∷ b) (each 0 x y refl refl) (lists-same xs ys (omega (arith, h)) (λ i a b e g. each (suc i) a b e g))
 
 -- the order that is filled from its lowest place upwards
 pub one-filled : (f : Flat) (a b : List ℕ) → IsSound f → IsOrder f a → IsOrder f b → IsFilled f a → IsFilled f b → a ≡ b

@@ -16,10 +16,14 @@ both a b c d e f = ap (λ x. x ++ c) e ∙ ap (λ x. b ++ x) f
 pub layout-append : (xs ys : List Line) → layout (xs ++ ys) ≡ layout xs ++ layout ys
 layout-append xs ys = flat_map-append line_text xs ys
 
+-- the spaces before a line
+abbrev pub indent : ℕ → List ℕ
+indent level = replicate (min 30 (3 * level)) 32
+
 same-spaces : (n m : ℕ) → min n 10 ≡ min m 10 → min 30 (3 * n) ≡ min 30 (3 * m)
 same-spaces n m e = grind arith
 
-pub same-indent : (n m : ℕ) → min n 10 ≡ min m 10 → replicate {A = ℕ} (min 30 (3 * n)) 32 ≡ replicate (min 30 (3 * m)) 32
+pub same-indent : (n m : ℕ) → min n 10 ≡ min m 10 → indent n ≡ indent m
 same-indent n m e = ap (λ k. replicate k 32) (same-spaces n m e)
 
 pub same-deeper : (n m : ℕ) → min n 10 ≡ min m 10 → min (suc n) 10 ≡ min (suc m) 10

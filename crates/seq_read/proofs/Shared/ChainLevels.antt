@@ -4,8 +4,7 @@ use Rattle.std.proofs.Common.{inr, refl, sym, ap, subst, ◌∙◌, arith, appen
 use Rattle.std.specs.Prelude.{if◌then◌else◌}
 use Rattle.std.proofs.lemmas.Bool.{leb-true, leb-false, le-leb}
 use Rattle.grammar.specs.Reading.{first, then_at, Reads, Joined}
-use Rattle.grammar.proofs.Shared.Laws.{IsToken, reads-same}
-use Rattle.grammar.proofs.Shared.Ends.{reads-joint}
+use Rattle.grammar.proofs.Shared.Laws.{IsToken, reads-same, reads-joint}
 use Rattle.seq_tree.specs.Names.{Name}
 use Rattle.seq_tree.specs.Expressions.{Expression, Number, Variable, Paren, Not, Binary}
 use Rattle.seq_tree.specs.Spelling.{expression_tokens, op_token}

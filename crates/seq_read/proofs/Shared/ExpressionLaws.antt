@@ -4,8 +4,9 @@ use Rattle.std.proofs.Common.{inl, inr, refl, sym, ap, subst, ◌∙◌, arith, 
 use Rattle.std.specs.Prelude.{⊤}
 use Rattle.std.proofs.lemmas.Bool.{leb-true, leb-false, le-leb, lt-leb}
 use Rattle.grammar.specs.Reading.{first, then_at, pure_at, choose_at, token_at, deep_at, Reads, Joined}
-use Rattle.grammar.proofs.Shared.Laws.{IsToken, IsOnly, reads-token, reads-pure, reads-same, reads-then, reads-choose, reads-map}
-use Rattle.grammar.proofs.Shared.Ends.{reads-branch, reads-limit, reads-joint}
+use Rattle.grammar.proofs.Shared.Laws.{IsToken, IsOnly, reads-token, reads-pure, reads-same, reads-then, reads-joint, reads-branch, reads-choose}
+use Rattle.grammar.proofs.Shared.Laws.{reads-map}
+use Rattle.grammar.proofs.Shared.Limits.{reads-limit}
 use Rattle.grammar.proofs.Shared.Picks.{reads-pick}
 use Rattle.seq_tree.specs.Names.{Name}
 use Rattle.seq_tree.specs.Expressions.{Expression, Number, Variable, Paren, Not, Binary}

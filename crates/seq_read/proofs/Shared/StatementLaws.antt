@@ -3,8 +3,7 @@ use Rattle.std.proofs.Common.{◌≡◌, ℕ, Bool, true, false, List, [], ◌�
 use Rattle.std.proofs.Common.{◌∙◌, arith, append_assoc}
 use Rattle.std.specs.Prelude.{⊤}
 use Rattle.grammar.specs.Reading.{Read, first, then_at, pure_at, many_at, Reads, Joined, AreMany}
-use Rattle.grammar.proofs.Shared.Laws.{IsOnly, reads-pure, reads-same, reads-then, reads-choose, reads-map}
-use Rattle.grammar.proofs.Shared.Ends.{reads-branch}
+use Rattle.grammar.proofs.Shared.Laws.{IsOnly, reads-pure, reads-same, reads-then, reads-branch, reads-choose, reads-map, joins-part}
 use Rattle.grammar.proofs.Shared.From.{Last}
 use Rattle.grammar.proofs.Shared.Many.{reads-many}
 use Rattle.seq_tree.specs.Names.{Name}
@@ -51,10 +50,6 @@ before-token {G = G} {StopsG = StopsG} {K = K} {Stops = Stops} {r = r} {k = k} u
     reads-then G (λ a. Joined (IsFixed u) (λ _. K a)) StopsG Stops r (λ a. then_at (fixed_at u) (λ _. k a)) one
     (λ a. andthen (reads-fixed u) (λ _. two a))
     (λ a b back rest h stop. rw (h.whole, h.before) (at a))
-
-joins-part : {A B : Type 0} {G : A → List Token → Type 0} (H : A → B → List Token → Type 0) (a : A) (text : List Token) (b : B) (rest : List Token)
-    → G a text → H a b rest → Joined G H b (text ++ rest)
-joins-part H a text b rest g h = record { a = a; front = text; back = rest; before = g; after = h; whole = refl }
 
 -- tokens that are no operators
 no_mark : (c : Class) → (begins c (Some semicolon) ≡ false) × (begins c (Some (token.Sign RightParen)) ≡ false)

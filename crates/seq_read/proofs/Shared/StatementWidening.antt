@@ -18,12 +18,13 @@ use Rattle.seq_read.specs.Statements.{StatementReader, BlockReader, kind_of, beg
 use Rattle.seq_read.specs.Statements.{further_at, list_at, actuals_at, call_at, named_at, guarded_at, arm_at, else_at, otherwise_at, if_at}
 use Rattle.seq_read.specs.Statements.{for_at, statement_with, block_with, statement_at, block_at}
 use Rattle.seq_read.proofs.Shared.StatementTokens.{w, semicolon}
-use Rattle.seq_read.proofs.ExpressionWidening.{widens-fixed, widens-number, widens-name, takes-seen, next_of, expression-widened, widens-expression}
+use Rattle.seq_read.proofs.ExpressionWidening.{takes-seen, next_of, expression-widened, widens-expression}
+use Rattle.seq_read.proofs.Shared.TokenWidening.{widens-fixed, widens-number, widens-name}
 
 -- a fixed token and what is behind it
 past : {A : Type 0} {n : ℕ} (u : Token) {f g : Unit {0} → List Token → Read Token A} → ((a : Unit {0}) → Widens n (f a) (g a))
     → Widens n (then_at (fixed_at u) f) (then_at (fixed_at u) g)
-past {n = n} u two = widens-then (widens-fixed n u) two
+past {n = n} u two = widens-then (widens-fixed u) two
 
 null : (n : ℕ) → Widens n null_at null_at
 unfolding null_at
@@ -32,7 +33,7 @@ null n = past (w (codes "null")) (λ _. past semicolon (λ _. widens-pure n Null
 work : (n : ℕ) → Widens n work_at work_at
 unfolding work_at
 work n = past (w (codes "work"))
-    (λ _. past (token.Sign LeftParen) (λ _. widens-then (widens-number n)
+    (λ _. past (token.Sign LeftParen) (λ _. widens-then widens-number
     (λ m. past (token.Sign RightParen) (λ _. past semicolon (λ _. widens-pure n (Work m))))))
 
 module _ (n : ℕ) (is_name : Name → Bool) (expression expression' : ExpressionReader) (one : Widens n expression expression') where
@@ -65,12 +66,12 @@ module _ (n : ℕ) (is_name : Name → Bool) (expression expression' : Expressio
 
   call : (object : Name) → Widens n (call_at is_name expression object) (call_at is_name expression' object)
   unfolding call_at
-  call object = past (token.Sign Dot) (λ _. widens-then (widens-name n is_name)
+  call object = past (token.Sign Dot) (λ _. widens-then (widens-name is_name)
       (λ op. widens-then actuals (λ es. past semicolon (λ _. widens-pure n (Call object op es)))))
 
   named : Widens n (named_at is_name expression) (named_at is_name expression')
   unfolding named_at
-  named = widens-then (widens-name n is_name) (λ name. widens-choose (next_is (token.Sign Becomes)) (assignment name) (call name))
+  named = widens-then (widens-name is_name) (λ name. widens-choose (next_is (token.Sign Becomes)) (assignment name) (call name))
 
   -- behind the word of an `if` or a loop
   module _ (block block' : BlockReader) (two : Widens n block block') where
@@ -120,10 +121,10 @@ module _ (n : ℕ) (is_name : Name → Bool) (expression expression' : Expressio
 
     loop_inside : (a : Unit {0}) → Widens n (for_inside block a) (for_inside block' a)
     unfolding for_inside
-    loop_inside _ = widens-then (widens-name n is_name)
+    loop_inside _ = widens-then (widens-name is_name)
         (λ name. past (w (codes "in"))
-        (λ _. past (w (codes "word")) (λ _. past (w (codes "range")) (λ _. widens-then (widens-number n) (λ low. past (token.Sign DotDot) (λ _.
-        widens-then (widens-number n) (λ high. past (w (codes "loop"))
+        (λ _. past (w (codes "word")) (λ _. past (w (codes "range")) (λ _. widens-then widens-number (λ low. past (token.Sign DotDot) (λ _.
+        widens-then widens-number (λ high. past (w (codes "loop"))
         (λ _. widens-then two (λ body. past (w (codes "end"))
         (λ _. past (w (codes "loop")) (λ _. past semicolon (λ _. widens-pure n (For name low high body)))))))))))))
 

@@ -1,6 +1,7 @@
 -- How many tokens the readers take at least, one form after another.
-use Rattle.std.proofs.Common.{◌≡◌, ℕ, zero, suc, ◌+◌, ◌≤◌, Bool, true, false, cond, List, [], ◌∷◌, length, Option, Some, None, Ok, ap, arith}
-use Rattle.grammar.specs.Reading.{Read, first, then_at, pure_at, choose_at, pick_at, many_at, from_at, deep_at, token_at, taken}
+use Rattle.std.proofs.Common.{◌≡◌, ℕ, zero, suc, ◌+◌, ◌<◌, ◌≤◌, Bool, true, false, cond, List, [], ◌∷◌, length, Option, Some, None, Ok, ap, arith}
+use Rattle.std.proofs.Common.{length-append}
+use Rattle.grammar.specs.Reading.{Read, first, then_at, pure_at, choose_at, pick_at, many_at, from_at, deep_at, token_at, taken, Reads}
 use Rattle.grammar.proofs.Shared.Laws.{bind_ok, ok_parts}
 
 -- where a reader reads something, it takes so many tokens at least
@@ -9,6 +10,14 @@ pub record Takes {T A : Type 0} (k : ℕ) (r : List T → Read T A) : Type 0 whe
 
 pub takes-any : {T A : Type 0} (k : ℕ) {r : List T → Read T A} → Takes k r → Takes 0 r
 takes-any k one = record { fewer = λ ts a rest e. omega (arith, one.fewer ts a rest e) }
+
+-- a reader of texts that have tokens
+pub takes-read : {T A : Type 0} {G : A → List T → Type 0} {Stops : A → Option T → Type 0} {r : List T → Read T A} → Reads G Stops r
+    → ((a : A) (text : List T) → G a text → 0 < length text) → Takes 1 r
+takes-read one grows = record {
+  fewer = λ ts a rest e.
+      let f = one.sound ts a rest e in omega (arith, ap length f.split, length-append f.text rest, grows a f.text f.spelled);
+}
 
 pub takes-token : {T A : Type 0} (sees : T → Option A) → Takes 1 (token_at sees)
 takes-token {T} {A} sees = record { fewer = fewer } where

@@ -1,7 +1,7 @@
 -- Repetitions, one turn after another.
 use Rattle.std.proofs.Common.{◌≡◌, ℕ, zero, suc, ◌<◌, Bool, true, false, cond, List, [], ◌∷◌, ◌++◌, length, Option, Ok, Err, refl, sym, ap, ◌∙◌}
 use Rattle.std.proofs.Common.{arith, append_assoc, append-nil}
-use Rattle.grammar.specs.Reading.{Halt, Read, first, ◌>>=◌, many_at, from_at}
+use Rattle.grammar.specs.Reading.{Halt, Read, first, ◌>>=◌, pure_at, many_at, from_at}
 use Rattle.seq_tree.specs.declared.token.Token.{Token}
 use Rattle.seq_read.proofs.Shared.Takes.{Takes}
 
@@ -58,6 +58,36 @@ pub onward-ends : {T A B : Type 0} (test : Option T → Bool) (r : List T → Re
     test (first ts) ≡ false → onward test r follow front ts ≡ follow front ts
 unfolding onward
 onward-ends test r follow front ts t = rw (t, append-nil) refl
+
+-- what is read, behind items that were read before
+unfoldable pub with_front : {T A : Type 0} → List A → Read T (List A) → Read T (List A)
+with_front front q = q >>= λ y. Ok (front ++ y.0, y.1)
+
+pub front-none : {T A : Type 0} (q : Read T (List A)) → with_front [] q ≡ q
+unfolding with_front
+front-none (Ok y) = refl
+front-none (Err halt) = refl
+
+-- one item more in front of what is read
+pub front-more : {T A : Type 0} (front : List A) (x : A) (q : Read T (List A)) → with_front front (q >>= λ y. Ok (x ∷ y.0, y.1))
+    ≡ with_front (front ++ x ∷ []) q
+unfolding with_front
+front-more = regroup pure_at
+
+pub front-turn : {T A : Type 0} (test : Option T → Bool) (r : List T → Read T A) → Takes 1 r → (front : List A) (ts : List T) (x : A) (rest : List T)
+    → test (first ts) ≡ true → r ts ≡ Ok (x, rest) → with_front (front ++ x ∷ []) (many_at test r rest) ≡ with_front front (many_at test r ts)
+unfolding with_front onward
+front-turn test r one front ts x rest t e = onward-turn test r pure_at front ts x rest one t e
+
+pub front-fails : {T A : Type 0} (test : Option T → Bool) (r : List T → Read T A) (front : List A) (ts : List T) (halt : Halt)
+    → test (first ts) ≡ true → r ts ≡ Err halt → with_front front (many_at test r ts) ≡ Err halt
+unfolding with_front onward
+front-fails test r = onward-fails test r pure_at
+
+pub front-ends : {T A : Type 0} (test : Option T → Bool) (r : List T → Read T A) (front : List A) (ts : List T)
+    → test (first ts) ≡ false → with_front front (many_at test r ts) ≡ Ok (front, ts)
+unfolding with_front onward
+front-ends test r = onward-ends test r pure_at
 
 -- each turn takes a token
 pub turn-shorter : {A : Type 0} (r : List Token → Read Token A) (ts us : List Token) (a : A) → Takes 1 r → r ts ≡ Ok (a, us) → length us < length ts

@@ -3,7 +3,7 @@ use Rattle.ada_tree.specs.Trees.{unit_of}
 use Rattle.token_read.specs.Ahead.{ahead}
 use Rattle.ada_read.specs.Heads.{head_of}
 use Rattle.ada_read.specs.Readers.{ada_block_at, bodies_at}
-use Rattle.ada_read.proofs.Repeats.{with_front}
+use Rattle.seq_read.proofs.Shared.Turns.{with_front}
 use Rattle.ada_read.proofs.bodies.bodies.Given as goal
 
 -- the units so far, and then those of the specifications that are left

@@ -2,7 +2,7 @@ use Rattle.std.proofs.Common.{◌≡◌, map, drop}
 use Rattle.seq_tree.specs.Trees.{operation_of, signature_of}
 use Rattle.token_read.specs.Ahead.{ahead}
 use Rattle.ada_read.specs.Readers.{ada_block_at, operations_at}
-use Rattle.ada_read.proofs.Repeats.{with_front}
+use Rattle.seq_read.proofs.Shared.Turns.{with_front}
 use Rattle.ada_read.proofs.bodies.operations.Given as goal
 
 -- the operations so far, and then those of the heads that are left

@@ -2,7 +2,7 @@ use Rattle.std.proofs.Common.{◌≡◌, length, map}
 use Rattle.token_read.specs.Ahead.{ahead}
 use Rattle.ada_read.specs.Heads.{head_of}
 use Rattle.ada_read.specs.Readers.{heads_at}
-use Rattle.ada_read.proofs.Repeats.{with_front}
+use Rattle.seq_read.proofs.Shared.Turns.{with_front}
 use Rattle.ada_read.proofs.heads.heads.Given as goal
 
 -- the specifications so far, and then those of what is left

@@ -2,7 +2,7 @@ use Rattle.std.proofs.Common.{◌≡◌, length, map}
 use Rattle.seq_tree.specs.Trees.{signature_of}
 use Rattle.token_read.specs.Ahead.{ahead}
 use Rattle.ada_read.specs.Readers.{declarations_at}
-use Rattle.ada_read.proofs.Repeats.{with_front}
+use Rattle.seq_read.proofs.Shared.Turns.{with_front}
 use Rattle.ada_read.proofs.params.declarations.Given as goal
 
 -- the declarations so far, and then those of what is left

@@ -1,7 +1,7 @@
 use Rattle.std.proofs.Common.{◌≡◌, length}
 use Rattle.token_read.specs.Ahead.{ahead}
 use Rattle.arrivals_read.specs.Readers.{others_at}
-use Rattle.arrivals_read.proofs.Turns.{with_front}
+use Rattle.seq_read.proofs.Shared.Turns.{with_front}
 use Rattle.arrivals_read.proofs.text.others.Given as goal
 
 -- the durations so far, and then those of what is left

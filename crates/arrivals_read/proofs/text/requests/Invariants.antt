@@ -2,7 +2,7 @@ use Rattle.std.proofs.Common.{◌≡◌, length, map}
 use Rattle.token_read.specs.Ahead.{ahead}
 use Rattle.arrivals_read.specs.Readers.{requests_at}
 use Rattle.arrivals_read.specs.Texts.{request_text}
-use Rattle.arrivals_read.proofs.Turns.{with_front}
+use Rattle.seq_read.proofs.Shared.Turns.{with_front}
 use Rattle.arrivals_read.proofs.text.requests.Given as goal
 
 -- the requests so far, and then those of what is left

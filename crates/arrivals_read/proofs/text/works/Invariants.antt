@@ -2,7 +2,7 @@ use Rattle.std.proofs.Common.{◌≡◌, length, map}
 use Rattle.token_read.specs.Ahead.{ahead}
 use Rattle.arrivals_read.specs.Readers.{works_at}
 use Rattle.arrivals_read.specs.Texts.{work_text}
-use Rattle.arrivals_read.proofs.Turns.{with_front}
+use Rattle.seq_read.proofs.Shared.Turns.{with_front}
 use Rattle.arrivals_read.proofs.text.works.Given as goal
 
 -- the durations so far, and then those of what is left

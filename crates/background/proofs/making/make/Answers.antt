@@ -4,7 +4,8 @@ use Rattle.ods_tree.specs.Trees.{design_of, flat_of, thread_of}
 use Rattle.ods_rules.specs.Checks.{checked_design}
 use Rattle.analysis.specs.Trees.{ranks_of}
 use Rattle.design_bounds.proofs.Shared.TablePlaces.{ranks-long}
-use Rattle.background.proofs.MadeFronts.{sound-of, small-of, some-of, room-of, front-of, made-of, told-of}
+use Rattle.design_bounds.proofs.Shared.CheckedDesigns.{sound-of, small-of, some-of}
+use Rattle.background.proofs.MadeFronts.{room-of, front-of, made-of, told-of}
 use Rattle.background.proofs.making.make.Goals as goal
 
 pub order-requires : goal.order-requires

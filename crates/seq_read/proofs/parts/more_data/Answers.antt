@@ -4,7 +4,7 @@ use Rattle.grammar.specs.Reading.{pure_at}
 use Rattle.seq_read.specs.Names.{may_name}
 use Rattle.seq_read.specs.Statements.{next_is_name}
 use Rattle.seq_read.specs.Parts.{datum_at}
-use Rattle.seq_read.proofs.PartSteps.{takes-datum}
+use Rattle.seq_read.proofs.Shared.DatumLaws.{takes-datum}
 use Rattle.seq_read.proofs.Shared.Turns.{onward-turn, turn-shorter}
 use Rattle.seq_read.proofs.parts.more_data.Goals as goal
 

@@ -139,6 +139,7 @@ fn comment_len(bytes: &[u8]) -> usize
 }
 
 /// What stands at the front of a text that is not empty, at its place.
+#[inline(always)]
 #[tactic(auto, using(crate::proofs::Shared::FrontLaws::fronts))]
 pub(crate) fn front_of<'a>(
     place: Place,

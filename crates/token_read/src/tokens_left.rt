@@ -221,6 +221,7 @@ impl<'a> Tokens<'a> {
     }
 
     /// The first token, where there is one.
+    #[inline(always)]
     #[tactic(auto, unfolding(crate::specs::Ahead::ahead))]
     pub fn first(self) -> Option<Lexeme<'a>>
         ensures { option_map token_of result ≡ first (ahead self.entry) }
@@ -229,6 +230,7 @@ impl<'a> Tokens<'a> {
     }
 
     /// The first token and those after it, where there is one.
+    #[inline(always)]
     #[tactic(auto, unfolding(crate::specs::Ahead::ahead))]
     pub fn split_first(self) -> Option<(Lexeme<'a>, Tokens<'a>)>
         ensures { Splits result (ahead self.entry) }

@@ -1,9 +1,10 @@
 #!/usr/bin/env bash
-# How long it takes to check designs of nearly 1/8, 1/4, 1/2 and 1 MiB, to print them and to write their Ada texts, the most memory, and the
-# exponent by which the time grows with the bytes: one thread with a long block; one object with many data, each of which its thread
-# assigns; a thread that requires and calls many operations of one object; 499 passive objects, each with operations that call the next
-# one's; objects that each call every operation of the others that call nothing; and 499 objects that each call as many of the next ones as
-# the bytes allow, one in each branch of an `if`. Each is taken. Names of forms as words measure those alone.
+# How long it takes to check designs of nearly 1/8, 1/4, 1/2 and 1 MiB, to print them, to analyse them and to write their Ada texts, the
+# most memory, and the exponent by which the time grows with the bytes: one thread with a long block; statements of all kinds with nested
+# expressions, in one object and in 100; one object with many data, each of which its thread assigns; a thread that requires and calls many
+# operations of one object; 499 passive objects, each with operations that call the next one's; objects that each call every operation of the
+# others that call nothing; and 499 objects that each call as many of the next ones as the bytes allow, one in each branch of an `if`. Each is
+# taken. Names of forms as words measure those alone.
 source "$(dirname -- "${BASH_SOURCE[0]}")/measure.sh"
 
 # One thread with a block of this many bytes.
@@ -15,6 +16,30 @@ block() {
         print "END THREAD;\nEND a;\nEND d;"
     }'
 }
+
+# So many passive objects, whose operations have statements of all kinds and call the last one's, in a text of about this many bytes.
+mixed_in() {
+    awk -v count="$1" -v size="$2" -v costs="$costs" -v attributes="$attributes" 'BEGIN {
+        line = "count := count + limit * scale;\nif count > limit and limit /= 7 then\ntotal := count;\nelse\nwork (3);\nend if;\n"
+        line = line "for i in word range 1 .. 4 loop\ncount := (count + i) * 2;\nend loop;\nput (count);\nnull;\n"
+        print "DESIGN d IS " costs "\nOBJECT r IS ACTIVE\nOBJECTS"
+        for (k = 1; k <= count; k++) {
+            called = k < count ? "unit_" count ".step" : ""
+            print "OBJECT unit_" k " IS PASSIVE PROVIDES step (limit : in word; total : out word);" (called ? " REQUIRES " called ";" : "")
+            print "OPERATION step IS count : word := 0; scale : word := 3; BEGIN"
+            more = line (called ? called " (count, scale);\n" : "")
+            for (n = 250 + length(more); n < size / count; n += length(more)) printf "%s", more
+            print "total := scale;\nEND step;\nEND unit_" k ";"
+        }
+        print "OBJECT a IS CYCLIC " attributes "\nTHREAD work (1);\nEND THREAD;\nEND a;\nEND r;\nEND d;"
+    }'
+}
+
+# Statements of all kinds in one object.
+mixed() { mixed_in 1 "$1"; }
+
+# Statements of all kinds in 100 objects.
+units() { mixed_in 100 "$1"; }
 
 # One object with so many data, each assigned once by its thread, that the text has about this many bytes.
 data() {
@@ -94,9 +119,9 @@ each() {
     }'
 }
 
-[ $# -gt 0 ] || set -- block data needs chain wide each
+[ $# -gt 0 ] || set -- block mixed units data needs chain wide each
 for form in "$@"; do
-    for verb in check format generate; do
+    for verb in check format analyse generate; do
         grow "$verb" "$form" 122880 253952 516096 1040384
     done
 done

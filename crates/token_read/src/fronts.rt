@@ -21,6 +21,7 @@ pub(crate) struct Front<'a> {
 }
 
 /// The name with these bytes at a place.
+#[inline(always)]
 #[tactic(auto, unfolding(seq_tree::specs::Lexis::name_front))]
 fn name_front<'a>(place: Place, name: &'a [u8]) -> Result<Front<'a>, LexFault>
     requires { 0 < length name.now }
@@ -38,6 +39,7 @@ fn name_front<'a>(place: Place, name: &'a [u8]) -> Result<Front<'a>, LexFault>
 }
 
 /// The number with these digits at a place, before this rest.
+#[inline(always)]
 #[tactic(auto, unfolding(seq_tree::specs::Lexis::number_front))]
 fn number_front(place: Place, digits: &[u8], rest: &[u8]) -> Result<Front<'static>, LexFault>
     requires { Fits place (length digits.now) }
@@ -60,6 +62,7 @@ fn number_front(place: Place, digits: &[u8], rest: &[u8]) -> Result<Front<'stati
 }
 
 /// The mark of one byte at a place.
+#[inline(always)]
 fn single_front(place: Place, byte: u8) -> Result<Front<'static>, LexFault>
     ensures mark { Gives front_view result (mark_front (mark_of (byte ∷ [])) place 1) }
     ensures len { IfOk result (λ f. f.len ≡ 1) }
@@ -75,6 +78,7 @@ fn single_front(place: Place, byte: u8) -> Result<Front<'static>, LexFault>
 }
 
 /// The mark at the front of a text, by its first byte and the others.
+#[inline(always)]
 #[tactic(auto, using(crate::proofs::Shared::MarkLaws::mark_fronts))]
 fn mark_front(place: Place, first: u8, rest: &[u8]) -> Result<Front<'static>, LexFault>
     ensures mark { Gives front_view result (front_by Other place (first ∷ rest.now)) }
@@ -104,6 +108,7 @@ pub(crate) enum Start {
 }
 
 /// Whether a byte is white space: a space, or tab to carriage return.
+#[inline(always)]
 pub(crate) fn is_space(byte: u8) -> bool
     ensures { result ≡ is_space byte }
 {
@@ -111,6 +116,7 @@ pub(crate) fn is_space(byte: u8) -> bool
 }
 
 /// What the first byte begins, before this rest.
+#[inline(always)]
 #[tactic(auto, unfolding(seq_tree::specs::Lexis::start_of))]
 fn start_of(first: u8, rest: &[u8]) -> Start
     ensures { start_view result ≡ start_of first rest.now }
@@ -139,6 +145,7 @@ fn comment_len(bytes: &[u8]) -> usize
 }
 
 /// What stands at the front of a text that is not empty, at its place.
+#[inline(always)]
 #[tactic(auto, using(crate::proofs::Shared::FrontLaws::fronts))]
 pub(crate) fn front_of<'a>(
     place: Place,

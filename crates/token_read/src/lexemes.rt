@@ -65,6 +65,7 @@ impl Folded {
     }
 
     // These bytes in lower case.
+    #[inline(always)]
     fn lowered(bytes: &[u8]) -> Folded
         requires { length bytes.now ≤ 64 }
         ensures { result ≡ str_to_ascii_lowercase bytes.now }
@@ -87,6 +88,7 @@ impl Folded {
 }
 
 /// Whether bytes, folded to lower case, are these.
+#[inline(always)]
 fn folds_to(bytes: &[u8], text: &[u8]) -> bool
     ensures { result ≡ bytes_eq (str_to_ascii_lowercase bytes.now) text.now }
 {
@@ -115,6 +117,7 @@ impl<'a> Word<'a> {
     ghost use Rattle.token_read.specs.Lexemes.{word_bytes};
 
     /// Whether the word, folded to lower case, has these bytes.
+    #[inline(always)]
     pub fn is(self, text: &[u8]) -> bool
         ensures { result ≡ bytes_eq (word_bytes self.entry) text.now }
     {
@@ -125,6 +128,7 @@ impl<'a> Word<'a> {
     }
 
     /// The bytes of the word, folded to lower case, without memory.
+    #[inline(always)]
     pub fn folded(self) -> Folded
         ensures { result ≡ word_bytes self.entry }
     {

@@ -24,6 +24,7 @@ pub struct Tokens<'a> {
 }
 
 /// What stands at the front of a text, a token, or white space or a comment, and the bytes behind it; none where there is a fault.
+#[inline(always)]
 #[tactic(auto, using(crate::proofs::Shared::BehindSteps::front_steps))]
 fn step_of<'a>(bytes: &'a [u8], first: u8, rest: &'a [u8]) -> Option<(Option<Lexeme<'a>>, &'a [u8])>
     requires few { length bytes.now ≤ 16777216 }
@@ -47,6 +48,7 @@ fn step_of<'a>(bytes: &'a [u8], first: u8, rest: &'a [u8]) -> Option<(Option<Lex
 }
 
 /// What stands at the front of a text without faults: a token, or white space or a comment; and the bytes behind it.
+#[inline(always)]
 fn front_and_rest<'a>(bytes: &'a [u8], first: u8, rest: &'a [u8]) -> (Option<Lexeme<'a>>, &'a [u8])
     requires few { length bytes.now ≤ 16777216 }
     requires whole { is_whole bytes.now ≡ true }
@@ -62,6 +64,7 @@ fn front_and_rest<'a>(bytes: &'a [u8], first: u8, rest: &'a [u8]) -> (Option<Lex
 }
 
 /// The first token of a text without faults and the bytes behind it, where there is one.
+#[inline(always)]
 fn next_of<'a>(bytes: &'a [u8]) -> Option<(Lexeme<'a>, &'a [u8])>
     requires few { length bytes.now ≤ 16777216 }
     requires whole { is_whole bytes.now ≡ true }
@@ -149,6 +152,7 @@ impl<'a> Tokens<'a> {
     ghost use Rattle.token_read.specs.Lexemes.{token_of};
 
     // The tokens of a list and then those of a text, so many.
+    #[inline(always)]
     #[tactic(auto, unfolding(crate::specs::Ahead::ahead))]
     fn from(listed: &'a [Spanned], text: &'a [u8], count: usize) -> Tokens<'a>
         requires few { length text.now ≤ 16777216 }
@@ -217,6 +221,7 @@ impl<'a> Tokens<'a> {
     }
 
     /// The first token, where there is one.
+    #[inline(always)]
     #[tactic(auto, unfolding(crate::specs::Ahead::ahead))]
     pub fn first(self) -> Option<Lexeme<'a>>
         ensures { option_map token_of result ≡ first (ahead self.entry) }
@@ -225,6 +230,7 @@ impl<'a> Tokens<'a> {
     }
 
     /// The first token and those after it, where there is one.
+    #[inline(always)]
     #[tactic(auto, unfolding(crate::specs::Ahead::ahead))]
     pub fn split_first(self) -> Option<(Lexeme<'a>, Tokens<'a>)>
         ensures { Splits result (ahead self.entry) }

@@ -10,6 +10,7 @@ ghost use Rattle.ada_tree.specs.Reading.{Reads};
 ghost use Rattle.ada_tree.specs.Spelling.{program_lines, program_tokens};
 ghost use Rattle.ada_tree.specs.Words.{is_ada_name};
 ghost use Rattle.ada_print.specs.Writable.{is_writable};
+ghost use Rattle.seq_tree.specs.Limits.{ada_limit};
 
 /// The text of a proper program whose names and numbers can be read reads as the same program, within the limit of bytes; comments
 /// before it change nothing.
@@ -17,7 +18,7 @@ pub fn reads_back()
     ensures reads { (p : Program)
         → IsProperProgram (within_limits is_ada_name) p
         → IsTrue (is_writable p)
-        → length (layout (program_lines p)) ≤ 16777216
+        → length (layout (program_lines p)) ≤ ada_limit
         → Reads (layout (program_lines p)) p }
     ensures tokens { (p : Program) (comments : List (List ℕ))
         → IsTrue (is_writable p)

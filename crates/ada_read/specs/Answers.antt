@@ -1,6 +1,7 @@
 -- What the reader of an Ada text answers, by cases. A place is the line and the column of a token, or of the end of the text.
 -- Lexical faults come before those of syntax and depth, and these before the rules of a program.
 use Rattle.std.specs.Prelude.{◌≡◌, ℕ, List, Option, Result, Ok, Err, ⊤}
+use Rattle.seq_tree.specs.Limits.{ada_limit}
 use Rattle.seq_tree.specs.Names.{Name}
 use Rattle.seq_tree.specs.Reach.{Fault}
 use Rattle.seq_tree.specs.Proper.{within_limits, without_limits}
@@ -46,11 +47,11 @@ AnyProgram text = (p : Program) × IsProperProgram (without_limits is_ada_name) 
 
 -- a text that is short enough, and whose tokens have this fault at this place
 abbrev pub IsFaultyAt : List ℕ → Place → (ℕ → Fault) → Type 0
-IsFaultyAt bytes place kind = texts.IsFaultyAt AnyProgram SomeProgram 16777216 bytes place kind
+IsFaultyAt bytes place kind = texts.IsFaultyAt AnyProgram SomeProgram ada_limit bytes place kind
 
 -- what a fault says
 abbrev pub Faults : List ℕ → TextFault → Type 0
-Faults bytes fault = texts.Faults AnyProgram SomeProgram 16777216 bytes fault
+Faults bytes fault = texts.Faults AnyProgram SomeProgram ada_limit bytes fault
 
 -- a text that reads as one program, and as no other, which breaks this rule first, at this unit
 pub record Breaks (bytes : List ℕ) (rule : AdaRule) (unit : Option Name) : Type 0 where

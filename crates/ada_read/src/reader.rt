@@ -10,12 +10,12 @@ use crate::program::whole;
 use ada_rules::{RuleBreak, check_program};
 use ada_tree::AdaProgram;
 use seq_read::{Halt, place_of};
-use seq_tree::TextFault;
+use seq_tree::{ADA_LIMIT, TextFault};
 use std::alloc::Global;
 use token_read::{LexFault, Tokens};
 
 /// The most bytes that a text may have.
-const MOST_BYTES: usize = 16_777_216;
+const MOST_BYTES: usize = ADA_LIMIT;
 
 /// The fault of a text that has no tokens.
 fn misread(fault: LexFault) -> AdaFault

@@ -5,6 +5,7 @@ use Rattle.std.proofs.lemmas.Bool.{leb-true, leb-false}
 use Rattle.std.proofs.lemmas.List.{length-map}
 use Rattle.grammar.specs.Reading.{Syntax, IsFirstFault, whole_at}
 use Rattle.grammar.proofs.Shared.Whole.{whole-found, whole-only, whole-fault}
+use Rattle.seq_tree.specs.Limits.{text_limit}
 use Rattle.seq_tree.specs.Reach.{IsReach, IsSyntaxFault}
 use Rattle.seq_tree.specs.Reach as reach
 use Rattle.seq_tree.specs.Lexis.{tokens}
@@ -85,9 +86,9 @@ fault_of_tokens ts left e =
     let f = whole-fault IsArrivals AtEnd arrivals_at reads-arrivals (λ _. refl) ts (Syntax left) e in
     record { reach = reach_of ts left f; limited = reach_of ts left f; none = λ t. f.no_text t.0 t.1 }
 
-pub arrivals-faulty : (bytes : List ℕ) (ts : List Spanned) (left : ℕ) (place : Place) → length bytes ≤ 1048576 → tokens bytes ≡ Ok ts
+pub arrivals-faulty : (bytes : List ℕ) (ts : List Spanned) (left : ℕ) (place : Place) → length bytes ≤ text_limit → tokens bytes ≡ Ok ts
     → whole_at arrivals_at (bare ts) ≡ Err (Syntax left) → place ≡ place_at bytes ts left →
-    IsFaultyAt AnyArrivals AnyArrivals 1048576 bytes place reach.Syntax
+    IsFaultyAt AnyArrivals AnyArrivals text_limit bytes place reach.Syntax
 arrivals-faulty bytes ts left place short read e here =
     let f = whole-fault IsArrivals AtEnd arrivals_at reads-arrivals (λ _. refl) (bare ts) (Syntax left) e in
     let same : left ≡ length ts - (length (bare ts) - left)

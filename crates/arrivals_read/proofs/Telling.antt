@@ -2,6 +2,7 @@
 use Rattle.std.proofs.Common.{◌≡◌, ℕ, zero, suc, ◌+◌, ◌<◌, ◌≤◌, List, [], ◌∷◌, ◌++◌, length, flat_map, slice_get, Option, Some, None, Ok, Err}
 use Rattle.std.proofs.Common.{refl, sym, ap, subst, ◌∙◌, arith, length-append}
 use Rattle.std.proofs.lemmas.List.{length-map}
+use Rattle.seq_tree.specs.Limits.{text_limit}
 use Rattle.seq_tree.specs.Faults.{or_else}
 use Rattle.seq_tree.specs.Names.{Name}
 use Rattle.seq_tree.specs.Lexis.{tokens, plain}
@@ -70,7 +71,7 @@ wrong-within p t w e =
     (λ h. let more = request_within p [] (3 + length works) t.requests w h in omega (arith, long, more)) e
 
 -- WHAT IS ANSWERED
-pub text-of : (bytes : List ℕ) (found : List Spanned) (t : ArrivalText) → length bytes ≤ 1048576 → tokens bytes ≡ Ok found
+pub text-of : (bytes : List ℕ) (found : List Spanned) (t : ArrivalText) → length bytes ≤ text_limit → tokens bytes ≡ Ok found
     → bare found ≡ arrival_tokens t → IsText bytes found t
 text-of bytes found t short read spelled = record { within = short; read = read; spelled = spelled }
 

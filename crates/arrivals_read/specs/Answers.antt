@@ -1,6 +1,7 @@
 -- What the reader of arrivals answers, by cases. A place is the line and the column of a token, or of the end of the text.
 -- A text that is too long is told first, then lexical faults, then those of syntax, then the horizon, then the items in their order.
 use Rattle.std.specs.Prelude.{◌≡◌, ℕ, ◌<◌, ◌≤◌, List, length, slice_get, Some, Result, Ok, Err, ⊤}
+use Rattle.seq_tree.specs.Limits.{text_limit}
 use Rattle.seq_tree.specs.Names.{Name}
 use Rattle.seq_tree.specs.Lexis.{tokens}
 use Rattle.seq_tree.specs.declared.token.Token.{Token}
@@ -35,11 +36,11 @@ AnyArrivals text = (t : ArrivalText) × (text ≡ arrival_tokens t)
 
 -- what a fault of the text says; nothing in arrivals nests
 abbrev pub Faults : List ℕ → TextFault → Type 0
-Faults bytes found = texts.Faults AnyArrivals AnyArrivals 1048576 bytes found
+Faults bytes found = texts.Faults AnyArrivals AnyArrivals text_limit bytes found
 
 -- bytes that are few enough, their tokens with their places, and the text of arrivals that has these tokens
 pub record IsText (bytes : List ℕ) (found : List Spanned) (t : ArrivalText) : Type 0 where
-  pub within : length bytes ≤ 1048576
+  pub within : length bytes ≤ text_limit
   pub read : tokens bytes ≡ Ok found
   pub spelled : bare found ≡ arrival_tokens t
 

@@ -8,6 +8,7 @@ ghost use Rattle.arrivals_read.specs.Found.{Tells};
 ghost use Rattle.arrivals_read.specs.Texts.{text_of};
 ghost use Rattle.seq_tree.specs.Lexis.{plain, tokens};
 ghost use Rattle.token_read.specs.Lexemes.{word_bytes};
+ghost use Rattle.seq_tree.specs.Limits.{text_limit};
 
 use crate::checks::Cause;
 use crate::fault::ArrivalFault;
@@ -16,15 +17,12 @@ use crate::text::{Text, whole};
 use ada_tree::AdaProgram;
 use arrivals_tree::Arrivals;
 use seq_read::place_of;
-use seq_tree::{NoMemory, TextFault};
+use seq_tree::{NoMemory, TEXT_LIMIT, TICK_LIMIT, TextFault};
 use std::alloc::Global;
 use token_read::{LexFault, ReadFault, Tokens, Word, place_behind};
 
-/// The most bytes that a text of arrivals may have.
-const TEXT_LIMIT: usize = 1_048_576;
-
 /// The farthest horizon, in ticks.
-const HORIZON_LIMIT: u32 = 1_000_000_000;
+const HORIZON_LIMIT: u32 = TICK_LIMIT;
 
 /// The fault of a text that has no tokens.
 fn misread(fault: LexFault) -> ArrivalFault
@@ -59,8 +57,8 @@ fn accepted(
     program: &AdaProgram,
 ) -> Result<Arrivals, ArrivalFault>
     requires few { length (program_of program.now).units < 4294967296 }
-    requires short { length bytes.now ≤ 1048576 }
-    requires sized { length (arrival_tokens (text_of text.now)) ≤ 1048576 }
+    requires short { length bytes.now ≤ text_limit }
+    requires sized { length (arrival_tokens (text_of text.now)) ≤ text_limit }
     requires spelled { plain (tokens bytes.now) ≡ Ok (arrival_tokens (text_of text.now)) }
     ensures { Says bytes.now (program_of program.now) result }
 {

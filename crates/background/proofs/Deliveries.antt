@@ -5,6 +5,7 @@ use Rattle.std.specs.Prelude.{refl}
 use Rattle.std.specs.List.{list_any, cons_option}
 use Rattle.std.proofs.Common.{sym, ap, subst, ◌∙◌, arith, map}
 use Rattle.std.proofs.lemmas.List.Elements.{filter_map-append}
+use Rattle.seq_tree.specs.Limits.{ada_limit}
 use Rattle.seq_tree.specs.Proper.{within_limits}
 use Rattle.ods_tree.specs.Designs.{Object, Tree, Trees, Node, Empty, With, Design}
 use Rattle.ods_tree.specs.Flattening.{flat}
@@ -272,7 +273,7 @@ module _ (w : Design) where
             right-text : (bytes : List ℕ) → Reads bytes w → IsGuaranteedInBackground horizon_limit x d.text.items v
             right-text bytes reads =
                 let G : List ℕ → Type 0 = λ t. IsGuaranteedInBackground horizon_limit x t v in
-                let S : List ℕ → Type 0 = λ t. length t ≤ 16777216 in
+                let S : List ℕ → Type 0 = λ t. length t ≤ ada_limit in
                 subst G (sym text-made) (text-guaranteed w bytes reads (all-passed calm) v least.fits horizon_limit (subst S text-made m.short))
 
             made : IsBackgroundOf w d
@@ -305,7 +306,7 @@ module _ (w : Design) where
               }
           delivered (Err refusal.Long) h =
               let L : List ThreadRow → Type 0 = λ rows. IsLeastVector rows h.1.bounds in
-              let G : List ℕ → Type 0 = λ t. 16777216 < length t in
+              let G : List ℕ → Type 0 = λ t. ada_limit < length t in
               record {
                 passes = all-passed h.0;
                 bounds = h.1.bounds;

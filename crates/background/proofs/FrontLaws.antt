@@ -3,6 +3,7 @@ use Rattle.std.specs.Prelude.{◌≡◌, ℕ, ◌-◌, ◌==◌, ◌&&◌, Bool,
 use Rattle.std.specs.Prelude.{Some, filter_map, flat_map, zip, take, if◌then◌else◌, refl}
 use Rattle.std.proofs.Common.{sym, ◌∙◌, ap, subst, arith, inl, inr}
 use Rattle.std.proofs.lemmas.Option.{same_Some}
+use Rattle.seq_tree.specs.Limits.{tick_limit}
 use Rattle.seq_tree.specs.Layout.{layout}
 use Rattle.seq_tree.specs.Names.{Name, are_distinct}
 use Rattle.ods_tree.specs.Designs.{Object, Design}
@@ -52,22 +53,22 @@ module _ (x : Design) (quick : slow_threads x ≡ []) (sound : IsSound (flat (ha
   thread-names = distinct-last (map (λ g. g.name) f.shared) (map (λ t. t.name) f.threads)
       (distinct-last (map (λ l. l.name) f.passive) (map (λ g. g.name) f.shared ++ map (λ t. t.name) f.threads) sound.formed.names)
 
-  self : (n : ℕ) → n ≡ 1000000000 → (n == 1000000000) ≡ true
-  self n e = ap (λ z. z == 1000000000) e
+  self : (n : ℕ) → n ≡ tick_limit → (n == tick_limit) ≡ true
+  self n e = ap (λ z. z == tick_limit) e
 
-  is : (n : ℕ) → (n == 1000000000) ≡ true → n ≡ 1000000000
+  is : (n : ℕ) → (n == tick_limit) ≡ true → n ≡ tick_limit
   is n e = grind arith
 
   -- the thread of a client has its name and is slow
   client-is : (o : Object) (t : Thread) → is_client o ≡ true → thread_by (hard_part x) (hard_object o) ≡ Some t
-      → (t.name ≡ o.name) × (t.deadline ≡ 1000000000)
+      → (t.name ≡ o.name) × (t.deadline ≡ tick_limit)
   client-is o t e made =
       let c = client-thread (hard_part x) o e in
       let same : c.thread ≡ t = same_Some c.thread t (sym c.made ∙ made) in
       (ap (λ z. z.name) (sym same) ∙ c.named, ap (λ z. z.deadline) (sym same) ∙ c.deadline)
 
   -- a thread with the name of a client is slow
-  named-slow : (t : Thread) → IsIn t f.threads → is_client_name x t.name ≡ true → t.deadline ≡ 1000000000
+  named-slow : (t : Thread) → IsIn t f.threads → is_client_name x t.name ≡ true → t.deadline ≡ tick_limit
   named-slow t h e =
       let n = from-map (λ (o : Object). o.name) (clients x) t.name (named-at (map (λ (o : Object). o.name) (clients x)) t.name e) in
       let o = in-filter is_client n.0 (terminal_objects x) n.1 in
@@ -85,7 +86,7 @@ module _ (x : Design) (quick : slow_threads x ≡ []) (sound : IsSound (flat (ha
       s : (o : Object) × IsIn o (terminal_objects x) × (thread_by (hard_part x) (hard_object o) ≡ Some t)
       s = thread-source x quick t h
 
-      none : (b : Bool) → is_client_name x t.name ≡ b → (t.deadline ≡ 1000000000 → ⊥) → is_slow t ≡ b
+      none : (b : Bool) → is_client_name x t.name ≡ b → (t.deadline ≡ tick_limit → ⊥) → is_slow t ≡ b
       none true e far = absurd (far (named-slow t h e))
       none false e far = not-slow (is_slow t) refl
         where

@@ -2,6 +2,7 @@
 use Rattle.std.proofs.Common.{◌≡◌, ℕ, ◌<◌, List, [], ◌∷◌, length, take, None, Result, Ok, Err, refl, sym, ap, subst, ◌∙◌}
 use Rattle.std.specs.Prelude.{max}
 use Rattle.std.proofs.lemmas.List.{length-map}
+use Rattle.seq_tree.specs.Limits.{ada_limit}
 use Rattle.rt_response.specs.Response.{IsLeastVector}
 use Rattle.design_bounds.proofs.Shared.TablePlaces.{ranks-long}
 use Rattle.analysis.specs.Priorities.{priorities_of}
@@ -73,7 +74,7 @@ module _ (first : ℕ) (f g : Flat) (set : g ≡ restless_flat f) (r : Ranks) (u
   finished (Err (refusal.Broken broken)) h = absurd h
   finished (Err (refusal.Miss thread miss)) h = absurd h
   finished (Err refusal.Long) h =
-      record { bounds = v; least = least; long = (let L : List ℕ → Type 0 = λ t. 16777216 < length t in subst L text-same h) }
+      record { bounds = v; least = least; long = (let L : List ℕ → Type 0 = λ t. ada_limit < length t in subst L text-same h) }
   finished (Err refusal.NoMemory) h = tt
 
 -- a set flat design and raised numbers have as many entries as before

@@ -1,6 +1,7 @@
 -- What is made of a design with background objects, by cases: a text with its guarantee, or the first cause for which there is none.
 -- The order of the causes is: the version, the background objects, the rules of the hard part, requests by clients, the bounds, the length.
 use Rattle.std.specs.Prelude.{◌≡◌, ℕ, ◌≤◌, ◌<◌, List, length, Option, Some, None, Result, Ok, Err, ⊤}
+use Rattle.seq_tree.specs.Limits.{ada_limit}
 use Rattle.seq_tree.specs.Names.{Name}
 use Rattle.ods_tree.specs.Designs.{Design}
 use Rattle.ods_tree.specs.Reading.{Reads}
@@ -30,7 +31,7 @@ pub record IsBackgroundOf (x : Design) (d : Background) : Type 0 where
   pub bounds : List Bound
   pub least : IsLeastVector (hard_rows (in_ticks x)) bounds
   pub made : d.text.items ≡ background_text (in_ticks x) bounds
-  pub short : length d.text.items ≤ 16777216
+  pub short : length d.text.items ≤ ada_limit
   pub named : d.bounds.items ≡ background_bounds (in_ticks x) bounds
   pub ceilings : d.ceilings.items ≡ (background_ranks (in_ticks x)).shared
   -- every run of the program is right, for all arrivals that keep the separations of the hard part
@@ -56,7 +57,7 @@ pub record IsLongInBackground (x : Design) : Type 0 where
   pub passes : IsBackgroundDesign x
   pub bounds : List Bound
   pub least : IsLeastVector (hard_rows (in_ticks x)) bounds
-  pub long : 16777216 < length (background_text (in_ticks x) bounds)
+  pub long : ada_limit < length (background_text (in_ticks x) bounds)
 
 -- why there is no text
 abbrev pub IsRefusedInBackground : Design → BackgroundRefusal → Type 0

@@ -2,6 +2,7 @@
 -- It is said of flat designs alone; those of the hard part of a design have such threads for its clients and for no others.
 use Rattle.std.specs.Prelude.{ℕ, ◌-◌, ◌==◌, ◌&&◌, Bool, false, List, ◌++◌, map, filter, filter_map, find, flat_map, zip, take, length, slice_get}
 use Rattle.std.specs.Prelude.{Option, None, Some, option_map, option_and_then, if◌then◌else◌}
+use Rattle.seq_tree.specs.Limits.{tick_limit}
 use Rattle.seq_tree.specs.Layout.{layout}
 use Rattle.seq_tree.specs.Names.{Name}
 use Rattle.ods_tree.specs.Flats.{Cyclic, Thread, Flat}
@@ -22,7 +23,7 @@ use Rattle.background_designs.specs.Programs.{raised}
 
 -- whether a thread has the longest deadline
 abbrev pub is_slow : Thread → Bool
-is_slow t = t.deadline == 1000000000
+is_slow t = t.deadline == tick_limit
 
 -- the number of such threads, and of the others
 abbrev pub slow_count : Flat → ℕ

@@ -1,6 +1,7 @@
 -- What is made of the flat design of a hard part, by cases: a text, or the first cause for which there is none.
 -- The order of the causes is: requests by slow threads, the bounds, the length.
 use Rattle.std.specs.Prelude.{◌≡◌, ℕ, ◌+◌, ◌-◌, ◌≤◌, ◌<◌, List, [], ◌++◌, filter_map, length, zip, Some, Result, Ok, Err, ⊤}
+use Rattle.seq_tree.specs.Limits.{ada_limit}
 use Rattle.seq_tree.specs.Layout.{layout}
 use Rattle.seq_tree.specs.Lists.{Each}
 use Rattle.seq_tree.specs.Names.{Name}
@@ -43,7 +44,7 @@ bounds_for first f r places rows v = filter_map (named_at f (numbered first r.th
 -- a text for any numbers and rows, and what goes with it
 pub record IsFinished (first : ℕ) (f : Flat) (r : Ranks) (places : List ℕ) (rows : List ThreadRow) (v : List Bound) (d : Background) : Type 0 where
   pub made : d.text.items ≡ text_for first f r places v
-  pub short : length d.text.items ≤ 16777216
+  pub short : length d.text.items ≤ ada_limit
   pub named : d.bounds.items ≡ bounds_for first f r places rows v
   pub ceilings : d.ceilings.items ≡ numbered first r.shared
 
@@ -53,7 +54,7 @@ Finishes first f r places rows v (Ok d) = IsFinished first f r places rows v d
 Finishes first f r places rows v (Err (Rule rule)) = ⊥
 Finishes first f r places rows v (Err (Broken broken)) = ⊥
 Finishes first f r places rows v (Err (Miss thread miss)) = ⊥
-Finishes first f r places rows v (Err Long) = 16777216 < length (text_for first f r places v)
+Finishes first f r places rows v (Err Long) = ada_limit < length (text_for first f r places v)
 Finishes first f r places rows v (Err NoMemory) = ⊤
 
 -- the text with the least bounds, and what goes with it; the least priority is written as this number
@@ -61,7 +62,7 @@ pub record IsMade (first : ℕ) (f : Flat) (d : Background) : Type 0 where
   pub bounds : List Bound
   pub least : IsLeastVector (front_rows f) bounds
   pub made : d.text.items ≡ restless_text first f bounds
-  pub short : length d.text.items ≤ 16777216
+  pub short : length d.text.items ≤ ada_limit
   pub named : d.bounds.items ≡ restless_bounds first f bounds
   pub ceilings : d.ceilings.items ≡ (restless_ranks first f).shared
 
@@ -79,7 +80,7 @@ pub record IsMissed (f : Flat) (thread : Name) (miss : rows.Miss) : Type 0 where
 pub record IsLong (first : ℕ) (f : Flat) : Type 0 where
   pub bounds : List Bound
   pub least : IsLeastVector (front_rows f) bounds
-  pub long : 16777216 < length (restless_text first f bounds)
+  pub long : ada_limit < length (restless_text first f bounds)
 
 -- why there are no bounds
 abbrev pub IsUnbounded : Flat → BackgroundRefusal → Type 0

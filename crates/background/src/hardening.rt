@@ -10,7 +10,7 @@ ghost use Rattle.background.specs.Hardening.{client_attributes, retyped};
 use crate::clients::{is_client, is_server};
 use ods_index::is_terminal;
 use ods_tree::{Attr, AttrKey, Constraint, Design, Kind, Node, Provided};
-use seq_tree::{Mode, NoMemory, Param};
+use seq_tree::{Mode, NoMemory, Param, TICK_LIMIT};
 use std::alloc::Global;
 
 /// Whether a mode hands a value out.
@@ -78,7 +78,7 @@ fn longest(key: AttrKey) -> Attr
 {
     Attr {
         key,
-        value: 1_000_000_000,
+        value: TICK_LIMIT,
         unit: None,
     }
 }

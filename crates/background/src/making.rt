@@ -28,12 +28,12 @@ use ods_tree::Flat;
 use rt_block::blocking;
 use rt_order::order;
 use rt_response::{Bound, Miss, respond};
-use seq_tree::NoMemory;
+use seq_tree::{ADA_LIMIT, NoMemory};
 use std::alloc::Global;
 use trace_text::NamedBound;
 
 /// The most bytes that an Ada text may have.
-const MOST_BYTES: usize = 16_777_216;
+const MOST_BYTES: usize = ADA_LIMIT;
 
 /// The refusal of a value over its limit, with the thread of its row.
 fn missed(alloc: Global, flat: &Flat, table: &Table, miss: Miss) -> BackgroundRefusal

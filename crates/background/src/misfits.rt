@@ -11,12 +11,13 @@ ghost use Rattle.ods_index.specs.Walking.{object_of, parent_of, standing_of};
 ghost use Rattle.background.specs.Parts.{bad_needs, bad_objects, breaks, do_so, first_need, is_slow_thread, may_not, need_fault, serves};
 ghost use Rattle.background.specs.Parts.{told_by, told_need};
 ghost use Rattle.background.specs.Told.{Tells, misfit_of};
+ghost use Rattle.seq_tree.specs.Limits.{tick_limit};
 
 use crate::clients::{any_waits, is_active, is_client, is_hser, is_server};
 use crate::delivery::{BackgroundRefusal, BackgroundRule};
 use ods_index::{Index, Standing, has_thread, is_empty, is_terminal};
 use ods_tree::{Attr, AttrKey, Constraint, Design, Node, Provided};
-use seq_tree::{Name, NoMemory, OpName};
+use seq_tree::{Name, NoMemory, OpName, TICK_LIMIT};
 use std::alloc::Global;
 
 /// What is asked of each object by itself.
@@ -128,10 +129,10 @@ fn is_deadline(key: AttrKey) -> bool
 
 /// Whether some deadline is the longest, which clients have.
 fn any_slow(attrs: &[Attr]) -> bool
-    ensures { result ≡ list_any (λ a. has_key Deadline a && a.value == 1000000000) attrs.now }
+    ensures { result ≡ list_any (λ a. has_key Deadline a && a.value == tick_limit) attrs.now }
 {
     'attrs: for attr in attrs {
-        if is_deadline(attr.key) && attr.value == 1_000_000_000 {
+        if is_deadline(attr.key) && attr.value == TICK_LIMIT {
             return true;
         }
     }

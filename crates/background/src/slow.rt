@@ -4,12 +4,13 @@ ghost use Rattle.background.specs.Fronts.{at_once, is_slow, restless_flat};
 ghost use Rattle.background_designs.specs.Misfits.{is_sporadic};
 
 use ods_tree::{Flat, FlatThread, Timing};
+use seq_tree::TICK_LIMIT;
 
 /// Whether a thread has the deadline of clients, which no hard thread has.
 pub(crate) fn is_slow(thread: &FlatThread) -> bool
     ensures { result ≡ is_slow (thread_of thread.now) }
 {
-    thread.deadline == 1_000_000_000
+    thread.deadline == TICK_LIMIT
 }
 
 /// Whether a thread is sporadic.

@@ -2,6 +2,7 @@
 use Rattle.trace_text.proofs.Shared.Names.{unit_name-read}
 use Rattle.std.proofs.Common.{◌≡◌, ◌≤◌, ℕ, List, [], ◌∷◌, ◌++◌, map, length, refl, sym, ap, ◌∙◌, subst}
 use Rattle.std.proofs.lemmas.List.{length-map}
+use Rattle.seq_tree.specs.Limits.{tick_limit}
 use Rattle.seq_tree.specs.Names.{Name}
 use Rattle.seq_tree.specs.Operations.{Operation}
 use Rattle.seq_tree.specs.Trees.{offer_of, operation_of}
@@ -50,7 +51,7 @@ pub is-scene : (s : Scene) → calls_of s ≡ leads_to (software_of s) → Meets
 is-scene s led meets quick = record {
   rules = meets;
   calls = led;
-  ticks = subst (λ z. AllIn (λ b. (depth : ℕ) → most_ticks (program_in s).costs z depth b ≤ 1000000000) (program_in s)) (sym led) quick;
+  ticks = subst (λ z. AllIn (λ b. (depth : ℕ) → most_ticks (program_in s).costs z depth b ≤ tick_limit) (program_in s)) (sym led) quick;
 }
 
 pub ruleset name_steps = (unit_name-read)

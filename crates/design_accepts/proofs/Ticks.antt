@@ -6,6 +6,7 @@ use Rattle.std.specs.List.{list_any, list_all, cons_option}
 use Rattle.std.proofs.lemmas.Bool.{or_parts, and_parts, false_from_ne_true, leb-true}
 use Rattle.std.proofs.lemmas.List.Folds.{list_any-append}
 use Rattle.std.proofs.lemmas.Option.{none-some, same_Some}
+use Rattle.seq_tree.specs.Limits.{tick_limit}
 use Rattle.seq_tree.specs.Names.{Name}
 use Rattle.seq_tree.specs.Lists.{Each}
 use Rattle.seq_tree.specs.Operations.{Operation}
@@ -39,14 +40,14 @@ use Rattle.trace_scripts.specs.Scenes.{AllBlocks, AllIn}
 
 -- numbers of `work`
 abbrev AreWithin : List ℕ → Type 0
-AreWithin ns = list_any (is_outside 1 1000000000) ns ≡ false
+AreWithin ns = list_any (is_outside 1 tick_limit) ns ≡ false
 
 within-parts : (ns ms : List ℕ) → AreWithin (ns ++ ms) → AreWithin ns × AreWithin ms
-within-parts ns ms e = or_parts (list_any (is_outside 1 1000000000) ns) _ (sym (list_any-append (is_outside 1 1000000000) ns ms) ∙ e)
+within-parts ns ms e = or_parts (list_any (is_outside 1 tick_limit) ns) _ (sym (list_any-append (is_outside 1 tick_limit) ns ms) ∙ e)
 
 some-work : (n : ℕ) → AreWithin (n ∷ []) → max 1 n ≤ n
 some-work n e =
-    let h : nat_lt n 1 ≡ false = (or_parts _ _ (or_parts (is_outside 1 1000000000 n) _ e).0).0 in
+    let h : nat_lt n 1 ≡ false = (or_parts _ _ (or_parts (is_outside 1 tick_limit n) _ e).0).0 in
     let one : 1 ≤ n = grind arith in
     grind (arith, one)
 
@@ -202,10 +203,10 @@ module _ (p : Program) (meets : MeetsRules p) where
   block-cheap depth b e = block-less p.costs (called_ticks p.costs (leads_to ws) depth) cost_of (called-less depth) b e
 
   abbrev IsCheap : Statements → Type 0
-  IsCheap b = block_cost p.costs ss b ≤ 1000000000
+  IsCheap b = block_cost p.costs ss b ≤ tick_limit
 
   abbrev IsQuick : Statements → Type 0
-  IsQuick b = (depth : ℕ) → most_ticks p.costs (leads_to ws) depth b ≤ 1000000000
+  IsQuick b = (depth : ℕ) → most_ticks p.costs (leads_to ws) depth b ≤ tick_limit
 
   quick : (b : Statements) → AreWithin (block_works b) → IsCheap b → IsQuick b
   quick b e cheap depth = let less = block-cheap depth b e in omega (arith, less, cheap)
@@ -250,7 +251,7 @@ module _ (x : Design) (sound : IsSound (flat x)) where
   p = program x
 
   abbrev costs_in : List Service → Statements → Type 0
-  costs_in ss b = block_cost x.costs ss b ≤ 1000000000
+  costs_in ss b = block_cost x.costs ss b ≤ tick_limit
 
   ops-cheap : (gs : List Guarded) → Each (Each (λ o. costs_in (flat_services (flat x)) o.block)) (map (λ g. g.ops) gs)
       → Each (λ g. Each (λ o. costs_in (flat_services (flat x)) o.block) g.ops) gs
@@ -266,17 +267,17 @@ module _ (x : Design) (sound : IsSound (flat x)) where
       ops-cheap (flat x).shared
       (each-back (Each (λ o. costs_in (flat_services (flat x)) o.block)) (map (λ l. l.ops) (flat x).passive) (map (λ g. g.ops) (flat x).shared)
       (all-each (Each (λ o. costs_in (flat_services (flat x)) o.block)) _
-      (λ os e. all-each (λ o. costs_in (flat_services (flat x)) o.block) _ (λ o k. less-is _ 1000000000 k) os e) (entry_ops (flat x)) sound.op_costs))
+      (λ os e. all-each (λ o. costs_in (flat_services (flat x)) o.block) _ (λ o k. less-is _ tick_limit k) os e) (entry_ops (flat x)) sound.op_costs))
 
-  tasks-cheap : (ts : List Thread) → list_all (λ t. nat_le (activation_cost (flat x) t) 1000000000) ts ≡ true
+  tasks-cheap : (ts : List Thread) → list_all (λ t. nat_le (activation_cost (flat x) t) tick_limit) ts ≡ true
       → Each (λ t. costs_in (flat_services (flat x)) t.block) (map task_of ts)
   tasks-cheap [] e = tt
   tasks-cheap (t ∷ ts) e =
-      let es = and_parts (nat_le (activation_cost (flat x) t) 1000000000) _ e in
-      let one = less-is (activation_cost (flat x) t) 1000000000 es.0 in
+      let es = and_parts (nat_le (activation_cost (flat x) t) tick_limit) _ e in
+      let one = less-is (activation_cost (flat x) t) tick_limit es.0 in
       (omega (arith, one), tasks-cheap ts es.1)
 
-  pub program-quick : MeetsRules p → AllIn (λ b. (depth : ℕ) → most_ticks p.costs (leads_to (program_software p)) depth b ≤ 1000000000) p
+  pub program-quick : MeetsRules p → AllIn (λ b. (depth : ℕ) → most_ticks p.costs (leads_to (program_software p)) depth b ≤ tick_limit) p
   program-quick meets =
       let same : all_services (program_software p) ≡ flat_services (flat x) = ap all_services (program-software x) ∙ same-services x in
       all-quick p meets p.units (units-work p meets)

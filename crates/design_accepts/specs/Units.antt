@@ -1,6 +1,7 @@
 -- What is told of the threads and the objects of a program along a trace: the first thread whose activations are no runs of its block, or
 -- else the first object whose operations are not run one by one.
 use Rattle.std.specs.Prelude.{◌≡◌, ℕ, ◌≤◌, not, List, find, option_map, Option, Some, None, Result, Ok, Err, ⊤}
+use Rattle.seq_tree.specs.Limits.{tick_limit}
 use Rattle.seq_tree.specs.Names.{Name}
 use Rattle.seq_eval.specs.Bounds.{most_ticks}
 use Rattle.ada_tree.specs.Programs.{Program}
@@ -28,4 +29,4 @@ SaysOf w depth told (Err _) = ⊥
 
 -- a program whose blocks take at most so many ticks
 abbrev pub IsQuick : Program → Type 0
-IsQuick p = AllIn (λ b. (depth : ℕ) → most_ticks p.costs (leads_to (program_software p)) depth b ≤ 1000000000) p
+IsQuick p = AllIn (λ b. (depth : ℕ) → most_ticks p.costs (leads_to (program_software p)) depth b ≤ tick_limit) p

@@ -2,6 +2,7 @@
 -- Budgets are those of HRT-HOOD (Burns and Wellings 1995); the limits are this project's own.
 use Rattle.std.specs.Prelude.{ℕ, suc, ◌+◌, ◌-◌, min, Bool, ◌&&◌, List, ◌++◌, filter_map, flat_map, length, nat_lt, nat_le, Option, Some, None}
 use Rattle.std.specs.Prelude.{option_to_list}
+use Rattle.seq_tree.specs.Limits.{tick_limit}
 use Rattle.seq_tree.specs.Statements.{Statements}
 use Rattle.ods_tree.specs.Designs.{Body, Object, Design}
 use Rattle.ods_tree.specs.Walk.{objects, terminals}
@@ -26,7 +27,7 @@ activation_cost x b = body_cost x b + x.costs.finish
 
 -- the greatest cost
 abbrev pub greatest_cost : ℕ
-greatest_cost = 1000000000
+greatest_cost = tick_limit
 
 -- whether a cost is over the budget, and not too great
 abbrev pub is_over : ℕ → ℕ → Bool

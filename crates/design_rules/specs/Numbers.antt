@@ -2,6 +2,7 @@
 -- The ranges are this project's own.
 use Rattle.std.specs.Prelude.{ℕ, ◌-◌, Bool, true, false, not, ◌&&◌, ◌||◌, ◌==◌, List, [], ◌∷◌, ◌++◌, flat_map, filter_map, length, nat_lt, Some, None}
 use Rattle.std.specs.List.{list_any, list_all}
+use Rattle.seq_tree.specs.Limits.{tick_limit}
 use Rattle.seq_tree.specs.Calls.{block_works}
 use Rattle.ods_tree.specs.Designs.{Object, Design}
 use Rattle.ods_tree.specs.Walk.{Standing, objects, is_terminal, is_empty}
@@ -29,15 +30,15 @@ is_foreign key o = attribute_count key o == 0
 
 -- whether the deadline and the budget are right, for this period or separation
 abbrev pub are_common_right : ℕ → Object → Bool
-are_common_right period o = is_required 1 period Deadline o && is_required 1 1000000000 ThreadBudget o
+are_common_right period o = is_required 1 period Deadline o && is_required 1 tick_limit ThreadBudget o
 
 -- whether the attributes of a terminal object are right
 abbrev pub are_attributes_right : Kind → Object → Bool
 are_attributes_right kind.Cyclic o =
-    is_required 1 1000000000 Period o && is_optional 0 1000000000 Offset o && is_foreign Separation o && is_foreign ArrivalJitter o
+    is_required 1 tick_limit Period o && is_optional 0 tick_limit Offset o && is_foreign Separation o && is_foreign ArrivalJitter o
     && are_common_right (attribute_or 0 Period o) o
 are_attributes_right kind.Sporadic o =
-    is_required 1 1000000000 Separation o && is_optional 0 (attribute_or 0 Separation o - 1) ArrivalJitter o && is_foreign Period o
+    is_required 1 tick_limit Separation o && is_optional 0 (attribute_or 0 Separation o - 1) ArrivalJitter o && is_foreign Period o
     && is_foreign Offset o
     && are_common_right (attribute_or 0 Separation o) o
 are_attributes_right _ o = is_empty o.attrs
@@ -54,7 +55,7 @@ works o = flat_map (λ b. block_works b.block) o.bodies ++ flat_map block_works 
 -- whether the numbers of an object are out of range
 abbrev pub breaks_numbers : Standing → Bool
 breaks_numbers s =
-    not (are_right (is_terminal s) s.own) || not (list_all (is_within 1 1000000000) (works s.own))
+    not (are_right (is_terminal s) s.own) || not (list_all (is_within 1 tick_limit) (works s.own))
     || list_any (λ p. nat_lt 8 (length p.sig.params)) s.own.provides
 
 -- the costs, where one is out of range

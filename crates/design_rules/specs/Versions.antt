@@ -3,6 +3,7 @@
 use Rattle.std.specs.Prelude.{ℕ, ◌*◌, ◌/◌, ◌%◌, Bool, false, not, ◌&&◌, ◌||◌, ◌==◌, List, [], ◌++◌, filter_map, nat_lt, nat_le, Option, Some}
 use Rattle.std.specs.Prelude.{None, option_to_list}
 use Rattle.std.specs.List.{list_any}
+use Rattle.seq_tree.specs.Limits.{tick_limit}
 use Rattle.ods_tree.specs.Designs.{Object, Design}
 use Rattle.ods_tree.specs.Walk.{objects, only_if}
 use Rattle.ods_tree.specs.Sound.{is_within}
@@ -13,7 +14,7 @@ use Rattle.design_rules.specs.Broken.{Broken, V17Tick, V17Priorities, V17}
 
 -- a tick that isn't 1 to 1,000,000,000 microseconds
 abbrev pub bad_tick : VersionTwo → List Broken
-bad_tick v = option_to_list (only_if (not (is_within 1 1000000000 (tick_time v))) V17Tick)
+bad_tick v = option_to_list (only_if (not (is_within 1 tick_limit (tick_time v))) V17Tick)
 
 -- whether priorities rise, or are one, from 1 to 60
 abbrev pub is_range : ℕ × ℕ → Bool

@@ -9,6 +9,7 @@ use Rattle.design_rules.specs.Broken as rules
 use Rattle.rt_response.specs.declared.rows.Bound.{Bound}
 use Rattle.rt_response.specs.declared.rows.Miss as rows
 use Rattle.rt_response.specs.Response.{IsLeastVector}
+use Rattle.seq_tree.specs.Limits.{ada_limit}
 use Rattle.seq_tree.specs.Names.{Name}
 use Rattle.background_designs.specs.Misfits as misfits
 use Rattle.background_designs.specs.Programs.{background_text, hard_rows}
@@ -166,7 +167,7 @@ refused-read bytes w r h =
     let P : designs.Design → Type 0 = λ z. IsRefusedInBackground z r in
     subst P (one-design bytes h.design w.design h.reads w.reads) h.refused
 
-not-long : (x : designs.Design) (v : List Bound) → IsLeastVector (hard_rows (in_ticks x)) v → length (background_text (in_ticks x) v) ≤ 16777216
+not-long : (x : designs.Design) (v : List Bound) → IsLeastVector (hard_rows (in_ticks x)) v → length (background_text (in_ticks x) v) ≤ ada_limit
     → IsLongInBackground x → ⊥
 not-long x v least short h =
     let bounds : h.bounds ≡ v = one_least (hard_rows (in_ticks x)) h.bounds v h.least least in

@@ -1,5 +1,6 @@
 -- That the verb `format` refuses a text for one reason, and none that reads as a design.
 use Rattle.std.proofs.Common.{◌≡◌, ℕ, ◌≤◌, List, length, subst, sym, ap}
+use Rattle.seq_tree.specs.Limits.{text_limit}
 use Rattle.ods_tree.specs.Designs as designs
 use Rattle.ods_tree.specs.Layout.{design_text}
 use Rattle.ods_tree.specs.Reading.{Reads}
@@ -16,7 +17,7 @@ formatted bytes text x reads e = record {
   design = x;
   reads = reads;
   text_is = e;
-  again = λ within. subst (λ z. Reads z x) (sym e) (reads-again bytes x reads (subst (λ z. length z ≤ 1048576) e within));
+  again = λ within. subst (λ z. Reads z x) (sym e) (reads-again bytes x reads (subst (λ z. length z ≤ text_limit) e within));
 }
 
 can_or_refuses : (bytes : List ℕ) (x : designs.Design) → Reads bytes x → (r : FormatRefusal) → RefusesFormat bytes r → ⊥

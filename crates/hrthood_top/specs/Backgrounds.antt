@@ -1,6 +1,7 @@
 -- The verb `background`: the Ada text of a design with background objects.
 -- What is made of a design, and why nothing is, is that of the delivery, said of bytes.
 use Rattle.std.specs.Prelude.{◌≡◌, ℕ, ◌≤◌, List, length, codes}
+use Rattle.seq_tree.specs.Limits.{ada_limit}
 use Rattle.ods_tree.specs.Designs as designs
 use Rattle.ods_tree.specs.Reading.{Reads}
 use Rattle.ods_tree.specs.Ticks.{in_ticks}
@@ -28,7 +29,7 @@ pub record IsBackgroundTextFor (bytes text_made : List ℕ) : Type 0 where
   pub bounds : List Bound
   pub least : IsLeastVector (hard_rows (in_ticks design)) bounds
   pub made : text_made ≡ background_text (in_ticks design) bounds
-  pub short : length text_made ≤ 16777216
+  pub short : length text_made ≤ ada_limit
   pub guaranteed : IsGuaranteedInBackground horizon_limit (in_ticks design) text_made bounds
 
 -- the design that the bytes are is refused
@@ -60,7 +61,7 @@ pub record CanBackground (bytes : List ℕ) : Type 0 where
   pub passes : IsBackgroundDesign design
   pub bounds : List Bound
   pub least : IsLeastVector (hard_rows (in_ticks design)) bounds
-  pub short : length (background_text (in_ticks design) bounds) ≤ 16777216
+  pub short : length (background_text (in_ticks design) bounds) ≤ ada_limit
 
 -- what the verb makes of a design
 abbrev pub of_background : OfDesign

@@ -1,6 +1,7 @@
 -- The files of a command: each has a kind, with its limit and its word in messages, and a name on the shelf.
 -- A shelf holds files by their names, and its log tells what was fetched.
 use Rattle.std.specs.Prelude.{◌≡◌, ℕ, ◌≤◌, ◌<◌, true, false, List, ◌++◌, length, map, codes, Option, Some, None, IfSome}
+use Rattle.seq_tree.specs.Limits.{text_limit, ada_limit}
 use Rattle.seq_tree.specs.Lists.{Each}
 use Rattle.hood_io.specs.Shelves.{Told, Entry}
 use Rattle.hrthood_top.specs.declared.file_kind.FileKind.{FileKind}
@@ -13,10 +14,10 @@ pub record File : Type 0 where
 
 -- the most bytes that a file of a kind may have
 abbrev pub limit_of : FileKind → ℕ
-limit_of Design = 1048576
-limit_of Ada = 16777216
-limit_of Arrivals = 1048576
-limit_of Trace = 16777216
+limit_of Design = text_limit
+limit_of Ada = ada_limit
+limit_of Arrivals = text_limit
+limit_of Trace = ada_limit
 
 -- what a file of a kind is called in a message
 abbrev pub kind_text : FileKind → List ℕ

@@ -1,6 +1,7 @@
 -- The verb `format`: the text of a design, printed again. The rules are not checked.
 -- The layout is this project's own.
 use Rattle.std.specs.Prelude.{◌≡◌, ℕ, ◌≤◌, List, length}
+use Rattle.seq_tree.specs.Limits.{text_limit}
 use Rattle.ods_tree.specs.Designs as designs
 use Rattle.ods_tree.specs.Layout.{design_text}
 use Rattle.ods_tree.specs.Reading.{Reads}
@@ -16,7 +17,7 @@ pub record IsFormatted (bytes text : List ℕ) : Type 0 where
   pub design : designs.Design
   pub reads : Reads bytes design
   pub text_is : text ≡ design_text design
-  pub again : length text ≤ 1048576 → Reads text design
+  pub again : length text ≤ text_limit → Reads text design
 
 -- why a design is not printed
 abbrev pub RefusesFormat : List ℕ → FormatRefusal → Type 0

@@ -1,6 +1,8 @@
 ghost use Rattle.std.specs.Prelude.{◌≡◌};
 ghost use Rattle.hrthood_top.specs.Files.{limit_of, kind_text};
 
+use seq_tree::{ADA_LIMIT, TEXT_LIMIT};
+
 /// What a file is read as.
 #[derive(Clone, Copy, Debug, PartialEq, Eq)]
 pub enum FileKind {
@@ -19,10 +21,10 @@ pub(crate) fn limit_of(kind: FileKind) -> usize
     ensures { result ≡ limit_of kind }
 {
     match kind {
-        FileKind::Design => 1_048_576,
-        FileKind::Ada => 16_777_216,
-        FileKind::Arrivals => 1_048_576,
-        FileKind::Trace => 16_777_216,
+        FileKind::Design => TEXT_LIMIT,
+        FileKind::Ada => ADA_LIMIT,
+        FileKind::Arrivals => TEXT_LIMIT,
+        FileKind::Trace => ADA_LIMIT,
     }
 }
 

@@ -1,6 +1,7 @@
 -- What is told of a text with background objects, by a run that never sees the design.
 -- The text is read as an Ada program and run under any arrivals that are accepted for that program.
 use Rattle.std.specs.Prelude.{ℕ, ◌≤◌, List, length}
+use Rattle.seq_tree.specs.Limits.{ada_limit}
 use Rattle.seq_tree.specs.Proper.{within_limits}
 use Rattle.ods_tree.specs.Designs.{Design}
 use Rattle.ods_tree.specs.Words.{is_design_name}
@@ -33,6 +34,6 @@ BackgroundReplayIsRight limit =
 abbrev pub BackgroundTextReplaysRight : ℕ → Type 0
 BackgroundTextReplaysRight limit =
     (x : Design) (bytes : List ℕ) (v : List Bound) (p : Program) (r : Arrivals) (told : List Event)
-    → Reads bytes x → IsBackgroundDesign x → Fits (hard_rows (in_ticks x)) v → length (background_text (in_ticks x) v) ≤ 16777216
+    → Reads bytes x → IsBackgroundDesign x → Fits (hard_rows (in_ticks x)) v → length (background_text (in_ticks x) v) ≤ ada_limit
     → Accepts (background_text (in_ticks x) v) p → IsAccepted limit p r → Meaning p r told
     → PermitsBackground (in_ticks x) v (named_arrivals p r) (named p told)

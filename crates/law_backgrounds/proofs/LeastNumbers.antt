@@ -3,6 +3,7 @@ use Rattle.std.specs.Prelude.{◌≡◌, ℕ, ◌≤◌, ◌||◌, false, nat_lt
 use Rattle.std.proofs.Common.{sym, ◌∙◌, ap, arith}
 use Rattle.std.proofs.lemmas.Bool.{or_parts}
 use Rattle.std.proofs.lemmas.Option.{none-some, same_Some}
+use Rattle.seq_tree.specs.Limits.{tick_limit}
 use Rattle.seq_tree.specs.Names.{Name, same_name}
 use Rattle.seq_tree.specs.Lists.{Each}
 use Rattle.ods_tree.specs.Flats.{Guarded}
@@ -41,14 +42,14 @@ module _ (p : Program) (meets : MeetsRules p) where
       by name (Passive ops) u h e = absurd (none-some u e)
       by name (Shared ceiling vars ops) u h e = absurd (none-some u e)
       by name (Cyclic priority offset period vars block) u h e =
-          let one = or_parts (is_outside 1 60 priority || is_outside 1 1000000000 period) (nat_lt 1000000000 offset) h in
-          same _ priority u e (or_parts (is_outside 1 60 priority) (is_outside 1 1000000000 period) one.0).0
+          let one = or_parts (is_outside 1 60 priority || is_outside 1 tick_limit period) (nat_lt tick_limit offset) h in
+          same _ priority u e (or_parts (is_outside 1 60 priority) (is_outside 1 tick_limit period) one.0).0
       by name (Sporadic priority ceiling op separation jitter external vars block) u h e =
-          let a = or_parts (is_outside 1 60 priority || is_outside 1 60 ceiling || is_outside 1 1000000000 separation
+          let a = or_parts (is_outside 1 60 priority || is_outside 1 60 ceiling || is_outside 1 tick_limit separation
           || jitter_breaks external separation jitter) (nat_lt ceiling priority) h in
-          let c = or_parts (is_outside 1 60 priority || is_outside 1 60 ceiling || is_outside 1 1000000000 separation)
+          let c = or_parts (is_outside 1 60 priority || is_outside 1 60 ceiling || is_outside 1 tick_limit separation)
           (jitter_breaks external separation jitter) a.0 in
-          let d = or_parts (is_outside 1 60 priority || is_outside 1 60 ceiling) (is_outside 1 1000000000 separation) c.0 in
+          let d = or_parts (is_outside 1 60 priority || is_outside 1 60 ceiling) (is_outside 1 tick_limit separation) c.0 in
           same _ priority u e (or_parts (is_outside 1 60 priority) (is_outside 1 60 ceiling) d.0).0
 
   pub ceilings-some : Each (λ g. 1 ≤ ceiling_named p g.name) (program_software p).shared

@@ -5,6 +5,7 @@ use Rattle.std.specs.Prelude.{nat_lt, Some, slice_get, refl, if◌then◌else◌
 use Rattle.std.specs.List.{list_any}
 use Rattle.std.proofs.Common.{sym, ◌∙◌, ap, ap₂, subst, inl, inr, arith}
 use Rattle.std.proofs.lemmas.Bool.{or_parts, or_from}
+use Rattle.seq_tree.specs.Limits.{tick_limit}
 use Rattle.seq_tree.specs.Names.{Name, same_name, is_named, are_distinct}
 use Rattle.seq_tree.specs.Operations.{Offer, out_names}
 use Rattle.seq_tree.specs.Calls.{block_calls, same_op, block_works}
@@ -100,17 +101,17 @@ module _ (least : ℕ) (b : Bool) where
   raised-order : (c q : ℕ) → nat_lt c q ≡ false → nat_lt (max least c) (max least q) ≡ false
   raised-order c q e = grind arith
 
-  at-once-period : (period : ℕ) → is_outside 1 1000000000 period ≡ false → is_outside 1 1000000000 (unless b 1 period) ≡ false
+  at-once-period : (period : ℕ) → is_outside 1 tick_limit period ≡ false → is_outside 1 tick_limit (unless b 1 period) ≡ false
   at-once-period period e = by b
     where
-      by : (c : Bool) → is_outside 1 1000000000 (unless c 1 period) ≡ false
+      by : (c : Bool) → is_outside 1 tick_limit (unless c 1 period) ≡ false
       by true = refl
       by false = e
 
-  at-once-offset : (offset : ℕ) → nat_lt 1000000000 offset ≡ false → nat_lt 1000000000 (unless b 0 offset) ≡ false
+  at-once-offset : (offset : ℕ) → nat_lt tick_limit offset ≡ false → nat_lt tick_limit (unless b 0 offset) ≡ false
   at-once-offset offset e = by b
     where
-      by : (c : Bool) → nat_lt 1000000000 (unless c 0 offset) ≡ false
+      by : (c : Bool) → nat_lt tick_limit (unless c 0 offset) ≡ false
       by true = refl
       by false = e
 
@@ -118,15 +119,15 @@ module _ (least : ℕ) (b : Bool) where
   numbers-right (Passive ops) h e = refl
   numbers-right (Shared ceiling vars ops) h e = raised-range ceiling h e
   numbers-right (Cyclic priority offset period vars block) h e =
-      let one = or_parts (is_outside 1 60 priority || is_outside 1 1000000000 period) (nat_lt 1000000000 offset) e in
-      let two = or_parts (is_outside 1 60 priority) (is_outside 1 1000000000 period) one.0 in
+      let one = or_parts (is_outside 1 60 priority || is_outside 1 tick_limit period) (nat_lt tick_limit offset) e in
+      let two = or_parts (is_outside 1 60 priority) (is_outside 1 tick_limit period) one.0 in
       or_from _ _ (or_from _ _ (raised-range priority h two.0) (at-once-period period two.1)) (at-once-offset offset one.1)
   numbers-right (Sporadic priority ceiling op separation jitter external vars block) h e =
-      let a = or_parts (is_outside 1 60 priority || is_outside 1 60 ceiling || is_outside 1 1000000000 separation
+      let a = or_parts (is_outside 1 60 priority || is_outside 1 60 ceiling || is_outside 1 tick_limit separation
       || jitter_breaks external separation jitter) (nat_lt ceiling priority) e in
-      let c = or_parts (is_outside 1 60 priority || is_outside 1 60 ceiling || is_outside 1 1000000000 separation)
+      let c = or_parts (is_outside 1 60 priority || is_outside 1 60 ceiling || is_outside 1 tick_limit separation)
       (jitter_breaks external separation jitter) a.0 in
-      let d = or_parts (is_outside 1 60 priority || is_outside 1 60 ceiling) (is_outside 1 1000000000 separation) c.0 in
+      let d = or_parts (is_outside 1 60 priority || is_outside 1 60 ceiling) (is_outside 1 tick_limit separation) c.0 in
       let g = or_parts (is_outside 1 60 priority) (is_outside 1 60 ceiling) d.0 in
       or_from _ _ (or_from _ _ (or_from _ _ (or_from _ _ (raised-range priority h g.0) (raised-range ceiling h g.1)) d.1) c.1)
       (raised-order ceiling priority a.1)
@@ -136,7 +137,7 @@ module _ (least : ℕ) (b : Bool) where
   others_break f = list_any (λ h. nat_lt 8 (length h.params)) (heads f)
 
   abbrev works_break : Form → Bool
-  works_break f = list_any (is_outside 1 1000000000) (flat_map (λ c. block_works c.block) (bodies f))
+  works_break f = list_any (is_outside 1 tick_limit) (flat_map (λ c. block_works c.block) (bodies f))
 
   others-same : (f : Form) → others_break (lift_form least b f) ≡ others_break f
   others-same (Passive ops) = refl

@@ -1,6 +1,7 @@
 -- What is promised of designs with background objects: their hard part is sound, their program can be read, and each of its runs is right.
 -- Bounds are for the hard threads alone, with the sections of clients in their blocking (Sha, Rajkumar and Lehoczky 1990).
 use Rattle.std.specs.Prelude.{◌≡◌, ◌↔◌, ℕ, ◌-◌, ◌≤◌, true, List, [], map, filter, flat_map, length, slice_get, Some, Ok}
+use Rattle.seq_tree.specs.Limits.{ada_limit}
 use Rattle.seq_tree.specs.Lexis.{tokens, plain}
 use Rattle.seq_tree.specs.Proper.{within_limits}
 use Rattle.ods_tree.specs.Designs.{Design}
@@ -105,7 +106,7 @@ abbrev pub BackgroundTextsAreGuaranteed : ℕ → Type 0
 BackgroundTextsAreGuaranteed limit =
     (x : Design) (text : List ℕ) (v : List Bound) → IsProperDesign (within_limits is_design_name) x → IsBackgroundDesign x
     → Fits (hard_rows (in_ticks x)) v
-    → length text ≤ 16777216 → plain (tokens text) ≡ Ok (program_tokens (background_program (in_ticks x)))
+    → length text ≤ ada_limit → plain (tokens text) ≡ Ok (program_tokens (background_program (in_ticks x)))
     → IsGuaranteedInBackground limit (in_ticks x) text v
 
 -- a design that meets the rules has no background objects: its hard part, its rows and its text are its own

@@ -3,6 +3,7 @@ use Rattle.std.proofs.Common.{◌≡◌, ℕ, suc, ◌-◌, ◌≤◌, Bool, tru
 use Rattle.std.proofs.Common.{nat_lt, nat_le, Option, Some, None, option_map, unwrap_or, refl, sym, ap, subst, ◌∙◌, arith, if◌then◌else◌}
 use Rattle.std.specs.List.{list_any, list_all, cons_option}
 use Rattle.std.proofs.lemmas.Bool.{or_parts, and_parts, and_from, not-false}
+use Rattle.seq_tree.specs.Limits.{tick_limit}
 use Rattle.ods_tree.specs.Designs.{Object, Design}
 use Rattle.ods_tree.specs.Walk.{Standing, objects, is_terminal, terminals}
 use Rattle.ods_tree.specs.Attributes.{attribute, attribute_or, attribute_count, has_key}
@@ -69,16 +70,16 @@ attributes-timed o t h e = by (timing-of o t e)
     by : TimingOf o t → P t
     by (OfCyclic g s) =
         let right : are_attributes_right kind.Cyclic o ≡ true = ap (λ k. are_attributes_right k o) (sym g) ∙ h in
-        let a = tests_of (is_required 1 1000000000 Period o) (is_optional 0 1000000000 Offset o) (is_foreign Separation o)
+        let a = tests_of (is_required 1 tick_limit Period o) (is_optional 0 tick_limit Offset o) (is_foreign Separation o)
         (is_foreign ArrivalJitter o) (are_common_right (attribute_or 0 Period o) o) right in
         let deadline : is_within 1 (attribute_or 0 Period o) (attribute_or 0 Deadline o) ≡ true = (and_parts _ _ (and_parts _ _ a.2).0).1 in
-        subst P (sym s) (and_from _ _ (and_from _ _ (and_parts _ _ a.0).1 (optional_below 1000000000 Offset o a.1)) deadline)
+        subst P (sym s) (and_from _ _ (and_from _ _ (and_parts _ _ a.0).1 (optional_below tick_limit Offset o a.1)) deadline)
     by (OfSporadic sig g q s) =
         let right : are_attributes_right kind.Sporadic o ≡ true = ap (λ k. are_attributes_right k o) (sym g) ∙ h in
-        let a = tests_of (is_required 1 1000000000 Separation o) (is_optional 0 (attribute_or 0 Separation o - 1) ArrivalJitter o)
+        let a = tests_of (is_required 1 tick_limit Separation o) (is_optional 0 (attribute_or 0 Separation o - 1) ArrivalJitter o)
         (is_foreign Period o) (is_foreign Offset o) (are_common_right (attribute_or 0 Separation o) o) right in
         let deadline : is_within 1 (attribute_or 0 Separation o) (attribute_or 0 Deadline o) ≡ true = (and_parts _ _ (and_parts _ _ a.2).0).1 in
-        let separation : is_within 1 1000000000 (attribute_or 0 Separation o) ≡ true = (and_parts _ _ a.0).1 in
+        let separation : is_within 1 tick_limit (attribute_or 0 Separation o) ≡ true = (and_parts _ _ a.0).1 in
         subst P (sym s) (and_from _ _ (and_from _ _ separation (jitter-below o (attribute ArrivalJitter o) refl
         (optional_below (attribute_or 0 Separation o - 1) ArrivalJitter o a.1) (and_parts _ _ separation).0)) deadline)
 
@@ -108,15 +109,15 @@ terminals-at-most x = filter-at-most is_terminal (objects x)
 
 -- the works of an object and its threads are in range
 module _ (written x : Design) (met : AreMet written x) where
-  numbers : (s : Standing) → IsIn s (objects x) → (are_right (is_terminal s) s.own ≡ true) × (list_all (is_within 1 1000000000) (works s.own) ≡ true)
+  numbers : (s : Standing) → IsIn s (objects x) → (are_right (is_terminal s) s.own ≡ true) × (list_all (is_within 1 tick_limit) (works s.own) ≡ true)
       × (list_any (λ p. nat_lt 8 (length p.sig.params)) s.own.provides ≡ false)
   numbers s h =
-      let a = or_parts (not (are_right (is_terminal s) s.own) || not (list_all (is_within 1 1000000000) (works s.own)))
+      let a = or_parts (not (are_right (is_terminal s) s.own) || not (list_all (is_within 1 tick_limit) (works s.own)))
       (list_any (λ p. nat_lt 8 (length p.sig.params)) s.own.provides) (numbers-right written x met s h) in
-      let b = or_parts (not (are_right (is_terminal s) s.own)) (not (list_all (is_within 1 1000000000) (works s.own))) a.0 in
+      let b = or_parts (not (are_right (is_terminal s) s.own)) (not (list_all (is_within 1 tick_limit) (works s.own))) a.0 in
       (not-false _ b.0, not-false _ b.1, a.1)
 
-  pub works-right : (s : Standing) → IsIn s (objects x) → list_all (is_within 1 1000000000) (works s.own) ≡ true
+  pub works-right : (s : Standing) → IsIn s (objects x) → list_all (is_within 1 tick_limit) (works s.own) ≡ true
   works-right s h = (numbers s h).1
 
   pub params-few : (s : Standing) → IsIn s (objects x) → list_any (λ p. nat_lt 8 (length p.sig.params)) s.own.provides ≡ false

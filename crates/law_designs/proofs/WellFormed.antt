@@ -4,6 +4,7 @@ use Rattle.std.proofs.Common.{option_map, option_and_then, refl, sym, ap, subst,
 use Rattle.std.proofs.lemmas.Bool.{not-false, ltb-false, eq-eqb}
 use Rattle.std.specs.List.{list_all, cons_option}
 use Rattle.std.proofs.lemmas.List.{length-append, length-map}
+use Rattle.seq_tree.specs.Limits.{tick_limit}
 use Rattle.seq_tree.specs.Names.{same_name, are_distinct}
 use Rattle.seq_tree.specs.Statements.{Statements}
 use Rattle.seq_tree.specs.Operations.{Operation}
@@ -260,23 +261,23 @@ module _ (written x : Design) (met : AreMet written x) where
     plain = plain-right;
   }
 
-  pub op_costs-right : list_all (λ ops. list_all (λ (o : Operation). nat_le (block_cost x.costs (flat_services (flat x)) o.block) 1000000000) ops)
+  pub op_costs-right : list_all (λ ops. list_all (λ (o : Operation). nat_le (block_cost x.costs (flat_services (flat x)) o.block) tick_limit) ops)
       (entry_ops (flat x)) ≡ true
   op_costs-right = all-from _ (entry_ops (flat x))
-      (λ ops h. all-from (λ (o : Operation). nat_le (block_cost x.costs (flat_services (flat x)) o.block) 1000000000) ops
+      (λ ops h. all-from (λ (o : Operation). nat_le (block_cost x.costs (flat_services (flat x)) o.block) tick_limit) ops
       (λ e j. at ops e (ops-from x ops h) j))
     where
       at : (ops : List Operation) (e : Operation) → OpsFrom x ops → IsIn e ops
-          → nat_le (block_cost x.costs (flat_services (flat x)) e.block) 1000000000 ≡ true
+          → nat_le (block_cost x.costs (flat_services (flat x)) e.block) tick_limit ≡ true
       at ops e s j =
           let P : List Operation → Type 0 = λ z. IsIn e z in
           let r = operation-from x s.standing.own e (subst P s.made j) in
-          ap (λ (o : Operation). nat_le (block_cost x.costs (flat_services (flat x)) o.block) 1000000000) r.made
+          ap (λ (o : Operation). nat_le (block_cost x.costs (flat_services (flat x)) o.block) tick_limit) r.made
           ∙ body-cheap written x met s.standing r.body s.stands
           (found-in (λ b. same_name b.name r.provided.sig.name) s.standing.own.bodies r.body r.named).0
 
-  pub thread_costs-right : list_all (λ t. nat_le (activation_cost (flat x) t) 1000000000) (threads x) ≡ true
-  thread_costs-right = all-from (λ t. nat_le (activation_cost (flat x) t) 1000000000) (threads x) (λ t h. at t (thread-from x t h))
+  pub thread_costs-right : list_all (λ t. nat_le (activation_cost (flat x) t) tick_limit) (threads x) ≡ true
+  thread_costs-right = all-from (λ t. nat_le (activation_cost (flat x) t) tick_limit) (threads x) (λ t h. at t (thread-from x t h))
     where
-      at : (t : Thread) → ThreadFrom x t → nat_le (activation_cost (flat x) t) 1000000000 ≡ true
-      at t r = ap (λ u. nat_le (activation_cost (flat x) u) 1000000000) r.made ∙ thread-cheap written x met r.standing r.block r.stands r.runs
+      at : (t : Thread) → ThreadFrom x t → nat_le (activation_cost (flat x) t) tick_limit ≡ true
+      at t r = ap (λ u. nat_le (activation_cost (flat x) u) tick_limit) r.made ∙ thread-cheap written x met r.standing r.block r.stands r.runs

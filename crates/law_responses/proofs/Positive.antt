@@ -4,6 +4,7 @@ use Rattle.std.specs.Prelude.{length, slice_get, Option, Some, None, if◌then�
 use Rattle.std.specs.List.{list_any}
 use Rattle.std.proofs.Common.{sym, ◌∙◌, subst, arith, inl, inr}
 use Rattle.std.proofs.lemmas.Option.{none-some}
+use Rattle.seq_tree.specs.Limits.{tick_limit}
 use Rattle.seq_tree.specs.Names.{Name}
 use Rattle.seq_tree.specs.Statements.{Statement, Statements, Branches, Null, Assign, If, For, ExitWhen, Call, Work, Put, End, Then, Nothing}
 use Rattle.seq_tree.specs.Statements.{Else, When}
@@ -186,8 +187,8 @@ starts-some p a limit rules accepted i t at = block-start p.costs positive t.dur
     works : AreWorks (block_works t.block)
     works n e =
         let body = task-body p a i t at in
-        let outside = none-in (is_outside 1 1000000000) n (flat_map (λ b. block_works b.block) (bodies body.1.form))
+        let outside = none-in (is_outside 1 tick_limit) n (flat_map (λ b. block_works b.block) (bodies body.1.form))
         (or_parts (numbers_break body.1.form || list_any (λ h. nat_lt 8 (length h.params)) (heads body.1.form))
-        (list_any (is_outside 1 1000000000) (flat_map (λ b. block_works b.block) (bodies body.1.form))) (ranges-kept p rules body.0 body.1 body.3)).1
+        (list_any (is_outside 1 tick_limit) (flat_map (λ b. block_works b.block) (bodies body.1.form))) (ranges-kept p rules body.0 body.1 body.3)).1
         (in-flat (λ b. block_works b.block) body.2 n (bodies body.1.form) body.4 (subst (λ b. IsIn n (block_works b)) (sym body.5) e)) in
-        at-least 1000000000 n outside
+        at-least tick_limit n outside

@@ -2,6 +2,7 @@
 use Rattle.std.specs.Prelude.{◌≡◌, ℕ, ◌+◌, ◌≤◌, ◌||◌, nat_lt, nat_le, true, false, List, slice_get, Some, None, refl}
 use Rattle.std.proofs.lemmas.Option.{none-some}
 use Rattle.std.proofs.Common.{sym, ◌∙◌, ap, subst, arith}
+use Rattle.seq_tree.specs.Limits.{tick_limit}
 use Rattle.seq_tree.specs.Dearest.{starts}
 use Rattle.ada_tree.specs.Programs.{Program, Sporadic}
 use Rattle.ada_tree.specs.Ranges.{is_outside, jitter_breaks, numbers_break}
@@ -22,10 +23,10 @@ use Rattle.law_calls.proofs.Shared.Lists.{zip-first}
 use Rattle.law_calls.proofs.Shared.UnitRules.{numbers-kept}
 
 -- numbers of a task that is requested
-small-jitter : (separation jitter : ℕ) → is_outside 1 1000000000 separation ≡ false → jitter_breaks true separation jitter ≡ false
-    → jitter ≤ 1000000000
+small-jitter : (separation jitter : ℕ) → is_outside 1 tick_limit separation ≡ false → jitter_breaks true separation jitter ≡ false
+    → jitter ≤ tick_limit
 small-jitter separation jitter e g =
-    let most : nat_lt 1000000000 separation ≡ false = (or_parts (nat_lt separation 1) (nat_lt 1000000000 separation) e).1 in
+    let most : nat_lt tick_limit separation ≡ false = (or_parts (nat_lt separation 1) (nat_lt tick_limit separation) e).1 in
     let less : nat_le separation jitter ≡ false = g in
     grind arith
 
@@ -65,18 +66,18 @@ module _ (p : Program) (a : Arrivals) (rules : MeetsRules p) (ts : List Ranked) 
             starter_if x (place_in (ranked p) (item_at ts row.starter))) timing,
       )
     where
-      small : jitter ≤ 1000000000
+      small : jitter ≤ tick_limit
       small =
           let found = thread-at p a j t at in
           let form : found.1.form ≡ Sporadic t.priority ceiling op separation jitter true t.vars t.block
           = subst (λ x. thread_form t x found.1.form) e (found.2).form in
           let now : numbers_break (Sporadic t.priority ceiling op separation jitter true t.vars t.block) ≡ false
           = subst (λ x. numbers_break x ≡ false) form (numbers-kept p rules found.0 found.1 (found.2).stands) in
-          let one = or_parts (is_outside 1 60 t.priority || is_outside 1 60 ceiling || is_outside 1 1000000000 separation
+          let one = or_parts (is_outside 1 60 t.priority || is_outside 1 60 ceiling || is_outside 1 tick_limit separation
           || jitter_breaks true separation jitter) (nat_lt ceiling t.priority) now in
-          let two = or_parts (is_outside 1 60 t.priority || is_outside 1 60 ceiling || is_outside 1 1000000000 separation)
+          let two = or_parts (is_outside 1 60 t.priority || is_outside 1 60 ceiling || is_outside 1 tick_limit separation)
           (jitter_breaks true separation jitter) one.0 in
-          let three = or_parts (is_outside 1 60 t.priority || is_outside 1 60 ceiling) (is_outside 1 1000000000 separation) two.0 in
+          let three = or_parts (is_outside 1 60 t.priority || is_outside 1 60 ceiling) (is_outside 1 tick_limit separation) two.0 in
           small-jitter separation jitter three.1 two.1
   asked-is j r t u row has at among listed twins line period started (Requested op ceiling separation jitter false) e =
       let timing : u.task.timing ≡ flats.Sporadic op separation None = subst (λ x. SameTiming x u.task.timing) e twins.timing in

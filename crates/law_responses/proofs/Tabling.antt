@@ -5,6 +5,7 @@ use Rattle.std.specs.List.{list_any}
 use Rattle.std.proofs.Common.{sym, ◌∙◌, ap, subst, arith, inl, inr}
 use Rattle.std.proofs.lemmas.Bool.{cases_lt, both_ways}
 use Rattle.std.proofs.lemmas.Option.{none-some, same_Some}
+use Rattle.seq_tree.specs.Limits.{tick_limit}
 use Rattle.seq_tree.specs.Names.{Name, same_name}
 use Rattle.seq_tree.specs.Dearest.{is_call_of}
 use Rattle.seq_tree.specs.Lists.{first_from, first_where}
@@ -69,7 +70,7 @@ frame p ts rows a = record {
   system = system p a;
   rows = rows;
   row_of = λ j. place_in ts (slice_get (ranked p) j);
-  shift = 1000000000;
+  shift = tick_limit;
   called = called_cost p.costs (program_services p);
   requests = λ k. counted_by p (slice_get (system p a).threads k);
   starter_of = λ k. starter_in (slice_get (ranked p) k) (starter_by (ranked p) ts (item_at rows (place_in ts (slice_get (ranked p) k))));

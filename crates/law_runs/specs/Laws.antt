@@ -1,6 +1,7 @@
 -- What is promised of every run of a program whose tasks stand in a table that fits, and so of every run of a design's program.
 -- A run is right where its trace is one that the design allows and every response is within its bound (Audsley et al. 1993).
 use Rattle.std.specs.Prelude.{◌≡◌, ◌↔◌, ◌≤◌, ℕ, List, length, Some, slice_get, Ok}
+use Rattle.seq_tree.specs.Limits.{ada_limit}
 use Rattle.seq_tree.specs.Lists.{Each}
 use Rattle.ada_tree.specs.Programs.{Program}
 use Rattle.arrivals_tree.specs.Arriving.{Arrivals}
@@ -77,7 +78,7 @@ abbrev pub TextsAreGuaranteed : ℕ → Type 0
 TextsAreGuaranteed limit =
     (x : Design) (text : List ℕ) (v : List Bound) → IsProperDesign (within_limits is_design_name) x → MeetsRules x
     → Fits (table (flat (in_ticks x))).rows v
-    → length text ≤ 16777216 → plain (tokens text) ≡ Ok (program_tokens (program (in_ticks x))) → Guaranteed limit (in_ticks x) text v
+    → length text ≤ ada_limit → plain (tokens text) ≡ Ok (program_tokens (program (in_ticks x))) → Guaranteed limit (in_ticks x) text v
 
 -- what is told of such a program under accepted arrivals is allowed by the design and within the bounds
 abbrev pub ReplaysAreRight : ℕ → Type 0

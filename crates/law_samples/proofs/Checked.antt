@@ -4,6 +4,7 @@ use Rattle.std.proofs.Common.{◌≡◌, true, length, refl}
 use Rattle.std.specs.Prelude.{nat_le}
 use Rattle.std.specs.Fmt.{digits}
 use Rattle.std.specs.List.{list_all}
+use Rattle.seq_tree.specs.Limits.{text_limit, ada_limit}
 use Rattle.seq_tree.specs.Lexis.{longest}
 use Rattle.ods_tree.specs.Flattening.{flat}
 use Rattle.ods_tree.specs.Layout.{design_text}
@@ -22,7 +23,7 @@ use Rattle.sample_design.specs.Samples.{from_on, from_to, sample_design}
 use Rattle.law_samples.specs.Laws.{sample_bounds}
 use Rattle.law_samples.proofs.Tests.{is_bounded, has_threads}
 
-pub all_short : list_all (λ n. nat_le (length (design_text (sample_design n))) 1048576) (from_on 1 30) ≡ true
+pub all_short : list_all (λ n. nat_le (length (design_text (sample_design n))) text_limit) (from_on 1 30) ≡ true
 unfolding from_to digits
 all_short = refl
 
@@ -71,6 +72,6 @@ pub all_threads_there : list_all (λ n. has_threads (program (sample_design n)) 
 unfolding from_to
 all_threads_there = refl
 
-pub all_texts_short : list_all (λ n. nat_le (length (text (sample_design n) (sample_bounds n))) 16777216) (from_on 1 30) ≡ true
+pub all_texts_short : list_all (λ n. nat_le (length (text (sample_design n) (sample_bounds n))) ada_limit) (from_on 1 30) ≡ true
 unfolding from_to digits
 all_texts_short = refl

@@ -1,6 +1,7 @@
 -- What makes a sample valid: its design is read, meets the rules and has these bounds, its arrivals are accepted, its Ada text is short.
 -- The bounds are those of the response equations (Audsley et al. 1993); the limit on bytes is this project's own.
 use Rattle.std.specs.Prelude.{◌≡◌, ℕ, ◌+◌, ◌*◌, ◌≤◌, ◌==◌, List, map, length, if◌then◌else◌}
+use Rattle.seq_tree.specs.Limits.{ada_limit}
 use Rattle.ods_tree.specs.Flattening.{flat}
 use Rattle.ods_tree.specs.Layout.{design_text}
 use Rattle.ods_tree.specs.Reading.{Reads}
@@ -31,7 +32,7 @@ pub record IsValid (n : ℕ) : Type 0 where
   pub only : (v : List Bound) → IsLeastVector (table (flat (in_ticks (sample_design n)))).rows v → v ≡ sample_bounds n
   pub arrivals : Arrivals
   pub arrives : Arrives horizon_limit (sample_arrivals n) (program (in_ticks (sample_design n))) arrivals
-  pub short : length (text (in_ticks (sample_design n)) (sample_bounds n)) ≤ 16777216
+  pub short : length (text (in_ticks (sample_design n)) (sample_bounds n)) ≤ ada_limit
 
 -- each sample is
 abbrev pub SamplesAreValid : Type 0

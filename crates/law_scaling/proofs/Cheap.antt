@@ -4,6 +4,7 @@ use Rattle.std.proofs.Common.{arith, None, append_assoc}
 use Rattle.std.specs.Prelude.{find, nat_lt, nat_le}
 use Rattle.std.specs.List.{AllZip, list_all}
 use Rattle.std.proofs.lemmas.List.Folds.{list_all-append}
+use Rattle.seq_tree.specs.Limits.{tick_limit}
 use Rattle.seq_tree.specs.Names.{Name}
 use Rattle.seq_tree.specs.Operations.{Operation}
 use Rattle.ods_tree.specs.Flats.{Library, Guarded, Thread, Flat}
@@ -81,10 +82,10 @@ both p xs ys h k = list_all-append p xs ys ∙ and_true (list_all p xs) (list_al
 -- the tests of soundness on costs say that no part is dear
 module _ (g : Flat) where
   abbrev op_cheap : Operation → Bool
-  op_cheap o = nat_le (block_cost g.costs (flat_services g) o.block) 1000000000
+  op_cheap o = nat_le (block_cost g.costs (flat_services g) o.block) tick_limit
 
   abbrev thread_cheap : Thread → Bool
-  thread_cheap t = nat_le (activation_cost g t) 1000000000
+  thread_cheap t = nat_le (activation_cost g t) tick_limit
 
   ops-cheap : (name : Name) (os : List Operation) (rest : List Part) → find dear (map (body_part g name) os ++ rest) ≡ None
       → (list_all op_cheap os ≡ true) × (find dear rest ≡ None)

@@ -4,6 +4,7 @@ use Rattle.std.proofs.Common.{arith}
 use Rattle.std.specs.Prelude.{find, filter_map, option_and_then, unwrap_or, cond, if◌then◌else◌}
 use Rattle.std.specs.List.{cons_option}
 use Rattle.std.proofs.lemmas.List.{map-append}
+use Rattle.seq_tree.specs.Limits.{tick_limit}
 use Rattle.seq_tree.specs.Names.{Name, same_name}
 use Rattle.seq_tree.specs.Statements.{Statement, Statements, Branches, Null, Assign, If, For, ExitWhen, Call, Work, Put, End, Then, Nothing}
 use Rattle.seq_tree.specs.Statements.{Else, When}
@@ -91,7 +92,7 @@ module _ (key : AttrKey) (other : (key_place key == 4) ≡ false) where
   key-same : (a : Attr) → has_key key (freed a) ≡ has_key key a
   key-same a = by (has_key ThreadBudget a)
     where
-      by : (b : Bool) → has_key key (if b then record { key = a.key; value = 1000000000; unit = None } else a) ≡ has_key key a
+      by : (b : Bool) → has_key key (if b then record { key = a.key; value = tick_limit; unit = None } else a) ≡ has_key key a
       by true = refl
       by false = refl
 

@@ -1,6 +1,7 @@
 -- Scaled designs as trees of objects: all `work` at so many per mille, and each THREAD_BUDGET the greatest there is.
 -- What runs of such a design is the scaled flat design.
 use Rattle.std.specs.Prelude.{ℕ, map, option_map, Option, None, if◌then◌else◌}
+use Rattle.seq_tree.specs.Limits.{tick_limit}
 use Rattle.seq_tree.specs.Names.{Name}
 use Rattle.ods_tree.specs.Attributes.{has_key}
 use Rattle.ods_tree.specs.Designs.{Body, Object, Tree, Trees, Node, Empty, With, Design}
@@ -11,7 +12,7 @@ use Rattle.law_scaling.specs.Scaling.{scaled_ticks, work_of}
 
 -- an attribute, a budget being the greatest
 abbrev pub freed : Attr → Attr
-freed a = if has_key ThreadBudget a then record { key = a.key; value = 1000000000; unit = None } else a
+freed a = if has_key ThreadBudget a then record { key = a.key; value = tick_limit; unit = None } else a
 
 -- the body of an operation
 abbrev pub reworked_body : (ℕ → ℕ) → Body → Body

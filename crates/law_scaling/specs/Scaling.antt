@@ -2,6 +2,7 @@
 -- How far execution times may grow is the sensitivity analysis of Lehoczky, Sha and Ding 1989.
 use Rattle.std.specs.Prelude.{ℕ, ◌*◌, min, Option, Some, None, if◌then◌else◌}
 use Rattle.std.specs.Int.{div_ceil}
+use Rattle.seq_tree.specs.Limits.{tick_limit}
 use Rattle.seq_tree.specs.Names.{Name, same_name}
 use Rattle.ods_tree.specs.Flats.{Flat}
 use Rattle.law_scaling.specs.Working.{reworked}
@@ -12,7 +13,7 @@ most_per_mille = 1000000
 
 -- ticks of `work` at so many per mille, rounded up, at most 1,000,000,000
 abbrev pub scaled_ticks : ℕ → ℕ → ℕ
-scaled_ticks k ticks = min 1000000000 (div_ceil (ticks * k) 1000)
+scaled_ticks k ticks = min tick_limit (div_ceil (ticks * k) 1000)
 
 -- a flat design with all its `work` so scaled
 abbrev pub scaled : ℕ → Flat → Flat

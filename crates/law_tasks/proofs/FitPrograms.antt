@@ -5,6 +5,7 @@ use Rattle.std.specs.Prelude.{None, refl}
 use Rattle.std.specs.List.{list_any}
 use Rattle.std.proofs.Common.{sym, ◌∙◌, subst, arith}
 use Rattle.std.proofs.lemmas.List.Folds.{list_any-append}
+use Rattle.seq_tree.specs.Limits.{tick_limit}
 use Rattle.seq_tree.specs.Names.{Name, same_name}
 use Rattle.seq_tree.specs.Expressions.{Expression}
 use Rattle.seq_tree.specs.Statements.{Statement, Statements, Branches, Null, Assign, If, For, ExitWhen, Call, Work, Put, End, Then, Nothing}
@@ -23,13 +24,13 @@ use Rattle.law_calls.proofs.Shared.Facts.{or_else-none, no-fault}
 
 -- numbers of `work`
 abbrev AreWithin : List ℕ → Type 0
-AreWithin ns = list_any (is_outside 1 1000000000) ns ≡ false
+AreWithin ns = list_any (is_outside 1 tick_limit) ns ≡ false
 
 within_parts : (ns ms : List ℕ) → AreWithin (ns ++ ms) → AreWithin ns × AreWithin ms
-within_parts ns ms e = or_parts (list_any (is_outside 1 1000000000) ns) _ (sym (list_any-append (is_outside 1 1000000000) ns ms) ∙ e)
+within_parts ns ms e = or_parts (list_any (is_outside 1 tick_limit) ns) _ (sym (list_any-append (is_outside 1 tick_limit) ns ms) ∙ e)
 
 some_work : (n : ℕ) → AreWithin (n ∷ []) → 1 ≤ n
-some_work n e = let h : nat_lt n 1 ≡ false = (or_parts _ _ (or_parts (is_outside 1 1000000000 n) _ e).0).0 in grind arith
+some_work n e = let h : nat_lt n 1 ≡ false = (or_parts _ _ (or_parts (is_outside 1 tick_limit n) _ e).0).0 in grind arith
 
 -- a call that is offered
 abbrev IsOffered : (Name → Name → Type 0) → Scope → Type 0

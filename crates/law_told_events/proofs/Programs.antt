@@ -6,6 +6,7 @@ use Rattle.std.specs.List.{list_any}
 use Rattle.std.proofs.lemmas.Bool.{or_parts, ltb-false}
 use Rattle.std.proofs.lemmas.List.{length-map}
 use Rattle.std.proofs.lemmas.Option.{none-some}
+use Rattle.seq_tree.specs.Limits.{tick_limit}
 use Rattle.seq_tree.specs.Lists.{Each}
 use Rattle.seq_tree.specs.Names.{Name}
 use Rattle.seq_tree.specs.Calls.{block_works}
@@ -78,7 +79,7 @@ module _ (p : Program) (a : Arrivals) (meets : MeetsRules p) (legible : (u : Uni
       let few = none-in (λ (s : Signature). nat_lt 8 (length s.params)) h (heads u.form)
       (or_parts (numbers_break u.form) (list_any (λ (s : Signature). nat_lt 8 (length s.params)) (heads u.form))
       (or_parts (numbers_break u.form || list_any (λ (s : Signature). nat_lt 8 (length s.params)) (heads u.form))
-      (list_any (is_outside 1 1000000000) (flat_map (λ b. block_works b.block) (bodies u.form)))
+      (list_any (is_outside 1 tick_limit) (flat_map (λ b. block_works b.block) (bodies u.form)))
       (ranges-kept p meets k u at)).0).1 among in
       ltb-false 8 (length h.params) few
 

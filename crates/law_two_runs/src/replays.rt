@@ -21,6 +21,7 @@ ghost use Rattle.analysis.specs.Tables.{table};
 ghost use Rattle.rt_response.specs.Response.{Fits};
 ghost use Rattle.guarantee.specs.Arrivals.{named_arrivals};
 ghost use Rattle.guarantee.specs.Programs.{program, responses, text};
+ghost use Rattle.seq_tree.specs.Limits.{ada_limit};
 
 /// What a replay tells of a text that is accepted as the program of a design is allowed by the design and within its bounds.
 ///
@@ -41,7 +42,7 @@ pub fn replay_is_right()
 /// horizon allowed, in ticks.
 pub fn generated_text_replays_right()
     ensures { (limit : ℕ) (x : Design) (bytes : List ℕ) (v : List Bound) (p : Program) (r : Arrivals) (told : List Event)
-        → Reads bytes x → MeetsRules x → Fits (table (flat (in_ticks x))).rows v → length (text (in_ticks x) v) ≤ 16777216
+        → Reads bytes x → MeetsRules x → Fits (table (flat (in_ticks x))).rows v → length (text (in_ticks x) v) ≤ ada_limit
         → Accepts (text (in_ticks x) v) p → IsAccepted limit p r → Meaning p r told
         → Allows (in_ticks x) (named_arrivals p r) (named p told) × IsBounded (responses (flat (in_ticks x)) v) r.until (named p told) }
 {}

@@ -13,11 +13,11 @@ ghost use Rattle.ods_index.specs.Walking.{object_of, standing_of};
 use crate::costs::Priced;
 use ods_index::{Broken, Index, Standing, has_thread, is_terminal};
 use ods_tree::{Attr, AttrKey, Node};
-use seq_tree::Block;
+use seq_tree::{Block, TICK_LIMIT};
 use std::alloc::Global;
 
 /// The greatest cost, in ticks.
-const GREATEST: u64 = 1_000_000_000;
+const GREATEST: u64 = TICK_LIMIT as u64;
 
 /// Whether an attribute states a budget.
 fn is_budget(attr: &Attr) -> bool

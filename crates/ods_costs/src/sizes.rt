@@ -14,11 +14,11 @@ ghost use Rattle.ods_index.specs.Walking.{object_of, standing_of};
 use crate::costs::Priced;
 use ods_index::{Broken, Index, Standing, has_thread, is_terminal};
 use ods_tree::{Design, Node, OpBody};
-use seq_tree::Block;
+use seq_tree::{Block, TICK_LIMIT};
 use std::alloc::Global;
 
 /// The greatest cost, in ticks.
-const GREATEST: u64 = 1_000_000_000;
+const GREATEST: u64 = TICK_LIMIT as u64;
 
 /// The most objects of a design.
 const MOST_OBJECTS: usize = 500;

@@ -1,5 +1,7 @@
+use seq_tree::TICK_LIMIT;
+
 /// The greatest time, in ticks or microseconds, and the greatest number of `work`.
-pub(crate) const MOST_TICKS: u32 = 1_000_000_000;
+pub(crate) const MOST_TICKS: u32 = TICK_LIMIT;
 
 /// The greatest number that is told.
 pub(crate) const MOST_COUNT: u64 = 4_294_967_295;

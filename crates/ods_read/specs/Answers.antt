@@ -1,6 +1,7 @@
 -- What the reader of a design answers, by cases. A place is the line and the column of a token, or of the end of the text.
 -- A text that is too long is told first, then lexical faults, then those of syntax and of depth, whichever stands earlier.
 use Rattle.std.specs.Prelude.{◌≡◌, ℕ, List, [], ◌∷◌, ◌++◌, codes, Result, Ok, Err, ◌⊎◌, ⊤}
+use Rattle.seq_tree.specs.Limits.{text_limit}
 use Rattle.seq_tree.specs.Reach.{Fault, Begins}
 use Rattle.seq_tree.specs.Proper.{within_limits, without_limits}
 use Rattle.seq_tree.specs.declared.token.Token.{Token}
@@ -43,11 +44,11 @@ Keeps text =
 
 -- a text that is short enough, and whose tokens have this fault at this place
 abbrev pub IsFaultyAt : List ℕ → Place → (ℕ → Fault) → Type 0
-IsFaultyAt bytes place kind = texts.IsFaultyAt AnyDesign Keeps 1048576 bytes place kind
+IsFaultyAt bytes place kind = texts.IsFaultyAt AnyDesign Keeps text_limit bytes place kind
 
 -- what a fault says
 abbrev pub Faults : List ℕ → TextFault → Type 0
-Faults bytes fault = texts.Faults AnyDesign Keeps 1048576 bytes fault
+Faults bytes fault = texts.Faults AnyDesign Keeps text_limit bytes fault
 
 -- what an answer says; want of memory says nothing
 abbrev pub Says : List ℕ → Result designs.Design TextFault → Type 0

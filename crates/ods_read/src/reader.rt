@@ -7,12 +7,12 @@ ghost use Rattle.ods_read.specs.Answers.{Says, fault_of};
 use crate::design::whole;
 use ods_tree::Design;
 use seq_read::{Halt, place_of};
-use seq_tree::TextFault;
+use seq_tree::{TEXT_LIMIT, TextFault};
 use std::alloc::Global;
 use token_read::{LexFault, Tokens};
 
 /// The most bytes that a design may have.
-const MOST_BYTES: usize = 1_048_576;
+const MOST_BYTES: usize = TEXT_LIMIT;
 
 /// The fault of a text that has no tokens.
 fn misread(fault: LexFault) -> TextFault

@@ -3,6 +3,7 @@ use Rattle.std.proofs.Common.{◌≡◌, ℕ, min, Bool, true, false, List, [], 
 use Rattle.std.proofs.Common.{slice_get, suc, ◌+◌}
 use Rattle.std.specs.Prelude.{find, nat_lt, nat_le, flat_map}
 use Rattle.std.proofs.lemmas.List.{map-append}
+use Rattle.seq_tree.specs.Limits.{tick_limit}
 use Rattle.seq_tree.specs.Names.{Name}
 use Rattle.seq_tree.specs.Operations.{Operation}
 use Rattle.ods_tree.specs.Flats.{Library, Guarded, Thread, Flat}
@@ -63,10 +64,10 @@ module _ (g : Flat) where
   costs-are = all-by cut (λ object. body_cost g) (thread_cost g) (λ object o. refl) (λ u. refl)
 
 -- whether a number is over the most is told when it is cut too
-cheap-of : (n : ℕ) → nat_lt most_ticks n ≡ false → nat_le (min cap n) 1000000000 ≡ true
+cheap-of : (n : ℕ) → nat_lt most_ticks n ≡ false → nat_le (min cap n) tick_limit ≡ true
 cheap-of n e = grind (arith, e)
 
-dear-of : (n : ℕ) → nat_lt most_ticks n ≡ true → nat_le (min cap n) 1000000000 ≡ false
+dear-of : (n : ℕ) → nat_lt most_ticks n ≡ true → nat_le (min cap n) tick_limit ≡ false
 dear-of n e = grind (arith, e)
 
 among-is : (ps : List Part) → dear_among (map named ps) (map cut ps) ≡ option_map named (find (λ p. nat_lt most_ticks p.ticks) ps)

@@ -1,6 +1,7 @@
 -- Blocks that are too dear: which statement of a block brings the sum of ticks over the most that a block may cost.
 -- Statements are counted from 0; the sum of the first so many statements is the cost of the block that they make.
 use Rattle.std.specs.Prelude.{ℕ, zero, suc, ◌<◌, ◌≤◌, nat_lt, Option, Some, None, if◌then◌else◌}
+use Rattle.seq_tree.specs.Limits.{tick_limit}
 use Rattle.seq_tree.specs.Names.{Name}
 use Rattle.seq_tree.specs.Statements.{Statements, End, Then}
 use Rattle.seq_tree.specs.Dearest.{cost}
@@ -8,7 +9,7 @@ use Rattle.seq_tree.specs.declared.tree.Costs.{Costs}
 
 -- the most that a block may cost, in ticks
 abbrev pub most : ℕ
-most = 1000000000
+most = tick_limit
 
 -- these ticks, where they are at most that
 abbrev pub within_most : ℕ → Option ℕ

@@ -8,11 +8,11 @@ ghost use Rattle.seq_cost.specs.Over.{BringsOver, most, within_most};
 use crate::accounts::{Account, Callee, Listed};
 use crate::counted::Counted;
 use crate::paths::{block_weight, statement_weight};
-use seq_tree::{Block, Costs, Stmt};
+use seq_tree::{Block, Costs, Stmt, TICK_LIMIT};
 use thiserror::Error;
 
 /// The most that a block may cost, in ticks.
-const MOST: u64 = 1_000_000_000;
+const MOST: u64 = TICK_LIMIT as u64;
 
 /// A block costs more than 1,000,000,000 ticks.
 #[derive(Clone, Copy, Debug, PartialEq, Eq, Error)]

@@ -2,6 +2,7 @@
 use Rattle.std.proofs.Common.{◌≡◌, ℕ, ◌+◌, ◌≤◌, ◌<◌, false, fold, List, [], ◌∷◌, ◌++◌, length, Result, Ok, Err, refl, sym, ap, ◌∙◌, arith, subst}
 use Rattle.std.proofs.lemmas.List.Sums.{fold-append}
 use Rattle.grammar.specs.Reading.{whole_at}
+use Rattle.seq_tree.specs.Limits.{tick_limit}
 use Rattle.seq_tree.specs.Names.{Name}
 use Rattle.seq_tree.specs.Statements.{Statements}
 use Rattle.seq_tree.specs.Variables.{Variables}
@@ -31,13 +32,13 @@ deep-enough = omega arith
 
 -- a block whose walks take few ticks
 abbrev pub IsCheap : Costs → (Name → Name → Callee) → Statements → Type 0
-IsCheap costs calls b = (depth : ℕ) → most_ticks costs calls depth b ≤ 1000000000
+IsCheap costs calls b = (depth : ℕ) → most_ticks costs calls depth b ≤ tick_limit
 
 pub record Keeps (costs : Costs) (calls : Name → Name → Callee) (b : Statements) (whole : ℕ → Result ends.End ℕ) (names : List Name) (count : ℕ)
     (s : State) : Type 0 where
   pub kept : (depth : ℕ) → most < depth → rest_of costs calls depth s ≡ whole depth
-  pub low : IsCheap costs calls b → (depth : ℕ) → most < depth → s.low + toll costs calls 0 depth s.doings ≤ 1000000000
-  pub high : IsCheap costs calls b → (depth : ℕ) → most < depth → s.high + toll costs calls 0 depth s.doings ≤ 1000000000
+  pub low : IsCheap costs calls b → (depth : ℕ) → most < depth → s.low + toll costs calls 0 depth s.doings ≤ tick_limit
+  pub high : IsCheap costs calls b → (depth : ℕ) → most < depth → s.high + toll costs calls 0 depth s.doings ≤ tick_limit
   pub names-stay : names_under s ≡ names
   pub fewer : length s.script ≤ count
 

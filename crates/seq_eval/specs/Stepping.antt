@@ -3,6 +3,7 @@
 use Rattle.std.specs.Prelude.{ℕ, suc, ◌+◌, ◌*◌, ◌≤◌, Bool, true, false, List, [], ◌∷◌, length, drop, nat_le, nat_lt, Option, Some, None, Result}
 use Rattle.std.specs.Prelude.{Ok, Err}
 use Rattle.std.specs.Prelude.{if◌then◌else◌, is_some}
+use Rattle.seq_tree.specs.Limits.{tick_limit}
 use Rattle.seq_tree.specs.Names.{Name}
 use Rattle.seq_tree.specs.Expressions.{Expression}
 use Rattle.seq_tree.specs.Statements.{Statement, Statements, Branches, Null, Assign, If, For, ExitWhen, Call, Work, Put, End, Then, Nothing}
@@ -165,4 +166,4 @@ moved false s = Err (length s.script)
 
 -- ticks so far that are far from the greatest number of a program
 abbrev pub HasFew : State → Type 0
-HasFew s = (s.low ≤ 1000000000) × (s.high ≤ 1000000000)
+HasFew s = (s.low ≤ tick_limit) × (s.high ≤ tick_limit)

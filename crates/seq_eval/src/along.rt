@@ -9,6 +9,7 @@ ghost use Rattle.seq_eval.specs.Calls.{calls_in};
 ghost use Rattle.seq_eval.specs.Ends.{FitsEnd, IsEnd, comes_to, names_of};
 ghost use Rattle.seq_eval.specs.Following.{Follows, Means, callees};
 ghost use Rattle.seq_eval.specs.Scripts.{IsWithin, answered};
+ghost use Rattle.seq_tree.specs.Limits.{tick_limit};
 
 use crate::action::{Action, Followed};
 use crate::calls::Calls;
@@ -69,7 +70,7 @@ fn run<'a, 'c: 'a, S: Actions + Drop>(
     script: S,
 ) -> Result<Ended<S>, NoMemory>
     ensures fits { IfOk result (FitsEnd S.meaning (names_of env.entry.now.slots.items) (length (S.meaning script))) }
-    ensures ended { IfOk result (λ e. ((depth : ℕ) → most_ticks costs.now (calls_in calls.now) depth (block_of block.entry.now) ≤ 1000000000)
+    ensures ended { IfOk result (λ e. ((depth : ℕ) → most_ticks costs.now (calls_in calls.now) depth (block_of block.entry.now) ≤ tick_limit)
         → (depth : ℕ) → 18446744073709551615 < depth
         → IsEnd S.meaning (names_of env.entry.now.slots.items) (length (S.meaning script)) e
         (comes_to (whole_at (walk_at costs.now (calls_in calls.now) depth (block_of block.entry.now) env.entry.now.slots.items)
@@ -123,11 +124,11 @@ pub fn follow_actions<S: Actions + Drop>(
     env: &mut Env,
     script: S,
 ) -> Result<Along<S>, NoMemory>
-    ensures says { ((depth : ℕ) → most_ticks costs.now (calls_in calls.now) depth (block_of block.now) ≤ 1000000000)
+    ensures says { ((depth : ℕ) → most_ticks costs.now (calls_in calls.now) depth (block_of block.now) ≤ tick_limit)
         → (depth : ℕ) → MayRun (calls_in calls.now) depth (block_of block.now)
         → Follows costs.now (calls_in calls.now) depth (block_of block.now) env.old.slots.items (S.meaning script)
         (answered S.meaning (length (S.meaning script)) result) env.new.slots.items }
-    ensures means { ((depth : ℕ) → most_ticks costs.now (calls_in calls.now) depth (block_of block.now) ≤ 1000000000)
+    ensures means { ((depth : ℕ) → most_ticks costs.now (calls_in calls.now) depth (block_of block.now) ≤ tick_limit)
         → (depth : ℕ) → MayRun (calls_in calls.now) depth (block_of block.now)
         → Means costs.now (calls_in calls.now) (block_of block.now) env.old.slots.items (S.meaning script)
         (answered S.meaning (length (S.meaning script)) result) env.new.slots.items }
@@ -154,11 +155,11 @@ pub fn follow_in(
     env: &mut Env,
     script: &[Action],
 ) -> Result<Followed, NoMemory>
-    ensures says { ((depth : ℕ) → most_ticks costs.now (calls_in calls.now) depth (block_of block.now) ≤ 1000000000)
+    ensures says { ((depth : ℕ) → most_ticks costs.now (calls_in calls.now) depth (block_of block.now) ≤ tick_limit)
         → (depth : ℕ) → MayRun (calls_in calls.now) depth (block_of block.now)
         → Follows costs.now (calls_in calls.now) depth (block_of block.now) env.old.slots.items (map action_of script.now) result
         env.new.slots.items }
-    ensures means { ((depth : ℕ) → most_ticks costs.now (calls_in calls.now) depth (block_of block.now) ≤ 1000000000)
+    ensures means { ((depth : ℕ) → most_ticks costs.now (calls_in calls.now) depth (block_of block.now) ≤ tick_limit)
         → (depth : ℕ) → MayRun (calls_in calls.now) depth (block_of block.now)
         → Means costs.now (calls_in calls.now) (block_of block.now) env.old.slots.items (map action_of script.now) result env.new.slots.items }
 {
@@ -193,14 +194,14 @@ pub fn follow(
     requires { length owners.now ≡ length passive.now }
     ensures says { ((depth : ℕ) → most_ticks costs.now (callees owners.now (map operation_of passive.now) (map offer_of shared.now)
         (map offer_of requests.now))
-        depth (block_of block.now) ≤ 1000000000)
+        depth (block_of block.now) ≤ tick_limit)
         → (depth : ℕ)
         → MayRun (callees owners.now (map operation_of passive.now) (map offer_of shared.now) (map offer_of requests.now)) depth (block_of block.now)
         → Follows costs.now (callees owners.now (map operation_of passive.now) (map offer_of shared.now) (map offer_of requests.now)) depth
         (block_of block.now) env.old.slots.items (map action_of script.now) result env.new.slots.items }
     ensures means { ((depth : ℕ) → most_ticks costs.now (callees owners.now (map operation_of passive.now) (map offer_of shared.now)
         (map offer_of requests.now))
-        depth (block_of block.now) ≤ 1000000000)
+        depth (block_of block.now) ≤ tick_limit)
         → (depth : ℕ)
         → MayRun (callees owners.now (map operation_of passive.now) (map offer_of shared.now) (map offer_of requests.now)) depth (block_of block.now)
         → Means costs.now (callees owners.now (map operation_of passive.now) (map offer_of shared.now) (map offer_of requests.now))

@@ -12,12 +12,12 @@ use crate::params::{asked, handed_out, hands, open_locals, open_params, out_coun
 use crate::scope::Scope;
 use crate::script::Actions;
 use crate::values::eval;
-use seq_tree::{Arm, Block, Costs, Expr, Name, NoMemory, OpText, Param, Stmt};
+use seq_tree::{Arm, Block, Costs, Expr, Name, NoMemory, OpText, Param, Stmt, TICK_LIMIT};
 use std::alloc::Global;
 use std::mem::replace;
 
 /// The most ticks that a run takes of a block that may stand in a design, without those of the bodies of protected operations.
-const MOST_TICKS: u64 = 1_000_000_000;
+const MOST_TICKS: u64 = TICK_LIMIT as u64;
 
 /// The turn of a loop at a value, up to the last one.
 #[derive(Clone, Copy, Drop)]

@@ -15,6 +15,7 @@
 #![tactic(auto)]
 
 mod copies;
+mod limits;
 mod memory;
 mod name;
 mod runs;
@@ -22,6 +23,7 @@ mod text_fault;
 mod token;
 mod tree;
 
+pub use limits::{ADA_LIMIT, TEXT_LIMIT, TICK_LIMIT};
 pub use memory::NoMemory;
 pub use name::{Name, NameFault};
 pub use runs::{Part, run_len};

@@ -2,6 +2,7 @@
 -- They are those that the lexical grammar gives the text by itself, wherever it stands.
 use Rattle.std.specs.Prelude.{◌≡◌, ◌≤◌, ℕ, Bool, true, List, [], ◌∷◌, length, Option, Some, None, is_some, Result, Ok, Err}
 use Rattle.std.specs.Borrow.{Bor}
+use Rattle.seq_tree.specs.Limits.{ada_limit}
 use Rattle.seq_tree.specs.Lexis.{Misread, tokens}
 use Rattle.seq_tree.specs.declared.token.Spanned.{Spanned}
 use Rattle.seq_tree.specs.declared.token.Token.{Token}
@@ -40,4 +41,4 @@ counted (Some l) ts = token_of l ∷ ts
 -- the first token and the bytes behind it, or none
 abbrev pub Finds : Option (Lexeme × Bor (List ℕ)) → List Token → Type 0
 Finds None ts = ts ≡ []
-Finds (Some x) ts = (ts ≡ token_of x.0 ∷ behind x.1.now) × (is_whole x.1.now ≡ true) × (length x.1.now ≤ 16777216)
+Finds (Some x) ts = (ts ≡ token_of x.0 ∷ behind x.1.now) × (is_whole x.1.now ≡ true) × (length x.1.now ≤ ada_limit)

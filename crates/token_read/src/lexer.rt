@@ -2,6 +2,7 @@ ghost use Rattle.std.specs.Prelude.{◌≡◌, ◌≤◌, ◌++◌, [], IfErr, O
 ghost use Rattle.seq_tree.specs.Lexis.{tokens, with_token};
 ghost use Rattle.token_read.specs.Lexemes.{token_of};
 ghost use Rattle.token_read.specs.Outcomes.{Gives};
+ghost use Rattle.seq_tree.specs.Limits.{ada_limit};
 
 use crate::fault::LexFault;
 use crate::fronts::{Front, front_of};
@@ -32,7 +33,7 @@ fn add(
 /// text and its place; `NoMemory` may come in place of any answer.
 #[tactic(auto, using(crate::proofs::Shared::TokenSteps::token_steps))]
 pub fn tokens(alloc: Global, bytes: &[u8]) -> Result<Vec<Spanned>, LexFault>
-    requires { length bytes.now ≤ 16777216 }
+    requires { length bytes.now ≤ ada_limit }
     ensures { Gives (λ v. v.items) result (tokens bytes.now) }
 {
     let mut found = Vec::new(alloc);

@@ -2,6 +2,7 @@ ghost use Rattle.std.specs.Prelude.{◌≡◌, ◌≤◌, List, Ok, length, slic
 ghost use Rattle.seq_tree.specs.Lexis.{tokens};
 ghost use Rattle.seq_tree.specs.declared.token.Spanned.{Spanned};
 ghost use Rattle.token_read.specs.Places.{passed, place_or};
+ghost use Rattle.seq_tree.specs.Limits.{ada_limit};
 
 use crate::fronts::{Front, front_of};
 use crate::places::place_past;
@@ -23,7 +24,7 @@ fn passed(others: usize, is_token: bool) -> Option<usize>
 /// The text has at most 16,777,216 bytes and no fault; lines and columns count from 1, columns in bytes.
 #[tactic(auto, using(crate::proofs::PlaceWalk::walk_steps))]
 pub fn place_behind(bytes: &[u8], before: usize) -> Place
-    requires { length bytes.now ≤ 16777216 }
+    requires { length bytes.now ≤ ada_limit }
     ensures { (found : List Spanned) → tokens bytes.now ≡ Ok found → result ≡ place_or bytes.now (slice_get found before) }
 {
     let mut others = before;

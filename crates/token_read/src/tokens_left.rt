@@ -3,6 +3,7 @@ ghost use Rattle.seq_tree.specs.Lexis.{plain, tokens};
 ghost use Rattle.token_read.specs.Behind.{Finds, behind, counted, is_whole, seen};
 ghost use Rattle.token_read.specs.Outcomes.{Gives};
 ghost use Rattle.token_read.specs.Words.{bare};
+ghost use Rattle.seq_tree.specs.Limits.{ada_limit};
 
 use crate::fault::LexFault;
 use crate::fronts::{Front, front_of, is_space};
@@ -18,7 +19,7 @@ pub struct Tokens<'a> {
     listed: &'a [Spanned],
     text: &'a [u8],
     count: usize,
-    ghost few: { length text.now ≤ 16777216 },
+    ghost few: { length text.now ≤ ada_limit },
     ghost whole: { is_whole text.now ≡ true },
     ghost counts: { count ≡ length (counted next (bare listed.now ++ behind text.now)) },
 }
@@ -27,7 +28,7 @@ pub struct Tokens<'a> {
 #[inline(always)]
 #[tactic(auto, using(crate::proofs::Shared::BehindSteps::front_steps))]
 fn step_of<'a>(bytes: &'a [u8], first: u8, rest: &'a [u8]) -> Option<(Option<Lexeme<'a>>, &'a [u8])>
-    requires few { length bytes.now ≤ 16777216 }
+    requires few { length bytes.now ≤ ada_limit }
     requires parts { bytes.now ≡ first ∷ rest.now }
     ensures behind { IfSome result (λ r. is_whole bytes.entry.now ≡ true → behind bytes.entry.now ≡ seen r.0 (behind r.1.now)) }
     ensures whole { IfSome result (λ r. is_whole bytes.entry.now ≡ is_whole r.1.now) }
@@ -50,7 +51,7 @@ fn step_of<'a>(bytes: &'a [u8], first: u8, rest: &'a [u8]) -> Option<(Option<Lex
 /// What stands at the front of a text without faults: a token, or white space or a comment; and the bytes behind it.
 #[inline(always)]
 fn front_and_rest<'a>(bytes: &'a [u8], first: u8, rest: &'a [u8]) -> (Option<Lexeme<'a>>, &'a [u8])
-    requires few { length bytes.now ≤ 16777216 }
+    requires few { length bytes.now ≤ ada_limit }
     requires whole { is_whole bytes.now ≡ true }
     requires parts { bytes.now ≡ first ∷ rest.now }
     ensures behind { behind bytes.entry.now ≡ seen result.0 (behind result.1.now) }
@@ -66,7 +67,7 @@ fn front_and_rest<'a>(bytes: &'a [u8], first: u8, rest: &'a [u8]) -> (Option<Lex
 /// The first token of a text without faults and the bytes behind it, where there is one.
 #[inline(always)]
 fn next_of<'a>(bytes: &'a [u8]) -> Option<(Lexeme<'a>, &'a [u8])>
-    requires few { length bytes.now ≤ 16777216 }
+    requires few { length bytes.now ≤ ada_limit }
     requires whole { is_whole bytes.now ≡ true }
     ensures { Finds result (behind bytes.entry.now) }
 {
@@ -83,7 +84,7 @@ fn next_of<'a>(bytes: &'a [u8]) -> Option<(Lexeme<'a>, &'a [u8])>
 
 /// How many tokens there are, with one more where one was found.
 fn more(count: usize, token: Option<Lexeme>) -> usize
-    requires { count < 16777216 }
+    requires { count < ada_limit }
     ensures { result ≡ count + length (seen token.entry []) }
 {
     match token {
@@ -94,7 +95,7 @@ fn more(count: usize, token: Option<Lexeme>) -> usize
 
 /// How many tokens a text has, where it has no fault.
 fn count_of_whole(bytes: &[u8]) -> Option<usize>
-    requires { length bytes.now ≤ 16777216 }
+    requires { length bytes.now ≤ ada_limit }
     ensures counts { IfSome result (λ n. n ≡ length (behind bytes.now)) }
     ensures whole { IfSome result (λ _. is_whole bytes.now ≡ true) }
     ensures few { IfSome result (λ n. n ≤ length bytes.now) }
@@ -111,7 +112,7 @@ fn count_of_whole(bytes: &[u8]) -> Option<usize>
 
 /// How many tokens a text has, or its first fault, by a walk that keeps the place.
 fn count_with_places(bytes: &[u8]) -> Result<usize, LexFault>
-    requires { length bytes.now ≤ 16777216 }
+    requires { length bytes.now ≤ ada_limit }
     ensures gives { Gives (λ _. behind bytes.now) result (plain (tokens bytes.now)) }
     ensures counts { IfOk result (λ n. n ≡ length (behind bytes.now)) }
     ensures whole { IfOk result (λ _. is_whole bytes.now ≡ true) }
@@ -133,7 +134,7 @@ fn count_with_places(bytes: &[u8]) -> Result<usize, LexFault>
 
 /// How many tokens a text has, or its first fault. Most texts have none, so the place is kept only where there is one.
 fn count_of(bytes: &[u8]) -> Result<usize, LexFault>
-    requires { length bytes.now ≤ 16777216 }
+    requires { length bytes.now ≤ ada_limit }
     ensures gives { Gives (λ _. behind bytes.now) result (plain (tokens bytes.now)) }
     ensures counts { IfOk result (λ n. n ≡ length (behind bytes.now)) }
     ensures whole { IfOk result (λ _. is_whole bytes.now ≡ true) }
@@ -155,7 +156,7 @@ impl<'a> Tokens<'a> {
     #[inline(always)]
     #[tactic(auto, unfolding(crate::specs::Ahead::ahead))]
     fn from(listed: &'a [Spanned], text: &'a [u8], count: usize) -> Tokens<'a>
-        requires few { length text.now ≤ 16777216 }
+        requires few { length text.now ≤ ada_limit }
         requires whole { is_whole text.now ≡ true }
         requires counts { count ≡ length (bare listed.now ++ behind text.now) }
         ensures { ahead result ≡ bare listed.entry.now ++ behind text.entry.now }
@@ -187,7 +188,7 @@ impl<'a> Tokens<'a> {
     /// The tokens of a text of at most 16,777,216 bytes, which is gone through once, for its first fault and their number. No
     /// memory is taken: `Byte`, `Number` and `Long` tell the first fault of the text and its place, and `NoMemory` never comes.
     pub fn of(bytes: &'a [u8]) -> Result<Tokens<'a>, LexFault>
-        requires { length bytes.now ≤ 16777216 }
+        requires { length bytes.now ≤ ada_limit }
         ensures gives { Gives ahead result (plain (tokens bytes.entry.now)) }
         ensures few { IfOk result (λ t. length (ahead t) ≤ length bytes.entry.now) }
         ensures ample { IfErr result (λ e. e ≡ LexFault.NoMemory → ⊥) }

@@ -2,6 +2,7 @@ ghost use Rattle.std.specs.Prelude.{◌≡◌, ◌<◌, ◌≤◌, IfOk, length,
 ghost use Rattle.ada_tree.specs.Trees.{form_of, program_of, unit_of};
 ghost use Rattle.trace_tree.specs.Placed.{IsPlaced};
 ghost use Rattle.trace_checks.specs.Cycles.{first_release, next_after, nexts_after, nexts_by};
+ghost use Rattle.seq_tree.specs.Limits.{tick_limit};
 
 use crate::units::unit_at;
 use ada_tree::{AdaProgram, Form, Unit};
@@ -40,7 +41,7 @@ fn next_after(
     time: u64,
     value: Option<u32>,
 ) -> Option<u64>
-    requires { until ≤ 1000000000 }
+    requires { until ≤ tick_limit }
     ensures { result ≡ next_after period until next time value }
 {
     let next = next?;
@@ -60,7 +61,7 @@ fn note(
     task: u32,
     value: Option<u32>,
 )
-    requires near { until ≤ 1000000000 }
+    requires near { until ≤ tick_limit }
     requires task { task < length nexts.old.items }
     ensures { nexts.new.items ≡ nexts_by until (form_of form.now) nexts.old.items time task value }
 {
@@ -82,7 +83,7 @@ pub(crate) fn note_release(
     nexts: &mut Vec<Option<u64>>,
     event: &Event,
 )
-    requires near { until ≤ 1000000000 }
+    requires near { until ≤ tick_limit }
     requires placed { IsPlaced (program_of program.now) event.now }
     requires sized { length nexts.old.items ≡ length (program_of program.now).units }
     ensures { nexts.new.items ≡ nexts_after (program_of program.now) until nexts.old.items event.now }

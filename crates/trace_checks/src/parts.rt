@@ -4,6 +4,7 @@ ghost use Rattle.trace_tree.specs.Placed.{IsPlaced};
 ghost use Rattle.trace_checks.specs.First.{first_failing, is_periodic_by, is_requested_by, periodic_by, requested_by};
 ghost use Rattle.trace_checks.specs.Serving.{serving_of};
 ghost use Rattle.trace_checks.specs.Parts.{AreAfter, AreFirst, Judges, has_all, has_ended};
+ghost use Rattle.seq_tree.specs.Limits.{tick_limit};
 
 use crate::arrivals::{due_behind, is_over};
 use crate::broken::Broken;
@@ -141,7 +142,7 @@ impl<'a> Parts<'a> {
         until: u64,
         event: &Event,
     ) -> Result<(), NoMemory>
-        requires near { until ≤ 1000000000 }
+        requires near { until ≤ tick_limit }
         requires placed { IsPlaced (program_of program.now) event.now }
         requires nexts { length self.old.nexts.items ≡ length (program_of program.now).units }
         requires waiting { length self.old.waiting.items ≡ length (program_of program.now).units }

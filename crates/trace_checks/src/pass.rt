@@ -8,6 +8,7 @@ ghost use Rattle.law_trace_lines.specs.Told.{HasPlainNames};
 ghost use Rattle.guarantee.specs.Arrivals.{named_arrivals};
 ghost use Rattle.trace_checks.specs.Accepted.{AcceptedArrivalsAreOfUnits};
 ghost use Rattle.trace_checks.specs.Meanings.{Means};
+ghost use Rattle.seq_tree.specs.Limits.{tick_limit};
 
 use crate::broken::Broken;
 use crate::parts::Parts;
@@ -30,7 +31,7 @@ pub fn check_parts(
 ) -> Result<u64, Broken>
     requires meets { MeetsRules (program_of program.now) }
     requires plain { HasPlainNames (program_of program.now) }
-    requires near { arrivals.now.until ≤ 1000000000 }
+    requires near { arrivals.now.until ≤ tick_limit }
     requires units { Each (λ a. IsUnit (program_of program.now) a.task) arrivals.now.items.items }
     ensures { Means (program_of program.now) (named_arrivals (program_of program.now) (arrivals_of arrivals.now)) trace.now result }
 {

@@ -1,5 +1,6 @@
 -- A program with what its calls may lead to, and what the walk of a block along a script answers.
 use Rattle.std.specs.Prelude.{◌≡◌, ℕ, ◌≤◌, Bool, true, false, Option, Some, None, ⊤}
+use Rattle.seq_tree.specs.Limits.{tick_limit}
 use Rattle.seq_tree.specs.Lists.{Each}
 use Rattle.seq_tree.specs.Names.{Name}
 use Rattle.seq_tree.specs.Runs.{Path, Callee}
@@ -39,7 +40,7 @@ AllIn P p = Each (λ u. AllBlocks P u.form) p.units
 pub record IsScene (s : Scene) : Type 0 where
   pub rules : MeetsRules (program_in s)
   pub calls : calls_of s ≡ leads_to (software_of s)
-  pub ticks : AllIn (λ b. (depth : ℕ) → most_ticks (program_in s).costs (calls_of s) depth b ≤ 1000000000) (program_in s)
+  pub ticks : AllIn (λ b. (depth : ℕ) → most_ticks (program_in s).costs (calls_of s) depth b ≤ tick_limit) (program_in s)
 
 -- what the answer means, by the run that the script shows and whether it begins one
 abbrev pub IsWalk : Option Path → Bool → Walked → Variables → Type 0

@@ -17,6 +17,7 @@ ghost use Rattle.trace_scripts.specs.Scripts.{IsAt, action_at};
 ghost use Rattle.trace_scripts.specs.Scenes.{IsScene, calls_of, program_in, software_of};
 ghost use Rattle.trace_scripts.specs.Threads.{IsOf, after_event, charged_by, course_of, entered_if, finished_if, is_at_horizon, left_if};
 ghost use Rattle.trace_scripts.specs.Threads.{progress_of, released_in, seen_if, step_by, times_of};
+ghost use Rattle.seq_tree.specs.Limits.{tick_limit};
 
 use crate::data::{add_all, add_params, keep};
 use crate::scripts::Script;
@@ -167,7 +168,7 @@ impl Course {
     ) -> Result<Option<Env>, NoMemory>
         requires scene { IsScene scene.now }
         requires placed { Each (IsPlaced (program_in scene.now)) events.now }
-        requires ticks { (depth : ℕ) → most_ticks scene.now.program.now.costs (calls_of scene.now) depth (block_of thread.block.now) ≤ 1000000000 }
+        requires ticks { (depth : ℕ) → most_ticks scene.now.program.now.costs (calls_of scene.now) depth (block_of thread.block.now) ≤ tick_limit }
         ensures { (depth : ℕ) (t : Task) → IsOf t thread.entry → MayRun (leads_to (software_of scene.now)) depth (block_of thread.entry.block.now)
             → IfOk result (λ o. option_map (λ e. e.slots.items) o
             ≡ left_by_course (software_of scene.now) depth t kept_now.slots.items
@@ -202,7 +203,7 @@ impl Course {
     ) -> Result<bool, NoMemory>
         requires scene { IsScene scene.now }
         requires placed { Each (IsPlaced (program_in scene.now)) events.now }
-        requires ticks { (depth : ℕ) → most_ticks scene.now.program.now.costs (calls_of scene.now) depth (block_of thread.block.now) ≤ 1000000000 }
+        requires ticks { (depth : ℕ) → most_ticks scene.now.program.now.costs (calls_of scene.now) depth (block_of thread.block.now) ≤ tick_limit }
         ensures { (depth : ℕ) (t : Task) → IsOf t thread.entry → MayRun (leads_to (software_of scene.now)) depth (block_of thread.entry.block.now)
             → IfOk result (λ b. b ≡ ends_by (software_of scene.now) depth t kept_now.slots.items
             (course_of (program_in scene.now) events.now self.now) self.now.end) }
@@ -369,7 +370,7 @@ fn proceed(
     requires scene { IsScene scene.now }
     requires placed { Each (IsPlaced (program_in scene.now)) events.now }
     requires at { IsAt events.now here event.now }
-    requires ticks { (depth : ℕ) → most_ticks scene.now.program.now.costs (calls_of scene.now) depth (block_of thread.block.now) ≤ 1000000000 }
+    requires ticks { (depth : ℕ) → most_ticks scene.now.program.now.costs (calls_of scene.now) depth (block_of thread.block.now) ≤ tick_limit }
     ensures { (depth : ℕ) (t : Task) → IsOf t thread.entry → MayRun (leads_to (software_of scene.now)) depth (block_of thread.entry.block.now)
         → IfOk result (λ r. progress_of (program_in scene.now) events.now r ≡ step_by (program_in scene.now) depth t good (charge_of charge)
         (named_event (program_in scene.now) event.now)
@@ -403,7 +404,7 @@ pub(crate) fn advance(
     requires placed { Each (IsPlaced (program_in scene.now)) events.now }
     requires at { IsAt events.now here event.now }
     requires own { is_at_horizon (named_event (program_in scene.now) event.now) ≡ false }
-    requires ticks { (depth : ℕ) → most_ticks scene.now.program.now.costs (calls_of scene.now) depth (block_of thread.block.now) ≤ 1000000000 }
+    requires ticks { (depth : ℕ) → most_ticks scene.now.program.now.costs (calls_of scene.now) depth (block_of thread.block.now) ≤ tick_limit }
     ensures { (depth : ℕ) (t : Task) → IsOf t thread.entry → MayRun (leads_to (software_of scene.now)) depth (block_of thread.entry.block.now)
         → IfOk result (λ r. progress_of (program_in scene.now) events.now r ≡ step_by (program_in scene.now) depth t good (charge_of charge)
         (named_event (program_in scene.now) event.now) (progress_of (program_in scene.now) events.now state)) }

@@ -15,6 +15,7 @@ ghost use Rattle.trace_scripts.specs.Insides.{entry_of, known_from};
 ghost use Rattle.trace_scripts.specs.Scripts.{shown_of};
 ghost use Rattle.trace_scripts.specs.Objects.{charge_of, service_of};
 ghost use Rattle.trace_scripts.specs.Scenes.{IsScene, calls_of, program_in, software_of};
+ghost use Rattle.seq_tree.specs.Limits.{tick_limit};
 
 use crate::data::{keep, open, results};
 use crate::insides::{Entry, known};
@@ -106,7 +107,7 @@ fn pass<'a>(
 ) -> Result<(Service<'a>, Charge), NoMemory>
     requires scene { IsScene scene.now }
     requires placed { Each (IsPlaced (program_in scene.now)) events.now }
-    requires ticks { (depth : ℕ) → most_ticks scene.now.program.now.costs (calls_of scene.now) depth (block_of op.now.block) ≤ 1000000000 }
+    requires ticks { (depth : ℕ) → most_ticks scene.now.program.now.costs (calls_of scene.now) depth (block_of op.now.block) ≤ tick_limit }
     ensures service { (depth : ℕ) (g : Guarded) → MayRun (leads_to (software_of scene.now)) depth (block_of op.entry.now.block) → g.vars ≡ vars.now
         → IfOk result (λ r. service_of r.0 ≡ inside_by g thread.entry.now op.entry.now.sig.name (operation_of op.entry.now)
         (run_along (software_of scene.now) depth (block_of op.entry.now.block) env.slots.items (shown_of
@@ -145,7 +146,7 @@ fn stay<'a>(
 ) -> Result<Service<'a>, NoMemory>
     requires scene { IsScene scene.now }
     requires placed { Each (IsPlaced (program_in scene.now)) events.now }
-    requires ticks { (depth : ℕ) → most_ticks scene.now.program.now.costs (calls_of scene.now) depth (block_of op.now.block) ≤ 1000000000 }
+    requires ticks { (depth : ℕ) → most_ticks scene.now.program.now.costs (calls_of scene.now) depth (block_of op.now.block) ≤ tick_limit }
     ensures { (depth : ℕ) → MayRun (leads_to (software_of scene.now)) depth (block_of op.now.block)
         → IfOk result (λ r. service_of r ≡ last_by
         (begins_along (software_of scene.now) depth (block_of op.now.block) env.slots.items (shown_of
@@ -173,7 +174,7 @@ fn begin<'a>(
 ) -> Result<(Service<'a>, Charge), NoMemory>
     requires scene { IsScene scene.now }
     requires placed { Each (IsPlaced (program_in scene.now)) events.now }
-    requires ticks { (depth : ℕ) → most_ticks scene.now.program.now.costs (calls_of scene.now) depth (block_of op.now.block) ≤ 1000000000 }
+    requires ticks { (depth : ℕ) → most_ticks scene.now.program.now.costs (calls_of scene.now) depth (block_of op.now.block) ≤ tick_limit }
     ensures service { (depth : ℕ) (g : Guarded) → MayRun (leads_to (software_of scene.now)) depth (block_of op.entry.now.block) → g.vars ≡ vars.now
         → op_named g op.entry.now.sig.name ≡ Some (operation_of op.entry.now)
         → IfOk result (λ r. service_of r.0
@@ -224,7 +225,7 @@ pub(crate) fn enter<'a>(
     requires scene { IsScene scene.now }
     requires placed { Each (IsPlaced (program_in scene.now)) events.now }
     requires own { first_task (drop here events.now) ≡ Some task }
-    requires ticks { (depth : ℕ) → most_ticks scene.now.program.now.costs (calls_of scene.now) depth (block_of op.now.block) ≤ 1000000000 }
+    requires ticks { (depth : ℕ) → most_ticks scene.now.program.now.costs (calls_of scene.now) depth (block_of op.now.block) ≤ tick_limit }
     ensures service { (depth : ℕ) (g : Guarded) → MayRun (leads_to (software_of scene.now)) depth (block_of op.entry.now.block) → g.vars ≡ vars.now
         → op_named g op.entry.now.sig.name ≡ Some (operation_of op.entry.now)
         → IfOk result (λ r. service_of r.0

@@ -8,6 +8,7 @@ ghost use Rattle.law_traces.specs.Checks.{begins_along, run_along};
 ghost use Rattle.trace_tree.specs.Placed.{IsPlaced};
 ghost use Rattle.trace_scripts.specs.Scripts.{shown_of};
 ghost use Rattle.trace_scripts.specs.Scenes.{IsScene, IsWalk, calls_of, program_in, software_of};
+ghost use Rattle.seq_tree.specs.Limits.{tick_limit};
 
 use crate::reading::Reading;
 use crate::scripts::Script;
@@ -48,7 +49,7 @@ impl Scene<'_, '_> {
     ) -> Result<Walked, NoMemory>
         requires scene { IsScene self.now }
         requires placed { Each (IsPlaced (program_in self.now)) events.now }
-        requires ticks { (depth : ℕ) → most_ticks self.now.program.now.costs (calls_of self.now) depth (block_of block.now) ≤ 1000000000 }
+        requires ticks { (depth : ℕ) → most_ticks self.now.program.now.costs (calls_of self.now) depth (block_of block.now) ≤ tick_limit }
         ensures { (depth : ℕ) → MayRun (leads_to (software_of self.now)) depth (block_of block.now)
             → IfOk result (λ r. IsWalk (run_along (software_of self.now) depth (block_of block.now) env.old.slots.items (shown_of
             (program_in self.now) events.now script.now))

@@ -6,6 +6,7 @@ use Rattle.std.proofs.lemmas.List.{length-map}
 use Rattle.grammar.specs.Reading.{Halt, Syntax, TooDeep, left_of, Reads, Widens, whole_at}
 use Rattle.grammar.proofs.Shared.Laws.{reads-same}
 use Rattle.grammar.proofs.Shared.Whole.{whole-found, whole-only, whole-fault}
+use Rattle.seq_tree.specs.Limits.{ada_limit}
 use Rattle.seq_tree.specs.Reach.{IsSyntaxFault, IsDepthFault}
 use Rattle.seq_tree.specs.Reach as reach
 use Rattle.seq_tree.specs.Names.{Name}
@@ -107,7 +108,7 @@ tokens-deep = whole-too-deep Any (λ p. tt) IsTextOf (program_at ada_block_at) r
     (λ ts x. x) (λ p ts g. (p, g)) program_in program_out
 
 -- FROM TOKENS TO THEIR TEXT
-pub reads-as : (bytes : List ℕ) (ts : List Spanned) (p : Program) → length bytes ≤ 16777216 → tokens bytes ≡ Ok ts
+pub reads-as : (bytes : List ℕ) (ts : List Spanned) (p : Program) → length bytes ≤ ada_limit → tokens bytes ≡ Ok ts
     → whole_at (program_at ada_block_at) (bare ts) ≡ Ok p → reading.Reads bytes p
 reads-as bytes ts p short e h =
     let a = whole-found IsTextOf Any (program_at ada_block_at) reads-ada (λ q. tt) (bare ts) p h in
@@ -125,7 +126,7 @@ pub reads-one : (bytes : List ℕ) (ts : List Spanned) (p q : Program) → token
 reads-one bytes ts p q e h r = let k : Ok q ≡ Ok p = sym (reads-only bytes ts q e r) ∙ h in cc
 
 -- what is answered of a program that was read
-pub judged-says : (bytes : List ℕ) (ts : List Spanned) (p : Program) (result : Result AdaProgram AdaFault) → length bytes ≤ 16777216
+pub judged-says : (bytes : List ℕ) (ts : List Spanned) (p : Program) (result : Result AdaProgram AdaFault) → length bytes ≤ ada_limit
     → tokens bytes ≡ Ok ts → whole_at (program_at ada_block_at) (bare ts) ≡ Ok p → IsJudged p result → Says bytes result
 judged-says bytes ts p (Ok q) short e h j =
     let P : Program → Type 0 = λ x. reading.Accepts bytes x in
@@ -151,7 +152,7 @@ at_place bytes ts halt place h here =
     = omega (arith, ap length f.split, length-append f.front f.back, f.place, length-map ts (λ (s : Spanned). s.token)) in
     here ∙ ap (place_at bytes ts) same
 
-pub faulty-at : (bytes : List ℕ) (ts : List Spanned) (left : ℕ) (place : Place) → length bytes ≤ 16777216 → tokens bytes ≡ Ok ts
+pub faulty-at : (bytes : List ℕ) (ts : List Spanned) (left : ℕ) (place : Place) → length bytes ≤ ada_limit → tokens bytes ≡ Ok ts
     → whole_at (program_at ada_block_at) (bare ts) ≡ Err (Syntax left) → place ≡ place_at bytes ts left → IsFaultyAt bytes place reach.Syntax
 faulty-at bytes ts left place short e h here = record {
   short = short;
@@ -162,7 +163,7 @@ faulty-at bytes ts left place short e h here = record {
   here = at_place bytes ts (Syntax left) place h here;
 }
 
-pub deep-at : (bytes : List ℕ) (ts : List Spanned) (left : ℕ) (place : Place) → length bytes ≤ 16777216 → tokens bytes ≡ Ok ts
+pub deep-at : (bytes : List ℕ) (ts : List Spanned) (left : ℕ) (place : Place) → length bytes ≤ ada_limit → tokens bytes ≡ Ok ts
     → whole_at (program_at ada_block_at) (bare ts) ≡ Err (TooDeep left) → place ≡ place_at bytes ts left → IsFaultyAt bytes place reach.TooDeep
 deep-at bytes ts left place short e h here = record {
   short = short;
@@ -176,7 +177,7 @@ deep-at bytes ts left place short e h here = record {
 -- A TEXT THAT READS AS A PROGRAM HAS NO FAULT
 pub reads-unfaulty : (bytes : List ℕ) (p : Program) (f : TextFault) → reading.Reads bytes p → Faults bytes f → ⊥
 reads-unfaulty bytes p f r h =
-    no-text-fault AnyProgram SomeProgram 16777216 bytes (program_tokens p) f r.within r.spelled (p, free-program 64 32 p r.proper, refl)
+    no-text-fault AnyProgram SomeProgram ada_limit bytes (program_tokens p) f r.within r.spelled (p, free-program 64 32 p r.proper, refl)
     (p, record { proper = r.proper; spelled = refl }) h
 
 pub accepts-unbroken : (bytes : List ℕ) (p : Program) (rule : AdaRule) (unit : Option Name) → reading.Accepts bytes p → Breaks bytes rule unit → ⊥

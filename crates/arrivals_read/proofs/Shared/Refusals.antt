@@ -3,6 +3,7 @@ use Rattle.std.specs.Prelude.{IfOk}
 use Rattle.std.proofs.Common.{◌≡◌, ℕ, ◌+◌, ◌<◌, ◌≤◌, nat_lt, List, [], ◌∷◌, ◌++◌, length, map, flat_map, slice_get, if◌then◌else◌, Option, Some}
 use Rattle.std.proofs.Common.{None, option_map, Result, Ok, Err, refl, sym, ap, subst, ◌∙◌}
 use Rattle.std.proofs.lemmas.Bool.{lt-ltb, le-ltb}
+use Rattle.seq_tree.specs.Limits.{text_limit}
 use Rattle.seq_tree.specs.Faults.{or_else}
 use Rattle.seq_tree.specs.Names.{Name}
 use Rattle.seq_tree.specs.Lexis.{tokens, plain}
@@ -98,7 +99,7 @@ far_refused bytes p value h a r =
     cc
 
 pub refused-nothing : (bytes : List ℕ) (p : Program) (f : ArrivalFault) → Refuses bytes p f → (a : Arrivals) → Arrives horizon_limit bytes p a → ⊥
-refused-nothing bytes p (told.Text f) h a r = no-text-fault AnyArrivals AnyArrivals 1048576 bytes (arrival_tokens r.tree) f r.within r.spelled
+refused-nothing bytes p (told.Text f) h a r = no-text-fault AnyArrivals AnyArrivals text_limit bytes (arrival_tokens r.tree) f r.within r.spelled
     (r.tree, refl) (r.tree, refl) h
 refused-nothing bytes p (told.Q1 line) h a r = wrong_refused bytes p Falling line h.0 h.1 a r
 refused-nothing bytes p (told.Q2 line name) h a r = wrong_refused bytes p Unknown line name h a r
@@ -175,7 +176,7 @@ one_told bytes p f g h k =
 
 text_or_told : (bytes : List ℕ) (p : Program) (f : TextFault) (g : ArrivalFault) → Faults bytes f → IsTold bytes p g → ⊥
 text_or_told bytes p f g h k =
-    no-text-fault AnyArrivals AnyArrivals 1048576 bytes (arrival_tokens k.tree) f k.text.within (ap plain k.text.read ∙ ap Ok k.text.spelled)
+    no-text-fault AnyArrivals AnyArrivals text_limit bytes (arrival_tokens k.tree) f k.text.within (ap plain k.text.read ∙ ap Ok k.text.spelled)
     (k.tree, refl) (k.tree, refl) h
 
 -- a refusal is one of the text, or is told
@@ -193,7 +194,7 @@ one_of bytes p (told.Q5 line) h = OfItems (told_of_wrong bytes p Unfit line h.0 
 one_of bytes p told.NoMemory h = absurd h
 
 one_by : (bytes : List ℕ) (p : Program) (f g : ArrivalFault) → IsOneOf bytes p f → IsOneOf bytes p g → f ≡ g
-one_by bytes p f g (OfText a e h) (OfText b d k) = e ∙ ap told.Text (one-text-fault AnyArrivals AnyArrivals 1048576 bytes a b h k) ∙ sym d
+one_by bytes p f g (OfText a e h) (OfText b d k) = e ∙ ap told.Text (one-text-fault AnyArrivals AnyArrivals text_limit bytes a b h k) ∙ sym d
 one_by bytes p f g (OfText a e h) (OfItems k) = absurd (text_or_told bytes p a g h k)
 one_by bytes p f g (OfItems h) (OfText b d k) = absurd (text_or_told bytes p b f k h)
 one_by bytes p f g (OfItems h) (OfItems k) = one_told bytes p f g h k

@@ -1,5 +1,6 @@
 -- What is made of a design in ticks that meets the rules, from its flat design, its analysis and its text.
 use Rattle.std.proofs.Common.{◌≡◌, ℕ, ◌≤◌, ◌<◌, List, length, sym, ap, subst, ◌∙◌}
+use Rattle.seq_tree.specs.Limits.{ada_limit}
 use Rattle.ods_tree.specs.Designs.{Design}
 use Rattle.ods_tree.specs.Flats.{Flat}
 use Rattle.ods_tree.specs.Flattening.{flat}
@@ -33,7 +34,7 @@ module _ (x y : Design) (same : y ≡ x) (met : AreMet y y) (first : ℕ) (writt
     texts : (t : List ℕ) → t ≡ flat_text first f a.bounds.items → t ≡ flat_text (first_priority x) (flat x) a.bounds.items
     texts t e = e ∙ ap (λ n. flat_text n f a.bounds.items) named ∙ ap (λ g. flat_text (first_priority x) g a.bounds.items) flattened
 
-    pub made-of : (d : Delivery) → d.text.items ≡ flat_text first f a.bounds.items → length d.text.items ≤ 16777216 → d.bounds.items ≡ a.named.items
+    pub made-of : (d : Delivery) → d.text.items ≡ flat_text first f a.bounds.items → length d.text.items ≤ ada_limit → d.bounds.items ≡ a.named.items
         → d.ceilings.items ≡ a.ceilings.items → IsMade x d
     made-of d e short bounds ceilings =
         let k = right in record {
@@ -45,8 +46,8 @@ module _ (x y : Design) (same : y ≡ x) (met : AreMet y y) (first : ℕ) (writt
           ceilings = ceilings ∙ k.ceilings;
         }
 
-    pub long-of : (t : List ℕ) → t ≡ flat_text first f a.bounds.items → 16777216 < length t → IsLong x
+    pub long-of : (t : List ℕ) → t ≡ flat_text first f a.bounds.items → ada_limit < length t → IsLong x
     long-of t e long =
         let k = right in
-        let P : List ℕ → Type 0 = λ u. 16777216 < length u in
+        let P : List ℕ → Type 0 = λ u. ada_limit < length u in
         record { bounds = a.bounds.items; least = k.least; long = subst P (texts t e) long }

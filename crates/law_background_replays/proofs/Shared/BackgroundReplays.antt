@@ -1,5 +1,6 @@
 -- What is told by the program that a text is accepted as, where the text is that of a design with background objects.
 use Rattle.std.proofs.Common.{◌≡◌, ℕ, ◌≤◌, List, length, subst}
+use Rattle.seq_tree.specs.Limits.{ada_limit}
 use Rattle.seq_tree.specs.Proper.{within_limits}
 use Rattle.ods_tree.specs.Designs.{Design}
 use Rattle.ods_tree.specs.Words.{is_design_name}
@@ -34,7 +35,7 @@ right-replay limit x written v p r told proper passes fits own accepts =
     subst P same (λ accepted means. permitted limit x proper passes v fits r accepted told means)
 
 pub right-text : (limit : ℕ) (x : Design) (bytes : List ℕ) (v : List Bound) (p : Program) (r : Arrivals) (told : List Event) → Reads bytes x
-    → IsBackgroundDesign x → Fits (hard_rows (in_ticks x)) v → length (background_text (in_ticks x) v) ≤ 16777216
+    → IsBackgroundDesign x → Fits (hard_rows (in_ticks x)) v → length (background_text (in_ticks x) v) ≤ ada_limit
     → Accepts (background_text (in_ticks x) v) p → IsAccepted limit p r → Meaning p r told
     → PermitsBackground (in_ticks x) v (named_arrivals p r) (named p told)
 right-text limit x bytes v p r told reads passes fits short =

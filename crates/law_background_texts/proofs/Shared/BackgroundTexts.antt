@@ -3,6 +3,7 @@ use Rattle.std.proofs.Common.{◌≡◌, ℕ, ◌+◌, ◌-◌, ◌≤◌, Bool,
 use Rattle.std.proofs.Common.{refl, sym, ap, subst, ◌∙◌, arith, le_trans, if◌then◌else◌}
 use Rattle.std.specs.List.{list_all}
 use Rattle.std.proofs.lemmas.Bool.{and_parts, and_from}
+use Rattle.seq_tree.specs.Limits.{ada_limit}
 use Rattle.seq_tree.specs.Lexis.{tokens, plain}
 use Rattle.seq_print.proofs.Shared.TokenForms.{tokens-readable}
 use Rattle.seq_print.specs.Readable.{is_readable}
@@ -141,5 +142,5 @@ module _ (written : Design) (bytes : List ℕ) (reads : Reads bytes written) (pa
     pub text-spelled : plain (tokens (background_text x v)) ≡ Ok (program_tokens (background_program x))
     text-spelled = text-back (background_flat x) (background_ranks x) (hard_places x) v program-read head-read
 
-    pub text-guaranteed : (limit : ℕ) → length (background_text x v) ≤ 16777216 → IsGuaranteedInBackground limit x (background_text x v) v
+    pub text-guaranteed : (limit : ℕ) → length (background_text x v) ≤ ada_limit → IsGuaranteedInBackground limit x (background_text x v) v
     text-guaranteed limit short = guaranteed limit written reads.proper passes v fits (background_text x v) short text-spelled

@@ -6,6 +6,7 @@ use Rattle.std.proofs.Common.{sym, ◌∙◌, ap, ap₂, subst, inl, inr, arith}
 use Rattle.std.proofs.lemmas.Option.{none-some, same_Some, slice_get_within, slice_get-get_or}
 use Rattle.std.proofs.lemmas.List.{length-map}
 use Rattle.std.proofs.lemmas.List.Quantifiers.{position-Some}
+use Rattle.seq_tree.specs.Limits.{tick_limit}
 use Rattle.seq_tree.specs.Names.{Name}
 use Rattle.seq_tree.specs.Lists.{Each}
 use Rattle.seq_tree.specs.Operations.{Signature}
@@ -76,7 +77,7 @@ module _ (m first : ℕ) where
       ap₂ (λ n d. Sporadic n d op separation (unwrap_or jitter 0) (is_some jitter) t.vars t.block) (raised-number m p (first - 1))
       (raised-number m c (first - 1))
 
-  unit-raised : (b : Bool) (t : Thread) (p c : ℕ) → (b ≡ true → t.timing ≡ timing.Cyclic 1000000000 0)
+  unit-raised : (b : Bool) (t : Thread) (p c : ℕ) → (b ≡ true → t.timing ≡ timing.Cyclic tick_limit 0)
       → thread_unit ((if b then record t { timing = timing.Cyclic 1 0 } else t), (max m p + (first - 1), max m c + (first - 1)))
       ≡ record { name = t.name; form = lift_form (m + (first - 1)) b (thread_form (p + (first - 1)) (c + (first - 1)) t.timing t) }
   unit-raised false t p c h = ap (λ g. let u : Unit = record { name = t.name; form = g } in u) (form-raised t p c t.timing)
@@ -90,7 +91,7 @@ module _ (m first : ℕ) where
       (sym (h refl))
 
   threads-raised : (x : Design) (ts : List Thread) (qs cs : List ℕ)
-      → ((t : Thread) → IsIn t ts → is_client_name x t.name ≡ true → t.timing ≡ timing.Cyclic 1000000000 0)
+      → ((t : Thread) → IsIn t ts → is_client_name x t.name ≡ true → t.timing ≡ timing.Cyclic tick_limit 0)
       → map thread_unit (zip (map (restless x) ts) (zip (numbered first (at_least m qs)) (numbered first (at_least m cs))))
       ≡ map (lift_unit (m + (first - 1)) (is_client_name x)) (map thread_unit (zip ts (zip (numbered first qs) (numbered first cs))))
   threads-raised x [] qs cs h = refl

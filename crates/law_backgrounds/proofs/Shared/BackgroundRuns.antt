@@ -2,6 +2,7 @@
 use Rattle.std.specs.Prelude.{◌≡◌, ℕ, ◌-◌, ◌≤◌, Bool, true, false, not, List, [], ◌∷◌, ◌++◌, refl, map, take, length, Some, slice_get, Ok}
 use Rattle.std.proofs.Common.{sym, ◌∙◌, ap, ap₂, subst, arith}
 use Rattle.std.proofs.lemmas.Bool.{true≢false}
+use Rattle.seq_tree.specs.Limits.{ada_limit}
 use Rattle.seq_tree.specs.Names.{Name}
 use Rattle.seq_tree.specs.Lists.{Each}
 use Rattle.seq_tree.specs.Lexis.{tokens, plain}
@@ -206,7 +207,7 @@ module _ (limit : ℕ) (written : Design) (proper : IsProperDesign (within_limit
       }
 
   -- a text with the tokens of the program
-  pub guaranteed : (v : List Bound) → Fits (hard_rows x) v → (text : List ℕ) → length text ≤ 16777216
+  pub guaranteed : (v : List Bound) → Fits (hard_rows x) v → (text : List ℕ) → length text ≤ ada_limit
       → plain (tokens text) ≡ Ok (program_tokens q) → IsGuaranteedInBackground limit x text v
   guaranteed v fits text within spelled = record {
     reads = record { reads = record { within = within; proper = upright.0; spelled = spelled }; meets = upright.1 };

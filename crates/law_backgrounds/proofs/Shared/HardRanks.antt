@@ -5,6 +5,7 @@ use Rattle.std.specs.List.{cons_option}
 use Rattle.std.proofs.Common.{sym, ◌∙◌, ap, subst, arith}
 use Rattle.std.proofs.lemmas.Bool.{and_parts, true≢false}
 use Rattle.std.proofs.lemmas.Option.{none-some, same_Some, slice_get_within}
+use Rattle.seq_tree.specs.Limits.{tick_limit}
 use Rattle.seq_tree.specs.Names.{Name, are_distinct}
 use Rattle.seq_tree.specs.Lists.{Each}
 use Rattle.ods_tree.specs.Designs.{Object, Design}
@@ -113,7 +114,7 @@ module _ (x : Design) (quick : slow_threads x ≡ []) (calm : requesting_clients
       subst P (sym (threads-hard x))
       (in-filter_map (λ o. thread_by (hard_part x) (hard_object o)) (terminal_objects x) o c.thread h c.made)
 
-  slow-client : (t : Thread) → IsIn t f.threads → t.deadline ≡ 1000000000 → eager t.name ≡ true
+  slow-client : (t : Thread) → IsIn t f.threads → t.deadline ≡ tick_limit → eager t.name ≡ true
   slow-client t h slow = by (is_client s.0) refl
     where
       s : (o : Object) × IsIn o (terminal_objects x) × (thread_by (hard_part x) (hard_object o) ≡ Some t)
@@ -130,7 +131,7 @@ module _ (x : Design) (quick : slow_threads x ≡ []) (calm : requesting_clients
           (subst P (sym named) (in-map (λ (o : Object). o.name) s.0 (clients x) (filter-in is_client s.0 (terminal_objects x) s.1 e)))
 
   -- a thread with the name of a client is the client's
-  pub client-timing : (t : Thread) → IsIn t f.threads → eager t.name ≡ true → (t.timing ≡ Cyclic 1000000000 0) × (t.deadline ≡ 1000000000)
+  pub client-timing : (t : Thread) → IsIn t f.threads → eager t.name ≡ true → (t.timing ≡ Cyclic tick_limit 0) × (t.deadline ≡ tick_limit)
   client-timing t h e =
       let n = from-map (λ (o : Object). o.name) (clients x) t.name (named-at (map (λ (o : Object). o.name) (clients x)) t.name e) in
       let o = in-filter is_client n.0 (terminal_objects x) n.1 in
@@ -139,62 +140,62 @@ module _ (x : Design) (quick : slow_threads x ≡ []) (calm : requesting_clients
       key-eq (λ (z : Thread). z.name) f.threads thread-names c.thread t (client-there n.0 o.0 c) h (c.named ∙ sym n.2) in
       (ap (λ z. z.timing) (sym same) ∙ c.timing, ap (λ z. z.deadline) (sym same) ∙ c.deadline)
 
-  deadline-most : (t : Thread) → IsIn t f.threads → t.deadline ≤ 1000000000
+  deadline-most : (t : Thread) → IsIn t f.threads → t.deadline ≤ tick_limit
   deadline-most t h =
       let r = and_parts (is_timed t.timing) (is_within 1 (period_of t.timing) t.deadline) (all-in is_in_range f.threads t sound.formed.ranges h) in
       let d = within-true 1 (period_of t.timing) t.deadline r.1 in
       let p = most-period t.timing r.0 in
       omega (arith, d.1, p)
     where
-      most-period : (z : Timing) → is_timed z ≡ true → period_of z ≤ 1000000000
-      most-period (Cyclic period offset) g = (within-true 1 1000000000 period (and_parts (is_within 1 1000000000 period) _ g).0).1
-      most-period (Sporadic op separation jitter) g = (within-true 1 1000000000 separation (and_parts (is_within 1 1000000000 separation) _ g).0).1
+      most-period : (z : Timing) → is_timed z ≡ true → period_of z ≤ tick_limit
+      most-period (Cyclic period offset) g = (within-true 1 tick_limit period (and_parts (is_within 1 tick_limit period) _ g).0).1
+      most-period (Sporadic op separation jitter) g = (within-true 1 tick_limit separation (and_parts (is_within 1 tick_limit separation) _ g).0).1
 
   abbrev deadlines : List ℕ
   deadlines = map (λ (t : Thread). t.deadline) f.threads
 
-  all-low : Each (λ d. d ≤ 1000000000) deadlines
-  all-low = each-in (λ d. d ≤ 1000000000) deadlines (λ d h. let t = from-map (λ (t : Thread). t.deadline) f.threads d h in
+  all-low : Each (λ d. d ≤ tick_limit) deadlines
+  all-low = each-in (λ d. d ≤ tick_limit) deadlines (λ d h. let t = from-map (λ (t : Thread). t.deadline) f.threads d h in
       let l = deadline-most t.0 t.1 in let e = t.2 in omega (arith, l, e))
 
-  slow-mapped : (ts : List Thread) → slow_count 1000000000 (map (λ (t : Thread). t.deadline) ts)
-      ≡ length (filter (λ (t : Thread). t.deadline == 1000000000) ts)
+  slow-mapped : (ts : List Thread) → slow_count tick_limit (map (λ (t : Thread). t.deadline) ts)
+      ≡ length (filter (λ (t : Thread). t.deadline == tick_limit) ts)
   slow-mapped [] = refl
-  slow-mapped (t ∷ ts) = by (t.deadline == 1000000000) (slow-mapped ts)
+  slow-mapped (t ∷ ts) = by (t.deadline == tick_limit) (slow-mapped ts)
     where
-      by : (b : Bool) → slow_count 1000000000 (map (λ (t : Thread). t.deadline) ts) ≡ length (filter (λ (t : Thread). t.deadline == 1000000000) ts)
-          → length (if b then t.deadline ∷ filter (λ d. d == 1000000000) (map (λ (t : Thread). t.deadline) ts)
-          else filter (λ d. d == 1000000000) (map (λ (t : Thread). t.deadline) ts))
-          ≡ length (if b then t ∷ filter (λ (t : Thread). t.deadline == 1000000000) ts else filter (λ (t : Thread). t.deadline == 1000000000) ts)
+      by : (b : Bool) → slow_count tick_limit (map (λ (t : Thread). t.deadline) ts) ≡ length (filter (λ (t : Thread). t.deadline == tick_limit) ts)
+          → length (if b then t.deadline ∷ filter (λ d. d == tick_limit) (map (λ (t : Thread). t.deadline) ts)
+          else filter (λ d. d == tick_limit) (map (λ (t : Thread). t.deadline) ts))
+          ≡ length (if b then t ∷ filter (λ (t : Thread). t.deadline == tick_limit) ts else filter (λ (t : Thread). t.deadline == tick_limit) ts)
       by true h = ap suc h
       by false h = h
 
-  counted : slow_count 1000000000 deadlines ≡ client_count x
+  counted : slow_count tick_limit deadlines ≡ client_count x
   counted = slow-mapped f.threads ∙ slow-are-clients x quick
 
   -- clients have the least priorities, and the others are above them
   pub client-low : (k q : ℕ) (t : Thread) → slice_get f.threads k ≡ Some t → slice_get ps k ≡ Some q → eager t.name ≡ true → q ≤ client_count x
   client-low k q t at e h =
       let d = (client-timing t (at-in f.threads k t at) h).1 in
-      let g : slice_get deadlines k ≡ Some 1000000000 = map-at (λ (t : Thread). t.deadline) f.threads k t at ∙ ap Some d in
-      let l = slow-low 1000000000 deadlines k q all-low g e in
+      let g : slice_get deadlines k ≡ Some tick_limit = map-at (λ (t : Thread). t.deadline) f.threads k t at ∙ ap Some d in
+      let l = slow-low tick_limit deadlines k q all-low g e in
       omega (arith, l, counted)
 
   pub hard-high : (k q : ℕ) (t : Thread) → slice_get f.threads k ≡ Some t → slice_get ps k ≡ Some q → eager t.name ≡ false → client_count x < q
   hard-high k q t at e h =
       let i = at-in f.threads k t at in
       let most = deadline-most t i in
-      let fast : t.deadline < 1000000000 = by (t.deadline == 1000000000) refl most in
-      let c = fast-high 1000000000 deadlines k q t.deadline (map-at (λ (t : Thread). t.deadline) f.threads k t at) fast e in
+      let fast : t.deadline < tick_limit = by (t.deadline == tick_limit) refl most in
+      let c = fast-high tick_limit deadlines k q t.deadline (map-at (λ (t : Thread). t.deadline) f.threads k t at) fast e in
       omega (arith, c, counted)
     where
-      is : (n : ℕ) → (n == 1000000000) ≡ true → n ≡ 1000000000
+      is : (n : ℕ) → (n == tick_limit) ≡ true → n ≡ tick_limit
       is n g = grind arith
 
-      apart : (n : ℕ) → (n == 1000000000) ≡ false → n ≤ 1000000000 → n < 1000000000
+      apart : (n : ℕ) → (n == tick_limit) ≡ false → n ≤ tick_limit → n < tick_limit
       apart n g m = grind arith
 
-      by : (b : Bool) → (t.deadline == 1000000000) ≡ b → t.deadline ≤ 1000000000 → t.deadline < 1000000000
+      by : (b : Bool) → (t.deadline == tick_limit) ≡ b → t.deadline ≤ tick_limit → t.deadline < tick_limit
       by true g m = absurd (true≢false (sym (slow-client t (at-in f.threads k t at) (is t.deadline g)) ∙ h))
       by false g m = apart t.deadline g m
 
@@ -219,7 +220,7 @@ module _ (x : Design) (quick : slow_threads x ≡ []) (calm : requesting_clients
 
   pub clients-few : client_count x ≤ length f.threads
   clients-few =
-      let a = filter-few (λ (t : Thread). t.deadline == 1000000000) f.threads in let b = slow-are-clients x quick in omega (arith, a, b)
+      let a = filter-few (λ (t : Thread). t.deadline == tick_limit) f.threads in let b = slow-are-clients x quick in omega (arith, a, b)
     where
       filter-few : {A : Type 0} (test : A → Bool) (xs : List A) → length (filter test xs) ≤ length xs
       filter-few test [] = omega arith

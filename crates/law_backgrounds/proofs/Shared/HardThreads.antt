@@ -5,6 +5,7 @@ use Rattle.std.specs.List.{cons_option}
 use Rattle.std.proofs.Common.{sym, ◌∙◌, ap, subst, inl, inr, arith}
 use Rattle.std.proofs.lemmas.Bool.{and_parts, and_from}
 use Rattle.std.proofs.lemmas.Option.{none-some, same_Some}
+use Rattle.seq_tree.specs.Limits.{tick_limit}
 use Rattle.seq_tree.specs.Statements.{Statements}
 use Rattle.ods_tree.specs.Designs.{Object, Design}
 use Rattle.ods_tree.specs.Walk.{terminals, is_empty}
@@ -60,8 +61,8 @@ pub record OfClient (y : Design) (o : Object) : Type 0 where
   pub thread : Thread
   pub made : thread_by y (hard_object o) ≡ Some thread
   pub named : thread.name ≡ o.name
-  pub timing : thread.timing ≡ Cyclic 1000000000 0
-  pub deadline : thread.deadline ≡ 1000000000
+  pub timing : thread.timing ≡ Cyclic tick_limit 0
+  pub deadline : thread.deadline ≡ tick_limit
 
 pub client-thread : (y : Design) (o : Object) → is_client o ≡ true → OfClient y o
 client-thread y o e = by o.thread refl (and_parts (has_block o.thread) (is_empty o.provides) (and_parts (is_active o.kind) _ e).1).0
@@ -69,9 +70,9 @@ client-thread y o e = by o.thread refl (and_parts (has_block o.thread) (is_empty
     by : (b : Option Statements) → o.thread ≡ b → has_block b ≡ true → OfClient y o
     by None q h = cc
     by (Some b) q h = record {
-      thread = thread_at y (cyclic_client o) (Cyclic 1000000000 0) b;
+      thread = thread_at y (cyclic_client o) (Cyclic tick_limit 0) b;
       made = ap (λ c. thread_by y (if c then cyclic_client o else (if is_server o then protected_server o else soft_object o))) e
-          ∙ ap (option_map (thread_at y (cyclic_client o) (Cyclic 1000000000 0))) q;
+          ∙ ap (option_map (thread_at y (cyclic_client o) (Cyclic tick_limit 0))) q;
       named = refl;
       timing = refl;
       deadline = refl;
@@ -94,28 +95,28 @@ module _ (x : Design) (quick : slow_threads x ≡ []) where
 
   -- the thread of an object that is no client
   pub other-thread : (o : Object) (t : Thread) → IsIn o (terminal_objects x) → is_client o ≡ false → made_of o ≡ Some t
-      → (t.name ≡ o.name) × (t.deadline ≡ 1000000000 → ⊥)
+      → (t.name ≡ o.name) × (t.deadline ≡ tick_limit → ⊥)
   other-thread o t h e m = by (is_server o) (ap (λ c. thread_by y (if c then cyclic_client o else (if is_server o then protected_server o
       else soft_object o))) (sym e) ∙ m)
     where
       by : (b : Bool) → thread_by y (if b then protected_server o else soft_object o) ≡ Some t
-          → (t.name ≡ o.name) × (t.deadline ≡ 1000000000 → ⊥)
+          → (t.name ≡ o.name) × (t.deadline ≡ tick_limit → ⊥)
       by true k = absurd (none-some t k)
       by false k =
           let f : OfObject (soft_object o) t = of-object y (soft_object o) t k in
           (f.named, λ same. fast (find (has_key Deadline) o.attrs) refl (not-slow o h f.kind') (sym f.ends ∙ same))
         where
-          self : (n : ℕ) → n ≡ 1000000000 → (n == 1000000000) ≡ true
-          self n g = ap (λ z. z == 1000000000) g
+          self : (n : ℕ) → n ≡ tick_limit → (n == tick_limit) ≡ true
+          self n g = ap (λ z. z == tick_limit) g
 
           fast : (a : Option Attr) → find (has_key Deadline) o.attrs ≡ a → is_slow o ≡ false
-              → unwrap_or (option_map (λ z. z.value) a) 0 ≡ 1000000000 → ⊥
-          fast None g n q = (let z : (0 == 1000000000) ≡ true = ap (λ n. n == 1000000000) q in let w : false ≡ true = z in cc)
+              → unwrap_or (option_map (λ z. z.value) a) 0 ≡ tick_limit → ⊥
+          fast None g n q = (let z : (0 == tick_limit) ≡ true = ap (λ n. n == tick_limit) q in let w : false ≡ true = z in cc)
           fast (Some a) g n q =
               let i = found-in (has_key Deadline) o.attrs a g in
               let slow : is_slow o ≡ true =
-              any-in (λ z. has_key Deadline z && z.value == 1000000000) a o.attrs i.0
-              (and_from (has_key Deadline a) (a.value == 1000000000) i.1 (self a.value q)) in
+              any-in (λ z. has_key Deadline z && z.value == tick_limit) a o.attrs i.0
+              (and_from (has_key Deadline a) (a.value == tick_limit) i.1 (self a.value q)) in
               let z : true ≡ false = sym slow ∙ n in cc
 
   -- where a thread of the hard part comes from
@@ -124,7 +125,7 @@ module _ (x : Design) (quick : slow_threads x ≡ []) where
       let P : List Thread → Type 0 = λ zs. IsIn t zs in in-made made_of (terminal_objects x) t (subst P (threads-hard x) h)
 
   abbrev is_slow_thread : Thread → Bool
-  is_slow_thread t = t.deadline == 1000000000
+  is_slow_thread t = t.deadline == tick_limit
 
   -- as many slow threads as clients
   counting : (os : List Object) → ((o : Object) → IsIn o os → IsIn o (terminal_objects x))
@@ -132,13 +133,13 @@ module _ (x : Design) (quick : slow_threads x ≡ []) where
   counting [] h = refl
   counting (o ∷ os) h = by (is_client o) refl (counting os (λ z k. h z (inr k)))
     where
-      slow : (t : Thread) → t.deadline ≡ 1000000000 → is_slow_thread t ≡ true
-      slow t e = ap (λ n. n == 1000000000) e
+      slow : (t : Thread) → t.deadline ≡ tick_limit → is_slow_thread t ≡ true
+      slow t e = ap (λ n. n == tick_limit) e
 
-      fast : (t : Thread) → (t.deadline ≡ 1000000000 → ⊥) → is_slow_thread t ≡ false
+      fast : (t : Thread) → (t.deadline ≡ tick_limit → ⊥) → is_slow_thread t ≡ false
       fast t e = cases (is_slow_thread t) refl
         where
-          is : (n : ℕ) → (n == 1000000000) ≡ true → n ≡ 1000000000
+          is : (n : ℕ) → (n == tick_limit) ≡ true → n ≡ tick_limit
           is n g = grind arith
 
           cases : (b : Bool) → is_slow_thread t ≡ b → is_slow_thread t ≡ false
@@ -163,5 +164,5 @@ module _ (x : Design) (quick : slow_threads x ≡ []) where
               ap (λ b. length (if b then t ∷ filter is_slow_thread (filter_map made_of os) else filter is_slow_thread (filter_map made_of os)))
               (fast t f.1) ∙ rest
 
-  pub slow-are-clients : length (filter (λ t. t.deadline == 1000000000) (threads y)) ≡ length (clients x)
+  pub slow-are-clients : length (filter (λ t. t.deadline == tick_limit) (threads y)) ≡ length (clients x)
   slow-are-clients = ap (λ ts. length (filter is_slow_thread ts)) (threads-hard x) ∙ counting (terminal_objects x) (λ o h. h)

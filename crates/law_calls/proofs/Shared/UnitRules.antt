@@ -4,6 +4,7 @@ use Rattle.std.specs.Prelude.{Some, None, refl}
 use Rattle.std.specs.List.{list_any}
 use Rattle.std.proofs.Common.{sym, ap, subst, arith, inl, inr}
 use Rattle.std.proofs.lemmas.Bool.{or_parts, false_from_ne_true}
+use Rattle.seq_tree.specs.Limits.{tick_limit}
 use Rattle.seq_tree.specs.Faults.{BodyFault, block_fault}
 use Rattle.seq_tree.specs.Calls.{block_calls, block_works}
 use Rattle.seq_tree.specs.declared.tree.OpName.{OpName}
@@ -112,7 +113,7 @@ module _ (p : Program) (rules : MeetsRules p) where
   numbers-kept k u at =
       (or_parts (numbers_break u.form) (list_any (λ h. nat_lt 8 (length h.params)) (heads u.form))
       (or_parts (numbers_break u.form || list_any (λ h. nat_lt 8 (length h.params)) (heads u.form))
-      (list_any (is_outside 1 1000000000) (flat_map (λ b. block_works b.block) (bodies u.form)))
+      (list_any (is_outside 1 tick_limit) (flat_map (λ b. block_works b.block) (bodies u.form)))
       (ranges-kept k u at)).0).0
 
   pub priority-within : (a : Arrivals) (i : ℕ) (t : TaskUnit) → slice_get (system p a).threads i ≡ Some t → t.priority ≤ 60
@@ -122,16 +123,16 @@ module _ (p : Program) (rules : MeetsRules p) where
       by : (u : Unit) → numbers_break u.form ≡ false → (x : ReleasePattern) → thread_form t x u.form → t.priority ≤ 60
       by u numbers (Periodic offset period) form =
           let now : numbers_break (Cyclic t.priority offset period t.vars t.block) ≡ false = subst (λ f. numbers_break f ≡ false) form numbers in
-          within t.priority (or_parts (is_outside 1 60 t.priority) (is_outside 1 1000000000 period)
-          (or_parts (is_outside 1 60 t.priority || is_outside 1 1000000000 period) (nat_lt 1000000000 offset) now).0).0
+          within t.priority (or_parts (is_outside 1 60 t.priority) (is_outside 1 tick_limit period)
+          (or_parts (is_outside 1 60 t.priority || is_outside 1 tick_limit period) (nat_lt tick_limit offset) now).0).0
       by u numbers (Requested op ceiling separation jitter external) form =
           let now : numbers_break (Sporadic t.priority ceiling op separation jitter external t.vars t.block) ≡ false
           = subst (λ f. numbers_break f ≡ false) form numbers in
-          let one = or_parts (is_outside 1 60 t.priority || is_outside 1 60 ceiling || is_outside 1 1000000000 separation
+          let one = or_parts (is_outside 1 60 t.priority || is_outside 1 60 ceiling || is_outside 1 tick_limit separation
           || jitter_breaks external separation jitter) (nat_lt ceiling t.priority) now in
-          let two = or_parts (is_outside 1 60 t.priority || is_outside 1 60 ceiling || is_outside 1 1000000000 separation)
+          let two = or_parts (is_outside 1 60 t.priority || is_outside 1 60 ceiling || is_outside 1 tick_limit separation)
           (jitter_breaks external separation jitter) one.0 in
-          let three = or_parts (is_outside 1 60 t.priority || is_outside 1 60 ceiling) (is_outside 1 1000000000 separation) two.0 in
+          let three = or_parts (is_outside 1 60 t.priority || is_outside 1 60 ceiling) (is_outside 1 tick_limit separation) two.0 in
           within t.priority (or_parts (is_outside 1 60 t.priority) (is_outside 1 60 ceiling) three.0).0
 
   pub object-within : (a : Arrivals) (i : ℕ) (g : ProtectedUnit) → slice_get (system p a).objects i ≡ Some g → g.ceiling ≤ 60
@@ -149,7 +150,7 @@ module _ (p : Program) (rules : MeetsRules p) where
       = subst (λ x. thread_form t x found.1.form) is (found.2).form in
       let numbers : numbers_break (Sporadic t.priority ceiling op separation jitter external t.vars t.block) ≡ false
       = subst (λ f. numbers_break f ≡ false) form (numbers-kept found.0 found.1 (found.2).stands) in
-      let above = (or_parts (is_outside 1 60 t.priority || is_outside 1 60 ceiling || is_outside 1 1000000000 separation
+      let above = (or_parts (is_outside 1 60 t.priority || is_outside 1 60 ceiling || is_outside 1 tick_limit separation
       || jitter_breaks external separation jitter) (nat_lt ceiling t.priority) numbers).1 in
       grind (arith, above)
 

@@ -3,6 +3,7 @@ use Rattle.std.specs.Prelude.{◌≡◌, ℕ, zero, suc, ◌+◌, ◌*◌, ◌�
 use Rattle.std.specs.Prelude.{flat_map, find, length, Option, Some, None, if◌then◌else◌, ⊤, refl}
 use Rattle.std.specs.List.{list_all, cons_option}
 use Rattle.std.proofs.Common.{sym, subst, arith, le_refl, zero-le}
+use Rattle.seq_tree.specs.Limits.{tick_limit}
 use Rattle.seq_tree.specs.Names.{Name}
 use Rattle.seq_tree.specs.Operations.{Operation}
 use Rattle.seq_tree.specs.Lists.{Each}
@@ -89,7 +90,7 @@ module _ (f : Flat) (sound : IsSound f) where
   ss = flat_services f
 
   abbrev most : ℕ
-  most = 1000000000
+  most = tick_limit
 
   pub finish-some : 1 ≤ f.costs.finish
   finish-some =
@@ -101,18 +102,18 @@ module _ (f : Flat) (sound : IsSound f) where
 
   -- bodies of operations cost at most the greatest cost
   abbrev IsCheap : Sort → Operation → Type 0
-  IsCheap sort.Plain o = block_cost f.costs ss o.block ≤ 1000000000
-  IsCheap sort.Protected o = block_cost f.costs ss o.block ≤ 1000000000
+  IsCheap sort.Plain o = block_cost f.costs ss o.block ≤ tick_limit
+  IsCheap sort.Protected o = block_cost f.costs ss o.block ≤ tick_limit
   IsCheap sort.Request o = ⊤
 
   abbrev Cheap : List Operation → Type 0
-  Cheap os = Each (λ o. block_cost f.costs ss o.block ≤ 1000000000) os
+  Cheap os = Each (λ o. block_cost f.costs ss o.block ≤ tick_limit) os
 
-  cheap-ops : (os : List Operation) → list_all (λ o. nat_le (block_cost f.costs ss o.block) 1000000000) os ≡ true → Cheap os
-  cheap-ops os e = each-to (λ o. nat_le (block_cost f.costs ss o.block) 1000000000 ≡ true) (λ o. block_cost f.costs ss o.block ≤ 1000000000) os
-      (λ o h. leb-true (block_cost f.costs ss o.block) 1000000000 h) (all-each (λ o. nat_le (block_cost f.costs ss o.block) 1000000000) os e)
+  cheap-ops : (os : List Operation) → list_all (λ o. nat_le (block_cost f.costs ss o.block) tick_limit) os ≡ true → Cheap os
+  cheap-ops os e = each-to (λ o. nat_le (block_cost f.costs ss o.block) tick_limit ≡ true) (λ o. block_cost f.costs ss o.block ≤ tick_limit) os
+      (λ o h. leb-true (block_cost f.costs ss o.block) tick_limit h) (all-each (λ o. nat_le (block_cost f.costs ss o.block) tick_limit) os e)
 
-  cheap-plain : (ls : List Library) → Each (λ os. list_all (λ o. nat_le (block_cost f.costs ss o.block) 1000000000) os ≡ true) (map (λ l. l.ops) ls)
+  cheap-plain : (ls : List Library) → Each (λ os. list_all (λ o. nat_le (block_cost f.costs ss o.block) tick_limit) os ≡ true) (map (λ l. l.ops) ls)
       → Each (λ s. IsCheap s.sort s.op) (flat_map plain_services ls)
   cheap-plain [] h = tt
   cheap-plain (l ∷ ls) h = each-append (λ s. IsCheap s.sort s.op) (plain_services l) (flat_map plain_services ls) (ops l.ops (cheap-ops l.ops h.0))
@@ -123,7 +124,7 @@ module _ (f : Flat) (sound : IsSound f) where
       ops [] k = tt
       ops (o ∷ os) k = (k.0, ops os k.1)
 
-  cheap-protected : (gs : List Guarded) → Each (λ os. list_all (λ o. nat_le (block_cost f.costs ss o.block) 1000000000) os
+  cheap-protected : (gs : List Guarded) → Each (λ os. list_all (λ o. nat_le (block_cost f.costs ss o.block) tick_limit) os
       ≡ true) (map (λ g. g.ops) gs) → Each (λ s. IsCheap s.sort s.op) (flat_map protected_services gs)
   cheap-protected [] h = tt
   cheap-protected (g ∷ gs) h = each-append (λ s. IsCheap s.sort s.op) (protected_services g) (flat_map protected_services gs)
@@ -145,9 +146,9 @@ module _ (f : Flat) (sound : IsSound f) where
 
   all-cheap : Each (λ s. IsCheap s.sort s.op) ss
   all-cheap =
-      let all = each-split (λ os. list_all (λ o. nat_le (block_cost f.costs ss o.block) 1000000000) os
+      let all = each-split (λ os. list_all (λ o. nat_le (block_cost f.costs ss o.block) tick_limit) os
       ≡ true) (map (λ l. l.ops) f.passive) (map (λ g. g.ops) f.shared)
-      (all-each (λ ops. list_all (λ o. nat_le (block_cost f.costs (flat_services f) o.block) 1000000000) ops) (entry_ops f) sound.op_costs) in
+      (all-each (λ ops. list_all (λ o. nat_le (block_cost f.costs (flat_services f) o.block) tick_limit) ops) (entry_ops f) sound.op_costs) in
       each-append (λ s. IsCheap s.sort s.op) (flat_map plain_services f.passive) (flat_map protected_services f.shared ++ requests f.threads)
       (cheap-plain f.passive all.0)
       (each-append (λ s. IsCheap s.sort s.op) (flat_map protected_services f.shared) (requests f.threads) (cheap-protected f.shared all.1)
@@ -164,63 +165,63 @@ module _ (f : Flat) (sound : IsSound f) where
 
   -- and so do calls
   within-cheap : (n : ℕ) → suc n ≡ length ss → (s : Service) → IsCheap s.sort s.op
-      → service_cost f.costs (cost_within n f.costs ss) (Some s) ≤ 1000000000
+      → service_cost f.costs (cost_within n f.costs ss) (Some s) ≤ tick_limit
   within-cheap n long s cheap = by s.sort cheap
     where
       grows : (object op : Name) → cost_within n f.costs ss object op ≤ called_cost f.costs ss object op
       grows object op = subst (λ k. cost_within n f.costs ss object op ≤ cost_within k f.costs ss object op) long (deeper n f.costs ss object op)
 
-      by : (x : Sort) → IsCheap x s.op → body_cost_by f.costs (cost_within n f.costs ss) x s.op ≤ 1000000000
+      by : (x : Sort) → IsCheap x s.op → body_cost_by f.costs (cost_within n f.costs ss) x s.op ≤ tick_limit
       by sort.Plain h = let less = block-less f.costs (cost_within n f.costs ss) (called_cost f.costs ss) grows s.op.block in omega (arith, less, h)
       by sort.Protected h = let less = block-less f.costs (cost_within n f.costs ss) (called_cost f.costs ss) grows s.op.block
           in omega (arith, less, h)
       by sort.Request h = omega (arith, assign-small)
 
-  called-cheap : (object op : Name) → called_cost f.costs ss object op ≤ 1000000000
+  called-cheap : (object op : Name) → called_cost f.costs ss object op ≤ tick_limit
   called-cheap object op = by (length ss) refl
     where
       found : (n : ℕ) → suc n ≡ length ss → (o : Option Service) → service_named ss object op ≡ o
-          → service_cost f.costs (cost_within n f.costs ss) o ≤ 1000000000
+          → service_cost f.costs (cost_within n f.costs ss) o ≤ tick_limit
       found n long None e = zero-le
       found n long (Some s) e = within-cheap n long s (find-cheap (is_service object op) ss all-cheap s e)
 
-      by : (n : ℕ) → length ss ≡ n → cost_within n f.costs ss object op ≤ 1000000000
+      by : (n : ℕ) → length ss ≡ n → cost_within n f.costs ss object op ≤ tick_limit
       by zero e = zero-le
       by (suc n) e = found n (sym e) (service_named ss object op) refl
 
   -- the sections of calls, those inside others too
-  flat-cheap : (inner : OpName → List Section) → ((c : OpName) → Each (λ s. s.cost ≤ 1000000000) (inner c)) → (cs : List OpName)
-      → Each (λ s. s.cost ≤ 1000000000) (flat_map inner cs)
+  flat-cheap : (inner : OpName → List Section) → ((c : OpName) → Each (λ s. s.cost ≤ tick_limit) (inner c)) → (cs : List OpName)
+      → Each (λ s. s.cost ≤ tick_limit) (flat_map inner cs)
   flat-cheap inner h [] = tt
-  flat-cheap inner h (c ∷ cs) = each-append (λ s. s.cost ≤ 1000000000) (inner c) (flat_map inner cs) (h c) (flat-cheap inner h cs)
+  flat-cheap inner h (c ∷ cs) = each-append (λ s. s.cost ≤ tick_limit) (inner c) (flat_map inner cs) (h c) (flat-cheap inner h cs)
 
-  call-cheap : (depth : ℕ) (c : OpName) → Each (λ s. s.cost ≤ 1000000000) (sections_within depth f.costs ss c)
+  call-cheap : (depth : ℕ) (c : OpName) → Each (λ s. s.cost ≤ tick_limit) (sections_within depth f.costs ss c)
   call-cheap zero c = tt
   call-cheap (suc depth) c = by (service_named ss c.object c.op) (call-cheap depth)
     where
-      sorted : (x : Sort) (o : Operation) → ((d : OpName) → Each (λ s. s.cost ≤ 1000000000) (sections_within depth f.costs ss d))
-          → Each (λ s. s.cost ≤ 1000000000) (sections_by (section f.costs ss c) (sections_within depth f.costs ss) x o)
+      sorted : (x : Sort) (o : Operation) → ((d : OpName) → Each (λ s. s.cost ≤ tick_limit) (sections_within depth f.costs ss d))
+          → Each (λ s. s.cost ≤ tick_limit) (sections_by (section f.costs ss c) (sections_within depth f.costs ss) x o)
       sorted sort.Plain o inner = tt
       sorted sort.Protected o inner = (called-cheap c.object c.op, flat-cheap (sections_within depth f.costs ss) inner (live_calls o.block))
       sorted sort.Request o inner = (called-cheap c.object c.op, tt)
 
-      by : (o : Option Service) → ((d : OpName) → Each (λ s. s.cost ≤ 1000000000) (sections_within depth f.costs ss d))
-          → Each (λ s. s.cost ≤ 1000000000) (service_sections (section f.costs ss c) (sections_within depth f.costs ss) o)
+      by : (o : Option Service) → ((d : OpName) → Each (λ s. s.cost ≤ tick_limit) (sections_within depth f.costs ss d))
+          → Each (λ s. s.cost ≤ tick_limit) (service_sections (section f.costs ss c) (sections_within depth f.costs ss) o)
       by None inner = tt
       by (Some s) inner = sorted s.sort s.op inner
 
-  sections-cheap : (cs : List OpName) → Each (λ s. s.cost ≤ 1000000000) (flat_map (sections_within (length ss) f.costs ss) cs)
+  sections-cheap : (cs : List OpName) → Each (λ s. s.cost ≤ tick_limit) (flat_map (sections_within (length ss) f.costs ss) cs)
   sections-cheap cs = flat-cheap (sections_within (length ss) f.costs ss) (call-cheap (length ss)) cs
 
   lower-cheap : (level : ℕ) (us : List (Thread × ℕ))
-      → Each (λ s. s.cost ≤ 1000000000) (flat_map (λ u. if nat_lt u.1 level then sections f.costs ss u.0.block else []) us)
+      → Each (λ s. s.cost ≤ tick_limit) (flat_map (λ u. if nat_lt u.1 level then sections f.costs ss u.0.block else []) us)
   lower-cheap level [] = tt
   lower-cheap level (u ∷ us) = by (nat_lt u.1 level) (lower-cheap level us)
     where
-      by : (b : Bool) → Each (λ s. s.cost ≤ 1000000000) (flat_map (λ x. if nat_lt x.1 level then sections f.costs ss x.0.block else []) us)
-          → Each (λ s. s.cost ≤ 1000000000) ((if b then sections f.costs ss u.0.block else [])
+      by : (b : Bool) → Each (λ s. s.cost ≤ tick_limit) (flat_map (λ x. if nat_lt x.1 level then sections f.costs ss x.0.block else []) us)
+          → Each (λ s. s.cost ≤ tick_limit) ((if b then sections f.costs ss u.0.block else [])
           ++ flat_map (λ x. if nat_lt x.1 level then sections f.costs ss x.0.block else []) us)
-      by true rest = each-append (λ s. s.cost ≤ 1000000000) (sections f.costs ss u.0.block) _ (sections-cheap (live_calls u.0.block)) rest
+      by true rest = each-append (λ s. s.cost ≤ tick_limit) (sections f.costs ss u.0.block) _ (sections-cheap (live_calls u.0.block)) rest
       by false rest = rest
 
   filter-each : {A : Type 0} (P : A → Type 0) (test : A → Bool) (xs : List A) → Each P xs → Each P (filter test xs)
@@ -231,10 +232,10 @@ module _ (f : Flat) (sound : IsSound f) where
       by true rest = (h.0, rest)
       by false rest = rest
 
-  pub blocking-cheap : (ps : List ℕ) (level : ℕ) → blocking f ps level ≤ 1000000000
+  pub blocking-cheap : (ps : List ℕ) (level : ℕ) → blocking f ps level ≤ tick_limit
   blocking-cheap ps level =
-      fold-most 0 1000000000 (map (λ s. s.cost) (filter (λ s. nat_le level (ceiling f ps s.object)) (lower_sections f ps level))) zero-le (λ n h.
-      each-is (λ m. m ≤ 1000000000) _ n
-      (each-map (λ (s : Section). s.cost) (λ n. n ≤ 1000000000) (filter (λ s. nat_le level (ceiling f ps s.object)) (lower_sections f ps level))
-      (filter-each (λ s. s.cost ≤ 1000000000) (λ s. nat_le level (ceiling f ps s.object)) (lower_sections f ps level)
+      fold-most 0 tick_limit (map (λ s. s.cost) (filter (λ s. nat_le level (ceiling f ps s.object)) (lower_sections f ps level))) zero-le (λ n h.
+      each-is (λ m. m ≤ tick_limit) _ n
+      (each-map (λ (s : Section). s.cost) (λ n. n ≤ tick_limit) (filter (λ s. nat_le level (ceiling f ps s.object)) (lower_sections f ps level))
+      (filter-each (λ s. s.cost ≤ tick_limit) (λ s. nat_le level (ceiling f ps s.object)) (lower_sections f ps level)
       (lower-cheap level (zip f.threads ps)))) h)

@@ -1,6 +1,7 @@
 -- The numbers of the program are in their ranges where its priorities and ceilings are.
 use Rattle.std.proofs.Common.{◌≡◌, ℕ, Bool, true, false, ◌&&◌, ◌||◌, List, [], ◌∷◌, map, flat_map, zip, length, nat_lt, nat_le, is_some}
 use Rattle.std.proofs.Common.{unwrap_or, Option, Some, None, option_to_list, refl, sym, ap, subst, ◌∙◌, arith, append-nil, inl}
+use Rattle.seq_tree.specs.Limits.{tick_limit}
 use Rattle.seq_tree.specs.Names.{same_name}
 use Rattle.std.specs.List.{list_any, list_all}
 use Rattle.std.proofs.lemmas.Bool.{or_from, and_parts}
@@ -62,36 +63,36 @@ three a b c e f g = or_from (a || b) c (or_from a b e f) g
 module _ (written x : Design) (met : AreMet written x) (r : Ranks) (fit : Fitting (flat x) r) (ranked : AreRanked (flat x) r) where
   -- ticks of the blocks of an object
   body-works : (s : Standing) (b : Body) → IsIn s (objects x) → IsIn b s.own.bodies
-      → list_any (is_outside 1 1000000000) (block_works (resolved x b.block)) ≡ false
+      → list_any (is_outside 1 tick_limit) (block_works (resolved x b.block)) ≡ false
   body-works s b h j =
-      ap (list_any (is_outside 1 1000000000)) (block_works-renamed (resolve x) b.block)
-      ∙ none-from (is_outside 1 1000000000) (block_works b.block)
-      (λ n k. inside 1 1000000000 n (all-in (is_within 1 1000000000) (works s.own) n (works-right written x met s h)
+      ap (list_any (is_outside 1 tick_limit)) (block_works-renamed (resolve x) b.block)
+      ∙ none-from (is_outside 1 tick_limit) (block_works b.block)
+      (λ n k. inside 1 tick_limit n (all-in (is_within 1 tick_limit) (works s.own) n (works-right written x met s h)
       (in-left n (flat_map (λ (c : Body). block_works c.block) s.own.bodies) (flat_map block_works (option_to_list s.own.thread))
       (in-flat (λ (c : Body). block_works c.block) b n s.own.bodies j k))))
 
   thread-works : (s : Standing) (b : Statements) → IsIn s (objects x) → s.own.thread ≡ Some b
-      → list_any (is_outside 1 1000000000) (block_works (resolved x b)) ≡ false
+      → list_any (is_outside 1 tick_limit) (block_works (resolved x b)) ≡ false
   thread-works s b h e =
-      ap (list_any (is_outside 1 1000000000)) (block_works-renamed (resolve x) b)
-      ∙ none-from (is_outside 1 1000000000) (block_works b)
-      (λ n k. inside 1 1000000000 n (all-in (is_within 1 1000000000) (works s.own) n (works-right written x met s h)
+      ap (list_any (is_outside 1 tick_limit)) (block_works-renamed (resolve x) b)
+      ∙ none-from (is_outside 1 tick_limit) (block_works b)
+      (λ n k. inside 1 tick_limit n (all-in (is_within 1 tick_limit) (works s.own) n (works-right written x met s h)
       (in-right n (flat_map (λ (c : Body). block_works c.block) s.own.bodies) (flat_map block_works (option_to_list s.own.thread))
       (let P : Option Statements → Type 0 = λ t. IsIn n (flat_map block_works (option_to_list t)) in
       let Q : List ℕ → Type 0 = λ z. IsIn n z in subst P (sym e) (subst Q (sym (append-nil (block_works b))) k)))))
 
   ops-works : (s : Standing) (ops : List Operation) → IsIn s (terminals x) → ops ≡ operations x s.own
-      → list_any (is_outside 1 1000000000) (flat_map (λ (b : ada.Body). block_works b.block) (map op_body ops)) ≡ false
-  ops-works s ops h e = none-from (is_outside 1 1000000000) _ (λ n k. at n (in-some (λ (b : ada.Body). block_works b.block) (map op_body ops) n k))
+      → list_any (is_outside 1 tick_limit) (flat_map (λ (b : ada.Body). block_works b.block) (map op_body ops)) ≡ false
+  ops-works s ops h e = none-from (is_outside 1 tick_limit) _ (λ n k. at n (in-some (λ (b : ada.Body). block_works b.block) (map op_body ops) n k))
     where
-      at : (n : ℕ) → (b : ada.Body) × IsIn b (map op_body ops) × IsIn n (block_works b.block) → is_outside 1 1000000000 n ≡ false
+      at : (n : ℕ) → (b : ada.Body) × IsIn b (map op_body ops) × IsIn n (block_works b.block) → is_outside 1 tick_limit n ≡ false
       at n (b, j, k) =
           let o = from-map op_body ops b j in
           let P : List Operation → Type 0 = λ z. IsIn o.0 z in
           let f = operation-from x s.own o.0 (subst P e o.1) in
           let Q : ada.Body → Type 0 = λ z. IsIn n (block_works z.block) in
           let R : Operation → Type 0 = λ z. IsIn n (block_works z.block) in
-          none-in (is_outside 1 1000000000) n (block_works (resolved x f.body.block))
+          none-in (is_outside 1 tick_limit) n (block_works (resolved x f.body.block))
           (body-works s f.body (terminal-object x s h).0 (found-in (λ z. same_name z.name f.provided.sig.name) s.own.bodies f.body f.named).0)
           (subst R f.made (subst Q o.2 k))
 
@@ -110,23 +111,23 @@ module _ (written x : Design) (met : AreMet written x) (r : Ranks) (fit : Fittin
 
   thread-ranges : (t : Thread) (n : ℕ × ℕ) (f : ThreadFrom x t) (u : Timing) → IsIn (t, n) (zip (threads x) (zip r.threads r.obcs)) → t.timing ≡ u
       → is_in_range t ≡ true
-      → list_any (is_outside 1 1000000000) (block_works t.block) ≡ false
+      → list_any (is_outside 1 tick_limit) (block_works t.block) ≡ false
       → breaks_ranges (record { name = t.name; form = thread_form n.0 n.1 u t }) ≡ false
   thread-ranges t n f (timing.Cyclic period offset) j e h w =
       let a = (and_parts _ _ (ap (λ v. is_timed v && is_within 1 (timing.period_of v) t.deadline) (sym e) ∙ h)).0 in
-      let b = and_parts (is_within 1 1000000000 period) (nat_le offset 1000000000) a in
-      three _ false _ (three _ _ _ (ranked.threads t n j) (inside 1 1000000000 period b.0) (not-above 1000000000 offset b.1)) refl
-      (ap (list_any (is_outside 1 1000000000)) (append-nil (block_works t.block)) ∙ w)
+      let b = and_parts (is_within 1 tick_limit period) (nat_le offset tick_limit) a in
+      three _ false _ (three _ _ _ (ranked.threads t n j) (inside 1 tick_limit period b.0) (not-above tick_limit offset b.1)) refl
+      (ap (list_any (is_outside 1 tick_limit)) (append-nil (block_works t.block)) ∙ w)
   thread-ranges t n f (timing.Sporadic op separation jitter) j e h w =
       let a = (and_parts _ _ (ap (λ v. is_timed v && is_within 1 (timing.period_of v) t.deadline) (sym e) ∙ h)).0 in
-      let b = and_parts (is_within 1 1000000000 separation) (is_below jitter separation) a in
+      let b = and_parts (is_within 1 tick_limit separation) (is_below jitter separation) a in
       let c = ranked.obcs t n op separation jitter j e in
       let k : Asked x f.standing.own op = asked-of written x met r fit t f op separation jitter e in
       three _ _ _
-      (or_from _ _ (or_from _ _ (three _ _ _ (ranked.threads t n j) c.0 (inside 1 1000000000 separation b.0))
+      (or_from _ _ (or_from _ _ (three _ _ _ (ranked.threads t n j) c.0 (inside 1 tick_limit separation b.0))
       (jittered jitter b.1 (and_parts _ _ b.0).0)) c.1)
       (or_from _ _ (few-params k) refl)
-      (ap (list_any (is_outside 1 1000000000)) (append-nil (block_works t.block)) ∙ w)
+      (ap (list_any (is_outside 1 tick_limit)) (append-nil (block_works t.block)) ∙ w)
     where
       jittered : (i : Option ℕ) → is_below i separation ≡ true → nat_le 1 separation ≡ true
           → jitter_breaks (is_some i) separation (unwrap_or i 0) ≡ false
@@ -163,7 +164,7 @@ module _ (written x : Design) (met : AreMet written x) (r : Ranks) (fit : Fittin
           let i = (from-zip (threads x) (zip r.threads r.obcs) (t, n) j).0 in
           let f = thread-from x t i in
           ap breaks_ranges e ∙ thread-ranges t n f t.timing j refl (thread-range written x met t i)
-          (ap (λ (v : Thread). list_any (is_outside 1 1000000000) (block_works v.block)) f.made ∙ thread-works f.standing f.block
+          (ap (λ (v : Thread). list_any (is_outside 1 tick_limit) (block_works v.block)) f.made ∙ thread-works f.standing f.block
           (terminal-object x f.standing f.stands).0 f.runs)
 
   pub costs-fit : costs_break x.costs ≡ false

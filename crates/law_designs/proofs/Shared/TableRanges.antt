@@ -4,6 +4,7 @@ use Rattle.std.specs.Prelude.{slice_get, Option, Some, None, option_map, option_
 use Rattle.std.specs.List.{cons_option}
 use Rattle.std.proofs.Common.{sym, ◌∙◌, ap, subst, arith}
 use Rattle.std.proofs.lemmas.Option.{slice_get_within}
+use Rattle.seq_tree.specs.Limits.{tick_limit}
 use Rattle.seq_tree.specs.Lists.{Each}
 use Rattle.ods_tree.specs.Flats.{Thread, Flat, period_of}
 use Rattle.ods_tree.specs.Flats as timing
@@ -39,16 +40,16 @@ small : (jitter separation : ℕ) → nat_lt jitter separation ≡ true → jitt
 small jitter separation e = grind arith
 
 -- periods, separations and jitters that are in their range
-pub timed : (k : timing.Timing) → is_timed k ≡ true → (period_of k ≤ 1000000000) × (jitter_of k ≤ 1000000000)
+pub timed : (k : timing.Timing) → is_timed k ≡ true → (period_of k ≤ tick_limit) × (jitter_of k ≤ tick_limit)
 timed (timing.Cyclic period offset) e =
-    let parts = and_parts (is_within 1 1000000000 period) (nat_le offset 1000000000) e in
-    ((within-true 1 1000000000 period parts.0).1, omega arith)
+    let parts = and_parts (is_within 1 tick_limit period) (nat_le offset tick_limit) e in
+    ((within-true 1 tick_limit period parts.0).1, omega arith)
 timed (timing.Sporadic op separation None) e =
-    let parts = and_parts (is_within 1 1000000000 separation) true e in
-    ((within-true 1 1000000000 separation parts.0).1, omega arith)
+    let parts = and_parts (is_within 1 tick_limit separation) true e in
+    ((within-true 1 tick_limit separation parts.0).1, omega arith)
 timed (timing.Sporadic op separation (Some jitter)) e =
-    let parts = and_parts (is_within 1 1000000000 separation) (nat_lt jitter separation) e in
-    let most = (within-true 1 1000000000 separation parts.0).1 in
+    let parts = and_parts (is_within 1 tick_limit separation) (nat_lt jitter separation) e in
+    let most = (within-true 1 tick_limit separation parts.0).1 in
     (most, (let less = small jitter separation parts.1 in omega (arith, most, less)))
 
 module _ (f : Flat) (sound : IsSound f) where
@@ -91,14 +92,14 @@ module _ (f : Flat) (sound : IsSound f) where
       let parts = and_parts (is_timed e.0.timing) (is_within 1 (period_of e.0.timing) e.0.deadline) ranges in
       let deadline = within-true 1 (period_of e.0.timing) e.0.deadline parts.1 in
       let times = timed e.0.timing parts.0 in
-      let cheap = all-at (λ t. nat_le (activation_cost f t) 1000000000 ≡ true) f.threads s.0 e.0
-      (all-each (λ t. nat_le (activation_cost f t) 1000000000) f.threads sound.thread_costs) s.1 in
+      let cheap = all-at (λ t. nat_le (activation_cost f t) tick_limit ≡ true) f.threads s.0 e.0
+      (all-each (λ t. nat_le (activation_cost f t) tick_limit) f.threads sound.thread_costs) s.1 in
       record {
         asks = deadline.0;
         before_next = deadline.1;
         period = times.0;
         works = (let finish = finish-some f sound in omega (arith, finish));
-        cost = leb-true (activation_cost f e.0) 1000000000 cheap;
+        cost = leb-true (activation_cost f e.0) tick_limit cheap;
         block = blocking-cheap f sound ps e.1;
         jitter = times.1;
         starter = starter-in e.0 e.0.timing;

@@ -3,6 +3,7 @@ use Rattle.std.specs.Prelude.{◌≡◌, ℕ, suc, ◌<◌, nat_le, true, List, 
 use Rattle.std.proofs.Common.{sym, ◌∙◌, subst, arith}
 use Rattle.std.proofs.lemmas.Bool.{and_parts, leb-true}
 use Rattle.std.proofs.lemmas.Option.{same_Some, slice_get_within}
+use Rattle.seq_tree.specs.Limits.{tick_limit}
 use Rattle.ods_tree.specs.Flats.{Thread, Flat, period_of}
 use Rattle.ods_tree.specs.Flats as timing
 use Rattle.ods_tree.specs.Sound.{is_within, is_timed, is_in_range}
@@ -29,15 +30,15 @@ module _ (f : Flat) (sound : IsSound f) (external : AllExternal f) (o : List ℕ
       let parts = and_parts (is_timed t.timing) (is_within 1 (period_of t.timing) t.deadline) ranges in
       let deadline = within-true 1 (period_of t.timing) t.deadline parts.1 in
       let times = timed t.timing parts.0 in
-      let cheap = all-at (λ t. nat_le (activation_cost f t) 1000000000 ≡ true) f.threads k t
-      (all-each (λ t. nat_le (activation_cost f t) 1000000000) f.threads sound.thread_costs) at in
+      let cheap = all-at (λ t. nat_le (activation_cost f t) tick_limit ≡ true) f.threads k t
+      (all-each (λ t. nat_le (activation_cost f t) tick_limit) f.threads sound.thread_costs) at in
       let finish = finish-some f sound in
       record {
         asks = deadline.0;
         before_next = deadline.1;
         period = times.0;
         works = omega (arith, finish);
-        cost = leb-true (activation_cost f t) 1000000000 cheap;
+        cost = leb-true (activation_cost f t) tick_limit cheap;
         block = blocking-cheap f sound (priorities_by f o) (priority_in o k);
         jitter = times.1;
         starter = subst (IsStarter m) (sym (starts-none f (priorities_by f o) external k t at)) tt;

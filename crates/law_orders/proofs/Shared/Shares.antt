@@ -8,6 +8,7 @@ use Rattle.std.proofs.Common.{sym, ◌∙◌, ap, arith, inl, inr, mul-le-mul_ri
 use Rattle.std.proofs.lemmas.Grind.{div_ceil_times}
 use Rattle.std.proofs.lemmas.List.Sums.{sum_by-cons}
 use Rattle.std.proofs.lemmas.Bool.{and_parts, cases_eq}
+use Rattle.seq_tree.specs.Limits.{tick_limit}
 use Rattle.ods_tree.specs.Flats.{Timing, Thread, Flat, period_of}
 use Rattle.ods_tree.specs.Flats as timing
 use Rattle.ods_tree.specs.Sound.{is_within, is_below, is_timed, is_in_range}
@@ -86,8 +87,8 @@ others-sum f these own w = sum-picked (share f w) (λ k. has_place these k && no
 
 -- a thread takes at least an activation of any window
 some-period : (k : Timing) → is_timed k ≡ true → 1 ≤ period_of k
-some-period (timing.Cyclic period offset) e = (within-true 1 1000000000 period (and_parts (is_within 1 1000000000 period) (nat_le offset 1000000000) e).0).0
-some-period (timing.Sporadic op separation jitter) e = (within-true 1 1000000000 separation (and_parts (is_within 1 1000000000 separation) (is_below jitter separation) e).0).0
+some-period (timing.Cyclic period offset) e = (within-true 1 tick_limit period (and_parts (is_within 1 tick_limit period) (nat_le offset tick_limit) e).0).0
+some-period (timing.Sporadic op separation jitter) e = (within-true 1 tick_limit separation (and_parts (is_within 1 tick_limit separation) (is_below jitter separation) e).0).0
 
 pub share-some : (f : Flat) → IsSound f → (k : ℕ) (t : Thread) (w : ℕ) → slice_get f.threads k ≡ Some t → 1 ≤ w → activation_cost f t ≤ share f w t
 share-some f sound k t w at some =

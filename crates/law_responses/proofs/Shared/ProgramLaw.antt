@@ -4,6 +4,7 @@ use Rattle.std.specs.Prelude.{unwrap_or, option_map, Option, Some, None, refl}
 use Rattle.std.proofs.Common.{sym, ◌∙◌, ap, subst, arith, inl, inr}
 use Rattle.std.proofs.lemmas.Bool.{cases_lt, or_parts}
 use Rattle.std.proofs.lemmas.Option.{none-some}
+use Rattle.seq_tree.specs.Limits.{tick_limit}
 use Rattle.seq_tree.specs.Names.{Name, same_name}
 use Rattle.seq_tree.specs.Lists.{Each}
 use Rattle.seq_tree.specs.Faults.{or_else, fault_if}
@@ -69,16 +70,16 @@ priority-some p a rules j t at =
     by : (form : Form) → numbers_break form ≡ false → (x : ReleasePattern) → thread_form t x form → 1 ≤ t.priority
     by form e (Periodic offset period) is =
         let now : numbers_break (Cyclic t.priority offset period t.vars t.block) ≡ false = subst (λ g. numbers_break g ≡ false) is e in
-        let one = or_parts (is_outside 1 60 t.priority || is_outside 1 1000000000 period) (nat_lt 1000000000 offset) now in
-        least t.priority (or_parts (is_outside 1 60 t.priority) (is_outside 1 1000000000 period) one.0).0
+        let one = or_parts (is_outside 1 60 t.priority || is_outside 1 tick_limit period) (nat_lt tick_limit offset) now in
+        least t.priority (or_parts (is_outside 1 60 t.priority) (is_outside 1 tick_limit period) one.0).0
     by form e (Requested op ceiling separation jitter external) is =
         let now : numbers_break (Sporadic t.priority ceiling op separation jitter external t.vars t.block) ≡ false
         = subst (λ g. numbers_break g ≡ false) is e in
-        let one = or_parts (is_outside 1 60 t.priority || is_outside 1 60 ceiling || is_outside 1 1000000000 separation
+        let one = or_parts (is_outside 1 60 t.priority || is_outside 1 60 ceiling || is_outside 1 tick_limit separation
         || jitter_breaks external separation jitter) (nat_lt ceiling t.priority) now in
-        let two = or_parts (is_outside 1 60 t.priority || is_outside 1 60 ceiling || is_outside 1 1000000000 separation)
+        let two = or_parts (is_outside 1 60 t.priority || is_outside 1 60 ceiling || is_outside 1 tick_limit separation)
         (jitter_breaks external separation jitter) one.0 in
-        let three = or_parts (is_outside 1 60 t.priority || is_outside 1 60 ceiling) (is_outside 1 1000000000 separation) two.0 in
+        let three = or_parts (is_outside 1 60 t.priority || is_outside 1 60 ceiling) (is_outside 1 tick_limit separation) two.0 in
         least t.priority (or_parts (is_outside 1 60 t.priority) (is_outside 1 60 ceiling) three.0).0
 
 -- arrivals that are accepted keep their separations

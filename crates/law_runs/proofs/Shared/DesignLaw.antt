@@ -1,6 +1,7 @@
 -- Every run of the program of a proper design that meets the rules and has bounds is right, and a text with that program's tokens is guaranteed.
 use Rattle.std.specs.Prelude.{◌≡◌, ◌≤◌, ℕ, List, map, length, Ok}
 use Rattle.std.proofs.Common.{ap, subst}
+use Rattle.seq_tree.specs.Limits.{ada_limit}
 use Rattle.seq_tree.specs.Lexis.{tokens, plain}
 use Rattle.seq_tree.specs.Proper.{within_limits}
 use Rattle.ods_tree.specs.Designs.{Design}
@@ -44,7 +45,7 @@ designs-are-right limit x v proper meets fits r keeps =
 
 pub texts-are-guaranteed : (limit : ℕ) (x : Design) (text : List ℕ) (v : List Bound) → IsProperDesign (within_limits is_design_name) x → MeetsRules x
     → Fits (table (flat (in_ticks x))).rows v
-    → length text ≤ 16777216 → plain (tokens text) ≡ Ok (program_tokens (program (in_ticks x))) → Guaranteed limit (in_ticks x) text v
+    → length text ≤ ada_limit → plain (tokens text) ≡ Ok (program_tokens (program (in_ticks x))) → Guaranteed limit (in_ticks x) text v
 texts-are-guaranteed limit x text v proper meets fits within spelled =
     let readable : IsReadable (program (in_ticks x)) = program-readable x proper meets in
     record {

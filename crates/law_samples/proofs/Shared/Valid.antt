@@ -2,6 +2,7 @@
 use Rattle.std.proofs.Common.{◌≡◌, ℕ, ◌+◌, ◌*◌, ◌≤◌, Bool, true, [], length, refl, arith, leb-true, length-append}
 use Rattle.std.specs.Prelude.{codes, nat_le}
 use Rattle.std.specs.List.{list_all}
+use Rattle.seq_tree.specs.Limits.{text_limit, ada_limit}
 use Rattle.ods_tree.specs.Designs.{Design}
 use Rattle.ods_tree.specs.Flattening.{flat}
 use Rattle.ods_tree.specs.Layout.{design_text}
@@ -44,7 +45,7 @@ sample-reads : (n : ℕ) → 1 ≤ n → n ≤ 30 → Reads (design_text (sample
 sample-reads n low high =
     let x : Design = sample_design n in
     record {
-      within = leb-true (length (design_text x)) 1048576 (shown (λ m. nat_le (length (design_text (sample_design m))) 1048576) n all_short low high);
+      within = leb-true (length (design_text x)) text_limit (shown (λ m. nat_le (length (design_text (sample_design m))) text_limit) n all_short low high);
       proper = sample-proper n high;
       spelled = read-whole _ _ (gives-lines (design_lines x) (ready-lines (design_lines x) (design-sound x)
           (shown (λ m. is_writable (sample_design m)) n all_writable low high)));
@@ -72,7 +73,7 @@ nothing_told n low high = record {
   starts = starts-end n;
 }
 
-arrivals_short : (n : ℕ) → 1 ≤ n → n ≤ 30 → length (sample_arrivals n) ≤ 1048576
+arrivals_short : (n : ℕ) → 1 ≤ n → n ≤ 30 → length (sample_arrivals n) ≤ text_limit
 arrivals_short n low high =
     let lines : length (request_lines (requests n)) ≤ 20 * length (requests n)
     = lines-short 10000 n (requests n) (omega arith) (requests-right 10000 n) in
@@ -101,6 +102,6 @@ sample-valid n low high = record {
     accepted = arrivals-accepted horizon_limit (program (sample_design n)) n (omega arith) low
         (threads-there (program (sample_design n)) n (shown (λ m. has_threads (program (sample_design m)) m) n all_threads_there low high));
   };
-  short = leb-true (length (text (sample_design n) (sample_bounds n))) 16777216
-      (shown (λ m. nat_le (length (text (sample_design m) (sample_bounds m))) 16777216) n all_texts_short low high);
+  short = leb-true (length (text (sample_design n) (sample_bounds n))) ada_limit
+      (shown (λ m. nat_le (length (text (sample_design m) (sample_bounds m))) ada_limit) n all_texts_short low high);
 }

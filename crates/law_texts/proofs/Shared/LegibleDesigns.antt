@@ -3,6 +3,7 @@ use Rattle.std.proofs.Common.{◌≡◌, ℕ, ◌≤◌, true, false, List, [], 
 use Rattle.std.proofs.Common.{None, unwrap_or, refl, sym, ap, subst, ◌∙◌, inl, inr, arith}
 use Rattle.std.specs.List.{list_all}
 use Rattle.std.proofs.lemmas.Bool.{and_parts, leb-true}
+use Rattle.seq_tree.specs.Limits.{tick_limit}
 use Rattle.seq_tree.specs.Names.{same_name}
 use Rattle.seq_tree.specs.Statements.{Statements}
 use Rattle.seq_tree.specs.Operations.{Signature, Operation}
@@ -40,13 +41,13 @@ use Rattle.law_texts.proofs.Shared.LegibleUnits.{AreLegibleParams, AreLegibleDat
 use Rattle.law_texts.proofs.Shared.LegibleUnits.{IsLegibleForm, IsLegibleUnit, AreLegibleCosts, program-legible}
 
 -- numbers in a range can be read
-pub number_below : (n : ℕ) → n ≤ 1000000000 → is_number n ≡ true
+pub number_below : (n : ℕ) → n ≤ tick_limit → is_number n ≡ true
 number_below n h = grind arith
 
 pub number_inside : (n : ℕ) → is_outside 1 60 n ≡ false → is_number n ≡ true
 number_inside n h = grind arith
 
-jitter_below : (jitter : Option ℕ) (separation : ℕ) → separation ≤ 1000000000 → is_below jitter separation ≡ true
+jitter_below : (jitter : Option ℕ) (separation : ℕ) → separation ≤ tick_limit → is_below jitter separation ≡ true
     → is_number (unwrap_or jitter 0) ≡ true
 jitter_below None separation h e = refl
 jitter_below (Some jitter) separation h e = grind arith
@@ -140,10 +141,10 @@ module _ (written x : Design) (met : AreMet written x) (legible : (s : Standing)
     cyclic-read : (n : ℕ × ℕ) (t : Thread) (period offset : ℕ) → is_outside 1 60 n.0 ≡ false → is_timed (Cyclic period offset) ≡ true
         → AreLegibleData t.vars → IsLegibleBlock t.block → Reads n t (Cyclic period offset)
     cyclic-read n t period offset p timed vars block =
-        let a = and_parts (is_within 1 1000000000 period) (nat_le offset 1000000000) timed in (
+        let a = and_parts (is_within 1 tick_limit period) (nat_le offset tick_limit) timed in (
           number_inside n.0 p,
-          number_below offset (leb-true offset 1000000000 a.1),
-          number_below period (within-true 1 1000000000 period
+          number_below offset (leb-true offset tick_limit a.1),
+          number_below period (within-true 1 tick_limit period
               a.0).1,
           vars,
           block,
@@ -155,8 +156,8 @@ module _ (written x : Design) (met : AreMet written x) (legible : (s : Standing)
         → IsLegibleBlock t.block
         → Reads n t (Sporadic op separation jitter)
     sporadic-read n t op separation jitter p c timed name params vars block =
-        let a = and_parts (is_within 1 1000000000 separation) (is_below jitter separation) timed in
-        let most : separation ≤ 1000000000 = (within-true 1 1000000000 separation a.0).1 in
+        let a = and_parts (is_within 1 tick_limit separation) (is_below jitter separation) timed in
+        let most : separation ≤ tick_limit = (within-true 1 tick_limit separation a.0).1 in
         (number_inside n.0 p, number_inside n.1 c, number_below separation most, jitter_below jitter separation most a.1, name, params, vars, block)
 
     thread-form : (n : ℕ × ℕ) (t : Thread) → IsIn (t, n) (zip (threads x) (zip r.threads r.obcs)) → Reads n t t.timing

@@ -3,6 +3,7 @@ use Rattle.std.proofs.Common.{◌≡◌, ℕ, suc, ◌+◌, ◌≤◌, true, Lis
 use Rattle.std.proofs.Common.{refl, sym, ap, ◌∙◌, inl, inr, arith, le_trans}
 use Rattle.std.specs.List.{list_all, AllZip}
 use Rattle.std.proofs.lemmas.Bool.{and_parts, and_from}
+use Rattle.seq_tree.specs.Limits.{ada_limit, tick_limit}
 use Rattle.seq_tree.specs.Lexis.{tokens, plain}
 use Rattle.seq_print.specs.Readable.{is_readable}
 use Rattle.seq_print.proofs.Shared.TokenForms.{tokens-readable}
@@ -57,9 +58,9 @@ third (a ∷ xs) (b ∷ ys) (c ∷ zs) x y e (inr h) = (let r = third xs ys zs x
     in (r.0, inr r.1))
 
 -- periods and separations that are in their range
-pub period-in : (u : Timing) → is_timed u ≡ true → period_of u ≤ 1000000000
-period-in (Cyclic period offset) e = (within-true 1 1000000000 period (and_parts (is_within 1 1000000000 period) _ e).0).1
-period-in (Sporadic op separation jitter) e = (within-true 1 1000000000 separation (and_parts (is_within 1 1000000000 separation) _ e).0).1
+pub period-in : (u : Timing) → is_timed u ≡ true → period_of u ≤ tick_limit
+period-in (Cyclic period offset) e = (within-true 1 tick_limit period (and_parts (is_within 1 tick_limit period) _ e).0).1
+period-in (Sporadic op separation jitter) e = (within-true 1 tick_limit separation (and_parts (is_within 1 tick_limit separation) _ e).0).1
 
 -- bounds that fit can be read
 pub bounds-read : (n : ℕ) (rs : List ThreadRow) (v : List Bound) → rows.Each (rows.IsRow n) rs
@@ -69,7 +70,7 @@ bounds-read n [] [] h k = refl
 bounds-read n [] (b ∷ v) h k = absurd k
 bounds-read n (r ∷ rs) [] h k = absurd k
 bounds-read n (r ∷ rs) (b ∷ v) h k =
-    let period : r.period ≤ 1000000000 = h.0.period in
+    let period : r.period ≤ tick_limit = h.0.period in
     let sum : b.jitter + b.response ≤ r.period = k.0.1 in
     and_from _ _ (and_from _ _ (number_below b.jitter (omega (arith, period, sum))) (number_below b.response (omega (arith, period, sum))))
     (bounds-read n rs v h.1 k.1)
@@ -120,10 +121,10 @@ module _ (x : Design) (bytes : List ℕ) (reads : Reads bytes x) (met : MeetsRul
     text-spelled = text-back (flat y) (stated_ranks y) (table (flat y)).places v
         (program-written x y met legible sound (stated_ranks y) ranked named) head-read
 
-    pub text-guaranteed : (limit : ℕ) → length (text y v) ≤ 16777216 → Guaranteed limit y (text y v) v
+    pub text-guaranteed : (limit : ℕ) → length (text y v) ≤ ada_limit → Guaranteed limit y (text y v) v
     text-guaranteed limit short = texts-are-guaranteed limit x (text y v) v reads.proper met fits short text-spelled
 
-    pub text-accepted : length (text y v) ≤ 16777216 → Accepts (text y v) (program y)
+    pub text-accepted : length (text y v) ≤ ada_limit → Accepts (text y v) (program y)
     text-accepted short =
         let readable : IsReadable (program y) = program-readable x reads.proper met in
         record { reads = record { within = short; proper = readable.0; spelled = text-spelled }; meets = readable.1 }

@@ -4,6 +4,7 @@ use Rattle.std.proofs.Common.{inr, arith}
 use Rattle.std.specs.Prelude.{nat_lt}
 use Rattle.std.specs.List.{list_all}
 use Rattle.std.proofs.lemmas.Bool.{ltb-false}
+use Rattle.seq_tree.specs.Limits.{tick_limit}
 use Rattle.seq_tree.specs.Lists.{Each}
 use Rattle.seq_tree.specs.declared.token.Mark.TheVariants.{Semicolon}
 use Rattle.seq_tree.specs.declared.token.Token.{Token}
@@ -84,7 +85,7 @@ module _ (text : List ℕ) (p : Program) (r : Arrivals) (h : Arrives horizon_lim
       let far : nat_lt horizon_limit r.until ≡ false =
       no-fault (nat_lt horizon_limit r.until) Far
       (or_else-none (fault_if (nat_lt horizon_limit r.until) Far) (or_else (works_fault p r.work) (requests_fault p [] r.items)) h.accepted).0 in
-      let near : r.until ≤ 1000000000 = ltb-false horizon_limit r.until far in omega (arith, near)
+      let near : r.until ≤ tick_limit = ltb-false horizon_limit r.until far in omega (arith, near)
 
 -- no stop is told
 goes-on-tells : (p : Program) (told : List Event) → Each (TellsOf p) told → Each GoesOn told → Each (IsEvent p) told

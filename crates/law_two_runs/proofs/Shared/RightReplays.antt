@@ -1,5 +1,6 @@
 -- What is told by the program that a text is accepted as, where the text is that of a design.
 use Rattle.std.proofs.Common.{◌≡◌, ℕ, ◌≤◌, List, length, subst}
+use Rattle.seq_tree.specs.Limits.{ada_limit}
 use Rattle.seq_tree.specs.Proper.{within_limits}
 use Rattle.ods_tree.specs.Designs.{Design}
 use Rattle.ods_tree.specs.Flattening.{flat}
@@ -41,7 +42,7 @@ right-replay limit x written v p r told proper meets fits own accepts =
 
 pub right-generated : (limit : ℕ) (x : Design) (bytes : List ℕ) (v : List Bound) (p : Program) (r : Arrivals) (told : List Event) → Reads bytes x
     → MeetsRules x
-    → Fits (table (flat (in_ticks x))).rows v → length (text (in_ticks x) v) ≤ 16777216 → Accepts (text (in_ticks x) v) p → IsAccepted limit p r
+    → Fits (table (flat (in_ticks x))).rows v → length (text (in_ticks x) v) ≤ ada_limit → Accepts (text (in_ticks x) v) p → IsAccepted limit p r
     → Meaning p r told → IsRight x v p r told
 right-generated limit x bytes v p r told reads meets fits short =
     right-replay limit x (text (in_ticks x) v) v p r told reads.proper meets fits (text-accepted x bytes reads meets v fits short)

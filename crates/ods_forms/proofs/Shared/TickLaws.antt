@@ -3,6 +3,7 @@ use Rattle.std.proofs.Common.{◌≡◌, ℕ, ◌*◌, ◌/◌, ◌%◌, ◌==�
 use Rattle.std.proofs.Common.{nat_le, nat_lt, Option, Some, None, option_to_list, refl, sym, ap, subst, ◌∙◌, arith}
 use Rattle.std.specs.List.{list_any, cons_option}
 use Rattle.std.proofs.lemmas.List.Elements.{filter_map-append}
+use Rattle.seq_tree.specs.Limits.{tick_limit}
 use Rattle.ods_tree.specs.Designs.{Object, Tree, Trees, Node, Empty, With, Design}
 use Rattle.ods_tree.specs.Ticks.{microseconds, tick_time, count_in_ticks, attribute_in_ticks, object_in_ticks, tree_in_ticks, trees_in_ticks}
 use Rattle.ods_tree.specs.Ticks.{ticked, in_ticks}
@@ -181,17 +182,17 @@ whole_root v x e =
     told_none (tick_time v) None (own_of x.root ∷ []) x.root
     (none_at_all old (back_none (bad_priorities v.priorities) old (back_none (bad_tick v) (bad_priorities v.priorities ++ old) e)))
 
-some_by : (b : Bool) (n : ℕ) → is_within 1 1000000000 n ≡ b → option_to_list (only_if (not b) V17Tick) ≡ [] → 0 < n
+some_by : (b : Bool) (n : ℕ) → is_within 1 tick_limit n ≡ b → option_to_list (only_if (not b) V17Tick) ≡ [] → 0 < n
 some_by true n e none = grind (arith, e)
 some_by false n e none = absurd (cc)
 
 -- the tick of a version is some time, where nothing is wrong with it
 pub tick_by : (v : VersionTwo) (tick : ℕ) → tick ≡ tick_time v → head_of (bad_tick v) ≡ None → 0 < tick
-tick_by v tick is e = rw is (some_by (is_within 1 1000000000 (tick_time v)) (tick_time v) refl (none_at_all (bad_tick v) e))
+tick_by v tick is e = rw is (some_by (is_within 1 tick_limit (tick_time v)) (tick_time v) refl (none_at_all (bad_tick v) e))
 
 pub tick_some : (x : Design) (v : VersionTwo) → x.version ≡ Some v → head_of (version_faults x) ≡ None → 0 < tick_time v
 tick_some x v same e =
-    some_by (is_within 1 1000000000 (tick_time v)) (tick_time v) refl
+    some_by (is_within 1 tick_limit (tick_time v)) (tick_time v) refl
     (front_none (bad_tick v) _ (subst (λ w. head_of (bad_version w x) ≡ None) same e))
 
 -- a design whose root is set is that in ticks

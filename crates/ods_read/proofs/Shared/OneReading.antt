@@ -1,5 +1,6 @@
 -- That bytes read as one design, have one fault, and have none where they read as a design.
 use Rattle.std.proofs.Common.{◌≡◌, ℕ, List, Result, Ok, Err, refl, sym, ◌∙◌}
+use Rattle.seq_tree.specs.Limits.{text_limit}
 use Rattle.seq_tree.specs.Lexis.{Misread, tokens, plain}
 use Rattle.seq_tree.specs.declared.token.Token.{Token}
 use Rattle.seq_tree.specs.declared.token.Spanned.{Spanned}
@@ -24,7 +25,7 @@ one-design bytes x y r q =
     cc
 
 pub one-fault : (bytes : List ℕ) (f g : TextFault) → Faults bytes f → Faults bytes g → f ≡ g
-one-fault bytes f g h k = one-text-fault AnyDesign Keeps 1048576 bytes f g h k
+one-fault bytes f g h k = one-text-fault AnyDesign Keeps text_limit bytes f g h k
 
 none_of_memory : (bytes : List ℕ) (f : TextFault) → f ≡ text.NoMemory → Faults bytes f → ⊥
 none_of_memory bytes (text.Byte place) e h = cc

@@ -8,6 +8,7 @@ use Rattle.grammar.specs.Reading.{Halt, Syntax, TooDeep, left_of, Read, first, R
 use Rattle.grammar.proofs.Shared.Laws.{reads-same}
 use Rattle.grammar.proofs.Shared.Widening.{widens-fewer}
 use Rattle.grammar.proofs.Shared.Whole.{whole-found, whole-only, whole-fault}
+use Rattle.seq_tree.specs.Limits.{text_limit}
 use Rattle.seq_tree.specs.Reach.{IsReach, Begins, IsSyntaxFault, IsDepthFault}
 use Rattle.seq_tree.specs.Reach as reach
 use Rattle.seq_tree.specs.Proper.{within_limits}
@@ -421,7 +422,7 @@ pub only-design : (ts : List Token) (x : Design) → IsTextOf x ts → whole_at 
 only-design ts x g = told_back ts x (whole-only IsTextOf Any strict_at reads_strict (λ y. tt) ts x g)
 
 -- FROM TOKENS TO THEIR TEXT
-pub reads-as : (bytes : List ℕ) (ts : List Spanned) (x : Design) → length bytes ≤ 1048576 → tokens bytes ≡ Ok ts → whole_at design_at (bare ts) ≡ Ok x
+pub reads-as : (bytes : List ℕ) (ts : List Spanned) (x : Design) → length bytes ≤ text_limit → tokens bytes ≡ Ok ts → whole_at design_at (bare ts) ≡ Ok x
     → reading.Reads bytes x
 reads-as bytes ts x short e h =
     let a = whole-design (bare ts) x h in
@@ -463,7 +464,7 @@ left_within ts halt e =
           told_left true back = refl
           told_left false back = refl
 
-pub faulty-at : (bytes : List ℕ) (ts : List Spanned) (left : ℕ) (place : Place) → length bytes ≤ 1048576 → tokens bytes ≡ Ok ts
+pub faulty-at : (bytes : List ℕ) (ts : List Spanned) (left : ℕ) (place : Place) → length bytes ≤ text_limit → tokens bytes ≡ Ok ts
     → whole_at design_at (bare ts) ≡ Err (Syntax left) → place ≡ place_at bytes ts left → IsFaultyAt bytes place reach.Syntax
 faulty-at bytes ts left place short e h here = record {
   short = short;
@@ -474,7 +475,7 @@ faulty-at bytes ts left place short e h here = record {
   here = place_from bytes ts left place (left_within (bare ts) (Syntax left) h) here;
 }
 
-pub deep-at : (bytes : List ℕ) (ts : List Spanned) (left : ℕ) (place : Place) → length bytes ≤ 1048576 → tokens bytes ≡ Ok ts
+pub deep-at : (bytes : List ℕ) (ts : List Spanned) (left : ℕ) (place : Place) → length bytes ≤ text_limit → tokens bytes ≡ Ok ts
     → whole_at design_at (bare ts) ≡ Err (TooDeep left) → place ≡ place_at bytes ts left → IsFaultyAt bytes place reach.TooDeep
 deep-at bytes ts left place short e h here = record {
   short = short;

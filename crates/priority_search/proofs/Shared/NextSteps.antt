@@ -5,6 +5,7 @@ use Rattle.std.proofs.Common.{sym, ◌∙◌, ap, subst, arith}
 use Rattle.std.proofs.lemmas.List.{length-map, length-take-le}
 use Rattle.std.proofs.lemmas.List.FromFn.{length-range_with_len}
 use Rattle.std.proofs.lemmas.Option.{slice_get-get_or, slice_get_within}
+use Rattle.seq_tree.specs.Limits.{tick_limit}
 use Rattle.ods_tree.specs.Flats.{Flat}
 use Rattle.rt_response.specs.declared.rows.ThreadRow.{ThreadRow}
 use Rattle.rt_response.specs.Tables.{Each, IsRow}
@@ -79,7 +80,7 @@ module _ (f : Flat) (sound : IsSound f) (external : AllExternal f) (o : List ℕ
   pub first-few : length rows ≤ 30
   first-few = let a = first-long in let b = order-few f sound o order in omega (arith, a, b, most)
 
-  pub block-small : (get_or rows (free - 1) d).block ≤ 1000000000
+  pub block-small : (get_or rows (free - 1) d).block ≤ tick_limit
   block-small = (each-at (IsRow 0) rows (free - 1) d (let a = first-long in omega (arith, a, some)) first-each).block
 
   last-row : (m : ℕ) → free ≡ suc m → slice_get (rows_by f o) m ≡ Some (get_or rows (free - 1) d)

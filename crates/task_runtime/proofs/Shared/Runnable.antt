@@ -4,6 +4,7 @@ use Rattle.std.proofs.Common.{map, refl, ap, sym, subst, ◌∙◌, arith, appen
 use Rattle.std.specs.Prelude.{◌==◌, slice_get, filter, flat_map}
 use Rattle.std.specs.List.{list_any}
 use Rattle.std.proofs.lemmas.List.Folds.{list_any-append}
+use Rattle.seq_tree.specs.Limits.{tick_limit}
 use Rattle.seq_tree.specs.Names.{Name, is_named, are_distinct}
 use Rattle.seq_tree.specs.Lists.{Each}
 use Rattle.seq_tree.specs.Statements.{Statement, Statements, Branches, Null, Assign, If, For, ExitWhen, Call, Work, Put, End, Then, Nothing}
@@ -62,12 +63,12 @@ inside_one : (b : Bool) → fault_if (not b) Exit ≡ None → b ≡ true
 inside_one true e = refl
 inside_one false e = absurd (cc)
 
-some_tick : (n : ℕ) → is_outside 1 1000000000 n ≡ false → 0 < n
+some_tick : (n : ℕ) → is_outside 1 tick_limit n ≡ false → 0 < n
 some_tick n h = let low : nat_lt n 1 ≡ false = (or_false _ _ h).0 in grind arith
 
-works_apart : (xs ys : List ℕ) → list_any (is_outside 1 1000000000) (xs ++ ys) ≡ false → (list_any (is_outside 1 1000000000) xs ≡ false)
-    × (list_any (is_outside 1 1000000000) ys ≡ false)
-works_apart xs ys h = or_false _ _ (sym (list_any-append (is_outside 1 1000000000) xs ys) ∙ h)
+works_apart : (xs ys : List ℕ) → list_any (is_outside 1 tick_limit) (xs ++ ys) ≡ false → (list_any (is_outside 1 tick_limit) xs ≡ false)
+    × (list_any (is_outside 1 tick_limit) ys ≡ false)
+works_apart xs ys h = or_false _ _ (sym (list_any-append (is_outside 1 tick_limit) xs ys) ∙ h)
 
 -- calls that are clear where statements stand
 abbrev AreClear : Spot → List OpName → Type 0
@@ -77,7 +78,7 @@ AreClear s cs = (c : OpName) → is_in cs c ≡ true → IsClear s.system s.chai
 mutual
   fits_statement : (s : Spot) (d : ℕ) (c : Scope) (t : Statement) → 3 * (64 - d) ≤ s.room → s.inside ≡ c.in_loop → IsProperStatement limits d t
       → statement_fault c t ≡ None
-      → list_any (is_outside 1 1000000000) (statement_works t) ≡ false → AreClear s (statement_calls t) → FitsStatement s t
+      → list_any (is_outside 1 tick_limit) (statement_works t) ≡ false → AreClear s (statement_calls t) → FitsStatement s t
   fits_statement s d c Null h i p f w k = tt
   fits_statement s d c (Assign target e) h i p f w k = tt
   fits_statement s d c (If branches) h i p f w k =
@@ -90,12 +91,12 @@ mutual
   fits_statement s d c (ExitWhen e) h i p f w k
       = i ∙ inside_one c.in_loop (or_none (expressions_fault c (condition e ∷ [])) (fault_if (not c.in_loop) Exit) f).1
   fits_statement s d c (Call object op actuals) h i p f w k = k (op_name object op) (in-one (op_name object op))
-  fits_statement s d c (Work ticks) h i p f w k = some_tick ticks (or_false (is_outside 1 1000000000 ticks) false w).0
+  fits_statement s d c (Work ticks) h i p f w k = some_tick ticks (or_false (is_outside 1 tick_limit ticks) false w).0
   fits_statement s d c (Put e) h i p f w k = tt
 
   pub fits_block : (s : Spot) (d : ℕ) (c : Scope) (b : Statements) → 3 * (64 - d) ≤ s.room → s.inside ≡ c.in_loop → IsProperBlock limits d b
       → block_fault c b ≡ None
-      → list_any (is_outside 1 1000000000) (block_works b) ≡ false → AreClear s (block_calls b) → FitsBlock s b
+      → list_any (is_outside 1 tick_limit) (block_works b) ≡ false → AreClear s (block_calls b) → FitsBlock s b
   fits_block s d c End h i p f w k = tt
   fits_block s d c (Then first rest) h i p f w k =
       let faults = or_none (statement_fault c first) (block_fault c rest) f in
@@ -106,7 +107,7 @@ mutual
 
   fits_rest : (s : Spot) (d : ℕ) (c : Scope) (b : Statements) → 3 * (64 - d) ≤ s.room → s.inside ≡ c.in_loop → AreProperStatements limits d b
       → block_fault c b ≡ None
-      → list_any (is_outside 1 1000000000) (block_works b) ≡ false → AreClear s (block_calls b) → FitsBlock s b
+      → list_any (is_outside 1 tick_limit) (block_works b) ≡ false → AreClear s (block_calls b) → FitsBlock s b
   fits_rest s d c End h i p f w k = tt
   fits_rest s d c (Then first rest) h i p f w k =
       let faults = or_none (statement_fault c first) (block_fault c rest) f in
@@ -117,7 +118,7 @@ mutual
 
   fits_if : (s : Spot) (d : ℕ) (c : Scope) (bs : Branches) → 3 * (64 - d) + 1 ≤ s.room → s.inside ≡ c.in_loop → IsProperIf limits d bs
       → branches_fault c bs ≡ None
-      → list_any (is_outside 1 1000000000) (branch_works bs) ≡ false → AreClear s (branch_calls bs) → FitsIf s bs
+      → list_any (is_outside 1 tick_limit) (branch_works bs) ≡ false → AreClear s (branch_calls bs) → FitsIf s bs
   fits_if s d c Nothing h i p f w k = absurd p
   fits_if s d c (Else block) h i p f w k = absurd p
   fits_if s d c (When e block others) h i p f w k =
@@ -130,7 +131,7 @@ mutual
 
   fits_branches : (s : Spot) (d : ℕ) (c : Scope) (bs : Branches) → 3 * (64 - d) + 1 ≤ s.room → s.inside ≡ c.in_loop → AreProperBranches limits d bs
       → branches_fault c bs ≡ None
-      → list_any (is_outside 1 1000000000) (branch_works bs) ≡ false → AreClear s (branch_calls bs) → FitsBranches s bs
+      → list_any (is_outside 1 tick_limit) (branch_works bs) ≡ false → AreClear s (branch_calls bs) → FitsBranches s bs
   fits_branches s d c Nothing h i p f w k = tt
   fits_branches s d c (Else block) h i p f w k = (omega arith, fits_block (above s) d c block (omega arith) i p f w k)
   fits_branches s d c (When e block others) h i p f w k =
@@ -205,7 +206,7 @@ proper_op (Sporadic priority ceiling op separation jitter external vars block) i
 -- what is known of the body of a task, with the data of its unit
 record IsTaskBody (p : Program) (work : List WorkList) (u : Unit) (vars : List Datum) (b : Body) : Type 0 where
   fault : block_fault (scope p u.form b) b.block ≡ None
-  works : list_any (is_outside 1 1000000000) (block_works b.block) ≡ false
+  works : list_any (is_outside 1 tick_limit) (block_works b.block) ≡ false
   calls : (c : OpName) → is_in (block_calls b.block) c ≡ true → is_known (target_in (system_from work p.units) c) ≡ true
   proper : IsProperBlock limits 0 b.block
   distinct : are_distinct (map (λ d. d.name) vars ++ map (λ q. q.name) b.params) ≡ true
@@ -240,12 +241,12 @@ module _ (p : Program) (meets : MeetsRules p) (proper : IsProperProgram limits p
       let bodies_are : bodies u.form ≡ map op_body os = bodies-of u.form w.op o w.op_at in
       let fault : bodies_fault p u.form (map op_body os) ≡ None = sym (ap (bodies_fault p u.form) bodies_are) ∙ unit_faultless w.place u w.at in
       let parts = or_false (numbers_break u.form || list_any (λ h. nat_lt 8 (length h.params)) (heads u.form))
-      (list_any (is_outside 1 1000000000) (flat_map (λ b. block_works b.block) (bodies u.form))) (unit_ranges w.place u w.at) in
-      let all_works : list_any (is_outside 1 1000000000) (flat_map (λ b. block_works b.block) (map op_body os)) ≡ false =
-      sym (ap (λ bs. list_any (is_outside 1 1000000000) (flat_map (λ b. block_works b.block) bs)) bodies_are) ∙ parts.1 in
-      let works : list_any (is_outside 1 1000000000) (block_works o.block) ≡ false =
-      any_at (is_outside 1 1000000000) (λ q. block_works q.block) os w.op o w.op_at
-      (ap (list_any (is_outside 1 1000000000)) (sym (body_at (λ b. block_works b.block) os)) ∙ all_works) in
+      (list_any (is_outside 1 tick_limit) (flat_map (λ b. block_works b.block) (bodies u.form))) (unit_ranges w.place u w.at) in
+      let all_works : list_any (is_outside 1 tick_limit) (flat_map (λ b. block_works b.block) (map op_body os)) ≡ false =
+      sym (ap (λ bs. list_any (is_outside 1 tick_limit) (flat_map (λ b. block_works b.block) bs)) bodies_are) ∙ parts.1 in
+      let works : list_any (is_outside 1 tick_limit) (block_works o.block) ≡ false =
+      any_at (is_outside 1 tick_limit) (λ q. block_works q.block) os w.op o w.op_at
+      (ap (list_any (is_outside 1 tick_limit)) (sym (body_at (λ b. block_works b.block) os)) ∙ all_works) in
       let proper : IsProperOperation limits o = proper_op u.form w.op o (unit_proper w.place u w.at) w.op_at in
       let few : list_any (λ h. nat_lt 8 (length h.params)) (map (λ q. q.sig) os) ≡ false =
       sym (ap (list_any (λ h. nat_lt 8 (length h.params))) (heads-of u.form w.op o w.op_at)) ∙ (or_false (numbers_break u.form) _ parts.0).1 in
@@ -272,7 +273,7 @@ module _ (p : Program) (meets : MeetsRules p) (proper : IsProperProgram limits p
       let works = (or_false (numbers_break u.form || false) _ (unit_ranges i u at)).1 in
       record {
         fault = (or_none (block_fault (scope p u.form b) block) None (unit_faultless i u at)).0;
-        works = ap (list_any (is_outside 1 1000000000)) (sym (append-nil (block_works block))) ∙ works;
+        works = ap (list_any (is_outside 1 tick_limit)) (sym (append-nil (block_works block))) ∙ works;
         calls = λ c h. leads-somewhere p meets work i u at c (in-append (block_calls block) [] c h);
         proper = (unit_proper i u at).1;
         distinct = body_distinct i u b at refl;
@@ -284,7 +285,7 @@ module _ (p : Program) (meets : MeetsRules p) (proper : IsProperProgram limits p
       let all = body_distinct i u b at refl in
       record {
         fault = (or_none (block_fault (scope p u.form b) block) None (unit_faultless i u at)).0;
-        works = ap (list_any (is_outside 1 1000000000)) (sym (append-nil (block_works block))) ∙ works;
+        works = ap (list_any (is_outside 1 tick_limit)) (sym (append-nil (block_works block))) ∙ works;
         calls = λ c h. leads-somewhere p meets work i u at c (in-append (block_calls block) [] c h);
         proper = (unit_proper i u at).4;
         distinct = ap (λ ns. are_distinct (map (λ d. d.name) vars ++ ns)) (sym (append-nil (map (λ q. q.name) op.now.params.items)))
@@ -297,11 +298,11 @@ module _ (p : Program) (meets : MeetsRules p) (proper : IsProperProgram limits p
       → first_time (timing_of w) < 2 ^ 32
   near-offset (timing.Periodic offset period) i name priority vars block at =
       let numbers = unit_ranges i (record { name = name; form = Cyclic priority offset period vars block }) at in
-      let low : nat_lt 1000000000 offset ≡ false
-      = (or_false (is_outside 1 60 priority || is_outside 1 1000000000 period) _ (or_false _ _ (or_false _ _ numbers).0).0).1 in
+      let low : nat_lt tick_limit offset ≡ false
+      = (or_false (is_outside 1 60 priority || is_outside 1 tick_limit period) _ (or_false _ _ (or_false _ _ numbers).0).0).1 in
       near offset low
     where
-      near : (n : ℕ) → nat_lt 1000000000 n ≡ false → n < 2 ^ 32
+      near : (n : ℕ) → nat_lt tick_limit n ≡ false → n < 2 ^ 32
       near n h = grind arith
   near-offset (timing.Requested op ceiling separation jitter external) i name priority vars block at = omega arith
 

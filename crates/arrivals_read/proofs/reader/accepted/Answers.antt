@@ -1,4 +1,5 @@
 use Rattle.std.proofs.Common.{refl, ap, arith}
+use Rattle.seq_tree.specs.Limits.{tick_limit}
 use Rattle.seq_tree.specs.Lexis.{tokens}
 use Rattle.ada_tree.specs.Trees.{program_of}
 use Rattle.token_read.specs.Lexemes.{word_bytes}
@@ -14,7 +15,7 @@ pub returns-then-text-gt-HORIZON_LIMIT : goal.returns-then-text-gt-HORIZON_LIMIT
 returns-then-text-gt-HORIZON_LIMIT c =
     let text = text_of c.args.text.now in
     let found = found-list (tokens c.args.bytes.now) (arrival_tokens text) c.requires.spelled in
-    far-says c.args.bytes.now (program_of c.args.program.now) found.0 text c.args.text.now.until 1000000000
+    far-says c.args.bytes.now (program_of c.args.program.now) found.0 text c.args.text.now.until tick_limit
     (text-of c.args.bytes.now found.0 text c.requires.short found.1 found.2) refl c.if-text-gt-HORIZON_LIMIT.true refl
 
 pub returns-in-Ok : goal.returns-in-Ok

@@ -1,4 +1,5 @@
 use Rattle.std.proofs.Common.{◌≡◌, ap, subst, sym}
+use Rattle.seq_tree.specs.Limits.{tick_limit}
 use Rattle.ada_tree.specs.Rules.{MeetsRules}
 use Rattle.ada_tree.specs.Trees.{program_of}
 use Rattle.arrivals_tree.specs.Arriving.{arrivals_of}
@@ -11,7 +12,7 @@ use Rattle.design_accepts.proofs.accepting.judge.Goals as goal
 
 pub check_parts-requires-clause-units : goal.check_parts-requires-clause-units
 check_parts-requires-clause-units c =
-    (accepted 1000000000 (program_of c.args.program.now) (arrivals_of c.args.arrivals.now) c.requires.arrivals).1
+    (accepted tick_limit (program_of c.args.program.now) (arrivals_of c.args.arrivals.now) c.requires.arrivals).1
 
 pub read_events-requires-clause-meets : goal.read_events-requires-clause-meets
 read_events-requires-clause-meets c = subst MeetsRules (sym (ap program_of c.in_ok-table.ensures)) c.requires.meets

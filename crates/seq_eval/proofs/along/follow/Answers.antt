@@ -1,4 +1,5 @@
 use Rattle.std.proofs.Common.{◌≡◌, ◌≤◌, ℕ, map, subst, sym}
+use Rattle.seq_tree.specs.Limits.{tick_limit}
 use Rattle.seq_tree.specs.Names.{Name}
 use Rattle.seq_tree.specs.Runs.{Callee}
 use Rattle.seq_tree.specs.Trees.{block_of, offer_of, operation_of}
@@ -18,9 +19,9 @@ returns c =
     let after = c.follow_in.new.env.slots.items in
     let C : Name → Name → Callee = callees a.owners.now (map operation_of a.passive.now) (map offer_of a.shared.now) (map offer_of a.requests.now) in
     let same : calls_in c.in_ok-calls.calls ≡ C = c.in_ok-calls.ensures in
-    let cheap : ((d : ℕ) → most_ticks a.costs.now C d b ≤ 1000000000) → (d : ℕ)
-    → most_ticks a.costs.now (calls_in c.in_ok-calls.calls) d b ≤ 1000000000
-    = λ few d. subst (λ z. most_ticks a.costs.now z d b ≤ 1000000000) (sym same) (few d) in
+    let cheap : ((d : ℕ) → most_ticks a.costs.now C d b ≤ tick_limit) → (d : ℕ)
+    → most_ticks a.costs.now (calls_in c.in_ok-calls.calls) d b ≤ tick_limit
+    = λ few d. subst (λ z. most_ticks a.costs.now z d b ≤ tick_limit) (sym same) (few d) in
     record {
       says = λ few depth may. subst (λ z. Follows a.costs.now z depth b vars script c.follow_in.result after) same
           (c.follow_in.ensures.says (cheap few) depth (subst (λ z. MayRun z depth b) (sym same) may));

@@ -1,4 +1,5 @@
 use Rattle.std.proofs.Common.{ℕ, ◌≤◌, ap, sym, ◌∙◌}
+use Rattle.seq_tree.specs.Limits.{tick_limit}
 use Rattle.ada_tree.specs.Programs.{Program}
 use Rattle.law_walks.specs.Fit.{MayRun}
 use Rattle.guarantee.specs.Software.{leads_to}
@@ -14,7 +15,7 @@ pub ends-requires-clause-ticks : goal.ends-requires-clause-ticks
 ends-requires-clause-ticks c =
     block-at (program_in c.args.scene.now) c.args.unit c.requires.unit c.in-Some.thread
     (thread-found (program_in c.args.scene.now) c.args.unit c.thread_at.result c.in-Some.thread c.thread_at.ensures c.in-Some.is)
-    (λ b. (depth : ℕ) → most_ticks (program_in c.args.scene.now).costs (calls_of c.args.scene.now) depth b ≤ 1000000000) c.requires.scene.ticks
+    (λ b. (depth : ℕ) → most_ticks (program_in c.args.scene.now).costs (calls_of c.args.scene.now) depth b ≤ tick_limit) c.requires.scene.ticks
 
 pub returns-in-Active : goal.returns-in-Active
 returns-in-Active c = λ depth may.

@@ -1,4 +1,5 @@
 use Rattle.std.proofs.Common.{ℕ, ◌≤◌, rules}
+use Rattle.seq_tree.specs.Limits.{tick_limit}
 use Rattle.ada_tree.specs.Programs.{Program}
 use Rattle.law_walks.specs.Fit.{MayRun}
 use Rattle.guarantee.specs.Software.{leads_to}
@@ -18,7 +19,7 @@ pub advance-requires-clause-ticks : goal.advance-requires-clause-ticks
 advance-requires-clause-ticks c =
     block-at (program_in c.args.scene.now) c.args.task c.requires.task c.in-Some.thread
     (thread-found (program_in c.args.scene.now) c.args.task c.thread_at.result c.in-Some.thread c.thread_at.ensures c.in-Some.is)
-    (λ b. (depth : ℕ) → most_ticks (program_in c.args.scene.now).costs (calls_of c.args.scene.now) depth b ≤ 1000000000) c.requires.scene.ticks
+    (λ b. (depth : ℕ) → most_ticks (program_in c.args.scene.now).costs (calls_of c.args.scene.now) depth b ≤ tick_limit) c.requires.scene.ticks
 
 pub returns-clause-states : goal.returns-clause-states
 returns-clause-states c = λ depth may.

@@ -1,4 +1,5 @@
 use Rattle.std.proofs.Common.{rules, ℕ, suc, ◌≤◌, ap, drop, refl, get_or}
+use Rattle.seq_tree.specs.Limits.{tick_limit}
 use Rattle.trace_tree.specs.Lines.{unit_name}
 use Rattle.trace_scripts.specs.Insides.{known_from}
 use Rattle.trace_scripts.specs.Scenes.{program_in, software_of, calls_of}
@@ -24,7 +25,7 @@ enter-requires-clause-ticks c =
     body-all (program_in c.args.scene.now) c.requires.scene.rules c.args.task c.args.unit c.args.op c.requires.unit c.requires.op _ _ c.in-Some.object
     (object-here (program_in c.args.scene.now) c.args.unit _ c.object_at.result c.in-Some.object c.object_at.ensures c.in-Some.is) c.unit_at.ensures.name (get_or c.in-Some.object.ops.now c.args.op c.index-object-op.result)
     (ap (get_or c.in-Some.object.ops.now c.args.op) c.index-object-op.is)
-    (λ b. (depth : ℕ) → most_ticks (program_in c.args.scene.now).costs (calls_of c.args.scene.now) depth b ≤ 1000000000) c.requires.scene.ticks
+    (λ b. (depth : ℕ) → most_ticks (program_in c.args.scene.now).costs (calls_of c.args.scene.now) depth b ≤ tick_limit) c.requires.scene.ticks
 
 pub returns-clause-states : goal.returns-clause-states
 returns-clause-states c = λ depth may.

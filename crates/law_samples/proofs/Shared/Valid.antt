@@ -45,7 +45,8 @@ sample-reads : (n : ℕ) → 1 ≤ n → n ≤ 30 → Reads (design_text (sample
 sample-reads n low high =
     let x : Design = sample_design n in
     record {
-      within = leb-true (length (design_text x)) text_limit (shown (λ m. nat_le (length (design_text (sample_design m))) text_limit) n all_short low high);
+      within = leb-true (length (design_text x)) text_limit
+          (shown (λ m. nat_le (length (design_text (sample_design m))) text_limit) n all_short low high);
       proper = sample-proper n high;
       spelled = read-whole _ _ (gives-lines (design_lines x) (ready-lines (design_lines x) (design-sound x)
           (shown (λ m. is_writable (sample_design m)) n all_writable low high)));

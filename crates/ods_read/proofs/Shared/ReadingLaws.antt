@@ -422,8 +422,8 @@ pub only-design : (ts : List Token) (x : Design) → IsTextOf x ts → whole_at 
 only-design ts x g = told_back ts x (whole-only IsTextOf Any strict_at reads_strict (λ y. tt) ts x g)
 
 -- FROM TOKENS TO THEIR TEXT
-pub reads-as : (bytes : List ℕ) (ts : List Spanned) (x : Design) → length bytes ≤ text_limit → tokens bytes ≡ Ok ts → whole_at design_at (bare ts) ≡ Ok x
-    → reading.Reads bytes x
+pub reads-as : (bytes : List ℕ) (ts : List Spanned) (x : Design) → length bytes ≤ text_limit → tokens bytes ≡ Ok ts
+    → whole_at design_at (bare ts) ≡ Ok x → reading.Reads bytes x
 reads-as bytes ts x short e h =
     let a = whole-design (bare ts) x h in
     record { within = short; proper = a.proper; spelled = ap plain e ∙ ap Ok a.spelled }

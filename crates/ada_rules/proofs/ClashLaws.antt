@@ -1,7 +1,7 @@
 -- Clashes told with tests are those told with lists of names.
 use Rattle.std.proofs.Common.{◌≡◌, ℕ, Bool, true, false, not, ◌&&◌, ◌||◌, List, [], ◌∷◌, ◌++◌, nat_eq, bytes_eq, refl, sym, ap, ◌∙◌}
 use Rattle.std.proofs.Common.{append_assoc, append-nil}
-use Rattle.std.proofs.Math.Bool.{and_assoc, or_assoc, or_comm}
+use Rattle.std.proofs.Math.Bool.{and_assoc, or_assoc, or_comm, or-false}
 use Rattle.std.specs.Cmp.{nat_eq_equiv}
 use Rattle.std.proofs.lemmas.List.Folds.{list_any-append}
 use Rattle.seq_tree.specs.Names.{Name, same_name, is_named, are_distinct}
@@ -12,7 +12,7 @@ use Rattle.ada_tree.specs.Bodies.{Body}
 use Rattle.ada_tree.specs.Naming.{own_names, body_names, statement_clashes, block_clashes, branch_clashes, body_clashes}
 use Rattle.ada_rules.specs.Parts.{Part, LoopEnd, statement_parts, block_parts, branch_parts}
 use Rattle.ada_rules.specs.Clashes.{are_new, clashes_in, clashes_inside}
-use Rattle.ada_rules.proofs.NameSteps.{named-push, front-push, or_turn, or_false}
+use Rattle.ada_rules.proofs.NameSteps.{named-push, front-push, or_turn}
 
 pub same_name-sym : (a b : List ℕ) → same_name a b ≡ same_name b a
 same_name-sym [] [] = refl
@@ -109,6 +109,6 @@ inside_is form taken b h apart =
     ≡ block_clashes (own_names form ++ body_names b) b.block =
     ap (clashes_in (λ n. is_named (body_names b) n || taken n) []) (sym (append-nil (block_parts b.block)))
     ∙ block_clashes_in b.block (λ n. is_named (body_names b) n || taken n) (own_names form ++ body_names b) [] tests []
-    ∙ or_false (block_clashes (own_names form ++ body_names b) b.block) in
+    ∙ or-false (block_clashes (own_names form ++ body_names b) b.block) in
     ap (λ d. not d || clashes_in (λ n. is_named (body_names b) n || taken n) [] (block_parts b.block)) (sym names)
     ∙ ap (λ c. not (are_distinct (own_names form ++ body_names b)) || c) loops

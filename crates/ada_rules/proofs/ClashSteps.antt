@@ -2,6 +2,7 @@
 use Rattle.std.proofs.Common.{◌≡◌, ℕ, ◌+◌, ◌<◌, Bool, true, false, not, ◌||◌, List, [], length, drop, map, get_or, Result, Ok, Err, IfOk, refl}
 use Rattle.std.proofs.Common.{sym, ap, ◌∙◌}
 use Rattle.std.proofs.Math.Path.{fun_ext}
+use Rattle.std.proofs.Math.Bool.{or-false}
 use Rattle.seq_tree.specs.Names.{Name, is_named}
 use Rattle.seq_tree.proofs.Shared.LoopSteps.{drop_step}
 use Rattle.ada_tree.specs.Bodies.{Body}
@@ -28,10 +29,6 @@ names_clash taken before b names none same found =
     ap (λ new. not new || clashes_in (λ n. is_named (body_names b) n || taken n) [] (block_parts b.block))
     (found ∙ new_names taken before b names none same)
 
-pub or_nothing : (a : Bool) → (a || false) ≡ a
-or_nothing true = refl
-or_nothing false = refl
-
 -- names that clash in the block alone
 pub block_clash : (taken before after : Name → Bool) (b : Body) (names : List Name) (parts : List Part) → ((n : Name) → before n ≡ false)
     → names ≡ body_names b →
@@ -39,7 +36,7 @@ pub block_clash : (taken before after : Name → Bool) (b : Body) (names : List 
     clashes_in (λ n. after n || taken n) [] parts ≡ clashes_inside taken b
 block_clash taken before after b names parts none same found added written =
     let tests : (n : Name) → (after n || taken n) ≡ (is_named (body_names b) n || taken n) =
-    λ n. ap (λ c. c || taken n) (added n ∙ ap (λ c. is_named names n || c) (none n) ∙ or_nothing (is_named names n) ∙ ap
+    λ n. ap (λ c. c || taken n) (added n ∙ ap (λ c. is_named names n || c) (none n) ∙ or-false (is_named names n) ∙ ap
     (λ ns. is_named ns n) same) in
     ap (λ (f : Name → Bool). clashes_in f [] parts) (fun_ext tests) ∙ ap (clashes_in (λ n. is_named (body_names b) n || taken n) []) written
     ∙ ap (λ new. not new || clashes_in (λ n. is_named (body_names b) n || taken n) [] (block_parts b.block))

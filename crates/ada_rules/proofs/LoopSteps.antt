@@ -4,8 +4,9 @@ use Rattle.std.proofs.Common.{get_or, ap, sym, ◌∙◌, append_assoc}
 use Rattle.std.proofs.lemmas.List.{map-append}
 use Rattle.std.proofs.lemmas.List.Folds.{list_any-append}
 use Rattle.std.specs.List.{list_any}
+use Rattle.std.proofs.Math.Bool.{or-false}
 use Rattle.seq_tree.proofs.Shared.LoopSteps.{drop_step, take_step}
-use Rattle.ada_rules.proofs.NameSteps.{or_false, or_turn}
+use Rattle.ada_rules.proofs.NameSteps.{or_turn}
 
 -- one thing is pushed for an item, behind those of the items before it
 pub pushed_step : {A B C : Type 0} (f : B → C) (G : List A → List C) (xs : List A) (i : ℕ) (x : A) (y : B) (old new : List B) (first : List C)
@@ -38,7 +39,7 @@ found_step F xs i x here all split inside at holds was =
 pub any_last : {A B : Type 0} (f : B → Bool) (g : A → B) (x : A) (ys : List A)
     → list_any f (map g (ys ++ x ∷ [])) ≡ (list_any f (map g ys) || f (g x))
 any_last f g x ys =
-    ap (list_any f) (map-append g ys (x ∷ [])) ∙ list_any-append f (map g ys) (g x ∷ []) ∙ ap (λ b. list_any f (map g ys) || b) (or_false (f (g x)))
+    ap (list_any f) (map-append g ys (x ∷ [])) ∙ list_any-append f (map g ys) (g x ∷ []) ∙ ap (λ b. list_any f (map g ys) || b) (or-false (f (g x)))
 
 -- what is told of an item is told of it or of those before it, or was so at first
 pub told_step : {A : Type 0} (F : List A → Bool) (xs : List A) (i : ℕ) (x : A) (here first old new : Bool)
@@ -53,4 +54,4 @@ pub told_alone : {A : Type 0} (F : List A → Bool) (xs : List A) (i : ℕ) (x :
     → ((ys : List A) → F (ys ++ x ∷ []) ≡ (F ys || here)) → i < length xs → x ≡ get_or xs i x → new ≡ (here || old) → old ≡ F (take i xs)
     → new ≡ F (take (i + 1) xs)
 told_alone F xs i x here old new split inside at made was =
-    told_step F xs i x here false old new split inside at made (was ∙ sym (or_false (F (take i xs)))) ∙ or_false (F (take (i + 1) xs))
+    told_step F xs i x here false old new split inside at made (was ∙ sym (or-false (F (take i xs)))) ∙ or-false (F (take (i + 1) xs))

@@ -3,7 +3,7 @@ use Rattle.std.proofs.Common.{◌≡◌, ℕ, ◌+◌, ◌<◌, Bool, true, fals
 use Rattle.std.proofs.Common.{None, option_to_list, IsSome, refl, sym, ap, ◌∙◌, arith, append_assoc, append-nil}
 use Rattle.std.proofs.Math.ListN.{get_or}
 use Rattle.std.proofs.Math.Path.{fun_ext}
-use Rattle.std.proofs.Math.Bool.{and_assoc}
+use Rattle.std.proofs.Math.Bool.{and_assoc, or-false}
 use Rattle.std.proofs.lemmas.List.{map-append}
 use Rattle.std.proofs.lemmas.List.Folds.{list_any-append}
 use Rattle.std.specs.Borrow.{Bor}
@@ -12,13 +12,9 @@ use Rattle.seq_tree.proofs.Shared.LoopSteps.{drop_step, take_step}
 use Rattle.ada_rules.specs.Clashes.{are_new, front}
 use Rattle.ada_rules.specs.Lists.{names_of}
 
-pub or_false : (a : Bool) → (a || false) ≡ a
-or_false true = refl
-or_false false = refl
-
 -- a name more among names
 pub named-push : (ns : List Name) (n m : Name) → is_named (ns ++ n ∷ []) m ≡ (is_named ns m || same_name n m)
-named-push ns n m = list_any-append (λ k. same_name k m) ns (n ∷ []) ∙ ap (λ b. is_named ns m || b) (or_false (same_name n m))
+named-push ns n m = list_any-append (λ k. same_name k m) ns (n ∷ []) ∙ ap (λ b. is_named ns m || b) (or-false (same_name n m))
 
 pub named_step : (xs : List (Bor Name)) (i : ℕ) (x : Bor Name) (m : Name) → i < length xs → x ≡ get_or xs i x
     → is_named (names_of (take (i + 1) xs)) m ≡ (is_named (names_of (take i xs)) m || same_name x.now m)

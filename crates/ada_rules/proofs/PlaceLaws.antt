@@ -2,11 +2,11 @@
 use Rattle.std.proofs.Common.{◌≡◌, ℕ, zero, suc, ◌+◌, ◌<◌, ◌≤◌, ◌==◌, Bool, true, false, ◌&&◌, ◌||◌, List, [], ◌∷◌, filter_map, get_or}
 use Rattle.std.proofs.Common.{if◌then◌else◌, length, map, nat_lt, slice_get, Option, Some, None, inl, inr, refl, sym, ap, subst, ◌∙◌, arith}
 use Rattle.std.specs.List.{cons_option, list_any}
-use Rattle.std.proofs.lemmas.Bool.{eqb-true, eq-eqb}
+use Rattle.std.proofs.lemmas.Bool.{eqb-true, eq-eqb, and_parts, and_from}
 use Rattle.std.proofs.lemmas.Option.{slice_get_within}
 use Rattle.seq_tree.specs.Calls.{same_op}
 use Rattle.seq_tree.specs.declared.tree.OpName.{OpName}
-use Rattle.seq_tree.proofs.Shared.Walks.{same_op-eq, same_op-refl, both}
+use Rattle.seq_tree.proofs.Shared.Walks.{same_op-eq, same_op-refl}
 use Rattle.ada_rules.specs.Edges.{Edge, joins, Joins, Leads, IsRound, IsFound}
 use Rattle.ada_rules.specs.Places.{IsFirstRound, is_led_to, is_marked, place_from, starts_of, step_between, steps_of}
 use Rattle.rings.specs.Graphs.{has_number, is_step}
@@ -64,17 +64,14 @@ from-at (f ∷ es) (suc i) e h = from-at es i e h
 abbrev is_between : ℕ → ℕ → ℕ × ℕ → Bool
 is_between p q s = s.0 == p && s.1 == q
 
-and_true : (a b : Bool) → a ≡ true → b ≡ true → (a && b) ≡ true
-and_true a b h k = ap (λ c. c && b) h ∙ k
-
 is-between : (from to : Option ℕ) (p q : ℕ) → from ≡ Some p → to ≡ Some q → on (is_between p q) (step_between from to) ≡ true
 is-between from to p q h k = ap (λ o. on (is_between p q) (step_between o to)) h ∙ ap (λ o. on (is_between p q) (step_between (Some p) o)) k ∙
-    and_true (p == p) (q == q) (eq-eqb p p refl) (eq-eqb q q refl)
+    and_from (p == p) (q == q) (eq-eqb p p refl) (eq-eqb q q refl)
 
 between : (from to : Option ℕ) (p q : ℕ) → on (is_between p q) (step_between from to) ≡ true → (from ≡ Some p) × (to ≡ Some q)
 between None to p q h = cc
 between (Some a) None p q h = cc
-between (Some a) (Some b) p q h = let r = both (a == p) (b == q) h in (ap Some (eqb-true a p r.0), ap Some (eqb-true b q r.1))
+between (Some a) (Some b) p q h = let r = and_parts (a == p) (b == q) h in (ap Some (eqb-true a p r.0), ap Some (eqb-true b q r.1))
 
 module _ (es : List Edge) (place : OpName → Option ℕ) (placed : (n : OpName) → place n ≡ place_from 0 es n)
     (step : ℕ → ℕ → Bool) (stepped : (p q : ℕ) → step p q ≡ is_step (length es) (steps_of place es) p q) where
@@ -95,12 +92,12 @@ module _ (es : List Edge) (place : OpName → Option ℕ) (placed : (n : OpName)
   forth : (a c : OpName) (p q : ℕ) → Joins es a c → place a ≡ Some p → place c ≡ Some q → step p q ≡ true
   forth a c p q h at to =
       let r = any-some (joins a c) es h in
-      let ends = both (same_op r.0.from a) (same_op c r.0.to) r.1 in
+      let ends = and_parts (same_op r.0.from a) (same_op c r.0.to) r.1 in
       let from : place r.0.from ≡ Some p = ap place (same_op-eq r.0.from a ends.0) ∙ at in
       let target : place r.0.to ≡ Some q = ap place (sym (same_op-eq c r.0.to ends.1)) ∙ to in
       let e = edge-at c q to in
       let within : q < length es = slice_get_within es q e.0 e.1 in
-      stepped p q ∙ and_true (nat_lt q (length es)) _ (grind (arith, within))
+      stepped p q ∙ and_from (nat_lt q (length es)) _ (grind (arith, within))
       (any-taken (is_between p q) (λ (f : Edge). step_between (place f.from) (place f.to)) es
       ∙ r.2 (λ (f : Edge). on (is_between p q) (step_between (place f.from) (place f.to)))
       (is-between (place r.0.from) (place r.0.to) p q from target))
@@ -108,7 +105,7 @@ module _ (es : List Edge) (place : OpName → Option ℕ) (placed : (n : OpName)
   -- a step is an edge
   back : (p q : ℕ) → step p q ≡ true → (a c : OpName) × (place a ≡ Some p) × (place c ≡ Some q) × Joins es a c
   back p q h =
-      let k = both (nat_lt q (length es)) (list_any (is_between p q) (steps_of place es)) (sym (stepped p q) ∙ h) in
+      let k = and_parts (nat_lt q (length es)) (list_any (is_between p q) (steps_of place es)) (sym (stepped p q) ∙ h) in
       let r = any-some (λ (f : Edge). on (is_between p q) (step_between (place f.from) (place f.to))) es
       (sym (any-taken (is_between p q) (λ (f : Edge). step_between (place f.from) (place f.to)) es) ∙ k.1) in
       let ends = between (place r.0.from) (place r.0.to) p q r.1 in (
@@ -116,7 +113,7 @@ module _ (es : List Edge) (place : OpName → Option ℕ) (placed : (n : OpName)
         r.0.to,
         ends.0,
         ends.1,
-        r.2 (joins r.0.from r.0.to) (and_true (same_op r.0.from r.0.from) (same_op r.0.to r.0.to)
+        r.2 (joins r.0.from r.0.to) (and_from (same_op r.0.from r.0.from) (same_op r.0.to r.0.to)
             (same_op-refl r.0.from) (same_op-refl r.0.to)),
       )
 
@@ -124,7 +121,7 @@ module _ (es : List Edge) (place : OpName → Option ℕ) (placed : (n : OpName)
   source : (a c : OpName) → Joins es a c → (p : ℕ) × (place a ≡ Some p)
   source a c h =
       let r = any_place (joins a c) es h in
-      let from : r.1.from ≡ a = same_op-eq r.1.from a (both (same_op r.1.from a) (same_op c r.1.to) r.3).0 in
+      let from : r.1.from ≡ a = same_op-eq r.1.from a (and_parts (same_op r.1.from a) (same_op c r.1.to) r.3).0 in
       let l = none-later 0 es r.0 r.1 r.2 in (l.0, ap place (sym from) ∙ placed r.1.from ∙ l.1)
 
   -- the first place on a ring is that of the first edge on one
@@ -154,7 +151,7 @@ module _ (es : List Edge) (place : OpName → Option ℕ) (placed : (n : OpName)
     start-of : (s : ℕ) → is_start s ≡ true → (m : OpName) × (called m ≡ true) × (place m ≡ Some s)
     start-of s h =
         let k : list_any (λ t. t == s) (starts_of place called es) ≡ true
-        = ap (λ ns. has_number ns s) (sym started) ∙ (both (has_number starts s) (nat_lt s count) h).0 in
+        = ap (λ ns. has_number ns s) (sym started) ∙ (and_parts (has_number starts s) (nat_lt s count) h).0 in
         let r = any-some (λ (e : Edge). on (λ t. t == s) (if called e.from then place e.from else None)) es
         (sym (any-taken (λ t. t == s) (λ (e : Edge). if called e.from then place e.from else None) es) ∙ k) in
         by r.0.from (called r.0.from) refl r.1
@@ -176,7 +173,7 @@ module _ (es : List Edge) (place : OpName → Option ℕ) (placed : (n : OpName)
         let place-from : place e.0.from ≡ Some s = ap place e.2 ∙ at in
         let own : on (λ t. t == s) (if called e.0.from then place e.0.from else None) ≡ true =
         ap (λ t. on (λ u. u == s) (if t then place e.0.from else None)) called-from ∙ ap (on (λ u. u == s)) place-from ∙ eq-eqb s s refl in
-        and_true (has_number starts s) (nat_lt s count)
+        and_from (has_number starts s) (nat_lt s count)
         (ap (λ ns. has_number ns s) started ∙ any-taken (λ t. t == s) (λ (f : Edge). if called f.from then place f.from else None) es
         ∙ any_at (λ (f : Edge). on (λ t. t == s) (if called f.from then place f.from else None)) es s e.0 e.1 own)
         (let c = counted in grind (arith, within, c))
@@ -212,11 +209,11 @@ module _ (es : List Edge) (place : OpName → Option ℕ) (placed : (n : OpName)
       led-found : (n : OpName) → is_led_to place marks es n ≡ true → IsFound es called n
       led-found n h =
           let r = any-some (λ (e : Edge). is_marked marks (place e.from) && same_op e.to n) es h in
-          let k = both (is_marked marks (place r.0.from)) (same_op r.0.to n) r.1 in
+          let k = and_parts (is_marked marks (place r.0.from)) (same_op r.0.to n) r.1 in
           let to : r.0.to ≡ n = same_op-eq r.0.to n k.1 in
           let P : OpName → Type 0 = λ z. Joins es r.0.from z in
           let edge : Joins es r.0.from r.0.to
-          = r.2 (joins r.0.from r.0.to) (and_true (same_op r.0.from r.0.from) (same_op r.0.to r.0.to) (same_op-refl r.0.from)
+          = r.2 (joins r.0.from r.0.to) (and_from (same_op r.0.from r.0.from) (same_op r.0.to r.0.to) (same_op-refl r.0.from)
           (same_op-refl r.0.to)) in
           edge-on n r.0.from (by r.0.from (place r.0.from) refl k.0) (subst P to edge)
         where
@@ -236,11 +233,11 @@ module _ (es : List Edge) (place : OpName → Option ℕ) (placed : (n : OpName)
       edge-led : (n m : OpName) (q : ℕ) → place m ≡ Some q → IsReachedBy step is_start q → Joins es m n → is_led_to place marks es n ≡ true
       edge-led n m q at reached edge =
           let r = any-some (joins m n) es edge in
-          let ends = both (same_op r.0.from m) (same_op n r.0.to) r.1 in
+          let ends = and_parts (same_op r.0.from m) (same_op n r.0.to) r.1 in
           let from : place r.0.from ≡ Some q = ap place (same_op-eq r.0.from m ends.0) ∙ at in
           let to : same_op r.0.to n ≡ true = ap (λ z. same_op z n) (sym (same_op-eq n r.0.to ends.1)) ∙ same_op-refl n in
           r.2 (λ (e : Edge). is_marked marks (place e.from) && same_op e.to n)
-          (and_true (is_marked marks (place r.0.from)) (same_op r.0.to n) (ap (is_marked marks) from ∙ complete q reached) to)
+          (and_from (is_marked marks (place r.0.from)) (same_op r.0.to n) (ap (is_marked marks) from ∙ complete q reached) to)
 
       -- the last edge of a path, and what leads to it
       led-by : (path : List OpName) (from n : OpName) (s : ℕ) → place from ≡ Some s → IsReachedBy step is_start s → Leads es from path n

@@ -3,9 +3,11 @@ use Rattle.std.proofs.Common.{◌≡◌, ℕ, zero, suc, ◌+◌, ◌<◌, ◌�
 use Rattle.std.proofs.Common.{slice_get, Option, Some, None, inl, inr, ◌⊎◌, refl, sym, ap, subst, ◌∙◌, arith}
 use Rattle.std.proofs.lemmas.Slice.Eq.{bytes_eq-Decides}
 use Rattle.std.proofs.lemmas.Option.{slice_get_within}
+use Rattle.std.proofs.lemmas.Bool.{or_cases, or_left, or_right}
 use Rattle.seq_tree.specs.Names.{Name, is_named, same_name}
 use Rattle.seq_tree.specs.Rings.{IsOnRing}
 use Rattle.seq_tree.specs.declared.tree.OpName.{OpName}
+use Rattle.seq_tree.proofs.Shared.SameNames.{same-self}
 use Rattle.ada_tree.specs.Naming.{breaks_naming, inner_names}
 use Rattle.ada_tree.specs.Programs.{Unit, Program}
 use Rattle.ada_tree.specs.Trees.{program_of, unit_of}
@@ -17,10 +19,6 @@ use Rattle.ada_rules.specs.Firsts.{IsFirst}
 use Rattle.ada_rules.specs.Places.{IsFirstRound, is_from, is_ringed, leaves_at}
 use Rattle.ada_rules.proofs.ObjectLaws.{leads_units, round_of_units}
 use Rattle.ada_rules.proofs.RingLaws.{edges_are, first_edge, ring_of, round_of}
-use Rattle.rings.proofs.Shared.Reaching.{or-cases, or-left, or-right}
-
-same-self : (n : Name) → same_name n n ≡ true
-same-self n = (bytes_eq-Decides n n).1 refl
 
 le-or : (a b : ℕ) → (a ≤ b) ⊎ (b < a)
 le-or zero b = inl (omega arith)
@@ -130,8 +128,8 @@ module _ (p : Program) (naming : IsFirst (λ place u. breaks_naming p place u �
       by : (m ≤ j) ⊎ (j < m) → m ≤ j
       by (inl h) = h
       by (inr h) = absurd (naming m v there
-          (or-left _ _ (or-left _ _ (or-left _ _
-          (or-left _ _ (or-left _ _ (taken-name p.units (flat_map (λ (w : Unit). inner_names w.form) (take m p.units)) j m u v.name at h
+          (or_left _ _ (or_left _ _ (or_left _ _
+          (or_left _ _ (or_left _ _ (taken-name p.units (flat_map (λ (w : Unit). inner_names w.form) (take m p.units)) j m u v.name at h
           (sym same))))))))
 
   -- where an operation of a unit is on a ring, the first edge on one is of a unit that isn't later
@@ -174,7 +172,7 @@ module _ (p : AdaProgram) (us : List code.Unit) (es os : List Edge) (same : us �
   leaves fs (Some first) n h is = (is.0, (bytes_eq-Decides is.0.from.object n).0 (sym (ap (is_from n) is.1) ∙ h), is.2)
 
   sound : (u : Unit) → told u ≡ true → BreaksRings (program_of p) u
-  sound u h = by (or-cases (leaves_at es op u.name) (leaves_at os object u.name) h)
+  sound u h = by (or_cases (leaves_at es op u.name) (leaves_at os object u.name) h)
     where
       by : (leaves_at es op u.name ≡ true) ⊎ (leaves_at os object u.name ≡ true) → BreaksRings (program_of p) u
       by (inl k) =
@@ -203,7 +201,7 @@ module _ (p : AdaProgram) (us : List code.Unit) (es os : List Edge) (same : us �
       let r = earlier-told (program_of p) naming (object_edges (is_shared_name (program_of p)))
       (of-object (is_shared_name (program_of p))) os by_objects object first_object j u at (node u.name) refl
       (subst P (sym by_objects) (round_of_units (program_of p) u.name ring)) in
-      (r.0, r.1, r.2, r.3, or-right (leaves_at es op r.2.name) (leaves_at os object r.2.name) r.4)
+      (r.0, r.1, r.2, r.3, or_right (leaves_at es op r.2.name) (leaves_at os object r.2.name) r.4)
 
   -- the first unit that is told is the first that breaks the rule
   pub rings_first : (r : Option ℕ) → IsFirst (λ k u. told u ≡ true) (map unit_of p.units.items) r

@@ -7,7 +7,8 @@ use Rattle.seq_tree.specs.Statements.{Statement, Statements, Null, If, For, Call
 use Rattle.seq_tree.specs.Operations.{Signature, Operation}
 use Rattle.seq_tree.specs.declared.tree.Costs.{Costs}
 use Rattle.ods_tree.specs.Flats.{Library, Guarded, Timing, Cyclic, Sporadic, Thread, Flat}
-use Rattle.ods_tree.specs.Sound.{is_within, entry_names, is_timed, is_in_range, blocks, counted_calls, IsWellFormed}
+use Rattle.ods_tree.specs.Sound.{entry_names, is_timed, is_in_range, blocks, counted_calls, IsWellFormed}
+use Rattle.seq_tree.specs.Limits.{is_within}
 use Rattle.ods_tree.proofs.Shared.Short.{row_costs, block, call, v_in}
 
 -- a range has both its ends

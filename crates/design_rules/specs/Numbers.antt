@@ -2,12 +2,12 @@
 -- The ranges are this project's own.
 use Rattle.std.specs.Prelude.{ℕ, ◌-◌, Bool, true, false, not, ◌&&◌, ◌||◌, ◌==◌, List, [], ◌∷◌, ◌++◌, flat_map, filter_map, length, nat_lt, Some, None}
 use Rattle.std.specs.List.{list_any, list_all}
-use Rattle.seq_tree.specs.Limits.{tick_limit}
+use Rattle.seq_tree.specs.Limits.{tick_limit, is_within}
 use Rattle.seq_tree.specs.Calls.{block_works}
 use Rattle.ods_tree.specs.Designs.{Object, Design}
 use Rattle.ods_tree.specs.Walk.{Standing, objects, is_terminal, is_empty}
 use Rattle.ods_tree.specs.Attributes.{attribute_or, attribute_count}
-use Rattle.ods_tree.specs.Sound.{is_within, costs_of}
+use Rattle.ods_tree.specs.Sound.{costs_of}
 use Rattle.ods_tree.specs.declared.design.Kind.{Kind}
 use Rattle.ods_tree.specs.declared.design.Kind.TheVariants as kind
 use Rattle.ods_tree.specs.declared.design.AttrKey.{AttrKey}

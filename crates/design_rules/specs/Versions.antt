@@ -3,10 +3,9 @@
 use Rattle.std.specs.Prelude.{ℕ, ◌*◌, ◌/◌, ◌%◌, Bool, false, not, ◌&&◌, ◌||◌, ◌==◌, List, [], ◌++◌, filter_map, nat_lt, nat_le, Option, Some}
 use Rattle.std.specs.Prelude.{None, option_to_list}
 use Rattle.std.specs.List.{list_any}
-use Rattle.seq_tree.specs.Limits.{tick_limit}
+use Rattle.seq_tree.specs.Limits.{tick_limit, is_within}
 use Rattle.ods_tree.specs.Designs.{Object, Design}
 use Rattle.ods_tree.specs.Walk.{objects, only_if}
-use Rattle.ods_tree.specs.Sound.{is_within}
 use Rattle.ods_tree.specs.Ticks.{microseconds, tick_time}
 use Rattle.ods_tree.specs.declared.design.TickUnit.{TickUnit}
 use Rattle.ods_tree.specs.declared.design.VersionTwo.{VersionTwo}

@@ -4,7 +4,7 @@ use Rattle.std.specs.Prelude.{None, refl}
 use Rattle.std.specs.Prelude.{option_and_then, if◌then◌else◌, zero, suc, ◌-◌, ◌≤◌, length, take, max, filter_map, position}
 use Rattle.std.specs.List.{list_any, list_all, cons_option}
 use Rattle.std.proofs.Common.{sym, ◌∙◌, ap, ap₂, subst, inl, inr, arith}
-use Rattle.std.proofs.lemmas.Bool.{and_parts, or_parts, true≢false}
+use Rattle.std.proofs.lemmas.Bool.{and_parts, or_parts, true≢false, not-false}
 use Rattle.seq_tree.specs.Names.{same_name, is_named}
 use Rattle.seq_tree.specs.Layout.{layout}
 use Rattle.seq_tree.specs.Operations.{is_out}
@@ -76,10 +76,6 @@ only-active kind.Passive h = cc
 only-active kind.Protected h = cc
 only-active kind.Cyclic h = cc
 only-active kind.Sporadic h = cc
-
-not-false : (b : Bool) → not b ≡ false → b ≡ true
-not-false true h = refl
-not-false false h = absurd (true≢false h)
 
 module _ (written x : Design) (met : AreMet written x) where
   there : (s : Standing) (p : Provided) → IsIn s (objects x) → IsIn p s.own.provides

@@ -3,13 +3,13 @@ use Rattle.std.proofs.Common.{◌≡◌, ℕ, suc, ◌-◌, ◌≤◌, Bool, tru
 use Rattle.std.proofs.Common.{nat_lt, nat_le, Option, Some, None, option_map, unwrap_or, refl, sym, ap, subst, ◌∙◌, arith, if◌then◌else◌}
 use Rattle.std.specs.List.{list_any, list_all, cons_option}
 use Rattle.std.proofs.lemmas.Bool.{or_parts, and_parts, and_from, not-false}
-use Rattle.seq_tree.specs.Limits.{tick_limit}
+use Rattle.seq_tree.specs.Limits.{tick_limit, is_within}
 use Rattle.ods_tree.specs.Designs.{Object, Design}
 use Rattle.ods_tree.specs.Walk.{Standing, objects, is_terminal, terminals}
 use Rattle.ods_tree.specs.Attributes.{attribute, attribute_or, attribute_count, has_key}
 use Rattle.ods_tree.specs.Flats.{Timing, Thread, period_of}
 use Rattle.ods_tree.specs.Flattening.{timing_by, threads}
-use Rattle.ods_tree.specs.Sound.{is_within, is_below, is_timed, is_in_range}
+use Rattle.ods_tree.specs.Sound.{is_below, is_timed, is_in_range}
 use Rattle.ods_tree.specs.declared.design.Attr.{Attr}
 use Rattle.ods_tree.specs.declared.design.AttrKey.{AttrKey}
 use Rattle.ods_tree.specs.declared.design.AttrKey.TheVariants.{Period, Offset, Separation, Deadline, ArrivalJitter}

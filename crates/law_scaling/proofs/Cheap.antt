@@ -4,6 +4,7 @@ use Rattle.std.proofs.Common.{arith, None, append_assoc}
 use Rattle.std.specs.Prelude.{find, nat_lt, nat_le}
 use Rattle.std.specs.List.{AllZip, list_all}
 use Rattle.std.proofs.lemmas.List.Folds.{list_all-append}
+use Rattle.std.proofs.lemmas.Bool.{and_from, and_parts}
 use Rattle.seq_tree.specs.Limits.{tick_limit}
 use Rattle.seq_tree.specs.Names.{Name}
 use Rattle.seq_tree.specs.Operations.{Operation}
@@ -68,16 +69,8 @@ module _ (f : Flat) (v w : Name → ℕ → ℕ) (less : (object : Name) (n : �
   pub cheap-less : first_dear (reworked w f) ≡ None → first_dear (reworked v f) ≡ None
   cheap-less e = none-less (parts (reworked v f)) (parts (reworked w f)) parts-more e
 
-and_true : (a b : Bool) → a ≡ true → b ≡ true → (a && b) ≡ true
-and_true true b h k = k
-and_true false b h k = h
-
-and_parts : (a b : Bool) → (a && b) ≡ true → (a ≡ true) × (b ≡ true)
-and_parts true b h = (refl, h)
-and_parts false b h = absurd (cc)
-
 both : {A : Type 0} (p : A → Bool) (xs ys : List A) → list_all p xs ≡ true → list_all p ys ≡ true → list_all p (xs ++ ys) ≡ true
-both p xs ys h k = list_all-append p xs ys ∙ and_true (list_all p xs) (list_all p ys) h k
+both p xs ys h k = list_all-append p xs ys ∙ and_from (list_all p xs) (list_all p ys) h k
 
 -- the tests of soundness on costs say that no part is dear
 module _ (g : Flat) where
@@ -99,7 +92,7 @@ module _ (g : Flat) where
       by false d more =
           let cheap : op_cheap o ≡ true = grind (arith, d) in
           let k = more (rw d at e) in
-          (and_true (op_cheap o) (list_all op_cheap os) cheap k.0, k.1)
+          (and_from (op_cheap o) (list_all op_cheap os) cheap k.0, k.1)
 
   libraries-cheap : (ls : List Library) (rest : List Part) → find dear (flat_map (λ l. map (body_part g l.name) l.ops) ls ++ rest) ≡ None
       → (list_all (λ ops. list_all op_cheap ops) (map (λ l. l.ops) ls) ≡ true) × (find dear rest ≡ None)
@@ -109,7 +102,7 @@ module _ (g : Flat) where
       let first = ops-cheap l.name l.ops more (ap (find dear) (sym (append_assoc (map (body_part g l.name) l.ops)
       (flat_map (λ l. map (body_part g l.name) l.ops) ls) rest)) ∙ e) in
       let later = libraries-cheap ls rest first.1 in
-      (and_true (list_all op_cheap l.ops) _ first.0 later.0, later.1)
+      (and_from (list_all op_cheap l.ops) _ first.0 later.0, later.1)
 
   guarded-cheap : (gs : List Guarded) (rest : List Part) → find dear (flat_map (λ l. map (body_part g l.name) l.ops) gs ++ rest) ≡ None
       → (list_all (λ ops. list_all op_cheap ops) (map (λ l. l.ops) gs) ≡ true) × (find dear rest ≡ None)
@@ -119,7 +112,7 @@ module _ (g : Flat) where
       let first = ops-cheap l.name l.ops more (ap (find dear) (sym (append_assoc (map (body_part g l.name) l.ops)
       (flat_map (λ l. map (body_part g l.name) l.ops) ls) rest)) ∙ e) in
       let later = guarded-cheap ls rest first.1 in
-      (and_true (list_all op_cheap l.ops) _ first.0 later.0, later.1)
+      (and_from (list_all op_cheap l.ops) _ first.0 later.0, later.1)
 
   all-threads-cheap : (ts : List Thread) → find dear (map (thread_part g) ts) ≡ None → list_all thread_cheap ts ≡ true
   all-threads-cheap [] e = refl
@@ -130,7 +123,7 @@ module _ (g : Flat) where
       by true d more = absurd (let k = rw d at e in cc)
       by false d more =
           let cheap : thread_cheap t ≡ true = grind (arith, d) in
-          and_true (thread_cheap t) (list_all thread_cheap ts) cheap (more (rw d at e))
+          and_from (thread_cheap t) (list_all thread_cheap ts) cheap (more (rw d at e))
 
   -- what soundness asks of costs
   pub costs-cheap : first_dear g ≡ None

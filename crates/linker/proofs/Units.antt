@@ -2,7 +2,6 @@
 use Rattle.std.proofs.Common.{◌≡◌, ℕ, suc, Bool, true, false, List, [], ◌∷◌, map, refl, ap, ◌+◌}
 use Rattle.std.specs.Prelude.{Vec, if◌then◌else◌}
 use Rattle.std.specs.declared.alloc.Global.{Global}
-use Rattle.std.proofs.lemmas.Slice.Eq.{bytes_eq-Decides}
 use Rattle.seq_tree.specs.Names.{Name, same_name}
 use Rattle.seq_tree.specs.Operations.{Operation, Signature}
 use Rattle.seq_tree.specs.Statements.{Statements}
@@ -11,6 +10,7 @@ use Rattle.seq_tree.specs.declared.tree.Block.{Block}
 use Rattle.seq_tree.specs.declared.tree.Datum.{Datum}
 use Rattle.seq_tree.specs.declared.tree.OpSig.{OpSig}
 use Rattle.seq_tree.specs.declared.tree.OpText.{OpText}
+use Rattle.seq_tree.proofs.Shared.SameNames.{same-self}
 use Rattle.ada_tree.specs.Programs.{Unit, Passive, Shared, Cyclic, Sporadic}
 use Rattle.ada_tree.specs.Trees.{form_of, unit_of}
 use Rattle.ada_tree.specs.declared.program.Form.TheVariants as form
@@ -20,13 +20,10 @@ use Rattle.machine.specs.Systems as to
 use Rattle.linker.specs.Callees.{IsLed, OpBody, Passes, libraries_from, objects_from, target_among, threads_from}
 use Rattle.linker.specs.Leads.{Request, Nowhere}
 
-same_self : (n : Name) → same_name n n ≡ true
-same_self n = (bytes_eq-Decides n n).1 refl
-
 pub library_here : (name : Name) (os : List Operation) (n i m k : ℕ) (us : List Unit) (gs : List ProtectedUnit) (ts : List TaskUnit)
     → Passes name (λ op. plain_by (op_named op os)) (target_among n (libraries_from i (record { name = name; form = Passive os } ∷ us)) m gs k ts)
     (target_among (suc n) (libraries_from (i + 1) us) m gs k ts)
-library_here name os n i m k us gs ts = record { here = λ op. rw (same_self name) refl; others = λ w op e. rw e refl }
+library_here name os n i m k us gs ts = record { here = λ op. rw (same-self name) refl; others = λ w op e. rw e refl }
 
 -- a protected object as it is written
 abbrev pub object_of : ℕ → Name → ℕ → List Datum → List Operation → ProtectedUnit
@@ -36,7 +33,7 @@ pub object_here : (name : Name) (ceiling : ℕ) (vars : List Datum) (os : List O
     → Passes name (λ op. protected_by (m, object_of i name ceiling vars os) (op_named op os))
     (target_among 0 [] m (objects_from i (record { name = name; form = Shared ceiling vars os } ∷ us)) k ts)
     (target_among 0 [] (suc m) (objects_from (i + 1) us) k ts)
-object_here name ceiling vars os m i k us ts = record { here = λ op. rw (same_self name) refl; others = λ w op e. rw e refl }
+object_here name ceiling vars os m i k us ts = record { here = λ op. rw (same-self name) refl; others = λ w op e. rw e refl }
 
 pub cyclic_here : (name : Name) (priority offset period : ℕ) (vars : List Datum) (block : Statements)
     (durations : ℕ → List ℕ) (k i : ℕ) (us : List Unit)
@@ -44,7 +41,7 @@ pub cyclic_here : (name : Name) (priority offset period : ℕ) (vars : List Datu
     (target_among 0 [] 0 [] k (threads_from durations i (record { name = name; form = Cyclic priority offset period vars block } ∷ us)))
     (target_among 0 [] 0 [] (suc k) (threads_from durations (i + 1) us))
 cyclic_here name priority offset period vars block durations k i us =
-    record { here = λ op. rw (same_self name) refl; others = λ w op e. rw e refl }
+    record { here = λ op. rw (same-self name) refl; others = λ w op e. rw e refl }
 
 pub sporadic_here : (name : Name) (priority ceiling : ℕ) (sig : Signature) (separation jitter : ℕ) (external : Bool) (vars : List Datum)
     (block : Statements) (durations : ℕ → List ℕ) (k i : ℕ) (us : List Unit)
@@ -53,7 +50,7 @@ pub sporadic_here : (name : Name) (priority ceiling : ℕ) (sig : Signature) (se
     (record { name = name; form = Sporadic priority ceiling sig separation jitter external vars block } ∷ us)))
     (target_among 0 [] 0 [] (suc k) (threads_from durations (i + 1) us))
 sporadic_here name priority ceiling sig separation jitter external vars block durations k i us =
-    record { here = λ op. rw (same_self name) refl; others = λ w op e. rw e refl }
+    record { here = λ op. rw (same-self name) refl; others = λ w op e. rw e refl }
 
 pub request_led : (b : Bool) (bs : List OpBody) (task : ℕ)
     → IsLed bs (if b then to.Request task else to.Unknown) (if b then Request task else Nowhere)

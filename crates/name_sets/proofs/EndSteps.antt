@@ -4,7 +4,7 @@ use Rattle.std.specs.Prelude.{nat_lt}
 use Rattle.std.specs.declared.cmp.Ordering.TheVariants.{Less, Equal, Greater}
 use Rattle.std.specs.Ordering.{is_eq, nat_cmp}
 use Rattle.std.specs.Cmp.{nat_cmp_is}
-use Rattle.std.proofs.lemmas.Bool.{eqb-true}
+use Rattle.std.proofs.lemmas.Bool.{eqb-true, not-true, not-false}
 use Rattle.std.proofs.lemmas.Slice.Eq.{bytes_eq-Decides}
 use Rattle.seq_tree.specs.Names.{Name, same_name}
 use Rattle.name_sets.specs.Places.{ends, first_or, is_another}
@@ -22,14 +22,6 @@ one-number x y h = go (nat_lt x y) (x == y) refl h
     go true b i h = absurd cc
     go false true i h = eqb-true x y i
     go false false i h = absurd cc
-
-not-true : (b : Bool) → not b ≡ true → b ≡ false
-not-true true h = absurd cc
-not-true false h = refl
-
-not-false : (b : Bool) → not b ≡ false → b ≡ true
-not-false true h = refl
-not-false false h = absurd cc
 
 -- another name at the ends of a name tells nothing of it
 beside : (n : Name) (o : First) (x : Option ℕ) → is_another n o ≡ true → first_or n o x ≡ x

@@ -3,6 +3,7 @@ use Rattle.std.proofs.Common.{◌≡◌, ℕ, ◌+◌, ◌≤◌, Bool, true, fa
 use Rattle.std.proofs.Common.{refl, ap, sym, ◌∙◌, ◌⊎◌, inl, inr}
 use Rattle.std.specs.Prelude.{min, nat_le, nat_lt, filter_map, option_to_list}
 use Rattle.std.proofs.Math.Nat.{min-eq_left, min-eq_right}
+use Rattle.std.proofs.lemmas.Bool.{and_right}
 use Rattle.ods_tree.specs.Designs.{Design}
 use Rattle.ods_tree.specs.Walk.{Standing, is_terminal, only_if}
 use Rattle.design_rules.specs.Broken.{Broken}
@@ -14,10 +15,6 @@ use Rattle.ods_costs.specs.Costed.{over_budgets}
 either : (body : ℕ) → (body ≤ 1000000000) ⊎ (1000000001 ≤ body)
 either body = grind arith
 
-and-false : (a b : Bool) → b ≡ false → (a && b) ≡ false
-and-false true b h = h
-and-false false b h = refl
-
 too-great : (cost : ℕ) → 1000000001 ≤ cost → nat_le cost greatest_cost ≡ false
 too-great cost h = by (nat_le cost greatest_cost) refl
   where
@@ -26,7 +23,7 @@ too-great cost h = by (nat_le cost greatest_cost) refl
     by false e = refl
 
 never-over : (budget cost : ℕ) → 1000000001 ≤ cost → is_over budget cost ≡ false
-never-over budget cost h = and-false (nat_lt budget cost) (nat_le cost greatest_cost) (too-great cost h)
+never-over budget cost h = and_right (nat_lt budget cost) (nat_le cost greatest_cost) (too-great cost h)
 
 -- a cut cost that isn't over its budget
 pub over-none : (told : ℕ → Broken) (budget body finish : ℕ) → is_over budget (min cap body + finish) ≡ false

@@ -1,7 +1,7 @@
 ghost use Rattle.std.specs.Prelude.{◌≡◌, flat_map, map, option_map, option_to_list};
 ghost use Rattle.std.specs.List.{list_all};
 ghost use Rattle.seq_tree.specs.Calls.{block_works};
-ghost use Rattle.ods_tree.specs.Sound.{is_within};
+ghost use Rattle.seq_tree.specs.Limits.{is_within};
 ghost use Rattle.ods_tree.specs.Trees.{body_of, design_of, tree_of};
 ghost use Rattle.ods_tree.specs.Walk.{is_empty};
 ghost use Rattle.ods_tree.specs.declared.design.Kind.TheVariants.{Cyclic, Sporadic};

@@ -3,7 +3,7 @@ ghost use Rattle.std.specs.List.{list_all};
 ghost use Rattle.seq_tree.specs.Calls.{block_works, branch_works, statement_works};
 ghost use Rattle.seq_tree.specs.Statements.{Nothing};
 ghost use Rattle.seq_tree.specs.Trees.{arm_of, block_of, branches_of, otherwise, statement_of};
-ghost use Rattle.ods_tree.specs.Sound.{is_within};
+ghost use Rattle.seq_tree.specs.Limits.{is_within};
 ghost use Rattle.ods_forms.specs.Limits.{most_ticks};
 
 use crate::limits::MOST_TICKS;

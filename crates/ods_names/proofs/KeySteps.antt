@@ -8,6 +8,7 @@ use Rattle.std.specs.declared.cmp.Ordering.TheVariants.{Less, Equal, Greater}
 use Rattle.std.proofs.lemmas.Bool.{eq-eqb}
 use Rattle.std.proofs.lemmas.Map.Text.{is_eq-slice_cmp}
 use Rattle.std.proofs.lemmas.Slice.Eq.{bytes_eq-Decides}
+use Rattle.std.proofs.Math.Bool.{and-false}
 use Rattle.seq_tree.specs.Names.{same_name}
 use Rattle.ods_names.specs.Keys.{end_of}
 
@@ -16,10 +17,6 @@ is_eq-then : (a b : Ordering) → is_eq (ordering_then a b) ≡ (is_eq a && is_e
 is_eq-then Less b = refl
 is_eq-then Equal b = refl
 is_eq-then Greater b = refl
-
-never : (a : Bool) → (a && false) ≡ false
-never true = refl
-never false = refl
 
 either : (a b : Bool) → cond a true b ≡ (a || b)
 either true b = refl
@@ -31,8 +28,8 @@ ends_agree op o name n = go (same_name op o) (same_name name n) refl
   where
     go : (a b : Bool) → same_name name n ≡ b → ((end_of name == end_of n) && (a && b)) ≡ (a && b)
     go true true h = ap (λ e. e && true) (eq-eqb (end_of name) (end_of n) (ap end_of ((bytes_eq-Decides name n).0 h)))
-    go true false h = never (end_of name == end_of n)
-    go false b h = never (end_of name == end_of n)
+    go true false h = and-false (end_of name == end_of n)
+    go false b h = and-false (end_of name == end_of n)
 
 -- a name that was added, or one that was there
 pub added_key : (place number p q : ℕ) (op name o n : List ℕ) (old : Bool) →

@@ -6,6 +6,7 @@ use Rattle.std.proofs.Math.ListN.{get_or, drop_of_length-le}
 use Rattle.std.proofs.lemmas.Bool.{eqb-true, ne_eqb}
 use Rattle.std.proofs.lemmas.Cmp.{nat_eq_equiv}
 use Rattle.std.proofs.lemmas.Option.{slice_get_read}
+use Rattle.std.proofs.Math.Bool.{and-false}
 use Rattle.seq_tree.specs.Names.{Name, same_name, is_named}
 use Rattle.ods_tree.specs.Designs.{Object, Provided}
 use Rattle.ods_tree.specs.Trees.{provided_of}
@@ -350,15 +351,11 @@ or_assoc : (a b c : Bool) → ((a || b) || c) ≡ (a || (b || c))
 or_assoc true b c = refl
 or_assoc false b c = refl
 
-idle : (k : Bool) → (k && false) ≡ false
-idle true = refl
-idle false = refl
-
 pub requests_end : (o : Object) (xs : List code.Provided) (i place p : ℕ) (n : Name) {b all : Bool} → length xs ≤ i →
     (b || (place == p && is_named (map (λ q. q.sig.name) (filter (is_request o) (map provided_of (drop i xs)))) n)) ≡ all → b ≡ all
 requests_end o xs i place p n {b} {all} done before =
     let names : List code.Provided → List Name = λ ys. map (λ q. q.sig.name) (filter (is_request o) (map provided_of ys)) in
-    or_false b ∙ ap (λ z. b || z) (sym (idle (place == p))) ∙ ap (λ ys. b || (place == p && is_named (names ys) n))
+    or_false b ∙ ap (λ z. b || z) (sym (and-false (place == p))) ∙ ap (λ ys. b || (place == p && is_named (names ys) n))
     (sym (drop_of_length-le xs done)) ∙ before
 
 -- what is added of the requests of objects, one by one

@@ -6,6 +6,7 @@ use Rattle.std.specs.Prelude.{◌==◌, if◌then◌else◌}
 use Rattle.std.specs.List.{list_any}
 use Rattle.std.proofs.lemmas.List.Concat.{flat_map-append}
 use Rattle.std.proofs.lemmas.List.Folds.{list_any-append}
+use Rattle.std.proofs.lemmas.Bool.{or_cases, or_left, or_right}
 use Rattle.seq_tree.specs.Calls.{same_op}
 use Rattle.seq_tree.specs.Names.{Name, same_name}
 use Rattle.seq_tree.specs.declared.tree.OpName.{OpName}
@@ -21,7 +22,6 @@ use Rattle.ods_starts.proofs.CallRings.{In, any-in, from-flat, in-flat, some-in}
 use Rattle.ods_starts.proofs.CalledLaws.{body-inner, inner-body}
 use Rattle.ods_starts.proofs.SourceLaws.{any-flat}
 use Rattle.ods_starts.proofs.SpreadLaws.{spread-found, within-calls}
-use Rattle.rings.proofs.Shared.Reaching.{or-cases, or-left, or-right}
 
 here : (f : OpName → List OpName) (depth : ℕ) (n : OpName) → In n (within depth f n)
 here f zero n = inl refl
@@ -125,7 +125,7 @@ module _ (x : Design) (t : Callers) (called : HasCallers x t) (target : Name) wh
 
   found-forth : (depth : ℕ) (m : OpName) → (of_target m || list_any (λ c. same_op c m) (flat_map (within depth back) (body_at t.objects target))) ≡ true
       → list_any of_target (calls_within (suc depth) x m) ≡ true
-  found-forth depth m h = by (or-cases (of_target m) (list_any (λ c. same_op c m) (flat_map (within depth back) (body_at t.objects target))) h)
+  found-forth depth m h = by (or_cases (of_target m) (list_any (λ c. same_op c m) (flat_map (within depth back) (body_at t.objects target))) h)
     where
       further : (k : OpName) → In k (body_at t.objects target) → In m (within depth back k) → list_any of_target (calls_within (suc depth) x m) ≡ true
       further k at led =
@@ -152,11 +152,11 @@ module _ (x : Design) (t : Callers) (called : HasCallers x t) (target : Name) wh
     where
       by : (c : OpName) → of_target c ≡ true → (m ≡ c) ⊎ ((k : OpName) × In k (within depth inner m) × In c (inner k))
           → (of_target m || list_any (λ c. same_op c m) (flat_map (within depth back) (body_at t.objects target))) ≡ true
-      by c e (inl s) = or-left (of_target m) _ (ap of_target s ∙ e)
+      by c e (inl s) = or_left (of_target m) _ (ap of_target s ∙ e)
       by c e (inr (k, a, b)) =
           let P : List OpName → Type 0 = λ l. In k l in
           let at : In k (body_at t.objects target) = subst P (sym (called.objects target)) (makes x of_target k c b e) in
-          or-right (of_target m) _
+          or_right (of_target m) _
           (any-in (λ c. same_op c m) m (flat_map (within depth back) (body_at t.objects target))
           (in-flat (within depth back) k m (body_at t.objects target) at (turned inner back step-back depth m k a)) (same_op-refl m))
 

@@ -3,14 +3,14 @@ use Rattle.std.proofs.Common.{Result, Ok, Err, ◌≡◌, ℕ, zero, suc, ◌+�
 use Rattle.std.proofs.Common.{filter, filter_map, option_map, flat_map, length, slice_get, nat_lt, Option, Some, None, refl, sym, ap}
 use Rattle.std.proofs.Common.{subst, ◌∙◌, arith, inl, inr, ◌⊎◌, if◌then◌else◌}
 use Rattle.std.specs.List.{list_any, cons_option}
-use Rattle.std.proofs.lemmas.Bool.{eqb-true, eq-eqb}
-use Rattle.std.proofs.lemmas.Slice.Eq.{bytes_eq-Decides}
+use Rattle.std.proofs.lemmas.Bool.{eqb-true, eq-eqb, or_cases, or_left, or_right, and_parts, and_from}
 use Rattle.std.proofs.lemmas.Option.{slice_get_within}
 use Rattle.seq_tree.specs.Calls.{same_op, block_calls}
 use Rattle.seq_tree.specs.Names.{Name, same_name}
 use Rattle.seq_tree.specs.Rings.{LeadsTo, IsOnRing}
 use Rattle.seq_tree.specs.declared.tree.OpName.{OpName}
 use Rattle.seq_tree.proofs.Shared.Walks.{same_op-eq, same_op-refl}
+use Rattle.seq_tree.proofs.Shared.SameNames.{same-self, same-is}
 use Rattle.ods_tree.specs.Designs.{Body, Provided, Design}
 use Rattle.ods_tree.specs.Walk.{Standing, objects, terminals, is_terminal, only_if}
 use Rattle.design_rules.specs.Broken.{Broken, V05, V09Calls}
@@ -27,7 +27,6 @@ use Rattle.ods_starts.specs.Graphed.{body_edges, called_edges, edges_from, objec
 use Rattle.ods_index.specs.OpPlaces.{op_place_from, own_ops}
 use Rattle.rings.specs.Graphs.{is_step}
 use Rattle.rings.specs.Reached.{Goes, IsFirstOnRing}
-use Rattle.rings.proofs.Shared.Reaching.{both, and-from, or-cases, or-left, or-right}
 
 -- an item of a list
 abbrev pub In : {A : Type 0} → A → List A → Type 0
@@ -117,12 +116,12 @@ from-taken {A} {B} f b (x ∷ xs) h = by (from-taken f b xs) (f x) refl h
 
 pub any-in : {A : Type 0} (p : A → Bool) (a : A) (xs : List A) → In a xs → p a ≡ true → list_any p xs ≡ true
 any-in p a [] h e = absurd h
-any-in p a (x ∷ xs) (inl s) e = or-left (p x) (list_any p xs) (ap p s ∙ e)
-any-in p a (x ∷ xs) (inr h) e = or-right (p x) (list_any p xs) (any-in p a xs h e)
+any-in p a (x ∷ xs) (inl s) e = or_left (p x) (list_any p xs) (ap p s ∙ e)
+any-in p a (x ∷ xs) (inr h) e = or_right (p x) (list_any p xs) (any-in p a xs h e)
 
 pub some-in : {A : Type 0} (p : A → Bool) (xs : List A) → list_any p xs ≡ true → (a : A) × In a xs × (p a ≡ true)
 some-in p [] h = cc
-some-in {A} p (x ∷ xs) h = by (some-in p xs) (or-cases (p x) (list_any p xs) h)
+some-in {A} p (x ∷ xs) h = by (some-in p xs) (or_cases (p x) (list_any p xs) h)
   where
     by : (list_any p xs ≡ true → (a : A) × In a xs × (p a ≡ true)) → (p x ≡ true) ⊎ (list_any p xs ≡ true) → (a : A) × In a (x ∷ xs) × (p a ≡ true)
     by rest (inl k) = (x, inl refl, k)
@@ -162,12 +161,6 @@ place-in k (op ∷ ops) n h = by (place-in (k + 1) ops n) (same_op op n) refl h
     by rest true s j = (k, refl)
     by rest false s (inl e) = (let z : false ≡ true = sym s ∙ ap (λ m. same_op m n) e ∙ same_op-refl n in cc)
     by rest false s (inr j) = rest j
-
-pub same-self : (n : Name) → same_name n n ≡ true
-same-self n = (bytes_eq-Decides n n).1 refl
-
-pub same-is : (a b : Name) → same_name a b ≡ true → a ≡ b
-same-is a b e = (bytes_eq-Decides a b).0 e
 
 -- a call by the body that it stands in
 pub record Called (x : Design) (a c : OpName) : Type 0 where
@@ -236,15 +229,15 @@ module _ (x : Design) (place : OpName → Option ℕ) (placed : (n : OpName) →
       let P : Option ℕ → Type 0 = λ o. In (p, q) (edges_from place x d.standing.own.needs o (block_calls d.body.block)) in
       let own : In (p, q) (object_edges place x d.standing) =
       in-flat (body_edges place x d.standing.own.name d.standing.own.needs) d.body (p, q) d.standing.own.bodies d.held (subst P (sym name) edge) in
-      and-from _ _ (grind (arith, inside))
+      and_from _ _ (grind (arith, inside))
       (any-in (λ e. e.0 == p && e.1 == q) (p, q) edges-of (in-flat (object_edges place x) d.standing (p, q) (terminals x) d.stands own)
-      (and-from _ _ (eq-eqb p p refl) (eq-eqb q q refl)))
+      (and_from _ _ (eq-eqb p p refl) (eq-eqb q q refl)))
 
   -- an edge is a call between operations with these places
   pub call-from : (p q : ℕ) → step-of p q ≡ true → (a c : OpName) × (place a ≡ Some p) × (place c ≡ Some q) × CallsOp x a c
   call-from p q h =
-      let e = some-in (λ e. e.0 == p && e.1 == q) edges-of (both (nat_lt q (length (terminal_ops x))) _ h).1 in
-      let ends = both (e.0.0 == p) (e.0.1 == q) e.2 in
+      let e = some-in (λ e. e.0 == p && e.1 == q) edges-of (and_parts (nat_lt q (length (terminal_ops x))) _ h).1 in
+      let ends = and_parts (e.0.0 == p) (e.0.1 == q) e.2 in
       let s = from-flat (object_edges place x) e.0 (terminals x) e.1 in
       let b = from-flat (body_edges place x s.0.own.name s.0.own.needs) e.0 s.0.own.bodies s.2 in
       by s.0 s.1 b.0 b.1 e.0 (eqb-true e.0.0 p ends.0) (eqb-true e.0.1 q ends.1) (place (record { object = s.0.own.name; op = b.0.name })) refl b.2
@@ -336,7 +329,7 @@ bodies-fit x passes s h b k = by (is_provided (provided_named b.name s.own.provi
         let any : list_any (λ d. not (is_provided (provided_named d.name s.own.provides))) s.own.bodies
         ≡ true = any-in (λ d. not (is_provided (provided_named d.name s.own.provides))) b s.own.bodies k (ap not e) in
         let f = from-filter is_terminal s (objects x) h in
-        let mis : misfits_terminal s.own ≡ true = or-left _ _ (or-left _ _ (or-left _ _ (or-left _ _ (or-right _ _ any)))) in
+        let mis : misfits_terminal s.own ≡ true = or_left _ _ (or_left _ _ (or_left _ _ (or_left _ _ (or_right _ _ any)))) in
         let test : misfits (is_terminal s) s ≡ true = ap (λ t. misfits t s) f.1 ∙ mis in
         let listed : In (V05 s.own.name) (bad_fittings x) =
         in-taken (λ t. only_if (misfits (is_terminal t) t) (V05 t.own.name)) s (V05 s.own.name) (objects x) f.0

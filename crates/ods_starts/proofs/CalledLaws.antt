@@ -4,12 +4,13 @@ use Rattle.std.proofs.Common.{◌≡◌, inl, inr, ◌⊎◌, Bool, true, false,
 use Rattle.std.proofs.Common.{◌∙◌}
 use Rattle.std.specs.Prelude.{if◌then◌else◌}
 use Rattle.std.specs.List.{list_any}
+use Rattle.std.proofs.lemmas.Bool.{and_parts, and_from}
 use Rattle.seq_tree.specs.Calls.{block_calls, branch_calls, same_op, statement_calls}
 use Rattle.seq_tree.specs.Names.{same_name}
 use Rattle.seq_tree.specs.Statements.{Statement, Statements, Branches, Null, Assign, If, For, ExitWhen, Call, Work, Put, End, Then}
 use Rattle.seq_tree.specs.Statements.{Nothing, Else, When}
 use Rattle.seq_tree.specs.declared.tree.OpName.{OpName}
-use Rattle.seq_tree.proofs.Shared.Walks.{both, same_op-eq}
+use Rattle.seq_tree.proofs.Shared.Walks.{same_op-eq}
 use Rattle.name_sets.specs.declared.places.Places.{Places}
 use Rattle.call_graph.specs.Listed.{block_listed, branch_listed, call_listed, listed_all, listed_more, statement_listed}
 use Rattle.ods_tree.specs.Designs.{Body, Design, Object}
@@ -19,8 +20,8 @@ use Rattle.ods_tree.specs.Walk.{Standing, terminals}
 use Rattle.design_rules.specs.Rings.{inner_calls, meant_calls, operation_calls, protected_objects}
 use Rattle.ods_starts.specs.Requested.{HeldBody, held, held_bodies, held_calls, held_in}
 use Rattle.ods_starts.specs.Singles.{key, keys_in}
-use Rattle.ods_starts.proofs.CallRings.{In, any-in, from-filter, from-flat, from-map, in-filter, in-flat, in-left, in-map, in-parts, in-right, same-self, some-in}
-use Rattle.rings.proofs.Shared.Reaching.{and-from}
+use Rattle.ods_starts.proofs.CallRings.{In, any-in, from-filter, from-flat, from-map, in-filter, in-flat, in-left, in-map, in-parts, in-right, some-in}
+use Rattle.seq_tree.proofs.Shared.SameNames.{same-self}
 
 -- where none of a list passes, no item does
 pub none-in : {A : Type 0} (p : A → Bool) (xs : List A) → list_any p xs ≡ false → (a : A) → In a xs → p a ≡ false
@@ -43,7 +44,7 @@ inner-body x n k at =
       h,
       in-flat (λ (s : Standing). held_in s.own) s.0 h (filter (λ (s : Standing). is_protected s.own.kind) (terminals x)) s.1
           (subst P (sym s.2) (in-map (held f.0.name f.0.needs) b.0 f.0.bodies c.0)),
-      same_op-eq (record { object = f.0.name; op = b.0.name }) n (and-from (same_name f.0.name n.object) (same_name b.0.name n.op) g.1 c.1),
+      same_op-eq (record { object = f.0.name; op = b.0.name }) n (and_from (same_name f.0.name n.object) (same_name b.0.name n.op) g.1 c.1),
       b.2,
     )
 
@@ -104,7 +105,7 @@ more-comes d seen all = by (list_any (λ e. same_op e d) all && not (seen d)) re
   where
     by : (b : Bool) → (list_any (λ e. same_op e d) all && not (seen d)) ≡ b → In d (if b then all else all ++ d ∷ [])
     by true e =
-        let r = some-in (λ f. same_op f d) all (both (list_any (λ f. same_op f d) all) (not (seen d)) e).0 in
+        let r = some-in (λ f. same_op f d) all (and_parts (list_any (λ f. same_op f d) all) (not (seen d)) e).0 in
         let P : OpName → Type 0 = λ z. In z all in subst P (same_op-eq r.0 d r.2) r.1
     by false e = in-right d all (d ∷ []) (inl refl)
 

@@ -7,7 +7,8 @@ use Rattle.ods_tree.specs.declared.design.Node.{Node}
 use Rattle.design_rules.specs.Broken.{Broken}
 use Rattle.ods_index.specs.Nodes.{node_name, node_object}
 use Rattle.ods_index.specs.Tables.{place_from}
-use Rattle.ods_starts.proofs.CallRings.{In, same-is, same-self}
+use Rattle.ods_starts.proofs.CallRings.{In}
+use Rattle.seq_tree.proofs.Shared.SameNames.{same-self, same-is}
 
 -- the place of a name is that of one that is the same
 pub place-of : (k : ℕ) (ns : List Name) (n : Name) (p : ℕ) → place_from k n ns ≡ Some p → (i : ℕ) × (p ≡ k + i) × (slice_get ns i ≡ Some n)

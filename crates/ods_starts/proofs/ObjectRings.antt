@@ -2,7 +2,7 @@
 use Rattle.std.proofs.Common.{◌≡◌, ℕ, ◌≤◌, ◌==◌, Bool, true, ◌&&◌, List, map, filter_map, flat_map, length, slice_get, nat_lt}
 use Rattle.std.proofs.Common.{Option, Some, None, Bor, refl, sym, ap, subst, ◌∙◌, arith}
 use Rattle.std.specs.List.{list_any}
-use Rattle.std.proofs.lemmas.Bool.{eqb-true, eq-eqb}
+use Rattle.std.proofs.lemmas.Bool.{eqb-true, eq-eqb, and_parts, and_from}
 use Rattle.std.proofs.lemmas.List.{length-map}
 use Rattle.std.proofs.lemmas.Option.{slice_get_within}
 use Rattle.seq_tree.specs.Calls.{block_calls}
@@ -18,12 +18,12 @@ use Rattle.ods_starts.specs.Guarded.{edges_at, guard_edges, meant_edges}
 use Rattle.ods_index.specs.Judging.{IsFirstOffender}
 use Rattle.ods_index.specs.Nodes.{node_object}
 use Rattle.ods_index.specs.Tables.{place_from}
-use Rattle.ods_starts.proofs.CallRings.{In, any-in, from-flat, from-map, from-taken, in-flat, in-map, in-taken, same-is, same-self, some-in}
+use Rattle.ods_starts.proofs.CallRings.{In, any-in, from-flat, from-map, from-taken, in-flat, in-map, in-taken, some-in}
+use Rattle.seq_tree.proofs.Shared.SameNames.{same-self, same-is}
 use Rattle.ods_starts.proofs.NamePlaces.{has-place, name-at, names-of, none-later, object-at, place-of}
 use Rattle.rings.proofs.Shared.NamedRings.{ring_of_names, ring_of_places}
 use Rattle.rings.specs.Graphs.{is_step}
 use Rattle.rings.specs.Reached.{Goes, IsFirstOnRing}
-use Rattle.rings.proofs.Shared.Reaching.{and-from, both}
 
 -- a call between protected objects, by the body that it stands in
 pub record Between (x : Design) (a c : Name) : Type 0 where
@@ -43,9 +43,9 @@ between : (x : Design) (a c : Name) → CallsObject x a c → Between x a c
 between x a c h =
     let f = some-in (λ f. same_name f.name a && list_any (λ t. same_name t.name c && calls_object x f t) (protected_objects x))
     (protected_objects x) h in
-    let g = both (same_name f.0.name a) (list_any (λ t. same_name t.name c && calls_object x f.0 t) (protected_objects x)) f.2 in
+    let g = and_parts (same_name f.0.name a) (list_any (λ t. same_name t.name c && calls_object x f.0 t) (protected_objects x)) f.2 in
     let t = some-in (λ t. same_name t.name c && calls_object x f.0 t) (protected_objects x) g.1 in
-    let u = both (same_name t.0.name c) (calls_object x f.0 t.0) t.2 in
+    let u = and_parts (same_name t.0.name c) (calls_object x f.0 t.0) t.2 in
     let k = some-in (λ k. same_name k.object t.0.name) (flat_map (λ b. meant_calls x f.0 b.block) f.0.bodies) u.1 in
     let b = from-flat (λ b. meant_calls x f.0 b.block) k.0 f.0.bodies k.1 in
     record {
@@ -69,9 +69,9 @@ called x f t b k hf ht hb hk same =
     (ap (λ n. same_name k.object n) same ∙ same-self k.object) in
     any-in (λ g. same_name g.name f.name && list_any (λ u. same_name u.name k.object && calls_object x g u) (protected_objects x)) f
     (protected_objects x) hf
-    (and-from _ _ (same-self f.name)
+    (and_from _ _ (same-self f.name)
     (any-in (λ u. same_name u.name k.object && calls_object x f u) t (protected_objects x) ht
-    (and-from _ _ (ap (λ n. same_name n k.object) same ∙ same-self k.object) here)))
+    (and_from _ _ (ap (λ n. same_name n k.object) same ∙ same-self k.object) here)))
 
 module _ (x : Design) (place : Name → Option ℕ) (placed : (n : Name) → place n ≡ place_from 0 n (names-of (protected_objects x))) where
   abbrev pub edges-of : List (ℕ × ℕ)
@@ -101,15 +101,15 @@ module _ (x : Design) (place : Name → Option ℕ) (placed : (n : Name) → pla
       let P : Option ℕ → Type 0 = λ o. In (p, q) (edges_at place x d.from o) in
       let own : In (p, q) (guard_edges place x d.from) =
       subst P (sym at) (in-flat (λ b. meant_edges place x d.from.needs p (block_calls b.block)) d.body (p, q) d.from.bodies d.held edge) in
-      and-from _ _ (grind (arith, inside))
+      and_from _ _ (grind (arith, inside))
       (any-in (λ e. e.0 == p && e.1 == q) (p, q) edges-of (in-flat (guard_edges place x) d.from (p, q) (protected_objects x) d.stands own)
-      (and-from _ _ (eq-eqb p p refl) (eq-eqb q q refl)))
+      (and_from _ _ (eq-eqb p p refl) (eq-eqb q q refl)))
 
   -- an edge is a call between objects with these places
   step-back : (p q : ℕ) → step-of p q ≡ true → (a c : Name) × (place a ≡ Some p) × (place c ≡ Some q) × CallsObject x a c
   step-back p q h =
-      let e = some-in (λ e. e.0 == p && e.1 == q) edges-of (both (nat_lt q (length (protected_objects x))) _ h).1 in
-      let ends = both (e.0.0 == p) (e.0.1 == q) e.2 in
+      let e = some-in (λ e. e.0 == p && e.1 == q) edges-of (and_parts (nat_lt q (length (protected_objects x))) _ h).1 in
+      let ends = and_parts (e.0.0 == p) (e.0.1 == q) e.2 in
       let f = from-flat (guard_edges place x) e.0 (protected_objects x) e.1 in
       by f.0 f.1 e.0 (eqb-true e.0.0 p ends.0) (eqb-true e.0.1 q ends.1) (place f.0.name) refl f.2
     where

@@ -7,11 +7,12 @@ use Rattle.std.specs.List.{list_any}
 use Rattle.std.proofs.lemmas.List.{append-nil, map-append}
 use Rattle.std.proofs.lemmas.List.Folds.{list_any-append}
 use Rattle.std.proofs.lemmas.Slice.Eq.{bytes_eq-Decides}
+use Rattle.std.proofs.lemmas.Bool.{and_parts, or_cases}
 use Rattle.seq_tree.specs.Calls.{same_op}
 use Rattle.seq_tree.specs.Names.{Name, same_name}
 use Rattle.seq_tree.specs.Statements.{Statements}
 use Rattle.seq_tree.specs.declared.tree.OpName.{OpName}
-use Rattle.seq_tree.proofs.Shared.Walks.{both, same_op-eq}
+use Rattle.seq_tree.proofs.Shared.Walks.{same_op-eq}
 use Rattle.name_sets.specs.Places.{place_in}
 use Rattle.name_sets.specs.declared.places.Places.{Places}
 use Rattle.call_graph.specs.Listed.{block_listed}
@@ -31,7 +32,6 @@ use Rattle.ods_starts.proofs.CallRings.{In, from-flat, in-flat, in-map, some-in}
 use Rattle.ods_starts.proofs.CalledLaws.{inner-body, meant-listed, none-in}
 use Rattle.ods_starts.proofs.RequestLaws.{deeper-count, fold-cons}
 use Rattle.ods_starts.proofs.SourceLaws.{any-flat}
-use Rattle.rings.proofs.Shared.Reaching.{or-cases}
 
 or-parts : (a b : Bool) → (a || b) ≡ false → (a ≡ false) × (b ≡ false)
 or-parts true b h = absurd (cc)
@@ -272,14 +272,14 @@ module _ (x : Design) (t : Places) (depth : OpName → Option ℕ) (from : OpNam
         by false f = (omega arith, λ more. absurd (omega (arith, more)))
 
     reach-led : (level : ℕ) (m : OpName) → reaching level m ≡ true → Leads (key t m)
-    reach-led zero m h = by (or-cases (same_name m.object target) false h)
+    reach-led zero m h = by (or_cases (same_name m.object target) false h)
       where
         by : (same_name m.object target ≡ true) ⊎ (false ≡ true) → Leads (key t m)
         by (inl e) = hit m e
         by (inr e) = absurd (cc)
     reach-led (suc level) m h =
         by (reach-led level)
-        (or-cases (same_name m.object target) (list_any (λ c. same_name c.object target) (flat_map (calls_within level x) (inner_calls x m))) h)
+        (or_cases (same_name m.object target) (list_any (λ c. same_name c.object target) (flat_map (calls_within level x) (inner_calls x m))) h)
       where
         caller : ((k : OpName) → reaching level k ≡ true → Leads (key t k)) → (k : OpName) → In k (inner_calls x m) → reaching level k ≡ true
             → Leads (key t m)
@@ -323,12 +323,12 @@ module _ (x : Design) (t : Places) (depth : OpName → Option ℕ) (from : OpNam
         by : (b : Bool) → reaches x o target ≡ b
             → whole ≡ sum_of (reach (length (terminal_ops x))) (thread_meant o) + sum_of (reach (length (terminal_ops x))) (all_meant fs)
             → length rest ≤ sum_of (reach (length (terminal_ops x))) (all_meant fs) → length (cond b (o ∷ rest) rest) ≤ whole
-        by true e both h =
+        by true e and_parts h =
             let one = thread-reach (length (terminal_ops x)) o
             (sym (any-flat (λ c. same_name c.object target) (calls_within (length (terminal_ops x)) x)
             (flat_map (meant_calls x o) (option_to_list o.thread))) ∙ e) in
-            omega (arith, both, h, one)
-        by false e both h = omega (arith, both, h)
+            omega (arith, and_parts, h, one)
+        by false e and_parts h = omega (arith, and_parts, h)
 
     -- so one thread alone does
     pub sources-once : length (filter (λ o. reaches x o target) os) ≤ 1
@@ -344,11 +344,11 @@ pub once-alone : (x : Design) (t : Once) (w : Option Ways) (os : List Object) �
     → ((v : Ways) → w ≡ Some v → list_any (misfits v) (map (held_caller t.targets x) (held_bodies x) ++ threads_caller t.targets x os ∷ []) ≡ false)
     → (n : Name) → is_once t n ≡ true → IsAlone x os n
 once-alone x t None os is fit n h =
-    let parts = both (is_there (place_in t.targets n)) (has_way t.ways n) h in
+    let parts = and_parts (is_there (place_in t.targets n)) (has_way t.ways n) h in
     let z : false ≡ true = ap (λ (v : Option Ways). has_way v n) (sym is) ∙ parts.1 in
     absurd (cc)
 once-alone x t (Some v) os is fit n h =
-    let parts = both (is_there (place_in t.targets n)) (has_way t.ways n) h in
+    let parts = and_parts (is_there (place_in t.targets n)) (has_way t.ways n) h in
     let has : is_some (depth_at v (target_key n)) ≡ true = ap (λ (u : Option Ways). has_way u n) (sym is) ∙ parts.1 in
     by parts.0 (depth_at v (target_key n)) refl has
   where

@@ -5,6 +5,7 @@ use Rattle.std.proofs.Common.{flat_map, length, arith, refl, ap, sym, subst, ◌
 use Rattle.std.specs.Prelude.{option_to_list, if◌then◌else◌}
 use Rattle.std.specs.List.{list_any}
 use Rattle.std.proofs.lemmas.List.Folds.{list_any-append}
+use Rattle.std.proofs.lemmas.Bool.{and_from}
 use Rattle.seq_tree.specs.Names.{Name, same_name}
 use Rattle.seq_tree.specs.Rings.{LeadsTo}
 use Rattle.seq_tree.specs.declared.tree.OpName.{OpName}
@@ -17,10 +18,10 @@ use Rattle.ods_starts.specs.Requested.{HeldBody, held_bodies, held_calls}
 use Rattle.ods_starts.specs.Singles.{held_caller, key, keys_in, named_caller, target_key, thread_keys}
 use Rattle.ods_starts.specs.Spreading.{is_there}
 use Rattle.ods_starts.specs.Starting.{has_target, is_target}
-use Rattle.ods_starts.proofs.CallRings.{In, any-in, from-flat, in-flat, in-map, same-self}
+use Rattle.ods_starts.proofs.CallRings.{In, any-in, from-flat, in-flat, in-map}
+use Rattle.seq_tree.proofs.Shared.SameNames.{same-self}
 use Rattle.ods_starts.proofs.CalledLaws.{inner-body, key-listed, none-in}
 use Rattle.ods_starts.proofs.StartRings.{started}
-use Rattle.rings.proofs.Shared.Reaching.{and-from}
 
 or-parts : (a b : Bool) → (a || b) ≡ false → (a ≡ false) × (b ≡ false)
 or-parts true b h = absurd (cc)
@@ -80,7 +81,7 @@ module _ (x : Design) (t : Places) (rank : OpName → ℕ) (bodies : list_any (s
       let d = started x a c h in
       let r = from-flat (calls_within (length (terminal_ops x)) x) d.call (flat_map (meant_calls x d.from) (option_to_list d.from.thread)) d.called in
       let known : has_target (thread_objects x) c ≡ true =
-      any-in (is_target c) d.to (thread_objects x) d.held (and-from _ _ d.sporadic (ap (λ n. same_name n c) d.target ∙ same-self c)) in
+      any-in (is_target c) d.to (thread_objects x) d.held (and_from _ _ d.sporadic (ap (λ n. same_name n c) d.target ∙ same-self c)) in
       let is : key t d.call ≡ target_key c =
       ap (λ (n : Name). if is_there (place_in t n) then target_key n else d.call) d.object
       ∙ ap (λ b. if b then target_key c else d.call) (aimed c ∙ known) in

@@ -3,7 +3,7 @@ use Rattle.std.proofs.Common.{◌≡◌, ℕ, ◌≤◌, Bool, true, false, ◌&
 use Rattle.std.proofs.Common.{refl, sym, ap, subst, ◌∙◌, arith}
 use Rattle.std.specs.Prelude.{if◌then◌else◌}
 use Rattle.std.specs.List.{list_any}
-use Rattle.std.proofs.lemmas.Bool.{eqb-true, eq-eqb}
+use Rattle.std.proofs.lemmas.Bool.{eqb-true, eq-eqb, and_parts, and_from}
 use Rattle.std.proofs.lemmas.List.{length-map}
 use Rattle.std.proofs.lemmas.Option.{slice_get_within}
 use Rattle.seq_tree.specs.Names.{Name, same_name}
@@ -23,12 +23,12 @@ use Rattle.ods_starts.specs.Spreading.{is_there}
 use Rattle.ods_starts.specs.Starting.{has_edge, has_target, is_at, is_target, starts_at, target_in}
 use Rattle.ods_index.specs.Tables.{place_from}
 use Rattle.ods_starts.specs.declared.start_rings.ThreadPlaces.{ThreadPlaces}
-use Rattle.ods_starts.proofs.CallRings.{In, any-in, same-is, same-self, some-in}
+use Rattle.ods_starts.proofs.CallRings.{In, any-in, some-in}
+use Rattle.seq_tree.proofs.Shared.SameNames.{same-self, same-is}
 use Rattle.ods_starts.proofs.NamePlaces.{has-place, name-at, names-of, names-same, none-later, object-at, place-of}
 use Rattle.rings.proofs.Shared.NamedRings.{ring_of_names, ring_of_places}
 use Rattle.rings.specs.Graphs.{is_step}
 use Rattle.rings.specs.Reached.{Goes, IsFirstOnRing}
-use Rattle.rings.proofs.Shared.Reaching.{and-from, both}
 
 -- a thread that can start another, by the operation that it calls
 pub record Started (x : Design) (a c : Name) : Type 0 where
@@ -49,10 +49,10 @@ same-too a b c h e = same-is a b h ∙ e
 pub started : (x : Design) (a c : Name) → StartsThread x a c → Started x a c
 started x a c h =
     let f = some-in (λ f. same_name f.name a && list_any (λ t. same_name t.name c && can_start x f t) (thread_objects x)) (thread_objects x) h in
-    let g = both (same_name f.0.name a) (list_any (λ t. same_name t.name c && can_start x f.0 t) (thread_objects x)) f.2 in
+    let g = and_parts (same_name f.0.name a) (list_any (λ t. same_name t.name c && can_start x f.0 t) (thread_objects x)) f.2 in
     let t = some-in (λ t. same_name t.name c && can_start x f.0 t) (thread_objects x) g.1 in
-    let u = both (same_name t.0.name c) (can_start x f.0 t.0) t.2 in
-    let v = both (is_sporadic t.0.kind) (list_any (λ k. same_name k.object t.0.name) (thread_calls x f.0)) u.1 in
+    let u = and_parts (same_name t.0.name c) (can_start x f.0 t.0) t.2 in
+    let v = and_parts (is_sporadic t.0.kind) (list_any (λ k. same_name k.object t.0.name) (thread_calls x f.0)) u.1 in
     let k = some-in (λ k. same_name k.object t.0.name) (thread_calls x f.0) v.1 in
     let target : t.0.name ≡ c = same-is t.0.name c u.0 in
     record {
@@ -72,12 +72,12 @@ starts : (x : Design) (f t : Object) (k : OpName) → In f (thread_objects x) �
     → In k (thread_calls x f) → t.name ≡ k.object → StartsThread x f.name k.object
 starts x f t k hf ht sporadic hk same =
     let here : can_start x f t ≡ true =
-    and-from _ _ sporadic (any-in (λ c. same_name c.object t.name) k (thread_calls x f) hk
+    and_from _ _ sporadic (any-in (λ c. same_name c.object t.name) k (thread_calls x f) hk
     (ap (λ n. same_name k.object n) same ∙ same-self k.object)) in
     any-in (λ g. same_name g.name f.name && list_any (λ u. same_name u.name k.object && can_start x g u) (thread_objects x)) f (thread_objects x) hf
-    (and-from _ _ (same-self f.name)
+    (and_from _ _ (same-self f.name)
     (any-in (λ u. same_name u.name k.object && can_start x f u) t (thread_objects x) ht
-    (and-from _ _ (ap (λ n. same_name n k.object) same ∙ same-self k.object) here)))
+    (and_from _ _ (ap (λ n. same_name n k.object) same ∙ same-self k.object) here)))
 
 -- a place that is told is this one
 is-place : (o : Option ℕ) (p : ℕ) → is_at o p ≡ true → o ≡ Some p
@@ -118,26 +118,26 @@ module _ (x : Design) (place target : Name → Option ℕ) (count : ℕ) (es : L
       let inside = slice_get_within (thread_objects x) q o.0 o.3 in
       let at : is_at (place d.from.name) p ≡ true = place-is (place d.from.name) p (ap place d.named ∙ e) in
       let known : has_target (thread_objects x) c ≡ true =
-      any-in (is_target c) d.to (thread_objects x) d.held (and-from _ _ d.sporadic (ap (λ n. same_name n c) d.target ∙ same-self c)) in
+      any-in (is_target c) d.to (thread_objects x) d.held (and_from _ _ d.sporadic (ap (λ n. same_name n c) d.target ∙ same-self c)) in
       let there : target c ≡ Some q = graph.aimed c ∙ ap (λ b. if b then place c else None) known ∙ f in
       let calls : list_any (λ k. is_at (target k.object) q) (thread_calls x d.from) ≡ true =
       any-in (λ k. is_at (target k.object) q) d.call (thread_calls x d.from) d.called
       (place-is (target d.call.object) q (ap target d.object ∙ there)) in
       let enough = graph.counted in
-      and-from _ _ (grind (arith, inside, enough))
-      (graph.made p q ∙ any-in (starts_at place target x p q) d.from (thread_objects x) d.stands (and-from _ _ at calls))
+      and_from _ _ (grind (arith, inside, enough))
+      (graph.made p q ∙ any-in (starts_at place target x p q) d.from (thread_objects x) d.stands (and_from _ _ at calls))
 
   -- an edge is a start between threads with these places
   step-back : (p q : ℕ) → step-of p q ≡ true → (a c : Name) × (place a ≡ Some p) × (place c ≡ Some q) × StartsThread x a c
   step-back p q h =
-      let e = both (nat_lt q count) (has_edge es p q) h in
+      let e = and_parts (nat_lt q count) (has_edge es p q) h in
       let f = some-in (starts_at place target x p q) (thread_objects x) (sym (graph.made p q) ∙ e.1) in
-      let g = both (is_at (place f.0.name) p) (list_any (λ k. is_at (target k.object) q) (thread_calls x f.0)) f.2 in
+      let g = and_parts (is_at (place f.0.name) p) (list_any (λ k. is_at (target k.object) q) (thread_calls x f.0)) f.2 in
       let k = some-in (λ k. is_at (target k.object) q) (thread_calls x f.0) g.1 in
       let r = target-parts (has_target (thread_objects x) k.0.object) (place k.0.object) q
       (sym (graph.aimed k.0.object) ∙ is-place (target k.0.object) q k.2) in
       let t = some-in (is_target k.0.object) (thread_objects x) r.0 in
-      let u = both (is_sporadic t.0.kind) (same_name t.0.name k.0.object) t.2 in
+      let u = and_parts (is_sporadic t.0.kind) (same_name t.0.name k.0.object) t.2 in
       (f.0.name, k.0.object, is-place (place f.0.name) p g.0, r.1, starts x f.0 t.0 k.0 f.1 t.1 u.0 k.1 (same-is t.0.name k.0.object u.1))
 
   -- every thread that starts another has a place

@@ -2,13 +2,12 @@
 use Rattle.std.proofs.Common.{◌≡◌, ℕ, ◌+◌, ◌<◌, ◌≤◌, Option, ◌==◌, Bool, true, false, not, ◌&&◌, ◌||◌, List, [], ◌∷◌, get_or, length, nat_le}
 use Rattle.std.proofs.Common.{nat_lt, refl, sym, ap, subst, ◌∙◌, arith, inl, inr}
 use Rattle.std.specs.List.{list_any}
-use Rattle.std.proofs.lemmas.Bool.{eqb-true, eq-eqb}
+use Rattle.std.proofs.lemmas.Bool.{eqb-true, eq-eqb, and_parts, and_from}
 use Rattle.seq_tree.specs.Rings.{LeadsTo, IsOnRing}
 use Rattle.rings.specs.Graphs.{has_number, is_step}
 use Rattle.rings.specs.Ranks.{falls, is_before, stays}
 use Rattle.rings.specs.Reached.{leads, Goes, IsReached, TellsRing}
 use Rattle.rings.specs.declared.graph.Graph.{Graph}
-use Rattle.rings.proofs.Shared.Reaching.{both, and-from}
 
 -- paths of edges that are the same
 pub same-paths : (f g : ℕ → ℕ → Bool) → ((a b : ℕ) → f a b ≡ g a b) → (a : ℕ) (path : List ℕ) (b : ℕ) → LeadsTo (Goes f) a path b
@@ -27,12 +26,12 @@ tells-ring g node targets at true sound complete = by (sound refl)
   where
     by : IsReached g targets node → IsOnRing (Goes (leads g)) node
     by (s, is, inl here) =
-        let P : ℕ → Type 0 = λ z. leads g node z ≡ true in ([], subst P here (sym (at s) ∙ (both (has_number targets s) (nat_lt s g.count) is).0))
-    by (s, is, inr (path, l)) = (s ∷ path, (sym (at s) ∙ (both (has_number targets s) (nat_lt s g.count) is).0, l))
+        let P : ℕ → Type 0 = λ z. leads g node z ≡ true in ([], subst P here (sym (at s) ∙ (and_parts (has_number targets s) (nat_lt s g.count) is).0))
+    by (s, is, inr (path, l)) = (s ∷ path, (sym (at s) ∙ (and_parts (has_number targets s) (nat_lt s g.count) is).0, l))
 tells-ring g node targets at false sound complete = λ ring. let z : false ≡ true = complete (go ring) in cc
   where
     start : (s : ℕ) → leads g node s ≡ true → has_number targets s && nat_lt s g.count ≡ true
-    start s l = and-from _ _ (at s ∙ l) (let k : s < g.count = g.inside node s l in grind (arith, k))
+    start s l = and_from _ _ (at s ∙ l) (let k : s < g.count = g.inside node s l in grind (arith, k))
 
     go : IsOnRing (Goes (leads g)) node → IsReached g targets node
     go ([], l) = (node, start node l, inl refl)
@@ -54,12 +53,12 @@ step-untaken : (test : ℕ → ℕ → Bool) (count : ℕ) (es : List (ℕ × �
     → is_step count es a b ≡ true → test a b ≡ false
 step-untaken test count es none a b h =
     let r = none-taken (λ e. test e.0 e.1) (λ e. e.0 == a && e.1 == b) es none
-    (both (nat_lt b count) (list_any (λ e. e.0 == a && e.1 == b) es) h).1 in
-    let ends = both (r.0.0 == a) (r.0.1 == b) r.1 in
+    (and_parts (nat_lt b count) (list_any (λ e. e.0 == a && e.1 == b) es) h).1 in
+    let ends = and_parts (r.0.0 == a) (r.0.1 == b) r.1 in
     ap (λ z. test z b) (sym (eqb-true r.0.0 a ends.0)) ∙ ap (λ z. test r.0.0 z) (sym (eqb-true r.0.1 b ends.1)) ∙ r.2
 
 step-inside : (count : ℕ) (es : List (ℕ × ℕ)) (a b : ℕ) → is_step count es a b ≡ true → nat_lt b count ≡ true
-step-inside count es a b h = (both (nat_lt b count) (list_any (λ e. e.0 == a && e.1 == b) es) h).0
+step-inside count es a b h = (and_parts (nat_lt b count) (list_any (λ e. e.0 == a && e.1 == b) es) h).0
 
 -- where no edge leads to a lower rank, no path does, and an edge of a ring stays at a rank
 module _ (count : ℕ) (ranks : List ℕ) (es : List (ℕ × ℕ)) (none : list_any (falls count ranks) es ≡ false) where
@@ -88,9 +87,9 @@ module _ (count : ℕ) (ranks : List ℕ) (es : List (ℕ × ℕ)) (none : list_
           let r = ring-level n ring in
           let no : ((nat_lt r.0 count && get_or ranks n 0 == get_or ranks r.0 0) && nat_le n n) ≡ false =
           step-untaken (λ p q. (nat_lt q count && get_or ranks p 0 == get_or ranks q 0) && nat_le p n) count es e n r.0 r.1 in
-          let level = and-from (nat_lt r.0 count) (get_or ranks n 0 == get_or ranks r.0 0) (step-inside count es n r.0 r.1)
+          let level = and_from (nat_lt r.0 count) (get_or ranks n 0 == get_or ranks r.0 0) (step-inside count es n r.0 r.1)
           (eq-eqb (get_or ranks n 0) (get_or ranks r.0 0) r.2) in
-          let yes = and-from (nat_lt r.0 count && get_or ranks n 0 == get_or ranks r.0 0) (nat_le n n) level (grind arith) in
+          let yes = and_from (nat_lt r.0 count && get_or ranks n 0 == get_or ranks r.0 0) (nat_le n n) level (grind arith) in
           let z : true ≡ false = sym yes ∙ no in cc
 
   -- no node before the first that such an edge leaves is on a ring
@@ -103,7 +102,7 @@ pub ring-inside : (count : ℕ) (es : List (ℕ × ℕ)) (n : ℕ) → IsOnRing 
 ring-inside count es n (path, h) = last path n h
   where
     inside : (a b : ℕ) → is_step count es a b ≡ true → b < count
-    inside a b s = let k = (both (nat_lt b count) (list_any (λ e. e.0 == a && e.1 == b) es) s).0 in grind (arith, k)
+    inside a b s = let k = (and_parts (nat_lt b count) (list_any (λ e. e.0 == a && e.1 == b) es) s).0 in grind (arith, k)
 
     last : (p : List ℕ) (a : ℕ) → LeadsTo (Goes (is_step count es)) a p n → n < count
     last [] a l = inside a n l

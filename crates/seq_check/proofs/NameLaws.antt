@@ -2,13 +2,10 @@
 use Rattle.std.proofs.Common.{◌≡◌, Bool, true, false, ◌&&◌, ◌||◌, List, [], ◌∷◌, ◌++◌, filter, map, refl, sym, ap, ◌∙◌, if◌then◌else◌}
 use Rattle.std.specs.List.{list_any}
 use Rattle.std.proofs.lemmas.List.Folds.{list_any-append}
+use Rattle.std.proofs.Math.Bool.{or-false}
 use Rattle.seq_tree.specs.Names.{Name, is_named, same_name}
 use Rattle.seq_tree.specs.Operations.{is_out, out_names}
 use Rattle.seq_tree.specs.declared.tree.Param.{Param}
-
-or-false : (a : Bool) → (a || false) ≡ a
-or-false true = refl
-or-false false = refl
 
 or-turn : (a b : Bool) → (a || b) ≡ (b || a)
 or-turn true true = refl

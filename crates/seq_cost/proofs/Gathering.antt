@@ -4,6 +4,7 @@ use Rattle.std.specs.Prelude.{filter, map, if◌then◌else◌}
 use Rattle.std.specs.List.{list_any}
 use Rattle.std.proofs.lemmas.List.Folds.{list_any-append}
 use Rattle.std.proofs.lemmas.Slice.Eq.{bytes_eq-Decides}
+use Rattle.std.proofs.lemmas.Bool.{and_parts}
 use Rattle.seq_tree.specs.Names.{same_name}
 use Rattle.seq_tree.specs.Expressions.{Expression}
 use Rattle.seq_tree.specs.Statements.{Statements, Branches, Nothing}
@@ -33,10 +34,6 @@ branch-append [] others = refl
 branch-append (arm ∷ arms) others = ap (λ l. block_calls arm.1 ++ l) (branch-append arms others) ∙ joined (block_calls arm.1)
     (branch_calls (branches_of arms Nothing)) (branch_calls others)
 
-and-both : (a b : Bool) → (a && b) ≡ true → (a ≡ true) × (b ≡ true)
-and-both true b h = (refl, h)
-and-both false b h = absurd (cc)
-
 -- whether a call is not among those that were found
 abbrev is_new : List OpName → OpName → Bool
 is_new found call = not (list_any (λ f. same_op f call) found)
@@ -58,7 +55,7 @@ filter-same p q (x ∷ xs) same = rw (same x, filter-same p q xs same) refl
 -- what is among the calls found, the same call is too
 any-same : (found : List OpName) (c d : OpName) → same_op c d ≡ true → list_any (λ f. same_op f d) found ≡ list_any (λ f. same_op f c) found
 any-same found c d e =
-    let parts = and-both (same_name c.object d.object) (same_name c.op d.op) e in
+    let parts = and_parts (same_name c.object d.object) (same_name c.op d.op) e in
     ap (λ o. list_any (λ f. same_name f.object o && same_name f.op d.op) found) (sym ((bytes_eq-Decides c.object d.object).0 parts.0))
     ∙ ap (λ o. list_any (λ f. same_name f.object c.object && same_name f.op o) found) (sym ((bytes_eq-Decides c.op d.op).0 parts.1))
 

@@ -2,5 +2,6 @@
 pub mod Longest
 pub mod LoopSteps
 pub mod Rounds
+pub mod SameNames
 pub mod TreeForms
 pub mod Walks

@@ -10,6 +10,7 @@
 //! - `LoopSteps`: a loop over a list: the item at its index and those behind it, and what is added for each item.
 //! - `Rounds`: what stands on a ring has both what each step begins with and what each step ends with, so that there is no ring where
 //!   nothing has both.
+//! - `SameNames`: the test that two names are the same tells whether they are.
 //! - `TreeForms`: the trees of what the code puts together, by their parts: of a block, of an arm, and of the statements with parts.
 //! - `Walks`: walks over a graph of operations: what is within a depth, and that the number of nodes is depth enough.
 #![tactic(auto)]

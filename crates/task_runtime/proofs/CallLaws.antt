@@ -4,12 +4,13 @@ use Rattle.std.proofs.Common.{arith, Some, None, Option}
 use Rattle.std.specs.Prelude.{if◌then◌else◌}
 use Rattle.std.proofs.lemmas.List.Folds.{list_any-append}
 use Rattle.std.proofs.lemmas.Option.{same_Some}
-use Rattle.std.proofs.lemmas.Slice.Eq.{bytes_eq-Decides}
+use Rattle.std.proofs.lemmas.Bool.{and_parts, or_left, or_right}
 use Rattle.seq_tree.specs.Names.{Name, same_name}
 use Rattle.seq_tree.specs.Lists.{first_from, first_where}
 use Rattle.seq_tree.specs.Operations.{Operation}
 use Rattle.seq_tree.specs.Calls.{same_op}
 use Rattle.seq_tree.specs.declared.tree.OpName.{OpName}
+use Rattle.seq_tree.proofs.Shared.SameNames.{same-self, same-is}
 use Rattle.machine.specs.Systems.{System, PassiveUnit, ProtectedUnit, TaskUnit, ReleasePattern, Periodic, Requested, CallTarget, Request}
 use Rattle.machine.specs.Systems.{Unknown, object_or, op_named, plain_by, protected_by, request_by, request_if}
 use Rattle.task_runtime.specs.Callable.{IsClear, Leads, call_room, calls_by, calls_room, data_by, is_in, is_known, op_by, op_in, op_name}
@@ -18,39 +19,14 @@ use Rattle.task_runtime.specs.Callable.{ops_room, target_in, units_room}
 pub no_true : true ≡ false → ⊥
 no_true h = cc
 
-pub or_false : (a b : Bool) → (a || b) ≡ false → (a ≡ false) × (b ≡ false)
-or_false false false e = (refl, refl)
-or_false false true e = absurd (no_true e)
-or_false true b e = absurd (no_true e)
-
-pub and_true : (a b : Bool) → (a && b) ≡ true → (a ≡ true) × (b ≡ true)
-and_true true true e = (refl, refl)
-and_true true false e = absurd (no_true (sym e))
-and_true false b e = absurd (no_true (sym e))
-
-or_left : (a b : Bool) → a ≡ true → (a || b) ≡ true
-or_left true b e = refl
-or_left false b e = absurd (no_true (sym e))
-
-or_right : (a b : Bool) → b ≡ true → (a || b) ≡ true
-or_right true b e = refl
-or_right false b e = e
-
--- a name is its own, and equal names are one
-pub same-self : (n : Name) → same_name n n ≡ true
-same-self n = (bytes_eq-Decides n n).1 refl
-
-pub same-one : (a b : Name) → same_name a b ≡ true → a ≡ b
-same-one a b e = (bytes_eq-Decides a b).0 e
-
 pub op-self : (c : OpName) → same_op c c ≡ true
 op-self c = rw (same-self c.object) (same-self c.op)
 
 pub op-one : (c d : OpName) → same_op c d ≡ true → c ≡ d
 op-one c d e =
-    let both = and_true (same_name c.object d.object) (same_name c.op d.op) e in
-    let object : c.object ≡ d.object = same-one c.object d.object both.0 in
-    let op : c.op ≡ d.op = same-one c.op d.op both.1 in
+    let both = and_parts (same_name c.object d.object) (same_name c.op d.op) e in
+    let object : c.object ≡ d.object = same-is c.object d.object both.0 in
+    let op : c.op ≡ d.op = same-is c.op d.op both.1 in
     ap (λ x. op_name x c.op) object ∙ ap (op_name d.object) op
 
 -- operations of a name
@@ -107,7 +83,7 @@ ops_taken chain c more n (q ∷ os) x out found = by_test (of_name c.op q) refl 
   by_test true e rest k =
       let k' : Some (n, q) ≡ Some x = rw e at k in
       let is : q ≡ x.1 = ap (λ (y : ℕ × Operation). y.1) (same_Some (n, q) x k') in
-      let name : op_name c.object q.sig.name ≡ c = ap (op_name c.object) (same-one q.sig.name c.op e) in
+      let name : op_name c.object q.sig.name ≡ c = ap (op_name c.object) (same-is q.sig.name c.op e) in
       let here : is_in (c ∷ chain) (op_name c.object q.sig.name) ≡ true
       = ap (is_in (c ∷ chain)) name ∙ or_left (same_op c c) (is_in chain c) (op-self c) in
       let before : is_in chain (op_name c.object q.sig.name) ≡ false = ap (is_in chain) name ∙ out in
@@ -138,7 +114,7 @@ module _ {A : Type 0} (name : A → Name) (more : A → ℕ) (ops : A → List O
     by_test true e rest k =
         let k' : Some (n, v) ≡ Some u = rw e at k in
         let is : v ≡ u.1 = ap (λ (y : ℕ × A). y.1) (same_Some (n, v) u k') in
-        let named : name v ≡ c.object = same-one (name v) c.object e in
+        let named : name v ≡ c.object = same-is (name v) c.object e in
         let here : op_named c.op (ops v) ≡ Some x = ap (λ w. op_named c.op (ops w)) is ∙ op in
         let one = subst (λ z. ops_room (c ∷ chain) z (more v) (ops v) + call_room (more v) x.1 ≤ ops_room chain z (more v) (ops v)) (sym named)
         (ops_taken chain c (more v) 0 (ops v) x out here) in

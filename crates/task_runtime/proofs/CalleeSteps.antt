@@ -22,7 +22,8 @@ use Rattle.task_runtime.specs.declared.callable.Object.{Object}
 use Rattle.task_runtime.specs.declared.callees.Callees.{Callees}
 use Rattle.task_runtime.specs.declared.callees.Owner.{Owner}
 use Rattle.task_runtime.specs.declared.callees.Owner.TheVariants.{Passive, Shared}
-use Rattle.task_runtime.proofs.CallLaws.{no_true, same-one}
+use Rattle.task_runtime.proofs.CallLaws.{no_true}
+use Rattle.seq_tree.proofs.Shared.SameNames.{same-is}
 use Rattle.task_runtime.proofs.Finding.{library_named, named, object_named, task_named}
 use Rattle.task_runtime.proofs.Targets.{no-target}
 
@@ -90,7 +91,7 @@ pub library-fits : (y : System) (unit : Name) (ops : List Operation) (r : Option
     ≡ option_map (λ (l : ℕ × PassiveUnit). l.1.ops) (first_where (library_named unit) y.libraries)
     → same_name unit c.object ≡ true → IsOpOf Passive r (op_named c.op ops) → IsCallee r (target_in y c)
 library-fits y unit ops r c is e fits =
-    subst (λ n. IsCallee r (target_in y (record { object = n; op = c.op }))) (same-one unit c.object e)
+    subst (λ n. IsCallee r (target_in y (record { object = n; op = c.op }))) (same-is unit c.object e)
     (by_unit (first_where (library_named unit) y.libraries) is) where
       others : CallTarget
       others = object_or c.op (first_where (object_named unit) y.objects) (request_by c.op (first_where (task_named unit) y.threads))
@@ -107,7 +108,7 @@ pub object-fits : (y : System) (unit : Name) (o : Object) (r : Option Callee) (c
     → Some (found_object o) ≡ option_map object_parts (first_where (object_named unit) y.objects) → same_name unit c.object ≡ true
     → IsOpOf (Shared o.place o.«data») r (op_named c.op (map operation_of o.ops.now)) → IsCallee r (target_in y c)
 object-fits y unit o r c none is e fits =
-    subst (λ n. IsCallee r (target_in y (record { object = n; op = c.op }))) (same-one unit c.object e)
+    subst (λ n. IsCallee r (target_in y (record { object = n; op = c.op }))) (same-is unit c.object e)
     (by_units (first_where (library_named unit) y.libraries) (first_where (object_named unit) y.objects) none is)
   where
     others : CallTarget
@@ -135,7 +136,7 @@ rest_target : (y : System) (unit : Name) (c : OpName) → None
     → request_by c.op (first_where (task_named unit) y.threads) ≡ target_in y c
 rest_target y unit c none none' e =
     by_units (first_where (library_named unit) y.libraries) (first_where (object_named unit) y.objects) none none'
-    ∙ ap (λ n. target_in y (record { object = n; op = c.op })) (same-one unit c.object e)
+    ∙ ap (λ n. target_in y (record { object = n; op = c.op })) (same-is unit c.object e)
   where
     others : CallTarget
     others = request_by c.op (first_where (task_named unit) y.threads)
@@ -194,7 +195,7 @@ added-later t us rest u but again =
 
       by_name : (c : OpName) (b : Bool) → same_name u.name c.object ≡ b → is_named (map (λ v. v.name) rest) c.object ≡ false
           → (same_name u.name c.object || is_named (map (λ v. v.name) rest) c.object) ≡ false
-      by_name c true k e = absurd (no_true (sym again ∙ ap (is_named (map (λ v. v.name) rest)) (same-one u.name c.object k) ∙ e))
+      by_name c true k e = absurd (no_true (sym again ∙ ap (is_named (map (λ v. v.name) rest)) (same-is u.name c.object k) ∙ e))
       by_name c false k e = rw (k, e) refl
 
 -- a unit whose name doesn't come again
@@ -208,7 +209,7 @@ added-now t t' us rest u but last added others =
           (same_name u.name c.object) refl e;
     } where
       none_still : (c : OpName) (b : Bool) → same_name u.name c.object ≡ b → is_named (map (λ v. v.name) rest) c.object ≡ true → found_in t' c ≡ None
-      none_still c true k e = absurd (no_true (sym e ∙ ap (is_named (map (λ v. v.name) rest)) (sym (same-one u.name c.object k)) ∙ last))
+      none_still c true k e = absurd (no_true (sym e ∙ ap (is_named (map (λ v. v.name) rest)) (sym (same-is u.name c.object k)) ∙ last))
       none_still c false k e = others c k ∙ but.none c (rw (k, e) refl)
 
       found_now : (work : List WorkList) (c : OpName) (b : Bool) → same_name u.name c.object ≡ b → is_named (map (λ v. v.name) rest) c.object

@@ -3,6 +3,7 @@ use Rattle.std.proofs.Common.{◌≡◌, ℕ, Bool, true, false, not, ◌&&◌, 
 use Rattle.std.proofs.lemmas.List.Folds.{list_any-append}
 use Rattle.std.specs.Prelude.{if◌then◌else◌}
 use Rattle.std.proofs.lemmas.Slice.Eq.{bytes_eq-Decides}
+use Rattle.std.proofs.lemmas.Bool.{or_parts, and_parts}
 use Rattle.seq_tree.specs.Names.{Name, same_name, is_named, are_distinct}
 use Rattle.seq_tree.specs.Variables.{Variables, read, kept}
 use Rattle.seq_tree.specs.declared.tree.Datum.{Datum}
@@ -10,16 +11,6 @@ use Rattle.task_runtime.specs.Fitting.{names_of}
 
 no_true : true ≡ false → ⊥
 no_true h = cc
-
-or_false : (a b : Bool) → (a || b) ≡ false → (a ≡ false) × (b ≡ false)
-or_false false false e = (refl, refl)
-or_false false true e = absurd (no_true e)
-or_false true b e = absurd (no_true e)
-
-and_true : (a b : Bool) → (a && b) ≡ true → (a ≡ true) × (b ≡ true)
-and_true true true e = (refl, refl)
-and_true true false e = absurd (no_true (sym e))
-and_true false b e = absurd (no_true (sym e))
 
 not_true : (b : Bool) → not b ≡ true → b ≡ false
 not_true true e = absurd (no_true (sym e))
@@ -30,7 +21,7 @@ kept-past : (ds : List Datum) (name : Name) (value : ℕ) (vs : Variables) → i
     → kept ds ((name, value) ∷ vs) ≡ kept ds vs
 kept-past [] name value vs other = refl
 kept-past (d ∷ ds) name value vs other =
-    let both = or_false (same_name d.name name) (is_named (map (λ d. d.name) ds) name) other in
+    let both = or_parts (same_name d.name name) (is_named (map (λ d. d.name) ds) name) other in
     ap (λ b. (d.name, if b then value else read d.name vs) ∷ kept ds ((name, value) ∷ vs)) both.0 ∙ ap (λ ws. (d.name, read d.name vs) ∷ ws)
     (kept-past ds name value vs both.1)
 
@@ -40,7 +31,7 @@ kept-same [] [] e distinct = refl
 kept-same [] (v ∷ vs) e distinct = absurd (no_true (cc))
 kept-same (d ∷ ds) [] e distinct = absurd (no_true (cc))
 kept-same (d ∷ ds) (v ∷ vs) e distinct =
-    let both = and_true (not (is_named (map (λ d. d.name) ds) d.name)) (are_distinct (map (λ d. d.name) ds)) distinct in
+    let both = and_parts (not (is_named (map (λ d. d.name) ds) d.name)) (are_distinct (map (λ d. d.name) ds)) distinct in
     let name : v.0 ≡ d.name = (cc) in
     let rest : names_of vs ≡ map (λ d. d.name) ds = (cc) in
     let other : is_named (map (λ d. d.name) ds) v.0 ≡ false = rw name (not_true _ both.0) in
@@ -55,11 +46,11 @@ names-kept (d ∷ ds) vs = ap (λ ns. d.name ∷ ns) (names-kept ds vs)
 -- distinct names are distinct without one of them, which is none of those before it
 distinct-without : (xs : List Name) (n : Name) (ns : List Name) → are_distinct (xs ++ n ∷ ns) ≡ true
     → (is_named xs n ≡ false) × (are_distinct (xs ++ ns) ≡ true)
-distinct-without [] n ns h = (refl, (and_true (not (is_named ns n)) (are_distinct ns) h).1)
+distinct-without [] n ns h = (refl, (and_parts (not (is_named ns n)) (are_distinct ns) h).1)
 distinct-without (x ∷ xs) n ns h =
-    let both = and_true (not (is_named (xs ++ n ∷ ns) x)) (are_distinct (xs ++ n ∷ ns)) h in
-    let others = or_false (is_named xs x) (is_named (n ∷ ns) x) (sym (list_any-append (λ m. same_name m x) xs (n ∷ ns)) ∙ not_true _ both.0) in
-    let apart = or_false (same_name n x) (is_named ns x) others.1 in
+    let both = and_parts (not (is_named (xs ++ n ∷ ns) x)) (are_distinct (xs ++ n ∷ ns)) h in
+    let others = or_parts (is_named xs x) (is_named (n ∷ ns) x) (sym (list_any-append (λ m. same_name m x) xs (n ∷ ns)) ∙ not_true _ both.0) in
+    let apart = or_parts (same_name n x) (is_named ns x) others.1 in
     let more = distinct-without xs n ns both.1 in
     let turned : same_name x n ≡ false = turn (same_name x n) refl apart.0 in (
       ap (λ b. b || is_named xs n) turned ∙ more.0,

@@ -7,6 +7,7 @@ use Rattle.std.specs.List.{list_any}
 use Rattle.std.proofs.lemmas.List.Folds.{list_any-append}
 use Rattle.std.proofs.lemmas.Map.Keys.{any_passes_from_place}
 use Rattle.std.proofs.lemmas.Option.{same_Some}
+use Rattle.std.proofs.lemmas.Bool.{or_parts}
 use Rattle.seq_tree.specs.Names.{Name, same_name}
 use Rattle.seq_tree.specs.Operations.{Operation, Offer}
 use Rattle.seq_tree.specs.Calls.{block_calls, same_op}
@@ -22,7 +23,8 @@ use Rattle.arrivals_tree.specs.declared.arrivals.WorkList.{WorkList}
 use Rattle.machine.specs.Systems.{System, CallTarget, Plain, Protected, Request, Unknown}
 use Rattle.task_runtime.specs.Callable.{Leads, calls_by, is_in, is_known, op_by, op_in, op_name, target_in}
 use Rattle.task_runtime.specs.Libraries.{system_from}
-use Rattle.task_runtime.proofs.CallLaws.{in-append, in-behind, no_true, of_name, op-one, or_false, same-one, same-self}
+use Rattle.task_runtime.proofs.CallLaws.{in-append, in-behind, no_true, of_name, op-one}
+use Rattle.seq_tree.proofs.Shared.SameNames.{same-self, same-is}
 use Rattle.task_runtime.proofs.Targets.{AreApart, apart, at-unit, bodies-of, body-of, head-known, is_plain, is_protected, offered-unit, ops_of}
 use Rattle.task_runtime.proofs.Targets.{passive-unit, plain-form, plain-known, shared-form, some-unit, unit_target}
 
@@ -130,18 +132,18 @@ no_both Unknown a b = no_true (sym a)
 offered_call : (os : List Offer) (cs : List OpName) (c : OpName) → list_any (λ d. not (is_there os d)) cs ≡ false → is_in cs c ≡ true
     → is_there os c ≡ true
 offered_call os [] c h k = absurd (no_true (sym k))
-offered_call os (d ∷ cs) c h k = by_test (same_op c d) refl (offered_call os cs c (or_false (not (is_there os d)) _ h).1) k where
+offered_call os (d ∷ cs) c h k = by_test (same_op c d) refl (offered_call os cs c (or_parts (not (is_there os d)) _ h).1) k where
   by_test : (b : Bool) → same_op c d ≡ b → (is_in cs c ≡ true → is_there os c ≡ true) → (same_op c d || is_in cs c) ≡ true → is_there os c ≡ true
-  by_test true e rest t = ap (is_there os) (op-one c d e) ∙ not_false (is_there os d) (or_false (not (is_there os d)) _ h).0
+  by_test true e rest t = ap (is_there os) (op-one c d e) ∙ not_false (is_there os d) (or_parts (not (is_there os d)) _ h).0
   by_test false e rest t = let t' : is_in cs c ≡ true = rw e at t in rest t'
 
 some_passive : (p : Program) (cs : List OpName) (c : OpName) → list_any (λ d. is_empty (passive_named p d)) cs ≡ false → is_in cs c ≡ true
     → is_empty (passive_named p c) ≡ false
 some_passive p [] c none h = absurd (no_true (sym h))
-some_passive p (d ∷ cs) c none h = by_test (same_op c d) refl (some_passive p cs c (or_false (is_empty (passive_named p d)) _ none).1) h where
+some_passive p (d ∷ cs) c none h = by_test (same_op c d) refl (some_passive p cs c (or_parts (is_empty (passive_named p d)) _ none).1) h where
   by_test : (b : Bool) → same_op c d ≡ b → (is_in cs c ≡ true → is_empty (passive_named p c) ≡ false) → (same_op c d || is_in cs c) ≡ true
       → is_empty (passive_named p c) ≡ false
-  by_test true e rest k = ap (λ x. is_empty (passive_named p x)) (op-one c d e) ∙ (or_false (is_empty (passive_named p d)) _ none).0
+  by_test true e rest k = ap (λ x. is_empty (passive_named p x)) (op-one c d e) ∙ (or_parts (is_empty (passive_named p d)) _ none).0
   by_test false e rest k = let k' : is_in cs c ≡ true = rw e at k in rest k'
 
 pub bodies-calls : (os : List Operation) → flat_map (λ b. block_calls b.block) (map op_body os) ≡ all_calls os
@@ -158,15 +160,15 @@ module _ (p : Program) (meets : MeetsRules p) (work : List WorkList) where
   -- units have names of their own
   names_apart : AreApart p.units
   names_apart = apart p.units (λ i u at.
-      (or_false _ _ (sym (list_any-append (λ n. same_name n u.name) (map (λ v. v.name) (take i p.units))
+      (or_parts _ _ (sym (list_any-append (λ n. same_name n u.name) (map (λ v. v.name) (take i p.units))
       (flat_map (λ v. inner_names v.form) (take i p.units)))
-      ∙ (or_false _ _ (or_false _ _ (or_false _ _ (or_false _ _ (or_false _ _ (naming i u at)).0).0).0).0).0)).0)
+      ∙ (or_parts _ _ (or_parts _ _ (or_parts _ _ (or_parts _ _ (or_parts _ _ (naming i u at)).0).0).0).0).0)).0)
 
   -- each call leads somewhere
   pub leads-somewhere : (i : ℕ) (u : Unit) → slice_get p.units i ≡ Some u → (c : OpName) → is_in (calls_of u.form) c ≡ true
       → is_known (target_in (system_from work p.units) c) ≡ true
   leads-somewhere i u at c calls =
-      let o = offered-unit p.units c (offered_call (offers p) (calls_of u.form) c (or_false _ _ (naming i u at)).1 calls) in
+      let o = offered-unit p.units c (offered_call (offers p) (calls_of u.form) c (or_parts _ _ (naming i u at)).1 calls) in
       let t = at-unit work p.units 0 0 0 0 o.0 o.1 c names_apart o.2 o.3 in
       ap is_known t.3 ∙ head-known t.0 t.1 t.2 o.1.name o.1.form c.op o.4
 
@@ -300,12 +302,12 @@ module _ (p : Program) (meets : MeetsRules p) (work : List WorkList) where
     by_target : (k : CallTarget) → target_in (system_from work p.units) c ≡ k → ⊥
     by_target (Plain o) e =
         let w = owned c o (ap op_by e) in
-        let name : c.object ≡ w.unit.name = sym (same-one w.unit.name c.object w.named) in
+        let name : c.object ≡ w.unit.name = sym (same-is w.unit.name c.object w.named) in
         let ring = (leads_plain path c c (ap is_plain e) leads).1 in
         meets Rings (At w.place) (w.unit, w.at, inl (c.op, (path, subst (λ n. LeadsTo (Calls p) (op_name n c.op) path (op_name n c.op)) name ring)))
     by_target (Protected object op g o) e =
         let w = owned c o (ap op_by e) in
-        let name : c.object ≡ w.unit.name = sym (same-one w.unit.name c.object w.named) in
+        let name : c.object ≡ w.unit.name = sym (same-is w.unit.name c.object w.named) in
         let ring = leads_shared path c c (ap is_protected e) (ap is_protected e) leads in
         meets Rings (At w.place) (
           w.unit,

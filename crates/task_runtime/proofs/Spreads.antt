@@ -4,7 +4,7 @@ use Rattle.std.proofs.Common.{sym, subst, ◌∙◌, arith, append-nil}
 use Rattle.std.proofs.lemmas.List.{append_assoc, drop-append-le, drop_all, length-append, length-drop, map-append, take-append-drop}
 use Rattle.std.proofs.lemmas.List.{take-append-le, take_all}
 use Rattle.std.specs.Prelude.{IsSome}
-use Rattle.std.proofs.lemmas.Bool.{false≢true}
+use Rattle.std.proofs.lemmas.Bool.{false≢true, and_parts}
 use Rattle.std.proofs.lemmas.List.Sums.{fold-append}
 use Rattle.seq_tree.specs.Variables.{Variables}
 use Rattle.task_runtime.specs.Stacked.{vars_of, with_var}
@@ -61,20 +61,16 @@ pub counted-push : (ss : List Slot) (s : Slot) → counted (ss ++ s ∷ []) ≡ 
 counted-push [] s = omega arith
 counted-push (t ∷ ss) s = let more = counted-push ss s in omega (arith, more)
 
-both : (a b : Bool) → (a && b) ≡ true → (a ≡ true) × (b ≡ true)
-both true b e = (refl, e)
-both false b e = absurd cc
-
 pub bare-push : (ss : List Slot) (s : Slot) → are_bare ss ≡ true → is_bare s.frame ≡ true → are_bare (ss ++ s ∷ []) ≡ true
 bare-push [] s all one = ap (λ b. b && true) one
 bare-push (t ∷ ss) s all one =
-    let parts = both (is_bare t.frame) (are_bare ss) all in
+    let parts = and_parts (is_bare t.frame) (are_bare ss) all in
     ap (λ b. b && are_bare (ss ++ s ∷ [])) parts.0 ∙ bare-push ss s parts.1 one
 
 pub bare-pop : (ss : List Slot) (s : Slot) → are_bare (ss ++ s ∷ []) ≡ true → are_bare ss ≡ true
 bare-pop [] s all = refl
 bare-pop (t ∷ ss) s all =
-    let parts = both (is_bare t.frame) (are_bare (ss ++ s ∷ [])) all in
+    let parts = and_parts (is_bare t.frame) (are_bare (ss ++ s ∷ [])) all in
     ap (λ b. b && are_bare ss) parts.0 ∙ bare-pop ss s parts.1
 
 -- variables on others
@@ -134,9 +130,9 @@ fold-fit p k (v ∷ vs) rest e =
 fold-had : (p : Place) (k : Kept) (vs : List Var) → Fit p k (saved vs) → p.names ≡ names_of (vars_of vs) ++ (place_of p (saved vs)).names
 fold-had p k [] h = refl
 fold-had p k (v ∷ vs) h =
-    let both = fit-pop p k (saved vs) (frame.Saved v) h in
+    let and_parts = fit-pop p k (saved vs) (frame.Saved v) h in
     let rest = drop 1 (place_of p (saved vs)).names in
-    fold-had p k vs both.0 ∙ ap (λ ns. names_of (vars_of vs) ++ ns) both.1 ∙ sym (names-cons v vs rest)
+    fold-had p k vs and_parts.0 ∙ ap (λ ns. names_of (vars_of vs) ++ ns) and_parts.1 ∙ sym (names-cons v vs rest)
     ∙ ap (λ ns. names_of (vars_of (v ∷ vs)) ++ ns) (sym (ap (λ q. q.names) (fold-append next p (saved vs) (frame.Saved v ∷ []))))
 
 -- two lists of frames
@@ -181,7 +177,7 @@ spread-bare p k vs (s ∷ ss) h none bare e =
     let front = saved (take s.away vs) in
     let rest = spread (drop s.away vs) ss in
     let parts = fit-parts p k front (s.frame ∷ rest) h in
-    let ones = both (is_bare s.frame) (are_bare ss) bare in
+    let ones = and_parts (is_bare s.frame) (are_bare ss) bare in
     let left : length (drop s.away vs) ≡ counted ss = let count = length-drop s.away vs in omega (arith, count, e) in
     let here = bare_away (place_of p front) (fold with_frame k front) s.frame parts.1.0 ones.0 in
     ap (λ x. x.away) (fold-append with_frame k front (s.frame ∷ rest))

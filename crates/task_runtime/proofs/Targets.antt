@@ -5,6 +5,7 @@ use Rattle.std.specs.Prelude.{filter, flat_map, slice_get, if◌then◌else◌, 
 use Rattle.std.specs.List.{list_any}
 use Rattle.std.proofs.lemmas.List.Folds.{list_any-append}
 use Rattle.std.proofs.lemmas.Option.{same_Some}
+use Rattle.std.proofs.lemmas.Bool.{or_parts}
 use Rattle.seq_tree.specs.Names.{Name, same_name, is_named}
 use Rattle.seq_tree.specs.Lists.{first_from}
 use Rattle.seq_tree.specs.Operations.{Operation, Offer, Signature}
@@ -16,7 +17,8 @@ use Rattle.arrivals_tree.specs.declared.arrivals.WorkList.{WorkList}
 use Rattle.machine.specs.Systems.{CallTarget, Plain, Protected, Request, Unknown, library_or, object_or, op_named, plain_by, protected_by, request_by}
 use Rattle.task_runtime.specs.Callable.{is_known, op_by}
 use Rattle.task_runtime.specs.Libraries.{libraries_from, objects_from, threads_from}
-use Rattle.task_runtime.proofs.CallLaws.{no_true, of_name, or_false, same-one, same-self}
+use Rattle.task_runtime.proofs.CallLaws.{no_true, of_name}
+use Rattle.seq_tree.proofs.Shared.SameNames.{same-self, same-is}
 use Rattle.task_runtime.proofs.Finding.{library_named, object_named, task_named}
 
 -- units whose names differ
@@ -32,16 +34,16 @@ apart_all name (v ∷ us) h = by_test (same_name v.name name) refl (apart_all na
       → (same_name v.name name || is_named (map (λ w. w.name) us) name) ≡ false
   by_test true e more =
       let other : same_name name v.name ≡ false = h 0 v refl in
-      let same : same_name name v.name ≡ true = ap (λ x. same_name x v.name) (sym (same-one v.name name e)) ∙ same-self v.name in
+      let same : same_name name v.name ≡ true = ap (λ x. same_name x v.name) (sym (same-is v.name name e)) ∙ same-self v.name in
       absurd (no_true (sym same ∙ other))
   by_test false e more = rw e more
 
 pub apart : (us : List Unit) → ((i : ℕ) (u : Unit) → slice_get us i ≡ Some u → is_named (map (λ v. v.name) (take i us)) u.name ≡ false) → AreApart us
 apart [] h = tt
 apart (u ∷ us) h = (
-  apart_all u.name us (λ i v at. (or_false (same_name u.name v.name) _ (h (suc i) v at)).0),
+  apart_all u.name us (λ i v at. (or_parts (same_name u.name v.name) _ (h (suc i) v at)).0),
   apart us (λ i v at.
-      (or_false (same_name u.name v.name) _ (h (suc i) v at)).1),
+      (or_parts (same_name u.name v.name) _ (h (suc i) v at)).1),
 )
 
 named_at : (us : List Unit) (i : ℕ) (u : Unit) → slice_get us i ≡ Some u → is_named (map (λ v. v.name) us) u.name ≡ true
@@ -74,7 +76,7 @@ module _ (work : List WorkList) where
       → first_from a (library_named w) (libraries_from n us) ≡ None
   no_library w n a [] h = refl
   no_library w n a (u ∷ us) h =
-      let both = or_false (same_name u.name w) (is_named (map (λ v. v.name) us) w) h in
+      let both = or_parts (same_name u.name w) (is_named (map (λ v. v.name) us) w) h in
       by_form u.name u.form both.0 (λ k. no_library w (n + 1) k us both.1)
     where
       by_form : (name : Name) (f : Form) → same_name name w ≡ false → ((k : ℕ) → first_from k (library_named w) (libraries_from (n + 1) us) ≡ None)
@@ -88,7 +90,7 @@ module _ (work : List WorkList) where
       → first_from a (object_named w) (objects_from n us) ≡ None
   no_object w n a [] h = refl
   no_object w n a (u ∷ us) h =
-      let both = or_false (same_name u.name w) (is_named (map (λ v. v.name) us) w) h in
+      let both = or_parts (same_name u.name w) (is_named (map (λ v. v.name) us) w) h in
       by_form u.name u.form both.0 (λ k. no_object w (n + 1) k us both.1)
     where
       by_form : (name : Name) (f : Form) → same_name name w ≡ false → ((k : ℕ) → first_from k (object_named w) (objects_from (n + 1) us) ≡ None)
@@ -121,7 +123,7 @@ module _ (work : List WorkList) where
   pub no-target : (n a b d : ℕ) (us : List Unit) (c : OpName) → is_named (map (λ v. v.name) us) c.object ≡ false → target_from n a b d us c ≡ Unknown
   no-target n a b d [] c h = refl
   no-target n a b d (u ∷ us) c h =
-      let both = or_false (same_name u.name c.object) (is_named (map (λ v. v.name) us) c.object) h in
+      let both = or_parts (same_name u.name c.object) (is_named (map (λ v. v.name) us) c.object) h in
       let past = past_unit n a b d us c u.name u.form both.0 in
       past.3 ∙ no-target (n + 1) past.0 past.1 past.2 us c both.1
 
@@ -133,7 +135,7 @@ module _ (work : List WorkList) where
       let same : v ≡ u = same_Some v u at in
       let e' : same_name v.name c.object ≡ true = ap (λ w. same_name w.name c.object) same ∙ e in
       let others : is_named (map (λ w. w.name) us) c.object ≡ false
-      = ap (is_named (map (λ w. w.name) us)) (sym (same-one v.name c.object e')) ∙ far.0 in
+      = ap (is_named (map (λ w. w.name) us)) (sym (same-is v.name c.object e')) ∙ far.0 in
       (b, d, n, here_unit n a b d us c v.name v.form e' others ∙ ap (λ w. unit_target b d n w.name w.form c.op) same)
   at-unit (v ∷ us) n a b d (suc i) u c far at e =
       let other : same_name v.name c.object ≡ false = differs (same_name v.name c.object) refl in
@@ -143,7 +145,7 @@ module _ (work : List WorkList) where
     where
       differs : (t : Bool) → same_name v.name c.object ≡ t → same_name v.name c.object ≡ false
       differs true k =
-          let one : v.name ≡ u.name = same-one v.name c.object k ∙ sym (same-one u.name c.object e) in
+          let one : v.name ≡ u.name = same-is v.name c.object k ∙ sym (same-is u.name c.object e) in
           absurd (no_true (sym (named_at us i u at) ∙ ap (is_named (map (λ w. w.name) us)) (sym one) ∙ far.0))
       differs false k = k
 

@@ -2,6 +2,7 @@
 -- Each takes a token by what it stands for.
 use Rattle.std.specs.Prelude.{ℕ, Bool, true, false, ◌&&◌, nat_le, List, [], ◌∷◌, Option, Some, None, if◌then◌else◌}
 use Rattle.grammar.specs.Reading.{Read, then_at, pure_at, token_at}
+use Rattle.seq_tree.specs.Limits.{is_within}
 use Rattle.seq_tree.specs.Names.{Name}
 use Rattle.seq_tree.specs.declared.token.Token.{Token}
 use Rattle.seq_tree.specs.declared.token.Token.TheVariants as token
@@ -29,10 +30,6 @@ sees_number (token.Sign m) = None
 -- a number
 unfoldable pub number_at : List Token → Read Token ℕ
 number_at = token_at sees_number
-
--- whether a number is in a range
-abbrev pub is_within : ℕ → ℕ → ℕ → Bool
-is_within low high n = nat_le low n && nat_le n high
 
 -- a number of a range
 abbrev pub sees_number_within : ℕ → ℕ → Token → Option ℕ

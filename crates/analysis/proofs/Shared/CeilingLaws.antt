@@ -4,6 +4,7 @@ use Rattle.std.proofs.Common.{sym, ap, subst, arith, inl, inr, ◌⊎◌}
 use Rattle.std.specs.Prelude.{fold}
 use Rattle.std.specs.List.{list_any}
 use Rattle.std.proofs.lemmas.List.{length-map}
+use Rattle.std.proofs.lemmas.Bool.{or_cases, or_right}
 use Rattle.seq_tree.specs.Names.{Name}
 use Rattle.seq_tree.specs.Calls.{same_op}
 use Rattle.seq_tree.specs.Rings.{LeadsTo}
@@ -31,14 +32,6 @@ head-below b n ns = let h = base-below (max b n) ns in grind (arith, h)
 
 tail-below : (b n : ℕ) (ns : List ℕ) → fold max b ns ≤ fold max b (n ∷ ns)
 tail-below b n ns = fold-mono b (max b n) ns (grind arith)
-
-or_cases : (a b : Bool) → (a || b) ≡ true → (a ≡ true) ⊎ (b ≡ true)
-or_cases true b h = inl refl
-or_cases false b h = inr h
-
-or_right : (a b : Bool) → b ≡ true → (a || b) ≡ true
-or_right true b h = refl
-or_right false b h = h
 
 nodes_of : List Guarded → List OpName
 nodes_of gs = map (λ g. node g.name) gs

@@ -3,17 +3,18 @@
 use Rattle.std.proofs.Common.{◌≡◌, ◌≤◌, ◌+◌, ◌*◌, ℕ, zero, suc, Bool, true, false, not, ◌&&◌, ◌||◌, List, [], ◌∷◌, ◌++◌, arith, refl, ap, ◌∙◌}
 use Rattle.std.specs.Prelude.{max, if◌then◌else◌}
 use Rattle.std.specs.List.{list_any}
+use Rattle.std.proofs.lemmas.Bool.{and_parts}
 use Rattle.seq_tree.specs.Calls.{same_op}
 use Rattle.seq_tree.specs.Dearest.{Weights, counted, dearest, dearest_branch, dearest_statement, free, turn_count}
 use Rattle.seq_tree.specs.Names.{Name}
 use Rattle.seq_tree.specs.Statements.{Statement, Statements, Branches, Null, Assign, If, For, ExitWhen, Call, Work, Put, End, Then}
 use Rattle.seq_tree.specs.Statements.{Nothing, Else, When}
 use Rattle.seq_tree.specs.declared.tree.OpName.{OpName}
-use Rattle.seq_tree.proofs.Shared.Walks.{both, same_op-eq, same_op-refl}
+use Rattle.seq_tree.proofs.Shared.Walks.{same_op-eq, same_op-refl}
 use Rattle.call_graph.specs.Listed.{block_listed, branch_listed, listed_all, listed_more, statement_listed}
 use Rattle.call_graph.specs.Once.{sum_of}
 
--- what is listed together counts what both parts do
+-- what is listed together counts what and_parts parts do
 pub sum-both : (w : OpName → ℕ) (cs ds : List OpName) → sum_of w (cs ++ ds) ≡ sum_of w cs + sum_of w ds
 sum-both w [] ds = omega arith
 sum-both w (c ∷ cs) ds = (let h = sum-both w cs ds in omega (arith, h))
@@ -117,7 +118,7 @@ module _ (w : OpName → ℕ) where
           → (w c + sum_of w all) + sum_of (unseen (with_one seen c)) (if b then all else all ++ c ∷ [])
           ≤ sum_of (unseen seen) all + sum_of w (if b then all else all ++ c ∷ [])
       by true e =
-          let parts = both (list_any (λ d. same_op d c) all) (not (seen c)) e in
+          let parts = and_parts (list_any (λ d. same_op d c) all) (not (seen c)) e in
           let drop = unseen-drop seen c all parts.0 (not-seen (seen c) parts.1) in
           omega (arith, drop)
       by false e =
@@ -154,7 +155,7 @@ module _ (w : OpName → ℕ) where
   behind all cs = listed_all (λ n. false) all cs
 
   own-less : (all cs : List OpName) → sum_of w cs ≤ sum_of w (behind all cs)
-  own-less all cs = (let both = all-less (λ n. false) all cs in omega (arith, both))
+  own-less all cs = (let and_parts = all-less (λ n. false) all cs in omega (arith, and_parts))
 
   branches-kept : (twice : Bool) (all : List OpName) (b : Branches) → sum_of w all ≤ in_branches twice all b
   branches-kept twice all Nothing = omega arith

@@ -4,9 +4,10 @@ use Rattle.std.proofs.Common.{◌≡◌, ◌⊎◌, inl, inr, ◌≤◌, ◌<◌
 use Rattle.std.proofs.Common.{Option, Some, None, is_some, map, arith, refl, ap, sym, subst, ◌∙◌}
 use Rattle.std.specs.Prelude.{unwrap_or, if◌then◌else◌}
 use Rattle.std.specs.List.{list_any}
+use Rattle.std.proofs.lemmas.Bool.{and_parts, or_parts, not-false}
 use Rattle.seq_tree.specs.Calls.{same_op}
 use Rattle.seq_tree.specs.declared.tree.OpName.{OpName}
-use Rattle.seq_tree.proofs.Shared.Walks.{both, same_op-eq, same_op-refl}
+use Rattle.seq_tree.proofs.Shared.Walks.{same_op-eq, same_op-refl}
 use Rattle.call_graph.specs.Once.{fits, fits_at, is_from, is_next, misfits_at, repeats, sum_of}
 
 -- how often an operation is among others
@@ -27,27 +28,19 @@ no-more : (a : Bool) → (a && false) ≡ false
 no-more true = refl
 no-more false = refl
 
-or-parts : (a b : Bool) → (a || b) ≡ false → (a ≡ false) × (b ≡ false)
-or-parts true b h = absurd (cc)
-or-parts false b h = (refl, h)
-
-not-false : (a : Bool) → not a ≡ false → a ≡ true
-not-false true h = refl
-not-false false h = absurd (cc)
-
 none-fails : (p : OpName → Bool) (ks : List OpName) → list_any (λ k. not (p k)) ks ≡ false → (k : OpName) → In k ks → p k ≡ true
 none-fails p [] h k at = absurd at
 none-fails p (x ∷ ks) h k (inl e) =
-    let parts = or-parts (not (p x)) (list_any (λ y. not (p y)) ks) h in ap p e ∙ not-false (p x) parts.0
+    let parts = or_parts (not (p x)) (list_any (λ y. not (p y)) ks) h in ap p e ∙ not-false (p x) parts.0
 none-fails p (x ∷ ks) h k (inr at) =
-    let parts = or-parts (not (p x)) (list_any (λ y. not (p y)) ks) h in none-fails p ks parts.1 k at
+    let parts = or_parts (not (p x)) (list_any (λ y. not (p y)) ks) h in none-fails p ks parts.1 k at
 
 -- what is not called again is called once at most, and not where it was seen
 pub called-once : (has seen : OpName → Bool) (k : OpName) (ks : List OpName) → repeats has seen ks ≡ false → has k ≡ true
     → times k ks ≤ (if seen k then 0 else 1)
 called-once has seen k [] h e = omega arith
 called-once has seen k (c ∷ ks) h e =
-    let parts = or-parts (has c && seen c) (repeats has (λ n. (has c && same_op c n) || seen n) ks) h in
+    let parts = or_parts (has c && seen c) (repeats has (λ n. (has c && same_op c n) || seen n) ks) h in
     by parts.0 (called-once has (λ n. (has c && same_op c n) || seen n) k ks parts.1 e) (same_op c k) refl
   where
     by : (has c && seen c) ≡ false → times k ks ≤ (if (has c && same_op c k) || seen k then 0 else 1) → (s : Bool) → same_op c k ≡ s
@@ -89,7 +82,7 @@ module _ (depth : OpName → Option ℕ) (from : OpName → Option OpName) where
 
   level-of : (who : Option OpName) (k : OpName) (r : ℕ) → fits_at depth from who k (Some r) ≡ true → Level who r
   level-of None k r h = same-number r 0 h
-  level-of (Some n) k r h = next-depth (depth n) r (both (is_from (from k) n) (is_next (depth n) r) h).1
+  level-of (Some n) k r h = next-depth (depth n) r (and_parts (is_from (from k) n) (is_next (depth n) r) h).1
 
   module _ (target : OpName) (deepest : ℕ) where
     -- the callers of a target, one above the other
@@ -116,7 +109,7 @@ module _ (depth : OpName → Option ℕ) (from : OpName → Option OpName) where
     pub led-up : (n k : OpName) → Led k → fits depth from (Some n) k ≡ true → Led n
     led-up n k led h =
         let fit : fits_at depth from (Some n) k (Some led.0) ≡ true = ap (fits_at depth from (Some n) k) (sym led.2) ∙ h in
-        let parts = both (is_from (from k) n) (is_next (depth n) led.0) fit in
+        let parts = and_parts (is_from (from k) n) (is_next (depth n) led.0) fit in
         let next = next-depth (depth n) led.0 parts.1 in
         let comes : from (climb led.1) ≡ Some n = ap from (sym led.3) ∙ from-one (from k) n parts.0 in
         (next.0, suc led.1, next.1, sym (ap (λ o. unwrap_or o target) comes), up-more next.0 led.0 led.1 next.2 led.4)
@@ -162,7 +155,7 @@ module _ (depth : OpName → Option ℕ) (from : OpName → Option OpName) where
         where
           parts : (list_any (λ k. not (fits depth from who k)) (map key ms) ≡ false)
               × (repeats (λ k. is_some (depth k)) (λ n. false) (map key ms) ≡ false)
-          parts = or-parts (list_any (λ k. not (fits depth from who k)) (map key ms))
+          parts = or_parts (list_any (λ k. not (fits depth from who k)) (map key ms))
               (repeats (λ k. is_some (depth k)) (λ n. false) (map key ms)) h
 
           by : (sum_of v ms ≡ 0) ⊎ ((m : OpName) × In (key m) (map key ms) × (0 < v m)) → sum_of v ms ≤ 1
@@ -188,6 +181,6 @@ module _ (depth : OpName → Option ℕ) (from : OpName → Option OpName) where
 
       pub caller-led : (ms : List OpName) → misfits_at depth from (record { from = Some n; calls = map key ms }) ≡ false → 0 < sum_of v ms → Led n
       caller-led ms h counts =
-          let parts = or-parts (list_any (λ k. not (fits depth from (Some n) k)) (map key ms))
+          let parts = or_parts (list_any (λ k. not (fits depth from (Some n) k)) (map key ms))
           (repeats (λ k. is_some (depth k)) (λ n. false) (map key ms)) h in
           called-led ms (none-fails (fits depth from (Some n)) (map key ms) parts.0) counts

@@ -5,14 +5,14 @@ use Rattle.std.specs.List.{cons_option}
 use Rattle.std.proofs.Common.{sym, ◌∙◌, ap, subst, arith}
 use Rattle.std.proofs.lemmas.Bool.{and_parts, true≢false}
 use Rattle.std.proofs.lemmas.Option.{none-some, same_Some, slice_get_within}
-use Rattle.seq_tree.specs.Limits.{tick_limit}
+use Rattle.seq_tree.specs.Limits.{tick_limit, is_within}
 use Rattle.seq_tree.specs.Names.{Name, are_distinct}
 use Rattle.seq_tree.specs.Lists.{Each}
 use Rattle.ods_tree.specs.Designs.{Object, Design}
 use Rattle.ods_tree.specs.Flats.{Timing, Cyclic, Sporadic, Thread, Flat, period_of}
 use Rattle.ods_tree.specs.Flattening.{thread_by, flat}
 use Rattle.ods_tree.specs.Services.{flat_services}
-use Rattle.ods_tree.specs.Sound.{is_in_range, is_timed, is_within}
+use Rattle.ods_tree.specs.Sound.{is_in_range, is_timed}
 use Rattle.analysis.specs.Sound.{IsSound}
 use Rattle.analysis.specs.Priorities.{priorities_of}
 use Rattle.analysis.specs.Starts.{can_request}

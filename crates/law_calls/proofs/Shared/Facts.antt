@@ -2,10 +2,10 @@
 use Rattle.std.specs.Prelude.{◌≡◌, ◌+◌, ℕ, zero, suc, Bool, true, false, not, ◌||◌, List, [], ◌∷◌, slice_get, Option, Some, None, if◌then◌else◌, refl}
 use Rattle.std.proofs.Common.{sym, ap, subst, arith, ◌∙◌}
 use Rattle.std.proofs.lemmas.Option.{none-some, same_Some}
-use Rattle.std.proofs.lemmas.Slice.Eq.{bytes_eq-Decides}
 use Rattle.seq_tree.specs.Names.{Name, same_name}
 use Rattle.seq_tree.specs.Faults.{or_else, fault_if}
 use Rattle.seq_tree.specs.Lists.{first_from, first_where}
+pub use Rattle.seq_tree.proofs.Shared.SameNames.{same-self, same-is, is-same}
 
 -- of two faults neither
 pub or_else-none : {A : Type 0} (a b : Option A) → or_else a b ≡ None → (a ≡ None) × (b ≡ None)
@@ -24,16 +24,6 @@ no-fault false x e = refl
 pub or_second : (a b : Bool) → a ≡ false → (a || b) ≡ true → b ≡ true
 or_second true b f e = cc
 or_second false b f e = e
-
--- names that are the same
-pub same-self : (name : Name) → same_name name name ≡ true
-same-self name = (bytes_eq-Decides name name).1 refl
-
-pub same-is : (a b : Name) → same_name a b ≡ true → a ≡ b
-same-is a b e = (bytes_eq-Decides a b).0 e
-
-pub is-same : (a b : Name) → a ≡ b → same_name a b ≡ true
-is-same a b e = (bytes_eq-Decides a b).1 e
 
 -- the first item that passes a test is there and passes it
 pub first-from : {A : Type 0} (n : ℕ) (test : A → Bool) (xs : List A) (k : ℕ) (x : A) → first_from n test xs ≡ Some (k, x)

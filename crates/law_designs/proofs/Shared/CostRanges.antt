@@ -3,7 +3,7 @@ use Rattle.std.specs.Prelude.{◌≡◌, ℕ, zero, suc, ◌+◌, ◌*◌, ◌�
 use Rattle.std.specs.Prelude.{flat_map, find, length, Option, Some, None, if◌then◌else◌, ⊤, refl}
 use Rattle.std.specs.List.{list_all, cons_option}
 use Rattle.std.proofs.Common.{sym, subst, arith, le_refl, zero-le}
-use Rattle.seq_tree.specs.Limits.{tick_limit}
+use Rattle.seq_tree.specs.Limits.{tick_limit, is_within}
 use Rattle.seq_tree.specs.Names.{Name}
 use Rattle.seq_tree.specs.Operations.{Operation}
 use Rattle.seq_tree.specs.Lists.{Each}
@@ -17,7 +17,7 @@ use Rattle.ods_tree.specs.Flats as timing
 use Rattle.ods_tree.specs.Services.{Service, Sort, plain_services, protected_services, requested, request_of, requests, is_service}
 use Rattle.ods_tree.specs.Services.{service_named, flat_services}
 use Rattle.ods_tree.specs.Services as sort
-use Rattle.ods_tree.specs.Sound.{is_within, costs_of, entry_ops}
+use Rattle.ods_tree.specs.Sound.{costs_of, entry_ops}
 use Rattle.analysis.specs.Execution.{body_cost_by, service_cost, cost_within, called_cost, block_cost}
 use Rattle.analysis.specs.Sections.{Section, live_calls, section, sections_by, service_sections, sections_within, sections}
 use Rattle.analysis.specs.Sound.{IsSound}

@@ -11,7 +11,8 @@ use Rattle.ods_tree.specs.Designs.{Body, Object, Design}
 use Rattle.ods_tree.specs.Walk.{Standing, objects, is_terminal, terminals, only_if}
 use Rattle.ods_tree.specs.Flattening.{request_op}
 use Rattle.ods_tree.specs.Ticks.{stated_priorities}
-use Rattle.ods_tree.specs.Sound.{is_within, costs_of}
+use Rattle.ods_tree.specs.Sound.{costs_of}
+use Rattle.seq_tree.specs.Limits.{is_within}
 use Rattle.design_rules.specs.Broken.{Broken, V02, V04, V05, V08, V10, V11, V12, V13, V15Threads, V15Objects, V16}
 use Rattle.design_rules.specs.Rules.{Clash, KeptName, Operation, Fitting, Use, Source, Number, IdleActive, Size, Spacing, AreMet, IsListed}
 use Rattle.design_rules.specs.Rules as rules

@@ -1,7 +1,7 @@
 -- The numbers of the program are in their ranges where its priorities and ceilings are.
 use Rattle.std.proofs.Common.{◌≡◌, ℕ, Bool, true, false, ◌&&◌, ◌||◌, List, [], ◌∷◌, map, flat_map, zip, length, nat_lt, nat_le, is_some}
 use Rattle.std.proofs.Common.{unwrap_or, Option, Some, None, option_to_list, refl, sym, ap, subst, ◌∙◌, arith, append-nil, inl}
-use Rattle.seq_tree.specs.Limits.{tick_limit}
+use Rattle.seq_tree.specs.Limits.{tick_limit, is_within}
 use Rattle.seq_tree.specs.Names.{same_name}
 use Rattle.std.specs.List.{list_any, list_all}
 use Rattle.std.proofs.lemmas.Bool.{or_from, and_parts}
@@ -14,7 +14,7 @@ use Rattle.ods_tree.specs.Links.{resolve, resolved}
 use Rattle.ods_tree.specs.Flats.{Library, Guarded, Timing, Thread, Flat}
 use Rattle.ods_tree.specs.Flats as timing
 use Rattle.ods_tree.specs.Flattening.{operations, guarded, threads, flat, request_op}
-use Rattle.ods_tree.specs.Sound.{is_within, is_below, is_in_range, costs_of, is_timed}
+use Rattle.ods_tree.specs.Sound.{is_below, is_in_range, costs_of, is_timed}
 use Rattle.ada_tree.specs.Programs.{Unit}
 use Rattle.ada_tree.specs.Bodies.{op_body, bodies}
 use Rattle.ada_tree.specs.Bodies as ada

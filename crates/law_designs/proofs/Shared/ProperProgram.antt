@@ -8,7 +8,7 @@ use Rattle.seq_tree.specs.Names.{Name, same_name}
 use Rattle.seq_tree.specs.Statements.{Statements}
 use Rattle.seq_tree.specs.Operations.{Signature, Operation, is_out}
 use Rattle.seq_tree.specs.Calls.{block_calls}
-use Rattle.seq_tree.specs.Proper.{IsProperBlock, within_limits}
+use Rattle.seq_tree.specs.Proper.{AreData, IsProperBlock, within_limits}
 use Rattle.seq_tree.specs.declared.tree.Datum.{Datum}
 use Rattle.seq_tree.specs.declared.tree.Param.{Param}
 use Rattle.seq_tree.specs.declared.tree.Mode.{Mode}
@@ -167,7 +167,7 @@ module _ (written x : Design) (met : AreMet written x) (proper : AreProper x) wh
   operations-proper : (s : Standing) → IsIn s (terminals x) → Each (ada.IsProperOperation (within_limits is_ada_name)) (operations x s.own)
   operations-proper s h = each-in (ada.IsProperOperation (within_limits is_ada_name)) (operations x s.own) (λ e j. operation-proper s e h j)
 
-  vars-proper : (s : Standing) → IsIn s (terminals x) → ada.AreData (within_limits is_ada_name) s.own.vars
+  vars-proper : (s : Standing) → IsIn s (terminals x) → AreData (within_limits is_ada_name) s.own.vars
   vars-proper s h = each-in (λ (d : Datum). is_ada_name d.name ≡ true) s.own.vars (λ d j. stands-var s d (terminal-object x s h).0 j)
 
   thread-block : (f : Standing) (b : Statements) → IsIn f (terminals x) → f.own.thread ≡ Some b

@@ -4,12 +4,12 @@ use Rattle.std.specs.Prelude.{slice_get, Option, Some, None, option_map, option_
 use Rattle.std.specs.List.{cons_option}
 use Rattle.std.proofs.Common.{sym, ◌∙◌, ap, subst, arith}
 use Rattle.std.proofs.lemmas.Option.{slice_get_within}
-use Rattle.seq_tree.specs.Limits.{tick_limit}
+use Rattle.seq_tree.specs.Limits.{tick_limit, is_within}
 use Rattle.seq_tree.specs.Lists.{Each}
 use Rattle.ods_tree.specs.Flats.{Thread, Flat, period_of}
 use Rattle.ods_tree.specs.Flats as timing
 use Rattle.ods_tree.specs.Services.{flat_services}
-use Rattle.ods_tree.specs.Sound.{is_within, is_timed, is_in_range}
+use Rattle.ods_tree.specs.Sound.{is_timed, is_in_range}
 use Rattle.rt_response.specs.Tables.{IsRow, IsTable}
 use Rattle.rt_response.specs.Tables as tables
 use Rattle.analysis.specs.Sound.{IsSound}

@@ -3,10 +3,10 @@ use Rattle.std.specs.Prelude.{◌≡◌, ℕ, suc, ◌<◌, nat_le, true, List, 
 use Rattle.std.proofs.Common.{sym, ◌∙◌, subst, arith}
 use Rattle.std.proofs.lemmas.Bool.{and_parts, leb-true}
 use Rattle.std.proofs.lemmas.Option.{same_Some, slice_get_within}
-use Rattle.seq_tree.specs.Limits.{tick_limit}
+use Rattle.seq_tree.specs.Limits.{tick_limit, is_within}
 use Rattle.ods_tree.specs.Flats.{Thread, Flat, period_of}
 use Rattle.ods_tree.specs.Flats as timing
-use Rattle.ods_tree.specs.Sound.{is_within, is_timed, is_in_range}
+use Rattle.ods_tree.specs.Sound.{is_timed, is_in_range}
 use Rattle.rt_response.specs.declared.rows.ThreadRow.{ThreadRow}
 use Rattle.rt_response.specs.Tables.{IsRow, IsTable, IsStarter}
 use Rattle.rt_response.specs.Tables as tables

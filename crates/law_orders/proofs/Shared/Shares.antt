@@ -8,10 +8,10 @@ use Rattle.std.proofs.Common.{sym, ◌∙◌, ap, arith, inl, inr, mul-le-mul_ri
 use Rattle.std.proofs.lemmas.Grind.{div_ceil_times}
 use Rattle.std.proofs.lemmas.List.Sums.{sum_by-cons}
 use Rattle.std.proofs.lemmas.Bool.{and_parts, cases_eq}
-use Rattle.seq_tree.specs.Limits.{tick_limit}
+use Rattle.seq_tree.specs.Limits.{tick_limit, is_within}
 use Rattle.ods_tree.specs.Flats.{Timing, Thread, Flat, period_of}
 use Rattle.ods_tree.specs.Flats as timing
-use Rattle.ods_tree.specs.Sound.{is_within, is_below, is_timed, is_in_range}
+use Rattle.ods_tree.specs.Sound.{is_below, is_timed, is_in_range}
 use Rattle.analysis.specs.Sound.{IsSound}
 use Rattle.analysis.specs.Tables.{activation_cost, jitter_of}
 use Rattle.law_calls.proofs.Shared.Places.{all-at}

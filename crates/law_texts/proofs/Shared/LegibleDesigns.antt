@@ -3,7 +3,7 @@ use Rattle.std.proofs.Common.{◌≡◌, ℕ, ◌≤◌, true, false, List, [], 
 use Rattle.std.proofs.Common.{None, unwrap_or, refl, sym, ap, subst, ◌∙◌, inl, inr, arith}
 use Rattle.std.specs.List.{list_all}
 use Rattle.std.proofs.lemmas.Bool.{and_parts, leb-true}
-use Rattle.seq_tree.specs.Limits.{tick_limit}
+use Rattle.seq_tree.specs.Limits.{tick_limit, is_within}
 use Rattle.seq_tree.specs.Names.{same_name}
 use Rattle.seq_tree.specs.Statements.{Statements}
 use Rattle.seq_tree.specs.Operations.{Signature, Operation}
@@ -16,7 +16,7 @@ use Rattle.ods_tree.specs.Walk.{Standing, objects, terminals}
 use Rattle.ods_tree.specs.Links.{resolve, resolved}
 use Rattle.ods_tree.specs.Flats.{Library, Guarded, Timing, Cyclic, Sporadic, Thread}
 use Rattle.ods_tree.specs.Flattening.{operations, request_op, guarded, threads, flat}
-use Rattle.ods_tree.specs.Sound.{is_within, is_below, is_timed, is_in_range, costs_of}
+use Rattle.ods_tree.specs.Sound.{is_below, is_timed, is_in_range, costs_of}
 use Rattle.ada_tree.specs.Programs.{Unit}
 use Rattle.ada_tree.specs.Ranges.{is_outside}
 use Rattle.ada_print.specs.Writable.{is_word, is_number, is_writable}

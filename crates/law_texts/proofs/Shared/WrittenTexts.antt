@@ -3,7 +3,7 @@ use Rattle.std.proofs.Common.{◌≡◌, ℕ, suc, ◌+◌, ◌≤◌, true, Lis
 use Rattle.std.proofs.Common.{refl, sym, ap, ◌∙◌, inl, inr, arith, le_trans}
 use Rattle.std.specs.List.{list_all, AllZip}
 use Rattle.std.proofs.lemmas.Bool.{and_parts, and_from}
-use Rattle.seq_tree.specs.Limits.{ada_limit, tick_limit}
+use Rattle.seq_tree.specs.Limits.{ada_limit, tick_limit, is_within}
 use Rattle.seq_tree.specs.Lexis.{tokens, plain}
 use Rattle.seq_print.specs.Readable.{is_readable}
 use Rattle.seq_print.proofs.Shared.TokenForms.{tokens-readable}
@@ -14,7 +14,7 @@ use Rattle.ods_tree.specs.Spelling.{design_tokens}
 use Rattle.ods_tree.specs.Ticks.{ticked, in_ticks}
 use Rattle.ods_tree.specs.Flats.{Timing, Cyclic, Sporadic, Thread, period_of}
 use Rattle.ods_tree.specs.Flattening.{threads, flat}
-use Rattle.ods_tree.specs.Sound.{is_within, is_timed, is_in_range}
+use Rattle.ods_tree.specs.Sound.{is_timed, is_in_range}
 use Rattle.ods_tree.specs.declared.design.VersionTwo.{VersionTwo}
 use Rattle.ods_tree.proofs.Shared.TickLaws.{ticks-version}
 use Rattle.ada_tree.specs.Spelling.{program_tokens}

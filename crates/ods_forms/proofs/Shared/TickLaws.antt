@@ -3,7 +3,7 @@ use Rattle.std.proofs.Common.{◌≡◌, ℕ, ◌*◌, ◌/◌, ◌%◌, ◌==�
 use Rattle.std.proofs.Common.{nat_le, nat_lt, Option, Some, None, option_to_list, refl, sym, ap, subst, ◌∙◌, arith}
 use Rattle.std.specs.List.{list_any, cons_option}
 use Rattle.std.proofs.lemmas.List.Elements.{filter_map-append}
-use Rattle.seq_tree.specs.Limits.{tick_limit}
+use Rattle.seq_tree.specs.Limits.{tick_limit, is_within}
 use Rattle.ods_tree.specs.Designs.{Object, Tree, Trees, Node, Empty, With, Design}
 use Rattle.ods_tree.specs.Ticks.{microseconds, tick_time, count_in_ticks, attribute_in_ticks, object_in_ticks, tree_in_ticks, trees_in_ticks}
 use Rattle.ods_tree.specs.Ticks.{ticked, in_ticks}
@@ -11,7 +11,6 @@ use Rattle.ods_tree.specs.Walk.{Standing, objects, standings, inner_standings, o
 use Rattle.ods_tree.specs.declared.design.Attr.{Attr}
 use Rattle.ods_tree.specs.declared.design.TickUnit.{TickUnit}
 use Rattle.ods_tree.specs.declared.design.VersionTwo.{VersionTwo}
-use Rattle.ods_tree.specs.Sound.{is_within}
 use Rattle.design_rules.specs.Broken.{Broken, V17, V17Tick}
 use Rattle.design_rules.specs.Versions.{bad_tick, bad_priorities, bad_version, breaks_ticks, misses_ticks, version_faults}
 use Rattle.ods_index.specs.Judging.{head_of}

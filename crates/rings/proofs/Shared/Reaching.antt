@@ -1,32 +1,12 @@
 -- Marks of what is reached: they are sound and, where no node is left to be taken up, complete.
 use Rattle.std.proofs.Common.{◌≡◌, ℕ, ◌<◌, ◌==◌, Bool, true, false, not, ◌&&◌, ◌||◌, List, [], ◌∷◌, ◌++◌, get_or, nat_lt, length, refl, sym, ap}
 use Rattle.std.proofs.Common.{subst, ◌∙◌, arith, inl, inr, ◌⊎◌}
-use Rattle.std.proofs.lemmas.Bool.{eqb-true, eq-eqb}
+use Rattle.std.proofs.lemmas.Bool.{eqb-true, eq-eqb, or_cases, or_left, or_right, and_parts, and_from}
 use Rattle.std.proofs.lemmas.List.Folds.{list_any-append}
 use Rattle.seq_tree.specs.Rings.{LeadsTo}
 use Rattle.rings.specs.Graphs.{has_number, targets_at}
 use Rattle.rings.specs.Reached.{leads, Goes, IsReachedBy}
 use Rattle.rings.specs.declared.graph.Graph.{Graph}
-
-pub or-cases : (a b : Bool) → (a || b) ≡ true → (a ≡ true) ⊎ (b ≡ true)
-or-cases true b h = inl refl
-or-cases false b h = inr h
-
-pub or-left : (a b : Bool) → a ≡ true → (a || b) ≡ true
-or-left true b h = refl
-or-left false b h = cc
-
-pub or-right : (a b : Bool) → b ≡ true → (a || b) ≡ true
-or-right true b h = refl
-or-right false b h = h
-
-pub both : (a b : Bool) → (a && b) ≡ true → (a ≡ true) × (b ≡ true)
-both true true h = (refl, refl)
-both true false h = cc
-both false b h = cc
-
-pub and-from : (a b : Bool) → a ≡ true → b ≡ true → (a && b) ≡ true
-and-from a b h k = ap (λ c. c && b) h ∙ k
 
 -- one edge more at the end
 pub further : (step : ℕ → ℕ → Bool) (path : List ℕ) (from mid to : ℕ) → LeadsTo (Goes step) from path mid → step mid to ≡ true
@@ -54,41 +34,41 @@ taken step starts marks todo more rest after node m split grown left =
     record { started = λ n h. old n (m.started n h); sound = sound; listed = listed; closed = closed }
   where
     old : (n : ℕ) → marks n ≡ true → more n ≡ true
-    old n h = grown n ∙ or-left (marks n) (step node n) h
+    old n h = grown n ∙ or_left (marks n) (step node n) h
 
     here : marks node ≡ true
-    here = m.listed node (split node ∙ or-right (rest node) (node == node) (eq-eqb node node refl))
+    here = m.listed node (split node ∙ or_right (rest node) (node == node) (eq-eqb node node refl))
 
     sound : (n : ℕ) → more n ≡ true → IsReachedBy step starts n
-    sound n h = by (or-cases (marks n) (step node n) (sym (grown n) ∙ h))
+    sound n h = by (or_cases (marks n) (step node n) (sym (grown n) ∙ h))
       where
         by : (marks n ≡ true) ⊎ (step node n ≡ true) → IsReachedBy step starts n
         by (inl k) = m.sound n k
         by (inr k) = reached-more step starts node n (m.sound node here) k
 
     listed : (n : ℕ) → after n ≡ true → more n ≡ true
-    listed n h = by (or-cases (rest n) (more n && not (marks n)) (sym (left n) ∙ h))
+    listed n h = by (or_cases (rest n) (more n && not (marks n)) (sym (left n) ∙ h))
       where
         by : (rest n ≡ true) ⊎ ((more n && not (marks n)) ≡ true) → more n ≡ true
-        by (inl k) = old n (m.listed n (split n ∙ or-left (rest n) (node == n) k))
-        by (inr k) = (both (more n) (not (marks n)) k).0
+        by (inl k) = old n (m.listed n (split n ∙ or_left (rest n) (node == n) k))
+        by (inr k) = (and_parts (more n) (not (marks n)) k).0
 
     closed : (a b : ℕ) → more a ≡ true → step a b ≡ true → (more b || after a) ≡ true
     closed a b h edge = by (marks a) refl
       where
         go : (todo a ≡ true) → (rest a ≡ true) ⊎ ((node == a) ≡ true) → (more b || after a) ≡ true
-        go t (inl k) = or-right (more b) (after a) (left a ∙ or-left (rest a) (more a && not (marks a)) k)
+        go t (inl k) = or_right (more b) (after a) (left a ∙ or_left (rest a) (more a && not (marks a)) k)
         go t (inr k) = let P : ℕ → Type 0 = λ z. step z b ≡ true
-            in or-left (more b) (after a) (grown b ∙ or-right (marks b) (step node b) (subst P (sym (eqb-true node a k)) edge))
+            in or_left (more b) (after a) (grown b ∙ or_right (marks b) (step node b) (subst P (sym (eqb-true node a k)) edge))
 
         cases : (marks b ≡ true) ⊎ (todo a ≡ true) → (more b || after a) ≡ true
-        cases (inl k) = or-left (more b) (after a) (old b k)
-        cases (inr k) = go k (or-cases (rest a) (node == a) (sym (split a) ∙ k))
+        cases (inl k) = or_left (more b) (after a) (old b k)
+        cases (inr k) = go k (or_cases (rest a) (node == a) (sym (split a) ∙ k))
 
         by : (t : Bool) → marks a ≡ t → (more b || after a) ≡ true
-        by true e = cases (or-cases (marks b) (todo a) (m.closed a b e edge))
-        by false e = or-right (more b) (after a) (left a ∙ or-right (rest a) (more a && not (marks a))
-            (and-from (more a) (not (marks a)) h (ap not e)))
+        by true e = cases (or_cases (marks b) (todo a) (m.closed a b e edge))
+        by false e = or_right (more b) (after a) (left a ∙ or_right (rest a) (more a && not (marks a))
+            (and_from (more a) (not (marks a)) h (ap not e)))
 
 -- where nothing is left to be taken up, all that is reached is marked
 pub complete : (step : ℕ → ℕ → Bool) (starts marks todo : ℕ → Bool) → Marked step starts marks todo → ((n : ℕ) → todo n ≡ false) → (n : ℕ)
@@ -97,7 +77,7 @@ complete step starts marks todo m none n (s, is, inl here) = let P : ℕ → Typ
 complete step starts marks todo m none n (s, is, inr (path, leads)) = along path s (m.started s is) leads
   where
     next : (a b : ℕ) → marks a ≡ true → step a b ≡ true → marks b ≡ true
-    next a b h edge = by (or-cases (marks b) (todo a) (m.closed a b h edge))
+    next a b h edge = by (or_cases (marks b) (todo a) (m.closed a b h edge))
       where
         by : (marks b ≡ true) ⊎ (todo a ≡ true) → marks b ≡ true
         by (inl k) = k

@@ -5,7 +5,7 @@ use Rattle.std.specs.Char.{is_ascii_alphabetic, is_ascii_alphanumeric, is_ascii_
 use Rattle.std.specs.Bool.{⊤}
 use Rattle.std.specs.Int.{IsInRange}
 use Rattle.std.specs.Str.{all_ascii_digits, bytes_eq, str_to_ascii_lowercase}
-use Rattle.std.proofs.lemmas.Bool.{and_parts, not-true, ltb-true, leb-true, le-ltb, ne_eqb}
+use Rattle.std.proofs.lemmas.Bool.{and_parts, not-true, ltb-true, leb-true, le-ltb, ne_eqb, or_parts}
 use Rattle.std.proofs.lemmas.Bool.Decides.{nat_tests}
 use Rattle.std.proofs.lemmas.Slice.Eq.{bytes_eq-Decides}
 use Rattle.std.proofs.lemmas.Fmt.{digits_decimal, decimal_nonempty}
@@ -22,10 +22,6 @@ use Rattle.token_read.proofs.Shared.FrontLaws.{front-name, front-numeral}
 use Rattle.token_read.proofs.Shared.MarkLaws.{front-double, front-single, front-last}
 use Rattle.seq_print.specs.Readable.{is_readable}
 use Rattle.seq_print.proofs.Shared.Following.{joins, parts, AreDigits}
-
-or_parts : (x y : Bool) → (x || y) ≡ false → (x ≡ false) × (y ≡ false)
-or_parts true y e = cc
-or_parts false y e = (refl, e)
 
 -- what ends a run of parts: the end, or a byte that is neither a part nor an underscore
 abbrev Ends : (ℕ → Bool) → List ℕ → Type 0

@@ -3,6 +3,7 @@
 use Rattle.std.proofs.Common.{◌≡◌, Bool, true, false, ◌&&◌, ◌||◌, List, [], ◌∷◌, filter, flat_map, if◌then◌else◌, refl, sym, ◌∙◌, ◌⊎◌, inl, inr}
 use Rattle.std.specs.List.{list_any}
 use Rattle.std.proofs.lemmas.List.Folds.{list_any-append}
+use Rattle.std.proofs.lemmas.Bool.{or_cases}
 use Rattle.seq_tree.specs.Rings.{LeadsTo, IsOnRing}
 
 ends-so : {A : Type 0} (Step : A → A → Type 0) (Ends : A → Type 0) → ((a b : A) → Step a b → Ends b) → (path : List A) (a b : A)
@@ -25,15 +26,11 @@ abbrev pub OneOf : {A : Type 0} → (A → Type 0) → List A → Type 0
 OneOf P [] = ⊥
 OneOf P (x ∷ xs) = P x ⊎ OneOf P xs
 
-either : (a b : Bool) → (a || b) ≡ true → (a ≡ true) ⊎ (b ≡ true)
-either true b h = inl refl
-either false b h = inr h
-
 -- one of a list that passes two tests, the second of which says this
 pub one-both : {A : Type 0} (p q : A → Bool) (Q : A → Type 0) → ((a : A) → q a ≡ true → Q a) → (xs : List A) → list_any (λ a. p a && q a) xs ≡ true
     → OneOf (λ a. (p a ≡ true) × Q a) xs
 one-both p q Q says [] h = cc
-one-both {A} p q Q says (x ∷ xs) h = by (one-both p q Q says xs) (either (p x && q x) _ h)
+one-both {A} p q Q says (x ∷ xs) h = by (one-both p q Q says xs) (or_cases (p x && q x) _ h)
   where
     both : (a b : Bool) → (a && b) ≡ true → (a ≡ true) × (b ≡ true)
     both true b h = (refl, h)
@@ -63,6 +60,6 @@ from-chosen {A} {B} test lists chosen (x ∷ xs) h = by (from-chosen test lists 
     by : (list_any test (flat_map lists (filter chosen xs)) ≡ true → OneOf (λ a. (chosen a ≡ true) × (list_any test (lists a) ≡ true)) xs)
         → (b : Bool) → chosen x ≡ b → list_any test (flat_map lists (if b then x ∷ filter chosen xs else filter chosen xs)) ≡ true
         → OneOf (λ a. (chosen a ≡ true) × (list_any test (lists a) ≡ true)) (x ∷ xs)
-    by rest true e k = joined (later rest (either (list_any test (lists x)) _
+    by rest true e k = joined (later rest (or_cases (list_any test (lists x)) _
         (sym (list_any-append test (lists x) (flat_map lists (filter chosen xs))) ∙ k))) e
     by rest false e k = inr (rest k)

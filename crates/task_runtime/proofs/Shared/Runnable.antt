@@ -4,6 +4,7 @@ use Rattle.std.proofs.Common.{map, refl, ap, sym, subst, ◌∙◌, arith, appen
 use Rattle.std.specs.Prelude.{◌==◌, slice_get, filter, flat_map}
 use Rattle.std.specs.List.{list_any}
 use Rattle.std.proofs.lemmas.List.Folds.{list_any-append}
+use Rattle.std.proofs.lemmas.Bool.{or_parts, and_parts}
 use Rattle.seq_tree.specs.Limits.{tick_limit}
 use Rattle.seq_tree.specs.Names.{Name, is_named, are_distinct}
 use Rattle.seq_tree.specs.Lists.{Each}
@@ -50,11 +51,6 @@ use Rattle.task_runtime.proofs.Targets.{bodies-of, heads-of, ops_of}
 no_true : true ≡ false → ⊥
 no_true h = cc
 
-or_false : (a b : Bool) → (a || b) ≡ false → (a ≡ false) × (b ≡ false)
-or_false false false e = (refl, refl)
-or_false false true e = absurd (no_true e)
-or_false true b e = absurd (no_true e)
-
 or_none : (a b : Option BodyFault) → or_else a b ≡ None → (a ≡ None) × (b ≡ None)
 or_none None b e = (refl, e)
 or_none (Some fault) b e = absurd (cc)
@@ -64,11 +60,11 @@ inside_one true e = refl
 inside_one false e = absurd (cc)
 
 some_tick : (n : ℕ) → is_outside 1 tick_limit n ≡ false → 0 < n
-some_tick n h = let low : nat_lt n 1 ≡ false = (or_false _ _ h).0 in grind arith
+some_tick n h = let low : nat_lt n 1 ≡ false = (or_parts _ _ h).0 in grind arith
 
 works_apart : (xs ys : List ℕ) → list_any (is_outside 1 tick_limit) (xs ++ ys) ≡ false → (list_any (is_outside 1 tick_limit) xs ≡ false)
     × (list_any (is_outside 1 tick_limit) ys ≡ false)
-works_apart xs ys h = or_false _ _ (sym (list_any-append (is_outside 1 tick_limit) xs ys) ∙ h)
+works_apart xs ys h = or_parts _ _ (sym (list_any-append (is_outside 1 tick_limit) xs ys) ∙ h)
 
 -- calls that are clear where statements stand
 abbrev AreClear : Spot → List OpName → Type 0
@@ -91,7 +87,7 @@ mutual
   fits_statement s d c (ExitWhen e) h i p f w k
       = i ∙ inside_one c.in_loop (or_none (expressions_fault c (condition e ∷ [])) (fault_if (not c.in_loop) Exit) f).1
   fits_statement s d c (Call object op actuals) h i p f w k = k (op_name object op) (in-one (op_name object op))
-  fits_statement s d c (Work ticks) h i p f w k = some_tick ticks (or_false (is_outside 1 tick_limit ticks) false w).0
+  fits_statement s d c (Work ticks) h i p f w k = some_tick ticks (or_parts (is_outside 1 tick_limit ticks) false w).0
   fits_statement s d c (Put e) h i p f w k = tt
 
   pub fits_block : (s : Spot) (d : ℕ) (c : Scope) (b : Statements) → 3 * (64 - d) ≤ s.room → s.inside ≡ c.in_loop → IsProperBlock limits d b
@@ -150,11 +146,6 @@ not_some : (o : Option BodyFault) → ((fault : BodyFault) → o ≡ Some fault 
 not_some None h = refl
 not_some (Some fault) h = absurd (h fault refl)
 
-and_true : (a b : Bool) → (a && b) ≡ true → (a ≡ true) × (b ≡ true)
-and_true true true e = (refl, refl)
-and_true true false e = absurd (no_true (sym e))
-and_true false b e = absurd (no_true (sym e))
-
 not_false : (b : Bool) → not b ≡ false → b ≡ true
 not_false true h = refl
 not_false false h = absurd (no_true h)
@@ -169,8 +160,8 @@ any_at : {A B : Type 0} (test : B → Bool) (f : A → List B) (xs : List A) (i 
     → list_any test (flat_map f xs) ≡ false → list_any test (f x) ≡ false
 any_at test f [] i x at h = absurd (cc)
 any_at test f (y ∷ xs) zero x at h = let same : y ≡ x = (cc)
-    in subst (λ z. list_any test (f z) ≡ false) same (or_false _ _ (sym (list_any-append test (f y) (flat_map f xs)) ∙ h)).0
-any_at test f (y ∷ xs) (suc i) x at h = any_at test f xs i x at (or_false _ _ (sym (list_any-append test (f y) (flat_map f xs)) ∙ h)).1
+    in subst (λ z. list_any test (f z) ≡ false) same (or_parts _ _ (sym (list_any-append test (f y) (flat_map f xs)) ∙ h)).0
+any_at test f (y ∷ xs) (suc i) x at h = any_at test f xs i x at (or_parts _ _ (sym (list_any-append test (f y) (flat_map f xs)) ∙ h)).1
 
 body_at : {B : Type 0} (f : Body → List B) (os : List Operation) → flat_map f (map op_body os) ≡ flat_map (λ o. f (op_body o)) os
 body_at f [] = refl
@@ -192,9 +183,9 @@ few_at : (os : List Operation) (i : ℕ) (o : Operation) → slice_get os i ≡ 
 few_at [] i o at h = absurd (cc)
 few_at (q ∷ os) zero o at h =
     let same : q ≡ o = (cc) in
-    let few : nat_lt 8 (length q.sig.params) ≡ false = (or_false _ _ h).0 in
+    let few : nat_lt 8 (length q.sig.params) ≡ false = (or_parts _ _ h).0 in
     subst (λ x. length x.sig.params ≤ 8) same (grind arith)
-few_at (q ∷ os) (suc i) o at h = few_at os i o at (or_false (nat_lt 8 (length q.sig.params)) _ h).1
+few_at (q ∷ os) (suc i) o at h = few_at os i o at (or_parts (nat_lt 8 (length q.sig.params)) _ h).1
 
 -- an operation of a proper unit is proper
 proper_op : (f : Form) (i : ℕ) (o : Operation) → IsProperForm limits f → slice_get (ops_of f) i ≡ Some o → IsProperOperation limits o
@@ -227,9 +218,9 @@ module _ (p : Program) (meets : MeetsRules p) (proper : IsProperProgram limits p
       → are_distinct (own_names u.form ++ body_names b) ≡ true
   body_distinct i u b at one =
       let clashes : list_any (body_clashes u.form) (b ∷ []) ≡ false
-      = ap (list_any (body_clashes u.form)) (sym one) ∙ (or_false _ _ (or_false _ _ (naming p meets work i u at)).0).1 in
+      = ap (list_any (body_clashes u.form)) (sym one) ∙ (or_parts _ _ (or_parts _ _ (naming p meets work i u at)).0).1 in
       not_false (are_distinct (own_names u.form ++ body_names b))
-      (or_false (not (are_distinct (own_names u.form ++ body_names b))) _ (or_false (body_clashes u.form b) false clashes).0).0
+      (or_parts (not (are_distinct (own_names u.form ++ body_names b))) _ (or_parts (body_clashes u.form b) false clashes).0).0
 
   -- an operation that is clear is ready
   pub can-call : CanCall (system_from work p.units)
@@ -240,7 +231,7 @@ module _ (p : Program) (meets : MeetsRules p) (proper : IsProperProgram limits p
       let os = ops_of u.form in
       let bodies_are : bodies u.form ≡ map op_body os = bodies-of u.form w.op o w.op_at in
       let fault : bodies_fault p u.form (map op_body os) ≡ None = sym (ap (bodies_fault p u.form) bodies_are) ∙ unit_faultless w.place u w.at in
-      let parts = or_false (numbers_break u.form || list_any (λ h. nat_lt 8 (length h.params)) (heads u.form))
+      let parts = or_parts (numbers_break u.form || list_any (λ h. nat_lt 8 (length h.params)) (heads u.form))
       (list_any (is_outside 1 tick_limit) (flat_map (λ b. block_works b.block) (bodies u.form))) (unit_ranges w.place u w.at) in
       let all_works : list_any (is_outside 1 tick_limit) (flat_map (λ b. block_works b.block) (map op_body os)) ≡ false =
       sym (ap (λ bs. list_any (is_outside 1 tick_limit) (flat_map (λ b. block_works b.block) bs)) bodies_are) ∙ parts.1 in
@@ -249,7 +240,7 @@ module _ (p : Program) (meets : MeetsRules p) (proper : IsProperProgram limits p
       (ap (list_any (is_outside 1 tick_limit)) (sym (body_at (λ b. block_works b.block) os)) ∙ all_works) in
       let proper : IsProperOperation limits o = proper_op u.form w.op o (unit_proper w.place u w.at) w.op_at in
       let few : list_any (λ h. nat_lt 8 (length h.params)) (map (λ q. q.sig) os) ≡ false =
-      sym (ap (list_any (λ h. nat_lt 8 (length h.params))) (heads-of u.form w.op o w.op_at)) ∙ (or_false (numbers_break u.form) _ parts.0).1 in
+      sym (ap (list_any (λ h. nat_lt 8 (length h.params))) (heads-of u.form w.op o w.op_at)) ∙ (or_parts (numbers_break u.form) _ parts.0).1 in
       let calls : AreClear (above (in_call s c)) (block_calls o.block) = λ d h.
       subst (λ x. IsClear x (c ∷ s.chain) d) (sym same)
       (clear-next z s.chain c d (no-ring p meets work) clear (ap (λ x. is_in (calls_by x) d) e ∙ h)
@@ -270,7 +261,7 @@ module _ (p : Program) (meets : MeetsRules p) (proper : IsProperProgram limits p
   task_body (timing.Periodic offset period) i name priority vars block at =
       let u : Unit = record { name = name; form = Cyclic priority offset period vars block } in
       let b : Body = record { params = []; locals = []; block = block } in
-      let works = (or_false (numbers_break u.form || false) _ (unit_ranges i u at)).1 in
+      let works = (or_parts (numbers_break u.form || false) _ (unit_ranges i u at)).1 in
       record {
         fault = (or_none (block_fault (scope p u.form b) block) None (unit_faultless i u at)).0;
         works = ap (list_any (is_outside 1 tick_limit)) (sym (append-nil (block_works block))) ∙ works;
@@ -281,7 +272,7 @@ module _ (p : Program) (meets : MeetsRules p) (proper : IsProperProgram limits p
   task_body (timing.Requested op ceiling separation jitter external) i name priority vars block at =
       let u : Unit = record { name = name; form = Sporadic priority ceiling (signature_of op.now) separation jitter external vars block } in
       let b : Body = record { params = op.now.params.items; locals = []; block = block } in
-      let works = (or_false (numbers_break u.form || (nat_lt 8 (length op.now.params.items) || false)) _ (unit_ranges i u at)).1 in
+      let works = (or_parts (numbers_break u.form || (nat_lt 8 (length op.now.params.items) || false)) _ (unit_ranges i u at)).1 in
       let all = body_distinct i u b at refl in
       record {
         fault = (or_none (block_fault (scope p u.form b) block) None (unit_faultless i u at)).0;
@@ -289,7 +280,7 @@ module _ (p : Program) (meets : MeetsRules p) (proper : IsProperProgram limits p
         calls = λ c h. leads-somewhere p meets work i u at c (in-append (block_calls block) [] c h);
         proper = (unit_proper i u at).4;
         distinct = ap (λ ns. are_distinct (map (λ d. d.name) vars ++ ns)) (sym (append-nil (map (λ q. q.name) op.now.params.items)))
-            ∙ (and_true (not (is_named (map (λ d. d.name) vars ++ (map (λ q. q.name) op.now.params.items ++ [])) op.now.name)) _ all).1;
+            ∙ (and_parts (not (is_named (map (λ d. d.name) vars ++ (map (λ q. q.name) op.now.params.items ++ [])) op.now.name)) _ all).1;
       }
 
   -- the first nominal time of a task
@@ -299,7 +290,7 @@ module _ (p : Program) (meets : MeetsRules p) (proper : IsProperProgram limits p
   near-offset (timing.Periodic offset period) i name priority vars block at =
       let numbers = unit_ranges i (record { name = name; form = Cyclic priority offset period vars block }) at in
       let low : nat_lt tick_limit offset ≡ false
-      = (or_false (is_outside 1 60 priority || is_outside 1 tick_limit period) _ (or_false _ _ (or_false _ _ numbers).0).0).1 in
+      = (or_parts (is_outside 1 60 priority || is_outside 1 tick_limit period) _ (or_parts _ _ (or_parts _ _ numbers).0).0).1 in
       near offset low
     where
       near : (n : ℕ) → nat_lt tick_limit n ≡ false → n < 2 ^ 32
@@ -325,6 +316,6 @@ module _ (p : Program) (meets : MeetsRules p) (proper : IsProperProgram limits p
 pub whole : (p : Program) → MeetsRules p → (costs_break p.costs ≡ false) × (length p.units ≤ 500)
 whole p meets =
     let keeps : whole_breaks p ≡ false = not_true (whole_breaks p) (λ breaks. meets Ranges Whole breaks) in
-    let outer = or_false (costs_break p.costs || nat_lt 30 (length (filter (λ u. is_task u.form) p.units))) (nat_lt 500 (length p.units)) keeps in
+    let outer = or_parts (costs_break p.costs || nat_lt 30 (length (filter (λ u. is_task u.form) p.units))) (nat_lt 500 (length p.units)) keeps in
     let few : nat_lt 500 (length p.units) ≡ false = outer.1 in
-    ((or_false (costs_break p.costs) (nat_lt 30 (length (filter (λ u. is_task u.form) p.units))) outer.0).0, grind arith)
+    ((or_parts (costs_break p.costs) (nat_lt 30 (length (filter (λ u. is_task u.form) p.units))) outer.0).0, grind arith)

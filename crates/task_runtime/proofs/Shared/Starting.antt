@@ -2,6 +2,7 @@
 use Rattle.std.proofs.Common.{◌≡◌, ℕ, suc, ◌+◌, ◌≤◌, ◌<◌, Bool, true, false, ◌||◌, List, [], ◌∷◌, min, length, fold, map, refl, ap, sym, ◌∙◌}
 use Rattle.std.proofs.Common.{arith, nat_lt, Option, Some, None}
 use Rattle.std.specs.Prelude.{nat_le}
+use Rattle.std.proofs.lemmas.Bool.{or_parts}
 use Rattle.seq_tree.specs.Names.{Name}
 use Rattle.seq_tree.specs.Statements.{Statement, Statements, Branches, Null, Assign, If, For, ExitWhen, Call, Work, Put, End, Then, Nothing}
 use Rattle.seq_tree.specs.Statements.{Else, When}
@@ -28,11 +29,6 @@ use Rattle.task_runtime.proofs.Shared.Frames.{first-frame}
 no_true : true ≡ false → ⊥
 no_true h = cc
 
-or_false : (a b : Bool) → (a || b) ≡ false → (a ≡ false) × (b ≡ false)
-or_false false false e = (refl, refl)
-or_false false true e = absurd (no_true e)
-or_false true b e = absurd (no_true e)
-
 -- each statement takes a tick
 pub record AreTicking (c : Costs) : Type 0 where
   pub assign : 0 < c.assign
@@ -44,17 +40,17 @@ pub record AreTicking (c : Costs) : Type 0 where
   pub finish : 0 < c.finish
 
 some_tick : (n : ℕ) → is_outside 1 1000 n ≡ false → 0 < n
-some_tick n h = let low : nat_lt n 1 ≡ false = (or_false _ _ h).0 in grind arith
+some_tick n h = let low : nat_lt n 1 ≡ false = (or_parts _ _ h).0 in grind arith
 
 pub ticking : (c : Costs) → costs_break c ≡ false → AreTicking c
 ticking c h =
-    let a = or_false (is_outside 1 1000 c.assign) _ h in
-    let b = or_false (is_outside 1 1000 c.test) _ a.1 in
-    let d = or_false (is_outside 1 1000 c.turn) _ b.1 in
-    let e = or_false (is_outside 1 1000 c.call) _ d.1 in
-    let f = or_false (is_outside 1 1000 c.«nothing») _ e.1 in
-    let g = or_false (is_outside 1 1000 c.put) _ f.1 in
-    let i = or_false (is_outside 1 1000 c.finish) _ g.1 in
+    let a = or_parts (is_outside 1 1000 c.assign) _ h in
+    let b = or_parts (is_outside 1 1000 c.test) _ a.1 in
+    let d = or_parts (is_outside 1 1000 c.turn) _ b.1 in
+    let e = or_parts (is_outside 1 1000 c.call) _ d.1 in
+    let f = or_parts (is_outside 1 1000 c.«nothing») _ e.1 in
+    let g = or_parts (is_outside 1 1000 c.put) _ f.1 in
+    let i = or_parts (is_outside 1 1000 c.finish) _ g.1 in
     record {
       assign = some_tick c.assign a.0;
       test = some_tick c.test b.0;

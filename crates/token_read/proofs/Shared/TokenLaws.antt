@@ -10,7 +10,8 @@ use Rattle.seq_tree.specs.declared.token.Token.TheVariants as token
 use Rattle.seq_tree.specs.declared.token.Mark.{Mark}
 use Rattle.seq_tree.specs.declared.token.Mark.TheVariants as mark
 use Rattle.token_read.specs.Words.{number_of, same_mark, same_token}
-use Rattle.token_read.specs.Readers.{sees_fixed, fixed_at, phrase_at, sees_number, number_at, is_within, sees_number_within, number_within_at}
+use Rattle.token_read.specs.Readers.{sees_fixed, fixed_at, phrase_at, sees_number, number_at, sees_number_within, number_within_at}
+use Rattle.seq_tree.specs.Limits.{is_within}
 use Rattle.token_read.specs.Readers.{sees_name, name_at}
 
 -- any token may follow

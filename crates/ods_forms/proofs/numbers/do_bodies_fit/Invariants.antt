@@ -1,7 +1,7 @@
 use Rattle.std.proofs.Common.{◌≡◌, map, drop, flat_map}
 use Rattle.std.specs.List.{list_all}
 use Rattle.seq_tree.specs.Calls.{block_works}
-use Rattle.ods_tree.specs.Sound.{is_within}
+use Rattle.seq_tree.specs.Limits.{is_within}
 use Rattle.ods_tree.specs.Trees.{body_of}
 use Rattle.ods_forms.specs.Limits.{most_ticks}
 use Rattle.ods_forms.proofs.numbers.do_bodies_fit.Given as goal

@@ -5,7 +5,7 @@ use Rattle.seq_tree.specs.Statements.{If, Nothing}
 use Rattle.seq_tree.specs.Trees.{arm_of, block_of, branches_of, otherwise, statement_of, statements_of}
 use Rattle.seq_tree.specs.declared.tree.Arm.{Arm}
 use Rattle.seq_tree.specs.declared.tree.Stmt.{Stmt, the_lemmas}
-use Rattle.ods_tree.specs.Sound.{is_within}
+use Rattle.seq_tree.specs.Limits.{is_within}
 use Rattle.ods_forms.proofs.LoopSteps.{passed_step}
 use Rattle.ods_forms.proofs.WorkSteps.{arms_fit, arms_misfit}
 use Rattle.ods_forms.specs.Limits.{most_ticks}

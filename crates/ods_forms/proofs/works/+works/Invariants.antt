@@ -3,7 +3,7 @@ use Rattle.std.specs.List.{list_all}
 use Rattle.seq_tree.specs.Calls.{block_works, branch_works}
 use Rattle.seq_tree.specs.Statements.{Nothing}
 use Rattle.seq_tree.specs.Trees.{arm_of, branches_of, statement_of, statements_of}
-use Rattle.ods_tree.specs.Sound.{is_within}
+use Rattle.seq_tree.specs.Limits.{is_within}
 use Rattle.ods_forms.specs.Limits.{most_ticks}
 use Rattle.ods_forms.proofs.works.+works.Given as goal
 

@@ -1,8 +1,7 @@
 use Rattle.std.proofs.Common.{◌≡◌, ◌∙◌, ◌+◌, ◌≤◌, true, false, filter, fold, length, map, arith, ap, sym}
-use Rattle.std.proofs.lemmas.Bool.{eqb-true}
+use Rattle.std.proofs.lemmas.Bool.{eqb-true, and_parts}
 use Rattle.std.specs.Prelude.{max, ◌==◌}
 use Rattle.std.specs.List.{list_any}
-use Rattle.seq_tree.proofs.Shared.Walks.{both}
 use Rattle.name_sets.specs.Places.{place_in}
 use Rattle.ods_tree.specs.Trees.{design_of}
 use Rattle.design_rules.specs.Rings.{thread_objects}
@@ -37,7 +36,7 @@ returns-in-Some c shown =
     let some : list_any (λ f. reaches x f o.name) (thread_objects x) ≡ true =
     sym (c.requires.reached o.name) ∙ ap (λ n. is_there (place_in self.reached n)) (sym (own-name c.args.node.now))
     ∙ ap is_there (sym c.get.ensures ∙ c.in-Some.is) in
-    let parts = both (out == 0) (is_once self.once o.name) (sym c.is_alone.ensures ∙ shown) in
+    let parts = and_parts (out == 0) (is_once self.once o.name) (sym c.is_alone.ensures ∙ shown) in
     let none : out ≡ 0 = eqb-true out 0 parts.0 in
     let least = some-reached x o.name (thread_objects x) some in
     let most = c.requires.alone o.name parts.1 in

@@ -1,4 +1,4 @@
--- Calls that are added one after another, and that what is found at the end are the different calls.
+-- Calls that are added one after another, those that are written among them, and that what is found at the end are the different calls.
 use Rattle.std.proofs.Common.{◌≡◌, Bool, true, false, not, ◌&&◌, ◌||◌, List, [], ◌∷◌, ◌++◌, cond, refl, ap, sym, ◌∙◌, append-nil}
 use Rattle.std.specs.Prelude.{filter, map, if◌then◌else◌}
 use Rattle.std.specs.List.{list_any}
@@ -7,12 +7,16 @@ use Rattle.std.proofs.lemmas.Slice.Eq.{bytes_eq-Decides}
 use Rattle.std.proofs.lemmas.Bool.{and_parts}
 use Rattle.seq_tree.specs.Names.{same_name}
 use Rattle.seq_tree.specs.Expressions.{Expression}
-use Rattle.seq_tree.specs.Statements.{Statements, Branches, Nothing}
-use Rattle.seq_tree.specs.Calls.{block_calls, branch_calls, same_op}
+use Rattle.seq_tree.specs.Statements.{Statement, Statements, Branches, Null, Assign, If, For, ExitWhen, Call, Work, Put, End, Then}
+use Rattle.seq_tree.specs.Statements.{Nothing, Else, When}
+use Rattle.seq_tree.specs.Calls.{block_calls, branch_calls, same_op, statement_calls}
 use Rattle.seq_tree.specs.Trees.{branches_of}
 use Rattle.seq_tree.specs.declared.tree.OpName.{OpName}
 use Rattle.seq_cost.specs.Different.{call_of, different}
-use Rattle.seq_cost.specs.declared.written.Call.{Call}
+use Rattle.seq_cost.specs.Gathered.{block_gathered, branch_gathered, statement_gathered}
+use Rattle.seq_cost.specs.declared.written.Call as code
+use Rattle.seq_cost.specs.declared.written.Gathered.{Gathered}
+use Rattle.seq_cost.specs.declared.written.Gathered.TheVariants.{Written}
 
 -- what was found, with this call where it isn't among it
 abbrev pub with_call : List OpName → OpName → List OpName
@@ -28,11 +32,32 @@ joined [] ys zs = refl
 joined (x ∷ xs) ys zs = ap (λ l. x ∷ l) (joined xs ys zs)
 
 -- the calls of an `else` come after those of the arms
-pub branch-append : (arms : List (Expression × Statements)) (others : Branches)
-    → branch_calls (branches_of arms others) ≡ branch_calls (branches_of arms Nothing) ++ branch_calls others
-branch-append [] others = refl
-branch-append (arm ∷ arms) others = ap (λ l. block_calls arm.1 ++ l) (branch-append arms others) ∙ joined (block_calls arm.1)
-    (branch_calls (branches_of arms Nothing)) (branch_calls others)
+pub branch-append : (how : Gathered) (arms : List (Expression × Statements)) (others : Branches)
+    → branch_gathered how (branches_of arms others) ≡ branch_gathered how (branches_of arms Nothing) ++ branch_gathered how others
+branch-append how [] others = refl
+branch-append how (arm ∷ arms) others = ap (λ l. block_gathered how arm.1 ++ l) (branch-append how arms others)
+    ∙ joined (block_gathered how arm.1) (branch_gathered how (branches_of arms Nothing)) (branch_gathered how others)
+
+-- those that are gathered as they are written
+mutual
+  written-statement : (s : Statement) → statement_gathered Written s ≡ statement_calls s
+  written-statement Null = refl
+  written-statement (Assign target e) = refl
+  written-statement (If branches) = written-branches branches
+  written-statement (For name low high body) = written-block body
+  written-statement (ExitWhen condition) = refl
+  written-statement (Call object op actuals) = refl
+  written-statement (Work ticks) = refl
+  written-statement (Put e) = refl
+
+  pub written-block : (b : Statements) → block_gathered Written b ≡ block_calls b
+  written-block End = refl
+  written-block (Then first rest) = rw (written-statement first, written-block rest) refl
+
+  written-branches : (b : Branches) → branch_gathered Written b ≡ branch_calls b
+  written-branches Nothing = refl
+  written-branches (Else block) = written-block block
+  written-branches (When condition block others) = rw (written-block block, written-branches others) refl
 
 -- whether a call is not among those that were found
 abbrev is_new : List OpName → OpName → Bool
@@ -101,8 +126,8 @@ all-new (c ∷ cs) = ap (λ l. c ∷ l) (all-new cs)
 pub all-different : (cs : List OpName) → with_calls [] cs ≡ different cs
 all-different cs = with-different cs [] ∙ all-new (different cs)
 
--- calls that were pushed
-pub pushed : (found : List Call) (c : Call) → map call_of (found ++ c ∷ []) ≡ map call_of found ++ call_of c ∷ []
+-- a call that was pushed
+pub pushed : (found : List code.Call) (c : code.Call) → map call_of (found ++ c ∷ []) ≡ map call_of found ++ call_of c ∷ []
 pushed [] c = refl
 pushed (d ∷ found) c = ap (λ l. call_of d ∷ l) (pushed found c)
 

@@ -1,4 +1,5 @@
 pub mod Callees
 pub mod Counting
 pub mod Different
+pub mod Gathered
 pub mod Over

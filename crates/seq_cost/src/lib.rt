@@ -2,7 +2,8 @@
 //!
 //! It stands on seq_tree, which has the trees and what the dearest path through one is. `cost` carries the promise: the ticks of
 //! the dearest path, exactly where they are at most 1,000,000,000, and else the first statement that brings the sum over that.
-//! `starts` and `starts_through` count calls along a path by the same definition, and `calls` lists the different calls.
+//! `starts` and `starts_through` count calls along a path by the same definition, and `calls` lists the different calls. `gathered_calls`
+//! is the walk that gathers calls: as they are written, or outside loops of no turn.
 //!
 //! `cost` and `starts_through` search their list for each call. Where there are many callees, `cost_by`, `capped_cost`,
 //! `starts_by` and `counted_by` take any account of them, as the `OpTable` of `name_sets`, which searches by halves.
@@ -23,4 +24,4 @@ mod written;
 pub use accounts::{Account, Callee, Started};
 pub use starting::{counted_by, starts, starts_by, starts_through};
 pub use ticks::{TooDear, capped_cost, cost, cost_by};
-pub use written::{Call, calls, written_calls};
+pub use written::{Call, Gathered, calls, gathered_calls, written_calls};

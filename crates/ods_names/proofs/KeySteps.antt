@@ -31,24 +31,31 @@ ends_agree op o name n = go (same_name op o) (same_name name n) refl
     go true false h = and-false (end_of name == end_of n)
     go false b h = and-false (end_of name == end_of n)
 
+-- the two names come last, and the ends before them
+regrouped : (x c d e : Bool) → (((x && c) && d) && e) ≡ (x && (c && (d && e)))
+regrouped true true d e = refl
+regrouped true false d e = refl
+regrouped false c d e = refl
+
 -- a name that was added, or one that was there
 pub added_key : (place number p q : ℕ) (op name o n : List ℕ) (old : Bool) →
-    cond (is_eq (ordering_then (ordering_then (nat_cmp place p) (nat_cmp number q)) (ordering_then (nat_cmp (end_of name) (end_of n))
-    (ordering_then (slice_cmp nat_cmp op o) (slice_cmp nat_cmp name n))))) true old
+    cond (is_eq (ordering_then (ordering_then (ordering_then (ordering_then (nat_cmp place p) (nat_cmp number q)) (nat_cmp (end_of name) (end_of n)))
+    (slice_cmp nat_cmp op o)) (slice_cmp nat_cmp name n))) true old
     ≡ (((place == p && number == q) && (same_name op o && same_name name n)) || old)
 added_key place number p q op name o n old =
     let numbers = ordering_then (nat_cmp place p) (nat_cmp number q) in
     let ends = nat_cmp (end_of name) (end_of n) in
-    let names = ordering_then (slice_cmp nat_cmp op o) (slice_cmp nat_cmp name n) in
-    either (is_eq (ordering_then numbers (ordering_then ends names))) old
-    ∙ ap (λ b. b || old) (is_eq-then numbers (ordering_then ends names))
-    ∙ ap (λ b. (b && is_eq (ordering_then ends names)) || old) (is_eq-then (nat_cmp place p) (nat_cmp number q))
-    ∙ ap (λ b. ((b && is_eq (nat_cmp number q)) && is_eq (ordering_then ends names)) || old) (unsigned_tied place p)
-    ∙ ap (λ b. ((place == p && b) && is_eq (ordering_then ends names)) || old) (unsigned_tied number q)
-    ∙ ap (λ b. ((place == p && number == q) && b) || old) (is_eq-then ends names)
-    ∙ ap (λ b. ((place == p && number == q) && (b && is_eq names)) || old) (unsigned_tied (end_of name) (end_of n))
-    ∙ ap (λ b. ((place == p && number == q) && (end_of name == end_of n && b)) || old)
-    (is_eq-then (slice_cmp nat_cmp op o) (slice_cmp nat_cmp name n))
-    ∙ ap (λ b. ((place == p && number == q) && (end_of name == end_of n && (b && is_eq (slice_cmp nat_cmp name n)))) || old) (is_eq-slice_cmp op o)
-    ∙ ap (λ b. ((place == p && number == q) && (end_of name == end_of n && (same_name op o && b))) || old) (is_eq-slice_cmp name n)
+    let ops = slice_cmp nat_cmp op o in
+    let names = slice_cmp nat_cmp name n in
+    either (is_eq (ordering_then (ordering_then (ordering_then numbers ends) ops) names)) old
+    ∙ ap (λ b. b || old) (is_eq-then (ordering_then (ordering_then numbers ends) ops) names)
+    ∙ ap (λ b. (b && is_eq names) || old) (is_eq-then (ordering_then numbers ends) ops)
+    ∙ ap (λ b. ((b && is_eq ops) && is_eq names) || old) (is_eq-then numbers ends)
+    ∙ ap (λ b. (((b && is_eq ends) && is_eq ops) && is_eq names) || old) (is_eq-then (nat_cmp place p) (nat_cmp number q))
+    ∙ ap (λ b. ((((b && is_eq (nat_cmp number q)) && is_eq ends) && is_eq ops) && is_eq names) || old) (unsigned_tied place p)
+    ∙ ap (λ b. ((((place == p && b) && is_eq ends) && is_eq ops) && is_eq names) || old) (unsigned_tied number q)
+    ∙ ap (λ b. ((((place == p && number == q) && b) && is_eq ops) && is_eq names) || old) (unsigned_tied (end_of name) (end_of n))
+    ∙ ap (λ b. ((((place == p && number == q) && (end_of name == end_of n)) && b) && is_eq names) || old) (is_eq-slice_cmp op o)
+    ∙ ap (λ b. ((((place == p && number == q) && (end_of name == end_of n)) && same_name op o) && b) || old) (is_eq-slice_cmp name n)
+    ∙ ap (λ b. b || old) (regrouped (place == p && number == q) (end_of name == end_of n) (same_name op o) (same_name name n))
     ∙ ap (λ b. ((place == p && number == q) && b) || old) (ends_agree op o name n)

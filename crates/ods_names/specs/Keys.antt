@@ -15,5 +15,5 @@ end_of name = number_behind 0 name
 -- whether a set has a name with these numbers and this further name
 unfoldable pub has_key : Keys → ℕ → ℕ → Name → Name → Bool
 has_key s place number op name =
-    contains_by (λ k. ordering_then (ordering_then (nat_cmp place k.0.0) (nat_cmp number k.0.1)) (ordering_then (nat_cmp (end_of name) k.1.0)
-    (ordering_then (slice_cmp nat_cmp op k.1.1.0.now) (slice_cmp nat_cmp name k.1.1.1.now)))) s.set
+    contains_by (λ k. ordering_then (ordering_then (ordering_then (ordering_then (nat_cmp place k.0) (nat_cmp number k.1)) (nat_cmp (end_of name) k.2))
+    (slice_cmp nat_cmp op k.3.now)) (slice_cmp nat_cmp name k.4.now)) s.set

@@ -10,7 +10,7 @@ use std::collections::BTreeSet;
 /// the same.
 #[derive(Drop)]
 pub(crate) struct Keys<'a> {
-    set: BTreeSet<((usize, usize), (u64, (&'a [u8], &'a [u8])))>,
+    set: BTreeSet<(usize, usize, u64, &'a [u8], &'a [u8])>,
 }
 
 /// The last eight bytes of a name, as a number.
@@ -41,8 +41,7 @@ impl<'a> Keys<'a> {
     pub(crate) fn has(&self, place: usize, number: usize, op: &'a [u8], name: &'a [u8]) -> bool
         ensures { result ≡ has_key self.now place number op.entry.now name.entry.now }
     {
-        self.set
-            .contains(&((place, number), (end_of(name), (op, name))))
+        self.set.contains(&(place, number, end_of(name), op, name))
     }
 
     /// Adds a name with these numbers and this further name.
@@ -57,8 +56,7 @@ impl<'a> Keys<'a> {
         ensures { OnOk result ((p q : ℕ) (o n : NameTree) → has_key self.new p q o n
             ≡ (((place == p && number == q) && (same_name op.entry.now o && same_name name.entry.now n)) || has_key self.old p q o n)) }
     {
-        self.set
-            .insert(((place, number), (end_of(name), (op, name))))?;
+        self.set.insert((place, number, end_of(name), op, name))?;
         Ok(())
     }
 

@@ -9,7 +9,6 @@ pub returns : goal.returns
 unfolding has_key
 returns c =
     c.contains.ensures
-    ∙ ap (λ e. contains_by (λ k. ordering_then (ordering_then (nat_cmp c.args.place k.0.0) (nat_cmp c.args.number k.0.1))
-    (ordering_then (nat_cmp e k.1.0) (ordering_then (slice_cmp nat_cmp c.args.op.now k.1.1.0.now)
-    (slice_cmp nat_cmp c.args.name.now k.1.1.1.now)))) c.args.self.now.set)
+    ∙ ap (λ e. contains_by (λ k. ordering_then (ordering_then (ordering_then (ordering_then (nat_cmp c.args.place k.0) (nat_cmp c.args.number k.1))
+    (nat_cmp e k.2)) (slice_cmp nat_cmp c.args.op.now k.3.now)) (slice_cmp nat_cmp c.args.name.now k.4.now)) c.args.self.now.set)
     c.end_of.ensures

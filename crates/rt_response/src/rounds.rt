@@ -10,7 +10,8 @@ use crate::sides::next_round;
 /// The most rows that a table has.
 const MOST_ROWS: usize = 30;
 
-/// Goes on from round to round until a round is as the one before it, or a value is over its limit.
+/// Goes on from round to round until a round is as the one before it, or a value is over its limit. The two vectors take turns, so
+/// that each round is computed beside the one before, and none is moved.
 fn settle(table: &[ThreadRow], bounds: &mut [Bound], next: &mut [Bound]) -> Result<(), Miss>
     requires table { IsTable table.now }
     requires zeros { bounds.old ≡ before_round table.now 0 }
@@ -20,14 +21,23 @@ fn settle(table: &[ThreadRow], bounds: &mut [Bound], next: &mut [Bound]) -> Resu
     ensures none { IfErr result (λ _. (v : List Value) → Fits table.now v → ⊥) }
 {
     let mut round = 0;
+    let mut first = true;
     'rounds: loop {
-        if let Err(excess) = next_round(table, bounds, next) {
+        if let Err(excess) = next_round(table, bounds, next, first) {
             return Err(excess.in_round(round));
         }
         if *next == *bounds {
             return Ok(());
         }
-        bounds.copy_from_slice(next);
+        round += 1;
+        first = false;
+        if let Err(excess) = next_round(table, next, bounds, first) {
+            bounds.copy_from_slice(next);
+            return Err(excess.in_round(round));
+        }
+        if *bounds == *next {
+            return Ok(());
+        }
         round += 1;
     }
 }

@@ -1,4 +1,5 @@
-use Rattle.std.proofs.Common.{◌≡◌, ◌-◌, length}
+use Rattle.std.proofs.Common.{◌≡◌, ◌-◌, length, false}
+use Rattle.rt_response.specs.Response.{right_sides}
 use Rattle.rt_response.proofs.Shared.Solving.{total, IsReached}
 use Rattle.rt_response.proofs.rounds.settle.Given as goal
 
@@ -6,6 +7,7 @@ abbrev pub invariant-rounds : goal.invariant-rounds
 invariant-rounds l = record {
   reached : IsReached l.table l.round l.bounds;
   long : length l.next ≡ length l.table;
+  follows : l.first ≡ false → l.bounds ≡ right_sides l.table l.next;
 }
 
 -- the values rise, and stay within their limits

@@ -71,7 +71,8 @@ fn response_of(table: &[ThreadRow], from: &[Bound], index: usize, keeps: bool) -
     let (rows_before, _) = table.split_at(index);
     let (bounds_before, _) = from.split_at(index);
     let row = &table[index];
-    u128::from(row.block) + u128::from(row.cost) + all_interference(rows_before, bounds_before, response)
+    let taken = all_interference(rows_before, bounds_before, response);
+    u128::from(row.block) + u128::from(row.cost) + taken
 }
 
 /// The right side of a row's equation, or what of it is over its limit.
@@ -100,7 +101,12 @@ fn is_steady(steady: bool, old: u32, new: u32) -> bool
 ///
 /// But for the first round, `into` holds the vector from which this one was computed. A row whose response did not change between
 /// the two, and above which no jitter changed, keeps its response, so that most rounds compute the responses of the last rows alone.
-pub fn next_round(table: &[ThreadRow], from: &[Bound], into: &mut [Bound], first: bool) -> Result<(), Excess>
+pub fn next_round(
+    table: &[ThreadRow],
+    from: &[Bound],
+    into: &mut [Bound],
+    first: bool,
+) -> Result<(), Excess>
     requires table { IsTable table.now }
     requires within { IsWithinLimits table.now from.now }
     requires long { length into.old ≡ length table.now }

@@ -1,5 +1,5 @@
 -- A row keeps its response where neither its own nor a jitter above it changed: its right side depends on nothing else.
-use Rattle.std.specs.Prelude.{◌≡◌, ℕ, zero, suc, ◌+◌, ◌*◌, ◌<◌, List, [], ◌∷◌, length, zip, take, drop, set, get_or, fold, sum_by, slice_get, Some, None, refl}
+use Rattle.std.specs.Prelude.{◌≡◌, ℕ, zero, suc, ◌+◌, ◌<◌, List, [], ◌∷◌, length, zip, take, drop, set, get_or, fold, sum_by, slice_get, Some, None, refl}
 use Rattle.std.specs.Prelude.{Bool, true, false, not}
 use Rattle.std.proofs.Common.{sym, ◌∙◌, ap, ap₂, arith, add-zero, add-one}
 use Rattle.std.proofs.lemmas.List.{drop-set-lt, get_or-drop}
@@ -7,7 +7,7 @@ use Rattle.std.proofs.lemmas.Option.{slice_get-get_or}
 use borrow.Author.Count.{below_more}
 use Rattle.rt_response.specs.declared.rows.ThreadRow.{ThreadRow}
 use Rattle.rt_response.specs.declared.rows.Bound.{Bound}
-use Rattle.rt_response.specs.Response.{Entry, interference, response_after, jitter_by, right_sides}
+use Rattle.rt_response.specs.Response.{interference, response_after, right_sides}
 use Rattle.rt_response.specs.Entries.{IsKept}
 use Rattle.rt_response.proofs.Shared.Places.{right_sides-at}
 

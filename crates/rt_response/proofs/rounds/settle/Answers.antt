@@ -2,7 +2,7 @@ use Rattle.std.proofs.Common.{◌+◌, List, arith, sym, subst, ◌∙◌}
 use Rattle.rt_response.specs.declared.rows.Bound.{Bound}
 use Rattle.rt_response.specs.Response.{IsLeastVector}
 use Rattle.rt_response.proofs.Shared.Least.{miss-none_fits}
-use Rattle.rt_response.proofs.Shared.Solving.{total, reached-first, reached-few, reached-next, reached-least, reached-miss, bounds_eq-Decides}
+use Rattle.rt_response.proofs.Shared.Solving.{reached-first, reached-few, reached-next, reached-least, reached-miss, bounds_eq-Decides}
 use Rattle.rt_response.proofs.Shared.Solving.{bounds_differ}
 use Rattle.rt_response.proofs.rounds.settle.Goals as goal
 

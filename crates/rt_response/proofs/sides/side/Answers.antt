@@ -1,4 +1,3 @@
-use Rattle.std.proofs.Common.{arith}
 use Rattle.std.proofs.lemmas.Slice.Zip.{AllZip-long}
 use Rattle.rt_response.proofs.Shared.Places.{each-at, entries-within, entries-reach, right_sides-at, side-found, side-over}
 use Rattle.rt_response.proofs.sides.side.Goals as goal

@@ -15,9 +15,8 @@ use ods_forms::{
 };
 use ods_index::{Broken, Index};
 use ods_names::{first_absent, first_clash, first_forbidden, first_kept_name, first_stranger};
-use ods_starts::{
-    first_bad_source, first_bad_spacing, first_ringed_object, first_ringed_op, first_ringed_thread,
-};
+use ods_rings::{first_ringed_object, first_ringed_op, first_ringed_thread};
+use ods_sources::{first_bad_source, first_bad_spacing};
 use ods_tree::Design;
 use std::alloc::Global;
 

@@ -1,11 +1,1 @@
-pub mod Graphed
-pub mod Guarded
-pub mod Ranked
-pub mod Reaching
-pub mod Requested
-pub mod Requesters
-pub mod Singles
-pub mod Sourced
-pub mod Spacings
 pub mod Spreading
-pub mod Starting

@@ -1,7 +1,6 @@
 -- What threads can start: the operations that a thread calls, itself or through protected operations, found level by level.
 -- Each operation is found once, in the order in which calls lead to it.
-use Rattle.std.specs.Prelude.{◌≡◌, ℕ, zero, suc, Bool, true, false, List, [], ◌∷◌, ◌++◌, map, filter, flat_map, drop, length, Option, Some}
-use Rattle.std.specs.Prelude.{None, if◌then◌else◌}
+use Rattle.std.specs.Prelude.{◌≡◌, ℕ, zero, suc, Bool, List, [], ◌∷◌, ◌++◌, map, filter, flat_map, drop, length, if◌then◌else◌, option_to_list}
 use Rattle.std.specs.List.{list_any}
 use Rattle.seq_tree.specs.Calls.{block_calls, same_op}
 use Rattle.seq_tree.specs.Names.{Name, same_name}
@@ -12,15 +11,10 @@ use Rattle.name_sets.specs.declared.sets.Ops.{Ops}
 use Rattle.ods_tree.specs.Designs.{Body, Object, Design}
 use Rattle.ods_tree.specs.Links.{resolve}
 use Rattle.ods_tree.specs.Walk.{Standing}
-use Rattle.design_rules.specs.Rings.{thread_calls}
+use Rattle.design_rules.specs.Rings.{thread_calls, meant_calls}
 use Rattle.ods_index.specs.Linked.{op_of}
 use Rattle.ods_starts.specs.declared.starts.BodyCalls.{BodyCalls}
 use Rattle.ods_starts.specs.declared.starts.Inner.{Inner}
-
--- whether there is something
-abbrev pub is_there : {A : Type 0} → Option A → Bool
-is_there None = false
-is_there (Some a) = true
 
 -- the operations that are kept for a name
 unfoldable pub body_at : BodyCalls → Name → List OpName
@@ -61,3 +55,7 @@ IsSeen s all = (n : OpName) → has_op s n ≡ list_any (same_op n) all
 -- whether the thread of an object calls an operation of an object of this name, itself or through protected operations
 abbrev pub reaches : Design → Object → Name → Bool
 reaches x from name = list_any (λ c. same_name c.object name) (thread_calls x from)
+
+-- what the thread of an object calls itself
+abbrev pub direct_calls : Design → Object → List OpName
+direct_calls x o = flat_map (meant_calls x o) (option_to_list o.thread)

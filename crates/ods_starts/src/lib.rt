@@ -1,27 +1,18 @@
-//! The rules on calls and starts in a design: the first offender against V09, V10 and V16.
+//! What the threads of a design call and start: themselves, and through protected operations, links followed.
 //!
-//! It stands on the index of `ods_index`, the rules of `design_rules`, the rings of `rings` and the calls of `seq_cost`.
-//! Each call carries its promise: it is silent exactly where nothing offends against its rule, and else tells the first that does.
+//! It stands on the index of `ods_index`, the rules of `design_rules` and the calls of `seq_cost`. `Starts` carries its promise: what a
+//! thread calls is found so deep as there are operations, each once. The rules on rings, sources and spacings stand on it.
+//!
+//! Other crates may cite these proofs of it (`proofs/Shared`):
+//!
+//! - `FilterSteps`: a step of a loop that gathers the items of a list that pass two tests.
+//! - `KeptCalls`: what was added behind a list that is kept, and an operation more in the set of those that were found.
+//! - `LoopEnds`: what has been added at the end of a loop over a list.
+//! - `SpreadLaws`: what is found level by level is what calls lead to, so deep as there are levels.
 #![tactic(auto)]
 
-mod call_edges;
-mod call_rings;
-mod callers;
-mod held;
-mod object_rings;
-mod once;
-mod ranks;
-mod reacher;
-mod requests;
-mod rising;
-mod separations;
-mod sources;
-mod start_rings;
 mod starts;
 
-pub use call_rings::first_ringed_op;
-pub use object_rings::first_ringed_object;
-pub use separations::first_bad_spacing;
-pub use sources::first_bad_source;
-pub use start_rings::first_ringed_thread;
-pub use starts::threads_of;
+pub use starts::{
+    BodyCalls, Inner, Starts, find_all, follow_all, meant_calls, search, thread_starts, threads_of,
+};

@@ -1,5 +1,5 @@
-ghost use Rattle.std.specs.Prelude.{◌≡◌, ◌≤◌, ◌∷◌, ◌++◌, [], Bool, IfOk, OnOk, drop, filter, flat_map, if◌then◌else◌, length, map};
-ghost use Rattle.std.specs.Prelude.{option_map, unwrap_or};
+ghost use Rattle.std.specs.Prelude.{◌≡◌, ◌≤◌, ◌∷◌, ◌++◌, [], Bool, IfOk, OnOk, drop, filter, flat_map, if◌then◌else◌, length, map, option_map};
+ghost use Rattle.std.specs.Prelude.{unwrap_or, is_some};
 ghost use Rattle.std.specs.List.{list_any};
 ghost use Rattle.seq_tree.specs.Calls.{block_calls, same_op};
 ghost use Rattle.seq_tree.specs.Names.{Name as NameTree, same_name};
@@ -12,11 +12,10 @@ ghost use Rattle.ods_tree.specs.Links.{resolve};
 ghost use Rattle.ods_tree.specs.Trees.{body_of, design_of};
 ghost use Rattle.ods_tree.specs.Walk.{is_terminal};
 ghost use Rattle.design_rules.specs.Lookups.{has_thread};
-ghost use Rattle.design_rules.specs.Rings.{inner_calls, meant_calls, terminal_ops, thread_calls};
+ghost use Rattle.design_rules.specs.Rings.{inner_calls, terminal_ops, thread_calls};
 ghost use Rattle.ods_index.specs.Indexing.{IsIndex};
 ghost use Rattle.ods_index.specs.Linked.{op_of};
-ghost use Rattle.ods_starts.specs.Sourced.{direct_calls};
-ghost use Rattle.ods_starts.specs.Spreading.{IsSeen, body_at, body_steps, found_all, found_more, inner_at, is_there, reaches, spread, steps_in};
+ghost use Rattle.ods_starts.specs.Spreading.{direct_calls, IsSeen, body_at, body_steps, found_all, found_more, inner_at, reaches, spread, steps_in};
 ghost use Rattle.ods_index.specs.Walking.{object_of, standing_of};
 
 use name_sets::{NameTable, OpTable, Ops, Places};
@@ -30,14 +29,14 @@ use std::alloc::Global;
 
 /// Operations by names: those whose bodies call an operation of an object, by the name of the object.
 #[derive(Drop)]
-pub(crate) struct BodyCalls<'a> {
+pub struct BodyCalls<'a> {
     calls: NameTable<'a, Vec<OpView<'a>>>,
 }
 
 impl<'a> BodyCalls<'a> {
     /// No operations.
     #[tactic(auto, unfolding(crate::specs::Spreading::body_at))]
-    pub(crate) fn new(alloc: Global) -> BodyCalls<'a>
+    pub fn new(alloc: Global) -> BodyCalls<'a>
         ensures { (n : NameTree) → body_at result n ≡ [] }
     {
         BodyCalls {
@@ -47,7 +46,7 @@ impl<'a> BodyCalls<'a> {
 
     /// The operations that are kept for a name, where there is one.
     #[tactic(auto, unfolding(crate::specs::Spreading::body_at))]
-    pub(crate) fn get(&self, op: &Name) -> Option<&[OpView<'a>]>
+    pub fn get(&self, op: &Name) -> Option<&[OpView<'a>]>
         ensures { unwrap_or (option_map (λ v. map op_of v.now) result) [] ≡ body_at self.now op.now }
     {
         match self.calls.find(op) {
@@ -58,12 +57,7 @@ impl<'a> BodyCalls<'a> {
 
     /// Adds operations behind those of a name.
     #[tactic(auto, unfolding(crate::specs::Spreading::body_at))]
-    pub(crate) fn add(
-        &mut self,
-        alloc: Global,
-        op: &'a Name,
-        calls: &[OpView<'a>],
-    ) -> Result<(), NoMemory>
+    pub fn add(&mut self, alloc: Global, op: &'a Name, calls: &[OpView<'a>]) -> Result<(), NoMemory>
         ensures { OnOk result ((n : NameTree) → body_at self.new n ≡ body_at self.old n
             ++ (if same_name op.entry.now n then map op_of calls.entry.now else [])) }
     {
@@ -73,14 +67,14 @@ impl<'a> BodyCalls<'a> {
 
 /// What the bodies of protected operations call, links followed.
 #[derive(Drop)]
-pub(crate) struct Inner<'a> {
+pub struct Inner<'a> {
     calls: OpTable<'a, Vec<OpView<'a>>>,
 }
 
 impl<'a> Inner<'a> {
     /// No calls.
     #[tactic(auto, unfolding(crate::specs::Spreading::inner_at))]
-    pub(crate) fn new(alloc: Global) -> Inner<'a>
+    pub fn new(alloc: Global) -> Inner<'a>
         ensures { (n : OpTree) → inner_at result n ≡ [] }
     {
         Inner {
@@ -101,7 +95,7 @@ impl<'a> Inner<'a> {
 
     /// Adds what a body of an operation calls.
     #[tactic(auto, unfolding(crate::specs::Spreading::inner_at))]
-    pub(crate) fn add(
+    pub fn add(
         &mut self,
         alloc: Global,
         object: &'a Name,
@@ -152,7 +146,7 @@ fn add_all_meant<'a>(
 }
 
 /// What a block of an object calls, as it is required, links followed.
-pub(crate) fn meant_calls<'a>(
+pub fn meant_calls<'a>(
     alloc: Global,
     links: &Links<'a>,
     needs: &Required<'a>,
@@ -189,7 +183,7 @@ fn find<'a>(
 }
 
 /// Adds operations that weren't found before.
-pub(crate) fn find_all<'a>(
+pub fn find_all<'a>(
     alloc: Global,
     ops: &[OpView<'a>],
     seen: &mut Ops<'a>,
@@ -217,7 +211,7 @@ fn rest_of<'a>(alloc: Global, ops: &[OpView<'a>], from: usize) -> Result<Vec<OpV
 }
 
 /// Adds what an operation calls, where it wasn't found before.
-#[tactic(auto, using(crate::proofs::SpreadLaws::spread_laws))]
+#[tactic(auto, using(crate::proofs::Shared::SpreadLaws::spread_laws))]
 fn follow<'a>(
     alloc: Global,
     inner: &Inner<'a>,
@@ -236,8 +230,8 @@ fn follow<'a>(
 }
 
 /// Adds what these operations call, where it wasn't found before.
-#[tactic(auto, using(crate::proofs::SpreadLaws::spread_laws))]
-pub(crate) fn follow_all<'a>(
+#[tactic(auto, using(crate::proofs::Shared::SpreadLaws::spread_laws))]
+pub fn follow_all<'a>(
     alloc: Global,
     inner: &Inner<'a>,
     ops: &[OpView<'a>],
@@ -256,7 +250,7 @@ pub(crate) fn follow_all<'a>(
 }
 
 /// These operations and what they lead to through protected ones, in so many levels at most, up to one that finds none.
-pub(crate) fn search<'a>(
+pub fn search<'a>(
     alloc: Global,
     inner: &Inner<'a>,
     depth: usize,
@@ -390,7 +384,7 @@ pub fn threads_of<'a>(alloc: Global, objects: &[Standing<'a>]) -> Result<Vec<&'a
 
 /// A table of the names of the objects of operations.
 fn names_of<'a>(alloc: Global, ops: &[OpView<'a>]) -> Result<Places<'a>, NoMemory>
-    ensures { IfOk result (λ t. (n : NameTree) → is_there (place_in t n) ≡ list_any (λ c. same_name c.object n) (map op_of ops.entry.now)) }
+    ensures { IfOk result (λ t. (n : NameTree) → is_some (place_in t n) ≡ list_any (λ c. same_name c.object n) (map op_of ops.entry.now)) }
 {
     let mut names = Places::new(alloc);
     'ops: for op in ops {
@@ -400,8 +394,8 @@ fn names_of<'a>(alloc: Global, ops: &[OpView<'a>]) -> Result<Places<'a>, NoMemor
 }
 
 /// What the thread of an object calls itself.
-#[tactic(auto, using(ods_index::proofs::Shared::WalkSteps::node_steps, crate::proofs::SpreadLaws::thread_laws))]
-pub(crate) fn thread_starts<'a>(
+#[tactic(auto, using(ods_index::proofs::Shared::WalkSteps::node_steps, crate::proofs::Shared::SpreadLaws::thread_laws))]
+pub fn thread_starts<'a>(
     alloc: Global,
     links: &Links<'a>,
     node: &'a Node,
@@ -418,7 +412,7 @@ pub(crate) fn thread_starts<'a>(
 }
 
 /// Adds what the thread of an object calls itself.
-#[tactic(auto, using(crate::proofs::LoopEnds::added_laws))]
+#[tactic(auto, using(crate::proofs::Shared::LoopEnds::added_laws))]
 fn add_starts<'a>(
     alloc: Global,
     links: &Links<'a>,
@@ -451,17 +445,17 @@ fn all_starts<'a>(
 
 /// What threads can start.
 #[derive(Drop)]
-pub(crate) struct Starts<'a> {
-    pub(crate) links: Links<'a>,
+pub struct Starts<'a> {
+    pub links: Links<'a>,
     inner: Inner<'a>,
-    pub(crate) depth: usize,
+    pub depth: usize,
     ghost leads: { (n : OpTree) → inner_at inner n ≡ inner_calls (design_of links.design.now) n },
     ghost deep: { depth ≡ length (terminal_ops (design_of links.design.now)) },
 }
 
 impl<'a> Starts<'a> {
     /// What the threads of a design can start.
-    pub(crate) fn new(alloc: Global, index: &Index<'a>) -> Result<Starts<'a>, NoMemory>
+    pub fn new(alloc: Global, index: &Index<'a>) -> Result<Starts<'a>, NoMemory>
         requires { IsIndex index.now }
         ensures { IfOk result (λ s. s.links.design.now ≡ index.now.design.now) }
     {
@@ -477,7 +471,7 @@ impl<'a> Starts<'a> {
     }
 
     /// The operations that the thread of an object calls, itself or through protected ones, each once.
-    pub(crate) fn calls(&self, alloc: Global, node: &'a Node) -> Result<Vec<OpView<'a>>, NoMemory>
+    pub fn calls(&self, alloc: Global, node: &'a Node) -> Result<Vec<OpView<'a>>, NoMemory>
         ensures { IfOk result (λ v. (test : OpTree → Bool) → list_any test (map op_of v.items)
             ≡ list_any test (thread_calls (design_of self.now.links.design.now) (object_of node.entry.now))) }
     {
@@ -486,20 +480,20 @@ impl<'a> Starts<'a> {
     }
 
     /// A table of the names of the objects of which the thread of an object calls operations, itself or through protected ones.
-    pub(crate) fn reached(&self, alloc: Global, node: &'a Node) -> Result<Places<'a>, NoMemory>
-        ensures { IfOk result (λ t. (n : NameTree) → is_there (place_in t n)
+    pub fn reached(&self, alloc: Global, node: &'a Node) -> Result<Places<'a>, NoMemory>
+        ensures { IfOk result (λ t. (n : NameTree) → is_some (place_in t n)
             ≡ reaches (design_of self.now.links.design.now) (object_of node.entry.now) n) }
     {
         let found = self.calls(alloc, node)?;
         names_of(alloc, found.as_slice())
     }
     /// A table of the names of the objects of which one of these threads calls operations, itself or through protected ones.
-    pub(crate) fn reached_by_any(
+    pub fn reached_by_any(
         &self,
         alloc: Global,
         threads: &[&'a Node],
     ) -> Result<Places<'a>, NoMemory>
-        ensures { IfOk result (λ t. (n : NameTree) → is_there (place_in t n)
+        ensures { IfOk result (λ t. (n : NameTree) → is_some (place_in t n)
             ≡ list_any (λ o. reaches (design_of self.now.links.design.now) o n) (map (λ t. object_of t.now) threads.entry.now)) }
     {
         let starts = all_starts(alloc, &self.links, threads)?;

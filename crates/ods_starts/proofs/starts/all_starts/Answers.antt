@@ -4,7 +4,7 @@ use Rattle.ods_tree.specs.declared.design.Node.{Node}
 use Rattle.seq_tree.proofs.Shared.LoopSteps.{added_step}
 use Rattle.ods_index.specs.Linked.{op_of}
 use Rattle.ods_index.specs.Walking.{object_of}
-use Rattle.ods_starts.specs.Sourced.{direct_calls}
+use Rattle.ods_starts.specs.Spreading.{direct_calls}
 use Rattle.ods_starts.proofs.starts.all_starts.Goals as goal
 
 pub threads-preserved : goal.threads-preserved

@@ -2,7 +2,7 @@ use Rattle.std.proofs.Common.{◌≡◌, ◌++◌, flat_map, map, drop}
 use Rattle.ods_tree.specs.Trees.{design_of}
 use Rattle.ods_index.specs.Linked.{op_of}
 use Rattle.ods_index.specs.Walking.{object_of}
-use Rattle.ods_starts.specs.Sourced.{direct_calls}
+use Rattle.ods_starts.specs.Spreading.{direct_calls}
 use Rattle.ods_starts.proofs.starts.all_starts.Given as goal
 
 -- the calls so far, and the threads that are left

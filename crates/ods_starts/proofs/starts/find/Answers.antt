@@ -4,7 +4,7 @@ use Rattle.std.specs.List.{list_any}
 use Rattle.seq_tree.specs.Calls.{same_op}
 use Rattle.name_sets.specs.Sets.{has_op}
 use Rattle.ods_index.specs.Linked.{op_of}
-use Rattle.ods_starts.proofs.KeptCalls.{seen-more}
+use Rattle.ods_starts.proofs.Shared.KeptCalls.{seen-more}
 use Rattle.ods_starts.proofs.starts.find.Goals as goal
 
 pub returns-clause-seen : goal.returns-clause-seen

@@ -3,7 +3,7 @@ use Rattle.seq_tree.proofs.Shared.LoopSteps.{drop_step}
 use Rattle.ods_index.specs.Linked.{op_of}
 use Rattle.ods_starts.specs.Spreading.{found_all, inner_at}
 use Rattle.ods_index.specs.declared.links.OpView.{OpView}
-use Rattle.ods_starts.proofs.SpreadLaws.{found-append}
+use Rattle.ods_starts.proofs.Shared.SpreadLaws.{found-append}
 use Rattle.ods_starts.proofs.starts.follow_all.Goals as goal
 
 pub ops-preserved : goal.ops-preserved

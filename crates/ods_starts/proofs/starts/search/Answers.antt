@@ -2,7 +2,7 @@ use Rattle.std.proofs.Common.{◌≡◌, ◌≤◌, ◌+◌, ◌-◌, flat_map, 
 use Rattle.std.proofs.lemmas.List.{drop-map, length-map}
 use Rattle.ods_index.specs.Linked.{op_of}
 use Rattle.ods_starts.specs.Spreading.{found_all, inner_at, spread}
-use Rattle.ods_starts.proofs.SpreadLaws.{found-longer, spread-ends, spread-next}
+use Rattle.ods_starts.proofs.Shared.SpreadLaws.{found-longer, spread-ends, spread-next}
 use Rattle.ods_starts.proofs.starts.search.Goals as goal
 
 pub levels-preserved : goal.levels-preserved

@@ -4,7 +4,7 @@ use Rattle.design_rules.specs.Lookups.{has_thread}
 use Rattle.ods_index.specs.Walking.{object_of, standing_of}
 use Rattle.ods_index.specs.declared.walk.Standing.{Standing}
 use Rattle.seq_tree.proofs.Shared.LoopSteps.{added_step}
-use Rattle.ods_starts.proofs.LoopSteps.{map_filters_first}
+use Rattle.ods_starts.proofs.Shared.FilterSteps.{map_filters_first}
 use Rattle.ods_starts.proofs.starts.threads_of.Goals as goal
 
 pub objects-preserved : goal.objects-preserved

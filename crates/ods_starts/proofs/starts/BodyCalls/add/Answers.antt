@@ -4,7 +4,7 @@ use Rattle.seq_tree.specs.Names.{same_name}
 use Rattle.name_sets.specs.Tables.{listed, named}
 use Rattle.ods_index.specs.Linked.{op_of}
 use Rattle.ods_starts.specs.Spreading.{body_at}
-use Rattle.ods_starts.proofs.KeptCalls.{added}
+use Rattle.ods_starts.proofs.Shared.KeptCalls.{added}
 use Rattle.ods_starts.proofs.starts.BodyCalls.add.Goals as goal
 
 pub returns : goal.returns

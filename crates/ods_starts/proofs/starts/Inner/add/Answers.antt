@@ -4,7 +4,7 @@ use Rattle.seq_tree.specs.Calls.{same_op}
 use Rattle.name_sets.specs.Tables.{at, listed}
 use Rattle.ods_index.specs.Linked.{op_of}
 use Rattle.ods_starts.specs.Spreading.{inner_at}
-use Rattle.ods_starts.proofs.KeptCalls.{added}
+use Rattle.ods_starts.proofs.Shared.KeptCalls.{added}
 use Rattle.ods_starts.proofs.starts.Inner.add.Goals as goal
 
 pub returns : goal.returns

@@ -8,7 +8,7 @@ use Rattle.design_rules.specs.Rings.{calls_within, meant_calls, thread_calls}
 use Rattle.ods_index.specs.Linked.{op_of}
 use Rattle.ods_starts.specs.Spreading.{found_all, inner_at, spread}
 use Rattle.ods_index.specs.Walking.{object_of}
-use Rattle.ods_starts.proofs.SpreadLaws.{spread-any}
+use Rattle.ods_starts.proofs.Shared.SpreadLaws.{spread-any}
 use Rattle.ods_starts.proofs.starts.Starts.calls.Goals as goal
 
 pub returns : goal.returns

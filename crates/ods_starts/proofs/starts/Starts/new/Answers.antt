@@ -7,7 +7,7 @@ use Rattle.ods_index.specs.OpPlaces.{own_ops}
 use Rattle.ods_index.specs.Linked.{op_of}
 use Rattle.ods_starts.specs.Spreading.{steps_in}
 use Rattle.ods_index.specs.Walking.{standing_of}
-use Rattle.ods_starts.proofs.SpreadLaws.{inner-steps}
+use Rattle.ods_starts.proofs.Shared.SpreadLaws.{inner-steps}
 use Rattle.ods_starts.proofs.starts.Starts.new.Goals as goal
 
 pub invariant_of-result : goal.invariant_of-result

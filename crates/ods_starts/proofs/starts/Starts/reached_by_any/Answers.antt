@@ -1,4 +1,4 @@
-use Rattle.std.proofs.Common.{◌≡◌, ◌∙◌, [], List, flat_map, map, ap}
+use Rattle.std.proofs.Common.{◌≡◌, ◌∙◌, [], List, flat_map, map, ap, is_some}
 use Rattle.std.proofs.lemmas.Result.{IfOk-weaker}
 use Rattle.std.specs.List.{list_any}
 use Rattle.seq_tree.specs.Names.{Name, same_name}
@@ -8,10 +8,8 @@ use Rattle.ods_tree.specs.Trees.{design_of}
 use Rattle.design_rules.specs.Rings.{calls_within}
 use Rattle.ods_index.specs.Linked.{op_of}
 use Rattle.ods_index.specs.Walking.{object_of}
-use Rattle.ods_starts.specs.Sourced.{direct_calls}
-use Rattle.ods_starts.specs.Spreading.{found_all, inner_at, is_there, reaches, spread}
-use Rattle.ods_starts.proofs.BackLaws.{reached-any}
-use Rattle.ods_starts.proofs.SpreadLaws.{spread-any}
+use Rattle.ods_starts.specs.Spreading.{direct_calls, found_all, inner_at, reaches, spread}
+use Rattle.ods_starts.proofs.Shared.SpreadLaws.{reached-any, spread-any}
 use Rattle.ods_starts.proofs.starts.Starts.reached_by_any.Goals as goal
 
 pub returns : goal.returns
@@ -23,8 +21,8 @@ returns c =
     let starts : map op_of c.as_slice.result.now ≡ flat_map (direct_calls x) os = ap (map op_of) c.as_slice.ensures.value ∙ c.in_ok-starts.ensures in
     let found : map op_of c.as_slice-2.result.now ≡ spread next self.depth 0 (found_all [] (flat_map (direct_calls x) os)) =
     ap (map op_of) c.as_slice-2.ensures.value ∙ c.in_ok-found.ensures ∙ ap (λ (z : List OpName). spread next self.depth 0 (found_all [] z)) starts in
-    IfOk-weaker c.names_of.result (λ t. (n : Name) → is_there (place_in t n) ≡ list_any (λ c. same_name c.object n) (map op_of c.as_slice-2.result.now))
-    (λ t. (n : Name) → is_there (place_in t n) ≡ list_any (λ o. reaches x o n) os)
+    IfOk-weaker c.names_of.result (λ t. (n : Name) → is_some (place_in t n) ≡ list_any (λ c. same_name c.object n) (map op_of c.as_slice-2.result.now))
+    (λ t. (n : Name) → is_some (place_in t n) ≡ list_any (λ o. reaches x o n) os)
     (λ t is n. is n ∙ ap (list_any (λ c. same_name c.object n)) found
     ∙ spread-any x next self.leads (λ c. same_name c.object n) self.depth (flat_map (direct_calls x) os)
     ∙ ap (λ d. list_any (λ c. same_name c.object n) (flat_map (calls_within d x) (flat_map (direct_calls x) os))) self.deep

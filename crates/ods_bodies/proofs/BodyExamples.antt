@@ -1,0 +1,88 @@
+-- Examples: which bodies are held, what they call, and which threads are targets, and what breaks each of them alone.
+use Rattle.std.specs.Prelude.{◌≡◌, true, false, List, [], ◌∷◌, None, codes, refl}
+use Rattle.seq_tree.specs.Statements.{Statements, Call, End, Then}
+use Rattle.seq_tree.specs.declared.tree.Costs.{Costs}
+use Rattle.seq_tree.specs.declared.tree.OpName.{OpName}
+use Rattle.ods_tree.specs.Designs.{Design, Empty, Node, Object}
+use Rattle.ods_tree.specs.declared.design.AttrKey.TheVariants.{ArrivalJitter}
+use Rattle.ods_tree.specs.declared.design.Kind.TheVariants.{Protected, Sporadic, Cyclic}
+use Rattle.ods_bodies.specs.Held.{HeldBody, held_bodies, held_calls}
+use Rattle.ods_tree.specs.declared.design.Kind.{Kind}
+use Rattle.ods_bodies.specs.Keys.{has_target, is_target}
+
+abbrev put : OpName
+put = record { object = codes "k"; op = codes "put" }
+
+abbrev set : OpName
+set = record { object = codes "q"; op = codes "set" }
+
+abbrev free : Costs
+free = record { assign = 1; test = 1; turn = 1; call = 1; nothing = 1; put = 1; finish = 1 }
+
+abbrev calls_set : Statements
+calls_set = Then (Call (codes "q") (codes "set") []) End
+
+-- a protected object whose operation calls q.set, where it requires these operations
+abbrev keeper : List OpName → Object
+keeper needs = record {
+  name = codes "k";
+  kind = Protected;
+  attrs = [];
+  provides = [];
+  needs = needs;
+  vars = [];
+  bodies = record { name = codes "put"; locals = []; block = calls_set } ∷ [];
+  thread = None;
+  links = [];
+}
+
+-- a sporadic object that is requested from outside
+abbrev outer : Object
+outer = record {
+  name = codes "q";
+  kind = Sporadic;
+  attrs = record { key = ArrivalJitter; value = 0; unit = None } ∷ [];
+  provides = [];
+  needs = [];
+  vars = [];
+  bodies = [];
+  thread = None;
+  links = [];
+}
+
+abbrev small : Object → Design
+small o = record { name = codes "d"; version = None; costs = free; root = Node o Empty }
+
+abbrev body_with : List OpName → HeldBody
+body_with needs = record { name = put; needs = needs; block = calls_set }
+
+held_there : held_bodies (small (keeper (set ∷ []))) ≡ body_with (set ∷ []) ∷ []
+held_there = refl
+
+not_protected : held_bodies (small outer) ≡ []
+not_protected = refl
+
+required_call : held_calls (small outer) (body_with (set ∷ [])) ≡ set ∷ []
+required_call = refl
+
+call_not_required : held_calls (small outer) (body_with []) ≡ []
+call_not_required = refl
+
+-- a thread of this kind
+abbrev thread : Kind → Object
+thread kind = record outer { name = codes "a"; kind = kind; attrs = [] }
+
+target : is_target (codes "a") (thread Sporadic) ≡ true
+target = refl
+
+target_of_another_name : is_target (codes "b") (thread Sporadic) ≡ false
+target_of_another_name = refl
+
+target_not_sporadic : is_target (codes "a") (thread Cyclic) ≡ false
+target_not_sporadic = refl
+
+one_sporadic : has_target (thread Cyclic ∷ thread Sporadic ∷ []) (codes "a") ≡ true
+one_sporadic = refl
+
+none_sporadic : has_target (thread Cyclic ∷ []) (codes "a") ≡ false
+none_sporadic = refl

@@ -1,0 +1,10 @@
+mod GraphExamples
+mod GuardedExamples
+mod StartingExamples
+pub mod CallRings
+pub mod NamePlaces
+pub mod ObjectRings
+pub mod PlaceSteps
+pub mod RisingLaws
+pub mod StartRings
+pub mod StartSteps

@@ -1,0 +1,4 @@
+pub mod Graphed
+pub mod Guarded
+pub mod Ranked
+pub mod Starting

@@ -1,0 +1,179 @@
+ghost use Rattle.std.specs.Prelude.{◌≡◌, ◌∷◌, ◌++◌, ◌||◌, [], ℕ, true, IfOk, OnOk, map, option_map, slice_get, is_some};
+ghost use Rattle.std.specs.List.{list_any};
+ghost use Rattle.seq_tree.specs.Names.{Name as NameTree};
+ghost use Rattle.name_sets.specs.Places.{place_in};
+ghost use Rattle.ods_tree.specs.Trees.{design_of};
+ghost use Rattle.design_rules.specs.Broken.{V09Starts};
+ghost use Rattle.design_rules.specs.Rings.{IsOnStartRing};
+ghost use Rattle.design_rules.specs.Rules.{RingedThread};
+ghost use Rattle.ods_index.specs.Indexing.{IsIndex};
+ghost use Rattle.ods_index.specs.Judging.{Judges, Tells};
+ghost use Rattle.ods_index.specs.Linked.{op_of};
+ghost use Rattle.ods_index.specs.Nodes.{node_name, node_object};
+ghost use Rattle.ods_rings.specs.Starting.{has_edge, start_edges, starts_at, target_in};
+ghost use Rattle.ods_bodies.specs.Keys.{has_target};
+ghost use Rattle.ods_index.specs.Tables.{place_from};
+ghost use Rattle.ods_index.specs.Walking.{object_of};
+
+use crate::rising;
+use name_sets::Places;
+use ods_bodies::{bodies_of, targets_of};
+use ods_index::{Broken, Index, Links, OpView, places_of};
+use ods_starts::{Starts, threads_of};
+use ods_tree::Node;
+use rings::first_on_ring;
+use seq_tree::{Name, NoMemory};
+use std::alloc::Global;
+
+/// The places of threads by their names, of those of one name the first, and the names that sporadic ones have.
+#[derive(Drop)]
+struct ThreadPlaces<'a> {
+    places: Places<'a>,
+    sporadic: Places<'a>,
+}
+
+impl<'a> ThreadPlaces<'a> {
+    /// The places of these threads.
+    fn new(alloc: Global, threads: &[&'a Node]) -> Result<ThreadPlaces<'a>, NoMemory>
+        ensures places { IfOk result (λ t. (n : NameTree) → place_in t.places n ≡ place_from 0 n (map node_name threads.entry.now)) }
+        ensures sporadic { IfOk result (λ t. (n : NameTree) → is_some (place_in t.sporadic n) ≡ has_target (map node_object threads.entry.now) n) }
+    {
+        let places = places_of(alloc, threads)?;
+        let sporadic = targets_of(alloc, threads)?;
+        Ok(ThreadPlaces { places, sporadic })
+    }
+
+    /// The place of a name, where a sporadic thread has it.
+    fn target(&self, name: &Name) -> Option<usize>
+        ensures { result ≡ target_in self.now name.now }
+    {
+        match self.sporadic.get(name) {
+            None => None,
+            Some(_) => self.places.get(name),
+        }
+    }
+}
+
+/// Adds the edge to the object of an operation, where its thread is sporadic.
+fn add_start<'a>(
+    places: &ThreadPlaces<'a>,
+    from: usize,
+    op: &OpView<'a>,
+    edges: &mut Vec<(usize, usize)>,
+) -> Result<(), NoMemory>
+    ensures { OnOk result (edges.new.items ≡ edges.old.items ++ start_edges (target_in places.now) from (op_of op.entry.now ∷ [])) }
+{
+    match places.target(op.object) {
+        None => Ok(()),
+        Some(to) => {
+            edges.push((from, to))?;
+            Ok(())
+        }
+    }
+}
+
+/// Adds the edges to the objects of operations.
+fn add_starts<'a>(
+    places: &ThreadPlaces<'a>,
+    from: usize,
+    ops: &[OpView<'a>],
+    edges: &mut Vec<(usize, usize)>,
+) -> Result<(), NoMemory>
+    ensures { OnOk result (edges.new.items ≡ edges.old.items ++ start_edges (target_in places.now) from (map op_of ops.entry.now)) }
+{
+    'ops: for op in ops {
+        add_start(places, from, op, edges)?;
+    }
+    Ok(())
+}
+
+/// Adds the edges of a thread, where it has a place.
+#[tactic(auto, using(ods_index::proofs::Shared::WalkSteps::node_steps))]
+fn add_thread<'a>(
+    alloc: Global,
+    starts: &Starts<'a>,
+    places: &ThreadPlaces<'a>,
+    node: &'a Node,
+    edges: &mut Vec<(usize, usize)>,
+) -> Result<(), NoMemory>
+    ensures { OnOk result ((p q : ℕ) → has_edge edges.new.items p q
+        ≡ (has_edge edges.old.items p q
+        || starts_at (place_in places.now.places) (target_in places.now) (design_of starts.now.links.design.now) p q (object_of node.entry.now))) }
+{
+    match places.places.get(&node.name) {
+        None => Ok(()),
+        Some(from) => {
+            let ops = starts.calls(alloc, node)?;
+            add_starts(places, from, ops.as_slice(), edges)?;
+            Ok(())
+        }
+    }
+}
+
+/// The edges between threads, by their places: one for each operation of a sporadic one that a thread calls, itself or through
+/// protected ones.
+fn edges_of<'a>(
+    alloc: Global,
+    starts: &Starts<'a>,
+    places: &ThreadPlaces<'a>,
+    threads: &[&'a Node],
+) -> Result<Vec<(usize, usize)>, NoMemory>
+    ensures { IfOk result (λ v. (p q : ℕ) → has_edge v.items p q
+        ≡ list_any (starts_at (place_in places.now.places) (target_in places.now) (design_of starts.now.links.design.now) p q)
+        (map node_object threads.entry.now)) }
+{
+    let mut edges = Vec::new(alloc);
+    'threads: for node in threads {
+        add_thread(alloc, starts, places, node, &mut edges)?;
+    }
+    Ok(edges)
+}
+
+/// Tells a thread on a ring of starts, by its place.
+#[tactic(auto, using(ods_index::proofs::Shared::WalkSteps::node_steps))]
+fn tell_thread(alloc: Global, threads: &[&Node], place: usize) -> Result<(), Broken>
+    ensures { Tells result (option_map (λ n. V09Starts (node_name n)) (slice_get threads.now place)) }
+{
+    let Some(node) = threads.get(place) else {
+        return Ok(());
+    };
+    let thread = node.name.copy(alloc)?;
+    Err(Broken::V09Starts { thread })
+}
+
+/// Whether it shows at once that no thread is on a ring of starts.
+fn shows_none(alloc: Global, index: &Index<'_>) -> Result<bool, NoMemory>
+    requires { IsIndex index.now }
+    ensures { IfOk result (λ b. b ≡ true → (a : NameTree) → IsOnStartRing (design_of index.entry.now.design.now) a → ⊥) }
+{
+    let links = Links::new(alloc, index.design)?;
+    let bodies = bodies_of(alloc, index.objects.as_slice())?;
+    let threads = threads_of(alloc, index.objects.as_slice())?;
+    rising::shows_none(alloc, &links, bodies.as_slice(), threads.as_slice())
+}
+
+/// Tells the first thread on a ring of starts, by all that each thread reaches.
+fn first_by_search(alloc: Global, index: &Index<'_>) -> Result<(), Broken>
+    requires { IsIndex index.now }
+    ensures { Judges (RingedThread (design_of index.entry.now.design.now)) result }
+{
+    let starts = Starts::new(alloc, index)?;
+    let threads = threads_of(alloc, index.objects.as_slice())?;
+    let places = ThreadPlaces::new(alloc, threads.as_slice())?;
+    let edges = edges_of(alloc, &starts, &places, threads.as_slice())?;
+    match first_on_ring(alloc, threads.len(), edges.as_slice())? {
+        None => Ok(()),
+        Some(place) => tell_thread(alloc, threads.as_slice(), place),
+    }
+}
+
+/// V09: tells the first thread on a ring of starts.
+pub fn first_ringed_thread(alloc: Global, index: &Index<'_>) -> Result<(), Broken>
+    requires { IsIndex index.now }
+    ensures { Judges (RingedThread (design_of index.entry.now.design.now)) result }
+{
+    if shows_none(alloc, index)? {
+        return Ok(());
+    }
+    first_by_search(alloc, index)
+}

@@ -1,0 +1,28 @@
+use Rattle.std.proofs.Common.{◌≡◌, Bor, List, filter, flat_map, map, ap, subst, ◌∙◌}
+use Rattle.std.specs.Prelude.{filter_map}
+use Rattle.ods_tree.specs.Designs.{Object}
+use Rattle.ods_tree.specs.Trees.{design_of}
+use Rattle.ods_tree.specs.Walk.{is_terminal}
+use Rattle.ods_tree.specs.declared.design.Node.{Node}
+use Rattle.design_rules.specs.Lookups.{has_thread}
+use Rattle.design_rules.specs.Rings.{thread_objects}
+use Rattle.design_rules.specs.Separations.{bad_separations}
+use Rattle.ods_index.specs.Judging.{Tells, head_of}
+use Rattle.ods_sources.specs.Spacings.{spaced}
+use Rattle.ods_starts.specs.Spreading.{reaches}
+use Rattle.ods_index.specs.Walking.{object_of, standing_of}
+use Rattle.ods_sources.proofs.separations.first_bad_spacing.Goals as goal
+
+pub returns : goal.returns
+returns c =
+    let y = design_of c.args.index.now.design.now in
+    let threads : List Object = map (λ t. object_of t.now) c.as_slice-2.result.now in
+    let same : threads ≡ thread_objects y =
+    ap (map (λ (t : Bor Node). object_of t.now)) c.as_slice-2.ensures.value ∙ c.in_ok-threads.ensures
+    ∙ ap (λ ss. map (λ s. s.own) (filter (λ s. has_thread s.own.kind) (filter is_terminal ss)))
+    (ap (map standing_of) c.as_slice.ensures.value ∙ c.requires.walked) in
+    let all : flat_map (λ f. filter_map (spaced (reaches (design_of c.in_ok-starts.starts.links.design.now) f) f) threads) threads
+    ≡ bad_separations y =
+    ap (λ d. flat_map (λ f. filter_map (spaced (reaches (design_of d) f) f) threads) threads) c.in_ok-starts.ensures
+    ∙ ap (λ (ts : List Object). flat_map (λ f. filter_map (spaced (reaches y f) f) ts) ts) same in
+    subst (λ w. Tells c.starters_fit.result (head_of w)) all c.starters_fit.ensures

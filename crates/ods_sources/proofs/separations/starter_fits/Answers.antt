@@ -1,0 +1,17 @@
+use Rattle.std.proofs.Common.{map, subst, is_some}
+use Rattle.name_sets.specs.Places.{place_in}
+use Rattle.ods_tree.specs.Trees.{design_of}
+use Rattle.ods_index.specs.Judging.{Tells, head_of}
+use Rattle.ods_starts.specs.Spreading.{reaches}
+use Rattle.ods_index.specs.Walking.{object_of}
+use Rattle.ods_sources.proofs.SpacingLaws.{spaced-same}
+use Rattle.ods_sources.proofs.separations.starter_fits.Goals as goal
+
+pub returns : goal.returns
+returns c =
+    let x = design_of c.args.starts.now.links.design.now in
+    let from = object_of c.args.from.now in
+    let reached = c.in_ok-reached.reached in
+    subst (λ w. Tells c.targets_fit.result (head_of w))
+    (spaced-same (λ n. is_some (place_in reached n)) (reaches x from) from
+    (map (λ t. object_of t.now) c.args.threads.now) c.in_ok-reached.ensures) c.targets_fit.ensures

@@ -7,33 +7,8 @@
 # taken. Names of forms as words measure those alone.
 source "$(dirname -- "${BASH_SOURCE[0]}")/measure.sh"
 
-# One thread with a block of this many bytes.
-block() {
-    awk -v size="$1" -v costs="$costs" -v attributes="$attributes" 'BEGIN {
-        print "DESIGN d IS " costs "\nOBJECT a IS CYCLIC " attributes "\nTHREAD"
-        line = "null; work (1); null; work (2);"
-        for (n = 200; n < size; n += length(line) + 1) print line
-        print "END THREAD;\nEND a;\nEND d;"
-    }'
-}
-
-# So many passive objects, whose operations have statements of all kinds and call the last one's, in a text of about this many bytes.
-mixed_in() {
-    awk -v count="$1" -v size="$2" -v costs="$costs" -v attributes="$attributes" 'BEGIN {
-        line = "count := count + limit * scale;\nif count > limit and limit /= 7 then\ntotal := count;\nelse\nwork (3);\nend if;\n"
-        line = line "for i in word range 1 .. 4 loop\ncount := (count + i) * 2;\nend loop;\nput (count);\nnull;\n"
-        print "DESIGN d IS " costs "\nOBJECT r IS ACTIVE\nOBJECTS"
-        for (k = 1; k <= count; k++) {
-            called = k < count ? "unit_" count ".step" : ""
-            print "OBJECT unit_" k " IS PASSIVE PROVIDES step (limit : in word; total : out word);" (called ? " REQUIRES " called ";" : "")
-            print "OPERATION step IS count : word := 0; scale : word := 3; BEGIN"
-            more = line (called ? called " (count, scale);\n" : "")
-            for (n = 250 + length(more); n < size / count; n += length(more)) printf "%s", more
-            print "total := scale;\nEND step;\nEND unit_" k ";"
-        }
-        print "OBJECT a IS CYCLIC " attributes "\nTHREAD work (1);\nEND THREAD;\nEND a;\nEND r;\nEND d;"
-    }'
-}
+# One thread with a long block.
+block() { thread_block "$1"; }
 
 # Statements of all kinds in one object.
 mixed() { mixed_in 1 "$1"; }

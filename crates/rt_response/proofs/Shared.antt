@@ -1,5 +1,4 @@
 -- What other crates may cite of the proofs of this one.
 pub mod Least
 pub mod Places
-pub mod Kept
 pub mod Solving

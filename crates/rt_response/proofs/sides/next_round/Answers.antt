@@ -3,7 +3,7 @@ use Rattle.std.proofs.lemmas.Slice.Zip.{AllZip-long}
 use Rattle.rt_response.specs.Response.{right_sides}
 use Rattle.rt_response.specs.Rounds.{first_excess}
 use Rattle.rt_response.proofs.Shared.Places.{right_sides-long, store-next, store-all, excess_from-end}
-use Rattle.rt_response.proofs.Shared.Kept.{row-kept, steady-first, steady-next, same-left, left-next}
+use Rattle.rt_response.proofs.Kept.{row-kept, steady-first, steady-next, same-left, left-next}
 use Rattle.rt_response.proofs.sides.next_round.Goals as goal
 
 pub bounds-from-index : goal.bounds-from-index

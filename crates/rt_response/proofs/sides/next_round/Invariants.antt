@@ -2,7 +2,7 @@ use Rattle.std.proofs.Common.{◌≡◌, take, drop, true}
 use Rattle.rt_response.specs.Response.{right_sides}
 use Rattle.rt_response.specs.Rounds.{first_excess}
 use Rattle.rt_response.specs.Entries.{excess_from}
-use Rattle.rt_response.proofs.Shared.Kept.{SameJitters}
+use Rattle.rt_response.proofs.Kept.{SameJitters}
 use Rattle.rt_response.proofs.sides.next_round.Given as goal
 
 abbrev pub invariant-rows : goal.invariant-rows

@@ -1,7 +1,7 @@
 use Rattle.std.proofs.Common.{◌+◌, arith, refl}
 use Rattle.std.proofs.lemmas.Slice.Zip.{AllZip-long}
 use Rattle.rt_response.proofs.Shared.Places.{entries-within, entries-front, response-small}
-use Rattle.rt_response.proofs.Shared.Kept.{kept-response, computed-response}
+use Rattle.rt_response.proofs.Kept.{kept-response, computed-response}
 use Rattle.rt_response.proofs.sides.response_of.Goals as goal
 
 pub split_at-requires-2 : goal.split_at-requires-2

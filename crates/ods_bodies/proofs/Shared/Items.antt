@@ -102,4 +102,3 @@ some-in {A} p (x ∷ xs) h = by (some-in p xs) (or_cases (p x) (list_any p xs) h
     by : (list_any p xs ≡ true → (a : A) × In a xs × (p a ≡ true)) → (p x ≡ true) ⊎ (list_any p xs ≡ true) → (a : A) × In a (x ∷ xs) × (p a ≡ true)
     by rest (inl k) = (x, inl refl, k)
     by rest (inr k) = let r = rest k in (r.0, inr r.1, r.2)
-

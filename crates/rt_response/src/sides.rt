@@ -101,6 +101,7 @@ fn is_steady(steady: bool, old: u32, new: u32) -> bool
 ///
 /// But for the first round, `into` holds the vector from which this one was computed. A row whose response did not change between
 /// the two, and above which no jitter changed, keeps its response, so that most rounds compute the responses of the last rows alone.
+#[inline(always)]
 pub fn next_round(
     table: &[ThreadRow],
     from: &[Bound],

@@ -6,4 +6,5 @@ use Rattle.ods_rings.proofs.ranks.Ranks.any_sinks.Goals as goal
 
 pub returns-in-None : goal.returns-in-None
 returns-in-None c =
-    sym (none-sinks (rank_at c.args.self.now) (option_map call_of c.args.from.now) (map call_of c.args.calls.now) (ap (option_map call_of) c.in-None.is))
+    sym (none-sinks (rank_at c.args.self.now) (option_map call_of c.args.from.now) (map call_of c.args.calls.now)
+    (ap (option_map call_of) c.in-None.is))

@@ -5,6 +5,7 @@ pub mod CallRings
 pub mod NamePlaces
 pub mod ObjectRings
 pub mod PlaceSteps
+pub mod RankSteps
 pub mod RisingLaws
 pub mod StartRings
 pub mod StartSteps

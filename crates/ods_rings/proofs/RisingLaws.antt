@@ -1,7 +1,7 @@
 -- Where each call leads to a higher rank, also those of threads, which have ranks as what is requested, no thread starts itself.
 -- Along a chain of starts ranks rise.
-use Rattle.std.proofs.Common.{◌≡◌, inl, inr, ◌<◌, ◌≤◌, ℕ, zero, suc, Bool, true, false, not, nat_lt, ◌||◌, List, [], ◌∷◌, ◌++◌, Some, map, flat_map}
-use Rattle.std.proofs.Common.{length, arith, refl, ap, sym, subst, ◌∙◌}
+use Rattle.std.proofs.Common.{◌≡◌, inl, inr, ◌<◌, ◌≤◌, ℕ, zero, suc, true, false, not, nat_lt, List, [], ◌∷◌, ◌++◌, Some, map, flat_map}
+use Rattle.std.proofs.Common.{length, arith, ap, sym, subst, ◌∙◌}
 use Rattle.std.specs.Prelude.{option_to_list, if◌then◌else◌, is_some}
 use Rattle.std.specs.List.{list_any}
 use Rattle.std.proofs.lemmas.List.Folds.{list_any-append}

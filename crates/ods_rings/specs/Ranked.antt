@@ -1,6 +1,6 @@
 -- Ranks of operations: each call leads to a higher one.
 -- So no calls lead back to where they began.
-use Rattle.std.specs.Prelude.{ℕ, Bool, false, not, Option, Some, None, nat_lt}
+use Rattle.std.specs.Prelude.{ℕ, Bool, false, not, List, Option, Some, None, nat_lt, slice_get}
 use Rattle.std.specs.List.{list_any}
 use Rattle.seq_tree.specs.declared.tree.OpName.{OpName}
 use Rattle.name_sets.specs.Tables.{at, or_0}
@@ -10,9 +10,14 @@ use Rattle.name_sets.specs.declared.places.Places.{Places}
 use Rattle.ods_tree.specs.Designs.{Design, Object}
 use Rattle.ods_bodies.specs.Keys.{target_key, thread_keys}
 
+-- the rank at a place of a list, 0 where there is none
+abbrev pub ranked : List ℕ → Option ℕ → ℕ
+ranked rs None = 0
+ranked rs (Some place) = or_0 (slice_get rs place)
+
 -- the rank of an operation, 0 where it has none
 abbrev pub rank_at : Ranks → OpName → ℕ
-rank_at t n = or_0 (at t.ranks n)
+rank_at t n = ranked t.ranks.items (at t.numbers n)
 
 -- whether a call doesn't lead to a higher rank; a thread may call what it likes
 abbrev pub sinks_at : (OpName → ℕ) → Option OpName → OpName → Bool

@@ -1,4 +1,4 @@
-ghost use Rattle.std.specs.Prelude.{◌≡◌, IfOk, IfSome, false, map, option_map};
+ghost use Rattle.std.specs.Prelude.{◌≡◌, IfOk, IfSome, false, map, not, nat_lt, option_map};
 ghost use Rattle.std.specs.List.{list_any};
 ghost use Rattle.seq_cost.specs.Different.{call_of};
 ghost use Rattle.call_graph.specs.Once.{caller_of};
@@ -10,10 +10,11 @@ use seq_cost::Call;
 use seq_tree::NoMemory;
 use std::alloc::Global;
 
-/// Ranks of operations by their names.
+/// Ranks of operations: each has a number by its names, and the rank at that place.
 #[derive(Drop)]
 pub(crate) struct Ranks<'a> {
-    ranks: OpTable<'a, u32>,
+    numbers: OpTable<'a, usize>,
+    ranks: Vec<u32>,
 }
 
 impl<'a> Ranks<'a> {
@@ -21,33 +22,39 @@ impl<'a> Ranks<'a> {
     fn rank(&self, op: &Call<'_>) -> u32
         ensures { result ≡ rank_at self.now (call_of op.now) }
     {
-        self.ranks.get(op.object, op.op).unwrap_or(0)
+        match self.numbers.get(op.object, op.op) {
+            None => 0,
+            Some(number) => match self.ranks.get(number) {
+                None => 0,
+                Some(rank) => *rank,
+            },
+        }
     }
 
-    /// Whether a call doesn't lead to a higher rank; a thread may call what it likes.
-    fn sinks(&self, from: &Option<Call<'_>>, op: &Call<'_>) -> bool
-        ensures { result ≡ sinks_at (rank_at self.now) (option_map call_of from.now) (call_of op.now) }
+    /// Whether one of these calls doesn't lead to a higher rank than this.
+    fn any_at_most(&self, rank: u32, calls: &[Call<'_>]) -> bool
+        ensures { result ≡ list_any (λ k. not (nat_lt rank (rank_at self.now k))) (map call_of calls.now) }
+    {
+        'calls: for op in calls {
+            let next = self.rank(op);
+            if !(rank < next) {
+                return true;
+            }
+        }
+        false
+    }
+
+    /// Whether one of these calls of an operation doesn't lead to a higher rank than its own; a thread may call what it likes.
+    fn any_sinks(&self, from: &Option<Call<'_>>, calls: &[Call<'_>]) -> bool
+        ensures { result ≡ list_any (sinks_at (rank_at self.now) (option_map call_of from.now)) (map call_of calls.now) }
     {
         match from {
             None => false,
             Some(caller) => {
                 let rank = self.rank(caller);
-                let next = self.rank(op);
-                !(rank < next)
+                self.any_at_most(rank, calls)
             }
         }
-    }
-
-    /// Whether one of these calls doesn't.
-    fn any_sinks(&self, from: &Option<Call<'_>>, calls: &[Call<'_>]) -> bool
-        ensures { result ≡ list_any (sinks_at (rank_at self.now) (option_map call_of from.now)) (map call_of calls.now) }
-    {
-        'calls: for op in calls {
-            if self.sinks(from, op) {
-                return true;
-            }
-        }
-        false
     }
 
     /// Whether one of the calls of these callers doesn't.
@@ -63,118 +70,188 @@ impl<'a> Ranks<'a> {
     }
 }
 
-/// How often operations are called.
-fn counts_of<'a>(alloc: Global, callers: &[Caller<'a>]) -> Result<OpTable<'a, u32>, NoMemory> {
-    let mut counts = OpTable::new(alloc);
-    'callers: for caller in callers {
-        'calls: for op in &caller.calls {
-            let count: u32 = counts.get(op.object, op.op).unwrap_or(0);
-            counts.put(alloc, op.object, op.op, count.saturating_add(1))?;
-        }
-    }
-    Ok(counts)
-}
-
-/// The places of callers by their names.
-fn places_of<'a>(
-    alloc: Global,
-    callers: &[Caller<'a>],
-) -> Result<OpTable<'a, Vec<usize>>, NoMemory> {
-    let mut places = OpTable::new(alloc);
-    'callers: for (place, caller) in callers.iter().enumerate() {
-        if let Some(from) = caller.from {
-            let more = vec![in alloc; place]?;
-            places.extend(alloc, from.object, from.op, more)?;
-        }
-    }
-    Ok(places)
-}
-
-/// The places of the callers that nothing calls.
-fn firsts_of<'a>(
-    alloc: Global,
-    counts: &OpTable<'a, u32>,
-    callers: &[Caller<'a>],
-) -> Result<Vec<usize>, NoMemory> {
-    let mut firsts = Vec::new(alloc);
-    'callers: for (place, caller) in callers.iter().enumerate() {
-        let called = match caller.from {
-            None => 0,
-            Some(from) => counts.get(from.object, from.op).unwrap_or(0),
-        };
-        if called == 0 {
-            firsts.push(place)?;
-        }
-    }
-    Ok(firsts)
-}
-
-/// What ranks are given by: an operation has its own once all its callers have theirs.
+/// Callers with operations by numbers, and what ranks are given by: an operation has its own once all its callers have theirs.
 #[derive(Drop)]
 struct Order<'a> {
-    left: OpTable<'a, u32>,
-    places: OpTable<'a, Vec<usize>>,
+    numbers: OpTable<'a, usize>,
+    ranks: Vec<u32>,
+    /// how many calls of an operation are left
+    left: Vec<u32>,
+    /// the places of the callers that an operation is
+    places: Vec<Vec<usize>>,
+    /// the operations that callers are
+    froms: Vec<Option<usize>>,
+    /// the calls of all callers, one caller after another, and where those of each end
+    calls: Vec<usize>,
+    ends: Vec<usize>,
     due: Vec<usize>,
-    ranks: OpTable<'a, u32>,
     next: u32,
 }
 
 impl<'a> Order<'a> {
+    /// No callers.
+    fn new(alloc: Global) -> Order<'a> {
+        Order {
+            numbers: OpTable::new(alloc),
+            ranks: Vec::new(alloc),
+            left: Vec::new(alloc),
+            places: Vec::new(alloc),
+            froms: Vec::new(alloc),
+            calls: Vec::new(alloc),
+            ends: Vec::new(alloc),
+            due: Vec::new(alloc),
+            next: 1,
+        }
+    }
+
+    /// The number of an operation, which is a new one where it has none.
+    fn number(&mut self, alloc: Global, op: &Call<'a>) -> Result<usize, NoMemory> {
+        if let Some(number) = self.numbers.get(op.object, op.op) {
+            return Ok(number);
+        }
+        let number = self.ranks.len();
+        self.numbers.put(alloc, op.object, op.op, number)?;
+        self.ranks.push(0)?;
+        self.left.push(0)?;
+        self.places.push(Vec::new(alloc))?;
+        Ok(number)
+    }
+
+    /// Adds a call.
+    fn add_call(&mut self, alloc: Global, op: &Call<'a>) -> Result<(), NoMemory> {
+        let number = self.number(alloc, op)?;
+        if let Some(count) = self.left.get_mut(number) {
+            *count = count.saturating_add(1);
+        }
+        self.calls.push(number)?;
+        Ok(())
+    }
+
+    /// Adds the operation that a caller is, where it is one.
+    fn add_from(&mut self, alloc: Global, from: &Option<Call<'a>>) -> Result<(), NoMemory> {
+        match from {
+            None => self.froms.push(None)?,
+            Some(op) => {
+                let number = self.number(alloc, op)?;
+                let place = self.froms.len();
+                if let Some(places) = self.places.get_mut(number) {
+                    places.push(place)?;
+                }
+                self.froms.push(Some(number))?;
+            }
+        }
+        Ok(())
+    }
+
+    /// Adds callers.
+    fn add(&mut self, alloc: Global, callers: &[Caller<'a>]) -> Result<(), NoMemory> {
+        'callers: for caller in callers {
+            self.add_from(alloc, &caller.from)?;
+            'calls: for op in &caller.calls {
+                self.add_call(alloc, op)?;
+            }
+            self.ends.push(self.calls.len())?;
+        }
+        Ok(())
+    }
+
+    /// Whether nothing calls the operation that a caller is.
+    fn is_first(&self, from: &Option<usize>) -> bool {
+        match from {
+            None => true,
+            Some(number) => match self.left.get(*number) {
+                None => true,
+                Some(count) => *count == 0,
+            },
+        }
+    }
+
+    /// Makes the callers due that nothing calls.
+    fn begin(&mut self) -> Result<(), NoMemory> {
+        for place in 0..self.froms.len() {
+            let first = match self.froms.get(place) {
+                None => false,
+                Some(from) => self.is_first(from),
+            };
+            if first {
+                self.due.push(place)?;
+            }
+        }
+        Ok(())
+    }
+
+    /// Gives an operation the next rank, and makes it due as a caller.
+    fn give_rank(&mut self, number: usize) -> Result<(), NoMemory> {
+        if let Some(rank) = self.ranks.get_mut(number) {
+            *rank = self.next;
+        }
+        self.next = self.next.saturating_add(1);
+        if let Some(places) = self.places.get(number) {
+            self.due.extend_from_slice(places.as_slice())?;
+        }
+        Ok(())
+    }
+
     /// Takes a call off, and gives what is called a rank where that was its last one.
-    fn take_off(&mut self, alloc: Global, op: &Call<'a>) -> Result<(), NoMemory> {
-        let left = self
-            .left
-            .get(op.object, op.op)
-            .unwrap_or(0)
-            .saturating_sub(1);
-        self.left.put(alloc, op.object, op.op, left)?;
-        if left > 0 {
+    fn take_off(&mut self, number: usize) -> Result<(), NoMemory> {
+        let Some(count) = self.left.get_mut(number) else {
+            return Ok(());
+        };
+        *count = count.saturating_sub(1);
+        if *count > 0 {
             return Ok(());
         }
-        self.ranks.put(alloc, op.object, op.op, self.next)?;
-        self.next = self.next.saturating_add(1);
-        match self.places.find(op.object, op.op) {
-            None => Ok(()),
-            Some(places) => Ok(self.due.extend_from_slice(places.as_slice())?),
+        self.give_rank(number)
+    }
+
+    /// Where the calls of a caller begin.
+    fn start(&self, place: usize) -> usize {
+        if place == 0 {
+            return 0;
+        }
+        match self.ends.get(place - 1) {
+            None => 0,
+            Some(end) => *end,
         }
     }
 
     /// Takes the calls of a caller off.
-    fn follow(&mut self, alloc: Global, caller: &Caller<'a>) -> Result<(), NoMemory> {
-        'calls: for op in &caller.calls {
-            self.take_off(alloc, op)?;
+    fn follow(&mut self, place: usize) -> Result<(), NoMemory> {
+        let start = self.start(place);
+        let Some(end) = self.ends.get(place).copied() else {
+            return Ok(());
+        };
+        for at in start..end {
+            if let Some(number) = self.calls.get(at).copied() {
+                self.take_off(number)?;
+            }
         }
         Ok(())
     }
 
     /// Follows callers as long as one is due; each is once at most.
-    fn follow_all(&mut self, alloc: Global, callers: &[Caller<'a>]) -> Result<(), NoMemory> {
-        'due: for _ in 0..callers.len() {
+    fn follow_all(&mut self) -> Result<(), NoMemory> {
+        'due: for _ in 0..self.ends.len() {
             let Some(place) = self.due.pop() else {
                 return Ok(());
             };
-            if let Some(caller) = callers.get(place) {
-                self.follow(alloc, caller)?;
-            }
+            self.follow(place)?;
         }
         Ok(())
     }
 }
 
 /// Ranks of what these call, in an order in which callers come first. Whoever rests on them looks whether they rise, so that nothing is
-/// promised here.
+/// promised here. Names are looked up to give numbers, and no more behind that.
 fn found_ranks<'a>(alloc: Global, callers: &[Caller<'a>]) -> Result<Ranks<'a>, NoMemory> {
-    let left = counts_of(alloc, callers)?;
-    let due = firsts_of(alloc, &left, callers)?;
-    let mut order = Order {
-        left,
-        places: places_of(alloc, callers)?,
-        due,
-        ranks: OpTable::new(alloc),
-        next: 1,
-    };
-    order.follow_all(alloc, callers)?;
-    Ok(Ranks { ranks: order.ranks })
+    let mut order = Order::new(alloc);
+    order.add(alloc, callers)?;
+    order.begin()?;
+    order.follow_all()?;
+    Ok(Ranks {
+        numbers: order.numbers,
+        ranks: order.ranks,
+    })
 }
 
 /// Ranks of operations by which each call of these callers leads to a higher one; none where calls lead back to where they began. The time

@@ -13,7 +13,7 @@ use Rattle.ods_tree.specs.Designs.{Design, Object}
 use Rattle.design_rules.specs.Rings.{calls_within, inner_calls}
 use Rattle.ods_bodies.specs.Held.{HeldBody, held_bodies, held_calls}
 use Rattle.ods_sources.specs.Requesters.{HasCallers}
-use Rattle.ods_starts.specs.Spreading.{direct_calls, body_at, found_all, inner_at, reaches, spread}
+use Rattle.ods_starts.specs.Spreading.{body_at, direct_calls, found_all, inner_at, spread}
 use Rattle.ods_sources.specs.Sourced.{leads_at, reaches_by}
 use Rattle.ods_sources.specs.declared.callers.Callers.{Callers}
 use Rattle.ods_bodies.proofs.Shared.Items.{In, any-in, from-flat, in-flat, some-in}

@@ -1,6 +1,6 @@
 -- A sporadic thread that has a way, where ways fit all callers of a design, is requested once at most on a path, and reached by one thread
 -- at most. Level by level: what requests or reaches it leads on to it, and counts once.
-use Rattle.std.proofs.Common.{◌≡◌, ◌⊎◌, inl, inr, ◌≤◌, ◌<◌, ◌+◌, ℕ, zero, suc, Bool, true, false, cond, ◌||◌, List, [], ◌∷◌, ◌++◌, Option, Some, None}
+use Rattle.std.proofs.Common.{◌≡◌, ◌⊎◌, inl, inr, ◌≤◌, ◌<◌, ◌+◌, ℕ, zero, suc, Bool, true, false, cond, List, [], ◌∷◌, ◌++◌, Option, Some, None}
 use Rattle.std.proofs.Common.{is_some, map, filter, flat_map, fold, arith, refl, ap, sym, subst, ◌∙◌}
 use Rattle.std.specs.Prelude.{length, max, option_to_list, if◌then◌else◌}
 use Rattle.std.specs.List.{list_any}

@@ -19,7 +19,7 @@ use arrivals_tree::Arrivals;
 use seq_read::place_of;
 use seq_tree::{NoMemory, TEXT_LIMIT, TICK_LIMIT, TextFault};
 use std::alloc::Global;
-use token_read::{LexFault, ReadFault, Tokens, Word, place_behind};
+use token_read::{LexFault, TokenFault, Tokens, Word, place_behind};
 
 /// The farthest horizon, in ticks.
 const HORIZON_LIMIT: u32 = TICK_LIMIT;
@@ -113,8 +113,8 @@ pub fn read_arrivals(
         Err(fault) => Err(misread(fault)),
         Ok(found) => match whole(alloc, found) {
             Ok(text) => accepted(alloc, bytes, &text, program),
-            Err(ReadFault::NoMemory) => Err(ArrivalFault::NoMemory),
-            Err(ReadFault::Syntax(left)) => {
+            Err(TokenFault::NoMemory) => Err(ArrivalFault::NoMemory),
+            Err(TokenFault::Syntax(left)) => {
                 let place = place_of(bytes, found, left);
                 Err(ArrivalFault::Text(TextFault::Syntax(place)))
             }

@@ -8,7 +8,7 @@ ghost use Rattle.arrivals_read.specs.Texts.{request_text, text_of, work_text};
 use seq_tree::Mark;
 use std::alloc::Global;
 use token_read::{
-    ReadFault, Tokens, Word, any_word, mark, next_is_mark, next_is_number, next_is_word, number,
+    TokenFault, Tokens, Word, any_word, mark, next_is_mark, next_is_number, next_is_word, number,
     word,
 };
 
@@ -38,7 +38,7 @@ pub(crate) struct Text<'a> {
 
 /// A further duration, and the tokens after it.
 #[tactic(auto, unfolding(crate::specs::Readers::other_at))]
-fn other(tokens: Tokens) -> Result<(u32, Tokens), ReadFault>
+fn other(tokens: Tokens) -> Result<(u32, Tokens), TokenFault>
     ensures { Gives (λ r. (r.0, ahead r.1)) result (other_at (ahead tokens.entry)) }
 {
     let tokens = mark(tokens, Mark::Comma)?;
@@ -47,7 +47,7 @@ fn other(tokens: Tokens) -> Result<(u32, Tokens), ReadFault>
 
 /// Further durations, as many as there are, and the tokens after them.
 #[tactic(auto, using(crate::proofs::Turns::other_steps))]
-fn others(alloc: Global, tokens: Tokens) -> Result<(Vec<u32>, Tokens), ReadFault>
+fn others(alloc: Global, tokens: Tokens) -> Result<(Vec<u32>, Tokens), TokenFault>
     ensures { Gives (λ r. (r.0.items, ahead r.1)) result (others_at (ahead tokens.entry)) }
 {
     let mut others = Vec::new(alloc);
@@ -62,7 +62,7 @@ fn others(alloc: Global, tokens: Tokens) -> Result<(Vec<u32>, Tokens), ReadFault
 
 /// Durations for a task, and the tokens after them.
 #[tactic(auto, unfolding(crate::specs::Readers::work_at))]
-fn work<'a>(alloc: Global, tokens: Tokens<'a>) -> Result<(WorkItem<'a>, Tokens<'a>), ReadFault>
+fn work<'a>(alloc: Global, tokens: Tokens<'a>) -> Result<(WorkItem<'a>, Tokens<'a>), TokenFault>
     ensures { Gives (λ r. (work_text r.0, ahead r.1)) result (work_at (ahead tokens.entry)) }
 {
     let tokens = word(tokens, b"work")?;
@@ -83,7 +83,7 @@ fn work<'a>(alloc: Global, tokens: Tokens<'a>) -> Result<(WorkItem<'a>, Tokens<'
 fn works<'a>(
     alloc: Global,
     tokens: Tokens<'a>,
-) -> Result<(Vec<WorkItem<'a>>, Tokens<'a>), ReadFault>
+) -> Result<(Vec<WorkItem<'a>>, Tokens<'a>), TokenFault>
     ensures { Gives (λ r. (map work_text r.0.items, ahead r.1)) result (works_at (ahead tokens.entry)) }
 {
     let mut works = Vec::new(alloc);
@@ -98,7 +98,7 @@ fn works<'a>(
 
 /// The value that is first, where there is one, and the tokens after the end of its request.
 #[tactic(auto, unfolding(crate::specs::Readers::value_at, crate::specs::Readers::some_at, crate::specs::Readers::none_at))]
-fn value(tokens: Tokens) -> Result<(Option<u32>, Tokens), ReadFault>
+fn value(tokens: Tokens) -> Result<(Option<u32>, Tokens), TokenFault>
     ensures { Gives (λ r. (r.0, ahead r.1)) result (value_at (ahead tokens.entry)) }
 {
     if next_is_number(tokens) {
@@ -113,7 +113,7 @@ fn value(tokens: Tokens) -> Result<(Option<u32>, Tokens), ReadFault>
 
 /// A request from outside, and the tokens after it.
 #[tactic(auto, unfolding(crate::specs::Readers::request_at))]
-fn request<'a>(tokens: Tokens<'a>) -> Result<(RequestItem<'a>, Tokens<'a>), ReadFault>
+fn request<'a>(tokens: Tokens<'a>) -> Result<(RequestItem<'a>, Tokens<'a>), TokenFault>
     ensures { Gives (λ r. (request_text r.0, ahead r.1)) result (request_at (ahead tokens.entry)) }
 {
     let tokens = word(tokens, b"at")?;
@@ -128,7 +128,7 @@ fn request<'a>(tokens: Tokens<'a>) -> Result<(RequestItem<'a>, Tokens<'a>), Read
 fn requests<'a>(
     alloc: Global,
     tokens: Tokens<'a>,
-) -> Result<(Vec<RequestItem<'a>>, Tokens<'a>), ReadFault>
+) -> Result<(Vec<RequestItem<'a>>, Tokens<'a>), TokenFault>
     ensures { Gives (λ r. (map request_text r.0.items, ahead r.1)) result (requests_at (ahead tokens.entry)) }
 {
     let mut requests = Vec::new(alloc);
@@ -143,7 +143,7 @@ fn requests<'a>(
 
 /// The horizon, and the tokens after it.
 #[tactic(auto, unfolding(crate::specs::Readers::until_at))]
-fn until(tokens: Tokens) -> Result<(u32, Tokens), ReadFault>
+fn until(tokens: Tokens) -> Result<(u32, Tokens), TokenFault>
     ensures { Gives (λ r. (r.0, ahead r.1)) result (until_at (ahead tokens.entry)) }
 {
     let tokens = word(tokens, b"until")?;
@@ -155,14 +155,14 @@ fn until(tokens: Tokens) -> Result<(u32, Tokens), ReadFault>
 /// The arrivals that these are all the tokens of. `Syntax` comes where they are of none, with the tokens that were left; `NoMemory`
 /// comes for want of memory.
 #[tactic(auto, unfolding(crate::specs::Readers::arrivals_at), using(crate::proofs::Turns::end_steps))]
-pub(crate) fn whole<'a>(alloc: Global, tokens: Tokens<'a>) -> Result<Text<'a>, ReadFault>
+pub(crate) fn whole<'a>(alloc: Global, tokens: Tokens<'a>) -> Result<Text<'a>, TokenFault>
     ensures { GivesWhole text_of result (whole_at arrivals_at (ahead tokens.entry)) }
 {
     let (until, tokens) = until(tokens)?;
     let (works, tokens) = works(alloc, tokens)?;
     let (requests, tokens) = requests(alloc, tokens)?;
     if !tokens.is_empty() {
-        return Err(ReadFault::Syntax(tokens.len()));
+        return Err(TokenFault::Syntax(tokens.len()));
     }
     Ok(Text {
         until,

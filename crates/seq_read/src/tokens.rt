@@ -12,7 +12,7 @@ use crate::halt::Halt;
 use crate::names::{Text, may_name};
 use seq_tree::{Mark, Name};
 use std::alloc::Global;
-use token_read::{Item, ReadFault, Tokens, Word};
+use token_read::{Item, TokenFault, Tokens, Word};
 
 /// The tokens after this word, which is first.
 pub fn word<'a>(tokens: Tokens<'a>, text: &[u8]) -> Result<Tokens<'a>, Halt>
@@ -21,8 +21,8 @@ pub fn word<'a>(tokens: Tokens<'a>, text: &[u8]) -> Result<Tokens<'a>, Halt>
 {
     match token_read::word(tokens, text) {
         Ok(rest) => Ok(rest),
-        Err(ReadFault::Syntax(left)) => Err(Halt::Syntax(left)),
-        Err(ReadFault::NoMemory) => Err(Halt::NoMemory),
+        Err(TokenFault::Syntax(left)) => Err(Halt::Syntax(left)),
+        Err(TokenFault::NoMemory) => Err(Halt::NoMemory),
     }
 }
 
@@ -33,8 +33,8 @@ pub fn mark(tokens: Tokens, mark: Mark) -> Result<Tokens, Halt>
 {
     match token_read::mark(tokens, mark) {
         Ok(rest) => Ok(rest),
-        Err(ReadFault::Syntax(left)) => Err(Halt::Syntax(left)),
-        Err(ReadFault::NoMemory) => Err(Halt::NoMemory),
+        Err(TokenFault::Syntax(left)) => Err(Halt::Syntax(left)),
+        Err(TokenFault::NoMemory) => Err(Halt::NoMemory),
     }
 }
 
@@ -45,8 +45,8 @@ pub fn number(tokens: Tokens) -> Result<(u32, Tokens), Halt>
 {
     match token_read::number(tokens) {
         Ok(found) => Ok(found),
-        Err(ReadFault::Syntax(left)) => Err(Halt::Syntax(left)),
-        Err(ReadFault::NoMemory) => Err(Halt::NoMemory),
+        Err(TokenFault::Syntax(left)) => Err(Halt::Syntax(left)),
+        Err(TokenFault::NoMemory) => Err(Halt::NoMemory),
     }
 }
 
@@ -57,8 +57,8 @@ pub fn phrase<'a>(tokens: Tokens<'a>, items: &[Item]) -> Result<Tokens<'a>, Halt
 {
     match token_read::phrase(tokens, items) {
         Ok(rest) => Ok(rest),
-        Err(ReadFault::Syntax(left)) => Err(Halt::Syntax(left)),
-        Err(ReadFault::NoMemory) => Err(Halt::NoMemory),
+        Err(TokenFault::Syntax(left)) => Err(Halt::Syntax(left)),
+        Err(TokenFault::NoMemory) => Err(Halt::NoMemory),
     }
 }
 
@@ -69,8 +69,8 @@ pub fn any_word(tokens: Tokens) -> Result<(Word, Tokens), Halt>
 {
     match token_read::any_word(tokens) {
         Ok(found) => Ok(found),
-        Err(ReadFault::Syntax(left)) => Err(Halt::Syntax(left)),
-        Err(ReadFault::NoMemory) => Err(Halt::NoMemory),
+        Err(TokenFault::Syntax(left)) => Err(Halt::Syntax(left)),
+        Err(TokenFault::NoMemory) => Err(Halt::NoMemory),
     }
 }
 

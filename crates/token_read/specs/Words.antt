@@ -9,8 +9,8 @@ use Rattle.seq_tree.specs.declared.token.Token.TheVariants as token
 use Rattle.seq_tree.specs.declared.token.Spanned.{Spanned}
 use Rattle.seq_tree.specs.declared.token.Mark.{Mark}
 use Rattle.seq_tree.specs.declared.token.Mark.TheVariants as mark
-use Rattle.token_read.specs.declared.read_fault.ReadFault.{ReadFault}
-use Rattle.token_read.specs.declared.read_fault.ReadFault.TheVariants.{Syntax, NoMemory}
+use Rattle.token_read.specs.declared.token_fault.TokenFault.{TokenFault}
+use Rattle.token_read.specs.declared.token_fault.TokenFault.TheVariants.{Syntax, NoMemory}
 use Rattle.token_read.specs.declared.words.Item.{Item}
 use Rattle.token_read.specs.declared.words.Item.TheVariants as item
 
@@ -19,22 +19,22 @@ abbrev pub bare : List Spanned → List Token
 bare ts = map (λ s. s.token) ts
 
 -- the fault of a reader is that of the definitions, unless memory ran out
-abbrev pub Fails : {A : Type 0} → ReadFault → Read Token A → Type 0
+abbrev pub Fails : {A : Type 0} → TokenFault → Read Token A → Type 0
 Fails (Syntax left) read = read ≡ Err (reading.Syntax left)
 Fails NoMemory read = ⊤
 
 -- the answer of a reader, by a view of its value
-abbrev pub Gives : {X A : Type 0} → (X → A × List Token) → Result X ReadFault → Read Token A → Type 0
+abbrev pub Gives : {X A : Type 0} → (X → A × List Token) → Result X TokenFault → Read Token A → Type 0
 Gives view (Ok x) read = read ≡ Ok (view x)
 Gives view (Err e) read = Fails e read
 
 -- the fault of a reader of a whole text
-abbrev pub FailsWhole : {A : Type 0} → ReadFault → Result A Halt → Type 0
+abbrev pub FailsWhole : {A : Type 0} → TokenFault → Result A Halt → Type 0
 FailsWhole (Syntax left) read = read ≡ Err (reading.Syntax left)
 FailsWhole NoMemory read = ⊤
 
 -- the answer of a reader of a whole text
-abbrev pub GivesWhole : {X A : Type 0} → (X → A) → Result X ReadFault → Result A Halt → Type 0
+abbrev pub GivesWhole : {X A : Type 0} → (X → A) → Result X TokenFault → Result A Halt → Type 0
 GivesWhole view (Ok x) read = read ≡ Ok (view x)
 GivesWhole view (Err e) read = FailsWhole e read
 

@@ -22,7 +22,7 @@ mod lexer;
 mod marks;
 mod numbers;
 mod places;
-mod read_fault;
+mod token_fault;
 mod token_places;
 mod tokens_left;
 mod words;
@@ -30,7 +30,7 @@ mod words;
 pub use fault::LexFault;
 pub use lexemes::{Folded, Lexeme, Word};
 pub use lexer::tokens;
-pub use read_fault::ReadFault;
+pub use token_fault::TokenFault;
 pub use token_places::place_behind;
 pub use tokens_left::Tokens;
 pub use words::{

@@ -2,7 +2,7 @@
 use Rattle.std.proofs.Common.{◌≡◌, true, false, List, [], ◌∷◌, Some, None, refl, arith}
 use Rattle.seq_tree.specs.declared.tree.OpName.{OpName}
 use Rattle.ada_rules.specs.Edges.{Edge}
-use Rattle.ada_rules.specs.Places.{IsFirstRound, is_led_to, is_ringed, leaves_at, place_from, starts_of, steps_of}
+use Rattle.ada_rules.specs.Places.{IsFirstRound, is_led_to, is_ringed, leaves_at, edge_place_from, starts_of, steps_of}
 
 abbrev f : OpName
 f = record { object = 112 ∷ []; op = 102 ∷ [] }
@@ -21,31 +21,31 @@ abbrev itself : Edge
 itself = record { from = g; to = g }
 
 -- an operation has the place of the first edge that leaves it, and none where no edge does
-first_place : place_from 0 es g ≡ Some 1
+first_place : edge_place_from 0 es g ≡ Some 1
 first_place = refl
 
-no_place : place_from 0 es h ≡ None
+no_place : edge_place_from 0 es h ≡ None
 no_place = refl
 
 -- an edge to an operation without a place is no step
-steps : steps_of (place_from 0 es) es ≡ (0, 1) ∷ (1, 1) ∷ []
+steps : steps_of (edge_place_from 0 es) es ≡ (0, 1) ∷ (1, 1) ∷ []
 steps = refl
 
-no_steps : steps_of (place_from 0 es) (record { from = g; to = h } ∷ []) ≡ []
+no_steps : steps_of (edge_place_from 0 es) (record { from = g; to = h } ∷ []) ≡ []
 no_steps = refl
 
 -- calls start at the places of what is called
-starts : starts_of (place_from 0 es) (λ n. true) es ≡ 0 ∷ 1 ∷ 1 ∷ []
+starts : starts_of (edge_place_from 0 es) (λ n. true) es ≡ 0 ∷ 1 ∷ 1 ∷ []
 starts = refl
 
-no_starts : starts_of (place_from 0 es) (λ n. false) es ≡ []
+no_starts : starts_of (edge_place_from 0 es) (λ n. false) es ≡ []
 no_starts = refl
 
 -- an edge from a marked place leads to h, and one from another place doesn't
-led_to : is_led_to (place_from 0 es) (false ∷ true ∷ []) es h ≡ true
+led_to : is_led_to (edge_place_from 0 es) (false ∷ true ∷ []) es h ≡ true
 led_to = refl
 
-not_led_to : is_led_to (place_from 0 es) (true ∷ false ∷ []) es h ≡ false
+not_led_to : is_led_to (edge_place_from 0 es) (true ∷ false ∷ []) es h ≡ false
 not_led_to = refl
 
 -- the first edge on a ring is told, and neither a later one nor none

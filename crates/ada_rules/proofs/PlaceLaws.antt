@@ -7,8 +7,9 @@ use Rattle.std.proofs.lemmas.Option.{slice_get_within}
 use Rattle.seq_tree.specs.Calls.{same_op}
 use Rattle.seq_tree.specs.declared.tree.OpName.{OpName}
 use Rattle.seq_tree.proofs.Shared.Walks.{same_op-eq, same_op-refl}
+use Rattle.name_sets.proofs.Shared.PlaceLaws.{first-none-later, first-placed}
 use Rattle.ada_rules.specs.Edges.{Edge, joins, Joins, Leads, IsRound, IsFound}
-use Rattle.ada_rules.specs.Places.{IsFirstRound, is_led_to, is_marked, place_from, starts_of, step_between, steps_of}
+use Rattle.ada_rules.specs.Places.{IsFirstRound, is_led_to, is_marked, edge_place_from, starts_of, step_between, steps_of}
 use Rattle.rings.specs.Graphs.{has_number, is_step}
 use Rattle.rings.specs.Reached.{IsFirstOnRing, IsReachedBy}
 use Rattle.rings.proofs.Shared.Reaching.{reached-more}
@@ -30,30 +31,15 @@ any-taken f g (x ∷ xs) = by (g x) (any-taken f g xs)
     by (Some b) h = ap (λ c. f b || c) h
 
 -- an operation at its place
-pub place-at : (k : ℕ) (es : List Edge) (n : OpName) (p : ℕ) → place_from k es n ≡ Some p
+pub place-at : (k : ℕ) (es : List Edge) (n : OpName) (p : ℕ) → edge_place_from k es n ≡ Some p
     → (i : ℕ) × (p ≡ k + i) × (e : Edge) × (slice_get es i ≡ Some e) × (e.from ≡ n)
-place-at k [] n p h = cc
-place-at k (e ∷ es) n p h = by (place-at (k + 1) es n p) (same_op e.from n) refl h
-  where
-    by : (place_from (k + 1) es n ≡ Some p → (i : ℕ) × (p ≡ k + 1 + i) × (f : Edge) × (slice_get es i ≡ Some f) × (f.from ≡ n)) → (t : Bool)
-        → same_op e.from n ≡ t
-        → (if t then Some k else place_from (k + 1) es n) ≡ Some p → (i : ℕ) × (p ≡ k + i) × (f : Edge) × (slice_get (e ∷ es) i ≡ Some f)
-        × (f.from ≡ n)
-    by rest true s at = (let y : k ≡ p = cc in (0, omega (arith, y), e, refl, same_op-eq e.from n s))
-    by rest false s at = (let r = rest at in let y = r.1 in (suc r.0, omega (arith, y), r.2, r.3, r.4))
+place-at k es n p h =
+    let r = first-placed (λ (e : Edge). same_op e.from n) k es p h in (r.0, r.1, r.2, r.3, same_op-eq r.2.from n r.4)
 
 -- what an edge leaves has a place, none later than the edge
-pub none-later : (k : ℕ) (es : List Edge) (i : ℕ) (e : Edge) → slice_get es i ≡ Some e → (p : ℕ) × (place_from k es e.from ≡ Some p) × (p ≤ k + i)
-none-later k [] i e h = cc
-none-later k (f ∷ es) i e h = by (same_op f.from e.from) refl i h (λ j. none-later (k + 1) es j e)
-  where
-    by : (t : Bool) → same_op f.from e.from ≡ t → (j : ℕ) → slice_get (f ∷ es) j ≡ Some e
-        → ((l : ℕ) → slice_get es l ≡ Some e → (p : ℕ) × (place_from (k + 1) es e.from ≡ Some p) × (p ≤ k + 1 + l))
-        → (p : ℕ) × ((if t then Some k else place_from (k + 1) es e.from) ≡ Some p) × (p ≤ k + j)
-    by true s j at rest = (k, refl, omega arith)
-    by false s zero at rest = (let y : f ≡ e = cc in let z : false ≡ true
-        = sym s ∙ ap (λ (g : Edge). same_op g.from e.from) y ∙ same_op-refl e.from in cc)
-    by false s (suc j) at rest = (let r = rest j at in let y = r.2 in (r.0, r.1, omega (arith, y)))
+pub edge-none-later : (k : ℕ) (es : List Edge) (i : ℕ) (e : Edge) → slice_get es i ≡ Some e
+    → (p : ℕ) × (edge_place_from k es e.from ≡ Some p) × (p ≤ k + i)
+edge-none-later k es i e h = first-none-later (λ (f : Edge). same_op f.from e.from) k es i e h (same_op-refl e.from)
 
 from-at : (es : List Edge) (i : ℕ) (e : Edge) → slice_get es i ≡ Some e → slice_get (map (λ (f : Edge). f.from) es) i ≡ Some e.from
 from-at [] i e h = cc
@@ -73,7 +59,7 @@ between None to p q h = cc
 between (Some a) None p q h = cc
 between (Some a) (Some b) p q h = let r = and_parts (a == p) (b == q) h in (ap Some (eqb-true a p r.0), ap Some (eqb-true b q r.1))
 
-module _ (es : List Edge) (place : OpName → Option ℕ) (placed : (n : OpName) → place n ≡ place_from 0 es n)
+module _ (es : List Edge) (place : OpName → Option ℕ) (placed : (n : OpName) → place n ≡ edge_place_from 0 es n)
     (step : ℕ → ℕ → Bool) (stepped : (p q : ℕ) → step p q ≡ is_step (length es) (steps_of place es) p q) where
   abbrev names : List OpName
   names = map (λ (e : Edge). e.from) es
@@ -122,13 +108,13 @@ module _ (es : List Edge) (place : OpName → Option ℕ) (placed : (n : OpName)
   source a c h =
       let r = any_place (joins a c) es h in
       let from : r.1.from ≡ a = same_op-eq r.1.from a (and_parts (same_op r.1.from a) (same_op c r.1.to) r.3).0 in
-      let l = none-later 0 es r.0 r.1 r.2 in (l.0, ap place (sym from) ∙ placed r.1.from ∙ l.1)
+      let l = edge-none-later 0 es r.0 r.1 r.2 in (l.0, ap place (sym from) ∙ placed r.1.from ∙ l.1)
 
   -- the first place on a ring is that of the first edge on one
   pub first_is : (first : Option ℕ) → IsFirstOnRing step first → IsFirstRound es first
   first_is None none = λ op round.
       let e = first_edge es op round in
-      let l = none-later 0 es e.0 e.1 e.2 in
+      let l = edge-none-later 0 es e.0 e.1 e.2 in
       none l.0 (ring_of_places names place (Joins es) step stands forth back source op l.0 (ap place (sym e.3) ∙ placed e.1.from ∙ l.1) round)
   first_is (Some first) (ring, earlier) =
       let r = ring_of_names names place (Joins es) step stands forth back source first ring in
@@ -138,7 +124,7 @@ module _ (es : List Edge) (place : OpName → Option ℕ) (placed : (n : OpName)
         e.1,
         subst P (sym e.2) r.2,
         λ k below f found round.
-            let l = none-later 0 es k f found in
+            let l = edge-none-later 0 es k f found in
             let y = l.2 in
             earlier l.0 (omega (arith, y, below)) (ring_of_places names place (Joins es) step stands forth back source f.from l.0
             (placed f.from ∙ l.1) round),

@@ -1,17 +1,17 @@
 -- Edges by places: an operation has the place of the first edge that leaves it, and a step leads from place to place.
 -- An operation that no edge leaves has no place, and is on no ring. Places count from 0.
-use Rattle.std.specs.Prelude.{◌≡◌, ℕ, ◌+◌, ◌<◌, Bool, false, ◌&&◌, ◌||◌, List, [], ◌∷◌, filter_map, get_or, Option, Some, None, if◌then◌else◌}
+use Rattle.std.specs.Prelude.{◌≡◌, ℕ, ◌<◌, Bool, false, ◌&&◌, ◌||◌, List, filter_map, get_or, Option, Some, None, if◌then◌else◌}
 use Rattle.std.specs.Prelude.{slice_get}
 use Rattle.std.specs.List.{list_any}
 use Rattle.seq_tree.specs.Calls.{same_op}
 use Rattle.seq_tree.specs.Names.{Name, same_name}
 use Rattle.seq_tree.specs.declared.tree.OpName.{OpName}
+use Rattle.name_sets.specs.FirstPlaces.{place_where}
 use Rattle.ada_rules.specs.Edges.{Edge, IsRound}
 
 -- the place of the first edge that leaves an operation, where the places begin with this one
-abbrev pub place_from : ℕ → List Edge → OpName → Option ℕ
-place_from place [] name = None
-place_from place (e ∷ es) name = if same_op e.from name then Some place else place_from (place + 1) es name
+abbrev pub edge_place_from : ℕ → List Edge → OpName → Option ℕ
+edge_place_from place es name = place_where (λ e. same_op e.from name) place es
 
 -- the step from the place of one operation to that of another, where both have one
 abbrev pub step_between : Option ℕ → Option ℕ → Option (ℕ × ℕ)

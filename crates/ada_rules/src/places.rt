@@ -5,7 +5,7 @@ ghost use Rattle.seq_tree.specs.declared.tree.OpName.{OpName};
 ghost use Rattle.name_sets.specs.Tables.{at};
 ghost use Rattle.ada_rules.specs.Edges.{edge_of};
 ghost use Rattle.ada_rules.specs.Lists.{call_of};
-ghost use Rattle.ada_rules.specs.Places.{IsFirstRound, place_from, step_between, steps_of};
+ghost use Rattle.ada_rules.specs.Places.{IsFirstRound, edge_place_from, step_between, steps_of};
 
 use crate::edges::EdgeView;
 use crate::lists::CallView;
@@ -35,7 +35,7 @@ pub(crate) fn places_of<'a>(
     alloc: Global,
     edges: &[EdgeView<'a>],
 ) -> Result<OpTable<'a, usize>, NoMemory>
-    ensures { IfOk result (λ t. (n : OpName) → at t n ≡ place_from 0 (map edge_of edges.entry.now) n) }
+    ensures { IfOk result (λ t. (n : OpName) → at t n ≡ edge_place_from 0 (map edge_of edges.entry.now) n) }
 {
     let mut places = OpTable::new(alloc);
     'edges: for (place, edge) in edges.iter().enumerate() {

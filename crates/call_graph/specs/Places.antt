@@ -1,16 +1,11 @@
--- The places of operations by their names, numbers by these places, and the places to which calls lead.
--- Places count from 0; of operations of one name the first counts, and what has no place counts nothing.
-use Rattle.std.specs.Prelude.{ℕ, ◌+◌, List, [], ◌∷◌, Option, Some, None, filter_map, if◌then◌else◌}
+-- Numbers by the places of operations, and the places to which calls lead.
+-- Places count from 0 (`FirstPlaces` of name_sets), and what has no place counts nothing.
+use Rattle.std.specs.Prelude.{ℕ, List, [], Option, Some, None, filter_map}
 use Rattle.seq_tree.specs.Names.{Name}
-use Rattle.seq_tree.specs.Calls.{block_calls, same_op}
+use Rattle.seq_tree.specs.Calls.{block_calls}
 use Rattle.seq_tree.specs.declared.tree.OpName.{OpName}
 use Rattle.call_graph.specs.Entries.{Work, Plain, Protected, Asked}
 use Rattle.call_graph.specs.Numbers.{value}
-
--- the place of the first operation of a name, counted from this number
-abbrev pub place_from : ℕ → List OpName → OpName → Option ℕ
-place_from n [] name = None
-place_from n (op ∷ ops) name = if same_op op name then Some n else place_from (n + 1) ops name
 
 -- the number at a place, where there may be none
 abbrev pub value_at : List ℕ → Option ℕ → ℕ

@@ -6,7 +6,7 @@ ghost use Rattle.seq_cost.specs.Different.{call_of};
 ghost use Rattle.name_sets.specs.Tables.{at};
 ghost use Rattle.ods_tree.specs.Links.{first_of};
 ghost use Rattle.call_graph.specs.Entries.{entry_at};
-ghost use Rattle.call_graph.specs.Places.{place_from};
+ghost use Rattle.name_sets.specs.FirstPlaces.{op_place_from};
 
 use crate::services::Served;
 use name_sets::OpTable;
@@ -53,7 +53,7 @@ fn add_place<'a>(
 
 /// The places of operations by their names: of those of one name the first. `NoMemory` comes for want of memory alone.
 pub fn places_of<'a>(alloc: Global, services: &[Served<'a>]) -> Result<OpTable<'a, usize>, NoMemory>
-    ensures { IfOk result (λ t. (n : OpName) → at t n ≡ place_from 0 (map (λ e. e.name) (map entry_at services.entry.now)) n) }
+    ensures { IfOk result (λ t. (n : OpName) → at t n ≡ op_place_from 0 (map (λ e. e.name) (map entry_at services.entry.now)) n) }
 {
     let mut places = OpTable::new(alloc);
     'services: for (place, served) in services.iter().enumerate() {

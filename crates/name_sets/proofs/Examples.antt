@@ -1,8 +1,9 @@
 -- Examples: what tables have for names that have a place and for those that have none.
 use Rattle.std.proofs.Common.{◌≡◌, ℕ, [], ◌∷◌, Some, None, Vec, refl, ap, ◌∙◌}
-use Rattle.std.specs.Prelude.{codes, option_and_then, slice_get}
+use Rattle.std.specs.Prelude.{codes, nat_lt, option_and_then, slice_get}
 use Rattle.seq_tree.specs.Names.{Name}
 use Rattle.seq_tree.specs.declared.tree.OpName.{OpName}
+use Rattle.name_sets.specs.FirstPlaces.{place_where, op_place_from, place_from}
 use Rattle.name_sets.specs.OpPlaces.{op_place_in}
 use Rattle.name_sets.specs.Places.{place_in}
 use Rattle.name_sets.specs.Tables.{at, listed, named, number_at, or_0}
@@ -43,3 +44,21 @@ all_items v = refl
 
 no_items : (Z : Type 0) → listed {V = ℕ} {Z = Z} None ≡ []
 no_items Z = refl
+
+-- of two with one name the first is found, and none of a name that is not there
+first_of_two : place_from 0 (codes "b") (codes "a" ∷ codes "b" ∷ codes "b" ∷ []) ≡ Some 1
+first_of_two = refl
+
+not_there : place_from 0 (codes "c") (codes "a" ∷ codes "b" ∷ []) ≡ None
+not_there = refl
+
+-- so it is with operations: one of another object is another
+first_operation : op_place_from 0 (record { object = codes "r"; op = codes "set" } ∷ set ∷ set ∷ []) set ≡ Some 1
+first_operation = refl
+
+no_operation : op_place_from 0 (record { object = codes "r"; op = codes "set" } ∷ []) set ≡ None
+no_operation = refl
+
+-- of two that pass a test the first counts, from the number that is given
+first_that_passes : place_where (λ n. nat_lt 3 n) 5 (2 ∷ 4 ∷ 6 ∷ []) ≡ Some 6
+first_that_passes = refl

@@ -1,3 +1,4 @@
+pub mod Shared
 pub mod EndSteps
 mod Examples
 pub mod ListSteps

@@ -1,3 +1,4 @@
+pub mod FirstPlaces
 pub mod OpPlaces
 pub mod Places
 pub mod Sets

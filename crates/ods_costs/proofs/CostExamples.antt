@@ -13,7 +13,8 @@ use Rattle.design_rules.specs.Broken.{V14, V15Cost}
 use Rattle.design_rules.specs.Budgets.{body_cost}
 use Rattle.call_graph.specs.Entries.{entries}
 use Rattle.call_graph.specs.Entries as works
-use Rattle.call_graph.specs.Places.{known_by, place_from}
+use Rattle.name_sets.specs.FirstPlaces.{op_place_from}
+use Rattle.call_graph.specs.Places.{known_by}
 use Rattle.call_graph.specs.Prices.{cap}
 use Rattle.ods_costs.specs.Costed.{ArePrices, block_in, dear_parts, gives_operations, gives_request, meant_entry, meant_place, meant_work}
 use Rattle.ods_costs.specs.Costed.{over_budgets, request_in, served_ops, served_part, threads_among, work_in}
@@ -38,7 +39,7 @@ request_work = refl
 
 -- a call goes by what it means, in a body too
 abbrev places : OpName → Option ℕ
-places = place_from 0 (f ∷ g ∷ go ∷ [])
+places = op_place_from 0 (f ∷ g ∷ go ∷ [])
 
 by_link : meant_place x places by_root ≡ Some 0
 by_link = refl

@@ -12,11 +12,12 @@ use Rattle.ods_tree.specs.Links.{renamed, renamed_statement, renamed_branches, r
 use Rattle.ods_tree.specs.Flattening.{flat}
 use Rattle.call_graph.specs.Entries.{Entry, entries, entry_at}
 use Rattle.call_graph.specs.Entries as works
-use Rattle.call_graph.specs.Places.{known_by, place_from}
+use Rattle.name_sets.specs.FirstPlaces.{op_place_from}
+use Rattle.call_graph.specs.Places.{known_by}
 use Rattle.call_graph.specs.Prices.{cap, deeper_prices, price, prices}
 use Rattle.call_graph.specs.declared.services.Served.{Served}
 use Rattle.call_graph.proofs.Shared.PriceLaws.{block-priced}
-use Rattle.ods_costs.specs.Costed.{ArePrices, meant_entry, meant_place, meant_work, served_as}
+use Rattle.ods_costs.specs.Costed.{ArePrices, meant_place, meant_work, served_as}
 
 -- calls by what they mean
 module _ (means : OpName → OpName) (costs : Costs) (work : ℕ → ℕ) (f : Name → Name → ℕ) where
@@ -81,12 +82,12 @@ module _ (x : Design) (place : OpName → Option ℕ) where
 
   -- the prices of all operations that may be called are what calls count
   pub prices-are : (ss : List Served) (numbers : List ℕ) → map (served_as x) ss ≡ entries (flat x)
-      → ((n : OpName) → place n ≡ place_from 0 (map (λ e. e.name) (map entry_at ss)) n)
+      → ((n : OpName) → place n ≡ op_place_from 0 (map (λ e. e.name) (map entry_at ss)) n)
       → numbers ≡ prices (length ss) x.costs (meant_place x place) (map entry_at ss) → ArePrices x place numbers
   prices-are ss numbers all places is b =
       let es = entries (flat x) in
-      let placed : (n : OpName) → place n ≡ place_from 0 (map (λ e. e.name) es) n =
-      λ n. places n ∙ ap (λ ns. place_from 0 ns n) (meant-names ss ∙ ap (map (λ (e : Entry). e.name)) all) in
+      let placed : (n : OpName) → place n ≡ op_place_from 0 (map (λ e. e.name) es) n =
+      λ n. places n ∙ ap (λ ns. op_place_from 0 ns n) (meant-names ss ∙ ap (map (λ (e : Entry). e.name)) all) in
       let many : length ss ≡ length es = sym (length-map ss (served_as x)) ∙ ap (λ (cs : List Entry). length cs) all in
       let same : numbers ≡ prices (length es) x.costs place es = is ∙ meant-prices (length ss) ss
       ∙ ap (prices (length ss) x.costs place) all ∙ ap (λ n. prices n x.costs place es) many in

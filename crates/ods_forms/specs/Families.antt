@@ -4,7 +4,7 @@ use Rattle.std.specs.Prelude.{◌≡◌, map}
 use Rattle.seq_tree.specs.Names.{Name}
 use Rattle.name_sets.specs.Places.{place_in}
 use Rattle.ods_tree.specs.Trees.{provided_of}
-use Rattle.ods_index.specs.Tables.{place_from}
+use Rattle.name_sets.specs.FirstPlaces.{place_from}
 use Rattle.ods_index.specs.Walking.{object_of}
 use Rattle.ods_forms.specs.declared.fittings.Family.{Family}
 

@@ -15,7 +15,7 @@ ghost use Rattle.ods_forms.specs.Counts.{count_in};
 ghost use Rattle.ods_forms.specs.Families.{IsFamily};
 ghost use Rattle.ods_index.specs.Indexing.{IsIndex};
 ghost use Rattle.ods_index.specs.Judging.{Tells, head_of};
-ghost use Rattle.ods_index.specs.Tables.{place_from};
+ghost use Rattle.name_sets.specs.FirstPlaces.{place_from};
 ghost use Rattle.ods_index.specs.Walking.{object_of, standing_of};
 
 use crate::counts::{Counts, body_counts, link_counts};

@@ -3,22 +3,14 @@ use Rattle.std.proofs.Common.{◌≡◌, true, false, [], ◌∷◌, Some, None,
 use Rattle.design_rules.specs.Broken.{V17Tick, V17Priorities, V15Threads}
 use Rattle.design_rules.specs.Rules.{IsListed}
 use Rattle.ods_index.specs.Judging.{Tells, Judges, IsFirstOffender, IsTold, IsToldFirst, head_of}
-use Rattle.ods_index.specs.Tables.{place_from}
 use Rattle.std.specs.Prelude.{codes}
 use Rattle.ods_tree.specs.Walk.{own_of}
 use Rattle.ods_tree.proofs.Shared.Short.{group}
 use Rattle.ods_index.specs.Told.{is_memory, told_of}
 use Rattle.ods_index.specs.Walking.{inside}
-use Rattle.ods_index.specs.OpPlaces.{op_place_from, own_ops}
+use Rattle.ods_index.specs.OwnOps.{own_ops}
 use Rattle.ods_index.specs.declared.broken.Broken.TheVariants as code
-use Rattle.ods_index.proofs.Shared.SmallDesign.{f, g, go, passive}
-
--- of two with one name the first is found, and none of a name that is not there
-first_of_two : place_from 0 (98 ∷ []) ((97 ∷ []) ∷ (98 ∷ []) ∷ (98 ∷ []) ∷ []) ≡ Some 1
-first_of_two = refl
-
-not_there : place_from 0 (99 ∷ []) ((97 ∷ []) ∷ (98 ∷ []) ∷ []) ≡ None
-not_there = refl
+use Rattle.ods_index.proofs.Shared.SmallDesign.{f, passive}
 
 -- an answer tells what is to be told, no other, and no silence is one; want of memory says nothing
 told_right : Tells (Err code.V17Tick) (Some V17Tick)
@@ -85,12 +77,6 @@ inside_group = refl
 inside_none : inside passive ≡ []
 inside_none = refl
 
--- the first operation of a name has its place
-places : op_place_from 0 (f ∷ g ∷ g ∷ []) g ≡ Some 1
-places = refl
-
-no_place : op_place_from 0 (f ∷ g ∷ []) go ≡ None
-no_place = refl
-
+-- the operations of an object by their names
 provided_ops : own_ops (record { own = own_of passive; parent = None; siblings = own_of passive ∷ []; children = [] }) ≡ f ∷ []
 provided_ops = refl

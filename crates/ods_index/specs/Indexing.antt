@@ -5,7 +5,8 @@ use Rattle.seq_tree.specs.Names.{Name}
 use Rattle.name_sets.specs.Places.{place_in}
 use Rattle.ods_tree.specs.Trees.{design_of, provided_of}
 use Rattle.ods_tree.specs.Walk.{objects}
-use Rattle.ods_index.specs.Tables.{object_name, place_from}
+use Rattle.name_sets.specs.FirstPlaces.{place_from}
+use Rattle.ods_index.specs.Tables.{object_name}
 use Rattle.ods_index.specs.Walking.{standing_of}
 use Rattle.ods_index.specs.declared.index.Index.{Index}
 

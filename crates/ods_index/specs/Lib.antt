@@ -6,4 +6,4 @@ pub mod Linked
 pub mod Scoped
 pub mod Told
 pub mod Judging
-pub mod OpPlaces
+pub mod OwnOps

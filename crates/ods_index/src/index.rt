@@ -5,7 +5,8 @@ ghost use Rattle.ods_tree.specs.Trees.{design_of, provided_of};
 ghost use Rattle.ods_tree.specs.Walk.{objects};
 ghost use Rattle.design_rules.specs.Lookups.{object_named, operation_named, provided_named};
 ghost use Rattle.ods_index.specs.Indexing.{IsIndex};
-ghost use Rattle.ods_index.specs.Tables.{object_name, place_from};
+ghost use Rattle.name_sets.specs.FirstPlaces.{place_from};
+ghost use Rattle.ods_index.specs.Tables.{object_name};
 ghost use Rattle.ods_index.specs.Walking.{standing_of};
 
 use crate::tables::ProvidedOps;

@@ -7,7 +7,8 @@ ghost use Rattle.ods_tree.specs.Links.{first_of, resolve};
 ghost use Rattle.ods_tree.specs.Trees.{design_of, provided_of};
 ghost use Rattle.ods_tree.specs.Walk.{is_terminal};
 ghost use Rattle.ods_index.specs.Linked.{op_of};
-ghost use Rattle.ods_index.specs.OpPlaces.{op_place_from, own_ops};
+ghost use Rattle.name_sets.specs.FirstPlaces.{op_place_from};
+ghost use Rattle.ods_index.specs.OwnOps.{own_ops};
 ghost use Rattle.ods_index.specs.Walking.{standing_of};
 
 use crate::kinds::is_terminal;

@@ -4,7 +4,8 @@ ghost use Rattle.name_sets.specs.Places.{place_in};
 ghost use Rattle.ods_tree.specs.Trees.{provided_of};
 ghost use Rattle.design_rules.specs.Lookups.{provided_named};
 ghost use Rattle.ods_index.specs.Nodes.{node_name};
-ghost use Rattle.ods_index.specs.Tables.{op_name, place_from};
+ghost use Rattle.name_sets.specs.FirstPlaces.{place_from};
+ghost use Rattle.ods_index.specs.Tables.{op_name};
 
 use name_sets::Places;
 use ods_tree::{Node, Provided};

@@ -1,5 +1,5 @@
 -- Rings of calls between operations are rings between their places.
-use Rattle.std.proofs.Common.{Result, Ok, Err, ◌≡◌, ℕ, zero, suc, ◌+◌, ◌≤◌, ◌==◌, Bool, true, false, not, ◌&&◌, List, [], ◌∷◌, map, filter}
+use Rattle.std.proofs.Common.{Result, Ok, Err, ◌≡◌, ℕ, zero, suc, ◌≤◌, ◌==◌, Bool, true, false, not, ◌&&◌, List, [], ◌∷◌, map, filter}
 use Rattle.std.proofs.Common.{filter_map, option_map, flat_map, length, slice_get, nat_lt, Option, Some, None, refl, sym, ap, subst, ◌∙◌, arith, inl}
 use Rattle.std.proofs.Common.{inr, if◌then◌else◌}
 use Rattle.std.specs.List.{list_any}
@@ -26,44 +26,12 @@ use Rattle.ods_index.specs.declared.broken.Broken as code
 use Rattle.ods_rings.specs.Graphed.{body_edges, called_edges, edges_from, object_edges}
 use Rattle.ods_bodies.proofs.Shared.Items.{In, any-in, from-filter, from-flat, from-map, from-taken, in-filter, in-flat, in-map, in-taken}
 use Rattle.ods_bodies.proofs.Shared.Items.{some-in}
-use Rattle.ods_index.specs.OpPlaces.{op_place_from, own_ops}
+use Rattle.name_sets.proofs.Shared.PlaceLaws.{op-none-later, op-placed}
+use Rattle.name_sets.specs.FirstPlaces.{op_place_from}
+use Rattle.ods_index.specs.OwnOps.{own_ops}
 use Rattle.rings.specs.Graphs.{is_step}
 use Rattle.rings.specs.Reached.{Goes, IsFirstOnRing}
-
--- the place of a name is that of an operation with it
-pub place-at : (k : ℕ) (ops : List OpName) (n : OpName) (p : ℕ) → op_place_from k ops n ≡ Some p → (i : ℕ) × (p ≡ k + i) × (slice_get ops i ≡ Some n)
-place-at k [] n p e = cc
-place-at k (op ∷ ops) n p e = by (place-at (k + 1) ops n p) (same_op op n) refl e
-  where
-    by : (op_place_from (k + 1) ops n ≡ Some p → (i : ℕ) × (p ≡ k + 1 + i) × (slice_get ops i ≡ Some n)) → (t : Bool) → same_op op n ≡ t
-        → (if t then Some k else op_place_from (k + 1) ops n) ≡ Some p
-        → (i : ℕ) × (p ≡ k + i) × (slice_get (op ∷ ops) i ≡ Some n)
-    by rest true s h = (let y : k ≡ p = cc in (0, omega (arith, y), ap Some (same_op-eq op n s)))
-    by rest false s h = (let r = rest h in let y = r.1 in (suc r.0, omega (arith, y), r.2))
-
--- an operation at a place has one that is none later
-pub place-first : (k : ℕ) (ops : List OpName) (n : OpName) (i : ℕ) → slice_get ops i ≡ Some n → (p : ℕ) × (op_place_from k ops n ≡ Some p)
-    × (p ≤ k + i)
-place-first k [] n i e = cc
-place-first k (op ∷ ops) n i e = by (same_op op n) refl i e (λ j. place-first (k + 1) ops n j)
-  where
-    by : (t : Bool) → same_op op n ≡ t → (j : ℕ) → slice_get (op ∷ ops) j ≡ Some n
-        → ((m : ℕ) → slice_get ops m ≡ Some n → (p : ℕ) × (op_place_from (k + 1) ops n ≡ Some p) × (p ≤ k + 1 + m))
-        → (p : ℕ) × ((if t then Some k else op_place_from (k + 1) ops n) ≡ Some p) × (p ≤ k + j)
-    by true s j h rest = (k, refl, omega arith)
-    by false s zero h rest = (let y : op ≡ n = cc in let z : false ≡ true = sym s ∙ ap (λ m. same_op m n) y ∙ same_op-refl n in cc)
-    by false s (suc j) h rest = (let r = rest j h in let y = r.2 in (r.0, r.1, omega (arith, y)))
-
--- the place of what stands in a list
-pub place-in : (k : ℕ) (ops : List OpName) (n : OpName) → In n ops → (p : ℕ) × (op_place_from k ops n ≡ Some p)
-place-in k [] n h = absurd h
-place-in k (op ∷ ops) n h = by (place-in (k + 1) ops n) (same_op op n) refl h
-  where
-    by : (In n ops → (p : ℕ) × (op_place_from (k + 1) ops n ≡ Some p)) → (t : Bool) → same_op op n ≡ t → In n (op ∷ ops) → (p : ℕ)
-        × ((if t then Some k else op_place_from (k + 1) ops n) ≡ Some p)
-    by rest true s j = (k, refl)
-    by rest false s (inl e) = (let z : false ≡ true = sym s ∙ ap (λ m. same_op m n) e ∙ same_op-refl n in cc)
-    by rest false s (inr j) = rest j
+use Rattle.ods_rings.proofs.NamePlaces.{op-in}
 
 -- a call by the body that it stands in
 pub record Called (x : Design) (a c : OpName) : Type 0 where
@@ -113,7 +81,7 @@ module _ (x : Design) (place : OpName → Option ℕ) (placed : (n : OpName) →
 
   pub stands-at : (n : OpName) (p : ℕ) → place n ≡ Some p → slice_get (terminal_ops x) p ≡ Some n
   stands-at n p e =
-      let r = place-at 0 (terminal_ops x) n p (sym (placed n) ∙ e) in
+      let r = op-placed 0 (terminal_ops x) n p (sym (placed n) ∙ e) in
       let k = r.1 in
       let same : r.0 ≡ p = omega (arith, k) in
       let P : ℕ → Type 0 = λ z. slice_get (terminal_ops x) z ≡ Some n in subst P same r.2
@@ -180,7 +148,7 @@ module _ (x : Design) (place : OpName → Option ℕ) (placed : (n : OpName) →
         let own : In (record { object = d.standing.own.name; op = f.0.sig.name }) (terminal_ops x) =
         in-flat own_ops d.standing (record { object = d.standing.own.name; op = f.0.sig.name }) (terminals x) d.stands
         (in-map (λ p. record { object = d.standing.own.name; op = p.sig.name }) f.0 d.standing.own.provides f.1) in
-        let r = place-in 0 (terminal_ops x) (record { object = d.standing.own.name; op = f.0.sig.name }) own in
+        let r = op-in 0 (terminal_ops x) (record { object = d.standing.own.name; op = f.0.sig.name }) own in
         let named : record { object = d.standing.own.name; op = f.0.sig.name } ≡ a =
         ap (λ z. record { object = z; op = f.0.sig.name }) d.object ∙ ap (λ z. record { object = a.object; op = z }) (f.2 ∙ d.op) in
         (r.0, ap place (sym named) ∙ placed (record { object = d.standing.own.name; op = f.0.sig.name }) ∙ r.1)
@@ -256,7 +224,7 @@ module _ (x : Design) (place : OpName → Option ℕ) (placed : (n : OpName) →
     (passes : Passes x Fitting) where
   ringed : (i : ℕ) (told : Broken) → RingedOp x i told → (p : ℕ) × (p ≤ i) × IsOnRing (Goes (step-of x place placed)) p
   ringed i told r =
-      let f = place-first 0 (terminal_ops x) r.op i r.stands in
+      let f = op-none-later 0 (terminal_ops x) r.op i r.stands in
       let y = f.2 in
       (f.0, omega (arith, y), place-ring x place placed (bodies-fit x passes) r.op f.0 (placed r.op ∙ f.1) r.ring)
 

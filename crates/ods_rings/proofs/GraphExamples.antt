@@ -4,7 +4,7 @@ use Rattle.std.specs.Prelude.{codes}
 use Rattle.seq_tree.specs.declared.tree.OpName.{OpName}
 use Rattle.ods_tree.proofs.Shared.Short.{block, call}
 use Rattle.ods_rings.specs.Graphed.{body_edges, called_edges, calls_step, edges_from, object_edges}
-use Rattle.ods_index.specs.OpPlaces.{op_place_from}
+use Rattle.name_sets.specs.FirstPlaces.{op_place_from}
 use Rattle.ods_index.proofs.Shared.SmallDesign.{f, g, go, by_root, guarded, x, alone}
 
 -- edges go from a place to that of what a required call means

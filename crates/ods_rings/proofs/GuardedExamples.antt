@@ -10,7 +10,7 @@ use Rattle.ods_tree.specs.declared.design.Kind.{Kind}
 use Rattle.ods_tree.specs.declared.design.Kind.TheVariants.{Active, Protected}
 use Rattle.ods_tree.proofs.Shared.Short.{block, call, design, pas, pro, several, trees}
 use Rattle.ods_rings.specs.Guarded.{bodies_edges, edges_at, guard_edges, guards_among, guards_step, meant_edges}
-use Rattle.ods_index.specs.Tables.{place_from}
+use Rattle.name_sets.specs.FirstPlaces.{place_from}
 
 abbrev op : String → String → OpName
 op object op' = record { object = codes object; op = codes op' }

@@ -1,37 +1,32 @@
--- The places of names in a list, and the objects that stand there, also as the code keeps them.
-use Rattle.std.proofs.Common.{◌≡◌, ℕ, zero, suc, ◌+◌, ◌≤◌, Bool, true, false, cond, List, [], ◌∷◌, map, option_map, slice_get, Some, Bor, inl, inr}
-use Rattle.std.proofs.Common.{refl, sym, ap, ◌∙◌, arith}
-use Rattle.seq_tree.proofs.Shared.SameNames.{same-self, same-is}
+-- That operations and objects of a list have a place, and the objects that stand at places, also as the code keeps them.
+use Rattle.std.proofs.Common.{◌≡◌, ℕ, zero, suc, Bool, true, false, if◌then◌else◌, List, [], ◌∷◌, map, option_map, slice_get, Some, Bor, inl, inr}
+use Rattle.std.proofs.Common.{refl, sym, ap, ◌∙◌}
+use Rattle.seq_tree.proofs.Shared.SameNames.{same-self}
+use Rattle.seq_tree.proofs.Shared.Walks.{same_op-refl}
+use Rattle.seq_tree.specs.Calls.{same_op}
 use Rattle.seq_tree.specs.Names.{Name, same_name}
+use Rattle.seq_tree.specs.declared.tree.OpName.{OpName}
 use Rattle.ods_tree.specs.Designs.{Object}
 use Rattle.ods_tree.specs.declared.design.Node.{Node}
 use Rattle.design_rules.specs.Broken.{Broken}
 use Rattle.ods_index.specs.Nodes.{node_name, node_object}
-use Rattle.ods_index.specs.Tables.{place_from}
-use Rattle.ods_bodies.proofs.Shared.Items.{In}
+use Rattle.name_sets.specs.FirstPlaces.{place_where, op_place_from, place_from}
+use Rattle.ods_bodies.proofs.Shared.Items.{In, in-map}
 
--- the place of a name is that of one that is the same
-pub place-of : (k : ℕ) (ns : List Name) (n : Name) (p : ℕ) → place_from k n ns ≡ Some p → (i : ℕ) × (p ≡ k + i) × (slice_get ns i ≡ Some n)
-place-of k [] n p e = cc
-place-of k (m ∷ ms) n p e = by (place-of (suc k) ms n p) (same_name m n) refl e
+-- what stands in a list and passes a test has a first place
+in-placed : {A : Type 0} (test : A → Bool) (k : ℕ) (xs : List A) (x : A) → In x xs → test x ≡ true → (p : ℕ) × (place_where test k xs ≡ Some p)
+in-placed test k [] x h passes = absurd h
+in-placed test k (y ∷ xs) x h passes = by (λ j. in-placed test (suc k) xs x j passes) (test y) refl h
   where
-    by : (place_from (suc k) n ms ≡ Some p → (i : ℕ) × (p ≡ suc k + i) × (slice_get ms i ≡ Some n)) → (t : Bool) → same_name m n ≡ t
-        → cond t (Some k) (place_from (suc k) n ms) ≡ Some p
-        → (i : ℕ) × (p ≡ k + i) × (slice_get (m ∷ ms) i ≡ Some n)
-    by rest true s h = (let y : k ≡ p = cc in (0, omega (arith, y), ap Some (same-is m n s)))
-    by rest false s h = (let r = rest h in let y = r.1 in (suc r.0, omega (arith, y), r.2))
+    by : (In x xs → (p : ℕ) × (place_where test (suc k) xs ≡ Some p)) → (t : Bool) → test y ≡ t → In x (y ∷ xs)
+        → (p : ℕ) × ((if t then Some k else place_where test (suc k) xs) ≡ Some p)
+    by rest true s j = (k, refl)
+    by rest false s (inl e) = (let z : false ≡ true = sym s ∙ ap test e ∙ passes in cc)
+    by rest false s (inr j) = rest j
 
--- a name at a place has a place that is none later
-pub none-later : (k : ℕ) (ns : List Name) (n : Name) (i : ℕ) → slice_get ns i ≡ Some n → (p : ℕ) × (place_from k n ns ≡ Some p) × (p ≤ k + i)
-none-later k [] n i e = cc
-none-later k (m ∷ ms) n i e = by (same_name m n) refl i e (λ j. none-later (suc k) ms n j)
-  where
-    by : (t : Bool) → same_name m n ≡ t → (j : ℕ) → slice_get (m ∷ ms) j ≡ Some n
-        → ((l : ℕ) → slice_get ms l ≡ Some n → (p : ℕ) × (place_from (suc k) n ms ≡ Some p) × (p ≤ suc k + l))
-        → (p : ℕ) × (cond t (Some k) (place_from (suc k) n ms) ≡ Some p) × (p ≤ k + j)
-    by true s j h rest = (k, refl, omega arith)
-    by false s zero h rest = (let y : m ≡ n = cc in let z : false ≡ true = sym s ∙ ap (λ l. same_name l n) y ∙ same-self n in cc)
-    by false s (suc j) h rest = (let r = rest j h in let y = r.2 in (r.0, r.1, omega (arith, y)))
+-- an operation among these has a place
+pub op-in : (k : ℕ) (ops : List OpName) (n : OpName) → In n ops → (p : ℕ) × (op_place_from k ops n ≡ Some p)
+op-in k ops n h = in-placed (λ op. same_op op n) k ops n h (same_op-refl n)
 
 -- the names of objects
 abbrev pub names-of : List Object → List Name
@@ -39,14 +34,8 @@ names-of os = map (λ o. o.name) os
 
 -- an object among these has a place
 pub has-place : (k : ℕ) (os : List Object) (o : Object) → In o os → (p : ℕ) × (place_from k o.name (names-of os) ≡ Some p)
-has-place k [] o h = absurd h
-has-place k (q ∷ os) o h = by (has-place (suc k) os o) (same_name q.name o.name) refl h
-  where
-    by : (In o os → (p : ℕ) × (place_from (suc k) o.name (names-of os) ≡ Some p)) → (t : Bool) → same_name q.name o.name ≡ t → In o (q ∷ os)
-        → (p : ℕ) × (cond t (Some k) (place_from (suc k) o.name (names-of os)) ≡ Some p)
-    by rest true s j = (k, refl)
-    by rest false s (inl e) = (let z : false ≡ true = sym s ∙ ap (λ m. same_name m.name o.name) e ∙ same-self o.name in cc)
-    by rest false s (inr j) = rest j
+has-place k os o h =
+    in-placed (λ n. same_name n o.name) k (names-of os) o.name (in-map (λ (q : Object). q.name) o os h) (same-self o.name)
 
 -- what stands at a place of names is the name of an object
 pub object-at : (os : List Object) (i : ℕ) (n : Name) → slice_get (names-of os) i ≡ Some n → (o : Object) × In o os × (o.name ≡ n)

@@ -18,9 +18,10 @@ use Rattle.design_rules.specs.Rules.{RingedObject}
 use Rattle.ods_rings.specs.Guarded.{edges_at, guard_edges, meant_edges}
 use Rattle.ods_index.specs.Judging.{IsFirstOffender}
 use Rattle.ods_index.specs.Nodes.{node_object}
-use Rattle.ods_index.specs.Tables.{place_from}
+use Rattle.name_sets.proofs.Shared.PlaceLaws.{name-none-later, name-placed}
+use Rattle.name_sets.specs.FirstPlaces.{place_from}
 use Rattle.ods_bodies.proofs.Shared.Items.{In, any-in, from-flat, from-map, from-taken, in-flat, in-map, in-taken, some-in}
-use Rattle.ods_rings.proofs.NamePlaces.{has-place, name-at, names-of, none-later, object-at, place-of}
+use Rattle.ods_rings.proofs.NamePlaces.{has-place, name-at, names-of, object-at}
 use Rattle.rings.proofs.Shared.NamedRings.{ring_of_names, ring_of_places}
 use Rattle.rings.specs.Graphs.{is_step}
 use Rattle.rings.specs.Reached.{Goes, IsFirstOnRing}
@@ -82,7 +83,7 @@ module _ (x : Design) (place : Name → Option ℕ) (placed : (n : Name) → pla
 
   stands-at : (n : Name) (p : ℕ) → place n ≡ Some p → slice_get (names-of (protected_objects x)) p ≡ Some n
   stands-at n p e =
-      let r = place-of 0 (names-of (protected_objects x)) n p (sym (placed n) ∙ e) in
+      let r = name-placed 0 (names-of (protected_objects x)) n p (sym (placed n) ∙ e) in
       let k = r.1 in
       let same : r.0 ≡ p = omega (arith, k) in
       let P : ℕ → Type 0 = λ z. slice_get (names-of (protected_objects x)) z ≡ Some n in subst P same r.2
@@ -133,7 +134,7 @@ module _ (x : Design) (place : Name → Option ℕ) (placed : (n : Name) → pla
 
   ringed : (i : ℕ) (told : Broken) → RingedObject x i told → (p : ℕ) × (p ≤ i) × IsOnRing (Goes step-of) p
   ringed i told r =
-      let f = none-later 0 (names-of (protected_objects x)) r.object.name i (name-at (protected_objects x) i r.object r.stands) in
+      let f = name-none-later 0 (names-of (protected_objects x)) r.object.name i (name-at (protected_objects x) i r.object r.stands) in
       let y = f.2 in (
         f.0,
         omega (arith, y),

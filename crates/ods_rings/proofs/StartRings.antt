@@ -22,10 +22,11 @@ use Rattle.ods_index.specs.Judging.{IsFirstOffender}
 use Rattle.ods_index.specs.Nodes.{node_name, node_object}
 use Rattle.ods_rings.specs.Starting.{has_edge, is_at, starts_at, target_in}
 use Rattle.ods_bodies.specs.Keys.{has_target, is_target}
-use Rattle.ods_index.specs.Tables.{place_from}
+use Rattle.name_sets.proofs.Shared.PlaceLaws.{name-none-later, name-placed}
+use Rattle.name_sets.specs.FirstPlaces.{place_from}
 use Rattle.ods_rings.specs.declared.start_rings.ThreadPlaces.{ThreadPlaces}
 use Rattle.ods_bodies.proofs.Shared.Items.{In, any-in, some-in}
-use Rattle.ods_rings.proofs.NamePlaces.{has-place, name-at, names-of, names-same, none-later, object-at, place-of}
+use Rattle.ods_rings.proofs.NamePlaces.{has-place, name-at, names-of, names-same, object-at}
 use Rattle.rings.proofs.Shared.NamedRings.{ring_of_names, ring_of_places}
 use Rattle.rings.specs.Graphs.{is_step}
 use Rattle.rings.specs.Reached.{Goes, IsFirstOnRing}
@@ -105,7 +106,7 @@ module _ (x : Design) (place target : Name → Option ℕ) (count : ℕ) (es : L
 
   stands-at : (n : Name) (p : ℕ) → place n ≡ Some p → slice_get (names-of (thread_objects x)) p ≡ Some n
   stands-at n p e =
-      let r = place-of 0 (names-of (thread_objects x)) n p (sym (graph.placed n) ∙ e) in
+      let r = name-placed 0 (names-of (thread_objects x)) n p (sym (graph.placed n) ∙ e) in
       let k = r.1 in
       let same : r.0 ≡ p = omega (arith, k) in
       let P : ℕ → Type 0 = λ z. slice_get (names-of (thread_objects x)) z ≡ Some n in subst P same r.2
@@ -148,7 +149,7 @@ module _ (x : Design) (place target : Name → Option ℕ) (count : ℕ) (es : L
 
   ringed : (i : ℕ) (told : Broken) → RingedThread x i told → (p : ℕ) × (p ≤ i) × IsOnRing (Goes step-of) p
   ringed i told r =
-      let f = none-later 0 (names-of (thread_objects x)) r.thread.name i (name-at (thread_objects x) i r.thread r.stands) in
+      let f = name-none-later 0 (names-of (thread_objects x)) r.thread.name i (name-at (thread_objects x) i r.thread r.stands) in
       let y = f.2 in (
         f.0,
         omega (arith, y),

@@ -1,5 +1,5 @@
 -- The graph of calls between terminal operations, by their places: an edge for each required call, links followed.
--- Places are those of `OpPlaces`.
+-- Places are those of `FirstPlaces` of name_sets.
 use Rattle.std.specs.Prelude.{ℕ, Bool, List, [], map, filter, filter_map, flat_map, length, Option, Some, None}
 use Rattle.std.specs.List.{list_any}
 use Rattle.seq_tree.specs.Calls.{same_op, block_calls}
@@ -8,7 +8,7 @@ use Rattle.seq_tree.specs.declared.tree.OpName.{OpName}
 use Rattle.ods_tree.specs.Designs.{Body, Design}
 use Rattle.ods_tree.specs.Links.{resolve}
 use Rattle.ods_tree.specs.Walk.{Standing, terminals}
-use Rattle.ods_index.specs.OpPlaces.{op_place_from}
+use Rattle.name_sets.specs.FirstPlaces.{op_place_from}
 use Rattle.rings.specs.Graphs.{is_step}
 
 -- the edges from a place to those of the required ones of these calls

@@ -9,7 +9,7 @@ use Rattle.ods_tree.specs.Designs.{Body, Object, Design}
 use Rattle.ods_tree.specs.Flattening.{is_protected}
 use Rattle.ods_tree.specs.Links.{resolve}
 use Rattle.ods_tree.specs.Walk.{Standing, is_terminal}
-use Rattle.ods_index.specs.Tables.{place_from}
+use Rattle.name_sets.specs.FirstPlaces.{place_from}
 use Rattle.rings.specs.Graphs.{is_step}
 
 -- the protected ones of these objects, where they have no children

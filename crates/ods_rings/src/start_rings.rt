@@ -12,7 +12,7 @@ ghost use Rattle.ods_index.specs.Linked.{op_of};
 ghost use Rattle.ods_index.specs.Nodes.{node_name, node_object};
 ghost use Rattle.ods_rings.specs.Starting.{has_edge, start_edges, starts_at, target_in};
 ghost use Rattle.ods_bodies.specs.Keys.{has_target};
-ghost use Rattle.ods_index.specs.Tables.{place_from};
+ghost use Rattle.name_sets.specs.FirstPlaces.{place_from};
 ghost use Rattle.ods_index.specs.Walking.{object_of};
 
 use crate::rising;

@@ -1,11 +1,10 @@
 -- The place of a name in a list: it is one of the places, and that of a name which no earlier one is the same as.
-use Rattle.std.proofs.Common.{◌≡◌, ℕ, zero, suc, Bool, true, false, not, List, [], ◌∷◌, ◌++◌, map, length, Option, Some, None, refl, sym, ap, subst}
+use Rattle.std.proofs.Common.{◌≡◌, ℕ, zero, suc, true, false, not, List, [], ◌∷◌, ◌++◌, map, length, Option, Some, None, refl, sym, ap, subst}
 use Rattle.std.proofs.Common.{◌∙◌, arith}
 use Rattle.std.specs.Prelude.{◌+◌, ◌<◌, slice_get, option_map, option_and_then, unwrap_or, if◌then◌else◌}
 use Rattle.std.proofs.lemmas.Bool.{and_parts, or_parts, ne_eqb, not-true}
 use Rattle.std.proofs.lemmas.List.{length-map}
-use Rattle.std.proofs.lemmas.Option.{none-some, same_Some}
-use Rattle.seq_tree.specs.Lists.{first_from}
+use Rattle.std.proofs.lemmas.Option.{none-some, same_Some, slice_get_within}
 use Rattle.seq_tree.specs.Names.{Name, same_name, is_named, are_distinct}
 use Rattle.seq_tree.specs.Operations.{Signature}
 use Rattle.ada_tree.specs.Programs.{Unit, Program}
@@ -15,26 +14,23 @@ use Rattle.trace_tree.specs.Lines.{unit_name, unit_ops}
 use Rattle.trace_tree.specs.Placed.{IsUnit, IsOp}
 use Rattle.law_calls.proofs.Shared.Facts.{is-same}
 use Rattle.law_trace_places.proofs.Shared.Units.{item-at, name-is, unit-names, own-distinct}
-use Rattle.trace_read.specs.Names.{place_from, head_names, unit_of_name, op_of_name}
+use Rattle.name_sets.proofs.Shared.PlaceLaws.{name-placed}
+use Rattle.name_sets.specs.FirstPlaces.{place_from}
+use Rattle.trace_read.specs.Names.{head_names, unit_of_name, op_of_name}
 use Rattle.law_traces.proofs.Shared.Finding.{same-turned}
 
 pub place-below : (names : List Name) (i k : ℕ) (n : Name) → place_from i n names ≡ Some k → k < i + length names
-place-below [] i k n e = absurd (none-some k e)
-place-below (m ∷ names) i k n e = by (same_name m n) e (place-below names (suc i) k n)
-  where
-    by : (b : Bool) → option_map (λ (v : ℕ × Name). v.0) (if b then Some (i, m) else first_from (suc i) (λ x. same_name x n) names) ≡ Some k
-        → (place_from (suc i) n names ≡ Some k → k < suc i + length names) → k < i + suc (length names)
-    by true g more = let h : i ≡ k = same_Some i k g in omega (arith, h)
-    by false g more = let h = more g in omega (arith, h)
+place-below names i k n e =
+    let r = name-placed i names n k e in let here = r.1 in let h = slice_get_within names r.0 n r.2 in omega (arith, here, h)
 
 place-at : (names : List Name) (i k : ℕ) (n : Name) → slice_get names k ≡ Some n
     → ((j : ℕ) (m : Name) → j < k → slice_get names j ≡ Some m → same_name m n ≡ false) → place_from i n names ≡ Some (i + k)
 place-at [] i k n at before = absurd (none-some n at)
 place-at (m ∷ names) i zero n at before =
-    ap (λ b. option_map (λ (v : ℕ × Name). v.0) (if b then Some (i, m) else first_from (suc i) (λ x. same_name x n) names)) (is-same m n (same_Some m n at))
+    ap (λ b. if b then Some i else place_from (suc i) n names) (is-same m n (same_Some m n at))
     ∙ ap (λ z. Some z) (let z : i ≡ i + zero = omega arith in z)
 place-at (m ∷ names) i (suc k) n at before =
-    ap (λ b. option_map (λ (v : ℕ × Name). v.0) (if b then Some (i, m) else first_from (suc i) (λ x. same_name x n) names)) (before zero m (omega arith) refl)
+    ap (λ b. if b then Some i else place_from (suc i) n names) (before zero m (omega arith) refl)
     ∙ place-at names (suc i) k n at (λ j x h e. before (suc j) x (omega (arith, h)) e)
     ∙ ap (λ z. Some z) (let z : suc i + k ≡ i + suc k = omega arith in z)
 
@@ -48,20 +44,16 @@ at-map f [] k y at = absurd (none-some y at)
 at-map f (x ∷ xs) zero y at = (x, refl, sym (same_Some (f x) y at))
 at-map f (x ∷ xs) (suc k) y at = at-map f xs k y at
 
-within : {A : Type 0} (xs : List A) (k : ℕ) (x : A) → slice_get xs k ≡ Some x → k < length xs
-within [] k x at = absurd (none-some x at)
-within (y ∷ ys) zero x at = omega arith
-within (y ∷ ys) (suc k) x at = let h = within ys k x at in omega (arith, h)
-
 -- UNITS
 pub unit-back : (p : Program) → MeetsRules p → (k : ℕ) → IsUnit p k → unit_of_name p (unit_name p k) ≡ Some k
 unfolding unit_of_name
 unit-back p meets k h =
     let u = item-at p.units k h in
-    place-at (map (λ (x : Unit). x.name) p.units) 0 k (unit_name p k) (map-at (λ (x : Unit). x.name) p.units k u.0 u.1 ∙ ap (λ n. Some n) (sym (name-is p k u.0 u.1)))
+    place-at (map (λ (x : Unit). x.name) p.units) 0 k (unit_name p k)
+    (map-at (λ (x : Unit). x.name) p.units k u.0 u.1 ∙ ap (λ n. Some n) (sym (name-is p k u.0 u.1)))
     (λ j m less at. let v = at-map (λ (x : Unit). x.name) p.units j m at in
     ap (λ n. same_name n (unit_name p k)) (v.2 ∙ sym (name-is p j v.0 v.1))
-    ∙ unit-names p meets j k (within p.units j v.0 v.1) h ∙ ne_eqb j k (λ e. let z : j ≡ k = e in absurd (omega (arith, z, less))))
+    ∙ unit-names p meets j k (slice_get_within p.units j v.0 v.1) h ∙ ne_eqb j k (λ e. let z : j ≡ k = e in absurd (omega (arith, z, less))))
     ∙ ap (λ z. Some z) (let z : 0 + k ≡ k = omega arith in z)
 
 pub unit-below : (p : Program) (k : ℕ) (n : Name) → unit_of_name p n ≡ Some k → IsUnit p k

@@ -1,14 +1,10 @@
--- The place of a name in a list of names: that of the first which is the same.
+-- The units and the operations of a program by their names: each has the place of the first of its name.
 -- Places count from 0.
-use Rattle.std.specs.Prelude.{ℕ, List, map, Option, option_map, option_and_then, slice_get}
-use Rattle.seq_tree.specs.Names.{Name, same_name}
-use Rattle.seq_tree.specs.Lists.{first_from}
+use Rattle.std.specs.Prelude.{ℕ, List, map, Option, option_and_then, slice_get}
+use Rattle.seq_tree.specs.Names.{Name}
+use Rattle.name_sets.specs.FirstPlaces.{place_from}
 use Rattle.ada_tree.specs.Programs.{Program, Form, Unit}
 use Rattle.ada_tree.specs.Bodies.{heads}
-
--- the place of a name, where the places begin with this one
-abbrev pub place_from : ℕ → Name → List Name → Option ℕ
-place_from place name names = option_map (λ u. u.0) (first_from place (λ n. same_name n name) names)
 
 -- the names of the operations of a unit
 abbrev pub head_names : Form → List Name

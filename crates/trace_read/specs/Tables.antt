@@ -5,7 +5,8 @@ use Rattle.seq_tree.specs.Names.{Name}
 use Rattle.ada_tree.specs.Programs.{Unit}
 use Rattle.name_sets.specs.Places.{place_in}
 use Rattle.name_sets.specs.declared.places.Places.{Places}
-use Rattle.trace_read.specs.Names.{place_from, head_names}
+use Rattle.name_sets.specs.FirstPlaces.{place_from}
+use Rattle.trace_read.specs.Names.{head_names}
 
 -- a table of a list of names
 pub record IsTable (names : List Name) (t : Places) : Type 0 where

@@ -8,7 +8,7 @@ use Rattle.std.proofs.Math.ListN.{get_or}
 use Rattle.std.proofs.Math.Seq.{drop-cons}
 use Rattle.std.specs.Prelude.{find, option_and_then}
 use Rattle.seq_tree.specs.Names.{Name, same_name}
-use Rattle.ods_index.specs.Tables.{place_from}
+use Rattle.name_sets.specs.FirstPlaces.{place_from}
 
 -- the places from one on, by its name and those after it
 pub place_step : {A : Type 0} (f : A → Name) (xs : List A) (i : ℕ) (d : A) (n : Name) → i < length xs →

@@ -1,7 +1,8 @@
 use Rattle.std.proofs.Common.{◌≡◌, ◌≤◌, length, map, drop}
 use Rattle.seq_tree.specs.Names.{Name}
 use Rattle.name_sets.specs.Places.{place_in}
-use Rattle.ods_index.specs.Tables.{object_name, place_from}
+use Rattle.name_sets.specs.FirstPlaces.{place_from}
+use Rattle.ods_index.specs.Tables.{object_name}
 use Rattle.ods_index.proofs.index.places_of.Given as goal
 
 -- the places of the objects from this one on

@@ -2,7 +2,7 @@ use Rattle.std.proofs.Common.{◌≡◌, map, drop}
 use Rattle.seq_tree.specs.declared.tree.OpName.{OpName}
 use Rattle.name_sets.specs.Tables.{at}
 use Rattle.ods_tree.specs.Links.{first_of}
-use Rattle.ods_index.specs.OpPlaces.{op_place_from}
+use Rattle.name_sets.specs.FirstPlaces.{op_place_from}
 use Rattle.ods_index.specs.Linked.{op_of}
 use Rattle.ods_index.proofs.ops.op_places.Given as goal
 

@@ -1,7 +1,7 @@
 use Rattle.std.proofs.Common.{List, flat_map, map, filter}
 use Rattle.ods_tree.specs.Walk.{is_terminal}
 use Rattle.ods_index.specs.Linked.{op_of}
-use Rattle.ods_index.specs.OpPlaces.{own_ops}
+use Rattle.ods_index.specs.OwnOps.{own_ops}
 use Rattle.ods_index.specs.Walking.{standing_of}
 use Rattle.ods_index.specs.declared.walk.Standing.{Standing}
 use Rattle.seq_tree.proofs.Shared.LoopSteps.{added_step, flat_filter_first}

@@ -1,6 +1,6 @@
 use Rattle.std.proofs.Common.{◌≡◌, ◌++◌, filter, flat_map, map, drop}
 use Rattle.ods_tree.specs.Walk.{is_terminal}
-use Rattle.ods_index.specs.OpPlaces.{own_ops}
+use Rattle.ods_index.specs.OwnOps.{own_ops}
 use Rattle.ods_index.specs.Linked.{op_of}
 use Rattle.ods_index.specs.Walking.{standing_of}
 use Rattle.ods_index.proofs.ops.ops_of.Given as goal

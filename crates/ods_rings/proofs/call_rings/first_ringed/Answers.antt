@@ -4,7 +4,7 @@ use Rattle.name_sets.specs.Tables.{at}
 use Rattle.ods_tree.specs.Trees.{design_of}
 use Rattle.ods_tree.specs.Walk.{objects, terminals}
 use Rattle.ods_rings.specs.Graphed.{object_edges}
-use Rattle.ods_index.specs.OpPlaces.{op_place_from}
+use Rattle.name_sets.specs.FirstPlaces.{op_place_from}
 use Rattle.ods_index.specs.Linked.{op_of}
 use Rattle.ods_index.specs.Walking.{standing_of}
 use Rattle.ods_rings.proofs.CallRings.{edges-same, count-same}

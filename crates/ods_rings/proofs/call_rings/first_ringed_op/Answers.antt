@@ -5,7 +5,7 @@ use Rattle.design_rules.specs.Broken.{V09Calls}
 use Rattle.design_rules.specs.Rings.{terminal_ops}
 use Rattle.design_rules.specs.Rules.{Fitting, RingedOp}
 use Rattle.ods_rings.specs.Graphed.{calls_step}
-use Rattle.ods_index.specs.OpPlaces.{op_place_from}
+use Rattle.name_sets.specs.FirstPlaces.{op_place_from}
 use Rattle.ods_index.specs.Judging.{Passes}
 use Rattle.ods_index.specs.Linked.{op_of}
 use Rattle.ods_index.specs.Walking.{standing_of}

@@ -5,7 +5,7 @@ use Rattle.name_sets.specs.Places.{place_in}
 use Rattle.ods_tree.specs.Trees.{design_of}
 use Rattle.ods_rings.specs.Guarded.{guard_edges}
 use Rattle.ods_index.specs.Nodes.{node_object}
-use Rattle.ods_index.specs.Tables.{place_from}
+use Rattle.name_sets.specs.FirstPlaces.{place_from}
 use Rattle.ods_rings.proofs.NamePlaces.{names-of, names-same}
 use Rattle.ods_rings.proofs.ObjectRings.{count-same}
 use Rattle.ods_rings.proofs.object_rings.first_ringed.Goals as goal

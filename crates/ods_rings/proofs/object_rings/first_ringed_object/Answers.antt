@@ -6,7 +6,7 @@ use Rattle.design_rules.specs.Rings.{protected_objects}
 use Rattle.design_rules.specs.Rules.{RingedObject}
 use Rattle.ods_rings.specs.Guarded.{guards_among, guards_step}
 use Rattle.ods_index.specs.Nodes.{node_object}
-use Rattle.ods_index.specs.Tables.{place_from}
+use Rattle.name_sets.specs.FirstPlaces.{place_from}
 use Rattle.ods_index.specs.Walking.{standing_of}
 use Rattle.ods_rings.proofs.CallRings.{tells-first, told-by}
 use Rattle.ods_rings.proofs.NamePlaces.{names-of, tell-same}

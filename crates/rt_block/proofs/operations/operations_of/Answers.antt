@@ -3,7 +3,7 @@ use Rattle.std.proofs.lemmas.List.{length-map}
 use Rattle.name_sets.specs.Tables.{at}
 use Rattle.ods_tree.specs.Trees.{flat_of, thread_of}
 use Rattle.call_graph.specs.Entries.{entries, entry_at}
-use Rattle.call_graph.specs.Places.{place_from}
+use Rattle.name_sets.specs.FirstPlaces.{op_place_from}
 use Rattle.call_graph.specs.Prices.{prices}
 use Rattle.rt_block.specs.Called.{called_places, inner_places}
 use Rattle.rt_block.specs.Longest.{section_prices}
@@ -29,8 +29,8 @@ returns-clause-known c =
     record {
       counted = many;
       placed =
-          λ n. c.in_ok-places.ensures n ∙ ap (λ xs. place_from 0 (map (λ e. e.name) (map entry_at xs)) n) c.as_slice.ensures.value
-          ∙ ap (λ xs. place_from 0 (map (λ e. e.name) xs) n) served;
+          λ n. c.in_ok-places.ensures n ∙ ap (λ xs. op_place_from 0 (map (λ e. e.name) (map entry_at xs)) n) c.as_slice.ensures.value
+          ∙ ap (λ xs. op_place_from 0 (map (λ e. e.name) xs) n) served;
       priced =
           c.in_ok-priced.ensures.prices ∙ ap (λ xs. prices (length xs) f.costs place (map entry_at xs)) c.as_slice-2.ensures.value
           ∙ ap (λ n. prices n f.costs place (map entry_at ss)) many ∙ ap (λ xs. prices (length es) f.costs place xs) served;

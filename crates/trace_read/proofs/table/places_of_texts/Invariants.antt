@@ -2,7 +2,7 @@ use Rattle.std.proofs.Common.{◌≡◌, ◌≤◌, length, map, drop}
 use Rattle.seq_tree.specs.Names.{Name}
 use Rattle.seq_tree.specs.Trees.{operation_of}
 use Rattle.name_sets.specs.Places.{place_in}
-use Rattle.trace_read.specs.Names.{place_from}
+use Rattle.name_sets.specs.FirstPlaces.{place_from}
 use Rattle.trace_read.proofs.table.places_of_texts.Given as goal
 
 -- the places from this one on

@@ -7,7 +7,7 @@ use Rattle.ods_tree.specs.Trees.{design_of}
 use Rattle.ods_tree.specs.Walk as walk
 use Rattle.ods_tree.specs.declared.design.Design as code
 use Rattle.call_graph.specs.Entries.{Entry, entries, entry_at}
-use Rattle.call_graph.specs.Places.{place_from}
+use Rattle.name_sets.specs.FirstPlaces.{op_place_from}
 use Rattle.call_graph.specs.Prices.{prices}
 use Rattle.ods_index.specs.Walking.{standing_of}
 use Rattle.ods_costs.specs.Costed.{meant_place, served_as, served_part}
@@ -26,8 +26,8 @@ invariant_of-result c =
     let all : map (served_as x) ss ≡ entries (flat x) = c.in_ok-services.ensures x
     ∙ ap (λ vs. given (map standing_of vs)) c.as_slice.ensures.value ∙ ap given c.requires.walked
     ∙ ap (λ (d : code.Design). given (walk.objects (design_of d))) (sym c.in_ok-links.ensures) ∙ all-parts x in
-    let placed : (n : OpName) → place n ≡ place_from 0 (map (λ e. e.name) (map entry_at ss)) n =
-    λ n. c.in_ok-places.ensures n ∙ ap (λ vs. place_from 0 (map (λ e. e.name) (map entry_at vs)) n) c.as_slice-2.ensures.value in
+    let placed : (n : OpName) → place n ≡ op_place_from 0 (map (λ e. e.name) (map entry_at ss)) n =
+    λ n. c.in_ok-places.ensures n ∙ ap (λ vs. op_place_from 0 (map (λ e. e.name) (map entry_at vs)) n) c.as_slice-2.ensures.value in
     record {
       agrees =
           prices-are x place ss c.in_ok-priced.priced.prices.items all placed

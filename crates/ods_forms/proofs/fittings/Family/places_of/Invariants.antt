@@ -1,7 +1,7 @@
 use Rattle.std.proofs.Common.{◌≡◌, ◌≤◌, length, map, drop}
 use Rattle.seq_tree.specs.Names.{Name}
 use Rattle.name_sets.specs.Places.{place_in}
-use Rattle.ods_index.specs.Tables.{place_from}
+use Rattle.name_sets.specs.FirstPlaces.{place_from}
 use Rattle.ods_index.specs.Walking.{object_of}
 use Rattle.ods_forms.proofs.fittings.Family.places_of.Given as goal
 

@@ -1,7 +1,8 @@
 use Rattle.std.proofs.Common.{◌≡◌, ◌≤◌, length, map, drop}
 use Rattle.seq_tree.specs.Names.{Name}
 use Rattle.name_sets.specs.Places.{place_in}
-use Rattle.ods_index.specs.Tables.{op_name, place_from}
+use Rattle.name_sets.specs.FirstPlaces.{place_from}
+use Rattle.ods_index.specs.Tables.{op_name}
 use Rattle.ods_index.proofs.tables.ProvidedOps.new.Given as goal
 
 -- the places of the operations from this one on

@@ -3,7 +3,7 @@ use Rattle.std.proofs.lemmas.List.{length-map}
 use Rattle.ods_tree.specs.Flattening.{is_protected}
 use Rattle.ods_tree.specs.Trees.{design_of}
 use Rattle.ods_tree.specs.Walk.{is_terminal, objects, terminals}
-use Rattle.ods_index.specs.OpPlaces.{own_ops}
+use Rattle.ods_index.specs.OwnOps.{own_ops}
 use Rattle.ods_index.specs.Linked.{op_of}
 use Rattle.ods_starts.specs.Spreading.{steps_in}
 use Rattle.ods_index.specs.Walking.{standing_of}

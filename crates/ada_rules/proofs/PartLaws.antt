@@ -1,45 +1,29 @@
--- The loops, the calls and the works of a block are those among its parts.
+-- The loops and the works of a block are those among its parts.
 use Rattle.std.proofs.Common.{◌≡◌, ℕ, Bool, false, ◌||◌, List, [], ◌∷◌, ◌++◌, refl, sym, ap, ◌∙◌, append-nil}
 use Rattle.std.proofs.Math.Bool.{or_assoc}
 use Rattle.std.specs.List.{list_any}
 use Rattle.std.proofs.lemmas.List.Folds.{list_any-append}
 use Rattle.seq_tree.specs.Statements.{Statement, Statements, Branches, Null, Assign, If, For, ExitWhen, Call, Work, Put, End, Then, Nothing}
 use Rattle.seq_tree.specs.Statements.{Else, When}
-use Rattle.seq_tree.specs.Calls.{statement_calls, block_calls, branch_calls, statement_works, block_works, branch_works}
+use Rattle.seq_tree.specs.Calls.{statement_works, block_works, branch_works}
 use Rattle.ada_tree.specs.Naming.{statement_loops, block_loops, branch_loops}
-use Rattle.ada_rules.specs.Parts.{Part, LoopStart, LoopEnd, Called, Worked, loops_in, calls_in, works_in, statement_parts, block_parts, branch_parts}
+use Rattle.ada_rules.specs.Parts.{Part, LoopStart, LoopEnd, Worked, loops_in, works_in, statement_parts, block_parts, branch_parts}
 
 pub loops-cons : (p : Part) (ps : List Part) → loops_in (p ∷ ps) ≡ loops_in (p ∷ []) ++ loops_in ps
 loops-cons (LoopStart name) ps = refl
 loops-cons LoopEnd ps = refl
-loops-cons (Called name) ps = refl
 loops-cons (Worked ticks) ps = refl
-
-pub calls-cons : (p : Part) (ps : List Part) → calls_in (p ∷ ps) ≡ calls_in (p ∷ []) ++ calls_in ps
-calls-cons (LoopStart name) ps = refl
-calls-cons LoopEnd ps = refl
-calls-cons (Called name) ps = refl
-calls-cons (Worked ticks) ps = refl
 
 pub loops-append : (ps qs : List Part) → loops_in (ps ++ qs) ≡ loops_in ps ++ loops_in qs
 loops-append [] qs = refl
 loops-append (LoopStart name ∷ ps) qs = ap (λ ns. name ∷ ns) (loops-append ps qs)
 loops-append (LoopEnd ∷ ps) qs = loops-append ps qs
-loops-append (Called name ∷ ps) qs = loops-append ps qs
 loops-append (Worked ticks ∷ ps) qs = loops-append ps qs
-
-pub calls-append : (ps qs : List Part) → calls_in (ps ++ qs) ≡ calls_in ps ++ calls_in qs
-calls-append [] qs = refl
-calls-append (LoopStart name ∷ ps) qs = calls-append ps qs
-calls-append (LoopEnd ∷ ps) qs = calls-append ps qs
-calls-append (Called name ∷ ps) qs = ap (λ ns. name ∷ ns) (calls-append ps qs)
-calls-append (Worked ticks ∷ ps) qs = calls-append ps qs
 
 pub works-append : (ps qs : List Part) → works_in (ps ++ qs) ≡ works_in ps ++ works_in qs
 works-append [] qs = refl
 works-append (LoopStart name ∷ ps) qs = works-append ps qs
 works-append (LoopEnd ∷ ps) qs = works-append ps qs
-works-append (Called name ∷ ps) qs = works-append ps qs
 works-append (Worked ticks ∷ ps) qs = ap (λ ns. ticks ∷ ns) (works-append ps qs)
 
 -- lists that are joined part by part
@@ -74,33 +58,6 @@ mutual
       (branch_loops_in others)
 
 mutual
-  pub statement_calls_in : (s : Statement) → calls_in (statement_parts s) ≡ statement_calls s
-  statement_calls_in Null = refl
-  statement_calls_in (Assign target value) = refl
-  statement_calls_in (If branches) = branch_calls_in branches
-  statement_calls_in (For name low high body) = calls-append (block_parts body) (LoopEnd ∷ []) ∙ append-nil
-      (calls_in (block_parts body)) ∙ block_calls_in body
-  statement_calls_in (ExitWhen condition) = refl
-  statement_calls_in (Call object op actuals) = refl
-  statement_calls_in (Work ticks) = refl
-  statement_calls_in (Put value) = refl
-
-  pub block_calls_in : (b : Statements) → calls_in (block_parts b) ≡ block_calls b
-  block_calls_in End = refl
-  block_calls_in (Then first rest) =
-      calls-append (statement_parts first) (block_parts rest)
-      ∙ joined (calls_in (statement_parts first)) (statement_calls first) (calls_in (block_parts rest)) (block_calls rest) (statement_calls_in first)
-      (block_calls_in rest)
-
-  pub branch_calls_in : (b : Branches) → calls_in (branch_parts b) ≡ branch_calls b
-  branch_calls_in Nothing = refl
-  branch_calls_in (Else block) = block_calls_in block
-  branch_calls_in (When condition block others) =
-      calls-append (block_parts block) (branch_parts others)
-      ∙ joined (calls_in (block_parts block)) (block_calls block) (calls_in (branch_parts others)) (branch_calls others) (block_calls_in block)
-      (branch_calls_in others)
-
-mutual
   pub statement_works_in : (s : Statement) → works_in (statement_parts s) ≡ statement_works s
   statement_works_in Null = refl
   statement_works_in (Assign target value) = refl
@@ -127,14 +84,13 @@ mutual
       ∙ joined (works_in (block_parts block)) (block_works block) (works_in (branch_parts others)) (branch_works others) (block_works_in block)
       (branch_works_in others)
 
-pub ruleset part_laws = (loops-cons, calls-cons, block_loops_in, block_calls_in, block_works_in)
+pub ruleset part_laws = (loops-cons, block_loops_in, block_works_in)
 
 -- tests of the works of parts and of bodies
 pub works-any-cons : (f : ℕ → Bool) (p : Part) (ps : List Part) → list_any f (works_in (p ∷ ps))
     ≡ (list_any f (works_in (p ∷ [])) || list_any f (works_in ps))
 works-any-cons f (LoopStart name) ps = refl
 works-any-cons f LoopEnd ps = refl
-works-any-cons f (Called name) ps = refl
 works-any-cons f (Worked ticks) ps = sym (or_assoc (f ticks) false (list_any f (works_in ps)))
 
 pub ruleset work_laws = (works-any-cons, block_works_in, list_any-append)

@@ -2,7 +2,7 @@
 use Rattle.std.proofs.Common.{◌≡◌, ℕ, zero, suc, ◌+◌, ◌<◌, ◌≤◌, ◌==◌, Bool, true, false, ◌&&◌, ◌||◌, List, [], ◌∷◌, filter_map, get_or}
 use Rattle.std.proofs.Common.{if◌then◌else◌, length, map, nat_lt, slice_get, Option, Some, None, inl, inr, refl, sym, ap, subst, ◌∙◌, arith}
 use Rattle.std.specs.List.{cons_option, list_any}
-use Rattle.std.proofs.lemmas.Bool.{eqb-true, eq-eqb, and_parts, and_from}
+use Rattle.std.proofs.lemmas.Bool.{eqb-true, eq-eqb, and_parts, and_from, or_right}
 use Rattle.std.proofs.lemmas.Option.{slice_get_within}
 use Rattle.seq_tree.specs.Calls.{same_op}
 use Rattle.seq_tree.specs.declared.tree.OpName.{OpName}
@@ -167,10 +167,7 @@ module _ (es : List Edge) (place : OpName → Option ℕ) (placed : (n : OpName)
         any_at : {A : Type 0} (f : A → Bool) (xs : List A) (i : ℕ) (x : A) → slice_get xs i ≡ Some x → f x ≡ true → list_any f xs ≡ true
         any_at f [] i x at' holds = cc
         any_at f (y ∷ ys) zero x at' holds = (let same : y ≡ x = cc in ap (λ z. f z || list_any f ys) same ∙ ap (λ b. b || list_any f ys) holds)
-        any_at f (y ∷ ys) (suc i) x at' holds = or_true (f y) (list_any f ys) (any_at f ys i x at' holds) where
-          or_true : (a b : Bool) → b ≡ true → (a || b) ≡ true
-          or_true true b k = refl
-          or_true false b k = k
+        any_at f (y ∷ ys) (suc i) x at' holds = or_right (f y) (list_any f ys) (any_at f ys i x at' holds)
 
     -- what a place is reached from leads to its operation
     reached-found : (n : OpName) (q : ℕ) → place n ≡ Some q → IsReachedBy step is_start q → IsFound es called n
@@ -240,10 +237,6 @@ module _ (es : List Edge) (place : OpName → Option ℕ) (placed : (n : OpName)
           → IsFound es called n → after n ≡ true
       follow_complete after added n (m, start, inl same)
           = added n ∙ or_right (is_led_to place marks es n) (called n) (ap called (same_op-eq n m same) ∙ start)
-        where
-          or_right : (a b : Bool) → b ≡ true → (a || b) ≡ true
-          or_right true b k = refl
-          or_right false b k = k
       follow_complete after added n (m, start, inr (path, leads)) = added n ∙ ap (λ b. b || called n) (by path leads)
         where
           begin : (s : ℕ) → place m ≡ Some s → IsReachedBy step is_start s

@@ -1,5 +1,5 @@
 -- The first unit on a ring is the one of which the first edge on a ring is, where names of units differ.
-use Rattle.std.proofs.Common.{◌≡◌, ℕ, zero, suc, ◌+◌, ◌<◌, ◌≤◌, Bool, true, false, ◌||◌, List, [], ◌∷◌, ◌++◌, flat_map, length, map, take}
+use Rattle.std.proofs.Common.{◌≡◌, ℕ, zero, suc, ◌+◌, ◌<◌, ◌≤◌, Bool, true, ◌||◌, List, [], ◌∷◌, ◌++◌, flat_map, length, map, take}
 use Rattle.std.proofs.Common.{slice_get, Option, Some, None, inl, inr, ◌⊎◌, refl, sym, ap, subst, ◌∙◌, arith}
 use Rattle.std.proofs.lemmas.Slice.Eq.{bytes_eq-Decides}
 use Rattle.std.proofs.lemmas.Option.{slice_get_within}
@@ -115,11 +115,7 @@ module _ (p : Program) (naming : IsFirst (λ place u. breaks_naming p place u �
       (ap (λ (w : Unit). same_name w.name n) here ∙ ap (λ m. same_name m n) same ∙ same-self n)
   taken-name (v ∷ us) rest (suc k) zero u n at below same = absurd (omega (arith, below))
   taken-name (v ∷ us) rest (suc k) (suc j) u n at below same
-      = or_true (same_name v.name n) _ (taken-name us rest k j u n at (omega (arith, below)) same)
-    where
-      or_true : (a b : Bool) → b ≡ true → (a || b) ≡ true
-      or_true true b h = refl
-      or_true false b h = h
+      = or_right (same_name v.name n) _ (taken-name us rest k j u n at (omega (arith, below)) same)
 
   -- a unit isn't later than another of its name
   not-later : (j m : ℕ) (u v : Unit) → slice_get p.units j ≡ Some u → slice_get p.units m ≡ Some v → v.name ≡ u.name → m ≤ j

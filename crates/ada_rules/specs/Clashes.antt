@@ -4,7 +4,7 @@ use Rattle.std.specs.Prelude.{Bool, true, false, not, ◌||◌, ◌&&◌, List, 
 use Rattle.seq_tree.specs.Names.{Name, same_name, is_named}
 use Rattle.ada_tree.specs.Bodies.{Body}
 use Rattle.ada_tree.specs.Naming.{body_names}
-use Rattle.ada_rules.specs.Parts.{Part, LoopStart, LoopEnd, Called, Worked, block_parts}
+use Rattle.ada_rules.specs.Parts.{Part, LoopStart, LoopEnd, Worked, block_parts}
 
 -- whether names are none of those that are taken, and differ from each other
 abbrev pub are_new : (Name → Bool) → List Name → Bool
@@ -21,14 +21,12 @@ front (x ∷ y ∷ ys) = x ∷ front (y ∷ ys)
 abbrev pub clashes_at : (Name → Bool) → List Name → Part → Bool
 clashes_at taken inside (LoopStart name) = is_named inside name || taken name
 clashes_at taken inside LoopEnd = false
-clashes_at taken inside (Called name) = false
 clashes_at taken inside (Worked ticks) = false
 
 -- the loops around what follows a part
 abbrev pub inside_after : List Name → Part → List Name
 inside_after inside (LoopStart name) = inside ++ name ∷ []
 inside_after inside LoopEnd = front inside
-inside_after inside (Called name) = inside
 inside_after inside (Worked ticks) = inside
 
 -- whether some loop clashes

@@ -1,11 +1,10 @@
--- What the rules read of a block: where its loops begin and end, its calls and its works, in order.
+-- What the rules read of a block besides its calls: where its loops begin and end, and its works, in order.
 -- The statements are those of the trees.
 use Rattle.std.specs.Prelude.{ℕ, List, [], ◌∷◌, ◌++◌}
 use Rattle.seq_tree.specs.Names.{Name}
 use Rattle.seq_tree.specs.Expressions.{Expression}
-use Rattle.seq_tree.specs.Statements.{Statement, Statements, Branches, If, For, Call, Work, End, Then, Nothing, Else, When}
+use Rattle.seq_tree.specs.Statements.{Statement, Statements, Branches, If, For, Work, End, Then, Nothing, Else, When}
 use Rattle.seq_tree.specs.Trees.{block_of}
-use Rattle.seq_tree.specs.declared.tree.OpName.{OpName}
 use Rattle.ada_tree.specs.Bodies.{Body}
 use Rattle.ada_rules.specs.declared.parts.Part as code
 use Rattle.ada_rules.specs.declared.parts.Part.TheVariants as code_part
@@ -15,14 +14,12 @@ use Rattle.ada_rules.specs.declared.parts.BodyView.{BodyView}
 pub data Part : Type 0 where
   LoopStart : (name : Name) → Part
   LoopEnd : Part
-  Called : (name : OpName) → Part
   Worked : (ticks : ℕ) → Part
 
 -- the part that a part of the code stands for
 abbrev pub part_of : code.Part → Part
 part_of (code_part.Loop name) = LoopStart name.now
 part_of code_part.LoopEnd = LoopEnd
-part_of (code_part.Call object op) = Called (record { object = object.now; op = op.now })
 part_of (code_part.Work ticks) = Worked ticks
 
 -- the body that a body of the code stands for
@@ -34,7 +31,6 @@ abbrev mutual
   pub statement_parts : Statement → List Part
   statement_parts (For name low high body) = LoopStart name ∷ (block_parts body ++ LoopEnd ∷ [])
   statement_parts (If branches) = branch_parts branches
-  statement_parts (Call object op actuals) = Called (record { object = object; op = op }) ∷ []
   statement_parts (Work ticks) = Worked ticks ∷ []
   statement_parts _ = []
 
@@ -57,21 +53,11 @@ abbrev pub loops_in : List Part → List Name
 loops_in [] = []
 loops_in (LoopStart name ∷ ps) = name ∷ loops_in ps
 loops_in (LoopEnd ∷ ps) = loops_in ps
-loops_in (Called name ∷ ps) = loops_in ps
 loops_in (Worked ticks ∷ ps) = loops_in ps
-
--- the calls among parts
-abbrev pub calls_in : List Part → List OpName
-calls_in [] = []
-calls_in (LoopStart name ∷ ps) = calls_in ps
-calls_in (LoopEnd ∷ ps) = calls_in ps
-calls_in (Called name ∷ ps) = name ∷ calls_in ps
-calls_in (Worked ticks ∷ ps) = calls_in ps
 
 -- the numbers of works among parts
 abbrev pub works_in : List Part → List ℕ
 works_in [] = []
 works_in (LoopStart name ∷ ps) = works_in ps
 works_in (LoopEnd ∷ ps) = works_in ps
-works_in (Called name ∷ ps) = works_in ps
 works_in (Worked ticks ∷ ps) = ticks ∷ works_in ps

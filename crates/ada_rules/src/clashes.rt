@@ -80,7 +80,6 @@ fn enter<'a>(
             leave(inside);
             Ok(false)
         }
-        Part::Call(..) => Ok(false),
         Part::Work(_) => Ok(false),
     }
 }

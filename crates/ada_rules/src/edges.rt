@@ -1,28 +1,27 @@
 ghost use Rattle.std.specs.Prelude.{◌≡◌, ◌++◌, IfOk, OnOk, flat_map, map};
-ghost use Rattle.seq_tree.specs.Calls.{block_calls};
 ghost use Rattle.seq_tree.specs.Trees.{operation_of};
+ghost use Rattle.seq_cost.specs.Different.{call_of};
 ghost use Rattle.ada_tree.specs.Trees.{form_of, unit_of};
 ghost use Rattle.ada_tree.specs.Uses.{passive_ops};
 ghost use Rattle.ada_rules.specs.Edges.{edge_of, op_edges, unit_edges};
-ghost use Rattle.ada_rules.specs.Lists.{call_of};
 
-use crate::lists::{CallView, block_calls};
 use ada_tree::{Form, Unit};
+use seq_cost::{Call, written_calls};
 use seq_tree::{Name, NoMemory, OpText};
 use std::alloc::Global;
 
 /// A call of one operation in the body of another.
 #[derive(Clone, Copy)]
 pub(crate) struct EdgeView<'a> {
-    pub(crate) from: CallView<'a>,
-    pub(crate) to: CallView<'a>,
+    pub(crate) from: Call<'a>,
+    pub(crate) to: Call<'a>,
 }
 
 /// Adds calls from one operation.
 fn add_calls<'a>(
     edges: &mut Vec<EdgeView<'a>>,
-    from: CallView<'a>,
-    calls: &[CallView<'a>],
+    from: Call<'a>,
+    calls: &[Call<'a>],
 ) -> Result<(), NoMemory>
     ensures { OnOk result (map edge_of edges.new.items ≡ map edge_of edges.old.items
         ++ map (λ c. record { from = call_of from.entry; to = c }) (map call_of calls.entry.now)) }
@@ -42,8 +41,8 @@ fn add_op<'a>(
 ) -> Result<(), NoMemory>
     ensures { OnOk result (map edge_of edges.new.items ≡ map edge_of edges.old.items ++ op_edges object.entry.now (operation_of op.entry.now)) }
 {
-    let calls = block_calls(alloc, &op.block)?;
-    let from = CallView {
+    let calls = written_calls(alloc, &op.block)?;
+    let from = Call {
         object,
         op: &op.sig.name,
     };

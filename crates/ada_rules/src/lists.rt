@@ -1,14 +1,16 @@
 ghost use Rattle.std.specs.Prelude.{◌≡◌, [], ◌∷◌, ◌++◌, IfOk, OnOk, map};
 ghost use Rattle.seq_tree.specs.Trees.{block_of, operation_of};
 ghost use Rattle.seq_tree.specs.Calls.{block_calls};
+ghost use Rattle.seq_cost.specs.Different.{call_of};
 ghost use Rattle.ada_tree.specs.Bodies.{bodies, data_of, heads};
 ghost use Rattle.ada_tree.specs.Naming.{block_loops, body_names, calls_of, own_names, inner_names};
 ghost use Rattle.ada_tree.specs.Trees.{form_of};
-ghost use Rattle.ada_rules.specs.Lists.{body_inner_names, call_of, head_of, names_of};
-ghost use Rattle.ada_rules.specs.Parts.{body_of, calls_in, loops_in, part_of};
+ghost use Rattle.ada_rules.specs.Lists.{body_inner_names, head_of, names_of};
+ghost use Rattle.ada_rules.specs.Parts.{body_of, loops_in, part_of};
 
 use crate::parts::{BodyView, Part, bodies_of, parts_of};
 use ada_tree::Form;
+use seq_cost::{Call, written_calls};
 use seq_tree::{Block, Datum, Name, NoMemory, OpSig, OpText, Param};
 use std::alloc::Global;
 
@@ -91,7 +93,6 @@ fn add_loop<'a>(names: &mut Vec<&'a Name>, part: &Part<'a>) -> Result<(), NoMemo
             Ok(())
         }
         Part::LoopEnd => Ok(()),
-        Part::Call(..) => Ok(()),
         Part::Work(_) => Ok(()),
     }
 }
@@ -167,57 +168,21 @@ pub(crate) fn inner_names<'a>(alloc: Global, form: &'a Form) -> Result<Vec<&'a N
     Ok(names)
 }
 
-/// A call of an operation.
-#[derive(Clone, Copy)]
-pub(crate) struct CallView<'a> {
-    pub(crate) object: &'a Name,
-    pub(crate) op: &'a Name,
-}
-
-/// Adds a call, where a part is one.
-fn add_call<'a>(calls: &mut Vec<CallView<'a>>, part: &Part<'a>) -> Result<(), NoMemory>
-    ensures { OnOk result (map call_of calls.new.items ≡ map call_of calls.old.items ++ calls_in (part_of part.entry.now ∷ [])) }
-{
-    match part {
-        Part::Loop(_) => Ok(()),
-        Part::LoopEnd => Ok(()),
-        Part::Call(object, op) => {
-            calls.push(CallView {
-                object: *object,
-                op: *op,
-            })?;
-            Ok(())
-        }
-        Part::Work(_) => Ok(()),
-    }
-}
-
-/// Adds the calls among parts.
-#[tactic(auto, using(crate::proofs::PartLaws::part_laws))]
-fn add_calls<'a>(calls: &mut Vec<CallView<'a>>, parts: &[Part<'a>]) -> Result<(), NoMemory>
-    ensures { OnOk result (map call_of calls.new.items ≡ map call_of calls.old.items ++ calls_in (map part_of parts.entry.now)) }
-{
-    'parts: for part in parts {
-        add_call(calls, part)?;
-    }
-    Ok(())
-}
-
 /// Adds the calls of a block.
-#[tactic(auto, using(crate::proofs::PartLaws::part_laws))]
 fn add_block_calls<'a>(
     alloc: Global,
-    calls: &mut Vec<CallView<'a>>,
+    calls: &mut Vec<Call<'a>>,
     block: &'a Block,
 ) -> Result<(), NoMemory>
     ensures { OnOk result (map call_of calls.new.items ≡ map call_of calls.old.items ++ block_calls (block_of block.entry.now)) }
 {
-    let parts = parts_of(alloc, block)?;
-    add_calls(calls, parts.as_slice())
+    let mut more = written_calls(alloc, block)?;
+    calls.append(&mut more)?;
+    Ok(())
 }
 
 /// The calls of a unit.
-pub(crate) fn calls_of<'a>(alloc: Global, form: &'a Form) -> Result<Vec<CallView<'a>>, NoMemory>
+pub(crate) fn calls_of<'a>(alloc: Global, form: &'a Form) -> Result<Vec<Call<'a>>, NoMemory>
     ensures { IfOk result (λ v. map call_of v.items ≡ calls_of (form_of form.entry.now)) }
 {
     let mut calls = Vec::new(alloc);
@@ -225,17 +190,5 @@ pub(crate) fn calls_of<'a>(alloc: Global, form: &'a Form) -> Result<Vec<CallView
     'bodies: for body in &bodies {
         add_block_calls(alloc, &mut calls, body.block)?;
     }
-    Ok(calls)
-}
-
-/// The calls of a block.
-pub(crate) fn block_calls<'a>(
-    alloc: Global,
-    block: &'a Block,
-) -> Result<Vec<CallView<'a>>, NoMemory>
-    ensures { IfOk result (λ v. map call_of v.items ≡ block_calls (block_of block.entry.now)) }
-{
-    let mut calls = Vec::new(alloc);
-    add_block_calls(alloc, &mut calls, block)?;
     Ok(calls)
 }

@@ -13,7 +13,6 @@ use std::alloc::Global;
 pub(crate) enum Part<'a> {
     Loop(&'a Name),
     LoopEnd,
-    Call(&'a Name, &'a Name),
     Work(u32),
 }
 
@@ -37,10 +36,7 @@ fn add_statement<'a>(parts: &mut Vec<Part<'a>>, stmt: &'a Stmt) -> Result<(), No
             Ok(())
         }
         Stmt::ExitWhen(_) => Ok(()),
-        Stmt::Call { object, op, .. } => {
-            parts.push(Part::Call(object, op))?;
-            Ok(())
-        }
+        Stmt::Call { .. } => Ok(()),
         Stmt::Work(ticks) => {
             parts.push(Part::Work(*ticks))?;
             Ok(())

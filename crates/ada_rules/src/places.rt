@@ -3,14 +3,14 @@ ghost use Rattle.seq_tree.specs.Calls.{same_op};
 ghost use Rattle.seq_tree.specs.Faults.{or_else};
 ghost use Rattle.seq_tree.specs.declared.tree.OpName.{OpName};
 ghost use Rattle.name_sets.specs.Tables.{at};
+ghost use Rattle.seq_cost.specs.Different.{call_of};
 ghost use Rattle.ada_rules.specs.Edges.{edge_of};
-ghost use Rattle.ada_rules.specs.Lists.{call_of};
 ghost use Rattle.ada_rules.specs.Places.{IsFirstRound, edge_place_from, step_between, steps_of};
 
 use crate::edges::EdgeView;
-use crate::lists::CallView;
 use name_sets::OpTable;
 use rings::first_on_ring;
+use seq_cost::Call;
 use seq_tree::NoMemory;
 use std::alloc::Global;
 
@@ -18,7 +18,7 @@ use std::alloc::Global;
 fn add_place<'a>(
     alloc: Global,
     places: &mut OpTable<'a, usize>,
-    op: &CallView<'a>,
+    op: &Call<'a>,
     place: usize,
 ) -> Result<(), NoMemory>
     ensures { OnOk result ((n : OpName)

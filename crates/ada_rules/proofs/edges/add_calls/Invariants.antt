@@ -1,6 +1,6 @@
 use Rattle.std.proofs.Common.{◌≡◌, ◌++◌, map, take}
 use Rattle.ada_rules.specs.Edges.{edge_of}
-use Rattle.ada_rules.specs.Lists.{call_of}
+use Rattle.seq_cost.specs.Different.{call_of}
 use Rattle.ada_rules.proofs.edges.add_calls.Given as goal
 
 -- the edges so far are those of the calls so far

@@ -1,6 +1,6 @@
 use Rattle.std.proofs.Common.{◌≡◌, ◌++◌, map, drop, flat_map}
 use Rattle.seq_tree.specs.Calls.{block_calls}
-use Rattle.ada_rules.specs.Lists.{call_of}
+use Rattle.seq_cost.specs.Different.{call_of}
 use Rattle.ada_rules.specs.Parts.{body_of}
 use Rattle.ada_rules.proofs.lists.calls_of.Given as goal
 

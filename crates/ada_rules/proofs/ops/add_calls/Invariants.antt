@@ -2,7 +2,7 @@ use Rattle.std.proofs.Common.{◌≡◌, ◌||◌, map, take}
 use Rattle.std.specs.List.{list_any}
 use Rattle.seq_tree.specs.Calls.{same_op}
 use Rattle.seq_tree.specs.declared.tree.OpName.{OpName}
-use Rattle.ada_rules.specs.Lists.{call_of}
+use Rattle.seq_cost.specs.Different.{call_of}
 use Rattle.name_sets.specs.Sets.{has_op}
 use Rattle.ada_rules.proofs.ops.add_calls.Given as goal
 

@@ -1,6 +1,6 @@
 use Rattle.std.proofs.Common.{◌≡◌, not, map, drop}
 use Rattle.std.specs.List.{list_any}
-use Rattle.ada_rules.specs.Lists.{call_of}
+use Rattle.seq_cost.specs.Different.{call_of}
 use Rattle.name_sets.specs.Sets.{has_op}
 use Rattle.ada_rules.proofs.ops.any_missing.Given as goal
 

@@ -3,7 +3,7 @@ use Rattle.seq_tree.specs.Trees.{arm_of, block_of, otherwise, statement_of, stat
 use Rattle.seq_tree.specs.declared.tree.Arm.{Arm}
 use Rattle.seq_tree.specs.declared.tree.Stmt.{Stmt}
 use Rattle.ada_rules.specs.Parts.{part_of, arms_parts, block_parts, statement_parts}
-use Rattle.seq_tree.proofs.Shared.TreeForms.{arm-tree, call-tree, for-tree, if-tree, work-tree}
+use Rattle.seq_tree.proofs.Shared.TreeForms.{arm-tree, for-tree, if-tree, work-tree}
 use Rattle.seq_tree.proofs.Shared.LoopSteps.{added_step}
 use Rattle.ada_rules.proofs.PartSteps.{pushed, looped, branched}
 use Rattle.ada_rules.proofs.parts.+parts.Goals as goal
@@ -22,10 +22,6 @@ add_statement-returns-in_ok-push-in-For-2 t c =
     (looped c.args.parts.now.items c.push.new.self.items c.add_block.new.parts.items c.push-in-For.new.self.items _ _
     (block_parts (block_of c.in-For.body))
     c.in_ok-push-in-For.ensures.items c.in_ok-add_block-in-For.ensures c.in_ok-push-in-For-2.ensures.items)
-
-pub add_statement-returns-in_ok-push-in-Call : goal.add_statement-returns-in_ok-push-in-Call
-add_statement-returns-in_ok-push-in-Call t c =
-    rw (c.in-Call.is, call-tree) (pushed c.args.parts.now.items c.push-in-Call.new.self.items _ c.in_ok-push-in-Call.ensures.items)
 
 pub add_statement-returns-in_ok-push-in-Work : goal.add_statement-returns-in_ok-push-in-Work
 add_statement-returns-in_ok-push-in-Work t c =

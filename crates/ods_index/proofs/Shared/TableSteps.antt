@@ -1,27 +1,12 @@
 -- The place that a table has for a name, and what stands there.
-use Rattle.std.proofs.Common.{◌≡◌, ℕ, suc, subst, ◌<◌, Bool, true, false, cond, List, [], ◌∷◌, map, drop, length, Option, Some, None}
+use Rattle.std.proofs.Common.{◌≡◌, ℕ, suc, subst, Bool, true, false, cond, List, [], ◌∷◌, map, Option, Some, None}
 use Rattle.std.proofs.Common.{option_map, refl, ap, sym, Bor, ◌∙◌}
 use Rattle.std.specs.List.{slice_get}
 use Rattle.std.specs.Slice.{IsItemAt}
 use Rattle.std.proofs.lemmas.Option.{slice_get_past, slice_get-get_or, slice_get-map}
-use Rattle.std.proofs.Math.ListN.{get_or}
-use Rattle.std.proofs.Math.Seq.{drop-cons}
 use Rattle.std.specs.Prelude.{find, option_and_then}
 use Rattle.seq_tree.specs.Names.{Name, same_name}
 use Rattle.name_sets.specs.FirstPlaces.{place_from}
-
--- the places from one on, by its name and those after it
-pub place_step : {A : Type 0} (f : A → Name) (xs : List A) (i : ℕ) (d : A) (n : Name) → i < length xs →
-    place_from i n (map f (drop i xs)) ≡ cond (same_name (f (get_or xs i d)) n) (Some i) (place_from (suc i) n (map f (drop (suc i) xs)))
-place_step f xs i d n within = ap (λ ys. place_from i n (map f ys)) (drop-cons xs i d within)
-
--- a table with one name more
-pub put_place : {A : Type 0} (f : A → Name) (xs : List A) (i : ℕ) (d : A) (old new : Name → Option ℕ) → i < length xs →
-    ((n : Name) → old n ≡ place_from (suc i) n (map f (drop (suc i) xs)))
-    → ((n : Name) → new n ≡ cond (same_name (f (get_or xs i d)) n) (Some i) (old n)) →
-    (n : Name) → new n ≡ place_from i n (map f (drop i xs))
-put_place f xs i d old new within was is n =
-    is n ∙ ap (cond (same_name (f (get_or xs i d)) n) (Some i)) (was n) ∙ sym (place_step f xs i d n within)
 
 -- one place on
 shift_by : (b : Bool) (k : ℕ) (o more : Option ℕ) → more ≡ option_map (λ i. suc i) o → cond b (Some (suc k)) more

@@ -40,12 +40,8 @@ impl Targets {
     pub(crate) fn add(&mut self, alloc: Global, from: usize, to: usize) -> Result<(), NoMemory>
         ensures { OnOk result ((a : ℕ) → targets_at self.new a ≡ (if from == a then targets_at self.old from ++ to ∷ [] else targets_at self.old a)) }
     {
-        let mut targets = match self.map.remove(&from) {
-            None => Vec::new(alloc),
-            Some(targets) => targets,
-        };
+        let targets = self.map.entry(from)?.or_insert(Vec::new(alloc));
         targets.push(to)?;
-        self.map.insert(from, targets)?;
         Ok(())
     }
 }

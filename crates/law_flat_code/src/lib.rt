@@ -4,22 +4,25 @@
 //! An instruction stands at a place for a scope, which says in which slot each name is kept (`specs/Codes.antt`). What stands where is a
 //! relation, and in the laws a test, so that they hold of every representation of code. `specs/Aheads.antt` says when pieces are ahead of a
 //! place, `specs/Withins.antt` reads off a place of a block and the turns of its open loops which pieces are left, and
-//! `specs/Following.antt` says where and with which turns each instruction goes on.
+//! `specs/Following.antt` says where and with which turns each instruction goes on, and `specs/Levels.antt` how many loops are around it.
 //!
 //! Other crates may cite these proofs of it (`proofs/Shared`), which are over relations:
 //!
 //! - `Begins`: from the first instruction of a block on, its pieces are left.
 //! - `Calling`: calls, requests, and the ends of bodies and of activations.
+//! - `Ends`: where a block ends, what is behind it is left, in the scope around it.
 //! - `Entering`: ahead of a block stand its pieces.
-//! - `Follows`: after each instruction of a block, what is left is read off the place to which it leads.
+//! - `Follows`: after each instruction of a block, what is left is read off the place to which it leads, and how many loops are around it.
 //! - `Going`: where it goes on after a piece.
 //! - `Moves`: a move in no time inside a block leaves the same pieces in the same scope.
 //! - `Places`: ahead of a place inside a block stand the pieces from its instruction on.
+//! - `Scoping`: what holds of a scope holds at each place of a block, where each loop keeps it.
 #![tactic(auto)]
 
 ghost use Rattle.law_flat_code.specs.Laws.{ActivationsFinish, BlockIsAhead, BlocksBegin, BodiesReturn, CallsEnter, InstructionsFollow};
 ghost use Rattle.law_flat_code.specs.Laws.{MovesStay, PartsPass};
 ghost use Rattle.law_flat_code.specs.Laws.{PiecesGoOn, PlacesAreAhead, RequestsGoOn, SectionsEnter, TurnsEnd, UnknownGoesOn};
+ghost use Rattle.law_flat_code.specs.Levels.{LevelsFollow};
 
 /// Ahead of a block that stands in code are its pieces, and then those that are ahead of its end.
 pub fn blocks_are_ahead()
@@ -92,4 +95,10 @@ pub fn moves_stay()
 /// place: the first turn of a loop and the end of a turn set the count of that loop, and no other instruction touches one.
 pub fn instructions_follow()
     ensures { InstructionsFollow }
+{}
+
+/// What each instruction of a block is, what is left after it, and how many loops are around it: the slot in which a loop's turns are counted
+/// tells that, what is left depends on the turns of the loops whose variables are in the scope, and a jump leads forwards.
+pub fn levels_follow()
+    ensures { LevelsFollow }
 {}

@@ -2,3 +2,4 @@
 pub mod Growths
 pub mod NodeValues
 pub mod Writing
+pub mod Placing

@@ -8,6 +8,7 @@
 //!
 //! - `Growths`: nodes to which others are added stand for what they stood for.
 //! - `NodeValues`: the value of an operand is that of each expression that it stands for.
+//! - `Placing`: a slot above those of a scope may be set; with a name it is one variable more; values stored one after another.
 //! - `Writing`: a slot that got a value is the variable that got it.
 #![tactic(auto)]
 

@@ -1,9 +1,10 @@
 -- The law of renumbering: two states that differ in order numbers alone, ranked alike, tell the same from there on.
-use Rattle.std.specs.Prelude.{◌≡◌, ◌↔◌, ℕ, zero, suc, ◌+◌, ◌-◌, Bool, true, false, ◌&&◌, List, [], ◌∷◌, ◌++◌, fold, length, nat_lt, ◌==◌}
+use Rattle.std.specs.Prelude.{◌≡◌, ◌↔◌, ℕ, zero, suc, ◌+◌, ◌-◌, ◌<◌, Bool, true, false, ◌&&◌, List, [], ◌∷◌, ◌++◌, fold, length, nat_lt, ◌==◌}
 use Rattle.std.specs.Prelude.{if◌then◌else◌, Option, Some, None, ℤ, pos, int_lt, ◌+ℤ◌, ◌-ℤ◌, ◌≤ℤ◌, slice_get, ⊤, refl}
 use Rattle.std.specs.Int.{int_max, int_min}
 use Rattle.std.proofs.Common.{sym, ◌∙◌, ap, subst, arith}
 use Rattle.std.proofs.lemmas.Int.{ints, int_max_is, int_min_is}
+use Rattle.std.proofs.lemmas.Option.{none-some, same_Some, slice_get_within}
 use Rattle.seq_tree.specs.Lists.{change, first_where}
 use Rattle.seq_tree.specs.Variables.{Variables}
 use Rattle.arrivals_tree.specs.declared.arrivals.Arrival.{Arrival}
@@ -433,3 +434,101 @@ renumbered_tells y s t told d =
       λ r. subst (λ (z : State). Rest y z told) there (rest-renumbered y s t.orders told h r),
       λ r. subst (λ (z : State). Rest y z told) back (rest-renumbered y t s.orders told h' r),
     )
+
+-- and by places where they do so one after another
+beside-at : (t : Task) (o p : ℤ) (us : List Task) (xs ys : List ℤ) (j : ℕ) (u : Task) (x y : ℤ) → Beside t o p us xs ys → slice_get us j ≡ Some u
+    → HasNumber xs j x → HasNumber ys j y → AreRivals t u → SameOrder o x p y
+beside-at t o p [] xs ys j u x y h at hx hy r = absurd (none-some u at)
+beside-at t o p (v ∷ vs) [] ys j u x y h at hx hy r = absurd (none-some x hx)
+beside-at t o p (v ∷ vs) (z ∷ zs) [] j u x y h at hx hy r = absurd (none-some y hy)
+beside-at t o p (v ∷ vs) (z ∷ zs) (w ∷ ws) zero u x y h at hx hy r =
+    subst (λ a. SameOrder o a p y) (same_Some z x hx)
+    (subst (λ b. SameOrder o z p b) (same_Some w y hy) (h.0 (subst (AreRivals t) (sym (same_Some v u at)) r)))
+beside-at t o p (v ∷ vs) (z ∷ zs) (w ∷ ws) (suc j) u x y h at hx hy r = beside-at t o p vs zs ws j u x y h.1 at hx hy r
+
+never : (o : ℤ) → int_lt o o ≡ false
+never o = grind (arith, ints)
+
+ranks-at : (ts : List Task) (os ps : List ℤ) → Alike ts os ps → (i j : ℕ) (t u : Task) (o x p y : ℤ) → slice_get ts i ≡ Some t → slice_get ts j ≡ Some u
+    → AreRivals t u → HasNumber os i o → HasNumber os j x → HasNumber ps i p → HasNumber ps j y → int_lt o x ≡ int_lt p y
+ranks-at [] os ps h i j t u o x p y at at' r ho hx hp hy = absurd (none-some t at)
+ranks-at (v ∷ vs) [] ps h i j t u o x p y at at' r ho hx hp hy = absurd (none-some o ho)
+ranks-at (v ∷ vs) (a ∷ as') [] h i j t u o x p y at at' r ho hx hp hy = absurd (none-some p hp)
+ranks-at (v ∷ vs) (a ∷ as') (b ∷ bs) h zero zero t u o x p y at at' r ho hx hp hy =
+    ap (int_lt o) (sym (same_Some a x hx) ∙ same_Some a o ho) ∙ never o ∙ sym (never p) ∙ ap (int_lt p) (sym (same_Some b p hp) ∙ same_Some b y hy)
+ranks-at (v ∷ vs) (a ∷ as') (b ∷ bs) h zero (suc j) t u o x p y at at' r ho hx hp hy =
+    (beside-at t o p vs as' bs j u x y
+    (subst (λ n. Beside t n p vs as' bs) (same_Some a o ho)
+    (subst (λ n. Beside t a n vs as' bs) (same_Some b p hp) (subst (λ w. Beside w a b vs as' bs) (same_Some v t at) h.0)))
+    at' hx hy r).1
+ranks-at (v ∷ vs) (a ∷ as') (b ∷ bs) h (suc i) zero t u o x p y at at' r ho hx hp hy =
+    (beside-at u x y vs as' bs i t o p
+    (subst (λ n. Beside u n y vs as' bs) (same_Some a x hx)
+    (subst (λ n. Beside u a n vs as' bs) (same_Some b y hy) (subst (λ w. Beside w a b vs as' bs) (same_Some v u at') h.0)))
+    at ho hp (rivals-sym t u r)).0
+ranks-at (v ∷ vs) (a ∷ as') (b ∷ bs) h (suc i) (suc j) t u o x p y at at' r ho hx hp hy =
+    ranks-at vs as' bs h.1 i j t u o x p y at at' r ho hx hp hy
+
+alike-lengths : (ts : List Task) (os ps : List ℤ) → Alike ts os ps → (length os ≡ length ts) × (length ps ≡ length ts)
+alike-lengths [] [] [] h = (refl, refl)
+alike-lengths [] [] (p ∷ ps) h = absurd h
+alike-lengths [] (o ∷ os) ps h = absurd h
+alike-lengths (t ∷ ts) [] ps h = absurd h
+alike-lengths (t ∷ ts) (o ∷ os) [] h = absurd h
+alike-lengths (t ∷ ts) (o ∷ os) (p ∷ ps) h = let more = alike-lengths ts os ps h.1 in (ap suc more.0, ap suc more.1)
+
+rank-of : (ts : List Task) (os ps : List ℤ) → Alike ts os ps → RankAlike ts os ps
+rank-of ts os ps h = record {
+  numbered = (alike-lengths ts os ps h).0;
+  renumbered = (alike-lengths ts os ps h).1;
+  alike = ranks-at ts os ps h;
+}
+
+-- two states that differ in order numbers alone do so after any number of steps
+pub renumbered_runs : (y : System) (n : ℕ) (s t : State) → DifferInOrders s t → DifferInOrders (run y n s).0 (run y n t).0
+renumbered_runs y n s t d =
+    let twin : Twin (run y n s) (run y n (renumber t.orders s)) = run-twin y n s t.orders (alike-of s.tasks s.orders t.orders d.ranks) in
+    let D : State → Type 0 = λ z. DifferInOrders (run y n s).0 (run y n z).0 in
+    subst D (sym d.same) (record {
+      same = twin.state;
+      ranks = rank-of (run y n s).0.tasks (run y n s).0.orders (run y n (renumber t.orders s)).0.orders twin.alike;
+    })
+
+-- each place among so many has a number
+number-there : (os : List ℤ) (i : ℕ) → i < length os → (o : ℤ) × HasNumber os i o
+number-there [] i h = absurd (omega arith)
+number-there (o ∷ os) zero h = (o, refl)
+number-there (o ∷ os) (suc i) h = number-there os i (omega arith)
+
+-- one state differs from itself in order numbers alone, where each task has one; and so do states one after another
+pub renumbered_none : (s : State) → length s.orders ≡ length s.tasks → DifferInOrders s s
+renumbered_none s numbered = record {
+  same = refl;
+  ranks = record {
+    numbered = numbered;
+    renumbered = numbered;
+    alike = λ i j t u o x p y at at' r ho hx hp hy.
+        ap (int_lt o) (same_Some x y (sym hx ∙ hy)) ∙ ap (λ n. int_lt n y) (same_Some o p (sym ho ∙ hp));
+  };
+}
+
+pub renumbered_then : (s t u : State) → DifferInOrders s t → DifferInOrders t u → DifferInOrders s u
+renumbered_then s t u a b = record {
+  same = b.same ∙ ap (renumber u.orders) a.same;
+  ranks = record {
+    numbered = a.ranks.numbered;
+    renumbered = b.ranks.renumbered ∙ ap length tasks;
+    alike = λ i j v w o x p y at at' r ho hx hp hy.
+        let n = number-there t.orders i (within i v at) in
+        let m = number-there t.orders j (within j w at') in
+        a.ranks.alike i j v w o x n.0 m.0 at at' r ho hx n.1 m.1
+        ∙ b.ranks.alike i j v w n.0 m.0 p y (subst (λ ts. slice_get ts i ≡ Some v) (sym tasks) at)
+        (subst (λ ts. slice_get ts j ≡ Some w) (sym tasks) at') r n.1 m.1 hp hy;
+  };
+}
+  where
+    tasks : t.tasks ≡ s.tasks
+    tasks = ap (λ z. z.tasks) a.same
+
+    within : (i : ℕ) (v : Task) → slice_get s.tasks i ≡ Some v → i < length t.orders
+    within i v at = let k : i < length s.tasks = slice_get_within s.tasks i v at in let l : length t.orders ≡ length s.tasks = a.ranks.renumbered in omega arith
